@@ -1,5 +1,6 @@
 pub mod Count
 pub mod MemShelf
+pub mod MemSink
 pub mod Report
 pub mod Shelf
 pub mod Sink

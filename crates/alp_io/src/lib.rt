@@ -8,6 +8,8 @@ mod report;
 mod shelf;
 mod sink;
 mod std_sink;
+#[cfg(test)]
+mod tests;
 
 pub use dir_shelf::DirShelf;
 pub use mem_shelf::{File, MemShelf};
