@@ -1,18 +1,17 @@
 -- Files in memory after one of them was set or added.
-use Rattle.std.proofs.Common.{◌≡◌, ◌≢◌, ◌<◌, ◌≤◌, ℕ, ◌+◌, suc, List, [], ◌∷◌, ◌++◌, length, map, set, get_or, arith, refl, Option, Some, None, IsSome, Bool, true, false, cond, string_bytes, ap, sym, ◌∙◌, subst}
-use Rattle.std.specs.Cmp.{IsEquivalence}
-use Rattle.std.specs.List.{position_from, IsDistinct, list_any, insert}
+use Rattle.std.proofs.Common.{◌≡◌, ◌≢◌, ◌<◌, ℕ, ◌+◌, suc, List, [], ◌∷◌, ◌++◌, length, set, get_or, arith, refl, Option, Some, None, IsSome, Bool, true, false, cond, string_bytes, ap, sym, ◌∙◌, subst}
+use Rattle.std.specs.List.{position_from, AllPairs, IsDistinct, list_any, insert}
 use Rattle.std.specs.Map.{lookup, set_value, keys_of}
 use Rattle.std.specs.Str.{bytes_eq}
 use Rattle.std.proofs.lemmas.Cmp.{nat_list_eq_equiv}
-use Rattle.std.proofs.lemmas.Map.{lookup-set_value, keys-set_value, lookup-insert, none_passes_from_lookup, NonePasses}
+use Rattle.std.proofs.lemmas.Map.{lookup-set_value, keys-set_value, lookup-insert, none_passes_from_lookup}
 use Rattle.std.proofs.lemmas.Map.Keys.{IsDistinct-push}
+use Rattle.std.proofs.lemmas.Map.Made.{AllPairs-from_IsDistinct, IsDistinct-from_AllPairs}
 use Rattle.std.proofs.lemmas.List.Edits.{insert_end}
 use Rattle.std.proofs.lemmas.Slice.Eq.{bytes_eq-Decides}
-use Rattle.std.proofs.lemmas.Bool.Decides.{not_from_Decides}
 use Rattle.alp_io.specs.declared.mem_shelf.File.{File}
 use Rattle.alp_io.specs.MemShelf.{entries_of, files_of, HasDifferentNames}
-use Rattle.alp_io.specs.Shelf.{Sets, ChangesOnly}
+use Rattle.alp_io.specs.Shelf.{Sets}
 
 apart : (name other : List ℕ) → other ≢ name → bytes_eq name other ≡ false
 apart name other h = by_test (bytes_eq name other) refl where
@@ -45,7 +44,7 @@ sets_added name bytes es absent =
     }
 
 pub different_set : (name bytes : List ℕ) (es : List (List ℕ × List ℕ)) → HasDifferentNames es → HasDifferentNames (set_value (bytes_eq name) es bytes)
-different_set name bytes es h = subst (λ ks. IsDistinct bytes_eq ks) (sym (keys-set_value (bytes_eq name) es bytes)) h
+different_set name bytes es h = subst (λ ks. AllPairs (λ name other. name ≢ other) ks) (sym (keys-set_value (bytes_eq name) es bytes)) h
 
 none_by : (t : Bool) (name : List ℕ) (e : List ℕ × List ℕ) (es : List (List ℕ × List ℕ)) → bytes_eq name e.0 ≡ t
     → cond t (Some e.1) (lookup (bytes_eq name) es) ≡ None → (lookup (bytes_eq name) es ≡ None → list_any (bytes_eq name) (keys_of es) ≡ false)
@@ -63,8 +62,11 @@ keys_added (d ∷ es) e = ap (λ ks. d.0 ∷ ks) (keys_added es e)
 
 pub different_added : (name bytes : List ℕ) (es : List (List ℕ × List ℕ)) → HasDifferentNames es → lookup (bytes_eq name) es ≡ None
     → HasDifferentNames (es ++ (name, bytes) ∷ [])
-different_added name bytes es h absent = subst (λ ks. IsDistinct bytes_eq ks) (sym (keys_added es (name, bytes)))
-    (IsDistinct-push nat_list_eq_equiv (keys_of es) name h (none_among name es absent))
+different_added name bytes es h absent =
+    let before : IsDistinct bytes_eq (keys_of es) = IsDistinct-from_AllPairs bytes_eq-Decides (keys_of es) h in
+    let after : IsDistinct bytes_eq (keys_of es ++ name ∷ []) = IsDistinct-push nat_list_eq_equiv (keys_of es) name before (none_among name es absent) in
+    subst (λ ks. AllPairs (λ name other. name ≢ other) ks) (sym (keys_added es (name, bytes)))
+    (AllPairs-from_IsDistinct bytes_eq-Decides (keys_of es ++ name ∷ []) after)
 
 -- the file at a place has the name, no earlier one has it
 pub record IsPlace (name : List ℕ) (files : List File) (i : ℕ) : Type 0 where

@@ -1,7 +1,6 @@
 -- Files in memory as contracts see them: a map from names to bytes, the calls that fail, and counts.
-use Rattle.std.specs.Prelude.{◌≡◌, ℕ, List, map, string_bytes, Result, Ok, Err}
+use Rattle.std.specs.Prelude.{◌≢◌, ℕ, List, AllPairs, map, string_bytes, Result, Ok, Err}
 use Rattle.std.specs.Str.{bytes_eq}
-use Rattle.std.specs.List.{IsDistinct}
 use Rattle.std.specs.Map.{lookup, keys_of}
 use Rattle.alp_io.specs.Shelf.{Files, Counts}
 use Rattle.alp_io.specs.Count.{risen}
@@ -19,7 +18,7 @@ files_of entries name = lookup (bytes_eq name) entries
 
 -- no two entries have one name
 abbrev pub HasDifferentNames : List (List ℕ × List ℕ) → Type 0
-HasDifferentNames entries = IsDistinct bytes_eq (keys_of entries)
+HasDifferentNames entries = AllPairs (λ name other. name ≢ other) (keys_of entries)
 
 -- the entries in some order, the reads and the puts that fail, how many of each there were, and the counts of faults
 pub record MemShelfState : Type 0 where
