@@ -1,5 +1,5 @@
 -- Words and bytes as numbers, and what each operation of the CPU gives with its flags (TI SLAU049 and SLAU144, CPU chapter).
-use Rattle.std.specs.Prelude.{ℕ, zero, suc, ◌^◌, ◌+◌, ◌-◌, ◌*◌, ◌/◌, ◌%◌, ◌<◌, Bool, true, false, not, ◌&&◌, ◌||◌, ◌==◌, nat_lt, nat_le, if◌then◌else◌, bit_and, bit_xor, ℤ, pos, ◌-ℤ◌}
+use Rattle.std.specs.Prelude.{ℕ, zero, suc, ◌^◌, ◌+◌, ◌-◌, ◌*◌, ◌/◌, ◌%◌, ◌<◌, Bool, true, false, not, ◌&&◌, ◌==◌, nat_le, if◌then◌else◌, bit_and, bit_xor, List, [], ◌∷◌, slice_index, ℤ, pos, ◌-ℤ◌}
 use Rattle.alp_words.specs.declared.Width.{Width}
 use Rattle.alp_words.specs.declared.Width.TheVariants.{Word, Byte}
 use Rattle.alp_words.specs.declared.Flags.{Flags}
@@ -19,6 +19,13 @@ word_difference a b = (a + (0x10000 - b)) % 0x10000
 
 abbrev pub word_product : ℕ → ℕ → ℕ
 word_product a b = (a * b) % 0x10000
+
+-- a word in memory: its low byte, then its high byte
+abbrev pub word_bytes : ℕ → List ℕ
+word_bytes w = w % 0x100 ∷ w / 0x100 ∷ []
+
+abbrev pub word_of_bytes : List ℕ → ℕ
+word_of_bytes bytes = slice_index bytes 0 + 0x100 * slice_index bytes 1
 
 -- how many values there are of a width
 abbrev pub modulus : Width → ℕ
