@@ -9,10 +9,11 @@ use Rattle.alp_words.specs.Words.{IsWord, IsByte, word_sum, word_difference, mod
 abbrev pub IsOutside : Width → ℤ → Type 0
 IsOutside w z = (z <ℤ (pos 0 -ℤ pos (sign_weight w))) ⊎ (pos (sign_weight w) ≤ℤ z)
 
+-- the sum of the signed values, and the carry
 abbrev pub signed_sum : Width → ℕ → ℕ → Bool → ℤ
 signed_sum w d s carry = (signed_value w d +ℤ signed_value w s) +ℤ pos (bit carry)
 
--- a carry of 0 is a borrow of 1
+-- the difference of the signed values; a carry of 0 is a borrow of 1
 abbrev pub signed_difference : Width → ℕ → ℕ → Bool → ℤ
 signed_difference w d s carry = (signed_value w d -ℤ signed_value w s) -ℤ pos (1 - bit carry)
 
@@ -72,6 +73,7 @@ RotationThroughCarry = (w : Width) (d : ℕ) (carry : Bool) → IsWord d →
 abbrev pub SignExtension : Type 0
 SignExtension = (d : ℕ) → IsWord d → signed_value Word (extended d) ≡ signed_value Byte d
 
+-- SWPB twice changes nothing
 abbrev pub SwappedTwice : Type 0
 SwappedTwice = (d : ℕ) → IsWord d → swapped (swapped d) ≡ d
 
