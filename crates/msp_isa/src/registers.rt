@@ -1,0 +1,152 @@
+//! The sixteen registers, and those of them that an addressing mode can name.
+
+ghost use Rattle.std.specs.Prelude.{◌≡◌, ℕ, ◌<◌, ◌≢◌};
+ghost use Rattle.msp_isa.specs.Encoding.{index_number, source_number, indirect_number, register_number};
+
+/// A register that indexed and increment mode can name: R1 (SP) and R4 to R15.
+#[derive(Clone, Copy, PartialEq, Eq, Debug)]
+pub enum IndexRegister {
+    Sp,
+    R4,
+    R5,
+    R6,
+    R7,
+    R8,
+    R9,
+    R10,
+    R11,
+    R12,
+    R13,
+    R14,
+    R15,
+}
+
+/// A register that can be a source operand: all but R3, which gives constants there.
+#[derive(Clone, Copy, PartialEq, Eq, Debug)]
+pub enum SourceRegister {
+    Pc,
+    Sr,
+    Index(IndexRegister),
+}
+
+/// A register that indirect mode can name: all but R2 and R3, which give constants there.
+#[derive(Clone, Copy, PartialEq, Eq, Debug)]
+pub enum IndirectRegister {
+    Pc,
+    Index(IndexRegister),
+}
+
+/// Any of the sixteen registers. R3 keeps nothing and reads as 0.
+#[derive(Clone, Copy, PartialEq, Eq, Debug)]
+pub enum Reg {
+    Pc,
+    Sr,
+    R3,
+    Index(IndexRegister),
+}
+
+impl IndexRegister {
+    /// The register's number: 1, or 4 to 15.
+    pub fn number(self) -> u16
+        ensures value { result ≡ index_number self }
+        ensures below { result < 16 }
+    {
+        match self {
+            IndexRegister::Sp => 1,
+            IndexRegister::R4 => 4,
+            IndexRegister::R5 => 5,
+            IndexRegister::R6 => 6,
+            IndexRegister::R7 => 7,
+            IndexRegister::R8 => 8,
+            IndexRegister::R9 => 9,
+            IndexRegister::R10 => 10,
+            IndexRegister::R11 => 11,
+            IndexRegister::R12 => 12,
+            IndexRegister::R13 => 13,
+            IndexRegister::R14 => 14,
+            IndexRegister::R15 => 15,
+        }
+    }
+
+    /// The register of this number.
+    pub fn from_number(n: u16) -> IndexRegister
+        requires below { n < 16 }
+        requires not_pc { n ≢ 0 }
+        requires not_sr { n ≢ 2 }
+        requires not_r3 { n ≢ 3 }
+        ensures found { index_number result ≡ n }
+        ensures only { (r : IndexRegister) → index_number r ≡ n → result ≡ r }
+    {
+        match n {
+            1 => IndexRegister::Sp,
+            4 => IndexRegister::R4,
+            5 => IndexRegister::R5,
+            6 => IndexRegister::R6,
+            7 => IndexRegister::R7,
+            8 => IndexRegister::R8,
+            9 => IndexRegister::R9,
+            10 => IndexRegister::R10,
+            11 => IndexRegister::R11,
+            12 => IndexRegister::R12,
+            13 => IndexRegister::R13,
+            14 => IndexRegister::R14,
+            _ => IndexRegister::R15,
+        }
+    }
+}
+
+impl SourceRegister {
+    /// The register's number, 0 to 15 and not 3.
+    pub fn number(self) -> u16
+        ensures value { result ≡ source_number self }
+        ensures below { result < 16 }
+    {
+        match self {
+            SourceRegister::Pc => 0,
+            SourceRegister::Sr => 2,
+            SourceRegister::Index(r) => r.number(),
+        }
+    }
+}
+
+impl IndirectRegister {
+    /// The register's number: 0, 1, or 4 to 15.
+    pub fn number(self) -> u16
+        ensures value { result ≡ indirect_number self }
+        ensures below { result < 16 }
+    {
+        match self {
+            IndirectRegister::Pc => 0,
+            IndirectRegister::Index(r) => r.number(),
+        }
+    }
+}
+
+impl Reg {
+    /// The register's number, 0 to 15.
+    pub fn number(self) -> u16
+        ensures value { result ≡ register_number self }
+        ensures below { result < 16 }
+    {
+        match self {
+            Reg::Pc => 0,
+            Reg::Sr => 2,
+            Reg::R3 => 3,
+            Reg::Index(r) => r.number(),
+        }
+    }
+
+    /// The register of this number.
+    pub fn from_number(n: u16) -> Reg
+        requires { n < 16 }
+        ensures found { register_number result ≡ n }
+        ensures only { (r : Reg) → register_number r ≡ n → result ≡ r }
+    {
+        match n {
+            0 => Reg::Pc,
+            2 => Reg::Sr,
+            3 => Reg::R3,
+            _ => Reg::Index(IndexRegister::from_number(n)),
+        }
+    }
+}
