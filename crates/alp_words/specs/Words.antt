@@ -1,24 +1,36 @@
 -- Words and bytes as numbers, and what each operation of the CPU gives with its flags (TI SLAU049 and SLAU144, CPU chapter).
-use Rattle.std.specs.Prelude.{ℕ, zero, suc, ◌^◌, ◌+◌, ◌-◌, ◌*◌, ◌/◌, ◌%◌, ◌<◌, Bool, true, false, not, ◌&&◌, ◌||◌, ◌==◌, nat_lt, nat_le, if◌then◌else◌, bit_and, bit_xor, ℤ, pos, ◌-ℤ◌}
+use Rattle.std.specs.Prelude.{ℕ, zero, suc, ◌^◌, ◌+◌, ◌-◌, ◌*◌, ◌/◌, ◌%◌, ◌<◌, Bool, true, false, not, ◌&&◌, ◌==◌, nat_le, if◌then◌else◌, bit_and, bit_xor, List, [], ◌∷◌, slice_index, ℤ, pos, ◌-ℤ◌}
 use Rattle.alp_words.specs.declared.Width.{Width}
 use Rattle.alp_words.specs.declared.Width.TheVariants.{Word, Byte}
 use Rattle.alp_words.specs.declared.Flags.{Flags}
 
+-- a word is a number below 65536
 abbrev pub IsWord : ℕ → Type 0
 IsWord n = n < 0x10000
 
+-- a byte is a number below 256
 abbrev pub IsByte : ℕ → Type 0
 IsByte n = n < 0x100
 
--- sum, difference and product of words wrap
+-- the sum of two words, modulo 65536
 abbrev pub word_sum : ℕ → ℕ → ℕ
 word_sum a b = (a + b) % 0x10000
 
+-- the difference of two words, modulo 65536
 abbrev pub word_difference : ℕ → ℕ → ℕ
 word_difference a b = (a + (0x10000 - b)) % 0x10000
 
+-- the product of two words, modulo 65536
 abbrev pub word_product : ℕ → ℕ → ℕ
 word_product a b = (a * b) % 0x10000
+
+-- a word in memory: its low byte, then its high byte
+abbrev pub word_bytes : ℕ → List ℕ
+word_bytes w = w % 0x100 ∷ w / 0x100 ∷ []
+
+-- the word of a low byte and a high byte
+abbrev pub word_of_bytes : List ℕ → ℕ
+word_of_bytes bytes = slice_index bytes 0 + 0x100 * slice_index bytes 1
 
 -- how many values there are of a width
 abbrev pub modulus : Width → ℕ
@@ -49,6 +61,7 @@ abbrev pub same : Bool → Bool → Bool
 same true b = b
 same false b = not b
 
+-- a flag as a number
 abbrev pub bit : Bool → ℕ
 bit b = if b then 1 else 0
 
@@ -140,6 +153,7 @@ bcd_sum (suc n) d s carry =
     let high = bcd_sum n (d / 16) (s / 16) low.1 in
     (low.0 + 16 * high.0, high.1)
 
+-- how many decimal digits there are of a width
 abbrev pub digit_count : Width → ℕ
 digit_count Word = 4
 digit_count Byte = 2
@@ -150,10 +164,11 @@ decimal_of w d s before =
     let r = bcd_sum (digit_count w) d s before.c in
     (r.0, record { n = is_negative w r.0; z = r.0 == 0; c = r.1; v = before.v })
 
--- by 0 the quotient is the greatest word, and the remainder is the dividend
+-- the unsigned quotient; by 0 it is the greatest word
 abbrev pub quotient : ℕ → ℕ → ℕ
 quotient a b = if b == 0 then 0xFFFF else a / b
 
+-- the unsigned remainder; by 0 it is the dividend
 abbrev pub remainder : ℕ → ℕ → ℕ
 remainder a b = if b == 0 then a else a % b
 

@@ -1,19 +1,18 @@
--- The cycles of each instruction, by form and mode.
+-- The cycles of each instruction by form and addressing mode, after the tables of SLAU049 and SLAU144 (CPU chapter, instruction cycles and lengths).
 use Rattle.std.specs.Prelude.{ℕ}
 use Rattle.msp_isa.specs.declared.registers.Reg.TheVariants as reg
 use Rattle.msp_isa.specs.declared.operands.Operand.{Operand}
-use Rattle.msp_isa.specs.declared.operands.Operand.TheVariants as place
+use Rattle.msp_isa.specs.declared.operands.Operand.TheVariants as operand
 use Rattle.msp_isa.specs.declared.operands.Src.{Src}
 use Rattle.msp_isa.specs.declared.operands.Src.TheVariants as src
 use Rattle.msp_isa.specs.declared.operands.Dst.{Dst}
 use Rattle.msp_isa.specs.declared.operands.Dst.TheVariants as dst
-use Rattle.msp_isa.specs.declared.instructions.OneOp.{OneOp}
 use Rattle.msp_isa.specs.declared.instructions.OneOp.TheVariants.{Rrc, Swpb, Rra, Sxt, Push, Call}
 use Rattle.msp_isa.specs.declared.instructions.Instr.{Instr}
 use Rattle.msp_isa.specs.declared.instructions.Instr.TheVariants as instr
 
--- a row of the table, with its columns: a register or constant, @Rn, @Rn+, #N, X(Rn), symbolic, absolute
-pub record Cost : Type 0 where
+-- a row of the table: the cycles for each source, where a constant counts as a register
+pub record CycleRow : Type 0 where
   pub register : ℕ
   pub indirect : ℕ
   pub increment : ℕ
@@ -22,42 +21,67 @@ pub record Cost : Type 0 where
   pub symbolic : ℕ
   pub absolute : ℕ
 
-abbrev pub cost : ℕ → ℕ → ℕ → ℕ → ℕ → ℕ → ℕ → Cost
-cost r i p n x s a = record { register = r; indirect = i; increment = p; immediate = n; indexed = x; symbolic = s; absolute = a }
+-- a row from its columns: Rn or a constant, @Rn, @Rn+, #N, X(Rn), symbolic, absolute
+abbrev pub cycle_row : ℕ → ℕ → ℕ → ℕ → ℕ → ℕ → ℕ → CycleRow
+cycle_row r i p n x s a = record { register = r; indirect = i; increment = p; immediate = n; indexed = x; symbolic = s; absolute = a }
 
-abbrev pub at_place : Cost → Operand → ℕ
-at_place c (place.Reg r) = c.register
-at_place c (place.Indexed b x) = c.indexed
-at_place c (place.Symbolic x) = c.symbolic
-at_place c (place.Absolute a) = c.absolute
-at_place c (place.Indirect p) = c.indirect
-at_place c (place.Increment b) = c.increment
+-- the column of an operand in a register or in memory
+abbrev pub operand_cycles : CycleRow → Operand → ℕ
+operand_cycles c (operand.Reg r) = c.register
+operand_cycles c (operand.Indexed r x) = c.indexed
+operand_cycles c (operand.Symbolic x) = c.symbolic
+operand_cycles c (operand.Absolute a) = c.absolute
+operand_cycles c (operand.Indirect r) = c.indirect
+operand_cycles c (operand.Increment r) = c.increment
 
-abbrev pub at_source : Cost → Src → ℕ
-at_source c (src.Operand p) = at_place c p
-at_source c (src.Immediate n) = c.immediate
-at_source c (src.Constant k) = c.register
+-- the column of a source operand
+abbrev pub source_cycles : CycleRow → Src → ℕ
+source_cycles c (src.Operand o) = operand_cycles c o
+source_cycles c (src.Immediate n) = c.immediate
+source_cycles c (src.Constant k) = c.register
 
--- which row serves this destination
-abbrev pub two_cost : Dst → Cost
-two_cost (dst.Reg reg.Pc) = cost 2 2 3 3 3 3 3
-two_cost (dst.Reg reg.Sr) = cost 1 2 2 2 3 3 3
-two_cost (dst.Reg reg.R3) = cost 1 2 2 2 3 3 3
-two_cost (dst.Reg (reg.Index b)) = cost 1 2 2 2 3 3 3
-two_cost (dst.Indexed b x) = cost 4 5 5 5 6 6 6
-two_cost (dst.Symbolic x) = cost 4 5 5 5 6 6 6
-two_cost (dst.Absolute a) = cost 4 5 5 5 6 6 6
+-- two operands, to a register other than PC
+abbrev pub to_register : CycleRow
+to_register = cycle_row 1 2 2 2 3 3 3
 
-abbrev pub one_cost : Cost
-one_cost = cost 1 3 3 0 4 4 4
+-- two operands, to PC
+abbrev pub to_pc : CycleRow
+to_pc = cycle_row 2 2 3 3 3 3 3
 
+-- two operands, to memory
+abbrev pub to_memory : CycleRow
+to_memory = cycle_row 4 5 5 5 6 6 6
+
+-- RRC, RRA, SWPB, SXT, which take no immediate
+abbrev pub read_modify_write : CycleRow
+read_modify_write = cycle_row 1 3 3 0 4 4 4
+
+-- PUSH
+abbrev pub push : CycleRow
+push = cycle_row 3 4 5 4 5 5 5
+
+-- CALL
+abbrev pub call : CycleRow
+call = cycle_row 4 4 5 5 5 5 5
+
+-- the row of two operands for a destination
+abbrev pub destination_cycles : Dst → CycleRow
+destination_cycles (dst.Reg reg.Pc) = to_pc
+destination_cycles (dst.Reg reg.Sr) = to_register
+destination_cycles (dst.Reg reg.R3) = to_register
+destination_cycles (dst.Reg (reg.Index r)) = to_register
+destination_cycles (dst.Indexed r x) = to_memory
+destination_cycles (dst.Symbolic x) = to_memory
+destination_cycles (dst.Absolute a) = to_memory
+
+-- the cycles of an instruction; a jump takes 2 whether it is taken or not
 abbrev pub cycles_of : Instr → ℕ
-cycles_of (instr.Two op w s d) = at_source (two_cost d) s
-cycles_of (instr.One (Rrc w p)) = at_place one_cost p
-cycles_of (instr.One (Swpb p)) = at_place one_cost p
-cycles_of (instr.One (Rra w p)) = at_place one_cost p
-cycles_of (instr.One (Sxt p)) = at_place one_cost p
-cycles_of (instr.One (Push w s)) = at_source (cost 3 4 5 4 5 5 5) s
-cycles_of (instr.One (Call s)) = at_source (cost 4 4 5 5 5 5 5) s
-cycles_of (instr.Jump c o) = 2
+cycles_of (instr.Two op w s d) = source_cycles (destination_cycles d) s
+cycles_of (instr.One (Rrc w o)) = operand_cycles read_modify_write o
+cycles_of (instr.One (Swpb o)) = operand_cycles read_modify_write o
+cycles_of (instr.One (Rra w o)) = operand_cycles read_modify_write o
+cycles_of (instr.One (Sxt o)) = operand_cycles read_modify_write o
+cycles_of (instr.One (Push w s)) = source_cycles push s
+cycles_of (instr.One (Call s)) = source_cycles call s
+cycles_of (instr.Jump c offset) = 2
 cycles_of instr.Reti = 5

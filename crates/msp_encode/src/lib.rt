@@ -1,151 +1,180 @@
-// The words of an instruction.
+//! The words of an instruction.
 #![tactic(auto)]
 
-ghost use Rattle.std.specs.Prelude.{◌≡◌, ℕ, ◌+◌, ◌*◌, ◌<◌, ◌≤◌, ◌++◌, []};
+ghost use Rattle.std.specs.Prelude.{◌≡◌, ◌+◌, ◌<◌, ◌≤◌, ◌++◌, ◌∷◌, []};
 ghost use Rattle.std.specs.Option.{option_to_list};
 ghost use Rattle.arrayvec.specs.ArrayVec.{array_vec_len};
-ghost use Rattle.msp_isa.specs.Encoding.{Row, row, operand_row, source_row, destination_row, byte_bit, two_encoding, one_encoding, encoding};
+ghost use Rattle.msp_isa.specs.Encoding.{operand_row, source_row, destination_row, byte_bit, two_encoding, one_encoding, encoding};
+ghost use Rattle.msp_encode.specs.Fields.{row_of};
+
+mod fields;
 
 use alp_words::Width;
 use arrayvec::ArrayVec;
+use fields::Fields;
 use msp_isa::{Dst, Instr, Konst, OneOp, Operand, Src};
 
-fn place_parts(p: Operand) -> (u16, u16, Option<u16>)
-    ensures row { row result.0 result.1 (option_to_list result.2) ≡ operand_row p }
-    ensures mode { result.0 < 4 }
-    ensures register { result.1 < 16 }
+fn operand_fields(operand: Operand) -> Fields
+    ensures { row_of result ≡ operand_row operand }
 {
-    match p {
+    let (mode, register, extension) = match operand {
         Operand::Reg(r) => (0, r.number(), None),
-        Operand::Indexed(b, x) => (1, b.number(), Some(x)),
+        Operand::Indexed(r, x) => (1, r.number(), Some(x)),
         Operand::Symbolic(x) => (1, 0, Some(x)),
         Operand::Absolute(a) => (1, 2, Some(a)),
-        Operand::Indirect(p) => (2, p.number(), None),
-        Operand::Increment(b) => (3, b.number(), None),
+        Operand::Indirect(r) => (2, r.number(), None),
+        Operand::Increment(r) => (3, r.number(), None),
+    };
+    Fields {
+        mode,
+        register,
+        extension,
     }
 }
 
-fn constant_parts(k: Konst) -> (u16, u16)
-    ensures row { row result.0 result.1 [] ≡ source_row (Src.Constant k) }
-    ensures mode { result.0 < 4 }
-    ensures register { result.1 < 16 }
+fn constant_fields(constant: Konst) -> Fields
+    ensures { row_of result ≡ source_row (Src.Constant constant) }
 {
-    match k {
+    let (mode, register) = match constant {
         Konst::Zero => (0, 3),
         Konst::One => (1, 3),
         Konst::Two => (2, 3),
         Konst::MinusOne => (3, 3),
         Konst::Four => (2, 2),
         Konst::Eight => (3, 2),
+    };
+    Fields {
+        mode,
+        register,
+        extension: None,
     }
 }
 
-fn source_parts(s: Src) -> (u16, u16, Option<u16>)
-    ensures row { row result.0 result.1 (option_to_list result.2) ≡ source_row s }
-    ensures mode { result.0 < 4 }
-    ensures register { result.1 < 16 }
+fn source_fields(src: Src) -> Fields
+    ensures { row_of result ≡ source_row src }
 {
-    match s {
-        Src::Operand(p) => place_parts(p),
-        Src::Immediate(n) => (3, 0, Some(n)),
-        Src::Constant(k) => {
-            let (mode, register) = constant_parts(k);
-            (mode, register, None)
-        }
+    match src {
+        Src::Operand(operand) => operand_fields(operand),
+        Src::Immediate(n) => Fields {
+            mode: 3,
+            register: 0,
+            extension: Some(n),
+        },
+        Src::Constant(constant) => constant_fields(constant),
     }
 }
 
-fn dest_parts(d: Dst) -> (u16, u16, Option<u16>)
-    ensures row { row result.0 result.1 (option_to_list result.2) ≡ destination_row d }
-    ensures mode { result.0 < 2 }
-    ensures register { result.1 < 16 }
+fn destination_fields(dst: Dst) -> Fields
+    ensures row { row_of result ≡ destination_row dst }
+    ensures mode { result.mode < 2 }
 {
-    match d {
+    let (mode, register, extension) = match dst {
         Dst::Reg(r) => (0, r.number(), None),
-        Dst::Indexed(b, x) => (1, b.number(), Some(x)),
+        Dst::Indexed(r, x) => (1, r.number(), Some(x)),
         Dst::Symbolic(x) => (1, 0, Some(x)),
         Dst::Absolute(a) => (1, 2, Some(a)),
+    };
+    Fields {
+        mode,
+        register,
+        extension,
     }
 }
 
-fn byte_flag(w: Width) -> u16
-    ensures value { result ≡ byte_bit w }
+fn byte_bit(width: Width) -> u16
+    ensures value { result ≡ byte_bit width }
     ensures below { result < 2 }
 {
-    match w {
+    match width {
         Width::Word => 0,
         Width::Byte => 1,
     }
 }
 
-fn push_more(words: &mut ArrayVec<u16, 3>, more: Option<u16>)
+fn push_extension(words: &mut ArrayVec<u16, 3>, extension: Option<u16>)
     requires { array_vec_len words.old < 3 }
-    ensures items { words.new.items ≡ words.old.items ++ option_to_list more }
+    ensures items { words.new.items ≡ words.old.items ++ option_to_list extension }
     ensures len { array_vec_len words.new ≤ array_vec_len words.old + 1 }
 {
-    if let Some(word) = more {
+    if let Some(word) = extension {
         words.push(word);
     }
 }
 
-fn one(first: u16, w: Width, parts: (u16, u16, Option<u16>)) -> ArrayVec<u16, 3>
-    requires first { first ≤ 0x1280 }
-    requires mode { parts.0 < 4 }
-    requires register { parts.1 < 16 }
-    ensures { result.items ≡ one_encoding first w (row parts.0 parts.1 (option_to_list parts.2)) }
+/// The words of an instruction that has no operand.
+fn lone(word: u16) -> ArrayVec<u16, 3>
+    ensures { result.items ≡ word ∷ [] }
 {
     let mut words = ArrayVec::new();
-    words.push(first + byte_flag(w) * 0x40 + parts.0 * 0x10 + parts.1);
-    push_more(&mut words, parts.2);
+    words.push(word);
     words
 }
 
-fn two(
-    op: u16,
-    w: Width,
-    s: (u16, u16, Option<u16>),
-    d: (u16, u16, Option<u16>),
-) -> ArrayVec<u16, 3>
-    requires op { op < 16 }
-    requires mode { s.0 < 4 }
-    requires register { s.1 < 16 }
-    requires dest_mode { d.0 < 2 }
-    requires dest_register { d.1 < 16 }
-    ensures { result.items ≡ two_encoding op w (row s.0 s.1 (option_to_list s.2)) (row d.0 d.1 (option_to_list d.2)) }
+/// The words of an instruction of one operand; `operation` is the first word without its fields.
+fn one(operation: u16, width: Width, operand: Fields) -> ArrayVec<u16, 3>
+    requires { operation ≤ 0x1280 }
+    ensures { result.items ≡ one_encoding operation width (row_of operand) }
 {
     let mut words = ArrayVec::new();
-    words.push(op * 0x1000 + s.1 * 0x100 + d.0 * 0x80 + byte_flag(w) * 0x40 + s.0 * 0x10 + d.1);
-    push_more(&mut words, s.2);
-    push_more(&mut words, d.2);
+    words.push(operation + byte_bit(width) * 0x40 + operand.mode * 0x10 + operand.register);
+    push_extension(&mut words, operand.extension);
     words
 }
 
-/// The one list of words of an instruction.
-pub fn encode(i: &Instr) -> ArrayVec<u16, 3>
-    ensures { result.items ≡ encoding i.now }
+/// The words of an instruction of two operands.
+fn two(opcode: u16, width: Width, src: Fields, dst: Fields) -> ArrayVec<u16, 3>
+    requires opcode { opcode < 16 }
+    requires mode { dst.mode < 2 }
+    ensures { result.items ≡ two_encoding opcode width (row_of src) (row_of dst) }
 {
-    match *i {
+    let mut words = ArrayVec::new();
+    words.push(
+        opcode * 0x1000
+            + src.register * 0x100
+            + dst.mode * 0x80
+            + byte_bit(width) * 0x40
+            + src.mode * 0x10
+            + dst.register,
+    );
+    push_extension(&mut words, src.extension);
+    push_extension(&mut words, dst.extension);
+    words
+}
+
+/// The words of an instruction of one operand.
+fn one_words(instruction: OneOp) -> ArrayVec<u16, 3>
+    ensures { result.items ≡ encoding (Instr.One instruction) }
+{
+    match instruction {
+        OneOp::Rrc(width, o) => one(0x1000, width, operand_fields(o)),
+        OneOp::Swpb(o) => one(0x1080, Width::Word, operand_fields(o)),
+        OneOp::Rra(width, o) => one(0x1100, width, operand_fields(o)),
+        OneOp::Sxt(o) => one(0x1180, Width::Word, operand_fields(o)),
+        OneOp::Push(width, s) => one(0x1200, width, source_fields(s)),
+        OneOp::Call(s) => one(0x1280, Width::Word, source_fields(s)),
+    }
+}
+
+/// The words of an instruction, one to three: the only ones that decode to it.
+pub fn encode(instruction: &Instr) -> ArrayVec<u16, 3>
+    ensures { result.items ≡ encoding instruction.now }
+{
+    match *instruction {
         Instr::Two {
             op,
             width,
             src,
             dst,
-        } => two(op.opcode(), width, source_parts(src), dest_parts(dst)),
-        Instr::One(OneOp::Rrc(w, p)) => one(0x1000, w, place_parts(p)),
-        Instr::One(OneOp::Swpb(p)) => one(0x1080, Width::Word, place_parts(p)),
-        Instr::One(OneOp::Rra(w, p)) => one(0x1100, w, place_parts(p)),
-        Instr::One(OneOp::Sxt(p)) => one(0x1180, Width::Word, place_parts(p)),
-        Instr::One(OneOp::Push(w, s)) => one(0x1200, w, source_parts(s)),
-        Instr::One(OneOp::Call(s)) => one(0x1280, Width::Word, source_parts(s)),
+        } => two(
+            op.opcode(),
+            width,
+            source_fields(src),
+            destination_fields(dst),
+        ),
+        Instr::One(one) => one_words(one),
         Instr::Jump { condition, offset } => {
-            let mut words = ArrayVec::new();
-            words.push(0x2000 + condition.number() * 0x400 + offset.bits());
-            words
+            lone(0x2000 + condition.number() * 0x400 + offset.bits())
         }
-        Instr::Reti => {
-            let mut words = ArrayVec::new();
-            words.push(0x1300);
-            words
-        }
+        Instr::Reti => lone(0x1300),
     }
 }

@@ -10,7 +10,6 @@ use Rattle.msp_isa.specs.declared.registers.IndirectRegister.{IndirectRegister}
 use Rattle.msp_isa.specs.declared.registers.IndirectRegister.TheVariants as pointer
 use Rattle.msp_isa.specs.declared.registers.Reg.{Reg}
 use Rattle.msp_isa.specs.declared.registers.Reg.TheVariants as reg
-use Rattle.msp_isa.specs.declared.operands.Konst.{Konst}
 use Rattle.msp_isa.specs.declared.operands.Konst.TheVariants as konst
 use Rattle.msp_isa.specs.declared.operands.Operand.{Operand}
 use Rattle.msp_isa.specs.declared.operands.Operand.TheVariants as operand
@@ -20,14 +19,13 @@ use Rattle.msp_isa.specs.declared.operands.Dst.{Dst}
 use Rattle.msp_isa.specs.declared.operands.Dst.TheVariants as dst
 use Rattle.msp_isa.specs.declared.instructions.TwoOp.{TwoOp}
 use Rattle.msp_isa.specs.declared.instructions.TwoOp.TheVariants.{Mov, Add, Addc, Subc, Sub, Cmp, Dadd, Bit, Bic, Bis, Xor, And}
-use Rattle.msp_isa.specs.declared.instructions.OneOp.{OneOp}
 use Rattle.msp_isa.specs.declared.instructions.OneOp.TheVariants.{Rrc, Swpb, Rra, Sxt, Push, Call}
 use Rattle.msp_isa.specs.declared.instructions.Condition.{Condition}
 use Rattle.msp_isa.specs.declared.instructions.Condition.TheVariants as condition
 use Rattle.msp_isa.specs.declared.instructions.Instr.{Instr}
 use Rattle.msp_isa.specs.declared.instructions.Instr.TheVariants as instr
 
--- the number of a register, R0 to R15, of each of the four types of registers
+-- the number of a register, R0 to R15
 abbrev pub index_number : IndexRegister → ℕ
 index_number Sp = 1
 index_number R4 = 4
@@ -43,15 +41,18 @@ index_number R13 = 13
 index_number R14 = 14
 index_number R15 = 15
 
+-- the same for a register that is read
 abbrev pub source_number : SourceRegister → ℕ
 source_number readable.Pc = 0
 source_number readable.Sr = 2
 source_number (readable.Index r) = index_number r
 
+-- the same for a register that points to an operand
 abbrev pub indirect_number : IndirectRegister → ℕ
 indirect_number pointer.Pc = 0
 indirect_number (pointer.Index r) = index_number r
 
+-- the same for any register
 abbrev pub register_number : Reg → ℕ
 register_number reg.Pc = 0
 register_number reg.Sr = 2
@@ -64,6 +65,7 @@ pub record Row : Type 0 where
   pub register : ℕ
   pub extension : List ℕ
 
+-- a row from its columns
 abbrev pub row : ℕ → ℕ → List ℕ → Row
 row m r x = record { mode = m; register = r; extension = x }
 
