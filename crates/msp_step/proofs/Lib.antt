@@ -1,2 +1,3 @@
 pub mod Fetched
-pub mod Faults
+pub mod Accesses
+pub mod Determined

@@ -48,13 +48,20 @@ pub record IsCurrentInstruction {S : Type 0} (bus : BusModel S) (r : Registers) 
   pub is : IsInstruction i
   pub fetched : FetchedAt bus s (r 0) (encoding i)
 
--- a word at PC can't be fetched: the first, or a later one of an instruction that begins as the words before it
+-- there is an instruction that begins with this word, and each that does has more than n words
+pub record IsLongerThan (n w : ℕ) : Type 0 where
+  pub one : Instr
+  pub is : IsInstruction one
+  pub begins : first_word one ≡ w
+  pub all : (i : Instr) → IsInstruction i → first_word i ≡ w → n < length (encoding i)
+
+-- a word at PC can't be fetched: the first, or one that the instruction has besides
 pub data NotFetched {S : Type 0} (bus : BusModel S) (s : S) (pc : ℕ) : ℕ → Type 0 where
   First : bus.fetches s pc ≡ None → NotFetched bus s pc pc
-  Second : (i : Instr) → IsInstruction i → bus.fetches s pc ≡ Some (first_word i) → 1 < length (encoding i)
-    → bus.fetches s (sum16 pc 2) ≡ None → NotFetched bus s pc (sum16 pc 2)
-  Third : (i : Instr) (w : ℕ) → IsInstruction i → bus.fetches s pc ≡ Some (first_word i) → 2 < length (encoding i)
-    → bus.fetches s (sum16 pc 2) ≡ Some w → bus.fetches s (sum16 (sum16 pc 2) 2) ≡ None → NotFetched bus s pc (sum16 (sum16 pc 2) 2)
+  Second : (w : ℕ) → bus.fetches s pc ≡ Some w → IsLongerThan 1 w → bus.fetches s (sum16 pc 2) ≡ None
+    → NotFetched bus s pc (sum16 pc 2)
+  Third : (w v : ℕ) → bus.fetches s pc ≡ Some w → IsLongerThan 2 w → bus.fetches s (sum16 pc 2) ≡ Some v
+    → bus.fetches s (sum16 (sum16 pc 2) 2) ≡ None → NotFetched bus s pc (sum16 (sum16 pc 2) 2)
 
 -- no instruction can be had at an address: a word of it can't be fetched, or the first begins none
 abbrev pub IsNoInstruction : {S : Type 0} → BusModel S → S → ℕ → Stop → Type 0
@@ -70,20 +77,26 @@ IsStopped bus r s (stop.Illegal at w) = (off_bit r ≡ 0) × IsNoInstruction bus
 IsStopped bus r s (stop.Bus at a) = (off_bit r ≡ 0) × IsNoInstruction bus s (r 0) (stop.Bus at a)
 IsStopped bus r s stop.NoReading = ⊥
 
--- what executing an instruction answers: its effect, or the access that the bus can't serve, with the registers as before
-abbrev pub Executes : {S : Type 0} → BusModel S → Instr → Registers → S → Result Stepped Stop → Registers → S → Type 0
-Executes bus i r s (Ok done) r' s' = (w : Option Written) × (effect bus i r s ≡ Completed (r', w) s')
-    × (done.wrote ≡ option_map (λ p. p.0) w) × (done.cycles ≡ cycles_of i)
-Executes bus i r s (Err (stop.Bus pc a)) r' s' = (r' ≡ r) × (pc ≡ r 0) × (effect bus i r s ≡ Faulted refused.Bus a s')
-Executes bus i r s (Err stop.NoReading) r' s' = (r' ≡ r) × (a : ℕ) × (effect bus i r s ≡ Faulted refused.NoReading a s')
-Executes bus i r s (Err stop.Off) r' s' = ⊥
-Executes bus i r s (Err (stop.Illegal pc w)) r' s' = ⊥
+-- what a step answers, and the registers and the bus after it
+pub record Outcome (S : Type 0) : Type 0 where
+  pub answer : Result Stepped Stop
+  pub registers : Registers
+  pub bus : S
+
+-- where the bus refused an access, the registers are as before
+abbrev pub outcome_of : {S : Type 0} → Instr → Registers → Access S (Registers × Option Written) → Outcome S
+outcome_of i r (Completed x s) = record { answer = Ok (record { cycles = cycles_of i; wrote = option_map (λ p. p.0) x.1 }); registers = x.0; bus = s }
+outcome_of i r (Faulted refused.Bus a s) = record { answer = Err (stop.Bus (r 0) a); registers = r; bus = s }
+outcome_of i r (Faulted refused.NoReading a s) = record { answer = Err stop.NoReading; registers = r; bus = s }
+
+-- an instruction, executed as the one at PC
+abbrev pub execution : {S : Type 0} → BusModel S → Instr → Registers → S → Outcome S
+execution bus i r s = outcome_of i r (effect bus i r s)
 
 -- one step: it is stopped, with all as before, or the instruction at PC is executed
-pub data StepResult {S : Type 0} (bus : BusModel S) (r : Registers) (s : S) : Result Stepped Stop → Registers → S → Type 0 where
-  Stopped : (e : Stop) → IsStopped bus r s e → StepResult bus r s (Err e) r s
-  Executed : (i : Instr) (answer : Result Stepped Stop) (r' : Registers) (s' : S)
-    → IsCurrentInstruction bus r s i → Executes bus i r s answer r' s' → StepResult bus r s answer r' s'
+pub data StepResult {S : Type 0} (bus : BusModel S) (r : Registers) (s : S) : Outcome S → Type 0 where
+  Stopped : (e : Stop) → IsStopped bus r s e → StepResult bus r s (record { answer = Err e; registers = r; bus = s })
+  Executed : (i : Instr) → IsCurrentInstruction bus r s i → StepResult bus r s (execution bus i r s)
 
 -- what the next instruction costs
 abbrev pub Costs : {S : Type 0} → BusModel S → Registers → S → Result ℕ Stop → Type 0

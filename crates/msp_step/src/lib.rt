@@ -4,9 +4,11 @@
 mod bus;
 mod cpu;
 mod effect;
+mod laws;
 mod machine;
 mod operand;
 
 pub use bus::{Bus, Refused};
 pub use cpu::Cpu;
+pub use laws::{effect_writes_once, jumps_by_signed_words, step_is_determined};
 pub use machine::{Stepped, Stop, cost, current_instruction, execute, step};

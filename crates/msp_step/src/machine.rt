@@ -5,7 +5,7 @@ ghost use Rattle.std.specs.Option.{option_map};
 ghost use Rattle.msp_step.specs.Access.{Completed, OnlyReads};
 ghost use Rattle.msp_step.specs.Answer.{answer};
 ghost use Rattle.msp_step.specs.Registers.{registers_of};
-ghost use Rattle.msp_step.specs.Step.{FetchedAt, one_operand_effect, effect, IsCurrentInstruction, NotFetched, IsNoInstruction, IsStopped, Executes, StepResult, Costs};
+ghost use Rattle.msp_step.specs.Step.{FetchedAt, one_operand_effect, effect, IsCurrentInstruction, IsNoInstruction, IsStopped, execution, StepResult, Costs};
 ghost use Rattle.msp_isa.specs.Encoding.{encoding, IsIllegal, IsInstruction};
 
 use crate::bus::{Bus, Refused};
@@ -148,7 +148,7 @@ fn address_of(wrote: Option<(u16, u16)>) -> Option<u16>
 /// the first access that the bus refuses, `Bus` with that address or `NoReading`: then the registers and the memory are
 /// as before, and readings that the instruction had taken stay taken.
 pub fn execute<B: Bus>(cpu: &mut Cpu, bus: &mut B, instruction: &Instr) -> Result<Stepped, Stop>
-    ensures executes { Executes B.model instruction.now (registers_of cpu.old) bus.old result (registers_of cpu.new) bus.new }
+    ensures executes { (record { answer = result; registers = registers_of cpu.new; bus = bus.new }) ≡ execution B.model instruction.now (registers_of cpu.old) bus.old }
     ensures cpu { OnErr result (cpu.new ≡ cpu.old) }
     ensures reads { OnErr result (OnlyReads B.model 2 bus.old bus.new) }
     ensures memory { OnErr result (B.model.memory bus.new ≡ B.model.memory bus.old) }
@@ -176,7 +176,7 @@ pub fn execute<B: Bus>(cpu: &mut Cpu, bus: &mut B, instruction: &Instr) -> Resul
 /// One step: the instruction at PC is executed. Stops with the causes of `current_instruction`, then with those of
 /// `execute`, and leaves the registers and the memory as before.
 pub fn step<B: Bus>(cpu: &mut Cpu, bus: &mut B) -> Result<Stepped, Stop>
-    ensures steps { StepResult B.model (registers_of cpu.old) bus.old result (registers_of cpu.new) bus.new }
+    ensures steps { StepResult B.model (registers_of cpu.old) bus.old (record { answer = result; registers = registers_of cpu.new; bus = bus.new }) }
     ensures cpu { OnErr result (cpu.new ≡ cpu.old) }
     ensures reads { OnErr result (OnlyReads B.model 2 bus.old bus.new) }
     ensures memory { OnErr result (B.model.memory bus.new ≡ B.model.memory bus.old) }

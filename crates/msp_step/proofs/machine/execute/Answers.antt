@@ -1,8 +1,8 @@
 use Rattle.std.proofs.Common.{◌≡◌, ℕ, refl, sym, ap, subst}
 use Rattle.msp_step.specs.Access.{OnlyReads}
 use Rattle.msp_step.specs.Registers.{registers_of}
-use Rattle.msp_step.specs.Step.{effect}
-use Rattle.msp_step.proofs.Faults.{faulted_after_reads, reads_keep}
+use Rattle.msp_step.specs.Step.{effect, outcome_of}
+use Rattle.msp_step.proofs.Accesses.{faulted_after_reads, reads_keep}
 use Rattle.msp_step.proofs.machine.execute.Goals as goal
 
 pub returns-in-Bus-clause-reads : goal.returns-in-Bus-clause-reads
@@ -19,7 +19,7 @@ returns-in-Bus-clause-memory g c =
 pub returns-in-NoReading-clause-executes : goal.returns-in-NoReading-clause-executes
 returns-in-NoReading-clause-executes g c =
     let done = rw (c.copy-after.ensures, c.in-NoReading.is) at c.in-Err.ensures in
-    (refl, c.in-Err.fault.address, sym done)
+    ap (outcome_of {S = _} c.args.instruction.now (registers_of c.args.cpu.now)) done
 
 pub returns-in-NoReading-clause-reads : goal.returns-in-NoReading-clause-reads
 returns-in-NoReading-clause-reads g c =

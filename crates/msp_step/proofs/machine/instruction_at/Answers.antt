@@ -1,7 +1,8 @@
 use Rattle.std.proofs.Common.{rules, ◌≡◌, ℕ, ◌+◌, ◌%◌, ◌<◌, refl, sym, ◌∙◌, ap, arith, Some, length}
 use Rattle.std.proofs.lemmas.Bool.{ltb-true}
 use Rattle.msp_isa.specs.Encoding.{encoding}
-use Rattle.msp_step.proofs.Fetched.{fetched_at, first_missing, second_missing, third_missing}
+use Rattle.msp_step.specs.Step.{IsLongerThan}
+use Rattle.msp_step.proofs.Fetched.{fetched_at, longer_than, first_missing, second_missing, third_missing}
 use Rattle.msp_step.proofs.machine.instruction_at.Goals as goal
 
 pub returns-in_err-first-clause-none : goal.returns-in_err-first-clause-none
@@ -12,13 +13,17 @@ pub returns-in_err-second-clause-none : goal.returns-in_err-second-clause-none
 returns-in_err-second-clause-none g c =
     let f = c.in-Ok.ensures.found in
     let h = c.in_err-second.ensures.none in
-    let t = second_missing g.B.Bus.model c.args.bus.now c.args.pc c.in_ok-first.first _ (f.0, f.1, f.2, let e = f.3 in let l = ltb-true 1 c.in-Ok.words h.0 in omega arith) c.in_ok-first.ensures.found (h.1, h.2) in search rules
+    let many : 1 < c.in-Ok.words = ltb-true 1 c.in-Ok.words h.0 in
+    let longer : IsLongerThan 1 c.in_ok-first.first = record { one = f.0; is = f.1; begins = f.2; all = λ i is begins. longer_than 1 c.in-Ok.words _ (c.in-Ok.ensures.only i is begins) many } in
+    let t = second_missing g.B.Bus.model c.args.bus.now c.args.pc c.in_ok-first.first _ longer c.in_ok-first.ensures.found (h.1, h.2) in search rules
 
 pub returns-in_err-third-clause-none : goal.returns-in_err-third-clause-none
 returns-in_err-third-clause-none g c =
     let f = c.in-Ok.ensures.found in
     let h = c.in_err-third.ensures.none in
-    let t = third_missing g.B.Bus.model c.args.bus.now c.args.pc c.in_ok-first.first c.in_ok-second.second _ (f.0, f.1, f.2, let e = f.3 in let l = ltb-true 2 c.in-Ok.words h.0 in omega arith) c.in_ok-first.ensures.found (c.in_ok-second.ensures.found (search rules)) (h.1, h.2) in search rules
+    let many : 2 < c.in-Ok.words = ltb-true 2 c.in-Ok.words h.0 in
+    let longer : IsLongerThan 2 c.in_ok-first.first = record { one = f.0; is = f.1; begins = f.2; all = λ i is begins. longer_than 2 c.in-Ok.words _ (c.in-Ok.ensures.only i is begins) many } in
+    let t = third_missing g.B.Bus.model c.args.bus.now c.args.pc c.in_ok-first.first c.in_ok-second.second _ longer c.in_ok-first.ensures.found (c.in_ok-second.ensures.found (search rules)) (h.1, h.2) in search rules
 
 pub returns-in-Ok-decode-clause-found : goal.returns-in-Ok-decode-clause-found
 returns-in-Ok-decode-clause-found g c =

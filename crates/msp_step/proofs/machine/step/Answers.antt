@@ -1,10 +1,12 @@
-use Rattle.std.proofs.Common.{◌≡◌, ℕ, ◌≤◌, refl, sym, arith}
+use Rattle.std.proofs.Common.{◌≡◌, ℕ, ◌≤◌, refl, sym, subst, arith}
 use Rattle.msp_step.specs.Access.{OnlyReads, Nothing}
-use Rattle.msp_step.specs.Step.{Stopped, Executed}
+use Rattle.msp_step.specs.Step.{StepResult, Stopped, Executed}
+use Rattle.msp_step.specs.Registers.{registers_of}
 use Rattle.msp_step.proofs.machine.step.Goals as goal
 
 pub returns-in-Ok-clause-steps : goal.returns-in-Ok-clause-steps
-returns-in-Ok-clause-steps g c = Executed c.in-Ok.instruction _ _ _ c.in-Ok.ensures.found c.execute.ensures.executes
+returns-in-Ok-clause-steps g c =
+    subst (λ o. StepResult g.B.Bus.model (registers_of c.args.cpu.now) c.args.bus.now o) (sym c.execute.ensures.executes) (Executed c.in-Ok.instruction c.in-Ok.ensures.found)
 
 pub returns-in-Err-clause-steps : goal.returns-in-Err-clause-steps
 returns-in-Err-clause-steps g c = Stopped c.in-Err.stop c.in-Err.ensures.none
