@@ -59,9 +59,9 @@ pub record IsLongerThan (n w : ℕ) : Type 0 where
 pub data NotFetched {S : Type 0} (bus : BusModel S) (s : S) (pc : ℕ) : ℕ → Type 0 where
   First : bus.fetches s pc ≡ None → NotFetched bus s pc pc
   Second : (w : ℕ) → bus.fetches s pc ≡ Some w → IsLongerThan 1 w → bus.fetches s (sum16 pc 2) ≡ None
-    → NotFetched bus s pc (sum16 pc 2)
+      → NotFetched bus s pc (sum16 pc 2)
   Third : (w v : ℕ) → bus.fetches s pc ≡ Some w → IsLongerThan 2 w → bus.fetches s (sum16 pc 2) ≡ Some v
-    → bus.fetches s (sum16 (sum16 pc 2) 2) ≡ None → NotFetched bus s pc (sum16 (sum16 pc 2) 2)
+      → bus.fetches s (sum16 (sum16 pc 2) 2) ≡ None → NotFetched bus s pc (sum16 (sum16 pc 2) 2)
 
 -- no instruction can be had at an address: a word of it can't be fetched, or the first begins none
 abbrev pub IsNoInstruction : {S : Type 0} → BusModel S → S → ℕ → Stop → Type 0

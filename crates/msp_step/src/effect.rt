@@ -10,7 +10,8 @@ ghost use Rattle.msp_isa.specs.Encoding.{source_row, destination_row};
 use crate::bus::Bus;
 use crate::cpu::Cpu;
 use crate::operand::{
-    Fault, Location, destination_location, increment, load, operand_location, read_at, source, store,
+    Fault, Location, destination_location, increment, load, operand_location, read_at, source,
+    store,
 };
 use alp_words::{Flags, Width, add, and, dadd, rra, rrc, sub, swpb, sxt, xor};
 use msp_isa::{Condition, Dst, Offset, Operand, Src, TwoOp};

@@ -11,7 +11,7 @@ ghost use Rattle.alp_words.specs.Words.{operand};
 use crate::bus::{Bus, Refused};
 use crate::cpu::Cpu;
 use alp_words::Width;
-use msp_isa::{IndexRegister, Dst, SourceRegister, Operand, IndirectRegister, Reg, Src};
+use msp_isa::{Dst, IndexRegister, IndirectRegister, Operand, Reg, SourceRegister, Src};
 
 /// Where an operand is.
 #[derive(Clone, Copy, PartialEq, Eq, Debug)]
