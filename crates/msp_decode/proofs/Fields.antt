@@ -286,3 +286,15 @@ jump_fields (One (one.Push w s)) v fits e l h = let b = source_below s in let c 
 jump_fields (One (one.Call s)) v fits e l h = let b = source_below s in absurd (omega arith)
 jump_fields (Jump c o) v fits e l h = let b = condition_below c in record { condition = c; offset = o; is = refl; condition_is = omega arith; offset_is = omega arith }
 jump_fields Reti v fits e l h = absurd (omega arith)
+
+-- an instruction has at most three words
+pub length_below : (i : Instr) → length (encoding i) < 4
+length_below (Two op w s d) = let a = source_short s in let b = destination_short d in omega (arith, length-append (source_row s).extension (destination_row d).extension)
+length_below (One (one.Rrc w p)) = let a = operand_short p in omega arith
+length_below (One (one.Swpb p)) = let a = operand_short p in omega arith
+length_below (One (one.Rra w p)) = let a = operand_short p in omega arith
+length_below (One (one.Sxt p)) = let a = operand_short p in omega arith
+length_below (One (one.Push w s)) = let a = source_short s in omega arith
+length_below (One (one.Call s)) = let a = source_short s in omega arith
+length_below (Jump c o) = omega arith
+length_below Reti = omega arith

@@ -10,7 +10,7 @@ use Rattle.msp_isa.specs.declared.operands.Src.TheVariants as src
 use Rattle.msp_isa.specs.declared.operands.Dst.{Dst}
 use Rattle.msp_isa.specs.declared.operands.Dst.TheVariants as dst
 use Rattle.msp_isa.specs.declared.instructions.Instr.{Instr}
-use Rattle.msp_decode.proofs.Fields.{IsOneOperand, IsTwoOperand, same_width, prefix_first, one_fields, two_fields, two_words, jump_fields}
+use Rattle.msp_decode.proofs.Fields.{IsOneOperand, IsTwoOperand, same_width, prefix_first, length_below, one_fields, two_fields, two_words, jump_fields}
 use Rattle.std.proofs.lemmas.Bool.{cases_lt}
 use Rattle.msp_isa.specs.Encoding.{encoding, index_number, operand_row, source_row, destination_row, opcode, condition_number, IsPrefix, IsInstruction, first_word, HasFields}
 
@@ -74,3 +74,17 @@ same_instruction i j v w1 w2 f g h k =
         | inr two ↦ two_pair i j v w1 w2 (two_fields v two i f a) (two_fields v two j g b) h k
       ]
     ]
+
+-- a short list at the front of ws, at the front of the first three of ws
+three_front : (xs ws : List ℕ) → length xs < 4 → IsPrefix xs ws → IsPrefix xs (slice_index ws 0 ∷ slice_index ws 1 ∷ slice_index ws 2 ∷ [])
+three_front [] ws l h = tt
+three_front (x ∷ xs) [] l h = absurd h
+three_front (x ∷ []) (w ∷ ws) l h = (h.0, tt)
+three_front (x ∷ y ∷ xs) (w ∷ []) l h = absurd h.1
+three_front (x ∷ y ∷ []) (w ∷ v ∷ ws) l h = (h.0, (h.1.0, tt))
+three_front (x ∷ y ∷ z ∷ xs) (w ∷ v ∷ []) l h = absurd h.1.1
+three_front (x ∷ y ∷ z ∷ []) (w ∷ v ∷ u ∷ ws) l h = (h.0, (h.1.0, (h.1.1.0, tt)))
+three_front (x ∷ y ∷ z ∷ a ∷ xs) (w ∷ v ∷ u ∷ ws) l h = absurd (omega arith)
+
+pub is_unique : (i j : Instr) (ws : List ℕ) → IsInstruction i → IsInstruction j → IsPrefix (encoding i) ws → IsPrefix (encoding j) ws → i ≡ j
+is_unique i j ws f g h k = same_instruction i j (slice_index ws 0) (slice_index ws 1) (slice_index ws 2) f g (three_front _ _ (length_below i) h) (three_front _ _ (length_below j) k)

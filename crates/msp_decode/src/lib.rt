@@ -1,7 +1,7 @@
 //! The instruction that words begin with.
 #![tactic(auto)]
 
-ghost use Rattle.std.specs.Prelude.{◌≡◌, ℕ, ◌*◌, ◌/◌, ◌%◌, ◌<◌, ◌≤◌, [], ◌∷◌, length, IfSome, IfNone, IfOk, IfErr, slice_index};
+ghost use Rattle.std.specs.Prelude.{◌≡◌, ℕ, ◌*◌, ◌/◌, ◌%◌, ◌<◌, ◌≤◌, List, [], ◌∷◌, length, IfSome, IfNone, IfOk, IfErr, slice_index};
 ghost use Rattle.msp_isa.specs.Encoding.{source_row, byte_bit, encoding, first_word, IsPrefix, IsInstruction, IsIllegal, BeginsWith};
 
 mod operands;
@@ -138,6 +138,7 @@ pub fn decode(w0: u16, w1: u16, w2: u16) -> Result<(Instr, usize), Illegal>
     ensures found { IfOk result (λ r. BeginsWith (w0 ∷ w1 ∷ w2 ∷ []) r.0 r.1) }
     ensures only { (i : Instr) → IsInstruction i → IsPrefix (encoding i) (w0 ∷ w1 ∷ w2 ∷ []) → result ≡ Ok (i, length (encoding i)) }
     ensures fits { IfOk result (λ r. IsInstruction r.0) }
+    ensures short { IfOk result (λ r. (1 ≤ r.1) × (r.1 < 4)) }
     ensures first { IfOk result (λ r. first_word r.0 ≡ w0) }
     ensures illegal { IfErr result (λ e. (e ≡ record { 0 = w0 }) × IsIllegal w0) }
 {
@@ -153,6 +154,7 @@ pub fn decode(w0: u16, w1: u16, w2: u16) -> Result<(Instr, usize), Illegal>
 /// How many words the instructions have that begin with this word: 1 to 3. `Illegal` has the word, and comes exactly where
 /// it begins no instruction.
 pub fn words_of(w0: u16) -> Result<usize, Illegal>
+    ensures short { IfOk result (λ n. (1 ≤ n) × (n < 4)) }
     ensures found { IfOk result (λ n. (i : Instr) × IsInstruction i × (first_word i ≡ w0) × (length (encoding i) ≡ n)) }
     ensures only { (i : Instr) → IsInstruction i → first_word i ≡ w0 → result ≡ Ok (length (encoding i)) }
     ensures illegal { IfErr result (λ e. (e ≡ record { 0 = w0 }) × IsIllegal w0) }
@@ -164,7 +166,7 @@ pub fn words_of(w0: u16) -> Result<usize, Illegal>
 }
 
 /// Words begin at most one instruction.
-#[tactic(auto, using(crate::proofs::Unique::same_instruction))]
+#[tactic(auto, using(crate::proofs::Unique::is_unique))]
 pub fn one_instruction()
-    ensures { (i j : Instr) (w0 w1 w2 : ℕ) → IsInstruction i → IsInstruction j → IsPrefix (encoding i) (w0 ∷ w1 ∷ w2 ∷ []) → IsPrefix (encoding j) (w0 ∷ w1 ∷ w2 ∷ []) → i ≡ j }
+    ensures { (i j : Instr) (ws : List ℕ) → IsInstruction i → IsInstruction j → IsPrefix (encoding i) ws → IsPrefix (encoding j) ws → i ≡ j }
 {}
