@@ -1,0 +1,8 @@
+-- What a function over a bus returned, as an access.
+use Rattle.std.specs.Prelude.{ℕ, Result, Ok, Err}
+use Rattle.msp_step.specs.Access.{Access, Completed, Faulted}
+use Rattle.msp_step.specs.declared.operand.Fault.{Fault}
+
+abbrev pub answer : {S X A : Type 0} → (X → A) → Result X Fault → S → Access S A
+answer view (Ok x) s = Completed (view x) s
+answer view (Err d) s = Faulted d.refused d.address s

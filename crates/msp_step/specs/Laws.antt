@@ -1,0 +1,38 @@
+-- Laws of the step and of the effect.
+use Rattle.std.specs.Prelude.{ℕ, ◌+◌, ◌-◌, ◌*◌, ◌<◌, ◌≤◌, ◌≡◌, ◌⊎◌, Option, Some, None, Result, Ok, Err}
+use Rattle.alp_words.specs.declared.Width.{Width}
+use Rattle.msp_isa.specs.declared.instructions.Instr.{Instr}
+use Rattle.msp_step.specs.declared.machine.Stepped.{Stepped}
+use Rattle.msp_step.specs.declared.machine.Stop.{Stop}
+use Rattle.msp_step.specs.Registers.{Registers}
+use Rattle.msp_step.specs.Access.{BusModel, Access, Completed, Faulted, OnlyReads}
+use Rattle.msp_step.specs.Effect.{Written, distance}
+use Rattle.msp_step.specs.Step.{effect, StepResult, Outcome, Costs, IsStopped}
+
+-- a state steps in one way
+abbrev pub IsDetermined : {S : Type 0} → BusModel S → Type 0
+IsDetermined {S} bus = (r : Registers) (s : S) (o p : Outcome S) → StepResult bus r s o → StepResult bus r s p → o ≡ p
+
+-- a step that is made takes the cycles that the instruction costs
+abbrev pub TakesItsCost : {S : Type 0} → BusModel S → Type 0
+TakesItsCost {S} bus = (r r' : Registers) (s s' : S) (done : Stepped)
+    → StepResult bus r s (record { answer = Ok done; registers = r'; bus = s' }) → Costs bus r s (Ok done.cycles)
+
+-- the bus after the last read, and after the one write, if any
+abbrev pub AfterWrite : {S : Type 0} → BusModel S → Option Written → S → S → Type 0
+AfterWrite bus None s t = t ≡ s
+AfterWrite bus (Some w) s t = (width : Width) × (bus.writes s w.0 width w.1 ≡ Some t)
+
+-- what an access left: at most two reads, and then at most one write; where it is faulted, reads alone
+abbrev pub ReadsThenWrites : {S : Type 0} → BusModel S → S → Access S (Registers × Option Written) → Type 0
+ReadsThenWrites {S} bus s (Completed x t) = (u : S) × OnlyReads bus 2 s u × AfterWrite bus x.1 u t
+ReadsThenWrites bus s (Faulted e a t) = OnlyReads bus 2 s t
+
+-- an instruction reads at most twice and writes at most once, after its reads
+abbrev pub WritesOnce : {S : Type 0} → BusModel S → Type 0
+WritesOnce {S} bus = (i : Instr) (r : Registers) (s : S) → ReadsThenWrites bus s (effect bus i r s)
+
+-- a jump goes as far as twice its offset of ten bits says as a signed number of words
+abbrev pub JumpsBySignedWords : Type 0
+JumpsBySignedWords = (bits : ℕ) → (bits < 0x200 → distance bits ≡ 2 * bits)
+    × (0x200 ≤ bits → bits < 0x400 → distance bits + 2 * (0x400 - bits) ≡ 0x10000)

@@ -1,0 +1,14 @@
+//! One step of the MSP430 CPU on any bus: the instruction at PC, its execution, and its price.
+#![tactic(auto)]
+
+mod bus;
+mod cpu;
+mod effect;
+mod laws;
+mod machine;
+mod operand;
+
+pub use bus::{Bus, Refused};
+pub use cpu::Cpu;
+pub use laws::{effect_writes_once, jumps_by_signed_words, step_is_determined};
+pub use machine::{Stepped, Stop, cost, current_instruction, execute, step};

@@ -1,0 +1,54 @@
+-- A board for tests and benchmarks: memory from 0x1C00 to the end, and a sensor port.
+use Rattle.std.specs.Prelude.{ℕ, ◌≡◌, ◌≤◌, ◌<◌, ◌+◌, ◌-◌, ◌*◌, ◌/◌, ◌%◌, Bool, true, false, ◌&&◌, ◌==◌, nat_le, nat_lt, if◌then◌else◌, List, length, slice_index, slice_set, Result, Ok, Err, Option, Some, None}
+use Rattle.alp_words.specs.declared.Width.{Width}
+use Rattle.alp_words.specs.declared.Width.TheVariants.{Word, Byte}
+use Rattle.msp_step.specs.declared.bus.Refused.{Refused}
+use Rattle.msp_step.specs.declared.bus.Refused.TheVariants as refused
+use Rattle.msp_step.specs.Access.{BusModel}
+
+-- the word of each even address by its half, the readings, and how many of them were taken
+pub record Contents : Type 0 where
+  pub words : List ℕ
+  pub readings : List ℕ
+  pub taken : ℕ
+
+abbrev pub is_memory : ℕ → Bool
+is_memory a = nat_le 0x1C00 a
+
+abbrev pub is_word : ℕ → Bool
+is_word a = (a % 2 == 0) && is_memory a
+
+-- the word that an address belongs to
+abbrev pub word_of : Contents → ℕ → ℕ
+word_of b a = slice_index b.words (a / 2)
+
+abbrev pub byte_of : Contents → ℕ → ℕ
+byte_of b a = if a % 2 == 0 then word_of b a % 0x100 else word_of b a / 0x100 % 0x100
+
+abbrev pub with_word : Contents → ℕ → ℕ → Contents
+with_word b a v = record b { words = slice_set b.words (a / 2) v }
+
+-- the word with one of its bytes replaced
+abbrev pub merged : Contents → ℕ → ℕ → ℕ
+merged b a v = if a % 2 == 0 then word_of b a / 0x100 * 0x100 + v % 0x100 else word_of b a % 0x100 + 0x100 * (v % 0x100)
+
+abbrev pub next_reading : Contents → Result ℕ Refused
+next_reading b = if nat_lt b.taken (length b.readings) then Ok (slice_index b.readings b.taken) else Err refused.NoReading
+
+abbrev pub fetched : Contents → ℕ → Option ℕ
+fetched b a = if is_word a then Some (word_of b a) else None
+
+abbrev pub read_of : Contents → ℕ → Width → Result ℕ Refused
+read_of b a Word = if is_word a then Ok (word_of b a) else if a == 0x200 then next_reading b else Err refused.Bus
+read_of b a Byte = if is_memory a then Ok (byte_of b a) else Err refused.Bus
+
+abbrev pub after_read : Contents → ℕ → Width → Contents
+after_read b a Word = record b { taken = if a == 0x200 then b.taken + 1 else b.taken }
+after_read b a Byte = b
+
+abbrev pub written : Contents → ℕ → Width → ℕ → Option Contents
+written b a Word v = if is_word a then Some (with_word b a v) else None
+written b a Byte v = if is_memory a then Some (with_word b a (merged b a v)) else None
+
+abbrev pub board_model : BusModel Contents
+board_model = record { memory = word_of; fetches = fetched; reads = read_of; after_read = after_read; writes = written }
