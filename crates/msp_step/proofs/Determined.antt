@@ -1,14 +1,10 @@
 -- A state steps in one way: what is fetched begins one instruction or says why there is none.
 use Rattle.std.proofs.Common.{◌≡◌, ◌≤◌, ◌<◌, ◌+◌, ◌*◌, ◌%◌, ◌++◌, ℕ, List, [], ◌∷◌, length, refl, sym, ◌∙◌, ap, arith, Option, Some, None, Result, Ok, Err, subst, unwrap_or}
-use Rattle.std.proofs.lemmas.List.{length-append}
-use Rattle.alp_words.specs.declared.Width.{Width}
 use Rattle.msp_isa.specs.declared.instructions.Instr.{Instr}
 use Rattle.msp_isa.specs.declared.instructions.Instr.TheVariants as instr
 use Rattle.msp_isa.specs.declared.instructions.OneOp.TheVariants as one
-use Rattle.msp_isa.specs.declared.operands.Operand.{Operand}
-use Rattle.msp_isa.specs.declared.operands.Src.{Src}
-use Rattle.msp_isa.specs.declared.operands.Dst.{Dst}
-use Rattle.msp_isa.specs.Encoding.{IsPrefix, IsInstruction, IsIllegal, encoding, first_word, source_row, operand_row, destination_row}
+use Rattle.msp_isa.specs.Encoding.{IsPrefix, IsInstruction, IsIllegal, encoding, first_word}
+use Rattle.msp_decode.proofs.Fields.{length_below}
 use Rattle.msp_decode.proofs.Unique.{same_instruction}
 use Rattle.msp_step.specs.declared.machine.Stop.{Stop}
 use Rattle.msp_step.specs.declared.machine.Stop.TheVariants as stop
@@ -17,27 +13,6 @@ use Rattle.msp_step.specs.Registers.{Registers}
 use Rattle.msp_step.specs.Access.{BusModel}
 use Rattle.msp_step.specs.Effect.{sum16}
 use Rattle.msp_step.specs.Step.{FetchedAt, IsCurrentInstruction, IsLongerThan, NotFetched, First, Second, Third, IsStopped, Outcome, execution, StepResult, Stopped, Executed, off_bit}
-
-operand_short : (o : Operand) → length (operand_row o).extension ≤ 1
-operand_short o = grind arith
-
-source_short : (x : Src) → length (source_row x).extension ≤ 1
-source_short x = grind (arith, operand_short)
-
-destination_short : (d : Dst) → length (destination_row d).extension ≤ 1
-destination_short d = grind arith
-
--- an instruction has at most three words
-at_most_three : (i : Instr) → length (encoding i) ≤ 3
-at_most_three (instr.Two op w x d) = let a = source_short x in let b = destination_short d in let c = length-append (source_row x).extension (destination_row d).extension in omega arith
-at_most_three (instr.One (one.Rrc w o)) = let a = operand_short o in omega arith
-at_most_three (instr.One (one.Rra w o)) = let a = operand_short o in omega arith
-at_most_three (instr.One (one.Swpb o)) = let a = operand_short o in omega arith
-at_most_three (instr.One (one.Sxt o)) = let a = operand_short o in omega arith
-at_most_three (instr.One (one.Push w x)) = let a = source_short x in omega arith
-at_most_three (instr.One (one.Call x)) = let a = source_short x in omega arith
-at_most_three (instr.Jump c o) = omega arith
-at_most_three instr.Reti = omega arith
 
 -- an instruction begins with its first word
 begins : {S : Type 0} (bus : BusModel S) (s : S) (pc : ℕ) (i : Instr) → FetchedAt bus s pc (encoding i) → bus.fetches s pc ≡ Some (first_word i)
@@ -54,7 +29,7 @@ begins bus s pc instr.Reti f = f.0
 abbrev word_at : Option ℕ → ℕ
 word_at o = unwrap_or o 0
 
-in_front : {S : Type 0} (bus : BusModel S) (s : S) (pc : ℕ) (ws : List ℕ) → length ws ≤ 3 → FetchedAt bus s pc ws
+in_front : {S : Type 0} (bus : BusModel S) (s : S) (pc : ℕ) (ws : List ℕ) → length ws < 4 → FetchedAt bus s pc ws
     → IsPrefix ws (word_at (bus.fetches s pc) ∷ word_at (bus.fetches s (sum16 pc 2)) ∷ word_at (bus.fetches s (sum16 (sum16 pc 2) 2)) ∷ [])
 in_front bus s pc [] few f = tt
 in_front bus s pc (x ∷ []) few f = (sym (ap word_at f.0), tt)
@@ -64,7 +39,7 @@ in_front bus s pc (x ∷ y ∷ z ∷ v ∷ ws) few f = absurd (omega arith)
 
 same_current : {S : Type 0} (bus : BusModel S) (r : Registers) (s : S) (i j : Instr) → IsCurrentInstruction bus r s i → IsCurrentInstruction bus r s j → i ≡ j
 same_current bus r s i j a b =
-    same_instruction i j _ _ _ a.is b.is (in_front bus s (r 0) (encoding i) (at_most_three i) a.fetched) (in_front bus s (r 0) (encoding j) (at_most_three j) b.fetched)
+    same_instruction i j _ _ _ a.is b.is (in_front bus s (r 0) (encoding i) (length_below i) a.fetched) (in_front bus s (r 0) (encoding j) (length_below j) b.fetched)
 
 some_none : {w : ℕ} {o : Option ℕ} → o ≡ Some w → o ≡ None → ⊥
 some_none a b = let e = sym a ∙ b in cc
