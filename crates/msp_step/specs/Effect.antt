@@ -1,4 +1,5 @@
--- The effect of an instruction: the source operand with its increment, then the destination's address and operand, then the flags, then the one write.
+-- The effect of an instruction (SLAU049 and SLAU144, CPU chapter, addressing modes and instruction set): the source operand with its
+-- increment, then the destination's address and operand, then the flags, then the one write.
 use Rattle.std.specs.Prelude.{ℕ, ◌+◌, ◌-◌, ◌*◌, ◌/◌, ◌%◌, Bool, true, false, not, ◌==◌, if◌then◌else◌, bit_and, bit_or, length, Option, Some, None}
 use Rattle.alp_words.specs.declared.Width.{Width}
 use Rattle.alp_words.specs.declared.Width.TheVariants.{Word, Byte}
@@ -31,9 +32,11 @@ use Rattle.msp_step.specs.declared.effect.Modification.TheVariants as change
 use Rattle.msp_step.specs.Registers.{Registers, with_register}
 use Rattle.msp_step.specs.Access.{BusModel, Access, Completed, then_do, read_at, write_at}
 
+-- a sum modulo 65536
 abbrev pub sum16 : ℕ → ℕ → ℕ
 sum16 a b = (a + b) % 0x10000
 
+-- a register that can be a source, among all registers
 abbrev pub register_of : SourceRegister → Reg
 register_of source_register.Pc = reg.Pc
 register_of source_register.Sr = reg.Sr
@@ -48,6 +51,7 @@ operand_location r ext (mode.Absolute a) = Memory a
 operand_location r ext (mode.Indirect p) = Memory (r (indirect_number p))
 operand_location r ext (mode.Increment b) = Memory (r (index_number b))
 
+-- where a destination is; ext is the address of its own word
 abbrev pub destination_location : Registers → ℕ → Dst → Location
 destination_location r ext (dst.Reg n) = Register n
 destination_location r ext (dst.Indexed b x) = Memory (sum16 (r (index_number b)) x)
@@ -59,6 +63,7 @@ abbrev pub step_of : Width → ℕ → ℕ
 step_of Word n = 2
 step_of Byte n = if n == 1 then 2 else 1
 
+-- the registers after an operand: @Rn+ raises its register, the other modes none
 abbrev pub incremented : Registers → Width → Operand → Registers
 incremented r w (mode.Increment b) = with_register r (index_number b) (sum16 (r (index_number b)) (step_of w (index_number b)))
 incremented r w (mode.Reg h) = r
@@ -87,9 +92,11 @@ source bus r w (src.Operand p) s = then_do (load bus r w (operand_location r (r 
 source bus r w (src.Immediate n) s = Completed (operand w n, r) s
 source bus r w (src.Constant k) s = Completed (operand w (constant_value k), r) s
 
+-- the flags N, Z, C and V in a status word (bits 2, 1, 0 and 8)
 abbrev pub flags_of : ℕ → Flags
 flags_of sr = record { n = (sr / 4 % 2) == 1; z = (sr / 2 % 2) == 1; c = (sr % 2) == 1; v = (sr / 0x100 % 2) == 1 }
 
+-- a status word with these flags; its control bits 3 to 7 stay
 abbrev pub status_with : ℕ → Flags → ℕ
 status_with sr f = bit f.c + 2 * bit f.z + 4 * bit f.n + sr / 8 % 0x20 * 8 + 0x100 * bit f.v
 
@@ -98,12 +105,15 @@ pub record Operated : Type 0 where
   pub value : ℕ
   pub flags : Option Flags
 
+-- a result that leaves the flags
 abbrev pub plain : ℕ → Operated
 plain v = record { value = v; flags = None }
 
+-- a result with flags
 abbrev pub flagged : ℕ × Flags → Operated
 flagged p = record { value = p.0; flags = Some p.1 }
 
+-- what each two-operand operation makes of destination d and source s
 abbrev pub operated : TwoOp → Width → ℕ → ℕ → Flags → Operated
 operated Mov w d s f = plain s
 operated Bic w d s f = plain (d - bit_and d s)
@@ -118,23 +128,28 @@ operated Bit w d s f = flagged (and_of w d s)
 operated And w d s f = flagged (and_of w d s)
 operated Xor w d s f = flagged (xor_of w d s)
 
+-- the registers with these flags in SR, if the operation changes them
 abbrev pub with_flags : Registers → Option Flags → Registers
 with_flags r None = r
 with_flags r (Some f) = with_register r 2 (status_with (r 2) f)
 
+-- MOV alone doesn't read its destination
 abbrev pub reads_destination : TwoOp → Bool
 reads_destination Mov = false
 reads_destination _ = true
 
+-- CMP and BIT don't write it
 abbrev pub writes_destination : TwoOp → Bool
 writes_destination Cmp = false
 writes_destination Bit = false
 writes_destination _ = true
 
+-- the destination operand, where the operation reads it
 abbrev pub destination_operand : {S : Type 0} → Bool → BusModel S → Registers → Width → Location → S → Access S ℕ
 destination_operand true bus r w l s = load bus r w l s
 destination_operand false bus r w l s = Completed 0 s
 
+-- the one write, where the operation makes one
 abbrev pub finish : {S : Type 0} → Bool → BusModel S → Registers → Width → Location → ℕ → S → Access S (Registers × Option Written)
 finish true bus r w l v s = store bus r w l v s
 finish false bus r w l v s = Completed (r, None) s
@@ -146,6 +161,7 @@ after_source bus op w l v r s =
     let o = operated op w d v (flags_of (r 2)) in
     finish (writes_destination op) bus (with_flags r o.flags) w l o.value t)
 
+-- an instruction of two operands: the source with its increment, then the destination, from PC behind the instruction
 abbrev pub two_operand_effect : {S : Type 0} → BusModel S → TwoOp → Width → Src → Dst → Registers → S → Access S (Registers × Option Written)
 two_operand_effect bus op w sr d r s =
     let first = sum16 (r 0) 2 in
@@ -154,6 +170,7 @@ two_operand_effect bus op w sr d r s =
     let moved = with_register x.1 0 (sum16 ext (2 * length (destination_row d).extension)) in
     after_source bus op w (destination_location moved ext d) x.0 moved t)
 
+-- whether a jump's condition is met
 abbrev pub is_met : Condition → Flags → Bool
 is_met condition.NotEqual f = not f.z
 is_met condition.Equal f = f.z
@@ -168,6 +185,7 @@ is_met condition.Always f = true
 abbrev pub distance : ℕ → ℕ
 distance o = (2 * o + (if (o / 0x200) == 0 then 0 else 0x10000 - 0x800)) % 0x10000
 
+-- a jump: PC moves behind it, and by the distance where the condition is met
 abbrev pub jump_effect : Condition → ℕ → Registers → Registers
 jump_effect c o r =
     let next = sum16 (r 0) 2 in
@@ -188,18 +206,23 @@ read_modify_write bus f w p r s =
     then_do (load bus moved w l s) (λ v t.
     written_back bus f w l v (with_register (incremented moved w p) 0 (sum16 first (2 * length (operand_row p).extension))) t)
 
+-- RRC
 abbrev pub rotated : Width → ℕ → Flags → Operated
 rotated w v f = flagged (rrc_of w v f.c)
 
+-- RRA
 abbrev pub shifted : Width → ℕ → Flags → Operated
 shifted w v f = flagged (rra_of w v)
 
+-- SWPB
 abbrev pub exchanged : Width → ℕ → Flags → Operated
 exchanged w v f = plain (swapped v)
 
+-- SXT
 abbrev pub sign_extended : Width → ℕ → Flags → Operated
 sign_extended w v f = flagged (sxt_of v)
 
+-- what an operation on one operand makes of it
 abbrev pub modification_of : Modification → Width → ℕ → Flags → Operated
 modification_of change.Rrc = rotated
 modification_of change.Rra = shifted
@@ -214,6 +237,7 @@ below_stack r = sum16 (r 1) 0xFFFE
 abbrev pub pushed : {S : Type 0} → BusModel S → Width → ℕ → Registers → S → Access S (Registers × Option Written)
 pushed bus w v r s = write_at bus (below_stack r) w v (with_register r 1 (below_stack r), Some (below_stack r, v)) s
 
+-- PUSH: the operand, then SP goes down by two, then the store at SP
 abbrev pub push_effect : {S : Type 0} → BusModel S → Width → Src → Registers → S → Access S (Registers × Option Written)
 push_effect bus w x r s =
     let first = sum16 (r 0) 2 in
@@ -224,12 +248,14 @@ push_effect bus w x r s =
 abbrev pub called : {S : Type 0} → BusModel S → ℕ → Registers → S → Access S (Registers × Option Written)
 called bus to r s = write_at bus (below_stack r) Word (r 0) (with_register (with_register r 1 (below_stack r)) 0 to, Some (below_stack r, r 0)) s
 
+-- CALL: the operand, then SP goes down by two, then the address behind the instruction at SP, then PC
 abbrev pub call_effect : {S : Type 0} → BusModel S → Src → Registers → S → Access S (Registers × Option Written)
 call_effect bus x r s =
     let first = sum16 (r 0) 2 in
     then_do (source bus (with_register r 0 first) Word x s) (λ y t.
     called bus y.0 (with_register y.1 0 (sum16 first (2 * length (source_row x).extension))) t)
 
+-- RETI: SR, then PC from the stack, SP up by two after each
 abbrev pub reti_effect : {S : Type 0} → BusModel S → Registers → S → Access S (Registers × Option Written)
 reti_effect bus r s =
     then_do (read_at bus (r 1) Word s) (λ sr t.

@@ -1,4 +1,4 @@
--- OneOp step of the machine over a bus.
+-- One step of the CPU over a bus (SLAU049 and SLAU144, CPU chapter).
 use Rattle.std.specs.Prelude.{ℕ, ◌+◌, ◌*◌, ◌/◌, ◌%◌, ◌<◌, ◌≡◌, ◌⊎◌, List, [], ◌∷◌, Option, Some, None, Result, Ok, Err, length}
 use Rattle.std.specs.Option.{option_map}
 use Rattle.msp_isa.specs.declared.instructions.Instr.{Instr}
@@ -23,6 +23,7 @@ abbrev pub FetchedAt : {S : Type 0} → BusModel S → S → ℕ → List ℕ �
 FetchedAt bus s a [] = Unit {0}
 FetchedAt bus s a (w ∷ ws) = (bus.fetches s a ≡ Some w) × FetchedAt bus s (sum16 a 2) ws
 
+-- the effect of an instruction of one operand
 abbrev pub one_operand_effect : {S : Type 0} → BusModel S → OneOp → Registers → S → Access S (Registers × Option Written)
 one_operand_effect bus (one.Rrc w p) r t = read_modify_write bus rotated w p r t
 one_operand_effect bus (one.Rra w p) r t = read_modify_write bus shifted w p r t

@@ -1,4 +1,4 @@
-// The effect of an instruction.
+//! The effect of an instruction.
 
 ghost use Rattle.std.specs.Prelude.{◌≡◌, ℕ, ◌+◌, ◌*◌, ◌/◌, ◌%◌, ◌<◌, ◌≤◌, length};
 ghost use Rattle.msp_step.specs.Access.{Completed, write_at};

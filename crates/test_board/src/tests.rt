@@ -24,6 +24,10 @@ fn loaded(alloc: Global, words: &[u16], readings: &[u16]) -> Result<TestBoard, A
     Ok(board)
 }
 
+fn made(cycles: u32, wrote: Option<u16>) -> Result<Stepped, Stop> {
+    Ok(Stepped { cycles, wrote })
+}
+
 /// Steps once from this fill and compares cycles, R4 and SR.
 fn gives(
     rt: &impl Abort,
@@ -35,14 +39,17 @@ fn gives(
     let mut board = loaded(alloc, words, &[5, 7])?;
     let mut cpu = Cpu::new(PC, fill);
     assert_eq!(rt; cost(&cpu, &board), Ok(wanted.0));
-    assert_eq!(rt;
-        step(&mut cpu, &mut board),
-        Ok(Stepped {
-            cycles: wanted.0,
-            wrote: None
-        })
-    );
+    assert_eq!(rt; step(&mut cpu, &mut board), made(wanted.0, None));
     assert_eq!(rt; (cpu.reg(R4), cpu.reg(Reg::Sr)), (wanted.1, wanted.2));
+    Ok(())
+}
+
+/// Stops so, with PC and the readings as before.
+fn stops(rt: &impl Abort, alloc: Global, words: &[u16], stop: Stop) -> Result<(), AllocError> {
+    let mut board = loaded(alloc, words, &[1])?;
+    let mut cpu = Cpu::new(PC, 0x5000);
+    assert_eq!(rt; step(&mut cpu, &mut board), Err(stop));
+    assert_eq!(rt; (cpu.reg(Reg::Pc), board.taken()), (PC, 0));
     Ok(())
 }
 
@@ -68,63 +75,40 @@ fn results_and_flags(rt: HostRuntime) -> Result<(), Fail> {
 }
 
 #[test]
-fn writes_and_the_stack(rt: HostRuntime) -> Result<(), Fail> {
-    let alloc = rt.alloc();
+fn indexed_to_absolute(rt: HostRuntime) -> Result<(), Fail> {
     // add 4(r5),&0x4500 from R5 = 5000
-    let mut board = loaded(alloc, &[0x5592, 4, 0x4500], &[])?;
+    let mut board = loaded(rt.alloc(), &[0x5592, 4, 0x4500], &[])?;
     board.set_word(0x5004, 9);
     board.set_word(0x4500, 1);
     let mut cpu = Cpu::new(PC, 0x5000);
-    assert_eq!(rt;
-        step(&mut cpu, &mut board),
-        Ok(Stepped {
-            cycles: 6,
-            wrote: Some(0x4500)
-        })
-    );
+    assert_eq!(rt; step(&mut cpu, &mut board), made(6, Some(0x4500)));
     assert_eq!(rt; (board.word(0x4500), cpu.reg(Reg::Pc)), (10, 0x4406));
-    // push #4, then call #0x4400, then mov @sp+,pc
-    let mut board = loaded(alloc, &[0x1222, 0x12b0, 0x4480], &[])?;
+    Ok(())
+}
+
+#[test]
+fn push_call_and_return(rt: HostRuntime) -> Result<(), Fail> {
+    // push #4, then call #0x4480, and there mov @sp+,pc
+    let mut board = loaded(rt.alloc(), &[0x1222, 0x12b0, 0x4480], &[])?;
     board.set_word(0x4480, 0x4130);
     let mut cpu = Cpu::new(PC, 0x5001);
     assert_eq!(rt; cpu.reg(SP), 0x5000);
-    assert_eq!(rt;
-        step(&mut cpu, &mut board),
-        Ok(Stepped {
-            cycles: 3,
-            wrote: Some(0x4ffe)
-        })
-    );
-    assert_eq!(rt;
-        step(&mut cpu, &mut board),
-        Ok(Stepped {
-            cycles: 5,
-            wrote: Some(0x4ffc)
-        })
-    );
-    assert_eq!(rt;
-        (cpu.reg(Reg::Pc), board.word(0x4ffe), board.word(0x4ffc)),
-        (0x4480, 4, 0x4406)
-    );
-    assert_eq!(rt;
-        step(&mut cpu, &mut board),
-        Ok(Stepped {
-            cycles: 3,
-            wrote: None
-        })
-    );
+    assert_eq!(rt; step(&mut cpu, &mut board), made(3, Some(0x4ffe)));
+    assert_eq!(rt; step(&mut cpu, &mut board), made(5, Some(0x4ffc)));
+    assert_eq!(rt; (cpu.reg(Reg::Pc), board.word(0x4ffe)), (0x4480, 4));
+    assert_eq!(rt; board.word(0x4ffc), 0x4406);
+    assert_eq!(rt; step(&mut cpu, &mut board), made(3, None));
     assert_eq!(rt; (cpu.reg(Reg::Pc), cpu.reg(SP)), (0x4406, 0x4ffe));
-    // mov.b @sp+,r4: SP moves by two for a byte, too
-    let mut board = loaded(alloc, &[0x4174], &[])?;
+    Ok(())
+}
+
+#[test]
+fn sp_moves_by_two_for_a_byte(rt: HostRuntime) -> Result<(), Fail> {
+    // mov.b @sp+,r4
+    let mut board = loaded(rt.alloc(), &[0x4174], &[])?;
     board.set_word(0x5000, 0x1234);
     let mut cpu = Cpu::new(PC, 0x5000);
-    assert_eq!(rt;
-        step(&mut cpu, &mut board),
-        Ok(Stepped {
-            cycles: 2,
-            wrote: None
-        })
-    );
+    assert_eq!(rt; step(&mut cpu, &mut board), made(2, None));
     assert_eq!(rt; (cpu.reg(R4), cpu.reg(SP)), (0x34, 0x5002));
     Ok(())
 }
@@ -136,13 +120,7 @@ fn readings_are_taken_and_stay_taken(rt: HostRuntime) -> Result<(), Fail> {
     let code = [0x9292, 0x0200, 0x0200];
     let mut board = loaded(alloc, &code, &[7, 5])?;
     let mut cpu = Cpu::new(PC, 0);
-    assert_eq!(rt;
-        step(&mut cpu, &mut board),
-        Ok(Stepped {
-            cycles: 6,
-            wrote: None
-        })
-    );
+    assert_eq!(rt; step(&mut cpu, &mut board), made(6, None));
     assert_eq!(rt; (board.taken(), cpu.reg(Reg::Sr)), (2, 4));
     // with one reading left it stops, and that one stays taken
     let mut board = loaded(alloc, &code, &[7])?;
@@ -156,76 +134,39 @@ fn readings_are_taken_and_stay_taken(rt: HostRuntime) -> Result<(), Fail> {
 }
 
 #[test]
-fn stops(rt: HostRuntime) -> Result<(), Fail> {
+fn illegal_words_and_bus_faults(rt: HostRuntime) -> Result<(), Fail> {
     let alloc = rt.alloc();
-    let stops = [
-        (
-            [0x1800, 0],
-            Stop::Illegal {
-                pc: PC,
-                word: 0x1800,
-            },
-        ),
-        ([0x0000, 0], Stop::Illegal { pc: PC, word: 0 }),
-        (
-            [0x4214, 0x4401],
-            Stop::Bus {
-                pc: PC,
-                address: 0x4401,
-            },
-        ),
-        (
-            [0x4214, 0x0202],
-            Stop::Bus {
-                pc: PC,
-                address: 0x0202,
-            },
-        ),
-        (
-            [0x4254, 0x0200],
-            Stop::Bus {
-                pc: PC,
-                address: 0x0200,
-            },
-        ),
-        ([0x4482, 0x0000], Stop::Bus { pc: PC, address: 0 }),
-    ];
-    for (words, stop) in stops {
-        let mut board = loaded(alloc, &words, &[1])?;
-        let mut cpu = Cpu::new(PC, 0x5000);
-        assert_eq!(rt; step(&mut cpu, &mut board), Err(stop));
-        assert_eq!(rt; (cpu.reg(Reg::Pc), board.taken()), (PC, 0));
-    }
+    let illegal = |word| Stop::Illegal { pc: PC, word };
+    let fault = |address| Stop::Bus { pc: PC, address };
+    stops(&rt, alloc, &[0x1800], illegal(0x1800))?;
+    stops(&rt, alloc, &[0x0000], illegal(0))?;
+    // mov &0x4401,r4; mov &0x0202,r4; mov.b &0x0200,r4; mov r4,&0x0000
+    stops(&rt, alloc, &[0x4214, 0x4401], fault(0x4401))?;
+    stops(&rt, alloc, &[0x4214, 0x0202], fault(0x0202))?;
+    stops(&rt, alloc, &[0x4254, 0x0200], fault(0x0200))?;
+    stops(&rt, alloc, &[0x4482, 0x0000], fault(0))?;
+    Ok(())
+}
+
+#[test]
+fn off_and_fetches_outside_memory(rt: HostRuntime) -> Result<(), Fail> {
     // bis #16,sr; then the CPU is off
-    let mut board = loaded(alloc, &[0xd032, 0x0010], &[])?;
+    let mut board = loaded(rt.alloc(), &[0xd032, 0x0010], &[])?;
     let mut cpu = Cpu::new(PC, 0);
-    assert_eq!(rt;
-        step(&mut cpu, &mut board),
-        Ok(Stepped {
-            cycles: 2,
-            wrote: None
-        })
-    );
+    assert_eq!(rt; step(&mut cpu, &mut board), made(2, None));
     assert_eq!(rt; step(&mut cpu, &mut board), Err(Stop::Off));
     assert_eq!(rt; cost(&cpu, &board), Err(Stop::Off));
-    // PC outside memory, and an extension word past the end of it
-    let mut cpu = Cpu::new(0x0200, 0);
+    // PC at a port, and an extension word past the end of memory
+    let pc = 0x0200;
+    let mut cpu = Cpu::new(pc, 0);
     assert_eq!(rt;
         step(&mut cpu, &mut board),
-        Err(Stop::Bus {
-            pc: 0x0200,
-            address: 0x0200
-        })
+        Err(Stop::Bus { pc, address: pc })
     );
-    board.set_word(0xfffe, 0x4034);
-    let mut cpu = Cpu::new(0xfffe, 0);
-    assert_eq!(rt;
-        cost(&cpu, &board),
-        Err(Stop::Bus {
-            pc: 0xfffe,
-            address: 0
-        })
-    );
+    let pc = 0xfffe;
+    board.set_word(pc, 0x4034);
+    let cpu = Cpu::new(pc, 0);
+    assert_eq!(rt; cost(&cpu, &board), Err(Stop::Bus { pc, address: 0 }));
     Ok(())
 }
 
