@@ -1,4 +1,4 @@
-//! The effect of an instruction.
+//! The effect of each instruction on registers and bus.
 
 ghost use Rattle.std.specs.Prelude.{◌≡◌, ℕ, ◌+◌, ◌*◌, ◌/◌, ◌%◌, ◌<◌, ◌≤◌, length};
 ghost use Rattle.msp_step.specs.Access.{Completed, write_at};

@@ -1,4 +1,4 @@
-//! Operands.
+//! Where operands are, and how they are read and written.
 
 ghost use Rattle.std.specs.Prelude.{◌≡◌, ℕ, ◌+◌, ◌*◌, ◌/◌, ◌%◌, ◌<◌, ◌≤◌};
 ghost use Rattle.msp_step.specs.Access.{read_at, write_at};
