@@ -1,0 +1,6 @@
+//! The commands of the program, over any files and outputs.
+#![tactic(auto)]
+
+mod ast;
+
+pub use ast::{Expr, Program, Stmt, Variable};
