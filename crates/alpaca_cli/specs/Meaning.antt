@@ -1,7 +1,7 @@
 -- What a task does: the values of expressions, the effects of statements, and a whole task. `None` is short: the
 -- readings ran out. Words have 16 bits and their sums wrap; readings are taken from left to right.
 use Rattle.std.specs.Prelude.{◌≡◌, ℕ, ◌+◌, ◌%◌, List, [], ◌∷◌, ◌++◌, map, Option, Some, None, slice_index, slice_set}
-use Rattle.alpaca_cli.specs.Source.{Expression, Statement, Source, number, shared, sense, sum, assign, emit}
+use Rattle.alpaca_cli.specs.Source.{Expression, Statement, Source, number, shared, sense, plus, assign, emit}
 
 -- goes on with what there is, or is short
 infixl 10 ◌>>=◌
@@ -19,7 +19,7 @@ abbrev pub value_of : Expression → List ℕ → List ℕ → Option (ℕ × Li
 value_of (number n) values readings = Some (n, readings)
 value_of (shared v) values readings = Some (slice_index values v, readings)
 value_of sense values readings = next_reading readings
-value_of (sum a b) values readings =
+value_of (plus a b) values readings =
     value_of a values readings >>= λ x. value_of b values x.1 >>= λ y. Some ((x.0 + y.0) % 65536, y.1)
 
 -- what an attempt has made so far: the shared words, the words emitted, and the readings left

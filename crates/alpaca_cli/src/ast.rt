@@ -1,6 +1,6 @@
-//! The tree of a source: one task over shared words.
+//! The tree of a source text: one task over 16-bit shared variables.
 
-/// An expression. A shared variable goes by its place in the order of declaration.
+/// An expression; a shared variable goes by its number in order of declaration.
 #[derive(Drop)]
 pub enum Expr {
     Number(u16),
@@ -9,21 +9,22 @@ pub enum Expr {
     Sum(Box<Expr>, Box<Expr>),
 }
 
-/// A statement: a store to a shared variable, or a word that is emitted.
+/// A statement; an assignment names its shared variable by number.
 #[derive(Drop)]
 pub enum Stmt {
     Assign(u16, Expr),
     Emit(Expr),
 }
 
-/// A shared variable and its initial value.
+/// A shared variable: its name, and the word that it holds at first.
 #[derive(Drop)]
 pub struct Variable {
     pub name: Vec<u8>,
     pub initial: u16,
 }
 
-/// A program of one task, which ends by a transition to itself.
+/// A program: its task's name, its shared variables in order of declaration, and the statements
+/// in front of the task's transition to itself.
 #[derive(Drop)]
 pub struct Program {
     pub task: Vec<u8>,

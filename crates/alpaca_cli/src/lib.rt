@@ -2,5 +2,6 @@
 #![tactic(auto)]
 
 mod ast;
+mod meaning;
 
 pub use ast::{Expr, Program, Stmt, Variable};
