@@ -1,1 +1,3 @@
 pub mod Initial
+pub mod ReportLines
+pub mod ReportSteps

@@ -3,5 +3,6 @@
 
 mod ast;
 mod meaning;
+mod report;
 
 pub use ast::{Expr, Program, Stmt, Variable};
