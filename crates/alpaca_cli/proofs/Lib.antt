@@ -1,3 +1,5 @@
 pub mod Initial
+pub mod Readings
 pub mod ReportLines
 pub mod ReportSteps
+pub mod Spans

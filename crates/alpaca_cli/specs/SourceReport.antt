@@ -49,12 +49,12 @@ abbrev pub position_after : ℕ → List Span → ℕ
 position_after at [] = at
 position_after at (span ∷ spans) = position_after span.to spans
 
--- the limit is met at 10,000 transitions; else the readings that are left don't suffice for one more
-abbrev pub IsEnding : Reason → ℕ → Option Attempt → Type 0
-IsEnding Limit made next = made ≡ 10000
-IsEnding Readings made next = (made < 10000) × (next ≡ None)
-IsEnding Charges made next = ⊥
-IsEnding Off made next = ⊥
+-- the end is `limit` where as many transitions are made as there may be, else `readings`: the next attempt is short
+abbrev pub IsEnding : Reason → ℕ → ℕ → Option Attempt → Type 0
+IsEnding Limit most made next = made ≡ most
+IsEnding Readings most made next = (made < most) × (next ≡ None)
+IsEnding Charges most made next = ⊥
+IsEnding Off most made next = ⊥
 
 -- what `mean` reports: a run of the source from its initial values on consecutive spans of the readings, each of which
 -- one task takes exactly, and why it ended, with the transitions made and the words that they emitted
@@ -64,7 +64,7 @@ pub record IsMeanReport (source : Source) (readings text : List ℕ) : Type 0 wh
   pub reason : Reason
   pub consecutive : IsConsecutive 0 (length readings) spans
   pub run : source_run source (initial_values source) (map (readings_of readings) spans) ≡ Some transitions
-  pub ending : IsEnding reason (length spans)
+  pub ending : IsEnding reason 10000 (length spans)
       (attempt_of source (values_after (initial_values source) transitions) (drop (position_after 0 spans) readings))
   pub lines : text ≡ source_report source 1 spans transitions
       ++ end_line reason (length spans) (sum_by (λ t. length t.emitted) transitions) 0
