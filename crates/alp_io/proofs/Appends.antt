@@ -1,0 +1,79 @@
+-- Appends, one behind another.
+use Rattle.std.proofs.Common.{◌≡◌, ◌≤◌, ◌<◌, ℕ, ◌+◌, ◌-◌, List, [], ◌∷◌, ◌++◌, length, take, drop, arith, Option, Some, None, append_assoc, ◌∙◌, ap, sym, length-append, length-drop, drop-cons, get_or, flat_map, Bor, Result, Ok, Err, IsErr, subst}
+use Rattle.std.proofs.lemmas.List.{take-append-le, take_rest, take-append-drop}
+use Rattle.std.proofs.lemmas.Grind.{common_steps, flat_map-append}
+use Rattle.std.proofs.Math.Seq.{take-append-add, take-add}
+use Rattle.std.specs.Io.KnownBytes.{Appends, Keeps}
+use Rattle.alp_io.specs.Sink.{AppendsProperPrefix, Writes}
+
+pub append-nil : (xs : List ℕ) → xs ++ [] ≡ xs
+append-nil xs = grind (arith, common_steps)
+
+pub appends_none : (old : Option (List ℕ)) → Appends old old []
+appends_none None = tt
+appends_none (Some xs) = sym (append-nil xs)
+
+pub appends_keeps : (old mid new : Option (List ℕ)) (a : List ℕ) → Appends old mid a → Keeps mid new → Appends old new a
+appends_keeps None mid new a p q = tt
+appends_keeps (Some xs) None new a p q = absurd p
+appends_keeps (Some xs) (Some ys) None a p q = absurd q
+appends_keeps (Some xs) (Some ys) (Some zs) a p q = q ∙ p
+
+pub appends_more : (old mid new : Option (List ℕ)) (a b : List ℕ) → Appends old mid a → Appends mid new b → Appends old new (a ++ b)
+appends_more None mid new a b p q = tt
+appends_more (Some xs) None new a b p q = absurd p
+appends_more (Some xs) (Some ys) None a b p q = absurd q
+appends_more (Some xs) (Some ys) (Some zs) a b p q = grind (arith, append_assoc xs a b)
+
+-- a front of the first part is a front of both
+pub part_of_first : (old new : Option (List ℕ)) (a b : List ℕ) → AppendsProperPrefix old new a → AppendsProperPrefix old new (a ++ b)
+part_of_first old new a b p =
+    let inside : p.count ≤ length a = omega arith in
+    let front : take p.count (a ++ b) ≡ take p.count a = take-append-le p.count a b inside in
+    record {
+      count = p.count;
+      proper = omega (arith, length-append a b);
+      held = rw front p.held;
+    }
+
+-- the first part, and then a front of the second
+pub part_of_second : (old mid new : Option (List ℕ)) (a b : List ℕ) → Appends old mid a → AppendsProperPrefix mid new b → AppendsProperPrefix old new (a ++ b)
+part_of_second old mid new a b p q = record {
+  count = length a + q.count;
+  proper = omega (arith, length-append a b);
+  held = rw (take-append-add a b q.count) (appends_more old mid new a (take q.count b) p q.held);
+}
+
+-- the next bytes of a piece, behind those that a loop has written
+pub appends_next : (old mid new : Option (List ℕ)) (piece : List ℕ) (at n : ℕ) → at ≤ length piece → n ≤ length (take (length piece - at) (drop at piece))
+    → Appends old mid (take at piece) → Appends mid new (take n (take (length piece - at) (drop at piece)))
+    → (at + n ≤ length piece) × Appends old new (take (at + n) piece)
+appends_next old mid new piece at n inside fits p q =
+    let whole : take (length piece - at) (drop at piece) ≡ drop at piece = take_rest piece at in
+    let more : Appends mid new (take n (drop at piece)) = rw whole at q in
+    let fits2 : n ≤ length (drop at piece) = rw whole at fits in
+    (omega (arith, length-drop at piece), rw (take-add at n piece) (appends_more old mid new (take at piece) (take n (drop at piece)) p more))
+
+-- a failure within one of the pieces
+pub pieces_part : (old mid new : Option (List ℕ)) (pieces : List (Bor (List ℕ))) (i : ℕ) (d : Bor (List ℕ)) → i < length pieces
+    → Appends old mid (flat_map (λ p. p.now) (take i pieces)) → AppendsProperPrefix mid new (get_or pieces i d).now
+    → AppendsProperPrefix old new (flat_map (λ p. p.now) pieces)
+pieces_part old mid new pieces i d inside p q =
+    let piece : Bor (List ℕ) = get_or pieces i d in
+    let f : Bor (List ℕ) → List ℕ = λ p. p.now in
+    let rest : drop i pieces ≡ piece ∷ drop (i + 1) pieces = grind (arith, drop-cons pieces i d) in
+    let whole : pieces ≡ take i pieces ++ drop i pieces = sym (take-append-drop i pieces) in
+    let split : flat_map f pieces ≡ flat_map f (take i pieces) ++ (piece.now ++ flat_map f (drop (i + 1) pieces)) =
+    ap (flat_map f) whole ∙ flat_map-append f (take i pieces) (drop i pieces) ∙ ap (λ x. flat_map f (take i pieces) ++ flat_map f x) rest in
+    let P : List ℕ → Type 0 = λ t. AppendsProperPrefix old new t in
+    subst P (sym split) (part_of_second old mid new _ _ p (part_of_first mid new piece.now _ q))
+
+-- what a failed call says where its error is handed on
+pub writes_err : {T E : Type 0} (old new : Option (List ℕ)) (result : Result T E) (text : List ℕ) → IsErr result → AppendsProperPrefix old new text → Writes old new result text
+writes_err old new (Ok x) text e p = absurd (cc)
+writes_err old new (Err x) text e p = record { whole = tt; part = p }
+
+-- one text behind another, the second whole or in part
+pub writes_then : {T E : Type 0} (old mid new : Option (List ℕ)) (result : Result T E) (a b : List ℕ) → Appends old mid a → Writes mid new result b → Writes old new result (a ++ b)
+writes_then old mid new (Ok x) a b p q = record { whole = appends_more old mid new a b p q.whole; part = tt }
+writes_then old mid new (Err x) a b p q = record { whole = tt; part = part_of_second old mid new a b p q.part }
