@@ -1,6 +1,6 @@
 -- The lines that are left of a report, one behind the other.
 use Rattle.std.proofs.Common.{◌≡◌, ◌<◌, ℕ, ◌+◌, List, [], ◌∷◌, ◌++◌, length, drop, get_or, arith, refl, ap, ◌∙◌, drop-cons, sym, map}
-use Rattle.alp_io.specs.Lines.{accepted_line}
+use Rattle.alp_io.specs.Report.{accepted_line}
 use Rattle.alpaca_cli.specs.declared.ast.Variable.{Variable}
 use Rattle.alpaca_cli.specs.Source.{variable_of}
 use Rattle.alpaca_cli.specs.SourceReport.{emitted_lines, change_lines, change_line}

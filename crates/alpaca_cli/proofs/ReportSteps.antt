@@ -1,7 +1,7 @@
 -- How the report of `mean` goes on: at the limit, after a short attempt, and after a whole one.
 use Rattle.std.proofs.Common.{◌≡◌, ◌<◌, ℕ, zero, suc, ◌+◌, ◌-◌, List, ◌++◌, length, arith, refl, ap, ◌∙◌, Some, None}
 use Rattle.alp_io.specs.declared.report.Reason.TheVariants.{Readings, Limit}
-use Rattle.alp_io.specs.Lines.{end_line}
+use Rattle.alp_io.specs.Report.{end_line}
 use Rattle.alpaca_cli.specs.Source.{Source}
 use Rattle.alpaca_cli.specs.Meaning.{Attempt, attempt_of}
 use Rattle.alpaca_cli.specs.SourceReport.{transition_lines}

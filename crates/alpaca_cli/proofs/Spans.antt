@@ -4,7 +4,7 @@ use Rattle.std.proofs.lemmas.List.Sums.{sum_by-cons}
 use Rattle.std.proofs.Math.Seq.{take-append_seam, drop-append_seam}
 use Rattle.alp_io.specs.declared.report.Reason.{Reason}
 use Rattle.alp_io.specs.declared.report.Reason.TheVariants.{Readings, Limit}
-use Rattle.alp_io.specs.Lines.{end_line}
+use Rattle.alp_io.specs.Report.{end_line}
 use Rattle.alpaca_cli.specs.Source.{Source}
 use Rattle.alpaca_cli.specs.Meaning.{◌>>=◌, Attempt, after_all, attempt_of, initial_values}
 use Rattle.alpaca_cli.specs.SourceRun.{Transition, exactly, transition_of, source_run, values_after}

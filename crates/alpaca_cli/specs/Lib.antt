@@ -3,3 +3,7 @@ pub mod Meaning
 pub mod SourceRun
 pub mod SourceReport
 pub mod MeanReport
+pub mod CommandLine
+pub mod SourceText
+pub mod TraceText
+pub mod Command

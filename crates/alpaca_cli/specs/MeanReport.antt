@@ -1,7 +1,7 @@
 -- The report of `mean` as it is written, transition by transition.
 use Rattle.std.specs.Prelude.{ℕ, zero, suc, ◌+◌, ◌-◌, List, ◌++◌, length, Option, Some, None}
 use Rattle.alp_io.specs.declared.report.Reason.TheVariants.{Readings, Limit}
-use Rattle.alp_io.specs.Lines.{end_line}
+use Rattle.alp_io.specs.Report.{end_line}
 use Rattle.alpaca_cli.specs.Source.{Source}
 use Rattle.alpaca_cli.specs.Meaning.{Attempt, attempt_of, initial_values}
 use Rattle.alpaca_cli.specs.SourceReport.{transition_lines}

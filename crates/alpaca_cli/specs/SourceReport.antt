@@ -3,7 +3,7 @@
 use Rattle.std.specs.Prelude.{◌≡◌, ◌≤◌, ◌<◌, take, drop, ℕ, ◌+◌, ◌-◌, ◌==◌, List, [], ◌∷◌, ◌++◌, length, flat_map, map, sum_by, Option, Some, None, if◌then◌else◌}
 use Rattle.alp_io.specs.declared.report.Reason.{Reason}
 use Rattle.alp_io.specs.declared.report.Reason.TheVariants.{Charges, Readings, Off, Limit}
-use Rattle.alp_io.specs.Lines.{step_line, accepted_line, value_line, end_line}
+use Rattle.alp_io.specs.Report.{step_line, accepted_line, value_line, end_line}
 use Rattle.alpaca_cli.specs.Source.{Source, SharedVariable}
 use Rattle.alpaca_cli.specs.Meaning.{Attempt, attempt_of, initial_values}
 use Rattle.alpaca_cli.specs.SourceRun.{Transition, source_run, values_after}

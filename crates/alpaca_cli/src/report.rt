@@ -1,7 +1,7 @@
 //! The report of a source's meaning on a list of readings.
 ghost use Rattle.std.specs.Prelude.{◌≡◌, ◌+◌, ◌≤◌, ◌<◌, ◌^◌, map, length};
-ghost use Rattle.alp_io.specs.Counts.{HasCause};
-ghost use Rattle.alp_io.specs.Held.{Writes};
+ghost use Rattle.alp_io.specs.Count.{HasCause};
+ghost use Rattle.alp_io.specs.Sink.{Writes};
 ghost use Rattle.alpaca_cli.specs.Source.{source_of, variable_of};
 ghost use Rattle.alpaca_cli.specs.Meaning.{emit_count, initial_values};
 ghost use Rattle.alpaca_cli.specs.SourceReport.{emitted_lines, change_line, change_lines, transition_lines};
@@ -13,7 +13,7 @@ use alp_io::{Failed, Reason, Report, Sink};
 
 fn write_emitted<S: Sink>(report: &mut Report<'_, S>, words: &[u16]) -> Result<(), Failed>
     ensures same_sink { report.new.sink.ghost_name ≡ report.old.sink.ghost_name }
-    ensures bytes { Writes (S.held report.old.sink.now) (S.held report.new.sink.now) result (emitted_lines words.now) }
+    ensures bytes { Writes (S.contents report.old.sink.now) (S.contents report.new.sink.now) result (emitted_lines words.now) }
     ensures cause { HasCause (S.faults report.old.sink.now) (S.faults report.new.sink.now) result }
 {
     for w in words {
@@ -29,7 +29,7 @@ fn write_change<S: Sink>(
     now: u16,
 ) -> Result<(), Failed>
     ensures same_sink { report.new.sink.ghost_name ≡ report.old.sink.ghost_name }
-    ensures bytes { Writes (S.held report.old.sink.now) (S.held report.new.sink.now) result (change_line name.now before now) }
+    ensures bytes { Writes (S.contents report.old.sink.now) (S.contents report.new.sink.now) result (change_line name.now before now) }
     ensures cause { HasCause (S.faults report.old.sink.now) (S.faults report.new.sink.now) result }
 {
     if before == now {
@@ -47,7 +47,7 @@ fn write_changes<S: Sink>(
     requires before { length before.now ≡ length variables.now }
     requires now { length now.now ≡ length variables.now }
     ensures same_sink { report.new.sink.ghost_name ≡ report.old.sink.ghost_name }
-    ensures bytes { Writes (S.held report.old.sink.now) (S.held report.new.sink.now) result
+    ensures bytes { Writes (S.contents report.old.sink.now) (S.contents report.new.sink.now) result
         (change_lines (map variable_of variables.now) before.now now.now) }
     ensures cause { HasCause (S.faults report.old.sink.now) (S.faults report.new.sink.now) result }
 {
@@ -68,7 +68,7 @@ fn write_transition<S: Sink>(
     requires before { length meaning.now.before ≡ length program.now.shared.items }
     requires after { length meaning.now.after ≡ length program.now.shared.items }
     ensures same_sink { report.new.sink.ghost_name ≡ report.old.sink.ghost_name }
-    ensures bytes { Writes (S.held report.old.sink.now) (S.held report.new.sink.now) result
+    ensures bytes { Writes (S.contents report.old.sink.now) (S.contents report.new.sink.now) result
         (transition_lines (source_of program.now) k (record { from = from; to = to }) meaning.now) }
     ensures cause { HasCause (S.faults report.old.sink.now) (S.faults report.new.sink.now) result }
 {
@@ -96,7 +96,7 @@ pub fn write_report<S: Sink>(
     requires most { most ≤ 10000 }
     requires initial { meaning.old.after ≡ initial_values (source_of program.now) }
     ensures same_sink { report.new.sink.ghost_name ≡ report.old.sink.ghost_name }
-    ensures bytes { Writes (S.held report.old.sink.now) (S.held report.new.sink.now) result
+    ensures bytes { Writes (S.contents report.old.sink.now) (S.contents report.new.sink.now) result
         (mean_report most (source_of program.now) readings.now) }
     ensures cause { HasCause (S.faults report.old.sink.now) (S.faults report.new.sink.now) result }
 {

@@ -1,0 +1,74 @@
+-- What `mean` says of its files, and what each answer means.
+use Rattle.std.specs.Prelude.{◌≡◌, ℕ, ◌<◌, ◌≤◌, ◌⊎◌, List, [], ◌∷◌, codes, length, Option, Some, None, IfSome, IsSomeAnd}
+use Rattle.std.specs.Io.KnownBytes.{Appends}
+use Rattle.alp_io.specs.Count.{Rose}
+use Rattle.alp_io.specs.Report.{texts}
+use Rattle.alp_io.specs.Shelf.{Files, Counts}
+use Rattle.alp_io.specs.Sink.{AppendsProperPrefix}
+use Rattle.alpaca_cli.specs.Source.{Source}
+use Rattle.alpaca_cli.specs.SourceText.{IsSource}
+use Rattle.alpaca_cli.specs.TraceText.{trace_readings}
+use Rattle.alpaca_cli.specs.SourceReport.{IsMeanReport}
+use Rattle.alpaca_cli.specs.CommandLine.{FileNames}
+
+-- a file is there, with at most 1,048,576 bytes
+abbrev pub Fits : Files → List ℕ → Type 0
+Fits files name = IsSomeAnd (files name) (λ bytes. length bytes ≤ 1048576)
+
+-- both files are there and fit, with these texts
+pub record Texts (files : Files) (names : FileNames) : Type 0 where
+  pub source : List ℕ
+  pub trace : List ℕ
+  pub source_there : files names.source ≡ Some source
+  pub trace_there : files names.trace ≡ Some trace
+  pub source_fits : length source ≤ 1048576
+  pub trace_fits : length trace ≤ 1048576
+
+-- the texts of both files are of their form, and say this source and these readings
+pub record Says (files : Files) (names : FileNames) (source : Source) (readings : List ℕ) : Type 0 where
+  pub texts : Texts files names
+  pub source_said : IsSource texts.source source
+  pub readings_said : trace_readings texts.trace ≡ Some readings
+
+-- NAME is that of the first text, in order, that isn't of its form
+pub record IsRefused (files : Files) (names : FileNames) (name : List ℕ) : Type 0 where
+  pub texts : Texts files names
+  pub first : ((name ≡ names.source) × ((s : Source) → IsSource texts.source s → ⊥))
+      ⊎ ((name ≡ names.trace) × ((s : Source) × IsSource texts.source s) × (trace_readings texts.trace ≡ None))
+
+-- why a read gave no bytes: it failed, or, as far as the files are told, there is no file or it has too many bytes
+abbrev pub CannotRead : Option Files → List ℕ → Counts → Counts → Type 0
+CannotRead files name old new =
+    Rose old.failed_reads new.failed_reads
+    ⊎ ((Rose old.missing_reads new.missing_reads × IfSome files (λ f. f name ≡ None))
+    ⊎ (Rose old.overlong_reads new.overlong_reads × IfSome files (λ f. IsSomeAnd (f name) (λ bytes. 1048576 < length bytes))))
+
+-- NAME is that of the first file, in order, that could not be read
+abbrev pub IsUnreadable : Option Files → FileNames → List ℕ → Counts → Counts → Type 0
+IsUnreadable files names name old new =
+    ((name ≡ names.source) × CannotRead files names.source old new)
+    ⊎ ((name ≡ names.trace) × CannotRead files names.trace old new × IfSome files (λ f. Fits f names.source))
+
+-- the whole report of the two files, where they are told, is related to the output before and after
+abbrev pub OfReport : Option Files → FileNames → (List ℕ → Type 0) → Type 0
+OfReport files names P = IfSome files (λ f. (source : Source) × (readings : List ℕ) × (report : List ℕ)
+    × Says f names source readings × IsMeanReport source readings report × P report)
+
+-- the line was written, unless the count of faults rose
+abbrev pub Tells : Option (List ℕ) → Option (List ℕ) → ℕ → ℕ → List ℕ → Type 0
+Tells old new before now line = (Rose before now → ⊥) → Appends old new line
+
+unfoldable pub refused_line : List ℕ → List ℕ
+refused_line name = texts (codes "refused " ∷ name ∷ codes " 0 NotYet\n" ∷ [])
+
+unfoldable pub unreadable_line : List ℕ → List ℕ
+unreadable_line name = texts (codes "cannot read " ∷ name ∷ codes "\n" ∷ [])
+
+unfoldable pub unwritable_line : List ℕ
+unwritable_line = codes "cannot write output\n"
+
+unfoldable pub memory_line : List ℕ
+memory_line = codes "out of memory\n"
+
+unfoldable pub usage_line : List ℕ
+usage_line = codes "usage: alpaca mean SRC TRACE | try SRC TRACE IMAGE | build SRC IMAGE | run IMAGE TRACE | asm ASM IMAGE | dis IMAGE | gen N IMAGE\n"
