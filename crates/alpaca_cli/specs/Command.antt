@@ -15,26 +15,31 @@ use Rattle.alpaca_cli.specs.CommandLine.{FileNames}
 abbrev pub Fits : Files → List ℕ → Type 0
 Fits files name = IsSomeAnd (files name) (λ bytes. length bytes ≤ 1048576)
 
--- both files are there and fit, with these texts
-pub record Texts (files : Files) (names : FileNames) : Type 0 where
-  pub source : List ℕ
-  pub trace : List ℕ
+-- both files are there and fit, and these are their texts
+pub record Holds (files : Files) (names : FileNames) (source trace : List ℕ) : Type 0 where
   pub source_there : files names.source ≡ Some source
   pub trace_there : files names.trace ≡ Some trace
   pub source_fits : length source ≤ 1048576
   pub trace_fits : length trace ≤ 1048576
 
--- the texts of both files are of their form, and say this source and these readings
+-- both files are there and fit, and their texts are of their form and say this source and these readings
 pub record Says (files : Files) (names : FileNames) (source : Source) (readings : List ℕ) : Type 0 where
-  pub texts : Texts files names
-  pub source_said : IsSource texts.source source
-  pub readings_said : trace_readings texts.trace ≡ Some readings
+  pub source_text : List ℕ
+  pub trace_text : List ℕ
+  pub held : Holds files names source_text trace_text
+  pub source_said : IsSource source_text source
+  pub readings_said : trace_readings trace_text ≡ Some readings
 
--- NAME is that of the first text, in order, that isn't of its form
+abbrev pub IsNoSource : List ℕ → Type 0
+IsNoSource text = (source : Source) → IsSource text source → ⊥
+
+-- both files are there and fit, and NAME is that of the first text, in order, that isn't of its form
 pub record IsRefused (files : Files) (names : FileNames) (name : List ℕ) : Type 0 where
-  pub texts : Texts files names
-  pub first : ((name ≡ names.source) × ((s : Source) → IsSource texts.source s → ⊥))
-      ⊎ ((name ≡ names.trace) × ((s : Source) × IsSource texts.source s) × (trace_readings texts.trace ≡ None))
+  pub source_text : List ℕ
+  pub trace_text : List ℕ
+  pub held : Holds files names source_text trace_text
+  pub first : ((name ≡ names.source) × IsNoSource source_text)
+      ⊎ ((name ≡ names.trace) × ((source : Source) × IsSource source_text source) × (trace_readings trace_text ≡ None))
 
 -- why a read gave no bytes: it failed, or, as far as the files are told, there is no file or it has too many bytes
 abbrev pub CannotRead : Option Files → List ℕ → Counts → Counts → Type 0

@@ -7,3 +7,4 @@ pub mod CommandLine
 pub mod SourceText
 pub mod TraceText
 pub mod Command
+pub mod Failures

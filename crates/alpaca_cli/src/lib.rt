@@ -2,7 +2,9 @@
 #![tactic(auto)]
 
 mod ast;
+mod inputs;
 mod meaning;
 mod report;
+mod texts;
 
 pub use ast::{Expr, Program, Stmt, Variable};
