@@ -1,4 +1,5 @@
 pub mod Initial
+pub mod Outputs
 pub mod Readings
 pub mod ReportLines
 pub mod ReportSteps
