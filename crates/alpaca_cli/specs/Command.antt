@@ -70,10 +70,10 @@ unfoldable pub unreadable_line : List ℕ → List ℕ
 unreadable_line name = texts (codes "cannot read " ∷ name ∷ codes "\n" ∷ [])
 
 unfoldable pub unwritable_line : List ℕ
-unwritable_line = codes "cannot write output\n"
+unwritable_line = texts (codes "cannot write output\n" ∷ [])
 
 unfoldable pub memory_line : List ℕ
-memory_line = codes "out of memory\n"
+memory_line = texts (codes "out of memory\n" ∷ [])
 
 unfoldable pub usage_line : List ℕ
-usage_line = codes "usage: alpaca mean SRC TRACE | try SRC TRACE IMAGE | build SRC IMAGE | run IMAGE TRACE | asm ASM IMAGE | dis IMAGE | gen N IMAGE\n"
+usage_line = texts (codes "usage: alpaca mean SRC TRACE | try SRC TRACE IMAGE | build SRC IMAGE | run IMAGE TRACE | asm ASM IMAGE | dis IMAGE | gen N IMAGE\n" ∷ [])

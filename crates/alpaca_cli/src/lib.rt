@@ -5,9 +5,11 @@ mod ast;
 mod command;
 mod inputs;
 mod meaning;
+mod messages;
 mod output;
 mod report;
 mod status;
 mod texts;
 
-pub use ast::{Expr, Program, Stmt, Variable};
+pub use command::alpaca;
+pub use status::Status;
