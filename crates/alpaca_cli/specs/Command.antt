@@ -33,13 +33,27 @@ pub record Says (files : Files) (names : FileNames) (source : Source) (readings 
 abbrev pub IsNoSource : List ℕ → Type 0
 IsNoSource text = (source : Source) → IsSource text source → ⊥
 
--- both files are there and fit, and NAME is that of the first text, in order, that isn't of its form
-pub record IsRefused (files : Files) (names : FileNames) (name : List ℕ) : Type 0 where
+-- both files are there and fit, and the source's text isn't of its form
+pub record RefusesSource (files : Files) (names : FileNames) : Type 0 where
   pub source_text : List ℕ
   pub trace_text : List ℕ
   pub held : Holds files names source_text trace_text
-  pub first : ((name ≡ names.source) × IsNoSource source_text)
-      ⊎ ((name ≡ names.trace) × ((source : Source) × IsSource source_text source) × (trace_readings trace_text ≡ None))
+  pub refused : IsNoSource source_text
+
+-- both files are there and fit, and the trace's text isn't of its form, but the source's is
+pub record RefusesTrace (files : Files) (names : FileNames) : Type 0 where
+  pub source_text : List ℕ
+  pub trace_text : List ℕ
+  pub source : Source
+  pub held : Holds files names source_text trace_text
+  pub source_said : IsSource source_text source
+  pub refused : trace_readings trace_text ≡ None
+
+-- NAME is that of the first text, in order, that isn't of its form, as far as the files are told
+abbrev pub IsRefused : Option Files → FileNames → List ℕ → Type 0
+IsRefused files names name =
+    ((name ≡ names.source) × IfSome files (λ f. RefusesSource f names))
+    ⊎ ((name ≡ names.trace) × IfSome files (λ f. RefusesTrace f names))
 
 -- why a read gave no bytes: it failed, or, as far as the files are told, there is no file or it has too many bytes
 abbrev pub CannotRead : Option Files → List ℕ → Counts → Counts → Type 0
@@ -54,10 +68,10 @@ IsUnreadable files names name old new =
     ((name ≡ names.source) × CannotRead files names.source old new)
     ⊎ ((name ≡ names.trace) × CannotRead files names.trace old new × IfSome files (λ f. Fits f names.source))
 
--- the whole report of the two files, where they are told, is related to the output before and after
+-- this holds of the whole report of a source and readings; where the files are told, they say these
 abbrev pub OfReport : Option Files → FileNames → (List ℕ → Type 0) → Type 0
-OfReport files names P = IfSome files (λ f. (source : Source) × (readings : List ℕ) × (report : List ℕ)
-    × Says f names source readings × IsMeanReport source readings report × P report)
+OfReport files names P = (source : Source) × (readings : List ℕ) × (report : List ℕ)
+    × IfSome files (λ f. Says f names source readings) × IsMeanReport source readings report × P report
 
 -- the line was written, unless the count of faults rose
 abbrev pub Tells : Option (List ℕ) → Option (List ℕ) → ℕ → ℕ → List ℕ → Type 0

@@ -1,5 +1,5 @@
 -- Why `mean` ended without its whole report, as the program keeps it.
-use Rattle.std.specs.Prelude.{◌≡◌, ℕ, List, Option, IfSome}
+use Rattle.std.specs.Prelude.{◌≡◌, ℕ, List, Option}
 use Rattle.alp_io.specs.Count.{Rose}
 use Rattle.alp_io.specs.Shelf.{Files, Counts}
 use Rattle.alp_io.specs.Sink.{AppendsProperPrefix}
@@ -17,7 +17,7 @@ name_of file.Trace names = names.trace
 -- what each failure says of the files, the counts and the output
 abbrev pub FailsBy : Failure → FileNames → Option Files → Counts → Counts → Option (List ℕ) → Option (List ℕ) → ℕ → ℕ → Type 0
 FailsBy (Refused file) names files counts_old counts_new out_old out_new faults_old faults_new =
-    IfSome files (λ f. IsRefused f names (name_of file names)) × (out_new ≡ out_old)
+    IsRefused files names (name_of file names) × (out_new ≡ out_old)
 FailsBy (Unreadable file) names files counts_old counts_new out_old out_new faults_old faults_new =
     IsUnreadable files names (name_of file names) counts_old counts_new × (out_new ≡ out_old)
 FailsBy Write names files counts_old counts_new out_old out_new faults_old faults_new =

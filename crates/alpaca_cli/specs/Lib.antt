@@ -8,3 +8,4 @@ pub mod SourceText
 pub mod TraceText
 pub mod Command
 pub mod Failures
+pub mod Status

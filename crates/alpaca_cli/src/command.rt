@@ -89,7 +89,7 @@ pub fn alpaca<H: Shelf, O: Sink, E: Sink>(
 
     // Refused: the named text is the first that isn't of its form.
     ensures refused { result ≡ Status.Refused → IsSomeAnd (mean_files (map string_bytes words.now)) (λ names. (name : List ℕ)
-        × IfSome (H.files shelf.old) (λ f. IsRefused f names name)
+        × IsRefused (H.files shelf.old) names name
         × (O.contents out.new ≡ O.contents out.old)
         × Tells (E.contents err.old) (E.contents err.new) (E.faults err.old) (E.faults err.new) (refused_line name)) }
 
