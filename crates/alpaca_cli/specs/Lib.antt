@@ -9,3 +9,4 @@ pub mod TraceText
 pub mod Command
 pub mod Failures
 pub mod Status
+pub mod WorkedRows

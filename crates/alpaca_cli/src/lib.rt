@@ -3,6 +3,7 @@
 
 mod ast;
 mod command;
+mod examples;
 mod inputs;
 mod meaning;
 mod messages;
@@ -11,5 +12,7 @@ mod report;
 mod status;
 mod texts;
 
+
 pub use command::alpaca;
 pub use status::Status;
+pub use examples::worked_rows;
