@@ -1,6 +1,6 @@
 -- What a task does: the values of expressions, the effects of statements, and a whole task. `None` is short: the
 -- readings ran out. Words have 16 bits and their sums wrap; readings are taken from left to right.
-use Rattle.std.specs.Prelude.{◌≡◌, ℕ, ◌+◌, ◌%◌, List, [], ◌∷◌, ◌++◌, map, Option, Some, None, slice_index, slice_set}
+use Rattle.std.specs.Prelude.{◌≡◌, ℕ, ◌+◌, ◌%◌, List, [], ◌∷◌, ◌++◌, map, count_by, Bool, true, false, Option, Some, None, slice_index, slice_set}
 use Rattle.alpaca_cli.specs.Source.{Expression, Statement, Source, number, shared, sense, plus, assign, emit}
 
 -- goes on with what there is, or is short
@@ -43,11 +43,9 @@ after_all (statement ∷ more) s = after statement s >>= after_all more
 abbrev pub attempt_of : Source → List ℕ → List ℕ → Option Attempt
 attempt_of source values readings = after_all source.body (record { values = values; emitted = []; left = readings })
 
--- the emits of a body
-abbrev pub emit_count : List Statement → ℕ
-emit_count [] = 0
-emit_count (assign v e ∷ more) = emit_count more
-emit_count (emit e ∷ more) = emit_count more + 1
+abbrev pub is_emit : Statement → Bool
+is_emit (assign v e) = false
+is_emit (emit e) = true
 
 abbrev pub initial_values : Source → List ℕ
 initial_values source = map (λ v. v.initial) source.variables

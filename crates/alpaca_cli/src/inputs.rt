@@ -1,8 +1,8 @@
 //! The two files of `mean`: their texts, and what these say.
-ghost use Rattle.std.specs.Prelude.{◌≡◌, ◌≤◌, ◌⊎◌, IfOk, IfErr, IfSome, IsErrOf, Some, None, length, vec_len};
+ghost use Rattle.std.specs.Prelude.{◌≡◌, count_by, ◌≤◌, ◌⊎◌, IfOk, IfErr, IfSome, IsErrOf, Some, None, length, vec_len};
 ghost use Rattle.alp_io.specs.Shelf.{NeverFall};
 ghost use Rattle.alpaca_cli.specs.Source.{Source, source_of};
-ghost use Rattle.alpaca_cli.specs.Meaning.{emit_count};
+ghost use Rattle.alpaca_cli.specs.Meaning.{is_emit};
 ghost use Rattle.alpaca_cli.specs.SourceText.{IsSource};
 ghost use Rattle.alpaca_cli.specs.TraceText.{trace_readings};
 ghost use Rattle.alpaca_cli.specs.Command.{Holds, IsNoSource, CannotRead, Fits};
@@ -96,7 +96,7 @@ pub fn read_texts<H: Shelf>(
 
 fn program_of(alloc: Global, text: &[u8]) -> Result<Program, Failure>
     ensures said { IfOk result (λ p. IsSource text.now (source_of p)) }
-    ensures emits { IfOk result (λ p. emit_count (source_of p).body ≤ 256) }
+    ensures emits { IfOk result (λ p. count_by is_emit (source_of p).body ≤ 256) }
     ensures only { IfErr result (λ e. (e ≡ Failure.Memory) ⊎ (e ≡ Failure.Refused InputFile.Source)) }
     ensures refused { IsErrOf result (Failure.Refused InputFile.Source) → IsNoSource text.now }
 {
@@ -124,7 +124,7 @@ fn readings_of(alloc: Global, text: &[u8]) -> Result<Vec<u16>, Failure>
 pub fn inputs_of(alloc: Global, texts: &Texts) -> Result<Inputs, Failure>
     ensures source_said { IfOk result (λ x. IsSource texts.now.source.items (source_of x.program)) }
     ensures readings_said { IfOk result (λ x. trace_readings texts.now.trace.items ≡ Some x.readings.items) }
-    ensures emits { IfOk result (λ x. emit_count (source_of x.program).body ≤ 256) }
+    ensures emits { IfOk result (λ x. count_by is_emit (source_of x.program).body ≤ 256) }
     ensures few { IfOk result (λ x. vec_len x.readings ≤ 262144) }
     ensures only { IfErr result (λ e. (e ≡ Failure.Memory) ⊎ ((e ≡ Failure.Refused InputFile.Source) ⊎ (e ≡ Failure.Refused InputFile.Trace))) }
     ensures no_source { IsErrOf result (Failure.Refused InputFile.Source) → IsNoSource texts.now.source.items }

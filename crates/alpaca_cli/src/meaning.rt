@@ -1,8 +1,8 @@
 //! What a task does to the shared words: values, statements and whole attempts over a list of readings.
-ghost use Rattle.std.specs.Prelude.{◌≡◌, ◌+◌, ◌≤◌, IfSome, IfNone, IfOk, OnSome, OnOk, OnErr, [], ◌∷◌, slice_set, length, map, Some, None, vec_len, vec_capacity};
+ghost use Rattle.std.specs.Prelude.{◌≡◌, count_by, ◌+◌, ◌≤◌, IfSome, IfNone, IfOk, OnSome, OnOk, OnErr, [], ◌∷◌, slice_set, length, map, Some, None, vec_len, vec_capacity};
 ghost use Rattle.std.specs.Option.{option_map};
 ghost use Rattle.alpaca_cli.specs.Source.{expression_of, statement_of, source_of};
-ghost use Rattle.alpaca_cli.specs.Meaning.{value_of, after, after_all, attempt_of, Attempt, emit_count, initial_values};
+ghost use Rattle.alpaca_cli.specs.Meaning.{value_of, after, after_all, attempt_of, Attempt, is_emit, initial_values};
 
 use crate::ast::{Expr, Program, Stmt, Variable};
 use std::alloc::{AllocError, Global};
@@ -47,7 +47,7 @@ fn step<'r>(
     emitted: &mut Vec<u16>,
     readings: &'r [u16],
 ) -> Option<&'r [u16]>
-    requires { emit_count (statement_of stmt.now ∷ []) + vec_len emitted.old ≤ vec_capacity emitted.old }
+    requires { count_by is_emit (statement_of stmt.now ∷ []) + vec_len emitted.old ≤ vec_capacity emitted.old }
     ensures done { IfSome result (λ left. after (statement_of stmt.now)
         (record { values = values.old; emitted = emitted.old.items; left = readings.now })
         ≡ Some (record { values = values.new; emitted = emitted.new.items; left = left.now })) }
@@ -55,7 +55,7 @@ fn step<'r>(
         (record { values = values.old; emitted = emitted.old.items; left = readings.now }) ≡ None) }
     ensures fewer { IfSome result (λ left. length left.now ≤ length readings.now) }
     ensures room { vec_capacity emitted.old ≤ vec_capacity emitted.new }
-    ensures counted { OnSome result (vec_len emitted.new ≡ vec_len emitted.old + emit_count (statement_of stmt.now ∷ [])) }
+    ensures counted { OnSome result (vec_len emitted.new ≡ vec_len emitted.old + count_by is_emit (statement_of stmt.now ∷ [])) }
 {
     match stmt {
         Stmt::Assign(v, e) => {
@@ -78,7 +78,7 @@ fn run_body<'r>(
     emitted: &mut Vec<u16>,
     readings: &'r [u16],
 ) -> Option<&'r [u16]>
-    requires { emit_count (map statement_of body.now) + vec_len emitted.old ≤ vec_capacity emitted.old }
+    requires { count_by is_emit (map statement_of body.now) + vec_len emitted.old ≤ vec_capacity emitted.old }
     ensures done { IfSome result (λ left. after_all (map statement_of body.now)
         (record { values = values.old; emitted = emitted.old.items; left = readings.now })
         ≡ Some (record { values = values.new; emitted = emitted.new.items; left = left.now })) }
@@ -86,7 +86,7 @@ fn run_body<'r>(
         (record { values = values.old; emitted = emitted.old.items; left = readings.now }) ≡ None) }
     ensures fewer { IfSome result (λ left. length left.now ≤ length readings.now) }
     ensures room { vec_capacity emitted.old ≤ vec_capacity emitted.new }
-    ensures counted { OnSome result (vec_len emitted.new ≡ vec_len emitted.old + emit_count (map statement_of body.now)) }
+    ensures counted { OnSome result (vec_len emitted.new ≡ vec_len emitted.old + count_by is_emit (map statement_of body.now)) }
 {
     let mut left = readings;
     for stmt in body {
@@ -151,7 +151,7 @@ impl Meaning {
         program: &Program,
         readings: &'r [u16],
     ) -> Result<&'r [u16], Short>
-        requires { emit_count (source_of program.now).body ≤ 256 }
+        requires { count_by is_emit (source_of program.now).body ≤ 256 }
         ensures done { IfOk result (λ left. attempt_of (source_of program.now) self.old.after readings.now
             ≡ Some (record { values = self.new.after; emitted = self.new.emitted; left = left.now })) }
         ensures before { OnOk result (self.new.before ≡ self.old.after) }

@@ -1,10 +1,10 @@
 //! The output of `mean`.
-ghost use Rattle.std.specs.Prelude.{◌≡◌, ◌≤◌, ◌⊎◌, OnOk, IfErr, IsErrOf, vec_len};
+ghost use Rattle.std.specs.Prelude.{◌≡◌, count_by, ◌≤◌, ◌⊎◌, OnOk, IfErr, IsErrOf, vec_len};
 ghost use Rattle.std.specs.Io.KnownBytes.{Appends};
 ghost use Rattle.alp_io.specs.Count.{Rose, HasCause};
 ghost use Rattle.alp_io.specs.Sink.{AppendsProperPrefix, Writes};
 ghost use Rattle.alpaca_cli.specs.Source.{source_of};
-ghost use Rattle.alpaca_cli.specs.Meaning.{emit_count, initial_values};
+ghost use Rattle.alpaca_cli.specs.Meaning.{is_emit, initial_values};
 ghost use Rattle.alpaca_cli.specs.MeanReport.{mean_report};
 
 use crate::inputs::{Failure, Inputs};
@@ -16,7 +16,7 @@ use std::alloc::{AllocError, Global};
 const MOST_TRANSITIONS: u64 = 10_000;
 
 fn write_meaning<S: Sink>(out: &mut S, inputs: &Inputs, meaning: &mut Meaning) -> Result<(), Failed>
-    requires emits { emit_count (source_of inputs.now.program).body ≤ 256 }
+    requires emits { count_by is_emit (source_of inputs.now.program).body ≤ 256 }
     requires few { vec_len inputs.now.readings ≤ 262144 }
     requires initial { meaning.old.after ≡ initial_values (source_of inputs.now.program) }
     ensures bytes { Writes (S.contents out.old) (S.contents out.new) result
@@ -36,7 +36,7 @@ fn write_meaning<S: Sink>(out: &mut S, inputs: &Inputs, meaning: &mut Meaning) -
 /// Writes the whole report, once all memory is taken. `Memory` where that was refused, and nothing is written then;
 /// `Write` where a write failed, and the output gained a proper prefix of the report.
 pub fn write_output<S: Sink>(alloc: Global, out: &mut S, inputs: &Inputs) -> Result<(), Failure>
-    requires emits { emit_count (source_of inputs.now.program).body ≤ 256 }
+    requires emits { count_by is_emit (source_of inputs.now.program).body ≤ 256 }
     requires few { vec_len inputs.now.readings ≤ 262144 }
     ensures whole { OnOk result (Appends (S.contents out.old) (S.contents out.new)
         (mean_report 10000 (source_of inputs.now.program) inputs.now.readings.items)) }

@@ -1,9 +1,9 @@
 //! The report of a source's meaning on a list of readings.
-ghost use Rattle.std.specs.Prelude.{◌≡◌, ◌+◌, ◌≤◌, ◌<◌, ◌^◌, map, length};
+ghost use Rattle.std.specs.Prelude.{◌≡◌, count_by, ◌+◌, ◌≤◌, ◌<◌, ◌^◌, map, length};
 ghost use Rattle.alp_io.specs.Count.{HasCause};
 ghost use Rattle.alp_io.specs.Sink.{Writes};
 ghost use Rattle.alpaca_cli.specs.Source.{source_of, variable_of};
-ghost use Rattle.alpaca_cli.specs.Meaning.{emit_count, initial_values};
+ghost use Rattle.alpaca_cli.specs.Meaning.{is_emit, initial_values};
 ghost use Rattle.alpaca_cli.specs.SourceReport.{emitted_lines, change_line, change_lines, transition_lines};
 ghost use Rattle.alpaca_cli.specs.MeanReport.{mean_report};
 
@@ -91,7 +91,7 @@ pub fn write_report<S: Sink>(
     readings: &[u16],
     most: u64,
 ) -> Result<(), Failed>
-    requires emits { emit_count (source_of program.now).body ≤ 256 }
+    requires emits { count_by is_emit (source_of program.now).body ≤ 256 }
     requires few { length readings.now < 2 ^ 32 }
     requires most { most ≤ 10000 }
     requires initial { meaning.old.after ≡ initial_values (source_of program.now) }

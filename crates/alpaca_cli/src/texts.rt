@@ -1,7 +1,7 @@
 //! Stands for the readers of the two texts.
-ghost use Rattle.std.specs.Prelude.{◌≡◌, ◌≤◌, IfOk, IsErrOf, Some, None, vec_len};
+ghost use Rattle.std.specs.Prelude.{◌≡◌, count_by, ◌≤◌, IfOk, IsErrOf, Some, None, vec_len};
 ghost use Rattle.alpaca_cli.specs.Source.{Source, source_of};
-ghost use Rattle.alpaca_cli.specs.Meaning.{emit_count};
+ghost use Rattle.alpaca_cli.specs.Meaning.{is_emit};
 ghost use Rattle.alpaca_cli.specs.SourceText.{IsSource};
 ghost use Rattle.alpaca_cli.specs.TraceText.{trace_readings};
 
@@ -17,7 +17,7 @@ pub enum TextFault {
 
 pub fn read_source(_alloc: Global, text: &[u8]) -> Result<Program, TextFault>
     ensures said { IfOk result (λ p. IsSource text.now (source_of p)) }
-    ensures emits { IfOk result (λ p. emit_count (source_of p).body ≤ 256) }
+    ensures emits { IfOk result (λ p. count_by is_emit (source_of p).body ≤ 256) }
     ensures refused { IsErrOf result TextFault.NotYet → (s : Source) → IsSource text.now s → ⊥ }
 {
     Err(TextFault::Memory)
