@@ -121,25 +121,25 @@ pub fn alpaca<H: Shelf, O: Sink, E: Sink>(
         → (result ≡ Status.Done) ⊎ (result ≡ Status.OutOfMemory)) }
 {
     let Some((source, trace)) = mean_files(words) else {
-        messages::usage(err);
+        messages::tell_usage(err);
         return Status::Usage;
     };
     match mean(alloc, source, trace, shelf, out) {
         Ok(()) => Status::Done,
         Err(Failure::Refused(file)) => {
-            messages::refused(err, name_of(file, source, trace));
+            messages::tell_refused(err, name_of(file, source, trace));
             Status::Refused
         }
         Err(Failure::Unreadable(file)) => {
-            messages::cannot_read(err, name_of(file, source, trace));
+            messages::tell_unreadable(err, name_of(file, source, trace));
             Status::Unreadable
         }
         Err(Failure::Write) => {
-            messages::cannot_write_output(err);
+            messages::tell_unwritable(err);
             Status::Unwritable
         }
         Err(Failure::Memory) => {
-            messages::out_of_memory(err);
+            messages::tell_out_of_memory(err);
             Status::OutOfMemory
         }
     }

@@ -12,7 +12,7 @@ mod report;
 mod status;
 mod texts;
 
-
 pub use command::alpaca;
-pub use status::Status;
 pub use examples::worked_rows;
+pub use messages::{tell_out_of_memory, tell_usage};
+pub use status::Status;

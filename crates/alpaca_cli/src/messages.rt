@@ -13,7 +13,7 @@ fn tell<E: Sink>(err: &mut E, pieces: &[&[u8]])
 }
 
 #[tactic(auto, unfolding(crate::specs::Command::refused_line))]
-pub fn refused<E: Sink>(err: &mut E, name: &str)
+pub fn tell_refused<E: Sink>(err: &mut E, name: &str)
     ensures line { Tells (E.contents err.old) (E.contents err.new) (E.faults err.old) (E.faults err.new) (refused_line name.now) }
     ensures faults { E.faults err.old ≤ E.faults err.new }
 {
@@ -21,7 +21,7 @@ pub fn refused<E: Sink>(err: &mut E, name: &str)
 }
 
 #[tactic(auto, unfolding(crate::specs::Command::unreadable_line))]
-pub fn cannot_read<E: Sink>(err: &mut E, name: &str)
+pub fn tell_unreadable<E: Sink>(err: &mut E, name: &str)
     ensures line { Tells (E.contents err.old) (E.contents err.new) (E.faults err.old) (E.faults err.new) (unreadable_line name.now) }
     ensures faults { E.faults err.old ≤ E.faults err.new }
 {
@@ -29,7 +29,7 @@ pub fn cannot_read<E: Sink>(err: &mut E, name: &str)
 }
 
 #[tactic(auto, unfolding(crate::specs::Command::unwritable_line))]
-pub fn cannot_write_output<E: Sink>(err: &mut E)
+pub fn tell_unwritable<E: Sink>(err: &mut E)
     ensures line { Tells (E.contents err.old) (E.contents err.new) (E.faults err.old) (E.faults err.new) unwritable_line }
     ensures faults { E.faults err.old ≤ E.faults err.new }
 {
@@ -38,7 +38,7 @@ pub fn cannot_write_output<E: Sink>(err: &mut E)
 
 /// The line for refused memory, which takes none.
 #[tactic(auto, unfolding(crate::specs::Command::memory_line))]
-pub fn out_of_memory<E: Sink>(err: &mut E)
+pub fn tell_out_of_memory<E: Sink>(err: &mut E)
     ensures line { Tells (E.contents err.old) (E.contents err.new) (E.faults err.old) (E.faults err.new) memory_line }
     ensures faults { E.faults err.old ≤ E.faults err.new }
 {
@@ -47,7 +47,7 @@ pub fn out_of_memory<E: Sink>(err: &mut E)
 
 /// The line for words that are no command line.
 #[tactic(auto, unfolding(crate::specs::Command::usage_line))]
-pub fn usage<E: Sink>(err: &mut E)
+pub fn tell_usage<E: Sink>(err: &mut E)
     ensures line { Tells (E.contents err.old) (E.contents err.new) (E.faults err.old) (E.faults err.new) usage_line }
     ensures faults { E.faults err.old ≤ E.faults err.new }
 {

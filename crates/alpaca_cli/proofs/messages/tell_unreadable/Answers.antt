@@ -1,5 +1,5 @@
 use Rattle.alpaca_cli.specs.Command.{unreadable_line}
-use Rattle.alpaca_cli.proofs.messages.cannot_read.Goals as goal
+use Rattle.alpaca_cli.proofs.messages.tell_unreadable.Goals as goal
 
 pub returns-clause-line : goal.returns-clause-line
 unfolding unreadable_line
