@@ -24,9 +24,14 @@ says (Some f) names source_text trace_text source readings held s r =
 pub of_report : (P : List ℕ → Type 0) (files : Option Files) (names : FileNames) (source_text trace_text : List ℕ) (source : Source) (readings : List ℕ)
     → IfSome files (λ f. Holds f names source_text trace_text) → IsSource source_text source → trace_readings trace_text ≡ Some readings
     → P (mean_report 10000 source readings) → OfReport files names P
-of_report P files names source_text trace_text source readings held s r p =
-    (source, readings, mean_report 10000 source readings, says files names source_text trace_text source readings held s r,
-      mean_report_lem source readings, p)
+of_report P files names source_text trace_text source readings held s r p = (
+  source,
+  readings,
+  mean_report 10000 source readings,
+  says files names source_text trace_text source readings held s r,
+  mean_report_lem source readings,
+  p,
+)
 
 pub on_ok : {T E : Type 0} (result : Result T E) (A B : Type 0) → OnOk result A → (A → B) → OnOk result B
 on_ok (Ok x) A B a f = f a

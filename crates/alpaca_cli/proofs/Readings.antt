@@ -58,7 +58,8 @@ step_uses (assign v e) s t h =
     let taken = value_takes e s.values s.left got.0 got.1 in
     let end : record { values = slice_set s.values v got.0.0; emitted = s.emitted; left = got.0.1 } ≡ t = cc got.2 in
     subst (λ (x : Attempt). Uses (after (assign v e)) s x) end (record {
-      used = taken.used; front = taken.front;
+      used = taken.used;
+      front = taken.front;
       same = λ more. ap (λ o. o >>= λ x. Some (record { values = slice_set s.values v x.0; emitted = s.emitted; left = x.1 })) (taken.same more);
     })
 step_uses (emit e) s t h =
@@ -66,7 +67,8 @@ step_uses (emit e) s t h =
     let taken = value_takes e s.values s.left got.0 got.1 in
     let end : record { values = s.values; emitted = s.emitted ++ got.0.0 ∷ []; left = got.0.1 } ≡ t = cc got.2 in
     subst (λ (x : Attempt). Uses (after (emit e)) s x) end (record {
-      used = taken.used; front = taken.front;
+      used = taken.used;
+      front = taken.front;
       same = λ more. ap (λ o. o >>= λ x. Some (record { values = s.values; emitted = s.emitted ++ x.0 ∷ []; left = x.1 })) (taken.same more);
     })
 
@@ -82,5 +84,5 @@ body_uses (statement ∷ rest) s t h =
       used = one.used ++ two.used;
       front = one.front ∙ ap (λ x. one.used ++ x) two.front ∙ sym (append_assoc one.used two.used t.left);
       same = λ more. ap (λ x. after statement (record { values = s.values; emitted = s.emitted; left = x }) >>= after_all rest) (append_assoc one.used two.used more)
-        ∙ ap (λ o. o >>= after_all rest) (one.same (two.used ++ more)) ∙ two.same more;
+          ∙ ap (λ o. o >>= after_all rest) (one.same (two.used ++ more)) ∙ two.same more;
     }

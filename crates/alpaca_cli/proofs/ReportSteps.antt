@@ -20,14 +20,14 @@ unfolding report_from
 report_short zero source total k accepted values readings h e = absurd (omega arith)
 report_short (suc n) source total k accepted values readings h e = ap (λ o. if_whole o (end_line Readings k accepted 0)
     (λ a. transition_lines source (k + 1) (record { from = total - length readings; to = total - length a.left })
-        (record { before = values; emitted = a.emitted; after = a.values })
+    (record { before = values; emitted = a.emitted; after = a.values })
     ++ report_from n source total (k + 1) (accepted + length a.emitted) a.values a.left)) e
 
 pub report_more : (n m : ℕ) (source : Source) (total k accepted : ℕ) (values readings : List ℕ) (a : Attempt) → n ≡ m + 1
     → attempt_of source values readings ≡ Some a
     → report_from n source total k accepted values readings
     ≡ transition_lines source (k + 1) (record { from = total - length readings; to = total - length a.left })
-        (record { before = values; emitted = a.emitted; after = a.values })
+    (record { before = values; emitted = a.emitted; after = a.values })
     ++ report_from m source total (k + 1) (accepted + length a.emitted) a.values a.left
 unfolding report_from
 report_more zero m source total k accepted values readings a h e = absurd (omega arith)
@@ -35,8 +35,8 @@ report_more (suc n) m source total k accepted values readings a h e =
     let same : n ≡ m = omega arith in
     ap (λ o. if_whole o (end_line Readings k accepted 0)
     (λ a. transition_lines source (k + 1) (record { from = total - length readings; to = total - length a.left })
-        (record { before = values; emitted = a.emitted; after = a.values })
+    (record { before = values; emitted = a.emitted; after = a.values })
     ++ report_from n source total (k + 1) (accepted + length a.emitted) a.values a.left)) e
     ∙ ap (λ j. transition_lines source (k + 1) (record { from = total - length readings; to = total - length a.left })
-        (record { before = values; emitted = a.emitted; after = a.values })
+    (record { before = values; emitted = a.emitted; after = a.values })
     ++ report_from j source total (k + 1) (accepted + length a.emitted) a.values a.left) same

@@ -75,7 +75,7 @@ from_here (suc n) source trace k accepted at values left h e =
     go (λ accepted' at' values' left' h' e'. from_here n source trace (k + 1) accepted' at' values' left' h' e') (attempt_of source values left) refl
   where
     go : (ih : (accepted' at' : ℕ) (values' left' : List ℕ) → at' ≤ length trace → drop at' trace ≡ left'
-            → IsReportFrom n source trace (k + 1) accepted' at' values' (report_from n source (length trace) (k + 1) accepted' values' left'))
+        → IsReportFrom n source trace (k + 1) accepted' at' values' (report_from n source (length trace) (k + 1) accepted' values' left'))
         (o : Option Attempt) → attempt_of source values left ≡ o
         → IsReportFrom (suc n) source trace k accepted at values (report_from (suc n) source (length trace) k accepted values left)
     go ih None o = record {
@@ -97,16 +97,16 @@ from_here (suc n) source trace k accepted at values left h e =
         let t : Transition = record { before = values; emitted = a.emitted; after = a.values } in
         let from_is : length trace - length left ≡ at = omega (arith, length-drop at trace, ap length e) in
         let whole : attempt_of source values (readings_of trace span) ≡ Some (record { values = a.values; emitted = a.emitted; left = [] })
-          = ap (attempt_of source values) takes.taken ∙ uses.same [] in
+        = ap (attempt_of source values) takes.taken ∙ uses.same [] in
         let one : transition_of source values (readings_of trace span) ≡ Some t = ap (λ x. x >>= exactly values) whole in
         let run : source_run source values (readings_of trace span ∷ map (readings_of trace) rest.spans) ≡ Some (t ∷ rest.transitions)
-          = ap (λ x. x >>= λ u. source_run source u.after (map (readings_of trace) rest.spans) >>= λ ts. Some (u ∷ ts)) one
-            ∙ ap (λ x. x >>= λ ts. Some (t ∷ ts)) rest.run in
+        = ap (λ x. x >>= λ u. source_run source u.after (map (readings_of trace) rest.spans) >>= λ ts. Some (u ∷ ts)) one
+        ∙ ap (λ x. x >>= λ ts. Some (t ∷ ts)) rest.run in
         let made : k + 1 + length rest.spans ≡ k + suc (length rest.spans) = omega arith in
         let more : sum_by (λ t. length t.emitted) (t ∷ rest.transitions) ≡ length a.emitted + sum_by (λ t. length t.emitted) rest.transitions
-          = sum_by-cons (λ t. length t.emitted) t rest.transitions in
+        = sum_by-cons (λ t. length t.emitted) t rest.transitions in
         let words : accepted + length a.emitted + sum_by (λ t. length t.emitted) rest.transitions
-            ≡ accepted + sum_by (λ t. length t.emitted) (t ∷ rest.transitions) = omega (arith, more) in
+        ≡ accepted + sum_by (λ t. length t.emitted) (t ∷ rest.transitions) = omega (arith, more) in
         record {
           spans = span ∷ rest.spans;
           transitions = t ∷ rest.transitions;
@@ -115,16 +115,16 @@ from_here (suc n) source trace k accepted at values left h e =
           run = run;
           ending = one_more rest.reason n (length rest.spans) _ rest.ending;
           lines = report_more (suc n) n source (length trace) k accepted values left a (omega arith) o
-            ∙ ap (λ x. transition_lines source (k + 1) (record { from = x; to = length trace - length a.left }) t
-                ++ report_from n source (length trace) (k + 1) (accepted + length a.emitted) a.values a.left) from_is
-            ∙ ap (λ x. transition_lines source (k + 1) (record { from = at; to = x }) t
-                ++ report_from n source (length trace) (k + 1) (accepted + length a.emitted) a.values a.left) (sym takes.to_is)
-            ∙ ap (λ x. transition_lines source (k + 1) span t ++ x) rest.lines
-            ∙ sym (append_assoc (transition_lines source (k + 1) span t) (source_report source (k + 1 + 1) rest.spans rest.transitions) _)
-            ∙ ap (λ m. (transition_lines source (k + 1) span t ++ source_report source (k + 1 + 1) rest.spans rest.transitions)
-                ++ end_line rest.reason m (accepted + length a.emitted + sum_by (λ t. length t.emitted) rest.transitions) 0) made
-            ∙ ap (λ m. (transition_lines source (k + 1) span t ++ source_report source (k + 1 + 1) rest.spans rest.transitions)
-                ++ end_line rest.reason (k + suc (length rest.spans)) m 0) words;
+              ∙ ap (λ x. transition_lines source (k + 1) (record { from = x; to = length trace - length a.left }) t
+              ++ report_from n source (length trace) (k + 1) (accepted + length a.emitted) a.values a.left) from_is
+              ∙ ap (λ x. transition_lines source (k + 1) (record { from = at; to = x }) t
+              ++ report_from n source (length trace) (k + 1) (accepted + length a.emitted) a.values a.left) (sym takes.to_is)
+              ∙ ap (λ x. transition_lines source (k + 1) span t ++ x) rest.lines
+              ∙ sym (append_assoc (transition_lines source (k + 1) span t) (source_report source (k + 1 + 1) rest.spans rest.transitions) _)
+              ∙ ap (λ m. (transition_lines source (k + 1) span t ++ source_report source (k + 1 + 1) rest.spans rest.transitions)
+              ++ end_line rest.reason m (accepted + length a.emitted + sum_by (λ t. length t.emitted) rest.transitions) 0) made
+              ∙ ap (λ m. (transition_lines source (k + 1) span t ++ source_report source (k + 1 + 1) rest.spans rest.transitions)
+              ++ end_line rest.reason (k + suc (length rest.spans)) m 0) words;
         }
 
 pub mean_report_lem : (source : Source) (readings : List ℕ) → IsMeanReport source readings (mean_report 10000 source readings)
@@ -138,8 +138,8 @@ mean_report_lem source readings =
       run = report.run;
       ending = report.ending;
       lines = report.lines
-        ∙ ap (λ m. source_report source 1 report.spans report.transitions
-            ++ end_line report.reason m (0 + sum_by (λ t. length t.emitted) report.transitions) 0) (zero-add (length report.spans))
-        ∙ ap (λ m. source_report source 1 report.spans report.transitions
-            ++ end_line report.reason (length report.spans) m 0) (zero-add (sum_by (λ t. length t.emitted) report.transitions));
+          ∙ ap (λ m. source_report source 1 report.spans report.transitions
+          ++ end_line report.reason m (0 + sum_by (λ t. length t.emitted) report.transitions) 0) (zero-add (length report.spans))
+          ∙ ap (λ m. source_report source 1 report.spans report.transitions
+          ++ end_line report.reason (length report.spans) m 0) (zero-add (sum_by (λ t. length t.emitted) report.transitions));
     }

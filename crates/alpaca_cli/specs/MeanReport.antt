@@ -17,7 +17,7 @@ report_from zero source total k accepted values readings = end_line Limit k acce
 report_from (suc n) source total k accepted values readings =
     if_whole (attempt_of source values readings) (end_line Readings k accepted 0)
     (λ a. transition_lines source (k + 1) (record { from = total - length readings; to = total - length a.left })
-        (record { before = values; emitted = a.emitted; after = a.values })
+    (record { before = values; emitted = a.emitted; after = a.values })
     ++ report_from n source total (k + 1) (accepted + length a.emitted) a.values a.left)
 
 abbrev pub mean_report : ℕ → Source → List ℕ → List ℕ

@@ -130,9 +130,9 @@ impl Meaning {
     /// The shared words at their initial values, with nothing emitted.
     pub fn new(alloc: Global, program: &Program) -> Result<Meaning, AllocError>
         ensures { IfOk result (λ m. m ≡ record {
-            before = initial_values (source_of program.now);
-            emitted = [];
-            after = initial_values (source_of program.now);
+          before = initial_values (source_of program.now);
+          emitted = [];
+          after = initial_values (source_of program.now);
         }) }
     {
         Ok(Meaning {
@@ -163,7 +163,12 @@ impl Meaning {
     {
         self.attempt.copy_from_slice(&self.values);
         self.attempt_emitted.clear();
-        match run_body(&program.body, &mut self.attempt, &mut self.attempt_emitted, readings) {
+        match run_body(
+            &program.body,
+            &mut self.attempt,
+            &mut self.attempt_emitted,
+            readings,
+        ) {
             None => Err(Short),
             Some(left) => {
                 mem::swap(&mut self.before, &mut self.values);

@@ -53,6 +53,8 @@ pub fn tell_usage<E: Sink>(err: &mut E)
 {
     tell(
         err,
-        &[b"usage: alpaca mean SRC TRACE | try SRC TRACE IMAGE | build SRC IMAGE | run IMAGE TRACE | asm ASM IMAGE | dis IMAGE | gen N IMAGE\n"],
+        &[
+            b"usage: alpaca mean SRC TRACE | try SRC TRACE IMAGE | build SRC IMAGE | run IMAGE TRACE | asm ASM IMAGE | dis IMAGE | gen N IMAGE\n",
+        ],
     );
 }

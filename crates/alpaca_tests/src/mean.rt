@@ -4,11 +4,13 @@ use alpaca_cli::Status;
 use std::alloc::Global;
 use std::test::Fail;
 
-const SUM: &str = "shared unsigned n = 0; task a { n = n + sense(); emit(n); transition_to(a); } entry a;";
+const SUM: &str =
+    "shared unsigned n = 0; task a { n = n + sense(); emit(n); transition_to(a); } entry a;";
 
 const SUM_OF_5_7: &str = "t 1 a a 0 1\no 5\nv n 5\nt 2 a a 1 2\no 12\nv n 12\nend readings 2 2 0\n";
 
-const USAGE: &str = "usage: alpaca mean SRC TRACE | try SRC TRACE IMAGE | build SRC IMAGE | run IMAGE TRACE | asm ASM IMAGE | dis IMAGE | gen N IMAGE\n";
+const USAGE: &str =
+    "usage: alpaca mean SRC TRACE | try SRC TRACE IMAGE | build SRC IMAGE | run IMAGE TRACE | asm ASM IMAGE | dis IMAGE | gen N IMAGE\n";
 
 // `mean s t` on these two texts, with these calls failing.
 fn mean(alloc: Global, source: &str, trace: &str, failing_writes: &[u64]) -> Result<After, Fail> {
