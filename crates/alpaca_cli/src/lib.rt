@@ -1,0 +1,4 @@
+//! The program's command: a source text and a trace text of the first form, and what they mean.
+#![tactic(auto)]
+
+mod ast;
