@@ -2,3 +2,5 @@
 #![tactic(auto)]
 
 mod ast;
+mod text_fault;
+mod trace;
