@@ -2,5 +2,7 @@
 #![tactic(auto)]
 
 mod ast;
+mod lex;
 mod text_fault;
+mod token;
 mod trace;
