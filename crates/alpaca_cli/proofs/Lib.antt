@@ -1,2 +1,5 @@
 pub mod TraceLines
 pub mod Words
+pub mod Places
+pub mod Repeats
+pub mod Turns

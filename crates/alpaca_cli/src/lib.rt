@@ -3,6 +3,7 @@
 
 mod ast;
 mod lex;
+mod parse;
 mod text_fault;
 mod token;
 mod trace;
