@@ -2,8 +2,10 @@
 #![tactic(auto)]
 
 mod ast;
+mod check;
 mod lex;
 mod parse;
+mod source;
 mod text_fault;
 mod token;
 mod trace;
