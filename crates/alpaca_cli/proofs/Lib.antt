@@ -1,6 +1,13 @@
+pub mod TraceLines
+pub mod Words
+pub mod Places
+pub mod Counts
+pub mod Checks
+pub mod Repeats
+pub mod Turns
 pub mod Initial
-pub mod Outputs
 pub mod Readings
 pub mod ReportLines
 pub mod ReportSteps
 pub mod Spans
+pub mod Outputs

@@ -6,23 +6,27 @@ use Rattle.alp_io.specs.Sink.{AppendsProperPrefix}
 use Rattle.alpaca_cli.specs.declared.inputs.Failure.{Failure}
 use Rattle.alpaca_cli.specs.declared.inputs.Failure.TheVariants.{Refused, Unreadable, Write, Memory}
 use Rattle.alpaca_cli.specs.Source.{Source}
-use Rattle.alpaca_cli.specs.SourceText.{IsSource}
 use Rattle.alpaca_cli.specs.TraceText.{trace_readings}
 use Rattle.alpaca_cli.specs.MeanReport.{mean_report}
 use Rattle.alpaca_cli.specs.CommandLine.{FileNames}
-use Rattle.alpaca_cli.specs.Command.{Holds, Says, OfReport}
+use Rattle.alpaca_cli.specs.Command.{Holds, Says, SaysSource, IsNoSource, OfReport}
 use Rattle.alpaca_cli.specs.Failures.{FailsBy}
 use Rattle.alpaca_cli.proofs.Spans.{mean_report_lem}
 
+-- no text is of the first form and of another
+pub not_both : (text : List ℕ) (source : Source) → IsNoSource text → SaysSource text source → ⊥
+unfolding SaysSource IsNoSource
+not_both text source none said = none source said
+
 says : (files : Option Files) (names : FileNames) (source_text trace_text : List ℕ) (source : Source) (readings : List ℕ)
-    → IfSome files (λ f. Holds f names source_text trace_text) → IsSource source_text source → trace_readings trace_text ≡ Some readings
+    → IfSome files (λ f. Holds f names source_text trace_text) → SaysSource source_text source → trace_readings trace_text ≡ Some readings
     → IfSome files (λ f. Says f names source readings)
 says None names source_text trace_text source readings held s r = tt
 says (Some f) names source_text trace_text source readings held s r =
     record { source_text = source_text; trace_text = trace_text; held = held; source_said = s; readings_said = r }
 
 pub of_report : (P : List ℕ → Type 0) (files : Option Files) (names : FileNames) (source_text trace_text : List ℕ) (source : Source) (readings : List ℕ)
-    → IfSome files (λ f. Holds f names source_text trace_text) → IsSource source_text source → trace_readings trace_text ≡ Some readings
+    → IfSome files (λ f. Holds f names source_text trace_text) → SaysSource source_text source → trace_readings trace_text ≡ Some readings
     → P (mean_report 10000 source readings) → OfReport files names P
 of_report P files names source_text trace_text source readings held s r p = (
   source,

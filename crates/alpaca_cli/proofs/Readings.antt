@@ -1,9 +1,10 @@
 -- What is computed depends on the readings that are taken, and on no others.
 use Rattle.std.proofs.Common.{◌≡◌, ℕ, ◌+◌, ◌%◌, List, [], ◌∷◌, ◌++◌, refl, ap, sym, ◌∙◌, Option, Some, None, append_assoc, slice_index, slice_set, subst}
 use Rattle.alpaca_cli.specs.Source.{Expression, Statement, number, shared, sense, plus, assign, emit}
-use Rattle.alpaca_cli.specs.Meaning.{◌>>=◌, value_of, next_reading, Attempt, after, after_all}
+use Rattle.alpaca_cli.specs.Maybe.{◌>>?◌}
+use Rattle.alpaca_cli.specs.Meaning.{value_of, next_reading, Attempt, after, after_all}
 
-pub bind_some : {A B : Type 0} (o : Option A) (f : A → Option B) (y : B) → (o >>= f) ≡ Some y → (x : A) × (o ≡ Some x) × (f x ≡ Some y)
+pub bind_some : {A B : Type 0} (o : Option A) (f : A → Option B) (y : B) → (o >>? f) ≡ Some y → (x : A) × (o ≡ Some x) × (f x ≡ Some y)
 bind_some None f y e = cc
 bind_some (Some x) f y e = (x, refl, e)
 
@@ -40,9 +41,9 @@ value_takes (plus a b) values rs x e =
     record {
       used = one.used ++ two.used;
       front = one.front ∙ ap (λ t. one.used ++ t) (two.front ∙ ap (λ t. two.used ++ t) left) ∙ sym (append_assoc one.used two.used x.1);
-      same = λ more. ap (λ t. value_of a values t >>= λ y. value_of b values y.1 >>= λ z. Some ((y.0 + z.0) % 65536, z.1)) (append_assoc one.used two.used more)
-          ∙ ap (λ o. o >>= λ y. value_of b values y.1 >>= λ z. Some ((y.0 + z.0) % 65536, z.1)) (one.same (two.used ++ more))
-          ∙ ap (λ o. o >>= λ z. Some ((first.0.0 + z.0) % 65536, z.1)) (two.same more)
+      same = λ more. ap (λ t. value_of a values t >>? λ y. value_of b values y.1 >>? λ z. Some ((y.0 + z.0) % 65536, z.1)) (append_assoc one.used two.used more)
+          ∙ ap (λ o. o >>? λ y. value_of b values y.1 >>? λ z. Some ((y.0 + z.0) % 65536, z.1)) (one.same (two.used ++ more))
+          ∙ ap (λ o. o >>? λ z. Some ((first.0.0 + z.0) % 65536, z.1)) (two.same more)
           ∙ ap (λ w. Some (w, more)) v;
     }
 
@@ -60,7 +61,7 @@ step_uses (assign v e) s t h =
     subst (λ (x : Attempt). Uses (after (assign v e)) s x) end (record {
       used = taken.used;
       front = taken.front;
-      same = λ more. ap (λ o. o >>= λ x. Some (record { values = slice_set s.values v x.0; emitted = s.emitted; left = x.1 })) (taken.same more);
+      same = λ more. ap (λ o. o >>? λ x. Some (record { values = slice_set s.values v x.0; emitted = s.emitted; left = x.1 })) (taken.same more);
     })
 step_uses (emit e) s t h =
     let got = bind_some (value_of e s.values s.left) _ t h in
@@ -69,7 +70,7 @@ step_uses (emit e) s t h =
     subst (λ (x : Attempt). Uses (after (emit e)) s x) end (record {
       used = taken.used;
       front = taken.front;
-      same = λ more. ap (λ o. o >>= λ x. Some (record { values = s.values; emitted = s.emitted ++ x.0 ∷ []; left = x.1 })) (taken.same more);
+      same = λ more. ap (λ o. o >>? λ x. Some (record { values = s.values; emitted = s.emitted ++ x.0 ∷ []; left = x.1 })) (taken.same more);
     })
 
 pub body_uses : (body : List Statement) (s t : Attempt) → after_all body s ≡ Some t → Uses (after_all body) s t
@@ -83,6 +84,6 @@ body_uses (statement ∷ rest) s t h =
     record {
       used = one.used ++ two.used;
       front = one.front ∙ ap (λ x. one.used ++ x) two.front ∙ sym (append_assoc one.used two.used t.left);
-      same = λ more. ap (λ x. after statement (record { values = s.values; emitted = s.emitted; left = x }) >>= after_all rest) (append_assoc one.used two.used more)
-          ∙ ap (λ o. o >>= after_all rest) (one.same (two.used ++ more)) ∙ two.same more;
+      same = λ more. ap (λ x. after statement (record { values = s.values; emitted = s.emitted; left = x }) >>? after_all rest) (append_assoc one.used two.used more)
+          ∙ ap (λ o. o >>? after_all rest) (one.same (two.used ++ more)) ∙ two.same more;
     }

@@ -6,7 +6,8 @@ use Rattle.alp_io.specs.declared.report.Reason.{Reason}
 use Rattle.alp_io.specs.declared.report.Reason.TheVariants.{Readings, Limit}
 use Rattle.alp_io.specs.Report.{end_line}
 use Rattle.alpaca_cli.specs.Source.{Source}
-use Rattle.alpaca_cli.specs.Meaning.{◌>>=◌, Attempt, after_all, attempt_of, initial_values}
+use Rattle.alpaca_cli.specs.Maybe.{◌>>?◌}
+use Rattle.alpaca_cli.specs.Meaning.{Attempt, after_all, attempt_of, initial_values}
 use Rattle.alpaca_cli.specs.SourceRun.{Transition, exactly, transition_of, source_run, values_after}
 use Rattle.alpaca_cli.specs.SourceReport.{Span, transition_lines, source_report, readings_of, IsConsecutive, position_after, IsEnding, IsMeanReport}
 use Rattle.alpaca_cli.specs.MeanReport.{report_from, mean_report}
@@ -98,10 +99,10 @@ from_here (suc n) source trace k accepted at values left h e =
         let from_is : length trace - length left ≡ at = omega (arith, length-drop at trace, ap length e) in
         let whole : attempt_of source values (readings_of trace span) ≡ Some (record { values = a.values; emitted = a.emitted; left = [] })
         = ap (attempt_of source values) takes.taken ∙ uses.same [] in
-        let one : transition_of source values (readings_of trace span) ≡ Some t = ap (λ x. x >>= exactly values) whole in
+        let one : transition_of source values (readings_of trace span) ≡ Some t = ap (λ x. x >>? exactly values) whole in
         let run : source_run source values (readings_of trace span ∷ map (readings_of trace) rest.spans) ≡ Some (t ∷ rest.transitions)
-        = ap (λ x. x >>= λ u. source_run source u.after (map (readings_of trace) rest.spans) >>= λ ts. Some (u ∷ ts)) one
-        ∙ ap (λ x. x >>= λ ts. Some (t ∷ ts)) rest.run in
+        = ap (λ x. x >>? λ u. source_run source u.after (map (readings_of trace) rest.spans) >>? λ ts. Some (u ∷ ts)) one
+        ∙ ap (λ x. x >>? λ ts. Some (t ∷ ts)) rest.run in
         let made : k + 1 + length rest.spans ≡ k + suc (length rest.spans) = omega arith in
         let more : sum_by (λ t. length t.emitted) (t ∷ rest.transitions) ≡ length a.emitted + sum_by (λ t. length t.emitted) rest.transitions
         = sum_by-cons (λ t. length t.emitted) t rest.transitions in

@@ -6,10 +6,18 @@ use Rattle.alp_io.specs.Report.{texts}
 use Rattle.alp_io.specs.Shelf.{Files, Counts}
 use Rattle.alp_io.specs.Sink.{AppendsProperPrefix}
 use Rattle.alpaca_cli.specs.Source.{Source}
-use Rattle.alpaca_cli.specs.SourceText.{IsSource}
+use Rattle.alpaca_cli.specs.FirstForm.{IsSource}
 use Rattle.alpaca_cli.specs.TraceText.{trace_readings}
 use Rattle.alpaca_cli.specs.SourceReport.{IsMeanReport}
 use Rattle.alpaca_cli.specs.CommandLine.{FileNames}
+
+-- the text is of the first form, and says this source
+unfoldable pub SaysSource : List ℕ → Source → Type 0
+SaysSource text source = IsSource text source
+
+-- the text is of another form
+unfoldable pub IsNoSource : List ℕ → Type 0
+IsNoSource text = (source : Source) → IsSource text source → ⊥
 
 -- a file is there, with at most 1,048,576 bytes
 abbrev pub Fits : Files → List ℕ → Type 0
@@ -27,11 +35,8 @@ pub record Says (files : Files) (names : FileNames) (source : Source) (readings 
   pub source_text : List ℕ
   pub trace_text : List ℕ
   pub held : Holds files names source_text trace_text
-  pub source_said : IsSource source_text source
+  pub source_said : SaysSource source_text source
   pub readings_said : trace_readings trace_text ≡ Some readings
-
-abbrev pub IsNoSource : List ℕ → Type 0
-IsNoSource text = (source : Source) → IsSource text source → ⊥
 
 -- both files are there and fit, and the source's text isn't of its form
 pub record RefusesSource (files : Files) (names : FileNames) : Type 0 where
@@ -46,7 +51,7 @@ pub record RefusesTrace (files : Files) (names : FileNames) : Type 0 where
   pub trace_text : List ℕ
   pub source : Source
   pub held : Holds files names source_text trace_text
-  pub source_said : IsSource source_text source
+  pub source_said : SaysSource source_text source
   pub refused : trace_readings trace_text ≡ None
 
 -- NAME is that of the first text, in order, that isn't of its form, as far as the files are told

@@ -69,6 +69,7 @@ fn name_of<'n>(file: InputFile, source: &'n str, trace: &'n str) -> &'n str
 
 /// Runs the program on its words, without its own name: `mean SRC TRACE` writes to `out` the report of the source's
 /// meaning on the trace's readings. Every other answer than `Done` writes its one line to `err`.
+#[tactic(auto, using(crate::proofs::Outputs::not_both))]
 pub fn alpaca<H: Shelf, O: Sink, E: Sink>(
     alloc: Global,
     words: &[String],

@@ -2,13 +2,14 @@
 ghost use Rattle.std.specs.Prelude.{◌≡◌, count_by, ◌≤◌, ◌⊎◌, IfOk, IfErr, IfSome, IsErrOf, Some, None, length, vec_len};
 ghost use Rattle.alp_io.specs.Shelf.{NeverFall};
 ghost use Rattle.alpaca_cli.specs.Source.{Source, source_of};
-ghost use Rattle.alpaca_cli.specs.Meaning.{is_emit};
-ghost use Rattle.alpaca_cli.specs.SourceText.{IsSource};
+ghost use Rattle.alpaca_cli.specs.FirstForm.{is_emit};
 ghost use Rattle.alpaca_cli.specs.TraceText.{trace_readings};
-ghost use Rattle.alpaca_cli.specs.Command.{Holds, IsNoSource, CannotRead, Fits};
+ghost use Rattle.alpaca_cli.specs.Command.{Holds, SaysSource, IsNoSource, CannotRead, Fits};
 
 use crate::ast::Program;
-use crate::texts::{TextFault, read_source, read_trace};
+use crate::text_fault::TextFault;
+use crate::texts::read_source;
+use crate::trace::read_trace;
 use alp_io::{ReadFault, Shelf};
 use std::alloc::Global;
 
@@ -95,7 +96,7 @@ pub fn read_texts<H: Shelf>(
 }
 
 fn program_of(alloc: Global, text: &[u8]) -> Result<Program, Failure>
-    ensures said { IfOk result (λ p. IsSource text.now (source_of p)) }
+    ensures said { IfOk result (λ p. SaysSource text.now (source_of p)) }
     ensures emits { IfOk result (λ p. count_by is_emit (source_of p).body ≤ 256) }
     ensures only { IfErr result (λ e. (e ≡ Failure.Memory) ⊎ (e ≡ Failure.Refused InputFile.Source)) }
     ensures refused { IsErrOf result (Failure.Refused InputFile.Source) → IsNoSource text.now }
@@ -122,14 +123,14 @@ fn readings_of(alloc: Global, text: &[u8]) -> Result<Vec<u16>, Failure>
 
 /// What the texts say. `Refused` for the first, in order, that is not of its form, or `Memory`.
 pub fn inputs_of(alloc: Global, texts: &Texts) -> Result<Inputs, Failure>
-    ensures source_said { IfOk result (λ x. IsSource texts.now.source.items (source_of x.program)) }
+    ensures source_said { IfOk result (λ x. SaysSource texts.now.source.items (source_of x.program)) }
     ensures readings_said { IfOk result (λ x. trace_readings texts.now.trace.items ≡ Some x.readings.items) }
     ensures emits { IfOk result (λ x. count_by is_emit (source_of x.program).body ≤ 256) }
     ensures few { IfOk result (λ x. vec_len x.readings ≤ 262144) }
     ensures only { IfErr result (λ e. (e ≡ Failure.Memory) ⊎ ((e ≡ Failure.Refused InputFile.Source) ⊎ (e ≡ Failure.Refused InputFile.Trace))) }
     ensures no_source { IsErrOf result (Failure.Refused InputFile.Source) → IsNoSource texts.now.source.items }
     ensures no_trace { IsErrOf result (Failure.Refused InputFile.Trace) →
-        ((source : Source) × IsSource texts.now.source.items source) × (trace_readings texts.now.trace.items ≡ None) }
+        ((source : Source) × SaysSource texts.now.source.items source) × (trace_readings texts.now.trace.items ≡ None) }
 {
     let program = program_of(alloc, &texts.source)?;
     let readings = readings_of(alloc, &texts.trace)?;

@@ -2,15 +2,22 @@
 #![tactic(auto)]
 
 mod ast;
+mod check;
 mod command;
 mod examples;
 mod inputs;
+mod lex;
 mod meaning;
 mod messages;
 mod output;
+mod parse;
 mod report;
+mod source;
 mod status;
+mod text_fault;
 mod texts;
+mod token;
+mod trace;
 
 pub use command::alpaca;
 pub use examples::worked_rows;

@@ -2,7 +2,8 @@
 ghost use Rattle.std.specs.Prelude.{◌≡◌, count_by, ◌+◌, ◌≤◌, IfSome, IfNone, IfOk, OnSome, OnOk, OnErr, [], ◌∷◌, slice_set, length, map, Some, None, vec_len, vec_capacity};
 ghost use Rattle.std.specs.Option.{option_map};
 ghost use Rattle.alpaca_cli.specs.Source.{expression_of, statement_of, source_of};
-ghost use Rattle.alpaca_cli.specs.Meaning.{value_of, after, after_all, attempt_of, Attempt, is_emit, initial_values};
+ghost use Rattle.alpaca_cli.specs.FirstForm.{is_emit};
+ghost use Rattle.alpaca_cli.specs.Meaning.{value_of, after, after_all, attempt_of, Attempt, initial_values};
 
 use crate::ast::{Expr, Program, Stmt, Variable};
 use std::alloc::{AllocError, Global};

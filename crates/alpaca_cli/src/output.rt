@@ -4,7 +4,8 @@ ghost use Rattle.std.specs.Io.KnownBytes.{Appends};
 ghost use Rattle.alp_io.specs.Count.{Rose, HasCause};
 ghost use Rattle.alp_io.specs.Sink.{AppendsProperPrefix, Writes};
 ghost use Rattle.alpaca_cli.specs.Source.{source_of};
-ghost use Rattle.alpaca_cli.specs.Meaning.{is_emit, initial_values};
+ghost use Rattle.alpaca_cli.specs.FirstForm.{is_emit};
+ghost use Rattle.alpaca_cli.specs.Meaning.{initial_values};
 ghost use Rattle.alpaca_cli.specs.MeanReport.{mean_report};
 
 use crate::inputs::{Failure, Inputs};

@@ -3,7 +3,8 @@ ghost use Rattle.std.specs.Prelude.{◌≡◌, count_by, ◌+◌, ◌≤◌, ◌
 ghost use Rattle.alp_io.specs.Count.{HasCause};
 ghost use Rattle.alp_io.specs.Sink.{Writes};
 ghost use Rattle.alpaca_cli.specs.Source.{source_of, variable_of};
-ghost use Rattle.alpaca_cli.specs.Meaning.{is_emit, initial_values};
+ghost use Rattle.alpaca_cli.specs.FirstForm.{is_emit};
+ghost use Rattle.alpaca_cli.specs.Meaning.{initial_values};
 ghost use Rattle.alpaca_cli.specs.SourceReport.{emitted_lines, change_line, change_lines, transition_lines};
 ghost use Rattle.alpaca_cli.specs.MeanReport.{mean_report};
 
