@@ -5,3 +5,9 @@ pub mod Counts
 pub mod Checks
 pub mod Repeats
 pub mod Turns
+pub mod Sound
+pub mod Complete
+pub mod Narrow
+pub mod Whole
+pub mod Numbers
+pub mod Answer
