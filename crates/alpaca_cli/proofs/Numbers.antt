@@ -42,4 +42,4 @@ statements_known vs ws body rest (one_more _ front us x _ i h) = known_more (len
 pub source_known : (text : List ℕ) (p : Program) → IsSource text (source_of p) → AreKnown (length p.shared.items) (map statement_of p.body.items)
 source_known text p h =
     subst (λ n. AreKnown n (map statement_of p.body.items)) (length-map p.shared.items variable_of)
-        (statements_known (map variable_of p.shared.items) h.program.inner (map statement_of p.body.items) _ h.program.stated)
+    (statements_known (map variable_of p.shared.items) h.program.inner (map statement_of p.body.items) _ h.program.stated)

@@ -66,7 +66,7 @@ term_sound vs (symbol t ∷ ws) x e = go (same_symbol t s.Sense) refl e
         let f : Some (tree.sense, q.value) ≡ Some x = q.then_ in
         let same : (tree.sense, q.value) ≡ x = cc in
         let text : symbol t ∷ ws ≡ symbol s.Sense ∷ symbol s.Open ∷ symbol s.Close ∷ q.value =
-            ap (λ y. symbol y ∷ ws) (same_is t s.Sense is) ∙ ap (λ y. symbol s.Sense ∷ y) (expect_is s.Open ws p.value p.given ∙ ap (λ y. symbol s.Open ∷ y) (expect_is s.Close p.value q.value q.given)) in
+        ap (λ y. symbol y ∷ ws) (same_is t s.Sense is) ∙ ap (λ y. symbol s.Sense ∷ y) (expect_is s.Open ws p.value p.given ∙ ap (λ y. symbol s.Open ∷ y) (expect_is s.Close p.value q.value q.given)) in
         subst (λ (y : Expression × List Word). IsTerm vs (symbol t ∷ ws) y.0 y.1) same (subst (λ y. IsTerm vs y tree.sense q.value) (sym text) (a_reading q.value))
     go false is e = cc
 term_sound vs (other ∷ ws) x e = cc
@@ -84,7 +84,7 @@ sum_sound vs ws x e =
         let f : Some (tree.plus a t.value.0, t.value.1) ≡ Some (y, rs) = t.then_ in
         let same : (tree.plus a t.value.0, t.value.1) ≡ (y, rs) = cc in
         subst (λ (p : Expression × List Word). IsSum vs ws p.0 p.1) same
-            (more ws a b.rest t.value.0 t.value.1 (subst (IsSum vs ws a) (expect_is s.Plus us b.rest b.given) i) (term_sound vs b.rest t.value t.given))
+        (more ws a b.rest t.value.0 t.value.1 (subst (IsSum vs ws a) (expect_is s.Plus us b.rest b.given) i) (term_sound vs b.rest t.value t.given))
 
 assign_sound : (vs : List SharedVariable) (y : List ℕ) (ws : List Word) (x : Statement × List Word) → assign_at vs y ws ≡ Some x → IsStatement vs (name y ∷ ws) x.0 x.1
 unfolding assign_at
@@ -97,7 +97,7 @@ assign_sound vs y ws x e =
     let same : (tree.assign v.value a.value.0, q.value) ≡ x = cc in
     let sum = subst (IsSum vs r.value a.value.0) (expect_is s.Semicolon a.value.1 q.value q.given) (sum_sound vs r.value a.value a.given) in
     subst (λ (p : Statement × List Word). IsStatement vs (name y ∷ ws) p.0 p.1) same
-        (subst (λ us. IsStatement vs (name y ∷ us) (tree.assign v.value a.value.0) q.value) (sym (expect_is s.Equals ws r.value r.given)) (assigned y v.value r.value a.value.0 q.value v.given sum))
+    (subst (λ us. IsStatement vs (name y ∷ us) (tree.assign v.value a.value.0) q.value) (sym (expect_is s.Equals ws r.value r.given)) (assigned y v.value r.value a.value.0 q.value v.given sum))
 
 emit_sound : (vs : List SharedVariable) (ws : List Word) (x : Statement × List Word) → emit_at vs ws ≡ Some x → IsStatement vs (symbol s.Emit ∷ ws) x.0 x.1
 unfolding emit_at
@@ -111,7 +111,7 @@ emit_sound vs ws x e =
     let behind : a.value.1 ≡ symbol s.Close ∷ symbol s.Semicolon ∷ q.value = expect_is s.Close a.value.1 p.value p.given ∙ ap (λ z. symbol s.Close ∷ z) (expect_is s.Semicolon p.value q.value q.given) in
     let sum = subst (IsSum vs r.value a.value.0) behind (sum_sound vs r.value a.value a.given) in
     subst (λ (y : Statement × List Word). IsStatement vs (symbol s.Emit ∷ ws) y.0 y.1) same
-        (subst (λ us. IsStatement vs (symbol s.Emit ∷ us) (tree.emit a.value.0) q.value) (sym (expect_is s.Open ws r.value r.given)) (emitted r.value a.value.0 q.value sum))
+    (subst (λ us. IsStatement vs (symbol s.Emit ∷ us) (tree.emit a.value.0) q.value) (sym (expect_is s.Open ws r.value r.given)) (emitted r.value a.value.0 q.value sum))
 
 pub statement_sound : (vs : List SharedVariable) (ws : List Word) (x : Statement × List Word) → statement_at vs ws ≡ Some x → IsStatement vs ws x.0 x.1
 unfolding statement_at
@@ -148,11 +148,11 @@ one_sound ws vs us rest d g e i =
     let f : Some (v, r.value) ≡ Some d = r.then_ in
     let same : (v, r.value) ≡ d = cc in
     let text : us ≡ symbol s.Shared ∷ symbol s.Unsigned ∷ name y.value.0 ∷ symbol s.Equals ∷ number n.value.0 ∷ symbol s.Semicolon ∷ r.value =
-        expect_is s.Shared us rest g ∙ ap (λ z. symbol s.Shared ∷ z) (expect_is s.Unsigned rest p.value p.given
-        ∙ ap (λ z. symbol s.Unsigned ∷ z) (name_is p.value y.value y.given ∙ ap (λ z. name y.value.0 ∷ z) (expect_is s.Equals y.value.1 q.value q.given
-        ∙ ap (λ z. symbol s.Equals ∷ z) (number_is q.value n.value n.given ∙ ap (λ z. number n.value.0 ∷ z) (expect_is s.Semicolon n.value.1 r.value r.given))))) in
+    expect_is s.Shared us rest g ∙ ap (λ z. symbol s.Shared ∷ z) (expect_is s.Unsigned rest p.value p.given
+    ∙ ap (λ z. symbol s.Unsigned ∷ z) (name_is p.value y.value y.given ∙ ap (λ z. name y.value.0 ∷ z) (expect_is s.Equals y.value.1 q.value q.given
+    ∙ ap (λ z. symbol s.Equals ∷ z) (number_is q.value n.value n.given ∙ ap (λ z. number n.value.0 ∷ z) (expect_is s.Semicolon n.value.1 r.value r.given))))) in
     subst (λ (z : SharedVariable × List Word). AreDeclarations ws (vs ++ z.0 ∷ []) z.1) same
-        (one_declared ws vs y.value.0 n.value.0 r.value (subst (AreDeclarations ws vs) text i))
+    (one_declared ws vs y.value.0 n.value.0 r.value (subst (AreDeclarations ws vs) text i))
 
 pub declarations_sound : (ws : List Word) (x : List SharedVariable × List Word) → declarations_on [] ws ≡ Some x → AreDeclarations ws x.0 x.1
 declarations_sound ws x e = repeat_keeps declaration_turn (AreDeclarations ws) (record { kept = kept }) [] ws x e (none_declared ws)

@@ -110,11 +110,15 @@ task_sound vs ws source e =
     let o = only _ _ source n.then_ in
     let checks = both (are_good_names vs t.value.0 g.value.0 n.value) (nat_le (count_by is_emit b.value.0) 256) o.test in
     let tail = transition_is b.value.1 g.value g.given
-        ∙ ap (λ z. symbol s.TransitionTo ∷ symbol s.Open ∷ name g.value.0 ∷ symbol s.Close ∷ symbol s.Semicolon ∷ symbol s.CloseBlock ∷ z) (entry_is g.value.1 n.value n.given) in
+    ∙ ap (λ z. symbol s.TransitionTo ∷ symbol s.Open ∷ name g.value.0 ∷ symbol s.Close ∷ symbol s.Semicolon ∷ symbol s.CloseBlock ∷ z) (entry_is g.value.1 n.value n.given) in
     let tree : Source = record { task = t.value.0; variables = vs; body = b.value.0 } in
     let f : Some tree ≡ Some source = o.given in
     record {
-      inner = t.value.1; task = t.value.0; body = b.value.0; goes_to = g.value.0; enters = n.value;
+      inner = t.value.1;
+      task = t.value.0;
+      body = b.value.0;
+      goes_to = g.value.0;
+      enters = n.value;
       text = task_is ws t.value t.given;
       stated = subst (AreStatements vs t.value.1 b.value.0) tail (statements_sound vs t.value.1 b.value b.given);
       names = good_names vs t.value.0 g.value.0 n.value checks.0;
@@ -133,7 +137,8 @@ source_sound text source e =
     let t = task_sound d.value.0 d.value.1 source c.given in
     let tree : Source = record { task = t.task; variables = d.value.0; body = t.body } in
     let whole : IsSource text tree = record {
-      goes_to = t.goes_to; enters = t.enters;
+      goes_to = t.goes_to;
+      enters = t.enters;
       program = record { inner = t.inner; declared = subst (AreDeclarations ws d.value.0) t.text (declarations_sound ws d.value d.given); stated = t.stated };
       narrow = narrow_sound ws o.test;
       variables_differ = different_sound d.value.0 checks.1;
@@ -148,7 +153,7 @@ source_sound text source e =
 -- ---- what is of the form is read
 
 tail_reads : (goes_to enters : List ℕ) → (transition_at
-      (symbol s.TransitionTo ∷ symbol s.Open ∷ name goes_to ∷ symbol s.Close ∷ symbol s.Semicolon ∷ symbol s.CloseBlock ∷ symbol s.Entry ∷ name enters ∷ symbol s.Semicolon ∷ [])
+    (symbol s.TransitionTo ∷ symbol s.Open ∷ name goes_to ∷ symbol s.Close ∷ symbol s.Semicolon ∷ symbol s.CloseBlock ∷ symbol s.Entry ∷ name enters ∷ symbol s.Semicolon ∷ [])
     ≡ Some (goes_to, symbol s.Entry ∷ name enters ∷ symbol s.Semicolon ∷ [])) × (entry_at (symbol s.Entry ∷ name enters ∷ symbol s.Semicolon ∷ []) ≡ Some enters)
 unfolding transition_at entry_at expect same_symbol name_at
 tail_reads goes_to enters = (refl, refl)
@@ -172,7 +177,7 @@ names_good vs task goes_to enters a b c =
 
 task_complete : (vs : List SharedVariable) (inner : List Word) (body : List Statement) (task goes_to enters : List ℕ)
     → AreStatements vs inner body
-      (symbol s.TransitionTo ∷ symbol s.Open ∷ name goes_to ∷ symbol s.Close ∷ symbol s.Semicolon ∷ symbol s.CloseBlock ∷ symbol s.Entry ∷ name enters ∷ symbol s.Semicolon ∷ [])
+    (symbol s.TransitionTo ∷ symbol s.Open ∷ name goes_to ∷ symbol s.Close ∷ symbol s.Semicolon ∷ symbol s.CloseBlock ∷ symbol s.Entry ∷ name enters ∷ symbol s.Semicolon ∷ [])
     → are_good_names vs task goes_to enters ≡ true → count_by is_emit body ≤ 256
     → task_with vs (symbol s.Task ∷ name task ∷ symbol s.OpenBlock ∷ inner) ≡ Some (record { task = task; variables = vs; body = body })
 task_complete vs inner body task goes_to enters stated good few =
@@ -181,10 +186,10 @@ task_complete vs inner body task goes_to enters stated good few =
     let tree : Source = record { task = task; variables = vs; body = body } in
     let reads = tail_reads goes_to enters in
     ap (λ o. o >>? λ t. statements_on vs [] t.1 >>? λ b. transition_at b.1 >>? λ g. entry_at g.1 >>? λ e.
-        only_if (are_good_names vs t.0 g.0 e && nat_le (count_by is_emit b.0) 256) (Some (record { task = t.0; variables = vs; body = b.0 }))) (task_reads task inner)
+    only_if (are_good_names vs t.0 g.0 e && nat_le (count_by is_emit b.0) 256) (Some (record { task = t.0; variables = vs; body = b.0 }))) (task_reads task inner)
     ∙ ap (λ o. o >>? λ b. transition_at b.1 >>? λ g. entry_at g.1 >>? λ e.
-        only_if (are_good_names vs task g.0 e && nat_le (count_by is_emit b.0) 256) (Some (record { task = task; variables = vs; body = b.0 })))
-        (statements_read vs inner body (symbol s.TransitionTo ∷ us) stated ∙ statements_stop vs body (symbol s.TransitionTo ∷ us) us (transition_next us))
+    only_if (are_good_names vs task g.0 e && nat_le (count_by is_emit b.0) 256) (Some (record { task = task; variables = vs; body = b.0 })))
+    (statements_read vs inner body (symbol s.TransitionTo ∷ us) stated ∙ statements_stop vs body (symbol s.TransitionTo ∷ us) us (transition_next us))
     ∙ ap (λ o. o >>? λ g. entry_at g.1 >>? λ e. only_if (are_good_names vs task g.0 e && nat_le (count_by is_emit body) 256) (Some tree)) reads.0
     ∙ ap (λ o. o >>? λ e. only_if (are_good_names vs task goes_to e && nat_le (count_by is_emit body) 256) (Some tree)) reads.1
     ∙ ap (λ b. only_if (b && nat_le (count_by is_emit body) 256) (Some tree)) good
@@ -200,7 +205,7 @@ source_complete text source h =
     let variables : are_good_variables vs ≡ true = ap (λ b. b && are_different vs) (is_at_most (length vs) 256 h.few_variables) ∙ different_complete vs h.variables_differ in
     ap (λ b. only_if b (declarations_on [] ws >>? λ d. only_if (are_good_variables d.0) (task_with d.0 d.1))) (narrow_complete ws h.narrow)
     ∙ ap (λ o. o >>? λ d. only_if (are_good_variables d.0) (task_with d.0 d.1))
-        (declarations_read ws vs (symbol s.Task ∷ us) h.program.declared ∙ declarations_stop vs (symbol s.Task ∷ us) (no_shared us))
+    (declarations_read ws vs (symbol s.Task ∷ us) h.program.declared ∙ declarations_stop vs (symbol s.Task ∷ us) (no_shared us))
     ∙ ap (λ b. only_if b (task_with vs (symbol s.Task ∷ us))) variables
     ∙ task_complete vs h.program.inner source.body source.task h.goes_to h.enters h.program.stated good h.few_emits
 

@@ -3,6 +3,8 @@
 
 mod ast;
 mod check;
+#[cfg(test)]
+mod forms_tests;
 mod lex;
 mod parse;
 mod source;

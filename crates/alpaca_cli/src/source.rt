@@ -64,7 +64,9 @@ fn task_with(alloc: Global, shared: Vec<Variable>, text: &[u8]) -> Result<Progra
     let (body, rest) = statements(alloc, shared.as_slice(), rest)?;
     let (goes_to, rest) = transition(rest)?;
     let enters = entry(rest)?;
-    if !are_good_names(shared.as_slice(), task, goes_to, enters) || !are_few_emits(body.as_slice()) {
+    if !are_good_names(shared.as_slice(), task, goes_to, enters)
+        || !are_few_emits(body.as_slice())
+    {
         return Err(TextFault::NotYet);
     }
     let task = Vec::from_slice(alloc, task)?;
