@@ -41,7 +41,7 @@ pub different_at : (vs : List Variable) (i : ℕ) (v : Variable) (name : List �
 different_at vs i v name o h e n f =
     let split : drop i vs ≡ v ∷ drop (i + 1) vs = grind (arith, drop-cons vs i v) in
     let rest : place_of (map variable_of (drop (i + 1) vs)) v.name.items ≡ o =
-        ap (λ x. place_of (map variable_of (drop (i + 1) vs)) x) (sym n) ∙ ap (λ x. place_of (map variable_of x) name) (sym (take_rest vs (i + 1))) ∙ sym f in
+    ap (λ x. place_of (map variable_of (drop (i + 1) vs)) x) (sym n) ∙ ap (λ x. place_of (map variable_of x) name) (sym (take_rest vs (i + 1))) ∙ sym f in
     different_front vs i v split ∙ ap (λ x. is_none x && are_different (map variable_of (drop (i + 1) vs))) rest
 
 pub different_end : (vs : List Variable) (i : ℕ) → length vs ≤ i → are_different (map variable_of (drop i vs)) ≡ true

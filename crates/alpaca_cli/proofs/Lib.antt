@@ -5,6 +5,12 @@ pub mod Counts
 pub mod Checks
 pub mod Repeats
 pub mod Turns
+pub mod Sound
+pub mod Complete
+pub mod Narrow
+pub mod Whole
+pub mod Numbers
+pub mod Answer
 pub mod Initial
 pub mod Readings
 pub mod ReportLines

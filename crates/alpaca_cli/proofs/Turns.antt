@@ -204,8 +204,14 @@ declaration_less ws x e =
     let r = bound (expect s.Semicolon n.value.1) _ x n.then_ in
     let v : SharedVariable = record { name = y.value.0; initial = n.value.0 } in
     let same = same_rest v r.value x r.then_ in
-    rw (← same) (omega (arith, expect_less s.Unsigned ws p.value p.given, name_less p.value y.value y.given, expect_less s.Equals y.value.1 q.value q.given,
-      number_less q.value n.value n.given, expect_less s.Semicolon n.value.1 r.value r.given))
+    rw (← same) (omega (
+      arith,
+      expect_less s.Unsigned ws p.value p.given,
+      name_less p.value y.value y.given,
+      expect_less s.Equals y.value.1 q.value q.given,
+      number_less q.value n.value n.given,
+      expect_less s.Semicolon n.value.1 r.value r.given,
+    ))
 
 pub declaration_read : (vs : List SharedVariable) (ws : List Word) (y : List SharedVariable) (us : List Word) → declaration_turn vs ws ≡ again y us
     → Behind (expect s.Shared ws) (λ r. declaration_at r >>? λ d. Some (vs ++ d.0 ∷ [], d.1)) y us

@@ -52,7 +52,7 @@ pub record IsProgram (ws : List Word) (source : Source) (goes_to enters : List �
   pub declared : AreDeclarations ws source.variables (symbol s.Task ∷ name source.task ∷ symbol s.OpenBlock ∷ inner)
   pub stated : AreStatements source.variables inner source.body
       (symbol s.TransitionTo ∷ symbol s.Open ∷ name goes_to ∷ symbol s.Close ∷ symbol s.Semicolon ∷ symbol s.CloseBlock
-        ∷ symbol s.Entry ∷ name enters ∷ symbol s.Semicolon ∷ [])
+      ∷ symbol s.Entry ∷ name enters ∷ symbol s.Semicolon ∷ [])
 
 -- `;`, `{` or `}`
 abbrev pub ends_row : Word → Bool

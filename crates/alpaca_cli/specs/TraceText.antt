@@ -4,7 +4,8 @@ use Rattle.std.specs.Str.{bytes_eq}
 use Rattle.alp_text.specs.Numbers.{number_of}
 use Rattle.alp_text.specs.declared.numbers.NumberFault.{NumberFault}
 use Rattle.text_parts.specs.Lines.{lines}
-use Rattle.text_parts.specs.Fields.{fields, before}
+use Rattle.text_parts.specs.Fields.{fields}
+use Rattle.text_parts.specs.Lengths.{before}
 use Rattle.alpaca_cli.specs.Maybe.{◌>>?◌}
 
 abbrev pub as_word : Result ℕ NumberFault → Option ℕ
@@ -31,7 +32,7 @@ begins_with_r (b ∷ bs) = b == 114
 
 -- the readings of a line: it begins with `r`, and `#` begins a comment
 unfoldable pub line_readings : List ℕ → Option (List ℕ)
-line_readings line = if begins_with_r line then readings_of_fields (fields (before 35 line)) else None
+line_readings line = if begins_with_r line then readings_of_fields (fields (before (λ b. b == 35) line)) else None
 
 -- the readings of all lines, in order
 unfoldable pub lines_readings : List (List ℕ) → Option (List ℕ)

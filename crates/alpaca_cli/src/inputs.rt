@@ -7,8 +7,8 @@ ghost use Rattle.alpaca_cli.specs.TraceText.{trace_readings};
 ghost use Rattle.alpaca_cli.specs.Command.{Holds, SaysSource, IsNoSource, CannotRead, Fits};
 
 use crate::ast::Program;
+use crate::source::read_source;
 use crate::text_fault::TextFault;
-use crate::texts::read_source;
 use crate::trace::read_trace;
 use alp_io::{ReadFault, Shelf};
 use std::alloc::Global;

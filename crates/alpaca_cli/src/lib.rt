@@ -5,6 +5,8 @@ mod ast;
 mod check;
 mod command;
 mod examples;
+#[cfg(test)]
+mod forms_tests;
 mod inputs;
 mod lex;
 mod meaning;
@@ -15,7 +17,6 @@ mod report;
 mod source;
 mod status;
 mod text_fault;
-mod texts;
 mod token;
 mod trace;
 

@@ -1,10 +1,11 @@
 //! The reader of source texts of the first form.
 
-ghost use Rattle.std.specs.Prelude.{◌≡◌, ◌≤◌, length, map, count_by, IfOk, IsErrOf};
+ghost use Rattle.std.specs.Prelude.{◌≡◌, ◌≤◌, length, map, IfOk, IsErrOf};
 ghost use Rattle.alpaca_cli.specs.Maybe.{Gives};
-ghost use Rattle.alpaca_cli.specs.Source.{Source, source_of, variable_of};
+ghost use Rattle.alpaca_cli.specs.Source.{Source, source_of, statement_of, variable_of};
+ghost use Rattle.alpaca_cli.specs.Known.{AreKnown};
 ghost use Rattle.alpaca_cli.specs.Tokens.{words_of};
-ghost use Rattle.alpaca_cli.specs.FirstForm.{IsSource, is_emit};
+ghost use Rattle.alpaca_cli.specs.FirstForm.{IsSource};
 ghost use Rattle.alpaca_cli.specs.Reading as reading;
 
 use crate::ast::{Program, Variable};
@@ -63,7 +64,9 @@ fn task_with(alloc: Global, shared: Vec<Variable>, text: &[u8]) -> Result<Progra
     let (body, rest) = statements(alloc, shared.as_slice(), rest)?;
     let (goes_to, rest) = transition(rest)?;
     let enters = entry(rest)?;
-    if !are_good_names(shared.as_slice(), task, goes_to, enters) || !are_few_emits(body.as_slice()) {
+    if !are_good_names(shared.as_slice(), task, goes_to, enters)
+        || !are_few_emits(body.as_slice())
+    {
         return Err(TextFault::NotYet);
     }
     let task = Vec::from_slice(alloc, task)?;
@@ -82,4 +85,20 @@ fn read_words(alloc: Global, text: &[u8]) -> Result<Program, TextFault>
         return Err(TextFault::NotYet);
     }
     task_with(alloc, shared, rest)
+}
+
+/// The program that a source text of the first form is.
+///
+/// Its variables and emits are at most 256 each, and each variable's number in its body is below their count.
+///
+/// # Errors
+/// `NotYet` exactly where the text is of another form; `Memory` where memory runs out.
+pub fn read_source(alloc: Global, text: &[u8]) -> Result<Program, TextFault>
+    ensures said { IfOk result (λ p. IsSource text.now (source_of p)) }
+    ensures one { (a b : Source) → IsSource text.now a → IsSource text.now b → a ≡ b }
+    ensures few { IfOk result (λ p. length p.shared.items ≤ 256) }
+    ensures known { IfOk result (λ p. AreKnown (length p.shared.items) (map statement_of p.body.items)) }
+    ensures refused { IsErrOf result TextFault.NotYet → (source : Source) → IsSource text.now source → ⊥ }
+{
+    read_words(alloc, text)
 }
