@@ -1,5 +1,5 @@
 -- What the reader of sources answers.
-use Rattle.std.proofs.Common.{◌≡◌, ◌≤◌, ◌∙◌, ℕ, List, length, map, sym, subst, Option, Some, None, Result, Ok, Err, IfOk, IsErrOf}
+use Rattle.std.proofs.Common.{◌≡◌, ◌≤◌, ◌∙◌, ℕ, List, length, map, sym, subst, Some, None, Result, Ok, Err, IfOk, IsErrOf}
 use Rattle.std.proofs.lemmas.List.{length-map}
 use Rattle.alpaca_cli.specs.declared.ast.Program.{Program}
 use Rattle.alpaca_cli.specs.declared.text_fault.TextFault.{TextFault}

@@ -1,9 +1,9 @@
 -- The checks, one token or variable after another.
-use Rattle.std.proofs.Common.{◌≡◌, ◌<◌, ◌≤◌, ◌∙◌, ℕ, zero, suc, ◌+◌, ◌-◌, ◌&&◌, is_some, take, get_or, drop-cons, Bool, true, false, List, [], ◌∷◌, length, map, drop, refl, ap, sym, arith, Option, Some, None}
+use Rattle.std.proofs.Common.{◌≡◌, ◌<◌, ◌≤◌, ◌∙◌, ℕ, ◌+◌, ◌-◌, ◌&&◌, is_some, take, get_or, drop-cons, true, false, List, [], ◌∷◌, length, map, drop, refl, ap, sym, arith, Option, Some, None}
 use Rattle.std.proofs.lemmas.Grind.{common_steps}
 use Rattle.std.proofs.lemmas.List.{take_rest}
 use Rattle.alpaca_cli.specs.declared.ast.Variable.{Variable}
-use Rattle.alpaca_cli.specs.Source.{SharedVariable, variable_of}
+use Rattle.alpaca_cli.specs.Source.{variable_of}
 use Rattle.alpaca_cli.specs.Tokens.{Word, first_word}
 use Rattle.alpaca_cli.specs.FirstForm.{place_of}
 use Rattle.alpaca_cli.specs.Reading.{width_after, narrow_on, is_narrow, is_none, are_different}

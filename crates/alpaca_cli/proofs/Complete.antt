@@ -1,11 +1,11 @@
 -- What is in the grammar is read.
-use Rattle.std.proofs.Common.{◌≡◌, ◌∙◌, ℕ, ◌++◌, Bool, true, false, List, [], ◌∷◌, refl, ap, sym, Option, Some, None}
+use Rattle.std.proofs.Common.{◌≡◌, ◌∙◌, ℕ, false, List, [], ◌∷◌, refl, ap, Some, None}
 use Rattle.alpaca_cli.specs.declared.token.Symbol.{Symbol}
 use Rattle.alpaca_cli.specs.declared.token.Symbol.TheVariants as s
 use Rattle.alpaca_cli.specs.Source.{Expression, Statement, SharedVariable}
 use Rattle.alpaca_cli.specs.Source as tree
-use Rattle.alpaca_cli.specs.Tokens.{Word, name, number, symbol, other, first_word}
-use Rattle.alpaca_cli.specs.FirstForm.{place_of, IsTerm, a_number, a_variable, a_reading, IsSum, one, more, IsStatement, assigned, emitted, AreStatements, none, one_more, AreDeclarations, none_declared, one_declared}
+use Rattle.alpaca_cli.specs.Tokens.{Word, name, number, symbol}
+use Rattle.alpaca_cli.specs.FirstForm.{IsTerm, a_number, a_variable, a_reading, IsSum, one, more, IsStatement, assigned, emitted, AreStatements, none, one_more, AreDeclarations, none_declared, one_declared}
 use Rattle.alpaca_cli.specs.Maybe.{◌>>?◌}
 use Rattle.alpaca_cli.specs.Reading.{same_symbol, expect, name_at, number_at, term_at, sum_on, sum_at, assign_at, emit_at, statement_at, statements_on, declaration_at, declarations_on}
 use Rattle.alpaca_cli.proofs.Turns.{sum_next, sum_stop, statements_next, declarations_next}

@@ -1,7 +1,7 @@
 -- Counts in memory and in the tree.
-use Rattle.std.proofs.Common.{◌≡◌, ℕ, ◌+◌, Bool, cond, List, [], ◌∷◌, map, refl, ap, count_by, fold}
+use Rattle.std.proofs.Common.{◌≡◌, ℕ, ◌+◌, cond, List, [], ◌∷◌, map, refl, count_by, fold}
 use Rattle.alpaca_cli.specs.declared.ast.Stmt.{Stmt}
-use Rattle.alpaca_cli.specs.Source.{Statement, statement_of}
+use Rattle.alpaca_cli.specs.Source.{statement_of}
 use Rattle.alpaca_cli.specs.FirstForm.{is_emit}
 
 fold_map : {A B : Type 0} (f : A → B) (g : ℕ → B → ℕ) (n : ℕ) (xs : List A) → fold g n (map f xs) ≡ fold (λ m x. g m (f x)) n xs

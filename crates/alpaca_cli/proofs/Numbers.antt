@@ -1,11 +1,10 @@
 -- In a source of the first form each number of a variable is below their count.
-use Rattle.std.proofs.Common.{◌≡◌, ◌<◌, ◌∙◌, ℕ, ◌++◌, not, Bool, true, false, cond, nat_lt, List, [], ◌∷◌, length, map, arith, refl, ap, sym, subst, Option, Some, None, position}
+use Rattle.std.proofs.Common.{◌≡◌, ◌<◌, ℕ, ◌++◌, not, Bool, true, false, cond, nat_lt, List, [], ◌∷◌, length, map, arith, refl, subst, Some, None}
 use Rattle.std.specs.List.{prefix_len}
 use Rattle.std.specs.Str.{bytes_eq}
 use Rattle.std.proofs.lemmas.Bool.Decides.{nat_tests}
-use Rattle.alpaca_cli.specs.Source.{Expression, Statement, SharedVariable, Source, source_of, statement_of, variable_of}
+use Rattle.alpaca_cli.specs.Source.{Expression, Statement, SharedVariable, source_of, statement_of, variable_of}
 use Rattle.alpaca_cli.specs.declared.ast.Program.{Program}
-use Rattle.alpaca_cli.specs.Source as tree
 use Rattle.alpaca_cli.specs.Tokens.{Word}
 use Rattle.alpaca_cli.specs.FirstForm.{place_of, IsTerm, a_number, a_variable, a_reading, IsSum, one, more, IsStatement, assigned, emitted, AreStatements, none, one_more, IsSource}
 use Rattle.alpaca_cli.specs.Known.{IsKnown, IsKnownIn, AreKnown}

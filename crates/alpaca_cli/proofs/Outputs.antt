@@ -1,5 +1,5 @@
 -- What is said of the output of `mean`, from what is said of its parts.
-use Rattle.std.proofs.Common.{◌≡◌, ◌⊎◌, inl, inr, ℕ, List, length, Option, Some, None, IfSome, Result, Ok, Err, OnOk, IfErr, IsErrOf, refl, ap}
+use Rattle.std.proofs.Common.{◌≡◌, ◌⊎◌, inl, inr, ℕ, List, Option, Some, None, IfSome, Result, Ok, Err, OnOk, IfErr, IsErrOf, refl}
 use Rattle.alp_io.specs.Count.{Rose}
 use Rattle.alp_io.specs.Shelf.{Files, Counts}
 use Rattle.alp_io.specs.Sink.{AppendsProperPrefix}

@@ -1,7 +1,7 @@
 -- What is read again and again, turn by turn.
-use Rattle.std.proofs.Common.{◌≡◌, ◌≤◌, ◌<◌, ◌∙◌, ℕ, zero, suc, ◌+◌, List, [], ◌∷◌, length, arith, refl, ap, sym, subst, Option, Some, None}
+use Rattle.std.proofs.Common.{◌≡◌, ◌<◌, ◌∙◌, ℕ, zero, suc, List, length, arith, refl, ap, subst, Some, None}
 use Rattle.alpaca_cli.specs.Tokens.{Word}
-use Rattle.alpaca_cli.specs.Reading.{Read, Turn, again, over, refused, turned, repeat_within, repeat}
+use Rattle.alpaca_cli.specs.Reading.{Turn, again, over, refused, turned, repeat_within, repeat}
 
 -- each turn takes a token
 pub record Shrinks {X : Type 0} (turn : X → List Word → Turn X) : Type 0 where

@@ -1,5 +1,5 @@
 -- The lines that are left of a report, one behind the other.
-use Rattle.std.proofs.Common.{◌≡◌, ◌<◌, ℕ, ◌+◌, List, [], ◌∷◌, ◌++◌, length, drop, get_or, arith, refl, ap, ◌∙◌, drop-cons, sym, map}
+use Rattle.std.proofs.Common.{◌≡◌, ◌<◌, ℕ, ◌+◌, List, ◌∷◌, ◌++◌, length, drop, get_or, arith, ap, ◌∙◌, drop-cons, sym, map}
 use Rattle.alp_io.specs.Report.{accepted_line}
 use Rattle.alpaca_cli.specs.declared.ast.Variable.{Variable}
 use Rattle.alpaca_cli.specs.Source.{variable_of}

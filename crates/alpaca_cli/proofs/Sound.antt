@@ -1,16 +1,16 @@
 -- What is read is in the grammar.
-use Rattle.std.proofs.Common.{◌≡◌, ◌≤◌, ◌∙◌, ℕ, ◌++◌, Bool, true, false, if◌then◌else◌, List, [], ◌∷◌, refl, ap, sym, subst, Option, Some, None, rules}
+use Rattle.std.proofs.Common.{◌≡◌, ◌∙◌, ℕ, ◌++◌, Bool, true, false, if◌then◌else◌, List, [], ◌∷◌, refl, ap, sym, subst, Some, None, rules}
 use denote.Enum.Bare.{same_true}
 use Rattle.alpaca_cli.specs.contracts.token.Symbol.{the_type}
 use Rattle.alpaca_cli.specs.declared.token.Symbol.{Symbol}
 use Rattle.alpaca_cli.specs.declared.token.Symbol.TheVariants as s
 use Rattle.alpaca_cli.specs.Source.{Expression, Statement, SharedVariable}
 use Rattle.alpaca_cli.specs.Source as tree
-use Rattle.alpaca_cli.specs.Tokens.{Word, name, number, symbol, other, first_word}
+use Rattle.alpaca_cli.specs.Tokens.{Word, name, number, symbol, other}
 use Rattle.alpaca_cli.specs.FirstForm.{place_of, IsTerm, a_number, a_variable, a_reading, IsSum, one, more, IsStatement, assigned, emitted, AreStatements, none, one_more, AreDeclarations, none_declared, one_declared}
 use Rattle.alpaca_cli.specs.Maybe.{◌>>?◌}
-use Rattle.alpaca_cli.specs.Reading.{same_symbol, expect, name_at, number_at, term_at, again, plus_turn, sum_on, sum_at, assign_at, emit_at, statement_at, statement_turn, statements_on, declaration_at, declaration_turn, declarations_on}
-use Rattle.alpaca_cli.proofs.Repeats.{Keeps, repeat_keeps}
+use Rattle.alpaca_cli.specs.Reading.{same_symbol, expect, name_at, number_at, term_at, again, plus_turn, sum_at, assign_at, emit_at, statement_at, statement_turn, statements_on, declaration_at, declaration_turn, declarations_on}
+use Rattle.alpaca_cli.proofs.Repeats.{repeat_keeps}
 use Rattle.alpaca_cli.proofs.Turns.{bound, plus_read, statement_read, declaration_read}
 
 pub same_is : (found wanted : Symbol) → same_symbol found wanted ≡ true → found ≡ wanted

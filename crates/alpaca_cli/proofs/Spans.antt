@@ -7,11 +7,11 @@ use Rattle.alp_io.specs.declared.report.Reason.TheVariants.{Readings, Limit}
 use Rattle.alp_io.specs.Report.{end_line}
 use Rattle.alpaca_cli.specs.Source.{Source}
 use Rattle.alpaca_cli.specs.Maybe.{◌>>?◌}
-use Rattle.alpaca_cli.specs.Meaning.{Attempt, after_all, attempt_of, initial_values}
+use Rattle.alpaca_cli.specs.Meaning.{Attempt, attempt_of, initial_values}
 use Rattle.alpaca_cli.specs.SourceRun.{Transition, exactly, transition_of, source_run, values_after}
 use Rattle.alpaca_cli.specs.SourceReport.{Span, transition_lines, source_report, readings_of, IsConsecutive, position_after, IsEnding, IsMeanReport}
 use Rattle.alpaca_cli.specs.MeanReport.{report_from, mean_report}
-use Rattle.alpaca_cli.proofs.Readings.{Uses, body_uses}
+use Rattle.alpaca_cli.proofs.Readings.{body_uses}
 use Rattle.alpaca_cli.proofs.ReportSteps.{report_at_limit, report_short, report_more}
 
 -- the readings that an attempt used are those of its span, and the rest is left

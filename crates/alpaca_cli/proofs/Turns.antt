@@ -1,16 +1,16 @@
 -- Sums, statements and declarations, turn by turn.
-use Rattle.std.proofs.Common.{◌≡◌, ◌≤◌, ◌<◌, ◌∙◌, ℕ, zero, suc, ◌+◌, ◌++◌, Bool, true, false, if◌then◌else◌, List, [], ◌∷◌, length, arith, refl, ap, sym, subst, Option, Some, None}
+use Rattle.std.proofs.Common.{◌≡◌, ◌≤◌, ◌<◌, ◌∙◌, ℕ, ◌++◌, Bool, true, false, if◌then◌else◌, List, [], ◌∷◌, length, arith, refl, ap, Option, Some, None}
 use Rattle.alpaca_cli.specs.declared.text_fault.TextFault.{TextFault}
 use Rattle.alpaca_cli.specs.declared.text_fault.TextFault.TheVariants.{NotYet, Memory}
 use Rattle.alpaca_cli.specs.declared.token.Symbol.{Symbol}
 use Rattle.alpaca_cli.specs.declared.token.Symbol.TheVariants as s
 use Rattle.alpaca_cli.specs.Source.{Expression, Statement, SharedVariable}
 use Rattle.alpaca_cli.specs.Source as tree
-use Rattle.alpaca_cli.specs.Tokens.{Word, name, number, symbol, other, first_word}
+use Rattle.alpaca_cli.specs.Tokens.{Word, name, number, symbol, other}
 use Rattle.alpaca_cli.specs.FirstForm.{place_of}
 use Rattle.alpaca_cli.specs.Maybe.{◌>>?◌, FailsAs}
-use Rattle.alpaca_cli.specs.Reading.{Read, same_symbol, behind_symbol, expect, behind_name, name_at, behind_number, number_at, term_first, term_at, Turn, again, over, refused, repeat, as_turn, behind, before, plus_turn, sum_on, sum_at, assign_at, emit_at, statement_first, statement_at, statement_turn, statements_on, declaration_at, declaration_turn, declarations_on}
-use Rattle.alpaca_cli.proofs.Repeats.{Shrinks, Keeps, repeat_again, repeat_over, repeat_refused, repeat_keeps}
+use Rattle.alpaca_cli.specs.Reading.{Read, same_symbol, expect, name_at, number_at, term_at, again, as_turn, behind, before, plus_turn, sum_on, sum_at, assign_at, emit_at, statement_at, statement_turn, statements_on, declaration_at, declaration_turn, declarations_on}
+use Rattle.alpaca_cli.proofs.Repeats.{Shrinks, repeat_again, repeat_over, repeat_refused, repeat_keeps}
 
 -- what a step on an optional value gave, and the step before it
 pub record Bound {A B : Type 0} (o : Option A) (f : A → Option B) (y : B) : Type 0 where

@@ -1,12 +1,12 @@
 -- A text is read exactly where it is of the first form, and then as its tree.
-use Rattle.std.proofs.Common.{◌≡◌, ◌≤◌, ◌∙◌, ℕ, ◌++◌, ◌&&◌, Bool, true, false, if◌then◌else◌, nat_le, List, [], ◌∷◌, length, arith, refl, ap, sym, subst, Option, Some, None, count_by}
+use Rattle.std.proofs.Common.{◌≡◌, ◌≤◌, ◌∙◌, ℕ, ◌&&◌, Bool, true, false, nat_le, List, [], ◌∷◌, length, arith, refl, ap, sym, subst, Option, Some, None, count_by}
 use Rattle.std.specs.Str.{bytes_eq}
 use Rattle.std.proofs.lemmas.Slice.Eq.{bytes_eq-Decides}
 use Rattle.std.proofs.lemmas.Bool.Decides.{nat_tests}
 use Rattle.alpaca_cli.specs.declared.token.Symbol.TheVariants as s
 use Rattle.alpaca_cli.specs.Source.{Statement, SharedVariable, Source}
 use Rattle.alpaca_cli.specs.Tokens.{Word, name, symbol, words_of}
-use Rattle.alpaca_cli.specs.FirstForm.{place_of, is_emit, IsProgram, IsSource, AreStatements, AreDeclarations, AreDifferent}
+use Rattle.alpaca_cli.specs.FirstForm.{place_of, is_emit, IsSource, AreStatements, AreDeclarations}
 use Rattle.alpaca_cli.specs.Maybe.{◌>>?◌}
 use Rattle.alpaca_cli.specs.Reading.{same_symbol, expect, name_at, is_none, is_narrow, are_different, are_good_variables, are_good_names, only_if, task_at, at_end, transition_at, entry_at, statements_on, declarations_on, task_with, source_at}
 use Rattle.alpaca_cli.proofs.Turns.{bound, statements_stop, declarations_stop}

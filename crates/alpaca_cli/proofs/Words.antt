@@ -1,7 +1,7 @@
 -- The tokens of a text, one lexeme after another.
-use Rattle.std.proofs.Common.{◌≡◌, ◌≤◌, ◌<◌, ◌∙◌, ℕ, zero, suc, ◌+◌, ◌-◌, List, [], ◌∷◌, length, take, drop, arith, refl, ap, sym, length-drop, Option, Some, None}
+use Rattle.std.proofs.Common.{◌≡◌, ◌<◌, ◌∙◌, ℕ, zero, suc, ◌-◌, List, [], ◌∷◌, length, take, drop, arith, refl, ap, sym, length-drop, Option}
 use Rattle.std.proofs.lemmas.List.{take_rest}
-use Rattle.alpaca_cli.specs.Tokens.{Word, lexeme_len, token_of, in_front, words_behind, words_of, first_word}
+use Rattle.alpaca_cli.specs.Tokens.{Word, lexeme_len, token_of, in_front, words_behind, words_of}
 
 -- bytes that are read already may be left away
 pub words_past : (skip : ℕ) (text : List ℕ) → words_behind skip text ≡ words_of (drop skip text)

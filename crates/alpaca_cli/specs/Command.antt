@@ -4,7 +4,6 @@ use Rattle.std.specs.Io.KnownBytes.{Appends}
 use Rattle.alp_io.specs.Count.{Rose}
 use Rattle.alp_io.specs.Report.{texts}
 use Rattle.alp_io.specs.Shelf.{Files, Counts}
-use Rattle.alp_io.specs.Sink.{AppendsProperPrefix}
 use Rattle.alpaca_cli.specs.Source.{Source}
 use Rattle.alpaca_cli.specs.FirstForm.{IsSource}
 use Rattle.alpaca_cli.specs.TraceText.{trace_readings}

@@ -6,13 +6,13 @@
 --   term      = number | name | "sense" "(" ")"
 --
 -- Each relation is between the tokens at a place, the tree that they stand for, and the tokens behind it.
-use Rattle.std.specs.Prelude.{◌≡◌, ◌≤◌, ℕ, suc, ◌&&◌, ◌||◌, Bool, true, false, not, nat_lt, if◌then◌else◌, List, [], ◌∷◌, ◌++◌, length, Option, Some, None, position, count_by}
+use Rattle.std.specs.Prelude.{◌≡◌, ◌≤◌, ℕ, Bool, true, false, not, List, [], ◌∷◌, ◌++◌, length, Option, Some, None, position, count_by}
 use Rattle.std.specs.List.{list_all}
 use Rattle.std.specs.Str.{bytes_eq}
 use Rattle.alpaca_cli.specs.declared.token.Symbol.TheVariants as s
 use Rattle.alpaca_cli.specs.Source.{Expression, Statement, SharedVariable, Source}
 use Rattle.alpaca_cli.specs.Source as tree
-use Rattle.alpaca_cli.specs.Tokens.{Word, name, number, symbol, other, words_of}
+use Rattle.alpaca_cli.specs.Tokens.{Word, name, number, symbol, words_of}
 
 -- the number of the variable with this name, in order of declaration
 abbrev pub place_of : List SharedVariable → List ℕ → Option ℕ

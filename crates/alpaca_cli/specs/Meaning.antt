@@ -1,6 +1,6 @@
 -- What a task does: the values of expressions, the effects of statements, and a whole task. `None` is short: the
 -- readings ran out. Words have 16 bits and their sums wrap; readings are taken from left to right.
-use Rattle.std.specs.Prelude.{◌≡◌, ℕ, ◌+◌, ◌%◌, List, [], ◌∷◌, ◌++◌, map, Option, Some, None, slice_index, slice_set}
+use Rattle.std.specs.Prelude.{ℕ, ◌+◌, ◌%◌, List, [], ◌∷◌, ◌++◌, map, Option, Some, None, slice_index, slice_set}
 use Rattle.alpaca_cli.specs.Maybe.{◌>>?◌}
 use Rattle.alpaca_cli.specs.Source.{Expression, Statement, Source, number, shared, sense, plus, assign, emit}
 

@@ -1,5 +1,5 @@
 -- The first form read from the left, looking at one token. (The grammar in FirstForm is what a source owes.)
-use Rattle.std.specs.Prelude.{◌≡◌, ◌≤◌, ℕ, zero, suc, ◌+◌, ◌&&◌, ◌||◌, Bool, true, false, not, nat_lt, nat_le, if◌then◌else◌, List, [], ◌∷◌, ◌++◌, length, Option, Some, None, count_by}
+use Rattle.std.specs.Prelude.{ℕ, zero, suc, ◌+◌, ◌&&◌, Bool, true, false, nat_lt, nat_le, if◌then◌else◌, List, [], ◌∷◌, ◌++◌, length, Option, Some, None, count_by}
 use Rattle.std.specs.Str.{bytes_eq}
 use denote.Enum.Bare.{sameb}
 use Rattle.alpaca_cli.specs.contracts.token.Symbol.{the_type}

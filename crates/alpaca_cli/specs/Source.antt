@@ -1,5 +1,5 @@
 -- The tree of a source text, without where it lies in memory.
-use Rattle.std.specs.Prelude.{ℕ, List, [], ◌∷◌, map}
+use Rattle.std.specs.Prelude.{ℕ, List, map}
 use Rattle.alpaca_cli.specs.declared.ast.Expr.{Expr}
 use Rattle.alpaca_cli.specs.declared.ast.Expr.TheVariants.{Number, Shared, Sense, Sum'}
 use Rattle.alpaca_cli.specs.declared.ast.Stmt.{Stmt}

@@ -1,5 +1,5 @@
 -- The run of a source: whole tasks, one behind the other, each on its own list of readings.
-use Rattle.std.specs.Prelude.{◌≡◌, ℕ, List, [], ◌∷◌, Option, Some, None}
+use Rattle.std.specs.Prelude.{ℕ, List, [], ◌∷◌, Option, Some, None}
 use Rattle.alpaca_cli.specs.Source.{Source}
 use Rattle.alpaca_cli.specs.Maybe.{◌>>?◌}
 use Rattle.alpaca_cli.specs.Meaning.{Attempt, attempt_of}

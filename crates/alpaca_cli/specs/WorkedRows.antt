@@ -1,12 +1,10 @@
 -- Worked examples, as the definitions give them. The source is
 -- `shared unsigned n = 0; task a { n = n + sense(); emit(n); transition_to(a); } entry a;`
-use Rattle.std.specs.Prelude.{◌≡◌, ℕ, List, [], ◌∷◌, ◌++◌, codes, Option, Some, None}
-use Rattle.alp_io.specs.declared.report.Reason.TheVariants.{Readings}
-use Rattle.alp_io.specs.Report.{end_line}
+use Rattle.std.specs.Prelude.{◌≡◌, [], ◌∷◌, codes, Some, None}
 use Rattle.alpaca_cli.specs.Source.{Source, number, shared, sense, plus, assign, emit}
 use Rattle.alpaca_cli.specs.Meaning.{value_of, attempt_of}
 use Rattle.alpaca_cli.specs.SourceRun.{Transition, transition_of, source_run}
-use Rattle.alpaca_cli.specs.SourceReport.{source_report, IsMeanReport}
+use Rattle.alpaca_cli.specs.SourceReport.{IsMeanReport}
 use Rattle.alpaca_cli.specs.CommandLine.{mean_files}
 
 abbrev pub running_sum : Source

@@ -1,6 +1,6 @@
-use Rattle.std.proofs.Common.{◌≡◌, ◌∙◌, ◌&&◌, ◌+◌, sym, ap, arith, true, false, map, drop}
+use Rattle.std.proofs.Common.{◌∙◌, ◌&&◌, ◌+◌, sym, ap, arith, map, drop}
 use Rattle.alpaca_cli.specs.Source.{variable_of}
-use Rattle.alpaca_cli.specs.Reading.{is_none, are_different}
+use Rattle.alpaca_cli.specs.Reading.{are_different}
 use Rattle.alpaca_cli.proofs.Checks.{not_none, none_is, different_at, different_end}
 use Rattle.alpaca_cli.proofs.check.are_different.Goals as goal
 

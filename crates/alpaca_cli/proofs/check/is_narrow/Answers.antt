@@ -1,4 +1,4 @@
-use Rattle.std.proofs.Common.{◌≡◌, ◌∙◌, sym}
+use Rattle.std.proofs.Common.{◌∙◌, sym}
 use Rattle.alpaca_cli.proofs.Checks.{narrow_end, narrow_next}
 use Rattle.alpaca_cli.proofs.check.is_narrow.Goals as goal
 

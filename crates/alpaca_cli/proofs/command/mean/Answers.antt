@@ -1,6 +1,5 @@
 use Rattle.std.specs.Io.KnownBytes.{Appends}
 use Rattle.alp_io.specs.Sink.{AppendsProperPrefix}
-use Rattle.alpaca_cli.specs.Source.{source_of}
 use Rattle.alpaca_cli.proofs.Outputs.{of_report, on_ok, fails_by}
 use Rattle.alpaca_cli.proofs.command.mean.Goals as goal
 

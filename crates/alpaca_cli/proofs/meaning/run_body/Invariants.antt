@@ -1,7 +1,7 @@
-use Rattle.std.proofs.Common.{◌≡◌, count_by, ◌≤◌, ◌+◌, ◌-◌, length, drop, map, vec_len, vec_capacity}
+use Rattle.std.proofs.Common.{◌≡◌, count_by, ◌≤◌, ◌+◌, length, drop, map, vec_len, vec_capacity}
 use Rattle.alpaca_cli.specs.Source.{statement_of}
 use Rattle.alpaca_cli.specs.FirstForm.{is_emit}
-use Rattle.alpaca_cli.specs.Meaning.{after_all, Attempt}
+use Rattle.alpaca_cli.specs.Meaning.{after_all}
 use Rattle.alpaca_cli.proofs.meaning.run_body.Given as goal
 
 abbrev pub invariant-loop-stmt : goal.invariant-loop-stmt

@@ -1,6 +1,5 @@
-use Rattle.std.proofs.Common.{rules, ◌≡◌, ◌∙◌, sym, ap, Some}
+use Rattle.std.proofs.Common.{◌∙◌, sym, ap}
 use Rattle.std.proofs.lemmas.Result.{err_from_is_err_and}
-use Rattle.alpaca_cli.specs.Maybe.{Gives}
 use Rattle.alpaca_cli.specs.Source.{variable_of}
 use Rattle.alpaca_cli.specs.Reading as reading
 use Rattle.alpaca_cli.specs.Tokens.{words_of}

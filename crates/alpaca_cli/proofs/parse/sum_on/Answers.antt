@@ -1,4 +1,4 @@
-use Rattle.std.proofs.Common.{rules, ◌≡◌, ◌∙◌, sym, ap, arith, map}
+use Rattle.std.proofs.Common.{◌∙◌, sym, ap, arith, map}
 use Rattle.std.proofs.lemmas.Result.{err_from_is_err_and}
 use Rattle.alpaca_cli.specs.Source.{expression_of, variable_of}
 use Rattle.alpaca_cli.specs.Reading as reading

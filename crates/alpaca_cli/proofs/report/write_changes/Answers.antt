@@ -1,5 +1,5 @@
 use Rattle.std.proofs.Common.{arith, rules}
-use Rattle.alp_io.proofs.Progress.{Progress, progress_step, progress_err}
+use Rattle.alp_io.proofs.Progress.{progress_step, progress_err}
 use Rattle.alpaca_cli.proofs.ReportLines.{rest_of_changes}
 use Rattle.alpaca_cli.proofs.report.write_changes.Goals as goal
 

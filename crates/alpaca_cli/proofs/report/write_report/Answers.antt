@@ -1,5 +1,5 @@
-use Rattle.std.proofs.Common.{arith, rules, ◌≡◌, ◌+◌, ◌-◌, ◌<◌, length}
-use Rattle.alp_io.proofs.Progress.{Progress, progress_step, progress_err, progress_last}
+use Rattle.std.proofs.Common.{arith, rules, ◌≡◌, ◌+◌, ◌-◌, length}
+use Rattle.alp_io.proofs.Progress.{progress_step, progress_err, progress_last}
 use Rattle.alpaca_cli.specs.Source.{source_of}
 use Rattle.alpaca_cli.proofs.ReportSteps.{report_at_limit, report_short, report_more}
 use Rattle.alpaca_cli.proofs.report.write_report.Goals as goal

@@ -1,4 +1,4 @@
-use Rattle.std.proofs.Common.{◌≡◌, ◌≤◌, ◌+◌, ◌*◌, ◌-◌, length}
+use Rattle.std.proofs.Common.{◌≡◌, ◌≤◌, ◌*◌, ◌-◌, length}
 use Rattle.alp_io.proofs.Progress.{Progress}
 use Rattle.alpaca_cli.specs.Source.{source_of}
 use Rattle.alpaca_cli.specs.MeanReport.{report_from, mean_report}

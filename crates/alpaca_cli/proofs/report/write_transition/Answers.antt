@@ -1,4 +1,4 @@
-use Rattle.alp_io.proofs.Appends.{writes_then, writes_err, part_of_first, part_of_second, appends_more}
+use Rattle.alp_io.proofs.Appends.{writes_then, writes_err, part_of_first, part_of_second}
 use Rattle.alpaca_cli.specs.SourceReport.{transition_lines}
 use Rattle.alpaca_cli.proofs.report.write_transition.Goals as goal
 

@@ -1,6 +1,5 @@
-use Rattle.std.proofs.Common.{rules, ◌≡◌, ◌∙◌, sym, ap, Some, append-nil}
+use Rattle.std.proofs.Common.{◌∙◌, sym, ap, Some, append-nil}
 use Rattle.std.proofs.lemmas.Result.{err_from_is_err_and}
-use Rattle.alpaca_cli.specs.Maybe.{FailsAs}
 use Rattle.alpaca_cli.proofs.TraceLines.{lines_next, lines_fail, lines_end}
 use Rattle.alpaca_cli.proofs.trace.read_lines.Goals as goal
 
