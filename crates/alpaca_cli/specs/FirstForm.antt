@@ -24,22 +24,26 @@ pub data IsTerm (vs : List SharedVariable) : List Word → Expression → List W
   a_variable : (x : List ℕ) (v : ℕ) (rest : List Word) → place_of vs x ≡ Some v → IsTerm vs (name x ∷ rest) (tree.shared v) rest
   a_reading : (rest : List Word) → IsTerm vs (symbol s.Sense ∷ symbol s.Open ∷ symbol s.Close ∷ rest) tree.sense rest
 
+-- terms with `+` between them, summed from the left
 pub data IsSum (vs : List SharedVariable) : List Word → Expression → List Word → Type 0 where
   one : (ws : List Word) (a : Expression) (rest : List Word) → IsTerm vs ws a rest → IsSum vs ws a rest
   more : (ws : List Word) (a : Expression) (us : List Word) (b : Expression) (rest : List Word)
       → IsSum vs ws a (symbol s.Plus ∷ us) → IsTerm vs us b rest → IsSum vs ws (tree.plus a b) rest
 
+-- an assignment to a variable, or an emit
 pub data IsStatement (vs : List SharedVariable) : List Word → Statement → List Word → Type 0 where
   assigned : (x : List ℕ) (v : ℕ) (ws : List Word) (e : Expression) (rest : List Word)
       → place_of vs x ≡ Some v → IsSum vs ws e (symbol s.Semicolon ∷ rest) → IsStatement vs (name x ∷ symbol s.Equals ∷ ws) (tree.assign v e) rest
   emitted : (ws : List Word) (e : Expression) (rest : List Word)
       → IsSum vs ws e (symbol s.Close ∷ symbol s.Semicolon ∷ rest) → IsStatement vs (symbol s.Emit ∷ symbol s.Open ∷ ws) (tree.emit e) rest
 
+-- statements one behind another, as far as a place
 pub data AreStatements (vs : List SharedVariable) : List Word → List Statement → List Word → Type 0 where
   none : (ws : List Word) → AreStatements vs ws [] ws
   one_more : (ws : List Word) (body : List Statement) (us : List Word) (statement : Statement) (rest : List Word)
       → AreStatements vs ws body us → IsStatement vs us statement rest → AreStatements vs ws (body ++ statement ∷ []) rest
 
+-- declarations one behind another, as far as a place
 pub data AreDeclarations : List Word → List SharedVariable → List Word → Type 0 where
   none_declared : (ws : List Word) → AreDeclarations ws [] ws
   one_declared : (ws : List Word) (vs : List SharedVariable) (x : List ℕ) (n : ℕ) (rest : List Word)
@@ -70,6 +74,7 @@ abbrev pub AreDifferent : List SharedVariable → Type 0
 AreDifferent [] = Unit {0}
 AreDifferent (v ∷ vs) = (place_of vs v.name ≡ None) × AreDifferent vs
 
+-- whether a statement emits
 abbrev pub is_emit : Statement → Bool
 is_emit (tree.assign v e) = false
 is_emit (tree.emit e) = true

@@ -9,6 +9,7 @@ abbrev pub ◌>>?◌ : {A B : Type 0} → Option A → (A → Option B) → Opti
 None >>? f = None
 (Some x) >>? f = f x
 
+-- a fault tells that nothing is said, but for want of memory
 abbrev pub FailsAs : {A : Type 0} → TextFault → Option A → Type 0
 FailsAs NotYet said = said ≡ None
 FailsAs Memory said = Unit {0}

@@ -31,18 +31,22 @@ pub record Source : Type 0 where
   pub variables : List SharedVariable
   pub body : List Statement
 
+-- the expression that an `Expr` holds
 abbrev pub expression_of : Expr → Expression
 expression_of (Number n) = number n
 expression_of (Shared v) = shared v
 expression_of Sense = sense
 expression_of (Sum' p a q b) = plus (expression_of a) (expression_of b)
 
+-- the statement that a `Stmt` holds
 abbrev pub statement_of : Stmt → Statement
 statement_of (Assign v e) = assign v (expression_of e)
 statement_of (Emit e) = emit (expression_of e)
 
+-- the shared variable that a `Variable` holds
 abbrev pub variable_of : Variable → SharedVariable
 variable_of v = record { name = v.name.items; initial = v.initial }
 
+-- the source that a `Program` holds
 abbrev pub source_of : Program → Source
 source_of p = record { task = p.task.items; variables = map variable_of p.shared.items; body = map statement_of p.body.items }

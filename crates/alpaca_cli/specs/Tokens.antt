@@ -19,6 +19,7 @@ pub data Word : Type 0 where
   symbol : Symbol → Word
   other : Word
 
+-- the token that a `Token` holds
 abbrev pub word_of : Token → Word
 word_of (t.Name x) = name x.now
 word_of (t.Number n) = number n
@@ -33,9 +34,11 @@ is_blank b = b == 32 || b == 9 || b == 13 || b == 10
 abbrev pub is_letter : ℕ → Bool
 is_letter b = is_ascii_alphabetic b || b == 95
 
+-- a letter, `_` or a digit
 abbrev pub is_word_byte : ℕ → Bool
 is_word_byte b = is_letter b || is_ascii_digit b
 
+-- any byte but LF
 abbrev pub is_in_line : ℕ → Bool
 is_in_line b = not (b == 10)
 
@@ -44,6 +47,7 @@ unfoldable pub is_pair : ℕ → ℕ → Bool
 is_pair b c = (b == 60 && c == 60) || (b == 62 && c == 62) || (b == 60 && c == 61) || (b == 62 && c == 61) || (b == 61 && c == 61)
     || (b == 33 && c == 61) || (b == 38 && c == 38) || (b == 124 && c == 124) || (b == 43 && c == 43)
 
+-- whether a text begins with `//`
 abbrev pub begins_comment : List ℕ → Bool
 begins_comment text = slice_index text 0 == 47 && slice_index text 1 == 47
 
@@ -80,6 +84,7 @@ named w =
 abbrev pub is_zero_led : List ℕ → Bool
 is_zero_led w = nat_lt 1 (length w) && slice_index w 0 == 48 && is_ascii_digit (slice_index w 1)
 
+-- a number to 65535
 abbrev pub as_number : Result ℕ NumberFault → Word
 as_number (Ok n) = if nat_le n 65535 then number n else other
 as_number (Err e) = other
@@ -88,6 +93,7 @@ as_number (Err e) = other
 unfoldable pub numeral : List ℕ → Word
 numeral w = if is_zero_led w then other else as_number (number_of w)
 
+-- a mark of one byte
 unfoldable pub single : ℕ → Word
 single b =
     if b == 40 then symbol s.Open
@@ -99,6 +105,7 @@ single b =
     else if b == 43 then symbol s.Plus
     else other
 
+-- a mark; those of two bytes stand in no program of the first form
 abbrev pub mark : List ℕ → Word
 mark w = if length w == 1 then single (slice_index w 0) else other
 
@@ -111,6 +118,7 @@ token_of w =
     else if is_ascii_digit (slice_index w 0) then Some (numeral w)
     else Some (mark w)
 
+-- a token in front of others, where there is one
 abbrev pub in_front : Option Word → List Word → List Word
 in_front None ws = ws
 in_front (Some w) ws = w ∷ ws

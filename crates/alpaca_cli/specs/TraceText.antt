@@ -8,6 +8,7 @@ use Rattle.text_parts.specs.Fields.{fields}
 use Rattle.text_parts.specs.Lengths.{before}
 use Rattle.alpaca_cli.specs.Maybe.{◌>>?◌}
 
+-- a number below 65536
 abbrev pub as_word : Result ℕ NumberFault → Option ℕ
 as_word (Ok n) = if nat_lt n 65536 then Some n else None
 as_word (Err e) = None
@@ -26,6 +27,7 @@ abbrev pub readings_of_fields : List (List ℕ) → Option (List ℕ)
 readings_of_fields [] = None
 readings_of_fields (first ∷ rest) = if bytes_eq first (codes "r") then words_of_fields rest else None
 
+-- whether the first byte is `r`
 abbrev pub begins_with_r : List ℕ → Bool
 begins_with_r [] = false
 begins_with_r (b ∷ bs) = b == 114
@@ -39,6 +41,7 @@ unfoldable pub lines_readings : List (List ℕ) → Option (List ℕ)
 lines_readings [] = Some []
 lines_readings (l ∷ ls) = line_readings l >>? λ ws. lines_readings ls >>? λ more. Some (ws ++ more)
 
+-- no more than 262,144 readings
 abbrev pub if_few : List ℕ → Option (List ℕ)
 if_few readings = if nat_le (length readings) 262144 then Some readings else None
 

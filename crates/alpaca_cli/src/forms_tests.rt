@@ -62,6 +62,12 @@ fn refuses_other_sources(rt: HostRuntime) -> Result<(), Fail> {
         source_fault(&rt, b"task t { emit(65536); transition_to(t); } entry t;"),
         not_yet
     );
+    Ok(())
+}
+
+#[test]
+fn refuses_names_out_of_place(rt: HostRuntime) -> Result<(), Fail> {
+    let not_yet = Some(TextFault::NotYet);
     assert_eq!(rt;
         source_fault(&rt, b"task t { emit(t); transition_to(t); } entry t;"),
         not_yet
