@@ -5,6 +5,7 @@ use Rattle.std.specs.Prelude.{◌≡◌, ◌≢◌, ℕ, ◌≤◌, List, Option
 abbrev pub Files : Type 0
 Files = List ℕ → Option (List ℕ)
 
+-- how many reads failed, found no file, or found one that is too long, and how many puts failed
 pub record Counts : Type 0 where
   pub failed_reads : ℕ
   pub missing_reads : ℕ
