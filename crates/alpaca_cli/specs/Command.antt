@@ -81,17 +81,22 @@ OfReport files names P = (source : Source) × (readings : List ℕ) × (report :
 abbrev pub Tells : Option (List ℕ) → Option (List ℕ) → ℕ → ℕ → List ℕ → Type 0
 Tells old new before now line = (Rose before now → ⊥) → Appends old new line
 
+-- the line where a text is refused
 unfoldable pub refused_line : List ℕ → List ℕ
 refused_line name = texts (codes "refused " ∷ name ∷ codes " 0 NotYet\n" ∷ [])
 
+-- the line where a file could not be read
 unfoldable pub unreadable_line : List ℕ → List ℕ
 unreadable_line name = texts (codes "cannot read " ∷ name ∷ codes "\n" ∷ [])
 
+-- the line where a write to the output failed
 unfoldable pub unwritable_line : List ℕ
 unwritable_line = texts (codes "cannot write output\n" ∷ [])
 
+-- the line where memory was refused
 unfoldable pub memory_line : List ℕ
 memory_line = texts (codes "out of memory\n" ∷ [])
 
+-- the line where the words are no command line: all commands, also those to come
 unfoldable pub usage_line : List ℕ
 usage_line = texts (codes "usage: alpaca mean SRC TRACE | try SRC TRACE IMAGE | build SRC IMAGE | run IMAGE TRACE | asm ASM IMAGE | dis IMAGE | gen N IMAGE\n" ∷ [])

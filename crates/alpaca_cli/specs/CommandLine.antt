@@ -7,6 +7,7 @@ pub record FileNames : Type 0 where
   pub source : List ℕ
   pub trace : List ℕ
 
+-- the first byte is `-`
 abbrev pub begins_with_dash : List ℕ → Bool
 begins_with_dash [] = false
 begins_with_dash (b ∷ bs) = b == 45

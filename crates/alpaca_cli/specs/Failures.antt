@@ -10,6 +10,7 @@ use Rattle.alpaca_cli.specs.declared.inputs.Failure.TheVariants.{Refused, Unread
 use Rattle.alpaca_cli.specs.CommandLine.{FileNames}
 use Rattle.alpaca_cli.specs.Command.{IsRefused, IsUnreadable, OfReport}
 
+-- the name under which the file is read
 abbrev pub name_of : InputFile → FileNames → List ℕ
 name_of file.Source names = names.source
 name_of file.Trace names = names.trace

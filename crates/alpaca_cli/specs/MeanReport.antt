@@ -6,6 +6,7 @@ use Rattle.alpaca_cli.specs.Source.{Source}
 use Rattle.alpaca_cli.specs.Meaning.{Attempt, attempt_of, initial_values}
 use Rattle.alpaca_cli.specs.SourceReport.{transition_lines}
 
+-- goes on with a whole attempt, or ends after a short one
 abbrev pub if_whole : Option Attempt → List ℕ → (Attempt → List ℕ) → List ℕ
 if_whole None short whole = short
 if_whole (Some a) short whole = whole a
@@ -20,5 +21,6 @@ report_from (suc n) source total k accepted values readings =
     (record { before = values; emitted = a.emitted; after = a.values })
     ++ report_from n source total (k + 1) (accepted + length a.emitted) a.values a.left)
 
+-- the report of at most so many transitions, from the initial values on
 abbrev pub mean_report : ℕ → Source → List ℕ → List ℕ
 mean_report most source readings = report_from most source (length readings) 0 0 (initial_values source) readings

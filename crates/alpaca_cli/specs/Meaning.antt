@@ -30,6 +30,7 @@ after (assign v e) s = value_of e s.values s.left
 after (emit e) s = value_of e s.values s.left
     >>? λ x. Some (record { values = s.values; emitted = s.emitted ++ x.0 ∷ []; left = x.1 })
 
+-- statements run in order
 abbrev pub after_all : List Statement → Attempt → Option Attempt
 after_all [] s = Some s
 after_all (statement ∷ more) s = after statement s >>? after_all more
@@ -38,5 +39,6 @@ after_all (statement ∷ more) s = after statement s >>? after_all more
 abbrev pub attempt_of : Source → List ℕ → List ℕ → Option Attempt
 attempt_of source values readings = after_all source.body (record { values = values; emitted = []; left = readings })
 
+-- each shared variable holds its initial value at first
 abbrev pub initial_values : Source → List ℕ
 initial_values source = map (λ v. v.initial) source.variables

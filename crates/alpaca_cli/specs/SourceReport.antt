@@ -17,6 +17,7 @@ abbrev pub change_lines : List SharedVariable → List ℕ → List ℕ → List
 change_lines (v ∷ vs) (b ∷ before) (w ∷ now) = change_line v.name b w ++ change_lines vs before now
 change_lines vs before now = []
 
+-- a line for each word that was emitted, in order
 abbrev pub emitted_lines : List ℕ → List ℕ
 emitted_lines words = flat_map accepted_line words
 
@@ -36,6 +37,7 @@ unfoldable pub source_report : Source → ℕ → List Span → List Transition 
 source_report source k (span ∷ spans) (t ∷ ts) = transition_lines source k span t ++ source_report source (k + 1) spans ts
 source_report source k spans ts = []
 
+-- the readings of a span
 abbrev pub readings_of : List ℕ → Span → List ℕ
 readings_of readings span = take (span.to - span.from) (drop span.from readings)
 

@@ -3,6 +3,7 @@ use Rattle.std.specs.Prelude.{ℕ}
 use Rattle.alpaca_cli.specs.declared.status.Status.{Status}
 use Rattle.alpaca_cli.specs.declared.status.Status.TheVariants.{Done, Refused, Usage, Unreadable, Unwritable, OutOfMemory}
 
+-- 0 where the report is whole, and a number of its own for each cause
 abbrev pub exit_code : Status → ℕ
 exit_code Done = 0
 exit_code Refused = 1

@@ -7,6 +7,7 @@ use Rattle.alpaca_cli.specs.SourceRun.{Transition, transition_of, source_run}
 use Rattle.alpaca_cli.specs.SourceReport.{IsMeanReport}
 use Rattle.alpaca_cli.specs.CommandLine.{mean_files}
 
+-- the source above
 abbrev pub running_sum : Source
 running_sum = record {
   task = codes "a";
@@ -14,12 +15,15 @@ running_sum = record {
   body = assign 0 (plus (shared 0) sense) ∷ emit (shared 0) ∷ [];
 }
 
+-- its transition on the reading 5
 abbrev pub first : Transition
 first = record { before = 0 ∷ []; emitted = 5 ∷ []; after = 5 ∷ [] }
 
+-- its transition on the reading 7 behind that
 abbrev pub second : Transition
 second = record { before = 5 ∷ []; emitted = 12 ∷ []; after = 12 ∷ [] }
 
+-- what the definitions give
 pub record WorkedRows : Type 0 where
   pub sums_wrap : value_of (plus (number 65535) (number 3)) [] [] ≡ Some (2, [])
   pub readings_from_the_left : value_of (plus sense (plus (shared 1) sense)) (5 ∷ 40 ∷ []) (7 ∷ 9 ∷ 11 ∷ []) ≡ Some (56, 11 ∷ [])

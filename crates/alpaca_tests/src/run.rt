@@ -24,7 +24,7 @@ pub struct After {
 const ROOM: usize = 400_000;
 
 /// Runs the program with ample memory.
-pub fn run(alloc: Global, before: &Before) -> Result<After, Fail> {
+pub(crate) fn run(alloc: Global, before: &Before) -> Result<After, Fail> {
     let mut words = Vec::new(alloc);
     for word in before.words {
         words.push(String::from_str(alloc, word)?)?;
