@@ -1,0 +1,36 @@
+//! How the program ends.
+ghost use Rattle.std.specs.Prelude.{◌≡◌};
+ghost use Rattle.alpaca_cli.specs.Status.{exit_code};
+
+/// How the program ends.
+#[derive(Clone, Copy, Debug, PartialEq, Eq)]
+pub enum Status {
+    /// The report is whole.
+    Done,
+    /// A text is not of its form.
+    Refused,
+    /// The words are no command line.
+    Usage,
+    /// A file is missing or too long, or its read failed.
+    Unreadable,
+    /// A write to the output failed.
+    Unwritable,
+    /// Memory was refused.
+    OutOfMemory,
+}
+
+impl Status {
+    /// The exit code of the program, 0 to 5.
+    pub fn code(self) -> u8
+        ensures { result ≡ exit_code self }
+    {
+        match self {
+            Status::Done => 0,
+            Status::Refused => 1,
+            Status::Usage => 2,
+            Status::Unreadable => 3,
+            Status::Unwritable => 4,
+            Status::OutOfMemory => 5,
+        }
+    }
+}

@@ -1,0 +1,7 @@
+//! Whole runs of the program over files and outputs in memory. The expected texts are worked by hand from the rules.
+#![tactic(auto)]
+
+#[cfg(test)]
+mod mean;
+#[cfg(test)]
+mod run;
