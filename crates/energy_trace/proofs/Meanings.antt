@@ -1,5 +1,5 @@
 -- What reading gives is the meaning of the lines.
-use Rattle.std.proofs.Common.{◌≡◌, ◌≤◌, ◌<◌, ◌^◌, ℕ, ◌+◌, ◌==◌, ◌&&◌, List, [], ◌∷◌, ◌++◌, length, map, refl, ap, sym, ◌∙◌, arith, subst, nat_le, if◌then◌else◌, Bool, true, false, Option, Some, None, Result, Ok, Err, codes, inl, inr, append_assoc, length-append, All}
+use Rattle.std.proofs.Common.{◌≡◌, ◌<◌, ℕ, ◌+◌, ◌==◌, ◌&&◌, List, [], ◌∷◌, ◌++◌, length, map, refl, ap, sym, ◌∙◌, arith, subst, nat_le, if◌then◌else◌, Bool, true, false, Option, Some, None, Result, Ok, Err, codes, inl, inr, append_assoc, length-append, All}
 use Rattle.std.specs.Str.{bytes_eq}
 use Rattle.std.proofs.lemmas.List.Elements.{All-push}
 use Rattle.std.proofs.lemmas.Bool.Decides.{nat_tests}
@@ -10,8 +10,8 @@ use Rattle.energy_trace.specs.declared.charge.ChargeKind.TheVariants as kind
 use Rattle.energy_trace.specs.declared.fault.TraceFault.{TraceFault}
 use Rattle.energy_trace.specs.declared.fault.TraceFault.TheVariants.{BadLine, TooMany, Memory}
 use Rattle.energy_trace.specs.TraceValue.{TraceValue, charge_count, IsTrace}
-use Rattle.energy_trace.specs.Line.{LineMeaning, nothing, charge, readings, line_says, fields_say, word_says, charge_of, readings_of, ◌>>?◌}
-use Rattle.energy_trace.specs.Reading.{no_trace, with_line, checked, step, read, Gives, ◌>>=◌}
+use Rattle.energy_trace.specs.Line.{LineMeaning, nothing, charge, readings, line_says, fields_say, charge_of, readings_of, ◌>>?◌}
+use Rattle.energy_trace.specs.Reading.{no_trace, with_line, step, read, Gives, ◌>>=◌}
 use Rattle.energy_trace.specs.Meaning.{all_charges, all_readings, AreLinesOf, FaultAt, IsBadLine, IsTooMany, IsMeaningOf}
 use Rattle.energy_trace.proofs.Steps.{charge_repeats}
 

@@ -1,5 +1,5 @@
 -- The ranges of what a trace holds.
-use Rattle.std.specs.Prelude.{ℕ, ◌<◌, ◌^◌}
+use Rattle.std.specs.Prelude.{◌<◌, ◌^◌}
 use Rattle.energy_trace.specs.declared.charge.Charge.{Charge}
 
 -- N and K below 2^32, F below 2^16

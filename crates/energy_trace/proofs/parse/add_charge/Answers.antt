@@ -1,4 +1,4 @@
-use Rattle.std.proofs.Common.{◌∙◌, sym}
+use Rattle.std.proofs.Common.{sym}
 use Rattle.text_parts.specs.Fields.{fields}
 use Rattle.energy_trace.proofs.Steps.{charge_repeats}
 use Rattle.energy_trace.proofs.parse.add_charge.Goals as goal
