@@ -1,11 +1,12 @@
 //! Hexadecimal digits.
-ghost use Rattle.std.specs.Prelude.{◌≡◌, ◌<◌};
+ghost use Rattle.std.specs.Prelude.{◌≡◌, ◌<◌, IfSome};
 ghost use Rattle.text_parts.specs.Hex.{upper_digit, upper_hex, hex_digit};
 
-#[tactic(auto, unfolding(crate::specs::Hex::hex_digit))]
 /// The value of a hexadecimal digit in either case; nothing for another byte.
+#[tactic(auto, unfolding(crate::specs::Hex::hex_digit))]
 pub fn hex_digit(b: u8) -> Option<u8>
-    ensures { result ≡ hex_digit b }
+    ensures value { result ≡ hex_digit b }
+    ensures digit { IfSome result (λ v. v < 16) }
 {
     match b {
         b'0'..=b'9' => Some(b - b'0'),

@@ -1,0 +1,22 @@
+use Rattle.std.proofs.Common.{arith, ◌≡◌, ◌∙◌, sym}
+use Rattle.std.proofs.lemmas.Result.{err_from_is_err_and}
+use Rattle.image_text.proofs.Lines.{read_end, read_fault, read_next, read_quit}
+use Rattle.image_text.proofs.parse.parse_image.Goals as goal
+
+pub returns-in_err-goes_on : goal.returns-in_err-goes_on
+returns-in_err-goes_on c =
+    let p = err_from_is_err_and c.from_residual-in_err-goes_on.result c.from_residual-in_err-goes_on.ensures.1 in
+    rw (p.1, p.2, ← c.loop-line.invariant.left) (read_fault _ _ _ _ _ _ c.in-Some.ensures.cut.0 c.in_err-goes_on.ensures.value)
+
+pub returns-then-not-goes_on : goal.returns-then-not-goes_on
+returns-then-not-goes_on c = rw (← c.loop-line.invariant.left, read_quit _ _ _ _ _ _ _ c.in-Some.ensures.cut.0 c.in_ok-goes_on.ensures.value c.if-not-goes_on.true) (rw c.as_slice.ensures.value at c.finish.ensures)
+
+pub loop-line-preserved : goal.loop-line-preserved
+loop-line-preserved c = record {
+  len = c.add_line.ensures.len;
+  number = omega (arith, c.in-Some.ensures.cut.1);
+  left = read_next _ _ _ _ _ _ _ c.in-Some.ensures.cut.0 c.in_ok-goes_on.ensures.value c.if-not-goes_on.false ∙ c.loop-line.invariant.left;
+}
+
+pub returns : goal.returns
+returns c = sym c.loop-line.invariant.left ∙ read_end _ _ _ c.in_default.ensures.cut

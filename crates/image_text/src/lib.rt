@@ -1,0 +1,15 @@
+//! Images of the FRAM, as TI-TXT texts and as values.
+#![tactic(auto)]
+
+mod builder;
+mod fault;
+mod image;
+mod line;
+mod parse;
+
+
+pub use fault::ImageFault;
+pub use image::Image;
+pub use parse::parse_image;
+
+
