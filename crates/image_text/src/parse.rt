@@ -1,7 +1,6 @@
 //! Texts read as images.
-ghost use Rattle.std.specs.Prelude.{◌≡◌, ◌<◌, ◌+◌, length, IfOk, unwrap_or, Some, None};
+ghost use Rattle.std.specs.Prelude.{◌≡◌, ◌<◌, ◌+◌, ◌*◌, length, IfOk, unwrap_or, Some, None};
 ghost use Rattle.text_parts.specs.Lines.{lines};
-ghost use Rattle.alp_words.specs.Words.{word_of_bytes};
 ghost use Rattle.image_text.specs.Reading.{Gives, words_of, unblank_from, finish, image_of};
 
 use crate::builder::ImageBuilder;
@@ -11,6 +10,13 @@ use alp_words::from_bytes;
 use std::alloc::{AllocError, Global};
 use text_parts::{cut_line, is_blank_line};
 
+// The word of two bytes, those that aren't given 0.
+fn word_from(low: Option<u8>, high: Option<u8>) -> u16
+    ensures { result ≡ unwrap_or low 0 + 256 * unwrap_or high 0 }
+{
+    from_bytes([low.unwrap_or(0), high.unwrap_or(0)])
+}
+
 // The words of the FRAM's bytes; a byte that isn't given is 0.
 fn words_of(alloc: Global, memory: &[Option<u8>]) -> Result<Vec<u16>, AllocError>
     requires { length memory.now ≡ 48128 }
@@ -19,9 +25,7 @@ fn words_of(alloc: Global, memory: &[Option<u8>]) -> Result<Vec<u16>, AllocError
 {
     let mut words = Vec::new(alloc);
     for i in 0..24064usize {
-        let low = memory[2 * i].unwrap_or(0);
-        let high = memory[2 * i + 1].unwrap_or(0);
-        words.push(from_bytes([low, high]))?;
+        words.push(word_from(memory[2 * i], memory[2 * i + 1]))?;
     }
     Ok(words)
 }

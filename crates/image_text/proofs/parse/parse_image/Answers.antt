@@ -1,15 +1,21 @@
 use Rattle.std.proofs.Common.{arith, ◌≡◌, ◌∙◌, sym}
 use Rattle.std.proofs.lemmas.Result.{err_from_is_err_and}
 use Rattle.image_text.proofs.Lines.{read_end, read_fault, read_next, read_quit}
+use Rattle.image_text.specs.Reading.{Gives, image_of}
 use Rattle.image_text.proofs.parse.parse_image.Goals as goal
 
 pub returns-in_err-goes_on : goal.returns-in_err-goes_on
 returns-in_err-goes_on c =
     let p = err_from_is_err_and c.from_residual-in_err-goes_on.result c.from_residual-in_err-goes_on.ensures.1 in
-    rw (p.1, p.2, ← c.loop-line.invariant.left) (read_fault _ _ _ _ _ _ c.in-Some.ensures.cut.0 c.in_err-goes_on.ensures.value)
+    let value : Gives (λ image. image) c.from_residual-in_err-goes_on.result (image_of c.args.text.now) =
+    rw (p.1, p.2, ← c.loop-line.invariant.left) (read_fault _ _ _ _ _ _ c.in-Some.ensures.cut.0 c.in_err-goes_on.ensures.value) in
+    record { value = value }
 
 pub returns-then-not-goes_on : goal.returns-then-not-goes_on
-returns-then-not-goes_on c = rw (← c.loop-line.invariant.left, read_quit _ _ _ _ _ _ _ c.in-Some.ensures.cut.0 c.in_ok-goes_on.ensures.value c.if-not-goes_on.true) (rw c.as_slice.ensures.value at c.finish.ensures)
+returns-then-not-goes_on c =
+    let value : Gives (λ image. image) c.finish.result (image_of c.args.text.now) =
+    rw (← c.loop-line.invariant.left, read_quit _ _ _ _ _ _ _ c.in-Some.ensures.cut.0 c.in_ok-goes_on.ensures.value c.if-not-goes_on.true) (rw c.as_slice.ensures.value at c.finish.ensures) in
+    record { value = value }
 
 pub loop-line-preserved : goal.loop-line-preserved
 loop-line-preserved c = record {
@@ -19,4 +25,4 @@ loop-line-preserved c = record {
 }
 
 pub returns : goal.returns
-returns c = sym c.loop-line.invariant.left ∙ read_end _ _ _ c.in_default.ensures.cut
+returns c = record { value = sym c.loop-line.invariant.left ∙ read_end _ _ _ c.in_default.ensures.cut }
