@@ -5,3 +5,5 @@ pub mod Places
 pub mod Back
 pub mod Sections
 pub mod Spread
+pub mod Cuts
+pub mod Printed

@@ -1,5 +1,5 @@
 -- The sections of words place these words, so an image that is printed reads back.
-use Rattle.std.proofs.Common.{◌≡◌, ◌≢◌, ◌≤◌, ◌<◌, ℕ, suc, zero, ◌+◌, ◌-◌, ◌*◌, ◌/◌, ◌%◌, ◌==◌, ◌&&◌, ◌||◌, List, [], ◌∷◌, ◌++◌, length, map, get_or, arith, refl, ap, sym, subst, ◌∙◌, if◌then◌else◌, not, Bool, true, false, Option, Some, None, Result, Ok, Err, append_assoc, length-append}
+use Rattle.std.proofs.Common.{◌≡◌, ◌≢◌, ◌≤◌, ◌<◌, ℕ, suc, zero, ◌+◌, ◌-◌, ◌*◌, ◌/◌, ◌%◌, ◌==◌, ◌&&◌, ◌||◌, List, [], ◌∷◌, ◌++◌, length, map, get_or, arith, refl, ap, sym, subst, ◌∙◌, if◌then◌else◌, not, Bool, true, false, Option, Some, None, Result, Ok, Err, append_assoc, length-append, All, ◌^◌}
 use Rattle.std.proofs.lemmas.Bool.Decides.{nat_tests}
 use Rattle.std.specs.Prelude.{is_some, unwrap_or}
 use Rattle.image_text.specs.Reading.{read, finish, words_of, empty, image_of, unblank_from, no_map}
@@ -201,3 +201,13 @@ pub image_back : (ws : List ℕ) → AreWords16 ws → length ws ≡ 24064 → i
 image_back ws h e =
     let k : 48128 ≡ 2 * length ws = omega arith in
     back 48128 ws h e k
+
+words16 : (ws : List ℕ) → All (λ w. w < 2 ^ 16) ws → AreWords16 ws
+words16 [] h = tt
+words16 (w ∷ ws) h = (h 0 w (omega arith), words16 ws (λ i d l. h (suc i) d (omega arith)))
+
+-- the same, where the words are known by another list
+pub printed_back : (ws rest text : List ℕ) → rest ≡ ws → length rest ≡ 24064 → All (λ (w : ℕ). w < 2 ^ 16) rest → text ≡ text_of ws → image_of text ≡ Ok (record { words = ws })
+printed_back ws rest text e len ranges is =
+    let P : List ℕ → Type 0 = λ ws. image_of (text_of ws) ≡ Ok (record { words = ws }) in
+    ap image_of is ∙ subst P e (image_back rest (words16 rest ranges) len)

@@ -6,10 +6,12 @@ mod fault;
 mod image;
 mod line;
 mod parse;
+mod print;
 
 
 pub use fault::ImageFault;
 pub use image::Image;
 pub use parse::parse_image;
+pub use print::print_image;
 
 
