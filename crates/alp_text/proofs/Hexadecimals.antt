@@ -20,6 +20,7 @@ four_digits a b c d ha hb hc hd =
     rw (digit_back a ha, digit_back b hb, digit_back c hc, digit_back d hd, la, lb, lc, ld, small) refl
 
 pub numeral-hex4 : (w : ℕ) → w < 2 ^ 16 → numeral 16 (hex4 w) ≡ Ok w
+unfolding hex4
 numeral-hex4 w h =
     let value : (((0 * 16 + w / 4096) * 16 + w / 256 % 16) * 16 + w / 16 % 16) * 16 + w % 16 ≡ w = omega arith in
     subst (λ n. numeral 16 (hex4 w) ≡ Ok n) value

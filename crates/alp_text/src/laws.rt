@@ -21,7 +21,7 @@ pub fn leading_zero(digits: &[u8])
 {}
 
 /// Numbers and texts that are none, row by row.
-#[tactic(auto, unfolding(crate::specs::Numbers::digit_of))]
+#[tactic(auto, unfolding(crate::specs::Numbers::digit_of, crate::specs::Numbers::hex4))]
 pub fn spellings()
     ensures { SpellingRows }
 {}
