@@ -7,3 +7,6 @@ pub mod Sections
 pub mod Spread
 pub mod Cuts
 pub mod Printed
+pub mod Apart
+pub mod Placing
+pub mod Meanings

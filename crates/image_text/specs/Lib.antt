@@ -4,3 +4,4 @@ pub mod Memory
 pub mod Reading
 pub mod Builder
 pub mod Text
+pub mod Meaning

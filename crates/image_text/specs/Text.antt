@@ -1,5 +1,5 @@
 -- An image as a TI-TXT text: its sections of words that are shown.
-use Rattle.std.specs.Prelude.{ℕ, suc, ◌+◌, ◌*◌, ◌/◌, ◌%◌, ◌==◌, ◌||◌, Bool, true, false, not, if◌then◌else◌, List, [], ◌∷◌, ◌++◌, length, map}
+use Rattle.std.specs.Prelude.{◌≡◌, ◌<◌, ℕ, suc, ◌+◌, ◌*◌, ◌/◌, ◌%◌, ◌==◌, ◌||◌, Bool, true, false, not, if◌then◌else◌, List, [], ◌∷◌, ◌++◌, length, map}
 use Rattle.alp_words.specs.Words.{word_bytes}
 use Rattle.text_parts.specs.Groups.{groups}
 use Rattle.text_parts.specs.Hex.{upper_hex}
@@ -70,3 +70,23 @@ hidden_len j (w ∷ ws) = if is_shown j w then 0 else suc (hidden_len (j + 1) ws
 abbrev pub shown_len : ℕ → List ℕ → ℕ
 shown_len j [] = 0
 shown_len j (w ∷ ws) = if is_shown j w then suc (shown_len (j + 1) ws) else 0
+
+-- each word in a row is shown, or none is
+abbrev pub AreShown : Bool → ℕ → List ℕ → Type 0
+AreShown t j [] = Unit {0}
+AreShown t j (w ∷ ws) = (is_shown j w ≡ t) × AreShown t (j + 1) ws
+
+-- words from a place on begin with words that aren't shown, then the section, all of whose words are shown, and behind it none is at once
+pub record BeginsWithSection (j : ℕ) (ws : List ℕ) (s : Section) (rest : List ℕ) : Type 0 where
+  pub gap : List ℕ
+  pub made : ws ≡ gap ++ s.words ++ rest
+  pub hidden : AreShown false j gap
+  pub place : s.place ≡ j + length gap
+  pub some : 0 < length s.words
+  pub shown : AreShown true s.place s.words
+  pub longest : begins_shown (s.place + length s.words) rest ≡ false
+
+-- the sections of words from a place on: rising, apart, each as long as can be, and no other word is shown
+abbrev pub AreSections : ℕ → List ℕ → List Section → Type 0
+AreSections j ws [] = AreShown false j ws
+AreSections j ws (s ∷ ss) = (rest : List ℕ) × BeginsWithSection j ws s rest × AreSections (s.place + length s.words) rest ss

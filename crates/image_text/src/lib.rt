@@ -8,10 +8,10 @@ mod line;
 mod parse;
 mod print;
 
-
 pub use fault::ImageFault;
 pub use image::Image;
 pub use parse::parse_image;
 pub use print::print_image;
 
-
+#[cfg(test)]
+mod tests;

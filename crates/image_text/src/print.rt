@@ -3,7 +3,7 @@ ghost use Rattle.std.specs.Prelude.{◌≡◌, ◌≤◌, ◌<◌, ◌+◌, ◌*
 ghost use Rattle.text_parts.specs.Groups.{groups};
 ghost use Rattle.text_parts.specs.Hex.{upper_hex};
 ghost use Rattle.text_parts.specs.Printed.{spaced, printed};
-ghost use Rattle.image_text.specs.Text.{is_shown, sections, section_lines, lines_of_sections, text_of, upper_hex4, bytes_in, pair_text, tail_text, hidden_len, shown_len};
+ghost use Rattle.image_text.specs.Text.{is_shown, sections, section_lines, lines_of_sections, text_of, upper_hex4, bytes_in, pair_text, tail_text, hidden_len, shown_len, AreSections};
 ghost use Rattle.image_text.specs.Reading.{image_of};
 
 use crate::image::Image;
@@ -154,6 +154,7 @@ fn push_sections(out: &mut Vec<u8>, words: &[u16]) -> Result<(), AllocError>
 pub fn print_image(alloc: Global, image: &Image) -> Result<Vec<u8>, AllocError>
     ensures text { IfOk result (λ v. v.items ≡ text_of image.now.words) }
     ensures reads_back { IfOk result (λ v. image_of v.items ≡ Ok image.now) }
+    ensures sections { AreSections 0 image.now.words (sections 0 image.now.words) }
 {
     let mut out = Vec::new(alloc);
     push_sections(&mut out, image.words())?;
