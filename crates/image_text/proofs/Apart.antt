@@ -1,14 +1,21 @@
 -- The sections of words are rising, apart and as long as can be.
-use Rattle.std.proofs.Common.{◌≡◌, ◌<◌, ℕ, suc, zero, ◌+◌, List, [], ◌∷◌, ◌++◌, length, arith, refl, ap, sym, subst, ◌∙◌, if◌then◌else◌, Bool, true, false, append_assoc}
-use Rattle.image_text.specs.Text.{is_shown, begins_shown, onto_section, sections, Section, AreShown, BeginsWithSection, AreSections}
+use Rattle.std.proofs.Common.{◌≡◌, ℕ, suc, ◌+◌, List, [], ◌∷◌, ◌++◌, length, arith, refl, ap, sym, subst, ◌∙◌, if◌then◌else◌, Bool, true, false, append_assoc}
+use Rattle.image_text.specs.Text.{is_shown, begins_shown, onto_section, sections, Section, AreShown, AreSections}
 
 -- a word more that isn't shown
 hidden_more : (j w : ℕ) (ws : List ℕ) (ss : List Section) → is_shown j w ≡ false → AreSections (j + 1) ws ss → AreSections j (w ∷ ws) ss
 hidden_more j w ws [] e h = (e, h)
 hidden_more j w ws (s ∷ ss) e (rest, first, h) = (
   rest,
-  record { gap = w ∷ first.gap; made = ap (λ r. w ∷ r) first.made; hidden = (e, first.hidden); place = first.place ∙ omega arith;
-    some = first.some; shown = first.shown; longest = first.longest },
+  record {
+    gap = w ∷ first.gap;
+    made = ap (λ r. w ∷ r) first.made;
+    hidden = (e, first.hidden);
+    place = first.place ∙ omega arith;
+    some = first.some;
+    shown = first.shown;
+    longest = first.longest;
+  },
   h,
 )
 
@@ -39,11 +46,17 @@ shown_more true j w ws (s ∷ ss) e k (rest, first, h) =
     let end : s.place + length s.words ≡ j + suc (length s.words) = ap (λ i. i + length s.words) at ∙ omega arith in
     let P : ℕ → Type 0 = λ i. AreShown true i s.words in
     let Q : ℕ → Type 0 = λ i. AreSections i rest ss in
-    let R : ℕ → Type 0 = λ i. begins_shown i rest ≡ false in
-    (
+    let R : ℕ → Type 0 = λ i. begins_shown i rest ≡ false in (
       rest,
-      record { gap = []; made = ap (λ r. w ∷ r) (made ∙ ap (λ g. g ++ (s.words ++ rest)) none); hidden = tt; place = omega arith; some = omega arith;
-        shown = (e, subst P at first.shown); longest = subst R end first.longest },
+      record {
+        gap = [];
+        made = ap (λ r. w ∷ r) (made ∙ ap (λ g. g ++ (s.words ++ rest)) none);
+        hidden = tt;
+        place = omega arith;
+        some = omega arith;
+        shown = (e, subst P at first.shown);
+        longest = subst R end first.longest;
+      },
       subst Q end h,
     )
 

@@ -1,16 +1,16 @@
 -- Lines that are printed read back as what they say.
-use Rattle.std.proofs.Common.{◌≡◌, ◌≤◌, ◌<◌, ℕ, suc, zero, ◌+◌, ◌-◌, ◌*◌, ◌/◌, ◌%◌, ◌==◌, ◌&&◌, ◌||◌, List, [], ◌∷◌, ◌++◌, length, map, arith, refl, ap, sym, subst, ◌∙◌, if◌then◌else◌, nat_lt, nat_le, Bool, true, false, Option, Some, None, Result, Ok, Err, append_assoc, length-append}
+use Rattle.std.proofs.Common.{◌≡◌, ◌≤◌, ◌<◌, ℕ, suc, ◌+◌, ◌-◌, ◌/◌, ◌%◌, ◌==◌, List, [], ◌∷◌, ◌++◌, length, map, arith, refl, ap, sym, subst, ◌∙◌, if◌then◌else◌, nat_lt, Bool, true, false, Option, Some, Ok, append_assoc, length-append}
 use Rattle.std.proofs.lemmas.Bool.Decides.{nat_tests}
 use Rattle.text_parts.specs.Lines.{lines}
 use Rattle.text_parts.specs.Fields.{fields, is_blank, begins_blank}
 use Rattle.text_parts.specs.Groups.{groups, groups_from, onto_group}
 use Rattle.text_parts.specs.Hex.{hex_digit, upper_digit, upper_hex}
 use Rattle.text_parts.specs.Printed.{spaced, printed}
-use Rattle.text_parts.proofs.Printing.{Inked, AreWords, fields_spaced, lines_printed}
-use Rattle.image_text.specs.Line.{address, bytes, quit, line_says, front_says, fields_say, byte_of, bytes_of, hex_value, address_of, bytes_said, field_says, ◌>>?◌}
-use Rattle.image_text.specs.Memory.{Placed, put_once, place, step, put_at}
+use Rattle.text_parts.proofs.Printing.{AreWords, fields_spaced, lines_printed}
+use Rattle.image_text.specs.Line.{address, bytes, quit, line_says, front_says, fields_say, byte_of, bytes_of, address_of, bytes_said, ◌>>?◌}
+use Rattle.image_text.specs.Memory.{Placed, step}
 use Rattle.image_text.specs.Reading.{read}
-use Rattle.image_text.specs.Text.{upper_hex4, bytes_in, Section}
+use Rattle.image_text.specs.Text.{upper_hex4, bytes_in}
 use Rattle.image_text.proofs.Lines.{read_next}
 use Rattle.image_text.proofs.Places.{nones, put_seam, append_nil}
 

@@ -1,10 +1,7 @@
 -- The first section of words.
-use Rattle.std.proofs.Common.{◌≡◌, ◌≢◌, ◌≤◌, ◌<◌, ℕ, suc, zero, ◌+◌, ◌-◌, List, [], ◌∷◌, ◌++◌, length, map, drop, take, arith, refl, ap, sym, ◌∙◌, if◌then◌else◌, Bool, true, false, length-drop}
+use Rattle.std.proofs.Common.{◌≡◌, ◌≢◌, ◌≤◌, ◌<◌, ℕ, suc, zero, ◌+◌, ◌-◌, List, [], ◌∷◌, length, drop, take, arith, refl, ap, sym, ◌∙◌, if◌then◌else◌, Bool, true, false, length-drop}
 use Rattle.std.proofs.lemmas.List.{take_rest}
-use Rattle.text_parts.specs.Hex.{upper_hex}
-use Rattle.text_parts.specs.Printed.{spaced, printed}
-use Rattle.image_text.specs.Text.{is_shown, begins_shown, onto_section, sections, Section, hidden_len, shown_len, pair_text, tail_text, bytes_in, section_lines, lines_of_sections, text_of, upper_hex4}
-use Rattle.image_text.proofs.Back.{more_words, one_word}
+use Rattle.image_text.specs.Text.{is_shown, begins_shown, onto_section, sections, Section, hidden_len, shown_len}
 
 no_sections : (j : ℕ) → sections j [] ≡ []
 unfolding sections
@@ -98,8 +95,11 @@ section_cut j n m ws e h f g k =
     let skip : sections j ws ≡ sections (j + n) rest = sections_skip j ws ∙ ap (λ i. sections (j + i) (drop i ws)) (sym e) in
     let short : m ≤ length rest = rw is at g in
     let len : length (take m rest) ≡ m = taken m rest short in
-    rw (is, behind_is m rest) (skip ∙ word.0 ∙ ap (λ i. record { place = j + n; words = take m rest } ∷ sections (j + n + i) (drop m rest)) (sym len),
-      (let p : 0 < m = word.1 in omega arith), omega (arith, length-drop m rest, length-drop n ws))
+    rw (is, behind_is m rest) (
+      skip ∙ word.0 ∙ ap (λ i. record { place = j + n; words = take m rest } ∷ sections (j + n + i) (drop m rest)) (sym len),
+      (let p : 0 < m = word.1 in omega arith),
+      omega (arith, length-drop m rest, length-drop n ws),
+    )
   where
     taken : (m : ℕ) (xs : List ℕ) → m ≤ length xs → length (take m xs) ≡ m
     taken zero xs h = refl

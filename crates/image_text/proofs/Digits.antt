@@ -1,5 +1,5 @@
 -- The value of up to eight hexadecimal digits.
-use Rattle.std.proofs.Common.{◌≡◌, ◌≤◌, ◌<◌, ◌^◌, ℕ, suc, zero, ◌+◌, ◌*◌, List, [], ◌∷◌, length, drop, get_or, drop-cons, add-one, arith, ap, sym, ◌∙◌, Option, Some}
+use Rattle.std.proofs.Common.{◌≡◌, ◌<◌, ◌^◌, ℕ, suc, zero, ◌+◌, ◌*◌, List, length, drop, get_or, drop-cons, add-one, arith, ap, sym, ◌∙◌, Some}
 use Rattle.text_parts.specs.Hex.{hex_digit}
 use Rattle.image_text.specs.Line.{hex_value, ◌>>?◌}
 

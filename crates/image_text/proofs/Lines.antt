@@ -1,11 +1,10 @@
 -- The steps of reading, and the words of bytes.
-use Rattle.std.proofs.Common.{◌≡◌, ◌≢◌, ◌≤◌, ◌<◌, ℕ, suc, zero, ◌+◌, ◌-◌, ◌*◌, List, [], ◌∷◌, ◌++◌, length, drop, get_or, drop-cons, add-one, arith, if◌then◌else◌, refl, ap, sym, ◌∙◌, Bool, true, false, Option, Some, None, Result, Ok, Err, append_assoc}
+use Rattle.std.proofs.Common.{◌≡◌, ◌≤◌, ◌<◌, ℕ, suc, ◌+◌, ◌*◌, List, [], ◌∷◌, ◌++◌, length, drop, get_or, drop-cons, add-one, arith, if◌then◌else◌, refl, ap, sym, ◌∙◌, Bool, true, false, Option, Some, None, Result, Ok, Err, append_assoc}
 use Rattle.std.specs.Prelude.{unwrap_or}
 use Rattle.image_text.proofs.Puts.{drop_end}
 use Rattle.text_parts.specs.Fields.{fields, no_fields}
 use Rattle.image_text.specs.declared.fault.ImageFault.{ImageFault}
 use Rattle.image_text.specs.declared.fault.ImageFault.TheVariants as fault
-use Rattle.image_text.specs.ImageValue.{ImageValue}
 use Rattle.image_text.specs.Line.{line_says}
 use Rattle.image_text.specs.Memory.{Placed, step}
 use Rattle.image_text.specs.Reading.{read, unblank_from, goes_on, finish, Fails, ◌>>=◌, words_of}

@@ -120,7 +120,10 @@ at_place ms p k s h = pick (s.each k)
 fitting : (ms : List LineMeaning) (bs : List ℕ) (p : Placed) (a : ℕ) (n : List (Option ℕ)) → 17408 ≤ a → a + length bs ≤ 65536 → next_address None ms ≡ Some a
     → Puts (a - 17408) bs p.memory n → State ms p → Fits ms bs
 fitting ms bs p a n low high e put s = record {
-  place = a; here = e; low = low; high = high;
+  place = a;
+  here = e;
+  low = low;
+  high = high;
   free = λ x l r. ap (given ms) (let z : x ≡ 17408 + (x - 17408) = omega arith in z) ∙ sym (at_place ms p (x - 17408) s (omega arith)) ∙ put.free (x - 17408) (omega arith) (omega arith);
 }
 
@@ -140,7 +143,7 @@ put_meaning None done ls l ms bs p a next h s e f low high put = twice (taken (a
 bytes_by : (t u : Bool) (done ls : List (List ℕ)) (l : List ℕ) (ms : List LineMeaning) (bs : List ℕ) (p : Placed) (a : ℕ) → Continues ls → AreLines done ms → State ms p
     → line_says l ≡ Some (bytes bs) → next_address None ms ≡ Some a → nat_lt a 17408 ≡ t → nat_lt 65536 (a + length bs) ≡ u
     → IsMeaningOf (done ++ l ∷ ls) ((if t || u then Err (fault.OutsideFram (length done + 1)) else put_at (length done + 1) a (length bs) (put_once (a - 17408) bs p.memory))
-      >>= λ o. goes_on o.0 (read (length done + 1 + 1) o.1 ls) (finish (length done + 1 + 1) o.1.memory ls))
+    >>= λ o. goes_on o.0 (read (length done + 1 + 1) o.1 ls) (finish (length done + 1 + 1) o.1.memory ls))
 bytes_by true u done ls l ms bs p a next h s e f t k = fault_at done ls l ms IsOutside h (bs, a, e, f, inl (grind (arith, nat_tests, t)))
 bytes_by false true done ls l ms bs p a next h s e f t k = fault_at done ls l ms IsOutside h (bs, a, e, f, inr (grind (arith, nat_tests, k)))
 bytes_by false false done ls l ms bs p a next h s e f t k = put_meaning (put_once (a - 17408) bs p.memory) done ls l ms bs p a next h s e f (grind (arith, nat_tests, t)) (grind (arith, nat_tests, k)) refl

@@ -1,5 +1,5 @@
 -- Bytes that are put right behind what is placed.
-use Rattle.std.proofs.Common.{◌≡◌, ◌≢◌, ◌≤◌, ◌<◌, ℕ, suc, zero, ◌+◌, ◌-◌, ◌*◌, List, [], ◌∷◌, ◌++◌, length, map, get_or, arith, refl, ap, sym, ◌∙◌, if◌then◌else◌, Bool, true, false, Option, Some, None, append_assoc, length-append}
+use Rattle.std.proofs.Common.{◌≡◌, ℕ, suc, zero, ◌+◌, List, [], ◌∷◌, ◌++◌, length, map, get_or, arith, refl, ap, sym, ◌∙◌, if◌then◌else◌, Bool, false, Option, Some, None, append_assoc, length-append}
 use Rattle.std.specs.Prelude.{slice_set, is_some}
 use Rattle.image_text.specs.Memory.{put_once}
 

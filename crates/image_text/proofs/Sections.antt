@@ -1,20 +1,16 @@
 -- Sections that are printed read back as what they place.
-use Rattle.std.proofs.Common.{◌≡◌, ◌≢◌, ◌≤◌, ◌<◌, ℕ, suc, zero, ◌+◌, ◌-◌, ◌*◌, ◌/◌, ◌%◌, ◌==◌, ◌||◌, List, [], ◌∷◌, ◌++◌, length, map, get_or, arith, refl, ap, sym, subst, ◌∙◌, if◌then◌else◌, not, Bool, true, false, Option, Some, None, Result, Ok, Err, append_assoc, length-append}
-use Rattle.std.proofs.lemmas.Bool.Decides.{nat_tests}
-use Rattle.std.specs.Prelude.{is_some, unwrap_or}
-use Rattle.image_text.specs.declared.fault.ImageFault.{ImageFault}
+use Rattle.std.proofs.Common.{◌≡◌, ◌≤◌, ◌<◌, ℕ, suc, zero, ◌+◌, ◌*◌, List, [], ◌∷◌, ◌++◌, length, map, arith, refl, ap, sym, ◌∙◌, true, false, Option, Some, None, append_assoc, length-append}
 use Rattle.text_parts.specs.Lines.{lines}
 use Rattle.text_parts.specs.Printed.{printed}
 use Rattle.text_parts.proofs.Printing.{lines_printed}
-use Rattle.image_text.specs.Line.{line_says}
 use Rattle.image_text.specs.Memory.{Placed, step}
-use Rattle.image_text.specs.Reading.{read, finish, words_of}
+use Rattle.image_text.specs.Reading.{read, finish}
 use Rattle.image_text.specs.Text.{upper_hex4, bytes_in, Section, section_lines, lines_of_sections}
 use Rattle.text_parts.specs.Groups.{groups}
 use Rattle.text_parts.specs.Hex.{upper_hex}
 use Rattle.text_parts.specs.Lines.{pieces}
 use Rattle.image_text.proofs.Lines.{read_next, read_quit}
-use Rattle.image_text.proofs.Places.{nones, nones_more, append_nil}
+use Rattle.image_text.proofs.Places.{nones, nones_more}
 use Rattle.image_text.proofs.Back.{AreWords16, joined, joined_groups, are_groups, seam, read_groups, line_at, line_quit, upper_hex4_words, length_some}
 
 -- a run behind a gap

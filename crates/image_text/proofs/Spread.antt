@@ -1,14 +1,14 @@
 -- The sections of words place these words, so an image that is printed reads back.
-use Rattle.std.proofs.Common.{◌≡◌, ◌≢◌, ◌≤◌, ◌<◌, ℕ, suc, zero, ◌+◌, ◌-◌, ◌*◌, ◌/◌, ◌%◌, ◌==◌, ◌&&◌, ◌||◌, List, [], ◌∷◌, ◌++◌, length, map, get_or, arith, refl, ap, sym, subst, ◌∙◌, if◌then◌else◌, not, Bool, true, false, Option, Some, None, Result, Ok, Err, append_assoc, length-append, All, ◌^◌}
+use Rattle.std.proofs.Common.{◌≡◌, ◌<◌, ℕ, suc, zero, ◌+◌, ◌*◌, ◌/◌, ◌%◌, ◌==◌, ◌||◌, List, [], ◌∷◌, ◌++◌, length, map, get_or, arith, refl, ap, sym, subst, ◌∙◌, if◌then◌else◌, not, Bool, true, false, Option, Some, None, Ok, append_assoc, length-append, All, ◌^◌}
 use Rattle.std.proofs.lemmas.Bool.Decides.{nat_tests}
 use Rattle.std.specs.Prelude.{is_some, unwrap_or}
-use Rattle.image_text.specs.Reading.{read, finish, words_of, empty, image_of, unblank_from, no_map}
+use Rattle.image_text.specs.Reading.{read, finish, words_of, empty, image_of, unblank_from}
 use Rattle.image_text.specs.Text.{is_shown, begins_shown, onto_section, sections, bytes_in, Section, lines_of_sections, text_of}
 use Rattle.text_parts.specs.Lines.{lines}
 use Rattle.text_parts.specs.Printed.{printed}
-use Rattle.image_text.proofs.Places.{nones, nones_more, append_nil}
+use Rattle.image_text.proofs.Places.{nones, append_nil}
 use Rattle.image_text.proofs.Back.{AreWords16, one_word, more_words}
-use Rattle.image_text.proofs.Sections.{Holds, Stands, read_runs}
+use Rattle.image_text.proofs.Sections.{Holds, read_runs}
 
 -- the two places of a word, given or not
 abbrev pub places : Bool → ℕ → List (Option ℕ)

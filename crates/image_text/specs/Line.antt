@@ -1,5 +1,5 @@
 -- What one line of a TI-TXT text says: `@` and an address, bytes, or `q` for the end.
-use Rattle.std.specs.Prelude.{ℕ, ◌+◌, ◌*◌, ◌==◌, ◌&&◌, ◌||◌, Bool, true, false, nat_lt, nat_le, if◌then◌else◌, List, [], ◌∷◌, length, Option, Some, None}
+use Rattle.std.specs.Prelude.{ℕ, ◌+◌, ◌*◌, ◌==◌, ◌&&◌, ◌||◌, Bool, true, false, nat_le, if◌then◌else◌, List, [], ◌∷◌, length, Option, Some, None}
 use Rattle.text_parts.specs.Fields.{fields, begins_blank}
 use Rattle.text_parts.specs.Hex.{hex_digit}
 

@@ -1,5 +1,5 @@
 -- When lines are an image, and which fault is the first, said by the lines themselves.
-use Rattle.std.specs.Prelude.{◌≡◌, ℕ, ◌+◌, ◌-◌, ◌*◌, ◌<◌, ◌≤◌, ◌⊎◌, Bool, true, false, nat_le, if◌then◌else◌, List, [], ◌∷◌, ◌++◌, length, map, Option, Some, None, Ok, Err, Result, slice_get, slice_index, is_some, unwrap_or}
+use Rattle.std.specs.Prelude.{◌≡◌, ℕ, ◌+◌, ◌-◌, ◌*◌, ◌<◌, ◌≤◌, ◌⊎◌, true, false, nat_le, if◌then◌else◌, List, [], ◌∷◌, ◌++◌, length, map, Option, Some, None, Ok, Err, Result, slice_get, slice_index, is_some, unwrap_or}
 use Rattle.text_parts.specs.Fields.{fields, no_fields}
 use Rattle.image_text.specs.declared.fault.ImageFault.{ImageFault}
 use Rattle.image_text.specs.declared.fault.ImageFault.TheVariants as fault

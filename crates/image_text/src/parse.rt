@@ -2,6 +2,7 @@
 ghost use Rattle.std.specs.Prelude.{◌≡◌, ◌<◌, ◌+◌, ◌*◌, length, IfOk, unwrap_or, Some, None};
 ghost use Rattle.text_parts.specs.Lines.{lines};
 ghost use Rattle.image_text.specs.Reading.{Gives, words_of, unblank_from, finish, image_of};
+ghost use Rattle.image_text.specs.Meaning.{IsMeaningOf};
 
 use crate::builder::ImageBuilder;
 use crate::fault::ImageFault;
@@ -71,6 +72,7 @@ fn finish(alloc: Global, memory: &[Option<u8>], rest: &[u8], n: u32) -> Result<I
 pub fn parse_image(alloc: Global, text: &[u8]) -> Result<Image, ImageFault>
     requires { length text.now < 4294967295 }
     ensures value { Gives (λ image. image) result (image_of text.now) }
+    ensures meaning { IsMeaningOf (lines text.now) result }
 {
     let mut builder = ImageBuilder::new(alloc)?;
     let mut n = 1;

@@ -45,16 +45,49 @@ fn sixteen_bytes_a_line(rt: HostRuntime) -> Result<(), Fail> {
 
 #[test]
 fn refuses(rt: HostRuntime) -> Result<(), Fail> {
-    assert_eq!(rt; fault_of(&rt, b"01\n"), Some(ImageFault::BadLine { line: 1 }));
-    assert_eq!(rt; fault_of(&rt, b"@4400\n01 0g\n"), Some(ImageFault::BadLine { line: 2 }));
-    assert_eq!(rt; fault_of(&rt, b"@4400\n 01\nq"), Some(ImageFault::BadLine { line: 2 }));
-    assert_eq!(rt; fault_of(&rt, b"@4400\n01\n"), Some(ImageFault::BadLine { line: 3 }));
-    assert_eq!(rt; fault_of(&rt, b"@4400\n01\rq"), Some(ImageFault::BadLine { line: 2 }));
-    assert_eq!(rt; fault_of(&rt, b"@000004400\nq"), Some(ImageFault::BadLine { line: 1 }));
-    assert_eq!(rt; fault_of(&rt, b"@1C00\n01\nq"), Some(ImageFault::OutsideFram { line: 2 }));
-    assert_eq!(rt; fault_of(&rt, b"@FFFF\n01 02\nq"), Some(ImageFault::OutsideFram { line: 2 }));
-    assert_eq!(rt; fault_of(&rt, b"@4400\n01\n@4400\n01\nq"), Some(ImageFault::Twice { line: 4 }));
-    assert_eq!(rt; fault_of(&rt, b"@4400\n01\nq\nx"), Some(ImageFault::NoReset));
-    assert_eq!(rt; fault_of(&rt, b"@FFFE\n01 44\nq\n\nmap\n"), Some(ImageFault::BadMap { line: 5 }));
+    assert_eq!(rt;
+        fault_of(&rt, b"01\n"),
+        Some(ImageFault::BadLine { line: 1 })
+    );
+    assert_eq!(rt;
+        fault_of(&rt, b"@4400\n01 0g\n"),
+        Some(ImageFault::BadLine { line: 2 })
+    );
+    assert_eq!(rt;
+        fault_of(&rt, b"@4400\n 01\nq"),
+        Some(ImageFault::BadLine { line: 2 })
+    );
+    assert_eq!(rt;
+        fault_of(&rt, b"@4400\n01\n"),
+        Some(ImageFault::BadLine { line: 3 })
+    );
+    assert_eq!(rt;
+        fault_of(&rt, b"@4400\n01\rq"),
+        Some(ImageFault::BadLine { line: 2 })
+    );
+    assert_eq!(rt;
+        fault_of(&rt, b"@000004400\nq"),
+        Some(ImageFault::BadLine { line: 1 })
+    );
+    assert_eq!(rt;
+        fault_of(&rt, b"@1C00\n01\nq"),
+        Some(ImageFault::OutsideFram { line: 2 })
+    );
+    assert_eq!(rt;
+        fault_of(&rt, b"@FFFF\n01 02\nq"),
+        Some(ImageFault::OutsideFram { line: 2 })
+    );
+    assert_eq!(rt;
+        fault_of(&rt, b"@4400\n01\n@4400\n01\nq"),
+        Some(ImageFault::Twice { line: 4 })
+    );
+    assert_eq!(rt;
+        fault_of(&rt, b"@4400\n01\nq\nx"),
+        Some(ImageFault::NoReset)
+    );
+    assert_eq!(rt;
+        fault_of(&rt, b"@FFFE\n01 44\nq\n\nmap\n"),
+        Some(ImageFault::BadMap { line: 5 })
+    );
     Ok(())
 }

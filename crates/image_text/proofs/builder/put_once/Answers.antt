@@ -1,4 +1,4 @@
-use Rattle.std.proofs.Common.{arith, ◌≡◌, ◌<◌, ◌∙◌, sym, length, length-set}
+use Rattle.std.proofs.Common.{arith, ◌∙◌, sym, length-set}
 use Rattle.image_text.proofs.Puts.{put_stop, put_more, put_end}
 use Rattle.image_text.proofs.builder.put_once.Goals as goal
 

@@ -1,4 +1,4 @@
-use Rattle.std.proofs.Common.{◌≡◌, ◌+◌, ◌<◌, ◌≤◌, drop, length, vec_len}
+use Rattle.std.proofs.Common.{◌≡◌, ◌+◌, ◌≤◌, length, vec_len}
 use Rattle.text_parts.specs.Lines.{lines}
 use Rattle.image_text.specs.Builder.{placed}
 use Rattle.image_text.specs.Reading.{read, image_of}

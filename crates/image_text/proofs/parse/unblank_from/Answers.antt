@@ -1,4 +1,4 @@
-use Rattle.std.proofs.Common.{arith, ◌≡◌, ◌∙◌, sym}
+use Rattle.std.proofs.Common.{arith, ◌∙◌, sym}
 use Rattle.image_text.proofs.Lines.{unblank_end, unblank_here, unblank_next}
 use Rattle.image_text.proofs.parse.unblank_from.Goals as goal
 

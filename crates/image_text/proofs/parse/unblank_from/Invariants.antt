@@ -1,4 +1,4 @@
-use Rattle.std.proofs.Common.{◌≡◌, ◌+◌, ◌<◌, ◌≤◌, drop, length}
+use Rattle.std.proofs.Common.{◌≡◌, ◌+◌, ◌≤◌, length}
 use Rattle.text_parts.specs.Lines.{lines}
 use Rattle.image_text.specs.Reading.{unblank_from}
 use Rattle.image_text.proofs.parse.unblank_from.Given as goal

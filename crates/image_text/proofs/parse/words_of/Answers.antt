@@ -1,4 +1,4 @@
-use Rattle.std.proofs.Common.{arith, ◌≡◌, ◌∙◌, sym, ap, ◌++◌, drop, ◌*◌, ◌+◌}
+use Rattle.std.proofs.Common.{arith, ◌∙◌, sym, ap, ◌++◌, drop, ◌*◌, ◌+◌}
 use Rattle.image_text.specs.Reading.{words_of}
 use Rattle.image_text.proofs.Lines.{words_more, words_end}
 use Rattle.image_text.proofs.parse.words_of.Goals as goal

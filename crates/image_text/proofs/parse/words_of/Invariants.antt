@@ -1,4 +1,4 @@
-use Rattle.std.proofs.Common.{◌≡◌, ◌+◌, ◌*◌, ◌++◌, drop, length}
+use Rattle.std.proofs.Common.{◌≡◌, ◌*◌, ◌++◌, drop, length}
 use Rattle.image_text.specs.Reading.{words_of}
 use Rattle.image_text.proofs.parse.words_of.Given as goal
 
