@@ -1,0 +1,9 @@
+-- The ranges of what a trace holds.
+use Rattle.std.specs.Prelude.{◌<◌, ◌^◌}
+use Rattle.energy_trace.specs.declared.charge.Charge.{Charge}
+
+-- N and K below 2^32, F below 2^16
+pub record IsCharge (c : Charge) : Type 0 where
+  pub n : c.n < 2 ^ 32
+  pub fill : c.fill < 2 ^ 16
+  pub times : c.times < 2 ^ 32

@@ -1,0 +1,12 @@
+pub mod Puts
+pub mod Lines
+pub mod Digits
+pub mod Places
+pub mod Back
+pub mod Sections
+pub mod Spread
+pub mod Cuts
+pub mod Printed
+pub mod Apart
+pub mod Placing
+pub mod Meanings

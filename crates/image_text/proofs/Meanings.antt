@@ -1,0 +1,280 @@
+-- What reading gives is the meaning of the lines.
+use Rattle.std.proofs.Common.{◌≡◌, ◌≤◌, ◌<◌, ℕ, suc, zero, ◌+◌, ◌-◌, ◌*◌, ◌&&◌, ◌||◌, List, [], ◌∷◌, ◌++◌, length, map, get_or, refl, ap, sym, ◌∙◌, arith, subst, nat_lt, nat_le, if◌then◌else◌, Bool, true, false, Option, Some, None, Result, Ok, Err, ◌⊎◌, inl, inr, append_assoc, length-append}
+use Rattle.std.proofs.lemmas.Bool.Decides.{nat_tests}
+use Rattle.std.specs.Prelude.{is_some, unwrap_or, slice_get}
+use Rattle.text_parts.specs.Fields.{fields, no_fields}
+use Rattle.image_text.specs.declared.fault.ImageFault.{ImageFault}
+use Rattle.image_text.specs.declared.fault.ImageFault.TheVariants as fault
+use Rattle.image_text.specs.ImageValue.{ImageValue}
+use Rattle.image_text.specs.Line.{LineMeaning, nothing, address, bytes, quit, line_says}
+use Rattle.image_text.specs.Memory.{Placed, put_once, put_at, place, step}
+use Rattle.image_text.specs.Reading.{read, finish, no_map, empty, words_of, unblank_from, goes_on, Gives, ◌>>=◌}
+use Rattle.image_text.specs.Meaning.{moved, next_address, byte_from, or_else, byte_at, given, Fits, GoesOn, AllGoOn, AreLines, IsBadLine, IsOutside, IsTwice, FaultAt, EndsAt, IsImageOf, HasReset, AreBlank, FirstUnblank, IsMeaningOf}
+use Rattle.image_text.proofs.Placing.{or_none, not_given, Puts, puts, Taken, taken}
+
+append_nil : {A : Type 0} (xs : List A) → xs ++ [] ≡ xs
+append_nil [] = refl
+append_nil (x ∷ xs) = ap (λ r. x ∷ r) (append_nil xs)
+
+map_append : {A B : Type 0} (f : A → B) (xs ys : List A) → map f (xs ++ ys) ≡ map f xs ++ map f ys
+map_append f [] ys = refl
+map_append f (x ∷ xs) ys = ap (λ r. f x ∷ r) (map_append f xs ys)
+
+next_append : (a : Option ℕ) (ms ns : List LineMeaning) → next_address a (ms ++ ns) ≡ next_address (next_address a ms) ns
+next_append a [] ns = refl
+next_append a (nothing ∷ ms) ns = next_append a ms ns
+next_append a (address b ∷ ms) ns = next_append (Some b) ms ns
+next_append a (bytes bs ∷ ms) ns = next_append (moved (length bs) a) ms ns
+next_append a (quit ∷ ms) ns = next_append a ms ns
+
+or_assoc : (o p q : Option ℕ) → or_else o (or_else p q) ≡ or_else (or_else o p) q
+or_assoc None p q = refl
+or_assoc (Some b) p q = refl
+
+byte_append : (a : Option ℕ) (ms ns : List LineMeaning) (x : ℕ) → byte_at a (ms ++ ns) x ≡ or_else (byte_at a ms x) (byte_at (next_address a ms) ns x)
+byte_append a [] ns x = refl
+byte_append a (nothing ∷ ms) ns x = byte_append a ms ns x
+byte_append a (address b ∷ ms) ns x = byte_append (Some b) ms ns x
+byte_append a (bytes bs ∷ ms) ns x = ap (or_else (byte_from a bs x)) (byte_append (moved (length bs) a) ms ns x)
+    ∙ or_assoc (byte_from a bs x) (byte_at (moved (length bs) a) ms x) (byte_at (next_address (moved (length bs) a) ms) ns x)
+byte_append a (quit ∷ ms) ns x = byte_append a ms ns x
+
+-- what the reader has placed is what the lines give
+record State (ms : List LineMeaning) (p : Placed) : Type 0 where
+  pub len : length p.memory ≡ 48128
+  pub next : p.next ≡ next_address None ms
+  pub each : (k : ℕ) → get_or p.memory k None ≡ given ms (17408 + k) ⊎ 48128 ≤ k
+
+all_more : (before ms : List LineMeaning) (m : LineMeaning) → AllGoOn before ms → GoesOn (before ++ ms) m → AllGoOn before (ms ++ m ∷ [])
+all_more before [] m h g = let P : List LineMeaning → Type 0 = λ ns. GoesOn ns m in (subst P (append_nil before) g, tt)
+all_more before (k ∷ ms) m h g = let P : List LineMeaning → Type 0 = λ ns. GoesOn ns m in
+    (h.0, all_more (before ++ k ∷ []) ms m h.1 (subst P (sym (append_assoc before (k ∷ []) ms)) g))
+
+more_lines : (done : List (List ℕ)) (l : List ℕ) (ms : List LineMeaning) (m : LineMeaning) → AreLines done ms → line_says l ≡ Some m → GoesOn ms m
+    → AreLines (done ++ l ∷ []) (ms ++ m ∷ [])
+more_lines done l ms m h e g = record {
+  says = map_append line_says done (l ∷ []) ∙ ap (λ r. r ++ line_says l ∷ []) h.says ∙ ap (λ o. map Some ms ++ o ∷ []) e ∙ sym (map_append Some ms (m ∷ []));
+  go_on = all_more [] ms m h.go_on g;
+}
+
+-- whatever lines come behind those that are read
+abbrev Continues : List (List ℕ) → Type 0
+Continues ls = (done : List (List ℕ)) (ms : List LineMeaning) (p : Placed) → AreLines done ms → State ms p → IsMeaningOf (done ++ ls) (read (length done + 1) p ls)
+
+later : (done ls : List (List ℕ)) (l : List ℕ) (ms : List LineMeaning) (m : LineMeaning) (q : Placed) → Continues ls → AreLines done ms → line_says l ≡ Some m → GoesOn ms m
+    → State (ms ++ m ∷ []) q → IsMeaningOf (done ++ l ∷ ls) (read (length done + 1 + 1) q ls)
+later done ls l ms m q next h e g s =
+    let rest = next (done ++ l ∷ []) (ms ++ m ∷ []) q (more_lines done l ms m h e g) s in
+    let len : length (done ++ l ∷ []) + 1 ≡ length done + 1 + 1 = ap (λ k. k + 1) (length-append done (l ∷ [])) in
+    let P : List (List ℕ) → Type 0 = λ ls'. IsMeaningOf ls' (read (length (done ++ l ∷ []) + 1) q ls) in
+    let Q : ℕ → Type 0 = λ k. IsMeaningOf (done ++ l ∷ ls) (read k q ls) in
+    subst Q len (subst P (append_assoc done (l ∷ []) ls) rest)
+
+fault_at : (done ls : List (List ℕ)) (l : List ℕ) (ms : List LineMeaning) (IsFault : List LineMeaning → Option LineMeaning → Type 0) → AreLines done ms → IsFault ms (line_says l)
+    → FaultAt (done ++ l ∷ ls) (length done + 1) IsFault
+fault_at done ls l ms IsFault h f = record { before = done; line = l; behind = ls; made = refl; number = refl; meanings = ms; lines = h; fault = f }
+
+-- a line that gives no byte
+quiet : (ms : List LineMeaning) (m : LineMeaning) (p : Placed) (next : Option ℕ) → ((a : Option ℕ) (x : ℕ) → byte_at a (m ∷ []) x ≡ None) → next ≡ next_address (next_address None ms) (m ∷ [])
+    → State ms p → State (ms ++ m ∷ []) (record { next = next; memory = p.memory })
+quiet ms m p next none e s = record {
+  len = s.len;
+  next = e ∙ sym (next_append None ms (m ∷ []));
+  each = λ k. stays k (s.each k);
+}
+  where
+    stays : (k : ℕ) → get_or p.memory k None ≡ given ms (17408 + k) ⊎ 48128 ≤ k → get_or p.memory k None ≡ given (ms ++ m ∷ []) (17408 + k) ⊎ 48128 ≤ k
+    stays k (inr h) = inr h
+    stays k (inl h) = inl (h ∙ sym (byte_append None ms (m ∷ []) (17408 + k) ∙ ap (or_else (given ms (17408 + k))) (none (next_address None ms) (17408 + k)) ∙ or_none (given ms (17408 + k))))
+
+-- bytes from an address on, counted from the start of the FRAM
+from_place : (a k : ℕ) (bs : List ℕ) → 17408 ≤ a → byte_from (Some (a - 17408)) bs k ≡ byte_from (Some a) bs (17408 + k)
+from_place a k bs h = same_by (nat_le (a - 17408) k) (nat_le a (17408 + k)) (k - (a - 17408)) (17408 + k - a) bs (grind (arith, nat_tests)) (omega arith)
+  where
+    same_by : (t u : Bool) (i j : ℕ) (bs : List ℕ) → t ≡ u → i ≡ j → (if t then slice_get bs i else None) ≡ (if u then slice_get bs j else None)
+    same_by t u i j bs e f = ap (λ t. if t then slice_get bs i else None) e ∙ ap (λ i. if u then slice_get bs i else None) f
+
+-- bytes that are put are what the line gives
+loud : (ms : List LineMeaning) (bs : List ℕ) (p : Placed) (a : ℕ) (n : List (Option ℕ)) → 17408 ≤ a → next_address None ms ≡ Some a → Puts (a - 17408) bs p.memory n
+    → State ms p → State (ms ++ bytes bs ∷ []) (record { next = Some (a + length bs); memory = n })
+loud ms bs p a n low e put s = record {
+  len = put.len ∙ s.len;
+  next = ap (moved (length bs)) (sym e) ∙ sym (next_append None ms (bytes bs ∷ []));
+  each = λ k. puts_at k (s.each k);
+}
+  where
+    puts_at : (k : ℕ) → get_or p.memory k None ≡ given ms (17408 + k) ⊎ 48128 ≤ k → get_or n k None ≡ given (ms ++ bytes bs ∷ []) (17408 + k) ⊎ 48128 ≤ k
+    puts_at k (inr h) = inr h
+    puts_at k (inl h) = inl (put.each k ∙ ap (λ o. or_else o (byte_from (Some (a - 17408)) bs k)) h
+        ∙ ap (or_else (given ms (17408 + k))) (from_place a k bs low ∙ ap (λ o. byte_from o bs (17408 + k)) (sym e) ∙ sym (or_none (byte_from (next_address None ms) bs (17408 + k))))
+        ∙ sym (byte_append None ms (bytes bs ∷ []) (17408 + k)))
+
+-- the byte at a place of the FRAM
+at_place : (ms : List LineMeaning) (p : Placed) (k : ℕ) → State ms p → k < 48128 → get_or p.memory k None ≡ given ms (17408 + k)
+at_place ms p k s h = pick (s.each k)
+  where
+    pick : get_or p.memory k None ≡ given ms (17408 + k) ⊎ 48128 ≤ k → get_or p.memory k None ≡ given ms (17408 + k)
+    pick (inl e) = e
+    pick (inr l) = absurd (omega arith)
+
+fitting : (ms : List LineMeaning) (bs : List ℕ) (p : Placed) (a : ℕ) (n : List (Option ℕ)) → 17408 ≤ a → a + length bs ≤ 65536 → next_address None ms ≡ Some a
+    → Puts (a - 17408) bs p.memory n → State ms p → Fits ms bs
+fitting ms bs p a n low high e put s = record {
+  place = a;
+  here = e;
+  low = low;
+  high = high;
+  free = λ x l r. ap (given ms) (let z : x ≡ 17408 + (x - 17408) = omega arith in z) ∙ sym (at_place ms p (x - 17408) s (omega arith)) ∙ put.free (x - 17408) (omega arith) (omega arith);
+}
+
+-- what comes behind a line whose bytes were put, or are given twice
+put_meaning : (o : Option (List (Option ℕ))) (done ls : List (List ℕ)) (l : List ℕ) (ms : List LineMeaning) (bs : List ℕ) (p : Placed) (a : ℕ) → Continues ls → AreLines done ms → State ms p
+    → line_says l ≡ Some (bytes bs) → next_address None ms ≡ Some a → 17408 ≤ a → a + length bs ≤ 65536 → put_once (a - 17408) bs p.memory ≡ o
+    → IsMeaningOf (done ++ l ∷ ls) (put_at (length done + 1) a (length bs) o >>= λ o. goes_on o.0 (read (length done + 1 + 1) o.1 ls) (finish (length done + 1 + 1) o.1.memory ls))
+put_meaning (Some n) done ls l ms bs p a next h s e f low high put =
+    let len : length p.memory ≡ 48128 = s.len in
+    let ok = puts (a - 17408) bs p.memory n (omega arith) put in
+    later done ls l ms (bytes bs) (record { next = Some (a + length bs); memory = n }) next h e (fitting ms bs p a n low high f ok s) (loud ms bs p a n low f ok s)
+put_meaning None done ls l ms bs p a next h s e f low high put = twice (taken (a - 17408) bs p.memory put)
+  where
+    twice : Taken (a - 17408) bs p.memory → FaultAt (done ++ l ∷ ls) (length done + 1) IsTwice
+    twice (k, i, j, g) = fault_at done ls l ms IsTwice h (bs, a, 17408 + k, e, f, low, high, omega arith, omega arith, ap is_some (sym (at_place ms p k s (omega arith))) ∙ g)
+
+bytes_by : (t u : Bool) (done ls : List (List ℕ)) (l : List ℕ) (ms : List LineMeaning) (bs : List ℕ) (p : Placed) (a : ℕ) → Continues ls → AreLines done ms → State ms p
+    → line_says l ≡ Some (bytes bs) → next_address None ms ≡ Some a → nat_lt a 17408 ≡ t → nat_lt 65536 (a + length bs) ≡ u
+    → IsMeaningOf (done ++ l ∷ ls) ((if t || u then Err (fault.OutsideFram (length done + 1)) else put_at (length done + 1) a (length bs) (put_once (a - 17408) bs p.memory))
+    >>= λ o. goes_on o.0 (read (length done + 1 + 1) o.1 ls) (finish (length done + 1 + 1) o.1.memory ls))
+bytes_by true u done ls l ms bs p a next h s e f t k = fault_at done ls l ms IsOutside h (bs, a, e, f, inl (grind (arith, nat_tests, t)))
+bytes_by false true done ls l ms bs p a next h s e f t k = fault_at done ls l ms IsOutside h (bs, a, e, f, inr (grind (arith, nat_tests, k)))
+bytes_by false false done ls l ms bs p a next h s e f t k = put_meaning (put_once (a - 17408) bs p.memory) done ls l ms bs p a next h s e f (grind (arith, nat_tests, t)) (grind (arith, nat_tests, k)) refl
+
+bytes_meaning : (o : Option ℕ) (done ls : List (List ℕ)) (l : List ℕ) (ms : List LineMeaning) (bs : List ℕ) (p : Placed) → Continues ls → AreLines done ms → State ms p
+    → line_says l ≡ Some (bytes bs) → p.next ≡ o
+    → IsMeaningOf (done ++ l ∷ ls) (place (length done + 1) p bs o >>= λ o. goes_on o.0 (read (length done + 1 + 1) o.1 ls) (finish (length done + 1 + 1) o.1.memory ls))
+bytes_meaning None done ls l ms bs p next h s e f = inl (fault_at done ls l ms IsBadLine h (inr (bs, e, sym s.next ∙ f)))
+bytes_meaning (Some a) done ls l ms bs p next h s e f = bytes_by (nat_lt a 17408) (nat_lt 65536 (a + length bs)) done ls l ms bs p a next h s e (sym s.next ∙ f) refl refl
+
+-- the lines behind the end
+blank_by : (t : Bool) (o : Option ℕ) (n : ℕ) (ls : List (List ℕ)) (l : List ℕ) → no_fields (fields l) ≡ t → (o ≡ None → AreBlank ls) → (if t then o else Some n) ≡ None → AreBlank (l ∷ ls)
+blank_by true o n ls l e ih h = (e, ih h)
+blank_by false o n ls l e ih h = cc
+
+are_blank : (n : ℕ) (ls : List (List ℕ)) → unblank_from n ls ≡ None → AreBlank ls
+unfolding unblank_from
+are_blank n [] h = tt
+are_blank n (l ∷ ls) h = blank_by (no_fields (fields l)) (unblank_from (n + 1) ls) n ls l refl (are_blank (n + 1) ls) h
+
+number_of : Option ℕ → ℕ
+number_of None = 0
+number_of (Some n) = n
+
+unblank_by : (t : Bool) (o : Option ℕ) (n m : ℕ) (ls : List (List ℕ)) (l : List ℕ) → no_fields (fields l) ≡ t → (o ≡ Some m → FirstUnblank ls (n + 1) m) → (if t then o else Some n) ≡ Some m → FirstUnblank (l ∷ ls) n m
+unfolding number_of
+unblank_by true o n m ls l e ih h =
+    let f = ih h in
+    let at : m ≡ n + 1 + length f.before = f.number in
+    record { before = l ∷ f.before; line = f.line; behind = f.behind; made = ap (λ r. l ∷ r) f.made; blank = (e, f.blank); unblank = f.unblank; number = omega arith }
+unblank_by false o n m ls l e ih h =
+    let same : n ≡ m = ap number_of h in
+    record { before = []; line = l; behind = ls; made = refl; blank = tt; unblank = e; number = omega arith }
+
+first_unblank : (n m : ℕ) (ls : List (List ℕ)) → unblank_from n ls ≡ Some m → FirstUnblank ls n m
+unfolding unblank_from
+first_unblank n m [] h = cc
+first_unblank n m (l ∷ ls) h = unblank_by (no_fields (fields l)) (unblank_from (n + 1) ls) n m ls l refl (first_unblank (n + 1) m ls) h
+
+words_len : (n : ℕ) (m : List (Option ℕ)) → length m ≡ 2 * n → length (words_of m) ≡ n
+unfolding words_of
+words_len zero [] e = refl
+words_len (suc n) [] e = absurd (omega arith)
+words_len zero (l ∷ []) e = absurd (omega arith)
+words_len (suc n) (l ∷ []) e = absurd (omega arith)
+words_len zero (l ∷ h ∷ m) e = absurd (omega arith)
+words_len (suc n) (l ∷ h ∷ m) e = ap suc (words_len n m (omega arith))
+
+word_each : (k : ℕ) (m : List (Option ℕ)) → 2 * k + 1 < length m → get_or (words_of m) k 0 ≡ unwrap_or (get_or m (2 * k) None) 0 + 256 * unwrap_or (get_or m (2 * k + 1) None) 0
+unfolding words_of
+word_each k [] e = absurd (omega arith)
+word_each k (l ∷ []) e = absurd (omega arith)
+word_each zero (l ∷ h ∷ m) e = refl
+word_each (suc k) (l ∷ h ∷ m) e = word_each k m (omega arith)
+    ∙ ap (λ j. unwrap_or (get_or (l ∷ h ∷ m) j None) 0 + 256 * unwrap_or (get_or m (2 * k + 1) None) 0) (let z : suc (suc (2 * k)) ≡ 2 * suc k = omega arith in z)
+    ∙ ap (λ j. unwrap_or (get_or (l ∷ h ∷ m) (2 * suc k) None) 0 + 256 * unwrap_or (get_or (l ∷ h ∷ m) j None) 0) (let z : suc (suc (2 * k + 1)) ≡ 2 * suc k + 1 = omega arith in z)
+
+is_image : (ms : List LineMeaning) (p : Placed) → State ms p → IsImageOf ms (words_of p.memory)
+is_image ms p s =
+    let len : length p.memory ≡ 48128 = s.len in
+    record {
+      len = words_len 24064 p.memory len;
+      each = λ k h. word_each k p.memory (omega arith) ∙ ap (λ o. unwrap_or o 0 + 256 * unwrap_or (get_or p.memory (2 * k + 1) None) 0) (at_place ms p (2 * k) s (omega arith))
+          ∙ ap (λ o. unwrap_or (given ms (17408 + 2 * k)) 0 + 256 * unwrap_or o 0) (at_place ms p (2 * k + 1) s (omega arith) ∙ ap (given ms) (let z : 17408 + (2 * k + 1) ≡ 17408 + 2 * k + 1 = omega arith in z));
+    }
+
+map_by : (o : Option ℕ) (ls rest : List (List ℕ)) (ms : List LineMeaning) (n : ℕ) (p : Placed) → State ms p → EndsAt ls ms rest n → HasReset ms → unblank_from n rest ≡ o
+    → IsMeaningOf ls (no_map (words_of p.memory) o)
+map_by None ls rest ms n p s end reset e = (ms, rest, n, end, reset, are_blank n rest e, is_image ms p s)
+map_by (Some m) ls rest ms n p s end reset e = (ms, rest, n, end, reset, first_unblank n m rest e)
+
+end_by : (t u : Bool) (ls rest : List (List ℕ)) (ms : List LineMeaning) (n : ℕ) (p : Placed) → State ms p → EndsAt ls ms rest n
+    → is_some (given ms 65534) ≡ t → is_some (given ms 65535) ≡ u → IsMeaningOf ls (if t && u then no_map (words_of p.memory) (unblank_from n rest) else Err fault.NoReset)
+end_by true true ls rest ms n p s end e f = map_by (unblank_from n rest) ls rest ms n p s end (e, f) refl
+end_by true false ls rest ms n p s end e f = (ms, rest, n, end, inr (not_given (given ms 65535) f))
+end_by false u ls rest ms n p s end e f = (ms, rest, n, end, inl (not_given (given ms 65534) e))
+
+end_meaning : (ls rest : List (List ℕ)) (ms : List LineMeaning) (n : ℕ) (p : Placed) → State ms p → EndsAt ls ms rest n → IsMeaningOf ls (finish n p.memory rest)
+end_meaning ls rest ms n p s end =
+    let low : get_or p.memory 48126 None ≡ given ms 65534 = at_place ms p 48126 s (omega arith) in
+    let high : get_or p.memory 48127 None ≡ given ms 65535 = at_place ms p 48127 s (omega arith) in
+    end_by (is_some (get_or p.memory 48126 None)) (is_some (get_or p.memory 48127 None)) ls rest ms n p s end (ap is_some (sym low)) (ap is_some (sym high))
+
+no_byte : (a : Option ℕ) (x : ℕ) → byte_at a (nothing ∷ []) x ≡ None
+no_byte a x = refl
+
+no_byte_at : (b : ℕ) (a : Option ℕ) (x : ℕ) → byte_at a (address b ∷ []) x ≡ None
+no_byte_at b a x = refl
+
+says_by : (said : Option LineMeaning) (done ls : List (List ℕ)) (l : List ℕ) (ms : List LineMeaning) (p : Placed) → Continues ls → AreLines done ms → State ms p → line_says l ≡ said
+    → IsMeaningOf (done ++ l ∷ ls) (step (length done + 1) p said >>= λ o. goes_on o.0 (read (length done + 1 + 1) o.1 ls) (finish (length done + 1 + 1) o.1.memory ls))
+says_by None done ls l ms p next h s e = inl (fault_at done ls l ms IsBadLine h (inl e))
+says_by (Some nothing) done ls l ms p next h s e = later done ls l ms nothing p next h e tt (quiet ms nothing p p.next no_byte s.next s)
+says_by (Some (address a)) done ls l ms p next h s e = later done ls l ms (address a) (record { next = Some a; memory = p.memory }) next h e tt (quiet ms (address a) p (Some a) (no_byte_at a) refl s)
+says_by (Some (bytes bs)) done ls l ms p next h s e = bytes_meaning p.next done ls l ms bs p next h s e refl
+says_by (Some quit) done ls l ms p next h s e = end_meaning (done ++ l ∷ ls) ls ms (length done + 1 + 1) p s
+    (record { before = done; line = l; made = refl; number = omega arith; lines = h; quit = e })
+
+-- reading goes on to the meaning of all lines
+continues : (ls : List (List ℕ)) → Continues ls
+unfolding read
+continues [] done ms p h s = inr (ms, (let P : List (List ℕ) → Type 0 = λ ls. AreLines ls ms in subst P (sym (append_nil done)) h), ap (λ ls. length ls + 1) (sym (append_nil done)))
+continues (l ∷ ls) done ms p h s = says_by (line_says l) done ls l ms p (continues ls) h s refl
+
+length_empty : (n : ℕ) → length (empty n) ≡ n
+unfolding empty
+length_empty zero = refl
+length_empty (suc n) = ap suc (length_empty n)
+
+empty_each : (n k : ℕ) → get_or (empty n) k None ≡ None
+unfolding empty
+empty_each zero k = refl
+empty_each (suc n) zero = refl
+empty_each (suc n) (suc k) = empty_each n k
+
+start : (n : ℕ) → n ≡ 48128 → State [] (record { next = None; memory = empty n })
+start n e = record { len = length_empty n ∙ e; next = refl; each = λ k. inl (empty_each n k) }
+
+no_lines : AreLines [] []
+no_lines = record { says = refl; go_on = tt }
+
+-- what a call gives is the meaning of the lines
+pub meaning_is : (r : Result ImageValue ImageFault) (ls : List (List ℕ)) → Gives (λ v. v) r (read 1 (record { next = None; memory = empty 48128 }) ls) → IsMeaningOf ls r
+meaning_is r ls h = by_result r h (continues ls [] [] (record { next = None; memory = empty 48128 }) no_lines (start 48128 refl))
+  where
+    by_result : (r : Result ImageValue ImageFault) → Gives (λ v. v) r (read 1 (record { next = None; memory = empty 48128 }) ls)
+        → IsMeaningOf ls (read 1 (record { next = None; memory = empty 48128 }) ls) → IsMeaningOf ls r
+    by_result (Ok v) h m = let P : Result ImageValue ImageFault → Type 0 = λ r. IsMeaningOf ls r in subst P h m
+    by_result (Err (fault.BadLine n)) h m = let P : Result ImageValue ImageFault → Type 0 = λ r. IsMeaningOf ls r in subst P h m
+    by_result (Err (fault.OutsideFram n)) h m = let P : Result ImageValue ImageFault → Type 0 = λ r. IsMeaningOf ls r in subst P h m
+    by_result (Err (fault.Twice n)) h m = let P : Result ImageValue ImageFault → Type 0 = λ r. IsMeaningOf ls r in subst P h m
+    by_result (Err (fault.BadMap n)) h m = let P : Result ImageValue ImageFault → Type 0 = λ r. IsMeaningOf ls r in subst P h m
+    by_result (Err fault.NoReset) h m = let P : Result ImageValue ImageFault → Type 0 = λ r. IsMeaningOf ls r in subst P h m
+    by_result (Err fault.Memory) h m = tt

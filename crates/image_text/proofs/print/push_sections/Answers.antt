@@ -1,0 +1,18 @@
+use Rattle.std.proofs.Common.{◌∙◌, arith}
+use Rattle.image_text.proofs.Printed.{text_begins, text_more, text_end}
+use Rattle.image_text.proofs.print.push_sections.Goals as goal
+
+pub loop-at-init : goal.loop-at-init
+loop-at-init c = record {
+  room = omega (arith, c.requires);
+  left = text_begins _ _;
+}
+
+pub loop-at-preserved : goal.loop-at-preserved
+loop-at-preserved c = record {
+  room = c.in-Some.ensures.shorter.2 ∙ c.loop-at.invariant.room;
+  left = text_more _ _ _ _ _ _ c.loop-at.invariant.left c.in-Some.ensures.cut c.in_ok-push_section.ensures;
+}
+
+pub returns-clause-text : goal.returns-clause-text
+returns-clause-text c = text_end _ _ _ _ c.loop-at.invariant.left c.in_default.ensures.cut c.in_ok-extend_from_slice.ensures.items

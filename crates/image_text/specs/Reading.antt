@@ -1,0 +1,67 @@
+-- What a text says as an image: line by line, what is placed so far, or the first fault.
+use Rattle.std.specs.Prelude.{◌≡◌, ℕ, ◌+◌, ◌*◌, ◌&&◌, Bool, true, false, if◌then◌else◌, List, [], ◌∷◌, Option, Some, None, Result, Ok, Err, slice_index_or, is_some, unwrap_or, replicate}
+use Rattle.text_parts.specs.Fields.{fields, no_fields}
+use Rattle.text_parts.specs.Lines.{lines}
+use Rattle.image_text.specs.declared.fault.ImageFault.{ImageFault}
+use Rattle.image_text.specs.declared.fault.ImageFault.TheVariants as fault
+use Rattle.image_text.specs.ImageValue.{ImageValue}
+use Rattle.image_text.specs.Line.{line_says}
+use Rattle.image_text.specs.Memory.{Placed, step}
+
+infixl 10 ◌>>=◌
+-- the second step behind the first, where that has no fault
+abbrev pub ◌>>=◌ : {A B : Type 0} → Result A ImageFault → (A → Result B ImageFault) → Result B ImageFault
+(Ok x) >>= f = f x
+(Err e) >>= f = Err e
+
+-- so many places, none given
+unfoldable pub empty : ℕ → List (Option ℕ)
+empty n = replicate n None
+
+-- the words of bytes, low byte first; those that aren't given are 0
+unfoldable pub words_of : List (Option ℕ) → List ℕ
+words_of [] = []
+words_of (l ∷ []) = []
+words_of (l ∷ h ∷ m) = (unwrap_or l 0 + 256 * unwrap_or h 0) ∷ words_of m
+
+-- the number of the first line that isn't blank, from the n-th on
+unfoldable pub unblank_from : ℕ → List (List ℕ) → Option ℕ
+unblank_from n [] = None
+unblank_from n (l ∷ ls) = if no_fields (fields l) then unblank_from (n + 1) ls else Some n
+
+-- the image of words, if no line stands behind it
+abbrev pub no_map : List ℕ → Option ℕ → Result ImageValue ImageFault
+no_map words None = Ok (record { words = words })
+no_map words (Some n) = Err (fault.BadMap n)
+
+-- the image of what is placed, with the lines from the n-th on behind it; places 48126 and 48127 are FFFE and FFFF
+abbrev pub finish : ℕ → List (Option ℕ) → List (List ℕ) → Result ImageValue ImageFault
+finish n m ls = if is_some (slice_index_or m 48126 None) && is_some (slice_index_or m 48127 None) then no_map (words_of m) (unblank_from n ls) else Err fault.NoReset
+
+-- what comes later, or the end
+abbrev pub goes_on : {A : Type 0} → Bool → A → A → A
+goes_on true later end = later
+goes_on false later end = end
+
+-- the lines from the n-th on, behind what is placed
+unfoldable pub read : ℕ → Placed → List (List ℕ) → Result ImageValue ImageFault
+read n p [] = Err (fault.BadLine n)
+read n p (l ∷ ls) = step n p (line_says l) >>= λ o. goes_on o.0 (read (n + 1) o.1 ls) (finish (n + 1) o.1.memory ls)
+
+-- what a text says as an image, or its first fault
+abbrev pub image_of : List ℕ → Result ImageValue ImageFault
+image_of text = read 1 (record { next = None; memory = empty 48128 }) (lines text)
+
+-- the fault of a call is that of the text, unless memory was refused
+abbrev pub Fails : {A : Type 0} → ImageFault → Result A ImageFault → Type 0
+Fails fault.Memory said = Unit {0}
+Fails (fault.BadLine n) said = said ≡ Err (fault.BadLine n)
+Fails (fault.OutsideFram n) said = said ≡ Err (fault.OutsideFram n)
+Fails (fault.Twice n) said = said ≡ Err (fault.Twice n)
+Fails (fault.BadMap n) said = said ≡ Err (fault.BadMap n)
+Fails fault.NoReset said = said ≡ Err fault.NoReset
+
+-- what a call returned, seen by `view`, is what the text says, unless memory was refused
+abbrev pub Gives : {X A : Type 0} → (X → A) → Result X ImageFault → Result A ImageFault → Type 0
+Gives view (Ok x) said = said ≡ Ok (view x)
+Gives view (Err e) said = Fails e said

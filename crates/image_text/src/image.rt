@@ -1,0 +1,84 @@
+//! The type of images.
+ghost use Rattle.std.specs.Prelude.{◌≡◌, ◌<◌, ◌≤◌, ◌%◌, length, IfOk, slice_set};
+ghost use Rattle.image_text.specs.ImageValue.{word_at, place_of, zeros, is_fram_word};
+
+use std::alloc::{AllocError, Global};
+use std::marker::Model;
+
+/// Every word of the FRAM, 0x4400 to 0xFFFF.
+#[derive(Drop)]
+pub struct Image {
+    words: Vec<u16>,
+}
+
+impl Model for Image {
+    ghost use Rattle.std.specs.Prelude.{◌≡◌, length};
+    ghost use Rattle.image_text.specs.ImageValue.{ImageValue};
+
+    ghost Value = { ImageValue };
+
+    ghost view = { λ a. record { words = a.words.items } };
+
+    ghost invariant = { λ a. length a.words.items ≡ 24064 };
+}
+
+// A vector of so many zeros.
+#[tactic(auto, unfolding(crate::specs::ImageValue::zeros))]
+fn zeros(alloc: Global, n: usize) -> Result<Vec<u16>, AllocError>
+    ensures value { IfOk result (λ v. v.items ≡ zeros n) }
+    ensures len { IfOk result (λ v. length v.items ≡ n) }
+{
+    vec![in alloc; 0; n]
+}
+
+fn is_fram_word(address: u16) -> bool
+    ensures { result ≡ is_fram_word address }
+{
+    address >= 0x4400 && address % 2 == 0
+}
+
+impl Image {
+    /// The image of 24,064 words, the first at 0x4400.
+    pub fn of(words: Vec<u16>) -> Image
+        requires { length words.items ≡ 24064 }
+        ensures { result ≡ record { words = words.items } }
+    {
+        Image { words }
+    }
+
+    /// All words 0.
+    pub fn blank(alloc: Global) -> Result<Image, AllocError>
+        ensures { IfOk result (λ image. image ≡ record { words = zeros 24064 }) }
+    {
+        let words = zeros(alloc, 24064)?;
+        Ok(Image { words })
+    }
+
+    /// All words, the first at 0x4400.
+    pub fn words(&self) -> &[u16]
+        ensures value { result.now ≡ self.now.words }
+        ensures len { length result.now ≡ 24064 }
+    {
+        self.words.as_slice()
+    }
+
+    /// The word at an even address of the FRAM; nothing at another address.
+    pub fn word(&self, address: u16) -> Option<u16>
+        ensures { result ≡ word_at self.now.words address }
+    {
+        if is_fram_word(address) {
+            Some(self.words[(address as usize - 0x4400) / 2])
+        } else {
+            None
+        }
+    }
+
+    /// Puts a word at an even address of the FRAM, and leaves the others.
+    pub fn set(&mut self, address: u16, w: u16)
+        requires low { 17408 ≤ address }
+        requires even { address % 2 ≡ 0 }
+        ensures { self.new ≡ record self.old { words = slice_set self.old.words (place_of address) w } }
+    {
+        self.words[(address as usize - 0x4400) / 2] = w;
+    }
+}

@@ -1,0 +1,17 @@
+//! Images of the FRAM, as TI-TXT texts and as values.
+#![tactic(auto)]
+
+mod builder;
+mod fault;
+mod image;
+mod line;
+mod parse;
+mod print;
+
+pub use fault::ImageFault;
+pub use image::Image;
+pub use parse::parse_image;
+pub use print::print_image;
+
+#[cfg(test)]
+mod tests;

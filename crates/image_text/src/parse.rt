@@ -1,0 +1,89 @@
+//! Texts read as images.
+ghost use Rattle.std.specs.Prelude.{◌≡◌, ◌<◌, ◌+◌, ◌*◌, length, IfOk, unwrap_or, Some, None};
+ghost use Rattle.text_parts.specs.Lines.{lines};
+ghost use Rattle.image_text.specs.Reading.{Gives, words_of, unblank_from, finish, image_of};
+ghost use Rattle.image_text.specs.Meaning.{IsMeaningOf};
+
+use crate::builder::ImageBuilder;
+use crate::fault::ImageFault;
+use crate::image::Image;
+use alp_words::from_bytes;
+use std::alloc::{AllocError, Global};
+use text_parts::{cut_line, is_blank_line};
+
+// The word of two bytes, those that aren't given 0.
+fn word_from(low: Option<u8>, high: Option<u8>) -> u16
+    ensures { result ≡ unwrap_or low 0 + 256 * unwrap_or high 0 }
+{
+    from_bytes([low.unwrap_or(0), high.unwrap_or(0)])
+}
+
+// The words of the FRAM's bytes; a byte that isn't given is 0.
+fn words_of(alloc: Global, memory: &[Option<u8>]) -> Result<Vec<u16>, AllocError>
+    requires { length memory.now ≡ 48128 }
+    ensures value { IfOk result (λ v. v.items ≡ words_of memory.now) }
+    ensures len { IfOk result (λ v. length v.items ≡ 24064) }
+{
+    let mut words = Vec::new(alloc);
+    for i in 0..24064usize {
+        words.push(word_from(memory[2 * i], memory[2 * i + 1]))?;
+    }
+    Ok(words)
+}
+
+// The number of the first line that isn't blank, where the first one has the number `n`.
+fn unblank_from(text: &[u8], n: u32) -> Option<u32>
+    requires { n + length text.now < 4294967296 }
+    ensures { result ≡ unblank_from n (lines text.now) }
+{
+    let mut rest = text;
+    let mut at = n;
+    while let Some((line, behind)) = cut_line(rest) {
+        if !is_blank_line(line) {
+            return Some(at);
+        }
+        at += 1;
+        rest = behind;
+    }
+    None
+}
+
+// The image of the bytes, where `rest` stands behind its `q`, from line `n` on.
+fn finish(alloc: Global, memory: &[Option<u8>], rest: &[u8], n: u32) -> Result<Image, ImageFault>
+    requires room { n + length rest.now < 4294967296 }
+    requires len { length memory.now ≡ 48128 }
+    ensures { Gives (λ image. image) result (finish n memory.now (lines rest.now)) }
+{
+    if memory[48126].is_none() || memory[48127].is_none() {
+        return Err(ImageFault::NoReset);
+    }
+    if let Some(line) = unblank_from(rest, n) {
+        return Err(ImageFault::BadMap { line });
+    }
+    Ok(Image::of(words_of(alloc, memory)?))
+}
+
+/// The image that a TI-TXT text is, or its first fault: the one of the least line, and within a line `BadLine`, then
+/// `OutsideFram`, then `Twice`; behind all of these `NoReset`, then `BadMap`.
+///
+/// LF and CRLF end a line. A line is blank, or `@` and 1 to 8 hexadecimal digits, the address of the next byte, or bytes of
+/// two hexadecimal digits with blanks between, or `q` in either case, behind which all lines are blank. Bytes that aren't given are 0.
+/// `Memory` is the answer where memory was refused, and only then.
+pub fn parse_image(alloc: Global, text: &[u8]) -> Result<Image, ImageFault>
+    requires { length text.now < 4294967295 }
+    ensures value { Gives (λ image. image) result (image_of text.now) }
+    ensures meaning { IsMeaningOf (lines text.now) result }
+{
+    let mut builder = ImageBuilder::new(alloc)?;
+    let mut n = 1;
+    let mut rest = text;
+    while let Some((line, behind)) = cut_line(rest) {
+        let goes_on = builder.add_line(line, n)?;
+        n += 1;
+        if !goes_on {
+            return finish(alloc, builder.memory.as_slice(), behind, n);
+        }
+        rest = behind;
+    }
+    Err(ImageFault::BadLine { line: n })
+}

@@ -1,0 +1,162 @@
+//! Images written as texts.
+ghost use Rattle.std.specs.Prelude.{◌≡◌, ◌≤◌, ◌<◌, ◌+◌, ◌*◌, ◌^◌, ◌++◌, ◌∷◌, [], All, List, ℕ, Ok, OnOk, IfOk, MatchOption, map, length};
+ghost use Rattle.text_parts.specs.Groups.{groups};
+ghost use Rattle.text_parts.specs.Hex.{upper_hex};
+ghost use Rattle.text_parts.specs.Printed.{spaced, printed};
+ghost use Rattle.image_text.specs.Text.{is_shown, sections, section_lines, lines_of_sections, text_of, upper_hex4, bytes_in, pair_text, tail_text, hidden_len, shown_len, AreSections};
+ghost use Rattle.image_text.specs.Reading.{image_of};
+
+use crate::image::Image;
+use alp_words::to_bytes;
+use std::alloc::{AllocError, Global};
+use text_parts::{cut_group, upper_hex};
+
+// Whether a word is printed: it isn't 0, or it is the last one.
+fn is_shown(place: usize, w: u16) -> bool
+    ensures { result ≡ is_shown place w }
+{
+    w != 0 || place == 24063
+}
+
+fn hidden_len(place: usize, words: &[u16]) -> usize
+    requires { place + length words.now < 2 ^ 64 }
+    ensures value { result ≡ hidden_len place words.now }
+    ensures within { result ≤ length words.now }
+{
+    for (i, w) in words.iter().enumerate() {
+        if is_shown(place + i, *w) {
+            return i;
+        }
+    }
+    words.len()
+}
+
+fn shown_len(place: usize, words: &[u16]) -> usize
+    requires { place + length words.now < 2 ^ 64 }
+    ensures value { result ≡ shown_len place words.now }
+    ensures within { result ≤ length words.now }
+{
+    for (i, w) in words.iter().enumerate() {
+        if !is_shown(place + i, *w) {
+            return i;
+        }
+    }
+    words.len()
+}
+
+// The place and the words of the first section, and what stands behind it; `place` is that of the first word.
+fn cut_section(place: usize, words: &[u16]) -> Option<(usize, &[u16], &[u16])>
+    requires { place + length words.now < 2 ^ 64 }
+    ensures cut { MatchOption result (sections place words.now ≡ []) (λ cut.
+        sections place words.now ≡ record { place = cut.0; words = cut.1.now } ∷ sections (cut.0 + length cut.1.now) cut.2.now) }
+    ensures shorter { MatchOption result (sections place words.now ≡ []) (λ cut.
+        (0 < length cut.1.now) × (place ≤ cut.0) × (cut.0 + length cut.1.now + length cut.2.now ≡ place + length words.now)) }
+{
+    let hidden = hidden_len(place, words);
+    let rest = &words[hidden..];
+    if rest.is_empty() {
+        return None;
+    }
+    let len = shown_len(place + hidden, rest);
+    Some((place + hidden, &rest[..len], &rest[len..]))
+}
+
+#[tactic(auto, unfolding(crate::specs::Text::upper_hex4))]
+fn push_address(out: &mut Vec<u8>, address: u16) -> Result<(), AllocError>
+    ensures { OnOk result (out.new.items ≡ out.old.items ++ (64 ∷ upper_hex4 address) ++ 10 ∷ []) }
+{
+    out.push(b'@')?;
+    out.extend_from_slice(&upper_hex((address / 256) as u8))?;
+    out.extend_from_slice(&upper_hex((address % 256) as u8))?;
+    out.push(b'\n')?;
+    Ok(())
+}
+
+fn push_pair(out: &mut Vec<u8>, w: u16) -> Result<(), AllocError>
+    ensures { OnOk result (out.new.items ≡ out.old.items ++ pair_text w) }
+{
+    let [low, high] = to_bytes(w);
+    out.extend_from_slice(&upper_hex(low))?;
+    out.push(b' ')?;
+    out.extend_from_slice(&upper_hex(high))?;
+    Ok(())
+}
+
+#[tactic(auto, unfolding(crate::specs::Text::tail_text))]
+fn push_tail(out: &mut Vec<u8>, words: &[u16]) -> Result<(), AllocError>
+    ensures { OnOk result (out.new.items ≡ out.old.items ++ tail_text words.now) }
+{
+    for w in words {
+        out.push(b' ')?;
+        push_pair(out, *w)?;
+    }
+    Ok(())
+}
+
+fn push_pairs(out: &mut Vec<u8>, words: &[u16]) -> Result<(), AllocError>
+    ensures { OnOk result (out.new.items ≡ out.old.items ++ spaced (map upper_hex (bytes_in words.now))) }
+{
+    let [first, rest @ ..] = words else {
+        return Ok(());
+    };
+    push_pair(out, *first)?;
+    push_tail(out, rest)?;
+    Ok(())
+}
+
+fn push_line(out: &mut Vec<u8>, words: &[u16]) -> Result<(), AllocError>
+    ensures { OnOk result (out.new.items ≡ out.old.items ++ (spaced (map upper_hex (bytes_in words.now)) ++ 10 ∷ [])) }
+{
+    push_pairs(out, words)?;
+    out.push(b'\n')?;
+    Ok(())
+}
+
+#[tactic(auto, unfolding(text_parts::specs::Printed::printed))]
+fn push_words(out: &mut Vec<u8>, words: &[u16]) -> Result<(), AllocError>
+    ensures { OnOk result (out.new.items ≡ out.old.items ++ printed (map (map upper_hex) (map bytes_in (groups 8 words.now)))) }
+{
+    let mut rest = words;
+    while let Some((line, behind)) = cut_group(8, rest) {
+        push_line(out, line)?;
+        rest = behind;
+    }
+    Ok(())
+}
+
+fn push_section(out: &mut Vec<u8>, place: usize, words: &[u16]) -> Result<(), AllocError>
+    requires { place < 24064 }
+    ensures { OnOk result (out.new.items ≡ out.old.items ++ printed (section_lines (record { place = place; words = words.now }))) }
+{
+    push_address(out, (0x4400 + 2 * place) as u16)?;
+    push_words(out, words)?;
+    Ok(())
+}
+
+fn push_sections(out: &mut Vec<u8>, words: &[u16]) -> Result<(), AllocError>
+    requires { length words.now ≡ 24064 }
+    ensures text { OnOk result (out.new.items ≡ out.old.items ++ text_of words.now) }
+    ensures ranges { All (λ w. w < 2 ^ 16) words.now }
+{
+    let mut place = 0;
+    let mut rest = words;
+    while let Some((at, section, behind)) = cut_section(place, rest) {
+        push_section(out, at, section)?;
+        place = at + section.len();
+        rest = behind;
+    }
+    out.extend_from_slice(b"q\n")?;
+    Ok(())
+}
+
+/// The TI-TXT text of an image: for each section of words that aren't 0, as long as can be, `@` and its address, then
+/// lines of 16 bytes, the last shorter; then `q`. The word at 0xFFFE is printed always. The text reads back as the image.
+pub fn print_image(alloc: Global, image: &Image) -> Result<Vec<u8>, AllocError>
+    ensures text { IfOk result (λ v. v.items ≡ text_of image.now.words) }
+    ensures reads_back { IfOk result (λ v. image_of v.items ≡ Ok image.now) }
+    ensures sections { AreSections 0 image.now.words (sections 0 image.now.words) }
+{
+    let mut out = Vec::new(alloc);
+    push_sections(&mut out, image.words())?;
+    Ok(out)
+}
