@@ -1,0 +1,49 @@
+-- The command lines of the program: its commands as `clap` reads them.
+use Rattle.std.specs.Prelude.{◌≡◌, List, [], ◌∷◌, true, false, codes, map}
+use Rattle.clap.specs.Simple.{new_shape}
+use Rattle.clap.specs.Words.{App, Rule, Shape, Text, app_of, fault_of, new_rule}
+use Rattle.clap.specs.declared.builder.command.Command.{Command}
+use Rattle.clap.specs.declared.builder.command.Command.TheViews.{out-Command as fields_of}
+
+-- a command of the program: its name, and the names of the files that have to follow it, in order
+pub record Subcommand : Type 0 where
+  pub name : Text
+  pub files : List Text
+
+-- all commands
+abbrev pub subcommands : List Subcommand
+subcommands = record { name = codes "mean"; files = codes "SRC" ∷ codes "TRACE" ∷ [] } ∷ []
+
+-- `Arg::new(name).required(true)`: a positional that has to be there
+abbrev pub file_rule : Text → Rule
+file_rule name = record (new_rule name) { required = true }
+
+abbrev pub subcommand_shape : Subcommand → Shape
+subcommand_shape s = record (new_shape s.name) { rules = map file_rule s.files }
+
+-- the command alone, as an app of its own
+abbrev pub subcommand_app : Subcommand → App
+subcommand_app s = record { top = subcommand_shape s; subs = [] }
+
+-- the program's command line as `clap` sees it: one of the commands has to be named, and there are
+-- no help flag and no help command
+unfoldable pub alpaca_app : App
+alpaca_app = record {
+  top = record (new_shape (codes "alpaca")) {
+    no_binary_name = true;
+    disable_help_flag = true;
+    disable_help_subcommand = true;
+    subcommand_required = true;
+    is_leaf = false;
+  };
+  subs = map subcommand_shape subcommands;
+}
+
+-- the words are a command line of the program: `clap`'s rules give no fault for them
+abbrev pub IsLine : List Text → Type 0
+IsLine words = fault_of alpaca_app words ≡ []
+
+-- a command that clap has not built yet, and what it reads of it
+pub record IsCommand (a : App) (c : Command) : Type 0 where
+  pub app : app_of c ≡ a
+  pub globals : (fields_of c).has_globals ≡ false
