@@ -1,5 +1,7 @@
 -- The command lines of the program: its commands as `clap` reads them.
-use Rattle.std.specs.Prelude.{◌≡◌, List, [], ◌∷◌, true, false, codes, map}
+use Rattle.std.specs.Prelude.{◌≡◌, ◌==◌, ◌&&◌, List, [], ◌∷◌, Bool, true, false, not, codes, map, find}
+use Rattle.std.specs.Prelude.{Option, Some, None, option_map, if◌then◌else◌}
+use Rattle.std.specs.Str.{bytes_eq}
 use Rattle.clap.specs.Simple.{new_shape}
 use Rattle.clap.specs.Words.{App, Rule, Shape, Text, app_of, fault_of, new_rule}
 use Rattle.clap.specs.declared.builder.command.Command.{Command}
@@ -47,3 +49,30 @@ IsLine words = fault_of alpaca_app words ≡ []
 pub record IsCommand (a : App) (c : Command) : Type 0 where
   pub app : app_of c ≡ a
   pub globals : (fields_of c).has_globals ≡ false
+
+-- ---- the same in plain words
+
+abbrev pub begins_with_hyphen : Text → Bool
+begins_with_hyphen [] = false
+begins_with_hyphen (b ∷ rest) = b == 45
+
+-- a hyphen alone is a file's name, as any word without one in front
+abbrev pub is_flag : Text → Bool
+is_flag word = begins_with_hyphen word && not (bytes_eq word (codes "-"))
+
+-- The files that the words after a command's name give. The program has no flag, so no word may be
+-- one, up to a `--`, which is dropped: every word behind it is a file's name (guidelines 10 and 13
+-- of POSIX's utility syntax).
+abbrev pub files_of : List Text → Option (List Text)
+files_of [] = Some []
+files_of (word ∷ rest) = if bytes_eq word (codes "--") then Some rest
+    else (if is_flag word then None else option_map (λ files. word ∷ files) (files_of rest))
+
+-- a command's name, and its files
+abbrev pub line_of : List Text → Option (List Text)
+line_of [] = None
+line_of (name ∷ rest) = option_map (λ files. name ∷ files) (files_of rest)
+
+-- the command of this name
+abbrev pub subcommand_named : Text → Option Subcommand
+subcommand_named name = find (λ s. bytes_eq s.name name) subcommands
