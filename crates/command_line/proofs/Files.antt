@@ -19,11 +19,11 @@ use Rattle.clap.specs.declared.error.kind.ErrorKind.{ErrorKind}
 use Rattle.clap.specs.declared.error.kind.ErrorKind.TheVariants.{UnknownArgument, MissingRequiredArgument}
 use Rattle.std.proofs.Math.Bool.{or-false}
 use Rattle.clap.specs.declared.parser.matches.ValueSource.TheVariants.{CommandLine}
-use Rattle.command_line.specs.CommandLine.{Subcommand, file_rule, files_of, is_flag, begins_with_hyphen}
+use Rattle.command_line.specs.CommandLine.{AreTexts, Subcommand, file_rule, files_of, is_flag, begins_with_hyphen}
 
 -- ---- bits
 
-and_false : (b : Bool) → (b && false) ≡ false
+pub and_false : (b : Bool) → (b && false) ≡ false
 and_false true = refl
 and_false false = refl
 
@@ -31,7 +31,7 @@ or_true : (b : Bool) → (b || true) ≡ true
 or_true true = refl
 or_true false = refl
 
-no_kind : (k : ErrorKind) (ks : Kinds) → k ∷ ks ≡ [] → ⊥
+pub no_kind : (k : ErrorKind) (ks : Kinds) → k ∷ ks ≡ [] → ⊥
 no_kind k ks e = cc
 
 -- ---- the command's rules
@@ -50,7 +50,7 @@ built_subcommand s = record (new_shape s.name) {
   is_built = true;
 }
 
-abbrev next_place : ℕ → ℕ
+abbrev pub next_place : ℕ → ℕ
 next_place k = min (k + 1) usize_max
 
 -- no flag is known
@@ -100,7 +100,7 @@ abbrev pub has_key : Text → List Text → Bool
 has_key id keys = list_any (λ k. bytes_eq k id) keys
 
 -- the rows are files that the words gave, with these ids
-abbrev IsGiven : List Text → List Row → Type 0
+abbrev pub IsGiven : List Text → List Row → Type 0
 IsGiven [] [] = Unit {0}
 IsGiven (key ∷ keys) (r ∷ rows) = (r.id ≡ key) × (r.source ≡ Some CommandLine) × IsGiven keys rows
 IsGiven _ _ = ⊥
@@ -163,7 +163,7 @@ pub data Kind (word : Text) : Type 0 where
   short : (x : ℕ) (rest : Text) → word ≡ 45 ∷ x ∷ rest → long_of word ≡ None → short_of word ≡ Some (x ∷ rest) → bytes_eq word (codes "--") ≡ false → is_flag word ≡ true → Kind word
   plain : IsPlain word → is_flag word ≡ false → Kind word
 
-kind_of_word : (word : Text) → Kind word
+pub kind_of_word : (word : Text) → Kind word
 kind_of_word [] = plain (record { not_end = refl; not_long = refl; not_short = refl }) refl
 kind_of_word (b ∷ rest) = go (b == 45) refl
   where
@@ -181,7 +181,7 @@ kind_of_word (b ∷ rest) = go (b == 45) refl
     go true e = subst (λ (y : ℕ). Kind (y ∷ rest)) (sym (eqb-true _ _ e)) (hyphen rest)
 
 -- a text that is more than its first hyphen has a character more
-some_char : (x : ℕ) (rest : Text) → IsUtf8 (45 ∷ x ∷ rest) → (c : ℕ) × (slice_get (chars (x ∷ rest)) 0 ≡ Some c)
+pub some_char : (x : ℕ) (rest : Text) → IsUtf8 (45 ∷ x ∷ rest) → (c : ℕ) × (slice_get (chars (x ∷ rest)) 0 ≡ Some c)
 unfolding chars encode_utf8
 some_char x rest u = go (chars (x ∷ rest)) (encodes-chars (45 ∷ x ∷ rest) u)
   where
@@ -191,7 +191,7 @@ some_char x rest u = go (chars (x ∷ rest)) (encodes-chars (45 ∷ x ∷ rest) 
 
 -- ---- one turn
 
-abbrev walk_at : Held → ℕ → Bool → Walk
+abbrev pub walk_at : Held → ℕ → Bool → Walk
 walk_at h k t = record { held = h; waiting = idle; position = k; is_trailing = t; stopped = None }
 
 -- what is held stands for these rows, and has no fault
@@ -224,10 +224,10 @@ new_rests c k id word rows is fresh = record {
 }
 
 module _ (name : Text) (all : List Text) where
-  abbrev shape : Shape
+  abbrev pub shape : Shape
   shape = built_subcommand (record { name = name; files = all })
 
-  abbrev rules : List Rule
+  abbrev pub rules : List Rule
   rules = filled_from 1 (map file_rule all)
 
   -- the word goes to the next file
@@ -301,14 +301,14 @@ module _ (name : Text) (all : List Text) where
   -- ---- all words
 
   -- what is at fault at the end
-  abbrev end_fault : Held → Kinds
+  abbrev pub end_fault : Held → Kinds
   end_fault h = or_else (settle_fault rules false h) (or_else (defaults_fault (settled rules h).rows rules) (check_fault shape (finished rules h) false))
 
   -- what is at fault from here on
-  abbrev rest_fault : Walk → List Text → Kinds
+  abbrev pub rest_fault : Walk → List Text → Kinds
   rest_fault w words = or_else (walk_fault shape [] w words) (end_fault (fold (walked rules []) w words).held)
 
-  abbrev end_rows : Walk → List Text → List Row
+  abbrev pub end_rows : Walk → List Text → List Row
   end_rows w words = finished rules (fold (walked rules []) w words).held
 
   next_fault : (w after : Walk) (word : Text) (words : List Text) → turn_fault shape [] w word ≡ [] → walked rules [] w word ≡ after
@@ -332,12 +332,12 @@ module _ (name : Text) (all : List Text) where
   last_rows given h rests = all_rows all 1 (settled rules h).rows ∙ rests.rows
 
   -- what the words name as files, with flags or without
-  abbrev files_in : Bool → List Text → Option (List Text)
+  abbrev pub files_in : Bool → List Text → Option (List Text)
   files_in true words = Some words
   files_in false words = files_of words
 
   -- the words are the files of `ids`, and none is left over
-  record IsRead (t : Bool) (k : ℕ) (ids : List Text) (given : List Row) (h : Held) (words : List Text) : Type 0 where
+  pub record IsRead (t : Bool) (k : ℕ) (ids : List Text) (given : List Row) (h : Held) (words : List Text) : Type 0 where
     pub files : List Text
     pub from : files_in t words ≡ Some files
     pub count : length files ≡ length ids
@@ -345,11 +345,11 @@ module _ (name : Text) (all : List Text) where
     pub rows : end_rows (walk_at h k t) words ≡ given ++ rows_for ids files
 
   -- they are not
-  record IsRefused (t : Bool) (k : ℕ) (ids : List Text) (h : Held) (words : List Text) : Type 0 where
+  pub record IsRefused (t : Bool) (k : ℕ) (ids : List Text) (h : Held) (words : List Text) : Type 0 where
     pub fault : rest_fault (walk_at h k t) words ≡ [] → ⊥
     pub none : (files : List Text) → files_in t words ≡ Some files → length files ≡ length ids → ⊥
 
-  abbrev IsJudged : Bool → ℕ → List Text → List Row → Held → List Text → Type 0
+  abbrev pub IsJudged : Bool → ℕ → List Text → List Row → Held → List Text → Type 0
   IsJudged t k ids given h words = IsRead t k ids given h words ⊎ IsRefused t k ids h words
 
   abbrev TakesFile : Bool → Text → Type 0
@@ -391,3 +391,113 @@ module _ (name : Text) (all : List Text) where
         let m = some_more word (files_in t words) files (sym (takes words) ∙ from) in
         let longer : length files ≡ suc (length m.0) = ap length m.2 in absurd (omega arith);
   }
+
+  -- a `--`, before words that are judged
+  end_files : (word : Text) (words : List Text) → bytes_eq word (codes "--") ≡ true → files_of (word ∷ words) ≡ Some words
+  end_files word words e = rw e refl
+
+  after_end : (k : ℕ) (ids : List Text) (given : List Row) (h : Held) (word : Text) (words : List Text) → bytes_eq word (codes "--") ≡ true
+      → IsJudged true k ids given h words → IsJudged false k ids given h (word ∷ words)
+  after_end k ids given h word words e (inl r) = inl (record {
+    files = r.files;
+    from = end_files word words e ∙ r.from;
+    count = r.count;
+    fault = next_fault (walk_at h k false) _ word words (end_turn h k word e) (end_walked h k word e) ∙ r.fault;
+    rows = ap (λ w. finished rules (fold (walked rules []) w words).held) (end_walked h k word e) ∙ r.rows;
+  })
+  after_end k ids given h word words e (inr r) = inr (record {
+    fault = λ none. r.fault (sym (next_fault (walk_at h k false) _ word words (end_turn h k word e) (end_walked h k word e)) ∙ none);
+    none = λ files from count. r.none files (sym (end_files word words e) ∙ from) count;
+  })
+
+  -- a flag
+  not_a_file : (k : ℕ) (ids : List Text) (h : Held) (word : Text) (words : List Text) → bytes_eq word (codes "--") ≡ false → is_flag word ≡ true
+      → turn_fault shape [] (walk_at h k false) word ≡ UnknownArgument ∷ [] → IsRefused false k ids h (word ∷ words)
+  not_a_file k ids h word words not_end flag is = record {
+    fault = stuck_fault (walk_at h k false) word words UnknownArgument is;
+    none = λ files from count.
+        let refused : files_of (word ∷ words) ≡ None = rw (not_end, flag) refl in cc;
+  }
+
+  takes_plain : (word : Text) → bytes_eq word (codes "--") ≡ false → is_flag word ≡ false → TakesFile false word
+  takes_plain word not_end flag words = rw (not_end, flag) refl
+
+  takes_all : (word : Text) → TakesFile true word
+  takes_all word words = refl
+
+  nothing_in : (t : Bool) → files_in t [] ≡ Some []
+  nothing_in true = refl
+  nothing_in false = refl
+
+  ended : (h : Held) (k : ℕ) (t : Bool) → rest_fault (walk_at h k t) [] ≡ end_fault h
+  unfolding walk_fault
+  ended h k t = refl
+
+  nothing_left : (t : Bool) (k : ℕ) (keys : List Text) (given : List Row) (h : Held) → IsInOrder rules keys k [] → IsGiven keys given → Rests rules given h
+      → IsRead t k [] given h []
+  nothing_left t k keys given h order g rests = record {
+    files = [];
+    from = nothing_in t;
+    count = refl;
+    fault = ended h k t ∙ last_fault keys given h g rests ∙ ap (λ b. cond b (MissingRequiredArgument ∷ []) []) order.1;
+    rows = last_rows given h rests ∙ sym (append-nil given);
+  }
+
+  too_few : (t : Bool) (k : ℕ) (keys : List Text) (id : Text) (ids : List Text) (given : List Row) (h : Held) → IsInOrder rules keys k (id ∷ ids) → IsGiven keys given → Rests rules given h
+      → IsRefused t k (id ∷ ids) h []
+  too_few t k keys id ids given h order g rests = record {
+    fault = λ e. no_kind MissingRequiredArgument [] (sym (ended h k t ∙ last_fault keys given h g rests ∙ ap (λ b. cond b (MissingRequiredArgument ∷ []) []) order.4) ∙ e);
+    none = λ files from count.
+        let empty : [] ≡ files = ap (λ o. unwrap_or o []) (sym (nothing_in t) ∙ from) in
+        let zero : 0 ≡ length files = ap length empty in absurd (omega arith);
+  }
+
+  none_left : (k : ℕ) (keys : List Text) (given : List Row) (h : Held) (word : Text) (words : List Text) → IsInOrder rules keys k [] → Rests rules given h → IsUtf8 word
+      → Kind word → IsJudged true k [] given h words → IsJudged false k [] given h (word ∷ words)
+  none_left k keys given h word words order rests utf8 (ends e) behind = after_end k [] given h word words e behind
+  none_left k keys given h word words order rests utf8 (long p is not_end flag) behind = inr (not_a_file k [] h word words not_end flag (long_turn h k word p is not_end))
+  none_left k keys given h word words order rests utf8 (short x rest is not_long is_short not_end flag) behind =
+      inr (not_a_file k [] h word words not_end flag (short_turn h k word x rest is not_long is_short not_end utf8 rests.skip))
+  none_left k keys given h word words order rests utf8 (plain p flag) behind =
+      inr (too_many false k h word words (takes_plain word p.not_end flag) (stray_turn false h k word (plain_goes h k word p) order.0))
+
+  some_left : (k : ℕ) (keys : List Text) (id : Text) (ids : List Text) (given : List Row) (h : Held) (word : Text) (words : List Text)
+      → IsInOrder rules keys k (id ∷ ids) → Rests rules given h → IsUtf8 word → Kind word → IsJudged true k (id ∷ ids) given h words
+      → IsJudged false (k + 1) ids (given ++ file_row id word ∷ []) (with_file given id word) words → IsJudged false k (id ∷ ids) given h (word ∷ words)
+  some_left k keys id ids given h word words order rests utf8 (ends e) behind more = after_end k (id ∷ ids) given h word words e behind
+  some_left k keys id ids given h word words order rests utf8 (long p is not_end flag) behind more =
+      inr (not_a_file k (id ∷ ids) h word words not_end flag (long_turn h k word p is not_end))
+  some_left k keys id ids given h word words order rests utf8 (short x rest is not_long is_short not_end flag) behind more =
+      inr (not_a_file k (id ∷ ids) h word words not_end flag (short_turn h k word x rest is not_long is_short not_end utf8 rests.skip))
+  some_left k keys id ids given h word words order rests utf8 (plain p flag) behind more =
+      one_more false k id ids given h word words (takes_plain word p.not_end flag)
+      (file_turn false h k id word given (plain_goes h k word p) order.0 rests)
+      (file_walked false h k id word given (plain_goes h k word p) order.0 order.2 rests) more
+
+  judge : (words : List Text) (t : Bool) (k : ℕ) (ids keys : List Text) (given : List Row) (h : Held) → IsInOrder rules keys k ids → IsGiven keys given → Rests rules given h → AreTexts words
+      → IsJudged t k ids given h words
+  judge [] t k [] keys given h order g rests utf8 = inl (nothing_left t k keys given h order g rests)
+  judge [] t k (id ∷ ids) keys given h order g rests utf8 = inr (too_few t k keys id ids given h order g rests)
+  judge (word ∷ words) true k [] keys given h order g rests utf8 =
+      inr (too_many true k h word words (takes_all word) (stray_turn true h k word (trailing_goes h k word) order.0))
+  judge (word ∷ words) true k (id ∷ ids) keys given h order g rests utf8 =
+      one_more true k id ids given h word words (takes_all word)
+      (file_turn true h k id word given (trailing_goes h k word) order.0 rests)
+      (file_walked true h k id word given (trailing_goes h k word) order.0 order.2 rests)
+      (judge words true (k + 1) ids (keys ++ id ∷ []) (given ++ file_row id word ∷ []) (with_file given id word) order.5
+          (more_given keys given id word g)
+          (new_rests rules k id word given order.1 (given_row keys given id g ∙ order.3)) utf8.1)
+  judge (word ∷ words) false k [] keys given h order g rests utf8 =
+      none_left k keys given h word words order rests utf8.0 (kind_of_word word) (judge words true k [] keys given h order g rests utf8.1)
+  judge (word ∷ words) false k (id ∷ ids) keys given h order g rests utf8 =
+      some_left k keys id ids given h word words order rests utf8.0 (kind_of_word word) (judge words true k (id ∷ ids) keys given h order g rests utf8.1)
+      (judge words false (k + 1) ids (keys ++ id ∷ []) (given ++ file_row id word ∷ []) (with_file given id word) order.5
+          (more_given keys given id word g)
+          (new_rests rules k id word given order.1 (given_row keys given id g ∙ order.3)) utf8.1)
+
+  -- the words of a command that is given them all
+  pub command_judged : (words : List Text) → IsInOrder rules [] 1 all → AreTexts words → IsJudged false 1 all [] nothing_held words
+  command_judged words order utf8 = judge words false 1 all [] [] nothing_held order tt (record { settle = refl; rows = refl; skip = refl }) utf8
+
+  pub level_is : (words : List Text) → level_fault shape [] nothing_held words false [] ≡ rest_fault (walk_from nothing_held) words
+  level_is words = refl

@@ -1,7 +1,7 @@
 -- The command lines of the program: its commands as `clap` reads them.
 use Rattle.std.specs.Prelude.{◌≡◌, ◌==◌, ◌&&◌, List, [], ◌∷◌, Bool, true, false, not, codes, map, find}
 use Rattle.std.specs.Prelude.{Option, Some, None, option_map, if◌then◌else◌}
-use Rattle.std.specs.Str.{bytes_eq}
+use Rattle.std.specs.Str.{IsUtf8, bytes_eq}
 use Rattle.clap.specs.Simple.{new_shape}
 use Rattle.clap.specs.Words.{App, Rule, Shape, Text, app_of, fault_of, new_rule}
 use Rattle.clap.specs.declared.builder.command.Command.{Command}
@@ -76,3 +76,8 @@ line_of (name ∷ rest) = option_map (λ files. name ∷ files) (files_of rest)
 -- the command of this name
 abbrev pub subcommand_named : Text → Option Subcommand
 subcommand_named name = find (λ s. bytes_eq s.name name) subcommands
+
+-- the words are UTF-8, as those of a program are that has taken them as strings
+abbrev pub AreTexts : List Text → Type 0
+AreTexts [] = Unit {0}
+AreTexts (word ∷ words) = IsUtf8 word × AreTexts words
