@@ -7,7 +7,7 @@ use Rattle.std.specs.Char.{encode_utf8}
 use Rattle.std.specs.Option.{option_map_or, option_and_then}
 use Rattle.std.specs.Str.{IsUtf8, bytes_eq, chars}
 use Rattle.clap.specs.Lexer.{long_of, short_of}
-use Rattle.clap.specs.Walk.{Held, Names, Row, Rule, Step, Text, Walk, idle, answers_to, finished, nothing_held, rows_after, settled, subcommand_met, subcommand_or_other, walk, walk_from, walked}
+use Rattle.clap.specs.Walk.{Held, Names, Row, Rule, Step, Text, Walk, after_step, idle, answers_to, finished, nothing_held, rows_after, settled, subcommand_met, subcommand_or_other, walk, walk_from, walked}
 use Rattle.clap.specs.Simple.{App, Shape, built, entered, label_of, new_shape, rows_at, subcommand_of}
 use Rattle.clap.specs.Kinds.{Kinds, or_else}
 use Rattle.clap.specs.Faults.{bundle_fault, built_fault, check_fault, defaults_fault, entered_fault, fault_of, flag_word_fault, flags_fault, level_fault, other_fault, settle_fault, step_fault, turn_fault, walk_fault}
@@ -139,4 +139,129 @@ module _ (word : Text) (s : Subcommand) (is : subcommand_named word ≡ Some s) 
 
   first_walked : walked [] names (walk_from nothing_held) word ≡ stopped_at word []
   unfolding walked
-  first_walked = ?
+  first_walked = ap (λ o. after_step [] word (walk_from nothing_held) (subcommand_or_other [] o idle 1 word nothing_held).0 (subcommand_or_other [] o idle 1 word nothing_held).1) met
+
+  whole_walk : (words : List Text) → walk [] names nothing_held (word ∷ words) ≡ stopped_at word words
+  whole_walk words = ap (λ w. fold (walked [] names) w words) first_walked ∙ stopped_walk words word []
+
+  whole_walk_fault : (words : List Text) → walk_fault top names (walk_from nothing_held) (word ∷ words) ≡ []
+  unfolding walk_fault
+  whole_walk_fault words = (λ i. or_else (first_turn i) (walk_fault top names (first_walked i) words)) ∙ stopped_fault words word []
+
+  found : find (λ (x : Shape). answers_to word (label_of x)) (map built_subcommand subcommands) ≡ Some (built_subcommand s)
+  found = entered_by_name subcommands word ∙ ap (option_map built_subcommand) is
+
+  -- what is at fault is what is at fault behind the command's name
+  pub fault_behind : (words : List Text) → fault_of alpaca_app (word ∷ words) ≡ level_fault (built_subcommand s) [] nothing_held words false []
+  unfolding defaults_fault
+  fault_behind words =
+      fault_is (word ∷ words) ∙ whole_is (word ∷ words)
+      ∙ (λ i. whole_fault (whole_walk_fault words i) (whole_walk words i))
+      ∙ (λ i. or_else (option_map_or (λ (x : Shape). level_fault x [] nothing_held words false []) (found i) [])
+          (check_fault top [] (is_some (option_map (λ (x : Shape). rows_at x words) (found i)))))
+      ∙ or_nothing (level_fault (built_subcommand s) [] nothing_held words false [])
+
+  pub rows_behind : (words : List Text) → subcommand_of alpaca_app (word ∷ words) ≡ Some (s.name, rows_after (built_subcommand s).rules [] words)
+  unfolding alpaca_app
+  rows_behind words =
+      ap (λ (w : Walk). entered built_app w.stopped) (whole_walk words) ∙ ap (option_map (λ (x : Shape). rows_at x words)) found
+
+-- a first word that names no command
+module _ (word : Text) (none : subcommand_named word ≡ None) where
+  not_met : subcommand_met names idle word ≡ None
+  not_met = ap (option_map (λ (p : Text × List Text). p.0)) (met_by_name subcommands word)
+      ∙ ap (λ o. option_map (λ (p : Text × List Text). p.0) (option_map (λ (s : Subcommand). (s.name, [])) o)) none
+
+  turn_of : turn_fault top names (walk_from nothing_held) word
+      ≡ or_else (other_fault top None word nothing_held) (step_fault top 1 (subcommand_or_other [] None idle 1 word nothing_held).0 (subcommand_or_other [] None idle 1 word nothing_held).1)
+  turn_of = ap (λ o. or_else (other_fault top o word nothing_held) (step_fault top 1 (subcommand_or_other [] o idle 1 word nothing_held).0 (subcommand_or_other [] o idle 1 word nothing_held).1)) not_met
+
+  turn_fails : (words : List Text) (k : ErrorKind) (ks : Kinds) → turn_fault top names (walk_from nothing_held) word ≡ k ∷ ks → IsLine (word ∷ words) → ⊥
+  unfolding walk_fault
+  turn_fails words k ks is line =
+      let whole = first_none (walk_fault top names (walk_from nothing_held) (word ∷ words)) _ (sym (fault_is (word ∷ words) ∙ whole_is (word ∷ words)) ∙ line) in
+      no_kind k ks (sym is ∙ first_none (turn_fault top names (walk_from nothing_held) word) _ whole)
+
+  other_fails : (words : List Text) (k : ErrorKind) (ks : Kinds) → other_fault top None word nothing_held ≡ k ∷ ks → IsLine (word ∷ words) → ⊥
+  other_fails words k ks is line =
+      turn_fails words k ks (turn_of ∙ ap (λ f. or_else f (step_fault top 1 (subcommand_or_other [] None idle 1 word nothing_held).0 (subcommand_or_other [] None idle 1 word nothing_held).1)) is) line
+
+  end_walks : bytes_eq word (codes "--") ≡ true → walked [] names (walk_from nothing_held) word ≡ walk_at nothing_held 1 true
+  unfolding walked
+  end_walks e =
+      ap (λ o. after_step [] word (walk_from nothing_held) (subcommand_or_other [] o idle 1 word nothing_held).0 (subcommand_or_other [] o idle 1 word nothing_held).1) not_met
+      ∙ rw e refl
+
+  end_turns : bytes_eq word (codes "--") ≡ true → turn_fault top names (walk_from nothing_held) word ≡ []
+  end_turns e = turn_of ∙ rw e refl
+
+  end_fails : (words : List Text) → bytes_eq word (codes "--") ≡ true → IsLine (word ∷ words) → ⊥
+  unfolding walk_fault defaults_fault
+  end_fails [] e line =
+      no_kind MissingSubcommand [] ((λ i. whole_fault (or_else (sym (end_turns e) i) []) (sym (end_walks e) i)) ∙ sym (fault_is (word ∷ []) ∙ whole_is (word ∷ [])) ∙ line)
+  end_fails (v ∷ words) e line =
+      let whole = first_none (walk_fault top names (walk_from nothing_held) (word ∷ v ∷ words)) _ (sym (fault_is (word ∷ v ∷ words) ∙ whole_is (word ∷ v ∷ words)) ∙ line) in
+      no_kind UnknownArgument (InvalidSubcommand ∷ [])
+      (first_none (turn_fault top names (walk_at nothing_held 1 true) v) (walk_fault top names (walked [] names (walk_at nothing_held 1 true) v) words)
+          ((λ i. or_else (sym (end_turns e) i) (walk_fault top names (sym (end_walks e) i) (v ∷ words))) ∙ whole))
+
+  unnamed_fails : (words : List Text) → IsUtf8 word → Kind word → IsLine (word ∷ words) → ⊥
+  unfolding flags_fault
+  unnamed_fails words utf8 (ends e) = end_fails words e
+  unnamed_fails words utf8 (long p is not_end flag) =
+      other_fails words UnknownArgument [] (rw not_end (ap (λ o. flag_word_fault [] false o word nothing_held) is))
+  unnamed_fails words utf8 (short x rest is not_long is_short not_end flag) =
+      let c = some_char x rest (subst IsUtf8 is utf8) in
+      other_fails words UnknownArgument [] (rw not_end (ap (λ o. flag_word_fault [] false o word nothing_held) not_long
+          ∙ ap (λ o. option_map_or (λ (flags : Text). bundle_fault [] false flags nothing_held) o []) is_short
+          ∙ rw (c.1) refl))
+  unnamed_fails words utf8 (plain p flag) =
+      turn_fails words UnknownArgument (InvalidSubcommand ∷ []) (turn_of ∙ rw (p.not_end, p.not_long, p.not_short) refl)
+
+no_words_fail : IsLine [] → ⊥
+unfolding alpaca_app walk_fault defaults_fault
+no_words_fail line = no_kind MissingSubcommand [] line
+
+-- ---- lines
+
+-- a command's name, and the files that it wants
+pub record Line (words : List Text) : Type 0 where
+  pub name : Text
+  pub rest : List Text
+  pub command : Subcommand
+  pub files : List Text
+  pub is : words ≡ name ∷ rest
+  pub named : subcommand_named name ≡ Some command
+  pub from : files_of rest ≡ Some files
+  pub count : length files ≡ length command.files
+  pub rows : subcommand_of alpaca_app words ≡ Some (command.name, rows_for command.files files)
+
+pub line_reads : (words : List Text) → AreTexts words → IsLine words → Line words
+line_reads [] texts line = absurd (no_words_fail line)
+line_reads (word ∷ words) texts line = go (subcommand_named word) refl
+  where
+    read : (s : Subcommand) → subcommand_named word ≡ Some s → IsJudged s.name s.files false 1 s.files [] nothing_held words → Line (word ∷ words)
+    read s is (inl r) = record {
+      name = word;
+      rest = words;
+      command = s;
+      files = r.files;
+      is = refl;
+      named = is;
+      from = r.from;
+      count = r.count;
+      rows = rows_behind word s is words ∙ ap (λ rows. Some (s.name, rows)) r.rows;
+    }
+    read s is (inr r) = absurd (r.fault (sym (fault_behind word s is words) ∙ line))
+
+    go : (o : Option Subcommand) → subcommand_named word ≡ o → Line (word ∷ words)
+    go None is = absurd (unnamed_fails word is words texts.0 (kind_of_word word) line)
+    go (Some s) is = read s is (command_judged s.name s.files words (in_order subcommands word s all_in_order is) texts.1)
+
+pub line_there : (name : Text) (rest files : List Text) (s : Subcommand) → AreTexts (name ∷ rest) → subcommand_named name ≡ Some s → files_of rest ≡ Some files
+    → length files ≡ length s.files → IsLine (name ∷ rest)
+line_there name rest files s texts is from count = go (command_judged s.name s.files rest (in_order subcommands name s all_in_order is) texts.1)
+  where
+    go : IsJudged s.name s.files false 1 s.files [] nothing_held rest → IsLine (name ∷ rest)
+    go (inl r) = fault_behind name s is rest ∙ r.fault
+    go (inr r) = absurd (r.none files from count)
