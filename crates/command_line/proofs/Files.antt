@@ -105,7 +105,7 @@ IsGiven [] [] = Unit {0}
 IsGiven (key ∷ keys) (r ∷ rows) = (r.id ≡ key) × (r.source ≡ Some CommandLine) × IsGiven keys rows
 IsGiven _ _ = ⊥
 
-given_row : (keys : List Text) (rows : List Row) (id : Text) → IsGiven keys rows → has_row id rows ≡ has_key id keys
+pub given_row : (keys : List Text) (rows : List Row) (id : Text) → IsGiven keys rows → has_row id rows ≡ has_key id keys
 given_row [] [] id g = refl
 given_row (key ∷ keys) (r ∷ rows) id g = ap₂ (λ (k : Text) (b : Bool). bytes_eq k id || b) g.0 (given_row keys rows id g.2)
 given_row [] (r ∷ rows) id g = absurd g
@@ -125,7 +125,7 @@ given_is (key ∷ keys) (r ∷ rows) id g =
 given_is [] (r ∷ rows) id g = absurd g
 given_is (key ∷ keys) [] id g = absurd g
 
-more_given : (keys : List Text) (rows : List Row) (id file : Text) → IsGiven keys rows → IsGiven (keys ++ id ∷ []) (rows ++ file_row id file ∷ [])
+pub more_given : (keys : List Text) (rows : List Row) (id file : Text) → IsGiven keys rows → IsGiven (keys ++ id ∷ []) (rows ++ file_row id file ∷ [])
 more_given [] [] id file g = (refl, refl, tt)
 more_given (key ∷ keys) (r ∷ rows) id file g = (g.0, g.1, more_given keys rows id file g.2)
 more_given [] (r ∷ rows) id file g = absurd g

@@ -84,16 +84,16 @@ has_name (x ∷ xs) word s e = go (bytes_eq x.name word) refl (has_name xs word 
         ap (λ (y : Subcommand). y.name) (sym same) ∙ (bytes_eq-Decides x.name word).0 is
     go false is rest e = rest e
 
-AreInOrder : List Subcommand → Type 0
+pub AreInOrder : List Subcommand → Type 0
 AreInOrder [] = Unit {0}
 AreInOrder (s ∷ rest) = IsInOrder (built_subcommand s).rules [] 1 s.files × AreInOrder rest
 
 -- each command's files have names of their own
-all_in_order : AreInOrder subcommands
+pub all_in_order : AreInOrder subcommands
 unfolding AreInOrder
 all_in_order = ((refl, refl, refl, refl, refl, (refl, refl, refl, refl, refl, (refl, refl))), tt)
 
-in_order : (xs : List Subcommand) (word : Text) (s : Subcommand) → AreInOrder xs → named xs word ≡ Some s → IsInOrder (built_subcommand s).rules [] 1 s.files
+pub in_order : (xs : List Subcommand) (word : Text) (s : Subcommand) → AreInOrder xs → named xs word ≡ Some s → IsInOrder (built_subcommand s).rules [] 1 s.files
 unfolding AreInOrder
 in_order [] word s all e = cc
 in_order (x ∷ xs) word s all e = go (bytes_eq x.name word) (in_order xs word s all.1) e

@@ -1,13 +1,13 @@
 //! The words of the command line, read by `clap` into a command of the program.
 #![tactic(auto)]
 
-ghost use Rattle.std.specs.Prelude.{◌≡◌, IfOk, IsErrOf, Some, List, false, map, option_map, string_bytes};
+ghost use Rattle.std.specs.Prelude.{◌≡◌, ◌↔◌, IfOk, IsErrOf, Some, List, false, map, option_map, string_bytes};
 ghost use Rattle.std.specs.List.{list_any};
 ghost use Rattle.clap.specs.Words.{Text, found_of, rows_of, subcommand_of, subcommand_rows_of};
 ghost use Rattle.command_line.specs.CommandLine.{
     AreTexts, IsCommand, IsLine, alpaca_app, begins_with_hyphen, line_of, subcommand_app
 };
-ghost use Rattle.command_line.specs.Commands.{line_found, plain_line};
+ghost use Rattle.command_line.specs.Commands.{IsPlainLine, NamesCommand, line_found, plain_line};
 
 use clap::error::ErrorKind;
 use clap::{Arg, ArgMatches};
@@ -41,14 +41,26 @@ pub fn command_of<'a>(alloc: Global, words: &'a [String]) -> Result<Command<'a>,
     ensures line { IfOk result (λ _. IsLine (map string_bytes words.entry.now)) }
     ensures command { IfOk result (λ c. line_of (map string_bytes words.entry.now) ≡ Some (plain_line c)) }
     ensures usage { IsErrOf result WordsFault.Usage → IsLine (map string_bytes words.entry.now) → ⊥ }
-    ensures no_command { IsErrOf result WordsFault.Usage → (c : Command)
-        → line_of (map string_bytes words.entry.now) ≡ Some (plain_line c) → ⊥ }
+    ensures no_command { IsErrOf result WordsFault.Usage
+        → NamesCommand (map string_bytes words.entry.now) → ⊥ }
     ensures plain { list_any begins_with_hyphen (map string_bytes words.entry.now) ≡ false
         → IfOk result (λ c. map string_bytes words.entry.now ≡ plain_line c) }
+    ensures no_plain { list_any begins_with_hyphen (map string_bytes words.entry.now) ≡ false
+        → IsErrOf result WordsFault.Usage → IsPlainLine (map string_bytes words.entry.now) → ⊥ }
 {
     let matches = matches_of(alloc, words)?;
     let (name, files) = matches.subcommand().unwrap();
     Ok(command_named(name, files).unwrap())
+}
+
+/// What a command line of the program is, in plain words: a command's name and then its files, where
+/// a `--` before a file is dropped, `-` is a file's name, and no other word before a `--` may begin
+/// with a hyphen. Where no word begins with one, a line is exactly a command's name and its files.
+pub fn command_lines()
+    ensures lines { (words : List Text) → AreTexts words → IsLine words ↔ NamesCommand words }
+    ensures plain_lines { (words : List Text) → AreTexts words
+        → list_any begins_with_hyphen words ≡ false → IsLine words ↔ IsPlainLine words }
+{
 }
 
 /// The command of this name, with the files that `clap` found for it.
