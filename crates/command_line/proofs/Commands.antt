@@ -1,20 +1,18 @@
 -- Lines as commands: what stands in a line is what the command holds.
-use Rattle.std.proofs.Common.{◌≡◌, ◌∙◌, ◌+◌, ◌++◌, ◌∷◌, ◌&&◌, ◌||◌, ◌==◌, ℕ, Bool, cond, codes, true, false, not, suc, refl, sym, ap, ap₂, subst, arith, List, [], map, length, Option, Some, None, is_some, option_map, true≢false, append_assoc, string_bytes, String}
+use Rattle.std.proofs.Common.{◌≡◌, ◌∙◌, ◌+◌, ◌++◌, ◌∷◌, ◌||◌, ℕ, Bool, cond, codes, true, false, refl, sym, ap, ap₂, arith, List, [], map, length, Option, Some, None, is_some, option_map, true≢false, append_assoc, string_bytes, String}
 use Rattle.std.proofs.lemmas.Slice.Eq.{bytes_eq-Decides}
 use Rattle.std.proofs.lemmas.Str.{IsUtf8-string_bytes}
-use Rattle.std.specs.Prelude.{Box, slice_get, find, unwrap_or}
+use Rattle.std.specs.Prelude.{slice_get, find, unwrap_or}
 use Rattle.std.specs.Borrow.{Bor}
 use Rattle.std.specs.List.{list_any}
 use Rattle.std.specs.Box.{box_value}
 use Rattle.std.specs.Option.{IsSome, option_and_then}
 use Rattle.std.specs.Str.{bytes_eq}
-use Rattle.clap.specs.Words.{App, Row, Rule, Text, first_of, found_of, has_subcommand, rows_of, subcommand_name_of, subcommand_of, subcommand_rows_of}
+use Rattle.clap.specs.Words.{Row, Rule, Text, first_of, found_of, has_subcommand, rows_of, subcommand_name_of, subcommand_of, subcommand_rows_of}
 use Rattle.clap.specs.Walk.{has_row}
-use Rattle.clap.specs.Simple.{subcommand_rows}
 use Rattle.clap.specs.declared.parser.matches.ArgMatches.{ArgMatches}
 use Rattle.clap.specs.declared.parser.matches.ArgMatches.TheViews.{out-ArgMatches, out-SubCommand}
-use Rattle.clap.specs.declared.parser.matches.SubCommand.{SubCommand}
-use Rattle.command_line.specs.CommandLine.{AreTexts, IsLine, Subcommand, alpaca_app, begins_with_hyphen, files_of, is_flag, line_of, subcommand_named, subcommands}
+use Rattle.command_line.specs.CommandLine.{AreTexts, IsLine, Subcommand, alpaca_app, begins_with_hyphen, files_of, line_of, subcommand_named, subcommands}
 use Rattle.command_line.specs.Commands.{IsPlainLine, NamesCommand, line_found, plain_line, values_of}
 use Rattle.command_line.specs.declared.Command.{Command}
 use Rattle.command_line.specs.declared.Command.TheVariants.{Mean}
@@ -58,7 +56,7 @@ line_found_is words name rows l is =
     let kept : rows_for l.command.files l.files ≡ rows = ap (λ (o : Option (Text × List Row)). (unwrap_or o (name, rows)).1) same in
     let word : l.command.name ≡ l.name = has_name subcommands l.name l.command l.named in
     let values : values_of l.command.files rows ≡ Some l.files = ap (values_of l.command.files) (sym kept)
-        ∙ values_after l.command.files (built_subcommand l.command).rules [] 1 [] l.files (in_order subcommands l.name l.command all_in_order l.named) tt l.count in
+    ∙ values_after l.command.files (built_subcommand l.command).rules [] 1 [] l.files (in_order subcommands l.name l.command all_in_order l.named) tt l.count in
     let found : line_found l.name rows ≡ Some (l.name ∷ l.files) =
     ap (λ o. option_and_then (λ (s : Subcommand). option_map (λ files. l.name ∷ files) (values_of s.files rows)) o) l.named ∙ ap (option_map (λ files. l.name ∷ files)) values in
     ap (λ n. line_found n rows) (sym called ∙ word) ∙ found ∙ sym (ap line_of l.is ∙ ap (option_map (λ files. l.name ∷ files)) l.from)

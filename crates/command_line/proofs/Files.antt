@@ -1,6 +1,5 @@
 -- The words after a command's name, as `clap`'s rules read them: by induction over the words.
-use Rattle.std.proofs.Common.{◌≡◌, ◌∙◌, ◌<◌, ◌≤◌, ◌+◌, ◌++◌, ◌∷◌, ◌⊎◌, inl, inr, ◌&&◌, ◌||◌, ◌==◌, ℕ, Bool, cond, codes, true, false, not, zero, suc, refl, sym, ap, ap₂, subst, arith, List, [], map, length, drop, min, Option, Some, None, is_some, option_map, true≢false, append_assoc, append-nil}
-use Rattle.std.proofs.lemmas.Slice.Eq.{bytes_eq-Decides}
+use Rattle.std.proofs.Common.{◌≡◌, ◌∙◌, ◌+◌, ◌++◌, ◌∷◌, ◌⊎◌, inl, inr, ◌&&◌, ◌||◌, ◌==◌, ℕ, Bool, cond, codes, true, false, not, suc, refl, sym, ap, ap₂, subst, arith, List, [], map, length, drop, min, Option, Some, None, option_map, true≢false, append_assoc, append-nil}
 use Rattle.std.proofs.lemmas.Bool.{eqb-true}
 use Rattle.std.proofs.lemmas.Str.{encodes-chars}
 use Rattle.std.specs.Prelude.{slice_get, find, fold, unwrap_or}
@@ -10,7 +9,7 @@ use Rattle.std.specs.Char.{encode_utf8}
 use Rattle.std.specs.Str.{IsUtf8, bytes_eq, chars, encode_utf8_all}
 use Rattle.clap.specs.Lexer.{long_of, name_and_value, short_of, usize_max}
 use Rattle.clap.specs.Facts.{explicit_source}
-use Rattle.clap.specs.Walk.{Held, Names, Row, Rule, Step, Text, Waiting, Walk, idle, value, next, trailing, after_step, at_row, is_pending, more_values, pushed, to_positional,  used_by_id, arg_by_id, arg_by_index, arg_by_long, arg_by_short, finished, has_row, nothing_held, reading_by, settled, walk, walk_from, walked, with_default, word_met}
+use Rattle.clap.specs.Walk.{Held, Row, Rule, Step, Text, Walk, idle, value, after_step, at_row, is_pending, more_values, pushed, to_positional, used_by_id, arg_by_id, arg_by_index, arg_by_long, arg_by_short, finished, has_row, nothing_held, reading_by, settled, walk_from, walked, with_default, word_met}
 use Rattle.clap.specs.Simple.{Shape, filled, filled_from, new_shape, with_index}
 use Rattle.clap.specs.Takes.{is_given}
 use Rattle.clap.specs.Kinds.{Kinds, or_else}
@@ -19,7 +18,7 @@ use Rattle.clap.specs.declared.error.kind.ErrorKind.{ErrorKind}
 use Rattle.clap.specs.declared.error.kind.ErrorKind.TheVariants.{UnknownArgument, MissingRequiredArgument}
 use Rattle.std.proofs.Math.Bool.{or-false}
 use Rattle.clap.specs.declared.parser.matches.ValueSource.TheVariants.{CommandLine}
-use Rattle.command_line.specs.CommandLine.{AreTexts, Subcommand, file_rule, files_of, is_flag, begins_with_hyphen}
+use Rattle.command_line.specs.CommandLine.{AreTexts, Subcommand, file_rule, files_of, is_flag}
 
 -- ---- bits
 
@@ -293,9 +292,9 @@ module _ (name : Text) (all : List Text) where
       let none = no_short all 1 c.0 in
       let unknown : word_fault shape [] false idle word h ≡ UnknownArgument ∷ [] =
       rw not_end (ap (λ o. flag_word_fault rules false o word h) not_long
-          ∙ ap (λ o. option_map_or (λ (flags : Text). bundle_fault rules false flags h) o []) is_short
-          ∙ ap (λ n. flags_fault rules false (suc (length rest)) (x ∷ rest) n (record h { skip = 0 }) ) skip
-          ∙ rw (c.1) (ap (λ o. short_fault rules false o (drop (length (encode_utf8 c.0)) (x ∷ rest)) (record h { skip = 0 }) (flags_fault rules false (length rest) (drop (length (encode_utf8 c.0)) (x ∷ rest)) 0)) none)) in
+      ∙ ap (λ o. option_map_or (λ (flags : Text). bundle_fault rules false flags h) o []) is_short
+      ∙ ap (λ n. flags_fault rules false (suc (length rest)) (x ∷ rest) n (record h { skip = 0 })) skip
+      ∙ rw (c.1) (ap (λ o. short_fault rules false o (drop (length (encode_utf8 c.0)) (x ∷ rest)) (record h { skip = 0 }) (flags_fault rules false (length rest) (drop (length (encode_utf8 c.0)) (x ∷ rest)) 0)) none)) in
       ap (λ f. or_else f (step_fault shape k (word_met rules [] false idle k word h).0 (word_met rules [] false idle k word h).1)) unknown
 
   -- ---- all words
@@ -485,15 +484,15 @@ module _ (name : Text) (all : List Text) where
       (file_turn true h k id word given (trailing_goes h k word) order.0 rests)
       (file_walked true h k id word given (trailing_goes h k word) order.0 order.2 rests)
       (judge words true (k + 1) ids (keys ++ id ∷ []) (given ++ file_row id word ∷ []) (with_file given id word) order.5
-          (more_given keys given id word g)
-          (new_rests rules k id word given order.1 (given_row keys given id g ∙ order.3)) utf8.1)
+      (more_given keys given id word g)
+      (new_rests rules k id word given order.1 (given_row keys given id g ∙ order.3)) utf8.1)
   judge (word ∷ words) false k [] keys given h order g rests utf8 =
       none_left k keys given h word words order rests utf8.0 (kind_of_word word) (judge words true k [] keys given h order g rests utf8.1)
   judge (word ∷ words) false k (id ∷ ids) keys given h order g rests utf8 =
       some_left k keys id ids given h word words order rests utf8.0 (kind_of_word word) (judge words true k (id ∷ ids) keys given h order g rests utf8.1)
       (judge words false (k + 1) ids (keys ++ id ∷ []) (given ++ file_row id word ∷ []) (with_file given id word) order.5
-          (more_given keys given id word g)
-          (new_rests rules k id word given order.1 (given_row keys given id g ∙ order.3)) utf8.1)
+      (more_given keys given id word g)
+      (new_rests rules k id word given order.1 (given_row keys given id g ∙ order.3)) utf8.1)
 
   -- the words of a command that is given them all
   pub command_judged : (words : List Text) → IsInOrder rules [] 1 all → AreTexts words → IsJudged false 1 all [] nothing_held words

@@ -1,20 +1,17 @@
 -- Which words are a line of the program, by `clap`'s rules.
-use Rattle.std.proofs.Common.{◌≡◌, ◌∙◌, ◌+◌, ◌++◌, ◌∷◌, ◌⊎◌, inl, inr, ◌&&◌, ◌||◌, ◌==◌, ℕ, Bool, cond, codes, true, false, not, zero, suc, refl, sym, ap, ap₂, subst, arith, List, [], map, length, drop, Option, Some, None, is_some, option_map, true≢false, append_assoc, append-nil}
-use Rattle.std.proofs.Math.Bool.{or-false}
+use Rattle.std.proofs.Common.{◌≡◌, ◌∙◌, ◌++◌, ◌∷◌, inl, inr, ◌||◌, Bool, cond, codes, true, false, refl, sym, ap, subst, List, [], map, length, Option, Some, None, is_some, option_map, append_assoc, append-nil}
 use Rattle.std.proofs.lemmas.Slice.Eq.{bytes_eq-Decides}
-use Rattle.std.specs.Prelude.{slice_get, find, fold, unwrap_or}
-use Rattle.std.specs.Char.{encode_utf8}
-use Rattle.std.specs.Option.{option_map_or, option_and_then}
-use Rattle.std.specs.Str.{IsUtf8, bytes_eq, chars}
-use Rattle.clap.specs.Lexer.{long_of, short_of}
-use Rattle.clap.specs.Walk.{Held, Names, Row, Rule, Step, Text, Walk, after_step, idle, answers_to, finished, nothing_held, rows_after, settled, subcommand_met, subcommand_or_other, walk, walk_from, walked}
+use Rattle.std.specs.Prelude.{find, fold, unwrap_or}
+use Rattle.std.specs.Option.{option_map_or}
+use Rattle.std.specs.Str.{IsUtf8, bytes_eq}
+use Rattle.clap.specs.Walk.{Names, Text, Walk, after_step, idle, answers_to, finished, nothing_held, rows_after, settled, subcommand_met, subcommand_or_other, walk, walk_from, walked}
 use Rattle.clap.specs.Simple.{App, Shape, built, entered, label_of, new_shape, rows_at, subcommand_of}
 use Rattle.clap.specs.Kinds.{Kinds, or_else}
 use Rattle.clap.specs.Faults.{bundle_fault, built_fault, check_fault, defaults_fault, entered_fault, fault_of, flag_word_fault, flags_fault, level_fault, other_fault, settle_fault, step_fault, turn_fault, walk_fault}
 use Rattle.clap.specs.declared.error.kind.ErrorKind.{ErrorKind}
 use Rattle.clap.specs.declared.error.kind.ErrorKind.TheVariants.{UnknownArgument, MissingSubcommand, InvalidSubcommand}
 use Rattle.command_line.specs.CommandLine.{AreTexts, IsLine, Subcommand, alpaca_app, files_of, subcommand_named, subcommands}
-use Rattle.command_line.proofs.Files.{IsInOrder, IsJudged, IsPlain, Kind, and_false, built_subcommand, command_judged, ends, kind_of_word, long, no_kind, plain, rows_for, short, some_char, walk_at}
+use Rattle.command_line.proofs.Files.{IsInOrder, IsJudged, Kind, and_false, built_subcommand, command_judged, ends, kind_of_word, long, no_kind, plain, rows_for, short, some_char, walk_at}
 
 first_none : (a b : Kinds) → or_else a b ≡ [] → a ≡ []
 first_none [] b e = refl
@@ -158,7 +155,7 @@ module _ (word : Text) (s : Subcommand) (is : subcommand_named word ≡ Some s) 
       fault_is (word ∷ words) ∙ whole_is (word ∷ words)
       ∙ (λ i. whole_fault (whole_walk_fault words i) (whole_walk words i))
       ∙ (λ i. or_else (option_map_or (λ (x : Shape). level_fault x [] nothing_held words false []) (found i) [])
-          (check_fault top [] (is_some (option_map (λ (x : Shape). rows_at x words) (found i)))))
+      (check_fault top [] (is_some (option_map (λ (x : Shape). rows_at x words) (found i)))))
       ∙ or_nothing (level_fault (built_subcommand s) [] nothing_held words false [])
 
   pub rows_behind : (words : List Text) → subcommand_of alpaca_app (word ∷ words) ≡ Some (s.name, rows_after (built_subcommand s).rules [] words)
@@ -203,7 +200,7 @@ module _ (word : Text) (none : subcommand_named word ≡ None) where
       let whole = first_none (walk_fault top names (walk_from nothing_held) (word ∷ v ∷ words)) _ (sym (fault_is (word ∷ v ∷ words) ∙ whole_is (word ∷ v ∷ words)) ∙ line) in
       no_kind UnknownArgument (InvalidSubcommand ∷ [])
       (first_none (turn_fault top names (walk_at nothing_held 1 true) v) (walk_fault top names (walked [] names (walk_at nothing_held 1 true) v) words)
-          ((λ i. or_else (sym (end_turns e) i) (walk_fault top names (sym (end_walks e) i) (v ∷ words))) ∙ whole))
+      ((λ i. or_else (sym (end_turns e) i) (walk_fault top names (sym (end_walks e) i) (v ∷ words))) ∙ whole))
 
   unnamed_fails : (words : List Text) → IsUtf8 word → Kind word → IsLine (word ∷ words) → ⊥
   unfolding flags_fault
@@ -213,8 +210,8 @@ module _ (word : Text) (none : subcommand_named word ≡ None) where
   unnamed_fails words utf8 (short x rest is not_long is_short not_end flag) =
       let c = some_char x rest (subst IsUtf8 is utf8) in
       other_fails words UnknownArgument [] (rw not_end (ap (λ o. flag_word_fault [] false o word nothing_held) not_long
-          ∙ ap (λ o. option_map_or (λ (flags : Text). bundle_fault [] false flags nothing_held) o []) is_short
-          ∙ rw (c.1) refl))
+      ∙ ap (λ o. option_map_or (λ (flags : Text). bundle_fault [] false flags nothing_held) o []) is_short
+      ∙ rw (c.1) refl))
   unnamed_fails words utf8 (plain p flag) =
       turn_fails words UnknownArgument (InvalidSubcommand ∷ []) (turn_of ∙ rw (p.not_end, p.not_long, p.not_short) refl)
 

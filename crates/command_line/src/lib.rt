@@ -5,7 +5,13 @@ ghost use Rattle.std.specs.Prelude.{◌≡◌, ◌↔◌, IfOk, IsErrOf, Some, L
 ghost use Rattle.std.specs.List.{list_any};
 ghost use Rattle.clap.specs.Words.{Text, found_of, rows_of, subcommand_of, subcommand_rows_of};
 ghost use Rattle.command_line.specs.CommandLine.{
-    AreTexts, IsCommand, IsLine, alpaca_app, begins_with_hyphen, line_of, subcommand_app
+  AreTexts,
+  IsCommand,
+  IsLine,
+  alpaca_app,
+  begins_with_hyphen,
+  line_of,
+  subcommand_app,
 };
 ghost use Rattle.command_line.specs.Commands.{IsPlainLine, NamesCommand, line_found, plain_line};
 
@@ -60,8 +66,7 @@ pub fn command_lines()
     ensures lines { (words : List Text) → AreTexts words → IsLine words ↔ NamesCommand words }
     ensures plain_lines { (words : List Text) → AreTexts words
         → list_any begins_with_hyphen words ≡ false → IsLine words ↔ IsPlainLine words }
-{
-}
+{}
 
 /// The command of this name, with the files that `clap` found for it.
 fn command_named<'a>(name: &str, files: &ArgMatches<'a>) -> Option<Command<'a>>
@@ -102,8 +107,8 @@ fn file_command<'a>(
     files: &[&'a str],
 ) -> Result<clap::Command<'a>, AllocError>
     ensures { IfOk result (IsCommand (subcommand_app (record {
-        name = name.entry.now;
-        files = map (λ f. f.now) files.now;
+      name = name.entry.now;
+      files = map (λ f. f.now) files.now;
     }))) }
 {
     let mut command = clap::Command::new(alloc, name);
@@ -126,3 +131,6 @@ fn alpaca_command<'a>(alloc: Global) -> Result<clap::Command<'a>, AllocError>
     let whole = bare.subcommand(mean)?;
     Ok(whole)
 }
+
+#[cfg(test)]
+mod tests;

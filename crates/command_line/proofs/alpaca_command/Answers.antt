@@ -1,4 +1,4 @@
-use Rattle.std.proofs.Common.{rules, ap, ap₂, refl, codes, true, false, ◌≡◌, ◌∙◌, ◌∷◌, [], List, map}
+use Rattle.std.proofs.Common.{rules, ap, ap₂, codes, true, ◌≡◌, ◌∙◌, ◌∷◌, [], List, map}
 use Rattle.std.specs.Borrow.{Bor}
 use Rattle.clap.specs.Simple.{app_of_fields, new_shape}
 use Rattle.clap.specs.Words.{App, Text, app_of, new_app, with_subcommand}
@@ -20,7 +20,7 @@ returns c =
     (ap app_of_fields c.no_binary_name.ensures ∙ ap (λ (a : App). record a { top = record a.top { no_binary_name = true } }) c.new.ensures.app))) in
     let files : map (λ (f : Bor Text). f.now) c.as_slice.result.now ≡ codes "SRC" ∷ codes "TRACE" ∷ [] = search rules in
     let mean_is = ap (λ (a : App). a.top) c.in_ok-mean.ensures.app
-        ∙ ap (λ (fs : List Text). subcommand_shape (record { name = codes "mean"; files = fs })) files in
+    ∙ ap (λ (fs : List Text). subcommand_shape (record { name = codes "mean"; files = fs })) files in
     record {
       app = c.in_ok-whole.ensures.shape c.in_ok-mean.ensures.globals ∙ ap₂ with_subcommand bare_is mean_is;
       globals = search rules;

@@ -1,7 +1,7 @@
-use Rattle.std.proofs.Common.{rules, ◌≡◌, ◌∙◌, ◌∷◌, Option, Some, None, List, map, string_bytes, IsErrOf, option_map, refl, sym, ap, arith}
-use Rattle.clap.specs.Words.{Row, Text, found_of, rows_of, subcommand_of, subcommand_rows_of}
-use Rattle.command_line.specs.CommandLine.{IsLine, alpaca_app, line_of}
-use Rattle.command_line.specs.Commands.{line_found, plain_line}
+use Rattle.std.proofs.Common.{◌∙◌, ◌∷◌, List, map, string_bytes, IsErrOf, option_map, sym, ap, arith}
+use Rattle.clap.specs.Words.{Text, found_of, rows_of}
+use Rattle.command_line.specs.CommandLine.{IsLine, line_of}
+use Rattle.command_line.specs.Commands.{plain_line}
 use Rattle.command_line.specs.declared.WordsFault.TheVariants.{Usage}
 use Rattle.command_line.proofs.Commands.{are_texts, command_is_line, entered_is, has_met, is_there_by, line_found_is, line_plain, plain_names}
 use Rattle.command_line.proofs.Lines.{Line, line_reads}

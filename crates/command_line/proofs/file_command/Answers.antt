@@ -1,8 +1,8 @@
-use Rattle.std.proofs.Common.{◌≡◌, ◌<◌, ◌+◌, ◌++◌, ◌∷◌, ◌∙◌, [], List, ℕ, map, take, length, suc, zero, get_or, rules, arith, refl, sym, ap, ap₂, subst}
+use Rattle.std.proofs.Common.{◌≡◌, ◌<◌, ◌+◌, ◌++◌, ◌∷◌, ◌∙◌, [], List, ℕ, map, take, length, suc, get_or, rules, arith, refl, sym, ap, ap₂, subst}
 use Rattle.std.proofs.Math.Seq.{take-suc}
 use Rattle.std.proofs.lemmas.List.{take_all}
 use Rattle.std.specs.Borrow.{Bor}
-use Rattle.clap.specs.Words.{App, Rule, Text, app_of, rule_of, with_rule}
+use Rattle.clap.specs.Words.{Text, rule_of, with_rule}
 use Rattle.command_line.specs.CommandLine.{IsCommand, file_rule, subcommand_app}
 use Rattle.command_line.proofs.file_command.Goals as goal
 
@@ -14,7 +14,7 @@ one_more (y ∷ ys) x = ap (λ rest. file_rule y.now ∷ rest) (one_more ys x)
 -- the command with one more file
 next_file : (name : Text) (files : List (Bor Text)) (i : ℕ) (x : Bor Text) → i < length files
     → with_rule (subcommand_app (record { name = name; files = map (λ (f : Bor Text). f.now) (take i files) })) (file_rule (get_or files i x).now)
-        ≡ subcommand_app (record { name = name; files = map (λ (f : Bor Text). f.now) (take (i + 1) files) })
+    ≡ subcommand_app (record { name = name; files = map (λ (f : Bor Text). f.now) (take (i + 1) files) })
 next_file name files i x lt =
     let one : i + 1 ≡ suc i = omega arith in
     let more : take (i + 1) files ≡ take i files ++ get_or files i x ∷ [] = ap (λ n. take n files) one ∙ take-suc files i x lt in

@@ -1,9 +1,9 @@
-use Rattle.std.proofs.Common.{rules, ◌≡◌, ◌∙◌, ap, sym, refl, subst, map, string_bytes, [], List, ℕ, true, ◌⊎◌, inl, inr, ◌∷◌}
-use Rattle.clap.specs.Words.{App, Text, app_of, fault_of, kind_of, is_simple, is_simple_and_free, subcommand_of, HasKind, IsAmong, Kinds}
+use Rattle.std.proofs.Common.{◌≡◌, ◌∙◌, ap, sym, refl, map, string_bytes, [], true, inl, inr, ◌∷◌}
+use Rattle.clap.specs.Words.{App, app_of, fault_of, kind_of, is_simple, is_simple_and_free, subcommand_of, HasKind, Kinds}
 use Rattle.clap.specs.declared.error.Error.{Error}
 use Rattle.clap.specs.declared.error.kind.ErrorKind.TheVariants.{OutOfMemory}
 use Rattle.clap.proofs.OnLiterals.{clap_on_literals}
-use Rattle.command_line.specs.CommandLine.{alpaca_app, IsLine}
+use Rattle.command_line.specs.CommandLine.{alpaca_app}
 use Rattle.command_line.proofs.matches_of.Goals as goal
 
 is_free : is_simple_and_free alpaca_app ≡ true
