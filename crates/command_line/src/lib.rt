@@ -40,9 +40,10 @@ pub enum WordsFault {
     Memory,
 }
 
-/// The command that the words name, where they are the words after the program's name.
+/// Reads `words`, those after the program's name, as a command with the names of its files.
 ///
-/// `Usage` comes exactly where the words are no line of the program, up to want of memory.
+/// Errors: `Usage` exactly where `clap`'s rules give a fault for the words, so that they are no line
+/// of the program; `Memory` where memory was refused, which may come in place of either answer.
 pub fn command_of<'a>(alloc: Global, words: &'a [String]) -> Result<Command<'a>, WordsFault>
     ensures line { IfOk result (λ _. IsLine (map string_bytes words.entry.now)) }
     ensures command { IfOk result (λ c. line_of (map string_bytes words.entry.now) ≡ Some (plain_line c)) }
