@@ -20,6 +20,7 @@ subcommands = record { name = codes "mean"; files = codes "SRC" ∷ codes "TRACE
 abbrev pub file_rule : Text → Rule
 file_rule name = record (new_rule name) { required = true }
 
+-- what `clap` reads of the command: its positionals, in order
 abbrev pub subcommand_shape : Subcommand → Shape
 subcommand_shape s = record (new_shape s.name) { rules = map file_rule s.files }
 
@@ -50,13 +51,14 @@ pub record IsCommand (a : App) (c : Command) : Type 0 where
   pub app : app_of c ≡ a
   pub globals : (fields_of c).has_globals ≡ false
 
--- ---- the same in plain words
+-- ---- the same in plain words; that it is the same are the laws of `command_lines`
 
+-- the word's first byte is a hyphen
 abbrev pub begins_with_hyphen : Text → Bool
 begins_with_hyphen [] = false
 begins_with_hyphen (b ∷ rest) = b == 45
 
--- a hyphen alone is a file's name, as any word without one in front
+-- the word is a hyphen and more; a hyphen alone is a file's name
 abbrev pub is_flag : Text → Bool
 is_flag word = begins_with_hyphen word && not (bytes_eq word (codes "-"))
 
@@ -68,7 +70,7 @@ files_of [] = Some []
 files_of (word ∷ rest) = if bytes_eq word (codes "--") then Some rest
     else (if is_flag word then None else option_map (λ files. word ∷ files) (files_of rest))
 
--- a command's name, and its files
+-- the command's name and then the files that the words behind it give
 abbrev pub line_of : List Text → Option (List Text)
 line_of [] = None
 line_of (name ∷ rest) = option_map (λ files. name ∷ files) (files_of rest)
