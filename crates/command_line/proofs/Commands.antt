@@ -1,0 +1,164 @@
+-- Lines as commands: what stands in a line is what the command holds.
+use Rattle.std.proofs.Common.{◌≡◌, ◌∙◌, ◌+◌, ◌++◌, ◌∷◌, ◌||◌, ℕ, Bool, cond, codes, true, false, refl, sym, ap, ap₂, arith, List, [], map, length, Option, Some, None, is_some, option_map, true≢false, append_assoc, string_bytes, String}
+use Rattle.std.proofs.lemmas.Slice.Eq.{bytes_eq-Decides}
+use Rattle.std.proofs.lemmas.Str.{IsUtf8-string_bytes}
+use Rattle.std.specs.Prelude.{slice_get, find, unwrap_or}
+use Rattle.std.specs.Borrow.{Bor}
+use Rattle.std.specs.List.{list_any}
+use Rattle.std.specs.Box.{box_value}
+use Rattle.std.specs.Option.{IsSome, option_and_then}
+use Rattle.std.specs.Str.{bytes_eq}
+use Rattle.clap.specs.Words.{Row, Rule, Text, first_of, found_of, has_subcommand, rows_of, subcommand_name_of, subcommand_of, subcommand_rows_of}
+use Rattle.clap.specs.Walk.{has_row}
+use Rattle.clap.specs.declared.parser.matches.ArgMatches.{ArgMatches}
+use Rattle.clap.specs.declared.parser.matches.ArgMatches.TheViews.{out-ArgMatches, out-SubCommand}
+use Rattle.command_line.specs.CommandLine.{AreTexts, IsLine, Subcommand, alpaca_app, begins_with_hyphen, files_of, line_of, subcommand_named, subcommands}
+use Rattle.command_line.specs.Commands.{IsPlainLine, NamesCommand, line_found, plain_line, values_of}
+use Rattle.command_line.specs.declared.Command.{Command}
+use Rattle.command_line.specs.declared.Command.TheVariants.{Mean}
+use Rattle.command_line.proofs.Files.{IsGiven, IsInOrder, built_subcommand, file_row, given_row, more_given, rows_for}
+use Rattle.command_line.proofs.Lines.{Line, all_in_order, has_name, in_order, line_reads, line_there}
+
+-- ---- the program's words are texts
+
+pub are_texts : {Z : Type 0} (words : List (String Z)) → AreTexts (map string_bytes words)
+are_texts [] = tt
+are_texts (word ∷ words) = (IsUtf8-string_bytes word, are_texts words)
+
+-- ---- a line's files have their values
+
+first_after : (front rest : List Row) (id file : Text) → has_row id front ≡ false → first_of id (front ++ file_row id file ∷ rest) ≡ Some file
+first_after [] rest id file e = rw ((bytes_eq-Decides id id).1 refl) refl
+first_after (r ∷ front) rest id file e = go (bytes_eq r.id id) refl (first_after front rest id file)
+  where
+    go : (b : Bool) → bytes_eq r.id id ≡ b → (has_row id front ≡ false → first_of id (front ++ file_row id file ∷ rest) ≡ Some file)
+        → option_and_then (λ (x : Row). slice_get x.values 0) (cond b (Some r) (find (λ (x : Row). bytes_eq x.id id) (front ++ file_row id file ∷ rest))) ≡ Some file
+    go true is more = absurd (true≢false (sym (ap (λ b. b || has_row id front) is) ∙ e))
+    go false is more = more (ap (λ b. b || has_row id front) (sym is) ∙ e)
+
+values_after : (ids : List Text) (rules : List Rule) (keys : List Text) (k : ℕ) (front : List Row) (files : List Text) → IsInOrder rules keys k ids → IsGiven keys front
+    → length files ≡ length ids → values_of ids (front ++ rows_for ids files) ≡ Some files
+values_after [] rules keys k front [] order given count = refl
+values_after [] rules keys k front (file ∷ files) order given count = absurd (omega arith)
+values_after (id ∷ ids) rules keys k front [] order given count = absurd (omega arith)
+values_after (id ∷ ids) rules keys k front (file ∷ files) order given count =
+    let rest : values_of ids (front ++ file_row id file ∷ rows_for ids files) ≡ Some files =
+    ap (values_of ids) (sym (append_assoc front (file_row id file ∷ []) (rows_for ids files)))
+    ∙ values_after ids rules (keys ++ id ∷ []) (k + 1) (front ++ file_row id file ∷ []) files order.5 (more_given keys front id file given) (omega arith) in
+    ap₂ (λ (first : Option Text) (more : Option (List Text)). option_and_then (λ f. option_map (λ fs. f ∷ fs) more) first)
+    (first_after front (rows_for ids files) id file (given_row keys front id given ∙ order.3)) rest
+
+-- what the parse found of a line is the line
+pub line_found_is : (words : List Text) (name : Text) (rows : List Row) → Line words → subcommand_of alpaca_app words ≡ Some (name, rows) → line_found name rows ≡ line_of words
+line_found_is words name rows l is =
+    let same = sym l.rows ∙ is in
+    let called : l.command.name ≡ name = ap (λ (o : Option (Text × List Row)). (unwrap_or o (name, rows)).0) same in
+    let kept : rows_for l.command.files l.files ≡ rows = ap (λ (o : Option (Text × List Row)). (unwrap_or o (name, rows)).1) same in
+    let word : l.command.name ≡ l.name = has_name subcommands l.name l.command l.named in
+    let values : values_of l.command.files rows ≡ Some l.files = ap (values_of l.command.files) (sym kept)
+    ∙ values_after l.command.files (built_subcommand l.command).rules [] 1 [] l.files (in_order subcommands l.name l.command all_in_order l.named) tt l.count in
+    let found : line_found l.name rows ≡ Some (l.name ∷ l.files) =
+    ap (λ o. option_and_then (λ (s : Subcommand). option_map (λ files. l.name ∷ files) (values_of s.files rows)) o) l.named ∙ ap (option_map (λ files. l.name ∷ files)) values in
+    ap (λ n. line_found n rows) (sym called ∙ word) ∙ found ∙ sym (ap line_of l.is ∙ ap (option_map (λ files. l.name ∷ files)) l.from)
+
+-- ---- each command has a line, and each line a command
+
+some_more : (word : Text) (o : Option (List Text)) (line : List Text) → option_map (λ fs. word ∷ fs) o ≡ Some line → (files : List Text) × (o ≡ Some files) × (line ≡ word ∷ files)
+some_more word None line e = cc
+some_more word (Some files) line e = (files, refl, ap (λ o. unwrap_or o []) (sym e))
+
+-- the command of a line, by its name and files
+subcommand_of_line : (c : Command) (name : Text) (files : List Text) → plain_line c ≡ name ∷ files → (s : Subcommand) × (subcommand_named name ≡ Some s) × (length files ≡ length s.files)
+subcommand_of_line (Mean source trace) name files e =
+    let named : name ≡ codes "mean" = ap (λ l. unwrap_or (slice_get l 0) []) (sym e) in
+    (record { name = codes "mean"; files = codes "SRC" ∷ codes "TRACE" ∷ [] }, ap subcommand_named named, let all = ap length (sym e) in omega arith)
+
+pub command_is_line : (words : List Text) → AreTexts words → NamesCommand words → IsLine words
+command_is_line [] texts n = cc
+command_is_line (name ∷ rest) texts n =
+    let m = some_more name (files_of rest) (plain_line n.0) n.1 in
+    let s = subcommand_of_line n.0 name m.0 m.2 in
+    line_there name rest m.0 s.0 texts s.1 m.1 s.2
+
+abbrev lent : Text → Bor Text
+lent text = record { ref_ptr = (0, 0); now = text }
+
+has_command : (name : Text) (files : List Text) (s : Subcommand) → subcommand_named name ≡ Some s → length files ≡ length s.files → (c : Command) × (plain_line c ≡ name ∷ files)
+has_command name files s is count = go (bytes_eq (codes "mean") name) refl is
+  where
+    mean : (files : List Text) → length files ≡ 2 → codes "mean" ≡ name → (c : Command) × (plain_line c ≡ name ∷ files)
+    mean [] two called = absurd (omega arith)
+    mean (source ∷ []) two called = absurd (omega arith)
+    mean (source ∷ trace ∷ []) two called = (Mean (lent source) (lent trace), ap (λ n. n ∷ source ∷ trace ∷ []) called)
+    mean (source ∷ trace ∷ other ∷ more) two called = absurd (omega arith)
+
+    go : (b : Bool) → bytes_eq (codes "mean") name ≡ b → cond b (Some (record { name = codes "mean"; files = codes "SRC" ∷ codes "TRACE" ∷ [] })) None ≡ Some s
+        → (c : Command) × (plain_line c ≡ name ∷ files)
+    go true called is =
+        let wants : 2 ≡ length s.files = ap (λ (o : Option Subcommand). length (unwrap_or o s).files) is in
+        mean files (count ∙ sym wants) ((bytes_eq-Decides (codes "mean") name).0 called)
+    go false called is = cc
+
+pub line_is_command : (words : List Text) → AreTexts words → IsLine words → NamesCommand words
+line_is_command words texts line =
+    let l = line_reads words texts line in
+    let c = has_command l.name l.files l.command l.named l.count in
+    (c.0, ap line_of l.is ∙ ap (option_map (λ files. l.name ∷ files)) l.from ∙ ap Some (sym c.1))
+
+-- ---- words without hyphens in front
+
+none_of : (a b : Bool) → (a || b) ≡ false → (a ≡ false) × (b ≡ false)
+none_of true b e = cc
+none_of false b e = (refl, e)
+
+not_end : (word : Text) → begins_with_hyphen word ≡ false → bytes_eq word (codes "--") ≡ false
+not_end [] e = refl
+not_end (b ∷ rest) e = rw e refl
+
+files_plain : (words : List Text) → list_any begins_with_hyphen words ≡ false → files_of words ≡ Some words
+files_plain [] e = refl
+files_plain (word ∷ words) e =
+    let p = none_of (begins_with_hyphen word) (list_any begins_with_hyphen words) e in
+    rw (not_end word p.0, p.0, files_plain words p.1) refl
+
+-- such words are their own line
+pub line_plain : (words line : List Text) → list_any begins_with_hyphen words ≡ false → line_of words ≡ Some line → words ≡ line
+line_plain [] line e is = cc
+line_plain (word ∷ words) line e is =
+    let p = none_of (begins_with_hyphen word) (list_any begins_with_hyphen words) e in
+    ap (λ o. unwrap_or o []) (sym (ap (option_map (λ files. word ∷ files)) (files_plain words p.1)) ∙ is)
+
+pub plain_names : (words : List Text) → list_any begins_with_hyphen words ≡ false → IsPlainLine words → NamesCommand words
+plain_names [] e (Mean source trace, is) = cc
+plain_names (word ∷ words) e p =
+    let q = none_of (begins_with_hyphen word) (list_any begins_with_hyphen words) e in
+    (p.0, ap (option_map (λ files. word ∷ files)) (files_plain words q.1) ∙ ap Some p.1)
+
+-- ---- the subcommand that a parse has met
+
+abbrev both_of : {B : Type 0} → (B → Text) → (B → List Row) → B → Text × List Row
+both_of f g b = (f b, g b)
+
+pair_up : {B : Type 0} (x : Option B) (f : B → Text) (g : B → List Row) (n : Text) (rs : List Row) → Some n ≡ option_map f x
+    → Some rs ≡ option_map (λ (p : Text × List Row). p.1) (option_map (both_of f g) x) → option_map (both_of f g) x ≡ Some (n, rs)
+pair_up None f g n rs a b = cc
+pair_up (Some y) f g n rs a b = λ i. Some (unwrap_or (sym a i) n, unwrap_or (sym b i) rs)
+
+pub entered_is : (m : ArgMatches) (o : Option (Bor Text × Bor ArgMatches)) (u : Bor Text × Bor ArgMatches) → o ≡ Some u → option_map (λ (p : Bor Text × Bor ArgMatches). p.0.now) o ≡ subcommand_name_of m
+    → option_map (λ (p : Bor Text × Bor ArgMatches). rows_of (found_of p.1.now)) o ≡ option_map (λ (p : Text × List Row). p.1) (subcommand_rows_of m)
+    → subcommand_rows_of m ≡ Some (u.0.now, rows_of (found_of u.1.now))
+entered_is m o u is name rows =
+    pair_up (out-ArgMatches m).subcommand (λ b. (out-SubCommand (box_value b)).name.now) (λ b. rows_of (found_of (out-SubCommand (box_value b)).matches)) u.0.now (rows_of (found_of u.1.now))
+    (ap (option_map (λ (p : Bor Text × Bor ArgMatches). p.0.now)) (sym is) ∙ name) (ap (option_map (λ (p : Bor Text × Bor ArgMatches). rows_of (found_of p.1.now))) (sym is) ∙ rows)
+
+-- a parse of a line has met a subcommand
+pub has_met : (m : ArgMatches) (p : Text × List Row) → subcommand_rows_of m ≡ Some p → has_subcommand m ≡ true
+has_met m p is = go (out-ArgMatches m).subcommand (λ b. ((out-SubCommand (box_value b)).name.now, rows_of (found_of (out-SubCommand (box_value b)).matches))) is
+  where
+    go : {B : Type 0} (x : Option B) (f : B → Text × List Row) → option_map f x ≡ Some p → is_some x ≡ true
+    go None f is = cc
+    go (Some b) f is = refl
+
+pub is_there_by : {X Y : Type 0} (f : X → Y) (o : Option X) (y : Y) → option_map f o ≡ Some y → IsSome o
+is_there_by f None y e = cc
+is_there_by f (Some x) y e = refl

@@ -1,0 +1,85 @@
+-- The command lines of the program: its commands as `clap` reads them.
+use Rattle.std.specs.Prelude.{◌≡◌, ◌==◌, ◌&&◌, List, [], ◌∷◌, Bool, true, false, not, codes, map, find}
+use Rattle.std.specs.Prelude.{Option, Some, None, option_map, if◌then◌else◌}
+use Rattle.std.specs.Str.{IsUtf8, bytes_eq}
+use Rattle.clap.specs.Simple.{new_shape}
+use Rattle.clap.specs.Words.{App, Rule, Shape, Text, app_of, fault_of, new_rule}
+use Rattle.clap.specs.declared.builder.command.Command.{Command}
+use Rattle.clap.specs.declared.builder.command.Command.TheViews.{out-Command as fields_of}
+
+-- a command of the program: its name, and the names of the files that have to follow it, in order
+pub record Subcommand : Type 0 where
+  pub name : Text
+  pub files : List Text
+
+-- all commands
+abbrev pub subcommands : List Subcommand
+subcommands = record { name = codes "mean"; files = codes "SRC" ∷ codes "TRACE" ∷ [] } ∷ []
+
+-- `Arg::new(name).required(true)`: a positional that has to be there
+abbrev pub file_rule : Text → Rule
+file_rule name = record (new_rule name) { required = true }
+
+-- what `clap` reads of the command: its positionals, in order
+abbrev pub subcommand_shape : Subcommand → Shape
+subcommand_shape s = record (new_shape s.name) { rules = map file_rule s.files }
+
+-- the command alone, as an app of its own
+abbrev pub subcommand_app : Subcommand → App
+subcommand_app s = record { top = subcommand_shape s; subs = [] }
+
+-- the program's command line as `clap` sees it: one of the commands has to be named, and there are
+-- no help flag and no help command
+unfoldable pub alpaca_app : App
+alpaca_app = record {
+  top = record (new_shape (codes "alpaca")) {
+    no_binary_name = true;
+    disable_help_flag = true;
+    disable_help_subcommand = true;
+    subcommand_required = true;
+    is_leaf = false;
+  };
+  subs = map subcommand_shape subcommands;
+}
+
+-- the words are a command line of the program: `clap`'s rules give no fault for them
+abbrev pub IsLine : List Text → Type 0
+IsLine words = fault_of alpaca_app words ≡ []
+
+-- a command that clap has not built yet, and what it reads of it
+pub record IsCommand (a : App) (c : Command) : Type 0 where
+  pub app : app_of c ≡ a
+  pub globals : (fields_of c).has_globals ≡ false
+
+-- ---- the same in plain words; that it is the same are the laws of `command_lines`
+
+-- the word's first byte is a hyphen
+abbrev pub begins_with_hyphen : Text → Bool
+begins_with_hyphen [] = false
+begins_with_hyphen (b ∷ rest) = b == 45
+
+-- the word is a hyphen and more; a hyphen alone is a file's name
+abbrev pub is_flag : Text → Bool
+is_flag word = begins_with_hyphen word && not (bytes_eq word (codes "-"))
+
+-- The files that the words after a command's name give. The program has no flag, so no word may be
+-- one, up to a `--`, which is dropped: every word behind it is a file's name (guidelines 10 and 13
+-- of POSIX's utility syntax).
+abbrev pub files_of : List Text → Option (List Text)
+files_of [] = Some []
+files_of (word ∷ rest) = if bytes_eq word (codes "--") then Some rest
+    else (if is_flag word then None else option_map (λ files. word ∷ files) (files_of rest))
+
+-- the command's name and then the files that the words behind it give
+abbrev pub line_of : List Text → Option (List Text)
+line_of [] = None
+line_of (name ∷ rest) = option_map (λ files. name ∷ files) (files_of rest)
+
+-- the command of this name
+abbrev pub subcommand_named : Text → Option Subcommand
+subcommand_named name = find (λ s. bytes_eq s.name name) subcommands
+
+-- the words are UTF-8, as those of a program are that has taken them as strings
+abbrev pub AreTexts : List Text → Type 0
+AreTexts [] = Unit {0}
+AreTexts (word ∷ words) = IsUtf8 word × AreTexts words

@@ -1,0 +1,30 @@
+-- The commands, as values and as words.
+use Rattle.std.specs.Prelude.{◌≡◌, List, [], ◌∷◌, codes, Option, Some, option_map, option_and_then}
+use Rattle.clap.specs.Words.{Row, Text, first_of}
+use Rattle.command_line.specs.CommandLine.{line_of, subcommand_named}
+use Rattle.command_line.specs.declared.Command.{Command}
+use Rattle.command_line.specs.declared.Command.TheVariants.{Mean}
+
+-- the words of a command's line, with neither a `--` nor a hyphen in front of a file
+abbrev pub plain_line : Command → List Text
+plain_line (Mean source trace) = codes "mean" ∷ source.now ∷ trace.now ∷ []
+
+-- the first values of these arguments, where each has one
+abbrev pub values_of : List Text → List Row → Option (List Text)
+values_of [] rows = Some []
+values_of (id ∷ ids) rows =
+    option_and_then (λ file. option_map (λ files. file ∷ files) (values_of ids rows))
+    (first_of id rows)
+
+-- the line of the command of this name, with the files that a parse found
+abbrev pub line_found : Text → List Row → Option (List Text)
+line_found name rows = option_and_then (λ s. option_map (λ files. name ∷ files)
+    (values_of s.files rows)) (subcommand_named name)
+
+-- the words name a command and then its files, and no more
+abbrev pub NamesCommand : List Text → Type 0
+NamesCommand words = (c : Command) × (line_of words ≡ Some (plain_line c))
+
+-- the words are a command's name and then its files, and no more
+abbrev pub IsPlainLine : List Text → Type 0
+IsPlainLine words = (c : Command) × (words ≡ plain_line c)

@@ -1,0 +1,137 @@
+//! The words of the command line, read by `clap` into a command of the program.
+#![tactic(auto)]
+
+ghost use Rattle.std.specs.Prelude.{◌≡◌, ◌↔◌, IfOk, IsErrOf, Some, List, false, map, option_map, string_bytes};
+ghost use Rattle.std.specs.List.{list_any};
+ghost use Rattle.clap.specs.Words.{Text, found_of, rows_of, subcommand_of, subcommand_rows_of};
+ghost use Rattle.command_line.specs.CommandLine.{
+  AreTexts,
+  IsCommand,
+  IsLine,
+  alpaca_app,
+  begins_with_hyphen,
+  line_of,
+  subcommand_app,
+};
+ghost use Rattle.command_line.specs.Commands.{IsPlainLine, NamesCommand, line_found, plain_line};
+
+use clap::error::ErrorKind;
+use clap::{Arg, ArgMatches};
+use std::alloc::{AllocError, Global};
+
+/// A command of the program, with the names of its files.
+#[derive(Clone, Copy, Debug, PartialEq, Eq)]
+pub enum Command<'a> {
+    /// `mean SRC TRACE`: what the source means on the trace's readings.
+    Mean {
+        /// The file of the source.
+        source: &'a str,
+        /// The file of the trace.
+        trace: &'a str,
+    },
+}
+
+/// Why the words were not read.
+#[derive(Clone, Copy, Debug, PartialEq, Eq)]
+pub enum WordsFault {
+    /// The words are not a command line of the program.
+    Usage,
+    /// Memory was refused.
+    Memory,
+}
+
+/// Reads `words`, those after the program's name, as a command with the names of its files.
+///
+/// Errors: `Usage` exactly where `clap`'s rules give a fault for the words, so that they are no line
+/// of the program; `Memory` where memory was refused, which may come in place of either answer.
+pub fn command_of<'a>(alloc: Global, words: &'a [String]) -> Result<Command<'a>, WordsFault>
+    ensures line { IfOk result (λ _. IsLine (map string_bytes words.entry.now)) }
+    ensures command { IfOk result (λ c. line_of (map string_bytes words.entry.now) ≡ Some (plain_line c)) }
+    ensures usage { IsErrOf result WordsFault.Usage → IsLine (map string_bytes words.entry.now) → ⊥ }
+    ensures no_command { IsErrOf result WordsFault.Usage
+        → NamesCommand (map string_bytes words.entry.now) → ⊥ }
+    ensures plain { list_any begins_with_hyphen (map string_bytes words.entry.now) ≡ false
+        → IfOk result (λ c. map string_bytes words.entry.now ≡ plain_line c) }
+    ensures no_plain { list_any begins_with_hyphen (map string_bytes words.entry.now) ≡ false
+        → IsErrOf result WordsFault.Usage → IsPlainLine (map string_bytes words.entry.now) → ⊥ }
+{
+    let matches = matches_of(alloc, words)?;
+    let (name, files) = matches.subcommand().unwrap();
+    Ok(command_named(name, files).unwrap())
+}
+
+/// What a command line of the program is, in plain words: a command's name and then its files, where
+/// a `--` before a file is dropped, `-` is a file's name, and no other word before a `--` may begin
+/// with a hyphen. Where no word begins with one, a line is exactly a command's name and its files.
+pub fn command_lines()
+    ensures lines { (words : List Text) → AreTexts words → IsLine words ↔ NamesCommand words }
+    ensures plain_lines { (words : List Text) → AreTexts words
+        → list_any begins_with_hyphen words ≡ false → IsLine words ↔ IsPlainLine words }
+{}
+
+/// The command of this name, with the files that `clap` found for it.
+fn command_named<'a>(name: &str, files: &ArgMatches<'a>) -> Option<Command<'a>>
+    ensures { option_map plain_line result ≡ line_found name.now (rows_of (found_of files.now)) }
+{
+    match name {
+        "mean" => Some(Command::Mean {
+            source: files.get_str("SRC")?,
+            trace: files.get_str("TRACE")?,
+        }),
+        _ => None,
+    }
+}
+
+/// What `clap` makes of the words.
+fn matches_of<'a>(alloc: Global, words: &'a [String]) -> Result<ArgMatches<'a>, WordsFault>
+    ensures line { IfOk result (λ _. IsLine (map string_bytes words.entry.now)) }
+    ensures rows { IfOk result (λ m. subcommand_rows_of m
+        ≡ subcommand_of alpaca_app (map string_bytes words.entry.now)) }
+    ensures usage { IsErrOf result WordsFault.Usage → IsLine (map string_bytes words.entry.now) → ⊥ }
+{
+    match alpaca_command(alloc) {
+        Err(AllocError) => Err(WordsFault::Memory),
+        Ok(command) => match command.try_get_matches_from(words) {
+            Ok(matches) => Ok(matches),
+            Err(error) => match error.kind() {
+                ErrorKind::OutOfMemory => Err(WordsFault::Memory),
+                _ => Err(WordsFault::Usage),
+            },
+        },
+    }
+}
+
+/// The command `name` with its files, which have to be there in this order.
+fn file_command<'a>(
+    alloc: Global,
+    name: &'a str,
+    files: &[&'a str],
+) -> Result<clap::Command<'a>, AllocError>
+    ensures { IfOk result (IsCommand (subcommand_app (record {
+      name = name.entry.now;
+      files = map (λ f. f.now) files.now;
+    }))) }
+{
+    let mut command = clap::Command::new(alloc, name);
+    for file in files {
+        command = command.arg(Arg::new(alloc, file).required(true))?;
+    }
+    Ok(command)
+}
+
+/// The command line of the program.
+fn alpaca_command<'a>(alloc: Global) -> Result<clap::Command<'a>, AllocError>
+    ensures { IfOk result (IsCommand alpaca_app) }
+{
+    let bare = clap::Command::new(alloc, "alpaca")
+        .no_binary_name(true)
+        .disable_help_flag(true)
+        .disable_help_subcommand(true)
+        .subcommand_required(true);
+    let mean = file_command(alloc, "mean", ["SRC", "TRACE"].as_slice())?;
+    let whole = bare.subcommand(mean)?;
+    Ok(whole)
+}
+
+#[cfg(test)]
+mod tests;

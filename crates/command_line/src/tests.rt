@@ -1,0 +1,73 @@
+//! Lines as a shell gives them, and words that are no line.
+use crate::{Command, WordsFault, command_lines, command_of};
+use std::alloc::{AllocError, Global};
+use std::test::Fail;
+
+fn owned(alloc: Global, texts: &[&str]) -> Result<Vec<String>, AllocError> {
+    let mut words = Vec::new(alloc);
+    for text in texts {
+        words.push(String::from_str(alloc, text)?)?;
+    }
+    Ok(words)
+}
+
+// the files of a line of `mean`
+fn names(alloc: Global, texts: &[&str], source: &str, trace: &str) -> Result<bool, AllocError> {
+    let words = owned(alloc, texts)?;
+    Ok(command_of(alloc, words.as_slice()) == Ok(Command::Mean { source, trace }))
+}
+
+// the words are no line
+fn is_usage(alloc: Global, texts: &[&str]) -> Result<bool, AllocError> {
+    let words = owned(alloc, texts)?;
+    Ok(command_of(alloc, words.as_slice()) == Err(WordsFault::Usage))
+}
+
+#[test]
+fn a_name_and_its_files_are_a_line(rt: HostRuntime) -> Result<(), Fail> {
+    let alloc = rt.alloc();
+    assert!(rt; names(alloc, &["mean", "s", "t"], "s", "t")?);
+    assert!(rt; names(alloc, &["mean", "s", "s"], "s", "s")?);
+    assert!(rt; names(alloc, &["mean", "mean", ""], "mean", "")?);
+    assert!(rt; names(alloc, &["mean", "-", "a=b"], "-", "a=b")?);
+    command_lines();
+    Ok(())
+}
+
+#[test]
+fn two_hyphens_end_the_flags(rt: HostRuntime) -> Result<(), Fail> {
+    let alloc = rt.alloc();
+    assert!(rt; names(alloc, &["mean", "--", "-s", "--help"], "-s", "--help")?);
+    assert!(rt; names(alloc, &["mean", "s", "--", "-t"], "s", "-t")?);
+    assert!(rt; names(alloc, &["mean", "s", "t", "--"], "s", "t")?);
+    assert!(rt; names(alloc, &["mean", "--", "--", "t"], "--", "t")?);
+    assert!(rt; is_usage(alloc, &["--", "mean", "s", "t"])?);
+    Ok(())
+}
+
+#[test]
+fn other_words_are_no_line(rt: HostRuntime) -> Result<(), Fail> {
+    let alloc = rt.alloc();
+    assert!(rt; is_usage(alloc, &[])?);
+    assert!(rt; is_usage(alloc, &[""])?);
+    assert!(rt; is_usage(alloc, &["mean"])?);
+    assert!(rt; is_usage(alloc, &["mean", "s"])?);
+    assert!(rt; is_usage(alloc, &["mean", "s", "t", "u"])?);
+    assert!(rt; is_usage(alloc, &["Mean", "s", "t"])?);
+    assert!(rt; is_usage(alloc, &["means", "s", "t"])?);
+    Ok(())
+}
+
+#[test]
+fn flags_and_help_are_no_line(rt: HostRuntime) -> Result<(), Fail> {
+    let alloc = rt.alloc();
+    for word in ["--help", "-h", "help", "--version", "-V", "--", "-"] {
+        assert!(rt; is_usage(alloc, &[word])?);
+        assert!(rt; is_usage(alloc, &[word, "mean"])?);
+    }
+    for word in ["--help", "-h", "--flag", "-1"] {
+        assert!(rt; is_usage(alloc, &["mean", "s", word])?);
+        assert!(rt; is_usage(alloc, &["mean", "s", "t", word])?);
+    }
+    Ok(())
+}
