@@ -1,10 +1,10 @@
 -- Where tokens in order begin.
-use Rattle.std.proofs.Common.{◌≡◌, ℕ, zero, suc, ◌<◌, ◌≤◌, List, [], ◌∷◌, Option, Some, None, arith}
-use Rattle.std.specs.Prelude.{slice_get}
+use Rattle.std.proofs.Common.{◌≡◌, ℕ, zero, suc, ◌<◌, ◌≤◌, List, [], ◌∷◌, arith}
+use Rattle.std.specs.Prelude.{All}
 use Rattle.task_lex.specs.declared.token.Token.{Token}
 use Rattle.task_lex.specs.Spans.{InOrder}
 
-pub from_within : (at end : ℕ) (ts : List Token) (i : ℕ) (t : Token) → InOrder at end ts → slice_get ts i ≡ Some t → t.span.from ≤ end
-from_within at end [] i t h e = absurd (cc)
-from_within at end (x ∷ xs) zero t h e = let same : x ≡ t = cc in let less : x.span.from < x.span.to = h.1 in let fits : x.span.to ≤ end = h.2 in let from : x.span.from ≤ end = omega arith in rw (← same) from
-from_within at end (x ∷ xs) (suc i) t h e = from_within x.span.to end xs i t h.3 e
+pub all_within : (at end : ℕ) (ts : List Token) → InOrder at end ts → All (λ t. t.span.from ≤ end) ts
+all_within at end [] h k d less = absurd (omega arith)
+all_within at end (t ∷ ts) h zero d less = let some : t.span.from < t.span.to = h.1 in let fits : t.span.to ≤ end = h.2 in omega arith
+all_within at end (t ∷ ts) h (suc k) d less = all_within t.span.to end ts h.3 k d (omega arith)
