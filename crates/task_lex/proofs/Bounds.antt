@@ -1,5 +1,5 @@
 -- No more than 64 brackets are open at once, and no more than 256 tokens stand in a row.
-use Rattle.std.proofs.Common.{◌≡◌, ℕ, zero, suc, ◌+◌, ◌-◌, ◌<◌, ◌≤◌, Bool, true, false, cond, ◌&&◌, ◌==◌, not, nat_lt, List, [], ◌∷◌, length, drop, take, refl, sym, subst, arith, Option, Some, None}
+use Rattle.std.proofs.Common.{◌≡◌, ℕ, zero, suc, ◌+◌, ◌-◌, ◌≤◌, Bool, true, false, cond, ◌&&◌, ◌==◌, not, nat_lt, List, [], ◌∷◌, length, drop, take, refl, subst, arith, Option, Some, None}
 use Rattle.task_lex.specs.declared.token.Token.{Token}
 use Rattle.task_lex.specs.declared.token.Kind.{Kind}
 use Rattle.task_lex.specs.declared.token.Kind.TheVariants as k
