@@ -1,5 +1,5 @@
 -- What the grammar relates is read.
-use Rattle.std.proofs.Common.{◌≡◌, ℕ, zero, suc, ◌+◌, ◌<◌, ◌≤◌, true, false, cond, ◌==◌, List, [], ◌∷◌, ◌++◌, length, Option, Some, None, refl, ap, ◌∙◌, arith, append_assoc, length-append}
+use Rattle.std.proofs.Common.{◌≡◌, ℕ, zero, suc, ◌<◌, ◌≤◌, true, false, cond, ◌==◌, List, [], ◌∷◌, ◌++◌, Option, Some, None, refl, ap, ◌∙◌, arith, append_assoc}
 use denote.Enum.Bare.{true_same}
 use Rattle.task_lex.specs.contracts.token.Kind.{the_type}
 use Rattle.task_lex.specs.declared.token.Token.{Token}
@@ -12,7 +12,7 @@ use Rattle.task_ast.specs.Tree.{Expression}
 use Rattle.task_ast.specs.Tree as node
 use Rattle.task_parse.specs.Grammar.{prefix_of, infix_of, weakest, literal_of, IsExpression, number, name, element, sense, brackets, prefixed, tighter, joined, short_circuited, shifted}
 use Rattle.task_parse.specs.Expressions as reading
-use Rattle.task_parse.specs.Reading.{Outcome, done, fault, Parser, ◌>>=◌, and_then, pure, refuse, kind_of, same_kind, token, by, chosen, meaning, accept, Turn, again, over, turned}
+use Rattle.task_parse.specs.Reading.{done, fault, Parser, ◌>>=◌, and_then, pure, kind_of, same_kind, token, chosen, meaning, again, over, turned}
 use Rattle.task_parse.specs.Expressions.{of_precedence, infix_at, joined_with, climb_turn, climb, up_to, element_by, named, bracketed, primary_by, primary, unary, expression}
 use Rattle.task_parse.proofs.ExpressionSame.{unary_is, climb_suc}
 

@@ -1,5 +1,5 @@
 -- The parsers of expressions keep to the grammar.
-use Rattle.std.proofs.Common.{◌≡◌, ℕ, zero, suc, Bool, true, false, cond, ◌==◌, List, [], ◌∷◌, ◌++◌, Option, Some, None, refl, ap₂, sym, ◌∙◌, subst, arith, append_assoc, append-nil, ap}
+use Rattle.std.proofs.Common.{◌≡◌, ℕ, zero, suc, Bool, true, false, cond, ◌==◌, List, [], ◌∷◌, ◌++◌, Option, Some, None, refl, ap₂, sym, subst, arith, append_assoc, append-nil}
 use Rattle.task_lex.specs.declared.token.Token.{Token}
 use Rattle.task_lex.specs.declared.token.Kind.{Kind}
 use Rattle.task_lex.specs.declared.token.Kind.TheVariants as k
@@ -9,7 +9,7 @@ use Rattle.task_ast.specs.Tree.{Expression}
 use Rattle.task_ast.specs.Tree as node
 use Rattle.task_parse.specs.Grammar.{prefix_of, infix_of, weakest, literal_of, IsExpression, number, name, element, sense, brackets, prefixed, tighter, joined, short_circuited, shifted}
 use Rattle.task_parse.specs.Expressions as reading
-use Rattle.task_parse.specs.Reading.{Outcome, done, fault, Parser, ◌>>=◌, pure, refuse, token, by, accept, Turn, again, over, repeat}
+use Rattle.task_parse.specs.Reading.{Parser, pure, again, over}
 use Rattle.task_parse.specs.Expressions.{of_precedence, infix_at, joined_with, climb_turn, climb, up_to, element_by, named, bracketed, primary_by, primary, unary_within}
 use Rattle.task_parse.proofs.Laws.{Law, Sentence, law_pure, law_refuse, law_bind, law_by, law_accept, law_take, law_map, law_weaken}
 use Rattle.task_parse.proofs.Turns.{Leads, Shrinks, law_shrinks, law_repeat}
@@ -58,7 +58,7 @@ module _ (j : ℕ) (lower : Parser Expression) (law : Law lower (IsExpression j)
   unfolding climb_turn infix_at
   law_climb_turn left = law_accept (infix_at (suc j)) _ (pure (over left)) (Leads (GoesOn (suc j)) left)
       (λ t op is. law_map (joined_with lower left op) again (λ ys whole. GoesOn (suc j) left (t ∷ ys) whole) (λ ys turn. Leads (GoesOn (suc j)) left (t ∷ ys) turn)
-          (law_joined_with t op left (of_precedence_some (suc j) (infix_of t.kind) op is)) (λ ys whole goes. turn_after t ys left whole goes))
+      (law_joined_with t op left (of_precedence_some (suc j) (infix_of t.kind) op is)) (λ ys whole goes. turn_after t ys left whole goes))
       (law_pure (over left) (Leads (GoesOn (suc j)) left) (goes_nowhere (suc j) left))
 
   pub shrinks_climb : Shrinks (climb_turn lower (suc j))
@@ -72,7 +72,7 @@ unfolding up_to
 law_up_to p law zero = law
 law_up_to p law (suc j) = law_bind (climb (up_to p j) (suc j)) (IsExpression j) (IsExpression (suc j))
     (λ xs left is. law_weaken (climb (up_to p j) (suc j) left) (GoesOn (suc j) left) (λ ys whole. IsExpression (suc j) (xs ++ ys) whole)
-        (λ ys whole g. g xs (tighter j xs left is)) (law_climb j (up_to p j) (law_up_to p law j) left))
+    (λ ys whole g. g xs (tighter j xs left is)) (law_climb j (up_to p j) (law_up_to p law j) left))
     (up_to p j) (law_up_to p law j)
 
 law_sense : Law reading.sense (IsExpression 0)

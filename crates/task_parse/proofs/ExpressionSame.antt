@@ -1,5 +1,5 @@
 -- More fuel changes no answer, so the parser without fuel keeps to its equation.
-use Rattle.std.proofs.Common.{◌≡◌, ℕ, zero, suc, ◌+◌, ◌-◌, ◌<◌, ◌≤◌, Bool, true, false, cond, ◌==◌, List, [], ◌∷◌, ◌++◌, length, Option, Some, None, refl, ap, sym, ◌∙◌, subst, arith}
+use Rattle.std.proofs.Common.{◌≡◌, ℕ, zero, suc, ◌+◌, ◌-◌, ◌<◌, ◌≤◌, List, [], ◌∷◌, length, Option, Some, refl, ap, sym, ◌∙◌, subst, arith}
 use Rattle.task_lex.specs.declared.token.Token.{Token}
 use Rattle.task_lex.specs.declared.token.Kind.{Kind}
 use Rattle.task_lex.specs.declared.token.Kind.TheVariants as k
@@ -8,12 +8,12 @@ use Rattle.task_ast.specs.Tree as node
 use Rattle.task_parse.specs.declared.operators.Infix.{Infix}
 use Rattle.task_parse.specs.declared.operators.Infix.TheVariants.{Binary, Shift, ShortCircuit}
 use Rattle.task_parse.specs.Grammar.{prefix_of, weakest, IsExpression}
-use Rattle.task_parse.specs.Reading.{Outcome, done, fault, Parser, ◌>>=◌, and_then, pure, refuse, kind_of, token, by, accept, again, over, turned}
+use Rattle.task_parse.specs.Reading.{Parser, and_then, pure, kind_of, again, over, turned}
 use Rattle.task_parse.specs.Expressions.{infix_at, joined_with, climb_turn, climb, up_to, element_by, named, bracketed, primary_by, primary, prefixed, unary_within, unary, expression}
 use Rattle.task_parse.proofs.Laws.{Law}
 use Rattle.task_parse.proofs.SameLaws.{Same, Shortens, law_shortens, same_bind, same_take, same_accept}
 use Rattle.task_parse.proofs.Turns.{law_enough, same_repeat, repeat_is}
-use Rattle.task_parse.proofs.ExpressionLaws.{law_up_to, law_within, law_number, shrinks_climb}
+use Rattle.task_parse.proofs.ExpressionLaws.{law_up_to, law_within, shrinks_climb}
 
 same_joined_with : (m : ℕ) (lower lower' : Parser Expression) → Same m lower lower' → (left : Expression) (op : Infix) → Same m (joined_with lower left op) (joined_with lower' left op)
 same_joined_with m lower lower' same left (Binary op) ts fits = ap (λ o. and_then o (λ right. pure (node.binary op left right))) (same ts fits)
@@ -35,7 +35,7 @@ same_up_to m u u' same law zero = same
 same_up_to m u u' same law (suc j) =
     let lower = law_up_to u law j in
     same_bind m (up_to u j) (up_to u' j) (climb (up_to u j) (suc j)) (climb (up_to u' j) (suc j)) (same_up_to m u u' same law j)
-        (same_climb m j (up_to u j) (up_to u' j) (same_up_to m u u' same law j) lower) (law_shortens (up_to u j) (IsExpression j) lower)
+    (same_climb m j (up_to u j) (up_to u' j) (same_up_to m u u' same law j) lower) (law_shortens (up_to u j) (IsExpression j) lower)
 
 -- ---- inside brackets
 
@@ -68,7 +68,7 @@ module _ (m : ℕ) (x x' : Parser Expression) (same : Same m x x') (shorter : Sh
 same_step : (m n : ℕ) (u : Parser Expression) → Same m (unary_within n) u → Same (suc m) (prefixed (up_to (unary_within n) weakest) (unary_within n)) (prefixed (up_to u weakest) u)
 same_step m n u same =
     same_prefixed m (up_to (unary_within n) weakest) (up_to u weakest) (same_up_to m (unary_within n) u same (law_within n) weakest) (law_shortens (up_to (unary_within n) weakest) (IsExpression weakest) (law_up_to (unary_within n) (law_within n) weakest))
-        (unary_within n) u same (law_shortens (unary_within n) (IsExpression 0) (law_within n))
+    (unary_within n) u same (law_shortens (unary_within n) (IsExpression 0) (law_within n))
 
 one_more : (n : ℕ) → Same n (unary_within n) (unary_within (suc n))
 unfolding unary_within prefixed primary

@@ -1,6 +1,5 @@
 -- Reading programs.
-use Rattle.std.specs.Prelude.{ℕ, Bool, true, false, List, [], ◌∷◌, ◌++◌, Option, Some, None}
-use Rattle.task_lex.specs.declared.token.Token.{Token}
+use Rattle.std.specs.Prelude.{Bool, true, false, List, [], ◌∷◌, ◌++◌, Option, Some}
 use Rattle.task_lex.specs.declared.token.Kind.{Kind}
 use Rattle.task_lex.specs.declared.token.Kind.TheVariants as k
 use Rattle.task_ast.specs.declared.Extent.{Extent}
@@ -8,7 +7,7 @@ use Rattle.task_ast.specs.declared.Extent.TheVariants as extent
 use Rattle.task_ast.specs.declared.SharedDeclaration.{SharedDeclaration}
 use Rattle.task_ast.specs.Tree.{Task, Program}
 use Rattle.task_parse.specs.Grammar.{shared_from, task_from, program_from, negated}
-use Rattle.task_parse.specs.Reading.{Outcome, done, fault, Parser, ◌>>=◌, pure, refuse, token, by, Turn, again, over, repeat}
+use Rattle.task_parse.specs.Reading.{done, fault, Parser, ◌>>=◌, pure, token, by, Turn, again, over, repeat}
 use Rattle.task_parse.specs.Statements.{typed, block}
 
 -- items, as long as the next token begins one

@@ -38,11 +38,7 @@ fn binary_node(
 ) -> Result<Expr, AllocError>
     ensures { IfOk result (λ e. expression_of e ≡ node.binary op (expression_of left) (expression_of right)) }
 {
-    Ok(Expr::Binary(
-        op,
-        Box::new(alloc, left)?,
-        Box::new(alloc, right)?,
-    ))
+    Ok(Expr::Binary(op, Box::new(alloc, left)?, Box::new(alloc, right)?))
 }
 
 fn short_circuit_node(
@@ -53,11 +49,7 @@ fn short_circuit_node(
 ) -> Result<Expr, AllocError>
     ensures { IfOk result (λ e. expression_of e ≡ node.short_circuit op (expression_of left) (expression_of right)) }
 {
-    Ok(Expr::ShortCircuit(
-        op,
-        Box::new(alloc, left)?,
-        Box::new(alloc, right)?,
-    ))
+    Ok(Expr::ShortCircuit(op, Box::new(alloc, left)?, Box::new(alloc, right)?))
 }
 
 fn shift_node(
