@@ -9,6 +9,7 @@ use Rattle.task_ast.specs.declared.ShortCircuitOperator.{ShortCircuitOperator}
 use Rattle.task_ast.specs.declared.Literal.{Literal}
 use Rattle.task_ast.specs.declared.SharedDeclaration.{SharedDeclaration}
 
+-- Expressions as in C, with words for numbers and no brackets left.
 pub data Expression : Type 0 where
   number : ℕ → Expression
   name : Span → Expression
@@ -22,6 +23,7 @@ pub data Expression : Type 0 where
   short_circuit : ShortCircuitOperator → Expression → Expression → Expression
 
 mutual
+  -- Statements as in C, and those of the Alpaca tasks: a transition ends the task (Maeng, Colin, Lucia: Alpaca, OOPSLA 2017).
   pub data Statement : Type 0 where
     declare : WordType → Span → Option Expression → Statement
     assign : Span → Expression → Statement
@@ -39,10 +41,12 @@ mutual
     otherwise : Block → Choice
     test : Expression → Block → Choice → Choice
 
+  -- statements, one after another
   pub data Block : Type 0 where
     end : Block
     step : Statement → Block → Block
 
+-- a list of statements as a block
 abbrev pub block_of : List Statement → Block
 block_of [] = end
 block_of (s ∷ more) = step s (block_of more)
@@ -52,11 +56,13 @@ pub record Tested : Type 0 where
   pub condition : Expression
   pub block : Block
 
+-- conditions with their blocks, and the last block, as a choice
 abbrev pub choice_of : List Tested → Option Block → Choice
 choice_of [] None = nothing
 choice_of [] (Some last) = otherwise last
 choice_of (t ∷ more) last = test t.condition t.block (choice_of more last)
 
+-- a task: its name and what it does
 pub record Task : Type 0 where
   pub name : Span
   pub body : Block

@@ -2,6 +2,7 @@
 use Rattle.std.specs.Prelude.{◌≡◌, codes, Some, None}
 use Rattle.task_lex.specs.Pieces.{number}
 
+-- each row: a spelling, and its number or that it has none
 pub record NumeralRows : Type 0 where
   pub zero : number (codes "0") ≡ Some 0
   pub decimal : number (codes "42") ≡ Some 42

@@ -10,10 +10,12 @@ use Rattle.task_parse.specs.declared.operators.Infix.TheVariants.{Binary, Shift,
 use Rattle.task_parse.specs.Grammar.{prefix_of, infix_of, weakest, literal_of}
 use Rattle.task_parse.specs.Reading.{Parser, ◌>>=◌, pure, refuse, token, by, accept, Turn, again, over, repeat}
 
+-- the operator, if it has the precedence
 abbrev pub of_precedence : ℕ → Option (ℕ × Infix) → Option Infix
 of_precedence j None = None
 of_precedence j (Some p) = if p.0 == j then Some p.1 else None
 
+-- the operator of the precedence that a mark is between two sides
 unfoldable pub infix_at : ℕ → Kind → Option Infix
 infix_at j kind = of_precedence j (infix_of kind)
 
@@ -27,12 +29,15 @@ joined_with tighter left (Shift op) = token k.Number >>= λ n. pure (node.shift 
 unfoldable pub climb_turn : Parser Expression → ℕ → Expression → Parser (Turn Expression Expression)
 climb_turn tighter j left = accept (infix_at j) (λ op. joined_with tighter left op >>= λ whole. pure (again whole)) (pure (over left))
 
+-- goes on with such operators, as long as they come: to the left
 abbrev pub climb : Parser Expression → ℕ → Expression → Parser Expression
 climb tighter j = repeat (climb_turn tighter j)
 
+-- a number
 unfoldable pub number : Parser Expression
 number = token k.Number >>= λ t. pure (node.number t.value)
 
+-- `sense()`
 unfoldable pub sense : Parser Expression
 sense = token k.Sense >>= λ s. token k.Open >>= λ o. token k.Close >>= λ c. pure node.sense
 
@@ -42,16 +47,20 @@ up_to unary zero = unary
 up_to unary (suc j) = up_to unary j >>= climb (up_to unary j) (suc j)
 
 module _ (expression : Parser Expression) where
+  -- behind a name
   abbrev pub element_by : Token → Option Kind → Parser Expression
   element_by n (Some k.OpenSquare) = token k.OpenSquare >>= λ o. expression >>= λ index. token k.CloseSquare >>= λ c. pure (node.element n.span index)
   element_by n _ = pure (node.name n.span)
 
+  -- a name, with or without an index
   unfoldable pub named : Parser Expression
   named = token k.Name >>= λ n. by (element_by n)
 
+  -- an expression in brackets
   unfoldable pub bracketed : Parser Expression
   bracketed = token k.Open >>= λ o. expression >>= λ inner. token k.Close >>= λ c. pure inner
 
+  -- by the next token
   abbrev pub primary_by : Option Kind → Parser Expression
   primary_by (Some k.Number) = number
   primary_by (Some k.Name) = named
@@ -59,9 +68,11 @@ module _ (expression : Parser Expression) where
   primary_by (Some k.Open) = bracketed
   primary_by _ = refuse
 
+  -- an operand without signs
   unfoldable pub primary : Parser Expression
   primary = by primary_by
 
+  -- an operand with the signs in front of it
   unfoldable pub prefixed : Parser Expression → Parser Expression
   prefixed unary = accept prefix_of (λ op. unary >>= λ inner. pure (node.unary op inner)) primary
 
@@ -74,5 +85,6 @@ unary_within (suc n) = prefixed (up_to (unary_within n) weakest) (unary_within n
 unfoldable pub unary : Parser Expression
 unary ts = unary_within (length ts) ts
 
+-- any expression
 abbrev pub expression : Parser Expression
 expression = up_to unary weakest

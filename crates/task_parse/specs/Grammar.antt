@@ -1,4 +1,5 @@
--- Which tokens spell which program: the grammar of the language, by cases.
+-- Which tokens spell which program: the grammar of the language, by cases. Expressions are C's, with C's precedences (ISO C, 6.5), but that a shift has a literal count;
+-- tasks and `transition_to` are those of Alpaca (Maeng, Colin, Lucia: OOPSLA 2017).
 use Rattle.std.specs.Prelude.{◌≡◌, ℕ, suc, ◌-◌, ◌%◌, List, [], ◌∷◌, ◌++◌, Option, Some, None}
 use Rattle.task_lex.specs.declared.token.Token.{Token}
 use Rattle.task_lex.specs.declared.token.Kind.{Kind}
@@ -22,6 +23,7 @@ use Rattle.task_ast.specs.Tree as node
 use Rattle.task_parse.specs.declared.operators.Infix.{Infix}
 use Rattle.task_parse.specs.declared.operators.Infix.TheVariants.{Binary, Shift, ShortCircuit}
 
+-- the operator in front of an operand
 abbrev pub prefix_of : Kind → Option UnaryOperator
 prefix_of k.Minus = Some unary.Negate
 prefix_of k.Tilde = Some unary.Complement
@@ -50,9 +52,11 @@ infix_of k.AndAnd = Some (9, ShortCircuit short.And)
 infix_of k.OrOr = Some (10, ShortCircuit short.Or)
 infix_of _ = None
 
+-- the precedence of a whole expression
 abbrev pub weakest : ℕ
 weakest = 10
 
+-- a number with its place
 abbrev pub literal_of : Token → Literal
 literal_of n = record { value = n.value; span = n.span }
 
@@ -74,6 +78,7 @@ pub data IsExpression : ℕ → List Token → Expression → Type 0 where
   shifted : (j : ℕ) (t n : Token) (op : ShiftOperator) (xs : List Token) (a : Expression) → IsExpression (suc j) xs a → infix_of t.kind ≡ Some (suc j, Shift op) → n.kind ≡ k.Number
       → IsExpression (suc j) (xs ++ t ∷ n ∷ []) (node.shift op a (literal_of n))
 
+-- the type that a keyword names
 abbrev pub type_of : Kind → Option WordType
 type_of k.Unsigned = Some word.Unsigned
 type_of k.Int = Some word.Int
@@ -83,10 +88,12 @@ type_of _ = None
 pub data IsGiven : List Token → Expression → Type 0 where
   given : (q z : Token) (ts : List Token) (value : Expression) → q.kind ≡ k.Assign → IsExpression weakest ts value → z.kind ≡ k.Semicolon → IsGiven (q ∷ ts ++ z ∷ []) value
 
+-- a condition and its block
 abbrev pub arm_from : Expression → Block → Tested
 arm_from condition block = record { condition = condition; block = block }
 
 mutual
+  -- a statement
   pub data IsStatement : List Token → Statement → Type 0 where
     declare : (t n z : Token) (of : WordType) → type_of t.kind ≡ Some of → n.kind ≡ k.Name → z.kind ≡ k.Semicolon → IsStatement (t ∷ n ∷ z ∷ []) (node.declare of n.span None)
     declare_as : (t n : Token) (of : WordType) (ts : List Token) (value : Expression) → type_of t.kind ≡ Some of → n.kind ≡ k.Name → IsGiven ts value → IsStatement (t ∷ n ∷ ts) (node.declare of n.span (Some value))
@@ -112,9 +119,11 @@ mutual
     arm : (i o c : Token) (ts bs : List Token) (condition : Expression) (block : Block) → i.kind ≡ k.If → o.kind ≡ k.Open → IsExpression weakest ts condition → c.kind ≡ k.Close → IsBlock bs block
         → IsArm (i ∷ o ∷ ts ++ (c ∷ bs)) (arm_from condition block)
 
+  -- statements in braces
   pub data IsBlock : List Token → Block → Type 0 where
     block : (o c : Token) (ts : List Token) (all : List Statement) → o.kind ≡ k.OpenBrace → IsStatements ts all → c.kind ≡ k.CloseBrace → IsBlock (o ∷ ts ++ c ∷ []) (block_of all)
 
+  -- statements, one after another
   pub data IsStatements : List Token → List Statement → Type 0 where
     none : IsStatements [] []
     more : (xs ys : List Token) (first : Statement) (all : List Statement) → IsStatement xs first → IsStatements ys all → IsStatements (xs ++ ys) (first ∷ all)
@@ -135,22 +144,28 @@ pub data IsExtent : List Token → Extent → Type 0 where
   value : (q n : Token) → q.kind ≡ k.Assign → n.kind ≡ k.Number → IsExtent (q ∷ n ∷ []) (extent.Scalar n.value)
   negative : (q m n : Token) → q.kind ≡ k.Assign → m.kind ≡ k.Minus → n.kind ≡ k.Number → IsExtent (q ∷ m ∷ n ∷ []) (extent.Scalar (negated n.value))
 
+-- a shared declaration
 abbrev pub shared_from : WordType → Token → Extent → SharedDeclaration
 shared_from of n found = record { word_type = of; name = n.span; extent = found }
 
+-- `shared type name extent ;`
 pub data IsShared : List Token → SharedDeclaration → Type 0 where
   shared : (h t n z : Token) (of : WordType) (ts : List Token) (found : Extent) → h.kind ≡ k.Shared → type_of t.kind ≡ Some of → n.kind ≡ k.Name → IsExtent ts found → z.kind ≡ k.Semicolon
       → IsShared (h ∷ t ∷ n ∷ ts ++ z ∷ []) (shared_from of n found)
 
+-- a task
 abbrev pub task_from : Token → Block → Task
 task_from n body = record { name = n.span; body = body }
 
+-- `task name block`
 pub data IsTask : List Token → Task → Type 0 where
   task : (h n : Token) (ts : List Token) (body : Block) → h.kind ≡ k.Task → n.kind ≡ k.Name → IsBlock ts body → IsTask (h ∷ n ∷ ts) (task_from n body)
 
+-- a program
 abbrev pub program_from : List SharedDeclaration → List Task → Token → Program
 program_from shareds tasks n = record { shared = shareds; tasks = tasks; entry = n.span }
 
+-- shared declarations, one task or more, then `entry name ;`
 pub data IsProgram : List Token → Program → Type 0 where
   program : (xs ys zs : List Token) (h n z : Token) (shareds : List SharedDeclaration) (first : Task) (others : List Task) → Row IsShared xs shareds → IsTask ys first → Row IsTask zs others
       → h.kind ≡ k.Entry → n.kind ≡ k.Name → z.kind ≡ k.Semicolon → IsProgram (xs ++ (ys ++ (zs ++ (h ∷ n ∷ z ∷ [])))) (program_from shareds (first ∷ others) n)
