@@ -11,7 +11,7 @@ use Rattle.task_parse.specs.Grammar.{prefix_of, infix_of, weakest, literal_of, I
 use Rattle.task_parse.specs.Expressions as reading
 use Rattle.task_parse.specs.Reading.{Parser, pure, again, over}
 use Rattle.task_parse.specs.Expressions.{of_precedence, infix_at, joined_with, climb_turn, climb, up_to, element_by, named, bracketed, primary_by, primary, unary_within}
-use Rattle.task_parse.proofs.Laws.{Law, Sentence, law_pure, law_refuse, law_bind, law_by, law_accept, law_take, law_map, law_weaken}
+use Rattle.task_parse.proofs.ParserLaws.{Law, Sentence, law_pure, law_refuse, law_bind, law_by, law_accept, law_take, law_map, law_weaken}
 use Rattle.task_parse.proofs.Turns.{Leads, Shrinks, law_shrinks, law_repeat}
 
 zero_token : Token

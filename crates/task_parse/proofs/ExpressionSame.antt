@@ -10,7 +10,7 @@ use Rattle.task_parse.specs.declared.operators.Infix.TheVariants.{Binary, Shift,
 use Rattle.task_parse.specs.Grammar.{prefix_of, weakest, IsExpression}
 use Rattle.task_parse.specs.Reading.{Parser, and_then, pure, kind_of, again, over, turned}
 use Rattle.task_parse.specs.Expressions.{infix_at, joined_with, climb_turn, climb, up_to, element_by, named, bracketed, primary_by, primary, prefixed, unary_within, unary, expression}
-use Rattle.task_parse.proofs.Laws.{Law}
+use Rattle.task_parse.proofs.ParserLaws.{Law}
 use Rattle.task_parse.proofs.SameLaws.{Same, Shortens, law_shortens, same_bind, same_take, same_accept}
 use Rattle.task_parse.proofs.Turns.{law_enough, same_repeat, repeat_is}
 use Rattle.task_parse.proofs.ExpressionLaws.{law_up_to, law_within, shrinks_climb}
