@@ -1,0 +1,71 @@
+-- The trees that the Rust trees stand for.
+use Rattle.std.specs.Prelude.{List, map, Option, Some, None, Vec}
+use Rattle.std.specs.Global.{Global}
+use Rattle.std.specs.Option.{option_map}
+use Rattle.task_ast.specs.Tree.{Expression, number, name, element, sense, unary, binary, shift, short_circuit, Statement, declare, assign, store, choose, loop, emit, transition, Block, block_of, Choice, Tested, choice_of, Task, Program}
+use Rattle.task_ast.specs.declared.Expr.{Expr}
+use Rattle.task_ast.specs.declared.Expr.TheVariants.{Number, Name, Element', Sense, Unary', Binary', Shift', ShortCircuit'}
+use Rattle.task_ast.specs.declared.Stmt.{Stmt, fold-Stmt}
+use Rattle.task_ast.specs.declared.Arm.{Arm, fold-Arm}
+use Rattle.task_ast.specs.declared.Stmt.TheOpen.{Stmt-F, Arm-F}
+use Rattle.task_ast.specs.declared.TaskDeclaration.{TaskDeclaration}
+use Rattle.task_ast.specs.declared.Tree.{Tree}
+
+-- an expression
+abbrev pub expression_of : Expr → Expression
+expression_of (Number n) = number n
+expression_of (Name s) = name s
+expression_of (Element' s p index) = element s (expression_of index)
+expression_of Sense = sense
+expression_of (Unary' op p inner) = unary op (expression_of inner)
+expression_of (Binary' op p a q b) = binary op (expression_of a) (expression_of b)
+expression_of (Shift' op p a count) = shift op (expression_of a) count
+expression_of (ShortCircuit' op p a q b) = short_circuit op (expression_of a) (expression_of b)
+
+-- the last block of an `if`, its statements already seen
+abbrev pub last_of : Option (Vec Statement Global) → Option Block
+last_of None = None
+last_of (Some v) = Some (block_of v.items)
+
+-- one level, with the statements inside already seen
+abbrev pub statement_step : Stmt-F Statement Tested → Statement
+statement_step (Stmt-F.Declare of n value) = declare of n (option_map expression_of value)
+statement_step (Stmt-F.Assign n value) = assign n (expression_of value)
+statement_step (Stmt-F.Store n index value) = store n (expression_of index) (expression_of value)
+statement_step (Stmt-F.If arms last) = choose (choice_of arms.items (last_of last))
+statement_step (Stmt-F.For variable from tested below stepped body) = loop variable from tested below stepped (block_of body.items)
+statement_step (Stmt-F.Emit value) = emit (expression_of value)
+statement_step (Stmt-F.TransitionTo n) = transition n
+
+-- a condition and its block, the statements already seen
+abbrev pub tested_step : Arm-F Statement Tested → Tested
+tested_step a = record { condition = expression_of a.condition; block = block_of a.block.items }
+
+-- a statement
+abbrev pub statement_of : Stmt → Statement
+statement_of = fold-Stmt Statement Tested statement_step tested_step
+
+-- a condition and its block
+abbrev pub tested_of : Arm → Tested
+tested_of = fold-Arm Statement Tested statement_step tested_step
+
+-- a block
+abbrev pub block_view : List Stmt → Block
+block_view stmts = block_of (map statement_of stmts)
+
+-- the last block of an `if`
+abbrev pub last_view : Option (Vec Stmt Global) → Option Block
+last_view None = None
+last_view (Some v) = Some (block_view v.items)
+
+-- the conditions and blocks of an `if`
+abbrev pub choice_view : List Arm → Option (Vec Stmt Global) → Choice
+choice_view arms last = choice_of (map tested_of arms) (last_view last)
+
+-- a task
+abbrev pub task_of : TaskDeclaration → Task
+task_of t = record { name = t.name; body = block_view t.body.items }
+
+-- a whole source
+abbrev pub program_of : Tree → Program
+program_of t = record { shared = t.shared.items; tasks = map task_of t.tasks.items; entry = t.entry }

@@ -1,0 +1,70 @@
+-- Reading programs.
+use Rattle.std.specs.Prelude.{Bool, true, false, List, [], ◌∷◌, ◌++◌, Option, Some}
+use Rattle.task_lex.specs.declared.token.Kind.{Kind}
+use Rattle.task_lex.specs.declared.token.Kind.TheVariants as k
+use Rattle.task_ast.specs.declared.Extent.{Extent}
+use Rattle.task_ast.specs.declared.Extent.TheVariants as extent
+use Rattle.task_ast.specs.declared.SharedDeclaration.{SharedDeclaration}
+use Rattle.task_ast.specs.Tree.{Task, Program}
+use Rattle.task_parse.specs.Grammar.{shared_from, task_from, program_from, negated}
+use Rattle.task_parse.specs.Reading.{done, fault, Parser, ◌>>=◌, pure, token, by, Turn, again, over, repeat}
+use Rattle.task_parse.specs.Statements.{typed, block}
+
+-- items, as long as the next token begins one
+abbrev pub many_if : {A : Type 0} → Parser A → List A → Bool → Parser (Turn (List A) (List A))
+many_if item found true = item >>= λ x. pure (again (found ++ x ∷ []))
+many_if item found false = pure (over found)
+
+-- by the next token
+abbrev pub many_turn : {A : Type 0} → (Option Kind → Bool) → Parser A → List A → Parser (Turn (List A) (List A))
+many_turn goes item found = by (λ kind. many_if item found (goes kind))
+
+-- all of them
+abbrev pub many : {A : Type 0} → (Option Kind → Bool) → Parser A → List A → Parser (List A)
+many goes item = repeat (many_turn goes item)
+
+-- an initial value, behind its `=`
+abbrev pub valued_by : Option Kind → Parser Extent
+valued_by (Some k.Minus) = token k.Minus >>= λ m. token k.Number >>= λ n. pure (extent.Scalar (negated n.value))
+valued_by _ = token k.Number >>= λ n. pure (extent.Scalar n.value)
+
+-- by the token behind a shared name
+abbrev pub extent_by : Option Kind → Parser Extent
+extent_by (Some k.OpenSquare) = token k.OpenSquare >>= λ o. token k.Number >>= λ n. token k.CloseSquare >>= λ c. pure (extent.Array n.value)
+extent_by (Some k.Assign) = token k.Assign >>= λ q. by valued_by
+extent_by _ = pure (extent.Scalar 0)
+
+-- what stands behind a shared name
+unfoldable pub extents : Parser Extent
+extents = by extent_by
+
+-- a shared declaration
+unfoldable pub shared : Parser SharedDeclaration
+shared = token k.Shared >>= λ h. typed >>= λ of. token k.Name >>= λ n. extents >>= λ found. token k.Semicolon >>= λ z. pure (shared_from of n found)
+
+-- a task
+unfoldable pub task : Parser Task
+task = token k.Task >>= λ h. token k.Name >>= λ n. block >>= λ body. pure (task_from n body)
+
+-- begins a shared declaration
+abbrev pub is_shared : Option Kind → Bool
+is_shared (Some k.Shared) = true
+is_shared _ = false
+
+-- begins a task
+abbrev pub is_task : Option Kind → Bool
+is_task (Some k.Task) = true
+is_task _ = false
+
+-- one task or more
+unfoldable pub tasks : Parser (List Task)
+tasks = task >>= λ first. many is_task task (first ∷ [])
+
+-- the end of the text
+abbrev pub ending : {A : Type 0} → A → Parser A
+ending a [] = done a []
+ending a (t ∷ ts) = fault (t ∷ ts)
+
+-- a whole program
+unfoldable pub program : Parser Program
+program = many is_shared shared [] >>= λ shareds. tasks >>= λ all. token k.Entry >>= λ h. token k.Name >>= λ n. token k.Semicolon >>= λ z. ending (program_from shareds all n)
