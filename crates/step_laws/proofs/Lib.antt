@@ -1,0 +1,3 @@
+pub mod EffectAlike
+pub mod Gives
+pub mod Valid

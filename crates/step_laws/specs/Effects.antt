@@ -1,0 +1,66 @@
+-- Laws of the effects of instructions (SLAU049 and SLAU144, CPU chapter, "Instruction Set").
+use Rattle.std.specs.Prelude.{◌≡◌, ℕ, ◌*◌, ◌%◌, ◌<◌, true, length, None}
+use Rattle.alp_words.specs.declared.Width.{Width}
+use Rattle.alp_words.specs.Words.{operand}
+use Rattle.msp_isa.specs.declared.operands.Src.{Src}
+use Rattle.msp_isa.specs.declared.operands.Dst.{Dst}
+use Rattle.msp_isa.specs.declared.registers.Reg.TheVariants as reg
+use Rattle.msp_isa.specs.declared.instructions.TwoOp.{TwoOp}
+use Rattle.msp_isa.specs.declared.instructions.TwoOp.TheVariants.{Mov}
+use Rattle.msp_isa.specs.declared.instructions.OneOp.TheVariants as one
+use Rattle.msp_isa.specs.declared.instructions.Condition.{Condition}
+use Rattle.msp_isa.specs.declared.instructions.Instr.{Instr}
+use Rattle.msp_isa.specs.declared.instructions.Instr.TheVariants as instr
+use Rattle.msp_isa.specs.Encoding.{source_row, destination_row}
+use Rattle.msp_step.specs.declared.operand.Location.TheVariants.{Register}
+use Rattle.msp_step.specs.Registers.{Registers, with_register}
+use Rattle.msp_step.specs.Access.{BusModel, Access, Completed, Faulted, then_do}
+use Rattle.msp_step.specs.Effect.{sum16, source, store, destination_location, after_source, operated, flags_of, writes_destination}
+use Rattle.msp_step.specs.Step.{effect}
+
+-- a fact of what an access gives, where it is served
+abbrev pub Gives : {S A : Type 0} → Access S A → (A → Type 0) → Type 0
+Gives (Completed x s) P = P x
+Gives (Faulted e a s) P = Unit {0}
+
+-- CMP and BIT write nothing to memory
+abbrev pub ComparesOnly : {S : Type 0} → BusModel S → TwoOp → Type 0
+ComparesOnly {S} bus op = (w : Width) (x : Src) (d : Dst) (r : Registers) (s : S)
+    → Gives (effect bus (instr.Two op w x d) r s) (λ y. y.1 ≡ None)
+
+-- MOV is the read of its source and the write of its destination, which it doesn't read
+abbrev pub MovesOnly : {S : Type 0} → BusModel S → Type 0
+MovesOnly {S} bus = (w : Width) (x : Src) (d : Dst) (r : Registers) (s : S)
+    → let first = sum16 (r 0) 2 in
+    let extension = sum16 first (2 * length (source_row x).extension) in
+    effect bus (instr.Two Mov w x d) r s ≡ then_do (source bus (with_register r 0 first) w x s) (λ y t.
+    let moved = with_register y.1 0 (sum16 extension (2 * length (destination_row d).extension)) in
+    store bus moved w (destination_location moved extension d) y.0 t)
+
+-- a result that is written to SR stays there, whatever the flags
+abbrev pub StatusIsTheResult : {S : Type 0} → BusModel S → Type 0
+StatusIsTheResult {S} bus = (op : TwoOp) (w : Width) (v : ℕ) (r : Registers) (s : S)
+    → writes_destination op ≡ true
+    → Gives (after_source bus op w (Register reg.Sr) v r s)
+    (λ y. y.0 2 ≡ (operated op w (operand w (r 2)) v (flags_of (r 2))).value % 0x200)
+
+-- the registers but SR that one instruction changes keep SR: its flags and its control bits
+abbrev pub KeepsStatus : {S : Type 0} → BusModel S → Instr → Type 0
+KeepsStatus {S} bus i = (r : Registers) (s : S) → Gives (effect bus i r s) (λ y. y.0 2 ≡ r 2)
+
+-- jumps, PUSH and CALL keep SR
+pub record StatusStays {S : Type 0} (bus : BusModel S) : Type 0 where
+  pub jump : (c : Condition) (o : ℕ) → KeepsStatus bus (instr.Jump c o)
+  pub push : (w : Width) (x : Src) → KeepsStatus bus (instr.One (one.Push w x))
+  pub call : (x : Src) → KeepsStatus bus (instr.One (one.Call x))
+
+-- what each register file keeps
+pub record IsValid (r : Registers) : Type 0 where
+  pub pc : r 0 % 2 ≡ 0
+  pub sp : r 1 % 2 ≡ 0
+  pub sr : r 2 < 0x200
+  pub r3 : r 3 ≡ 0
+
+-- valid registers stay valid
+abbrev pub StaysValid : {S : Type 0} → BusModel S → Type 0
+StaysValid {S} bus = (i : Instr) (r : Registers) (s : S) → IsValid r → Gives (effect bus i r s) (λ y. IsValid y.0)
