@@ -44,7 +44,7 @@ StatusIsTheResult {S} bus = (op : TwoOp) (w : Width) (v : ℕ) (r : Registers) (
     → Gives (after_source bus op w (Register reg.Sr) v r s)
     (λ y. y.0 2 ≡ (operated op w (operand w (r 2)) v (flags_of (r 2))).value % 0x200)
 
--- the registers but SR that one instruction changes keep SR: its flags and its control bits
+-- an instruction keeps SR: the flags and the control bits
 abbrev pub KeepsStatus : {S : Type 0} → BusModel S → Instr → Type 0
 KeepsStatus {S} bus i = (r : Registers) (s : S) → Gives (effect bus i r s) (λ y. y.0 2 ≡ r 2)
 
