@@ -10,9 +10,10 @@ use Rattle.msp_step.specs.declared.machine.Stop.{Stop}
 use Rattle.msp_step.specs.declared.machine.Stop.TheVariants as stop
 use Rattle.msp_step.specs.declared.machine.Stepped.{Stepped}
 use Rattle.msp_step.specs.Registers.{Registers}
-use Rattle.msp_step.specs.Access.{BusModel}
-use Rattle.msp_step.specs.Effect.{sum16}
-use Rattle.msp_step.specs.Step.{FetchedAt, IsCurrentInstruction, IsLongerThan, NotFetched, First, Second, Third, IsStopped, Outcome, execution, StepResult, Stopped, Executed, off_bit}
+use Rattle.msp_cycles.specs.Cycles.{cycles_of}
+use Rattle.msp_step.specs.Access.{BusModel, Access, Completed, Faulted}
+use Rattle.msp_step.specs.Effect.{Written, sum16}
+use Rattle.msp_step.specs.Step.{FetchedAt, IsCurrentInstruction, IsLongerThan, NotFetched, First, Second, Third, IsStopped, Outcome, outcome_of, effect, execution, StepResult, Stopped, Executed, Costs, off_bit}
 
 -- an instruction begins with its first word
 begins : {S : Type 0} (bus : BusModel S) (s : S) (pc : ℕ) (i : Instr) → FetchedAt bus s pc (encoding i) → bus.fetches s pc ≡ Some (first_word i)
@@ -112,3 +113,11 @@ determined {S} bus r s o p (Stopped e h) (Stopped f k) = ap (λ x. record { answ
 determined bus r s o p (Stopped e h) (Executed i c) = absurd (not_stopped bus r s e i h c)
 determined bus r s o p (Executed i c) (Stopped e h) = absurd (not_stopped bus r s e i h c)
 determined bus r s o p (Executed i c) (Executed j d) = ap (λ x. execution bus x r s) (same_current bus r s i j c d)
+
+took : {S : Type 0} (i : Instr) (r : Registers) (m : Access S (Registers × Option Written)) (done : Stepped) → (outcome_of i r m).answer ≡ Ok done → done.cycles ≡ cycles_of i
+took i r (Completed x s) done e = cc
+took i r (Faulted f a s) done e = cc
+
+pub takes_its_cost : {S : Type 0} (bus : BusModel S) (r : Registers) (s : S) (o : Outcome S) (done : Stepped) → StepResult bus r s o → o.answer ≡ Ok done → Costs bus r s (Ok done.cycles)
+takes_its_cost bus r s o done (Stopped e h) is = cc
+takes_its_cost bus r s o done (Executed i c) is = (i, c, took i r (effect bus i r s) done is)

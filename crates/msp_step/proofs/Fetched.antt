@@ -1,7 +1,8 @@
 -- That the words of an instruction stand at an address, from what was fetched.
-use Rattle.std.proofs.Common.{◌≡◌, ℕ, ◌+◌, ◌%◌, ◌<◌, List, [], ◌∷◌, length, refl, sym, ◌∙◌, ap, arith, Option, Some, None, Result, Ok, subst, ◌*◌}
+use Rattle.std.proofs.Common.{◌≡◌, ℕ, ◌+◌, ◌%◌, ◌<◌, List, [], ◌∷◌, length, refl, sym, ◌∙◌, ap, arith, Option, Some, None, Result, Ok, Err, subst, ◌*◌}
 use Rattle.msp_isa.specs.declared.instructions.Instr.{Instr}
 use Rattle.msp_isa.specs.Encoding.{IsPrefix, IsInstruction, encoding, first_word}
+use Rattle.msp_decode.proofs.Fields.{blank_of}
 use Rattle.msp_step.specs.declared.machine.Stop.{Stop}
 use Rattle.msp_step.specs.declared.machine.Stop.TheVariants as stop
 use Rattle.msp_step.specs.Access.{BusModel}
@@ -25,6 +26,17 @@ second_missing bus s pc w e longer was h = subst (λ x. IsNoInstruction bus s pc
 pub third_missing : {S : Type 0} (bus : BusModel S) (s : S) (pc w v : ℕ) (e : Stop) → IsLongerThan 2 w → bus.fetches s pc ≡ Some w → bus.fetches s (sum16 pc 2) ≡ Some v → (e ≡ stop.Bus pc (sum16 (sum16 pc 2) 2)) × (bus.fetches s (sum16 (sum16 pc 2) 2) ≡ None) → IsNoInstruction bus s pc e
 third_missing bus s pc w v e longer was then_was h = subst (λ x. IsNoInstruction bus s pc x) (sym h.0) (refl, Third w v was longer then_was h.1)
 
--- from how long the first word says that its instruction is
-pub longer_than : {E : Type 0} (n m k : ℕ) → ◌≡◌ {A = Result ℕ E} (Ok m) (Ok k) → n < m → n < k
-longer_than n m k e h = let same : m ≡ k = cc in omega arith
+abbrev count_in : {A E : Type 0} → Result (A × ℕ) E → ℕ
+count_in (Ok p) = p.1
+count_in (Err e) = 0
+
+-- all instructions that begin with a word are as long as the one that is read with zeros behind it
+pub all_of_length : {E : Type 0} (first words : ℕ) (j : Instr) → ((i : Instr) → IsInstruction i → IsPrefix (encoding i) (first ∷ 0 ∷ 0 ∷ []) → ◌≡◌ {A = Result (Instr × ℕ) E} (Ok (j, words)) (Ok (i, length (encoding i))))
+    → (i : Instr) → IsInstruction i → first_word i ≡ first → length (encoding i) ≡ words
+all_of_length {E} first words j only i is begins =
+    let b = blank_of i is in
+    let P : ℕ → Type 0 = λ w. IsPrefix (encoding b.0) (w ∷ 0 ∷ 0 ∷ []) in
+    sym (ap (count_in {A = Instr} {E = E}) (only b.0 b.1.fits (subst P begins b.1.front)) ∙ b.1.len)
+
+pub longer_by : (n words first : ℕ) (j : Instr) → IsInstruction j → first_word j ≡ first → n < words → ((i : Instr) → IsInstruction i → first_word i ≡ first → length (encoding i) ≡ words) → IsLongerThan n first
+longer_by n words first j is begins long all = record { one = j; is = is; begins = begins; all = λ i fits starts. let same = all i fits starts in omega arith }

@@ -15,8 +15,8 @@ IsDetermined {S} bus = (r : Registers) (s : S) (o p : Outcome S) → StepResult 
 
 -- a step that is made takes the cycles that the instruction costs
 abbrev pub TakesItsCost : {S : Type 0} → BusModel S → Type 0
-TakesItsCost {S} bus = (r r' : Registers) (s s' : S) (done : Stepped)
-    → StepResult bus r s (record { answer = Ok done; registers = r'; bus = s' }) → Costs bus r s (Ok done.cycles)
+TakesItsCost {S} bus = (r : Registers) (s : S) (o : Outcome S) (done : Stepped)
+    → StepResult bus r s o → o.answer ≡ Ok done → Costs bus r s (Ok done.cycles)
 
 -- the bus after the last read, and after the one write, if any
 abbrev pub AfterWrite : {S : Type 0} → BusModel S → Option Written → S → S → Type 0

@@ -84,11 +84,15 @@ pub record Outcome (S : Type 0) : Type 0 where
   pub registers : Registers
   pub bus : S
 
+-- the stop of an instruction at PC whose access the bus refused
+abbrev pub stop_of : ℕ → Refused → ℕ → Stop
+stop_of pc refused.Bus a = stop.Bus pc a
+stop_of pc refused.NoReading a = stop.NoReading
+
 -- where the bus refused an access, the registers are as before
 abbrev pub outcome_of : {S : Type 0} → Instr → Registers → Access S (Registers × Option Written) → Outcome S
 outcome_of i r (Completed x s) = record { answer = Ok (record { cycles = cycles_of i; wrote = option_map (λ p. p.0) x.1 }); registers = x.0; bus = s }
-outcome_of i r (Faulted refused.Bus a s) = record { answer = Err (stop.Bus (r 0) a); registers = r; bus = s }
-outcome_of i r (Faulted refused.NoReading a s) = record { answer = Err stop.NoReading; registers = r; bus = s }
+outcome_of i r (Faulted e a s) = record { answer = Err (stop_of (r 0) e a); registers = r; bus = s }
 
 -- an instruction, executed as the one at PC
 abbrev pub execution : {S : Type 0} → BusModel S → Instr → Registers → S → Outcome S

@@ -1,6 +1,6 @@
 //! Laws of the step, said for any bus. The functions do nothing: their contracts are the laws.
 
-ghost use Rattle.msp_step.specs.Laws.{IsDetermined, WritesOnce, JumpsBySignedWords};
+ghost use Rattle.msp_step.specs.Laws.{IsDetermined, TakesItsCost, WritesOnce, JumpsBySignedWords};
 
 use crate::bus::Bus;
 
@@ -8,6 +8,12 @@ use crate::bus::Bus;
 #[tactic(auto, using(crate::proofs::Determined::determined))]
 pub fn step_is_determined<B: Bus>()
     ensures { IsDetermined B.model }
+{}
+
+/// A step that is made takes the cycles that `cost` answers.
+#[tactic(auto, using(crate::proofs::Determined::takes_its_cost))]
+pub fn step_takes_its_cost<B: Bus>()
+    ensures { TakesItsCost B.model }
 {}
 
 /// An instruction makes at most two reads, and then at most one write; where the bus refuses an access, it has made

@@ -10,5 +10,7 @@ mod operand;
 
 pub use bus::{Bus, Refused};
 pub use cpu::Cpu;
-pub use laws::{effect_writes_once, jumps_by_signed_words, step_is_determined};
+pub use laws::{
+    effect_writes_once, jumps_by_signed_words, step_is_determined, step_takes_its_cost,
+};
 pub use machine::{Stepped, Stop, cost, current_instruction, execute, step};

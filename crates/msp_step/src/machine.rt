@@ -5,7 +5,7 @@ ghost use Rattle.std.specs.Option.{option_map};
 ghost use Rattle.msp_step.specs.Access.{Completed, OnlyReads};
 ghost use Rattle.msp_step.specs.Answer.{answer};
 ghost use Rattle.msp_step.specs.Registers.{registers_of};
-ghost use Rattle.msp_step.specs.Step.{FetchedAt, one_operand_effect, effect, IsCurrentInstruction, IsNoInstruction, IsStopped, execution, StepResult, Costs};
+ghost use Rattle.msp_step.specs.Step.{FetchedAt, one_operand_effect, effect, IsCurrentInstruction, IsNoInstruction, IsStopped, stop_of, execution, StepResult, Costs};
 ghost use Rattle.msp_isa.specs.Encoding.{encoding, IsIllegal, IsInstruction};
 
 use crate::bus::{Bus, Refused};
@@ -17,7 +17,7 @@ use crate::effect::{
 use crate::operand::Fault;
 use alp_words::Width;
 use msp_cycles::cycles;
-use msp_decode::{decode, words_of};
+use msp_decode::decode;
 use msp_isa::{Instr, OneOp};
 
 /// Why no step was made.
@@ -53,8 +53,8 @@ fn fetch<B: Bus>(bus: &B, pc: u16, address: u16) -> Result<u16, Stop>
     }
 }
 
-/// The extension word at an address, or 0 where the instruction has none there.
-fn extension_word<B: Bus>(bus: &B, pc: u16, address: u16, is_there: bool) -> Result<u16, Stop>
+/// The third word of an instruction, or 0 where it has none.
+fn third_word<B: Bus>(bus: &B, pc: u16, address: u16, is_there: bool) -> Result<u16, Stop>
     ensures found { IfOk result (λ w. IsTrue is_there → B.model.fetches bus.now address ≡ Some w) }
     ensures none { IfErr result (λ e. IsTrue is_there × (e ≡ Stop.Bus pc address) × (B.model.fetches bus.now address ≡ None)) }
 {
@@ -71,13 +71,14 @@ fn instruction_at<B: Bus>(bus: &B, pc: u16) -> Result<Instr, Stop>
     ensures none { IfErr result (λ e. IsNoInstruction B.model bus.now pc e) }
 {
     let first = fetch(bus, pc, pc)?;
-    let words = match words_of(first) {
-        Ok(words) => words,
+    let words = match decode(first, 0, 0) {
+        Ok((instruction, 1)) => return Ok(instruction),
+        Ok((_, words)) => words,
         Err(_) => return Err(Stop::Illegal { pc, word: first }),
     };
     let behind = pc.wrapping_add(2);
-    let second = extension_word(bus, pc, behind, words > 1)?;
-    let third = extension_word(bus, pc, behind.wrapping_add(2), words > 2)?;
+    let second = fetch(bus, pc, behind)?;
+    let third = third_word(bus, pc, behind.wrapping_add(2), words > 2)?;
     match decode(first, second, third) {
         Ok((instruction, _)) => Ok(instruction),
         Err(_) => Err(Stop::Illegal { pc, word: first }),
@@ -144,6 +145,19 @@ fn address_of(wrote: Option<(u16, u16)>) -> Option<u16>
     }
 }
 
+/// The stop of the instruction at PC whose access the bus refused.
+fn stop_of(pc: u16, fault: Fault) -> Stop
+    ensures { result ≡ stop_of pc fault.refused fault.address }
+{
+    match fault.refused {
+        Refused::Bus => Stop::Bus {
+            pc,
+            address: fault.address,
+        },
+        Refused::NoReading => Stop::NoReading,
+    }
+}
+
 /// Executes an instruction as the one at PC. It answers the instruction's cycles and the address of its write; or, at
 /// the first access that the bus refuses, `Bus` with that address or `NoReading`: then the registers and the memory are
 /// as before, and readings that the instruction had taken stay taken.
@@ -154,22 +168,16 @@ pub fn execute<B: Bus>(cpu: &mut Cpu, bus: &mut B, instruction: &Instr) -> Resul
     ensures memory { OnErr result (B.model.memory bus.new ≡ B.model.memory bus.old) }
 {
     let pc = cpu.word(0);
-    let mut after = cpu.copy();
-    match perform(&mut after, bus, instruction) {
-        Ok(wrote) => {
-            *cpu = after;
-            Ok(Stepped {
-                cycles: cycles(instruction),
-                wrote: address_of(wrote),
-            })
+    let before = cpu.copy();
+    match perform(cpu, bus, instruction) {
+        Ok(wrote) => Ok(Stepped {
+            cycles: cycles(instruction),
+            wrote: address_of(wrote),
+        }),
+        Err(fault) => {
+            *cpu = before;
+            Err(stop_of(pc, fault))
         }
-        Err(fault) => match fault.refused {
-            Refused::Bus => Err(Stop::Bus {
-                pc,
-                address: fault.address,
-            }),
-            Refused::NoReading => Err(Stop::NoReading),
-        },
     }
 }
 
