@@ -1,5 +1,5 @@
 -- An instruction reads at most twice, and then writes at most once; where an access is refused, it has only read.
-use Rattle.std.proofs.Common.{◌≡◌, ◌≤◌, suc, arith, ◌+◌, ◌*◌, ◌%◌, length, ℕ, refl, sym, ◌∙◌, ap, subst, Option, Some, None, Bool, true, false}
+use Rattle.std.proofs.Common.{◌≡◌, ◌≤◌, suc, arith, ◌*◌, length, ℕ, refl, ◌∙◌, subst, Option, Some, None, Bool, true, false}
 use Rattle.std.specs.Prelude.{Result, Ok, Err}
 use Rattle.alp_words.specs.declared.Width.{Width}
 use Rattle.alp_words.specs.declared.Width.TheVariants.{Word}

@@ -1,5 +1,5 @@
 -- A state steps in one way: what is fetched begins one instruction or says why there is none.
-use Rattle.std.proofs.Common.{◌≡◌, ◌≤◌, ◌<◌, ◌+◌, ◌*◌, ◌%◌, ◌++◌, ℕ, List, [], ◌∷◌, length, refl, sym, ◌∙◌, ap, arith, Option, Some, None, Result, Ok, Err, subst, unwrap_or}
+use Rattle.std.proofs.Common.{◌≡◌, ◌<◌, ℕ, List, [], ◌∷◌, length, refl, sym, ◌∙◌, ap, arith, Option, Some, None, Ok, Err, unwrap_or}
 use Rattle.msp_isa.specs.declared.instructions.Instr.{Instr}
 use Rattle.msp_isa.specs.declared.instructions.Instr.TheVariants as instr
 use Rattle.msp_isa.specs.declared.instructions.OneOp.TheVariants as one
@@ -13,7 +13,7 @@ use Rattle.msp_step.specs.Registers.{Registers}
 use Rattle.msp_cycles.specs.Cycles.{cycles_of}
 use Rattle.msp_step.specs.Access.{BusModel, Access, Completed, Faulted}
 use Rattle.msp_step.specs.Effect.{Written, sum16}
-use Rattle.msp_step.specs.Step.{FetchedAt, IsCurrentInstruction, IsLongerThan, NotFetched, First, Second, Third, IsStopped, Outcome, outcome_of, effect, execution, StepResult, Stopped, Executed, Costs, off_bit}
+use Rattle.msp_step.specs.Step.{FetchedAt, IsCurrentInstruction, NotFetched, First, Second, Third, IsStopped, Outcome, outcome_of, effect, execution, StepResult, Stopped, Executed, Costs, off_bit}
 
 -- an instruction begins with its first word
 begins : {S : Type 0} (bus : BusModel S) (s : S) (pc : ℕ) (i : Instr) → FetchedAt bus s pc (encoding i) → bus.fetches s pc ≡ Some (first_word i)

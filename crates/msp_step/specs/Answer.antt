@@ -1,5 +1,5 @@
 -- What a function over a bus returned, as an access.
-use Rattle.std.specs.Prelude.{ℕ, Result, Ok, Err}
+use Rattle.std.specs.Prelude.{Result, Ok, Err}
 use Rattle.msp_step.specs.Access.{Access, Completed, Faulted}
 use Rattle.msp_step.specs.declared.operand.Fault.{Fault}
 

@@ -4,13 +4,11 @@ use Rattle.std.specs.Prelude.{ℕ, ◌+◌, ◌-◌, ◌*◌, ◌/◌, ◌%◌, 
 use Rattle.alp_words.specs.declared.Width.{Width}
 use Rattle.alp_words.specs.declared.Width.TheVariants.{Word, Byte}
 use Rattle.alp_words.specs.declared.Flags.{Flags}
-use Rattle.alp_words.specs.Words.{bit, same, operand, complement, sum_of, difference_of, decimal_of, and_of, xor_of, rrc_of, rra_of, swapped, sxt_of}
-use Rattle.msp_isa.specs.declared.registers.IndexRegister.{IndexRegister}
+use Rattle.alp_words.specs.Words.{bit, same, operand, sum_of, difference_of, decimal_of, and_of, xor_of, rrc_of, rra_of, swapped, sxt_of}
 use Rattle.msp_isa.specs.declared.registers.SourceRegister.{SourceRegister}
 use Rattle.msp_isa.specs.declared.registers.SourceRegister.TheVariants as source_register
 use Rattle.msp_isa.specs.declared.registers.Reg.{Reg}
 use Rattle.msp_isa.specs.declared.registers.Reg.TheVariants as reg
-use Rattle.msp_isa.specs.declared.operands.Konst.{Konst}
 use Rattle.msp_isa.specs.declared.operands.Operand.{Operand}
 use Rattle.msp_isa.specs.declared.operands.Operand.TheVariants as mode
 use Rattle.msp_isa.specs.declared.operands.Src.{Src}
@@ -21,9 +19,7 @@ use Rattle.msp_isa.specs.declared.instructions.TwoOp.{TwoOp}
 use Rattle.msp_isa.specs.declared.instructions.TwoOp.TheVariants.{Mov, Add, Addc, Subc, Sub, Cmp, Dadd, Bit, Bic, Bis, Xor, And}
 use Rattle.msp_isa.specs.declared.instructions.Condition.{Condition}
 use Rattle.msp_isa.specs.declared.instructions.Condition.TheVariants as condition
-use Rattle.msp_isa.specs.declared.instructions.Instr.{Instr}
-use Rattle.msp_isa.specs.declared.instructions.Instr.TheVariants as instr
-use Rattle.msp_isa.specs.Encoding.{index_number, source_number, indirect_number, register_number, source_row, destination_row, operand_row}
+use Rattle.msp_isa.specs.Encoding.{index_number, indirect_number, register_number, source_row, destination_row, operand_row}
 use Rattle.msp_isa.specs.Constant.{constant_value}
 use Rattle.msp_step.specs.declared.operand.Location.{Location}
 use Rattle.msp_step.specs.declared.operand.Location.TheVariants.{Register, Memory}

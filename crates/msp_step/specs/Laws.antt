@@ -1,13 +1,12 @@
 -- Laws of the step and of the effect.
-use Rattle.std.specs.Prelude.{ℕ, ◌+◌, ◌-◌, ◌*◌, ◌<◌, ◌≤◌, ◌≡◌, ◌⊎◌, Option, Some, None, Result, Ok, Err}
+use Rattle.std.specs.Prelude.{ℕ, ◌+◌, ◌-◌, ◌*◌, ◌<◌, ◌≤◌, ◌≡◌, Option, Some, None, Ok}
 use Rattle.alp_words.specs.declared.Width.{Width}
 use Rattle.msp_isa.specs.declared.instructions.Instr.{Instr}
 use Rattle.msp_step.specs.declared.machine.Stepped.{Stepped}
-use Rattle.msp_step.specs.declared.machine.Stop.{Stop}
 use Rattle.msp_step.specs.Registers.{Registers}
 use Rattle.msp_step.specs.Access.{BusModel, Access, Completed, Faulted, OnlyReads}
 use Rattle.msp_step.specs.Effect.{Written, distance}
-use Rattle.msp_step.specs.Step.{effect, StepResult, Outcome, Costs, IsStopped}
+use Rattle.msp_step.specs.Step.{effect, StepResult, Outcome, Costs}
 
 -- a state steps in one way
 abbrev pub IsDetermined : {S : Type 0} → BusModel S → Type 0

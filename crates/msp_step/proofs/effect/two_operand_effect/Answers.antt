@@ -1,6 +1,6 @@
-use Rattle.std.proofs.Common.{ℕ, ◌+◌, ◌*◌, ◌%◌, ◌∙◌, ap, length}
+use Rattle.std.proofs.Common.{◌+◌, ◌*◌, ◌%◌, ◌∙◌, ap}
 use Rattle.msp_step.specs.Registers.{Registers, registers_of}
-use Rattle.msp_step.specs.Effect.{destination_location, after_source, sum16}
+use Rattle.msp_step.specs.Effect.{destination_location, after_source}
 use Rattle.msp_step.specs.declared.operand.Location.{Location}
 use Rattle.msp_step.proofs.effect.two_operand_effect.Goals as goal
 

@@ -1,4 +1,4 @@
-use Rattle.std.proofs.Common.{◌≡◌, ℕ, sym}
+use Rattle.std.proofs.Common.{sym}
 use Rattle.msp_step.specs.Registers.{registers_of}
 use Rattle.msp_step.proofs.Accesses.{faulted_after_reads, reads_keep}
 use Rattle.msp_step.proofs.machine.execute.Goals as goal

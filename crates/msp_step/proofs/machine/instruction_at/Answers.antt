@@ -1,7 +1,6 @@
-use Rattle.std.proofs.Common.{rules, ◌≡◌, ℕ, ◌+◌, ◌%◌, ◌<◌, ◌≤◌, refl, sym, ◌∙◌, ap, arith, Some, length}
+use Rattle.std.proofs.Common.{rules, ◌<◌, arith}
 use Rattle.std.proofs.lemmas.Bool.{ltb-true}
 use Rattle.msp_isa.specs.Encoding.{encoding}
-use Rattle.msp_step.specs.Step.{IsLongerThan}
 use Rattle.msp_step.proofs.Fetched.{fetched_at, all_of_length, longer_by, first_missing, second_missing, third_missing}
 use Rattle.msp_step.proofs.machine.instruction_at.Goals as goal
 
