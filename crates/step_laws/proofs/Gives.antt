@@ -61,7 +61,7 @@ status_written bus Xor w v r s e = refl
 status_written bus And w v r s e = refl
 
 -- no increment reaches SR
-register_keeps : (b : IndexRegister) (r : Registers) (v : ℕ) → with_register r (index_number b) v 2 ≡ r 2
+pub register_keeps : (b : IndexRegister) (r : Registers) (v : ℕ) → with_register r (index_number b) v 2 ≡ r 2
 register_keeps index.Sp r v = refl
 register_keeps index.R4 r v = refl
 register_keeps index.R5 r v = refl
@@ -84,7 +84,7 @@ increment_keeps (mode.Symbolic x) r w = refl
 increment_keeps (mode.Absolute a) r w = refl
 increment_keeps (mode.Indirect p) r w = refl
 
-source_keeps : {S : Type 0} (bus : BusModel S) (r : Registers) (w : Width) (x : Src) (s : S) → Gives (source bus r w x s) (λ y. y.1 2 ≡ r 2)
+pub source_keeps : {S : Type 0} (bus : BusModel S) (r : Registers) (w : Width) (x : Src) (s : S) → Gives (source bus r w x s) (λ y. y.1 2 ≡ r 2)
 source_keeps bus r w (src.Operand p) s = then_gives (load bus r w (operand_location r (r 0) p) s) _ (λ y. y.1 2 ≡ r 2) (λ v t. increment_keeps p r w)
 source_keeps bus r w (src.Immediate n) s = refl
 source_keeps bus r w (src.Constant k) s = refl

@@ -1,3 +1,4 @@
 pub mod EffectAlike
 pub mod Gives
 pub mod Valid
+pub mod Keeps

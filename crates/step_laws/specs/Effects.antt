@@ -1,9 +1,11 @@
 -- Laws of the effects of instructions (SLAU049 and SLAU144, CPU chapter, "Instruction Set").
-use Rattle.std.specs.Prelude.{◌≡◌, ℕ, ◌*◌, ◌%◌, ◌<◌, true, length, None}
+use Rattle.std.specs.Prelude.{◌≡◌, ◌≢◌, ℕ, ◌+◌, ◌*◌, ◌%◌, ◌<◌, true, length, None}
 use Rattle.alp_words.specs.declared.Width.{Width}
 use Rattle.alp_words.specs.Words.{operand}
 use Rattle.msp_isa.specs.declared.operands.Src.{Src}
 use Rattle.msp_isa.specs.declared.operands.Dst.{Dst}
+use Rattle.msp_isa.specs.declared.operands.Dst.TheVariants as dst
+use Rattle.msp_isa.specs.declared.registers.Reg.{Reg}
 use Rattle.msp_isa.specs.declared.registers.Reg.TheVariants as reg
 use Rattle.msp_isa.specs.declared.instructions.TwoOp.{TwoOp}
 use Rattle.msp_isa.specs.declared.instructions.TwoOp.TheVariants.{Mov}
@@ -11,7 +13,7 @@ use Rattle.msp_isa.specs.declared.instructions.OneOp.TheVariants as one
 use Rattle.msp_isa.specs.declared.instructions.Condition.{Condition}
 use Rattle.msp_isa.specs.declared.instructions.Instr.{Instr}
 use Rattle.msp_isa.specs.declared.instructions.Instr.TheVariants as instr
-use Rattle.msp_isa.specs.Encoding.{source_row, destination_row}
+use Rattle.msp_isa.specs.Encoding.{encoding, source_row, destination_row}
 use Rattle.msp_step.specs.declared.operand.Location.TheVariants.{Register}
 use Rattle.msp_step.specs.Registers.{Registers, with_register}
 use Rattle.msp_step.specs.Access.{BusModel, Access, Completed, Faulted, then_do}
@@ -53,6 +55,22 @@ pub record StatusStays {S : Type 0} (bus : BusModel S) : Type 0 where
   pub jump : (c : Condition) (o : ℕ) → KeepsStatus bus (instr.Jump c o)
   pub push : (w : Width) (x : Src) → KeepsStatus bus (instr.One (one.Push w x))
   pub call : (x : Src) → KeepsStatus bus (instr.One (one.Call x))
+
+-- a destination other than this register
+abbrev pub IsNot : Reg → Dst → Type 0
+IsNot n (dst.Reg m) = m ≢ n
+IsNot n (dst.Indexed b x) = Unit {0}
+IsNot n (dst.Symbolic x) = Unit {0}
+IsNot n (dst.Absolute a) = Unit {0}
+
+-- MOV, BIC and BIS keep SR where it isn't their destination
+abbrev pub CopiesKeepStatus : {S : Type 0} → BusModel S → TwoOp → Type 0
+CopiesKeepStatus bus op = (w : Width) (x : Src) (d : Dst) → IsNot reg.Sr d → KeepsStatus bus (instr.Two op w x d)
+
+-- an instruction of two operands moves PC by its length, where PC isn't its destination
+abbrev pub MovesByLength : {S : Type 0} → BusModel S → Type 0
+MovesByLength {S} bus = (op : TwoOp) (w : Width) (x : Src) (d : Dst) → IsNot reg.Pc d → (r : Registers) (s : S) → r 0 % 2 ≡ 0
+    → Gives (effect bus (instr.Two op w x d) r s) (λ y. y.0 0 ≡ (r 0 + 2 * length (encoding (instr.Two op w x d))) % 0x10000)
 
 -- what each register file keeps
 pub record IsValid (r : Registers) : Type 0 where

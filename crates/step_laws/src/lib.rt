@@ -2,9 +2,9 @@
 //! the laws.
 #![tactic(auto)]
 
-ghost use Rattle.msp_isa.specs.declared.instructions.TwoOp.TheVariants.{Cmp, Bit};
+ghost use Rattle.msp_isa.specs.declared.instructions.TwoOp.TheVariants.{Cmp, Bit, Mov, Bic, Bis};
 ghost use Rattle.step_laws.specs.Alike.{CarriesAlike};
-ghost use Rattle.step_laws.specs.Effects.{ComparesOnly, MovesOnly, StatusIsTheResult, StatusStays, StaysValid};
+ghost use Rattle.step_laws.specs.Effects.{ComparesOnly, CopiesKeepStatus, MovesByLength, MovesOnly, StatusIsTheResult, StatusStays, StaysValid};
 
 use msp_step::Bus;
 
@@ -37,6 +37,20 @@ pub fn written_status_beats_flags<B: Bus>()
 #[tactic(auto, using(crate::proofs::Gives::status_stays))]
 pub fn flags_stay<B: Bus>()
     ensures { StatusStays B.model }
+{}
+
+/// MOV, BIC and BIS change no flag, where SR isn't their destination.
+#[tactic(auto, using(crate::proofs::Keeps::mov_keeps, crate::proofs::Keeps::bic_keeps, crate::proofs::Keeps::bis_keeps))]
+pub fn copies_keep_flags<B: Bus>()
+    ensures mov { CopiesKeepStatus B.model Mov }
+    ensures bic { CopiesKeepStatus B.model Bic }
+    ensures bis { CopiesKeepStatus B.model Bis }
+{}
+
+/// An instruction of two operands moves PC by its length, where PC isn't its destination.
+#[tactic(auto, using(crate::proofs::Keeps::moves_by_length))]
+pub fn moves_by_its_length<B: Bus>()
+    ensures { MovesByLength B.model }
 {}
 
 /// PC and SP stay even, SR below 0x200 and R3 0.

@@ -1,0 +1,122 @@
+-- What a two-operand instruction keeps: SR, where the operation gives no flags, and PC but for its length.
+use Rattle.std.proofs.Common.{◌≡◌, ◌≢◌, ℕ, suc, ◌+◌, ◌*◌, ◌/◌, ◌%◌, arith, length, Option, Some, None, refl, ◌∙◌, Bool, true, false}
+use Rattle.std.proofs.lemmas.List.{length-append}
+use Rattle.alp_words.specs.declared.Width.{Width}
+use Rattle.alp_words.specs.declared.Flags.{Flags}
+use Rattle.msp_isa.specs.declared.registers.IndexRegister.{IndexRegister}
+use Rattle.msp_isa.specs.declared.registers.IndexRegister.TheVariants as index
+use Rattle.msp_isa.specs.declared.registers.Reg.{Reg}
+use Rattle.msp_isa.specs.declared.registers.Reg.TheVariants as reg
+use Rattle.msp_isa.specs.declared.operands.Dst.{Dst}
+use Rattle.msp_isa.specs.declared.operands.Dst.TheVariants as dst
+use Rattle.msp_isa.specs.declared.instructions.TwoOp.TheVariants.{Mov, Bic, Bis}
+use Rattle.msp_isa.specs.declared.instructions.Instr.TheVariants as instr
+use Rattle.msp_isa.specs.Encoding.{encoding, index_number, register_number, source_row, destination_row}
+use Rattle.msp_step.specs.Registers.{Registers, with_register}
+use Rattle.msp_step.specs.Access.{BusModel, Access, Completed, Faulted}
+use Rattle.msp_step.specs.Effect.{Written, sum16, source, load, store, finish, destination_operand, destination_location, after_source, operated, flags_of, with_flags, reads_destination, writes_destination}
+use Rattle.msp_step.specs.Step.{effect}
+use Rattle.step_laws.specs.Effects.{Gives, IsNot, CopiesKeepStatus, MovesByLength}
+use Rattle.step_laws.proofs.Gives.{then_gives, then_keeps, write_gives, register_keeps, source_keeps}
+
+gives_more : {S A : Type 0} (x : Access S A) (P Q : A → Type 0) → ((a : A) → P a → Q a) → Gives x P → Gives x Q
+gives_more (Completed a t) P Q f h = f a h
+gives_more (Faulted e a t) P Q f h = tt
+
+-- a register other than SR
+status_keeps : (n : Reg) (r : Registers) (v : ℕ) → n ≢ reg.Sr → with_register r (register_number n) v 2 ≡ r 2
+status_keeps reg.Pc r v other = refl
+status_keeps reg.Sr r v other = absurd (other refl)
+status_keeps reg.R3 r v other = refl
+status_keeps (reg.Index b) r v other = register_keeps b r v
+
+store_keeps_status : {S : Type 0} (bus : BusModel S) (r : Registers) (w : Width) (extension : ℕ) (d : Dst) (v : ℕ) (s : S) → IsNot reg.Sr d → Gives (store bus r w (destination_location r extension d) v s) (λ y. y.0 2 ≡ r 2)
+store_keeps_status bus r w extension (dst.Reg n) v s other = status_keeps n r v other
+store_keeps_status bus r w extension (dst.Indexed b x) v s other = write_gives (bus.writes s _ w v) _ s _ (λ y. y.0 2 ≡ r 2) refl
+store_keeps_status bus r w extension (dst.Symbolic x) v s other = write_gives (bus.writes s _ w v) _ s _ (λ y. y.0 2 ≡ r 2) refl
+store_keeps_status bus r w extension (dst.Absolute a) v s other = write_gives (bus.writes s _ w v) _ s _ (λ y. y.0 2 ≡ r 2) refl
+
+pub mov_keeps : {S : Type 0} (bus : BusModel S) → CopiesKeepStatus bus Mov
+unfolding effect
+mov_keeps bus w x d other r s =
+    let first = sum16 (r 0) 2 in
+    let extension = sum16 first (2 * length (source_row x).extension) in
+    then_keeps (source bus (with_register r 0 first) w x s) _ (λ y. y.1 2 ≡ r 2) (λ y. y.0 2 ≡ r 2) (source_keeps bus (with_register r 0 first) w x s) (λ y t k.
+    let moved = with_register y.1 0 (sum16 extension (2 * length (destination_row d).extension)) in
+    gives_more (store bus moved w (destination_location moved extension d) y.0 t) (λ z. z.0 2 ≡ moved 2) (λ z. z.0 2 ≡ r 2) (λ z h. h ∙ k) (store_keeps_status bus moved w extension d y.0 t other))
+
+pub bic_keeps : {S : Type 0} (bus : BusModel S) → CopiesKeepStatus bus Bic
+unfolding effect
+bic_keeps bus w x d other r s =
+    let first = sum16 (r 0) 2 in
+    let extension = sum16 first (2 * length (source_row x).extension) in
+    then_keeps (source bus (with_register r 0 first) w x s) _ (λ y. y.1 2 ≡ r 2) (λ y. y.0 2 ≡ r 2) (source_keeps bus (with_register r 0 first) w x s) (λ y t k.
+    let moved = with_register y.1 0 (sum16 extension (2 * length (destination_row d).extension)) in
+    then_gives (load bus moved w (destination_location moved extension d) t) _ (λ z. z.0 2 ≡ r 2) (λ v u.
+    gives_more (store bus moved w (destination_location moved extension d) (operated Bic w v y.0 (flags_of (moved 2))).value u) (λ z. z.0 2 ≡ moved 2) (λ z. z.0 2 ≡ r 2) (λ z h. h ∙ k) (store_keeps_status bus moved w extension d _ u other)))
+
+pub bis_keeps : {S : Type 0} (bus : BusModel S) → CopiesKeepStatus bus Bis
+unfolding effect
+bis_keeps bus w x d other r s =
+    let first = sum16 (r 0) 2 in
+    let extension = sum16 first (2 * length (source_row x).extension) in
+    then_keeps (source bus (with_register r 0 first) w x s) _ (λ y. y.1 2 ≡ r 2) (λ y. y.0 2 ≡ r 2) (source_keeps bus (with_register r 0 first) w x s) (λ y t k.
+    let moved = with_register y.1 0 (sum16 extension (2 * length (destination_row d).extension)) in
+    then_gives (load bus moved w (destination_location moved extension d) t) _ (λ z. z.0 2 ≡ r 2) (λ v u.
+    gives_more (store bus moved w (destination_location moved extension d) (operated Bis w v y.0 (flags_of (moved 2))).value u) (λ z. z.0 2 ≡ moved 2) (λ z. z.0 2 ≡ r 2) (λ z h. h ∙ k) (store_keeps_status bus moved w extension d _ u other)))
+
+-- a register other than PC
+index_keeps_pc : (b : IndexRegister) (r : Registers) (v : ℕ) → with_register r (index_number b) v 0 ≡ r 0
+index_keeps_pc index.Sp r v = refl
+index_keeps_pc index.R4 r v = refl
+index_keeps_pc index.R5 r v = refl
+index_keeps_pc index.R6 r v = refl
+index_keeps_pc index.R7 r v = refl
+index_keeps_pc index.R8 r v = refl
+index_keeps_pc index.R9 r v = refl
+index_keeps_pc index.R10 r v = refl
+index_keeps_pc index.R11 r v = refl
+index_keeps_pc index.R12 r v = refl
+index_keeps_pc index.R13 r v = refl
+index_keeps_pc index.R14 r v = refl
+index_keeps_pc index.R15 r v = refl
+
+pc_keeps : (n : Reg) (r : Registers) (v : ℕ) → n ≢ reg.Pc → with_register r (register_number n) v 0 ≡ r 0
+pc_keeps reg.Pc r v other = absurd (other refl)
+pc_keeps reg.Sr r v other = refl
+pc_keeps reg.R3 r v other = refl
+pc_keeps (reg.Index b) r v other = index_keeps_pc b r v
+
+flags_keep_pc : (r : Registers) (f : Option Flags) → with_flags r f 0 ≡ r 0
+flags_keep_pc r None = refl
+flags_keep_pc r (Some f) = refl
+
+store_keeps_pc : {S : Type 0} (bus : BusModel S) (r q : Registers) (w : Width) (extension : ℕ) (d : Dst) (v : ℕ) (s : S) → IsNot reg.Pc d → Gives (store bus r w (destination_location q extension d) v s) (λ y. y.0 0 ≡ r 0)
+store_keeps_pc bus r q w extension (dst.Reg n) v s other = pc_keeps n r v other
+store_keeps_pc bus r q w extension (dst.Indexed b x) v s other = write_gives (bus.writes s _ w v) _ s _ (λ y. y.0 0 ≡ r 0) refl
+store_keeps_pc bus r q w extension (dst.Symbolic x) v s other = write_gives (bus.writes s _ w v) _ s _ (λ y. y.0 0 ≡ r 0) refl
+store_keeps_pc bus r q w extension (dst.Absolute a) v s other = write_gives (bus.writes s _ w v) _ s _ (λ y. y.0 0 ≡ r 0) refl
+
+finish_keeps_pc : {S : Type 0} (b : Bool) (bus : BusModel S) (r q : Registers) (w : Width) (extension : ℕ) (d : Dst) (v : ℕ) (s : S) → IsNot reg.Pc d → Gives (finish b bus r w (destination_location q extension d) v s) (λ y. y.0 0 ≡ r 0)
+finish_keeps_pc true bus r q w extension d v s other = store_keeps_pc bus r q w extension d v s other
+finish_keeps_pc false bus r q w extension d v s other = refl
+
+-- PC behind an instruction of words in front of it, from an even PC
+behind : (pc a b n : ℕ) → pc % 2 ≡ 0 → n ≡ a + b → sum16 (sum16 (sum16 pc 2) (2 * a)) (2 * b) / 2 * 2 ≡ (pc + 2 * suc n) % 0x10000
+behind pc a b n even is = omega arith
+
+pub moves_by_length : {S : Type 0} (bus : BusModel S) → MovesByLength bus
+unfolding effect
+moves_by_length bus op w x d other r s even =
+    let first = sum16 (r 0) 2 in
+    let a = length (source_row x).extension in
+    let b = length (destination_row d).extension in
+    let extension = sum16 first (2 * a) in
+    let P : Registers × Option Written → Type 0 = λ z. z.0 0 ≡ (r 0 + 2 * length (encoding (instr.Two op w x d))) % 0x10000 in
+    let at = behind (r 0) a b _ even (length-append (source_row x).extension (destination_row d).extension) in
+    then_gives (source bus (with_register r 0 first) w x s) (λ y t. after_source bus op w (destination_location (with_register y.1 0 (sum16 extension (2 * b))) extension d) y.0 (with_register y.1 0 (sum16 extension (2 * b))) t) P (λ y t.
+    let moved = with_register y.1 0 (sum16 extension (2 * b)) in
+    let l = destination_location moved extension d in
+    let o : ℕ → _ = λ v. operated op w v y.0 (flags_of (moved 2)) in
+    then_gives (destination_operand (reads_destination op) bus moved w l t) (λ v u. finish (writes_destination op) bus (with_flags moved (o v).flags) w l (o v).value u) P (λ v u.
+    gives_more (finish (writes_destination op) bus (with_flags moved (o v).flags) w l (o v).value u) (λ z. z.0 0 ≡ with_flags moved (o v).flags 0) P (λ z h. h ∙ flags_keep_pc moved (o v).flags ∙ at) (finish_keeps_pc (writes_destination op) bus (with_flags moved (o v).flags) moved w extension d (o v).value u other)))
