@@ -2,6 +2,7 @@
 use crate::run::{After, Before, run};
 use alpaca_cli::Status;
 use std::alloc::Global;
+use std::process::Abort;
 use std::test::Fail;
 
 const SUM: &str =
@@ -56,29 +57,35 @@ fn the_limit_is_10_000_transitions(rt: HostRuntime) -> Result<(), Fail> {
     Ok(())
 }
 
+// These words, with no file there.
+fn with_words<'a>(alloc: Global, words: &'a [&'a str]) -> Result<After, Fail> {
+    run(
+        alloc,
+        &Before {
+            words,
+            files: &[],
+            failing_reads: &[],
+            failing_writes: &[],
+        },
+    )
+}
+
+fn tells_the_usage(rt: &impl Abort, alloc: Global, words: &[&str]) -> Result<(), Fail> {
+    let after = with_words(alloc, words)?;
+    assert_eq!(rt; after.status.code(), 2);
+    assert!(rt; after.out.is_empty());
+    assert_eq!(rt; after.err.as_slice(), USAGE.as_bytes());
+    Ok(())
+}
+
 #[test]
 fn other_words_are_told_the_usage(rt: HostRuntime) -> Result<(), Fail> {
-    let lines: [&[&str]; 5] = [
-        &[],
-        &["mean", "s"],
-        &["mean", "s", "t", "t"],
-        &["mean", "s", "-t"],
-        &["try", "s", "t"],
-    ];
-    for words in lines {
-        let after = run(
-            rt.alloc(),
-            &Before {
-                words,
-                files: &[("s", SUM.as_bytes()), ("t", b"")],
-                failing_reads: &[],
-                failing_writes: &[],
-            },
-        )?;
-        assert_eq!(rt; after.status.code(), 2);
-        assert!(rt; after.out.is_empty());
-        assert_eq!(rt; after.err.as_slice(), USAGE.as_bytes());
-    }
+    let alloc = rt.alloc();
+    tells_the_usage(&rt, alloc, &[])?;
+    tells_the_usage(&rt, alloc, &["mean", "s"])?;
+    tells_the_usage(&rt, alloc, &["mean", "s", "t", "t"])?;
+    tells_the_usage(&rt, alloc, &["mean", "s", "-t"])?;
+    tells_the_usage(&rt, alloc, &["try", "s", "t"])?;
     Ok(())
 }
 
