@@ -76,7 +76,7 @@ register_keeps index.R13 r v = refl
 register_keeps index.R14 r v = refl
 register_keeps index.R15 r v = refl
 
-increment_keeps : (p : Operand) (r : Registers) (w : Width) → incremented r w p 2 ≡ r 2
+pub increment_keeps : (p : Operand) (r : Registers) (w : Width) → incremented r w p 2 ≡ r 2
 increment_keeps (mode.Increment b) r w = register_keeps b r (sum16 (r (index_number b)) (step_of w (index_number b)))
 increment_keeps (mode.Reg h) r w = refl
 increment_keeps (mode.Indexed b x) r w = refl

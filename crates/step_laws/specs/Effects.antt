@@ -2,7 +2,10 @@
 use Rattle.std.specs.Prelude.{◌≡◌, ◌≢◌, ℕ, ◌+◌, ◌*◌, ◌%◌, ◌<◌, true, length, None}
 use Rattle.alp_words.specs.declared.Width.{Width}
 use Rattle.alp_words.specs.Words.{operand}
+use Rattle.msp_isa.specs.declared.operands.Operand.{Operand}
+use Rattle.msp_isa.specs.declared.operands.Operand.TheVariants as mode
 use Rattle.msp_isa.specs.declared.operands.Src.{Src}
+use Rattle.msp_isa.specs.declared.registers.SourceRegister.TheVariants as source_register
 use Rattle.msp_isa.specs.declared.operands.Dst.{Dst}
 use Rattle.msp_isa.specs.declared.operands.Dst.TheVariants as dst
 use Rattle.msp_isa.specs.declared.registers.Reg.{Reg}
@@ -67,10 +70,23 @@ IsNot n (dst.Absolute a) = Unit {0}
 abbrev pub CopiesKeepStatus : {S : Type 0} → BusModel S → TwoOp → Type 0
 CopiesKeepStatus bus op = (w : Width) (x : Src) (d : Dst) → IsNot reg.Sr d → KeepsStatus bus (instr.Two op w x d)
 
--- an instruction of two operands moves PC by its length, where PC isn't its destination
-abbrev pub MovesByLength : {S : Type 0} → BusModel S → Type 0
-MovesByLength {S} bus = (op : TwoOp) (w : Width) (x : Src) (d : Dst) → IsNot reg.Pc d → (r : Registers) (s : S) → r 0 % 2 ≡ 0
-    → Gives (effect bus (instr.Two op w x d) r s) (λ y. y.0 0 ≡ (r 0 + 2 * length (encoding (instr.Two op w x d))) % 0x10000)
+-- SWPB keeps SR where it isn't its operand
+abbrev pub SwapKeepsStatus : {S : Type 0} → BusModel S → Type 0
+SwapKeepsStatus bus = (o : Operand) → o ≢ mode.Reg source_register.Sr → KeepsStatus bus (instr.One (one.Swpb o))
+
+-- an instruction moves PC by its length
+abbrev pub MovesOn : {S : Type 0} → BusModel S → Instr → Type 0
+MovesOn {S} bus i = (r : Registers) (s : S) → r 0 % 2 ≡ 0
+    → Gives (effect bus i r s) (λ y. y.0 0 ≡ (r 0 + 2 * length (encoding i)) % 0x10000)
+
+-- an instruction moves PC by its length, where PC isn't its destination
+pub record MovesByLength {S : Type 0} (bus : BusModel S) : Type 0 where
+  pub two : (op : TwoOp) (w : Width) (x : Src) (d : Dst) → IsNot reg.Pc d → MovesOn bus (instr.Two op w x d)
+  pub rrc : (w : Width) (o : Operand) → o ≢ mode.Reg source_register.Pc → MovesOn bus (instr.One (one.Rrc w o))
+  pub rra : (w : Width) (o : Operand) → o ≢ mode.Reg source_register.Pc → MovesOn bus (instr.One (one.Rra w o))
+  pub swpb : (o : Operand) → o ≢ mode.Reg source_register.Pc → MovesOn bus (instr.One (one.Swpb o))
+  pub sxt : (o : Operand) → o ≢ mode.Reg source_register.Pc → MovesOn bus (instr.One (one.Sxt o))
+  pub push : (w : Width) (x : Src) → MovesOn bus (instr.One (one.Push w x))
 
 -- what each register file keeps
 pub record IsValid (r : Registers) : Type 0 where

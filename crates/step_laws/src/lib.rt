@@ -4,7 +4,7 @@
 
 ghost use Rattle.msp_isa.specs.declared.instructions.TwoOp.TheVariants.{Cmp, Bit, Mov, Bic, Bis};
 ghost use Rattle.step_laws.specs.Alike.{CarriesAlike};
-ghost use Rattle.step_laws.specs.Effects.{ComparesOnly, CopiesKeepStatus, MovesByLength, MovesOnly, StatusIsTheResult, StatusStays, StaysValid};
+ghost use Rattle.step_laws.specs.Effects.{ComparesOnly, CopiesKeepStatus, MovesByLength, MovesOnly, SwapKeepsStatus, StatusIsTheResult, StatusStays, StaysValid};
 
 use msp_step::Bus;
 
@@ -39,15 +39,16 @@ pub fn flags_stay<B: Bus>()
     ensures { StatusStays B.model }
 {}
 
-/// MOV, BIC and BIS change no flag, where SR isn't their destination.
-#[tactic(auto, using(crate::proofs::Keeps::mov_keeps, crate::proofs::Keeps::bic_keeps, crate::proofs::Keeps::bis_keeps))]
+/// MOV, BIC, BIS and SWPB change no flag, where SR isn't their destination.
+#[tactic(auto, using(crate::proofs::Keeps::mov_keeps, crate::proofs::Keeps::bic_keeps, crate::proofs::Keeps::bis_keeps, crate::proofs::Keeps::swap_keeps))]
 pub fn copies_keep_flags<B: Bus>()
     ensures mov { CopiesKeepStatus B.model Mov }
     ensures bic { CopiesKeepStatus B.model Bic }
     ensures bis { CopiesKeepStatus B.model Bis }
+    ensures swpb { SwapKeepsStatus B.model }
 {}
 
-/// An instruction of two operands moves PC by its length, where PC isn't its destination.
+/// An instruction moves PC by its length, where PC isn't its destination; jumps, CALL and RETI write it.
 #[tactic(auto, using(crate::proofs::Keeps::moves_by_length))]
 pub fn moves_by_its_length<B: Bus>()
     ensures { MovesByLength B.model }
