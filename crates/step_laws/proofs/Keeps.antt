@@ -26,7 +26,7 @@ use Rattle.msp_step.specs.Step.{effect}
 use Rattle.step_laws.specs.Effects.{Gives, IsNot, CopiesKeepStatus, SwapKeepsStatus, MovesOn, MovesByLength}
 use Rattle.step_laws.proofs.Gives.{then_gives, then_keeps, write_gives, register_keeps, increment_keeps, source_keeps}
 
-gives_more : {S A : Type 0} (x : Access S A) (P Q : A → Type 0) → ((a : A) → P a → Q a) → Gives x P → Gives x Q
+pub gives_more : {S A : Type 0} (x : Access S A) (P Q : A → Type 0) → ((a : A) → P a → Q a) → Gives x P → Gives x Q
 gives_more (Completed a t) P Q f h = f a h
 gives_more (Faulted e a t) P Q f h = tt
 

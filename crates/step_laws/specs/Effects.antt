@@ -5,6 +5,7 @@ use Rattle.alp_words.specs.Words.{operand}
 use Rattle.msp_isa.specs.declared.operands.Operand.{Operand}
 use Rattle.msp_isa.specs.declared.operands.Operand.TheVariants as mode
 use Rattle.msp_isa.specs.declared.operands.Src.{Src}
+use Rattle.msp_isa.specs.declared.operands.Src.TheVariants as src
 use Rattle.msp_isa.specs.declared.registers.SourceRegister.TheVariants as source_register
 use Rattle.msp_isa.specs.declared.operands.Dst.{Dst}
 use Rattle.msp_isa.specs.declared.operands.Dst.TheVariants as dst
@@ -16,7 +17,7 @@ use Rattle.msp_isa.specs.declared.instructions.OneOp.TheVariants as one
 use Rattle.msp_isa.specs.declared.instructions.Condition.{Condition}
 use Rattle.msp_isa.specs.declared.instructions.Instr.{Instr}
 use Rattle.msp_isa.specs.declared.instructions.Instr.TheVariants as instr
-use Rattle.msp_isa.specs.Encoding.{encoding, source_row, destination_row}
+use Rattle.msp_isa.specs.Encoding.{encoding, index_number, register_number, source_row, destination_row}
 use Rattle.msp_step.specs.declared.operand.Location.TheVariants.{Register}
 use Rattle.msp_step.specs.Registers.{Registers, with_register}
 use Rattle.msp_step.specs.Access.{BusModel, Access, Completed, Faulted, then_do}
@@ -87,6 +88,33 @@ pub record MovesByLength {S : Type 0} (bus : BusModel S) : Type 0 where
   pub swpb : (o : Operand) → o ≢ mode.Reg source_register.Pc → MovesOn bus (instr.One (one.Swpb o))
   pub sxt : (o : Operand) → o ≢ mode.Reg source_register.Pc → MovesOn bus (instr.One (one.Sxt o))
   pub push : (w : Width) (x : Src) → MovesOn bus (instr.One (one.Push w x))
+
+-- an operand that doesn't raise this register
+abbrev pub DoesNotRaise : ℕ → Operand → Type 0
+DoesNotRaise n (mode.Increment b) = n ≢ index_number b
+DoesNotRaise n (mode.Reg h) = Unit {0}
+DoesNotRaise n (mode.Indexed b x) = Unit {0}
+DoesNotRaise n (mode.Symbolic x) = Unit {0}
+DoesNotRaise n (mode.Absolute a) = Unit {0}
+DoesNotRaise n (mode.Indirect p) = Unit {0}
+
+-- a source that doesn't raise this register
+abbrev pub SourceDoesNotRaise : ℕ → Src → Type 0
+SourceDoesNotRaise n (src.Operand o) = DoesNotRaise n o
+SourceDoesNotRaise n (src.Immediate v) = Unit {0}
+SourceDoesNotRaise n (src.Constant k) = Unit {0}
+
+-- a destination other than the register of this number
+abbrev pub DoesNotWrite : ℕ → Dst → Type 0
+DoesNotWrite n (dst.Reg m) = n ≢ register_number m
+DoesNotWrite n (dst.Indexed b x) = Unit {0}
+DoesNotWrite n (dst.Symbolic x) = Unit {0}
+DoesNotWrite n (dst.Absolute a) = Unit {0}
+
+-- an instruction of two operands keeps each register but PC, SR, the one that it raises and the one that it writes
+abbrev pub RegistersStay : {S : Type 0} → BusModel S → Type 0
+RegistersStay {S} bus = (n : ℕ) (op : TwoOp) (w : Width) (x : Src) (d : Dst) → n ≢ 0 → n ≢ 2 → SourceDoesNotRaise n x → DoesNotWrite n d
+    → (r : Registers) (s : S) → Gives (effect bus (instr.Two op w x d) r s) (λ y. y.0 n ≡ r n)
 
 -- what each register file keeps
 pub record IsValid (r : Registers) : Type 0 where

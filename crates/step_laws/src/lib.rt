@@ -4,7 +4,7 @@
 
 ghost use Rattle.msp_isa.specs.declared.instructions.TwoOp.TheVariants.{Cmp, Bit, Mov, Bic, Bis};
 ghost use Rattle.step_laws.specs.Alike.{CarriesAlike};
-ghost use Rattle.step_laws.specs.Effects.{ComparesOnly, CopiesKeepStatus, MovesByLength, MovesOnly, SwapKeepsStatus, StatusIsTheResult, StatusStays, StaysValid};
+ghost use Rattle.step_laws.specs.Effects.{ComparesOnly, CopiesKeepStatus, MovesByLength, MovesOnly, RegistersStay, SwapKeepsStatus, StatusIsTheResult, StatusStays, StaysValid};
 
 use msp_step::Bus;
 
@@ -52,6 +52,12 @@ pub fn copies_keep_flags<B: Bus>()
 #[tactic(auto, using(crate::proofs::Keeps::moves_by_length))]
 pub fn moves_by_its_length<B: Bus>()
     ensures { MovesByLength B.model }
+{}
+
+/// An instruction of two operands keeps each register but PC, SR, the one that it raises and the one that it writes.
+#[tactic(auto, using(crate::proofs::Others::registers_stay))]
+pub fn other_registers_stay<B: Bus>()
+    ensures { RegistersStay B.model }
 {}
 
 /// PC and SP stay even, SR below 0x200 and R3 0.
