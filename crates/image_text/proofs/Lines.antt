@@ -1,5 +1,5 @@
 -- The steps of reading, and the words of bytes.
-use Rattle.std.proofs.Common.{◌≡◌, ◌≤◌, ◌<◌, ℕ, suc, ◌+◌, ◌*◌, List, [], ◌∷◌, ◌++◌, length, drop, get_or, drop-cons, add-one, arith, if◌then◌else◌, refl, ap, sym, ◌∙◌, Bool, true, false, Option, Some, None, Result, Ok, Err, append_assoc}
+use Rattle.std.proofs.Common.{◌≡◌, ◌≤◌, ◌<◌, ℕ, suc, ◌+◌, ◌*◌, List, [], ◌∷◌, ◌++◌, length, drop, get_or, drop-cons, add-one, arith, ◌&&◌, refl, ap, sym, ◌∙◌, Bool, true, false, Option, None, Result, Ok, Err, append_assoc}
 use Rattle.std.specs.Prelude.{unwrap_or}
 use Rattle.image_text.proofs.Puts.{drop_end}
 use Rattle.text_parts.specs.Fields.{fields, no_fields}
@@ -7,15 +7,21 @@ use Rattle.image_text.specs.declared.fault.ImageFault.{ImageFault}
 use Rattle.image_text.specs.declared.fault.ImageFault.TheVariants as fault
 use Rattle.image_text.specs.Line.{line_says}
 use Rattle.image_text.specs.Memory.{Placed, step}
-use Rattle.image_text.specs.Reading.{read, unblank_from, goes_on, finish, Fails, ◌>>=◌, words_of}
+use Rattle.image_text.specs.Reading.{read, are_blank, goes_on, finish, Fails, ◌>>=◌, words_of}
 
-pub unblank_end : (n : ℕ) (ls : List (List ℕ)) → ls ≡ [] → unblank_from n ls ≡ None
-unfolding unblank_from
-unblank_end n ls e = rw e refl
+pub blank_end : (ls : List (List ℕ)) → ls ≡ [] → are_blank ls ≡ true
+unfolding are_blank
+blank_end ls e = rw e refl
 
-pub unblank_more : (n : ℕ) (ls rest : List (List ℕ)) (l : List ℕ) → ls ≡ l ∷ rest → unblank_from n ls ≡ (if no_fields (fields l) then unblank_from (n + 1) rest else Some n)
-unfolding unblank_from
-unblank_more n ls rest l e = rw e refl
+blank_by : (ls rest : List (List ℕ)) (l : List ℕ) → ls ≡ l ∷ rest → are_blank ls ≡ (no_fields (fields l) && are_blank rest)
+unfolding are_blank
+blank_by ls rest l e = rw e refl
+
+pub blank_not : (ls rest : List (List ℕ)) (l : List ℕ) (b : Bool) → ls ≡ l ∷ rest → b ≡ no_fields (fields l) → b ≡ false → are_blank ls ≡ false
+blank_not ls rest l b e h t = blank_by ls rest l e ∙ ap (λ b. b && are_blank rest) (sym h ∙ t)
+
+pub blank_more : (ls rest : List (List ℕ)) (l : List ℕ) (b : Bool) → ls ≡ l ∷ rest → b ≡ no_fields (fields l) → b ≡ true → are_blank rest ≡ are_blank ls
+blank_more ls rest l b e h t = sym (blank_by ls rest l e ∙ ap (λ b. b && are_blank rest) (sym h ∙ t))
 
 pub read_end : (n : ℕ) (p : Placed) (ls : List (List ℕ)) → ls ≡ [] → read n p ls ≡ Err (fault.BadLine n)
 unfolding read
@@ -50,12 +56,6 @@ pub read_quit : (n : ℕ) (p q : Placed) (ls rest : List (List ℕ)) (l : List �
 read_quit n p q ls rest l on e h t = read_more n p ls rest l e
     ∙ ap (λ r. r >>= λ o. goes_on o.0 (read (n + 1) o.1 rest) (finish (n + 1) o.1.memory rest)) h
     ∙ ap (λ b. goes_on b (read (n + 1) q rest) (finish (n + 1) q.memory rest)) t
-
-pub unblank_here : (n : ℕ) (ls rest : List (List ℕ)) (l : List ℕ) (b : Bool) → ls ≡ l ∷ rest → b ≡ no_fields (fields l) → b ≡ false → unblank_from n ls ≡ Some n
-unblank_here n ls rest l b e h t = unblank_more n ls rest l e ∙ ap (λ b. if b then unblank_from (n + 1) rest else Some n) (sym h ∙ t)
-
-pub unblank_next : (n : ℕ) (ls rest : List (List ℕ)) (l : List ℕ) (b : Bool) → ls ≡ l ∷ rest → b ≡ no_fields (fields l) → b ≡ true → unblank_from (n + 1) rest ≡ unblank_from n ls
-unblank_next n ls rest l b e h t = sym (unblank_more n ls rest l e ∙ ap (λ b. if b then unblank_from (n + 1) rest else Some n) (sym h ∙ t))
 
 add_two : (k : ℕ) → k + 2 ≡ suc (suc k)
 add_two k = omega arith

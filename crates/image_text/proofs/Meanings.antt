@@ -5,11 +5,15 @@ use Rattle.std.specs.Prelude.{is_some, unwrap_or, slice_get}
 use Rattle.text_parts.specs.Fields.{fields, no_fields}
 use Rattle.image_text.specs.declared.fault.ImageFault.{ImageFault}
 use Rattle.image_text.specs.declared.fault.ImageFault.TheVariants as fault
+use Rattle.image_map.specs.declared.fault.MapFault.{MapFault}
+use Rattle.image_map.specs.declared.fault.MapFault.TheVariants as map_fault
+use Rattle.image_map.specs.MapValue.{MapValue}
+use Rattle.image_map.specs.Reading.{MapLines, map_lines}
 use Rattle.image_text.specs.ImageValue.{ImageValue}
 use Rattle.image_text.specs.Line.{LineMeaning, nothing, address, bytes, quit, line_says}
 use Rattle.image_text.specs.Memory.{Placed, put_once, put_at, place, step}
-use Rattle.image_text.specs.Reading.{read, finish, no_map, empty, words_of, unblank_from, goes_on, Gives, ◌>>=◌}
-use Rattle.image_text.specs.Meaning.{moved, next_address, byte_from, or_else, byte_at, given, Fits, GoesOn, AllGoOn, AreLines, IsBadLine, IsOutside, IsTwice, FaultAt, EndsAt, IsImageOf, HasReset, AreBlank, FirstUnblank, IsMeaningOf}
+use Rattle.image_text.specs.Reading.{read, finish, are_blank, whole_map, image_behind, empty, words_of, goes_on, Gives, ◌>>=◌}
+use Rattle.image_text.specs.Meaning.{moved, next_address, byte_from, or_else, byte_at, given, Fits, GoesOn, AllGoOn, AreLines, IsBadLine, IsOutside, IsTwice, FaultAt, EndsAt, IsImageOf, HasReset, AreBlank, NotBlank, IsMeaningOf}
 use Rattle.image_text.proofs.Placing.{or_none, not_given, Puts, puts, Taken, taken}
 
 append_nil : {A : Type 0} (xs : List A) → xs ++ [] ≡ xs
@@ -155,33 +159,25 @@ bytes_meaning None done ls l ms bs p next h s e f = inl (fault_at done ls l ms I
 bytes_meaning (Some a) done ls l ms bs p next h s e f = bytes_by (nat_lt a 17408) (nat_lt 65536 (a + length bs)) done ls l ms bs p a next h s e (sym s.next ∙ f) refl refl
 
 -- the lines behind the end
-blank_by : (t : Bool) (o : Option ℕ) (n : ℕ) (ls : List (List ℕ)) (l : List ℕ) → no_fields (fields l) ≡ t → (o ≡ None → AreBlank ls) → (if t then o else Some n) ≡ None → AreBlank (l ∷ ls)
-blank_by true o n ls l e ih h = (e, ih h)
-blank_by false o n ls l e ih h = cc
+blank_by : (t : Bool) (ls : List (List ℕ)) (l : List ℕ) → no_fields (fields l) ≡ t → (are_blank ls ≡ true → AreBlank ls) → (t && are_blank ls) ≡ true → AreBlank (l ∷ ls)
+blank_by true ls l e ih h = (e, ih h)
+blank_by false ls l e ih h = cc
 
-are_blank : (n : ℕ) (ls : List (List ℕ)) → unblank_from n ls ≡ None → AreBlank ls
-unfolding unblank_from
-are_blank n [] h = tt
-are_blank n (l ∷ ls) h = blank_by (no_fields (fields l)) (unblank_from (n + 1) ls) n ls l refl (are_blank (n + 1) ls) h
+all_blank : (ls : List (List ℕ)) → are_blank ls ≡ true → AreBlank ls
+unfolding are_blank
+all_blank [] h = tt
+all_blank (l ∷ ls) h = blank_by (no_fields (fields l)) ls l refl (all_blank ls) h
 
-number_of : Option ℕ → ℕ
-number_of None = 0
-number_of (Some n) = n
+blank_test : (ls : List (List ℕ)) → AreBlank ls → are_blank ls ≡ true
+unfolding are_blank
+blank_test [] h = refl
+blank_test (l ∷ ls) h = rw h.0 (blank_test ls h.1)
 
-unblank_by : (t : Bool) (o : Option ℕ) (n m : ℕ) (ls : List (List ℕ)) (l : List ℕ) → no_fields (fields l) ≡ t → (o ≡ Some m → FirstUnblank ls (n + 1) m) → (if t then o else Some n) ≡ Some m → FirstUnblank (l ∷ ls) n m
-unfolding number_of
-unblank_by true o n m ls l e ih h =
-    let f = ih h in
-    let at : m ≡ n + 1 + length f.before = f.number in
-    record { before = l ∷ f.before; line = f.line; behind = f.behind; made = ap (λ r. l ∷ r) f.made; blank = (e, f.blank); unblank = f.unblank; number = omega arith }
-unblank_by false o n m ls l e ih h =
-    let same : n ≡ m = ap number_of h in
-    record { before = []; line = l; behind = ls; made = refl; blank = tt; unblank = e; number = omega arith }
-
-first_unblank : (n m : ℕ) (ls : List (List ℕ)) → unblank_from n ls ≡ Some m → FirstUnblank ls n m
-unfolding unblank_from
-first_unblank n m [] h = cc
-first_unblank n m (l ∷ ls) h = unblank_by (no_fields (fields l)) (unblank_from (n + 1) ls) n m ls l refl (first_unblank (n + 1) m ls) h
+not_blank : (ls : List (List ℕ)) → are_blank ls ≡ false → NotBlank ls
+not_blank ls e h = differ (sym (blank_test ls h) ∙ e)
+  where
+    differ : true ≡ false → ⊥
+    differ e = cc
 
 words_len : (n : ℕ) (m : List (Option ℕ)) → length m ≡ 2 * n → length (words_of m) ≡ n
 unfolding words_of
@@ -210,14 +206,26 @@ is_image ms p s =
           ∙ ap (λ o. unwrap_or (given ms (17408 + 2 * k)) 0 + 256 * unwrap_or o 0) (at_place ms p (2 * k + 1) s (omega arith) ∙ ap (given ms) (let z : 17408 + (2 * k + 1) ≡ 17408 + 2 * k + 1 = omega arith in z));
     }
 
-map_by : (o : Option ℕ) (ls rest : List (List ℕ)) (ms : List LineMeaning) (n : ℕ) (p : Placed) → State ms p → EndsAt ls ms rest n → HasReset ms → unblank_from n rest ≡ o
-    → IsMeaningOf ls (no_map (words_of p.memory) o)
-map_by None ls rest ms n p s end reset e = (ms, rest, n, end, reset, are_blank n rest e, is_image ms p s)
-map_by (Some m) ls rest ms n p s end reset e = (ms, rest, n, end, reset, first_unblank n m rest e)
+rest_by : (v : MapValue) (more : List (List ℕ)) (k : ℕ) (ls rest : List (List ℕ)) (ms : List LineMeaning) (n : ℕ) (p : Placed) → State ms p → EndsAt ls ms rest n → HasReset ms → NotBlank rest
+    → map_lines n rest ≡ Ok (record { value = v; rest = more; line = k })
+    → IsMeaningOf ls ((whole_map (Ok (record { value = v; rest = more; line = k })) >>= λ m. Ok (Some m)) >>= λ o. Ok (record { words = words_of p.memory; map = o }))
+rest_by v [] k ls rest ms n p s end reset b e = (ms, rest, n, end, reset, (k, e), is_image ms p s)
+rest_by v (l ∷ more) k ls rest ms n p s end reset b e = (ms, rest, n, end, reset, (b, inr (v, l, more, e)))
+
+whole_by : (r : Result MapLines MapFault) (ls rest : List (List ℕ)) (ms : List LineMeaning) (n : ℕ) (p : Placed) → State ms p → EndsAt ls ms rest n → HasReset ms → NotBlank rest → map_lines n rest ≡ r
+    → IsMeaningOf ls ((whole_map r >>= λ m. Ok (Some m)) >>= λ o. Ok (record { words = words_of p.memory; map = o }))
+whole_by (Ok t) ls rest ms n p s end reset b e = rest_by t.value t.rest t.line ls rest ms n p s end reset b e
+whole_by (Err (map_fault.BadMap m)) ls rest ms n p s end reset b e = (ms, rest, n, end, reset, (b, inl e))
+whole_by (Err map_fault.Memory) ls rest ms n p s end reset b e = tt
+
+map_by : (t : Bool) (ls rest : List (List ℕ)) (ms : List LineMeaning) (n : ℕ) (p : Placed) → State ms p → EndsAt ls ms rest n → HasReset ms → are_blank rest ≡ t
+    → IsMeaningOf ls ((if t then Ok None else whole_map (map_lines n rest) >>= λ m. Ok (Some m)) >>= λ o. Ok (record { words = words_of p.memory; map = o }))
+map_by true ls rest ms n p s end reset e = (ms, rest, n, end, reset, all_blank rest e, is_image ms p s)
+map_by false ls rest ms n p s end reset e = whole_by (map_lines n rest) ls rest ms n p s end reset (not_blank rest e) refl
 
 end_by : (t u : Bool) (ls rest : List (List ℕ)) (ms : List LineMeaning) (n : ℕ) (p : Placed) → State ms p → EndsAt ls ms rest n
-    → is_some (given ms 65534) ≡ t → is_some (given ms 65535) ≡ u → IsMeaningOf ls (if t && u then no_map (words_of p.memory) (unblank_from n rest) else Err fault.NoReset)
-end_by true true ls rest ms n p s end e f = map_by (unblank_from n rest) ls rest ms n p s end (e, f) refl
+    → is_some (given ms 65534) ≡ t → is_some (given ms 65535) ≡ u → IsMeaningOf ls (if t && u then image_behind n (words_of p.memory) rest else Err fault.NoReset)
+end_by true true ls rest ms n p s end e f = map_by (are_blank rest) ls rest ms n p s end (e, f) refl
 end_by true false ls rest ms n p s end e f = (ms, rest, n, end, inr (not_given (given ms 65535) f))
 end_by false u ls rest ms n p s end e f = (ms, rest, n, end, inl (not_given (given ms 65534) e))
 

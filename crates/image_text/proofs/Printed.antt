@@ -35,7 +35,7 @@ section_written place ws a b c e f =
     let head : List ℕ = 64 ∷ upper_hex4 (17408 + 2 * place) in
     f ∙ ap (λ x. x ++ rest) (e ∙ append_assoc a head (10 ∷ [])) ∙ append_assoc a (head ++ 10 ∷ []) rest
 
-printed_append : (xs ys : List (List (List ℕ))) → printed (xs ++ ys) ≡ printed xs ++ printed ys
+pub printed_append : (xs ys : List (List (List ℕ))) → printed (xs ++ ys) ≡ printed xs ++ printed ys
 unfolding printed
 printed_append [] ys = refl
 printed_append (x ∷ xs) ys = ap (λ r. (spaced x ++ 10 ∷ []) ++ r) (printed_append xs ys) ∙ sym (append_assoc (spaced x ++ 10 ∷ []) (printed xs) (printed ys))
@@ -64,3 +64,7 @@ pairs_written (w ∷ ws) a b c h e f = f ∙ ap (λ r. b ++ tail_text r) (behind
 pub nothing_written : (ws a : List ℕ) → length ws < 1 → a ≡ a ++ spaced (map upper_hex (bytes_in ws))
 nothing_written [] a h = sym (ap (λ x. a ++ x) pairs_none ∙ append_nil a)
 nothing_written (w ∷ ws) a h = absurd (omega arith)
+
+pub none_printed : (a : List ℕ) → a ++ printed [] ≡ a
+unfolding printed
+none_printed a = append_nil a

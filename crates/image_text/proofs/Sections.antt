@@ -8,7 +8,6 @@ use Rattle.image_text.specs.Reading.{read, finish}
 use Rattle.image_text.specs.Text.{upper_hex4, bytes_in, Section, section_lines, lines_of_sections}
 use Rattle.text_parts.specs.Groups.{groups}
 use Rattle.text_parts.specs.Hex.{upper_hex}
-use Rattle.text_parts.specs.Lines.{pieces}
 use Rattle.image_text.proofs.Lines.{read_next, read_quit}
 use Rattle.image_text.proofs.Places.{nones, nones_more}
 use Rattle.image_text.proofs.Back.{AreWords16, joined, joined_groups, are_groups, seam, read_groups, line_at, line_quit, upper_hex4_words, length_some}
@@ -64,19 +63,19 @@ read_run n p done r rest k gap left h room =
           ∙ ap (λ x. read (n + 1 + length gs) (seam (start ++ map Some x) left) (lines (printed rest))) e,
     )
 
-read_end : (n : ℕ) (p : Placed) → read n p (lines (printed (((113 ∷ []) ∷ []) ∷ []))) ≡ finish (n + 1) p.memory []
-unfolding printed pieces
-read_end n p = read_quit n p p _ [] _ false (lines_printed ((113 ∷ []) ∷ []) [] (omega arith, tt, tt)) (ap (step n p) line_quit) refl
+read_end : (n : ℕ) (p : Placed) (more : List (List (List ℕ))) → read n p (lines (printed (((113 ∷ []) ∷ []) ∷ more))) ≡ finish (n + 1) p.memory (lines (printed more))
+read_end n p more = read_quit n p p _ (lines (printed more)) _ false (lines_printed ((113 ∷ []) ∷ []) more (omega arith, tt, tt)) (ap (step n p) line_quit) refl
 
-pub read_runs : (n : ℕ) (p : Option ℕ) (done : List (Option ℕ)) (rs : List Section) (k : ℕ) (final : List (Option ℕ)) → Holds done rs k final → length done + k ≤ 48128
-    → (m : ℕ) × (read n (record { next = p; memory = done ++ nones k }) (lines (printed (lines_of_sections rs))) ≡ finish m final [])
+-- what is printed of sections is read up to what stands behind them
+pub read_runs : (n : ℕ) (p : Option ℕ) (done : List (Option ℕ)) (rs : List Section) (k : ℕ) (final : List (Option ℕ)) (more : List (List (List ℕ))) → Holds done rs k final → length done + k ≤ 48128
+    → (m : ℕ) × (read n (record { next = p; memory = done ++ nones k }) (lines (printed (lines_of_sections rs ++ more))) ≡ finish m final (lines (printed more)))
 unfolding lines_of_sections
-read_runs n p done [] k final h room = (n + 1, read_end n (record { next = p; memory = done ++ nones k }) ∙ ap (λ f. finish (n + 1) f []) (sym h))
-read_runs n p done (r ∷ rs) k final (gap, left, s, h) room =
-    let run = read_run n p done r (lines_of_sections rs) k gap left s room in
+read_runs n p done [] k final more h room = (n + 1, read_end n (record { next = p; memory = done ++ nones k }) more ∙ ap (λ f. finish (n + 1) f (lines (printed more))) (sym h))
+read_runs n p done (r ∷ rs) k final more (gap, left, s, h) room =
+    let run = read_run n p done r (lines_of_sections rs ++ more) k gap left s room in
     let now : List (Option ℕ) = (done ++ nones gap) ++ map Some (bytes_in r.words) in
     let len : length now ≡ length done + gap + length (bytes_in r.words) =
     omega (arith, length-append (done ++ nones gap) (map Some (bytes_in r.words)), length-append done (nones gap), length_nones gap, length_some (bytes_in r.words)) in
     let k_is : k ≡ gap + (length (bytes_in r.words) + left) = s.room in
-    let more = read_runs run.0 (Some (17408 + length now)) now rs left final h (omega arith) in
-    (more.0, run.1 ∙ more.1)
+    let later = read_runs run.0 (Some (17408 + length now)) now rs left final more h (omega arith) in
+    (later.0, ap (λ ls. read n (record { next = p; memory = done ++ nones k }) (lines (printed ls))) (append_assoc (section_lines r) (lines_of_sections rs) more) ∙ run.1 ∙ later.1)

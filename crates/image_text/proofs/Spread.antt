@@ -1,11 +1,16 @@
 -- The sections of words place these words, so an image that is printed reads back.
-use Rattle.std.proofs.Common.{◌≡◌, ◌<◌, ℕ, suc, zero, ◌+◌, ◌*◌, ◌/◌, ◌%◌, ◌==◌, ◌||◌, List, [], ◌∷◌, ◌++◌, length, map, get_or, arith, refl, ap, sym, subst, ◌∙◌, if◌then◌else◌, not, Bool, true, false, Option, Some, None, Ok, append_assoc, length-append, All, ◌^◌}
+use Rattle.std.proofs.Common.{◌≡◌, ◌<◌, ℕ, suc, zero, ◌+◌, ◌*◌, ◌/◌, ◌%◌, ◌==◌, ◌||◌, List, [], ◌∷◌, ◌++◌, length, map, get_or, arith, refl, ap, sym, subst, ◌∙◌, if◌then◌else◌, not, Bool, true, false, Option, Some, None, Ok, append_assoc, length-append, All, ◌^◌, codes}
 use Rattle.std.proofs.lemmas.Bool.Decides.{nat_tests}
 use Rattle.std.specs.Prelude.{is_some, unwrap_or}
-use Rattle.image_text.specs.Reading.{read, finish, words_of, empty, image_of, unblank_from}
-use Rattle.image_text.specs.Text.{is_shown, begins_shown, onto_section, sections, bytes_in, Section, lines_of_sections, text_of}
-use Rattle.text_parts.specs.Lines.{lines}
+use Rattle.image_text.specs.Reading.{read, finish, words_of, empty, image_of, are_blank, map_behind}
+use Rattle.image_text.specs.Text.{is_shown, begins_shown, onto_section, sections, bytes_in, Section, lines_of_sections, text_of, map_part, IsReadBack}
+use Rattle.text_parts.specs.Lines.{lines, pieces}
+use Rattle.text_parts.specs.Fields.{fields, no_fields}
 use Rattle.text_parts.specs.Printed.{printed}
+use Rattle.text_parts.proofs.Printing.{AreWords, fields_spaced, lines_printed}
+use Rattle.image_map.specs.MapValue.{MapValue}
+use Rattle.image_map.specs.Text.{map_fields, map_text}
+use Rattle.image_text.proofs.Printed.{printed_append}
 use Rattle.image_text.proofs.Places.{nones, append_nil}
 use Rattle.image_text.proofs.Back.{AreWords16, one_word, more_words}
 use Rattle.image_text.proofs.Sections.{Holds, read_runs}
@@ -171,15 +176,35 @@ unfolding empty
 empty_is zero = refl
 empty_is (suc n) = ap (λ r. None ∷ r) (empty_is n)
 
-no_lines : (n : ℕ) → unblank_from n [] ≡ None
-unfolding unblank_from
-no_lines n = refl
+no_lines : lines (printed []) ≡ []
+unfolding printed pieces
+no_lines = refl
 
-finished : (m : ℕ) (ws : List ℕ) → length ws ≡ 24064 → finish m (spread 0 ws) [] ≡ Ok (record { words = ws })
-finished m ws e =
+none_blank : are_blank [] ≡ true
+unfolding are_blank
+none_blank = refl
+
+not_blank : (ls rest : List (List ℕ)) (l : List ℕ) → ls ≡ l ∷ rest → no_fields (fields l) ≡ false → are_blank ls ≡ false
+unfolding are_blank
+not_blank ls rest l e h = rw (e, h) refl
+
+-- the lines of a map aren't blank
+map_lines_there : (m : MapValue) → are_blank (lines (map_text m)) ≡ false
+unfolding map_fields
+map_lines_there m =
+    let words : AreWords (codes "map" ∷ []) = (omega arith, omega arith, tt) in
+    not_blank _ _ _ (lines_printed (codes "map" ∷ []) _ words) (ap no_fields (fields_spaced (codes "map" ∷ []) words))
+
+-- what stands behind an image is read as its map
+behind_back : (o : Option MapValue) (n : ℕ) → IsReadBack o → map_behind n (lines (printed (map_part o))) ≡ Ok o
+behind_back None n h = rw (no_lines, none_blank) refl
+behind_back (Some m) n h = rw (map_lines_there m, (h n).1) refl
+
+finished : (m : ℕ) (ws : List ℕ) (o : Option MapValue) → length ws ≡ 24064 → IsReadBack o → finish m (spread 0 ws) (lines (printed (map_part o))) ≡ Ok (record { words = ws; map = o })
+finished m ws o e h =
     let last : is_shown (0 + 24063) (get_or ws 24063 0) ≡ true = last_shown (get_or ws 24063 0) in
     let given = shown_given 0 24063 ws (omega arith) last in
-    rw (given.0, given.1, no_lines m) (ap (λ ws. Ok (record { words = ws })) (words_back 0 ws))
+    rw (given.0, given.1, behind_back o m h) (ap (λ ws. Ok (record { words = ws; map = o })) (words_back 0 ws))
   where
     last_by : (t : Bool) → (t || true) ≡ true
     last_by true = refl
@@ -188,26 +213,28 @@ finished m ws e =
     last_shown : (w : ℕ) → is_shown (0 + 24063) w ≡ true
     last_shown w = last_by (not (w == 0))
 
-back : (k : ℕ) (ws : List ℕ) → AreWords16 ws → length ws ≡ 24064 → k ≡ 2 * length ws
-    → read 1 (record { next = None; memory = empty k }) (lines (text_of ws)) ≡ Ok (record { words = ws })
+back : (k : ℕ) (ws : List ℕ) (o : Option MapValue) → AreWords16 ws → length ws ≡ 24064 → IsReadBack o → k ≡ 2 * length ws
+    → read 1 (record { next = None; memory = empty k }) (lines (text_of ws ++ printed (map_part o))) ≡ Ok (record { words = ws; map = o })
 unfolding text_of
-back k ws h e f =
+back k ws o h e b f =
     let P : ℕ → Type 0 = λ k. Holds [] (sections 0 ws) k (spread 0 ws) in
-    let run = read_runs 1 None [] (sections 0 ws) k (spread 0 ws) (subst P (sym f) (runs_hold [] 0 ws h refl)) (omega arith) in
-    ap (λ m. read 1 (record { next = None; memory = m }) (lines (printed (lines_of_sections (sections 0 ws))))) (empty_is k) ∙ run.1 ∙ finished run.0 ws e
+    let run = read_runs 1 None [] (sections 0 ws) k (spread 0 ws) (map_part o) (subst P (sym f) (runs_hold [] 0 ws h refl)) (omega arith) in
+    ap (λ t. read 1 (record { next = None; memory = empty k }) (lines t)) (sym (printed_append (lines_of_sections (sections 0 ws)) (map_part o)))
+    ∙ ap (λ m. read 1 (record { next = None; memory = m }) (lines (printed (lines_of_sections (sections 0 ws) ++ map_part o)))) (empty_is k) ∙ run.1 ∙ finished run.0 ws o e b
 
 -- what is printed of an image is read as that image
-pub image_back : (ws : List ℕ) → AreWords16 ws → length ws ≡ 24064 → image_of (text_of ws) ≡ Ok (record { words = ws })
-image_back ws h e =
+pub image_back : (ws : List ℕ) (o : Option MapValue) → AreWords16 ws → length ws ≡ 24064 → IsReadBack o → image_of (text_of ws ++ printed (map_part o)) ≡ Ok (record { words = ws; map = o })
+image_back ws o h e b =
     let k : 48128 ≡ 2 * length ws = omega arith in
-    back 48128 ws h e k
+    back 48128 ws o h e b k
 
 words16 : (ws : List ℕ) → All (λ w. w < 2 ^ 16) ws → AreWords16 ws
 words16 [] h = tt
 words16 (w ∷ ws) h = (h 0 w (omega arith), words16 ws (λ i d l. h (suc i) d (omega arith)))
 
 -- the same, where the words are known by another list
-pub printed_back : (ws rest text : List ℕ) → rest ≡ ws → length rest ≡ 24064 → All (λ (w : ℕ). w < 2 ^ 16) rest → text ≡ text_of ws → image_of text ≡ Ok (record { words = ws })
-printed_back ws rest text e len ranges is =
-    let P : List ℕ → Type 0 = λ ws. image_of (text_of ws) ≡ Ok (record { words = ws }) in
-    ap image_of is ∙ subst P e (image_back rest (words16 rest ranges) len)
+pub printed_back : (ws rest text : List ℕ) (o : Option MapValue) → rest ≡ ws → length rest ≡ 24064 → All (λ (w : ℕ). w < 2 ^ 16) rest → IsReadBack o → text ≡ text_of ws ++ printed (map_part o)
+    → image_of text ≡ Ok (record { words = ws; map = o })
+printed_back ws rest text o e len ranges b is =
+    let P : List ℕ → Type 0 = λ ws. image_of (text_of ws ++ printed (map_part o)) ≡ Ok (record { words = ws; map = o }) in
+    ap image_of is ∙ subst P e (image_back rest o (words16 rest ranges) len b)

@@ -1,3 +1,4 @@
+pub mod Faults
 pub mod ImageValue
 pub mod Line
 pub mod Memory

@@ -1,8 +1,11 @@
 -- When lines are an image, and which fault is the first, said by the lines themselves.
-use Rattle.std.specs.Prelude.{◌≡◌, ℕ, ◌+◌, ◌-◌, ◌*◌, ◌<◌, ◌≤◌, ◌⊎◌, true, false, nat_le, if◌then◌else◌, List, [], ◌∷◌, ◌++◌, length, map, Option, Some, None, Ok, Err, Result, slice_get, slice_index, is_some, unwrap_or}
+use Rattle.std.specs.Prelude.{◌≡◌, ℕ, ◌+◌, ◌-◌, ◌*◌, ◌<◌, ◌≤◌, ◌⊎◌, true, nat_le, if◌then◌else◌, List, [], ◌∷◌, ◌++◌, length, map, Option, Some, None, Ok, Err, Result, slice_get, slice_index, is_some, unwrap_or}
 use Rattle.text_parts.specs.Fields.{fields, no_fields}
 use Rattle.image_text.specs.declared.fault.ImageFault.{ImageFault}
 use Rattle.image_text.specs.declared.fault.ImageFault.TheVariants as fault
+use Rattle.image_map.specs.declared.fault.MapFault.TheVariants as map_fault
+use Rattle.image_map.specs.MapValue.{MapValue}
+use Rattle.image_map.specs.Reading.{map_lines}
 use Rattle.image_text.specs.ImageValue.{ImageValue}
 use Rattle.image_text.specs.Line.{LineMeaning, nothing, address, bytes, quit, line_says}
 
@@ -113,22 +116,26 @@ abbrev pub AreBlank : List (List ℕ) → Type 0
 AreBlank [] = Unit {0}
 AreBlank (l ∷ ls) = (no_fields (fields l) ≡ true) × AreBlank ls
 
--- the first line from the n-th on that isn't blank is the m-th
-pub record FirstUnblank (ls : List (List ℕ)) (n m : ℕ) : Type 0 where
-  pub before : List (List ℕ)
-  pub line : List ℕ
-  pub behind : List (List ℕ)
-  pub made : ls ≡ before ++ line ∷ behind
-  pub blank : AreBlank before
-  pub unblank : no_fields (fields line) ≡ false
-  pub number : m ≡ n + length before
+-- lines behind an image, from the n-th on, say its map: there is none where all are blank, else all lines are those of the map
+abbrev pub IsMapOf : List (List ℕ) → ℕ → Option MapValue → Type 0
+IsMapOf ls n None = AreBlank ls
+IsMapOf ls n (Some m) = (k : ℕ) × (map_lines n ls ≡ Ok (record { value = m; rest = []; line = k }))
+
+-- a line of blanks isn't the only kind among these
+abbrev pub NotBlank : List (List ℕ) → Type 0
+NotBlank ls = AreBlank ls → ⊥
+
+-- lines from the n-th on break the form or a rule of maps first with line m: they break it there, or a map ends before line m, which is one more
+abbrev pub IsBadMap : List (List ℕ) → ℕ → ℕ → Type 0
+IsBadMap ls n m = NotBlank ls × ((map_lines n ls ≡ Err (map_fault.BadMap m))
+    ⊎ ((v : MapValue) × (l : List ℕ) × (rest : List (List ℕ)) × (map_lines n ls ≡ Ok (record { value = v; rest = l ∷ rest; line = m }))))
 
 -- what lines come to: an image that they are, or the first fault; nothing is said where memory was refused
 abbrev pub IsMeaningOf : List (List ℕ) → Result ImageValue ImageFault → Type 0
-IsMeaningOf ls (Ok v) = (ms : List LineMeaning) × (rest : List (List ℕ)) × (n : ℕ) × EndsAt ls ms rest n × HasReset ms × AreBlank rest × IsImageOf ms v.words
+IsMeaningOf ls (Ok v) = (ms : List LineMeaning) × (rest : List (List ℕ)) × (n : ℕ) × EndsAt ls ms rest n × HasReset ms × IsMapOf rest n v.map × IsImageOf ms v.words
 IsMeaningOf ls (Err (fault.BadLine n)) = FaultAt ls n IsBadLine ⊎ ((ms : List LineMeaning) × AreLines ls ms × (n ≡ length ls + 1))
 IsMeaningOf ls (Err (fault.OutsideFram n)) = FaultAt ls n IsOutside
 IsMeaningOf ls (Err (fault.Twice n)) = FaultAt ls n IsTwice
 IsMeaningOf ls (Err fault.NoReset) = (ms : List LineMeaning) × (rest : List (List ℕ)) × (n : ℕ) × EndsAt ls ms rest n × ((given ms 65534 ≡ None) ⊎ (given ms 65535 ≡ None))
-IsMeaningOf ls (Err (fault.BadMap m)) = (ms : List LineMeaning) × (rest : List (List ℕ)) × (n : ℕ) × EndsAt ls ms rest n × HasReset ms × FirstUnblank rest n m
+IsMeaningOf ls (Err (fault.BadMap m)) = (ms : List LineMeaning) × (rest : List (List ℕ)) × (n : ℕ) × EndsAt ls ms rest n × HasReset ms × IsBadMap rest n m
 IsMeaningOf ls (Err fault.Memory) = Unit {0}

@@ -4,6 +4,10 @@ use Rattle.text_parts.specs.Fields.{fields, no_fields}
 use Rattle.text_parts.specs.Lines.{lines}
 use Rattle.image_text.specs.declared.fault.ImageFault.{ImageFault}
 use Rattle.image_text.specs.declared.fault.ImageFault.TheVariants as fault
+use Rattle.image_map.specs.declared.fault.MapFault.{MapFault}
+use Rattle.image_map.specs.MapValue.{MapValue}
+use Rattle.image_map.specs.Reading.{MapLines, map_lines}
+use Rattle.image_text.specs.Faults.{image_fault}
 use Rattle.image_text.specs.ImageValue.{ImageValue}
 use Rattle.image_text.specs.Line.{line_says}
 use Rattle.image_text.specs.Memory.{Placed, step}
@@ -24,19 +28,27 @@ words_of [] = []
 words_of (l ∷ []) = []
 words_of (l ∷ h ∷ m) = (unwrap_or l 0 + 256 * unwrap_or h 0) ∷ words_of m
 
--- the number of the first line that isn't blank, from the n-th on
-unfoldable pub unblank_from : ℕ → List (List ℕ) → Option ℕ
-unblank_from n [] = None
-unblank_from n (l ∷ ls) = if no_fields (fields l) then unblank_from (n + 1) ls else Some n
+-- whether lines have only blanks
+unfoldable pub are_blank : List (List ℕ) → Bool
+are_blank [] = true
+are_blank (l ∷ ls) = no_fields (fields l) && are_blank ls
 
--- the image of words, if no line stands behind it
-abbrev pub no_map : List ℕ → Option ℕ → Result ImageValue ImageFault
-no_map words None = Ok (record { words = words })
-no_map words (Some n) = Err (fault.BadMap n)
+-- the map that lines are, where none stands behind its last
+abbrev pub whole_map : Result MapLines MapFault → Result MapValue ImageFault
+whole_map (Ok t) = if no_fields t.rest then Ok t.value else Err (fault.BadMap t.line)
+whole_map (Err e) = Err (image_fault e)
+
+-- the map that lines from the n-th on say: none where all are blank
+abbrev pub map_behind : ℕ → List (List ℕ) → Result (Option MapValue) ImageFault
+map_behind n ls = if are_blank ls then Ok None else whole_map (map_lines n ls) >>= λ m. Ok (Some m)
+
+-- the image of words, with the map that lines from the n-th on say
+abbrev pub image_behind : ℕ → List ℕ → List (List ℕ) → Result ImageValue ImageFault
+image_behind n words ls = map_behind n ls >>= λ o. Ok (record { words = words; map = o })
 
 -- the image of what is placed, with the lines from the n-th on behind it; places 48126 and 48127 are FFFE and FFFF
 abbrev pub finish : ℕ → List (Option ℕ) → List (List ℕ) → Result ImageValue ImageFault
-finish n m ls = if is_some (slice_index_or m 48126 None) && is_some (slice_index_or m 48127 None) then no_map (words_of m) (unblank_from n ls) else Err fault.NoReset
+finish n m ls = if is_some (slice_index_or m 48126 None) && is_some (slice_index_or m 48127 None) then image_behind n (words_of m) ls else Err fault.NoReset
 
 -- what comes later, or the end
 abbrev pub goes_on : {A : Type 0} → Bool → A → A → A

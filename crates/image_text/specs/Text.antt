@@ -1,6 +1,9 @@
--- An image as a TI-TXT text: its sections of words that are shown.
-use Rattle.std.specs.Prelude.{◌≡◌, ◌<◌, ℕ, suc, ◌+◌, ◌*◌, ◌/◌, ◌%◌, ◌==◌, ◌||◌, Bool, true, false, not, if◌then◌else◌, List, [], ◌∷◌, ◌++◌, length, map}
+-- An image as a TI-TXT text: its sections of words that are shown, then its map.
+use Rattle.std.specs.Prelude.{◌≡◌, ◌<◌, ℕ, suc, ◌+◌, ◌*◌, ◌/◌, ◌%◌, ◌==◌, ◌||◌, Bool, true, false, not, if◌then◌else◌, List, [], ◌∷◌, ◌++◌, length, map, Option, Some, None}
 use Rattle.alp_words.specs.Words.{word_bytes}
+use Rattle.image_map.specs.MapValue.{MapValue}
+use Rattle.image_map.specs.ReadsBack.{ReadsBack}
+use Rattle.image_map.specs.Text.{map_fields}
 use Rattle.text_parts.specs.Groups.{groups}
 use Rattle.text_parts.specs.Hex.{upper_hex}
 use Rattle.text_parts.specs.Printed.{printed}
@@ -51,6 +54,16 @@ lines_of_sections (s ∷ ss) = section_lines s ++ lines_of_sections ss
 -- the text of an image's words
 unfoldable pub text_of : List ℕ → List ℕ
 text_of ws = printed (lines_of_sections (sections 0 ws))
+
+-- the lines of a map, where there is one
+abbrev pub map_part : Option MapValue → List (List (List ℕ))
+map_part None = []
+map_part (Some m) = map_fields m
+
+-- what is printed of a map, if there is one, reads back
+abbrev pub IsReadBack : Option MapValue → Type 0
+IsReadBack None = Unit {0}
+IsReadBack (Some m) = ReadsBack m
 
 -- the two bytes of a word
 abbrev pub pair_text : ℕ → List ℕ

@@ -1,4 +1,5 @@
 //! Why a text is no image.
+use image_map::MapFault;
 use std::alloc::{AllocError, AllocFailed};
 use thiserror::Error;
 
@@ -17,7 +18,7 @@ pub enum ImageFault {
     /// A byte of the reset vector at 0xFFFE isn't given.
     #[error("no reset vector")]
     NoReset,
-    /// The line behind `q` is neither blank nor a map.
+    /// Lines behind `q` aren't all blank, and with this one they break the form of the map or one of its rules.
     #[error("line {line} breaks the form of the map")]
     BadMap { line: u32 },
     /// Memory was refused.
@@ -44,5 +45,19 @@ impl<T: Drop> From<AllocFailed<T>> for ImageFault {
 
     fn from(_error: AllocFailed<T>) -> Self {
         ImageFault::Memory
+    }
+}
+
+impl From<MapFault> for ImageFault {
+    ghost use Rattle.std.specs.Prelude.{◌≡◌};
+    ghost use Rattle.image_text.specs.Faults.{image_fault};
+
+    ghost from_gives = { λ f e. e ≡ image_fault f };
+
+    fn from(fault: MapFault) -> Self {
+        match fault {
+            MapFault::BadMap { line } => ImageFault::BadMap { line },
+            MapFault::Memory => ImageFault::Memory,
+        }
     }
 }

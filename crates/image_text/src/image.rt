@@ -1,25 +1,27 @@
 //! The type of images.
-ghost use Rattle.std.specs.Prelude.{◌≡◌, ◌<◌, ◌≤◌, ◌%◌, length, IfOk, slice_set};
-ghost use Rattle.image_text.specs.ImageValue.{word_at, place_of, zeros, is_fram_word};
+ghost use Rattle.std.specs.Prelude.{◌≡◌, ◌<◌, ◌≤◌, ◌%◌, length, IfOk, Some, None, option_map, slice_set};
+ghost use Rattle.image_text.specs.ImageValue.{word_at, place_of, zeros, HasTask};
 
+use image_map::{Map, is_fram_word};
 use std::alloc::{AllocError, Global};
 use std::marker::Model;
 
-/// Every word of the FRAM, 0x4400 to 0xFFFF.
+/// Every word of the FRAM, 0x4400 to 0xFFFF, and what is said of them, if it is.
 #[derive(Drop)]
 pub struct Image {
     words: Vec<u16>,
+    map: Option<Map>,
 }
 
 impl Model for Image {
     ghost use Rattle.std.specs.Prelude.{◌≡◌, length};
-    ghost use Rattle.image_text.specs.ImageValue.{ImageValue};
+    ghost use Rattle.image_text.specs.ImageValue.{ImageValue, HasTask};
 
     ghost Value = { ImageValue };
 
-    ghost view = { λ a. record { words = a.words.items } };
+    ghost view = { λ a. record { words = a.words.items; map = a.map } };
 
-    ghost invariant = { λ a. length a.words.items ≡ 24064 };
+    ghost invariant = { λ a. (length a.words.items ≡ 24064) × HasTask a.map };
 }
 
 // A vector of so many zeros.
@@ -31,27 +33,21 @@ fn zeros(alloc: Global, n: usize) -> Result<Vec<u16>, AllocError>
     vec![in alloc; 0; n]
 }
 
-fn is_fram_word(address: u16) -> bool
-    ensures { result ≡ is_fram_word address }
-{
-    address >= 0x4400 && address % 2 == 0
-}
-
 impl Image {
-    /// The image of 24,064 words, the first at 0x4400.
+    /// The image of 24,064 words, the first at 0x4400, without a map.
     pub fn of(words: Vec<u16>) -> Image
         requires { length words.items ≡ 24064 }
-        ensures { result ≡ record { words = words.items } }
+        ensures { result ≡ record { words = words.items; map = None } }
     {
-        Image { words }
+        Image { words, map: None }
     }
 
-    /// All words 0.
+    /// All words 0, and no map.
     pub fn blank(alloc: Global) -> Result<Image, AllocError>
-        ensures { IfOk result (λ image. image ≡ record { words = zeros 24064 }) }
+        ensures { IfOk result (λ image. image ≡ record { words = zeros 24064; map = None }) }
     {
         let words = zeros(alloc, 24064)?;
-        Ok(Image { words })
+        Ok(Image { words, map: None })
     }
 
     /// All words, the first at 0x4400.
@@ -80,5 +76,25 @@ impl Image {
         ensures { self.new ≡ record self.old { words = slice_set self.old.words (place_of address) w } }
     {
         self.words[(address as usize - 0x4400) / 2] = w;
+    }
+
+    /// The map, if the image has one.
+    pub fn map(&self) -> Option<&Map>
+        ensures value { option_map (λ m. m.now) result ≡ self.now.map }
+        ensures task { HasTask self.now.map }
+    {
+        self.map.as_ref()
+    }
+
+    /// The image with this map in place of its own.
+    pub fn with_map(self, map: Map) -> Image
+        requires { 0 < length map.tasks }
+        ensures { result ≡ record self { map = Some map } }
+    {
+        let Image { words, map: _ } = self;
+        Image {
+            words,
+            map: Some(map),
+        }
     }
 }

@@ -11,7 +11,7 @@ mod print;
 pub use fault::ImageFault;
 pub use image::Image;
 pub use parse::parse_image;
-pub use print::print_image;
+pub use print::{cut_section, print_image};
 
 #[cfg(test)]
 mod tests;

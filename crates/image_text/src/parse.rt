@@ -1,13 +1,15 @@
 //! Texts read as images.
-ghost use Rattle.std.specs.Prelude.{◌≡◌, ◌<◌, ◌+◌, ◌*◌, length, IfOk, unwrap_or, Some, None};
+ghost use Rattle.std.specs.Prelude.{◌≡◌, ◌<◌, ◌+◌, ◌*◌, length, IfOk, unwrap_or, Some, None, Ok};
+ghost use Rattle.image_map.specs.Reading.{map_lines};
 ghost use Rattle.text_parts.specs.Lines.{lines};
-ghost use Rattle.image_text.specs.Reading.{Gives, words_of, unblank_from, finish, image_of};
+ghost use Rattle.image_text.specs.Reading.{Gives, words_of, are_blank, whole_map, image_behind, finish, image_of};
 ghost use Rattle.image_text.specs.Meaning.{IsMeaningOf};
 
 use crate::builder::ImageBuilder;
 use crate::fault::ImageFault;
 use crate::image::Image;
 use alp_words::from_bytes;
+use image_map::{Map, MapText, read_map};
 use std::alloc::{AllocError, Global};
 use text_parts::{cut_line, is_blank_line};
 
@@ -31,21 +33,43 @@ fn words_of(alloc: Global, memory: &[Option<u8>]) -> Result<Vec<u16>, AllocError
     Ok(words)
 }
 
-// The number of the first line that isn't blank, where the first one has the number `n`.
-fn unblank_from(text: &[u8], n: u32) -> Option<u32>
-    requires { n + length text.now < 4294967296 }
-    ensures { result ≡ unblank_from n (lines text.now) }
+// Whether a text has only blank lines.
+fn are_blank(text: &[u8]) -> bool
+    ensures { result ≡ are_blank (lines text.now) }
 {
     let mut rest = text;
-    let mut at = n;
     while let Some((line, behind)) = cut_line(rest) {
         if !is_blank_line(line) {
-            return Some(at);
+            return false;
         }
-        at += 1;
         rest = behind;
     }
-    None
+    true
+}
+
+// The map that all lines from line `n` on are.
+fn whole_map(alloc: Global, text: &[u8], n: u32) -> Result<Map, ImageFault>
+    requires { n + length text.now < 4294967296 }
+    ensures value { Gives (λ m. m) result (whole_map (map_lines n (lines text.now))) }
+    ensures task { IfOk result (λ m. 0 < length m.tasks) }
+{
+    let MapText { map, rest, line } = read_map(alloc, text, n)?;
+    if cut_line(rest).is_some() {
+        return Err(ImageFault::BadMap { line });
+    }
+    Ok(map)
+}
+
+// The image with the map that lines from line `n` on say, if they aren't all blank.
+fn with_lines(alloc: Global, image: Image, text: &[u8], n: u32) -> Result<Image, ImageFault>
+    requires room { n + length text.now < 4294967296 }
+    requires map { image.map ≡ None }
+    ensures { Gives (λ i. i) result (image_behind n image.words (lines text.now)) }
+{
+    if are_blank(text) {
+        return Ok(image);
+    }
+    Ok(image.with_map(whole_map(alloc, text, n)?))
 }
 
 // The image of the bytes, where `rest` stands behind its `q`, from line `n` on.
@@ -57,17 +81,16 @@ fn finish(alloc: Global, memory: &[Option<u8>], rest: &[u8], n: u32) -> Result<I
     if memory[48126].is_none() || memory[48127].is_none() {
         return Err(ImageFault::NoReset);
     }
-    if let Some(line) = unblank_from(rest, n) {
-        return Err(ImageFault::BadMap { line });
-    }
-    Ok(Image::of(words_of(alloc, memory)?))
+    let image = Image::of(words_of(alloc, memory)?);
+    with_lines(alloc, image, rest, n)
 }
 
 /// The image that a TI-TXT text is, or its first fault: the one of the least line, and within a line `BadLine`, then
 /// `OutsideFram`, then `Twice`; behind all of these `NoReset`, then `BadMap`.
 ///
 /// LF and CRLF end a line. A line is blank, or `@` and 1 to 8 hexadecimal digits, the address of the next byte, or bytes of
-/// two hexadecimal digits with blanks between, or `q` in either case, behind which all lines are blank. Bytes that aren't given are 0.
+/// two hexadecimal digits with blanks between, or `q` in either case, behind which all lines are blank or the lines of a map
+/// stand at once (see `read_map`), and nothing behind them. Bytes that aren't given are 0.
 /// `Memory` is the answer where memory was refused, and only then.
 pub fn parse_image(alloc: Global, text: &[u8]) -> Result<Image, ImageFault>
     requires { length text.now < 4294967295 }

@@ -1,13 +1,15 @@
 //! Images written as texts.
-ghost use Rattle.std.specs.Prelude.{◌≡◌, ◌≤◌, ◌<◌, ◌+◌, ◌*◌, ◌^◌, ◌++◌, ◌∷◌, [], All, List, ℕ, Ok, OnOk, IfOk, MatchOption, map, length};
+ghost use Rattle.std.specs.Prelude.{◌≡◌, ◌≤◌, ◌<◌, ◌+◌, ◌*◌, ◌^◌, ◌++◌, ◌∷◌, [], All, List, ℕ, None, option_map, Ok, OnOk, IfOk, MatchOption, map, length};
 ghost use Rattle.text_parts.specs.Groups.{groups};
 ghost use Rattle.text_parts.specs.Hex.{upper_hex};
 ghost use Rattle.text_parts.specs.Printed.{spaced, printed};
-ghost use Rattle.image_text.specs.Text.{is_shown, sections, section_lines, lines_of_sections, text_of, upper_hex4, bytes_in, pair_text, tail_text, hidden_len, shown_len, AreSections};
+ghost use Rattle.image_text.specs.Text.{is_shown, sections, section_lines, lines_of_sections, text_of, upper_hex4, bytes_in, pair_text, tail_text, hidden_len, shown_len, map_part, IsReadBack, AreSections};
+ghost use Rattle.image_text.specs.ImageValue.{HasTask};
 ghost use Rattle.image_text.specs.Reading.{image_of};
 
 use crate::image::Image;
 use alp_words::to_bytes;
+use image_map::{Map, push_map};
 use std::alloc::{AllocError, Global};
 use text_parts::{cut_group, upper_hex};
 
@@ -44,8 +46,9 @@ fn shown_len(place: usize, words: &[u16]) -> usize
     words.len()
 }
 
-// The place and the words of the first section, and what stands behind it; `place` is that of the first word.
-fn cut_section(place: usize, words: &[u16]) -> Option<(usize, &[u16], &[u16])>
+/// The place and the words of the first section that is printed, and what stands behind it; `place` is that of the first word.
+/// Places are counted in words from 0x4400 on.
+pub fn cut_section(place: usize, words: &[u16]) -> Option<(usize, &[u16], &[u16])>
     requires { place + length words.now < 2 ^ 64 }
     ensures cut { MatchOption result (sections place words.now ≡ []) (λ cut.
         sections place words.now ≡ record { place = cut.0; words = cut.1.now } ∷ sections (cut.0 + length cut.1.now) cut.2.now) }
@@ -149,14 +152,28 @@ fn push_sections(out: &mut Vec<u8>, words: &[u16]) -> Result<(), AllocError>
     Ok(())
 }
 
+// Writes the lines of a map, if there is one.
+fn push_map_part(out: &mut Vec<u8>, map: Option<&Map>) -> Result<(), AllocError>
+    requires { HasTask (option_map (λ m. m.now) map) }
+    ensures text { OnOk result (out.new.items ≡ out.old.items ++ printed (map_part (option_map (λ m. m.now) map.entry))) }
+    ensures reads_back { OnOk result (IsReadBack (option_map (λ m. m.now) map.entry)) }
+{
+    match map {
+        None => Ok(()),
+        Some(map) => push_map(out, map),
+    }
+}
+
 /// The TI-TXT text of an image: for each section of words that aren't 0, as long as can be, `@` and its address, then
-/// lines of 16 bytes, the last shorter; then `q`. The word at 0xFFFE is printed always. The text reads back as the image.
+/// lines of 16 bytes, the last shorter; then `q`. The word at 0xFFFE is printed always. Behind it stand the lines of
+/// the map, if there is one. The text reads back as the image.
 pub fn print_image(alloc: Global, image: &Image) -> Result<Vec<u8>, AllocError>
-    ensures text { IfOk result (λ v. v.items ≡ text_of image.now.words) }
+    ensures text { IfOk result (λ v. v.items ≡ text_of image.now.words ++ printed (map_part image.now.map)) }
     ensures reads_back { IfOk result (λ v. image_of v.items ≡ Ok image.now) }
     ensures sections { AreSections 0 image.now.words (sections 0 image.now.words) }
 {
     let mut out = Vec::new(alloc);
     push_sections(&mut out, image.words())?;
+    push_map_part(&mut out, image.map())?;
     Ok(out)
 }

@@ -2,6 +2,7 @@
 ghost use Rattle.std.specs.Prelude.{◌<◌, length};
 
 use crate::{Image, ImageFault, parse_image, print_image};
+use image_map::{Map, Name, Place, RuntimeWords};
 use std::test::Fail;
 
 fn fault_of(rt: &HostRuntime, text: &[u8]) -> Option<ImageFault>
@@ -87,7 +88,76 @@ fn refuses(rt: HostRuntime) -> Result<(), Fail> {
     );
     assert_eq!(rt;
         fault_of(&rt, b"@FFFE\n01 44\nq\n\nmap\n"),
+        Some(ImageFault::BadMap { line: 4 })
+    );
+    assert_eq!(rt;
+        fault_of(&rt, b"@FFFE\n01 44\nq\nx\n"),
+        Some(ImageFault::BadMap { line: 4 })
+    );
+    assert_eq!(rt;
+        fault_of(&rt, b"@FFFE\n01\nq\nx\n"),
+        Some(ImageFault::NoReset)
+    );
+    assert_eq!(rt;
+        fault_of(&rt, b"@FFFE\n01 44\nq\nmap\n"),
         Some(ImageFault::BadMap { line: 5 })
     );
+    Ok(())
+}
+
+const MAPPED: &'static str =
+    "@4400\n92 43 04 50 B2 40 05 00 10 50 82 43 04 50 32 D0\n10 00\n@FFFE\n00 44\nq\nmap\nbound 9\nwords 5000 5002 5004 5006 5008 500A 500C 500E\nlist 5020 1\nemits 5030 1\nversions 5040 0\nscalar x unsigned 5010\ntask a\nend\n";
+
+#[test]
+fn reads_and_prints_a_map(rt: HostRuntime) -> Result<(), Fail> {
+    let text = MAPPED.as_bytes();
+    assert!(rt; text.len() < 1000);
+    let image = parse_image(rt.alloc(), text)?;
+    let printed = print_image(rt.alloc(), &image)?;
+    assert_eq!(rt; printed.as_slice(), text);
+    let map = image.map();
+    assert!(rt; map.is_some());
+    assert_eq!(rt; map.unwrap().bound(), 9);
+    let other = Image::blank(rt.alloc())?;
+    assert!(rt; other.map().is_none());
+    Ok(())
+}
+
+#[test]
+fn nothing_stands_behind_a_map(rt: HostRuntime) -> Result<(), Fail> {
+    let mut text = Vec::new(rt.alloc());
+    text.extend_from_slice(MAPPED.as_bytes())?;
+    text.push(b'\n')?;
+    assert!(rt; text.len() < 1000);
+    let fault = parse_image(rt.alloc(), text.as_slice()).err();
+    assert_eq!(rt; fault, Some(ImageFault::BadMap { line: 16 }));
+    Ok(())
+}
+
+#[test]
+fn an_image_takes_a_map(rt: HostRuntime) -> Result<(), Fail> {
+    let place = Place {
+        address: 0x5020,
+        capacity: 0,
+    };
+    let words = RuntimeWords {
+        current_task: 0x5000,
+        next_task: 0x5002,
+        gate: 0x5004,
+        list_length: 0x5006,
+        emit_count: 0x5008,
+        base: 0x500A,
+        sent_base: 0x500C,
+        version: 0x500E,
+    };
+    let mut map = Map::new(rt.alloc(), 7, words, place, place, place);
+    let a = Name::of(b"a");
+    assert!(rt; a.is_some());
+    let a = a.unwrap();
+    assert!(rt; map.takes_task(&a));
+    map.add_task(rt.alloc(), a)?;
+    let image = Image::blank(rt.alloc())?.with_map(map);
+    let map = image.map().unwrap();
+    assert_eq!(rt; map.bound(), 7);
     Ok(())
 }

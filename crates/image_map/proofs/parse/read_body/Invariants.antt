@@ -1,12 +1,12 @@
 use Rattle.std.proofs.Common.{◌≡◌, ◌+◌, ◌≤◌, length}
 use Rattle.text_parts.specs.Lines.{lines}
-use Rattle.image_text.specs.Reading.{unblank_from}
-use Rattle.image_text.proofs.parse.unblank_from.Given as goal
+use Rattle.image_map.specs.Reading.{body}
+use Rattle.image_map.proofs.parse.read_body.Given as goal
 
 abbrev pub invariant-loop-line : goal.invariant-loop-line
 invariant-loop-line l = record {
   number : l.at + length l.rest ≤ l.n + length l.text;
-  left : unblank_from l.at (lines l.rest) ≡ unblank_from l.n (lines l.text);
+  left : body l.at l.map (lines l.rest) ≡ body l.n l.fn.map (lines l.text);
 }
 
 abbrev pub decreases-loop-line : goal.decreases-loop-line

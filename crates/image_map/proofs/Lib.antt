@@ -1,0 +1,5 @@
+mod Rules
+mod Last
+mod Bodies
+pub mod ReadBack
+pub mod Printed

@@ -1,0 +1,421 @@
+-- What is printed of a map reads back as that map.
+use Rattle.std.proofs.Common.{◌≡◌, ◌≤◌, ◌<◌, ◌^◌, ℕ, suc, ◌+◌, ◌*◌, ◌/◌, ◌%◌, ◌==◌, ◌&&◌, ◌||◌, List, [], ◌∷◌, ◌++◌, length, map, arith, refl, ap, sym, subst, ◌∙◌, if◌then◌else◌, nat_lt, nat_le, nat_eq, not, Bool, true, false, Option, Some, None, Result, Ok, Err, append_assoc, length-append, All, codes}
+use Rattle.std.specs.Fmt.{decimal}
+use Rattle.std.specs.List.{list_all, starts_with}
+use Rattle.std.specs.Str.{bytes_eq}
+use Rattle.std.proofs.lemmas.Bool.Decides.{nat_tests}
+use Rattle.alp_text.specs.Numbers.{number_of}
+use Rattle.alp_text.proofs.Decimals.{AreDigits, decimal_spells, number_back}
+use Rattle.text_parts.specs.Lines.{lines, pieces}
+use Rattle.text_parts.specs.Fields.{is_blank}
+use Rattle.text_parts.specs.Hex.{upper_digit, upper_hex}
+use Rattle.text_parts.specs.Printed.{spaced, printed}
+use Rattle.text_parts.proofs.Printing.{Inked, AreWords, fields_spaced, lines_printed}
+use Rattle.image_map.specs.declared.fault.MapFault.{MapFault}
+use Rattle.image_map.specs.declared.fault.MapFault.TheVariants.{BadMap}
+use Rattle.image_map.specs.declared.parts.RuntimeWords.{RuntimeWords}
+use Rattle.image_map.specs.declared.parts.Place.{Place}
+use Rattle.image_map.specs.declared.parts.ValueType.{ValueType}
+use Rattle.image_map.specs.declared.parts.ValueType.TheVariants as value_type
+use Rattle.image_map.specs.declared.parts.Variable.{Variable}
+use Rattle.image_map.specs.Names.{is_name, is_letter, is_name_byte, name_of}
+use Rattle.image_map.specs.MapValue.{MapValue, TaskValue, IsMap, IsFramWord, AreFramWords, IsPlace, IsVariable, is_fram_word, fits, is_among, variable_names, task_names, are_different, are_scalars, is_scalar_of, last_privates, follow, onto_last, takes_variable, takes_task, takes_private, with_private}
+use Rattle.image_map.specs.Line.{single_from, line_fields, address_digit, address_of, fram_word, decimal_below, limited, type_of, bound_of, words_of, place_of, start_of}
+use Rattle.image_map.specs.Reading.{◌>>=◌, take_line, head, step, body, put_variable, put_task, put_private}
+use Rattle.image_map.specs.Named.{AreTaskNames}
+use Rattle.image_map.specs.ReadsBack.{ReadsBack}
+use Rattle.image_map.specs.Text.{address_text, runtime_fields, place_fields, type_text, sized_fields, variable_fields, private_fields, tasks_fields, head_fields, map_fields}
+use Rattle.image_map.proofs.Bodies.{body_next, body_done}
+
+-- fields as words of a line
+
+inked_digits : (ds : List ℕ) → AreDigits ds → Inked ds
+inked_digits [] h = tt
+inked_digits (b ∷ bs) h = (omega (arith, h.0), inked_digits bs h.2)
+
+digits_word : (ds : List ℕ) (ws : List (List ℕ)) → AreDigits ds → 0 < length ds → AreWords ws → AreWords (ds ∷ ws)
+digits_word [] ws h k l = absurd (omega arith)
+digits_word (b ∷ bs) ws h k l = (omega (arith, h.0), inked_digits bs h.2, l)
+
+decimal_word : (n : ℕ) (ws : List (List ℕ)) → n < 2 ^ 64 → AreWords ws → AreWords (decimal n ∷ ws)
+decimal_word n ws h l = let s = decimal_spells n h in digits_word (decimal n) ws s.digits s.some l
+
+upper_inked : (d : ℕ) → d < 16 → 36 < upper_digit d
+upper_inked d h = grind (arith, nat_tests)
+
+address_word : (a : ℕ) (ws : List (List ℕ)) → a < 65536 → AreWords ws → AreWords (address_text a ∷ ws)
+unfolding address_text upper_hex
+address_word a ws h l = (upper_inked (a / 256 / 16) (omega arith), (upper_inked (a / 256 % 16) (omega arith), (upper_inked (a % 256 / 16) (omega arith), (upper_inked (a % 256 % 16) (omega arith), tt))), l)
+
+both : (a b : Bool) → (a && b) ≡ true → (a ≡ true) × (b ≡ true)
+both true b h = (refl, h)
+both false b h = cc
+
+name_byte_inked : (b : ℕ) → is_name_byte b ≡ true → 36 < b
+unfolding is_letter
+name_byte_inked b h = grind (arith, nat_tests, h)
+
+name_inked : (bs : List ℕ) → list_all is_name_byte bs ≡ true → Inked bs
+name_inked [] h = tt
+name_inked (b ∷ bs) h = let p = both (is_name_byte b) (list_all is_name_byte bs) h in (name_byte_inked b p.0, name_inked bs p.1)
+
+name_word : (n : List ℕ) (ws : List (List ℕ)) → is_name n ≡ true → AreWords ws → AreWords (n ∷ ws)
+name_word [] ws h l = cc
+name_word (b ∷ bs) ws h l =
+    let p = both (nat_le (length (b ∷ bs)) 31) (is_letter b && list_all is_name_byte (b ∷ bs)) h in
+    let q = both (is_letter b) (list_all is_name_byte (b ∷ bs)) p.1 in
+    let i = name_inked (b ∷ bs) q.1 in
+    (i.0, i.1, l)
+
+type_word : (t : ValueType) (ws : List (List ℕ)) → AreWords ws → AreWords (type_text t ∷ ws)
+type_word value_type.Unsigned ws l = (omega arith, omega arith, l)
+type_word value_type.Int ws l = (omega arith, omega arith, l)
+
+-- a printed line has single spaces
+
+not_blank : (b : ℕ) → 36 < b → is_blank b ≡ false
+unfolding is_blank
+not_blank b h = grind (arith, nat_tests)
+
+single_word : (apart : Bool) (b : ℕ) (bs rest : List ℕ) → 36 < b → Inked bs → single_from apart (b ∷ (bs ++ rest)) ≡ single_from false rest
+single_word apart b [] rest h i = rw (not_blank b h) refl
+single_word apart b (c ∷ bs) rest h i = rw (not_blank b h) (single_word false c bs rest i.0 i.1)
+
+single_space : (rest : List ℕ) → single_from false (32 ∷ rest) ≡ single_from true rest
+unfolding is_blank
+single_space rest = refl
+
+append_nil : {A : Type 0} (xs : List A) → xs ++ [] ≡ xs
+append_nil [] = refl
+append_nil (x ∷ xs) = ap (λ r. x ∷ r) (append_nil xs)
+
+single_spaced : (w : List ℕ) (ws : List (List ℕ)) → AreWords (w ∷ ws) → single_from true (spaced (w ∷ ws)) ≡ true
+single_spaced [] ws h = absurd h
+single_spaced (b ∷ bs) [] h = ap (λ r. single_from true (b ∷ r)) (sym (append_nil bs)) ∙ single_word true b bs [] h.0 h.1
+single_spaced (b ∷ bs) (v ∷ vs) h = single_word true b bs (32 ∷ spaced (v ∷ vs)) h.0 h.1 ∙ single_space (spaced (v ∷ vs)) ∙ single_spaced v vs h.2
+
+line_back : (w : List ℕ) (ws : List (List ℕ)) → AreWords (w ∷ ws) → line_fields (spaced (w ∷ ws)) ≡ w ∷ ws
+unfolding line_fields
+line_back w ws h = rw (single_spaced w ws h) (fields_spaced (w ∷ ws) h)
+
+-- fields read back
+
+digit_back : (d : ℕ) → d < 16 → address_digit (upper_digit d) ≡ Some d
+unfolding address_digit
+digit_back d h = grind (arith, nat_tests)
+
+fram_test : (a : ℕ) → IsFramWord a → is_fram_word a ≡ true
+fram_test a h =
+    let l = h.low in
+    let e = h.even in
+    let low : nat_le 17408 a ≡ true = grind (arith, nat_tests) in
+    let even : (a % 2 == 0) ≡ true = grind (arith, nat_tests) in
+    rw (low, even) refl
+
+fram_back : (a b : ℕ) → a ≡ b → IsFramWord a → fram_word b ≡ Some a
+fram_back a b e h = ap fram_word (sym e) ∙ ap (λ t. if t then Some a else None) (fram_test a h)
+
+address_back : (a : ℕ) → IsFramWord a → address_of (address_text a) ≡ Some a
+unfolding address_text upper_hex
+address_back a h =
+    let high = h.high in
+    rw (digit_back (a / 256 / 16) (omega arith), digit_back (a / 256 % 16) (omega arith), digit_back (a % 256 / 16) (omega arith), digit_back (a % 256 % 16) (omega arith))
+    (fram_back a (4096 * (a / 256 / 16) + 256 * (a / 256 % 16) + 16 * (a % 256 / 16) + a % 256 % 16) (omega arith) h)
+
+no_x : (ds : List ℕ) → AreDigits ds → starts_with nat_eq ds (codes "0x") ≡ false
+no_x [] h = refl
+no_x (b ∷ []) h = grind (arith, nat_tests)
+no_x (b ∷ c ∷ bs) h = grind (arith, nat_tests)
+
+decimal_back : (limit n : ℕ) → n < limit → limit ≤ 2 ^ 64 → decimal_below limit (decimal n) ≡ Some n
+decimal_back limit n h k =
+    let small : nat_lt n limit ≡ true = grind (arith, nat_tests) in
+    let s = decimal_spells n (omega arith) in
+    ap (λ t. if t then None else limited limit (number_of (decimal n))) (no_x (decimal n) s.digits)
+    ∙ ap (limited limit) (number_back n (omega arith)) ∙ ap (λ t. if t then Some n else None) small
+
+type_back : (t : ValueType) → type_of (type_text t) ≡ Some t
+type_back value_type.Unsigned = refl
+type_back value_type.Int = refl
+
+name_back : (n : List ℕ) → is_name n ≡ true → name_of n ≡ Some n
+name_back n h = ap (λ t. if t then Some n else None) h
+
+-- the six lines before the variables
+
+word_map : AreWords ((codes "map") ∷ [])
+word_map = (omega arith, omega arith, tt)
+
+-- one line taken
+taken : {A : Type 0} (says : List (List ℕ) → Option A) (n : ℕ) (w : List ℕ) (ws : List (List ℕ)) (more : List (List (List ℕ))) (x : A) → AreWords (w ∷ ws) → says (w ∷ ws) ≡ Some x
+    → take_line says n (lines (printed ((w ∷ ws) ∷ more))) ≡ Ok (x, lines (printed more))
+taken says n w ws more x h e =
+    rw (lines_printed (w ∷ ws) more h, line_back w ws h, e) refl
+
+bound_back : (b : ℕ) → b < 2 ^ 32 → bound_of (codes "bound" ∷ decimal b ∷ []) ≡ Some b
+bound_back b h = rw (decimal_back (2 ^ 32) b h (omega arith)) refl
+
+words_back : (w : RuntimeWords) → AreFramWords w → words_of (runtime_fields w) ≡ Some w
+words_back w h = rw (
+  address_back w.current_task h.current_task,
+  address_back w.next_task h.next_task,
+  address_back w.gate h.gate,
+  address_back w.list_length h.list_length,
+  address_back w.emit_count h.emit_count,
+  address_back w.base h.base,
+  address_back w.sent_base h.sent_base,
+  address_back w.version h.version,
+) refl
+
+runtime_words : (w : RuntimeWords) → AreFramWords w → AreWords (runtime_fields w)
+runtime_words w h = (
+  omega arith,
+  omega arith,
+  address_word w.current_task _ h.current_task.high (address_word w.next_task _ h.next_task.high (address_word w.gate _ h.gate.high (address_word w.list_length _ h.list_length.high
+      (address_word w.emit_count _ h.emit_count.high (address_word w.base _ h.base.high (address_word w.sent_base _ h.sent_base.high (address_word w.version [] h.version.high tt))))))),
+)
+
+place_words : (p : Place) → IsPlace p → AreWords (address_text p.address ∷ decimal p.capacity ∷ [])
+place_words p h = let c = h.capacity in address_word p.address _ h.address.high (decimal_word p.capacity [] (omega arith) tt)
+
+list_back : (p : Place) → IsPlace p → place_of (codes "list") (place_fields (codes "list") p) ≡ Some p
+list_back p h = rw (address_back p.address h.address, decimal_back (2 ^ 32) p.capacity h.capacity (omega arith)) refl
+
+emits_back : (p : Place) → IsPlace p → place_of (codes "emits") (place_fields (codes "emits") p) ≡ Some p
+emits_back p h = rw (address_back p.address h.address, decimal_back (2 ^ 32) p.capacity h.capacity (omega arith)) refl
+
+versions_back : (p : Place) → IsPlace p → place_of (codes "versions") (place_fields (codes "versions") p) ≡ Some p
+versions_back p h = rw (address_back p.address h.address, decimal_back (2 ^ 32) p.capacity h.capacity (omega arith)) refl
+
+-- a map without its variables and tasks
+abbrev bare : MapValue → MapValue
+bare m = record m { variables = []; tasks = [] }
+
+head_back : (m : MapValue) (n : ℕ) (more : List (List (List ℕ))) → IsMap m → head n (lines (printed (head_fields m ++ more))) ≡ Ok (bare m, lines (printed more))
+head_back m n more h =
+    let b = h.bound in
+    let versions : List (List (List ℕ)) = place_fields (codes "versions") m.versions ∷ more in
+    let emits : List (List (List ℕ)) = place_fields (codes "emits") m.emits ∷ versions in
+    let list : List (List (List ℕ)) = place_fields (codes "list") m.list ∷ emits in
+    let words : List (List (List ℕ)) = runtime_fields m.words ∷ list in
+    let bound : List (List (List ℕ)) = (codes "bound" ∷ decimal m.bound ∷ []) ∷ words in
+    rw (
+      taken start_of n (codes "map") [] bound true word_map refl,
+      taken bound_of (n + 1) (codes "bound") (decimal m.bound ∷ []) words m.bound (omega arith, omega arith, decimal_word m.bound [] (omega arith) tt) (bound_back m.bound h.bound),
+      taken words_of (n + 2) (codes "words") _ list m.words (runtime_words m.words h.words) (words_back m.words h.words),
+      taken (place_of (codes "list")) (n + 3) (codes "list") _ emits m.list (omega arith, omega arith, place_words m.list h.list) (list_back m.list h.list),
+      taken (place_of (codes "emits")) (n + 4) (codes "emits") _ versions m.emits (omega arith, omega arith, place_words m.emits h.emits) (emits_back m.emits h.emits),
+      taken (place_of (codes "versions")) (n + 5) (codes "versions") _ more m.versions (omega arith, omega arith, place_words m.versions h.versions) (versions_back m.versions h.versions),
+    ) refl
+
+-- which lines the rules allow
+
+neither : (a b : Bool) → not (a || b) ≡ true → (not a ≡ true) × (not b ≡ true)
+neither true b h = cc
+neither false b h = (refl, h)
+
+not_or : (a b : Bool) → not a ≡ true → not b ≡ true → not (a || b) ≡ true
+not_or true b h k = cc
+not_or false b h k = k
+
+and : (a b : Bool) → a ≡ true → b ≡ true → (a && b) ≡ true
+and true b h k = k
+and false b h k = cc
+
+among_split : (name : List ℕ) (ns ms : List (List ℕ)) → not (is_among name (ns ++ ms)) ≡ true → (not (is_among name ns) ≡ true) × (not (is_among name ms) ≡ true)
+among_split name [] ms h = (refl, h)
+among_split name (n ∷ ns) ms h =
+    let p = neither (bytes_eq n name) (is_among name (ns ++ ms)) h in
+    let q = among_split name ns ms p.1 in
+    (not_or (bytes_eq n name) (is_among name ns) p.0 q.0, q.1)
+
+-- a name in the middle differs from all before it
+different_there : (before ns : List (List ℕ)) (n : List ℕ) (more : List (List ℕ)) → are_different before (ns ++ n ∷ more) ≡ true → not (is_among n (before ++ ns)) ≡ true
+different_there before [] n more h = ap (λ b. not (is_among n b)) (append_nil before) ∙ (both (not (is_among n before)) (are_different (before ++ n ∷ []) more) h).0
+different_there before (x ∷ ns) n more h =
+    ap (λ b. not (is_among n b)) (sym (append_assoc before (x ∷ []) ns))
+    ∙ different_there (before ++ x ∷ []) ns n more (both (not (is_among x before)) (are_different (before ++ x ∷ []) (ns ++ n ∷ more)) h).1
+
+map_append : {A B : Type 0} (f : A → B) (xs ys : List A) → map f (xs ++ ys) ≡ map f xs ++ map f ys
+map_append f [] ys = refl
+map_append f (x ∷ xs) ys = ap (λ r. f x ∷ r) (map_append f xs ys)
+
+-- a map with these variables alone
+abbrev with_variables : MapValue → List Variable → MapValue
+with_variables m vs = record m { variables = vs; tasks = [] }
+
+middle : {A : Type 0} (P : A → Type 0) (done rest : List A) (x : A) → All P (done ++ x ∷ rest) → P x
+middle P [] rest x h = h 0 x (omega arith)
+middle P (d ∷ done) rest x h = middle P done rest x (λ i e l. h (suc i) e (omega arith))
+
+takes_next_variable : (m : MapValue) (done rest : List Variable) (v : Variable) → m.variables ≡ done ++ v ∷ rest → IsMap m → takes_variable (with_variables m done) v ≡ true
+unfolding takes_variable
+takes_next_variable m done rest v e h =
+    let P : List Variable → Type 0 = λ vs. All IsVariable vs in
+    let is = middle IsVariable done rest v (subst P e h.variables) in
+    let len : length m.variables ≡ length done + suc (length rest) = ap length e ∙ length-append done (v ∷ rest) in
+    let few = h.few_variables in
+    let room : nat_lt (length done) 256 ≡ true = grind (arith, nat_tests) in
+    let names : variable_names m.variables ++ task_names m.tasks ≡ variable_names done ++ v.name ∷ (variable_names rest ++ task_names m.tasks) =
+    ap (λ vs. variable_names vs ++ task_names m.tasks) e ∙ ap (λ ns. ns ++ task_names m.tasks) (map_append (λ v. v.name) done (v ∷ rest))
+    ∙ append_assoc (variable_names done) (v.name ∷ variable_names rest) (task_names m.tasks) in
+    let fresh = different_there [] (variable_names done) v.name (variable_names rest ++ task_names m.tasks) (sym (ap (are_different []) names) ∙ h.different) in
+    rw (room, fram_test v.address is.address, is.fits) (not_or (is_among v.name (variable_names done)) false fresh refl)
+
+-- a map with these tasks alone
+abbrev with_tasks : MapValue → List TaskValue → MapValue
+with_tasks m ts = record m { tasks = ts }
+
+takes_next_task : (m : MapValue) (done rest : List TaskValue) (t : TaskValue) → m.tasks ≡ done ++ t ∷ rest → IsMap m → takes_task (with_tasks m done) t.name ≡ true
+unfolding takes_task
+takes_next_task m done rest t e h =
+    let len : length m.tasks ≡ length done + suc (length rest) = ap length e ∙ length-append done (t ∷ rest) in
+    let few = h.few_tasks in
+    let room : nat_lt (length done) 64 ≡ true = grind (arith, nat_tests) in
+    let vs : List (List ℕ) = variable_names m.variables in
+    let names : vs ++ task_names m.tasks ≡ (vs ++ task_names done) ++ t.name ∷ task_names rest =
+    ap (λ ts. vs ++ task_names ts) e ∙ ap (λ r. vs ++ r) (map_append (λ t. t.name) done (t ∷ rest)) ∙ sym (append_assoc vs (task_names done) (t.name ∷ task_names rest)) in
+    let fresh = different_there [] (vs ++ task_names done) t.name (task_names rest) (sym (ap (are_different []) names) ∙ h.different) in
+    let p = among_split t.name vs (task_names done) fresh in
+    rw room (not_or (is_among t.name vs) (is_among t.name (task_names done)) p.0 p.1)
+
+-- the first names are scalars in order where all are
+scalars_by : (t : Bool) (vs : List Variable) (n : List ℕ) (ns more : List (List ℕ)) → (are_scalars (ns ++ more) vs ≡ true → are_scalars ns vs ≡ true)
+    → (are_scalars (n ∷ (ns ++ more)) vs ≡ true → are_scalars (n ∷ ns) vs ≡ true)
+    → are_scalars (if t then ns ++ more else n ∷ (ns ++ more)) vs ≡ true → are_scalars (if t then ns else n ∷ ns) vs ≡ true
+scalars_by true vs n ns more f g h = f h
+scalars_by false vs n ns more f g h = g h
+
+scalars_front : (vs : List Variable) (ns more : List (List ℕ)) → are_scalars (ns ++ more) vs ≡ true → are_scalars ns vs ≡ true
+scalars_front vs [] more h = refl
+scalars_front [] (n ∷ ns) more h = h
+scalars_front (v ∷ vs) (n ∷ ns) more h = scalars_by (is_scalar_of n v) vs n ns more (scalars_front vs ns more) (scalars_front vs (n ∷ ns) more) h
+
+last_of : (done : List TaskValue) (t : TaskValue) → last_privates (done ++ t ∷ []) ≡ Some t.privates
+last_of [] t = refl
+last_of (d ∷ []) t = refl
+last_of (d ∷ e ∷ done) t = last_of (e ∷ done) t
+
+onto_of : (done : List TaskValue) (t : TaskValue) (n : List ℕ) → onto_last n (done ++ t ∷ []) ≡ done ++ record t { privates = t.privates ++ n ∷ [] } ∷ []
+onto_of [] t n = refl
+onto_of (d ∷ []) t n = refl
+onto_of (d ∷ e ∷ done) t n = ap (λ r. d ∷ r) (onto_of (e ∷ done) t n)
+
+-- a task of this name with these private scalars
+abbrev task_with : List ℕ → List (List ℕ) → TaskValue
+task_with name ns = record { name = name; privates = ns }
+
+takes_next_private : (m : MapValue) (done : List TaskValue) (name : List ℕ) (ns rest : List (List ℕ)) (n : List ℕ) → are_scalars (ns ++ n ∷ rest) m.variables ≡ true
+    → takes_private (with_tasks m (done ++ task_with name ns ∷ [])) n ≡ true
+unfolding takes_private
+takes_next_private m done name ns rest n h =
+    ap (λ o. follow o n m.variables) (last_of done (task_with name ns))
+    ∙ scalars_front m.variables (ns ++ n ∷ []) rest (ap (λ ns. are_scalars ns m.variables) (append_assoc ns (n ∷ []) rest) ∙ h)
+
+-- the lines of variables and tasks
+
+small_length : (a n : ℕ) → fits a (Some n) ≡ true → n < 2 ^ 16
+small_length a n h = let p = both (nat_lt 0 n) (nat_le (a + 2 * n) 65536) h in let k : nat_le (a + 2 * n) 65536 ≡ true = p.1 in grind (arith, nat_tests, k)
+
+sized_words : (o : Option ℕ) (name : List ℕ) (t : ValueType) (a : ℕ) → IsFramWord a → is_name name ≡ true → fits a o ≡ true → AreWords (sized_fields o name t a)
+sized_words None name t a h k f = (omega arith, omega arith, name_word name _ k (type_word t _ (address_word a [] h.high tt)))
+sized_words (Some n) name t a h k f = let l = small_length a n f in (omega arith, omega arith, name_word name _ k (type_word t _ (address_word a _ h.high (decimal_word n [] (omega arith) tt))))
+
+variable_step : (o : Option ℕ) (i : ℕ) (m : MapValue) (name : List ℕ) (t : ValueType) (a : ℕ) → IsFramWord a → is_name name ≡ true → fits a o ≡ true
+    → step i m (sized_fields o name t a) ≡ put_variable i m (Some (record { name = name; value_type = t; address = a; length = o }))
+variable_step None i m name t a h k f = rw (name_back name k, type_back t, address_back a h) refl
+variable_step (Some n) i m name t a h k f = rw (name_back name k, type_back t, address_back a h, decimal_back (2 ^ 16) n (small_length a n f) (omega arith)) refl
+
+-- what is put where the rules allow it
+abbrev put_if : Bool → ℕ → MapValue → Result (Bool × MapValue) MapFault
+put_if t i m = if t then Ok (true, m) else Err (BadMap i)
+
+put_by : (i : ℕ) (t : Bool) (m : MapValue) → t ≡ true → put_if t i m ≡ Ok (true, m)
+put_by i true m h = refl
+put_by i false m h = cc
+
+read_variables : (m : MapValue) → IsMap m → All (λ v. is_name v.name ≡ true) m.variables → (i : ℕ) (done rest : List Variable) (more : List (List (List ℕ))) → m.variables ≡ done ++ rest
+    → (k : ℕ) × (body i (with_variables m done) (lines (printed (map variable_fields rest ++ more))) ≡ body k (with_variables m m.variables) (lines (printed more)))
+read_variables m h names i done [] more e = (i, ap (λ vs. body i (with_variables m vs) (lines (printed more))) (sym (append_nil done) ∙ sym e))
+read_variables m h names i done (v ∷ rest) more e =
+    let P : List Variable → Type 0 = λ vs. All IsVariable vs in
+    let Q : List Variable → Type 0 = λ vs. All (λ v. is_name v.name ≡ true) vs in
+    let is = middle IsVariable done rest v (subst P e h.variables) in
+    let named = middle (λ v. is_name v.name ≡ true) done rest v (subst Q e names) in
+    let ls : List (List (List ℕ)) = map variable_fields rest ++ more in
+    let words : AreWords (variable_fields v) = sized_words v.length v.name v.value_type v.address is.address named is.fits in
+    let one = body_next i (with_variables m done) (with_variables m (done ++ v ∷ [])) _ _ _ true (lines_printed (variable_fields v) ls words)
+    (line_step i (with_variables m done) (variable_fields v) words (some_first v.length v.name v.value_type v.address)
+    ∙ variable_step v.length i (with_variables m done) v.name v.value_type v.address is.address named is.fits
+    ∙ put_by i (takes_variable (with_variables m done) v) (with_variables m (done ++ v ∷ [])) (takes_next_variable m done rest v e h)) refl in
+    let later = read_variables m h names (i + 1) (done ++ v ∷ []) rest more (e ∙ sym (append_assoc done (v ∷ []) rest)) in
+    (later.0, sym one ∙ later.1)
+  where
+    some_first : (o : Option ℕ) (name : List ℕ) (t : ValueType) (a : ℕ) → 0 < length (sized_fields o name t a)
+    some_first None name t a = omega arith
+    some_first (Some n) name t a = omega arith
+
+    line_step : (i : ℕ) (m : MapValue) (ws : List (List ℕ)) → AreWords ws → 0 < length ws → step i m (line_fields (spaced ws)) ≡ step i m ws
+    line_step i m [] h l = absurd (omega arith)
+    line_step i m (w ∷ ws) h l = ap (step i m) (line_back w ws h)
+
+read_privates : (m : MapValue) (done : List TaskValue) (name : List ℕ) (i : ℕ) (ns rest : List (List ℕ)) (more : List (List (List ℕ))) → are_scalars (ns ++ rest) m.variables ≡ true
+    → All (λ n. is_name n ≡ true) rest
+    → (k : ℕ) × (body i (with_tasks m (done ++ task_with name ns ∷ [])) (lines (printed (map private_fields rest ++ more)))
+    ≡ body k (with_tasks m (done ++ task_with name (ns ++ rest) ∷ [])) (lines (printed more)))
+read_privates m done name i ns [] more h names = (i, ap (λ ns. body i (with_tasks m (done ++ task_with name ns ∷ [])) (lines (printed more))) (sym (append_nil ns)))
+read_privates m done name i ns (n ∷ rest) more h names =
+    let named : is_name n ≡ true = names 0 n (omega arith) in
+    let now : MapValue = with_tasks m (done ++ task_with name ns ∷ []) in
+    let next : MapValue = with_tasks m (done ++ task_with name (ns ++ n ∷ []) ∷ []) in
+    let words : AreWords (private_fields n) = (omega arith, omega arith, name_word n [] named tt) in
+    let said : step i now (private_fields n) ≡ put_private i now (Some n) = rw (name_back n named) refl in
+    let one = body_next i now next _ _ _ true (lines_printed (private_fields n) (map private_fields rest ++ more) words)
+    (ap (step i now) (line_back (codes "private") (n ∷ []) words) ∙ said
+    ∙ put_by i (takes_private now n) (with_private now n) (takes_next_private m done name ns rest n h)
+    ∙ ap (λ ts. Ok (true, with_tasks m ts)) (onto_of done (task_with name ns) n)) refl in
+    let later = read_privates m done name (i + 1) (ns ++ n ∷ []) rest more (ap (λ ns. are_scalars ns m.variables) (append_assoc ns (n ∷ []) rest) ∙ h) (λ j d l. names (suc j) d (omega arith)) in
+    (later.0, sym one ∙ later.1 ∙ ap (λ ns. body later.0 (with_tasks m (done ++ task_with name ns ∷ [])) (lines (printed more))) (append_assoc ns (n ∷ []) rest))
+
+read_tasks : (m : MapValue) → IsMap m → All AreTaskNames m.tasks → (i : ℕ) (done rest : List TaskValue) (more : List (List (List ℕ))) → m.tasks ≡ done ++ rest
+    → (k : ℕ) × (body i (with_tasks m done) (lines (printed (tasks_fields rest ++ more))) ≡ body k m (lines (printed more)))
+read_tasks m h names i done [] more e = (i, ap (λ ts. body i (with_tasks m ts) (lines (printed more))) (sym (append_nil done) ∙ sym e))
+read_tasks m h names i done (t ∷ rest) more e =
+    let P : List TaskValue → Type 0 = λ ts. All AreTaskNames ts in
+    let Q : List TaskValue → Type 0 = λ ts. All (λ t. are_scalars t.privates m.variables ≡ true) ts in
+    let named = middle AreTaskNames done rest t (subst P e names) in
+    let scalars = middle (λ t. are_scalars t.privates m.variables ≡ true) done rest t (subst Q e h.privates) in
+    let now : MapValue = with_tasks m done in
+    let next : MapValue = with_tasks m (done ++ task_with t.name [] ∷ []) in
+    let privates : List (List (List ℕ)) = map private_fields t.privates in
+    let ls : List (List (List ℕ)) = privates ++ (tasks_fields rest ++ more) in
+    let line : List (List ℕ) = codes "task" ∷ t.name ∷ [] in
+    let words : AreWords line = (omega arith, omega arith, name_word t.name [] named.name tt) in
+    let said : step i now line ≡ put_task i now (Some t.name) = rw (name_back t.name named.name) refl in
+    let one = body_next i now next _ _ _ true (lines_printed line ls words)
+    (ap (step i now) (line_back (codes "task") (t.name ∷ []) words) ∙ said ∙ put_by i (takes_task now t.name) next (takes_next_task m done rest t e h)) refl in
+    let own = read_privates m done t.name (i + 1) [] t.privates (tasks_fields rest ++ more) scalars named.privates in
+    let later = read_tasks m h names own.0 (done ++ t ∷ []) rest more (e ∙ sym (append_assoc done (t ∷ []) rest)) in
+    (later.0, ap (λ r. body i now (lines (printed (line ∷ r)))) (append_assoc privates (tasks_fields rest) more) ∙ sym one ∙ own.1 ∙ later.1)
+
+read_end : (m : MapValue) (i : ℕ) → 0 < length m.tasks → body i m (lines (printed ((codes "end" ∷ []) ∷ []))) ≡ Ok (record { value = m; rest = lines (printed []); line = i + 1 })
+read_end m i h =
+    let words : AreWords (codes "end" ∷ []) = (omega arith, omega arith, tt) in
+    let some : nat_lt 0 (length m.tasks) ≡ true = grind (arith, nat_tests) in
+    let said : step i m (codes "end" ∷ []) ≡ Ok (false, m) = rw some refl in
+    body_done i m m _ _ _ false (lines_printed (codes "end" ∷ []) [] words) (ap (step i m) (line_back (codes "end") [] words) ∙ said) refl
+
+no_lines : lines (printed []) ≡ []
+unfolding printed pieces
+no_lines = refl
+
+-- the lines of a map read back
+pub reads_back : (m : MapValue) → IsMap m → All (λ v. is_name v.name ≡ true) m.variables → All AreTaskNames m.tasks → 0 < length m.tasks → ReadsBack m
+unfolding map_fields
+reads_back m h names tasks some n =
+    let end : List (List (List ℕ)) = (codes "end" ∷ []) ∷ [] in
+    let first = head_back m n (map variable_fields m.variables ++ (tasks_fields m.tasks ++ end)) h in
+    let second = read_variables m h names (n + 6) [] m.variables (tasks_fields m.tasks ++ end) refl in
+    let third = read_tasks m h tasks second.0 [] m.tasks end refl in
+    let last = read_end m third.0 some in
+    (third.0 + 1, ap (λ r. r >>= λ h. body (n + 6) h.0 h.1) first ∙ second.1 ∙ third.1 ∙ last ∙ ap (λ r. Ok (record { value = m; rest = r; line = third.0 + 1 })) no_lines)

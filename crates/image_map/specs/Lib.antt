@@ -1,0 +1,9 @@
+pub mod Names
+pub mod MapValue
+pub mod MapView
+pub mod Line
+pub mod Reading
+pub mod Read
+pub mod Text
+pub mod Named
+pub mod ReadsBack

@@ -1,0 +1,129 @@
+-- What the lines of a map say. One blank parts the fields of a line.
+use Rattle.std.specs.Prelude.{ℕ, ◌+◌, ◌-◌, ◌*◌, ◌^◌, ◌==◌, ◌&&◌, ◌||◌, Bool, true, false, not, nat_le, nat_lt, nat_eq, if◌then◌else◌, List, [], ◌∷◌, Option, Some, None, Ok, Err, Result, codes}
+use Rattle.std.specs.Str.{bytes_eq}
+use Rattle.std.specs.List.{starts_with}
+use Rattle.alp_text.specs.Numbers.{number_of}
+use Rattle.alp_text.specs.declared.numbers.NumberFault.{NumberFault}
+use Rattle.text_parts.specs.Fields.{fields, is_blank, no_fields}
+use Rattle.image_map.specs.declared.parts.RuntimeWords.{RuntimeWords}
+use Rattle.image_map.specs.declared.parts.Place.{Place}
+use Rattle.image_map.specs.declared.parts.ValueType.{ValueType}
+use Rattle.image_map.specs.declared.parts.ValueType.TheVariants as value_type
+use Rattle.image_map.specs.declared.parts.Variable.{Variable}
+use Rattle.image_map.specs.Names.{name_of}
+use Rattle.image_map.specs.MapValue.{is_fram_word}
+
+infixl 10 ◌>>?◌
+-- the second step behind the first, where there is a value
+abbrev pub ◌>>?◌ : {A B : Type 0} → Option A → (A → Option B) → Option B
+(Some x) >>? f = f x
+None >>? f = None
+
+-- whether each blank of a line is a space with another byte before and behind it; `apart` says whether a blank stands before, or nothing
+abbrev pub single_from : Bool → List ℕ → Bool
+single_from apart [] = not apart
+single_from apart (b ∷ bs) = if is_blank b && (apart || not (b == 32)) then false else single_from (is_blank b) bs
+
+-- the fields of a line in which one space parts them; none of another line
+unfoldable pub line_fields : List ℕ → List (List ℕ)
+line_fields line = if single_from true line then fields line else []
+
+-- the value, where nothing stands behind it
+abbrev pub alone : {A : Type 0} → List (List ℕ) → A → Option A
+alone fs x = if no_fields fs then Some x else None
+
+-- the value of a digit of an address: upper case
+unfoldable pub address_digit : ℕ → Option ℕ
+address_digit b = if nat_le 48 b && nat_le b 57 then Some (b - 48)
+    else (if nat_le 65 b && nat_le b 70 then Some (b - 55)
+    else None)
+
+-- an even address of the FRAM
+abbrev pub fram_word : ℕ → Option ℕ
+fram_word a = if is_fram_word a then Some a else None
+
+-- an address: four hexadecimal digits, even and in the FRAM
+abbrev pub address_of : List ℕ → Option ℕ
+address_of [] = None
+address_of (a ∷ []) = None
+address_of (a ∷ b ∷ []) = None
+address_of (a ∷ b ∷ c ∷ []) = None
+address_of (a ∷ b ∷ c ∷ d ∷ []) = address_digit a >>? λ a. address_digit b >>? λ b. address_digit c >>? λ c. address_digit d >>? λ d.
+    fram_word (4096 * a + 256 * b + 16 * c + d)
+address_of (a ∷ b ∷ c ∷ d ∷ e ∷ ds) = None
+
+-- the number, where it is below a limit
+abbrev pub limited : ℕ → Result ℕ NumberFault → Option ℕ
+limited limit (Ok n) = if nat_lt n limit then Some n else None
+limited limit (Err e) = None
+
+-- a number in decimal digits, below a limit; leading zeros are fine
+abbrev pub decimal_below : ℕ → List ℕ → Option ℕ
+decimal_below limit field = if starts_with nat_eq field (codes "0x") then None else limited limit (number_of field)
+
+-- how a variable's words are read
+abbrev pub type_of : List ℕ → Option ValueType
+type_of field = if bytes_eq field (codes "unsigned") then Some value_type.Unsigned
+    else (if bytes_eq field (codes "int") then Some value_type.Int else None)
+
+-- the first field as an address, and the others
+abbrev pub next_address : List (List ℕ) → Option (ℕ × List (List ℕ))
+next_address [] = None
+next_address (f ∷ fs) = address_of f >>? λ a. Some (a, fs)
+
+-- the first field as a number, and the others
+abbrev pub next_number : List (List ℕ) → Option (ℕ × List (List ℕ))
+next_number [] = None
+next_number (f ∷ fs) = decimal_below (2 ^ 32) f >>? λ n. Some (n, fs)
+
+-- the first field as the length of an array, and the others; a length of 65536 or more doesn't fit the FRAM
+abbrev pub next_length : List (List ℕ) → Option (ℕ × List (List ℕ))
+next_length [] = None
+next_length (f ∷ fs) = decimal_below (2 ^ 16) f >>? λ n. Some (n, fs)
+
+-- the first field as a name, and the others
+abbrev pub next_name : List (List ℕ) → Option (List ℕ × List (List ℕ))
+next_name [] = None
+next_name (f ∷ fs) = name_of f >>? λ n. Some (n, fs)
+
+-- the first field as a type, and the others
+abbrev pub next_type : List (List ℕ) → Option (ValueType × List (List ℕ))
+next_type [] = None
+next_type (f ∷ fs) = type_of f >>? λ t. Some (t, fs)
+
+-- what stands behind a word that begins a line
+abbrev pub behind : List ℕ → List (List ℕ) → Option (List (List ℕ))
+behind word [] = None
+behind word (f ∷ fs) = if bytes_eq f word then Some fs else None
+
+-- `map`
+abbrev pub start_of : List (List ℕ) → Option Bool
+start_of fs = behind (codes "map") fs >>? λ fs. alone fs true
+
+-- `bound B`
+abbrev pub bound_of : List (List ℕ) → Option ℕ
+bound_of fs = behind (codes "bound") fs >>? λ fs. next_number fs >>? λ n. alone n.1 n.0
+
+-- `words CUR NEXT GATE CLN EN BASE SB VER`
+abbrev pub words_of : List (List ℕ) → Option RuntimeWords
+words_of fs = behind (codes "words") fs >>? λ fs. next_address fs >>? λ cur. next_address cur.1 >>? λ next. next_address next.1 >>? λ gate.
+    next_address gate.1 >>? λ cln. next_address cln.1 >>? λ en. next_address en.1 >>? λ base. next_address base.1 >>? λ sb. next_address sb.1 >>? λ ver.
+    alone ver.1 (record { current_task = cur.0; next_task = next.0; gate = gate.0; list_length = cln.0; emit_count = en.0; base = base.0; sent_base = sb.0; version = ver.0 })
+
+-- `list ADDRESS N`, `emits ADDRESS N` or `versions ADDRESS N`, by the first word
+abbrev pub place_of : List ℕ → List (List ℕ) → Option Place
+place_of word fs = behind word fs >>? λ fs. next_address fs >>? λ a. next_number a.1 >>? λ n. alone n.1 (record { address = a.0; capacity = n.0 })
+
+-- `NAME TYPE ADDRESS`
+abbrev pub scalar_of : List (List ℕ) → Option Variable
+scalar_of fs = next_name fs >>? λ n. next_type n.1 >>? λ t. next_address t.1 >>? λ a.
+    alone a.1 (record { name = n.0; value_type = t.0; address = a.0; length = None })
+
+-- `NAME TYPE ADDRESS N`
+abbrev pub array_of : List (List ℕ) → Option Variable
+array_of fs = next_name fs >>? λ n. next_type n.1 >>? λ t. next_address t.1 >>? λ a. next_length a.1 >>? λ l.
+    alone l.1 (record { name = n.0; value_type = t.0; address = a.0; length = Some l.0 })
+
+-- `NAME`
+abbrev pub lone_name : List (List ℕ) → Option (List ℕ)
+lone_name fs = next_name fs >>? λ n. alone n.1 n.0

@@ -1,0 +1,145 @@
+-- What a map is, its rules, and what a line may add to it.
+use Rattle.std.specs.Prelude.{◌≡◌, ℕ, ◌+◌, ◌*◌, ◌%◌, ◌^◌, ◌==◌, ◌<◌, ◌≤◌, ◌&&◌, ◌||◌, Bool, true, false, nat_lt, nat_le, not, if◌then◌else◌, List, [], ◌∷◌, ◌++◌, length, map, Option, Some, None, is_none, All}
+use Rattle.std.specs.List.{list_any}
+use Rattle.std.specs.Str.{bytes_eq}
+use Rattle.image_map.specs.declared.parts.RuntimeWords.{RuntimeWords}
+use Rattle.image_map.specs.declared.parts.Place.{Place}
+use Rattle.image_map.specs.declared.parts.Variable.{Variable}
+
+-- a task and the names of its private scalars
+pub record TaskValue : Type 0 where
+  pub name : List ℕ
+  pub privates : List (List ℕ)
+
+-- a map: the bound of a transition in cycles, the addresses of the runtime's words, the places of commit list, emits and
+-- versions, then variables and tasks in order of declaration
+pub record MapValue : Type 0 where
+  pub bound : ℕ
+  pub words : RuntimeWords
+  pub list : Place
+  pub emits : Place
+  pub versions : Place
+  pub variables : List Variable
+  pub tasks : List TaskValue
+
+-- whether a word of the FRAM stands at an address below 10000
+abbrev pub is_fram_word : ℕ → Bool
+is_fram_word a = nat_le 17408 a && (a % 2 == 0)
+
+-- whether the words from an address on are all there: those of an array, of which there is one at least
+abbrev pub fits : ℕ → Option ℕ → Bool
+fits a None = true
+fits a (Some n) = nat_lt 0 n && nat_le (a + 2 * n) 65536
+
+abbrev pub is_among : List ℕ → List (List ℕ) → Bool
+is_among name names = list_any (λ other. bytes_eq other name) names
+
+abbrev pub variable_names : List Variable → List (List ℕ)
+variable_names vs = map (λ v. v.name) vs
+
+abbrev pub task_names : List TaskValue → List (List ℕ)
+task_names ts = map (λ t. t.name) ts
+
+-- whether a name is one of a variable or of a task
+abbrev pub is_used : MapValue → List ℕ → Bool
+is_used m name = is_among name (variable_names m.variables) || is_among name (task_names m.tasks)
+
+-- whether a variable may be the next one: no task stands yet, and there is room for one more
+unfoldable pub takes_variable : MapValue → Variable → Bool
+takes_variable m v = nat_le (length m.tasks) 0 && (nat_lt (length m.variables) 256 && (is_fram_word v.address && (fits v.address v.length && not (is_used m v.name))))
+
+-- whether a name may be the next task's
+unfoldable pub takes_task : MapValue → List ℕ → Bool
+takes_task m name = nat_lt (length m.tasks) 64 && not (is_used m name)
+
+-- whether a variable is the scalar of this name
+abbrev pub is_scalar_of : List ℕ → Variable → Bool
+is_scalar_of name v = is_none v.length && bytes_eq v.name name
+
+-- the names that are left behind a variable: all but the first, where that is the variable's
+abbrev pub names_behind : List (List ℕ) → Variable → List (List ℕ)
+names_behind [] v = []
+names_behind (n ∷ ns) v = if is_scalar_of n v then ns else n ∷ ns
+
+-- whether names are names of scalars in order of declaration
+abbrev pub are_scalars : List (List ℕ) → List Variable → Bool
+are_scalars [] vs = true
+are_scalars (n ∷ ns) [] = false
+are_scalars (n ∷ ns) (v ∷ vs) = are_scalars (names_behind (n ∷ ns) v) vs
+
+-- the private scalars of the last task
+abbrev pub last_privates : List TaskValue → Option (List (List ℕ))
+last_privates [] = None
+last_privates (t ∷ []) = Some t.privates
+last_privates (t ∷ u ∷ ts) = last_privates (u ∷ ts)
+
+abbrev pub follow : Option (List (List ℕ)) → List ℕ → List Variable → Bool
+follow None name vs = false
+follow (Some ns) name vs = are_scalars (ns ++ name ∷ []) vs
+
+-- whether a name may be the next private scalar of the last task
+unfoldable pub takes_private : MapValue → List ℕ → Bool
+takes_private m name = follow (last_privates m.tasks) name m.variables
+
+-- a map with one variable more
+abbrev pub with_variable : MapValue → Variable → MapValue
+with_variable m v = record m { variables = m.variables ++ v ∷ [] }
+
+-- a map with one task more
+abbrev pub with_task : MapValue → List ℕ → MapValue
+with_task m name = record m { tasks = m.tasks ++ record { name = name; privates = [] } ∷ [] }
+
+-- tasks of which the last has one private scalar more
+abbrev pub onto_last : List ℕ → List TaskValue → List TaskValue
+onto_last name [] = []
+onto_last name (t ∷ []) = record t { privates = t.privates ++ name ∷ [] } ∷ []
+onto_last name (t ∷ u ∷ ts) = t ∷ onto_last name (u ∷ ts)
+
+-- a map whose last task has one private scalar more
+abbrev pub with_private : MapValue → List ℕ → MapValue
+with_private m name = record m { tasks = onto_last name m.tasks }
+
+-- an even address of the FRAM
+pub record IsFramWord (a : ℕ) : Type 0 where
+  pub low : 17408 ≤ a
+  pub high : a < 65536
+  pub even : a % 2 ≡ 0
+
+-- each word of the runtime stands at an even address of the FRAM
+pub record AreFramWords (w : RuntimeWords) : Type 0 where
+  pub current_task : IsFramWord w.current_task
+  pub next_task : IsFramWord w.next_task
+  pub gate : IsFramWord w.gate
+  pub list_length : IsFramWord w.list_length
+  pub emit_count : IsFramWord w.emit_count
+  pub base : IsFramWord w.base
+  pub sent_base : IsFramWord w.sent_base
+  pub version : IsFramWord w.version
+
+-- a place at an even address of the FRAM; its items needn't fit behind it
+pub record IsPlace (p : Place) : Type 0 where
+  pub address : IsFramWord p.address
+  pub capacity : p.capacity < 2 ^ 32
+
+-- a variable at an even address of the FRAM, whose words all stand in the FRAM
+pub record IsVariable (v : Variable) : Type 0 where
+  pub address : IsFramWord v.address
+  pub fits : fits v.address v.length ≡ true
+
+-- each name differs from all before it
+abbrev pub are_different : List (List ℕ) → List (List ℕ) → Bool
+are_different before [] = true
+are_different before (n ∷ ns) = not (is_among n before) && are_different (before ++ n ∷ []) ns
+
+-- the rules of a map
+pub record IsMap (m : MapValue) : Type 0 where
+  pub bound : m.bound < 2 ^ 32
+  pub words : AreFramWords m.words
+  pub list : IsPlace m.list
+  pub emits : IsPlace m.emits
+  pub versions : IsPlace m.versions
+  pub variables : All IsVariable m.variables
+  pub few_variables : length m.variables ≤ 256
+  pub few_tasks : length m.tasks ≤ 64
+  pub different : are_different [] (variable_names m.variables ++ task_names m.tasks) ≡ true
+  pub privates : All (λ t. are_scalars t.privates m.variables ≡ true) m.tasks

@@ -1,0 +1,6 @@
+-- A map as a value.
+use Rattle.image_map.specs.declared.map.Map.TheInside.{Inside}
+use Rattle.image_map.specs.MapValue.{MapValue}
+
+abbrev pub map_of : Inside → MapValue
+map_of m = record { bound = m.bound; words = m.words; list = m.list; emits = m.emits; versions = m.versions; variables = m.variables.items; tasks = m.tasks.items }

@@ -1,0 +1,88 @@
+-- What lines say as a map: line by line, the map so far, or the first line that breaks the form or a rule.
+use Rattle.std.specs.Prelude.{◌≡◌, ℕ, ◌+◌, ◌&&◌, Bool, true, false, nat_lt, if◌then◌else◌, List, [], ◌∷◌, length, Option, Some, None, Result, Ok, Err, codes}
+use Rattle.std.specs.Str.{bytes_eq}
+use Rattle.text_parts.specs.Fields.{no_fields}
+use Rattle.image_map.specs.declared.fault.MapFault.{MapFault}
+use Rattle.image_map.specs.declared.fault.MapFault.TheVariants.{BadMap, Memory}
+use Rattle.image_map.specs.declared.parts.Variable.{Variable}
+use Rattle.image_map.specs.MapValue.{MapValue, takes_variable, with_variable, takes_task, with_task, takes_private, with_private}
+use Rattle.image_map.specs.Line.{line_fields, start_of, bound_of, words_of, place_of, scalar_of, array_of, lone_name}
+
+infixl 10 ◌>>=◌
+-- the second step behind the first, where that has no fault
+abbrev pub ◌>>=◌ : {A B : Type 0} → Result A MapFault → (A → Result B MapFault) → Result B MapFault
+(Ok x) >>= f = f x
+(Err e) >>= f = Err e
+
+-- what the n-th line says, and the lines behind it
+abbrev pub said : {A : Type 0} → ℕ → Option A → List (List ℕ) → Result (A × List (List ℕ)) MapFault
+said n None ls = Err (BadMap n)
+said n (Some x) ls = Ok (x, ls)
+
+-- what the first line says, which is the n-th, and the lines behind it
+abbrev pub take_line : {A : Type 0} → (List (List ℕ) → Option A) → ℕ → List (List ℕ) → Result (A × List (List ℕ)) MapFault
+take_line says n [] = Err (BadMap n)
+take_line says n (l ∷ ls) = said n (says (line_fields l)) ls
+
+-- the six lines before the variables, of which the first is the n-th, and the lines behind them
+abbrev pub head : ℕ → List (List ℕ) → Result (MapValue × List (List ℕ)) MapFault
+head n ls = take_line start_of n ls >>= λ start. take_line bound_of (n + 1) start.1 >>= λ bound. take_line words_of (n + 2) bound.1 >>= λ words.
+    take_line (place_of (codes "list")) (n + 3) words.1 >>= λ list. take_line (place_of (codes "emits")) (n + 4) list.1 >>= λ emits.
+    take_line (place_of (codes "versions")) (n + 5) emits.1 >>= λ versions.
+    Ok (record { bound = bound.0; words = words.0; list = list.0; emits = emits.0; versions = versions.0; variables = []; tasks = [] }, versions.1)
+
+-- the map with a variable of the n-th line
+abbrev pub put_variable : ℕ → MapValue → Option Variable → Result (Bool × MapValue) MapFault
+put_variable n m None = Err (BadMap n)
+put_variable n m (Some v) = if takes_variable m v then Ok (true, with_variable m v) else Err (BadMap n)
+
+-- the map with a task of the n-th line
+abbrev pub put_task : ℕ → MapValue → Option (List ℕ) → Result (Bool × MapValue) MapFault
+put_task n m None = Err (BadMap n)
+put_task n m (Some name) = if takes_task m name then Ok (true, with_task m name) else Err (BadMap n)
+
+-- the map with a private scalar of the n-th line
+abbrev pub put_private : ℕ → MapValue → Option (List ℕ) → Result (Bool × MapValue) MapFault
+put_private n m None = Err (BadMap n)
+put_private n m (Some name) = if takes_private m name then Ok (true, with_private m name) else Err (BadMap n)
+
+-- the map behind the n-th line, whose fields these are, and whether lines of the map follow
+abbrev pub step : ℕ → MapValue → List (List ℕ) → Result (Bool × MapValue) MapFault
+step n m [] = Err (BadMap n)
+step n m (word ∷ fs) =
+    if bytes_eq word (codes "scalar") then put_variable n m (scalar_of fs)
+    else (if bytes_eq word (codes "array") then put_variable n m (array_of fs)
+    else (if bytes_eq word (codes "task") then put_task n m (lone_name fs)
+    else (if bytes_eq word (codes "private") then put_private n m (lone_name fs)
+    else (if bytes_eq word (codes "end") && (no_fields fs && nat_lt 0 (length m.tasks)) then Ok (false, m)
+    else Err (BadMap n)))))
+
+-- a map, the lines behind it, and the number of the first of them
+pub record MapLines : Type 0 where
+  pub value : MapValue
+  pub rest : List (List ℕ)
+  pub line : ℕ
+
+-- what comes later, or the end
+abbrev pub goes_on : {A : Type 0} → Bool → A → A → A
+goes_on true later end = later
+goes_on false later end = end
+
+-- the lines of variables and tasks up to `end`, from the n-th on, behind a map
+unfoldable pub body : ℕ → MapValue → List (List ℕ) → Result MapLines MapFault
+body n m [] = Err (BadMap n)
+body n m (l ∷ ls) = step n m (line_fields l) >>= λ o. goes_on o.0 (body (n + 1) o.1 ls) (Ok (record { value = o.1; rest = ls; line = n + 1 }))
+
+-- the map that lines from the n-th on begin with
+abbrev pub map_lines : ℕ → List (List ℕ) → Result MapLines MapFault
+map_lines n ls = head n ls >>= λ h. body (n + 6) h.0 h.1
+
+-- the fault of a call is that of the lines, unless memory was refused
+abbrev pub Fails : {A : Type 0} → MapFault → Result A MapFault → Type 0
+Fails Memory said = Unit {0}
+Fails (BadMap n) said = said ≡ Err (BadMap n)
+
+-- what a call returned, seen by `view`, is what the lines say, unless memory was refused
+abbrev pub Gives : {X A : Type 0} → (X → A) → Result X MapFault → Result A MapFault → Type 0
+Gives view (Ok x) said = said ≡ Ok (view x)
+Gives view (Err e) said = Fails e said

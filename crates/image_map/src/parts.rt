@@ -1,0 +1,103 @@
+//! What a map names.
+
+use crate::name::Name;
+use std::alloc::{AllocError, Global};
+use std::marker::Model;
+
+/// The addresses of the words of the runtime.
+#[derive(Clone, Copy, Debug, PartialEq, Eq)]
+pub struct RuntimeWords {
+    /// CUR: the number of the task that runs.
+    pub current_task: u16,
+    /// NEXT: the number of the task that the transition chose.
+    pub next_task: u16,
+    /// GATE: 1 from the transition to the end of its commit.
+    pub gate: u16,
+    /// CLN: the entries in the commit list.
+    pub list_length: u16,
+    /// EN: the words that the attempt emitted.
+    pub emit_count: u16,
+    /// BASE: the number of the next word to send.
+    pub base: u16,
+    /// SB: BASE as the transition found it.
+    pub sent_base: u16,
+    /// VER: the number of the attempt.
+    pub version: u16,
+}
+
+/// Where a list stands, and how many items it has room for.
+#[derive(Clone, Copy, Debug, PartialEq, Eq)]
+pub struct Place {
+    pub address: u16,
+    pub capacity: u32,
+}
+
+/// How a variable's words are read as numbers.
+#[derive(Clone, Copy, Debug, PartialEq, Eq)]
+pub enum ValueType {
+    Unsigned,
+    Int,
+}
+
+/// A shared variable.
+#[derive(Drop)]
+pub struct Variable {
+    pub name: Name,
+    pub value_type: ValueType,
+    /// Where its first word stands.
+    pub address: u16,
+    /// The words of an array; nothing for a scalar.
+    pub length: Option<u16>,
+}
+
+/// A task, with the shared scalars that it works on in copies.
+#[derive(Drop)]
+pub struct Task {
+    name: Name,
+    privates: Vec<Name>,
+}
+
+impl Model for Task {
+    ghost use Rattle.image_map.specs.MapValue.{TaskValue};
+
+    ghost Value = { TaskValue };
+
+    ghost view = { λ t. record { name = t.name; privates = t.privates.items } };
+}
+
+impl Task {
+    ghost use Rattle.std.specs.Prelude.{◌≡◌, ◌++◌, ◌∷◌, [], OnOk, OnErr};
+
+    /// A task without private scalars.
+    pub fn new(alloc: Global, name: Name) -> Task
+        ensures { result ≡ record { name = name; privates = [] } }
+    {
+        Task {
+            name,
+            privates: Vec::new(alloc),
+        }
+    }
+
+    /// The task's name.
+    pub fn name(&self) -> &Name
+        ensures { result.now ≡ self.now.name }
+    {
+        &self.name
+    }
+
+    /// The names of the scalars that are private in the task, in order of declaration.
+    pub fn privates(&self) -> &[Name]
+        ensures { result.now ≡ self.now.privates }
+    {
+        self.privates.as_slice()
+    }
+
+    /// Adds a private scalar behind the others; where memory is refused the task is as before.
+    pub fn add_private(&mut self, name: Name) -> Result<(), AllocError>
+        ensures ok { OnOk result (self.new ≡ record self.old { privates = self.old.privates ++ name ∷ [] }) }
+        ensures err { OnErr result (self.new ≡ self.old) }
+    {
+        self.privates.push(name)?;
+        Ok(())
+    }
+}
