@@ -1,0 +1,314 @@
+-- Charges that are spent one after another.
+use Rattle.std.proofs.Common.{◌≡◌, ◌≤◌, ◌<◌, ℕ, ◌+◌, ◌-◌, List, [], ◌∷◌, ◌++◌, arith, refl, ap, sym, subst, ◌∙◌, Option, Some, None, Result, Ok, Err, IsErr, append_assoc, true, false, is_some, zero, suc, replicate, drop, drop-cons, get_or, length, inl, inr}
+use Rattle.std.proofs.Math.ListN.{drop_of_length-le}
+use Rattle.std.proofs.lemmas.List.Sums.{sum_by-append}
+use Rattle.energy_trace.specs.declared.charge.Charge.{Charge}
+use Rattle.energy_trace.specs.declared.charge.ChargeKind.TheVariants as kind
+use Rattle.energy_trace.specs.TraceValue.{charge_count}
+use Rattle.board_run.specs.declared.trace_run.RunEnd.{RunEnd}
+use Rattle.board_run.specs.declared.trace_run.RunFault.{RunFault}
+use Rattle.board_run.specs.declared.trace_run.RunFault.TheVariants as fault
+use Rattle.board_run.specs.Charges.{charge_of, charges_of}
+use Rattle.std.specs.Io.KnownBytes.{Appends}
+use Rattle.alp_io.specs.Sink.{AppendsProperPrefix}
+use Rattle.alp_io.specs.declared.sink.Failed.{Failed}
+use Rattle.alp_io.proofs.Appends.{appends_none, appends_more, part_of_first, part_of_second}
+use Rattle.msp_step.specs.declared.machine.Stop.{Stop}
+use Rattle.fram_board.specs.declared.receiver.Receiver.{Receiver}
+use Rattle.fram_board.specs.Board.{BoardValue, PowerState, powered}
+use Rattle.fram_board.specs.Run.{Moment, Charges, Stopped, End, RunOutcome, run_outcome, after_moments, power_up_of, BoardCharge, ChargeRun, Run, Over, Next, Last}
+use Rattle.fram_board.proofs.Runs.{has_run}
+use Rattle.board_run.specs.History.{History, bound_lines, moment_lines, noted, behind_power_up}
+use Rattle.board_run.specs.Report.{lines_from, after_all, board_after, IsBehindSome, last_line, rest_of, IsCut, IsRestOf, IsRunOf, IsEndOf}
+use Rattle.board_run.specs.Parts.{FewMore, Wrote, ended, StandsBehind, StoppedWriting, IsSpent, WentThrough, Went, SpentCharges, AreSpent}
+use Rattle.board_run.proofs.Spends.{lines_append, board_append, wrote_more, wrote_none, outcome_append, nil_behind}
+
+-- the power-up of a charge writes nothing
+power_up_wrote : (h mid now : History) (b : BoardValue) (p : PowerState) (ms : List Moment) (old new : Option (List ℕ)) → mid ≡ behind_power_up h.map h (powered b p) → Wrote mid ms old new now
+    → Wrote h (power_up_of b p ∷ ms) old new now
+unfolding moment_lines noted
+power_up_wrote h mid now b p ms old new e w =
+    let P : History → Type 0 = λ x. Wrote x ms old new now in
+    let v = subst P e w in
+    record { written = v.written; history = v.history }
+
+power_up_lines : (h mid : History) (b : BoardValue) (p : PowerState) (ms : List Moment) → mid ≡ behind_power_up h.map h (powered b p) → lines_from h (power_up_of b p ∷ ms) ≡ lines_from mid ms
+unfolding moment_lines noted
+power_up_lines h mid b p ms e = ap (λ x. lines_from x ms) (sym e)
+
+-- a charge from its power-up on
+one_went : (c : BoardCharge) (b after : BoardValue) (ms : List Moment) (stop : Option Stop) → StandsBehind stop (powered b c.start) ms after → ChargeRun c.measure c.amount (powered b c.start) (run_outcome ms (ended stop) after)
+    → Went (c ∷ []) b (power_up_of b c.start ∷ ms) stop after
+one_went c b after ms None e h = record { run = λ more r k. Next c more b ms after r h k; board = e }
+one_went c b after ms (Some stop) e h = λ more. Last c more b ms stop after h
+
+-- a run whose first charge is this
+run_with : (c : BoardCharge) (more : List BoardCharge) (b : BoardValue) (ms : List Moment) (e : End) (end : BoardValue) → ChargeRun c.measure c.amount (powered b c.start) (run_outcome ms e end)
+    → (rest : List Moment) × (ending : End) × (last : BoardValue) × Run (c ∷ more) b (run_outcome (power_up_of b c.start ∷ (ms ++ rest)) ending last)
+run_with c more b ms Charges end h = let r = has_run more end in (r.0.moments, r.0.ending, r.0.board, Next c more b ms end r.0 h r.1)
+run_with c more b ms (Stopped stop) end h =
+    let P : List Moment → Type 0 = λ x. Run (c ∷ more) b (run_outcome (power_up_of b c.start ∷ x) (Stopped stop) end) in
+    ([], Stopped stop, end, subst P (sym (nil_behind ms)) (Last c more b ms stop end h))
+
+-- lines that are cut in some moments are cut in more
+cut_more : (h mid : History) (b c after : BoardValue) (front ms rest whole : List Moment) (old between new : Option (List ℕ)) → whole ≡ front ++ (ms ++ rest) → c ≡ board_after b front
+    → Wrote h front old between mid → IsBehindSome c ms after → AppendsProperPrefix between new (lines_from mid ms)
+    → IsBehindSome b whole after × AppendsProperPrefix old new (lines_from h whole)
+cut_more h mid b c after front ms rest whole old between new e at w (done, left, split, is) cut =
+    let P : List ℕ → Type 0 = λ t. AppendsProperPrefix old new t in
+    let Q : BoardValue → Type 0 = λ x. after ≡ board_after x done in
+    let lines : lines_from h whole ≡ lines_from h front ++ (lines_from mid ms ++ lines_from (after_all mid ms) rest) =
+    ap (lines_from h) e ∙ lines_append h front (ms ++ rest) ∙ ap (λ x. lines_from h front ++ lines_from x (ms ++ rest)) (sym w.history) ∙ ap (λ x. lines_from h front ++ x) (lines_append mid ms rest) in (
+      (
+        front ++ done,
+        left ++ rest,
+        e ∙ ap (λ x. front ++ (x ++ rest)) split ∙ ap (λ x. front ++ x) (append_assoc done left rest) ∙ sym (append_assoc front done (left ++ rest)),
+        subst Q at is ∙ sym (board_append b front done),
+      ),
+      subst P (sym lines) (part_of_second old between new (lines_from h front) (lines_from mid ms ++ lines_from (after_all mid ms) rest) w.written
+          (part_of_first between new (lines_from mid ms) (lines_from (after_all mid ms) rest) cut)),
+    )
+
+-- the power-up alone
+power_up_alone : (h mid : History) (b : BoardValue) (p : PowerState) (old : Option (List ℕ)) → mid ≡ behind_power_up h.map h (powered b p) → Wrote h (power_up_of b p ∷ []) old old mid
+power_up_alone h mid b p old e = power_up_wrote h mid mid b p [] old old e (wrote_none mid mid old old (appends_none old) refl)
+
+-- a cut in a charge is a cut in a run that begins with it
+one_cut : (h mid : History) (c : BoardCharge) (more : List BoardCharge) (b after : BoardValue) (r : RunOutcome) (old new : Option (List ℕ)) → mid ≡ behind_power_up h.map h (powered b c.start)
+    → ChargeRun c.measure c.amount (powered b c.start) r → StoppedWriting mid (powered b c.start) r old new after
+    → (s : RunOutcome) × Run (c ∷ more) b s × StoppedWriting h b s old new after
+one_cut h mid c more b after r old new e run stop =
+    let w = run_with c more b r.moments r.ending r.board run in
+    let ms : List Moment = power_up_of b c.start ∷ (r.moments ++ w.0) in
+    let cut = cut_more h mid b (powered b c.start) after (power_up_of b c.start ∷ []) r.moments w.0 ms old old new refl refl (power_up_alone h mid b c.start old e) stop.board stop.written in
+    (run_outcome ms w.1 w.2, w.3, record { board = cut.0; written = cut.1 })
+
+few_of_one : (b p after : BoardValue) (n k : ℕ) → p.receiver ≡ b.receiver → FewMore p after n → n ≤ k → FewMore b after k
+few_of_one b p after n k e f le =
+    let a = f.accepted in
+    let r = f.repeats in
+    let x : p.receiver.accepted ≡ b.receiver.accepted = ap (λ (r : Receiver). r.accepted) e in
+    let y : p.receiver.repeats ≡ b.receiver.repeats = ap (λ (r : Receiver). r.repeats) e in
+    record { accepted = omega arith; repeats = omega arith }
+
+-- one charge, from its power-up on
+pub one_spent : (h mid now : History) (c : BoardCharge) (b p after : BoardValue) (old new : Option (List ℕ)) (result : Result (Option Stop) Failed) (k : ℕ) → p ≡ powered b c.start → mid ≡ behind_power_up h.map h p
+    → c.amount ≤ k → IsSpent mid c.measure c.amount p old new result after now → AreSpent h (c ∷ []) b old new result after now k
+one_spent h mid now c b p after old new (Ok stop) k is e le s =
+    let P : BoardValue → Type 0 = λ p. ChargeRun c.measure c.amount p (run_outcome s.moments (ended stop) after) in
+    let Q : BoardValue → Type 0 = λ p. StandsBehind stop p s.moments after in
+    let mid_is : mid ≡ behind_power_up h.map h (powered b c.start) = e ∙ ap (λ p. behind_power_up h.map h p) is in
+    record {
+      moments = power_up_of b c.start ∷ s.moments;
+      went = one_went c b after s.moments stop (subst Q is s.board) (subst P is s.run);
+      wrote = power_up_wrote h mid now b c.start s.moments old new mid_is s.wrote;
+      few = few_of_one b p after c.amount k (ap (λ (x : BoardValue). x.receiver) is) s.few le;
+    }
+one_spent h mid now c b p after old new (Err f) k is e le (r, run, stop) = λ more.
+    let P : BoardValue → Type 0 = λ p. ChargeRun c.measure c.amount p r in
+    let Q : BoardValue → Type 0 = λ p. StoppedWriting mid p r old new after in
+    one_cut h mid c more b after r old new (e ∙ ap (λ p. behind_power_up h.map h p) is) (subst P is run) (subst Q is stop)
+
+-- some charges are behind, and these are left
+pub record SpendsFor (h : History) (cs : List BoardCharge) (b : BoardValue) (old : Option (List ℕ)) (n : ℕ) (left : List BoardCharge) (now : BoardValue) (new : Option (List ℕ)) (watch : History) (spare : ℕ) : Type 0 where
+  pub moments : List Moment
+  pub run : (more : List BoardCharge) (r : RunOutcome) → Run (left ++ more) now r → Run (cs ++ more) b (after_moments moments r)
+  pub wrote : Wrote h moments old new watch
+  pub accepted : now.receiver.accepted + spare ≤ b.receiver.accepted + n
+  pub repeats : now.receiver.repeats + spare ≤ b.receiver.repeats + n
+  pub board : now ≡ board_after b moments
+
+pub spends_for_first : (h : History) (cs : List BoardCharge) (b : BoardValue) (old : Option (List ℕ)) (n : ℕ) → SpendsFor h cs b old n cs b old h n
+spends_for_first h cs b old n = record {
+  moments = [];
+  run = λ more r k. k;
+  wrote = record { written = appends_none old; history = refl };
+  accepted = omega arith;
+  repeats = omega arith;
+  board = refl;
+}
+
+no_stop : (o : Option Stop) → is_some o ≡ false → o ≡ None
+no_stop None e = refl
+no_stop (Some x) e = cc
+
+-- more of them
+pub spends_for_more : (h : History) (cs : List BoardCharge) (b : BoardValue) (old : Option (List ℕ)) (n : ℕ) (left front rest : List BoardCharge) (now next : BoardValue) (between new : Option (List ℕ)) (mid watch : History) (spare less k : ℕ) (stop : Option Stop)
+    → left ≡ front ++ rest → less + k ≤ spare → is_some stop ≡ false → SpendsFor h cs b old n left now between mid spare → SpentCharges mid front now between new stop next watch k
+    → SpendsFor h cs b old n rest next new watch less
+spends_for_more h cs b old n left front rest now next between new mid watch spare less k stop e le none s w =
+    let P : Option Stop → Type 0 = λ o. Went front now w.moments o next in
+    let went : WentThrough front now w.moments next = subst P (no_stop stop none) w.went in
+    let few = w.few in
+    let a = s.accepted in
+    let r = s.repeats in
+    let fa = few.accepted in
+    let fr = few.repeats in
+    record {
+      moments = s.moments ++ w.moments;
+      run = λ more r h.
+          let Q : List BoardCharge → Type 0 = λ x. Run x now (after_moments w.moments r) in
+          let R : RunOutcome → Type 0 = λ x. Run (cs ++ more) b x in
+          subst R (sym (outcome_append s.moments w.moments r)) (s.run more (after_moments w.moments r) (subst Q (sym (ap (λ x. x ++ more) e ∙ append_assoc front rest more)) (went.run (rest ++ more) r h)));
+      wrote = wrote_more h mid watch s.moments w.moments old between new s.wrote w.wrote;
+      accepted = omega arith;
+      repeats = omega arith;
+      board = went.board ∙ ap (λ x. board_after x w.moments) s.board ∙ sym (board_append b s.moments w.moments);
+    }
+
+-- a stop in them
+pub spends_for_stop : (h : History) (cs : List BoardCharge) (b : BoardValue) (old : Option (List ℕ)) (n : ℕ) (left front rest : List BoardCharge) (now next : BoardValue) (between new : Option (List ℕ)) (mid watch : History) (spare k : ℕ) (stop : Option Stop)
+    → left ≡ front ++ rest → k ≤ spare → is_some stop ≡ true → SpendsFor h cs b old n left now between mid spare → SpentCharges mid front now between new stop next watch k
+    → SpentCharges h cs b old new stop next watch n
+spends_for_stop h cs b old n left front rest now next between new mid watch spare k None e le some s w = cc
+spends_for_stop h cs b old n left front rest now next between new mid watch spare k (Some stop) e le some s w =
+    let few = w.few in
+    let a = s.accepted in
+    let r = s.repeats in
+    let fa = few.accepted in
+    let fr = few.repeats in
+    record {
+      moments = s.moments ++ w.moments;
+      went = λ more.
+          let Q : List BoardCharge → Type 0 = λ x. Run x now (run_outcome w.moments (Stopped stop) next) in
+          s.run more (run_outcome w.moments (Stopped stop) next) (subst Q (sym (ap (λ x. x ++ more) e ∙ append_assoc front rest more)) (w.went (rest ++ more)));
+      wrote = wrote_more h mid watch s.moments w.moments old between new s.wrote w.wrote;
+      few = record { accepted = omega arith; repeats = omega arith };
+    }
+
+-- all of them
+pub spends_for_end : (h : History) (cs : List BoardCharge) (b : BoardValue) (old : Option (List ℕ)) (n : ℕ) (left : List BoardCharge) (now : BoardValue) (new : Option (List ℕ)) (watch : History) (spare : ℕ) → left ≡ []
+    → SpendsFor h cs b old n left now new watch spare → SpentCharges h cs b old new None now watch n
+spends_for_end h cs b old n left now new watch spare e s =
+    let a = s.accepted in
+    let r = s.repeats in
+    record {
+      moments = s.moments;
+      went = record {
+        run = λ more r h. let Q : List BoardCharge → Type 0 = λ x. Run (x ++ more) now r in s.run more r (subst Q (sym e) h);
+        board = s.board;
+      };
+      wrote = s.wrote;
+      few = record { accepted = omega arith; repeats = omega arith };
+    }
+
+are_err : (h now : History) (cs : List BoardCharge) (b after : BoardValue) (old new : Option (List ℕ)) (n : ℕ) (result : Result (Option Stop) Failed) → IsErr result
+    → ((more : List BoardCharge) → (r : RunOutcome) × Run (cs ++ more) b r × StoppedWriting h b r old new after) → AreSpent h cs b old new result after now n
+are_err h now cs b after old new n (Ok o) e p = cc
+are_err h now cs b after old new n (Err f) e p = p
+
+-- a line of one of them isn't written whole
+pub spends_for_err : (h : History) (cs : List BoardCharge) (b : BoardValue) (old : Option (List ℕ)) (n : ℕ) (left front rest : List BoardCharge) (now next : BoardValue) (between new : Option (List ℕ)) (mid watch watch' : History) (spare k : ℕ)
+    (f : Failed) (result : Result (Option Stop) Failed) → IsErr result → left ≡ front ++ rest → SpendsFor h cs b old n left now between mid spare → AreSpent mid front now between new (Err f) next watch' k
+    → AreSpent h cs b old new result next watch n
+spends_for_err h cs b old n left front rest now next between new mid watch watch' spare k f result err e s w = are_err h watch cs b next old new n result err (λ more.
+    let cut = w (rest ++ more) in
+    let Q : List BoardCharge → Type 0 = λ x. Run x now cut.0 in
+    let run = s.run more cut.0 (subst Q (sym (ap (λ x. x ++ more) e ∙ append_assoc front rest more)) cut.1) in
+    let more_cut = cut_more h mid b now next s.moments cut.0.moments [] (s.moments ++ cut.0.moments) old between new (ap (λ x. s.moments ++ x) (sym (nil_behind cut.0.moments))) s.board s.wrote cut.2.board cut.2.written in
+    (after_moments s.moments cut.0, run, record { board = more_cut.0; written = more_cut.1 }))
+
+-- the first of the charges that are left
+pub repeated_split : (k : ℕ) (c : BoardCharge) → 0 < k → replicate k c ≡ (c ∷ []) ++ replicate (k - 1) c
+repeated_split zero c h = absurd (omega arith)
+repeated_split (suc k) c h = ap (λ n. c ∷ replicate n c) (let e : k ≡ suc k - 1 = omega arith in e)
+
+pub repeated_end : (k : ℕ) (c : BoardCharge) → k ≤ 0 → replicate k c ≡ []
+repeated_end zero c h = refl
+repeated_end (suc k) c h = absurd (omega arith)
+
+pub all_split : (cs : List Charge) (d : Charge) (i : ℕ) → i < length cs → charges_of (drop i cs) ≡ replicate (get_or cs i d).times (charge_of (get_or cs i d)) ++ charges_of (drop (i + 1) cs)
+all_split cs d i h =
+    ap charges_of (drop-cons cs i d h) ∙ ap (λ j. replicate (get_or cs i d).times (charge_of (get_or cs i d)) ++ charges_of (drop j cs)) (let n : suc i ≡ i + 1 = omega arith in n)
+
+count_more : (c : Charge) (cs : List Charge) → charge_count (c ∷ cs) ≡ c.times + charge_count cs
+count_more c cs = sum_by-append (λ (c : Charge). c.times) (c ∷ []) cs ∙ ap (λ n. n + charge_count cs) (let e : 0 + c.times ≡ c.times = omega arith in e)
+
+pub count_split : (cs : List Charge) (d : Charge) (i : ℕ) → i < length cs → charge_count (drop i cs) ≡ (get_or cs i d).times + charge_count (drop (i + 1) cs)
+count_split cs d i h =
+    ap charge_count (drop-cons cs i d h) ∙ count_more (get_or cs i d) (drop (suc i) cs) ∙ ap (λ j. (get_or cs i d).times + charge_count (drop j cs)) (let n : suc i ≡ i + 1 = omega arith in n)
+
+pub all_end : (cs : List Charge) (i : ℕ) → length cs ≤ i → charges_of (drop i cs) ≡ []
+all_end cs i h = ap charges_of (drop_of_length-le cs h)
+
+-- a run that was cut, or that is whole
+run_err : (h now : History) (cs : List BoardCharge) (b after : BoardValue) (old new : Option (List ℕ)) (result : Result RunEnd RunFault) → result ≡ Err fault.Write → (r : RunOutcome) × Run cs b r × IsCut b r (rest_of h r) old new after
+    → IsRestOf h cs b old new result after now
+run_err h now cs b after old new result e p = let P : Result RunEnd RunFault → Type 0 = λ x. IsRestOf h cs b old new x after now in subst P (sym e) p
+
+nil_charges : (cs : List BoardCharge) → cs ++ [] ≡ cs
+nil_charges cs = nil_behind cs
+
+pub run_cut : (h watch now : History) (cs : List BoardCharge) (b after : BoardValue) (old new : Option (List ℕ)) (n : ℕ) (f : Failed) (result : Result RunEnd RunFault) → result ≡ Err fault.Write
+    → AreSpent h cs b old new (Err f) after watch n → IsRestOf h cs b old new result after now
+run_cut h watch now cs b after old new n f result e w =
+    let cut = w [] in
+    let P : List BoardCharge → Type 0 = λ x. Run x b cut.0 in
+    run_err h now cs b after old new result e (
+      cut.0,
+      subst P (nil_charges cs) cut.1,
+      record {
+        board = inl cut.2.board;
+        written = part_of_first old new (lines_from h cut.0.moments) (last_line (after_all h cut.0.moments) cut.0.ending cut.0.board) cut.2.written;
+      },
+    )
+
+-- the run of charges that were spent or in which the board stopped
+whole_run : (cs : List BoardCharge) (b after : BoardValue) (ms : List Moment) (stop : Option Stop) → Went cs b ms stop after → Run cs b (run_outcome ms (ended stop) after)
+whole_run cs b after ms None w =
+    let P : List BoardCharge → Type 0 = λ x. Run x b (run_outcome ms Charges after) in
+    let Q : List Moment → Type 0 = λ x. Run (cs ++ []) b (run_outcome x Charges after) in
+    subst P (nil_charges cs) (subst Q (nil_behind ms) (w.run [] (run_outcome [] Charges after) (Over after)))
+whole_run cs b after ms (Some stop) w = let P : List BoardCharge → Type 0 = λ x. Run x b (run_outcome ms (Stopped stop) after) in subst P (nil_charges cs) (w [])
+
+-- and its last line
+pub run_end : (h now : History) (cs : List BoardCharge) (b after : BoardValue) (old between new : Option (List ℕ)) (n : ℕ) (stop : Option Stop) (result : Result RunEnd RunFault)
+    → SpentCharges h cs b old between stop after now n → IsEndOf now (ended stop) after between new result → IsRestOf h cs b old new result after now
+run_end h now cs b after old between new n stop result w e = by_result result e
+  where
+    r : RunOutcome
+    r = run_outcome w.moments (ended stop) after
+
+    run : Run cs b r
+    run = whole_run cs b after w.moments stop w.went
+
+    line : List ℕ
+    line = last_line now (ended stop) after
+
+    text : lines_from h w.moments ++ line ≡ rest_of h r
+    text = ap (λ x. lines_from h w.moments ++ last_line x (ended stop) after) w.wrote.history
+
+    written : Appends between new line → Appends old new (rest_of h r)
+    written a = let P : List ℕ → Type 0 = λ t. Appends old new t in subst P text (appends_more old between new (lines_from h w.moments) line w.wrote.written a)
+
+    by_result : (result : Result RunEnd RunFault) → IsEndOf now (ended stop) after between new result → IsRestOf h cs b old new result after now
+    by_result (Ok end) e = (r, run, record { answer = e.0; board = refl; history = w.wrote.history; written = written e.1 })
+    by_result (Err (fault.Illegal pc word)) e = (r, run, record { answer = e.0; board = refl; history = w.wrote.history; written = written e.1 })
+    by_result (Err (fault.Bus pc address)) e = (r, run, record { answer = e.0; board = refl; history = w.wrote.history; written = written e.1 })
+    by_result (Err fault.Write) e =
+        let P : List ℕ → Type 0 = λ t. AppendsProperPrefix old new t in
+        (r, run, record { board = inr refl; written = subst P text (part_of_second old between new (lines_from h w.moments) line w.wrote.written e) })
+
+-- a charge that stands where there is none
+abbrev pub no_charge : Charge
+no_charge = record { kind = kind.Cycles; n = 0; fill = 0; times = 0 }
+
+-- behind the line of the bound
+pub bound_first : (h now : History) (cs : List BoardCharge) (b after : BoardValue) (old mid new : Option (List ℕ)) (result : Result RunEnd RunFault) → Appends old mid (bound_lines h.map)
+    → IsRestOf h cs b mid new result after now → IsRunOf h cs b old new result after now
+bound_first h now cs b after old mid new (Ok end) first (r, run, w) =
+    (r, run, record { answer = w.answer; board = w.board; history = w.history; written = appends_more old mid new (bound_lines h.map) (rest_of h r) first w.written })
+bound_first h now cs b after old mid new (Err (fault.Illegal pc word)) first (r, run, w) =
+    (r, run, record { answer = w.answer; board = w.board; history = w.history; written = appends_more old mid new (bound_lines h.map) (rest_of h r) first w.written })
+bound_first h now cs b after old mid new (Err (fault.Bus pc address)) first (r, run, w) =
+    (r, run, record { answer = w.answer; board = w.board; history = w.history; written = appends_more old mid new (bound_lines h.map) (rest_of h r) first w.written })
+bound_first h now cs b after old mid new (Err fault.Write) first (r, run, w) =
+    (r, run, record { board = w.board; written = part_of_second old mid new (bound_lines h.map) (rest_of h r) first w.written })
+
+-- the line of the bound itself isn't written whole
+pub bound_cut : (h now : History) (cs : List BoardCharge) (b : BoardValue) (old new : Option (List ℕ)) (result : Result RunEnd RunFault) → result ≡ Err fault.Write → AppendsProperPrefix old new (bound_lines h.map)
+    → IsRunOf h cs b old new result b now
+bound_cut h now cs b old new result e cut =
+    let run = has_run cs b in
+    let P : Result RunEnd RunFault → Type 0 = λ x. IsRunOf h cs b old new x b now in
+    subst P (sym e) (run.0, run.1, record { board = inl ([], run.0.moments, refl, refl); written = part_of_first old new (bound_lines h.map) (rest_of h run.0) cut })

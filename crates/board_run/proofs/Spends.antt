@@ -1,0 +1,167 @@
+-- A charge that is spent turn by turn.
+use Rattle.std.proofs.Common.{◌≡◌, ◌≤◌, ◌<◌, ℕ, ◌+◌, List, [], ◌∷◌, ◌++◌, arith, refl, ap, sym, subst, ◌∙◌, Option, Some, None, Result, Ok, Err, IsErr, append_assoc}
+use Rattle.std.specs.Io.KnownBytes.{Appends}
+use Rattle.alp_io.specs.Sink.{AppendsProperPrefix}
+use Rattle.alp_io.specs.declared.sink.Failed.{Failed}
+use Rattle.alp_io.proofs.Appends.{append-nil, appends_none, appends_more, part_of_first, part_of_second}
+use Rattle.msp_step.specs.declared.machine.Stop.{Stop}
+use Rattle.fram_board.specs.Board.{BoardValue}
+use Rattle.fram_board.specs.Run.{Measure, Moment, RunOutcome, run_outcome, after_moments, ChargeRun}
+use Rattle.fram_board.proofs.Runs.{charge_run}
+use Rattle.board_run.specs.declared.spend.Turn.{Turn}
+use Rattle.board_run.specs.declared.spend.Turn.TheVariants as turn
+use Rattle.board_run.specs.History.{History, moment_lines, noted}
+use Rattle.board_run.specs.Report.{lines_from, after_all, board_after}
+use Rattle.board_run.specs.Parts.{FewMore, Turned, TurnedPartly, IsTurn, Wrote, ended, StandsBehind, SpentCharge, StoppedWriting, IsSpent}
+
+-- some moments of a charge are behind, and their lines are written
+pub record SpendsOn (h : History) (m : Measure) (amount : ℕ) (b : BoardValue) (old : Option (List ℕ)) (left : ℕ) (now : BoardValue) (new : Option (List ℕ)) (watch : History) : Type 0 where
+  pub moments : List Moment
+  pub run : (r : RunOutcome) → ChargeRun m left now r → ChargeRun m amount b (after_moments moments r)
+  pub wrote : Wrote h moments old new watch
+  pub accepted : now.receiver.accepted + left ≤ b.receiver.accepted + amount
+  pub repeats : now.receiver.repeats + left ≤ b.receiver.repeats + amount
+  pub board : now ≡ board_after b moments
+
+pub lines_append : (h : History) (ms ns : List Moment) → lines_from h (ms ++ ns) ≡ lines_from h ms ++ lines_from (after_all h ms) ns
+lines_append h [] ns = refl
+lines_append h (m ∷ ms) ns = ap (λ r. moment_lines h m ++ r) (lines_append (noted h m) ms ns) ∙ sym (append_assoc (moment_lines h m) (lines_from (noted h m) ms) (lines_from (after_all (noted h m) ms) ns))
+
+pub after_append : (h : History) (ms ns : List Moment) → after_all h (ms ++ ns) ≡ after_all (after_all h ms) ns
+after_append h [] ns = refl
+after_append h (m ∷ ms) ns = after_append (noted h m) ms ns
+
+pub board_append : (b : BoardValue) (ms ns : List Moment) → board_after b (ms ++ ns) ≡ board_after (board_after b ms) ns
+board_append b [] ns = refl
+board_append b (m ∷ ms) ns = board_append m.after ms ns
+
+pub spends_first : (h : History) (m : Measure) (amount : ℕ) (b : BoardValue) (old : Option (List ℕ)) → SpendsOn h m amount b old amount b old h
+spends_first h m amount b old = record {
+  moments = [];
+  run = λ r c. c;
+  wrote = record { written = appends_none old; history = refl };
+  accepted = omega arith;
+  repeats = omega arith;
+  board = refl;
+}
+
+-- moments behind moments
+pub wrote_more : (h mid now : History) (ms ns : List Moment) (old between new : Option (List ℕ)) → Wrote h ms old between mid → Wrote mid ns between new now → Wrote h (ms ++ ns) old new now
+wrote_more h mid now ms ns old between new p q =
+    let P : List ℕ → Type 0 = λ t. Appends old new t in
+    record {
+      written = subst P (ap (λ x. lines_from h ms ++ lines_from x ns) p.history ∙ sym (lines_append h ms ns)) (appends_more old between new (lines_from h ms) (lines_from mid ns) p.written q.written);
+      history = q.history ∙ ap (λ x. after_all x ns) p.history ∙ sym (after_append h ms ns);
+    }
+
+wrote_one : (h now : History) (moment : Moment) (old new : Option (List ℕ)) → Appends old new (moment_lines h moment) → now ≡ noted h moment → Wrote h (moment ∷ []) old new now
+wrote_one h now moment old new a e = let P : List ℕ → Type 0 = λ t. Appends old new t in record { written = subst P (sym (append-nil (moment_lines h moment))) a; history = e }
+
+pub wrote_none : (h now : History) (old new : Option (List ℕ)) → Appends old new [] → now ≡ h → Wrote h [] old new now
+wrote_none h now old new a e = record { written = a; history = e }
+
+pub outcome_append : (ms ns : List Moment) (r : RunOutcome) → after_moments (ms ++ ns) r ≡ after_moments ms (after_moments ns r)
+outcome_append ms ns r = ap (λ x. run_outcome x r.ending r.board) (append_assoc ms ns r.moments)
+
+pub spends_more : (h : History) (m : Measure) (amount : ℕ) (b : BoardValue) (old : Option (List ℕ)) (left rest : ℕ) (now next : BoardValue) (between new : Option (List ℕ)) (mid watch : History)
+    → SpendsOn h m amount b old left now between mid → Turned mid m left now between new rest next watch → SpendsOn h m amount b old rest next new watch
+spends_more h m amount b old left rest now next between new mid watch s t =
+    let few = t.first.few in
+    let a = s.accepted in
+    let r = s.repeats in
+    let fa = few.accepted in
+    let fr = few.repeats in
+    let less = t.less in
+    record {
+      moments = s.moments ++ t.moment ∷ [];
+      run = λ r c. let P : RunOutcome → Type 0 = λ x. ChargeRun m amount b x in subst P (sym (outcome_append s.moments (t.moment ∷ []) r)) (s.run _ (t.first.run r c));
+      wrote = wrote_more h mid watch s.moments (t.moment ∷ []) old between new s.wrote (wrote_one mid watch t.moment between new t.written t.history);
+      accepted = omega arith;
+      repeats = omega arith;
+      board = sym t.first.board ∙ sym (board_append b s.moments (t.moment ∷ []));
+    }
+
+pub nil_behind : {A : Type 0} (xs : List A) → xs ++ [] ≡ xs
+nil_behind [] = refl
+nil_behind (x ∷ xs) = ap (λ r. x ∷ r) (nil_behind xs)
+
+stands_behind : (stop : Option Stop) (b now after : BoardValue) (ms : List Moment) → now ≡ board_after b ms → StandsBehind stop now [] after → StandsBehind stop b ms after
+stands_behind None b now after ms e h = h ∙ e
+stands_behind (Some stop) b now after ms e h = tt
+
+ends_so : (h : History) (m : Measure) (amount : ℕ) (b : BoardValue) (old : Option (List ℕ)) (left : ℕ) (now after : BoardValue) (between new : Option (List ℕ)) (mid watch : History) (stop : Option Stop)
+    → SpendsOn h m amount b old left now between mid → ChargeRun m left now (run_outcome [] (ended stop) after) → FewMore now after 0 → Appends between new [] → watch ≡ mid → StandsBehind stop now [] after
+    → SpentCharge h m amount b old new stop after watch
+ends_so h m amount b old left now after between new mid watch stop s c few bytes same at =
+    let P : RunOutcome → Type 0 = λ x. ChargeRun m amount b x in
+    let Q : List Moment → Type 0 = λ ms. Wrote h ms old new watch in
+    let a = s.accepted in
+    let r = s.repeats in
+    let fa = few.accepted in
+    let fr = few.repeats in
+    record {
+      moments = s.moments;
+      run = subst P (ap (λ ms. run_outcome ms (ended stop) after) (nil_behind s.moments)) (s.run (run_outcome [] (ended stop) after) c);
+      wrote = subst Q (nil_behind s.moments) (wrote_more h mid watch s.moments [] old between new s.wrote (wrote_none mid watch between new bytes same));
+      few = record { accepted = omega arith; repeats = omega arith };
+      board = stands_behind stop b now after s.moments s.board at;
+    }
+
+pub spends_end : (h : History) (m : Measure) (amount : ℕ) (b : BoardValue) (old : Option (List ℕ)) (left : ℕ) (now after : BoardValue) (between new : Option (List ℕ)) (mid watch : History)
+    → SpendsOn h m amount b old left now between mid → IsTurn mid m left now between new (Ok turn.Spent) after watch → SpentCharge h m amount b old new None after watch
+spends_end h m amount b old left now after between new mid watch s (c, few, bytes, same, at) = ends_so h m amount b old left now after between new mid watch None s c few bytes same at
+
+pub spends_stop : (h : History) (m : Measure) (amount : ℕ) (b : BoardValue) (old : Option (List ℕ)) (left : ℕ) (now after : BoardValue) (between new : Option (List ℕ)) (mid watch : History) (stop : Stop)
+    → SpendsOn h m amount b old left now between mid → IsTurn mid m left now between new (Ok (turn.Stopped stop)) after watch → SpentCharge h m amount b old new (Some stop) after watch
+spends_stop h m amount b old left now after between new mid watch stop s (c, few, bytes, same) = ends_so h m amount b old left now after between new mid watch (Some stop) s c few bytes same tt
+
+pub spends_err : (h : History) (m : Measure) (amount : ℕ) (b : BoardValue) (old : Option (List ℕ)) (left : ℕ) (now after : BoardValue) (between new : Option (List ℕ)) (mid : History)
+    → SpendsOn h m amount b old left now between mid → TurnedPartly mid m left now between new after
+    → (r : RunOutcome) × ChargeRun m amount b r × StoppedWriting h b r old new after
+spends_err h m amount b old left now after between new mid s t =
+    let later = charge_run m t.rest after in
+    let whole : RunOutcome = after_moments s.moments (after_moments (t.moment ∷ []) later.0) in
+    let lines : lines_from h whole.moments ≡ lines_from h s.moments ++ (moment_lines mid t.moment ++ lines_from (noted mid t.moment) later.0.moments) =
+    lines_append h s.moments (t.moment ∷ later.0.moments) ∙ ap (λ x. lines_from h s.moments ++ lines_from x (t.moment ∷ later.0.moments)) (sym s.wrote.history) in
+    let P : List ℕ → Type 0 = λ x. AppendsProperPrefix old new x in (
+      whole,
+      s.run _ (t.first.run later.0 later.1),
+      record {
+        board = (s.moments ++ t.moment ∷ [], later.0.moments, sym (append_assoc s.moments (t.moment ∷ []) later.0.moments), sym t.first.board ∙ sym (board_append b s.moments (t.moment ∷ [])));
+        written = subst P (sym lines) (part_of_second old between new (lines_from h s.moments) (moment_lines mid t.moment ++ lines_from (noted mid t.moment) later.0.moments) s.wrote.written
+            (part_of_first between new (moment_lines mid t.moment) (lines_from (noted mid t.moment) later.0.moments) t.written));
+      },
+    )
+
+spent_err : (h watch : History) (m : Measure) (amount : ℕ) (b after : BoardValue) (old new : Option (List ℕ)) (result : Result (Option Stop) Failed) → IsErr result
+    → (r : RunOutcome) × ChargeRun m amount b r × StoppedWriting h b r old new after → IsSpent h m amount b old new result after watch
+spent_err h watch m amount b after old new (Ok o) e p = cc
+spent_err h watch m amount b after old new (Err f) e p = p
+
+pub spends_stop_writing : (h watch : History) (m : Measure) (amount : ℕ) (b : BoardValue) (old : Option (List ℕ)) (left : ℕ) (now after : BoardValue) (between new : Option (List ℕ)) (mid : History) (result : Result (Option Stop) Failed) → IsErr result
+    → SpendsOn h m amount b old left now between mid → TurnedPartly mid m left now between new after → IsSpent h m amount b old new result after watch
+spends_stop_writing h watch m amount b old left now after between new mid result e s t = spent_err h watch m amount b after old new result e (spends_err h m amount b old left now after between new mid s t)
+
+-- what a turn came to, known by its answer
+pub turn_left : (h : History) (m : Measure) (amount : ℕ) (b : BoardValue) (old : Option (List ℕ)) (left rest : ℕ) (now next : BoardValue) (between new : Option (List ℕ)) (mid watch : History) (t : Turn) → t ≡ turn.Left rest
+    → SpendsOn h m amount b old left now between mid → IsTurn mid m left now between new (Ok t) next watch → SpendsOn h m amount b old rest next new watch
+turn_left h m amount b old left rest now next between new mid watch t e s is =
+    let P : Turn → Type 0 = λ t. IsTurn mid m left now between new (Ok t) next watch in
+    spends_more h m amount b old left rest now next between new mid watch s (subst P e is)
+
+pub turn_spent : (h : History) (m : Measure) (amount : ℕ) (b : BoardValue) (old : Option (List ℕ)) (left : ℕ) (now after : BoardValue) (between new : Option (List ℕ)) (mid watch : History) (t : Turn) → t ≡ turn.Spent
+    → SpendsOn h m amount b old left now between mid → IsTurn mid m left now between new (Ok t) after watch → SpentCharge h m amount b old new None after watch
+turn_spent h m amount b old left now after between new mid watch t e s is =
+    let P : Turn → Type 0 = λ t. IsTurn mid m left now between new (Ok t) after watch in
+    spends_end h m amount b old left now after between new mid watch s (subst P e is)
+
+pub turn_stopped : (h : History) (m : Measure) (amount : ℕ) (b : BoardValue) (old : Option (List ℕ)) (left : ℕ) (now after : BoardValue) (between new : Option (List ℕ)) (mid watch : History) (stop : Stop) (t : Turn) → t ≡ turn.Stopped stop
+    → SpendsOn h m amount b old left now between mid → IsTurn mid m left now between new (Ok t) after watch → SpentCharge h m amount b old new (Some stop) after watch
+turn_stopped h m amount b old left now after between new mid watch stop t e s is =
+    let P : Turn → Type 0 = λ t. IsTurn mid m left now between new (Ok t) after watch in
+    spends_stop h m amount b old left now after between new mid watch stop s (subst P e is)
+
+pub turn_less : (h : History) (m : Measure) (left rest : ℕ) (now next : BoardValue) (between new : Option (List ℕ)) (watch : History) (t : Turn) → t ≡ turn.Left rest → IsTurn h m left now between new (Ok t) next watch → rest < left
+turn_less h m left rest now next between new watch t e is =
+    let P : Turn → Type 0 = λ t. IsTurn h m left now between new (Ok t) next watch in
+    (subst P e is).less

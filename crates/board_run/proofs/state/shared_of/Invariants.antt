@@ -1,0 +1,15 @@
+use Rattle.std.proofs.Common.{◌≡◌, ◌++◌, length, All}
+use Rattle.image_map.specs.MapValue.{IsVariable}
+use Rattle.board_run.specs.History.{values_in, shared_words}
+use Rattle.board_run.specs.State.{words_left, HasIndex}
+use Rattle.board_run.proofs.state.shared_of.Given as goal
+
+abbrev pub invariant-loop-place : goal.invariant-loop-place
+invariant-loop-place l = record {
+  variables : All IsVariable l.rest;
+  index : HasIndex l.rest l.i;
+  made : l.shared.items ++ values_in l.image.words (words_left l.rest l.i) ≡ values_in l.image.words (shared_words l.map.variables);
+}
+
+abbrev pub decreases-loop-place : goal.decreases-loop-place
+decreases-loop-place l = length (words_left l.rest l.i)

@@ -1,0 +1,22 @@
+use Rattle.std.proofs.Common.{◌≡◌, ◌≤◌, drop, length, vec_len, All}
+use Rattle.alp_io.proofs.Progress.{Progress}
+use Rattle.image_map.specs.MapValue.{IsVariable}
+use Rattle.board_run.specs.History.{changed_lines, shared_words}
+use Rattle.board_run.specs.State.{words_left, HasIndex}
+use Rattle.board_run.proofs.Changes.{Kept}
+use Rattle.board_run.proofs.state.write_changes.Given as goal
+
+abbrev pub invariant-loop-place : goal.invariant-loop-place
+invariant-loop-place g l = record {
+  same : l.report.sink.ghost_name ≡ l.fn.report.sink.ghost_name;
+  count : g.S.Sink.faults l.fn.report.sink.now ≤ g.S.Sink.faults l.report.sink.now;
+  variables : All IsVariable l.rest;
+  index : HasIndex l.rest l.i;
+  kept : Kept (shared_words l.map.variables) (words_left l.rest l.i) l.board.fram l.fn.shared.items l.shared.items l.k;
+  len : vec_len l.shared ≡ vec_len l.fn.shared;
+  lines : Progress (g.S.Sink.contents l.fn.report.sink.now) (g.S.Sink.contents l.report.sink.now)
+      (changed_lines (words_left l.rest l.i) (drop l.k l.fn.shared.items) l.board.fram) (changed_lines (shared_words l.map.variables) l.fn.shared.items l.board.fram);
+}
+
+abbrev pub decreases-loop-place : goal.decreases-loop-place
+decreases-loop-place g l = length (words_left l.rest l.i)

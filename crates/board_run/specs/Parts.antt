@@ -1,0 +1,103 @@
+-- Parts of a run: one instruction, one charge, some charges.
+use Rattle.std.specs.Prelude.{◌≡◌, ℕ, ◌+◌, ◌<◌, ◌≤◌, List, [], ◌∷◌, ◌++◌, Option, Some, None, Result, Ok, Err}
+use Rattle.std.specs.Io.KnownBytes.{Appends}
+use Rattle.alp_io.specs.Sink.{AppendsProperPrefix}
+use Rattle.alp_io.specs.declared.sink.Failed.{Failed}
+use Rattle.msp_step.specs.declared.machine.Stop.{Stop}
+use Rattle.fram_board.specs.Board.{BoardValue}
+use Rattle.fram_board.specs.Run.{Measure, Moment, End, Charges, Stopped, RunOutcome, run_outcome, after_moments, BoardCharge, ChargeRun, Run}
+use Rattle.board_run.specs.declared.spend.Turn.{Turn}
+use Rattle.board_run.specs.declared.spend.Turn.TheVariants as turn
+use Rattle.board_run.specs.History.{History, moment_lines, noted}
+use Rattle.board_run.specs.Report.{lines_from, after_all, board_after, IsBehindSome}
+
+-- at most so many words more were offered to the receiver
+pub record FewMore (b after : BoardValue) (n : ℕ) : Type 0 where
+  pub accepted : after.receiver.accepted ≤ b.receiver.accepted + n
+  pub repeats : after.receiver.repeats ≤ b.receiver.repeats + n
+
+-- this moment comes first in a charge, of which so much is left before and behind it
+pub record ComesFirst (m : Measure) (left : ℕ) (b : BoardValue) (moment : Moment) (rest : ℕ) (after : BoardValue) : Type 0 where
+  pub run : (r : RunOutcome) → ChargeRun m rest after r → ChargeRun m left b (after_moments (moment ∷ []) r)
+  pub board : moment.after ≡ after
+  pub few : FewMore b after 1
+
+-- an instruction was executed, and its lines written
+pub record Turned (h : History) (m : Measure) (left : ℕ) (b : BoardValue) (old new : Option (List ℕ)) (rest : ℕ) (after : BoardValue) (now : History) : Type 0 where
+  pub moment : Moment
+  pub first : ComesFirst m left b moment rest after
+  pub less : rest < left
+  pub written : Appends old new (moment_lines h moment)
+  pub history : now ≡ noted h moment
+
+-- an instruction was executed, and its lines weren't written whole
+pub record TurnedPartly (h : History) (m : Measure) (left : ℕ) (b : BoardValue) (old new : Option (List ℕ)) (after : BoardValue) : Type 0 where
+  pub moment : Moment
+  pub rest : ℕ
+  pub first : ComesFirst m left b moment rest after
+  pub written : AppendsProperPrefix old new (moment_lines h moment)
+
+-- a turn of a charge: what it answers, with what was written and the board and history then
+abbrev pub IsTurn : History → Measure → ℕ → BoardValue → Option (List ℕ) → Option (List ℕ) → Result Turn Failed → BoardValue → History → Type 0
+IsTurn h m left b old new (Ok (turn.Left rest)) after now = Turned h m left b old new rest after now
+IsTurn h m left b old new (Ok turn.Spent) after now = ChargeRun m left b (run_outcome [] Charges after) × FewMore b after 0 × Appends old new [] × (now ≡ h) × (after ≡ b)
+IsTurn h m left b old new (Ok (turn.Stopped stop)) after now = ChargeRun m left b (run_outcome [] (Stopped stop) after) × FewMore b after 0 × Appends old new [] × (now ≡ h)
+IsTurn h m left b old new (Err e) after now = TurnedPartly h m left b old new after
+
+-- the history and the bytes behind moments
+pub record Wrote (h : History) (ms : List Moment) (old new : Option (List ℕ)) (now : History) : Type 0 where
+  pub written : Appends old new (lines_from h ms)
+  pub history : now ≡ after_all h ms
+
+-- how a charge ended
+abbrev pub ended : Option Stop → End
+ended None = Charges
+ended (Some stop) = Stopped stop
+
+-- where a charge is spent, the board is the one behind its moments
+abbrev pub StandsBehind : Option Stop → BoardValue → List Moment → BoardValue → Type 0
+StandsBehind None b ms after = after ≡ board_after b ms
+StandsBehind (Some stop) b ms after = Unit {0}
+
+-- the rest of a charge, to its end
+pub record SpentCharge (h : History) (m : Measure) (left : ℕ) (b : BoardValue) (old new : Option (List ℕ)) (stop : Option Stop) (after : BoardValue) (now : History) : Type 0 where
+  pub moments : List Moment
+  pub run : ChargeRun m left b (run_outcome moments (ended stop) after)
+  pub wrote : Wrote h moments old new now
+  pub few : FewMore b after left
+  pub board : StandsBehind stop b moments after
+
+-- lines of a run weren't written whole: the board is one of the run
+pub record StoppedWriting (h : History) (b : BoardValue) (r : RunOutcome) (old new : Option (List ℕ)) (after : BoardValue) : Type 0 where
+  pub board : IsBehindSome b r.moments after
+  pub written : AppendsProperPrefix old new (lines_from h r.moments)
+
+-- the rest of a charge
+abbrev pub IsSpent : History → Measure → ℕ → BoardValue → Option (List ℕ) → Option (List ℕ) → Result (Option Stop) Failed → BoardValue → History → Type 0
+IsSpent h m left b old new (Ok stop) after now = SpentCharge h m left b old new stop after now
+IsSpent h m left b old new (Err e) after now = (r : RunOutcome) × ChargeRun m left b r × StoppedWriting h b r old new after
+
+-- charges that come first, all of them spent
+pub record WentThrough (cs : List BoardCharge) (b : BoardValue) (ms : List Moment) (after : BoardValue) : Type 0 where
+  pub run : (more : List BoardCharge) (r : RunOutcome) → Run more after r → Run (cs ++ more) b (after_moments ms r)
+  pub board : after ≡ board_after b ms
+
+-- charges that come first, in which the board stopped
+abbrev pub StoppedIn : List BoardCharge → BoardValue → List Moment → Stop → BoardValue → Type 0
+StoppedIn cs b ms stop after = (more : List BoardCharge) → Run (cs ++ more) b (run_outcome ms (Stopped stop) after)
+
+-- charges that come first, to the end of the last or a stop
+abbrev pub Went : List BoardCharge → BoardValue → List Moment → Option Stop → BoardValue → Type 0
+Went cs b ms None after = WentThrough cs b ms after
+Went cs b ms (Some stop) after = StoppedIn cs b ms stop after
+
+pub record SpentCharges (h : History) (cs : List BoardCharge) (b : BoardValue) (old new : Option (List ℕ)) (stop : Option Stop) (after : BoardValue) (now : History) (n : ℕ) : Type 0 where
+  pub moments : List Moment
+  pub went : Went cs b moments stop after
+  pub wrote : Wrote h moments old new now
+  pub few : FewMore b after n
+
+-- charges that come first, with at most so many instructions
+abbrev pub AreSpent : History → List BoardCharge → BoardValue → Option (List ℕ) → Option (List ℕ) → Result (Option Stop) Failed → BoardValue → History → ℕ → Type 0
+AreSpent h cs b old new (Ok stop) after now n = SpentCharges h cs b old new stop after now n
+AreSpent h cs b old new (Err e) after now n = (more : List BoardCharge) → (r : RunOutcome) × Run (cs ++ more) b r × StoppedWriting h b r old new after

@@ -1,0 +1,18 @@
+-- A watch as a history.
+use Rattle.std.specs.Prelude.{◌≡◌, length, Option, Some, None, option_map}
+use Rattle.image_map.specs.MapValue.{MapValue}
+use Rattle.board_run.specs.declared.state.State.{State}
+use Rattle.board_run.specs.declared.watch.Watch.TheInside.{Inside}
+use Rattle.board_run.specs.History.{History, shared_words}
+use Rattle.board_run.specs.State.{history_of}
+
+abbrev pub watched : Inside → History
+watched w = history_of (option_map (λ m. m.now) w.map) w.state
+
+-- with a map, the shadow has a place for each shared word
+abbrev pub IsShadow : Option MapValue → State → Type 0
+IsShadow None s = Unit {0}
+IsShadow (Some m) s = length s.shared.items ≡ length (shared_words m.variables)
+
+abbrev pub HasShadow : Inside → Type 0
+HasShadow w = IsShadow (option_map (λ m. m.now) w.map) w.state

@@ -1,0 +1,114 @@
+//! One charge of a run.
+ghost use Rattle.std.specs.Prelude.{◌≡◌, ◌+◌, ◌-◌, ◌^◌, ◌<◌, ◌≤◌};
+ghost use Rattle.alp_io.specs.Count.{HasCause};
+ghost use Rattle.fram_board.specs.Board.{IsNextInstruction};
+ghost use Rattle.fram_board.specs.Run.{price};
+ghost use Rattle.board_run.specs.Charges.{measure_of};
+ghost use Rattle.board_run.specs.Parts.{IsTurn, IsSpent};
+
+use crate::watch::Watch;
+use alp_io::{Failed, Report, Sink};
+use energy_trace::ChargeKind;
+use fram_board::Board;
+use msp_cycles::cycles;
+use msp_isa::Instr;
+use msp_step::Stop;
+
+/// What a turn of a charge came to.
+pub enum Turn {
+    /// An instruction was executed, and so much is left of the charge.
+    Left(u32),
+    /// The charge is spent.
+    Spent,
+    /// The board stopped.
+    Stopped(Stop),
+}
+
+// What an instruction takes off a charge.
+fn price(kind: ChargeKind, instruction: &Instr) -> u32
+    ensures { result ≡ price (measure_of kind) instruction.now }
+{
+    match kind {
+        ChargeKind::Cycles => cycles(instruction),
+        ChargeKind::Steps => 1,
+    }
+}
+
+// The board's next instruction is executed, if what is left of the charge pays for it.
+fn execute<S: Sink>(
+    board: &mut Board,
+    instruction: &Instr,
+    kind: ChargeKind,
+    left: u32,
+    watch: &mut Watch<'_>,
+    report: &mut Report<'_, S>,
+) -> Result<Turn, Failed>
+    requires next { IsNextInstruction board.old instruction.now }
+    requires some { 0 < left }
+    requires accepted { board.old.receiver.accepted < 2 ^ 64 - 1 }
+    requires repeats { board.old.receiver.repeats < 2 ^ 64 - 1 }
+    ensures same_sink { report.new.sink.ghost_name ≡ report.old.sink.ghost_name }
+    ensures turn { IsTurn watch.old (measure_of kind) left board.old
+        (S.contents report.old.sink.now) (S.contents report.new.sink.now) result board.new watch.new }
+    ensures cause { HasCause (S.faults report.old.sink.now) (S.faults report.new.sink.now) result }
+{
+    let price = price(kind, instruction);
+    if price > left {
+        return Ok(Turn::Spent);
+    }
+    let done = match board.execute(instruction) {
+        Ok(done) => done,
+        Err(stop) => return Ok(Turn::Stopped(stop)),
+    };
+    watch.note(&done, board, report)?;
+    Ok(Turn::Left(left - price))
+}
+
+// One turn of a charge of which so much is left.
+fn take_turn<S: Sink>(
+    board: &mut Board,
+    kind: ChargeKind,
+    left: u32,
+    watch: &mut Watch<'_>,
+    report: &mut Report<'_, S>,
+) -> Result<Turn, Failed>
+    requires accepted { board.old.receiver.accepted < 2 ^ 64 - 1 }
+    requires repeats { board.old.receiver.repeats < 2 ^ 64 - 1 }
+    ensures same_sink { report.new.sink.ghost_name ≡ report.old.sink.ghost_name }
+    ensures turn { IsTurn watch.old (measure_of kind) left board.old
+        (S.contents report.old.sink.now) (S.contents report.new.sink.now) result board.new watch.new }
+    ensures cause { HasCause (S.faults report.old.sink.now) (S.faults report.new.sink.now) result }
+{
+    if left == 0 {
+        return Ok(Turn::Spent);
+    }
+    match board.current_instruction() {
+        Ok(instruction) => execute(board, &instruction, kind, left, watch, report),
+        Err(stop) => Ok(Turn::Stopped(stop)),
+    }
+}
+
+/// Spends what is left of a charge; answers why the board stopped, if it did.
+pub fn spend<S: Sink>(
+    board: &mut Board,
+    kind: ChargeKind,
+    amount: u32,
+    watch: &mut Watch<'_>,
+    report: &mut Report<'_, S>,
+) -> Result<Option<Stop>, Failed>
+    requires accepted { board.old.receiver.accepted < 2 ^ 63 + 2 ^ 62 }
+    requires repeats { board.old.receiver.repeats < 2 ^ 63 + 2 ^ 62 }
+    ensures same_sink { report.new.sink.ghost_name ≡ report.old.sink.ghost_name }
+    ensures spent { IsSpent watch.old (measure_of kind) amount board.old
+        (S.contents report.old.sink.now) (S.contents report.new.sink.now) result board.new watch.new }
+    ensures cause { HasCause (S.faults report.old.sink.now) (S.faults report.new.sink.now) result }
+{
+    let mut left = amount;
+    loop {
+        match take_turn(board, kind, left, watch, report)? {
+            Turn::Left(rest) => left = rest,
+            Turn::Spent => return Ok(None),
+            Turn::Stopped(stop) => return Ok(Some(stop)),
+        }
+    }
+}

@@ -1,0 +1,83 @@
+-- The receiver's count is the number of the words that a run accepted.
+use Rattle.std.proofs.Common.{◌≡◌, ◌+◌, if◌then◌else◌, arith, ℕ, refl, sym, ◌∙◌, ap, Bool, true, false, List, [], ◌∷◌, ◌++◌, length, length-append, append_assoc, Option, Some, None, Result, Ok, Err}
+use Rattle.msp_isa.specs.declared.instructions.Instr.{Instr}
+use Rattle.msp_step.specs.declared.machine.Stop.{Stop}
+use Rattle.msp_step.specs.declared.machine.Stepped as machine
+use Rattle.msp_step.specs.Registers.{Registers, registers_of}
+use Rattle.msp_step.specs.Access.{Access, Completed, Faulted}
+use Rattle.msp_step.specs.Effect.{Written}
+use Rattle.msp_step.specs.Step.{outcome_of, effect, execution}
+use Rattle.msp_step.proofs.Accesses.{Ends, effect_ends}
+use Rattle.fram_board.specs.declared.board.Stepped.{Stepped}
+use Rattle.fram_board.specs.declared.receiver.Receiver.{Receiver}
+use Rattle.fram_board.specs.Bus.{BusState, board_bus}
+use Rattle.fram_board.specs.Board.{BoardValue, opened, answer_of, executed, is_accepted, accepted_word, receiver_after}
+use Rattle.fram_board.specs.Run.{Measure, BoardCharge, Moment, RunOutcome, ChargeRun, Spent, NoInstruction, TooDear, Refused, Executed, Run, Over, Next, Last, word_list, accepted_by, accepted_words}
+use Rattle.fram_board.specs.Laws.{AcceptedAreCounted}
+use Rattle.fram_board.proofs.Takes.{only_takes}
+
+counted_one : (b : Bool) (w : ℕ) (r : Receiver)
+    → (if b then record r { accepted = r.accepted + 1 } else record r { repeats = r.repeats + 1 }).accepted ≡ r.accepted + length (word_list (if b then Some w else None))
+counted_one true w r = omega arith
+counted_one false w r = omega arith
+
+counted : (number : ℕ) (o : Option ℕ) (r : Receiver) → (receiver_after number o r).accepted ≡ r.accepted + length (word_list (accepted_word number o r))
+counted number None r = omega arith
+counted number (Some w) r = counted_one (is_accepted number r) w r
+
+told_ok : (b : BoardValue) (s : BusState) (a : Result machine.Stepped Stop) (done : Stepped) → answer_of b s a ≡ Ok done → done.accepted ≡ accepted_word s.outnum s.offered b.receiver
+told_ok b s (Ok d) done e = cc
+told_ok b s (Err x) done e = cc
+
+told_err : (b : BoardValue) (s : BusState) (a : Result machine.Stepped Stop) (stop : Stop) → answer_of b s a ≡ Err stop → (e : Stop) × (a ≡ Err e)
+told_err b s (Ok d) stop e = cc
+told_err b s (Err x) stop e = (x, refl)
+
+executed_counts : (b : BoardValue) (i : Instr) (done : Stepped) → (executed b i).answer ≡ Ok done → (executed b i).board.receiver.accepted ≡ b.receiver.accepted + length (word_list done.accepted)
+executed_counts b i done e =
+    let o = execution board_bus i (registers_of b.cpu) (opened b) in
+    counted o.bus.outnum o.bus.offered b.receiver ∙ ap (λ x. b.receiver.accepted + length (word_list x)) (sym (told_ok b o.bus o.answer done e))
+
+quiet : (i : Instr) (r : Registers) (s : BusState) (m : Access BusState (Registers × Option Written)) → Ends board_bus 2 s m → s.offered ≡ None
+    → (e : Stop) → (outcome_of i r m).answer ≡ Err e → (outcome_of i r m).bus.offered ≡ None
+quiet i r s (Completed x t) h off e is = cc
+quiet i r s (Faulted f a t) h off e is = let g = only_takes 2 s t h in ap (λ x. x.offered) g.same ∙ off
+
+refused_counts : (b : BoardValue) (i : Instr) (stop : Stop) → (executed b i).answer ≡ Err stop → (executed b i).board.receiver.accepted ≡ b.receiver.accepted
+refused_counts b i stop e =
+    let r = registers_of b.cpu in
+    let o = execution board_bus i r (opened b) in
+    let t = told_err b o.bus o.answer stop e in
+    let off = quiet i r (opened b) (effect board_bus i r (opened b)) (effect_ends board_bus i r (opened b)) refl t.0 t.1 in
+    ap (λ x. (receiver_after o.bus.outnum x b.receiver).accepted) off
+
+words-append : (ms ns : List Moment) → accepted_words (ms ++ ns) ≡ accepted_words ms ++ accepted_words ns
+words-append [] ns = refl
+words-append (m ∷ ms) ns =
+    ap (λ ws. accepted_by m.action ++ ws) (words-append ms ns) ∙ sym (append_assoc (accepted_by m.action) (accepted_words ms) (accepted_words ns))
+
+length-words : (ms ns : List Moment) → length (accepted_words (ms ++ ns)) ≡ length (accepted_words ms) + length (accepted_words ns)
+length-words ms ns = ap (λ ws. length ws) (words-append ms ns) ∙ length-append (accepted_words ms) (accepted_words ns)
+
+charge_counts : (m : Measure) (left : ℕ) (b : BoardValue) (r : RunOutcome) → ChargeRun m left b r → r.board.receiver.accepted ≡ b.receiver.accepted + length (accepted_words r.moments)
+charge_counts m left b r (Spent _ _ none) = omega arith
+charge_counts m left b r (NoInstruction _ _ e pos h) = omega arith
+charge_counts m left b r (TooDear _ _ i pos c dear) = omega arith
+charge_counts m left b r (Refused _ _ i e pos c paid a) = let h = refused_counts b i e a in omega arith
+charge_counts m left b r (Executed _ _ i done rest pos c paid a h) =
+    let first = executed_counts b i done a in
+    let next = charge_counts m _ (executed b i).board rest h in
+    let parts = length-append (word_list done.accepted) (accepted_words rest.moments) in
+    omega arith
+
+run_counts : (cs : List BoardCharge) (b : BoardValue) (r : RunOutcome) → Run cs b r → r.board.receiver.accepted ≡ b.receiver.accepted + length (accepted_words r.moments)
+run_counts cs b r (Over _) = omega arith
+run_counts cs b r (Next c ds _ ms end rest h k) =
+    let first = charge_counts c.measure c.amount _ _ h in
+    let next = run_counts ds end rest k in
+    let parts = length-words ms rest.moments in
+    omega arith
+run_counts cs b r (Last c ds _ ms stop end h) = let first = charge_counts c.measure c.amount _ _ h in omega arith
+
+pub accepted_are_counted : AcceptedAreCounted
+accepted_are_counted cs b r h = run_counts cs b r h

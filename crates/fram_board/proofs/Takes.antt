@@ -1,0 +1,87 @@
+-- An instruction takes at most two readings, and where the bus refuses an access it changes nothing else.
+use Rattle.std.proofs.Common.{◌≡◌, ◌≤◌, ◌+◌, ◌==◌, if◌then◌else◌, suc, arith, ℕ, refl, ◌∙◌, ap, subst, Option, Some, None, Bool, true, false, List}
+use Rattle.alp_words.specs.declared.Width.{Width}
+use Rattle.alp_words.specs.declared.Width.TheVariants.{Word, Byte}
+use Rattle.msp_isa.specs.declared.instructions.Instr.{Instr}
+use Rattle.msp_step.specs.Registers.{Registers}
+use Rattle.msp_step.specs.Access.{Access, Completed, Faulted, HasRead, Nothing, Once, OnlyReads}
+use Rattle.msp_step.specs.Effect.{Written}
+use Rattle.msp_step.specs.Step.{effect, execution, outcome_of}
+use Rattle.msp_step.specs.Laws.{AfterWrite}
+use Rattle.msp_step.proofs.Accesses.{Ends, effect_ends}
+use Rattle.fram_board.specs.Bus.{BusState, board_bus, after_read, written, port_written, with_word, is_ram, is_word, is_memory, with_byte, memory_word, sensor_port, number_port, data_port}
+
+-- so many readings more at most
+pub record TakesUpTo (n : ℕ) (s t : BusState) : Type 0 where
+  pub from : s.taken ≤ t.taken
+  pub to : t.taken ≤ s.taken + n
+
+-- and nothing else
+pub record TakesOnly (n : ℕ) (s t : BusState) : Type 0 where
+  pub same : t ≡ record s { taken = t.taken }
+  pub takes : TakesUpTo n s t
+
+one_more : (b : Bool) (k : ℕ) → (k ≤ (if b then k + 1 else k)) × ((if b then k + 1 else k) ≤ k + 1)
+one_more true k = (omega arith, omega arith)
+one_more false k = (omega arith, omega arith)
+
+read_takes : (s : BusState) (a : ℕ) (w : Width) → TakesOnly 1 s (after_read s a w)
+read_takes s a Word = let m = one_more (a == sensor_port) s.taken in record { same = refl; takes = record { from = m.0; to = m.1 } }
+read_takes s a Byte = record { same = refl; takes = record { from = omega arith; to = omega arith } }
+
+join : (n : ℕ) (s t u : BusState) → TakesOnly n s t → TakesOnly 1 t u → TakesOnly (suc n) s u
+join n s t u g h =
+    let a = g.takes.from in
+    let b = g.takes.to in
+    let c = h.takes.from in
+    let d = h.takes.to in
+    record { same = h.same ∙ ap {A = BusState} (λ x. record x { taken = u.taken }) g.same; takes = record { from = omega arith; to = omega arith } }
+
+reads_take : (s t : BusState) (n : ℕ) → HasRead board_bus s n t → TakesOnly n s t
+reads_take s t n Nothing = record { same = refl; takes = record { from = omega arith; to = omega arith } }
+reads_take s t n (Once m u a w v h e) = join m s u t (reads_take s u m h) (read_takes u a w)
+
+pub only_takes : (n : ℕ) (s t : BusState) → OnlyReads board_bus n s t → TakesOnly n s t
+only_takes n s t h =
+    let g = reads_take s t h.count h.reads in
+    let f = h.few in
+    let b = g.takes.to in
+    record { same = g.same; takes = record { from = g.takes.from; to = omega arith } }
+
+-- a write takes none
+abbrev SameTaken : BusState → Option BusState → Type 0
+SameTaken s None = Unit {0}
+SameTaken s (Some t) = t.taken ≡ s.taken
+
+word_taken : (s : BusState) (b : Bool) (r f : List ℕ) → (if b then record s { ram = r } else record s { fram = f }).taken ≡ s.taken
+word_taken s true r f = refl
+word_taken s false r f = refl
+
+port_taken : (s : BusState) (b c : Bool) (v : ℕ) → SameTaken s (if b then Some (record s { outnum = v }) else if c then Some (record s { offered = Some v }) else None)
+port_taken s true c v = refl
+port_taken s false true v = refl
+port_taken s false false v = tt
+
+either_taken : (s : BusState) (b : Bool) (x y : Option BusState) → SameTaken s x → SameTaken s y → SameTaken s (if b then x else y)
+either_taken s true x y g h = g
+either_taken s false x y g h = h
+
+write_taken : (s : BusState) (a : ℕ) (w : Width) (v : ℕ) → SameTaken s (written s a w v)
+write_taken s a Word v = either_taken s (is_word a) (Some (with_word s a v)) (port_written s a v) (word_taken s (is_ram a) _ _) (port_taken s (a == number_port) (a == data_port) v)
+write_taken s a Byte v = either_taken s (is_memory a) (Some (with_word s a (with_byte (memory_word s a) a v))) None (word_taken s (is_ram a) _ _) tt
+
+after_write_taken : (s t : BusState) (w : Option Written) → AfterWrite board_bus w s t → t.taken ≡ s.taken
+after_write_taken s t None h = ap (λ x. x.taken) h
+after_write_taken s t (Some w) h = let P : Option BusState → Type 0 = λ x. SameTaken s x in subst P h.1 (write_taken s w.0 h.0 w.1)
+
+outcome_takes : (i : Instr) (r : Registers) (s : BusState) (m : Access BusState (Registers × Option Written)) → Ends board_bus 2 s m → TakesUpTo 2 s (outcome_of i r m).bus
+outcome_takes i r s (Completed x t) h =
+    let g = only_takes 2 s h.0 h.1 in
+    let a = g.takes.from in
+    let b = g.takes.to in
+    let c = after_write_taken h.0 t x.1 h.2 in
+    record { from = omega arith; to = omega arith }
+outcome_takes i r s (Faulted e a t) h = (only_takes 2 s t h).takes
+
+pub execution_takes : (i : Instr) (r : Registers) (s : BusState) → TakesUpTo 2 s (execution board_bus i r s).bus
+execution_takes i r s = outcome_takes i r s (effect board_bus i r s) (effect_ends board_bus i r s)

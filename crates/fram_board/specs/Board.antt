@@ -1,0 +1,185 @@
+-- The board: CPU, memory, ports, readings and receiver; power-up; one step.
+use Rattle.std.specs.Prelude.{ℕ, ◌+◌, ◌-◌, ◌%◌, ◌≡◌, ◌<◌, ◌≤◌, ◌==◌, Bool, if◌then◌else◌, List, [], ◌∷◌, All, length, replicate, slice_index, Result, Ok, Err, Option, Some, None}
+use Rattle.msp_isa.specs.declared.instructions.Instr.{Instr}
+use Rattle.msp_step.specs.declared.machine.Stop.{Stop}
+use Rattle.msp_step.specs.declared.machine.Stepped as cpu
+use Rattle.msp_step.specs.Registers.{Registers, registers_of, kept, powered_up}
+use Rattle.msp_step.specs.Step.{Outcome, IsCurrentInstruction, IsStopped, StepResult, Costs, execution}
+use Rattle.image_text.specs.ImageValue.{place_of}
+use Rattle.fram_board.specs.declared.board.Stepped.{Stepped}
+use Rattle.fram_board.specs.declared.receiver.Receiver.{Receiver}
+use Rattle.fram_board.specs.Bus.{BusState, IsBusState, board_bus}
+
+-- the board between two instructions
+pub record BoardValue : Type 0 where
+  pub cpu : List ℕ  -- the sixteen registers
+  pub fram : List ℕ  -- the words at 4400, 4402 .. FFFE
+  pub ram : List ℕ  -- the words at 1C00, 1C02 .. 23FE
+  pub outnum : ℕ  -- the word last written to OUTNUM
+  pub readings : List ℕ  -- all readings of the sensor
+  pub taken : ℕ  -- how many of them were taken
+  pub receiver : Receiver  -- its two counts
+
+-- so many equal words
+unfoldable pub filled_words : ℕ → ℕ → List ℕ
+filled_words n w = replicate n w
+
+-- the reset vector
+abbrev pub vector_of : List ℕ → ℕ
+vector_of fram = slice_index fram (place_of 0xFFFE)
+
+-- the board with this FRAM and these readings, before anything was done
+abbrev pub fresh : List ℕ → List ℕ → BoardValue
+fresh fram readings = record {
+  cpu = powered_up (vector_of fram) 0;
+  fram = fram;
+  ram = filled_words 1024 0;
+  outnum = 0;
+  readings = readings;
+  taken = 0;
+  receiver = record { accepted = 0; repeats = 0 };
+}
+
+-- the words that a power-up leaves in what doesn't last
+pub record PowerState : Type 0 where
+  pub sp : ℕ
+  pub work : List ℕ  -- R4 to R15
+  pub ram : List ℕ
+  pub outnum : ℕ
+
+-- these may be any words
+pub record IsPowerState (p : PowerState) : Type 0 where
+  pub sp : p.sp < 0x10000
+  pub work : All (λ w. w < 0x10000) p.work
+  pub work_len : length p.work ≡ 12
+  pub ram : All (λ w. w < 0x10000) p.ram
+  pub ram_len : length p.ram ≡ 1024
+  pub outnum : p.outnum < 0x10000
+
+-- all of them are the fill word
+abbrev pub filled : ℕ → PowerState
+filled f = record {
+  sp = f;
+  work = f ∷ f ∷ f ∷ f ∷ f ∷ f ∷ f ∷ f ∷ f ∷ f ∷ f ∷ f ∷ [];
+  ram = filled_words 1024 f;
+  outnum = f;
+}
+
+-- a power-up: PC is the reset vector and SR is 0; FRAM, readings and receiver are as before
+abbrev pub powered : BoardValue → PowerState → BoardValue
+powered b p = record b {
+  cpu = kept 0 (vector_of b.fram) ∷ kept 1 p.sp ∷ 0 ∷ 0 ∷ p.work;
+  ram = p.ram;
+  outnum = p.outnum;
+}
+
+-- the receiver accepts a word exactly where its number is the count of accepted words, modulo 65536
+abbrev pub is_accepted : ℕ → Receiver → Bool
+is_accepted number r = number == (r.accepted % 0x10000)
+
+-- the receiver after a word with this number; a word that isn't accepted counts as a repeat
+abbrev pub offered_to : ℕ → Receiver → Receiver
+offered_to number r =
+    if is_accepted number r then record r { accepted = r.accepted + 1 }
+    else record r { repeats = r.repeats + 1 }
+
+-- the receiver after an instruction, which may have offered a word
+abbrev pub receiver_after : ℕ → Option ℕ → Receiver → Receiver
+receiver_after number (Some w) r = offered_to number r
+receiver_after number None r = r
+
+-- the word that the receiver accepted of an instruction
+abbrev pub accepted_word : ℕ → Option ℕ → Receiver → Option ℕ
+accepted_word number (Some w) r = if is_accepted number r then Some w else None
+accepted_word number None r = None
+
+-- memory and ports as an instruction begins
+abbrev pub opened : BoardValue → BusState
+opened b = record {
+  fram = b.fram;
+  ram = b.ram;
+  outnum = b.outnum;
+  readings = b.readings;
+  taken = b.taken;
+  offered = None;
+}
+
+-- the sixteen registers as a list
+abbrev pub register_list : Registers → List ℕ
+register_list r =
+    r 0 ∷ r 1 ∷ r 2 ∷ r 3 ∷ r 4 ∷ r 5 ∷ r 6 ∷ r 7
+    ∷ r 8 ∷ r 9 ∷ r 10 ∷ r 11 ∷ r 12 ∷ r 13 ∷ r 14 ∷ r 15 ∷ []
+
+-- the board after these registers and this bus
+abbrev pub closed : BoardValue → Registers → BusState → BoardValue
+closed b r s = record {
+  cpu = register_list r;
+  fram = s.fram;
+  ram = s.ram;
+  outnum = s.outnum;
+  readings = s.readings;
+  taken = s.taken;
+  receiver = receiver_after s.outnum s.offered b.receiver;
+}
+
+-- what a board answers of what its CPU answered
+abbrev pub answer_of : BoardValue → BusState → Result cpu.Stepped Stop → Result Stepped Stop
+answer_of b s (Ok done) = Ok (record {
+  cycles = done.cycles;
+  wrote = done.wrote;
+  took = s.taken - b.taken;
+  accepted = accepted_word s.outnum s.offered b.receiver;
+})
+answer_of b s (Err stop) = Err stop
+
+-- what a step gives: its answer, the word that it offered to the receiver, accepted or not, and the board after it
+pub record BoardOutcome : Type 0 where
+  pub answer : Result Stepped Stop
+  pub offered : Option ℕ
+  pub board : BoardValue
+
+-- what the board makes of its CPU's step
+abbrev pub board_outcome : BoardValue → Outcome BusState → BoardOutcome
+board_outcome b o = record {
+  answer = answer_of b o.bus o.answer;
+  offered = o.bus.offered;
+  board = closed b o.registers o.bus;
+}
+
+-- this instruction is the one at PC, and CPUOFF is clear
+abbrev pub IsNextInstruction : BoardValue → Instr → Type 0
+IsNextInstruction b i = IsCurrentInstruction board_bus (registers_of b.cpu) (opened b) i
+
+-- CPUOFF is set, or no instruction can be had at PC
+abbrev pub IsStoppedBy : BoardValue → Stop → Type 0
+IsStoppedBy b stop = IsStopped board_bus (registers_of b.cpu) (opened b) stop
+
+-- the next instruction's cycles, or why there is none
+abbrev pub BoardCosts : BoardValue → Result ℕ Stop → Type 0
+BoardCosts b answer = Costs board_bus (registers_of b.cpu) (opened b) answer
+
+-- an instruction, executed as the one at PC
+abbrev pub executed : BoardValue → Instr → BoardOutcome
+executed b i = board_outcome b (execution board_bus i (registers_of b.cpu) (opened b))
+
+-- one step of the board is one step of its CPU on its bus
+abbrev pub IsStep : BoardValue → BoardOutcome → Type 0
+IsStep b x = (o : Outcome BusState) × StepResult board_bus (registers_of b.cpu) (opened b) o × (x ≡ board_outcome b o)
+
+-- the same of what is answered and the board after it; what was offered is left out
+abbrev pub IsStepOf : BoardValue → Result Stepped Stop → BoardValue → Type 0
+IsStepOf b answer after = (offered : Option ℕ) × IsStep b (record { answer = answer; offered = offered; board = after })
+
+-- a stop changes nothing, but that up to two readings were taken
+pub record KeepsAllButTaken (b after : BoardValue) : Type 0 where
+  pub same : after ≡ record b { taken = after.taken }
+  pub from : b.taken ≤ after.taken
+  pub to : after.taken ≤ b.taken + 2
+
+-- at most one word more was accepted or repeated
+abbrev pub OffersOneAtMost : Receiver → Receiver → Type 0
+OffersOneAtMost r after = after.accepted + after.repeats ≤ r.accepted + r.repeats + 1
+
+-- the lists are as long as the memory map says, and no more readings are taken than there are
+abbrev pub IsBoard : BoardValue → Type 0
+IsBoard b = IsBusState (opened b)

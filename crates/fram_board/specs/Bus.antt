@@ -1,0 +1,121 @@
+-- The board as the CPU's bus: the memory map and the ports. RAM is 1C00 to 23FF, FRAM 4400 to FFFF; a word read at 0200
+-- takes a reading, a word written to 0202 is kept, a word written to 0204 is offered to the receiver; nothing else answers.
+use Rattle.std.specs.Prelude.{ℕ, ◌+◌, ◌-◌, ◌/◌, ◌%◌, ◌≡◌, ◌≤◌, Bool, ◌&&◌, ◌||◌, ◌==◌, nat_le, nat_lt, if◌then◌else◌, List, length, slice_index, slice_set, Result, Ok, Err, Option, Some, None}
+use Rattle.alp_words.specs.declared.Width.{Width}
+use Rattle.alp_words.specs.declared.Width.TheVariants.{Word, Byte}
+use Rattle.alp_words.specs.Words.{word_bytes, word_of_bytes}
+use Rattle.msp_step.specs.declared.bus.Refused.{Refused}
+use Rattle.msp_step.specs.declared.bus.Refused.TheVariants as refused
+use Rattle.msp_step.specs.Access.{BusModel}
+use Rattle.image_text.specs.ImageValue.{place_of}
+
+-- memory and ports during one instruction
+pub record BusState : Type 0 where
+  pub fram : List ℕ  -- the words at 4400, 4402 .. FFFE
+  pub ram : List ℕ  -- the words at 1C00, 1C02 .. 23FE
+  pub outnum : ℕ  -- the word last written to OUTNUM
+  pub readings : List ℕ  -- all readings of the sensor
+  pub taken : ℕ  -- how many of them were taken
+  pub offered : Option ℕ  -- the word that the instruction wrote to OUTDATA, if it did
+
+-- the sensor port SENSOR
+abbrev pub sensor_port : ℕ
+sensor_port = 0x200
+
+-- the port OUTNUM: the number of the word that is offered next
+abbrev pub number_port : ℕ
+number_port = 0x202
+
+-- the port OUTDATA: a word written here is offered to the receiver
+abbrev pub data_port : ℕ
+data_port = 0x204
+
+-- the addresses of RAM
+abbrev pub is_ram : ℕ → Bool
+is_ram a = nat_le 0x1C00 a && nat_lt a 0x2400
+
+-- the addresses of FRAM
+abbrev pub is_fram : ℕ → Bool
+is_fram a = nat_le 0x4400 a && nat_lt a 0x10000
+
+-- the addresses of memory
+abbrev pub is_memory : ℕ → Bool
+is_memory a = is_ram a || is_fram a
+
+-- the addresses of whole words of memory
+abbrev pub is_word : ℕ → Bool
+is_word a = (a % 2 == 0) && is_memory a
+
+-- where the word of RAM stands in the list to which an address belongs
+abbrev pub ram_place : ℕ → ℕ
+ram_place a = (a - 0x1C00) / 2
+
+-- the word to which an address of memory belongs
+abbrev pub memory_word : BusState → ℕ → ℕ
+memory_word s a = if is_ram a then slice_index s.ram (ram_place a) else slice_index s.fram (place_of a)
+
+-- the same with another word there
+abbrev pub with_word : BusState → ℕ → ℕ → BusState
+with_word s a w =
+    if is_ram a then record s { ram = slice_set s.ram (ram_place a) w }
+    else record s { fram = slice_set s.fram (place_of a) w }
+
+-- the byte of a word: the low one at its even address, the high one at the odd
+abbrev pub byte_of : ℕ → ℕ → ℕ
+byte_of w a = slice_index (word_bytes w) (a % 2)
+
+-- a word with one of its bytes replaced by the low byte of v
+abbrev pub with_byte : ℕ → ℕ → ℕ → ℕ
+with_byte w a v = word_of_bytes (slice_set (word_bytes w) (a % 2) (v % 0x100))
+
+-- a fetch is served at the words of memory
+abbrev pub fetched : BusState → ℕ → Option ℕ
+fetched s a = if is_word a then Some (memory_word s a) else None
+
+-- the next reading, if one is left
+abbrev pub next_reading : BusState → Result ℕ Refused
+next_reading s =
+    if nat_lt s.taken (length s.readings) then Ok (slice_index s.readings s.taken)
+    else Err refused.NoReading
+
+-- a read is served in memory, of a word at an even address; and a word read at SENSOR
+abbrev pub read_of : BusState → ℕ → Width → Result ℕ Refused
+read_of s a Word =
+    if is_word a then Ok (memory_word s a)
+    else if a == sensor_port then next_reading s
+    else Err refused.Bus
+read_of s a Byte = if is_memory a then Ok (byte_of (memory_word s a) a) else Err refused.Bus
+
+-- a word read at SENSOR takes the reading
+abbrev pub after_read : BusState → ℕ → Width → BusState
+after_read s a Word = record s { taken = if a == sensor_port then s.taken + 1 else s.taken }
+after_read s a Byte = s
+
+-- a word written to a port
+abbrev pub port_written : BusState → ℕ → ℕ → Option BusState
+port_written s a v =
+    if a == number_port then Some (record s { outnum = v })
+    else if a == data_port then Some (record s { offered = Some v })
+    else None
+
+-- a write is served in memory, of a word at an even address; and a word written to OUTNUM or OUTDATA
+abbrev pub written : BusState → ℕ → Width → ℕ → Option BusState
+written s a Word v = if is_word a then Some (with_word s a v) else port_written s a v
+written s a Byte v = if is_memory a then Some (with_word s a (with_byte (memory_word s a) a v)) else None
+
+-- the board as a bus
+abbrev pub board_bus : BusModel BusState
+board_bus = record {
+  memory = memory_word;
+  fetches = fetched;
+  reads = read_of;
+  after_read = after_read;
+  writes = written;
+}
+
+-- the lists are as long as the memory map says, and no more readings are taken than there are
+pub record IsBusState (s : BusState) : Type 0 where
+  pub fram : length s.fram ≡ 24064
+  pub ram : length s.ram ≡ 1024
+  pub taken : s.taken ≤ length s.readings
+  pub few : length s.readings ≤ 262144

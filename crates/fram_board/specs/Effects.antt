@@ -1,0 +1,59 @@
+-- What a step does that is seen from outside the CPU and RAM.
+use Rattle.std.specs.Prelude.{ℕ, ◌+◌, ◌-◌, ◌%◌, ◌≡◌, ◌≤◌, if◌then◌else◌, List, [], ◌∷◌, ◌++◌, map, slice_index, slice_range, slice_set, Result, Ok, Err, Option, Some, None}
+use Rattle.msp_step.specs.declared.machine.Stop.{Stop}
+use Rattle.image_text.specs.ImageValue.{place_of}
+use Rattle.fram_board.specs.declared.board.Stepped.{Stepped}
+use Rattle.fram_board.specs.declared.receiver.Receiver.{Receiver}
+use Rattle.fram_board.specs.Bus.{is_fram}
+use Rattle.fram_board.specs.Board.{BoardValue, BoardOutcome, offered_to}
+
+-- a store to FRAM, a reading taken, a word offered
+pub data Effect : Type 0 where
+  Store : (address word : ℕ) → Effect  -- a word of FRAM, at its even address
+  Take : (reading : ℕ) → Effect
+  Send : (number word : ℕ) → Effect  -- a word is offered to the receiver
+
+-- the readings taken
+abbrev pub takes_of : BoardValue → BoardOutcome → List Effect
+takes_of b x = map (λ w. Take w) (slice_range b.readings b.taken x.board.taken)
+
+-- the store to FRAM of a write at this address, read off FRAM after it: the whole word also where one byte was written
+abbrev pub store_at : Option ℕ → List ℕ → List Effect
+store_at None fram = []
+store_at (Some a) fram = if is_fram a then Store (a - a % 2) (slice_index fram (place_of a)) ∷ [] else []
+
+-- the store to FRAM of a step
+abbrev pub stores_of : Result Stepped Stop → BoardValue → List Effect
+stores_of (Ok done) after = store_at done.wrote after.fram
+stores_of (Err stop) after = []
+
+-- the word offered
+abbrev pub sends_of : ℕ → Option ℕ → List Effect
+sends_of number None = []
+sends_of number (Some w) = Send number w ∷ []
+
+-- the effects of a step, in order: its takes come before its store or its send
+abbrev pub effects_of : BoardValue → BoardOutcome → List Effect
+effects_of b x = takes_of b x ++ (stores_of x.answer x.board ++ sends_of b.outnum x.offered)
+
+-- FRAM after the stores among these effects
+abbrev pub stored : List Effect → List ℕ → List ℕ
+stored [] fram = fram
+stored (Store a w ∷ es) fram = stored es (slice_set fram (place_of a) w)
+stored (Take w ∷ es) fram = stored es fram
+stored (Send n w ∷ es) fram = stored es fram
+
+-- the receiver after the sends among them
+abbrev pub heard : List Effect → Receiver → Receiver
+heard [] r = r
+heard (Store a w ∷ es) r = heard es r
+heard (Take w ∷ es) r = heard es r
+heard (Send n w ∷ es) r = heard es (offered_to n r)
+
+-- the step changes FRAM by its stores, the receiver by its sends, and takes at most two readings
+pub record MakesItsEffects (b : BoardValue) (x : BoardOutcome) : Type 0 where
+  pub fram : x.board.fram ≡ stored (effects_of b x) b.fram
+  pub receiver : x.board.receiver ≡ heard (effects_of b x) b.receiver
+  pub readings : x.board.readings ≡ b.readings
+  pub from : b.taken ≤ x.board.taken
+  pub to : x.board.taken ≤ b.taken + 2

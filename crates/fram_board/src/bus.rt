@@ -1,0 +1,294 @@
+//! Memory and ports.
+
+ghost use Rattle.std.specs.Prelude.{◌≡◌, ◌∷◌, ℕ, ◌<◌, ◌≤◌, ◌+◌, ◌-◌, length, IsTrue, OnOk, OnErr, IfOk, IfErr, Some, None};
+ghost use Rattle.std.proofs.Common.{refl};
+ghost use Rattle.alp_words.specs.declared.Width.TheVariants.{Word, Byte};
+ghost use Rattle.image_text.specs.ImageValue.{word_at};
+ghost use Rattle.fram_board.specs.Bus.{IsBusState, is_ram, is_memory, is_word, memory_word, with_word, byte_of, with_byte, next_reading, port_written, board_bus};
+ghost use Rattle.fram_board.specs.Board.{filled_words, vector_of};
+
+use alp_words::{Width, from_bytes, to_bytes};
+use msp_step::{Bus, Refused};
+use std::alloc::{AllocError, Global};
+use std::marker::Model;
+
+const SENSOR: u16 = 0x0200;
+
+const OUTNUM: u16 = 0x0202;
+
+const OUTDATA: u16 = 0x0204;
+
+/// RAM, FRAM, the sensor's readings and the ports.
+#[derive(Drop)]
+pub struct Devices {
+    fram: Vec<u16>,
+    ram: Vec<u16>,
+    outnum: u16,
+    readings: Vec<u16>,
+    taken: usize,
+    offered: Option<u16>,
+}
+
+impl Model for Devices {
+    ghost use Rattle.fram_board.specs.Bus.{BusState, IsBusState};
+
+    ghost Value = { BusState };
+
+    ghost view = { λ d. record {
+      fram = d.fram.items;
+      ram = d.ram.items;
+      outnum = d.outnum;
+      readings = d.readings.items;
+      taken = d.taken;
+      offered = d.offered;
+    } };
+
+    ghost invariant = { λ d. IsBusState (record {
+      fram = d.fram.items;
+      ram = d.ram.items;
+      outnum = d.outnum;
+      readings = d.readings.items;
+      taken = d.taken;
+      offered = d.offered;
+    }) };
+}
+
+fn is_ram(address: u16) -> bool
+    ensures { result ≡ is_ram address }
+{
+    (0x1c00..0x2400).contains(&address)
+}
+
+fn is_memory(address: u16) -> bool
+    ensures { result ≡ is_memory address }
+{
+    0x4400 <= address || is_ram(address)
+}
+
+fn is_word(address: u16) -> bool
+    ensures { result ≡ is_word address }
+{
+    address % 2 == 0 && is_memory(address)
+}
+
+/// The byte of a word that stands at an address.
+fn byte_of(word: u16, address: u16) -> u16
+    ensures value { result ≡ byte_of word address }
+    ensures small { result < 0x100 }
+{
+    u16::from(to_bytes(word)[usize::from(address % 2)])
+}
+
+/// The word with this low byte at an address.
+fn with_byte(word: u16, address: u16, value: u16) -> u16
+    ensures { result ≡ with_byte word address value }
+{
+    let mut bytes = to_bytes(word);
+    bytes[usize::from(address % 2)] = to_bytes(value)[0];
+    from_bytes(bytes)
+}
+
+/// So many zeros.
+#[tactic(auto, unfolding(crate::specs::Board::filled_words))]
+fn zeros(alloc: Global, count: usize) -> Result<Vec<u16>, AllocError>
+    ensures value { IfOk result (λ v. v.items ≡ filled_words count 0) }
+    ensures len { IfOk result (λ v. length v.items ≡ count) }
+{
+    vec![in alloc; 0; count]
+}
+
+/// Each word becomes this one.
+#[tactic(auto, unfolding(crate::specs::Board::filled_words))]
+fn fill_words(words: &mut Vec<u16>, word: u16)
+    ensures value { words.new.items ≡ filled_words (length words.old.items) word }
+    ensures len { length words.new.items ≡ length words.old.items }
+{
+    words.fill(word);
+}
+
+impl Devices {
+    /// This FRAM and these readings, none of them taken; RAM and OUTNUM are 0.
+    pub fn new(alloc: Global, fram: &[u16], readings: &[u16]) -> Result<Devices, AllocError>
+        requires fram { length fram.now ≡ 24064 }
+        requires readings { length readings.now ≤ 262144 }
+        ensures { IfOk result (λ d. d ≡ record {
+          fram = fram.now;
+          ram = filled_words 1024 0;
+          outnum = 0;
+          readings = readings.now;
+          taken = 0;
+          offered = None;
+        }) }
+    {
+        Ok(Devices {
+            fram: fram.to_vec(alloc)?,
+            ram: zeros(alloc, 1024)?,
+            outnum: 0,
+            readings: readings.to_vec(alloc)?,
+            taken: 0,
+            offered: None,
+        })
+    }
+
+    /// RAM and OUTNUM hold the fill word.
+    pub fn power_up(&mut self, fill: u16)
+        ensures { self.new ≡ record self.old { ram = filled_words 1024 fill; outnum = fill } }
+    {
+        fill_words(&mut self.ram, fill);
+        self.outnum = fill;
+    }
+
+    /// The word to which an address of memory belongs.
+    fn word(&self, address: u16) -> u16
+        requires { IsTrue (is_memory address) }
+        ensures { result ≡ memory_word self.now address }
+    {
+        if 0x4400 <= address {
+            self.fram[usize::from((address - 0x4400) / 2)]
+        } else {
+            self.ram[usize::from((address - 0x1c00) / 2)]
+        }
+    }
+
+    /// Sets that word.
+    fn set_word(&mut self, address: u16, word: u16)
+        requires { IsTrue (is_memory address) }
+        ensures { self.new ≡ with_word self.old address word }
+    {
+        if 0x4400 <= address {
+            self.fram[usize::from((address - 0x4400) / 2)] = word;
+        } else {
+            self.ram[usize::from((address - 0x1c00) / 2)] = word;
+        }
+    }
+
+    /// The word at an even address of the FRAM; nothing at another address.
+    pub fn fram_word(&self, address: u16) -> Option<u16>
+        ensures { result ≡ word_at self.now.fram address }
+    {
+        if address >= 0x4400 && address % 2 == 0 {
+            Some(self.fram[usize::from((address - 0x4400) / 2)])
+        } else {
+            None
+        }
+    }
+
+    /// The reset vector.
+    pub fn vector(&self) -> u16
+        ensures { result ≡ vector_of self.now.fram }
+    {
+        self.fram[(0xfffe - 0x4400) / 2]
+    }
+
+    /// How many readings were taken.
+    pub fn taken(&self) -> u32
+        ensures taken { result ≡ self.now.taken }
+        ensures valid { IsBusState self.now }
+    {
+        self.taken as u32
+    }
+
+    /// The word last written to OUTNUM.
+    pub fn number(&self) -> u16
+        ensures { result ≡ self.now.outnum }
+    {
+        self.outnum
+    }
+
+    /// The word that an instruction offered, which is then forgotten.
+    pub fn take_offered(&mut self) -> Option<u16>
+        ensures word { result ≡ self.old.offered }
+        ensures cleared { self.new ≡ record self.old { offered = None } }
+    {
+        self.offered.take()
+    }
+
+    fn take_reading(&mut self) -> Result<u16, Refused>
+        ensures value { result ≡ next_reading self.old }
+        ensures ok { OnOk result (self.new ≡ record self.old { taken = self.old.taken + 1 }) }
+        ensures err { OnErr result (self.new ≡ self.old) }
+    {
+        if self.taken < self.readings.len() {
+            let word = self.readings[self.taken];
+            self.taken += 1;
+            Ok(word)
+        } else {
+            Err(Refused::NoReading)
+        }
+    }
+
+    fn write_port(&mut self, address: u16, word: u16) -> Result<(), Refused>
+        ensures ok { OnOk result (port_written self.old address word ≡ Some self.new) }
+        ensures err { IfErr result (λ e.
+            (e ≡ Refused.Bus) × (port_written self.old address word ≡ None) × (self.new ≡ self.old)) }
+    {
+        match address {
+            OUTNUM => {
+                self.outnum = word;
+                Ok(())
+            }
+            OUTDATA => {
+                self.offered = Some(word);
+                Ok(())
+            }
+            _ => Err(Refused::Bus),
+        }
+    }
+}
+
+impl Bus for Devices {
+    ghost model = { board_bus };
+
+    ghost reads_keep_memory = { λ s a. elim [ Word ↦ refl | Byte ↦ refl ] };
+
+    fn fetch(&self, address: u16) -> Result<u16, Refused> {
+        if is_word(address) {
+            Ok(self.word(address))
+        } else {
+            Err(Refused::Bus)
+        }
+    }
+
+    fn read(&mut self, address: u16, width: Width) -> Result<u16, Refused> {
+        match width {
+            Width::Word => {
+                if is_word(address) {
+                    Ok(self.word(address))
+                } else if address == SENSOR {
+                    self.take_reading()
+                } else {
+                    Err(Refused::Bus)
+                }
+            }
+            Width::Byte => {
+                if is_memory(address) {
+                    Ok(byte_of(self.word(address), address))
+                } else {
+                    Err(Refused::Bus)
+                }
+            }
+        }
+    }
+
+    fn write(&mut self, address: u16, width: Width, value: u16) -> Result<(), Refused> {
+        match width {
+            Width::Word => {
+                if is_word(address) {
+                    self.set_word(address, value);
+                    Ok(())
+                } else {
+                    self.write_port(address, value)
+                }
+            }
+            Width::Byte => {
+                if is_memory(address) {
+                    let word = with_byte(self.word(address), address, value);
+                    self.set_word(address, word);
+                    Ok(())
+                } else {
+                    Err(Refused::Bus)
+                }
+            }
+        }
+    }
+}
