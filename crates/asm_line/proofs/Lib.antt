@@ -1,0 +1,4 @@
+pub mod Digits
+pub mod Splits
+pub mod Moved
+pub mod Directives

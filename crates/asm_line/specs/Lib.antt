@@ -1,0 +1,13 @@
+pub mod Pieces
+pub mod Views
+pub mod Numbers
+pub mod Values
+pub mod ValueViews
+pub mod Operands
+pub mod OperandViews
+pub mod Tables
+pub mod TableViews
+pub mod Lines
+pub mod LineViews
+pub mod Filling
+pub mod Places

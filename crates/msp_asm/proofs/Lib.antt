@@ -1,0 +1,12 @@
+pub mod Table
+pub mod Firsts
+pub mod Running
+pub mod Fronts
+pub mod Listing
+pub mod Alones
+pub mod FirstLabels
+pub mod Plain
+pub mod Moves
+pub mod GivesLines
+pub mod Whole
+pub mod SameLines

@@ -1,0 +1,9 @@
+pub mod Labels
+pub mod Program
+pub mod Placing
+pub mod Assembled
+pub mod Written
+pub mod Alone
+pub mod Disassembly
+pub mod Writing
+pub mod Laws
