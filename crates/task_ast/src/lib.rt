@@ -1,7 +1,11 @@
-//! The tree of a source text, as the parser makes it. Names are spans of the text.
+//! The tree of a source text. Over spans of the text it is what the parser makes ([`Tree`]); over variables and tasks by
+//! number it is what the checks leave ([`CheckedSource`]).
 #![tactic(auto)]
 
+mod names;
+
 use alp_text::Span;
+pub use names::{CheckedSource, TaskName, Variable, VariableName};
 
 /// The type of a word: a 16-bit number without or with a sign.
 #[derive(Clone, Copy, Debug, PartialEq, Eq)]
@@ -58,52 +62,52 @@ pub struct Literal {
     pub span: Span,
 }
 
-/// An expression. Brackets make no node.
+/// An expression over names of variables `V`. Brackets make no node.
 #[derive(Drop)]
-pub enum Expr {
+pub enum Expr<V> {
     Number(u16),
-    Name(Span),
+    Name(V),
     /// An element of an array: its name and the index.
-    Element(Span, Box<Expr>),
+    Element(V, Box<Expr<V>>),
     /// The next reading.
     Sense,
-    Unary(UnaryOperator, Box<Expr>),
-    Binary(BinaryOperator, Box<Expr>, Box<Expr>),
+    Unary(UnaryOperator, Box<Expr<V>>),
+    Binary(BinaryOperator, Box<Expr<V>>, Box<Expr<V>>),
     /// A shift by a literal count.
-    Shift(ShiftOperator, Box<Expr>, Literal),
-    ShortCircuit(ShortCircuitOperator, Box<Expr>, Box<Expr>),
+    Shift(ShiftOperator, Box<Expr<V>>, Literal),
+    ShortCircuit(ShortCircuitOperator, Box<Expr<V>>, Box<Expr<V>>),
 }
 
-/// A statement.
+/// A statement over names of variables `V` and of tasks `T`.
 #[cycle(ast)]
 #[derive(Drop)]
-pub enum Stmt {
+pub enum Stmt<V, T> {
     /// The declaration of a local, with its initial value if one is written.
-    Declare(WordType, Span, Option<Expr>),
-    Assign(Span, Expr),
+    Declare(WordType, V, Option<Expr<V>>),
+    Assign(V, Expr<V>),
     /// An assignment to an element of an array: its name, the index, the value.
-    Store(Span, Expr, Expr),
+    Store(V, Expr<V>, Expr<V>),
     /// The conditions with their blocks, then the block of the last `else`.
-    If(Vec<Arm>, Option<Vec<Stmt>>),
+    If(Vec<Arm<V, T>>, Option<Vec<Stmt<V, T>>>),
     /// `for (variable = from; tested < below; stepped++) body`.
     For {
-        variable: Span,
+        variable: V,
         from: u16,
-        tested: Span,
+        tested: V,
         below: u16,
-        stepped: Span,
-        body: Vec<Stmt>,
+        stepped: V,
+        body: Vec<Stmt<V, T>>,
     },
-    Emit(Expr),
-    TransitionTo(Span),
+    Emit(Expr<V>),
+    TransitionTo(T),
 }
 
 /// A condition and the block under it.
 #[cycle(ast)]
 #[derive(Drop)]
-pub struct Arm {
-    pub condition: Expr,
-    pub block: Vec<Stmt>,
+pub struct Arm<V, T> {
+    pub condition: Expr<V>,
+    pub block: Vec<Stmt<V, T>>,
 }
 
 /// What a shared name stands for.
@@ -123,17 +127,20 @@ pub struct SharedDeclaration {
     pub extent: Extent,
 }
 
-/// The declaration of a task.
+/// The declaration of a task: its name's place in the text, and what it does.
 #[derive(Drop)]
-pub struct TaskDeclaration {
+pub struct TaskDeclaration<V, T> {
     pub name: Span,
-    pub body: Vec<Stmt>,
+    pub body: Vec<Stmt<V, T>>,
 }
 
 /// A whole source: its declarations in the order of the text, and the name of the first task to run.
 #[derive(Drop)]
-pub struct Tree {
+pub struct Source<V, T> {
     pub shared: Vec<SharedDeclaration>,
-    pub tasks: Vec<TaskDeclaration>,
-    pub entry: Span,
+    pub tasks: Vec<TaskDeclaration<V, T>>,
+    pub entry: T,
 }
+
+/// A source as the parser makes it: each name is a span of the text.
+pub type Tree = Source<Span, Span>;

@@ -1,4 +1,5 @@
--- Numerals of the language and what they are worth, by C's rules for decimal and hexadecimal constants, but that a decimal one has no leading zero.
+-- Numerals of the language and what they are worth, by C's rules for decimal and hexadecimal constants, but that a
+-- decimal one has no leading zero.
 use Rattle.std.specs.Prelude.{◌≡◌, codes, Some, None}
 use Rattle.task_lex.specs.Pieces.{number}
 

@@ -12,7 +12,8 @@ pub enum LexFault {
     /// A byte that begins no token.
     #[error("line {line}: a byte that begins no token")]
     BadByte { line: u32 },
-    /// A number above 65535, with a zero in front of a decimal digit, without a digit after `0x`, or with a letter or `_` at its end.
+    /// A number above 65535, with a zero in front of a decimal digit, without a digit after `0x`, or with a letter or
+    /// `_` at its end.
     #[error("line {line}: not a number to 65535")]
     BadNumber { line: u32 },
     /// A name of more than 31 bytes.

@@ -8,7 +8,7 @@ use Rattle.task_lex.specs.declared.token.Kind.TheVariants as k
 use Rattle.task_ast.specs.declared.UnaryOperator.{UnaryOperator}
 use Rattle.task_parse.specs.declared.operators.Infix.{Infix}
 use Rattle.task_parse.specs.declared.operators.Infix.TheVariants.{Binary, Shift, ShortCircuit}
-use Rattle.task_ast.specs.Tree.{Expression}
+use Rattle.task_parse.specs.Parsed.{Expression}
 use Rattle.task_ast.specs.Tree as node
 use Rattle.task_parse.specs.Grammar.{prefix_of, infix_of, weakest, literal_of, IsExpression, number, name, element, sense, brackets, prefixed, tighter, joined, short_circuited, shifted}
 use Rattle.task_parse.specs.Expressions as reading
@@ -16,9 +16,12 @@ use Rattle.task_parse.specs.Reading.{done, fault, Parser, ◌>>=◌, and_then, p
 use Rattle.task_parse.specs.Expressions.{of_precedence, infix_at, joined_with, climb_turn, climb, up_to, element_by, named, bracketed, primary_by, primary, unary, expression}
 use Rattle.task_parse.proofs.ExpressionSame.{unary_is, climb_suc}
 
-pub takes : {A : Type 0} (kind : Kind) (t : Token) (ts : List Token) (f : Token → Parser A) → t.kind ≡ kind → and_then (token kind (t ∷ ts)) f ≡ f t ts
+pub takes_one : (kind : Kind) (t : Token) (ts : List Token) → t.kind ≡ kind → token kind (t ∷ ts) ≡ done t ts
 unfolding token same_kind
-takes kind t ts f is = ap (λ b. and_then (cond b (done t ts) (fault (t ∷ ts))) f) (true_same the_type t.kind kind is)
+takes_one kind t ts is = ap (λ b. cond b (done t ts) (fault (t ∷ ts))) (true_same the_type t.kind kind is)
+
+pub takes : {A : Type 0} (kind : Kind) (t : Token) (ts : List Token) (f : Token → Parser A) → t.kind ≡ kind → and_then (token kind (t ∷ ts)) f ≡ f t ts
+takes kind t ts f is = ap (λ o. and_then o f) (takes_one kind t ts is)
 
 -- The precedence that an expression would have to go beyond to take the token: 0 for an opening square bracket, which ends nothing.
 abbrev pub reach_of : Option (ℕ × Infix) → ℕ

@@ -5,7 +5,7 @@ use Rattle.task_lex.specs.declared.token.Kind.{Kind}
 use Rattle.task_lex.specs.declared.token.Kind.TheVariants as k
 use Rattle.task_parse.specs.declared.operators.Infix.{Infix}
 use Rattle.task_parse.specs.declared.operators.Infix.TheVariants.{Binary, Shift, ShortCircuit}
-use Rattle.task_ast.specs.Tree.{Expression}
+use Rattle.task_parse.specs.Parsed.{Expression}
 use Rattle.task_ast.specs.Tree as node
 use Rattle.task_parse.specs.Grammar.{prefix_of, infix_of, weakest, literal_of, IsExpression, number, name, element, sense, brackets, prefixed, tighter, joined, short_circuited, shifted}
 use Rattle.task_parse.specs.Expressions as reading

@@ -2,9 +2,10 @@
 use Rattle.std.proofs.Common.{◌≡◌, ℕ, zero, suc, ◌<◌, ◌≤◌, Bool, true, false, nat_lt, List, [], ◌∷◌, ◌++◌, length, take, drop, refl, ap, sym, ◌∙◌, subst, arith, append_assoc}
 use Rattle.std.proofs.lemmas.List.{take-append-drop}
 use Rattle.task_lex.specs.declared.token.Token.{Token}
-use Rattle.task_ast.specs.Tree.{Program}
+use Rattle.task_parse.specs.Parsed.{Program}
 use Rattle.task_parse.specs.Grammar.{IsProgram}
 use Rattle.task_parse.specs.Stops.{StopsAt, OneAnswer}
+use Rattle.task_parse.proofs.Whole.{one_tree}
 
 take_less : (n m : ℕ) (xs : List Token) → n ≤ m → take n (take m xs) ≡ take n xs
 take_less zero m xs le = refl
@@ -39,4 +40,4 @@ no_program tokens i tree a is = go (nat_lt i (length tokens)) refl
     go false e = let fits : i ≤ length tokens = a.within in let same : i ≡ length tokens = grind arith in a.none_ends same tree is
 
 pub one_answer : OneAnswer
-one_answer = record { one_stop = one_stop; no_program = no_program }
+one_answer = record { one_tree = one_tree; one_stop = one_stop; no_program = no_program }

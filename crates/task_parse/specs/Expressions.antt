@@ -3,7 +3,7 @@ use Rattle.std.specs.Prelude.{ℕ, zero, suc, ◌==◌, if◌then◌else◌, len
 use Rattle.task_lex.specs.declared.token.Token.{Token}
 use Rattle.task_lex.specs.declared.token.Kind.{Kind}
 use Rattle.task_lex.specs.declared.token.Kind.TheVariants as k
-use Rattle.task_ast.specs.Tree.{Expression}
+use Rattle.task_parse.specs.Parsed.{Expression}
 use Rattle.task_ast.specs.Tree as node
 use Rattle.task_parse.specs.declared.operators.Infix.{Infix}
 use Rattle.task_parse.specs.declared.operators.Infix.TheVariants.{Binary, Shift, ShortCircuit}
@@ -27,7 +27,8 @@ joined_with tighter left (Shift op) = token k.Number >>= λ n. pure (node.shift 
 
 -- goes on from the left side, with an operator of the precedence
 unfoldable pub climb_turn : Parser Expression → ℕ → Expression → Parser (Turn Expression Expression)
-climb_turn tighter j left = accept (infix_at j) (λ op. joined_with tighter left op >>= λ whole. pure (again whole)) (pure (over left))
+climb_turn tighter j left =
+    accept (infix_at j) (λ op. joined_with tighter left op >>= λ whole. pure (again whole)) (pure (over left))
 
 -- goes on with such operators, as long as they come: to the left
 abbrev pub climb : Parser Expression → ℕ → Expression → Parser Expression
@@ -49,7 +50,8 @@ up_to unary (suc j) = up_to unary j >>= climb (up_to unary j) (suc j)
 module _ (expression : Parser Expression) where
   -- behind a name
   abbrev pub element_by : Token → Option Kind → Parser Expression
-  element_by n (Some k.OpenSquare) = token k.OpenSquare >>= λ o. expression >>= λ index. token k.CloseSquare >>= λ c. pure (node.element n.span index)
+  element_by n (Some k.OpenSquare) = token k.OpenSquare >>= λ o. expression >>= λ index. token k.CloseSquare >>= λ c.
+      pure (node.element n.span index)
   element_by n _ = pure (node.name n.span)
 
   -- a name, with or without an index

@@ -1,5 +1,6 @@
--- Which tokens spell which program: the grammar of the language, by cases. Expressions are C's, with C's precedences (ISO C, 6.5), but that a shift has a literal count;
--- tasks and `transition_to` are those of Alpaca (Maeng, Colin, Lucia: OOPSLA 2017).
+-- Which tokens spell which program: the grammar of the language, by cases. Expressions are C's, with C's precedences
+-- (ISO C, 6.5), but that a shift has a literal count; tasks and `transition_to` are those of Alpaca (Maeng, Colin,
+-- Lucia: OOPSLA 2017).
 use Rattle.std.specs.Prelude.{◌≡◌, ℕ, suc, ◌-◌, ◌%◌, List, [], ◌∷◌, ◌++◌, Option, Some, None}
 use Rattle.task_lex.specs.declared.token.Token.{Token}
 use Rattle.task_lex.specs.declared.token.Kind.{Kind}
@@ -18,7 +19,8 @@ use Rattle.task_ast.specs.declared.WordType.TheVariants as word
 use Rattle.task_ast.specs.declared.Extent.{Extent}
 use Rattle.task_ast.specs.declared.Extent.TheVariants as extent
 use Rattle.task_ast.specs.declared.SharedDeclaration.{SharedDeclaration}
-use Rattle.task_ast.specs.Tree.{Expression, Statement, Block, block_of, Tested, choice_of, Task, Program}
+use Rattle.task_ast.specs.Tree.{block_of, choice_of}
+use Rattle.task_parse.specs.Parsed.{Expression, Statement, Block, Tested, Task, Program}
 use Rattle.task_ast.specs.Tree as node
 use Rattle.task_parse.specs.declared.operators.Infix.{Infix}
 use Rattle.task_parse.specs.declared.operators.Infix.TheVariants.{Binary, Shift, ShortCircuit}
@@ -60,22 +62,39 @@ weakest = 10
 abbrev pub literal_of : Token → Literal
 literal_of n = record { value = n.value; span = n.span }
 
--- The tokens spell the expression, and no operator outside brackets binds more weakly than the precedence; at 0 there is none between two sides. Operators associate to the left. Brackets make no node.
+-- The tokens spell the expression, and no operator outside brackets binds more weakly than the precedence; at 0 there
+-- is none between two sides. Operators associate to the left. Brackets make no node.
 pub data IsExpression : ℕ → List Token → Expression → Type 0 where
+  -- a number
   number : (n : Token) → n.kind ≡ k.Number → IsExpression 0 (n ∷ []) (node.number n.value)
+  -- a name
   name : (n : Token) → n.kind ≡ k.Name → IsExpression 0 (n ∷ []) (node.name n.span)
-  element : (n o c : Token) (ts : List Token) (index : Expression) → n.kind ≡ k.Name → o.kind ≡ k.OpenSquare → IsExpression weakest ts index → c.kind ≡ k.CloseSquare
+  -- `name [ index ]`
+  element : (n o c : Token) (ts : List Token) (index : Expression) → n.kind ≡ k.Name → o.kind ≡ k.OpenSquare
+      → IsExpression weakest ts index → c.kind ≡ k.CloseSquare
       → IsExpression 0 (n ∷ o ∷ ts ++ c ∷ []) (node.element n.span index)
-  sense : (s o c : Token) → s.kind ≡ k.Sense → o.kind ≡ k.Open → c.kind ≡ k.Close → IsExpression 0 (s ∷ o ∷ c ∷ []) node.sense
-  brackets : (o c : Token) (ts : List Token) (inner : Expression) → o.kind ≡ k.Open → IsExpression weakest ts inner → c.kind ≡ k.Close
-      → IsExpression 0 (o ∷ ts ++ c ∷ []) inner
-  prefixed : (t : Token) (op : UnaryOperator) (ts : List Token) (inner : Expression) → prefix_of t.kind ≡ Some op → IsExpression 0 ts inner → IsExpression 0 (t ∷ ts) (node.unary op inner)
+  -- `sense ( )`
+  sense : (s o c : Token) → s.kind ≡ k.Sense → o.kind ≡ k.Open → c.kind ≡ k.Close
+      → IsExpression 0 (s ∷ o ∷ c ∷ []) node.sense
+  -- `( inner )`
+  brackets : (o c : Token) (ts : List Token) (inner : Expression) → o.kind ≡ k.Open → IsExpression weakest ts inner
+      → c.kind ≡ k.Close → IsExpression 0 (o ∷ ts ++ c ∷ []) inner
+  -- an operator in front of its operand
+  prefixed : (t : Token) (op : UnaryOperator) (ts : List Token) (inner : Expression) → prefix_of t.kind ≡ Some op
+      → IsExpression 0 ts inner → IsExpression 0 (t ∷ ts) (node.unary op inner)
+  -- an expression of a tighter precedence is one of the next
   tighter : (j : ℕ) (ts : List Token) (inner : Expression) → IsExpression j ts inner → IsExpression (suc j) ts inner
-  joined : (j : ℕ) (t : Token) (op : BinaryOperator) (xs ys : List Token) (a b : Expression) → IsExpression (suc j) xs a → infix_of t.kind ≡ Some (suc j, Binary op) → IsExpression j ys b
+  -- an operator between two sides: the left one of its precedence, the right one tighter
+  joined : (j : ℕ) (t : Token) (op : BinaryOperator) (xs ys : List Token) (a b : Expression) → IsExpression (suc j) xs a
+      → infix_of t.kind ≡ Some (suc j, Binary op) → IsExpression j ys b
       → IsExpression (suc j) (xs ++ t ∷ ys) (node.binary op a b)
-  short_circuited : (j : ℕ) (t : Token) (op : ShortCircuitOperator) (xs ys : List Token) (a b : Expression) → IsExpression (suc j) xs a → infix_of t.kind ≡ Some (suc j, ShortCircuit op) → IsExpression j ys b
+  -- `&&` or `||` between two sides, in the same way
+  short_circuited : (j : ℕ) (t : Token) (op : ShortCircuitOperator) (xs ys : List Token) (a b : Expression)
+      → IsExpression (suc j) xs a → infix_of t.kind ≡ Some (suc j, ShortCircuit op) → IsExpression j ys b
       → IsExpression (suc j) (xs ++ t ∷ ys) (node.short_circuit op a b)
-  shifted : (j : ℕ) (t n : Token) (op : ShiftOperator) (xs : List Token) (a : Expression) → IsExpression (suc j) xs a → infix_of t.kind ≡ Some (suc j, Shift op) → n.kind ≡ k.Number
+  -- a shift: its right side is a number
+  shifted : (j : ℕ) (t n : Token) (op : ShiftOperator) (xs : List Token) (a : Expression) → IsExpression (suc j) xs a
+      → infix_of t.kind ≡ Some (suc j, Shift op) → n.kind ≡ k.Number
       → IsExpression (suc j) (xs ++ t ∷ n ∷ []) (node.shift op a (literal_of n))
 
 -- the type that a keyword names
@@ -86,7 +105,8 @@ type_of _ = None
 
 -- `= value ;`
 pub data IsGiven : List Token → Expression → Type 0 where
-  given : (q z : Token) (ts : List Token) (value : Expression) → q.kind ≡ k.Assign → IsExpression weakest ts value → z.kind ≡ k.Semicolon → IsGiven (q ∷ ts ++ z ∷ []) value
+  given : (q z : Token) (ts : List Token) (value : Expression) → q.kind ≡ k.Assign → IsExpression weakest ts value
+      → z.kind ≡ k.Semicolon → IsGiven (q ∷ ts ++ z ∷ []) value
 
 -- a condition and its block
 abbrev pub arm_from : Expression → Block → Tested
@@ -95,38 +115,66 @@ arm_from condition block = record { condition = condition; block = block }
 mutual
   -- a statement
   pub data IsStatement : List Token → Statement → Type 0 where
-    declare : (t n z : Token) (of : WordType) → type_of t.kind ≡ Some of → n.kind ≡ k.Name → z.kind ≡ k.Semicolon → IsStatement (t ∷ n ∷ z ∷ []) (node.declare of n.span None)
-    declare_as : (t n : Token) (of : WordType) (ts : List Token) (value : Expression) → type_of t.kind ≡ Some of → n.kind ≡ k.Name → IsGiven ts value → IsStatement (t ∷ n ∷ ts) (node.declare of n.span (Some value))
-    assign : (n : Token) (ts : List Token) (value : Expression) → n.kind ≡ k.Name → IsGiven ts value → IsStatement (n ∷ ts) (node.assign n.span value)
-    store : (n o c : Token) (is ts : List Token) (index value : Expression) → n.kind ≡ k.Name → o.kind ≡ k.OpenSquare → IsExpression weakest is index → c.kind ≡ k.CloseSquare → IsGiven ts value
+    -- `type name ;`
+    declare : (t n z : Token) (of : WordType) → type_of t.kind ≡ Some of → n.kind ≡ k.Name → z.kind ≡ k.Semicolon
+        → IsStatement (t ∷ n ∷ z ∷ []) (node.declare of n.span None)
+    -- `type name = value ;`
+    declare_as : (t n : Token) (of : WordType) (ts : List Token) (value : Expression) → type_of t.kind ≡ Some of
+        → n.kind ≡ k.Name → IsGiven ts value → IsStatement (t ∷ n ∷ ts) (node.declare of n.span (Some value))
+    -- `name = value ;`
+    assign : (n : Token) (ts : List Token) (value : Expression) → n.kind ≡ k.Name → IsGiven ts value
+        → IsStatement (n ∷ ts) (node.assign n.span value)
+    -- `name [ index ] = value ;`
+    store : (n o c : Token) (is ts : List Token) (index value : Expression) → n.kind ≡ k.Name → o.kind ≡ k.OpenSquare
+        → IsExpression weakest is index → c.kind ≡ k.CloseSquare → IsGiven ts value
         → IsStatement (n ∷ o ∷ is ++ (c ∷ ts)) (node.store n.span index value)
-    emit : (t o c z : Token) (ts : List Token) (value : Expression) → t.kind ≡ k.Emit → o.kind ≡ k.Open → IsExpression weakest ts value → c.kind ≡ k.Close → z.kind ≡ k.Semicolon
+    -- `emit ( value ) ;`
+    emit : (t o c z : Token) (ts : List Token) (value : Expression) → t.kind ≡ k.Emit → o.kind ≡ k.Open
+        → IsExpression weakest ts value → c.kind ≡ k.Close → z.kind ≡ k.Semicolon
         → IsStatement (t ∷ o ∷ ts ++ c ∷ z ∷ []) (node.emit value)
-    transition : (t o n c z : Token) → t.kind ≡ k.TransitionTo → o.kind ≡ k.Open → n.kind ≡ k.Name → c.kind ≡ k.Close → z.kind ≡ k.Semicolon → IsStatement (t ∷ o ∷ n ∷ c ∷ z ∷ []) (node.transition n.span)
-    choice : (xs ys : List Token) (arm : Tested) (arms : List Tested) (last : Option Block) → IsArm xs arm → IsElses ys arms last → IsStatement (xs ++ ys) (node.choose (choice_of (arm ∷ arms) last))
-    loop : (f o n q a y m l b z w p c : Token) (ts : List Token) (body : Block) → f.kind ≡ k.For → o.kind ≡ k.Open → n.kind ≡ k.Name → q.kind ≡ k.Assign → a.kind ≡ k.Number → y.kind ≡ k.Semicolon
-        → m.kind ≡ k.Name → l.kind ≡ k.Less → b.kind ≡ k.Number → z.kind ≡ k.Semicolon → w.kind ≡ k.Name → p.kind ≡ k.PlusPlus → c.kind ≡ k.Close → IsBlock ts body
-        → IsStatement (f ∷ o ∷ n ∷ q ∷ a ∷ y ∷ m ∷ l ∷ b ∷ z ∷ w ∷ p ∷ c ∷ ts) (node.loop n.span a.value m.span b.value w.span body)
+    -- `transition_to ( name ) ;`
+    transition : (t o n c z : Token) → t.kind ≡ k.TransitionTo → o.kind ≡ k.Open → n.kind ≡ k.Name → c.kind ≡ k.Close
+        → z.kind ≡ k.Semicolon → IsStatement (t ∷ o ∷ n ∷ c ∷ z ∷ []) (node.transition n.span)
+    -- an `if` with its block, then what its `else`s add
+    choice : (xs ys : List Token) (arm : Tested) (arms : List Tested) (last : Option Block) → IsArm xs arm
+        → IsElses ys arms last → IsStatement (xs ++ ys) (node.choose (choice_of (arm ∷ arms) last))
+    -- `for ( name = number ; name < number ; name ++ ) block`; that the names are one is not of the grammar
+    loop : (f o n q a y m l b z w p c : Token) (ts : List Token) (body : Block) → f.kind ≡ k.For → o.kind ≡ k.Open
+        → n.kind ≡ k.Name → q.kind ≡ k.Assign → a.kind ≡ k.Number → y.kind ≡ k.Semicolon → m.kind ≡ k.Name
+        → l.kind ≡ k.Less → b.kind ≡ k.Number → z.kind ≡ k.Semicolon → w.kind ≡ k.Name → p.kind ≡ k.PlusPlus
+        → c.kind ≡ k.Close → IsBlock ts body
+        → IsStatement (f ∷ o ∷ n ∷ q ∷ a ∷ y ∷ m ∷ l ∷ b ∷ z ∷ w ∷ p ∷ c ∷ ts)
+        (node.loop n.span a.value m.span b.value w.span body)
 
   -- `else if`s with their blocks, and the last block
   pub data IsElses : List Token → List Tested → Option Block → Type 0 where
+    -- no `else`
     nothing : IsElses [] [] None
-    last : (t : Token) (ts : List Token) (block : Block) → t.kind ≡ k.Else → IsBlock ts block → IsElses (t ∷ ts) [] (Some block)
-    another : (t : Token) (xs ys : List Token) (arm : Tested) (arms : List Tested) (last : Option Block) → t.kind ≡ k.Else → IsArm xs arm → IsElses ys arms last → IsElses (t ∷ xs ++ ys) (arm ∷ arms) last
+    -- `else block`
+    last : (t : Token) (ts : List Token) (block : Block) → t.kind ≡ k.Else → IsBlock ts block
+        → IsElses (t ∷ ts) [] (Some block)
+    -- `else if ( condition ) block`, then further ones
+    another : (t : Token) (xs ys : List Token) (arm : Tested) (arms : List Tested) (last : Option Block)
+        → t.kind ≡ k.Else → IsArm xs arm → IsElses ys arms last → IsElses (t ∷ xs ++ ys) (arm ∷ arms) last
 
   -- `if (condition) block`
   pub data IsArm : List Token → Tested → Type 0 where
-    arm : (i o c : Token) (ts bs : List Token) (condition : Expression) (block : Block) → i.kind ≡ k.If → o.kind ≡ k.Open → IsExpression weakest ts condition → c.kind ≡ k.Close → IsBlock bs block
+    arm : (i o c : Token) (ts bs : List Token) (condition : Expression) (block : Block) → i.kind ≡ k.If
+        → o.kind ≡ k.Open → IsExpression weakest ts condition → c.kind ≡ k.Close → IsBlock bs block
         → IsArm (i ∷ o ∷ ts ++ (c ∷ bs)) (arm_from condition block)
 
   -- statements in braces
   pub data IsBlock : List Token → Block → Type 0 where
-    block : (o c : Token) (ts : List Token) (all : List Statement) → o.kind ≡ k.OpenBrace → IsStatements ts all → c.kind ≡ k.CloseBrace → IsBlock (o ∷ ts ++ c ∷ []) (block_of all)
+    block : (o c : Token) (ts : List Token) (all : List Statement) → o.kind ≡ k.OpenBrace → IsStatements ts all
+        → c.kind ≡ k.CloseBrace → IsBlock (o ∷ ts ++ c ∷ []) (block_of all)
 
   -- statements, one after another
   pub data IsStatements : List Token → List Statement → Type 0 where
+    -- no statement
     none : IsStatements [] []
-    more : (xs ys : List Token) (first : Statement) (all : List Statement) → IsStatement xs first → IsStatements ys all → IsStatements (xs ++ ys) (first ∷ all)
+    -- a statement, then further ones
+    more : (xs ys : List Token) (first : Statement) (all : List Statement) → IsStatement xs first → IsStatements ys all
+        → IsStatements (xs ++ ys) (first ∷ all)
 
 -- the tokens spell the items, one after another
 abbrev pub Row : {A : Type 0} → (List Token → A → Type 0) → List Token → List A → Type 0
@@ -139,10 +187,16 @@ negated n = (65536 - n) % 65536
 
 -- what stands behind a shared name: nothing, a length, or an initial value with or without a minus
 pub data IsExtent : List Token → Extent → Type 0 where
+  -- nothing
   nothing_written : IsExtent [] (extent.Scalar 0)
-  array : (o n c : Token) → o.kind ≡ k.OpenSquare → n.kind ≡ k.Number → c.kind ≡ k.CloseSquare → IsExtent (o ∷ n ∷ c ∷ []) (extent.Array n.value)
+  -- `[ number ]`
+  array : (o n c : Token) → o.kind ≡ k.OpenSquare → n.kind ≡ k.Number → c.kind ≡ k.CloseSquare
+      → IsExtent (o ∷ n ∷ c ∷ []) (extent.Array n.value)
+  -- `= number`
   value : (q n : Token) → q.kind ≡ k.Assign → n.kind ≡ k.Number → IsExtent (q ∷ n ∷ []) (extent.Scalar n.value)
-  negative : (q m n : Token) → q.kind ≡ k.Assign → m.kind ≡ k.Minus → n.kind ≡ k.Number → IsExtent (q ∷ m ∷ n ∷ []) (extent.Scalar (negated n.value))
+  -- `= - number`
+  negative : (q m n : Token) → q.kind ≡ k.Assign → m.kind ≡ k.Minus → n.kind ≡ k.Number
+      → IsExtent (q ∷ m ∷ n ∷ []) (extent.Scalar (negated n.value))
 
 -- a shared declaration
 abbrev pub shared_from : WordType → Token → Extent → SharedDeclaration
@@ -150,7 +204,8 @@ shared_from of n found = record { word_type = of; name = n.span; extent = found 
 
 -- `shared type name extent ;`
 pub data IsShared : List Token → SharedDeclaration → Type 0 where
-  shared : (h t n z : Token) (of : WordType) (ts : List Token) (found : Extent) → h.kind ≡ k.Shared → type_of t.kind ≡ Some of → n.kind ≡ k.Name → IsExtent ts found → z.kind ≡ k.Semicolon
+  shared : (h t n z : Token) (of : WordType) (ts : List Token) (found : Extent) → h.kind ≡ k.Shared
+      → type_of t.kind ≡ Some of → n.kind ≡ k.Name → IsExtent ts found → z.kind ≡ k.Semicolon
       → IsShared (h ∷ t ∷ n ∷ ts ++ z ∷ []) (shared_from of n found)
 
 -- a task
@@ -159,7 +214,8 @@ task_from n body = record { name = n.span; body = body }
 
 -- `task name block`
 pub data IsTask : List Token → Task → Type 0 where
-  task : (h n : Token) (ts : List Token) (body : Block) → h.kind ≡ k.Task → n.kind ≡ k.Name → IsBlock ts body → IsTask (h ∷ n ∷ ts) (task_from n body)
+  task : (h n : Token) (ts : List Token) (body : Block) → h.kind ≡ k.Task → n.kind ≡ k.Name → IsBlock ts body
+      → IsTask (h ∷ n ∷ ts) (task_from n body)
 
 -- a program
 abbrev pub program_from : List SharedDeclaration → List Task → Token → Program
@@ -167,5 +223,8 @@ program_from shareds tasks n = record { shared = shareds; tasks = tasks; entry =
 
 -- shared declarations, one task or more, then `entry name ;`
 pub data IsProgram : List Token → Program → Type 0 where
-  program : (xs ys zs : List Token) (h n z : Token) (shareds : List SharedDeclaration) (first : Task) (others : List Task) → Row IsShared xs shareds → IsTask ys first → Row IsTask zs others
-      → h.kind ≡ k.Entry → n.kind ≡ k.Name → z.kind ≡ k.Semicolon → IsProgram (xs ++ (ys ++ (zs ++ (h ∷ n ∷ z ∷ [])))) (program_from shareds (first ∷ others) n)
+  program : (xs ys zs : List Token) (h n z : Token) (shareds : List SharedDeclaration) (first : Task)
+      (others : List Task)
+      → Row IsShared xs shareds → IsTask ys first → Row IsTask zs others → h.kind ≡ k.Entry → n.kind ≡ k.Name
+      → z.kind ≡ k.Semicolon
+      → IsProgram (xs ++ (ys ++ (zs ++ (h ∷ n ∷ z ∷ [])))) (program_from shareds (first ∷ others) n)

@@ -5,7 +5,7 @@ use Rattle.task_lex.specs.declared.token.Kind.TheVariants as k
 use Rattle.task_ast.specs.declared.Extent.{Extent}
 use Rattle.task_ast.specs.declared.Extent.TheVariants as extent
 use Rattle.task_ast.specs.declared.SharedDeclaration.{SharedDeclaration}
-use Rattle.task_ast.specs.Tree.{Task, Program}
+use Rattle.task_parse.specs.Parsed.{Task, Program}
 use Rattle.task_parse.specs.Grammar.{shared_from, task_from, program_from, negated}
 use Rattle.task_parse.specs.Reading.{done, fault, Parser, ◌>>=◌, pure, token, by, Turn, again, over, repeat}
 use Rattle.task_parse.specs.Statements.{typed, block}
@@ -30,7 +30,8 @@ valued_by _ = token k.Number >>= λ n. pure (extent.Scalar n.value)
 
 -- by the token behind a shared name
 abbrev pub extent_by : Option Kind → Parser Extent
-extent_by (Some k.OpenSquare) = token k.OpenSquare >>= λ o. token k.Number >>= λ n. token k.CloseSquare >>= λ c. pure (extent.Array n.value)
+extent_by (Some k.OpenSquare) = token k.OpenSquare >>= λ o. token k.Number >>= λ n. token k.CloseSquare >>= λ c.
+    pure (extent.Array n.value)
 extent_by (Some k.Assign) = token k.Assign >>= λ q. by valued_by
 extent_by _ = pure (extent.Scalar 0)
 
@@ -40,7 +41,8 @@ extents = by extent_by
 
 -- a shared declaration
 unfoldable pub shared : Parser SharedDeclaration
-shared = token k.Shared >>= λ h. typed >>= λ of. token k.Name >>= λ n. extents >>= λ found. token k.Semicolon >>= λ z. pure (shared_from of n found)
+shared = token k.Shared >>= λ h. typed >>= λ of. token k.Name >>= λ n. extents >>= λ found. token k.Semicolon >>= λ z.
+    pure (shared_from of n found)
 
 -- a task
 unfoldable pub task : Parser Task
@@ -67,4 +69,5 @@ ending a (t ∷ ts) = fault (t ∷ ts)
 
 -- a whole program
 unfoldable pub program : Parser Program
-program = many is_shared shared [] >>= λ shareds. tasks >>= λ all. token k.Entry >>= λ h. token k.Name >>= λ n. token k.Semicolon >>= λ z. ending (program_from shareds all n)
+program = many is_shared shared [] >>= λ shareds. tasks >>= λ all. token k.Entry >>= λ h. token k.Name >>= λ n.
+    token k.Semicolon >>= λ z. ending (program_from shareds all n)

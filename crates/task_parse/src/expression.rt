@@ -1,16 +1,18 @@
 //! Expressions.
 
-ghost use Rattle.std.specs.Prelude.{◌≡◌, ◌-◌, ◌≤◌, ◌<◌, length, IfOk};
+ghost use Rattle.std.specs.Prelude.{◌≡◌, ◌+◌, ◌-◌, ◌≤◌, ◌<◌, length, drop, IfOk, IfSome};
 ghost use Rattle.task_ast.specs.Tree as node;
 ghost use Rattle.task_ast.specs.View.{expression_of};
 ghost use Rattle.task_parse.specs.Grammar as grammar;
 ghost use Rattle.task_parse.specs.Reading as reading;
 ghost use Rattle.task_parse.specs.Expressions as spec;
 ghost use Rattle.task_parse.specs.Gives.{Gives};
+ghost use Rattle.task_parse.specs.Nesting.{nesting, row_length};
 
 use crate::fault::Stop;
 use crate::operators::{Infix, infix_at, prefix_of};
 use crate::tokens::{after, kind_of, take};
+use alp_text::Span;
 use std::alloc::{AllocError, Global};
 use task_ast::{BinaryOperator, Expr, Literal, ShiftOperator, ShortCircuitOperator, UnaryOperator};
 use task_lex::{Kind, Token};
@@ -18,13 +20,13 @@ use task_lex::{Kind, Token};
 // The precedence of the operators that bind least.
 const WEAKEST: u8 = 10;
 
-fn element_node(alloc: Global, name: Token, index: Expr) -> Result<Expr, AllocError>
+fn element_node(alloc: Global, name: Token, index: Expr<Span>) -> Result<Expr<Span>, AllocError>
     ensures { IfOk result (λ e. expression_of e ≡ node.element name.span (expression_of index)) }
 {
     Ok(Expr::Element(name.span, Box::new(alloc, index)?))
 }
 
-fn unary_node(alloc: Global, op: UnaryOperator, inner: Expr) -> Result<Expr, AllocError>
+fn unary_node(alloc: Global, op: UnaryOperator, inner: Expr<Span>) -> Result<Expr<Span>, AllocError>
     ensures { IfOk result (λ e. expression_of e ≡ node.unary op (expression_of inner)) }
 {
     Ok(Expr::Unary(op, Box::new(alloc, inner)?))
@@ -33,9 +35,9 @@ fn unary_node(alloc: Global, op: UnaryOperator, inner: Expr) -> Result<Expr, All
 fn binary_node(
     alloc: Global,
     op: BinaryOperator,
-    left: Expr,
-    right: Expr,
-) -> Result<Expr, AllocError>
+    left: Expr<Span>,
+    right: Expr<Span>,
+) -> Result<Expr<Span>, AllocError>
     ensures { IfOk result (λ e. expression_of e ≡ node.binary op (expression_of left) (expression_of right)) }
 {
     Ok(Expr::Binary(op, Box::new(alloc, left)?, Box::new(alloc, right)?))
@@ -44,9 +46,9 @@ fn binary_node(
 fn short_circuit_node(
     alloc: Global,
     op: ShortCircuitOperator,
-    left: Expr,
-    right: Expr,
-) -> Result<Expr, AllocError>
+    left: Expr<Span>,
+    right: Expr<Span>,
+) -> Result<Expr<Span>, AllocError>
     ensures { IfOk result (λ e. expression_of e ≡ node.short_circuit op (expression_of left) (expression_of right)) }
 {
     Ok(Expr::ShortCircuit(op, Box::new(alloc, left)?, Box::new(alloc, right)?))
@@ -55,16 +57,19 @@ fn short_circuit_node(
 fn shift_node(
     alloc: Global,
     op: ShiftOperator,
-    left: Expr,
+    left: Expr<Span>,
     count: Literal,
-) -> Result<Expr, AllocError>
+) -> Result<Expr<Span>, AllocError>
     ensures { IfOk result (λ e. expression_of e ≡ node.shift op (expression_of left) count) }
 {
     Ok(Expr::Shift(op, Box::new(alloc, left)?, count))
 }
 
+#[tactic(auto, using(crate::proofs::Nesting::nests_behind_prefix, crate::proofs::Nesting::row_behind_prefix))]
 fn prefix_in_front(tokens: &[Token]) -> Option<UnaryOperator>
-    ensures { result ≡ reading.meaning grammar.prefix_of (reading.kind_of tokens.now) }
+    ensures value { result ≡ reading.meaning grammar.prefix_of (reading.kind_of tokens.now) }
+    ensures nests { IfSome result (λ op. nesting (drop 1 tokens.now) ≡ nesting tokens.now) }
+    ensures row { IfSome result (λ op. row_length tokens.now ≡ row_length (drop 1 tokens.now) + 1) }
 {
     match kind_of(tokens) {
         Some(kind) => prefix_of(kind),
@@ -75,9 +80,11 @@ fn prefix_in_front(tokens: &[Token]) -> Option<UnaryOperator>
 // An operand with the operators in front of it.
 #[cycle(expression)]
 #[tactic(auto, using(crate::proofs::ExpressionSame::unary_is), unfolding(crate::specs::Expressions::prefixed))]
-fn unary<'a>(alloc: Global, tokens: &'a [Token]) -> Result<(Expr, &'a [Token]), Stop<'a>>
+fn unary<'a>(alloc: Global, tokens: &'a [Token]) -> Result<(Expr<Span>, &'a [Token]), Stop<'a>>
     ensures value { Gives (λ x. reading.done (expression_of x.0) x.1.now) (spec.unary tokens.now) result }
     ensures shorter { IfOk result (λ x. length x.1.now < length tokens.now) }
+    ensures nests { IfOk result (λ x. nesting x.1.now ≤ nesting tokens.now) }
+    ensures row { IfOk result (λ x. row_length x.1.now ≤ row_length tokens.now) }
 {
     match prefix_in_front(tokens) {
         Some(op) => {
@@ -91,9 +98,12 @@ fn unary<'a>(alloc: Global, tokens: &'a [Token]) -> Result<(Expr, &'a [Token]), 
 // A number, a name with or without an index, `sense()`, or an expression in brackets.
 #[cycle(expression)]
 #[tactic(auto, unfolding(crate::specs::Expressions::primary, crate::specs::Expressions::number, crate::specs::Expressions::sense, crate::specs::Expressions::bracketed))]
-fn primary<'a>(alloc: Global, tokens: &'a [Token]) -> Result<(Expr, &'a [Token]), Stop<'a>>
-    ensures value { Gives (λ x. reading.done (expression_of x.0) x.1.now) (spec.primary spec.expression tokens.now) result }
+fn primary<'a>(alloc: Global, tokens: &'a [Token]) -> Result<(Expr<Span>, &'a [Token]), Stop<'a>>
+    ensures value { Gives (λ x. reading.done (expression_of x.0) x.1.now)
+        (spec.primary spec.expression tokens.now) result }
     ensures shorter { IfOk result (λ x. length x.1.now < length tokens.now) }
+    ensures nests { IfOk result (λ x. nesting x.1.now ≤ nesting tokens.now) }
+    ensures row { IfOk result (λ x. row_length x.1.now ≤ row_length tokens.now) }
 {
     match kind_of(tokens) {
         Some(Kind::Number) => {
@@ -119,9 +129,12 @@ fn primary<'a>(alloc: Global, tokens: &'a [Token]) -> Result<(Expr, &'a [Token])
 
 #[cycle(expression)]
 #[tactic(auto, unfolding(crate::specs::Expressions::named))]
-fn named<'a>(alloc: Global, tokens: &'a [Token]) -> Result<(Expr, &'a [Token]), Stop<'a>>
-    ensures value { Gives (λ x. reading.done (expression_of x.0) x.1.now) (spec.named spec.expression tokens.now) result }
+fn named<'a>(alloc: Global, tokens: &'a [Token]) -> Result<(Expr<Span>, &'a [Token]), Stop<'a>>
+    ensures value { Gives (λ x. reading.done (expression_of x.0) x.1.now)
+        (spec.named spec.expression tokens.now) result }
     ensures shorter { IfOk result (λ x. length x.1.now < length tokens.now) }
+    ensures nests { IfOk result (λ x. nesting x.1.now ≤ nesting tokens.now) }
+    ensures row { IfOk result (λ x. row_length x.1.now ≤ row_length tokens.now) }
 {
     let (name, rest) = take(Kind::Name, tokens)?;
     match kind_of(rest) {
@@ -142,10 +155,13 @@ fn up_to<'a>(
     alloc: Global,
     precedence: u8,
     tokens: &'a [Token],
-) -> Result<(Expr, &'a [Token]), Stop<'a>>
+) -> Result<(Expr<Span>, &'a [Token]), Stop<'a>>
     requires { precedence ≤ 10 }
-    ensures value { Gives (λ x. reading.done (expression_of x.0) x.1.now) (spec.up_to spec.unary precedence tokens.now) result }
+    ensures value { Gives (λ x. reading.done (expression_of x.0) x.1.now)
+        (spec.up_to spec.unary precedence tokens.now) result }
     ensures shorter { IfOk result (λ x. length x.1.now < length tokens.now) }
+    ensures nests { IfOk result (λ x. nesting x.1.now ≤ nesting tokens.now) }
+    ensures row { IfOk result (λ x. row_length x.1.now ≤ row_length tokens.now) }
 {
     if precedence == 0 {
         return unary(alloc, tokens);
@@ -160,7 +176,9 @@ fn up_to<'a>(
 }
 
 fn operator_in_front(precedence: u8, tokens: &[Token]) -> Option<Infix>
-    ensures { result ≡ reading.meaning (spec.infix_at precedence) (reading.kind_of tokens.now) }
+    ensures value { result ≡ reading.meaning (spec.infix_at precedence) (reading.kind_of tokens.now) }
+    ensures nests { IfSome result (λ op. nesting (drop 1 tokens.now) ≡ nesting tokens.now) }
+    ensures row { IfSome result (λ op. row_length tokens.now ≡ row_length (drop 1 tokens.now) + 1) }
 {
     match kind_of(tokens) {
         Some(kind) => infix_at(precedence, kind),
@@ -173,15 +191,17 @@ fn operator_in_front(precedence: u8, tokens: &[Token]) -> Option<Infix>
 fn joined<'a>(
     alloc: Global,
     precedence: u8,
-    left: Expr,
+    left: Expr<Span>,
     op: Infix,
     tokens: &'a [Token],
-) -> Result<(Expr, &'a [Token]), Stop<'a>>
+) -> Result<(Expr<Span>, &'a [Token]), Stop<'a>>
     requires some { 0 < precedence }
     requires most { precedence ≤ 10 }
     ensures value { Gives (λ x. reading.done (expression_of x.0) x.1.now)
         (spec.joined_with (spec.up_to spec.unary (precedence - 1)) (expression_of left) op tokens.now) result }
     ensures shorter { IfOk result (λ x. length x.1.now < length tokens.now) }
+    ensures nests { IfOk result (λ x. nesting x.1.now ≤ nesting tokens.now) }
+    ensures row { IfOk result (λ x. row_length x.1.now ≤ row_length tokens.now) }
 {
     match op {
         Infix::Binary(op) => {
@@ -204,9 +224,13 @@ fn joined<'a>(
 }
 
 /// An expression, and the tokens behind it.
-pub fn expression<'a>(alloc: Global, tokens: &'a [Token]) -> Result<(Expr, &'a [Token]), Stop<'a>>
+pub fn expression<'a>(
+    alloc: Global,
+    tokens: &'a [Token],
+) -> Result<(Expr<Span>, &'a [Token]), Stop<'a>>
     ensures value { Gives (λ x. reading.done (expression_of x.0) x.1.now) (spec.expression tokens.now) result }
     ensures shorter { IfOk result (λ x. length x.1.now < length tokens.now) }
+    ensures nests { IfOk result (λ x. nesting x.1.now ≤ nesting tokens.now) }
 {
     up_to(alloc, WEAKEST, tokens)
 }
