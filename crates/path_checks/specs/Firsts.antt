@@ -1,0 +1,29 @@
+-- The first place of a text at which something is so.
+use Rattle.std.specs.Prelude.{◌≤◌, ◌⊎◌, nat_le, if◌then◌else◌, Option, None, Some, List, [], ◌∷◌}
+use Rattle.alp_text.specs.declared.lines.Span.{Span}
+use Rattle.task_ast.specs.declared.names.VariableName.{VariableName}
+use Rattle.task_ast.specs.declared.names.TaskName.{TaskName}
+use Rattle.task_ast.specs.Tree.{Task, Program}
+
+-- a source, and a task of it, whose names have been looked up
+abbrev pub CheckedProgram : Type 0
+CheckedProgram = Program VariableName TaskName
+
+abbrev pub CheckedTask : Type 0
+CheckedTask = Task VariableName TaskName
+
+-- the first place that is so, by where it begins; or no place is
+abbrev pub IsFirst : Option Span → (Span → Type 0) → Type 0
+IsFirst None P = (s : Span) → P s → ⊥
+IsFirst (Some first) P = P first × ((s : Span) → P s → first.from ≤ s.from)
+
+-- some of the tasks is so
+abbrev pub SomeTask : List CheckedTask → (CheckedTask → Type 0) → Type 0
+SomeTask [] P = ⊥
+SomeTask (task ∷ more) P = P task ⊎ SomeTask more P
+
+-- the place that begins first, of those that are there
+abbrev pub first_of : Option Span → Option Span → Option Span
+first_of None other = other
+first_of (Some p) None = Some p
+first_of (Some p) (Some q) = Some (if nat_le p.from q.from then p else q)

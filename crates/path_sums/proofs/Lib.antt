@@ -1,0 +1,7 @@
+pub mod Taut
+pub mod Joins
+pub mod Bits
+mod FlowMeaning
+pub mod Every
+mod AccessLaws
+mod AccessMeaning

@@ -1,0 +1,54 @@
+-- The answer of the checks behind those of names.
+use Rattle.std.proofs.Common.{◌≡◌, ℕ, List, [], ◌∷◌, Option, Some, None, Result, Ok, Err, IfOk, MatchResult, ◌⊎◌, inl, inr, sym, subst, ◌∙◌}
+use Rattle.std.specs.Result.{IfErr}
+use Rattle.alp_text.specs.declared.lines.Span.{Span}
+use Rattle.task_ast.specs.declared.names.VariableName.{VariableName}
+use Rattle.task_ast.specs.declared.names.TaskName.{TaskName}
+use Rattle.task_ast.specs.declared.Source.{Source}
+use Rattle.task_ast.specs.Tree.{Program}
+use Rattle.task_ast.specs.View.{program_of}
+use Rattle.task_check.specs.declared.occurrence.Occurrence.{Occurrence}
+use Rattle.task_check.specs.declared.fault.CheckFault.{CheckFault}
+use Rattle.task_check.specs.declared.fault.CheckFault.TheVariants as fault
+use Rattle.task_check.specs.declared.checked.Checked.{Checked}
+use Rattle.task_check.specs.declared.walk.Walk.{Walk}
+use Rattle.task_check.specs.Occurrences.{program_names}
+use Rattle.task_check.specs.LookedUp.{program_back, task_variables, task_targets, variables_in, targets_in}
+use Rattle.task_check.specs.Faults.{first_fault, name_fault, use_fault, limit_fault}
+use Rattle.task_check.specs.Walks.{IsWalked}
+use Rattle.task_check.specs.Answers.{IsNamed, IsAccepted, IsCleanOnPaths, IsRefusedOnPaths, on_paths, at_limits, IsRefusedOrMemory, limits_fault}
+
+module _ (source : List ℕ) (tree : Program Span Span) (names : List Occurrence) (w : Walk) (same : names ≡ program_names tree) (walked : IsWalked source names names w) where
+  named_is : (checked : Program VariableName TaskName) → w.wrong_use ≡ None → program_back checked ≡ tree → task_variables checked.tasks [] ≡ w.variables.items → task_targets checked.tasks (checked.entry.task ∷ []) ≡ w.targets.items
+      → IsNamed source tree checked
+  named_is checked fine back vs ts = record {
+    names = subst (λ xs. first_fault (name_fault source xs) xs ≡ None) same walked.names;
+    uses = subst (λ xs. first_fault (use_fault source xs) xs ≡ None) same (sym walked.wrong_use ∙ fine);
+    looked_up = record {
+      places = back;
+      variables = subst (λ xs. task_variables checked.tasks [] ≡ variables_in source xs xs) same (vs ∙ walked.variables);
+      targets = subst (λ xs. task_targets checked.tasks (checked.entry.task ∷ []) ≡ targets_in source xs xs) same (ts ∙ walked.targets);
+    };
+  }
+
+  limits_are : (r : Option CheckFault) → w.too_many ≡ r → limits_fault source tree ≡ r
+  limits_are r e = subst (λ xs. first_fault (limit_fault source) xs ≡ r) same (sym walked.too_many ∙ e)
+
+  -- what the checks of paths and limits answer
+  pub finished : (r : Result Checked CheckFault) (checked : Source VariableName TaskName)
+      → w.wrong_use ≡ None → program_back (program_of checked) ≡ tree → task_variables (program_of checked).tasks [] ≡ w.variables.items → task_targets (program_of checked).tasks ((program_of checked).entry.task ∷ []) ≡ w.targets.items
+      → IfOk r (λ c. c.source ≡ checked) → IfOk r (λ c. w.too_many ≡ None)
+      → IfErr r (λ e. (e ≡ fault.Memory) ⊎ (IsRefusedOnPaths source (program_of checked) e ⊎ (IsCleanOnPaths (program_of checked) × (w.too_many ≡ Some e))))
+      → MatchResult r (λ c. IsAccepted source tree (program_of c.source)) (λ e. IsRefusedOrMemory source tree e)
+  finished (Ok c) checked fine back vs ts is none err = record {
+    named = subst (λ s. IsNamed source tree (program_of s)) (sym is) (named_is (program_of checked) fine back vs ts);
+    paths = record { loops = c.loops; assigned = c.assigned; transitions = c.transitions };
+    limits = limits_are None none;
+  }
+  finished (Err e) checked fine back vs ts is none err = elim err [
+    | inl m ↦ inl m
+    | inr p ↦ elim p [
+      | inl h ↦ inr (on_paths (program_of checked) (named_is (program_of checked) fine back vs ts) h)
+      | inr h ↦ inr (at_limits (program_of checked) (named_is (program_of checked) fine back vs ts) h.0 (limits_are (Some e) h.1))
+    ]
+  ]

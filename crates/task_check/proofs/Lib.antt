@@ -1,0 +1,7 @@
+mod Tables
+mod Walks
+mod Fronts
+pub mod Parts
+mod Finish
+mod Fill
+mod OneAnswer

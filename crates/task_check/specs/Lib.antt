@@ -1,0 +1,10 @@
+pub mod Occurrences
+pub mod Scope
+pub mod LookedUp
+pub mod Faults
+pub mod Answers
+pub mod Limits
+pub mod Tables
+pub mod Parts
+pub mod Walks
+pub mod Laws

@@ -1,0 +1,174 @@
+-- A source with its names looked up.
+use Rattle.std.specs.Prelude.{ℕ, ◌-◌, suc, List, [], ◌∷◌, ◌++◌, map, length, Option, Some, None}
+use Rattle.std.specs.Option.{option_map}
+use Rattle.alp_text.specs.declared.lines.Span.{Span}
+use Rattle.task_ast.specs.declared.names.Variable.TheVariants as variable
+use Rattle.task_ast.specs.declared.names.VariableName.{VariableName}
+use Rattle.task_ast.specs.declared.names.TaskName.{TaskName}
+use Rattle.task_ast.specs.Tree.{Expression, Statement, Choice, Block, Task, Program}
+use Rattle.task_ast.specs.Tree as t
+use Rattle.task_check.specs.declared.occurrence.Role.{Role}
+use Rattle.task_check.specs.declared.occurrence.Role.TheVariants as role
+use Rattle.task_check.specs.declared.occurrence.Occurrence.{Occurrence}
+use Rattle.task_check.specs.declared.symbol.Symbol.{Symbol}
+use Rattle.task_check.specs.declared.symbol.Symbol.TheVariants as symbol
+use Rattle.task_check.specs.declared.symbol.TypedVariable.{TypedVariable}
+use Rattle.task_check.specs.Scope.{text_of, locals_in, global_in, local_in, meaning}
+
+-- ---- the names' places put back
+
+abbrev pub expression_back : Expression VariableName → Expression Span
+expression_back (t.number n) = t.number n
+expression_back (t.name v) = t.name v.span
+expression_back (t.element v index) = t.element v.span (expression_back index)
+expression_back t.sense = t.sense
+expression_back (t.unary op a) = t.unary op (expression_back a)
+expression_back (t.binary op a b) = t.binary op (expression_back a) (expression_back b)
+expression_back (t.shift op a count) = t.shift op (expression_back a) count
+expression_back (t.short_circuit op a b) = t.short_circuit op (expression_back a) (expression_back b)
+
+abbrev mutual
+  pub statement_back : Statement VariableName TaskName → Statement Span Span
+  statement_back (t.declare of v value) = t.declare of v.span (option_map expression_back value)
+  statement_back (t.assign v e) = t.assign v.span (expression_back e)
+  statement_back (t.store v index e) = t.store v.span (expression_back index) (expression_back e)
+  statement_back (t.choose c) = t.choose (choice_back c)
+  statement_back (t.loop v from w below u body) = t.loop v.span from w.span below u.span (block_back body)
+  statement_back (t.emit e) = t.emit (expression_back e)
+  statement_back (t.transition n) = t.transition n.span
+
+  pub choice_back : Choice VariableName TaskName → Choice Span Span
+  choice_back t.nothing = t.nothing
+  choice_back (t.otherwise b) = t.otherwise (block_back b)
+  choice_back (t.test e b more) = t.test (expression_back e) (block_back b) (choice_back more)
+
+  pub block_back : Block VariableName TaskName → Block Span Span
+  block_back t.end = t.end
+  block_back (t.step s more) = t.step (statement_back s) (block_back more)
+
+abbrev pub task_back : Task VariableName TaskName → Task Span Span
+task_back k = record { name = k.name; body = block_back k.body }
+
+-- the source with the places of its names in their stead
+abbrev pub program_back : Program VariableName TaskName → Program Span Span
+program_back p = record { shared = p.shared; tasks = map task_back p.tasks; entry = p.entry.span }
+
+-- ---- the variables that the names of a source were looked up as, in the text's order, in front of some more
+
+abbrev pub typed : VariableName → TypedVariable
+typed v = record { variable = v.variable; word_type = v.word_type }
+
+abbrev pub expression_variables : Expression VariableName → List TypedVariable → List TypedVariable
+expression_variables (t.number n) more = more
+expression_variables (t.name v) more = typed v ∷ more
+expression_variables (t.element v index) more = typed v ∷ expression_variables index more
+expression_variables t.sense more = more
+expression_variables (t.unary op a) more = expression_variables a more
+expression_variables (t.binary op a b) more = expression_variables a (expression_variables b more)
+expression_variables (t.shift op a count) more = expression_variables a more
+expression_variables (t.short_circuit op a b) more = expression_variables a (expression_variables b more)
+
+abbrev pub value_variables : Option (Expression VariableName) → List TypedVariable → List TypedVariable
+value_variables None more = more
+value_variables (Some e) more = expression_variables e more
+
+abbrev mutual
+  pub statement_variables : Statement VariableName TaskName → List TypedVariable → List TypedVariable
+  statement_variables (t.declare of v value) more = typed v ∷ value_variables value more
+  statement_variables (t.assign v e) more = typed v ∷ expression_variables e more
+  statement_variables (t.store v index e) more = typed v ∷ expression_variables index (expression_variables e more)
+  statement_variables (t.choose c) more = choice_variables c more
+  statement_variables (t.loop v from w below u body) more = typed v ∷ typed w ∷ typed u ∷ block_variables body more
+  statement_variables (t.emit e) more = expression_variables e more
+  statement_variables (t.transition n) more = more
+
+  pub choice_variables : Choice VariableName TaskName → List TypedVariable → List TypedVariable
+  choice_variables t.nothing more = more
+  choice_variables (t.otherwise b) more = block_variables b more
+  choice_variables (t.test e b others) more = expression_variables e (block_variables b (choice_variables others more))
+
+  pub block_variables : Block VariableName TaskName → List TypedVariable → List TypedVariable
+  block_variables t.end more = more
+  block_variables (t.step s others) more = statement_variables s (block_variables others more)
+
+abbrev pub task_variables : List (Task VariableName TaskName) → List TypedVariable → List TypedVariable
+task_variables [] more = more
+task_variables (k ∷ others) more = block_variables k.body (task_variables others more)
+
+-- ---- the same for the tasks of transitions and of the entry
+
+abbrev mutual
+  pub statement_targets : Statement VariableName TaskName → List ℕ → List ℕ
+  statement_targets (t.declare of v value) more = more
+  statement_targets (t.assign v e) more = more
+  statement_targets (t.store v index e) more = more
+  statement_targets (t.choose c) more = choice_targets c more
+  statement_targets (t.loop v from w below u body) more = block_targets body more
+  statement_targets (t.emit e) more = more
+  statement_targets (t.transition n) more = n.task ∷ more
+
+  pub choice_targets : Choice VariableName TaskName → List ℕ → List ℕ
+  choice_targets t.nothing more = more
+  choice_targets (t.otherwise b) more = block_targets b more
+  choice_targets (t.test e b others) more = block_targets b (choice_targets others more)
+
+  pub block_targets : Block VariableName TaskName → List ℕ → List ℕ
+  block_targets t.end more = more
+  block_targets (t.step s others) more = statement_targets s (block_targets others more)
+
+abbrev pub task_targets : List (Task VariableName TaskName) → List ℕ → List ℕ
+task_targets [] more = more
+task_targets (k ∷ others) more = block_targets k.body (task_targets others more)
+
+-- ---- what the text says of each
+
+-- the variable of a symbol
+abbrev pub variable_of : Symbol → List TypedVariable
+variable_of (symbol.Scalar n of) = record { variable = variable.Shared n; word_type = of } ∷ []
+variable_of (symbol.Array n of) = record { variable = variable.Shared n; word_type = of } ∷ []
+variable_of (symbol.Local n of) = record { variable = variable.Local n; word_type = of } ∷ []
+variable_of (symbol.Task n) = []
+
+-- the task of a symbol
+abbrev pub target_of : Symbol → List ℕ
+target_of (symbol.Task n) = n ∷ []
+target_of _ = []
+
+-- what a name stands for by its role: a local that is declared, by its number, or what a use means
+abbrev pub symbol_by : Role → ℕ → Option Symbol → Option Symbol
+symbol_by (role.Local of begin end) locals found = Some (symbol.Local locals of)
+symbol_by role.Scalar locals found = found
+symbol_by role.Element locals found = found
+symbol_by role.Counter locals found = found
+symbol_by role.Target locals found = found
+symbol_by _ locals found = None
+
+-- how many names stand behind a name, by those in front of it
+abbrev pub behind : List Occurrence → List Occurrence → ℕ
+behind all front = length all - suc (length front)
+
+-- what a name of a text stands for
+unfoldable pub symbol_at : List ℕ → List Occurrence → Occurrence → List Occurrence → Option Symbol
+symbol_at source all o front = symbol_by o.role (locals_in front)
+    (meaning (behind all front) (local_in source (text_of source o.span) front) (global_in source (text_of source o.span) all))
+
+-- its variable, if its role is that of one
+abbrev pub variable_by : Role → Option Symbol → List TypedVariable
+variable_by role.Target s = []
+variable_by _ None = []
+variable_by _ (Some s) = variable_of s
+
+-- its task
+abbrev pub target_by : Role → Option Symbol → List ℕ
+target_by role.Target (Some s) = target_of s
+target_by _ _ = []
+
+-- the variables that the names in front stand for, in the text's order
+abbrev pub variables_in : List ℕ → List Occurrence → List Occurrence → List TypedVariable
+variables_in source all [] = []
+variables_in source all (o ∷ front) = variables_in source all front ++ variable_by o.role (symbol_at source all o front)
+
+-- the tasks
+abbrev pub targets_in : List ℕ → List Occurrence → List Occurrence → List ℕ
+targets_in source all [] = []
+targets_in source all (o ∷ front) = targets_in source all front ++ target_by o.role (symbol_at source all o front)

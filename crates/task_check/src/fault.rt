@@ -1,0 +1,65 @@
+//! Why the checks refuse a source.
+
+use alp_text::Span;
+use std::alloc::{AllocError, AllocFailed};
+use thiserror::Error;
+
+/// What a wrong use keeps: the name, or the count of a shift where that is at fault.
+#[derive(Clone, Copy, Debug, PartialEq, Eq)]
+pub enum Kept {
+    Name(Span),
+    Number(u16),
+}
+
+/// The first fault of the first check that finds one, with its line from 1, in the order of the checks; or want of memory.
+#[derive(Clone, Copy, Debug, PartialEq, Eq, Error)]
+pub enum CheckFault {
+    /// A name that is declared twice where it must be declared once, at the later of the two declarations.
+    #[error("line {line}: a name that is declared already")]
+    RepeatedName { line: u32, name: Span },
+    /// A name that is not known where it is used.
+    #[error("line {line}: a name that is not known here")]
+    UnknownName { line: u32, name: Span },
+    /// A task as a variable, an array without an index, a scalar with one, a variable as a task, or a shift count above 15.
+    #[error("line {line}: a name that is not used as what it was declared")]
+    WrongUse { line: u32, kept: Kept },
+    /// An array of no words.
+    #[error("line {line}: an array of no words")]
+    BadLength { line: u32, name: Span },
+    /// A loop whose three names are not one local, or whose body assigns that local or uses it in another loop. It keeps the first of the three names.
+    #[error("line {line}: a loop that does not count with a local of its own")]
+    BadLoop { line: u32, name: Span },
+    /// A local that some path reads here while it is unassigned.
+    #[error("line {line}: a local that may be read before it is assigned")]
+    Unassigned { line: u32, name: Span },
+    /// The name of a task some path of which reaches the end of its body.
+    #[error("line {line}: a task that may end without a transition")]
+    NoTransition { line: u32, name: Span },
+    /// The 65th task, the 257th shared variable, or the 257th local of a task, at its name.
+    #[error("line {line}: more names than a program may have")]
+    TooMany { line: u32 },
+    #[error("out of memory")]
+    Memory,
+}
+
+impl From<AllocError> for CheckFault {
+    ghost use Rattle.std.specs.Prelude.{◌≡◌};
+    ghost use Rattle.task_check.specs.declared.fault.CheckFault.TheVariants.{Memory};
+
+    ghost from_gives = { λ _ e. e ≡ Memory };
+
+    fn from(_: AllocError) -> Self {
+        CheckFault::Memory
+    }
+}
+
+impl<T: Drop> From<AllocFailed<T>> for CheckFault {
+    ghost use Rattle.std.specs.Prelude.{◌≡◌};
+    ghost use Rattle.task_check.specs.declared.fault.CheckFault.TheVariants.{Memory};
+
+    ghost from_gives = { λ _ e. e ≡ Memory };
+
+    fn from(_: AllocFailed<T>) -> Self {
+        CheckFault::Memory
+    }
+}

@@ -1,0 +1,36 @@
+//! The names of a source, each where it stands.
+
+use alp_text::Span;
+use task_ast::{Extent, WordType};
+
+/// What a name does where it stands. Declarations come first, then uses; the count of a shift stands among them, since it can be at fault too.
+#[derive(Clone, Copy, Debug, PartialEq, Eq)]
+pub enum Role {
+    /// It is declared as a shared variable.
+    Shared(WordType, Extent),
+    /// It is declared as a task.
+    Task,
+    /// It is declared as a local, and is known where at least `end` and fewer than `begin` names stand behind: from behind the declaration to the end of its block.
+    Local {
+        word_type: WordType,
+        begin: usize,
+        end: usize,
+    },
+    /// It is read or assigned as one word.
+    Scalar,
+    /// It is the array of an element that is read or assigned.
+    Element,
+    /// It is one of the three names of a `for`.
+    Counter,
+    /// It is the task of a transition or of the entry.
+    Target,
+    /// No name, but the count of a shift.
+    Count(u16),
+}
+
+/// A name or the count of a shift: its place in the text, and what it does there.
+#[derive(Clone, Copy, Debug, PartialEq, Eq)]
+pub struct Occurrence {
+    pub span: Span,
+    pub role: Role,
+}

@@ -1,0 +1,44 @@
+//! What names stand for.
+
+use task_ast::{Variable, WordType};
+
+/// What a name stands for: a shared variable or a task, by its number in the source, or a local, by its number in its task.
+#[derive(Clone, Copy, Debug, PartialEq, Eq)]
+pub enum Symbol {
+    Scalar { number: u32, word_type: WordType },
+    Array { number: u32, word_type: WordType },
+    Task { number: u32 },
+    Local { number: u32, word_type: WordType },
+}
+
+/// A shared variable or a task, and how many names stand in front of its declaration.
+#[derive(Clone, Copy, Debug, PartialEq, Eq)]
+pub struct Global {
+    pub front: usize,
+    pub symbol: Symbol,
+}
+
+/// A local: the number of tasks declared up to its own, its number there, its type, and where it is known.
+#[derive(Clone, Copy, Debug, PartialEq, Eq)]
+pub struct Local {
+    pub tasks: u32,
+    pub number: u32,
+    pub word_type: WordType,
+    pub begin: usize,
+    pub end: usize,
+}
+
+/// A variable, and the type of its words.
+#[derive(Clone, Copy, Debug, PartialEq, Eq)]
+pub struct TypedVariable {
+    pub variable: Variable,
+    pub word_type: WordType,
+}
+
+/// How many shared variables and tasks are declared in front of a place, and how many locals of the task that it is in.
+#[derive(Clone, Copy, Debug, PartialEq, Eq)]
+pub struct Counts {
+    pub shared: u32,
+    pub tasks: u32,
+    pub locals: u32,
+}
