@@ -1,0 +1,159 @@
+-- What statements cost, and what the allowance of a few small sources comes to, counted by hand from the table.
+use Rattle.std.specs.Prelude.{◌≡◌, ℕ, ◌+◌, ◌*◌, ◌≤◌, Some, None, List, [], ◌∷◌}
+use Rattle.alp_text.specs.declared.lines.Span.{Span}
+use Rattle.task_ast.specs.Tree.{Expression, Statement}
+use Rattle.task_ast.specs.Tree as t
+use Rattle.task_ast.specs.declared.WordType.TheVariants.{Unsigned}
+use Rattle.task_ast.specs.declared.BinaryOperator.{BinaryOperator}
+use Rattle.task_ast.specs.declared.BinaryOperator.TheVariants.{Add, Greater, Multiply, Divide, Remainder}
+use Rattle.task_ast.specs.declared.UnaryOperator.TheVariants.{Negate}
+use Rattle.task_ast.specs.declared.ShiftOperator.TheVariants.{Left}
+use Rattle.task_ast.specs.declared.ShortCircuitOperator.TheVariants.{And as BothHold}
+use Rattle.task_ast.specs.declared.Extent.{Extent}
+use Rattle.task_ast.specs.declared.Extent.TheVariants.{Scalar, Array}
+use Rattle.task_ast.specs.declared.SharedDeclaration.{SharedDeclaration}
+use Rattle.task_ast.specs.declared.names.Variable.{Variable}
+use Rattle.task_ast.specs.declared.names.Variable.TheVariants.{Shared, Local}
+use Rattle.task_ast.specs.declared.names.VariableName.{VariableName}
+use Rattle.task_ast.specs.declared.names.TaskName.{TaskName}
+use Rattle.cost_bound.specs.Table.{statement_price, cycles_column, words_column}
+use Rattle.cost_bound.specs.Counts.{Code}
+use Rattle.cost_bound.specs.Allowance.{CheckedProgram, CheckedTask, bound_of, words_of, versions_of, list_of, greatest}
+
+-- a place in a text, which no price looks at
+abbrev pub place : Span
+place = record { from = 0; to = 0 }
+
+abbrev pub named : Variable → VariableName
+named v = record { span = place; variable = v; word_type = Unsigned }
+
+abbrev pub x : VariableName
+x = named (Shared 0)
+
+abbrev pub y : VariableName
+y = named (Shared 1)
+
+abbrev pub z : VariableName
+z = named (Shared 2)
+
+abbrev pub w : VariableName
+w = named (Shared 3)
+
+abbrev pub i : VariableName
+i = named (Local 0)
+
+abbrev pub j : VariableName
+j = named (Local 1)
+
+abbrev pub goes_to : ℕ → Code
+goes_to n = t.step (t.transition (record { span = place; task = n })) t.end
+
+abbrev pub declared : Extent → SharedDeclaration
+declared extent = record { word_type = Unsigned; name = place; extent = extent }
+
+abbrev pub source : List SharedDeclaration → List Code → CheckedProgram
+source shared codes = record { shared = shared; tasks = tasks_of codes; entry = record { span = place; task = 0 } }
+  where
+    tasks_of : List Code → List CheckedTask
+    tasks_of [] = []
+    tasks_of (c ∷ cs) = record { name = place; body = c } ∷ tasks_of cs
+
+-- `x = sense();` and the transition
+abbrev pub senses : Code
+senses = t.step (t.assign x t.sense) (goes_to 1)
+
+-- `x = x + sense(); emit(x); transition_to(..);`
+abbrev pub running_sum : CheckedProgram
+running_sum = source (declared (Scalar 0) ∷ [])
+    (t.step (t.assign x (t.binary Add (t.name x) t.sense)) (t.step (t.emit (t.name x)) (goes_to 0)) ∷ [])
+
+-- `for (i = 0; i < 64; i++) { x[0] = x[0] + 1; } transition_to(..);`, where x has 64 elements
+abbrev pub one_element : CheckedProgram
+one_element = source (declared (Array 64) ∷ [])
+    (t.step (t.declare Unsigned i None)
+    (t.step (t.loop i 0 i 64 i (t.step (t.store x (t.number 0) (t.binary Add (t.element x (t.number 0)) (t.number 1))) t.end)) (goes_to 0)) ∷ [])
+
+-- `y = sense(); if (y > 9) { x = 1; } transition_to(..);` and a task that senses
+abbrev pub threshold : CheckedProgram
+threshold = source (declared (Scalar 0) ∷ declared (Scalar 0) ∷ [])
+    (t.step (t.assign y t.sense)
+    (t.step (t.choose (t.test (t.binary Greater (t.name y) (t.number 9)) (t.step (t.assign x (t.number 1)) t.end) t.nothing)) (goes_to 1)) ∷ senses ∷ [])
+
+-- `x = x + 1; y = y + 2; transition_to(..);` and a task that senses
+abbrev pub two_sums : CheckedProgram
+two_sums = source (declared (Scalar 0) ∷ declared (Scalar 0) ∷ [])
+    (t.step (t.assign x (t.binary Add (t.name x) (t.number 1))) (t.step (t.assign y (t.binary Add (t.name y) (t.number 2))) (goes_to 1)) ∷ senses ∷ [])
+
+-- `x[0] = 1; transition_to(..);`, where x has so many elements
+abbrev pub one_store : ℕ → CheckedProgram
+one_store length = source (declared (Array length) ∷ []) (t.step (t.store x (t.number 0) (t.number 1)) (goes_to 0) ∷ [])
+
+-- `for (i = 0; i < 65535; i++) { for (j = 0; j < 65535; j++) { x = 1; } } transition_to(..);`
+abbrev pub two_loops : CheckedProgram
+two_loops = source (declared (Scalar 0) ∷ [])
+    (t.step (t.loop i 0 i 65535 i (t.step (t.loop j 0 j 65535 j (t.step (t.assign x (t.number 1)) t.end)) t.end)) (goes_to 0) ∷ [])
+
+-- the cycles of a statement, and its words in a task that assigns two shared scalars
+abbrev pub priced : Statement VariableName TaskName → ℕ × ℕ
+priced s = (statement_price cycles_column s, statement_price (words_column 2) s)
+
+abbrev pub emits : Expression VariableName → ℕ × ℕ
+emits e = priced (t.emit e)
+
+abbrev pub sums : BinaryOperator → Expression VariableName
+sums op = t.binary op (t.name x) t.sense
+
+abbrev pub sets : Code
+sets = t.step (t.assign x (t.number 1)) t.end
+
+abbrev pub sets_twice : Code
+sets_twice = t.step (t.assign x (t.number 1)) sets
+
+-- each line of the table
+pub record PriceRows : Type 0 where
+  pub number : emits (t.number 7) ≡ (100, 40)
+  pub scalar : emits (t.name x) ≡ (100, 40)
+  pub reading : emits t.sense ≡ (100, 40)
+  pub unary : emits (t.unary Negate (t.name x)) ≡ (140, 56)
+  pub sum : emits (sums Add) ≡ (180, 72)
+  pub comparison : emits (sums Greater) ≡ (180, 72)
+  pub short_circuit : emits (t.short_circuit BothHold (t.name x) t.sense) ≡ (180, 72)
+  pub shift : emits (t.shift Left (t.name x) (record { value = 3; span = place })) ≡ (200, 56)
+  pub product : emits (sums Multiply) ≡ (440, 72)
+  pub quotient : emits (sums Divide) ≡ (540, 72)
+  pub remainder : emits (sums Remainder) ≡ (540, 72)
+  pub element : emits (t.element y (t.name x)) ≡ (160, 64)
+  pub declaration : priced (t.declare Unsigned i None) ≡ (0, 0)
+  pub declaration_with_value : priced (t.declare Unsigned i (Some (t.number 1))) ≡ (80, 40)
+  pub assignment : priced (t.assign x (t.number 1)) ≡ (80, 40)
+  pub store : priced (t.store y (t.number 0) (t.name x)) ≡ (200, 92)
+  pub transition : priced (t.transition (record { span = place; task = 0 })) ≡ (100, 72)
+  -- the cycles of the greatest block, which is the one in the middle, and the words of all
+  pub choice : priced (t.choose (t.test (t.name x) sets (t.test (t.name x) sets_twice (t.otherwise sets)))) ≡ (280, 240)
+  pub choice_without_else : priced (t.choose (t.test (t.name x) t.end t.nothing)) ≡ (80, 40)
+  pub loop : priced (t.loop i 2 i 5 i sets) ≡ (400, 64)
+  pub loop_of_no_turns : priced (t.loop i 5 i 5 i sets) ≡ (40, 64)
+
+-- Of two arrays of 4 and 8 elements, y and z: ten stores to y in a loop, two to z, and the scalar x assigned twice. Then a task that
+-- assigns x once more, and loops over no turn in which it would store to z. A third array is only read.
+abbrev pub several : CheckedProgram
+several = source (declared (Scalar 0) ∷ declared (Array 4) ∷ declared (Array 8) ∷ declared (Array 16) ∷ [])
+    (t.step (t.loop i 0 i 10 i (t.step (t.store y (t.number 0) (t.element w (t.number 1))) t.end))
+    (t.step (t.store z (t.number 0) (t.number 1)) (t.step (t.store z (t.number 1) (t.number 1)) (t.step (t.assign x (t.number 1)) (t.step (t.assign x (t.number 2)) (goes_to 1)))))
+    ∷ t.step (t.assign x (t.number 3)) (t.step (t.loop i 5 i 5 i (t.step (t.store z (t.number 0) (t.number 1)) t.end)) (goes_to 0)) ∷ [])
+
+pub record AllowanceRows : Type 0 where
+  -- 400, one scalar 72, its code 360, one entry 40, one emit 40
+  pub running_sum_bound : bound_of running_sum ≡ 912
+  -- 400, 64 versions 768, the code 40 + 64 · 380 + 100, and 64 entries of 40
+  pub one_element_bound : bound_of one_element ≡ 28188
+  pub threshold_bound : bound_of threshold ≡ 1044
+  pub two_sums_bound : bound_of two_sums ≡ 1044
+  pub one_store_words : (length : ℕ) → 1 ≤ length → words_of (one_store length) ≡ 935 + 3 * length
+  pub two_loops_bound : bound_of two_loops ≡ 515385590452
+  pub running_sum_words : words_of running_sum ≡ 990
+  -- 12 versions; one scalar, the 4 elements of y and two stores to z
+  pub several_versions : versions_of several ≡ 12
+  pub several_list : greatest (list_of several.shared) several.tasks ≡ 7
+  -- 400, the versions 144, one scalar 72, the code 40 + 10 · 300 + 2 · 200 + 2 · 80 + 100, and 7 entries of 40
+  pub several_bound : bound_of several ≡ 4596

@@ -1,0 +1,27 @@
+//! Laws of the allowance, as contracts of functions that do nothing.
+ghost use Rattle.std.specs.Prelude.{ℕ, List};
+ghost use Rattle.cost_bound.specs.declared.allowance.Allow.{Allow};
+ghost use Rattle.cost_bound.specs.Allowance.{CheckedProgram, IsAllowed};
+ghost use Rattle.cost_bound.specs.Rows.{PriceRows, AllowanceRows};
+ghost use Rattle.cost_bound.specs.Laws.{OneAnswer, IsSmall};
+
+/// Each line of the table of prices, counted by hand.
+pub fn price_rows()
+    ensures { PriceRows }
+{}
+
+/// The allowances of a few small sources, counted by hand.
+#[tactic(auto, unfolding(crate::specs::Counts::emits_of, crate::specs::Counts::stores_of))]
+pub fn allowance_rows()
+    ensures { AllowanceRows }
+{}
+
+/// A source has one allowance, or else is too much in one way.
+pub fn one_answer()
+    ensures { (p : CheckedProgram) (lines : List ℕ) → OneAnswer p lines }
+{}
+
+/// An allowed source emits at most 256 words a task, and its words have all that its tasks need.
+pub fn allowed_is_small()
+    ensures { (p : CheckedProgram) (allow : Allow) → IsAllowed p allow → IsSmall allow }
+{}

@@ -1,0 +1,274 @@
+//! The table of prices, one column at a time.
+ghost use Rattle.std.specs.Prelude.{◌≡◌, ◌≤◌, ◌+◌, ◌*◌, ℕ, [], map, Option};
+ghost use Rattle.task_ast.specs.Tree.{Block, choice_of, choose};
+ghost use Rattle.task_ast.specs.declared.names.VariableName.{VariableName};
+ghost use Rattle.task_ast.specs.declared.names.TaskName.{TaskName};
+ghost use Rattle.task_ast.specs.View.{expression_of, statement_of, tested_of, block_view};
+ghost use Rattle.cost_bound.specs.Table.{capped, operator_price, expression_price, statement_price, block_price, conditions_price, blocks_price, blocks_together, turns_together, words_column};
+
+use task_ast::{Arm, BinaryOperator, Expr, Stmt, TaskName, VariableName};
+
+/// One column of the table of prices: what each kind of node costs, its parts aside.
+#[derive(Clone, Copy, Debug, PartialEq, Eq)]
+pub struct Column {
+    /// A number, a scalar, a reading.
+    pub leaf: u64,
+    /// An operator without a row of its own.
+    pub operator: u64,
+    pub shift: u64,
+    pub multiply: u64,
+    /// `/` and `%`.
+    pub divide: u64,
+    /// An element of an array that is read.
+    pub element: u64,
+    /// A declaration with a value, an assignment to a scalar.
+    pub assign: u64,
+    /// An assignment to an element of an array.
+    pub store: u64,
+    pub emit: u64,
+    pub transition: u64,
+    pub choose: u64,
+    /// Each condition of an `if`.
+    pub condition: u64,
+    /// All blocks of an `if` count, or else the greatest.
+    pub all_blocks: bool,
+    pub repeat: u64,
+    /// Each turn of a `for`.
+    pub turn: u64,
+    /// Each turn of a `for` counts, or else one.
+    pub each_turn: bool,
+}
+
+pub fn plus(a: u64, b: u64) -> u64
+    ensures { result ≡ capped (a + b) }
+{
+    a.saturating_add(b)
+}
+
+pub fn times(n: u16, a: u64) -> u64
+    ensures { result ≡ capped (n * a) }
+{
+    (n as u64).saturating_mul(a)
+}
+
+fn blocks_together(column: &Column, a: u64, b: u64) -> u64
+    ensures { result ≡ capped (blocks_together column.now a b) }
+{
+    if column.all_blocks {
+        plus(a, b)
+    } else {
+        plus(a.max(b), 0)
+    }
+}
+
+fn turns_together(column: &Column, turns: u16, turn: u64) -> u64
+    ensures { result ≡ capped (turns_together column.now turns turn) }
+{
+    if column.each_turn {
+        times(turns, turn)
+    } else {
+        plus(turn, 0)
+    }
+}
+
+fn operator_price(column: &Column, op: BinaryOperator) -> u64
+    ensures { result ≡ operator_price column.now op }
+{
+    match op {
+        BinaryOperator::Multiply => column.multiply,
+        BinaryOperator::Divide | BinaryOperator::Remainder => column.divide,
+        BinaryOperator::Add
+        | BinaryOperator::Subtract
+        | BinaryOperator::Less
+        | BinaryOperator::LessEqual
+        | BinaryOperator::Greater
+        | BinaryOperator::GreaterEqual
+        | BinaryOperator::Equal
+        | BinaryOperator::NotEqual
+        | BinaryOperator::And
+        | BinaryOperator::Xor
+        | BinaryOperator::Or => column.operator,
+    }
+}
+
+fn expression_price(column: &Column, e: &Expr<VariableName>) -> u64
+    ensures { result ≡ capped (expression_price column.now (expression_of e.now)) }
+{
+    match e {
+        Expr::Number(_) | Expr::Name(_) | Expr::Sense => plus(column.leaf, 0),
+        Expr::Element(_, index) => plus(column.element, expression_price(column, index)),
+        Expr::Unary(_, inner) => plus(column.operator, expression_price(column, inner)),
+        Expr::Binary(op, a, b) => plus(
+            operator_price(column, *op),
+            plus(expression_price(column, a), expression_price(column, b)),
+        ),
+        Expr::Shift(_, left, _) => plus(column.shift, expression_price(column, left)),
+        Expr::ShortCircuit(_, a, b) => plus(
+            column.operator,
+            plus(expression_price(column, a), expression_price(column, b)),
+        ),
+    }
+}
+
+#[cycle(prices)]
+fn statement_price(column: &Column, s: &Stmt<VariableName, TaskName>) -> u64
+    ensures { result ≡ capped (statement_price column.now (statement_of s.now)) }
+{
+    match s {
+        Stmt::Declare(_, _, None) => 0,
+        Stmt::Declare(_, _, Some(value)) | Stmt::Assign(_, value) => plus(
+            column.assign,
+            expression_price(column, value),
+        ),
+        Stmt::Store(_, index, value) => plus(
+            column.store,
+            plus(
+                expression_price(column, index),
+                expression_price(column, value),
+            ),
+        ),
+        Stmt::If(arms, None) => choice_price(column, arms, 0),
+        Stmt::If(arms, Some(last)) => {
+            let last = block_price(column, last);
+            choice_price(column, arms, last)
+        }
+        Stmt::For {
+            from,
+            below,
+            body,
+            ..
+        } => {
+            let turn = plus(column.turn, block_price(column, body));
+            plus(
+                column.repeat,
+                turns_together(column, below.saturating_sub(*from), turn),
+            )
+        }
+        Stmt::Emit(value) => plus(column.emit, expression_price(column, value)),
+        Stmt::TransitionTo(_) => plus(column.transition, 0),
+    }
+}
+
+// An `if`, of which the last block costs so much.
+#[cycle(prices)]
+fn choice_price(column: &Column, arms: &[Arm<VariableName, TaskName>], last: u64) -> u64
+    ensures { (b : Option (Block VariableName TaskName))
+        → last ≡ capped (blocks_price column.now (choice_of [] b))
+        → result ≡ capped (statement_price column.now (choose (choice_of (map tested_of arms.now) b))) }
+{
+    plus(
+        column.choose,
+        plus(
+            conditions_price(column, arms),
+            blocks_price(column, arms, last),
+        ),
+    )
+}
+
+fn conditions_price(column: &Column, arms: &[Arm<VariableName, TaskName>]) -> u64
+    ensures { (last : Option (Block VariableName TaskName))
+        → result ≡ capped (conditions_price column.now (choice_of (map tested_of arms.now) last)) }
+{
+    let mut n = 0;
+    for i in (0..arms.len()).rev() {
+        n = plus(
+            plus(
+                column.condition,
+                expression_price(column, &arms[i].condition),
+            ),
+            n,
+        );
+    }
+    n
+}
+
+// The blocks of an `if`, of which the last one costs so much.
+#[cycle(prices)]
+fn blocks_price(column: &Column, arms: &[Arm<VariableName, TaskName>], last: u64) -> u64
+    ensures { (b : Option (Block VariableName TaskName))
+        → last ≡ capped (blocks_price column.now (choice_of [] b))
+        → result ≡ capped (blocks_price column.now (choice_of (map tested_of arms.now) b)) }
+{
+    let mut n = last;
+    for i in (0..arms.len()).rev() {
+        n = blocks_together(column, block_price(column, &arms[i].block), n);
+    }
+    n
+}
+
+/// What a block costs in a column; 2^64 - 1 where it is more.
+#[cycle(prices)]
+pub fn block_price(column: &Column, body: &[Stmt<VariableName, TaskName>]) -> u64
+    ensures { result ≡ capped (block_price column.now (block_view body.now)) }
+{
+    let mut n = 0;
+    for i in (0..body.len()).rev() {
+        n = plus(statement_price(column, &body[i]), n);
+    }
+    n
+}
+
+/// The column of cycles.
+pub const CYCLES: Column = Column {
+    leaf: 40,
+    operator: 40,
+    shift: 100,
+    multiply: 300,
+    divide: 400,
+    element: 60,
+    assign: 40,
+    store: 120,
+    emit: 60,
+    transition: 100,
+    choose: 40,
+    condition: 0,
+    all_blocks: false,
+    repeat: 40,
+    turn: 40,
+    each_turn: true,
+};
+
+/// The column that counts emits.
+pub const EMITS: Column = Column {
+    leaf: 0,
+    operator: 0,
+    shift: 0,
+    multiply: 0,
+    divide: 0,
+    element: 0,
+    assign: 0,
+    store: 0,
+    emit: 1,
+    transition: 0,
+    choose: 0,
+    condition: 0,
+    all_blocks: false,
+    repeat: 0,
+    turn: 0,
+    each_turn: true,
+};
+
+/// The column of words, for a task that assigns so many shared scalars.
+pub fn words_column(scalars: u64) -> Column
+    requires few { scalars ≤ 256 }
+    ensures { result ≡ words_column scalars }
+{
+    Column {
+        leaf: 16,
+        operator: 16,
+        shift: 16,
+        multiply: 16,
+        divide: 16,
+        element: 24,
+        assign: 24,
+        store: 60,
+        emit: 24,
+        transition: 40 + 16 * scalars,
+        choose: 0,
+        condition: 24,
+        all_blocks: true,
+        repeat: 24,
+        turn: 0,
+        each_turn: false,
+    }
+}

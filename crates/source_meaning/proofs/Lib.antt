@@ -1,0 +1,9 @@
+pub mod Emits
+pub mod Paths
+pub mod Targets
+pub mod Runnable
+pub mod Lines
+pub mod Refusals
+pub mod LookedUp
+pub mod Unique
+mod OneAnswer

@@ -1,0 +1,13 @@
+-- That a source can be run has one proof at most, so a struct may keep it.
+use Rattle.std.specs.Prelude.{ℕ}
+use denote.Struct.Props as logic
+use Rattle.source_values.specs.Statements.{Outcome, goes_on, to_task, short}
+use Rattle.source_values.specs.Runs.{CheckedProgram, EndsWell, IsRunnable}
+
+EndsWell-prop : (tasks : ℕ) (o : Outcome) → IsProp (EndsWell tasks o)
+EndsWell-prop tasks (goes_on s) = Prim.hlevel logic.props
+EndsWell-prop tasks (to_task t s) = Prim.hlevel logic.props
+EndsWell-prop tasks short = Prim.hlevel logic.props
+
+pub IsRunnable-prop : (program : CheckedProgram) → IsProp (IsRunnable program)
+IsRunnable-prop program = Prim.hlevel (logic.props, EndsWell-prop)

@@ -1,0 +1,16 @@
+//! Texts of sources: which are accepted, the refusal of each other one, and the meaning of an accepted one, run task by task.
+#![tactic(auto)]
+
+mod fault;
+mod laws;
+mod passes;
+mod state;
+
+pub use fault::SourceFault;
+pub use laws::one_answer;
+pub use passes::{Accepted, accept};
+pub use source_values::{Done, Short};
+pub use state::Meaning;
+
+#[cfg(test)]
+mod tests;

@@ -1,0 +1,63 @@
+-- The task that an attempt runs, and what it leaves of the readings.
+use Rattle.std.proofs.Common.{◌≡◌, ◌<◌, ◌≤◌, ◌+◌, ◌-◌, ◌++◌, ℕ, List, [], map, length, drop, get_or, sym, ap, ◌∙◌, subst, arith, Some, All, length-append}
+use Rattle.std.specs.Option.{option_map}
+use Rattle.std.proofs.lemmas.Option.{slice_get-map, slice_get-get_or}
+use Rattle.std.proofs.lemmas.List.{length-map}
+use Rattle.std.proofs.lemmas.List.Elements.{All-get_or}
+use Rattle.std.proofs.Math.ListN.{get_or-map}
+use Rattle.std.proofs.Math.Seq.{drop-append_seam}
+use Rattle.task_ast.specs.Tree.{Block, Task}
+use Rattle.task_ast.specs.View.{block_view, task_of, program_of}
+use Rattle.task_ast.specs.declared.names.VariableName.{VariableName}
+use Rattle.task_ast.specs.declared.names.TaskName.{TaskName}
+use Rattle.task_ast.specs.declared.Stmt.{Stmt}
+use Rattle.task_ast.specs.declared.TaskDeclaration.{TaskDeclaration}
+use Rattle.task_ast.specs.declared.Source.{Source}
+use Rattle.source_values.specs.declared.scratch.Scratch.{Scratch}
+use Rattle.source_values.specs.Statements.{Attempt, to_task, run_block}
+use Rattle.source_values.specs.Runs.{body_of, task_body, fresh_attempt, new_locals, attempt_of, Completion}
+use Rattle.source_values.specs.View.{rows_of, attempt_in}
+use Rattle.source_values.proofs.Uses.{block_uses}
+
+-- what holds of each task holds of the one that the code reached
+pub task_holds : (P : Task VariableName TaskName → Type 0) (tasks : List (TaskDeclaration VariableName TaskName)) (i : ℕ) (t : TaskDeclaration VariableName TaskName)
+    → i < length tasks → t ≡ get_or tasks i t → All P (map task_of tasks) → P (task_of t)
+task_holds P tasks i t h is all =
+    let inside : i < length (map task_of tasks) = omega (arith, length-map tasks task_of) in
+    subst P (get_or-map task_of tasks i t ∙ ap task_of (sym is)) (All-get_or P (map task_of tasks) i (task_of t) inside all)
+
+-- the attempt that the code makes
+pub attempt_is : (source : Source VariableName TaskName) (task i : ℕ) (t : TaskDeclaration VariableName TaskName) (body : List (Stmt VariableName TaskName)) (s : Scratch) (shared : List (List ℕ)) (readings : List ℕ)
+    → i ≡ task → i < length source.tasks.items → t ≡ get_or source.tasks.items i t → body ≡ t.body.items
+    → rows_of s.shared.items ≡ shared → s.locals.items ≡ new_locals → s.emitted.items ≡ []
+    → attempt_of (program_of source) task shared readings ≡ run_block (block_view body) (attempt_in s readings)
+attempt_is source task i t body s shared readings same h is b rows locals emitted =
+    let found : task_body (program_of source) i ≡ block_view body =
+    ap body_of (slice_get-map task_of source.tasks.items i ∙ ap (option_map task_of) (slice_get-get_or source.tasks.items i t h))
+    ∙ ap (λ t. block_view t.body.items) (sym is) ∙ ap block_view (sym b) in
+    let fresh : fresh_attempt shared readings ≡ attempt_in s readings =
+    ap (λ r. fresh_attempt r readings) (sym rows)
+    ∙ ap (λ l. record { variables = record { shared = rows_of s.shared.items; locals = l }; emitted = []; left = readings }) (sym locals)
+    ∙ ap (λ e. record { variables = record { shared = rows_of s.shared.items; locals = s.locals.items }; emitted = e; left = readings }) (sym emitted) in
+    ap (λ j. attempt_of (program_of source) j shared readings) (sym same)
+    ∙ ap (λ b. run_block b (fresh_attempt shared readings)) found ∙ ap (run_block (block_view body)) fresh
+
+-- a task leaves the end of its readings
+pub record Leaves (readings left : List ℕ) : Type 0 where
+  pub fewer : length left ≤ length readings
+  pub rest : drop (length readings - length left) readings ≡ left
+
+leaves_end : (readings used left : List ℕ) → readings ≡ used ++ left → Leaves readings left
+leaves_end readings used left e =
+    let len : length readings ≡ length used + length left = ap length e ∙ length-append used left in
+    let count : length readings - length left ≡ length used = omega (arith, len) in
+    record { fewer = omega (arith, len); rest = ap (λ n. drop n readings) count ∙ ap (drop (length used)) e ∙ drop-append_seam used left }
+
+pub task_leaves : (b : Block VariableName TaskName) (s : Attempt) (t : ℕ) (end : Attempt) → run_block b s ≡ to_task t end → Leaves s.left end.left
+task_leaves b s t end e =
+    let uses = block_uses b s (to_task t end) e tt in
+    leaves_end s.left uses.used end.left uses.front
+
+pub same_completion : (next : ℕ) {rows rows' : List (List ℕ)} {words words' left left' : List ℕ} → rows ≡ rows' → words ≡ words' → left ≡ left'
+    → (let before : Completion = record { next = next; shared = rows; emitted = words; left = left } in Some before) ≡ Some (record { next = next; shared = rows'; emitted = words'; left = left' })
+same_completion next e f h = cc

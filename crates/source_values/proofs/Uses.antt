@@ -1,0 +1,122 @@
+-- What statements do depends on the readings that they take, and on no others.
+use Rattle.std.proofs.Common.{◌≡◌, ℕ, zero, suc, ◌+◌, ◌-◌, List, [], ◌∷◌, ◌++◌, Bool, true, false, refl, ap, sym, ◌∙◌, subst, Option, Some, None, append_assoc, if◌then◌else◌}
+use Rattle.task_ast.specs.Tree.{Expression, Statement, declare, assign, store, choose, loop, emit, transition, Choice, nothing, otherwise, test, Block, end, step}
+use Rattle.task_ast.specs.declared.names.Variable.{Variable}
+use Rattle.task_ast.specs.declared.names.VariableName.{VariableName}
+use Rattle.task_ast.specs.declared.names.TaskName.{TaskName}
+use Rattle.source_values.specs.Values.{value_of, holds}
+use Rattle.source_values.specs.Statements.{Attempt, Outcome, goes_on, to_task, short, and_then, if_value, with_value, assigned, turns, run_statement, run_choice, run_block}
+use Rattle.source_values.proofs.Takes.{value_takes}
+
+abbrev pub IsWhole : Outcome → Type 0
+IsWhole (goes_on s) = Unit {0}
+IsWhole (to_task t s) = Unit {0}
+IsWhole short = ⊥
+
+abbrev pub left_of : Outcome → List ℕ
+left_of (goes_on s) = s.left
+left_of (to_task t s) = s.left
+left_of short = []
+
+-- the same outcome with other readings left
+abbrev pub leaving : Outcome → List ℕ → Outcome
+leaving (goes_on s) more = goes_on (record s { left = more })
+leaving (to_task t s) more = to_task t (record s { left = more })
+leaving short more = short
+
+-- the readings that were taken, and that any others may stand behind them
+pub record Uses (run : Attempt → Outcome) (s : Attempt) (o : Outcome) : Type 0 where
+  pub used : List ℕ
+  pub front : s.left ≡ used ++ left_of o
+  pub same : (more : List ℕ) → run (record s { left = used ++ more }) ≡ leaving o more
+
+abbrev pub UsesItsOwn : (Attempt → Outcome) → Type 0
+UsesItsOwn run = (s : Attempt) (o : Outcome) → run s ≡ o → IsWhole o → Uses run s o
+
+not_short : (o : Outcome) → short ≡ o → IsWhole o → ⊥
+not_short o e w = let P : Outcome → Type 0 = IsWhole in subst P (sym e) w
+
+uses_none : (run : Attempt → Outcome) (s : Attempt) (p : Outcome) → s.left ≡ left_of p → ((more : List ℕ) → run (record s { left = more }) ≡ leaving p more)
+    → (o : Outcome) → p ≡ o → Uses run s o
+uses_none run s p front same o e = let P : Outcome → Type 0 = λ o. Uses run s o in subst P e (record { used = []; front = front; same = same })
+
+uses_on : UsesItsOwn goes_on
+uses_on s o e w = uses_none goes_on s (goes_on s) refl (λ more. refl) o e
+
+uses_assigned : (x : Variable) (i v : ℕ) → UsesItsOwn (λ s. goes_on (assigned s x i v))
+uses_assigned x i v s o e w = uses_none (λ s. goes_on (assigned s x i v)) s (goes_on (assigned s x i v)) refl (λ more. refl) o e
+
+uses_emitted : (v : ℕ) → UsesItsOwn (λ s. goes_on (record s { emitted = s.emitted ++ v ∷ [] }))
+uses_emitted v s o e w = uses_none (λ s. goes_on (record s { emitted = s.emitted ++ v ∷ [] })) s (goes_on (record s { emitted = s.emitted ++ v ∷ [] })) refl (λ more. refl) o e
+
+uses_to_task : (t : ℕ) → UsesItsOwn (to_task t)
+uses_to_task t s o e w = uses_none (to_task t) s (to_task t s) refl (λ more. refl) o e
+
+uses_then : (first second : Attempt → Outcome) → UsesItsOwn first → UsesItsOwn second → UsesItsOwn (λ s. and_then (first s) second)
+uses_then first second p q s o e w = go (first s) refl e
+  where
+    go : (m : Outcome) → first s ≡ m → and_then m second ≡ o → Uses (λ s. and_then (first s) second) s o
+    go (goes_on m) h e =
+        let one = p s (goes_on m) h tt in
+        let two = q m o e w in
+        record {
+          used = one.used ++ two.used;
+          front = one.front ∙ ap (λ t. one.used ++ t) two.front ∙ sym (append_assoc one.used two.used (left_of o));
+          same = λ more. ap (λ t. and_then (first (record s { left = t })) second) (append_assoc one.used two.used more)
+              ∙ ap (λ o. and_then o second) (one.same (two.used ++ more)) ∙ two.same more;
+        }
+    go (to_task t m) h e =
+        let one = p s (to_task t m) h tt in
+        let P : Outcome → Type 0 = λ o. Uses (λ s. and_then (first s) second) s o in
+        subst P e (record { used = one.used; front = one.front; same = λ more. ap (λ o. and_then o second) (one.same more) })
+    go short h e = absurd (not_short o e w)
+
+uses_value : (e : Expression VariableName) (next : ℕ → Attempt → Outcome) → ((v : ℕ) → UsesItsOwn (next v)) → UsesItsOwn (λ s. with_value e s next)
+uses_value e next p s o h w = go (value_of e s.variables s.left) refl h
+  where
+    go : (v : Option (ℕ × List ℕ)) → value_of e s.variables s.left ≡ v → if_value v s next ≡ o → Uses (λ s. with_value e s next) s o
+    go None k h = absurd (not_short o h w)
+    go (Some x) k h =
+        let one = value_takes e s.variables s.left x k in
+        let two = p x.0 (record s { left = x.1 }) o h w in
+        record {
+          used = one.used ++ two.used;
+          front = one.front ∙ ap (λ t. one.used ++ t) two.front ∙ sym (append_assoc one.used two.used (left_of o));
+          same = λ more. ap (λ t. with_value e (record s { left = t }) next) (append_assoc one.used two.used more)
+              ∙ ap (λ v. if_value v (record s { left = one.used ++ (two.used ++ more) }) next) (one.same (two.used ++ more)) ∙ two.same more;
+        }
+
+uses_if : (b : Bool) (first second : Attempt → Outcome) → UsesItsOwn first → UsesItsOwn second → UsesItsOwn (λ s. if b then first s else second s)
+uses_if true first second p q = p
+uses_if false first second p q = q
+
+uses_turns : (n k : ℕ) (x : Variable) (body : Attempt → Outcome) → UsesItsOwn body → UsesItsOwn (turns n k x body)
+uses_turns zero k x body p = uses_assigned x 0 k
+uses_turns (suc n) k x body p = uses_then (λ s. body (assigned s x 0 k)) (turns n (k + 1) x body) first (uses_turns n (k + 1) x body p)
+  where
+    first : UsesItsOwn (λ s. body (assigned s x 0 k))
+    first s o e w =
+        let one = p (assigned s x 0 k) o e w in
+        record { used = one.used; front = one.front; same = one.same }
+
+mutual
+  pub statement_uses : (s : Statement VariableName TaskName) → UsesItsOwn (run_statement s)
+  statement_uses (declare t x None) = uses_on
+  statement_uses (declare t x (Some e)) = uses_value e (λ w s. goes_on (assigned s x.variable 0 w)) (λ w. uses_assigned x.variable 0 w)
+  statement_uses (assign x e) = uses_value e (λ w s. goes_on (assigned s x.variable 0 w)) (λ w. uses_assigned x.variable 0 w)
+  statement_uses (store x index e) = uses_value index (λ i s. with_value e s (λ w s. goes_on (assigned s x.variable i w)))
+      (λ i. uses_value e (λ w s. goes_on (assigned s x.variable i w)) (λ w. uses_assigned x.variable i w))
+  statement_uses (choose choice) = choice_uses choice
+  statement_uses (loop x from tested below stepped body) = uses_turns (below - from) from x.variable (run_block body) (block_uses body)
+  statement_uses (emit e) = uses_value e (λ w s. goes_on (record s { emitted = s.emitted ++ w ∷ [] })) uses_emitted
+  statement_uses (transition t) = uses_to_task t.task
+
+  pub choice_uses : (c : Choice VariableName TaskName) → UsesItsOwn (run_choice c)
+  choice_uses nothing = uses_on
+  choice_uses (otherwise block) = block_uses block
+  choice_uses (test condition block more) = uses_value condition (λ w s. if holds w then run_block block s else run_choice more s)
+      (λ w. uses_if (holds w) (run_block block) (run_choice more) (block_uses block) (choice_uses more))
+
+  pub block_uses : (b : Block VariableName TaskName) → UsesItsOwn (run_block b)
+  block_uses end = uses_on
+  block_uses (step statement more) = uses_then (run_statement statement) (run_block more) (statement_uses statement) (block_uses more)

@@ -1,0 +1,28 @@
+use Rattle.std.proofs.Common.{refl}
+use Rattle.source_values.proofs.laws.worked_rows.Goals as goal
+
+pub returns : goal.returns
+returns c = record {
+  sums_wrap = refl;
+  quotient_by_zero = refl;
+  remainder_by_zero = refl;
+  quotient_is_unsigned = refl;
+  shift_of_int = refl;
+  shift_of_unsigned = refl;
+  less_of_ints = refl;
+  less_of_int_and_unsigned = refl;
+  literals = (refl, refl, refl, refl);
+  index_at_the_length_reads_0 = refl;
+  readings_from_the_left = refl;
+  and_leaves_the_right_side = refl;
+  and_takes_the_right_side = refl;
+  or_leaves_the_right_side = refl;
+  too_few_readings = refl;
+  index_at_the_length_writes_nothing = refl;
+  index_before_value = refl;
+  turns_of_a_loop = refl;
+  no_turns = refl;
+  nothing_behind_a_transition = refl;
+  short_of_a_reading = refl;
+  shared_words_start_at_0 = refl;
+}

@@ -1,0 +1,139 @@
+-- The run of a source: whole tasks, one after another, each on its own list of readings.
+use Rattle.std.specs.Prelude.{◌≡◌, ℕ, ◌<◌, ◌≤◌, List, [], ◌∷◌, ◌++◌, map, length, replicate, All, Option, Some, None, slice_get}
+use Rattle.task_ast.specs.Tree.{Program, Task, Block, end}
+use Rattle.task_ast.specs.declared.Extent.{Extent}
+use Rattle.task_ast.specs.declared.Extent.TheVariants.{Scalar, Array}
+use Rattle.task_ast.specs.declared.names.VariableName.{VariableName}
+use Rattle.task_ast.specs.declared.names.TaskName.{TaskName}
+use Rattle.source_values.specs.Values.{◌>>?◌}
+use Rattle.source_values.specs.Statements.{Attempt, Outcome, goes_on, to_task, short, run_block, block_emits}
+
+-- a source whose names have been looked up
+abbrev pub CheckedProgram : Type 0
+CheckedProgram = Program VariableName TaskName
+
+-- the words that a shared variable starts with
+abbrev pub initial_words : Extent → List ℕ
+initial_words (Scalar w) = w ∷ []
+initial_words (Array n) = replicate n 0
+
+-- of each shared variable the words that it starts with
+abbrev pub initial_rows : CheckedProgram → List (List ℕ)
+initial_rows program = map (λ d. initial_words d.extent) program.shared
+
+-- each shared variable has as many words as it starts with
+abbrev pub IsShaped : CheckedProgram → List (List ℕ) → Type 0
+IsShaped program rows = map (length {A = ℕ}) rows ≡ map (length {A = ℕ}) (initial_rows program)
+
+-- the locals at the start of an attempt. A task has at most 256, and reads none before it has assigned it
+abbrev pub new_locals : List ℕ
+new_locals = replicate 256 0
+
+-- what a task does; nothing where no task has this number
+abbrev pub body_of : Option (Task VariableName TaskName) → Block VariableName TaskName
+body_of None = end
+body_of (Some task) = task.body
+
+abbrev pub task_body : CheckedProgram → ℕ → Block VariableName TaskName
+task_body program task = body_of (slice_get program.tasks task)
+
+-- an attempt at its start: nothing emitted, all readings left
+abbrev pub fresh_attempt : List (List ℕ) → List ℕ → Attempt
+fresh_attempt shared readings = record { variables = record { shared = shared; locals = new_locals }; emitted = []; left = readings }
+
+-- one attempt of a task on these shared words and readings
+abbrev pub attempt_of : CheckedProgram → ℕ → List (List ℕ) → List ℕ → Outcome
+attempt_of program task shared readings = run_block (task_body program task) (fresh_attempt shared readings)
+
+-- what outlives a whole task: the next task, the shared words, the words emitted, the readings left
+pub record Completion : Type 0 where
+  pub next : ℕ
+  pub shared : List (List ℕ)
+  pub emitted : List ℕ
+  pub left : List ℕ
+
+-- what an outcome leaves where it ends at a transition
+abbrev pub completion_of : Outcome → Option Completion
+completion_of (goes_on s) = None
+completion_of (to_task t s) = Some (record { next = t; shared = s.variables.shared; emitted = s.emitted; left = s.left })
+completion_of short = None
+
+-- a state of a source: the shared words, the current task, and the words emitted so far
+pub record State : Type 0 where
+  pub shared : List (List ℕ)
+  pub task : ℕ
+  pub emitted : List ℕ
+
+-- the initial words, the entry task, and no words
+abbrev pub first_state : CheckedProgram → State
+first_state program = record { shared = initial_rows program; task = program.entry.task; emitted = [] }
+
+-- a completed transition: from task to task, the shared words before and after it, and the words that it emitted
+pub record Transition : Type 0 where
+  pub from : ℕ
+  pub next : ℕ
+  pub before : List (List ℕ)
+  pub after : List (List ℕ)
+  pub emitted : List ℕ
+
+-- the state behind a transition
+abbrev pub state_after : State → Transition → State
+state_after s t = record { shared = t.after; task = t.next; emitted = s.emitted ++ t.emitted }
+
+-- the state behind these transitions
+abbrev pub state_behind : State → List Transition → State
+state_behind s [] = s
+state_behind s (t ∷ ts) = state_behind (state_after s t) ts
+
+-- the transition of a completion, if no readings are left over
+abbrev pub exactly : State → Completion → Option Transition
+exactly s c = if_none_left c.left
+  where
+    if_none_left : List ℕ → Option Transition
+    if_none_left [] = Some (record { from = s.task; next = c.next; before = s.shared; after = c.shared; emitted = c.emitted })
+    if_none_left (r ∷ rs) = None
+
+-- a whole task from a state on, which ends at a transition and takes exactly these readings
+abbrev pub transition_of : CheckedProgram → State → List ℕ → Option Transition
+transition_of program s readings = completion_of (attempt_of program s.task s.shared readings) >>? exactly s
+
+-- whole tasks from a state on, each of which takes exactly its own list of readings
+abbrev pub source_run : CheckedProgram → State → List (List ℕ) → Option (List Transition)
+source_run program s [] = Some []
+source_run program s (readings ∷ more) =
+    transition_of program s readings >>? λ t. source_run program (state_after s t) more >>? λ ts. Some (t ∷ ts)
+
+-- an outcome that is no end without a transition, and whose transition goes to a task
+abbrev pub EndsWell : ℕ → Outcome → Type 0
+EndsWell tasks (goes_on s) = ⊥
+EndsWell tasks (to_task t s) = t < tasks
+EndsWell tasks short = Unit {0}
+
+-- each attempt of a task comes to a transition to a task, or is short
+abbrev pub TransitionComes : ℕ → Task VariableName TaskName → Type 0
+TransitionComes tasks task = (s : Attempt) → EndsWell tasks (run_block task.body s)
+
+-- the task emits at most 256 words
+abbrev pub EmitsFit : Task VariableName TaskName → Type 0
+EmitsFit task = block_emits task.body ≤ 256
+
+-- what a run needs of a source: at most 256 shared variables, at most 64 tasks, among them the entry, whose emitted words
+-- have room and whose transitions come. Each accepted source has it
+pub record IsRunnable (program : CheckedProgram) : Type 0 where
+  pub few_shared : length program.shared ≤ 256
+  pub few_tasks : length program.tasks ≤ 64
+  pub entry : program.entry.task < length program.tasks
+  pub emits_fit : All EmitsFit program.tasks
+  pub transition_comes : All (TransitionComes (length program.tasks)) program.tasks
+
+-- what is kept of a run: the shared words at the last transition and at the one before, the words emitted between them, and
+-- the current task
+pub record RunState : Type 0 where
+  pub before : List (List ℕ)
+  pub shared : List (List ℕ)
+  pub emitted : List ℕ
+  pub task : ℕ
+
+-- a run of which no transition was made
+abbrev pub fresh_run : CheckedProgram → RunState
+fresh_run program = record { before = initial_rows program; shared = initial_rows program; emitted = []; task = program.entry.task }

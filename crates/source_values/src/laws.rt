@@ -1,0 +1,14 @@
+//! Laws of the definitions.
+
+ghost use Rattle.source_values.specs.Laws.{ReadingsLeftOver};
+ghost use Rattle.source_values.specs.WorkedRows.{WorkedRows};
+
+/// A whole task depends on the readings that it takes and on no others.
+pub fn readings_left_over()
+    ensures { ReadingsLeftOver }
+{}
+
+/// Examples worked by hand.
+pub fn worked_rows()
+    ensures { WorkedRows }
+{}

@@ -1,0 +1,13 @@
+//! What the tasks of a checked source do: the values of expressions, the effects of statements, and the run of a source as
+//! whole tasks, one after another.
+#![tactic(auto)]
+
+pub mod laws;
+mod operators;
+mod run;
+mod scratch;
+mod statements;
+mod values;
+
+pub use laws::{readings_left_over, worked_rows};
+pub use run::{Done, Short, SourceRun};

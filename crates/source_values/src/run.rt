@@ -1,0 +1,210 @@
+//! The run of a source: whole tasks, one after another.
+
+ghost use Rattle.std.specs.Prelude.{◌≡◌, ◌+◌, ◌≤◌, ◌<◌, ◌^◌, ℕ, [], map, length, drop, All, IfOk, OnOk, OnErr, IfSome, IfNone, OnSome, IsSome, None, Some, slice_index, slice_index_or, replicate, vec_len};
+ghost use Rattle.task_ast.specs.View.{block_view, program_of};
+ghost use Rattle.source_values.specs.Statements.{Attempt, run_block, block_emits, short, to_task};
+ghost use Rattle.source_values.specs.Runs.{initial_words, initial_rows, new_locals, fresh_attempt, attempt_of, completion_of, EndsWell, IsRunnable, fresh_run};
+ghost use Rattle.source_values.specs.View.{rows_of, attempt_in, outcome_of};
+
+use crate::scratch::{Scratch, row_word};
+use crate::statements::run_block;
+use arrayvec::ArrayVec;
+use std::alloc::{AllocError, Global};
+use std::marker::Model;
+use std::mem;
+use task_ast::{CheckedSource, Extent, SharedDeclaration, Stmt, TaskName, VariableName};
+use thiserror::Error;
+
+/// The readings ran out before the task's transition.
+#[derive(Clone, Copy, Debug, PartialEq, Eq, Error)]
+#[error("the readings ran out before the transition")]
+pub struct Short;
+
+/// A completed transition: the number of the task that ran, that of the next one, and how many readings it took.
+#[derive(Clone, Copy, Debug, PartialEq, Eq)]
+pub struct Done {
+    pub from: u16,
+    pub next: u16,
+    pub used: u32,
+}
+
+/// A source run at its last completed transition: the shared words now and at the transition before, the current task, and
+/// the words that the last transition emitted. `new` takes all memory that the run needs.
+#[derive(Drop)]
+pub struct SourceRun {
+    before: Vec<Vec<u16>>,
+    shared: Vec<Vec<u16>>,
+    emitted: ArrayVec<u16, 256>,
+    task: u16,
+    scratch: Scratch,
+}
+
+impl Model for SourceRun {
+    ghost use Rattle.std.specs.Prelude.{◌≡◌, map, length};
+    ghost use Rattle.source_values.specs.Runs.{RunState};
+    ghost use Rattle.source_values.specs.View.{rows_of};
+
+    ghost Value = { RunState };
+
+    ghost view = { λ r. record { before = rows_of r.before.items; shared = rows_of r.shared.items; emitted = r.emitted.items; task = r.task } };
+
+    ghost invariant = { λ r. (map length (rows_of r.before.items) ≡ map length (rows_of r.shared.items))
+        × (map length (rows_of r.scratch.shared.items) ≡ map length (rows_of r.shared.items))
+        × (length r.scratch.locals.items ≡ 256) };
+}
+
+fn initial_words(alloc: Global, extent: Extent) -> Result<Vec<u16>, AllocError>
+    ensures { IfOk result (λ row. row.items ≡ initial_words extent) }
+{
+    match extent {
+        Extent::Scalar(word) => vec![in alloc; word; 1],
+        Extent::Array(n) => vec![in alloc; 0; n as usize],
+    }
+}
+
+// The words that each shared variable starts with.
+fn initial_rows(alloc: Global, shared: &[SharedDeclaration]) -> Result<Vec<Vec<u16>>, AllocError>
+    ensures { IfOk result (λ rows. rows_of rows.items ≡ map (λ d. initial_words d.extent) shared.now) }
+{
+    let mut rows = Vec::with_capacity(alloc, shared.len())?;
+    for d in shared {
+        rows.push(initial_words(alloc, d.extent)?)?;
+    }
+    Ok(rows)
+}
+
+fn copy_row(to: &mut [u16], from: &[u16])
+    requires { length to.old ≡ length from.now }
+    ensures { to.new ≡ from.now }
+{
+    to.copy_from_slice(from);
+}
+
+// Copies rows onto rows of the same lengths.
+fn copy_rows(to: &mut [Vec<u16>], from: &[Vec<u16>])
+    requires { map length (rows_of to.old) ≡ map length (rows_of from.now) }
+    ensures { rows_of to.new ≡ rows_of from.now }
+{
+    for (i, row) in from.iter().enumerate() {
+        copy_row(&mut to[i], row);
+    }
+}
+
+// Makes ready for an attempt on these shared words.
+fn restart(scratch: &mut Scratch, shared: &[Vec<u16>])
+    requires same_lengths { map length (rows_of scratch.old.shared.items) ≡ map length (rows_of shared.now) }
+    requires locals { length scratch.old.locals.items ≡ 256 }
+    ensures shared { rows_of scratch.new.shared.items ≡ rows_of shared.now }
+    ensures locals { scratch.new.locals.items ≡ new_locals }
+    ensures emitted { scratch.new.emitted.items ≡ [] }
+{
+    copy_rows(&mut scratch.shared, shared);
+    scratch.locals.fill(0);
+    scratch.emitted.clear();
+}
+
+// Runs a task from its start. None where the readings run out before its transition.
+fn run_task<'r>(
+    body: &[Stmt<VariableName, TaskName>],
+    scratch: &mut Scratch,
+    readings: &'r [u16],
+    tasks: usize,
+) -> Option<(u16, &'r [u16])>
+    requires emits { block_emits (block_view body.now) ≤ 256 }
+    requires fresh { scratch.old.emitted.items ≡ [] }
+    requires transition_comes { (s : Attempt) → EndsWell tasks (run_block (block_view body.now) s) }
+    requires few_tasks { tasks ≤ 64 }
+    ensures done { IfSome result (λ x. run_block (block_view body.now) (attempt_in scratch.old readings.now) ≡ to_task x.0 (attempt_in scratch.new x.1.now)) }
+    ensures next { IfSome result (λ x. x.0 < tasks) }
+    ensures left { IfSome result (λ x. length x.1.now ≤ length readings.now) }
+    ensures few_emitted { OnSome result (length scratch.new.emitted.items ≤ 256) }
+    ensures short { IfNone result (run_block (block_view body.now) (attempt_in scratch.old readings.now) ≡ short) }
+    ensures same_lengths { map length (rows_of scratch.new.shared.items) ≡ map length (rows_of scratch.old.shared.items) }
+    ensures same_locals { length scratch.new.locals.items ≡ length scratch.old.locals.items }
+{
+    let ran = run_block(body, scratch, readings)?;
+    let next = ran.next?;
+    Some((next as u16, ran.left))
+}
+
+impl SourceRun {
+    /// A run at the first state of a source: the initial words, the entry task, nothing emitted.
+    pub fn new(alloc: Global, source: &CheckedSource) -> Result<SourceRun, AllocError>
+        requires { IsRunnable (program_of source.now) }
+        ensures { IfOk result (λ r. r ≡ fresh_run (program_of source.now)) }
+    {
+        Ok(SourceRun {
+            before: initial_rows(alloc, &source.shared)?,
+            shared: initial_rows(alloc, &source.shared)?,
+            emitted: ArrayVec::new(),
+            task: source.entry.task as u16,
+            scratch: Scratch {
+                shared: initial_rows(alloc, &source.shared)?,
+                locals: vec![in alloc; 0; 256]?,
+                emitted: ArrayVec::new(),
+            },
+        })
+    }
+
+    /// Runs the current task once, from the shared words as they are, on the front of the readings. Takes no memory.
+    /// `Short` where the readings run out before its transition; the run is then as before.
+    pub fn task_step(&mut self, source: &CheckedSource, readings: &[u16]) -> Result<Done, Short>
+        requires runnable { IsRunnable (program_of source.now) }
+        requires task { self.old.task < length (program_of source.now).tasks }
+        requires few_readings { length readings.now < 2 ^ 32 }
+        ensures done { IfOk result (λ d. completion_of (attempt_of (program_of source.now) self.old.task self.old.shared readings.now)
+            ≡ Some (record { next = d.next; shared = self.new.shared; emitted = self.new.emitted; left = drop d.used readings.now })) }
+        ensures from { IfOk result (λ d. d.from ≡ self.old.task) }
+        ensures next { IfOk result (λ d. (d.next ≡ self.new.task) × (d.next < length (program_of source.now).tasks)) }
+        ensures used { IfOk result (λ d. d.used ≤ length readings.now) }
+        ensures before { OnOk result (self.new.before ≡ self.old.shared) }
+        ensures same_lengths { map length self.new.shared ≡ map length self.old.shared }
+        ensures few_emitted { OnOk result (length self.new.emitted ≤ 256) }
+        ensures short { OnErr result (attempt_of (program_of source.now) self.old.task self.old.shared readings.now ≡ short) }
+        ensures as_before { OnErr result (self.new ≡ self.old) }
+    {
+        restart(&mut self.scratch, &self.shared);
+        let from = self.task;
+        let body = &source.tasks[from as usize].body;
+        match run_task(body, &mut self.scratch, readings, source.tasks.len()) {
+            None => Err(Short),
+            Some((next, left)) => {
+                mem::swap(&mut self.before, &mut self.shared);
+                mem::swap(&mut self.shared, &mut self.scratch.shared);
+                mem::swap(&mut self.emitted, &mut self.scratch.emitted);
+                self.task = next;
+                let used = (readings.len() - left.len()) as u32;
+                Ok(Done { from, next, used })
+            }
+        }
+    }
+
+    /// Word `i` of shared variable `v`, both counted from 0, at the last completed transition, at first the initial one; 0
+    /// where the variable has no such word.
+    pub fn word(&self, v: u16, i: u16) -> u16
+        ensures { result ≡ slice_index (slice_index_or self.now.shared v []) i }
+    {
+        row_word(&self.shared, v as usize, i as usize)
+    }
+
+    /// The same at the transition before the last, at first the initial word.
+    pub fn before(&self, v: u16, i: u16) -> u16
+        ensures { result ≡ slice_index (slice_index_or self.now.before v []) i }
+    {
+        row_word(&self.before, v as usize, i as usize)
+    }
+
+    /// The words that the last transition emitted, at first none.
+    pub fn emitted(&self) -> &[u16]
+        ensures { result.now ≡ self.now.emitted }
+    {
+        self.emitted.as_slice()
+    }
+
+    /// The number of the current task.
+    pub fn task(&self) -> u16
+        ensures { result ≡ self.now.task }
+    {
+        self.task
+    }
+}
