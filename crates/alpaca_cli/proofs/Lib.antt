@@ -1,19 +1,7 @@
-pub mod TraceLines
-pub mod Words
-pub mod Places
-pub mod Counts
-pub mod Checks
-pub mod Repeats
-pub mod Turns
-pub mod Sound
-pub mod Complete
-pub mod Narrow
-pub mod Whole
-pub mod Numbers
-pub mod Answer
-pub mod Initial
-pub mod Readings
-pub mod ReportLines
-pub mod ReportSteps
-pub mod Spans
-pub mod Outputs
+mod Answered
+mod FailureLaws
+mod OneOutput
+mod Refused
+mod RunLaws
+mod SourceLaws
+mod UnreadFiles

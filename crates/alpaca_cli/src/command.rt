@@ -1,75 +1,210 @@
 //! The commands of the program.
-ghost use Rattle.std.specs.Prelude.{◌≡◌, ℕ, List, ◌≤◌, ◌↔◌, ◌⊎◌, not, map, string_bytes, IfErr, IfSome, IsSomeAnd, OnOk, Some, None};
-ghost use Rattle.std.specs.Option.{option_map};
-ghost use Rattle.std.specs.Io.KnownBytes.{Appends};
+ghost use Rattle.std.specs.Prelude.{◌≡◌, ℕ, List, [], ◌∷◌, ◌≤◌, ◌⊎◌, map, string_bytes, IfSome, length, Some};
 ghost use Rattle.alp_io.specs.Count.{Rose};
 ghost use Rattle.alp_io.specs.Shelf.{NeverFall};
-ghost use Rattle.alp_io.specs.Sink.{AppendsProperPrefix};
-ghost use Rattle.alpaca_cli.specs.Source.{Source};
-ghost use Rattle.alpaca_cli.specs.CommandLine.{FileNames, begins_with_dash, mean_files};
-ghost use Rattle.alpaca_cli.specs.Command.{Says, IsRefused, IsUnreadable, OfReport, Tells, refused_line, unreadable_line, unwritable_line, memory_line, usage_line};
-ghost use Rattle.alpaca_cli.specs.Failures.{FailsBy, name_of};
+ghost use Rattle.command_line.specs.CommandLine.{line_of};
+ghost use Rattle.alpaca_cli.specs.InputFiles.{AreHeld, IsUnread};
+ghost use Rattle.alpaca_cli.specs.Commands.{Verb, OnLine, verb_text};
+ghost use Rattle.alpaca_cli.specs.Commands as verb;
+ghost use Rattle.alpaca_cli.specs.Ending.{Ending};
+ghost use Rattle.alpaca_cli.specs.Outputs.{IsOutput};
+ghost use Rattle.alpaca_cli.specs.Outcomes.{FailsBy};
+ghost use Rattle.alpaca_cli.specs.Told.{TellsUnread, TellsFailure};
+ghost use Rattle.alpaca_cli.specs.Answers.{Answers, CommandAnswers, TextAnswers, status_of};
 
-use crate::inputs::{Failure, InputFile, inputs_of, read_texts};
+use crate::failure::Failure;
+use crate::inputs::{Unread, read_texts};
+use crate::mean::mean_texts;
 use crate::messages;
-use crate::output::write_output;
+use crate::run::{RunEnding, run_texts};
 use crate::status::Status;
-use alp_io::{Shelf, Sink, write_pieces};
+use alp_io::{Shelf, Sink};
+use command_line::{Command, WordsFault, command_of};
+use fram_board::board_has_one_run;
+use source_meaning::one_answer;
 use std::alloc::Global;
 
-fn begins_with_dash(word: &str) -> bool
-    ensures { result ≡ begins_with_dash word.now }
+// Tells why the files weren't read.
+fn answer_unread<E: Sink>(err: &mut E, unread: Unread<'_>) -> Status
+    ensures faults { E.faults err.old ≤ E.faults err.new }
+    ensures told { TellsUnread unread.entry result (record { old = E.contents err.old; new = E.contents err.new; faults_old = E.faults err.old; faults_new = E.faults err.new }) }
 {
-    word.as_bytes().first().copied() == Some(b'-')
-}
-
-// The two files, where the words are a line of `mean`.
-fn mean_files(words: &[String]) -> Option<(&str, &str)>
-    ensures { option_map (λ p. record { source = p.0.now; trace = p.1.now }) result ≡ mean_files (map string_bytes words.now) }
-{
-    let [command, source, trace] = words else {
-        return None;
-    };
-    let (source, trace) = (source.as_str(), trace.as_str());
-    if command.as_str() == "mean" && !begins_with_dash(source) && !begins_with_dash(trace) {
-        Some((source, trace))
-    } else {
-        None
+    match unread {
+        Unread::Unreadable(name) => {
+            messages::tell_unreadable(err, name);
+            Status::Unreadable
+        }
+        Unread::TooLong(name) => {
+            messages::tell_too_long(err, name);
+            Status::TooLong
+        }
+        Unread::Memory => {
+            messages::tell_out_of_memory(err);
+            Status::OutOfMemory
+        }
     }
 }
 
-fn mean<H: Shelf, O: Sink>(
+// Tells why the output isn't whole.
+fn answer_failure<E: Sink>(err: &mut E, first: &str, second: &str, failure: Failure<'_>) -> Status
+    ensures faults { E.faults err.old ≤ E.faults err.new }
+    ensures told { TellsFailure failure.entry first.now second.now result (record { old = E.contents err.old; new = E.contents err.new; faults_old = E.faults err.old; faults_new = E.faults err.new }) }
+{
+    match failure {
+        Failure::FirstRefused(refusal) => {
+            messages::tell_refused(err, first, &refusal);
+            Status::Refused
+        }
+        Failure::SecondRefused(refusal) => {
+            messages::tell_refused(err, second, &refusal);
+            Status::Refused
+        }
+        Failure::Write => {
+            messages::tell_unwritable(err);
+            Status::Unwritable
+        }
+        Failure::Memory => {
+            messages::tell_out_of_memory(err);
+            Status::OutOfMemory
+        }
+    }
+}
+
+fn mean_of<O: Sink, E: Sink>(
+    alloc: Global,
+    names: (&str, &str),
+    source: &[u8],
+    trace: &[u8],
+    out: &mut O,
+    err: &mut E,
+) -> Status
+    requires source { length source.now ≤ 1048576 }
+    requires trace { length trace.now ≤ 1048576 }
+    ensures out_faults { O.faults out.old ≤ O.faults out.new }
+    ensures err_faults { E.faults err.old ≤ E.faults err.new }
+    ensures answers { TextAnswers result verb.mean (names.entry.0.now ∷ names.entry.1.now ∷ []) (source.now ∷ trace.now ∷ [])
+        (record { old = O.contents out.old; new = O.contents out.new; faults_old = O.faults out.old; faults_new = O.faults out.new })
+        (record { old = E.contents err.old; new = E.contents err.new; faults_old = E.faults err.old; faults_new = E.faults err.new }) }
+{
+    match mean_texts(alloc, source, trace, out) {
+        Ok(()) => Status::Done,
+        Err(failure) => answer_failure(err, names.0, names.1, failure),
+    }
+}
+
+fn mean<H: Shelf, O: Sink, E: Sink>(
     alloc: Global,
     source: &str,
     trace: &str,
     shelf: &mut H,
     out: &mut O,
-) -> Result<(), Failure>
-    ensures same { H.files shelf.new ≡ H.files shelf.old }
+    err: &mut E,
+) -> Status
+    ensures files { H.files shelf.new ≡ H.files shelf.old }
     ensures counts { NeverFall (H.counts shelf.old) (H.counts shelf.new) }
-    ensures faults { O.faults out.old ≤ O.faults out.new }
-    ensures whole { OnOk result (OfReport (H.files shelf.old) (record { source = source.now; trace = trace.now })
-        (Appends (O.contents out.old) (O.contents out.new))) }
-    ensures failure { IfErr result (λ e. FailsBy e (record { source = source.now; trace = trace.now }) (H.files shelf.old)
-        (H.counts shelf.old) (H.counts shelf.new) (O.contents out.old) (O.contents out.new) (O.faults out.old) (O.faults out.new)) }
+    ensures out_faults { O.faults out.old ≤ O.faults out.new }
+    ensures err_faults { E.faults err.old ≤ E.faults err.new }
+    ensures answers { CommandAnswers result verb.mean (source.now ∷ trace.now ∷ [])
+        (H.files shelf.old) (H.counts shelf.old) (H.counts shelf.new)
+        (record { old = O.contents out.old; new = O.contents out.new; faults_old = O.faults out.old; faults_new = O.faults out.new })
+        (record { old = E.contents err.old; new = E.contents err.new; faults_old = E.faults err.old; faults_new = E.faults err.new }) }
 {
-    let texts = read_texts(alloc, shelf, source, trace)?;
-    let inputs = inputs_of(alloc, &texts)?;
-    write_output(alloc, out, &inputs)
-}
-
-fn name_of<'n>(file: InputFile, source: &'n str, trace: &'n str) -> &'n str
-    ensures { result.now ≡ name_of file (record { source = source.entry.now; trace = trace.entry.now }) }
-{
-    match file {
-        InputFile::Source => source,
-        InputFile::Trace => trace,
+    match read_texts(alloc, shelf, source, trace) {
+        Ok(texts) => mean_of(
+            alloc,
+            (source, trace),
+            &texts.first,
+            &texts.second,
+            out,
+            err,
+        ),
+        Err(unread) => answer_unread(err, unread),
     }
 }
 
-/// Runs the program on its words, without its own name: `mean SRC TRACE` writes to `out` the report of the source's
-/// meaning on the trace's readings. Every other answer than `Done` writes its one line to `err`.
-#[tactic(auto, using(crate::proofs::Outputs::not_both))]
+fn run_of<O: Sink, E: Sink>(
+    alloc: Global,
+    names: (&str, &str),
+    image: &[u8],
+    trace: &[u8],
+    out: &mut O,
+    err: &mut E,
+) -> Status
+    requires image { length image.now ≤ 1048576 }
+    requires trace { length trace.now ≤ 1048576 }
+    ensures out_faults { O.faults out.old ≤ O.faults out.new }
+    ensures err_faults { E.faults err.old ≤ E.faults err.new }
+    ensures answers { TextAnswers result verb.run (names.entry.0.now ∷ names.entry.1.now ∷ []) (image.now ∷ trace.now ∷ [])
+        (record { old = O.contents out.old; new = O.contents out.new; faults_old = O.faults out.old; faults_new = O.faults out.new })
+        (record { old = E.contents err.old; new = E.contents err.new; faults_old = E.faults err.old; faults_new = E.faults err.new }) }
+{
+    match run_texts(alloc, image, trace, out) {
+        Ok(RunEnding::Well) => Status::Done,
+        Ok(RunEnding::AtFault) => {
+            messages::tell_machine_fault(err);
+            Status::MachineFault
+        }
+        Err(failure) => answer_failure(err, names.0, names.1, failure),
+    }
+}
+
+fn run<H: Shelf, O: Sink, E: Sink>(
+    alloc: Global,
+    image: &str,
+    trace: &str,
+    shelf: &mut H,
+    out: &mut O,
+    err: &mut E,
+) -> Status
+    ensures files { H.files shelf.new ≡ H.files shelf.old }
+    ensures counts { NeverFall (H.counts shelf.old) (H.counts shelf.new) }
+    ensures out_faults { O.faults out.old ≤ O.faults out.new }
+    ensures err_faults { E.faults err.old ≤ E.faults err.new }
+    ensures answers { CommandAnswers result verb.run (image.now ∷ trace.now ∷ [])
+        (H.files shelf.old) (H.counts shelf.old) (H.counts shelf.new)
+        (record { old = O.contents out.old; new = O.contents out.new; faults_old = O.faults out.old; faults_new = O.faults out.new })
+        (record { old = E.contents err.old; new = E.contents err.new; faults_old = E.faults err.old; faults_new = E.faults err.new }) }
+{
+    match read_texts(alloc, shelf, image, trace) {
+        Ok(texts) => run_of(alloc, (image, trace), &texts.first, &texts.second, out, err),
+        Err(unread) => answer_unread(err, unread),
+    }
+}
+
+// The answer to the words.
+fn answer<H: Shelf, O: Sink, E: Sink>(
+    alloc: Global,
+    words: &[String],
+    shelf: &mut H,
+    out: &mut O,
+    err: &mut E,
+) -> Status
+    ensures files { H.files shelf.new ≡ H.files shelf.old }
+    ensures counts { NeverFall (H.counts shelf.old) (H.counts shelf.new) }
+    ensures out_faults { O.faults out.old ≤ O.faults out.new }
+    ensures err_faults { E.faults err.old ≤ E.faults err.new }
+    ensures answers { Answers result (map string_bytes words.entry.now) (H.files shelf.old) (H.counts shelf.old) (H.counts shelf.new)
+        (record { old = O.contents out.old; new = O.contents out.new; faults_old = O.faults out.old; faults_new = O.faults out.new })
+        (record { old = E.contents err.old; new = E.contents err.new; faults_old = E.faults err.old; faults_new = E.faults err.new }) }
+{
+    match command_of(alloc, words) {
+        Ok(Command::Mean { source, trace }) => mean(alloc, source, trace, shelf, out, err),
+        Ok(Command::Run { image, trace }) => run(alloc, image, trace, shelf, out, err),
+        Err(WordsFault::Usage) => {
+            messages::tell_usage(err);
+            Status::Usage
+        }
+        Err(WordsFault::Memory) => {
+            messages::tell_out_of_memory(err);
+            Status::OutOfMemory
+        }
+    }
+}
+
+/// Runs the program on its words, without its own name.
+///
+/// `mean SRC TRACE` writes to `out` the report of the source's meaning on the trace's readings, `run IMAGE TRACE` that of the
+/// image's run on the board under the trace's charges. Every other answer than `Done` writes its one line to `err`.
 pub fn alpaca<H: Shelf, O: Sink, E: Sink>(
     alloc: Global,
     words: &[String],
@@ -83,65 +218,23 @@ pub fn alpaca<H: Shelf, O: Sink, E: Sink>(
     ensures out_faults { O.faults out.old ≤ O.faults out.new }
     ensures err_faults { E.faults err.old ≤ E.faults err.new }
 
-    // Done: the output grew by the whole report, and nothing was said to `err`.
-    ensures done { result ≡ Status.Done → IsSomeAnd (mean_files (map string_bytes words.now)) (λ names.
-        OfReport (H.files shelf.old) names (Appends (O.contents out.old) (O.contents out.new))
-        × (E.contents err.new ≡ E.contents err.old)) }
+    // What each status says.
+    ensures answers { Answers result (map string_bytes words.entry.now) (H.files shelf.old) (H.counts shelf.old) (H.counts shelf.new)
+        (record { old = O.contents out.old; new = O.contents out.new; faults_old = O.faults out.old; faults_new = O.faults out.new })
+        (record { old = E.contents err.old; new = E.contents err.new; faults_old = E.faults err.old; faults_new = E.faults err.new }) }
 
-    // Refused: the named text is the first that isn't of its form.
-    ensures refused { result ≡ Status.Refused → IsSomeAnd (mean_files (map string_bytes words.now)) (λ names. (name : List ℕ)
-        × IsRefused (H.files shelf.old) names name
-        × (O.contents out.new ≡ O.contents out.old)
-        × Tells (E.contents err.old) (E.contents err.new) (E.faults err.old) (E.faults err.new) (refused_line name)) }
+    // Words that are no line are answered by the usage, or memory ran out.
+    ensures no_line { (OnLine (map string_bytes words.entry.now) (λ verb files. Unit {0}) → ⊥) → (result ≡ Status.Usage) ⊎ (result ≡ Status.OutOfMemory) }
 
-    // Usage: exactly where the words are no line.
-    ensures usage { (result ≡ Status.Usage) ↔ (mean_files (map string_bytes words.now) ≡ None) }
-    ensures usage_told { result ≡ Status.Usage → (O.contents out.new ≡ O.contents out.old)
-        × Tells (E.contents err.old) (E.contents err.new) (E.faults err.old) (E.faults err.new) usage_line }
-
-    // Unreadable: the named file is the first that could not be read.
-    ensures unreadable { result ≡ Status.Unreadable → IsSomeAnd (mean_files (map string_bytes words.now)) (λ names. (name : List ℕ)
-        × IsUnreadable (H.files shelf.old) names name (H.counts shelf.old) (H.counts shelf.new)
-        × (O.contents out.new ≡ O.contents out.old)
-        × Tells (E.contents err.old) (E.contents err.new) (E.faults err.old) (E.faults err.new) (unreadable_line name)) }
-
-    // Unwritable: a write failed, and the output grew by a proper prefix of the report.
-    ensures unwritable { result ≡ Status.Unwritable → IsSomeAnd (mean_files (map string_bytes words.now)) (λ names.
-        Rose (O.faults out.old) (O.faults out.new)
-        × OfReport (H.files shelf.old) names (AppendsProperPrefix (O.contents out.old) (O.contents out.new))
-        × Tells (E.contents err.old) (E.contents err.new) (E.faults err.old) (E.faults err.new) unwritable_line) }
-
-    // Out of memory: nothing was written.
-    ensures out_of_memory { result ≡ Status.OutOfMemory → (O.contents out.new ≡ O.contents out.old)
-        × Tells (E.contents err.old) (E.contents err.new) (E.faults err.old) (E.faults err.new) memory_line }
-
-    // Where the files are told, fit and say a source and readings, and nothing fails, the report is whole or memory ran out.
-    ensures complete { IfSome (H.files shelf.old) (λ f. (names : FileNames) (source : Source) (readings : List ℕ)
-        → mean_files (map string_bytes words.now) ≡ Some names → Says f names source readings
+    // Where the words are a line, the files are told and fit, their texts are accepted, and no read and no write fails, the
+    // output is whole, or memory ran out.
+    ensures complete { IfSome (H.files shelf.old) (λ f. (verb : Verb) (first second : List ℕ) (texts : List (List ℕ)) (ending : Ending) (output : List ℕ)
+        → line_of (map string_bytes words.entry.now) ≡ Some (verb_text verb ∷ first ∷ second ∷ [])
+        → AreHeld f (first ∷ second ∷ []) texts → IsOutput verb texts ending output
         → ¬ Rose (H.counts shelf.old).failed_reads (H.counts shelf.new).failed_reads → ¬ Rose (O.faults out.old) (O.faults out.new)
-        → (result ≡ Status.Done) ⊎ (result ≡ Status.OutOfMemory)) }
+        → (result ≡ status_of ending) ⊎ (result ≡ Status.OutOfMemory)) }
 {
-    let Some((source, trace)) = mean_files(words) else {
-        messages::tell_usage(err);
-        return Status::Usage;
-    };
-    match mean(alloc, source, trace, shelf, out) {
-        Ok(()) => Status::Done,
-        Err(Failure::Refused(file)) => {
-            messages::tell_refused(err, name_of(file, source, trace));
-            Status::Refused
-        }
-        Err(Failure::Unreadable(file)) => {
-            messages::tell_unreadable(err, name_of(file, source, trace));
-            Status::Unreadable
-        }
-        Err(Failure::Write) => {
-            messages::tell_unwritable(err);
-            Status::Unwritable
-        }
-        Err(Failure::Memory) => {
-            messages::tell_out_of_memory(err);
-            Status::OutOfMemory
-        }
-    }
+    board_has_one_run();
+    one_answer();
+    answer(alloc, words, shelf, out, err)
 }

@@ -1,8 +1,13 @@
 //! The one line to standard error that goes with a status. A write that fails leaves the status as it is.
-ghost use Rattle.std.specs.Prelude.{◌≤◌, flat_map};
-ghost use Rattle.alpaca_cli.specs.Command.{Tells, refused_line, unreadable_line, unwritable_line, memory_line, usage_line};
+ghost use Rattle.std.specs.Prelude.{◌≤◌, flat_map, ◌∷◌, [], codes};
+ghost use Rattle.alp_io.specs.Report.{texts};
+ghost use Rattle.alpaca_cli.specs.Messages.{Tells, unreadable_line, too_long_line, unwritable_line, memory_line, machine_fault_line, usage_line};
+ghost use Rattle.alpaca_cli.specs.Refusals.{detail_text, refused_line};
+ghost use Rattle.alpaca_cli.specs.Views.{detail_of, refusal_of};
 
+use crate::refusal::{Detail, Refusal};
 use alp_io::{Sink, write_pieces};
+use alp_text::print_u64;
 
 fn tell<E: Sink>(err: &mut E, pieces: &[&[u8]])
     ensures line { Tells (E.contents err.old) (E.contents err.new) (E.faults err.old) (E.faults err.new)
@@ -12,15 +17,55 @@ fn tell<E: Sink>(err: &mut E, pieces: &[&[u8]])
     let _ = write_pieces(err, pieces);
 }
 
-#[tactic(auto, unfolding(crate::specs::Command::refused_line))]
-pub fn tell_refused<E: Sink>(err: &mut E, name: &str)
-    ensures line { Tells (E.contents err.old) (E.contents err.new) (E.faults err.old) (E.faults err.new) (refused_line name.now) }
+// The line of a refusal, from its parts.
+fn tell_parts<'a, E: Sink>(
+    err: &mut E,
+    name: &'a [u8],
+    line: &'a [u8],
+    kind: &'a [u8],
+    space: &'a [u8],
+    detail: &'a [u8],
+)
+    ensures line { Tells (E.contents err.old) (E.contents err.new) (E.faults err.old) (E.faults err.new)
+        (texts (codes "refused " ∷ name.now ∷ codes " " ∷ line.now ∷ codes " " ∷ kind.now ∷ space.now ∷ detail.now ∷ codes "\n" ∷ [])) }
     ensures faults { E.faults err.old ≤ E.faults err.new }
 {
-    tell(err, &[b"refused ", name.as_bytes(), b" 0 NotYet\n"]);
+    tell(
+        err,
+        &[
+            b"refused ",
+            name,
+            b" ",
+            line,
+            b" ",
+            kind,
+            space,
+            detail,
+            b"\n",
+        ],
+    );
 }
 
-#[tactic(auto, unfolding(crate::specs::Command::unreadable_line))]
+/// The line of a refused text.
+#[tactic(auto, unfolding(crate::specs::Refusals::refused_line))]
+pub fn tell_refused<E: Sink>(err: &mut E, name: &str, refusal: &Refusal<'_>)
+    ensures line { Tells (E.contents err.old) (E.contents err.new) (E.faults err.old) (E.faults err.new) (refused_line name.now (refusal_of refusal.now)) }
+    ensures faults { E.faults err.old ≤ E.faults err.new }
+{
+    let line = print_u64(refusal.line as u64);
+    let name = name.as_bytes();
+    let kind = refusal.kind.as_bytes();
+    match refusal.detail {
+        Detail::Nothing => tell_parts(err, name, line.as_bytes(), kind, b"", b""),
+        Detail::Name(bytes) => tell_parts(err, name, line.as_bytes(), kind, b" ", bytes),
+        Detail::Number(n) => {
+            let digits = print_u64(n);
+            tell_parts(err, name, line.as_bytes(), kind, b" ", digits.as_bytes())
+        }
+    }
+}
+
+#[tactic(auto, unfolding(crate::specs::Messages::unreadable_line))]
 pub fn tell_unreadable<E: Sink>(err: &mut E, name: &str)
     ensures line { Tells (E.contents err.old) (E.contents err.new) (E.faults err.old) (E.faults err.new) (unreadable_line name.now) }
     ensures faults { E.faults err.old ≤ E.faults err.new }
@@ -28,7 +73,15 @@ pub fn tell_unreadable<E: Sink>(err: &mut E, name: &str)
     tell(err, &[b"cannot read ", name.as_bytes(), b"\n"]);
 }
 
-#[tactic(auto, unfolding(crate::specs::Command::unwritable_line))]
+#[tactic(auto, unfolding(crate::specs::Messages::too_long_line))]
+pub fn tell_too_long<E: Sink>(err: &mut E, name: &str)
+    ensures line { Tells (E.contents err.old) (E.contents err.new) (E.faults err.old) (E.faults err.new) (too_long_line name.now) }
+    ensures faults { E.faults err.old ≤ E.faults err.new }
+{
+    tell(err, &[b"too long ", name.as_bytes(), b"\n"]);
+}
+
+#[tactic(auto, unfolding(crate::specs::Messages::unwritable_line))]
 pub fn tell_unwritable<E: Sink>(err: &mut E)
     ensures line { Tells (E.contents err.old) (E.contents err.new) (E.faults err.old) (E.faults err.new) unwritable_line }
     ensures faults { E.faults err.old ≤ E.faults err.new }
@@ -37,7 +90,7 @@ pub fn tell_unwritable<E: Sink>(err: &mut E)
 }
 
 /// The line for refused memory, which takes none.
-#[tactic(auto, unfolding(crate::specs::Command::memory_line))]
+#[tactic(auto, unfolding(crate::specs::Messages::memory_line))]
 pub fn tell_out_of_memory<E: Sink>(err: &mut E)
     ensures line { Tells (E.contents err.old) (E.contents err.new) (E.faults err.old) (E.faults err.new) memory_line }
     ensures faults { E.faults err.old ≤ E.faults err.new }
@@ -45,8 +98,16 @@ pub fn tell_out_of_memory<E: Sink>(err: &mut E)
     tell(err, &[b"out of memory\n"]);
 }
 
+#[tactic(auto, unfolding(crate::specs::Messages::machine_fault_line))]
+pub fn tell_machine_fault<E: Sink>(err: &mut E)
+    ensures line { Tells (E.contents err.old) (E.contents err.new) (E.faults err.old) (E.faults err.new) machine_fault_line }
+    ensures faults { E.faults err.old ≤ E.faults err.new }
+{
+    tell(err, &[b"machine fault\n"]);
+}
+
 /// The line for words that are no command line.
-#[tactic(auto, unfolding(crate::specs::Command::usage_line))]
+#[tactic(auto, unfolding(crate::specs::Messages::usage_line))]
 pub fn tell_usage<E: Sink>(err: &mut E)
     ensures line { Tells (E.contents err.old) (E.contents err.new) (E.faults err.old) (E.faults err.new) usage_line }
     ensures faults { E.faults err.old ≤ E.faults err.new }

@@ -5,22 +5,26 @@ ghost use Rattle.alpaca_cli.specs.Status.{exit_code};
 /// How the program ends.
 #[derive(Clone, Copy, Debug, PartialEq, Eq)]
 pub enum Status {
-    /// The report is whole.
+    /// The output is whole.
     Done,
-    /// A text is not of its form.
+    /// A text is refused.
     Refused,
     /// The words are no command line.
     Usage,
-    /// A file is missing or too long, or its read failed.
+    /// A file is missing, or its read failed.
     Unreadable,
     /// A write to the output failed.
     Unwritable,
     /// Memory was refused.
     OutOfMemory,
+    /// The run of an image met a word that is no instruction, or a bus fault.
+    MachineFault,
+    /// A file has more than 1,048,576 bytes.
+    TooLong,
 }
 
 impl Status {
-    /// The exit code of the program, 0 to 5.
+    /// The exit code of the program, 0 to 7.
     pub fn code(self) -> u8
         ensures { result ≡ exit_code self }
     {
@@ -31,6 +35,8 @@ impl Status {
             Status::Unreadable => 3,
             Status::Unwritable => 4,
             Status::OutOfMemory => 5,
+            Status::MachineFault => 6,
+            Status::TooLong => 7,
         }
     }
 }

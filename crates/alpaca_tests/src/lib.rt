@@ -2,6 +2,10 @@
 #![tactic(auto)]
 
 #[cfg(test)]
+mod images;
+#[cfg(test)]
 mod mean;
 #[cfg(test)]
 mod run;
+#[cfg(test)]
+mod sources;

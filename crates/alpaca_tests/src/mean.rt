@@ -14,7 +14,12 @@ const USAGE: &str =
     "usage: alpaca mean SRC TRACE | try SRC TRACE IMAGE | build SRC IMAGE | run IMAGE TRACE | asm ASM IMAGE | dis IMAGE | gen N IMAGE\n";
 
 // `mean s t` on these two texts, with these calls failing.
-fn mean(alloc: Global, source: &str, trace: &str, failing_writes: &[u64]) -> Result<After, Fail> {
+pub(crate) fn mean(
+    alloc: Global,
+    source: &str,
+    trace: &str,
+    failing_writes: &[u64],
+) -> Result<After, Fail> {
     run(
         alloc,
         &Before {
@@ -94,14 +99,15 @@ fn a_file_that_cannot_be_read_is_named(rt: HostRuntime) -> Result<(), Fail> {
     let alloc = rt.alloc();
     let long = vec![in alloc; b'\n'; 1_048_577]?;
     let source = ("s", SUM.as_bytes());
-    let runs: [(&[(&str, &[u8])], &[u64], &str); 5] = [
-        (&[], &[], "cannot read s\n"),
-        (&[source], &[], "cannot read t\n"),
-        (&[source, ("t", b"")], &[0], "cannot read s\n"),
-        (&[source, ("t", b"")], &[1], "cannot read t\n"),
-        (&[source, ("t", &long)], &[], "cannot read t\n"),
+    let runs: [(&[(&str, &[u8])], &[u64], u8, &str); 6] = [
+        (&[], &[], 3, "cannot read s\n"),
+        (&[source], &[], 3, "cannot read t\n"),
+        (&[source, ("t", b"")], &[0], 3, "cannot read s\n"),
+        (&[source, ("t", b"")], &[1], 3, "cannot read t\n"),
+        (&[source, ("t", &long)], &[], 7, "too long t\n"),
+        (&[("s", &long)], &[], 7, "too long s\n"),
     ];
-    for (files, failing_reads, line) in runs {
+    for (files, failing_reads, status, line) in runs {
         let after = run(
             alloc,
             &Before {
@@ -111,7 +117,7 @@ fn a_file_that_cannot_be_read_is_named(rt: HostRuntime) -> Result<(), Fail> {
                 failing_writes: &[],
             },
         )?;
-        assert_eq!(rt; after.status.code(), 3);
+        assert_eq!(rt; after.status.code(), status);
         assert!(rt; after.out.is_empty());
         assert_eq!(rt; after.err.as_slice(), line.as_bytes());
     }
@@ -139,13 +145,14 @@ fn a_failed_later_write_leaves_a_proper_prefix(rt: HostRuntime) -> Result<(), Fa
 }
 
 #[test]
-fn a_text_of_another_form_is_refused(rt: HostRuntime) -> Result<(), Fail> {
+fn the_first_text_that_is_refused_is_named(rt: HostRuntime) -> Result<(), Fail> {
     let open = "task t { transition_to(t); } entry t";
     let whole = "task t { transition_to(t); } entry t;";
     let runs = [
-        (open, "", "refused s 0 NotYet\n"),
-        (whole, "c 10 0", "refused t 0 NotYet\n"),
-        (open, "c 10 0", "refused s 0 NotYet\n"),
+        (open, "", "refused s 1 Syntax\n"),
+        (whole, "\nc 10", "refused t 2 BadLine\n"),
+        (whole, "c 1 0 * 1000001", "refused t 1 TooMany\n"),
+        (open, "c 10", "refused s 1 Syntax\n"),
     ];
     for (source, trace, line) in runs {
         let after = mean(rt.alloc(), source, trace, &[])?;

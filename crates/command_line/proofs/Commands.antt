@@ -15,7 +15,7 @@ use Rattle.clap.specs.declared.parser.matches.ArgMatches.TheViews.{out-ArgMatche
 use Rattle.command_line.specs.CommandLine.{AreTexts, IsLine, Subcommand, alpaca_app, begins_with_hyphen, files_of, line_of, subcommand_named, subcommands}
 use Rattle.command_line.specs.Commands.{IsPlainLine, NamesCommand, line_found, plain_line, values_of}
 use Rattle.command_line.specs.declared.Command.{Command}
-use Rattle.command_line.specs.declared.Command.TheVariants.{Mean}
+use Rattle.command_line.specs.declared.Command.TheVariants.{Mean, Run}
 use Rattle.command_line.proofs.Files.{IsGiven, IsInOrder, built_subcommand, file_row, given_row, more_given, rows_for}
 use Rattle.command_line.proofs.Lines.{Line, all_in_order, has_name, in_order, line_reads, line_there}
 
@@ -72,6 +72,9 @@ subcommand_of_line : (c : Command) (name : Text) (files : List Text) → plain_l
 subcommand_of_line (Mean source trace) name files e =
     let named : name ≡ codes "mean" = ap (λ l. unwrap_or (slice_get l 0) []) (sym e) in
     (record { name = codes "mean"; files = codes "SRC" ∷ codes "TRACE" ∷ [] }, ap subcommand_named named, let all = ap length (sym e) in omega arith)
+subcommand_of_line (Run image trace) name files e =
+    let named : name ≡ codes "run" = ap (λ l. unwrap_or (slice_get l 0) []) (sym e) in
+    (record { name = codes "run"; files = codes "IMAGE" ∷ codes "TRACE" ∷ [] }, ap subcommand_named named, let all = ap length (sym e) in omega arith)
 
 pub command_is_line : (words : List Text) → AreTexts words → NamesCommand words → IsLine words
 command_is_line [] texts n = cc
@@ -84,20 +87,31 @@ abbrev lent : Text → Bor Text
 lent text = record { ref_ptr = (0, 0); now = text }
 
 has_command : (name : Text) (files : List Text) (s : Subcommand) → subcommand_named name ≡ Some s → length files ≡ length s.files → (c : Command) × (plain_line c ≡ name ∷ files)
-has_command name files s is count = go (bytes_eq (codes "mean") name) refl is
+has_command name files s is count = mean_or (bytes_eq (codes "mean") name) refl is
   where
-    mean : (files : List Text) → length files ≡ 2 → codes "mean" ≡ name → (c : Command) × (plain_line c ≡ name ∷ files)
-    mean [] two called = absurd (omega arith)
-    mean (source ∷ []) two called = absurd (omega arith)
-    mean (source ∷ trace ∷ []) two called = (Mean (lent source) (lent trace), ap (λ n. n ∷ source ∷ trace ∷ []) called)
-    mean (source ∷ trace ∷ other ∷ more) two called = absurd (omega arith)
+    -- a command of two files, whose line begins with its name
+    two : (called : Text) (make : Bor Text → Bor Text → Command)
+        → ((a b : Text) → plain_line (make (lent a) (lent b)) ≡ called ∷ a ∷ b ∷ [])
+        → (files : List Text) → length files ≡ 2 → called ≡ name → (c : Command) × (plain_line c ≡ name ∷ files)
+    two called make line [] count is = absurd (omega arith)
+    two called make line (a ∷ []) count is = absurd (omega arith)
+    two called make line (a ∷ b ∷ []) count is = (make (lent a) (lent b), line a b ∙ ap (λ n. n ∷ a ∷ b ∷ []) is)
+    two called make line (a ∷ b ∷ other ∷ more) count is = absurd (omega arith)
 
-    go : (b : Bool) → bytes_eq (codes "mean") name ≡ b → cond b (Some (record { name = codes "mean"; files = codes "SRC" ∷ codes "TRACE" ∷ [] })) None ≡ Some s
+    counted : {t : Subcommand} → Some t ≡ Some s → length files ≡ length t.files
+    counted {t} is = count ∙ sym (ap (λ (o : Option Subcommand). length (unwrap_or o s).files) is)
+
+    run_or : (b : Bool) → bytes_eq (codes "run") name ≡ b → cond b (Some (record { name = codes "run"; files = codes "IMAGE" ∷ codes "TRACE" ∷ [] })) None ≡ Some s
         → (c : Command) × (plain_line c ≡ name ∷ files)
-    go true called is =
-        let wants : 2 ≡ length s.files = ap (λ (o : Option Subcommand). length (unwrap_or o s).files) is in
-        mean files (count ∙ sym wants) ((bytes_eq-Decides (codes "mean") name).0 called)
-    go false called is = cc
+    run_or true called is = two (codes "run") Run (λ a b. refl) files (counted is) ((bytes_eq-Decides (codes "run") name).0 called)
+    run_or false called is = cc
+
+    mean_or : (b : Bool) → bytes_eq (codes "mean") name ≡ b
+        → cond b (Some (record { name = codes "mean"; files = codes "SRC" ∷ codes "TRACE" ∷ [] }))
+        (find (λ (t : Subcommand). bytes_eq t.name name) (record { name = codes "run"; files = codes "IMAGE" ∷ codes "TRACE" ∷ [] } ∷ [])) ≡ Some s
+        → (c : Command) × (plain_line c ≡ name ∷ files)
+    mean_or true called is = two (codes "mean") Mean (λ a b. refl) files (counted is) ((bytes_eq-Decides (codes "mean") name).0 called)
+    mean_or false called is = run_or (bytes_eq (codes "run") name) refl is
 
 pub line_is_command : (words : List Text) → AreTexts words → IsLine words → NamesCommand words
 line_is_command words texts line =
@@ -130,6 +144,7 @@ line_plain (word ∷ words) line e is =
 
 pub plain_names : (words : List Text) → list_any begins_with_hyphen words ≡ false → IsPlainLine words → NamesCommand words
 plain_names [] e (Mean source trace, is) = cc
+plain_names [] e (Run image trace, is) = cc
 plain_names (word ∷ words) e p =
     let q = none_of (begins_with_hyphen word) (list_any begins_with_hyphen words) e in
     (p.0, ap (option_map (λ files. word ∷ files)) (files_plain words q.1) ∙ ap Some p.1)

@@ -88,7 +88,7 @@ AreInOrder (s ∷ rest) = IsInOrder (built_subcommand s).rules [] 1 s.files × A
 -- each command's files have names of their own
 pub all_in_order : AreInOrder subcommands
 unfolding AreInOrder
-all_in_order = ((refl, refl, refl, refl, refl, (refl, refl, refl, refl, refl, (refl, refl))), tt)
+all_in_order = ((refl, refl, refl, refl, refl, (refl, refl, refl, refl, refl, (refl, refl))), ((refl, refl, refl, refl, refl, (refl, refl, refl, refl, refl, (refl, refl))), tt))
 
 pub in_order : (xs : List Subcommand) (word : Text) (s : Subcommand) → AreInOrder xs → named xs word ≡ Some s → IsInOrder (built_subcommand s).rules [] 1 s.files
 unfolding AreInOrder

@@ -14,7 +14,8 @@ pub record Subcommand : Type 0 where
 
 -- all commands
 abbrev pub subcommands : List Subcommand
-subcommands = record { name = codes "mean"; files = codes "SRC" ∷ codes "TRACE" ∷ [] } ∷ []
+subcommands = record { name = codes "mean"; files = codes "SRC" ∷ codes "TRACE" ∷ [] }
+    ∷ record { name = codes "run"; files = codes "IMAGE" ∷ codes "TRACE" ∷ [] } ∷ []
 
 -- `Arg::new(name).required(true)`: a positional that has to be there
 abbrev pub file_rule : Text → Rule

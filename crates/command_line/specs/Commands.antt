@@ -3,11 +3,12 @@ use Rattle.std.specs.Prelude.{◌≡◌, List, [], ◌∷◌, codes, Option, Som
 use Rattle.clap.specs.Words.{Row, Text, first_of}
 use Rattle.command_line.specs.CommandLine.{line_of, subcommand_named}
 use Rattle.command_line.specs.declared.Command.{Command}
-use Rattle.command_line.specs.declared.Command.TheVariants.{Mean}
+use Rattle.command_line.specs.declared.Command.TheVariants.{Mean, Run}
 
 -- the words of a command's line, with neither a `--` nor a hyphen in front of a file
 abbrev pub plain_line : Command → List Text
 plain_line (Mean source trace) = codes "mean" ∷ source.now ∷ trace.now ∷ []
+plain_line (Run image trace) = codes "run" ∷ image.now ∷ trace.now ∷ []
 
 -- the first values of these arguments, where each has one
 abbrev pub values_of : List Text → List Row → Option (List Text)

@@ -1,7 +1,7 @@
 //! The words of the command line, read by `clap` into a command of the program.
 #![tactic(auto)]
 
-ghost use Rattle.std.specs.Prelude.{◌≡◌, ◌↔◌, IfOk, IsErrOf, Some, List, false, map, option_map, string_bytes};
+ghost use Rattle.std.specs.Prelude.{◌≡◌, ◌↔◌, ◌∷◌, [], IfOk, IsErrOf, Some, List, false, map, option_map, string_bytes};
 ghost use Rattle.std.specs.List.{list_any};
 ghost use Rattle.clap.specs.Words.{Text, found_of, rows_of, subcommand_of, subcommand_rows_of};
 ghost use Rattle.command_line.specs.CommandLine.{
@@ -13,7 +13,7 @@ ghost use Rattle.command_line.specs.CommandLine.{
   line_of,
   subcommand_app,
 };
-ghost use Rattle.command_line.specs.Commands.{IsPlainLine, NamesCommand, line_found, plain_line};
+ghost use Rattle.command_line.specs.Commands.{IsPlainLine, NamesCommand, line_found, plain_line, values_of};
 
 use clap::error::ErrorKind;
 use clap::{Arg, ArgMatches};
@@ -26,6 +26,13 @@ pub enum Command<'a> {
     Mean {
         /// The file of the source.
         source: &'a str,
+        /// The file of the trace.
+        trace: &'a str,
+    },
+    /// `run IMAGE TRACE`: a run of the image on the board, whose power is cut wherever the trace says.
+    Run {
+        /// The file of the image.
+        image: &'a str,
         /// The file of the trace.
         trace: &'a str,
     },
@@ -74,12 +81,25 @@ fn command_named<'a>(name: &str, files: &ArgMatches<'a>) -> Option<Command<'a>>
     ensures { option_map plain_line result ≡ line_found name.now (rows_of (found_of files.now)) }
 {
     match name {
-        "mean" => Some(Command::Mean {
-            source: files.get_str("SRC")?,
-            trace: files.get_str("TRACE")?,
-        }),
+        "mean" => {
+            let (source, trace) = two_files(files, "SRC", "TRACE")?;
+            Some(Command::Mean { source, trace })
+        }
+        "run" => {
+            let (image, trace) = two_files(files, "IMAGE", "TRACE")?;
+            Some(Command::Run { image, trace })
+        }
         _ => None,
     }
+}
+
+/// The files that `clap` found under these two names.
+fn two_files<'a>(files: &ArgMatches<'a>, first: &str, second: &str) -> Option<(&'a str, &'a str)>
+    ensures { option_map (λ p. p.0.now ∷ p.1.now ∷ []) result ≡ values_of (first.now ∷ second.now ∷ []) (rows_of (found_of files.now)) }
+{
+    let first = files.get_str(first)?;
+    let second = files.get_str(second)?;
+    Some((first, second))
 }
 
 /// What `clap` makes of the words.
@@ -129,7 +149,9 @@ fn alpaca_command<'a>(alloc: Global) -> Result<clap::Command<'a>, AllocError>
         .disable_help_subcommand(true)
         .subcommand_required(true);
     let mean = file_command(alloc, "mean", ["SRC", "TRACE"].as_slice())?;
-    let whole = bare.subcommand(mean)?;
+    let run = file_command(alloc, "run", ["IMAGE", "TRACE"].as_slice())?;
+    let with_mean = bare.subcommand(mean)?;
+    let whole = with_mean.subcommand(run)?;
     Ok(whole)
 }
 

@@ -17,6 +17,12 @@ fn names(alloc: Global, texts: &[&str], source: &str, trace: &str) -> Result<boo
     Ok(command_of(alloc, words.as_slice()) == Ok(Command::Mean { source, trace }))
 }
 
+// the files of a line of `run`
+fn runs(alloc: Global, texts: &[&str], image: &str, trace: &str) -> Result<bool, AllocError> {
+    let words = owned(alloc, texts)?;
+    Ok(command_of(alloc, words.as_slice()) == Ok(Command::Run { image, trace }))
+}
+
 // the words are no line
 fn is_usage(alloc: Global, texts: &[&str]) -> Result<bool, AllocError> {
     let words = owned(alloc, texts)?;
@@ -31,6 +37,18 @@ fn a_name_and_its_files_are_a_line(rt: HostRuntime) -> Result<(), Fail> {
     assert!(rt; names(alloc, &["mean", "mean", ""], "mean", "")?);
     assert!(rt; names(alloc, &["mean", "-", "a=b"], "-", "a=b")?);
     command_lines();
+    Ok(())
+}
+
+#[test]
+fn an_image_and_a_trace_are_a_line_of_run(rt: HostRuntime) -> Result<(), Fail> {
+    let alloc = rt.alloc();
+    assert!(rt; runs(alloc, &["run", "i", "t"], "i", "t")?);
+    assert!(rt; runs(alloc, &["run", "run", "mean"], "run", "mean")?);
+    assert!(rt; runs(alloc, &["run", "--", "-i", "t"], "-i", "t")?);
+    assert!(rt; is_usage(alloc, &["run", "i"])?);
+    assert!(rt; is_usage(alloc, &["run", "i", "t", "u"])?);
+    assert!(rt; is_usage(alloc, &["run", "-i", "t"])?);
     Ok(())
 }
 

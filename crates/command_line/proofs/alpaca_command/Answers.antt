@@ -18,10 +18,14 @@ returns c =
     (ap app_of_fields c.disable_help_subcommand.ensures ∙ ap (λ (a : App). record a { top = record a.top { disable_help_subcommand = true } })
     (ap app_of_fields c.disable_help_flag.ensures ∙ ap (λ (a : App). record a { top = record a.top { disable_help_flag = true } })
     (ap app_of_fields c.no_binary_name.ensures ∙ ap (λ (a : App). record a { top = record a.top { no_binary_name = true } }) c.new.ensures.app))) in
-    let files : map (λ (f : Bor Text). f.now) c.as_slice.result.now ≡ codes "SRC" ∷ codes "TRACE" ∷ [] = search rules in
+    let mean_files : map (λ (f : Bor Text). f.now) c.as_slice.result.now ≡ codes "SRC" ∷ codes "TRACE" ∷ [] = search rules in
+    let run_files : map (λ (f : Bor Text). f.now) c.as_slice-2.result.now ≡ codes "IMAGE" ∷ codes "TRACE" ∷ [] = search rules in
     let mean_is = ap (λ (a : App). a.top) c.in_ok-mean.ensures.app
-    ∙ ap (λ (fs : List Text). subcommand_shape (record { name = codes "mean"; files = fs })) files in
+    ∙ ap (λ (fs : List Text). subcommand_shape (record { name = codes "mean"; files = fs })) mean_files in
+    let run_is = ap (λ (a : App). a.top) c.in_ok-run.ensures.app
+    ∙ ap (λ (fs : List Text). subcommand_shape (record { name = codes "run"; files = fs })) run_files in
+    let with_mean = c.in_ok-with_mean.ensures.shape c.in_ok-mean.ensures.globals ∙ ap₂ with_subcommand bare_is mean_is in
     record {
-      app = c.in_ok-whole.ensures.shape c.in_ok-mean.ensures.globals ∙ ap₂ with_subcommand bare_is mean_is;
+      app = c.in_ok-whole.ensures.shape c.in_ok-run.ensures.globals ∙ ap₂ with_subcommand with_mean run_is;
       globals = search rules;
     }

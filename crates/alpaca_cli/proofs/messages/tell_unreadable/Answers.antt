@@ -1,4 +1,4 @@
-use Rattle.alpaca_cli.specs.Command.{unreadable_line}
+use Rattle.alpaca_cli.specs.Messages.{unreadable_line}
 use Rattle.alpaca_cli.proofs.messages.tell_unreadable.Goals as goal
 
 pub returns-clause-line : goal.returns-clause-line

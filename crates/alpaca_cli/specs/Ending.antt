@@ -1,0 +1,6 @@
+-- How a command whose output is whole ends.
+
+pub data Ending : Type 0 where
+  well : Ending
+  -- the run met a word that is no instruction, or a bus fault
+  at_fault : Ending

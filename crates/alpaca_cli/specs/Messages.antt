@@ -1,0 +1,33 @@
+-- The one line to standard error that goes with a status.
+use Rattle.std.specs.Prelude.{ℕ, List, [], ◌∷◌, codes, Option}
+use Rattle.std.specs.Io.KnownBytes.{Appends}
+use Rattle.alp_io.specs.Count.{Rose}
+use Rattle.alp_io.specs.Report.{texts}
+
+-- the line was written, unless the count of faults rose
+abbrev pub Tells : Option (List ℕ) → Option (List ℕ) → ℕ → ℕ → List ℕ → Type 0
+Tells old new before now line = (Rose before now → ⊥) → Appends old new line
+
+-- the line where a file could not be read
+unfoldable pub unreadable_line : List ℕ → List ℕ
+unreadable_line name = texts (codes "cannot read " ∷ name ∷ codes "\n" ∷ [])
+
+-- the line where a file has too many bytes
+unfoldable pub too_long_line : List ℕ → List ℕ
+too_long_line name = texts (codes "too long " ∷ name ∷ codes "\n" ∷ [])
+
+-- the line where a write to the output failed
+unfoldable pub unwritable_line : List ℕ
+unwritable_line = texts (codes "cannot write output\n" ∷ [])
+
+-- the line where memory was refused
+unfoldable pub memory_line : List ℕ
+memory_line = texts (codes "out of memory\n" ∷ [])
+
+-- the line where a run met a machine fault
+unfoldable pub machine_fault_line : List ℕ
+machine_fault_line = texts (codes "machine fault\n" ∷ [])
+
+-- the line where the words are no command line: all commands, also those to come
+unfoldable pub usage_line : List ℕ
+usage_line = texts (codes "usage: alpaca mean SRC TRACE | try SRC TRACE IMAGE | build SRC IMAGE | run IMAGE TRACE | asm ASM IMAGE | dis IMAGE | gen N IMAGE\n" ∷ [])

@@ -1,0 +1,26 @@
+-- The report of an image's run on a trace.
+use Rattle.std.specs.Prelude.{◌≡◌, ℕ, List}
+use Rattle.energy_trace.specs.TraceValue.{TraceValue}
+use Rattle.image_text.specs.ImageValue.{ImageValue}
+use Rattle.msp_step.specs.declared.machine.Stop.TheVariants as stop
+use Rattle.fram_board.specs.Board.{fresh}
+use Rattle.fram_board.specs.Run.{End, Charges, Stopped, RunOutcome, Run}
+use Rattle.board_run.specs.Charges.{charges_of}
+use Rattle.board_run.specs.History.{start_of}
+use Rattle.board_run.specs.Report.{report_of}
+use Rattle.alpaca_cli.specs.Ending.{Ending, well, at_fault}
+
+-- a run ends at a machine fault where it met a word that is no instruction, or a bus fault
+abbrev pub ending_of : End → Ending
+ending_of Charges = well
+ending_of (Stopped stop.Off) = well
+ending_of (Stopped stop.NoReading) = well
+ending_of (Stopped (stop.Illegal pc word)) = at_fault
+ending_of (Stopped (stop.Bus pc address)) = at_fault
+
+-- The report of the one run of the image's fresh board under the trace's charges, on its readings, and how that run ended.
+pub record IsRunReport (image : ImageValue) (trace : TraceValue) (ending : Ending) (output : List ℕ) : Type 0 where
+  pub outcome : RunOutcome
+  pub run : Run (charges_of trace.charges) (fresh image.words trace.readings) outcome
+  pub ends : ending ≡ ending_of outcome.ending
+  pub lines : output ≡ report_of (start_of image) outcome

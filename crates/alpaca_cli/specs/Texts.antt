@@ -1,0 +1,37 @@
+-- Texts that are refused, each with the line, the kind and what the fault keeps.
+use Rattle.std.specs.Prelude.{◌≡◌, ℕ, List, codes, Err}
+use Rattle.energy_trace.specs.declared.fault.TraceFault.TheVariants as trace_fault
+use Rattle.energy_trace.specs.Reading.{trace_of}
+use Rattle.image_text.specs.declared.fault.ImageFault.TheVariants as image_fault
+use Rattle.image_text.specs.Reading.{image_of}
+use Rattle.alpaca_cli.specs.declared.failure.Failure.{Failure}
+use Rattle.alpaca_cli.specs.declared.failure.Failure.TheVariants.{FirstRefused, SecondRefused, Write, Memory}
+use Rattle.alpaca_cli.specs.Refusals.{Refusal, plain}
+use Rattle.alpaca_cli.specs.Views.{refusal_of}
+
+-- the text's first fault as a trace
+pub data RefusesTrace (text : List ℕ) : Refusal → Type 0 where
+  bad_trace_line : (n : ℕ) → trace_of text ≡ Err (trace_fault.BadLine n) → RefusesTrace text (plain n (codes "BadLine"))
+  too_many : (n : ℕ) → trace_of text ≡ Err (trace_fault.TooMany n) → RefusesTrace text (plain n (codes "TooMany"))
+
+-- the text's first fault as an image; that of a missing reset vector is of the whole text
+pub data RefusesImage (text : List ℕ) : Refusal → Type 0 where
+  bad_line : (n : ℕ) → image_of text ≡ Err (image_fault.BadLine n) → RefusesImage text (plain n (codes "BadLine"))
+  outside_fram : (n : ℕ) → image_of text ≡ Err (image_fault.OutsideFram n) → RefusesImage text (plain n (codes "OutsideFram"))
+  twice : (n : ℕ) → image_of text ≡ Err (image_fault.Twice n) → RefusesImage text (plain n (codes "Twice"))
+  no_reset : image_of text ≡ Err image_fault.NoReset → RefusesImage text (plain 0 (codes "NoReset"))
+  bad_map : (n : ℕ) → image_of text ≡ Err (image_fault.BadMap n) → RefusesImage text (plain n (codes "BadMap"))
+
+-- the first text is refused in this way, or memory was
+abbrev pub FailsFirst : (Refusal → Type 0) → Failure → Type 0
+FailsFirst P (FirstRefused r) = P (refusal_of r)
+FailsFirst P (SecondRefused r) = ⊥
+FailsFirst P Write = ⊥
+FailsFirst P Memory = Unit {0}
+
+-- the second text is refused in this way, or memory was
+abbrev pub FailsSecond : (Refusal → Type 0) → Failure → Type 0
+FailsSecond P (FirstRefused r) = ⊥
+FailsSecond P (SecondRefused r) = P (refusal_of r)
+FailsSecond P Write = ⊥
+FailsSecond P Memory = Unit {0}

@@ -1,0 +1,116 @@
+//! `run IMAGE TRACE`: the report of an image's run.
+ghost use Rattle.std.specs.Prelude.{◌≡◌, ◌≤◌, ◌∷◌, [], IfOk, IfErr, length};
+ghost use Rattle.alp_io.specs.Count.{HasCause};
+ghost use Rattle.fram_board.specs.Board.{fresh};
+ghost use Rattle.board_run.specs.History.{start_of};
+ghost use Rattle.alpaca_cli.specs.RunReport.{IsRunReport};
+ghost use Rattle.alpaca_cli.specs.Commands as verb;
+ghost use Rattle.alpaca_cli.specs.Ends.{ending_of, WritesRun};
+ghost use Rattle.alpaca_cli.specs.Ending.{Ending};
+ghost use Rattle.alpaca_cli.specs.Answers.{IsWhole};
+ghost use Rattle.alpaca_cli.specs.Outcomes.{FailsBy, FailsWriting, Gains};
+
+use crate::failure::Failure;
+use crate::images::image_of;
+use crate::traces::trace_of;
+use alp_io::{Failed, Report, Sink};
+use board_run::{RunFault, Watch, run};
+use energy_trace::Trace;
+use fram_board::Board;
+use image_text::Image;
+use std::alloc::Global;
+
+/// How a run ended whose report is whole.
+#[derive(Clone, Copy, Debug, PartialEq, Eq)]
+pub enum RunEnding {
+    /// Its charges or readings ran out, or the CPU was switched off.
+    Well,
+    /// It met a word that is no instruction, or a bus fault.
+    AtFault,
+}
+
+// Writes the lines of a run of a board that is new from the image.
+fn write_lines<S: Sink>(
+    report: &mut Report<'_, S>,
+    image: &Image,
+    trace: &Trace,
+    board: &mut Board,
+    watch: &mut Watch<'_>,
+) -> Result<RunEnding, Failed>
+    requires board { board.old ≡ fresh image.now.words trace.now.readings }
+    requires watch { watch.old ≡ start_of image.now }
+    ensures same_sink { report.new.sink.ghost_name ≡ report.old.sink.ghost_name }
+    ensures bytes { WritesRun image.now trace.now (S.contents report.old.sink.now) (S.contents report.new.sink.now) result }
+    ensures cause { HasCause (S.faults report.old.sink.now) (S.faults report.new.sink.now) result }
+{
+    match run(board, trace, watch, report) {
+        Ok(_) => Ok(RunEnding::Well),
+        Err(RunFault::Illegal { .. }) => Ok(RunEnding::AtFault),
+        Err(RunFault::Bus { .. }) => Ok(RunEnding::AtFault),
+        Err(RunFault::Write) => Err(Failed),
+    }
+}
+
+// Writes the report of a run of a board that is new from the image. Takes no memory.
+fn write_report<O: Sink>(
+    out: &mut O,
+    image: &Image,
+    trace: &Trace,
+    board: &mut Board,
+    watch: &mut Watch<'_>,
+) -> Result<RunEnding, Failed>
+    requires board { board.old ≡ fresh image.now.words trace.now.readings }
+    requires watch { watch.old ≡ start_of image.now }
+    ensures bytes { WritesRun image.now trace.now (O.contents out.old) (O.contents out.new) result }
+    ensures cause { HasCause (O.faults out.old) (O.faults out.new) result }
+{
+    let mut report = Report::new(out);
+    write_lines(&mut report, image, trace, board, watch)
+}
+
+/// Writes the whole report, once all memory is taken.
+fn write_run<'t, O: Sink>(
+    alloc: Global,
+    out: &mut O,
+    image: &Image,
+    trace: &Trace,
+) -> Result<RunEnding, Failure<'t>>
+    ensures faults { O.faults out.old ≤ O.faults out.new }
+    ensures whole { IfOk result (λ ending. Gains (record { old = O.contents out.old; new = O.contents out.new; faults_old = O.faults out.old; faults_new = O.faults out.new })
+        (IsRunReport image.now trace.now (ending_of ending))) }
+    ensures failure { IfErr result (λ e. FailsWriting e (record { old = O.contents out.old; new = O.contents out.new; faults_old = O.faults out.old; faults_new = O.faults out.new })
+        (λ output. (ending : Ending) × IsRunReport image.now trace.now ending output)) }
+{
+    let Ok(mut board) = Board::new(alloc, image, trace.readings()) else {
+        return Err(Failure::Memory);
+    };
+    let Ok(mut watch) = Watch::new(alloc, image) else {
+        return Err(Failure::Memory);
+    };
+    match write_report(out, image, trace, &mut board, &mut watch) {
+        Ok(ending) => Ok(ending),
+        Err(Failed) => Err(Failure::Write),
+    }
+}
+
+/// Writes the report of the run of the image and the trace that the two texts are, and answers how it ended.
+///
+/// # Errors
+/// `FirstRefused` or `SecondRefused` for the first text that is refused, `Memory` where memory was refused; nothing is written
+/// then. `Write` where a write failed, and the output gained a proper prefix of the report.
+pub fn run_texts<'t, O: Sink>(
+    alloc: Global,
+    image: &'t [u8],
+    trace: &'t [u8],
+    out: &mut O,
+) -> Result<RunEnding, Failure<'t>>
+    requires image { length image.now ≤ 1048576 }
+    requires trace { length trace.now ≤ 1048576 }
+    ensures faults { O.faults out.old ≤ O.faults out.new }
+    ensures whole { IfOk result (λ ending. IsWhole verb.run (image.now ∷ trace.now ∷ []) (ending_of ending) (record { old = O.contents out.old; new = O.contents out.new; faults_old = O.faults out.old; faults_new = O.faults out.new })) }
+    ensures failure { IfErr result (λ e. FailsBy e verb.run (image.now ∷ trace.now ∷ []) (record { old = O.contents out.old; new = O.contents out.new; faults_old = O.faults out.old; faults_new = O.faults out.new })) }
+{
+    let image = image_of(alloc, image)?;
+    let trace = trace_of(alloc, trace)?;
+    write_run(alloc, out, &image, &trace)
+}
