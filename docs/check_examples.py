@@ -1,0 +1,85 @@
+#!/usr/bin/env python3
+"""Runs the examples of README.md and of the pages in docs/, and compares what they print with what the pages say.
+
+usage: docs/check_examples.py PROGRAM [PAGE ..]
+
+A block whose info string is `file NAME` is a file. A block `console` holds commands, `$ alpaca WORDS`, each followed by what it
+prints on standard output and standard error; a last line `[status N]` is the exit status where it isn't 0. The blocks of a
+page run in its order, in one empty folder.
+"""
+import pathlib
+import shlex
+import subprocess
+import sys
+import tempfile
+
+DOCS = pathlib.Path(__file__).resolve().parent
+
+
+def blocks(text):
+    """The info string and the lines of each fenced block."""
+    info, lines = None, []
+    for line in text.splitlines():
+        if line.startswith("```"):
+            if info is None:
+                info, lines = line[3:].strip(), []
+            else:
+                yield info, lines
+                info = None
+        elif info is not None:
+            lines.append(line)
+
+
+def commands(lines):
+    """Each command of a console block with the lines that it prints."""
+    command, wanted = None, []
+    for line in lines:
+        if line.startswith("$ "):
+            if command is not None:
+                yield command, wanted
+            command, wanted = line[2:], []
+        else:
+            wanted.append(line)
+    if command is not None:
+        yield command, wanted
+
+
+def printed(program, command, folder):
+    words = shlex.split(command)
+    if words[0] != "alpaca":
+        raise SystemExit(f"no command of the program: {command}")
+    ended = subprocess.run([program, *words[1:]], cwd=folder, capture_output=True, text=True, timeout=60)
+    lines = (ended.stdout + ended.stderr).splitlines()
+    return lines + ([f"[status {ended.returncode}]"] if ended.returncode else [])
+
+
+def check(program, page):
+    """How many commands of a page ran, and how many of them print something else."""
+    ran = wrong = 0
+    with tempfile.TemporaryDirectory() as folder:
+        for info, lines in blocks(page.read_text()):
+            kind, _, name = info.partition(" ")
+            if kind == "file":
+                pathlib.Path(folder, name).write_text("".join(line + "\n" for line in lines))
+            elif kind == "console":
+                for command, wanted in commands(lines):
+                    ran += 1
+                    got = printed(program, command, folder)
+                    if got != wanted:
+                        wrong += 1
+                        print(f"{page.name}: {command}\n  page:    {wanted}\n  program: {got}")
+    return ran, wrong
+
+
+def main():
+    if len(sys.argv) < 2:
+        raise SystemExit(__doc__)
+    program = str(pathlib.Path(sys.argv[1]).resolve())
+    pages = [pathlib.Path(p) for p in sys.argv[2:]] or [DOCS.parent / "README.md", *sorted(DOCS.glob("*.md"))]
+    counts = [check(program, page) for page in pages]
+    ran, wrong = sum(c[0] for c in counts), sum(c[1] for c in counts)
+    print(f"{ran - wrong} examples agree, {wrong} don't")
+    raise SystemExit(1 if wrong else 0)
+
+
+main()
