@@ -1,6 +1,8 @@
 -- Charges that are spent one after another.
-use Rattle.std.proofs.Common.{◌≡◌, ◌≤◌, ◌<◌, ℕ, ◌+◌, ◌-◌, List, [], ◌∷◌, ◌++◌, arith, refl, ap, sym, subst, ◌∙◌, Option, Some, None, Result, Ok, Err, IsErr, append_assoc, true, false, is_some, zero, suc, replicate, drop, drop-cons, get_or, length, inl, inr}
+use Rattle.std.proofs.Common.{◌≡◌, ◌≤◌, ◌<◌, ℕ, ◌+◌, ◌-◌, List, [], ◌∷◌, ◌++◌, arith, refl, ap, sym, subst, ◌∙◌, Option, Some, None, Result, Ok, Err, IsErr, append_assoc, true, false, is_some, zero, suc, replicate, drop, drop-cons, get_or, length, length-append, take}
 use Rattle.std.proofs.Math.ListN.{drop_of_length-le}
+use Rattle.std.proofs.Math.Seq.{take-append-add}
+use Rattle.std.proofs.lemmas.List.{take-append-le}
 use Rattle.std.proofs.lemmas.List.Sums.{sum_by-append}
 use Rattle.energy_trace.specs.declared.charge.Charge.{Charge}
 use Rattle.energy_trace.specs.declared.charge.ChargeKind.TheVariants as kind
@@ -19,9 +21,9 @@ use Rattle.fram_board.specs.Board.{BoardValue, PowerState, powered}
 use Rattle.fram_board.specs.Run.{Moment, Charges, Stopped, End, RunOutcome, run_outcome, after_moments, power_up_of, BoardCharge, ChargeRun, Run, Over, Next, Last}
 use Rattle.fram_board.proofs.Runs.{has_run}
 use Rattle.board_run.specs.History.{History, bound_lines, moment_lines, noted, behind_power_up}
-use Rattle.board_run.specs.Report.{lines_from, after_all, board_after, IsBehindSome, last_line, rest_of, IsCut, IsRestOf, IsRunOf, IsEndOf}
-use Rattle.board_run.specs.Parts.{FewMore, Wrote, ended, StandsBehind, StoppedWriting, IsSpent, WentThrough, Went, SpentCharges, AreSpent}
-use Rattle.board_run.proofs.Spends.{lines_append, board_append, wrote_more, wrote_none, outcome_append, nil_behind}
+use Rattle.board_run.specs.Report.{lines_from, after_all, last_line, rest_of, BreaksOff, IsCutInMoment, IsCutAt, InText, InMoment, InLastLine, IsCut, IsRestOf, IsRunOf, IsEndOf}
+use Rattle.board_run.specs.Parts.{FewMore, Wrote, ended, IsSpent, WentThrough, Went, SpentCharges, AreSpent}
+use Rattle.board_run.proofs.Spends.{lines_append, after_append, wrote_more, wrote_none, outcome_append, nil_behind, breaks_behind, breaks_first}
 
 -- the power-up of a charge writes nothing
 power_up_wrote : (h mid now : History) (b : BoardValue) (p : PowerState) (ms : List Moment) (old new : Option (List ℕ)) → mid ≡ behind_power_up h.map h (powered b p) → Wrote mid ms old new now
@@ -32,15 +34,11 @@ power_up_wrote h mid now b p ms old new e w =
     let v = subst P e w in
     record { written = v.written; history = v.history }
 
-power_up_lines : (h mid : History) (b : BoardValue) (p : PowerState) (ms : List Moment) → mid ≡ behind_power_up h.map h (powered b p) → lines_from h (power_up_of b p ∷ ms) ≡ lines_from mid ms
-unfolding moment_lines noted
-power_up_lines h mid b p ms e = ap (λ x. lines_from x ms) (sym e)
-
 -- a charge from its power-up on
-one_went : (c : BoardCharge) (b after : BoardValue) (ms : List Moment) (stop : Option Stop) → StandsBehind stop (powered b c.start) ms after → ChargeRun c.measure c.amount (powered b c.start) (run_outcome ms (ended stop) after)
+one_went : (c : BoardCharge) (b after : BoardValue) (ms : List Moment) (stop : Option Stop) → ChargeRun c.measure c.amount (powered b c.start) (run_outcome ms (ended stop) after)
     → Went (c ∷ []) b (power_up_of b c.start ∷ ms) stop after
-one_went c b after ms None e h = record { run = λ more r k. Next c more b ms after r h k; board = e }
-one_went c b after ms (Some stop) e h = λ more. Last c more b ms stop after h
+one_went c b after ms None h = λ more r k. Next c more b ms after r h k
+one_went c b after ms (Some stop) h = λ more. Last c more b ms stop after h
 
 -- a run whose first charge is this
 run_with : (c : BoardCharge) (more : List BoardCharge) (b : BoardValue) (ms : List Moment) (e : End) (end : BoardValue) → ChargeRun c.measure c.amount (powered b c.start) (run_outcome ms e end)
@@ -51,23 +49,22 @@ run_with c more b ms (Stopped stop) end h =
     ([], Stopped stop, end, subst P (sym (nil_behind ms)) (Last c more b ms stop end h))
 
 -- lines that are cut in some moments are cut in more
-cut_more : (h mid : History) (b c after : BoardValue) (front ms rest whole : List Moment) (old between new : Option (List ℕ)) → whole ≡ front ++ (ms ++ rest) → c ≡ board_after b front
-    → Wrote h front old between mid → IsBehindSome c ms after → AppendsProperPrefix between new (lines_from mid ms)
-    → IsBehindSome b whole after × AppendsProperPrefix old new (lines_from h whole)
-cut_more h mid b c after front ms rest whole old between new e at w (done, left, split, is) cut =
-    let P : List ℕ → Type 0 = λ t. AppendsProperPrefix old new t in
-    let Q : BoardValue → Type 0 = λ x. after ≡ board_after x done in
-    let lines : lines_from h whole ≡ lines_from h front ++ (lines_from mid ms ++ lines_from (after_all mid ms) rest) =
-    ap (lines_from h) e ∙ lines_append h front (ms ++ rest) ∙ ap (λ x. lines_from h front ++ lines_from x (ms ++ rest)) (sym w.history) ∙ ap (λ x. lines_from h front ++ x) (lines_append mid ms rest) in (
-      (
-        front ++ done,
-        left ++ rest,
-        e ∙ ap (λ x. front ++ (x ++ rest)) split ∙ ap (λ x. front ++ x) (append_assoc done left rest) ∙ sym (append_assoc front done (left ++ rest)),
-        subst Q at is ∙ sym (board_append b front done),
-      ),
-      subst P (sym lines) (part_of_second old between new (lines_from h front) (lines_from mid ms ++ lines_from (after_all mid ms) rest) w.written
-          (part_of_first between new (lines_from mid ms) (lines_from (after_all mid ms) rest) cut)),
-    )
+cut_more : (h mid : History) (front ms rest whole : List Moment) (old between new : Option (List ℕ)) (after : BoardValue) → whole ≡ front ++ (ms ++ rest) → Wrote h front old between mid
+    → IsCutInMoment mid [] ms between new after → IsCutInMoment h [] whole old new after
+cut_more h mid front ms rest whole old between new after e w c =
+    let P : List ℕ → Type 0 = λ t. BreaksOff old new t (moment_lines (after_all h (front ++ c.before)) c.moment) in
+    let Q : History → Type 0 = λ x. BreaksOff old new (lines_from h front ++ lines_from mid c.before) (moment_lines x c.moment) in
+    let later : after_all mid c.before ≡ after_all h (front ++ c.before) = ap (λ x. after_all x c.before) w.history ∙ sym (after_append h front c.before) in
+    let lines : lines_from h front ++ lines_from mid c.before ≡ lines_from h (front ++ c.before) =
+    ap (λ x. lines_from h front ++ lines_from x c.before) w.history ∙ sym (lines_append h front c.before) in
+    record {
+      before = front ++ c.before;
+      moment = c.moment;
+      later = c.later ++ rest;
+      split = e ∙ ap (λ x. front ++ (x ++ rest)) c.split ∙ ap (λ x. front ++ x) (append_assoc c.before (c.moment ∷ c.later) rest) ∙ sym (append_assoc front c.before (c.moment ∷ (c.later ++ rest)));
+      board = c.board;
+      written = subst P lines (subst Q later (breaks_behind old between new (lines_from h front) (lines_from mid c.before) (moment_lines (after_all mid c.before) c.moment) w.written c.written));
+    }
 
 -- the power-up alone
 power_up_alone : (h mid : History) (b : BoardValue) (p : PowerState) (old : Option (List ℕ)) → mid ≡ behind_power_up h.map h (powered b p) → Wrote h (power_up_of b p ∷ []) old old mid
@@ -75,13 +72,12 @@ power_up_alone h mid b p old e = power_up_wrote h mid mid b p [] old old e (wrot
 
 -- a cut in a charge is a cut in a run that begins with it
 one_cut : (h mid : History) (c : BoardCharge) (more : List BoardCharge) (b after : BoardValue) (r : RunOutcome) (old new : Option (List ℕ)) → mid ≡ behind_power_up h.map h (powered b c.start)
-    → ChargeRun c.measure c.amount (powered b c.start) r → StoppedWriting mid (powered b c.start) r old new after
-    → (s : RunOutcome) × Run (c ∷ more) b s × StoppedWriting h b s old new after
-one_cut h mid c more b after r old new e run stop =
+    → ChargeRun c.measure c.amount (powered b c.start) r → IsCutInMoment mid [] r.moments old new after
+    → (s : RunOutcome) × Run (c ∷ more) b s × IsCutInMoment h [] s.moments old new after
+one_cut h mid c more b after r old new e run cut =
     let w = run_with c more b r.moments r.ending r.board run in
     let ms : List Moment = power_up_of b c.start ∷ (r.moments ++ w.0) in
-    let cut = cut_more h mid b (powered b c.start) after (power_up_of b c.start ∷ []) r.moments w.0 ms old old new refl refl (power_up_alone h mid b c.start old e) stop.board stop.written in
-    (run_outcome ms w.1 w.2, w.3, record { board = cut.0; written = cut.1 })
+    (run_outcome ms w.1 w.2, w.3, cut_more h mid (power_up_of b c.start ∷ []) r.moments w.0 ms old old new after refl (power_up_alone h mid b c.start old e) cut)
 
 few_of_one : (b p after : BoardValue) (n k : ℕ) → p.receiver ≡ b.receiver → FewMore p after n → n ≤ k → FewMore b after k
 few_of_one b p after n k e f le =
@@ -96,18 +92,16 @@ pub one_spent : (h mid now : History) (c : BoardCharge) (b p after : BoardValue)
     → c.amount ≤ k → IsSpent mid c.measure c.amount p old new result after now → AreSpent h (c ∷ []) b old new result after now k
 one_spent h mid now c b p after old new (Ok stop) k is e le s =
     let P : BoardValue → Type 0 = λ p. ChargeRun c.measure c.amount p (run_outcome s.moments (ended stop) after) in
-    let Q : BoardValue → Type 0 = λ p. StandsBehind stop p s.moments after in
     let mid_is : mid ≡ behind_power_up h.map h (powered b c.start) = e ∙ ap (λ p. behind_power_up h.map h p) is in
     record {
       moments = power_up_of b c.start ∷ s.moments;
-      went = one_went c b after s.moments stop (subst Q is s.board) (subst P is s.run);
+      went = one_went c b after s.moments stop (subst P is s.run);
       wrote = power_up_wrote h mid now b c.start s.moments old new mid_is s.wrote;
       few = few_of_one b p after c.amount k (ap (λ (x : BoardValue). x.receiver) is) s.few le;
     }
-one_spent h mid now c b p after old new (Err f) k is e le (r, run, stop) = λ more.
+one_spent h mid now c b p after old new (Err f) k is e le (r, run, cut) = λ more.
     let P : BoardValue → Type 0 = λ p. ChargeRun c.measure c.amount p r in
-    let Q : BoardValue → Type 0 = λ p. StoppedWriting mid p r old new after in
-    one_cut h mid c more b after r old new (e ∙ ap (λ p. behind_power_up h.map h p) is) (subst P is run) (subst Q is stop)
+    one_cut h mid c more b after r old new (e ∙ ap (λ p. behind_power_up h.map h p) is) (subst P is run) cut
 
 -- some charges are behind, and these are left
 pub record SpendsFor (h : History) (cs : List BoardCharge) (b : BoardValue) (old : Option (List ℕ)) (n : ℕ) (left : List BoardCharge) (now : BoardValue) (new : Option (List ℕ)) (watch : History) (spare : ℕ) : Type 0 where
@@ -116,7 +110,6 @@ pub record SpendsFor (h : History) (cs : List BoardCharge) (b : BoardValue) (old
   pub wrote : Wrote h moments old new watch
   pub accepted : now.receiver.accepted + spare ≤ b.receiver.accepted + n
   pub repeats : now.receiver.repeats + spare ≤ b.receiver.repeats + n
-  pub board : now ≡ board_after b moments
 
 pub spends_for_first : (h : History) (cs : List BoardCharge) (b : BoardValue) (old : Option (List ℕ)) (n : ℕ) → SpendsFor h cs b old n cs b old h n
 spends_for_first h cs b old n = record {
@@ -125,7 +118,6 @@ spends_for_first h cs b old n = record {
   wrote = record { written = appends_none old; history = refl };
   accepted = omega arith;
   repeats = omega arith;
-  board = refl;
 }
 
 no_stop : (o : Option Stop) → is_some o ≡ false → o ≡ None
@@ -149,11 +141,10 @@ spends_for_more h cs b old n left front rest now next between new mid watch spar
       run = λ more r h.
           let Q : List BoardCharge → Type 0 = λ x. Run x now (after_moments w.moments r) in
           let R : RunOutcome → Type 0 = λ x. Run (cs ++ more) b x in
-          subst R (sym (outcome_append s.moments w.moments r)) (s.run more (after_moments w.moments r) (subst Q (sym (ap (λ x. x ++ more) e ∙ append_assoc front rest more)) (went.run (rest ++ more) r h)));
+          subst R (sym (outcome_append s.moments w.moments r)) (s.run more (after_moments w.moments r) (subst Q (sym (ap (λ x. x ++ more) e ∙ append_assoc front rest more)) (went (rest ++ more) r h)));
       wrote = wrote_more h mid watch s.moments w.moments old between new s.wrote w.wrote;
       accepted = omega arith;
       repeats = omega arith;
-      board = went.board ∙ ap (λ x. board_after x w.moments) s.board ∙ sym (board_append b s.moments w.moments);
     }
 
 -- a stop in them
@@ -184,16 +175,13 @@ spends_for_end h cs b old n left now new watch spare e s =
     let r = s.repeats in
     record {
       moments = s.moments;
-      went = record {
-        run = λ more r h. let Q : List BoardCharge → Type 0 = λ x. Run (x ++ more) now r in s.run more r (subst Q (sym e) h);
-        board = s.board;
-      };
+      went = λ more r h. let Q : List BoardCharge → Type 0 = λ x. Run (x ++ more) now r in s.run more r (subst Q (sym e) h);
       wrote = s.wrote;
       few = record { accepted = omega arith; repeats = omega arith };
     }
 
 are_err : (h now : History) (cs : List BoardCharge) (b after : BoardValue) (old new : Option (List ℕ)) (n : ℕ) (result : Result (Option Stop) Failed) → IsErr result
-    → ((more : List BoardCharge) → (r : RunOutcome) × Run (cs ++ more) b r × StoppedWriting h b r old new after) → AreSpent h cs b old new result after now n
+    → ((more : List BoardCharge) → (r : RunOutcome) × Run (cs ++ more) b r × IsCutInMoment h [] r.moments old new after) → AreSpent h cs b old new result after now n
 are_err h now cs b after old new n (Ok o) e p = cc
 are_err h now cs b after old new n (Err f) e p = p
 
@@ -205,8 +193,8 @@ spends_for_err h cs b old n left front rest now next between new mid watch watch
     let cut = w (rest ++ more) in
     let Q : List BoardCharge → Type 0 = λ x. Run x now cut.0 in
     let run = s.run more cut.0 (subst Q (sym (ap (λ x. x ++ more) e ∙ append_assoc front rest more)) cut.1) in
-    let more_cut = cut_more h mid b now next s.moments cut.0.moments [] (s.moments ++ cut.0.moments) old between new (ap (λ x. s.moments ++ x) (sym (nil_behind cut.0.moments))) s.board s.wrote cut.2.board cut.2.written in
-    (after_moments s.moments cut.0, run, record { board = more_cut.0; written = more_cut.1 }))
+    let more_cut = cut_more h mid s.moments cut.0.moments [] (s.moments ++ cut.0.moments) old between new next (ap (λ x. s.moments ++ x) (sym (nil_behind cut.0.moments))) s.wrote cut.2 in
+    (after_moments s.moments cut.0, run, more_cut))
 
 -- the first of the charges that are left
 pub repeated_split : (k : ℕ) (c : BoardCharge) → 0 < k → replicate k c ≡ (c ∷ []) ++ replicate (k - 1) c
@@ -231,8 +219,28 @@ count_split cs d i h =
 pub all_end : (cs : List Charge) (i : ℕ) → length cs ≤ i → charges_of (drop i cs) ≡ []
 all_end cs i h = ap charges_of (drop_of_length-le cs h)
 
+-- a text is written, and the next in part: that is a front of both, whatever comes behind them
+front_of_both : (old new : Option (List ℕ)) (text next behind : List ℕ) → BreaksOff old new text next → AppendsProperPrefix old new (text ++ (next ++ behind))
+front_of_both old new text next behind p =
+    let inside : p.count ≤ length next = let h = p.proper in omega arith in
+    let P : List ℕ → Type 0 = λ t. Appends old new t in
+    let front : text ++ take p.count next ≡ take (length text + p.count) (text ++ (next ++ behind)) =
+    ap (λ x. text ++ x) (sym (take-append-le p.count next behind inside)) ∙ sym (take-append-add text (next ++ behind) p.count) in
+    let proper = p.proper in
+    record { count = length text + p.count; proper = omega (arith, length-append text (next ++ behind), length-append next behind); held = subst P front p.held }
+
+-- what is cut in a moment is a front of the report
+front_of_report : (h : History) (r : RunOutcome) (old new : Option (List ℕ)) (after : BoardValue) → IsCutInMoment h [] r.moments old new after → AppendsProperPrefix old new (rest_of h r)
+front_of_report h r old new after c =
+    let line : List ℕ = last_line (after_all h r.moments) r.ending r.board in
+    let own : List ℕ = moment_lines (after_all h c.before) c.moment in
+    let later : List ℕ = lines_from (noted (after_all h c.before) c.moment) c.later in
+    let P : List ℕ → Type 0 = λ t. AppendsProperPrefix old new t in
+    let lines : lines_from h r.moments ≡ lines_from h c.before ++ (own ++ later) = ap (lines_from h) c.split ∙ lines_append h c.before (c.moment ∷ c.later) in
+    subst P (sym (ap (λ x. x ++ line) lines)) (part_of_first old new (lines_from h c.before ++ (own ++ later)) line (front_of_both old new (lines_from h c.before) own later c.written))
+
 -- a run that was cut, or that is whole
-run_err : (h now : History) (cs : List BoardCharge) (b after : BoardValue) (old new : Option (List ℕ)) (result : Result RunEnd RunFault) → result ≡ Err fault.Write → (r : RunOutcome) × Run cs b r × IsCut b r (rest_of h r) old new after
+run_err : (h now : History) (cs : List BoardCharge) (b after : BoardValue) (old new : Option (List ℕ)) (result : Result RunEnd RunFault) → result ≡ Err fault.Write → (r : RunOutcome) × Run cs b r × IsCut h [] b r old new after
     → IsRestOf h cs b old new result after now
 run_err h now cs b after old new result e p = let P : Result RunEnd RunFault → Type 0 = λ x. IsRestOf h cs b old new x after now in subst P (sym e) p
 
@@ -247,10 +255,7 @@ run_cut h watch now cs b after old new n f result e w =
     run_err h now cs b after old new result e (
       cut.0,
       subst P (nil_charges cs) cut.1,
-      record {
-        board = inl cut.2.board;
-        written = part_of_first old new (lines_from h cut.0.moments) (last_line (after_all h cut.0.moments) cut.0.ending cut.0.board) cut.2.written;
-      },
+      record { written = front_of_report h cut.0 old new after cut.2; place = InMoment cut.2 },
     )
 
 -- the run of charges that were spent or in which the board stopped
@@ -258,7 +263,7 @@ whole_run : (cs : List BoardCharge) (b after : BoardValue) (ms : List Moment) (s
 whole_run cs b after ms None w =
     let P : List BoardCharge → Type 0 = λ x. Run x b (run_outcome ms Charges after) in
     let Q : List Moment → Type 0 = λ x. Run (cs ++ []) b (run_outcome x Charges after) in
-    subst P (nil_charges cs) (subst Q (nil_behind ms) (w.run [] (run_outcome [] Charges after) (Over after)))
+    subst P (nil_charges cs) (subst Q (nil_behind ms) (w [] (run_outcome [] Charges after) (Over after)))
 whole_run cs b after ms (Some stop) w = let P : List BoardCharge → Type 0 = λ x. Run x b (run_outcome ms (Stopped stop) after) in subst P (nil_charges cs) (w [])
 
 -- and its last line
@@ -287,11 +292,28 @@ run_end h now cs b after old between new n stop result w e = by_result result e
     by_result (Err (fault.Bus pc address)) e = (r, run, record { answer = e.0; board = refl; history = w.wrote.history; written = written e.1 })
     by_result (Err fault.Write) e =
         let P : List ℕ → Type 0 = λ t. AppendsProperPrefix old new t in
-        (r, run, record { board = inr refl; written = subst P text (part_of_second old between new (lines_from h w.moments) line w.wrote.written e) })
+        let Q : History → Type 0 = λ x. BreaksOff old new (lines_from h w.moments) (last_line x (ended stop) after) in
+        let R : List ℕ → Type 0 = λ t. BreaksOff old new t line in
+        let cut = subst R (nil_behind (lines_from h w.moments)) (breaks_behind old between new (lines_from h w.moments) [] line w.wrote.written (breaks_first between new line e)) in
+        (r, run, record { written = subst P text (part_of_second old between new (lines_from h w.moments) line w.wrote.written e); place = InLastLine refl (subst Q w.wrote.history cut) })
 
 -- a charge that stands where there is none
 abbrev pub no_charge : Charge
 no_charge = record { kind = kind.Cycles; n = 0; fill = 0; times = 0 }
+
+-- where writing broke off, behind a text
+place_behind : (h : History) (b after : BoardValue) (r : RunOutcome) (old mid new : Option (List ℕ)) (text : List ℕ) → Appends old mid text → IsCutAt h [] b r mid new after → IsCutAt h text b r old new after
+place_behind h b after r old mid new text first (InText is p) = absurd (let h = p.proper in omega arith)
+place_behind h b after r old mid new text first (InMoment c) = InMoment (record {
+  before = c.before;
+  moment = c.moment;
+  later = c.later;
+  split = c.split;
+  board = c.board;
+  written = breaks_behind old mid new text (lines_from h c.before) (moment_lines (after_all h c.before) c.moment) first c.written;
+})
+place_behind h b after r old mid new text first (InLastLine is p) =
+    InLastLine is (breaks_behind old mid new text (lines_from h r.moments) (last_line (after_all h r.moments) r.ending r.board) first p)
 
 -- behind the line of the bound
 pub bound_first : (h now : History) (cs : List BoardCharge) (b after : BoardValue) (old mid new : Option (List ℕ)) (result : Result RunEnd RunFault) → Appends old mid (bound_lines h.map)
@@ -303,7 +325,7 @@ bound_first h now cs b after old mid new (Err (fault.Illegal pc word)) first (r,
 bound_first h now cs b after old mid new (Err (fault.Bus pc address)) first (r, run, w) =
     (r, run, record { answer = w.answer; board = w.board; history = w.history; written = appends_more old mid new (bound_lines h.map) (rest_of h r) first w.written })
 bound_first h now cs b after old mid new (Err fault.Write) first (r, run, w) =
-    (r, run, record { board = w.board; written = part_of_second old mid new (bound_lines h.map) (rest_of h r) first w.written })
+    (r, run, record { written = part_of_second old mid new (bound_lines h.map) (rest_of h r) first w.written; place = place_behind h b after r old mid new (bound_lines h.map) first w.place })
 
 -- the line of the bound itself isn't written whole
 pub bound_cut : (h now : History) (cs : List BoardCharge) (b : BoardValue) (old new : Option (List ℕ)) (result : Result RunEnd RunFault) → result ≡ Err fault.Write → AppendsProperPrefix old new (bound_lines h.map)
@@ -311,4 +333,4 @@ pub bound_cut : (h now : History) (cs : List BoardCharge) (b : BoardValue) (old 
 bound_cut h now cs b old new result e cut =
     let run = has_run cs b in
     let P : Result RunEnd RunFault → Type 0 = λ x. IsRunOf h cs b old new x b now in
-    subst P (sym e) (run.0, run.1, record { board = inl ([], run.0.moments, refl, refl); written = part_of_first old new (bound_lines h.map) (rest_of h run.0) cut })
+    subst P (sym e) (run.0, run.1, record { written = part_of_first old new (bound_lines h.map) (rest_of h run.0) cut; place = InText refl cut })

@@ -1,9 +1,9 @@
 -- A charge that is spent turn by turn.
-use Rattle.std.proofs.Common.{◌≡◌, ◌≤◌, ◌<◌, ℕ, ◌+◌, List, [], ◌∷◌, ◌++◌, arith, refl, ap, sym, subst, ◌∙◌, Option, Some, None, Result, Ok, Err, IsErr, append_assoc}
+use Rattle.std.proofs.Common.{◌≡◌, ◌≤◌, ◌<◌, ℕ, ◌+◌, List, [], ◌∷◌, ◌++◌, arith, refl, ap, sym, subst, ◌∙◌, Option, Some, None, Result, Ok, Err, IsErr, append_assoc, take}
 use Rattle.std.specs.Io.KnownBytes.{Appends}
 use Rattle.alp_io.specs.Sink.{AppendsProperPrefix}
 use Rattle.alp_io.specs.declared.sink.Failed.{Failed}
-use Rattle.alp_io.proofs.Appends.{append-nil, appends_none, appends_more, part_of_first, part_of_second}
+use Rattle.alp_io.proofs.Appends.{append-nil, appends_none, appends_more}
 use Rattle.msp_step.specs.declared.machine.Stop.{Stop}
 use Rattle.fram_board.specs.Board.{BoardValue}
 use Rattle.fram_board.specs.Run.{Measure, Moment, RunOutcome, run_outcome, after_moments, ChargeRun}
@@ -11,8 +11,8 @@ use Rattle.fram_board.proofs.Runs.{charge_run}
 use Rattle.board_run.specs.declared.spend.Turn.{Turn}
 use Rattle.board_run.specs.declared.spend.Turn.TheVariants as turn
 use Rattle.board_run.specs.History.{History, moment_lines, noted}
-use Rattle.board_run.specs.Report.{lines_from, after_all, board_after}
-use Rattle.board_run.specs.Parts.{FewMore, Turned, TurnedPartly, IsTurn, Wrote, ended, StandsBehind, SpentCharge, StoppedWriting, IsSpent}
+use Rattle.board_run.specs.Report.{lines_from, after_all, BreaksOff, IsCutInMoment}
+use Rattle.board_run.specs.Parts.{FewMore, Turned, TurnedPartly, IsTurn, Wrote, ended, SpentCharge, IsSpent}
 
 -- some moments of a charge are behind, and their lines are written
 pub record SpendsOn (h : History) (m : Measure) (amount : ℕ) (b : BoardValue) (old : Option (List ℕ)) (left : ℕ) (now : BoardValue) (new : Option (List ℕ)) (watch : History) : Type 0 where
@@ -21,7 +21,6 @@ pub record SpendsOn (h : History) (m : Measure) (amount : ℕ) (b : BoardValue) 
   pub wrote : Wrote h moments old new watch
   pub accepted : now.receiver.accepted + left ≤ b.receiver.accepted + amount
   pub repeats : now.receiver.repeats + left ≤ b.receiver.repeats + amount
-  pub board : now ≡ board_after b moments
 
 pub lines_append : (h : History) (ms ns : List Moment) → lines_from h (ms ++ ns) ≡ lines_from h ms ++ lines_from (after_all h ms) ns
 lines_append h [] ns = refl
@@ -31,10 +30,6 @@ pub after_append : (h : History) (ms ns : List Moment) → after_all h (ms ++ ns
 after_append h [] ns = refl
 after_append h (m ∷ ms) ns = after_append (noted h m) ms ns
 
-pub board_append : (b : BoardValue) (ms ns : List Moment) → board_after b (ms ++ ns) ≡ board_after (board_after b ms) ns
-board_append b [] ns = refl
-board_append b (m ∷ ms) ns = board_append m.after ms ns
-
 pub spends_first : (h : History) (m : Measure) (amount : ℕ) (b : BoardValue) (old : Option (List ℕ)) → SpendsOn h m amount b old amount b old h
 spends_first h m amount b old = record {
   moments = [];
@@ -42,7 +37,6 @@ spends_first h m amount b old = record {
   wrote = record { written = appends_none old; history = refl };
   accepted = omega arith;
   repeats = omega arith;
-  board = refl;
 }
 
 -- moments behind moments
@@ -78,21 +72,16 @@ spends_more h m amount b old left rest now next between new mid watch s t =
       wrote = wrote_more h mid watch s.moments (t.moment ∷ []) old between new s.wrote (wrote_one mid watch t.moment between new t.written t.history);
       accepted = omega arith;
       repeats = omega arith;
-      board = sym t.first.board ∙ sym (board_append b s.moments (t.moment ∷ []));
     }
 
 pub nil_behind : {A : Type 0} (xs : List A) → xs ++ [] ≡ xs
 nil_behind [] = refl
 nil_behind (x ∷ xs) = ap (λ r. x ∷ r) (nil_behind xs)
 
-stands_behind : (stop : Option Stop) (b now after : BoardValue) (ms : List Moment) → now ≡ board_after b ms → StandsBehind stop now [] after → StandsBehind stop b ms after
-stands_behind None b now after ms e h = h ∙ e
-stands_behind (Some stop) b now after ms e h = tt
-
 ends_so : (h : History) (m : Measure) (amount : ℕ) (b : BoardValue) (old : Option (List ℕ)) (left : ℕ) (now after : BoardValue) (between new : Option (List ℕ)) (mid watch : History) (stop : Option Stop)
-    → SpendsOn h m amount b old left now between mid → ChargeRun m left now (run_outcome [] (ended stop) after) → FewMore now after 0 → Appends between new [] → watch ≡ mid → StandsBehind stop now [] after
+    → SpendsOn h m amount b old left now between mid → ChargeRun m left now (run_outcome [] (ended stop) after) → FewMore now after 0 → Appends between new [] → watch ≡ mid
     → SpentCharge h m amount b old new stop after watch
-ends_so h m amount b old left now after between new mid watch stop s c few bytes same at =
+ends_so h m amount b old left now after between new mid watch stop s c few bytes same =
     let P : RunOutcome → Type 0 = λ x. ChargeRun m amount b x in
     let Q : List Moment → Type 0 = λ ms. Wrote h ms old new watch in
     let a = s.accepted in
@@ -104,37 +93,52 @@ ends_so h m amount b old left now after between new mid watch stop s c few bytes
       run = subst P (ap (λ ms. run_outcome ms (ended stop) after) (nil_behind s.moments)) (s.run (run_outcome [] (ended stop) after) c);
       wrote = subst Q (nil_behind s.moments) (wrote_more h mid watch s.moments [] old between new s.wrote (wrote_none mid watch between new bytes same));
       few = record { accepted = omega arith; repeats = omega arith };
-      board = stands_behind stop b now after s.moments s.board at;
     }
 
 pub spends_end : (h : History) (m : Measure) (amount : ℕ) (b : BoardValue) (old : Option (List ℕ)) (left : ℕ) (now after : BoardValue) (between new : Option (List ℕ)) (mid watch : History)
     → SpendsOn h m amount b old left now between mid → IsTurn mid m left now between new (Ok turn.Spent) after watch → SpentCharge h m amount b old new None after watch
-spends_end h m amount b old left now after between new mid watch s (c, few, bytes, same, at) = ends_so h m amount b old left now after between new mid watch None s c few bytes same at
+spends_end h m amount b old left now after between new mid watch s (c, few, bytes, same) = ends_so h m amount b old left now after between new mid watch None s c few bytes same
 
 pub spends_stop : (h : History) (m : Measure) (amount : ℕ) (b : BoardValue) (old : Option (List ℕ)) (left : ℕ) (now after : BoardValue) (between new : Option (List ℕ)) (mid watch : History) (stop : Stop)
     → SpendsOn h m amount b old left now between mid → IsTurn mid m left now between new (Ok (turn.Stopped stop)) after watch → SpentCharge h m amount b old new (Some stop) after watch
-spends_stop h m amount b old left now after between new mid watch stop s (c, few, bytes, same) = ends_so h m amount b old left now after between new mid watch (Some stop) s c few bytes same tt
+spends_stop h m amount b old left now after between new mid watch stop s (c, few, bytes, same) = ends_so h m amount b old left now after between new mid watch (Some stop) s c few bytes same
+
+-- a text is written, and then a front of the next
+pub breaks_behind : (old mid new : Option (List ℕ)) (a b next : List ℕ) → Appends old mid a → BreaksOff mid new b next → BreaksOff old new (a ++ b) next
+breaks_behind old mid new a b next p q =
+    let P : List ℕ → Type 0 = λ t. Appends old new t in
+    record { count = q.count; proper = q.proper; held = subst P (sym (append_assoc a b (take q.count next))) (appends_more old mid new a (b ++ take q.count next) p q.held) }
+
+pub breaks_first : (old new : Option (List ℕ)) (next : List ℕ) → AppendsProperPrefix old new next → BreaksOff old new [] next
+breaks_first old new next p = record { count = p.count; proper = p.proper; held = p.held }
+
+-- behind moments whose lines are written, those of one more are written in part
+in_lines : (h mid : History) (ms : List Moment) (moment : Moment) (old between new : Option (List ℕ)) → Wrote h ms old between mid → AppendsProperPrefix between new (moment_lines mid moment)
+    → BreaksOff old new (lines_from h ms) (moment_lines (after_all h ms) moment)
+in_lines h mid ms moment old between new w p =
+    let P : List ℕ → Type 0 = λ t. BreaksOff old new t (moment_lines (after_all h ms) moment) in
+    let Q : History → Type 0 = λ x. AppendsProperPrefix between new (moment_lines x moment) in
+    subst P (nil_behind (lines_from h ms)) (breaks_behind old between new (lines_from h ms) [] (moment_lines (after_all h ms) moment) w.written (breaks_first between new _ (subst Q w.history p)))
 
 pub spends_err : (h : History) (m : Measure) (amount : ℕ) (b : BoardValue) (old : Option (List ℕ)) (left : ℕ) (now after : BoardValue) (between new : Option (List ℕ)) (mid : History)
     → SpendsOn h m amount b old left now between mid → TurnedPartly mid m left now between new after
-    → (r : RunOutcome) × ChargeRun m amount b r × StoppedWriting h b r old new after
+    → (r : RunOutcome) × ChargeRun m amount b r × IsCutInMoment h [] r.moments old new after
 spends_err h m amount b old left now after between new mid s t =
-    let later = charge_run m t.rest after in
-    let whole : RunOutcome = after_moments s.moments (after_moments (t.moment ∷ []) later.0) in
-    let lines : lines_from h whole.moments ≡ lines_from h s.moments ++ (moment_lines mid t.moment ++ lines_from (noted mid t.moment) later.0.moments) =
-    lines_append h s.moments (t.moment ∷ later.0.moments) ∙ ap (λ x. lines_from h s.moments ++ lines_from x (t.moment ∷ later.0.moments)) (sym s.wrote.history) in
-    let P : List ℕ → Type 0 = λ x. AppendsProperPrefix old new x in (
-      whole,
+    let later = charge_run m t.rest after in (
+      after_moments s.moments (after_moments (t.moment ∷ []) later.0),
       s.run _ (t.first.run later.0 later.1),
       record {
-        board = (s.moments ++ t.moment ∷ [], later.0.moments, sym (append_assoc s.moments (t.moment ∷ []) later.0.moments), sym t.first.board ∙ sym (board_append b s.moments (t.moment ∷ [])));
-        written = subst P (sym lines) (part_of_second old between new (lines_from h s.moments) (moment_lines mid t.moment ++ lines_from (noted mid t.moment) later.0.moments) s.wrote.written
-            (part_of_first between new (moment_lines mid t.moment) (lines_from (noted mid t.moment) later.0.moments) t.written));
+        before = s.moments;
+        moment = t.moment;
+        later = later.0.moments;
+        split = refl;
+        board = sym t.first.board;
+        written = in_lines h mid s.moments t.moment old between new s.wrote t.written;
       },
     )
 
 spent_err : (h watch : History) (m : Measure) (amount : ℕ) (b after : BoardValue) (old new : Option (List ℕ)) (result : Result (Option Stop) Failed) → IsErr result
-    → (r : RunOutcome) × ChargeRun m amount b r × StoppedWriting h b r old new after → IsSpent h m amount b old new result after watch
+    → (r : RunOutcome) × ChargeRun m amount b r × IsCutInMoment h [] r.moments old new after → IsSpent h m amount b old new result after watch
 spent_err h watch m amount b after old new (Ok o) e p = cc
 spent_err h watch m amount b after old new (Err f) e p = p
 

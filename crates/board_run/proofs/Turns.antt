@@ -45,12 +45,12 @@ one_more b after number o e =
 
 -- a charge that can't be begun, or is too dear
 pub spent_now : (m : Measure) (left : ℕ) (b : BoardValue) (h : History) (old : Option (List ℕ)) → left ≡ 0
-    → ChargeRun m left b (run_outcome [] Charges b) × FewMore b b 0 × Appends old old [] × (h ≡ h) × (b ≡ b)
-spent_now m left b h old e = (Spent left b e, no_more b, appends_none old, refl, refl)
+    → ChargeRun m left b (run_outcome [] Charges b) × FewMore b b 0 × Appends old old [] × (h ≡ h)
+spent_now m left b h old e = (Spent left b e, no_more b, appends_none old, refl)
 
 pub too_dear : (m : Measure) (left : ℕ) (b : BoardValue) (i : Instr) (h : History) (old : Option (List ℕ)) → 0 < left → IsNextInstruction b i → left < price m i
-    → ChargeRun m left b (run_outcome [] Charges b) × FewMore b b 0 × Appends old old [] × (h ≡ h) × (b ≡ b)
-too_dear m left b i h old pos next dear = (TooDear left b i pos next dear, no_more b, appends_none old, refl, refl)
+    → ChargeRun m left b (run_outcome [] Charges b) × FewMore b b 0 × Appends old old [] × (h ≡ h)
+too_dear m left b i h old pos next dear = (TooDear left b i pos next dear, no_more b, appends_none old, refl)
 
 pub stopped_now : (m : Measure) (left : ℕ) (b : BoardValue) (stop : Stop) (h : History) (old : Option (List ℕ)) → 0 < left → IsStoppedBy b stop
     → ChargeRun m left b (run_outcome [] (Stopped stop) b) × FewMore b b 0 × Appends old old [] × (h ≡ h)

@@ -9,7 +9,7 @@ use Rattle.fram_board.specs.Run.{Measure, Moment, End, Charges, Stopped, RunOutc
 use Rattle.board_run.specs.declared.spend.Turn.{Turn}
 use Rattle.board_run.specs.declared.spend.Turn.TheVariants as turn
 use Rattle.board_run.specs.History.{History, moment_lines, noted}
-use Rattle.board_run.specs.Report.{lines_from, after_all, board_after, IsBehindSome}
+use Rattle.board_run.specs.Report.{lines_from, after_all, IsCutInMoment}
 
 -- at most so many words more were offered to the receiver
 pub record FewMore (b after : BoardValue) (n : ℕ) : Type 0 where
@@ -40,7 +40,7 @@ pub record TurnedPartly (h : History) (m : Measure) (left : ℕ) (b : BoardValue
 -- a turn of a charge: what it answers, with what was written and the board and history then
 abbrev pub IsTurn : History → Measure → ℕ → BoardValue → Option (List ℕ) → Option (List ℕ) → Result Turn Failed → BoardValue → History → Type 0
 IsTurn h m left b old new (Ok (turn.Left rest)) after now = Turned h m left b old new rest after now
-IsTurn h m left b old new (Ok turn.Spent) after now = ChargeRun m left b (run_outcome [] Charges after) × FewMore b after 0 × Appends old new [] × (now ≡ h) × (after ≡ b)
+IsTurn h m left b old new (Ok turn.Spent) after now = ChargeRun m left b (run_outcome [] Charges after) × FewMore b after 0 × Appends old new [] × (now ≡ h)
 IsTurn h m left b old new (Ok (turn.Stopped stop)) after now = ChargeRun m left b (run_outcome [] (Stopped stop) after) × FewMore b after 0 × Appends old new [] × (now ≡ h)
 IsTurn h m left b old new (Err e) after now = TurnedPartly h m left b old new after
 
@@ -54,33 +54,21 @@ abbrev pub ended : Option Stop → End
 ended None = Charges
 ended (Some stop) = Stopped stop
 
--- where a charge is spent, the board is the one behind its moments
-abbrev pub StandsBehind : Option Stop → BoardValue → List Moment → BoardValue → Type 0
-StandsBehind None b ms after = after ≡ board_after b ms
-StandsBehind (Some stop) b ms after = Unit {0}
-
 -- the rest of a charge, to its end
 pub record SpentCharge (h : History) (m : Measure) (left : ℕ) (b : BoardValue) (old new : Option (List ℕ)) (stop : Option Stop) (after : BoardValue) (now : History) : Type 0 where
   pub moments : List Moment
   pub run : ChargeRun m left b (run_outcome moments (ended stop) after)
   pub wrote : Wrote h moments old new now
   pub few : FewMore b after left
-  pub board : StandsBehind stop b moments after
-
--- lines of a run weren't written whole: the board is one of the run
-pub record StoppedWriting (h : History) (b : BoardValue) (r : RunOutcome) (old new : Option (List ℕ)) (after : BoardValue) : Type 0 where
-  pub board : IsBehindSome b r.moments after
-  pub written : AppendsProperPrefix old new (lines_from h r.moments)
 
 -- the rest of a charge
 abbrev pub IsSpent : History → Measure → ℕ → BoardValue → Option (List ℕ) → Option (List ℕ) → Result (Option Stop) Failed → BoardValue → History → Type 0
 IsSpent h m left b old new (Ok stop) after now = SpentCharge h m left b old new stop after now
-IsSpent h m left b old new (Err e) after now = (r : RunOutcome) × ChargeRun m left b r × StoppedWriting h b r old new after
+IsSpent h m left b old new (Err e) after now = (r : RunOutcome) × ChargeRun m left b r × IsCutInMoment h [] r.moments old new after
 
 -- charges that come first, all of them spent
-pub record WentThrough (cs : List BoardCharge) (b : BoardValue) (ms : List Moment) (after : BoardValue) : Type 0 where
-  pub run : (more : List BoardCharge) (r : RunOutcome) → Run more after r → Run (cs ++ more) b (after_moments ms r)
-  pub board : after ≡ board_after b ms
+abbrev pub WentThrough : List BoardCharge → BoardValue → List Moment → BoardValue → Type 0
+WentThrough cs b ms after = (more : List BoardCharge) (r : RunOutcome) → Run more after r → Run (cs ++ more) b (after_moments ms r)
 
 -- charges that come first, in which the board stopped
 abbrev pub StoppedIn : List BoardCharge → BoardValue → List Moment → Stop → BoardValue → Type 0
@@ -100,4 +88,4 @@ pub record SpentCharges (h : History) (cs : List BoardCharge) (b : BoardValue) (
 -- charges that come first, with at most so many instructions
 abbrev pub AreSpent : History → List BoardCharge → BoardValue → Option (List ℕ) → Option (List ℕ) → Result (Option Stop) Failed → BoardValue → History → ℕ → Type 0
 AreSpent h cs b old new (Ok stop) after now n = SpentCharges h cs b old new stop after now n
-AreSpent h cs b old new (Err e) after now n = (more : List BoardCharge) → (r : RunOutcome) × Run (cs ++ more) b r × StoppedWriting h b r old new after
+AreSpent h cs b old new (Err e) after now n = (more : List BoardCharge) → (r : RunOutcome) × Run (cs ++ more) b r × IsCutInMoment h [] r.moments old new after

@@ -1,5 +1,5 @@
 -- The report of a run.
-use Rattle.std.specs.Prelude.{◌≡◌, ℕ, List, [], ◌∷◌, ◌++◌, Result, Ok, Err, Option, ◌⊎◌, ◌≤◌}
+use Rattle.std.specs.Prelude.{◌≡◌, ℕ, List, [], ◌∷◌, ◌++◌, length, take, Result, Ok, Err, Option, ◌<◌, ◌≤◌}
 use Rattle.std.specs.Io.KnownBytes.{Appends}
 use Rattle.alp_io.specs.Count.{Rose}
 use Rattle.alp_io.specs.Sink.{AppendsProperPrefix}
@@ -48,19 +48,6 @@ answer_of (Stopped stop.NoReading) = Ok run_end.Readings
 answer_of (Stopped (stop.Illegal pc word)) = Err (fault.Illegal pc word)
 answer_of (Stopped (stop.Bus pc address)) = Err (fault.Bus pc address)
 
--- the board behind moments
-abbrev pub board_after : BoardValue → List Moment → BoardValue
-board_after b [] = b
-board_after b (m ∷ ms) = board_after m.after ms
-
--- the board behind the first of these moments
-abbrev pub IsBehindSome : BoardValue → List Moment → BoardValue → Type 0
-IsBehindSome b ms after = (done : List Moment) × (rest : List Moment) × (ms ≡ done ++ rest) × (after ≡ board_after b done)
-
--- a board of a run: one behind some of its moments, or the one at its end
-abbrev pub IsBoardOf : BoardValue → RunOutcome → BoardValue → Type 0
-IsBoardOf b r after = IsBehindSome b r.moments after ⊎ (after ≡ r.board)
-
 -- a text of a run is written whole, and the answer, the board and the history are those at its end
 pub record IsWhole (h : History) (r : RunOutcome) (text : List ℕ) (old new : Option (List ℕ)) (result : Result RunEnd RunFault) (after : BoardValue) (now : History) : Type 0 where
   pub answer : result ≡ answer_of r.ending
@@ -68,25 +55,51 @@ pub record IsWhole (h : History) (r : RunOutcome) (text : List ℕ) (old new : O
   pub history : now ≡ after_all h r.moments
   pub written : Appends old new text
 
--- a text of a run wasn't written whole, and the board is one of the run
-pub record IsCut (b : BoardValue) (r : RunOutcome) (text : List ℕ) (old new : Option (List ℕ)) (after : BoardValue) : Type 0 where
-  pub board : IsBoardOf b r after
-  pub written : AppendsProperPrefix old new text
+-- the known bytes grow by the first text, and by a proper prefix of the next
+pub record BreaksOff (old new : Option (List ℕ)) (text next : List ℕ) : Type 0 where
+  pub count : ℕ
+  pub proper : count < length next
+  pub held : Appends old new (text ++ take count next)
 
--- what is answered of the run of a board under charges, of which a text is written
-abbrev pub IsTold : (History → RunOutcome → List ℕ) → History → List BoardCharge → BoardValue → Option (List ℕ) → Option (List ℕ) → Result RunEnd RunFault → BoardValue → History → Type 0
-IsTold text h cs b old new (Ok end) after now = (r : RunOutcome) × Run cs b r × IsWhole h r (text h r) old new (Ok end) after now
-IsTold text h cs b old new (Err (fault.Illegal pc word)) after now = (r : RunOutcome) × Run cs b r × IsWhole h r (text h r) old new (Err (fault.Illegal pc word)) after now
-IsTold text h cs b old new (Err (fault.Bus pc address)) after now = (r : RunOutcome) × Run cs b r × IsWhole h r (text h r) old new (Err (fault.Bus pc address)) after now
-IsTold text h cs b old new (Err fault.Write) after now = (r : RunOutcome) × Run cs b r × IsCut b r (text h r) old new after
+-- Behind a text, writing broke off in the lines of one of these moments: those of all moments before it are written whole.
+-- What the moment tells of was done, and the board stands right behind it.
+pub record IsCutInMoment (h : History) (text : List ℕ) (ms : List Moment) (old new : Option (List ℕ)) (after : BoardValue) : Type 0 where
+  pub before : List Moment
+  pub moment : Moment
+  pub later : List Moment
+  pub split : ms ≡ before ++ moment ∷ later
+  pub board : after ≡ moment.after
+  pub written : BreaksOff old new (text ++ lines_from h before) (moment_lines (after_all h before) moment)
+
+-- where writing broke off in the report of a run that begins with a text, and the board that stands then
+pub data IsCutAt (h : History) (text : List ℕ) (b : BoardValue) (r : RunOutcome) (old new : Option (List ℕ)) (after : BoardValue) : Type 0 where
+  -- in the text: nothing was done, and the board is as it was
+  InText : after ≡ b → AppendsProperPrefix old new text → IsCutAt h text b r old new after
+  -- in the lines of a moment
+  InMoment : IsCutInMoment h text r.moments old new after → IsCutAt h text b r old new after
+  -- in the last line: the board is the one at the run's end
+  InLastLine : after ≡ r.board → BreaksOff old new (text ++ lines_from h r.moments) (last_line (after_all h r.moments) r.ending r.board)
+      → IsCutAt h text b r old new after
+
+-- the report of a run wasn't written whole: a proper prefix of it is, up to this place
+pub record IsCut (h : History) (text : List ℕ) (b : BoardValue) (r : RunOutcome) (old new : Option (List ℕ)) (after : BoardValue) : Type 0 where
+  pub written : AppendsProperPrefix old new (text ++ rest_of h r)
+  pub place : IsCutAt h text b r old new after
+
+-- what is answered of the run of a board under charges, of which a text and then the report but for the bound are written
+abbrev pub IsTold : List ℕ → History → List BoardCharge → BoardValue → Option (List ℕ) → Option (List ℕ) → Result RunEnd RunFault → BoardValue → History → Type 0
+IsTold text h cs b old new (Ok end) after now = (r : RunOutcome) × Run cs b r × IsWhole h r (text ++ rest_of h r) old new (Ok end) after now
+IsTold text h cs b old new (Err (fault.Illegal pc word)) after now = (r : RunOutcome) × Run cs b r × IsWhole h r (text ++ rest_of h r) old new (Err (fault.Illegal pc word)) after now
+IsTold text h cs b old new (Err (fault.Bus pc address)) after now = (r : RunOutcome) × Run cs b r × IsWhole h r (text ++ rest_of h r) old new (Err (fault.Bus pc address)) after now
+IsTold text h cs b old new (Err fault.Write) after now = (r : RunOutcome) × Run cs b r × IsCut h text b r old new after
 
 -- the same of the report
 abbrev pub IsRunOf : History → List BoardCharge → BoardValue → Option (List ℕ) → Option (List ℕ) → Result RunEnd RunFault → BoardValue → History → Type 0
-IsRunOf = IsTold report_of
+IsRunOf h = IsTold (bound_lines h.map) h
 
 -- and of the report but for the bound
 abbrev pub IsRestOf : History → List BoardCharge → BoardValue → Option (List ℕ) → Option (List ℕ) → Result RunEnd RunFault → BoardValue → History → Type 0
-IsRestOf = IsTold rest_of
+IsRestOf = IsTold []
 
 -- the last line is written, whole or not
 abbrev pub IsEndOf : History → End → BoardValue → Option (List ℕ) → Option (List ℕ) → Result RunEnd RunFault → Type 0

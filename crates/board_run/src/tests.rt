@@ -145,6 +145,35 @@ fn each_write_may_fail(rt: HostRuntime) -> Result<(), Fail> {
     Ok(())
 }
 
+// The answer of a run in which a call of the sink fails, how many words the receiver has accepted then, and how many repeats.
+fn heard_until_failure(
+    rt: &HostRuntime,
+    failing_call: u64,
+) -> Result<(Result<RunEnd, RunFault>, u64, u64), Fail> {
+    let image = parse_image(rt.alloc(), SENDS_TWICE.as_bytes())?;
+    let trace = parse_trace(rt.alloc(), b"s 100 0\n".as_slice())?;
+    let mut failing = Vec::new(rt.alloc());
+    failing.push(failing_call)?;
+    let mut sink = MemSink::new(rt.alloc(), 100000, failing)?;
+    let mut board = Board::new(rt.alloc(), &image, trace.readings())?;
+    let mut watch = Watch::new(rt.alloc(), &image)?;
+    let answer = run_into(&mut board, &trace, &mut watch, &mut sink);
+    Ok((answer, board.accepted(), board.repeats()))
+}
+
+#[test]
+fn the_board_stands_behind_the_step_of_the_line(rt: HostRuntime) -> Result<(), Fail> {
+    let (answer, accepted, repeats) = heard_until_failure(&rt, 0)?;
+    assert_eq!(rt; answer, Err(RunFault::Write));
+    assert_eq!(rt; accepted, 1);
+    assert_eq!(rt; repeats, 0);
+    let (answer, accepted, repeats) = heard_until_failure(&rt, 4)?;
+    assert_eq!(rt; answer, Err(RunFault::Write));
+    assert_eq!(rt; accepted, 1);
+    assert_eq!(rt; repeats, 1);
+    Ok(())
+}
+
 // mov #1,&0x5004; mov #5,&0x5010; mov #0,&0x5004; bis #16,sr
 const ONE_TRANSITION: &'static str =
     "@4400\n92 43 04 50 B2 40 05 00 10 50 82 43 04 50 32 D0\n10 00\n@FFFE\n00 44\nq\nmap\nbound 9\nwords 5000 5002 5004 5006 5008 500A 500C 500E\nlist 5020 1\nemits 5030 1\nversions 5040 0\nscalar x unsigned 5010\ntask a\nend\n";

@@ -195,8 +195,11 @@ fn run_charges<S: Sink>(
 /// For each charge in order power comes up with its fill word; then the board executes instructions while the charge pays for
 /// the next one, in cycles or in instructions; a charge that can't pay is spent. The run ends with `Charges` where all are
 /// spent, `Off` where CPUOFF is set, and `Readings` where a reading is wanted and none is left. `Illegal` and `Bus` are the
-/// board's faults, which the report's last line says. After `Write` the sink has a proper prefix of the report more, its
-/// count of faults rose, and the board stands behind a whole step of the run. No memory is taken.
+/// board's faults, which the report's last line says. No memory is taken.
+///
+/// After `Write` the sink's count of faults rose, and it has a proper prefix of the report more. The board stands right behind
+/// the step whose lines broke off, and those of all steps before it are whole; where the bound's line broke off it is as it was
+/// lent, and where the last line did it is the one at the run's end.
 pub fn run<S: Sink>(
     board: &mut Board,
     trace: &Trace,
