@@ -1,42 +1,36 @@
 -- From what is said of a command to what is said of the words, and what follows where nothing fails.
-use Rattle.std.proofs.Common.{◌≡◌, ◌∙◌, ◌⊎◌, inl, inr, ◌≤◌, ℕ, List, [], ◌∷◌, length, codes, Option, Some, None, IfSome, arith, refl, sym, ap, subst}
-use Rattle.std.specs.Prelude.{slice_get, unwrap_or}
+use Rattle.std.proofs.Common.{◌≡◌, ◌∙◌, ◌⊎◌, inl, inr, ◌≤◌, ℕ, List, [], ◌∷◌, length, Option, Some, None, IfSome, arith, refl, sym, ap, subst}
+use Rattle.std.specs.Prelude.{unwrap_or}
 use Rattle.alp_io.specs.Count.{Rose}
 use Rattle.alp_io.specs.Shelf.{Files, Counts}
 use Rattle.command_line.specs.CommandLine.{line_of}
-use Rattle.command_line.specs.Commands.{NamesCommand}
-use Rattle.command_line.specs.declared.Command.TheVariants as command
-use Rattle.std.specs.Borrow.{Bor}
+use Rattle.fram_board.specs.Laws.{HasOneRun}
 use Rattle.alpaca_cli.specs.declared.status.Status.{Status}
 use Rattle.alpaca_cli.specs.declared.status.Status.TheVariants.{Done, Refused, Usage, Unreadable, Unwritable, OutOfMemory, MachineFault, TooLong}
-use Rattle.alpaca_cli.specs.Commands.{Verb, mean, run, verb_text, OnLine}
+use Rattle.alpaca_cli.specs.Answers.{Answers, CommandAnswers, status_of}
+use Rattle.alpaca_cli.specs.Calls.{Call, OnLine, line_text, reads}
 use Rattle.alpaca_cli.specs.InputFiles.{AreHeld, IsFirstUnfit, here, behind, IsOverlong}
-use Rattle.alpaca_cli.specs.Ending.{Ending, well, at_fault}
-use Rattle.alpaca_cli.specs.Outputs.{IsOutput}
-use Rattle.alpaca_cli.specs.Answers.{Written, Answers, CommandAnswers, status_of}
-use Rattle.fram_board.specs.Laws.{HasOneRun}
-use Rattle.alpaca_cli.proofs.OneOutput.{SourcesExclude, one_ending, not_refused}
+use Rattle.alpaca_cli.specs.Outside.{Shelved, Written, IsSilent, WhereSilent}
+use Rattle.alpaca_cli.specs.Products.{Product, IsProduct}
+use Rattle.alpaca_cli.proofs.LineLaws.{same_call}
+use Rattle.alpaca_cli.proofs.OneProduct.{SourcesExclude, one_ending, not_refused}
 
 -- the words are a line, and this is said of its command
-pub on_line : (status : Status) (verb : Verb) (first second : List ℕ) (words : List (List ℕ)) (told : Option Files) (old new : Counts) (out err : Written)
-    → line_of words ≡ Some (verb_text verb ∷ first ∷ second ∷ []) → CommandAnswers status verb (first ∷ second ∷ []) told old new out err
-    → Answers status words told old new out err
-on_line Done verb first second words told old new out err line a = (verb, first, second, line, a)
-on_line Refused verb first second words told old new out err line a = (verb, first, second, line, a)
-on_line Usage verb first second words told old new out err line a = absurd a.2
-on_line Unreadable verb first second words told old new out err line a = (verb, first, second, line, a)
-on_line Unwritable verb first second words told old new out err line a = (verb, first, second, line, a)
-on_line OutOfMemory verb first second words told old new out err line a = a
-on_line MachineFault verb first second words told old new out err line a = (verb, first, second, line, a)
-on_line TooLong verb first second words told old new out err line a = (verb, first, second, line, a)
+pub on_line : (status : Status) (call : Call) (words : List (List ℕ)) (shelf : Shelved) (out err : Written)
+    → line_of words ≡ Some (line_text call) → CommandAnswers status call shelf out err → Answers status words shelf out err
+on_line Done call words shelf out err line a = (call, line, a)
+on_line Refused call words shelf out err line a = (call, line, a)
+on_line Usage call words shelf out err line a = absurd a.2
+on_line Unreadable call words shelf out err line a = (call, line, a)
+on_line Unwritable call words shelf out err line a = (call, line, a)
+on_line OutOfMemory call words shelf out err line a = a
+on_line MachineFault call words shelf out err line a = (call, line, a)
+on_line TooLong call words shelf out err line a = (call, line, a)
 
-abbrev lent : List ℕ → Bor (List ℕ)
-lent text = record { ref_ptr = (0, 0); now = text }
-
--- a line with two files names a command
-pub names_command : (words : List (List ℕ)) → OnLine words (λ verb files. Unit {0}) → NamesCommand words
-names_command words (mean, first, second, line, u) = (command.Mean (lent first) (lent second), line)
-names_command words (run, first, second, line, u) = (command.Run (lent first) (lent second), line)
+-- the same of a command that has no output
+pub on_silent_line : (status : Status) (call : Call) (words : List (List ℕ)) (shelf : Shelved) (out err : Written)
+    → line_of words ≡ Some (line_text call) → IsSilent out → WhereSilent (λ o. CommandAnswers status call shelf o err) → Answers status words shelf out err
+on_silent_line status call words shelf out err line silent a = on_line status call words shelf out err line (a out silent)
 
 -- ---- where nothing fails
 
@@ -65,80 +59,76 @@ is_there text le e = cc
 is_short : (text : List ℕ) → length text ≤ 1048576 → IsOverlong (Some text) → ⊥
 is_short text le lt = omega arith
 
--- a command of a line is the one of the line
-same_line : (v w : Verb) (a b c d : List ℕ) (P : Verb → List (List ℕ) → Type 0)
-    → verb_text w ∷ c ∷ d ∷ [] ≡ verb_text v ∷ a ∷ b ∷ [] → P w (c ∷ d ∷ []) → P v (a ∷ b ∷ [])
-same_line mean mean a b c d P e p = subst (P mean) (ap (λ l. (unwrap_or (slice_get l 1) a) ∷ (unwrap_or (slice_get l 2) b) ∷ []) e) p
-same_line mean run a b c d P e p = absurd (two_names (ap (λ l. unwrap_or (slice_get l 0) []) e))
-  where
-    two_names : codes "run" ≡ codes "mean" → ⊥
-    two_names e = cc
-same_line run mean a b c d P e p = absurd (two_names (ap (λ l. unwrap_or (slice_get l 0) []) e))
-  where
-    two_names : codes "mean" ≡ codes "run" → ⊥
-    two_names e = cc
-same_line run run a b c d P e p = subst (P run) (ap (λ l. (unwrap_or (slice_get l 1) a) ∷ (unwrap_or (slice_get l 2) b) ∷ []) e) p
+-- no read, no put and no write has failed
+pub record NothingFailed (old new : Counts) (out : Written) : Type 0 where
+  pub no_read : Rose old.failed_reads new.failed_reads → ⊥
+  pub no_put : Rose old.failed_puts new.failed_puts → ⊥
+  pub no_write : Rose out.faults_old out.faults_new → ⊥
 
--- what is said of a command whose files are held, accepted and read without a failure
-command_complete : HasOneRun → SourcesExclude → (status : Status) (verb : Verb) (files texts : List (List ℕ)) (f : Files) (old new : Counts) (out err : Written) (ending : Ending) (output : List ℕ)
-    → AreHeld f files texts → IsOutput verb texts ending output → (Rose old.failed_reads new.failed_reads → ⊥) → (Rose out.faults_old out.faults_new → ⊥)
-    → CommandAnswers status verb files (Some f) old new out err → (status ≡ status_of ending) ⊎ (status ≡ OutOfMemory)
-command_complete runs sources Done verb files texts f old new out err ending output held is no_read no_write a =
-    let same = same_files f files texts a.0 held a.1 in
-    inl (ap status_of (one_ending runs verb a.0 well ending _ output a.2.0.is (subst (λ ts. IsOutput verb ts ending output) same is)))
-command_complete runs sources MachineFault verb files texts f old new out err ending output held is no_read no_write a =
-    let same = same_files f files texts a.0 held a.1 in
-    inl (ap status_of (one_ending runs verb a.0 at_fault ending _ output a.2.0.is (subst (λ ts. IsOutput verb ts ending output) same is)))
-command_complete runs sources Refused verb files texts f old new out err ending output held is no_read no_write a =
-    let same = same_files f files texts a.0 held a.1 in
-    absurd (not_refused sources verb a.0 ending output _ _ (subst (λ ts. IsOutput verb ts ending output) same is) a.2.2.refused)
-command_complete runs sources Unreadable verb files texts f old new out err ending output held is no_read no_write a = absurd (cause a.1.cause)
+-- a shelf that tells these files before the call
+abbrev before : Files → Option Files → Counts → Counts → Shelved
+before f now old new = record { old = Some f; new = now; counts_old = old; counts_new = new }
+
+-- what is said of a command whose files are held, accepted and read, put and written without a failure
+command_complete : HasOneRun → SourcesExclude → (status : Status) (call : Call) (texts : List (List ℕ)) (f : Files) (now : Option Files) (old new : Counts) (out err : Written) (product : Product)
+    → AreHeld f (reads call) texts → IsProduct call texts product → NothingFailed old new out
+    → CommandAnswers status call (before f now old new) out err → (status ≡ status_of product.ending) ⊎ (status ≡ OutOfMemory)
+command_complete runs sources Done call texts f now old new out err product held is fine a =
+    let same = same_files f (reads call) texts a.0 held a.1 in
+    let one = one_ending runs call a.0 a.2.0.product product a.2.0.is (subst (λ ts. IsProduct call ts product) same is) in
+    inl (ap status_of (sym a.2.0.ends ∙ one))
+command_complete runs sources MachineFault call texts f now old new out err product held is fine a =
+    let same = same_files f (reads call) texts a.0 held a.1 in
+    let one = one_ending runs call a.0 a.2.0.product product a.2.0.is (subst (λ ts. IsProduct call ts product) same is) in
+    inl (ap status_of (sym a.2.0.ends ∙ one))
+command_complete runs sources Refused call texts f now old new out err product held is fine a =
+    let same = same_files f (reads call) texts a.0 held a.1 in
+    absurd (not_refused sources call a.0 product _ _ (subst (λ ts. IsProduct call ts product) same is) a.2.2.refused)
+command_complete runs sources Unreadable call texts f now old new out err product held is fine a = absurd (cause a.1.cause)
   where
-    cause : Rose old.failed_reads new.failed_reads ⊎ (Rose old.missing_reads new.missing_reads × IsFirstUnfit f (λ file. file ≡ None) files a.0) → ⊥
-    cause (inl rose) = no_read rose
-    cause (inr (rose, none)) = none_unfit f _ a.0 files texts is_there held none
-command_complete runs sources TooLong verb files texts f old new out err ending output held is no_read no_write a = absurd (none_unfit f _ a.0 files texts is_short held a.1.overlong)
-command_complete runs sources Unwritable verb files texts f old new out err ending output held is no_read no_write a = absurd (no_write a.2.0.failed)
-command_complete runs sources OutOfMemory verb files texts f old new out err ending output held is no_read no_write a = inr refl
-command_complete runs sources Usage verb files texts f old new out err ending output held is no_read no_write a = absurd a.2
+    cause : Rose old.failed_reads new.failed_reads ⊎ (Rose old.missing_reads new.missing_reads × IsFirstUnfit f (λ file. file ≡ None) (reads call) a.0) → ⊥
+    cause (inl rose) = fine.no_read rose
+    cause (inr (rose, none)) = none_unfit f _ a.0 (reads call) texts is_there held none
+command_complete runs sources TooLong call texts f now old new out err product held is fine a = absurd (none_unfit f _ a.0 (reads call) texts is_short held a.1.overlong)
+command_complete runs sources Unwritable call texts f now old new out err product held is fine (ts, theirs, inl broken) = absurd (fine.no_write broken.0.failed)
+command_complete runs sources Unwritable call texts f now old new out err product held is fine (ts, theirs, inr unput) = absurd (fine.no_put unput.1.unput.failed)
+command_complete runs sources OutOfMemory call texts f now old new out err product held is fine a = inr refl
+command_complete runs sources Usage call texts f now old new out err product held is fine a = absurd a.2
 
 -- the same of the words
-of_line : (status : Status) (words : List (List ℕ)) (verb : Verb) (first second : List ℕ) (told : Option Files) (old new : Counts) (out err : Written)
-    → line_of words ≡ Some (verb_text verb ∷ first ∷ second ∷ [])
-    → OnLine words (λ v files. CommandAnswers status v files told old new out err) → CommandAnswers status verb (first ∷ second ∷ []) told old new out err
-of_line status words verb first second told old new out err line a =
-    let same = ap (λ o. unwrap_or o []) (sym a.3 ∙ line) in
-    same_line verb a.0 first second a.1 a.2 (λ v files. CommandAnswers status v files told old new out err) same a.4
+of_line : (status : Status) (words : List (List ℕ)) (call : Call) (shelf : Shelved) (out err : Written)
+    → line_of words ≡ Some (line_text call) → OnLine words (λ c. CommandAnswers status c shelf out err) → CommandAnswers status call shelf out err
+of_line status words call shelf out err line a =
+    let same : line_text a.0 ≡ line_text call = ap (λ o. unwrap_or o []) (sym a.1 ∙ line) in
+    subst (λ c. CommandAnswers status c shelf out err) (same_call a.0 call same) a.2
 
-pub complete : HasOneRun → SourcesExclude → (status : Status) (words : List (List ℕ)) (verb : Verb) (first second : List ℕ) (texts : List (List ℕ)) (f : Files) (old new : Counts) (out err : Written)
-    (ending : Ending) (output : List ℕ)
-    → Answers status words (Some f) old new out err
-    → line_of words ≡ Some (verb_text verb ∷ first ∷ second ∷ []) → AreHeld f (first ∷ second ∷ []) texts → IsOutput verb texts ending output
-    → (Rose old.failed_reads new.failed_reads → ⊥) → (Rose out.faults_old out.faults_new → ⊥)
-    → (status ≡ status_of ending) ⊎ (status ≡ OutOfMemory)
-complete runs sources Usage words verb first second texts f old new out err ending output a line held is no_read no_write = absurd (a.1 (verb, first, second, line, tt))
-complete runs sources OutOfMemory words verb first second texts f old new out err ending output a line held is no_read no_write = inr refl
-complete runs sources Done words verb first second texts f old new out err ending output a line held is no_read no_write =
-    command_complete runs sources Done verb (first ∷ second ∷ []) texts f old new out err ending output held is no_read no_write (of_line Done words verb first second (Some f) old new out err line a)
-complete runs sources Refused words verb first second texts f old new out err ending output a line held is no_read no_write =
-    command_complete runs sources Refused verb (first ∷ second ∷ []) texts f old new out err ending output held is no_read no_write (of_line Refused words verb first second (Some f) old new out err line a)
-complete runs sources Unreadable words verb first second texts f old new out err ending output a line held is no_read no_write =
-    command_complete runs sources Unreadable verb (first ∷ second ∷ []) texts f old new out err ending output held is no_read no_write (of_line Unreadable words verb first second (Some f) old new out err line a)
-complete runs sources Unwritable words verb first second texts f old new out err ending output a line held is no_read no_write =
-    command_complete runs sources Unwritable verb (first ∷ second ∷ []) texts f old new out err ending output held is no_read no_write (of_line Unwritable words verb first second (Some f) old new out err line a)
-complete runs sources MachineFault words verb first second texts f old new out err ending output a line held is no_read no_write =
-    command_complete runs sources MachineFault verb (first ∷ second ∷ []) texts f old new out err ending output held is no_read no_write (of_line MachineFault words verb first second (Some f) old new out err line a)
-complete runs sources TooLong words verb first second texts f old new out err ending output a line held is no_read no_write =
-    command_complete runs sources TooLong verb (first ∷ second ∷ []) texts f old new out err ending output held is no_read no_write (of_line TooLong words verb first second (Some f) old new out err line a)
+line_complete : HasOneRun → SourcesExclude → (status : Status) (words : List (List ℕ)) (call : Call) (texts : List (List ℕ)) (f : Files) (now : Option Files) (old new : Counts) (out err : Written) (product : Product)
+    → OnLine words (λ c. CommandAnswers status c (before f now old new) out err)
+    → line_of words ≡ Some (line_text call) → AreHeld f (reads call) texts → IsProduct call texts product → NothingFailed old new out
+    → (status ≡ status_of product.ending) ⊎ (status ≡ OutOfMemory)
+line_complete runs sources status words call texts f now old new out err product a line held is fine =
+    command_complete runs sources status call texts f now old new out err product held is fine (of_line status words call (before f now old new) out err line a)
+
+complete : HasOneRun → SourcesExclude → (status : Status) (words : List (List ℕ)) (call : Call) (texts : List (List ℕ)) (f : Files) (now : Option Files) (old new : Counts) (out err : Written) (product : Product)
+    → Answers status words (before f now old new) out err
+    → line_of words ≡ Some (line_text call) → AreHeld f (reads call) texts → IsProduct call texts product → NothingFailed old new out
+    → (status ≡ status_of product.ending) ⊎ (status ≡ OutOfMemory)
+complete runs sources Usage words call texts f now old new out err product a line held is fine = absurd (a.1 (call, line, tt))
+complete runs sources OutOfMemory words call texts f now old new out err product a line held is fine = inr refl
+complete runs sources Done words call texts f now old new out err product a line held is fine = line_complete runs sources Done words call texts f now old new out err product a line held is fine
+complete runs sources Refused words call texts f now old new out err product a line held is fine = line_complete runs sources Refused words call texts f now old new out err product a line held is fine
+complete runs sources Unreadable words call texts f now old new out err product a line held is fine = line_complete runs sources Unreadable words call texts f now old new out err product a line held is fine
+complete runs sources Unwritable words call texts f now old new out err product a line held is fine = line_complete runs sources Unwritable words call texts f now old new out err product a line held is fine
+complete runs sources MachineFault words call texts f now old new out err product a line held is fine = line_complete runs sources MachineFault words call texts f now old new out err product a line held is fine
+complete runs sources TooLong words call texts f now old new out err product a line held is fine = line_complete runs sources TooLong words call texts f now old new out err product a line held is fine
 
 -- the same where the files may be untold
-pub complete_told : HasOneRun → SourcesExclude → (status : Status) (words : List (List ℕ)) (told : Option Files) (old new : Counts) (out err : Written)
-    → Answers status words told old new out err
-    → IfSome told (λ f. (verb : Verb) (first second : List ℕ) (texts : List (List ℕ)) (ending : Ending) (output : List ℕ)
-    → line_of words ≡ Some (verb_text verb ∷ first ∷ second ∷ [])
-    → AreHeld f (first ∷ second ∷ []) texts → IsOutput verb texts ending output
-    → (Rose old.failed_reads new.failed_reads → ⊥) → (Rose out.faults_old out.faults_new → ⊥)
-    → (status ≡ status_of ending) ⊎ (status ≡ OutOfMemory))
-complete_told runs sources status words None old new out err a = tt
-complete_told runs sources status words (Some f) old new out err a = λ verb first second texts ending output line held is no_read no_write.
-    complete runs sources status words verb first second texts f old new out err ending output a line held is no_read no_write
+pub complete_told : HasOneRun → SourcesExclude → (status : Status) (words : List (List ℕ)) (told now : Option Files) (old new : Counts) (out err : Written)
+    → Answers status words (record { old = told; new = now; counts_old = old; counts_new = new }) out err
+    → IfSome told (λ f. (call : Call) (texts : List (List ℕ)) (product : Product)
+    → line_of words ≡ Some (line_text call) → AreHeld f (reads call) texts → IsProduct call texts product
+    → (Rose old.failed_reads new.failed_reads → ⊥) → (Rose old.failed_puts new.failed_puts → ⊥) → (Rose out.faults_old out.faults_new → ⊥)
+    → (status ≡ status_of product.ending) ⊎ (status ≡ OutOfMemory))
+complete_told runs sources status words None now old new out err a = tt
+complete_told runs sources status words (Some f) now old new out err a = λ call texts product line held is no_read no_put no_write.
+    complete runs sources status words call texts f now old new out err product a line held is (record { no_read = no_read; no_put = no_put; no_write = no_write })

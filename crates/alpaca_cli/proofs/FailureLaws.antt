@@ -1,100 +1,172 @@
 -- Why a part of a command failed is why the command did.
-use Rattle.std.proofs.Common.{◌≡◌, ℕ, List, [], ◌∷◌, Result, Ok, Err, refl, subst, IfOk, IfErr}
-use Rattle.alpaca_cli.specs.declared.failure.Failure.{Failure}
-use Rattle.alpaca_cli.specs.declared.failure.Failure.TheVariants.{FirstRefused, SecondRefused, Write, Memory}
-use Rattle.alpaca_cli.specs.Commands.{Verb, mean, run}
-use Rattle.alpaca_cli.specs.Ending.{Ending, well}
-use Rattle.alpaca_cli.specs.Outputs.{IsOutput, IsRefused}
-use Rattle.alpaca_cli.specs.Ends.{ending_of}
-use Rattle.source_values.specs.Runs.{CheckedProgram}
-use Rattle.source_report.specs.SourceReport.{IsMeanReport}
-use Rattle.alpaca_cli.specs.Sources.{IsSourceText}
-use Rattle.alpaca_cli.specs.RunReport.{IsRunReport}
+use Rattle.std.proofs.Common.{◌≡◌, ◌∙◌, ℕ, List, [], ◌∷◌, Some, None, Result, Ok, Err, refl, sym, ap, subst, IfOk, IfErr}
+use Rattle.std.specs.Prelude.{slice_get}
+use Rattle.std.specs.Io.KnownBytes.{Appends}
+use Rattle.alp_io.specs.Shelf.{Told, Sets}
+use Rattle.alp_io.proofs.Appends.{appends_none}
 use Rattle.energy_trace.specs.TraceValue.{TraceValue}
 use Rattle.energy_trace.specs.Reading.{trace_of}
 use Rattle.image_text.specs.ImageValue.{ImageValue}
 use Rattle.image_text.specs.Reading.{image_of}
+use Rattle.source_values.specs.Runs.{CheckedProgram}
+use Rattle.source_report.specs.SourceReport.{IsMeanReport}
+use Rattle.alpaca_cli.specs.declared.failure.Failure.{Failure}
+use Rattle.alpaca_cli.specs.declared.failure.Failure.TheVariants.{Refused, Put, Write, Memory}
 use Rattle.alpaca_cli.specs.declared.run.RunEnding.{RunEnding}
-use Rattle.alpaca_cli.specs.Answers.{Written, IsWhole}
-use Rattle.alpaca_cli.specs.Outcomes.{FailsBy, FailsWriting, Gains}
+use Rattle.alpaca_cli.specs.Answers.{IsWhole}
+use Rattle.alpaca_cli.specs.Calls.{Call, mean, run, asm, dis, puts, reads}
+use Rattle.alpaca_cli.specs.Ending.{Ending, well}
+use Rattle.alpaca_cli.specs.Ends.{ending_of}
+use Rattle.alpaca_cli.specs.Outcomes.{FailsBy, FailsWriting, FailsPutting, Gains}
+use Rattle.alpaca_cli.specs.Outside.{Shelved, Written, Stands, IsSilent, WhereStands, WhereSilent, IsPut, IsUnput}
+use Rattle.alpaca_cli.specs.Products.{Product, IsProduct, IsRefused, Assembles, IsListing}
 use Rattle.alpaca_cli.specs.Refusals.{Refusal}
-use Rattle.alpaca_cli.specs.Texts.{FailsFirst, FailsSecond}
+use Rattle.alpaca_cli.specs.RunReport.{IsRunReport}
+use Rattle.alpaca_cli.specs.Sources.{IsSourceText}
+use Rattle.alpaca_cli.specs.Texts.{FailsRefused}
 use Rattle.alpaca_cli.specs.Views.{refusal_of}
 
-pub first_fails : (e : Failure) (P : Refusal → Type 0) (verb : Verb) (texts : List (List ℕ)) (out : Written)
-    → ((r : Refusal) → P r → IsRefused verb texts 0 r) → out.new ≡ out.old → FailsFirst P e → FailsBy e verb texts out
-first_fails (FirstRefused r) P verb texts out is same fails = (is (refusal_of r) fails, same)
-first_fails (SecondRefused r) P verb texts out is same fails = absurd fails
-first_fails Write P verb texts out is same fails = absurd fails
-first_fails Memory P verb texts out is same fails = same
+pub refusal_fails : (e : Failure) (name : List ℕ) (P : Refusal → Type 0) (call : Call) (texts : List (List ℕ)) (place : ℕ) (shelf : Shelved) (out : Written)
+    → slice_get (reads call) place ≡ Some name → ((r : Refusal) → P r → IsRefused call texts place r) → Stands shelf → IsSilent out
+    → FailsRefused name P e → FailsBy e call texts shelf out
+refusal_fails (Refused file r) name P call texts place shelf out named is stands silent fails = (
+  record { place = place; named = named ∙ ap Some (sym fails.0); refused = is (refusal_of r) fails.1 },
+  stands,
+  silent,
+)
+refusal_fails (Put file) name P call texts place shelf out named is stands silent fails = absurd fails
+refusal_fails Write name P call texts place shelf out named is stands silent fails = absurd fails
+refusal_fails Memory name P call texts place shelf out named is stands silent fails = (stands, silent)
 
-pub second_fails : (e : Failure) (P : Refusal → Type 0) (verb : Verb) (texts : List (List ℕ)) (out : Written)
-    → ((r : Refusal) → P r → IsRefused verb texts 1 r) → out.new ≡ out.old → FailsSecond P e → FailsBy e verb texts out
-second_fails (FirstRefused r) P verb texts out is same fails = absurd fails
-second_fails (SecondRefused r) P verb texts out is same fails = (is (refusal_of r) fails, same)
-second_fails Write P verb texts out is same fails = absurd fails
-second_fails Memory P verb texts out is same fails = same
+-- ---- a command that puts no file
 
-pub whole_by : {A : Type 0} (result : Result A Failure) (P : List ℕ → Type 0) (verb : Verb) (texts : List (List ℕ)) (ending : Ending) (out : Written)
-    → ((output : List ℕ) → P output → IsOutput verb texts ending output) → IfOk result (λ x. Gains out P) → IfOk result (λ x. IsWhole verb texts ending out)
-whole_by (Ok x) P verb texts ending out is gains = record { output = gains.0; is = is gains.0 gains.1; written = gains.2 }
-whole_by (Err e) P verb texts ending out is gains = tt
+-- the output of such a command, and how it ends
+abbrev output_alone : List ℕ → Ending → Product
+output_alone output ending = record { file = None; output = output; ending = ending }
 
-pub fails_by : {A : Type 0} (result : Result A Failure) (P : List ℕ → Type 0) (verb : Verb) (texts : List (List ℕ)) (ending : Ending) (out : Written)
-    → ((output : List ℕ) → P output → IsOutput verb texts ending output) → IfErr result (λ e. FailsWriting e out P) → IfErr result (λ e. FailsBy e verb texts out)
-fails_by (Ok x) P verb texts ending out is fails = tt
-fails_by (Err (FirstRefused r)) P verb texts ending out is fails = absurd fails
-fails_by (Err (SecondRefused r)) P verb texts ending out is fails = absurd fails
-fails_by (Err Write) P verb texts ending out is fails =
-    record { ending = ending; output = fails.0; is = is fails.0 fails.1; written = fails.2; failed = fails.3 }
-fails_by (Err Memory) P verb texts ending out is fails = fails
+none_put : (call : Call) (shelf : Shelved) → puts call ≡ None → Stands shelf → IsPut (puts call) None shelf.old shelf.new
+none_put call shelf none stands = subst (λ p. IsPut p None shelf.old shelf.new) (sym none) stands
 
--- ---- `run`
-
-pub run_whole : (result : Result RunEnding Failure) (image trace : List ℕ) (i : ImageValue) (t : TraceValue) (out : Written)
-    → image_of image ≡ Ok i → trace_of trace ≡ Ok t → IfOk result (λ ending. Gains out (IsRunReport i t (ending_of ending)))
-    → IfOk result (λ ending. IsWhole run (image ∷ trace ∷ []) (ending_of ending) out)
-run_whole (Ok ending) image trace i t out image_said trace_said gains = record {
-  output = gains.0;
-  is = record { value = i; charges = t; image_said = image_said; trace_said = trace_said; report = gains.1 };
+pub whole_by : {A : Type 0} (result : Result A Failure) (P : List ℕ → Type 0) (call : Call) (texts : List (List ℕ)) (ending : Ending) (out : Written)
+    → puts call ≡ None → ((output : List ℕ) → P output → IsProduct call texts (output_alone output ending)) → IfOk result (λ x. Gains out P)
+    → IfOk result (λ x. WhereStands (λ shelf. IsWhole call texts ending shelf out))
+whole_by (Ok x) P call texts ending out none is gains = λ shelf stands. record {
+  product = output_alone gains.0 ending;
+  is = is gains.0 gains.1;
+  ends = refl;
+  put = none_put call shelf none stands;
   written = gains.2;
 }
-run_whole (Err e) image trace i t out image_said trace_said gains = tt
+whole_by (Err e) P call texts ending out none is gains = tt
 
-pub run_fails : (result : Result RunEnding Failure) (image trace : List ℕ) (i : ImageValue) (t : TraceValue) (out : Written)
-    → image_of image ≡ Ok i → trace_of trace ≡ Ok t
-    → IfErr result (λ e. FailsWriting e out (λ output. (ending : Ending) × IsRunReport i t ending output))
-    → IfErr result (λ e. FailsBy e run (image ∷ trace ∷ []) out)
-run_fails (Ok ending) image trace i t out image_said trace_said fails = tt
-run_fails (Err (FirstRefused r)) image trace i t out image_said trace_said fails = absurd fails
-run_fails (Err (SecondRefused r)) image trace i t out image_said trace_said fails = absurd fails
-run_fails (Err Write) image trace i t out image_said trace_said fails = record {
-  ending = fails.1.0;
-  output = fails.0;
-  is = record { value = i; charges = t; image_said = image_said; trace_said = trace_said; report = fails.1.1 };
+pub fails_by : {A : Type 0} (result : Result A Failure) (P : List ℕ → Type 0) (call : Call) (texts : List (List ℕ)) (ending : Ending) (out : Written)
+    → puts call ≡ None → ((output : List ℕ) → P output → IsProduct call texts (output_alone output ending)) → IfErr result (λ e. FailsWriting e out P)
+    → IfErr result (λ e. WhereStands (λ shelf. FailsBy e call texts shelf out))
+fails_by (Ok x) P call texts ending out none is fails = tt
+fails_by (Err (Refused file r)) P call texts ending out none is fails = absurd fails
+fails_by (Err (Put name)) P call texts ending out none is fails = absurd fails
+fails_by (Err Write) P call texts ending out none is fails = λ shelf stands. record {
+  product = output_alone fails.0 ending;
+  is = is fails.0 fails.1;
+  put = none_put call shelf none stands;
   written = fails.2;
   failed = fails.3;
 }
-run_fails (Err Memory) image trace i t out image_said trace_said fails = fails
+fails_by (Err Memory) P call texts ending out none is fails = λ shelf stands. (stands, fails)
+
+-- ---- `run`
+
+pub run_whole : (result : Result RunEnding Failure) (a b image trace : List ℕ) (i : ImageValue) (t : TraceValue) (out : Written)
+    → image_of image ≡ Ok i → trace_of trace ≡ Ok t → IfOk result (λ ending. Gains out (IsRunReport i t (ending_of ending)))
+    → IfOk result (λ ending. WhereStands (λ shelf. IsWhole (run a b) (image ∷ trace ∷ []) (ending_of ending) shelf out))
+run_whole (Ok ending) a b image trace i t out image_said trace_said gains = λ shelf stands. record {
+  product = output_alone gains.0 (ending_of ending);
+  is = (record { value = i; charges = t; image_said = image_said; trace_said = trace_said; report = gains.1 }, refl);
+  ends = refl;
+  put = stands;
+  written = gains.2;
+}
+run_whole (Err e) a b image trace i t out image_said trace_said gains = tt
+
+pub run_fails : (result : Result RunEnding Failure) (a b image trace : List ℕ) (i : ImageValue) (t : TraceValue) (out : Written)
+    → image_of image ≡ Ok i → trace_of trace ≡ Ok t
+    → IfErr result (λ e. FailsWriting e out (λ output. (ending : Ending) × IsRunReport i t ending output))
+    → IfErr result (λ e. WhereStands (λ shelf. FailsBy e (run a b) (image ∷ trace ∷ []) shelf out))
+run_fails (Ok ending) a b image trace i t out image_said trace_said fails = tt
+run_fails (Err (Refused file r)) a b image trace i t out image_said trace_said fails = absurd fails
+run_fails (Err (Put name)) a b image trace i t out image_said trace_said fails = absurd fails
+run_fails (Err Write) a b image trace i t out image_said trace_said fails = λ shelf stands. record {
+  product = output_alone fails.0 fails.1.0;
+  is = (record { value = i; charges = t; image_said = image_said; trace_said = trace_said; report = fails.1.1 }, refl);
+  put = stands;
+  written = fails.2;
+  failed = fails.3;
+}
+run_fails (Err Memory) a b image trace i t out image_said trace_said fails = λ shelf stands. (stands, fails)
 
 -- ---- `mean`, whose source keeps its text
 
-pub mean_whole : {A : Type 0} (result : Result A Failure) (source trace text : List ℕ) (p : CheckedProgram) (t : TraceValue) (out : Written)
-    → text ≡ source → IsSourceText source p → trace_of trace ≡ Ok t → IfOk result (λ x. Gains out (IsMeanReport text p t.readings))
-    → IfOk result (λ x. IsWhole mean (source ∷ trace ∷ []) well out)
-mean_whole result source trace text p t out kept source_said trace_said gains =
-    whole_by result (IsMeanReport text p t.readings) mean (source ∷ trace ∷ []) well out
-    (λ output is. (
-      refl,
-      record { program = p; value = t; source_said = source_said; trace_said = trace_said; report = subst (λ x. IsMeanReport x p t.readings output) kept is },
-    )) gains
+mean_product : (a b source trace text : List ℕ) (p : CheckedProgram) (t : TraceValue) → text ≡ source → IsSourceText source p → trace_of trace ≡ Ok t
+    → (output : List ℕ) → IsMeanReport text p t.readings output → IsProduct (mean a b) (source ∷ trace ∷ []) (output_alone output well)
+mean_product a b source trace text p t kept source_said trace_said output is = (
+  record { program = p; value = t; source_said = source_said; trace_said = trace_said; report = subst (λ x. IsMeanReport x p t.readings output) kept is },
+  refl,
+  refl,
+)
 
-pub mean_fails : {A : Type 0} (result : Result A Failure) (source trace text : List ℕ) (p : CheckedProgram) (t : TraceValue) (out : Written)
+pub mean_whole : {A : Type 0} (result : Result A Failure) (a b source trace text : List ℕ) (p : CheckedProgram) (t : TraceValue) (out : Written)
+    → text ≡ source → IsSourceText source p → trace_of trace ≡ Ok t → IfOk result (λ x. Gains out (IsMeanReport text p t.readings))
+    → IfOk result (λ x. WhereStands (λ shelf. IsWhole (mean a b) (source ∷ trace ∷ []) well shelf out))
+mean_whole result a b source trace text p t out kept source_said trace_said gains =
+    whole_by result (IsMeanReport text p t.readings) (mean a b) (source ∷ trace ∷ []) well out refl (mean_product a b source trace text p t kept source_said trace_said) gains
+
+pub mean_fails : {A : Type 0} (result : Result A Failure) (a b source trace text : List ℕ) (p : CheckedProgram) (t : TraceValue) (out : Written)
     → text ≡ source → IsSourceText source p → trace_of trace ≡ Ok t → IfErr result (λ e. FailsWriting e out (IsMeanReport text p t.readings))
-    → IfErr result (λ e. FailsBy e mean (source ∷ trace ∷ []) out)
-mean_fails result source trace text p t out kept source_said trace_said fails =
-    fails_by result (IsMeanReport text p t.readings) mean (source ∷ trace ∷ []) well out
-    (λ output is. (
-      refl,
-      record { program = p; value = t; source_said = source_said; trace_said = trace_said; report = subst (λ x. IsMeanReport x p t.readings output) kept is },
-    )) fails
+    → IfErr result (λ e. WhereStands (λ shelf. FailsBy e (mean a b) (source ∷ trace ∷ []) shelf out))
+mean_fails result a b source trace text p t out kept source_said trace_said fails =
+    fails_by result (IsMeanReport text p t.readings) (mean a b) (source ∷ trace ∷ []) well out refl (mean_product a b source trace text p t kept source_said trace_said) fails
+
+-- ---- `dis`
+
+pub dis_whole : {A : Type 0} (result : Result A Failure) (a image : List ℕ) (i : ImageValue) (out : Written)
+    → image_of image ≡ Ok i → IfOk result (λ x. Gains out (IsListing i.words))
+    → IfOk result (λ x. WhereStands (λ shelf. IsWhole (dis a) (image ∷ []) well shelf out))
+dis_whole result a image i out said gains =
+    whole_by result (IsListing i.words) (dis a) (image ∷ []) well out refl (λ output is. (record { value = i; said = said; listing = is }, refl, refl)) gains
+
+pub dis_fails : {A : Type 0} (result : Result A Failure) (a image : List ℕ) (i : ImageValue) (out : Written)
+    → image_of image ≡ Ok i → IfErr result (λ e. FailsWriting e out (IsListing i.words))
+    → IfErr result (λ e. WhereStands (λ shelf. FailsBy e (dis a) (image ∷ []) shelf out))
+dis_fails result a image i out said fails =
+    fails_by result (IsListing i.words) (dis a) (image ∷ []) well out refl (λ output is. (record { value = i; said = said; listing = is }, refl, refl)) fails
+
+-- ---- `asm`, which writes nothing
+
+-- the file that it puts
+abbrev put_text : List ℕ → Product
+put_text file = record { file = Some file; output = []; ending = well }
+
+pub asm_whole : {A : Type 0} (result : Result A Failure) (a i assembly file bytes : List ℕ) (shelf : Shelved) → Assembles assembly file → bytes ≡ file
+    → IfOk result (λ x. Told shelf.old shelf.new (Sets i bytes)) → IfOk result (λ x. WhereSilent (IsWhole (asm a i) (assembly ∷ []) well shelf))
+asm_whole (Ok x) a i assembly file bytes shelf is same put = λ out silent. record {
+  product = put_text file;
+  is = (is, refl, refl);
+  ends = refl;
+  put = subst (λ f. Told shelf.old shelf.new (Sets i f)) same put;
+  written = subst (λ now. Appends out.old now []) (sym silent) (appends_none out.old);
+}
+asm_whole (Err e) a i assembly file bytes shelf is same put = tt
+
+pub asm_fails : {A : Type 0} (result : Result A Failure) (a i assembly file : List ℕ) (shelf : Shelved) → Assembles assembly file
+    → IfErr result (λ e. FailsPutting e i shelf) → IfErr result (λ e. WhereSilent (FailsBy e (asm a i) (assembly ∷ []) shelf))
+asm_fails (Ok x) a i assembly file shelf is fails = tt
+asm_fails (Err (Refused named r)) a i assembly file shelf is fails = absurd fails
+asm_fails (Err (Put named)) a i assembly file shelf is fails = λ out silent. record {
+  product = put_text file;
+  is = (is, refl, refl);
+  named = ap Some (sym fails.0);
+  unput = subst (λ n. IsUnput n shelf) (sym fails.0) fails.1;
+  silent = silent;
+}
+asm_fails (Err Write) a i assembly file shelf is fails = absurd fails
+asm_fails (Err Memory) a i assembly file shelf is fails = λ out silent. (fails, silent)

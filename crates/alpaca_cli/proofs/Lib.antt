@@ -1,7 +1,11 @@
 mod Answered
+mod AssemblyLaws
 mod FailureLaws
-mod OneOutput
+mod LineLaws
+mod OneProduct
 mod Refused
 mod RunLaws
+mod ShelfLaws
 mod SourceLaws
+mod StatusLaws
 mod UnreadFiles

@@ -1,18 +1,12 @@
--- Failures that are refusals of one kind are refusals of a wider one.
-use Rattle.std.proofs.Common.{◌≡◌, sym, subst}
+-- A failure that is a refusal of one kind is one of a wider kind.
+use Rattle.std.proofs.Common.{◌≡◌, ℕ, List, sym, subst}
 use Rattle.alpaca_cli.specs.declared.failure.Failure.{Failure}
-use Rattle.alpaca_cli.specs.declared.failure.Failure.TheVariants.{FirstRefused, SecondRefused, Write, Memory}
+use Rattle.alpaca_cli.specs.declared.failure.Failure.TheVariants.{Refused, Put, Write, Memory}
 use Rattle.alpaca_cli.specs.Refusals.{Refusal}
-use Rattle.alpaca_cli.specs.Texts.{FailsFirst, FailsSecond}
+use Rattle.alpaca_cli.specs.Texts.{FailsRefused}
 
-pub first_as : (e : Failure) (r : Refusal) (P : Refusal → Type 0) → FailsFirst (λ x. x ≡ r) e → P r → FailsFirst P e
-first_as (FirstRefused x) r P is p = subst P (sym is) p
-first_as (SecondRefused x) r P is p = is
-first_as Write r P is p = is
-first_as Memory r P is p = tt
-
-pub second_as : (e : Failure) (r : Refusal) (P : Refusal → Type 0) → FailsSecond (λ x. x ≡ r) e → P r → FailsSecond P e
-second_as (FirstRefused x) r P is p = is
-second_as (SecondRefused x) r P is p = subst P (sym is) p
-second_as Write r P is p = is
-second_as Memory r P is p = tt
+pub refused_as : (e : Failure) (name : List ℕ) (r : Refusal) (P : Refusal → Type 0) → FailsRefused name (λ x. x ≡ r) e → P r → FailsRefused name P e
+refused_as (Refused file x) name r P is p = (is.0, subst P (sym is.1) p)
+refused_as (Put file) name r P is p = is
+refused_as Write name r P is p = is
+refused_as Memory name r P is p = tt

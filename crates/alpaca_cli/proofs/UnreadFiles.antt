@@ -52,7 +52,7 @@ first_unread Memory files a b old new u = tt
 
 -- ---- the second, behind one that fits
 
-rose_later : (old mid new : ℕ) → old ≤ mid → Rose mid new → Rose old new
+pub rose_later : (old mid new : ℕ) → old ≤ mid → Rose mid new → Rose old new
 rose_later old mid new le (inl lt) = inl (omega arith)
 rose_later old mid new le (inr e) = inr e
 

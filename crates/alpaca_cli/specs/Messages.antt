@@ -16,6 +16,10 @@ unreadable_line name = texts (codes "cannot read " ∷ name ∷ codes "\n" ∷ [
 unfoldable pub too_long_line : List ℕ → List ℕ
 too_long_line name = texts (codes "too long " ∷ name ∷ codes "\n" ∷ [])
 
+-- the line where a file could not be put
+unfoldable pub unput_line : List ℕ → List ℕ
+unput_line name = texts (codes "cannot write " ∷ name ∷ codes "\n" ∷ [])
+
 -- the line where a write to the output failed
 unfoldable pub unwritable_line : List ℕ
 unwritable_line = texts (codes "cannot write output\n" ∷ [])

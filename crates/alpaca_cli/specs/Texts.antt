@@ -5,7 +5,7 @@ use Rattle.energy_trace.specs.Reading.{trace_of}
 use Rattle.image_text.specs.declared.fault.ImageFault.TheVariants as image_fault
 use Rattle.image_text.specs.Reading.{image_of}
 use Rattle.alpaca_cli.specs.declared.failure.Failure.{Failure}
-use Rattle.alpaca_cli.specs.declared.failure.Failure.TheVariants.{FirstRefused, SecondRefused, Write, Memory}
+use Rattle.alpaca_cli.specs.declared.failure.Failure.TheVariants.{Refused, Put, Write, Memory}
 use Rattle.alpaca_cli.specs.Refusals.{Refusal, plain}
 use Rattle.alpaca_cli.specs.Views.{refusal_of}
 
@@ -22,16 +22,9 @@ pub data RefusesImage (text : List ℕ) : Refusal → Type 0 where
   no_reset : image_of text ≡ Err image_fault.NoReset → RefusesImage text (plain 0 (codes "NoReset"))
   bad_map : (n : ℕ) → image_of text ≡ Err (image_fault.BadMap n) → RefusesImage text (plain n (codes "BadMap"))
 
--- the first text is refused in this way, or memory was
-abbrev pub FailsFirst : (Refusal → Type 0) → Failure → Type 0
-FailsFirst P (FirstRefused r) = P (refusal_of r)
-FailsFirst P (SecondRefused r) = ⊥
-FailsFirst P Write = ⊥
-FailsFirst P Memory = Unit {0}
-
--- the second text is refused in this way, or memory was
-abbrev pub FailsSecond : (Refusal → Type 0) → Failure → Type 0
-FailsSecond P (FirstRefused r) = ⊥
-FailsSecond P (SecondRefused r) = P (refusal_of r)
-FailsSecond P Write = ⊥
-FailsSecond P Memory = Unit {0}
+-- the text of this file is refused in this way, or memory was
+abbrev pub FailsRefused : List ℕ → (Refusal → Type 0) → Failure → Type 0
+FailsRefused name P (Refused file r) = (file.now ≡ name) × P (refusal_of r)
+FailsRefused name P (Put file) = ⊥
+FailsRefused name P Write = ⊥
+FailsRefused name P Memory = Unit {0}

@@ -8,13 +8,14 @@ use Rattle.alpaca_cli.specs.declared.failure.Failure.{Failure}
 use Rattle.alpaca_cli.specs.declared.failure.Failure.TheVariants as failure
 use Rattle.alpaca_cli.specs.Refusals.{refused_line}
 use Rattle.alpaca_cli.specs.Views.{refusal_of}
-use Rattle.alpaca_cli.specs.Messages.{Tells, unreadable_line, too_long_line, unwritable_line, memory_line}
-use Rattle.alpaca_cli.specs.Answers.{Written}
+use Rattle.alpaca_cli.specs.Messages.{unreadable_line, too_long_line, unput_line, unwritable_line, memory_line}
+use Rattle.alpaca_cli.specs.Outside.{Written}
+use Rattle.alpaca_cli.specs.Answers.{IsLineOf}
 
 -- this status, and this line
 pub record IsTold (status wanted : Status) (err : Written) (line : List ℕ) : Type 0 where
   pub is : status ≡ wanted
-  pub told : Tells err.old err.new err.faults_old err.faults_new line
+  pub told : IsLineOf line err
 
 -- why the files weren't read
 abbrev pub TellsUnread : Unread → Status → Written → Type 0
@@ -22,9 +23,9 @@ TellsUnread (unread.Unreadable name) s err = IsTold s status.Unreadable err (unr
 TellsUnread (unread.TooLong name) s err = IsTold s status.TooLong err (too_long_line name.now)
 TellsUnread unread.Memory s err = IsTold s status.OutOfMemory err memory_line
 
--- why the output of a command with these two files isn't whole
-abbrev pub TellsFailure : Failure → List ℕ → List ℕ → Status → Written → Type 0
-TellsFailure (failure.FirstRefused r) first second s err = IsTold s status.Refused err (refused_line first (refusal_of r))
-TellsFailure (failure.SecondRefused r) first second s err = IsTold s status.Refused err (refused_line second (refusal_of r))
-TellsFailure failure.Write first second s err = IsTold s status.Unwritable err unwritable_line
-TellsFailure failure.Memory first second s err = IsTold s status.OutOfMemory err memory_line
+-- why a command isn't whole
+abbrev pub TellsFailure : Failure → Status → Written → Type 0
+TellsFailure (failure.Refused file r) s err = IsTold s status.Refused err (refused_line file.now (refusal_of r))
+TellsFailure (failure.Put name) s err = IsTold s status.Unwritable err (unput_line name.now)
+TellsFailure failure.Write s err = IsTold s status.Unwritable err unwritable_line
+TellsFailure failure.Memory s err = IsTold s status.OutOfMemory err memory_line

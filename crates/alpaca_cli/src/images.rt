@@ -1,40 +1,28 @@
 //! An image text, read for a command.
 ghost use Rattle.std.specs.Prelude.{◌≡◌, ◌<◌, IfOk, IfErr, Ok, length};
 ghost use Rattle.image_text.specs.Reading.{image_of};
-ghost use Rattle.alpaca_cli.specs.Refusals.{plain};
-ghost use Rattle.alpaca_cli.specs.Texts.{RefusesImage, FailsFirst};
+ghost use Rattle.alpaca_cli.specs.Texts.{RefusesImage, FailsRefused};
 
-use crate::failure::Failure;
-use crate::refusal::{Detail, Refusal};
+use crate::failure::{Failure, refused_plainly};
 use image_text::{Image, ImageFault, parse_image};
 use std::alloc::Global;
 
-fn refused<'t>(line: u32, kind: &'static str) -> Failure<'t>
-    ensures { FailsFirst (λ r. r ≡ plain line kind.now) result }
-{
-    Failure::FirstRefused(Refusal {
-        line,
-        kind,
-        detail: Detail::Nothing,
-    })
-}
-
-/// The image that the first text of a command is.
+/// The image that the text of a named file is.
 ///
 /// # Errors
-/// `FirstRefused` with the text's first fault; `Memory` where memory was refused.
-pub fn image_of<'t>(alloc: Global, text: &[u8]) -> Result<Image, Failure<'t>>
+/// `Refused` with the text's first fault; `Memory` where memory was refused.
+pub fn image_of<'t>(alloc: Global, file: &'t str, text: &[u8]) -> Result<Image, Failure<'t>>
     requires { length text.now < 4294967295 }
     ensures said { IfOk result (λ image. image_of text.now ≡ Ok image) }
-    ensures refused { IfErr result (FailsFirst (RefusesImage text.now)) }
+    ensures refused { IfErr result (FailsRefused file.now (RefusesImage text.now)) }
 {
     match parse_image(alloc, text) {
         Ok(image) => Ok(image),
-        Err(ImageFault::BadLine { line }) => Err(refused(line, "BadLine")),
-        Err(ImageFault::OutsideFram { line }) => Err(refused(line, "OutsideFram")),
-        Err(ImageFault::Twice { line }) => Err(refused(line, "Twice")),
-        Err(ImageFault::NoReset) => Err(refused(0, "NoReset")),
-        Err(ImageFault::BadMap { line }) => Err(refused(line, "BadMap")),
+        Err(ImageFault::BadLine { line }) => Err(refused_plainly(file, line, "BadLine")),
+        Err(ImageFault::OutsideFram { line }) => Err(refused_plainly(file, line, "OutsideFram")),
+        Err(ImageFault::Twice { line }) => Err(refused_plainly(file, line, "Twice")),
+        Err(ImageFault::NoReset) => Err(refused_plainly(file, 0, "NoReset")),
+        Err(ImageFault::BadMap { line }) => Err(refused_plainly(file, line, "BadMap")),
         Err(ImageFault::Memory) => Err(Failure::Memory),
     }
 }

@@ -26,7 +26,11 @@ pub struct Texts {
     pub second: Vec<u8>,
 }
 
-fn read_file<'n, H: Shelf>(
+/// Reads a file of at most 1,048,576 bytes.
+///
+/// # Errors
+/// `Unreadable` or `TooLong` with the name of the file; `Memory` where memory was refused.
+pub fn read_file<'n, H: Shelf>(
     alloc: Global,
     shelf: &mut H,
     name: &'n str,

@@ -1,12 +1,17 @@
 //! The commands of the program, over any files and outputs.
 #![tactic(auto)]
 
+mod answers;
+mod asm;
+mod assemblies;
 mod command;
+mod dis;
 mod failure;
 mod images;
 mod inputs;
 mod mean;
 mod messages;
+mod puts;
 mod refusal;
 mod run;
 mod sources;

@@ -6,15 +6,20 @@ ghost use Rattle.task_ast.specs.View.{program_of};
 ghost use Rattle.source_values.specs.Runs.{fresh_run};
 ghost use Rattle.source_report.specs.MeanReport.{mean_report};
 ghost use Rattle.source_report.specs.SourceReport.{IsMeanReport};
-ghost use Rattle.alpaca_cli.specs.Commands as verb;
+ghost use Rattle.alp_io.specs.Shelf.{NeverFall};
+ghost use Rattle.alpaca_cli.specs.Calls as call;
 ghost use Rattle.alpaca_cli.specs.Ending.{well};
-ghost use Rattle.alpaca_cli.specs.Answers.{IsWhole};
+ghost use Rattle.alpaca_cli.specs.Outside.{WhereStands};
+ghost use Rattle.alpaca_cli.specs.Answers.{CommandAnswers, IsWhole, TextAnswers};
 ghost use Rattle.alpaca_cli.specs.Outcomes.{FailsBy, FailsWriting, Gains};
 
+use crate::answers::{answer_failure, answer_unread};
 use crate::failure::Failure;
+use crate::inputs::read_texts;
 use crate::sources::source_of;
+use crate::status::Status;
 use crate::traces::trace_of;
-use alp_io::{Failed, Report, Sink};
+use alp_io::{Failed, Report, Shelf, Sink};
 use energy_trace::Trace;
 use source_meaning::Accepted;
 use source_report::{mean_report_is_determined, write_mean_report};
@@ -62,9 +67,11 @@ fn write_meaning<'t, O: Sink>(
     trace: &Trace,
 ) -> Result<(), Failure<'t>>
     ensures faults { O.faults out.old ≤ O.faults out.new }
-    ensures whole { IfOk result (λ _. Gains (record { old = O.contents out.old; new = O.contents out.new; faults_old = O.faults out.old; faults_new = O.faults out.new })
+    ensures whole { IfOk result (λ _. Gains
+        (record { old = O.contents out.old; new = O.contents out.new; faults_old = O.faults out.old; faults_new = O.faults out.new })
         (IsMeanReport source.now.text.items (program_of source.now.checked.source) trace.now.readings)) }
-    ensures failure { IfErr result (λ e. FailsWriting e (record { old = O.contents out.old; new = O.contents out.new; faults_old = O.faults out.old; faults_new = O.faults out.new })
+    ensures failure { IfErr result (λ e. FailsWriting e
+        (record { old = O.contents out.old; new = O.contents out.new; faults_old = O.faults out.old; faults_new = O.faults out.new })
         (IsMeanReport source.now.text.items (program_of source.now.checked.source) trace.now.readings)) }
 {
     report_is_the_meaning(source, trace);
@@ -80,21 +87,76 @@ fn write_meaning<'t, O: Sink>(
 /// Writes the report of the source and the trace that the two texts are.
 ///
 /// # Errors
-/// `FirstRefused` or `SecondRefused` for the first text that is refused, `Memory` where memory was refused; nothing is written
-/// then. `Write` where a write failed, and the output gained a proper prefix of the report.
+/// `Refused` for the first text that is refused, `Memory` where memory was refused; nothing is written then. `Write` where a
+/// write failed, and the output gained a proper prefix of the report.
 pub fn mean_texts<'t, O: Sink>(
     alloc: Global,
+    names: (&'t str, &'t str),
     source: &'t [u8],
-    trace: &'t [u8],
+    trace: &[u8],
     out: &mut O,
 ) -> Result<(), Failure<'t>>
     requires first { length source.now ≤ 1048576 }
     requires second { length trace.now ≤ 1048576 }
     ensures faults { O.faults out.old ≤ O.faults out.new }
-    ensures whole { IfOk result (λ _. IsWhole verb.mean (source.now ∷ trace.now ∷ []) well (record { old = O.contents out.old; new = O.contents out.new; faults_old = O.faults out.old; faults_new = O.faults out.new })) }
-    ensures failure { IfErr result (λ e. FailsBy e verb.mean (source.now ∷ trace.now ∷ []) (record { old = O.contents out.old; new = O.contents out.new; faults_old = O.faults out.old; faults_new = O.faults out.new })) }
+    ensures whole { IfOk result (λ _. WhereStands (λ shelf. IsWhole (call.mean names.entry.0.now names.entry.1.now) (source.now ∷ trace.now ∷ []) well shelf
+        (record { old = O.contents out.old; new = O.contents out.new; faults_old = O.faults out.old; faults_new = O.faults out.new }))) }
+    ensures failure { IfErr result (λ e. WhereStands (λ shelf. FailsBy e (call.mean names.entry.0.now names.entry.1.now) (source.now ∷ trace.now ∷ []) shelf
+        (record { old = O.contents out.old; new = O.contents out.new; faults_old = O.faults out.old; faults_new = O.faults out.new }))) }
 {
-    let source = source_of(alloc, source)?;
-    let trace = trace_of(alloc, trace)?;
+    let source = source_of(alloc, names.0, source)?;
+    let trace = trace_of(alloc, names.1, trace)?;
     write_meaning(alloc, out, &source, &trace)
+}
+
+fn mean_of<O: Sink, E: Sink>(
+    alloc: Global,
+    names: (&str, &str),
+    source: &[u8],
+    trace: &[u8],
+    out: &mut O,
+    err: &mut E,
+) -> Status
+    requires source { length source.now ≤ 1048576 }
+    requires trace { length trace.now ≤ 1048576 }
+    ensures out_faults { O.faults out.old ≤ O.faults out.new }
+    ensures err_faults { E.faults err.old ≤ E.faults err.new }
+    ensures answers { WhereStands (λ shelf. TextAnswers result (call.mean names.entry.0.now names.entry.1.now) (source.now ∷ trace.now ∷ []) shelf
+        (record { old = O.contents out.old; new = O.contents out.new; faults_old = O.faults out.old; faults_new = O.faults out.new })
+        (record { old = E.contents err.old; new = E.contents err.new; faults_old = E.faults err.old; faults_new = E.faults err.new })) }
+{
+    match mean_texts(alloc, names, source, trace, out) {
+        Ok(()) => Status::Done,
+        Err(failure) => answer_failure(err, failure),
+    }
+}
+
+/// The answer to `mean SRC TRACE`.
+pub fn answer_mean<H: Shelf, O: Sink, E: Sink>(
+    alloc: Global,
+    source: &str,
+    trace: &str,
+    shelf: &mut H,
+    out: &mut O,
+    err: &mut E,
+) -> Status
+    ensures counts { NeverFall (H.counts shelf.old) (H.counts shelf.new) }
+    ensures out_faults { O.faults out.old ≤ O.faults out.new }
+    ensures err_faults { E.faults err.old ≤ E.faults err.new }
+    ensures answers { CommandAnswers result (call.mean source.now trace.now)
+        (record { old = H.files shelf.old; new = H.files shelf.new; counts_old = H.counts shelf.old; counts_new = H.counts shelf.new })
+        (record { old = O.contents out.old; new = O.contents out.new; faults_old = O.faults out.old; faults_new = O.faults out.new })
+        (record { old = E.contents err.old; new = E.contents err.new; faults_old = E.faults err.old; faults_new = E.faults err.new }) }
+{
+    match read_texts(alloc, shelf, source, trace) {
+        Ok(texts) => mean_of(
+            alloc,
+            (source, trace),
+            texts.first.as_slice(),
+            texts.second.as_slice(),
+            out,
+            err,
+        ),
+        Err(unread) => answer_unread(err, unread),
+    }
 }

@@ -1,7 +1,7 @@
 //! The one line to standard error that goes with a status. A write that fails leaves the status as it is.
 ghost use Rattle.std.specs.Prelude.{◌≤◌, flat_map, ◌∷◌, [], codes};
 ghost use Rattle.alp_io.specs.Report.{texts};
-ghost use Rattle.alpaca_cli.specs.Messages.{Tells, unreadable_line, too_long_line, unwritable_line, memory_line, machine_fault_line, usage_line};
+ghost use Rattle.alpaca_cli.specs.Messages.{Tells, unreadable_line, too_long_line, unput_line, unwritable_line, memory_line, machine_fault_line, usage_line};
 ghost use Rattle.alpaca_cli.specs.Refusals.{detail_text, refused_line};
 ghost use Rattle.alpaca_cli.specs.Views.{detail_of, refusal_of};
 
@@ -79,6 +79,14 @@ pub fn tell_too_long<E: Sink>(err: &mut E, name: &str)
     ensures faults { E.faults err.old ≤ E.faults err.new }
 {
     tell(err, &[b"too long ", name.as_bytes(), b"\n"]);
+}
+
+#[tactic(auto, unfolding(crate::specs::Messages::unput_line))]
+pub fn tell_unput<E: Sink>(err: &mut E, name: &str)
+    ensures line { Tells (E.contents err.old) (E.contents err.new) (E.faults err.old) (E.faults err.new) (unput_line name.now) }
+    ensures faults { E.faults err.old ≤ E.faults err.new }
+{
+    tell(err, &[b"cannot write ", name.as_bytes(), b"\n"]);
 }
 
 #[tactic(auto, unfolding(crate::specs::Messages::unwritable_line))]

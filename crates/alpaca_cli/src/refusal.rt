@@ -1,4 +1,8 @@
 //! What is told of a refused text.
+ghost use Rattle.std.specs.Prelude.{◌≡◌};
+ghost use Rattle.alpaca_cli.specs.Refusals.{plain};
+ghost use Rattle.alpaca_cli.specs.Views.{refusal_of};
+
 /// What a fault keeps besides its line.
 #[derive(Clone, Copy, Debug, PartialEq, Eq)]
 pub enum Detail<'t> {
@@ -15,4 +19,15 @@ pub struct Refusal<'t> {
     pub line: u32,
     pub kind: &'static str,
     pub detail: Detail<'t>,
+}
+
+/// A refusal that keeps its line and kind alone.
+pub fn plain<'t>(line: u32, kind: &'static str) -> Refusal<'t>
+    ensures { refusal_of result ≡ plain line kind.now }
+{
+    Refusal {
+        line,
+        kind,
+        detail: Detail::Nothing,
+    }
 }

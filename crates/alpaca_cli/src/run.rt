@@ -4,16 +4,22 @@ ghost use Rattle.alp_io.specs.Count.{HasCause};
 ghost use Rattle.fram_board.specs.Board.{fresh};
 ghost use Rattle.board_run.specs.History.{start_of};
 ghost use Rattle.alpaca_cli.specs.RunReport.{IsRunReport};
-ghost use Rattle.alpaca_cli.specs.Commands as verb;
+ghost use Rattle.alp_io.specs.Shelf.{NeverFall};
+ghost use Rattle.alpaca_cli.specs.Calls as call;
 ghost use Rattle.alpaca_cli.specs.Ends.{ending_of, WritesRun};
 ghost use Rattle.alpaca_cli.specs.Ending.{Ending};
-ghost use Rattle.alpaca_cli.specs.Answers.{IsWhole};
+ghost use Rattle.alpaca_cli.specs.Outside.{WhereStands};
+ghost use Rattle.alpaca_cli.specs.Answers.{CommandAnswers, IsWhole, TextAnswers};
 ghost use Rattle.alpaca_cli.specs.Outcomes.{FailsBy, FailsWriting, Gains};
 
+use crate::answers::{answer_failure, answer_unread};
 use crate::failure::Failure;
 use crate::images::image_of;
+use crate::inputs::read_texts;
+use crate::messages;
+use crate::status::Status;
 use crate::traces::trace_of;
-use alp_io::{Failed, Report, Sink};
+use alp_io::{Failed, Report, Shelf, Sink};
 use board_run::{RunFault, Watch, run};
 use energy_trace::Trace;
 use fram_board::Board;
@@ -76,9 +82,11 @@ fn write_run<'t, O: Sink>(
     trace: &Trace,
 ) -> Result<RunEnding, Failure<'t>>
     ensures faults { O.faults out.old ≤ O.faults out.new }
-    ensures whole { IfOk result (λ ending. Gains (record { old = O.contents out.old; new = O.contents out.new; faults_old = O.faults out.old; faults_new = O.faults out.new })
+    ensures whole { IfOk result (λ ending. Gains
+        (record { old = O.contents out.old; new = O.contents out.new; faults_old = O.faults out.old; faults_new = O.faults out.new })
         (IsRunReport image.now trace.now (ending_of ending))) }
-    ensures failure { IfErr result (λ e. FailsWriting e (record { old = O.contents out.old; new = O.contents out.new; faults_old = O.faults out.old; faults_new = O.faults out.new })
+    ensures failure { IfErr result (λ e. FailsWriting e
+        (record { old = O.contents out.old; new = O.contents out.new; faults_old = O.faults out.old; faults_new = O.faults out.new })
         (λ output. (ending : Ending) × IsRunReport image.now trace.now ending output)) }
 {
     let Ok(mut board) = Board::new(alloc, image, trace.readings()) else {
@@ -96,21 +104,81 @@ fn write_run<'t, O: Sink>(
 /// Writes the report of the run of the image and the trace that the two texts are, and answers how it ended.
 ///
 /// # Errors
-/// `FirstRefused` or `SecondRefused` for the first text that is refused, `Memory` where memory was refused; nothing is written
-/// then. `Write` where a write failed, and the output gained a proper prefix of the report.
+/// `Refused` for the first text that is refused, `Memory` where memory was refused; nothing is written then. `Write` where a
+/// write failed, and the output gained a proper prefix of the report.
 pub fn run_texts<'t, O: Sink>(
     alloc: Global,
-    image: &'t [u8],
-    trace: &'t [u8],
+    names: (&'t str, &'t str),
+    image: &[u8],
+    trace: &[u8],
     out: &mut O,
 ) -> Result<RunEnding, Failure<'t>>
     requires image { length image.now ≤ 1048576 }
     requires trace { length trace.now ≤ 1048576 }
     ensures faults { O.faults out.old ≤ O.faults out.new }
-    ensures whole { IfOk result (λ ending. IsWhole verb.run (image.now ∷ trace.now ∷ []) (ending_of ending) (record { old = O.contents out.old; new = O.contents out.new; faults_old = O.faults out.old; faults_new = O.faults out.new })) }
-    ensures failure { IfErr result (λ e. FailsBy e verb.run (image.now ∷ trace.now ∷ []) (record { old = O.contents out.old; new = O.contents out.new; faults_old = O.faults out.old; faults_new = O.faults out.new })) }
+    ensures whole { IfOk result (λ ending. WhereStands (λ shelf. IsWhole (call.run names.entry.0.now names.entry.1.now)
+        (image.now ∷ trace.now ∷ []) (ending_of ending) shelf
+        (record { old = O.contents out.old; new = O.contents out.new; faults_old = O.faults out.old; faults_new = O.faults out.new }))) }
+    ensures failure { IfErr result (λ e. WhereStands (λ shelf. FailsBy e (call.run names.entry.0.now names.entry.1.now) (image.now ∷ trace.now ∷ []) shelf
+        (record { old = O.contents out.old; new = O.contents out.new; faults_old = O.faults out.old; faults_new = O.faults out.new }))) }
 {
-    let image = image_of(alloc, image)?;
-    let trace = trace_of(alloc, trace)?;
+    let image = image_of(alloc, names.0, image)?;
+    let trace = trace_of(alloc, names.1, trace)?;
     write_run(alloc, out, &image, &trace)
+}
+
+fn run_of<O: Sink, E: Sink>(
+    alloc: Global,
+    names: (&str, &str),
+    image: &[u8],
+    trace: &[u8],
+    out: &mut O,
+    err: &mut E,
+) -> Status
+    requires image { length image.now ≤ 1048576 }
+    requires trace { length trace.now ≤ 1048576 }
+    ensures out_faults { O.faults out.old ≤ O.faults out.new }
+    ensures err_faults { E.faults err.old ≤ E.faults err.new }
+    ensures answers { WhereStands (λ shelf. TextAnswers result (call.run names.entry.0.now names.entry.1.now) (image.now ∷ trace.now ∷ []) shelf
+        (record { old = O.contents out.old; new = O.contents out.new; faults_old = O.faults out.old; faults_new = O.faults out.new })
+        (record { old = E.contents err.old; new = E.contents err.new; faults_old = E.faults err.old; faults_new = E.faults err.new })) }
+{
+    match run_texts(alloc, names, image, trace, out) {
+        Ok(RunEnding::Well) => Status::Done,
+        Ok(RunEnding::AtFault) => {
+            messages::tell_machine_fault(err);
+            Status::MachineFault
+        }
+        Err(failure) => answer_failure(err, failure),
+    }
+}
+
+/// The answer to `run IMAGE TRACE`.
+pub fn answer_run<H: Shelf, O: Sink, E: Sink>(
+    alloc: Global,
+    image: &str,
+    trace: &str,
+    shelf: &mut H,
+    out: &mut O,
+    err: &mut E,
+) -> Status
+    ensures counts { NeverFall (H.counts shelf.old) (H.counts shelf.new) }
+    ensures out_faults { O.faults out.old ≤ O.faults out.new }
+    ensures err_faults { E.faults err.old ≤ E.faults err.new }
+    ensures answers { CommandAnswers result (call.run image.now trace.now)
+        (record { old = H.files shelf.old; new = H.files shelf.new; counts_old = H.counts shelf.old; counts_new = H.counts shelf.new })
+        (record { old = O.contents out.old; new = O.contents out.new; faults_old = O.faults out.old; faults_new = O.faults out.new })
+        (record { old = E.contents err.old; new = E.contents err.new; faults_old = E.faults err.old; faults_new = E.faults err.new }) }
+{
+    match read_texts(alloc, shelf, image, trace) {
+        Ok(texts) => run_of(
+            alloc,
+            (image, trace),
+            texts.first.as_slice(),
+            texts.second.as_slice(),
+            out,
+            err,
+        ),
+        Err(unread) => answer_unread(err, unread),
+    }
 }

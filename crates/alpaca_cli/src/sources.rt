@@ -1,14 +1,13 @@
 //! A source text, read for a command.
 ghost use Rattle.std.specs.Prelude.{◌≡◌, ◌<◌, ◌≤◌, IfOk, IfErr, Ok, length, codes, option_map, Some};
 ghost use Rattle.task_ast.specs.View.{program_of};
-ghost use Rattle.alpaca_cli.specs.Refusals.{plain};
 ghost use Rattle.alpaca_cli.specs.Sources as told;
 ghost use Rattle.alpaca_cli.specs.Sources.{IsSourceText, RefusesSource};
-ghost use Rattle.alpaca_cli.specs.Texts.{FailsFirst};
+ghost use Rattle.alpaca_cli.specs.Texts.{FailsRefused};
 ghost use Rattle.alpaca_cli.specs.Views.{refusal_of};
 
 use crate::failure::Failure;
-use crate::refusal::{Detail, Refusal};
+use crate::refusal::{Detail, Refusal, plain};
 use alp_text::Span;
 use cost_bound::Over;
 use source_meaning::{Accepted, SourceFault, accept};
@@ -16,16 +15,6 @@ use source_report::spelled;
 use std::alloc::Global;
 use task_check::{CheckFault, Kept};
 use task_lex::LexFault;
-
-fn plain<'t>(line: u32, kind: &'static str) -> Refusal<'t>
-    ensures { refusal_of result ≡ plain line kind.now }
-{
-    Refusal {
-        line,
-        kind,
-        detail: Detail::Nothing,
-    }
-}
 
 fn named<'t>(text: &'t [u8], line: u32, kind: &'static str, span: Span) -> Refusal<'t>
     ensures { refusal_of result ≡ told.named text.now line kind.now span }
@@ -111,27 +100,27 @@ fn source_refusal<'t>(text: &'t [u8], fault: SourceFault) -> Option<Refusal<'t>>
     }
 }
 
-fn failure_of<'t>(text: &'t [u8], fault: SourceFault) -> Failure<'t>
-    ensures { FailsFirst (λ r. told.source_refusal text.now fault ≡ Some r) result }
+fn failure_of<'t>(file: &'t str, text: &'t [u8], fault: SourceFault) -> Failure<'t>
+    ensures { FailsRefused file.now (λ r. told.source_refusal text.now fault ≡ Some r) result }
 {
     match source_refusal(text, fault) {
-        Some(refusal) => Failure::FirstRefused(refusal),
+        Some(refusal) => Failure::Refused { file, refusal },
         None => Failure::Memory,
     }
 }
 
-/// The source that the first text of a command is.
+/// The source that the text of a named file is.
 ///
 /// # Errors
-/// `FirstRefused` with the refusal of the first pass that refuses the text; `Memory` where memory was refused.
-pub fn source_of<'t>(alloc: Global, text: &'t [u8]) -> Result<Accepted, Failure<'t>>
+/// `Refused` with the refusal of the first pass that refuses the text; `Memory` where memory was refused.
+pub fn source_of<'t>(alloc: Global, file: &'t str, text: &'t [u8]) -> Result<Accepted, Failure<'t>>
     requires { length text.now ≤ 1048576 }
     ensures text { IfOk result (λ a. a.text.items ≡ text.now) }
     ensures said { IfOk result (λ a. IsSourceText text.now (program_of a.checked.source)) }
-    ensures refused { IfErr result (FailsFirst (RefusesSource text.now)) }
+    ensures refused { IfErr result (FailsRefused file.now (RefusesSource text.now)) }
 {
     match accept(alloc, text) {
         Ok(accepted) => Ok(accepted),
-        Err(fault) => Err(failure_of(text, fault)),
+        Err(fault) => Err(failure_of(file, text, fault)),
     }
 }

@@ -24,6 +24,7 @@ fn run_image(
             words: &["run", "i", "t"],
             files: &[("i", image.as_bytes()), ("t", trace.as_bytes())],
             failing_reads: &[],
+            put_fails: false,
             failing_writes,
         },
     )

@@ -26,6 +26,7 @@ pub(crate) fn mean(
             words: &["mean", "s", "t"],
             files: &[("s", source.as_bytes()), ("t", trace.as_bytes())],
             failing_reads: &[],
+            put_fails: false,
             failing_writes,
         },
     )
@@ -70,6 +71,7 @@ fn with_words<'a>(alloc: Global, words: &'a [&'a str]) -> Result<After, Fail> {
             words,
             files: &[],
             failing_reads: &[],
+            put_fails: false,
             failing_writes: &[],
         },
     )
@@ -114,6 +116,7 @@ fn a_file_that_cannot_be_read_is_named(rt: HostRuntime) -> Result<(), Fail> {
                 words: &["mean", "s", "t"],
                 files,
                 failing_reads,
+                put_fails: false,
                 failing_writes: &[],
             },
         )?;

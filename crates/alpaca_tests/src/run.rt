@@ -10,13 +10,16 @@ pub struct Before<'a> {
     pub words: &'a [&'a str],
     pub files: &'a [(&'a str, &'a [u8])],
     pub failing_reads: &'a [u64],
+    /// Whether the program's first put fails.
+    pub put_fails: bool,
     pub failing_writes: &'a [u64],
 }
 
-/// What a run answers and writes.
+/// What a run answers and writes, and the files that it leaves.
 #[derive(Drop)]
 pub struct After {
     pub status: Status,
+    pub shelf: MemShelf,
     pub out: Vec<u8>,
     pub err: Vec<u8>,
 }
@@ -29,10 +32,15 @@ pub(crate) fn run(alloc: Global, before: &Before) -> Result<After, Fail> {
     for word in before.words {
         words.push(String::from_str(alloc, word)?)?;
     }
+    let mut failing_puts = Vec::new(alloc);
+    if before.put_fails {
+        // the files that stand before are put too
+        failing_puts.push(before.files.len() as u64)?;
+    }
     let mut shelf = MemShelf::new(
         Vec::new(alloc),
         before.failing_reads.to_vec(alloc)?,
-        Vec::new(alloc),
+        failing_puts,
     );
     for (name, bytes) in before.files {
         shelf.put(alloc, name, bytes)?;
@@ -42,6 +50,7 @@ pub(crate) fn run(alloc: Global, before: &Before) -> Result<After, Fail> {
     let status = alpaca(alloc, &words, &mut shelf, &mut out, &mut err);
     Ok(After {
         status,
+        shelf,
         out: out.bytes().to_vec(alloc)?,
         err: err.bytes().to_vec(alloc)?,
     })

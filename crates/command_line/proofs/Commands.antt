@@ -1,5 +1,5 @@
 -- Lines as commands: what stands in a line is what the command holds.
-use Rattle.std.proofs.Common.{◌≡◌, ◌∙◌, ◌+◌, ◌++◌, ◌∷◌, ◌||◌, ℕ, Bool, cond, codes, true, false, refl, sym, ap, ap₂, arith, List, [], map, length, Option, Some, None, is_some, option_map, true≢false, append_assoc, string_bytes, String}
+use Rattle.std.proofs.Common.{◌≡◌, ◌∙◌, ◌+◌, ◌++◌, ◌∷◌, ◌||◌, ℕ, Bool, cond, codes, true, false, refl, sym, ap, ap₂, subst, arith, List, [], map, length, Option, Some, None, is_some, option_map, true≢false, append_assoc, string_bytes, String}
 use Rattle.std.proofs.lemmas.Slice.Eq.{bytes_eq-Decides}
 use Rattle.std.proofs.lemmas.Str.{IsUtf8-string_bytes}
 use Rattle.std.specs.Prelude.{slice_get, find, unwrap_or}
@@ -15,9 +15,9 @@ use Rattle.clap.specs.declared.parser.matches.ArgMatches.TheViews.{out-ArgMatche
 use Rattle.command_line.specs.CommandLine.{AreTexts, IsLine, Subcommand, alpaca_app, begins_with_hyphen, files_of, line_of, subcommand_named, subcommands}
 use Rattle.command_line.specs.Commands.{IsPlainLine, NamesCommand, line_found, plain_line, values_of}
 use Rattle.command_line.specs.declared.Command.{Command}
-use Rattle.command_line.specs.declared.Command.TheVariants.{Mean, Run}
+use Rattle.command_line.specs.declared.Command.TheVariants.{Mean, Run, Asm, Dis}
 use Rattle.command_line.proofs.Files.{IsGiven, IsInOrder, built_subcommand, file_row, given_row, more_given, rows_for}
-use Rattle.command_line.proofs.Lines.{Line, all_in_order, has_name, in_order, line_reads, line_there}
+use Rattle.command_line.proofs.Lines.{Line, all_in_order, has_name, in_order, line_reads, line_there, named}
 
 -- ---- the program's words are texts
 
@@ -75,6 +75,12 @@ subcommand_of_line (Mean source trace) name files e =
 subcommand_of_line (Run image trace) name files e =
     let named : name ≡ codes "run" = ap (λ l. unwrap_or (slice_get l 0) []) (sym e) in
     (record { name = codes "run"; files = codes "IMAGE" ∷ codes "TRACE" ∷ [] }, ap subcommand_named named, let all = ap length (sym e) in omega arith)
+subcommand_of_line (Asm assembly image) name files e =
+    let named : name ≡ codes "asm" = ap (λ l. unwrap_or (slice_get l 0) []) (sym e) in
+    (record { name = codes "asm"; files = codes "ASM" ∷ codes "IMAGE" ∷ [] }, ap subcommand_named named, let all = ap length (sym e) in omega arith)
+subcommand_of_line (Dis image) name files e =
+    let named : name ≡ codes "dis" = ap (λ l. unwrap_or (slice_get l 0) []) (sym e) in
+    (record { name = codes "dis"; files = codes "IMAGE" ∷ [] }, ap subcommand_named named, let all = ap length (sym e) in omega arith)
 
 pub command_is_line : (words : List Text) → AreTexts words → NamesCommand words → IsLine words
 command_is_line [] texts n = cc
@@ -86,32 +92,51 @@ command_is_line (name ∷ rest) texts n =
 abbrev lent : Text → Bor Text
 lent text = record { ref_ptr = (0, 0); now = text }
 
-has_command : (name : Text) (files : List Text) (s : Subcommand) → subcommand_named name ≡ Some s → length files ≡ length s.files → (c : Command) × (plain_line c ≡ name ∷ files)
-has_command name files s is count = mean_or (bytes_eq (codes "mean") name) refl is
+-- each list of files, as many as the subcommand has, is that of a command's line
+abbrev HasLines : Subcommand → Type 0
+HasLines s = (files : List Text) → length files ≡ length s.files → (c : Command) × (plain_line c ≡ s.name ∷ files)
+
+-- the same of each of these
+AllHaveLines : List Subcommand → Type 0
+AllHaveLines [] = Unit {0}
+AllHaveLines (s ∷ rest) = HasLines s × AllHaveLines rest
+
+-- a command of one file, whose line begins with its name
+one : (called : Text) (make : Bor Text → Command) → ((a : Text) → plain_line (make (lent a)) ≡ called ∷ a ∷ [])
+    → (files : List Text) → length files ≡ 1 → (c : Command) × (plain_line c ≡ called ∷ files)
+one called make line [] count = absurd (omega arith)
+one called make line (a ∷ []) count = (make (lent a), line a)
+one called make line (a ∷ other ∷ more) count = absurd (omega arith)
+
+-- the same of two files
+two : (called : Text) (make : Bor Text → Bor Text → Command)
+    → ((a b : Text) → plain_line (make (lent a) (lent b)) ≡ called ∷ a ∷ b ∷ [])
+    → (files : List Text) → length files ≡ 2 → (c : Command) × (plain_line c ≡ called ∷ files)
+two called make line [] count = absurd (omega arith)
+two called make line (a ∷ []) count = absurd (omega arith)
+two called make line (a ∷ b ∷ []) count = (make (lent a) (lent b), line a b)
+two called make line (a ∷ b ∷ other ∷ more) count = absurd (omega arith)
+
+all_have_lines : AllHaveLines subcommands
+unfolding AllHaveLines
+all_have_lines = (
+  two (codes "mean") Mean (λ a b. refl),
+  (two (codes "run") Run (λ a b. refl), (two (codes "asm") Asm (λ a b. refl), (one (codes "dis") Dis (λ a. refl), tt))),
+)
+
+have_lines : (xs : List Subcommand) (word : Text) (s : Subcommand) → AllHaveLines xs → named xs word ≡ Some s → HasLines s
+unfolding AllHaveLines
+have_lines [] word s all e = cc
+have_lines (x ∷ xs) word s all e = go (bytes_eq x.name word) (have_lines xs word s all.1) e
   where
-    -- a command of two files, whose line begins with its name
-    two : (called : Text) (make : Bor Text → Bor Text → Command)
-        → ((a b : Text) → plain_line (make (lent a) (lent b)) ≡ called ∷ a ∷ b ∷ [])
-        → (files : List Text) → length files ≡ 2 → called ≡ name → (c : Command) × (plain_line c ≡ name ∷ files)
-    two called make line [] count is = absurd (omega arith)
-    two called make line (a ∷ []) count is = absurd (omega arith)
-    two called make line (a ∷ b ∷ []) count is = (make (lent a) (lent b), line a b ∙ ap (λ n. n ∷ a ∷ b ∷ []) is)
-    two called make line (a ∷ b ∷ other ∷ more) count is = absurd (omega arith)
+    go : (b : Bool) → (named xs word ≡ Some s → HasLines s) → cond b (Some x) (named xs word) ≡ Some s → HasLines s
+    go true rest e = subst HasLines (ap (λ o. unwrap_or o x) e) all.0
+    go false rest e = rest e
 
-    counted : {t : Subcommand} → Some t ≡ Some s → length files ≡ length t.files
-    counted {t} is = count ∙ sym (ap (λ (o : Option Subcommand). length (unwrap_or o s).files) is)
-
-    run_or : (b : Bool) → bytes_eq (codes "run") name ≡ b → cond b (Some (record { name = codes "run"; files = codes "IMAGE" ∷ codes "TRACE" ∷ [] })) None ≡ Some s
-        → (c : Command) × (plain_line c ≡ name ∷ files)
-    run_or true called is = two (codes "run") Run (λ a b. refl) files (counted is) ((bytes_eq-Decides (codes "run") name).0 called)
-    run_or false called is = cc
-
-    mean_or : (b : Bool) → bytes_eq (codes "mean") name ≡ b
-        → cond b (Some (record { name = codes "mean"; files = codes "SRC" ∷ codes "TRACE" ∷ [] }))
-        (find (λ (t : Subcommand). bytes_eq t.name name) (record { name = codes "run"; files = codes "IMAGE" ∷ codes "TRACE" ∷ [] } ∷ [])) ≡ Some s
-        → (c : Command) × (plain_line c ≡ name ∷ files)
-    mean_or true called is = two (codes "mean") Mean (λ a b. refl) files (counted is) ((bytes_eq-Decides (codes "mean") name).0 called)
-    mean_or false called is = run_or (bytes_eq (codes "run") name) refl is
+has_command : (name : Text) (files : List Text) (s : Subcommand) → subcommand_named name ≡ Some s → length files ≡ length s.files → (c : Command) × (plain_line c ≡ name ∷ files)
+has_command name files s is count =
+    let c = have_lines subcommands name s all_have_lines is files count in
+    (c.0, c.1 ∙ ap (λ n. n ∷ files) (has_name subcommands name s is))
 
 pub line_is_command : (words : List Text) → AreTexts words → IsLine words → NamesCommand words
 line_is_command words texts line =
@@ -145,6 +170,8 @@ line_plain (word ∷ words) line e is =
 pub plain_names : (words : List Text) → list_any begins_with_hyphen words ≡ false → IsPlainLine words → NamesCommand words
 plain_names [] e (Mean source trace, is) = cc
 plain_names [] e (Run image trace, is) = cc
+plain_names [] e (Asm assembly image, is) = cc
+plain_names [] e (Dis image, is) = cc
 plain_names (word ∷ words) e p =
     let q = none_of (begins_with_hyphen word) (list_any begins_with_hyphen words) e in
     (p.0, ap (option_map (λ files. word ∷ files)) (files_plain words q.1) ∙ ap Some p.1)

@@ -46,7 +46,7 @@ fault_is words = refl
 
 -- ---- commands by their names
 
-abbrev named : List Subcommand → Text → Option Subcommand
+abbrev pub named : List Subcommand → Text → Option Subcommand
 named xs word = find (λ s. bytes_eq s.name word) xs
 
 abbrev names_in : List Subcommand → Names
@@ -88,7 +88,13 @@ AreInOrder (s ∷ rest) = IsInOrder (built_subcommand s).rules [] 1 s.files × A
 -- each command's files have names of their own
 pub all_in_order : AreInOrder subcommands
 unfolding AreInOrder
-all_in_order = ((refl, refl, refl, refl, refl, (refl, refl, refl, refl, refl, (refl, refl))), ((refl, refl, refl, refl, refl, (refl, refl, refl, refl, refl, (refl, refl))), tt))
+all_in_order = (
+  (refl, refl, refl, refl, refl, (refl, refl, refl, refl, refl, (refl, refl))),
+  (
+    (refl, refl, refl, refl, refl, (refl, refl, refl, refl, refl, (refl, refl))),
+    ((refl, refl, refl, refl, refl, (refl, refl, refl, refl, refl, (refl, refl))), ((refl, refl, refl, refl, refl, (refl, refl)), tt)),
+  ),
+)
 
 pub in_order : (xs : List Subcommand) (word : Text) (s : Subcommand) → AreInOrder xs → named xs word ≡ Some s → IsInOrder (built_subcommand s).rules [] 1 s.files
 unfolding AreInOrder

@@ -15,7 +15,9 @@ pub record Subcommand : Type 0 where
 -- all commands
 abbrev pub subcommands : List Subcommand
 subcommands = record { name = codes "mean"; files = codes "SRC" ∷ codes "TRACE" ∷ [] }
-    ∷ record { name = codes "run"; files = codes "IMAGE" ∷ codes "TRACE" ∷ [] } ∷ []
+    ∷ record { name = codes "run"; files = codes "IMAGE" ∷ codes "TRACE" ∷ [] }
+    ∷ record { name = codes "asm"; files = codes "ASM" ∷ codes "IMAGE" ∷ [] }
+    ∷ record { name = codes "dis"; files = codes "IMAGE" ∷ [] } ∷ []
 
 -- `Arg::new(name).required(true)`: a positional that has to be there
 abbrev pub file_rule : Text → Rule

@@ -3,12 +3,14 @@ use Rattle.std.specs.Prelude.{◌≡◌, List, [], ◌∷◌, codes, Option, Som
 use Rattle.clap.specs.Words.{Row, Text, first_of}
 use Rattle.command_line.specs.CommandLine.{line_of, subcommand_named}
 use Rattle.command_line.specs.declared.Command.{Command}
-use Rattle.command_line.specs.declared.Command.TheVariants.{Mean, Run}
+use Rattle.command_line.specs.declared.Command.TheVariants.{Mean, Run, Asm, Dis}
 
 -- the words of a command's line, with neither a `--` nor a hyphen in front of a file
 abbrev pub plain_line : Command → List Text
 plain_line (Mean source trace) = codes "mean" ∷ source.now ∷ trace.now ∷ []
 plain_line (Run image trace) = codes "run" ∷ image.now ∷ trace.now ∷ []
+plain_line (Asm assembly image) = codes "asm" ∷ assembly.now ∷ image.now ∷ []
+plain_line (Dis image) = codes "dis" ∷ image.now ∷ []
 
 -- the first values of these arguments, where each has one
 abbrev pub values_of : List Text → List Row → Option (List Text)

@@ -36,6 +36,18 @@ pub enum Command<'a> {
         /// The file of the trace.
         trace: &'a str,
     },
+    /// `asm ASM IMAGE`: the image of an assembler text.
+    Asm {
+        /// The file of the assembler text.
+        assembly: &'a str,
+        /// The file that is to hold the image.
+        image: &'a str,
+    },
+    /// `dis IMAGE`: the assembler text of an image.
+    Dis {
+        /// The file of the image.
+        image: &'a str,
+    },
 }
 
 /// Why the words were not read.
@@ -89,8 +101,23 @@ fn command_named<'a>(name: &str, files: &ArgMatches<'a>) -> Option<Command<'a>>
             let (image, trace) = two_files(files, "IMAGE", "TRACE")?;
             Some(Command::Run { image, trace })
         }
+        "asm" => {
+            let (assembly, image) = two_files(files, "ASM", "IMAGE")?;
+            Some(Command::Asm { assembly, image })
+        }
+        "dis" => {
+            let image = one_file(files, "IMAGE")?;
+            Some(Command::Dis { image })
+        }
         _ => None,
     }
+}
+
+/// The file that `clap` found under this name.
+fn one_file<'a>(files: &ArgMatches<'a>, name: &str) -> Option<&'a str>
+    ensures { option_map (λ f. f.now ∷ []) result ≡ values_of (name.now ∷ []) (rows_of (found_of files.now)) }
+{
+    files.get_str(name)
 }
 
 /// The files that `clap` found under these two names.
@@ -150,8 +177,12 @@ fn alpaca_command<'a>(alloc: Global) -> Result<clap::Command<'a>, AllocError>
         .subcommand_required(true);
     let mean = file_command(alloc, "mean", ["SRC", "TRACE"].as_slice())?;
     let run = file_command(alloc, "run", ["IMAGE", "TRACE"].as_slice())?;
+    let asm = file_command(alloc, "asm", ["ASM", "IMAGE"].as_slice())?;
+    let dis = file_command(alloc, "dis", ["IMAGE"].as_slice())?;
     let with_mean = bare.subcommand(mean)?;
-    let whole = with_mean.subcommand(run)?;
+    let with_run = with_mean.subcommand(run)?;
+    let with_asm = with_run.subcommand(asm)?;
+    let whole = with_asm.subcommand(dis)?;
     Ok(whole)
 }
 

@@ -23,6 +23,23 @@ fn runs(alloc: Global, texts: &[&str], image: &str, trace: &str) -> Result<bool,
     Ok(command_of(alloc, words.as_slice()) == Ok(Command::Run { image, trace }))
 }
 
+// the files of a line of `asm`
+fn assembles(
+    alloc: Global,
+    texts: &[&str],
+    assembly: &str,
+    image: &str,
+) -> Result<bool, AllocError> {
+    let words = owned(alloc, texts)?;
+    Ok(command_of(alloc, words.as_slice()) == Ok(Command::Asm { assembly, image }))
+}
+
+// the file of a line of `dis`
+fn lists(alloc: Global, texts: &[&str], image: &str) -> Result<bool, AllocError> {
+    let words = owned(alloc, texts)?;
+    Ok(command_of(alloc, words.as_slice()) == Ok(Command::Dis { image }))
+}
+
 // the words are no line
 fn is_usage(alloc: Global, texts: &[&str]) -> Result<bool, AllocError> {
     let words = owned(alloc, texts)?;
@@ -49,6 +66,26 @@ fn an_image_and_a_trace_are_a_line_of_run(rt: HostRuntime) -> Result<(), Fail> {
     assert!(rt; is_usage(alloc, &["run", "i"])?);
     assert!(rt; is_usage(alloc, &["run", "i", "t", "u"])?);
     assert!(rt; is_usage(alloc, &["run", "-i", "t"])?);
+    Ok(())
+}
+
+#[test]
+fn an_assembly_and_an_image_are_a_line_of_asm(rt: HostRuntime) -> Result<(), Fail> {
+    let alloc = rt.alloc();
+    assert!(rt; assembles(alloc, &["asm", "a", "i"], "a", "i")?);
+    assert!(rt; assembles(alloc, &["asm", "--", "-a", "dis"], "-a", "dis")?);
+    assert!(rt; is_usage(alloc, &["asm", "a"])?);
+    assert!(rt; is_usage(alloc, &["asm", "a", "i", "j"])?);
+    Ok(())
+}
+
+#[test]
+fn an_image_is_a_line_of_dis(rt: HostRuntime) -> Result<(), Fail> {
+    let alloc = rt.alloc();
+    assert!(rt; lists(alloc, &["dis", "i"], "i")?);
+    assert!(rt; lists(alloc, &["dis", "--", "--"], "--")?);
+    assert!(rt; is_usage(alloc, &["dis"])?);
+    assert!(rt; is_usage(alloc, &["dis", "i", "t"])?);
     Ok(())
 }
 

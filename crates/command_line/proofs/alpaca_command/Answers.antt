@@ -1,6 +1,8 @@
-use Rattle.std.proofs.Common.{rules, ap, ap₂, codes, true, ◌≡◌, ◌∙◌, ◌∷◌, [], List, map}
+use Rattle.std.proofs.Common.{rules, ap, ap₂, codes, Bool, true, false, ◌||◌, ◌≡◌, ◌∙◌, ◌∷◌, [], List, map}
 use Rattle.std.specs.Borrow.{Bor}
 use Rattle.clap.specs.Simple.{app_of_fields, new_shape}
+use Rattle.clap.specs.declared.builder.command.Command.{Command}
+use Rattle.clap.specs.declared.builder.command.Command.TheOpen.{Command-F}
 use Rattle.clap.specs.Words.{App, Text, app_of, new_app, with_subcommand}
 use Rattle.command_line.specs.CommandLine.{alpaca_app, subcommand_shape}
 use Rattle.command_line.proofs.alpaca_command.Goals as goal
@@ -10,6 +12,10 @@ bare_app = record (new_app (codes "alpaca")) {
   top = record (new_shape (codes "alpaca")) { no_binary_name = true; disable_help_flag = true; disable_help_subcommand = true; subcommand_required = true };
 }
 
+-- a command and a subcommand without global arguments are without them together
+no_globals : (old sub new : Bool) → new ≡ (old || sub) → old ≡ false → sub ≡ false → new ≡ false
+no_globals old sub new is a b = is ∙ ap₂ (λ x y. x || y) a b
+
 pub returns : goal.returns
 unfolding alpaca_app
 returns c =
@@ -18,14 +24,29 @@ returns c =
     (ap app_of_fields c.disable_help_subcommand.ensures ∙ ap (λ (a : App). record a { top = record a.top { disable_help_subcommand = true } })
     (ap app_of_fields c.disable_help_flag.ensures ∙ ap (λ (a : App). record a { top = record a.top { disable_help_flag = true } })
     (ap app_of_fields c.no_binary_name.ensures ∙ ap (λ (a : App). record a { top = record a.top { no_binary_name = true } }) c.new.ensures.app))) in
+    let bare_free = ap (λ (f : Command-F Command). f.has_globals) c.subcommand_required-bare.ensures
+    ∙ ap (λ (f : Command-F Command). f.has_globals) c.disable_help_subcommand.ensures
+    ∙ ap (λ (f : Command-F Command). f.has_globals) c.disable_help_flag.ensures
+    ∙ ap (λ (f : Command-F Command). f.has_globals) c.no_binary_name.ensures ∙ c.new.ensures.local in
+    let mean_free = no_globals _ _ _ c.in_ok-with_mean.ensures.globals bare_free c.in_ok-mean.ensures.globals in
+    let run_free = no_globals _ _ _ c.in_ok-with_run.ensures.globals mean_free c.in_ok-run.ensures.globals in
+    let asm_free = no_globals _ _ _ c.in_ok-with_asm.ensures.globals run_free c.in_ok-asm.ensures.globals in
     let mean_files : map (λ (f : Bor Text). f.now) c.as_slice.result.now ≡ codes "SRC" ∷ codes "TRACE" ∷ [] = search rules in
     let run_files : map (λ (f : Bor Text). f.now) c.as_slice-2.result.now ≡ codes "IMAGE" ∷ codes "TRACE" ∷ [] = search rules in
+    let asm_files : map (λ (f : Bor Text). f.now) c.as_slice-3.result.now ≡ codes "ASM" ∷ codes "IMAGE" ∷ [] = search rules in
+    let dis_files : map (λ (f : Bor Text). f.now) c.as_slice-4.result.now ≡ codes "IMAGE" ∷ [] = search rules in
     let mean_is = ap (λ (a : App). a.top) c.in_ok-mean.ensures.app
     ∙ ap (λ (fs : List Text). subcommand_shape (record { name = codes "mean"; files = fs })) mean_files in
     let run_is = ap (λ (a : App). a.top) c.in_ok-run.ensures.app
     ∙ ap (λ (fs : List Text). subcommand_shape (record { name = codes "run"; files = fs })) run_files in
+    let asm_is = ap (λ (a : App). a.top) c.in_ok-asm.ensures.app
+    ∙ ap (λ (fs : List Text). subcommand_shape (record { name = codes "asm"; files = fs })) asm_files in
+    let dis_is = ap (λ (a : App). a.top) c.in_ok-dis.ensures.app
+    ∙ ap (λ (fs : List Text). subcommand_shape (record { name = codes "dis"; files = fs })) dis_files in
     let with_mean = c.in_ok-with_mean.ensures.shape c.in_ok-mean.ensures.globals ∙ ap₂ with_subcommand bare_is mean_is in
+    let with_run = c.in_ok-with_run.ensures.shape c.in_ok-run.ensures.globals ∙ ap₂ with_subcommand with_mean run_is in
+    let with_asm = c.in_ok-with_asm.ensures.shape c.in_ok-asm.ensures.globals ∙ ap₂ with_subcommand with_run asm_is in
     record {
-      app = c.in_ok-whole.ensures.shape c.in_ok-run.ensures.globals ∙ ap₂ with_subcommand with_mean run_is;
-      globals = search rules;
+      app = c.in_ok-whole.ensures.shape c.in_ok-dis.ensures.globals ∙ ap₂ with_subcommand with_asm dis_is;
+      globals = no_globals _ _ _ c.in_ok-whole.ensures.globals asm_free c.in_ok-dis.ensures.globals;
     }

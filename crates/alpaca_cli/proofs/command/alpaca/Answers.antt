@@ -1,7 +1,11 @@
 use Rattle.alpaca_cli.proofs.Answered.{complete_told}
+use Rattle.alpaca_cli.proofs.ShelfLaws.{others_stand}
 use Rattle.alpaca_cli.proofs.SourceLaws.{sources_exclude}
 use Rattle.alpaca_cli.proofs.command.alpaca.Goals as goal
 
+pub returns-clause-files : goal.returns-clause-files
+returns-clause-files g c = others_stand _ _ _ _ _ c.answer.ensures.answers
+
 pub returns-clause-complete : goal.returns-clause-complete
 returns-clause-complete g c =
-    complete_told c.board_has_one_run.ensures.unique (sources_exclude c.one_answer.ensures) _ _ _ _ _ _ _ c.answer.ensures.answers
+    complete_told c.board_has_one_run.ensures.unique (sources_exclude c.one_answer.ensures) _ _ _ _ _ _ _ _ c.answer.ensures.answers

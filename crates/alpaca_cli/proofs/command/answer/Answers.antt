@@ -1,16 +1,29 @@
 use Rattle.std.proofs.Common.{◌∙◌, ap, Some, refl, Err, map, string_bytes}
 use Rattle.command_line.specs.Commands.{plain_line}
-use Rattle.alpaca_cli.specs.Commands as verb
-use Rattle.alpaca_cli.proofs.Answered.{on_line, names_command}
+use Rattle.alpaca_cli.specs.Calls as call
+use Rattle.alpaca_cli.proofs.Answered.{on_line, on_silent_line}
+use Rattle.alpaca_cli.proofs.LineLaws.{names_command}
 use Rattle.alpaca_cli.proofs.command.answer.Goals as goal
+
+pub returns-in-Ok-Mean-clause-answers : goal.returns-in-Ok-Mean-clause-answers
+returns-in-Ok-Mean-clause-answers g c =
+    on_line _ (call.mean _ _) _ _ _ _ (c.in-Ok-Mean.ensures.command ∙ ap (λ x. Some (plain_line x)) c.in-Ok-Mean.field-0-is) c.answer_mean.ensures.answers
 
 pub returns-in-Ok-Run-clause-answers : goal.returns-in-Ok-Run-clause-answers
 returns-in-Ok-Run-clause-answers g c =
-    on_line _ verb.run _ _ _ _ _ _ _ _ (c.in-Ok-Run.ensures.command ∙ ap (λ x. Some (plain_line x)) c.in-Ok-Run.field-0-is) c.run.ensures.answers
+    on_line _ (call.run _ _) _ _ _ _ (c.in-Ok-Run.ensures.command ∙ ap (λ x. Some (plain_line x)) c.in-Ok-Run.field-0-is) c.answer_run.ensures.answers
+
+pub returns-in-Ok-Asm-clause-answers : goal.returns-in-Ok-Asm-clause-answers
+returns-in-Ok-Asm-clause-answers g c =
+    on_silent_line _ (call.asm _ _) _ _ _ _ (c.in-Ok-Asm.ensures.command ∙ ap (λ x. Some (plain_line x)) c.in-Ok-Asm.field-0-is) refl c.answer_asm.ensures.answers
+
+pub returns-in-Ok-Dis-clause-answers : goal.returns-in-Ok-Dis-clause-answers
+returns-in-Ok-Dis-clause-answers g c =
+    on_line _ (call.dis _) _ _ _ _ (c.in-Ok-Dis.ensures.command ∙ ap (λ x. Some (plain_line x)) c.in-Ok-Dis.field-0-is) c.answer_dis.ensures.answers
 
 pub returns-in-Err-Usage-clause-answers : goal.returns-in-Err-Usage-clause-answers
 returns-in-Err-Usage-clause-answers g c = (
   c.in-Err-Usage.ensures.usage (ap Err c.in-Err-Usage.field-0-is),
   λ on. c.in-Err-Usage.ensures.no_command (ap Err c.in-Err-Usage.field-0-is) (names_command (map string_bytes c.args.words.now) on),
-  record { nothing_written = refl; told = c.tell_usage.ensures.line },
+  record { stands = refl; silent = refl; told = c.tell_usage.ensures.line },
 )

@@ -1,20 +1,21 @@
 use Rattle.std.proofs.Common.{refl}
-use Rattle.alpaca_cli.specs.Outputs.{the_image, the_trace}
+use Rattle.alpaca_cli.specs.Products.{the_image, the_trace}
 use Rattle.alpaca_cli.proofs.UnreadFiles.{handed_on}
-use Rattle.alpaca_cli.proofs.FailureLaws.{first_fails, second_fails, run_whole, run_fails}
+use Rattle.alpaca_cli.proofs.FailureLaws.{refusal_fails, run_whole, run_fails}
 use Rattle.alpaca_cli.proofs.run.run_texts.Goals as goal
 
 pub returns-in_err-image-clause-failure : goal.returns-in_err-image-clause-failure
 returns-in_err-image-clause-failure g c =
-    handed_on _ _ _ c.from_residual.ensures (first_fails _ _ _ _ _ (λ r no. the_image r no) refl c.in_err-image.ensures.refused)
+    handed_on _ _ _ c.from_residual.ensures
+    (λ shelf stands. refusal_fails _ _ _ _ _ 0 _ _ refl (λ r no. the_image r no) stands refl c.in_err-image.ensures.refused)
 
 pub returns-in_err-trace-clause-failure : goal.returns-in_err-trace-clause-failure
 returns-in_err-trace-clause-failure g c =
     handed_on _ _ _ c.from_residual-in_err-trace.ensures
-    (second_fails _ _ _ _ _ (λ r no. the_trace _ r c.in_ok-image.ensures.said no) refl c.in_err-trace.ensures.refused)
+    (λ shelf stands. refusal_fails _ _ _ _ _ 1 _ _ refl (λ r no. the_trace _ r c.in_ok-image.ensures.said no) stands refl c.in_err-trace.ensures.refused)
 
 pub returns-clause-whole : goal.returns-clause-whole
-returns-clause-whole g c = run_whole _ _ _ _ _ _ c.in_ok-image.ensures.said c.in_ok-trace.ensures.said c.write_run.ensures.whole
+returns-clause-whole g c = run_whole _ _ _ _ _ _ _ _ c.in_ok-image.ensures.said c.in_ok-trace.ensures.said c.write_run.ensures.whole
 
 pub returns-clause-failure : goal.returns-clause-failure
-returns-clause-failure g c = run_fails _ _ _ _ _ _ c.in_ok-image.ensures.said c.in_ok-trace.ensures.said c.write_run.ensures.failure
+returns-clause-failure g c = run_fails _ _ _ _ _ _ _ _ c.in_ok-image.ensures.said c.in_ok-trace.ensures.said c.write_run.ensures.failure

@@ -1,13 +1,13 @@
 use Rattle.std.proofs.Common.{subst}
 use Rattle.energy_trace.specs.Reading.{Fails, trace_of}
 use Rattle.alpaca_cli.specs.Texts.{RefusesTrace, bad_trace_line, too_many}
-use Rattle.alpaca_cli.proofs.Refused.{second_as}
+use Rattle.alpaca_cli.proofs.Refused.{refused_as}
 use Rattle.alpaca_cli.proofs.traces.trace_of.Goals as goal
 
 pub returns-in-Err-BadLine-clause-refused : goal.returns-in-Err-BadLine-clause-refused
 returns-in-Err-BadLine-clause-refused c =
-    second_as _ _ (RefusesTrace c.args.text.now) c.refused.ensures (bad_trace_line _ (subst (λ f. Fails f (trace_of c.args.text.now)) c.in-Err-BadLine.field-0-is c.in-Err-BadLine.ensures.value))
+    refused_as _ _ _ (RefusesTrace c.args.text.now) c.refused_plainly.ensures (bad_trace_line _ (subst (λ f. Fails f (trace_of c.args.text.now)) c.in-Err-BadLine.field-0-is c.in-Err-BadLine.ensures.value))
 
 pub returns-in-Err-TooMany-clause-refused : goal.returns-in-Err-TooMany-clause-refused
 returns-in-Err-TooMany-clause-refused c =
-    second_as _ _ (RefusesTrace c.args.text.now) c.refused-in-Err-TooMany.ensures (too_many _ (subst (λ f. Fails f (trace_of c.args.text.now)) c.in-Err-TooMany.field-0-is c.in-Err-TooMany.ensures.value))
+    refused_as _ _ _ (RefusesTrace c.args.text.now) c.refused_plainly-in-Err-TooMany.ensures (too_many _ (subst (λ f. Fails f (trace_of c.args.text.now)) c.in-Err-TooMany.field-0-is c.in-Err-TooMany.ensures.value))

@@ -1,19 +1,22 @@
 -- The texts of a command have one ending, and are accepted or refused, not both.
-use Rattle.std.proofs.Common.{◌≡◌, ◌∙◌, ℕ, List, [], ◌∷◌, Ok, Err, Result, sym, ap, subst}
+use Rattle.std.proofs.Common.{◌≡◌, ◌∙◌, ℕ, List, [], ◌∷◌, Option, Some, None, Ok, Err, Result, sym, ap, subst}
+use Rattle.std.specs.Prelude.{IsSomeAnd}
 use Rattle.energy_trace.specs.TraceValue.{TraceValue}
 use Rattle.energy_trace.specs.Reading.{trace_of}
 use Rattle.image_text.specs.ImageValue.{ImageValue}
 use Rattle.image_text.specs.Reading.{image_of}
+use Rattle.msp_asm.specs.Assembled.{assembled}
 use Rattle.fram_board.specs.Laws.{HasOneRun}
 use Rattle.source_values.specs.Runs.{CheckedProgram}
-use Rattle.alpaca_cli.specs.Commands.{Verb, mean, run}
+use Rattle.alpaca_cli.specs.Assemblies.{RefusesAssembly}
+use Rattle.alpaca_cli.specs.Calls.{Call, mean, run, asm, dis}
 use Rattle.alpaca_cli.specs.Ending.{Ending}
 use Rattle.alpaca_cli.specs.Refusals.{Refusal}
 use Rattle.alpaca_cli.specs.RunReport.{IsRunReport, ending_of}
 use Rattle.alpaca_cli.specs.Sources.{IsSourceText, RefusesSource}
 use Rattle.alpaca_cli.specs.Texts.{RefusesTrace, RefusesImage, outside_fram, twice, no_reset, bad_map}
 use Rattle.alpaca_cli.specs.Texts as texts
-use Rattle.alpaca_cli.specs.Outputs.{Means, Runs, MeanRefuses, the_source, its_trace, RunRefuses, the_image, the_trace, IsOutput, IsRefused}
+use Rattle.alpaca_cli.specs.Products.{Product, Means, Runs, Assembles, MeanRefuses, the_source, its_trace, RunRefuses, the_image, the_trace, IsProduct, IsRefused}
 
 -- no text is a source and refused as one
 abbrev pub SourcesExclude : Type 0
@@ -28,20 +31,29 @@ not_both x a e p q = let g : Ok a ≡ Err e = sym p ∙ q in cc
 one_run : HasOneRun → (i : ImageValue) (t : TraceValue) (e e' : Ending) (o o' : List ℕ) → IsRunReport i t e o → IsRunReport i t e' o' → e ≡ e'
 one_run law i t e e' o o' a b = a.ends ∙ ap (λ r. ending_of r.ending) (law _ _ a.outcome b.outcome a.run b.run) ∙ sym b.ends
 
-pub one_ending : HasOneRun → (verb : Verb) (texts : List (List ℕ)) (e e' : Ending) (o o' : List ℕ) → IsOutput verb texts e o → IsOutput verb texts e' o' → e ≡ e'
-one_ending law mean [] e e' o o' a b = absurd a
-one_ending law mean (x ∷ []) e e' o o' a b = absurd a
-one_ending law mean (x ∷ y ∷ []) e e' o o' a b = a.0 ∙ sym b.0
-one_ending law mean (x ∷ y ∷ z ∷ more) e e' o o' a b = absurd a
-one_ending law run [] e e' o o' a b = absurd a
-one_ending law run (x ∷ []) e e' o o' a b = absurd a
-one_ending law run (x ∷ y ∷ []) e e' o o' a b =
+run_ending : HasOneRun → (x y : List ℕ) (e e' : Ending) (o o' : List ℕ) → Runs x y e o → Runs x y e' o' → e ≡ e'
+run_ending law x y e e' o o' a b =
     let image : b.value ≡ a.value = same_value (image_of x) b.value a.value b.image_said a.image_said in
     let trace : b.charges ≡ a.charges = same_value (trace_of y) b.charges a.charges b.trace_said a.trace_said in
     let report : IsRunReport a.value a.charges e' o' =
     subst (λ t. IsRunReport a.value t e' o') trace (subst (λ i. IsRunReport i b.charges e' o') image b.report) in
     one_run law a.value a.charges e e' o o' a.report report
-one_ending law run (x ∷ y ∷ z ∷ more) e e' o o' a b = absurd a
+
+pub one_ending : HasOneRun → (call : Call) (texts : List (List ℕ)) (p q : Product) → IsProduct call texts p → IsProduct call texts q → p.ending ≡ q.ending
+one_ending law (mean c d) [] p q a b = absurd a
+one_ending law (mean c d) (x ∷ []) p q a b = absurd a
+one_ending law (mean c d) (x ∷ y ∷ []) p q a b = a.2 ∙ sym b.2
+one_ending law (mean c d) (x ∷ y ∷ z ∷ more) p q a b = absurd a
+one_ending law (run c d) [] p q a b = absurd a
+one_ending law (run c d) (x ∷ []) p q a b = absurd a
+one_ending law (run c d) (x ∷ y ∷ []) p q a b = run_ending law x y p.ending q.ending p.output q.output a.0 b.0
+one_ending law (run c d) (x ∷ y ∷ z ∷ more) p q a b = absurd a
+one_ending law (asm c d) [] p q a b = absurd a
+one_ending law (asm c d) (x ∷ []) p q a b = a.2 ∙ sym b.2
+one_ending law (asm c d) (x ∷ y ∷ more) p q a b = absurd a
+one_ending law (dis c) [] p q a b = absurd a
+one_ending law (dis c) (x ∷ []) p q a b = a.2 ∙ sym b.2
+one_ending law (dis c) (x ∷ y ∷ more) p q a b = absurd a
 
 no_trace : (text : List ℕ) (t : TraceValue) (r : Refusal) → trace_of text ≡ Ok t → RefusesTrace text r → ⊥
 no_trace text t r said (texts.bad_trace_line n fails) = not_both (trace_of text) t _ said fails
@@ -54,6 +66,10 @@ no_image text i r said (twice n fails) = not_both (image_of text) i _ said fails
 no_image text i r said (no_reset fails) = not_both (image_of text) i _ said fails
 no_image text i r said (bad_map n fails) = not_both (image_of text) i _ said fails
 
+no_assembly : (text : List ℕ) (file : Option (List ℕ)) (r : Refusal) → IsSomeAnd file (Assembles text) → RefusesAssembly text r → ⊥
+no_assembly text None r is refuses = is
+no_assembly text (Some bytes) r is refuses = not_both (assembled text) is.words refuses.cause is.said refuses.refused
+
 mean_not_refused : SourcesExclude → (source trace o : List ℕ) (place : ℕ) (r : Refusal) → Means source trace o → MeanRefuses source trace place r → ⊥
 mean_not_refused law source trace o place r a (the_source x fails) = law source a.program r a.source_said fails
 mean_not_refused law source trace o place r a (its_trace p x said fails) = no_trace trace a.value r a.trace_said fails
@@ -62,13 +78,19 @@ run_not_refused : (image trace o : List ℕ) (e : Ending) (place : ℕ) (r : Ref
 run_not_refused image trace o e place r a (the_image x fails) = no_image image a.value r a.image_said fails
 run_not_refused image trace o e place r a (the_trace i x said fails) = no_trace trace a.charges r a.trace_said fails
 
-pub not_refused : SourcesExclude → (verb : Verb) (texts : List (List ℕ)) (e : Ending) (o : List ℕ) (place : ℕ) (r : Refusal)
-    → IsOutput verb texts e o → IsRefused verb texts place r → ⊥
-not_refused law mean [] e o place r a b = a
-not_refused law mean (x ∷ []) e o place r a b = a
-not_refused law mean (x ∷ y ∷ []) e o place r a b = mean_not_refused law x y o place r a.1 b
-not_refused law mean (x ∷ y ∷ z ∷ more) e o place r a b = a
-not_refused law run [] e o place r a b = a
-not_refused law run (x ∷ []) e o place r a b = a
-not_refused law run (x ∷ y ∷ []) e o place r a b = run_not_refused x y o e place r a b
-not_refused law run (x ∷ y ∷ z ∷ more) e o place r a b = a
+pub not_refused : SourcesExclude → (call : Call) (texts : List (List ℕ)) (p : Product) (place : ℕ) (r : Refusal)
+    → IsProduct call texts p → IsRefused call texts place r → ⊥
+not_refused law (mean c d) [] p place r a b = a
+not_refused law (mean c d) (x ∷ []) p place r a b = a
+not_refused law (mean c d) (x ∷ y ∷ []) p place r a b = mean_not_refused law x y p.output place r a.0 b
+not_refused law (mean c d) (x ∷ y ∷ z ∷ more) p place r a b = a
+not_refused law (run c d) [] p place r a b = a
+not_refused law (run c d) (x ∷ []) p place r a b = a
+not_refused law (run c d) (x ∷ y ∷ []) p place r a b = run_not_refused x y p.output p.ending place r a.0 b
+not_refused law (run c d) (x ∷ y ∷ z ∷ more) p place r a b = a
+not_refused law (asm c d) [] p place r a b = a
+not_refused law (asm c d) (x ∷ []) p place r a b = no_assembly x p.file r a.0 b.0
+not_refused law (asm c d) (x ∷ y ∷ more) p place r a b = a
+not_refused law (dis c) [] p place r a b = a
+not_refused law (dis c) (x ∷ []) p place r a b = no_image x a.0.value r a.0.said b.0
+not_refused law (dis c) (x ∷ y ∷ more) p place r a b = a

@@ -1,0 +1,84 @@
+-- What a command makes of its texts; or which of them is refused first, in the order of the words.
+use Rattle.std.specs.Prelude.{◌≡◌, ℕ, List, [], ◌∷◌, Option, None, Ok, IsSomeAnd}
+use Rattle.energy_trace.specs.TraceValue.{TraceValue}
+use Rattle.energy_trace.specs.Reading.{trace_of}
+use Rattle.image_text.specs.ImageValue.{ImageValue}
+use Rattle.image_text.specs.Reading.{image_of}
+use Rattle.image_text.specs.Text.{text_of}
+use Rattle.msp_asm.specs.Assembled.{assembled}
+use Rattle.msp_asm.specs.Disassembly.{IsTextOf}
+use Rattle.source_values.specs.Runs.{CheckedProgram}
+use Rattle.source_report.specs.SourceReport.{IsMeanReport}
+use Rattle.alpaca_cli.specs.Assemblies.{RefusesAssembly}
+use Rattle.alpaca_cli.specs.Calls.{Call, mean, run, asm, dis}
+use Rattle.alpaca_cli.specs.Ending.{Ending, well}
+use Rattle.alpaca_cli.specs.Refusals.{Refusal}
+use Rattle.alpaca_cli.specs.RunReport.{IsRunReport}
+use Rattle.alpaca_cli.specs.Sources.{IsSourceText, RefusesSource}
+use Rattle.alpaca_cli.specs.Texts.{RefusesTrace, RefusesImage}
+
+-- the bytes of the file that a command puts, if it puts one; what it writes; and how it ends
+pub record Product : Type 0 where
+  pub file : Option (List ℕ)
+  pub output : List ℕ
+  pub ending : Ending
+
+-- the texts are a source and a trace, and this is the report of the source's meaning on the trace's readings
+pub record Means (source trace output : List ℕ) : Type 0 where
+  pub program : CheckedProgram
+  pub value : TraceValue
+  pub source_said : IsSourceText source program
+  pub trace_said : trace_of trace ≡ Ok value
+  pub report : IsMeanReport source program value.readings output
+
+-- the texts are an image and a trace, and this is the report of the image's run on the trace, which ends so
+pub record Runs (image trace : List ℕ) (ending : Ending) (output : List ℕ) : Type 0 where
+  pub value : ImageValue
+  pub charges : TraceValue
+  pub image_said : image_of image ≡ Ok value
+  pub trace_said : trace_of trace ≡ Ok charges
+  pub report : IsRunReport value charges ending output
+
+-- the assembler text says an image without a map, and these bytes are the image text that is printed of it, which reads back
+pub record Assembles (assembly file : List ℕ) : Type 0 where
+  pub words : List ℕ
+  pub said : assembled assembly ≡ Ok words
+  pub text : file ≡ text_of words
+  pub reads_back : image_of file ≡ Ok (record { words = words; map = None })
+
+-- this is the listing of an image's words, and it assembles to them
+pub record IsListing (words output : List ℕ) : Type 0 where
+  pub text : IsTextOf words output
+  pub assembles : assembled output ≡ Ok words
+
+-- the text is an image, and this is the listing of its words
+pub record Lists (image output : List ℕ) : Type 0 where
+  pub value : ImageValue
+  pub said : image_of image ≡ Ok value
+  pub listing : IsListing value.words output
+
+-- the texts are accepted, and this is what the command makes of them
+abbrev pub IsProduct : Call → List (List ℕ) → Product → Type 0
+IsProduct (mean _ _) (source ∷ trace ∷ []) p = Means source trace p.output × (p.file ≡ None) × (p.ending ≡ well)
+IsProduct (run _ _) (image ∷ trace ∷ []) p = Runs image trace p.ending p.output × (p.file ≡ None)
+IsProduct (asm _ _) (assembly ∷ []) p = IsSomeAnd p.file (Assembles assembly) × (p.output ≡ []) × (p.ending ≡ well)
+IsProduct (dis _) (image ∷ []) p = Lists image p.output × (p.file ≡ None) × (p.ending ≡ well)
+IsProduct call texts p = ⊥
+
+-- the text of `mean` at this place, from 0, is the first that is refused, and so
+pub data MeanRefuses (source trace : List ℕ) : ℕ → Refusal → Type 0 where
+  the_source : (r : Refusal) → RefusesSource source r → MeanRefuses source trace 0 r
+  its_trace : (program : CheckedProgram) (r : Refusal) → IsSourceText source program → RefusesTrace trace r → MeanRefuses source trace 1 r
+
+-- the same of `run`
+pub data RunRefuses (image trace : List ℕ) : ℕ → Refusal → Type 0 where
+  the_image : (r : Refusal) → RefusesImage image r → RunRefuses image trace 0 r
+  the_trace : (value : ImageValue) (r : Refusal) → image_of image ≡ Ok value → RefusesTrace trace r → RunRefuses image trace 1 r
+
+-- the text at this place, from 0, is the first that is refused, and so
+abbrev pub IsRefused : Call → List (List ℕ) → ℕ → Refusal → Type 0
+IsRefused (mean _ _) (source ∷ trace ∷ []) place r = MeanRefuses source trace place r
+IsRefused (run _ _) (image ∷ trace ∷ []) place r = RunRefuses image trace place r
+IsRefused (asm _ _) (assembly ∷ []) place r = RefusesAssembly assembly r × (place ≡ 0)
+IsRefused (dis _) (image ∷ []) place r = RefusesImage image r × (place ≡ 0)
+IsRefused call texts place r = ⊥
