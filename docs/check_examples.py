@@ -3,9 +3,10 @@
 
 usage: docs/check_examples.py PROGRAM [PAGE ..]
 
-A block whose info string is `file NAME` is a file. A block `console` holds commands, `$ alpaca WORDS`, each followed by what it
-prints on standard output and standard error; a last line `[status N]` is the exit status where it isn't 0. The blocks of a
-page run in its order, in one empty folder.
+A block whose info string is `file NAME` is a file. A block `console` holds commands, `$ alpaca WORDS` or `$ cat FILES`, each
+followed by what it prints on standard output and standard error; a last line `[status N]` is the exit status where it isn't 0.
+`> NAME` at a command's end puts standard output into that file, and a line `...` stands for any lines. The blocks of a page run
+in its order, in one empty folder.
 """
 import pathlib
 import shlex
@@ -44,13 +45,34 @@ def commands(lines):
         yield command, wanted
 
 
-def printed(program, command, folder):
-    words = shlex.split(command)
+def run(program, words, folder):
+    """What one command writes on standard output and standard error, and its exit status."""
+    if words[0] == "cat":
+        return "".join(pathlib.Path(folder, name).read_text() for name in words[1:]), "", 0
     if words[0] != "alpaca":
-        raise SystemExit(f"no command of the program: {command}")
+        raise SystemExit(f"neither cat nor a command of the program: {words}")
     ended = subprocess.run([program, *words[1:]], cwd=folder, capture_output=True, text=True, timeout=60)
-    lines = (ended.stdout + ended.stderr).splitlines()
-    return lines + ([f"[status {ended.returncode}]"] if ended.returncode else [])
+    return ended.stdout, ended.stderr, ended.returncode
+
+
+def printed(program, command, folder):
+    """The lines that a command prints, and its status where that isn't 0."""
+    words = shlex.split(command)
+    into = words[-1] if words[-2:-1] == [">"] else None
+    output, errors, status = run(program, words[:-2] if into else words, folder)
+    if into:
+        pathlib.Path(folder, into).write_text(output)
+        output = ""
+    return (output + errors).splitlines() + ([f"[status {status}]"] if status else [])
+
+
+def agree(got, wanted):
+    """Whether the lines are the wanted ones, of which `...` stands for any."""
+    if "..." not in wanted:
+        return got == wanted
+    at = wanted.index("...")
+    front, behind = wanted[:at], wanted[at + 1 :]
+    return got[:at] == front and any(agree(got[k:], behind) for k in range(at, len(got) + 1))
 
 
 def check(program, page):
@@ -65,7 +87,7 @@ def check(program, page):
                 for command, wanted in commands(lines):
                     ran += 1
                     got = printed(program, command, folder)
-                    if got != wanted:
+                    if not agree(got, wanted):
                         wrong += 1
                         print(f"{page.name}: {command}\n  page:    {wanted}\n  program: {got}")
     return ran, wrong
