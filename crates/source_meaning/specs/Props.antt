@@ -4,10 +4,12 @@ use denote.Struct.Props as logic
 use Rattle.source_values.specs.Statements.{Outcome, goes_on, to_task, short}
 use Rattle.source_values.specs.Runs.{CheckedProgram, EndsWell, IsRunnable}
 
+-- an outcome ends well in one way at most
 EndsWell-prop : (tasks : ℕ) (o : Outcome) → IsProp (EndsWell tasks o)
 EndsWell-prop tasks (goes_on s) = Prim.hlevel logic.props
 EndsWell-prop tasks (to_task t s) = Prim.hlevel logic.props
 EndsWell-prop tasks short = Prim.hlevel logic.props
 
+-- and a source can be run in one way at most
 pub IsRunnable-prop : (program : CheckedProgram) → IsProp (IsRunnable program)
 IsRunnable-prop program = Prim.hlevel (logic.props, EndsWell-prop)

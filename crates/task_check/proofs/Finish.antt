@@ -1,5 +1,5 @@
 -- The answer of the checks behind those of names.
-use Rattle.std.proofs.Common.{◌≡◌, ℕ, List, [], ◌∷◌, Option, Some, None, Result, Ok, Err, IfOk, MatchResult, ◌⊎◌, inl, inr, sym, subst, ◌∙◌}
+use Rattle.std.proofs.Common.{◌≡◌, ℕ, List, [], ◌∷◌, Option, Some, None, Result, Ok, Err, IfOk, MatchResult, ◌⊎◌, inl, inr, refl, sym, subst, ◌∙◌}
 use Rattle.std.specs.Result.{IfErr}
 use Rattle.alp_text.specs.declared.lines.Span.{Span}
 use Rattle.task_ast.specs.declared.names.VariableName.{VariableName}
@@ -16,7 +16,7 @@ use Rattle.task_check.specs.Occurrences.{program_names}
 use Rattle.task_check.specs.LookedUp.{program_back, task_variables, task_targets, variables_in, targets_in}
 use Rattle.task_check.specs.Faults.{first_fault, name_fault, use_fault, limit_fault}
 use Rattle.task_check.specs.Walks.{IsWalked}
-use Rattle.task_check.specs.Answers.{IsNamed, IsAccepted, IsCleanOnPaths, IsRefusedOnPaths, on_paths, at_limits, IsRefusedOrMemory, limits_fault}
+use Rattle.task_check.specs.Answers.{IsLookedUp, IsNamed, IsAccepted, IsCleanOnPaths, IsRefusedOnPaths, on_paths, at_limits, IsRefusedOrMemory, limits_fault}
 
 module _ (source : List ℕ) (tree : Program Span Span) (names : List Occurrence) (w : Walk) (same : names ≡ program_names tree) (walked : IsWalked source names names w) where
   named_is : (checked : Program VariableName TaskName) → w.wrong_use ≡ None → program_back checked ≡ tree → task_variables checked.tasks [] ≡ w.variables.items → task_targets checked.tasks (checked.entry.task ∷ []) ≡ w.targets.items
@@ -33,6 +33,13 @@ module _ (source : List ℕ) (tree : Program Span Span) (names : List Occurrence
 
   limits_are : (r : Option CheckFault) → w.too_many ≡ r → limits_fault source tree ≡ r
   limits_are r e = subst (λ xs. first_fault (limit_fault source) xs ≡ r) same (sym walked.too_many ∙ e)
+
+  pub looked_up_is : (checked : Program VariableName TaskName) → w.wrong_use ≡ None → program_back checked ≡ tree → task_variables checked.tasks [] ≡ w.variables.items → task_targets checked.tasks (checked.entry.task ∷ []) ≡ w.targets.items
+      → IsLookedUp source (program_back checked) checked
+  looked_up_is checked fine back vs ts = subst (λ t. IsLookedUp source t checked) (sym back) (named_is checked fine back vs ts).looked_up
+
+  pub limits_back : (checked : Program VariableName TaskName) → program_back checked ≡ tree → w.too_many ≡ limits_fault source (program_back checked)
+  limits_back checked back = subst (λ t. w.too_many ≡ limits_fault source t) (sym back) (sym (limits_are w.too_many refl))
 
   -- what the checks of paths and limits answer
   pub finished : (r : Result Checked CheckFault) (checked : Source VariableName TaskName)

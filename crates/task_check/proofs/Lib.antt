@@ -4,4 +4,6 @@ mod Fronts
 pub mod Parts
 mod Finish
 mod Fill
+mod Counted
+mod Ranges
 mod OneAnswer

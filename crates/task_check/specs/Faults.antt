@@ -58,6 +58,7 @@ name_fault_if source o repeated unknown = option_or
     (fault_if repeated (fault.RepeatedName (line_at source o) o.span))
     (fault_if unknown (fault.UnknownName (line_at source o) o.span))
 
+-- what is wrong with a name at its place: it is repeated, or unknown
 unfoldable pub name_fault : List ℕ → List Occurrence → Occurrence → List Occurrence → Option CheckFault
 name_fault source all o front = name_fault_if source o
     (is_repeated o.role (stands_in_front (length front) (global_in source (text_of source o.span) all)) (tasks_in front) (local_in source (text_of source o.span) front))
@@ -71,10 +72,12 @@ is_no_word (Some (symbol.Task n)) = true
 is_no_word (Some (symbol.Array n of)) = true
 is_no_word _ = false
 
+-- something else than an array
 abbrev pub is_no_array : Option Symbol → Bool
 is_no_array (Some (symbol.Array n of)) = false
 is_no_array _ = true
 
+-- something else than a task
 abbrev pub is_no_task : Option Symbol → Bool
 is_no_task (Some (symbol.Task n)) = false
 is_no_task _ = true
@@ -90,6 +93,7 @@ use_fault_by source o (role.Count n) s = fault_if (nat_lt 15 n) (fault.WrongUse 
 use_fault_by source o (role.Shared of (extent.Array words)) s = fault_if (words == 0) (fault.BadLength (line_at source o) o.span)
 use_fault_by source o _ s = None
 
+-- the same of a name at its place
 unfoldable pub use_fault : List ℕ → List Occurrence → Occurrence → List Occurrence → Option CheckFault
 use_fault source all o front = use_fault_by source o o.role (symbol_at source all o front)
 
@@ -102,5 +106,6 @@ is_too_many role.Task shared tasks locals = tasks == 64
 is_too_many (role.Local of begin end) shared tasks locals = locals == 256
 is_too_many _ shared tasks locals = false
 
+-- a declared name that is one too many
 unfoldable pub limit_fault : List ℕ → Occurrence → List Occurrence → Option CheckFault
 limit_fault source o front = fault_if (is_too_many o.role (shared_in front) (tasks_in front) (locals_in front)) (fault.TooMany (line_at source o))

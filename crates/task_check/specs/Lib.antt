@@ -6,5 +6,6 @@ pub mod Answers
 pub mod Limits
 pub mod Tables
 pub mod Parts
+pub mod Counted
 pub mod Walks
 pub mod Laws

@@ -17,6 +17,7 @@ use Rattle.task_check.specs.Scope.{text_of, locals_in, global_in, local_in, mean
 
 -- ---- the names' places put back
 
+-- in an expression
 abbrev pub expression_back : Expression VariableName → Expression Span
 expression_back (t.number n) = t.number n
 expression_back (t.name v) = t.name v.span
@@ -28,6 +29,7 @@ expression_back (t.shift op a count) = t.shift op (expression_back a) count
 expression_back (t.short_circuit op a b) = t.short_circuit op (expression_back a) (expression_back b)
 
 abbrev mutual
+  -- in a statement
   pub statement_back : Statement VariableName TaskName → Statement Span Span
   statement_back (t.declare of v value) = t.declare of v.span (option_map expression_back value)
   statement_back (t.assign v e) = t.assign v.span (expression_back e)
@@ -37,15 +39,18 @@ abbrev mutual
   statement_back (t.emit e) = t.emit (expression_back e)
   statement_back (t.transition n) = t.transition n.span
 
+  -- in the conditions and blocks of an `if`
   pub choice_back : Choice VariableName TaskName → Choice Span Span
   choice_back t.nothing = t.nothing
   choice_back (t.otherwise b) = t.otherwise (block_back b)
   choice_back (t.test e b more) = t.test (expression_back e) (block_back b) (choice_back more)
 
+  -- in a block
   pub block_back : Block VariableName TaskName → Block Span Span
   block_back t.end = t.end
   block_back (t.step s more) = t.step (statement_back s) (block_back more)
 
+-- in a task
 abbrev pub task_back : Task VariableName TaskName → Task Span Span
 task_back k = record { name = k.name; body = block_back k.body }
 
@@ -55,9 +60,11 @@ program_back p = record { shared = p.shared; tasks = map task_back p.tasks; entr
 
 -- ---- the variables that the names of a source were looked up as, in the text's order, in front of some more
 
+-- the variable of a name, with its type
 abbrev pub typed : VariableName → TypedVariable
 typed v = record { variable = v.variable; word_type = v.word_type }
 
+-- those of an expression
 abbrev pub expression_variables : Expression VariableName → List TypedVariable → List TypedVariable
 expression_variables (t.number n) more = more
 expression_variables (t.name v) more = typed v ∷ more
@@ -68,11 +75,13 @@ expression_variables (t.binary op a b) more = expression_variables a (expression
 expression_variables (t.shift op a count) more = expression_variables a more
 expression_variables (t.short_circuit op a b) more = expression_variables a (expression_variables b more)
 
+-- those of an initial value, if one is written
 abbrev pub value_variables : Option (Expression VariableName) → List TypedVariable → List TypedVariable
 value_variables None more = more
 value_variables (Some e) more = expression_variables e more
 
 abbrev mutual
+  -- those of a statement
   pub statement_variables : Statement VariableName TaskName → List TypedVariable → List TypedVariable
   statement_variables (t.declare of v value) more = typed v ∷ value_variables value more
   statement_variables (t.assign v e) more = typed v ∷ expression_variables e more
@@ -82,15 +91,18 @@ abbrev mutual
   statement_variables (t.emit e) more = expression_variables e more
   statement_variables (t.transition n) more = more
 
+  -- those of the conditions and blocks of an `if`
   pub choice_variables : Choice VariableName TaskName → List TypedVariable → List TypedVariable
   choice_variables t.nothing more = more
   choice_variables (t.otherwise b) more = block_variables b more
   choice_variables (t.test e b others) more = expression_variables e (block_variables b (choice_variables others more))
 
+  -- those of a block
   pub block_variables : Block VariableName TaskName → List TypedVariable → List TypedVariable
   block_variables t.end more = more
   block_variables (t.step s others) more = statement_variables s (block_variables others more)
 
+-- those of the tasks
 abbrev pub task_variables : List (Task VariableName TaskName) → List TypedVariable → List TypedVariable
 task_variables [] more = more
 task_variables (k ∷ others) more = block_variables k.body (task_variables others more)
@@ -98,6 +110,7 @@ task_variables (k ∷ others) more = block_variables k.body (task_variables othe
 -- ---- the same for the tasks of transitions and of the entry
 
 abbrev mutual
+  -- those of a statement
   pub statement_targets : Statement VariableName TaskName → List ℕ → List ℕ
   statement_targets (t.declare of v value) more = more
   statement_targets (t.assign v e) more = more
@@ -107,15 +120,18 @@ abbrev mutual
   statement_targets (t.emit e) more = more
   statement_targets (t.transition n) more = n.task ∷ more
 
+  -- those of the blocks of an `if`
   pub choice_targets : Choice VariableName TaskName → List ℕ → List ℕ
   choice_targets t.nothing more = more
   choice_targets (t.otherwise b) more = block_targets b more
   choice_targets (t.test e b others) more = block_targets b (choice_targets others more)
 
+  -- those of a block
   pub block_targets : Block VariableName TaskName → List ℕ → List ℕ
   block_targets t.end more = more
   block_targets (t.step s others) more = statement_targets s (block_targets others more)
 
+-- those of the tasks
 abbrev pub task_targets : List (Task VariableName TaskName) → List ℕ → List ℕ
 task_targets [] more = more
 task_targets (k ∷ others) more = block_targets k.body (task_targets others more)

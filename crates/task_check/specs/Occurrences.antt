@@ -39,6 +39,7 @@ abbrev mutual
   statement_names end (t.emit e) behind = expression_names e behind
   statement_names end (t.transition s) behind = and_front behind s role.Target
 
+  -- those of the conditions and blocks of an `if`
   pub choice_names : Choice Span Span → List Occurrence → List Occurrence
   choice_names t.nothing behind = behind
   choice_names (t.otherwise b) behind = names_up_to (length behind) b behind

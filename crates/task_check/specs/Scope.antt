@@ -20,11 +20,12 @@ text_of source s = slice_range source s.from s.to
 
 -- Below, `front` are the names in front of a place, the nearest first.
 
--- 1 for a shared variable, 1 for a task
+-- 1 for a shared variable
 abbrev pub one_shared : Role → ℕ
 one_shared (role.Shared of e) = 1
 one_shared _ = 0
 
+-- 1 for a task
 abbrev pub one_task : Role → ℕ
 one_task role.Task = 1
 one_task _ = 0
@@ -85,12 +86,13 @@ local_in source name (o ∷ front) = option_or (if_named (bytes_eq (text_of sour
 abbrev pub known_local : ℕ → Local → Option Symbol
 known_local behind l = cond (nat_le l.end behind && nat_lt behind l.begin) (Some (symbol.Local l.number l.word_type)) None
 
--- what a name stands for that is used with so many names behind: a local that is known there, or else a shared variable or a task, wherever it is declared
+-- a local, or else a shared variable or a task
 abbrev pub or_global : Option Symbol → Option Global → Option Symbol
 or_global (Some s) g = Some s
 or_global None None = None
 or_global None (Some g) = Some g.symbol
 
+-- what a name stands for that is used with so many names behind: a local that is known there, or else a shared variable or a task, wherever it is declared
 abbrev pub meaning : ℕ → Option Local → Option Global → Option Symbol
 meaning behind None g = or_global None g
 meaning behind (Some l) g = or_global (known_local behind l) g

@@ -11,23 +11,21 @@ ghost use Rattle.path_checks.specs.Transitions.{NoTransitionAt};
 ghost use Rattle.task_ast.specs.View.{program_of, task_of};
 ghost use Rattle.task_check.specs.declared.fault.CheckFault.TheVariants as CheckFault;
 ghost use Rattle.task_check.specs.Occurrences as occurrences;
-ghost use Rattle.task_check.specs.LookedUp.{task_variables, task_targets};
+ghost use Rattle.task_check.specs.LookedUp.{program_back};
 ghost use Rattle.task_check.specs.Faults as faults;
 ghost use Rattle.task_check.specs.Walks.{IsWalked};
-ghost use Rattle.task_check.specs.Limits as limits;
-ghost use Rattle.task_check.specs.Answers.{IsAccepted, IsNamed, IsRefusedOrMemory, IsRefusedOnPaths, IsCleanOnPaths, names_fault};
+ghost use Rattle.task_check.specs.Answers.{IsAccepted, IsNamed, IsRefusedOrMemory, IsRefusedOnPaths, IsCleanOnPaths, IsLookedUp, limits_fault};
 
 use crate::build::{Names, named};
 use crate::checked::Checked;
 use crate::collect::program_names;
 use crate::fault::CheckFault;
 use crate::occurrence::Occurrence;
-use crate::symbol::TypedVariable;
 use crate::text::line_from;
 use crate::walk::{Walk, globals_of, walk_names};
 use path_checks::{first_bad_loop, first_open_task, first_unassigned};
 use std::alloc::{AllocError, Global};
-use task_ast::{CheckedSource, TaskDeclaration, TaskName, Tree, Variable, VariableName};
+use task_ast::{CheckedSource, TaskDeclaration, TaskName, Tree, VariableName};
 
 // The first fault of the checks of loops and of paths.
 fn paths_fault(source: &[u8], checked: &CheckedSource) -> Option<CheckFault>
@@ -64,50 +62,16 @@ fn lines_of(
         .collect(alloc)
 }
 
-// Whether the numbers of variables are in range.
-fn are_variables(shared: usize, variables: &[TypedVariable]) -> bool
-    ensures { result ≡ list_all (λ v. limits.is_numbered shared v.variable) variables.now }
-{
-    let mut all = true;
-    for i in (0..variables.len()).rev() {
-        let here = is_numbered(shared, variables[i].variable);
-        all = here && all;
-    }
-    all
-}
-
-// Whether the numbers of tasks are.
-fn are_tasks(tasks: usize, targets: &[u32]) -> bool
-    ensures { result ≡ list_all (λ n. nat_lt n tasks) targets.now }
-{
-    let mut all = true;
-    for i in (0..targets.len()).rev() {
-        let here = (targets[i] as usize) < tasks;
-        all = here && all;
-    }
-    all
-}
-
-fn is_numbered(shared: usize, variable: Variable) -> bool
-    ensures { result ≡ limits.is_numbered shared variable }
-{
-    match variable {
-        Variable::Shared(n) => (n as usize) < shared,
-        Variable::Local(n) => n < 256,
-    }
-}
-
-// The checks of loops, of paths and of limits.
+// The checks of loops, of paths and of limits. Where no name is one too many, all numbers are in range.
 fn check_paths(
     alloc: Global,
     source: &[u8],
     checked: CheckedSource,
-    names: Names,
     too_many: Option<CheckFault>,
 ) -> Result<Checked, CheckFault>
     requires short { length source.now < 2 ^ 32 - 1 }
-    requires variables { task_variables (program_of checked).tasks [] ≡ names.variables.now }
-    requires targets { task_targets (program_of checked).tasks ((program_of checked).entry.task ∷ []) ≡ names.targets.now }
+    requires looked_up { IsLookedUp source.now (program_back (program_of checked)) (program_of checked) }
+    requires limits { too_many ≡ limits_fault source.now (program_back (program_of checked)) }
     ensures same { IfOk result (λ c. c.source ≡ checked) }
     ensures fine { IfOk result (λ c. too_many ≡ None) }
     ensures refused { IfErr result (λ e. (e ≡ CheckFault.Memory) ⊎ (IsRefusedOnPaths source.now (program_of checked) e ⊎ (IsCleanOnPaths (program_of checked) × (too_many ≡ Some e)))) }
@@ -120,30 +84,6 @@ fn check_paths(
         return Err(fault);
     }
     let task_lines = lines_of(alloc, source, &checked.tasks)?;
-    checked_source(checked, names, task_lines)
-}
-
-// The checked source. Its numbers are in range where no name is one too many.
-fn checked_source(
-    checked: CheckedSource,
-    names: Names,
-    task_lines: Vec<u32>,
-) -> Result<Checked, CheckFault>
-    requires variables { task_variables (program_of checked).tasks [] ≡ names.variables.now }
-    requires targets { task_targets (program_of checked).tasks ((program_of checked).entry.task ∷ []) ≡ names.targets.now }
-    requires loops { IsFirst None (BadLoopAt (program_of checked)) }
-    requires assigned { IsFirst None (UnassignedAt (program_of checked)) }
-    requires transitions { IsFirst None (NoTransitionAt (program_of checked)) }
-    requires lines { length task_lines.items ≡ length checked.tasks.items }
-    ensures same { IfOk result (λ c. c.source ≡ checked) }
-    ensures lines { IfOk result (λ c. c.task_lines.items ≡ task_lines.items) }
-    ensures memory { IfErr result (λ e. e ≡ CheckFault.Memory) }
-{
-    let (shared, tasks) = (checked.shared.len(), checked.tasks.len());
-    let in_range = are_variables(shared, names.variables) && are_tasks(tasks, names.targets);
-    if tasks > 64 || shared > 256 || !in_range {
-        return Err(CheckFault::Memory);
-    }
     Ok(Checked {
         source: checked,
         task_lines,
@@ -173,7 +113,7 @@ fn check_named(
                 targets: &walk.targets,
             };
             let checked = named(alloc, tree, found)?;
-            check_paths(alloc, source, checked, found, too_many)
+            check_paths(alloc, source, checked, too_many)
         }
     }
 }
@@ -189,6 +129,8 @@ fn check_names(
     ensures answer { MatchResult result (λ c. IsAccepted source.now (program_of tree) (program_of c.source)) (λ e. IsRefusedOrMemory source.now (program_of tree) e) }
     ensures lines { IfOk result (λ c. c.task_lines.items ≡ map (λ t. line_of source.now t.name.from) c.source.tasks.items) }
 {
+    // The names of a parsed text are pieces of it, so there are fewer than it has bytes. But any tree may come here, and nothing
+    // bounds how many names it has: their numbers, which are `u32`, would not do for as many.
     if names.len() >= u32::MAX as usize {
         return Err(CheckFault::Memory);
     }
