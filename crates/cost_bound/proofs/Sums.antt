@@ -25,13 +25,9 @@ capped_from f g i (d ∷ ds) h e =
     let a : capped (f i d.extent) ≡ capped (g i d.extent) = e i d.extent l in
     let b : capped (shared_sum_from f (i + 1) ds) ≡ capped (shared_sum_from g (i + 1) ds) = capped_from f g (i + 1) ds (omega arith) e in omega arith
 
-mark_is : (marks : List Bool) (of : ℕ → Bool) → AreMarked (replicate 256 false) marks of → (k : ℕ) → k < 256 → slice_index_or marks k false ≡ of k
+-- a mark that was set from none
+pub mark_is : (marks : List Bool) (of : ℕ → Bool) → AreMarked (replicate 256 false) marks of → (k : ℕ) → k < 256 → slice_index_or marks k false ≡ of k
 mark_is marks of h k l = h k l ∙ ap (λ b. b || of k) (get_or-replicate 256 k false false l)
-
--- a sum by marks that were set from none
-pub marked_sum : (part : Bool → Extent → ℕ) (shared : List SharedDeclaration) (marks : List Bool) (of : ℕ → Bool) → length shared ≤ 256 → AreMarked (replicate 256 false) marks of
-    → shared_sum (λ k e. part (slice_index_or marks k false) e) shared ≡ shared_sum (λ k e. part (of k) e) shared
-marked_sum part shared marks of h m = same_from (λ k e. part (slice_index_or marks k false) e) (λ k e. part (of k) e) 0 shared (omega arith) (λ k e l. ap (λ b. part b e) (mark_is marks of m k l))
 
 capped_list_part : (stores of : ℕ) (e : Extent) → capped stores ≡ capped of → capped (list_part stores e) ≡ capped (list_part of e)
 capped_list_part stores of (Scalar _) h = refl

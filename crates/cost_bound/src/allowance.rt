@@ -1,8 +1,8 @@
 //! The allowance of a source.
 ghost use Rattle.std.specs.Prelude.{◌≡◌, ◌≤◌, ◌+◌, ◌*◌, ◌<◌, ◌^◌, length, map, max, ℕ, false, slice_index_or, All, IfSome, IfNone, IfOk, IfErr};
 ghost use Rattle.task_ast.specs.View.{block_view, task_of, program_of};
-ghost use Rattle.cost_bound.specs.Table.{capped, words_column, cycles_column};
-ghost use Rattle.cost_bound.specs.Counts.{emits_of};
+ghost use Rattle.cost_bound.specs.Table.{capped, words_column, cycles_column, block_price};
+ghost use Rattle.cost_bound.specs.Counts.{block_assigns, emits_of};
 ghost use Rattle.cost_bound.specs.Allowance.{scalars_of, list_of, task_bound, task_words, greatest, is_written, versions_of, places_of, bound_of, words_of, FewEmits, IsFirstOver, IsAllowed, IsOver};
 ghost use Rattle.cost_bound.specs.Needs.{AreNeeds};
 
@@ -43,15 +43,22 @@ fn emits(body: &[Stmt<VariableName, TaskName>]) -> u64
     block_price(&EMITS, body)
 }
 
-// The shared scalars that the task assigns.
-fn assigned_scalars(shared: &[SharedDeclaration], body: &[Stmt<VariableName, TaskName>]) -> u64
+/// The marks of the shared variables that stand on the left of an assignment in the task.
+pub fn assigned_variables(body: &[Stmt<VariableName, TaskName>]) -> [bool; SHARED]
+    ensures { (i : ℕ) → i < 256 → slice_index_or result i false ≡ block_assigns i (block_view body.now) }
+{
+    let mut marks = [false; SHARED];
+    mark_assigned(body, &mut marks);
+    marks
+}
+
+/// How many shared scalars stand on the left of an assignment in the task.
+pub fn assigned_scalars(shared: &[SharedDeclaration], body: &[Stmt<VariableName, TaskName>]) -> u64
     requires few { length shared.now ≤ 256 }
     ensures value { result ≡ scalars_of shared.now (block_view body.now) }
     ensures low { result ≤ 256 }
 {
-    let mut assigned = [false; SHARED];
-    mark_assigned(body, &mut assigned);
-    scalars(shared, &assigned)
+    scalars(shared, &assigned_variables(body))
 }
 
 // The entries of the task's commit list, of which so many are scalars.
@@ -98,10 +105,7 @@ fn task_needs(
     );
     Needs {
         bound: plus(cycles, plus(times(40, list), times(40, emits))),
-        words: plus(
-            200 + 16 * scalars,
-            block_price(&words_column(scalars), body),
-        ),
+        words: plus(200 + 16 * scalars, code_words(scalars, body)),
         list,
         emits,
     }
@@ -143,8 +147,16 @@ fn all_needs(
     all
 }
 
-// Marks the variables that some task assigns.
-fn written(tasks: &[TaskDeclaration<VariableName, TaskName>]) -> [bool; SHARED]
+/// The words of the task's code, where it assigns so many shared scalars; 2^64 - 1 where they are more.
+pub fn code_words(scalars: u64, body: &[Stmt<VariableName, TaskName>]) -> u64
+    requires few { scalars ≤ 256 }
+    ensures { result ≡ capped (block_price (words_column scalars) (block_view body.now)) }
+{
+    block_price(&words_column(scalars), body)
+}
+
+/// The marks of the shared variables that stand on the left of an assignment in some task.
+pub fn written_variables(tasks: &[TaskDeclaration<VariableName, TaskName>]) -> [bool; SHARED]
     ensures { (i : ℕ) → i < 256 → slice_index_or result i false ≡ is_written (map task_of tasks.now) i }
 {
     let mut marks = [false; SHARED];
@@ -240,7 +252,7 @@ fn totals_of(source: &CheckedSource) -> Totals
     ensures versions { result.versions ≡ versions_of (program_of source.now) }
     ensures low { result.versions < 2 ^ 32 }
 {
-    let written = written(&source.tasks);
+    let written = written_variables(&source.tasks);
     let versions = version_words(source, &written);
     let needs = source_needs(source, versions);
     Totals {

@@ -13,13 +13,13 @@ mod prices;
 mod shared;
 mod stores;
 
-pub use allowance::Allow;
+pub use allowance::{Allow, assigned_scalars, assigned_variables, code_words, written_variables};
 pub use fault::Over;
 pub use laws::{allowance_rows, allowed_is_small, one_answer, price_rows};
 use task_check::Checked;
 
 /// How many shared variables a source has at most.
-const SHARED: usize = 256;
+pub const SHARED: usize = 256;
 
 /// The allowance of a checked source: its bound, its size and the room that its tasks need at most. Or the first that is too much:
 /// more than 256 counted emits of a task, the first in the text; a bound of 2^32 cycles or more; more than 22,000 words.

@@ -1,0 +1,63 @@
+-- What the order of regions says of variables.
+use Rattle.std.proofs.Common.{◌≡◌, ℕ, zero, suc, ◌<◌, ◌≤◌, List, [], ◌∷◌, map, sym, ◌∙◌, ap, subst, arith, Some, None}
+use Rattle.std.specs.Prelude.{slice_get, Contains}
+use Rattle.std.specs.Option.{option_map}
+use Rattle.std.specs.List.{flat_map}
+use Rattle.std.proofs.lemmas.Option.{slice_get-map, slice_get-get_or}
+use Rattle.privatise.specs.declared.place.Region.{Region}
+use Rattle.privatise.specs.declared.place.VariablePlace.{VariablePlace}
+use Rattle.privatise.specs.LayoutValue.{LayoutValue}
+use Rattle.privatise.specs.Places.{end_of, AreInOrder, home_region, copy_regions, IsLaidOut}
+use Rattle.privatise.specs.Laws.{HomesAreApart, CopiesAreApart}
+use Rattle.privatise.proofs.InOrder.{Within, in_order_within, in_order_apart, in_order_split, in_order_end}
+
+mapped : {A B : Type 0} (f : A → B) (xs : List A) (i : ℕ) (a : A) → slice_get xs i ≡ Some a → slice_get (map f xs) i ≡ Some (f a)
+mapped f xs i a e = slice_get-map f xs i ∙ ap (option_map f) e
+
+pub homes_apart : (l : LayoutValue) → IsLaidOut l → HomesAreApart l
+homes_apart l h i j a b lt e f = in_order_apart l.homes.address (map home_region l.variables) (end_of l.homes) i j (home_region a) (home_region b) h.homes lt (mapped home_region l.variables i a e) (mapped home_region l.variables j b f)
+
+contained : (from : ℕ) (rs : List Region) (end : ℕ) (r : Region) → AreInOrder from rs end → Contains rs r → Within from r end
+contained from rs end r h (k, l, e) = in_order_within from rs end k r h (slice_get-get_or rs k r l ∙ ap Some e)
+
+-- the regions of one variable among those of all
+among : (f : VariablePlace → List Region) (from : ℕ) (vs : List VariablePlace) (end : ℕ) (i : ℕ) (a : VariablePlace) (r : Region) → AreInOrder from (flat_map f vs) end → slice_get vs i ≡ Some a → Contains (f a) r → Within from r end
+among f from [] end i a r h e c = let no : None ≡ Some a = e in cc
+among f from (v ∷ vs) end zero a r h e c =
+    let same : v ≡ a = cc in
+    let s = in_order_split from (f v) (flat_map f vs) end h in
+    let w = contained from (f v) s.0 r s.1 (subst (λ x. Contains (f x) r) (sym same) c) in
+    let rest = in_order_end s.0 (flat_map f vs) end s.2 in
+    record { from = w.from; even = w.even; end = let x = w.end in omega (arith, x, rest) }
+among f from (v ∷ vs) end (suc i) a r h e c =
+    let s = in_order_split from (f v) (flat_map f vs) end h in
+    let w = among f s.0 vs end i a r s.2 e c in
+    let front = in_order_end from (f v) s.0 s.1 in
+    record { from = let x = w.from in omega (arith, x, front); even = w.even; end = w.end }
+
+later : (f : VariablePlace → List Region) (from : ℕ) (vs : List VariablePlace) (end : ℕ) (i j : ℕ) (a b : VariablePlace) (r q : Region) → AreInOrder from (flat_map f vs) end → i < j → slice_get vs i ≡ Some a → slice_get vs j ≡ Some b
+    → Contains (f a) r → Contains (f b) q → end_of r ≤ q.address
+later f from [] end i j a b r q h l e g c d = let no : None ≡ Some a = e in cc
+later f from (v ∷ vs) end zero zero a b r q h l e g c d = absurd (omega arith)
+later f from (v ∷ vs) end (suc i) zero a b r q h l e g c d = absurd (omega arith)
+later f from (v ∷ vs) end zero (suc j) a b r q h l e g c d =
+    let same : v ≡ a = cc in
+    let s = in_order_split from (f v) (flat_map f vs) end h in
+    let w = contained from (f v) s.0 r s.1 (subst (λ x. Contains (f x) r) (sym same) c) in
+    let x = among f s.0 vs end j b q s.2 g d in
+    let below = w.end in
+    let above = x.from in
+    omega (arith, below, above)
+later f from (v ∷ vs) end (suc i) (suc j) a b r q h l e g c d =
+    let s = in_order_split from (f v) (flat_map f vs) end h in
+    later f s.0 vs end i j a b r q s.2 (omega arith) e g c d
+
+pub copies_apart : (l : LayoutValue) → IsLaidOut l → CopiesAreApart l
+copies_apart l h = record {
+  from_each_other = λ i j a b r q lt e f c d. later copy_regions l.copies.address l.variables (end_of l.copies) i j a b r q h.copies lt e f c d;
+  from_homes = λ i j a b q e f d.
+      let home = (in_order_within l.homes.address (map home_region l.variables) (end_of l.homes) i (home_region a) h.homes (mapped home_region l.variables i a e)).end in
+      let copy = (among copy_regions l.copies.address l.variables (end_of l.copies) j b q h.copies f d).from in
+      let between = h.apart.copies in
+      omega (arith, home, copy, between);
+}

@@ -1,0 +1,5 @@
+use Rattle.privatise.proofs.Unique.{one_layout}
+use Rattle.privatise.proofs.laws.one_layout.Goals as goal
+
+pub returns : goal.returns
+returns c = one_layout

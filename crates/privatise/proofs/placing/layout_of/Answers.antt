@@ -1,0 +1,62 @@
+use Rattle.std.proofs.Common.{◌∙◌, ap, map, []}
+use Rattle.std.proofs.lemmas.List.{length-map}
+use Rattle.task_ast.specs.View.{task_of, program_of}
+use Rattle.cost_bound.specs.Allowance.{is_written}
+use Rattle.privatise.proofs.Whole.{AreWritten, all_even, sizes_fit, room, code_small, code_room, scalars_placed, tasks_moved, laid_out, whole}
+use Rattle.privatise.proofs.placing.layout_of.Goals as goal
+
+pub sizes_of-requires-clause-written : goal.sizes_of-requires-clause-written
+sizes_of-requires-clause-written c = λ i l. c.written_variables-written.ensures i l ∙ ap (λ ts. is_written (map task_of ts) i) c.as_slice-tasks.ensures.value
+
+pub sizes_of-requires-clause-small : goal.sizes_of-requires-clause-small
+sizes_of-requires-clause-small c = c.requires.allowed.within_size
+
+pub regions_of-regions-requires : goal.regions_of-regions-requires
+regions_of-regions-requires c = sizes_fit (program_of c.args.source.now) c.args.allow.now c.sizes_of.result c.requires.allowed c.sizes_of.ensures
+
+pub place_variables-requires-clause-few : goal.place_variables-requires-clause-few
+place_variables-requires-clause-few c = rw c.as_slice-shared.ensures.value c.requires.few
+
+pub place_variables-requires-clause-room : goal.place_variables-requires-clause-room
+place_variables-requires-clause-room c =
+    let marks : AreWritten (program_of c.args.source.now) c.written_variables-written.result = λ i l. c.written_variables-written.ensures i l ∙ ap (λ ts. is_written (map task_of ts) i) c.as_slice-tasks.ensures.value in
+    rw c.as_slice-shared.ensures.value (room (program_of c.args.source.now) c.args.allow.now c.sizes_of.result c.regions_of-regions.result c.written_variables-written.result c.requires.few marks c.requires.allowed c.sizes_of.ensures c.regions_of-regions.ensures)
+
+pub place_tasks-requires-clause-few : goal.place_tasks-requires-clause-few
+place_tasks-requires-clause-few c = rw c.as_slice-shared.ensures.value c.requires.few
+
+pub place_tasks-requires-clause-small : goal.place_tasks-requires-clause-small
+place_tasks-requires-clause-small c =
+    rw (c.as_slice-shared.ensures.value, c.as_slice-tasks.ensures.value) (code_small (program_of c.args.source.now) c.args.allow.now c.sizes_of.result c.requires.allowed c.sizes_of.ensures)
+
+pub place_tasks-requires-clause-room : goal.place_tasks-requires-clause-room
+place_tasks-requires-clause-room c =
+    rw (c.as_slice-shared.ensures.value, c.as_slice-tasks.ensures.value)
+    (code_room (program_of c.args.source.now) c.args.allow.now c.sizes_of.result c.regions_of-regions.result c.requires.allowed c.sizes_of.ensures c.regions_of-regions.ensures)
+
+pub place_tasks-requires-clause-even : goal.place_tasks-requires-clause-even
+place_tasks-requires-clause-even c = (all_even c.args.allow.now c.sizes_of.result c.regions_of-regions.result [] [] c.regions_of-regions.ensures).code
+
+pub place_tasks-requires-clause-count : goal.place_tasks-requires-clause-count
+place_tasks-requires-clause-count c =
+    rw (c.tasks.ensures, c.as_slice-tasks.ensures.value) (c.requires.planned.count ∙ length-map c.args.source.now.tasks.items task_of)
+
+pub place_tasks-requires-clause-scalars : goal.place_tasks-requires-clause-scalars
+place_tasks-requires-clause-scalars c = λ k plan at.
+    rw c.as_slice.ensures.value
+    (scalars_placed (program_of c.args.source.now) c.args.plan.now c.written_variables-written.result _ c.in_ok-variables.variables.items c.requires.planned
+    (rw c.as_slice-shared.ensures.value at c.in_ok-variables.ensures) k plan (rw c.tasks.ensures at at))
+
+pub invariant_of-result : goal.invariant_of-result
+invariant_of-result c =
+    let marks : AreWritten (program_of c.args.source.now) c.written_variables-written.result = λ i l. c.written_variables-written.ensures i l ∙ ap (λ ts. is_written (map task_of ts) i) c.as_slice-tasks.ensures.value in
+    laid_out (program_of c.args.source.now) c.args.allow.now c.args.plan.now c.sizes_of.result c.regions_of-regions.result c.written_variables-written.result c.in_ok-variables.variables.items c.in_ok-layouts.layouts.items
+    c.requires.few marks c.requires.allowed c.sizes_of.ensures c.regions_of-regions.ensures (rw c.as_slice-shared.ensures.value at c.in_ok-variables.ensures)
+    (tasks_moved _ _ _ _ _ _ _ _ _ _ c.as_slice-shared.ensures.value c.as_slice.ensures.value c.as_slice-tasks.ensures.value c.tasks.ensures c.in_ok-layouts.ensures)
+
+pub returns : goal.returns
+returns c =
+    let marks : AreWritten (program_of c.args.source.now) c.written_variables-written.result = λ i l. c.written_variables-written.ensures i l ∙ ap (λ ts. is_written (map task_of ts) i) c.as_slice-tasks.ensures.value in
+    whole (program_of c.args.source.now) c.args.allow.now c.args.plan.now c.sizes_of.result c.regions_of-regions.result c.written_variables-written.result c.in_ok-variables.variables.items c.in_ok-layouts.layouts.items
+    c.requires.few marks c.requires.allowed c.sizes_of.ensures c.regions_of-regions.ensures (rw c.as_slice-shared.ensures.value at c.in_ok-variables.ensures)
+    (tasks_moved _ _ _ _ _ _ _ _ _ _ c.as_slice-shared.ensures.value c.as_slice.ensures.value c.as_slice-tasks.ensures.value c.tasks.ensures c.in_ok-layouts.ensures)

@@ -1,0 +1,5 @@
+use Rattle.privatise.proofs.TasksPlaced.{TasksBelow}
+use Rattle.privatise.proofs.tasks.place_tasks.Given as goal
+
+abbrev pub invariant-loop-i : goal.invariant-loop-i
+invariant-loop-i l = TasksBelow l.shared l.variables l.tasks l.plans l.address l.i l.at l.layouts.items

@@ -1,0 +1,39 @@
+-- The words that a source's data and code are given.
+use Rattle.std.specs.Prelude.{ℕ, ◌+◌, ◌*◌, Bool, if◌then◌else◌, List}
+use Rattle.task_ast.specs.declared.Extent.{Extent}
+use Rattle.task_ast.specs.declared.Extent.TheVariants.{Scalar, Array}
+use Rattle.task_ast.specs.declared.SharedDeclaration.{SharedDeclaration}
+use Rattle.cost_bound.specs.Counts.{Code}
+use Rattle.cost_bound.specs.Table.{words_column, block_price}
+use Rattle.cost_bound.specs.Allowance.{CheckedProgram, CheckedTask, shared_sum, scalars_of, is_written, total}
+
+-- the words of a variable
+abbrev pub home_part : Extent → ℕ
+home_part (Scalar _) = 1
+home_part (Array length) = length
+
+abbrev pub home_words : List SharedDeclaration → ℕ
+home_words shared = shared_sum (λ i extent. home_part extent) shared
+
+-- the words of its copy: of an array only where some task writes it
+abbrev pub copy_part : Bool → Extent → ℕ
+copy_part written (Scalar _) = 1
+copy_part written (Array length) = if written then length else 0
+
+abbrev pub copy_words : CheckedProgram → ℕ
+copy_words p = shared_sum (λ i extent. copy_part (is_written p.tasks i) extent) p.shared
+
+-- the words of a task's code, as the allowance has them
+abbrev pub body_words : List SharedDeclaration → Code → ℕ
+body_words shared code = block_price (words_column (scalars_of shared code)) code
+
+-- of the boot: what it costs by itself, and for each task its entry and the copies of its scalars
+abbrev pub entry_words : List SharedDeclaration → Code → ℕ
+entry_words shared code = 200 + 16 * scalars_of shared code
+
+abbrev pub boot_words : List SharedDeclaration → List CheckedTask → ℕ
+boot_words shared tasks = 391 + total (entry_words shared) tasks
+
+-- of the commit
+abbrev pub commit_words : ℕ
+commit_words = 200

@@ -1,0 +1,3 @@
+pub mod PlanValue
+pub mod Plans
+pub mod Laws

@@ -1,0 +1,51 @@
+-- What tasks work on in copies (Maeng, Colin, Lucia: Alpaca, OOPSLA 2017): private scalars and versioned arrays.
+use Rattle.std.specs.Prelude.{◌≡◌, ◌<◌, ℕ, Bool, true, false, List, length, All, AllPairs, Contains, slice_get, Some, IsSomeAnd}
+use Rattle.task_ast.specs.declared.Extent.{Extent}
+use Rattle.task_ast.specs.declared.Extent.TheVariants.{Scalar, Array}
+use Rattle.task_ast.specs.declared.SharedDeclaration.{SharedDeclaration}
+use Rattle.cost_bound.specs.Counts.{Code, block_assigns}
+use Rattle.cost_bound.specs.Allowance.{CheckedTask, CheckedProgram}
+use Rattle.war_analysis.specs.PlanValue.{TaskPlanValue}
+
+abbrev pub is_scalar : Extent → Bool
+is_scalar (Scalar _) = true
+is_scalar (Array _) = false
+
+-- the shared variable of a number is a scalar
+abbrev pub IsScalarAt : List SharedDeclaration → ℕ → Type 0
+IsScalarAt shared i = IsSomeAnd (slice_get shared i) (λ d. is_scalar d.extent ≡ true)
+
+-- the shared variable of a number is an array
+abbrev pub IsArrayAt : List SharedDeclaration → ℕ → Type 0
+IsArrayAt shared i = IsSomeAnd (slice_get shared i) (λ d. is_scalar d.extent ≡ false)
+
+-- A shared scalar is private in a task where it stands on the left of an assignment there. Every scalar that has to be is among these.
+pub record IsPrivateIn (shared : List SharedDeclaration) (code : Code) (i : ℕ) : Type 0 where
+  pub scalar : IsScalarAt shared i
+  pub assigned : block_assigns i code ≡ true
+
+-- a shared array is versioned in a task where one of its elements stands on the left of an assignment there
+pub record IsVersionedIn (shared : List SharedDeclaration) (code : Code) (i : ℕ) : Type 0 where
+  pub array : IsArrayAt shared i
+  pub assigned : block_assigns i code ≡ true
+
+-- exactly the numbers that are so, in ascending order
+pub record AreNumbers (P : ℕ → Type 0) (xs : List ℕ) : Type 0 where
+  pub ascending : AllPairs ◌<◌ xs
+  pub only : All P xs
+  pub each : (i : ℕ) → P i → Contains xs i
+
+-- what a task works on in copies
+pub record IsTaskPlan (shared : List SharedDeclaration) (code : Code) (plan : TaskPlanValue) : Type 0 where
+  pub private_scalars : AreNumbers (IsPrivateIn shared code) plan.private_scalars
+  pub versioned_arrays : AreNumbers (IsVersionedIn shared code) plan.versioned_arrays
+
+-- a plan for each task, by its number
+pub record ArePlans (shared : List SharedDeclaration) (tasks : List CheckedTask) (plans : List TaskPlanValue) : Type 0 where
+  pub count : length plans ≡ length tasks
+  pub each : (k : ℕ) (task : CheckedTask) (plan : TaskPlanValue) → slice_get tasks k ≡ Some task → slice_get plans k ≡ Some plan
+      → IsTaskPlan shared task.body plan
+
+-- what the tasks of a source work on in copies
+abbrev pub IsPlan : CheckedProgram → List TaskPlanValue → Type 0
+IsPlan p plans = ArePlans p.shared p.tasks plans

@@ -1,0 +1,10 @@
+//! What each task of a checked source works on in copies: its private scalars and its versioned arrays.
+#![tactic(auto)]
+
+mod analysis;
+mod laws;
+mod plan;
+
+pub use analysis::analyse;
+pub use laws::{copies_where_owed, one_plan, scalars_are_counted};
+pub use plan::{Plan, TaskPlan};
