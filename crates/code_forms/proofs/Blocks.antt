@@ -1,0 +1,170 @@
+-- Straight stretches of code, and stretches one after another.
+use Rattle.std.proofs.Common.{◌≡◌, ℕ, ◌+◌, ◌≤◌, List, [], ◌∷◌, ◌++◌, length, Some, refl, sym, ap, ◌∙◌, subst, arith, suc-add, zero-add}
+use Rattle.msp_step.specs.declared.machine.Stop.{Stop}
+use Rattle.msp_step.specs.declared.machine.Stop.TheVariants as stop
+use Rattle.fram_board.specs.Effects.{Effect}
+use Rattle.machine_effects.specs.Going.{Goes, Stops, Status, At, Halted, stretch, after_effects, continued, going, Leads}
+use Rattle.machine_effects.specs.Machine.{MachineStretch, Code, step_with, exec}
+use Rattle.machine_effects.proofs.Going.{stay, one_step, join, join_stall, stall, after_after, after_nothing}
+use Rattle.code_forms.specs.Forms.{WorkRegister, Core, CoreOutcome, CoreStretch, board_of, outcome_of_core, source_read, Target, ToRegister, ToFram, ToRam, ToIndexed, ToPointed, ToOutnum, ToOutdata, target_written, Form, Move, Calculate, Compare, Update, Push, Modify, SetStack, Sense, Jump, Branch, BranchIndexed, BranchRegister, instruction_of, form_bytes, sensed, form_step, FormNeeds}
+use Rattle.code_forms.specs.Code.{Stands, forms_bytes, IsStraight, AreStraight, forms_run, OfNext, FormsNeed, IsTidy, Runs, Starves}
+use Rattle.code_forms.specs.Laws.{StraightCodeLeads}
+use Rattle.code_forms.proofs.Forms.{form_does}
+
+pub stands_front : (code : Code) (p : ℕ) (a b : List Form) → Stands code p (a ++ b) → Stands code p a
+stands_front code p [] b h = tt
+stands_front code p (i ∷ a) b h = (h.0, stands_front code (p + form_bytes i) a b h.1)
+
+pub stands_back : (code : Code) (p : ℕ) (a b : List Form) → Stands code p (a ++ b) → Stands code (p + forms_bytes a) b
+stands_back code p [] b h = let e : p ≡ p + 0 = omega arith in subst (λ n. Stands code n b) e h
+stands_back code p (i ∷ a) b h =
+    let e : p + form_bytes i + forms_bytes a ≡ p + forms_bytes (i ∷ a) = omega arith in
+    subst (λ n. Stands code n b) e (stands_back code (p + form_bytes i) a b h.1)
+
+abbrev IsAt : ℕ → Core → Type 0
+IsAt p t = t.pc ≡ p
+
+written_at : (y : Target) (c v : ℕ) (u : Core) → OfNext (target_written y c v u) (IsAt u.pc)
+written_at (ToRegister b) c v u = refl
+written_at (ToFram a) c v u = refl
+written_at (ToRam a) c v u = refl
+written_at (ToIndexed b x) c v u = refl
+written_at (ToPointed b) c v u = refl
+written_at ToOutnum c v u = refl
+written_at ToOutdata c v u = refl
+
+sensed_at : (ws : List ℕ) (b : WorkRegister) (u : Core) → OfNext (sensed ws b u) (IsAt (u.pc + 4))
+sensed_at [] b u = tt
+sensed_at (w ∷ ws) b u = refl
+
+goes_to : (m : Form) (u : Core) → IsStraight m → OfNext (form_step m u) (IsAt (u.pc + form_bytes m))
+goes_to (Move x y) u h = written_at y _ _ (record (source_read x u) { pc = u.pc + form_bytes (Move x y) })
+goes_to (Calculate op x b) u h = refl
+goes_to (Compare x a) u h = refl
+goes_to (Push x) u h = refl
+goes_to (Update op x a) u h = refl
+goes_to (SetStack n) u h = refl
+goes_to (Modify t b) u h = refl
+goes_to (Sense b) u h = sensed_at u.readings_left b u
+goes_to (Jump c o) u h = elim h [ ]
+goes_to (Branch a) u h = elim h [ ]
+goes_to (BranchIndexed b x) u h = elim h [ ]
+goes_to (BranchRegister b) u h = elim h [ ]
+
+-- goes on from where a stretch ends
+abbrev pub on_status : Status Core Stop → List Effect → ℕ → (Core → MachineStretch) → MachineStretch
+on_status (At t) es c next = after_effects es c (next t)
+on_status (Halted price x) es c next = stretch es c (Halted price x)
+
+abbrev pub carry : CoreStretch → (Core → MachineStretch) → MachineStretch
+carry r next = on_status r.status r.effects r.cycles next
+
+carry_after : (es fs : List Effect) (c d : ℕ) (st : Status Core Stop) (next : Core → MachineStretch)
+    → after_effects es c (on_status st fs d next) ≡ on_status st (es ++ fs) (c + d) next
+carry_after es fs c d (At t) next = after_after es fs c d (next t)
+carry_after es fs c d (Halted price x) next = refl
+
+module _ (code : Code) (tidy : IsTidy code) where
+  -- one form
+  pub does : (m : Form) (u : Core) → code u.pc ≡ Some (instruction_of m) → FormNeeds m u → exec code (board_of u) ≡ outcome_of_core (form_step m u)
+  does m u h k = ap (λ o. step_with o (board_of u)) h ∙ form_does m u (tidy u.pc (instruction_of m) h) k
+
+  block_on : (ms : List Form) (p k : ℕ) (o : CoreOutcome) → OfNext o (IsAt p) → OfNext o (FormsNeed ms)
+      → ((t : Core) → t.pc ≡ p → FormsNeed ms t → going (exec code) (length ms + k) (board_of t) ≡ carry (forms_run ms t)
+      (λ v. going (exec code) k (board_of v)))
+      → continued (outcome_of_core o) (going (exec code) (length ms + k)) ≡ carry (continued o (forms_run ms)) (λ v. going (exec code) k (board_of v))
+  block_on ms p k (Goes fs d t) g w ih =
+      ap (after_effects fs d) (ih t g w)
+      ∙ carry_after fs (forms_run ms t).effects d (forms_run ms t).cycles (forms_run ms t).status (λ v. going (exec code) k (board_of v))
+  block_on ms p k (Stops es price x) g w ih = refl
+
+  block_all : (ms : List Form) (k : ℕ) (u : Core) → AreStraight ms → Stands code u.pc ms → FormsNeed ms u
+      → going (exec code) (length ms + k) (board_of u) ≡ carry (forms_run ms u) (λ v. going (exec code) k (board_of v))
+  block_all [] k u st h w = ap (λ n. going (exec code) n (board_of u)) (zero-add k) ∙ sym (after_nothing (going (exec code) k (board_of u)))
+  block_all (m ∷ ms) k u st h w =
+      ap (λ n. going (exec code) n (board_of u)) (suc-add (length ms) k)
+      ∙ ap (λ o. continued o (going (exec code) (length ms + k))) (does m u h.0 w.0)
+      ∙ block_on ms (u.pc + form_bytes m) k (form_step m u) (goes_to m u st.0) w.1
+      (λ t e o. block_all ms k t st.1 (subst (λ p. Stands code p ms) (sym e) h.1) o)
+
+  -- straight code ends where its forms do
+  pub block : (ms : List Form) (u t : Core) (es : List Effect) (c : ℕ) → AreStraight ms → Stands code u.pc ms → FormsNeed ms u
+      → forms_run ms u ≡ stretch es c (At t) → Leads (exec code) (length ms) es c (board_of u) (board_of t)
+  block ms u t es c st h w e = record { by = λ k. block_all ms k u st h w ∙ ap (λ r. carry r (λ v. going (exec code) k (board_of v))) e }
+
+  pub straight : (ms : List Form) (most : ℕ) (u t : Core) (es : List Effect) (c : ℕ) (P : Core → Type 0) → AreStraight ms → Stands code u.pc ms
+      → FormsNeed ms u → forms_run ms u ≡ stretch es c (At t) → c ≤ most → P t → Runs code es most u P
+  straight ms most u t es c P st h w e l p = record { steps = length ms; cycles = c; end = t; within = l; leads = block ms u t es c st h w e; holds = p }
+
+  -- one form, a jump too
+  pub hop : (m : Form) (most : ℕ) (u t : Core) (es : List Effect) (c : ℕ) (P : Core → Type 0) → code u.pc ≡ Some (instruction_of m) → FormNeeds m u
+      → form_step m u ≡ Goes es c t → c ≤ most → P t → Runs code es most u P
+  hop m most u t es c P h w e l p =
+      record {
+        steps = 1;
+        cycles = c;
+        end = t;
+        within = l;
+        leads = one_step (exec code) (board_of u) (board_of t) es c
+            (does m u h w ∙ ap outcome_of_core e);
+        holds = p;
+      }
+
+  pub runs_on : (most more : ℕ) (u : Core) (P Q : Core → Type 0) (es fs : List Effect) → Runs code es most u P
+      → ((t : Core) → P t → Runs code fs more t Q) → Runs code (es ++ fs) (most + more) u Q
+  runs_on most more u P Q es fs a f =
+      let b = f a.end a.holds in
+      record {
+        steps = a.steps + b.steps;
+        cycles = a.cycles + b.cycles;
+        end = b.end;
+        within = omega (arith, a.within, b.within);
+        leads = join
+            (exec code) a.steps b.steps es fs a.cycles b.cycles (board_of u) (board_of a.end) (board_of b.end) a.leads b.leads;
+        holds = b.holds;
+      }
+
+  pub dearer : (es : List Effect) (most more : ℕ) (u : Core) (P : Core → Type 0) → most ≤ more → Runs code es most u P → Runs code es more u P
+  dearer es most more u P l a =
+      record { steps = a.steps; cycles = a.cycles; end = a.end; within = omega (arith, a.within, l); leads = a.leads; holds = a.holds }
+
+  pub nothing : (u : Core) (P : Core → Type 0) → P u → Runs code [] 0 u P
+  nothing u P p = record { steps = 0; cycles = 0; end = u; within = omega arith; leads = stay (exec code) (board_of u); holds = p }
+
+  -- a stretch to a state that is known
+  pub then_to : (most more : ℕ) (u t : Core) (Q : Core → Type 0) (es fs : List Effect) → Runs code es most u (λ v. v ≡ t) → Runs code fs more t Q
+      → Runs code (es ++ fs) (most + more) u Q
+  then_to most more u t Q es fs a b = runs_on most more u (λ v. v ≡ t) Q es fs a (λ v e. subst (λ x. Runs code fs more x Q) (sym e) b)
+
+  -- straight code that comes to a sensor with no reading left, and a stretch before such a place
+  pub starve : (m : Form) (most price : ℕ) (u : Core) (es : List Effect) → code u.pc ≡ Some (instruction_of m) → FormNeeds m u
+      → form_step m u ≡ Stops es price stop.NoReading → price ≤ most → Starves code es most u
+  starve m most price u es h w e l =
+      record {
+        steps = 0;
+        cycles = 0;
+        price = price;
+        within = omega (arith, l);
+        stalls = stall (exec code) (board_of u) es price stop.NoReading
+            (does m u h w ∙ ap outcome_of_core e);
+      }
+
+  pub starves_on : (most more : ℕ) (u : Core) (P : Core → Type 0) (es fs : List Effect) → Runs code es most u P
+      → ((t : Core) → P t → Starves code fs more t) → Starves code (es ++ fs) (most + more) u
+  starves_on most more u P es fs a f =
+      let b = f a.end a.holds in
+      record {
+        steps = a.steps + b.steps;
+        cycles = a.cycles + b.cycles;
+        price = b.price;
+        within = omega
+            (arith, a.within, b.within);
+        stalls = join_stall (exec code) a.steps b.steps es fs a.cycles b.cycles (board_of u)
+            (board_of a.end) b.price stop.NoReading a.leads b.stalls;
+      }
+
+  pub dearer_starves : (es : List Effect) (most more : ℕ) (u : Core) → most ≤ more → Starves code es most u → Starves code es more u
+  dearer_starves es most more u l a = record { steps = a.steps; cycles = a.cycles; price = a.price; within = omega (arith, a.within, l); stalls = a.stalls }
+
+pub straight_code_leads : StraightCodeLeads
+straight_code_leads code ms u t es c tidy st h w e = block code tidy ms u t es c st h w e

@@ -1,0 +1,488 @@
+-- Each form does what its instruction does.
+use Rattle.std.proofs.Common.{◌≡◌, ◌/◌, ◌==◌, if◌then◌else◌, ◌+◌, ◌-◌, ◌*◌, ◌%◌, ◌≤◌, ℕ, refl, sym, ◌∙◌, ap, Bool, true, false, arith, List, [], ◌∷◌, Option, Some, None, length}
+use Rattle.std.proofs.lemmas.Bool.Decides.{nat_tests}
+use Rattle.alp_words.specs.declared.Flags.{Flags}
+use Rattle.alp_words.specs.declared.Width.{Width}
+use Rattle.alp_words.specs.declared.Width.TheVariants.{Word}
+use Rattle.alp_words.specs.Words.{difference_of}
+use Rattle.msp_isa.specs.declared.instructions.TwoOp.{TwoOp}
+use Rattle.msp_isa.specs.declared.instructions.TwoOp.TheVariants.{Mov, Add, Addc, Subc, Sub, Cmp, Dadd, Bit, Bic, Bis, Xor, And}
+use Rattle.msp_isa.specs.declared.instructions.Condition.{Condition}
+use Rattle.msp_isa.specs.declared.instructions.Instr.TheVariants as instr
+use Rattle.msp_isa.specs.declared.operands.Dst.{Dst}
+use Rattle.msp_isa.specs.declared.operands.Dst.TheVariants as dst
+use Rattle.msp_isa.specs.declared.operands.Konst.TheVariants as konst
+use Rattle.msp_isa.specs.declared.operands.Operand.TheVariants as mode
+use Rattle.msp_isa.specs.declared.registers.Reg.TheVariants as reg
+use Rattle.msp_isa.specs.declared.registers.IndexRegister.TheVariants as index
+use Rattle.msp_isa.specs.declared.registers.SourceRegister.TheVariants as source_register
+use Rattle.msp_isa.specs.Encoding.{source_row, destination_row, index_number}
+use Rattle.msp_cycles.specs.Cycles.{cycles_of}
+use Rattle.msp_step.specs.declared.effect.Modification.{Modification}
+use Rattle.msp_step.specs.declared.effect.Modification.TheVariants as change
+use Rattle.msp_step.specs.declared.operand.Location.TheVariants as location
+use Rattle.msp_step.specs.Registers.{Registers, with_register}
+use Rattle.msp_step.specs.Access.{Access, Completed, then_do, read_at}
+use Rattle.msp_step.specs.Effect.{written_back, store, read_modify_write, shifted, rotated, exchanged, sign_extended, modification_of, push_effect, pushed, reads_destination, writes_destination, with_flags, Operated, finish, sum16, source, after_source, two_operand_effect, destination_location, Written, distance, is_met, operated}
+use Rattle.msp_step.specs.Step.{effect}
+use Rattle.fram_board.specs.Bus.{is_word, is_ram}
+use Rattle.fram_board.specs.Effects.{Store}
+use Rattle.machine_effects.specs.World.{put}
+use Rattle.machine_effects.specs.Going.{Goes}
+use Rattle.machine_effects.specs.Machine.{MachineOutcome, MachineBus, machine_bus, machine_outcome, step_with, word_address, IsFram, IsRam}
+use Rattle.code_forms.specs.Forms.{WorkRegister, work_number, index_of, Core, register_file, board_of, outcome_of_core, Source, Register, Number, Constant, Fram, Ram, Pointed, PointedNext, Indexed, Popped, source_operand, source_bytes, source_value, source_read, SourceNeeds, Target, ToRegister, ToFram, ToRam, ToIndexed, ToPointed, ToOutnum, ToOutdata, target_operand, target_bytes, target_written, TargetNeeds, Move, Calculate, Compare, Update, Push, Modify, SetStack, Sense, Jump, Branch, BranchIndexed, BranchRegister, instruction_of, flags_after, calculated, sensed, form_step, FormNeeds, IsNotMov, HasPushRoom, IsCodeAddress}
+use Rattle.code_forms.specs.Laws.{FormsDoAsInstructions}
+use Rattle.code_forms.proofs.Registers.{set_pc, set_sp, set_work, get_work, high, number, set_flags, flags_back, is_on, no_port}
+
+abbrev inside : Core → MachineBus
+inside u = record { fram = u.fram; ram = u.ram; readings_left = u.readings_left; outnum = u.outnum; log = [] }
+
+abbrev regs_in : Core → ℕ → Registers
+regs_in u p = register_file p u.sp u.flags u.work
+
+-- a word of memory is read, and the bus stays
+is_word_fram : (a : ℕ) → IsFram a → is_word a ≡ true
+is_word_fram a h = grind (arith, nat_tests)
+
+no_ram_fram : (a : ℕ) → IsFram a → is_ram a ≡ false
+no_ram_fram a h = grind (arith, nat_tests)
+
+-- an even address is its word's
+even_fram : (a : ℕ) → IsFram a → word_address a ≡ a
+even_fram a h = let e = h.even in omega arith
+
+even_ram : (a : ℕ) → IsRam a → word_address a ≡ a
+even_ram a h = let e = h.even in omega arith
+
+is_word_ram : (a : ℕ) → IsRam a → is_word a ≡ true
+is_word_ram a h = grind (arith, nat_tests)
+
+is_ram_ram : (a : ℕ) → IsRam a → is_ram a ≡ true
+is_ram_ram a h = grind (arith, nat_tests)
+
+pub read_fram : (s : MachineBus) (a : ℕ) → IsFram a → read_at machine_bus a Word s ≡ Completed (s.fram a) s
+read_fram s a h =
+    let w = is_word_fram a h in let e = no_port a 0x200 w (omega arith) in let f = no_ram_fram a h in let g = even_fram a h in rw (w, e, f, g) refl
+
+pub read_ram : (s : MachineBus) (a : ℕ) → IsRam a → read_at machine_bus a Word s ≡ Completed (s.ram a) s
+read_ram s a h = let w = is_word_ram a h in let e = no_port a 0x200 w (omega arith) in let f = is_ram_ram a h in let g = even_ram a h in rw (w, e, f, g) refl
+
+-- the source operand, with PC behind the operation word
+module _ (u : Core) (p : ℕ) where
+  got : (b : WorkRegister) → regs_in u p (index_number (index_of b)) ≡ u.work (work_number b)
+  got b = ap (regs_in u p) (number b) ∙ get_work p u.sp (work_number b) u.flags u.work (high b)
+
+  up : (b : WorkRegister) (v : ℕ) → with_register (regs_in u p) (index_number (index_of b)) v ≡ register_file p u.sp u.flags (put u.work (work_number b) v)
+  up b v = ap (λ n. with_register (regs_in u p) n v) (number b) ∙ set_work p u.sp (work_number b) v u.flags u.work (high b)
+
+  pub from_source : (x : Source) → SourceNeeds x u
+      → source machine_bus (regs_in u p) Word (source_operand x) (inside u) ≡ Completed (source_value x u, regs_in (source_read x u) p) (inside u)
+  from_source (Register b) h = rw (got b) refl
+  from_source (Number n) h = refl
+  from_source (Constant k) h = refl
+  from_source (Fram a) h = rw (read_fram (inside u) a h) refl
+  from_source (Ram a) h = rw (read_ram (inside u) a h) refl
+  from_source (Pointed b) h = rw (got b, read_fram (inside u) (u.work (work_number b)) h) refl
+  from_source (PointedNext b) h =
+      let e : sum16 (u.work (work_number b)) 2 ≡ u.work (work_number b) + 2 = omega (arith, h.1) in
+      rw (up b (sum16 (regs_in u p (index_number (index_of b))) 2), got b, read_fram (inside u) (u.work (work_number b)) h.0, e) refl
+  from_source (Indexed b x) h =
+      let e : sum16 (u.work (work_number b)) x ≡ u.work (work_number b) + x = let hi = h.high in omega arith in
+      rw (got b, e, read_fram (inside u) (u.work (work_number b) + x) h) refl
+  from_source Popped h =
+      let v = h.even in let l = h.high in
+      let e : sum16 u.sp 2 / 2 * 2 ≡ u.sp + 2 = omega arith in
+      rw (read_ram (inside u) u.sp h, set_sp p u.sp (sum16 u.sp 2) (u.sp + 2) u.flags u.work e) refl
+
+pub from_length : (x : Source) → 2 * length (source_row (source_operand x)).extension ≡ source_bytes x
+from_length (Register b) = refl
+from_length (Number n) = refl
+from_length (Constant konst.Zero) = refl
+from_length (Constant konst.One) = refl
+from_length (Constant konst.Two) = refl
+from_length (Constant konst.Four) = refl
+from_length (Constant konst.Eight) = refl
+from_length (Constant konst.MinusOne) = refl
+from_length (Fram a) = refl
+from_length (Ram a) = refl
+from_length (Pointed b) = refl
+from_length (PointedNext b) = refl
+from_length (Indexed b x) = refl
+from_length Popped = refl
+
+from_small : (x : Source) → (source_bytes x ≤ 2) × (source_bytes x % 2 ≡ 0)
+from_small (Register b) = (omega arith, refl)
+from_small (Number n) = (omega arith, refl)
+from_small (Constant k) = (omega arith, refl)
+from_small (Fram a) = (omega arith, refl)
+from_small (Ram a) = (omega arith, refl)
+from_small (Pointed b) = (omega arith, refl)
+from_small (PointedNext b) = (omega arith, refl)
+from_small (Indexed b x) = (omega arith, refl)
+from_small Popped = (omega arith, refl)
+
+dest_small : (d : Dst) → length (destination_row d).extension ≤ 1
+dest_small d = grind arith
+
+read_same : (x : Source) (u : Core) → inside (source_read x u) ≡ inside u
+read_same (Register b) u = refl
+read_same (Number n) u = refl
+read_same (Constant k) u = refl
+read_same (Fram a) u = refl
+read_same (Ram a) u = refl
+read_same (Pointed b) u = refl
+read_same (PointedNext b) u = refl
+read_same (Indexed b x) u = refl
+read_same Popped u = refl
+
+abbrev ext_of : Source → Core → ℕ
+ext_of x u = sum16 (sum16 u.pc 2) (2 * length (source_row (source_operand x)).extension)
+
+-- an instruction with two operands, up to its destination
+pub two : (op : TwoOp) (x : Source) (d : Dst) (u : Core) → IsCodeAddress u.pc → SourceNeeds x u →
+    two_operand_effect machine_bus op Word (source_operand x) d (regs_in u u.pc) (inside u) ≡
+    after_source machine_bus op Word (destination_location (regs_in (source_read x u)
+    (u.pc + (2 + source_bytes x + 2 * length (destination_row d).extension))) (ext_of x u) d) (source_value x u)
+    (regs_in (source_read x u) (u.pc + (2 + source_bytes x + 2 * length (destination_row d).extension))) (inside u)
+two op x d u c h =
+    let even = c.even in let high = c.high in
+    let s = from_small x in let l = from_length x in let m = dest_small d in
+    let a : sum16 u.pc 2 / 2 * 2 ≡ u.pc + 2 = omega arith in
+    let b : sum16 (ext_of x u) (2 * length (destination_row d).extension) / 2 * 2 ≡ u.pc +
+    (2 + source_bytes x + 2 * length (destination_row d).extension) = omega (arith, l, s.0, s.1) in
+    let t = source_read x u in
+    rw (
+      set_pc u.pc u.sp (sum16 u.pc 2) (u.pc + 2) u.flags u.work a,
+      from_source u (u.pc + 2) x h,
+      set_pc (u.pc + 2) t.sp
+          (sum16 (ext_of x u) (2 * length (destination_row d).extension)) (u.pc + (2 + source_bytes x + 2 * length (destination_row d).extension))
+          t.flags t.work b,
+    ) refl
+
+pub to_length : (y : Target) → 2 * length (destination_row (target_operand y)).extension ≡ target_bytes y
+to_length (ToRegister b) = refl
+to_length (ToFram a) = refl
+to_length (ToRam a) = refl
+to_length (ToIndexed b x) = refl
+to_length (ToPointed b) = refl
+to_length ToOutnum = refl
+to_length ToOutdata = refl
+
+-- MOV's write
+written : (y : Target) (v ext pc c : ℕ) (t : Core) → TargetNeeds y t
+    → machine_outcome pc c (after_source machine_bus Mov Word (destination_location (regs_in t t.pc) ext (target_operand y)) v (regs_in t t.pc)
+    (inside t)) ≡ outcome_of_core (target_written y c v t)
+written (ToRegister b) v ext pc c t h = rw (up t t.pc b v) refl
+written (ToFram a) v ext pc c t h = let w = is_word_fram a h in let f = no_ram_fram a h in let g = even_fram a h in rw (w, f, g) refl
+written (ToRam a) v ext pc c t h = let w = is_word_ram a h in let f = is_ram_ram a h in let g = even_ram a h in rw (w, f, g) refl
+written (ToIndexed b x) v ext pc c t h =
+    let hi = h.high in
+    let e : sum16 (t.work (work_number b)) x ≡ t.work (work_number b) + x = omega arith in
+    let w =
+    is_word_fram (t.work (work_number b) + x) h in let f = no_ram_fram (t.work (work_number b) + x) h in let g = even_fram (t.work (work_number b) + x) h in
+    rw (got t t.pc b, e, w, f, g) refl
+written (ToPointed b) v ext pc c t h =
+    let hi = h.high in
+    let e : sum16 (t.work (work_number b)) 0 ≡ t.work (work_number b) = omega arith in
+    let w = is_word_fram (t.work (work_number b)) h in let f = no_ram_fram (t.work (work_number b)) h in let g = even_fram (t.work (work_number b)) h in
+    rw (got t t.pc b, e, w, f, g) refl
+written ToOutnum v ext pc c t h = refl
+written ToOutdata v ext pc c t h = refl
+
+ok_pc : (y : Target) (t : Core) (p : ℕ) → TargetNeeds y t → TargetNeeds y (record t { pc = p })
+ok_pc (ToRegister b) t p h = h
+ok_pc (ToFram a) t p h = h
+ok_pc (ToRam a) t p h = h
+ok_pc (ToIndexed b x) t p h = h
+ok_pc (ToPointed b) t p h = h
+ok_pc ToOutnum t p h = h
+ok_pc ToOutdata t p h = h
+
+-- an instruction with two operands, where the machine is on
+on_two : (op : TwoOp) (x : Source) (d : Dst) (u : Core) → IsCodeAddress u.pc → SourceNeeds x u →
+    step_with (Some (instr.Two op Word (source_operand x) d)) (board_of u) ≡
+    machine_outcome u.pc (cycles_of (instr.Two op Word (source_operand x) d)) (after_source machine_bus op Word
+    (destination_location (regs_in (source_read x u) (u.pc + (2 + source_bytes x + 2 * length (destination_row d).extension))) (ext_of x u) d)
+    (source_value x u) (regs_in (source_read x u) (u.pc + (2 + source_bytes x + 2 * length (destination_row d).extension))) (inside (source_read x u)))
+unfolding effect
+on_two op x d u c h =
+    let e = is_on u.pc u.sp u.flags u.work in
+    rw (e, two op x d u c h, read_same x u) refl
+
+moves : (x : Source) (y : Target) (u : Core) → IsCodeAddress u.pc → SourceNeeds x u → TargetNeeds y (source_read x u)
+    → step_with (Some (instruction_of (Move x y))) (board_of u) ≡ outcome_of_core (form_step (Move x y) u)
+moves x y u c h k =
+    let n : Core = record (source_read x u) { pc = u.pc + (2 + source_bytes x + 2 * length (destination_row (target_operand y)).extension) } in
+    on_two Mov x (target_operand y) u c h
+    ∙ written y (source_value x u) (ext_of x u) u.pc (cycles_of (instruction_of (Move x y))) n (ok_pc y (source_read x u) n.pc k)
+    ∙ ap (λ m. outcome_of_core (target_written y (cycles_of (instruction_of (Move x y))) (source_value x u)
+    (record (source_read x u) { pc = u.pc + (2 + source_bytes x + m) }))) (to_length y)
+
+-- the others read their destination
+reads : (op : TwoOp) → IsNotMov op → reads_destination op ≡ true
+reads Mov n = elim n [ ]
+reads Add n = refl
+reads Addc n = refl
+reads Subc n = refl
+reads Sub n = refl
+reads Cmp n = refl
+reads Dadd n = refl
+reads Bit n = refl
+reads Bic n = refl
+reads Bis n = refl
+reads Xor n = refl
+reads And n = refl
+
+with_new : (o : Option Flags) (t : Core) (p : ℕ) → with_flags (regs_in t p) o ≡ register_file p t.sp (flags_after o t.flags) t.work
+with_new None t p = refl
+with_new (Some g) t p = set_flags p t.sp t.flags g t.work
+
+ends : (w : Bool) (b : WorkRegister) (o : Operated) (pc c : ℕ) (t : Core) →
+    machine_outcome pc c (finish w machine_bus (register_file t.pc t.sp (flags_after o.flags t.flags) t.work) Word
+    (destination_location (regs_in t t.pc) 0 (target_operand (ToRegister b))) o.value (inside t))
+    ≡ Goes [] c (board_of (record t { flags = flags_after o.flags t.flags; work = if w then put t.work (work_number b) o.value else t.work }))
+ends true b o pc c t = rw (up (record t { flags = flags_after o.flags t.flags }) t.pc b o.value) refl
+ends false b o pc c t = refl
+
+calculated_half : (op : TwoOp) (v ext pc c : ℕ) (b : WorkRegister) (t : Core) → reads_destination op ≡ true
+    → machine_outcome pc c (after_source machine_bus op Word (destination_location (regs_in t t.pc) ext (target_operand (ToRegister b))) v
+    (regs_in t t.pc) (inside t)) ≡ outcome_of_core (Goes [] c (calculated op b (operated op Word (t.work (work_number b)) v t.flags) t))
+calculated_half op v ext pc c b t n =
+    let o = operated op Word (t.work (work_number b)) v t.flags in
+    rw (n, got t t.pc b, flags_back t.flags, with_new o.flags t t.pc) (ends (writes_destination op) b o pc c t)
+
+read_flags : (x : Source) (u : Core) → (source_read x u).flags ≡ u.flags
+read_flags (Register b) u = refl
+read_flags (Number n) u = refl
+read_flags (Constant k) u = refl
+read_flags (Fram a) u = refl
+read_flags (Ram a) u = refl
+read_flags (Pointed b) u = refl
+read_flags (PointedNext b) u = refl
+read_flags (Indexed b x) u = refl
+read_flags Popped u = refl
+
+calculates : (op : TwoOp) (x : Source) (b : WorkRegister) (u : Core) → IsCodeAddress u.pc → IsNotMov op → SourceNeeds x u
+    → step_with (Some (instruction_of (Calculate op x b))) (board_of u) ≡ outcome_of_core (form_step (Calculate op x b) u)
+calculates op x b u c n h =
+    let t : Core = record (source_read x u) { pc = u.pc + (2 + source_bytes x) } in
+    on_two op x (target_operand (ToRegister b)) u c h
+    ∙ ap (λ p. machine_outcome u.pc (cycles_of (instruction_of (Calculate op x b)))
+    (after_source machine_bus op Word (destination_location (regs_in (source_read x u) p) (ext_of x u) (target_operand (ToRegister b)))
+    (source_value x u) (regs_in (source_read x u) p) (inside (source_read x u))))
+    (let e : u.pc + (2 + source_bytes x + 2 * 0) ≡ u.pc + (2 + source_bytes x) = omega arith in e)
+    ∙ calculated_half op (source_value x u) (ext_of x u) u.pc (cycles_of (instruction_of (Calculate op x b))) b t (reads op n)
+    ∙ ap (λ f. outcome_of_core (Goes [] (cycles_of (instruction_of (Calculate op x b)))
+    (calculated op b (operated op Word (t.work (work_number b)) (source_value x u) f) t))) (read_flags x u)
+
+compared_half : (v a ext pc c : ℕ) (t : Core) → IsFram a
+    → machine_outcome pc c (after_source machine_bus Cmp Word (destination_location (regs_in t t.pc) ext (dst.Absolute a)) v (regs_in t t.pc)
+    (inside t)) ≡ outcome_of_core (Goes [] c (record t { flags = flags_after (operated Cmp Word (t.fram a) v t.flags).flags t.flags }))
+compared_half v a ext pc c t h = rw (read_fram (inside t) a h, set_flags t.pc t.sp t.flags (difference_of Word (t.fram a) v true).1 t.work) refl
+
+read_memory : (x : Source) (u : Core) → (source_read x u).fram ≡ u.fram
+read_memory x u = ap (λ l. l.fram) (read_same x u)
+
+compares : (x : Source) (a : ℕ) (u : Core) → IsCodeAddress u.pc → SourceNeeds x u → IsFram a
+    → step_with (Some (instruction_of (Compare x a))) (board_of u) ≡ outcome_of_core (form_step (Compare x a) u)
+compares x a u c h k =
+    let t : Core = record (source_read x u) { pc = u.pc + (2 + source_bytes x + 2) } in
+    on_two Cmp x (dst.Absolute a) u c h
+    ∙ compared_half (source_value x u) a (ext_of x u) u.pc (cycles_of (instruction_of (Compare x a))) t k
+    ∙ ap (λ f. outcome_of_core (Goes [] (cycles_of (instruction_of (Compare x a))) (record t { flags = f }))) (rw (read_memory x u) refl)
+
+updated_half : (op : TwoOp) (v a ext pc c : ℕ) (t : Core) → reads_destination op ≡ true → writes_destination op ≡ true → IsFram a
+    → machine_outcome pc c (after_source machine_bus op Word (destination_location (regs_in t t.pc) ext (dst.Absolute a)) v (regs_in t t.pc) (inside t)) ≡
+    outcome_of_core (let o = operated op Word (t.fram a) v t.flags in Goes (Store a o.value ∷ []) c
+    (record t { flags = flags_after o.flags t.flags; fram = put t.fram a o.value }))
+updated_half op v a ext pc c t n m h =
+    let w = is_word_fram a h in let f = no_ram_fram a h in let g = even_fram a h in
+    let o = operated op Word (t.fram a) v t.flags in
+    rw (n, read_fram (inside t) a h, flags_back t.flags, with_new o.flags t t.pc, m, w, f, g) refl
+
+updates : (op : TwoOp) (x : Source) (a : ℕ) (u : Core) → IsCodeAddress u.pc → FormNeeds (Update op x a) u
+    → step_with (Some (instruction_of (Update op x a))) (board_of u) ≡ outcome_of_core (form_step (Update op x a) u)
+updates op x a u c h =
+    let t : Core = record (source_read x u) { pc = u.pc + (2 + source_bytes x + 2) } in
+    let out : (ℕ → ℕ) → Flags → MachineOutcome = λ f g. outcome_of_core (let o = operated op Word (f a) (source_value x u) g in Goes
+    (Store a o.value ∷ []) (cycles_of (instruction_of (Update op x a))) (record t { flags = flags_after o.flags g; fram = put f a o.value })) in
+    on_two op x (dst.Absolute a) u c h.2
+    ∙ updated_half op (source_value x u) a (ext_of x u) u.pc (cycles_of (instruction_of (Update op x a))) t (reads op h.0) h.1 h.3
+    ∙ ap (λ f. out f t.flags) (read_memory x u) ∙ ap (λ g. out u.fram g) (read_flags x u)
+
+-- no operand that is written
+push_half : (x : Source) (u : Core) → IsCodeAddress u.pc → SourceNeeds x u
+    → push_effect machine_bus Word (source_operand x) (regs_in u u.pc) (inside u) ≡ pushed machine_bus Word (source_value x u)
+    (regs_in (source_read x u) (u.pc + (2 + source_bytes x))) (inside (source_read x u))
+push_half x u c h =
+    let even = c.even in let high = c.high in
+    let s = from_small x in let l = from_length x in
+    let a : sum16 u.pc 2 / 2 * 2 ≡ u.pc + 2 = omega arith in
+    let p : ext_of x u / 2 * 2 ≡ u.pc + (2 + source_bytes x) = omega (arith, l, s.0, s.1) in
+    let t = source_read x u in
+    let next : ℕ × Registers → MachineBus → Access MachineBus (Registers × Option Written) =
+    λ y l. pushed machine_bus Word y.0 (with_register y.1 0 (ext_of x u)) l in
+    ap (λ q. then_do (source machine_bus q Word (source_operand x) (inside u)) next) (set_pc u.pc u.sp (sum16 u.pc 2) (u.pc + 2) u.flags u.work a)
+    ∙ ap (λ y. then_do y next) (from_source u (u.pc + 2) x h)
+    ∙ ap (λ r. pushed machine_bus Word (source_value x u) r (inside u)) (set_pc (u.pc + 2) t.sp (ext_of x u) (u.pc + (2 + source_bytes x)) t.flags t.work p)
+    ∙ ap (λ l. pushed machine_bus Word (source_value x u) (regs_in t (u.pc + (2 + source_bytes x))) l) (sym (read_same x u))
+
+pushed_at : (v pc c : ℕ) (t : Core) → HasPushRoom t.sp
+    → machine_outcome pc c (pushed machine_bus Word v (regs_in t t.pc) (inside t)) ≡ Goes [] c
+    (board_of (record t { sp = t.sp - 2; ram = put t.ram (t.sp - 2) v }))
+pushed_at v pc c t h =
+    let even = h.even in let low = h.low in let high = h.high in
+    let k : IsRam (t.sp - 2) = record { even = omega arith; low = omega arith; high = omega arith } in
+    let word = is_word_ram (t.sp - 2) k in let ram = is_ram_ram (t.sp - 2) k in let g = even_ram (t.sp - 2) k in
+    let l : sum16 t.sp 0xFFFE ≡ t.sp - 2 = omega arith in
+    let m : (t.sp - 2) / 2 * 2 ≡ t.sp - 2 = omega arith in
+    rw (l, set_sp t.pc t.sp (t.sp - 2) (t.sp - 2) t.flags t.work m, word, ram, g) refl
+
+pushes : (x : Source) (u : Core) → IsCodeAddress u.pc → FormNeeds (Push x) u
+    → step_with (Some (instruction_of (Push x))) (board_of u) ≡ outcome_of_core (form_step (Push x) u)
+unfolding effect
+pushes x u c h =
+    let on = is_on u.pc u.sp u.flags u.work in
+    let t : Core = record (source_read x u) { pc = u.pc + (2 + source_bytes x) } in
+    rw (on, push_half x u c h.0) (pushed_at (source_value x u) u.pc (cycles_of (instruction_of (Push x))) t h.1)
+
+sets_stack : (n : ℕ) (u : Core) → IsCodeAddress u.pc → n % 2 ≡ 0
+    → step_with (Some (instruction_of (SetStack n))) (board_of u) ≡ outcome_of_core (form_step (SetStack n) u)
+sets_stack n u c h =
+    let e : n / 2 * 2 ≡ n = omega arith in
+    on_two Mov (Number n) (dst.Reg (reg.Index index.Sp)) u c tt
+    ∙ rw (set_sp (u.pc + 4) u.sp n n u.flags u.work e) refl
+
+sense_on : (b : WorkRegister) (u : Core) (ws : List ℕ) → IsCodeAddress u.pc
+    → step_with (Some (instruction_of (Sense b))) (board_of (record u { readings_left = ws })) ≡ outcome_of_core (sensed ws b (record u { readings_left = ws }))
+unfolding effect
+sense_on b u [] c = let on = is_on u.pc u.sp u.flags u.work in rw on refl
+sense_on b u (w ∷ ws) c =
+    let even = c.even in let high = c.high in
+    let on = is_on u.pc u.sp u.flags u.work in
+    let a : sum16 u.pc 2 / 2 * 2 ≡ u.pc + 2 = omega arith in
+    let p : sum16 (sum16 (sum16 u.pc 2) 2) 0 / 2 * 2 ≡ u.pc + 4 = omega arith in
+    rw (
+      on,
+      set_pc u.pc u.sp (sum16 u.pc 2) (u.pc + 2) u.flags u.work a,
+      set_pc (u.pc + 2) u.sp (sum16 (sum16 (sum16 u.pc 2) 2) 0)
+          (u.pc + 4) u.flags u.work p,
+      up u (u.pc + 4) b w,
+    ) refl
+
+senses : (b : WorkRegister) (u : Core) → IsCodeAddress u.pc → step_with (Some (instruction_of (Sense b))) (board_of u) ≡ outcome_of_core (form_step (Sense b) u)
+senses b u c = sense_on b u u.readings_left c
+
+by_sign : (b : Bool) (o : ℕ) → ((2 * o + (if b then 0 else 0x10000 - 0x800)) % 0x10000) % 2 ≡ 0
+by_sign true o = omega arith
+by_sign false o = omega arith
+
+distance_even : (o : ℕ) → distance o % 2 ≡ 0
+distance_even o = by_sign ((o / 0x200) == 0) o
+
+jump_even : (b : Bool) (p d : ℕ) → p % 2 ≡ 0 → d % 2 ≡ 0 → (if b then sum16 p d else p) / 2 * 2 ≡ (if b then sum16 p d else p)
+jump_even true p d e f = omega arith
+jump_even false p d e f = omega arith
+
+jumps : (c : Condition) (o : ℕ) (u : Core) → IsCodeAddress u.pc
+    → step_with (Some (instruction_of (Jump c o))) (board_of u) ≡ outcome_of_core (form_step (Jump c o) u)
+unfolding effect
+jumps k o u c =
+    let even = c.even in let high = c.high in
+    let on = is_on u.pc u.sp u.flags u.work in
+    let n : sum16 u.pc 2 ≡ u.pc + 2 = omega arith in
+    let t = if is_met k u.flags then sum16 (u.pc + 2) (distance o) else u.pc + 2 in
+    rw (
+      on,
+      flags_back u.flags,
+      n,
+      set_pc u.pc u.sp t t u.flags u.work (jump_even (is_met k u.flags) (u.pc + 2) (distance o) (omega arith)
+          (distance_even o)),
+    ) refl
+
+branches : (a : ℕ) (u : Core) → IsCodeAddress u.pc → a % 2 ≡ 0
+    → step_with (Some (instruction_of (Branch a))) (board_of u) ≡ outcome_of_core (form_step (Branch a) u)
+branches a u c h =
+    let e : a / 2 * 2 ≡ a = omega arith in
+    on_two Mov (Number a) (dst.Reg reg.Pc) u c tt
+    ∙ rw (set_pc (u.pc + 4) u.sp a a u.flags u.work e) refl
+
+branches_indexed : (b : WorkRegister) (x : ℕ) (u : Core) → IsCodeAddress u.pc → FormNeeds (BranchIndexed b x) u
+    → step_with (Some (instruction_of (BranchIndexed b x))) (board_of u) ≡ outcome_of_core (form_step (BranchIndexed b x) u)
+branches_indexed b x u c h =
+    let a = u.fram (u.work (work_number b) + x) in
+    let even = h.1 in
+    let e : a / 2 * 2 ≡ a = omega arith in
+    on_two Mov (Indexed b x) (dst.Reg reg.Pc) u c h.0
+    ∙ rw (set_pc (u.pc + 4) u.sp a a u.flags u.work e) refl
+
+branches_register : (b : WorkRegister) (u : Core) → IsCodeAddress u.pc → u.work (work_number b) % 2 ≡ 0
+    → step_with (Some (instruction_of (BranchRegister b))) (board_of u) ≡ outcome_of_core (form_step (BranchRegister b) u)
+branches_register b u c h =
+    let a = u.work (work_number b) in
+    let e : a / 2 * 2 ≡ a = omega arith in
+    on_two Mov (Register b) (dst.Reg reg.Pc) u c tt
+    ∙ rw (set_pc (u.pc + 2) u.sp a a u.flags u.work e) refl
+
+-- an operation on one register
+modified_half : (f : Width → ℕ → Flags → Operated) (b : WorkRegister) (u : Core) → IsCodeAddress u.pc
+    → read_modify_write machine_bus f Word (mode.Reg (source_register.Index (index_of b))) (regs_in u u.pc) (inside u) ≡
+    (let o = f Word (u.work (work_number b)) u.flags in Completed (
+      register_file (u.pc + 2) u.sp (flags_after o.flags u.flags)
+          (put u.work (work_number b) o.value),
+      None,
+    ) (inside u))
+modified_half f b u c =
+    let even = c.even in let high = c.high in
+    let a : sum16 u.pc 2 / 2 * 2 ≡ u.pc + 2 = omega arith in
+    let d : sum16 (sum16 u.pc 2) 0 / 2 * 2 ≡ u.pc + 2 = omega arith in
+    let o = f Word (u.work (work_number b)) u.flags in
+    let l = location.Register (reg.Index (index_of b)) in
+    let next : Registers → Access MachineBus (Registers × Option Written) =
+    λ r. written_back machine_bus f Word l (r (index_number (index_of b))) (with_register r 0 (sum16 (sum16 u.pc 2) 0)) (inside u) in
+    let last : Registers → ℕ → Access MachineBus (Registers × Option Written) = λ r v. written_back machine_bus f Word l v r (inside u) in
+    let ends : Flags → Access MachineBus (Registers × Option Written) = λ g. store machine_bus
+    (with_flags (regs_in u (u.pc + 2)) (f Word (u.work (work_number b)) g).flags) Word l (f Word (u.work (work_number b)) g).value (inside u) in
+    ap next (set_pc u.pc u.sp (sum16 u.pc 2) (u.pc + 2) u.flags u.work a)
+    ∙ ap (λ v. last (with_register (regs_in u (u.pc + 2)) 0 (sum16 (sum16 u.pc 2) 0)) v) (got u (u.pc + 2) b)
+    ∙ ap (λ r. last r (u.work (work_number b))) (set_pc (u.pc + 2) u.sp (sum16 (sum16 u.pc 2) 0) (u.pc + 2) u.flags u.work d)
+    ∙ ap ends (flags_back u.flags)
+    ∙ ap (λ r. store machine_bus r Word l o.value (inside u)) (with_new o.flags u (u.pc + 2))
+    ∙ ap (λ r. Completed (r, None) (inside u)) (up (record u { flags = flags_after o.flags u.flags }) (u.pc + 2) b o.value)
+
+modified_effect : (m : Modification) (b : WorkRegister) (u : Core) → IsCodeAddress u.pc
+    → effect machine_bus (instruction_of (Modify m b)) (regs_in u u.pc) (inside u) ≡
+    (let o = modification_of m Word (u.work (work_number b)) u.flags in Completed
+    (register_file (u.pc + 2) u.sp (flags_after o.flags u.flags) (put u.work (work_number b) o.value), None) (inside u))
+unfolding effect
+modified_effect change.Rra b u c = modified_half shifted b u c
+modified_effect change.Rrc b u c = modified_half rotated b u c
+modified_effect change.Swpb b u c = modified_half exchanged b u c
+modified_effect change.Sxt b u c = modified_half sign_extended b u c
+
+modified_cycles : (m : Modification) (b : WorkRegister) → cycles_of (instruction_of (Modify m b)) ≡ 1
+modified_cycles change.Rra b = refl
+modified_cycles change.Rrc b = refl
+modified_cycles change.Swpb b = refl
+modified_cycles change.Sxt b = refl
+
+modifies : (m : Modification) (b : WorkRegister) (u : Core) → IsCodeAddress u.pc
+    → step_with (Some (instruction_of (Modify m b))) (board_of u) ≡ outcome_of_core (form_step (Modify m b) u)
+modifies m b u c =
+    let on = is_on u.pc u.sp u.flags u.work in
+    rw (on, modified_effect m b u c, modified_cycles m b) refl
+
+-- each form
+pub form_does : FormsDoAsInstructions
+form_does (Move x y) u c h = moves x y u c h.0 h.1
+form_does (Calculate op x b) u c h = calculates op x b u c h.0 h.1
+form_does (Compare x a) u c h = compares x a u c h.0 h.1
+form_does (Update op x a) u c h = updates op x a u c h
+form_does (Push x) u c h = pushes x u c h
+form_does (Modify m b) u c h = modifies m b u c
+form_does (SetStack n) u c h = sets_stack n u c h
+form_does (Sense b) u c h = senses b u c
+form_does (Jump k o) u c h = jumps k o u c
+form_does (Branch a) u c h = branches a u c h
+form_does (BranchIndexed b x) u c h = branches_indexed b x u c h
+form_does (BranchRegister b) u c h = branches_register b u c h

@@ -1,0 +1,4 @@
+pub mod Registers
+pub mod Forms
+pub mod Blocks
+pub mod Placed

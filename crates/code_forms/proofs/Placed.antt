@@ -1,0 +1,241 @@
+-- Instructions that stand one after another in FRAM, untouched, are what a machine fetches.
+use Rattle.std.proofs.Common.{◌≡◌, ℕ, suc, ◌+◌, ◌*◌, ◌%◌, ◌<◌, ◌≤◌, ◌==◌, List, [], ◌∷◌, ◌++◌, length, Option, Some, None, refl, sym, ap, ◌∙◌, subst, arith, true, false, if◌then◌else◌, cond, ◌⊎◌, inl, inr, ⊎_elim, eqb-true, ne_eqb, eq-eqb, length-append}
+use Rattle.std.proofs.lemmas.Bool.Decides.{nat_tests}
+use Rattle.msp_isa.specs.declared.instructions.Instr.{Instr}
+use Rattle.msp_isa.specs.Encoding.{encoding, IsInstruction, source_row, destination_row}
+use Rattle.msp_step.specs.declared.effect.Modification.TheVariants as change
+use Rattle.msp_step.specs.declared.machine.Stop.{Stop}
+use Rattle.msp_step.specs.declared.machine.Stop.TheVariants as stop
+use Rattle.msp_step.specs.Effect.{sum16}
+use Rattle.msp_step.specs.Step.{off_bit, FetchedAt, IsStopped, IsCurrentInstruction}
+use Rattle.msp_step.proofs.Determined.{same_current, not_stopped}
+use Rattle.fram_board.specs.Bus.{is_word, is_ram}
+use Rattle.fram_board.specs.Effects.{Effect, Store, Take, Send}
+use Rattle.machine_effects.specs.World.{put, fram_after_one, fram_after, OfStore, EachStore}
+use Rattle.machine_effects.specs.Going.{Goes, Stops, Halted, stretch, after_effects, continued, going}
+use Rattle.machine_effects.specs.Machine.{MachineBoard, MachineOutcome, MachineStretch, machine_bus, machine_opened, machine_fetched, machine_executed, IsMachineStep, NoInstruction, Executes, MachineRun, Stays, Halts, Steps, Code, step_with, exec, word_address}
+use Rattle.machine_effects.specs.Laws.{ChangesByEffects}
+use Rattle.machine_effects.proofs.Worlds.{each_store-front, each_store-back}
+use Rattle.machine_effects.proofs.Logs.{step_changes}
+use Rattle.code_forms.specs.Forms.{Form, Move, Calculate, Compare, Update, Push, Modify, SetStack, Sense, Jump, Branch, BranchIndexed, BranchRegister, source_operand, target_operand, instruction_of, form_bytes}
+use Rattle.code_forms.specs.Code.{Stands}
+use Rattle.code_forms.specs.Placed.{placed, words_of, instructions, Holds, AreInstructions, IsOutside, LeavesCode}
+use Rattle.code_forms.specs.Laws.{FormsStandWherePlaced, PlacedIsTidy, CodeInFramRuns}
+use Rattle.code_forms.proofs.Forms.{from_length, to_length}
+
+-- a form's length is that of its instruction's words
+pub bytes_are : (m : Form) → 2 * length (encoding (instruction_of m)) ≡ form_bytes m
+bytes_are (Move x y) =
+    omega (arith, from_length x, to_length y, length-append (source_row (source_operand x)).extension (destination_row (target_operand y)).extension)
+bytes_are (Calculate op x b) = omega (arith, from_length x, length-append {A = ℕ} (source_row (source_operand x)).extension [])
+bytes_are (Compare x a) = omega (arith, from_length x, length-append (source_row (source_operand x)).extension (a ∷ []))
+bytes_are (Update op x a) = omega (arith, from_length x, length-append (source_row (source_operand x)).extension (a ∷ []))
+bytes_are (Push x) = omega (arith, from_length x)
+bytes_are (Modify change.Rrc b) = refl
+bytes_are (Modify change.Rra b) = refl
+bytes_are (Modify change.Swpb b) = refl
+bytes_are (Modify change.Sxt b) = refl
+bytes_are (SetStack n) = refl
+bytes_are (Sense b) = refl
+bytes_are (Jump c o) = refl
+bytes_are (Branch a) = refl
+bytes_are (BranchIndexed b x) = refl
+bytes_are (BranchRegister b) = refl
+
+encoding_some : (i : Instr) → 0 < length (encoding i)
+encoding_some i = grind arith
+
+pub holds_front : (f : ℕ → ℕ) (p : ℕ) (a b : List ℕ) → Holds f p (a ++ b) → Holds f p a
+holds_front f p [] b h = tt
+holds_front f p (w ∷ a) b h = (h.0, holds_front f (p + 2) a b h.1)
+
+pub holds_back : (f : ℕ → ℕ) (p : ℕ) (a b : List ℕ) → Holds f p (a ++ b) → Holds f (p + 2 * length a) b
+holds_back f p [] b h = let e : p ≡ p + 2 * 0 = omega arith in subst (λ n. Holds f n b) e h
+holds_back f p (w ∷ a) b h =
+    let e : p + 2 + 2 * length a ≡ p + 2 * suc (length a) = omega arith in
+    subst (λ n. Holds f n b) e (holds_back f (p + 2) a b h.1)
+
+fram_word : (a : ℕ) → a % 2 ≡ 0 → 0x4400 ≤ a → a < 0x10000 → is_word a ≡ true
+fram_word a e l h = grind (arith, nat_tests)
+
+fram_no_ram : (a : ℕ) → 0x4400 ≤ a → is_ram a ≡ false
+fram_no_ram a l = grind (arith, nat_tests)
+
+-- words of FRAM are fetched
+fetched_word : (s : MachineBoard) (p w : ℕ) → p % 2 ≡ 0 → 0x4400 ≤ p → p < 0x10000 → s.fram p ≡ w → machine_fetched (machine_opened s) p ≡ Some w
+fetched_word s p w e l h is =
+    let a = fram_word p e l h in
+    let b = fram_no_ram p l in
+    let c : word_address p ≡ p = omega arith in
+    ap (λ x. cond x (Some (cond (is_ram p) (s.ram (word_address p)) (s.fram (word_address p)))) None) a
+    ∙ ap (λ x. Some (cond x (s.ram (word_address p)) (s.fram (word_address p)))) b
+    ∙ ap (λ x. Some (s.fram x)) c
+    ∙ ap Some is
+
+fetched : (s : MachineBoard) (p : ℕ) (ws : List ℕ) → p % 2 ≡ 0 → 0x4400 ≤ p → p + 2 * length ws < 0x10000 → Holds s.fram p ws
+    → FetchedAt machine_bus (machine_opened s) p ws
+fetched s p [] e l b h = tt
+fetched s p (w ∷ ws) e l b h =
+    let n : sum16 p 2 ≡ p + 2 = omega (arith, b) in (
+      fetched_word s p w e l (omega (arith, b)) h.0,
+      subst (λ q. FetchedAt machine_bus (machine_opened s) q ws) (sym n)
+          (fetched s (p + 2) ws (omega arith) (omega arith) (omega (arith, b)) h.1),
+    )
+
+-- the instruction at an address of the list stands there
+pub placed_next : (s : MachineBoard) (is : List Instr) (p a : ℕ) (i : Instr) → AreInstructions is → p % 2 ≡ 0 → 0x4400 ≤ p
+    → p + 2 * length (words_of is) < 0x10000 → Holds s.fram p (words_of is) → placed p is a ≡ Some i
+    → IsInstruction i × FetchedAt machine_bus (machine_opened s) a (encoding i)
+placed_next s [] p a i are e l b h q = cc
+placed_next s (j ∷ is) p a i are e l b h q =
+    let long : length (words_of (j ∷ is)) ≡ length (encoding j) + length (words_of is) = length-append (encoding j) (words_of is) in
+    let Is : Instr → Type 0 = λ x. IsInstruction x × FetchedAt machine_bus (machine_opened s) a (encoding x) in
+    (elim (a == p) as (λ x. (a == p) ≡ x → cond x (Some j) (placed (p + 2 * length (encoding j)) is a) ≡ Some i
+    → IsInstruction i × FetchedAt machine_bus (machine_opened s) a (encoding i)) [
+      | true ↦ λ t k.
+          let at : a ≡ p = eqb-true a p t in
+          let same : j ≡ i = cc in
+          subst Is same (
+            are.0,
+            subst (λ x. FetchedAt machine_bus (machine_opened s) x (encoding j)) (sym at)
+                (fetched s p (encoding j) e l (omega (arith, b, long)) (holds_front s.fram p (encoding j) (words_of is) h)),
+          )
+      | false ↦ λ t k. placed_next s is (p + 2 * length (encoding j)) a i are.1 (omega arith) (omega arith) (omega (arith, b, long))
+          (holds_back s.fram p (encoding j) (words_of is) h) k
+    ]) refl q
+
+holds_put : (f : ℕ → ℕ) (p a w : ℕ) (ws : List ℕ) → (a < p) ⊎ (p + 2 * length ws ≤ a) → Holds f p ws → Holds (put f a w) p ws
+holds_put f p a w [] out h = tt
+holds_put f p a w (v ∷ ws) out h =
+    let ne : p ≡ a → ⊥ = λ e. ⊎_elim {C = ⊥} (λ x. omega arith) (λ x. omega arith) out in
+    let further : (a < p + 2) ⊎ (p + 2 + 2 * length ws ≤ a) =
+    ⊎_elim {C = (a < p + 2) ⊎ (p + 2 + 2 * length ws ≤ a)} (λ x. inl (omega arith)) (λ x. inr (omega arith)) out in
+    (ap (λ b. cond b w (f p)) (ne_eqb p a ne) ∙ h.0, holds_put f (p + 2) a w ws further h.1)
+
+holds_store : (f : ℕ → ℕ) (p : ℕ) (ws : List ℕ) (e : Effect) → OfStore (IsOutside p (length ws)) e → Holds f p ws → Holds (fram_after_one e f) p ws
+holds_store f p ws (Store a w) s h = holds_put f p a w ws s h
+holds_store f p ws (Take w) s h = h
+holds_store f p ws (Send n w) s h = h
+
+-- words on which no store falls stay
+pub holds_stores : (es : List Effect) (f : ℕ → ℕ) (p : ℕ) (ws : List ℕ) → EachStore (IsOutside p (length ws)) es → Holds f p ws → Holds (fram_after es f) p ws
+holds_stores [] f p ws s h = h
+holds_stores (e ∷ es) f p ws s h = holds_stores es (fram_after_one e f) p ws s.1 (holds_store f p ws e s.0 h)
+
+-- it doesn't stop for want of an instruction
+abbrev IsNoHole : MachineOutcome → Type 0
+IsNoHole o = (es : List Effect) (price pc word : ℕ) → o ≡ Stops es price (stop.Illegal pc word) → ⊥
+
+if_off : (n : ℕ) (o : MachineOutcome) → n ≡ 1 → Stops [] 0 stop.Off ≡ (if n == 1 then Stops [] 0 stop.Off else o)
+if_off n o e = rw e refl
+
+if_on : (n : ℕ) (o : MachineOutcome) → n ≡ 0 → (if n == 1 then Stops [] 0 stop.Off else o) ≡ o
+if_on n o e = rw e refl
+
+module _ (p : ℕ) (is : List Instr) (are : AreInstructions is) (even : p % 2 ≡ 0) (low : 0x4400 ≤ p) (high : p + 2 * length (words_of is) < 0x10000) where
+  abbrev there : Code
+  there = placed p is
+
+  -- the instruction of the code is the machine's
+  standing_at : (s : MachineBoard) (i : Instr) → Holds s.fram p (words_of is) → there (s.registers 0) ≡ Some i → off_bit s.registers ≡ 0
+      → IsCurrentInstruction machine_bus s.registers (machine_opened s) i
+  standing_at s i h e on = let k = placed_next s is p (s.registers 0) i are even low high h e in record { on = on; is = k.0; fetched = k.1 }
+
+  stopped_at : (s : MachineBoard) (q : Option Instr) (e : Stop) → off_bit s.registers ≡ 0 → IsStopped machine_bus s.registers (machine_opened s) e
+      → Holds s.fram p (words_of is) → there (s.registers 0) ≡ q → IsNoHole (step_with q s) → ⊥
+  stopped_at s None e on k h t hole = hole [] 0 _ _ (if_on (off_bit s.registers) _ on)
+  stopped_at s (Some i) e on k h t hole = not_stopped machine_bus s.registers (machine_opened s) e i k (standing_at s i h t on)
+
+  executes_at : (s : MachineBoard) (q : Option Instr) (i : Instr) → IsCurrentInstruction machine_bus s.registers (machine_opened s) i
+      → Holds s.fram p (words_of is) → there (s.registers 0) ≡ q → IsNoHole (step_with q s) → machine_executed s i ≡ step_with q s
+  executes_at s None i c h t hole = absurd (hole [] 0 _ _ (if_on (off_bit s.registers) _ c.on))
+  executes_at s (Some j) i c h t hole =
+      ap (λ x. machine_executed s x) (same_current machine_bus s.registers (machine_opened s) i j c (standing_at s j h t c.on)) ∙ sym
+      (if_on (off_bit s.registers) (machine_executed s j) c.on)
+
+  none_at : (s : MachineBoard) (q : Option Instr) (e : Stop) → IsStopped machine_bus s.registers (machine_opened s) e → Holds s.fram p (words_of is)
+      → there (s.registers 0) ≡ q → IsNoHole (step_with q s) → Stops [] 0 e ≡ step_with q s
+  none_at s q stop.Off k h t hole = if_off (off_bit s.registers) _ k
+  none_at s q (stop.Illegal at w) k h t hole = absurd (stopped_at s q (stop.Illegal at w) k.0 k h t hole)
+  none_at s q (stop.Bus at a) k h t hole = absurd (stopped_at s q (stop.Bus at a) k.0 k h t hole)
+  none_at s q stop.NoReading k h t hole = absurd k
+
+  -- a step of the machine is a step of the code that stays
+  step_is : (s : MachineBoard) (o : MachineOutcome) → IsMachineStep s o → Holds s.fram p (words_of is) → IsNoHole (exec there s) → o ≡ exec there s
+  step_is s o (NoInstruction e k) h hole = none_at s (there (s.registers 0)) e k h refl hole
+  step_is s o (Executes i c) h hole = executes_at s (there (s.registers 0)) i c h refl hole
+
+  abbrev next : ℕ → MachineBoard → MachineStretch
+  next n = going (exec there) n
+
+  no_hole : (n : ℕ) (s : MachineBoard) → LeavesCode p (length (words_of is)) (next (suc n) s) → IsNoHole (exec there s)
+  no_hole n s l es price pc word e = l.stands price pc word (ap (λ o. (continued o (next n)).status) e)
+
+  halts_part : (n : ℕ) (s : MachineBoard) (es : List Effect) (price : ℕ) (x : Stop) → IsMachineStep s (Stops es price x)
+      → Holds s.fram p (words_of is) → LeavesCode p (length (words_of is)) (next (suc n) s) → stretch es 0 (Halted price x) ≡ next (suc n) s
+  halts_part n s es price x st h l = ap (λ o. continued o (next n)) (step_is s (Stops es price x) st h (no_hole n s l))
+
+  steps_part : (n : ℕ) (s t : MachineBoard) (es : List Effect) (c : ℕ) (r : MachineStretch) → IsMachineStep s (Goes es c t)
+      → Holds s.fram p (words_of is) → LeavesCode p (length (words_of is)) (next (suc n) s)
+      → (Holds t.fram p (words_of is) → LeavesCode p (length (words_of is)) (next n t) → r ≡ next n t) → after_effects es c r ≡ next (suc n) s
+  steps_part n s t es c r st h l ih =
+      let e = step_is s (Goes es c t) st h (no_hole n s l) in
+      let f : EachStore (IsOutside p (length (words_of is))) (es ++ (next n t).effects) =
+      subst (λ o. EachStore (IsOutside p (length (words_of is))) (continued o (next n)).effects) (sym e) l.stores in
+      let changed : ChangesByEffects s (Goes es c t) = subst (λ o. ChangesByEffects s o) (sym e) (step_changes (there (s.registers 0)) s) in
+      let ch : t.fram ≡ fram_after es s.fram = changed.0 in
+      let h' = subst (λ g. Holds g p (words_of is)) (sym ch) (holds_stores es s.fram p (words_of is)
+      (each_store-front (IsOutside p (length (words_of is))) es (next n t).effects f) h) in
+      let l' : LeavesCode p (length (words_of is)) (next n t) = record {
+        stores = each_store-back (IsOutside p (length (words_of is))) es
+            (next n t).effects f;
+        stands = λ price pc word q. l.stands price pc word (ap (λ o. (continued o (next n)).status) (sym e) ∙ q);
+      } in
+      ap (after_effects es c) (ih h' l') ∙ ap (λ o. continued o (next n)) e
+
+  -- so many steps of the machine are those of the code that stays
+  pub transfer : (n : ℕ) (s : MachineBoard) (r : MachineStretch) → MachineRun n s r → Holds s.fram p (words_of is)
+      → LeavesCode p (length (words_of is)) (going (exec there) n s) → r ≡ going (exec there) n s
+  transfer n s r (Stays _) h l = refl
+  transfer n s r (Halts k _ es price x st) h l = halts_part k s es price x st h l
+  transfer n s r (Steps k _ t es c q st rest) h l = steps_part k s t es c q st h l (λ h' l'. transfer k t q rest h' l')
+
+pub code_in_fram_runs : CodeInFramRuns
+code_in_fram_runs p is n s r are even low high run h l = transfer p is are even low high n s r run h l
+
+-- instructions stand at even addresses, within their bytes
+placed_within : (is : List Instr) (q : ℕ) → q % 2 ≡ 0 → (a : ℕ) (i : Instr) → placed q is a ≡ Some i
+    → (a % 2 ≡ 0) × (q ≤ a) × (a < q + 2 * length (words_of is))
+placed_within [] q e a i h = cc
+placed_within (j ∷ is) q e a i h =
+    let long : length (words_of (j ∷ is)) ≡ length (encoding j) + length (words_of is) = length-append (encoding j) (words_of is) in
+    let some = encoding_some j in
+    (elim (a == q) as (λ x. (a == q) ≡ x → cond x (Some j) (placed (q + 2 * length (encoding j)) is a) ≡ Some i → (a % 2 ≡ 0) × (q ≤ a) ×
+    (a < q + 2 * length (words_of (j ∷ is)))) [
+      | true ↦ λ t k. let at : a ≡ q = eqb-true a q t in (omega arith, omega arith, omega (arith, long))
+      | false ↦ λ t k. let r = placed_within is (q + 2 * length (encoding j)) (omega arith) a i k in let r0 = r.0 in let r1 = r.1 in let r2 = r.2 in
+          (r0, omega arith, omega (arith, long))
+    ]) refl h
+
+pub placed_is_tidy : PlacedIsTidy
+placed_is_tidy is p e b a i h = let r = placed_within is p e a i h in let r0 = r.0 in let r2 = r.2 in record { even = r0; high = omega arith }
+
+behind : (i : Instr) (is : List Instr) (p a : ℕ) → p < a → placed p (i ∷ is) a ≡ placed (p + 2 * length (encoding i)) is a
+behind i is p a l = ap (λ b. cond b (Some i) (placed (p + 2 * length (encoding i)) is a)) (ne_eqb a p (λ e. omega arith))
+
+stands_behind : (ms : List Form) (q : ℕ) (i : Instr) (is : List Instr) (p : ℕ) → p < q → Stands (placed (p + 2 * length (encoding i)) is) q ms
+    → Stands (placed p (i ∷ is)) q ms
+stands_behind [] q i is p l h = tt
+stands_behind (m ∷ ms) q i is p l h = (behind i is p q l ∙ h.0, stands_behind ms (q + form_bytes m) i is p (omega arith) h.1)
+
+-- the forms stand where they are placed
+pub forms_stand : FormsStandWherePlaced
+forms_stand [] p = tt
+forms_stand (m ∷ ms) p =
+    let some = encoding_some (instruction_of m) in
+    let are = bytes_are m in
+    let e : p + 2 * length (encoding (instruction_of m)) ≡ p + form_bytes m = omega arith in (
+      ap (λ b. cond b (Some (instruction_of m)) (placed (p + 2 * length (encoding (instruction_of m))) (instructions ms) p)) (eq-eqb p p refl),
+      stands_behind ms (p + form_bytes m) (instruction_of m) (instructions ms) p (omega arith)
+          (subst (λ q. Stands (placed q (instructions ms)) (p + form_bytes m) ms) (sym e) (forms_stand ms (p + form_bytes m))),
+    )

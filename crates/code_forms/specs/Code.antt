@@ -1,0 +1,75 @@
+-- Code that stays, made of forms: where it stands, what straight code does and needs, and what code makes from where it is begun.
+use Rattle.std.specs.Prelude.{ℕ, ◌+◌, ◌≡◌, ◌≤◌, List, [], ◌∷◌, Some}
+use Rattle.msp_isa.specs.declared.instructions.Instr.{Instr}
+use Rattle.msp_step.specs.declared.machine.Stop.TheVariants as stop
+use Rattle.fram_board.specs.Effects.{Effect}
+use Rattle.machine_effects.specs.Going.{Goes, Stops, At, stretch, continued, Leads, Stalls}
+use Rattle.machine_effects.specs.Machine.{Code, exec}
+use Rattle.code_forms.specs.Forms.{Core, CoreOutcome, CoreStretch, board_of, Form, Move, Calculate, Compare, Update, Push, Modify, SetStack, Sense, Jump, Branch, BranchIndexed, BranchRegister, instruction_of, form_bytes, form_step, FormNeeds, IsCodeAddress}
+
+-- the forms stand in the code from this address on
+abbrev pub Stands : Code → ℕ → List Form → Type 0
+Stands code p [] = Unit {0}
+Stands code p (m ∷ ms) = (code p ≡ Some (instruction_of m)) × Stands code (p + form_bytes m) ms
+
+-- their length in bytes
+abbrev pub forms_bytes : List Form → ℕ
+forms_bytes [] = 0
+forms_bytes (m ∷ ms) = form_bytes m + forms_bytes ms
+
+-- no jump and no branch
+abbrev pub IsStraight : Form → Type 0
+IsStraight (Jump c offset) = ⊥
+IsStraight (Branch a) = ⊥
+IsStraight (BranchIndexed b x) = ⊥
+IsStraight (BranchRegister b) = ⊥
+IsStraight (Move x y) = Unit {0}
+IsStraight (Calculate op x b) = Unit {0}
+IsStraight (Compare x a) = Unit {0}
+IsStraight (Update op x a) = Unit {0}
+IsStraight (Push x) = Unit {0}
+IsStraight (Modify m b) = Unit {0}
+IsStraight (SetStack n) = Unit {0}
+IsStraight (Sense b) = Unit {0}
+
+-- none in any of them
+abbrev pub AreStraight : List Form → Type 0
+AreStraight [] = Unit {0}
+AreStraight (m ∷ ms) = IsStraight m × AreStraight ms
+
+-- what straight code does, wherever it stands
+abbrev pub forms_run : List Form → Core → CoreStretch
+forms_run [] u = stretch [] 0 (At u)
+forms_run (m ∷ ms) u = continued (form_step m u) (forms_run ms)
+
+-- a fact of where an outcome goes on
+abbrev pub OfNext : CoreOutcome → (Core → Type 0) → Type 0
+OfNext (Goes es c t) P = P t
+OfNext (Stops es price e) P = Unit {0}
+
+-- what straight code needs: each form, where it is come to
+abbrev pub FormsNeed : List Form → Core → Type 0
+FormsNeed [] u = Unit {0}
+FormsNeed (m ∷ ms) u = FormNeeds m u × OfNext (form_step m u) (FormsNeed ms)
+
+-- instructions stand at even addresses alone, with room behind them
+abbrev pub IsTidy : Code → Type 0
+IsTidy code = (p : ℕ) (i : Instr) → code p ≡ Some i → IsCodeAddress p
+
+-- from u, the code makes these effects, in so many steps and at most so many cycles, and comes to a state with P
+pub record Runs (code : Code) (es : List Effect) (most : ℕ) (u : Core) (P : Core → Type 0) : Type 0 where
+  pub steps : ℕ
+  pub cycles : ℕ
+  pub end : Core
+  pub within : cycles ≤ most
+  pub leads : Leads (exec code) steps es cycles (board_of u) (board_of end)
+  pub holds : P end
+
+-- from u, the code makes these effects and comes to an instruction that wants a reading where none is left; what was spent and
+-- that instruction's price are within the bound
+pub record Starves (code : Code) (es : List Effect) (most : ℕ) (u : Core) : Type 0 where
+  pub steps : ℕ
+  pub cycles : ℕ
+  pub price : ℕ
+  pub within : cycles + price ≤ most
+  pub stalls : Stalls (exec code) steps es cycles (board_of u) price stop.NoReading

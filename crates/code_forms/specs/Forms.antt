@@ -1,0 +1,377 @@
+-- The forms of instructions that the compiler and its runtime write, on a machine whose registers are told apart: what each is
+-- as an instruction, how long it is, what it needs and what it does (SLAU049 and SLAU144, CPU chapter).
+use Rattle.std.specs.Prelude.{ℕ, ◌+◌, ◌-◌, ◌%◌, ◌≡◌, ◌<◌, ◌≤◌, true, false, ◌==◌, if◌then◌else◌, List, [], ◌∷◌, Option, Some, None}
+use Rattle.alp_words.specs.declared.Flags.{Flags}
+use Rattle.alp_words.specs.declared.Width.TheVariants.{Word}
+use Rattle.msp_isa.specs.declared.registers.IndexRegister.{IndexRegister}
+use Rattle.msp_isa.specs.declared.registers.IndexRegister.TheVariants as index
+use Rattle.msp_isa.specs.declared.registers.SourceRegister.TheVariants as source_register
+use Rattle.msp_isa.specs.declared.registers.IndirectRegister.TheVariants as pointer
+use Rattle.msp_isa.specs.declared.registers.Reg.TheVariants as reg
+use Rattle.msp_isa.specs.declared.operands.Konst.{Konst}
+use Rattle.msp_isa.specs.declared.operands.Operand.TheVariants as mode
+use Rattle.msp_isa.specs.declared.operands.Src.{Src}
+use Rattle.msp_isa.specs.declared.operands.Src.TheVariants as src
+use Rattle.msp_isa.specs.declared.operands.Dst.{Dst}
+use Rattle.msp_isa.specs.declared.operands.Dst.TheVariants as dst
+use Rattle.msp_isa.specs.declared.instructions.TwoOp.{TwoOp}
+use Rattle.msp_isa.specs.declared.instructions.TwoOp.TheVariants.{Mov, Cmp}
+use Rattle.msp_isa.specs.declared.instructions.OneOp.{OneOp}
+use Rattle.msp_isa.specs.declared.instructions.OneOp.TheVariants as one
+use Rattle.msp_isa.specs.declared.instructions.Condition.{Condition}
+use Rattle.msp_isa.specs.declared.instructions.Instr.{Instr}
+use Rattle.msp_isa.specs.declared.instructions.Instr.TheVariants as instr
+use Rattle.msp_isa.specs.Constant.{constant_value}
+use Rattle.msp_cycles.specs.Cycles.{cycles_of}
+use Rattle.msp_step.specs.declared.effect.Modification.{Modification}
+use Rattle.msp_step.specs.declared.effect.Modification.TheVariants as change
+use Rattle.msp_step.specs.declared.machine.Stop.{Stop}
+use Rattle.msp_step.specs.declared.machine.Stop.TheVariants as stop
+use Rattle.msp_step.specs.Registers.{Registers}
+use Rattle.msp_step.specs.Effect.{status_with, operated, Operated, modification_of, writes_destination, sum16, distance, is_met}
+use Rattle.fram_board.specs.Bus.{sensor_port, number_port, data_port}
+use Rattle.fram_board.specs.Effects.{Store, Take, Send}
+use Rattle.machine_effects.specs.World.{put}
+use Rattle.machine_effects.specs.Going.{StepOutcome, Goes, Stops, Stretch}
+use Rattle.machine_effects.specs.Machine.{MachineBoard, MachineOutcome, IsFram, IsRam}
+
+-- the registers for work
+pub data WorkRegister : Type 0 where
+  R4 : WorkRegister
+  R5 : WorkRegister
+  R6 : WorkRegister
+  R7 : WorkRegister
+  R8 : WorkRegister
+  R9 : WorkRegister
+  R10 : WorkRegister
+  R11 : WorkRegister
+  R12 : WorkRegister
+  R13 : WorkRegister
+  R14 : WorkRegister
+  R15 : WorkRegister
+
+-- their numbers
+abbrev pub work_number : WorkRegister → ℕ
+work_number R4 = 4
+work_number R5 = 5
+work_number R6 = 6
+work_number R7 = 7
+work_number R8 = 8
+work_number R9 = 9
+work_number R10 = 10
+work_number R11 = 11
+work_number R12 = 12
+work_number R13 = 13
+work_number R14 = 14
+work_number R15 = 15
+
+-- the same among the registers that an addressing mode can name
+abbrev pub index_of : WorkRegister → IndexRegister
+index_of R4 = index.R4
+index_of R5 = index.R5
+index_of R6 = index.R6
+index_of R7 = index.R7
+index_of R8 = index.R8
+index_of R9 = index.R9
+index_of R10 = index.R10
+index_of R11 = index.R11
+index_of R12 = index.R12
+index_of R13 = index.R13
+index_of R14 = index.R14
+index_of R15 = index.R15
+
+-- a machine with its registers told apart; the control bits of SR are 0
+pub record Core : Type 0 where
+  pub pc : ℕ
+  pub sp : ℕ
+  pub flags : Flags
+  pub work : ℕ → ℕ  -- by the register's number
+  pub fram : ℕ → ℕ
+  pub ram : ℕ → ℕ
+  pub readings_left : List ℕ
+  pub outnum : ℕ
+
+-- the register file of these registers
+abbrev pub register_file : ℕ → ℕ → Flags → (ℕ → ℕ) → Registers
+register_file pc sp f work = λ n. if n == 0 then pc else if n == 1 then sp else if n == 2 then status_with 0 f else if n == 3 then 0 else work n
+
+-- the machine
+abbrev pub board_of : Core → MachineBoard
+board_of u = record { registers = register_file u.pc u.sp u.flags u.work; fram = u.fram; ram = u.ram; readings_left = u.readings_left; outnum = u.outnum }
+
+-- no flag is set
+abbrev pub clear_flags : Flags
+clear_flags = record { n = false; z = false; c = false; v = false }
+
+-- a machine whose SR is 0, as after a power-up, with its registers told apart
+abbrev pub core_of : MachineBoard → Core
+core_of s = record {
+  pc = s.registers 0;
+  sp = s.registers 1;
+  flags = clear_flags;
+  work = s.registers;
+  fram = s.fram;
+  ram = s.ram;
+  readings_left = s.readings_left;
+  outnum = s.outnum;
+}
+
+-- a step of such a machine
+abbrev pub CoreOutcome : Type 0
+CoreOutcome = StepOutcome Core Stop
+
+-- some steps of it
+abbrev pub CoreStretch : Type 0
+CoreStretch = Stretch Core Stop
+
+-- its outcome as the machine's
+abbrev pub outcome_of_core : CoreOutcome → MachineOutcome
+outcome_of_core (Goes es c u) = Goes es c (board_of u)
+outcome_of_core (Stops es price e) = Stops es price e
+
+-- source operands
+pub data Source : Type 0 where
+  Register : (b : WorkRegister) → Source
+  Number : (n : ℕ) → Source  -- an immediate
+  Constant : (k : Konst) → Source
+  Fram : (a : ℕ) → Source
+  Ram : (a : ℕ) → Source
+  Pointed : (b : WorkRegister) → Source  -- the word of FRAM at the register's address
+  PointedNext : (b : WorkRegister) → Source  -- the same, and the register goes up by 2
+  Indexed : (b : WorkRegister) → (x : ℕ) → Source  -- the word of FRAM at the register's address plus x
+  Popped : Source  -- the word of RAM at SP, which goes up by 2
+
+-- the operand
+abbrev pub source_operand : Source → Src
+source_operand (Register b) = src.Operand (mode.Reg (source_register.Index (index_of b)))
+source_operand (Number n) = src.Immediate n
+source_operand (Constant k) = src.Constant k
+source_operand (Fram a) = src.Operand (mode.Absolute a)
+source_operand (Ram a) = src.Operand (mode.Absolute a)
+source_operand (Pointed b) = src.Operand (mode.Indirect (pointer.Index (index_of b)))
+source_operand (PointedNext b) = src.Operand (mode.Increment (index_of b))
+source_operand (Indexed b x) = src.Operand (mode.Indexed (index_of b) x)
+source_operand Popped = src.Operand (mode.Increment index.Sp)
+
+-- the bytes of its extension word
+abbrev pub source_bytes : Source → ℕ
+source_bytes (Register b) = 0
+source_bytes (Number n) = 2
+source_bytes (Constant k) = 0
+source_bytes (Fram a) = 2
+source_bytes (Ram a) = 2
+source_bytes (Pointed b) = 0
+source_bytes (PointedNext b) = 0
+source_bytes (Indexed b x) = 2
+source_bytes Popped = 0
+
+-- its value
+abbrev pub source_value : Source → Core → ℕ
+source_value (Register b) u = u.work (work_number b)
+source_value (Number n) u = n
+source_value (Constant k) u = constant_value k
+source_value (Fram a) u = u.fram a
+source_value (Ram a) u = u.ram a
+source_value (Pointed b) u = u.fram (u.work (work_number b))
+source_value (PointedNext b) u = u.fram (u.work (work_number b))
+source_value (Indexed b x) u = u.fram (u.work (work_number b) + x)
+source_value Popped u = u.ram u.sp
+
+-- the machine behind it
+abbrev pub source_read : Source → Core → Core
+source_read (PointedNext b) u = record u { work = put u.work (work_number b) (u.work (work_number b) + 2) }
+source_read Popped u = record u { sp = u.sp + 2 }
+source_read (Register b) u = u
+source_read (Number n) u = u
+source_read (Constant k) u = u
+source_read (Fram a) u = u
+source_read (Ram a) u = u
+source_read (Pointed b) u = u
+source_read (Indexed b x) u = u
+
+-- what it needs
+abbrev pub SourceNeeds : Source → Core → Type 0
+SourceNeeds (Register b) u = Unit {0}
+SourceNeeds (Number n) u = Unit {0}
+SourceNeeds (Constant k) u = Unit {0}
+SourceNeeds (Fram a) u = IsFram a
+SourceNeeds (Ram a) u = IsRam a
+SourceNeeds (Pointed b) u = IsFram (u.work (work_number b))
+SourceNeeds (PointedNext b) u = IsFram (u.work (work_number b)) × (u.work (work_number b) + 2 < 0x10000)
+SourceNeeds (Indexed b x) u = IsFram (u.work (work_number b) + x)
+SourceNeeds Popped u = IsRam u.sp
+
+-- destinations of MOV
+pub data Target : Type 0 where
+  ToRegister : (b : WorkRegister) → Target
+  ToFram : (a : ℕ) → Target
+  ToRam : (a : ℕ) → Target
+  ToIndexed : (b : WorkRegister) → (x : ℕ) → Target  -- the word of FRAM at the register's address plus x
+  ToPointed : (b : WorkRegister) → Target  -- the word of FRAM at the register's address
+  ToOutnum : Target
+  ToOutdata : Target
+
+-- the operand
+abbrev pub target_operand : Target → Dst
+target_operand (ToRegister b) = dst.Reg (reg.Index (index_of b))
+target_operand (ToFram a) = dst.Absolute a
+target_operand (ToRam a) = dst.Absolute a
+target_operand (ToIndexed b x) = dst.Indexed (index_of b) x
+target_operand (ToPointed b) = dst.Indexed (index_of b) 0
+target_operand ToOutnum = dst.Absolute number_port
+target_operand ToOutdata = dst.Absolute data_port
+
+-- the bytes of its extension word
+abbrev pub target_bytes : Target → ℕ
+target_bytes (ToRegister b) = 0
+target_bytes _ = 2
+
+-- a word written there, in so many cycles
+abbrev pub target_written : Target → ℕ → ℕ → Core → CoreOutcome
+target_written (ToRegister b) c v u = Goes [] c (record u { work = put u.work (work_number b) v })
+target_written (ToFram a) c v u = Goes (Store a v ∷ []) c (record u { fram = put u.fram a v })
+target_written (ToRam a) c v u = Goes [] c (record u { ram = put u.ram a v })
+target_written (ToIndexed b x) c v u =
+    let a = u.work (work_number b) + x in
+    Goes (Store a v ∷ []) c (record u { fram = put u.fram a v })
+target_written (ToPointed b) c v u = Goes (Store (u.work (work_number b)) v ∷ []) c (record u { fram = put u.fram (u.work (work_number b)) v })
+target_written ToOutnum c v u = Goes [] c (record u { outnum = v })
+target_written ToOutdata c v u = Goes (Send u.outnum v ∷ []) c u
+
+-- what it needs
+abbrev pub TargetNeeds : Target → Core → Type 0
+TargetNeeds (ToRegister b) u = Unit {0}
+TargetNeeds (ToFram a) u = IsFram a
+TargetNeeds (ToRam a) u = IsRam a
+TargetNeeds (ToIndexed b x) u = IsFram (u.work (work_number b) + x)
+TargetNeeds (ToPointed b) u = IsFram (u.work (work_number b))
+TargetNeeds ToOutnum u = Unit {0}
+TargetNeeds ToOutdata u = Unit {0}
+
+-- RRC, RRA, SWPB or SXT of a register
+abbrev pub modification_operand : Modification → WorkRegister → OneOp
+modification_operand change.Rrc b = one.Rrc Word (mode.Reg (source_register.Index (index_of b)))
+modification_operand change.Rra b = one.Rra Word (mode.Reg (source_register.Index (index_of b)))
+modification_operand change.Swpb b = one.Swpb (mode.Reg (source_register.Index (index_of b)))
+modification_operand change.Sxt b = one.Sxt (mode.Reg (source_register.Index (index_of b)))
+
+-- the forms
+pub data Form : Type 0 where
+  Move : (x : Source) → (y : Target) → Form
+  Calculate : (op : TwoOp) → (x : Source) → (b : WorkRegister) → Form  -- an operation other than MOV, on a register
+  Compare : (x : Source) → (a : ℕ) → Form  -- CMP with a word of FRAM
+  Update : (op : TwoOp) → (x : Source) → (a : ℕ) → Form  -- an operation on a word of FRAM, which it writes
+  Push : (x : Source) → Form
+  Modify : (change : Modification) → (b : WorkRegister) → Form
+  SetStack : (n : ℕ) → Form  -- SP becomes n
+  Sense : (b : WorkRegister) → Form  -- a reading is taken into a register
+  Jump : (c : Condition) → (offset : ℕ) → Form
+  Branch : (a : ℕ) → Form  -- PC becomes a
+  BranchIndexed : (b : WorkRegister) → (x : ℕ) → Form  -- PC becomes the word of FRAM at the register's address plus x
+  BranchRegister : (b : WorkRegister) → Form  -- PC becomes the register's word
+
+-- a form as an instruction
+abbrev pub instruction_of : Form → Instr
+instruction_of (Move x y) = instr.Two Mov Word (source_operand x) (target_operand y)
+instruction_of (Calculate op x b) = instr.Two op Word (source_operand x) (dst.Reg (reg.Index (index_of b)))
+instruction_of (Compare x a) = instr.Two Cmp Word (source_operand x) (dst.Absolute a)
+instruction_of (Update op x a) = instr.Two op Word (source_operand x) (dst.Absolute a)
+instruction_of (Push x) = instr.One (one.Push Word (source_operand x))
+instruction_of (Modify m b) = instr.One (modification_operand m b)
+instruction_of (SetStack n) = instr.Two Mov Word (src.Immediate n) (dst.Reg (reg.Index index.Sp))
+instruction_of (Sense b) = instr.Two Mov Word (src.Operand (mode.Absolute sensor_port)) (dst.Reg (reg.Index (index_of b)))
+instruction_of (Jump c offset) = instr.Jump c offset
+instruction_of (Branch a) = instr.Two Mov Word (src.Immediate a) (dst.Reg reg.Pc)
+instruction_of (BranchIndexed b x) = instr.Two Mov Word (src.Operand (mode.Indexed (index_of b) x)) (dst.Reg reg.Pc)
+instruction_of (BranchRegister b) = instr.Two Mov Word (src.Operand (mode.Reg (source_register.Index (index_of b)))) (dst.Reg reg.Pc)
+
+-- its length in bytes
+abbrev pub form_bytes : Form → ℕ
+form_bytes (Move x y) = 2 + source_bytes x + target_bytes y
+form_bytes (Calculate op x b) = 2 + source_bytes x
+form_bytes (Compare x a) = 2 + source_bytes x + 2
+form_bytes (Update op x a) = 2 + source_bytes x + 2
+form_bytes (Push x) = 2 + source_bytes x
+form_bytes (Modify m b) = 2
+form_bytes (SetStack n) = 4
+form_bytes (Sense b) = 4
+form_bytes (Jump c offset) = 2
+form_bytes (Branch a) = 4
+form_bytes (BranchIndexed b x) = 4
+form_bytes (BranchRegister b) = 2
+
+-- flags after an operation, which may leave them
+abbrev pub flags_after : Option Flags → Flags → Flags
+flags_after None f = f
+flags_after (Some g) f = g
+
+-- the machine after an operation on a register
+abbrev pub calculated : TwoOp → WorkRegister → Operated → Core → Core
+calculated op b o u = record u { flags = flags_after o.flags u.flags; work = if writes_destination op then put u.work (work_number b) o.value else u.work }
+
+-- a reading taken into a register; where none is left the machine stops, at the instruction's price
+abbrev pub sensed : List ℕ → WorkRegister → Core → CoreOutcome
+sensed [] b u = Stops [] 3 stop.NoReading
+sensed (w ∷ ws) b u = Goes (Take w ∷ []) 3 (record u { pc = u.pc + 4; work = put u.work (work_number b) w; readings_left = ws })
+
+-- what a form does
+abbrev pub form_step : Form → Core → CoreOutcome
+form_step (Move x y) u =
+    let t = source_read x u in
+    target_written y (cycles_of (instruction_of (Move x y))) (source_value x u) (record t { pc = u.pc + (2 + source_bytes x + target_bytes y) })
+form_step (Calculate op x b) u =
+    let t = source_read x u in
+    let o = operated op Word (t.work (work_number b)) (source_value x u) u.flags in
+    Goes [] (cycles_of (instruction_of (Calculate op x b))) (calculated op b o (record t { pc = u.pc + (2 + source_bytes x) }))
+form_step (Compare x a) u =
+    let t = source_read x u in
+    let o = operated Cmp Word (u.fram a) (source_value x u) u.flags in
+    Goes [] (cycles_of (instruction_of (Compare x a))) (record t { pc = u.pc + (2 + source_bytes x + 2); flags = flags_after o.flags u.flags })
+form_step (Update op x a) u =
+    let t = source_read x u in
+    let o = operated op Word (u.fram a) (source_value x u) u.flags in
+    let after : Core = record t { pc = u.pc + (2 + source_bytes x + 2); flags = flags_after o.flags u.flags; fram = put u.fram a o.value } in
+    Goes (Store a o.value ∷ []) (cycles_of (instruction_of (Update op x a))) after
+form_step (Push x) u =
+    let t = source_read x u in
+    Goes [] (cycles_of (instruction_of (Push x))) (record t { pc = u.pc + (2 + source_bytes x); sp = t.sp - 2; ram = put t.ram (t.sp - 2) (source_value x u) })
+form_step (Modify m b) u =
+    let o = modification_of m Word (u.work (work_number b)) u.flags in
+    Goes [] 1 (record u { pc = u.pc + 2; flags = flags_after o.flags u.flags; work = put u.work (work_number b) o.value })
+form_step (SetStack n) u = Goes [] 2 (record u { pc = u.pc + 4; sp = n })
+form_step (Sense b) u = sensed u.readings_left b u
+form_step (Jump c offset) u = Goes [] 2 (record u { pc = if is_met c u.flags then sum16 (u.pc + 2) (distance offset) else u.pc + 2 })
+form_step (Branch a) u = Goes [] 3 (record u { pc = a })
+form_step (BranchIndexed b x) u = Goes [] 3 (record u { pc = u.fram (u.work (work_number b) + x) })
+form_step (BranchRegister b) u = Goes [] 2 (record u { pc = u.work (work_number b) })
+
+-- room in RAM below SP for a word
+pub record HasPushRoom (sp : ℕ) : Type 0 where
+  pub even : sp % 2 ≡ 0
+  pub low : 0x1C02 ≤ sp
+  pub high : sp ≤ 0x2400
+
+-- an operation that reads its destination
+abbrev pub IsNotMov : TwoOp → Type 0
+IsNotMov Mov = ⊥
+IsNotMov _ = Unit {0}
+
+-- what a form needs
+abbrev pub FormNeeds : Form → Core → Type 0
+FormNeeds (Move x y) u = SourceNeeds x u × TargetNeeds y (source_read x u)
+FormNeeds (Calculate op x b) u = IsNotMov op × SourceNeeds x u
+FormNeeds (Compare x a) u = SourceNeeds x u × IsFram a
+FormNeeds (Update op x a) u = IsNotMov op × (writes_destination op ≡ true) × SourceNeeds x u × IsFram a
+FormNeeds (Push x) u = SourceNeeds x u × HasPushRoom (source_read x u).sp
+FormNeeds (Modify m b) u = Unit {0}
+FormNeeds (SetStack n) u = n % 2 ≡ 0
+FormNeeds (Sense b) u = Unit {0}
+FormNeeds (Jump c offset) u = Unit {0}
+FormNeeds (Branch a) u = a % 2 ≡ 0
+FormNeeds (BranchIndexed b x) u = IsFram (u.work (work_number b) + x) × (u.fram (u.work (work_number b) + x) % 2 ≡ 0)
+FormNeeds (BranchRegister b) u = u.work (work_number b) % 2 ≡ 0
+
+-- an even address with room behind it for an instruction of three words
+pub record IsCodeAddress (pc : ℕ) : Type 0 where
+  pub even : pc % 2 ≡ 0
+  pub high : pc + 6 < 0x10000

@@ -1,0 +1,41 @@
+-- Laws of the forms and of code that stands in FRAM.
+use Rattle.std.specs.Prelude.{◌≡◌, ℕ, ◌+◌, ◌*◌, ◌%◌, ◌<◌, ◌≤◌, List, length, Some}
+use Rattle.msp_isa.specs.declared.instructions.Instr.{Instr}
+use Rattle.fram_board.specs.Board.{PowerState}
+use Rattle.fram_board.specs.Effects.{Effect}
+use Rattle.machine_effects.specs.Going.{At, stretch, Leads, going}
+use Rattle.machine_effects.specs.Machine.{Code, MachineBoard, MachineStretch, MachineRun, exec, step_with, machine_powered}
+use Rattle.code_forms.specs.Forms.{Core, board_of, core_of, outcome_of_core, Form, instruction_of, form_step, FormNeeds, IsCodeAddress}
+use Rattle.code_forms.specs.Code.{Stands, AreStraight, forms_run, FormsNeed, IsTidy}
+use Rattle.code_forms.specs.Placed.{placed, words_of, instructions, Holds, AreInstructions, LeavesCode}
+
+-- a machine that was powered up has its registers told apart
+abbrev pub PoweredHasACore : Type 0
+PoweredHasACore = (s : MachineBoard) (p : PowerState) → machine_powered s p ≡ board_of (core_of (machine_powered s p))
+
+-- a form does as its instruction
+abbrev pub FormsDoAsInstructions : Type 0
+FormsDoAsInstructions = (m : Form) (u : Core) → IsCodeAddress u.pc → FormNeeds m u
+    → step_with (Some (instruction_of m)) (board_of u) ≡ outcome_of_core (form_step m u)
+
+-- straight code leads where its forms do
+abbrev pub StraightCodeLeads : Type 0
+StraightCodeLeads = (code : Code) (ms : List Form) (u t : Core) (es : List Effect) (c : ℕ)
+    → IsTidy code → AreStraight ms → Stands code u.pc ms → FormsNeed ms u
+    → forms_run ms u ≡ stretch es c (At t) → Leads (exec code) (length ms) es c (board_of u) (board_of t)
+
+-- forms stand where they are placed
+abbrev pub FormsStandWherePlaced : Type 0
+FormsStandWherePlaced = (ms : List Form) (p : ℕ) → Stands (placed p (instructions ms)) p ms
+
+-- code that is placed is tidy
+abbrev pub PlacedIsTidy : Type 0
+PlacedIsTidy = (is : List Instr) (p : ℕ) → p % 2 ≡ 0 → p + 2 * length (words_of is) + 6 ≤ 0x10000 → IsTidy (placed p is)
+
+-- a machine whose FRAM holds instructions goes as the code that they are, as long as no store falls on them and it never comes to
+-- where none stands
+abbrev pub CodeInFramRuns : Type 0
+CodeInFramRuns = (p : ℕ) (is : List Instr) (n : ℕ) (s : MachineBoard) (r : MachineStretch)
+    → AreInstructions is → p % 2 ≡ 0 → 0x4400 ≤ p → p + 2 * length (words_of is) < 0x10000
+    → MachineRun n s r → Holds s.fram p (words_of is) → LeavesCode p (length (words_of is)) (going (exec (placed p is)) n s)
+    → r ≡ going (exec (placed p is)) n s

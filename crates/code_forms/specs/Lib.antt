@@ -1,0 +1,4 @@
+pub mod Forms
+pub mod Code
+pub mod Placed
+pub mod Laws

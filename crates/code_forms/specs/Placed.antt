@@ -1,0 +1,43 @@
+-- Instructions one after another in FRAM.
+use Rattle.std.specs.Prelude.{◌≡◌, ◌≢◌, ℕ, ◌+◌, ◌*◌, ◌<◌, ◌≤◌, ◌==◌, ◌⊎◌, if◌then◌else◌, List, [], ◌∷◌, ◌++◌, length, Some, None}
+use Rattle.msp_isa.specs.declared.instructions.Instr.{Instr}
+use Rattle.msp_isa.specs.Encoding.{encoding, IsInstruction}
+use Rattle.msp_step.specs.declared.machine.Stop.TheVariants as stop
+use Rattle.machine_effects.specs.World.{EachStore}
+use Rattle.machine_effects.specs.Going.{Halted}
+use Rattle.machine_effects.specs.Machine.{Code, MachineStretch}
+use Rattle.code_forms.specs.Forms.{Form, instruction_of}
+
+-- the code that these instructions are from an address on
+abbrev pub placed : ℕ → List Instr → Code
+placed p [] a = None
+placed p (i ∷ more) a = if a == p then Some i else placed (p + 2 * length (encoding i)) more a
+
+-- their words
+abbrev pub words_of : List Instr → List ℕ
+words_of [] = []
+words_of (i ∷ more) = encoding i ++ words_of more
+
+-- forms as instructions
+abbrev pub instructions : List Form → List Instr
+instructions [] = []
+instructions (m ∷ ms) = instruction_of m ∷ instructions ms
+
+-- these words stand in FRAM from an address on
+abbrev pub Holds : (ℕ → ℕ) → ℕ → List ℕ → Type 0
+Holds f p [] = Unit {0}
+Holds f p (w ∷ ws) = (f p ≡ w) × Holds f (p + 2) ws
+
+-- jumps reach no further than ten bits say
+abbrev pub AreInstructions : List Instr → Type 0
+AreInstructions [] = Unit {0}
+AreInstructions (i ∷ more) = IsInstruction i × AreInstructions more
+
+-- a store at this address falls on none of so many words from p on
+abbrev pub IsOutside : ℕ → ℕ → ℕ → ℕ → Type 0
+IsOutside p n a w = (a < p) ⊎ (p + 2 * n ≤ a)
+
+-- no store falls on so many words from p on, and it never comes to where no instruction stands
+pub record LeavesCode (p n : ℕ) (r : MachineStretch) : Type 0 where
+  pub stores : EachStore (IsOutside p n) r.effects
+  pub stands : (price pc word : ℕ) → r.status ≢ Halted price (stop.Illegal pc word)

@@ -1,0 +1,34 @@
+//! Laws of the forms. The functions do nothing: their contracts are the laws.
+
+ghost use Rattle.code_forms.specs.Laws.{PoweredHasACore, FormsDoAsInstructions, StraightCodeLeads, FormsStandWherePlaced, PlacedIsTidy, CodeInFramRuns};
+
+/// A machine that was powered up has SR and R3 at 0, so that its registers can be told apart.
+pub fn powered_machine_has_a_core()
+    ensures { PoweredHasACore }
+{}
+
+/// A form does what its instruction does on the machine, with its effects and its cycles, where it has what it needs.
+#[tactic(auto, using(crate::proofs::Forms::form_does))]
+pub fn forms_do_as_instructions()
+    ensures { FormsDoAsInstructions }
+{}
+
+/// Straight code, wherever it stands, leads where its forms do one after another.
+#[tactic(auto, using(crate::proofs::Blocks::straight_code_leads))]
+pub fn straight_code_leads()
+    ensures { StraightCodeLeads }
+{}
+
+/// Forms stand where they are placed, at even addresses with room behind them.
+#[tactic(auto, using(crate::proofs::Placed::forms_stand, crate::proofs::Placed::placed_is_tidy))]
+pub fn placed_code_stands()
+    ensures stands { FormsStandWherePlaced }
+    ensures tidy { PlacedIsTidy }
+{}
+
+/// A machine whose FRAM holds instructions goes as the code that they are, as long as no store falls on them and it never
+/// comes to where none of them stands.
+#[tactic(auto, using(crate::proofs::Placed::code_in_fram_runs))]
+pub fn code_in_fram_runs()
+    ensures { CodeInFramRuns }
+{}

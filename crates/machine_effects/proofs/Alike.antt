@@ -1,0 +1,280 @@
+-- The board's bus and the machine's answer alike.
+use Rattle.std.proofs.Common.{◌≡◌, ◌==◌, ◌&&◌, if◌then◌else◌, cond, nat_lt, ◌≤◌, ◌<◌, ◌+◌, ◌-◌, ◌/◌, ◌%◌, arith, ℕ, zero, suc, refl, sym, ◌∙◌, ap, ap₂, subst, Bool, true, false, List, [], ◌∷◌, ◌++◌, length, drop, slice_index, slice_set, get_or-set_same, get_or-set_other, length-set, eqb-true, eq-eqb, Option, Some, None, Result, Ok, Err}
+use mathlib.Core.Path.{fun_ext}
+use Rattle.std.proofs.lemmas.Bool.Decides.{nat_tests}
+use Rattle.alp_words.specs.declared.Width.{Width}
+use Rattle.alp_words.specs.declared.Width.TheVariants.{Word, Byte}
+use Rattle.msp_step.specs.declared.bus.Refused.{Refused}
+use Rattle.msp_step.specs.declared.bus.Refused.TheVariants as refused
+use Rattle.image_text.specs.ImageValue.{place_of}
+use Rattle.fram_board.specs.Bus.{BusState, IsBusState, board_bus, is_ram, is_fram, is_memory, is_word, ram_place, memory_word, with_word, byte_of, with_byte, next_reading, read_of, after_read, written, port_written, sensor_port, number_port, data_port}
+use Rattle.fram_board.specs.Effects.{Effect, Store, Send}
+use Rattle.step_laws.specs.Alike.{AnswerAlike, WrittenAlike}
+use Rattle.machine_effects.specs.World.{put}
+use Rattle.machine_effects.specs.Machine.{MachineBus, machine_bus, machine_word, word_in, word_address, fram_of, ram_of, first_reading, machine_read, reading_taken, machine_after_read, machine_stored, machine_port_written, machine_written}
+use Rattle.machine_effects.proofs.Logs.{and_right, other_is_fram}
+
+-- the same memory, ports and readings, of which these are all
+pub record SameBus (readings : List ℕ) (s : BusState) (t : MachineBus) : Type 0 where
+  pub whole : IsBusState s
+  pub fram : t.fram ≡ fram_of s.fram
+  pub ram : t.ram ≡ ram_of s.ram
+  pub left : t.readings_left ≡ drop s.taken s.readings
+  pub outnum : t.outnum ≡ s.outnum
+  pub all : s.readings ≡ readings
+
+-- memory by addresses, from the list of its words; a word written to the list is one written to the function
+abbrev view : (ℕ → Bool) → ℕ → List ℕ → ℕ → ℕ
+view inside low xs x = if (x % 2 == 0) && inside x then slice_index xs ((x - low) / 2) else 0
+
+module _ (inside : ℕ → Bool) (low : ℕ) (range : (x : ℕ) → ((x % 2 == 0) && inside x) ≡ true → (x % 2 ≡ 0) × (low ≤ x)) (xs : List ℕ) (y v : ℕ)
+    (there : ((y % 2 == 0) && inside y) ≡ true) (within : (y - low) / 2 < length xs) where
+  at_place : view inside low (slice_set xs ((y - low) / 2) v) y ≡ v
+  at_place = ap (λ b. cond b (slice_index (slice_set xs ((y - low) / 2) v) ((y - low) / 2)) 0) there ∙ get_or-set_same xs ((y - low) / 2) v 0 within
+
+  elsewhere : (x : ℕ) → (x ≡ y → ⊥) → (b : Bool) → ((x % 2 == 0) && inside x) ≡ b
+      → cond b (slice_index xs ((x - low) / 2)) 0 ≡ cond b (slice_index (slice_set xs ((y - low) / 2) v) ((x - low) / 2)) 0
+  elsewhere x ne true e =
+      let r = range x e in
+      let q = range y there in
+      let r0 = r.0 in let r1 = r.1 in let q0 = q.0 in let q1 = q.1 in
+      let apart : (x - low) / 2 ≡ (y - low) / 2 → ⊥ = λ k. ne (omega arith) in
+      sym (get_or-set_other xs ((y - low) / 2) ((x - low) / 2) v 0 apart)
+  elsewhere x ne false e = refl
+
+  put_at : (x : ℕ) → (b : Bool) → (x == y) ≡ b → cond b v (view inside low xs x) ≡ view inside low (slice_set xs ((y - low) / 2) v) x
+  put_at x true e = let same : x ≡ y = eqb-true x y e in sym (ap (λ z. view inside low (slice_set xs ((y - low) / 2) v) z) same ∙ at_place)
+  put_at x false e = let ne : x ≡ y → ⊥ = λ q. cc (e, eq-eqb x y q) in elsewhere x ne ((x % 2 == 0) && inside x) refl
+
+  put_view : put (view inside low xs) y v ≡ view inside low (slice_set xs ((y - low) / 2) v)
+  put_view = fun_ext (λ x. put_at x (x == y) refl)
+
+in_fram : (x : ℕ) → ((x % 2 == 0) && is_fram x) ≡ true → (x % 2 ≡ 0) × (0x4400 ≤ x)
+in_fram x h = (grind (arith, nat_tests), grind (arith, nat_tests))
+
+in_ram : (x : ℕ) → ((x % 2 == 0) && is_ram x) ≡ true → (x % 2 ≡ 0) × (0x1C00 ≤ x)
+in_ram x h = (grind (arith, nat_tests), grind (arith, nat_tests))
+
+pub fram_range : (a : ℕ) → is_fram a ≡ true → (0x4400 ≤ a) × (a < 0x10000)
+fram_range a h = (grind (arith, nat_tests), grind (arith, nat_tests))
+
+pub ram_range : (a : ℕ) → is_ram a ≡ true → (0x1C00 ≤ a) × (a < 0x2400)
+ram_range a h = (grind (arith, nat_tests), grind (arith, nat_tests))
+
+is_fram_address : (x : ℕ) → x % 2 ≡ 0 → 0x4400 ≤ x → x < 0x10000 → ((x % 2 == 0) && is_fram x) ≡ true
+is_fram_address x e l h = grind (arith, nat_tests)
+
+is_ram_address : (x : ℕ) → x % 2 ≡ 0 → 0x1C00 ≤ x → x < 0x2400 → ((x % 2 == 0) && is_ram x) ≡ true
+is_ram_address x e l h = grind (arith, nat_tests)
+
+-- the word of an address
+record Aligned (a : ℕ) : Type 0 where
+  pub even : word_address a % 2 ≡ 0
+  pub low : a ≤ word_address a + 1
+  pub high : word_address a ≤ a
+
+aligned : (a : ℕ) → Aligned a
+aligned a = record { even = omega arith; low = omega arith; high = omega arith }
+
+fram_there : (a : ℕ) → is_fram a ≡ true → ((word_address a % 2 == 0) && is_fram (word_address a)) ≡ true
+fram_there a h = let r = fram_range a h in let l = r.0 in let u = r.1 in is_fram_address (word_address a) (aligned a).even (omega arith) (omega arith)
+
+ram_there : (a : ℕ) → is_ram a ≡ true → ((word_address a % 2 == 0) && is_ram (word_address a)) ≡ true
+ram_there a h = let r = ram_range a h in let l = r.0 in let u = r.1 in is_ram_address (word_address a) (aligned a).even (omega arith) (omega arith)
+
+fram_place : (a : ℕ) → is_fram a ≡ true → place_of (word_address a) ≡ place_of a
+fram_place a h = let r = fram_range a h in let l = r.0 in omega arith
+
+ram_place_same : (a : ℕ) → is_ram a ≡ true → ram_place (word_address a) ≡ ram_place a
+ram_place_same a h = let r = ram_range a h in let l = r.0 in omega arith
+
+-- the word at an address
+pub fram_at : (xs : List ℕ) (a : ℕ) → is_fram a ≡ true → fram_of xs (word_address a) ≡ slice_index xs (place_of a)
+fram_at xs a h = ap (λ b. cond b (slice_index xs (place_of (word_address a))) 0) (fram_there a h) ∙ ap (λ p. slice_index xs p) (fram_place a h)
+
+pub ram_at : (xs : List ℕ) (a : ℕ) → is_ram a ≡ true → ram_of xs (word_address a) ≡ slice_index xs (ram_place a)
+ram_at xs a h = ap (λ b. cond b (slice_index xs (ram_place (word_address a))) 0) (ram_there a h) ∙ ap (λ p. slice_index xs p) (ram_place_same a h)
+
+-- a word written
+put_fram : (xs : List ℕ) (a v : ℕ) → length xs ≡ 24064 → is_fram a ≡ true → put (fram_of xs) (word_address a) v ≡ fram_of (slice_set xs (place_of a) v)
+put_fram xs a v len h =
+    let r = fram_range a h in
+    let l = r.0 in let u = r.1 in
+    let k = (aligned a).high in
+    let within : place_of (word_address a) < length xs = omega arith in
+    put_view is_fram 0x4400 in_fram xs (word_address a) v (fram_there a h) within ∙ ap (λ p. fram_of (slice_set xs p v)) (fram_place a h)
+
+put_ram : (xs : List ℕ) (a v : ℕ) → length xs ≡ 1024 → is_ram a ≡ true → put (ram_of xs) (word_address a) v ≡ ram_of (slice_set xs (ram_place a) v)
+put_ram xs a v len h =
+    let r = ram_range a h in
+    let l = r.0 in let u = r.1 in
+    let k = (aligned a).high in
+    let within : ram_place (word_address a) < length xs = omega arith in
+    put_view is_ram 0x1C00 in_ram xs (word_address a) v (ram_there a h) within ∙ ap (λ p. ram_of (slice_set xs p v)) (ram_place_same a h)
+
+module _ (readings : List ℕ) where
+  word_on : (b : Bool) (s : BusState) (a : ℕ) → is_ram a ≡ b → is_memory a ≡ true
+      → (if b then slice_index s.ram (ram_place a) else slice_index s.fram (place_of a)) ≡
+      (if b then ram_of s.ram (word_address a) else fram_of s.fram (word_address a))
+  word_on true s a e m = sym (ram_at s.ram a e)
+  word_on false s a e m = sym (fram_at s.fram a (other_is_fram a e m))
+
+  pub word_same : (s : BusState) (t : MachineBus) (a : ℕ) → SameBus readings s t → is_memory a ≡ true → memory_word s a ≡ machine_word t a
+  word_same s t a h m = word_on (is_ram a) s a refl m ∙ sym (ap₂ (λ f r. word_in f r a) h.fram h.ram)
+
+  fetched_on : (b : Bool) (x y : ℕ) → (b ≡ true → x ≡ y) → ◌≡◌ {A = Option ℕ} (if b then Some x else None) (if b then Some y else None)
+  fetched_on true x y e = ap Some (e refl)
+  fetched_on false x y e = refl
+
+  pub fetches_same : (s : BusState) (t : MachineBus) (a : ℕ) → SameBus readings s t → board_bus.fetches s a ≡ machine_bus.fetches t a
+  fetches_same s t a h = fetched_on (is_word a) (memory_word s a) (machine_word t a) (λ e. word_same s t a h (and_right (a % 2 == 0) (is_memory a) e))
+
+  -- a reading
+  next_on : (xs : List ℕ) (n : ℕ) → (if nat_lt n (length xs) then Ok (slice_index xs n) else Err refused.NoReading) ≡ first_reading (drop n xs)
+  next_on [] zero = refl
+  next_on [] (suc n) = let e : nat_lt (suc n) 0 ≡ false = grind (arith, nat_tests) in rw e refl
+  next_on (x ∷ xs) zero = let e : nat_lt 0 (suc (length xs)) ≡ true = grind (arith, nat_tests) in rw e refl
+  next_on (x ∷ xs) (suc n) =
+      let e : nat_lt (suc n) (suc (length xs)) ≡ nat_lt n (length xs) = grind (arith, nat_tests) in
+      ap (λ b. cond b (Ok (slice_index xs n)) (Err refused.NoReading)) e ∙ next_on xs n
+
+  next_same : (s : BusState) (t : MachineBus) → SameBus readings s t → next_reading s ≡ first_reading t.readings_left
+  next_same s t h = next_on s.readings s.taken ∙ ap first_reading (sym h.left)
+
+  read_on : (b c : Bool) (x y : ℕ) (p q : Result ℕ Refused) → (b ≡ true → x ≡ y) → p ≡ q
+      → (if b then Ok x else if c then p else Err refused.Bus) ≡ (if b then Ok y else if c then q else Err refused.Bus)
+  read_on true c x y p q h e = ap (λ z. Ok z) (h refl)
+  read_on false c x y p q h e = ap (λ z. cond c z (Err refused.Bus)) e
+
+  byte_on : (b : Bool) (a x y : ℕ) → (b ≡ true → x ≡ y)
+      → ◌≡◌ {A = Result ℕ Refused} (if b then Ok (byte_of x a) else Err refused.Bus) (if b then Ok (byte_of y a) else Err refused.Bus)
+  byte_on true a x y h = ap (λ z. Ok (byte_of z a)) (h refl)
+  byte_on false a x y h = refl
+
+  reads_same : (s : BusState) (t : MachineBus) (a : ℕ) (w : Width) → SameBus readings s t → read_of s a w ≡ machine_read t a w
+  reads_same s t a Word h =
+      read_on (is_word a) (a == sensor_port) (memory_word s a) (machine_word t a) (next_reading s) (first_reading t.readings_left)
+      (λ e. word_same s t a h (and_right (a % 2 == 0) (is_memory a) e)) (next_same s t h)
+  reads_same s t a Byte h = byte_on (is_memory a) a (memory_word s a) (machine_word t a) (λ e. word_same s t a h e)
+
+  -- a reading taken
+  drop_next : (xs : List ℕ) (n w : ℕ) (ws : List ℕ) → drop n xs ≡ w ∷ ws → (drop (n + 1) xs ≡ ws) × (n + 1 ≤ length xs)
+  drop_next [] zero w ws e = absurd cc
+  drop_next [] (suc n) w ws e = absurd cc
+  drop_next (x ∷ xs) zero w ws e = (cc, omega arith)
+  drop_next (x ∷ xs) (suc n) w ws e =
+      let r = drop_next xs n w ws e in
+      let r1 = r.1 in
+      let m : suc n + 1 ≡ suc (n + 1) = omega arith in
+      (ap (λ q. drop q (x ∷ xs)) m ∙ r.0, omega arith)
+
+  taken_same : (ws : List ℕ) (s : BusState) (t : MachineBus) (v : ℕ) → first_reading ws ≡ Ok v → t.readings_left ≡ ws → SameBus readings s t
+      → SameBus readings (record s { taken = s.taken + 1 }) (reading_taken ws t)
+  taken_same [] s t v e q h = absurd cc
+  taken_same (w ∷ ws) s t v e q h =
+      let d = drop_next s.readings s.taken w ws (sym h.left ∙ q) in
+      let g = h.whole in
+      record {
+        whole = record { fram = g.fram; ram = g.ram; taken = d.1; few = g.few };
+        fram = h.fram;
+        ram = h.ram;
+        left = sym d.0;
+        outnum = h.outnum;
+        all = h.all;
+      }
+
+  at_sensor : (t : MachineBus) (a v : ℕ) → a ≡ sensor_port → machine_read t a Word ≡ Ok v → first_reading t.readings_left ≡ Ok v
+  at_sensor t a v e r = subst (λ x. machine_read t x Word ≡ Ok v) e r
+
+  after_on : (b : Bool) (s : BusState) (t : MachineBus) (a v : ℕ) → (a == sensor_port) ≡ b → machine_read t a Word ≡ Ok v → SameBus readings s t
+      → SameBus readings (record s { taken = if b then s.taken + 1 else s.taken }) (if b then reading_taken t.readings_left t else t)
+  after_on true s t a v e r h = taken_same t.readings_left s t v (at_sensor t a v (eqb-true a sensor_port e) r) refl h
+  after_on false s t a v e r h = h
+
+  after_same : (s : BusState) (t : MachineBus) (a : ℕ) (w : Width) (v : ℕ) → SameBus readings s t → machine_read t a w ≡ Ok v
+      → SameBus readings (after_read s a w) (machine_after_read t a w)
+  after_same s t a Word v h r = after_on (a == sensor_port) s t a v refl r h
+  after_same s t a Byte v h r = h
+
+  -- writes
+  stored_same : (b : Bool) (s : BusState) (t : MachineBus) (a v : ℕ) (log : List Effect) → is_ram a ≡ b → is_memory a ≡ true → SameBus readings s t
+      → SameBus readings (if b then record s { ram = slice_set s.ram (ram_place a) v } else record s { fram = slice_set s.fram (place_of a) v })
+      (if b then record t { ram = put t.ram (word_address a) v } else record t { fram = put t.fram (word_address a) v; log = log })
+  stored_same true s t a v log e m h =
+      let g = h.whole in
+      record {
+        whole = record { fram = g.fram; ram = length-set s.ram (ram_place a) v ∙ g.ram; taken = g.taken; few = g.few };
+        fram = h.fram;
+        ram = ap (λ f. put f (word_address a) v) h.ram ∙ put_ram s.ram a v g.ram e;
+        left = h.left;
+        outnum = h.outnum;
+        all = h.all;
+      }
+  stored_same false s t a v log e m h =
+      let g = h.whole in
+      record {
+        whole = record { fram = length-set s.fram (place_of a) v ∙ g.fram; ram = g.ram; taken = g.taken; few = g.few };
+        fram = ap (λ f. put f (word_address a) v) h.fram ∙ put_fram s.fram a v g.fram (other_is_fram a e m);
+        ram = h.ram;
+        left = h.left;
+        outnum = h.outnum;
+        all = h.all;
+      }
+
+  word_stored : (s : BusState) (t : MachineBus) (a v : ℕ) → is_memory a ≡ true → SameBus readings s t
+      → SameBus readings (with_word s a v) (machine_stored t a v)
+  word_stored s t a v m h = stored_same (is_ram a) s t a v (t.log ++ Store (word_address a) v ∷ []) refl m h
+
+  port_same : (b c : Bool) (s : BusState) (t : MachineBus) (v : ℕ) (log : List Effect) → SameBus readings s t
+      → WrittenAlike (SameBus readings) (if b then Some (record s { outnum = v }) else if c then Some (record s { offered = Some v }) else None)
+      (if b then Some (record t { outnum = v }) else if c then Some (record t { log = log }) else None)
+  port_same true c s t v log h =
+      let g = h.whole in
+      record {
+        whole = record { fram = g.fram; ram = g.ram; taken = g.taken; few = g.few };
+        fram = h.fram;
+        ram = h.ram;
+        left = h.left;
+        outnum = refl;
+        all = h.all;
+      }
+  port_same false true s t v log h =
+      let g = h.whole in
+      record {
+        whole = record { fram = g.fram; ram = g.ram; taken = g.taken; few = g.few };
+        fram = h.fram;
+        ram = h.ram;
+        left = h.left;
+        outnum =
+            h.outnum;
+        all = h.all;
+      }
+  port_same false false s t v log h = tt
+
+  either : (b : Bool) (x y : Option BusState) (z u : Option MachineBus) → (b ≡ true → WrittenAlike (SameBus readings) x z)
+      → WrittenAlike (SameBus readings) y u → WrittenAlike (SameBus readings) (if b then x else y) (if b then z else u)
+  either true x y z u h k = h refl
+  either false x y z u h k = k
+
+  byte_stored : (s : BusState) (t : MachineBus) (a v : ℕ) → is_memory a ≡ true → SameBus readings s t
+      → SameBus readings (with_word s a (with_byte (memory_word s a) a v)) (machine_stored t a (with_byte (machine_word t a) a v))
+  byte_stored s t a v m h =
+      subst (λ x. SameBus readings (with_word s a (with_byte (memory_word s a) a v)) (machine_stored t a (with_byte x a v))) (word_same s t a h m)
+      (word_stored s t a (with_byte (memory_word s a) a v) m h)
+
+  writes_same : (s : BusState) (t : MachineBus) (a : ℕ) (w : Width) (v : ℕ) → SameBus readings s t
+      → WrittenAlike (SameBus readings) (written s a w v) (machine_written t a w v)
+  writes_same s t a Word v h =
+      either (is_word a) (Some (with_word s a v)) (port_written s a v) (Some (machine_stored t a v)) (machine_port_written t a v)
+      (λ e. word_stored s t a v (and_right (a % 2 == 0) (is_memory a) e) h) (port_same (a == number_port) (a == data_port) s t v
+      (t.log ++ Send t.outnum v ∷ []) h)
+  writes_same s t a Byte v h =
+      either (is_memory a) (Some (with_word s a (with_byte (memory_word s a) a v))) None
+      (Some (machine_stored t a (with_byte (machine_word t a) a v))) None (λ e. byte_stored s t a v e h) tt
+
+  pub buses_alike : AnswerAlike board_bus machine_bus (SameBus readings)
+  buses_alike = record {
+    reads = λ s t a w h. reads_same s t a w h;
+    after = λ s t a w v h e. after_same s t a w v h e;
+    writes = λ s t a w v h. writes_same s t a w v h;
+  }

@@ -1,0 +1,11 @@
+pub mod Going
+pub mod Worlds
+pub mod Logs
+pub mod Alike
+pub mod Along
+pub mod Steps
+pub mod Values
+pub mod Words
+pub mod Views
+pub mod Runs
+pub mod Accepted

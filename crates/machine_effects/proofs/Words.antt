@@ -1,0 +1,476 @@
+-- Words stay words, on the machine and on the board.
+use Rattle.std.proofs.Common.{◌≡◌, ◌==◌, ◌&&◌, ◌≤◌, ◌<◌, ◌%◌, arith, ℕ, zero, suc, refl, sym, subst, Bool, true, false, if◌then◌else◌, nat_lt, List, [], ◌∷◌, ◌++◌, All, length, drop, slice_index, slice_set, inl, inr, ◌⊎◌, Option, Some, None, Result, Ok, Err}
+use Rattle.std.proofs.lemmas.Bool.{cases_lt}
+use Rattle.std.proofs.lemmas.List.{length-replicate}
+use Rattle.std.proofs.lemmas.List.Elements.{All-set, All-replicate}
+use Rattle.alp_words.specs.declared.Width.{Width}
+use Rattle.alp_words.specs.declared.Width.TheVariants.{Word, Byte}
+use Rattle.msp_isa.specs.declared.operands.Src.TheVariants as src
+use Rattle.msp_isa.specs.declared.instructions.OneOp.TheVariants as one
+use Rattle.msp_isa.specs.declared.instructions.Instr.{Instr}
+use Rattle.msp_isa.specs.declared.instructions.Instr.TheVariants as instr
+use Rattle.msp_isa.specs.Encoding.{encoding}
+use Rattle.msp_cycles.specs.Cycles.{cycles_of}
+use Rattle.msp_step.specs.declared.bus.Refused.{Refused}
+use Rattle.msp_step.specs.declared.bus.Refused.TheVariants as refused
+use Rattle.msp_step.specs.declared.machine.Stop.TheVariants as stop
+use Rattle.msp_step.specs.Registers.{Registers, registers_of, kept, powered_up}
+use Rattle.msp_step.specs.Access.{BusModel, Access, Completed, Faulted}
+use Rattle.msp_step.specs.Effect.{Written}
+use Rattle.msp_step.specs.Step.{FetchedAt, effect, outcome_of, Outcome, StepResult, Stopped, Executed, off_bit}
+use Rattle.step_laws.specs.Alike.{Alike}
+use Rattle.step_laws.specs.Effects.{IsValid}
+use Rattle.step_laws.specs.Effects as laws
+use Rattle.step_laws.proofs.Valid.{stays_valid}
+use Rattle.step_laws.proofs.EffectAlike.{effect_alike}
+use Rattle.image_text.specs.ImageValue.{place_of}
+use Rattle.fram_board.specs.Bus.{BusState, IsBusState, board_bus, is_ram, is_fram, is_memory, is_word, ram_place, memory_word, with_word, with_byte, byte_of, next_reading, read_of, after_read, written, port_written, sensor_port, number_port, data_port}
+use Rattle.fram_board.specs.Board.{BoardValue, opened, closed, board_outcome, register_list, filled_words, vector_of}
+use Rattle.fram_board.specs.Effects.{Effect, Store}
+use Rattle.fram_board.proofs.Powers.{power_up_leaves_a_board}
+use Rattle.machine_effects.specs.World.{put}
+use Rattle.machine_effects.specs.Going.{Stops}
+use Rattle.machine_effects.specs.Machine.{MachineBus, MachineBoard, MachineOutcome, machine_bus, machine_word, word_address, first_reading, machine_read, reading_taken, machine_after_read, machine_stored, machine_port_written, machine_written, machine_opened, machine_outcome, machine_executed, NoInstruction, Executes, standing}
+use Rattle.machine_effects.specs.View.{machine_of, IsWhole, IsOfWords, IsMachineOfWords}
+use Rattle.machine_effects.specs.Laws.{LeavesWords, MachineWordsStayWords, CodeWordsStayWords, WordsStayWords, StepLeavesItWhole, MachineIsOfWords, PowerUpKeepsWords, FreshIsWhole}
+use Rattle.machine_effects.proofs.Alike.{SameBus, buses_alike}
+use Rattle.machine_effects.proofs.Along.{IsClosed, InstructionHas, Gives, effect_gives}
+use Rattle.machine_effects.proofs.Steps.{begins}
+use Rattle.machine_effects.proofs.Values.{IsSmall, AreSmall, narrow_small, sum_small, constant_small, status_small, two_small, rotate_small, shift_small, exchange_small, extend_small, byte_small, bytes_small, kept_small, with_small}
+
+-- what the machine's bus holds are words
+record OfWords (t : MachineBus) : Type 0 where
+  pub fram : (a : ℕ) → IsSmall (t.fram a)
+  pub ram : (a : ℕ) → IsSmall (t.ram a)
+  pub readings : All (λ w. w < 0x10000) t.readings_left
+  pub outnum : IsSmall t.outnum
+
+either_small : (b : Bool) (x y : ℕ) → IsSmall x → IsSmall y → IsSmall (if b then x else y)
+either_small true x y h k = h
+either_small false x y h k = k
+
+put_small : (f : ℕ → ℕ) (a v : ℕ) → IsSmall v → ((x : ℕ) → IsSmall (f x)) → (x : ℕ) → IsSmall (put f a v x)
+put_small f a v h k x = either_small (x == a) v (f x) h (k x)
+
+all_tail : (w : ℕ) (ws : List ℕ) → All (λ x. x < 0x10000) (w ∷ ws) → All (λ x. x < 0x10000) ws
+all_tail w ws h k d low = h (suc k) d (omega arith)
+
+all_head : (w : ℕ) (ws : List ℕ) → All (λ x. x < 0x10000) (w ∷ ws) → IsSmall w
+all_head w ws h = h zero 0 (omega arith)
+
+word_small : (t : MachineBus) (a : ℕ) → OfWords t → IsSmall (machine_word t a)
+word_small t a q = either_small (is_ram a) (t.ram (word_address a)) (t.fram (word_address a)) (q.ram (word_address a)) (q.fram (word_address a))
+
+first_small : (ws : List ℕ) (v : ℕ) → All (λ x. x < 0x10000) ws → first_reading ws ≡ Ok v → IsSmall v
+first_small [] v h e = absurd cc
+first_small (w ∷ ws) v h e = let same : w ≡ v = cc in subst IsSmall same (all_head w ws h)
+
+-- what a test leads to
+ok_on : (b : Bool) (x v : ℕ) (o : Result ℕ Refused) → IsSmall x → (o ≡ Ok v → IsSmall v) → (if b then Ok x else o) ≡ Ok v → IsSmall v
+ok_on true x v o h k e = let same : x ≡ v = cc in subst IsSmall same h
+ok_on false x v o h k e = k e
+
+sensed_on : (b : Bool) (v : ℕ) (o : Result ℕ Refused) → (o ≡ Ok v → IsSmall v) → (if b then o else Err refused.Bus) ≡ Ok v → IsSmall v
+sensed_on true v o k e = k e
+sensed_on false v o k e = absurd cc
+
+no_word : (v : ℕ) → ◌≡◌ {A = Result ℕ Refused} (Err refused.Bus) (Ok v) → IsSmall v
+no_word v e = absurd cc
+
+machine_read_small : (t : MachineBus) (a : ℕ) (w : Width) (v : ℕ) → OfWords t → machine_read t a w ≡ Ok v → IsSmall v
+machine_read_small t a Word v q e =
+    ok_on (is_word a) (machine_word t a) v _ (word_small t a q) (λ g. sensed_on (a == sensor_port) v (first_reading t.readings_left)
+    (λ r. first_small t.readings_left v q.readings r) g) e
+machine_read_small t a Byte v q e =
+    ok_on (is_memory a) (byte_of (machine_word t a) a) v _ (byte_small (machine_word t a) a (word_small t a q)) (λ g. no_word v g) e
+
+taken_words : (ws : List ℕ) (t : MachineBus) → All (λ x. x < 0x10000) ws → OfWords t → OfWords (reading_taken ws t)
+taken_words [] t h q = q
+taken_words (w ∷ ws) t h q = record { fram = q.fram; ram = q.ram; readings = all_tail w ws h; outnum = q.outnum }
+
+after_words : (b : Bool) (t : MachineBus) → OfWords t → OfWords (if b then reading_taken t.readings_left t else t)
+after_words true t q = taken_words t.readings_left t q.readings q
+after_words false t q = q
+
+machine_after_words : (t : MachineBus) (a : ℕ) (w : Width) → OfWords t → OfWords (machine_after_read t a w)
+machine_after_words t a Word q = after_words (a == sensor_port) t q
+machine_after_words t a Byte q = q
+
+stored_words : (b : Bool) (t : MachineBus) (log : List Effect) (a v : ℕ) → IsSmall v → OfWords t
+    → OfWords (if b then record t { ram = put t.ram a v } else record t { fram = put t.fram a v; log = log })
+stored_words true t log a v h q = record { fram = q.fram; ram = put_small t.ram a v h q.ram; readings = q.readings; outnum = q.outnum }
+stored_words false t log a v h q = record { fram = put_small t.fram a v h q.fram; ram = q.ram; readings = q.readings; outnum = q.outnum }
+
+abbrev WordsIf : Option MachineBus → Type 0
+WordsIf None = Unit {0}
+WordsIf (Some t) = OfWords t
+
+if_some : (b : Bool) (x y : Option MachineBus) → WordsIf x → WordsIf y → WordsIf (if b then x else y)
+if_some true x y h k = h
+if_some false x y h k = k
+
+port_words : (t : MachineBus) (a v : ℕ) → IsSmall v → OfWords t → WordsIf (machine_port_written t a v)
+port_words t a v h q =
+    if_some (a == number_port) (Some (record t { outnum = v })) _ (record { fram = q.fram; ram = q.ram; readings = q.readings; outnum = h })
+    (if_some (a == data_port) (Some _) None (record { fram = q.fram; ram = q.ram; readings = q.readings; outnum = q.outnum }) tt)
+
+written_words : (t : MachineBus) (a : ℕ) (w : Width) (v : ℕ) → IsSmall v → OfWords t → WordsIf (machine_written t a w v)
+written_words t a Word v h q =
+    if_some (is_word a) (Some (machine_stored t a v)) (machine_port_written t a v)
+    (stored_words (is_ram a) t (t.log ++ Store (word_address a) v ∷ []) (word_address a) v h q) (port_words t a v h q)
+written_words t a Byte v h q =
+    let x = with_byte (machine_word t a) a v in
+    if_some (is_memory a) (Some (machine_stored t a x)) None (stored_words (is_ram a) t (t.log ++ Store (word_address a) x ∷ []) (word_address a) x
+    (bytes_small (machine_word t a) a v (word_small t a q)) q) tt
+
+machine_write_words : (t : MachineBus) (a : ℕ) (w : Width) (v : ℕ) (u : MachineBus) → OfWords t → IsSmall v → machine_written t a w v ≡ Some u → OfWords u
+machine_write_words t a w v u q h e = subst (λ x. WordsIf x) e (written_words t a w v h q)
+
+machine_closed_words : IsClosed machine_bus IsSmall AreSmall OfWords
+machine_closed_words = record {
+  register = λ r n p. p n;
+  with = λ r n v low w p. with_small r n v low w p;
+  read = λ s a w v q e. machine_read_small s a w v q e;
+  after = λ s a w v q e. machine_after_words s a w q;
+  write = λ s a w v t q h e. machine_write_words s a w v t q h e;
+  narrow = λ w v h. narrow_small w v h;
+  sum = λ a b. sum_small a b;
+  constant = λ k. constant_small k;
+  status = λ sr f. status_small sr f;
+  two = λ op w d s f g h. two_small op w d s f g h;
+  rotate = λ w v f h. rotate_small w v f h;
+  shift = λ w v f h. shift_small w v f h;
+  exchange = λ w v f h. exchange_small w v f h;
+  extend = λ w v f h. extend_small w v f h;
+  nothing = omega arith;
+}
+
+-- the immediate of an instruction whose words are fetched
+module _ {S : Type 0} (bus : BusModel S) (s : S) (fetches : (a v : ℕ) → bus.fetches s a ≡ Some v → IsSmall v) where
+  immediate_fetched : (i : Instr) (pc : ℕ) → FetchedAt bus s pc (encoding i) → InstructionHas IsSmall i
+  immediate_fetched (instr.Two op w (src.Immediate n) d) pc h = fetches _ n h.1.0
+  immediate_fetched (instr.Two op w (src.Operand p) d) pc h = tt
+  immediate_fetched (instr.Two op w (src.Constant k) d) pc h = tt
+  immediate_fetched (instr.One (one.Push w (src.Immediate n))) pc h = fetches _ n h.1.0
+  immediate_fetched (instr.One (one.Push w (src.Operand p))) pc h = tt
+  immediate_fetched (instr.One (one.Push w (src.Constant k))) pc h = tt
+  immediate_fetched (instr.One (one.Call (src.Immediate n))) pc h = fetches _ n h.1.0
+  immediate_fetched (instr.One (one.Call (src.Operand p))) pc h = tt
+  immediate_fetched (instr.One (one.Call (src.Constant k))) pc h = tt
+  immediate_fetched (instr.One (one.Rrc w p)) pc h = tt
+  immediate_fetched (instr.One (one.Rra w p)) pc h = tt
+  immediate_fetched (instr.One (one.Swpb p)) pc h = tt
+  immediate_fetched (instr.One (one.Sxt p)) pc h = tt
+  immediate_fetched (instr.Jump c o) pc h = tt
+  immediate_fetched instr.Reti pc h = tt
+
+-- the same of an instruction that is encoded in words
+immediate_encoded : (i : Instr) → All (λ w. w < 0x10000) (encoding i) → InstructionHas IsSmall i
+immediate_encoded (instr.Two op w (src.Immediate n) d) h = h 1 0 (omega arith)
+immediate_encoded (instr.Two op w (src.Operand p) d) h = tt
+immediate_encoded (instr.Two op w (src.Constant k) d) h = tt
+immediate_encoded (instr.One (one.Push w (src.Immediate n))) h = h 1 0 (omega arith)
+immediate_encoded (instr.One (one.Push w (src.Operand p))) h = tt
+immediate_encoded (instr.One (one.Push w (src.Constant k))) h = tt
+immediate_encoded (instr.One (one.Call (src.Immediate n))) h = h 1 0 (omega arith)
+immediate_encoded (instr.One (one.Call (src.Operand p))) h = tt
+immediate_encoded (instr.One (one.Call (src.Constant k))) h = tt
+immediate_encoded (instr.One (one.Rrc w p)) h = tt
+immediate_encoded (instr.One (one.Rra w p)) h = tt
+immediate_encoded (instr.One (one.Swpb p)) h = tt
+immediate_encoded (instr.One (one.Sxt p)) h = tt
+immediate_encoded (instr.Jump c o) h = tt
+immediate_encoded instr.Reti h = tt
+
+some_on : (b : Bool) (x v : ℕ) → IsSmall x → ◌≡◌ {A = Option ℕ} (if b then Some x else None) (Some v) → IsSmall v
+some_on true x v h e = let same : x ≡ v = cc in subst IsSmall same h
+some_on false x v h e = absurd cc
+
+outcome_words : (pc c : ℕ) (m : Access MachineBus (Registers × Option Written)) → Gives OfWords (λ y. AreSmall y.0) m → LeavesWords (machine_outcome pc c m)
+outcome_words pc c (Completed x t) h = let q = h.1 in record { registers = h.0; fram = q.fram; ram = q.ram; readings = q.readings; outnum = q.outnum }
+outcome_words pc c (Faulted e a t) h = tt
+
+opened_words : (s : MachineBoard) → IsMachineOfWords s → OfWords (machine_opened s)
+opened_words s h = record { fram = h.fram; ram = h.ram; readings = h.readings; outnum = h.outnum }
+
+executed_words : (s : MachineBoard) (i : Instr) → IsMachineOfWords s → InstructionHas IsSmall i → LeavesWords (machine_executed s i)
+executed_words s i h k =
+    outcome_words (s.registers 0) (cycles_of i) (effect machine_bus i s.registers (machine_opened s))
+    (effect_gives machine_bus IsSmall AreSmall OfWords machine_closed_words i s.registers (machine_opened s) k h.registers (opened_words s h))
+
+pub machine_words_stay_words : MachineWordsStayWords
+machine_words_stay_words s o h (NoInstruction e k) = tt
+machine_words_stay_words s o h (Executes i k) =
+    let q = opened_words s h in
+    executed_words s i h (immediate_fetched machine_bus (machine_opened s) (λ a v e. some_on (is_word a) (machine_word (machine_opened s) a) v
+    (word_small (machine_opened s) a q) e) i (s.registers 0) k.fetched)
+
+if_off_words : (b : Bool) (o : MachineOutcome) → LeavesWords o → LeavesWords (if b then Stops [] 0 stop.Off else o)
+if_off_words true o h = tt
+if_off_words false o h = h
+
+standing_words : (o : Option Instr) (s : MachineBoard) → ((i : Instr) → o ≡ Some i → All (λ w. w < 0x10000) (encoding i)) → IsMachineOfWords s
+    → LeavesWords (standing o s)
+standing_words None s e h = tt
+standing_words (Some i) s e h = executed_words s i h (immediate_encoded i (e i refl))
+
+pub code_words_stay_words : CodeWordsStayWords
+code_words_stay_words code s e h = if_off_words (off_bit s.registers == 1) (standing (code (s.registers 0)) s) (standing_words (code (s.registers 0)) s e h)
+
+-- the board's bus
+record ListsOfWords (s : BusState) : Type 0 where
+  pub fram : All (λ w. w < 0x10000) s.fram
+  pub ram : All (λ w. w < 0x10000) s.ram
+  pub readings : All (λ w. w < 0x10000) s.readings
+  pub outnum : IsSmall s.outnum
+
+past_end : (ws : List ℕ) (k : ℕ) → length ws ≤ k → slice_index ws k ≡ 0
+past_end [] k h = refl
+past_end (w ∷ ws) zero h = absurd (omega arith)
+past_end (w ∷ ws) (suc k) h = past_end ws k (omega arith)
+
+index_by : (ws : List ℕ) (k : ℕ) → All (λ w. w < 0x10000) ws → (k < length ws) ⊎ (length ws ≤ k) → IsSmall (slice_index ws k)
+index_by ws k h (inl low) = h k 0 low
+index_by ws k h (inr high) = let e = past_end ws k high in subst IsSmall (sym e) (omega arith)
+
+pub index_small : (ws : List ℕ) (k : ℕ) → All (λ w. w < 0x10000) ws → IsSmall (slice_index ws k)
+index_small ws k h = index_by ws k h (cases_lt k (length ws))
+
+list_word_small : (s : BusState) (a : ℕ) → ListsOfWords s → IsSmall (memory_word s a)
+list_word_small s a q =
+    either_small (is_ram a) (slice_index s.ram (ram_place a)) (slice_index s.fram (place_of a)) (index_small s.ram (ram_place a) q.ram)
+    (index_small s.fram (place_of a) q.fram)
+
+next_on : (b : Bool) (x v : ℕ) → IsSmall x → ◌≡◌ {A = Result ℕ Refused} (if b then Ok x else Err refused.NoReading) (Ok v) → IsSmall v
+next_on true x v h e = let same : x ≡ v = cc in subst IsSmall same h
+next_on false x v h e = absurd cc
+
+read_small : (s : BusState) (a : ℕ) (w : Width) (v : ℕ) → ListsOfWords s → read_of s a w ≡ Ok v → IsSmall v
+read_small s a Word v q e =
+    ok_on (is_word a) (memory_word s a) v _ (list_word_small s a q) (λ g. sensed_on (a == sensor_port) v (next_reading s)
+    (λ r. next_on (nat_lt s.taken (length s.readings)) (slice_index s.readings s.taken) v (index_small s.readings s.taken q.readings) r) g) e
+read_small s a Byte v q e = ok_on (is_memory a) (byte_of (memory_word s a) a) v _ (byte_small (memory_word s a) a (list_word_small s a q)) (λ g. no_word v g) e
+
+after_lists : (s : BusState) (a : ℕ) (w : Width) → ListsOfWords s → ListsOfWords (after_read s a w)
+after_lists s a Word q = record { fram = q.fram; ram = q.ram; readings = q.readings; outnum = q.outnum }
+after_lists s a Byte q = q
+
+abbrev ListsIf : Option BusState → Type 0
+ListsIf None = Unit {0}
+ListsIf (Some t) = ListsOfWords t
+
+if_lists : (b : Bool) (x y : Option BusState) → ListsIf x → ListsIf y → ListsIf (if b then x else y)
+if_lists true x y h k = h
+if_lists false x y h k = k
+
+word_lists : (b : Bool) (s : BusState) (i j v : ℕ) → IsSmall v → ListsOfWords s
+    → ListsOfWords (if b then record s { ram = slice_set s.ram i v } else record s { fram = slice_set s.fram j v })
+word_lists true s i j v h q = record { fram = q.fram; ram = All-set (λ w. w < 0x10000) s.ram i v h q.ram; readings = q.readings; outnum = q.outnum }
+word_lists false s i j v h q = record { fram = All-set (λ w. w < 0x10000) s.fram j v h q.fram; ram = q.ram; readings = q.readings; outnum = q.outnum }
+
+port_lists : (s : BusState) (a v : ℕ) → IsSmall v → ListsOfWords s → ListsIf (port_written s a v)
+port_lists s a v h q =
+    if_lists (a == number_port) (Some (record s { outnum = v })) _ (record { fram = q.fram; ram = q.ram; readings = q.readings; outnum = h })
+    (if_lists (a == data_port) (Some (record s { offered = Some v })) None (record
+    { fram = q.fram; ram = q.ram; readings = q.readings; outnum = q.outnum }) tt)
+
+written_lists : (s : BusState) (a : ℕ) (w : Width) (v : ℕ) → IsSmall v → ListsOfWords s → ListsIf (written s a w v)
+written_lists s a Word v h q =
+    if_lists (is_word a) (Some (with_word s a v)) (port_written s a v) (word_lists (is_ram a) s (ram_place a) (place_of a) v h q) (port_lists s a v h q)
+written_lists s a Byte v h q =
+    let x = with_byte (memory_word s a) a v in
+    if_lists (is_memory a) (Some (with_word s a x)) None (word_lists (is_ram a) s (ram_place a) (place_of a) x
+    (bytes_small (memory_word s a) a v (list_word_small s a q)) q) tt
+
+write_lists : (s : BusState) (a : ℕ) (w : Width) (v : ℕ) (t : BusState) → ListsOfWords s → IsSmall v → written s a w v ≡ Some t → ListsOfWords t
+write_lists s a w v t q h e = subst (λ x. ListsIf x) e (written_lists s a w v h q)
+
+board_closed_words : IsClosed board_bus IsSmall AreSmall ListsOfWords
+board_closed_words = record {
+  register = λ r n p. p n;
+  with = λ r n v low w p. with_small r n v low w p;
+  read = λ s a w v q e. read_small s a w v q e;
+  after = λ s a w v q e. after_lists s a w q;
+  write = λ s a w v t q h e. write_lists s a w v t q h e;
+  narrow = λ w v h. narrow_small w v h;
+  sum = λ a b. sum_small a b;
+  constant = λ k. constant_small k;
+  status = λ sr f. status_small sr f;
+  two = λ op w d s f g h. two_small op w d s f g h;
+  rotate = λ w v f h. rotate_small w v f h;
+  shift = λ w v f h. shift_small w v f h;
+  exchange = λ w v f h. exchange_small w v f h;
+  extend = λ w v f h. extend_small w v f h;
+  nothing = omega arith;
+}
+
+all_nil : All (λ w. w < 0x10000) []
+all_nil k d low = absurd (omega arith)
+
+all_cons : (w : ℕ) (ws : List ℕ) → IsSmall w → All (λ x. x < 0x10000) ws → All (λ x. x < 0x10000) (w ∷ ws)
+all_cons w ws h k zero d low = h
+all_cons w ws h k (suc n) d low = k n d (omega arith)
+
+-- the same as pairs
+abbrev AllIn : List ℕ → Type 0
+AllIn [] = Unit {0}
+AllIn (w ∷ ws) = IsSmall w × AllIn ws
+
+from_pairs : (ws : List ℕ) → AllIn ws → All (λ x. x < 0x10000) ws
+from_pairs [] h = all_nil
+from_pairs (w ∷ ws) h = all_cons w ws h.0 (from_pairs ws h.1)
+
+all_registers : (r : Registers) → AreSmall r → All (λ w. w < 0x10000) (register_list r)
+all_registers r h =
+    from_pairs (register_list r)
+    (h 0, (h 1, (h 2, (h 3, (h 4, (h 5, (h 6, (h 7, (h 8, (h 9, (h 10, (h 11, (h 12, (h 13, (h 14, (h 15, tt))))))))))))))))
+
+closed_lists : (b : BoardValue) (r : Registers) (s : BusState) → AreSmall r → ListsOfWords s → IsOfWords (closed b r s)
+closed_lists b r s h q = record { registers = all_registers r h; fram = q.fram; ram = q.ram; readings = q.readings; outnum = q.outnum }
+
+registers_small : (b : BoardValue) → IsOfWords b → AreSmall (registers_of b.cpu)
+registers_small b h n = index_small b.cpu n h.registers
+
+opened_lists : (b : BoardValue) → IsOfWords b → ListsOfWords (opened b)
+opened_lists b h = record { fram = h.fram; ram = h.ram; readings = h.readings; outnum = h.outnum }
+
+access_lists : (b : BoardValue) (i : Instr) (m : Access BusState (Registers × Option Written)) → IsOfWords b
+    → Gives ListsOfWords (λ y. AreSmall y.0) m → IsOfWords (board_outcome b (outcome_of i (registers_of b.cpu) m)).board
+access_lists b i (Completed x s) h g = closed_lists b x.0 s g.0 g.1
+access_lists b i (Faulted e a s) h g = closed_lists b (registers_of b.cpu) s (registers_small b h) g
+
+outcome_lists : (b : BoardValue) (o : Outcome BusState) → IsOfWords b → StepResult board_bus (registers_of b.cpu) (opened b) o
+    → IsOfWords (board_outcome b o).board
+outcome_lists b o h (Stopped e k) = closed_lists b (registers_of b.cpu) (opened b) (registers_small b h) (opened_lists b h)
+outcome_lists b o h (Executed i k) =
+    let q = opened_lists b h in
+    let has = immediate_fetched board_bus (opened b) (λ a v e. some_on (is_word a) (memory_word (opened b) a) v (list_word_small (opened b) a q) e) i
+    (registers_of b.cpu 0) k.fetched in
+    access_lists b i (effect board_bus i (registers_of b.cpu) (opened b)) h (effect_gives board_bus IsSmall AreSmall ListsOfWords board_closed_words i
+    (registers_of b.cpu) (opened b) has (registers_small b h) q)
+
+pub words_stay_words : WordsStayWords
+words_stay_words b x w h is = subst (λ y. IsOfWords y.board) (sym is.2) (outcome_lists b is.0 h is.1)
+
+-- a step leaves a board whole
+valid_registers : (b : BoardValue) → IsWhole b → IsValid (registers_of b.cpu)
+valid_registers b h = let r = h.registers in record { pc = r.even_pc; sp = r.even_sp; sr = r.sr; r3 = r.r3 }
+
+closed_whole : (b : BoardValue) (r : Registers) (s : BusState) → IsValid r → IsBusState s → IsWhole (closed b r s)
+closed_whole b r s v g =
+    record {
+      board = record { fram = g.fram; ram = g.ram; taken = g.taken; few = g.few };
+      registers = record
+          { long = refl; even_pc = v.pc; even_sp = v.sp; sr = v.sr; r3 = v.r3 };
+    }
+
+access_whole : (b : BoardValue) (i : Instr) (m : Access BusState (Registers × Option Written)) (n : Access MachineBus (Registers × Option Written))
+    → IsWhole b → Alike (SameBus b.readings) m n → laws.Gives m (λ y. IsValid y.0)
+    → IsWhole (board_outcome b (outcome_of i (registers_of b.cpu) m)).board
+access_whole b i (Completed x s) (Completed y t) h same v = closed_whole b x.0 s v same.1.whole
+access_whole b i (Faulted e a s) (Faulted f c t) h same v = closed_whole b (registers_of b.cpu) s (valid_registers b h) same.2.whole
+access_whole b i (Completed x s) (Faulted f c t) h same v = elim same [ ]
+access_whole b i (Faulted e a s) (Completed y t) h same v = elim same [ ]
+
+outcome_whole : (b : BoardValue) (o : Outcome BusState) → IsWhole b → StepResult board_bus (registers_of b.cpu) (opened b) o → IsWhole (board_outcome b o).board
+outcome_whole b o h (Stopped e k) = closed_whole b (registers_of b.cpu) (opened b) (valid_registers b h) h.board
+outcome_whole b o h (Executed i k) =
+    let r = registers_of b.cpu in
+    access_whole b i (effect board_bus i r (opened b)) (effect machine_bus i r (machine_opened (machine_of b))) h
+    (effect_alike BusState MachineBus board_bus machine_bus (SameBus b.readings) (buses_alike b.readings) i r (opened b)
+    (machine_opened (machine_of b)) (begins b h)) (stays_valid board_bus i r (opened b) (valid_registers b h))
+
+pub step_leaves_it_whole : StepLeavesItWhole
+step_leaves_it_whole b x h is = subst (λ y. IsWhole y.board) (sym is.2) (outcome_whole b is.0 h is.1)
+
+-- a board of words as a machine
+drop_small : (n : ℕ) (ws : List ℕ) → All (λ w. w < 0x10000) ws → All (λ w. w < 0x10000) (drop n ws)
+drop_small zero ws h = h
+drop_small (suc n) [] h = h
+drop_small (suc n) (w ∷ ws) h = drop_small n ws (all_tail w ws h)
+
+pub machine_is_of_words : MachineIsOfWords
+machine_is_of_words b h = record {
+  registers = λ n. index_small b.cpu n h.registers;
+  fram = λ a. either_small ((a % 2 == 0) && is_fram a) (slice_index b.fram (place_of a)) 0 (index_small b.fram (place_of a) h.fram) (omega arith);
+  ram = λ a. either_small ((a % 2 == 0) && is_ram a) (slice_index b.ram (ram_place a)) 0 (index_small b.ram (ram_place a) h.ram) (omega arith);
+  readings = drop_small b.taken b.readings h.readings;
+  outnum = h.outnum;
+}
+
+-- a power-up
+pub power_up_keeps_words : PowerUpKeepsWords
+power_up_keeps_words b p h w q =
+    let l = power_up_leaves_a_board b p h.board q in (
+      record { board = l.0; registers = l.1 },
+      record {
+        registers =
+            all_cons (kept 0 (slice_index b.fram (place_of 0xFFFE))) (kept 1 p.sp ∷ 0 ∷ 0 ∷ p.work)
+            (kept_small 0 (slice_index b.fram (place_of 0xFFFE)) (index_small b.fram (place_of 0xFFFE) w.fram))
+            (all_cons (kept 1 p.sp) (0 ∷ 0 ∷ p.work) (kept_small 1 p.sp q.sp) (all_cons 0 (0 ∷ p.work) (omega arith) (all_cons 0 p.work (omega arith) q.work)));
+        fram = w.fram;
+        ram = q.ram;
+        readings = w.readings;
+        outnum = q.outnum;
+      },
+    )
+
+-- a fresh board
+zero_small : IsSmall 0
+zero_small = omega arith
+
+blank : (n : ℕ) → All (λ w. w < 0x10000) (filled_words n 0)
+unfolding filled_words
+blank n = All-replicate (λ x. x < 0x10000) n 0 (omega arith)
+
+blank_length : (n : ℕ) → length (filled_words n 0) ≡ n
+unfolding filled_words
+blank_length n = length-replicate n 0
+
+fresh_registers : (v : ℕ) → IsSmall v → All (λ w. w < 0x10000) (powered_up v 0)
+fresh_registers v h = from_pairs (powered_up v 0) (
+  kept_small 0 v h,
+  (
+    kept_small 1 0 zero_small,
+    (
+      zero_small,
+      (
+        zero_small,
+        (
+          zero_small,
+          (
+            zero_small,
+            (
+              zero_small,
+              (
+                zero_small,
+                (
+                  zero_small,
+                  (
+                    zero_small,
+                    (zero_small, (zero_small, (zero_small, (zero_small, (zero_small, (zero_small, tt)))))),
+                  ),
+                ),
+              ),
+            ),
+          ),
+        ),
+      ),
+    ),
+  ),
+)
+
+pub fresh_is_whole : FreshIsWhole
+fresh_is_whole fram readings long few f r = (
+  record {
+    board = record { fram = long; ram = blank_length 1024; taken = omega arith; few = few };
+    registers = record { long = refl; even_pc = omega arith; even_sp = refl; sr = omega arith; r3 = refl };
+  },
+  record {
+    registers = fresh_registers (vector_of fram) (index_small fram (place_of 0xFFFE) f);
+    fram = f;
+    ram = blank 1024;
+    readings = r;
+    outnum = zero_small;
+  },
+)

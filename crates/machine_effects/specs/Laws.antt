@@ -1,0 +1,120 @@
+-- Laws of the machine, and that it is the board.
+use Rattle.std.specs.Prelude.{ℕ, ◌≡◌, ◌<◌, ◌≤◌, List, All, ◌++◌, length, Some}
+use Rattle.msp_isa.specs.declared.instructions.Instr.{Instr}
+use Rattle.msp_isa.specs.Encoding.{encoding}
+use Rattle.msp_step.specs.Registers.{registers_of, powered_up}
+use Rattle.fram_board.specs.Board.{BoardValue, BoardOutcome, IsStep, PowerState, IsPowerState, powered, fresh, vector_of}
+use Rattle.fram_board.specs.Effects.{Effect}
+use Rattle.fram_board.specs.Run.{Measure, Moment, RunOutcome, ChargeRun, accepted_words}
+use Rattle.machine_effects.specs.World.{World, fram_after, accepted_after, world_after, readings_taken}
+use Rattle.machine_effects.specs.Going.{Goes, Stops}
+use Rattle.machine_effects.specs.Machine.{MachineBoard, MachineOutcome, MachineStretch, IsMachineStep, MachineRun, Code, exec, fram_of, machine_powered}
+use Rattle.machine_effects.specs.View.{machine_of, IsWhole, IsOfWords, IsMachineOfWords, IsNextPrice, machine_outcome_of}
+use Rattle.machine_effects.specs.Runs.{moments_effects, EndsAs, ReachesAs}
+
+-- each step of a board is the machine's step of its view, with the board's effects and cycles; a stop is the same stop, with
+-- the readings taken before it and the price of the instruction that stopped
+abbrev pub BoardStepsAsMachine : Type 0
+BoardStepsAsMachine = (b : BoardValue) (x : BoardOutcome) → IsWhole b → IsStep b x
+    → (price : ℕ) × IsNextPrice b price × IsMachineStep (machine_of b) (machine_outcome_of b x price)
+
+-- and each step of the view is the board's
+abbrev pub MachineStepsAsBoard : Type 0
+MachineStepsAsBoard = (b : BoardValue) (o : MachineOutcome) → IsWhole b → IsMachineStep (machine_of b) o
+    → (x : BoardOutcome) × (price : ℕ) × IsStep b x × IsNextPrice b price × (o ≡ machine_outcome_of b x price)
+
+-- the machine steps in one way
+abbrev pub MachineStepsInOneWay : Type 0
+MachineStepsInOneWay = (s : MachineBoard) (o p : MachineOutcome) → IsMachineStep s o → IsMachineStep s p → o ≡ p
+
+-- and goes in one way
+abbrev pub MachineRunsInOneWay : Type 0
+MachineRunsInOneWay = (n : ℕ) (s : MachineBoard) (r q : MachineStretch) → MachineRun n s r → MachineRun n s q → r ≡ q
+
+-- what an outcome says of FRAM and the readings: they are as the effects make them
+abbrev pub ChangesByEffects : MachineBoard → MachineOutcome → Type 0
+ChangesByEffects s (Goes es c t) = (t.fram ≡ fram_after es s.fram) × (readings_taken es ++ t.readings_left ≡ s.readings_left)
+ChangesByEffects s (Stops es price stop) = (fram_after es s.fram ≡ s.fram) × ((left : List ℕ) × (readings_taken es ++ left ≡ s.readings_left))
+
+-- a step of code that stays changes FRAM and the readings by its effects
+abbrev pub CodeChangesByEffects : Type 0
+CodeChangesByEffects = (code : Code) (s : MachineBoard) → ChangesByEffects s (exec code s)
+
+-- a step of the machine does so too
+abbrev pub MachineChangesByEffects : Type 0
+MachineChangesByEffects = (s : MachineBoard) (o : MachineOutcome) → IsMachineStep s o → ChangesByEffects s o
+
+-- where an outcome goes on, all are words
+abbrev pub LeavesWords : MachineOutcome → Type 0
+LeavesWords (Goes es c t) = IsMachineOfWords t
+LeavesWords (Stops es price stop) = Unit {0}
+
+-- words stay words on the machine
+abbrev pub MachineWordsStayWords : Type 0
+MachineWordsStayWords = (s : MachineBoard) (o : MachineOutcome) → IsMachineOfWords s → IsMachineStep s o → LeavesWords o
+
+-- and in code that stays, where its instructions are encoded in words
+abbrev pub CodeWordsStayWords : Type 0
+CodeWordsStayWords = (code : Code) (s : MachineBoard) → ((i : Instr) → code (s.registers 0) ≡ Some i → All (λ w. w < 0x10000) (encoding i))
+    → IsMachineOfWords s → LeavesWords (exec code s)
+
+-- words stay words on the board
+abbrev pub WordsStayWords : Type 0
+WordsStayWords = (b : BoardValue) (x : BoardOutcome) → IsWhole b → IsOfWords b → IsStep b x → IsOfWords x.board
+
+-- a step leaves a board whole
+abbrev pub StepLeavesItWhole : Type 0
+StepLeavesItWhole = (b : BoardValue) (x : BoardOutcome) → IsWhole b → IsStep b x → IsWhole x.board
+
+-- what a board of words is as a machine
+abbrev pub MachineIsOfWords : Type 0
+MachineIsOfWords = (b : BoardValue) → IsOfWords b → IsMachineOfWords (machine_of b)
+
+-- a power-up of the board is the machine's
+abbrev pub PowerUpIsTheMachines : Type 0
+PowerUpIsTheMachines = (b : BoardValue) (p : PowerState) → machine_of (powered b p) ≡ machine_powered (machine_of b) p
+
+-- it leaves a whole board, and words
+abbrev pub PowerUpKeepsWords : Type 0
+PowerUpKeepsWords = (b : BoardValue) (p : PowerState) → IsWhole b → IsOfWords b → IsPowerState p → IsWhole (powered b p) × IsOfWords (powered b p)
+
+-- a fresh board as a machine: registers but PC, and RAM, are 0, and all readings are left
+abbrev pub FreshMachine : Type 0
+FreshMachine = (fram readings : List ℕ) → machine_of (fresh fram readings) ≡ record {
+  registers = registers_of (powered_up (vector_of fram) 0);
+  fram = fram_of fram;
+  ram = λ a. 0;
+  readings_left = readings;
+  outnum = 0;
+}
+
+-- it is whole where FRAM is as large as the memory map says, and holds words where FRAM and the readings do
+abbrev pub FreshIsWhole : Type 0
+FreshIsWhole = (fram readings : List ℕ) → length fram ≡ 24064 → length readings ≤ 262144
+    → All (λ w. w < 0x10000) fram → All (λ w. w < 0x10000) readings → IsWhole (fresh fram readings) × IsOfWords (fresh fram readings)
+
+-- a charge of the board is the machine's
+abbrev pub ChargesAlike : Type 0
+ChargesAlike = (m : Measure) (amount : ℕ) (b : BoardValue) (r : RunOutcome) → IsWhole b → ChargeRun m amount b r → EndsAs m amount b r r.ending
+
+-- and so is each front of it: the board after so many of its instructions is the machine after as many steps
+abbrev pub ChargeBoardsAlike : Type 0
+ChargeBoardsAlike = (m : Measure) (amount : ℕ) (b : BoardValue) (r : RunOutcome) (ms rest : List Moment) → IsWhole b → ChargeRun m amount b r
+    → r.moments ≡ ms ++ rest → ReachesAs b ms
+
+-- a charge leaves a whole board
+abbrev pub ChargeLeavesItWhole : Type 0
+ChargeLeavesItWhole = (m : Measure) (amount : ℕ) (b : BoardValue) (r : RunOutcome) → IsWhole b → ChargeRun m amount b r → IsWhole r.board
+
+-- and words
+abbrev pub ChargeKeepsWords : Type 0
+ChargeKeepsWords = (m : Measure) (amount : ℕ) (b : BoardValue) (r : RunOutcome) → IsWhole b → IsOfWords b → ChargeRun m amount b r → IsOfWords r.board
+
+-- the words that a charge's moments tell are those that its effects make the receiver accept
+abbrev pub ChargeAcceptsBySends : Type 0
+ChargeAcceptsBySends = (m : Measure) (amount : ℕ) (b : BoardValue) (r : RunOutcome) (ws : List ℕ) → length ws ≡ b.receiver.accepted → ChargeRun m amount b r
+    → accepted_after (moments_effects r.moments) ws ≡ ws ++ accepted_words r.moments
+
+-- the world after effects is FRAM and the accepted words after them
+abbrev pub WorldByItsParts : Type 0
+WorldByItsParts = (es : List Effect) (x : World) → world_after es x ≡ record { fram = fram_after es x.fram; accepted = accepted_after es x.accepted }

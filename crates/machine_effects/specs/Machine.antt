@@ -1,0 +1,189 @@
+-- The machine: the board with memory as functions of addresses, without its receiver, whose words are read off the effects.
+-- Its bus keeps a log of what an instruction does to FRAM, the sensor and the receiver. Its instructions, their effects and
+-- cycles are those of every bus (SLAU049 and SLAU144, CPU chapter).
+use Rattle.std.specs.Prelude.{ℕ, zero, suc, ◌-◌, ◌%◌, ◌≡◌, ◌<◌, ◌≤◌, ◌==◌, ◌&&◌, if◌then◌else◌, slice_index, List, [], ◌∷◌, ◌++◌, Result, Ok, Err, Option, Some, None}
+use Rattle.alp_words.specs.declared.Width.{Width}
+use Rattle.alp_words.specs.declared.Width.TheVariants.{Word, Byte}
+use Rattle.msp_isa.specs.declared.instructions.Instr.{Instr}
+use Rattle.msp_cycles.specs.Cycles.{cycles_of}
+use Rattle.msp_step.specs.declared.bus.Refused.{Refused}
+use Rattle.msp_step.specs.declared.bus.Refused.TheVariants as refused
+use Rattle.msp_step.specs.declared.machine.Stop.{Stop}
+use Rattle.msp_step.specs.declared.machine.Stop.TheVariants as stop
+use Rattle.msp_step.specs.Registers.{Registers, registers_of, kept}
+use Rattle.msp_step.specs.Access.{BusModel, Access, Completed, Faulted}
+use Rattle.msp_step.specs.Effect.{Written}
+use Rattle.msp_step.specs.Step.{effect, off_bit, stop_of, IsStopped, IsCurrentInstruction}
+use Rattle.image_text.specs.ImageValue.{place_of}
+use Rattle.fram_board.specs.Bus.{ram_place, is_ram, is_fram, is_memory, is_word, byte_of, with_byte, sensor_port, number_port, data_port}
+use Rattle.fram_board.specs.Board.{PowerState}
+use Rattle.fram_board.specs.Effects.{Effect, Store, Take, Send}
+use Rattle.machine_effects.specs.World.{put}
+use Rattle.machine_effects.specs.Going.{StepOutcome, Goes, Stops, At, Halted, Stretch, stretch, after_effects}
+
+-- memory and ports during one instruction, and what it did so far
+pub record MachineBus : Type 0 where
+  pub fram : ℕ → ℕ  -- the word at each even address
+  pub ram : ℕ → ℕ
+  pub readings_left : List ℕ
+  pub outnum : ℕ  -- the word last written to OUTNUM
+  pub log : List Effect
+
+-- the address of the word to which a byte belongs
+abbrev pub word_address : ℕ → ℕ
+word_address a = a - a % 2
+
+-- the word of RAM or FRAM to which an address belongs
+abbrev pub word_in : (ℕ → ℕ) → (ℕ → ℕ) → ℕ → ℕ
+word_in fram ram a = if is_ram a then ram (word_address a) else fram (word_address a)
+
+-- the same on the bus
+abbrev pub machine_word : MachineBus → ℕ → ℕ
+machine_word s a = word_in s.fram s.ram a
+
+-- a fetch is served at the words of memory
+abbrev pub machine_fetched : MachineBus → ℕ → Option ℕ
+machine_fetched s a = if is_word a then Some (machine_word s a) else None
+
+-- the next reading, if one is left
+abbrev pub first_reading : List ℕ → Result ℕ Refused
+first_reading [] = Err refused.NoReading
+first_reading (w ∷ ws) = Ok w
+
+-- a read is served in memory, of a word at an even address; and a word read at SENSOR
+abbrev pub machine_read : MachineBus → ℕ → Width → Result ℕ Refused
+machine_read s a Word =
+    if is_word a then Ok (machine_word s a)
+    else if a == sensor_port then first_reading s.readings_left
+    else Err refused.Bus
+machine_read s a Byte = if is_memory a then Ok (byte_of (machine_word s a) a) else Err refused.Bus
+
+-- the first of the readings left is taken
+abbrev pub reading_taken : List ℕ → MachineBus → MachineBus
+reading_taken [] s = s
+reading_taken (w ∷ ws) s = record s { readings_left = ws; log = s.log ++ Take w ∷ [] }
+
+-- a word read at SENSOR takes the reading
+abbrev pub machine_after_read : MachineBus → ℕ → Width → MachineBus
+machine_after_read s a Word = if a == sensor_port then reading_taken s.readings_left s else s
+machine_after_read s a Byte = s
+
+-- a word of memory is written; in FRAM that is a store
+abbrev pub machine_stored : MachineBus → ℕ → ℕ → MachineBus
+machine_stored s a v =
+    if is_ram a then record s { ram = put s.ram (word_address a) v }
+    else record s { fram = put s.fram (word_address a) v; log = s.log ++ Store (word_address a) v ∷ [] }
+
+-- a word written to a port
+abbrev pub machine_port_written : MachineBus → ℕ → ℕ → Option MachineBus
+machine_port_written s a v =
+    if a == number_port then Some (record s { outnum = v })
+    else if a == data_port then Some (record s { log = s.log ++ Send s.outnum v ∷ [] })
+    else None
+
+-- a write is served in memory, of a word at an even address; and a word written to OUTNUM or OUTDATA
+abbrev pub machine_written : MachineBus → ℕ → Width → ℕ → Option MachineBus
+machine_written s a Word v = if is_word a then Some (machine_stored s a v) else machine_port_written s a v
+machine_written s a Byte v = if is_memory a then Some (machine_stored s a (with_byte (machine_word s a) a v)) else None
+
+-- the machine's bus
+abbrev pub machine_bus : BusModel MachineBus
+machine_bus = record {
+  memory = machine_word;
+  fetches = machine_fetched;
+  reads = machine_read;
+  after_read = machine_after_read;
+  writes = machine_written;
+}
+
+-- the machine between two instructions
+pub record MachineBoard : Type 0 where
+  pub registers : Registers
+  pub fram : ℕ → ℕ
+  pub ram : ℕ → ℕ
+  pub readings_left : List ℕ
+  pub outnum : ℕ
+
+-- its bus as an instruction begins: the log is empty
+abbrev pub machine_opened : MachineBoard → MachineBus
+machine_opened s = record { fram = s.fram; ram = s.ram; readings_left = s.readings_left; outnum = s.outnum; log = [] }
+
+-- the machine with these registers after this bus
+abbrev pub machine_closed : Registers → MachineBus → MachineBoard
+machine_closed r t = record { registers = r; fram = t.fram; ram = t.ram; readings_left = t.readings_left; outnum = t.outnum }
+
+-- a step of the machine
+abbrev pub MachineOutcome : Type 0
+MachineOutcome = StepOutcome MachineBoard Stop
+
+-- some steps of the machine
+abbrev pub MachineStretch : Type 0
+MachineStretch = Stretch MachineBoard Stop
+
+-- what becomes of an instruction at this address with so many cycles
+abbrev pub machine_outcome : ℕ → ℕ → Access MachineBus (Registers × Option Written) → MachineOutcome
+machine_outcome pc c (Completed x t) = Goes t.log c (machine_closed x.0 t)
+machine_outcome pc c (Faulted e a t) = Stops t.log c (stop_of pc e a)
+
+-- an instruction, executed as the one at PC
+abbrev pub machine_executed : MachineBoard → Instr → MachineOutcome
+machine_executed s i = machine_outcome (s.registers 0) (cycles_of i) (effect machine_bus i s.registers (machine_opened s))
+
+-- one step of the machine: it is stopped with no instruction, or the instruction at PC is executed. A stop that needs no
+-- instruction costs nothing; CPUOFF comes first
+pub data IsMachineStep (s : MachineBoard) : MachineOutcome → Type 0 where
+  NoInstruction : (e : Stop) → IsStopped machine_bus s.registers (machine_opened s) e → IsMachineStep s (Stops [] 0 e)
+  Executes : (i : Instr) → IsCurrentInstruction machine_bus s.registers (machine_opened s) i → IsMachineStep s (machine_executed s i)
+
+-- so many steps of the machine, each as it fetches
+pub data MachineRun : ℕ → MachineBoard → MachineStretch → Type 0 where
+  Stays : (s : MachineBoard) → MachineRun zero s (stretch [] 0 (At s))
+  Halts : (n : ℕ) (s : MachineBoard) (es : List Effect) (price : ℕ) (e : Stop) → IsMachineStep s (Stops es price e)
+      → MachineRun (suc n) s (stretch es 0 (Halted price e))
+  Steps : (n : ℕ) (s t : MachineBoard) (es : List Effect) (c : ℕ) (rest : MachineStretch) → IsMachineStep s (Goes es c t) → MachineRun n t rest
+      → MachineRun (suc n) s (after_effects es c rest)
+
+-- what an instruction that stands at PC does while CPUOFF is clear; where none stands the word there is illegal
+abbrev pub standing : Option Instr → MachineBoard → MachineOutcome
+standing (Some i) s = machine_executed s i
+standing None s = Stops [] 0 (stop.Illegal (s.registers 0) (word_in s.fram s.ram (s.registers 0)))
+
+-- the step of a machine with this instruction at PC, or none
+abbrev pub step_with : Option Instr → MachineBoard → MachineOutcome
+step_with i s = if off_bit s.registers == 1 then Stops [] 0 stop.Off else standing i s
+
+-- code that stays: the instruction that stands at each address
+abbrev pub Code : Type 0
+Code = ℕ → Option Instr
+
+-- the step of a machine whose instructions come from code that stays, whatever FRAM holds
+abbrev pub exec : Code → MachineBoard → MachineOutcome
+exec code s = step_with (code (s.registers 0)) s
+
+-- an even address in FRAM
+pub record IsFram (a : ℕ) : Type 0 where
+  pub even : a % 2 ≡ 0
+  pub low : 0x4400 ≤ a
+  pub high : a < 0x10000
+
+-- an even address in RAM
+pub record IsRam (a : ℕ) : Type 0 where
+  pub even : a % 2 ≡ 0
+  pub low : 0x1C00 ≤ a
+  pub high : a < 0x2400
+
+-- FRAM by addresses, from the list of its words
+abbrev pub fram_of : List ℕ → ℕ → ℕ
+fram_of words a = if (a % 2 == 0) && is_fram a then slice_index words (place_of a) else 0
+
+-- RAM by addresses, from the list of its words
+abbrev pub ram_of : List ℕ → ℕ → ℕ
+ram_of words a = if (a % 2 == 0) && is_ram a then slice_index words (ram_place a) else 0
+
+-- a power-up: PC is the reset vector and SR is 0; FRAM and the readings are as before
+abbrev pub machine_powered : MachineBoard → PowerState → MachineBoard
+machine_powered s p = record s {
+  registers = registers_of (kept 0 (s.fram 0xFFFE) ∷ kept 1 p.sp ∷ 0 ∷ 0 ∷ p.work);
+  ram = ram_of p.ram;
+  outnum = p.outnum;
+}

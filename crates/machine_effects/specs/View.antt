@@ -1,0 +1,53 @@
+-- The board of the running program as the machine.
+use Rattle.std.specs.Prelude.{ℕ, ◌≡◌, ◌<◌, ◌⊎◌, List, All, drop, Result, Ok, Err}
+use Rattle.msp_step.specs.declared.machine.Stop.{Stop}
+use Rattle.msp_step.specs.Registers.{IsRegisters, registers_of}
+use Rattle.fram_board.specs.declared.board.Stepped.{Stepped}
+use Rattle.fram_board.specs.Board.{BoardValue, BoardOutcome, BoardCosts, IsBoard}
+use Rattle.fram_board.specs.Effects.{Effect, effects_of}
+use Rattle.machine_effects.specs.Going.{Goes, Stops}
+use Rattle.machine_effects.specs.Machine.{MachineBoard, MachineOutcome, fram_of, ram_of}
+
+-- the machine that a board is
+abbrev pub machine_of : BoardValue → MachineBoard
+machine_of b = record {
+  registers = registers_of b.cpu;
+  fram = fram_of b.fram;
+  ram = ram_of b.ram;
+  readings_left = drop b.taken b.readings;
+  outnum = b.outnum;
+}
+
+-- memory is whole, and there are sixteen registers, each with what it keeps
+pub record IsWhole (b : BoardValue) : Type 0 where
+  pub board : IsBoard b
+  pub registers : IsRegisters b.cpu
+
+-- all that a board holds are words
+pub record IsOfWords (b : BoardValue) : Type 0 where
+  pub registers : All (λ w. w < 0x10000) b.cpu
+  pub fram : All (λ w. w < 0x10000) b.fram
+  pub ram : All (λ w. w < 0x10000) b.ram
+  pub readings : All (λ w. w < 0x10000) b.readings
+  pub outnum : b.outnum < 0x10000
+
+-- all that the machine holds are words
+pub record IsMachineOfWords (s : MachineBoard) : Type 0 where
+  pub registers : (n : ℕ) → s.registers n < 0x10000
+  pub fram : (a : ℕ) → s.fram a < 0x10000
+  pub ram : (a : ℕ) → s.ram a < 0x10000
+  pub readings : All (λ w. w < 0x10000) s.readings_left
+  pub outnum : s.outnum < 0x10000
+
+-- the cycles of the board's next instruction, or 0 where there is none
+abbrev pub IsNextPrice : BoardValue → ℕ → Type 0
+IsNextPrice b price = BoardCosts b (Ok price) ⊎ ((e : Stop) × BoardCosts b (Err e) × (price ≡ 0))
+
+-- an answer of the board with its effects, as the machine's outcome; the price is that of a stop
+abbrev pub outcome_of_answer : List Effect → ℕ → Result Stepped Stop → MachineBoard → MachineOutcome
+outcome_of_answer es price (Ok done) next = Goes es done.cycles next
+outcome_of_answer es price (Err e) next = Stops es price e
+
+-- a step of the board as one of the machine
+abbrev pub machine_outcome_of : BoardValue → BoardOutcome → ℕ → MachineOutcome
+machine_outcome_of b x price = outcome_of_answer (effects_of b x) price x.answer (machine_of x.board)

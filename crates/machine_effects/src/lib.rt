@@ -1,0 +1,12 @@
+//! The machine: the board as functions of addresses, with steps that tell their effects; and that it is the board of
+//! `fram_board`. It has no code that runs: what it says of the board are the contracts of its laws.
+#![tactic(auto)]
+
+mod laws;
+
+pub use laws::{
+    charges_accept_by_their_sends, charges_are_the_machines, code_changes_by_effects,
+    fresh_board_is_a_machine, machine_changes_by_effects, machine_goes_in_one_way,
+    power_up_is_the_machines, steps_are_the_machines, steps_leave_boards_whole, words_stay_words,
+    world_is_its_parts,
+};
