@@ -1,0 +1,464 @@
+-- What is made from a boot or a done on, cut anywhere, keeps what a history stands for.
+use Rattle.std.proofs.Common.{◌≡◌, ℕ, ◌+◌, List, [], ◌∷◌, ◌++◌, length, drop, refl, sym, ap, ◌∙◌, subst, ⊎_elim, inl, inr, ◌⊎◌, arith, true, false, cond, ◌==◌, append_assoc, append-nil, All}
+use Rattle.std.proofs.lemmas.List.Elements.{All-drop}
+use Rattle.fram_board.specs.Effects.{Effect, Store}
+use Rattle.machine_effects.specs.World.{World, world_after, fram_after, readings_taken, IsPrefix, EachStore}
+use Rattle.crash_rules.specs.Model.{Model, ModelLaws, Outcome, Ends, Short, ProgramEffects, program_effects, readings_left, IsWord, IsElsewhere, with_commit, script, Decides, RunsShort, AttemptContract, CommitContract}
+use Rattle.crash_rules.specs.History.{Done, History, with_effect, behind_decide, behind_done, observe_one, observe, behind_boot, decided_readings, done_readings}
+use Rattle.crash_rules.specs.Laws.{Origin, Resting, Pending, SourceRun, Reaches, IsSettled, Transits, Phase, UndecidedPhase, DecidedPhase, StandsFor, IsLawful, AreConsecutive}
+use Rattle.crash_rules.proofs.Lists.{world_after-append, world_fram, each_prefix, holds_prefix, holds_end, prefix_cases, prefix_one, nothing_first, range_of}
+use Rattle.crash_rules.proofs.Observed.{observe-append, with_effects, observe_quiet, observe_done, observe_decide}
+
+-- charges as whole scripts and a prefix of one
+pub data ChargeEffects {St : Type 0} (m : Model St) : (ℕ → ℕ) → List ℕ → List Effect → Type 0 where
+  partial : {f : ℕ → ℕ} {readings : List ℕ} {es : List Effect} → IsPrefix es (script m f readings).effects → ChargeEffects m f readings es
+  complete : {f : ℕ → ℕ} {readings : List ℕ} {es : List Effect} → (script m f readings).ends ≡ true
+      → ChargeEffects m (fram_after (script m f readings).effects f) (readings_left (script m f readings).effects readings) es
+      → ChargeEffects m f readings ((script m f readings).effects ++ es)
+
+module _ {St : Type 0} (m : Model St) (laws : ModelLaws m) (readings : List ℕ) (words : All IsWord readings) where
+  run_more : (s t u : St) (ds : List Done) (d : Done) → SourceRun m readings s ds t → m.task t (done_readings readings d) ≡ Ends u [] → m.Rests u d.world
+      → SourceRun m readings s (ds ++ d ∷ []) u
+  run_more s t u [] d h e r = (u, ap (λ x. m.task x (done_readings readings d)) (sym h) ∙ e, r, refl)
+  run_more s t u (c ∷ ds) d h e r = (h.0, h.1, h.2, run_more h.0 t u ds d h.3 e r)
+
+  -- one transition more
+  reaches_more : (o : Origin St) (ds : List Done) (s next : St) (d : Done) → Reaches m readings o ds s → Transits m o ds (done_readings readings d) s next
+      → m.Rests next d.world → Reaches m readings o (ds ++ d ∷ []) next
+  reaches_more (Resting a) ds s next d h t r = run_more a s next ds d h t r
+  reaches_more (Pending a b) [] s next d h t r = (subst (λ u. m.Rests u d.world) t.1 r, t.1)
+  reaches_more (Pending a b) (c ∷ ds) s next d h t r = (h.0, run_more b s next ds d h.1 t r)
+
+  settled_more : (o : Origin St) (ds : List Done) (d : Done) → IsSettled o (ds ++ d ∷ [])
+  settled_more (Resting a) ds d = tt
+  settled_more (Pending a b) [] d = tt
+  settled_more (Pending a b) (c ∷ ds) d = tt
+
+  -- where nothing is pending, transitions are the task's
+  transits_task : (o : Origin St) (ds : List Done) (rs : List ℕ) (s next : St) → IsSettled o ds → m.task s rs ≡ Ends next [] → Transits m o ds rs s next
+  transits_task (Resting a) ds rs s next k e = e
+  transits_task (Pending a b) [] rs s next k e = absurd k
+  transits_task (Pending a b) (c ∷ ds) rs s next k e = e
+
+  module _ (origin : Origin St) where
+    -- a history that follows its script would also with these effects more
+    abbrev pub MayGoOn : History → List Effect → Type 0
+    MayGoOn v es = IsPrefix (v.effects ++ es) (script m v.start.fram (drop v.since readings)).effects
+
+    -- its world is that of its effects
+    abbrev pub IsTold : History → Type 0
+    IsTold v = v.world ≡ world_after v.effects v.start
+
+    -- the done at the end of a history that was decided
+    abbrev pub done_of : History → World → Done
+    done_of v x = record { span_from = v.span_from; span_to = v.span_to; world = x }
+
+    -- from v to k no done came, or one, at which no reading more was taken
+    pub data Grows (v k : History) : Type 0 where
+      Stayed : k.completed ≡ v.completed → k.since ≡ v.since → Grows v k
+      Finished : k.completed ≡ v.completed ++ done_of v k.world ∷ [] → k.since ≡ v.taken → Grows v k
+
+    -- right behind a boot or a done
+    pub record Point (h : History) : Type 0 where
+      pub stands : StandsFor m readings origin h
+      pub since : h.since ≡ h.taken
+      pub start : h.start ≡ h.world
+      pub none : h.effects ≡ []
+
+    pub record Part (v k : History) : Type 0 where
+      pub lawful : IsLawful m readings origin k
+      pub grows : Grows v k
+
+    -- a commit's end
+    pub record Whole (v k : History) : Type 0 where
+      pub point : Point k
+      pub completed : k.completed ≡ v.completed ++ done_of v k.world ∷ []
+      pub taken : k.taken ≡ v.taken
+      pub undecided : k.decided ≡ false
+
+    pub point_lawful : (h : History) → Point h → IsLawful m readings origin h
+    point_lawful h p =
+        record {
+          world = sym p.start ∙ ap (λ es. world_after es h.start) (sym p.none);
+          stands = p.stands;
+          follows = subst (λ es. IsPrefix es (script m h.start.fram (drop h.since readings)).effects) (sym p.none) (nothing_first _);
+        }
+
+    told_more : (v : History) (es : List Effect) → IsTold v → world_after es v.world ≡ world_after (v.effects ++ es) v.start
+    told_more v es t = ap (world_after es) t ∙ sym (world_after-append v.effects es v.start)
+
+    quiet_part : (s : St) (v : History) (es : List Effect) → EachStore (IsElsewhere m.gate) es → IsTold v → MayGoOn v es
+        → Reaches m readings origin v.completed s → Phase m readings origin s (with_effects es v) → Part v (observe m.gate es v)
+    quiet_part s v es q told go reached phase =
+        subst (Part v) (sym (observe_quiet m.gate es v q))
+        (record {
+          lawful = record { world = told_more v es told; stands = record { state = s; reached = reached; phase = phase }; follows = go };
+          grows = Stayed refl refl;
+        })
+
+    module _ (s next : St) (v : History) (reached : Reaches m readings origin v.completed s) (g : v.decided ≡ true)
+        (t : Transits m origin v.completed (decided_readings readings v) s next) where
+      -- a commit, whole
+      commit_end : (p : CommitContract m s next v.world) → Whole v (observe m.gate (p.before ++ Store m.gate 0 ∷ []) v)
+      commit_end p =
+          let u = with_effects p.before v in
+          let k = behind_done (with_effect (Store m.gate 0) u) in
+          let one : u.world.fram m.gate ≡ 1 = laws.decided_gate s next (world_after p.before v.world)
+          (holds_end (m.Decided s next) p.before v.world p.decided) in
+          let is : observe m.gate (p.before ++ Store m.gate 0 ∷ []) v ≡ k = observe-append m.gate p.before (Store m.gate 0 ∷ []) v
+          ∙ ap (observe_one m.gate (Store m.gate 0)) (observe_quiet m.gate p.before v p.elsewhere) ∙ observe_done m.gate u one in
+          let none : length (readings_taken p.before) ≡ 0 = ap length p.takes_none in
+          subst (Whole v) (sym is)
+          (record {
+            point = record {
+              stands = record {
+                state = next;
+                reached = reaches_more origin v.completed s next (done_of v k.world) reached t p.rests;
+                phase = UndecidedPhase refl (settled_more origin v.completed (done_of v k.world)) (laws.rests_undecided next k.world p.rests);
+              };
+              since = refl;
+              start = refl;
+              none = refl;
+            };
+            completed = refl;
+            taken = omega (arith, none);
+            undecided = refl;
+          })
+
+      commit_whole : m.Decided s next v.world → Whole v (observe m.gate (m.commit v.world.fram) v)
+      commit_whole d = let p = laws.commits s next v.world d in subst (λ l. Whole v (observe m.gate l v)) (sym p.is) (commit_end p)
+
+      commit_quiet : (p : CommitContract m s next v.world) (es : List Effect) → IsPrefix es p.before → IsTold v → MayGoOn v es → Part v (observe m.gate es v)
+      commit_quiet p es h told go =
+          quiet_part s v es (each_prefix (IsElsewhere m.gate) es p.before h p.elsewhere) told go reached
+          (DecidedPhase next g t (holds_prefix (m.Decided s next) es p.before v.world h p.decided))
+
+      whole_part : (k : History) → Whole v k → Part v k
+      whole_part k w = record { lawful = point_lawful k w.point; grows = Finished w.completed (w.point.since ∙ w.taken) }
+
+      -- a commit, cut anywhere
+      commit_part : (es : List Effect) → m.Decided s next v.world → IsPrefix es (m.commit v.world.fram) → IsTold v → MayGoOn v es → Part v (observe m.gate es v)
+      commit_part es d pre told go =
+          let p = laws.commits s next v.world d in
+          ⊎_elim
+          (λ h. commit_quiet p es h told go)
+          (λ h. ⊎_elim
+          (λ e. commit_quiet p es (record { rest = []; joins = append-nil es ∙ h.1 ∙ ap (λ l. p.before ++ l) e ∙ append-nil p.before }) told go)
+          (λ e. subst (λ l. Part v (observe m.gate l v)) (sym (h.1 ∙ ap (λ l. p.before ++ l) e)) (whole_part _ (commit_end p)))
+          (prefix_one h.0 (Store m.gate 0) h.2))
+          (prefix_cases es p.before (Store m.gate 0 ∷ []) (subst (λ l. IsPrefix es l) p.is pre))
+
+    -- a done behind a decide
+    pub record Next (h k : History) : Type 0 where
+      pub point : Point k
+      pub done : Done
+      pub completed : k.completed ≡ h.completed ++ done ∷ []
+      pub undecided : k.decided ≡ false
+      pub span : h.decided ≡ false → (done.span_from ≡ h.since) × (done.span_to ≡ k.since)
+
+    -- from h no done came, or the dones follow one another
+    pub record Spans (h k : History) : Type 0 where
+      pub dones : List Done
+      pub completed : k.completed ≡ h.completed ++ dones
+      pub follow : h.decided ≡ false → AreConsecutive h.since dones k.since
+
+    pub record Cut (h k : History) : Type 0 where
+      pub lawful : IsLawful m readings origin k
+      pub spans : Spans h k
+
+    part_grows : (h v k : History) → v.completed ≡ h.completed → v.since ≡ h.since → v.span_from ≡ h.since → v.span_to ≡ v.taken → Grows v k → Spans h k
+    part_grows h v k c s f t (Stayed a b) = record { dones = []; completed = a ∙ c ∙ sym (append-nil h.completed); follow = λ z. sym (b ∙ s) }
+    part_grows h v k c s f t (Finished a b) = record {
+      dones = done_of v k.world ∷ [];
+      completed = a
+          ∙ ap (λ l. l ++ done_of v k.world ∷ []) c;
+      follow = λ z. (f, t ∙ sym b);
+    }
+
+    stayed_spans : (h k : History) → Part h k → h.decided ≡ true → Spans h k
+    stayed_spans h k p d = stayed_by p.grows
+      where
+        clash : (h.decided ≡ false → AreConsecutive h.since [] k.since)
+        clash z = absurd (cc (d, z))
+
+        stayed_by : Grows h k → Spans h k
+        stayed_by (Stayed a b) = record { dones = []; completed = a ∙ sym (append-nil h.completed); follow = clash }
+        stayed_by (Finished a b) = record { dones = done_of h k.world ∷ []; completed = a; follow = λ z. absurd (cc (d, z)) }
+
+    module _ (s next : St) (left : List ℕ) (h : History) (r : ProgramEffects) (reached : Reaches m readings origin h.completed s)
+        (settled : IsSettled origin h.completed) (nd : h.decided ≡ false) (pt : Point h) (c : Decides m s next left (drop h.taken readings) h.world r) where
+      abbrev to_gate : List Effect
+      to_gate = c.before ++ Store m.gate 1 ∷ []
+
+      -- the history behind the decide
+      abbrev at_gate : History
+      at_gate = behind_decide (with_effect (Store m.gate 1) (with_effects c.before h))
+
+      chose : observe m.gate to_gate h ≡ at_gate
+      chose =
+          let u = with_effects c.before h in
+          let z : u.world.fram m.gate ≡ 0 = laws.undecided_gate s (world_after c.before h.world) (holds_end (m.Undecided s) c.before h.world c.undecided) in
+          observe-append m.gate c.before (Store m.gate 1 ∷ []) h ∙ ap (observe_one m.gate (Store m.gate 1)) (observe_quiet m.gate c.before h c.elsewhere)
+          ∙ observe_decide m.gate u z
+
+      gate_world : world_after to_gate h.world ≡ at_gate.world
+      gate_world = world_after-append c.before (Store m.gate 1 ∷ []) h.world
+
+      taken_there : at_gate.taken ≡ h.taken + length (readings_taken c.before)
+      taken_there = omega arith
+
+      transits : Transits m origin h.completed (decided_readings readings at_gate) s next
+      transits =
+          let reads : readings_taken c.before ++ left ≡ drop h.since readings = c.reads ∙ ap (λ n. drop n readings) (sym pt.since) in
+          let to : at_gate.taken ≡ h.since + length (readings_taken c.before) = taken_there ∙ ap (λ n. n + length (readings_taken c.before)) (sym pt.since) in
+          transits_task origin h.completed _ s next settled (ap (m.task s) (range_of readings (readings_taken c.before) left h.since at_gate.taken reads to)
+          ∙ c.exact)
+
+      gate_effects : at_gate.effects ≡ h.effects ++ to_gate
+      gate_effects = append_assoc h.effects c.before (Store m.gate 1 ∷ [])
+
+      gate_told : IsTold at_gate
+      gate_told = sym gate_world ∙ told_more h to_gate (point_lawful h pt).world ∙ ap (λ l. world_after l h.start) (sym gate_effects)
+
+      gate_goes : (fs : List Effect) → MayGoOn h (to_gate ++ fs) → MayGoOn at_gate fs
+      gate_goes fs g = subst (λ l. IsPrefix l (script m h.start.fram (drop h.since readings)).effects)
+          (sym (ap (λ l. l ++ fs) gate_effects ∙ append_assoc h.effects to_gate fs)) g
+
+      commit_there : m.commit (fram_after to_gate h.world.fram) ≡ m.commit at_gate.world.fram
+      commit_there = ap m.commit (sym (world_fram to_gate h.world) ∙ ap (λ x. x.fram) gate_world)
+
+      -- from the store to GATE on
+      past_gate : (es fs : List Effect) → es ≡ to_gate ++ fs → IsPrefix fs (m.commit (fram_after to_gate h.world.fram)) → MayGoOn h es
+          → Cut h (observe m.gate es h)
+      past_gate es fs e p go =
+          let k = commit_part s next at_gate reached refl transits fs c.decided (subst (IsPrefix fs) commit_there p) gate_told
+          (gate_goes fs (subst (MayGoOn h) e go)) in
+          let is : observe m.gate es h ≡ observe m.gate fs at_gate = ap (λ l. observe m.gate l h) e ∙ observe-append m.gate to_gate fs h
+          ∙ ap (observe m.gate fs) chose in
+          subst (Cut h) (sym is) (record { lawful = k.lawful; spans = part_grows h at_gate _ refl refl refl refl k.grows })
+
+      -- up to it
+      before_gate : (es : List Effect) → IsPrefix es c.before → MayGoOn h es → Cut h (observe m.gate es h)
+      before_gate es p go =
+          let k = quiet_part s h es (each_prefix (IsElsewhere m.gate) es c.before p c.elsewhere) (point_lawful h pt).world go reached
+          (UndecidedPhase nd settled (holds_prefix (m.Undecided s) es c.before h.world p c.undecided)) in
+          cut_quiet es (each_prefix (IsElsewhere m.gate) es c.before p c.elsewhere) k.lawful
+        where
+          cut_quiet : (es : List Effect) → EachStore (IsElsewhere m.gate) es → IsLawful m readings origin (observe m.gate es h) → Cut h (observe m.gate es h)
+          cut_quiet es q l =
+              let is = observe_quiet m.gate es h q in
+              record {
+                lawful = l;
+                spans = record {
+                  dones = [];
+                  completed = ap (λ k. k.completed) is
+                      ∙ sym (append-nil h.completed);
+                  follow = λ z. sym (ap (λ k. k.since) is);
+                };
+              }
+
+      decides_part : (es : List Effect) → IsPrefix es (with_commit m h.world.fram r).effects → MayGoOn h es → Cut h (observe m.gate es h)
+      decides_part es p0 go =
+          let p : IsPrefix es (to_gate
+          ++ m.commit (fram_after to_gate h.world.fram)) = subst (λ q. IsPrefix es (with_commit m h.world.fram q).effects) c.is p0 in
+          ⊎_elim
+          (λ a. ⊎_elim
+          (λ b. before_gate es b go)
+          (λ b. ⊎_elim
+          (λ e. before_gate es (record { rest = []; joins = append-nil es ∙ b.1 ∙ ap (λ l. c.before ++ l) e ∙ append-nil c.before }) go)
+          (λ e. past_gate es [] (b.1 ∙ ap (λ l. c.before ++ l) e ∙ sym (append-nil to_gate)) (nothing_first _) go)
+          (prefix_one b.0 (Store m.gate 1) b.2))
+          (prefix_cases es c.before (Store m.gate 1 ∷ []) a))
+          (λ a. past_gate es a.0 a.1 a.2 go)
+          (prefix_cases es to_gate (m.commit (fram_after to_gate h.world.fram)) p)
+
+      decides_whole : Next h (observe m.gate (with_commit m h.world.fram r).effects h)
+      decides_whole =
+          let cm = m.commit (fram_after to_gate h.world.fram) in
+          let w0 = commit_whole s next at_gate reached refl transits c.decided in
+          let k = observe m.gate cm at_gate in
+          let w : Whole at_gate k = subst (λ l. Whole at_gate (observe m.gate l at_gate)) (sym commit_there) w0 in
+          let is : observe m.gate (to_gate ++ cm) h ≡ k = observe-append m.gate to_gate cm h ∙ ap (observe m.gate cm) chose in
+          let all : Next h (observe m.gate (to_gate ++ cm) h) =
+          subst (Next h) (sym is) (record {
+            point = w.point;
+            done = done_of at_gate k.world;
+            completed = w.completed;
+            undecided = w.undecided;
+            span = λ z. (refl, sym w.taken ∙ sym w.point.since);
+          }) in
+          subst (λ q. Next h (observe m.gate (with_commit m h.world.fram q).effects h)) (sym c.is) all
+
+    -- an attempt that runs short, and that comes to no end
+    pub short_effects : (s : St) (f : ℕ → ℕ) (x : World) (r : ProgramEffects) → RunsShort m s x r → (with_commit m f r).effects ≡ r.effects
+    short_effects s f x r c = ap (λ b. r.effects ++ cond b (m.commit (fram_after r.effects f)) []) c.is ∙ append-nil r.effects
+
+    short_part : (s : St) (h : History) (r : ProgramEffects) (es : List Effect) → Reaches m readings origin h.completed s → IsSettled origin h.completed
+        → h.decided ≡ false → Point h → RunsShort m s h.world r → IsPrefix es r.effects → MayGoOn h es → Cut h (observe m.gate es h)
+    short_part s h r es reached settled nd pt c p go =
+        let q = each_prefix (IsElsewhere m.gate) es r.effects p c.elsewhere in
+        let k = quiet_part s h es q (point_lawful h pt).world go reached
+        (UndecidedPhase nd settled (holds_prefix (m.Undecided s) es r.effects h.world p c.undecided)) in
+        let is = observe_quiet m.gate es h q in
+        record {
+          lawful = k.lawful;
+          spans = record {
+            dones = [];
+            completed = ap (λ k. k.completed) is
+                ∙ sym (append-nil h.completed);
+            follow = λ z. sym (ap (λ k. k.since) is);
+          };
+        }
+
+    attempt_part : (s : St) (h : History) (es : List Effect) (a : Outcome St) (r : ProgramEffects) → Reaches m readings origin h.completed s
+        → IsSettled origin h.completed → h.decided ≡ false → Point h → AttemptContract m s (drop h.taken readings) h.world a r
+        → IsPrefix es (with_commit m h.world.fram r).effects → MayGoOn h es → Cut h (observe m.gate es h)
+    attempt_part s h es (Ends next left) r reached settled nd pt c p go = decides_part s next left h r reached settled nd pt c es p go
+    attempt_part s h es Short r reached settled nd pt c p go = short_part s h r es reached settled nd pt c (subst (IsPrefix es)
+        (short_effects s h.world.fram h.world r c) p) go
+
+    attempt_whole : (s : St) (h : History) (a : Outcome St) (r : ProgramEffects) → Reaches m readings origin h.completed s → IsSettled origin h.completed
+        → h.decided ≡ false → Point h → AttemptContract m s (drop h.taken readings) h.world a r → r.ends ≡ true
+        → Next h (observe m.gate (with_commit m h.world.fram r).effects h)
+    attempt_whole s h (Ends next left) r reached settled nd pt c e = decides_whole s next left h r reached settled nd pt c
+    attempt_whole s h Short r reached settled nd pt c e = absurd (cc (c.is, e))
+
+    -- a point where all is undecided, and one where it is decided
+    pub record AtUndecided (h : History) : Type 0 where
+      pub state : St
+      pub reached : Reaches m readings origin h.completed state
+      pub undecided : h.decided ≡ false
+      pub settled : IsSettled origin h.completed
+      pub holds : m.Undecided state h.world
+
+    pub record AtDecided (h : History) : Type 0 where
+      pub state : St
+      pub next : St
+      pub reached : Reaches m readings origin h.completed state
+      pub decided : h.decided ≡ true
+      pub transits : Transits m origin h.completed (decided_readings readings h) state next
+      pub holds : m.Decided state next h.world
+
+    pub phase_of : (h : History) → StandsFor m readings origin h → (AtUndecided h) ⊎ (AtDecided h)
+    phase_of h st = by_phase st.state st.reached st.phase
+      where
+        by_phase : (s : St) → Reaches m readings origin h.completed s → Phase m readings origin s h → (AtUndecided h) ⊎ (AtDecided h)
+        by_phase s r (UndecidedPhase d k u) = inl (record { state = s; reached = r; undecided = d; settled = k; holds = u })
+        by_phase s r (DecidedPhase next d t u) = inr (record { state = s; next = next; reached = r; decided = d; transits = t; holds = u })
+
+    -- what the script is, by GATE
+    pub script_decided : (f : ℕ → ℕ) (rs : List ℕ) → f m.gate ≡ 1 → script m f rs ≡ program_effects (m.commit f) true
+    script_decided f rs e = ap (λ n. cond (n == 1) (program_effects (m.commit f) true) (with_commit m f (m.attempt f rs))) e
+
+    pub script_undecided : (f : ℕ → ℕ) (rs : List ℕ) → f m.gate ≡ 0 → script m f rs ≡ with_commit m f (m.attempt f rs)
+    script_undecided f rs e = ap (λ n. cond (n == 1) (program_effects (m.commit f) true) (with_commit m f (m.attempt f rs))) e
+
+    -- the script at a point
+    abbrev pub script_at : History → ProgramEffects
+    script_at h = script m h.world.fram (drop h.taken readings)
+
+    pub words_left : (h : History) → All IsWord (drop h.taken readings)
+    words_left h = All-drop IsWord h.taken readings words
+
+    owed : (h : History) (u : AtUndecided h) → AttemptContract m u.state (drop h.taken readings) h.world (m.task u.state (drop h.taken readings))
+        (m.attempt h.world.fram (drop h.taken readings))
+    owed h u = laws.attempts u.state h.world (drop h.taken readings) (words_left h) u.holds
+
+    script_u : (h : History) (u : AtUndecided h) → script_at h ≡ with_commit m h.world.fram (m.attempt h.world.fram (drop h.taken readings))
+    script_u h u = script_undecided h.world.fram (drop h.taken readings) (laws.undecided_gate u.state h.world u.holds)
+
+    script_d : (h : History) (d : AtDecided h) → script_at h ≡ program_effects (m.commit h.world.fram) true
+    script_d h d = script_decided h.world.fram (drop h.taken readings) (laws.decided_gate d.state d.next h.world d.holds)
+
+    may_go_on : (h : History) (es : List Effect) → Point h → IsPrefix es (script_at h).effects → MayGoOn h es
+    may_go_on h es p pre =
+        subst (λ l. IsPrefix (l ++ es) (script m h.start.fram (drop h.since readings)).effects) (sym p.none)
+        (subst (λ x. IsPrefix es (script m x.fram (drop h.since readings)).effects) (sym p.start)
+        (subst (λ n. IsPrefix es (script m h.world.fram (drop n readings)).effects) (sym p.since) pre))
+
+    -- from a point on, the script cut anywhere
+    pub point_part : (h : History) (es : List Effect) → Point h → IsPrefix es (script_at h).effects → Cut h (observe m.gate es h)
+    point_part h es p pre =
+        let go = may_go_on h es p pre in
+        ⊎_elim
+        (λ u. attempt_part u.state h es _ _ u.reached u.settled u.undecided p (owed h u) (subst (λ q. IsPrefix es q.effects) (script_u h u) pre) go)
+        (λ d.
+        let k = commit_part d.state d.next h d.reached d.decided d.transits es d.holds (subst (λ q. IsPrefix es q.effects) (script_d h d) pre)
+        (point_lawful h p).world go in
+        record { lawful = k.lawful; spans = stayed_spans h _ k d.decided })
+        (phase_of h p.stands)
+
+    -- and the whole script
+    pub point_whole : (h : History) → Point h → (script_at h).ends ≡ true → Next h (observe m.gate (script_at h).effects h)
+    point_whole h p e =
+        ⊎_elim
+        (λ u.
+        let is = script_u h u in
+        subst (λ q. Next h (observe m.gate q.effects h)) (sym is) (attempt_whole u.state h _ _ u.reached u.settled u.undecided p (owed h u)
+        (subst (λ q. q.ends ≡ true) is e)))
+        (λ d.
+        let w = commit_whole d.state d.next h d.reached d.decided d.transits d.holds in
+        let n : Next h (observe m.gate (m.commit h.world.fram) h) = record {
+          point = w.point;
+          done = done_of h _;
+          completed = w.completed;
+          undecided = w.undecided;
+          span = λ z. absurd (cc (d.decided, z));
+        } in
+        subst (λ q. Next h (observe m.gate q.effects h)) (sym (script_d h d)) n)
+        (phase_of h p.stands)
+
+    -- a whole script makes something
+    pub point_some : (h : History) → Point h → (script_at h).ends ≡ true → (script_at h).effects ≡ [] → ⊥
+    point_some h p e none =
+        let n = point_whole h p e in
+        let same : h.completed ≡ h.completed ++ n.done ∷ [] = ap (λ l. (observe m.gate l h).completed) (sym none) ∙ n.completed in
+        no_longer h.completed n.done same
+      where
+        no_longer : (ds : List Done) (d : Done) → ds ≡ ds ++ d ∷ [] → ⊥
+        no_longer [] d q = cc q
+        no_longer (a ∷ ds) d q = no_longer ds d (cc q)
+
+    -- where the script doesn't come to its end, the source is short
+    pub record EndsShort (h : History) : Type 0 where
+      pub stands : StandsFor m readings origin h
+      pub undecided : h.decided ≡ false
+      pub short : m.task stands.state (drop h.since readings) ≡ Short
+
+    short_by : (h : History) (u : AtUndecided h) (a : Outcome St) → Point h → m.task u.state (drop h.taken readings) ≡ a
+        → AttemptContract m u.state (drop h.taken readings) h.world a (m.attempt h.world.fram (drop h.taken readings))
+        → (m.attempt h.world.fram (drop h.taken readings)).ends ≡ false
+        → EndsShort (observe m.gate (with_commit m h.world.fram (m.attempt h.world.fram (drop h.taken readings))).effects h)
+    short_by h u (Ends next left) p e c lacking = absurd (cc (ap (λ q. q.ends) c.is, lacking))
+    short_by h u Short p e c lacking =
+        let r = m.attempt h.world.fram (drop h.taken readings) in
+        let k : EndsShort (with_effects r.effects h) =
+        record {
+          stands = record {
+            state = u.state;
+            reached = u.reached;
+            phase = UndecidedPhase u.undecided u.settled (holds_end (m.Undecided u.state) r.effects h.world c.undecided);
+          };
+          undecided = u.undecided;
+          short = ap (λ n. m.task u.state (drop n readings)) p.since ∙ e;
+        } in
+        let is : observe m.gate (with_commit m h.world.fram r).effects h ≡ with_effects r.effects h = ap (λ l. observe m.gate l h)
+        (short_effects u.state h.world.fram h.world r c) ∙ observe_quiet m.gate r.effects h c.elsewhere in
+        subst EndsShort (sym is) k
+
+    pub point_short : (h : History) → Point h → (script_at h).ends ≡ false → EndsShort (observe m.gate (script_at h).effects h)
+    point_short h p lacking =
+        ⊎_elim
+        (λ u.
+        let is = script_u h u in
+        subst (λ q. EndsShort (observe m.gate q.effects h)) (sym is) (short_by h u _ p refl (owed h u) (subst (λ q. q.ends ≡ false) is lacking)))
+        (λ d. absurd (cc (ap (λ q. q.ends) (script_d h d), lacking)))
+        (phase_of h p.stands)
+
+    -- a boot
+    pub booted : (h : History) → StandsFor m readings origin h → Point (behind_boot h)
+    booted h st = record { stands = record { state = st.state; reached = st.reached; phase = same st.phase }; since = refl; start = refl; none = refl }
+      where
+        same : Phase m readings origin st.state h → Phase m readings origin st.state (behind_boot h)
+        same (UndecidedPhase d k u) = UndecidedPhase d k u
+        same (DecidedPhase next d t u) = DecidedPhase next d t u

@@ -1,0 +1,110 @@
+-- Prefixes of effects, worlds behind them, and positions of readings.
+use Rattle.std.proofs.Common.{◌≡◌, ℕ, ◌+◌, ◌-◌, List, [], ◌∷◌, ◌++◌, length, take, drop, refl, sym, ap, ◌∙◌, subst, ⊎_elim, inl, inr, ◌⊎◌, arith, append-nil}
+use Rattle.std.proofs.Math.Seq.{take-append_seam, drop-append_seam}
+use Rattle.std.proofs.lemmas.List.{drop-drop}
+use Rattle.std.specs.List.{slice_range}
+use Rattle.fram_board.specs.Effects.{Effect, Store, Take, Send}
+use Rattle.machine_effects.specs.World.{World, world_after_one, world_after, fram_after_one, fram_after, readings_taken, IsPrefix, EachStore}
+use Rattle.crash_rules.specs.Model.{HoldsThroughout}
+
+-- the world behind two parts
+pub world_after-append : (es fs : List Effect) (x : World) → world_after (es ++ fs) x ≡ world_after fs (world_after es x)
+world_after-append [] fs x = refl
+world_after-append (e ∷ es) fs x = world_after-append es fs (world_after_one e x)
+
+-- FRAM behind two parts
+pub fram_after-append : (es fs : List Effect) (f : ℕ → ℕ) → fram_after (es ++ fs) f ≡ fram_after fs (fram_after es f)
+fram_after-append [] fs f = refl
+fram_after-append (e ∷ es) fs f = fram_after-append es fs (fram_after_one e f)
+
+one_fram : (e : Effect) (x : World) → (world_after_one e x).fram ≡ fram_after_one e x.fram
+one_fram (Store a w) x = refl
+one_fram (Take w) x = refl
+one_fram (Send n w) x = refl
+
+-- FRAM of the world behind effects
+pub world_fram : (es : List Effect) (x : World) → (world_after es x).fram ≡ fram_after es x.fram
+world_fram [] x = refl
+world_fram (e ∷ es) x = world_fram es (world_after_one e x) ∙ ap (fram_after es) (one_fram e x)
+
+-- the readings that two parts take
+pub readings_taken-append : (es fs : List Effect) → readings_taken (es ++ fs) ≡ readings_taken es ++ readings_taken fs
+readings_taken-append [] fs = refl
+readings_taken-append (Store a w ∷ es) fs = readings_taken-append es fs
+readings_taken-append (Take w ∷ es) fs = ap (λ l. w ∷ l) (readings_taken-append es fs)
+readings_taken-append (Send n w ∷ es) fs = readings_taken-append es fs
+
+-- a fact of each store, of the first part
+pub each_front : (P : ℕ → ℕ → Type 0) (es fs : List Effect) → EachStore P (es ++ fs) → EachStore P es
+each_front P [] fs h = tt
+each_front P (e ∷ es) fs h = (h.0, each_front P es fs h.1)
+
+-- and of both
+pub each_both : (P : ℕ → ℕ → Type 0) (es fs : List Effect) → EachStore P es → EachStore P fs → EachStore P (es ++ fs)
+each_both P [] fs a b = b
+each_both P (e ∷ es) fs a b = (a.0, each_both P es fs a.1 b)
+
+-- a fact of each store, of a prefix
+pub each_prefix : (P : ℕ → ℕ → Type 0) (es all : List Effect) → IsPrefix es all → EachStore P all → EachStore P es
+each_prefix P es all p h = each_front P es p.rest (subst (EachStore P) (sym p.joins) h)
+
+-- what holds throughout holds behind the first part
+pub holds_front : (P : World → Type 0) (es fs : List Effect) (x : World) → HoldsThroughout P (es ++ fs) x → P (world_after es x)
+holds_front P [] [] x h = h
+holds_front P [] (e ∷ fs) x h = h.0
+holds_front P (e ∷ es) fs x h = holds_front P es fs (world_after_one e x) h.1
+
+-- behind a prefix
+pub holds_prefix : (P : World → Type 0) (es all : List Effect) (x : World) → IsPrefix es all → HoldsThroughout P all x → P (world_after es x)
+holds_prefix P es all x p h = holds_front P es p.rest x (subst (λ l. HoldsThroughout P l x) (sym p.joins) h)
+
+-- and behind all
+pub holds_end : (P : World → Type 0) (es : List Effect) (x : World) → HoldsThroughout P es x → P (world_after es x)
+holds_end P es x h = holds_prefix P es es x (record { rest = []; joins = append-nil es }) h
+
+-- what holds throughout two parts holds throughout both
+pub holds-append : (P : World → Type 0) (es fs : List Effect) (x : World) → HoldsThroughout P es x → HoldsThroughout P fs (world_after es x)
+    → HoldsThroughout P (es ++ fs) x
+holds-append P [] fs x a b = b
+holds-append P (e ∷ es) fs x a b = (a.0, holds-append P es fs (world_after_one e x) a.1 b)
+
+-- a prefix of two parts ends in the first one or in the second
+pub prefix_cases : (es a b : List Effect) → IsPrefix es (a ++ b) → (IsPrefix es a) ⊎ ((fs : List Effect) × (es ≡ a ++ fs) × IsPrefix fs b)
+prefix_cases es [] b p = inr (es, refl, p)
+prefix_cases [] (x ∷ a) b p = inl (record { rest = x ∷ a; joins = refl })
+prefix_cases (e ∷ es) (x ∷ a) b p =
+    let h : e ≡ x = cc p.joins in
+    let t : es ++ p.rest ≡ a ++ b = cc p.joins in
+    ⊎_elim
+    (λ q. inl (record { rest = q.rest; joins = ap (λ y. y ∷ (es ++ q.rest)) h ∙ ap (λ l. x ∷ l) q.joins }))
+    (λ q. inr (q.0, ap (λ y. y ∷ es) h ∙ ap (λ l. x ∷ l) q.1, q.2))
+    (prefix_cases es a b (record { rest = p.rest; joins = t }))
+
+-- a prefix of one effect is none or all of it
+pub prefix_one : (es : List Effect) (e : Effect) → IsPrefix es (e ∷ []) → (es ≡ []) ⊎ (es ≡ e ∷ [])
+prefix_one [] e p = inl refl
+prefix_one (x ∷ []) e p = let h : x ≡ e = cc p.joins in inr (ap (λ y. y ∷ []) h)
+prefix_one (x ∷ (y ∷ es)) e p = cc p.joins
+
+-- nothing is a prefix of all
+pub nothing_first : (all : List Effect) → IsPrefix [] all
+nothing_first all = record { rest = all; joins = refl }
+
+-- a list is a prefix of itself
+pub all_first : (all : List Effect) → IsPrefix all all
+all_first all = record { rest = []; joins = append-nil all }
+
+-- two lists that make nothing are empty
+pub back_nil : (es fs : List Effect) → es ++ fs ≡ [] → fs ≡ []
+back_nil [] fs h = h
+back_nil (e ∷ es) fs h = cc h
+
+-- readings from a position on that begin with these are these up to their end
+pub range_of : (readings pre left : List ℕ) (from to : ℕ) → pre ++ left ≡ drop from readings → to ≡ from + length pre → slice_range readings from to ≡ pre
+range_of readings pre left from to e t =
+    let n : to - from ≡ length pre = omega (arith, t) in
+    ap (λ k. take k (drop from readings)) n ∙ ap (take (length pre)) (sym e) ∙ take-append_seam pre left
+
+-- the readings behind those taken
+pub drop_more : (readings pre left : List ℕ) (from : ℕ) → pre ++ left ≡ drop from readings → left ≡ drop (from + length pre) readings
+drop_more readings pre left from e = sym (drop-append_seam pre left) ∙ ap (drop (length pre)) e ∙ drop-drop (length pre) from readings

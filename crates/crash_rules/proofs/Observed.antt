@@ -1,0 +1,118 @@
+-- What effects make of a history.
+use Rattle.std.proofs.Common.{◌≡◌, ℕ, zero, suc, ◌+◌, ◌≤◌, List, [], ◌∷◌, ◌++◌, length, refl, sym, ap, ap₂, ◌∙◌, arith, true, false, cond, ne_eqb, eq-eqb, append_assoc, append-nil, length-append}
+use Rattle.std.specs.Prelude.{◌&&◌, not}
+use Rattle.fram_board.specs.Effects.{Effect, Store, Take, Send}
+use Rattle.machine_effects.specs.World.{World, put, world_after_one, world_after, readings_taken, OfStore, EachStore}
+use Rattle.crash_rules.specs.Model.{IsElsewhere}
+use Rattle.crash_rules.specs.History.{History, is_decide, is_done, with_effect, behind_decide, behind_done, behind_gate, observe_one, observe}
+
+-- a function at the address where it was put, and elsewhere
+pub put_same : (f : ℕ → ℕ) (a w : ℕ) → put f a w a ≡ w
+put_same f a w = ap (λ b. cond b w (f a)) (eq-eqb a a refl)
+
+pub put_other : (f : ℕ → ℕ) (a w x : ℕ) → (x ≡ a → ⊥) → put f a w x ≡ f x
+put_other f a w x ne = ap (λ b. cond b w (f x)) (ne_eqb x a ne)
+
+-- the history behind two parts
+pub observe-append : (gate : ℕ) (es fs : List Effect) (h : History) → observe gate (es ++ fs) h ≡ observe gate fs (observe gate es h)
+observe-append gate [] fs h = refl
+observe-append gate (e ∷ es) fs h = observe-append gate es fs (observe_one gate e h)
+
+-- a history with these effects, but for their events
+abbrev pub with_effects : List Effect → History → History
+with_effects es h = record h { world = world_after es h.world; taken = h.taken + length (readings_taken es); effects = h.effects ++ es }
+
+-- a GATE that stays makes no event
+pub not_done : (v : ℕ) → is_done v v ≡ false
+not_done zero = refl
+not_done (suc zero) = refl
+not_done (suc (suc n)) = ap₂ (λ p q. p && q) (ne_eqb (suc (suc n)) 0 (λ e. omega (arith, e))) (ne_eqb (suc (suc n)) 1 (λ e. omega (arith, e)))
+
+pub not_decide : (v : ℕ) → is_decide v v ≡ false
+not_decide zero = refl
+not_decide (suc zero) = refl
+not_decide (suc (suc n)) = ap (λ q. q && not q) (ne_eqb (suc (suc n)) 1 (λ e. omega (arith, e)))
+
+unchanged : (v : ℕ) (h : History) → behind_gate v v h ≡ h
+unchanged v h = ap₂ (λ p q. cond p (behind_done h) (cond q (behind_decide h) h)) (not_done v) (not_decide v)
+
+same_gate : (gate : ℕ) (e : Effect) (x : World) → OfStore (IsElsewhere gate) e → (world_after_one e x).fram gate ≡ x.fram gate
+same_gate gate (Store a w) x h = put_other x.fram a w gate (λ q. h (sym q))
+same_gate gate (Take w) x h = refl
+same_gate gate (Send n w) x h = refl
+
+observe_one_quiet : (gate : ℕ) (e : Effect) (h : History) → OfStore (IsElsewhere gate) e → observe_one gate e h ≡ with_effect e h
+observe_one_quiet gate e h q = ap (λ n. behind_gate (h.world.fram gate) n (with_effect e h)) (same_gate gate e h.world q)
+    ∙ unchanged (h.world.fram gate) (with_effect e h)
+
+count_more : (e : Effect) (es : List Effect) (n : ℕ)
+    → (n + length (readings_taken (e ∷ []))) + length (readings_taken es) ≡ n + length (readings_taken (e ∷ es))
+count_more (Store a w) es n = omega arith
+count_more (Take w) es n = omega arith
+count_more (Send k w) es n = omega arith
+
+joined : (e : Effect) (es : List Effect) (h : History) → with_effects es (with_effect e h) ≡ with_effects (e ∷ es) h
+joined e es h = ap₂ (λ t l. record h { world = world_after (e ∷ es) h.world; taken = t; effects = l }) (count_more e es h.taken)
+    (append_assoc h.effects (e ∷ []) es)
+
+none_seen : (h : History) → h ≡ with_effects [] h
+none_seen h =
+    let t : h.taken ≡ h.taken + length (readings_taken []) = omega arith in
+    ap₂ (λ t l. record h { taken = t; effects = l }) t (sym (append-nil h.effects))
+
+-- effects that store nothing to GATE are no events
+pub observe_quiet : (gate : ℕ) (es : List Effect) (h : History) → EachStore (IsElsewhere gate) es → observe gate es h ≡ with_effects es h
+observe_quiet gate [] h q = none_seen h
+observe_quiet gate (e ∷ es) h q = ap (observe gate es) (observe_one_quiet gate e h q.0) ∙ observe_quiet gate es (with_effect e h) q.1 ∙ joined e es h
+
+-- the store of 0 to a GATE of 1
+pub observe_done : (gate : ℕ) (h : History) → h.world.fram gate ≡ 1 → observe_one gate (Store gate 0) h ≡ behind_done (with_effect (Store gate 0) h)
+observe_done gate h e = ap₂ (λ b n. behind_gate b n (with_effect (Store gate 0) h)) e (put_same h.world.fram gate 0)
+
+-- the store of 1 to a GATE of 0
+pub observe_decide : (gate : ℕ) (h : History) → h.world.fram gate ≡ 0 → observe_one gate (Store gate 1) h ≡ behind_decide (with_effect (Store gate 1) h)
+observe_decide gate h e = ap₂ (λ b n. behind_gate b n (with_effect (Store gate 1) h)) e (put_same h.world.fram gate 1)
+
+-- dones are never taken back
+gate_grows : (before now : ℕ) (h : History) → length h.completed ≤ length (behind_gate before now h).completed
+gate_grows before now h =
+    let more = length-append h.completed (record { span_from = h.span_from; span_to = h.span_to; world = h.world } ∷ []) in
+    elim (is_done before now) as (λ b. length h.completed ≤ length (cond b (behind_done h) (cond (is_decide before now) (behind_decide h) h)).completed) [
+      | true ↦ omega (arith, more)
+      | false ↦ elim (is_decide before now) as (λ b. length h.completed ≤ length
+          (cond b (behind_decide h) h).completed) [ true ↦ omega arith | false ↦ omega arith ]
+    ]
+
+pub dones_grow : (gate : ℕ) (es : List Effect) (h : History) → length h.completed ≤ length (observe gate es h).completed
+dones_grow gate [] h = omega arith
+dones_grow gate (e ∷ es) h =
+    let a = gate_grows (h.world.fram gate) ((world_after_one e h.world).fram gate) (with_effect e h) in
+    let b = dones_grow gate es (observe_one gate e h) in omega (arith, a, b)
+
+taken_gate : (before now : ℕ) (h : History) → (behind_gate before now h).taken ≡ h.taken
+taken_gate before now h =
+    elim (is_done before now) as (λ b. (cond b (behind_done h) (cond (is_decide before now) (behind_decide h) h)).taken ≡ h.taken) [
+      | true ↦ refl
+      | false ↦ elim (is_decide before now) as (λ b. (cond b (behind_decide h) h).taken ≡ h.taken) [ true ↦ refl | false ↦ refl ]
+    ]
+
+world_gate : (before now : ℕ) (h : History) → (behind_gate before now h).world ≡ h.world
+world_gate before now h =
+    elim (is_done before now) as (λ b. (cond b (behind_done h) (cond (is_decide before now) (behind_decide h) h)).world ≡ h.world) [
+      | true ↦ refl
+      | false ↦ elim (is_decide before now) as (λ b. (cond b (behind_decide h) h).world ≡ h.world) [ true ↦ refl | false ↦ refl ]
+    ]
+
+-- every reading taken is counted
+pub observed_taken : (gate : ℕ) (es : List Effect) (h : History) → (observe gate es h).taken ≡ h.taken + length (readings_taken es)
+observed_taken gate [] h = omega arith
+observed_taken gate (e ∷ es) h =
+    let a = observed_taken gate es (observe_one gate e h) in
+    let b = taken_gate (h.world.fram gate) ((world_after_one e h.world).fram gate) (with_effect e h) in
+    let c = count_more e es h.taken in a ∙ ap (λ n. n + length (readings_taken es)) b ∙ c
+
+-- the world is what the effects make of it
+pub observed_world : (gate : ℕ) (es : List Effect) (h : History) → (observe gate es h).world ≡ world_after es h.world
+observed_world gate [] h = refl
+observed_world gate (e ∷ es) h = observed_world gate es (observe_one gate e h)
+    ∙ ap (world_after es) (world_gate (h.world.fram gate) ((world_after_one e h.world).fram gate) (with_effect e h))

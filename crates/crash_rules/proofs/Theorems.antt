@@ -1,0 +1,130 @@
+-- The laws of runs that are cut anywhere.
+use Rattle.std.proofs.Common.{◌≡◌, ℕ, suc, List, [], ◌∷◌, refl, sym, ap, ◌==◌, ◌∙◌, subst, arith, false, All}
+use Rattle.machine_effects.specs.World.{World}
+use Rattle.machine_effects.specs.Going.{going}
+use Rattle.machine_effects.specs.Machine.{MachineBoard}
+use Rattle.crash_rules.specs.Model.{Model, ModelLaws, IsWord}
+use Rattle.crash_rules.specs.History.{History, observe, behind_boot, first_history}
+use Rattle.crash_rules.specs.Runs.{Program, ProgramLaws, Charge, Charged}
+use Rattle.crash_rules.specs.Laws.{Origin, Resting, Phase, UndecidedPhase, DecidedPhase, StandsFor, IsLawful, Matches, Begins, AcceptedWords, AreConsecutive, CrashTheorem, StopsShort, NeverLost, SentOnce, SpansFollow, ProgressLaw, StoresOnly, RunsMayBegin}
+use Rattle.crash_rules.proofs.Lists.{nothing_first}
+use Rattle.crash_rules.proofs.Cuts.{booted}
+use Rattle.crash_rules.proofs.Plays.{AtPoint, plays_from, lawful_from, matches_more, charge_spans, charge_stores, halted_from}
+use Rattle.crash_rules.proofs.Progress.{counts_from}
+use Rattle.crash_rules.proofs.Steps.{changed}
+
+module _ {St : Type 0} (m : Model St) (c : Program) (laws : ModelLaws m) (code : ProgramLaws m c) (readings : List ℕ) (words : All IsWord readings)
+    (origin : Origin St) where
+  -- a power-up
+  powered_matches : (s p : MachineBoard) (h : History) → Matches readings s h → p.fram ≡ s.fram → p.readings_left ≡ s.readings_left
+      → Matches readings p (behind_boot h)
+  powered_matches s p h mt f l = record { fram = f ∙ mt.fram; readings_left = l ∙ mt.readings_left }
+
+  boot_point : (h : History) → IsLawful m readings origin h → AtPoint m laws c code readings words origin (behind_boot h)
+  boot_point h l = booted m laws readings words origin h l.stands
+
+  -- charges keep what holds
+  charged_on : (charges : List Charge) (s t : MachineBoard) (h k : History) → Matches readings s h → IsLawful m readings origin h
+      → Charged c m.gate s h charges t k → IsLawful m readings origin k × Matches readings t k
+  charged_on [] s t h k mt l run = (
+    subst (IsLawful m readings origin) (sym run.1) l,
+    subst (λ b. Matches readings b k) (sym run.0)
+        (subst (Matches readings s) (sym run.1) mt),
+  )
+  charged_on (e ∷ es) s t h k mt l run =
+      let p = e.powered in
+      let q = run.3.0 in
+      let mt2 = powered_matches s p h mt run.1 run.2 in
+      let en = code.enters p run.0 in
+      let pt = boot_point h l in
+      let made = (going c.step e.steps p).effects in
+      charged_on es q t (observe m.gate made (behind_boot h)) k
+      (matches_more m laws c code readings words origin p q (behind_boot h) made mt2 (changed c.step code.changes e.steps p q run.3.1))
+      (lawful_from m laws c code readings words origin e.steps (behind_boot h) p en mt2 pt) run.3.2
+
+  begun : (x : World) (s : MachineBoard) → Begins m readings origin x s
+      → IsLawful m readings origin (first_history m.gate x) × Matches readings s (first_history m.gate x)
+  begun x s b = (record { world = refl; stands = b.stands; follows = nothing_first _ }, record { fram = b.fram; readings_left = b.readings_left })
+
+  -- a charge behind charges
+  record Ready (t p : MachineBoard) (h : History) : Type 0 where
+    entry : c.AtEntry p
+    matches : Matches readings p (behind_boot h)
+    point : AtPoint m laws c code readings words origin (behind_boot h)
+
+  ready : (x : World) (s : MachineBoard) → Begins m readings origin x s → (charges : List Charge) (t : MachineBoard) (h : History)
+      → Charged c m.gate s (first_history m.gate x) charges t h → (p : MachineBoard) → c.IsPoweredUp p → p.fram ≡ t.fram
+      → p.readings_left ≡ t.readings_left → Ready t p h
+  ready x s b charges t h run p up f l =
+      let start = begun x s b in
+      let k = charged_on charges s t (first_history m.gate x) h start.1 start.0 run in
+      record { entry = code.enters p up; matches = powered_matches t p h k.1 f l; point = boot_point h k.0 }
+
+pub crash_theorem : {St : Type 0} (m : Model St) (c : Program) → CrashTheorem m c
+crash_theorem m c laws code readings origin x s b charges t h run =
+    let start = begun m c laws code readings b.words origin x s b in
+    charged_on m c laws code readings b.words origin charges s t (first_history m.gate x) h start.1 start.0 run
+
+pub stops_short : {St : Type 0} (m : Model St) (c : Program) → StopsShort m c
+stops_short m c laws code readings origin x s b charges t h run p up f l n price e halted =
+    let r = ready m c laws code readings b.words origin x s b charges t h run p up f l in
+    let k = halted_from m laws c code readings b.words origin (suc n) n (behind_boot h) p price e (omega arith) r.entry r.matches r.point halted in
+    (k.reading, (k.short.stands, k.short.undecided, k.short.short))
+
+pub never_lost : {St : Type 0} (m : Model St) → NeverLost m
+never_lost {St} m laws readings origin h l d = by_phase l.stands.state l.stands.phase
+  where
+    by_phase : (s : St) → Phase m readings origin s h → (h.world.fram m.gate ≡ 1) × ((s : St) → m.Undecided s h.world → ⊥)
+    by_phase s (UndecidedPhase u k w) = absurd (cc (u, d))
+    by_phase s (DecidedPhase next e t w) =
+        let one = laws.decided_gate s next h.world w in
+        (one, λ z u. let none = laws.undecided_gate z h.world u in omega (arith, one, none))
+
+pub sent_once : {St : Type 0} (m : Model St) → SentOnce m
+sent_once {St} m laws readings origin h stands = by_phase stands.state stands.phase
+  where
+    by_phase : (s : St) → Phase m readings origin s h → AcceptedWords m readings origin h s h.decided
+    by_phase s (UndecidedPhase u k w) = subst (AcceptedWords m readings origin h s) (sym u) (laws.undecided_words s h.world w)
+    by_phase s (DecidedPhase next e t w) = subst (AcceptedWords m readings origin h s) (sym e) (next, t, laws.decided_words s next h.world w)
+
+first_undecided : {St : Type 0} (m : Model St) → ModelLaws m → (readings : List ℕ) (s0 : St) (x : World)
+    → StandsFor m readings (Resting s0) (first_history m.gate x) → m.Undecided s0 x → (first_history m.gate x).decided ≡ false
+first_undecided {St} m laws readings s0 x st u = by_phase st.state st.phase
+  where
+    by_phase : (s : St) → Phase m readings (Resting s0) s (first_history m.gate x) → (first_history m.gate x).decided ≡ false
+    by_phase s (UndecidedPhase d k w) = d
+    by_phase s (DecidedPhase next e t w) =
+        let one = laws.decided_gate s next x w in
+        let none = laws.undecided_gate s0 x u in absurd (omega (arith, one, none))
+
+pub spans_follow : {St : Type 0} (m : Model St) (c : Program) → SpansFollow m c
+spans_follow m c laws code readings s0 x s b u e t h run =
+    let h0 = first_history m.gate x in
+    let start = begun m c laws code readings b.words (Resting s0) x s b in
+    let p = e.powered in
+    let mt = powered_matches m c laws code readings b.words (Resting s0) s p h0 start.1 run.1 run.2 in
+    let pt = boot_point m c laws code readings b.words (Resting s0) h0 start.0 in
+    let ce = plays_from m laws c code readings b.words (Resting s0) (suc e.steps) e.steps (behind_boot h0) p (omega arith) (code.enters p run.0) mt pt in
+    let d = first_undecided m laws readings s0 x b.stands u in
+    let sp = charge_spans m laws c code readings b.words (Resting s0) p.fram p.readings_left _ ce (behind_boot h0) mt.fram mt.readings_left pt d in
+    let is : h ≡ observe m.gate (going c.step e.steps p).effects (behind_boot h0) = run.3.2.1 in
+    subst (λ k. AreConsecutive 0 k.completed k.since) (sym is)
+    (subst (λ ds. AreConsecutive 0 ds (observe m.gate (going c.step e.steps p).effects (behind_boot h0)).since) (sym sp.completed) (sp.follow d))
+
+pub progress_law : {St : Type 0} (m : Model St) (c : Program) → ProgressLaw m c
+progress_law m c laws code readings origin x s b charges t h run p q up f l n amount steps most sp =
+    let r = ready m c laws code readings b.words origin x s b charges t h run p up f l in
+    counts_from m laws c code readings b.words origin n amount steps (behind_boot h) p q r.entry r.matches r.point most sp
+
+pub stores_only : {St : Type 0} (m : Model St) (c : Program) (P : ℕ → ℕ → Type 0) → StoresOnly m c P
+stores_only m c P laws code attempts commits readings origin x s b charges t h run p up f l n =
+    let r = ready m c laws code readings b.words origin x s b charges t h run p up f l in
+    charge_stores m laws c code readings b.words origin P attempts commits p.fram p.readings_left _
+    (plays_from m laws c code readings b.words origin (suc n) n (behind_boot h) p (omega arith) r.entry r.matches r.point)
+    (behind_boot h) r.matches.fram r.matches.readings_left r.point
+
+pub runs_may_begin : {St : Type 0} (m : Model St) → RunsMayBegin m
+runs_may_begin m laws readings = record {
+  resting = λ s x u. record { state = s; reached = refl; phase = UndecidedPhase (ap (λ n. n == 1) (laws.undecided_gate s x u)) tt u };
+  pending = λ s next x d. record { state = s; reached = refl; phase = DecidedPhase next (ap (λ n. n == 1) (laws.decided_gate s next x d)) (refl, refl) d };
+}

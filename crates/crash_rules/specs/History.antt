@@ -1,0 +1,133 @@
+-- What is read off the effects of a run. Its events are those of the board's runs: a boot is a power-up; a decide is a write after
+-- which GATE is 1 and before which it wasn't; a done is one after which GATE is 0 and before which it was 1. Positions count the
+-- readings taken.
+use Rattle.std.specs.Prelude.{◌≡◌, ℕ, ◌+◌, ◌≤◌, ◌==◌, ◌&&◌, Bool, true, false, not, if◌then◌else◌, List, [], ◌∷◌, ◌++◌, length, map}
+use Rattle.std.specs.List.{slice_range}
+use Rattle.fram_board.specs.Board.{BoardValue, BoardOutcome}
+use Rattle.fram_board.specs.Effects.{Effect, effects_of}
+use Rattle.machine_effects.specs.World.{World, world_after_one, world_after, readings_taken}
+
+-- a done: the span of the decide before it, and FRAM and the accepted words behind it
+pub record Done : Type 0 where
+  pub span_from : ℕ
+  pub span_to : ℕ
+  pub world : World
+
+-- what is known of a run so far
+pub record History : Type 0 where
+  pub world : World  -- FRAM and the accepted words
+  pub taken : ℕ  -- how many readings were taken
+  pub since : ℕ  -- how many of them at the last boot or done
+  pub start : World  -- the world at the last boot or done
+  pub effects : List Effect  -- the effects since
+  pub span_from : ℕ  -- the span of the last decide: the readings taken between the last boot or done before it and the decide
+  pub span_to : ℕ
+  pub decided : Bool  -- whether no done came since the last decide
+  pub completed : List Done  -- the dones, in order
+
+-- GATE is 1 now and wasn't before
+abbrev pub is_decide : ℕ → ℕ → Bool
+is_decide before now = (now == 1) && not (before == 1)
+
+-- GATE is 0 now and was 1 before
+abbrev pub is_done : ℕ → ℕ → Bool
+is_done before now = (now == 0) && (before == 1)
+
+-- the history behind one effect, but for its event
+abbrev pub with_effect : Effect → History → History
+with_effect e h = record h {
+  world = world_after_one e h.world;
+  taken = h.taken + length (readings_taken (e ∷ []));
+  effects = h.effects ++ e ∷ [];
+}
+
+-- the history behind a decide
+abbrev pub behind_decide : History → History
+behind_decide h = record h { span_from = h.since; span_to = h.taken; decided = true }
+
+-- the history behind a done
+abbrev pub behind_done : History → History
+behind_done h = record h {
+  since = h.taken;
+  start = h.world;
+  effects = [];
+  decided = false;
+  completed = h.completed ++ record { span_from = h.span_from; span_to = h.span_to; world = h.world } ∷ [];
+}
+
+-- the history behind a change of GATE
+abbrev pub behind_gate : ℕ → ℕ → History → History
+behind_gate before now h = if is_done before now then behind_done h else if is_decide before now then behind_decide h else h
+
+-- the history behind one effect, where GATE is at this address
+abbrev pub observe_one : ℕ → Effect → History → History
+observe_one gate e h = behind_gate (h.world.fram gate) ((world_after_one e h.world).fram gate) (with_effect e h)
+
+-- the history behind effects, the first one first
+abbrev pub observe : ℕ → List Effect → History → History
+observe gate [] h = h
+observe gate (e ∷ es) h = observe gate es (observe_one gate e h)
+
+-- the history behind a boot
+abbrev pub behind_boot : History → History
+behind_boot h = record h { since = h.taken; start = h.world; effects = [] }
+
+-- the history of a run that begins with this world. Where GATE is 1 then, a transition is pending
+abbrev pub first_history : ℕ → World → History
+first_history gate x = record {
+  world = x;
+  taken = 0;
+  since = 0;
+  start = x;
+  effects = [];
+  span_from = 0;
+  span_to = 0;
+  decided = x.fram gate == 1;
+  completed = [];
+}
+
+-- the readings of the last decide
+abbrev pub decided_readings : List ℕ → History → List ℕ
+decided_readings readings h = slice_range readings h.span_from h.span_to
+
+-- the committed readings of a done
+abbrev pub done_readings : List ℕ → Done → List ℕ
+done_readings readings d = slice_range readings d.span_from d.span_to
+
+-- a span of readings
+pub record Span : Type 0 where
+  pub from : ℕ
+  pub to : ℕ
+
+-- the positions of a history: those at the last boot or done and of the last decide, and the spans of the dones
+pub record Positions : Type 0 where
+  pub since : ℕ
+  pub span_from : ℕ
+  pub span_to : ℕ
+  pub spans : List Span
+
+abbrev pub positions_of : History → Positions
+positions_of h = record {
+  since = h.since;
+  span_from = h.span_from;
+  span_to = h.span_to;
+  spans = map (λ d. record { from = d.span_from; to = d.span_to }) h.completed;
+}
+
+-- the positions behind an instruction, by GATE before and behind it, and by how many readings were taken behind it
+abbrev pub positions_behind : ℕ → ℕ → ℕ → Positions → Positions
+positions_behind before now taken p =
+    if is_done before now then record p { since = taken; spans = p.spans ++ record { from = p.span_from; to = p.span_to } ∷ [] }
+    else if is_decide before now then record p { span_from = p.since; span_to = taken }
+    else p
+
+-- the events of an instruction by its effects are those by GATE before and behind it: of its effects its takes come first, and it
+-- has one store at most. So a history by effects has the positions of one that compares GATE between boards
+pub record IsOneEvent (gate : ℕ) (b : BoardValue) (x : BoardOutcome) (h : History) : Type 0 where
+  pub positions : positions_of (observe gate (effects_of b x) h) ≡ positions_behind (h.world.fram gate)
+      ((world_after (effects_of b x) h.world).fram gate) x.board.taken (positions_of h)
+  pub taken : (observe gate (effects_of b x) h).taken ≡ x.board.taken
+
+abbrev pub EventsOfInstructions : Type 0
+EventsOfInstructions = (gate : ℕ) (b : BoardValue) (x : BoardOutcome) (h : History) → h.taken ≡ b.taken → b.taken ≤ x.board.taken
+    → x.board.taken ≤ length b.readings → IsOneEvent gate b x h

@@ -1,0 +1,149 @@
+-- What runs that are cut anywhere stand for, and the laws of them.
+use Rattle.std.specs.Prelude.{◌≡◌, ℕ, ◌+◌, ◌*◌, ◌≤◌, Bool, true, false, List, [], ◌∷◌, length, drop, All}
+use Rattle.msp_step.specs.declared.machine.Stop.{Stop}
+use Rattle.msp_step.specs.declared.machine.Stop.TheVariants as stop
+use Rattle.machine_effects.specs.World.{World, world_after, IsPrefix, EachStore}
+use Rattle.machine_effects.specs.Going.{Halted, going}
+use Rattle.machine_effects.specs.Machine.{MachineBoard}
+use Rattle.crash_rules.specs.Model.{Model, ModelLaws, Ends, Short, IsWord, IsBetween, bound, script}
+use Rattle.crash_rules.specs.History.{Done, History, observe, behind_boot, first_history, decided_readings, done_readings}
+use Rattle.crash_rules.specs.Runs.{Program, ProgramLaws, Charge, Charged, Spends}
+
+-- how a run begins: at a state, or with a transition that is still to be committed
+pub data Origin (St : Type 0) : Type 0 where
+  Resting : (state : St) → Origin St
+  Pending : (from to : St) → Origin St
+
+-- the source's run on these dones, from a state to a state: a whole task for each, which takes exactly the done's committed
+-- readings; behind the done the world rests at the task's state
+abbrev pub SourceRun : {St : Type 0} → Model St → List ℕ → St → List Done → St → Type 0
+SourceRun m readings s [] t = t ≡ s
+SourceRun {St} m readings s (d ∷ ds) t = (u : St) × (m.task s (done_readings readings d) ≡ Ends u []) × m.Rests u d.world × SourceRun m readings u ds t
+
+-- the state of the last done: that of the source's run; behind a pending transition, the run goes on from its state
+abbrev pub Reaches : {St : Type 0} → Model St → List ℕ → Origin St → List Done → St → Type 0
+Reaches m readings (Resting s) ds t = SourceRun m readings s ds t
+Reaches m readings (Pending s next) [] t = t ≡ s
+Reaches m readings (Pending s next) (d ∷ ds) t = m.Rests next d.world × SourceRun m readings next ds t
+
+-- nothing is pending any more
+abbrev pub IsSettled : {St : Type 0} → Origin St → List Done → Type 0
+IsSettled (Resting s) ds = Unit {0}
+IsSettled (Pending s next) [] = ⊥
+IsSettled (Pending s next) (d ∷ ds) = Unit {0}
+
+-- the transition to come leads from s to this next state: by the task on these readings, or because it is pending
+abbrev pub Transits : {St : Type 0} → Model St → Origin St → List Done → List ℕ → St → St → Type 0
+Transits m (Resting o) ds readings s next = m.task s readings ≡ Ends next []
+Transits m (Pending from to) [] readings s next = (s ≡ from) × (next ≡ to)
+Transits m (Pending from to) (d ∷ ds) readings s next = m.task s readings ≡ Ends next []
+
+-- the world is undecided at the state of the last done, or decided from it to what the task gives on the readings of the decide
+pub data Phase {St : Type 0} (m : Model St) (readings : List ℕ) (origin : Origin St) (s : St) (h : History) : Type 0 where
+  UndecidedPhase : h.decided ≡ false → IsSettled origin h.completed → m.Undecided s h.world → Phase m readings origin s h
+  DecidedPhase : (next : St) → h.decided ≡ true → Transits m origin h.completed (decided_readings readings h) s next → m.Decided s next h.world
+      → Phase m readings origin s h
+
+-- a history stands for a run of the source
+pub record StandsFor {St : Type 0} (m : Model St) (readings : List ℕ) (origin : Origin St) (h : History) : Type 0 where
+  pub state : St  -- the state of the last done
+  pub reached : Reaches m readings origin h.completed state
+  pub phase : Phase m readings origin state h
+
+-- the effects since the last boot or done are a prefix of the script there: the commit, or the start, the task on the readings
+-- from there on, and the commit
+abbrev pub FollowsScript : {St : Type 0} → Model St → List ℕ → History → Type 0
+FollowsScript m readings h = IsPrefix h.effects (script m h.start.fram (drop h.since readings)).effects
+
+-- what holds of each history of a run
+pub record IsLawful {St : Type 0} (m : Model St) (readings : List ℕ) (origin : Origin St) (h : History) : Type 0 where
+  pub world : h.world ≡ world_after h.effects h.start
+  pub stands : StandsFor m readings origin h
+  pub follows : FollowsScript m readings h
+
+-- a machine that holds what a history says
+pub record Matches (readings : List ℕ) (s : MachineBoard) (h : History) : Type 0 where
+  pub fram : s.fram ≡ h.world.fram
+  pub readings_left : s.readings_left ≡ drop h.taken readings
+
+-- a run may begin like this
+pub record Begins {St : Type 0} (m : Model St) (readings : List ℕ) (origin : Origin St) (x : World) (s : MachineBoard) : Type 0 where
+  pub fram : s.fram ≡ x.fram
+  pub readings_left : s.readings_left ≡ readings
+  pub words : All IsWord readings
+  pub stands : StandsFor m readings origin (first_history m.gate x)
+
+-- a run may begin with a world that is undecided at a state, and with one that is decided, whose transition is pending then
+pub record RunsBegin {St : Type 0} (m : Model St) (readings : List ℕ) : Type 0 where
+  pub resting : (s : St) (x : World) → m.Undecided s x → StandsFor m readings (Resting s) (first_history m.gate x)
+  pub pending : (s next : St) (x : World) → m.Decided s next x → StandsFor m readings (Pending s next) (first_history m.gate x)
+
+-- so it is with any readings
+abbrev pub RunsMayBegin : {St : Type 0} → Model St → Type 0
+RunsMayBegin m = ModelLaws m → (readings : List ℕ) → RunsBegin m readings
+
+-- a run of charges from the start of a run on, with its history
+abbrev pub RunsTo : {St : Type 0} → Model St → Program → World → MachineBoard → List Charge → MachineBoard → History → Type 0
+RunsTo m c x s charges t h = Charged c m.gate s (first_history m.gate x) charges t h
+
+-- after any charges, each cut behind any number of steps: the board stands for a run of the source, and the effects since the
+-- last boot or done follow the script
+abbrev pub CrashTheorem : {St : Type 0} → Model St → Program → Type 0
+CrashTheorem {St} m c = ModelLaws m → ProgramLaws m c → (readings : List ℕ) (origin : Origin St) (x : World) (s : MachineBoard) → Begins m readings origin x s
+    → (charges : List Charge) (t : MachineBoard) (h : History) → RunsTo m c x s charges t h → IsLawful m readings origin h × Matches readings t h
+
+-- a machine stops for want of a reading alone, and there the source is short too: at the state of the last done, on the readings
+-- from the last boot or done on
+abbrev pub StopsShort : {St : Type 0} → Model St → Program → Type 0
+StopsShort {St} m c = ModelLaws m → ProgramLaws m c → (readings : List ℕ) (origin : Origin St) (x : World) (s : MachineBoard) → Begins m readings origin x s
+    → (charges : List Charge) (t : MachineBoard) (h : History) → RunsTo m c x s charges t h
+    → (p : MachineBoard) → c.IsPoweredUp p → p.fram ≡ t.fram → p.readings_left ≡ t.readings_left
+    → (n price : ℕ) (e : Stop) → (going c.step n p).status ≡ Halted price e
+    → let k = observe m.gate (going c.step n p).effects (behind_boot h) in
+    (e ≡ stop.NoReading) × ((st : StandsFor m readings origin k) × (k.decided ≡ false) × (m.task st.state (drop k.since readings) ≡ Short))
+
+-- where a decide came and no done since, the world is decided, and undecided at no state, whatever boots stand between
+abbrev pub NeverLost : {St : Type 0} → Model St → Type 0
+NeverLost {St} m = ModelLaws m → (readings : List ℕ) (origin : Origin St) (h : History) → IsLawful m readings origin h → h.decided ≡ true
+    → (h.world.fram m.gate ≡ 1) × ((s : St) → m.Undecided s h.world → ⊥)
+
+-- the accepted words are those of the state of the last done; between a decide and its done, these with some of the task's words
+-- behind them
+abbrev pub AcceptedWords : {St : Type 0} → Model St → List ℕ → Origin St → History → St → Bool → Type 0
+AcceptedWords m readings origin h s false = h.world.accepted ≡ m.emitted s
+AcceptedWords {St} m readings origin h s true =
+    (next : St) × Transits m origin h.completed (decided_readings readings h) s next × IsBetween (m.emitted s) (m.emitted next) h.world.accepted
+
+-- words are accepted only between a decide and its done, each once
+abbrev pub SentOnce : {St : Type 0} → Model St → Type 0
+SentOnce {St} m = ModelLaws m → (readings : List ℕ) (origin : Origin St) (h : History) → (stands : StandsFor m readings origin h)
+    → AcceptedWords m readings origin h stands.state h.decided
+
+-- dones whose spans follow one another, from a position to another
+abbrev pub AreConsecutive : ℕ → List Done → ℕ → Type 0
+AreConsecutive from [] to = from ≡ to
+AreConsecutive from (d ∷ ds) to = (d.span_from ≡ from) × AreConsecutive d.span_to ds to
+
+-- in one charge the spans follow one another, from the first reading on
+abbrev pub SpansFollow : {St : Type 0} → Model St → Program → Type 0
+SpansFollow {St} m c = ModelLaws m → ProgramLaws m c → (readings : List ℕ) (s0 : St) (x : World) (s : MachineBoard) → Begins m readings (Resting s0) x s
+    → m.Undecided s0 x
+    → (e : Charge) (t : MachineBoard) (h : History) → RunsTo m c x s (e ∷ []) t h → AreConsecutive 0 h.completed h.since
+
+-- a charge of at least n bounds that is spent has at least n dones
+abbrev pub ProgressLaw : {St : Type 0} → Model St → Program → Type 0
+ProgressLaw {St} m c = ModelLaws m → ProgramLaws m c → (readings : List ℕ) (origin : Origin St) (x : World) (s : MachineBoard) → Begins m readings origin x s
+    → (charges : List Charge) (t : MachineBoard) (h : History) → RunsTo m c x s charges t h
+    → (p q : MachineBoard) → c.IsPoweredUp p → p.fram ≡ t.fram → p.readings_left ≡ t.readings_left
+    → (n amount steps : ℕ) → n * bound m ≤ amount → Spends c.step amount steps p q
+    → n + length h.completed ≤ length (observe m.gate (going c.step steps p).effects (behind_boot h)).completed
+
+-- where each attempt and each commit stores only so, a run does
+abbrev pub StoresOnly : {St : Type 0} → Model St → Program → (ℕ → ℕ → Type 0) → Type 0
+StoresOnly {St} m c P = ModelLaws m → ProgramLaws m c
+    → ((s : St) (x : World) (readings : List ℕ) → All IsWord readings → m.Undecided s x → EachStore P (m.attempt x.fram readings).effects)
+    → ((s next : St) (x : World) → m.Decided s next x → EachStore P (m.commit x.fram))
+    → (readings : List ℕ) (origin : Origin St) (x : World) (s : MachineBoard) → Begins m readings origin x s
+    → (charges : List Charge) (t : MachineBoard) (h : History) → RunsTo m c x s charges t h
+    → (p : MachineBoard) → c.IsPoweredUp p → p.fram ≡ t.fram → p.readings_left ≡ t.readings_left
+    → (n : ℕ) → EachStore P (going c.step n p).effects

@@ -1,0 +1,4 @@
+pub mod Model
+pub mod History
+pub mod Runs
+pub mod Laws

@@ -1,0 +1,120 @@
+-- What the crash theorem needs to know of a source, of its runtime and of what FRAM stands for: the model, and what each layer
+-- owes. Nothing here knows where anything is in FRAM.
+use Rattle.std.specs.Prelude.{◌≡◌, ◌≢◌, ℕ, zero, suc, ◌<◌, ◌==◌, if◌then◌else◌, nat_lt, Bool, true, false, List, [], ◌∷◌, ◌++◌, length, drop, All}
+use Rattle.fram_board.specs.Effects.{Effect, Store}
+use Rattle.machine_effects.specs.World.{World, world_after_one, world_after, fram_after, readings_taken, EachStore}
+
+-- how a whole task ends: in a state of the source, with readings left over, or for want of a reading
+pub data Outcome (St : Type 0) : Type 0 where
+  Ends : (state : St) → (left : List ℕ) → Outcome St
+  Short : Outcome St
+
+-- the effects of a program, and whether it comes to its end; if not, it wants a reading that isn't left
+pub record ProgramEffects : Type 0 where
+  pub effects : List Effect
+  pub ends : Bool
+
+-- a program's effects from their parts
+abbrev pub program_effects : List Effect → Bool → ProgramEffects
+program_effects es b = record { effects = es; ends = b }
+
+-- a fact of the world before each of these effects and behind the last one
+abbrev pub HoldsThroughout : (World → Type 0) → List Effect → World → Type 0
+HoldsThroughout P [] x = P x
+HoldsThroughout P (e ∷ es) x = P x × HoldsThroughout P es (world_after_one e x)
+
+-- the readings left behind effects
+abbrev pub readings_left : List Effect → List ℕ → List ℕ
+readings_left es readings = drop (length (readings_taken es)) readings
+
+-- a word is a number below 65536
+abbrev pub IsWord : ℕ → Type 0
+IsWord w = w < 0x10000
+
+-- a source with its runtime. St is what a state of the source is: its shared words, its current task and the words emitted so far
+pub record Model (St : Type 0) : Type 1 where
+  pub task : St → List ℕ → Outcome St  -- the state's current task, run whole on these readings
+  pub task_number : St → ℕ  -- the number of the current task
+  pub emitted : St → List ℕ  -- the words emitted so far
+  pub tasks : ℕ  -- how many tasks there are
+  pub task_cost : ℕ → ℕ  -- of each task the cycles of a boot, an attempt and its commit
+  pub gate : ℕ  -- the address of GATE
+  pub commit : (ℕ → ℕ) → List Effect  -- the commit, from FRAM
+  pub attempt : (ℕ → ℕ) → List ℕ → ProgramEffects  -- from FRAM and readings: the start and the task that CUR names, up to the store of 1 to GATE
+  pub Rests : St → World → Type 0  -- what a world that rests at a state is
+  pub Undecided : St → World → Type 0  -- one that is undecided at it
+  pub Decided : St → St → World → Type 0  -- one that is decided from a state to another
+
+-- the greatest of the costs of the first so many tasks
+abbrev pub greatest : (ℕ → ℕ) → ℕ → ℕ
+greatest cost zero = 0
+greatest cost (suc n) = if nat_lt (greatest cost n) (cost n) then cost n else greatest cost n
+
+-- the bound: the greatest of the tasks' costs
+abbrev pub bound : {St : Type 0} → Model St → ℕ
+bound m = greatest m.task_cost m.tasks
+
+-- an attempt, and the commit where it comes to its end
+abbrev pub with_commit : {St : Type 0} → Model St → (ℕ → ℕ) → ProgramEffects → ProgramEffects
+with_commit m f p = program_effects (p.effects ++ (if p.ends then m.commit (fram_after p.effects f) else [])) p.ends
+
+-- all that is to be done from a boot or a done on: the commit where GATE is 1; else an attempt and its commit
+abbrev pub script : {St : Type 0} → Model St → (ℕ → ℕ) → List ℕ → ProgramEffects
+script m f readings = if f m.gate == 1 then program_effects (m.commit f) true else with_commit m f (m.attempt f readings)
+
+-- the address of a store is another than this one
+abbrev pub IsElsewhere : ℕ → ℕ → ℕ → Type 0
+IsElsewhere address a w = a ≢ address
+
+-- an attempt that comes to a transition: its last effect stores 1 to GATE, which decides from s to the next state; up to there the
+-- world is undecided at s. It takes exactly the readings on which the task comes to the next state
+pub record Decides {St : Type 0} (m : Model St) (s next : St) (left readings : List ℕ) (x : World) (p : ProgramEffects) : Type 0 where
+  pub before : List Effect
+  pub is : p ≡ program_effects (before ++ Store m.gate 1 ∷ []) true
+  pub elsewhere : EachStore (IsElsewhere m.gate) before
+  pub reads : readings_taken before ++ left ≡ readings
+  pub undecided : HoldsThroughout (m.Undecided s) before x
+  pub decided : m.Decided s next (world_after_one (Store m.gate 1) (world_after before x))
+  pub exact : m.task s (readings_taken before) ≡ Ends next []
+
+-- an attempt that wants a reading too many: the world is undecided all along
+pub record RunsShort {St : Type 0} (m : Model St) (s : St) (x : World) (p : ProgramEffects) : Type 0 where
+  pub is : p.ends ≡ false
+  pub elsewhere : EachStore (IsElsewhere m.gate) p.effects
+  pub undecided : HoldsThroughout (m.Undecided s) p.effects x
+
+-- what an attempt owes, by the outcome of the task: it decides, or is short exactly where the task is
+abbrev pub AttemptContract : {St : Type 0} → Model St → St → List ℕ → World → Outcome St → ProgramEffects → Type 0
+AttemptContract m s readings x (Ends next left) p = Decides m s next left readings x p
+AttemptContract m s readings x Short p = RunsShort m s x p
+
+-- what a commit owes: its last effect stores 0 to GATE; up to there the world stays decided, and behind it rests at the new state.
+-- It takes no reading
+pub record CommitContract {St : Type 0} (m : Model St) (s next : St) (x : World) : Type 0 where
+  pub before : List Effect
+  pub is : m.commit x.fram ≡ before ++ Store m.gate 0 ∷ []
+  pub elsewhere : EachStore (IsElsewhere m.gate) before
+  pub takes_none : readings_taken before ≡ []
+  pub decided : HoldsThroughout (m.Decided s next) before x
+  pub rests : m.Rests next (world_after_one (Store m.gate 0) (world_after before x))
+
+-- accepted words between two lists: the first with more behind it, which the second has too
+pub record IsBetween (from to accepted : List ℕ) : Type 0 where
+  pub sent : List ℕ
+  pub unsent : List ℕ
+  pub accepted_is : accepted ≡ from ++ sent
+  pub to_is : to ≡ from ++ (sent ++ unsent)
+
+-- what the layers below owe
+pub record ModelLaws {St : Type 0} (m : Model St) : Type 0 where
+  pub rests_undecided : (s : St) (x : World) → m.Rests s x → m.Undecided s x
+  pub rests_words : (s : St) (x : World) → m.Rests s x → x.accepted ≡ m.emitted s
+  pub undecided_gate : (s : St) (x : World) → m.Undecided s x → x.fram m.gate ≡ 0
+  pub undecided_task : (s : St) (x : World) → m.Undecided s x → m.task_number s < m.tasks
+  pub undecided_words : (s : St) (x : World) → m.Undecided s x → x.accepted ≡ m.emitted s
+  pub decided_gate : (s next : St) (x : World) → m.Decided s next x → x.fram m.gate ≡ 1
+  pub decided_task : (s next : St) (x : World) → m.Decided s next x → m.task_number s < m.tasks
+  pub decided_words : (s next : St) (x : World) → m.Decided s next x → IsBetween (m.emitted s) (m.emitted next) x.accepted
+  pub commits : (s next : St) (x : World) → m.Decided s next x → CommitContract m s next x
+  pub attempts : (s : St) (x : World) (readings : List ℕ) → All IsWord readings → m.Undecided s x
+      → AttemptContract m s readings x (m.task s readings) (m.attempt x.fram readings)

@@ -1,0 +1,54 @@
+-- What commit, attempt start and boot do to FRAM and to the receiver, in the order of their stores, from what FRAM holds.
+use Rattle.std.specs.Prelude.{ℕ, zero, suc, ◌+◌, ◌%◌, ◌==◌, if◌then◌else◌, List, [], ◌∷◌, ◌++◌}
+use Rattle.fram_board.specs.Effects.{Effect, Store, Send}
+use Rattle.machine_effects.specs.World.{put, fram_after}
+use Rattle.runtime_effects.specs.Places.{RuntimePlaces, CopyPair, listed}
+
+-- copies go home, the first one first, each as FRAM then is
+abbrev pub copied_home : List CopyPair → (ℕ → ℕ) → List Effect
+copied_home [] f = []
+copied_home (x ∷ xs) f = Store x.home (f x.copy) ∷ copied_home xs (put f x.home (f x.copy))
+
+-- so many words from an address on are sent, numbered from a number on, modulo 65536
+abbrev pub sends : ℕ → ℕ → ℕ → (ℕ → ℕ) → List Effect
+sends zero number p f = []
+sends (suc n) number p f = Send number (f p) ∷ sends n ((number + 1) % 0x10000) (p + 2) f
+
+-- the emitted words, EN of them, numbered from SB on
+abbrev pub emits_sent : RuntimePlaces → (ℕ → ℕ) → List Effect
+emits_sent m f = sends (f m.words.emit_count) (f m.words.sent_base) m.emits f
+
+-- a commit's last stores: CUR := NEXT, BASE := SB + EN, GATE := 0
+abbrev pub commit_closed : RuntimePlaces → (ℕ → ℕ) → List Effect
+commit_closed m f =
+    Store m.words.current_task (f m.words.next_task) ∷ Store m.words.base ((f m.words.sent_base + f m.words.emit_count) % 0x10000) ∷ Store m.words.gate 0 ∷ []
+
+-- the commit: the listed words are copied home, the emitted words are sent, then the last stores
+abbrev pub commit_effects : RuntimePlaces → (ℕ → ℕ) → List Effect
+commit_effects m f = copied_home (listed m f) f ++ (emits_sent m f ++ commit_closed m f)
+
+-- so many words from an address on become 0
+abbrev pub cleared : ℕ → ℕ → List Effect
+cleared zero p = []
+cleared (suc n) p = Store p 0 ∷ cleared n (p + 2)
+
+-- an attempt's opening: every version word := 0, VER := 1, CLN := 0, EN := 0
+abbrev pub opening_effects : RuntimePlaces → (ℕ → ℕ) → List Effect
+opening_effects m f = cleared m.version_count m.versions ++ (Store m.words.version 1 ∷ Store m.words.list_length 0 ∷ Store m.words.emit_count 0 ∷ [])
+
+-- homes are copied, the first one first, each as FRAM then is
+abbrev pub copied_in : List CopyPair → (ℕ → ℕ) → List Effect
+copied_in [] f = []
+copied_in (x ∷ xs) f = Store x.copy (f x.home) ∷ copied_in xs (put f x.copy (f x.home))
+
+-- an attempt's start: its opening, then the private scalars of the task that CUR names are copied
+abbrev pub start_effects : RuntimePlaces → (ℕ → List CopyPair) → (ℕ → ℕ) → List Effect
+start_effects m privates f = let es = opening_effects m f in es ++ copied_in (privates (f m.words.current_task)) (fram_after es f)
+
+-- what a boot has to do first: the commit where GATE is 1, from its start
+abbrev pub pending_effects : RuntimePlaces → (ℕ → ℕ) → List Effect
+pending_effects m f = if f m.words.gate == 1 then commit_effects m f else []
+
+-- a boot, up to the task: the commit where GATE is 1, then an attempt's start
+abbrev pub boot_effects : RuntimePlaces → (ℕ → List CopyPair) → (ℕ → ℕ) → List Effect
+boot_effects m privates f = let es = pending_effects m f in es ++ start_effects m privates (fram_after es f)

@@ -1,0 +1,264 @@
+-- An attempt's start keeps a world undecided, and leaves an attempt that has started.
+use Rattle.std.proofs.Common.{◌≡◌, ℕ, zero, suc, ◌+◌, ◌*◌, ◌<◌, ◌≤◌, List, [], ◌∷◌, ◌++◌, refl, sym, ap, ◌∙◌, subst, ⊎_elim, inl, inr, arith}
+use Rattle.std.proofs.lemmas.Bool.{cases_eq}
+use Rattle.fram_board.specs.Effects.{Effect, Store, Take, Send}
+use Rattle.machine_effects.specs.World.{World, put, world_after_one, world_after, fram_after, readings_taken, EachStore}
+use Rattle.runtime_effects.specs.Places.{CopyPair}
+use Rattle.runtime_effects.specs.Stages.{cleared, opening_effects, copied_in, start_effects}
+use Rattle.crash_rules.specs.Model.{HoldsThroughout, IsElsewhere}
+use Rattle.crash_rules.proofs.Lists.{world_after-append, world_fram, readings_taken-append, each_both, holds-append}
+use Rattle.crash_rules.proofs.Observed.{put_same, put_other}
+use Rattle.stands_for.specs.Layout.{ProgramPlaces, StateView, IsSharedWord, IsAmong, AreApart, ArePrivate}
+use Rattle.stands_for.specs.StandsFor.{VersionsWithin, UndecidedAt, StartedAt}
+use Rattle.stands_for.specs.Program.{IsStartStore, StartContract}
+use Rattle.stands_for.proofs.Keeps.{put_either, put_words}
+
+-- a weaker fact of each store
+pub each_weaker : (P Q : ℕ → ℕ → Type 0) → ((a w : ℕ) → P a w → Q a w) → (es : List Effect) → EachStore P es → EachStore Q es
+each_weaker P Q h [] k = tt
+each_weaker P Q h (Store a w ∷ es) k = (h a w k.0, each_weaker P Q h es k.1)
+each_weaker P Q h (Take w ∷ es) k = (tt, each_weaker P Q h es k.1)
+each_weaker P Q h (Send n w ∷ es) k = (tt, each_weaker P Q h es k.1)
+
+-- stores elsewhere leave a word
+pub elsewhere_same : (address : ℕ) (es : List Effect) (f : ℕ → ℕ) → EachStore (IsElsewhere address) es → fram_after es f address ≡ f address
+elsewhere_same address [] f h = refl
+elsewhere_same address (Store a w ∷ es) f h = elsewhere_same address es (put f a w) h.1 ∙ put_other f a w address (λ e. h.0 (sym e))
+elsewhere_same address (Take w ∷ es) f h = elsewhere_same address es f h.1
+elsewhere_same address (Send n w ∷ es) f h = elsewhere_same address es f h.1
+
+cleared_takes : (n p : ℕ) → readings_taken (cleared n p) ≡ []
+cleared_takes zero p = refl
+cleared_takes (suc n) p = cleared_takes n (p + 2)
+
+copied_in_takes : (ps : List CopyPair) (f : ℕ → ℕ) → readings_taken (copied_in ps f) ≡ []
+copied_in_takes [] f = refl
+copied_in_takes (p ∷ ps) f = copied_in_takes ps (put f p.copy (f p.home))
+
+module _ {St : Type 0} (l : ProgramPlaces) (apart : AreApart l) (v : StateView St) where
+  module _ (s : St) where
+    -- a store to none of the words that an undecided world speaks of, but for VER and the version words
+    store_keeps : (x : World) (a w : ℕ) → w < 0x10000 → (IsSharedWord l a → ⊥) → (a ≡ l.runtime.words.current_task → ⊥) → (a ≡ l.runtime.words.gate → ⊥)
+        → (a ≡ l.runtime.words.base → ⊥)
+        → VersionsWithin l (put x.fram a w) → UndecidedAt l v s x → UndecidedAt l v s (world_after_one (Store a w) x)
+    store_keeps x a w small sh c g b versions u =
+        record {
+          is_open = record {
+            is_state = u.is_open.is_state;
+            is_task = u.is_open.is_task;
+            words = put_words x.fram a w u.is_open.words small;
+            current_task = put_other x.fram a w l.runtime.words.current_task (λ q. c (sym q)) ∙ u.is_open.current_task;
+            gate = put_other x.fram a w l.runtime.words.gate (λ q. g (sym q)) ∙ u.is_open.gate;
+            accepted = u.is_open.accepted;
+            base = put_other x.fram a w l.runtime.words.base (λ q. b (sym q)) ∙ u.is_open.base;
+            versions = versions;
+          };
+          shared = λ y h. ⊎_elim (λ f. inl f) (λ e. inr (put_other x.fram a w y (λ q. sh (subst (IsSharedWord l) q h)) ∙ e)) (u.shared y h);
+        }
+
+    -- a store elsewhere
+    scratch : (x : World) (a w : ℕ) → w < 0x10000 → (IsSharedWord l a → ⊥) → (a ≡ l.runtime.words.current_task → ⊥) → (a ≡ l.runtime.words.gate → ⊥)
+        → (a ≡ l.runtime.words.base → ⊥) → (a ≡ l.runtime.words.version → ⊥) → ((i : ℕ) → i < l.runtime.version_count → a ≡ l.runtime.versions + 2 * i → ⊥)
+        → UndecidedAt l v s x → UndecidedAt l v s (world_after_one (Store a w) x)
+    scratch x a w small sh c g b ver vs u =
+        store_keeps x a w small sh c g b
+        (λ i h. let k = u.is_open.versions i h in let e = put_other x.fram a w (l.runtime.versions + 2 * i)
+        (λ q. vs i h (sym q)) in let f = put_other x.fram a w l.runtime.words.version (λ q. ver (sym q)) in omega (arith, e, f, k)) u
+
+    -- the first j version words are 0
+    abbrev AreZero : ℕ → World → Type 0
+    AreZero j x = (i : ℕ) → i < j → x.fram (l.runtime.versions + 2 * i) ≡ 0
+
+    clear_through : (n j : ℕ) (x : World) → j + n ≡ l.runtime.version_count → UndecidedAt l v s x → AreZero j x →
+        HoldsThroughout (UndecidedAt l v s) (cleared n (l.runtime.versions + 2 * j)) x
+        × UndecidedAt l v s (world_after (cleared n (l.runtime.versions + 2 * j)) x)
+        × AreZero l.runtime.version_count (world_after (cleared n (l.runtime.versions + 2 * j)) x)
+    clear_through zero j x e u z = (u, u, λ i h. z i (omega (arith, e, h)))
+    clear_through (suc n) j x e u z =
+        let a = l.runtime.versions + 2 * j in
+        let y = world_after_one (Store a 0) x in
+        let ver : put x.fram a 0 l.runtime.words.version ≡ x.fram l.runtime.words.version = put_other x.fram a 0 l.runtime.words.version
+        (λ q. omega (arith, apart, q)) in
+        let u2 : UndecidedAt l v s y =
+        store_keeps x a 0 (omega arith) (λ h. omega (arith, apart, h, e)) (λ q. omega (arith, apart, q)) (λ q. omega (arith, apart, q))
+        (λ q. omega (arith, apart, q))
+        (λ i h. ⊎_elim {C = put x.fram a 0 (l.runtime.versions + 2 * i) ≤ put x.fram a 0 l.runtime.words.version} (λ p. let p1 = p.1 in omega (arith, p1))
+        (λ p. let p1 = p.1 in let k = u.is_open.versions i h in omega (arith, p1, ver, k)) (put_either x.fram a 0 (l.runtime.versions + 2 * i))) u in
+        let z2 : AreZero (suc j) y = λ i h. ⊎_elim {C = put x.fram a 0 (l.runtime.versions + 2 * i) ≡ 0} (λ p. p.1)
+        (λ p. p.1 ∙ z i (let ne = p.0 in ⊎_elim {C = i < j} (λ q. absurd (ne (ap (λ k. l.runtime.versions + 2 * k) q))) (λ q. omega (arith, h, q))
+        (cases_eq i j))) (put_either x.fram a 0 (l.runtime.versions + 2 * i)) in
+        let n2 : l.runtime.versions + 2 * suc j ≡ l.runtime.versions + 2 * j + 2 = omega arith in
+        let r = clear_through n (suc j) y (omega (arith, e)) u2 z2 in
+        let r2 = subst (λ p. HoldsThroughout (UndecidedAt l v s) (cleared n p) y × UndecidedAt l v s (world_after (cleared n p) y)
+        × AreZero l.runtime.version_count (world_after (cleared n p) y)) n2 r in
+        ((u, r2.0), r2.1, r2.2)
+
+    -- VER, CLN and EN, once the version words are cleared
+    record Opened (x : World) : Type 0 where
+      undecided : UndecidedAt l v s x
+      list_length : x.fram l.runtime.words.list_length ≡ 0
+      emit_count : x.fram l.runtime.words.emit_count ≡ 0
+      versions : (i : ℕ) → i < l.runtime.version_count → x.fram (l.runtime.versions + 2 * i) < x.fram l.runtime.words.version
+
+    abbrev three : List Effect
+    three = Store l.runtime.words.version 1 ∷ Store l.runtime.words.list_length 0 ∷ Store l.runtime.words.emit_count 0 ∷ []
+
+    three_through : (x : World) → UndecidedAt l v s x → AreZero l.runtime.version_count x
+        → HoldsThroughout (UndecidedAt l v s) three x × Opened (world_after three x)
+    three_through x u z =
+        let m = l.runtime in let w = l.runtime.words in
+        let x1 = world_after_one (Store w.version 1) x in let x2 = world_after_one (Store w.list_length 0) x1 in
+        let x3 = world_after_one (Store w.emit_count 0) x2 in
+        let v1 : x1.fram w.version ≡ 1 = put_same x.fram w.version 1 in
+        let z1 : (i : ℕ) → i < m.version_count → x1.fram (m.versions + 2 * i) ≡ 0 = λ i h. put_other x.fram w.version 1 (m.versions + 2 * i)
+        (λ q. omega (arith, apart, q)) ∙ z i h in
+        let u1 = store_keeps x w.version 1 (omega arith) (λ h. omega (arith, apart, h)) (λ q. omega (arith, apart, q)) (λ q. omega (arith, apart, q))
+        (λ q. omega (arith, apart, q)) (λ i h. let k = z1 i h in omega (arith, k, v1)) u in
+        let u2 = scratch x1 w.list_length 0 (omega arith) (λ h. omega (arith, apart, h)) (λ q. omega (arith, apart, q)) (λ q. omega (arith, apart, q))
+        (λ q. omega (arith, apart, q)) (λ q. omega (arith, apart, q)) (λ i h q. omega (arith, apart, q)) u1 in
+        let u3 = scratch x2 w.emit_count 0 (omega arith) (λ h. omega (arith, apart, h)) (λ q. omega (arith, apart, q)) (λ q. omega (arith, apart, q))
+        (λ q. omega (arith, apart, q)) (λ q. omega (arith, apart, q)) (λ i h q. omega (arith, apart, q)) u2 in
+        let same : (a : ℕ) → (a ≡ w.list_length → ⊥) → (a ≡ w.emit_count → ⊥) → x3.fram a ≡ x1.fram a = λ a p q. put_other x2.fram w.emit_count 0 a q
+        ∙ put_other x1.fram w.list_length 0 a p in
+        let v3 : x3.fram w.version ≡ 1 = same w.version (λ q. omega (arith, apart, q)) (λ q. omega (arith, apart, q)) ∙ v1 in (
+          (u, (u1, (u2, u3))),
+          record {
+            undecided = u3;
+            list_length = put_other x2.fram w.emit_count 0 w.list_length (λ q. omega (arith, apart, q)) ∙ put_same x1.fram w.list_length 0;
+            emit_count = put_same x2.fram w.emit_count 0;
+            versions = λ i h. let k = same (m.versions + 2 * i) (λ q. omega (arith, apart, q)) (λ q. omega (arith, apart, q)) ∙ z1 i h in omega (arith, k, v3);
+          },
+        )
+
+    -- a copy that no later one overwrites
+    copied_through : (ps : List CopyPair) (x : World) → ArePrivate l (v.task s) ps → Opened x
+        → HoldsThroughout (UndecidedAt l v s) (copied_in ps x.fram) x × Opened (world_after (copied_in ps x.fram) x)
+        × ((p : CopyPair) → IsAmong ps p → (world_after (copied_in ps x.fram) x).fram p.copy ≡ v.word s p.home)
+        × ((a : ℕ) → ((p : CopyPair) → IsAmong ps p → a ≡ p.copy → ⊥) → (world_after (copied_in ps x.fram) x).fram a ≡ x.fram a)
+    copied_through [] x laid o = (o.undecided, o, (λ p h. elim h [ ]), λ a n. refl)
+    copied_through (p ∷ ps) x laid o =
+        let m = l.runtime in let ws = l.runtime.words in
+        let a = p.copy in let w = x.fram p.home in
+        let home = laid.0 in let fixed = laid.1 in let place = laid.2 in
+        let y = world_after_one (Store a w) x in
+        let value : w ≡ v.word s p.home = ⊎_elim {C = w ≡ v.word s p.home} (λ f. absurd (cc (f, fixed))) (λ e. e) (o.undecided.shared p.home home) in
+        let u2 = scratch x a w (o.undecided.is_open.words p.home) (λ h. omega (arith, apart, h, place)) (λ q. omega (arith, apart, q, place))
+        (λ q. omega (arith, apart, q, place)) (λ q. omega (arith, apart, q, place)) (λ q. omega (arith, apart, q, place))
+        (λ i h q. omega (arith, apart, q, h, place)) o.undecided in
+        let o2 : Opened y = record {
+          undecided = u2;
+          list_length = put_other x.fram a w ws.list_length (λ q. omega (arith, apart, q, place)) ∙ o.list_length;
+          emit_count = put_other x.fram a w ws.emit_count (λ q. omega (arith, apart, q, place)) ∙ o.emit_count;
+          versions = λ i h. let k = o.versions i h in let e = put_other x.fram a w (m.versions + 2 * i)
+              (λ q. omega (arith, apart, q, h, place)) in let f = put_other x.fram a w ws.version (λ q. omega (arith, apart, q, place)) in omega (
+                arith,
+                k,
+                e,
+                f,
+              );
+        } in
+        let r = copied_through ps y laid.4 o2 in (
+          (o.undecided, r.0),
+          r.1,
+          (λ q h. ⊎_elim {C = (world_after (copied_in ps y.fram) y).fram q.copy ≡ v.word s q.home}
+              (λ e. ap (λ z. (world_after (copied_in ps y.fram) y).fram z.copy) e ∙ r.3 a (λ z hz. laid.3 z hz) ∙ put_same x.fram a w ∙ value
+              ∙ ap (λ z. v.word s z.home) (sym e)) (λ k. r.2 q k) h),
+          λ b n. r.3 b (λ z hz. n z (inr hz)) ∙ put_other x.fram a w b (n p (inl refl)),
+        )
+
+    -- the start with these private scalars
+    abbrev start_with : List CopyPair → (ℕ → ℕ) → List Effect
+    start_with ps f = opening_effects l.runtime f ++ copied_in ps (fram_after (opening_effects l.runtime f) f)
+
+    record Starts (ps : List CopyPair) (x : World) : Type 0 where
+      through : HoldsThroughout (UndecidedAt l v s) (start_with ps x.fram) x
+      started : StartedAt l v s ps (world_after (start_with ps x.fram) x)
+
+    starts : (ps : List CopyPair) (x : World) → ArePrivate l (v.task s) ps → UndecidedAt l v s x → Starts ps x
+    starts ps x laid u =
+        let m = l.runtime in
+        let op = opening_effects m x.fram in
+        let c = cleared m.version_count m.versions in
+        let e0 : m.versions + 2 * 0 ≡ m.versions = omega arith in
+        let a0 = clear_through m.version_count 0 x (omega arith) u (λ i h. absurd (omega (arith, h))) in
+        let a = subst (λ p. HoldsThroughout (UndecidedAt l v s) (cleared m.version_count p) x
+        × UndecidedAt l v s (world_after (cleared m.version_count p) x) × AreZero m.version_count (world_after (cleared m.version_count p) x)) e0 a0 in
+        let x1 = world_after c x in
+        let b = three_through x1 a.1 a.2 in
+        let x2 = world_after three x1 in
+        let same : world_after op x ≡ x2 = world_after-append c three x in
+        let d = copied_through ps x2 laid b.1 in
+        let fr : x2.fram ≡ fram_after op x.fram = ap (λ z. z.fram) (sym same) ∙ world_fram op x in
+        let ends : world_after (copied_in ps x2.fram) x2 ≡ world_after (start_with ps x.fram) x = ap (λ f. world_after (copied_in ps f) x2) fr
+        ∙ ap (world_after (copied_in ps (fram_after op x.fram))) (sym same) ∙ sym (world_after-append op (copied_in ps (fram_after op x.fram)) x) in
+        let th : HoldsThroughout (UndecidedAt l v s) (copied_in ps (fram_after op x.fram))
+        (world_after op x) = subst (λ z. HoldsThroughout (UndecidedAt l v s) (copied_in ps (fram_after op x.fram)) z) (sym same)
+        (subst (λ f. HoldsThroughout (UndecidedAt l v s) (copied_in ps f) x2) fr d.0) in
+        record {
+          through = holds-append (UndecidedAt l v s) op (copied_in ps (fram_after op x.fram)) x (holds-append (UndecidedAt l v s) c three x a.0 b.0) th;
+          started = subst (StartedAt l v s ps) ends (record {
+            undecided = d.1.undecided;
+            list_length = d.1.list_length;
+            emit_count = d.1.emit_count;
+            versions = d.1.versions;
+            copies = d.2;
+          });
+        }
+
+  -- where a start stores
+  cleared_stores : (n p : ℕ) → l.runtime.words.gate < p → p + 2 * n ≤ l.copies_end → EachStore (IsStartStore l) (cleared n p)
+  cleared_stores zero p lo hi = tt
+  cleared_stores (suc n) p lo hi = (record { from = lo; below = omega (arith, hi) }, cleared_stores n (p + 2) (omega (arith, lo)) (omega (arith, hi)))
+
+  copied_in_stores : (t : ℕ) (ps : List CopyPair) (f : ℕ → ℕ) → ArePrivate l t ps → EachStore (IsStartStore l) (copied_in ps f)
+  copied_in_stores t [] f h = tt
+  copied_in_stores t (p ∷ ps) f h = let c = h.2 in (
+    record { from = omega (arith, apart, c); below = omega (arith, c) },
+    copied_in_stores t ps (put f p.copy (f p.home)) h.4,
+  )
+
+  opening_stores : (f : ℕ → ℕ) → EachStore (IsStartStore l) (opening_effects l.runtime f)
+  opening_stores f =
+      each_both (IsStartStore l)
+      (cleared l.runtime.version_count l.runtime.versions) _ (cleared_stores l.runtime.version_count l.runtime.versions (omega (arith, apart))
+      (omega (arith, apart))) (
+        record { from = omega (arith, apart); below = omega (arith, apart) },
+        (record { from = omega (arith, apart); below = omega (arith, apart) }, (record { from = omega (arith, apart); below = omega (arith, apart) }, tt)),
+      )
+
+  pub start_elsewhere : (es : List Effect) → EachStore (IsStartStore l) es → EachStore (IsElsewhere l.runtime.words.current_task) es
+  start_elsewhere es h = each_weaker (IsStartStore l) (IsElsewhere l.runtime.words.current_task) (λ a w k e. omega (arith, apart, k, e)) es h
+
+  pub start_off_gate : (es : List Effect) → EachStore (IsStartStore l) es → EachStore (IsElsewhere l.runtime.words.gate) es
+  start_off_gate es h = each_weaker (IsStartStore l) (IsElsewhere l.runtime.words.gate) (λ a w k e. omega (arith, k, e)) es h
+
+  module _ (privates : ℕ → List CopyPair) (laid : (t : ℕ) → ArePrivate l t (privates t)) where
+    start_stores : (f : ℕ → ℕ) → EachStore (IsStartStore l) (start_effects l.runtime privates f)
+    start_stores f =
+        each_both (IsStartStore l) (opening_effects l.runtime f) _ (opening_stores f)
+        (copied_in_stores (f l.runtime.words.current_task) (privates (f l.runtime.words.current_task)) (fram_after (opening_effects l.runtime f) f)
+        (laid (f l.runtime.words.current_task)))
+
+    start_takes : (f : ℕ → ℕ) → readings_taken (start_effects l.runtime privates f) ≡ []
+    start_takes f =
+        let op = opening_effects l.runtime f in
+        let rest = copied_in (privates (f l.runtime.words.current_task)) (fram_after op f) in
+        let c = cleared l.runtime.version_count l.runtime.versions in
+        readings_taken-append op rest ∙ ap (λ z. z ++ readings_taken rest)
+        (readings_taken-append c _ ∙ ap (λ z. z ++ []) (cleared_takes l.runtime.version_count l.runtime.versions))
+        ∙ copied_in_takes (privates (f l.runtime.words.current_task)) (fram_after op f)
+
+    -- the start of the state's task is the one that CUR names
+    there : (s : St) (x : World) → UndecidedAt l v s x → Starts s (privates (x.fram l.runtime.words.current_task)) x
+    there s x u = starts s (privates (x.fram l.runtime.words.current_task)) x
+        (subst (λ t. ArePrivate l t (privates (x.fram l.runtime.words.current_task))) u.is_open.current_task (laid (x.fram l.runtime.words.current_task))) u
+
+    pub clearing_start : StartContract l v privates (start_effects l.runtime privates)
+    clearing_start = record {
+      takes_none = start_takes;
+      stores = start_stores;
+      keeps_task = λ f. elsewhere_same l.runtime.words.current_task (start_effects l.runtime privates f) f (start_elsewhere _ (start_stores f));
+      undecided = λ s x u. (there s x u).through;
+      started = λ s x u. subst (λ t. StartedAt l v s (privates t)
+          (world_after (start_effects l.runtime privates x.fram) x)) u.is_open.current_task (there s x u).started;
+    }

@@ -1,0 +1,85 @@
+-- A compiled program as the crash theorem takes it, and what its start and its tasks owe.
+use Rattle.std.specs.Prelude.{◌≡◌, ℕ, ◌<◌, ◌≤◌, List, [], ◌++◌, All}
+use Rattle.fram_board.specs.Effects.{Effect}
+use Rattle.machine_effects.specs.World.{World, world_after, fram_after, readings_taken, EachStore}
+use Rattle.runtime_effects.specs.Places.{CopyPair}
+use Rattle.runtime_effects.specs.Stages.{commit_effects, start_effects}
+use Rattle.runtime_effects.specs.Needs.{CanCommit}
+use Rattle.crash_rules.specs.Model.{Outcome, ProgramEffects, program_effects, HoldsThroughout, IsWord, Model, ModelLaws, AttemptContract}
+use Rattle.stands_for.specs.Layout.{ProgramPlaces, StateView, AreApart, HaveRoom, ArePrivate}
+use Rattle.stands_for.specs.StandsFor.{RestsAt, UndecidedAt, DecidedFrom, StartedAt}
+
+-- effects in front of a program's
+abbrev pub behind_start : List Effect → ProgramEffects → ProgramEffects
+behind_start es p = program_effects (es ++ p.effects) p.ends
+
+-- a start, from FRAM, and a task by its number, from FRAM and readings
+pub record ProgramParts (St : Type 0) : Type 0 where
+  pub task : St → List ℕ → Outcome St  -- the source: a whole task from a state on
+  pub cost : ℕ → ℕ  -- of each task the cycles of a boot, an attempt and its commit
+  pub start : (ℕ → ℕ) → List Effect
+  pub body : ℕ → (ℕ → ℕ) → List ℕ → ProgramEffects
+
+-- an attempt: the start, then the task that CUR names
+abbrev pub attempt_effects : {St : Type 0} → ProgramPlaces → ProgramParts St → (ℕ → ℕ) → List ℕ → ProgramEffects
+attempt_effects l p f readings = behind_start (p.start f) (p.body (f l.runtime.words.current_task) (fram_after (p.start f) f) readings)
+
+-- the source with its layout and its runtime
+abbrev pub program_model : {St : Type 0} → ProgramPlaces → StateView St → ProgramParts St → Model St
+program_model l v p = record {
+  task = p.task;
+  task_number = v.task;
+  emitted = v.emitted;
+  tasks = l.tasks;
+  task_cost = p.cost;
+  gate = l.runtime.words.gate;
+  commit = commit_effects l.runtime;
+  attempt = attempt_effects l p;
+  Rests = RestsAt l v;
+  Undecided = UndecidedAt l v;
+  Decided = DecidedFrom l v;
+}
+
+-- a store of a start: to VER, CLN or EN, to a version word or to a copy
+pub record IsStartStore (l : ProgramPlaces) (a w : ℕ) : Type 0 where
+  pub from : l.runtime.words.gate < a
+  pub below : a < l.copies_end
+
+-- what the start owes, where these are the private scalars of each task: it takes no reading, stores to the runtime's places and the
+-- copies alone, keeps CUR, keeps the world undecided throughout, and leaves an attempt that has started
+pub record StartContract {St : Type 0} (l : ProgramPlaces) (v : StateView St) (privates : ℕ → List CopyPair) (start : (ℕ → ℕ) → List Effect) : Type 0 where
+  pub takes_none : (f : ℕ → ℕ) → readings_taken (start f) ≡ []
+  pub stores : (f : ℕ → ℕ) → EachStore (IsStartStore l) (start f)
+  pub keeps_task : (f : ℕ → ℕ) → fram_after (start f) f l.runtime.words.current_task ≡ f l.runtime.words.current_task
+  pub undecided : (s : St) (x : World) → UndecidedAt l v s x → HoldsThroughout (UndecidedAt l v s) (start x.fram) x
+  pub started : (s : St) (x : World) → UndecidedAt l v s x → StartedAt l v s (privates (v.task s)) (world_after (start x.fram) x)
+
+-- what the tasks owe: from a started attempt on they decide, or are short exactly where the source is
+abbrev pub TasksContract : {St : Type 0} → ProgramPlaces → StateView St → (ℕ → List CopyPair) → ProgramParts St → Type 0
+TasksContract {St} l v privates p = (s : St) (x : World) (readings : List ℕ) → All IsWord readings → StartedAt l v s (privates (v.task s)) x
+    → AttemptContract (program_model l v p) s readings x (p.task s readings) (p.body (v.task s) x.fram readings)
+
+-- from a start and from tasks that keep their contracts, all that the crash theorem needs
+abbrev pub KeepsTheLaws : (St : Type 0) → Type 0
+KeepsTheLaws St = (l : ProgramPlaces) (v : StateView St) (privates : ℕ → List CopyPair) (p : ProgramParts St)
+    → AreApart l → HaveRoom l → StartContract l v privates p.start → TasksContract l v privates p → ModelLaws (program_model l v p)
+
+-- the runtime's start, whose version words are cleared at each attempt, keeps the start's contract
+abbrev pub ClearingStarts : (St : Type 0) → Type 0
+ClearingStarts St = (l : ProgramPlaces) (v : StateView St) (privates : ℕ → List CopyPair)
+    → AreApart l → ((t : ℕ) → ArePrivate l t (privates t)) → StartContract l v privates (start_effects l.runtime privates)
+
+-- where a world is decided the commit finds what it needs
+abbrev pub DecidedCanCommit : (St : Type 0) → Type 0
+DecidedCanCommit St = (l : ProgramPlaces) (v : StateView St) (s next : St) (x : World) → AreApart l → HaveRoom l → DecidedFrom l v s next x
+    → CanCommit l.runtime x.fram
+
+-- the stores of a commit: to shared words, CUR, BASE and GATE
+pub record IsCommitStore (l : ProgramPlaces) (a w : ℕ) : Type 0 where
+  pub from : l.runtime.words.current_task ≤ a
+  pub below : a < l.homes_end
+
+-- a decided world's commit stores nowhere else
+abbrev pub CommitStores : (St : Type 0) → Type 0
+CommitStores St = (l : ProgramPlaces) (v : StateView St) (s next : St) (x : World) → AreApart l → HaveRoom l → DecidedFrom l v s next x
+    → EachStore (IsCommitStore l) (commit_effects l.runtime x.fram)

@@ -1,0 +1,9 @@
+//! What FRAM and the accepted words stand for, and that commit and start keep it.
+#![tactic(auto)]
+
+mod laws;
+
+pub use laws::{
+    a_decided_world_can_be_committed, clearing_start_keeps_its_contract,
+    commit_stores_to_shared_words, start_and_tasks_give_the_laws,
+};
