@@ -1,0 +1,148 @@
+-- A program changes FRAM and the readings by its effects.
+use Rattle.std.proofs.Common.{◌≡◌, ℕ, zero, suc, ◌+◌, ◌-◌, ◌*◌, ◌%◌, ◌==◌, List, [], ◌∷◌, ◌++◌, Option, Some, None, Bool, true, false, nat_lt, refl, sym, ap, ◌∙◌, append_assoc, append-nil, if◌then◌else◌}
+use Rattle.fram_board.specs.Effects.{Effect, Store, Take, Send}
+use Rattle.machine_effects.specs.World.{fram_after, fram_after_one, readings_taken}
+use Rattle.array_versions.specs.Program.{Step, Program, number, load, keep, local, set_local, unary, binary, shift, element, emit_word, list_entry, sense, choose, repeat, store_number, move_word, jump, nothing, step}
+use Rattle.array_versions.specs.Behaviour.{WordState, End, GoesOn, Jumps, Short, Strays, Broken, Behaviour, behaves, goes_on, strays, broken, behind_effects, on_end, then_on, is_place, at_place, with_top, with_two, with_stack, pushed, stored, with_local, local_pushed, reading_pushed, word_stored, element_pushed, word_emitted, entry_stored, chosen, turns, jumped, step_behaviour, behaviour}
+use Rattle.array_versions.specs.Laws.{EndsByEffects, BehavesByEffects}
+
+fram_after-append : (es fs : List Effect) (f : ℕ → ℕ) → fram_after (es ++ fs) f ≡ fram_after fs (fram_after es f)
+fram_after-append [] fs f = refl
+fram_after-append (e ∷ es) fs f = fram_after-append es fs (fram_after_one e f)
+
+readings_taken-append : (es fs : List Effect) → readings_taken (es ++ fs) ≡ readings_taken es ++ readings_taken fs
+readings_taken-append [] fs = refl
+readings_taken-append (Store a w ∷ es) fs = readings_taken-append es fs
+readings_taken-append (Take w ∷ es) fs = ap (λ l. w ∷ l) (readings_taken-append es fs)
+readings_taken-append (Send n w ∷ es) fs = readings_taken-append es fs
+
+abbrev Good : WordState → Behaviour → Type 0
+Good s b = EndsByEffects s b.effects b.end
+
+framed : (es fs : List Effect) (s t u : WordState) → t.fram ≡ fram_after es s.fram → u.fram ≡ fram_after fs t.fram → u.fram ≡ fram_after (es ++ fs) s.fram
+framed es fs s t u h k = k ∙ ap (fram_after fs) h ∙ sym (fram_after-append es fs s.fram)
+
+took : (es fs : List Effect) (a b c : List ℕ) → readings_taken es ++ b ≡ a → readings_taken fs ++ c ≡ b → readings_taken (es ++ fs) ++ c ≡ a
+took es fs a b c h k =
+    ap (λ l. l ++ c) (readings_taken-append es fs) ∙ append_assoc (readings_taken es) (readings_taken fs) c
+    ∙ ap (λ l. readings_taken es ++ l) k ∙ h
+
+took_all : (es fs : List Effect) (a b : List ℕ) → readings_taken es ++ b ≡ a → readings_taken fs ≡ b → readings_taken (es ++ fs) ≡ a
+took_all es fs a b h k = readings_taken-append es fs ∙ ap (λ l. readings_taken es ++ l) k ∙ h
+
+-- effects behind effects
+after_end : (es fs : List Effect) (s t : WordState) (e : End) → EndsByEffects s es (GoesOn t) → EndsByEffects t fs e → EndsByEffects s (es ++ fs) e
+after_end es fs s t (GoesOn u) h k = (framed es fs s t u h.0 k.0, took es fs s.readings t.readings u.readings h.1 k.1)
+after_end es fs s t (Jumps to u) h k = (framed es fs s t u h.0 k.0, took es fs s.readings t.readings u.readings h.1 k.1)
+after_end es fs s t Short h k = took_all es fs s.readings t.readings h.1 k
+after_end es fs s t Strays h k = tt
+after_end es fs s t Broken h k = tt
+
+then_by : (es : List Effect) (s : WordState) (e : End) (next : WordState → Behaviour) → EndsByEffects s es e → ((t : WordState) → Good t (next t)) → Good s (then_on (behaves es e) next)
+then_by es s (GoesOn t) next h k = after_end es (next t).effects s t (next t).end h (k t)
+then_by es s (Jumps to t) next h k =
+    (h.0 ∙ ap (λ l. fram_after l s.fram) (sym (append-nil es)), ap (λ l. readings_taken l ++ t.readings) (append-nil es) ∙ h.1)
+then_by es s Short next h k = ap readings_taken (append-nil es) ∙ h
+then_by es s Strays next h k = tt
+then_by es s Broken next h k = tt
+
+guarded : (c : Bool) (s : WordState) (b : Behaviour) → Good s b → Good s (if c then b else strays)
+guarded true s b h = h
+guarded false s b h = tt
+
+top_by : (vs : List ℕ) (s : WordState) (next : ℕ → List ℕ → Behaviour) → ((v : ℕ) (us : List ℕ) → Good s (next v us)) → Good s (with_top vs next)
+top_by [] s next h = tt
+top_by (v ∷ vs) s next h = h v vs
+
+two_by : (vs : List ℕ) (s : WordState) (next : ℕ → ℕ → List ℕ → Behaviour) → ((u v : ℕ) (us : List ℕ) → Good s (next u v us)) → Good s (with_two vs next)
+two_by vs s next h = top_by vs s _ (λ v us. top_by us s _ (λ u rest. h u v rest))
+
+local_by : (o : Option ℕ) (s : WordState) → Good s (local_pushed o s)
+local_by None s = tt
+local_by (Some v) s = (refl, refl)
+
+reading_by : (rs : List ℕ) (s : WordState) → s.readings ≡ rs → Good s (reading_pushed rs s)
+reading_by [] s e = sym e
+reading_by (r ∷ rs) s e = (refl, sym e)
+
+element_by : (c : Bool) (base i : ℕ) (s : WordState) → Good s (if c then at_place (2 * i + base) (goes_on [] (pushed (s.fram (2 * i + base)) s)) else goes_on [] (pushed 0 s))
+element_by true base i s = guarded (is_place (2 * i + base)) s (goes_on [] (pushed (s.fram (2 * i + base)) s)) (refl, refl)
+element_by false base i s = (refl, refl)
+
+stored_by : (a v : ℕ) (s t : WordState) → t.fram ≡ s.fram → t.readings ≡ s.readings → Good s (word_stored a v t)
+stored_by a v s t e f = guarded (is_place a) s (goes_on (Store a v ∷ []) (stored a v t)) (ap (λ g. fram_after (Store a v ∷ []) g) e, f)
+
+chosen_by : (v : ℕ) (s : WordState) (a b : Behaviour) → Good s a → Good s b → Good s (chosen v a b)
+chosen_by zero s a b h k = k
+chosen_by (suc v) s a b h k = h
+
+turns_by : (m n k : ℕ) (body : WordState → Behaviour) (s : WordState) → ((t : WordState) → Good t (body t)) → Good s (turns m n k body s)
+turns_by zero n k body s h = (refl, refl)
+turns_by (suc m) n k body s h =
+    let b = body (with_local n k s) in
+    then_by b.effects s b.end (turns m n (k + 1) body) (same_start b.effects b.end (h (with_local n k s))) (λ t. turns_by m n (k + 1) body t h)
+  where
+    same_start : (es : List Effect) (e : End) → EndsByEffects (with_local n k s) es e → EndsByEffects s es e
+    same_start es (GoesOn u) g = g
+    same_start es (Jumps to u) g = g
+    same_start es Short g = g
+    same_start es Strays g = tt
+    same_start es Broken g = tt
+
+jump_by : (c : Bool) (to : ℕ) (s : WordState) → Good s (if c then behaves [] (Jumps to s) else broken)
+jump_by true to s = (refl, refl)
+jump_by false to s = tt
+
+-- what is said of a state but for its stack
+unstacked : (vs : List ℕ) (s : WordState) (b : Behaviour) → Good (with_stack vs s) b → Good s b
+unstacked vs s b h = by_end b.effects b.end h
+  where
+    by_end : (es : List Effect) (e : End) → EndsByEffects (with_stack vs s) es e → EndsByEffects s es e
+    by_end es (GoesOn u) g = g
+    by_end es (Jumps to u) g = g
+    by_end es Short g = g
+    by_end es Strays g = tt
+    by_end es Broken g = tt
+
+emitted_by : (count buffer v : ℕ) (s : WordState) → Good s (word_emitted count buffer v s)
+emitted_by count buffer v s =
+    let n = s.fram count in
+    let a = 2 * n + buffer in
+    let b = goes_on (Store a v ∷ Store count (n + 1) ∷ []) (stored count (n + 1) (stored a v s)) in
+    guarded (is_place count) s (at_place a b) (guarded (is_place a) s b (refl, refl))
+
+entry_by : (count list home copy : ℕ) (s : WordState) → Good s (entry_stored count list home copy s)
+entry_by count list home copy s =
+    let n = s.fram count in
+    let a = 4 * n + list in
+    let b = goes_on (Store a home ∷ Store (a + 2) copy ∷ Store count (n + 1) ∷ []) (stored count (n + 1) (stored (a + 2) copy (stored a home s))) in
+    guarded (is_place count) s (at_place a (at_place (a + 2) b)) (guarded (is_place a) s (at_place (a + 2) b) (guarded (is_place (a + 2)) s b (refl, refl)))
+
+mutual
+  step_by : (first : Step) (s : WordState) → Good s (step_behaviour first s)
+  step_by (number w) s = (refl, refl)
+  step_by (load a) s = guarded (is_place a) s (goes_on [] (pushed (s.fram a) s)) (refl, refl)
+  step_by (keep a) s = top_by s.stack s _ (λ v vs. stored_by a v s (with_stack vs s) refl refl)
+  step_by (local n) s = local_by (s.locals n) s
+  step_by (set_local n) s = top_by s.stack s _ (λ v vs. (refl, refl))
+  step_by (unary op) s = top_by s.stack s _ (λ v vs. (refl, refl))
+  step_by (binary op) s = two_by s.stack s _ (λ u v vs. (refl, refl))
+  step_by (shift op k) s = top_by s.stack s _ (λ v vs. (refl, refl))
+  step_by (element base length) s = top_by s.stack s _ (λ i vs. unstacked vs s (element_pushed base length i (with_stack vs s)) (element_by (nat_lt i length) base i (with_stack vs s)))
+  step_by (emit_word count buffer) s = top_by s.stack s _ (λ v vs. unstacked vs s (word_emitted count buffer v (with_stack vs s)) (emitted_by count buffer v (with_stack vs s)))
+  step_by (list_entry count list home copy) s = entry_by count list home copy s
+  step_by sense s = reading_by s.readings s refl
+  step_by (choose taken otherwise) s = top_by s.stack s _ (λ v vs. chosen_by v s (behaviour taken (with_stack vs s)) (behaviour otherwise (with_stack vs s))
+      (unstacked vs s (behaviour taken (with_stack vs s)) (by_effects taken (with_stack vs s)))
+      (unstacked vs s (behaviour otherwise (with_stack vs s)) (by_effects otherwise (with_stack vs s))))
+  step_by (repeat n from below body) s = turns_by (below - from) n from (behaviour body) s (by_effects body)
+  step_by (store_number a w) s = stored_by a w s s refl refl
+  step_by (move_word from to) s = guarded (is_place from) s (word_stored to (s.fram from) s) (stored_by to (s.fram from) s s refl refl)
+  step_by (jump to) s = jump_by (to % 2 == 0) to s
+
+  by_effects : (p : Program) (s : WordState) → Good s (behaviour p s)
+  by_effects nothing s = (refl, refl)
+  by_effects (step first more) s = let b = step_behaviour first s in then_by b.effects s b.end (behaviour more) (step_by first s) (by_effects more)
+
+pub behaves_by_effects : BehavesByEffects
+behaves_by_effects p s = by_effects p s

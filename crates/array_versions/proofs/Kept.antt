@@ -1,0 +1,119 @@
+-- Each step keeps to the allowance.
+use Rattle.std.proofs.Common.{◌≡◌, ℕ, zero, suc, ◌+◌, ◌-◌, ◌*◌, ◌<◌, ◌≤◌, max, refl, arith, Bool, true, false, nat_le, nat_lt, ltb-true, if◌then◌else◌}
+use Rattle.std.proofs.lemmas.Bool.Decides.{nat_tests}
+use Rattle.array_versions.specs.declared.operations.UnaryOperation.{UnaryOperation}
+use Rattle.array_versions.specs.declared.operations.UnaryOperation.TheVariants.{Negate, Complement, Not, Truth}
+use Rattle.array_versions.specs.declared.operations.BinaryOperation.{BinaryOperation}
+use Rattle.array_versions.specs.declared.operations.BinaryOperation.TheVariants.{Multiply, Divide, Remainder, Add, Subtract, And, Xor, Or, Equal, NotEqual, Below, AtMost, Above, AtLeast, SignedBelow, SignedAtMost, SignedAbove, SignedAtLeast}
+use Rattle.array_versions.specs.declared.operations.ShiftOperation.{ShiftOperation}
+use Rattle.array_versions.specs.declared.operations.ShiftOperation.TheVariants.{Left, Right, SignedRight}
+use Rattle.array_versions.specs.Program.{Step, number, load, keep, local, set_local, unary, binary, shift, element, emit_word, list_entry, sense, choose, repeat, store_number, move_word, jump}
+use Rattle.array_versions.specs.Cost.{unary_cycles, unary_words, binary_cycles, binary_words, right_words, shift_words, cycles_of}
+use Rattle.array_versions.specs.Allowance.{binary_allowance, StepsKeepToCycles, StepsKeepToWords}
+
+unary_cycles_kept : (o : UnaryOperation) → unary_cycles o ≤ 40
+unary_cycles_kept Negate = omega arith
+unary_cycles_kept Complement = omega arith
+unary_cycles_kept Not = omega arith
+unary_cycles_kept Truth = omega arith
+
+unary_words_kept : (o : UnaryOperation) → unary_words o ≤ 16
+unary_words_kept Negate = omega arith
+unary_words_kept Complement = omega arith
+unary_words_kept Not = omega arith
+unary_words_kept Truth = omega arith
+
+binary_cycles_kept : (o : BinaryOperation) → binary_cycles o ≤ binary_allowance o
+binary_cycles_kept Multiply = omega arith
+binary_cycles_kept Divide = omega arith
+binary_cycles_kept Remainder = omega arith
+binary_cycles_kept Add = omega arith
+binary_cycles_kept Subtract = omega arith
+binary_cycles_kept And = omega arith
+binary_cycles_kept Xor = omega arith
+binary_cycles_kept Or = omega arith
+binary_cycles_kept Equal = omega arith
+binary_cycles_kept NotEqual = omega arith
+binary_cycles_kept Below = omega arith
+binary_cycles_kept AtMost = omega arith
+binary_cycles_kept Above = omega arith
+binary_cycles_kept AtLeast = omega arith
+binary_cycles_kept SignedBelow = omega arith
+binary_cycles_kept SignedAtMost = omega arith
+binary_cycles_kept SignedAbove = omega arith
+binary_cycles_kept SignedAtLeast = omega arith
+
+binary_words_kept : (o : BinaryOperation) → binary_words o ≤ 16
+binary_words_kept Multiply = omega arith
+binary_words_kept Divide = omega arith
+binary_words_kept Remainder = omega arith
+binary_words_kept Add = omega arith
+binary_words_kept Subtract = omega arith
+binary_words_kept And = omega arith
+binary_words_kept Xor = omega arith
+binary_words_kept Or = omega arith
+binary_words_kept Equal = omega arith
+binary_words_kept NotEqual = omega arith
+binary_words_kept Below = omega arith
+binary_words_kept AtMost = omega arith
+binary_words_kept Above = omega arith
+binary_words_kept AtLeast = omega arith
+binary_words_kept SignedBelow = omega arith
+binary_words_kept SignedAtMost = omega arith
+binary_words_kept SignedAbove = omega arith
+binary_words_kept SignedAtLeast = omega arith
+
+right_low : (k : ℕ) → right_words k ≤ k + 1
+right_low zero = omega arith
+right_low (suc k) = omega arith
+
+by_eight : (b : Bool) (k m n : ℕ) → nat_lt k 8 ≡ b → k ≤ 15 → m ≤ k + 1 → n ≤ 3 + (k - 8) → (if b then m else n) ≤ 10
+by_eight true k m n e l h j = let less : k < 8 = ltb-true k 8 e in omega arith
+by_eight false k m n e l h j = omega arith
+
+shift_low : (o : ShiftOperation) (k : ℕ) → k ≤ 15 → shift_words o k ≤ 10
+shift_low Left k l = by_eight (nat_lt k 8) k k (3 + (k - 8)) refl l (omega arith) (omega arith)
+shift_low Right k l = by_eight (nat_lt k 8) k (right_words k) (3 + (k - 8)) refl l (right_low k) (omega arith)
+shift_low SignedRight k l = by_eight (nat_lt k 8) k k (2 + (k - 8)) refl l (omega arith) (omega arith)
+
+shift_kept : (b : Bool) (o : ShiftOperation) (k : ℕ) → nat_le k 15 ≡ b → 2 + (if b then shift_words o k else 1) ≤ 16
+shift_kept true o k e = let l : k ≤ 15 = grind (arith, nat_tests) in omega (arith, shift_low o k l)
+shift_kept false o k e = omega arith
+
+pub steps_keep_to_cycles : StepsKeepToCycles
+steps_keep_to_cycles (number w) = omega arith
+steps_keep_to_cycles (load a) = omega arith
+steps_keep_to_cycles (keep a) = omega arith
+steps_keep_to_cycles (local n) = omega arith
+steps_keep_to_cycles (set_local n) = omega arith
+steps_keep_to_cycles (unary o) = unary_cycles_kept o
+steps_keep_to_cycles (binary o) = binary_cycles_kept o
+steps_keep_to_cycles (shift o k) = omega arith
+steps_keep_to_cycles (element base length) = omega arith
+steps_keep_to_cycles (emit_word count buffer) = omega arith
+steps_keep_to_cycles (list_entry count list home copy) = omega arith
+steps_keep_to_cycles sense = omega arith
+steps_keep_to_cycles (choose taken otherwise) = omega arith
+steps_keep_to_cycles (repeat n from below body) = let turns = below - from in let c = cycles_of body in omega arith
+steps_keep_to_cycles (store_number a w) = omega arith
+steps_keep_to_cycles (move_word from to) = omega arith
+steps_keep_to_cycles (jump to) = omega arith
+
+pub steps_keep_to_words : StepsKeepToWords
+steps_keep_to_words (number w) = omega arith
+steps_keep_to_words (load a) = omega arith
+steps_keep_to_words (keep a) = omega arith
+steps_keep_to_words (local n) = omega arith
+steps_keep_to_words (set_local n) = omega arith
+steps_keep_to_words (unary o) = unary_words_kept o
+steps_keep_to_words (binary o) = binary_words_kept o
+steps_keep_to_words (shift o k) = shift_kept (nat_le k 15) o k refl
+steps_keep_to_words (element base length) = omega arith
+steps_keep_to_words (emit_word count buffer) = omega arith
+steps_keep_to_words (list_entry count list home copy) = omega arith
+steps_keep_to_words sense = omega arith
+steps_keep_to_words (choose taken otherwise) = omega arith
+steps_keep_to_words (repeat n from below body) = omega arith
+steps_keep_to_words (store_number a w) = omega arith
+steps_keep_to_words (move_word from to) = omega arith
+steps_keep_to_words (jump to) = omega arith

@@ -1,0 +1,81 @@
+-- A program that spares a local leaves its word.
+use Rattle.std.proofs.Common.{◌≡◌, ℕ, zero, suc, ◌+◌, ◌-◌, ◌*◌, ◌%◌, ◌==◌, List, [], ◌∷◌, ◌++◌, Option, Some, None, Bool, true, false, nat_eq, nat_lt, refl, sym, ap, ◌∙◌, ne_eqb, ◌≢◌, if◌then◌else◌}
+use Rattle.array_versions.specs.Program.{Step, Program, number, load, keep, local, set_local, unary, binary, shift, element, emit_word, list_entry, sense, choose, repeat, store_number, move_word, jump, nothing, step}
+use Rattle.array_versions.specs.Behaviour.{WordState, assigned, End, GoesOn, Jumps, Short, Strays, Broken, Behaviour, behaves, goes_on, strays, broken, on_end, then_on, is_place, at_place, with_top, with_two, with_stack, pushed, with_local, local_pushed, reading_pushed, chosen, turns, step_behaviour, behaviour}
+use Rattle.array_versions.specs.Form.{StepSpares, Spares}
+
+-- where it goes on, the local has this word, or none
+abbrev pub Leaves : ℕ → Option ℕ → End → Type 0
+Leaves n o (GoesOn t) = t.locals n ≡ o
+Leaves n o (Jumps to t) = Unit {0}
+Leaves n o Short = Unit {0}
+Leaves n o Strays = Unit {0}
+Leaves n o Broken = Unit {0}
+
+then_leaves : (n : ℕ) (o : Option ℕ) (e : End) (next : WordState → Behaviour) → Leaves n o e → ((t : WordState) → t.locals n ≡ o → Leaves n o (next t).end) → Leaves n o (on_end e next).end
+then_leaves n o (GoesOn t) next h k = k t h
+then_leaves n o (Jumps to t) next h k = tt
+then_leaves n o Short next h k = tt
+then_leaves n o Strays next h k = tt
+then_leaves n o Broken next h k = tt
+
+guarded : (n : ℕ) (o : Option ℕ) (c : Bool) (b : Behaviour) → Leaves n o b.end → Leaves n o (if c then b else strays).end
+guarded n o true b h = h
+guarded n o false b h = tt
+
+top_leaves : (n : ℕ) (o : Option ℕ) (vs : List ℕ) (next : ℕ → List ℕ → Behaviour) → ((v : ℕ) (us : List ℕ) → Leaves n o (next v us).end) → Leaves n o (with_top vs next).end
+top_leaves n o [] next h = tt
+top_leaves n o (v ∷ vs) next h = h v vs
+
+local_leaves : (n : ℕ) (o p : Option ℕ) (s : WordState) → s.locals n ≡ o → Leaves n o (local_pushed p s).end
+local_leaves n o None s e = tt
+local_leaves n o (Some v) s e = e
+
+reading_leaves : (n : ℕ) (o : Option ℕ) (rs : List ℕ) (s : WordState) → s.locals n ≡ o → Leaves n o (reading_pushed rs s).end
+reading_leaves n o [] s e = tt
+reading_leaves n o (r ∷ rs) s e = e
+
+element_leaves : (n : ℕ) (o : Option ℕ) (c : Bool) (base i : ℕ) (s : WordState) → s.locals n ≡ o → Leaves n o (if c then at_place (2 * i + base) (goes_on [] (pushed (s.fram (2 * i + base)) s)) else goes_on [] (pushed 0 s)).end
+element_leaves n o true base i s e = guarded n o (is_place (2 * i + base)) (goes_on [] (pushed (s.fram (2 * i + base)) s)) e
+element_leaves n o false base i s e = e
+
+chosen_leaves : (n : ℕ) (o : Option ℕ) (v : ℕ) (a b : Behaviour) → Leaves n o a.end → Leaves n o b.end → Leaves n o (chosen v a b).end
+chosen_leaves n o zero a b h k = k
+chosen_leaves n o (suc v) a b h k = h
+
+jump_leaves : (n : ℕ) (o : Option ℕ) (c : Bool) (to : ℕ) (s : WordState) → Leaves n o (if c then behaves [] (Jumps to s) else broken).end
+jump_leaves n o true to s = tt
+jump_leaves n o false to s = tt
+
+-- another local keeps its word
+other : (s : WordState) (m v n : ℕ) → m ≢ n → assigned s.locals m v n ≡ s.locals n
+other s m v n h = ap (λ b. if b then Some v else s.locals n) (ne_eqb n m (λ e. h (sym e)))
+
+turns_leave : (n : ℕ) (o : Option ℕ) (j m k : ℕ) (body : WordState → Behaviour) (s : WordState) → m ≢ n → s.locals n ≡ o → ((t : WordState) → t.locals n ≡ o → Leaves n o (body t).end) → Leaves n o (turns j m k body s).end
+turns_leave n o zero m k body s d e h = other s m k n d ∙ e
+turns_leave n o (suc j) m k body s d e h =
+    then_leaves n o (body (with_local m k s)).end (turns j m (k + 1) body) (h (with_local m k s) (other s m k n d ∙ e)) (λ t f. turns_leave n o j m (k + 1) body t d f h)
+
+mutual
+  step_leaves : (n : ℕ) (o : Option ℕ) (first : Step) (s : WordState) → StepSpares n first → s.locals n ≡ o → Leaves n o (step_behaviour first s).end
+  step_leaves n o (number w) s h e = e
+  step_leaves n o (load a) s h e = guarded n o (is_place a) (goes_on [] (pushed (s.fram a) s)) e
+  step_leaves n o (keep a) s h e = top_leaves n o s.stack _ (λ v vs. guarded n o (is_place a) _ e)
+  step_leaves n o (local m) s h e = local_leaves n o (s.locals m) s e
+  step_leaves n o (set_local m) s h e = top_leaves n o s.stack _ (λ v vs. other s m v n h ∙ e)
+  step_leaves n o (unary op) s h e = top_leaves n o s.stack _ (λ v vs. e)
+  step_leaves n o (binary op) s h e = top_leaves n o s.stack _ (λ v us. top_leaves n o us _ (λ u vs. e))
+  step_leaves n o (shift op k) s h e = top_leaves n o s.stack _ (λ v vs. e)
+  step_leaves n o (element base length) s h e = top_leaves n o s.stack _ (λ i vs. element_leaves n o (nat_lt i length) base i (with_stack vs s) e)
+  step_leaves n o (emit_word count buffer) s h e = top_leaves n o s.stack _ (λ v vs. guarded n o (is_place count) _ (guarded n o (is_place (2 * s.fram count + buffer)) _ e))
+  step_leaves n o (list_entry count list home copy) s h e = guarded n o (is_place count) _ (guarded n o (is_place (4 * s.fram count + list)) _ (guarded n o (is_place (4 * s.fram count + list + 2)) _ e))
+  step_leaves n o sense s h e = reading_leaves n o s.readings s e
+  step_leaves n o (choose taken otherwise) s h e = top_leaves n o s.stack _ (λ v vs. chosen_leaves n o v _ _ (leaves n o taken (with_stack vs s) h.0 e) (leaves n o otherwise (with_stack vs s) h.1 e))
+  step_leaves n o (repeat m from below body) s h e = turns_leave n o (below - from) m from (behaviour body) s h.0 e (λ t f. leaves n o body t h.1 f)
+  step_leaves n o (store_number a w) s h e = guarded n o (is_place a) _ e
+  step_leaves n o (move_word from to) s h e = guarded n o (is_place from) _ (guarded n o (is_place to) _ e)
+  step_leaves n o (jump to) s h e = jump_leaves n o (to % 2 == 0) to s
+
+  pub leaves : (n : ℕ) (o : Option ℕ) (p : Program) (s : WordState) → Spares n p → s.locals n ≡ o → Leaves n o (behaviour p s).end
+  leaves n o nothing s h e = e
+  leaves n o (step first more) s h e = then_leaves n o (step_behaviour first s).end (behaviour more) (step_leaves n o first s h.0 e) (λ t f. leaves n o more t h.1 f)

@@ -1,0 +1,168 @@
+-- A whole program is never broken: along each way the stack is as deep as is said, and the locals that are said to be assigned are.
+use Rattle.std.proofs.Common.{◌≡◌, ℕ, zero, suc, ◌+◌, ◌-◌, ◌*◌, ◌%◌, ◌==◌, ◌≤◌, ◌||◌, List, [], ◌∷◌, ◌++◌, length, Option, Some, None, Bool, true, false, nat_eq, nat_lt, refl, sym, ap, ◌∙◌, subst, arith, eq-eqb, eqb-true, if◌then◌else◌}
+use Rattle.fram_board.specs.Effects.{Effect, Store, Take, Send}
+use Rattle.array_versions.specs.Program.{Step, Program, number, load, keep, local, set_local, unary, binary, shift, element, emit_word, list_entry, sense, choose, repeat, store_number, move_word, jump, nothing, step}
+use Rattle.array_versions.specs.Behaviour.{WordState, started, assigned, End, GoesOn, Jumps, Short, Strays, Broken, Behaviour, behaves, goes_on, strays, broken, on_end, then_on, is_place, at_place, with_top, with_two, with_stack, pushed, with_local, local_pushed, reading_pushed, word_stored, element_pushed, word_emitted, entry_stored, chosen, turns, jumped, step_behaviour, behaviour}
+use Rattle.array_versions.specs.Form.{Place, start, assigning, Moves, EachTurn, EachStepWay, EachWay, IsWhole}
+use Rattle.array_versions.specs.Laws.{IsSound, WholeEndsSoundly}
+
+-- a local that is assigned has a word
+pub record HasWord (o : Option ℕ) : Type 0 where
+  pub word : ℕ
+  pub is : o ≡ Some word
+
+-- the state is as is known at this place
+pub record Matches (q : Place) (s : WordState) : Type 0 where
+  pub depth : length s.stack ≡ q.depth
+  pub assigned : (n : ℕ) → q.assigned n ≡ true → HasWord (s.locals n)
+
+-- where the end goes on, it is at a place from which what follows is fit
+abbrev pub GoesWell : (Place → Type 0) → End → Type 0
+GoesWell next (GoesOn t) = (q : Place) × next q × Matches q t
+GoesWell next (Jumps to t) = Unit {0}
+GoesWell next Short = Unit {0}
+GoesWell next Strays = Unit {0}
+GoesWell next Broken = ⊥
+
+then_well : (mid next : Place → Type 0) (b : Behaviour) (go : WordState → Behaviour) → GoesWell mid b.end → ((q : Place) (t : WordState) → mid q → Matches q t → GoesWell next (go t).end) → GoesWell next (then_on b go).end
+then_well mid next b go h k = by_end b.end h
+  where
+    by_end : (e : End) → GoesWell mid e → GoesWell next (on_end e go).end
+    by_end (GoesOn t) g = k g.0 t g.1 g.2
+    by_end (Jumps to t) g = tt
+    by_end Short g = tt
+    by_end Strays g = tt
+    by_end Broken g = g
+
+guarded : (next : Place → Type 0) (c : Bool) (b : Behaviour) → GoesWell next b.end → GoesWell next (if c then b else strays).end
+guarded next true b h = h
+guarded next false b h = tt
+
+top_well : (next : Place → Type 0) (vs : List ℕ) (go : ℕ → List ℕ → Behaviour) → 1 ≤ length vs → ((v : ℕ) (us : List ℕ) → length us + 1 ≡ length vs → GoesWell next (go v us).end) → GoesWell next (with_top vs go).end
+top_well next [] go l h = absurd (omega arith)
+top_well next (v ∷ vs) go l h = h v vs (omega arith)
+
+two_well : (next : Place → Type 0) (vs : List ℕ) (go : ℕ → ℕ → List ℕ → Behaviour) → 2 ≤ length vs → ((u v : ℕ) (us : List ℕ) → length us + 2 ≡ length vs → GoesWell next (go u v us).end) → GoesWell next (with_two vs go).end
+two_well next vs go l h =
+    top_well next vs _ (omega arith) (λ v us e. top_well next us _ (omega arith) (λ u rest f. h u v rest (omega arith)))
+
+-- a place of this depth
+abbrev at_depth : ℕ → Place → Place
+at_depth d q = record q { depth = d }
+
+matches_depth : (q : Place) (s : WordState) (vs : List ℕ) (d : ℕ) → Matches q s → length vs ≡ d → Matches (at_depth d q) (with_stack vs s)
+matches_depth q s vs d m e = record { depth = e; assigned = m.assigned }
+
+assigned_by : (b : Bool) (o : Option ℕ) (known : Bool) (v : ℕ) → (known ≡ true → HasWord o) → (b || known) ≡ true → HasWord (if b then Some v else o)
+assigned_by true o known v h e = record { word = v; is = refl }
+assigned_by false o known v h e = h e
+
+pub matches_local : (q : Place) (s : WordState) (n v : ℕ) → Matches q s → Matches (assigning n q) (with_local n v s)
+matches_local q s n v m = record { depth = m.depth; assigned = λ k e. assigned_by (nat_eq k n) (s.locals k) (q.assigned k) v (m.assigned k) e }
+
+-- a word more, and no other change of the stack or the locals
+push_well : (room v : ℕ) (next : Place → Type 0) (q : Place) (s t : WordState) → Moves room 0 1 next q → Matches q s → t.stack ≡ v ∷ s.stack → t.locals ≡ s.locals → GoesWell next (GoesOn t)
+push_well room v next q s t h m e f = (
+  at_depth (q.depth - 0 + 1) q,
+  h.2,
+  record { depth = omega (arith, ap (length {A = ℕ}) e, m.depth); assigned = λ n k. subst (λ l. HasWord (l n)) (sym f) (m.assigned n k) },
+)
+
+same_well : (next : Place → Type 0) (q : Place) (s t : WordState) → next q → Matches q s → t.stack ≡ s.stack → t.locals ≡ s.locals → GoesWell next (GoesOn t)
+same_well next q s t h m e f =
+    (q, h, record { depth = ap (length {A = ℕ}) e ∙ m.depth; assigned = λ n k. subst (λ l. HasWord (l n)) (sym f) (m.assigned n k) })
+
+-- a word less
+pop_well : (room : ℕ) (next : Place → Type 0) (q : Place) (s t : WordState) → Moves room 1 0 next q → Matches q s → length t.stack + 1 ≡ length s.stack → t.locals ≡ s.locals → GoesWell next (GoesOn t)
+pop_well room next q s t h m e f = (
+  at_depth (q.depth - 1 + 0) q,
+  h.2,
+  record { depth = omega (arith, m.depth); assigned = λ n k. subst (λ l. HasWord (l n)) (sym f) (m.assigned n k) },
+)
+
+-- words popped, and one pushed
+turn_well : (room pops : ℕ) (next : Place → Type 0) (q : Place) (s t : WordState) → Moves room pops 1 next q → Matches q s → length t.stack + pops ≡ length s.stack + 1 → t.locals ≡ s.locals → GoesWell next (GoesOn t)
+turn_well room pops next q s t h m e f = (
+  at_depth (q.depth - pops + 1) q,
+  h.2,
+  record { depth = let l = h.0 in omega (arith, m.depth); assigned = λ n k. subst (λ l. HasWord (l n)) (sym f) (m.assigned n k) },
+)
+
+local_well : (room : ℕ) (o : Option ℕ) (next : Place → Type 0) (q : Place) (s : WordState) → HasWord o → Moves room 0 1 next q → Matches q s → GoesWell next (local_pushed o s).end
+local_well room None next q s w h m = absurd (let e = w.is in (cc))
+local_well room (Some v) next q s w h m = push_well room v next q s (pushed v s) h m refl refl
+
+reading_well : (room : ℕ) (rs : List ℕ) (next : Place → Type 0) (q : Place) (s : WordState) → Moves room 0 1 next q → Matches q s → GoesWell next (reading_pushed rs s).end
+reading_well room [] next q s h m = tt
+reading_well room (r ∷ rs) next q s h m = push_well room r next q s (pushed r (record s { readings = rs })) h m refl refl
+
+element_well : (c : Bool) (base i : ℕ) (next : Place → Type 0) (t : WordState) → ((v : ℕ) → GoesWell next (GoesOn (pushed v t))) → GoesWell next (if c then at_place (2 * i + base) (goes_on [] (pushed (t.fram (2 * i + base)) t)) else goes_on [] (pushed 0 t)).end
+element_well true base i next t h = guarded next (is_place (2 * i + base)) (goes_on [] (pushed (t.fram (2 * i + base)) t)) (h (t.fram (2 * i + base)))
+element_well false base i next t h = h 0
+
+chosen_well : (v : ℕ) (next : Place → Type 0) (a b : Behaviour) → GoesWell next a.end → GoesWell next b.end → GoesWell next (chosen v a b).end
+chosen_well zero next a b h k = k
+chosen_well (suc v) next a b h k = h
+
+turns_well : (body : (Place → Type 0) → Place → Type 0) (run : WordState → Behaviour) → ((next : Place → Type 0) (q : Place) (s : WordState) → body next q → Matches q s → GoesWell next (run s).end)
+    → (m n k : ℕ) (next : Place → Type 0) (q : Place) (s : WordState) → EachTurn m n body next q → Matches q s → GoesWell next (turns m n k run s).end
+turns_well body run f zero n k next q s h m = (assigning n q, h, matches_local q s n k m)
+turns_well body run f (suc j) n k next q s h m =
+    then_well (EachTurn j n body next) next (run (with_local n k s)) (turns j n (k + 1) run)
+    (f (EachTurn j n body next) (assigning n q) (with_local n k s) h (matches_local q s n k m))
+    (λ p t g w. turns_well body run f j n (k + 1) next p t g w)
+
+jump_well : (c : Bool) (to : ℕ) (next : Place → Type 0) (s : WordState) → c ≡ true → GoesWell next (if c then behaves [] (Jumps to s) else broken).end
+jump_well true to next s e = tt
+jump_well false to next s e = absurd (cc)
+
+mutual
+  -- a step along each way
+  pub step_well : (room : ℕ) (first : Step) (next : Place → Type 0) (q : Place) (s : WordState) → EachStepWay room first next q → Matches q s → GoesWell next (step_behaviour first s).end
+  step_well room (number w) next q s h m = push_well room w next q s (pushed w s) h m refl refl
+  step_well room (load a) next q s h m = guarded next (is_place a) (goes_on [] (pushed (s.fram a) s)) (push_well room (s.fram a) next q s (pushed (s.fram a) s) h m refl refl)
+  step_well room (keep a) next q s h m =
+      top_well next s.stack _ (omega (arith, h.0, m.depth)) (λ v vs e. guarded next (is_place a) _ (pop_well room next q s _ h m e refl))
+  step_well room (local n) next q s h m = local_well room (s.locals n) next q s (m.assigned n h.0) h.1 m
+  step_well room (set_local n) next q s h m =
+      top_well next s.stack _ (omega (arith, h.0, m.depth))
+      (λ v vs e. (assigning n (at_depth (q.depth - 1 + 0) q), h.2, matches_local (at_depth (q.depth - 1 + 0) q) (with_stack vs s) n v (matches_depth q s vs (q.depth - 1 + 0) m (omega (arith, m.depth)))))
+  step_well room (unary op) next q s h m = top_well next s.stack _ (omega (arith, h.0, m.depth)) (λ v vs e. turn_well room 1 next q s _ h m (omega arith) refl)
+  step_well room (binary op) next q s h m = two_well next s.stack _ (omega (arith, h.0, m.depth)) (λ u v vs e. turn_well room 2 next q s _ h m (omega arith) refl)
+  step_well room (shift op k) next q s h m = top_well next s.stack _ (omega (arith, h.0, m.depth)) (λ v vs e. turn_well room 1 next q s _ h m (omega arith) refl)
+  step_well room (element base size) next q s h m =
+      top_well next s.stack _ (omega (arith, h.0, m.depth)) (λ i vs e. element_well (nat_lt i size) base i next (with_stack vs s) (λ v. turn_well room 1 next q s _ h m (omega arith) refl))
+  step_well room (emit_word count buffer) next q s h m =
+      top_well next s.stack _ (omega (arith, h.0, m.depth)) (λ v vs e. guarded next (is_place count) _ (guarded next (is_place (2 * s.fram count + buffer)) _ (pop_well room next q s _ h m e refl)))
+  step_well room (list_entry count list home copy) next q s h m =
+      guarded next (is_place count) _ (guarded next (is_place (4 * s.fram count + list)) _ (guarded next (is_place (4 * s.fram count + list + 2)) _ (same_well next q s _ h m refl refl)))
+  step_well room sense next q s h m = reading_well room s.readings next q s h m
+  step_well room (choose taken otherwise) next q s h m =
+      top_well next s.stack _ (omega (arith, h.0, m.depth)) (λ v vs e.
+      let p = at_depth (q.depth - 1 + 0) q in
+      let w = matches_depth q s vs (q.depth - 1 + 0) m (omega (arith, m.depth)) in
+      chosen_well v next _ _ (well room taken next p (with_stack vs s) h.2.0 w) (well room otherwise next p (with_stack vs s) h.2.1 w))
+  step_well room (repeat n from below body) next q s h m =
+      turns_well (EachWay room body) (behaviour body) (well room body) (below - from) n from next q s h m
+  step_well room (store_number a w) next q s h m = guarded next (is_place a) _ (same_well next q s _ h m refl refl)
+  step_well room (move_word from to) next q s h m = guarded next (is_place from) _ (guarded next (is_place to) _ (same_well next q s _ h m refl refl))
+  step_well room (jump to) next q s h m = jump_well (to % 2 == 0) to next s (eq-eqb (to % 2) 0 h)
+
+  -- a program along each way
+  pub well : (room : ℕ) (p : Program) (next : Place → Type 0) (q : Place) (s : WordState) → EachWay room p next q → Matches q s → GoesWell next (behaviour p s).end
+  well room nothing next q s h m = (q, h, m)
+  well room (step first more) next q s h m =
+      then_well (EachWay room more next) next (step_behaviour first s) (behaviour more) (step_well room first (EachWay room more next) q s h m) (λ p t g w. well room more next p t g w)
+
+pub start_matches : (fram : ℕ → ℕ) (readings : List ℕ) → Matches start (started fram readings)
+start_matches fram readings = record { depth = refl; assigned = λ n e. absurd (let f = e in (cc)) }
+
+pub whole_ends_soundly : WholeEndsSoundly
+whole_ends_soundly p fram readings h = by_end (behaviour p (started fram readings)).end (well h.room p (λ q. ⊥) start (started fram readings) h.ways (start_matches fram readings))
+  where
+    by_end : (e : End) → GoesWell (λ q. ⊥) e → IsSound e
+    by_end (GoesOn t) g = g.1
+    by_end (Jumps to t) g = tt
+    by_end Short g = tt
+    by_end Strays g = tt
+    by_end Broken g = g

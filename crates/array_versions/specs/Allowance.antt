@@ -1,0 +1,60 @@
+-- What the statements and expressions of a source allow their code, in cycles and words, parts aside; and that each step keeps to it.
+use Rattle.std.specs.Prelude.{ℕ, ◌+◌, ◌-◌, ◌*◌, ◌≤◌, max}
+use Rattle.array_versions.specs.declared.operations.BinaryOperation.{BinaryOperation}
+use Rattle.array_versions.specs.declared.operations.BinaryOperation.TheVariants.{Multiply, Divide, Remainder}
+use Rattle.array_versions.specs.Program.{Step, number, load, keep, local, set_local, unary, binary, shift, element, emit_word, list_entry, sense, choose, repeat, store_number, move_word, jump}
+use Rattle.array_versions.specs.Cost.{step_cycles, cycles_of, step_words, words_of}
+
+-- the cycles of an operation on two words
+abbrev pub binary_allowance : BinaryOperation → ℕ
+binary_allowance Multiply = 300
+binary_allowance Divide = 400
+binary_allowance Remainder = 400
+binary_allowance _ = 40
+
+-- the cycles of a step: of what an expression or a statement is made of, those of its row in the table of the allowance. An entry
+-- of the commit list has 40, and the stores and the jump of a transition have 100 together
+abbrev pub allowed_cycles : Step → ℕ
+allowed_cycles (number w) = 40
+allowed_cycles (load a) = 40
+allowed_cycles (keep a) = 40
+allowed_cycles (local n) = 40
+allowed_cycles (set_local n) = 40
+allowed_cycles (unary op) = 40
+allowed_cycles (binary op) = binary_allowance op
+allowed_cycles (shift op k) = 100
+allowed_cycles (element base length) = 60
+allowed_cycles (emit_word count buffer) = 60
+allowed_cycles (list_entry count list home copy) = 40
+allowed_cycles sense = 40
+allowed_cycles (choose taken otherwise) = 40 + max (cycles_of taken) (cycles_of otherwise)
+allowed_cycles (repeat n from below body) = 40 + (below - from) * (40 + cycles_of body)
+allowed_cycles (store_number a w) = 30
+allowed_cycles (move_word from to) = 30
+allowed_cycles (jump to) = 10
+
+-- its words. The stores and the jump of a transition have 40 together
+abbrev pub allowed_words : Step → ℕ
+allowed_words (number w) = 16
+allowed_words (load a) = 16
+allowed_words (keep a) = 24
+allowed_words (local n) = 16
+allowed_words (set_local n) = 24
+allowed_words (unary op) = 16
+allowed_words (binary op) = 16
+allowed_words (shift op k) = 16
+allowed_words (element base length) = 24
+allowed_words (emit_word count buffer) = 24
+allowed_words (list_entry count list home copy) = 16
+allowed_words sense = 16
+allowed_words (choose taken otherwise) = 24 + words_of taken + words_of otherwise
+allowed_words (repeat n from below body) = 24 + words_of body
+allowed_words (store_number a w) = 10
+allowed_words (move_word from to) = 10
+allowed_words (jump to) = 10
+
+abbrev pub StepsKeepToCycles : Type 0
+StepsKeepToCycles = (s : Step) → step_cycles s ≤ allowed_cycles s
+
+abbrev pub StepsKeepToWords : Type 0
+StepsKeepToWords = (s : Step) → step_words s ≤ allowed_words s

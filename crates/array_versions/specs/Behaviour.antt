@@ -1,0 +1,175 @@
+-- What a word program does from a state on: its effects, and how it ends. Both depend on FRAM and the readings at its start.
+use Rattle.std.specs.Prelude.{ℕ, zero, suc, ◌+◌, ◌-◌, ◌*◌, ◌%◌, ◌==◌, ◌&&◌, Bool, nat_eq, nat_lt, if◌then◌else◌, List, [], ◌∷◌, ◌++◌, Option, Some, None}
+use Rattle.fram_board.specs.Bus.{is_fram}
+use Rattle.fram_board.specs.Effects.{Effect, Store, Take, Send}
+use Rattle.machine_effects.specs.World.{put}
+use Rattle.array_versions.specs.Operations.{unary_word, binary_word, shift_word}
+use Rattle.array_versions.specs.Program.{Step, Program, number, load, keep, local, set_local, unary, binary, shift, element, emit_word, list_entry, sense, choose, repeat, store_number, move_word, jump, nothing, step}
+
+-- what a program works on
+pub record WordState : Type 0 where
+  pub stack : List ℕ  -- its top first
+  pub locals : ℕ → Option ℕ  -- none: not assigned yet
+  pub fram : ℕ → ℕ  -- the word at each even address
+  pub readings : List ℕ  -- the readings that are left
+
+-- the state at the start of an attempt: nothing on the stack, and no local assigned
+abbrev pub started : (ℕ → ℕ) → List ℕ → WordState
+started fram readings = record { stack = []; locals = λ n. None; fram = fram; readings = readings }
+
+-- how steps end: behind the last one; by a jump; where a reading is wanted and none is left; where an address isn't that of a
+-- word of FRAM; or where a word is taken from an empty stack, a local is read before it is assigned, or a jump goes to an odd address
+pub data End : Type 0 where
+  GoesOn : (state : WordState) → End
+  Jumps : (to : ℕ) → (state : WordState) → End
+  Short : End
+  Strays : End
+  Broken : End
+
+-- what steps do
+pub record Behaviour : Type 0 where
+  pub effects : List Effect
+  pub end : End
+
+-- effects, and an end
+abbrev pub behaves : List Effect → End → Behaviour
+behaves es e = record { effects = es; end = e }
+
+-- effects, and the steps go on
+abbrev pub goes_on : List Effect → WordState → Behaviour
+goes_on es s = behaves es (GoesOn s)
+
+abbrev pub strays : Behaviour
+strays = behaves [] Strays
+
+abbrev pub broken : Behaviour
+broken = behaves [] Broken
+
+-- a behaviour with these effects in front
+abbrev pub behind_effects : List Effect → Behaviour → Behaviour
+behind_effects es b = record { effects = es ++ b.effects; end = b.end }
+
+-- what stands behind runs only where an end goes on
+abbrev pub on_end : End → (WordState → Behaviour) → Behaviour
+on_end (GoesOn s) next = next s
+on_end (Jumps to s) next = behaves [] (Jumps to s)
+on_end Short next = behaves [] Short
+on_end Strays next = strays
+on_end Broken next = broken
+
+-- one behaviour, and behind it another
+abbrev pub then_on : Behaviour → (WordState → Behaviour) → Behaviour
+then_on b next = behind_effects b.effects (on_end b.end next)
+
+-- the even addresses of FRAM
+abbrev pub is_place : ℕ → Bool
+is_place a = (a % 2 == 0) && is_fram a
+
+-- this, where the address is that of a word of FRAM
+abbrev pub at_place : ℕ → Behaviour → Behaviour
+at_place a b = if is_place a then b else strays
+
+-- pops a word
+abbrev pub with_top : List ℕ → (ℕ → List ℕ → Behaviour) → Behaviour
+with_top [] next = broken
+with_top (v ∷ vs) next = next v vs
+
+-- pops two words, the second one the top
+abbrev pub with_two : List ℕ → (ℕ → ℕ → List ℕ → Behaviour) → Behaviour
+with_two vs next = with_top vs (λ v us. with_top us (λ u rest. next u v rest))
+
+-- the state with this stack
+abbrev pub with_stack : List ℕ → WordState → WordState
+with_stack vs s = record s { stack = vs }
+
+-- the state with a word more on the stack
+abbrev pub pushed : ℕ → WordState → WordState
+pushed v s = with_stack (v ∷ s.stack) s
+
+-- the state with a word stored
+abbrev pub stored : ℕ → ℕ → WordState → WordState
+stored a v s = record s { fram = put s.fram a v }
+
+-- locals with this word of one of them
+abbrev pub assigned : (ℕ → Option ℕ) → ℕ → ℕ → ℕ → Option ℕ
+assigned locals n v m = if nat_eq m n then Some v else locals m
+
+-- the state with this word of a local
+abbrev pub with_local : ℕ → ℕ → WordState → WordState
+with_local n v s = record s { locals = assigned s.locals n v }
+
+-- pushes a local, if it is assigned
+abbrev pub local_pushed : Option ℕ → WordState → Behaviour
+local_pushed None s = broken
+local_pushed (Some v) s = goes_on [] (pushed v s)
+
+-- takes the next reading and pushes it
+abbrev pub reading_pushed : List ℕ → WordState → Behaviour
+reading_pushed [] s = behaves [] Short
+reading_pushed (r ∷ rs) s = goes_on (Take r ∷ []) (pushed r (record s { readings = rs }))
+
+-- stores a word
+abbrev pub word_stored : ℕ → ℕ → WordState → Behaviour
+word_stored a v s = at_place a (goes_on (Store a v ∷ []) (stored a v s))
+
+-- pushes an element of an array: 0 past its end
+abbrev pub element_pushed : ℕ → ℕ → ℕ → WordState → Behaviour
+element_pushed base length i s =
+    let a = 2 * i + base in
+    if nat_lt i length then at_place a (goes_on [] (pushed (s.fram a) s)) else goes_on [] (pushed 0 s)
+
+-- stores a word behind those that are counted, then raises the count
+abbrev pub word_emitted : ℕ → ℕ → ℕ → WordState → Behaviour
+word_emitted count buffer v s =
+    let n = s.fram count in
+    let a = 2 * n + buffer in
+    at_place count (at_place a (goes_on (Store a v ∷ Store count (n + 1) ∷ []) (stored count (n + 1) (stored a v s))))
+
+-- stores the home and its copy behind the entries that are counted, then raises the count
+abbrev pub entry_stored : ℕ → ℕ → ℕ → ℕ → WordState → Behaviour
+entry_stored count list home copy s =
+    let n = s.fram count in
+    let a = 4 * n + list in
+    at_place count (at_place a (at_place (a + 2) (
+    goes_on (Store a home ∷ Store (a + 2) copy ∷ Store count (n + 1) ∷ []) (stored count (n + 1) (stored (a + 2) copy (stored a home s))))))
+
+-- the first where a condition isn't 0, else the second
+abbrev pub chosen : ℕ → Behaviour → Behaviour → Behaviour
+chosen zero taken otherwise = otherwise
+chosen (suc v) taken otherwise = taken
+
+-- so many turns for a local, from number k on; behind them it is the number after the last
+abbrev pub turns : ℕ → ℕ → ℕ → (WordState → Behaviour) → WordState → Behaviour
+turns zero n k body s = goes_on [] (with_local n k s)
+turns (suc m) n k body s = then_on (body (with_local n k s)) (turns m n (k + 1) body)
+
+-- leaves by a jump
+abbrev pub jumped : ℕ → WordState → Behaviour
+jumped to s = if to % 2 == 0 then behaves [] (Jumps to s) else broken
+
+abbrev mutual
+  -- what one step does
+  pub step_behaviour : Step → WordState → Behaviour
+  step_behaviour (number w) s = goes_on [] (pushed w s)
+  step_behaviour (load a) s = at_place a (goes_on [] (pushed (s.fram a) s))
+  step_behaviour (keep a) s = with_top s.stack (λ v vs. word_stored a v (with_stack vs s))
+  step_behaviour (local n) s = local_pushed (s.locals n) s
+  step_behaviour (set_local n) s = with_top s.stack (λ v vs. goes_on [] (with_local n v (with_stack vs s)))
+  step_behaviour (unary op) s = with_top s.stack (λ v vs. goes_on [] (with_stack (unary_word op v ∷ vs) s))
+  step_behaviour (binary op) s = with_two s.stack (λ u v vs. goes_on [] (with_stack (binary_word op u v ∷ vs) s))
+  step_behaviour (shift op k) s = with_top s.stack (λ v vs. goes_on [] (with_stack (shift_word op v k ∷ vs) s))
+  step_behaviour (element base length) s = with_top s.stack (λ i vs. element_pushed base length i (with_stack vs s))
+  step_behaviour (emit_word count buffer) s = with_top s.stack (λ v vs. word_emitted count buffer v (with_stack vs s))
+  step_behaviour (list_entry count list home copy) s = entry_stored count list home copy s
+  step_behaviour sense s = reading_pushed s.readings s
+  step_behaviour (choose taken otherwise) s =
+      with_top s.stack (λ v vs. chosen v (behaviour taken (with_stack vs s)) (behaviour otherwise (with_stack vs s)))
+  step_behaviour (repeat n from below body) s = turns (below - from) n from (behaviour body) s
+  step_behaviour (store_number a w) s = word_stored a w s
+  step_behaviour (move_word from to) s = at_place from (word_stored to (s.fram from) s)
+  step_behaviour (jump to) s = jumped to s
+
+  -- one step after another
+  pub behaviour : Program → WordState → Behaviour
+  behaviour nothing s = goes_on [] s
+  behaviour (step first more) s = then_on (step_behaviour first s) (behaviour more)

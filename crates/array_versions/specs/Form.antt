@@ -1,0 +1,125 @@
+-- What a program must have so that code can be made of it: each way through it, with conditions free and loops with their turns,
+-- ends in a jump, takes no word from an empty stack, and reads no local before it is assigned; and there is room.
+use Rattle.std.specs.Prelude.{ℕ, zero, suc, ◌+◌, ◌-◌, ◌*◌, ◌%◌, ◌≡◌, ◌≢◌, ◌<◌, ◌≤◌, ◌||◌, Bool, true, false, nat_eq}
+use Rattle.alp_words.specs.Words.{IsWord}
+use Rattle.array_versions.specs.Program.{Step, Program, number, load, keep, local, set_local, unary, binary, shift, element, emit_word, list_entry, sense, choose, repeat, store_number, move_word, jump, nothing, step}
+
+-- what is known at a place of one way: the words on the stack, and which locals are assigned
+pub record Place : Type 0 where
+  pub depth : ℕ
+  pub assigned : ℕ → Bool
+
+-- at the start of an attempt
+abbrev pub start : Place
+start = record { depth = 0; assigned = λ n. false }
+
+-- one local more is assigned
+abbrev pub assigning : ℕ → Place → Place
+assigning n p = record p { assigned = λ m. nat_eq m n || p.assigned m }
+
+-- a step that pops and then pushes so many words, with room for so many
+abbrev pub Moves : ℕ → ℕ → ℕ → (Place → Type 0) → Place → Type 0
+Moves room pops pushes next p =
+    (pops ≤ p.depth) × (p.depth - pops + pushes ≤ room) × next (record p { depth = p.depth - pops + pushes })
+
+-- so many turns of a loop for a local, then what follows
+abbrev pub EachTurn : ℕ → ℕ → ((Place → Type 0) → Place → Type 0) → (Place → Type 0) → Place → Type 0
+EachTurn zero n body next p = next (assigning n p)
+EachTurn (suc m) n body next p = body (EachTurn m n body next) (assigning n p)
+
+abbrev mutual
+  -- each way through a step from this place is fit, and what follows is so where the way goes on
+  pub EachStepWay : ℕ → Step → (Place → Type 0) → Place → Type 0
+  EachStepWay room (number w) next p = Moves room 0 1 next p
+  EachStepWay room (load a) next p = Moves room 0 1 next p
+  EachStepWay room (keep a) next p = Moves room 1 0 next p
+  EachStepWay room (local n) next p = (p.assigned n ≡ true) × Moves room 0 1 next p
+  EachStepWay room (set_local n) next p = Moves room 1 0 (λ q. next (assigning n q)) p
+  EachStepWay room (unary op) next p = Moves room 1 1 next p
+  EachStepWay room (binary op) next p = Moves room 2 1 next p
+  EachStepWay room (shift op k) next p = Moves room 1 1 next p
+  EachStepWay room (element base length) next p = Moves room 1 1 next p
+  EachStepWay room (emit_word count buffer) next p = Moves room 1 0 next p
+  EachStepWay room (list_entry count list home copy) next p = next p
+  EachStepWay room sense next p = Moves room 0 1 next p
+  EachStepWay room (choose taken otherwise) next p =
+      Moves room 1 0 (λ q. EachWay room taken next q × EachWay room otherwise next q) p
+  EachStepWay room (repeat n from below body) next p = EachTurn (below - from) n (EachWay room body) next p
+  EachStepWay room (store_number a w) next p = next p
+  EachStepWay room (move_word from to) next p = next p
+  EachStepWay room (jump to) next p = to % 2 ≡ 0
+
+  -- the same of steps, one after another
+  pub EachWay : ℕ → Program → (Place → Type 0) → Place → Type 0
+  EachWay room nothing next p = next p
+  EachWay room (step first more) next p = EachStepWay room first (EachWay room more next) p
+
+abbrev mutual
+  -- each local of a step is below this number
+  pub StepLocalsBelow : ℕ → Step → Type 0
+  StepLocalsBelow locals (local n) = n < locals
+  StepLocalsBelow locals (set_local n) = n < locals
+  StepLocalsBelow locals (choose taken otherwise) = LocalsBelow locals taken × LocalsBelow locals otherwise
+  StepLocalsBelow locals (repeat n from below body) = (n < locals) × LocalsBelow locals body
+  StepLocalsBelow locals _ = Unit {0}
+
+  pub LocalsBelow : ℕ → Program → Type 0
+  LocalsBelow locals nothing = Unit {0}
+  LocalsBelow locals (step first more) = StepLocalsBelow locals first × LocalsBelow locals more
+
+abbrev mutual
+  -- a step assigns no local of this number
+  pub StepSpares : ℕ → Step → Type 0
+  StepSpares n (set_local m) = m ≢ n
+  StepSpares n (choose taken otherwise) = Spares n taken × Spares n otherwise
+  StepSpares n (repeat m from below body) = (m ≢ n) × Spares n body
+  StepSpares n _ = Unit {0}
+
+  pub Spares : ℕ → Program → Type 0
+  Spares n nothing = Unit {0}
+  Spares n (step first more) = StepSpares n first × Spares n more
+
+abbrev mutual
+  -- the body of each loop assigns no local that counts the loop's turns, so that there are as many as it says
+  pub StepLoopsCount : Step → Type 0
+  StepLoopsCount (choose taken otherwise) = LoopsCount taken × LoopsCount otherwise
+  StepLoopsCount (repeat n from below body) = Spares n body × LoopsCount body
+  StepLoopsCount _ = Unit {0}
+
+  pub LoopsCount : Program → Type 0
+  LoopsCount nothing = Unit {0}
+  LoopsCount (step first more) = StepLoopsCount first × LoopsCount more
+
+abbrev mutual
+  -- each number in a step is a word, as those of a program in memory are
+  pub StepOfWords : Step → Type 0
+  StepOfWords (number w) = IsWord w
+  StepOfWords (load a) = IsWord a
+  StepOfWords (keep a) = IsWord a
+  StepOfWords (local n) = IsWord n
+  StepOfWords (set_local n) = IsWord n
+  StepOfWords (unary op) = Unit {0}
+  StepOfWords (binary op) = Unit {0}
+  StepOfWords (shift op k) = IsWord k
+  StepOfWords (element base length) = IsWord base × IsWord length
+  StepOfWords (emit_word count buffer) = IsWord count × IsWord buffer
+  StepOfWords (list_entry count list home copy) = IsWord count × IsWord list × IsWord home × IsWord copy
+  StepOfWords sense = Unit {0}
+  StepOfWords (choose taken otherwise) = OfWords taken × OfWords otherwise
+  StepOfWords (repeat n from below body) = IsWord n × IsWord from × IsWord below × OfWords body
+  StepOfWords (store_number a w) = IsWord a × IsWord w
+  StepOfWords (move_word from to) = IsWord from × IsWord to
+  StepOfWords (jump to) = IsWord to
+
+  pub OfWords : Program → Type 0
+  OfWords nothing = Unit {0}
+  OfWords (step first more) = StepOfWords first × OfWords more
+
+-- a program that is whole: its locals stand from 1C20 on, its stack grows down from 2400, and each of its ways ends in a jump
+pub record IsWhole (p : Program) : Type 0 where
+  pub locals : ℕ  -- each local is below this number
+  pub room : ℕ  -- no way has more words on the stack
+  pub fits : 0x1C20 + 2 * (locals + room) ≤ 0x2400
+  pub low_locals : LocalsBelow locals p
+  pub loops_count : LoopsCount p
+  pub ways : EachWay room p (λ q. ⊥) start

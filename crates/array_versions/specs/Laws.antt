@@ -1,0 +1,62 @@
+-- What holds of the behaviour of word programs.
+use Rattle.std.specs.Prelude.{ℕ, ◌≡◌, ◌+◌, ◌<◌, List, [], ◌++◌, Some}
+use Rattle.std.specs.List.{AllByRecursion}
+use Rattle.fram_board.specs.Effects.{Effect, Store, Take, Send}
+use Rattle.machine_effects.specs.World.{fram_after, readings_taken}
+use Rattle.array_versions.specs.Program.{Step, Program, joined, step}
+use Rattle.array_versions.specs.Behaviour.{WordState, started, End, GoesOn, Jumps, Short, Strays, Broken, Behaviour, behaviour, then_on}
+use Rattle.array_versions.specs.Form.{IsWhole, OfWords}
+use Rattle.array_versions.specs.Cost.{cycles_of, words_of}
+
+-- a program behind another goes on where that one ends
+abbrev pub JoinedGoOn : Type 0
+JoinedGoOn = (p q : Program) (s : WordState) → behaviour (joined p q) s ≡ then_on (behaviour p s) (behaviour q)
+
+-- its cycles are those of both
+abbrev pub JoinedCycles : Type 0
+JoinedCycles = (p q : Program) → cycles_of (joined p q) ≡ cycles_of p + cycles_of q
+
+-- and so are its words
+abbrev pub JoinedWords : Type 0
+JoinedWords = (p q : Program) → words_of (joined p q) ≡ words_of p + words_of q
+
+-- FRAM and the readings left at an end are what the effects make of those at the start
+abbrev pub EndsByEffects : WordState → List Effect → End → Type 0
+EndsByEffects s es (GoesOn t) = (t.fram ≡ fram_after es s.fram) × (readings_taken es ++ t.readings ≡ s.readings)
+EndsByEffects s es (Jumps to t) = (t.fram ≡ fram_after es s.fram) × (readings_taken es ++ t.readings ≡ s.readings)
+EndsByEffects s es Short = readings_taken es ≡ s.readings
+EndsByEffects s es Strays = Unit {0}
+EndsByEffects s es Broken = Unit {0}
+
+abbrev pub BehavesByEffects : Type 0
+BehavesByEffects = (p : Program) (s : WordState) → let b = behaviour p s in EndsByEffects s b.effects b.end
+
+-- an end that code can come to
+abbrev pub IsSound : End → Type 0
+IsSound (GoesOn t) = ⊥
+IsSound (Jumps to t) = Unit {0}
+IsSound Short = Unit {0}
+IsSound Strays = Unit {0}
+IsSound Broken = ⊥
+
+-- a whole program jumps, or is short of readings, or comes to an address that isn't in FRAM
+abbrev pub WholeEndsSoundly : Type 0
+WholeEndsSoundly = (p : Program) (fram : ℕ → ℕ) (readings : List ℕ) → IsWhole p → IsSound (behaviour p (started fram readings)).end
+
+-- all that a state holds are words
+pub record IsStateOfWords (s : WordState) : Type 0 where
+  pub stack : AllByRecursion (λ v. v < 0x10000) s.stack
+  pub locals : (n v : ℕ) → s.locals n ≡ Some v → v < 0x10000
+  pub fram : (a : ℕ) → s.fram a < 0x10000
+  pub readings : AllByRecursion (λ v. v < 0x10000) s.readings
+
+-- where an end has a state, all in it are words
+abbrev pub EndsInWords : End → Type 0
+EndsInWords (GoesOn t) = IsStateOfWords t
+EndsInWords (Jumps to t) = IsStateOfWords t
+EndsInWords Short = Unit {0}
+EndsInWords Strays = Unit {0}
+EndsInWords Broken = Unit {0}
+
+abbrev pub WordsStayWords : Type 0
+WordsStayWords = (p : Program) (s : WordState) → OfWords p → IsStateOfWords s → EndsInWords (behaviour p s).end

@@ -1,0 +1,40 @@
+-- A word program as a value: a list of steps.
+use Rattle.std.specs.Prelude.{ℕ}
+use Rattle.array_versions.specs.declared.operations.UnaryOperation.{UnaryOperation}
+use Rattle.array_versions.specs.declared.operations.BinaryOperation.{BinaryOperation}
+use Rattle.array_versions.specs.declared.operations.ShiftOperation.{ShiftOperation}
+
+mutual
+  -- One step. It works on a stack of words, on locals by number, and on words of FRAM by address.
+  pub data Step : Type 0 where
+    number : (word : ℕ) → Step
+    load : (address : ℕ) → Step
+    keep : (address : ℕ) → Step
+    local : (n : ℕ) → Step
+    set_local : (n : ℕ) → Step
+    unary : (operation : UnaryOperation) → Step
+    binary : (operation : BinaryOperation) → Step
+    shift : (operation : ShiftOperation) → (count : ℕ) → Step
+    element : (base length : ℕ) → Step
+    emit_word : (count buffer : ℕ) → Step
+    list_entry : (count list home copy : ℕ) → Step
+    sense : Step
+    choose : (taken otherwise : Program) → Step
+    repeat : (n from below : ℕ) → (body : Program) → Step
+    store_number : (address word : ℕ) → Step
+    move_word : (from to : ℕ) → Step
+    jump : (to : ℕ) → Step
+
+  -- steps, one after another
+  pub data Program : Type 0 where
+    nothing : Program
+    step : Step → Program → Program
+
+-- one program behind another
+abbrev pub joined : Program → Program → Program
+joined nothing q = q
+joined (step s p) q = step s (joined p q)
+
+-- one more step behind a program
+abbrev pub behind : Program → Step → Program
+behind p s = joined p (step s nothing)

@@ -1,0 +1,44 @@
+-- The programs that the Rust values stand for.
+use Rattle.std.specs.Prelude.{List, [], ◌∷◌, map}
+use Rattle.array_versions.specs.Program as steps
+use Rattle.array_versions.specs.Program.{Step, Program, nothing, step}
+use Rattle.array_versions.specs.declared.program.WordStep.{WordStep, fold-WordStep}
+use Rattle.array_versions.specs.declared.program.WordStep.TheOpen.{WordStep-F}
+use Rattle.array_versions.specs.declared.program.WordProgram.{WordProgram}
+
+-- a list of steps as a program
+abbrev pub steps_in_order : List Step → Program
+steps_in_order [] = nothing
+steps_in_order (s ∷ more) = step s (steps_in_order more)
+
+-- one level, with the steps inside already seen
+abbrev pub step_layer : WordStep-F Step → Step
+step_layer (WordStep-F.Number w) = steps.number w
+step_layer (WordStep-F.Load a) = steps.load a
+step_layer (WordStep-F.Keep a) = steps.keep a
+step_layer (WordStep-F.Local n) = steps.local n
+step_layer (WordStep-F.SetLocal n) = steps.set_local n
+step_layer (WordStep-F.Unary op) = steps.unary op
+step_layer (WordStep-F.Binary op) = steps.binary op
+step_layer (WordStep-F.Shift op k) = steps.shift op k
+step_layer (WordStep-F.Element base length) = steps.element base length
+step_layer (WordStep-F.EmitWord count buffer) = steps.emit_word count buffer
+step_layer (WordStep-F.ListEntry count list home copy) = steps.list_entry count list home copy
+step_layer WordStep-F.Sense = steps.sense
+step_layer (WordStep-F.Choose a b) = steps.choose (steps_in_order a.items) (steps_in_order b.items)
+step_layer (WordStep-F.Repeat n from below body) = steps.repeat n from below (steps_in_order body.items)
+step_layer (WordStep-F.StoreNumber a w) = steps.store_number a w
+step_layer (WordStep-F.MoveWord from to) = steps.move_word from to
+step_layer (WordStep-F.Jump to) = steps.jump to
+
+-- a step
+abbrev pub step_of : WordStep → Step
+step_of = fold-WordStep Step step_layer
+
+-- steps, one after another
+abbrev pub steps_of : List WordStep → Program
+steps_of ws = steps_in_order (map step_of ws)
+
+-- a program
+abbrev pub program_of : WordProgram → Program
+program_of p = steps_of p.steps.items

@@ -1,0 +1,42 @@
+//! Laws of word programs. The functions do nothing: their contracts are the laws.
+
+ghost use Rattle.array_versions.specs.Laws.{JoinedGoOn, JoinedCycles, JoinedWords, BehavesByEffects, WholeEndsSoundly, WordsStayWords};
+ghost use Rattle.array_versions.specs.Allowance.{StepsKeepToCycles, StepsKeepToWords};
+
+/// A program behind another does its steps behind the other's.
+#[tactic(auto, using(crate::proofs::Joined::joined_go_on))]
+pub fn joined_programs_go_on()
+    ensures { JoinedGoOn }
+{}
+
+/// And they cost what both cost.
+#[tactic(auto, using(crate::proofs::Joined::joined_cycles, crate::proofs::Joined::joined_words))]
+pub fn joined_programs_cost_both()
+    ensures cycles { JoinedCycles }
+    ensures words { JoinedWords }
+{}
+
+/// A program changes FRAM and the readings by its effects alone.
+#[tactic(auto, using(crate::proofs::ByEffects::behaves_by_effects))]
+pub fn programs_behave_by_effects()
+    ensures { BehavesByEffects }
+{}
+
+/// A whole program is never broken, and doesn't go on behind its last step.
+#[tactic(auto, using(crate::proofs::Ways::whole_ends_soundly))]
+pub fn whole_programs_end_soundly()
+    ensures { WholeEndsSoundly }
+{}
+
+/// From words a program makes words.
+#[tactic(auto, using(crate::proofs::Words::words_stay_words))]
+pub fn words_stay_words()
+    ensures { WordsStayWords }
+{}
+
+/// Each step costs no more cycles and words than the allowance of a source has for what it is a part of.
+#[tactic(auto, using(crate::proofs::Kept::steps_keep_to_cycles, crate::proofs::Kept::steps_keep_to_words))]
+pub fn steps_keep_to_the_allowance()
+    ensures cycles { StepsKeepToCycles }
+    ensures words { StepsKeepToWords }
+{}

@@ -1,0 +1,260 @@
+//! Word programs and their builders.
+
+ghost use Rattle.std.specs.Prelude.{◌≡◌, OnOk, OnErr};
+ghost use Rattle.array_versions.specs.Program.{nothing, behind};
+ghost use Rattle.array_versions.specs.Program as value;
+ghost use Rattle.array_versions.specs.View.{program_of, step_of};
+
+use crate::operations::{BinaryOperation, ShiftOperation, UnaryOperation};
+use std::alloc::{AllocError, Global};
+
+/// One step of a word program. Addresses are those of words of FRAM.
+#[derive(Drop)]
+pub enum WordStep {
+    /// Pushes a number.
+    Number(u16),
+    /// Pushes the word at an address.
+    Load(u16),
+    /// Pops a word and stores it at an address.
+    Keep(u16),
+    /// Pushes a local.
+    Local(u16),
+    /// Pops a word and assigns it to a local.
+    SetLocal(u16),
+    Unary(UnaryOperation),
+    Binary(BinaryOperation),
+    /// A shift by a count of bits.
+    Shift(ShiftOperation, u16),
+    /// Pops an index and pushes the element of an array: 0 where the index isn't below the length.
+    Element {
+        base: u16,
+        length: u16,
+    },
+    /// Pops a word, stores it in the emit buffer behind the words that are counted, and raises the count.
+    EmitWord {
+        count: u16,
+        buffer: u16,
+    },
+    /// Stores an entry of the commit list behind those that are counted, the home and then its copy, and raises the count.
+    ListEntry {
+        count: u16,
+        list: u16,
+        home: u16,
+        copy: u16,
+    },
+    /// Takes the next reading and pushes it.
+    Sense,
+    /// Pops a condition; goes on with the first steps where it isn't 0, else with the second.
+    Choose(Vec<WordStep>, Vec<WordStep>),
+    /// Does the steps for each number of a local, from one number on, below another; behind them the local is the number
+    /// after the last.
+    Repeat {
+        local: u16,
+        from: u16,
+        below: u16,
+        body: Vec<WordStep>,
+    },
+    /// Stores a number at an address.
+    StoreNumber {
+        address: u16,
+        word: u16,
+    },
+    /// Stores the word at one address at another.
+    MoveWord {
+        from: u16,
+        to: u16,
+    },
+    /// Leaves the program for the code at an address.
+    Jump(u16),
+}
+
+/// A word program: its steps, one after another.
+#[derive(Drop)]
+pub struct WordProgram {
+    pub steps: Vec<WordStep>,
+}
+
+impl WordProgram {
+    /// A program without steps.
+    pub fn new(alloc: Global) -> WordProgram
+        ensures { program_of result ≡ nothing }
+    {
+        WordProgram {
+            steps: Vec::new(alloc),
+        }
+    }
+
+    // One step more. Without memory for it the program stays as it was; so it does under each builder below.
+    #[tactic(auto, using(crate::proofs::Views::steps_of_pushed))]
+    fn push(&mut self, step: WordStep) -> Result<(), AllocError>
+        ensures ok { OnOk result (program_of self.new ≡ behind (program_of self.old) (step_of step)) }
+        ensures err { OnErr result (program_of self.new ≡ program_of self.old) }
+    {
+        self.steps.push(step)?;
+        Ok(())
+    }
+
+    /// Pushes a number.
+    pub fn number(&mut self, word: u16) -> Result<(), AllocError>
+        ensures ok { OnOk result (program_of self.new ≡ behind (program_of self.old) (value.number word)) }
+        ensures err { OnErr result (program_of self.new ≡ program_of self.old) }
+    {
+        self.push(WordStep::Number(word))
+    }
+
+    /// Pushes the word at an address.
+    pub fn load(&mut self, address: u16) -> Result<(), AllocError>
+        ensures ok { OnOk result (program_of self.new ≡ behind (program_of self.old) (value.load address)) }
+        ensures err { OnErr result (program_of self.new ≡ program_of self.old) }
+    {
+        self.push(WordStep::Load(address))
+    }
+
+    /// Pops a word and stores it at an address.
+    pub fn keep(&mut self, address: u16) -> Result<(), AllocError>
+        ensures ok { OnOk result (program_of self.new ≡ behind (program_of self.old) (value.keep address)) }
+        ensures err { OnErr result (program_of self.new ≡ program_of self.old) }
+    {
+        self.push(WordStep::Keep(address))
+    }
+
+    /// Pushes a local.
+    pub fn local(&mut self, n: u16) -> Result<(), AllocError>
+        ensures ok { OnOk result (program_of self.new ≡ behind (program_of self.old) (value.local n)) }
+        ensures err { OnErr result (program_of self.new ≡ program_of self.old) }
+    {
+        self.push(WordStep::Local(n))
+    }
+
+    /// Pops a word and assigns it to a local.
+    pub fn set_local(&mut self, n: u16) -> Result<(), AllocError>
+        ensures ok { OnOk result (program_of self.new ≡ behind (program_of self.old) (value.set_local n)) }
+        ensures err { OnErr result (program_of self.new ≡ program_of self.old) }
+    {
+        self.push(WordStep::SetLocal(n))
+    }
+
+    /// Pops a word and pushes what the operation gives.
+    pub fn unary(&mut self, operation: UnaryOperation) -> Result<(), AllocError>
+        ensures ok { OnOk result (program_of self.new ≡ behind (program_of self.old) (value.unary operation)) }
+        ensures err { OnErr result (program_of self.new ≡ program_of self.old) }
+    {
+        self.push(WordStep::Unary(operation))
+    }
+
+    /// Pops two words and pushes what the operation gives. The top is its right side.
+    pub fn binary(&mut self, operation: BinaryOperation) -> Result<(), AllocError>
+        ensures ok { OnOk result (program_of self.new ≡ behind (program_of self.old) (value.binary operation)) }
+        ensures err { OnErr result (program_of self.new ≡ program_of self.old) }
+    {
+        self.push(WordStep::Binary(operation))
+    }
+
+    /// Pops a word and pushes it shifted by a count of bits.
+    pub fn shift(&mut self, operation: ShiftOperation, count: u16) -> Result<(), AllocError>
+        ensures ok { OnOk result (program_of self.new ≡ behind (program_of self.old) (value.shift operation count)) }
+        ensures err { OnErr result (program_of self.new ≡ program_of self.old) }
+    {
+        self.push(WordStep::Shift(operation, count))
+    }
+
+    /// Pops an index and pushes the element of the array at an address: 0 where the index isn't below the length.
+    pub fn element(&mut self, base: u16, length: u16) -> Result<(), AllocError>
+        ensures ok { OnOk result (program_of self.new ≡ behind (program_of self.old) (value.element base length)) }
+        ensures err { OnErr result (program_of self.new ≡ program_of self.old) }
+    {
+        self.push(WordStep::Element { base, length })
+    }
+
+    /// Pops a word and stores it in the buffer at an address, behind as many words as the word at `count` says; then raises
+    /// that word by one.
+    pub fn emit_word(&mut self, count: u16, buffer: u16) -> Result<(), AllocError>
+        ensures ok { OnOk result (program_of self.new ≡ behind (program_of self.old) (value.emit_word count buffer)) }
+        ensures err { OnErr result (program_of self.new ≡ program_of self.old) }
+    {
+        self.push(WordStep::EmitWord { count, buffer })
+    }
+
+    /// Stores the addresses `home` and `copy` in the list at an address, behind as many pairs as the word at `count` says;
+    /// then raises that word by one.
+    pub fn list_entry(
+        &mut self,
+        count: u16,
+        list: u16,
+        home: u16,
+        copy: u16,
+    ) -> Result<(), AllocError>
+        ensures ok { OnOk result
+            (program_of self.new ≡ behind (program_of self.old) (value.list_entry count list home copy)) }
+        ensures err { OnErr result (program_of self.new ≡ program_of self.old) }
+    {
+        self.push(WordStep::ListEntry {
+            count,
+            list,
+            home,
+            copy,
+        })
+    }
+
+    /// Takes the next reading and pushes it.
+    pub fn sense(&mut self) -> Result<(), AllocError>
+        ensures ok { OnOk result (program_of self.new ≡ behind (program_of self.old) value.sense) }
+        ensures err { OnErr result (program_of self.new ≡ program_of self.old) }
+    {
+        self.push(WordStep::Sense)
+    }
+
+    /// Pops a condition; does the first program where it isn't 0, else the second.
+    pub fn choose(&mut self, taken: WordProgram, otherwise: WordProgram) -> Result<(), AllocError>
+        ensures ok { OnOk result (program_of self.new
+            ≡ behind (program_of self.old) (value.choose (program_of taken) (program_of otherwise))) }
+        ensures err { OnErr result (program_of self.new ≡ program_of self.old) }
+    {
+        self.push(WordStep::Choose(taken.steps, otherwise.steps))
+    }
+
+    /// Does a program for each number of a local, from one number on, below another; behind them the local is the number
+    /// after the last.
+    pub fn repeat(
+        &mut self,
+        local: u16,
+        from: u16,
+        below: u16,
+        body: WordProgram,
+    ) -> Result<(), AllocError>
+        ensures ok { OnOk result (program_of self.new
+            ≡ behind (program_of self.old) (value.repeat local from below (program_of body))) }
+        ensures err { OnErr result (program_of self.new ≡ program_of self.old) }
+    {
+        self.push(WordStep::Repeat {
+            local,
+            from,
+            below,
+            body: body.steps,
+        })
+    }
+
+    /// Stores a number at an address.
+    pub fn store_number(&mut self, address: u16, word: u16) -> Result<(), AllocError>
+        ensures ok { OnOk result (program_of self.new ≡ behind (program_of self.old) (value.store_number address word)) }
+        ensures err { OnErr result (program_of self.new ≡ program_of self.old) }
+    {
+        self.push(WordStep::StoreNumber { address, word })
+    }
+
+    /// Stores the word at one address at another.
+    pub fn move_word(&mut self, from: u16, to: u16) -> Result<(), AllocError>
+        ensures ok { OnOk result (program_of self.new ≡ behind (program_of self.old) (value.move_word from to)) }
+        ensures err { OnErr result (program_of self.new ≡ program_of self.old) }
+    {
+        self.push(WordStep::MoveWord { from, to })
+    }
+
+    /// Leaves for the code at an address. Steps behind this one are never done.
+    pub fn jump(&mut self, to: u16) -> Result<(), AllocError>
+        ensures ok { OnOk result (program_of self.new ≡ behind (program_of self.old) (value.jump to)) }
+        ensures err { OnErr result (program_of self.new ≡ program_of self.old) }
+    {
+        self.push(WordStep::Jump(to))
+    }
+}

@@ -1,0 +1,18 @@
+mod Stretches
+mod Memory
+mod Follows
+mod Parts
+mod Registers
+mod Choices
+mod Loops
+mod Values
+mod Middles
+mod Access
+mod ShiftParts
+mod Products
+mod Quotients
+mod Emitted
+mod Sampled
+mod Prefixes
+pub mod Lengths
+pub mod Whole

@@ -1,0 +1,17 @@
+use Rattle.std.proofs.Common.{◌≡◌, ◌+◌, ◌*◌, ◌++◌, drop}
+use Rattle.code_forms.specs.Placed.{instructions}
+use Rattle.array_versions.specs.View.{steps_of}
+use Rattle.array_versions.specs.Form.{LocalsBelow, OfWords}
+use Rattle.array_versions.specs.Cost.{words_of}
+use Rattle.codegen.specs.Code.{code_of}
+use Rattle.codegen.proofs.program.+emit.Given as goal
+
+abbrev pub invariant-emit_steps-loop-step : goal.invariant-emit_steps-loop-step
+invariant-emit_steps-loop-step l =
+    let left = steps_of (drop l.step-index l.steps) in
+    record {
+      owed : l.code.items ++ instructions (code_of l.end left) ≡ l.initial.code.items ++ instructions (code_of l.fn.at (steps_of l.steps));
+      address : l.end + 2 * words_of left ≡ l.fn.at + 2 * words_of (steps_of l.steps);
+      locals : LocalsBelow 1008 left;
+      in_words : OfWords left → OfWords (steps_of l.steps);
+    }

@@ -1,0 +1,7 @@
+use Rattle.std.proofs.Common.{◌≡◌, ◌-◌, ◌++◌}
+use Rattle.code_forms.specs.Placed.{instructions}
+use Rattle.codegen.specs.Code.{repeated, halve}
+use Rattle.codegen.proofs.shifts.emit_halves.Given as goal
+
+abbrev pub invariant-loop-i : goal.invariant-loop-i
+invariant-loop-i l = l.code.items ++ instructions (repeated (l.count - l.i) halve) ≡ l.initial.code.items ++ instructions (repeated l.count halve)

@@ -1,0 +1,227 @@
+-- The code of a word program: the stack is at SP, its top first; a local stands in RAM; R4 to R7 are for work.
+use Rattle.std.specs.Prelude.{ℕ, zero, suc, ◌+◌, ◌-◌, ◌*◌, List, [], ◌∷◌, ◌++◌, if◌then◌else◌, nat_le, nat_lt}
+use Rattle.msp_isa.specs.declared.instructions.TwoOp.TheVariants as op
+use Rattle.msp_isa.specs.declared.registers.SourceRegister.TheVariants as source_register
+use Rattle.msp_isa.specs.declared.operands.Operand.{Operand}
+use Rattle.msp_isa.specs.declared.operands.Operand.TheVariants as operand
+use Rattle.msp_isa.specs.declared.operands.Konst.TheVariants as konst
+use Rattle.msp_isa.specs.declared.instructions.Condition.TheVariants as condition
+use Rattle.msp_step.specs.declared.effect.Modification.TheVariants as change
+use Rattle.alp_words.specs.Words.{word_sum}
+use Rattle.code_forms.specs.Forms as forms
+use Rattle.code_forms.specs.Forms.{WorkRegister, R4, R5, R6, R7, Register, Number, Constant, Fram, Ram, Indexed, Popped, ToRegister, ToFram, ToRam, ToIndexed, Form, Move, Calculate, Push, Modify, Jump, Branch}
+use Rattle.array_versions.specs.declared.operations.UnaryOperation.{UnaryOperation}
+use Rattle.array_versions.specs.declared.operations.UnaryOperation.TheVariants.{Negate, Complement, Not, Truth}
+use Rattle.array_versions.specs.declared.operations.BinaryOperation.{BinaryOperation}
+use Rattle.array_versions.specs.declared.operations.BinaryOperation.TheVariants.{Multiply, Divide, Remainder, Add, Subtract, And, Xor, Or, Equal, NotEqual, Below, AtMost, Above, AtLeast, SignedBelow, SignedAtMost, SignedAbove, SignedAtLeast}
+use Rattle.array_versions.specs.declared.operations.ShiftOperation.{ShiftOperation}
+use Rattle.array_versions.specs.declared.operations.ShiftOperation.TheVariants.{Left, Right, SignedRight}
+use Rattle.array_versions.specs.Program.{Step, Program, number, load, keep, local, set_local, unary, binary, shift, element, emit_word, list_entry, sense, choose, repeat, store_number, move_word, jump, nothing, step}
+use Rattle.array_versions.specs.Cost.{step_words, words_of}
+
+-- where a local stands
+abbrev pub local_address : ℕ → ℕ
+local_address n = 0x1C20 + 2 * n
+
+-- the top of the stack to a register
+abbrev pub pop_to : WorkRegister → Form
+pop_to b = Move Popped (ToRegister b)
+
+-- a register to the top of the stack
+abbrev pub push_from : WorkRegister → Form
+push_from b = Push (Register b)
+
+-- C as a number in R4
+abbrev pub carry : List Form
+carry = Move (Constant konst.Zero) (ToRegister R4) ∷ Calculate op.Addc (Constant konst.Zero) R4 ∷ []
+
+-- 1 - C as a number in R4
+abbrev pub no_carry : List Form
+no_carry = Calculate op.Subc (Register R4) R4 ∷ Calculate op.And (Constant konst.One) R4 ∷ []
+
+-- an operation on R5
+abbrev pub unary_middle : UnaryOperation → List Form
+unary_middle Negate = Move (Constant konst.Zero) (ToRegister R4) ∷ Calculate op.Sub (Register R5) R4 ∷ []
+unary_middle Complement = Move (Constant konst.MinusOne) (ToRegister R4) ∷ Calculate op.Sub (Register R5) R4 ∷ []
+unary_middle Not = Calculate op.Cmp (Constant konst.One) R5 ∷ Calculate op.Subc (Register R5) R5 ∷ Calculate op.And (Constant konst.One) R5 ∷ []
+unary_middle Truth = Calculate op.Cmp (Constant konst.One) R5 ∷ carry
+
+-- where its result is
+abbrev pub unary_result : UnaryOperation → WorkRegister
+unary_result Not = R5
+unary_result _ = R4
+
+abbrev pub unary_code : List Form → WorkRegister → List Form
+unary_code middle b = pop_to R5 ∷ (middle ++ push_from b ∷ [])
+
+-- a word raised by 8000, so that order as signed words is order as numbers
+abbrev pub bias : WorkRegister → Form
+bias b = Calculate op.Add (Number 0x8000) b
+
+-- the left side less the right one
+abbrev pub compared : List Form → List Form
+compared tail = Calculate op.Cmp (Register R5) R4 ∷ tail
+
+-- the right side less the left one
+abbrev pub compared_back : List Form → List Form
+compared_back tail = Calculate op.Cmp (Register R4) R5 ∷ tail
+
+-- C where the two sides differ
+abbrev pub differing : List Form → List Form
+differing tail = Calculate op.Sub (Register R5) R4 ∷ Calculate op.Cmp (Constant konst.One) R4 ∷ tail
+
+-- a bit of the multiplier: where it is 1, what is in R4 is added to R6; then R4 is doubled and R5 halved, until R5 is 0
+abbrev pub multiply_turn : List Form
+multiply_turn =
+    Calculate op.Bit (Constant konst.One) R5 ∷ Jump condition.Equal 1 ∷ Calculate op.Add (Register R4) R6 ∷ Calculate op.Add (Register R4) R4
+    ∷ Calculate op.Bit (Constant konst.Zero) R5 ∷ Modify change.Rrc R5 ∷ Jump condition.NotEqual 1017 ∷ []
+
+-- a bit of the dividend: it goes from R4 into the rest in R6, which is less the divisor where that goes; the quotient's bit goes into
+-- R4; sixteen times, by R7
+abbrev pub divide_turn : List Form
+divide_turn =
+    Calculate op.Add (Register R4) R4 ∷ Calculate op.Addc (Register R6) R6 ∷ Jump condition.Carry 2 ∷ Calculate op.Cmp (Register R5) R6
+    ∷ Jump condition.NoCarry 2 ∷ Calculate op.Sub (Register R5) R6 ∷ Calculate op.Add (Constant konst.One) R4
+    ∷ Calculate op.Sub (Constant konst.One) R7 ∷ Jump condition.NotEqual 1015 ∷ []
+
+abbrev pub divide_middle : List Form
+divide_middle = Move (Constant konst.Zero) (ToRegister R6) ∷ Move (Number 16) (ToRegister R7) ∷ divide_turn
+
+-- an operation on the left side in R4 and the right one in R5
+abbrev pub binary_middle : BinaryOperation → List Form
+binary_middle Multiply = Move (Constant konst.Zero) (ToRegister R6) ∷ multiply_turn
+binary_middle Divide = divide_middle
+binary_middle Remainder = divide_middle
+binary_middle Add = Calculate op.Add (Register R5) R4 ∷ []
+binary_middle Subtract = Calculate op.Sub (Register R5) R4 ∷ []
+binary_middle And = Calculate op.And (Register R5) R4 ∷ []
+binary_middle Xor = Calculate op.Xor (Register R5) R4 ∷ []
+binary_middle Or = Calculate op.Bis (Register R5) R4 ∷ []
+binary_middle Equal = differing no_carry
+binary_middle NotEqual = differing carry
+binary_middle Below = compared no_carry
+binary_middle AtMost = compared_back carry
+binary_middle Above = compared_back no_carry
+binary_middle AtLeast = compared carry
+binary_middle SignedBelow = bias R4 ∷ bias R5 ∷ compared no_carry
+binary_middle SignedAtMost = bias R4 ∷ bias R5 ∷ compared_back carry
+binary_middle SignedAbove = bias R4 ∷ bias R5 ∷ compared_back no_carry
+binary_middle SignedAtLeast = bias R4 ∷ bias R5 ∷ compared carry
+
+-- where its result is
+abbrev pub binary_result : BinaryOperation → WorkRegister
+binary_result Multiply = R6
+binary_result Remainder = R6
+binary_result _ = R4
+
+abbrev pub binary_code : List Form → WorkRegister → List Form
+binary_code middle b = pop_to R5 ∷ pop_to R4 ∷ (middle ++ push_from b ∷ [])
+
+-- R4 as an operand
+abbrev pub in_r4 : Operand
+in_r4 = operand.Reg (source_register.Index (forms.index_of R4))
+
+-- a form so many times
+abbrev pub repeated : ℕ → Form → List Form
+repeated zero m = []
+repeated (suc k) m = m ∷ repeated k m
+
+-- R4 doubled
+abbrev pub double : Form
+double = Calculate op.Add (Register R4) R4
+
+-- R4 halved, its sign kept
+abbrev pub halve : Form
+halve = Modify change.Rra R4
+
+-- to the right by fewer than 8 bits: first a 0 comes in, and then RRA brings in 0
+abbrev pub right_code : ℕ → List Form
+right_code zero = []
+right_code (suc k) = Calculate op.Bit (Constant konst.Zero) R4 ∷ Modify change.Rrc R4 ∷ repeated k halve
+
+-- a shift of R4 by at most 15 bits: by 8 and more the bytes are exchanged first
+abbrev pub shift_by : ShiftOperation → ℕ → List Form
+shift_by Left k = if nat_lt k 8 then repeated k double else (Modify change.Swpb R4 ∷ Calculate op.And (Number 0xFF00) R4 ∷ repeated (k - 8) double)
+shift_by Right k = if nat_lt k 8 then right_code k else (Modify change.Swpb R4 ∷ Calculate op.And (Number 0xFF) R4 ∷ repeated (k - 8) halve)
+shift_by SignedRight k = if nat_lt k 8 then repeated k halve else (Modify change.Swpb R4 ∷ Modify change.Sxt R4 ∷ repeated (k - 8) halve)
+
+-- by more it gives 0
+abbrev pub shift_middle : ShiftOperation → ℕ → List Form
+shift_middle operation k = if nat_le k 15 then shift_by operation k else (Move (Constant konst.Zero) (ToRegister R4) ∷ [])
+
+abbrev pub shift_code : List Form → List Form
+shift_code middle = pop_to R4 ∷ (middle ++ push_from R4 ∷ [])
+
+-- the index is compared with the length; below it, twice the index is an offset in the array
+abbrev pub element_code : ℕ → ℕ → List Form
+element_code base length =
+    pop_to R4 ∷ Calculate op.Cmp (Number length) R4 ∷ Jump condition.Carry 4 ∷ Calculate op.Add (Register R4) R4
+    ∷ Move (Indexed R4 base) (ToRegister R4) ∷ Jump condition.Always 1 ∷ Move (Constant konst.Zero) (ToRegister R4) ∷ push_from R4 ∷ []
+
+-- the word, then the count
+abbrev pub emit_code : ℕ → ℕ → List Form
+emit_code count buffer =
+    pop_to R5 ∷ Move (Fram count) (ToRegister R6) ∷ Move (Register R6) (ToRegister R4) ∷ Calculate op.Add (Register R6) R4
+    ∷ Move (Register R5) (ToIndexed R4 buffer) ∷ Calculate op.Add (Constant konst.One) R6 ∷ Move (Register R6) (ToFram count) ∷ []
+
+-- the home, its copy, then the count
+abbrev pub entry_code : ℕ → ℕ → ℕ → ℕ → List Form
+entry_code count list home copy =
+    Move (Fram count) (ToRegister R6) ∷ Move (Register R6) (ToRegister R4) ∷ Calculate op.Add (Register R4) R4 ∷ Calculate op.Add (Register R4) R4
+    ∷ Move (Number home) (ToIndexed R4 list) ∷ Move (Number copy) (ToIndexed R4 (word_sum list 2)) ∷ Calculate op.Add (Constant konst.One) R6
+    ∷ Move (Register R6) (ToFram count) ∷ []
+
+-- the head of a choice, of ten bytes: a branch to the second program where the condition is 0. A short jump over the branch has
+-- no limit in how far the branch goes
+abbrev pub choice_head : ℕ → List Form
+choice_head other = pop_to R4 ∷ Calculate op.Cmp (Constant konst.Zero) R4 ∷ Jump condition.NotEqual 2 ∷ Branch other ∷ []
+
+-- behind the first program a branch of four bytes past the second
+abbrev pub choice_code : ℕ → ℕ → List Form → List Form → List Form
+choice_code other end taken otherwise = choice_head other ++ (taken ++ Branch end ∷ otherwise)
+
+-- the test of a loop, of 14 bytes: a branch past the loop where the local isn't below the number
+abbrev pub loop_test : ℕ → ℕ → ℕ → List Form
+loop_test n below end =
+    Move (Ram (local_address n)) (ToRegister R4) ∷ Calculate op.Cmp (Number below) R4 ∷ Jump condition.NoCarry 2 ∷ Branch end ∷ []
+
+-- the head of a loop, of 20 bytes: the local's first number, and the test
+abbrev pub loop_head : ℕ → ℕ → ℕ → ℕ → List Form
+loop_head n from below end = Move (Number from) (ToRam (local_address n)) ∷ loop_test n below end
+
+-- the end of a turn, of 14 bytes: the local goes up by one
+abbrev pub loop_step : ℕ → ℕ → List Form
+loop_step n top =
+    Move (Ram (local_address n)) (ToRegister R4) ∷ Calculate op.Add (Constant konst.One) R4 ∷ Move (Register R4) (ToRam (local_address n)) ∷ Branch top ∷ []
+
+abbrev pub loop_code : ℕ → ℕ → ℕ → ℕ → ℕ → List Form → List Form
+loop_code top end n from below body = loop_head n from below end ++ (body ++ loop_step n top)
+
+abbrev mutual
+  -- the code of a step that begins at an address
+  pub step_code : ℕ → Step → List Form
+  step_code at (number w) = Push (Number w) ∷ []
+  step_code at (load a) = Push (Fram a) ∷ []
+  step_code at (keep a) = Move Popped (ToFram a) ∷ []
+  step_code at (local n) = Push (Ram (local_address n)) ∷ []
+  step_code at (set_local n) = Move Popped (ToRam (local_address n)) ∷ []
+  step_code at (unary operation) = unary_code (unary_middle operation) (unary_result operation)
+  step_code at (binary operation) = binary_code (binary_middle operation) (binary_result operation)
+  step_code at (shift operation k) = shift_code (shift_middle operation k)
+  step_code at (element base length) = element_code base length
+  step_code at (emit_word count buffer) = emit_code count buffer
+  step_code at (list_entry count list home copy) = entry_code count list home copy
+  step_code at sense = forms.Sense R4 ∷ push_from R4 ∷ []
+  step_code at (choose taken otherwise) =
+      let other = at + 14 + 2 * words_of taken in
+      choice_code other (other + 2 * words_of otherwise) (code_of (at + 10) taken) (code_of other otherwise)
+  step_code at (repeat n from below body) =
+      loop_code (at + 6) (at + 34 + 2 * words_of body) n from below (code_of (at + 20) body)
+  step_code at (store_number a w) = Move (Number w) (ToFram a) ∷ []
+  step_code at (move_word from to) = Move (Fram from) (ToFram to) ∷ []
+  step_code at (jump to) = Branch to ∷ []
+
+  -- the code of a program that begins at an address
+  pub code_of : ℕ → Program → List Form
+  code_of at nothing = []
+  code_of at (step first more) = step_code at first ++ code_of (at + 2 * step_words first) more

@@ -1,0 +1,91 @@
+//! The instructions that the code is made of.
+
+ghost use Rattle.std.specs.Prelude.{◌≡◌, ℕ, ◌+◌, ◌*◌, ◌<◌};
+ghost use Rattle.alp_words.specs.declared.Width.TheVariants.{Word};
+ghost use Rattle.msp_isa.specs.declared.instructions.OneOp.TheVariants as OneOps;
+ghost use Rattle.msp_isa.specs.declared.operands.Src.TheVariants as Srcs;
+ghost use Rattle.msp_isa.specs.declared.operands.Operand.TheVariants as Operands;
+ghost use Rattle.code_forms.specs.Forms.{instruction_of};
+ghost use Rattle.code_forms.specs.Forms as form;
+ghost use Rattle.codegen.specs.Code.{local_address as address_of};
+
+use alp_words::Width;
+use msp_isa::{
+    Condition, Dst, IndexRegister, Instr, Konst, Offset, OneOp, Operand, Reg, SourceRegister, Src,
+    TwoOp,
+};
+
+pub const R4: Src = Src::Operand(Operand::Reg(SourceRegister::Index(IndexRegister::R4)));
+
+pub const R5: Src = Src::Operand(Operand::Reg(SourceRegister::Index(IndexRegister::R5)));
+
+pub const R6: Src = Src::Operand(Operand::Reg(SourceRegister::Index(IndexRegister::R6)));
+/// The word at SP, which goes up.
+pub const POPPED: Src = Src::Operand(Operand::Increment(IndexRegister::Sp));
+
+pub const TO_R4: Dst = Dst::Reg(Reg::Index(IndexRegister::R4));
+
+pub const TO_R5: Dst = Dst::Reg(Reg::Index(IndexRegister::R5));
+
+pub const TO_R6: Dst = Dst::Reg(Reg::Index(IndexRegister::R6));
+
+pub const TO_R7: Dst = Dst::Reg(Reg::Index(IndexRegister::R7));
+
+/// An operation of two operands on words.
+pub fn two(op: TwoOp, src: Src, dst: Dst) -> Instr
+    ensures { result ≡ Instr.Two op Word src dst }
+{
+    Instr::Two {
+        op,
+        width: Width::Word,
+        src,
+        dst,
+    }
+}
+
+/// PUSH of a word.
+pub fn push(src: Src) -> Instr
+    ensures { result ≡ Instr.One (OneOps.Push Word src) }
+{
+    Instr::One(OneOp::Push(Width::Word, src))
+}
+
+/// A number that takes no extension word.
+pub fn constant(k: Konst) -> Src
+    ensures { result ≡ Srcs.Constant k }
+{
+    Src::Constant(k)
+}
+
+/// The word at an address.
+pub fn absolute(address: u16) -> Src
+    ensures { result ≡ Srcs.Operand (Operands.Absolute address) }
+{
+    Src::Operand(Operand::Absolute(address))
+}
+
+/// A short jump, with the ten bits of its offset.
+pub fn jump(condition: Condition, bits: u16) -> Instr
+    requires { bits < 0x400 }
+    ensures { result ≡ Instr.Jump condition bits }
+{
+    Instr::Jump {
+        condition,
+        offset: Offset::from_bits(bits),
+    }
+}
+
+/// A branch to an address.
+pub fn branch(to: u16) -> Instr
+    ensures { result ≡ instruction_of (form.Branch to) }
+{
+    two(TwoOp::Mov, Src::Immediate(to), Dst::Reg(Reg::Pc))
+}
+
+/// Where a local stands in RAM.
+pub fn local_address(n: u16) -> u16
+    requires { n < 1008 }
+    ensures { result ≡ address_of n }
+{
+    0x1c20 + 2 * n
+}

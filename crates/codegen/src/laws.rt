@@ -1,0 +1,23 @@
+//! Laws of the code of word programs. The functions do nothing: their contracts are the laws.
+
+ghost use Rattle.codegen.specs.Laws.{CodeDoesAsProgram, RunsStayWithin, StarvingStaysWithin, CodeHasItsBytes, CodeHasItsWords};
+
+/// The code of a whole program makes the program's effects within its cycles, and comes to the program's end: behind its
+/// jump, or to an instruction that wants a reading where none is left.
+#[tactic(auto, using(crate::proofs::Whole::code_does_as_program))]
+pub fn code_does_as_its_program()
+    ensures { CodeDoesAsProgram }
+{}
+
+/// After any number of steps on the way, the effects so far are a prefix of all, and the cycles are within the bound.
+pub fn effects_so_far_are_a_prefix()
+    ensures runs { RunsStayWithin }
+    ensures starves { StarvingStaysWithin }
+{}
+
+/// The code of a program is as long as the program's words say.
+#[tactic(auto, using(crate::proofs::Lengths::code_has_its_bytes, crate::proofs::Lengths::code_has_its_words))]
+pub fn code_has_its_words()
+    ensures bytes { CodeHasItsBytes }
+    ensures words { CodeHasItsWords }
+{}

@@ -1,0 +1,12 @@
+//! Code for word programs: the instructions that do what a program does, on a stack and locals in RAM.
+#![tactic(auto)]
+
+mod forms;
+pub mod laws;
+mod operations;
+mod program;
+mod shifts;
+#[cfg(test)]
+mod tests;
+
+pub use program::emit;

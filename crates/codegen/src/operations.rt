@@ -1,0 +1,284 @@
+//! The code of the operations.
+
+ghost use Rattle.std.specs.Prelude.{◌≡◌, ◌≤◌, ◌*◌, [], ◌∷◌, ◌++◌, OnOk};
+ghost use Rattle.code_forms.specs.Forms as form;
+ghost use Rattle.code_forms.specs.Placed.{instructions};
+ghost use Rattle.array_versions.specs.declared.operations.BinaryOperation.TheVariants as binary_op;
+ghost use Rattle.array_versions.specs.Cost.{unary_words, binary_words};
+ghost use Rattle.codegen.specs.Code.{unary_code, unary_middle, unary_result, binary_code, binary_middle, binary_result, carry, no_carry, differing, bias, divide_middle, push_from, pop_to};
+ghost use Rattle.alp_words.specs.declared.Width.TheVariants.{Word};
+ghost use Rattle.msp_isa.specs.declared.instructions.TwoOp.TheVariants as two_op;
+ghost use Rattle.msp_isa.specs.declared.instructions.OneOp.TheVariants as one_op;
+
+use crate::forms::{POPPED, R4, R5, R6, TO_R4, TO_R5, TO_R6, TO_R7, constant, jump, push, two};
+use alp_words::Width;
+use array_versions::{BinaryOperation, UnaryOperation};
+use msp_isa::{
+    Condition, Dst, IndexRegister, Instr, Konst, OneOp, Operand, SourceRegister, Src, TwoOp,
+};
+use std::alloc::AllocError;
+
+/// Appends the code of an operation on the top of the stack.
+pub fn emit_unary(operation: UnaryOperation, code: &mut Vec<Instr>) -> Result<(), AllocError>
+    ensures { OnOk result
+        (code.new.items ≡ code.old.items ++ instructions (unary_code (unary_middle operation) (unary_result operation))) }
+{
+    match operation {
+        UnaryOperation::Negate => code.extend_from_slice(&[
+            two(TwoOp::Mov, POPPED, TO_R5),
+            two(TwoOp::Mov, constant(Konst::Zero), TO_R4),
+            two(TwoOp::Sub, R5, TO_R4),
+            push(R4),
+        ]),
+        UnaryOperation::Complement => code.extend_from_slice(&[
+            two(TwoOp::Mov, POPPED, TO_R5),
+            two(TwoOp::Mov, constant(Konst::MinusOne), TO_R4),
+            two(TwoOp::Sub, R5, TO_R4),
+            push(R4),
+        ]),
+        UnaryOperation::Not => code.extend_from_slice(&[
+            two(TwoOp::Mov, POPPED, TO_R5),
+            two(TwoOp::Cmp, constant(Konst::One), TO_R5),
+            two(TwoOp::Subc, R5, TO_R5),
+            two(TwoOp::And, constant(Konst::One), TO_R5),
+            push(R5),
+        ]),
+        UnaryOperation::Truth => code.extend_from_slice(&[
+            two(TwoOp::Mov, POPPED, TO_R5),
+            two(TwoOp::Cmp, constant(Konst::One), TO_R5),
+            two(TwoOp::Mov, constant(Konst::Zero), TO_R4),
+            two(TwoOp::Addc, constant(Konst::Zero), TO_R4),
+            push(R4),
+        ]),
+    }
+}
+
+// The right side to R5 and the left one to R4.
+fn emit_pops(code: &mut Vec<Instr>) -> Result<(), AllocError>
+    ensures { OnOk result (code.new.items ≡ code.old.items ++ instructions (pop_to form.R5 ∷ pop_to form.R4 ∷ [])) }
+{
+    code.extend_from_slice(&[
+        two(TwoOp::Mov, POPPED, TO_R5),
+        two(TwoOp::Mov, POPPED, TO_R4),
+    ])
+}
+
+// Both sides raised, so that order as signed words is order as numbers.
+fn emit_bias(code: &mut Vec<Instr>) -> Result<(), AllocError>
+    ensures { OnOk result (code.new.items ≡ code.old.items ++ instructions (bias form.R4 ∷ bias form.R5 ∷ [])) }
+{
+    code.extend_from_slice(&[
+        two(TwoOp::Add, Src::Immediate(0x8000), TO_R4),
+        two(TwoOp::Add, Src::Immediate(0x8000), TO_R5),
+    ])
+}
+
+// Pushes C.
+fn emit_carry(code: &mut Vec<Instr>) -> Result<(), AllocError>
+    ensures { OnOk result (code.new.items ≡ code.old.items ++ instructions (carry ++ push_from form.R4 ∷ [])) }
+{
+    code.extend_from_slice(&[
+        two(TwoOp::Mov, constant(Konst::Zero), TO_R4),
+        two(TwoOp::Addc, constant(Konst::Zero), TO_R4),
+        push(R4),
+    ])
+}
+
+// Pushes 1 - C.
+fn emit_no_carry(code: &mut Vec<Instr>) -> Result<(), AllocError>
+    ensures { OnOk result (code.new.items ≡ code.old.items ++ instructions (no_carry ++ push_from form.R4 ∷ [])) }
+{
+    code.extend_from_slice(&[
+        two(TwoOp::Subc, R4, TO_R4),
+        two(TwoOp::And, constant(Konst::One), TO_R4),
+        push(R4),
+    ])
+}
+
+// One instruction, and its result is pushed.
+fn emit_plain(op: TwoOp, code: &mut Vec<Instr>) -> Result<(), AllocError>
+    ensures { OnOk result (code.new.items
+        ≡ code.old.items ++ instructions (form.Calculate op (form.Register form.R5) form.R4 ∷ push_from form.R4 ∷ [])) }
+{
+    code.extend_from_slice(&[two(op, R5, TO_R4), push(R4)])
+}
+
+// C where the two sides differ.
+fn emit_differing(code: &mut Vec<Instr>) -> Result<(), AllocError>
+    ensures { OnOk result (code.new.items ≡ code.old.items ++ instructions (differing [])) }
+{
+    code.extend_from_slice(&[
+        two(TwoOp::Sub, R5, TO_R4),
+        two(TwoOp::Cmp, constant(Konst::One), TO_R4),
+    ])
+}
+
+fn emit_compare(src: Src, dst: Dst, code: &mut Vec<Instr>) -> Result<(), AllocError>
+    ensures { OnOk result (code.new.items ≡ code.old.items ++ Instr.Two two_op.Cmp Word src dst ∷ []) }
+{
+    code.extend_from_slice(&[two(TwoOp::Cmp, src, dst)])
+}
+
+fn emit_multiply(code: &mut Vec<Instr>) -> Result<(), AllocError>
+    ensures { OnOk result (code.new.items
+        ≡ code.old.items ++ instructions (binary_middle binary_op.Multiply ++ push_from form.R6 ∷ [])) }
+{
+    code.extend_from_slice(&[
+        two(TwoOp::Mov, constant(Konst::Zero), TO_R6),
+        two(TwoOp::Bit, constant(Konst::One), TO_R5),
+        jump(Condition::Equal, 1),
+        two(TwoOp::Add, R4, TO_R6),
+        two(TwoOp::Add, R4, TO_R4),
+        two(TwoOp::Bit, constant(Konst::Zero), TO_R5),
+        Instr::One(OneOp::Rrc(
+            Width::Word,
+            Operand::Reg(SourceRegister::Index(IndexRegister::R5)),
+        )),
+        jump(Condition::NotEqual, 1017),
+        push(R6),
+    ])
+}
+
+// Division, of which the result is pushed from this register: the quotient from R4, the rest from R6.
+fn emit_divide(from: Src, code: &mut Vec<Instr>) -> Result<(), AllocError>
+    ensures { OnOk result (code.new.items ≡ code.old.items ++ (instructions divide_middle ++ Instr.One (one_op.Push Word from) ∷ [])) }
+{
+    code.extend_from_slice(&[
+        two(TwoOp::Mov, constant(Konst::Zero), TO_R6),
+        two(TwoOp::Mov, Src::Immediate(16), TO_R7),
+        two(TwoOp::Add, R4, TO_R4),
+        two(TwoOp::Addc, R6, TO_R6),
+        jump(Condition::Carry, 2),
+        two(TwoOp::Cmp, R5, TO_R6),
+        jump(Condition::NoCarry, 2),
+        two(TwoOp::Sub, R5, TO_R6),
+        two(TwoOp::Add, constant(Konst::One), TO_R4),
+        two(TwoOp::Sub, constant(Konst::One), TO_R7),
+        jump(Condition::NotEqual, 1015),
+        push(from),
+    ])
+}
+
+// The left side against the right one: no borrow where it isn't below.
+fn emit_below(code: &mut Vec<Instr>) -> Result<(), AllocError>
+    ensures { OnOk result (code.new.items ≡ code.old.items
+        ++ instructions (form.Calculate two_op.Cmp (form.Register form.R5) form.R4 ∷ (no_carry ++ push_from form.R4 ∷ []))) }
+{
+    emit_compare(R5, TO_R4, code)?;
+    emit_no_carry(code)
+}
+
+fn emit_at_least(code: &mut Vec<Instr>) -> Result<(), AllocError>
+    ensures { OnOk result (code.new.items ≡ code.old.items
+        ++ instructions (form.Calculate two_op.Cmp (form.Register form.R5) form.R4 ∷ (carry ++ push_from form.R4 ∷ []))) }
+{
+    emit_compare(R5, TO_R4, code)?;
+    emit_carry(code)
+}
+
+// The right side against the left one.
+fn emit_above(code: &mut Vec<Instr>) -> Result<(), AllocError>
+    ensures { OnOk result (code.new.items ≡ code.old.items
+        ++ instructions (form.Calculate two_op.Cmp (form.Register form.R4) form.R5 ∷ (no_carry ++ push_from form.R4 ∷ []))) }
+{
+    emit_compare(R4, TO_R5, code)?;
+    emit_no_carry(code)
+}
+
+fn emit_at_most(code: &mut Vec<Instr>) -> Result<(), AllocError>
+    ensures { OnOk result (code.new.items ≡ code.old.items
+        ++ instructions (form.Calculate two_op.Cmp (form.Register form.R4) form.R5 ∷ (carry ++ push_from form.R4 ∷ []))) }
+{
+    emit_compare(R4, TO_R5, code)?;
+    emit_carry(code)
+}
+
+// An operation on the left side in R4 and the right one in R5, and its result is pushed.
+fn emit_middle(operation: BinaryOperation, code: &mut Vec<Instr>) -> Result<(), AllocError>
+    ensures { OnOk result (code.new.items
+        ≡ code.old.items ++ instructions (binary_middle operation ++ push_from (binary_result operation) ∷ [])) }
+{
+    match operation {
+        BinaryOperation::Add => emit_plain(TwoOp::Add, code),
+        BinaryOperation::Subtract => emit_plain(TwoOp::Sub, code),
+        BinaryOperation::And => emit_plain(TwoOp::And, code),
+        BinaryOperation::Xor => emit_plain(TwoOp::Xor, code),
+        BinaryOperation::Or => emit_plain(TwoOp::Bis, code),
+        BinaryOperation::Multiply => emit_multiply(code),
+        BinaryOperation::Divide => emit_divide(R4, code),
+        BinaryOperation::Remainder => emit_divide(R6, code),
+        BinaryOperation::Equal => {
+            emit_differing(code)?;
+            emit_no_carry(code)
+        }
+        BinaryOperation::NotEqual => {
+            emit_differing(code)?;
+            emit_carry(code)
+        }
+        BinaryOperation::Below => emit_below(code),
+        BinaryOperation::AtMost => emit_at_most(code),
+        BinaryOperation::Above => emit_above(code),
+        BinaryOperation::AtLeast => emit_at_least(code),
+        BinaryOperation::SignedBelow => {
+            emit_bias(code)?;
+            emit_below(code)
+        }
+        BinaryOperation::SignedAtMost => {
+            emit_bias(code)?;
+            emit_at_most(code)
+        }
+        BinaryOperation::SignedAbove => {
+            emit_bias(code)?;
+            emit_above(code)
+        }
+        BinaryOperation::SignedAtLeast => {
+            emit_bias(code)?;
+            emit_at_least(code)
+        }
+    }
+}
+
+/// Appends the code of an operation on the two words on top of the stack.
+pub fn emit_binary(operation: BinaryOperation, code: &mut Vec<Instr>) -> Result<(), AllocError>
+    ensures { OnOk result
+        (code.new.items ≡ code.old.items ++ instructions (binary_code (binary_middle operation) (binary_result operation))) }
+{
+    emit_pops(code)?;
+    emit_middle(operation, code)
+}
+
+/// The bytes of the code of an operation on the top of the stack.
+pub fn unary_bytes(operation: UnaryOperation) -> u16
+    ensures value { result ≡ 2 * unary_words operation }
+    ensures low { result ≤ 10 }
+{
+    match operation {
+        UnaryOperation::Negate | UnaryOperation::Complement => 8,
+        UnaryOperation::Not | UnaryOperation::Truth => 10,
+    }
+}
+
+/// The bytes of the code of an operation on two words.
+pub fn binary_bytes(operation: BinaryOperation) -> u16
+    ensures value { result ≡ 2 * binary_words operation }
+    ensures low { result ≤ 30 }
+{
+    match operation {
+        BinaryOperation::Add
+        | BinaryOperation::Subtract
+        | BinaryOperation::And
+        | BinaryOperation::Xor
+        | BinaryOperation::Or => 8,
+        BinaryOperation::Multiply => 22,
+        BinaryOperation::Divide | BinaryOperation::Remainder => 30,
+        BinaryOperation::Equal | BinaryOperation::NotEqual => 14,
+        BinaryOperation::Below
+        | BinaryOperation::AtMost
+        | BinaryOperation::Above
+        | BinaryOperation::AtLeast => 12,
+        BinaryOperation::SignedBelow
+        | BinaryOperation::SignedAtMost
+        | BinaryOperation::SignedAbove
+        | BinaryOperation::SignedAtLeast => 20,
+    }
+}

@@ -1,0 +1,156 @@
+//! The code of the shifts.
+
+ghost use Rattle.std.specs.Prelude.{◌≡◌, ◌≤◌, ◌*◌, [], ◌∷◌, ◌++◌, OnOk};
+ghost use Rattle.code_forms.specs.Placed.{instructions};
+ghost use Rattle.msp_isa.specs.declared.instructions.OneOp.TheVariants as OneOps;
+ghost use Rattle.array_versions.specs.declared.operations.ShiftOperation.TheVariants as shift_op;
+ghost use Rattle.array_versions.specs.Program as value;
+ghost use Rattle.array_versions.specs.Cost.{shift_words, step_words};
+ghost use Rattle.codegen.specs.Code.{in_r4, repeated, double, halve, right_code, shift_by, shift_middle, shift_code};
+
+use crate::forms::{POPPED, R4, TO_R4, constant, push, two};
+use alp_words::Width;
+use array_versions::ShiftOperation;
+use msp_isa::{IndexRegister, Instr, Konst, OneOp, Operand, SourceRegister, Src, TwoOp};
+use std::alloc::AllocError;
+
+const IN_R4: Operand = Operand::Reg(SourceRegister::Index(IndexRegister::R4));
+
+// R4 doubled so many times.
+fn emit_doubles(count: u16, code: &mut Vec<Instr>) -> Result<(), AllocError>
+    ensures { OnOk result (code.new.items ≡ code.old.items ++ instructions (repeated count double)) }
+{
+    for i in 0..count {
+        code.push(two(TwoOp::Add, R4, TO_R4))?;
+    }
+    Ok(())
+}
+
+// R4 halved so many times, its sign kept.
+fn emit_halves(count: u16, code: &mut Vec<Instr>) -> Result<(), AllocError>
+    ensures { OnOk result (code.new.items ≡ code.old.items ++ instructions (repeated count halve)) }
+{
+    for i in 0..count {
+        code.push(Instr::One(OneOp::Rra(Width::Word, IN_R4)))?;
+    }
+    Ok(())
+}
+
+// To the right by fewer than 8 bits.
+fn emit_right(count: u16, code: &mut Vec<Instr>) -> Result<(), AllocError>
+    ensures { OnOk result (code.new.items ≡ code.old.items ++ instructions (right_code count)) }
+{
+    if count == 0 {
+        return Ok(());
+    }
+    code.extend_from_slice(&[
+        two(TwoOp::Bit, constant(Konst::Zero), TO_R4),
+        Instr::One(OneOp::Rrc(Width::Word, IN_R4)),
+    ])?;
+    emit_halves(count - 1, code)
+}
+
+// The bytes of R4 exchanged, and then an instruction.
+fn emit_exchange(then: Instr, code: &mut Vec<Instr>) -> Result<(), AllocError>
+    ensures { OnOk result (code.new.items ≡ code.old.items ++ Instr.One (OneOps.Swpb in_r4) ∷ then ∷ []) }
+{
+    code.extend_from_slice(&[Instr::One(OneOp::Swpb(IN_R4)), then])
+}
+
+fn emit_left_by(count: u16, code: &mut Vec<Instr>) -> Result<(), AllocError>
+    ensures { OnOk result (code.new.items ≡ code.old.items ++ instructions (shift_by shift_op.Left count)) }
+{
+    if count < 8 {
+        emit_doubles(count, code)
+    } else {
+        emit_exchange(two(TwoOp::And, Src::Immediate(0xff00), TO_R4), code)?;
+        emit_doubles(count - 8, code)
+    }
+}
+
+fn emit_right_by(count: u16, code: &mut Vec<Instr>) -> Result<(), AllocError>
+    ensures { OnOk result (code.new.items ≡ code.old.items ++ instructions (shift_by shift_op.Right count)) }
+{
+    if count < 8 {
+        emit_right(count, code)
+    } else {
+        emit_exchange(two(TwoOp::And, Src::Immediate(0xff), TO_R4), code)?;
+        emit_halves(count - 8, code)
+    }
+}
+
+fn emit_signed_right_by(count: u16, code: &mut Vec<Instr>) -> Result<(), AllocError>
+    ensures { OnOk result (code.new.items ≡ code.old.items ++ instructions (shift_by shift_op.SignedRight count)) }
+{
+    if count < 8 {
+        emit_halves(count, code)
+    } else {
+        emit_exchange(Instr::One(OneOp::Sxt(IN_R4)), code)?;
+        emit_halves(count - 8, code)
+    }
+}
+
+// The shift of R4.
+fn emit_shift_middle(
+    operation: ShiftOperation,
+    count: u16,
+    code: &mut Vec<Instr>,
+) -> Result<(), AllocError>
+    ensures { OnOk result (code.new.items ≡ code.old.items ++ instructions (shift_middle operation count)) }
+{
+    if count > 15 {
+        return code.extend_from_slice(&[two(TwoOp::Mov, constant(Konst::Zero), TO_R4)]);
+    }
+    match operation {
+        ShiftOperation::Left => emit_left_by(count, code),
+        ShiftOperation::Right => emit_right_by(count, code),
+        ShiftOperation::SignedRight => emit_signed_right_by(count, code),
+    }
+}
+
+/// Appends the code of a shift of the top of the stack.
+pub fn emit_shift(
+    operation: ShiftOperation,
+    count: u16,
+    code: &mut Vec<Instr>,
+) -> Result<(), AllocError>
+    ensures { OnOk result
+        (code.new.items ≡ code.old.items ++ instructions (shift_code (shift_middle operation count))) }
+{
+    code.extend_from_slice(&[two(TwoOp::Mov, POPPED, TO_R4)])?;
+    emit_shift_middle(operation, count, code)?;
+    code.extend_from_slice(&[push(R4)])?;
+    Ok(())
+}
+
+// The words that shift R4.
+fn middle_words(operation: ShiftOperation, count: u16) -> u16
+    requires { count ≤ 15 }
+    ensures value { result ≡ shift_words operation count }
+    ensures low { result ≤ 15 }
+{
+    match operation {
+        ShiftOperation::Left => { if count < 8 { count } else { 3 + (count - 8) } }
+        ShiftOperation::Right => {
+            if count == 0 {
+                0
+            } else if count < 8 {
+                2 + (count - 1)
+            } else {
+                3 + (count - 8)
+            }
+        }
+        ShiftOperation::SignedRight => { if count < 8 { count } else { 2 + (count - 8) } }
+    }
+}
+
+/// The bytes of the code of a shift.
+pub fn shift_bytes(operation: ShiftOperation, count: u16) -> u16
+    ensures value { result ≡ 2 * step_words (value.shift operation count) }
+    ensures low { result ≤ 34 }
+{
+    if count > 15 {
+        return 6;
+    }
+    4 + 2 * middle_words(operation, count)
+}
