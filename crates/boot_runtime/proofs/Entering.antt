@@ -1,0 +1,94 @@
+-- The ladder and the stubs.
+use Rattle.std.proofs.Common.{◌≡◌, ℕ, zero, suc, ◌+◌, ◌*◌, ◌%◌, ◌<◌, List, [], ◌∷◌, ◌++◌, length, Some, refl, ap, ◌∙◌, subst, arith}
+use Rattle.std.specs.List.{All}
+use Rattle.std.proofs.lemmas.List.Elements.{All-head, All-tail}
+use Rattle.fram_board.specs.Effects.{Effect, Store}
+use Rattle.machine_effects.specs.World.{put, fram_after}
+use Rattle.machine_effects.specs.Going.{Goes}
+use Rattle.machine_effects.specs.Machine.{Code}
+use Rattle.code_forms.specs.Forms.{Core, Move, Branch, BranchRegister, Fram, ToFram, R4, instruction_of}
+use Rattle.code_forms.specs.Code.{Stands, IsTidy, forms_run, forms_bytes}
+use Rattle.runtime_effects.specs.Places.{RuntimePlaces, CopyPair}
+use Rattle.runtime_effects.specs.Stages.{copied_in}
+use Rattle.runtime_effects.specs.Needs.{AreInFram, ArePairWords}
+use Rattle.runtime_code.specs.Addresses.{stack_top}
+use Rattle.code_forms.proofs.Blocks.{stands_front, stands_back}
+use Rattle.runtime_code.specs.Comes.{Comes, Enters}
+use Rattle.runtime_code.proofs.Chains.{stands_at, end_of, straight, one_form, recounted, then_on}
+use Rattle.runtime_code.proofs.Sizes.{forms_bytes-append}
+use Rattle.boot_runtime.specs.Listing.{TaskEntry, entry_at, task_found, dispatch, copies_in, stub, stub_bytes, ladder_to, stubs}
+
+-- where the stub of a task stands
+abbrev pub stub_at : ℕ → List TaskEntry → ℕ → ℕ
+stub_at p [] k = p
+stub_at p (t ∷ ts) zero = p
+stub_at p (t ∷ ts) (suc k) = stub_at (p + stub_bytes t) ts k
+
+pub stub_is_even : (p : ℕ) (ts : List TaskEntry) (k : ℕ) → p % 2 ≡ 0 → stub_at p ts k % 2 ≡ 0
+stub_is_even p [] k e = e
+stub_is_even p (t ∷ ts) zero e = e
+stub_is_even p (t ∷ ts) (suc k) e = stub_is_even (p + stub_bytes t) ts k (omega (arith, e))
+
+-- the ladder's branch to a stub
+pub rung_at : (code : Code) (ts : List TaskEntry) (p q k : ℕ) → Stands code p (ladder_to q ts) → k < length ts → code (p + 4 * k) ≡ Some (instruction_of (Branch (stub_at q ts k)))
+rung_at code [] p q k h l = absurd (omega (arith, l))
+rung_at code (t ∷ ts) p q zero h l = subst (λ x. code x ≡ Some (instruction_of (Branch q))) (omega arith) h.0
+rung_at code (t ∷ ts) p q (suc k) h l =
+    subst (λ x. code x ≡ Some (instruction_of (Branch (stub_at (q + stub_bytes t) ts k)))) (omega arith) (rung_at code ts (p + 4) (q + stub_bytes t) k h.1 (omega (arith, l)))
+
+pub ladder_bytes : (q : ℕ) (ts : List TaskEntry) → forms_bytes (ladder_to q ts) ≡ 4 * length ts
+ladder_bytes q [] = refl
+ladder_bytes q (t ∷ ts) = let e = ladder_bytes (q + stub_bytes t) ts in omega (arith, e)
+
+copies_bytes : (xs : List CopyPair) → forms_bytes (copies_in xs) ≡ 6 * length xs
+copies_bytes [] = refl
+copies_bytes (x ∷ xs) = let e = copies_bytes xs in omega (arith, e)
+
+pub stub_size : (t : TaskEntry) → forms_bytes (stub t) ≡ stub_bytes t
+stub_size t = forms_bytes-append (copies_in t.privates) (Branch t.code ∷ []) ∙ ap (λ n. n + 4) (copies_bytes t.privates)
+
+-- a task's stub stands at its place
+pub stub_stands : (code : Code) (ts : List TaskEntry) (p k : ℕ) → Stands code p (stubs ts) → k < length ts → Stands code (stub_at p ts k) (stub (entry_at ts k))
+stub_stands code [] p k h l = absurd (omega (arith, l))
+stub_stands code (t ∷ ts) p zero h l = stands_front code p (stub t) (stubs ts) h
+stub_stands code (t ∷ ts) p (suc k) h l =
+    stub_stands code ts (p + stub_bytes t) k (subst (λ n. Stands code (p + n) (stubs ts)) (stub_size t) (stands_back code p (stub t) (stubs ts) h)) (omega (arith, l))
+
+module _ (code : Code) (tidy : IsTidy code) where
+  -- to the stub of the task that CUR names
+  pub dispatched : (m : RuntimePlaces) (p ladder q k : ℕ) (ts : List TaskEntry) (u : Core) → AreInFram m → u.pc ≡ p → Stands code p (dispatch m ladder) → Stands code ladder (ladder_to q ts)
+      → ladder % 2 ≡ 0 → ladder + 4 * length ts < 0x10000 → q % 2 ≡ 0 → u.fram m.words.current_task ≡ k → k < length ts
+      → Comes code [] 7 14 u (Enters (stub_at q ts k) stack_top u.fram u.readings_left)
+  dispatched m p ladder q k ts u places e h r level few even c l =
+      let hd = task_found m ladder in
+      let to = stub_at q ts k in
+      let u1 = end_of u (forms_run hd u).status in
+      let at4 : u1.work 4 ≡ ladder + 4 * k = omega (arith, c, l, few) in
+      let u2 : Core = record u1 { pc = ladder + 4 * k } in
+      let u3 : Core = record u2 { pc = to } in
+      let a : Comes code [] 5 9 u (λ v. v ≡ u1) = straight code tidy hd 5 u u1 [] 9 (λ v. v ≡ u1) (tt, (tt, (tt, (tt, (tt, tt))))) (stands_at code p hd u (stands_front code p hd (BranchRegister R4 ∷ []) h) e)
+      (refl, ((places.words.current_task, tt), ((tt, tt), ((tt, tt), ((tt, tt), tt))))) refl refl refl in
+      let there : u1.pc ≡ p + forms_bytes hd = omega (arith, e) in
+      let b : Comes code [] 1 2 u1 (λ v. v ≡ u2) = one_form code tidy (BranchRegister R4) u1 u2 [] 2 (λ v. v ≡ u2) (ap code there ∙ (stands_back code p hd (BranchRegister R4 ∷ []) h).0)
+      (let w : u1.work 4 % 2 ≡ 0 = omega (arith, at4, level) in w) (ap (λ x. Goes [] 2 (record u1 { pc = x })) at4) refl in
+      let d : Comes code [] 1 3 u2 (Enters to stack_top u.fram u.readings_left) = one_form code tidy (Branch to) u2 u3 [] 3 _ (rung_at code ts ladder q k r l) (stub_is_even q ts k even) refl
+      (record { pc = refl; sp = refl; fram = refl; readings_left = refl }) in
+      then_on code 5 2 9 5 u u1 _ [] [] a (then_on code 1 1 2 3 u1 u2 _ [] [] b d)
+
+  -- a stub: the private scalars are copied, and to the task's code
+  pub copied : (xs : List CopyPair) (p to : ℕ) (u : Core) → u.pc ≡ p → u.sp ≡ stack_top → Stands code p (copies_in xs ++ (Branch to ∷ [])) → All ArePairWords xs → to % 2 ≡ 0
+      → let es = copied_in xs u.fram in Comes code es (1 + length xs) (3 + 6 * length xs) u (Enters to stack_top (fram_after es u.fram) u.readings_left)
+  copied [] p to u e s h ok even =
+      let t : Core = record u { pc = to } in
+      one_form code tidy (Branch to) u t [] 3 _ (ap code e ∙ h.0) even refl (record { pc = refl; sp = s; fram = refl; readings_left = refl })
+  copied (x ∷ xs) p to u e s h ok even =
+      let f = u.fram in
+      let g = put f x.copy (f x.home) in
+      let words = All-head ArePairWords x xs ok in
+      let u1 : Core = record u { pc = p + 6; fram = g } in
+      let es : List Effect = Store x.copy (f x.home) ∷ [] in
+      let n = length xs in
+      let a : Comes code es 1 6 u (λ v. v ≡ u1) = one_form code tidy (Move (Fram x.home) (ToFram x.copy)) u u1 es 6 (λ v. v ≡ u1) (ap code e ∙ h.0) (words.home, words.copy)
+      (ap (λ y. Goes es 6 (record u1 { pc = y + 6 })) e) refl in
+      let b = copied xs (p + 6) to u1 refl s h.1 (All-tail ArePairWords x xs ok) even in
+      recounted code (es ++ copied_in xs g) (1 + (1 + n)) (1 + suc n) (6 + (3 + 6 * n)) (3 + 6 * suc n) u _ (omega arith) (omega arith) (then_on code 1 (1 + n) 6 (3 + 6 * n) u u1 _ es _ a b)

@@ -1,0 +1,6 @@
+pub mod Opening
+pub mod Entering
+pub mod Boot
+pub mod Words
+pub mod Stores
+pub mod Writing

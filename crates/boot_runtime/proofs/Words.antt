@@ -1,0 +1,61 @@
+-- The length of the boot's code.
+use Rattle.std.proofs.Common.{◌≡◌, ℕ, ◌+◌, ◌*◌, ◌≤◌, List, [], ◌∷◌, ◌++◌, length, refl, ◌∙◌, arith}
+use Rattle.code_forms.specs.Forms.{Branch}
+use Rattle.code_forms.specs.Code.{forms_bytes}
+use Rattle.code_forms.specs.Placed.{instructions, AreInstructions}
+use Rattle.runtime_effects.specs.Places.{RuntimePlaces, CopyPair}
+use Rattle.runtime_code.proofs.Sizes.{forms_bytes-append, code_bytes, are_instructions-append}
+use Rattle.boot_runtime.specs.Listing.{TaskEntry, head, opening, dispatch, copies_in, stub, stub_bytes, ladder_to, stubs, stubs_bytes, boot_forms}
+use Rattle.boot_runtime.specs.Laws.{BootIsShort, BootIsCode, BootFits, entry_room}
+use Rattle.boot_runtime.proofs.Entering.{stub_size, ladder_bytes}
+
+stubs_size : (ts : List TaskEntry) → forms_bytes (stubs ts) ≡ stubs_bytes ts
+stubs_size [] = refl
+stubs_size (t ∷ ts) = let e = stubs_size ts in let d = stub_size t in forms_bytes-append (stub t) (stubs ts) ∙ omega (arith, e, d)
+
+pub boot_is_short : BootIsShort
+boot_is_short m commit tasks at =
+    let q = at + 66 + 4 * length tasks in
+    let l = ladder_to q tasks in
+    let a : forms_bytes (boot_forms m commit tasks at) ≡ 66 + forms_bytes (l ++ stubs tasks) = omega arith in
+    let b = forms_bytes-append l (stubs tasks) in
+    let c = ladder_bytes q tasks in
+    let d = stubs_size tasks in
+    code_bytes (boot_forms m commit tasks at) ∙ a ∙ omega (arith, b, c, d)
+
+copies_are : (xs : List CopyPair) → AreInstructions (instructions (copies_in xs))
+copies_are [] = tt
+copies_are (x ∷ xs) = (tt, copies_are xs)
+
+stubs_are : (ts : List TaskEntry) → AreInstructions (instructions (stubs ts))
+stubs_are [] = tt
+stubs_are (t ∷ ts) = are_instructions-append (stub t) (stubs ts) (are_instructions-append (copies_in t.privates) (Branch t.code ∷ []) (copies_are t.privates) (tt, tt)) (stubs_are ts)
+
+ladder_are : (q : ℕ) (ts : List TaskEntry) → AreInstructions (instructions (ladder_to q ts))
+ladder_are q [] = tt
+ladder_are q (t ∷ ts) = (tt, ladder_are (q + stub_bytes t) ts)
+
+head_are : (m : RuntimePlaces) (commit : ℕ) → AreInstructions (instructions (head m commit))
+head_are m commit = search arith
+
+opening_are : (m : RuntimePlaces) → AreInstructions (instructions (opening m))
+opening_are m = search arith
+
+dispatch_are : (m : RuntimePlaces) (ladder : ℕ) → AreInstructions (instructions (dispatch m ladder))
+dispatch_are m ladder = search arith
+
+pub boot_is_code : BootIsCode
+boot_is_code m commit tasks at =
+    let q = at + 66 + 4 * length tasks in
+    let l = ladder_to q tasks in
+    let d = dispatch m (at + 66) in
+    are_instructions-append (head m commit) (opening m ++ (d ++ (l ++ stubs tasks))) (head_are m commit)
+    (are_instructions-append (opening m) (d ++ (l ++ stubs tasks)) (opening_are m)
+    (are_instructions-append d (l ++ stubs tasks) (dispatch_are m (at + 66)) (are_instructions-append l (stubs tasks) (ladder_are q tasks) (stubs_are tasks))))
+
+entries_fit : (ts : List TaskEntry) → 4 * length ts + stubs_bytes ts ≤ 2 * entry_room ts
+entries_fit [] = omega arith
+entries_fit (t ∷ ts) = let e = entries_fit ts in omega (arith, e)
+
+pub boot_fits : BootFits
+boot_fits tasks = let e = entries_fit tasks in omega (arith, e)

@@ -1,0 +1,71 @@
+-- What the boot's code does.
+use Rattle.std.specs.Prelude.{◌≡◌, ◌≢◌, ℕ, ◌+◌, ◌*◌, ◌%◌, ◌<◌, List, [], length, All, ◌≤◌, ◌∷◌}
+use Rattle.machine_effects.specs.World.{fram_after, EachStore}
+use Rattle.machine_effects.specs.Machine.{Code, IsFram}
+use Rattle.code_forms.specs.Forms.{Core}
+use Rattle.code_forms.specs.Code.{Stands, IsTidy}
+use Rattle.code_forms.specs.Placed.{instructions, words_of, AreInstructions}
+use Rattle.runtime_effects.specs.Places.{RuntimePlaces, CopyPair}
+use Rattle.runtime_effects.specs.Stages.{start_effects}
+use Rattle.runtime_effects.specs.Needs.{AreInFram, KeepsTask, ArePairWords}
+use Rattle.runtime_code.specs.Addresses.{start_address, stack_top}
+use Rattle.runtime_code.specs.Comes.{Comes, Enters}
+use Rattle.boot_runtime.specs.Listing.{TaskEntry, entry_at, privates_in, boot_forms, boot_bytes, start_steps, start_cycles}
+
+-- a task that the boot can come to
+pub record IsEntered (t : TaskEntry) : Type 0 where
+  pub privates : All ArePairWords t.privates
+  pub even : t.code % 2 ≡ 0
+
+-- the boot's code stands at an address, above it room
+pub record IsBoot (code : Code) (m : RuntimePlaces) (commit : ℕ) (tasks : List TaskEntry) (at : ℕ) : Type 0 where
+  pub tidy : IsTidy code
+  pub places : AreInFram m
+  pub task : KeepsTask m
+  pub even_commit : commit % 2 ≡ 0
+  pub entered : All IsEntered tasks
+  pub even : at % 2 ≡ 0
+  pub room : at + boot_bytes tasks < 0x10000
+  pub stands : Stands code at (boot_forms m commit tasks at)
+
+-- from the boot's address on, whatever the registers: with GATE 1 it comes to the commit, and does nothing else
+abbrev pub PendingCommitIsFound : Type 0
+PendingCommitIsFound = (code : Code) (m : RuntimePlaces) (commit : ℕ) (tasks : List TaskEntry) (at : ℕ) (u : Core) → IsBoot code m commit tasks at
+    → u.pc ≡ at → u.fram m.words.gate ≡ 1 → Comes code [] 4 11 u (Enters commit stack_top u.fram u.readings_left)
+
+-- else to the attempt's start
+abbrev pub AttemptIsFound : Type 0
+AttemptIsFound = (code : Code) (m : RuntimePlaces) (commit : ℕ) (tasks : List TaskEntry) (at : ℕ) (u : Core) → IsBoot code m commit tasks at
+    → u.pc ≡ at → u.fram m.words.gate < 0x10000 → u.fram m.words.gate ≢ 1 → Comes code [] 3 8 u (Enters (start_address at) stack_top u.fram u.readings_left)
+
+-- from the attempt's start on, whatever the registers: where CUR names a task it makes exactly the start, and comes to the task's
+-- code with nothing on the stack, in a number of steps and of cycles that depends on its private scalars alone
+abbrev pub StartIsMade : Type 0
+StartIsMade = (code : Code) (m : RuntimePlaces) (commit : ℕ) (tasks : List TaskEntry) (at : ℕ) (u : Core) → IsBoot code m commit tasks at
+    → u.pc ≡ start_address at → u.fram m.words.current_task < length tasks
+    → let t = entry_at tasks (u.fram m.words.current_task) in
+    let es = start_effects m (privates_in tasks) u.fram in
+    Comes code es (start_steps m.version_count (length t.privates)) (start_cycles m.version_count (length t.privates)) u
+    (Enters t.code stack_top (fram_after es u.fram) u.readings_left)
+
+-- the code's length
+abbrev pub BootIsShort : Type 0
+BootIsShort = (m : RuntimePlaces) (commit : ℕ) (tasks : List TaskEntry) (at : ℕ) → 2 * length (words_of (instructions (boot_forms m commit tasks at))) ≡ boot_bytes tasks
+
+-- each of its instructions has its words
+abbrev pub BootIsCode : Type 0
+BootIsCode = (m : RuntimePlaces) (commit : ℕ) (tasks : List TaskEntry) (at : ℕ) → AreInstructions (instructions (boot_forms m commit tasks at))
+
+-- the start of an attempt stores at words of FRAM alone
+abbrev pub StartStoresInFram : Type 0
+StartStoresInFram = (m : RuntimePlaces) (privates : ℕ → List CopyPair) (f : ℕ → ℕ) → AreInFram m → All ArePairWords (privates (f m.words.current_task))
+    → EachStore (λ a w. IsFram a) (start_effects m privates f)
+
+-- the words that the allowance has for the entries of tasks: 200 for each, and 16 for each private scalar
+abbrev pub entry_room : List TaskEntry → ℕ
+entry_room [] = 0
+entry_room (t ∷ ts) = 200 + 16 * length t.privates + entry_room ts
+
+-- the code has room in 391 words and those of the entries
+abbrev pub BootFits : Type 0
+BootFits = (tasks : List TaskEntry) → boot_bytes tasks ≤ 2 * (391 + entry_room tasks)

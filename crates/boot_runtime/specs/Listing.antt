@@ -1,0 +1,114 @@
+-- The boot's code: its listing.
+use Rattle.std.specs.Prelude.{ℕ, ◌+◌, ◌-◌, ◌*◌, List, [], ◌∷◌, ◌++◌, length, get_or}
+use Rattle.msp_isa.specs.declared.instructions.TwoOp.TheVariants.{Add, Sub}
+use Rattle.msp_isa.specs.declared.instructions.Condition.TheVariants.{NotEqual}
+use Rattle.msp_isa.specs.declared.operands.Konst.TheVariants.{Zero, One, Two}
+use Rattle.code_forms.specs.Forms.{Form, Move, Calculate, Compare, SetStack, Jump, Branch, BranchRegister, Register, Number, Constant, Fram, ToRegister, ToFram, ToPointed, R4, R5}
+use Rattle.runtime_effects.specs.Places.{RuntimePlaces, CopyPair}
+use Rattle.runtime_code.specs.Addresses.{stack_top}
+use Rattle.runtime_code.specs.Counted.{counted}
+
+-- a task as the boot comes to it: its private scalars, and where its code stands
+pub record TaskEntry : Type 0 where
+  pub privates : List CopyPair
+  pub code : ℕ
+
+-- the entry of a task by its number; behind the last one nothing
+abbrev pub entry_at : List TaskEntry → ℕ → TaskEntry
+entry_at tasks k = get_or tasks k (record { privates = []; code = 0 })
+
+-- the private scalars of a task by its number
+abbrev pub privates_in : List TaskEntry → ℕ → List CopyPair
+privates_in tasks k = (entry_at tasks k).privates
+
+-- SP := its top; where GATE is 1 a branch to the commit
+abbrev pub head : RuntimePlaces → ℕ → List Form
+head m commit = SetStack stack_top ∷ Compare (Constant One) m.words.gate ∷ Jump NotEqual 2 ∷ Branch commit ∷ []
+
+-- R4 := the number of version words, R5 := their place
+abbrev pub clearing_begins : RuntimePlaces → List Form
+clearing_begins m = Move (Number m.version_count) (ToRegister R4) ∷ Move (Number m.versions) (ToRegister R5) ∷ []
+
+-- a version word becomes 0
+abbrev pub clear_turn : List Form
+clear_turn = Move (Constant Zero) (ToPointed R5) ∷ Calculate Add (Constant Two) R5 ∷ Calculate Sub (Constant One) R4 ∷ []
+
+-- for each of them
+abbrev pub clear_loop : List Form
+clear_loop = counted clear_turn 5 (0x400 - 7)
+
+-- VER := 1, CLN := 0, EN := 0
+abbrev pub counts_set : RuntimePlaces → List Form
+counts_set m = Move (Constant One) (ToFram m.words.version) ∷ Move (Constant Zero) (ToFram m.words.list_length) ∷ Move (Constant Zero) (ToFram m.words.emit_count) ∷ []
+
+-- an attempt's opening
+abbrev pub opening : RuntimePlaces → List Form
+opening m = clearing_begins m ++ (clear_loop ++ counts_set m)
+
+-- SP := its top, R4 := the place in a ladder of four bytes a task
+abbrev pub task_found : RuntimePlaces → ℕ → List Form
+task_found m ladder = SetStack stack_top ∷ Move (Fram m.words.current_task) (ToRegister R4) ∷ Calculate Add (Register R4) R4 ∷ Calculate Add (Register R4) R4 ∷ Calculate Add (Number ladder) R4 ∷ []
+
+-- to the stub of the task that CUR names
+abbrev pub dispatch : RuntimePlaces → ℕ → List Form
+dispatch m ladder = task_found m ladder ++ (BranchRegister R4 ∷ [])
+
+-- the private scalars are copied
+abbrev pub copies_in : List CopyPair → List Form
+copies_in [] = []
+copies_in (x ∷ xs) = Move (Fram x.home) (ToFram x.copy) ∷ copies_in xs
+
+-- a task's stub: its private scalars are copied, then a branch to its code
+abbrev pub stub : TaskEntry → List Form
+stub t = copies_in t.privates ++ (Branch t.code ∷ [])
+
+-- the length of a stub in bytes
+abbrev pub stub_bytes : TaskEntry → ℕ
+stub_bytes t = 6 * length t.privates + 4
+
+-- a branch to each stub, which stand one behind another from an address on
+abbrev pub ladder_to : ℕ → List TaskEntry → List Form
+ladder_to p [] = []
+ladder_to p (t ∷ ts) = Branch p ∷ ladder_to (p + stub_bytes t) ts
+
+-- the stubs
+abbrev pub stubs : List TaskEntry → List Form
+stubs [] = []
+stubs (t ∷ ts) = stub t ++ stubs ts
+
+-- the bytes before the ladder
+abbrev pub ladder_offset : ℕ
+ladder_offset = 66
+
+-- the ladder's place, by the place of the boot
+abbrev pub ladder_address : ℕ → ℕ
+ladder_address at = at + ladder_offset
+
+-- the place of the first stub
+abbrev pub stubs_address : List TaskEntry → ℕ → ℕ
+stubs_address tasks at = ladder_address at + 4 * length tasks
+
+-- what stands before the ladder: the look at GATE, an attempt's opening, and the way to the ladder
+abbrev pub fixed_forms : RuntimePlaces → ℕ → ℕ → List Form
+fixed_forms m commit ladder = head m commit ++ (opening m ++ dispatch m ladder)
+
+-- boot, attempt start, ladder and stubs, to stand at an address
+abbrev pub boot_forms : RuntimePlaces → ℕ → List TaskEntry → ℕ → List Form
+boot_forms m commit tasks at = fixed_forms m commit (ladder_address at) ++ (ladder_to (stubs_address tasks at) tasks ++ stubs tasks)
+
+-- the length of stubs in bytes
+abbrev pub stubs_bytes : List TaskEntry → ℕ
+stubs_bytes [] = 0
+stubs_bytes (t ∷ ts) = stub_bytes t + stubs_bytes ts
+
+-- the length of it all: 33 words, and for each task 4 and 3 for each private scalar
+abbrev pub boot_bytes : List TaskEntry → ℕ
+boot_bytes tasks = ladder_offset + 4 * length tasks + stubs_bytes tasks
+
+-- the steps of an attempt's start, by the version words and the private scalars
+abbrev pub start_steps : ℕ → ℕ → ℕ
+start_steps versions privates = 15 + 6 * versions + privates
+
+-- its cycles
+abbrev pub start_cycles : ℕ → ℕ → ℕ
+start_cycles versions privates = 36 + 11 * versions + 6 * privates

@@ -1,0 +1,74 @@
+-- What copies to shared words leave as it is.
+use Rattle.std.proofs.Common.{◌≡◌, ◌≢◌, ℕ, zero, suc, ◌+◌, ◌*◌, ◌%◌, ◌<◌, ◌≤◌, ◌⊎◌, inl, inr, List, [], ◌∷◌, cond, ne_eqb, refl, sym, ap, ◌∙◌, arith}
+use Rattle.std.specs.List.{All}
+use Rattle.std.proofs.lemmas.List.Elements.{All-head, All-tail, All-weaker}
+use Rattle.fram_board.specs.Effects.{Send}
+use Rattle.machine_effects.specs.World.{put, fram_after}
+use Rattle.runtime_effects.specs.Places.{RuntimePlaces, CopyPair, entries_from}
+use Rattle.runtime_effects.specs.Stages.{copied_home, sends}
+use Rattle.runtime_effects.specs.Needs.{IsCopied}
+
+-- an address outside others
+out_of : (p n a x : ℕ) → (a < p) ⊎ (p + n ≤ a) → p ≤ x → x < p + n → a ≢ x
+out_of p n a x (inl l) low high e = omega (arith, l, low, e)
+out_of p n a x (inr g) low high e = omega (arith, g, high, e)
+
+out_of_rest : (p n a : ℕ) → (a < p) ⊎ (p + 4 * suc n ≤ a) → (a < p + 4) ⊎ (p + 4 + 4 * n ≤ a)
+out_of_rest p n a (inl l) = inl (omega (arith, l))
+out_of_rest p n a (inr g) = inr (omega (arith, g))
+
+pub elsewhere : (f : ℕ → ℕ) (a w x : ℕ) → a ≢ x → put f a w x ≡ f x
+elsewhere f a w x h = ap (λ b. cond b w (f x)) (ne_eqb x a (λ e. h (sym e)))
+
+-- a store outside the entries leaves what they name
+pub entries_stay : (n p a w : ℕ) (f : ℕ → ℕ) → (a < p) ⊎ (p + 4 * n ≤ a) → entries_from n p (put f a w) ≡ entries_from n p f
+entries_stay zero p a w f h = refl
+entries_stay (suc n) p a w f h =
+    let e : put f a w p ≡ f p = elsewhere f a w p (out_of p (4 * suc n) a p h (omega arith) (omega arith)) in
+    let d : put f a w (p + 2) ≡ f (p + 2) = elsewhere f a w (p + 2) (out_of p (4 * suc n) a (p + 2) h (omega arith) (omega arith)) in
+    let k = out_of_rest p n a h in
+    let x : CopyPair = record { home = f p; copy = f (p + 2) } in
+    ap (λ v. record { home = v; copy = put f a w (p + 2) } ∷ entries_from n (p + 4) (put f a w)) e
+    ∙ ap (λ v. record { home = f p; copy = v } ∷ entries_from n (p + 4) (put f a w)) d
+    ∙ ap (λ l. x ∷ l) (entries_stay n (p + 4) a w f k)
+
+-- within the list
+pub out_of_entries : (p n a from bytes : ℕ) → (a < from) ⊎ (from + bytes ≤ a) → from ≤ p → p + 4 * n ≤ from + bytes → (a < p) ⊎ (p + 4 * n ≤ a)
+out_of_entries p n a from bytes (inl l) low high = inl (omega (arith, l, low))
+out_of_entries p n a from bytes (inr g) low high = inr (omega (arith, g, high))
+
+-- copies leave a word that is none of their homes
+pub copies_leave : (xs : List CopyPair) (f : ℕ → ℕ) (a : ℕ) → All (λ x. x.home ≢ a) xs → fram_after (copied_home xs f) f a ≡ f a
+copies_leave [] f a h = refl
+copies_leave (x ∷ xs) f a h = copies_leave xs (put f x.home (f x.copy)) a (All-tail (λ x. x.home ≢ a) x xs h) ∙ elsewhere f x.home (f x.copy) a (All-head (λ x. x.home ≢ a) x xs h)
+
+-- the same words are sent
+pub sends_alike : (n k p : ℕ) (f g : ℕ → ℕ) → ((a : ℕ) → p ≤ a → a < p + 2 * n → g a ≡ f a) → sends n k p g ≡ sends n k p f
+sends_alike zero k p f g h = refl
+sends_alike (suc n) k p f g h =
+    ap (λ w. Send k w ∷ sends n ((k + 1) % 0x10000) (p + 2) g) (h p (omega arith) (omega arith))
+    ∙ ap (λ es. Send k (f p) ∷ es) (sends_alike n ((k + 1) % 0x10000) (p + 2) f g (λ a l m. h a (omega (arith, l)) (omega (arith, m))))
+
+-- sends leave FRAM
+pub sends_keep : (n k p : ℕ) (f g : ℕ → ℕ) → fram_after (sends n k p f) g ≡ g
+sends_keep zero k p f g = refl
+sends_keep (suc n) k p f g = sends_keep n ((k + 1) % 0x10000) (p + 2) f g
+
+module _ (m : RuntimePlaces) (xs : List CopyPair) (f : ℕ → ℕ) (copied : All (IsCopied m) xs) where
+  abbrev pub after : ℕ → ℕ
+  after = fram_after (copied_home xs f) f
+
+  pub sent_base_stays : after m.words.sent_base ≡ f m.words.sent_base
+  sent_base_stays = copies_leave xs f m.words.sent_base (All-weaker (IsCopied m) (λ x. x.home ≢ m.words.sent_base) (λ x h. h.leaves.sent_base) xs copied)
+
+  pub emit_count_stays : after m.words.emit_count ≡ f m.words.emit_count
+  emit_count_stays = copies_leave xs f m.words.emit_count (All-weaker (IsCopied m) (λ x. x.home ≢ m.words.emit_count) (λ x h. h.leaves.emit_count) xs copied)
+
+  pub next_task_stays : after m.words.next_task ≡ f m.words.next_task
+  next_task_stays = copies_leave xs f m.words.next_task (All-weaker (IsCopied m) (λ x. x.home ≢ m.words.next_task) (λ x h. h.leaves.next_task) xs copied)
+
+  not_emit : (a : ℕ) (x : CopyPair) → m.emits ≤ a → a < m.emits + 2 * m.emit_capacity → IsCopied m x → x.home ≢ a
+  not_emit a x l u h = out_of m.emits (2 * m.emit_capacity) x.home a h.leaves.emits l u
+
+  pub emits_stay : (a : ℕ) → m.emits ≤ a → a < m.emits + 2 * m.emit_capacity → after a ≡ f a
+  emits_stay a l u = copies_leave xs f a (All-weaker (IsCopied m) (λ x. x.home ≢ a) (λ x h. not_emit a x l u h) xs copied)

@@ -1,0 +1,4 @@
+pub mod Copies
+pub mod Commit
+pub mod Words
+pub mod Stores

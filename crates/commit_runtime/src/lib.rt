@@ -1,0 +1,119 @@
+//! The code of the commit: it copies the listed words home, sends the emitted words and makes the transition, so that done again
+//! from its start after a power failure it comes to the same end.
+#![tactic(auto)]
+
+mod laws;
+
+ghost use Rattle.std.specs.Prelude.{◌≡◌, ◌+◌, ◌<◌, ℕ, IfOk};
+ghost use Rattle.code_forms.specs.Placed.{instructions};
+ghost use Rattle.runtime_code.specs.Addresses.{start_address};
+ghost use Rattle.runtime_code.specs.LayoutPlaces.{runtime_places};
+ghost use Rattle.commit_runtime.specs.Listing.{copies_begin, copy_loop, sends_begin, send_loop, closing, commit_forms};
+
+pub use laws::{commit_is_made, commit_is_short, commit_stores_in_fram};
+use msp_isa::{Condition, Dst, IndexRegister, IndirectRegister, Instr, Konst, Operand, Src};
+use privatise::Layout;
+use runtime_code::{add, branch, cmp, jump, load, mov, read, set, start_address, sub};
+use std::alloc::{AllocError, Global};
+
+/// The port that takes the number of the next word for the receiver.
+const OUTNUM: u16 = 0x0202;
+
+/// The port that offers a word to the receiver.
+const OUTDATA: u16 = 0x0204;
+
+// R4 := CLN, R5 := the commit list.
+fn copies_begin(layout: &Layout) -> [Instr; 2]
+    ensures { result ≡ instructions (copies_begin (runtime_places layout.now)) }
+{
+    [
+        mov(load(layout.words().list_length), set(IndexRegister::R4)),
+        mov(
+            Src::Immediate(layout.list().address),
+            set(IndexRegister::R5),
+        ),
+    ]
+}
+
+// For each entry: its home to R6 and its copy's address to R7, then the copy goes home.
+fn copy_loop() -> [Instr; 7]
+    ensures { result ≡ instructions copy_loop }
+{
+    let entries = set(IndexRegister::R4);
+    let next = Src::Operand(Operand::Increment(IndexRegister::R5));
+    let copy = Src::Operand(Operand::Indirect(IndirectRegister::Index(IndexRegister::R7)));
+    [
+        cmp(Src::Constant(Konst::Zero), entries),
+        jump(Condition::Equal, 6),
+        mov(next, set(IndexRegister::R6)),
+        mov(next, set(IndexRegister::R7)),
+        mov(copy, Dst::Indexed(IndexRegister::R6, 0)),
+        sub(Src::Constant(Konst::One), entries),
+        jump(Condition::Always, 0x400 - 8),
+    ]
+}
+
+// R7 := SB, R4 := EN, R5 := the emitted words.
+fn sends_begin(layout: &Layout) -> [Instr; 3]
+    ensures { result ≡ instructions (sends_begin (runtime_places layout.now)) }
+{
+    let words = layout.words();
+    [
+        mov(load(words.sent_base), set(IndexRegister::R7)),
+        mov(load(words.emit_count), set(IndexRegister::R4)),
+        mov(
+            Src::Immediate(layout.emits().address),
+            set(IndexRegister::R5),
+        ),
+    ]
+}
+
+// For each emitted word: its number, then the word.
+fn send_loop() -> [Instr; 7]
+    ensures { result ≡ instructions send_loop }
+{
+    let emits = set(IndexRegister::R4);
+    let next = Src::Operand(Operand::Increment(IndexRegister::R5));
+    [
+        cmp(Src::Constant(Konst::Zero), emits),
+        jump(Condition::Equal, 7),
+        mov(read(IndexRegister::R7), Dst::Absolute(OUTNUM)),
+        mov(next, Dst::Absolute(OUTDATA)),
+        add(Src::Constant(Konst::One), set(IndexRegister::R7)),
+        sub(Src::Constant(Konst::One), emits),
+        jump(Condition::Always, 0x400 - 9),
+    ]
+}
+
+// CUR := NEXT, BASE := SB + EN, GATE := 0. SB and EN are read before CUR is written.
+fn closing(layout: &Layout) -> [Instr; 5]
+    ensures { result ≡ instructions (closing (runtime_places layout.now)) }
+{
+    let words = layout.words();
+    [
+        mov(load(words.sent_base), set(IndexRegister::R4)),
+        add(load(words.emit_count), set(IndexRegister::R4)),
+        mov(load(words.next_task), Dst::Absolute(words.current_task)),
+        mov(read(IndexRegister::R4), Dst::Absolute(words.base)),
+        mov(Src::Constant(Konst::Zero), Dst::Absolute(words.gate)),
+    ]
+}
+
+/// The instructions of the commit for a layout; or no memory is left.
+///
+/// They copy the entries of the commit list, from the first on, send the emitted words, numbered from SB on, and store CUR, BASE and
+/// GATE, in this order; the last one is a branch to the start of an attempt. GATE is 1 until all else is done, so that a boot in
+/// between finds it and begins the commit anew. They take 40 words, and may stand anywhere.
+pub fn commit_code(alloc: Global, layout: &Layout) -> Result<Vec<Instr>, AllocError>
+    requires { layout.now.boot.address + 14 < 65536 }
+    ensures { IfOk result (λ code. code.items ≡ instructions (commit_forms (runtime_places layout.now) (start_address layout.now.boot.address))) }
+{
+    let mut code = Vec::new(alloc);
+    code.extend_from_slice(&copies_begin(layout))?;
+    code.extend_from_slice(&copy_loop())?;
+    code.extend_from_slice(&sends_begin(layout))?;
+    code.extend_from_slice(&send_loop())?;
+    code.extend_from_slice(&closing(layout))?;
+    code.push(branch(start_address(layout.boot().address)))?;
+    Ok(code)
+}

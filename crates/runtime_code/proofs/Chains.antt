@@ -1,0 +1,58 @@
+-- Stretches of code one after another.
+use Rattle.std.proofs.Common.{◌≡◌, ℕ, ◌+◌, List, [], ◌++◌, length, Some, sym, ap, ◌∙◌, subst}
+use Rattle.fram_board.specs.Effects.{Effect}
+use Rattle.machine_effects.specs.Going.{Goes, At, Status, stretch}
+use Rattle.machine_effects.specs.Machine.{Code, exec}
+use Rattle.machine_effects.proofs.Going.{stay, one_step, join}
+use Rattle.msp_step.specs.declared.machine.Stop.{Stop}
+use Rattle.code_forms.specs.Forms.{Core, board_of, outcome_of_core, Form, instruction_of, form_step, FormNeeds}
+use Rattle.code_forms.specs.Code.{Stands, AreStraight, forms_run, FormsNeed, IsTidy}
+use Rattle.code_forms.proofs.Blocks.{does, block}
+use Rattle.runtime_code.specs.Comes.{Comes, IsAt}
+
+pub stands_at : (code : Code) (p : ℕ) (ms : List Form) (u : Core) → Stands code p ms → u.pc ≡ p → Stands code u.pc ms
+stands_at code p ms u h e = subst (λ q. Stands code q ms) (sym e) h
+
+-- where a stretch ends
+abbrev pub end_of : Core → Status Core Stop → Core
+end_of u (At t) = t
+end_of u _ = u
+
+module _ (code : Code) (tidy : IsTidy code) where
+  -- straight code
+  pub straight : (ms : List Form) (n : ℕ) (u t : Core) (es : List Effect) (c : ℕ) (P : Core → Type 0) → AreStraight ms → Stands code u.pc ms → FormsNeed ms u
+      → forms_run ms u ≡ stretch es c (At t) → n ≡ length ms → P t → Comes code es n c u P
+  straight ms n u t es c P st h w e l p = subst (λ k. Comes code es k c u P) (sym l) (record { end = t; leads = block code tidy ms u t es c st h w e; holds = p })
+
+  -- one form, a jump too
+  pub one_form : (m : Form) (u t : Core) (es : List Effect) (c : ℕ) (P : Core → Type 0) → code u.pc ≡ Some (instruction_of m) → FormNeeds m u → form_step m u ≡ Goes es c t
+      → P t → Comes code es 1 c u P
+  one_form m u t es c P h w e p = record {
+    end = t;
+    leads = one_step (exec code) (board_of u) (board_of t) es c (does code tidy m u h w ∙ ap outcome_of_core e);
+    holds = p;
+  }
+
+pub comes_on : (code : Code) (n n' c c' : ℕ) (u : Core) (P Q : Core → Type 0) (es fs : List Effect) → Comes code es n c u P → ((t : Core) → P t → Comes code fs n' c' t Q) → Comes code (es ++ fs) (n + n') (c + c') u Q
+comes_on code n n' c c' u P Q es fs a f =
+    let b = f a.end a.holds in
+    record { end = b.end; leads = join (exec code) n n' es fs c c' (board_of u) (board_of a.end) (board_of b.end) a.leads b.leads; holds = b.holds }
+
+pub recounted : (code : Code) (es : List Effect) (n n' c c' : ℕ) (u : Core) (P : Core → Type 0) → n ≡ n' → c ≡ c' → Comes code es n c u P → Comes code es n' c' u P
+recounted code es n n' c c' u P e d a = subst (λ k. Comes code es k c' u P) e (subst (λ k. Comes code es n k u P) d a)
+
+pub nothing : (code : Code) (u : Core) (P : Core → Type 0) → P u → Comes code [] 0 0 u P
+nothing code u P p = record { end = u; leads = stay (exec code) (board_of u); holds = p }
+
+-- a stretch to a state that is known, and another from there
+pub then_on : (code : Code) (n n' c c' : ℕ) (u t : Core) (Q : Core → Type 0) (es fs : List Effect) → Comes code es n c u (λ v. v ≡ t) → Comes code fs n' c' t Q → Comes code (es ++ fs) (n + n') (c + c') u Q
+then_on code n n' c c' u t Q es fs a b = comes_on code n n' c c' u (λ v. v ≡ t) Q es fs a (λ v e. subst (λ x. Comes code fs n' c' x Q) (sym e) b)
+
+-- the same address by another sum
+pub moved_to : (code : Code) (q q' n c : ℕ) (u : Core) (es : List Effect) (f : ℕ → ℕ) (rs : List ℕ) → q ≡ q' → Comes code es n c u (IsAt q f rs) → Comes code es n c u (IsAt q' f rs)
+moved_to code q q' n c u es f rs e a = subst (λ x. Comes code es n c u (IsAt x f rs)) e a
+
+-- a stretch, and one from where it leads, whose effects and end depend on FRAM as it then is
+pub chain : (code : Code) (n n' c c' q : ℕ) (u : Core) (es fs : List Effect) (g : ℕ → ℕ) (rs : List ℕ) (Q : Core → Type 0) → Comes code es n c u (IsAt q g rs)
+    → ((v : Core) → v.pc ≡ q → v.fram ≡ g → v.readings_left ≡ rs → Comes code fs n' c' v Q) → Comes code (es ++ fs) (n + n') (c + c') u Q
+chain code n n' c c' q u es fs g rs Q a f = comes_on code n n' c c' u (IsAt q g rs) Q es fs a (λ v h. f v h.pc h.fram h.readings_left)

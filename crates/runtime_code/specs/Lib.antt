@@ -1,0 +1,4 @@
+pub mod Comes
+pub mod Counted
+pub mod Addresses
+pub mod LayoutPlaces
