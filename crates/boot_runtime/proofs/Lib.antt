@@ -4,3 +4,4 @@ pub mod Boot
 pub mod Words
 pub mod Stores
 pub mod Writing
+pub mod Entered

@@ -10,6 +10,9 @@ use Rattle.runtime_effects.specs.Stages.{start_effects}
 use Rattle.runtime_effects.specs.Needs.{AreInFram, KeepsTask, ArePairWords}
 use Rattle.runtime_code.specs.Addresses.{start_address, stack_top}
 use Rattle.runtime_code.specs.Comes.{Comes, Enters}
+use Rattle.privatise.specs.LayoutValue.{LayoutValue}
+use Rattle.privatise.specs.Places.{IsLaidOut}
+use Rattle.boot_runtime.specs.Entries.{task_entries}
 use Rattle.boot_runtime.specs.Listing.{TaskEntry, entry_at, privates_in, boot_forms, boot_bytes, start_steps, start_cycles}
 
 -- a task that the boot can come to
@@ -50,7 +53,8 @@ StartIsMade = (code : Code) (m : RuntimePlaces) (commit : ℕ) (tasks : List Tas
 
 -- the code's length
 abbrev pub BootIsShort : Type 0
-BootIsShort = (m : RuntimePlaces) (commit : ℕ) (tasks : List TaskEntry) (at : ℕ) → 2 * length (words_of (instructions (boot_forms m commit tasks at))) ≡ boot_bytes tasks
+BootIsShort = (m : RuntimePlaces) (commit : ℕ) (tasks : List TaskEntry) (at : ℕ)
+    → 2 * length (words_of (instructions (boot_forms m commit tasks at))) ≡ boot_bytes tasks
 
 -- each of its instructions has its words
 abbrev pub BootIsCode : Type 0
@@ -69,3 +73,7 @@ entry_room (t ∷ ts) = 200 + 16 * length t.privates + entry_room ts
 -- the code has room in 391 words and those of the entries
 abbrev pub BootFits : Type 0
 BootFits = (tasks : List TaskEntry) → boot_bytes tasks ≤ 2 * (391 + entry_room tasks)
+
+-- the boot can come to each task of a layout
+abbrev pub TasksAreEntered : Type 0
+TasksAreEntered = (l : LayoutValue) → IsLaidOut l → All IsEntered (task_entries l)

@@ -3,7 +3,8 @@ use Rattle.std.specs.Prelude.{ℕ, ◌+◌, ◌-◌, ◌*◌, List, [], ◌∷�
 use Rattle.msp_isa.specs.declared.instructions.TwoOp.TheVariants.{Add, Sub}
 use Rattle.msp_isa.specs.declared.instructions.Condition.TheVariants.{NotEqual}
 use Rattle.msp_isa.specs.declared.operands.Konst.TheVariants.{Zero, One, Two}
-use Rattle.code_forms.specs.Forms.{Form, Move, Calculate, Compare, SetStack, Jump, Branch, BranchRegister, Register, Number, Constant, Fram, ToRegister, ToFram, ToPointed, R4, R5}
+use Rattle.code_forms.specs.Forms.{Form, Move, Calculate, Compare, SetStack, Jump, Branch, BranchRegister, R4, R5}
+use Rattle.code_forms.specs.Forms.{Register, Number, Constant, Fram, ToRegister, ToFram, ToPointed}
 use Rattle.runtime_effects.specs.Places.{RuntimePlaces, CopyPair}
 use Rattle.runtime_code.specs.Addresses.{stack_top}
 use Rattle.runtime_code.specs.Counted.{counted}
@@ -39,7 +40,8 @@ clear_loop = counted clear_turn 5 (0x400 - 7)
 
 -- VER := 1, CLN := 0, EN := 0
 abbrev pub counts_set : RuntimePlaces → List Form
-counts_set m = Move (Constant One) (ToFram m.words.version) ∷ Move (Constant Zero) (ToFram m.words.list_length) ∷ Move (Constant Zero) (ToFram m.words.emit_count) ∷ []
+counts_set m =
+    Move (Constant One) (ToFram m.words.version) ∷ Move (Constant Zero) (ToFram m.words.list_length) ∷ Move (Constant Zero) (ToFram m.words.emit_count) ∷ []
 
 -- an attempt's opening
 abbrev pub opening : RuntimePlaces → List Form
@@ -47,7 +49,9 @@ opening m = clearing_begins m ++ (clear_loop ++ counts_set m)
 
 -- SP := its top, R4 := the place in a ladder of four bytes a task
 abbrev pub task_found : RuntimePlaces → ℕ → List Form
-task_found m ladder = SetStack stack_top ∷ Move (Fram m.words.current_task) (ToRegister R4) ∷ Calculate Add (Register R4) R4 ∷ Calculate Add (Register R4) R4 ∷ Calculate Add (Number ladder) R4 ∷ []
+task_found m ladder =
+    SetStack stack_top ∷ Move (Fram m.words.current_task) (ToRegister R4) ∷ Calculate Add (Register R4) R4 ∷ Calculate Add (Register R4) R4
+    ∷ Calculate Add (Number ladder) R4 ∷ []
 
 -- to the stub of the task that CUR names
 abbrev pub dispatch : RuntimePlaces → ℕ → List Form

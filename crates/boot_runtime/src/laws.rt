@@ -1,6 +1,6 @@
 //! Laws of the boot's code. The functions do nothing: their contracts are the laws.
 
-ghost use Rattle.boot_runtime.specs.Laws.{PendingCommitIsFound, AttemptIsFound, StartIsMade, BootIsShort, BootIsCode, BootFits, StartStoresInFram};
+ghost use Rattle.boot_runtime.specs.Laws.{PendingCommitIsFound, AttemptIsFound, StartIsMade, BootIsShort, BootIsCode, BootFits, StartStoresInFram, TasksAreEntered};
 
 /// From its first instruction on, the boot comes to the commit where GATE is 1, and else to the start of an attempt, whatever the
 /// registers hold.
@@ -28,4 +28,9 @@ pub fn boot_is_short()
 #[tactic(auto, using(crate::proofs::Stores::start_stores_in_fram))]
 pub fn start_stores_in_fram()
     ensures { StartStoresInFram }
+{}
+
+/// In a layout the code of each task stands at an even address, and its private scalars and their copies are words of FRAM.
+pub fn tasks_are_entered()
+    ensures { TasksAreEntered }
 {}

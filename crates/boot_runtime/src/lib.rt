@@ -11,7 +11,9 @@ ghost use Rattle.runtime_code.specs.LayoutPlaces.{runtime_places};
 ghost use Rattle.boot_runtime.specs.Entries.{task_entries};
 ghost use Rattle.boot_runtime.specs.Listing.{head, clearing_begins, clear_loop, counts_set, dispatch, fixed_forms, boot_forms, boot_bytes};
 
-pub use laws::{boot_is_short, boot_obeys_the_gate, start_is_made, start_stores_in_fram};
+pub use laws::{
+    boot_is_short, boot_obeys_the_gate, start_is_made, start_stores_in_fram, tasks_are_entered,
+};
 use msp_isa::{Condition, Dst, IndexRegister, Instr, Konst, Reg, Src};
 use privatise::Layout;
 use runtime_code::{STACK_TOP, add, branch, cmp, jump, load, mov, read, set, sub};

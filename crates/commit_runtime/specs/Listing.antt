@@ -2,7 +2,8 @@
 use Rattle.std.specs.Prelude.{ℕ, ◌+◌, ◌-◌, ◌*◌, List, [], ◌∷◌, ◌++◌}
 use Rattle.msp_isa.specs.declared.instructions.TwoOp.TheVariants.{Add, Sub}
 use Rattle.msp_isa.specs.declared.operands.Konst.TheVariants.{Zero, One}
-use Rattle.code_forms.specs.Forms.{Form, Move, Calculate, Branch, Register, Number, Constant, Fram, Pointed, PointedNext, ToRegister, ToFram, ToPointed, ToOutnum, ToOutdata, R4, R5, R6, R7}
+use Rattle.code_forms.specs.Forms.{Form, Move, Calculate, Branch, R4, R5, R6, R7}
+use Rattle.code_forms.specs.Forms.{Register, Number, Constant, Fram, Pointed, PointedNext, ToRegister, ToFram, ToPointed, ToOutnum, ToOutdata}
 use Rattle.runtime_effects.specs.Places.{RuntimePlaces}
 use Rattle.runtime_code.specs.Counted.{counted}
 
@@ -12,7 +13,8 @@ copies_begin m = Move (Fram m.words.list_length) (ToRegister R4) ∷ Move (Numbe
 
 -- an entry's home and copy are read, and the copy goes home
 abbrev pub copy_turn : List Form
-copy_turn = Move (PointedNext R5) (ToRegister R6) ∷ Move (PointedNext R5) (ToRegister R7) ∷ Move (Pointed R7) (ToPointed R6) ∷ Calculate Sub (Constant One) R4 ∷ []
+copy_turn =
+    Move (PointedNext R5) (ToRegister R6) ∷ Move (PointedNext R5) (ToRegister R7) ∷ Move (Pointed R7) (ToPointed R6) ∷ Calculate Sub (Constant One) R4 ∷ []
 
 -- for each entry
 abbrev pub copy_loop : List Form
