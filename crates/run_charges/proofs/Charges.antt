@@ -1,0 +1,130 @@
+-- A run of the board is charges of the machine.
+use Rattle.std.proofs.Common.{◌≡◌, refl, sym, ap, ◌∙◌, subst, List, [], ◌∷◌, ◌++◌, length, Ok}
+use Rattle.msp_isa.specs.declared.instructions.Instr.{Instr}
+use Rattle.fram_board.specs.declared.board.Stepped.{Stepped}
+use Rattle.fram_board.specs.Board.{BoardValue, PowerState, IsPowerState, powered, executed, IsNextInstruction}
+use Rattle.fram_board.specs.Run.{Action, PowerUp, Execute, Moment, moment_of, power_up_of, Charges, Stopped, RunOutcome, run_outcome, BoardCharge, Run, Over, Next, Last}
+use Rattle.machine_effects.specs.Machine.{Stays, Steps}
+use Rattle.machine_effects.specs.View.{machine_of, IsWhole, IsOfWords}
+use Rattle.machine_effects.specs.Runs.{ReachesAs, last_board}
+use Rattle.machine_effects.proofs.Words.{power_up_keeps_words}
+use Rattle.machine_effects.proofs.Runs.{charges_alike, charge_leaves_it_whole, charge_keeps_words}
+use Rattle.run_charges.specs.Charges.{ArePowerStates, ChargeFront, moments_of, IsInstruction, AreInstructionMoments, AreMachineCharges, RunsAsMachine, NoCharge, SpentCharge, StoppedCharge}
+use Rattle.run_charges.specs.Laws.{RunsAreTheMachines, IsOfCharges, FrontsAreTheMachines}
+use Rattle.run_charges.proofs.Moments.{IsMomentFrom, PowersUp, Instructs, AreMoments, first_start, other_starts, front_moments, told, step, whole_after, words_after}
+
+as_machine : (cs : List BoardCharge) (b : BoardValue) (r : RunOutcome) → IsWhole b → IsOfWords b → ArePowerStates cs → Run cs b r
+    → RunsAsMachine cs b r
+as_machine cs b r w q ok (Over _) = NoCharge b
+as_machine cs b r w q ok (Next c ds _ ms end rest h k) =
+    let p = powered b c.start in
+    let up = power_up_keeps_words b c.start w q (first_start c ds ok) in
+    let whole = charge_leaves_it_whole c.measure c.amount p (run_outcome ms Charges end) up.0 h in
+    let words = charge_keeps_words c.measure c.amount p (run_outcome ms Charges end) up.0 up.1 h in
+    SpentCharge c ds b ms end rest (charges_alike c.measure c.amount p (run_outcome ms Charges end) up.0 h)
+    (as_machine ds end rest whole words (other_starts c ds ok) k)
+as_machine cs b r w q ok (Last c ds _ ms stop end h) =
+    let up = power_up_keeps_words b c.start w q (first_start c ds ok) in
+    StoppedCharge c ds b ms stop end (charges_alike c.measure c.amount (powered b c.start) (run_outcome ms (Stopped stop) end) up.0 h)
+
+pub runs_are_the_machines : RunsAreTheMachines
+runs_are_the_machines cs b r h = as_machine cs b r h.whole h.words h.starts h.run
+
+-- moments as instructions of a charge that is under way, and then charges
+record Parts (b : BoardValue) (ms : List Moment) : Type 0 where
+  pub before : List Moment
+  pub charges : List ChargeFront
+  pub split : ms ≡ before ++ moments_of (last_board b before) charges
+  pub instructions : AreInstructionMoments before
+  pub reaches : ReachesAs b before
+  pub machine : AreMachineCharges (last_board b before) charges
+
+reaches_itself : (b : BoardValue) → IsWhole b → ReachesAs b []
+reaches_itself b w = record { run = Stays (machine_of b); whole = w; words = λ q. q }
+
+-- what is known of the moments behind one
+abbrev PartsIf : BoardValue → List Moment → Type 0
+PartsIf b ms = IsWhole b → IsOfWords b → Parts b ms
+
+power_up_part : (b : BoardValue) (p : PowerState) (ms : List Moment) → IsWhole b → IsOfWords b → IsPowerState p → PartsIf (powered b p) ms
+    → Parts b (power_up_of b p ∷ ms)
+power_up_part b p ms w q ok next =
+    let up = power_up_keeps_words b p w q ok in
+    let rest = next up.0 up.1 in
+    record {
+      before = [];
+      charges = record { start = p; instructions = rest.before } ∷ rest.charges;
+      split = ap (λ l. power_up_of b p ∷ l) rest.split;
+      instructions = tt;
+      reaches = reaches_itself b w;
+      machine = (record { start = ok; instructions = rest.instructions; reaches = rest.reaches }, rest.machine);
+    }
+
+instruction_part : (b : BoardValue) (i : Instr) (done : Stepped) (ms : List Moment) → IsWhole b → IsOfWords b → IsNextInstruction b i
+    → (executed b i).answer ≡ Ok done → PartsIf (executed b i).board ms → Parts b (moment_of b i done ∷ ms)
+instruction_part b i done ms w q c a next =
+    let m = moment_of b i done in
+    let rest = next (whole_after b w i done c a) (words_after b w i done c a q) in
+    let there = rest.reaches in
+    record {
+      before = m ∷ rest.before;
+      charges = rest.charges;
+      split = ap (λ l. m ∷ l) rest.split;
+      instructions = (tt, rest.instructions);
+      reaches = record {
+        run = Steps (length rest.before) (machine_of b) (machine_of (executed b i).board) (told b w i done c a) done.cycles _ (step b w i done c a) there.run;
+        whole = there.whole;
+        words = λ x. there.words (words_after b w i done c a x);
+      };
+      machine = rest.machine;
+    }
+
+one_part : (b : BoardValue) (m : Moment) (ms : List Moment) → IsWhole b → IsOfWords b → IsMomentFrom b m → PartsIf m.after ms → Parts b (m ∷ ms)
+one_part b m ms w q (PowersUp p ok e) =
+    let P : Moment → Type 0 = λ x. PartsIf x.after ms → Parts b (x ∷ ms) in subst P (sym e) (power_up_part b p ms w q ok)
+one_part b m ms w q (Instructs i done c a e) =
+    let P : Moment → Type 0 = λ x. PartsIf x.after ms → Parts b (x ∷ ms) in subst P (sym e) (instruction_part b i done ms w q c a)
+
+parts_of : (b : BoardValue) (ms : List Moment) → AreMoments b ms → PartsIf b ms
+parts_of b [] h w q = record { before = []; charges = []; split = refl; instructions = tt; reaches = reaches_itself b w; machine = tt }
+parts_of b (m ∷ ms) h w q = one_part b m ms w q h.0 (parts_of m.after ms h.1)
+
+-- moments that begin with a power-up
+abbrev BeginsWithPower : List Moment → Type 0
+BeginsWithPower [] = Unit {0}
+BeginsWithPower (m ∷ ms) = m.action ≡ PowerUp
+
+heads : (x y : Moment) (xs ys : List Moment) → x ∷ xs ≡ y ∷ ys → x ≡ y
+heads x y xs ys e = cc
+
+begins_so : (cs : List BoardCharge) (b : BoardValue) (r : RunOutcome) (ms rest : List Moment) → Run cs b r → r.moments ≡ ms ++ rest → BeginsWithPower ms
+begins_so cs b r [] rest h e = tt
+begins_so cs b r (m ∷ ms) rest (Over _) e = absurd cc
+begins_so cs b r (m ∷ ms) rest (Next c ds _ ns end next h k) e =
+    sym (ap (λ x. x.action) (heads (power_up_of b c.start) m (ns ++ next.moments) (ms ++ rest) e))
+begins_so cs b r (m ∷ ms) rest (Last c ds _ ns stop end h) e =
+    sym (ap (λ x. x.action) (heads (power_up_of b c.start) m ns (ms ++ rest) e))
+
+no_instruction : (a : Action) → a ≡ PowerUp → IsInstruction a → ⊥
+no_instruction PowerUp e h = h
+no_instruction (Execute done offered) e h = absurd cc
+
+nothing_before : (ms before behind : List Moment) → ms ≡ before ++ behind → AreInstructionMoments before → BeginsWithPower ms → before ≡ []
+nothing_before ms [] behind e h p = refl
+nothing_before [] (x ∷ xs) behind e h p = absurd cc
+nothing_before (m ∷ ms) (x ∷ xs) behind e h p =
+    absurd (no_instruction x.action (sym (ap (λ y. y.action) (heads m x ms (xs ++ behind) e)) ∙ p) h.0)
+
+whole_charges : (b : BoardValue) (ms : List Moment) → Parts b ms → BeginsWithPower ms → IsOfCharges b ms
+whole_charges b ms p h =
+    let none = nothing_before ms p.before (moments_of (last_board b p.before) p.charges) p.split p.instructions h in
+    let P : List Moment → Type 0 = λ l. AreMachineCharges (last_board b l) p.charges in
+    record {
+      charges = p.charges;
+      moments = p.split ∙ ap (λ l. l ++ moments_of (last_board b l) p.charges) none;
+      machine = subst P none p.machine;
+    }
+
+pub fronts_are_the_machines : FrontsAreTheMachines
+fronts_are_the_machines cs b r ms rest h e =
+    whole_charges b ms (parts_of b ms (front_moments cs b r ms rest h.starts h.run e) h.whole h.words) (begins_so cs b r ms rest h.run e)

@@ -1,0 +1,204 @@
+-- The moments of a run, one behind the other, and what each of its instructions does to the machine.
+use Rattle.std.proofs.Common.{◌≡◌, ◌==◌, ◌≤◌, ◌+◌, ◌-◌, ◌%◌, ℕ, suc, refl, sym, ap, ◌∙◌, subst, arith, Bool, true, false, if◌then◌else◌, List, [], ◌∷◌, ◌++◌, length, append-nil, length-append, Option, Some, None, Ok}
+use Rattle.msp_isa.specs.declared.instructions.Instr.{Instr}
+use Rattle.msp_cycles.specs.Cycles.{cycles_of}
+use Rattle.msp_step.specs.Registers.{Registers, registers_of}
+use Rattle.msp_step.specs.Access.{Access, Completed, Faulted}
+use Rattle.msp_step.specs.Effect.{Written}
+use Rattle.msp_step.specs.Step.{effect, execution, Executed}
+use Rattle.fram_board.specs.declared.board.Stepped.{Stepped}
+use Rattle.fram_board.specs.declared.receiver.Receiver.{Receiver}
+use Rattle.fram_board.specs.Bus.{board_bus, is_fram, data_port}
+use Rattle.fram_board.specs.Board.{BoardValue, PowerState, IsPowerState, powered, opened, executed, IsNextInstruction, IsStep, is_accepted, offered_to}
+use Rattle.fram_board.specs.Effects.{Effect, Store, Take, Send, sends_of, effects_of, heard}
+use Rattle.fram_board.specs.Run.{Measure, Instructions, price, Moment, moment_of, power_up_of, Charges, RunOutcome, run_outcome, after_moments, ChargeRun, Spent, NoInstruction, TooDear, Refused, BoardCharge, Run, Over, Next, Last, word_list}
+use Rattle.fram_board.specs.Run as run
+use Rattle.fram_board.proofs.Effects.{step_makes_its_effects}
+use Rattle.machine_effects.specs.World.{fram_after, received, accepted_after, readings_taken}
+use Rattle.machine_effects.specs.Going.{Goes}
+use Rattle.machine_effects.specs.Machine.{MachineBus, MachineBoard, MachineOutcome, word_address, IsMachineStep, machine_bus, machine_opened, machine_outcome, machine_executed, fram_of}
+use Rattle.machine_effects.specs.View.{machine_of, IsWhole, IsOfWords, outcome_of_answer}
+use Rattle.machine_effects.specs.Runs.{action_effects, last_board}
+use Rattle.machine_effects.proofs.Logs.{takes, written_effects, LoggedBy, effect_logged, data_no_fram, machine_changes_by_effects}
+use Rattle.machine_effects.proofs.Steps.{executed_same, current_to_machine}
+use Rattle.machine_effects.proofs.Words.{step_leaves_it_whole, words_stay_words}
+use Rattle.machine_effects.proofs.Accepted.{charge_accepts_by_sends}
+use Rattle.crash_rules.specs.History.{History}
+use Rattle.crash_rules.proofs.Observed.{observed_taken}
+use Rattle.crash_rules.proofs.Events.{events_of_instructions}
+use Rattle.run_charges.specs.Charges.{ArePowerStates}
+
+-- a moment that may follow this board
+pub data IsMomentFrom (b : BoardValue) (m : Moment) : Type 0 where
+  PowersUp : (p : PowerState) → IsPowerState p → m ≡ power_up_of b p → IsMomentFrom b m
+  Instructs : (i : Instr) (done : Stepped) → IsNextInstruction b i → (executed b i).answer ≡ Ok done → m ≡ moment_of b i done → IsMomentFrom b m
+
+-- moments that follow this board, each the one before
+abbrev pub AreMoments : BoardValue → List Moment → Type 0
+AreMoments b [] = Unit {0}
+AreMoments b (m ∷ ms) = IsMomentFrom b m × AreMoments m.after ms
+
+charge_moments : (m : Measure) (left : ℕ) (b : BoardValue) (r : RunOutcome) → ChargeRun m left b r → AreMoments b r.moments
+charge_moments m left b r (Spent _ _ none) = tt
+charge_moments m left b r (NoInstruction _ _ e pos h) = tt
+charge_moments m left b r (TooDear _ _ i pos c dear) = tt
+charge_moments m left b r (Refused _ _ i e pos c paid a) = tt
+charge_moments m left b r (run.Executed _ _ i done rest pos c paid a h) =
+    (Instructs i done c a refl, charge_moments m (left - price m i) (executed b i).board rest h)
+
+charge_last : (m : Measure) (left : ℕ) (b : BoardValue) (r : RunOutcome) → ChargeRun m left b r → r.ending ≡ Charges → last_board b r.moments ≡ r.board
+charge_last m left b r (Spent _ _ none) e = refl
+charge_last m left b r (NoInstruction _ _ x pos h) e = absurd cc
+charge_last m left b r (TooDear _ _ i pos c dear) e = refl
+charge_last m left b r (Refused _ _ i x pos c paid a) e = absurd cc
+charge_last m left b r (run.Executed _ _ i done rest pos c paid a h) e = charge_last m (left - price m i) (executed b i).board rest h e
+
+are-append : (b : BoardValue) (ms ns : List Moment) → AreMoments b ms → AreMoments (last_board b ms) ns → AreMoments b (ms ++ ns)
+are-append b [] ns h k = k
+are-append b (m ∷ ms) ns h k = (h.0, are-append m.after ms ns h.1 k)
+
+are_front : (b : BoardValue) (ms rest : List Moment) → AreMoments b (ms ++ rest) → AreMoments b ms
+are_front b [] rest h = tt
+are_front b (m ∷ ms) rest h = (h.0, are_front m.after ms rest h.1)
+
+-- the power-ups of charges
+pub first_start : (c : BoardCharge) (cs : List BoardCharge) → ArePowerStates (c ∷ cs) → IsPowerState c.start
+first_start c cs ok = ok 0 c (omega arith)
+
+pub other_starts : (c : BoardCharge) (cs : List BoardCharge) → ArePowerStates (c ∷ cs) → ArePowerStates cs
+other_starts c cs ok = λ i d l. ok (suc i) d (omega arith)
+
+run_moments : (cs : List BoardCharge) (b : BoardValue) (r : RunOutcome) → ArePowerStates cs → Run cs b r → AreMoments b r.moments
+run_moments cs b r ok (Over _) = tt
+run_moments cs b r ok (Next c ds _ ms end rest h k) =
+    let front = charge_moments c.measure c.amount (powered b c.start) (run_outcome ms Charges end) h in
+    let there : last_board (powered b c.start) ms ≡ end = charge_last c.measure c.amount (powered b c.start) (run_outcome ms Charges end) h refl in
+    let more = run_moments ds end rest (other_starts c ds ok) k in
+    let P : BoardValue → Type 0 = λ x. AreMoments x rest.moments in (
+      PowersUp c.start (first_start c ds ok) refl,
+      are-append (powered b c.start) ms rest.moments front (subst P (sym there) more),
+    )
+run_moments cs b r ok (Last c ds _ ms stop end h) =
+    (PowersUp c.start (first_start c ds ok) refl, charge_moments c.measure c.amount (powered b c.start) (run_outcome ms (run.Stopped stop) end) h)
+
+-- the moments of each front of a run follow one another
+pub front_moments : (cs : List BoardCharge) (b : BoardValue) (r : RunOutcome) (ms rest : List Moment) → ArePowerStates cs → Run cs b r
+    → r.moments ≡ ms ++ rest → AreMoments b ms
+front_moments cs b r ms rest ok h e = let P : List Moment → Type 0 = λ l. AreMoments b l in are_front b ms rest (subst P e (run_moments cs b r ok h))
+
+-- one store, one send, or none
+pub data AtMostOne (es : List Effect) : Type 0 where
+  NoWrite : es ≡ [] → AtMostOne es
+  AStore : (a w : ℕ) → es ≡ Store a w ∷ [] → AtMostOne es
+  ASend : (n w : ℕ) → es ≡ Send n w ∷ [] → AtMostOne es
+
+-- takes, and then one store or one send at most
+pub record OneWrite (es : List Effect) : Type 0 where
+  pub words : List ℕ
+  pub write : List Effect
+  pub split : es ≡ takes words ++ write
+  pub one : AtMostOne write
+
+one_by_tests : (x y : Bool) (a v w n : ℕ) → (y ≡ true → x ≡ false)
+    → AtMostOne ((if x then Store a w ∷ [] else []) ++ sends_of n (if y then Some v else None))
+one_by_tests true true a v w n h = let e : true ≡ false = h refl in absurd cc
+one_by_tests true false a v w n h = AStore a w refl
+one_by_tests false true a v w n h = ASend n v refl
+one_by_tests false false a v w n h = NoWrite refl
+
+one_written : (w : Option Written) (f : ℕ → ℕ) (n : ℕ) → AtMostOne (written_effects w f n)
+one_written None f n = NoWrite refl
+one_written (Some w) f n = one_by_tests (is_fram w.0) (w.0 == data_port) (word_address w.0) w.1 (f (word_address w.0)) n (data_no_fram w.0)
+
+one_logged : (s : MachineBus) (pc c d : ℕ) (m : Access MachineBus (Registers × Option Written)) (es : List Effect) (next : MachineBoard) → s.log ≡ []
+    → LoggedBy s m → machine_outcome pc c m ≡ Goes es d next → OneWrite es
+one_logged s pc c d (Completed x t) es next e h g =
+    let same : t.log ≡ es = cc in
+    let P : List Effect → Type 0 = λ l. t.log ≡ (l ++ takes h.words) ++ written_effects x.1 t.fram s.outnum in
+    record {
+      words = h.words;
+      write = written_effects x.1 t.fram s.outnum;
+      split = sym same ∙ subst P e h.log;
+      one = one_written x.1 t.fram s.outnum;
+    }
+one_logged s pc c d (Faulted f a t) es next e h g = absurd cc
+
+heard_one : (c : Bool) (w : ℕ) (r : Receiver) (ws : List ℕ) → length ws ≡ r.accepted
+    → length (if c then ws ++ w ∷ [] else ws) ≡ (if c then record r { accepted = r.accepted + 1 } else record r { repeats = r.repeats + 1 }).accepted
+heard_one true w r ws e = omega (arith, length-append ws (w ∷ []))
+heard_one false w r ws e = e
+
+-- the receiver counts the words that effects make it accept
+heard_count : (es : List Effect) (r : Receiver) (ws : List ℕ) → length ws ≡ r.accepted → length (accepted_after es ws) ≡ (heard es r).accepted
+heard_count [] r ws e = e
+heard_count (Store a w ∷ es) r ws e = heard_count es r ws e
+heard_count (Take w ∷ es) r ws e = heard_count es r ws e
+heard_count (Send n w ∷ es) r ws e =
+    let test : (n == (length ws % 0x10000)) ≡ is_accepted n r = ap (λ c. n == (c % 0x10000)) e in
+    heard_count es (offered_to n r) (received n w ws)
+    (ap (λ c. length (if c then ws ++ w ∷ [] else ws)) test ∙ heard_one (is_accepted n r) w r ws e)
+
+at_most : (t n k : ℕ) → t ≤ n → n ≡ k → t ≤ k
+at_most t n k h e = omega arith
+
+-- what an instruction does that is made
+module _ (b : BoardValue) (whole : IsWhole b) (i : Instr) (done : Stepped) (current : IsNextInstruction b i) (answer : (executed b i).answer ≡ Ok done) where
+  abbrev pub after : BoardValue
+  after = (executed b i).board
+
+  abbrev pub told : List Effect
+  told = action_effects (moment_of b i done).action b (executed b i).board
+
+  told_same : told ≡ effects_of b (executed b i)
+  told_same = ap (λ y. effects_of b (record { answer = y; offered = (executed b i).offered; board = (executed b i).board })) (sym answer)
+
+  same_step : machine_executed (machine_of b) i ≡ Goes told done.cycles (machine_of after)
+  same_step =
+      executed_same b i whole
+      ∙ ap (λ y. outcome_of_answer (effects_of b (executed b i)) (cycles_of i) y (machine_of after)) answer
+      ∙ ap (λ es. Goes es done.cycles (machine_of after)) (sym told_same)
+
+  pub step : IsMachineStep (machine_of b) (Goes told done.cycles (machine_of after))
+  step = let P : MachineOutcome → Type 0 = λ o. IsMachineStep (machine_of b) o in subst P same_step (current_to_machine b i whole current)
+
+  is_step : IsStep b (executed b i)
+  is_step = (execution board_bus i (registers_of b.cpu) (opened b), Executed i current, refl)
+
+  pub whole_after : IsWhole after
+  whole_after = step_leaves_it_whole b (executed b i) whole is_step
+
+  pub words_after : IsOfWords b → IsOfWords after
+  words_after w = words_stay_words b (executed b i) whole w is_step
+
+  pub fram_changed : fram_of after.fram ≡ fram_after told (fram_of b.fram)
+  fram_changed = (machine_changes_by_effects (machine_of b) (Goes told done.cycles (machine_of after)) step).0
+
+  pub one_write : OneWrite told
+  one_write =
+      let s = machine_of b in
+      one_logged (machine_opened s) (s.registers 0) (cycles_of i) done.cycles (effect machine_bus i s.registers (machine_opened s)) told (machine_of after) refl
+      (effect_logged i s.registers (machine_opened s)) same_step
+
+  alone : ChargeRun Instructions 1 b (after_moments (moment_of b i done ∷ []) (run_outcome [] Charges after))
+  alone = run.Executed 1 b i done (run_outcome [] Charges after) (omega arith) current (omega arith) answer (Spent (1 - 1) after refl)
+
+  pub words_accepted : (ws : List ℕ) → length ws ≡ b.receiver.accepted → accepted_after told ws ≡ ws ++ word_list done.accepted
+  words_accepted ws len =
+      ap (λ es. accepted_after es ws) (sym (append-nil told))
+      ∙ charge_accepts_by_sends Instructions 1 b (after_moments (moment_of b i done ∷ []) (run_outcome [] Charges after)) ws len alone
+      ∙ ap (λ l. ws ++ l) (append-nil (word_list done.accepted))
+
+  pub words_counted : (ws : List ℕ) → length ws ≡ b.receiver.accepted → length (accepted_after told ws) ≡ after.receiver.accepted
+  words_counted ws len =
+      let made = step_makes_its_effects b (executed b i) whole.board is_step in
+      ap (λ es. length (accepted_after es ws)) told_same
+      ∙ heard_count (effects_of b (executed b i)) b.receiver ws len
+      ∙ ap (λ y. y.accepted) (sym made.receiver)
+
+  pub readings_counted : (k : History) → k.taken ≡ b.taken → k.taken + length (readings_taken told) ≡ after.taken
+  readings_counted k e =
+      let made = step_makes_its_effects b (executed b i) whole.board is_step in
+      let room = at_most after.taken (length after.readings) (length b.readings) whole_after.board.taken (ap length made.readings) in
+      let event = events_of_instructions 0 b (executed b i) k e made.from room in
+      let count = observed_taken 0 (effects_of b (executed b i)) k in
+      ap (λ es. k.taken + length (readings_taken es)) told_same ∙ sym count ∙ event.taken

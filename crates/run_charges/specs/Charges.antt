@@ -1,0 +1,104 @@
+-- The charges of a board's run as charges of the machine.
+use Rattle.std.specs.Prelude.{◌≡◌, ℕ, ◌+◌, ◌*◌, ◌%◌, ◌<◌, ◌≤◌, List, [], ◌∷◌, ◌++◌, length, All}
+use Rattle.msp_isa.specs.declared.instructions.Instr.{Instr}
+use Rattle.msp_step.specs.declared.machine.Stop.{Stop}
+use Rattle.fram_board.specs.Board.{BoardValue, PowerState, IsPowerState, powered}
+use Rattle.fram_board.specs.Run.{Action, PowerUp, Execute, Moment, Charges, Stopped, RunOutcome, run_outcome, after_moments, BoardCharge, power_up_of}
+use Rattle.machine_effects.specs.World.{EachStore}
+use Rattle.machine_effects.specs.Going.{going}
+use Rattle.machine_effects.specs.Machine.{MachineBoard, MachineStretch, exec, machine_powered}
+use Rattle.machine_effects.specs.View.{machine_of, IsMachineOfWords}
+use Rattle.machine_effects.specs.Runs.{SpendsAs, StopsAs, ReachesAs, action_effects, last_board}
+use Rattle.code_forms.specs.Placed.{placed, words_of, AreInstructions, LeavesCode}
+use Rattle.crash_rules.specs.Model.{IsElsewhere}
+use Rattle.crash_rules.specs.History.{History, observe, behind_boot}
+use Rattle.crash_rules.specs.Runs.{Program, Charge, Charged}
+
+-- charges begin with any words that a power-up may leave
+abbrev pub ArePowerStates : List BoardCharge → Type 0
+ArePowerStates cs = All (λ c. IsPowerState c.start) cs
+
+-- a charge up to some instruction: the words that its power-up left, and the instructions that were made
+pub record ChargeFront : Type 0 where
+  pub start : PowerState
+  pub instructions : List Moment
+
+-- the board behind it
+abbrev pub board_behind : BoardValue → ChargeFront → BoardValue
+board_behind b c = last_board (powered b c.start) c.instructions
+
+-- the board behind such charges
+abbrev pub board_behind_all : BoardValue → List ChargeFront → BoardValue
+board_behind_all b [] = b
+board_behind_all b (c ∷ cs) = board_behind_all (board_behind b c) cs
+
+-- their moments: a power-up each, and the instructions
+abbrev pub moments_of : BoardValue → List ChargeFront → List Moment
+moments_of b [] = []
+moments_of b (c ∷ cs) = power_up_of b c.start ∷ (c.instructions ++ moments_of (board_behind b c) cs)
+
+-- an action is an instruction
+abbrev pub IsInstruction : Action → Type 0
+IsInstruction PowerUp = ⊥
+IsInstruction (Execute done offered) = Unit {0}
+
+-- these moments are instructions
+abbrev pub AreInstructionMoments : List Moment → Type 0
+AreInstructionMoments [] = Unit {0}
+AreInstructionMoments (m ∷ ms) = IsInstruction m.action × AreInstructionMoments ms
+
+-- the instructions of a charge are steps of the machine from the board that the power-up left
+pub record IsMachineCharge (b : BoardValue) (c : ChargeFront) : Type 0 where
+  pub start : IsPowerState c.start
+  pub instructions : AreInstructionMoments c.instructions
+  pub reaches : ReachesAs (powered b c.start) c.instructions
+
+-- those of each charge are, one behind the other
+abbrev pub AreMachineCharges : BoardValue → List ChargeFront → Type 0
+AreMachineCharges b [] = Unit {0}
+AreMachineCharges b (c ∷ cs) = IsMachineCharge b c × AreMachineCharges (board_behind b c) cs
+
+-- a run whose charges are the machine's: each is spent as the machine spends it, and the last one may stop as the machine stops
+pub data RunsAsMachine : List BoardCharge → BoardValue → RunOutcome → Type 0 where
+  NoCharge : (b : BoardValue) → RunsAsMachine [] b (run_outcome [] Charges b)
+  SpentCharge : (c : BoardCharge) (cs : List BoardCharge) (b : BoardValue) (ms : List Moment) (end : BoardValue) (rest : RunOutcome)
+      → SpendsAs c.measure c.amount (powered b c.start) (run_outcome ms Charges end) → RunsAsMachine cs end rest
+      → RunsAsMachine (c ∷ cs) b (after_moments (power_up_of b c.start ∷ ms) rest)
+  StoppedCharge : (c : BoardCharge) (cs : List BoardCharge) (b : BoardValue) (ms : List Moment) (stop : Stop) (end : BoardValue)
+      → StopsAs c.measure c.amount (powered b c.start) (run_outcome ms (Stopped stop) end) stop
+      → RunsAsMachine (c ∷ cs) b (run_outcome (power_up_of b c.start ∷ ms) (Stopped stop) end)
+
+-- the history behind an action between these boards, where GATE is at this address: a boot, or the effects of an instruction
+abbrev pub behind_action : ℕ → Action → BoardValue → BoardValue → History → History
+behind_action gate PowerUp before after k = behind_boot k
+behind_action gate (Execute done offered) before after k = observe gate (action_effects (Execute done offered) before after) k
+
+-- the history behind moments
+abbrev pub observed : ℕ → List Moment → History → History
+observed gate [] k = k
+observed gate (m ∷ ms) k = observed gate ms (behind_action gate m.action m.before m.after k)
+
+-- charges as the crash theorem has them: the machine that a power-up left, and how many steps were made
+abbrev pub charges_of : BoardValue → List ChargeFront → List Charge
+charges_of b [] = []
+charges_of b (c ∷ cs) = record { powered = machine_of (powered b c.start); steps = length c.instructions } ∷ charges_of (board_behind b c) cs
+
+-- a program that is instructions placed in FRAM from p on, and which boards a power-up leaves where the reset vector is its entry
+pub record IsPlacedProgram (c : Program) (p : ℕ) (is : List Instr) (entry : ℕ) : Type 0 where
+  pub instructions : AreInstructions is
+  pub even : p % 2 ≡ 0
+  pub low : 0x4400 ≤ p
+  pub high : p + 2 * length (words_of is) < 0x10000
+  pub steps : c.step ≡ exec (placed p is)
+  pub powers : (s : MachineBoard) (q : PowerState) → IsMachineOfWords s → IsPowerState q → s.fram 0xFFFE ≡ entry → c.IsPoweredUp (machine_powered s q)
+
+-- steps that store on none of so many words from p on, nor on the reset vector, and never come to where no instruction stands
+pub record LeavesProgram (p n : ℕ) (r : MachineStretch) : Type 0 where
+  pub code : LeavesCode p n r
+  pub vector : EachStore (IsElsewhere 0xFFFE) r.effects
+
+-- wherever charges of a program lead, the steps of a further one are such
+abbrev pub AlwaysLeaves : Program → ℕ → ℕ → ℕ → MachineBoard → History → Type 0
+AlwaysLeaves c p n gate s h = (charges : List Charge) (t : MachineBoard) (k : History) → Charged c gate s h charges t k
+    → (q : MachineBoard) → c.IsPoweredUp q → q.fram ≡ t.fram → q.readings_left ≡ t.readings_left
+    → (m : ℕ) → LeavesProgram p n (going c.step m q)
