@@ -1,0 +1,7 @@
+pub mod Values
+pub mod Emitted
+pub mod Stored
+pub mod Transitions
+pub mod Blocks
+pub mod Chains
+pub mod Sizes

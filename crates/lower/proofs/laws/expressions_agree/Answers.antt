@@ -1,0 +1,5 @@
+use Rattle.lower.proofs.Values.{expressions_agree}
+use Rattle.lower.proofs.laws.expressions_agree.Goals as goal
+
+pub returns : goal.returns
+returns c = expressions_agree

@@ -1,0 +1,132 @@
+-- The word programs of expressions, statements and tasks.
+use Rattle.std.specs.Prelude.{ℕ, ◌%◌, List, [], ◌∷◌, Option, Some, None}
+use Rattle.task_ast.specs.Tree as t
+use Rattle.task_ast.specs.Tree.{Task}
+use Rattle.task_ast.specs.Paths.{CheckedExpression, CheckedStatement, CheckedChoice, CheckedBlock}
+use Rattle.task_ast.specs.declared.ShortCircuitOperator.{ShortCircuitOperator}
+use Rattle.task_ast.specs.declared.ShortCircuitOperator.TheVariants.{And as BothHold, Or as OneHolds}
+use Rattle.task_ast.specs.declared.names.Variable.{Variable}
+use Rattle.task_ast.specs.declared.names.Variable.TheVariants.{Shared, Local}
+use Rattle.task_ast.specs.declared.names.VariableName.{VariableName}
+use Rattle.task_ast.specs.declared.names.TaskName.{TaskName}
+use Rattle.source_values.specs.Values.{joined_type, type_of}
+use Rattle.source_values.specs.Runs.{CheckedProgram}
+use Rattle.array_versions.specs.declared.operations.UnaryOperation.TheVariants.{Truth}
+use Rattle.array_versions.specs.Program.{Step, Program, number, load, keep, local, set_local, unary, binary, shift, element, emit_word, list_entry, sense, choose, repeat, store_number, move_word, jump, nothing, step, joined, behind}
+use Rattle.privatise.specs.declared.place.PrivateScalar.{PrivateScalar}
+use Rattle.privatise.specs.LayoutValue.{LayoutValue, TaskLayoutValue}
+use Rattle.lower.specs.Places.{Places, places_of, address_of, elements_of}
+use Rattle.lower.specs.Operations.{unary_operation, binary_operation, shift_operation}
+
+-- a program of one step
+abbrev pub one : Step → Program
+one s = step s nothing
+
+-- pushes a variable's word: a shared one by its address in the task, a local by its number
+abbrev pub read_step : Places → Variable → Step
+read_step p (Shared v) = load (address_of p v)
+read_step p (Local n) = local (n % 65536)
+
+-- pops a word and sets a variable to it
+abbrev pub write_step : Places → Variable → Step
+write_step p (Shared v) = keep (address_of p v)
+write_step p (Local n) = set_local (n % 65536)
+
+-- pops an index and pushes an element of an array
+abbrev pub element_step : Places → Variable → Step
+element_step p (Shared v) = element (elements_of p.variables v).base (elements_of p.variables v).length
+element_step p (Local n) = element 0 0
+
+-- what `&&` or `||` gives where the left side settles it
+abbrev pub settled_program : ShortCircuitOperator → Program
+settled_program BothHold = one (number 0)
+settled_program OneHolds = one (number 1)
+
+-- where the left side leaves it open: 1 where the right side isn't 0
+abbrev pub evaluated_side : Program → Program
+evaluated_side right = behind right (unary Truth)
+
+-- pops the left side of `&&` or `||`; this is done where it leaves the result open
+abbrev pub lowered_choice_of_sides : ShortCircuitOperator → Program → Step
+lowered_choice_of_sides BothHold right = choose right (settled_program BothHold)
+lowered_choice_of_sides OneHolds right = choose (settled_program OneHolds) right
+
+-- an expression's value, on top of the stack: the parts from left to right, then the operation by their types
+abbrev pub lowered_expression : Places → CheckedExpression → Program
+lowered_expression p (t.number w) = one (number w)
+lowered_expression p (t.name x) = one (read_step p x.variable)
+lowered_expression p (t.element x index) = behind (lowered_expression p index) (element_step p x.variable)
+lowered_expression p t.sense = one sense
+lowered_expression p (t.unary op e) = behind (lowered_expression p e) (unary (unary_operation op))
+lowered_expression p (t.binary op a b) =
+    behind (joined (lowered_expression p a) (lowered_expression p b)) (binary (binary_operation op (joined_type (type_of a) (type_of b))))
+lowered_expression p (t.shift op e count) = behind (lowered_expression p e) (shift (shift_operation op (type_of e)) count.value)
+lowered_expression p (t.short_circuit op a b) =
+    behind (lowered_expression p a) (lowered_choice_of_sides op (evaluated_side (lowered_expression p b)))
+
+-- sets a variable to an expression's value
+abbrev pub assignment : Places → Variable → CheckedExpression → Program
+assignment p x e = behind (lowered_expression p e) (write_step p x)
+
+-- a declaration without a value has no steps
+abbrev pub declaration : Places → Variable → Option CheckedExpression → Program
+declaration p x None = nothing
+declaration p x (Some e) = assignment p x e
+
+-- puts an expression's value into the emit buffer
+abbrev pub emission : Places → CheckedExpression → Program
+emission p e = behind (lowered_expression p e) (emit_word p.words.emit_count p.emits)
+
+-- the local that counts the turns of a loop
+abbrev pub loop_local : Variable → ℕ
+loop_local (Local n) = n % 65536
+loop_local (Shared v) = 0
+
+-- an entry of the commit list for each private scalar
+abbrev pub entries : ℕ → ℕ → List PrivateScalar → Program
+entries count list [] = nothing
+entries count list (s ∷ more) = step (list_entry count list s.home s.copy) (entries count list more)
+
+-- NEXT, the entries of the commit list, SB := BASE, GATE := 1; then on to the commit
+abbrev pub lowered_transition : Places → ℕ → Program
+lowered_transition p task =
+    step (store_number p.words.next_task (task % 65536))
+    (joined (entries p.words.list_length p.list p.privates)
+    (step (move_word p.words.base p.words.sent_base)
+    (step (store_number p.words.gate 1)
+    (one (jump p.commit)))))
+
+abbrev mutual
+  -- what a statement does. An assignment to an element has no program yet
+  pub lowered_statement : Places → CheckedStatement → Program
+  lowered_statement p (t.declare of x value) = declaration p x.variable value
+  lowered_statement p (t.assign x e) = assignment p x.variable e
+  lowered_statement p (t.store x index e) = nothing
+  lowered_statement p (t.choose choice) = lowered_choice p choice
+  lowered_statement p (t.loop x from tested below stepped body) = one (repeat (loop_local x.variable) from below (lowered_block p body))
+  lowered_statement p (t.emit e) = emission p e
+  lowered_statement p (t.transition task) = lowered_transition p task.task
+
+  -- the conditions of an `if` one after another, up to the first that holds
+  pub lowered_choice : Places → CheckedChoice → Program
+  lowered_choice p t.nothing = nothing
+  lowered_choice p (t.otherwise block) = lowered_block p block
+  lowered_choice p (t.test e block more) = behind (lowered_expression p e) (choose (lowered_block p block) (lowered_choice p more))
+
+  -- statements one after another
+  pub lowered_block : Places → CheckedBlock → Program
+  lowered_block p t.end = nothing
+  lowered_block p (t.step s more) = joined (lowered_statement p s) (lowered_block p more)
+
+-- a task's program
+abbrev pub lowered_task : LayoutValue → TaskLayoutValue → CheckedBlock → Program
+lowered_task l task body = lowered_block (places_of l task) body
+
+-- the programs of tasks, each with its layout
+abbrev pub lowered_tasks : LayoutValue → List (Task VariableName TaskName) → List TaskLayoutValue → List Program
+lowered_tasks l (task ∷ tasks) (layout ∷ layouts) = lowered_task l layout task.body ∷ lowered_tasks l tasks layouts
+lowered_tasks l _ _ = []
+
+-- the programs of a source
+abbrev pub lowered : LayoutValue → CheckedProgram → List Program
+lowered l p = lowered_tasks l p.tasks l.tasks

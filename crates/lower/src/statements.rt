@@ -1,0 +1,229 @@
+//! The programs of statements.
+ghost use Rattle.std.specs.Prelude.{◌≡◌, [], map, Option, OnOk, IfOk};
+ghost use Rattle.std.specs.Option.{option_map};
+ghost use Rattle.array_versions.specs.Program.{joined, behind, step, nothing, choose};
+ghost use Rattle.array_versions.specs.View.{program_of};
+ghost use Rattle.task_ast.specs.Tree.{Block, choice_of};
+ghost use Rattle.task_ast.specs.View.{expression_of, statement_of, tested_of, block_view};
+ghost use Rattle.task_ast.specs.declared.names.VariableName.{VariableName};
+ghost use Rattle.task_ast.specs.declared.names.TaskName.{TaskName};
+ghost use Rattle.lower.specs.View.{places_in};
+ghost use Rattle.lower.specs.Lowered.{write_step, loop_local, lowered_expression, assignment, declaration, emission, entries, lowered_transition, lowered_statement, lowered_choice, lowered_block};
+
+use crate::expressions::lower_expression;
+use crate::places::{TaskPlaces, local_number};
+use array_versions::WordProgram;
+use privatise::PrivateScalar;
+use std::alloc::{AllocError, Global};
+use task_ast::{Arm, Expr, Stmt, TaskName, Variable, VariableName};
+
+fn write(
+    variable: Variable,
+    places: &TaskPlaces<'_>,
+    program: &mut WordProgram,
+) -> Result<(), AllocError>
+    ensures { OnOk result (program_of program.new
+        ≡ behind (program_of program.old) (write_step (places_in places.now) variable)) }
+{
+    match variable {
+        Variable::Shared(number) => program.keep(places.address_of(number)),
+        Variable::Local(number) => program.set_local(local_number(number)),
+    }
+}
+
+#[tactic(auto, using(array_versions::proofs::Joined::joined_assoc))]
+fn assign(
+    alloc: Global,
+    variable: Variable,
+    e: &Expr<VariableName>,
+    places: &TaskPlaces<'_>,
+    program: &mut WordProgram,
+) -> Result<(), AllocError>
+    ensures { OnOk result (program_of program.new
+        ≡ joined (program_of program.old) (assignment (places_in places.now) variable (expression_of e.now))) }
+{
+    let _ = lower_expression(alloc, e, places, program)?;
+    write(variable, places, program)
+}
+
+// A declaration without a value has no steps.
+#[tactic(auto, using(crate::proofs::Chains::joined_none))]
+fn declare(
+    alloc: Global,
+    variable: Variable,
+    value: &Option<Expr<VariableName>>,
+    places: &TaskPlaces<'_>,
+    program: &mut WordProgram,
+) -> Result<(), AllocError>
+    ensures { OnOk result (program_of program.new
+        ≡ joined (program_of program.old) (declaration (places_in places.now) variable (option_map expression_of value.now))) }
+{
+    match value {
+        None => Ok(()),
+        Some(e) => assign(alloc, variable, e, places, program),
+    }
+}
+
+#[tactic(auto, using(array_versions::proofs::Joined::joined_assoc))]
+fn emit(
+    alloc: Global,
+    e: &Expr<VariableName>,
+    places: &TaskPlaces<'_>,
+    program: &mut WordProgram,
+) -> Result<(), AllocError>
+    ensures { OnOk result (program_of program.new
+        ≡ joined (program_of program.old) (emission (places_in places.now) (expression_of e.now))) }
+{
+    let _ = lower_expression(alloc, e, places, program)?;
+    program.emit_word(places.words.emit_count, places.emits)
+}
+
+// The local that counts the turns of a `for`. The checks refuse a shared variable there.
+fn loop_local(variable: Variable) -> u16
+    ensures { result ≡ loop_local variable }
+{
+    match variable {
+        Variable::Local(number) => local_number(number),
+        Variable::Shared(_) => 0,
+    }
+}
+
+// An entry of the commit list for each private scalar.
+#[tactic(auto, using(crate::proofs::Chains::entries_step, crate::proofs::Chains::entries_end))]
+fn list_entries(
+    privates: &[PrivateScalar],
+    count: u16,
+    list: u16,
+    program: &mut WordProgram,
+) -> Result<(), AllocError>
+    ensures { OnOk result (program_of program.new ≡ joined (program_of program.old) (entries count list privates.now)) }
+{
+    for scalar in privates {
+        program.list_entry(count, list, scalar.home, scalar.copy)?;
+    }
+    Ok(())
+}
+
+// The gate is raised last: from then on the transition stands, whatever happens to the power.
+#[tactic(auto, using(array_versions::proofs::Joined::joined_assoc))]
+fn lower_transition(
+    task: u32,
+    places: &TaskPlaces<'_>,
+    program: &mut WordProgram,
+) -> Result<(), AllocError>
+    ensures { OnOk result (program_of program.new
+        ≡ joined (program_of program.old) (lowered_transition (places_in places.now) task)) }
+{
+    let words = places.words;
+    program.store_number(words.next_task, local_number(task))?;
+    list_entries(places.privates, words.list_length, places.list, program)?;
+    program.move_word(words.base, words.sent_base)?;
+    program.store_number(words.gate, 1)?;
+    program.jump(places.commit)
+}
+
+// Puts a program behind another.
+#[tactic(auto, using(crate::proofs::Chains::steps_of_joined))]
+fn append(program: &mut WordProgram, mut more: WordProgram) -> Result<(), AllocError>
+    ensures { OnOk result (program_of program.new ≡ joined (program_of program.old) (program_of more)) }
+{
+    program.steps.append(&mut more.steps)
+}
+
+#[cycle(lower)]
+#[tactic(auto, using(array_versions::proofs::Joined::joined_assoc, crate::proofs::Chains::joined_none))]
+fn lower_statement(
+    alloc: Global,
+    s: &Stmt<VariableName, TaskName>,
+    places: &TaskPlaces<'_>,
+    program: &mut WordProgram,
+) -> Result<(), AllocError>
+    ensures { OnOk result (program_of program.new
+        ≡ joined (program_of program.old) (lowered_statement (places_in places.now) (statement_of s.now))) }
+{
+    match s {
+        Stmt::Declare(_, x, value) => declare(alloc, x.variable, value, places, program),
+        Stmt::Assign(x, e) => assign(alloc, x.variable, e, places, program),
+        Stmt::Store(_, _, _) => Ok(()),
+        Stmt::If(arms, None) => {
+            let last = WordProgram::new(alloc);
+            let chain = lower_arms(alloc, arms, last, places)?;
+            append(program, chain)
+        }
+        Stmt::If(arms, Some(block)) => {
+            let mut last = WordProgram::new(alloc);
+            lower_block(alloc, block, places, &mut last)?;
+            let chain = lower_arms(alloc, arms, last, places)?;
+            append(program, chain)
+        }
+        Stmt::For {
+            variable,
+            from,
+            below,
+            body,
+            ..
+        } => {
+            let mut turn = WordProgram::new(alloc);
+            lower_block(alloc, body, places, &mut turn)?;
+            program.repeat(loop_local(variable.variable), *from, *below, turn)
+        }
+        Stmt::Emit(e) => emit(alloc, e, places, program),
+        Stmt::TransitionTo(t) => lower_transition(t.task, places, program),
+    }
+}
+
+// A condition with its block, and what is done where it doesn't hold.
+#[cycle(lower)]
+fn lower_arm(
+    alloc: Global,
+    arm: &Arm<VariableName, TaskName>,
+    otherwise: WordProgram,
+    places: &TaskPlaces<'_>,
+) -> Result<WordProgram, AllocError>
+    ensures { IfOk result (λ p. program_of p ≡ behind (lowered_expression (places_in places.now) (tested_of arm.now).condition)
+        (choose (lowered_block (places_in places.now) (tested_of arm.now).block) (program_of otherwise))) }
+{
+    let mut program = WordProgram::new(alloc);
+    let _ = lower_expression(alloc, &arm.condition, places, &mut program)?;
+    let mut taken = WordProgram::new(alloc);
+    lower_block(alloc, &arm.block, places, &mut taken)?;
+    program.choose(taken, otherwise)?;
+    Ok(program)
+}
+
+// The conditions of an `if` with their blocks, and the program of what stands behind the last.
+#[cycle(lower)]
+fn lower_arms(
+    alloc: Global,
+    arms: &[Arm<VariableName, TaskName>],
+    last: WordProgram,
+    places: &TaskPlaces<'_>,
+) -> Result<WordProgram, AllocError>
+    ensures { (b : Option (Block VariableName TaskName))
+        → program_of last ≡ lowered_choice (places_in places.now) (choice_of [] b)
+        → IfOk result (λ p. program_of p ≡ lowered_choice (places_in places.now) (choice_of (map tested_of arms.now) b)) }
+{
+    let mut chain = last;
+    for i in (0..arms.len()).rev() {
+        chain = lower_arm(alloc, &arms[i], chain, places)?;
+    }
+    Ok(chain)
+}
+
+/// Puts the program of statements behind another. Without memory part of it may stand there.
+#[cycle(lower)]
+#[tactic(auto, using(array_versions::proofs::Joined::joined_assoc))]
+pub fn lower_block(
+    alloc: Global,
+    body: &[Stmt<VariableName, TaskName>],
+    places: &TaskPlaces<'_>,
+    program: &mut WordProgram,
+) -> Result<(), AllocError>
+    ensures { OnOk result (program_of program.new
+        ≡ joined (program_of program.old) (lowered_block (places_in places.now) (block_view body.now))) }
+{
+    for statement in body {
+        lower_statement(alloc, statement, places, program)?;
+    }
+    Ok(())
+}
