@@ -2,8 +2,10 @@
 use Rattle.std.proofs.Common.{◌≡◌, ℕ, zero, suc, ◌+◌, ◌-◌, ◌*◌, ◌%◌, ◌==◌, List, [], ◌∷◌, ◌++◌, Option, Some, None, Bool, true, false, nat_lt, refl, sym, ap, ◌∙◌, append_assoc, append-nil, if◌then◌else◌}
 use Rattle.fram_board.specs.Effects.{Effect, Store, Take, Send}
 use Rattle.machine_effects.specs.World.{fram_after, fram_after_one, readings_taken}
-use Rattle.array_versions.specs.Program.{Step, Program, number, load, keep, local, set_local, unary, binary, shift, element, emit_word, list_entry, sense, choose, repeat, store_number, move_word, jump, nothing, step}
-use Rattle.array_versions.specs.Behaviour.{WordState, End, GoesOn, Jumps, Short, Strays, Broken, Behaviour, behaves, goes_on, strays, broken, behind_effects, on_end, then_on, is_place, at_place, with_top, with_two, with_stack, pushed, stored, with_local, local_pushed, reading_pushed, word_stored, element_pushed, word_emitted, entry_stored, chosen, turns, jumped, step_behaviour, behaviour}
+use Rattle.array_versions.specs.declared.program.ArrayPlace.{ArrayPlace}
+use Rattle.array_versions.specs.declared.program.ListPlace.{ListPlace}
+use Rattle.array_versions.specs.Program.{Step, Program, number, load, keep, local, set_local, unary, binary, shift, element, emit_word, list_entry, versioned_read, versioned_write, sense, choose, repeat, store_number, move_word, jump, nothing, step}
+use Rattle.array_versions.specs.Behaviour.{WordState, End, GoesOn, Jumps, Short, Strays, Broken, Behaviour, behaves, goes_on, strays, broken, behind_effects, then_on, is_place, at_place, with_top, with_two, with_stack, pushed, stored, with_local, local_pushed, reading_pushed, word_stored, element_pushed, word_emitted, entry_stored, own_element, versioned_pushed, first_stored, own_stored, versioned_stored, chosen, turns, step_behaviour, behaviour}
 use Rattle.array_versions.specs.Laws.{EndsByEffects, BehavesByEffects}
 
 fram_after-append : (es fs : List Effect) (f : ℕ → ℕ) → fram_after (es ++ fs) f ≡ fram_after fs (fram_after es f)
@@ -118,6 +120,39 @@ entry_by count list home copy s =
     let b = goes_on (Store a home ∷ Store (a + 2) copy ∷ Store count (n + 1) ∷ []) (stored count (n + 1) (stored (a + 2) copy (stored a home s))) in
     guarded (is_place count) s (at_place a (at_place (a + 2) b)) (guarded (is_place a) s (at_place (a + 2) b) (guarded (is_place (a + 2)) s b (refl, refl)))
 
+own_element_by : (b : Bool) (place : ArrayPlace) (i : ℕ) (s : WordState)
+    → Good s (if b then at_place (2 * i + place.copies) (goes_on [] (pushed (s.fram (2 * i + place.copies)) s)) else at_place (2 * i + place.elements) (goes_on [] (pushed (s.fram (2 * i + place.elements)) s)))
+own_element_by true place i s = guarded (is_place (2 * i + place.copies)) s (goes_on [] (pushed (s.fram (2 * i + place.copies)) s)) (refl, refl)
+own_element_by false place i s = guarded (is_place (2 * i + place.elements)) s (goes_on [] (pushed (s.fram (2 * i + place.elements)) s)) (refl, refl)
+
+versioned_pushed_by : (b : Bool) (place : ArrayPlace) (list : ListPlace) (i : ℕ) (s : WordState) → Good s (if b then own_element place list i s else goes_on [] (pushed 0 s))
+versioned_pushed_by true place list i s =
+    guarded (is_place list.ver) s _ (guarded (is_place (2 * i + place.versions)) s _ (own_element_by (s.fram list.ver == s.fram (2 * i + place.versions)) place i s))
+versioned_pushed_by false place list i s = (refl, refl)
+
+-- a store in front
+behind_store : (a v : ℕ) (s : WordState) (b : Behaviour) → Good (stored a v s) b → Good s (behind_effects (Store a v ∷ []) b)
+behind_store a v s b h = after_end (Store a v ∷ []) b.effects s (stored a v s) b.end (refl, refl) h
+
+first_stored_by : (place : ArrayPlace) (list : ListPlace) (i : ℕ) (s : WordState) → Good s (first_stored place list i s)
+first_stored_by place list i s =
+    let m = 2 * i + place.versions in
+    let e = 2 * i + place.elements in
+    let t = stored m (s.fram list.ver) s in
+    guarded (is_place e) s (behind_effects (Store m (s.fram list.ver) ∷ []) (entry_stored list.cln list.list e (2 * i + place.copies) t))
+    (behind_store m (s.fram list.ver) s (entry_stored list.cln list.list e (2 * i + place.copies) t) (entry_by list.cln list.list e (2 * i + place.copies) t))
+
+own_stored_by : (b : Bool) (place : ArrayPlace) (list : ListPlace) (i c v : ℕ) (s : WordState) → Good s (if b then goes_on (Store c v ∷ []) (stored c v s) else behind_effects (Store c v ∷ []) (first_stored place list i (stored c v s)))
+own_stored_by true place list i c v s = (refl, refl)
+own_stored_by false place list i c v s = behind_store c v s (first_stored place list i (stored c v s)) (first_stored_by place list i (stored c v s))
+
+versioned_stored_by : (b : Bool) (place : ArrayPlace) (list : ListPlace) (i v : ℕ) (s : WordState) → Good s (if b then own_stored place list i v s else goes_on [] s)
+versioned_stored_by true place list i v s =
+    let c = 2 * i + place.copies in
+    let t = stored c v s in
+    guarded (is_place c) s _ (guarded (is_place list.ver) s _ (guarded (is_place (2 * i + place.versions)) s _ (own_stored_by (t.fram list.ver == t.fram (2 * i + place.versions)) place list i c v s)))
+versioned_stored_by false place list i v s = (refl, refl)
+
 mutual
   step_by : (first : Step) (s : WordState) → Good s (step_behaviour first s)
   step_by (number w) s = (refl, refl)
@@ -131,6 +166,10 @@ mutual
   step_by (element base length) s = top_by s.stack s _ (λ i vs. unstacked vs s (element_pushed base length i (with_stack vs s)) (element_by (nat_lt i length) base i (with_stack vs s)))
   step_by (emit_word count buffer) s = top_by s.stack s _ (λ v vs. unstacked vs s (word_emitted count buffer v (with_stack vs s)) (emitted_by count buffer v (with_stack vs s)))
   step_by (list_entry count list home copy) s = entry_by count list home copy s
+  step_by (versioned_read place list) s =
+      top_by s.stack s _ (λ i vs. unstacked vs s (versioned_pushed place list i (with_stack vs s)) (versioned_pushed_by (nat_lt i place.length) place list i (with_stack vs s)))
+  step_by (versioned_write place list) s =
+      two_by s.stack s _ (λ i v vs. unstacked vs s (versioned_stored place list i v (with_stack vs s)) (versioned_stored_by (nat_lt i place.length) place list i v (with_stack vs s)))
   step_by sense s = reading_by s.readings s refl
   step_by (choose taken otherwise) s = top_by s.stack s _ (λ v vs. chosen_by v s (behaviour taken (with_stack vs s)) (behaviour otherwise (with_stack vs s))
       (unstacked vs s (behaviour taken (with_stack vs s)) (by_effects taken (with_stack vs s)))

@@ -1,5 +1,5 @@
 -- Each step keeps to the allowance.
-use Rattle.std.proofs.Common.{◌≡◌, ℕ, zero, suc, ◌+◌, ◌-◌, ◌*◌, ◌<◌, ◌≤◌, max, refl, arith, Bool, true, false, nat_le, nat_lt, ltb-true, if◌then◌else◌}
+use Rattle.std.proofs.Common.{◌≡◌, ℕ, zero, suc, ◌+◌, ◌-◌, ◌<◌, ◌≤◌, refl, arith, Bool, true, false, nat_le, nat_lt, ltb-true, if◌then◌else◌}
 use Rattle.std.proofs.lemmas.Bool.Decides.{nat_tests}
 use Rattle.array_versions.specs.declared.operations.UnaryOperation.{UnaryOperation}
 use Rattle.array_versions.specs.declared.operations.UnaryOperation.TheVariants.{Negate, Complement, Not, Truth}
@@ -7,7 +7,7 @@ use Rattle.array_versions.specs.declared.operations.BinaryOperation.{BinaryOpera
 use Rattle.array_versions.specs.declared.operations.BinaryOperation.TheVariants.{Multiply, Divide, Remainder, Add, Subtract, And, Xor, Or, Equal, NotEqual, Below, AtMost, Above, AtLeast, SignedBelow, SignedAtMost, SignedAbove, SignedAtLeast}
 use Rattle.array_versions.specs.declared.operations.ShiftOperation.{ShiftOperation}
 use Rattle.array_versions.specs.declared.operations.ShiftOperation.TheVariants.{Left, Right, SignedRight}
-use Rattle.array_versions.specs.Program.{Step, number, load, keep, local, set_local, unary, binary, shift, element, emit_word, list_entry, sense, choose, repeat, store_number, move_word, jump}
+use Rattle.array_versions.specs.Program.{number, load, keep, local, set_local, unary, binary, shift, element, emit_word, list_entry, versioned_read, versioned_write, sense, choose, repeat, store_number, move_word, jump}
 use Rattle.array_versions.specs.Cost.{unary_cycles, unary_words, binary_cycles, binary_words, right_words, shift_words, cycles_of}
 use Rattle.array_versions.specs.Allowance.{binary_allowance, StepsKeepToCycles, StepsKeepToWords}
 
@@ -92,6 +92,8 @@ steps_keep_to_cycles (shift o k) = omega arith
 steps_keep_to_cycles (element base length) = omega arith
 steps_keep_to_cycles (emit_word count buffer) = omega arith
 steps_keep_to_cycles (list_entry count list home copy) = omega arith
+steps_keep_to_cycles (versioned_read place list) = omega arith
+steps_keep_to_cycles (versioned_write place list) = omega arith
 steps_keep_to_cycles sense = omega arith
 steps_keep_to_cycles (choose taken otherwise) = omega arith
 steps_keep_to_cycles (repeat n from below body) = let turns = below - from in let c = cycles_of body in omega arith
@@ -111,6 +113,8 @@ steps_keep_to_words (shift o k) = shift_kept (nat_le k 15) o k refl
 steps_keep_to_words (element base length) = omega arith
 steps_keep_to_words (emit_word count buffer) = omega arith
 steps_keep_to_words (list_entry count list home copy) = omega arith
+steps_keep_to_words (versioned_read place list) = omega arith
+steps_keep_to_words (versioned_write place list) = omega arith
 steps_keep_to_words sense = omega arith
 steps_keep_to_words (choose taken otherwise) = omega arith
 steps_keep_to_words (repeat n from below body) = omega arith

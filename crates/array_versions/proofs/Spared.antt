@@ -1,7 +1,10 @@
 -- A program that spares a local leaves its word.
-use Rattle.std.proofs.Common.{◌≡◌, ℕ, zero, suc, ◌+◌, ◌-◌, ◌*◌, ◌%◌, ◌==◌, List, [], ◌∷◌, ◌++◌, Option, Some, None, Bool, true, false, nat_eq, nat_lt, refl, sym, ap, ◌∙◌, ne_eqb, ◌≢◌, if◌then◌else◌}
-use Rattle.array_versions.specs.Program.{Step, Program, number, load, keep, local, set_local, unary, binary, shift, element, emit_word, list_entry, sense, choose, repeat, store_number, move_word, jump, nothing, step}
-use Rattle.array_versions.specs.Behaviour.{WordState, assigned, End, GoesOn, Jumps, Short, Strays, Broken, Behaviour, behaves, goes_on, strays, broken, on_end, then_on, is_place, at_place, with_top, with_two, with_stack, pushed, with_local, local_pushed, reading_pushed, chosen, turns, step_behaviour, behaviour}
+use Rattle.std.proofs.Common.{◌≡◌, ℕ, zero, suc, ◌+◌, ◌-◌, ◌*◌, ◌%◌, ◌==◌, List, [], ◌∷◌, Option, Some, None, Bool, true, false, nat_lt, sym, ap, ◌∙◌, ne_eqb, ◌≢◌, if◌then◌else◌}
+use Rattle.fram_board.specs.Effects.{Store}
+use Rattle.array_versions.specs.declared.program.ArrayPlace.{ArrayPlace}
+use Rattle.array_versions.specs.declared.program.ListPlace.{ListPlace}
+use Rattle.array_versions.specs.Program.{Step, Program, number, load, keep, local, set_local, unary, binary, shift, element, emit_word, list_entry, versioned_read, versioned_write, sense, choose, repeat, store_number, move_word, jump, nothing, step}
+use Rattle.array_versions.specs.Behaviour.{stored, behind_effects, WordState, assigned, End, GoesOn, Jumps, Short, Strays, Broken, Behaviour, behaves, goes_on, strays, broken, on_end, is_place, at_place, with_top, with_stack, pushed, with_local, local_pushed, reading_pushed, own_element, first_stored, own_stored, chosen, turns, step_behaviour, behaviour}
 use Rattle.array_versions.specs.Form.{StepSpares, Spares}
 
 -- where it goes on, the local has this word, or none
@@ -39,6 +42,30 @@ element_leaves : (n : ℕ) (o : Option ℕ) (c : Bool) (base i : ℕ) (s : WordS
 element_leaves n o true base i s e = guarded n o (is_place (2 * i + base)) (goes_on [] (pushed (s.fram (2 * i + base)) s)) e
 element_leaves n o false base i s e = e
 
+own_element_leaves : (n : ℕ) (o : Option ℕ) (b : Bool) (place : ArrayPlace) (i : ℕ) (s : WordState) → s.locals n ≡ o
+    → Leaves n o (if b then at_place (2 * i + place.copies) (goes_on [] (pushed (s.fram (2 * i + place.copies)) s)) else at_place (2 * i + place.elements) (goes_on [] (pushed (s.fram (2 * i + place.elements)) s))).end
+own_element_leaves n o true place i s e = guarded n o (is_place (2 * i + place.copies)) (goes_on [] (pushed (s.fram (2 * i + place.copies)) s)) e
+own_element_leaves n o false place i s e = guarded n o (is_place (2 * i + place.elements)) (goes_on [] (pushed (s.fram (2 * i + place.elements)) s)) e
+
+versioned_pushed_leaves : (n : ℕ) (o : Option ℕ) (b : Bool) (place : ArrayPlace) (list : ListPlace) (i : ℕ) (s : WordState) → s.locals n ≡ o → Leaves n o (if b then own_element place list i s else goes_on [] (pushed 0 s)).end
+versioned_pushed_leaves n o true place list i s e =
+    guarded n o (is_place list.ver) _ (guarded n o (is_place (2 * i + place.versions)) _ (own_element_leaves n o (s.fram list.ver == s.fram (2 * i + place.versions)) place i s e))
+versioned_pushed_leaves n o false place list i s e = e
+
+own_stored_leaves : (n : ℕ) (o : Option ℕ) (b : Bool) (place : ArrayPlace) (list : ListPlace) (i c v : ℕ) (s : WordState) → s.locals n ≡ o
+    → Leaves n o (if b then goes_on (Store c v ∷ []) (stored c v s) else behind_effects (Store c v ∷ []) (first_stored place list i (stored c v s))).end
+own_stored_leaves n o true place list i c v s e = e
+own_stored_leaves n o false place list i c v s e =
+    let t = stored (2 * i + place.versions) ((stored c v s).fram list.ver) (stored c v s) in
+    guarded n o (is_place (2 * i + place.elements)) _ (guarded n o (is_place list.cln) _ (guarded n o (is_place (4 * t.fram list.cln + list.list)) _ (guarded n o (is_place (4 * t.fram list.cln + list.list + 2)) _ e)))
+
+versioned_stored_leaves : (n : ℕ) (o : Option ℕ) (b : Bool) (place : ArrayPlace) (list : ListPlace) (i v : ℕ) (s : WordState) → s.locals n ≡ o → Leaves n o (if b then own_stored place list i v s else goes_on [] s).end
+versioned_stored_leaves n o true place list i v s e =
+    let c = 2 * i + place.copies in
+    let t = stored c v s in
+    guarded n o (is_place c) _ (guarded n o (is_place list.ver) _ (guarded n o (is_place (2 * i + place.versions)) _ (own_stored_leaves n o (t.fram list.ver == t.fram (2 * i + place.versions)) place list i c v s e)))
+versioned_stored_leaves n o false place list i v s e = e
+
 chosen_leaves : (n : ℕ) (o : Option ℕ) (v : ℕ) (a b : Behaviour) → Leaves n o a.end → Leaves n o b.end → Leaves n o (chosen v a b).end
 chosen_leaves n o zero a b h k = k
 chosen_leaves n o (suc v) a b h k = h
@@ -69,6 +96,9 @@ mutual
   step_leaves n o (element base length) s h e = top_leaves n o s.stack _ (λ i vs. element_leaves n o (nat_lt i length) base i (with_stack vs s) e)
   step_leaves n o (emit_word count buffer) s h e = top_leaves n o s.stack _ (λ v vs. guarded n o (is_place count) _ (guarded n o (is_place (2 * s.fram count + buffer)) _ e))
   step_leaves n o (list_entry count list home copy) s h e = guarded n o (is_place count) _ (guarded n o (is_place (4 * s.fram count + list)) _ (guarded n o (is_place (4 * s.fram count + list + 2)) _ e))
+  step_leaves n o (versioned_read place list) s h e = top_leaves n o s.stack _ (λ i vs. versioned_pushed_leaves n o (nat_lt i place.length) place list i (with_stack vs s) e)
+  step_leaves n o (versioned_write place list) s h e =
+      top_leaves n o s.stack _ (λ v us. top_leaves n o us _ (λ i vs. versioned_stored_leaves n o (nat_lt i place.length) place list i v (with_stack vs s) e))
   step_leaves n o sense s h e = reading_leaves n o s.readings s e
   step_leaves n o (choose taken otherwise) s h e = top_leaves n o s.stack _ (λ v vs. chosen_leaves n o v _ _ (leaves n o taken (with_stack vs s) h.0 e) (leaves n o otherwise (with_stack vs s) h.1 e))
   step_leaves n o (repeat m from below body) s h e = turns_leave n o (below - from) m from (behaviour body) s h.0 e (λ t f. leaves n o body t h.1 f)

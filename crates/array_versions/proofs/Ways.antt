@@ -1,9 +1,11 @@
 -- A whole program is never broken: along each way the stack is as deep as is said, and the locals that are said to be assigned are.
-use Rattle.std.proofs.Common.{◌≡◌, ℕ, zero, suc, ◌+◌, ◌-◌, ◌*◌, ◌%◌, ◌==◌, ◌≤◌, ◌||◌, List, [], ◌∷◌, ◌++◌, length, Option, Some, None, Bool, true, false, nat_eq, nat_lt, refl, sym, ap, ◌∙◌, subst, arith, eq-eqb, eqb-true, if◌then◌else◌}
-use Rattle.fram_board.specs.Effects.{Effect, Store, Take, Send}
-use Rattle.array_versions.specs.Program.{Step, Program, number, load, keep, local, set_local, unary, binary, shift, element, emit_word, list_entry, sense, choose, repeat, store_number, move_word, jump, nothing, step}
-use Rattle.array_versions.specs.Behaviour.{WordState, started, assigned, End, GoesOn, Jumps, Short, Strays, Broken, Behaviour, behaves, goes_on, strays, broken, on_end, then_on, is_place, at_place, with_top, with_two, with_stack, pushed, with_local, local_pushed, reading_pushed, word_stored, element_pushed, word_emitted, entry_stored, chosen, turns, jumped, step_behaviour, behaviour}
-use Rattle.array_versions.specs.Form.{Place, start, assigning, Moves, EachTurn, EachStepWay, EachWay, IsWhole}
+use Rattle.std.proofs.Common.{◌≡◌, ℕ, zero, suc, ◌+◌, ◌-◌, ◌*◌, ◌%◌, ◌==◌, ◌≤◌, ◌||◌, List, [], ◌∷◌, length, Option, Some, None, Bool, true, false, nat_eq, nat_lt, refl, sym, ap, ◌∙◌, subst, arith, eq-eqb, if◌then◌else◌}
+use Rattle.fram_board.specs.Effects.{Store}
+use Rattle.array_versions.specs.declared.program.ArrayPlace.{ArrayPlace}
+use Rattle.array_versions.specs.declared.program.ListPlace.{ListPlace}
+use Rattle.array_versions.specs.Program.{Step, Program, number, load, keep, local, set_local, unary, binary, shift, element, emit_word, list_entry, versioned_read, versioned_write, sense, choose, repeat, store_number, move_word, jump, nothing, step}
+use Rattle.array_versions.specs.Behaviour.{stored, behind_effects, WordState, started, End, GoesOn, Jumps, Short, Strays, Broken, Behaviour, behaves, goes_on, strays, broken, on_end, then_on, is_place, at_place, with_top, with_two, with_stack, pushed, with_local, local_pushed, reading_pushed, entry_stored, own_element, first_stored, own_stored, chosen, turns, step_behaviour, behaviour}
+use Rattle.array_versions.specs.Form.{Place, start, assigning, Moves, EachTurn, EachStepWay, EachWay}
 use Rattle.array_versions.specs.Laws.{IsSound, WholeEndsSoundly}
 
 -- a local that is assigned has a word
@@ -100,6 +102,44 @@ element_well : (c : Bool) (base i : ℕ) (next : Place → Type 0) (t : WordStat
 element_well true base i next t h = guarded next (is_place (2 * i + base)) (goes_on [] (pushed (t.fram (2 * i + base)) t)) (h (t.fram (2 * i + base)))
 element_well false base i next t h = h 0
 
+own_element_well : (b : Bool) (place : ArrayPlace) (i : ℕ) (next : Place → Type 0) (t : WordState) → ((v : ℕ) → GoesWell next (GoesOn (pushed v t)))
+    → GoesWell next (if b then at_place (2 * i + place.copies) (goes_on [] (pushed (t.fram (2 * i + place.copies)) t)) else at_place (2 * i + place.elements) (goes_on [] (pushed (t.fram (2 * i + place.elements)) t))).end
+own_element_well true place i next t h = guarded next (is_place (2 * i + place.copies)) (goes_on [] (pushed (t.fram (2 * i + place.copies)) t)) (h (t.fram (2 * i + place.copies)))
+own_element_well false place i next t h = guarded next (is_place (2 * i + place.elements)) (goes_on [] (pushed (t.fram (2 * i + place.elements)) t)) (h (t.fram (2 * i + place.elements)))
+
+versioned_pushed_well : (b : Bool) (place : ArrayPlace) (list : ListPlace) (i : ℕ) (next : Place → Type 0) (t : WordState) → ((v : ℕ) → GoesWell next (GoesOn (pushed v t)))
+    → GoesWell next (if b then own_element place list i t else goes_on [] (pushed 0 t)).end
+versioned_pushed_well true place list i next t h =
+    guarded next (is_place list.ver) _ (guarded next (is_place (2 * i + place.versions)) _ (own_element_well (t.fram list.ver == t.fram (2 * i + place.versions)) place i next t h))
+versioned_pushed_well false place list i next t h = h 0
+
+-- an entry leaves the stack and the locals
+entry_well : (count list home copy : ℕ) (next : Place → Type 0) (t : WordState) → ((f : ℕ → ℕ) → GoesWell next (GoesOn (record t { fram = f }))) → GoesWell next (entry_stored count list home copy t).end
+entry_well count list home copy next t h =
+    guarded next (is_place count) _ (guarded next (is_place (4 * t.fram count + list)) _ (guarded next (is_place (4 * t.fram count + list + 2)) _ (h _)))
+
+own_stored_well : (b : Bool) (place : ArrayPlace) (list : ListPlace) (i c v : ℕ) (next : Place → Type 0) (t : WordState) → ((f : ℕ → ℕ) → GoesWell next (GoesOn (record t { fram = f })))
+    → GoesWell next (if b then goes_on (Store c v ∷ []) (stored c v t) else behind_effects (Store c v ∷ []) (first_stored place list i (stored c v t))).end
+own_stored_well true place list i c v next t h = h _
+own_stored_well false place list i c v next t h =
+    guarded next (is_place (2 * i + place.elements)) _ (entry_well list.cln list.list (2 * i + place.elements) (2 * i + place.copies) next (stored (2 * i + place.versions) ((stored c v t).fram list.ver) (stored c v t)) h)
+
+versioned_stored_well : (b : Bool) (place : ArrayPlace) (list : ListPlace) (i v : ℕ) (next : Place → Type 0) (t : WordState) → ((f : ℕ → ℕ) → GoesWell next (GoesOn (record t { fram = f })))
+    → GoesWell next (if b then own_stored place list i v t else goes_on [] t).end
+versioned_stored_well true place list i v next t h =
+    let c = 2 * i + place.copies in
+    let u = stored c v t in
+    guarded next (is_place c) _ (guarded next (is_place list.ver) _ (guarded next (is_place (2 * i + place.versions)) _ (own_stored_well (u.fram list.ver == u.fram (2 * i + place.versions)) place list i c v next t h)))
+versioned_stored_well false place list i v next t h = h t.fram
+
+-- two words less
+pop_two_well : (room : ℕ) (next : Place → Type 0) (q : Place) (s t : WordState) → Moves room 2 0 next q → Matches q s → length t.stack + 2 ≡ length s.stack → t.locals ≡ s.locals → GoesWell next (GoesOn t)
+pop_two_well room next q s t h m e f = (
+  at_depth (q.depth - 2 + 0) q,
+  h.2,
+  record { depth = omega (arith, m.depth); assigned = λ n k. subst (λ l. HasWord (l n)) (sym f) (m.assigned n k) },
+)
+
 chosen_well : (v : ℕ) (next : Place → Type 0) (a b : Behaviour) → GoesWell next a.end → GoesWell next b.end → GoesWell next (chosen v a b).end
 chosen_well zero next a b h k = k
 chosen_well (suc v) next a b h k = h
@@ -136,6 +176,10 @@ mutual
       top_well next s.stack _ (omega (arith, h.0, m.depth)) (λ v vs e. guarded next (is_place count) _ (guarded next (is_place (2 * s.fram count + buffer)) _ (pop_well room next q s _ h m e refl)))
   step_well room (list_entry count list home copy) next q s h m =
       guarded next (is_place count) _ (guarded next (is_place (4 * s.fram count + list)) _ (guarded next (is_place (4 * s.fram count + list + 2)) _ (same_well next q s _ h m refl refl)))
+  step_well room (versioned_read place list) next q s h m =
+      top_well next s.stack _ (omega (arith, h.0, m.depth)) (λ i vs e. versioned_pushed_well (nat_lt i place.length) place list i next (with_stack vs s) (λ v. turn_well room 1 next q s _ h m (omega arith) refl))
+  step_well room (versioned_write place list) next q s h m =
+      two_well next s.stack _ (omega (arith, h.0, m.depth)) (λ i v vs e. versioned_stored_well (nat_lt i place.length) place list i v next (with_stack vs s) (λ f. pop_two_well room next q s _ h m e refl))
   step_well room sense next q s h m = reading_well room s.readings next q s h m
   step_well room (choose taken otherwise) next q s h m =
       top_well next s.stack _ (omega (arith, h.0, m.depth)) (λ v vs e.

@@ -1,11 +1,11 @@
 -- From words a program makes words.
-use Rattle.std.proofs.Common.{◌≡◌, ℕ, zero, suc, ◌+◌, ◌-◌, ◌*◌, ◌/◌, ◌%◌, ◌^◌, ◌==◌, ◌<◌, ◌≤◌, List, [], ◌∷◌, ◌++◌, Option, Some, None, Bool, true, false, not, nat_eq, nat_lt, nat_le, refl, sym, ap, ◌∙◌, subst, arith, ltb-true, eqb-true, if◌then◌else◌, ◌&&◌}
+use Rattle.std.proofs.Common.{◌≡◌, ℕ, zero, suc, ◌+◌, ◌-◌, ◌*◌, ◌/◌, ◌%◌, ◌^◌, ◌==◌, ◌<◌, List, [], ◌∷◌, Option, Some, None, Bool, true, false, not, nat_eq, nat_lt, nat_le, refl, subst, arith, if◌then◌else◌}
 use Rattle.std.specs.List.{AllByRecursion}
 use Rattle.std.proofs.lemmas.Bool.Decides.{nat_tests}
 use Rattle.std.proofs.lemmas.Nat.{and_le_l, or_lt, xor_lt}
 use Rattle.alp_words.specs.Words.{bit, biased, is_negative}
 use Rattle.alp_words.specs.declared.Width.TheVariants.{Word}
-use Rattle.fram_board.specs.Bus.{is_fram}
+use Rattle.fram_board.specs.Effects.{Store}
 use Rattle.machine_effects.specs.World.{put}
 use Rattle.array_versions.specs.declared.operations.UnaryOperation.{UnaryOperation}
 use Rattle.array_versions.specs.declared.operations.UnaryOperation.TheVariants.{Negate, Complement, Not, Truth}
@@ -14,8 +14,10 @@ use Rattle.array_versions.specs.declared.operations.BinaryOperation.TheVariants.
 use Rattle.array_versions.specs.declared.operations.ShiftOperation.{ShiftOperation}
 use Rattle.array_versions.specs.declared.operations.ShiftOperation.TheVariants.{Left, Right, SignedRight}
 use Rattle.array_versions.specs.Operations.{unary_word, binary_word, shifted_word, shift_word}
-use Rattle.array_versions.specs.Program.{Step, Program, number, load, keep, local, set_local, unary, binary, shift, element, emit_word, list_entry, sense, choose, repeat, store_number, move_word, jump, nothing, step}
-use Rattle.array_versions.specs.Behaviour.{WordState, assigned, End, GoesOn, Jumps, Short, Strays, Broken, Behaviour, behaves, goes_on, strays, broken, on_end, then_on, is_place, at_place, with_top, with_two, with_stack, pushed, stored, with_local, local_pushed, reading_pushed, word_stored, chosen, turns, step_behaviour, behaviour}
+use Rattle.array_versions.specs.declared.program.ArrayPlace.{ArrayPlace}
+use Rattle.array_versions.specs.declared.program.ListPlace.{ListPlace}
+use Rattle.array_versions.specs.Program.{Step, Program, number, load, keep, local, set_local, unary, binary, shift, element, emit_word, list_entry, versioned_read, versioned_write, sense, choose, repeat, store_number, move_word, jump, nothing, step}
+use Rattle.array_versions.specs.Behaviour.{WordState, End, GoesOn, Jumps, Short, Strays, Broken, Behaviour, behaves, goes_on, strays, broken, on_end, is_place, at_place, with_top, with_stack, pushed, stored, with_local, local_pushed, reading_pushed, entry_stored, behind_effects, own_element, first_stored, own_stored, chosen, turns, step_behaviour, behaviour}
 use Rattle.array_versions.specs.Form.{StepOfWords, OfWords}
 use Rattle.array_versions.specs.Laws.{IsStateOfWords, EndsInWords, WordsStayWords}
 
@@ -130,6 +132,44 @@ element_words : (c : Bool) (base i : ℕ) (s : WordState) → IsStateOfWords s �
 element_words true base i s w = guarded (is_place (2 * i + base)) _ (λ e. pushed_words s (s.fram (2 * i + base)) w (w.fram (2 * i + base)))
 element_words false base i s w = pushed_words s 0 w (omega arith)
 
+pub place_high : (a : ℕ) → is_place a ≡ true → a < 0x10000
+place_high a e = grind (arith, nat_tests)
+
+own_element_words : (b : Bool) (place : ArrayPlace) (i : ℕ) (s : WordState) → IsStateOfWords s
+    → EndsInWords (if b then at_place (2 * i + place.copies) (goes_on [] (pushed (s.fram (2 * i + place.copies)) s)) else at_place (2 * i + place.elements) (goes_on [] (pushed (s.fram (2 * i + place.elements)) s))).end
+own_element_words true place i s w = guarded (is_place (2 * i + place.copies)) _ (λ e. pushed_words s (s.fram (2 * i + place.copies)) w (w.fram (2 * i + place.copies)))
+own_element_words false place i s w = guarded (is_place (2 * i + place.elements)) _ (λ e. pushed_words s (s.fram (2 * i + place.elements)) w (w.fram (2 * i + place.elements)))
+
+versioned_pushed_words : (b : Bool) (place : ArrayPlace) (list : ListPlace) (i : ℕ) (s : WordState) → IsStateOfWords s → EndsInWords (if b then own_element place list i s else goes_on [] (pushed 0 s)).end
+versioned_pushed_words true place list i s w =
+    guarded (is_place list.ver) _ (λ e. guarded (is_place (2 * i + place.versions)) _ (λ f. own_element_words (s.fram list.ver == s.fram (2 * i + place.versions)) place i s w))
+versioned_pushed_words false place list i s w = pushed_words s 0 w (omega arith)
+
+entry_words : (count list home copy : ℕ) (s : WordState) → home < 0x10000 → copy < 0x10000 → IsStateOfWords s → EndsInWords (entry_stored count list home copy s).end
+entry_words count list home copy s h k w =
+    let n = s.fram count in
+    let a = 4 * n + list in
+    guarded (is_place count) _ (λ e. guarded (is_place a) _ (λ f. guarded (is_place (a + 2)) _ (λ g.
+    let x = place_high a f in
+    stored_words (stored (a + 2) copy (stored a home s)) count (n + 1) (stored_words (stored a home s) (a + 2) copy (stored_words s a home w h) k) (omega arith))))
+
+own_stored_words : (b : Bool) (place : ArrayPlace) (list : ListPlace) (i v : ℕ) (s : WordState) → v < 0x10000 → 2 * i + place.copies < 0x10000 → IsStateOfWords s
+    → EndsInWords (if b then goes_on (Store (2 * i + place.copies) v ∷ []) (stored (2 * i + place.copies) v s) else behind_effects (Store (2 * i + place.copies) v ∷ []) (first_stored place list i (stored (2 * i + place.copies) v s))).end
+own_stored_words true place list i v s l h w = stored_words s (2 * i + place.copies) v w l
+own_stored_words false place list i v s l h w =
+    let c = 2 * i + place.copies in
+    let t = stored c v s in
+    let tw = stored_words s c v w l in
+    guarded (is_place (2 * i + place.elements)) _ (λ e.
+    entry_words list.cln list.list (2 * i + place.elements) c (stored (2 * i + place.versions) (t.fram list.ver) t) (place_high (2 * i + place.elements) e) h (stored_words t (2 * i + place.versions) (t.fram list.ver) tw (tw.fram list.ver)))
+
+versioned_stored_words : (b : Bool) (place : ArrayPlace) (list : ListPlace) (i v : ℕ) (s : WordState) → v < 0x10000 → IsStateOfWords s → EndsInWords (if b then own_stored place list i v s else goes_on [] s).end
+versioned_stored_words true place list i v s l w =
+    let c = 2 * i + place.copies in
+    let t = stored c v s in
+    guarded (is_place c) _ (λ e. guarded (is_place list.ver) _ (λ f. guarded (is_place (2 * i + place.versions)) _ (λ g. own_stored_words (t.fram list.ver == t.fram (2 * i + place.versions)) place list i v s l (place_high c e) w)))
+versioned_stored_words false place list i v s l w = w
+
 chosen_words : (v : ℕ) (a b : Behaviour) → EndsInWords a.end → EndsInWords b.end → EndsInWords (chosen v a b).end
 chosen_words zero a b h k = k
 chosen_words (suc v) a b h k = h
@@ -142,9 +182,6 @@ turns_words (suc m) n k body s l h w =
 jumped_words : (c : Bool) (to : ℕ) (s : WordState) → IsStateOfWords s → EndsInWords (if c then behaves [] (Jumps to s) else broken).end
 jumped_words true to s w = w
 jumped_words false to s w = tt
-
-pub place_high : (a : ℕ) → is_place a ≡ true → a < 0x10000
-place_high a e = grind (arith, nat_tests)
 
 mutual
   pub step_words : (first : Step) (s : WordState) → StepOfWords first → IsStateOfWords s → EndsInWords (step_behaviour first s).end
@@ -168,6 +205,9 @@ mutual
       guarded (is_place count) _ (λ e. guarded (is_place a) _ (λ f. guarded (is_place (a + 2)) _ (λ g.
       let x = place_high a f in
       stored_words (stored (a + 2) copy (stored a home s)) count (n + 1) (stored_words (stored a home s) (a + 2) copy (stored_words s a home w h.2) h.3) (omega arith))))
+  step_words (versioned_read place list) s h w = top_words s.stack _ w.stack (λ i vs l m. versioned_pushed_words (nat_lt i place.length) place list i (with_stack vs s) (stack_words s vs w m))
+  step_words (versioned_write place list) s h w =
+      top_words s.stack _ w.stack (λ v us l m. top_words us _ m (λ i vs k j. versioned_stored_words (nat_lt i place.length) place list i v (with_stack vs s) l (stack_words s vs w j)))
   step_words sense s h w = reading_words s.readings s w.readings w
   step_words (choose taken otherwise) s h w =
       top_words s.stack _ w.stack (λ v vs l m. chosen_words v _ _ (words taken (with_stack vs s) h.0 (stack_words s vs w m)) (words otherwise (with_stack vs s) h.1 (stack_words s vs w m)))

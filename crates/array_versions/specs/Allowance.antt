@@ -2,7 +2,7 @@
 use Rattle.std.specs.Prelude.{ℕ, ◌+◌, ◌-◌, ◌*◌, ◌≤◌, max}
 use Rattle.array_versions.specs.declared.operations.BinaryOperation.{BinaryOperation}
 use Rattle.array_versions.specs.declared.operations.BinaryOperation.TheVariants.{Multiply, Divide, Remainder}
-use Rattle.array_versions.specs.Program.{Step, number, load, keep, local, set_local, unary, binary, shift, element, emit_word, list_entry, sense, choose, repeat, store_number, move_word, jump}
+use Rattle.array_versions.specs.Program.{Step, number, load, keep, local, set_local, unary, binary, shift, element, emit_word, list_entry, versioned_read, versioned_write, sense, choose, repeat, store_number, move_word, jump}
 use Rattle.array_versions.specs.Cost.{step_cycles, cycles_of, step_words, words_of}
 
 -- the cycles of an operation on two words
@@ -26,6 +26,8 @@ allowed_cycles (shift op k) = 100
 allowed_cycles (element base length) = 60
 allowed_cycles (emit_word count buffer) = 60
 allowed_cycles (list_entry count list home copy) = 40
+allowed_cycles (versioned_read place list) = 60
+allowed_cycles (versioned_write place list) = 120
 allowed_cycles sense = 40
 allowed_cycles (choose taken otherwise) = 40 + max (cycles_of taken) (cycles_of otherwise)
 allowed_cycles (repeat n from below body) = 40 + (below - from) * (40 + cycles_of body)
@@ -46,6 +48,8 @@ allowed_words (shift op k) = 16
 allowed_words (element base length) = 24
 allowed_words (emit_word count buffer) = 24
 allowed_words (list_entry count list home copy) = 16
+allowed_words (versioned_read place list) = 24
+allowed_words (versioned_write place list) = 60
 allowed_words sense = 16
 allowed_words (choose taken otherwise) = 24 + words_of taken + words_of otherwise
 allowed_words (repeat n from below body) = 24 + words_of body
@@ -53,8 +57,10 @@ allowed_words (store_number a w) = 10
 allowed_words (move_word from to) = 10
 allowed_words (jump to) = 10
 
+-- each step keeps to its cycles
 abbrev pub StepsKeepToCycles : Type 0
 StepsKeepToCycles = (s : Step) → step_cycles s ≤ allowed_cycles s
 
+-- each step keeps to its words
 abbrev pub StepsKeepToWords : Type 0
 StepsKeepToWords = (s : Step) → step_words s ≤ allowed_words s

@@ -1,10 +1,12 @@
 -- What a word program does from a state on: its effects, and how it ends. Both depend on FRAM and the readings at its start.
 use Rattle.std.specs.Prelude.{ℕ, zero, suc, ◌+◌, ◌-◌, ◌*◌, ◌%◌, ◌==◌, ◌&&◌, Bool, nat_eq, nat_lt, if◌then◌else◌, List, [], ◌∷◌, ◌++◌, Option, Some, None}
 use Rattle.fram_board.specs.Bus.{is_fram}
-use Rattle.fram_board.specs.Effects.{Effect, Store, Take, Send}
+use Rattle.fram_board.specs.Effects.{Effect, Store, Take}
 use Rattle.machine_effects.specs.World.{put}
+use Rattle.array_versions.specs.declared.program.ArrayPlace.{ArrayPlace}
+use Rattle.array_versions.specs.declared.program.ListPlace.{ListPlace}
 use Rattle.array_versions.specs.Operations.{unary_word, binary_word, shift_word}
-use Rattle.array_versions.specs.Program.{Step, Program, number, load, keep, local, set_local, unary, binary, shift, element, emit_word, list_entry, sense, choose, repeat, store_number, move_word, jump, nothing, step}
+use Rattle.array_versions.specs.Program.{Step, Program, number, load, keep, local, set_local, unary, binary, shift, element, emit_word, list_entry, versioned_read, versioned_write, sense, choose, repeat, store_number, move_word, jump, nothing, step}
 
 -- what a program works on
 pub record WordState : Type 0 where
@@ -39,9 +41,11 @@ behaves es e = record { effects = es; end = e }
 abbrev pub goes_on : List Effect → WordState → Behaviour
 goes_on es s = behaves es (GoesOn s)
 
+-- an address isn't that of a word of FRAM
 abbrev pub strays : Behaviour
 strays = behaves [] Strays
 
+-- the program is broken here
 abbrev pub broken : Behaviour
 broken = behaves [] Broken
 
@@ -133,6 +137,39 @@ entry_stored count list home copy s =
     at_place count (at_place a (at_place (a + 2) (
     goes_on (Store a home ∷ Store (a + 2) copy ∷ Store count (n + 1) ∷ []) (stored count (n + 1) (stored (a + 2) copy (stored a home s))))))
 
+-- an element as this attempt has it: its copy where its version word is the attempt's number, else the element
+abbrev pub own_element : ArrayPlace → ListPlace → ℕ → WordState → Behaviour
+own_element place list i s =
+    let m = 2 * i + place.versions in
+    let c = 2 * i + place.copies in
+    let e = 2 * i + place.elements in
+    at_place list.ver (at_place m (
+    if s.fram list.ver == s.fram m then at_place c (goes_on [] (pushed (s.fram c) s)) else at_place e (goes_on [] (pushed (s.fram e) s))))
+
+-- pushes an element of a versioned array: 0 past its end
+abbrev pub versioned_pushed : ArrayPlace → ListPlace → ℕ → WordState → Behaviour
+versioned_pushed place list i s = if nat_lt i place.length then own_element place list i s else goes_on [] (pushed 0 s)
+
+-- behind the first store to an element's copy: the version word, then the entry, the element being its home
+abbrev pub first_stored : ArrayPlace → ListPlace → ℕ → WordState → Behaviour
+first_stored place list i s =
+    let m = 2 * i + place.versions in
+    let e = 2 * i + place.elements in
+    at_place e (behind_effects (Store m (s.fram list.ver) ∷ []) (entry_stored list.cln list.list e (2 * i + place.copies) (stored m (s.fram list.ver) s)))
+
+-- stores a word in an element's copy; where the version word isn't the attempt's number, it is the first store
+abbrev pub own_stored : ArrayPlace → ListPlace → ℕ → ℕ → WordState → Behaviour
+own_stored place list i v s =
+    let c = 2 * i + place.copies in
+    let m = 2 * i + place.versions in
+    let t = stored c v s in
+    at_place c (at_place list.ver (at_place m (
+    if t.fram list.ver == t.fram m then goes_on (Store c v ∷ []) t else behind_effects (Store c v ∷ []) (first_stored place list i t))))
+
+-- stores an element of a versioned array: nothing past its end
+abbrev pub versioned_stored : ArrayPlace → ListPlace → ℕ → ℕ → WordState → Behaviour
+versioned_stored place list i v s = if nat_lt i place.length then own_stored place list i v s else goes_on [] s
+
 -- the first where a condition isn't 0, else the second
 abbrev pub chosen : ℕ → Behaviour → Behaviour → Behaviour
 chosen zero taken otherwise = otherwise
@@ -161,6 +198,8 @@ abbrev mutual
   step_behaviour (element base length) s = with_top s.stack (λ i vs. element_pushed base length i (with_stack vs s))
   step_behaviour (emit_word count buffer) s = with_top s.stack (λ v vs. word_emitted count buffer v (with_stack vs s))
   step_behaviour (list_entry count list home copy) s = entry_stored count list home copy s
+  step_behaviour (versioned_read place list) s = with_top s.stack (λ i vs. versioned_pushed place list i (with_stack vs s))
+  step_behaviour (versioned_write place list) s = with_two s.stack (λ i v vs. versioned_stored place list i v (with_stack vs s))
   step_behaviour sense s = reading_pushed s.readings s
   step_behaviour (choose taken otherwise) s =
       with_top s.stack (λ v vs. chosen v (behaviour taken (with_stack vs s)) (behaviour otherwise (with_stack vs s)))

@@ -1,12 +1,12 @@
 -- What the code of a word program costs at most, in cycles and in words.
-use Rattle.std.specs.Prelude.{ℕ, zero, suc, ◌+◌, ◌-◌, ◌*◌, ◌==◌, max, nat_le, nat_lt, if◌then◌else◌}
+use Rattle.std.specs.Prelude.{ℕ, zero, suc, ◌+◌, ◌-◌, ◌*◌, max, nat_le, nat_lt, if◌then◌else◌}
 use Rattle.array_versions.specs.declared.operations.UnaryOperation.{UnaryOperation}
 use Rattle.array_versions.specs.declared.operations.UnaryOperation.TheVariants.{Negate, Complement, Not, Truth}
 use Rattle.array_versions.specs.declared.operations.BinaryOperation.{BinaryOperation}
 use Rattle.array_versions.specs.declared.operations.BinaryOperation.TheVariants.{Multiply, Divide, Remainder, Add, Subtract, And, Xor, Or, Equal, NotEqual, Below, AtMost, Above, AtLeast, SignedBelow, SignedAtMost, SignedAbove, SignedAtLeast}
 use Rattle.array_versions.specs.declared.operations.ShiftOperation.{ShiftOperation}
 use Rattle.array_versions.specs.declared.operations.ShiftOperation.TheVariants.{Left, Right, SignedRight}
-use Rattle.array_versions.specs.Program.{Step, Program, number, load, keep, local, set_local, unary, binary, shift, element, emit_word, list_entry, sense, choose, repeat, store_number, move_word, jump, nothing, step}
+use Rattle.array_versions.specs.Program.{Step, Program, number, load, keep, local, set_local, unary, binary, shift, element, emit_word, list_entry, versioned_read, versioned_write, sense, choose, repeat, store_number, move_word, jump, nothing, step}
 
 -- the cycles of an operation on the top of the stack
 abbrev pub unary_cycles : UnaryOperation → ℕ
@@ -89,6 +89,8 @@ abbrev mutual
   step_cycles (element base length) = 15
   step_cycles (emit_word count buffer) = 16
   step_cycles (list_entry count list home copy) = 21
+  step_cycles (versioned_read place list) = 23
+  step_cycles (versioned_write place list) = 49
   step_cycles sense = 6
   step_cycles (choose taken otherwise) = 8 + max (cycles_of taken) (cycles_of otherwise)
   step_cycles (repeat n from below body) = 15 + (below - from) * (18 + cycles_of body)
@@ -115,6 +117,8 @@ abbrev mutual
   step_words (element base length) = 10
   step_words (emit_word count buffer) = 10
   step_words (list_entry count list home copy) = 14
+  step_words (versioned_read place list) = 18
+  step_words (versioned_write place list) = 32
   step_words sense = 3
   step_words (choose taken otherwise) = 7 + words_of taken + words_of otherwise
   step_words (repeat n from below body) = 17 + words_of body

@@ -2,7 +2,9 @@
 -- ends in a jump, takes no word from an empty stack, and reads no local before it is assigned; and there is room.
 use Rattle.std.specs.Prelude.{ℕ, zero, suc, ◌+◌, ◌-◌, ◌*◌, ◌%◌, ◌≡◌, ◌≢◌, ◌<◌, ◌≤◌, ◌||◌, Bool, true, false, nat_eq}
 use Rattle.alp_words.specs.Words.{IsWord}
-use Rattle.array_versions.specs.Program.{Step, Program, number, load, keep, local, set_local, unary, binary, shift, element, emit_word, list_entry, sense, choose, repeat, store_number, move_word, jump, nothing, step}
+use Rattle.array_versions.specs.declared.program.ArrayPlace.{ArrayPlace}
+use Rattle.array_versions.specs.declared.program.ListPlace.{ListPlace}
+use Rattle.array_versions.specs.Program.{Step, Program, number, load, keep, local, set_local, unary, binary, shift, element, emit_word, list_entry, versioned_read, versioned_write, sense, choose, repeat, store_number, move_word, jump, nothing, step}
 
 -- what is known at a place of one way: the words on the stack, and which locals are assigned
 pub record Place : Type 0 where
@@ -41,6 +43,8 @@ abbrev mutual
   EachStepWay room (element base length) next p = Moves room 1 1 next p
   EachStepWay room (emit_word count buffer) next p = Moves room 1 0 next p
   EachStepWay room (list_entry count list home copy) next p = next p
+  EachStepWay room (versioned_read place list) next p = Moves room 1 1 next p
+  EachStepWay room (versioned_write place list) next p = Moves room 2 0 next p
   EachStepWay room sense next p = Moves room 0 1 next p
   EachStepWay room (choose taken otherwise) next p =
       Moves room 1 0 (λ q. EachWay room taken next q × EachWay room otherwise next q) p
@@ -63,6 +67,7 @@ abbrev mutual
   StepLocalsBelow locals (repeat n from below body) = (n < locals) × LocalsBelow locals body
   StepLocalsBelow locals _ = Unit {0}
 
+  -- the same of each step of a program
   pub LocalsBelow : ℕ → Program → Type 0
   LocalsBelow locals nothing = Unit {0}
   LocalsBelow locals (step first more) = StepLocalsBelow locals first × LocalsBelow locals more
@@ -75,6 +80,7 @@ abbrev mutual
   StepSpares n (repeat m from below body) = (m ≢ n) × Spares n body
   StepSpares n _ = Unit {0}
 
+  -- the same of each step of a program
   pub Spares : ℕ → Program → Type 0
   Spares n nothing = Unit {0}
   Spares n (step first more) = StepSpares n first × Spares n more
@@ -86,9 +92,18 @@ abbrev mutual
   StepLoopsCount (repeat n from below body) = Spares n body × LoopsCount body
   StepLoopsCount _ = Unit {0}
 
+  -- the same of each step of a program
   pub LoopsCount : Program → Type 0
   LoopsCount nothing = Unit {0}
   LoopsCount (step first more) = StepLoopsCount first × LoopsCount more
+
+-- the places and the length of a versioned array are words
+abbrev pub ArrayOfWords : ArrayPlace → Type 0
+ArrayOfWords place = IsWord place.elements × IsWord place.copies × IsWord place.versions × IsWord place.length
+
+-- the places of a list of copies are words
+abbrev pub ListOfWords : ListPlace → Type 0
+ListOfWords list = IsWord list.ver × IsWord list.cln × IsWord list.list
 
 abbrev mutual
   -- each number in a step is a word, as those of a program in memory are
@@ -104,6 +119,8 @@ abbrev mutual
   StepOfWords (element base length) = IsWord base × IsWord length
   StepOfWords (emit_word count buffer) = IsWord count × IsWord buffer
   StepOfWords (list_entry count list home copy) = IsWord count × IsWord list × IsWord home × IsWord copy
+  StepOfWords (versioned_read place list) = ArrayOfWords place × ListOfWords list
+  StepOfWords (versioned_write place list) = ArrayOfWords place × ListOfWords list
   StepOfWords sense = Unit {0}
   StepOfWords (choose taken otherwise) = OfWords taken × OfWords otherwise
   StepOfWords (repeat n from below body) = IsWord n × IsWord from × IsWord below × OfWords body
@@ -111,6 +128,7 @@ abbrev mutual
   StepOfWords (move_word from to) = IsWord from × IsWord to
   StepOfWords (jump to) = IsWord to
 
+  -- the same of each step of a program
   pub OfWords : Program → Type 0
   OfWords nothing = Unit {0}
   OfWords (step first more) = StepOfWords first × OfWords more

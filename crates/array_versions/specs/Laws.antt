@@ -1,10 +1,10 @@
 -- What holds of the behaviour of word programs.
-use Rattle.std.specs.Prelude.{ℕ, ◌≡◌, ◌+◌, ◌<◌, List, [], ◌++◌, Some}
+use Rattle.std.specs.Prelude.{ℕ, ◌≡◌, ◌+◌, ◌<◌, List, ◌++◌, Some}
 use Rattle.std.specs.List.{AllByRecursion}
-use Rattle.fram_board.specs.Effects.{Effect, Store, Take, Send}
+use Rattle.fram_board.specs.Effects.{Effect}
 use Rattle.machine_effects.specs.World.{fram_after, readings_taken}
-use Rattle.array_versions.specs.Program.{Step, Program, joined, step}
-use Rattle.array_versions.specs.Behaviour.{WordState, started, End, GoesOn, Jumps, Short, Strays, Broken, Behaviour, behaviour, then_on}
+use Rattle.array_versions.specs.Program.{Program, joined}
+use Rattle.array_versions.specs.Behaviour.{WordState, started, End, GoesOn, Jumps, Short, Strays, Broken, behaviour, then_on}
 use Rattle.array_versions.specs.Form.{IsWhole, OfWords}
 use Rattle.array_versions.specs.Cost.{cycles_of, words_of}
 
@@ -28,6 +28,7 @@ EndsByEffects s es Short = readings_taken es ≡ s.readings
 EndsByEffects s es Strays = Unit {0}
 EndsByEffects s es Broken = Unit {0}
 
+-- so it is at each program's end
 abbrev pub BehavesByEffects : Type 0
 BehavesByEffects = (p : Program) (s : WordState) → let b = behaviour p s in EndsByEffects s b.effects b.end
 
@@ -58,5 +59,6 @@ EndsInWords Short = Unit {0}
 EndsInWords Strays = Unit {0}
 EndsInWords Broken = Unit {0}
 
+-- a program of words makes words of words
 abbrev pub WordsStayWords : Type 0
 WordsStayWords = (p : Program) (s : WordState) → OfWords p → IsStateOfWords s → EndsInWords (behaviour p s).end

@@ -3,6 +3,8 @@ use Rattle.std.specs.Prelude.{ℕ}
 use Rattle.array_versions.specs.declared.operations.UnaryOperation.{UnaryOperation}
 use Rattle.array_versions.specs.declared.operations.BinaryOperation.{BinaryOperation}
 use Rattle.array_versions.specs.declared.operations.ShiftOperation.{ShiftOperation}
+use Rattle.array_versions.specs.declared.program.ArrayPlace.{ArrayPlace}
+use Rattle.array_versions.specs.declared.program.ListPlace.{ListPlace}
 
 mutual
   -- One step. It works on a stack of words, on locals by number, and on words of FRAM by address.
@@ -18,6 +20,8 @@ mutual
     element : (base length : ℕ) → Step
     emit_word : (count buffer : ℕ) → Step
     list_entry : (count list home copy : ℕ) → Step
+    versioned_read : (place : ArrayPlace) → (list : ListPlace) → Step
+    versioned_write : (place : ArrayPlace) → (list : ListPlace) → Step
     sense : Step
     choose : (taken otherwise : Program) → Step
     repeat : (n from below : ℕ) → (body : Program) → Step

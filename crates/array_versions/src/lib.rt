@@ -9,4 +9,4 @@ mod program;
 mod tests;
 
 pub use operations::{BinaryOperation, ShiftOperation, UnaryOperation};
-pub use program::{WordProgram, WordStep};
+pub use program::{ArrayPlace, ListPlace, WordProgram, WordStep};

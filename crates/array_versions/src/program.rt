@@ -8,6 +8,24 @@ ghost use Rattle.array_versions.specs.View.{program_of, step_of};
 use crate::operations::{BinaryOperation, ShiftOperation, UnaryOperation};
 use std::alloc::{AllocError, Global};
 
+/// The places of a versioned array: the addresses of its elements, of their copies and of their version words, and its length
+/// in words.
+#[derive(Clone, Copy, Debug, PartialEq, Eq)]
+pub struct ArrayPlace {
+    pub elements: u16,
+    pub copies: u16,
+    pub versions: u16,
+    pub length: u16,
+}
+
+/// The addresses of the number of this attempt, of the count of the commit list's entries, and of the list.
+#[derive(Clone, Copy, Debug, PartialEq, Eq)]
+pub struct ListPlace {
+    pub ver: u16,
+    pub cln: u16,
+    pub list: u16,
+}
+
 /// One step of a word program. Addresses are those of words of FRAM.
 #[derive(Drop)]
 pub enum WordStep {
@@ -42,6 +60,13 @@ pub enum WordStep {
         home: u16,
         copy: u16,
     },
+    /// Pops an index and pushes the element of a versioned array as this attempt has it: its copy where its version word is
+    /// the attempt's number. 0 where the index isn't below the length.
+    VersionedRead(ArrayPlace, ListPlace),
+    /// Pops a word and the index below it, and stores the word in the element's copy. The first time in the attempt it then
+    /// stores the attempt's number as the version word, and an entry of the commit list. Nothing is stored where the index
+    /// isn't below the length.
+    VersionedWrite(ArrayPlace, ListPlace),
     /// Takes the next reading and pushes it.
     Sense,
     /// Pops a condition; goes on with the first steps where it isn't 0, else with the second.
@@ -194,6 +219,31 @@ impl WordProgram {
             home,
             copy,
         })
+    }
+
+    /// Pops an index and pushes the element of a versioned array: its copy where its version word is the word at `list.ver`,
+    /// else the element. 0 where the index isn't below the length.
+    pub fn versioned_read(&mut self, place: &ArrayPlace, list: &ListPlace) -> Result<(), AllocError>
+        ensures ok { OnOk result
+            (program_of self.new ≡ behind (program_of self.old) (value.versioned_read place.now list.now)) }
+        ensures err { OnErr result (program_of self.new ≡ program_of self.old) }
+    {
+        self.push(WordStep::VersionedRead(*place, *list))
+    }
+
+    /// Pops a word and the index below it, and stores the word in the element's copy; where its version word isn't the word
+    /// at `list.ver`, then stores that word there, and the addresses of the element and its copy in the list. Nothing is
+    /// stored where the index isn't below the length.
+    pub fn versioned_write(
+        &mut self,
+        place: &ArrayPlace,
+        list: &ListPlace,
+    ) -> Result<(), AllocError>
+        ensures ok { OnOk result
+            (program_of self.new ≡ behind (program_of self.old) (value.versioned_write place.now list.now)) }
+        ensures err { OnErr result (program_of self.new ≡ program_of self.old) }
+    {
+        self.push(WordStep::VersionedWrite(*place, *list))
     }
 
     /// Takes the next reading and pushes it.

@@ -1,5 +1,5 @@
 -- Elements of arrays, emits, and entries of the commit list.
-use Rattle.std.proofs.Common.{◌≡◌, ℕ, ◌+◌, ◌-◌, ◌*◌, ◌%◌, ◌<◌, ◌≤◌, not, List, [], ◌∷◌, ◌++◌, length, Some, refl, sym, ap, ap₂, ◌∙◌, subst, arith, Bool, true, false, nat_lt, nat_le, if◌then◌else◌}
+use Rattle.std.proofs.Common.{◌≡◌, ℕ, ◌+◌, ◌-◌, ◌*◌, ◌%◌, ◌<◌, not, List, [], ◌∷◌, Some, refl, sym, ap, ◌∙◌, subst, arith, Bool, true, false, nat_lt, nat_le, if◌then◌else◌}
 use Rattle.std.specs.List.{AllByRecursion}
 use Rattle.std.proofs.lemmas.Bool.Decides.{nat_tests}
 use Rattle.alp_words.specs.Words.{word_sum}
@@ -7,14 +7,14 @@ use Rattle.msp_isa.specs.declared.instructions.Condition.TheVariants as conditio
 use Rattle.msp_isa.specs.declared.instructions.TwoOp.TheVariants as op
 use Rattle.msp_isa.specs.declared.operands.Konst.TheVariants as konst
 use Rattle.msp_step.specs.Effect.{sum16, distance}
-use Rattle.fram_board.specs.Effects.{Effect, Store}
+use Rattle.fram_board.specs.Effects.{Store}
 use Rattle.machine_effects.specs.World.{put}
 use Rattle.machine_effects.specs.Going.{At, stretch}
 use Rattle.machine_effects.specs.Machine.{IsFram}
-use Rattle.code_forms.specs.Forms.{WorkRegister, R4, R5, Core, CoreStretch, Register, Number, Constant, Indexed, ToRegister, Form, Move, Calculate, Jump, instruction_of}
+use Rattle.code_forms.specs.Forms.{WorkRegister, R4, Core, CoreStretch, Register, Number, Constant, Indexed, ToRegister, Move, Calculate, Jump, instruction_of}
 use Rattle.code_forms.specs.Code.{Stands, forms_run, Runs}
-use Rattle.array_versions.specs.Behaviour.{WordState, goes_on, with_stack, with_top, is_place, at_place, pushed, stored, element_pushed, word_emitted, entry_stored}
-use Rattle.codegen.specs.Code.{pop_to, push_from, element_code, emit_code, entry_code}
+use Rattle.array_versions.specs.Behaviour.{WordState, goes_on, with_stack, with_top, is_place, at_place, element_pushed, word_emitted, entry_stored}
+use Rattle.codegen.specs.Code.{push_from, element_code, emit_code, entry_code}
 use Rattle.codegen.proofs.Stretches.{Setting, stands_at, end_of, straight, runs_on, dearer}
 use Rattle.codegen.proofs.Memory.{pop_memory, pop_needs, place_is}
 use Rattle.codegen.proofs.Follows.{StandsFor, Follows, guarded, stands_elsewhere, memory_as}
@@ -23,44 +23,44 @@ use Rattle.codegen.proofs.Registers.{Has, pop_part, push_result, middle, jump_ha
 twice : (n : ℕ) → n + n < 0x10000 → (n + n + 0) % 0x10000 ≡ n + n
 twice n h = omega arith
 
-quad : (n list : ℕ) → 4 * n + list < 0x10000 → ((n + n + 0) % 0x10000 + (n + n + 0) % 0x10000 + 0) % 0x10000 ≡ 4 * n
+pub quad : (n list : ℕ) → 4 * n + list < 0x10000 → ((n + n + 0) % 0x10000 + (n + n + 0) % 0x10000 + 0) % 0x10000 ≡ 4 * n
 quad n list h =
     let l : n + n < 0x10000 = omega arith in
     let m : n + n + (n + n) < 0x10000 = omega arith in
     let q : n + n + (n + n) ≡ 4 * n = omega arith in
     ap (λ x. (x + x + 0) % 0x10000) (twice n l) ∙ twice (n + n) m ∙ q
 
-next_small : (n list : ℕ) → 4 * n + list < 0x10000 → n + 1 < 0x10000
+pub next_small : (n list : ℕ) → 4 * n + list < 0x10000 → n + 1 < 0x10000
 next_small n list h = omega arith
 
-next_is : (n : ℕ) → n + 1 < 0x10000 → (n + 1 + 0) % 0x10000 ≡ n + 1
+pub next_is : (n : ℕ) → n + 1 < 0x10000 → (n + 1 + 0) % 0x10000 ≡ n + 1
 next_is n h = omega arith
 
 entry_pc : (p q : ℕ) → p ≡ q → p + (2 + 2 + 0) + (2 + 0 + 0) + (2 + 0) + (2 + 0) + (2 + 2 + 2) + (2 + 2 + 2) + (2 + 0) + (2 + 0 + 2) ≡ q + 28
 entry_pc p q e = omega (arith, e)
 
 -- the second word of an entry
-second : (list n : ℕ) → n + list + 2 < 0x10000 → word_sum list 2 ≡ list + 2
+pub second : (list n : ℕ) → n + list + 2 < 0x10000 → word_sum list 2 ≡ list + 2
 second list n h = omega arith
 
-plus_two : (a list b : ℕ) → a + list ≡ b → a + (list + 2) ≡ b + 2
+pub plus_two : (a list b : ℕ) → a + list ≡ b → a + (list + 2) ≡ b + 2
 plus_two a list b e = omega arith
 
 module _ (z : Setting) where
-  abbrev HasIn : WorkRegister → ℕ → WordState → ℕ → Core → Type 0
+  abbrev pub HasIn : WorkRegister → ℕ → WordState → ℕ → Core → Type 0
   HasIn b pc w v t = Has z b pc w v t
 
-  record Compared (pc : ℕ) (w : WordState) (i : ℕ) (b : Bool) (t : Core) : Type 0 where
-    has : HasIn R4 pc w i t
-    flag : t.flags.c ≡ b
+  pub record Compared (pc : ℕ) (w : WordState) (i : ℕ) (b : Bool) (t : Core) : Type 0 where
+    pub has : HasIn R4 pc w i t
+    pub flag : t.flags.c ≡ b
 
-  compare_part : (pc i size : ℕ) (w : WordState) (t : Core) → i < 0x10000 → size < 0x10000 → z.code pc ≡ Some (instruction_of (Calculate op.Cmp (Number size) R4)) → HasIn R4 pc w i t → Runs z.code [] 2 t (Compared (pc + 4) w i (nat_le size i))
+  pub compare_part : (pc i size : ℕ) (w : WordState) (t : Core) → i < 0x10000 → size < 0x10000 → z.code pc ≡ Some (instruction_of (Calculate op.Cmp (Number size) R4)) → HasIn R4 pc w i t → Runs z.code [] 2 t (Compared (pc + 4) w i (nat_le size i))
   compare_part pc i size w t a b h k =
       let ms = Calculate op.Cmp (Number size) R4 ∷ [] in
       straight z ms 2 t (end_of t (forms_run ms t).status) [] 2 _ (tt, tt) (stands_at z.code pc ms t (h, tt) k.is.at) ((tt, tt), tt) refl (omega arith)
       (record { has = record { is = stands_elsewhere z pc (pc + 4) w t _ k.is (omega (arith, k.is.at)) refl refl refl refl; value = k.value }; flag = ap (λ v. nat_le 0x10000 (v + (0xFFFF - size) + 1)) k.value ∙ no_borrow i size a b })
 
-  le_of_lt : (i size : ℕ) (b : Bool) → nat_lt i size ≡ b → nat_le size i ≡ not b
+  pub le_of_lt : (i size : ℕ) (b : Bool) → nat_lt i size ≡ b → nat_le size i ≡ not b
   le_of_lt i size true e = grind (arith, nat_tests)
   le_of_lt i size false e = grind (arith, nat_tests)
 

@@ -1,15 +1,20 @@
 -- Code that is appended piece by piece.
-use Rattle.std.proofs.Common.{◌≡◌, ℕ, zero, suc, ◌+◌, ◌-◌, ◌*◌, ◌<◌, ◌≤◌, List, [], ◌∷◌, ◌++◌, length, drop, get_or, refl, sym, ap, ◌∙◌, subst, arith, append_assoc, append-nil, drop-cons, add-one, rules}
+use Rattle.std.proofs.Common.{◌≡◌, ℕ, suc, ◌+◌, ◌-◌, ◌*◌, ◌<◌, ◌≤◌, List, [], ◌∷◌, ◌++◌, length, drop, get_or, refl, sym, ap, ◌∙◌, arith, append_assoc, drop-cons, add-one, rules}
+use Rattle.alp_words.specs.declared.Width.TheVariants.{Word}
 use Rattle.msp_isa.specs.declared.instructions.Instr.{Instr}
+use Rattle.msp_isa.specs.declared.instructions.Instr.TheVariants.{Two}
+use Rattle.msp_isa.specs.declared.instructions.TwoOp.{TwoOp}
+use Rattle.msp_isa.specs.declared.operands.Src.{Src}
+use Rattle.msp_isa.specs.declared.operands.Dst.{Dst}
 use Rattle.code_forms.specs.Forms.{R4, Form, Branch, instruction_of}
 use Rattle.code_forms.specs.Placed.{instructions}
 use Rattle.std.specs.declared.alloc.Global.{Global}
 use Rattle.std.specs.declared.vec.Vec.{Vec}
 use Rattle.array_versions.specs.declared.program.WordStep.{WordStep, the_lemmas}
 use Rattle.array_versions.specs.declared.program.WordStep.TheVariants.{Choose}
-use Rattle.array_versions.specs.Program.{Step, Program, number, load, keep, local, set_local, unary, binary, shift, element, emit_word, list_entry, sense, choose, repeat, store_number, move_word, jump, nothing, step}
+use Rattle.array_versions.specs.Program.{Step, Program, number, load, keep, local, set_local, unary, binary, shift, element, emit_word, list_entry, versioned_read, versioned_write, sense, choose, repeat, store_number, move_word, jump, nothing, step}
 use Rattle.array_versions.specs.View.{step_of, steps_of}
-use Rattle.array_versions.specs.Form.{StepLocalsBelow, LocalsBelow, StepOfWords, OfWords}
+use Rattle.array_versions.specs.Form.{StepLocalsBelow, LocalsBelow}
 use Rattle.array_versions.specs.Cost.{step_words, words_of}
 use Rattle.codegen.specs.Code.{pop_to, push_from, repeated, shift_code, choice_head, loop_head, loop_step, step_code, code_of}
 
@@ -39,6 +44,14 @@ form_owed m i n k code new all e l f h =
     let s : n - k ≡ suc j = omega arith in
     ap (λ x. x ++ instructions (repeated j m)) f ∙ append_assoc code (i ∷ []) (instructions (repeated j m))
     ∙ ap (λ x. code ++ x ∷ instructions (repeated j m)) e ∙ ap (λ x. code ++ instructions (repeated x m)) (sym s) ∙ h
+
+-- the first instruction and the others
+pub cons : (i j : Instr) (l m : List Instr) → i ≡ j → l ≡ m → i ∷ l ≡ j ∷ m
+cons i j l m e f = ap (λ x. x ∷ l) e ∙ ap (λ x. j ∷ x) f
+
+-- the source of an operation
+pub from_source : (i : Instr) (o : TwoOp) (s t : Src) (d : Dst) → i ≡ Two o Word s d → s ≡ t → i ≡ Two o Word t d
+from_source i o s t d e f = e ∙ ap (λ x. Two o Word x d) f
 
 -- four pieces one after another
 pub four_pieces : (code a b c d c1 c2 c3 c4 : List Instr) → c1 ≡ code ++ a → c2 ≡ c1 ++ b → c3 ≡ c2 ++ c → c4 ≡ c3 ++ d → c4 ≡ code ++ (a ++ (b ++ (c ++ d)))
@@ -101,6 +114,8 @@ mutual
   step_locals_up a b (element w n) l h = tt
   step_locals_up a b (emit_word c w) l h = tt
   step_locals_up a b (list_entry c w x y) l h = tt
+  step_locals_up a b (versioned_read p q) l h = tt
+  step_locals_up a b (versioned_write p q) l h = tt
   step_locals_up a b sense l h = tt
   step_locals_up a b (store_number w x) l h = tt
   step_locals_up a b (move_word w x) l h = tt

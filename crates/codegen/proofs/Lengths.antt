@@ -1,5 +1,5 @@
 -- The code of a program is as long as its words say, wherever it stands.
-use Rattle.std.proofs.Common.{◌≡◌, ℕ, zero, suc, ◌+◌, ◌-◌, ◌*◌, List, [], ◌∷◌, ◌++◌, length, refl, sym, ap, ◌∙◌, arith, length-append, Bool, true, false, nat_le, nat_lt, if◌then◌else◌}
+use Rattle.std.proofs.Common.{◌≡◌, ℕ, zero, suc, ◌+◌, ◌-◌, ◌*◌, List, [], ◌∷◌, ◌++◌, length, refl, arith, length-append, Bool, true, false, nat_le, nat_lt, if◌then◌else◌}
 use Rattle.msp_isa.specs.declared.operands.Konst.TheVariants as konst
 use Rattle.msp_isa.specs.Encoding.{encoding, source_row, destination_row}
 use Rattle.msp_step.specs.declared.effect.Modification.TheVariants as change
@@ -13,9 +13,9 @@ use Rattle.array_versions.specs.declared.operations.BinaryOperation.{BinaryOpera
 use Rattle.array_versions.specs.declared.operations.BinaryOperation.TheVariants.{Multiply, Divide, Remainder, Add, Subtract, And, Xor, Or, Equal, NotEqual, Below, AtMost, Above, AtLeast, SignedBelow, SignedAtMost, SignedAbove, SignedAtLeast}
 use Rattle.array_versions.specs.declared.operations.ShiftOperation.{ShiftOperation}
 use Rattle.array_versions.specs.declared.operations.ShiftOperation.TheVariants.{Left, Right, SignedRight}
-use Rattle.array_versions.specs.Program.{Step, Program, number, load, keep, local, set_local, unary, binary, shift, element, emit_word, list_entry, sense, choose, repeat, store_number, move_word, jump, nothing, step}
+use Rattle.array_versions.specs.Program.{Step, Program, number, load, keep, local, set_local, unary, binary, shift, element, emit_word, list_entry, versioned_read, versioned_write, sense, choose, repeat, store_number, move_word, jump, nothing, step}
 use Rattle.array_versions.specs.Cost.{unary_words, binary_words, right_words, shift_words, step_words, words_of}
-use Rattle.codegen.specs.Code.{push_from, unary_middle, unary_result, unary_code, binary_middle, binary_result, binary_code, repeated, double, halve, right_code, shift_by, shift_middle, shift_code, loop_test, loop_step, step_code, code_of}
+use Rattle.codegen.specs.Code.{push_from, unary_middle, unary_result, binary_middle, binary_result, repeated, double, halve, right_code, shift_by, shift_middle, loop_test, loop_step, step_code, code_of}
 use Rattle.codegen.specs.Laws.{CodeHasItsBytes, CodeHasItsWords}
 use Rattle.codegen.proofs.Registers.{bytes-append}
 
@@ -82,6 +82,8 @@ mutual
   step_length at (element base size) = refl
   step_length at (emit_word count buffer) = refl
   step_length at (list_entry count list home copy) = refl
+  step_length at (versioned_read place list) = refl
+  step_length at (versioned_write place list) = refl
   step_length at sense = refl
   step_length at (choose taken otherwise) =
       let other = at + 14 + 2 * words_of taken in

@@ -8,11 +8,11 @@ mod Loops
 mod Values
 mod Middles
 mod Access
+mod VersionParts
 mod ShiftParts
 mod Products
 mod Quotients
 mod Emitted
-mod Sampled
 mod Prefixes
 pub mod Lengths
 pub mod Whole

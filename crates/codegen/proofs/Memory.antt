@@ -1,13 +1,11 @@
 -- The stack and the locals in RAM.
-use Rattle.std.proofs.Common.{◌≡◌, ℕ, ◌+◌, ◌-◌, ◌*◌, ◌%◌, ◌<◌, ◌≤◌, ◌==◌, ◌&&◌, List, [], ◌∷◌, length, Option, Some, None, refl, sym, ap, ◌∙◌, subst, arith, Bool, true, false, nat_eq, ne_eqb, eq-eqb, if◌then◌else◌}
+use Rattle.std.proofs.Common.{◌≡◌, ℕ, ◌+◌, ◌-◌, ◌*◌, ◌<◌, ◌≤◌, List, [], ◌∷◌, length, Option, Some, refl, sym, ap, ◌∙◌, subst, arith, Bool, true, false, nat_eq, ne_eqb, eq-eqb, if◌then◌else◌}
 use Rattle.std.proofs.lemmas.Bool.Decides.{nat_tests}
-use Rattle.fram_board.specs.Bus.{is_fram}
 use Rattle.machine_effects.specs.World.{put}
 use Rattle.machine_effects.specs.Machine.{IsFram, IsRam}
 use Rattle.code_forms.specs.Forms.{HasPushRoom}
 use Rattle.array_versions.specs.Behaviour.{is_place, assigned}
 use Rattle.codegen.specs.Code.{local_address}
-use Rattle.codegen.proofs.Stretches.{Setting}
 
 pub put_same : (f : ℕ → ℕ) (a w : ℕ) → put f a w a ≡ w
 put_same f a w = ap (λ b. if b then w else f a) (eq-eqb a a refl)

@@ -1,14 +1,13 @@
 -- The steps that are straight code: numbers, words of FRAM, locals, readings, jumps.
-use Rattle.std.proofs.Common.{◌≡◌, ℕ, ◌+◌, ◌-◌, ◌*◌, ◌%◌, ◌==◌, ◌<◌, ◌≤◌, List, [], ◌∷◌, ◌++◌, length, Option, Some, None, refl, sym, ap, ◌∙◌, subst, arith, Bool, true, false, eq-eqb, if◌then◌else◌}
-use Rattle.msp_step.specs.declared.machine.Stop.{Stop}
-use Rattle.fram_board.specs.Effects.{Effect, Store, Take}
+use Rattle.std.proofs.Common.{◌≡◌, ℕ, ◌+◌, ◌-◌, ◌%◌, ◌<◌, List, [], ◌∷◌, length, Some, refl, sym, ap, ◌∙◌, subst, arith, eq-eqb, if◌then◌else◌}
+use Rattle.fram_board.specs.Effects.{Store, Take}
 use Rattle.machine_effects.specs.World.{put}
 use Rattle.machine_effects.specs.Going.{At, stretch, continued}
 use Rattle.machine_effects.specs.Machine.{IsFram}
 use Rattle.code_forms.specs.Forms as forms
 use Rattle.code_forms.specs.Forms.{R4, Core, Register, Number, Fram, Ram, Popped, ToFram, ToRam, Form, Move, Push, Branch, sensed, FormNeeds}
 use Rattle.code_forms.specs.Code.{Stands, forms_run, FormsNeed}
-use Rattle.array_versions.specs.Behaviour.{WordState, Behaviour, behaves, goes_on, Jumps, broken, with_top, with_stack, pushed, stored, assigned, with_local, is_place, word_stored, local_pushed, reading_pushed, jumped}
+use Rattle.array_versions.specs.Behaviour.{WordState, behaves, goes_on, Jumps, broken, with_top, with_stack, pushed, stored, assigned, with_local, is_place, word_stored, reading_pushed, jumped}
 use Rattle.codegen.specs.Laws.{HasJumped}
 use Rattle.codegen.specs.Code.{local_address, push_from}
 use Rattle.codegen.proofs.Stretches.{Setting, stands_at, end_of, straight, hop, starved, dearer_stall}

@@ -1,13 +1,12 @@
 -- The effects so far are a prefix of all.
-use Rattle.std.proofs.Common.{◌≡◌, ℕ, zero, suc, ◌+◌, ◌-◌, ◌≤◌, List, [], ◌∷◌, ◌++◌, refl, sym, ap, ◌∙◌, subst, arith, append_assoc, append-nil, suc-add}
+use Rattle.std.proofs.Common.{◌≡◌, ℕ, zero, suc, ◌+◌, ◌-◌, ◌≤◌, List, [], ◌++◌, refl, sym, ap, ◌∙◌, subst, arith, append_assoc, append-nil, suc-add}
 use Rattle.msp_step.specs.declared.machine.Stop.{Stop}
 use Rattle.msp_step.specs.declared.machine.Stop.TheVariants as stop
 use Rattle.fram_board.specs.Effects.{Effect}
 use Rattle.machine_effects.specs.World.{IsPrefix}
 use Rattle.machine_effects.specs.Going.{StepOutcome, Goes, Stops, Stretch, stretch, At, Halted, after_effects, continued, going}
-use Rattle.machine_effects.specs.Machine.{Code, MachineBoard, exec}
-use Rattle.code_forms.specs.Forms.{Core, board_of}
-use Rattle.code_forms.specs.Code.{Runs, Starves}
+use Rattle.machine_effects.specs.Machine.{MachineBoard, exec}
+use Rattle.code_forms.specs.Forms.{board_of}
 use Rattle.codegen.specs.Laws.{IsWithin, RunsStayWithin, StarvingStaysWithin}
 
 abbrev MachineStretchOf : Type 0

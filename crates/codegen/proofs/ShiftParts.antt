@@ -1,5 +1,5 @@
 -- Shifts by a count.
-use Rattle.std.proofs.Common.{◌≡◌, ℕ, zero, suc, ◌+◌, ◌-◌, ◌*◌, ◌/◌, ◌%◌, ◌^◌, ◌<◌, ◌≤◌, ◌==◌, not, List, [], ◌∷◌, ◌++◌, length, Some, refl, sym, ap, ◌∙◌, subst, arith, Bool, true, false, nat_lt, nat_le, ltb-true, if◌then◌else◌, bit_and}
+use Rattle.std.proofs.Common.{◌≡◌, ℕ, zero, suc, ◌+◌, ◌-◌, ◌*◌, ◌/◌, ◌%◌, ◌^◌, ◌<◌, ◌≤◌, ◌==◌, not, List, [], ◌∷◌, ◌++◌, Some, refl, sym, ap, ◌∙◌, subst, arith, Bool, true, false, nat_lt, nat_le, ltb-true, if◌then◌else◌, bit_and}
 use Rattle.std.specs.List.{AllByRecursion}
 use Rattle.std.proofs.lemmas.Bool.Decides.{nat_tests}
 use Rattle.std.proofs.lemmas.Nat.{and_mask, and_le_r, mul-mod_first, pow-add}
@@ -16,7 +16,7 @@ use Rattle.array_versions.specs.declared.operations.ShiftOperation.{ShiftOperati
 use Rattle.array_versions.specs.declared.operations.ShiftOperation.TheVariants.{Left, Right, SignedRight}
 use Rattle.array_versions.specs.Operations.{shifted_word, shift_word}
 use Rattle.array_versions.specs.Behaviour.{WordState, goes_on, with_stack, with_top}
-use Rattle.codegen.specs.Code.{pop_to, push_from, repeated, right_code, shift_by, shift_middle, shift_code}
+use Rattle.codegen.specs.Code.{push_from, repeated, right_code, shift_by, shift_middle, shift_code}
 use Rattle.codegen.proofs.Stretches.{Setting, end_of, runs_on, dearer, nothing_run}
 use Rattle.codegen.proofs.Follows.{StandsFor, Follows, memory_as}
 use Rattle.codegen.proofs.Registers.{Has, pop_part, push_result, middle}

@@ -1,35 +1,34 @@
 -- The code of a word program does what the program does, within its cycles.
-use Rattle.std.proofs.Common.{◌≡◌, ℕ, zero, suc, ◌+◌, ◌-◌, ◌*◌, ◌%◌, ◌<◌, ◌≤◌, max, List, [], ◌∷◌, ◌++◌, length, All, get_or, Option, Some, None, refl, sym, ap, ◌∙◌, subst, arith, Bool, true, false, nat_lt, if◌then◌else◌}
+use Rattle.std.proofs.Common.{◌≡◌, ℕ, suc, ◌+◌, ◌-◌, ◌*◌, ◌<◌, List, [], ◌∷◌, ◌++◌, length, All, Some, None, refl, sym, ap, subst, arith}
 use Rattle.std.specs.List.{AllByRecursion}
 use Rattle.fram_board.specs.Effects.{Effect}
-use Rattle.machine_effects.specs.Machine.{Code}
-use Rattle.code_forms.specs.Forms.{WorkRegister, R4, R5, R6, Core, Form, Branch}
-use Rattle.code_forms.specs.Code.{Stands, forms_bytes, IsTidy, Runs}
+use Rattle.code_forms.specs.Forms.{WorkRegister, R4, R5, R6, Core, Branch}
+use Rattle.code_forms.specs.Code.{Stands, forms_bytes}
 use Rattle.code_forms.proofs.Blocks.{stands_front, stands_back}
 use Rattle.array_versions.specs.declared.operations.UnaryOperation.{UnaryOperation}
 use Rattle.array_versions.specs.declared.operations.UnaryOperation.TheVariants.{Negate, Complement, Not, Truth}
 use Rattle.array_versions.specs.declared.operations.BinaryOperation.{BinaryOperation}
 use Rattle.array_versions.specs.declared.operations.BinaryOperation.TheVariants.{Multiply, Divide, Remainder, Add, Subtract, And, Xor, Or, Equal, NotEqual, Below, AtMost, Above, AtLeast, SignedBelow, SignedAtMost, SignedAbove, SignedAtLeast}
 use Rattle.array_versions.specs.Operations.{unary_word, binary_word}
-use Rattle.array_versions.specs.Program.{Step, Program, number, load, keep, local, set_local, unary, binary, shift, element, emit_word, list_entry, sense, choose, repeat, store_number, move_word, jump, nothing, step}
-use Rattle.array_versions.specs.Behaviour.{WordState, started, End, GoesOn, Jumps, Short, Strays, Broken, Behaviour, goes_on, with_stack, with_local, with_top, with_two, is_place, local_pushed, turns, step_behaviour, behaviour}
-use Rattle.array_versions.specs.Form.{Place, start, assigning, EachTurn, EachStepWay, EachWay, StepLocalsBelow, LocalsBelow, StepLoopsCount, LoopsCount, StepOfWords, OfWords, IsWhole}
+use Rattle.array_versions.specs.Program.{Step, Program, number, load, keep, local, set_local, unary, binary, shift, element, emit_word, list_entry, versioned_read, versioned_write, sense, choose, repeat, store_number, move_word, jump, nothing, step}
+use Rattle.array_versions.specs.Behaviour.{WordState, started, End, GoesOn, Jumps, Short, Strays, Broken, goes_on, with_stack, with_local, with_top, with_two, is_place, local_pushed, step_behaviour, behaviour}
+use Rattle.array_versions.specs.Form.{Place, start, assigning, EachTurn, EachStepWay, EachWay, StepLocalsBelow, LocalsBelow, StepLoopsCount, LoopsCount, StepOfWords, OfWords}
 use Rattle.array_versions.specs.Cost.{unary_cycles, unary_words, binary_cycles, binary_words, step_cycles, cycles_of, step_words, words_of}
 use Rattle.array_versions.specs.Laws.{IsStateOfWords, EndsInWords, IsSound}
-use Rattle.array_versions.proofs.Ways.{HasWord, Matches, GoesWell, matches_local, start_matches, step_well, well, whole_ends_soundly}
+use Rattle.array_versions.proofs.Ways.{Matches, GoesWell, matches_local, start_matches, step_well, well, whole_ends_soundly}
 use Rattle.array_versions.proofs.Words.{local_words, step_words as words_step, words}
 use Rattle.array_versions.proofs.Spared.{Leaves, leaves}
-use Rattle.codegen.specs.Code.{local_address, unary_middle, unary_result, unary_code, binary_middle, binary_result, binary_code, shift_middle, choice_code, loop_test, loop_step, loop_code, step_code, code_of}
-use Rattle.codegen.specs.Laws.{IsEntry, HasJumped, ComesTo, CodeDoesAsProgram}
+use Rattle.codegen.specs.Code.{local_address, unary_middle, unary_result, unary_code, binary_middle, binary_result, binary_code, choice_code, loop_test, loop_step, loop_code, step_code, code_of}
+use Rattle.codegen.specs.Laws.{ComesTo, CodeDoesAsProgram}
 use Rattle.codegen.proofs.Stretches.{Setting, nothing_run}
-use Rattle.codegen.proofs.Memory.{Memory, place_is, assigned_same}
+use Rattle.codegen.proofs.Memory.{place_is, assigned_same}
 use Rattle.codegen.proofs.Follows.{StandsFor, Follows, FollowsEnd, OnGoesOn, then_part, ends_at, guarded}
 use Rattle.codegen.proofs.Parts.{number_part, load_part, local_part, keep_part, set_part, sense_part, store_part, move_part, jump_part}
-use Rattle.codegen.proofs.Registers.{bytes-append}
 use Rattle.codegen.proofs.Choices.{choice_part}
 use Rattle.codegen.proofs.Loops.{loop_part}
 use Rattle.codegen.proofs.Middles.{BinaryMiddle, unary_part, binary_part, add_middle, subtract_middle, and_middle, or_middle, xor_middle, at_least_middle, at_most_middle, below_middle, above_middle, signed_at_least_middle, signed_at_most_middle, signed_below_middle, signed_above_middle, not_equal_middle, equal_middle, negate_middle, complement_middle, not_middle, truth_middle}
 use Rattle.codegen.proofs.Access.{element_part, emit_part, entry_part}
+use Rattle.codegen.proofs.VersionParts.{read_part, write_part}
 use Rattle.codegen.proofs.ShiftParts.{shift_part}
 use Rattle.codegen.proofs.Products.{multiply_middle}
 use Rattle.codegen.proofs.Quotients.{divide_part, remainder_part}
@@ -136,6 +135,8 @@ module _ (z : Setting) where
     step_follows (element base size) next pc w u r o l c h i = element_part z base size pc w.stack w u o.1 refl r.words_in.stack h i
     step_follows (emit_word count buffer) next pc w u r o l c h i = emit_part z count buffer pc w.stack w u refl h i
     step_follows (list_entry count list home copy) next pc w u r o l c h i = entry_part z count list home copy pc w u h i
+    step_follows (versioned_read place list) next pc w u r o l c h i = read_part z place list pc w.stack w u r.words_in.fram o.0.3 refl r.words_in.stack h i
+    step_follows (versioned_write place list) next pc w u r o l c h i = write_part z place list pc w.stack w u r.words_in.fram o.0.3 refl r.words_in.stack h i
     step_follows sense next pc w u r o l c h i = sense_part z pc w u w.readings (omega (arith, r.fit.1, r.matches.depth)) refl h i
     step_follows (choose taken otherwise) next pc w u r o l c h i =
         let other = pc + 14 + 2 * words_of taken in

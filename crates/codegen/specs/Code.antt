@@ -16,7 +16,9 @@ use Rattle.array_versions.specs.declared.operations.BinaryOperation.{BinaryOpera
 use Rattle.array_versions.specs.declared.operations.BinaryOperation.TheVariants.{Multiply, Divide, Remainder, Add, Subtract, And, Xor, Or, Equal, NotEqual, Below, AtMost, Above, AtLeast, SignedBelow, SignedAtMost, SignedAbove, SignedAtLeast}
 use Rattle.array_versions.specs.declared.operations.ShiftOperation.{ShiftOperation}
 use Rattle.array_versions.specs.declared.operations.ShiftOperation.TheVariants.{Left, Right, SignedRight}
-use Rattle.array_versions.specs.Program.{Step, Program, number, load, keep, local, set_local, unary, binary, shift, element, emit_word, list_entry, sense, choose, repeat, store_number, move_word, jump, nothing, step}
+use Rattle.array_versions.specs.declared.program.ArrayPlace.{ArrayPlace}
+use Rattle.array_versions.specs.declared.program.ListPlace.{ListPlace}
+use Rattle.array_versions.specs.Program.{Step, Program, number, load, keep, local, set_local, unary, binary, shift, element, emit_word, list_entry, versioned_read, versioned_write, sense, choose, repeat, store_number, move_word, jump, nothing, step}
 use Rattle.array_versions.specs.Cost.{step_words, words_of}
 
 -- where a local stands
@@ -51,6 +53,7 @@ abbrev pub unary_result : UnaryOperation → WorkRegister
 unary_result Not = R5
 unary_result _ = R4
 
+-- the top to R5, the operation, its result to the top
 abbrev pub unary_code : List Form → WorkRegister → List Form
 unary_code middle b = pop_to R5 ∷ (middle ++ push_from b ∷ [])
 
@@ -84,6 +87,7 @@ divide_turn =
     ∷ Jump condition.NoCarry 2 ∷ Calculate op.Sub (Register R5) R6 ∷ Calculate op.Add (Constant konst.One) R4
     ∷ Calculate op.Sub (Constant konst.One) R7 ∷ Jump condition.NotEqual 1015 ∷ []
 
+-- sixteen bits, from a rest of 0 on
 abbrev pub divide_middle : List Form
 divide_middle = Move (Constant konst.Zero) (ToRegister R6) ∷ Move (Number 16) (ToRegister R7) ∷ divide_turn
 
@@ -114,6 +118,7 @@ binary_result Multiply = R6
 binary_result Remainder = R6
 binary_result _ = R4
 
+-- the right side to R5 and the left one to R4, the operation, its result to the top
 abbrev pub binary_code : List Form → WorkRegister → List Form
 binary_code middle b = pop_to R5 ∷ pop_to R4 ∷ (middle ++ push_from b ∷ [])
 
@@ -149,6 +154,7 @@ shift_by SignedRight k = if nat_lt k 8 then repeated k halve else (Modify change
 abbrev pub shift_middle : ShiftOperation → ℕ → List Form
 shift_middle operation k = if nat_le k 15 then shift_by operation k else (Move (Constant konst.Zero) (ToRegister R4) ∷ [])
 
+-- the top to R4, the shift, and back
 abbrev pub shift_code : List Form → List Form
 shift_code middle = pop_to R4 ∷ (middle ++ push_from R4 ∷ [])
 
@@ -170,6 +176,32 @@ entry_code count list home copy =
     Move (Fram count) (ToRegister R6) ∷ Move (Register R6) (ToRegister R4) ∷ Calculate op.Add (Register R4) R4 ∷ Calculate op.Add (Register R4) R4
     ∷ Move (Number home) (ToIndexed R4 list) ∷ Move (Number copy) (ToIndexed R4 (word_sum list 2)) ∷ Calculate op.Add (Constant konst.One) R6
     ∷ Move (Register R6) (ToFram count) ∷ []
+
+-- a versioned read: below the length, the version word is compared with the attempt's number; then the copy or the element
+abbrev pub read_code : ArrayPlace → ListPlace → List Form
+read_code place list =
+    pop_to R4 ∷ Calculate op.Cmp (Number place.length) R4 ∷ Jump condition.Carry 12 ∷ double ∷ Move (Fram list.ver) (ToRegister R5)
+    ∷ Calculate op.Cmp (Indexed R4 place.versions) R5 ∷ Jump condition.NotEqual 3 ∷ Move (Indexed R4 place.copies) (ToRegister R4)
+    ∷ Jump condition.Always 4 ∷ Move (Indexed R4 place.elements) (ToRegister R4) ∷ Jump condition.Always 1 ∷ Move (Constant konst.Zero) (ToRegister R4)
+    ∷ push_from R4 ∷ []
+
+-- behind the first store to a copy: the version word; then the home, the copy and the count of the list
+abbrev pub first_code : ArrayPlace → ListPlace → List Form
+first_code place list =
+    Move (Register R6) (ToIndexed R4 place.versions) ∷ Move (Fram list.cln) (ToRegister R6) ∷ Move (Register R6) (ToRegister R5)
+    ∷ Calculate op.Add (Register R5) R5 ∷ Calculate op.Add (Register R5) R5 ∷ Move (Register R4) (ToRegister R7) ∷ Calculate op.Add (Number place.elements) R7
+    ∷ Move (Register R7) (ToIndexed R5 list.list) ∷ Calculate op.Add (Number place.copies) R4 ∷ Move (Register R4) (ToIndexed R5 (word_sum list.list 2))
+    ∷ Calculate op.Add (Constant konst.One) R6 ∷ Move (Register R6) (ToFram list.cln) ∷ []
+
+-- the store to the copy; where the version word is the attempt's number, all that follows it is passed over
+abbrev pub copy_code : ArrayPlace → ListPlace → List Form
+copy_code place list =
+    pop_to R5 ∷ pop_to R4 ∷ Calculate op.Cmp (Number place.length) R4 ∷ Jump condition.Carry 27 ∷ double ∷ Move (Register R5) (ToIndexed R4 place.copies)
+    ∷ Move (Fram list.ver) (ToRegister R6) ∷ Calculate op.Cmp (Indexed R4 place.versions) R6 ∷ Jump condition.Equal 19 ∷ []
+
+-- a versioned write
+abbrev pub write_code : ArrayPlace → ListPlace → List Form
+write_code place list = copy_code place list ++ first_code place list
 
 -- the head of a choice, of ten bytes: a branch to the second program where the condition is 0. A short jump over the branch has
 -- no limit in how far the branch goes
@@ -194,6 +226,7 @@ abbrev pub loop_step : ℕ → ℕ → List Form
 loop_step n top =
     Move (Ram (local_address n)) (ToRegister R4) ∷ Calculate op.Add (Constant konst.One) R4 ∷ Move (Register R4) (ToRam (local_address n)) ∷ Branch top ∷ []
 
+-- the head, the body, the end of a turn with a branch back to the test
 abbrev pub loop_code : ℕ → ℕ → ℕ → ℕ → ℕ → List Form → List Form
 loop_code top end n from below body = loop_head n from below end ++ (body ++ loop_step n top)
 
@@ -211,6 +244,8 @@ abbrev mutual
   step_code at (element base length) = element_code base length
   step_code at (emit_word count buffer) = emit_code count buffer
   step_code at (list_entry count list home copy) = entry_code count list home copy
+  step_code at (versioned_read place list) = read_code place list
+  step_code at (versioned_write place list) = write_code place list
   step_code at sense = forms.Sense R4 ∷ push_from R4 ∷ []
   step_code at (choose taken otherwise) =
       let other = at + 14 + 2 * words_of taken in

@@ -20,6 +20,8 @@ pub const R4: Src = Src::Operand(Operand::Reg(SourceRegister::Index(IndexRegiste
 pub const R5: Src = Src::Operand(Operand::Reg(SourceRegister::Index(IndexRegister::R5)));
 
 pub const R6: Src = Src::Operand(Operand::Reg(SourceRegister::Index(IndexRegister::R6)));
+
+pub const R7: Src = Src::Operand(Operand::Reg(SourceRegister::Index(IndexRegister::R7)));
 /// The word at SP, which goes up.
 pub const POPPED: Src = Src::Operand(Operand::Increment(IndexRegister::Sp));
 

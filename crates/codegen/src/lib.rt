@@ -8,5 +8,6 @@ mod program;
 mod shifts;
 #[cfg(test)]
 mod tests;
+mod versioned;
 
 pub use program::emit;

@@ -15,6 +15,7 @@ use crate::forms::{
 };
 use crate::operations::{binary_bytes, emit_binary, emit_unary, unary_bytes};
 use crate::shifts::{emit_shift, shift_bytes};
+use crate::versioned::{emit_versioned_read, emit_versioned_write};
 use array_versions::{WordProgram, WordStep};
 use msp_isa::{Condition, Dst, IndexRegister, Instr, Konst, Operand, Src, TwoOp};
 use std::alloc::{AllocError, Global};
@@ -246,6 +247,14 @@ fn emit_step(
         } => {
             emit_entry(*count, *list, *home, *copy, code)?;
             Ok(at + 28)
+        }
+        WordStep::VersionedRead(place, list) => {
+            emit_versioned_read(*place, *list, code)?;
+            Ok(at + 36)
+        }
+        WordStep::VersionedWrite(place, list) => {
+            emit_versioned_write(*place, *list, code)?;
+            Ok(at + 64)
         }
         WordStep::Sense => emit_all(
             &[two(TwoOp::Mov, absolute(0x200), TO_R4), push(R4)],

@@ -1,4 +1,4 @@
-use Rattle.std.proofs.Common.{◌≡◌, ◌+◌, ◌*◌, ◌++◌, [], ◌∷◌, drop, sym, ap, ◌∙◌, subst, arith}
+use Rattle.std.proofs.Common.{◌+◌, ◌*◌, ◌++◌, ◌∷◌, drop, sym, ap, ◌∙◌, subst, arith}
 use Rattle.code_forms.specs.Forms.{Branch, instruction_of}
 use Rattle.code_forms.specs.Placed.{instructions}
 use Rattle.array_versions.specs.View.{step_of, steps_of}
