@@ -5,3 +5,4 @@ pub mod Words
 pub mod Spared
 pub mod Views
 pub mod Kept
+pub mod Spent

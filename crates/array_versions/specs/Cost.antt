@@ -1,5 +1,5 @@
 -- What the code of a word program costs at most, in cycles and in words.
-use Rattle.std.specs.Prelude.{ℕ, zero, suc, ◌+◌, ◌-◌, ◌*◌, max, nat_le, nat_lt, if◌then◌else◌}
+use Rattle.std.specs.Prelude.{ℕ, zero, suc, ◌+◌, ◌-◌, ◌*◌, max, nat_le, nat_lt, if◌then◌else◌, List, [], ◌∷◌}
 use Rattle.array_versions.specs.declared.operations.UnaryOperation.{UnaryOperation}
 use Rattle.array_versions.specs.declared.operations.UnaryOperation.TheVariants.{Negate, Complement, Not, Truth}
 use Rattle.array_versions.specs.declared.operations.BinaryOperation.{BinaryOperation}
@@ -7,6 +7,7 @@ use Rattle.array_versions.specs.declared.operations.BinaryOperation.TheVariants.
 use Rattle.array_versions.specs.declared.operations.ShiftOperation.{ShiftOperation}
 use Rattle.array_versions.specs.declared.operations.ShiftOperation.TheVariants.{Left, Right, SignedRight}
 use Rattle.array_versions.specs.Program.{Step, Program, number, load, keep, local, set_local, unary, binary, shift, element, emit_word, list_entry, versioned_read, versioned_write, sense, choose, repeat, store_number, move_word, jump, nothing, step}
+use Rattle.array_versions.specs.Behaviour.{WordState, End, GoesOn, Jumps, Short, Strays, Broken, Behaviour, with_stack, with_local, step_behaviour, behaviour}
 
 -- the cycles of an operation on the top of the stack
 abbrev pub unary_cycles : UnaryOperation → ℕ
@@ -130,3 +131,50 @@ abbrev mutual
   pub words_of : Program → ℕ
   words_of nothing = 0
   words_of (step first more) = step_words first + words_of more
+
+-- what is spent behind an end: something only where it goes on
+abbrev pub spent_on : End → (WordState → ℕ) → ℕ
+spent_on (GoesOn s) next = next s
+spent_on (Jumps to s) next = 0
+spent_on Short next = 0
+spent_on Strays next = 0
+spent_on Broken next = 0
+
+-- what one of two ways spends, by the top of the stack: the first where it isn't 0
+abbrev pub way_spent : List ℕ → (List ℕ → ℕ) → (List ℕ → ℕ) → ℕ
+way_spent [] taken otherwise = 0
+way_spent (zero ∷ vs) taken otherwise = otherwise vs
+way_spent (suc v ∷ vs) taken otherwise = taken vs
+
+-- what so many turns spend, from number k on
+abbrev pub turns_spent : ℕ → ℕ → ℕ → (WordState → Behaviour) → (WordState → ℕ) → WordState → ℕ
+turns_spent zero n k body cost s = 0
+turns_spent (suc m) n k body cost s = let t = with_local n k s in 18 + cost t + spent_on (body t).end (turns_spent m n (k + 1) body cost)
+
+abbrev mutual
+  -- the cycles of a step from a state on, at most, on the way that it takes: a loop that is left by a jump makes no further turns
+  pub step_spent : Step → WordState → ℕ
+  step_spent (choose taken otherwise) s = 8 + way_spent s.stack (λ vs. spent taken (with_stack vs s)) (λ vs. spent otherwise (with_stack vs s))
+  step_spent (repeat n from below body) s = 15 + turns_spent (below - from) n from (behaviour body) (spent body) s
+  step_spent (number w) s = step_cycles (number w)
+  step_spent (load a) s = step_cycles (load a)
+  step_spent (keep a) s = step_cycles (keep a)
+  step_spent (local n) s = step_cycles (local n)
+  step_spent (set_local n) s = step_cycles (set_local n)
+  step_spent (unary op) s = step_cycles (unary op)
+  step_spent (binary op) s = step_cycles (binary op)
+  step_spent (shift op k) s = step_cycles (shift op k)
+  step_spent (element base length) s = step_cycles (element base length)
+  step_spent (emit_word count buffer) s = step_cycles (emit_word count buffer)
+  step_spent (list_entry count list home copy) s = step_cycles (list_entry count list home copy)
+  step_spent (versioned_read place list) s = step_cycles (versioned_read place list)
+  step_spent (versioned_write place list) s = step_cycles (versioned_write place list)
+  step_spent sense s = step_cycles sense
+  step_spent (store_number a w) s = step_cycles (store_number a w)
+  step_spent (move_word from to) s = step_cycles (move_word from to)
+  step_spent (jump to) s = step_cycles (jump to)
+
+  -- the cycles of a program from a state on, at most
+  pub spent : Program → WordState → ℕ
+  spent nothing s = 0
+  spent (step first more) s = step_spent first s + spent_on (step_behaviour first s).end (spent more)

@@ -1,12 +1,12 @@
 -- What holds of the behaviour of word programs.
-use Rattle.std.specs.Prelude.{ℕ, ◌≡◌, ◌+◌, ◌<◌, List, ◌++◌, Some}
+use Rattle.std.specs.Prelude.{ℕ, ◌≡◌, ◌+◌, ◌<◌, ◌≤◌, List, ◌++◌, Some}
 use Rattle.std.specs.List.{AllByRecursion}
 use Rattle.fram_board.specs.Effects.{Effect}
 use Rattle.machine_effects.specs.World.{fram_after, readings_taken}
 use Rattle.array_versions.specs.Program.{Program, joined}
 use Rattle.array_versions.specs.Behaviour.{WordState, started, End, GoesOn, Jumps, Short, Strays, Broken, behaviour, then_on}
 use Rattle.array_versions.specs.Form.{IsWhole, OfWords}
-use Rattle.array_versions.specs.Cost.{cycles_of, words_of}
+use Rattle.array_versions.specs.Cost.{cycles_of, words_of, spent_on, spent}
 
 -- a program behind another goes on where that one ends
 abbrev pub JoinedGoOn : Type 0
@@ -19,6 +19,14 @@ JoinedCycles = (p q : Program) → cycles_of (joined p q) ≡ cycles_of p + cycl
 -- and so are its words
 abbrev pub JoinedWords : Type 0
 JoinedWords = (p q : Program) → words_of (joined p q) ≡ words_of p + words_of q
+
+-- of joined programs the second spends something only where the first goes on
+abbrev pub JoinedSpend : Type 0
+JoinedSpend = (p q : Program) (s : WordState) → spent (joined p q) s ≡ spent p s + spent_on (behaviour p s).end (spent q)
+
+-- no way spends more than the program's cycles
+abbrev pub WaysKeepToCycles : Type 0
+WaysKeepToCycles = (p : Program) (s : WordState) → spent p s ≤ cycles_of p
 
 -- FRAM and the readings left at an end are what the effects make of those at the start
 abbrev pub EndsByEffects : WordState → List Effect → End → Type 0

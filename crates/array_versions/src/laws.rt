@@ -1,6 +1,6 @@
 //! Laws of word programs. The functions do nothing: their contracts are the laws.
 
-ghost use Rattle.array_versions.specs.Laws.{JoinedGoOn, JoinedCycles, JoinedWords, BehavesByEffects, WholeEndsSoundly, WordsStayWords};
+ghost use Rattle.array_versions.specs.Laws.{JoinedGoOn, JoinedCycles, JoinedWords, JoinedSpend, WaysKeepToCycles, BehavesByEffects, WholeEndsSoundly, WordsStayWords};
 ghost use Rattle.array_versions.specs.Allowance.{StepsKeepToCycles, StepsKeepToWords};
 
 /// A program behind another does its steps behind the other's.
@@ -14,6 +14,14 @@ pub fn joined_programs_go_on()
 pub fn joined_programs_cost_both()
     ensures cycles { JoinedCycles }
     ensures words { JoinedWords }
+{}
+
+/// On the way that it takes a program spends no more than its cycles, and of joined ones the second spends something only where
+/// the first goes on.
+#[tactic(auto, using(crate::proofs::Spent::joined_spend, crate::proofs::Spent::ways_keep_to_cycles))]
+pub fn programs_spend_by_their_ways()
+    ensures joined { JoinedSpend }
+    ensures cycles { WaysKeepToCycles }
 {}
 
 /// A program changes FRAM and the readings by its effects alone.

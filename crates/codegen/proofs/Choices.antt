@@ -11,6 +11,7 @@ use Rattle.code_forms.specs.Forms.{R4, Core, Constant, Form, Calculate, Jump, Br
 use Rattle.code_forms.specs.Code.{Stands, forms_bytes, forms_run, Runs}
 use Rattle.code_forms.proofs.Blocks.{stands_back}
 use Rattle.array_versions.specs.Behaviour.{WordState, Behaviour, with_top, with_stack, chosen}
+use Rattle.array_versions.specs.Cost.{way_spent}
 use Rattle.codegen.specs.Code.{pop_to, choice_code}
 use Rattle.codegen.proofs.Stretches.{Setting, stands_at, end_of, straight, runs_on}
 use Rattle.codegen.proofs.Follows.{StandsFor, Follows, more_cycles, then_end, then_hop, stands_elsewhere}
@@ -38,11 +39,11 @@ module _ (z : Setting) where
       (record { is = stands_elsewhere z (pc + 2) (pc + 4) (with_stack vs w) t _ k.is (omega (arith, k.is.at)) refl refl refl refl; flag = ap (λ x. not ((x + 65535 + 1) % 65536 == 0)) k.value ∙ ap not f }))
 
   -- both ways: up to the program that is taken, and through it
-  pub choice_part : (a b : List Form) (pc pa pb : ℕ) (w : WordState) (u : Core) (vs : List ℕ) (ra rb : WordState → Behaviour) → w.stack ≡ vs → AllByRecursion (λ v. v < 0x10000) vs
+  pub choice_part : (a b : List Form) (pc : ℕ) (pa pb : List ℕ → ℕ) (w : WordState) (u : Core) (vs : List ℕ) (ra rb : WordState → Behaviour) → w.stack ≡ vs → AllByRecursion (λ v. v < 0x10000) vs
       → Stands z.code pc (choice_code (pc + 14 + forms_bytes a) (pc + 14 + forms_bytes a + forms_bytes b) a b) → StandsFor z pc w u
-      → ((v : ℕ) (us : List ℕ) (t : Core) → w.stack ≡ v ∷ us → StandsFor z (pc + 10) (with_stack us w) t → Follows z (pc + 10 + forms_bytes a) pa t (ra (with_stack us w)))
-      → ((v : ℕ) (us : List ℕ) (t : Core) → w.stack ≡ v ∷ us → StandsFor z (pc + 14 + forms_bytes a) (with_stack us w) t → Follows z (pc + 14 + forms_bytes a + forms_bytes b) pb t (rb (with_stack us w)))
-      → Follows z (pc + 14 + forms_bytes a + forms_bytes b) (8 + max pa pb) u (with_top vs (λ v us. chosen v (ra (with_stack us w)) (rb (with_stack us w))))
+      → ((v : ℕ) (us : List ℕ) (t : Core) → w.stack ≡ v ∷ us → StandsFor z (pc + 10) (with_stack us w) t → Follows z (pc + 10 + forms_bytes a) (pa us) t (ra (with_stack us w)))
+      → ((v : ℕ) (us : List ℕ) (t : Core) → w.stack ≡ v ∷ us → StandsFor z (pc + 14 + forms_bytes a) (with_stack us w) t → Follows z (pc + 14 + forms_bytes a + forms_bytes b) (pb us) t (rb (with_stack us w)))
+      → Follows z (pc + 14 + forms_bytes a + forms_bytes b) (8 + way_spent vs pa pb) u (with_top vs (λ v us. chosen v (ra (with_stack us w)) (rb (with_stack us w))))
   choice_part a b pc pa pb w u [] ra rb e l h i fa fb = tt
   choice_part a b pc pa pb w u (zero ∷ vs) ra rb e l h i fa fb =
       let x = with_stack vs w in
@@ -52,7 +53,7 @@ module _ (z : Setting) where
       jump_to z condition.NotEqual 2 (pc + 4) (pc + 6) false x t (subst (λ n. z.code n ≡ Some (instruction_of (Jump condition.NotEqual 2))) (omega arith) h.1.1.0) k.flag (omega arith) k.is) in
       let gone = runs_on z 5 3 u (StandsFor z (pc + 6) x) (StandsFor z (pc + 14 + forms_bytes a) x) [] [] tested (λ t k.
       branch_to z (pc + 14 + forms_bytes a) (pc + 6) x t (subst (λ n. z.code n ≡ Some (instruction_of (Branch (pc + 14 + forms_bytes a)))) (omega arith) h.1.1.1.0) (omega arith) k) in
-      more_cycles z _ (8 + pb) _ u _ (rb x).end (omega arith) (then_end z _ 8 pb u _ [] (rb x).effects (rb x).end gone (λ t k. fb zero vs t e k))
+      more_cycles z _ (8 + pb vs) _ u _ (rb x).end (omega arith) (then_end z _ 8 (pb vs) u _ [] (rb x).effects (rb x).end gone (λ t k. fb zero vs t e k))
   choice_part a b pc pa pb w u (suc v ∷ vs) ra rb e l h i fa fb =
       let x = with_stack vs w in
       let ev = (z.tidy pc _ h.0).even in
@@ -62,7 +63,7 @@ module _ (z : Setting) where
       let tested = runs_on z 3 2 u _ (StandsFor z (pc + 10) x) [] [] (test_top pc (suc v) false vs w u e (zero_flag (suc v) l.0 (omega arith)) (h.0, (h.1.0, tt)) i) (λ t k.
       jump_to z condition.NotEqual 2 (pc + 4) (pc + 10) true x t (subst (λ n. z.code n ≡ Some (instruction_of (Jump condition.NotEqual 2))) (omega arith) h.1.1.0) k.flag (omega arith) k.is) in
       let at = subst (λ n. z.code (n + forms_bytes a) ≡ Some (instruction_of (Branch (pc + 14 + forms_bytes a + forms_bytes b)))) (omega arith) (stands_back z.code _ a (Branch (pc + 14 + forms_bytes a + forms_bytes b) ∷ b) h.1.1.1.1).0 in
-      let whole = then_hop z (pc + 10 + forms_bytes a) (pc + 14 + forms_bytes a + forms_bytes b) (5 + pa) 3 u _ (ra x).end
-      (then_end z _ 5 pa u _ [] (ra x).effects (ra x).end tested (λ t k. fa (suc v) vs t e k))
+      let whole = then_hop z (pc + 10 + forms_bytes a) (pc + 14 + forms_bytes a + forms_bytes b) (5 + pa vs) 3 u _ (ra x).end
+      (then_end z _ 5 (pa vs) u _ [] (ra x).effects (ra x).end tested (λ t k. fa (suc v) vs t e k))
       (λ t y k. branch_to z (pc + 14 + forms_bytes a + forms_bytes b) (pc + 10 + forms_bytes a) y t at (omega arith) k) in
-      more_cycles z _ (5 + pa + 3) _ u _ (ra x).end (omega arith) whole
+      more_cycles z _ (5 + pa vs + 3) _ u _ (ra x).end (omega arith) whole

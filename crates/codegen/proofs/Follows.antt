@@ -4,6 +4,7 @@ use Rattle.fram_board.specs.Effects.{Effect}
 use Rattle.code_forms.specs.Forms.{Core}
 use Rattle.code_forms.specs.Code.{Runs, Starves}
 use Rattle.array_versions.specs.Behaviour.{WordState, End, GoesOn, Jumps, Short, Strays, Broken, Behaviour, behind_effects, on_end, strays}
+use Rattle.array_versions.specs.Cost.{spent_on}
 use Rattle.codegen.specs.Laws.{HasJumped}
 use Rattle.codegen.proofs.Stretches.{Setting, runs_on, starves_on, dearer, dearer_stall}
 use Rattle.codegen.proofs.Memory.{Memory}
@@ -50,16 +51,16 @@ then_end z pc most more u P es fs Short a b = starves_on z most more u P es fs a
 then_end z pc most more u P es fs Strays a b = tt
 then_end z pc most more u P es fs Broken a b = tt
 
--- a part, and then what it goes on with
-pub then_part : (z : Setting) (pc pc' most more : ℕ) (u : Core) (P : WordState → Type 0) (es : List Effect) (e : End) (go : WordState → Behaviour) → FollowsEnd z pc most u es e → OnGoesOn P e
-    → ((t : Core) (w : WordState) → P w → StandsFor z pc w t → Follows z pc' more t (go w)) → Follows z pc' (most + more) u (behind_effects es (on_end e go))
-then_part z pc pc' most more u P es (GoesOn w) go a p b = then_end z pc' most more u (StandsFor z pc w) es (go w).effects (go w).end a (λ t h. b t w p h)
-then_part z pc pc' most more u P es (Jumps to w) go a p b =
-    subst (λ l. Runs z.code l (most + more) u (HasJumped to w)) (sym (append-nil es)) (dearer z es most (most + more) u (HasJumped to w) (omega arith) a)
-then_part z pc pc' most more u P es Short go a p b =
-    subst (λ l. Starves z.code l (most + more) u) (sym (append-nil es)) (dearer_stall z es most (most + more) u (omega arith) a)
-then_part z pc pc' most more u P es Strays go a p b = tt
-then_part z pc pc' most more u P es Broken go a p b = tt
+-- a part, and then what it goes on with, which costs by the state there
+pub then_way : (z : Setting) (pc pc' most : ℕ) (more : WordState → ℕ) (u : Core) (P : WordState → Type 0) (es : List Effect) (e : End) (go : WordState → Behaviour) → FollowsEnd z pc most u es e → OnGoesOn P e
+    → ((t : Core) (w : WordState) → P w → StandsFor z pc w t → Follows z pc' (more w) t (go w)) → Follows z pc' (most + spent_on e more) u (behind_effects es (on_end e go))
+then_way z pc pc' most more u P es (GoesOn w) go a p b = then_end z pc' most (more w) u (StandsFor z pc w) es (go w).effects (go w).end a (λ t h. b t w p h)
+then_way z pc pc' most more u P es (Jumps to w) go a p b =
+    subst (λ l. Runs z.code l (most + 0) u (HasJumped to w)) (sym (append-nil es)) (dearer z es most (most + 0) u (HasJumped to w) (omega arith) a)
+then_way z pc pc' most more u P es Short go a p b =
+    subst (λ l. Starves z.code l (most + 0) u) (sym (append-nil es)) (dearer_stall z es most (most + 0) u (omega arith) a)
+then_way z pc pc' most more u P es Strays go a p b = tt
+then_way z pc pc' most more u P es Broken go a p b = tt
 
 -- one more stretch where the program goes on
 pub then_hop : (z : Setting) (pc pc' most more : ℕ) (u : Core) (es : List Effect) (e : End) → FollowsEnd z pc most u es e → ((t : Core) (w : WordState) → StandsFor z pc w t → Runs z.code [] more t (StandsFor z pc' w)) → FollowsEnd z pc' (most + more) u es e

@@ -16,3 +16,4 @@ mod Emitted
 mod Prefixes
 pub mod Lengths
 pub mod Whole
+pub mod Instructions

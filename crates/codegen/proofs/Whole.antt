@@ -1,4 +1,4 @@
--- The code of a word program does what the program does, within its cycles.
+-- The code of a word program does what the program does, within the cycles of the way that it takes.
 use Rattle.std.proofs.Common.{◌≡◌, ℕ, suc, ◌+◌, ◌-◌, ◌*◌, ◌<◌, List, [], ◌∷◌, ◌++◌, length, All, Some, None, refl, sym, ap, subst, arith}
 use Rattle.std.specs.List.{AllByRecursion}
 use Rattle.fram_board.specs.Effects.{Effect}
@@ -13,7 +13,7 @@ use Rattle.array_versions.specs.Operations.{unary_word, binary_word}
 use Rattle.array_versions.specs.Program.{Step, Program, number, load, keep, local, set_local, unary, binary, shift, element, emit_word, list_entry, versioned_read, versioned_write, sense, choose, repeat, store_number, move_word, jump, nothing, step}
 use Rattle.array_versions.specs.Behaviour.{WordState, started, End, GoesOn, Jumps, Short, Strays, Broken, goes_on, with_stack, with_local, with_top, with_two, is_place, local_pushed, step_behaviour, behaviour}
 use Rattle.array_versions.specs.Form.{Place, start, assigning, EachTurn, EachStepWay, EachWay, StepLocalsBelow, LocalsBelow, StepLoopsCount, LoopsCount, StepOfWords, OfWords}
-use Rattle.array_versions.specs.Cost.{unary_cycles, unary_words, binary_cycles, binary_words, step_cycles, cycles_of, step_words, words_of}
+use Rattle.array_versions.specs.Cost.{unary_cycles, unary_words, binary_cycles, binary_words, step_spent, spent, step_words, words_of}
 use Rattle.array_versions.specs.Laws.{IsStateOfWords, EndsInWords, IsSound}
 use Rattle.array_versions.proofs.Ways.{Matches, GoesWell, matches_local, start_matches, step_well, well, whole_ends_soundly}
 use Rattle.array_versions.proofs.Words.{local_words, step_words as words_step, words}
@@ -22,7 +22,7 @@ use Rattle.codegen.specs.Code.{local_address, unary_middle, unary_result, unary_
 use Rattle.codegen.specs.Laws.{ComesTo, CodeDoesAsProgram}
 use Rattle.codegen.proofs.Stretches.{Setting, nothing_run}
 use Rattle.codegen.proofs.Memory.{place_is, assigned_same}
-use Rattle.codegen.proofs.Follows.{StandsFor, Follows, FollowsEnd, OnGoesOn, then_part, ends_at, guarded}
+use Rattle.codegen.proofs.Follows.{StandsFor, Follows, FollowsEnd, OnGoesOn, then_way, ends_at, guarded}
 use Rattle.codegen.proofs.Parts.{number_part, load_part, local_part, keep_part, set_part, sense_part, store_part, move_part, jump_part}
 use Rattle.codegen.proofs.Choices.{choice_part}
 use Rattle.codegen.proofs.Loops.{loop_part}
@@ -117,7 +117,7 @@ module _ (z : Setting) where
 
   mutual
     step_follows : (first : Step) (next : Place → Type 0) (pc : ℕ) (w : WordState) (u : Core) → Ready (EachStepWay z.room first next) w → StepOfWords first → StepLocalsBelow z.locals first → StepLoopsCount first
-        → Stands z.code pc (step_code pc first) → StandsFor z pc w u → Follows z (pc + 2 * step_words first) (step_cycles first) u (step_behaviour first w)
+        → Stands z.code pc (step_code pc first) → StandsFor z pc w u → Follows z (pc + 2 * step_words first) (step_spent first w) u (step_behaviour first w)
     step_follows (number v) next pc w u r o l c h i = number_part z v pc w u (omega (arith, r.fit.1, r.matches.depth)) h i
     step_follows (load a) next pc w u r o l c h i = guarded z (is_place a) (pc + 4) 5 u _ (λ e. load_part z a pc w u (omega (arith, r.fit.1, r.matches.depth)) (place_is a e) h i)
     step_follows (keep a) next pc w u r o l c h i = keep_part z a pc w u w.stack refl h i
@@ -147,11 +147,11 @@ module _ (z : Setting) where
         let tail = Branch (pc + 14 + forms_bytes a + forms_bytes b) ∷ b in
         let ha : Stands z.code (pc + 10) (a ++ tail) = subst (λ n. Stands z.code n (a ++ tail)) (omega arith) g.1.1.1.1 in
         let hb : Stands z.code other b = subst (λ n. Stands z.code n b) (omega (arith, code_length (pc + 10) taken)) (stands_back z.code (pc + 10) a tail ha).1 in
-        ends_at z (pc + 14 + forms_bytes a + forms_bytes b) (pc + 2 * step_words (choose taken otherwise)) (step_cycles (choose taken otherwise)) u (step_behaviour (choose taken otherwise) w) (omega (arith, code_length (pc + 10) taken, code_length other otherwise))
-        (choice_part z a b pc (cycles_of taken) (cycles_of otherwise) w u w.stack (behaviour taken) (behaviour otherwise) refl r.words_in.stack g i
-        (λ v us t q j. ends_at z (pc + 10 + 2 * words_of taken) _ (cycles_of taken) t (behaviour taken (with_stack us w)) (omega (arith, code_length (pc + 10) taken))
+        ends_at z (pc + 14 + forms_bytes a + forms_bytes b) (pc + 2 * step_words (choose taken otherwise)) (step_spent (choose taken otherwise) w) u (step_behaviour (choose taken otherwise) w) (omega (arith, code_length (pc + 10) taken, code_length other otherwise))
+        (choice_part z a b pc (λ us. spent taken (with_stack us w)) (λ us. spent otherwise (with_stack us w)) w u w.stack (behaviour taken) (behaviour otherwise) refl r.words_in.stack g i
+        (λ v us t q j. ends_at z (pc + 10 + 2 * words_of taken) _ (spent taken (with_stack us w)) t (behaviour taken (with_stack us w)) (omega (arith, code_length (pc + 10) taken))
         (program_follows taken next (pc + 10) (with_stack us w) t (ready_popped (EachWay z.room taken next) r.place w v us r.fit.2.0 r.matches r.words_in q) o.0 l.0 c.0 (stands_front z.code (pc + 10) a tail ha) j))
-        (λ v us t q j. ends_at z (other + 2 * words_of otherwise) _ (cycles_of otherwise) t (behaviour otherwise (with_stack us w)) (omega (arith, code_length (pc + 10) taken, code_length other otherwise))
+        (λ v us t q j. ends_at z (other + 2 * words_of otherwise) _ (spent otherwise (with_stack us w)) t (behaviour otherwise (with_stack us w)) (omega (arith, code_length (pc + 10) taken, code_length other otherwise))
         (program_follows otherwise next other (with_stack us w) t (ready_popped (EachWay z.room otherwise next) r.place w v us r.fit.2.1 r.matches r.words_in q) o.1 l.1 c.1 hb (subst (λ n. StandsFor z n (with_stack us w) t) (sym e) j))))
     step_follows (repeat n from below body) next pc w u r o l c h i =
         let code = code_of (pc + 20) body in
@@ -159,9 +159,9 @@ module _ (z : Setting) where
         let g : Stands z.code pc (loop_code (pc + 6) (pc + 34 + forms_bytes code) n from below code) = subst (λ m. Stands z.code pc (loop_code (pc + 6) m n from below code)) e h in
         let hc : Stands z.code (pc + 20) code = subst (λ m. Stands z.code m code) (omega arith) (stands_front z.code (pc + 6 + 14) code (loop_step n (pc + 6)) (stands_back z.code (pc + 6) (loop_test n below (pc + 34 + forms_bytes code)) (code ++ loop_step n (pc + 6)) g.1)) in
         let turn : ℕ → Place → Type 0 = λ m. EachTurn m n (EachWay z.room body) next in
-        ends_at z (pc + 34 + forms_bytes code) (pc + 2 * step_words (repeat n from below body)) (step_cycles (repeat n from below body)) u (step_behaviour (repeat n from below body) w) (omega (arith, code_length (pc + 20) body))
-        (loop_part z code pc (cycles_of body) n from below (behaviour body) (λ m s. Ready (turn m) s) w u l.0 o.1 o.2 g i r
-        (λ m k s t p less j. ends_at z (pc + 20 + 2 * words_of body) _ (cycles_of body) t (behaviour body (with_local n k s)) (omega (arith, code_length (pc + 20) body))
+        ends_at z (pc + 34 + forms_bytes code) (pc + 2 * step_words (repeat n from below body)) (step_spent (repeat n from below body) w) u (step_behaviour (repeat n from below body) w) (omega (arith, code_length (pc + 20) body))
+        (loop_part z code pc n from below (spent body) (behaviour body) (λ m s. Ready (turn m) s) w u l.0 o.1 o.2 g i r
+        (λ m k s t p less j. ends_at z (pc + 20 + 2 * words_of body) _ (spent body (with_local n k s)) t (behaviour body (with_local n k s)) (omega (arith, code_length (pc + 20) body))
         (program_follows body (turn m) (pc + 20) (with_local n k s) t
         (record { place = assigning n p.place; fit = p.fit; matches = matches_local p.place s n k p.matches; words_in = local_words s n k p.words_in (let x = o.2 in omega arith) }) o.3 l.1 c.1 hc j))
         (λ m k s p less. ready_with (turn m) n k (behaviour body (with_local n k s)).end
@@ -173,15 +173,15 @@ module _ (z : Setting) where
     step_follows (jump to) next pc w u r o l c h i = jump_part z to pc w u r.fit h i
 
     program_follows : (p : Program) (next : Place → Type 0) (pc : ℕ) (w : WordState) (u : Core) → Ready (EachWay z.room p next) w → OfWords p → LocalsBelow z.locals p → LoopsCount p
-        → Stands z.code pc (code_of pc p) → StandsFor z pc w u → Follows z (pc + 2 * words_of p) (cycles_of p) u (behaviour p w)
+        → Stands z.code pc (code_of pc p) → StandsFor z pc w u → Follows z (pc + 2 * words_of p) (spent p w) u (behaviour p w)
     program_follows nothing next pc w u r o l c h i = let e : pc ≡ pc + 0 = omega arith in nothing_run z u (StandsFor z (pc + 0) w) (subst (λ n. StandsFor z n w u) e i)
     program_follows (step first more) next pc w u r o l c h i =
         let a = step_code pc first in
         let b = step_behaviour first w in
         let pc' = pc + 2 * step_words first in
         let h' : Stands z.code pc' (code_of pc' more) = subst (λ n. Stands z.code n (code_of pc' more)) (omega (arith, step_length pc first)) (stands_back z.code pc a (code_of pc' more) h) in
-        ends_at z (pc' + 2 * words_of more) (pc + 2 * words_of (step first more)) (cycles_of (step first more)) u (behaviour (step first more) w) (omega arith)
-        (then_part z pc' (pc' + 2 * words_of more) (step_cycles first) (cycles_of more) u (Ready (EachWay z.room more next)) b.effects b.end (behaviour more)
+        ends_at z (pc' + 2 * words_of more) (pc + 2 * words_of (step first more)) (spent (step first more) w) u (behaviour (step first more) w) (omega arith)
+        (then_way z pc' (pc' + 2 * words_of more) (step_spent first w) (spent more) u (Ready (EachWay z.room more next)) b.effects b.end (behaviour more)
         (step_follows first (EachWay z.room more next) pc w u r o.0 l.0 c.0 (stands_front z.code pc a (code_of pc' more) h) i)
         (ready_on (EachWay z.room more next) b.end (step_well z.room first (EachWay z.room more next) r.place w r.fit r.matches) (words_step first w o.0 r.words_in))
         (λ t v q j. program_follows more next pc' v t q o.1 l.1 c.1 h' j))
@@ -211,11 +211,11 @@ code_does_as_program code at p u tidy h whole o entry =
       matches = start_matches u.fram u.readings_left;
       words_in = record { stack = tt; locals = λ n v q. absurd (let q' = q in (cc)); fram = entry.fram; readings = all_by_recursion u.readings_left entry.readings };
     } in
-    by_end z b.effects b.end (program_follows z p (λ q. ⊥) at s u r o whole.low_locals whole.loops_count h i) (whole_ends_soundly p u.fram u.readings_left whole)
+    by_end z (spent p s) b.effects b.end (program_follows z p (λ q. ⊥) at s u r o whole.low_locals whole.loops_count h i) (whole_ends_soundly p u.fram u.readings_left whole)
   where
-    by_end : (z : Setting) (es : List Effect) (e : End) → FollowsEnd z (at + 2 * words_of p) (cycles_of p) u es e → IsSound e → ComesTo z.code (cycles_of p) u es e
-    by_end z es (GoesOn w) a g = g
-    by_end z es (Jumps to w) a g = a
-    by_end z es Short a g = a
-    by_end z es Strays a g = tt
-    by_end z es Broken a g = g
+    by_end : (z : Setting) (most : ℕ) (es : List Effect) (e : End) → FollowsEnd z (at + 2 * words_of p) most u es e → IsSound e → ComesTo z.code most u es e
+    by_end z most es (GoesOn w) a g = g
+    by_end z most es (Jumps to w) a g = a
+    by_end z most es Short a g = a
+    by_end z most es Strays a g = tt
+    by_end z most es Broken a g = g

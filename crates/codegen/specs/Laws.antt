@@ -6,11 +6,11 @@ use Rattle.machine_effects.specs.Going.{going}
 use Rattle.machine_effects.specs.Machine.{Code, MachineStretch, exec}
 use Rattle.code_forms.specs.Forms.{Core, board_of}
 use Rattle.code_forms.specs.Code.{Stands, IsTidy, Runs, Starves, forms_bytes}
-use Rattle.code_forms.specs.Placed.{words_of as instruction_words, instructions}
+use Rattle.code_forms.specs.Placed.{words_of as instruction_words, instructions, AreInstructions}
 use Rattle.array_versions.specs.Program.{Program}
 use Rattle.array_versions.specs.Behaviour.{WordState, started, End, GoesOn, Jumps, Short, Strays, Broken, behaviour}
 use Rattle.array_versions.specs.Form.{IsWhole, OfWords}
-use Rattle.array_versions.specs.Cost.{cycles_of, words_of}
+use Rattle.array_versions.specs.Cost.{spent, words_of}
 use Rattle.codegen.specs.Code.{code_of}
 
 -- the machine at the entry of a program's code: the stack is empty, FRAM and the readings left are words
@@ -35,10 +35,10 @@ ComesTo code most u es Strays = Unit {0}
 ComesTo code most u es (GoesOn s) = ⊥
 ComesTo code most u es Broken = ⊥
 
--- code in which the code of a whole program stands does what the program does, within its cycles
+-- code in which the code of a whole program stands does what the program does, within the cycles of the way that it takes
 abbrev pub CodeDoesAsProgram : Type 0
 CodeDoesAsProgram = (code : Code) (at : ℕ) (p : Program) (u : Core) → IsTidy code → Stands code at (code_of at p) → IsWhole p → OfWords p → IsEntry at u
-    → let b = behaviour p (started u.fram u.readings_left) in ComesTo code (cycles_of p) u b.effects b.end
+    → let s = started u.fram u.readings_left in let b = behaviour p s in ComesTo code (spent p s) u b.effects b.end
 
 -- a stretch so far: its effects are a prefix of these, its cycles within so many
 pub record IsWithin (most : ℕ) (es : List Effect) (r : MachineStretch) : Type 0 where
@@ -62,3 +62,7 @@ CodeHasItsBytes = (at : ℕ) (p : Program) → forms_bytes (code_of at p) ≡ 2 
 -- and encoded it has so many words
 abbrev pub CodeHasItsWords : Type 0
 CodeHasItsWords = (at : ℕ) (p : Program) → length (instruction_words (instructions (code_of at p))) ≡ words_of p
+
+-- each of its instructions has its words
+abbrev pub CodeIsInstructions : Type 0
+CodeIsInstructions = (at : ℕ) (p : Program) → AreInstructions (instructions (code_of at p))

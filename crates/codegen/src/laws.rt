@@ -1,8 +1,8 @@
 //! Laws of the code of word programs. The functions do nothing: their contracts are the laws.
 
-ghost use Rattle.codegen.specs.Laws.{CodeDoesAsProgram, RunsStayWithin, StarvingStaysWithin, CodeHasItsBytes, CodeHasItsWords};
+ghost use Rattle.codegen.specs.Laws.{CodeDoesAsProgram, RunsStayWithin, StarvingStaysWithin, CodeHasItsBytes, CodeHasItsWords, CodeIsInstructions};
 
-/// The code of a whole program makes the program's effects within its cycles, and comes to the program's end: behind its
+/// The code of a whole program makes the program's effects within the cycles of the way that it takes, and comes to the program's end: behind its
 /// jump, or to an instruction that wants a reading where none is left.
 #[tactic(auto, using(crate::proofs::Whole::code_does_as_program))]
 pub fn code_does_as_its_program()
@@ -15,9 +15,10 @@ pub fn effects_so_far_are_a_prefix()
     ensures starves { StarvingStaysWithin }
 {}
 
-/// The code of a program is as long as the program's words say.
-#[tactic(auto, using(crate::proofs::Lengths::code_has_its_bytes, crate::proofs::Lengths::code_has_its_words))]
+/// The code of a program is as long as the program's words say, and each of its instructions has its words.
+#[tactic(auto, using(crate::proofs::Lengths::code_has_its_bytes, crate::proofs::Lengths::code_has_its_words, crate::proofs::Instructions::code_is_instructions))]
 pub fn code_has_its_words()
     ensures bytes { CodeHasItsBytes }
     ensures words { CodeHasItsWords }
+    ensures instructions { CodeIsInstructions }
 {}

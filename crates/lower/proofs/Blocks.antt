@@ -1,289 +1,351 @@
 -- The program of statements does what they do.
-use Rattle.std.proofs.Common.{◌≡◌, ℕ, zero, suc, ◌+◌, ◌-◌, ◌*◌, ◌%◌, ◌<◌, ◌≤◌, List, [], ◌∷◌, ◌++◌, length, Option, Some, None, Bool, true, false, refl, sym, ap, ◌∙◌, subst, arith, append_assoc, append-nil, if◌then◌else◌}
-use Rattle.fram_board.specs.Effects.{Effect, Store, Take, Send}
+use Rattle.std.proofs.Common.{◌≡◌, ℕ, zero, suc, ◌+◌, ◌-◌, ◌*◌, ◌%◌, ◌<◌, ◌≤◌, List, [], ◌∷◌, ◌++◌, length, Option, Some, None, Bool, true, refl, sym, ap, ◌∙◌, subst, arith, if◌then◌else◌}
+use Rattle.fram_board.specs.Effects.{Store}
 use Rattle.task_ast.specs.Tree as t
 use Rattle.task_ast.specs.Paths.{CheckedExpression, CheckedStatement, CheckedChoice, CheckedBlock}
 use Rattle.task_ast.specs.declared.names.Variable.{Variable}
 use Rattle.task_ast.specs.declared.names.Variable.TheVariants.{Shared, Local}
-use Rattle.source_values.specs.Values.{value_of, holds, with_word}
+use Rattle.source_values.specs.Values.{value_of, holds}
 use Rattle.source_values.specs.Statements as source
 use Rattle.source_values.specs.Statements.{Attempt, Outcome, goes_on, to_task, short, and_then, if_value, run_statement, run_choice, run_block, statement_emits, choice_emits, block_emits}
-use Rattle.array_versions.specs.Program.{Step, Program, keep, set_local, emit_word, choose, repeat, nothing, step, joined}
+use Rattle.cost_bound.specs.Counts.{statement_count, choice_count, block_count, is_shared, is_store_to, stores_of}
+use Rattle.array_versions.specs.Program.{Program, emit_word, versioned_write, choose, repeat, nothing, joined}
 use Rattle.array_versions.specs.Behaviour as words
 use Rattle.array_versions.specs.Behaviour.{WordState, End, GoesOn, Jumps, Short, Strays, Broken, Behaviour, behaves, behind_effects, on_end, then_on, is_place, at_place, stored, with_local, word_stored, word_emitted, chosen, step_behaviour, behaviour}
-use Rattle.array_versions.proofs.Joined.{joined_go_on}
-use Rattle.lower.specs.Places.{Places, address_of}
-use Rattle.lower.specs.Lowered.{one, write_step, loop_local, assignment, lowered_transition, lowered_expression, lowered_statement, lowered_choice, lowered_block}
-use Rattle.lower.specs.Agreement.{IsScalarAt, AreApart, AreEven, IsTarget, IsLocal, ExpressionFits, StatementFits, ChoiceFits, BlockFits, HoldVariables, HoldEmits, StandsFor, TakesAndStores, OnlyTakes, IsTaskStore, at_variable, at_count, in_buffer, valued, EndsWithValue, AgreesWithValue, WentOn, Left, EndsAs, Agrees, BlocksAgree}
-use Rattle.lower.proofs.Values.{takes_append, only_takes, fram_place, placed, suc_holds, expressions_agree}
+use Rattle.array_versions.proofs.Joined.{joined_go_on, joined_assoc}
+use Rattle.privatise.specs.declared.place.VariablePlace.{VariablePlace}
+use Rattle.lower.specs.Places.{address_of}
+use Rattle.lower.specs.Lowered.{one, write_step, written_array, list_place, store_step, loop_local, assignment, element_assignment, lowered_transition, lowered_expression, lowered_statement, lowered_choice, lowered_block}
+use Rattle.lower.specs.Spots.{Element, scalar, listed_of}
+use Rattle.lower.specs.Agreement.{IsTarget, IsWrittenArray, IsLocal, ExpressionFits, StatementFits, ChoiceFits, BlockFits, StandsFor, at_variable, at_emit_count, in_buffer, valued, AgreesWithValue, BlocksAgree}
+use Rattle.lower.proofs.Addresses.{fram_place, placed, spot_place}
+use Rattle.lower.proofs.Values.{suc_holds, expressions_agree}
 use Rattle.lower.proofs.Emitted.{EmitsAtMost, more_turns, statement_emitted, block_emitted}
-use Rattle.lower.proofs.Stored.{shared_set, shared_set_emits, local_holds, emitted_variables, emitted_emits}
+use Rattle.lower.proofs.Stored.{same_variables, same_list, same_emits, spot_list, spot_emits, scalar_set, local_holds, after_emit, emit_spots, emit_list, emitted_emits}
 use Rattle.lower.proofs.Transitions.{transition_behaves}
+use Rattle.lower.proofs.Ends.{Scene, Does, does_then, does_alone, does_value}
+use Rattle.lower.proofs.Elements.{Begins, few_listed, list_fits, few_emitted, store_does}
 
-module _ (p : Places) (written : ℕ → Bool) (capacity : ℕ) (apart : AreApart p capacity) (even : AreEven p) where
-  abbrev Stores : List Effect → Type 0
-  Stores = TakesAndStores (IsTaskStore p written capacity)
-
-  abbrev Ends : List ℕ → List Effect → End → Outcome → Type 0
-  Ends = EndsAs p written capacity
-
-  abbrev Does : List ℕ → Behaviour → Outcome → Type 0
-  Does = Agrees p written capacity
-
-  -- ---- effects in front
-
-  ends_behind : (stack : List ℕ) (es fs : List Effect) (e : End) (o : Outcome) → Stores es → Ends stack fs e o → Ends stack (es ++ fs) e o
-  ends_behind stack es fs (GoesOn s) (goes_on m) h k = record { stores = takes_append (IsTaskStore p written capacity) es fs h k.stores; stack_kept = k.stack_kept; stands = k.stands }
-  ends_behind stack es fs (GoesOn s) (to_task task m) h k = absurd k
-  ends_behind stack es fs (GoesOn s) short h k = absurd k
-  ends_behind stack es fs (Jumps to s) (goes_on m) h k = absurd k
-  ends_behind stack es fs (Jumps to s) (to_task task m) h k = record {
-    body = es ++ k.body;
-    there = k.there;
-    effects = ap (λ l. es ++ l) k.effects ∙ sym (append_assoc es k.body _);
-    stores = takes_append (IsTaskStore p written capacity) es k.body h k.stores;
-    stands = k.stands;
-    commits = k.commits;
-    readings = k.readings;
-  }
-  ends_behind stack es fs (Jumps to s) short h k = absurd k
-  ends_behind stack es fs Short (goes_on m) h k = absurd k
-  ends_behind stack es fs Short (to_task task m) h k = absurd k
-  ends_behind stack es fs Short short h k = takes_append (IsTaskStore p written capacity) es fs h k
-  ends_behind stack es fs Strays o h k = absurd k
-  ends_behind stack es fs Broken o h k = tt
-
-  -- none behind
-  ends_alone : (stack : List ℕ) (es : List Effect) (e : End) (o : Outcome) → Ends stack es e o → Ends stack (es ++ []) e o
-  ends_alone stack es e o h = let P : List Effect → Type 0 = λ l. Ends stack l e o in subst P (sym (append-nil es)) h
-
-  -- ---- one behind the other
-
-  does_then : (stack : List ℕ) (n : ℕ) (b : Behaviour) (o : Outcome) (next : WordState → Behaviour) (more : Attempt → Outcome) → Does stack b o → EmitsAtMost n o
-      → ((s : WordState) (m : Attempt) → s.stack ≡ stack → StandsFor p m s → length m.emitted ≤ n → Does stack (next s) (more m))
-      → Does stack (then_on b next) (and_then o more)
-  does_then stack n b o next more h few k = go b.effects b.end o h few
-    where
-      go : (es : List Effect) (e : End) (o : Outcome) → Ends stack es e o → EmitsAtMost n o → Does stack (behind_effects es (on_end e next)) (and_then o more)
-      go es (GoesOn s) (goes_on m) h few = ends_behind stack es (next s).effects (next s).end (more m) h.stores (k s m h.stack_kept h.stands few)
-      go es (GoesOn s) (to_task task m) h few = absurd h
-      go es (GoesOn s) short h few = absurd h
-      go es (Jumps to s) (goes_on m) h few = absurd h
-      go es (Jumps to s) (to_task task m) h few = ends_alone stack es (Jumps to s) (to_task task m) h
-      go es (Jumps to s) short h few = absurd h
-      go es Short (goes_on m) h few = absurd h
-      go es Short (to_task task m) h few = absurd h
-      go es Short short h few = ends_alone stack es Short short h
-      go es Strays o h few = absurd h
-      go es Broken o h few = tt
-
-  -- nothing behind
-  does_alone : (stack : List ℕ) (b : Behaviour) (o : Outcome) → Does stack b o → Does stack (then_on b (behaviour nothing)) o
-  does_alone stack b o h = go b.effects b.end h
-    where
-      go : (es : List Effect) (e : End) → Ends stack es e o → Does stack (behind_effects es (on_end e (behaviour nothing))) o
-      go es (GoesOn s) h = ends_alone stack es (GoesOn s) o h
-      go es (Jumps to s) h = ends_alone stack es (Jumps to s) o h
-      go es Short h = ends_alone stack es Short o h
-      go es Strays h = absurd h
-      go es Broken h = tt
-
-  -- a value, and what is done with it
-  does_value : (w : WordState) (b : Behaviour) (o : Option (ℕ × List ℕ)) (next : WordState → Behaviour) (m : Attempt) (more : ℕ → Attempt → Outcome) → AgreesWithValue w b o
-      → ((x : ℕ × List ℕ) → Does w.stack (next (valued w x)) (more x.0 (record m { left = x.1 })))
-      → Does w.stack (then_on b next) (if_value o m more)
-  does_value w b o next m more h k = go b.effects b.end o h.0 h.1
-    where
-      go : (es : List Effect) (e : End) (o : Option (ℕ × List ℕ)) → OnlyTakes es → EndsWithValue w e o → Does w.stack (behind_effects es (on_end e next)) (if_value o m more)
-      go es (GoesOn s) (Some x) h e =
-          let P : WordState → Type 0 = λ s. Does w.stack (behind_effects es (next s)) (more x.0 (record m { left = x.1 })) in
-          let b = next (valued w x) in
-          subst P (sym e) (ends_behind w.stack es b.effects b.end (more x.0 (record m { left = x.1 })) (only_takes (IsTaskStore p written capacity) es h) (k x))
-      go es (GoesOn s) None h e = absurd e
-      go es (Jumps to s) o h e = absurd e
-      go es Short (Some x) h e = absurd e
-      go es Short None h e = ends_alone w.stack es Short short (only_takes (IsTaskStore p written capacity) es h)
-      go es Strays o h e = absurd e
-      go es Broken o h e = tt
-
+module _ (z : Scene) where
   -- ---- assignments
 
-  write_does : (x : Variable) (w : WordState) (m : Attempt) (v : ℕ) (left : List ℕ) → IsTarget p written x → StandsFor p m w → length m.emitted ≤ capacity
-      → Does w.stack (behaviour (one (write_step p x)) (valued w (v, left))) (goes_on (source.assigned (record m { left = left }) x 0 v))
-  write_does (Local n) w m v left k h few = record {
+  write_does : (x : Variable) (m : Attempt) (listed : List Element) (w : WordState) (n : ℕ) (count most : ℕ → ℕ) (v : ℕ) (left : List ℕ)
+      → IsTarget z.p z.written x
+      → Begins z m listed w n count most
+      → Does z w.fram most w.stack (behaviour (one (write_step z.p x)) (valued w (v, left))) (goes_on (source.assigned (record m { left = left }) x 0 v))
+  write_does (Local i) m listed w n count most v left k h = record {
     stores = tt;
     stack_kept = refl;
-    stands = record { variables = local_holds p n v m.variables w.fram w.locals k h.variables; emitted = h.emitted; readings = refl };
+    listed = listed;
+    stands = record { variables = local_holds z.p i v m.variables w.fram w.locals k h.stands.variables; emitted = h.stands.emitted; list = h.stands.list; readings = refl };
+    few = few_listed z m listed w n count most h;
   }
-  write_does (Shared n) w m v left k h few =
-      let a = address_of p n in
+  write_does (Shared i) m listed w n count most v left k h =
+      let p = z.p in
+      let a = address_of p i in
+      let f = w.fram in
       let u : WordState = record w { readings = left } in
-      let P : Behaviour → Type 0 = λ b. Does w.stack (then_on b (behaviour nothing)) (goes_on (source.assigned (record m { left = left }) (Shared n) 0 v)) in
-      let low = apart.variables n k.0 in
-      subst P (sym (placed a (words.goes_on (Store a v ∷ []) (stored a v u)) (fram_place a (even.variables n k.0) (omega (arith, low, apart)) (apart.below n k.0)))) (record {
-        stores = (at_variable n k.0 k.1 refl, tt);
+      let P : Behaviour → Type 0 = λ b. Does z f most w.stack (then_on b (behaviour nothing))
+      (goes_on (source.assigned (record m { left = left }) (Shared i) 0 v)) in
+      let fits = list_fits z m listed w n count most h in
+      subst P (sym (placed a (words.goes_on (Store a v ∷ []) (stored a v u)) (spot_place p z.room (scalar i) z.apart z.even k.0))) (record {
+        stores = (at_variable i k.0 k.1 refl, tt);
         stack_kept = refl;
+        listed = listed;
         stands = record {
-          variables = shared_set p capacity n v m.variables w.fram w.locals apart k.0 h.variables;
-          emitted = shared_set_emits p capacity n v m.emitted w.fram apart k.0 few h.emitted;
+          variables = scalar_set p z.room i v m.variables f w.locals z.apart k.0 h.stands.variables;
+          emitted = same_emits p z.room m.emitted f _ (few_emitted z m listed w n count most h)
+              (spot_emits p z.room (scalar i) v f z.apart k.0) h.stands.emitted;
+          list = same_list p z.room listed f _ (omega (arith, fits)) (spot_list p z.room (scalar i) v f z.apart k.0 (λ x e. cc)) h.stands.list;
           readings = refl;
         };
+        few = few_listed z m listed w n count most h;
       })
 
-  value_agrees : (e : CheckedExpression) (w : WordState) (m : Attempt) → ExpressionFits p e → StandsFor p m w → AgreesWithValue w (behaviour (lowered_expression p e) w) (value_of e m.variables m.left)
-  value_agrees e w m fits h =
-      let P : List ℕ → Type 0 = λ l. AgreesWithValue w (behaviour (lowered_expression p e) w) (value_of e m.variables l) in
-      subst P h.readings (expressions_agree p capacity e m.variables w apart even fits h.variables)
+  value_agrees : (e : CheckedExpression) (m : Attempt) (listed : List Element) (w : WordState) → ExpressionFits z.p e → StandsFor z.p m listed w
+      → AgreesWithValue w (behaviour (lowered_expression z.p e) w) (value_of e m.variables m.left)
+  value_agrees e m listed w fits h =
+      let P : List ℕ → Type 0 = λ l. AgreesWithValue w (behaviour (lowered_expression z.p e) w) (value_of e m.variables l) in
+      subst P h.readings (expressions_agree z.p z.room e m.variables w z.apart z.even fits h.variables)
 
-  assignment_does : (x : Variable) (e : CheckedExpression) (w : WordState) (m : Attempt) → ExpressionFits p e → IsTarget p written x → StandsFor p m w → length m.emitted ≤ capacity
-      → Does w.stack (behaviour (assignment p x e) w) (if_value (value_of e m.variables m.left) m (λ v s. goes_on (source.assigned s x 0 v)))
-  assignment_does x e w m fits target h few =
-      let P : Behaviour → Type 0 = λ b. Does w.stack b (if_value (value_of e m.variables m.left) m (λ v s. goes_on (source.assigned s x 0 v))) in
-      subst P (sym (joined_go_on (lowered_expression p e) (one (write_step p x)) w))
-      (does_value w (behaviour (lowered_expression p e) w) (value_of e m.variables m.left) (behaviour (one (write_step p x))) m (λ v s. goes_on (source.assigned s x 0 v)) (value_agrees e w m fits h)
-      (λ y. write_does x w m y.0 y.1 target h few))
+  assignment_does : (x : Variable) (e : CheckedExpression) (m : Attempt) (listed : List Element) (w : WordState) (n : ℕ) (count most : ℕ → ℕ)
+      → ExpressionFits z.p e → IsTarget z.p z.written x
+      → Begins z m listed w n count most
+      → Does z w.fram most w.stack (behaviour (assignment z.p x e) w)
+      (if_value (value_of e m.variables m.left) m (λ v s. goes_on (source.assigned s x 0 v)))
+  assignment_does x e m listed w n count most fits target h =
+      let P : Behaviour → Type 0 = λ b. Does z w.fram most w.stack b
+      (if_value (value_of e m.variables m.left) m (λ v s. goes_on (source.assigned s x 0 v))) in
+      subst P (sym (joined_go_on (lowered_expression z.p e) (one (write_step z.p x)) w))
+      (does_value z most w.stack w (behaviour (lowered_expression z.p e) w) (value_of e m.variables m.left) (behaviour (one (write_step z.p x))) m
+      (λ v s. goes_on (source.assigned s x 0 v))
+      (value_agrees e m listed w fits h.stands) (λ y. write_does x m listed w n count most y.0 y.1 target h))
+
+  -- ---- stores to elements
+
+  store_step_does : (x : Variable) (i v : ℕ) (m : Attempt) (listed : List Element) (w : WordState) (left : List ℕ) (most : ℕ → ℕ) → IsWrittenArray z.p x
+      → Begins z m listed w 0 (λ u. if is_shared u x then 1 else 0) most
+      → Does z w.fram most w.stack (behaviour (one (store_step z.p x)) (record w { stack = v ∷ i ∷ w.stack; readings = left }))
+      (goes_on (source.assigned (record m { left = left }) x i v))
+  store_step_does (Shared n) i v m listed w left most k h =
+      let P : Option VariablePlace → Type 0 =
+      λ o. Does z w.fram most w.stack
+      (behaviour (one (versioned_write (written_array o) (list_place z.p))) (record w { stack = v ∷ i ∷ w.stack; readings = left }))
+      (goes_on (source.assigned (record m { left = left }) (Shared n) i v)) in
+      subst P (sym k.3.place) (store_does z n i v k.0 k.1 k.2 w m listed left most k.3 h)
+  store_step_does (Local n) i v m listed w left most k h = absurd k
+
+  element_does : (x : Variable) (index e : CheckedExpression) (m : Attempt) (listed : List Element) (w : WordState) (most : ℕ → ℕ) → IsWrittenArray z.p x
+      → ExpressionFits z.p index → ExpressionFits z.p e
+      → Begins z m listed w 0 (λ u. if is_shared u x then 1 else 0) most
+      → Does z w.fram most w.stack (behaviour (element_assignment z.p x index e) w)
+      (if_value (value_of index m.variables m.left) m (λ i s. if_value (value_of e s.variables s.left) s (λ v s. goes_on (source.assigned s x i v))))
+  element_does x index e m listed w most array of_index of_e h =
+      let first = lowered_expression z.p index in
+      let second = lowered_expression z.p e in
+      let last = one (store_step z.p x) in
+      let more : ℕ → Attempt → Outcome = λ i s. if_value (value_of e s.variables s.left) s (λ v s. goes_on (source.assigned s x i v)) in
+      let P : Behaviour → Type 0 = λ b. Does z w.fram most w.stack b (if_value (value_of index m.variables m.left) m more) in
+      subst P (sym (ap (λ q. behaviour q w) (joined_assoc first second last) ∙ joined_go_on first (joined second last) w))
+      (does_value z most w.stack w (behaviour first w) (value_of index m.variables m.left) (behaviour (joined second last)) m more
+      (value_agrees index m listed w of_index h.stands)
+      (λ i.
+      let u : WordState = valued w i in
+      let n : Attempt = record m { left = i.1 } in
+      let Q : Behaviour → Type 0 = λ b. Does z w.fram most w.stack b (more i.0 n) in
+      subst Q (sym (joined_go_on second last u))
+      (does_value z most w.stack u (behaviour second u) (value_of e n.variables n.left) (behaviour last) n (λ v s. goes_on (source.assigned s x i.0 v))
+      (expressions_agree z.p z.room e m.variables u z.apart z.even of_e h.stands.variables)
+      (λ v. store_step_does x i.0 v.0 m listed w v.1 most array h))))
 
   -- ---- emits
 
-  buffer_even : (n : ℕ) → (2 * n + p.emits) % 2 ≡ 0
-  buffer_even n = let h = even.emits in omega (arith, h)
+  buffer_even : (n : ℕ) → (2 * n + z.p.emits) % 2 ≡ 0
+  buffer_even n = let h = z.even.emits in omega (arith, h)
 
-  buffer_place : (n : ℕ) → n < capacity → is_place (2 * n + p.emits) ≡ true
-  buffer_place n h = fram_place (2 * n + p.emits) (buffer_even n) (omega (arith, apart)) (omega (arith, apart, h))
+  buffer_place : (n : ℕ) → n < z.room.emits → is_place (2 * n + z.p.emits) ≡ true
+  buffer_place n h = let apart = z.apart in fram_place (2 * n + z.p.emits) (buffer_even n) (omega (arith, apart)) (omega (arith, apart, h))
 
-  emit_does : (w : WordState) (m : Attempt) (v : ℕ) (left : List ℕ) → StandsFor p m w → length m.emitted < capacity
-      → Does w.stack (behaviour (one (emit_word p.words.emit_count p.emits)) (valued w (v, left))) (goes_on (record m { emitted = m.emitted ++ v ∷ []; left = left }))
-  emit_does w m v left h few =
+  emit_does : (m : Attempt) (listed : List Element) (w : WordState) (count most : ℕ → ℕ) (v : ℕ) (left : List ℕ) → Begins z m listed w 1 count most
+      → Does z w.fram most w.stack (behaviour (one (emit_word z.p.words.emit_count z.p.emits)) (valued w (v, left)))
+      (goes_on (record m { emitted = m.emitted ++ v ∷ []; left = left }))
+  emit_does m listed w many most v left h =
+      let p = z.p in
+      let apart = z.apart in
+      let f = w.fram in
       let count = p.words.emit_count in
-      let n = w.fram count in
+      let n = f count in
       let a = 2 * n + p.emits in
       let u : WordState = record w { readings = left } in
       let o = goes_on (record m { emitted = m.emitted ++ v ∷ []; left = left }) in
-      let counted = h.emitted.emit_count in
-      let below : n < capacity = omega (arith, counted, few) in
+      let counted = h.stands.emitted.emit_count in
+      let few = h.emits in
+      let fits = list_fits z m listed w 1 many most h in
+      let below : n < z.room.emits = omega (arith, counted, few) in
       let last : Behaviour = words.goes_on (Store a v ∷ Store count (n + 1) ∷ []) (stored count (n + 1) (stored a v u)) in
       let is : word_emitted count p.emits v u ≡ last =
-      placed count (at_place a last) (fram_place count even.emit_count (omega (arith, apart)) (omega (arith, apart)))
+      placed count (at_place a last) (fram_place count z.even.emit_count (omega (arith, apart)) (omega (arith, apart)))
       ∙ placed a last (buffer_place n below) in
-      let P : Behaviour → Type 0 = λ b. Does w.stack (then_on b (behaviour nothing)) o in
+      let P : Behaviour → Type 0 = λ b. Does z f most w.stack (then_on b (behaviour nothing)) o in
       subst P (sym is) (record {
-        stores = (in_buffer n below refl, (at_count refl, tt));
+        stores = (in_buffer n below refl, (at_emit_count refl (omega (arith, below)), tt));
         stack_kept = refl;
+        listed = listed;
         stands = record {
-          variables = emitted_variables p capacity v n (n + 1) m.variables w.fram w.locals apart below h.variables;
-          emitted = emitted_emits p capacity v m.emitted w.fram apart few h.emitted;
+          variables = same_variables p m.variables f (after_emit p n v (n + 1) f) w.locals (emit_spots p z.room n v (n + 1) f apart below) h.stands.variables;
+          emitted = emitted_emits p z.room v m.emitted f apart h.stands.emitted;
+          list = same_list p z.room listed f (after_emit p n v (n + 1) f) (omega (arith, fits)) (emit_list p z.room n v (n + 1) f apart below) h.stands.list;
           readings = refl;
         };
+        few = few_listed z m listed w 1 many most h;
       })
 
   -- ---- transitions
 
-  transition_does : (task : ℕ) (w : WordState) (m : Attempt) → StandsFor p m w → Does w.stack (behaviour (lowered_transition p task) w) (to_task task m)
-  transition_does task w m h =
-      let b = transition_behaves p capacity task w apart even h.emitted.list_length in
-      let P : Behaviour → Type 0 = λ b. Does w.stack b (to_task task m) in
+  transition_does : (task : ℕ) (m : Attempt) (listed : List Element) (w : WordState) (n : ℕ) (count most : ℕ → ℕ) → Begins z m listed w n count most
+      → Does z w.fram most w.stack (behaviour (lowered_transition z.p task) w) (to_task task m)
+  transition_does task m listed w n count most h =
+      let b = transition_behaves z.p z.room task (length listed) w z.apart z.even h.stands.list.list_length (list_fits z m listed w n count most h) in
+      let P : Behaviour → Type 0 = λ b. Does z w.fram most w.stack b (to_task task m) in
       subst P (sym b.1) (record {
         body = [];
         there = w;
+        listed = listed;
         effects = refl;
         stores = tt;
-        stands = h;
+        arrived = refl;
+        stands = h.stands;
+        few = few_listed z m listed w n count most h;
         commits = refl;
-        readings = b.2 ∙ h.readings;
+        readings = b.2 ∙ h.stands.readings;
       })
 
   -- ---- loops
 
-  turns_do : (n : ℕ) (few : n < 256) (q : Program) (run : Attempt → Outcome) (e : ℕ)
-      → ((m : Attempt) (w : WordState) → StandsFor p m w → length m.emitted + e ≤ capacity → Does w.stack (behaviour q w) (run m))
+  turns_do : (i : ℕ) (few : i < 256) (q : Program) (run : Attempt → Outcome) (e : ℕ) (c : ℕ → ℕ)
+      → ((m : Attempt) (listed : List Element) (w : WordState) (most : ℕ → ℕ) → Begins z m listed w e c most
+      → Does z w.fram most w.stack (behaviour q w) (run m))
       → ((m : Attempt) (k : ℕ) → length m.emitted + e ≤ k → EmitsAtMost k (run m))
-      → (j k : ℕ) (stack : List ℕ) (m : Attempt) (w : WordState) → w.stack ≡ stack → StandsFor p m w → length m.emitted + j * e ≤ capacity
-      → Does stack (words.turns j (n % 65536) k (behaviour q) w) (source.turns j k (Local n) run m)
-  turns_do n few q run e f g zero k stack m w st h room = record {
+      → (j k : ℕ) (stack : List ℕ) (m : Attempt) (listed : List Element) (w : WordState) (most : ℕ → ℕ) → w.stack ≡ stack
+      → Begins z m listed w (j * e) (λ v. j * c v) most
+      → Does z w.fram most stack (words.turns j (i % 65536) k (behaviour q) w) (source.turns j k (Local i) run m)
+  turns_do i few q run e c f g zero k stack m listed w most st h = record {
     stores = tt;
     stack_kept = st;
-    stands = record { variables = local_holds p n k m.variables w.fram w.locals few h.variables; emitted = h.emitted; readings = h.readings };
+    listed = listed;
+    stands = record { variables = local_holds z.p i k m.variables w.fram w.locals few h.stands.variables; emitted = h.stands.emitted; list = h.stands.list; readings = h.stands.readings };
+    few = few_listed z m listed w _ _ most h;
   }
-  turns_do n few q run e f g (suc j) k stack m w st h room =
-      let l = more_turns j e (length m.emitted) capacity room in
-      let m1 : Attempt = source.assigned m (Local n) 0 k in
-      let w1 : WordState = with_local (n % 65536) k w in
-      let P : List ℕ → Type 0 = λ s. Does s (behaviour q w1) (run m1) in
-      does_then stack (length m.emitted + e) (behaviour q w1) (run m1) (words.turns j (n % 65536) (k + 1) (behaviour q)) (source.turns j (k + 1) (Local n) run)
-      (subst P st (f m1 w1 (record { variables = local_holds p n k m.variables w.fram w.locals few h.variables; emitted = h.emitted; readings = h.readings }) (omega (arith, l))))
+  turns_do i few q run e c f g (suc j) k stack m listed w most st h =
+      let l = more_turns j e (length m.emitted) z.room.emits h.emits in
+      let lists : (v : ℕ) → listed_of v listed + c v + j * c v ≤ most v = λ v. more_turns j (c v) (listed_of v listed) (most v) (h.lists v) in
+      let once : ℕ → ℕ = λ v. listed_of v listed + c v in
+      let fewer : (v : ℕ) → once v ≤ most v = λ v. let a = lists v in omega (arith, a) in
+      let m1 : Attempt = source.assigned m (Local i) 0 k in
+      let w1 : WordState = with_local (i % 65536) k w in
+      let begins : Begins z m1 listed w1 e c once = record {
+        stands = record { variables = local_holds z.p i k m.variables w.fram w.locals few h.stands.variables; emitted = h.stands.emitted; list = h.stands.list; readings = h.stands.readings };
+        number = h.number;
+        emits = omega (arith, l);
+        lists = λ v. omega arith;
+        within = λ v. let a = fewer v in let b = h.within v in omega (arith, a, b);
+      } in
+      let P : List ℕ → Type 0 = λ s. Does z w.fram once s (behaviour q w1) (run m1) in
+      does_then z q w1 once most stack (length m.emitted + e) (run m1) (words.turns j (i % 65536) (k + 1) (behaviour q))
+      (source.turns j (k + 1) (Local i) run) h.number fewer
+      (subst P st (f m1 listed w1 once begins))
       (g m1 (length m.emitted + e) (omega arith))
-      (λ s u same stands below. turns_do n few q run e f g j (k + 1) stack u s same stands (omega (arith, l, below)))
+      (λ s u listing there. let below = there.few_emitted in turns_do i few q run e c f g j (k + 1) stack u listing s most there.stack_kept (record {
+        stands = there.stands;
+        number = there.number;
+        emits = omega (arith, l, below);
+        lists = λ v. let a = lists v in let b = there.few_listed v in omega (arith, a, b);
+        within = h.within;
+      }))
 
-  loop_does : (x : Variable) (from below : ℕ) (body : Program) (run : Attempt → Outcome) (e : ℕ) → IsLocal x
-      → ((m : Attempt) (w : WordState) → StandsFor p m w → length m.emitted + e ≤ capacity → Does w.stack (behaviour body w) (run m))
+  loop_does : (x : Variable) (from below : ℕ) (body : Program) (run : Attempt → Outcome) (e : ℕ) (c : ℕ → ℕ) → IsLocal x
+      → ((m : Attempt) (listed : List Element) (w : WordState) (most : ℕ → ℕ) → Begins z m listed w e c most
+      → Does z w.fram most w.stack (behaviour body w) (run m))
       → ((m : Attempt) (k : ℕ) → length m.emitted + e ≤ k → EmitsAtMost k (run m))
-      → (m : Attempt) (w : WordState) → StandsFor p m w → length m.emitted + (below - from) * e ≤ capacity
-      → Does w.stack (behaviour (one (repeat (loop_local x) from below body)) w) (source.turns (below - from) from x run m)
-  loop_does (Shared v) from below body run e k f g m w h room = absurd k
-  loop_does (Local n) from below body run e k f g m w h room =
-      does_alone w.stack (words.turns (below - from) (n % 65536) from (behaviour body) w) (source.turns (below - from) from (Local n) run m)
-      (turns_do n k body run e f g (below - from) from w.stack m w refl h room)
+      → (m : Attempt) (listed : List Element) (w : WordState) (most : ℕ → ℕ) → Begins z m listed w ((below - from) * e) (λ v. (below - from) * c v) most
+      → Does z w.fram most w.stack (behaviour (one (repeat (loop_local x) from below body)) w) (source.turns (below - from) from x run m)
+  loop_does (Shared v) from below body run e c k f g m listed w most h = absurd k
+  loop_does (Local i) from below body run e c k f g m listed w most h =
+      does_alone z w.fram most w.stack (words.turns (below - from) (i % 65536) from (behaviour body) w) (source.turns (below - from) from (Local i) run m)
+      (turns_do i k body run e c f g (below - from) from w.stack m listed w most refl h)
 
   -- ---- conditions
 
-  chosen_does : (v : ℕ) (stack : List ℕ) (taken otherwise : Behaviour) (o q : Outcome) → Does stack taken o → Does stack otherwise q
-      → Does stack (chosen v taken otherwise) (if holds v then o else q)
-  chosen_does zero stack taken otherwise o q h k = k
-  chosen_does (suc v) stack taken otherwise o q h k = let P : Bool → Type 0 = λ b. Does stack taken (if b then o else q) in subst P (sym (suc_holds v)) h
+  chosen_does : (v : ℕ) (start most : ℕ → ℕ) (stack : List ℕ) (taken otherwise : Behaviour) (o q : Outcome) → Does z start most stack taken o
+      → Does z start most stack otherwise q
+      → Does z start most stack (chosen v taken otherwise) (if holds v then o else q)
+  chosen_does zero start most stack taken otherwise o q h k = k
+  chosen_does (suc v) start most stack taken otherwise o q h k =
+      let P : Bool → Type 0 = λ b. Does z start most stack taken (if b then o else q) in
+      subst P (sym (suc_holds v)) h
 
-  with_left : (m : Attempt) (w : WordState) (left : List ℕ) → StandsFor p m w → StandsFor p (record m { left = left }) (record w { readings = left })
-  with_left m w left h = record { variables = h.variables; emitted = h.emitted; readings = refl }
+  -- with other readings left, for statements that emit and list no more
+  with_left : (m : Attempt) (listed : List Element) (w : WordState) (n k : ℕ) (count fewer most : ℕ → ℕ) (left : List ℕ) → Begins z m listed w n count most
+      → k ≤ n → ((v : ℕ) → fewer v ≤ count v)
+      → Begins z (record m { left = left }) listed (record w { readings = left }) k fewer most
+  with_left m listed w n k count fewer most left h l less =
+      let e = h.emits in
+      record {
+        stands = record { variables = h.stands.variables; emitted = h.stands.emitted; list = h.stands.list; readings = refl };
+        number = h.number;
+        emits = omega (arith, e, l);
+        lists = λ v. let a = h.lists v in let b = less v in omega (arith, a, b);
+        within = h.within;
+      }
 
   -- ---- all statements
 
   mutual
-    statement_does : (s : CheckedStatement) (m : Attempt) (w : WordState) → StatementFits p written s → StandsFor p m w → length m.emitted + statement_emits s ≤ capacity
-        → Does w.stack (behaviour (lowered_statement p s) w) (run_statement s m)
-    statement_does (t.declare of x None) m w fits h room = record { stores = tt; stack_kept = refl; stands = h }
-    statement_does (t.declare of x (Some e)) m w fits h room = assignment_does x.variable e w m fits.0 fits.1 h (omega (arith, room))
-    statement_does (t.assign x e) m w fits h room = assignment_does x.variable e w m fits.0 fits.1 h (omega (arith, room))
-    statement_does (t.store x index e) m w fits h room = absurd fits
-    statement_does (t.choose choice) m w fits h room = choice_does choice m w fits h room
-    statement_does (t.loop x from tested below stepped body) m w fits h room =
-        loop_does x.variable from below (lowered_block p body) (run_block body) (block_emits body) fits.0
-        (λ u s k l. block_does body u s fits.1 k l) (block_emitted body) m w h room
-    statement_does (t.emit e) m w fits h room =
-        let last = one (emit_word p.words.emit_count p.emits) in
-        let P : Behaviour → Type 0 = λ b. Does w.stack b (run_statement (t.emit e) m) in
-        subst P (sym (joined_go_on (lowered_expression p e) last w))
-        (does_value w (behaviour (lowered_expression p e) w) (value_of e m.variables m.left) (behaviour last) m (λ v s. goes_on (record s { emitted = s.emitted ++ v ∷ [] })) (value_agrees e w m fits h)
-        (λ y. emit_does w m y.0 y.1 h (omega (arith, room))))
-    statement_does (t.transition task) m w fits h room = transition_does task.task w m h
+    statement_does : (s : CheckedStatement) (m : Attempt) (listed : List Element) (w : WordState) (most : ℕ → ℕ) → StatementFits z.p z.written s
+        → Begins z m listed w (statement_emits s) (λ v. statement_count (is_store_to v) s) most
+        → Does z w.fram most w.stack (behaviour (lowered_statement z.p s) w) (run_statement s m)
+    statement_does (t.declare of x None) m listed w most fits h = record
+        { stores = tt; stack_kept = refl; listed = listed; stands = h.stands; few = few_listed z m listed w _ _ most h }
+    statement_does (t.declare of x (Some e)) m listed w most fits h = assignment_does x.variable e m listed w _ _ most fits.0 fits.1 h
+    statement_does (t.assign x e) m listed w most fits h = assignment_does x.variable e m listed w _ _ most fits.0 fits.1 h
+    statement_does (t.store x index e) m listed w most fits h = element_does x.variable index e m listed w most fits.0 fits.1 fits.2 h
+    statement_does (t.choose choice) m listed w most fits h = choice_does choice m listed w most fits h
+    statement_does (t.loop x from tested below stepped body) m listed w most fits h =
+        loop_does x.variable from below (lowered_block z.p body) (run_block body) (block_emits body) (λ v. block_count (is_store_to v) body) fits.0
+        (λ u listing s few k. block_does body u listing s few fits.1 k) (block_emitted body) m listed w most h
+    statement_does (t.emit e) m listed w most fits h =
+        let last = one (emit_word z.p.words.emit_count z.p.emits) in
+        let P : Behaviour → Type 0 = λ b. Does z w.fram most w.stack b (run_statement (t.emit e) m) in
+        subst P (sym (joined_go_on (lowered_expression z.p e) last w))
+        (does_value z most w.stack w (behaviour (lowered_expression z.p e) w) (value_of e m.variables m.left) (behaviour last) m
+        (λ v s. goes_on (record s { emitted = s.emitted ++ v ∷ [] }))
+        (value_agrees e m listed w fits h.stands) (λ y. emit_does m listed w _ most y.0 y.1 h))
+    statement_does (t.transition task) m listed w most fits h = transition_does task.task m listed w _ _ most h
 
-    choice_does : (c : CheckedChoice) (m : Attempt) (w : WordState) → ChoiceFits p written c → StandsFor p m w → length m.emitted + choice_emits c ≤ capacity
-        → Does w.stack (behaviour (lowered_choice p c) w) (run_choice c m)
-    choice_does t.nothing m w fits h room = record { stores = tt; stack_kept = refl; stands = h }
-    choice_does (t.otherwise block) m w fits h room = block_does block m w fits h room
-    choice_does (t.test e block more) m w fits h room =
-        let last = one (choose (lowered_block p block) (lowered_choice p more)) in
-        let P : Behaviour → Type 0 = λ b. Does w.stack b (run_choice (t.test e block more) m) in
-        subst P (sym (joined_go_on (lowered_expression p e) last w))
-        (does_value w (behaviour (lowered_expression p e) w) (value_of e m.variables m.left) (behaviour last) m (λ v s. if holds v then run_block block s else run_choice more s) (value_agrees e w m fits.0 h)
+    choice_does : (c : CheckedChoice) (m : Attempt) (listed : List Element) (w : WordState) (most : ℕ → ℕ) → ChoiceFits z.p z.written c
+        → Begins z m listed w (choice_emits c) (λ v. choice_count (is_store_to v) c) most
+        → Does z w.fram most w.stack (behaviour (lowered_choice z.p c) w) (run_choice c m)
+    choice_does t.nothing m listed w most fits h = record
+        { stores = tt; stack_kept = refl; listed = listed; stands = h.stands; few = few_listed z m listed w _ _ most h }
+    choice_does (t.otherwise block) m listed w most fits h = block_does block m listed w most fits h
+    choice_does (t.test e block more) m listed w most fits h =
+        let last = one (choose (lowered_block z.p block) (lowered_choice z.p more)) in
+        let P : Behaviour → Type 0 = λ b. Does z w.fram most w.stack b (run_choice (t.test e block more) m) in
+        subst P (sym (joined_go_on (lowered_expression z.p e) last w))
+        (does_value z most w.stack w (behaviour (lowered_expression z.p e) w) (value_of e m.variables m.left) (behaviour last) m
+        (λ v s. if holds v then run_block block s else run_choice more s)
+        (value_agrees e m listed w fits.0 h.stands)
         (λ y.
         let u : WordState = record w { readings = y.1 } in
         let n : Attempt = record m { left = y.1 } in
-        let k = with_left m w y.1 h in
-        let a = behaviour (lowered_block p block) u in
-        let b = behaviour (lowered_choice p more) u in
-        does_alone w.stack (chosen y.0 a b) (if holds y.0 then run_block block n else run_choice more n)
-        (chosen_does y.0 w.stack a b (run_block block n) (run_choice more n) (block_does block n u fits.1 k (omega (arith, room))) (choice_does more n u fits.2 k (omega (arith, room))))))
+        let a = behaviour (lowered_block z.p block) u in
+        let b = behaviour (lowered_choice z.p more) u in
+        does_alone z w.fram most w.stack (chosen y.0 a b) (if holds y.0 then run_block block n else run_choice more n)
+        (chosen_does y.0 w.fram most w.stack a b (run_block block n) (run_choice more n)
+        (block_does block n listed u most fits.1
+        (with_left m listed w _ (block_emits block) _ (λ v. block_count (is_store_to v) block) most y.1 h (omega arith) (λ v. omega arith)))
+        (choice_does more n listed u most fits.2
+        (with_left m listed w _ (choice_emits more) _ (λ v. choice_count (is_store_to v) more) most y.1 h (omega arith) (λ v. omega arith))))))
 
-    block_does : (b : CheckedBlock) (m : Attempt) (w : WordState) → BlockFits p written b → StandsFor p m w → length m.emitted + block_emits b ≤ capacity
-        → Does w.stack (behaviour (lowered_block p b) w) (run_block b m)
-    block_does t.end m w fits h room = record { stores = tt; stack_kept = refl; stands = h }
-    block_does (t.step s more) m w fits h room =
-        let P : Behaviour → Type 0 = λ b. Does w.stack b (run_block (t.step s more) m) in
-        subst P (sym (joined_go_on (lowered_statement p s) (lowered_block p more) w))
-        (does_then w.stack (length m.emitted + statement_emits s) (behaviour (lowered_statement p s) w) (run_statement s m) (behaviour (lowered_block p more)) (run_block more)
-        (statement_does s m w fits.0 h (omega (arith, room))) (statement_emitted s m (length m.emitted + statement_emits s) (omega arith))
-        (λ u n same stands few.
-        let Q : List ℕ → Type 0 = λ l. Does l (behaviour (lowered_block p more) u) (run_block more n) in
-        subst Q same (block_does more n u fits.1 stands (omega (arith, room, few)))))
+    block_does : (b : CheckedBlock) (m : Attempt) (listed : List Element) (w : WordState) (most : ℕ → ℕ) → BlockFits z.p z.written b
+        → Begins z m listed w (block_emits b) (λ v. block_count (is_store_to v) b) most
+        → Does z w.fram most w.stack (behaviour (lowered_block z.p b) w) (run_block b m)
+    block_does t.end m listed w most fits h = record
+        { stores = tt; stack_kept = refl; listed = listed; stands = h.stands; few = few_listed z m listed w _ _ most h }
+    block_does (t.step s more) m listed w most fits h =
+        let P : Behaviour → Type 0 = λ b. Does z w.fram most w.stack b (run_block (t.step s more) m) in
+        let room = h.emits in
+        let once : ℕ → ℕ = λ v. listed_of v listed + statement_count (is_store_to v) s in
+        let fewer : (v : ℕ) → once v ≤ most v = λ v. let a = h.lists v in omega (arith, a) in
+        let begins : Begins z m listed w (statement_emits s) (λ v. statement_count (is_store_to v) s) once = record {
+          stands = h.stands;
+          number = h.number;
+          emits = omega (arith, room);
+          lists = λ v. omega arith;
+          within = λ v. let a = fewer v in let b = h.within v in omega (arith, a, b);
+        } in
+        subst P (sym (joined_go_on (lowered_statement z.p s) (lowered_block z.p more) w))
+        (does_then z (lowered_statement z.p s) w once most w.stack (length m.emitted + statement_emits s) (run_statement s m)
+        (behaviour (lowered_block z.p more)) (run_block more) h.number fewer
+        (statement_does s m listed w once fits.0 begins) (statement_emitted s m (length m.emitted + statement_emits s) (omega arith))
+        (λ u n listing there.
+        let below = there.few_emitted in
+        let Q : List ℕ → Type 0 = λ l. Does z u.fram most l (behaviour (lowered_block z.p more) u) (run_block more n) in
+        subst Q there.stack_kept (block_does more n listing u most fits.1 (record {
+          stands = there.stands;
+          number = there.number;
+          emits = omega (arith, room, below);
+          lists = λ v. let a = h.lists v in let b = there.few_listed v in omega (arith, a, b);
+          within = h.within;
+        }))))
+
+at_most_itself : (n : ℕ) → n ≤ n
+at_most_itself n = omega arith
 
 pub blocks_agree : BlocksAgree
-blocks_agree p written capacity block m w apart even fits h room = block_does p written capacity apart even block m w fits h room
+unfolding stores_of
+blocks_agree p written room stores block m listed w apart even has_room fits stands emits lists =
+    let z : Scene = record
+    { p = p; written = written; room = room; stores = stores; ver = w.fram p.words.version; apart = apart; even = even; has_room = has_room } in
+    let most : ℕ → ℕ = λ v. listed_of v listed + stores_of v block in
+    block_does z block m listed w most fits (record { stands = stands; number = refl; emits = emits; lists = λ v. at_most_itself (most v); within = lists })

@@ -1,10 +1,8 @@
 -- Programs one behind another, and those of lists from one item on.
-use Rattle.std.proofs.Common.{◌≡◌, ℕ, suc, ◌+◌, ◌<◌, ◌≤◌, List, [], ◌∷◌, ◌++◌, length, get_or, drop, refl, sym, ap, ◌∙◌, drop-cons, add-one, rules}
+use Rattle.std.proofs.Common.{◌≡◌, ℕ, suc, ◌+◌, ◌<◌, ◌≤◌, List, [], ◌∷◌, ◌++◌, length, get_or, drop, refl, sym, ap, ◌∙◌, drop-cons, add-one}
 use Rattle.std.proofs.lemmas.List.{drop_all}
-use Rattle.task_ast.specs.Tree as t
-use Rattle.task_ast.specs.View.{expression_of, statement_of, block_view}
-use Rattle.task_ast.specs.declared.Expr.{Expr}
-use Rattle.task_ast.specs.declared.Stmt.{Stmt, Store, the_lemmas}
+use Rattle.task_ast.specs.View.{statement_of, block_view}
+use Rattle.task_ast.specs.declared.Stmt.{Stmt}
 use Rattle.task_ast.specs.declared.names.VariableName.{VariableName}
 use Rattle.task_ast.specs.declared.names.TaskName.{TaskName}
 use Rattle.array_versions.specs.declared.program.WordStep.{WordStep}
@@ -45,14 +43,3 @@ block_step p body i s q h is =
 
 pub block_end : (p : Places) (body : List (Stmt VariableName TaskName)) (i : ℕ) (q : Program) → length body ≤ i → joined q (lowered_block p (block_view (drop i body))) ≡ q
 block_end p body i q h = ap (λ l. joined q (lowered_block p (block_view l))) (drop_all i body h) ∙ joined-nothing q
-
-store_view : (x : VariableName) (index value : Expr VariableName) → statement_of {V = VariableName} {T = TaskName} (Store x index value) ≡ t.store x (expression_of index) (expression_of value)
-store_view x index value = search (rules, the_lemmas)
-
--- statements without steps
-pub no_steps : (p : Places) (s : Stmt VariableName TaskName) (q : Program) → lowered_statement p (statement_of s) ≡ nothing → q ≡ joined q (lowered_statement p (statement_of s))
-no_steps p s q e = sym (ap (λ l. joined q l) e ∙ joined-nothing q)
-
-pub store_steps : (p : Places) (s : Stmt VariableName TaskName) (x : VariableName) (index value : Expr VariableName) → s ≡ Store x index value
-    → lowered_statement p (statement_of s) ≡ nothing
-store_steps p s x index value e = ap (λ r. lowered_statement p (statement_of r)) e ∙ ap (lowered_statement p) (store_view x index value)

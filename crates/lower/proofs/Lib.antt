@@ -1,7 +1,12 @@
+pub mod Addresses
 pub mod Values
 pub mod Emitted
 pub mod Stored
 pub mod Transitions
+pub mod Versioned
+pub mod Ends
+pub mod Elements
 pub mod Blocks
 pub mod Chains
 pub mod Sizes
+pub mod Costs

@@ -1,5 +1,5 @@
 -- The words of a task's code, and the cycles of its expressions, are within the allowance of a source.
-use Rattle.std.proofs.Common.{◌≡◌, ℕ, ◌+◌, ◌-◌, ◌*◌, ◌≤◌, max, List, [], ◌∷◌, length, Some, None, refl, arith}
+use Rattle.std.proofs.Common.{◌≡◌, ℕ, ◌+◌, ◌*◌, ◌≤◌, List, [], ◌∷◌, length, Option, Some, None, slice_get, refl, arith}
 use Rattle.task_ast.specs.Tree as t
 use Rattle.task_ast.specs.Paths.{CheckedExpression, CheckedStatement, CheckedChoice, CheckedBlock}
 use Rattle.task_ast.specs.declared.WordType.{WordType}
@@ -15,15 +15,17 @@ use Rattle.task_ast.specs.declared.names.Variable.TheVariants.{Shared, Local}
 use Rattle.source_values.specs.Values.{joined_type, type_of}
 use Rattle.cost_bound.specs.Table.{cycles_column, words_column, operator_price, expression_price, statement_price, conditions_price, blocks_price, block_price}
 use Rattle.array_versions.specs.declared.operations.UnaryOperation.TheVariants.{Truth}
-use Rattle.array_versions.specs.Program.{Step, Program, unary, binary, shift, choose, repeat, emit_word, store_number, move_word, jump, nothing, step, joined}
-use Rattle.array_versions.specs.Cost.{unary_cycles, unary_words, binary_cycles, binary_words, step_cycles, cycles_of, step_words, words_of}
+use Rattle.array_versions.specs.Program.{Program, unary, binary, shift, choose, emit_word, store_number, move_word, jump, step, joined}
+use Rattle.array_versions.specs.Cost.{unary_cycles, binary_cycles, step_cycles, cycles_of, step_words, words_of}
 use Rattle.array_versions.proofs.Joined.{joined_cycles, joined_words}
 use Rattle.array_versions.proofs.Kept.{steps_keep_to_words}
+use Rattle.privatise.specs.declared.place.VariablePlace.{VariablePlace}
+use Rattle.privatise.specs.declared.place.VariablePlace.TheVariants.{Scalar, Array}
 use Rattle.privatise.specs.declared.place.PrivateScalar.{PrivateScalar}
 use Rattle.lower.specs.Places.{Places}
 use Rattle.lower.specs.Operations.{unary_operation, binary_operation, shift_operation}
 use Rattle.lower.specs.Sizes.{BlocksKeepToWords}
-use Rattle.lower.specs.Lowered.{one, read_step, write_step, element_step, lowered_choice_of_sides, evaluated_side, assignment, entries, lowered_transition, lowered_expression, lowered_statement, lowered_choice, lowered_block}
+use Rattle.lower.specs.Lowered.{one, read_step, write_step, element_read, element_step, store_step, lowered_choice_of_sides, evaluated_side, assignment, element_assignment, entries, lowered_transition, lowered_expression, lowered_statement, lowered_choice, lowered_block}
 
 -- ---- words
 
@@ -35,8 +37,14 @@ write_words : (p : Places) (x : Variable) → step_words (write_step p x) ≤ 2
 write_words p (Shared v) = omega arith
 write_words p (Local n) = omega arith
 
-element_words : (p : Places) (x : Variable) → step_words (element_step p x) ≤ 10
-element_words p (Shared v) = omega arith
+read_array_words : (p : Places) (place : Option VariablePlace) → step_words (element_read p place) ≤ 18
+read_array_words p (Some (Array elements length (Some c))) = omega arith
+read_array_words p (Some (Array elements length None)) = omega arith
+read_array_words p (Some (Scalar home copy)) = omega arith
+read_array_words p None = omega arith
+
+element_words : (p : Places) (x : Variable) → step_words (element_step p x) ≤ 18
+element_words p (Shared v) = read_array_words p (slice_get p.variables v)
 element_words p (Local n) = omega arith
 
 sides_words : (op : ShortCircuitOperator) (right : Program) → step_words (lowered_choice_of_sides op right) ≤ 9 + words_of right
@@ -107,12 +115,24 @@ assignment_words p s x e =
     let l = joined_words (lowered_expression p e) (one (write_step p x)) in
     omega (arith, a, l, expression_words p s e)
 
+store_words : (p : Places) (x : Variable) → step_words (store_step p x) ≡ 32
+store_words p (Shared v) = refl
+store_words p (Local n) = refl
+
+element_assignment_words : (p : Places) (s : ℕ) (x : Variable) (index e : CheckedExpression)
+    → words_of (element_assignment p x index e) ≤ 60 + expression_price (words_column s) index + expression_price (words_column s) e
+element_assignment_words p s x index e =
+    let a = store_words p x in
+    let l = joined_words (lowered_expression p index) (lowered_expression p e) in
+    let m = joined_words (joined (lowered_expression p index) (lowered_expression p e)) (one (store_step p x)) in
+    omega (arith, a, l, m, expression_words p s index, expression_words p s e)
+
 mutual
   pub statement_words : (p : Places) (s : ℕ) → length p.privates ≤ s → (x : CheckedStatement) → words_of (lowered_statement p x) ≤ statement_price (words_column s) x
   statement_words p s few (t.declare of x None) = omega arith
   statement_words p s few (t.declare of x (Some e)) = assignment_words p s x.variable e
   statement_words p s few (t.assign x e) = assignment_words p s x.variable e
-  statement_words p s few (t.store x index e) = omega arith
+  statement_words p s few (t.store x index e) = element_assignment_words p s x.variable index e
   statement_words p s few (t.choose choice) = let a = choice_words p s few choice in omega (arith, a)
   statement_words p s few (t.loop x from tested below stepped body) = let a = block_words p s few body in omega (arith, a)
   statement_words p s few (t.emit e) =
@@ -143,8 +163,14 @@ read_cycles : (p : Places) (x : Variable) → step_cycles (read_step p x) ≤ 5
 read_cycles p (Shared v) = omega arith
 read_cycles p (Local n) = omega arith
 
-element_cycles : (p : Places) (x : Variable) → step_cycles (element_step p x) ≤ 15
-element_cycles p (Shared v) = omega arith
+read_array_cycles : (p : Places) (place : Option VariablePlace) → step_cycles (element_read p place) ≤ 23
+read_array_cycles p (Some (Array elements length (Some c))) = omega arith
+read_array_cycles p (Some (Array elements length None)) = omega arith
+read_array_cycles p (Some (Scalar home copy)) = omega arith
+read_array_cycles p None = omega arith
+
+element_cycles : (p : Places) (x : Variable) → step_cycles (element_step p x) ≤ 23
+element_cycles p (Shared v) = read_array_cycles p (slice_get p.variables v)
 element_cycles p (Local n) = omega arith
 
 unary_most : (op : UnaryOperator) → unary_cycles (unary_operation op) ≤ 8

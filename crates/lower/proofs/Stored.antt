@@ -1,78 +1,219 @@
 -- What stores do to a state that stands for an attempt.
-use Rattle.std.proofs.Common.{◌≡◌, ◌≢◌, ℕ, ◌+◌, ◌*◌, ◌%◌, ◌==◌, ◌<◌, ◌≤◌, List, [], ◌∷◌, ◌++◌, length, get_or, slice_set, Option, Some, None, Bool, true, false, nat_eq, refl, sym, ap, ◌∙◌, subst, arith, eq-eqb, ne_eqb, ⊎_elim, length-append, if◌then◌else◌}
+use Rattle.std.proofs.Common.{◌≡◌, ℕ, ◌+◌, ◌*◌, ◌%◌, ◌==◌, ◌<◌, ◌≤◌, List, [], ◌∷◌, ◌++◌, length, get_or, slice_set, slice_get, Option, Some, None, Contains, All, refl, sym, ap, ◌∙◌, subst, arith, eq-eqb, ne_eqb, ⊎_elim, length-append, if◌then◌else◌}
 use Rattle.std.proofs.lemmas.Bool.{cases_eq}
-use Rattle.std.proofs.lemmas.List.{get_or-set_same, get_or-set_other, length-set, get_or_append_left}
+use Rattle.std.proofs.lemmas.List.{get_or-set_same, get_or-set_other, length-set, get_or_append_left, get_or_past}
+use Rattle.std.proofs.lemmas.Option.{slice_get_within}
 use Rattle.std.proofs.Math.Seq.{get_or-append_seam}
 use Rattle.machine_effects.specs.World.{put}
 use Rattle.task_ast.specs.declared.names.Variable.TheVariants.{Shared, Local}
 use Rattle.source_values.specs.Values.{Variables, word_at, with_word}
-use Rattle.source_values.specs.Statements.{Attempt}
-use Rattle.array_versions.specs.Behaviour.{WordState, assigned}
+use Rattle.array_versions.specs.Behaviour.{assigned}
+use Rattle.privatise.specs.declared.place.ArrayCopies.{ArrayCopies}
+use Rattle.privatise.specs.declared.place.VariablePlace.{VariablePlace}
+use Rattle.privatise.specs.declared.place.VariablePlace.TheVariants.{Scalar, Array}
 use Rattle.lower.specs.Places.{Places, address_of}
-use Rattle.lower.specs.Agreement.{IsScalarAt, AreApart, HoldVariables, HoldEmits, StandsFor}
+use Rattle.lower.specs.Spots.{IsScalarPlace, IsScalarAt, IsArrayAt, Element, IsElement, IsCopied, Spot, scalar, element, copy, version, IsSpot, element_address, copy_address, version_address, spot_address, Room, AreApart}
+use Rattle.lower.specs.Agreement.{own_word, HoldVariables, HoldEmits, HoldList}
+use Rattle.lower.proofs.Addresses.{put_same, put_other, element_is, copy_is, version_is, no_scalar}
 use Rattle.lower.proofs.Values.{small_modulo}
 
-pub put_same : (f : ℕ → ℕ) (a w x : ℕ) → x ≡ a → put f a w x ≡ w
-put_same f a w x e = ap (λ b. if b then w else f x) (eq-eqb x a e)
+-- ---- another word of a shared variable
 
-pub put_other : (f : ℕ → ℕ) (a w x : ℕ) → (x ≡ a → ⊥) → put f a w x ≡ f x
-put_other f a w x ne = ap (λ b. if b then w else f x) (ne_eqb x a ne)
+-- the row with a word set
+abbrev set_row : Variables → ℕ → ℕ → ℕ → List ℕ
+set_row m v i w = slice_set (get_or m.shared v []) i w
 
--- ---- an assignment to a shared scalar
+pub word_same : (m : Variables) (v i w : ℕ) → v < length m.shared → i < length (get_or m.shared v []) → word_at (with_word m (Shared v) i w) (Shared v) i ≡ w
+word_same m v i w h k = ap (λ r. get_or r i 0) (get_or-set_same m.shared v (set_row m v i w) [] h) ∙ get_or-set_same (get_or m.shared v []) i w 0 k
 
-set_word : (rows : List (List ℕ)) (v x : ℕ) → v < length rows → 0 < length (get_or rows v [])
-    → get_or (get_or (slice_set rows v (slice_set (get_or rows v []) 0 x)) v []) 0 0 ≡ x
-set_word rows v x h k =
-    ap (λ r. get_or r 0 0) (get_or-set_same rows v (slice_set (get_or rows v []) 0 x) [] h) ∙ get_or-set_same (get_or rows v []) 0 x 0 k
+pub word_other : (m : Variables) (v i w u j : ℕ) → v < length m.shared → (u ≡ v → j ≡ i → ⊥)
+    → word_at (with_word m (Shared v) i w) (Shared u) j ≡ word_at m (Shared u) j
+word_other m v i w u j h ne =
+    let P : ℕ → Type 0 = λ z. word_at (with_word m (Shared v) i w) (Shared z) j ≡ word_at m (Shared z) j in
+    ⊎_elim
+    (λ e. subst P (sym e)
+    (ap (λ r. get_or r j 0) (get_or-set_same m.shared v (set_row m v i w) [] h) ∙ get_or-set_other (get_or m.shared v []) i j w 0 (ne e)))
+    (λ d. ap (λ r. get_or r j 0) (get_or-set_other m.shared v u (set_row m v i w) [] d)) (cases_eq u v)
 
--- the row with its first word set
-abbrev set_row : List (List ℕ) → ℕ → ℕ → List ℕ
-set_row rows v x = slice_set (get_or rows v []) 0 x
+-- the rows keep their lengths
+pub row_length : (m : Variables) (v i w u : ℕ) → v < length m.shared
+    → length (get_or (with_word m (Shared v) i w).shared u []) ≡ length (get_or m.shared u [])
+row_length m v i w u h =
+    let P : ℕ → Type 0 = λ z. length (get_or (with_word m (Shared v) i w).shared z []) ≡ length (get_or m.shared z []) in
+    ⊎_elim
+    (λ e. subst P (sym e) (ap (length {A = ℕ}) (get_or-set_same m.shared v (set_row m v i w) [] h) ∙ length-set (get_or m.shared v []) i w))
+    (λ d. ap (length {A = ℕ}) (get_or-set_other m.shared v u (set_row m v i w) [] d)) (cases_eq u v)
 
-set_length : (rows : List (List ℕ)) (u v x : ℕ) → v < length rows → 0 < length (get_or rows u [])
-    → 0 < length (get_or (slice_set rows v (set_row rows v x)) u [])
-set_length rows u v x h k = ⊎_elim same other (cases_eq u v)
+-- past the end nothing changes
+pub word_past : (m : Variables) (v i w u j : ℕ) → v < length m.shared → length (get_or m.shared v []) ≤ i
+    → word_at (with_word m (Shared v) i w) (Shared u) j ≡ word_at m (Shared u) j
+word_past m v i w u j h past = ⊎_elim (λ a. ⊎_elim (both a) (λ d. word_other m v i w u j h (λ e. d)) (cases_eq j i))
+    (λ d. word_other m v i w u j h (λ e. absurd (d e))) (cases_eq u v)
   where
-    same : u ≡ v → 0 < length (get_or (slice_set rows v (set_row rows v x)) u [])
-    same e =
-        let P : ℕ → Type 0 = λ j. 0 < length (get_or (slice_set rows v (set_row rows v x)) j []) in
-        let Q : ℕ → Type 0 = λ j. 0 < length (get_or rows j []) in
-        let full : 0 < length (get_or rows v []) = subst Q e k in
-        let l = ap (length {A = ℕ}) (get_or-set_same rows v (set_row rows v x) [] h) ∙ length-set (get_or rows v []) 0 x in
-        subst P (sym e) (omega (arith, l, full))
+    both : u ≡ v → j ≡ i → word_at (with_word m (Shared v) i w) (Shared u) j ≡ word_at m (Shared u) j
+    both a b =
+        let P : ℕ → Type 0 = λ z. word_at (with_word m (Shared v) i w) (Shared z) j ≡ word_at m (Shared z) j in
+        let Q : ℕ → Type 0 = λ z. word_at (with_word m (Shared v) i w) (Shared v) z ≡ word_at m (Shared v) z in
+        let l = row_length m v i w v h in
+        subst P (sym a) (subst Q (sym b)
+        (get_or_past (get_or (with_word m (Shared v) i w).shared v []) i 0 (omega (arith, l, past)) ∙ sym (get_or_past (get_or m.shared v []) i 0 past)))
 
-    other : (u ≡ v → ⊥) → 0 < length (get_or (slice_set rows v (set_row rows v x)) u [])
-    other ne = let l = ap (length {A = ℕ}) (get_or-set_other rows v u (set_row rows v x) [] ne) in omega (arith, l, k)
-
-pub shared_set : (p : Places) (capacity v x : ℕ) (m : Variables) (f : ℕ → ℕ) (locals : ℕ → Option ℕ) → AreApart p capacity → IsScalarAt p v
-    → HoldVariables p m f locals → HoldVariables p (with_word m (Shared v) 0 x) (put f (address_of p v) x) locals
-shared_set p capacity v x m f locals apart scalar h = record {
-  words = λ u k. ⊎_elim (same u) (other u k) (cases_eq u v);
-  rows = λ u k. let a = h.rows u k in let l = length-set m.shared v (slice_set (get_or m.shared v []) 0 x) in omega (arith, a, l);
-  scalars = λ u k. set_length m.shared u v x (h.rows v scalar) (h.scalars u k);
+pub set_holds : (p : Places) (v i w : ℕ) (m : Variables) (f g : ℕ → ℕ) (locals : ℕ → Option ℕ) → v < length m.shared → HoldVariables p m f locals
+    → ((u : ℕ) → IsScalarAt p u → g (address_of p u) ≡ word_at (with_word m (Shared v) i w) (Shared u) 0)
+    → ((x : Element) → IsElement p x → own_word p g (slice_get p.variables x.array) x.index ≡ word_at (with_word m (Shared v) i w) (Shared x.array) x.index)
+    → HoldVariables p (with_word m (Shared v) i w) g locals
+set_holds p v i w m f g locals inside h words elements = record {
+  words = words;
+  elements = elements;
+  rows = λ u place at. let a = h.rows u place at in let l = length-set m.shared v (set_row m v i w) in omega (arith, a, l);
+  lengths = λ u place at. row_length m v i w u inside ∙ h.lengths u place at;
   locals = h.locals;
   local_count = h.local_count;
 }
-  where
-    same : (u : ℕ) → u ≡ v → put f (address_of p v) x (address_of p u) ≡ word_at (with_word m (Shared v) 0 x) (Shared u) 0
-    same u e =
-        let P : ℕ → Type 0 = λ j. put f (address_of p v) x (address_of p j) ≡ word_at (with_word m (Shared v) 0 x) (Shared j) 0 in
-        subst P (sym e) (put_same f (address_of p v) x (address_of p v) refl ∙ sym (set_word m.shared v x (h.rows v scalar) (h.scalars v scalar)))
 
-    other : (u : ℕ) → IsScalarAt p u → (u ≡ v → ⊥) → put f (address_of p v) x (address_of p u) ≡ word_at (with_word m (Shared v) 0 x) (Shared u) 0
-    other u k ne =
-        put_other f (address_of p v) x (address_of p u) (λ e. ne (apart.distinct u v k scalar e)) ∙ h.words u k
-        ∙ sym (ap (λ r. get_or r 0 0) (get_or-set_other m.shared v u (slice_set (get_or m.shared v []) 0 x) [] ne))
+-- ---- words that stay
 
-pub shared_set_emits : (p : Places) (capacity v x : ℕ) (emitted : List ℕ) (f : ℕ → ℕ) → AreApart p capacity → IsScalarAt p v → length emitted ≤ capacity
-    → HoldEmits p emitted f → HoldEmits p emitted (put f (address_of p v) x)
-shared_set_emits p capacity v x emitted f apart scalar few h =
-    let low = apart.variables v scalar in
+own_same_at : (p : Places) (f g : ℕ → ℕ) (x : Element) (elements length : ℕ) (copies : Option ArrayCopies) → IsArrayAt p x.array elements length copies
+    → x.index < length
+    → g p.words.version ≡ f p.words.version → g (element_address p x) ≡ f (element_address p x)
+    → (IsCopied p x → g (copy_address p x) ≡ f (copy_address p x)) → (IsCopied p x → g (version_address p x) ≡ f (version_address p x))
+    → own_word p g (Some (Array elements length copies)) x.index ≡ own_word p f (Some (Array elements length copies)) x.index
+own_same_at p f g x elements length None at below ver e c n =
+    sym (ap g (element_is p x elements length None at)) ∙ e ∙ ap f (element_is p x elements length None at)
+own_same_at p f g x elements length (Some k) at below ver e c n =
+    let is : IsCopied p x = record { elements = elements; length = length; copies = k; is_array = at; below = below } in
+    let at_element = element_is p x elements length (Some k) at in
+    let at_copy = copy_is p x elements length k at in
+    let at_version = version_is p x elements length k at in
+    let same_element = sym (ap g at_element) ∙ e ∙ ap f at_element in
+    let same_copy = sym (ap g at_copy) ∙ c is ∙ ap f at_copy in
+    let same_version = sym (ap g at_version) ∙ n is ∙ ap f at_version in
+    let i = x.index in
+    ap (λ z. if z == g (2 * i + k.versions) then g (2 * i + k.copies) else g (2 * i + elements)) ver
+    ∙ ap (λ z. if f p.words.version == z then g (2 * i + k.copies) else g (2 * i + elements)) same_version
+    ∙ ap (λ z. if f p.words.version == f (2 * i + k.versions) then z else g (2 * i + elements)) same_copy
+    ∙ ap (λ z. if f p.words.version == f (2 * i + k.versions) then f (2 * i + k.copies) else z) same_element
+
+-- an element whose words stay is the same one
+pub own_same : (p : Places) (f g : ℕ → ℕ) (x : Element) → IsElement p x → g p.words.version ≡ f p.words.version
+    → g (element_address p x) ≡ f (element_address p x)
+    → (IsCopied p x → g (copy_address p x) ≡ f (copy_address p x)) → (IsCopied p x → g (version_address p x) ≡ f (version_address p x))
+    → own_word p g (slice_get p.variables x.array) x.index ≡ own_word p f (slice_get p.variables x.array) x.index
+own_same p f g x is ver e c n =
+    ap (λ o. own_word p g o x.index) is.is_array.place ∙ own_same_at p f g x is.elements is.length is.copies is.is_array is.below ver e c n
+    ∙ sym (ap (λ o. own_word p f o x.index) is.is_array.place)
+
+-- VER and the words that the task works on stay
+pub record SpotsStay (p : Places) (f g : ℕ → ℕ) : Type 0 where
+  pub version : g p.words.version ≡ f p.words.version
+  pub spots : (s : Spot) → IsSpot p s → g (spot_address p s) ≡ f (spot_address p s)
+
+pub same_variables : (p : Places) (m : Variables) (f g : ℕ → ℕ) (locals : ℕ → Option ℕ) → SpotsStay p f g → HoldVariables p m f locals
+    → HoldVariables p m g locals
+same_variables p m f g locals k h = record {
+  words = λ u is. k.spots (scalar u) is ∙ h.words u is;
+  elements = λ x is. own_same p f g x is k.version (k.spots (element x) is) (k.spots (copy x)) (k.spots (version x)) ∙ h.elements x is;
+  rows = h.rows;
+  lengths = h.lengths;
+  locals = h.locals;
+  local_count = h.local_count;
+}
+
+-- the list stays, with the version words
+pub record ListStays (p : Places) (room : Room) (f g : ℕ → ℕ) : Type 0 where
+  pub version : g p.words.version ≡ f p.words.version
+  pub list_length : g p.words.list_length ≡ f p.words.list_length
+  pub entries : (a : ℕ) → p.list ≤ a → a + 2 ≤ p.list + 4 * room.list → g a ≡ f a
+  pub marks : (x : Element) → IsCopied p x → g (version_address p x) ≡ f (version_address p x)
+
+pub all_of : (P : Element → Type 0) (xs : List Element) (x : Element) → All P xs → Contains xs x → P x
+all_of P xs x h k = subst P k.2 (h k.0 x k.1)
+
+pub same_list : (p : Places) (room : Room) (listed : List Element) (f g : ℕ → ℕ) → length listed ≤ room.list → ListStays p room f g → HoldList p listed f
+    → HoldList p listed g
+same_list p room listed f g few k h = record {
+  are_listed = h.are_listed;
+  list_length = k.list_length ∙ h.list_length;
+  homes = λ i x e. let l = slice_get_within listed i x e in k.entries (4 * i + p.list) (omega arith) (omega (arith, l, few)) ∙ h.homes i x e;
+  copies = λ i x e. let l = slice_get_within listed i x e in k.entries (4 * i + p.list + 2) (omega arith) (omega (arith, l, few)) ∙ h.copies i x e;
+  marked = λ x c. k.marks x (all_of (IsCopied p) listed x h.are_listed.copied c) ∙ h.marked x c ∙ sym k.version;
+  only_marked = λ x is e. h.only_marked x is (sym (k.marks x is) ∙ e ∙ k.version);
+}
+
+-- the emitted words stay
+pub record EmitsStay (p : Places) (room : Room) (f g : ℕ → ℕ) : Type 0 where
+  pub emit_count : g p.words.emit_count ≡ f p.words.emit_count
+  pub buffer : (i : ℕ) → i < room.emits → g (2 * i + p.emits) ≡ f (2 * i + p.emits)
+
+pub same_emits : (p : Places) (room : Room) (emitted : List ℕ) (f g : ℕ → ℕ) → length emitted ≤ room.emits → EmitsStay p room f g → HoldEmits p emitted f
+    → HoldEmits p emitted g
+same_emits p room emitted f g few k h = record {
+  emit_count = k.emit_count ∙ h.emit_count;
+  emits = λ i l. k.buffer i (omega (arith, l, few)) ∙ h.emits i l;
+}
+
+-- ---- a store to a word that the task works on
+
+pub spot_list : (p : Places) (room : Room) (s : Spot) (w : ℕ) (f : ℕ → ℕ) → AreApart p room → IsSpot p s → ((x : Element) → version x ≡ s → ⊥)
+    → ListStays p room f (put f (spot_address p s) w)
+spot_list p room s w f apart is ne =
+    let low = apart.spots s is in
+    let a = spot_address p s in
     record {
-      list_length = put_other f (address_of p v) x p.words.list_length (λ e. omega (arith, e, low, apart)) ∙ h.list_length;
-      emit_count = put_other f (address_of p v) x p.words.emit_count (λ e. omega (arith, e, low, apart)) ∙ h.emit_count;
-      emits = λ i l. put_other f (address_of p v) x (2 * i + p.emits) (λ e. omega (arith, e, l, low, few)) ∙ h.emits i l;
+      version = put_other f a w p.words.version (λ e. omega (arith, e, low, apart));
+      list_length = put_other f a w p.words.list_length (λ e. omega (arith, e, low, apart));
+      entries = λ b from to. put_other f a w b (λ e. omega (arith, e, low, apart, to));
+      marks = λ x k. put_other f a w (version_address p x) (λ e. ne x (apart.distinct (version x) s k is e));
     }
+
+pub spot_emits : (p : Places) (room : Room) (s : Spot) (w : ℕ) (f : ℕ → ℕ) → AreApart p room → IsSpot p s → EmitsStay p room f (put f (spot_address p s) w)
+spot_emits p room s w f apart is =
+    let low = apart.spots s is in
+    let a = spot_address p s in
+    record {
+      emit_count = put_other f a w p.words.emit_count (λ e. omega (arith, e, low, apart));
+      buffer = λ i l. put_other f a w (2 * i + p.emits) (λ e. omega (arith, e, low, l));
+    }
+
+-- ---- an assignment to a shared scalar
+
+scalar_row : (p : Places) (v : ℕ) (o : Option VariablePlace) (m : Variables) (f : ℕ → ℕ) (locals : ℕ → Option ℕ) → slice_get p.variables v ≡ o
+    → IsScalarPlace o → HoldVariables p m f locals
+    → (v < length m.shared) × (0 < length (get_or m.shared v []))
+scalar_row p v (Some (Scalar home other)) m f locals at is h =
+    let l = h.lengths v (Scalar home other) at in
+    (h.rows v (Scalar home other) at, omega (arith, l))
+scalar_row p v (Some (Array elements length copies)) m f locals at is h = absurd is
+scalar_row p v None m f locals at is h = absurd is
+
+pub scalar_set : (p : Places) (room : Room) (v w : ℕ) (m : Variables) (f : ℕ → ℕ) (locals : ℕ → Option ℕ) → AreApart p room → IsScalarAt p v
+    → HoldVariables p m f locals → HoldVariables p (with_word m (Shared v) 0 w) (put f (address_of p v) w) locals
+scalar_set p room v w m f locals apart is h =
+    set_holds p v 0 w m f (put f (address_of p v) w) locals row.0 h (λ u k. ⊎_elim (same u) (other u k) (cases_eq u v)) elements
+  where
+    row : (v < length m.shared) × (0 < length (get_or m.shared v []))
+    row = scalar_row p v (slice_get p.variables v) m f locals refl is h
+
+    same : (u : ℕ) → u ≡ v → put f (address_of p v) w (address_of p u) ≡ word_at (with_word m (Shared v) 0 w) (Shared u) 0
+    same u e =
+        let P : ℕ → Type 0 = λ j. put f (address_of p v) w (address_of p j) ≡ word_at (with_word m (Shared v) 0 w) (Shared j) 0 in
+        subst P (sym e) (put_same f (address_of p v) w (address_of p v) refl ∙ sym (word_same m v 0 w row.0 row.1))
+
+    keeps : (s : Spot) → IsSpot p s → (s ≡ scalar v → ⊥) → put f (address_of p v) w (spot_address p s) ≡ f (spot_address p s)
+    keeps s k ne = put_other f (address_of p v) w (spot_address p s) (λ e. ne (apart.distinct s (scalar v) k is e))
+
+    other : (u : ℕ) → IsScalarAt p u → (u ≡ v → ⊥) → put f (address_of p v) w (address_of p u) ≡ word_at (with_word m (Shared v) 0 w) (Shared u) 0
+    other u k ne =
+        keeps (scalar u) k (λ e. let d : u ≡ v = cc in ne d) ∙ h.words u k ∙ sym (word_other m v 0 w u 0 row.0 (λ e. absurd (ne e)))
+
+    elements : (x : Element) → IsElement p x
+        → own_word p (put f (address_of p v) w) (slice_get p.variables x.array) x.index ≡ word_at (with_word m (Shared v) 0 w) (Shared x.array) x.index
+    elements x k =
+        let low = apart.spots (scalar v) is in
+        let ver = put_other f (address_of p v) w p.words.version (λ e. omega (arith, e, low, apart)) in
+        let array : x.array ≡ v → ⊥ = λ e. no_scalar p x.array k.elements k.length k.copies k.is_array (subst (IsScalarAt p) (sym e) is) in
+        own_same p f (put f (address_of p v) w) x k ver (keeps (element x) k (λ e. cc)) (λ c. keeps (copy x) c (λ e. cc)) (λ c. keeps (version x) c (λ e. cc))
+        ∙ h.elements x k ∙ sym (word_other m v 0 w x.array x.index row.0 (λ e. absurd (array e)))
 
 -- ---- an assignment to a local
 
@@ -97,29 +238,41 @@ local_holds p n v m f locals few h =
     let count = h.local_count in
     subst P (sym (small_modulo n few)) (record {
       words = h.words;
+      elements = h.elements;
       rows = h.rows;
-      scalars = h.scalars;
+      lengths = h.lengths;
       locals = local_set locals m.locals n v (omega (arith, few, count)) h.locals;
       local_count = length-set m.locals n v ∙ h.local_count;
     })
 
 -- ---- a word more in the buffer
 
-pub emitted_variables : (p : Places) (capacity v n c : ℕ) (m : Variables) (f : ℕ → ℕ) (locals : ℕ → Option ℕ) → AreApart p capacity → n < capacity
-    → HoldVariables p m f locals → HoldVariables p m (put (put f (2 * n + p.emits) v) p.words.emit_count c) locals
-emitted_variables p capacity v n c m f locals apart few h = record {
-  words = λ u k.
-      let low = apart.variables u k in
-      put_other (put f (2 * n + p.emits) v) p.words.emit_count c (address_of p u) (λ e. omega (arith, e, low, apart))
-      ∙ put_other f (2 * n + p.emits) v (address_of p u) (λ e. omega (arith, e, low, few)) ∙ h.words u k;
-  rows = h.rows;
-  scalars = h.scalars;
-  locals = h.locals;
-  local_count = h.local_count;
+-- FRAM with a word in the buffer, and another count
+abbrev pub after_emit : Places → ℕ → ℕ → ℕ → (ℕ → ℕ) → ℕ → ℕ
+after_emit p n v c f = put (put f (2 * n + p.emits) v) p.words.emit_count c
+
+emit_keeps : (p : Places) (n v c a : ℕ) (f : ℕ → ℕ) → (a ≡ 2 * n + p.emits → ⊥) → (a ≡ p.words.emit_count → ⊥) → after_emit p n v c f a ≡ f a
+emit_keeps p n v c a f d e = put_other (put f (2 * n + p.emits) v) p.words.emit_count c a e ∙ put_other f (2 * n + p.emits) v a d
+
+pub emit_spots : (p : Places) (room : Room) (n v c : ℕ) (f : ℕ → ℕ) → AreApart p room → n < room.emits → SpotsStay p f (after_emit p n v c f)
+emit_spots p room n v c f apart few = record {
+  version = emit_keeps p n v c p.words.version f (λ e. omega (arith, e, apart)) (λ e. omega (arith, e, apart));
+  spots = λ s is. let low = apart.spots s is in emit_keeps p n v c (spot_address p s) f (λ e. omega (arith, e, low, few)) (λ e. omega (arith, e, low, apart));
 }
 
+pub emit_list : (p : Places) (room : Room) (n v c : ℕ) (f : ℕ → ℕ) → AreApart p room → n < room.emits → ListStays p room f (after_emit p n v c f)
+emit_list p room n v c f apart few =
+    let k = emit_spots p room n v c f apart few in
+    record {
+      version = k.version;
+      list_length = emit_keeps p n v c p.words.list_length f (λ e. omega (arith, e, apart)) (λ e. omega (arith, e, apart));
+      entries = λ a from to. emit_keeps p n v c a f (λ e. omega (arith, e, apart, to)) (λ e. omega (arith, e, apart, from));
+      marks = λ x is. k.spots (version x) is;
+    }
+
 -- the words in the buffer
-buffer_words : (p : Places) (v n : ℕ) (emitted : List ℕ) (f : ℕ → ℕ) → n ≡ length emitted → ((i : ℕ) → i < length emitted → f (2 * i + p.emits) ≡ get_or emitted i 0)
+buffer_words : (p : Places) (v n : ℕ) (emitted : List ℕ) (f : ℕ → ℕ) → n ≡ length emitted
+    → ((i : ℕ) → i < length emitted → f (2 * i + p.emits) ≡ get_or emitted i 0)
     → (i : ℕ) → i ≤ length emitted → put f (2 * n + p.emits) v (2 * i + p.emits) ≡ get_or (emitted ++ v ∷ []) i 0
 buffer_words p v n emitted f count h i l = ⊎_elim same other (cases_eq i (length emitted))
   where
@@ -137,13 +290,12 @@ buffer_words p v n emitted f count h i l = ⊎_elim same other (cases_eq i (leng
 at_most : (i n m : ℕ) → i < m → m ≡ n + 1 → i ≤ n
 at_most i n m h e = omega (arith, h, e)
 
-pub emitted_emits : (p : Places) (capacity v : ℕ) (emitted : List ℕ) (f : ℕ → ℕ) → AreApart p capacity → length emitted < capacity → HoldEmits p emitted f
-    → HoldEmits p (emitted ++ v ∷ []) (put (put f (2 * f p.words.emit_count + p.emits) v) p.words.emit_count (f p.words.emit_count + 1))
-emitted_emits p capacity v emitted f apart few h =
+pub emitted_emits : (p : Places) (room : Room) (v : ℕ) (emitted : List ℕ) (f : ℕ → ℕ) → AreApart p room → HoldEmits p emitted f
+    → HoldEmits p (emitted ++ v ∷ []) (after_emit p (f p.words.emit_count) v (f p.words.emit_count + 1) f)
+emitted_emits p room v emitted f apart h =
     let n = f p.words.emit_count in
     let g : ℕ → ℕ = put f (2 * n + p.emits) v in
     record {
-      list_length = put_other g p.words.emit_count (n + 1) p.words.list_length (λ e. omega (arith, e, apart)) ∙ put_other f (2 * n + p.emits) v p.words.list_length (λ e. omega (arith, e, apart)) ∙ h.list_length;
       emit_count = put_same g p.words.emit_count (n + 1) p.words.emit_count refl ∙ ap (λ j. j + 1) h.emit_count ∙ sym (length-append emitted (v ∷ []));
       emits = λ i l. put_other g p.words.emit_count (n + 1) (2 * i + p.emits) (λ e. omega (arith, e, apart))
           ∙ buffer_words p v n emitted f h.emit_count h.emits i (at_most i (length emitted) (length (emitted ++ v ∷ [])) l (length-append emitted (v ∷ [])));

@@ -1,32 +1,35 @@
 -- The program of a transition.
-use Rattle.std.proofs.Common.{◌≡◌, ℕ, ◌+◌, ◌*◌, ◌%◌, ◌==◌, ◌<◌, ◌≤◌, List, [], ◌∷◌, ◌++◌, length, Bool, true, false, refl, sym, ap, ◌∙◌, subst, arith, eq-eqb, append_assoc, if◌then◌else◌}
-use Rattle.fram_board.specs.Effects.{Effect, Store, Take, Send}
+use Rattle.std.proofs.Common.{◌≡◌, ℕ, ◌+◌, ◌*◌, ◌%◌, ◌≤◌, List, [], ◌∷◌, ◌++◌, length, true, refl, sym, ap, ◌∙◌, arith, eq-eqb, append_assoc, if◌then◌else◌}
+use Rattle.fram_board.specs.Effects.{Effect, Store}
 use Rattle.machine_effects.specs.World.{put, fram_after}
-use Rattle.source_values.specs.Statements.{Attempt, to_task}
-use Rattle.array_versions.specs.Program.{Step, Program, list_entry, store_number, move_word, jump, nothing, step, joined}
-use Rattle.array_versions.specs.Behaviour.{WordState, End, GoesOn, Jumps, Behaviour, behaves, goes_on, strays, broken, behind_effects, on_end, then_on, is_place, at_place, stored, word_stored, entry_stored, jumped, step_behaviour, behaviour}
+use Rattle.array_versions.specs.Program.{Program, store_number, move_word, jump, nothing, step, joined}
+use Rattle.array_versions.specs.Behaviour.{WordState, Jumps, Behaviour, behaves, goes_on, broken, behind_effects, then_on, is_place, at_place, word_stored, entry_stored, jumped, step_behaviour, behaviour}
 use Rattle.array_versions.proofs.Joined.{joined_go_on}
 use Rattle.privatise.specs.declared.place.PrivateScalar.{PrivateScalar}
 use Rattle.lower.specs.Places.{Places}
 use Rattle.lower.specs.Lowered.{one, entries, lowered_transition}
-use Rattle.lower.specs.Agreement.{AreApart, AreEven, StandsFor, entry_effects, transition_effects, Left, Agrees}
-use Rattle.lower.proofs.Values.{fram_place, placed}
-use Rattle.lower.proofs.Stored.{put_same, put_other}
+use Rattle.lower.specs.Spots.{Room, AreApart, AreEven}
+use Rattle.lower.specs.Agreement.{entry_effects, transition_effects}
+use Rattle.lower.proofs.Addresses.{fram_place, placed, put_same, put_other}
 
 -- FRAM after an entry
-abbrev after_entry : ℕ → ℕ → ℕ → PrivateScalar → (ℕ → ℕ) → (ℕ → ℕ)
-after_entry count list i s f = put (put (put f (4 * i + list) s.home) (4 * i + list + 2) s.copy) count (i + 1)
+abbrev pub after_entry : ℕ → ℕ → ℕ → ℕ → ℕ → (ℕ → ℕ) → ℕ → ℕ
+after_entry count list i home copy f = put (put (put f (4 * i + list) home) (4 * i + list + 2) copy) count (i + 1)
 
 -- one entry, the i-th
-entry_behaves : (count list i : ℕ) (s : PrivateScalar) (w : WordState) → w.fram count ≡ i → is_place count ≡ true → is_place (4 * i + list) ≡ true → is_place (4 * i + list + 2) ≡ true
-    → entry_stored count list s.home s.copy w
-    ≡ goes_on (Store (4 * i + list) s.home ∷ Store (4 * i + list + 2) s.copy ∷ Store count (i + 1) ∷ []) (record w { fram = after_entry count list i s w.fram })
-entry_behaves count list i s w e c a b =
-    let es : List Effect = Store (4 * i + list) s.home ∷ Store (4 * i + list + 2) s.copy ∷ Store count (i + 1) ∷ [] in
-    let last : Behaviour = goes_on es (record w { fram = after_entry count list i s w.fram }) in
+pub entry_behaves : (count list i home copy : ℕ) (w : WordState) → w.fram count ≡ i → is_place count ≡ true → is_place (4 * i + list) ≡ true
+    → is_place (4 * i + list + 2) ≡ true
+    → entry_stored count list home copy w
+    ≡ goes_on (Store (4 * i + list) home ∷ Store (4 * i + list + 2) copy ∷ Store count (i + 1) ∷ [])
+    (record w { fram = after_entry count list i home copy w.fram })
+entry_behaves count list i home copy w e c a b =
+    let es : List Effect = Store (4 * i + list) home ∷ Store (4 * i + list + 2) copy ∷ Store count (i + 1) ∷ [] in
+    let last : Behaviour = goes_on es (record w { fram = after_entry count list i home copy w.fram }) in
     let made : ℕ → Behaviour = λ n. at_place count (at_place (4 * n + list) (at_place (4 * n + list + 2)
-    (goes_on (Store (4 * n + list) s.home ∷ Store (4 * n + list + 2) s.copy ∷ Store count (n + 1) ∷ []) (record w { fram = after_entry count list n s w.fram })))) in
-    ap made e ∙ placed count (at_place (4 * i + list) (at_place (4 * i + list + 2) last)) c ∙ placed (4 * i + list) (at_place (4 * i + list + 2) last) a ∙ placed (4 * i + list + 2) last b
+    (goes_on (Store (4 * n + list) home ∷ Store (4 * n + list + 2) copy ∷ Store count (n + 1) ∷ [])
+    (record w { fram = after_entry count list n home copy w.fram })))) in
+    ap made e ∙ placed count (at_place (4 * i + list) (at_place (4 * i + list + 2) last)) c ∙ placed (4 * i + list) (at_place (4 * i + list + 2) last) a
+    ∙ placed (4 * i + list + 2) last b
 
 -- entries with room at even addresses of FRAM
 record HaveRoom (count list i n : ℕ) : Type 0 where
@@ -36,22 +39,24 @@ record HaveRoom (count list i n : ℕ) : Type 0 where
   even_count : count % 2 ≡ 0
   even_list : list % 2 ≡ 0
 
-even_at : (i list : ℕ) → list % 2 ≡ 0 → (4 * i + list) % 2 ≡ 0
+pub even_at : (i list : ℕ) → list % 2 ≡ 0 → (4 * i + list) % 2 ≡ 0
 even_at i list h = omega (arith, h)
 
-even_behind : (i list : ℕ) → list % 2 ≡ 0 → (4 * i + list + 2) % 2 ≡ 0
+pub even_behind : (i list : ℕ) → list % 2 ≡ 0 → (4 * i + list + 2) % 2 ≡ 0
 even_behind i list h = omega (arith, h)
 
 entries_behave : (count list : ℕ) (privates : List PrivateScalar) (i : ℕ) (w : WordState) → w.fram count ≡ i → HaveRoom count list i (length privates)
-    → behaviour (entries count list privates) w ≡ goes_on (entry_effects count list i privates) (record w { fram = fram_after (entry_effects count list i privates) w.fram })
+    → behaviour (entries count list privates) w ≡ goes_on (entry_effects count list i privates)
+    (record w { fram = fram_after (entry_effects count list i privates) w.fram })
 entries_behave count list [] i w e room = refl
 entries_behave count list (s ∷ more) i w e room =
-    let u : WordState = record w { fram = after_entry count list i s w.fram } in
-    let first = entry_behaves count list i s w e (fram_place count room.even_count room.low (omega (arith, room)))
+    let u : WordState = record w { fram = after_entry count list i s.home s.copy w.fram } in
+    let first = entry_behaves count list i s.home s.copy w e (fram_place count room.even_count room.low (omega (arith, room)))
     (fram_place (4 * i + list) (even_at i list room.even_list) (omega (arith, room)) (omega (arith, room)))
     (fram_place (4 * i + list + 2) (even_behind i list room.even_list) (omega (arith, room)) (omega (arith, room))) in
     let counted : u.fram count ≡ i + 1 = put_same (put (put w.fram (4 * i + list) s.home) (4 * i + list + 2) s.copy) count (i + 1) count refl in
-    let rest = entries_behave count list more (i + 1) u counted (record { low = room.low; above = room.above; high = omega (arith, room); even_count = room.even_count; even_list = room.even_list }) in
+    let rest = entries_behave count list more (i + 1) u counted
+    (record { low = room.low; above = room.above; high = omega (arith, room); even_count = room.even_count; even_list = room.even_list }) in
     ap (λ b. then_on b (behaviour (entries count list more))) first
     ∙ ap (behind_effects (Store (4 * i + list) s.home ∷ Store (4 * i + list + 2) s.copy ∷ Store count (i + 1) ∷ [])) rest
 
@@ -60,52 +65,73 @@ pub entries_keep : (count list : ℕ) (privates : List PrivateScalar) (i x : ℕ
     → fram_after (entry_effects count list i privates) f x ≡ f x
 entries_keep count list [] i x f ne low = refl
 entries_keep count list (s ∷ more) i x f ne low =
-    entries_keep count list more (i + 1) x (after_entry count list i s f) ne low
+    entries_keep count list more (i + 1) x (after_entry count list i s.home s.copy f) ne low
     ∙ put_other (put (put f (4 * i + list) s.home) (4 * i + list + 2) s.copy) count (i + 1) x ne
     ∙ put_other (put f (4 * i + list) s.home) (4 * i + list + 2) s.copy x (λ e. omega (arith, e, low))
     ∙ put_other f (4 * i + list) s.home x (λ e. omega (arith, e, low))
 
 -- SB := BASE, GATE := 1, and on to the commit
-close_behaves : (p : Places) (w : WordState) → is_place p.words.base ≡ true → is_place p.words.sent_base ≡ true → is_place p.words.gate ≡ true → p.commit % 2 ≡ 0
+close_behaves : (p : Places) (w : WordState) → is_place p.words.base ≡ true → is_place p.words.sent_base ≡ true → is_place p.words.gate ≡ true
+    → p.commit % 2 ≡ 0
     → behaviour (step (move_word p.words.base p.words.sent_base) (step (store_number p.words.gate 1) (one (jump p.commit)))) w
-    ≡ behaves (Store p.words.sent_base (w.fram p.words.base) ∷ Store p.words.gate 1 ∷ []) (Jumps p.commit (record w { fram = put (put w.fram p.words.sent_base (w.fram p.words.base)) p.words.gate 1 }))
+    ≡ behaves (Store p.words.sent_base (w.fram p.words.base) ∷ Store p.words.gate 1 ∷ [])
+    (Jumps p.commit (record w { fram = put (put w.fram p.words.sent_base (w.fram p.words.base)) p.words.gate 1 }))
 close_behaves p w base sent gate even =
     let v = w.fram p.words.base in
     let u : WordState = record w { fram = put w.fram p.words.sent_base v } in
     let x : WordState = record u { fram = put u.fram p.words.gate 1 } in
     let moved : step_behaviour (move_word p.words.base p.words.sent_base) w ≡ goes_on (Store p.words.sent_base v ∷ []) u =
     placed p.words.base (word_stored p.words.sent_base v w) base ∙ placed p.words.sent_base (goes_on (Store p.words.sent_base v ∷ []) u) sent in
-    let raised : step_behaviour (store_number p.words.gate 1) u ≡ goes_on (Store p.words.gate 1 ∷ []) x = placed p.words.gate (goes_on (Store p.words.gate 1 ∷ []) x) gate in
-    let left : jumped p.commit x ≡ behaves [] (Jumps p.commit x) = ap (λ b. if b then behaves [] (Jumps p.commit x) else broken) (eq-eqb (p.commit % 2) 0 even) in
+    let raised : step_behaviour (store_number p.words.gate 1) u ≡ goes_on (Store p.words.gate 1 ∷ []) x = placed p.words.gate
+    (goes_on (Store p.words.gate 1 ∷ []) x) gate in
+    let left : jumped p.commit x ≡ behaves [] (Jumps p.commit x) = ap (λ b. if b then behaves [] (Jumps p.commit x) else broken)
+    (eq-eqb (p.commit % 2) 0 even) in
     ap (λ b. then_on b (behaviour (step (store_number p.words.gate 1) (one (jump p.commit))))) moved
     ∙ ap (λ b. behind_effects (Store p.words.sent_base v ∷ []) (then_on b (behaviour (one (jump p.commit))))) raised
     ∙ ap (λ b. behind_effects (Store p.words.sent_base v ∷ []) (behind_effects (Store p.words.gate 1 ∷ []) (then_on b (behaviour nothing)))) left
 
 -- the whole transition
-pub transition_behaves : (p : Places) (capacity task : ℕ) (w : WordState) → AreApart p capacity → AreEven p → w.fram p.words.list_length ≡ 0
-    → (u : WordState) × (behaviour (lowered_transition p task) w ≡ behaves (transition_effects p task (w.fram p.words.base) ++ Store p.words.gate 1 ∷ []) (Jumps p.commit u)) × (u.readings ≡ w.readings)
-transition_behaves p capacity task w apart even none =
+pub transition_behaves : (p : Places) (room : Room) (task n : ℕ) (w : WordState) → AreApart p room → AreEven p → w.fram p.words.list_length ≡ n
+    → n + length p.privates ≤ room.list
+    → (u : WordState) × (behaviour (lowered_transition p task) w ≡ behaves (transition_effects p task n (w.fram p.words.base) ++ Store p.words.gate 1 ∷ [])
+    (Jumps p.commit u)) × (u.readings ≡ w.readings)
+transition_behaves p room task n w apart even listed fits =
     let count = p.words.list_length in
     let k = task % 65536 in
     let w1 : WordState = record w { fram = put w.fram p.words.next_task k } in
-    let es = entry_effects count p.list 0 p.privates in
+    let es = entry_effects count p.list n p.privates in
     let w2 : WordState = record w1 { fram = fram_after es w1.fram } in
     let close : Program = step (move_word p.words.base p.words.sent_base) (step (store_number p.words.gate 1) (one (jump p.commit))) in
     let base : ℕ = w2.fram p.words.base in
     let u : WordState = record w2 { fram = put (put w2.fram p.words.sent_base base) p.words.gate 1 } in
     let fs : List Effect = Store p.words.sent_base base ∷ Store p.words.gate 1 ∷ [] in
     let first : step_behaviour (store_number p.words.next_task k) w ≡ goes_on (Store p.words.next_task k ∷ []) w1 =
-    placed p.words.next_task (goes_on (Store p.words.next_task k ∷ []) w1) (fram_place p.words.next_task even.next_task (omega (arith, apart)) (omega (arith, apart))) in
-    let listed : w1.fram count ≡ 0 = put_other w.fram p.words.next_task k count (λ e. omega (arith, e, apart)) ∙ none in
-    let made = entries_behave count p.list p.privates 0 w1 listed (record { low = omega (arith, apart); above = omega (arith, apart); high = omega (arith, apart); even_count = even.list_length; even_list = even.list }) in
-    let closed = close_behaves p w2 (fram_place p.words.base even.base (omega (arith, apart)) (omega (arith, apart))) (fram_place p.words.sent_base even.sent_base (omega (arith, apart)) (omega (arith, apart)))
+    placed p.words.next_task (goes_on (Store p.words.next_task k ∷ []) w1)
+    (fram_place p.words.next_task even.next_task (omega (arith, apart)) (omega (arith, apart))) in
+    let counted : w1.fram count ≡ n = put_other w.fram p.words.next_task k count (λ e. omega (arith, e, apart)) ∙ listed in
+    let made = entries_behave count p.list p.privates n w1 counted
+    (record {
+      low = omega (arith, apart);
+      above = omega (arith, apart);
+      high = omega
+          (arith, apart, fits);
+      even_count = even.list_length;
+      even_list = even.list;
+    }) in
+    let closed = close_behaves p w2 (fram_place p.words.base even.base (omega (arith, apart)) (omega (arith, apart)))
+    (fram_place p.words.sent_base even.sent_base (omega (arith, apart)) (omega (arith, apart)))
     (fram_place p.words.gate even.gate (omega (arith, apart)) (omega (arith, apart))) even.commit in
     let kept : base ≡ w.fram p.words.base =
-    entries_keep count p.list p.privates 0 p.words.base w1.fram (λ e. omega (arith, e, apart)) (omega (arith, apart))
+    entries_keep count p.list p.privates n p.words.base w1.fram (λ e. omega (arith, e, apart)) (omega (arith, apart))
     ∙ put_other w.fram p.words.next_task k p.words.base (λ e. omega (arith, e, apart)) in
     let tail : behaviour (joined (entries count p.list p.privates) close) w1 ≡ behaves (es ++ fs) (Jumps p.commit u) =
     joined_go_on (entries count p.list p.privates) close w1 ∙ ap (λ b. then_on b (behaviour close)) made ∙ ap (behind_effects es) closed in
     let whole : behaviour (lowered_transition p task) w ≡ behaves (Store p.words.next_task k ∷ (es ++ fs)) (Jumps p.commit u) =
     ap (λ b. then_on b (behaviour (joined (entries count p.list p.privates) close))) first ∙ ap (behind_effects (Store p.words.next_task k ∷ [])) tail in
-    let in_order : es ++ fs ≡ (es ++ Store p.words.sent_base base ∷ []) ++ Store p.words.gate 1 ∷ [] = sym (append_assoc es (Store p.words.sent_base base ∷ []) (Store p.words.gate 1 ∷ [])) in
-    (u, whole ∙ ap (λ l. behaves (Store p.words.next_task k ∷ l) (Jumps p.commit u)) (in_order ∙ ap (λ b. (es ++ Store p.words.sent_base b ∷ []) ++ Store p.words.gate 1 ∷ []) kept), refl)
+    let in_order : es ++ fs ≡ (es ++ Store p.words.sent_base base ∷ []) ++ Store p.words.gate 1 ∷ [] = sym
+    (append_assoc es (Store p.words.sent_base base ∷ []) (Store p.words.gate 1 ∷ [])) in (
+      u,
+      whole ∙ ap (λ l. behaves (Store p.words.next_task k ∷ l) (Jumps p.commit u))
+          (in_order ∙ ap (λ b. (es ++ Store p.words.sent_base b ∷ []) ++ Store p.words.gate 1 ∷ []) kept),
+      refl,
+    )

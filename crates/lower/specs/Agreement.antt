@@ -1,7 +1,8 @@
 -- What it is that a word program does what the source does: the state that it works on stands for an attempt of the task, and its end
 -- for the outcome.
-use Rattle.std.specs.Prelude.{◌≡◌, ℕ, ◌+◌, ◌*◌, ◌%◌, ◌<◌, ◌≤◌, Bool, true, List, [], ◌∷◌, ◌++◌, length, Option, Some, None, slice_get, slice_index, slice_index_or}
+use Rattle.std.specs.Prelude.{◌≡◌, ℕ, ◌+◌, ◌*◌, ◌%◌, ◌<◌, ◌≤◌, ◌==◌, ◌⊎◌, Bool, true, if◌then◌else◌, Contains, List, [], ◌∷◌, ◌++◌, length, Option, Some, None, slice_get, slice_index, slice_index_or}
 use Rattle.fram_board.specs.Effects.{Effect, Store, Take, Send}
+use Rattle.machine_effects.specs.World.{fram_after}
 use Rattle.task_ast.specs.Tree as t
 use Rattle.task_ast.specs.Paths.{CheckedExpression, CheckedStatement, CheckedChoice, CheckedBlock}
 use Rattle.task_ast.specs.declared.names.Variable.{Variable}
@@ -9,53 +10,16 @@ use Rattle.task_ast.specs.declared.names.Variable.TheVariants.{Shared, Local}
 use Rattle.source_values.specs.Values.{Variables, word_at, value_of}
 use Rattle.source_values.specs.Statements.{Attempt, Outcome, goes_on, to_task, short, run_block, block_emits}
 use Rattle.array_versions.specs.Behaviour.{WordState, End, GoesOn, Jumps, Short, Strays, Broken, Behaviour, behaviour}
+use Rattle.cost_bound.specs.Counts.{stores_of}
+use Rattle.privatise.specs.declared.place.ArrayCopies.{ArrayCopies}
 use Rattle.privatise.specs.declared.place.VariablePlace.{VariablePlace}
 use Rattle.privatise.specs.declared.place.VariablePlace.TheVariants.{Scalar, Array}
 use Rattle.privatise.specs.declared.place.PrivateScalar.{PrivateScalar}
 use Rattle.lower.specs.Places.{Places, address_of}
+use Rattle.lower.specs.Spots.{IsScalarAt, IsArrayAt, Element, IsElement, IsCopied, element_address, copy_address, version_address, Room, AreApart, AreEven, listed_of, AreListed, HasRoom}
 use Rattle.lower.specs.Lowered.{lowered_expression, lowered_block}
 
--- ---- what is asked of places
-
--- the place of a scalar
-abbrev pub IsScalarPlace : Option VariablePlace → Type 0
-IsScalarPlace (Some (Scalar home copy)) = Unit {0}
-IsScalarPlace (Some (Array elements length copies)) = ⊥
-IsScalarPlace None = ⊥
-
--- the number of a shared scalar
-abbrev pub IsScalarAt : Places → ℕ → Type 0
-IsScalarAt p v = IsScalarPlace (slice_get p.variables v)
-
--- the words of the runtime, the list with room for an entry of each private scalar, the emit buffer with room for so many words, and
--- behind them the addresses of the scalars, each of its own
-pub record AreApart (p : Places) (capacity : ℕ) : Type 0 where
-  pub next_task : 0x4400 ≤ p.words.next_task
-  pub gate : p.words.next_task + 2 ≤ p.words.gate
-  pub list_length : p.words.gate + 2 ≤ p.words.list_length
-  pub emit_count : p.words.list_length + 2 ≤ p.words.emit_count
-  pub base : p.words.emit_count + 2 ≤ p.words.base
-  pub sent_base : p.words.base + 2 ≤ p.words.sent_base
-  pub list : p.words.sent_base + 2 ≤ p.list
-  pub emits : p.list + 4 * length p.privates ≤ p.emits
-  pub high : p.emits + 2 * capacity ≤ 0x10000
-  pub variables : (v : ℕ) → IsScalarAt p v → p.emits + 2 * capacity ≤ address_of p v
-  pub below : (v : ℕ) → IsScalarAt p v → address_of p v < 0x10000
-  pub distinct : (u v : ℕ) → IsScalarAt p u → IsScalarAt p v → address_of p u ≡ address_of p v → u ≡ v
-
-pub record AreEven (p : Places) : Type 0 where
-  pub next_task : p.words.next_task % 2 ≡ 0
-  pub gate : p.words.gate % 2 ≡ 0
-  pub list_length : p.words.list_length % 2 ≡ 0
-  pub emit_count : p.words.emit_count % 2 ≡ 0
-  pub base : p.words.base % 2 ≡ 0
-  pub sent_base : p.words.sent_base % 2 ≡ 0
-  pub list : p.list % 2 ≡ 0
-  pub emits : p.emits % 2 ≡ 0
-  pub commit : p.commit % 2 ≡ 0
-  pub variables : (v : ℕ) → IsScalarAt p v → address_of p v % 2 ≡ 0
-
--- ---- what is asked of a tree: its names are those of scalars and of locals, and it uses no arrays
+-- ---- what is asked of a tree: each name is used as it was declared
 
 -- a variable with an address or a number of its own
 abbrev pub IsKnown : Places → Variable → Type 0
@@ -67,6 +31,16 @@ abbrev pub IsTarget : Places → (ℕ → Bool) → Variable → Type 0
 IsTarget p written (Shared v) = IsScalarAt p v × (written v ≡ true)
 IsTarget p written (Local n) = n < 256
 
+-- a shared array
+abbrev pub IsArray : Places → Variable → Type 0
+IsArray p (Shared v) = (elements length : ℕ) × (copies : Option ArrayCopies) × IsArrayAt p v elements length copies
+IsArray p (Local n) = ⊥
+
+-- a shared array that may be written
+abbrev pub IsWrittenArray : Places → Variable → Type 0
+IsWrittenArray p (Shared v) = (elements length : ℕ) × (copies : ArrayCopies) × IsArrayAt p v elements length (Some copies)
+IsWrittenArray p (Local n) = ⊥
+
 -- a local
 abbrev pub IsLocal : Variable → Type 0
 IsLocal (Shared v) = ⊥
@@ -75,7 +49,7 @@ IsLocal (Local n) = n < 256
 abbrev pub ExpressionFits : Places → CheckedExpression → Type 0
 ExpressionFits p (t.number w) = Unit {0}
 ExpressionFits p (t.name x) = IsKnown p x.variable
-ExpressionFits p (t.element x index) = ⊥
+ExpressionFits p (t.element x index) = IsArray p x.variable × ExpressionFits p index
 ExpressionFits p t.sense = Unit {0}
 ExpressionFits p (t.unary op e) = ExpressionFits p e
 ExpressionFits p (t.binary op a b) = ExpressionFits p a × ExpressionFits p b
@@ -87,7 +61,7 @@ abbrev mutual
   StatementFits p written (t.declare of x None) = Unit {0}
   StatementFits p written (t.declare of x (Some e)) = ExpressionFits p e × IsTarget p written x.variable
   StatementFits p written (t.assign x e) = ExpressionFits p e × IsTarget p written x.variable
-  StatementFits p written (t.store x index e) = ⊥
+  StatementFits p written (t.store x index e) = IsWrittenArray p x.variable × ExpressionFits p index × ExpressionFits p e
   StatementFits p written (t.choose choice) = ChoiceFits p written choice
   StatementFits p written (t.loop x from tested below stepped body) = IsLocal x.variable × BlockFits p written body
   StatementFits p written (t.emit e) = ExpressionFits p e
@@ -104,44 +78,74 @@ abbrev mutual
 
 -- ---- what a state of words stands for
 
--- FRAM has each scalar's word at its address in the task, and each assigned local has its word
+-- how many words the variable at a place has
+abbrev pub place_length : VariablePlace → ℕ
+place_length (Scalar home copy) = 1
+place_length (Array elements length copies) = length
+
+-- an element as the attempt has it: its copy where its version word is VER, else the element itself
+abbrev pub own_word : Places → (ℕ → ℕ) → Option VariablePlace → ℕ → ℕ
+own_word p f (Some (Array elements length (Some c))) i =
+    if f p.words.version == f (2 * i + c.versions) then f (2 * i + c.copies) else f (2 * i + elements)
+own_word p f (Some (Array elements length None)) i = f (2 * i + elements)
+own_word p f (Some (Scalar home copy)) i = 0
+own_word p f None i = 0
+
+-- FRAM has each scalar's word at its address in the task, and each element where the attempt has it; and each assigned local has its
+-- word
 pub record HoldVariables (p : Places) (m : Variables) (fram : ℕ → ℕ) (found : ℕ → Option ℕ) : Type 0 where
   pub words : (v : ℕ) → IsScalarAt p v → fram (address_of p v) ≡ word_at m (Shared v) 0
-  pub rows : (v : ℕ) → IsScalarAt p v → v < length m.shared
-  pub scalars : (v : ℕ) → IsScalarAt p v → 0 < length (slice_index_or m.shared v [])
+  pub elements : (x : Element) → IsElement p x → own_word p fram (slice_get p.variables x.array) x.index ≡ word_at m (Shared x.array) x.index
+  pub rows : (v : ℕ) (place : VariablePlace) → slice_get p.variables v ≡ Some place → v < length m.shared
+  pub lengths : (v : ℕ) (place : VariablePlace) → slice_get p.variables v ≡ Some place → length (slice_index_or m.shared v []) ≡ place_length place
   pub locals : (n v : ℕ) → found n ≡ Some v → slice_index m.locals n ≡ v
   pub local_count : length m.locals ≡ 256
 
--- the emitted words stand in the buffer, as many as are counted, and no entry is listed yet
+-- the emitted words stand in the buffer, as many as are counted
 pub record HoldEmits (p : Places) (emitted : List ℕ) (fram : ℕ → ℕ) : Type 0 where
-  pub list_length : fram p.words.list_length ≡ 0
   pub emit_count : fram p.words.emit_count ≡ length emitted
   pub emits : (i : ℕ) → i < length emitted → fram (2 * i + p.emits) ≡ slice_index emitted i
 
--- a state stands for an attempt
-pub record StandsFor (p : Places) (m : Attempt) (w : WordState) : Type 0 where
+-- these elements have entries in the commit list, as many as are counted, each a home and its copy; they are those whose version word
+-- is VER
+pub record HoldList (p : Places) (listed : List Element) (fram : ℕ → ℕ) : Type 0 where
+  pub are_listed : AreListed p listed
+  pub list_length : fram p.words.list_length ≡ length listed
+  pub homes : (i : ℕ) (x : Element) → slice_get listed i ≡ Some x → fram (4 * i + p.list) ≡ element_address p x
+  pub copies : (i : ℕ) (x : Element) → slice_get listed i ≡ Some x → fram (4 * i + p.list + 2) ≡ copy_address p x
+  pub marked : (x : Element) → Contains listed x → fram (version_address p x) ≡ fram p.words.version
+  pub only_marked : (x : Element) → IsCopied p x → fram (version_address p x) ≡ fram p.words.version → Contains listed x
+
+-- a state stands for an attempt, with these elements listed
+pub record StandsFor (p : Places) (m : Attempt) (listed : List Element) (w : WordState) : Type 0 where
   pub variables : HoldVariables p m.variables w.fram w.locals
   pub emitted : HoldEmits p m.emitted w.fram
+  pub list : HoldList p listed w.fram
   pub readings : w.readings ≡ m.left
 
 -- ---- effects
 
--- effects that take readings and make stores of this kind, and send nothing
-abbrev pub TakesAndStores : (ℕ → Type 0) → List Effect → Type 0
+-- effects that take readings and make stores of this kind, by address and word, and send nothing
+abbrev pub TakesAndStores : (ℕ → ℕ → Type 0) → List Effect → Type 0
 TakesAndStores P [] = Unit {0}
-TakesAndStores P (Store a w ∷ es) = P a × TakesAndStores P es
+TakesAndStores P (Store a w ∷ es) = P a w × TakesAndStores P es
 TakesAndStores P (Take r ∷ es) = TakesAndStores P es
 TakesAndStores P (Send n w ∷ es) = ⊥
 
 -- effects that take readings alone
 abbrev pub OnlyTakes : List Effect → Type 0
-OnlyTakes = TakesAndStores (λ a. ⊥)
+OnlyTakes = TakesAndStores (λ a w. ⊥)
 
--- where statements store: at the addresses of the scalars that they write, at the count of emitted words, and in their buffer
-pub data IsTaskStore (p : Places) (written : ℕ → Bool) (capacity : ℕ) (a : ℕ) : Type 0 where
-  at_variable : (v : ℕ) → IsScalarAt p v → written v ≡ true → a ≡ address_of p v → IsTaskStore p written capacity a
-  at_count : a ≡ p.words.emit_count → IsTaskStore p written capacity a
-  in_buffer : (i : ℕ) → i < capacity → a ≡ 2 * i + p.emits → IsTaskStore p written capacity a
+-- what statements store, VER being this number: words of the scalars that they write, copies and version words of elements, entries
+-- of the commit list with their count, and emitted words with theirs
+pub data IsTaskStore (p : Places) (written : ℕ → Bool) (room : Room) (ver : ℕ) (a w : ℕ) : Type 0 where
+  at_variable : (v : ℕ) → IsScalarAt p v → written v ≡ true → a ≡ address_of p v → IsTaskStore p written room ver a w
+  at_copy : (x : Element) → IsCopied p x → a ≡ copy_address p x → IsTaskStore p written room ver a w
+  at_version : (x : Element) → IsCopied p x → a ≡ version_address p x → w ≡ ver → IsTaskStore p written room ver a w
+  in_list : (i : ℕ) → i < room.list → (a ≡ 4 * i + p.list) ⊎ (a ≡ 4 * i + p.list + 2) → IsTaskStore p written room ver a w
+  at_list_length : a ≡ p.words.list_length → w ≤ room.list → IsTaskStore p written room ver a w
+  at_emit_count : a ≡ p.words.emit_count → w ≤ room.emits → IsTaskStore p written room ver a w
+  in_buffer : (i : ℕ) → i < room.emits → a ≡ 2 * i + p.emits → IsTaskStore p written room ver a w
 
 -- entries of the commit list from number i on, each a home and its copy, with the count raised behind each
 abbrev pub entry_effects : ℕ → ℕ → ℕ → List PrivateScalar → List Effect
@@ -149,10 +153,10 @@ entry_effects count list i [] = []
 entry_effects count list i (s ∷ more) =
     Store (4 * i + list) s.home ∷ Store (4 * i + list + 2) s.copy ∷ Store count (i + 1) ∷ entry_effects count list (i + 1) more
 
--- a transition up to the gate: NEXT, an entry for each private scalar, SB := BASE
-abbrev pub transition_effects : Places → ℕ → ℕ → List Effect
-transition_effects p task base =
-    Store p.words.next_task (task % 65536) ∷ entry_effects p.words.list_length p.list 0 p.privates ++ Store p.words.sent_base base ∷ []
+-- a transition up to the gate, with so many entries in the list: NEXT, an entry for each private scalar, SB := BASE
+abbrev pub transition_effects : Places → ℕ → ℕ → ℕ → List Effect
+transition_effects p task entries base =
+    Store p.words.next_task (task % 65536) ∷ entry_effects p.words.list_length p.list entries p.privates ++ Store p.words.sent_base base ∷ []
 
 -- ---- an expression
 
@@ -176,47 +180,75 @@ AgreesWithValue w b o = OnlyTakes b.effects × EndsWithValue w b.end o
 
 -- the program of an expression leaves its value
 abbrev pub ExpressionsAgree : Type 0
-ExpressionsAgree = (p : Places) (capacity : ℕ) (e : CheckedExpression) (m : Variables) (w : WordState) → AreApart p capacity → AreEven p
+ExpressionsAgree = (p : Places) (room : Room) (e : CheckedExpression) (m : Variables) (w : WordState) → AreApart p room → AreEven p
     → ExpressionFits p e → HoldVariables p m w.fram w.locals
     → AgreesWithValue w (behaviour (lowered_expression p e) w) (value_of e m w.readings)
 
 -- ---- statements
 
+-- what statements start from, and what bounds their stores: FRAM at their start, the scalars that they write, the room that they have,
+-- VER, and how many elements of each array they may have listed at their end
+pub record Bounds : Type 0 where
+  pub start : ℕ → ℕ
+  pub written : ℕ → Bool
+  pub room : Room
+  pub ver : ℕ
+  pub most : ℕ → ℕ
+
+abbrev pub IsStore : Places → Bounds → ℕ → ℕ → Type 0
+IsStore p b = IsTaskStore p b.written b.room b.ver
+
 -- statements that went on
-pub record WentOn (p : Places) (written : ℕ → Bool) (capacity : ℕ) (stack : List ℕ) (es : List Effect) (s : WordState) (m : Attempt) : Type 0 where
-  pub stores : TakesAndStores (IsTaskStore p written capacity) es
+pub record WentOn (p : Places) (b : Bounds) (stack : List ℕ) (es : List Effect) (s : WordState) (m : Attempt) : Type 0 where
+  pub stores : TakesAndStores (IsStore p b) es
   pub stack_kept : s.stack ≡ stack
-  pub stands : StandsFor p m s
+  pub listed : List Element
+  pub stands : StandsFor p m listed s
+  pub few : (v : ℕ) → listed_of v listed ≤ b.most v
 
 -- statements that came to a transition to a task: from the state there on its effects, and last of all the store of 1 to the gate
-pub record Left (p : Places) (written : ℕ → Bool) (capacity : ℕ) (es : List Effect) (to : ℕ) (s : WordState) (task : ℕ) (m : Attempt) : Type 0 where
+pub record Left (p : Places) (b : Bounds) (es : List Effect) (to : ℕ) (s : WordState) (task : ℕ) (m : Attempt) : Type 0 where
   pub body : List Effect
   pub there : WordState
-  pub effects : es ≡ body ++ (transition_effects p task (there.fram p.words.base) ++ Store p.words.gate 1 ∷ [])
-  pub stores : TakesAndStores (IsTaskStore p written capacity) body
-  pub stands : StandsFor p m there
+  pub listed : List Element
+  pub effects : es ≡ body ++ (transition_effects p task (length listed) (there.fram p.words.base) ++ Store p.words.gate 1 ∷ [])
+  pub stores : TakesAndStores (IsStore p b) body
+  pub arrived : there.fram ≡ fram_after body b.start
+  pub stands : StandsFor p m listed there
+  pub few : (v : ℕ) → listed_of v listed ≤ b.most v
   pub commits : to ≡ p.commit
   pub readings : s.readings ≡ m.left
 
 -- the end is as the outcome has it
-abbrev pub EndsAs : Places → (ℕ → Bool) → ℕ → List ℕ → List Effect → End → Outcome → Type 0
-EndsAs p written capacity stack es (GoesOn s) (goes_on m) = WentOn p written capacity stack es s m
-EndsAs p written capacity stack es (GoesOn s) (to_task task m) = ⊥
-EndsAs p written capacity stack es (GoesOn s) short = ⊥
-EndsAs p written capacity stack es (Jumps to s) (goes_on m) = ⊥
-EndsAs p written capacity stack es (Jumps to s) (to_task task m) = Left p written capacity es to s task m
-EndsAs p written capacity stack es (Jumps to s) short = ⊥
-EndsAs p written capacity stack es Short (goes_on m) = ⊥
-EndsAs p written capacity stack es Short (to_task task m) = ⊥
-EndsAs p written capacity stack es Short short = TakesAndStores (IsTaskStore p written capacity) es
-EndsAs p written capacity stack es Strays o = ⊥
-EndsAs p written capacity stack es Broken o = Unit {0}
+abbrev pub EndsAs : Places → Bounds → List ℕ → List Effect → End → Outcome → Type 0
+EndsAs p b stack es (GoesOn s) (goes_on m) = WentOn p b stack es s m
+EndsAs p b stack es (GoesOn s) (to_task task m) = ⊥
+EndsAs p b stack es (GoesOn s) short = ⊥
+EndsAs p b stack es (Jumps to s) (goes_on m) = ⊥
+EndsAs p b stack es (Jumps to s) (to_task task m) = Left p b es to s task m
+EndsAs p b stack es (Jumps to s) short = ⊥
+EndsAs p b stack es Short (goes_on m) = ⊥
+EndsAs p b stack es Short (to_task task m) = ⊥
+EndsAs p b stack es Short short = TakesAndStores (IsStore p b) es
+EndsAs p b stack es Strays o = ⊥
+EndsAs p b stack es Broken o = Unit {0}
 
-abbrev pub Agrees : Places → (ℕ → Bool) → ℕ → List ℕ → Behaviour → Outcome → Type 0
-Agrees p written capacity stack b o = EndsAs p written capacity stack b.effects b.end o
+abbrev pub Agrees : Places → Bounds → List ℕ → Behaviour → Outcome → Type 0
+Agrees p b stack r o = EndsAs p b stack r.effects r.end o
 
--- the program of statements does what they do
+-- the bounds of statements from a state with these elements listed on
+abbrev pub bounds_of : Places → (ℕ → Bool) → Room → CheckedBlock → List Element → WordState → Bounds
+bounds_of p written room block listed w = record {
+  start = w.fram;
+  written = written;
+  room = room;
+  ver = w.fram p.words.version;
+  most = λ v. listed_of v listed + stores_of v block;
+}
+
+-- the program of statements does what they do, where there is room for what they emit and list
 abbrev pub BlocksAgree : Type 0
-BlocksAgree = (p : Places) (written : ℕ → Bool) (capacity : ℕ) (block : CheckedBlock) (m : Attempt) (w : WordState) → AreApart p capacity → AreEven p
-    → BlockFits p written block → StandsFor p m w → length m.emitted + block_emits block ≤ capacity
-    → Agrees p written capacity w.stack (behaviour (lowered_block p block) w) (run_block block m)
+BlocksAgree = (p : Places) (written : ℕ → Bool) (room : Room) (stores : ℕ → ℕ) (block : CheckedBlock) (m : Attempt) (listed : List Element) (w : WordState)
+    → AreApart p room → AreEven p → HasRoom p stores room → BlockFits p written block → StandsFor p m listed w
+    → length m.emitted + block_emits block ≤ room.emits → ((v : ℕ) → listed_of v listed + stores_of v block ≤ stores v)
+    → Agrees p (bounds_of p written room block listed w) w.stack (behaviour (lowered_block p block) w) (run_block block m)

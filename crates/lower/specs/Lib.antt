@@ -2,6 +2,6 @@ pub mod Places
 pub mod View
 pub mod Operations
 pub mod Lowered
-pub mod Arrays
+pub mod Spots
 pub mod Agreement
 pub mod Sizes

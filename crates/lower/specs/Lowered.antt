@@ -1,5 +1,5 @@
 -- The word programs of expressions, statements and tasks.
-use Rattle.std.specs.Prelude.{ℕ, ◌%◌, List, [], ◌∷◌, Option, Some, None}
+use Rattle.std.specs.Prelude.{ℕ, ◌%◌, List, [], ◌∷◌, Option, Some, None, slice_get}
 use Rattle.task_ast.specs.Tree as t
 use Rattle.task_ast.specs.Tree.{Task}
 use Rattle.task_ast.specs.Paths.{CheckedExpression, CheckedStatement, CheckedChoice, CheckedBlock}
@@ -12,10 +12,15 @@ use Rattle.task_ast.specs.declared.names.TaskName.{TaskName}
 use Rattle.source_values.specs.Values.{joined_type, type_of}
 use Rattle.source_values.specs.Runs.{CheckedProgram}
 use Rattle.array_versions.specs.declared.operations.UnaryOperation.TheVariants.{Truth}
-use Rattle.array_versions.specs.Program.{Step, Program, number, load, keep, local, set_local, unary, binary, shift, element, emit_word, list_entry, sense, choose, repeat, store_number, move_word, jump, nothing, step, joined, behind}
+use Rattle.array_versions.specs.Program.{Step, Program, number, load, keep, local, set_local, unary, binary, shift, element, emit_word, list_entry, sense, choose, repeat, versioned_read, versioned_write, store_number, move_word, jump, nothing, step, joined, behind}
+use Rattle.array_versions.specs.declared.program.ArrayPlace.{ArrayPlace}
+use Rattle.array_versions.specs.declared.program.ListPlace.{ListPlace}
+use Rattle.privatise.specs.declared.place.ArrayCopies.{ArrayCopies}
+use Rattle.privatise.specs.declared.place.VariablePlace.{VariablePlace}
+use Rattle.privatise.specs.declared.place.VariablePlace.TheVariants.{Scalar, Array}
 use Rattle.privatise.specs.declared.place.PrivateScalar.{PrivateScalar}
 use Rattle.privatise.specs.LayoutValue.{LayoutValue, TaskLayoutValue}
-use Rattle.lower.specs.Places.{Places, places_of, address_of, elements_of}
+use Rattle.lower.specs.Places.{Places, places_of, address_of}
 use Rattle.lower.specs.Operations.{unary_operation, binary_operation, shift_operation}
 
 -- a program of one step
@@ -32,10 +37,40 @@ abbrev pub write_step : Places → Variable → Step
 write_step p (Shared v) = keep (address_of p v)
 write_step p (Local n) = set_local (n % 65536)
 
--- pops an index and pushes an element of an array
+-- the elements of an array, their copies and their version words
+abbrev pub array_place : ℕ → ℕ → ArrayCopies → ArrayPlace
+array_place elements length c = record { elements = elements; copies = c.copies; versions = c.versions; length = length }
+
+-- an array of no elements
+abbrev pub no_array : ArrayPlace
+no_array = record { elements = 0; copies = 0; versions = 0; length = 0 }
+
+-- the number of the attempt, and the commit list
+abbrev pub list_place : Places → ListPlace
+list_place p = record { ver = p.words.version; cln = p.words.list_length; list = p.list }
+
+-- pops an index and pushes an element of the array at a place: where some task writes the array, as this attempt has the element
+abbrev pub element_read : Places → Option VariablePlace → Step
+element_read p (Some (Array elements length (Some c))) = versioned_read (array_place elements length c) (list_place p)
+element_read p (Some (Array elements length None)) = element elements length
+element_read p (Some (Scalar home copy)) = element 0 0
+element_read p None = element 0 0
+
 abbrev pub element_step : Places → Variable → Step
-element_step p (Shared v) = element (elements_of p.variables v).base (elements_of p.variables v).length
+element_step p (Shared v) = element_read p (slice_get p.variables v)
 element_step p (Local n) = element 0 0
+
+-- the array at a place that a task may write
+abbrev pub written_array : Option VariablePlace → ArrayPlace
+written_array (Some (Array elements length (Some c))) = array_place elements length c
+written_array (Some (Array elements length None)) = no_array
+written_array (Some (Scalar home copy)) = no_array
+written_array None = no_array
+
+-- pops a word and an index, and stores the word in the copy of an element
+abbrev pub store_step : Places → Variable → Step
+store_step p (Shared v) = versioned_write (written_array (slice_get p.variables v)) (list_place p)
+store_step p (Local n) = versioned_write no_array (list_place p)
 
 -- what `&&` or `||` gives where the left side settles it
 abbrev pub settled_program : ShortCircuitOperator → Program
@@ -68,6 +103,10 @@ lowered_expression p (t.short_circuit op a b) =
 abbrev pub assignment : Places → Variable → CheckedExpression → Program
 assignment p x e = behind (lowered_expression p e) (write_step p x)
 
+-- stores an expression's value in an element: the index is evaluated first
+abbrev pub element_assignment : Places → Variable → CheckedExpression → CheckedExpression → Program
+element_assignment p x index e = behind (joined (lowered_expression p index) (lowered_expression p e)) (store_step p x)
+
 -- a declaration without a value has no steps
 abbrev pub declaration : Places → Variable → Option CheckedExpression → Program
 declaration p x None = nothing
@@ -97,11 +136,11 @@ lowered_transition p task =
     (one (jump p.commit)))))
 
 abbrev mutual
-  -- what a statement does. An assignment to an element has no program yet
+  -- what a statement does
   pub lowered_statement : Places → CheckedStatement → Program
   lowered_statement p (t.declare of x value) = declaration p x.variable value
   lowered_statement p (t.assign x e) = assignment p x.variable e
-  lowered_statement p (t.store x index e) = nothing
+  lowered_statement p (t.store x index e) = element_assignment p x.variable index e
   lowered_statement p (t.choose choice) = lowered_choice p choice
   lowered_statement p (t.loop x from tested below stepped body) = one (repeat (loop_local x.variable) from below (lowered_block p body))
   lowered_statement p (t.emit e) = emission p e

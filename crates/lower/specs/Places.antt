@@ -5,7 +5,6 @@ use Rattle.privatise.specs.declared.place.VariablePlace.{VariablePlace}
 use Rattle.privatise.specs.declared.place.VariablePlace.TheVariants.{Scalar, Array}
 use Rattle.privatise.specs.declared.place.PrivateScalar.{PrivateScalar}
 use Rattle.privatise.specs.LayoutValue.{LayoutValue, TaskLayoutValue}
-use Rattle.lower.specs.declared.places.Elements.{Elements}
 
 -- the addresses that a task's program needs: the runtime's words, the commit list, the emit buffer, the code of the commit, the places
 -- of the shared variables in order of declaration, and the scalars that are private in the task
@@ -41,15 +40,6 @@ home_in None = 0
 
 abbrev pub home_of : List VariablePlace → ℕ → ℕ
 home_of variables number = home_in (slice_get variables number)
-
--- an array's first element and its length
-abbrev pub elements_in : Option VariablePlace → Elements
-elements_in (Some (Array elements length copies)) = record { base = elements; length = length }
-elements_in (Some (Scalar home copy)) = record { base = 0; length = 0 }
-elements_in None = record { base = 0; length = 0 }
-
-abbrev pub elements_of : List VariablePlace → ℕ → Elements
-elements_of variables number = elements_in (slice_get variables number)
 
 -- a copy, if there is one, else the home
 abbrev pub copy_else : Option ℕ → ℕ → ℕ

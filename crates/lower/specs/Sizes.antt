@@ -1,8 +1,9 @@
 -- What word programs cost, against the allowance of a source.
-use Rattle.std.specs.Prelude.{ℕ, ◌+◌, ◌≤◌, length}
+use Rattle.std.specs.Prelude.{ℕ, ◌+◌, ◌*◌, ◌≤◌, length}
 use Rattle.task_ast.specs.Paths.{CheckedExpression, CheckedBlock}
 use Rattle.cost_bound.specs.Table.{cycles_column, words_column, expression_price, block_price}
-use Rattle.array_versions.specs.Cost.{cycles_of, words_of}
+use Rattle.array_versions.specs.Behaviour.{WordState, End, GoesOn, Jumps, Short, Strays, Broken, behaviour}
+use Rattle.array_versions.specs.Cost.{cycles_of, words_of, spent}
 use Rattle.lower.specs.Places.{Places}
 use Rattle.lower.specs.Lowered.{lowered_expression, lowered_block}
 
@@ -13,3 +14,17 @@ BlocksKeepToWords = (p : Places) (scalars : ℕ) (block : CheckedBlock) → leng
 -- the cycles of an expression, with 8 to spare: an `if` chooses within what its conditions have
 abbrev pub ExpressionsKeepToCycles : Type 0
 ExpressionsKeepToCycles = (p : Places) (e : CheckedExpression) → cycles_of (lowered_expression p e) + 8 ≤ expression_price cycles_column e
+
+-- what the entries of the private scalars take where a task leaves, each 21 cycles
+abbrev pub entry_cycles : Places → End → ℕ
+entry_cycles p (GoesOn s) = 0
+entry_cycles p (Jumps to s) = 21 * length p.privates
+entry_cycles p Short = 0
+entry_cycles p Strays = 21 * length p.privates
+entry_cycles p Broken = 21 * length p.privates
+
+-- the cycles of statements from any state on, along the way that they take: those of the allowance, and behind a transition those of the
+-- entries
+abbrev pub BlocksKeepToCycles : Type 0
+BlocksKeepToCycles = (p : Places) (block : CheckedBlock) (w : WordState)
+    → spent (lowered_block p block) w ≤ block_price cycles_column block + entry_cycles p (behaviour (lowered_block p block) w).end

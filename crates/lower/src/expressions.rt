@@ -4,13 +4,15 @@ ghost use Rattle.array_versions.specs.Program.{joined, behind};
 ghost use Rattle.array_versions.specs.View.{program_of};
 ghost use Rattle.task_ast.specs.View.{expression_of};
 ghost use Rattle.source_values.specs.Values.{type_of};
+ghost use Rattle.task_ast.specs.declared.names.Variable.TheVariants.{Shared};
 ghost use Rattle.lower.specs.View.{places_in};
 ghost use Rattle.lower.specs.Lowered.{read_step, element_step, settled_program, lowered_expression, evaluated_side, lowered_choice_of_sides};
 
 use crate::operations::{binary_operation, shift_operation, unary_operation};
-use crate::places::{TaskPlaces, elements_of, local_number};
+use crate::places::{TaskPlaces, array_place, local_number};
 use crate::types::{binary_type, joined_type, literal_type, unary_type};
 use array_versions::{UnaryOperation, WordProgram};
+use privatise::VariablePlace;
 use std::alloc::{AllocError, Global};
 use task_ast::{Expr, ShortCircuitOperator, Variable, VariableName, WordType};
 
@@ -28,6 +30,38 @@ fn read(
     }
 }
 
+// Pops an index and pushes an element of the array of a number: where some task writes the array, as this attempt has the
+// element.
+fn read_array(
+    number: u32,
+    places: &TaskPlaces<'_>,
+    program: &mut WordProgram,
+) -> Result<(), AllocError>
+    ensures { OnOk result (program_of program.new
+        ≡ behind (program_of program.old) (element_step (places_in places.now) (Shared number))) }
+{
+    match places.variables.get(number as usize) {
+        Some(
+            VariablePlace::Array {
+                elements,
+                length,
+                copies: Some(copies),
+            },
+        ) => program.versioned_read(
+            &array_place(*elements, *length, *copies),
+            &places.list_place(),
+        ),
+        Some(
+            VariablePlace::Array {
+                elements,
+                length,
+                copies: None,
+            },
+        ) => program.element(*elements, *length),
+        Some(VariablePlace::Scalar { .. }) | None => program.element(0, 0),
+    }
+}
+
 // Pops an index and pushes an element. The checks refuse an index on anything but an array.
 fn read_element(
     variable: Variable,
@@ -38,10 +72,7 @@ fn read_element(
         ≡ behind (program_of program.old) (element_step (places_in places.now) variable)) }
 {
     match variable {
-        Variable::Shared(number) => {
-            let elements = elements_of(places.variables, number);
-            program.element(elements.base, elements.length)
-        }
+        Variable::Shared(number) => read_array(number, places, program),
         Variable::Local(_) => program.element(0, 0),
     }
 }

@@ -1,19 +1,17 @@
 //! Laws of the word programs of a source. The functions do nothing: their contracts are the laws.
 
 ghost use Rattle.lower.specs.Agreement.{ExpressionsAgree, BlocksAgree};
-ghost use Rattle.lower.specs.Sizes.{BlocksKeepToWords, ExpressionsKeepToCycles};
+ghost use Rattle.lower.specs.Sizes.{BlocksKeepToWords, BlocksKeepToCycles, ExpressionsKeepToCycles};
 
 /// The program of an expression takes readings alone, and leaves the expression's value on top of the stack, with the
 /// readings left as the expression leaves them. It is short exactly where the expression is.
-#[tactic(auto, using(crate::proofs::Values::expressions_agree))]
 pub fn expressions_agree()
     ensures { ExpressionsAgree }
 {}
 
 /// The program of statements does what they do: it goes on with the same words of the variables, with the words that they
-/// emit in the buffer, and with the same readings left; it leaves by the stores of a transition exactly where they come to
-/// one, and is short exactly where they are.
-#[tactic(auto, using(crate::proofs::Blocks::blocks_agree))]
+/// emit in the buffer, with the elements that they stored to in the commit list, and with the same readings left; it leaves by
+/// the stores of a transition exactly where they come to one, and is short exactly where they are.
 pub fn statements_agree()
     ensures { BlocksAgree }
 {}
@@ -28,4 +26,11 @@ pub fn statements_keep_to_words()
 #[tactic(auto, using(crate::proofs::Sizes::expression_cycles))]
 pub fn expressions_keep_to_cycles()
     ensures { ExpressionsKeepToCycles }
+{}
+
+/// The code of statements takes no more cycles than the allowance has for them, along the way that it takes, and 21 for each
+/// private scalar where it leaves by a transition.
+#[tactic(auto, using(crate::proofs::Costs::blocks_keep_to_cycles))]
+pub fn statements_keep_to_cycles()
+    ensures { BlocksKeepToCycles }
 {}

@@ -4,7 +4,6 @@ ghost use Rattle.array_versions.specs.View.{program_of};
 ghost use Rattle.task_ast.specs.View as tree;
 ghost use Rattle.task_ast.specs.View.{block_view};
 ghost use Rattle.lower.specs.Lowered.{lowered_task, lowered};
-ghost use Rattle.lower.specs.Arrays.{HasNoArrays};
 
 use crate::places::TaskPlaces;
 use crate::statements::lower_block;
@@ -35,14 +34,12 @@ fn lower_task(
     Ok(program)
 }
 
-/// The word program of each task, in order of declaration; or no memory is left. The layout is that of the source, which
-/// has no arrays.
+/// The word program of each task, in order of declaration; or no memory is left. The layout is that of the source.
 pub fn lower(
     alloc: Global,
     checked: &Checked,
     layout: &Layout,
 ) -> Result<Vec<WordProgram>, AllocError>
-    requires no_arrays { HasNoArrays (tree.program_of checked.now.source) }
     requires same_tasks { length layout.now.tasks ≡ length checked.now.source.tasks.items }
     ensures { IfOk result (λ ps. map program_of ps.items ≡ lowered layout.now (tree.program_of checked.now.source)) }
 {

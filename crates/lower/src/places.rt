@@ -1,9 +1,11 @@
 //! Where what a task works on stands.
-ghost use Rattle.std.specs.Prelude.{◌≡◌, ◌%◌};
-ghost use Rattle.lower.specs.Places.{copy_among, home_of, elements_of};
+ghost use Rattle.std.specs.Prelude.{◌≡◌, ◌%◌, slice_get};
+ghost use Rattle.lower.specs.Places.{copy_among, home_of};
+ghost use Rattle.lower.specs.Lowered.{array_place, no_array, written_array};
 
+use array_versions::{ArrayPlace, ListPlace};
 use image_map::RuntimeWords;
-use privatise::{PrivateScalar, VariablePlace};
+use privatise::{ArrayCopies, PrivateScalar, VariablePlace};
 
 /// The addresses that a task's program needs of a layout.
 #[derive(Clone, Copy)]
@@ -19,13 +21,6 @@ pub struct TaskPlaces<'l> {
     pub variables: &'l [VariablePlace],
     /// The scalars that are private in the task, in order of declaration.
     pub privates: &'l [PrivateScalar],
-}
-
-/// An array's elements: the address of the first, and how many there are.
-#[derive(Clone, Copy, Debug, PartialEq, Eq)]
-pub struct Elements {
-    pub base: u16,
-    pub length: u16,
 }
 
 // The copy of the variable of a number, where it is among these private scalars.
@@ -51,27 +46,50 @@ fn home_of(variables: &[VariablePlace], number: u32) -> u16
     }
 }
 
-/// The elements of the array of a number; none where it isn't one.
-pub fn elements_of(variables: &[VariablePlace], number: u32) -> Elements
-    ensures { result ≡ elements_of variables.now number }
+/// The elements of an array, their copies and their version words.
+pub fn array_place(elements: u16, length: u16, copies: ArrayCopies) -> ArrayPlace
+    ensures { result ≡ array_place elements length copies }
+{
+    ArrayPlace {
+        elements,
+        copies: copies.copies,
+        versions: copies.versions,
+        length,
+    }
+}
+
+/// An array of no elements.
+pub fn no_array() -> ArrayPlace
+    ensures { result ≡ no_array }
+{
+    ArrayPlace {
+        elements: 0,
+        copies: 0,
+        versions: 0,
+        length: 0,
+    }
+}
+
+/// The array of a number that a task may write; one of no elements where there is none.
+pub fn written_array(variables: &[VariablePlace], number: u32) -> ArrayPlace
+    ensures { result ≡ written_array (slice_get variables.now number) }
 {
     match variables.get(number as usize) {
         Some(
             VariablePlace::Array {
                 elements,
                 length,
-                ..
+                copies: Some(copies),
             },
-        ) => Elements {
-            base: *elements,
-            length: *length,
-        },
-        Some(VariablePlace::Scalar { .. }) | None => Elements { base: 0, length: 0 },
+        ) => array_place(*elements, *length, *copies),
+        Some(VariablePlace::Array { copies: None, .. } | VariablePlace::Scalar { .. }) | None =>
+            no_array(),
     }
 }
 
 impl<'l> TaskPlaces<'l> {
     ghost use Rattle.lower.specs.Places.{address_of};
+    ghost use Rattle.lower.specs.Lowered.{list_place};
     ghost use Rattle.lower.specs.View.{places_in};
 
     /// The address of a shared variable in the task: that of its copy where it is private there, else that of its word.
@@ -81,6 +99,17 @@ impl<'l> TaskPlaces<'l> {
         match copy_among(self.privates, number) {
             Some(copy) => copy,
             None => home_of(self.variables, number),
+        }
+    }
+
+    /// The number of the attempt, and the commit list.
+    pub fn list_place(&self) -> ListPlace
+        ensures { result ≡ list_place (places_in self.now) }
+    {
+        ListPlace {
+            ver: self.words.version,
+            cln: self.words.list_length,
+            list: self.list,
         }
     }
 }

@@ -8,10 +8,10 @@ ghost use Rattle.task_ast.specs.View.{expression_of, statement_of, tested_of, bl
 ghost use Rattle.task_ast.specs.declared.names.VariableName.{VariableName};
 ghost use Rattle.task_ast.specs.declared.names.TaskName.{TaskName};
 ghost use Rattle.lower.specs.View.{places_in};
-ghost use Rattle.lower.specs.Lowered.{write_step, loop_local, lowered_expression, assignment, declaration, emission, entries, lowered_transition, lowered_statement, lowered_choice, lowered_block};
+ghost use Rattle.lower.specs.Lowered.{write_step, loop_local, lowered_expression, store_step, assignment, element_assignment, declaration, emission, entries, lowered_transition, lowered_statement, lowered_choice, lowered_block};
 
 use crate::expressions::lower_expression;
-use crate::places::{TaskPlaces, local_number};
+use crate::places::{TaskPlaces, local_number, no_array, written_array};
 use array_versions::WordProgram;
 use privatise::PrivateScalar;
 use std::alloc::{AllocError, Global};
@@ -44,6 +44,41 @@ fn assign(
 {
     let _ = lower_expression(alloc, e, places, program)?;
     write(variable, places, program)
+}
+
+// Pops a word and an index, and stores the word in the copy of an element. The checks refuse an index on anything but an
+// array.
+fn store_element(
+    variable: Variable,
+    places: &TaskPlaces<'_>,
+    program: &mut WordProgram,
+) -> Result<(), AllocError>
+    ensures { OnOk result (program_of program.new
+        ≡ behind (program_of program.old) (store_step (places_in places.now) variable)) }
+{
+    let array = match variable {
+        Variable::Shared(number) => written_array(places.variables, number),
+        Variable::Local(_) => no_array(),
+    };
+    program.versioned_write(&array, &places.list_place())
+}
+
+// The index is evaluated first.
+#[tactic(auto, using(array_versions::proofs::Joined::joined_assoc))]
+fn store(
+    alloc: Global,
+    variable: Variable,
+    index: &Expr<VariableName>,
+    e: &Expr<VariableName>,
+    places: &TaskPlaces<'_>,
+    program: &mut WordProgram,
+) -> Result<(), AllocError>
+    ensures { OnOk result (program_of program.new ≡ joined (program_of program.old)
+        (element_assignment (places_in places.now) variable (expression_of index.now) (expression_of e.now))) }
+{
+    let _ = lower_expression(alloc, index, places, program)?;
+    let _ = lower_expression(alloc, e, places, program)?;
+    store_element(variable, places, program)
 }
 
 // A declaration without a value has no steps.
@@ -144,7 +179,7 @@ fn lower_statement(
     match s {
         Stmt::Declare(_, x, value) => declare(alloc, x.variable, value, places, program),
         Stmt::Assign(x, e) => assign(alloc, x.variable, e, places, program),
-        Stmt::Store(_, _, _) => Ok(()),
+        Stmt::Store(x, index, e) => store(alloc, x.variable, index, e, places, program),
         Stmt::If(arms, None) => {
             let last = WordProgram::new(alloc);
             let chain = lower_arms(alloc, arms, last, places)?;

@@ -1,5 +1,5 @@
 -- What the order of regions says of variables.
-use Rattle.std.proofs.Common.{◌≡◌, ℕ, zero, suc, ◌<◌, ◌≤◌, List, [], ◌∷◌, map, sym, ◌∙◌, ap, subst, arith, Some, None}
+use Rattle.std.proofs.Common.{◌≡◌, ℕ, zero, suc, ◌+◌, ◌*◌, ◌<◌, ◌≤◌, List, [], ◌∷◌, map, sym, ◌∙◌, ap, subst, arith, Some, None}
 use Rattle.std.specs.Prelude.{slice_get, Contains}
 use Rattle.std.specs.Option.{option_map}
 use Rattle.std.specs.List.{flat_map}
@@ -7,21 +7,23 @@ use Rattle.std.proofs.lemmas.Option.{slice_get-map, slice_get-get_or}
 use Rattle.privatise.specs.declared.place.Region.{Region}
 use Rattle.privatise.specs.declared.place.VariablePlace.{VariablePlace}
 use Rattle.privatise.specs.LayoutValue.{LayoutValue}
-use Rattle.privatise.specs.Places.{end_of, AreInOrder, home_region, copy_regions, IsLaidOut}
-use Rattle.privatise.specs.Laws.{HomesAreApart, CopiesAreApart}
+use Rattle.privatise.specs.Places.{end_of, AreInOrder, home_region, copy_regions, version_regions, IsLaidOut}
+use Rattle.privatise.specs.Laws.{HomesAreApart, CopiesAreApart, VersionsAreApart}
 use Rattle.privatise.proofs.InOrder.{Within, in_order_within, in_order_apart, in_order_split, in_order_end}
 
-mapped : {A B : Type 0} (f : A → B) (xs : List A) (i : ℕ) (a : A) → slice_get xs i ≡ Some a → slice_get (map f xs) i ≡ Some (f a)
+-- a variable's region among those of all
+pub mapped : {A B : Type 0} (f : A → B) (xs : List A) (i : ℕ) (a : A) → slice_get xs i ≡ Some a → slice_get (map f xs) i ≡ Some (f a)
 mapped f xs i a e = slice_get-map f xs i ∙ ap (option_map f) e
 
 pub homes_apart : (l : LayoutValue) → IsLaidOut l → HomesAreApart l
 homes_apart l h i j a b lt e f = in_order_apart l.homes.address (map home_region l.variables) (end_of l.homes) i j (home_region a) (home_region b) h.homes lt (mapped home_region l.variables i a e) (mapped home_region l.variables j b f)
 
-contained : (from : ℕ) (rs : List Region) (end : ℕ) (r : Region) → AreInOrder from rs end → Contains rs r → Within from r end
+-- one region among others
+pub contained : (from : ℕ) (rs : List Region) (end : ℕ) (r : Region) → AreInOrder from rs end → Contains rs r → Within from r end
 contained from rs end r h (k, l, e) = in_order_within from rs end k r h (slice_get-get_or rs k r l ∙ ap Some e)
 
 -- the regions of one variable among those of all
-among : (f : VariablePlace → List Region) (from : ℕ) (vs : List VariablePlace) (end : ℕ) (i : ℕ) (a : VariablePlace) (r : Region) → AreInOrder from (flat_map f vs) end → slice_get vs i ≡ Some a → Contains (f a) r → Within from r end
+pub among : (f : VariablePlace → List Region) (from : ℕ) (vs : List VariablePlace) (end : ℕ) (i : ℕ) (a : VariablePlace) (r : Region) → AreInOrder from (flat_map f vs) end → slice_get vs i ≡ Some a → Contains (f a) r → Within from r end
 among f from [] end i a r h e c = let no : None ≡ Some a = e in cc
 among f from (v ∷ vs) end zero a r h e c =
     let same : v ≡ a = cc in
@@ -35,7 +37,8 @@ among f from (v ∷ vs) end (suc i) a r h e c =
     let front = in_order_end from (f v) s.0 s.1 in
     record { from = let x = w.from in omega (arith, x, front); even = w.even; end = w.end }
 
-later : (f : VariablePlace → List Region) (from : ℕ) (vs : List VariablePlace) (end : ℕ) (i j : ℕ) (a b : VariablePlace) (r q : Region) → AreInOrder from (flat_map f vs) end → i < j → slice_get vs i ≡ Some a → slice_get vs j ≡ Some b
+-- the regions of a later variable stand behind those of an earlier one
+pub later : (f : VariablePlace → List Region) (from : ℕ) (vs : List VariablePlace) (end : ℕ) (i j : ℕ) (a b : VariablePlace) (r q : Region) → AreInOrder from (flat_map f vs) end → i < j → slice_get vs i ≡ Some a → slice_get vs j ≡ Some b
     → Contains (f a) r → Contains (f b) q → end_of r ≤ q.address
 later f from [] end i j a b r q h l e g c d = let no : None ≡ Some a = e in cc
 later f from (v ∷ vs) end zero zero a b r q h l e g c d = absurd (omega arith)
@@ -61,3 +64,13 @@ copies_apart l h = record {
       let between = h.apart.copies in
       omega (arith, home, copy, between);
 }
+
+pub versions_apart : (l : LayoutValue) → IsLaidOut l → VersionsAreApart l
+versions_apart l h =
+    let end : ℕ = l.versions.address + 2 * l.versions.capacity in
+    record {
+      from_each_other = λ i j a b r q lt e f c d. later version_regions l.versions.address l.variables end i j a b r q h.versions lt e f c d;
+      from = λ i a r e c. (among version_regions l.versions.address l.variables end i a r h.versions e c).from;
+      below = λ i a r e c. (among version_regions l.versions.address l.variables end i a r h.versions e c).end;
+      even = λ i a r e c. (among version_regions l.versions.address l.variables end i a r h.versions e c).even;
+    }

@@ -3,7 +3,7 @@ ghost use Rattle.cost_bound.specs.declared.allowance.Allow.{Allow};
 ghost use Rattle.cost_bound.specs.Allowance.{CheckedProgram, IsAllowed};
 ghost use Rattle.privatise.specs.LayoutValue.{LayoutValue};
 ghost use Rattle.privatise.specs.Places.{IsLaidOut};
-ghost use Rattle.privatise.specs.Laws.{HomesAreApart, CopiesAreApart, OneLayout};
+ghost use Rattle.privatise.specs.Laws.{HomesAreApart, CopiesAreApart, VersionsAreApart, OneLayout};
 
 /// The words of a variable stand behind those of each variable that is declared before it.
 pub fn homes_are_apart()
@@ -13,6 +13,11 @@ pub fn homes_are_apart()
 /// The copies of a variable stand behind those of each variable that is declared before it, and behind all shared words.
 pub fn copies_are_apart()
     ensures { (l : LayoutValue) → IsLaidOut l → CopiesAreApart l }
+{}
+
+/// The version words of a variable stand behind those of each variable that is declared before it, and in front of all shared words.
+pub fn versions_are_apart()
+    ensures { (l : LayoutValue) → IsLaidOut l → VersionsAreApart l }
 {}
 
 /// A source has one layout: the sizes and the order of its places leave no other.

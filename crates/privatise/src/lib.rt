@@ -10,7 +10,7 @@ mod sizes;
 mod tasks;
 mod variables;
 
-pub use laws::{copies_are_apart, homes_are_apart, one_layout};
+pub use laws::{copies_are_apart, homes_are_apart, one_layout, versions_are_apart};
 pub use layouts::{Layout, TaskLayout};
 pub use place::{ArrayCopies, PrivateScalar, Region, VariablePlace};
 pub use placing::layout;

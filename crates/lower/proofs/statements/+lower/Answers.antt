@@ -4,7 +4,7 @@ use Rattle.array_versions.specs.Program.{joined}
 use Rattle.array_versions.specs.View.{program_of}
 use Rattle.lower.specs.View.{places_in}
 use Rattle.lower.specs.Lowered.{lowered_block}
-use Rattle.lower.proofs.Chains.{block_step, block_end, no_steps, store_steps}
+use Rattle.lower.proofs.Chains.{block_step, block_end}
 use Rattle.lower.proofs.statements.+lower.Goals as goal
 
 pub lower_block-loop-statement-preserved : goal.lower_block-loop-statement-preserved
@@ -19,8 +19,3 @@ pub lower_block-returns : goal.lower_block-returns
 lower_block-returns t c =
     sym (block_end (places_in c.args.places.now) c.args.body.now c.loop-statement.statement-index (program_of c.loop-statement.program) c.loop-statement-test.false)
     ∙ c.loop-statement.invariant
-
-pub lower_statement-returns-in-Store : goal.lower_statement-returns-in-Store
-lower_statement-returns-in-Store t c =
-    let p = places_in c.args.places.now in
-    no_steps p c.args.s.now (program_of c.args.program.now) (store_steps p c.args.s.now c.in-Store.field-0 c.in-Store.field-1 c.in-Store.field-2 c.in-Store.is)

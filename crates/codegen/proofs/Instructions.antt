@@ -1,0 +1,132 @@
+-- The forms of a program's code are instructions: their jumps reach no further than ten bits say.
+use Rattle.std.proofs.Common.{ℕ, zero, suc, ◌+◌, ◌-◌, ◌*◌, List, [], ◌∷◌, ◌++◌, arith, Bool, true, false, nat_le, nat_lt, if◌then◌else◌}
+use Rattle.code_forms.specs.Forms.{R4, Form, Branch, instruction_of}
+use Rattle.code_forms.specs.Placed.{instructions, AreInstructions}
+use Rattle.msp_isa.specs.Encoding.{IsInstruction}
+use Rattle.array_versions.specs.declared.operations.UnaryOperation.{UnaryOperation}
+use Rattle.array_versions.specs.declared.operations.UnaryOperation.TheVariants.{Negate, Complement, Not, Truth}
+use Rattle.array_versions.specs.declared.operations.BinaryOperation.{BinaryOperation}
+use Rattle.array_versions.specs.declared.operations.BinaryOperation.TheVariants.{Multiply, Divide, Remainder, Add, Subtract, And, Xor, Or, Equal, NotEqual, Below, AtMost, Above, AtLeast, SignedBelow, SignedAtMost, SignedAbove, SignedAtLeast}
+use Rattle.array_versions.specs.declared.operations.ShiftOperation.{ShiftOperation}
+use Rattle.array_versions.specs.declared.operations.ShiftOperation.TheVariants.{Left, Right, SignedRight}
+use Rattle.array_versions.specs.declared.program.ArrayPlace.{ArrayPlace}
+use Rattle.array_versions.specs.declared.program.ListPlace.{ListPlace}
+use Rattle.array_versions.specs.Program.{Step, Program, number, load, keep, local, set_local, unary, binary, shift, element, emit_word, list_entry, versioned_read, versioned_write, sense, choose, repeat, store_number, move_word, jump, nothing, step}
+use Rattle.array_versions.specs.Cost.{step_words, words_of}
+use Rattle.codegen.specs.Code.{push_from, unary_middle, unary_result, binary_middle, binary_result, repeated, double, halve, right_code, shift_by, shift_middle, element_code, emit_code, entry_code, read_code, write_code, choice_head, loop_head, loop_step, step_code, code_of}
+use Rattle.codegen.specs.Laws.{CodeIsInstructions}
+
+-- the forms are instructions
+abbrev Are : List Form → Type 0
+Are ms = AreInstructions (instructions ms)
+
+pub are-append : (a b : List Form) → Are a → Are b → Are (a ++ b)
+are-append [] b h k = k
+are-append (m ∷ a) b h k = (h.0, are-append a b h.1 k)
+
+unary_are : (o : UnaryOperation) → Are (unary_middle o)
+unary_are Negate = search arith
+unary_are Complement = search arith
+unary_are Not = search arith
+unary_are Truth = search arith
+
+binary_are : (o : BinaryOperation) → Are (binary_middle o)
+binary_are Multiply = search arith
+binary_are Divide = search arith
+binary_are Remainder = search arith
+binary_are Add = search arith
+binary_are Subtract = search arith
+binary_are And = search arith
+binary_are Xor = search arith
+binary_are Or = search arith
+binary_are Equal = search arith
+binary_are NotEqual = search arith
+binary_are Below = search arith
+binary_are AtMost = search arith
+binary_are Above = search arith
+binary_are AtLeast = search arith
+binary_are SignedBelow = search arith
+binary_are SignedAtMost = search arith
+binary_are SignedAbove = search arith
+binary_are SignedAtLeast = search arith
+
+pub repeated_are : (k : ℕ) (m : Form) → IsInstruction (instruction_of m) → Are (repeated k m)
+repeated_are zero m h = tt
+repeated_are (suc k) m h = (h, repeated_are k m h)
+
+right_are : (k : ℕ) → Are (right_code k)
+right_are zero = tt
+right_are (suc k) = (tt, (tt, repeated_are k halve tt))
+
+either_are : (b : Bool) (x y : List Form) → Are x → Are y → Are (if b then x else y)
+either_are true x y h k = h
+either_are false x y h k = k
+
+shift_by_are : (o : ShiftOperation) (k : ℕ) → Are (shift_by o k)
+shift_by_are Left k = either_are (nat_lt k 8) _ _ (repeated_are k double tt) (tt, (tt, repeated_are (k - 8) double tt))
+shift_by_are Right k = either_are (nat_lt k 8) _ _ (right_are k) (tt, (tt, repeated_are (k - 8) halve tt))
+shift_by_are SignedRight k = either_are (nat_lt k 8) _ _ (repeated_are k halve tt) (tt, (tt, repeated_are (k - 8) halve tt))
+
+shift_are : (o : ShiftOperation) (k : ℕ) → Are (shift_middle o k)
+shift_are o k = either_are (nat_le k 15) (shift_by o k) _ (shift_by_are o k) (tt, tt)
+
+element_are : (base length : ℕ) → Are (element_code base length)
+element_are base length = search arith
+
+emit_are : (count buffer : ℕ) → Are (emit_code count buffer)
+emit_are count buffer = search arith
+
+entry_are : (count list home copy : ℕ) → Are (entry_code count list home copy)
+entry_are count list home copy = search arith
+
+read_are : (place : ArrayPlace) (list : ListPlace) → Are (read_code place list)
+read_are place list = search arith
+
+write_are : (place : ArrayPlace) (list : ListPlace) → Are (write_code place list)
+write_are place list = search arith
+
+head_are : (other : ℕ) → Are (choice_head other)
+head_are other = search arith
+
+loop_head_are : (n from below end : ℕ) → Are (loop_head n from below end)
+loop_head_are n from below end = search arith
+
+mutual
+  step_are : (at : ℕ) (s : Step) → Are (step_code at s)
+  step_are at (number w) = (tt, tt)
+  step_are at (load a) = (tt, tt)
+  step_are at (keep a) = (tt, tt)
+  step_are at (local n) = (tt, tt)
+  step_are at (set_local n) = (tt, tt)
+  step_are at (unary o) = (tt, are-append (unary_middle o) (push_from (unary_result o) ∷ []) (unary_are o) (tt, tt))
+  step_are at (binary o) = (tt, (tt, are-append (binary_middle o) (push_from (binary_result o) ∷ []) (binary_are o) (tt, tt)))
+  step_are at (shift o k) = (tt, are-append (shift_middle o k) (push_from R4 ∷ []) (shift_are o k) (tt, tt))
+  step_are at (element base size) = element_are base size
+  step_are at (emit_word count buffer) = emit_are count buffer
+  step_are at (list_entry count list home copy) = entry_are count list home copy
+  step_are at (versioned_read place list) = read_are place list
+  step_are at (versioned_write place list) = write_are place list
+  step_are at sense = (tt, (tt, tt))
+  step_are at (choose taken otherwise) =
+      let other = at + 14 + 2 * words_of taken in
+      let end = other + 2 * words_of otherwise in
+      let a = code_of (at + 10) taken in
+      let b = code_of other otherwise in
+      are-append (choice_head other) (a ++ Branch end ∷ b) (head_are other)
+      (are-append a (Branch end ∷ b) (code_are (at + 10) taken) (tt, code_are other otherwise))
+  step_are at (repeat n from below body) =
+      let end = at + 34 + 2 * words_of body in
+      let c = code_of (at + 20) body in
+      are-append (loop_head n from below end) (c ++ loop_step n (at + 6)) (loop_head_are n from below end)
+      (are-append c (loop_step n (at + 6)) (code_are (at + 20) body) (tt, (tt, (tt, (tt, tt)))))
+  step_are at (store_number a w) = (tt, tt)
+  step_are at (move_word from to) = (tt, tt)
+  step_are at (jump to) = (tt, tt)
+
+  pub code_are : (at : ℕ) (p : Program) → Are (code_of at p)
+  code_are at nothing = tt
+  code_are at (step first more) =
+      are-append (step_code at first) (code_of (at + 2 * step_words first) more) (step_are at first) (code_are (at + 2 * step_words first) more)
+
+pub code_is_instructions : CodeIsInstructions
+code_is_instructions at p = code_are at p

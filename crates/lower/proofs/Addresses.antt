@@ -1,0 +1,65 @@
+-- Where the words that a task works on stand.
+use Rattle.std.proofs.Common.{◌≡◌, ℕ, ◌+◌, ◌*◌, ◌%◌, ◌<◌, ◌≤◌, nat_lt, ◌&&◌, Option, Some, true, ap, ◌∙◌, subst, arith, eq-eqb, ne_eqb, le-leb, lt-ltb, inl, inr, ◌⊎◌, ⊎_elim, if◌then◌else◌}
+use Rattle.std.proofs.lemmas.Bool.{cases_eq}
+use Rattle.fram_board.specs.Bus.{is_fram}
+use Rattle.machine_effects.specs.World.{put}
+use Rattle.array_versions.specs.Behaviour.{Behaviour, strays, is_place, at_place}
+use Rattle.privatise.specs.declared.place.ArrayCopies.{ArrayCopies}
+use Rattle.lower.specs.Places.{Places}
+use Rattle.lower.specs.Spots.{IsScalarPlace, IsScalarAt, IsArrayAt, Element, IsElement, IsCopied, Spot, copy, IsSpot, element_in, copy_in, version_in, element_address, copy_address, version_address, spot_address, Room, AreApart, AreEven, AreDifferent}
+
+-- ---- places
+
+pub fram_place : (a : ℕ) → a % 2 ≡ 0 → 0x4400 ≤ a → a < 0x10000 → is_place a ≡ true
+fram_place a even low high =
+    ap (λ b. b && is_fram a) (eq-eqb (a % 2) 0 even) ∙ ap (λ b. b && nat_lt a 0x10000) (le-leb 0x4400 a low) ∙ lt-ltb a 0x10000 high
+
+pub placed : (a : ℕ) (b : Behaviour) → is_place a ≡ true → at_place a b ≡ b
+placed a b e = ap (λ c. if c then b else strays) e
+
+pub spot_place : (p : Places) (room : Room) (s : Spot) → AreApart p room → AreEven p → IsSpot p s → is_place (spot_address p s) ≡ true
+spot_place p room s apart even k =
+    let low = apart.spots s k in
+    fram_place (spot_address p s) (even.spots s k) (omega (arith, low, apart)) (apart.below s k)
+
+-- ---- words that are stored
+
+pub put_same : (f : ℕ → ℕ) (a w x : ℕ) → x ≡ a → put f a w x ≡ w
+put_same f a w x e = ap (λ b. if b then w else f x) (eq-eqb x a e)
+
+pub put_other : (f : ℕ → ℕ) (a w x : ℕ) → (x ≡ a → ⊥) → put f a w x ≡ f x
+put_other f a w x ne = ap (λ b. if b then w else f x) (ne_eqb x a ne)
+
+-- ---- elements
+
+pub element_is : (p : Places) (x : Element) (elements length : ℕ) (copies : Option ArrayCopies) → IsArrayAt p x.array elements length copies
+    → element_address p x ≡ 2 * x.index + elements
+element_is p x elements length copies h = ap (λ o. element_in o x.index) h.place
+
+pub copy_is : (p : Places) (x : Element) (elements length : ℕ) (c : ArrayCopies) → IsArrayAt p x.array elements length (Some c)
+    → copy_address p x ≡ 2 * x.index + c.copies
+copy_is p x elements length c h = ap (λ o. copy_in o x.index) h.place
+
+pub version_is : (p : Places) (x : Element) (elements length : ℕ) (c : ArrayCopies) → IsArrayAt p x.array elements length (Some c)
+    → version_address p x ≡ 2 * x.index + c.versions
+version_is p x elements length c h = ap (λ o. version_in o x.index) h.place
+
+pub has_element : (p : Places) (x : Element) → IsCopied p x → IsElement p x
+has_element p x h = record { elements = h.elements; length = h.length; copies = Some h.copies; is_array = h.is_array; below = h.below }
+
+-- an array is no scalar
+pub no_scalar : (p : Places) (v elements length : ℕ) (copies : Option ArrayCopies) → IsArrayAt p v elements length copies → IsScalarAt p v → ⊥
+no_scalar p v elements length copies h k = subst IsScalarPlace h.place k
+
+pub same_element : (x y : Element) → x.array ≡ y.array → x.index ≡ y.index → x ≡ y
+same_element x y a b =
+    ap (λ v. let z : Element = record { array = v; index = x.index } in z) a ∙ ap (λ i. let z : Element = record { array = y.array; index = i } in z) b
+
+pub same_or_not : (x y : Element) → (x ≡ y) ⊎ AreDifferent x y
+same_or_not x y = ⊎_elim (λ a. ⊎_elim (λ b. inl (same_element x y a b)) (λ ne. inr (λ e. ne (ap (λ z. z.index) e))) (cases_eq x.index y.index))
+    (λ ne. inr (λ e. ne (ap (λ z. z.array) e))) (cases_eq x.array y.array)
+
+-- ---- spots that differ
+
+pub copy_of_another : (x y : Element) → AreDifferent x y → copy x ≡ copy y → ⊥
+copy_of_another x y ne e = let l : x ≡ y = cc in ne l

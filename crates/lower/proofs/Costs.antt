@@ -1,0 +1,198 @@
+-- What tasks spend along the way that they take, against the allowance of a source: the entries of the private scalars are paid for once, at
+-- the transition.
+use Rattle.std.proofs.Common.{◌≡◌, ℕ, zero, suc, ◌+◌, ◌-◌, ◌*◌, ◌%◌, ◌==◌, ◌≤◌, max, Bool, true, false, if◌then◌else◌, List, [], ◌∷◌, length, Some, None, refl, sym, subst, arith}
+use Rattle.task_ast.specs.Tree as t
+use Rattle.task_ast.specs.Paths.{CheckedExpression, CheckedStatement, CheckedChoice, CheckedBlock}
+use Rattle.task_ast.specs.declared.names.Variable.{Variable}
+use Rattle.task_ast.specs.declared.names.Variable.TheVariants.{Shared, Local}
+use Rattle.cost_bound.specs.Table.{cycles_column, expression_price, statement_price, conditions_price, blocks_price, block_price}
+use Rattle.privatise.specs.declared.place.PrivateScalar.{PrivateScalar}
+use Rattle.array_versions.specs.Program.{Step, Program, choose, repeat, emit_word, store_number, move_word, jump, nothing, step, joined}
+use Rattle.array_versions.specs.Behaviour.{WordState, End, GoesOn, Jumps, Short, Strays, Broken, Behaviour, behaves, broken, on_end, then_on, is_place, goes_on, strays, with_stack, with_top, chosen, with_local, turns, step_behaviour, behaviour}
+use Rattle.array_versions.specs.Cost.{step_cycles, cycles_of, spent_on, way_spent, turns_spent, step_spent, spent}
+use Rattle.array_versions.proofs.Joined.{joined_go_on, joined_cycles}
+use Rattle.array_versions.proofs.Spent.{joined_spend, ways_keep_to_cycles}
+use Rattle.lower.specs.Places.{Places}
+use Rattle.lower.specs.Lowered.{one, write_step, store_step, assignment, element_assignment, entries, lowered_transition, loop_local, lowered_expression, lowered_statement, lowered_choice, lowered_block}
+use Rattle.lower.specs.Sizes.{entry_cycles, BlocksKeepToCycles}
+use Rattle.lower.proofs.Sizes.{expression_cycles}
+
+-- an end within an allowance and, where it leaves, the entries
+abbrev Within : Places → ℕ → End → ℕ → Type 0
+Within p most e n = n ≤ most + entry_cycles p e
+
+-- ---- a transition leaves
+
+-- neither behind the last step nor short
+abbrev Leaves : End → Type 0
+Leaves (GoesOn s) = ⊥
+Leaves (Jumps to s) = Unit {0}
+Leaves Short = ⊥
+Leaves Strays = Unit {0}
+Leaves Broken = Unit {0}
+
+leaves_pay : (p : Places) (e : End) (n most : ℕ) → Leaves e → n ≤ most + 21 * length p.privates → Within p most e n
+leaves_pay p (GoesOn s) n most l h = absurd l
+leaves_pay p (Jumps to s) n most l h = h
+leaves_pay p Short n most l h = absurd l
+leaves_pay p Strays n most l h = h
+leaves_pay p Broken n most l h = h
+
+-- where an address isn't that of a word, what stands behind is not come to
+placed_leaves : (c : Bool) (b : Behaviour) (next : WordState → Behaviour) → Leaves (then_on b next).end → Leaves (then_on (if c then b else strays) next).end
+placed_leaves true b next h = h
+placed_leaves false b next h = tt
+
+entries_leave : (count list : ℕ) (privates : List PrivateScalar) (q : Program) → ((s : WordState) → Leaves (behaviour q s).end) → (s : WordState) → Leaves (behaviour (joined (entries count list privates) q) s).end
+entries_leave count list [] q h s = h s
+entries_leave count list (x ∷ more) q h s =
+    let n = s.fram count in
+    let a = 4 * n + list in
+    let next = behaviour (joined (entries count list more) q) in
+    let b = goes_on _ _ in
+    placed_leaves (is_place count) _ next (placed_leaves (is_place a) _ next (placed_leaves (is_place (a + 2)) b next (entries_leave count list more q h _)))
+
+jumped_leaves : (even : Bool) (to : ℕ) (s : WordState) → Leaves (then_on (if even then behaves [] (Jumps to s) else broken) (behaviour nothing)).end
+jumped_leaves true to s = tt
+jumped_leaves false to s = tt
+
+jump_leaves : (to : ℕ) (s : WordState) → Leaves (behaviour (one (jump to)) s).end
+jump_leaves to s = jumped_leaves (to % 2 == 0) to s
+
+stored_leaves : (a v : ℕ) (q : Program) → ((s : WordState) → Leaves (behaviour q s).end) → (s : WordState) → Leaves (behaviour (step (store_number a v) q) s).end
+stored_leaves a v q h s = placed_leaves (is_place a) (goes_on _ _) (behaviour q) (h _)
+
+moved_leaves : (from to : ℕ) (q : Program) → ((s : WordState) → Leaves (behaviour q s).end) → (s : WordState) → Leaves (behaviour (step (move_word from to) q) s).end
+moved_leaves from to q h s = placed_leaves (is_place from) _ (behaviour q) (placed_leaves (is_place to) (goes_on _ _) (behaviour q) (h _))
+
+-- behind the entries: SB, GATE, the jump
+abbrev closing : Places → Program
+closing p = step (move_word p.words.base p.words.sent_base) (step (store_number p.words.gate 1) (one (jump p.commit)))
+
+transition_leaves : (p : Places) (task : ℕ) (s : WordState) → Leaves (behaviour (lowered_transition p task) s).end
+transition_leaves p task s =
+    let gated = step (store_number p.words.gate 1) (one (jump p.commit)) in
+    let tail = joined (entries p.words.list_length p.list p.privates) (closing p) in
+    stored_leaves p.words.next_task (task % 65536) tail (entries_leave p.words.list_length p.list p.privates (closing p)
+    (moved_leaves p.words.base p.words.sent_base gated (stored_leaves p.words.gate 1 (one (jump p.commit)) (jump_leaves p.commit)))) s
+
+entries_cycles : (count list : ℕ) (privates : List PrivateScalar) → cycles_of (entries count list privates) ≡ 21 * length privates
+entries_cycles count list [] = refl
+entries_cycles count list (x ∷ more) = let l = entries_cycles count list more in omega (arith, l)
+
+transition_spends : (p : Places) (task : ℕ) (s : WordState) → Within p 100 (behaviour (lowered_transition p task) s).end (spent (lowered_transition p task) s)
+transition_spends p task s =
+    let a = entries_cycles p.words.list_length p.list p.privates in
+    let l = joined_cycles (entries p.words.list_length p.list p.privates) (closing p) in
+    let k = ways_keep_to_cycles (lowered_transition p task) s in
+    leaves_pay p (behaviour (lowered_transition p task) s).end (spent (lowered_transition p task) s) 100 (transition_leaves p task s) (omega (arith, a, l, k))
+
+-- ---- parts one behind the other
+
+-- of two parts the second is paid for where the first goes on
+both : (p : Places) (e : End) (f : WordState → Behaviour) (cost : WordState → ℕ) (n most more : ℕ) → Within p most e n → ((s : WordState) → Within p more (f s).end (cost s))
+    → Within p (most + more) (on_end e f).end (n + spent_on e cost)
+both p (GoesOn s) f cost n most more a h = let b = h s in omega (arith, a, b)
+both p (Jumps to s) f cost n most more a h = omega (arith, a)
+both p Short f cost n most more a h = omega (arith, a)
+both p Strays f cost n most more a h = omega (arith, a)
+both p Broken f cost n most more a h = omega (arith, a)
+
+joined_spends : (p : Places) (a b : Program) (most more : ℕ) (s : WordState) → Within p most (behaviour a s).end (spent a s) → ((s : WordState) → Within p more (behaviour b s).end (spent b s))
+    → Within p (most + more) (behaviour (joined a b) s).end (spent (joined a b) s)
+joined_spends p a b most more s h k =
+    let l = both p (behaviour a s).end (behaviour b) (spent b) (spent a s) most more h k in
+    subst (λ r. Within p (most + more) r.end (spent (joined a b) s)) (sym (joined_go_on a b s)) (omega (arith, l, joined_spend a b s))
+
+-- all that has no transition keeps to its cycles
+plain : (p : Places) (q : Program) (most : ℕ) (s : WordState) → cycles_of q ≤ most → Within p most (behaviour q s).end (spent q s)
+plain p q most s h = let k = ways_keep_to_cycles q s in omega (arith, h, k)
+
+-- a step alone
+alone : (p : Places) (first : Step) (most : ℕ) (s : WordState) → Within p most (step_behaviour first s).end (step_spent first s) → Within p most (behaviour (one first) s).end (spent (one first) s)
+alone p first most s h = by (step_behaviour first s).end h
+  where
+    by : (e : End) → Within p most e (step_spent first s) → Within p most (on_end e (behaviour nothing)).end (step_spent first s + spent_on e (spent nothing))
+    by (GoesOn v) h = omega (arith, h)
+    by (Jumps to v) h = omega (arith, h)
+    by Short h = omega (arith, h)
+    by Strays h = omega (arith, h)
+    by Broken h = omega (arith, h)
+
+-- ---- turns
+
+turns_spend : (p : Places) (most m n k : ℕ) (run : WordState → Behaviour) (cost : WordState → ℕ) (s : WordState) → ((v : WordState) → Within p most (run v).end (cost v))
+    → Within p (m * (40 + most)) (turns m n k run s).end (turns_spent m n k run cost s)
+turns_spend p most zero n k run cost s h = omega arith
+turns_spend p most (suc m) n k run cost s h =
+    let v = with_local n k s in
+    let a = both p (run v).end (turns m n (k + 1) run) (turns_spent m n (k + 1) run cost) (18 + cost v) (18 + most) (m * (40 + most)) (let b = h v in omega (arith, b)) (λ u. turns_spend p most m n (k + 1) run cost u h) in
+    omega (arith, a)
+
+-- one of two ways, by the top of the stack
+way_spends : (p : Places) (vs : List ℕ) (ra rb : List ℕ → Behaviour) (ca cb : List ℕ → ℕ) (a b : ℕ) → ((us : List ℕ) → Within p a (ra us).end (ca us)) → ((us : List ℕ) → Within p b (rb us).end (cb us))
+    → Within p (max a b) (with_top vs (λ v us. chosen v (ra us) (rb us))).end (way_spent vs ca cb)
+way_spends p [] ra rb ca cb a b f g = omega arith
+way_spends p (zero ∷ us) ra rb ca cb a b f g = let k = g us in omega (arith, k)
+way_spends p (suc v ∷ us) ra rb ca cb a b f g = let k = f us in omega (arith, k)
+
+-- ---- statements
+
+assignment_cycles : (p : Places) (x : Variable) (e : CheckedExpression) → cycles_of (assignment p x e) ≤ 40 + expression_price cycles_column e
+assignment_cycles p x e =
+    let l = joined_cycles (lowered_expression p e) (one (write_step p x)) in
+    omega (arith, l, write_cycles x, expression_cycles p e)
+  where
+    write_cycles : (x : Variable) → step_cycles (write_step p x) ≤ 5
+    write_cycles (Shared v) = omega arith
+    write_cycles (Local n) = omega arith
+
+store_cycles : (p : Places) (x : Variable) (index e : CheckedExpression) → cycles_of (element_assignment p x index e) ≤ 120 + expression_price cycles_column index + expression_price cycles_column e
+store_cycles p x index e =
+    let l = joined_cycles (lowered_expression p index) (lowered_expression p e) in
+    let m = joined_cycles (joined (lowered_expression p index) (lowered_expression p e)) (one (store_step p x)) in
+    omega (arith, l, m, step_price x, expression_cycles p index, expression_cycles p e)
+  where
+    step_price : (x : Variable) → step_cycles (store_step p x) ≤ 49
+    step_price (Shared v) = omega arith
+    step_price (Local n) = omega arith
+
+mutual
+  statement_spends : (p : Places) (x : CheckedStatement) (w : WordState) → Within p (statement_price cycles_column x) (behaviour (lowered_statement p x) w).end (spent (lowered_statement p x) w)
+  statement_spends p (t.declare of x None) w = omega arith
+  statement_spends p (t.declare of x (Some e)) w = plain p (assignment p x.variable e) _ w (assignment_cycles p x.variable e)
+  statement_spends p (t.assign x e) w = plain p (assignment p x.variable e) _ w (assignment_cycles p x.variable e)
+  statement_spends p (t.store x index e) w = plain p (element_assignment p x.variable index e) _ w (store_cycles p x.variable index e)
+  statement_spends p (t.choose choice) w = let a = choice_spends p choice w in omega (arith, a)
+  statement_spends p (t.loop x from tested below stepped body) w =
+      let n = loop_local x.variable in
+      let turn = lowered_block p body in
+      let a = turns_spend p (block_price cycles_column body) (below - from) n from (behaviour turn) (spent turn) w (λ v. block_spends p body v) in
+      alone p (repeat n from below turn) _ w (omega (arith, a))
+  statement_spends p (t.emit e) w =
+      let l = joined_cycles (lowered_expression p e) (one (emit_word p.words.emit_count p.emits)) in
+      plain p (lowered_statement p (t.emit e)) _ w (omega (arith, l, expression_cycles p e))
+  statement_spends p (t.transition task) w = transition_spends p task.task w
+
+  choice_spends : (p : Places) (c : CheckedChoice) (w : WordState) → Within p (conditions_price cycles_column c + blocks_price cycles_column c) (behaviour (lowered_choice p c) w).end (spent (lowered_choice p c) w)
+  choice_spends p t.nothing w = omega arith
+  choice_spends p (t.otherwise block) w = let a = block_spends p block w in omega (arith, a)
+  choice_spends p (t.test e block more) w =
+      let taken = lowered_block p block in
+      let otherwise = lowered_choice p more in
+      let a = block_price cycles_column block in
+      let b = conditions_price cycles_column more + blocks_price cycles_column more in
+      let first = plain p (lowered_expression p e) (cycles_of (lowered_expression p e)) w (omega arith) in
+      let k = joined_spends p (lowered_expression p e) (one (choose taken otherwise)) (cycles_of (lowered_expression p e)) (8 + max a b) w first
+      (λ s. alone p (choose taken otherwise) (8 + max a b) s
+      (let l = way_spends p s.stack (λ us. behaviour taken (with_stack us s)) (λ us. behaviour otherwise (with_stack us s)) (λ us. spent taken (with_stack us s)) (λ us. spent otherwise (with_stack us s)) a b
+      (λ us. block_spends p block (with_stack us s)) (λ us. choice_spends p more (with_stack us s)) in omega (arith, l))) in
+      omega (arith, k, expression_cycles p e)
+
+  block_spends : (p : Places) (b : CheckedBlock) (w : WordState) → Within p (block_price cycles_column b) (behaviour (lowered_block p b) w).end (spent (lowered_block p b) w)
+  block_spends p t.end w = omega arith
+  block_spends p (t.step x more) w =
+      joined_spends p (lowered_statement p x) (lowered_block p more) (statement_price cycles_column x) (block_price cycles_column more) w (statement_spends p x w) (λ s. block_spends p more s)
+
+pub blocks_keep_to_cycles : BlocksKeepToCycles
+blocks_keep_to_cycles p block w = block_spends p block w

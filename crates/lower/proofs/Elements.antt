@@ -1,0 +1,190 @@
+-- A store to an element, as the step of a task.
+use Rattle.std.proofs.Common.{◌≡◌, ℕ, ◌+◌, ◌*◌, ◌==◌, ◌<◌, ◌≤◌, List, [], ◌∷◌, ◌++◌, length, get_or, Option, Some, Contains, true, refl, sym, ap, ◌∙◌, subst, arith, inl, inr, ⊎_elim, length-append, if◌then◌else◌}
+use Rattle.std.proofs.lemmas.Bool.{cases_eq, cases_lt}
+use Rattle.fram_board.specs.Effects.{Store}
+use Rattle.machine_effects.specs.World.{put}
+use Rattle.task_ast.specs.declared.names.Variable.TheVariants.{Shared}
+use Rattle.source_values.specs.Values.{Variables, with_word}
+use Rattle.source_values.specs.Statements.{Attempt, goes_on}
+use Rattle.array_versions.specs.Behaviour.{WordState, Behaviour, then_on, is_place, versioned_stored, behaviour}
+use Rattle.array_versions.specs.Program.{nothing}
+use Rattle.array_versions.specs.declared.program.ArrayPlace.{ArrayPlace}
+use Rattle.privatise.specs.declared.place.ArrayCopies.{ArrayCopies}
+use Rattle.privatise.specs.declared.place.VariablePlace.TheVariants.{Array}
+use Rattle.lower.specs.Places.{Places}
+use Rattle.lower.specs.Lowered.{array_place, list_place}
+use Rattle.lower.specs.Spots.{IsArrayAt, Element, IsCopied, element, copy, version, element_address, copy_address, version_address, listed_of}
+use Rattle.lower.specs.Agreement.{at_copy, at_version, in_list, at_list_length, HoldVariables, StandsFor, WentOn}
+use Rattle.lower.proofs.Addresses.{fram_place, spot_place, put_other, element_is, copy_is, version_is, has_element}
+use Rattle.lower.proofs.Stored.{word_past, set_holds, same_list, same_emits, spot_emits}
+use Rattle.lower.proofs.Transitions.{even_at, even_behind}
+use Rattle.lower.proofs.Versioned.{stores_again, stores_first, stores_nothing, after_first, first_effects, element_set, again_stored, again_list, first_stored_at, first_emits, first_list, pushed_of, push_listed}
+use Rattle.lower.proofs.Ends.{Scene, bounds, Does}
+
+-- what is asked where statements begin that emit and list so much: the state stands for the attempt, and there is room
+pub record Begins (z : Scene) (m : Attempt) (listed : List Element) (w : WordState) (emitting : ℕ) (count most : ℕ → ℕ) : Type 0 where
+  pub stands : StandsFor z.p m listed w
+  pub number : w.fram z.p.words.version ≡ z.ver
+  pub emits : length m.emitted + emitting ≤ z.room.emits
+  pub lists : (v : ℕ) → listed_of v listed + count v ≤ most v
+  pub within : (v : ℕ) → most v ≤ z.stores v
+
+pub few_listed : (z : Scene) (m : Attempt) (listed : List Element) (w : WordState) (emits : ℕ) (count most : ℕ → ℕ) → Begins z m listed w emits count most
+    → (v : ℕ) → listed_of v listed ≤ most v
+few_listed z m listed w emits count most h v = let a = h.lists v in omega (arith, a)
+
+pub list_fits : (z : Scene) (m : Attempt) (listed : List Element) (w : WordState) (emits : ℕ) (count most : ℕ → ℕ) → Begins z m listed w emits count most
+    → length listed + length z.p.privates ≤ z.room.list
+list_fits z m listed w emits count most h =
+    z.has_room listed h.stands.list.are_listed (λ v. let a = h.lists v in let b = h.within v in omega (arith, a, b))
+
+pub few_emitted : (z : Scene) (m : Attempt) (listed : List Element) (w : WordState) (emits : ℕ) (count most : ℕ → ℕ) → Begins z m listed w emits count most
+    → length m.emitted ≤ z.room.emits
+few_emitted z m listed w emits count most h = let a = h.emits in omega (arith, a)
+
+-- past the end nothing changes
+past_set : (p : Places) (n i v elements len : ℕ) (c : ArrayCopies) (m : Variables) (f : ℕ → ℕ) (locals : ℕ → Option ℕ) → IsArrayAt p n elements len (Some c)
+    → len ≤ i
+    → HoldVariables p m f locals → HoldVariables p (with_word m (Shared n) i v) f locals
+past_set p n i v elements len c m f locals at past h =
+    let row = h.rows n (Array elements len (Some c)) at.place in
+    let l = h.lengths n (Array elements len (Some c)) at.place in
+    let short : length (get_or m.shared n []) ≤ i = omega (arith, l, past) in
+    set_holds p n i v m f f locals row h (λ u is. h.words u is ∙ sym (word_past m n i v u 0 row short))
+    (λ x is. h.elements x is ∙ sym (word_past m n i v x.array x.index row short))
+
+-- a store to an element of array n
+module _ (z : Scene) (n i v elements len : ℕ) (c : ArrayCopies) (w : WordState) (m : Attempt) (listed : List Element) (left : List ℕ) (most : ℕ → ℕ)
+    (at : IsArrayAt z.p n elements len (Some c)) (h : Begins z m listed w 0 (λ u. if n == u then 1 else 0) most) where
+  abbrev place : ArrayPlace
+  place = array_place elements len c
+
+  abbrev from : WordState
+  from = record w { readings = left }
+
+  abbrev after : Attempt
+  after = record m { variables = with_word m.variables (Shared n) i v; left = left }
+
+  abbrev Result : Behaviour → Type 0
+  Result b = Does z w.fram most w.stack (then_on b (behaviour nothing)) (goes_on after)
+
+  abbrev x : Element
+  x = record { array = n; index = i }
+
+  is_copied : i < len → IsCopied z.p x
+  is_copied l = record { elements = elements; length = len; copies = c; is_array = at; below = l }
+
+  abbrev IsHere : ℕ → Type 0
+  IsHere a = is_place a ≡ true
+
+  here_copy : (l : i < len) → IsHere (2 * i + c.copies)
+  here_copy l = subst IsHere (copy_is z.p x elements len c at) (spot_place z.p z.room (copy x) z.apart z.even (is_copied l))
+
+  here_version : (l : i < len) → IsHere (2 * i + c.versions)
+  here_version l = subst IsHere (version_is z.p x elements len c at) (spot_place z.p z.room (version x) z.apart z.even (is_copied l))
+
+  here_element : (l : i < len) → IsHere (2 * i + elements)
+  here_element l = subst IsHere (element_is z.p x elements len (Some c) at)
+      (spot_place z.p z.room (element x) z.apart z.even (has_element z.p x (is_copied l)))
+
+  here_number : IsHere z.p.words.version
+  here_number = let apart = z.apart in fram_place z.p.words.version z.even.version (omega (arith, apart)) (omega (arith, apart))
+
+  past : len ≤ i → Result (versioned_stored place (list_place z.p) i v from)
+  past l =
+      subst Result (sym (stores_nothing place (list_place z.p) i v from l)) (record {
+        stores = tt;
+        stack_kept = refl;
+        listed = listed;
+        stands = record { variables = past_set z.p n i v elements len c m.variables w.fram w.locals at l h.stands.variables; emitted = h.stands.emitted; list = h.stands.list; readings = refl };
+        few = few_listed z m listed w 0 (λ u. if n == u then 1 else 0) most h;
+      })
+
+  -- the version word is VER
+  again : (l : i < len) → w.fram z.p.words.version ≡ w.fram (version_address z.p x) → Result (versioned_stored place (list_place z.p) i v from)
+  again l marked =
+      let p = z.p in
+      let f = w.fram in
+      let is = is_copied l in
+      let now = again_stored p z.room x v f z.apart is marked in
+      let fits = list_fits z m listed w 0 (λ u. if n == u then 1 else 0) most h in
+      let Q : ℕ → Type 0 = λ a. put f a v p.words.version ≡ put f a v (version_address p x) in
+      let same = subst Q (copy_is p x elements len c at) (now.number ∙ sym now.mark) ∙ ap (put f (2 * i + c.copies) v) (version_is p x elements len c at) in
+      let P : ℕ → Type 0 = λ a. WentOn p (bounds z f most) w.stack (Store a v ∷ []) (record w { fram = put f a v; readings = left }) after in
+      subst Result (sym (stores_again place (list_place p) i v from l (here_copy l) here_number (here_version l) same))
+      (subst P (copy_is p x elements len c at) (record {
+        stores = (at_copy x is refl, tt);
+        stack_kept = refl;
+        listed = listed;
+        stands = record {
+          variables = element_set p z.room x v m.variables f (put f (copy_address p x) v) w.locals is now h.stands.variables;
+          emitted = same_emits p z.room m.emitted f (put f (copy_address p x) v) (few_emitted z m listed w 0 (λ u. if n == u then 1 else 0) most h)
+              (spot_emits p z.room (copy x) v f z.apart is) h.stands.emitted;
+          list = same_list p z.room listed f (put f (copy_address p x) v) (omega (arith, fits)) (again_list p z.room x v f z.apart is) h.stands.list;
+          readings = refl;
+        };
+        few = few_listed z m listed w 0 (λ u. if n == u then 1 else 0) most h;
+      }))
+
+  -- there is room for one more in the list
+  one_more : IsCopied z.p x → (Contains listed x → ⊥) → length listed < z.room.list
+  one_more is fresh =
+      let P : (u : ℕ) → listed_of u (listed ++ x ∷ []) ≤ z.stores u = λ u.
+      let a = h.lists u in let b = h.within u in let e = pushed_of u listed x in omega (arith, a, b, e) in
+      let fits = z.has_room (listed ++ x ∷ []) (push_listed z.p listed x h.stands.list.are_listed is fresh) P in
+      let l = length-append listed (x ∷ []) in
+      omega (arith, fits, l)
+
+  -- it isn't
+  first : (l : i < len) → (w.fram z.p.words.version ≡ w.fram (version_address z.p x) → ⊥) → Result (versioned_stored place (list_place z.p) i v from)
+  first l unmarked =
+      let p = z.p in
+      let f = w.fram in
+      let apart = z.apart in
+      let list = list_place p in
+      let k = length listed in
+      let is = is_copied l in
+      let fresh : Contains listed x → ⊥ = λ d. unmarked (sym (h.stands.list.marked x d)) in
+      let fits = one_more is fresh in
+      let at_c = copy_is p x elements len c at in
+      let at_n = version_is p x elements len c at in
+      let at_e = element_is p x elements len (Some c) at in
+      let Behind : ℕ → Type 0 = λ a. p.emits + 2 * z.room.emits ≤ a in
+      let far_c = subst Behind at_c (apart.spots (copy x) is) in
+      let far_n = subst Behind at_n (apart.spots (version x) is) in
+      let kept : put f (2 * i + c.copies) v p.words.version ≡ f p.words.version =
+      put_other f (2 * i + c.copies) v p.words.version (λ e. omega (arith, e, far_c, apart)) in
+      let mark : put f (2 * i + c.copies) v (2 * i + c.versions) ≡ f (version_address p x) =
+      sym (ap (put f (2 * i + c.copies) v) at_n) ∙ sym (ap (λ a. put f a v (version_address p x)) at_c)
+      ∙ put_other f (copy_address p x) v (version_address p x) (λ e. let d = apart.distinct (version x) (copy x) is is e in cc) in
+      let counted : put (put f (2 * i + c.copies) v) (2 * i + c.versions) (f p.words.version) p.words.list_length ≡ k =
+      put_other (put f (2 * i + c.copies) v) (2 * i + c.versions) (f p.words.version) p.words.list_length (λ e. omega (arith, e, far_n, apart))
+      ∙ put_other f (2 * i + c.copies) v p.words.list_length (λ e. omega (arith, e, far_c, apart)) ∙ h.stands.list.list_length in
+      let here_length = fram_place p.words.list_length z.even.list_length (omega (arith, apart)) (omega (arith, apart)) in
+      let here_home = fram_place (4 * k + p.list) (even_at k p.list z.even.list) (omega (arith, apart)) (omega (arith, apart, fits)) in
+      let here_entry = fram_place (4 * k + p.list + 2) (even_behind k p.list z.even.list) (omega (arith, apart)) (omega (arith, apart, fits)) in
+      let P : ℕ → ℕ → ℕ → Type 0 = λ a b d. WentOn p (bounds z f most) w.stack (first_effects list k a b d v f)
+      (record w { fram = after_first list k a b d v f; readings = left }) after in
+      let went : P (copy_address p x) (version_address p x) (element_address p x) = record {
+        stores = (
+          at_copy x is refl,
+          (at_version x is refl h.number, (in_list k fits (inl refl), (in_list k fits (inr refl), (at_list_length refl (omega (arith, fits)), tt)))),
+        );
+        stack_kept = refl;
+        listed = listed ++ x ∷ [];
+        stands = record {
+          variables = element_set p z.room x v m.variables f _ w.locals is (first_stored_at p z.room k x v f apart is fits) h.stands.variables;
+          emitted = same_emits p z.room m.emitted f _ (few_emitted z m listed w 0 (λ u. if n == u then 1 else 0) most h)
+              (first_emits p z.room k x v f apart is fits) h.stands.emitted;
+          list = first_list p z.room listed x v f apart is fits unmarked h.stands.list;
+          readings = refl;
+        };
+        few = λ u. subst (λ a. a ≤ most u) (sym (pushed_of u listed x)) (h.lists u);
+      } in
+      subst Result (sym (stores_first place list i v k from l (here_copy l) here_number (here_version l) (here_element l) here_length here_home here_entry
+      (λ e. unmarked (sym kept ∙ e ∙ mark)) kept counted))
+      (subst (λ a. P (2 * i + c.copies) (2 * i + c.versions) a) at_e (subst (λ a. P (2 * i + c.copies) a (element_address p x)) at_n
+      (subst (λ a. P a (version_address p x) (element_address p x)) at_c went)))
+
+  pub store_does : Result (versioned_stored place (list_place z.p) i v from)
+  store_does = ⊎_elim (λ l. ⊎_elim (again l) (first l) (cases_eq (w.fram z.p.words.version) (w.fram (version_address z.p x)))) past (cases_lt i len)

@@ -1,0 +1,210 @@
+-- Programs and statements one behind another: the ends of both agree where each step's do.
+use Rattle.std.proofs.Common.{◌≡◌, ℕ, ◌<◌, ◌≤◌, List, [], ◌∷◌, ◌++◌, length, Option, Some, None, Bool, refl, sym, ap, ◌∙◌, subst, arith, append_assoc, append-nil, ⊎_elim}
+use Rattle.fram_board.specs.Effects.{Effect, Store, Take, Send}
+use Rattle.machine_effects.specs.World.{put, fram_after}
+use Rattle.machine_effects.proofs.Worlds.{fram_after-append}
+use Rattle.source_values.specs.Statements.{Attempt, Outcome, goes_on, to_task, short, and_then, if_value}
+use Rattle.array_versions.specs.Program.{Program, nothing}
+use Rattle.array_versions.specs.Behaviour.{WordState, End, GoesOn, Jumps, Short, Strays, Broken, Behaviour, behind_effects, on_end, then_on, behaviour}
+use Rattle.array_versions.specs.Laws.{EndsByEffects}
+use Rattle.array_versions.proofs.ByEffects.{behaves_by_effects}
+use Rattle.lower.specs.Places.{Places}
+use Rattle.lower.specs.Spots.{Element, scalar, copy, version, Room, AreApart, AreEven, listed_of, HasRoom}
+use Rattle.lower.specs.Agreement.{TakesAndStores, OnlyTakes, IsTaskStore, at_variable, at_copy, at_version, in_list, at_list_length, at_emit_count, in_buffer, StandsFor, valued, EndsWithValue, AgreesWithValue, Bounds, Left, EndsAs, Agrees}
+use Rattle.lower.proofs.Addresses.{put_other}
+use Rattle.lower.proofs.Values.{takes_append, only_takes}
+use Rattle.lower.proofs.Emitted.{EmitsAtMost}
+
+-- the task that statements stand in: its places, apart and even, with room for so many stores to each array, the scalars that it
+-- writes, and VER
+pub record Scene : Type 0 where
+  pub p : Places
+  pub written : ℕ → Bool
+  pub room : Room
+  pub stores : ℕ → ℕ
+  pub ver : ℕ
+  pub apart : AreApart p room
+  pub even : AreEven p
+  pub has_room : HasRoom p stores room
+
+-- the bounds of statements from this FRAM on, which may list so many elements
+abbrev pub bounds : Scene → (ℕ → ℕ) → (ℕ → ℕ) → Bounds
+bounds z start most = record { start = start; written = z.written; room = z.room; ver = z.ver; most = most }
+
+abbrev pub Stores : Scene → List Effect → Type 0
+Stores z = TakesAndStores (IsTaskStore z.p z.written z.room z.ver)
+
+abbrev pub Ends : Scene → (ℕ → ℕ) → (ℕ → ℕ) → List ℕ → List Effect → End → Outcome → Type 0
+Ends z start most = EndsAs z.p (bounds z start most)
+
+abbrev pub Does : Scene → (ℕ → ℕ) → (ℕ → ℕ) → List ℕ → Behaviour → Outcome → Type 0
+Does z start most = Agrees z.p (bounds z start most)
+
+-- ---- words that no statement stores
+
+pub record IsKept (p : Places) (a : ℕ) : Type 0 where
+  pub low : a < p.list
+  pub not_length : a ≡ p.words.list_length → ⊥
+  pub not_count : a ≡ p.words.emit_count → ⊥
+
+store_elsewhere : (p : Places) (written : ℕ → Bool) (room : Room) (ver a b w : ℕ) → AreApart p room → IsKept p a → IsTaskStore p written room ver b w → a ≡ b
+    → ⊥
+store_elsewhere p written room ver a b w apart kept (at_variable v is ok e) d = let low = apart.spots (scalar v) is in omega (arith, d, e, low, kept, apart)
+store_elsewhere p written room ver a b w apart kept (at_copy x is e) d = let low = apart.spots (copy x) is in omega (arith, d, e, low, kept, apart)
+store_elsewhere p written room ver a b w apart kept (at_version x is e f) d = let low = apart.spots (version x) is in omega (arith, d, e, low, kept, apart)
+store_elsewhere p written room ver a b w apart kept (in_list i few e) d =
+    ⊎_elim (λ f. omega (arith, d, f, kept)) (λ f. omega (arith, d, f, kept)) e
+store_elsewhere p written room ver a b w apart kept (at_list_length e few) d = kept.not_length (d ∙ e)
+store_elsewhere p written room ver a b w apart kept (at_emit_count e few) d = kept.not_count (d ∙ e)
+store_elsewhere p written room ver a b w apart kept (in_buffer i few e) d = omega (arith, d, e, kept, apart)
+
+-- they stay
+pub stores_keep : (p : Places) (written : ℕ → Bool) (room : Room) (ver a : ℕ) (es : List Effect) (f : ℕ → ℕ) → AreApart p room → IsKept p a
+    → TakesAndStores (IsTaskStore p written room ver) es → fram_after es f a ≡ f a
+stores_keep p written room ver a [] f apart kept h = refl
+stores_keep p written room ver a (Store b w ∷ es) f apart kept h =
+    stores_keep p written room ver a es (put f b w) apart kept h.1 ∙ put_other f b w a (store_elsewhere p written room ver a b w apart kept h.0)
+stores_keep p written room ver a (Take r ∷ es) f apart kept h = stores_keep p written room ver a es f apart kept h
+stores_keep p written room ver a (Send n w ∷ es) f apart kept h = absurd h
+
+-- VER is one
+pub keeps_version : (p : Places) (room : Room) → AreApart p room → IsKept p p.words.version
+keeps_version p room apart = record { low = omega (arith, apart); not_length = λ e. omega (arith, e, apart); not_count = λ e. omega (arith, e, apart) }
+
+-- and BASE is another
+pub keeps_base : (p : Places) (room : Room) → AreApart p room → IsKept p p.words.base
+keeps_base p room apart = record { low = omega (arith, apart); not_length = λ e. omega (arith, e, apart); not_count = λ e. omega (arith, e, apart) }
+
+-- readings alone change nothing
+pub takes_keep : (es : List Effect) (f : ℕ → ℕ) → OnlyTakes es → fram_after es f ≡ f
+takes_keep [] f h = refl
+takes_keep (Store a w ∷ es) f h = absurd h.0
+takes_keep (Take r ∷ es) f h = takes_keep es f h
+takes_keep (Send n w ∷ es) f h = absurd h
+
+-- ---- effects in front
+
+pub ends_behind : (z : Scene) (start from most : ℕ → ℕ) (stack : List ℕ) (es fs : List Effect) (e : End) (o : Outcome) → from ≡ fram_after es start
+    → Stores z es
+    → Ends z from most stack fs e o → Ends z start most stack (es ++ fs) e o
+ends_behind z start from most stack es fs (GoesOn s) (goes_on m) is h k =
+    record {
+      stores = takes_append
+          (IsTaskStore z.p z.written z.room z.ver) es fs h k.stores;
+      stack_kept = k.stack_kept;
+      listed = k.listed;
+      stands = k.stands;
+      few = k.few;
+    }
+ends_behind z start from most stack es fs (GoesOn s) (to_task task m) is h k = absurd k
+ends_behind z start from most stack es fs (GoesOn s) short is h k = absurd k
+ends_behind z start from most stack es fs (Jumps to s) (goes_on m) is h k = absurd k
+ends_behind z start from most stack es fs (Jumps to s) (to_task task m) is h k = record {
+  body = es ++ k.body;
+  there = k.there;
+  listed = k.listed;
+  effects = ap (λ l. es ++ l) k.effects ∙ sym (append_assoc es k.body _);
+  stores = takes_append (IsTaskStore z.p z.written z.room z.ver) es k.body h k.stores;
+  arrived = k.arrived ∙ ap (fram_after k.body) is ∙ sym (fram_after-append es k.body start);
+  stands = k.stands;
+  few = k.few;
+  commits = k.commits;
+  readings = k.readings;
+}
+ends_behind z start from most stack es fs (Jumps to s) short is h k = absurd k
+ends_behind z start from most stack es fs Short (goes_on m) is h k = absurd k
+ends_behind z start from most stack es fs Short (to_task task m) is h k = absurd k
+ends_behind z start from most stack es fs Short short is h k = takes_append (IsTaskStore z.p z.written z.room z.ver) es fs h k
+ends_behind z start from most stack es fs Strays o is h k = absurd k
+ends_behind z start from most stack es fs Broken o is h k = tt
+
+-- none behind
+pub ends_alone : (z : Scene) (start most : ℕ → ℕ) (stack : List ℕ) (es : List Effect) (e : End) (o : Outcome) → Ends z start most stack es e o
+    → Ends z start most stack (es ++ []) e o
+ends_alone z start most stack es e o h = let P : List Effect → Type 0 = λ l. Ends z start most stack l e o in subst P (sym (append-nil es)) h
+
+-- left with fewer listed
+left_with_fewer : (z : Scene) (start most few : ℕ → ℕ) (es : List Effect) (to : ℕ) (s : WordState) (task : ℕ) (m : Attempt) → ((v : ℕ) → few v ≤ most v)
+    → Left z.p (bounds z start few) es to s task m → Left z.p (bounds z start most) es to s task m
+left_with_fewer z start most few es to s task m less k = record {
+  body = k.body;
+  there = k.there;
+  listed = k.listed;
+  effects = k.effects;
+  stores = k.stores;
+  arrived = k.arrived;
+  stands = k.stands;
+  few = λ v. let a = k.few v in let b = less v in omega (arith, a, b);
+  commits = k.commits;
+  readings = k.readings;
+}
+
+-- ---- one behind the other
+
+-- the state behind the first: what is asked of the second
+pub record IsThere (z : Scene) (few : ℕ → ℕ) (stack : List ℕ) (n : ℕ) (s : WordState) (m : Attempt) (listed : List Element) : Type 0 where
+  pub stack_kept : s.stack ≡ stack
+  pub stands : StandsFor z.p m listed s
+  pub number : s.fram z.p.words.version ≡ z.ver
+  pub few_emitted : length m.emitted ≤ n
+  pub few_listed : (v : ℕ) → listed_of v listed ≤ few v
+
+pub does_then : (z : Scene) (q : Program) (w : WordState) (few most : ℕ → ℕ) (stack : List ℕ) (n : ℕ) (o : Outcome) (next : WordState → Behaviour)
+    (more : Attempt → Outcome)
+    → w.fram z.p.words.version ≡ z.ver → ((v : ℕ) → few v ≤ most v) → Does z w.fram few stack (behaviour q w) o → EmitsAtMost n o
+    → ((s : WordState) (m : Attempt) (listed : List Element) → IsThere z few stack n s m listed → Does z s.fram most stack (next s) (more m))
+    → Does z w.fram most stack (then_on (behaviour q w) next) (and_then o more)
+does_then z q w few most stack n o next more ver less h emits k = go (behaviour q w).effects (behaviour q w).end o (behaves_by_effects q w) h emits
+  where
+    go : (es : List Effect) (e : End) (o : Outcome) → EndsByEffects w es e → Ends z w.fram few stack es e o → EmitsAtMost n o
+        → Does z w.fram most stack (behind_effects es (on_end e next)) (and_then o more)
+    go es (GoesOn s) (goes_on m) by h emits =
+        let kept : s.fram z.p.words.version ≡ z.ver =
+        ap (λ f. f z.p.words.version) by.0
+        ∙ stores_keep z.p z.written z.room z.ver z.p.words.version es w.fram z.apart (keeps_version z.p z.room z.apart) h.stores ∙ ver in
+        ends_behind z w.fram s.fram most stack es (next s).effects (next s).end (more m) by.0 h.stores
+        (k s m h.listed (record { stack_kept = h.stack_kept; stands = h.stands; number = kept; few_emitted = emits; few_listed = h.few }))
+    go es (GoesOn s) (to_task task m) by h emits = absurd h
+    go es (GoesOn s) short by h emits = absurd h
+    go es (Jumps to s) (goes_on m) by h emits = absurd h
+    go es (Jumps to s) (to_task task m) by h emits = ends_alone z w.fram most stack es (Jumps to s) (to_task task m)
+        (left_with_fewer z w.fram most few es to s task m less h)
+    go es (Jumps to s) short by h emits = absurd h
+    go es Short (goes_on m) by h emits = absurd h
+    go es Short (to_task task m) by h emits = absurd h
+    go es Short short by h emits = ends_alone z w.fram most stack es Short short h
+    go es Strays o by h emits = absurd h
+    go es Broken o by h emits = tt
+
+-- nothing behind
+pub does_alone : (z : Scene) (start most : ℕ → ℕ) (stack : List ℕ) (b : Behaviour) (o : Outcome) → Does z start most stack b o
+    → Does z start most stack (then_on b (behaviour nothing)) o
+does_alone z start most stack b o h = go b.effects b.end h
+  where
+    go : (es : List Effect) (e : End) → Ends z start most stack es e o → Does z start most stack (behind_effects es (on_end e (behaviour nothing))) o
+    go es (GoesOn s) h = ends_alone z start most stack es (GoesOn s) o h
+    go es (Jumps to s) h = ends_alone z start most stack es (Jumps to s) o h
+    go es Short h = ends_alone z start most stack es Short o h
+    go es Strays h = absurd h
+    go es Broken h = tt
+
+-- a value, and what is done with it
+pub does_value : (z : Scene) (most : ℕ → ℕ) (stack : List ℕ) (w : WordState) (b : Behaviour) (o : Option (ℕ × List ℕ)) (next : WordState → Behaviour)
+    (m : Attempt) (more : ℕ → Attempt → Outcome)
+    → AgreesWithValue w b o → ((x : ℕ × List ℕ) → Does z w.fram most stack (next (valued w x)) (more x.0 (record m { left = x.1 })))
+    → Does z w.fram most stack (then_on b next) (if_value o m more)
+does_value z most stack w b o next m more h k = go b.effects b.end o h.0 h.1
+  where
+    go : (es : List Effect) (e : End) (o : Option (ℕ × List ℕ)) → OnlyTakes es → EndsWithValue w e o
+        → Does z w.fram most stack (behind_effects es (on_end e next)) (if_value o m more)
+    go es (GoesOn s) (Some x) h e =
+        let P : WordState → Type 0 = λ s. Does z w.fram most stack (behind_effects es (next s)) (more x.0 (record m { left = x.1 })) in
+        let b = next (valued w x) in
+        subst P (sym e) (ends_behind z w.fram w.fram most stack es b.effects b.end (more x.0 (record m { left = x.1 })) (sym (takes_keep es w.fram h))
+        (only_takes (IsTaskStore z.p z.written z.room z.ver) es h) (k x))
+    go es (GoesOn s) None h e = absurd e
+    go es (Jumps to s) o h e = absurd e
+    go es Short (Some x) h e = absurd e
+    go es Short None h e = ends_alone z w.fram most stack es Short short (only_takes (IsTaskStore z.p z.written z.room z.ver) es h)
+    go es Strays o h e = absurd e
+    go es Broken o h e = tt

@@ -1,0 +1,5 @@
+use Rattle.lower.proofs.Blocks.{blocks_agree}
+use Rattle.lower.proofs.laws.statements_agree.Goals as goal
+
+pub returns : goal.returns
+returns c = blocks_agree
