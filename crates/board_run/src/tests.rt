@@ -258,3 +258,20 @@ fn the_watch_sums_the_shared_words(rt: HostRuntime) -> Result<(), Fail> {
     assert_eq!(rt; watch.completed(), 2);
     Ok(())
 }
+
+#[test]
+fn words_of_a_cut_attempt_are_not_in_the_sum(rt: HostRuntime) -> Result<(), Fail> {
+    let text = READS_AND_COMMITS.as_bytes();
+    assert!(rt; text.len() < 10000);
+    let image = parse_image(rt.alloc(), text)?;
+    let trace = parse_trace(rt.alloc(), b"s 3 0\nr 5\n")?;
+    let mut sink = MemSink::new(rt.alloc(), 1000, Vec::new(rt.alloc()))?;
+    let mut board = Board::new(rt.alloc(), &image, trace.readings())?;
+    let mut watch = Watch::new(rt.alloc(), &image)?;
+    let answer = run_into(&mut board, &trace, &mut watch, &mut sink);
+    assert_eq!(rt; answer, Ok(RunEnd::Charges));
+    assert_eq!(rt; board.word(0x5014), Some(5));
+    assert_eq!(rt; watch.sum(), 0);
+    assert_eq!(rt; watch.completed(), 0);
+    Ok(())
+}

@@ -46,7 +46,8 @@ charge_moments m left b r (Refused _ _ i e pos c paid a) = tt
 charge_moments m left b r (run.Executed _ _ i done rest pos c paid a h) =
     (Instructs i done c a refl, charge_moments m (left - price m i) (executed b i).board rest h)
 
-charge_last : (m : Measure) (left : ℕ) (b : BoardValue) (r : RunOutcome) → ChargeRun m left b r → r.ending ≡ Charges → last_board b r.moments ≡ r.board
+-- the board behind the moments of a charge that is spent
+pub charge_last : (m : Measure) (left : ℕ) (b : BoardValue) (r : RunOutcome) → ChargeRun m left b r → r.ending ≡ Charges → last_board b r.moments ≡ r.board
 charge_last m left b r (Spent _ _ none) e = refl
 charge_last m left b r (NoInstruction _ _ x pos h) e = absurd cc
 charge_last m left b r (TooDear _ _ i pos c dear) e = refl
@@ -194,6 +195,9 @@ module _ (b : BoardValue) (whole : IsWhole b) (i : Instr) (done : Stepped) (curr
       ap (λ es. length (accepted_after es ws)) told_same
       ∙ heard_count (effects_of b (executed b i)) b.receiver ws len
       ∙ ap (λ y. y.accepted) (sym made.receiver)
+
+  pub readings_stay : after.readings ≡ b.readings
+  readings_stay = (step_makes_its_effects b (executed b i) whole.board is_step).readings
 
   pub readings_counted : (k : History) → k.taken ≡ b.taken → k.taken + length (readings_taken told) ≡ after.taken
   readings_counted k e =

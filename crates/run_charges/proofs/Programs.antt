@@ -50,7 +50,7 @@ action_observed gate PowerUp before after k h = absurd h
 action_observed gate (Execute done offered) before after k h = refl
 
 -- moments that are instructions are observed by their effects
-instructions_observed : (gate : ℕ) (ms : List Moment) (k : History) → AreInstructionMoments ms → observed gate ms k ≡ observe gate (moments_effects ms) k
+pub instructions_observed : (gate : ℕ) (ms : List Moment) (k : History) → AreInstructionMoments ms → observed gate ms k ≡ observe gate (moments_effects ms) k
 instructions_observed gate [] k h = refl
 instructions_observed gate (m ∷ ms) k h =
     let es = action_effects m.action m.before m.after in
@@ -61,7 +61,7 @@ instructions_observed gate (m ∷ ms) k h =
 -- a program in FRAM
 module _ (c : Program) (gate p : ℕ) (is : List Instr) (entry : ℕ) (stands : IsPlacedProgram c p is entry) where
   -- what holds of a board between two charges
-  record Ready (b : BoardValue) (h : History) : Type 0 where
+  pub record Ready (b : BoardValue) (h : History) : Type 0 where
     pub whole : IsWhole b
     pub words : IsOfWords b
     pub vector : fram_of b.fram 0xFFFE ≡ entry
@@ -70,10 +70,10 @@ module _ (c : Program) (gate p : ℕ) (is : List Instr) (entry : ℕ) (stands : 
 
   -- one charge of a board that is ready
   module _ (b : BoardValue) (h : History) (ready : Ready b h) (f : ChargeFront) (charge : IsMachineCharge b f) where
-    abbrev start : MachineBoard
+    abbrev pub start : MachineBoard
     start = machine_of (powered b f.start)
 
-    abbrev end : BoardValue
+    abbrev pub end : BoardValue
     end = board_behind b f
 
     abbrev steps : ℕ
@@ -85,7 +85,7 @@ module _ (c : Program) (gate p : ℕ) (is : List Instr) (entry : ℕ) (stands : 
     abbrev told : MachineStretch
     told = stretch (moments_effects f.instructions) (moments_cycles f.instructions) (At (machine_of end))
 
-    abbrev behind : History
+    abbrev pub behind : History
     behind = observe gate made.effects (behind_boot h)
 
     is_powered : c.IsPoweredUp start
@@ -119,7 +119,7 @@ module _ (c : Program) (gate p : ℕ) (is : List Instr) (entry : ℕ) (stands : 
     off_vector : EachStore (IsElsewhere 0xFFFE) (moments_effects f.instructions)
     off_vector = let P : List Effect → Type 0 = λ es. EachStore (IsElsewhere 0xFFFE) es in subst P same_effects leaves_here.vector
 
-    ready_behind : Ready end behind
+    pub ready_behind : Ready end behind
     ready_behind =
         let P : (ℕ → ℕ) → Type 0 = λ g. Holds g p (words_of is) in
         let up = power_up_keeps_words b f.start ready.whole ready.words charge.start in
@@ -132,13 +132,14 @@ module _ (c : Program) (gate p : ℕ) (is : List Instr) (entry : ℕ) (stands : 
               (is_powered, refl, refl, (machine_of end, leads, run));
         }
 
-    observed_behind : (ms : List Moment) → observed gate ms behind ≡ observed gate (f.instructions ++ ms) (behind_boot h)
+    pub observed_behind : (ms : List Moment) → observed gate ms behind ≡ observed gate (f.instructions ++ ms) (behind_boot h)
     observed_behind ms =
         ap (λ es. observed gate ms (observe gate es (behind_boot h))) same_effects
         ∙ ap (observed gate ms) (sym (instructions_observed gate f.instructions (behind_boot h) charge.instructions))
         ∙ sym (observed-append gate f.instructions ms (behind_boot h))
 
-  charged : (b : BoardValue) (h : History) (fs : List ChargeFront) → Ready b h → AreMachineCharges b fs
+  -- charges of a board that is ready
+  pub charged : (b : BoardValue) (h : History) (fs : List ChargeFront) → Ready b h → AreMachineCharges b fs
       → Charged c gate (machine_of b) h (charges_of b fs) (machine_of (board_behind_all b fs)) (observed gate (moments_of b fs) h)
   charged b h [] ready all = (refl, refl)
   charged b h (f ∷ fs) ready all =
@@ -151,6 +152,15 @@ module _ (c : Program) (gate p : ℕ) (is : List Instr) (entry : ℕ) (stands : 
         refl,
         (machine_of end, leads b h ready f all.0, subst P (observed_behind b h ready f all.0 (moments_of end fs)) rest),
       )
+
+  -- the board behind them is ready too
+  pub ready_behind_all : (b : BoardValue) (h : History) (fs : List ChargeFront) → Ready b h → AreMachineCharges b fs
+      → Ready (board_behind_all b fs) (observed gate (moments_of b fs) h)
+  ready_behind_all b h [] ready all = ready
+  ready_behind_all b h (f ∷ fs) ready all =
+      let P : History → Type 0 = λ k. Ready (board_behind_all (board_behind b f) fs) k in
+      subst P (observed_behind b h ready f all.0 (moments_of (board_behind b f) fs))
+      (ready_behind_all (board_behind b f) (behind b h ready f all.0) fs (ready_behind b h ready f all.0) all.1)
 
 pub fronts_are_charged : (c : Program) → FrontsAreCharged c
 fronts_are_charged c cs b r ms rest run e gate p is h stands holds leaves =

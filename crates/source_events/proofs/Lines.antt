@@ -29,7 +29,8 @@ one_higher c n top e h = omega arith
 below : (k top : ℕ) → suc k < top + 1 → k < top
 below k top h = omega arith
 
-counted_below : (k top : ℕ) → top ≡ 2 ^ 64 - 1 → k < top + 1 → counted k ≡ k
+-- a count below 2^64 is the number
+pub counted_below : (k top : ℕ) → top ≡ 2 ^ 64 - 1 → k < top + 1 → counted k ≡ k
 counted_below zero top e h = refl
 counted_below (suc k) top e h =
     let less = below k top h in

@@ -205,14 +205,19 @@ module _ {St : Type 0} (l : ProgramPlaces) (apart : AreApart l) (room : HaveRoom
   commit_elsewhere x d = commit_stores_so (IsElsewhere l.runtime.words.gate) x d (λ a w h e. omega (arith, apart, h, e)) (λ w e. omega (arith, apart, e))
       (λ w e. omega (arith, apart, e))
 
+  -- the whole of it, with the store to GATE
+  pub commit_stores_all : (P : ℕ → ℕ → Type 0) (x : World) → DecidedFrom l v s next x → ((a w : ℕ) → IsSharedWord l a → P a w)
+      → ((w : ℕ) → P l.runtime.words.current_task w) → ((w : ℕ) → P l.runtime.words.base w) → ((w : ℕ) → P l.runtime.words.gate w)
+      → EachStore P (commit_effects l.runtime x.fram)
+  commit_stores_all P x d homes cur base gate =
+      subst (EachStore P) (sym (commit_is x.fram))
+      (each_both P (commit_before x.fram) (Store l.runtime.words.gate 0 ∷ []) (commit_stores_so P x d homes cur base) (gate 0, tt))
+
   pub commit_stores : (x : World) → DecidedFrom l v s next x → EachStore (IsCommitStore l) (commit_effects l.runtime x.fram)
   commit_stores x d =
-      let g : List Effect = Store l.runtime.words.gate 0 ∷ [] in
-      subst (EachStore (IsCommitStore l)) (sym (commit_is x.fram))
-      (each_both (IsCommitStore l) (commit_before x.fram) g
-      (commit_stores_so (IsCommitStore l) x d (λ a w h. record { from = omega (arith, apart, h); below = omega (arith, h) })
-      (λ w. record { from = omega arith; below = omega (arith, apart) }) (λ w. record { from = omega (arith, apart); below = omega (arith, apart) }))
-      (record { from = omega (arith, apart); below = omega (arith, apart) }, tt))
+      commit_stores_all (IsCommitStore l) x d (λ a w h. record { from = omega (arith, apart, h); below = omega (arith, h) })
+      (λ w. record { from = omega arith; below = omega (arith, apart) }) (λ w. record { from = omega (arith, apart); below = omega (arith, apart) })
+      (λ w. record { from = omega (arith, apart); below = omega (arith, apart) })
 
   -- the whole commit
   pub record Committed (x : World) : Type 0 where

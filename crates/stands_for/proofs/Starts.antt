@@ -8,7 +8,7 @@ use Rattle.runtime_effects.specs.Stages.{cleared, opening_effects, copied_in, st
 use Rattle.crash_rules.specs.Model.{HoldsThroughout, IsElsewhere}
 use Rattle.crash_rules.proofs.Lists.{world_after-append, world_fram, readings_taken-append, each_both, holds-append}
 use Rattle.crash_rules.proofs.Observed.{put_same, put_other}
-use Rattle.stands_for.specs.Layout.{ProgramPlaces, StateView, IsSharedWord, IsAmong, AreApart, ArePrivate}
+use Rattle.stands_for.specs.Layout.{ProgramPlaces, StateView, IsSharedWord, IsCopyWord, IsAmong, AreApart, ArePrivate}
 use Rattle.stands_for.specs.StandsFor.{VersionsWithin, UndecidedAt, StartedAt}
 use Rattle.stands_for.specs.Program.{IsStartStore, StartContract}
 use Rattle.stands_for.proofs.Keeps.{put_either, put_words}
@@ -205,26 +205,33 @@ module _ {St : Type 0} (l : ProgramPlaces) (apart : AreApart l) (v : StateView S
           });
         }
 
-  -- where a start stores
-  cleared_stores : (n p : ℕ) → l.runtime.words.gate < p → p + 2 * n ≤ l.copies_end → EachStore (IsStartStore l) (cleared n p)
-  cleared_stores zero p lo hi = tt
-  cleared_stores (suc n) p lo hi = (record { from = lo; below = omega (arith, hi) }, cleared_stores n (p + 2) (omega (arith, lo)) (omega (arith, hi)))
+  -- where a start stores: 0 to the version words, 1 to VER, 0 to CLN and EN, and to copies
+  module _ (P : ℕ → ℕ → Type 0) (version_words : (i : ℕ) → i < l.runtime.version_count → P (l.runtime.versions + 2 * i) 0)
+      (version : P l.runtime.words.version 1) (list_length : P l.runtime.words.list_length 0) (emit_count : P l.runtime.words.emit_count 0)
+      (copies : (a w : ℕ) → IsCopyWord l a → P a w) where
+    cleared_so : (n j : ℕ) → j + n ≡ l.runtime.version_count → EachStore P (cleared n (l.runtime.versions + 2 * j))
+    cleared_so zero j e = tt
+    cleared_so (suc n) j e =
+        let next : l.runtime.versions + 2 * suc j ≡ l.runtime.versions + 2 * j + 2 = omega arith in
+        (version_words j (omega (arith, e)), subst (λ p. EachStore P (cleared n p)) next (cleared_so n (suc j) (omega (arith, e))))
 
-  copied_in_stores : (t : ℕ) (ps : List CopyPair) (f : ℕ → ℕ) → ArePrivate l t ps → EachStore (IsStartStore l) (copied_in ps f)
-  copied_in_stores t [] f h = tt
-  copied_in_stores t (p ∷ ps) f h = let c = h.2 in (
-    record { from = omega (arith, apart, c); below = omega (arith, c) },
-    copied_in_stores t ps (put f p.copy (f p.home)) h.4,
-  )
+    copied_in_so : (t : ℕ) (ps : List CopyPair) (f : ℕ → ℕ) → ArePrivate l t ps → EachStore P (copied_in ps f)
+    copied_in_so t [] f h = tt
+    copied_in_so t (p ∷ ps) f h = (copies p.copy (f p.home) h.2, copied_in_so t ps (put f p.copy (f p.home)) h.4)
 
-  opening_stores : (f : ℕ → ℕ) → EachStore (IsStartStore l) (opening_effects l.runtime f)
-  opening_stores f =
-      each_both (IsStartStore l)
-      (cleared l.runtime.version_count l.runtime.versions) _ (cleared_stores l.runtime.version_count l.runtime.versions (omega (arith, apart))
-      (omega (arith, apart))) (
-        record { from = omega (arith, apart); below = omega (arith, apart) },
-        (record { from = omega (arith, apart); below = omega (arith, apart) }, (record { from = omega (arith, apart); below = omega (arith, apart) }, tt)),
-      )
+    opening_so : (f : ℕ → ℕ) → EachStore P (opening_effects l.runtime f)
+    opening_so f =
+        let first : l.runtime.versions + 2 * 0 ≡ l.runtime.versions = omega arith in
+        each_both P (cleared l.runtime.version_count l.runtime.versions) _
+        (subst (λ p. EachStore P (cleared l.runtime.version_count p)) first (cleared_so l.runtime.version_count 0 (omega arith)))
+        (version, (list_length, (emit_count, tt)))
+
+    pub start_stores_so : (privates : ℕ → List CopyPair) → ((t : ℕ) → ArePrivate l t (privates t)) → (f : ℕ → ℕ)
+        → EachStore P (start_effects l.runtime privates f)
+    start_stores_so privates laid f =
+        each_both P (opening_effects l.runtime f) _ (opening_so f)
+        (copied_in_so (f l.runtime.words.current_task) (privates (f l.runtime.words.current_task)) (fram_after (opening_effects l.runtime f) f)
+        (laid (f l.runtime.words.current_task)))
 
   pub start_elsewhere : (es : List Effect) → EachStore (IsStartStore l) es → EachStore (IsElsewhere l.runtime.words.current_task) es
   start_elsewhere es h = each_weaker (IsStartStore l) (IsElsewhere l.runtime.words.current_task) (λ a w k e. omega (arith, apart, k, e)) es h
@@ -235,9 +242,10 @@ module _ {St : Type 0} (l : ProgramPlaces) (apart : AreApart l) (v : StateView S
   module _ (privates : ℕ → List CopyPair) (laid : (t : ℕ) → ArePrivate l t (privates t)) where
     start_stores : (f : ℕ → ℕ) → EachStore (IsStartStore l) (start_effects l.runtime privates f)
     start_stores f =
-        each_both (IsStartStore l) (opening_effects l.runtime f) _ (opening_stores f)
-        (copied_in_stores (f l.runtime.words.current_task) (privates (f l.runtime.words.current_task)) (fram_after (opening_effects l.runtime f) f)
-        (laid (f l.runtime.words.current_task)))
+        start_stores_so (IsStartStore l) (λ i h. record { from = omega (arith, apart); below = omega (arith, apart, h) })
+        (record { from = omega (arith, apart); below = omega (arith, apart) }) (record { from = omega (arith, apart); below = omega (arith, apart) })
+        (record { from = omega (arith, apart); below = omega (arith, apart) }) (λ a w c. record { from = omega (arith, apart, c); below = omega (arith, c) })
+        privates laid f
 
     start_takes : (f : ℕ → ℕ) → readings_taken (start_effects l.runtime privates f) ≡ []
     start_takes f =

@@ -1,0 +1,149 @@
+-- How many dones a run has at most, and how many readings it takes.
+use Rattle.std.proofs.Common.{◌≡◌, ℕ, ◌+◌, ◌-◌, ◌≤◌, refl, sym, ap, ◌∙◌, subst, arith, true, false, cond, List, [], ◌∷◌, length, length-append, append-nil, Ok}
+use Rattle.msp_isa.specs.declared.instructions.Instr.{Instr}
+use Rattle.msp_cycles.specs.Cycles.{cycles_of}
+use Rattle.fram_board.specs.declared.board.Stepped.{Stepped}
+use Rattle.fram_board.specs.Board.{BoardValue, PowerState, IsPowerState, powered, executed, IsNextInstruction}
+use Rattle.fram_board.specs.Effects.{Effect}
+use Rattle.fram_board.specs.Run.{Measure, Cycles, Instructions, price, Moment, moment_of, Charges, Stopped, RunOutcome, run_outcome, BoardCharge, ChargeRun, Spent, NoInstruction, TooDear, Refused, Executed, Run, Over, Next, Last}
+use Rattle.machine_effects.specs.World.{world_after}
+use Rattle.machine_effects.specs.View.{IsWhole, IsOfWords}
+use Rattle.machine_effects.specs.Runs.{last_board}
+use Rattle.machine_effects.proofs.Words.{power_up_keeps_words}
+use Rattle.crash_rules.specs.History.{History, is_done, is_decide, behind_boot, behind_done, behind_decide, behind_gate, observe}
+use Rattle.crash_rules.proofs.Observed.{observed_taken, with_effects}
+use Rattle.run_charges.specs.Charges.{behind_action, observed}
+use Rattle.run_charges.proofs.Moments.{IsMomentFrom, PowersUp, Instructs, AreMoments, front_moments, told, whole_after, words_after, one_write, readings_counted, readings_stay}
+use Rattle.run_events.proofs.Events.{seen}
+use Rattle.run_charges.specs.Laws.{IsRunOfWords}
+use Rattle.model_runs.specs.Runs.{all_amounts}
+use Rattle.model_runs.specs.Laws.{DonesAreFew, TakesWhatIsThere}
+
+-- an instruction takes a cycle at least
+cycles_low : (i : Instr) → 1 ≤ cycles_of i
+cycles_low i = grind arith
+
+price_low : (m : Measure) (i : Instr) → 1 ≤ price m i
+price_low Cycles i = cycles_low i
+price_low Instructions i = omega arith
+
+-- a charge has no more instructions than it pays for
+charge_short : (m : Measure) (left : ℕ) (b : BoardValue) (r : RunOutcome) → ChargeRun m left b r → length r.moments ≤ left
+charge_short m left b r (Spent _ _ none) = omega arith
+charge_short m left b r (NoInstruction _ _ e pos h) = omega arith
+charge_short m left b r (TooDear _ _ i pos c dear) = omega arith
+charge_short m left b r (Refused _ _ i e pos c paid a) = omega arith
+charge_short m left b r (Executed _ _ i done rest pos c paid a h) =
+    let more = charge_short m (left - price m i) (executed b i).board rest h in
+    let low = price_low m i in
+    omega (arith, more, low, paid)
+
+run_short : (cs : List BoardCharge) (b : BoardValue) (r : RunOutcome) → Run cs b r → length r.moments ≤ all_amounts cs
+run_short cs b r (Over _) = omega arith
+run_short cs b r (Next c ds _ ms end rest one more) =
+    let own = charge_short c.measure c.amount (powered b c.start) (run_outcome ms Charges end) one in
+    let others = run_short ds end rest more in
+    let both = length-append ms rest.moments in
+    omega (arith, own, others, both)
+run_short cs b r (Last c ds _ ms stop end one) =
+    let own = charge_short c.measure c.amount (powered b c.start) (run_outcome ms (Stopped stop) end) one in
+    omega (arith, own)
+
+-- what an event makes of the dones and the positions
+record AddsOne (h k : History) : Type 0 where
+  pub dones : length k.completed ≤ length h.completed + 1
+  pub since : h.since ≤ h.taken → k.since ≤ k.taken
+
+event_adds : (before now : ℕ) (h : History) → AddsOne h (behind_gate before now h)
+event_adds before now h =
+    let more = length-append h.completed (record { span_from = h.span_from; span_to = h.span_to; world = h.world } ∷ []) in
+    elim (is_done before now) as (λ b. AddsOne h (cond b (behind_done h) (cond (is_decide before now) (behind_decide h) h))) [
+      | true ↦ record { dones = omega (arith, more); since = λ l. omega arith }
+      | false ↦ elim (is_decide before now) as (λ b. AddsOne h (cond b (behind_decide h) h)) [
+        | true ↦ record { dones = omega arith; since = λ l. l }
+        | false ↦ record { dones = omega arith; since = λ l. l }
+      ]
+    ]
+
+-- what a moment makes of them
+record Counts (b : BoardValue) (h : History) (t : BoardValue) (k : History) (n : ℕ) : Type 0 where
+  pub whole : IsWhole t
+  pub words : IsOfWords t
+  pub dones : length k.completed ≤ length h.completed + n
+  pub since : h.since ≤ h.taken → k.since ≤ k.taken
+  pub taken : h.taken ≡ b.taken → k.taken ≡ t.taken
+  pub readings : t.readings ≡ b.readings
+
+power_counts : (gate : ℕ) (b : BoardValue) (h : History) (p : PowerState) → IsWhole b → IsOfWords b → IsPowerState p
+    → Counts b h (powered b p) (behind_boot h) 1
+power_counts gate b h p w q ok =
+    let up = power_up_keeps_words b p w q ok in
+    record { whole = up.0; words = up.1; dones = omega arith; since = λ l. omega arith; taken = λ e. e; readings = refl }
+
+instruction_counts : (gate : ℕ) (b : BoardValue) (h : History) (i : Instr) (done : Stepped) → IsWhole b → IsOfWords b → IsNextInstruction b i
+    → (executed b i).answer ≡ Ok done
+    → Counts b h (executed b i).board (behind_action gate (moment_of b i done).action b (executed b i).board h) 1
+instruction_counts gate b h i done w q c a =
+    let es : List Effect = told b w i done c a in
+    let all = seen gate es h (one_write b w i done c a) in
+    let P : History → Type 0 = λ k. AddsOne (with_effects es h) k in
+    let one : AddsOne (with_effects es h) (observe gate es h) = subst P (sym all)
+    (event_adds (h.world.fram gate) ((world_after es h.world).fram gate) (with_effects es h)) in
+    record {
+      whole = whole_after b w i done c a;
+      words = words_after b w i done c a q;
+      dones = one.dones;
+      since = λ l. one.since (omega (arith, l));
+      taken = λ e. observed_taken gate es h ∙ readings_counted b w i done c a h e;
+      readings = readings_stay b w i done c a;
+    }
+
+moment_counts : (gate : ℕ) (b : BoardValue) (h : History) (m : Moment) → IsWhole b → IsOfWords b → IsMomentFrom b m
+    → Counts b h m.after (behind_action gate m.action m.before m.after h) 1
+moment_counts gate b h m w q (PowersUp p ok e) =
+    let P : Moment → Type 0 = λ y. Counts b h y.after (behind_action gate y.action y.before y.after h) 1 in
+    subst P (sym e) (power_counts gate b h p w q ok)
+moment_counts gate b h m w q (Instructs i done c a e) =
+    let P : Moment → Type 0 = λ y. Counts b h y.after (behind_action gate y.action y.before y.after h) 1 in
+    subst P (sym e) (instruction_counts gate b h i done w q c a)
+
+moments_count : (gate : ℕ) (b : BoardValue) (h : History) (ms : List Moment) → IsWhole b → IsOfWords b → AreMoments b ms
+    → Counts b h (last_board b ms) (observed gate ms h) (length ms)
+moments_count gate b h [] w q all =
+    record { whole = w; words = q; dones = omega arith; since = λ l. l; taken = λ e. e; readings = refl }
+moments_count gate b h (m ∷ ms) w q all =
+    let k = behind_action gate m.action m.before m.after h in
+    let one = moment_counts gate b h m w q all.0 in
+    let more = moments_count gate m.after k ms one.whole one.words all.1 in
+    let x = one.dones in
+    let y = more.dones in
+    record {
+      whole = more.whole;
+      words = more.words;
+      dones = omega (arith, x, y);
+      since = λ l. more.since (one.since l);
+      taken = λ e. more.taken (one.taken e);
+      readings = more.readings ∙ one.readings;
+    }
+
+run_counts : (cs : List BoardCharge) (b : BoardValue) (r : RunOutcome) → IsRunOfWords cs b r → (gate : ℕ) (h : History)
+    → Counts b h (last_board b r.moments) (observed gate r.moments h) (length r.moments)
+run_counts cs b r run gate h = moments_count gate b h r.moments run.whole run.words
+    (front_moments cs b r r.moments [] run.starts run.run (sym (append-nil r.moments)))
+
+pub dones_are_few : DonesAreFew
+dones_are_few cs b r run gate h =
+    let few = (run_counts cs b r run gate h).dones in
+    let short = run_short cs b r run.run in
+    omega (arith, few, short)
+
+within : (s t n k : ℕ) → s ≤ t → t ≤ n → n ≡ k → s ≤ k
+within s t n k a b e = omega arith
+
+pub takes_what_is_there : TakesWhatIsThere
+takes_what_is_there cs b r run gate h at since =
+    let all = run_counts cs b r run gate h in
+    let t : BoardValue = last_board b r.moments in
+    let k : History = observed gate r.moments h in
+    let here : k.since ≤ t.taken = subst (λ n. k.since ≤ n) (all.taken at) (all.since since) in
+    within k.since t.taken (length t.readings) (length b.readings) here all.whole.board.taken (ap length all.readings)

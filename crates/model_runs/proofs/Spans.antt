@@ -1,0 +1,134 @@
+-- In one charge the spans follow one another.
+use Rattle.std.proofs.Common.{◌≡◌, ℕ, ◌≤◌, refl, sym, ap, ◌∙◌, subst, arith, true, false, cond, List, [], ◌∷◌, ◌++◌, length, append-nil}
+use Rattle.fram_board.specs.Board.{BoardValue, IsPowerState, powered}
+use Rattle.fram_board.specs.Effects.{Effect}
+use Rattle.fram_board.specs.Run.{Measure, Moment, RunOutcome, BoardCharge, ChargeRun, Run, Over, Next, Last, power_up_of, Charges, Stopped, run_outcome}
+use Rattle.machine_effects.specs.World.{World, world_after_one}
+use Rattle.machine_effects.specs.Going.{going}
+use Rattle.machine_effects.specs.View.{machine_of}
+use Rattle.machine_effects.specs.Runs.{last_board, ReachesAs}
+use Rattle.machine_effects.proofs.Words.{power_up_keeps_words}
+use Rattle.machine_effects.proofs.Runs.{charge_boards_alike}
+use Rattle.crash_rules.specs.Model.{Model}
+use Rattle.crash_rules.specs.History.{Done, History, is_done, is_decide, with_effect, behind_boot, behind_done, behind_decide, behind_gate, observe_one, observe, first_history}
+use Rattle.crash_rules.specs.Runs.{Program, Charge, Charged}
+use Rattle.crash_rules.specs.Laws.{Resting, AreConsecutive}
+use Rattle.crash_rules.proofs.Theorems.{spans_follow}
+use Rattle.run_charges.specs.Charges.{AreInstructionMoments, observed}
+use Rattle.run_charges.specs.Laws.{IsRunOfWords}
+use Rattle.run_charges.proofs.Moments.{first_start}
+use Rattle.run_charges.proofs.Programs.{instructions_observed}
+use Rattle.model_runs.specs.Runs.{BearsModel, history_behind, AreInOrder}
+use Rattle.model_runs.specs.Laws.{SpansAreInOrder}
+use Rattle.model_runs.proofs.Fronts.{AtFront, at_front, begun, is_powered, program_runs}
+use Rattle.model_runs.proofs.Ends.{charge_instructs}
+
+-- each done's span goes forwards
+abbrev GoForwards : List Done → Type 0
+GoForwards [] = Unit {0}
+GoForwards (d ∷ ds) = (d.span_from ≤ d.span_to) × GoForwards ds
+
+record Forwards (h : History) : Type 0 where
+  pub since : h.since ≤ h.taken
+  pub span : h.span_from ≤ h.span_to
+  pub dones : GoForwards h.completed
+
+go-append : (ds : List Done) (d : Done) → GoForwards ds → d.span_from ≤ d.span_to → GoForwards (ds ++ d ∷ [])
+go-append [] d h l = (l, tt)
+go-append (e ∷ ds) d h l = (h.0, go-append ds d h.1 l)
+
+event_forwards : (before now : ℕ) (h : History) → Forwards h → Forwards (behind_gate before now h)
+event_forwards before now h f =
+    let done : Done = record { span_from = h.span_from; span_to = h.span_to; world = h.world } in
+    elim (is_done before now) as (λ b. Forwards (cond b (behind_done h) (cond (is_decide before now) (behind_decide h) h))) [
+      | true ↦ record { since = omega arith; span = f.span; dones = go-append h.completed done f.dones f.span }
+      | false ↦ elim (is_decide before now) as (λ b. Forwards (cond b (behind_decide h) h)) [
+        | true ↦ record { since = f.since; span = f.since; dones = f.dones }
+        | false ↦ f
+      ]
+    ]
+
+one_forwards : (e : Effect) (h : History) → Forwards h → Forwards (with_effect e h)
+one_forwards e h f = let l = f.since in record { since = omega (arith, l); span = f.span; dones = f.dones }
+
+forwards : (gate : ℕ) (es : List Effect) (h : History) → Forwards h → Forwards (observe gate es h)
+forwards gate [] h f = f
+forwards gate (e ∷ es) h f = forwards gate es (observe_one gate e h)
+    (event_forwards (h.world.fram gate) ((world_after_one e h.world).fram gate) (with_effect e h) (one_forwards e h f))
+
+first_forwards : (gate : ℕ) (x : World) → Forwards (behind_boot (first_history gate x))
+first_forwards gate x = record { since = omega arith; span = omega arith; dones = tt }
+
+in_order : (from to : ℕ) (ds : List Done) → AreConsecutive from ds to → GoForwards ds → AreInOrder from to ds
+in_order from to [] h f = h
+in_order from to (d ∷ ds) h f =
+    let a = h.0 in
+    let b = f.0 in
+    (a, omega (arith, a, b), in_order d.span_to to ds h.1 f.1)
+
+module _ {St : Type 0} (m : Model St) (c : Program) (readings : List ℕ) (s : St) (x : World) (d : BoardCharge) (b : BoardValue)
+    (r : RunOutcome) (run : IsRunOfWords (d ∷ []) b r) (bears : BearsModel m c readings (Resting s) x b) (here : m.Undecided s x) where
+  abbrev first : History
+  first = first_history m.gate x
+
+  abbrev InOrder : List Moment → Type 0
+  InOrder ms = AreInOrder 0 (history_behind m x ms).since (history_behind m x ms).completed
+
+  at : AtFront m c readings (Resting s) x (d ∷ []) b r run bears b first
+  at = at_front m c readings (Resting s) x (d ∷ []) b r run bears [] r.moments refl
+
+  ok : IsPowerState d.start
+  ok = first_start d [] run.starts
+
+  -- the moments of one charge
+  one_in_order : (ms : List Moment) → AreInstructionMoments ms → ReachesAs (powered b d.start) ms → InOrder (power_up_of b d.start ∷ ms)
+  one_in_order ms are reach =
+      let p = begun m c readings (Resting s) x (d ∷ []) b r run bears b first at d.start ok in
+      let n = length ms in
+      let q = machine_of (last_board (powered b d.start) ms) in
+      let made = program_runs m c readings (Resting s) x (d ∷ []) b r run bears b first at d.start ok n _ reach.run in
+      let k : History = observe m.gate (going c.step n p).effects (behind_boot first) in
+      let e : Charge = record { powered = p; steps = n } in
+      let go : Charged c m.gate (machine_of b) first (e ∷ []) q k =
+      (is_powered m c readings (Resting s) x (d ∷ []) b r run bears b first at d.start ok, refl, refl, (q, sym (ap (λ z. z.status) made), (refl, refl))) in
+      let follow = spans_follow m c bears.model bears.program readings s x (machine_of b) bears.begins here e q k go in
+      let forth = forwards m.gate (going c.step n p).effects (behind_boot first) (first_forwards m.gate x) in
+      let seen : k ≡ observed m.gate ms (behind_boot first) =
+      ap (λ z. observe m.gate z.effects (behind_boot first)) (sym made) ∙ sym (instructions_observed m.gate ms (behind_boot first) are) in
+      let P : History → Type 0 = λ z. AreInOrder 0 z.since z.completed in
+      subst P seen (in_order 0 k.since k.completed follow forth.dones)
+
+  charge_in_order : (m2 : Measure) (amount : ℕ) (o : RunOutcome) → ChargeRun m2 amount (powered b d.start) o → InOrder (power_up_of b d.start ∷ o.moments)
+  charge_in_order m2 amount o one =
+      one_in_order o.moments (charge_instructs m2 amount (powered b d.start) o one)
+      (charge_boards_alike m2 amount (powered b d.start) o o.moments [] (power_up_keeps_words b d.start run.whole run.words ok).0 one
+      (sym (append-nil o.moments)))
+
+  run_in_order : (cs : List BoardCharge) (t : BoardValue) (o : RunOutcome) → Run cs t o → cs ≡ d ∷ [] → t ≡ b → InOrder o.moments
+  run_in_order cs t o (Over _) e f = absurd cc
+  run_in_order cs t o (Next e es _ ms end rest one more) same there =
+      let c1 : e ≡ d = cc same in
+      let c2 : es ≡ [] = cc same in
+      let P : BoardCharge → Type 0 = λ y. ChargeRun y.measure y.amount (powered t y.start) (run_outcome ms Charges end) in
+      let Q : BoardValue → Type 0 = λ y. ChargeRun d.measure d.amount (powered y d.start) (run_outcome ms Charges end) in
+      let R : BoardValue → Type 0 = λ y. InOrder (power_up_of y e.start ∷ ms) in
+      let S : BoardCharge → Type 0 = λ y. InOrder (power_up_of b y.start ∷ ms) in
+      let T : List Moment → Type 0 = λ l. InOrder (power_up_of t e.start ∷ l) in
+      let none : rest.moments ≡ [] = nothing_more es end rest more c2 in
+      subst T (sym (append-nil ms) ∙ ap (λ l. ms ++ l) (sym none))
+      (subst R (sym there) (subst S (sym c1) (charge_in_order d.measure d.amount (run_outcome ms Charges end) (subst Q there (subst P c1 one)))))
+    where
+      nothing_more : (es : List BoardCharge) (t : BoardValue) (o : RunOutcome) → Run es t o → es ≡ [] → o.moments ≡ []
+      nothing_more es t o (Over _) e = refl
+      nothing_more es t o (Next e2 more _ ms end rest one k) e = absurd cc
+      nothing_more es t o (Last e2 more _ ms stop end one) e = absurd cc
+  run_in_order cs t o (Last e es _ ms stop end one) same there =
+      let c1 : e ≡ d = cc same in
+      let P : BoardCharge → Type 0 = λ y. ChargeRun y.measure y.amount (powered t y.start) (run_outcome ms (Stopped stop) end) in
+      let Q : BoardValue → Type 0 = λ y. ChargeRun d.measure d.amount (powered y d.start) (run_outcome ms (Stopped stop) end) in
+      let R : BoardValue → Type 0 = λ y. InOrder (power_up_of y e.start ∷ ms) in
+      let S : BoardCharge → Type 0 = λ y. InOrder (power_up_of b y.start ∷ ms) in
+      subst R (sym there) (subst S (sym c1) (charge_in_order d.measure d.amount (run_outcome ms (Stopped stop) end) (subst Q there (subst P c1 one))))
+
+pub spans_are_in_order : {St : Type 0} (m : Model St) (c : Program) → SpansAreInOrder m c
+spans_are_in_order m c readings s x d b r run bears here = run_in_order m c readings s x d b r run bears here (d ∷ []) b r run.run refl refl

@@ -1,0 +1,67 @@
+-- Runs of the board whose code is a program that keeps what it owes to a model, and what is said of them.
+use Rattle.std.specs.Prelude.{◌≡◌, ℕ, ◌+◌, ◌*◌, ◌<◌, ◌≤◌, List, [], ◌∷◌, length, drop}
+use Rattle.msp_isa.specs.declared.instructions.Instr.{Instr}
+use Rattle.msp_step.specs.declared.machine.Stop.{Stop}
+use Rattle.fram_board.specs.Board.{BoardValue, powered}
+use Rattle.fram_board.specs.Run.{Cycles, Moment, Charges, Stopped, RunOutcome, run_outcome, after_moments, BoardCharge, ChargeRun, power_up_of}
+use Rattle.machine_effects.specs.World.{World}
+use Rattle.machine_effects.specs.Machine.{fram_of}
+use Rattle.machine_effects.specs.View.{machine_of}
+use Rattle.code_forms.specs.Placed.{words_of, Holds}
+use Rattle.crash_rules.specs.Model.{Model, ModelLaws, Short}
+use Rattle.crash_rules.specs.History.{Done, History, first_history}
+use Rattle.crash_rules.specs.Runs.{Program, ProgramLaws}
+use Rattle.crash_rules.specs.Laws.{Origin, Begins, Reaches}
+use Rattle.run_charges.specs.Charges.{observed, IsPlacedProgram, AlwaysLeaves}
+
+-- where a program stands in the FRAM of a board, which enters it by its reset vector, and that its charges never change it
+pub record HasProgram (c : Program) (gate : ℕ) (x : World) (b : BoardValue) : Type 0 where
+  pub place : ℕ
+  pub instructions : List Instr
+  pub placed : IsPlacedProgram c place instructions (fram_of b.fram 0xFFFE)
+  pub holds : Holds (fram_of b.fram) place (words_of instructions)
+  pub leaves : AlwaysLeaves c place (length (words_of instructions)) gate (machine_of b) (first_history gate x)
+
+-- a program that keeps what it owes to a model stands on a board, whose world then a run may begin with
+pub record BearsModel {St : Type 0} (m : Model St) (c : Program) (readings : List ℕ) (origin : Origin St) (x : World) (b : BoardValue) : Type 0 where
+  pub model : ModelLaws m
+  pub program : ProgramLaws m c
+  pub begins : Begins m readings origin x (machine_of b)
+  pub stands : HasProgram c m.gate x b
+
+-- what is known behind moments of a run that began with this world
+abbrev pub history_behind : {St : Type 0} → Model St → World → List Moment → History
+history_behind m x ms = observed m.gate ms (first_history m.gate x)
+
+-- the source is short on the readings from the last boot or done on, at the state of the last done
+pub record IsShort {St : Type 0} (m : Model St) (readings : List ℕ) (origin : Origin St) (h : History) : Type 0 where
+  pub state : St
+  pub reached : Reaches m readings origin h.completed state
+  pub is_task : m.task_number state < m.tasks
+  pub short : m.task state (drop h.since readings) ≡ Short
+
+-- a charge of cycles has n dones at least where it has n bounds, if these are the histories before and behind it
+abbrev pub PaysFor : ℕ → BoardCharge → History → History → Type 0
+PaysFor bound c before behind = c.measure ≡ Cycles → (n : ℕ) → n * bound ≤ c.amount → n + length before.completed ≤ length behind.completed
+
+-- a run from a board and a history on, each of whose charges pays for dones, but the one in which the board stops
+pub data Progresses (gate bound : ℕ) : List BoardCharge → BoardValue → History → RunOutcome → Type 0 where
+  AllSpent : (b : BoardValue) (h : History) → Progresses gate bound [] b h (run_outcome [] Charges b)
+  SpentOne : (c : BoardCharge) (cs : List BoardCharge) (b : BoardValue) (h : History) (ms : List Moment) (end : BoardValue) (rest : RunOutcome)
+      → ChargeRun c.measure c.amount (powered b c.start) (run_outcome ms Charges end)
+      → PaysFor bound c h (observed gate (power_up_of b c.start ∷ ms) h)
+      → Progresses gate bound cs end (observed gate (power_up_of b c.start ∷ ms) h) rest
+      → Progresses gate bound (c ∷ cs) b h (after_moments (power_up_of b c.start ∷ ms) rest)
+  StoppedIn : (c : BoardCharge) (cs : List BoardCharge) (b : BoardValue) (h : History) (ms : List Moment) (stop : Stop) (end : BoardValue)
+      → ChargeRun c.measure c.amount (powered b c.start) (run_outcome ms (Stopped stop) end)
+      → Progresses gate bound (c ∷ cs) b h (run_outcome (power_up_of b c.start ∷ ms) (Stopped stop) end)
+
+-- how many cycles or instructions charges have in all, and a power-up each
+abbrev pub all_amounts : List BoardCharge → ℕ
+all_amounts [] = 0
+all_amounts (c ∷ cs) = 1 + c.amount + all_amounts cs
+
+-- spans that follow one another, from a position up to another, and go forwards
+abbrev pub AreInOrder : ℕ → ℕ → List Done → Type 0
+AreInOrder from end [] = from ≡ end
+AreInOrder from end (d ∷ ds) = (d.span_from ≡ from) × (from ≤ d.span_to) × AreInOrder d.span_to end ds

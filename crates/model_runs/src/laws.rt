@@ -1,0 +1,33 @@
+//! Laws of a board's run and a model. The functions do nothing: their contracts are the laws.
+
+ghost use Rattle.model_runs.specs.Laws.{DonesAreFew, FrontsAreLawful, MakesProgress, SpansAreInOrder, StopsWhereShort, TakesWhatIsThere, WordsStayWithin};
+
+use crash_rules::Compiled;
+
+/// Each board of a run stands for a run of the source, and the effects since the last boot or done follow the script; in one
+/// charge the spans follow one another.
+pub fn fronts_are_lawful<S: Compiled>()
+    ensures lawful { FrontsAreLawful S.model S.program }
+    ensures spans { SpansAreInOrder S.model S.program }
+{}
+
+/// A run stops for want of a reading alone, and only where the source is short.
+pub fn runs_stop_where_the_source_is_short<S: Compiled>()
+    ensures { StopsWhereShort S.model S.program }
+{}
+
+/// A charge of at least n bounds that is spent has at least n dones.
+pub fn runs_make_progress<S: Compiled>()
+    ensures { MakesProgress S.model S.program }
+{}
+
+/// Where attempts and commits store no word above a most at an address, it never holds more.
+pub fn words_stay_within<S: Compiled>()
+    ensures { WordsStayWithin S.model S.program S.may_store }
+{}
+
+/// A run has no more dones than its charges have cycles or instructions, and takes no more readings than there are.
+pub fn dones_are_few()
+    ensures dones { DonesAreFew }
+    ensures readings { TakesWhatIsThere }
+{}

@@ -1,0 +1,4 @@
+pub mod Emitted
+pub mod Transitions
+pub mod Told
+pub mod Traces

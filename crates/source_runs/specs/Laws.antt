@@ -1,0 +1,28 @@
+-- A run of a compiled source is told by the source.
+use Rattle.std.specs.Prelude.{ℕ, ◌<◌, ◌^◌, List, Some}
+use Rattle.image_map.specs.MapValue.{MapValue}
+use Rattle.energy_trace.specs.TraceValue.{TraceValue}
+use Rattle.fram_board.specs.Board.{BoardValue}
+use Rattle.fram_board.specs.Run.{BoardCharge, RunOutcome}
+use Rattle.board_run.specs.Charges.{charges_of}
+use Rattle.board_run.specs.History.{start_with}
+use Rattle.board_run.specs.Report.{report_of}
+use Rattle.source_values.specs.Runs.{CheckedProgram, State}
+use Rattle.machine_effects.specs.World.{World}
+use Rattle.crash_rules.specs.Model.{Model}
+use Rattle.crash_rules.specs.Runs.{Program}
+use Rattle.run_charges.specs.Charges.{ArePowerStates}
+use Rattle.run_charges.specs.Laws.{IsRunOfWords}
+use Rattle.model_runs.specs.Runs.{all_amounts}
+use Rattle.source_runs.specs.Traces.{IsTraceOfWords}
+use Rattle.source_runs.specs.Tells.{IsOfSource, BeginsWithSource, IsToldBySource}
+
+-- the report of each run of words under charges that have fewer than 2^64 cycles and instructions in all
+abbrev pub RunsAreTold : Model State → Program → Type 0
+RunsAreTold model c = (text : List ℕ) (program : CheckedProgram) (m : MapValue) (x : World) (cs : List BoardCharge) (b : BoardValue) (r : RunOutcome)
+    → IsOfSource text program m model → BeginsWithSource program m model c x b → IsRunOfWords cs b r → all_amounts cs < 2 ^ 64
+    → IsToldBySource text program m x cs b r (report_of (start_with b.fram (Some m)) r)
+
+-- the charges of a trace leave words at each power-up, and have fewer than 2^64 cycles and instructions in all
+abbrev pub TracesAreFew : Type 0
+TracesAreFew = (t : TraceValue) → IsTraceOfWords t → ArePowerStates (charges_of t.charges) × (all_amounts (charges_of t.charges) < 2 ^ 64)

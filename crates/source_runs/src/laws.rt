@@ -1,0 +1,27 @@
+//! Laws of a board's run and its source. The functions do nothing: their contracts are the laws.
+
+ghost use Rattle.source_values.specs.Runs.{State};
+ghost use Rattle.crash_rules.specs.Model.{Model};
+ghost use Rattle.crash_rules.specs.Runs.{Program};
+ghost use Rattle.source_runs.specs.Laws.{RunsAreTold, TracesAreFew};
+
+/// A compiled source as the law sees it.
+pub trait Told {
+    /// The source, its runtime, and what FRAM stands for.
+    ghost model: { Model State };
+
+    /// Its code.
+    ghost program: { Program };
+}
+
+/// The report of a run is the source's report on the committed readings of its transitions, behind the bound and before the line
+/// that says how it ended; it never ends at a fault, nor for want of a reading but where the source is short; and each charge of n
+/// bounds that is spent has n transitions.
+pub fn run_is_told_by_its_source<S: Told>()
+    ensures { RunsAreTold S.model S.program }
+{}
+
+/// The charges of a trace leave words at each power-up, and are so few that no count of a run's transitions comes to its end.
+pub fn traces_are_few()
+    ensures { TracesAreFew }
+{}

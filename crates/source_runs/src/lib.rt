@@ -1,0 +1,7 @@
+//! A run of the board as its source tells it, where the code keeps what it owes to a model whose tasks are the source's. It has no
+//! code that runs: what it says of runs are the contracts of its laws.
+#![tactic(auto)]
+
+mod laws;
+
+pub use laws::{run_is_told_by_its_source, traces_are_few};
