@@ -1,0 +1,54 @@
+-- A compiled source as the crash theorem takes it: its tasks, its start, its tasks' programs, and the cycles that each is allowed.
+use Rattle.std.specs.Prelude.{ℕ, Bool, true, false, List, ◌++◌, Option, Some, None, get_or}
+use Rattle.cost_bound.specs.Allowance.{task_bound, versions_of}
+use Rattle.source_values.specs.Runs.{CheckedProgram, State, Completion, completion_of, attempt_of, task_body}
+use Rattle.array_versions.specs.Program.{Program, nothing}
+use Rattle.array_versions.specs.Behaviour.{Behaviour, End, GoesOn, Jumps, Short as Starves, Strays, Broken, behaviour, started}
+use Rattle.privatise.specs.LayoutValue.{LayoutValue}
+use Rattle.runtime_effects.specs.Stages.{start_effects}
+use Rattle.runtime_code.specs.LayoutPlaces.{runtime_places}
+use Rattle.boot_runtime.specs.Entries.{task_entries}
+use Rattle.boot_runtime.specs.Listing.{privates_in}
+use Rattle.lower.specs.Lowered.{lowered}
+use Rattle.crash_rules.specs.Model.{Model, Outcome, Ends, Short, ProgramEffects, program_effects}
+use Rattle.stands_for.specs.Program.{ProgramParts, program_model}
+use Rattle.compiled_model.specs.Places.{program_places}
+use Rattle.compiled_model.specs.View.{state_view}
+
+-- the state behind a whole task, with the readings left over
+abbrev pub outcome_of : State → Option Completion → Outcome State
+outcome_of s None = Short
+outcome_of s (Some c) = Ends (record { shared = c.shared; task = c.next; emitted = s.emitted ++ c.emitted }) c.left
+
+-- a state's current task, run whole on readings
+abbrev pub whole_task : CheckedProgram → State → List ℕ → Outcome State
+whole_task p s readings = outcome_of s (completion_of (attempt_of p s.task s.shared readings))
+
+-- whether a program came to its jump
+abbrev pub has_jumped : End → Bool
+has_jumped (Jumps to s) = true
+has_jumped (GoesOn s) = false
+has_jumped Starves = false
+has_jumped Strays = false
+has_jumped Broken = false
+
+-- what a program does, as the crash theorem takes it
+abbrev pub effects_of : Behaviour → ProgramEffects
+effects_of b = program_effects b.effects (has_jumped b.end)
+
+-- the word program of a task by its number
+abbrev pub task_program : CheckedProgram → LayoutValue → ℕ → Program
+task_program p l t = get_or (lowered l p) t nothing
+
+-- the tasks, the start and the programs, each task within its allowance
+abbrev pub program_parts : CheckedProgram → LayoutValue → ProgramParts State
+program_parts p l = record {
+  task = whole_task p;
+  cost = λ t. task_bound (versions_of p) p.shared (task_body p t);
+  start = start_effects (runtime_places l) (privates_in (task_entries l));
+  body = λ t fram readings. effects_of (behaviour (task_program p l t) (started fram readings));
+}
+
+-- the source with its layout, as the crash theorem takes it
+abbrev pub compiled_model : CheckedProgram → LayoutValue → Model State
+compiled_model p l = program_model (program_places p l) (state_view p l) (program_parts p l)

@@ -1,0 +1,44 @@
+-- A state of a source by the addresses of its shared words.
+use Rattle.std.specs.Prelude.{ℕ, ◌-◌, ◌/◌, ◌==◌, ◌&&◌, Bool, true, false, nat_le, nat_lt, if◌then◌else◌, List, [], ◌∷◌, length, slice_index}
+use Rattle.task_ast.specs.declared.SharedDeclaration.{SharedDeclaration}
+use Rattle.source_values.specs.Runs.{CheckedProgram, State, initial_words}
+use Rattle.privatise.specs.declared.place.Region.{Region}
+use Rattle.privatise.specs.declared.place.VariablePlace.{VariablePlace}
+use Rattle.privatise.specs.LayoutValue.{LayoutValue}
+use Rattle.privatise.specs.Places.{end_of, home_region}
+use Rattle.stands_for.specs.Layout.{StateView}
+
+-- whether an address is within a region
+abbrev pub is_within : Region → ℕ → Bool
+is_within r a = nat_le r.address a && nat_lt a (end_of r)
+
+-- the word of a row that stands at an address of its region
+abbrev pub word_of_row : Region → List ℕ → ℕ → ℕ
+word_of_row r row a = slice_index row ((a - r.address) / 2)
+
+-- the shared word at an address, the variables at these places having these rows of words; 0 where no variable stands
+abbrev pub shared_word : List VariablePlace → List (List ℕ) → ℕ → ℕ
+shared_word [] rows a = 0
+shared_word (v ∷ vs) [] a = 0
+shared_word (v ∷ vs) (row ∷ rows) a = if is_within (home_region v) a then word_of_row (home_region v) row a else shared_word vs rows a
+
+-- whether all are words
+abbrev pub are_words : List ℕ → Bool
+are_words [] = true
+are_words (w ∷ ws) = nat_lt w 0x10000 && are_words ws
+
+-- whether each variable has as many words as its declaration says, and all are words
+abbrev pub are_rows : List SharedDeclaration → List (List ℕ) → Bool
+are_rows [] [] = true
+are_rows [] (row ∷ rows) = false
+are_rows (d ∷ ds) [] = false
+are_rows (d ∷ ds) (row ∷ rows) = (length row == length (initial_words d.extent)) && (are_words row && are_rows ds rows)
+
+-- a state by addresses
+abbrev pub state_view : CheckedProgram → LayoutValue → StateView State
+state_view p l = record {
+  word = λ s. shared_word l.variables s.shared;
+  task = λ s. s.task;
+  emitted = λ s. s.emitted;
+  is_state = λ s. are_rows p.shared s.shared;
+}

@@ -1,0 +1,163 @@
+-- What a task assigns, and where it has that.
+use Rattle.std.proofs.Common.{◌≡◌, ℕ, zero, suc, ◌<◌, ◌⊎◌, inl, inr, Bool, true, false, ◌||◌, List, [], ◌∷◌, length, map, get_or, arith, ap, subst, sym, ◌∙◌, Some, None, refl}
+use Rattle.std.specs.Prelude.{Option, is_some, slice_get, Contains, ◌==◌, if◌then◌else◌}
+use Rattle.std.specs.Option.{option_map}
+use Rattle.std.proofs.lemmas.Bool.{cases_Bool, eqb-true, eq-eqb}
+use Rattle.std.proofs.lemmas.List.{length-map}
+use Rattle.std.proofs.lemmas.Option.{slice_get-map, slice_get_within, get_or_from_slice_get}
+use Rattle.cost_bound.specs.declared.allowance.Allow.{Allow}
+use Rattle.cost_bound.specs.Counts.{block_assigns}
+use Rattle.cost_bound.specs.Allowance.{CheckedProgram, CheckedTask, is_written}
+use Rattle.war_analysis.specs.PlanValue.{TaskPlanValue}
+use Rattle.war_analysis.specs.Plans.{IsPrivateIn, IsVersionedIn}
+use Rattle.war_analysis.proofs.Counted.{privates_counted}
+use Rattle.privatise.specs.declared.place.ArrayCopies.{ArrayCopies}
+use Rattle.privatise.specs.declared.place.VariablePlace.TheVariants.{Scalar, Array}
+use Rattle.privatise.specs.declared.place.PrivateScalar.{PrivateScalar}
+use Rattle.privatise.specs.LayoutValue.{LayoutValue, TaskLayoutValue}
+use Rattle.privatise.specs.Places.{HasItsPlace}
+use Rattle.lower.specs.Places.{places_of, copy_among, home_of, home_in, copy_else, address_of}
+use Rattle.layout_facts.specs.Facts.{HasLayout, IsTaskAt}
+use Rattle.layout_facts.specs.Laws.{TasksMatch, TaskMatches, AddressesAre, AddressIs}
+use Rattle.layout_facts.proofs.Lists.{there_is, place_of, contains_at}
+use Rattle.layout_facts.proofs.Privates.{Privates, privates_of, ascending_numbers}
+use Rattle.layout_facts.proofs.TaskPlaces.{among_is}
+use Rattle.layout_facts.proofs.Planned.{array_declared, array_extent, array_has_place, places_match}
+
+-- what a task assigns is written by some task
+written_by : (ts : List CheckedTask) (t : ℕ) (task : CheckedTask) (v : ℕ) → slice_get ts t ≡ Some task → block_assigns v task.body ≡ true
+    → is_written ts v ≡ true
+written_by [] t task v e a = let no : None ≡ Some task = e in cc
+written_by (x ∷ ts) zero task v e a =
+    let same : x ≡ task = cc in
+    let here : block_assigns v x.body ≡ true = ap (λ (y : CheckedTask). block_assigns v y.body) same ∙ a in
+    rw here refl
+written_by (x ∷ ts) (suc t) task v e a = rw (written_by ts t task v e a) (or_true (block_assigns v x.body))
+  where
+    or_true : (b : Bool) → (b || true) ≡ true
+    or_true true = refl
+    or_true false = refl
+
+some_copies : (o : Option ArrayCopies) → is_some o ≡ true → (c : ArrayCopies) × (o ≡ Some c)
+some_copies (Some c) h = (c, refl)
+some_copies None h = let no : false ≡ true = h in cc
+
+-- a variable among the private scalars has a copy there
+among_found : (xs : List PrivateScalar) (k : ℕ) (s : PrivateScalar) (v : ℕ) → slice_get xs k ≡ Some s → s.number ≡ v → (c : ℕ) × (copy_among xs v ≡ Some c)
+among_found [] k s v e n = let no : None ≡ Some s = e in cc
+among_found (x ∷ xs) zero s v e n =
+    let same : x ≡ s = cc in
+    let number : x.number ≡ v = ap (λ (y : PrivateScalar). y.number) same ∙ n in
+    (x.copy, rw (eq-eqb x.number v number) refl)
+among_found (x ∷ xs) (suc k) s v e n = by (cases_Bool (x.number == v)) (among_found xs k s v e n)
+  where
+    by : ((x.number == v) ≡ true) ⊎ ((x.number == v) ≡ false) → ((c : ℕ) × (copy_among xs v ≡ Some c))
+        → (c : ℕ) × ((if x.number == v then Some x.copy else copy_among xs v) ≡ Some c)
+    by (inl t) r = (x.copy, rw t refl)
+    by (inr f) r = (r.0, rw f r.1)
+
+-- and what has a copy there is among them
+among_member : (xs : List PrivateScalar) (v c : ℕ) → copy_among xs v ≡ Some c → (k : ℕ) × (s : PrivateScalar) × (slice_get xs k ≡ Some s) × (s.number ≡ v)
+among_member [] v c e = let no : None ≡ Some c = e in cc
+among_member (x ∷ xs) v c e = by (cases_Bool (x.number == v)) (among_member xs v c)
+  where
+    by : ((x.number == v) ≡ true) ⊎ ((x.number == v) ≡ false)
+        → (copy_among xs v ≡ Some c → (k : ℕ) × (s : PrivateScalar) × (slice_get xs k ≡ Some s) × (s.number ≡ v))
+        → (k : ℕ) × (s : PrivateScalar) × (slice_get (x ∷ xs) k ≡ Some s) × (s.number ≡ v)
+    by (inl t) others = (0, x, refl, eqb-true x.number v t)
+    by (inr f) others = let rest : copy_among xs v ≡ Some c = rw f at e in let r = others rest in (suc r.0, r.1, r.2, r.3)
+
+number_at : (xs : List PrivateScalar) (k : ℕ) (s : PrivateScalar) (d : ℕ) → slice_get xs k ≡ Some s → get_or (map (λ s. s.number) xs) k d ≡ s.number
+number_at xs k s d e =
+    get_or_from_slice_get (map (λ (s : PrivateScalar). s.number) xs) k s.number d
+    (slice_get-map (λ (s : PrivateScalar). s.number) xs k ∙ ap (option_map (λ (s : PrivateScalar). s.number)) e)
+
+module _ (p : CheckedProgram) (allow : Allow) (plans : List TaskPlanValue) (l : LayoutValue) (h : HasLayout p allow plans l) (t : ℕ) (task : CheckedTask)
+    (layout : TaskLayoutValue) (k : IsTaskAt p l t task layout) where
+  mine : Privates p l task layout
+  mine = privates_of p allow plans l h t task layout k
+
+  -- a private scalar is one that the task assigns
+  private_is : (i : ℕ) (s : PrivateScalar) → slice_get layout.privates i ≡ Some s → IsPrivateIn p.shared task.body s.number
+  private_is i s e =
+      let numbers = mine.numbers in
+      let lt : i < length mine.plan.private_scalars =
+      omega (arith, slice_get_within layout.privates i s e, length-map layout.privates (λ (s : PrivateScalar). s.number), ap length numbers) in
+      let at : get_or mine.plan.private_scalars i 0 ≡ s.number = ap (λ (xs : List ℕ). get_or xs i 0) (sym numbers) ∙ number_at layout.privates i s 0 e in
+      subst (IsPrivateIn p.shared task.body) at (mine.is_plan.private_scalars.only i 0 lt)
+
+  place_is : (i : ℕ) (s : PrivateScalar) → slice_get layout.privates i ≡ Some s → HasItsPlace l.variables s
+  place_is i s e = subst (HasItsPlace l.variables) (get_or_from_slice_get layout.privates i s s e) (mine.places i s (slice_get_within layout.privates i s e))
+
+  -- and each of those is one
+  assigned_is : (v : ℕ) → IsPrivateIn p.shared task.body v → (i : ℕ) × (s : PrivateScalar) × (slice_get layout.privates i ≡ Some s) × (s.number ≡ v)
+  assigned_is v a =
+      let numbers = mine.numbers in
+      let c = mine.is_plan.private_scalars.each v a in
+      let lt = c.1 in
+      let s = there_is layout.privates c.0 (omega (arith, lt, length-map layout.privates (λ (s : PrivateScalar). s.number), ap length numbers)) in
+      let same : get_or (map (λ (s : PrivateScalar). s.number) layout.privates) c.0 v ≡ v = ap (λ (xs : List ℕ). get_or xs c.0 v) numbers ∙ c.2 in
+      (c.0, s.0, s.1, sym (number_at layout.privates c.0 s.0 v s.1) ∙ same)
+
+  -- an array that the task stores to has copies
+  pub stored_has_copies : (v : ℕ) → IsVersionedIn p.shared task.body v
+      → (elements n : ℕ) × (copies : ArrayCopies) × (slice_get l.variables v ≡ Some (Array elements n (Some copies)))
+  stored_has_copies v a =
+      let d = array_declared p.shared v a.array in
+      let n = array_extent d.0.extent d.2 in
+      let x = array_has_place p allow plans l h v n.0 d.0 d.1 n.1 in
+      let c = some_copies x.1 (x.3 ∙ written_by p.tasks t task v k.is_task a.assigned) in
+      (x.0, n.0, c.0, x.2 ∙ ap (λ y. Some (Array x.0 n.0 y)) c.1)
+
+  pub task_matches : TaskMatches p l task layout
+  task_matches = record {
+    ascending = ascending_numbers p l task layout mine;
+    only = λ s c. let i = place_of layout.privates s c in (private_is i.0 s i.1, place_is i.0 s i.1);
+    each = λ v a. let i = assigned_is v a in (i.1, contains_at layout.privates i.0 i.1 i.2, i.3);
+    count =
+        sym (length-map layout.privates (λ (s : PrivateScalar). s.number)) ∙ ap length mine.numbers
+        ∙ privates_counted p.shared task.body mine.plan.private_scalars mine.is_plan.private_scalars;
+    stored = stored_has_copies;
+  }
+
+  address_is : AddressIs p l task layout
+  address_is = record { assigned = assigned; left = left; each = each }
+    where
+      each : (v home copy : ℕ) → slice_get l.variables v ≡ Some (Scalar home copy) → block_assigns v task.body ≡ true
+          → Contains layout.privates (record { number = v; home = home; copy = copy })
+      each v home copy e a =
+          let i = assigned_is v (record { scalar = (places_match p allow plans l h).is_scalar v home copy e; assigned = a }) in
+          let s = i.1 in
+          let number : s.number ≡ v = i.3 in
+          let both : Some (Scalar s.home s.copy) ≡ Some (Scalar home copy) = sym (place_is i.0 s i.2).place ∙ ap (slice_get l.variables) number ∙ e in
+          let its_home : s.home ≡ home = cc in
+          let its_copy : s.copy ≡ copy = cc in
+          let same : s ≡ record { number = v; home = home; copy = copy } = λ j. record { number = number j; home = its_home j; copy = its_copy j } in
+          contains_at layout.privates i.0 _ (i.2 ∙ ap (λ (x : PrivateScalar). Some x) same)
+
+      assigned : (v home copy : ℕ) → slice_get l.variables v ≡ Some (Scalar home copy) → block_assigns v task.body ≡ true
+          → address_of (places_of l layout) v ≡ copy
+      assigned v home copy e a =
+          let i = assigned_is v (record { scalar = (places_match p allow plans l h).is_scalar v home copy e; assigned = a }) in
+          let c = among_found layout.privates i.0 i.1 v i.2 i.3 in
+          let its = among_is l.variables layout.privates v c.0 mine.places c.1 in
+          let both : Some (Scalar its.0 c.0) ≡ Some (Scalar home copy) = sym its.1 ∙ e in
+          let same : c.0 ≡ copy = cc in
+          ap (λ o. copy_else o (home_of l.variables v)) c.1 ∙ same
+
+      left : (v home copy : ℕ) → slice_get l.variables v ≡ Some (Scalar home copy) → block_assigns v task.body ≡ false
+          → address_of (places_of l layout) v ≡ home
+      left v home copy e a = by (copy_among layout.privates v) refl
+        where
+          by : (o : Option ℕ) → copy_among layout.privates v ≡ o → copy_else o (home_of l.variables v) ≡ home
+          by (Some c) f =
+              let i = among_member layout.privates v c f in
+              let no : block_assigns v task.body ≡ true = subst (λ x. block_assigns x task.body ≡ true) i.3 (private_is i.0 i.1 i.2).assigned in
+              let clash : true ≡ false = sym no ∙ a in cc
+          by None f = ap home_in e
+
+pub tasks_match : TasksMatch
+tasks_match p allow plans l h t task layout k = task_matches p allow plans l h t task layout k
+
+pub addresses_are : AddressesAre
+addresses_are p allow plans l h t task layout k = address_is p allow plans l h t task layout k

@@ -1,0 +1,65 @@
+-- The places of the crash theorem, and the room of its buffers.
+use Rattle.std.proofs.Common.{◌≡◌, ℕ, zero, suc, ◌<◌, ◌≤◌, List, [], ◌∷◌, length, arith, ap, subst, sym, Some, None}
+use Rattle.std.specs.Prelude.{slice_get, All}
+use Rattle.std.proofs.lemmas.List.Elements.{All-head, All-tail}
+use Rattle.cost_bound.specs.Counts.{Code, emits_of}
+use Rattle.cost_bound.specs.Allowance.{CheckedProgram, CheckedTask, greatest, list_of}
+use Rattle.source_values.specs.Runs.{body_of, task_body}
+use Rattle.layout_facts.specs.Laws.{PlacesAreApart, TasksHaveRoom}
+use Rattle.layout_facts.proofs.Lists.{there_is}
+
+pub places_are_apart : PlacesAreApart
+places_are_apart p allow plans l h =
+    let a = h.layout.rules.apart in
+    let emits = a.emits in let boot = a.boot in let commit = a.commit in let code = a.code in let high = a.high in
+    record {
+      low = a.current_task;
+      next_task = a.next_task;
+      gate = a.gate;
+      list_length = a.list_length;
+      emit_count = a.emit_count;
+      base = a.base;
+      sent_base = a.sent_base;
+      version = a.version;
+      list = a.list;
+      emits = omega (arith, emits);
+      versions = a.versions;
+      homes = a.homes;
+      homes_end = omega arith;
+      copies = a.copies;
+      copies_end = omega arith;
+      high = omega (arith, boot, commit, code, high);
+    }
+
+-- none is greater than the greatest
+pub at_most_greatest : (f : Code → ℕ) (ts : List CheckedTask) (t : ℕ) (task : CheckedTask) → slice_get ts t ≡ Some task → f task.body ≤ greatest f ts
+at_most_greatest f [] t task e = let no : None ≡ Some task = e in cc
+at_most_greatest f (x ∷ ts) zero task e =
+    let same : x ≡ task = cc in
+    let body : f x.body ≡ f task.body = ap (λ (y : CheckedTask). f y.body) same in
+    omega (arith, body)
+at_most_greatest f (x ∷ ts) (suc t) task e = let rest = at_most_greatest f ts t task e in omega (arith, rest)
+
+greatest_within : (f : Code → ℕ) (most : ℕ) (ts : List CheckedTask) → All (λ t. f t.body ≤ most) ts → greatest f ts ≤ most
+greatest_within f most [] h = omega arith
+greatest_within f most (t ∷ ts) h =
+    let here = All-head (λ t. f t.body ≤ most) t ts h in
+    let rest = greatest_within f most ts (All-tail (λ t. f t.body ≤ most) t ts h) in
+    omega (arith, here, rest)
+
+-- the body of a task that there is
+body_within : (f : Code → ℕ) (p : CheckedProgram) (t : ℕ) → t < length p.tasks → f (task_body p t) ≤ greatest f p.tasks
+body_within f p t lt =
+    let task = there_is p.tasks t lt in
+    subst (λ x. f x ≤ greatest f p.tasks) (sym (ap body_of task.1)) (at_most_greatest f p.tasks t task.0 task.1)
+
+pub tasks_have_room : TasksHaveRoom
+tasks_have_room p allow plans l h = record {
+  list = λ t lt. let most = body_within (list_of p.shared) p t lt in let x = h.layout.list in let y = h.allowed.list in omega (arith, most, x, y);
+  emits = λ t lt. let most = body_within emits_of p t lt in let x = h.layout.emits in let y = h.allowed.emits in omega (arith, most, x, y);
+  few_emits =
+      let few = greatest_within emits_of 256 p.tasks h.allowed.few_emits in
+      let x = h.layout.emits in
+      let y = h.allowed.emits in
+      omega (arith, few, x, y);
+}

@@ -1,0 +1,110 @@
+-- Names that are used as they were declared fit a task's places.
+use Rattle.std.proofs.Common.{◌≡◌, ℕ, Bool, true, false, ◌||◌, List, subst, sym, Some, None, refl}
+use Rattle.std.proofs.lemmas.Bool.{eq-eqb}
+use Rattle.task_ast.specs.declared.SharedDeclaration.{SharedDeclaration}
+use Rattle.task_ast.specs.declared.names.Variable.{Variable}
+use Rattle.task_ast.specs.declared.names.Variable.TheVariants.{Shared, Local}
+use Rattle.task_ast.specs.Tree as t
+use Rattle.task_ast.specs.Paths.{CheckedExpression, CheckedStatement, CheckedChoice, CheckedBlock}
+use Rattle.cost_bound.specs.Counts.{is_shared, statement_assigns, choice_assigns, block_assigns}
+use Rattle.war_analysis.specs.Plans.{IsScalarAt, IsArrayAt}
+use Rattle.lower.specs.Places.{Places, places_of}
+use Rattle.lower.specs.Spots as spots
+use Rattle.lower.specs.Agreement.{IsKnown, IsTarget, IsArray, IsWrittenArray, IsLocal, ExpressionFits, StatementFits, ChoiceFits, BlockFits}
+use Rattle.checked_uses.specs.Uses.{IsWordName, IsArrayName, IsLocalName, ExpressionUses, StatementUses, ChoiceUses, BlockUses}
+use Rattle.layout_facts.specs.Laws.{NamesFit}
+use Rattle.layout_facts.proofs.Planned.{scalar_has_place, array_has_place, array_declared, array_extent}
+use Rattle.layout_facts.proofs.Assigned.{stored_has_copies}
+
+or_left : (a b : Bool) → a ≡ true → (a || b) ≡ true
+or_left true b h = refl
+or_left false b h = let no : false ≡ true = h in cc
+
+or_right : (a b : Bool) → b ≡ true → (a || b) ≡ true
+or_right true b h = refl
+or_right false b h = h
+
+-- what the places have: declared scalars and arrays, and copies of the arrays that are written
+record Have (shared : List SharedDeclaration) (p : Places) (written : ℕ → Bool) : Type 0 where
+  scalars : (v : ℕ) → IsScalarAt shared v → spots.IsScalarAt p v
+  arrays : (v : ℕ) → IsArrayAt shared v → IsArray p (Shared v)
+  copied : (v : ℕ) → IsArrayAt shared v → written v ≡ true → IsWrittenArray p (Shared v)
+
+module _ (shared : List SharedDeclaration) (p : Places) (written : ℕ → Bool) (have : Have shared p written) where
+  known : (x : Variable) → IsWordName shared x → IsKnown p x
+  known (Shared v) h = have.scalars v h
+  known (Local n) h = h
+
+  is_array : (x : Variable) → IsArrayName shared x → IsArray p x
+  is_array (Shared v) h = have.arrays v h
+  is_array (Local n) h = absurd h
+
+  is_local : (x : Variable) → IsLocalName x → IsLocal x
+  is_local (Shared v) h = absurd h
+  is_local (Local n) h = h
+
+  local_target : (x : Variable) → IsLocalName x → IsTarget p written x
+  local_target (Shared v) h = absurd h
+  local_target (Local n) h = h
+
+  target : (x : Variable) → IsWordName shared x → ((v : ℕ) → is_shared v x ≡ true → written v ≡ true) → IsTarget p written x
+  target (Shared v) h w = (have.scalars v h, w v (eq-eqb v v refl))
+  target (Local n) h w = h
+
+  written_array : (x : Variable) → IsArrayName shared x → ((v : ℕ) → is_shared v x ≡ true → written v ≡ true) → IsWrittenArray p x
+  written_array (Shared v) h w = have.copied v h (w v (eq-eqb v v refl))
+  written_array (Local n) h w = absurd h
+
+  expression_fits : (e : CheckedExpression) → ExpressionUses shared e → ExpressionFits p e
+  expression_fits (t.number w) h = tt
+  expression_fits (t.name x) h = known x.variable h
+  expression_fits (t.element x index) h = (is_array x.variable h.0, expression_fits index h.1)
+  expression_fits t.sense h = tt
+  expression_fits (t.unary op e) h = expression_fits e h
+  expression_fits (t.binary op a b) h = (expression_fits a h.0, expression_fits b h.1)
+  expression_fits (t.shift op e count) h = expression_fits e h
+  expression_fits (t.short_circuit op a b) h = (expression_fits a h.0, expression_fits b h.1)
+
+  mutual
+    statement_fits : (s : CheckedStatement) → StatementUses shared s → ((v : ℕ) → statement_assigns v s ≡ true → written v ≡ true) → StatementFits p written s
+    statement_fits (t.declare of x None) h w = tt
+    statement_fits (t.declare of x (Some e)) h w = (expression_fits e h.1, local_target x.variable h.0)
+    statement_fits (t.assign x e) h w = (expression_fits e h.1, target x.variable h.0 w)
+    statement_fits (t.store x index e) h w = (written_array x.variable h.0 w, expression_fits index h.1, expression_fits e h.2)
+    statement_fits (t.choose choice) h w = choice_fits choice h w
+    statement_fits (t.loop x from tested below stepped body) h w = (is_local x.variable h.0, block_fits body h.1 w)
+    statement_fits (t.emit e) h w = expression_fits e h
+    statement_fits (t.transition task) h w = tt
+
+    choice_fits : (c : CheckedChoice) → ChoiceUses shared c → ((v : ℕ) → choice_assigns v c ≡ true → written v ≡ true) → ChoiceFits p written c
+    choice_fits t.nothing h w = tt
+    choice_fits (t.otherwise block) h w = block_fits block h w
+    choice_fits (t.test e block more) h w = (
+      expression_fits e h.0,
+      block_fits block h.1 (λ v k. w v (or_left (block_assigns v block) (choice_assigns v more) k)),
+      choice_fits more h.2 (λ v k. w v (or_right (block_assigns v block) (choice_assigns v more) k)),
+    )
+
+    block_fits : (b : CheckedBlock) → BlockUses shared b → ((v : ℕ) → block_assigns v b ≡ true → written v ≡ true) → BlockFits p written b
+    block_fits t.end h w = tt
+    block_fits (t.step s more) h w = (
+      statement_fits s h.0 (λ v k. w v (or_left (statement_assigns v s) (block_assigns v more) k)),
+      block_fits more h.1 (λ v k. w v (or_right (statement_assigns v s) (block_assigns v more) k)),
+    )
+
+pub names_fit : NamesFit
+names_fit p allow plans l h t task layout k uses =
+    block_fits p.shared (places_of l layout) (λ v. block_assigns v task.body) have task.body uses (λ v a. a)
+  where
+    have : Have p.shared (places_of l layout) (λ v. block_assigns v task.body)
+    have = record {
+      scalars = λ v s. let place = scalar_has_place p allow plans l h v s in subst spots.IsScalarPlace (sym place.2) tt;
+      arrays = λ v a.
+          let d = array_declared p.shared v a in
+          let n = array_extent d.0.extent d.2 in
+          let x = array_has_place p allow plans l h v n.0 d.0 d.1 n.1 in
+          (x.0, n.0, x.1, record { place = x.2 });
+      copied = λ v a w.
+          let x = stored_has_copies p allow plans l h t task layout k v (record { array = a; assigned = w }) in
+          (x.0, x.1, x.2, record { place = x.3 });
+    }

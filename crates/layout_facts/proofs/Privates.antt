@@ -1,0 +1,160 @@
+-- The private scalars of tasks.
+use Rattle.std.proofs.Common.{◌≡◌, ℕ, zero, suc, ◌<◌, ◌≤◌, ◌⊎◌, inl, inr, List, [], ◌∷◌, length, map, arith, ap, subst, sym, ◌∙◌, Some, refl}
+use Rattle.std.specs.Prelude.{slice_get, All, AllPairs, get_or}
+use Rattle.std.specs.Option.{option_map}
+use Rattle.std.proofs.lemmas.Bool.{cases_lt}
+use Rattle.std.proofs.lemmas.List.Elements.{All-head, All-tail}
+use Rattle.std.proofs.lemmas.Option.{slice_get-map, slice_get_within, get_or_from_slice_get}
+use Rattle.cost_bound.specs.declared.allowance.Allow.{Allow}
+use Rattle.cost_bound.specs.Allowance.{CheckedProgram, CheckedTask}
+use Rattle.war_analysis.specs.PlanValue.{TaskPlanValue}
+use Rattle.war_analysis.specs.Plans.{IsTaskPlan}
+use Rattle.privatise.specs.declared.place.Region.{Region}
+use Rattle.privatise.specs.declared.place.VariablePlace.TheVariants.{Scalar}
+use Rattle.privatise.specs.declared.place.PrivateScalar.{PrivateScalar}
+use Rattle.privatise.specs.LayoutValue.{LayoutValue, TaskLayoutValue}
+use Rattle.privatise.specs.Places.{end_of, HasItsPlace, copy_regions, IsLaidOut}
+use Rattle.runtime_effects.specs.Places.{CopyPair}
+use Rattle.runtime_code.specs.LayoutPlaces.{pair_of}
+use Rattle.boot_runtime.specs.Entries.{entry_of, task_entries}
+use Rattle.boot_runtime.specs.Listing.{TaskEntry, privates_in}
+use Rattle.stands_for.specs.Layout.{IsSharedWord, IsCopyWord, IsAmong, ArePrivate}
+use Rattle.compiled_model.specs.Places.{program_places}
+use Rattle.layout_facts.specs.Facts.{HasLayout, IsTaskAt, IsWordOf}
+use Rattle.layout_facts.specs.Laws.{PrivatesAreTheirs, ScalarsStand}
+use Rattle.layout_facts.proofs.Lists.{there_is}
+use Rattle.layout_facts.proofs.Regions.{IsIn, within, before, alone}
+use Rattle.layout_facts.proofs.Homes.{words_of_variables_are_shared}
+
+-- ---- a scalar and its copy
+
+-- the copy of a scalar among all copies
+pub copy_in : (l : LayoutValue) (v home copy : ℕ) → slice_get l.variables v ≡ Some (Scalar home copy) → IsIn copy_regions l.variables v 0 copy
+copy_in l v home copy e =
+    let r : Region = record { address = copy; words = 1 } in
+    record { place = Scalar home copy; region = r; at = e; contains = alone r; below = omega arith; address = omega arith }
+
+pub copy_is : (p : CheckedProgram) (l : LayoutValue) → IsLaidOut l → (v i a : ℕ) → IsIn copy_regions l.variables v i a → IsCopyWord (program_places p l) a
+copy_is p l h v i a c =
+    let b = within copy_regions l.copies.address l.variables (end_of l.copies) v i a h.copies c in
+    let end = b.end in
+    record { even = b.even; from = b.from; below = omega (arith, end) }
+
+pub home_of_scalar : (l : LayoutValue) (v home copy : ℕ) → slice_get l.variables v ≡ Some (Scalar home copy) → IsWordOf l v 0 home
+home_of_scalar l v home copy e = record { place = Scalar home copy; at = e; below = omega arith; address = omega arith }
+
+pub scalars_stand : ScalarsStand
+scalars_stand p allow plans l h v home copy e = record {
+  is_word = home_of_scalar l v home copy e;
+  is_copy = copy_is p l h.layout.rules v 0 copy (copy_in l v home copy e);
+}
+
+-- ---- the private scalars of a task
+
+-- a task's plan
+pub plan_at : (p : CheckedProgram) (plans : List TaskPlanValue) (t : ℕ) (task : CheckedTask) → length plans ≡ length p.tasks → slice_get p.tasks t ≡ Some task
+    → (plan : TaskPlanValue) × (slice_get plans t ≡ Some plan)
+plan_at p plans t task count e = let lt = slice_get_within p.tasks t task e in there_is plans t (omega (arith, lt, count))
+
+-- numbers in ascending order: the first is below each of the others
+first_below : (s : PrivateScalar) (xs : List PrivateScalar) (k : ℕ) (q : PrivateScalar) → AllPairs ◌<◌ (map (λ s. s.number) (s ∷ xs)) → slice_get xs k ≡ Some q
+    → s.number < q.number
+first_below s xs k q h e =
+    let at : slice_get (map (λ (s : PrivateScalar). s.number) xs) k ≡ Some q.number =
+    slice_get-map (λ (s : PrivateScalar). s.number) xs k ∙ ap (option_map (λ (s : PrivateScalar). s.number)) e in
+    let lt : k < length (map (λ (s : PrivateScalar). s.number) xs) = slice_get_within _ k q.number at in
+    let is : get_or (map (λ (s : PrivateScalar). s.number) xs) k 0 ≡ q.number = get_or_from_slice_get _ k q.number 0 at in
+    subst (λ n. s.number < n) is (h 0 (suc k) 0 (omega arith) (omega (arith, lt)))
+
+others_ascend : (s : PrivateScalar) (xs : List PrivateScalar) → AllPairs ◌<◌ (map (λ s. s.number) (s ∷ xs)) → AllPairs ◌<◌ (map (λ s. s.number) xs)
+others_ascend s xs h i j d lt k = h (suc i) (suc j) d (omega arith) (omega arith)
+
+-- a pair is that of a scalar
+scalar_of : (xs : List PrivateScalar) (q : CopyPair) → IsAmong (map pair_of xs) q → (k : ℕ) × (s : PrivateScalar) × (slice_get xs k ≡ Some s) × (q ≡ pair_of s)
+scalar_of [] q a = absurd a
+scalar_of (s ∷ xs) q (inl e) = (0, s, refl, e)
+scalar_of (s ∷ xs) q (inr a) = let r = scalar_of xs q a in (suc r.0, r.1, r.2, r.3)
+
+copies_differ : (l : LayoutValue) → IsLaidOut l → (s q : PrivateScalar) → HasItsPlace l.variables s → HasItsPlace l.variables q → s.number < q.number
+    → s.copy ≡ q.copy → ⊥
+copies_differ l h s q a b lt e =
+    before copy_regions l.copies.address l.variables (end_of l.copies) s.number q.number 0 0 q.copy h.copies lt
+    (subst (λ c. IsIn copy_regions l.variables s.number 0 c) e (copy_in l s.number s.home s.copy a.place)) (copy_in l q.number q.home q.copy b.place)
+
+are_private : (p : CheckedProgram) (l : LayoutValue) → IsLaidOut l → ((v i a : ℕ) → IsWordOf l v i a → IsSharedWord (program_places p l) a)
+    → (t : ℕ) (xs : List PrivateScalar)
+    → AllPairs ◌<◌ (map (λ s. s.number) xs) → All (HasItsPlace l.variables) xs → ArePrivate (program_places p l) t (map pair_of xs)
+are_private p l h shared t [] ascending places = tt
+are_private p l h shared t (s ∷ xs) ascending places = (
+  shared s.number 0 s.home (home_of_scalar l s.number s.home s.copy here.place),
+  refl,
+  copy_is p l h s.number 0 s.copy (copy_in l s.number s.home s.copy here.place),
+  other,
+  are_private p l h shared t xs (others_ascend s xs ascending) behind,
+)
+  where
+    here : HasItsPlace l.variables s
+    here = All-head (HasItsPlace l.variables) s xs places
+
+    behind : All (HasItsPlace l.variables) xs
+    behind = All-tail (HasItsPlace l.variables) s xs places
+
+    other : (q : CopyPair) → IsAmong (map pair_of xs) q → s.copy ≡ q.copy → ⊥
+    other q a e =
+        let r = scalar_of xs q a in
+        let its = subst (HasItsPlace l.variables) (get_or_from_slice_get xs r.0 r.1 r.1 r.2) (behind r.0 r.1 (slice_get_within xs r.0 r.1 r.2)) in
+        copies_differ l h s r.1 here its (first_below s xs r.0 r.1 ascending r.2) (e ∙ ap (λ (x : CopyPair). x.copy) r.3)
+
+-- what the plan and the layout say of a task's private scalars
+pub record Privates (p : CheckedProgram) (l : LayoutValue) (task : CheckedTask) (layout : TaskLayoutValue) : Type 0 where
+  pub plan : TaskPlanValue
+  pub is_plan : IsTaskPlan p.shared task.body plan
+  pub numbers : map (λ s. s.number) layout.privates ≡ plan.private_scalars
+  pub places : All (HasItsPlace l.variables) layout.privates
+
+pub privates_of : (p : CheckedProgram) (allow : Allow) (plans : List TaskPlanValue) (l : LayoutValue) → HasLayout p allow plans l
+    → (t : ℕ) (task : CheckedTask) (layout : TaskLayoutValue) → IsTaskAt p l t task layout → Privates p l task layout
+privates_of p allow plans l h t task layout k =
+    let plan = plan_at p plans t task h.plan.count k.is_task in
+    let is = get_or_from_slice_get l.tasks t layout layout k.is_layout in
+    record {
+      plan = plan.0;
+      is_plan = h.plan.each t task plan.0 k.is_task plan.1;
+      numbers = (h.layout.tasks.each t task plan.0 layout k.is_task plan.1 k.is_layout).privates;
+      places =
+          subst (λ (x : TaskLayoutValue). All (HasItsPlace l.variables) x.privates) is
+          (h.layout.rules.privates t layout (slice_get_within l.tasks t layout k.is_layout));
+    }
+
+pub ascending_numbers : (p : CheckedProgram) (l : LayoutValue) (task : CheckedTask) (layout : TaskLayoutValue) → Privates p l task layout
+    → AllPairs ◌<◌ (map (λ s. s.number) layout.privates)
+ascending_numbers p l task layout k = subst (AllPairs ◌<◌) (sym k.numbers) k.is_plan.private_scalars.ascending
+
+-- the entry of a number, and that there is none beyond
+entry_is : (l : LayoutValue) (t : ℕ) (layout : TaskLayoutValue) → slice_get l.tasks t ≡ Some layout
+    → privates_in (task_entries l) t ≡ map pair_of layout.privates
+entry_is l t layout e =
+    let at : slice_get (task_entries l) t ≡ Some (entry_of layout) = slice_get-map entry_of l.tasks t ∙ ap (option_map entry_of) e in
+    ap (λ (x : TaskEntry). x.privates) (get_or_from_slice_get (task_entries l) t (entry_of layout) (record { privates = []; code = 0 }) at)
+
+entry_beyond : (ts : List TaskLayoutValue) (t : ℕ) → length ts ≤ t → privates_in (map entry_of ts) t ≡ []
+entry_beyond [] t h = refl
+entry_beyond (x ∷ ts) zero h = absurd (omega arith)
+entry_beyond (x ∷ ts) (suc t) h = entry_beyond ts t (omega arith)
+
+pub privates_are_theirs : PrivatesAreTheirs
+privates_are_theirs p allow plans l h t = pick (cases_lt t (length l.tasks))
+  where
+    there : t < length l.tasks → ArePrivate (program_places p l) t (privates_in (task_entries l) t)
+    there lt =
+        let count = h.layout.tasks.count in
+        let layout = there_is l.tasks t lt in
+        let task = there_is p.tasks t (omega (arith, lt, count)) in
+        let k = privates_of p allow plans l h t task.0 layout.0 (record { is_task = task.1; is_layout = layout.1 }) in
+        subst (ArePrivate (program_places p l) t) (sym (entry_is l t layout.0 layout.1))
+        (are_private p l h.layout.rules (words_of_variables_are_shared p allow plans l h) t layout.0.privates
+        (ascending_numbers p l task.0 layout.0 k) k.places)
+
+    pick : (t < length l.tasks) ⊎ (length l.tasks ≤ t) → ArePrivate (program_places p l) t (privates_in (task_entries l) t)
+    pick (inl lt) = there lt
+    pick (inr ge) = subst (ArePrivate (program_places p l) t) (sym (entry_beyond l.tasks t ge)) tt

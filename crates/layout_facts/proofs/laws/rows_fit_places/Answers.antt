@@ -1,0 +1,5 @@
+use Rattle.layout_facts.proofs.Views.{rows_fit_places}
+use Rattle.layout_facts.proofs.laws.rows_fit_places.Goals as goal
+
+pub returns : goal.returns
+returns c = rows_fit_places

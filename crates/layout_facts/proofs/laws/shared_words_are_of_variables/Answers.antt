@@ -1,0 +1,5 @@
+use Rattle.layout_facts.proofs.Homes.{shared_words_are_of_variables}
+use Rattle.layout_facts.proofs.laws.shared_words_are_of_variables.Goals as goal
+
+pub returns : goal.returns
+returns c = shared_words_are_of_variables

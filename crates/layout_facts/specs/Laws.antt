@@ -1,0 +1,154 @@
+-- What the layout of a source gives to the layers above.
+use Rattle.std.specs.Prelude.{◌≡◌, ℕ, ◌+◌, ◌*◌, ◌<◌, true, false, Option, Some, is_some, List, [], length, map, AllPairs, Contains, slice_get, slice_index, slice_index_or}
+use Rattle.task_ast.specs.declared.Extent.TheVariants as extent
+use Rattle.task_ast.specs.declared.SharedDeclaration.{SharedDeclaration}
+use Rattle.cost_bound.specs.declared.allowance.Allow.{Allow}
+use Rattle.cost_bound.specs.Counts.{stores_of, block_assigns}
+use Rattle.cost_bound.specs.Allowance.{CheckedProgram, CheckedTask, is_written, scalars_of}
+use Rattle.war_analysis.specs.PlanValue.{TaskPlanValue}
+use Rattle.war_analysis.specs.Plans.{IsPrivateIn, IsVersionedIn}
+use Rattle.war_analysis.specs.Plans as plan
+use Rattle.privatise.specs.declared.place.ArrayCopies.{ArrayCopies}
+use Rattle.privatise.specs.declared.place.VariablePlace.{VariablePlace}
+use Rattle.privatise.specs.declared.place.VariablePlace.TheVariants.{Scalar, Array}
+use Rattle.privatise.specs.declared.place.PrivateScalar.{PrivateScalar}
+use Rattle.privatise.specs.LayoutValue.{LayoutValue, TaskLayoutValue}
+use Rattle.privatise.specs.Places.{HasItsPlace}
+use Rattle.boot_runtime.specs.Entries.{task_entries}
+use Rattle.boot_runtime.specs.Listing.{privates_in}
+use Rattle.stands_for.specs.Layout.{AreApart, HaveRoom, ArePrivate, IsSharedWord, IsCopyWord}
+use Rattle.lower.specs.Places.{places_of, address_of}
+use Rattle.lower.specs.Spots.{HasRoom, Element, IsElement, IsCopied, IsScalarAt, element_address, copy_address, version_address}
+use Rattle.lower.specs.Spots as spots
+use Rattle.lower.specs.Agreement.{place_length, BlockFits}
+use Rattle.checked_uses.specs.Uses.{BlockUses}
+use Rattle.compiled_model.specs.Places.{program_places}
+use Rattle.compiled_model.specs.View.{shared_word, are_rows}
+use Rattle.layout_facts.specs.Facts.{HasLayout, IsTaskAt, IsWordOf, task_room}
+
+-- what holds of each source and its layout
+abbrev OfLayouts : (CheckedProgram → LayoutValue → Type 0) → Type 0
+OfLayouts F = (p : CheckedProgram) (allow : Allow) (plans : List TaskPlanValue) (l : LayoutValue) → HasLayout p allow plans l → F p l
+
+-- what holds of each of its tasks
+abbrev OfTasks : (CheckedProgram → LayoutValue → CheckedTask → TaskLayoutValue → Type 0) → Type 0
+OfTasks F = OfLayouts (λ p l. (t : ℕ) (task : CheckedTask) (layout : TaskLayoutValue) → IsTaskAt p l t task layout → F p l task layout)
+
+-- ---- as the crash theorem takes places
+
+-- the places stand apart
+abbrev pub PlacesAreApart : Type 0
+PlacesAreApart = OfLayouts (λ p l. AreApart (program_places p l))
+
+-- the buffers have room for each task
+abbrev pub TasksHaveRoom : Type 0
+TasksHaveRoom = OfLayouts (λ p l. HaveRoom (program_places p l))
+
+-- what the boot copies for a task is private there; it copies nothing for numbers beyond the tasks
+abbrev pub PrivatesAreTheirs : Type 0
+PrivatesAreTheirs = OfLayouts (λ p l. (t : ℕ) → ArePrivate (program_places p l) t (privates_in (task_entries l) t))
+
+-- ---- as the lowering takes them
+
+-- the words that a task works on stand apart, and behind what it lists and emits
+abbrev pub TaskPlacesAreApart : Type 0
+TaskPlacesAreApart = OfTasks (λ p l task layout. spots.AreApart (places_of l layout) (task_room p task))
+
+-- all at even addresses
+abbrev pub TaskPlacesAreEven : Type 0
+TaskPlacesAreEven = OfTasks (λ p l task layout. spots.AreEven (places_of l layout))
+
+-- the list has room for the private scalars and for as many different elements of each array as there are stores to it
+abbrev pub ListsHaveRoom : Type 0
+ListsHaveRoom = OfTasks (λ p l task layout. HasRoom (places_of l layout) (λ v. stores_of v task.body) (task_room p task))
+
+-- ---- addresses and variables
+
+-- each shared word is a word of a variable
+abbrev pub SharedWordsAreOfVariables : Type 0
+SharedWordsAreOfVariables = OfLayouts (λ p l. (a : ℕ) → IsSharedWord (program_places p l) a → (v i : ℕ) × IsWordOf l v i a)
+
+-- and each word of a variable is a shared word
+abbrev pub WordsOfVariablesAreShared : Type 0
+WordsOfVariablesAreShared = OfLayouts (λ p l. (v i a : ℕ) → IsWordOf l v i a → IsSharedWord (program_places p l) a)
+
+-- of one variable, and one of its words
+abbrev pub EachIsOneWord : Type 0
+EachIsOneWord = OfLayouts (λ p l. (v w i j a : ℕ) → IsWordOf l v i a → IsWordOf l w j a → (v ≡ w) × (i ≡ j))
+
+-- the view of a state has there the word of the variable's row
+abbrev pub ViewHasTheirWords : Type 0
+ViewHasTheirWords = OfLayouts (λ p l. (rows : List (List ℕ)) (v i a : ℕ) → IsWordOf l v i a
+    → shared_word l.variables rows a ≡ slice_index (slice_index_or rows v []) i)
+
+-- rows of the declared lengths have the lengths of the places
+abbrev pub RowsFitPlaces : Type 0
+RowsFitPlaces = OfLayouts (λ p l. (rows : List (List ℕ)) (v : ℕ) (place : VariablePlace) → are_rows p.shared rows ≡ true
+    → slice_get l.variables v ≡ Some place → (v < length rows) × (length (slice_index_or rows v []) ≡ place_length place))
+
+-- an element's address is that of its word; its copy is a copy, its version word one of those that are counted
+pub record ElementStands (p : CheckedProgram) (l : LayoutValue) (layout : TaskLayoutValue) : Type 0 where
+  pub word : (x : Element) → IsElement (places_of l layout) x → IsWordOf l x.array x.index (element_address (places_of l layout) x)
+  pub copy : (x : Element) → IsCopied (places_of l layout) x → IsCopyWord (program_places p l) (copy_address (places_of l layout) x)
+  pub version : (x : Element) → IsCopied (places_of l layout) x
+      → (j : ℕ) × (j < l.versions.capacity) × (version_address (places_of l layout) x ≡ l.versions.address + 2 * j)
+
+-- so with each element, whatever the task
+abbrev pub ElementsStand : Type 0
+ElementsStand = OfLayouts (λ p l. (layout : TaskLayoutValue) → ElementStands p l layout)
+
+-- a scalar's word is a word of the variable, its copy a copy
+pub record ScalarStands (p : CheckedProgram) (l : LayoutValue) (v home copy : ℕ) : Type 0 where
+  pub is_word : IsWordOf l v 0 home
+  pub is_copy : IsCopyWord (program_places p l) copy
+
+-- so with each scalar
+abbrev pub ScalarsStand : Type 0
+ScalarsStand = OfLayouts (λ p l. (v home copy : ℕ) → slice_get l.variables v ≡ Some (Scalar home copy) → ScalarStands p l v home copy)
+
+-- ---- declarations and places
+
+-- a place of a variable is of the kind that the source declares, and an array has copies exactly where some task writes it
+pub record PlacesMatch (p : CheckedProgram) (l : LayoutValue) : Type 0 where
+  pub count : length l.variables ≡ length p.shared
+  pub scalar : (v : ℕ) → plan.IsScalarAt p.shared v → (home copy : ℕ) × (slice_get l.variables v ≡ Some (Scalar home copy))
+  pub is_scalar : (v home copy : ℕ) → slice_get l.variables v ≡ Some (Scalar home copy) → plan.IsScalarAt p.shared v
+  pub array : (v n : ℕ) (d : SharedDeclaration) → slice_get p.shared v ≡ Some d → d.extent ≡ extent.Array n
+      → (elements : ℕ) × (copies : Option ArrayCopies)
+      × (slice_get l.variables v ≡ Some (Array elements n copies)) × (is_some copies ≡ is_written p.tasks v)
+  pub is_array : (v elements n : ℕ) (copies : Option ArrayCopies) → slice_get l.variables v ≡ Some (Array elements n copies)
+      → (d : SharedDeclaration) × (slice_get p.shared v ≡ Some d) × (d.extent ≡ extent.Array n) × (is_some copies ≡ is_written p.tasks v)
+
+-- so with each source and its layout
+abbrev pub PlacesAreDeclared : Type 0
+PlacesAreDeclared = OfLayouts PlacesMatch
+
+-- a task's private scalars are those that it assigns, each once and with its place; it has the copies of the arrays that it stores to
+pub record TaskMatches (p : CheckedProgram) (l : LayoutValue) (task : CheckedTask) (layout : TaskLayoutValue) : Type 0 where
+  pub ascending : AllPairs ◌<◌ (map (λ s. s.number) layout.privates)
+  pub only : (s : PrivateScalar) → Contains layout.privates s → IsPrivateIn p.shared task.body s.number × HasItsPlace l.variables s
+  pub each : (v : ℕ) → IsPrivateIn p.shared task.body v → (s : PrivateScalar) × Contains layout.privates s × (s.number ≡ v)
+  pub count : length layout.privates ≡ scalars_of p.shared task.body
+  pub stored : (v : ℕ) → IsVersionedIn p.shared task.body v
+      → (elements n : ℕ) × (copies : ArrayCopies) × (slice_get l.variables v ≡ Some (Array elements n (Some copies)))
+
+-- so with each task
+abbrev pub TasksMatch : Type 0
+TasksMatch = OfTasks TaskMatches
+
+-- a scalar's address in a task is that of its copy where the task assigns it, else that of its word
+pub record AddressIs (p : CheckedProgram) (l : LayoutValue) (task : CheckedTask) (layout : TaskLayoutValue) : Type 0 where
+  pub assigned : (v home copy : ℕ) → slice_get l.variables v ≡ Some (Scalar home copy) → block_assigns v task.body ≡ true
+      → address_of (places_of l layout) v ≡ copy
+  pub left : (v home copy : ℕ) → slice_get l.variables v ≡ Some (Scalar home copy) → block_assigns v task.body ≡ false
+      → address_of (places_of l layout) v ≡ home
+  pub each : (v home copy : ℕ) → slice_get l.variables v ≡ Some (Scalar home copy) → block_assigns v task.body ≡ true
+      → Contains layout.privates (record { number = v; home = home; copy = copy })
+
+-- so in each task
+abbrev pub AddressesAre : Type 0
+AddressesAre = OfTasks AddressIs
+
+-- names that are used as they were declared fit the task's places
+abbrev pub NamesFit : Type 0
+NamesFit = OfTasks (λ p l task layout. BlockUses p.shared task.body → BlockFits (places_of l layout) (λ v. block_assigns v task.body) task.body)

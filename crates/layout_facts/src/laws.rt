@@ -1,0 +1,90 @@
+//! What holds of the layout of a source, as contracts of functions that do nothing.
+ghost use Rattle.layout_facts.specs.Laws.{AddressesAre, EachIsOneWord, ElementsStand, ListsHaveRoom, NamesFit, PlacesAreApart};
+ghost use Rattle.layout_facts.specs.Laws.{PlacesAreDeclared, PrivatesAreTheirs, RowsFitPlaces, ScalarsStand};
+ghost use Rattle.layout_facts.specs.Laws.{SharedWordsAreOfVariables, TaskPlacesAreApart, TaskPlacesAreEven, TasksHaveRoom};
+ghost use Rattle.layout_facts.specs.Laws.{TasksMatch, ViewHasTheirWords, WordsOfVariablesAreShared};
+
+/// The places that the crash theorem takes stand apart.
+pub fn places_are_apart()
+    ensures { PlacesAreApart }
+{}
+
+/// The buffers have room for what each task lists and emits.
+pub fn tasks_have_room()
+    ensures { TasksHaveRoom }
+{}
+
+/// What the boot copies for a task is private there.
+pub fn privates_are_theirs()
+    ensures { PrivatesAreTheirs }
+{}
+
+/// The words that a task's program works on stand apart, and behind what it lists and emits.
+pub fn task_places_are_apart()
+    ensures { TaskPlacesAreApart }
+{}
+
+/// They stand at even addresses.
+pub fn task_places_are_even()
+    ensures { TaskPlacesAreEven }
+{}
+
+/// The commit list has room for the private scalars and for each element that a task may list.
+pub fn lists_have_room()
+    ensures { ListsHaveRoom }
+{}
+
+/// Each shared word is a word of a variable.
+pub fn shared_words_are_of_variables()
+    ensures { SharedWordsAreOfVariables }
+{}
+
+/// Each word of a variable is a shared word.
+pub fn words_of_variables_are_shared()
+    ensures { WordsOfVariablesAreShared }
+{}
+
+/// No two words stand at one address.
+pub fn each_is_one_word()
+    ensures { EachIsOneWord }
+{}
+
+/// The view of a state by addresses has the words of the variables' rows.
+pub fn view_has_their_words()
+    ensures { ViewHasTheirWords }
+{}
+
+/// Rows of the declared lengths have those of the places.
+pub fn rows_fit_places()
+    ensures { RowsFitPlaces }
+{}
+
+/// Where elements, their copies and their version words stand.
+pub fn elements_stand()
+    ensures { ElementsStand }
+{}
+
+/// Where scalars and their copies stand.
+pub fn scalars_stand()
+    ensures { ScalarsStand }
+{}
+
+/// Places are of the kinds that the source declares.
+pub fn places_are_declared()
+    ensures { PlacesAreDeclared }
+{}
+
+/// A task's private scalars are those that it assigns, and the arrays that it stores to have copies.
+pub fn tasks_match()
+    ensures { TasksMatch }
+{}
+
+/// A scalar's address in a task is that of its copy where the task assigns it, else that of its word.
+pub fn addresses_are_copies_or_words()
+    ensures { AddressesAre }
+{}
+
+/// Names that are used as they were declared fit a task's places.
+pub fn names_fit()
+    ensures { NamesFit }
+{}

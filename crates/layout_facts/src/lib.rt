@@ -1,0 +1,12 @@
+//! What the layout of a source gives to the layers above: to what FRAM stands for, to the lowering, and of the source's variables
+//! by their addresses. It has no code.
+#![tactic(auto)]
+
+mod laws;
+
+pub use laws::{
+    addresses_are_copies_or_words, each_is_one_word, elements_stand, lists_have_room, names_fit,
+    places_are_apart, places_are_declared, privates_are_theirs, rows_fit_places, scalars_stand,
+    shared_words_are_of_variables, task_places_are_apart, task_places_are_even, tasks_have_room,
+    tasks_match, view_has_their_words, words_of_variables_are_shared,
+};

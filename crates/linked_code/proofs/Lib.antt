@@ -1,0 +1,4 @@
+pub mod Parts
+pub mod Linked
+pub mod Rooms
+pub mod Stretches

@@ -1,0 +1,100 @@
+-- The code of a compiled source, from what its layout gives.
+use Rattle.std.proofs.Common.{◌≡◌, ℕ, zero, suc, ◌+◌, ◌*◌, ◌≤◌, List, [], ◌∷◌, length, map, Some, slice_get, arith, subst}
+use Rattle.machine_effects.specs.Machine.{Code}
+use Rattle.code_forms.specs.Placed.{placed, words_of}
+use Rattle.code_forms.proofs.Placed.{forms_stand, placed_is_tidy}
+use Rattle.runtime_code.proofs.Sizes.{code_bytes}
+use Rattle.array_versions.specs.Program.{Program}
+use Rattle.codegen.proofs.Lengths.{code_length}
+use Rattle.codegen.proofs.Instructions.{code_are}
+use Rattle.privatise.specs.LayoutValue.{LayoutValue, TaskLayoutValue}
+use Rattle.privatise.specs.Places.{end_of, AreInOrder}
+use Rattle.runtime_code.specs.Addresses.{start_address}
+use Rattle.runtime_code.specs.LayoutPlaces.{runtime_places}
+use Rattle.boot_runtime.specs.Entries.{task_entries}
+use Rattle.boot_runtime.proofs.Words.{boot_is_short, boot_is_code}
+use Rattle.commit_runtime.proofs.Words.{commit_is_short, commit_is_code}
+use Rattle.linked_code.specs.Parts.{part_end, PartsInOrder}
+use Rattle.linked_code.specs.Linked.{boot_part, commit_part, task_part, task_parts, code_parts, linked_forms, linked, ProgramsFit, CodeFits}
+use Rattle.linked_code.specs.Laws.{LinkedIsCode, LinkedStands, PartStands}
+use Rattle.linked_code.proofs.Parts.{chained_end, AllStand, chained_stands, AllAre, chained_are, from_before}
+
+tasks_in_order : (from : ℕ) (ts : List TaskLayoutValue) (ps : List Program) (end : ℕ) → AreInOrder from (map (λ t. t.code) ts) end → ProgramsFit ts ps
+    → PartsInOrder from (task_parts ts ps) end
+tasks_in_order from [] ps end o f = o
+tasks_in_order from (t ∷ ts) [] end o f = absurd f
+tasks_in_order from (t ∷ ts) (p ∷ ps) end o f =
+    let e = code_length t.code.address p in
+    let w = f.0 in (
+      record { from = o.0.from; even = o.0.even },
+      from_before (end_of t.code) (part_end (task_part t p)) (task_parts ts ps) end (omega (arith, e, w))
+          (tasks_in_order (end_of t.code) ts ps end o.1 f.1),
+    )
+
+boot_length : (l : LayoutValue) (programs : List Program) → CodeFits l programs → part_end (boot_part l) ≤ l.commit.address
+boot_length l programs f =
+    let a = boot_is_short (runtime_places l) l.commit.address (task_entries l) l.boot.address in
+    let b = code_bytes (boot_part l).forms in
+    let c = f.boot in let d = f.rules.apart.commit in
+    omega (arith, a, b, c, d)
+
+commit_length : (l : LayoutValue) (programs : List Program) → CodeFits l programs → part_end (commit_part l) ≤ l.code.address
+commit_length l programs f =
+    let a = commit_is_short (runtime_places l) (start_address l.boot.address) in
+    let b = code_bytes (commit_part l).forms in
+    let c = f.commit in let d = f.rules.apart.code in
+    omega (arith, a, b, c, d)
+
+pub in_order : (l : LayoutValue) (programs : List Program) → CodeFits l programs → PartsInOrder l.boot.address (code_parts l programs) (end_of l.code)
+in_order l programs f = (
+  record { from = omega arith; even = f.rules.even.boot },
+  (
+    record { from = boot_length l programs f; even = f.rules.even.commit },
+    from_before l.code.address (part_end (commit_part l)) (task_parts l.tasks programs) (end_of l.code) (commit_length l programs f)
+        (tasks_in_order l.code.address l.tasks programs (end_of l.code) f.rules.code f.tasks),
+  ),
+)
+
+tasks_are : (ts : List TaskLayoutValue) (ps : List Program) → AllAre (task_parts ts ps)
+tasks_are [] ps = tt
+tasks_are (t ∷ ts) [] = tt
+tasks_are (t ∷ ts) (p ∷ ps) = (code_are t.code.address p, tasks_are ts ps)
+
+ends : (l : LayoutValue) (programs : List Program) → CodeFits l programs → l.boot.address + 2 * length (words_of (linked l programs)) ≤ end_of l.code
+ends l programs f =
+    let a = code_bytes (linked_forms l programs) in
+    let b = chained_end l.boot.address (code_parts l programs) (end_of l.code) f.rules.even.boot (in_order l programs f) in
+    omega (arith, a, b)
+
+pub linked_is_code : LinkedIsCode
+linked_is_code l programs f =
+    let e = ends l programs f in
+    let h = f.high in
+    record {
+      instructions = chained_are l.boot.address (code_parts l programs) (
+        boot_is_code (runtime_places l) l.commit.address (task_entries l) l.boot.address,
+        (commit_is_code (runtime_places l) (start_address l.boot.address), tasks_are l.tasks programs),
+      );
+      end = e;
+      tidy = placed_is_tidy (linked l programs) l.boot.address f.rules.even.boot (omega (arith, e, h));
+    }
+
+task_stands : (code : Code) (ts : List TaskLayoutValue) (ps : List Program) → AllStand code (task_parts ts ps) → (k : ℕ) (t : TaskLayoutValue) (p : Program)
+    → slice_get ts k ≡ Some t → slice_get ps k ≡ Some p → PartStands code (task_part t p)
+task_stands code [] ps h k t p a b = absurd (cc (a))
+task_stands code (u ∷ ts) [] h k t p a b = absurd (cc (b))
+task_stands code (u ∷ ts) (q ∷ ps) h zero t p a b =
+    let d : u ≡ t = cc a in let e : q ≡ p = cc b in
+    subst (λ v. PartStands code (task_part v p)) d (subst (λ r. PartStands code (task_part u r)) e h.0)
+task_stands code (u ∷ ts) (q ∷ ps) h (suc k) t p a b = task_stands code ts ps h.1 k t p a b
+
+pub linked_stands : LinkedStands
+linked_stands l programs f =
+    let code = placed l.boot.address (linked l programs) in
+    let s = chained_stands code l.boot.address (code_parts l programs) (end_of l.code) f.rules.even.boot (in_order l programs f)
+    (forms_stand (linked_forms l programs) l.boot.address) in
+    record {
+      boot = s.0;
+      commit = s.1.0;
+      tasks = λ k t p a b. task_stands code l.tasks programs s.1.1 k t p a b;
+    }

@@ -1,0 +1,70 @@
+-- The code of a compiled source: boot, commit and tasks as one list of instructions, which stands at the boot's place.
+use Rattle.std.specs.Prelude.{ℕ, ◌+◌, ◌*◌, ◌<◌, ◌≤◌, List, [], ◌∷◌, length, get_or}
+use Rattle.msp_isa.specs.declared.instructions.Instr.{Instr}
+use Rattle.code_forms.specs.Forms.{Form}
+use Rattle.code_forms.specs.Placed.{instructions}
+use Rattle.array_versions.specs.Program.{Program, nothing}
+use Rattle.array_versions.specs.Form.{IsWhole, OfWords}
+use Rattle.array_versions.specs.Cost.{words_of}
+use Rattle.codegen.specs.Code.{code_of}
+use Rattle.privatise.specs.LayoutValue.{LayoutValue, TaskLayoutValue}
+use Rattle.privatise.specs.Places.{end_of, IsLaidOut}
+use Rattle.runtime_code.specs.Addresses.{start_address}
+use Rattle.runtime_code.specs.LayoutPlaces.{runtime_places}
+use Rattle.boot_runtime.specs.Entries.{task_entries}
+use Rattle.boot_runtime.specs.Listing.{boot_forms, boot_bytes}
+use Rattle.commit_runtime.specs.Listing.{commit_forms, commit_bytes}
+use Rattle.linked_code.specs.Parts.{CodePart, chained}
+
+-- the boot, with the start of an attempt
+abbrev pub boot_part : LayoutValue → CodePart
+boot_part l = record {
+  address = l.boot.address;
+  forms = boot_forms (runtime_places l) l.commit.address (task_entries l) l.boot.address;
+}
+
+-- the commit
+abbrev pub commit_part : LayoutValue → CodePart
+commit_part l = record { address = l.commit.address; forms = commit_forms (runtime_places l) (start_address l.boot.address) }
+
+-- a task's code
+abbrev pub task_part : TaskLayoutValue → Program → CodePart
+task_part t p = record { address = t.code.address; forms = code_of t.code.address p }
+
+-- the code of tasks, each with its program
+abbrev pub task_parts : List TaskLayoutValue → List Program → List CodePart
+task_parts [] programs = []
+task_parts (t ∷ ts) [] = []
+task_parts (t ∷ ts) (p ∷ ps) = task_part t p ∷ task_parts ts ps
+
+-- all parts
+abbrev pub code_parts : LayoutValue → List Program → List CodePart
+code_parts l programs = boot_part l ∷ commit_part l ∷ task_parts l.tasks programs
+
+-- the whole code as forms
+abbrev pub linked_forms : LayoutValue → List Program → List Form
+linked_forms l programs = chained l.boot.address (code_parts l programs)
+
+-- the whole code
+abbrev pub linked : LayoutValue → List Program → List Instr
+linked l programs = instructions (linked_forms l programs)
+
+-- each program has the room that its task has
+abbrev pub ProgramsFit : List TaskLayoutValue → List Program → Type 0
+ProgramsFit [] [] = Unit {0}
+ProgramsFit [] (p ∷ ps) = ⊥
+ProgramsFit (t ∷ ts) [] = ⊥
+ProgramsFit (t ∷ ts) (p ∷ ps) = (words_of p ≤ t.code.words) × ProgramsFit ts ps
+
+-- the code has its room in the layout, and behind it there is room for an instruction
+pub record CodeFits (l : LayoutValue) (programs : List Program) : Type 0 where
+  pub rules : IsLaidOut l
+  pub boot : boot_bytes (task_entries l) ≤ 2 * l.boot.words
+  pub commit : commit_bytes ≤ 2 * l.commit.words
+  pub tasks : ProgramsFit l.tasks programs
+  pub high : end_of l.code + 6 ≤ 0x10000
+
+-- of each program code can be made
+pub record ProgramsAreWhole (programs : List Program) : Type 0 where
+  pub whole : (k : ℕ) → k < length programs → IsWhole (get_or programs k nothing)
+  pub of_words : (k : ℕ) → k < length programs → OfWords (get_or programs k nothing)

@@ -1,0 +1,34 @@
+-- Parts of code, each at its place, as one list of forms.
+use Rattle.std.specs.Prelude.{◌≡◌, ℕ, ◌+◌, ◌-◌, ◌/◌, ◌%◌, ◌≤◌, List, [], ◌∷◌, ◌++◌}
+use Rattle.msp_isa.specs.declared.instructions.Condition.TheVariants.{Always}
+use Rattle.code_forms.specs.Forms.{Form, Jump}
+use Rattle.code_forms.specs.Code.{forms_bytes}
+use Rattle.codegen.specs.Code.{repeated}
+
+-- a jump to itself, of one word
+abbrev pub filler : Form
+filler = Jump Always 0x3FF
+
+-- a part of the code, and where it stands
+pub record CodePart : Type 0 where
+  pub address : ℕ
+  pub forms : List Form
+
+-- the address behind a part
+abbrev pub part_end : CodePart → ℕ
+part_end part = part.address + forms_bytes part.forms
+
+-- parts one behind another from an address on, with filler up to each
+abbrev pub chained : ℕ → List CodePart → List Form
+chained at [] = []
+chained at (part ∷ parts) = repeated ((part.address - at) / 2) filler ++ (part.forms ++ chained (part_end part) parts)
+
+-- a part at an even address, behind what ends at another
+pub record IsPartBehind (end : ℕ) (part : CodePart) : Type 0 where
+  pub from : end ≤ part.address
+  pub even : part.address % 2 ≡ 0
+
+-- parts in order, from one address on up to another
+abbrev pub PartsInOrder : ℕ → List CodePart → ℕ → Type 0
+PartsInOrder from [] end = from ≤ end
+PartsInOrder from (part ∷ parts) end = IsPartBehind from part × PartsInOrder (part_end part) parts end

@@ -1,0 +1,22 @@
+//! Laws of the code of a compiled source. The functions do nothing: their contracts are the laws.
+
+ghost use Rattle.linked_code.specs.Laws.{LinkedIsCode, LinkedStands};
+ghost use Rattle.linked_code.specs.Rooms.{LayoutsHaveRoom};
+
+/// Where it has its room, the code is instructions at even addresses, and ends where the layout's code does, at the latest.
+#[tactic(auto, using(crate::proofs::Linked::linked_is_code))]
+pub fn linked_is_code()
+    ensures { LinkedIsCode }
+{}
+
+/// Boot, commit and each task's code stand at their places in it.
+#[tactic(auto, using(crate::proofs::Linked::linked_stands))]
+pub fn linked_code_stands()
+    ensures { LinkedStands }
+{}
+
+/// The layout of a source that costs no more than it may has room for the code, where each program keeps to the words that the
+/// allowance has for its task.
+pub fn layouts_have_room()
+    ensures { LayoutsHaveRoom }
+{}

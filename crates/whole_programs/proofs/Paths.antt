@@ -1,0 +1,174 @@
+-- Paths: each part of a task has one, and what a path leaves unassigned.
+use Rattle.std.proofs.Common.{◌≡◌, ℕ, zero, suc, ◌-◌, Bool, true, false, List, [], ◌∷◌, ◌++◌, Some, None, refl, ap, subst, ◌∙◌, if◌then◌else◌}
+use Rattle.task_ast.specs.Tree as t
+use Rattle.task_ast.specs.Paths.{CheckedExpression, CheckedStatement, CheckedChoice, CheckedBlock, Access, read, write, unset, End, goes_on, goes_to, ExpressionPath, StatementPath, ChoicePath, TurnsPath, BlockPath}
+use Rattle.task_ast.specs.Paths as path
+use Rattle.task_ast.specs.declared.names.Variable.{Variable}
+use Rattle.task_ast.specs.declared.names.Variable.TheVariants.{Shared, Local}
+use Rattle.task_ast.specs.declared.names.VariableName.{VariableName}
+use Rattle.path_checks.specs.Loops.{is_local}
+use Rattle.path_checks.specs.Unassigned.{is_unassigned}
+
+-- ---- each part has a path
+
+-- the names of an expression, on the path that evaluates both sides of each `&&` and `||`
+abbrev pub names_read : CheckedExpression → List Access
+names_read (t.number w) = []
+names_read (t.name x) = read x ∷ []
+names_read (t.element x index) = names_read index ++ read x ∷ []
+names_read t.sense = []
+names_read (t.unary op e) = names_read e
+names_read (t.binary op a b) = names_read a ++ names_read b
+names_read (t.shift op e count) = names_read e
+names_read (t.short_circuit op a b) = names_read a ++ names_read b
+
+pub is_path : (e : CheckedExpression) → ExpressionPath e (names_read e)
+is_path (t.number w) = path.number w
+is_path (t.name x) = path.name x
+is_path (t.element x index) = path.element x index (names_read index) (is_path index)
+is_path t.sense = path.sense
+is_path (t.unary op e) = path.unary op e (names_read e) (is_path e)
+is_path (t.binary op a b) = path.binary op a b (names_read a) (names_read b) (is_path a) (is_path b)
+is_path (t.shift op e count) = path.shift op e count (names_read e) (is_path e)
+is_path (t.short_circuit op a b) = path.both_sides op a b (names_read a) (names_read b) (is_path a) (is_path b)
+
+-- some path, with its end
+pub record HasPath (Path : List Access → End → Type 0) : Type 0 where
+  pub accesses : List Access
+  pub end : End
+  pub is : Path accesses end
+
+some : (Path : List Access → End → Type 0) (xs : List Access) (end : End) → Path xs end → HasPath Path
+some Path xs end p = record { accesses = xs; end = end; is = p }
+
+a_turn : (x : VariableName) (n : ℕ) (body : CheckedBlock) (xs : List Access) (end : End) → BlockPath body xs end → HasPath (TurnsPath x n body)
+    → HasPath (TurnsPath x (suc n) body)
+a_turn x n body xs goes_on p more =
+    some (TurnsPath x (suc n) body) (xs ++ write x ∷ more.accesses) more.end (path.turn x n body xs more.accesses more.end p more.is)
+a_turn x n body xs (goes_to k) p more = some (TurnsPath x (suc n) body) xs (goes_to k) (path.cut x n body xs k p)
+
+pub some_turns : (x : VariableName) (n : ℕ) (body : CheckedBlock) → HasPath (BlockPath body) → HasPath (TurnsPath x n body)
+some_turns x zero body b = some (TurnsPath x zero body) [] goes_on (path.over x body)
+some_turns x (suc n) body b = a_turn x n body b.accesses b.end b.is (some_turns x n body b)
+
+a_step : (s : CheckedStatement) (more : CheckedBlock) (xs : List Access) (end : End) → StatementPath s xs end → HasPath (BlockPath more)
+    → HasPath (BlockPath (t.step s more))
+a_step s more xs goes_on p q = some (BlockPath (t.step s more)) (xs ++ q.accesses) q.end (path.step s more xs q.accesses q.end p q.is)
+a_step s more xs (goes_to k) p q = some (BlockPath (t.step s more)) xs (goes_to k) (path.stopped s more xs k p)
+
+mutual
+  some_statement : (s : CheckedStatement) → HasPath (StatementPath s)
+  some_statement (t.declare of x None) = some (StatementPath (t.declare of x None)) (unset x ∷ []) goes_on (path.declare_unset of x)
+  some_statement (t.declare of x (Some e)) =
+      some (StatementPath (t.declare of x (Some e))) (names_read e ++ write x ∷ []) goes_on (path.declare_set of x e (names_read e) (is_path e))
+  some_statement (t.assign x e) = some (StatementPath (t.assign x e)) (names_read e ++ write x ∷ []) goes_on (path.assign x e (names_read e) (is_path e))
+  some_statement (t.store x index e) =
+      some (StatementPath (t.store x index e)) (names_read index ++ (names_read e ++ write x ∷ [])) goes_on
+      (path.store x index e (names_read index) (names_read e) (is_path index) (is_path e))
+  some_statement (t.choose c) = let p = some_choice c in some (StatementPath (t.choose c)) p.accesses p.end (path.choose c p.accesses p.end p.is)
+  some_statement (t.loop x from tested below stepped body) =
+      let p = some_turns x (below - from) body (some_block body) in
+      some (StatementPath (t.loop x from tested below stepped body)) (write x ∷ p.accesses) p.end
+      (path.loop x from tested below stepped body p.accesses p.end p.is)
+  some_statement (t.emit e) = some (StatementPath (t.emit e)) (names_read e) goes_on (path.emit e (names_read e) (is_path e))
+  some_statement (t.transition k) = some (StatementPath (t.transition k)) [] (goes_to k) (path.transition k)
+
+  some_choice : (c : CheckedChoice) → HasPath (ChoicePath c)
+  some_choice t.nothing = some (ChoicePath t.nothing) [] goes_on path.nothing
+  some_choice (t.otherwise b) = let p = some_block b in some (ChoicePath (t.otherwise b)) p.accesses p.end (path.otherwise b p.accesses p.end p.is)
+  some_choice (t.test e b more) =
+      let p = some_block b in
+      some (ChoicePath (t.test e b more)) (names_read e ++ p.accesses) p.end
+      (path.taken e b more (names_read e) p.accesses p.end (is_path e) p.is)
+
+  pub some_block : (b : CheckedBlock) → HasPath (BlockPath b)
+  some_block t.end = some (BlockPath t.end) [] goes_on path.finished
+  some_block (t.step s more) = let p = some_statement s in a_step s more p.accesses p.end p.is (some_block more)
+
+-- ---- which locals are unassigned
+
+-- behind a write, and behind a declaration without a value
+abbrev pub written : (ℕ → Bool) → VariableName → ℕ → Bool
+written u n x = if is_local x n.variable then false else u x
+
+abbrev pub forgotten : (ℕ → Bool) → VariableName → ℕ → Bool
+forgotten u n x = if is_local x n.variable then true else u x
+
+-- behind accesses
+abbrev pub behind : (ℕ → Bool) → List Access → ℕ → Bool
+behind u [] = u
+behind u (read n ∷ more) = behind u more
+behind u (write n ∷ more) = behind (written u n) more
+behind u (unset n ∷ more) = behind (forgotten u n) more
+
+pub behind_both : (u : ℕ → Bool) (xs ys : List Access) → behind u (xs ++ ys) ≡ behind (behind u xs) ys
+behind_both u [] ys = refl
+behind_both u (read n ∷ xs) ys = behind_both u xs ys
+behind_both u (write n ∷ xs) ys = behind_both (written u n) xs ys
+behind_both u (unset n ∷ xs) ys = behind_both (forgotten u n) xs ys
+
+-- an expression leaves them
+pub behind_names : (u : ℕ → Bool) (e : CheckedExpression) → behind u (names_read e) ≡ u
+behind_names u (t.number w) = refl
+behind_names u (t.name x) = refl
+behind_names u (t.element x index) = behind_both u (names_read index) (read x ∷ []) ∙ behind_names u index
+behind_names u t.sense = refl
+behind_names u (t.unary op e) = behind_names u e
+behind_names u (t.binary op a b) = behind_both u (names_read a) (names_read b) ∙ (ap (λ v. behind v (names_read b)) (behind_names u a) ∙ behind_names u b)
+behind_names u (t.shift op e count) = behind_names u e
+behind_names u (t.short_circuit op a b) =
+    behind_both u (names_read a) (names_read b) ∙ (ap (λ v. behind v (names_read b)) (behind_names u a) ∙ behind_names u b)
+
+-- behind an expression's names
+pub behind_expression : (u : ℕ → Bool) (e : CheckedExpression) (ys : List Access) → behind u (names_read e ++ ys) ≡ behind u ys
+behind_expression u e ys = behind_both u (names_read e) ys ∙ ap (λ v. behind v ys) (behind_names u e)
+
+-- the same as the checks see it
+pub behind_is : (u : ℕ → Bool) (xs : List Access) (x : ℕ) → behind u xs x ≡ is_unassigned (u x) x xs
+behind_is u [] x = refl
+behind_is u (read n ∷ xs) x = behind_is u xs x
+behind_is u (write n ∷ xs) x = behind_is (written u n) xs x
+behind_is u (unset n ∷ xs) x = behind_is (forgotten u n) xs x
+
+-- ---- no unassigned local is read
+
+abbrev pub IsAssigned : (ℕ → Bool) → Variable → Type 0
+IsAssigned u (Shared v) = Unit {0}
+IsAssigned u (Local x) = u x ≡ false
+
+-- along accesses
+abbrev pub Safe : (ℕ → Bool) → List Access → Type 0
+Safe u [] = Unit {0}
+Safe u (read n ∷ more) = IsAssigned u n.variable × Safe u more
+Safe u (write n ∷ more) = Safe (written u n) more
+Safe u (unset n ∷ more) = Safe (forgotten u n) more
+
+pub safe_both : (u : ℕ → Bool) (xs ys : List Access) → Safe u (xs ++ ys) → Safe u xs × Safe (behind u xs) ys
+safe_both u [] ys h = (tt, h)
+safe_both u (read n ∷ xs) ys h = let r = safe_both u xs ys h.1 in ((h.0, r.0), r.1)
+safe_both u (write n ∷ xs) ys h = safe_both (written u n) xs ys h
+safe_both u (unset n ∷ xs) ys h = safe_both (forgotten u n) xs ys h
+
+-- behind an expression's names
+pub safe_expression : (u : ℕ → Bool) (e : CheckedExpression) (ys : List Access) → Safe u (names_read e ++ ys) → Safe u (names_read e) × Safe u ys
+safe_expression u e ys h = let r = safe_both u (names_read e) ys h in (r.0, subst (λ v. Safe v ys) (behind_names u e) r.1)
+
+-- no local is read in these accesses while it is unassigned
+abbrev pub ReadsNone : (ℕ → Bool) → List Access → Type 0
+ReadsNone u xs =
+    (before : List Access) (n : VariableName) (more : List Access)
+    (x : ℕ) → xs ≡ before ++ read n ∷ more → n.variable ≡ Local x → behind u before x ≡ true → ⊥
+
+pub safe_of : (u : ℕ → Bool) (xs : List Access) → ReadsNone u xs → Safe u xs
+safe_of u [] none = tt
+safe_of u (read n ∷ xs) none = (here n.variable refl, safe_of u xs (λ before m more x e. none (read n ∷ before) m more x (ap (λ ys. read n ∷ ys) e)))
+  where
+    assigned : (x : ℕ) (b : Bool) → n.variable ≡ Local x → u x ≡ b → b ≡ false
+    assigned x true is e = absurd (none [] n xs x refl is e)
+    assigned x false is e = refl
+
+    here : (v : Variable) → n.variable ≡ v → IsAssigned u v
+    here (Shared v) is = tt
+    here (Local x) is = assigned x (u x) is refl
+safe_of u (write n ∷ xs) none = safe_of (written u n) xs (λ before m more x e. none (write n ∷ before) m more x (ap (λ ys. write n ∷ ys) e))
+safe_of u (unset n ∷ xs) none = safe_of (forgotten u n) xs (λ before m more x e. none (unset n ∷ before) m more x (ap (λ ys. unset n ∷ ys) e))

@@ -1,0 +1,177 @@
+-- A loop's variable is a local, which the body's program spares.
+use Rattle.std.proofs.Common.{◌≡◌, ℕ, ◌%◌, ◌==◌, ◌<◌, Bool, true, false, ◌&&◌, ◌||◌, not, List, [], ◌∷◌, Option, Some, None, refl, arith, inl, inr, slice_get}
+use Rattle.std.specs.Prelude.{◌≢◌}
+use Rattle.std.proofs.lemmas.Bool.Decides.{nat_tests}
+use Rattle.alp_text.specs.declared.lines.Span.{Span}
+use Rattle.task_ast.specs.Tree as t
+use Rattle.task_ast.specs.Paths.{CheckedExpression, CheckedStatement, CheckedChoice, CheckedBlock}
+use Rattle.task_ast.specs.declared.SharedDeclaration.{SharedDeclaration}
+use Rattle.task_ast.specs.declared.ShortCircuitOperator.{ShortCircuitOperator}
+use Rattle.task_ast.specs.declared.ShortCircuitOperator.TheVariants.{And as BothHold, Or as OneHolds}
+use Rattle.task_ast.specs.declared.names.Variable.{Variable}
+use Rattle.task_ast.specs.declared.names.Variable.TheVariants.{Shared, Local}
+use Rattle.task_ast.specs.declared.names.VariableName.{VariableName}
+use Rattle.path_checks.specs.Loops.{is_local, is_same_local, statement_assigns, choice_assigns, block_assigns, is_good_loop, BadLoopInStatement, BadLoopInChoice, BadLoopIn}
+use Rattle.source_values.specs.Values.{joined_type, type_of}
+use Rattle.array_versions.specs.declared.operations.UnaryOperation.TheVariants.{Truth}
+use Rattle.array_versions.specs.Program.{Program, unary, binary, shift, emit_word, choose, store_number, move_word, jump, nothing, step, joined}
+use Rattle.array_versions.specs.Form.{StepSpares, Spares}
+use Rattle.privatise.specs.declared.place.VariablePlace.{VariablePlace}
+use Rattle.privatise.specs.declared.place.VariablePlace.TheVariants.{Scalar, Array}
+use Rattle.privatise.specs.declared.place.PrivateScalar.{PrivateScalar}
+use Rattle.lower.specs.Places.{Places}
+use Rattle.lower.specs.Operations.{unary_operation, binary_operation, shift_operation}
+use Rattle.lower.specs.Lowered.{one, read_step, write_step, element_read, element_step, store_step, evaluated_side, lowered_choice_of_sides, lowered_expression, assignment, loop_local, entries, lowered_transition, lowered_statement, lowered_choice, lowered_block}
+use Rattle.checked_uses.specs.Uses.{IsWordName, IsLocalName, StatementUses, ChoiceUses, BlockUses}
+
+-- ---- loops
+
+-- no loop is bad
+abbrev pub GoodStatement : CheckedStatement → Type 0
+GoodStatement s = (at : Span) → BadLoopInStatement s at → ⊥
+
+abbrev pub GoodChoice : CheckedChoice → Type 0
+GoodChoice c = (at : Span) → BadLoopInChoice c at → ⊥
+
+abbrev pub GoodBlock : CheckedBlock → Type 0
+GoodBlock b = (at : Span) → BadLoopIn b at → ⊥
+
+-- a loop's variable is a local, which its body doesn't assign
+pub record IsGood (v : Variable) (body : CheckedBlock) : Type 0 where
+  pub x : ℕ
+  pub is : v ≡ Local x
+  pub spared : block_assigns (Local x) body ≡ false
+
+good_loop : (v w u : Variable) (body : CheckedBlock) → ((is_same_local v w && is_same_local v u) && not (block_assigns v body)) ≡ true → IsGood v body
+good_loop (Shared n) w u body h = absurd (cc)
+good_loop (Local x) w u body h = record { x = x; is = refl; spared = by_test (is_local x w && is_local x u) (block_assigns (Local x) body) h }
+  where
+    by_test : (a b : Bool) → (a && not b) ≡ true → b ≡ false
+    by_test true true h = absurd (cc)
+    by_test true false h = refl
+    by_test false b h = absurd (cc)
+
+pub is_good : (a b c : VariableName) (from below : ℕ) (body : CheckedBlock) → GoodStatement (t.loop a from b below c body) → IsGood a.variable body
+is_good a b c from below body h = good_loop a.variable b.variable c.variable body (by_test (is_good_loop a b c body) refl)
+  where
+    by_test : (r : Bool) → is_good_loop a b c body ≡ r → is_good_loop a b c body ≡ true
+    by_test true e = e
+    by_test false e = absurd (h a.span (inl (refl, e)))
+
+-- ---- programs that spare a local
+
+either : (a b : Bool) → (a || b) ≡ false → (a ≡ false) × (b ≡ false)
+either false b h = (refl, h)
+either true b h = absurd (cc)
+
+spares_joined : (n : ℕ) (p q : Program) → Spares n p → Spares n q → Spares n (joined p q)
+spares_joined n nothing q h k = k
+spares_joined n (step first more) q h k = (h.0, spares_joined n more q h.1 k)
+
+module _ (p : Places) (n : ℕ) where
+  read_spares : (x : Variable) → StepSpares n (read_step p x)
+  read_spares (Shared v) = tt
+  read_spares (Local m) = tt
+
+  element_spares : (x : Variable) → StepSpares n (element_step p x)
+  element_spares (Shared v) = by_place (slice_get p.variables v)
+    where
+      by_place : (o : Option VariablePlace) → StepSpares n (element_read p o)
+      by_place None = tt
+      by_place (Some (Scalar home copy)) = tt
+      by_place (Some (Array elements length None)) = tt
+      by_place (Some (Array elements length (Some c))) = tt
+  element_spares (Local m) = tt
+
+  store_spares : (x : Variable) → StepSpares n (store_step p x)
+  store_spares (Shared v) = tt
+  store_spares (Local m) = tt
+
+  sides_spare : (op : ShortCircuitOperator) (right : Program) → Spares n right → StepSpares n (lowered_choice_of_sides op right)
+  sides_spare BothHold right h = (h, (tt, tt))
+  sides_spare OneHolds right h = ((tt, tt), h)
+
+  expression_spares : (e : CheckedExpression) → Spares n (lowered_expression p e)
+  expression_spares (t.number w) = (tt, tt)
+  expression_spares (t.name x) = (read_spares x.variable, tt)
+  expression_spares (t.element x index) =
+      spares_joined n (lowered_expression p index) (one (element_step p x.variable)) (expression_spares index) (element_spares x.variable, tt)
+  expression_spares t.sense = (tt, tt)
+  expression_spares (t.unary op e) = spares_joined n (lowered_expression p e) (one (unary (unary_operation op))) (expression_spares e) (tt, tt)
+  expression_spares (t.binary op a b) =
+      spares_joined n (joined (lowered_expression p a) (lowered_expression p b)) (one (binary (binary_operation op (joined_type (type_of a) (type_of b)))))
+      (spares_joined n (lowered_expression p a) (lowered_expression p b) (expression_spares a) (expression_spares b)) (tt, tt)
+  expression_spares (t.shift op e count) =
+      spares_joined n (lowered_expression p e) (one (shift (shift_operation op (type_of e)) count.value)) (expression_spares e) (tt, tt)
+  expression_spares (t.short_circuit op a b) =
+      let right = evaluated_side (lowered_expression p b) in
+      spares_joined n (lowered_expression p a) (one (lowered_choice_of_sides op right)) (expression_spares a)
+      (sides_spare op right (spares_joined n (lowered_expression p b) (one (unary Truth)) (expression_spares b) (tt, tt)), tt)
+
+  entries_spare : (count list : ℕ) (privates : List PrivateScalar) → Spares n (entries count list privates)
+  entries_spare count list [] = tt
+  entries_spare count list (s ∷ more) = (tt, entries_spare count list more)
+
+  transition_spares : (task : ℕ) → Spares n (lowered_transition p task)
+  transition_spares task =
+      let close : Program = step (move_word p.words.base p.words.sent_base) (step (store_number p.words.gate 1) (one (jump p.commit))) in
+      (tt, spares_joined n (entries p.words.list_length p.list p.privates) close (entries_spare p.words.list_length p.list p.privates) (tt, (tt, (tt, tt))))
+
+-- two locals of a task have two numbers
+apart : (m y : ℕ) → m < 256 → y < 256 → (y == m) ≡ false → m % 65536 ≢ y % 65536
+apart m y l k h e = absurd (let other : y ≢ m = grind (arith, nat_tests) in other (omega arith))
+
+-- a local may stand for a word
+pub local_word : (shared : List SharedDeclaration) (x : Variable) → IsLocalName x → IsWordName shared x
+local_word shared (Shared v) h = absurd h
+local_word shared (Local m) h = h
+
+module _ (p : Places) (shared : List SharedDeclaration) (y : ℕ) (low : y < 256) where
+  word_spares : (x : Variable) → IsWordName shared x → is_same_local x (Local y) ≡ false → StepSpares (y % 65536) (write_step p x)
+  word_spares (Shared v) n h = tt
+  word_spares (Local m) n h = apart m y n low h
+
+  assigned_spares : (x : VariableName) (e : CheckedExpression) → IsWordName shared x.variable → is_same_local x.variable (Local y) ≡ false
+      → Spares (y % 65536) (assignment p x.variable e)
+  assigned_spares x e n h =
+      spares_joined (y % 65536) (lowered_expression p e) (one (write_step p x.variable)) (expression_spares p (y % 65536) e) (word_spares x.variable n h, tt)
+
+  loop_apart : (v : Variable) → IsLocalName v → is_same_local v (Local y) ≡ false → loop_local v ≢ y % 65536
+  loop_apart (Shared n) w h = absurd w
+  loop_apart (Local m) w h = apart m y w low h
+
+  mutual
+    statement_spares : (s : CheckedStatement) → statement_assigns (Local y) s ≡ false → StatementUses shared s → GoodStatement s
+        → Spares (y % 65536) (lowered_statement p s)
+    statement_spares (t.declare of x None) h n g = tt
+    statement_spares (t.declare of x (Some e)) h n g = assigned_spares x e (local_word shared x.variable n.0) h
+    statement_spares (t.assign x e) h n g = assigned_spares x e n.0 h
+    statement_spares (t.store x index e) h n g =
+        spares_joined (y % 65536) (joined (lowered_expression p index) (lowered_expression p e)) (one (store_step p x.variable))
+        (spares_joined (y % 65536) (lowered_expression p index) (lowered_expression p e)
+        (expression_spares p (y % 65536) index) (expression_spares p (y % 65536) e))
+        (store_spares p (y % 65536) x.variable, tt)
+    statement_spares (t.choose choice) h n g = choice_spares choice h n g
+    statement_spares (t.loop a from b below c body) h n g =
+        let others = is_same_local b.variable (Local y) || is_same_local c.variable (Local y) in
+        let both = either (is_same_local a.variable (Local y) || others) (block_assigns (Local y) body) h in
+        let first = either (is_same_local a.variable (Local y)) others both.0 in
+        ((loop_apart a.variable n.0 first.0, block_spares body both.1 n.1 (λ at bad. g at (inr bad))), tt)
+    statement_spares (t.emit e) h n g =
+        spares_joined (y % 65536) (lowered_expression p e) (one (emit_word p.words.emit_count p.emits)) (expression_spares p (y % 65536) e) (tt, tt)
+    statement_spares (t.transition task) h n g = transition_spares p (y % 65536) task.task
+
+    choice_spares : (c : CheckedChoice) → choice_assigns (Local y) c ≡ false → ChoiceUses shared c → GoodChoice c → Spares (y % 65536) (lowered_choice p c)
+    choice_spares t.nothing h n g = tt
+    choice_spares (t.otherwise b) h n g = block_spares b h n g
+    choice_spares (t.test e b more) h n g =
+        let both = either (block_assigns (Local y) b) (choice_assigns (Local y) more) h in
+        spares_joined (y % 65536) (lowered_expression p e) (one (choose (lowered_block p b) (lowered_choice p more))) (expression_spares p (y % 65536) e)
+        ((block_spares b both.0 n.1 (λ at bad. g at (inl bad)), choice_spares more both.1 n.2 (λ at bad. g at (inr bad))), tt)
+
+    pub block_spares : (b : CheckedBlock) → block_assigns (Local y) b ≡ false → BlockUses shared b → GoodBlock b → Spares (y % 65536) (lowered_block p b)
+    block_spares t.end h n g = tt
+    block_spares (t.step s more) h n g =
+        let both = either (statement_assigns (Local y) s) (block_assigns (Local y) more) h in
+        spares_joined (y % 65536) (lowered_statement p s) (lowered_block p more)
+        (statement_spares s both.0 n.0 (λ at bad. g at (inl bad))) (block_spares more both.1 n.1 (λ at bad. g at (inr bad)))

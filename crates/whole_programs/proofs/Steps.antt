@@ -1,0 +1,222 @@
+-- Each step of a task's program: its locals are below 256, its loops count, and its numbers are words.
+use Rattle.std.proofs.Common.{◌≡◌, false, ℕ, ◌%◌, ◌<◌, List, [], ◌∷◌, Option, Some, None, sym, ap, subst, arith, inl, inr, slice_get}
+use Rattle.std.specs.List.{AllByRecursion}
+use Rattle.alp_words.specs.Words.{IsWord}
+use Rattle.task_ast.specs.Tree as t
+use Rattle.task_ast.specs.Paths.{CheckedExpression, CheckedStatement, CheckedChoice, CheckedBlock}
+use Rattle.task_ast.specs.declared.SharedDeclaration.{SharedDeclaration}
+use Rattle.task_ast.specs.declared.ShortCircuitOperator.{ShortCircuitOperator}
+use Rattle.task_ast.specs.declared.ShortCircuitOperator.TheVariants.{And as BothHold, Or as OneHolds}
+use Rattle.task_ast.specs.declared.names.Variable.{Variable}
+use Rattle.task_ast.specs.declared.names.Variable.TheVariants.{Shared, Local}
+use Rattle.task_ast.specs.declared.names.VariableName.{VariableName}
+use Rattle.path_checks.specs.Loops.{block_assigns}
+use Rattle.source_values.specs.Values.{joined_type, type_of}
+use Rattle.array_versions.specs.declared.operations.UnaryOperation.TheVariants.{Truth}
+use Rattle.array_versions.specs.Program.{Step, Program, number, unary, binary, shift, emit_word, list_entry, sense, choose, repeat, store_number, move_word, jump, nothing, step, joined}
+use Rattle.array_versions.specs.Form.{StepLocalsBelow, LocalsBelow, StepLoopsCount, LoopsCount, StepOfWords, OfWords, ArrayOfWords, ListOfWords}
+use Rattle.privatise.specs.declared.place.ArrayCopies.{ArrayCopies}
+use Rattle.privatise.specs.declared.place.VariablePlace.{VariablePlace}
+use Rattle.privatise.specs.declared.place.VariablePlace.TheVariants.{Scalar, Array}
+use Rattle.privatise.specs.declared.place.PrivateScalar.{PrivateScalar}
+use Rattle.lower.specs.Places.{Places, address_of}
+use Rattle.lower.specs.Operations.{unary_operation, binary_operation, shift_operation}
+use Rattle.lower.specs.Lowered.{one, read_step, write_step, list_place, written_array, element_read, element_step, store_step, settled_program, evaluated_side, lowered_choice_of_sides, lowered_expression, assignment, loop_local, entries, lowered_transition, lowered_statement, lowered_choice, lowered_block}
+use Rattle.stack_needs.specs.Needs.{ExpressionFits, StatementFits, ChoiceFits, BlockFits}
+use Rattle.checked_uses.specs.Uses.{IsWordName, IsLocalName, ExpressionUses, StatementUses, ChoiceUses, BlockUses}
+use Rattle.whole_programs.proofs.Spared.{IsGood, GoodStatement, GoodChoice, GoodBlock, is_good, local_word, block_spares}
+
+-- ---- places
+
+abbrev pub CopiesOfWords : Option ArrayCopies → Type 0
+CopiesOfWords None = Unit {0}
+CopiesOfWords (Some c) = IsWord c.copies × IsWord c.versions
+
+-- the addresses and the length of the variable at a place are words
+abbrev pub PlaceOfWords : Option VariablePlace → Type 0
+PlaceOfWords None = Unit {0}
+PlaceOfWords (Some (Scalar home copy)) = IsWord home × IsWord copy
+PlaceOfWords (Some (Array elements length copies)) = IsWord elements × IsWord length × CopiesOfWords copies
+
+abbrev pub PrivateOfWords : PrivateScalar → Type 0
+PrivateOfWords s = IsWord s.home × IsWord s.copy
+
+-- all addresses that a task's program needs are words
+pub record PlacesOfWords (p : Places) : Type 0 where
+  pub next_task : IsWord p.words.next_task
+  pub gate : IsWord p.words.gate
+  pub list_length : IsWord p.words.list_length
+  pub emit_count : IsWord p.words.emit_count
+  pub base : IsWord p.words.base
+  pub sent_base : IsWord p.words.sent_base
+  pub version : IsWord p.words.version
+  pub list : IsWord p.list
+  pub emits : IsWord p.emits
+  pub commit : IsWord p.commit
+  pub addresses : (v : ℕ) → IsWord (address_of p v)
+  pub places : (v : ℕ) → PlaceOfWords (slice_get p.variables v)
+  pub privates : AllByRecursion PrivateOfWords p.privates
+
+-- ---- sound programs
+
+abbrev StepSound : Step → Type 0
+StepSound s = StepLocalsBelow 256 s × StepLoopsCount s × StepOfWords s
+
+abbrev pub Sound : Program → Type 0
+Sound p = LocalsBelow 256 p × LoopsCount p × OfWords p
+
+sound_step : (s : Step) (p : Program) → StepSound s → Sound p → Sound (step s p)
+sound_step s p h k = ((h.0, k.0), (h.1, k.1), (h.2, k.2))
+
+sound_one : (s : Step) → StepSound s → Sound (one s)
+sound_one s h = sound_step s nothing h (tt, tt, tt)
+
+sound_joined : (p q : Program) → Sound p → Sound q → Sound (joined p q)
+sound_joined nothing q h k = k
+sound_joined (step first more) q h k = sound_step first (joined more q) (h.0.0, h.1.0, h.2.0) (sound_joined more q (h.0.1, h.1.1, h.2.1) k)
+
+sound_behind : (p : Program) (s : Step) → Sound p → StepSound s → Sound (joined p (one s))
+sound_behind p s h k = sound_joined p (one s) h (sound_one s k)
+
+sound_choose : (a b : Program) → Sound a → Sound b → StepSound (choose a b)
+sound_choose a b h k = ((h.0, k.0), (h.1, k.1), (h.2, k.2))
+
+zero_is_word : IsWord 0
+zero_is_word = omega arith
+
+one_is_word : IsWord 1
+one_is_word = omega arith
+
+-- a local of a task
+low_local : (n : ℕ) → n < 256 → n % 65536 < 256
+low_local n l = omega arith
+
+local_is_word : (n : ℕ) → n < 256 → IsWord (n % 65536)
+local_is_word n l = omega arith
+
+module _ (p : Places) (words : PlacesOfWords p) where
+  list_of_words : ListOfWords (list_place p)
+  list_of_words = (words.version, words.list_length, words.list)
+
+  element_read_sound : (o : Option VariablePlace) → PlaceOfWords o → StepSound (element_read p o)
+  element_read_sound None h = (tt, tt, (zero_is_word, zero_is_word))
+  element_read_sound (Some (Scalar home copy)) h = (tt, tt, (zero_is_word, zero_is_word))
+  element_read_sound (Some (Array elements length None)) h = (tt, tt, (h.0, h.1))
+  element_read_sound (Some (Array elements length (Some c))) h = (tt, tt, ((h.0, h.2.0, h.2.1, h.1), list_of_words))
+
+  written_of_words : (o : Option VariablePlace) → PlaceOfWords o → ArrayOfWords (written_array o)
+  written_of_words None h = (zero_is_word, zero_is_word, zero_is_word, zero_is_word)
+  written_of_words (Some (Scalar home copy)) h = (zero_is_word, zero_is_word, zero_is_word, zero_is_word)
+  written_of_words (Some (Array elements length None)) h = (zero_is_word, zero_is_word, zero_is_word, zero_is_word)
+  written_of_words (Some (Array elements length (Some c))) h = (h.0, h.2.0, h.2.1, h.1)
+
+  element_sound : (x : Variable) → StepSound (element_step p x)
+  element_sound (Shared v) = element_read_sound (slice_get p.variables v) (words.places v)
+  element_sound (Local n) = (tt, tt, (zero_is_word, zero_is_word))
+
+  store_sound : (x : Variable) → StepSound (store_step p x)
+  store_sound (Shared v) = (tt, tt, (written_of_words (slice_get p.variables v) (words.places v), list_of_words))
+  store_sound (Local n) = (tt, tt, ((zero_is_word, zero_is_word, zero_is_word, zero_is_word), list_of_words))
+
+  sides_sound : (op : ShortCircuitOperator) (right : Program) → Sound right → StepSound (lowered_choice_of_sides op right)
+  sides_sound BothHold right h = sound_choose right (settled_program BothHold) h (sound_one (number 0) (tt, tt, zero_is_word))
+  sides_sound OneHolds right h = sound_choose (settled_program OneHolds) right (sound_one (number 1) (tt, tt, one_is_word)) h
+
+  module _ (shared : List SharedDeclaration) where
+    read_sound : (x : Variable) → IsWordName shared x → StepSound (read_step p x)
+    read_sound (Shared v) n = (tt, tt, words.addresses v)
+    read_sound (Local n) l = (low_local n l, tt, local_is_word n l)
+
+    write_sound : (x : Variable) → IsWordName shared x → StepSound (write_step p x)
+    write_sound (Shared v) n = (tt, tt, words.addresses v)
+    write_sound (Local n) l = (low_local n l, tt, local_is_word n l)
+
+    expression_sound : (room beneath : ℕ) (e : CheckedExpression) → ExpressionFits room beneath e → ExpressionUses shared e → Sound (lowered_expression p e)
+    expression_sound room beneath (t.number w) f n = sound_one (number w) (tt, tt, f.1)
+    expression_sound room beneath (t.name x) f n = sound_one (read_step p x.variable) (read_sound x.variable n)
+    expression_sound room beneath (t.element x index) f n =
+        sound_behind (lowered_expression p index) (element_step p x.variable) (expression_sound room beneath index f n.1) (element_sound x.variable)
+    expression_sound room beneath t.sense f n = sound_one sense (tt, tt, tt)
+    expression_sound room beneath (t.unary op e) f n =
+        sound_behind (lowered_expression p e) (unary (unary_operation op)) (expression_sound room beneath e f n) (tt, tt, tt)
+    expression_sound room beneath (t.binary op a b) f n =
+        sound_behind (joined (lowered_expression p a) (lowered_expression p b)) (binary (binary_operation op (joined_type (type_of a) (type_of b))))
+        (sound_joined (lowered_expression p a) (lowered_expression p b) (expression_sound room beneath a f.0 n.0) (expression_sound room _ b f.1 n.1))
+        (tt, tt, tt)
+    expression_sound room beneath (t.shift op e count) f n =
+        sound_behind (lowered_expression p e) (shift (shift_operation op (type_of e)) count.value) (expression_sound room beneath e f.0 n) (tt, tt, f.1)
+    expression_sound room beneath (t.short_circuit op a b) f n =
+        let right = evaluated_side (lowered_expression p b) in
+        sound_behind (lowered_expression p a) (lowered_choice_of_sides op right) (expression_sound room beneath a f.0 n.0)
+        (sides_sound op right (sound_behind (lowered_expression p b) (unary Truth) (expression_sound room beneath b f.1 n.1) (tt, tt, tt)))
+
+    entries_sound : (privates : List PrivateScalar) → AllByRecursion PrivateOfWords privates → Sound (entries p.words.list_length p.list privates)
+    entries_sound [] h = (tt, tt, tt)
+    entries_sound (s ∷ more) h =
+        sound_step (list_entry p.words.list_length p.list s.home s.copy) (entries p.words.list_length p.list more)
+        (tt, tt, (words.list_length, words.list, h.0.0, h.0.1)) (entries_sound more h.1)
+
+    transition_sound : (task : ℕ) → Sound (lowered_transition p task)
+    transition_sound task =
+        let leaves = one (jump p.commit) in
+        let raises = step (store_number p.words.gate 1) leaves in
+        let closes = step (move_word p.words.base p.words.sent_base) raises in
+        sound_step (store_number p.words.next_task (task % 65536)) (joined (entries p.words.list_length p.list p.privates) closes)
+        (tt, tt, (words.next_task, omega arith))
+        (sound_joined (entries p.words.list_length p.list p.privates) closes (entries_sound p.privates words.privates)
+        (sound_step (move_word p.words.base p.words.sent_base) raises (tt, tt, (words.base, words.sent_base))
+        (sound_step (store_number p.words.gate 1) leaves (tt, tt, (words.gate, one_is_word)) (sound_one (jump p.commit) (tt, tt, words.commit)))))
+
+    assigned_sound : (room : ℕ) (x : VariableName) (e : CheckedExpression) → IsWordName shared x.variable → ExpressionFits room 0 e
+        → ExpressionUses shared e → Sound (assignment p x.variable e)
+    assigned_sound room x e w f n = sound_behind (lowered_expression p e) (write_step p x.variable) (expression_sound room 0 e f n) (write_sound x.variable w)
+
+    -- a loop by its local
+    loop_sound : (v : Variable) (from below : ℕ) (body : CheckedBlock) → IsGood v body → IsLocalName v → BlockUses shared body → GoodBlock body
+        → IsWord from → IsWord below → Sound (lowered_block p body)
+        → StepSound (repeat (loop_local v) from below (lowered_block p body))
+    loop_sound (Shared v) from below body good w n g f b h = absurd w
+    loop_sound (Local m) from below body good w n g f b h =
+        let same : m ≡ good.x = local_same m good.x good.is in
+        let spared = subst (λ x. block_assigns (Local x) body ≡ false) (sym same) good.spared in
+        ((low_local m w, h.0), (block_spares p shared m w body spared n g, h.1), (local_is_word m w, f, b, h.2))
+      where
+        number_of : Variable → ℕ
+        number_of (Shared n) = n
+        number_of (Local n) = n
+
+        local_same : (m x : ℕ) → Local m ≡ Local x → m ≡ x
+        local_same m x e = ap number_of e
+
+    mutual
+      statement_sound : (room : ℕ) (s : CheckedStatement) → StatementFits room s → StatementUses shared s → GoodStatement s → Sound (lowered_statement p s)
+      statement_sound room (t.declare of x None) f n g = (tt, tt, tt)
+      statement_sound room (t.declare of x (Some e)) f n g = assigned_sound room x e (local_word shared x.variable n.0) f n.1
+      statement_sound room (t.assign x e) f n g = assigned_sound room x e n.0 f n.1
+      statement_sound room (t.store x index e) f n g =
+          sound_behind (joined (lowered_expression p index) (lowered_expression p e)) (store_step p x.variable)
+          (sound_joined (lowered_expression p index) (lowered_expression p e) (expression_sound room 0 index f.0 n.1) (expression_sound room 1 e f.1 n.2))
+          (store_sound x.variable)
+      statement_sound room (t.choose choice) f n g = choice_sound room choice f n g
+      statement_sound room (t.loop a from b below c body) f n g =
+          let inner : GoodBlock body = λ at bad. g at (inr bad) in
+          sound_one (repeat (loop_local a.variable) from below (lowered_block p body))
+          (loop_sound a.variable from below body (is_good a b c from below body g) n.0 n.1 inner f.0 f.1 (block_sound room body f.2 n.1 inner))
+      statement_sound room (t.emit e) f n g =
+          sound_behind (lowered_expression p e) (emit_word p.words.emit_count p.emits) (expression_sound room 0 e f n) (tt, tt, (words.emit_count, words.emits))
+      statement_sound room (t.transition task) f n g = transition_sound task.task
+
+      choice_sound : (room : ℕ) (c : CheckedChoice) → ChoiceFits room c → ChoiceUses shared c → GoodChoice c → Sound (lowered_choice p c)
+      choice_sound room t.nothing f n g = (tt, tt, tt)
+      choice_sound room (t.otherwise b) f n g = block_sound room b f n g
+      choice_sound room (t.test e b more) f n g =
+          let first = block_sound room b f.1 n.1 (λ at bad. g at (inl bad)) in
+          let second = choice_sound room more f.2 n.2 (λ at bad. g at (inr bad)) in
+          sound_behind (lowered_expression p e) (choose (lowered_block p b) (lowered_choice p more)) (expression_sound room 0 e f.0 n.0)
+          (sound_choose (lowered_block p b) (lowered_choice p more) first second)
+
+      pub block_sound : (room : ℕ) (b : CheckedBlock) → BlockFits room b → BlockUses shared b → GoodBlock b → Sound (lowered_block p b)
+      block_sound room t.end f n g = (tt, tt, tt)
+      block_sound room (t.step s more) f n g =
+          sound_joined (lowered_statement p s) (lowered_block p more) (statement_sound room s f.0 n.0 (λ at bad. g at (inl bad)))
+          (block_sound room more f.1 n.1 (λ at bad. g at (inr bad)))

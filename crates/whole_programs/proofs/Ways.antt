@@ -1,0 +1,395 @@
+-- Along each way through a task's program: the stack has room, each local that is read is assigned, and the way ends in a jump where the
+-- paths of the task do.
+use Rattle.std.proofs.Common.{◌≡◌, ℕ, zero, suc, ◌+◌, ◌-◌, ◌%◌, ◌==◌, ◌<◌, ◌≤◌, ◌||◌, Bool, true, false, nat_eq, List, [], ◌∷◌, ◌++◌, Option, Some, None, refl, sym, ap, subst, ◌∙◌, arith, if◌then◌else◌, slice_get}
+use Rattle.std.proofs.lemmas.Bool.Decides.{nat_tests}
+use Rattle.task_ast.specs.Tree as t
+use Rattle.task_ast.specs.Paths.{CheckedExpression, CheckedStatement, CheckedChoice, CheckedBlock, Access, read, write, unset, End, goes_on, goes_to, StatementPath, ChoicePath, TurnsPath, BlockPath}
+use Rattle.task_ast.specs.Paths as path
+use Rattle.task_ast.specs.declared.SharedDeclaration.{SharedDeclaration}
+use Rattle.task_ast.specs.declared.ShortCircuitOperator.{ShortCircuitOperator}
+use Rattle.task_ast.specs.declared.ShortCircuitOperator.TheVariants.{And as BothHold, Or as OneHolds}
+use Rattle.task_ast.specs.declared.names.Variable.{Variable}
+use Rattle.task_ast.specs.declared.names.Variable.TheVariants.{Shared, Local}
+use Rattle.task_ast.specs.declared.names.VariableName.{VariableName}
+use Rattle.path_checks.specs.Loops.{is_local}
+use Rattle.source_values.specs.Values.{joined_type, type_of}
+use Rattle.array_versions.specs.declared.operations.UnaryOperation.TheVariants.{Truth}
+use Rattle.array_versions.specs.Program.{Program, unary, binary, shift, emit_word, choose, store_number, move_word, jump, nothing, step, joined}
+use Rattle.array_versions.specs.Form.{Place, start, assigning, Moves, EachTurn, EachStepWay, EachWay}
+use Rattle.privatise.specs.declared.place.VariablePlace.{VariablePlace}
+use Rattle.privatise.specs.declared.place.VariablePlace.TheVariants.{Scalar, Array}
+use Rattle.privatise.specs.declared.place.PrivateScalar.{PrivateScalar}
+use Rattle.lower.specs.Places.{Places}
+use Rattle.lower.specs.Operations.{unary_operation, binary_operation, shift_operation}
+use Rattle.lower.specs.Lowered.{one, read_step, write_step, element_read, element_step, store_step, settled_program, evaluated_side, lowered_choice_of_sides, lowered_expression, assignment, element_assignment, loop_local, entries, lowered_transition, lowered_statement, lowered_choice, lowered_block}
+use Rattle.stack_needs.specs.Needs.{ExpressionFits, StatementFits, ChoiceFits, BlockFits}
+use Rattle.checked_uses.specs.Uses.{IsWordName, IsArrayName, ExpressionUses, StatementUses, ChoiceUses, BlockUses}
+use Rattle.whole_programs.proofs.Paths.{names_read, is_path, some_turns, some_block, written, forgotten, behind, behind_both, behind_names, behind_expression, IsAssigned, Safe, safe_both, safe_expression}
+
+-- ---- ways
+
+-- so many words on the stack, and these locals assigned
+abbrev at : ℕ → (ℕ → Bool) → Place
+at d a = record { depth = d; assigned = a }
+
+-- a way through one program and another behind it
+joined_ways : (room : ℕ) (p q : Program) (next : Place → Type 0) → EachWay room (joined p q) next ≡ EachWay room p (EachWay room q next)
+joined_ways room nothing q next = refl
+joined_ways room (step first more) q next = ap (EachStepWay room first) (joined_ways room more q next)
+
+joined_way : (room : ℕ) (p q : Program) (next : Place → Type 0) (o : Place) → EachWay room p (EachWay room q next) o → EachWay room (joined p q) next o
+joined_way room p q next o h = subst (λ f. f o) (sym (joined_ways room p q next)) h
+
+-- words popped and pushed
+moves : (room pops pushes d e : ℕ) (a : ℕ → Bool) (next : Place → Type 0) → pops ≤ d → e + pops ≡ d + pushes → e ≤ room → next (at e a)
+    → Moves room pops pushes next (at d a)
+moves room pops pushes d e a next l same few h =
+    let is : e ≡ d - pops + pushes = omega arith in
+    (l, omega arith, subst (λ n. next (at n a)) is h)
+
+-- ---- expressions
+
+-- each local that an expression reads is assigned
+abbrev ReadOf : (ℕ → Bool) → Variable → Type 0
+ReadOf a (Shared v) = Unit {0}
+ReadOf a (Local n) = a (n % 65536) ≡ true
+
+abbrev ReadsAssigned : (ℕ → Bool) → CheckedExpression → Type 0
+ReadsAssigned a (t.number w) = Unit {0}
+ReadsAssigned a (t.name x) = ReadOf a x.variable
+ReadsAssigned a (t.element x index) = ReadsAssigned a index
+ReadsAssigned a t.sense = Unit {0}
+ReadsAssigned a (t.unary op e) = ReadsAssigned a e
+ReadsAssigned a (t.binary op b c) = ReadsAssigned a b × ReadsAssigned a c
+ReadsAssigned a (t.shift op e count) = ReadsAssigned a e
+ReadsAssigned a (t.short_circuit op b c) = ReadsAssigned a b × ReadsAssigned a c
+
+-- an expression leaves a word
+some_room : (room d : ℕ) (e : CheckedExpression) → ExpressionFits room d e → d < room
+some_room room d (t.number w) h = h.0
+some_room room d (t.name x) h = h
+some_room room d (t.element x index) h = some_room room d index h
+some_room room d t.sense h = h
+some_room room d (t.unary op e) h = some_room room d e h
+some_room room d (t.binary op a b) h = some_room room d a h.0
+some_room room d (t.shift op e count) h = some_room room d e h.0
+some_room room d (t.short_circuit op a b) h = some_room room d a h.0
+
+module _ (room : ℕ) (p : Places) where
+  read_way : (d : ℕ) (a : ℕ → Bool) (x : Variable) (next : Place → Type 0) → d < room → ReadOf a x → next (at (suc d) a)
+      → EachStepWay room (read_step p x) next (at d a)
+  read_way d a (Shared v) next l r h = moves room 0 1 d (suc d) a next (omega arith) (omega arith) (omega arith) h
+  read_way d a (Local n) next l r h = (r, moves room 0 1 d (suc d) a next (omega arith) (omega arith) (omega arith) h)
+
+  -- a word comes on top of the stack
+  pushed : (d : ℕ) (a : ℕ → Bool) (next : Place → Type 0) → d < room → next (at (suc d) a) → Moves room 0 1 next (at d a)
+  pushed d a next l h = moves room 0 1 d (suc d) a next (omega arith) (omega arith) (omega arith) h
+
+  -- a word on top of the stack changes
+  turned : (d : ℕ) (a : ℕ → Bool) (next : Place → Type 0) → d < room → next (at (suc d) a) → Moves room 1 1 next (at (suc d) a)
+  turned d a next l h = moves room 1 1 (suc d) (suc d) a next (omega arith) (omega arith) (omega arith) h
+
+  element_way : (d : ℕ) (a : ℕ → Bool) (x : Variable) (next : Place → Type 0) → d < room → next (at (suc d) a)
+      → EachStepWay room (element_step p x) next (at (suc d) a)
+  element_way d a (Shared v) next l h = by_place (slice_get p.variables v)
+    where
+      by_place : (o : Option VariablePlace) → EachStepWay room (element_read p o) next (at (suc d) a)
+      by_place None = turned d a next l h
+      by_place (Some (Scalar home copy)) = turned d a next l h
+      by_place (Some (Array elements length None)) = turned d a next l h
+      by_place (Some (Array elements length (Some c))) = turned d a next l h
+  element_way d a (Local n) next l h = turned d a next l h
+
+  sides_way : (d : ℕ) (a : ℕ → Bool) (op : ShortCircuitOperator) (right : Program) (next : Place → Type 0) → d < room → next (at (suc d) a)
+      → EachWay room right next (at d a)
+      → EachStepWay room (lowered_choice_of_sides op right) next (at (suc d) a)
+  sides_way d a BothHold right next l h k =
+      moves room 1 0 (suc d) d a (λ o. EachWay room right next o × EachWay room (settled_program BothHold) next o) (omega arith) (omega arith) (omega arith)
+      (k, pushed d a next l h)
+  sides_way d a OneHolds right next l h k =
+      moves room 1 0 (suc d) d a (λ o. EachWay room (settled_program OneHolds) next o × EachWay room right next o) (omega arith) (omega arith) (omega arith)
+      (pushed d a next l h, k)
+
+  expression_way : (d : ℕ) (a : ℕ → Bool) (e : CheckedExpression) (next : Place → Type 0) → ExpressionFits room d e → ReadsAssigned a e → next (at (suc d) a)
+      → EachWay room (lowered_expression p e) next (at d a)
+  expression_way d a (t.number w) next f r h = moves room 0 1 d (suc d) a next (omega arith) (omega arith) (let l = f.0 in omega arith) h
+  expression_way d a (t.name x) next f r h = read_way d a x.variable next f r h
+  expression_way d a (t.element x index) next f r h =
+      joined_way room (lowered_expression p index) (one (element_step p x.variable)) next (at d a)
+      (expression_way d a index _ f r (element_way d a x.variable next (some_room room d index f) h))
+  expression_way d a t.sense next f r h = moves room 0 1 d (suc d) a next (omega arith) (omega arith) (omega arith) h
+  expression_way d a (t.unary op e) next f r h =
+      joined_way room (lowered_expression p e) (one (unary (unary_operation op))) next (at d a)
+      (expression_way d a e _ f r (turned d a next (some_room room d e f) h))
+  expression_way d a (t.binary op b c) next f r h =
+      let operation = one (binary (binary_operation op (joined_type (type_of b) (type_of c)))) in
+      joined_way room (joined (lowered_expression p b) (lowered_expression p c)) operation next (at d a)
+      (joined_way room (lowered_expression p b) (lowered_expression p c) (EachWay room operation next) (at d a)
+      (expression_way d a b _ f.0 r.0
+      (expression_way (suc d) a c _ f.1 r.1
+      (moves room 2 1 (suc (suc d)) (suc d) a next (omega arith) (omega arith) (let l = some_room room d b f.0 in omega arith) h))))
+  expression_way d a (t.shift op e count) next f r h =
+      joined_way room (lowered_expression p e) (one (shift (shift_operation op (type_of e)) count.value)) next (at d a)
+      (expression_way d a e _ f.0 r (turned d a next (some_room room d e f.0) h))
+  expression_way d a (t.short_circuit op b c) next f r h =
+      let right = evaluated_side (lowered_expression p c) in
+      let l = some_room room d b f.0 in
+      joined_way room (lowered_expression p b) (one (lowered_choice_of_sides op right)) next (at d a)
+      (expression_way d a b _ f.0 r.0
+      (sides_way d a op right next l h
+      (joined_way room (lowered_expression p c) (one (unary Truth)) next (at d a) (expression_way d a c _ f.1 r.1 (turned d a next l h)))))
+
+-- ---- locals
+
+-- each local that is assigned on the path is assigned in the program
+abbrev Covers : (ℕ → Bool) → (ℕ → Bool) → Type 0
+Covers u a = (x : ℕ) → x < 256 → u x ≡ false → a x ≡ true
+
+-- a local of a task has a number of its own
+low : (n : ℕ) → n < 256 → n % 65536 ≡ n
+low n l = omega arith
+
+-- behind a write to a variable its local is assigned
+covers_written : (u a : ℕ → Bool) (x : VariableName) → Covers u a → Covers (written u x) (λ m. nat_eq m (loop_local x.variable) || a m)
+covers_written u a x c y l h = by_variable x.variable h
+  where
+    or_true : (b : Bool) → (b || true) ≡ true
+    or_true true = refl
+    or_true false = refl
+
+    same : (b : Bool) → b ≡ true → (b || a y) ≡ true
+    same true e = refl
+    same false e = absurd (cc)
+
+    by_test : (n : ℕ) (b : Bool) → (n == y) ≡ b → (if b then false else u y) ≡ false → (nat_eq y (n % 65536) || a y) ≡ true
+    by_test n true e h =
+        let is : n ≡ y = grind (arith, nat_tests) in let k : n % 65536 ≡ y = omega arith in same (nat_eq y (n % 65536)) (grind (arith, nat_tests))
+    by_test n false e h = subst (λ b. (nat_eq y (n % 65536) || b) ≡ true) (sym (c y l h)) (or_true (nat_eq y (n % 65536)))
+
+    by_variable : (v : Variable) → (if is_local y v then false else u y) ≡ false → (nat_eq y (loop_local v) || a y) ≡ true
+    by_variable (Shared v) h = subst (λ b. (nat_eq y 0 || b) ≡ true) (sym (c y l h)) (or_true (nat_eq y 0))
+    by_variable (Local n) h = by_test n (n == y) refl h
+
+-- a write to a shared variable leaves the locals as they are
+covers_shared : (u a : ℕ → Bool) (x : VariableName) (v : ℕ) → x.variable ≡ Shared v → Covers u a → Covers (written u x) a
+covers_shared u a x v is c y l h = c y l (subst (λ w. (if is_local y w then false else u y) ≡ false) is h)
+
+-- so does a declaration without a value
+covers_forgotten : (u a : ℕ → Bool) (x : VariableName) → Covers u a → Covers (forgotten u x) a
+covers_forgotten u a x c y l h = c y l (by_test (is_local y x.variable) h)
+  where
+    by_test : (b : Bool) → (if b then true else u y) ≡ false → u y ≡ false
+    by_test true h = absurd (cc)
+    by_test false h = h
+
+-- what an expression reads is assigned
+reads_assigned : (shared : List SharedDeclaration) (u a : ℕ → Bool) (e : CheckedExpression) → Covers u a → ExpressionUses shared e → Safe u (names_read e)
+    → ReadsAssigned a e
+reads_assigned shared u a (t.number w) c n s = tt
+reads_assigned shared u a (t.name x) c n s = by_variable x.variable n s.0
+  where
+    by_variable : (v : Variable) → IsWordName shared v → IsAssigned u v → ReadOf a v
+    by_variable (Shared v) n s = tt
+    by_variable (Local k) n s = subst (λ m. a m ≡ true) (sym (low k n)) (c k n s)
+reads_assigned shared u a (t.element x index) c n s = reads_assigned shared u a index c n.1 (safe_both u (names_read index) (read x ∷ []) s).0
+reads_assigned shared u a t.sense c n s = tt
+reads_assigned shared u a (t.unary op e) c n s = reads_assigned shared u a e c n s
+reads_assigned shared u a (t.binary op x y) c n s =
+    let r = safe_expression u x (names_read y) s in (reads_assigned shared u a x c n.0 r.0, reads_assigned shared u a y c n.1 r.1)
+reads_assigned shared u a (t.shift op e count) c n s = reads_assigned shared u a e c n s
+reads_assigned shared u a (t.short_circuit op x y) c n s =
+    let r = safe_expression u x (names_read y) s in (reads_assigned shared u a x c n.0 r.0, reads_assigned shared u a y c n.1 r.1)
+
+-- ---- statements
+
+-- paths that read no unassigned local, and behind which what follows is fit
+record Follows (Path : List Access → End → Type 0) (u : ℕ → Bool) (next : Place → Type 0) : Type 0 where
+  safe : (xs : List Access) (end : End) → Path xs end → Safe u xs
+  on : (xs : List Access) → Path xs goes_on → (a : ℕ → Bool) → Covers (behind u xs) a → next (at 0 a)
+
+-- the body of a loop
+abbrev BodyWay : ℕ → Program → CheckedBlock → Type 1
+BodyWay room code body = (u a : ℕ → Bool) (next : Place → Type 0) → Covers u a → Follows (BlockPath body) u next → EachWay room code next (at 0 a)
+
+module _ (room : ℕ) (x : VariableName) (code : Program) (body : CheckedBlock) (way : BodyWay room code body) where
+  -- what follows the body, with turns left
+  turn_follows : (m : ℕ) (u : ℕ → Bool) (next : Place → Type 0) (rest : Place → Type 0) → Follows (TurnsPath x (suc m) body) u next
+      → ((xs : List Access) → BlockPath body xs goes_on → (a : ℕ → Bool) → Covers (behind u xs) a → rest (at 0 a)) → Follows (BlockPath body) u rest
+  turn_follows m u next rest h k = record { safe = λ xs end q. by_end xs end q; on = k }
+    where
+      by_end : (xs : List Access) (end : End) → BlockPath body xs end → Safe u xs
+      by_end xs goes_on q =
+          let more = some_turns x m body (some_block body) in
+          let r = path.turn x m body xs more.accesses more.end q more.is in
+          (safe_both u xs (write x ∷ more.accesses) (h.safe (xs ++ write x ∷ more.accesses) more.end r)).0
+      by_end xs (goes_to task) q = h.safe xs (goes_to task) (path.cut x m body xs task q)
+
+  -- what follows a turn
+  turns_follow : (m : ℕ) (u : ℕ → Bool) (next : Place → Type 0) (xs : List Access) → Follows (TurnsPath x (suc m) body) u next → BlockPath body xs goes_on
+      → Follows (TurnsPath x m body) (written (behind u xs) x) next
+  turns_follow m u next xs h q = record {
+    safe = λ ys end r. (safe_both u xs (write x ∷ ys) (h.safe (xs ++ write x ∷ ys) end (path.turn x m body xs ys end q r))).1;
+    on = λ ys r a c. h.on (xs ++ write x ∷ ys) (path.turn x m body xs ys goes_on q r) a (subst (λ v. Covers v a) (sym (behind_both u xs (write x ∷ ys))) c);
+  }
+
+  turns_way : (m : ℕ) (u a : ℕ → Bool) (next : Place → Type 0) → Covers u a → Follows (TurnsPath x m body) (written u x) next
+      → EachTurn m (loop_local x.variable) (EachWay room code) next (at 0 a)
+  turns_way zero u a next c h = h.on [] (path.over x body) _ (covers_written u a x c)
+  turns_way (suc m) u a next c h =
+      way (written u x) _ _ (covers_written u a x c)
+      (turn_follows m (written u x) next _ h (λ xs q b d. turns_way m (behind (written u x) xs) b next d (turns_follow m (written u x) next xs h q)))
+
+module _ (room : ℕ) (p : Places) (shared : List SharedDeclaration) (even : p.commit % 2 ≡ 0) where
+  write_way : (u a : ℕ → Bool) (x : VariableName) (next : Place → Type 0) → Covers u a → ((b : ℕ → Bool) → Covers (written u x) b → next (at 0 b))
+      → EachStepWay room (write_step p x.variable) next (at 1 a)
+  write_way u a x next c h = by_variable x.variable refl
+    where
+      by_variable : (v : Variable) → x.variable ≡ v → EachStepWay room (write_step p v) next (at 1 a)
+      by_variable (Shared v) is = moves room 1 0 1 0 a next (omega arith) (omega arith) (omega arith) (h a (covers_shared u a x v is c))
+      by_variable (Local n) is =
+          moves room 1 0 1 0 a (λ q. next (assigning (n % 65536) q)) (omega arith) (omega arith) (omega arith)
+          (h (λ m. nat_eq m (n % 65536) || a m) (subst (λ v. Covers (written u x) (λ m. nat_eq m (loop_local v) || a m)) is (covers_written u a x c)))
+
+  -- an expression's value is set
+  assigned_way : (u a : ℕ → Bool) (x : VariableName) (e : CheckedExpression) (next : Place → Type 0) → ExpressionFits room 0 e → ExpressionUses shared e
+      → Covers u a → Safe u (names_read e ++ write x ∷ [])
+      → ((b : ℕ → Bool) → Covers (behind u (names_read e ++ write x ∷ [])) b → next (at 0 b)) → EachWay room (assignment p x.variable e) next (at 0 a)
+  assigned_way u a x e next f n c s h =
+      joined_way room (lowered_expression p e) (one (write_step p x.variable)) next (at 0 a)
+      (expression_way room p 0 a e _ f (reads_assigned shared u a e c n (safe_expression u e (write x ∷ []) s).0)
+      (write_way u a x next c (λ b d. h b (subst (λ v. Covers v b) (sym (behind_expression u e (write x ∷ []))) d))))
+
+  entries_way : (count list : ℕ) (privates : List PrivateScalar) (next : Place → Type 0) (o : Place) → next o
+      → EachWay room (entries count list privates) next o
+  entries_way count list [] next o h = h
+  entries_way count list (s ∷ more) next o h = entries_way count list more next o h
+
+  transition_way : (task : ℕ) (next : Place → Type 0) (o : Place) → EachWay room (lowered_transition p task) next o
+  transition_way task next o =
+      let close : Program = step (move_word p.words.base p.words.sent_base) (step (store_number p.words.gate 1) (one (jump p.commit))) in
+      joined_way room (entries p.words.list_length p.list p.privates) close next o
+      (entries_way p.words.list_length p.list p.privates (EachWay room close next) o even)
+
+  -- of an index and a value
+  element_assigned_way : (u a : ℕ → Bool) (x : VariableName) (index e : CheckedExpression) (next : Place → Type 0) → ExpressionFits room 0 index
+      → ExpressionFits room 1 e
+      → IsArrayName shared x.variable → ExpressionUses shared index → ExpressionUses shared e → Covers u a
+      → Safe u (names_read index ++ (names_read e ++ write x ∷ []))
+      → ((b : ℕ → Bool) → Covers (behind u (names_read index ++ (names_read e ++ write x ∷ []))) b → next (at 0 b))
+      → EachWay room (element_assignment p x.variable index e) next (at 0 a)
+  element_assigned_way u a x index e next f g array m n c s h =
+      let first = safe_expression u index (names_read e ++ write x ∷ []) s in
+      let second = safe_expression u e (write x ∷ []) first.1 in
+      joined_way room (joined (lowered_expression p index) (lowered_expression p e)) (one (store_step p x.variable)) next (at 0 a)
+      (joined_way room (lowered_expression p index) (lowered_expression p e) (EachWay room (one (store_step p x.variable)) next) (at 0 a)
+      (expression_way room p 0 a index _ f (reads_assigned shared u a index c m first.0)
+      (expression_way room p 1 a e _ g (reads_assigned shared u a e c n second.0) (by_variable x.variable refl array))))
+    where
+      reaches : (v : ℕ) → x.variable ≡ Shared v → Covers (behind u (names_read index ++ (names_read e ++ write x ∷ []))) a
+      reaches v is =
+          subst (λ w. Covers w a) (sym (behind_expression u index (names_read e ++ write x ∷ []) ∙ behind_expression u e (write x ∷ [])))
+          (covers_shared u a x v is c)
+
+      by_variable : (v : Variable) → x.variable ≡ v → IsArrayName shared v → EachStepWay room (store_step p v) next (at 2 a)
+      by_variable (Shared v) is k = moves room 2 0 2 0 a next (omega arith) (omega arith) (omega arith) (h a (reaches v is))
+      by_variable (Local v) is k = absurd k
+
+  -- what follows a statement, where others stand behind it
+  step_follows : (s : CheckedStatement) (more : CheckedBlock) (u : ℕ → Bool) (next rest : Place → Type 0) → Follows (BlockPath (t.step s more)) u next
+      → ((xs : List Access) → StatementPath s xs goes_on → (a : ℕ → Bool) → Covers (behind u xs) a → rest (at 0 a)) → Follows (StatementPath s) u rest
+  step_follows s more u next rest h k = record { safe = λ xs end q. by_end xs end q; on = k }
+    where
+      by_end : (xs : List Access) (end : End) → StatementPath s xs end → Safe u xs
+      by_end xs goes_on q =
+          let m = some_block more in (safe_both u xs m.accesses (h.safe (xs ++ m.accesses) m.end (path.step s more xs m.accesses m.end q m.is))).0
+      by_end xs (goes_to task) q = h.safe xs (goes_to task) (path.stopped s more xs task q)
+
+  -- what follows those
+  block_follows : (s : CheckedStatement) (more : CheckedBlock) (u : ℕ → Bool) (next : Place → Type 0) (xs : List Access)
+      → Follows (BlockPath (t.step s more)) u next → StatementPath s xs goes_on
+      → Follows (BlockPath more) (behind u xs) next
+  block_follows s more u next xs h q = record {
+    safe = λ ys end r. (safe_both u xs ys (h.safe (xs ++ ys) end (path.step s more xs ys end q r))).1;
+    on = λ ys r a c. h.on (xs ++ ys) (path.step s more xs ys goes_on q r) a (subst (λ v. Covers v a) (sym (behind_both u xs ys)) c);
+  }
+
+  -- what follows a block that an `if` takes, and what the conditions that come next
+  taken_follows : (e : CheckedExpression) (b : CheckedBlock) (more : CheckedChoice) (u : ℕ → Bool) (next : Place → Type 0)
+      → Follows (ChoicePath (t.test e b more)) u next → Follows (BlockPath b) u next
+  taken_follows e b more u next h = record {
+    safe = λ ys end r. (safe_expression u e ys (h.safe (names_read e ++ ys) end (path.taken e b more (names_read e) ys end (is_path e) r))).1;
+    on =
+        λ ys r a c. h.on (names_read e ++ ys) (path.taken e b more (names_read e) ys goes_on (is_path e) r) a
+        (subst (λ v. Covers v a) (sym (behind_expression u e ys)) c);
+  }
+
+  passed_follows : (e : CheckedExpression) (b : CheckedBlock) (more : CheckedChoice) (u : ℕ → Bool) (next : Place → Type 0)
+      → Follows (ChoicePath (t.test e b more)) u next → Follows (ChoicePath more) u next
+  passed_follows e b more u next h = record {
+    safe = λ ys end r. (safe_expression u e ys (h.safe (names_read e ++ ys) end (path.passed e b more (names_read e) ys end (is_path e) r))).1;
+    on =
+        λ ys r a c. h.on (names_read e ++ ys) (path.passed e b more (names_read e) ys goes_on (is_path e) r) a
+        (subst (λ v. Covers v a) (sym (behind_expression u e ys)) c);
+  }
+
+  mutual
+    statement_way : (s : CheckedStatement) (u a : ℕ → Bool) (next : Place → Type 0) → StatementFits room s → StatementUses shared s → Covers u a
+        → Follows (StatementPath s) u next → EachWay room (lowered_statement p s) next (at 0 a)
+    statement_way (t.declare of x None) u a next f n c h = h.on (unset x ∷ []) (path.declare_unset of x) a (covers_forgotten u a x c)
+    statement_way (t.declare of x (Some e)) u a next f n c h =
+        let q = path.declare_set of x e (names_read e) (is_path e) in
+        assigned_way u a x e next f n.1 c (h.safe (names_read e ++ write x ∷ []) goes_on q) (h.on (names_read e ++ write x ∷ []) q)
+    statement_way (t.assign x e) u a next f n c h =
+        let q = path.assign x e (names_read e) (is_path e) in
+        assigned_way u a x e next f n.1 c (h.safe (names_read e ++ write x ∷ []) goes_on q) (h.on (names_read e ++ write x ∷ []) q)
+    statement_way (t.store x index e) u a next f n c h =
+        let q = path.store x index e (names_read index) (names_read e) (is_path index) (is_path e) in
+        let xs = names_read index ++ (names_read e ++ write x ∷ []) in
+        element_assigned_way u a x index e next f.0 f.1 n.0 n.1 n.2 c (h.safe xs goes_on q) (h.on xs q)
+    statement_way (t.choose choice) u a next f n c h =
+        choice_way choice u a next f n c (record {
+          safe = λ xs end q. h.safe xs end (path.choose choice xs end q);
+          on = λ xs q. h.on xs (path.choose choice xs goes_on q);
+        })
+    statement_way (t.loop x from tested below stepped body) u a next f n c h =
+        turns_way room x (lowered_block p body) body (λ v b rest d k. block_way body v b rest f.2 n.1 d k) (below - from) u a next c (record {
+          safe = λ xs end q. h.safe (write x ∷ xs) end (path.loop x from tested below stepped body xs end q);
+          on = λ xs q. h.on (write x ∷ xs) (path.loop x from tested below stepped body xs goes_on q);
+        })
+    statement_way (t.emit e) u a next f n c h =
+        let q = path.emit e (names_read e) (is_path e) in
+        joined_way room (lowered_expression p e) (one (emit_word p.words.emit_count p.emits)) next (at 0 a)
+        (expression_way room p 0 a e _ f (reads_assigned shared u a e c n (h.safe (names_read e) goes_on q))
+        (moves room 1 0 1 0 a next (omega arith) (omega arith) (omega arith) (h.on (names_read e) q a (subst (λ v. Covers v a) (sym (behind_names u e)) c))))
+    statement_way (t.transition task) u a next f n c h = transition_way task.task next (at 0 a)
+
+    choice_way : (choice : CheckedChoice) (u a : ℕ → Bool) (next : Place → Type 0) → ChoiceFits room choice → ChoiceUses shared choice → Covers u a
+        → Follows (ChoicePath choice) u next → EachWay room (lowered_choice p choice) next (at 0 a)
+    choice_way t.nothing u a next f n c h = h.on [] path.nothing a c
+    choice_way (t.otherwise b) u a next f n c h =
+        block_way b u a next f n c
+        (record { safe = λ xs end q. h.safe xs end (path.otherwise b xs end q); on = λ xs q. h.on xs (path.otherwise b xs goes_on q) })
+    choice_way (t.test e b more) u a next f n c h =
+        let some = some_block b in
+        let s = h.safe (names_read e ++ some.accesses) some.end (path.taken e b more (names_read e) some.accesses some.end (is_path e) some.is) in
+        joined_way room (lowered_expression p e) (one (choose (lowered_block p b) (lowered_choice p more))) next (at 0 a)
+        (expression_way room p 0 a e _ f.0 (reads_assigned shared u a e c n.0 (safe_expression u e some.accesses s).0)
+        (moves room 1 0 1 0 a (λ o. EachWay room (lowered_block p b) next o × EachWay room (lowered_choice p more) next o)
+        (omega arith) (omega arith) (omega arith)
+        (block_way b u a next f.1 n.1 c (taken_follows e b more u next h), choice_way more u a next f.2 n.2 c (passed_follows e b more u next h))))
+
+    block_way : (b : CheckedBlock) (u a : ℕ → Bool) (next : Place → Type 0) → BlockFits room b → BlockUses shared b → Covers u a
+        → Follows (BlockPath b) u next → EachWay room (lowered_block p b) next (at 0 a)
+    block_way t.end u a next f n c h = h.on [] path.finished a c
+    block_way (t.step s more) u a next f n c h =
+        joined_way room (lowered_statement p s) (lowered_block p more) next (at 0 a)
+        (statement_way s u a (EachWay room (lowered_block p more) next) f.0 n.0 c
+        (step_follows s more u next (EachWay room (lowered_block p more) next) h
+        (λ xs q b d. block_way more (behind u xs) b next f.1 n.1 d (block_follows s more u next xs h q))))
+
+  -- from the start of a task, of which no path reads an unassigned local or goes on behind its end
+  pub task_way : (b : CheckedBlock) → BlockFits room b → BlockUses shared b → ((xs : List Access) (end : End) → BlockPath b xs end → Safe (λ x. true) xs)
+      → ((xs : List Access) → BlockPath b xs goes_on → ⊥)
+      → EachWay room (lowered_block p b) (λ q. ⊥) start
+  task_way b f n safe none =
+      block_way b (λ x. true) (λ x. false) (λ q. ⊥) f n (λ x l h. absurd (cc)) (record { safe = safe; on = λ xs q a c. none xs q })

@@ -1,0 +1,38 @@
+-- What holds of the word programs of accepted sources.
+use Rattle.std.specs.Prelude.{◌≡◌, ℕ, List, All, Some, slice_get}
+use Rattle.task_ast.specs.Tree.{Program, Task}
+use Rattle.task_ast.specs.declared.names.VariableName.{VariableName}
+use Rattle.task_ast.specs.declared.names.TaskName.{TaskName}
+use Rattle.cost_bound.specs.declared.allowance.Allow.{Allow}
+use Rattle.source_meaning.specs.Acceptance.{IsAcceptedText}
+use Rattle.war_analysis.specs.PlanValue.{TaskPlanValue}
+use Rattle.war_analysis.specs.Plans.{IsPlan}
+use Rattle.privatise.specs.LayoutValue.{LayoutValue, TaskLayoutValue}
+use Rattle.privatise.specs.Layouts.{IsLayout}
+use Rattle.array_versions.specs.Form.{IsWhole, OfWords}
+use Rattle.lower.specs.Places.{places_of}
+use Rattle.lower.specs.Lowered.{lowered_block, lowered}
+
+-- an accepted text, with a plan and a layout of its source
+pub record IsLaidOutText (text : List ℕ) (program : Program VariableName TaskName) (allow : Allow) (plans : List TaskPlanValue) (l : LayoutValue) : Type 0 where
+  pub accepted : IsAcceptedText text program allow
+  pub plan : IsPlan program plans
+  pub layout : IsLayout program allow plans l
+
+-- what holds of each accepted text with a plan and a layout
+abbrev OfTexts : (Program VariableName TaskName → LayoutValue → Type 0) → Type 0
+OfTexts F = (text : List ℕ) (program : Program VariableName TaskName) (allow : Allow) (plans : List TaskPlanValue) (l : LayoutValue)
+    → IsLaidOutText text program allow plans l → F program l
+
+-- what holds of each of its tasks, by number
+abbrev OfTasks : (Task VariableName TaskName → LayoutValue → TaskLayoutValue → Type 0) → Type 0
+OfTasks F = OfTexts (λ program l. (k : ℕ) (task : Task VariableName TaskName) (t : TaskLayoutValue)
+    → slice_get program.tasks k ≡ Some task → slice_get l.tasks k ≡ Some t → F task l t)
+
+-- the word program of each task is whole, and of words
+abbrev pub TasksAreWhole : Type 0
+TasksAreWhole = OfTasks (λ task l t. IsWhole (lowered_block (places_of l t) task.body) × OfWords (lowered_block (places_of l t) task.body))
+
+-- the same of all of them
+abbrev pub ProgramsAreWhole : Type 0
+ProgramsAreWhole = OfTexts (λ program l. All IsWhole (lowered l program) × All OfWords (lowered l program))

@@ -1,0 +1,15 @@
+//! Laws of the word programs of accepted sources. The functions do nothing: their contracts are the laws.
+
+ghost use Rattle.whole_programs.specs.Laws.{TasksAreWhole, ProgramsAreWhole};
+
+/// The word program of each task of an accepted source is whole, and its numbers are words: whatever its layout, there is
+/// room for its locals and its stack, it reads no local before it has assigned it, and each way through it ends in the jump
+/// to the commit.
+pub fn tasks_are_whole()
+    ensures { TasksAreWhole }
+{}
+
+/// The same of the programs of all tasks.
+pub fn programs_are_whole()
+    ensures { ProgramsAreWhole }
+{}
