@@ -1,0 +1,115 @@
+-- Each task keeps to its part of the bound.
+use Rattle.std.proofs.Common.{◌≡◌, ℕ, zero, suc, ◌+◌, ◌*◌, ◌<◌, ◌≤◌, refl, sym, ap, ◌∙◌, arith, List, [], ◌∷◌, length, get_or, Some}
+use Rattle.std.proofs.lemmas.List.{length-map}
+use Rattle.std.proofs.lemmas.Option.{slice_get-map, get_or_from_slice_get}
+use Rattle.std.specs.Option.{option_map}
+use Rattle.std.specs.Prelude.{slice_get}
+use Rattle.cost_bound.specs.Table.{cycles_column, block_price}
+use Rattle.cost_bound.specs.Counts.{emits_of}
+use Rattle.cost_bound.specs.Allowance.{CheckedProgram, CheckedTask, IsAllowed, list_of, scalars_of, task_bound, versions_of}
+use Rattle.cost_bound.specs.declared.allowance.Allow.{Allow}
+use Rattle.source_values.specs.Runs.{body_of, task_body}
+use Rattle.war_analysis.specs.PlanValue.{TaskPlanValue}
+use Rattle.war_analysis.specs.Plans.{IsPlan}
+use Rattle.war_analysis.proofs.Counted.{privates_counted}
+use Rattle.array_versions.specs.Program.{Program, nothing}
+use Rattle.array_versions.specs.Behaviour.{WordState, End, GoesOn, Jumps, Short, Strays, Broken, behaviour, started}
+use Rattle.array_versions.specs.Cost.{spent}
+use Rattle.privatise.specs.LayoutValue.{LayoutValue, TaskLayoutValue}
+use Rattle.privatise.specs.Layouts.{IsLayout, IsTaskLayout}
+use Rattle.runtime_code.specs.LayoutPlaces.{pair_of}
+use Rattle.boot_runtime.specs.Entries.{entry_of, task_entries}
+use Rattle.boot_runtime.specs.Listing.{privates_in, entry_at}
+use Rattle.lower.specs.Places.{places_of}
+use Rattle.lower.specs.Lowered.{lowered_block, lowered_tasks}
+use Rattle.lower.specs.Sizes.{entry_cycles}
+use Rattle.lower.proofs.Costs.{blocks_keep_to_cycles}
+use Rattle.compiled_model.specs.Parts.{task_program}
+use Rattle.compiled_model.specs.Needs.{whole_cycles}
+use Rattle.compiled_bounds.specs.Laws.{TasksKeepToTheBound}
+
+-- the programs of tasks, by number
+pub program_at : (l : LayoutValue) (ts : List CheckedTask) (ls : List TaskLayoutValue) (k : ℕ) (task : CheckedTask) (layout : TaskLayoutValue)
+    → slice_get ts k ≡ Some task → slice_get ls k ≡ Some layout → get_or (lowered_tasks l ts ls) k nothing ≡ lowered_block (places_of l layout) task.body
+program_at l [] ls k task layout e f = absurd (cc e)
+program_at l (t ∷ ts) [] k task layout e f = absurd (cc f)
+program_at l (t ∷ ts) (u ∷ ls) zero task layout e f =
+    let a : t ≡ task = cc e in
+    let b : u ≡ layout = cc f in
+    ap (λ y. lowered_block (places_of l u) y.body) a ∙ ap (λ y. lowered_block (places_of l y) task.body) b
+program_at l (t ∷ ts) (u ∷ ls) (suc k) task layout e f = program_at l ts ls k task layout e f
+
+-- what the entries cost at most
+entries_cost : (l : LayoutValue) (layout : TaskLayoutValue) (e : End) → entry_cycles (places_of l layout) e ≤ 21 * length layout.privates
+entries_cost l layout (GoesOn s) = omega arith
+entries_cost l layout (Jumps to s) = omega arith
+entries_cost l layout Short = omega arith
+entries_cost l layout Strays = omega arith
+entries_cost l layout Broken = omega arith
+
+-- a boot, the clearing of versions, the copies of private scalars, the body, the entries, and the commit
+all_within : (v1 v2 privates scalars body price list emits : ℕ) → v1 ≡ v2 → privates ≡ scalars → body ≤ price + 21 * privates
+    → 11 + (36 + 11 * v1 + 6 * privates) + body + (42 + 15 * list + 16 * emits)
+    ≤ 400 + 12 * v2 + 72 * scalars + price + 40 * list + 40 * emits
+all_within v1 v2 privates scalars body price list emits v e b = omega (arith, v, e, b)
+
+module _ (p : CheckedProgram) (allow : Allow) (plans : List TaskPlanValue) (l : LayoutValue) (allowed : IsAllowed p allow) (plan : IsPlan p plans)
+    (layout : IsLayout p allow plans l) (t : ℕ) (fram : ℕ → ℕ) (readings : List ℕ) (task : CheckedTask) (own : TaskLayoutValue) (kind : TaskPlanValue)
+    (at_task : slice_get p.tasks t ≡ Some task) (at_own : slice_get l.tasks t ≡ Some own) (at_kind : slice_get plans t ≡ Some kind) where
+  body_is : task_body p t ≡ task.body
+  body_is = ap body_of at_task
+
+  program_is : task_program p l t ≡ lowered_block (places_of l own) task.body
+  program_is = program_at l p.tasks l.tasks t task own at_task at_own
+
+  mine : entry_at (task_entries l) t ≡ entry_of own
+  mine =
+      get_or_from_slice_get (task_entries l) t (entry_of own) (record { privates = []; code = 0 })
+      (slice_get-map entry_of l.tasks t ∙ ap (option_map entry_of) at_own)
+
+  own_privates : length (privates_in (task_entries l) t) ≡ length own.privates
+  own_privates = ap (λ e. length e.privates) mine ∙ length-map own.privates pair_of
+
+  privates_are : length (privates_in (task_entries l) t) ≡ scalars_of p.shared (task_body p t)
+  privates_are =
+      let of : IsTaskLayout p.shared task.body kind own = layout.tasks.each t task kind own at_task at_kind at_own in
+      own_privates
+      ∙ sym (length-map own.privates (λ s. s.number))
+      ∙ ap length of.privates
+      ∙ privates_counted p.shared task.body kind.private_scalars (plan.each t task kind at_task at_kind).private_scalars
+      ∙ ap (scalars_of p.shared) (sym body_is)
+
+  body_costs : spent (task_program p l t) (started fram readings)
+      ≤ block_price cycles_column (task_body p t) + 21 * length (privates_in (task_entries l) t)
+  body_costs =
+      let w : WordState = started fram readings in
+      let q : Program = lowered_block (places_of l own) task.body in
+      let a = blocks_keep_to_cycles (places_of l own) task.body w in
+      let b = entries_cost l own (behaviour q w).end in
+      let c : spent (task_program p l t) w ≡ spent q w = ap (λ y. spent y w) program_is in
+      let d : block_price cycles_column (task_body p t) ≡ block_price cycles_column task.body = ap (block_price cycles_column) body_is in
+      let e : length (privates_in (task_entries l) t) ≡ length own.privates = own_privates in
+      omega (arith, a, b, c, d, e)
+
+  within : whole_cycles p l t fram readings ≤ task_bound (versions_of p) p.shared (task_body p t)
+  within =
+      all_within l.versions.capacity (versions_of p) (length (privates_in (task_entries l) t)) (scalars_of p.shared (task_body p t))
+      (spent (task_program p l t) (started fram readings)) (block_price cycles_column (task_body p t))
+      (list_of p.shared (task_body p t)) (emits_of (task_body p t)) (layout.versions ∙ allowed.versions) privates_are body_costs
+
+-- an element by its number
+pub there : {X : Type 0} (xs : List X) (i : ℕ) → i < length xs → (x : X) × (slice_get xs i ≡ Some x)
+there [] i h = absurd (omega (arith, h))
+there (x ∷ xs) zero h = (x, refl)
+there (x ∷ xs) (suc i) h = there xs i (omega (arith, h))
+
+pub tasks_keep_to_the_bound : TasksKeepToTheBound
+tasks_keep_to_the_bound p allow plans l allowed plan layout = record {
+  within = λ t fram readings below words are_words.
+      let task = there p.tasks t below in
+      let count = layout.tasks.count in
+      let plans_count = plan.count in
+      let own = there l.tasks t (omega (arith, below, count)) in
+      let kind = there plans t (omega (arith, below, plans_count)) in
+      within p allow plans l allowed plan layout t fram readings task.0 own.0 kind.0 task.1 own.1 kind.1;
+}

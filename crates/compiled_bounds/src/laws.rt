@@ -1,0 +1,26 @@
+//! Laws of a compiled source's bound and capacities. The functions do nothing: their contracts are the laws.
+
+ghost use Rattle.source_values.specs.Runs.{State};
+ghost use Rattle.crash_rules.specs.Runs.{Program};
+ghost use Rattle.compiled_bounds.specs.Laws.{BoundIsTheSources, CapacitiesAreKept, TasksKeepToTheBound};
+
+/// The code of a compiled source as the laws see it.
+pub trait Coded {
+    /// Its code.
+    ghost program: { Program };
+}
+
+/// The bound of a compiled source is that of its allowance.
+pub fn bound_is_the_sources()
+    ensures { BoundIsTheSources }
+{}
+
+/// The bound pays for a boot, the clearing of the versions, a whole attempt of any task and its commit.
+pub fn tasks_keep_to_the_bound()
+    ensures { TasksKeepToTheBound }
+{}
+
+/// At each board of a run the commit list and the emit buffer are within their capacities, and no version word is above VER.
+pub fn capacities_are_kept<S: Coded>()
+    ensures { CapacitiesAreKept S.program }
+{}

@@ -1,0 +1,27 @@
+-- The layout of a source has room for the code of its programs.
+use Rattle.std.proofs.Common.{◌≡◌, ℕ, suc, List, [], ◌∷◌, length, Some, slice_get, refl, arith}
+use Rattle.task_ast.specs.declared.SharedDeclaration.{SharedDeclaration}
+use Rattle.cost_bound.specs.Allowance.{CheckedTask, scalars_of}
+use Rattle.privatise.specs.LayoutValue.{LayoutValue, TaskLayoutValue}
+use Rattle.lower.specs.Places.{places_of}
+use Rattle.lower.specs.Lowered.{lowered_tasks}
+use Rattle.lower.proofs.Sizes.{blocks_keep_to_words}
+use Rattle.linked_code.specs.Rooms.{ProgramsKeep}
+use Rattle.linked_code.proofs.Rooms.{layouts_have_room}
+use Rattle.compiled_runs.specs.Laws.{SourcesHaveRoom}
+
+programs_keep : (l : LayoutValue) (shared : List SharedDeclaration) (tasks : List CheckedTask) (ts : List TaskLayoutValue) → length ts ≡ length tasks
+    → ((k : ℕ) (task : CheckedTask) (t : TaskLayoutValue) → slice_get tasks k ≡ Some task → slice_get ts k ≡ Some t
+    → length t.privates ≡ scalars_of shared task.body) → ProgramsKeep shared tasks (lowered_tasks l tasks ts)
+programs_keep l shared [] ts n f = tt
+programs_keep l shared (task ∷ tasks) [] n f = absurd (omega (arith, n))
+programs_keep l shared (task ∷ tasks) (t ∷ ts) n f =
+    let e = f 0 task t refl refl in (
+      blocks_keep_to_words (places_of l t) (scalars_of shared task.body) task.body (omega (arith, e)),
+      programs_keep l shared tasks ts (omega (arith, n)) (λ k u v a b. f (suc k) u v a b),
+    )
+
+pub sources_have_room : SourcesHaveRoom
+sources_have_room p allow plans l allowed is count privates =
+    layouts_have_room p allow plans l (lowered_tasks l p.tasks l.tasks) allowed is count privates
+    (programs_keep l p.shared p.tasks l.tasks is.tasks.count privates)

@@ -1,0 +1,66 @@
+-- A run leaves the code as it is, and stays in it.
+use Rattle.std.proofs.Common.{◌≡◌, ◌<◌, ◌*◌, ◌/◌, ℕ, length, refl, inl, arith}
+use Rattle.msp_step.specs.declared.machine.Stop.TheVariants as stop
+use Rattle.machine_effects.specs.Machine.{machine_powered}
+use Rattle.code_forms.specs.Forms.{core_of}
+use Rattle.code_forms.specs.Placed.{words_of, IsOutside}
+use Rattle.code_forms.proofs.Registers.{powered_has_a_core}
+use Rattle.source_values.specs.Runs.{State}
+use Rattle.lower.specs.Lowered.{lowered}
+use Rattle.crash_rules.specs.Model.{IsElsewhere}
+use Rattle.crash_rules.specs.Runs.{ProgramLaws}
+use Rattle.crash_rules.proofs.Theorems.{stops_short, stores_only}
+use Rattle.stands_for.proofs.Starts.{each_weaker}
+use Rattle.stands_for.proofs.Theorems.{commit_stores_there}
+use Rattle.linked_code.proofs.Linked.{linked_is_code}
+use Rattle.compiled_model.specs.Places.{program_places}
+use Rattle.compiled_model.specs.View.{state_view}
+use Rattle.compiled_model.specs.Parts.{compiled_model}
+use Rattle.compiled_runs.specs.Program.{source_code, compiled_program}
+use Rattle.compiled_runs.specs.Laws.{CodeIsPlaced, RunsLeaveTheCode}
+use Rattle.compiled_runs.proofs.Program.{code_keeps_the_laws}
+
+pub code_is_placed : CodeIsPlaced
+code_is_placed p l f =
+    let k = linked_is_code l (lowered l p) f in
+    let a = f.rules.apart in
+    let end = k.end in
+    let high = f.high in
+    let even = f.rules.even.boot in
+    record {
+      instructions = k.instructions;
+      even = even;
+      low = omega arith;
+      high = omega (arith, end, high);
+      steps = refl;
+      powers = λ s q w h e. record {
+        core = core_of (machine_powered s q);
+        is = powered_has_a_core s q;
+        pc = let half : s.fram 0xFFFE / 2 * 2 ≡ l.boot.address = omega (arith, e, even) in half;
+      };
+    }
+
+pub runs_leave_the_code : RunsLeaveTheCode
+runs_leave_the_code p l r laws below readings origin x s begins charges t k charged q powered fram left n =
+    let m = compiled_model p l in
+    let c = compiled_program p l in
+    let own : ProgramLaws m c = code_keeps_the_laws p l r laws in
+    let P : ℕ → ℕ → Type 0 = λ a w. a < l.boot.address in
+    let places = program_places p l in let view = state_view p l in
+    let copies = r.fits.rules.apart.copies in
+    let boot = r.fits.rules.apart.boot in
+    let end = (linked_is_code l (lowered l p) r.fits).end in
+    let high = r.fits.high in
+    let stores = stores_only m c P laws own (λ st y rs w u. below.below st y rs w u)
+    (λ st next y d. each_weaker _ P (λ a w h. let b = h.below in omega (arith, b, copies, boot)) _
+    (commit_stores_there State places view st next y r.apart r.room d))
+    readings origin x s begins charges t k charged q powered fram left n in
+    record {
+      code = record {
+        stores = each_weaker P (IsOutside l.boot.address (length (words_of (source_code p l)))) (λ a w h. inl h) _ stores;
+        stands = λ price pc word e.
+            let d = stops_short m c laws own readings origin x s begins charges t k charged q powered fram left n price (stop.Illegal pc word) e in
+            let no = d.0 in absurd (cc (no));
+      };
+      vector = each_weaker P (IsElsewhere 0xFFFE) (λ a w h e. omega (arith, h, e, end, high)) _ stores;
+    }

@@ -1,0 +1,4 @@
+pub mod Steps
+pub mod Program
+pub mod Leaves
+pub mod Fits

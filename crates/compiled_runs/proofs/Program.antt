@@ -1,0 +1,327 @@
+-- The code makes each attempt and each commit within the task's bound.
+use Rattle.std.proofs.Common.{◌≡◌, ◌<◌, ◌≤◌, ◌+◌, ℕ, true, cond, List, [], ◌∷◌, ◌++◌, length, refl, sym, ap, ◌∙◌, subst, inl, inr, All, arith, append-nil, eq-eqb}
+use Rattle.msp_step.specs.declared.machine.Stop.TheVariants as stop
+use Rattle.fram_board.specs.Effects.{Effect, Store}
+use Rattle.machine_effects.specs.World.{World, put, fram_after, world_after, world_after_one}
+use Rattle.machine_effects.specs.Going.{Stalls}
+use Rattle.machine_effects.specs.Machine.{Code, MachineBoard, exec}
+use Rattle.machine_effects.proofs.Going.{join, join_stall}
+use Rattle.machine_effects.proofs.Logs.{code_changes_by_effects}
+use Rattle.machine_effects.proofs.Worlds.{fram_after-append, world_by_its_parts}
+use Rattle.code_forms.specs.Forms.{Core, board_of}
+use Rattle.code_forms.specs.Code.{Runs, Starves}
+use Rattle.source_values.specs.Runs.{CheckedProgram, State}
+use Rattle.array_versions.specs.Behaviour.{WordState, Behaviour, End, GoesOn, Jumps, Short as Lacks, Strays, Broken, behaviour, started}
+use Rattle.array_versions.specs.Cost.{spent}
+use Rattle.array_versions.specs.Laws.{EndsByEffects}
+use Rattle.array_versions.proofs.ByEffects.{behaves_by_effects}
+use Rattle.codegen.specs.Laws.{HasJumped, ComesTo}
+use Rattle.privatise.specs.LayoutValue.{LayoutValue}
+use Rattle.runtime_effects.specs.Places.{CopyPair}
+use Rattle.runtime_effects.specs.Stages.{start_effects, commit_effects}
+use Rattle.runtime_effects.specs.Needs.{CanCommit}
+use Rattle.runtime_code.specs.Addresses.{start_address, stack_top}
+use Rattle.runtime_code.specs.Comes.{Comes, IsAt, Enters}
+use Rattle.runtime_code.specs.LayoutPlaces.{runtime_places}
+use Rattle.runtime_code.proofs.Chains.{nothing as no_steps}
+use Rattle.boot_runtime.specs.Entries.{task_entries}
+use Rattle.boot_runtime.specs.Listing.{TaskEntry, entry_at, privates_in, start_steps, start_cycles}
+use Rattle.commit_runtime.specs.Listing.{commit_steps, commit_cycles}
+use Rattle.lower.specs.Lowered.{lowered}
+use Rattle.crash_rules.specs.Model.{Model, Outcome, Ends, Short, ProgramEffects, program_effects, IsWord, ModelLaws, AttemptContract, CommitContract, with_commit}
+use Rattle.crash_rules.specs.Runs.{Program, Makes}
+use Rattle.stands_for.specs.Program.{StartContract}
+use Rattle.stands_for.specs.StandsFor.{HoldsWords, StartedAt}
+use Rattle.stands_for.proofs.Theorems.{clearing_starts, decided_can_commit}
+use Rattle.compiled_model.specs.Places.{program_places}
+use Rattle.compiled_model.specs.View.{state_view}
+use Rattle.compiled_model.specs.Parts.{has_jumped, task_program, compiled_model}
+use Rattle.compiled_model.specs.Needs.{whole_cycles, LeavesFor}
+use Rattle.linked_code.specs.Linked.{ProgramsAreWhole}
+use Rattle.linked_code.proofs.Stretches.{programs_count, to_start, to_task, DoesBody, body_there, commit_there, to_commit}
+use Rattle.compiled_runs.specs.Program.{placed_code, IsAtEntry, compiled_program}
+use Rattle.compiled_runs.specs.Laws.{CanRun, CodeKeepsTheLaws}
+use Rattle.compiled_runs.proofs.Steps.{code_takes}
+
+-- behind a store the word is there
+put_there : (f : ℕ → ℕ) (a w : ℕ) → put f a w a ≡ w
+put_there f a w = ap (λ b. cond b w (f a)) (eq-eqb a a refl)
+
+behind_last : (es : List Effect) (a w : ℕ) (f : ℕ → ℕ) → fram_after (es ++ Store a w ∷ []) f a ≡ w
+behind_last es a w f = ap (λ g. g a) (fram_after-append es (Store a w ∷ []) f) ∙ put_there (fram_after es f) a w
+
+world_fram : (es : List Effect) (x : World) → (world_after es x).fram ≡ fram_after es x.fram
+world_fram es x = ap (λ y. y.fram) (world_by_its_parts es x)
+
+module _ (p : CheckedProgram) (l : LayoutValue) (r : CanRun p l) (laws : ModelLaws (compiled_model p l)) where
+  abbrev m : Model State
+  m = compiled_model p l
+
+  abbrev c : Program
+  c = compiled_program p l
+
+  abbrev code : Code
+  code = placed_code p l
+
+  abbrev tasks : List TaskEntry
+  tasks = task_entries l
+
+  abbrev start_at : ℕ
+  start_at = start_address l.boot.address
+
+  abbrev privates : ℕ → List CopyPair
+  privates = privates_in tasks
+
+  -- as many programs as tasks
+  programs_are : length (lowered l p) ≡ length p.tasks
+  programs_are = let a = programs_count l.tasks (lowered l p) r.fits.tasks in a ∙ r.count
+
+  are_whole : ProgramsAreWhole (lowered l p)
+  are_whole =
+      let n = programs_are in
+      record { whole = λ k h. r.programs.whole k (omega (arith, h, n)); of_words = λ k h. r.programs.of_words k (omega (arith, h, n)) }
+
+  -- a board, and the start of an attempt behind it
+  record ReachesStart (b : MachineBoard) : Type 0 where
+    pub core : Core
+    pub is : b ≡ board_of core
+    pub steps : ℕ
+    pub cycles : ℕ
+    pub within : cycles ≤ 8
+    pub comes : Comes code [] steps cycles core (IsAt start_at core.fram core.readings_left)
+
+  reaches_start : (b : MachineBoard) → IsAtEntry l b → b.fram l.words.gate ≡ 0 → ReachesStart b
+  reaches_start b (inl k) z =
+      let zero : k.core.fram l.words.gate ≡ 0 = ap (λ s. s.fram l.words.gate) (sym k.is) ∙ z in
+      record { core = k.core; is = k.is; steps = 3; cycles = 8; within = omega arith; comes = to_start l (lowered l p) r.fits are_whole k.core k.pc zero }
+  reaches_start b (inr k) z =
+      let u = k.core in
+      let here : IsAt start_at u.fram u.readings_left u = record { pc = k.pc; fram = refl; readings_left = refl } in
+      record { core = u; is = k.is; steps = 0; cycles = 0; within = omega arith; comes = no_steps code u (IsAt start_at u.fram u.readings_left) here }
+
+  abbrev cost : ℕ → ℕ
+  cost k = m.task_cost k
+
+  -- what the start of an attempt keeps
+  start_keeps : StartContract (program_places p l) (state_view p l) privates (start_effects (runtime_places l) privates)
+  start_keeps = clearing_starts State (program_places p l) (state_view p l) privates r.apart r.privates
+
+  -- behind a commit the code is at the start of an attempt, where GATE is 0
+  behind_commit : (s next : State) (x : World) → m.Decided s next x → (v : Core) (rs : List ℕ)
+      → IsAt start_at (fram_after (commit_effects (runtime_places l) x.fram) x.fram) rs v → IsAtEntry l (board_of v)
+  behind_commit s next x d v rs h =
+      let k : CommitContract m s next x = laws.commits s next x d in
+      let gate : v.fram l.words.gate ≡ 0 =
+      ap (λ f. f l.words.gate) h.fram ∙ ap (λ es. fram_after es x.fram l.words.gate) k.is ∙ behind_last k.before l.words.gate 0 x.fram in
+      inr (record { core = v; is = refl; pc = h.pc; gate = λ e. omega (arith, gate, e) })
+
+  -- the room of the list and of the words to send
+  record FitsCommit (k : ℕ) (f : ℕ → ℕ) : Type 0 where
+    pub can : CanCommit (runtime_places l) f
+    pub list : f l.words.list_length ≤ (program_places p l).list_capacity k
+    pub emits : f l.words.emit_count ≤ (program_places p l).emit_capacity k
+
+  fits_commit : (s next : State) (x : World) → m.Decided s next x → FitsCommit s.task x.fram
+  fits_commit s next x d =
+      let e = d.decided.emit_count in let k = d.decided.within_emits in
+      record {
+        can = decided_can_commit State (program_places p l) (state_view p l) s next x r.apart r.room d;
+        list = d.decided.within_list;
+        emits = omega (arith, e, k);
+      }
+
+  commit_from_boot : (s next : State) (accepted : List ℕ) (u : Core) → u.pc ≡ l.boot.address
+      → (d : m.Decided s next (record { fram = u.fram; accepted = accepted }))
+      → Makes c (cost s.task) (program_effects (m.commit u.fram) true) (board_of u)
+  commit_from_boot s next accepted u e d =
+      let x : World = record { fram = u.fram; accepted = accepted } in
+      let f = fits_commit s next x d in
+      let a = to_commit l (lowered l p) r.fits are_whole u e (laws.decided_gate s next x d) f.can in
+      let n = u.fram l.words.list_length in let k = u.fram l.words.emit_count in
+      let list = f.list in let emits = f.emits in
+      let w = r.costs.within s.task (λ y. 0) [] (d.decided.is_task) (λ y. omega arith) (λ y q h. absurd (omega (arith, h))) in
+      record {
+        steps = 4 + commit_steps n k;
+        cycles = 11 + commit_cycles n k;
+        ends = λ t. (omega (arith, list, emits, w), (board_of a.end, a.leads, behind_commit s next x d a.end u.readings_left a.holds));
+        lacks = λ t. absurd (cc (t));
+      }
+
+  makes_commit : (s next : State) (x : World) (b : MachineBoard) → IsAtEntry l b → b.fram ≡ x.fram → m.Decided s next x
+      → Makes c (cost s.task) (program_effects (m.commit b.fram) true) b
+  makes_commit s next x b (inl k) e d =
+      let u = k.core in
+      let f : x.fram ≡ u.fram = sym e ∙ ap (λ q. q.fram) k.is in
+      let d' : m.Decided s next (record { fram = u.fram; accepted = x.accepted }) =
+      subst (λ g. m.Decided s next (record { fram = g; accepted = x.accepted })) f d in
+      subst (λ q. Makes c (cost s.task) (program_effects (m.commit q.fram) true) q) (sym k.is) (commit_from_boot s next x.accepted u k.pc d')
+  makes_commit s next x b (inr k) e d =
+      let one : x.fram l.words.gate ≡ 1 = laws.decided_gate s next x d in
+      let f : k.core.fram l.words.gate ≡ 1 = ap (λ q. q.fram l.words.gate) (sym k.is) ∙ ap (λ g. g l.words.gate) e ∙ one in
+      absurd (k.gate f)
+
+  -- an attempt that comes to its end is decided
+  record IsDecidedBehind (s : State) (f : ℕ → ℕ) (es : List Effect) : Type 0 where
+    pub next : State
+    pub world : World
+    pub decided : m.Decided s next world
+    pub fram : world.fram ≡ fram_after es f
+
+  decided_behind : (s : State) (x : World) (rs : List ℕ) (o : Outcome State) (q : ProgramEffects) → AttemptContract m s rs x o q → q.ends ≡ true
+      → IsDecidedBehind s x.fram q.effects
+  decided_behind s x rs (Ends next left) q d t =
+      let before = d.before in
+      let es : List Effect = Store l.words.gate 1 ∷ [] in
+      record {
+        next = next;
+        world = world_after_one (Store l.words.gate 1) (world_after before x);
+        decided = d.decided;
+        fram = ap (λ g. put g l.words.gate 1) (world_fram before x)
+            ∙ sym (fram_after-append before es x.fram)
+            ∙ ap (λ k. fram_after k.effects x.fram) (sym d.is);
+      }
+  decided_behind s x rs Short q d t = absurd (let e = d.is in cc (t, e))
+
+  module _ (s : State) (accepted : List ℕ) (u : Core) (words : All IsWord u.readings_left)
+      (und : m.Undecided s (record { fram = u.fram; accepted = accepted })) where
+    abbrev x : World
+    x = record { fram = u.fram; accepted = accepted }
+
+    abbrev k : ℕ
+    k = u.fram l.words.current_task
+
+    abbrev es : List Effect
+    es = start_effects (runtime_places l) privates u.fram
+
+    abbrev g : ℕ → ℕ
+    g = fram_after es u.fram
+
+    abbrev b : Behaviour
+    b = behaviour (task_program p l k) (started g u.readings_left)
+
+    abbrev f : ℕ → ℕ
+    f = fram_after (es ++ b.effects) u.fram
+
+    is_current : k ≡ s.task
+    is_current = und.is_open.current_task
+
+    named : k < length p.tasks
+    named = let e = is_current in let t = und.is_open.is_task in omega (arith, e, t)
+
+    program_named : k < length (lowered l p)
+    program_named = let h = named in let n = programs_are in omega (arith, h, n)
+
+    is_started : StartedAt (program_places p l) (state_view p l) s (privates s.task) (world_after es x)
+    is_started = start_keeps.started s x und
+
+    started_fram : (world_after es x).fram ≡ g
+    started_fram = world_fram es x
+
+    start_words : HoldsWords g
+    start_words = subst HoldsWords started_fram is_started.undecided.is_open.words
+
+    leaves : LeavesFor l.commit.address b.end
+    leaves =
+        let a = r.leave.leave s (world_after es x) u.readings_left words is_started in
+        subst (λ t. LeavesFor l.commit.address (behaviour (task_program p l t) (started g u.readings_left)).end) (sym is_current)
+        (subst (λ h. LeavesFor l.commit.address (behaviour (task_program p l s.task) (started h u.readings_left)).end) started_fram a)
+
+    within : whole_cycles p l k g u.readings_left ≤ cost k
+    within = r.costs.within k g u.readings_left named start_words words
+
+    contract : AttemptContract m s u.readings_left x (m.task s u.readings_left) (m.attempt u.fram u.readings_left)
+    contract = laws.attempts s x u.readings_left words und
+
+    -- the attempt's effects with its commit, by how its program ends
+    abbrev script_by : End → ProgramEffects
+    script_by e = with_commit m u.fram (program_effects (es ++ b.effects) (has_jumped e))
+
+    module _ (steps cycles : ℕ) (few : cycles ≤ 8) (a : Comes code [] steps cycles u (IsAt start_at u.fram u.readings_left)) where
+      abbrev to_steps : ℕ
+      to_steps = steps + start_steps l.versions.capacity (length (privates k))
+
+      abbrev to_cycles : ℕ
+      to_cycles = cycles + start_cycles l.versions.capacity (length (privates k))
+
+      there : Comes code es to_steps to_cycles u (Enters (entry_at tasks k).code stack_top g u.readings_left)
+      there = to_task l (lowered l p) r.fits are_whole u steps cycles a program_named
+
+      body : DoesBody l (lowered l p) r.fits are_whole there.end k g u.readings_left
+      body = body_there l (lowered l p) r.fits are_whole there.end k g u.readings_left there.holds program_named start_words words
+
+      jumps_on : (to : ℕ) (w : WordState) → b.end ≡ Jumps to w → to ≡ l.commit.address
+          → Runs code b.effects (spent (task_program p l k) (started g u.readings_left)) there.end (HasJumped to w)
+          → IsDecidedBehind s u.fram (es ++ b.effects) → Makes c (cost k) (script_by (Jumps to w)) (board_of u)
+      jumps_on to w e t q d =
+          let by = subst (EndsByEffects (started g u.readings_left) b.effects) e (behaves_by_effects (task_program p l k) (started g u.readings_left)) in
+          let same : w.fram ≡ f = by.0 ∙ sym (fram_after-append es b.effects u.fram) in
+          let v = q.end in
+          let fits : FitsCommit s.task f = subst (FitsCommit s.task) d.fram (fits_commit s d.next d.world d.decided) in
+          let arrived : IsAt l.commit.address f v.readings_left v = record { pc = q.holds.pc ∙ t; fram = q.holds.fram ∙ same; readings_left = refl } in
+          let h = commit_there l (lowered l p) r.fits are_whole v f v.readings_left arrived fits.can in
+          let n = f l.words.list_length in let o = f l.words.emit_count in
+          let at : IsAt start_at (fram_after (commit_effects (runtime_places l) d.world.fram) d.world.fram) v.readings_left h.end =
+          subst (λ y. IsAt start_at (fram_after (commit_effects (runtime_places l) y) y) v.readings_left h.end) (sym d.fram) h.holds in
+          let one = join (exec code) to_steps q.steps es b.effects to_cycles q.cycles (board_of u) (board_of there.end) (board_of v) there.leads q.leads in
+          let all = join (exec code) (to_steps + q.steps) (commit_steps n o) (es ++ b.effects) (commit_effects (runtime_places l) f)
+          (to_cycles + q.cycles) (commit_cycles n o) (board_of u) (board_of v) (board_of h.end) one h.leads in
+          let list : n ≤ (program_places p l).list_capacity k = subst (λ j. n ≤ (program_places p l).list_capacity j) (sym is_current) fits.list in
+          let emits : o ≤ (program_places p l).emit_capacity k = subst (λ j. o ≤ (program_places p l).emit_capacity j) (sym is_current) fits.emits in
+          let most = within in let body_most = q.within in
+          let entry = behind_commit s d.next d.world d.decided h.end v.readings_left at in
+          record {
+            steps = to_steps + q.steps + commit_steps n o;
+            cycles = to_cycles + q.cycles + commit_cycles n o;
+            ends = λ z. (omega (arith, few, most, body_most, list, emits), (board_of h.end, all, entry));
+            lacks = λ z. absurd (cc (z));
+          }
+
+      lacks_on : Starves code b.effects (spent (task_program p l k) (started g u.readings_left)) there.end
+          → Makes c (cost k) (script_by Lacks) (board_of u)
+      lacks_on q =
+          let all = join_stall (exec code) to_steps q.steps es b.effects to_cycles q.cycles (board_of u) (board_of there.end) q.price stop.NoReading
+          there.leads q.stalls in
+          let most = within in let body_most = q.within in
+          let all' : Stalls (exec code) (to_steps + q.steps) ((es ++ b.effects) ++ []) (to_cycles + q.cycles) (board_of u) q.price stop.NoReading =
+          subst (λ y. Stalls (exec code) (to_steps + q.steps) y (to_cycles + q.cycles) (board_of u) q.price stop.NoReading)
+          (sym (append-nil (es ++ b.effects))) all in
+          record {
+            steps = to_steps + q.steps;
+            cycles = to_cycles + q.cycles;
+            ends = λ z. absurd (cc (z));
+            lacks = λ z. (q.price, omega (arith, few, most, body_most), all');
+          }
+
+      by_end : (e : End) → b.end ≡ e → LeavesFor l.commit.address e
+          → ComesTo code (spent (task_program p l k) (started g u.readings_left)) there.end b.effects e → Makes c (cost k) (script_by e) (board_of u)
+      by_end (Jumps to w) e t q =
+          let rs = u.readings_left in jumps_on to w e t q (decided_behind s x rs (m.task s rs) (m.attempt u.fram rs) contract (ap has_jumped e))
+      by_end Lacks e t q = lacks_on q
+      by_end (GoesOn w) e t q = absurd t
+      by_end Strays e t q = absurd t
+      by_end Broken e t q = absurd t
+
+      attempt_from : Makes c (cost s.task) (with_commit m u.fram (m.attempt u.fram u.readings_left)) (board_of u)
+      attempt_from = subst (λ t. Makes c (cost t) (script_by b.end) (board_of u)) is_current (by_end b.end refl leaves body)
+
+  makes_attempt : (s : State) (x : World) (b : MachineBoard) → IsAtEntry l b → b.fram ≡ x.fram → All IsWord b.readings_left → m.Undecided s x
+      → Makes c (cost s.task) (with_commit m b.fram (m.attempt b.fram b.readings_left)) b
+  makes_attempt s x b e same words und =
+      let zero : b.fram l.words.gate ≡ 0 = ap (λ f. f l.words.gate) same ∙ laws.undecided_gate s x und in
+      let k = reaches_start b e zero in
+      let u = k.core in
+      let f : x.fram ≡ u.fram = sym same ∙ ap (λ q. q.fram) k.is in
+      let und' : m.Undecided s (record { fram = u.fram; accepted = x.accepted }) =
+      subst (λ g. m.Undecided s (record { fram = g; accepted = x.accepted })) f und in
+      let words' : All IsWord u.readings_left = subst (λ q. All IsWord q.readings_left) k.is words in
+      subst (λ q. Makes c (cost s.task) (with_commit m q.fram (m.attempt q.fram q.readings_left)) q) (sym k.is)
+      (attempt_from s x.accepted u words' und' k.steps k.cycles k.within k.comes)
+
+pub code_keeps_the_laws : CodeKeepsTheLaws
+code_keeps_the_laws p l r laws = record {
+  changes = λ s. code_changes_by_effects (placed_code p l) s;
+  takes_cycles = λ s. code_takes (placed_code p l) s;
+  enters = λ s h. inl h;
+  makes_attempt = makes_attempt p l r laws;
+  makes_commit = makes_commit p l r laws;
+}

@@ -1,0 +1,89 @@
+-- An instruction takes a cycle at least.
+use Rattle.std.proofs.Common.{◌<◌, ◌==◌, ℕ, Bool, true, false, if◌then◌else◌, Option, Some, None, [], arith}
+use Rattle.msp_isa.specs.declared.registers.Reg.TheVariants as reg
+use Rattle.msp_isa.specs.declared.operands.Operand.{Operand}
+use Rattle.msp_isa.specs.declared.operands.Operand.TheVariants as operand
+use Rattle.msp_isa.specs.declared.operands.Src.{Src}
+use Rattle.msp_isa.specs.declared.operands.Src.TheVariants as src
+use Rattle.msp_isa.specs.declared.operands.Dst.{Dst}
+use Rattle.msp_isa.specs.declared.operands.Dst.TheVariants as dst
+use Rattle.msp_isa.specs.declared.instructions.OneOp.TheVariants.{Rrc, Swpb, Rra, Sxt, Push, Call}
+use Rattle.msp_isa.specs.declared.instructions.Instr.{Instr}
+use Rattle.msp_isa.specs.declared.instructions.Instr.TheVariants as instr
+use Rattle.msp_cycles.specs.Cycles.{CycleRow, operand_cycles, source_cycles, destination_cycles, push, call, read_modify_write, cycles_of}
+use Rattle.msp_step.specs.declared.machine.Stop.TheVariants as stop
+use Rattle.msp_step.specs.Registers.{Registers}
+use Rattle.msp_step.specs.Access.{Access, Completed, Faulted}
+use Rattle.msp_step.specs.Effect.{Written}
+use Rattle.msp_step.specs.Step.{effect, off_bit}
+use Rattle.machine_effects.specs.Going.{Stops}
+use Rattle.machine_effects.specs.Machine.{Code, MachineBus, MachineBoard, MachineOutcome, machine_bus, machine_opened, machine_outcome, standing, exec}
+use Rattle.crash_rules.specs.Runs.{TakesCycles}
+
+-- each column for an operand has a cycle at least
+record HasCycles (c : CycleRow) : Type 0 where
+  pub register : 0 < c.register
+  pub indirect : 0 < c.indirect
+  pub increment : 0 < c.increment
+  pub indexed : 0 < c.indexed
+  pub symbolic : 0 < c.symbolic
+  pub absolute : 0 < c.absolute
+
+operand_some : (c : CycleRow) → HasCycles c → (o : Operand) → 0 < operand_cycles c o
+operand_some c h (operand.Reg r) = h.register
+operand_some c h (operand.Indexed r x) = h.indexed
+operand_some c h (operand.Symbolic x) = h.symbolic
+operand_some c h (operand.Absolute a) = h.absolute
+operand_some c h (operand.Indirect r) = h.indirect
+operand_some c h (operand.Increment r) = h.increment
+
+source_some : (c : CycleRow) → HasCycles c → 0 < c.immediate → (s : Src) → 0 < source_cycles c s
+source_some c h i (src.Operand o) = operand_some c h o
+source_some c h i (src.Immediate n) = i
+source_some c h i (src.Constant k) = h.register
+
+row_some : (d : Dst) → HasCycles (destination_cycles d) × (0 < (destination_cycles d).immediate)
+row_some (dst.Reg reg.Pc) = search arith
+row_some (dst.Reg reg.Sr) = search arith
+row_some (dst.Reg reg.R3) = search arith
+row_some (dst.Reg (reg.Index r)) = search arith
+row_some (dst.Indexed r x) = search arith
+row_some (dst.Symbolic x) = search arith
+row_some (dst.Absolute a) = search arith
+
+modify_some : HasCycles read_modify_write
+modify_some = search arith
+
+push_some : HasCycles push
+push_some = search arith
+
+call_some : HasCycles call
+call_some = search arith
+
+pub cycles_some : (i : Instr) → 0 < cycles_of i
+cycles_some (instr.Two op w s d) = source_some (destination_cycles d) (row_some d).0 (row_some d).1 s
+cycles_some (instr.One (Rrc w o)) = operand_some read_modify_write modify_some o
+cycles_some (instr.One (Swpb o)) = operand_some read_modify_write modify_some o
+cycles_some (instr.One (Rra w o)) = operand_some read_modify_write modify_some o
+cycles_some (instr.One (Sxt o)) = operand_some read_modify_write modify_some o
+cycles_some (instr.One (Push w s)) = source_some push push_some (omega arith) s
+cycles_some (instr.One (Call s)) = source_some call call_some (omega arith) s
+cycles_some (instr.Jump c offset) = omega arith
+cycles_some instr.Reti = omega arith
+
+outcome_takes : (pc c : ℕ) (x : Access MachineBus (Registers × Option Written)) → 0 < c → TakesCycles (machine_outcome pc c x)
+outcome_takes pc c (Completed x t) h = h
+outcome_takes pc c (Faulted e a t) h = λ q. h
+
+standing_takes : (i : Option Instr) (s : MachineBoard) → TakesCycles (standing i s)
+standing_takes (Some i) s = outcome_takes (s.registers 0) (cycles_of i) (effect machine_bus i s.registers (machine_opened s)) (cycles_some i)
+standing_takes None s = λ q. absurd (cc (q))
+
+either_takes : (b : Bool) (x y : MachineOutcome) → TakesCycles x → TakesCycles y → TakesCycles (if b then x else y)
+either_takes true x y h k = h
+either_takes false x y h k = k
+
+pub code_takes : (code : Code) (s : MachineBoard) → TakesCycles (exec code s)
+code_takes code s =
+    let i = code (s.registers 0) in
+    either_takes (off_bit s.registers == 1) (Stops [] 0 stop.Off) (standing i s) (λ q. absurd (cc (q))) (standing_takes i s)

@@ -1,0 +1,26 @@
+//! Laws of compiled code that runs. The functions do nothing: their contracts are the laws.
+
+ghost use Rattle.compiled_runs.specs.Laws.{CodeKeepsTheLaws, CodeIsPlaced, RunsLeaveTheCode, SourcesHaveRoom};
+
+/// From a power-up on, and from the end of a commit on, the code makes the attempt or the commit that is due, within the bound of
+/// the state's task.
+#[tactic(auto, using(crate::proofs::Program::code_keeps_the_laws))]
+pub fn code_keeps_the_laws()
+    ensures { CodeKeepsTheLaws }
+{}
+
+/// The code stands in FRAM, and a power-up comes to the boot where the reset vector says so.
+#[tactic(auto, using(crate::proofs::Leaves::code_is_placed))]
+pub fn code_is_placed()
+    ensures { CodeIsPlaced }
+{}
+
+/// A run stores nowhere on the code, nor on the reset vector, and never comes to where no instruction stands.
+pub fn runs_leave_the_code()
+    ensures { RunsLeaveTheCode }
+{}
+
+/// The layout of a source that costs no more than it may has room for its code.
+pub fn sources_have_room()
+    ensures { SourcesHaveRoom }
+{}

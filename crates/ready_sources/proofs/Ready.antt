@@ -1,0 +1,58 @@
+-- An accepted source with its layout is ready to run.
+use Rattle.std.proofs.Common.{ℕ, ◌<◌, sym, subst, arith, List, length}
+use Rattle.cost_bound.specs.declared.allowance.Allow.{Allow}
+use Rattle.source_values.specs.Runs.{CheckedProgram, IsRunnable}
+use Rattle.war_analysis.specs.PlanValue.{TaskPlanValue}
+use Rattle.array_versions.specs.Program.{Program}
+use Rattle.array_versions.specs.Form.{IsWhole, OfWords}
+use Rattle.privatise.specs.LayoutValue.{LayoutValue}
+use Rattle.stands_for.proofs.Starts.{each_weaker}
+use Rattle.layout_facts.specs.Facts.{HasLayout}
+use Rattle.layout_facts.proofs.Chains.{places_are_apart, tasks_have_room}
+use Rattle.layout_facts.proofs.Privates.{privates_are_theirs}
+use Rattle.layout_facts.proofs.Assigned.{tasks_match}
+use Rattle.whole_programs.specs.Laws.{IsLaidOutText}
+use Rattle.whole_programs.proofs.Whole.{tasks_are_whole}
+use Rattle.task_attempts.proofs.Theorems.{compiled_laws, stores_below_code, tasks_leave}
+use Rattle.compiled_model.specs.Parts.{task_program}
+use Rattle.compiled_bounds.proofs.Costs.{program_at, there, tasks_keep_to_the_bound}
+use Rattle.compiled_runs.specs.Laws.{CanRun}
+use Rattle.compiled_runs.proofs.Fits.{sources_have_room}
+use Rattle.ready_sources.specs.Ready.{SourcesAreReady}
+
+module _ (text : List ℕ) (p : CheckedProgram) (allow : Allow) (plans : List TaskPlanValue) (l : LayoutValue) (t : IsLaidOutText text p allow plans l)
+    (run : IsRunnable p) where
+  laid : HasLayout p allow plans l
+  laid = record { allowed = t.accepted.allowed; plan = t.plan; layout = t.layout }
+
+  -- the program of a task is whole, and of words
+  one_whole : (k : ℕ) → k < length p.tasks → IsWhole (task_program p l k) × OfWords (task_program p l k)
+  one_whole k below =
+      let task = there p.tasks k below in
+      let count = t.layout.tasks.count in
+      let own = there l.tasks k (omega (arith, below, count)) in
+      let P : Program → Type 0 = λ q. IsWhole q × OfWords q in
+      subst P (sym (program_at l p.tasks l.tasks k task.0 own.0 task.1 own.1)) (tasks_are_whole text p allow plans l t k task.0 own.0 task.1 own.1)
+
+  code : CanRun p l
+  code = record {
+    fits = sources_have_room p allow plans l t.accepted.allowed t.layout t.plan.count
+        (λ k task own at own_at. (tasks_match p allow plans l laid k task own (record { is_task = at; is_layout = own_at })).count);
+    count = t.layout.tasks.count;
+    apart = places_are_apart p allow plans l laid;
+    room = tasks_have_room p allow plans l laid;
+    privates = privates_are_theirs p allow plans l laid;
+    programs = record { whole = λ k below. (one_whole k below).0; of_words = λ k below. (one_whole k below).1 };
+    leave = record { leave = λ s x readings words started. tasks_leave text p allow plans l t run s x readings words started };
+    costs = tasks_keep_to_the_bound p allow plans l t.accepted.allowed t.plan t.layout;
+  }
+
+pub sources_are_ready : SourcesAreReady
+sources_are_ready text p allow plans l t run = record {
+  model = compiled_laws text p allow plans l t run;
+  code = code text p allow plans l t run;
+  stores = record {
+    below = λ s x readings words undecided. each_weaker _ (λ a w. a < l.boot.address) (λ a w h. h.below) _
+        (stores_below_code text p allow plans l t run s x readings words undecided);
+  };
+}

@@ -1,0 +1,22 @@
+-- What the layers of the compiler give of a source with its layout.
+use Rattle.std.specs.Prelude.{ℕ, List}
+use Rattle.cost_bound.specs.declared.allowance.Allow.{Allow}
+use Rattle.source_values.specs.Runs.{CheckedProgram, IsRunnable}
+use Rattle.war_analysis.specs.PlanValue.{TaskPlanValue}
+use Rattle.privatise.specs.LayoutValue.{LayoutValue}
+use Rattle.crash_rules.specs.Model.{ModelLaws}
+use Rattle.whole_programs.specs.Laws.{IsLaidOutText}
+use Rattle.compiled_model.specs.Parts.{compiled_model}
+use Rattle.compiled_model.specs.Needs.{AttemptsStoreBelow}
+use Rattle.compiled_runs.specs.Laws.{CanRun}
+
+-- its tasks and its runtime keep what the crash theorem asks for, its code can run, and no attempt stores on the code
+pub record IsReadyToRun (p : CheckedProgram) (l : LayoutValue) : Type 0 where
+  pub model : ModelLaws (compiled_model p l)
+  pub code : CanRun p l
+  pub stores : AttemptsStoreBelow p l l.boot.address
+
+-- each accepted text with a plan and a layout of its source, whose runs go on, is so
+abbrev pub SourcesAreReady : Type 0
+SourcesAreReady = (text : List ℕ) (p : CheckedProgram) (allow : Allow) (plans : List TaskPlanValue) (l : LayoutValue)
+    → IsLaidOutText text p allow plans l → IsRunnable p → IsReadyToRun p l

@@ -1,0 +1,499 @@
+-- Behind the last store of a transition the world is decided to the state that the source comes to.
+use Rattle.std.proofs.Common.{◌≡◌, ℕ, ◌+◌, ◌-◌, ◌*◌, ◌%◌, ◌<◌, ◌≤◌, List, [], ◌∷◌, ◌++◌, length, get_or, Some, true, refl, sym, ap, ◌∙◌, subst, ⊎_elim, inl, arith, append_assoc, append-nil}
+use Rattle.std.specs.Prelude.{Contains, slice_get}
+use Rattle.std.proofs.lemmas.Bool.{cases_lt}
+use Rattle.std.proofs.lemmas.List.{get_or_past}
+use Rattle.std.proofs.lemmas.Option.{slice_get_cases, slice_get-get_or, slice_get_within}
+use Rattle.fram_board.specs.Effects.{Effect, Store}
+use Rattle.machine_effects.specs.World.{World, world_after_one, world_after, fram_after, EachStore}
+use Rattle.crash_rules.proofs.Lists.{world_after-append, world_fram, fram_after-append, each_front}
+use Rattle.crash_rules.proofs.Observed.{put_same, put_other}
+use Rattle.task_ast.specs.declared.SharedDeclaration.{SharedDeclaration}
+use Rattle.task_ast.specs.declared.names.Variable.TheVariants.{Shared}
+use Rattle.cost_bound.specs.Counts.{emits_of, block_assigns, Code}
+use Rattle.cost_bound.specs.Allowance.{is_written, list_of}
+use Rattle.source_values.specs.Values.{word_at}
+use Rattle.source_values.specs.Statements.{Attempt}
+use Rattle.source_values.specs.Runs.{CheckedProgram, State, initial_words}
+use Rattle.array_versions.specs.Behaviour.{WordState, started}
+use Rattle.privatise.specs.declared.place.VariablePlace.{VariablePlace}
+use Rattle.privatise.specs.declared.place.VariablePlace.TheVariants.{Scalar, Array}
+use Rattle.privatise.specs.declared.place.PrivateScalar.{PrivateScalar}
+use Rattle.privatise.specs.LayoutValue.{LayoutValue}
+use Rattle.runtime_effects.specs.Places.{CopyPair, listed}
+use Rattle.boot_runtime.specs.Entries.{task_entries}
+use Rattle.boot_runtime.specs.Listing.{privates_in}
+use Rattle.stands_for.specs.Layout.{IsAmong, IsSharedWord, IsCopyWord, ProgramPlaces, StateView}
+use Rattle.stands_for.specs.StandsFor.{StartedAt, DecidedWith, DecidedFrom}
+use Rattle.stands_for.proofs.Keeps.{put_words}
+use Rattle.lower.specs.Places.{address_of, Places}
+use Rattle.lower.specs.Spots.{IsScalarPlace, IsScalarAt, Element, IsElement, IsCopied, Spot, IsSpot, scalar, element, copy, spot_address, element_address, copy_address, Room}
+use Rattle.lower.specs.Agreement.{TakesAndStores, transition_effects, Bounds, bounds_of, Left, place_length}
+use Rattle.compiled_model.specs.Places.{program_places}
+use Rattle.compiled_model.specs.View.{state_view, are_rows}
+use Rattle.layout_facts.specs.Facts.{IsWordOf}
+use Rattle.task_attempts.proofs.Given.{IsGiven, IsTaskGiven}
+use Rattle.task_attempts.proofs.Rows.{rows_are, rows_count, declared_length}
+use Rattle.task_attempts.proofs.StoredWords.{StoresWords}
+use Rattle.task_attempts.proofs.Quiet.{IsQuiet, IsQuietAt, quiet_behind, stores_both, stores_as, stays_within}
+use Rattle.task_attempts.proofs.Entries.{IsTransitionStore, transition_stores, closing, closed, closed_sent, closed_next, closed_count, closed_home, closed_copy, IsLeft, closed_left}
+use Rattle.task_attempts.proofs.Listed.{entry_at, entry_among, among_entries, contains_at}
+use Rattle.task_attempts.proofs.Tasks.{IsAt, places, body, room, task_given, body_is, item_at, private_copy}
+use Rattle.task_attempts.proofs.Stores.{Safe, StoresOf, task_safe, transition_safe}
+use Rattle.task_attempts.proofs.Words.{OwnWord, marked, unmarked, own_word_of, IsTaskWord, left_there, private, element as an_element, task_word, element_word, home_word}
+
+each_back : (P : ℕ → ℕ → Type 0) (es fs : List Effect) → EachStore P (es ++ fs) → EachStore P fs
+each_back P [] fs h = h
+each_back P (e ∷ es) fs h = each_back P es fs h.1
+
+module _ (p : CheckedProgram) (l : LayoutValue) (given : IsGiven p l) (s : State) (is_task : s.task < length p.tasks) (i : IsAt p l s.task) (x : World)
+    (readings : List ℕ)
+    (st : StartedAt (program_places p l) (state_view p l) s (privates_in (task_entries l) s.task) x) where
+  -- the places that the task works on
+  abbrev here : Places
+  here = places p l given s.task i
+
+  -- its statements
+  abbrev code : Code
+  code = body p l given s.task i
+
+  -- its room
+  abbrev space : Room
+  space = room p l given s.task i
+
+  -- what is known of it
+  abbrev facts : IsTaskGiven p l i.task i.layout
+  facts = task_given p l given s.task i
+
+  -- the places of the source
+  abbrev sites : ProgramPlaces
+  sites = program_places p l
+
+  -- its states by addresses
+  abbrev view : StateView State
+  view = state_view p l
+
+  abbrev pub ver : ℕ
+  ver = x.fram l.words.version
+
+  -- the bounds of the task's statements
+  abbrev pub bounds : Bounds
+  bounds = bounds_of here (λ v. block_assigns v code) space code [] (started x.fram readings)
+
+  abbrev SafeStore : ℕ → ℕ → Type 0
+  SafeStore = Safe p l given s.task is_task i ver
+
+  pub quiet_start : IsQuietAt sites view s ver x
+  quiet_start = record { undecided = st.undecided; version = refl }
+
+  pub quiet_of : (es : List Effect) → TakesAndStores SafeStore es → StoresWords es → TakesAndStores (IsQuiet sites ver) es
+  quiet_of es h k = stores_as SafeStore (IsQuiet sites ver) (λ a w q small. q.quiet) es h k
+
+  -- statements came to a transition
+  module _ (es : List Effect) (to : ℕ) (end : WordState) (task : ℕ) (m : Attempt)
+      (left : Left here bounds es to end task m) (stored : StoresWords es)
+      (next_task : task < length p.tasks) (rows : length m.variables.shared ≡ length s.shared) where
+    abbrev count : ℕ
+    count = length left.listed
+
+    abbrev base : ℕ
+    base = left.there.fram l.words.base
+
+    abbrev transition : List Effect
+    transition = transition_effects here task count base
+
+    -- the effects but the last
+    abbrev pub before : List Effect
+    before = left.body ++ transition
+
+    pub effects_are : es ≡ before ++ Store l.words.gate 1 ∷ []
+    effects_are = left.effects ∙ sym (append_assoc left.body transition (Store l.words.gate 1 ∷ []))
+
+    few : count + length i.layout.privates ≤ list_of p.shared code
+    few = facts.has_room left.listed left.stands.list.are_listed (λ v. let k = left.few v in omega (arith, k))
+
+    words_before : StoresWords before
+    words_before = each_front (λ a w. w < 0x10000) before (Store l.words.gate 1 ∷ []) (subst StoresWords effects_are stored)
+
+    pub safe_before : TakesAndStores SafeStore before
+    safe_before =
+        stores_both SafeStore left.body transition
+        (stores_as (StoresOf p l given s.task is_task i ver) SafeStore (task_safe p l given s.task is_task i ver) left.body left.stores
+        (each_front (λ a w. w < 0x10000) left.body transition words_before))
+        (stores_as (IsTransitionStore here space) SafeStore (transition_safe p l given s.task is_task i ver) transition
+        (transition_stores here space task count base few) (each_back (λ a w. w < 0x10000) left.body transition words_before))
+
+    pub quiet_before : TakesAndStores (IsQuiet sites ver) before
+    quiet_before = quiet_of before safe_before words_before
+
+    -- the world before the last store, and behind it
+    abbrev y : World
+    y = world_after before x
+
+    abbrev pub z : World
+    z = world_after_one (Store l.words.gate 1) y
+
+    u : IsQuietAt sites view s ver y
+    u = quiet_behind sites view s ver before x quiet_before quiet_start
+
+    abbrev g : ℕ → ℕ
+    g = closed here space facts.apart task count base left.there.fram left.stands.list.list_length
+
+    z_is : z.fram ≡ g
+    z_is =
+        ap (λ w. w.fram) (sym (world_after-append before (Store l.words.gate 1 ∷ []) x))
+        ∙ world_fram (before ++ Store l.words.gate 1 ∷ []) x
+        ∙ ap (λ e. fram_after e x.fram) (append_assoc left.body transition (Store l.words.gate 1 ∷ []))
+        ∙ fram_after-append left.body (closing here space facts.apart task count base left.there.fram
+        left.stands.list.list_length) x.fram
+        ∙ ap (fram_after (closing here space facts.apart task count base left.there.fram
+        left.stands.list.list_length)) (sym left.arrived)
+
+    z_before : (a : ℕ) → (a ≡ l.words.gate → ⊥) → z.fram a ≡ y.fram a
+    z_before a ne = put_other y.fram l.words.gate 1 a ne
+
+    abbrev Stays : ℕ → Type 0
+    Stays a = IsLeft here space facts.apart task count base left.there.fram left.stands.list.list_length a
+
+    z_there : (a : ℕ) → Stays a → z.fram a ≡ left.there.fram a
+    z_there a h =
+        ap (λ f. f a) z_is
+        ∙ closed_left here space facts.apart task count base left.there.fram left.stands.list.list_length a h
+
+    high_stays : (a : ℕ) → l.emits.address ≤ a → Stays a
+    high_stays a h =
+        let apart = facts.apart in
+        let most = few in
+        record {
+          next_task = λ e. omega (arith, apart, e, h);
+          gate = λ e. omega (arith, apart, e, h);
+          list_length = λ e. omega (arith, apart, e, h);
+          sent_base = λ e. omega (arith, apart, e, h);
+          entries = λ lo hi. omega (arith, apart, hi, h, most);
+        }
+
+    -- the words that the task works on stay
+    spot_stays : (q : Spot) → IsSpot here q → z.fram (spot_address here q) ≡ left.there.fram (spot_address here q)
+    spot_stays q h =
+        let low = facts.apart.spots q h in
+        z_there (spot_address here q) (high_stays (spot_address here q) (omega (arith, low)))
+
+    -- the state that the source comes to
+    abbrev pub next : State
+    next = record { shared = m.variables.shared; task = task; emitted = s.emitted ++ m.emitted }
+
+    next_word : (v n a : ℕ) → IsWordOf l v n a → view.word next a ≡ word_at m.variables (Shared v) n
+    next_word v n a h = given.words.is_word m.variables.shared v n a h
+
+    scalar_next : (v : ℕ) → IsScalarAt here v → z.fram (address_of here v) ≡ word_at m.variables (Shared v) 0
+    scalar_next v h = spot_stays (scalar v) h ∙ left.stands.variables.words v h
+
+    private_next : (r : PrivateScalar) → Contains i.layout.privates r → z.fram r.copy ≡ view.word next r.home
+    private_next r h =
+        let c = facts.privates in
+        let o = c.only r h in
+        let at : slice_get l.variables r.number ≡ Some (Scalar r.home r.copy) = o.1.place in
+        ap z.fram (sym (c.assigned r.number r.home r.copy at o.0))
+        ∙ scalar_next r.number (subst IsScalarPlace (sym at) tt)
+        ∙ sym (next_word r.number 0 r.home (home_word l r.number r.home r.copy at))
+
+    of_copied : (e : Element) → IsCopied here e → IsElement here e
+    of_copied e c = record { elements = c.elements; length = c.length; copies = Some c.copies; is_array = c.is_array; below = c.below }
+
+    listed_copied : (e : Element) → Contains left.listed e → IsCopied here e
+    listed_copied e h = subst (IsCopied here) h.2 (left.stands.list.are_listed.copied h.0 e h.1)
+
+    word_of_element : (e : Element) → IsElement here e
+        → view.word next (element_address here e) ≡ word_at m.variables (Shared e.array) e.index
+    word_of_element e h =
+        next_word e.array e.index (element_address here e)
+        (element_word l code i.layout facts.privates e h)
+
+    -- a listed element's copy holds its new word
+    listed_by : (e : Element) → Contains left.listed e → (h : IsElement here e) → OwnWord here left.there.fram e
+        → z.fram (copy_address here e) ≡ view.word next (element_address here e)
+    listed_by e c h (marked k m is) = spot_stays (copy e) k ∙ sym is ∙ left.stands.variables.elements e h ∙ sym (word_of_element e h)
+    listed_by e c h (unmarked n is) = absurd (n (listed_copied e c) (left.stands.list.marked e c))
+
+    listed_next : (e : Element) → Contains left.listed e
+        → z.fram (copy_address here e) ≡ view.word next (element_address here e)
+    listed_next e c =
+        let h = of_copied e (listed_copied e c) in listed_by e c h (own_word_of here left.there.fram e h)
+
+    -- ---- the commit list
+
+    z_count : z.fram l.words.list_length ≡ count + length i.layout.privates
+    z_count =
+        ap (λ f. f l.words.list_length) z_is
+        ∙ closed_count here space facts.apart task count base left.there.fram left.stands.list.list_length
+
+    old_stays : (a j : ℕ) → j < count → l.list.address ≤ a → a < 4 * (j + 1) + l.list.address → Stays a
+    old_stays a j h lo hi =
+        let apart = facts.apart in
+        record {
+          next_task = λ e. omega (arith, apart, e, lo);
+          gate = λ e. omega (arith, apart, e, lo);
+          list_length = λ e. omega (arith, apart, e, lo);
+          sent_base = λ e. omega (arith, apart, e, lo);
+          entries = λ from below. omega (arith, from, hi, h);
+        }
+
+    -- a pair of the list is an element with its copy, or a private scalar with its copy
+    data IsPair (q : CopyPair) : Type 0 where
+      of_element : (e : Element) → Contains left.listed e → q.home ≡ element_address here e → q.copy ≡ copy_address here e → IsPair q
+      of_private : (r : PrivateScalar) → Contains i.layout.privates r → q.home ≡ r.home → q.copy ≡ r.copy → IsPair q
+
+    old_home : (j : ℕ) (e : Element) → slice_get left.listed j ≡ Some e → z.fram (4 * j + l.list.address) ≡ element_address here e
+    old_home j e h =
+        let below = slice_get_within left.listed j e h in
+        z_there (4 * j + l.list.address) (old_stays (4 * j + l.list.address) j below (omega arith) (omega arith)) ∙ left.stands.list.homes j e h
+
+    old_copy : (j : ℕ) (e : Element) → slice_get left.listed j ≡ Some e → z.fram (4 * j + l.list.address + 2) ≡ copy_address here e
+    old_copy j e h =
+        let below = slice_get_within left.listed j e h in
+        z_there (4 * j + l.list.address + 2) (old_stays (4 * j + l.list.address + 2) j below (omega arith) (omega arith)) ∙ left.stands.list.copies j e h
+
+    new_home : (j : ℕ) (r : PrivateScalar) → slice_get i.layout.privates j ≡ Some r → z.fram (4 * (count + j) + l.list.address) ≡ r.home
+    new_home j r h =
+        ap (λ f. f (4 * (count + j) + l.list.address)) z_is
+        ∙ closed_home here space facts.apart task count base left.there.fram left.stands.list.list_length j r h
+
+    new_copy : (j : ℕ) (r : PrivateScalar) → slice_get i.layout.privates j ≡ Some r → z.fram (4 * (count + j) + l.list.address + 2) ≡ r.copy
+    new_copy j r h =
+        ap (λ f. f (4 * (count + j) + l.list.address + 2)) z_is
+        ∙ closed_copy here space facts.apart task count base left.there.fram left.stands.list.list_length j r h
+
+    entry_pair : (j : ℕ) → j < count + length i.layout.privates → (q : CopyPair) → q ≡ entry_at l.list.address z.fram j → IsPair q
+    entry_pair j h q is =
+        ⊎_elim {C = IsPair q}
+        (λ c. of_element c.0 (contains_at left.listed j c.0 c.2) (ap (λ r. r.home) is ∙ old_home j c.0 c.2) (ap (λ r. r.copy) is ∙ old_copy j c.0 c.2))
+        (λ c.
+        let past = c.0 in
+        let n = j - count in
+        let same : count + n ≡ j = omega (arith, past) in
+        let r = item_at i.layout.privates n (omega (arith, past, h)) in
+        of_private r.0 (contains_at i.layout.privates n r.0 r.1)
+        (ap (λ r. r.home) is ∙ ap (λ k. z.fram (4 * k + l.list.address)) (sym same) ∙ new_home n r.0 r.1)
+        (ap (λ r. r.copy) is ∙ ap (λ k. z.fram (4 * k + l.list.address + 2)) (sym same) ∙ new_copy n r.0 r.1))
+        (slice_get_cases left.listed j).1
+
+    abbrev Listed : CopyPair → Type 0
+    Listed q = IsAmong (listed sites.runtime z.fram) q
+
+    pair_of_list : (q : CopyPair) → Listed q → IsPair q
+    pair_of_list q h =
+        let r = among_entries (z.fram l.words.list_length) l.list.address z.fram q h in
+        let below = r.1 in
+        let counted = z_count in
+        entry_pair r.0 (omega (arith, below, counted)) q r.2
+
+    list_has : (j : ℕ) → j < count + length i.layout.privates → Listed (entry_at l.list.address z.fram j)
+    list_has j h = let counted = z_count in entry_among (z.fram l.words.list_length) l.list.address j z.fram (omega (arith, h, counted))
+
+    at_of : {X : Type 0} (xs : List X) (e : X) (h : Contains xs e) → slice_get xs h.0 ≡ Some e
+    at_of xs e h = slice_get-get_or xs h.0 e h.1 ∙ ap Some h.2
+
+    element_listed : (e : Element) → Contains left.listed e → (q : CopyPair) × Listed q × (q.home ≡ element_address here e)
+    element_listed e h =
+        let below = h.1 in
+        (entry_at l.list.address z.fram h.0, list_has h.0 (omega (arith, below)), old_home h.0 e (at_of left.listed e h))
+
+    private_listed : (r : PrivateScalar) → Contains i.layout.privates r → (q : CopyPair) × Listed q × (q.home ≡ r.home)
+    private_listed r h =
+        let below = h.1 in
+        (entry_at l.list.address z.fram (count + h.0), list_has (count + h.0) (omega (arith, below)), new_home h.0 r (at_of i.layout.privates r h))
+
+    -- ---- the next state
+
+    word_of_own : (e : Element) → (h : IsElement here e) → OwnWord here left.there.fram e
+        → word_at m.variables (Shared e.array) e.index < 0x10000
+    word_of_own e h (marked k q is) =
+        let words = put_words y.fram l.words.gate 1 u.undecided.is_open.words (omega arith) in
+        subst (λ n. n < 0x10000) (spot_stays (copy e) k ∙ sym is ∙ left.stands.variables.elements e h) (words (copy_address here e))
+    word_of_own e h (unmarked n is) =
+        let words = put_words y.fram l.words.gate 1 u.undecided.is_open.words (omega arith) in
+        subst (λ n. n < 0x10000) (spot_stays (element e) h ∙ sym is ∙ left.stands.variables.elements e h) (words (element_address here e))
+
+    past_small : (row : List ℕ) (n : ℕ) → length row ≤ n → get_or row n 0 < 0x10000
+    past_small row n h = let e = get_or_past row n 0 h in omega (arith, e)
+
+    row_of : (v n : ℕ) (place : VariablePlace) → slice_get l.variables v ≡ Some place → n < place_length place → get_or
+        (get_or m.variables.shared v []) n 0 < 0x10000
+    row_of v n (Scalar home copied) e h =
+        let words = put_words y.fram l.words.gate 1 u.undecided.is_open.words (omega arith) in
+        let first : n ≡ 0 = omega (arith, h) in
+        subst (λ k. get_or (get_or m.variables.shared v []) k 0 < 0x10000) (sym first)
+        (subst (λ w. w < 0x10000) (scalar_next v (subst IsScalarPlace (sym e) tt)) (words (address_of here v)))
+    row_of v n (Array elements len copies) e h =
+        let x : Element = record { array = v; index = n } in
+        let is : IsElement here x = record { elements = elements; length = len; copies = copies; is_array = record { place = e }; below = h } in
+        word_of_own x is (own_word_of here left.there.fram x is)
+
+    same_count : length m.variables.shared ≡ length l.variables
+    same_count = rows ∙ rows_count p.shared s.shared st.undecided.is_open.is_state ∙ sym given.variables.count
+
+    row_small : (v n : ℕ) → get_or (get_or m.variables.shared v []) n 0 < 0x10000
+    row_small v n =
+        ⊎_elim {C = get_or (get_or m.variables.shared v []) n 0 < 0x10000}
+        (λ c.
+        let at : slice_get l.variables v ≡ Some c.0 = c.2 in
+        let len = left.stands.variables.lengths v c.0 at in
+        ⊎_elim {C = get_or (get_or m.variables.shared v []) n 0 < 0x10000}
+        (λ below. row_of v n c.0 at below)
+        (λ above. past_small (get_or m.variables.shared v []) n (omega (arith, len, above)))
+        (cases_lt n (place_length c.0)))
+        (λ c.
+        let past = c.0 in
+        let none : get_or m.variables.shared v [] ≡ [] = get_or_past m.variables.shared v [] (let e = same_count in omega (arith, e, past)) in
+        subst (λ row. get_or row n 0 < 0x10000) (sym none) (omega arith))
+        (slice_get_cases l.variables v).1
+
+    row_length : (v : ℕ) (d : SharedDeclaration) → slice_get p.shared v ≡ Some d → length (get_or m.variables.shared v []) ≡ length (initial_words d.extent)
+    row_length v d e =
+        let below = slice_get_within p.shared v d e in
+        let count = given.variables.count in
+        let place = item_at l.variables v (omega (arith, below, count)) in
+        left.stands.variables.lengths v place.0 place.1 ∙ declared_length (is_written p.tasks v) d.extent place.0 (given.variables.each v d place.0 e place.1)
+
+    next_is_state : are_rows p.shared m.variables.shared ≡ true
+    next_is_state = rows_are p.shared m.variables.shared (same_count ∙ given.variables.count) row_length row_small
+
+    -- ---- the world is decided
+
+    shared_off_gate : (a : ℕ) → IsSharedWord sites a → a ≡ l.words.gate → ⊥
+    shared_off_gate a h e = let apart = given.apart in omega (arith, apart, h, e)
+
+    home_is : (a : ℕ) → IsSharedWord sites a → z.fram a ≡ view.word s a
+    home_is a h =
+        z_before a (shared_off_gate a h)
+        ∙ ⊎_elim {C = y.fram a ≡ view.word s a} (λ e. absurd (cc e)) (λ e. e) (u.undecided.shared a h)
+
+    is_home : (q : CopyPair) → IsPair q → IsSharedWord sites q.home
+    is_home q (of_element e h home copied) =
+        subst (IsSharedWord sites) (sym home)
+        (given.words.is_shared e.array e.index (element_address here e)
+        (element_word l code i.layout facts.privates e (of_copied e (listed_copied e h))))
+    is_home q (of_private r h home copied) =
+        subst (IsSharedWord sites) (sym home)
+        (given.words.is_shared r.number 0 r.home (home_word l r.number r.home r.copy (facts.privates.only r h).1.place))
+
+    is_copy : (q : CopyPair) → IsPair q → IsCopyWord sites q.copy
+    is_copy q (of_element e h home copied) = subst (IsCopyWord sites) (sym copied) (facts.copies e (listed_copied e h))
+    is_copy q (of_private r h home copied) = subst (IsCopyWord sites) (sym copied) (private_copy p l given s.task i r h)
+
+    is_copied : (q : CopyPair) → IsPair q → z.fram q.copy ≡ view.word next q.home
+    is_copied q (of_element e h home copied) = ap z.fram copied ∙ listed_next e h ∙ ap (view.word next) (sym home)
+    is_copied q (of_private r h home copied) = ap z.fram copied ∙ private_next r h ∙ ap (view.word next) (sym home)
+
+    abbrev Unlisted : ℕ → Type 0
+    Unlisted a = (q : CopyPair) → Listed q → q.home ≡ a → ⊥
+
+    element_kept : (e : Element) (h : IsElement here e) → OwnWord here left.there.fram e
+        → Unlisted (element_address here e)
+        → z.fram (element_address here e) ≡ view.word next (element_address here e)
+    element_kept e h (marked c k is) none = let q = element_listed e (left.stands.list.only_marked e c k) in absurd (none q.0 q.1 q.2)
+    element_kept e h (unmarked n is) none = spot_stays (element e) h ∙ sym is ∙ left.stands.variables.elements e h ∙ sym (word_of_element e h)
+
+    word_kept : (v n a : ℕ) → IsWordOf l v n a → IsTaskWord l code i.layout facts.privates v n a → Unlisted a
+        → z.fram a ≡ view.word next a
+    word_kept v n a h (left_there kind first at) none =
+        let word : view.word next a ≡ word_at m.variables (Shared v) 0 = next_word v n a h ∙ ap (word_at m.variables (Shared v)) first in
+        ap z.fram (sym at) ∙ scalar_next v kind ∙ sym word
+    word_kept v n a h (private r c home) none = let q = private_listed r c in absurd (none q.0 q.1 (q.2 ∙ sym home))
+    word_kept v n a h (an_element e is array index at) none =
+        let kept = element_kept e is (own_word_of here left.there.fram e is) (λ q k home. none q k (home ∙ sym at)) in
+        ap z.fram at ∙ kept ∙ ap (view.word next) (sym at)
+
+    others_kept : (a : ℕ) → IsSharedWord sites a → Unlisted a → z.fram a ≡ view.word next a
+    others_kept a h none =
+        let w = given.words.each a h in
+        word_kept w.0 w.1 a w.2 (task_word l code i.layout facts.privates w.0 w.1 a w.2) none
+
+    base_kept : z.fram l.words.base ≡ base
+    base_kept =
+        let apart = facts.apart in
+        z_there l.words.base (record {
+          next_task = λ e. omega (arith, apart, e);
+          gate = λ e. omega (arith, apart, e);
+          list_length = λ e. omega (arith, apart, e);
+          sent_base = λ e. omega (arith, apart, e);
+          entries = λ lo hi. omega (arith, apart, lo);
+        })
+
+    base_is : z.fram l.words.base ≡ length s.emitted % 0x10000
+    base_is = let apart = given.apart in z_before l.words.base (λ e. omega (arith, apart, e)) ∙ u.undecided.is_open.base
+
+    sent_is : z.fram l.words.sent_base ≡ base
+    sent_is =
+        ap (λ f. f l.words.sent_base) z_is
+        ∙ closed_sent here space facts.apart task count base left.there.fram left.stands.list.list_length
+
+    next_is : z.fram l.words.next_task ≡ task % 65536
+    next_is =
+        ap (λ f. f l.words.next_task) z_is
+        ∙ closed_next here space facts.apart task count base left.there.fram left.stands.list.list_length
+
+    emit_count_is : z.fram l.words.emit_count ≡ length m.emitted
+    emit_count_is =
+        let apart = facts.apart in
+        z_there l.words.emit_count (record {
+          next_task = λ e. omega (arith, apart, e);
+          gate = λ e. omega (arith, apart, e);
+          list_length = λ e. omega (arith, apart, e);
+          sent_base = λ e. omega (arith, apart, e);
+          entries = λ lo hi. omega (arith, apart, lo);
+        }) ∙ left.stands.emitted.emit_count
+
+    few_emits : length m.emitted ≤ emits_of code
+    few_emits =
+        let apart = given.apart in
+        let none = st.emit_count in
+        let most = stays_within SafeStore l.words.emit_count (emits_of code) (λ w q. q.emit_count refl) before x.fram safe_before (omega (arith, none)) in
+        let there = ap (λ f. f l.words.emit_count) (world_fram before x) in
+        let here = z_before l.words.emit_count (λ e. omega (arith, apart, e)) in
+        let counted = emit_count_is in
+        omega (arith, most, there, here, counted)
+
+    buffer_is : (n : ℕ) → n < length m.emitted → z.fram (l.emits.address + 2 * n) ≡ get_or m.emitted n 0
+    buffer_is n h =
+        let same : l.emits.address + 2 * n ≡ 2 * n + l.emits.address = omega arith in
+        z_there (l.emits.address + 2 * n) (high_stays (l.emits.address + 2 * n) (omega arith)) ∙ ap left.there.fram same ∙ left.stands.emitted.emits n h
+
+    pub decided_with : DecidedWith sites view s next (listed sites.runtime z.fram) m.emitted 0 z
+    decided_with =
+        let o = u.undecided.is_open in
+        let apart = given.apart in
+        let few_tasks = given.runnable.few_tasks in
+        record {
+          is_state = o.is_state;
+          next_is_state = next_is_state;
+          is_task = is_task;
+          next_is_task = next_task;
+          words = put_words y.fram l.words.gate 1 o.words (omega arith);
+          gate = put_same y.fram l.words.gate 1;
+          next_task = let e = next_is in omega (arith, e, next_task, few_tasks);
+          pairs_listed = refl;
+          within_list = subst (λ b. z.fram l.words.list_length ≤ list_of p.shared b) (sym (body_is p l given s.task i))
+              (let e = z_count in let f = few in omega (arith, e, f));
+          homes = λ q h. is_home q (pair_of_list q h);
+          copies = λ q h. is_copy q (pair_of_list q h);
+          copied = λ q h. is_copied q (pair_of_list q h);
+          either = λ q h. inl (home_is q.home (is_home q (pair_of_list q h)));
+          others = others_kept;
+          current_task = inl (z_before l.words.current_task (λ e. omega (arith, apart, e)) ∙ o.current_task);
+          emitted = refl;
+          emit_count = emit_count_is;
+          within_emits = subst (λ b. length m.emitted ≤ emits_of b) (sym (body_is p l given s.task i)) few_emits;
+          buffer = buffer_is;
+          sent_base = sent_is ∙ sym base_kept ∙ base_is;
+          base = inl (base_kept ∙ sym sent_is);
+          accepted = record { count = 0; at_least = omega arith; at_most = omega arith; is = o.accepted ∙ sym (append-nil s.emitted) };
+          versions = λ n h.
+              let most = o.versions n h in
+              let a = z_before (l.versions.address + 2 * n) (λ e. omega (arith, apart, e)) in
+              let b = z_before l.words.version (λ e. omega (arith, apart, e)) in
+              omega (arith, most, a, b);
+        }
+
+    pub decided : DecidedFrom sites view s next z
+    decided = record { emits = m.emitted; decided = decided_with }

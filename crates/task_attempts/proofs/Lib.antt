@@ -1,0 +1,14 @@
+pub mod Given
+pub mod Rows
+pub mod Emits
+pub mod StoredWords
+pub mod Quiet
+pub mod Entries
+pub mod Listed
+pub mod Tasks
+pub mod Stores
+pub mod Words
+pub mod Starts
+pub mod Decided
+pub mod Contracts
+pub mod Theorems

@@ -1,0 +1,113 @@
+-- Stores that an undecided world bears.
+use Rattle.std.proofs.Common.{◌≡◌, ℕ, ◌+◌, ◌*◌, ◌<◌, ◌≤◌, List, [], ◌∷◌, ◌++◌, refl, sym, ◌∙◌, subst, ⊎_elim, inl, inr, arith}
+use Rattle.fram_board.specs.Effects.{Effect, Store, Take, Send}
+use Rattle.machine_effects.specs.World.{World, put, world_after_one, world_after, fram_after, EachStore}
+use Rattle.crash_rules.specs.Model.{HoldsThroughout}
+use Rattle.crash_rules.proofs.Observed.{put_other}
+use Rattle.stands_for.specs.Layout.{ProgramPlaces, StateView, IsSharedWord}
+use Rattle.stands_for.specs.StandsFor.{VersionsWithin, UndecidedAt}
+use Rattle.stands_for.proofs.Keeps.{put_either, put_words}
+use Rattle.lower.specs.Agreement.{TakesAndStores}
+
+-- a store of a word to none of the words that an undecided world speaks of, and to a version word of no more than VER, which is this number
+pub record IsQuiet (l : ProgramPlaces) (ver a w : ℕ) : Type 0 where
+  pub is_word : w < 0x10000
+  pub not_shared : IsSharedWord l a → ⊥
+  pub current_task : a ≡ l.runtime.words.current_task → ⊥
+  pub gate : a ≡ l.runtime.words.gate → ⊥
+  pub base : a ≡ l.runtime.words.base → ⊥
+  pub version : a ≡ l.runtime.words.version → ⊥
+  pub versions : (i : ℕ) → i < l.runtime.version_count → a ≡ l.runtime.versions + 2 * i → w ≤ ver
+
+module _ {St : Type 0} (l : ProgramPlaces) (v : StateView St) (s : St) (ver : ℕ) where
+  -- a world that is undecided, with VER
+  pub record IsQuietAt (x : World) : Type 0 where
+    pub undecided : UndecidedAt l v s x
+    pub version : x.fram l.runtime.words.version ≡ ver
+
+  versions_keep : (x : World) (a w : ℕ) → IsQuiet l ver a w → IsQuietAt x → VersionsWithin l (put x.fram a w)
+  versions_keep x a w q u i h =
+      let m = l.runtime.versions + 2 * i in
+      let top : put x.fram a w l.runtime.words.version ≡ ver = put_other x.fram a w l.runtime.words.version (λ e. q.version (sym e)) ∙ u.version in
+      let was = u.undecided.is_open.versions i h in
+      let same = u.version in
+      ⊎_elim {C = put x.fram a w m ≤ put x.fram a w l.runtime.words.version}
+      (λ k. let e = k.1 in let most = q.versions i h (sym k.0) in omega (arith, e, most, top))
+      (λ k. let e = k.1 in omega (arith, e, was, same, top))
+      (put_either x.fram a w m)
+
+  -- a quiet store keeps it so
+  pub quiet_keeps : (x : World) (a w : ℕ) → IsQuiet l ver a w → IsQuietAt x → IsQuietAt (world_after_one (Store a w) x)
+  quiet_keeps x a w q u =
+      let o = u.undecided.is_open in
+      record {
+        undecided = record {
+          is_open = record {
+            is_state = o.is_state;
+            is_task = o.is_task;
+            words = put_words x.fram a w o.words q.is_word;
+            current_task = put_other x.fram a w l.runtime.words.current_task (λ e. q.current_task (sym e)) ∙ o.current_task;
+            gate = put_other x.fram a w l.runtime.words.gate (λ e. q.gate (sym e)) ∙ o.gate;
+            accepted = o.accepted;
+            base = put_other x.fram a w l.runtime.words.base (λ e. q.base (sym e)) ∙ o.base;
+            versions = versions_keep x a w q u;
+          };
+          shared = λ y h. ⊎_elim (λ f. inl f) (λ e. inr (put_other x.fram a w y (λ k. q.not_shared (subst (IsSharedWord l) k h)) ∙ e)) (u.undecided.shared y h);
+        };
+        version = put_other x.fram a w l.runtime.words.version (λ e. q.version (sym e)) ∙ u.version;
+      }
+
+  -- quiet effects keep it so throughout
+  pub quiet_through : (es : List Effect) (x : World) → TakesAndStores (IsQuiet l ver) es → IsQuietAt x → HoldsThroughout (UndecidedAt l v s) es x
+  quiet_through [] x h u = u.undecided
+  quiet_through (Store a w ∷ es) x h u = (u.undecided, quiet_through es (world_after_one (Store a w) x) h.1 (quiet_keeps x a w h.0 u))
+  quiet_through (Take r ∷ es) x h u = (u.undecided, quiet_through es x h u)
+  quiet_through (Send n w ∷ es) x h u = absurd h
+
+  pub quiet_behind : (es : List Effect) (x : World) → TakesAndStores (IsQuiet l ver) es → IsQuietAt x → IsQuietAt (world_after es x)
+  quiet_behind [] x h u = u
+  quiet_behind (Store a w ∷ es) x h u = quiet_behind es (world_after_one (Store a w) x) h.1 (quiet_keeps x a w h.0 u)
+  quiet_behind (Take r ∷ es) x h u = quiet_behind es x h u
+  quiet_behind (Send n w ∷ es) x h u = absurd h
+
+-- effects that send nothing accept nothing
+pub accepts_none : (P : ℕ → ℕ → Type 0) (es : List Effect) (x : World) → TakesAndStores P es → (world_after es x).accepted ≡ x.accepted
+accepts_none P [] x h = refl
+accepts_none P (Store a w ∷ es) x h = accepts_none P es (world_after_one (Store a w) x) h.1
+accepts_none P (Take r ∷ es) x h = accepts_none P es x h
+accepts_none P (Send n w ∷ es) x h = absurd h
+
+-- a fact of each store, of one part behind another
+pub stores_both : (P : ℕ → ℕ → Type 0) (es fs : List Effect) → TakesAndStores P es → TakesAndStores P fs → TakesAndStores P (es ++ fs)
+stores_both P [] fs h k = k
+stores_both P (Store a w ∷ es) fs h k = (h.0, stores_both P es fs h.1 k)
+stores_both P (Take r ∷ es) fs h k = stores_both P es fs h k
+stores_both P (Send n w ∷ es) fs h k = absurd h
+
+-- what follows of each store that is of a word
+pub stores_as : (P Q : ℕ → ℕ → Type 0) → ((a w : ℕ) → P a w → w < 0x10000 → Q a w) → (es : List Effect) → TakesAndStores P es
+    → EachStore (λ a w. w < 0x10000) es → TakesAndStores Q es
+stores_as P Q f [] h k = tt
+stores_as P Q f (Store a w ∷ es) h k = (f a w h.0 k.0, stores_as P Q f es h.1 k.1)
+stores_as P Q f (Take r ∷ es) h k = stores_as P Q f es h k.1
+stores_as P Q f (Send n w ∷ es) h k = absurd h
+
+-- the same said of each store alone
+pub stores_each : (P Q : ℕ → ℕ → Type 0) → ((a w : ℕ) → P a w → Q a w) → (es : List Effect) → TakesAndStores P es → EachStore Q es
+stores_each P Q f [] h = tt
+stores_each P Q f (Store a w ∷ es) h = (f a w h.0, stores_each P Q f es h.1)
+stores_each P Q f (Take r ∷ es) h = (tt, stores_each P Q f es h)
+stores_each P Q f (Send n w ∷ es) h = absurd h
+
+-- stores of no more than a number to an address leave no more there
+pub stays_within : (P : ℕ → ℕ → Type 0) (address most : ℕ) → ((w : ℕ) → P address w → w ≤ most) → (es : List Effect) (f : ℕ → ℕ) → TakesAndStores P es
+    → f address ≤ most → fram_after es f address ≤ most
+stays_within P address most b [] f h k = k
+stays_within P address most b (Store a w ∷ es) f h k =
+    stays_within P address most b es (put f a w) h.1
+    (⊎_elim {C = put f a w address ≤ most}
+    (λ q. let e = q.1 in let l = b w (subst (λ z. P z w) (sym q.0) h.0) in omega (arith, e, l))
+    (λ q. let e = q.1 in omega (arith, e, k))
+    (put_either f a w address))
+stays_within P address most b (Take r ∷ es) f h k = stays_within P address most b es f h k
+stays_within P address most b (Send n w ∷ es) f h k = absurd h

@@ -1,0 +1,125 @@
+-- Rows of words: statements keep how many there are, and rows of the declared lengths are a state's.
+use Rattle.std.proofs.Common.{◌≡◌, ℕ, zero, suc, ◌+◌, ◌-◌, ◌<◌, List, [], ◌∷◌, ◌++◌, length, Option, Some, None, Bool, true, false, get_or, refl, sym, ap, ◌∙◌, arith, eq-eqb, if◌then◌else◌}
+use Rattle.std.specs.Prelude.{◌&&◌, ◌==◌, nat_lt, slice_get}
+use Rattle.std.proofs.Math.ListN.{length-set}
+use Rattle.std.proofs.lemmas.Bool.{lt-ltb}
+use Rattle.std.proofs.lemmas.List.{length-replicate}
+use Rattle.task_ast.specs.Tree as t
+use Rattle.task_ast.specs.Paths.{CheckedStatement, CheckedChoice, CheckedBlock}
+use Rattle.task_ast.specs.declared.Extent.{Extent}
+use Rattle.task_ast.specs.declared.Extent.TheVariants as extent
+use Rattle.task_ast.specs.declared.SharedDeclaration.{SharedDeclaration}
+use Rattle.task_ast.specs.declared.names.Variable.{Variable}
+use Rattle.task_ast.specs.declared.names.Variable.TheVariants.{Shared, Local}
+use Rattle.source_values.specs.Values.{value_of, holds}
+use Rattle.source_values.specs.Statements.{Attempt, Outcome, goes_on, to_task, short, and_then, if_value, assigned, turns, run_statement, run_choice, run_block}
+use Rattle.source_values.specs.Runs.{initial_words}
+use Rattle.privatise.specs.declared.place.VariablePlace.{VariablePlace}
+use Rattle.privatise.specs.declared.place.VariablePlace.TheVariants.{Scalar, Array}
+use Rattle.privatise.specs.Layouts.{IsPlaceOf}
+use Rattle.lower.specs.Agreement.{place_length}
+use Rattle.compiled_model.specs.View.{are_words, are_rows}
+
+-- where an outcome has variables, there are so many shared ones
+abbrev pub HasRows : ℕ → Outcome → Type 0
+HasRows n (goes_on s) = length s.variables.shared ≡ n
+HasRows n (to_task task s) = length s.variables.shared ≡ n
+HasRows n short = Unit {0}
+
+rows_then : (n : ℕ) (o : Outcome) (next : Attempt → Outcome) → HasRows n o → ((s : Attempt) → length s.variables.shared ≡ n → HasRows n (next s))
+    → HasRows n (and_then o next)
+rows_then n (goes_on s) next h f = f s h
+rows_then n (to_task task s) next h f = h
+rows_then n short next h f = tt
+
+rows_value : (n : ℕ) (o : Option (ℕ × List ℕ)) (m : Attempt) (next : ℕ → Attempt → Outcome)
+    → ((v : ℕ) (left : List ℕ) → HasRows n (next v (record m { left = left }))) → HasRows n (if_value o m next)
+rows_value n None m next f = tt
+rows_value n (Some x) m next f = f x.0 x.1
+
+rows_if : (n : ℕ) (b : Bool) (o q : Outcome) → HasRows n o → HasRows n q → HasRows n (if b then o else q)
+rows_if n true o q h k = h
+rows_if n false o q h k = k
+
+rows_assigned : (m : Attempt) (x : Variable) (i w n : ℕ) → length m.variables.shared ≡ n → length (assigned m x i w).variables.shared ≡ n
+rows_assigned m (Shared v) i w n h = length-set m.variables.shared v _ ∙ h
+rows_assigned m (Local k) i w n h = h
+
+rows_turns : (n : ℕ) (x : Variable) (run : Attempt → Outcome) → ((m : Attempt) → length m.variables.shared ≡ n → HasRows n (run m))
+    → (j k : ℕ) (m : Attempt) → length m.variables.shared ≡ n → HasRows n (turns j k x run m)
+rows_turns n x run f zero k m h = rows_assigned m x 0 k n h
+rows_turns n x run f (suc j) k m h =
+    rows_then n (run (assigned m x 0 k)) (turns j (k + 1) x run) (f (assigned m x 0 k) (rows_assigned m x 0 k n h)) (λ s g. rows_turns n x run f j (k + 1) s g)
+
+mutual
+  statement_rows : (s : CheckedStatement) (m : Attempt) (n : ℕ) → length m.variables.shared ≡ n → HasRows n (run_statement s m)
+  statement_rows (t.declare of x None) m n h = h
+  statement_rows (t.declare of x (Some e)) m n h =
+      rows_value n (value_of e m.variables m.left) m (λ w s. goes_on (assigned s x.variable 0 w))
+      (λ v left. rows_assigned (record m { left = left }) x.variable 0 v n h)
+  statement_rows (t.assign x e) m n h =
+      rows_value n (value_of e m.variables m.left) m (λ w s. goes_on (assigned s x.variable 0 w))
+      (λ v left. rows_assigned (record m { left = left }) x.variable 0 v n h)
+  statement_rows (t.store x index e) m n h =
+      rows_value n (value_of index m.variables m.left) m (λ i s. if_value (value_of e s.variables s.left) s (λ w s. goes_on (assigned s x.variable i w)))
+      (λ i left. rows_value n (value_of e m.variables left) (record m { left = left }) (λ w s. goes_on (assigned s x.variable i w))
+      (λ v more. rows_assigned (record m { left = more }) x.variable i v n h))
+  statement_rows (t.choose choice) m n h = choice_rows choice m n h
+  statement_rows (t.loop x from tested below stepped body) m n h = rows_turns n x.variable (run_block body) (λ u g. block_rows body u n g)
+      (below - from) from m h
+  statement_rows (t.emit e) m n h =
+      rows_value n (value_of e m.variables m.left) m (λ w s. goes_on (record s { emitted = s.emitted ++ w ∷ [] })) (λ v left. h)
+  statement_rows (t.transition task) m n h = h
+
+  choice_rows : (c : CheckedChoice) (m : Attempt) (n : ℕ) → length m.variables.shared ≡ n → HasRows n (run_choice c m)
+  choice_rows t.nothing m n h = h
+  choice_rows (t.otherwise block) m n h = block_rows block m n h
+  choice_rows (t.test e block more) m n h =
+      rows_value n (value_of e m.variables m.left) m (λ w s. if holds w then run_block block s else run_choice more s)
+      (λ v left. rows_if n (holds v) (run_block block (record m { left = left })) (run_choice more (record m { left = left }))
+      (block_rows block (record m { left = left }) n h) (choice_rows more (record m { left = left }) n h))
+
+  -- statements keep how many shared variables there are
+  pub block_rows : (b : CheckedBlock) (m : Attempt) (n : ℕ) → length m.variables.shared ≡ n → HasRows n (run_block b m)
+  block_rows t.end m n h = h
+  block_rows (t.step s more) m n h = rows_then n (run_statement s m) (run_block more) (statement_rows s m n h) (λ u g. block_rows more u n g)
+
+both : (a b : Bool) → a ≡ true → b ≡ true → (a && b) ≡ true
+both a b h k = ap (λ c. c && b) h ∙ k
+
+words_are : (ws : List ℕ) → ((i : ℕ) → get_or ws i 0 < 0x10000) → are_words ws ≡ true
+words_are [] h = refl
+words_are (w ∷ ws) h = both (nat_lt w 0x10000) (are_words ws) (lt-ltb w 0x10000 (h 0)) (words_are ws (λ i. h (suc i)))
+
+-- rows of words with the declared lengths
+pub rows_are : (ds : List SharedDeclaration) (rows : List (List ℕ)) → length rows ≡ length ds
+    → ((v : ℕ) (d : SharedDeclaration) → slice_get ds v ≡ Some d → length (get_or rows v []) ≡ length (initial_words d.extent))
+    → ((v i : ℕ) → get_or (get_or rows v []) i 0 < 0x10000) → are_rows ds rows ≡ true
+rows_are [] [] e h k = refl
+rows_are [] (row ∷ rows) e h k = absurd (omega (arith, e))
+rows_are (d ∷ ds) [] e h k = absurd (omega (arith, e))
+rows_are (d ∷ ds) (row ∷ rows) e h k =
+    both (length row == length (initial_words d.extent)) (are_words row && are_rows ds rows)
+    (eq-eqb (length row) (length (initial_words d.extent)) (h 0 d refl))
+    (both (are_words row) (are_rows ds rows) (words_are row (k 0)) (rows_are ds rows (omega (arith, e)) (λ v. h (suc v)) (λ v. k (suc v))))
+
+second : (a b : Bool) → (a && b) ≡ true → b ≡ true
+second true b h = h
+second false b h = cc h
+
+-- as many rows as declarations
+pub rows_count : (ds : List SharedDeclaration) (rows : List (List ℕ)) → are_rows ds rows ≡ true → length rows ≡ length ds
+rows_count [] [] h = refl
+rows_count [] (row ∷ rows) h = cc h
+rows_count (d ∷ ds) [] h = cc h
+rows_count (d ∷ ds) (row ∷ rows) h =
+    let k = rows_count ds rows (second (are_words row) (are_rows ds rows)
+    (second (length row == length (initial_words d.extent)) (are_words row && are_rows ds rows) h)) in
+    omega (arith, k)
+
+-- a place of the declared kind has the declared length
+pub declared_length : (written : Bool) (e : Extent) (place : VariablePlace) → IsPlaceOf written e place → place_length place ≡ length (initial_words e)
+declared_length written (extent.Scalar w) (Scalar home copy) h = refl
+declared_length written (extent.Array n) (Array elements len copies) h = h.0 ∙ sym (length-replicate n 0)
+declared_length written (extent.Scalar w) (Array elements len copies) h = absurd h
+declared_length written (extent.Array n) (Scalar home copy) h = absurd h

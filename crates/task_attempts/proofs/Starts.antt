@@ -1,0 +1,96 @@
+-- A started attempt stands for the source's attempt of the task.
+use Rattle.std.proofs.Common.{◌≡◌, ℕ, ◌+◌, ◌*◌, List, [], Some, Bool, true, false, refl, ap, ◌∙◌, ⊎_elim, arith}
+use Rattle.std.specs.Prelude.{Contains, slice_get}
+use Rattle.machine_effects.specs.World.{World}
+use Rattle.cost_bound.specs.Counts.{block_assigns, Code}
+use Rattle.source_values.specs.Values.{word_at}
+use Rattle.source_values.specs.Runs.{CheckedProgram, State, fresh_attempt}
+use Rattle.task_ast.specs.declared.names.Variable.TheVariants.{Shared}
+use Rattle.array_versions.specs.Behaviour.{started}
+use Rattle.privatise.specs.declared.place.VariablePlace.TheVariants.{Scalar}
+use Rattle.privatise.specs.LayoutValue.{LayoutValue}
+use Rattle.boot_runtime.specs.Entries.{task_entries}
+use Rattle.boot_runtime.specs.Listing.{privates_in}
+use Rattle.stands_for.specs.StandsFor.{StartedAt}
+use Rattle.lower.specs.Places.{address_of, Places}
+use Rattle.lower.specs.Spots.{Element, IsElement, IsCopied, version_address, element_address}
+use Rattle.lower.specs.Agreement.{own_word, StandsFor}
+use Rattle.compiled_model.specs.Places.{program_places}
+use Rattle.compiled_model.specs.View.{state_view}
+use Rattle.layout_facts.specs.Facts.{IsWordOf}
+use Rattle.task_attempts.proofs.Given.{IsGiven, IsTaskGiven}
+use Rattle.task_attempts.proofs.Tasks.{IsAt, places, body, task_given, among_privates}
+use Rattle.task_attempts.proofs.Stores.{scalar_place}
+use Rattle.task_attempts.proofs.Words.{OwnWord, marked, unmarked, own_word_of, element_word, home_word}
+
+module _ (p : CheckedProgram) (l : LayoutValue) (given : IsGiven p l) (s : State) (i : IsAt p l s.task) (x : World) (readings : List ℕ)
+    (st : StartedAt (program_places p l) (state_view p l) s (privates_in (task_entries l) s.task) x) where
+  -- the places that the task works on
+  abbrev here : Places
+  here = places p l given s.task i
+
+  -- its statements
+  abbrev code : Code
+  code = body p l given s.task i
+
+  -- what is known of it
+  abbrev facts : IsTaskGiven p l i.task i.layout
+  facts = task_given p l given s.task i
+
+  -- a shared word is the state's
+  pub home_stands : (v n a : ℕ) → IsWordOf l v n a → x.fram a ≡ word_at (fresh_attempt s.shared readings).variables (Shared v) n
+  home_stands v n a h =
+      ⊎_elim {C = x.fram a ≡ word_at (fresh_attempt s.shared readings).variables (Shared v) n}
+      (λ e. absurd (cc e))
+      (λ e. e ∙ given.words.is_word s.shared v n a h)
+      (st.undecided.shared a (given.words.is_shared v n a h))
+
+  scalar_stands : (v home copy : ℕ) (b : Bool) → slice_get l.variables v ≡ Some (Scalar home copy) → block_assigns v code ≡ b
+      → x.fram (address_of here v) ≡ word_at (fresh_attempt s.shared readings).variables (Shared v) 0
+  scalar_stands v home copy true e assigned =
+      let r = facts.privates in
+      let c : Contains i.layout.privates (record { number = v; home = home; copy = copy }) = r.each v home copy e assigned in
+      ap x.fram (r.assigned v home copy e assigned)
+      ∙ st.copies (record { home = home; copy = copy }) (among_privates p l given s.task i (record { number = v; home = home; copy = copy }) c)
+      ∙ given.words.is_word s.shared v 0 home (home_word l v home copy e)
+  scalar_stands v home copy false e left =
+      let r = facts.privates in
+      ap x.fram (r.left v home copy e left) ∙ home_stands v 0 home (home_word l v home copy e)
+
+  -- no element has a version word of this attempt
+  none_marked : (e : Element) → IsCopied here e
+      → x.fram (version_address here e) ≡ x.fram l.words.version → ⊥
+  none_marked e c h =
+      let v = facts.versions e c in
+      let below = st.versions v.number v.below in
+      let at : x.fram (version_address here e) ≡ x.fram (l.versions.address + 2 * v.number) = ap x.fram v.is in
+      omega (arith, h, below, at)
+
+  element_stands : (e : Element) → IsElement here e → OwnWord here x.fram e
+      → own_word here x.fram (slice_get l.variables e.array) e.index ≡ word_at (fresh_attempt s.shared readings).variables (Shared e.array) e.index
+  element_stands e h (marked c m is) = absurd (none_marked e c m)
+  element_stands e h (unmarked n is) =
+      is ∙ home_stands e.array e.index (element_address here e)
+      (element_word l code i.layout facts.privates e h)
+
+  pub attempt_stands : StandsFor here (fresh_attempt s.shared readings) [] (started x.fram readings)
+  attempt_stands = record {
+    variables = record {
+      words = λ v h. let q = scalar_place (slice_get l.variables v) h in scalar_stands v q.0 q.1 (block_assigns v code) q.2 refl;
+      elements = λ e h. element_stands e h (own_word_of here x.fram e h);
+      rows = λ v place e. (given.words.fit s.shared st.undecided.is_open.is_state v place e).0;
+      lengths = λ v place e. (given.words.fit s.shared st.undecided.is_open.is_state v place e).1;
+      locals = λ n v e. cc e;
+      local_count = refl;
+    };
+    emitted = record { emit_count = st.emit_count; emits = λ n h. absurd (omega (arith, h)) };
+    list = record {
+      are_listed = record { copied = λ n d h. absurd (omega (arith, h)); different = λ n m d a b. absurd (omega (arith, b)) };
+      list_length = st.list_length;
+      homes = λ n e h. cc h;
+      copies = λ n e h. cc h;
+      marked = λ e h. let k = h.1 in absurd (omega (arith, k));
+      only_marked = λ e c h. absurd (none_marked e c h);
+    };
+    readings = refl;
+  }

@@ -1,0 +1,157 @@
+-- From words a program of words stores words.
+use Rattle.std.proofs.Common.{◌≡◌, ℕ, zero, suc, ◌+◌, ◌-◌, ◌*◌, ◌%◌, ◌==◌, ◌<◌, List, [], ◌∷◌, Option, Some, None, Bool, true, false, nat_lt, refl, arith, if◌then◌else◌}
+use Rattle.std.specs.List.{AllByRecursion}
+use Rattle.fram_board.specs.Effects.{Effect, Store}
+use Rattle.machine_effects.specs.World.{EachStore}
+use Rattle.array_versions.specs.declared.program.ArrayPlace.{ArrayPlace}
+use Rattle.array_versions.specs.declared.program.ListPlace.{ListPlace}
+use Rattle.array_versions.specs.Program.{Step, Program, number, load, keep, local, set_local, unary, binary, shift, element, emit_word, list_entry, versioned_read, versioned_write, sense, choose, repeat, store_number, move_word, jump, nothing, step}
+use Rattle.array_versions.specs.Behaviour.{WordState, End, GoesOn, Jumps, Short, Strays, Broken, Behaviour, behaves, goes_on, strays, broken, on_end, then_on, is_place, at_place, with_top, with_stack, pushed, stored, with_local, local_pushed, reading_pushed, entry_stored, behind_effects, own_element, first_stored, own_stored, chosen, turns, step_behaviour, behaviour}
+use Rattle.array_versions.specs.Form.{StepOfWords, OfWords}
+use Rattle.array_versions.specs.Laws.{IsStateOfWords, EndsInWords}
+use Rattle.array_versions.proofs.Words.{put_words, local_words, place_high, step_words, words}
+use Rattle.crash_rules.proofs.Lists.{each_both}
+
+-- the word of each store is a word
+abbrev pub StoresWords : List Effect → Type 0
+StoresWords = EachStore (λ a w. w < 0x10000)
+
+abbrev AreWords : List ℕ → Type 0
+AreWords vs = AllByRecursion (λ v. v < 0x10000) vs
+
+stack_words : (s : WordState) (vs : List ℕ) → IsStateOfWords s → AreWords vs → IsStateOfWords (with_stack vs s)
+stack_words s vs w h = record { stack = h; locals = w.locals; fram = w.fram; readings = w.readings }
+
+end_stores : (e : End) (next : WordState → Behaviour) → EndsInWords e → ((t : WordState) → IsStateOfWords t → StoresWords (next t).effects) → StoresWords
+    (on_end e next).effects
+end_stores (GoesOn s) next h k = k s h
+end_stores (Jumps to s) next h k = tt
+end_stores Short next h k = tt
+end_stores Strays next h k = tt
+end_stores Broken next h k = tt
+
+then_stores : (b : Behaviour) (next : WordState → Behaviour) → StoresWords b.effects → EndsInWords b.end →
+    ((t : WordState) → IsStateOfWords t → StoresWords (next t).effects)
+    → StoresWords (then_on b next).effects
+then_stores b next h e k = each_both (λ a w. w < 0x10000) b.effects (on_end b.end next).effects h (end_stores b.end next e k)
+
+guarded : (c : Bool) (b : Behaviour) → (c ≡ true → StoresWords b.effects) → StoresWords (if c then b else strays).effects
+guarded true b h = h refl
+guarded false b h = tt
+
+top_stores : (vs : List ℕ) (next : ℕ → List ℕ → Behaviour) → AreWords vs →
+    ((v : ℕ) (us : List ℕ) → v < 0x10000 → AreWords us → StoresWords (next v us).effects) → StoresWords (with_top vs next).effects
+top_stores [] next w h = tt
+top_stores (v ∷ vs) next w h = h v vs w.0 w.1
+
+local_stores : (o : Option ℕ) (s : WordState) → StoresWords (local_pushed o s).effects
+local_stores None s = tt
+local_stores (Some v) s = tt
+
+reading_stores : (rs : List ℕ) (s : WordState) → StoresWords (reading_pushed rs s).effects
+reading_stores [] s = tt
+reading_stores (r ∷ rs) s = (tt, tt)
+
+element_stores : (c : Bool) (base i : ℕ) (s : WordState) → StoresWords
+    (if c then at_place (2 * i + base) (goes_on [] (pushed (s.fram (2 * i + base)) s)) else goes_on [] (pushed 0 s)).effects
+element_stores true base i s = guarded (is_place (2 * i + base)) _ (λ e. tt)
+element_stores false base i s = tt
+
+own_element_stores : (b : Bool) (place : ArrayPlace) (i : ℕ) (s : WordState)
+    → StoresWords (if b then at_place (2 * i + place.copies) (goes_on [] (pushed (s.fram (2 * i + place.copies)) s)) else at_place (2 * i + place.elements)
+    (goes_on [] (pushed (s.fram (2 * i + place.elements)) s))).effects
+own_element_stores true place i s = guarded (is_place (2 * i + place.copies)) _ (λ e. tt)
+own_element_stores false place i s = guarded (is_place (2 * i + place.elements)) _ (λ e. tt)
+
+versioned_pushed_stores : (b : Bool) (place : ArrayPlace) (list : ListPlace) (i : ℕ) (s : WordState) → StoresWords
+    (if b then own_element place list i s else goes_on [] (pushed 0 s)).effects
+versioned_pushed_stores true place list i s =
+    guarded (is_place list.ver) _ (λ e. guarded (is_place (2 * i + place.versions)) _
+    (λ f. own_element_stores (s.fram list.ver == s.fram (2 * i + place.versions)) place i s))
+versioned_pushed_stores false place list i s = tt
+
+entry_stores : (count list home copy : ℕ) (s : WordState) → home < 0x10000 → copy < 0x10000 → StoresWords (entry_stored count list home copy s).effects
+entry_stores count list home copy s h k =
+    let n = s.fram count in
+    let a = 4 * n + list in
+    guarded (is_place count) _ (λ e. guarded (is_place a) _ (λ f. guarded (is_place (a + 2)) _ (λ g. let x = place_high a f in (h, (k, (omega arith, tt))))))
+
+own_stored_stores : (b : Bool) (place : ArrayPlace) (list : ListPlace) (i v : ℕ) (s : WordState) → v < 0x10000 → 2 * i + place.copies < 0x10000
+    → IsStateOfWords s
+    → StoresWords (if b then goes_on (Store (2 * i + place.copies) v ∷ []) (stored (2 * i + place.copies) v s) else behind_effects
+    (Store (2 * i + place.copies) v ∷ []) (first_stored place list i (stored (2 * i + place.copies) v s))).effects
+own_stored_stores true place list i v s l h w = (l, tt)
+own_stored_stores false place list i v s l h w =
+    let c = 2 * i + place.copies in
+    let t = stored c v s in (
+      l,
+      guarded (is_place (2 * i + place.elements)) _ (λ e. (
+        put_words s.fram c v w.fram l list.ver,
+        entry_stores list.cln list.list (2 * i + place.elements) c (stored (2 * i + place.versions) (t.fram list.ver) t)
+            (place_high (2 * i + place.elements) e) h,
+      )),
+    )
+
+versioned_stored_stores : (b : Bool) (place : ArrayPlace) (list : ListPlace) (i v : ℕ) (s : WordState) → v < 0x10000 → IsStateOfWords s → StoresWords
+    (if b then own_stored place list i v s else goes_on [] s).effects
+versioned_stored_stores true place list i v s l w =
+    let c = 2 * i + place.copies in
+    let t = stored c v s in
+    guarded (is_place c) _ (λ e. guarded (is_place list.ver) _
+    (λ f. guarded (is_place (2 * i + place.versions)) _
+    (λ g. own_stored_stores (t.fram list.ver == t.fram (2 * i + place.versions)) place list i v s l (place_high c e) w)))
+versioned_stored_stores false place list i v s l w = tt
+
+chosen_stores : (v : ℕ) (a b : Behaviour) → StoresWords a.effects → StoresWords b.effects → StoresWords (chosen v a b).effects
+chosen_stores zero a b h k = k
+chosen_stores (suc v) a b h k = h
+
+turns_store : (m n k : ℕ) (body : WordState → Behaviour) (s : WordState) → k + m < 0x10000 → ((t : WordState) → IsStateOfWords t → EndsInWords (body t).end)
+    → ((t : WordState) → IsStateOfWords t → StoresWords (body t).effects) → IsStateOfWords s → StoresWords (turns m n k body s).effects
+turns_store zero n k body s l f h w = tt
+turns_store (suc m) n k body s l f h w =
+    let u = local_words s n k w (omega arith) in
+    then_stores (body (with_local n k s)) (turns m n (k + 1) body) (h (with_local n k s) u) (f (with_local n k s) u)
+    (λ t v. turns_store m n (k + 1) body t (omega arith) f h v)
+
+jumped_stores : (c : Bool) (to : ℕ) (s : WordState) → StoresWords (if c then behaves [] (Jumps to s) else broken).effects
+jumped_stores true to s = tt
+jumped_stores false to s = tt
+
+mutual
+  step_stores : (first : Step) (s : WordState) → StepOfWords first → IsStateOfWords s → StoresWords (step_behaviour first s).effects
+  step_stores (number v) s h w = tt
+  step_stores (load a) s h w = guarded (is_place a) _ (λ e. tt)
+  step_stores (keep a) s h w = top_stores s.stack _ w.stack (λ v vs l m. guarded (is_place a) _ (λ e. (l, tt)))
+  step_stores (local n) s h w = local_stores (s.locals n) s
+  step_stores (set_local n) s h w = top_stores s.stack _ w.stack (λ v vs l m. tt)
+  step_stores (unary op) s h w = top_stores s.stack _ w.stack (λ v vs l m. tt)
+  step_stores (binary op) s h w = top_stores s.stack _ w.stack (λ v us l m. top_stores us _ m (λ u vs k j. tt))
+  step_stores (shift op k) s h w = top_stores s.stack _ w.stack (λ v vs l m. tt)
+  step_stores (element base length) s h w = top_stores s.stack _ w.stack (λ i vs l m. element_stores (nat_lt i length) base i (with_stack vs s))
+  step_stores (emit_word count buffer) s h w =
+      let n = s.fram count in
+      top_stores s.stack _ w.stack (λ v vs l m. guarded (is_place count) _ (λ e. guarded (is_place (2 * n + buffer)) _ (λ f.
+      let x = place_high (2 * n + buffer) f in (l, (omega arith, tt)))))
+  step_stores (list_entry count list home copy) s h w = entry_stores count list home copy s h.2 h.3
+  step_stores (versioned_read place list) s h w = top_stores s.stack _ w.stack
+      (λ i vs l m. versioned_pushed_stores (nat_lt i place.length) place list i (with_stack vs s))
+  step_stores (versioned_write place list) s h w =
+      top_stores s.stack _ w.stack (λ v us l m. top_stores us _ m
+      (λ i vs k j. versioned_stored_stores (nat_lt i place.length) place list i v (with_stack vs s) l (stack_words s vs w j)))
+  step_stores sense s h w = reading_stores s.readings s
+  step_stores (choose taken otherwise) s h w =
+      top_stores s.stack _ w.stack (λ v vs l m. chosen_stores v _ _ (stores taken (with_stack vs s) h.0 (stack_words s vs w m))
+      (stores otherwise (with_stack vs s) h.1 (stack_words s vs w m)))
+  step_stores (repeat n from below body) s h w =
+      turns_store (below - from) n from (behaviour body) s (let l = h.1 in let m = h.2 in omega arith) (λ t v. words body t h.3 v)
+      (λ t v. stores body t h.3 v) w
+  step_stores (store_number a v) s h w = guarded (is_place a) _ (λ e. (h.1, tt))
+  step_stores (move_word from to) s h w = guarded (is_place from) _ (λ e. guarded (is_place to) _ (λ f. (w.fram from, tt)))
+  step_stores (jump to) s h w = jumped_stores (to % 2 == 0) to s
+
+  -- the words that a program stores
+  pub stores : (p : Program) (s : WordState) → OfWords p → IsStateOfWords s → StoresWords (behaviour p s).effects
+  stores nothing s h w = tt
+  stores (step first more) s h w =
+      then_stores (step_behaviour first s) (behaviour more) (step_stores first s h.0 w) (step_words first s h.0 w) (λ t v. stores more t h.1 v)

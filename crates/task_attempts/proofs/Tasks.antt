@@ -1,0 +1,86 @@
+-- A task of a source by its number, and where its program stores.
+use Rattle.std.proofs.Common.{◌≡◌, ℕ, zero, suc, ◌<◌, List, [], ◌∷◌, length, map, Some, sym, ap, ◌∙◌, subst, ⊎_elim, arith}
+use Rattle.std.specs.Prelude.{Contains, slice_get, get_or, option_map}
+use Rattle.std.proofs.lemmas.Option.{slice_get_cases, slice_get-map, get_or_from_slice_get}
+use Rattle.cost_bound.specs.Counts.{Code}
+use Rattle.cost_bound.specs.Allowance.{CheckedTask}
+use Rattle.source_values.specs.Runs.{CheckedProgram, body_of, task_body}
+use Rattle.array_versions.specs.Program.{nothing}
+use Rattle.privatise.specs.declared.place.PrivateScalar.{PrivateScalar}
+use Rattle.privatise.specs.LayoutValue.{LayoutValue, TaskLayoutValue}
+use Rattle.runtime_effects.specs.Places.{CopyPair}
+use Rattle.runtime_code.specs.LayoutPlaces.{pair_of, pairs_of}
+use Rattle.boot_runtime.specs.Listing.{privates_in}
+use Rattle.boot_runtime.specs.Entries.{entry_of, task_entries}
+use Rattle.stands_for.specs.Layout.{IsAmong, IsCopyWord, ArePrivate}
+use Rattle.lower.specs.Places.{Places, places_of}
+use Rattle.lower.specs.Spots.{Room}
+use Rattle.lower.specs.Lowered.{lowered_block, lowered_tasks}
+use Rattle.compiled_model.specs.Places.{program_places}
+use Rattle.compiled_model.specs.Parts.{task_program}
+use Rattle.layout_facts.specs.Facts.{task_room}
+use Rattle.task_attempts.proofs.Given.{IsGiven, IsTaskGiven}
+use Rattle.task_attempts.proofs.Listed.{private_among}
+
+-- a task of a source by its number, with its layout
+pub record IsAt (p : CheckedProgram) (l : LayoutValue) (k : ℕ) : Type 0 where
+  pub task : CheckedTask
+  pub layout : TaskLayoutValue
+  pub task_is : slice_get p.tasks k ≡ Some task
+  pub layout_is : slice_get l.tasks k ≡ Some layout
+
+pub item_at : {X : Type 0} (xs : List X) (k : ℕ) → k < length xs → (x : X) × (slice_get xs k ≡ Some x)
+item_at xs k h = ⊎_elim (λ c. (c.0, c.2)) (λ c. let past = c.0 in absurd (omega (arith, past, h))) (slice_get_cases xs k).1
+
+pub task_at : (p : CheckedProgram) (l : LayoutValue) → length l.tasks ≡ length p.tasks → (k : ℕ) → k < length p.tasks → IsAt p l k
+task_at p l count k h =
+    let a = item_at p.tasks k h in
+    let b = item_at l.tasks k (omega (arith, count, h)) in
+    record { task = a.0; layout = b.0; task_is = a.1; layout_is = b.1 }
+
+-- the program of a task by its number
+pub program_in : (l : LayoutValue) (tasks : List CheckedTask) (layouts : List TaskLayoutValue) (k : ℕ) (task : CheckedTask) (t : TaskLayoutValue)
+    → slice_get tasks k ≡ Some task
+    → slice_get layouts k ≡ Some t → get_or (lowered_tasks l tasks layouts) k nothing ≡ lowered_block (places_of l t) task.body
+program_in l [] layouts k task t e h = cc e
+program_in l (u ∷ tasks) [] k task t e h = cc h
+program_in l (u ∷ tasks) (v ∷ layouts) zero task t e h =
+    let a : u ≡ task = cc in
+    let b : v ≡ t = cc in
+    ap (λ z. lowered_block (places_of l v) z.body) a ∙ ap (λ z. lowered_block (places_of l z) task.body) b
+program_in l (u ∷ tasks) (v ∷ layouts) (suc k) task t e h = program_in l tasks layouts k task t e h
+
+module _ (p : CheckedProgram) (l : LayoutValue) (given : IsGiven p l) (k : ℕ) (i : IsAt p l k) where
+  abbrev pub body : Code
+  body = i.task.body
+
+  abbrev pub places : Places
+  places = places_of l i.layout
+
+  abbrev pub room : Room
+  room = task_room p i.task
+
+  pub task_given : IsTaskGiven p l i.task i.layout
+  task_given = given.tasks k i.task i.layout i.task_is i.layout_is
+
+  pub body_is : task_body p k ≡ body
+  body_is = ap body_of i.task_is
+
+  pub program_is : task_program p l k ≡ lowered_block places body
+  program_is = program_in l p.tasks l.tasks k i.task i.layout i.task_is i.layout_is
+
+  pub privates_are : privates_in (task_entries l) k ≡ pairs_of i.layout
+  privates_are =
+      ap (λ e. e.privates) (get_or_from_slice_get (map entry_of l.tasks) k (entry_of i.layout) (record { privates = []; code = 0 })
+      (slice_get-map entry_of l.tasks k ∙ ap (λ o. option_map entry_of o) i.layout_is))
+
+  pub among_privates : (s : PrivateScalar) → Contains i.layout.privates s → IsAmong (privates_in (task_entries l) k) (pair_of s)
+  among_privates s h = subst (λ ps. IsAmong ps (pair_of s)) (sym privates_are) (private_among i.layout.privates s h)
+
+  copies_of : (ps : List CopyPair) → ArePrivate (program_places p l) k ps → (q : CopyPair) → IsAmong ps q → IsCopyWord (program_places p l) q.copy
+  copies_of [] a q h = absurd h
+  copies_of (u ∷ ps) a q h = ⊎_elim (λ e. subst (λ z. IsCopyWord (program_places p l) z.copy) (sym e) a.2) (λ r. copies_of ps a.4 q r) h
+
+  -- the copy of a private scalar
+  pub private_copy : (s : PrivateScalar) → Contains i.layout.privates s → IsCopyWord (program_places p l) s.copy
+  private_copy s h = copies_of (privates_in (task_entries l) k) (given.privates k) (pair_of s) (among_privates s h)

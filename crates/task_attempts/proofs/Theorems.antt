@@ -1,0 +1,66 @@
+-- The laws of compiled tasks.
+use Rattle.std.proofs.Common.{◌≤◌, ◌<◌, sym, subst, arith}
+use Rattle.machine_effects.specs.World.{world_after, fram_after, EachStore}
+use Rattle.source_values.specs.Runs.{State}
+use Rattle.boot_runtime.specs.Entries.{task_entries}
+use Rattle.boot_runtime.specs.Listing.{privates_in}
+use Rattle.crash_rules.proofs.Lists.{world_fram, each_both}
+use Rattle.stands_for.proofs.Starts.{start_stores_so}
+use Rattle.stands_for.proofs.Theorems.{keeps_the_laws, clearing_starts}
+use Rattle.lower.proofs.Blocks.{blocks_agree}
+use Rattle.compiled_model.specs.Places.{program_places}
+use Rattle.compiled_model.specs.View.{state_view}
+use Rattle.compiled_model.specs.Parts.{program_parts}
+use Rattle.task_attempts.specs.Laws.{TasksKeepTheirContract, CompiledSourcesKeepTheLaws, IsBelowCode, AttemptsStoreBelowCode, TasksLeaveForTheCommit}
+use Rattle.task_attempts.proofs.Given.{given}
+use Rattle.task_attempts.proofs.Tasks.{task_at}
+use Rattle.task_attempts.proofs.Contracts.{program_keeps, program_stores, program_leaves}
+
+pub tasks_contract : TasksKeepTheirContract
+tasks_contract text p allow plans l laid runnable s x readings small st =
+    let g = given text p allow plans l laid runnable in
+    let is_task = st.undecided.is_open.is_task in
+    program_keeps p l g s is_task (task_at p l g.count s.task is_task) x readings st blocks_agree small
+
+pub compiled_laws : CompiledSourcesKeepTheLaws
+compiled_laws text p allow plans l laid runnable =
+    let g = given text p allow plans l laid runnable in
+    let start = clearing_starts State (program_places p l) (state_view p l) (privates_in (task_entries l)) g.apart g.privates in
+    keeps_the_laws State (program_places p l) (state_view p l) (privates_in (task_entries l)) (program_parts p l) g.apart g.room start
+    (tasks_contract text p allow plans l laid runnable)
+
+pub stores_below_code : AttemptsStoreBelowCode
+stores_below_code text p allow plans l laid runnable s x readings small u =
+    let g = given text p allow plans l laid runnable in
+    let start = clearing_starts State (program_places p l) (state_view p l) (privates_in (task_entries l)) g.apart g.privates in
+    let es = (program_parts p l).start x.fram in
+    let y = world_after es x in
+    let is_task = u.is_open.is_task in
+    let apart = g.apart in
+    let code = g.code in
+    let task = program_stores p l g s is_task (task_at p l g.count s.task is_task) y readings (start.started s x u) blocks_agree small in
+    each_both (IsBelowCode l) es ((program_parts p l).body (x.fram l.words.current_task) (fram_after es x.fram) readings).effects
+    (start_stores_so (program_places p l) apart (state_view p l) (IsBelowCode l)
+    (λ i h. record { from = omega (arith, apart); below = omega (arith, apart, h, code); list = λ e. omega arith; emits = λ e. omega arith })
+    (record {
+      from = omega (arith, apart);
+      below = omega (arith, apart, code);
+      list = λ e. absurd (omega (arith, apart, e));
+      emits = λ e. absurd (omega (arith, apart, e));
+    })
+    (record { from = omega (arith, apart); below = omega (arith, apart, code); list = λ e. omega arith; emits = λ e. omega arith })
+    (record { from = omega (arith, apart); below = omega (arith, apart, code); list = λ e. omega arith; emits = λ e. omega arith })
+    (λ a w c. record {
+      from = omega (arith, apart, c);
+      below = omega (arith, c, code);
+      list = λ e. absurd (omega (arith, apart, c, e));
+      emits = λ e. absurd (omega (arith, apart, c, e));
+    }) (privates_in (task_entries l)) g.privates x.fram)
+    (subst (λ k. EachStore (IsBelowCode l) ((program_parts p l).body k (fram_after es x.fram) readings).effects) (sym u.is_open.current_task)
+    (subst (λ f. EachStore (IsBelowCode l) ((program_parts p l).body s.task f readings).effects) (world_fram es x) task))
+
+pub tasks_leave : TasksLeaveForTheCommit
+tasks_leave text p allow plans l laid runnable s x readings small st =
+    let g = given text p allow plans l laid runnable in
+    let is_task = st.undecided.is_open.is_task in
+    program_leaves p l g s is_task (task_at p l g.count s.task is_task) x readings st blocks_agree small

@@ -1,0 +1,88 @@
+-- The words of the variables as a task has them.
+use Rattle.std.proofs.Common.{◌≡◌, ℕ, ◌+◌, ◌*◌, ◌==◌, ◌<◌, length, Option, Some, None, Bool, true, false, refl, sym, ap, ◌∙◌, subst, ⊎_elim, arith, eq-eqb, ne_eqb, if◌then◌else◌}
+use Rattle.std.proofs.lemmas.Bool.{cases_eq}
+use Rattle.std.specs.Prelude.{Contains, slice_get}
+use Rattle.cost_bound.specs.Counts.{Code, block_assigns}
+use Rattle.privatise.specs.declared.place.ArrayCopies.{ArrayCopies}
+use Rattle.privatise.specs.declared.place.VariablePlace.{VariablePlace}
+use Rattle.privatise.specs.declared.place.VariablePlace.TheVariants.{Scalar, Array}
+use Rattle.privatise.specs.declared.place.PrivateScalar.{PrivateScalar}
+use Rattle.privatise.specs.LayoutValue.{LayoutValue, TaskLayoutValue}
+use Rattle.privatise.specs.Places.{home_region}
+use Rattle.lower.specs.Places.{Places, places_of, address_of}
+use Rattle.lower.specs.Spots.{IsScalarPlace, IsScalarAt, Element, IsElement, IsCopied, element_in, copy_in, version_in, element_address, copy_address, version_address}
+use Rattle.lower.specs.Agreement.{own_word}
+use Rattle.layout_facts.specs.Facts.{IsWordOf}
+use Rattle.task_attempts.proofs.Given.{ArePrivates}
+
+-- an element as an attempt has it: its copy where its version word is VER, else the element itself
+pub data OwnWord (p : Places) (f : ℕ → ℕ) (x : Element) : Type 0 where
+  marked : IsCopied p x → f (version_address p x) ≡ f p.words.version → own_word p f (slice_get p.variables x.array) x.index ≡ f (copy_address p x)
+      → OwnWord p f x
+  unmarked : (IsCopied p x → f (version_address p x) ≡ f p.words.version → ⊥) → own_word p f (slice_get p.variables x.array) x.index ≡ f
+      (element_address p x) → OwnWord p f x
+
+module _ (p : Places) (f : ℕ → ℕ) (x : Element) (elements length : ℕ) (below : x.index < length) where
+  own_uncopied : slice_get p.variables x.array ≡ Some (Array elements length None) → OwnWord p f x
+  own_uncopied e =
+      unmarked (λ c m. let k = c.is_array.place in cc) (ap (λ o. own_word p f o x.index) e ∙ sym (ap (λ o. f (element_in o x.index)) e))
+
+  own_copied : (c : ArrayCopies) → slice_get p.variables x.array ≡ Some (Array elements length (Some c)) → OwnWord p f x
+  own_copied c e =
+      let m = 2 * x.index + c.versions in
+      let copied : IsCopied p x = record { elements = elements; length = length; copies = c; is_array = record { place = e }; below = below } in
+      let at_version : version_address p x ≡ m = ap (λ o. version_in o x.index) e in
+      let chosen : Bool → ℕ = λ b. if b then f (2 * x.index + c.copies) else f (2 * x.index + elements) in
+      let word : own_word p f (slice_get p.variables x.array) x.index ≡ chosen (f p.words.version == f m) = ap (λ o. own_word p f o x.index) e in
+      ⊎_elim {C = OwnWord p f x}
+      (λ same. marked copied (ap f at_version ∙ sym same)
+      (word ∙ ap chosen (eq-eqb (f p.words.version) (f m) same) ∙ sym (ap (λ o. f (copy_in o x.index)) e)))
+      (λ other. unmarked (λ k h. other (sym h ∙ ap f at_version))
+      (word ∙ ap chosen (ne_eqb (f p.words.version) (f m) other) ∙ sym (ap (λ o. f (element_in o x.index)) e)))
+      (cases_eq (f p.words.version) (f m))
+
+  own_by : (copies : Option ArrayCopies) → slice_get p.variables x.array ≡ Some (Array elements length copies) → OwnWord p f x
+  own_by None e = own_uncopied e
+  own_by (Some c) e = own_copied c e
+
+pub own_word_of : (p : Places) (f : ℕ → ℕ) (x : Element) → IsElement p x → OwnWord p f x
+own_word_of p f x h = own_by p f x h.elements h.length h.below h.copies h.is_array.place
+
+module _ (l : LayoutValue) (body : Code) (t : TaskLayoutValue) (privates : ArePrivates l body t) where
+  -- word i of variable v, at an address: a scalar that the task has there, one that it has in a copy, or an element
+  pub data IsTaskWord (v i a : ℕ) : Type 0 where
+    left_there : IsScalarAt (places_of l t) v → i ≡ 0 → address_of (places_of l t) v ≡ a → IsTaskWord v i a
+    private : (s : PrivateScalar) → Contains t.privates s → a ≡ s.home → IsTaskWord v i a
+    element : (x : Element) → IsElement (places_of l t) x → v ≡ x.array → i ≡ x.index → a ≡ element_address (places_of l t) x → IsTaskWord v i a
+
+  scalar_word : (v i a home copy : ℕ) (b : Bool) → slice_get l.variables v ≡ Some (Scalar home copy) → i < 1 → a ≡ 2 * i + home → block_assigns v body ≡ b
+      → IsTaskWord v i a
+  scalar_word v i a home copy true e h at assigned =
+      private (record { number = v; home = home; copy = copy }) (privates.each v home copy e assigned) (omega (arith, h, at))
+  scalar_word v i a home copy false e h at left =
+      let here : home ≡ a = omega (arith, h, at) in
+      left_there (subst IsScalarPlace (sym e) tt) (omega (arith, h)) (privates.left v home copy e left ∙ here)
+
+  word_by : (v i a : ℕ) (place : VariablePlace) → slice_get l.variables v ≡ Some place → i < (home_region place).words → a ≡ 2 * i +
+      (home_region place).address → IsTaskWord v i a
+  word_by v i a (Scalar home copy) e h at = scalar_word v i a home copy (block_assigns v body) e h at refl
+  word_by v i a (Array elements length copies) e h at =
+      let x : Element = record { array = v; index = i } in
+      element x (record { elements = elements; length = length; copies = copies; is_array = record { place = e }; below = h }) refl refl
+      (at ∙ sym (ap (λ o. element_in o i) e))
+
+  pub task_word : (v i a : ℕ) → IsWordOf l v i a → IsTaskWord v i a
+  task_word v i a h = word_by v i a h.place h.at h.below h.address
+
+  -- an element's address is that of its word
+  pub element_word : (x : Element) → IsElement (places_of l t) x → IsWordOf l x.array x.index (element_address (places_of l t) x)
+  element_word x h = record {
+    place = Array h.elements h.length h.copies;
+    at = h.is_array.place;
+    below = h.below;
+    address = ap (λ o. element_in o x.index) h.is_array.place;
+  }
+
+-- a scalar's word
+pub home_word : (l : LayoutValue) (v home copy : ℕ) → slice_get l.variables v ≡ Some (Scalar home copy) → IsWordOf l v 0 home
+home_word l v home copy e = record { place = Scalar home copy; at = e; below = omega arith; address = omega arith }
