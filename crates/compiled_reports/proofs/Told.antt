@@ -1,0 +1,24 @@
+-- A run of a compiled source is told by the source.
+use Rattle.std.proofs.Common.{◌∙◌, sym, ap}
+use Rattle.crash_rules.specs.Runs.{Program}
+use Rattle.compiled_model.specs.Parts.{compiled_model}
+use Rattle.compiled_bounds.proofs.Bounds.{bound_is_the_sources}
+use Rattle.source_runs.proofs.Told.{runs_are_told}
+use Rattle.compiled_reports.specs.Laws.{ModelsAreOfSources, CompiledRunsAreTold}
+use Rattle.compiled_reports.proofs.Tasks.{transits, is_short}
+
+pub models_are_of_sources : ModelsAreOfSources
+models_are_of_sources text p l m is = record {
+  is_map = is.is_map;
+  of_source = is.of_source;
+  emits_fit = is.runnable.emits_fit;
+  gate = ap (λ w. w.gate) (sym is.words);
+  bound = bound_is_the_sources p l ∙ sym is.bound;
+  transits = λ s u readings e. transits p s u readings e;
+  is_short = λ s readings below e. is_short p is.runnable s readings below e;
+  rests = is.rests;
+}
+
+pub compiled_runs_are_told : (c : Program) → CompiledRunsAreTold c
+compiled_runs_are_told c text p l m x cs b r is begins run few =
+    runs_are_told (compiled_model p l) c text p m x cs b r (models_are_of_sources text p l m is) begins run few

@@ -1,0 +1,20 @@
+-- A compiled source with its map.
+use Rattle.std.specs.Prelude.{◌≡◌, ℕ, List}
+use Rattle.image_map.specs.MapValue.{MapValue, IsMap}
+use Rattle.cost_bound.specs.Allowance.{bound_of}
+use Rattle.source_values.specs.Runs.{CheckedProgram, State, IsRunnable}
+use Rattle.privatise.specs.LayoutValue.{LayoutValue}
+use Rattle.machine_effects.specs.World.{World}
+use Rattle.stands_for.specs.StandsFor.{RestsAt}
+use Rattle.source_events.specs.Transitions.{IsMapOf, HasWordsOf}
+use Rattle.compiled_model.specs.Places.{program_places}
+use Rattle.compiled_model.specs.View.{state_view}
+
+-- a map tells of a source with its layout: its variables and tasks, its bound, the runtime's words, and where the words of each state are
+pub record IsSourcesMap (text : List ℕ) (p : CheckedProgram) (l : LayoutValue) (m : MapValue) : Type 0 where
+  pub runnable : IsRunnable p
+  pub is_map : IsMap m
+  pub of_source : IsMapOf text p m
+  pub bound : m.bound ≡ bound_of p
+  pub words : m.words ≡ l.words
+  pub rests : (s : State) (x : World) → RestsAt (program_places p l) (state_view p l) s x → HasWordsOf m x s

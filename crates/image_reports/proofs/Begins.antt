@@ -1,0 +1,81 @@
+-- The fresh board of a source's image begins with the source.
+use Rattle.std.proofs.Common.{◌<◌, ℕ, refl, sym, subst, List, All}
+use Rattle.cost_bound.specs.declared.allowance.Allow.{Allow}
+use Rattle.energy_trace.specs.TraceValue.{TraceValue}
+use Rattle.image_text.specs.ImageValue.{ImageValue}
+use Rattle.fram_board.specs.Board.{BoardValue, fresh}
+use Rattle.fram_board.specs.Run.{RunOutcome, Run}
+use Rattle.board_run.specs.Charges.{charges_of}
+use Rattle.machine_effects.specs.World.{World}
+use Rattle.machine_effects.specs.View.{machine_of}
+use Rattle.machine_effects.proofs.Words.{fresh_is_whole}
+use Rattle.source_values.specs.Runs.{CheckedProgram, first_state}
+use Rattle.crash_rules.specs.Laws.{Resting, Begins}
+use Rattle.crash_rules.proofs.Theorems.{runs_may_begin}
+use Rattle.run_charges.specs.Charges.{IsPlacedProgram}
+use Rattle.run_charges.specs.Laws.{IsRunOfWords}
+use Rattle.privatise.specs.LayoutValue.{LayoutValue}
+use Rattle.compiled_model.specs.Parts.{compiled_model}
+use Rattle.compiled_runs.specs.Program.{source_code, compiled_program}
+use Rattle.compiled_runs.proofs.Program.{code_keeps_the_laws}
+use Rattle.compiled_runs.proofs.Leaves.{code_is_placed, runs_leave_the_code}
+use Rattle.model_runs.specs.Runs.{BearsModel}
+use Rattle.source_runs.specs.Traces.{IsTraceOfWords}
+use Rattle.source_runs.specs.Tells.{BeginsWithSource}
+use Rattle.source_runs.proofs.Traces.{traces_are_few}
+use Rattle.source_maps.specs.Maps.{map_of}
+use Rattle.link_image.specs.Compiled.{IsCompiled}
+use Rattle.link_image.specs.Laws.{fresh_world, IsFreshImage}
+use Rattle.ready_sources.specs.Ready.{IsReadyToRun}
+
+module _ (text : List ℕ) (p : CheckedProgram) (allow : Allow) (image : ImageValue) (c : IsCompiled text p allow image) (readings : List ℕ)
+    (words : All (λ w. w < 0x10000) readings) (ready : IsReadyToRun p c.layout) (new : IsFreshImage text p allow c.layout image) where
+  abbrev l : LayoutValue
+  l = c.layout
+
+  abbrev x : World
+  x = fresh_world image
+
+  abbrev b : BoardValue
+  b = fresh image.words readings
+
+  begins : Begins (compiled_model p l) readings (Resting (first_state p)) x (machine_of b)
+  begins = record {
+    fram = refl;
+    readings_left = refl;
+    words = words;
+    stands = (runs_may_begin (compiled_model p l) ready.model readings).resting (first_state p) x
+        (ready.model.rests_undecided (first_state p) x new.rests);
+  }
+
+  bears : BearsModel (compiled_model p l) (compiled_program p l) readings (Resting (first_state p)) x b
+  bears =
+      let P : ℕ → Type 0 = λ entry. IsPlacedProgram (compiled_program p l) l.boot.address (source_code p l) entry in
+      record {
+        model = ready.model;
+        program = code_keeps_the_laws p l ready.code ready.model;
+        begins = begins;
+        stands = record {
+          place = l.boot.address;
+          instructions = source_code p l;
+          placed = subst P (sym new.vector) (code_is_placed p l new.fits);
+          holds = new.code;
+          leaves = runs_leave_the_code p l ready.code ready.model ready.stores readings (Resting (first_state p)) x (machine_of b) begins;
+        };
+      }
+
+  pub begins_with_source : BeginsWithSource p (map_of text p l allow) (compiled_model p l) (compiled_program p l) x b
+  begins_with_source = record {
+    bears = bears;
+    starts = record { fram = refl; accepted = refl; taken = refl };
+    undecided = ready.model.rests_undecided (first_state p) x new.rests;
+    words = new.has_words;
+  }
+
+-- its run on a trace is a run of words
+pub run_of_words : (text : List ℕ) (p : CheckedProgram) (allow : Allow) (image : ImageValue) → IsCompiled text p allow image → (trace : TraceValue)
+    → IsTraceOfWords trace → (r : RunOutcome) → Run (charges_of trace.charges) (fresh image.words trace.readings) r
+    → IsRunOfWords (charges_of trace.charges) (fresh image.words trace.readings) r
+run_of_words text p allow image c trace t r run =
+    let w = fresh_is_whole image.words trace.readings c.words.count t.trace.readings c.words.are_words t.readings in
+    record { whole = w.0; words = w.1; starts = (traces_are_few trace t).0; run = run }

@@ -1,0 +1,67 @@
+-- A run of an image keeps to the capacities of the runtime's buffers.
+use Rattle.std.proofs.Common.{◌≡◌, ◌≤◌, ℕ, arith, List}
+use Rattle.cost_bound.specs.declared.allowance.Allow.{Allow}
+use Rattle.image_text.specs.ImageValue.{ImageValue}
+use Rattle.fram_board.specs.Board.{fresh}
+use Rattle.board_run.specs.Charges.{charges_of}
+use Rattle.machine_effects.specs.Machine.{IsFram, fram_of}
+use Rattle.source_values.specs.Runs.{CheckedProgram, IsRunnable, first_state}
+use Rattle.source_meaning.specs.Acceptance.{IsAcceptedText}
+use Rattle.crash_rules.specs.Laws.{Resting}
+use Rattle.privatise.specs.LayoutValue.{LayoutValue}
+use Rattle.stands_for.proofs.Starts.{each_weaker}
+use Rattle.task_attempts.specs.Laws.{IsBelowCode}
+use Rattle.task_attempts.proofs.Theorems.{stores_below_code}
+use Rattle.compiled_bounds.specs.Laws.{KeepsCapacities, CountsFit, AttemptsFit}
+use Rattle.compiled_bounds.proofs.Capacities.{capacities_are_kept}
+use Rattle.compiled_runs.specs.Program.{compiled_program}
+use Rattle.whole_programs.specs.Laws.{IsLaidOutText}
+use Rattle.link_image.specs.Compiled.{IsCompiled}
+use Rattle.link_image.specs.Laws.{fresh_world}
+use Rattle.link_image.proofs.Fresh.{images_are_fresh, zero_at, version}
+use Rattle.ready_sources.proofs.Ready.{sources_are_ready}
+use Rattle.image_reports.specs.Laws.{ImagesKeepCapacities}
+use Rattle.image_reports.proofs.Begins.{begins_with_source, run_of_words}
+
+module _ (text : List ℕ) (p : CheckedProgram) (allow : Allow) (image : ImageValue) (ok : IsAcceptedText text p allow) (runs : IsRunnable p)
+    (c : IsCompiled text p allow image) where
+  abbrev l : LayoutValue
+  l = c.layout
+
+  laid : IsLaidOutText text p allow c.plans l
+  laid = record { accepted = ok; plan = c.is_plan; layout = c.is_layout }
+
+  attempts_fit : AttemptsFit p l
+  attempts_fit s x readings words undecided =
+      each_weaker (IsBelowCode l) (CountsFit l) (λ a w h. record { list = h.list; emits = h.emits }) _
+      (stores_below_code text p allow c.plans l laid runs s x readings words undecided)
+
+  -- a word of the runtime behind GATE is 0 at first
+  nothing_at : (a : ℕ) → IsFram a → l.words.gate ≤ a → a ≤ l.words.emit_count → fram_of image.words a ≡ 0
+  nothing_at a is low high =
+      let apart = c.is_layout.rules.apart in
+      zero_at text p allow image ok runs c a is (λ e. omega (arith, apart, low, e)) (omega (arith, apart, high))
+
+  at_first : KeepsCapacities l (fram_of image.words)
+  at_first =
+      let apart = c.is_layout.rules.apart in
+      let even = c.is_layout.rules.even in
+      let list = nothing_at l.words.list_length (record { even = even.list_length; low = omega (arith, apart); high = omega (arith, apart) })
+      (omega (arith, apart)) (omega (arith, apart)) in
+      let emits = nothing_at l.words.emit_count (record { even = even.emit_count; low = omega (arith, apart); high = omega (arith, apart) })
+      (omega (arith, apart)) (omega arith) in
+      record {
+        list = omega (arith, list);
+        emits = omega (arith, emits);
+        versions = λ i below. let zero = version text p allow image ok runs c i below in omega (arith, zero);
+      }
+
+pub images_keep_capacities : ImagesKeepCapacities
+images_keep_capacities text p allow image ok runs c trace t r run ms rest e =
+    let l = c.layout in
+    let ready = sources_are_ready text p allow c.plans l (laid text p allow image ok runs c) runs in
+    let new = images_are_fresh text p allow image ok runs c in
+    let begins = begins_with_source text p allow image c trace.readings t.readings ready new in
+    capacities_are_kept (compiled_program p l) p l ready.code.apart ready.code.room (attempts_fit text p allow image ok runs c)
+    trace.readings (Resting (first_state p)) (fresh_world image) (charges_of trace.charges) (fresh image.words trace.readings) r
+    (run_of_words text p allow image c trace t r run) begins.bears (at_first text p allow image ok runs c) ms rest e

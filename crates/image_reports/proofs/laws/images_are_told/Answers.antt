@@ -1,0 +1,5 @@
+use Rattle.image_reports.proofs.Told.{images_are_told}
+use Rattle.image_reports.proofs.laws.images_are_told.Goals as goal
+
+pub returns : goal.returns
+returns c = images_are_told

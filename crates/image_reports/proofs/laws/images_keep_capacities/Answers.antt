@@ -1,0 +1,5 @@
+use Rattle.image_reports.proofs.Capacities.{images_keep_capacities}
+use Rattle.image_reports.proofs.laws.images_keep_capacities.Goals as goal
+
+pub returns : goal.returns
+returns c = images_keep_capacities

@@ -1,0 +1,7 @@
+//! The headline: what a run of an accepted source's image tells, on any trace, the source tells. It has no code that runs: what it
+//! says of images are the contracts of its laws.
+#![tactic(auto)]
+
+mod laws;
+
+pub use laws::{images_are_told, images_keep_capacities};

@@ -1,0 +1,200 @@
+-- The world of an image before anything was done.
+use Rattle.std.proofs.Common.{◌≡◌, ◌≢◌, ℕ, zero, suc, ◌+◌, ◌-◌, ◌*◌, ◌/◌, ◌%◌, ◌<◌, ◌≤◌, ◌==◌, ◌&&◌, nat_le, nat_lt, if◌then◌else◌, cond, ne_eqb, refl, sym, ap, ap₂, ◌∙◌, subst, arith, Bool, true, false, List, [], ◌∷◌, length, map, All}
+use Rattle.std.proofs.lemmas.Bool.Decides.{nat_tests}
+use Rattle.std.specs.Prelude.{slice_index}
+use Rattle.cost_bound.specs.declared.allowance.Allow.{Allow}
+use Rattle.source_values.specs.Runs.{CheckedProgram, IsRunnable, first_state, initial_rows}
+use Rattle.source_meaning.specs.Acceptance.{IsAcceptedText}
+use Rattle.image_text.specs.ImageValue.{ImageValue, place_of}
+use Rattle.fram_board.specs.Bus.{is_fram}
+use Rattle.machine_effects.specs.World.{World}
+use Rattle.machine_effects.specs.Machine.{IsFram, fram_of}
+use Rattle.machine_effects.proofs.Words.{index_small}
+use Rattle.code_forms.specs.Placed.{words_of, Holds}
+use Rattle.privatise.specs.declared.place.Region.{Region}
+use Rattle.privatise.specs.declared.place.VariablePlace.{VariablePlace}
+use Rattle.privatise.specs.LayoutValue.{LayoutValue, TaskLayoutValue}
+use Rattle.privatise.specs.Places.{end_of, home_region, AreInOrder, IsLaidOut}
+use Rattle.stands_for.specs.Layout.{IsSharedWord}
+use Rattle.stands_for.specs.StandsFor.{HoldsWords, IsOpen, RestsAt}
+use Rattle.lower.specs.Lowered.{lowered}
+use Rattle.layout_facts.specs.Facts.{HasLayout}
+use Rattle.layout_facts.proofs.Assigned.{tasks_match}
+use Rattle.linked_code.specs.Linked.{linked, CodeFits}
+use Rattle.linked_code.proofs.Linked.{linked_is_code}
+use Rattle.compiled_model.specs.Places.{program_places}
+use Rattle.compiled_model.specs.View.{is_within, word_of_row, shared_word, state_view}
+use Rattle.compiled_runs.proofs.Fits.{sources_have_room}
+use Rattle.link_image.specs.Words.{code_words, code_region, data_word, image_word, AreImageWords}
+use Rattle.link_image.specs.Compiled.{IsCompiled}
+use Rattle.link_image.specs.Laws.{fresh_world, IsFreshImage, ImagesAreFresh}
+use Rattle.link_image.proofs.Initial.{initial_rows_are}
+use Rattle.link_image.proofs.States.{finds_state}
+
+-- words that stand one behind the other
+holds_each : (f : ℕ → ℕ) (p : ℕ) (ws : List ℕ) → ((k : ℕ) → k < length ws → f (p + 2 * k) ≡ slice_index ws k) → Holds f p ws
+holds_each f p [] h = tt
+holds_each f p (w ∷ ws) h = (ap f (first p) ∙ h 0 (omega arith), holds_each f (p + 2) ws (λ k l. ap f (next p k) ∙ h (suc k) (omega (arith, l))))
+  where
+    first : (p : ℕ) → p ≡ p + 2 * 0
+    first p = omega arith
+
+    next : (p k : ℕ) → p + 2 + 2 * k ≡ p + 2 * suc k
+    next p k = omega arith
+
+-- an address in a region, and one before it
+inside : (r : Region) (a : ℕ) → r.address ≤ a → a < end_of r → is_within r a ≡ true
+inside r a low high =
+    let s : nat_le r.address a ≡ true = grind (arith, nat_tests) in
+    let t : nat_lt a (end_of r) ≡ true = grind (arith, nat_tests) in
+    ap₂ (λ x y. x && y) s t
+
+before : (r : Region) (a : ℕ) → a < r.address → is_within r a ≡ false
+before r a low =
+    let s : nat_le r.address a ≡ false = grind (arith, nat_tests) in
+    ap (λ x. x && nat_lt a (end_of r)) s
+
+-- no variable stands before the first of them
+none_before : (vs : List VariablePlace) (rows : List (List ℕ)) (from end a : ℕ) → AreInOrder from (map home_region vs) end → a < from
+    → shared_word vs rows a ≡ 0
+none_before [] rows from end a h l = refl
+none_before (v ∷ vs) [] from end a h l = refl
+none_before (v ∷ vs) (row ∷ rows) from end a h l =
+    let r = home_region v in
+    let low = h.0.from in
+    let out : is_within r a ≡ false = before r a (omega (arith, low, l)) in
+    ap (λ b. cond b (word_of_row r row a) (shared_word vs rows a)) out ∙ none_before vs rows (end_of r) end a h.1 (omega (arith, low, l))
+
+small_if : (c : Bool) (w : ℕ) → w < 0x10000 → (if c then w else 0) < 0x10000
+small_if true w h = h
+small_if false w h = omega arith
+
+holds_words : (words : List ℕ) → All (λ w. w < 0x10000) words → HoldsWords (fram_of words)
+holds_words words all a = small_if ((a % 2 == 0) && is_fram a) (slice_index words (place_of a)) (index_small words (place_of a) all)
+
+half : (p k : ℕ) → (p + 2 * k - p) / 2 ≡ k
+half p k = omega arith
+
+module _ (text : List ℕ) (p : CheckedProgram) (allow : Allow) (image : ImageValue) (ok : IsAcceptedText text p allow) (runs : IsRunnable p)
+    (c : IsCompiled text p allow image) where
+  abbrev l : LayoutValue
+  l = c.layout
+
+  abbrev f : ℕ → ℕ
+  f = fram_of image.words
+
+  laid : HasLayout p allow c.plans l
+  laid = record { allowed = ok.allowed; plan = c.is_plan; layout = c.is_layout }
+
+  abbrev rules : IsLaidOut l
+  rules = c.is_layout.rules
+
+  fits : CodeFits l (lowered l p)
+  fits = sources_have_room p allow c.plans l ok.allowed c.is_layout c.is_plan.count
+      (λ k task own at own_at. (tasks_match p allow c.plans l laid k task own (record { is_task = at; is_layout = own_at })).count)
+
+  code_end : l.boot.address + 2 * length (code_words p l) ≤ end_of l.code
+  code_end = (linked_is_code l (lowered l p) fits).end
+
+  -- the word before the code
+  data_at : (a : ℕ) → IsFram a → a < l.boot.address → f a ≡ data_word p l a
+  data_at a is low =
+      let high = rules.apart.high in
+      let end = code_end in
+      let other : (a == 0xFFFE) ≡ false = ne_eqb a 0xFFFE (λ e. omega (arith, low, high, end, e)) in
+      let out : is_within (code_region p l) a ≡ false = before (code_region p l) a low in
+      c.words.each a is
+      ∙ ap (λ b. cond b l.boot.address (if is_within (code_region p l) a then slice_index (code_words p l) ((a - l.boot.address) / 2) else data_word p l a)) other
+      ∙ ap (λ b. cond b (slice_index (code_words p l) ((a - l.boot.address) / 2)) (data_word p l a)) out
+
+  -- a word of the code
+  code_at : (k : ℕ) → k < length (code_words p l) → f (l.boot.address + 2 * k) ≡ slice_index (code_words p l) k
+  code_at k below =
+      let a = l.boot.address + 2 * k in
+      let apart = rules.apart in
+      let even = rules.even.boot in
+      let end = code_end in
+      let is : IsFram a = record { even = omega (arith, even); low = omega (arith, apart); high = omega (arith, apart, end, below) } in
+      let high = apart.high in
+      let other : (a == 0xFFFE) ≡ false = ne_eqb a 0xFFFE (λ e. omega (arith, high, end, below, e)) in
+      let there : is_within (code_region p l) a ≡ true = inside (code_region p l) a (omega arith) (omega (arith, below)) in
+      c.words.each a is
+      ∙ ap (λ b. cond b l.boot.address (if is_within (code_region p l) a then slice_index (code_words p l) ((a - l.boot.address) / 2) else data_word p l a)) other
+      ∙ ap (λ b. cond b (slice_index (code_words p l) ((a - l.boot.address) / 2)) (data_word p l a)) there
+      ∙ ap (slice_index (code_words p l)) (half l.boot.address k)
+
+  vector : f 0xFFFE ≡ l.boot.address
+  vector = c.words.each 0xFFFE (record { even = refl; low = omega arith; high = omega arith })
+
+  -- the runtime's words but CUR are 0
+  pub zero_at : (a : ℕ) → IsFram a → a ≢ l.words.current_task → a < l.homes.address → f a ≡ 0
+  zero_at a is other low =
+      let apart = rules.apart in
+      let e : (a == l.words.current_task) ≡ false = ne_eqb a l.words.current_task other in
+      data_at a is (omega (arith, apart, low))
+      ∙ ap (λ b. cond b p.entry.task (shared_word l.variables (initial_rows p) a)) e
+      ∙ none_before l.variables (initial_rows p) l.homes.address (end_of l.homes) a rules.homes low
+
+  current : f l.words.current_task ≡ p.entry.task
+  current =
+      let apart = rules.apart in
+      let a = l.words.current_task in
+      let same : (a == a) ≡ true = grind (arith, nat_tests) in
+      data_at a (record { even = rules.even.current_task; low = apart.current_task; high = omega (arith, apart) }) (omega (arith, apart))
+      ∙ ap (λ b. cond b p.entry.task (shared_word l.variables (initial_rows p) a)) same
+
+  gate : f l.words.gate ≡ 0
+  gate =
+      let apart = rules.apart in
+      zero_at l.words.gate (record { even = rules.even.gate; low = omega (arith, apart); high = omega (arith, apart) }) (λ e. omega (arith, apart, e))
+      (omega (arith, apart))
+
+  base : f l.words.base ≡ 0
+  base =
+      let apart = rules.apart in
+      zero_at l.words.base (record { even = rules.even.base; low = omega (arith, apart); high = omega (arith, apart) }) (λ e. omega (arith, apart, e))
+      (omega (arith, apart))
+
+  pub version : (i : ℕ) → i < l.versions.capacity → f (l.versions.address + 2 * i) ≡ 0
+  version i below =
+      let apart = rules.apart in
+      let even = rules.even.versions in
+      zero_at (l.versions.address + 2 * i)
+      (record { even = omega (arith, even); low = omega (arith, apart); high = omega (arith, apart, below) }) (λ e. omega (arith, apart, e))
+      (omega (arith, apart, below))
+
+  shared_at : (a : ℕ) → IsSharedWord (program_places p l) a → f a ≡ shared_word l.variables (initial_rows p) a
+  shared_at a is =
+      let apart = rules.apart in
+      let low = is.from in
+      let high = is.below in
+      let e : (a == l.words.current_task) ≡ false = ne_eqb a l.words.current_task (λ q. omega (arith, apart, low, q)) in
+      data_at a (record { even = is.even; low = omega (arith, apart, low); high = omega (arith, apart, high) }) (omega (arith, apart, high))
+      ∙ ap (λ b. cond b p.entry.task (shared_word l.variables (initial_rows p) a)) e
+
+  rests : RestsAt (program_places p l) (state_view p l) (first_state p) (fresh_world image)
+  rests = record {
+    is_open = record {
+      is_state = initial_rows_are text p ok.checks;
+      is_task = runs.entry;
+      words = holds_words image.words c.words.are_words;
+      current_task = current;
+      gate = gate;
+      accepted = refl;
+      base = base;
+      versions = λ i below. let z = version i below in omega (arith, z);
+    };
+    shared = shared_at;
+  }
+
+  pub is_fresh : IsFreshImage text p allow l image
+  is_fresh = record {
+    fits = fits;
+    code = holds_each f l.boot.address (code_words p l) code_at;
+    vector = vector;
+    rests = rests;
+    has_words = finds_state text p allow c.plans l laid (first_state p) (fresh_world image) rests;
+  }
+
+pub images_are_fresh : ImagesAreFresh
+images_are_fresh text p allow image ok runs c = is_fresh text p allow image ok runs c

@@ -1,0 +1,9 @@
+pub mod Fits
+pub mod Fram
+pub mod Initial
+pub mod Rows
+pub mod States
+pub mod Fresh
+pub mod Written
+pub mod Placing
+pub mod Ready

@@ -1,0 +1,184 @@
+-- Words that are put into an image.
+use Rattle.std.proofs.Common.{◌≡◌, ◌∙◌, ◌+◌, ◌-◌, ◌*◌, ◌/◌, ◌%◌, ◌<◌, ◌≤◌, ◌==◌, ◌&&◌, ℕ, zero, suc, Bool, true, false, cond, if◌then◌else◌, List, [], ◌∷◌, map, drop, length, replicate, refl, sym, ap, subst, arith, eqb-true, slice_index, get_or}
+use Rattle.std.proofs.lemmas.Bool.Decides.{nat_tests}
+use Rattle.std.proofs.lemmas.List.{at_drop_more}
+use Rattle.task_ast.specs.declared.Extent.{Extent}
+use Rattle.task_ast.specs.declared.Extent.TheVariants as extent
+use Rattle.task_ast.specs.declared.SharedDeclaration.{SharedDeclaration}
+use Rattle.image_text.specs.ImageValue.{place_of, zeros}
+use Rattle.fram_board.specs.Bus.{is_fram}
+use Rattle.machine_effects.specs.Machine.{fram_of}
+use Rattle.source_values.specs.Runs.{initial_words}
+use Rattle.privatise.specs.declared.place.Region.{Region}
+use Rattle.privatise.specs.declared.place.VariablePlace.{VariablePlace}
+use Rattle.privatise.specs.declared.place.VariablePlace.TheVariants.{Scalar, Array}
+use Rattle.privatise.specs.LayoutValue.{LayoutValue}
+use Rattle.privatise.specs.Places.{end_of, home_region, AreInOrder, IsLaidOut}
+use Rattle.compiled_model.specs.View.{is_within, word_of_row, shared_word}
+use Rattle.source_maps.specs.Placing.{IsOfKind, ArePlacesOf}
+use Rattle.link_image.specs.Initial.{initial_put}
+use Rattle.link_image.specs.Words.{AreWords}
+use Rattle.std.proofs.lemmas.List.Elements.{All-nil, All-cons}
+use Rattle.link_image.proofs.Fram.{within, none_before}
+
+-- the words that declarations begin with
+abbrev pub rows_of : List SharedDeclaration → List (List ℕ)
+rows_of ds = map (λ d. initial_words d.extent) ds
+
+zeros_at : (n i : ℕ) → slice_index (replicate n 0) i ≡ 0
+zeros_at zero i = refl
+zeros_at (suc n) zero = refl
+zeros_at (suc n) (suc i) = zeros_at n i
+
+-- an image without words has none
+pub blank_at : (ws : List ℕ) (a : ℕ) → ws ≡ zeros 24064 → fram_of ws a ≡ 0
+unfolding zeros
+blank_at ws a is = ap (λ x. fram_of x a) is ∙ go ((a % 2 == 0) && is_fram a)
+  where
+    go : (b : Bool) → cond b (slice_index (replicate 24064 0) (place_of a)) 0 ≡ 0
+    go true = zeros_at 24064 (place_of a)
+    go false = refl
+
+-- the place of a scalar has its word alone
+scalar_word : (home copy w a old : ℕ) (vs : List VariablePlace) (rows : List (List ℕ)) → home % 2 ≡ 0 → a % 2 ≡ 0 → old ≡ shared_word vs rows a
+    → (if a == home then w else old) ≡ shared_word (Scalar home copy ∷ vs) ((w ∷ []) ∷ rows) a
+scalar_word home copy w a old vs rows even_home even same = go (a == home) refl
+  where
+    r : Region
+    r = record { address = home; words = 1 }
+
+    go : (b : Bool) → (a == home) ≡ b → (if b then w else old) ≡ cond (is_within r a) (word_of_row r (w ∷ []) a) (shared_word vs rows a)
+    go true e =
+        let is : a ≡ home = eqb-true a home e in
+        let inside : is_within r a ≡ true = within r a (omega (arith, is)) (omega (arith, is)) in
+        let index : (a - home) / 2 ≡ 0 = omega (arith, is) in
+        sym (ap (λ b. cond b (word_of_row r (w ∷ []) a) (shared_word vs rows a)) inside ∙ ap (slice_index (w ∷ [])) index)
+    go false e =
+        let outside : is_within r a ≡ false = grind (arith, nat_tests, e, even_home, even) in
+        same ∙ sym (ap (λ b. cond b (word_of_row r (w ∷ []) a) (shared_word vs rows a)) outside)
+
+-- an array has no words yet, behind it neither
+array_word : (elements n a end : ℕ) (place : VariablePlace) (vs : List VariablePlace) (rows : List (List ℕ)) (old : ℕ) → AreInOrder (end_of (home_region place)) (map home_region vs) end
+    → old ≡ shared_word vs rows a → old ≡ shared_word (place ∷ vs) (replicate n 0 ∷ rows) a
+array_word elements n a end place vs rows old order same = go (is_within (home_region place) a) refl
+  where
+    r : Region
+    r = home_region place
+
+    go : (b : Bool) → is_within r a ≡ b → old ≡ cond b (word_of_row r (replicate n 0) a) (shared_word vs rows a)
+    go true e =
+        let below : a < end_of r = grind (arith, nat_tests, e) in
+        same ∙ none_before (end_of r) end a vs rows order below ∙ sym (zeros_at n ((a - r.address) / 2))
+    go false e = same
+
+-- one more variable, from the last to the first: the words of the rest stand, and its own is put if it is a scalar
+variable_put : (e : Extent) (place : VariablePlace) (vs : List VariablePlace) (rows : List (List ℕ)) (from end a old : ℕ) → IsOfKind e place
+    → AreInOrder from (map home_region (place ∷ vs)) end → a % 2 ≡ 0 → old ≡ shared_word vs rows a
+    → initial_put e place a old ≡ shared_word (place ∷ vs) (initial_words e ∷ rows) a
+variable_put (extent.Scalar w) (Scalar home copy) vs rows from end a old kind order even same = scalar_word home copy w a old vs rows order.0.even even same
+variable_put (extent.Scalar w) (Array elements n copies) vs rows from end a old kind order even same = absurd kind
+variable_put (extent.Array n) (Scalar home copy) vs rows from end a old kind order even same = absurd kind
+variable_put (extent.Array n) (Array elements m copies) vs rows from end a old kind order even same =
+    array_word elements n a end (Array elements m copies) vs rows old order.1 same
+
+-- places from a number on
+pub record FromHere (ds : List SharedDeclaration) (vs : List VariablePlace) (low end : ℕ) : Type 0 where
+  pub places : ArePlacesOf ds vs
+  pub from : ℕ
+  pub above : low ≤ from
+  pub order : AreInOrder from (map home_region vs) end
+
+from_number : (ds : List SharedDeclaration) (vs : List VariablePlace) (low end i : ℕ) → FromHere ds vs low end → FromHere (drop i ds) (drop i vs) low end
+from_number ds vs low end zero h = h
+from_number [] [] low end (suc i) h = h
+from_number [] (v ∷ vs) low end (suc i) h = absurd h.places
+from_number (d ∷ ds) [] low end (suc i) h = absurd h.places
+from_number (d ∷ ds) (v ∷ vs) low end (suc i) h =
+    let above = h.above in let start = h.order.0.from in
+    from_number ds vs low end i (record { places = h.places.1; from = end_of (home_region v); above = omega (arith, above, start); order = h.order.1 })
+
+-- the variable of a number, and those behind it
+pub record IsNext (d : SharedDeclaration) (v : VariablePlace) (ds : List SharedDeclaration) (vs : List VariablePlace) (low end : ℕ) : Type 0 where
+  pub here : FromHere (d ∷ ds) (v ∷ vs) low end
+
+pub next_of : (ds : List SharedDeclaration) (vs : List VariablePlace) (low end i : ℕ) (d : SharedDeclaration) (v : VariablePlace) → ArePlacesOf ds vs → AreInOrder low (map home_region vs) end
+    → i < length ds → i < length vs → d ≡ get_or ds i d → v ≡ get_or vs i v → IsNext d v (drop (i + 1) ds) (drop (i + 1) vs) low end
+next_of ds vs low end i d v places order l m a b =
+    let all : FromHere ds vs low end = record { places = places; from = low; above = omega arith; order = order } in
+    let there = from_number ds vs low end i all in
+    let one = subst (λ xs. FromHere xs (drop i vs) low end) (at_drop_more (λ xs. xs) ds i d l ∙ ap (λ x. x ∷ drop (i + 1) ds) (sym a)) there in
+    record { here = subst (λ xs. FromHere (d ∷ drop (i + 1) ds) xs low end) (at_drop_more (λ xs. xs) vs i v m ∙ ap (λ x. x ∷ drop (i + 1) vs) (sym b)) one }
+
+pub same_length : (ds : List SharedDeclaration) (vs : List VariablePlace) → ArePlacesOf ds vs → length ds ≡ length vs
+same_length [] [] h = refl
+same_length [] (v ∷ vs) h = absurd h
+same_length (d ∷ ds) [] h = absurd h
+same_length (d ∷ ds) (v ∷ vs) h = let r = same_length ds vs h.1 in omega (arith, r)
+
+pub next_put : (ds : List SharedDeclaration) (vs : List VariablePlace) (low end i : ℕ) (d : SharedDeclaration) (v : VariablePlace) → ArePlacesOf ds vs → AreInOrder low (map home_region vs) end
+    → i < length ds → i < length vs → d ≡ get_or ds i d → v ≡ get_or vs i v → (a old new : ℕ) → a % 2 ≡ 0 → old ≡ shared_word (drop (i + 1) vs) (rows_of (drop (i + 1) ds)) a
+    → new ≡ initial_put d.extent v a old → new ≡ shared_word (drop i vs) (rows_of (drop i ds)) a
+next_put ds vs low end i d v places order l m e f a old new even same put =
+    let n = (next_of ds vs low end i d v places order l m e f).here in
+    put ∙ variable_put d.extent v (drop (i + 1) vs) (rows_of (drop (i + 1) ds)) n.from end a old n.places.0 n.order even same
+    ∙ sym (at_drop_more (λ xs. shared_word (drop i vs) (rows_of xs) a) ds i d l ∙ ap (λ x. shared_word (drop i vs) (rows_of (x ∷ drop (i + 1) ds)) a) (sym e)
+    ∙ at_drop_more (λ xs. shared_word xs (rows_of (d ∷ drop (i + 1) ds)) a) vs i v m ∙ ap (λ x. shared_word (x ∷ drop (i + 1) vs) (rows_of (d ∷ drop (i + 1) ds)) a) (sym f))
+
+-- one more word behind others
+pub word_put : (at k w a old new : ℕ) (ws : List ℕ) → at % 2 ≡ 0 → a % 2 ≡ 0 → w ≡ slice_index ws k → k < length ws
+    → new ≡ (if a == at + 2 * k then w else (if is_within (record { address = at; words = k }) a then slice_index ws ((a - at) / 2) else old))
+    → new ≡ (if is_within (record { address = at; words = k + 1 }) a then slice_index ws ((a - at) / 2) else old)
+word_put at k w a old new ws even_at even word less put = put ∙ go (a == at + 2 * k) refl
+  where
+    r : Region
+    r = record { address = at; words = k }
+
+    s : Region
+    s = record { address = at; words = k + 1 }
+
+    go : (b : Bool) → (a == at + 2 * k) ≡ b
+        → (if b then w else (if is_within r a then slice_index ws ((a - at) / 2) else old)) ≡ (if is_within s a then slice_index ws ((a - at) / 2) else old)
+    go true e =
+        let is : a ≡ at + 2 * k = eqb-true a (at + 2 * k) e in
+        let inside : is_within s a ≡ true = within s a (omega (arith, is)) (omega (arith, is)) in
+        let index : (a - at) / 2 ≡ k = omega (arith, is) in
+        word ∙ ap (slice_index ws) (sym index) ∙ sym (ap (λ b. cond b (slice_index ws ((a - at) / 2)) old) inside)
+    go false e =
+        let alike : is_within r a ≡ is_within s a = grind (arith, nat_tests, e, even_at, even) in
+        ap (λ b. cond b (slice_index ws ((a - at) / 2)) old) alike
+
+-- ---- the places of a layout
+
+wider : (from low end high : ℕ) (vs : List VariablePlace) → low ≤ from → end ≤ high → AreInOrder from (map home_region vs) end → AreInOrder low (map home_region vs) high
+wider from low end high [] l h o = omega (arith, l, h, o)
+wider from low end high (v ∷ vs) l h o =
+    let start = o.0.from in
+    (record { from = omega (arith, l, start); even = o.0.even }, wider (end_of (home_region v)) (end_of (home_region v)) end high vs (omega arith) h o.1)
+
+pub wider_order : (l : LayoutValue) → IsLaidOut l → AreInOrder 17408 (map home_region l.variables) 65534
+wider_order l h =
+    let a1 = h.apart.current_task in let a2 = h.apart.next_task in let a3 = h.apart.gate in let a4 = h.apart.list_length in
+    let a5 = h.apart.emit_count in let a6 = h.apart.base in let a7 = h.apart.sent_base in let a8 = h.apart.version in
+    let a9 = h.apart.list in let b1 = h.apart.emits in let b2 = h.apart.versions in let b3 = h.apart.homes in
+    let b4 = h.apart.copies in let b5 = h.apart.boot in let b6 = h.apart.commit in let b7 = h.apart.code in let b8 = h.apart.high in
+    wider l.homes.address 17408 (end_of l.homes) 65534 l.variables (omega (arith, a1, a2, a3, a4, a5, a6, a7, a8, a9, b1, b2, b3)) (omega (arith, b4, b5, b6, b7, b8)) h.homes
+
+-- ---- words
+
+replicated : (n : ℕ) → AreWords (replicate n 0)
+replicated zero = All-nil (λ w. w < 0x10000)
+replicated (suc n) = All-cons (λ w. w < 0x10000) 0 (replicate n 0) (omega arith) (replicated n)
+
+pub zeros_are_words : (n : ℕ) → AreWords (zeros n)
+unfolding zeros
+zeros_are_words n = replicated n
+
+-- a variable of a number stands at an even address behind the first
+pub region_at : (vs : List VariablePlace) (low end k : ℕ) (e : VariablePlace) → AreInOrder low (map home_region vs) end → k < length vs
+    → ((home_region (get_or vs k e)).address % 2 ≡ 0) × (low ≤ (home_region (get_or vs k e)).address)
+region_at [] low end k e o l = absurd (omega (arith, l))
+region_at (v ∷ vs) low end zero e o l = (o.0.even, o.0.from)
+region_at (v ∷ vs) low end (suc k) e o l =
+    let start = o.0.from in
+    let r = region_at vs (end_of (home_region v)) end k e o.1 (omega (arith, l)) in
+    let above = r.1 in (r.0, omega (arith, start, above))

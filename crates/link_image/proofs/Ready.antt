@@ -1,0 +1,42 @@
+-- A source with its plan and its layout is ready to be linked.
+use Rattle.std.proofs.Common.{ℕ, List, arith}
+use Rattle.cost_bound.specs.declared.allowance.Allow.{Allow}
+use Rattle.source_values.specs.Runs.{CheckedProgram, IsRunnable}
+use Rattle.source_meaning.specs.Acceptance.{IsAcceptedText}
+use Rattle.war_analysis.specs.PlanValue.{TaskPlanValue}
+use Rattle.war_analysis.specs.Plans.{IsPlan}
+use Rattle.war_analysis.specs.Laws.{ScalarsAreCounted}
+use Rattle.privatise.specs.LayoutValue.{LayoutValue}
+use Rattle.privatise.specs.Layouts.{IsLayout}
+use Rattle.lower.specs.Sizes.{BlocksKeepToWords}
+use Rattle.linked_code.specs.Rooms.{LayoutsHaveRoom}
+use Rattle.whole_programs.specs.Laws.{ProgramsAreWhole}
+use Rattle.source_names.specs.Names.{NamesAreNames}
+use Rattle.source_maps.specs.Laws.{MapsAreOfSources}
+use Rattle.link_image.specs.Needs.{IsReadyToLink}
+use Rattle.link_image.proofs.Fits.{code_fits}
+
+pub ready : LayoutsHaveRoom → BlocksKeepToWords → ((p : CheckedProgram) → ScalarsAreCounted p) → ProgramsAreWhole → NamesAreNames → MapsAreOfSources
+    → (text : List ℕ) (p : CheckedProgram) (allow : Allow) (plans : List TaskPlanValue) (l : LayoutValue) → IsAcceptedText text p allow → IsRunnable p → IsPlan p plans → IsLayout p allow plans l
+    → IsReadyToLink text p allow l
+ready rooms keep counted whole named mapped text p allow plans l accepted runnable planned laid =
+    let programs = whole text p allow plans l (record { accepted = accepted; plan = planned; layout = laid }) in
+    let names = named text p accepted.checks in
+    let entry = runnable.entry in
+    record {
+      fits = code_fits rooms keep counted p allow plans l accepted.allowed planned laid;
+      whole = programs.0;
+      of_words = programs.1;
+      same_tasks = laid.tasks.count;
+      same_variables = laid.variables.count;
+      names = names;
+      source_map = mapped text p allow plans l (record {
+        names = names;
+        few_shared = runnable.few_shared;
+        few_tasks = runnable.few_tasks;
+        allowed = accepted.allowed;
+        plan = planned;
+        layout = laid;
+      });
+      some_task = omega (arith, entry);
+    }

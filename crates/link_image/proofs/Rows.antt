@@ -1,0 +1,81 @@
+-- A world that rests at a state has its words where the map says.
+use Rattle.std.proofs.Common.{◌≡◌, ℕ, zero, suc, ◌+◌, ◌*◌, ◌<◌, ◌≤◌, ◌==◌, ◌&&◌, refl, sym, ap, ap₂, ◌∙◌, subst, arith, Bool, true, false, eqb-true, List, [], ◌∷◌, length, map, get_or, Option, Some, None}
+use Rattle.std.proofs.lemmas.List.{length-replicate}
+use Rattle.std.specs.Prelude.{slice_get, slice_index, slice_index_or}
+use Rattle.task_ast.specs.declared.SharedDeclaration.{SharedDeclaration}
+use Rattle.task_ast.specs.declared.Extent.{Extent}
+use Rattle.task_ast.specs.declared.Extent.TheVariants as extent
+use Rattle.image_map.specs.declared.parts.Variable.{Variable}
+use Rattle.board_run.specs.History.{SharedWord, array_words, variable_words}
+use Rattle.source_values.specs.Runs.{initial_words}
+use Rattle.privatise.specs.declared.place.VariablePlace.{VariablePlace}
+use Rattle.privatise.specs.declared.place.VariablePlace.TheVariants.{Scalar, Array}
+use Rattle.privatise.specs.Places.{home_region}
+use Rattle.machine_effects.specs.World.{World}
+use Rattle.run_events.specs.Events.{world_values}
+use Rattle.source_events.specs.Transitions.{length_of, rows_in}
+use Rattle.compiled_model.specs.View.{are_words, are_rows}
+use Rattle.source_maps.specs.Maps.{variable_of, variables_of}
+
+both_hold : (a b : Bool) → (a && b) ≡ true → (a ≡ true) × (b ≡ true)
+both_hold true b h = (refl, h)
+both_hold false b h = absurd (cc h)
+
+-- a place of a variable of this extent
+abbrev pub Matches : Extent → VariablePlace → Type 0
+Matches (extent.Scalar w) (Scalar home copy) = Unit {0}
+Matches (extent.Scalar w) (Array elements n copies) = ⊥
+Matches (extent.Array n) (Scalar home copy) = ⊥
+Matches (extent.Array n) (Array elements k copies) = k ≡ n
+
+-- a row stands at a place
+abbrev pub RowStands : World → List ℕ → VariablePlace → Type 0
+RowStands x row place = (i : ℕ) → i < (home_region place).words → x.fram (2 * i + (home_region place).address) ≡ slice_index row i
+
+array_row : (x : World) (name : List ℕ) (a i n : ℕ) (row : List ℕ) → length row ≡ n → ((k : ℕ) → k < n → x.fram (2 * k + a) ≡ slice_index row k)
+    → world_values x (array_words name a i n) ≡ row
+array_row x name a i zero [] e h = refl
+array_row x name a i zero (w ∷ row) e h = absurd (omega (arith, e))
+array_row x name a i (suc n) [] e h = absurd (omega (arith, e))
+array_row x name a i (suc n) (w ∷ row) e h =
+    let here : x.fram a ≡ w = ap x.fram (first a) ∙ h 0 (omega arith) in
+    let more = array_row x name (a + 2) (i + 1) n row (omega (arith, e)) (λ k l. ap x.fram (next k a) ∙ h (suc k) (omega (arith, l))) in
+    ap₂ (λ p q. p ∷ q) here more
+  where
+    first : (a : ℕ) → a ≡ 2 * 0 + a
+    first a = omega arith
+
+    next : (k a : ℕ) → 2 * k + (a + 2) ≡ 2 * suc k + a
+    next k a = omega arith
+
+one_row : (x : World) (text : List ℕ) (d : SharedDeclaration) (e : Extent) (place : VariablePlace) (row : List ℕ) → Matches e place
+    → length row ≡ length (initial_words e) → RowStands x row place
+    → world_values x (variable_words (variable_of text d place).name (variable_of text d place).address (length_of e)) ≡ row
+one_row x text d (extent.Scalar w) (Scalar home copy) [] m l h = absurd (cc l)
+one_row x text d (extent.Scalar w) (Scalar home copy) (v ∷ []) m l h =
+    let here : x.fram home ≡ v = ap x.fram (first home) ∙ h 0 (omega arith) in ap (λ p. p ∷ []) here
+  where
+    first : (a : ℕ) → a ≡ 2 * 0 + a
+    first a = omega arith
+one_row x text d (extent.Scalar w) (Scalar home copy) (v ∷ u ∷ row) m l h = absurd (omega (arith, l))
+one_row x text d (extent.Scalar w) (Array elements n copies) row m l h = absurd m
+one_row x text d (extent.Array n) (Scalar home copy) row m l h = absurd m
+one_row x text d (extent.Array n) (Array elements k copies) row m l h =
+    array_row x (variable_of text d (Array elements k copies)).name elements 0 n row (l ∙ length-replicate n 0) (λ i below. h i (omega (arith, below, m)))
+
+-- rows that stand at the places of their declarations are those that the map's variables name
+pub all_rows : (x : World) (text : List ℕ) (ds : List SharedDeclaration) (places : List VariablePlace) (rows : List (List ℕ))
+    → length places ≡ length ds → are_rows ds rows ≡ true
+    → ((v : ℕ) (d : SharedDeclaration) (place : VariablePlace) → slice_get ds v ≡ Some d → slice_get places v ≡ Some place → Matches d.extent place)
+    → ((v : ℕ) (place : VariablePlace) → slice_get places v ≡ Some place → RowStands x (slice_index_or rows v []) place)
+    → rows_in x (variables_of text ds places) ≡ rows
+all_rows x text [] places [] count are match stand = refl
+all_rows x text [] places (row ∷ rows) count are match stand = absurd (cc are)
+all_rows x text (d ∷ ds) places [] count are match stand = absurd (cc are)
+all_rows x text (d ∷ ds) [] (row ∷ rows) count are match stand = absurd (omega (arith, count))
+all_rows x text (d ∷ ds) (place ∷ places) (row ∷ rows) count are match stand =
+    let two = both_hold (length row == length (initial_words d.extent)) (are_words row && are_rows ds rows) are in
+    let more = (both_hold (are_words row) (are_rows ds rows) two.1).1 in
+    ap₂ (λ p q. p ∷ q)
+    (one_row x text d d.extent place row (match 0 d place refl refl) (eqb-true (length row) (length (initial_words d.extent)) two.0) (stand 0 place refl))
+    (all_rows x text ds places rows (omega (arith, count)) more (λ v. match (suc v)) (λ v. stand (suc v)))

@@ -1,0 +1,52 @@
+-- Where the world rests at a state of the source, the map finds the state's words in it.
+use Rattle.std.proofs.Common.{◌≡◌, ℕ, ◌+◌, ◌*◌, ◌<◌, refl, ◌∙◌, List, [], Bool, Some}
+use Rattle.std.specs.Prelude.{slice_get, slice_index_or}
+use Rattle.task_ast.specs.declared.SharedDeclaration.{SharedDeclaration}
+use Rattle.task_ast.specs.declared.Extent.{Extent}
+use Rattle.task_ast.specs.declared.Extent.TheVariants as extent
+use Rattle.cost_bound.specs.declared.allowance.Allow.{Allow}
+use Rattle.cost_bound.specs.Allowance.{is_written}
+use Rattle.source_values.specs.Runs.{CheckedProgram, State}
+use Rattle.war_analysis.specs.PlanValue.{TaskPlanValue}
+use Rattle.privatise.specs.declared.place.VariablePlace.{VariablePlace}
+use Rattle.privatise.specs.declared.place.VariablePlace.TheVariants.{Scalar, Array}
+use Rattle.privatise.specs.LayoutValue.{LayoutValue}
+use Rattle.privatise.specs.Places.{home_region}
+use Rattle.privatise.specs.Layouts.{IsPlaceOf}
+use Rattle.machine_effects.specs.World.{World}
+use Rattle.stands_for.specs.StandsFor.{RestsAt}
+use Rattle.source_events.specs.Transitions.{HasWordsOf}
+use Rattle.compiled_model.specs.Places.{program_places}
+use Rattle.compiled_model.specs.View.{state_view}
+use Rattle.layout_facts.specs.Facts.{HasLayout, IsWordOf}
+use Rattle.layout_facts.proofs.Homes.{words_of_variables_are_shared}
+use Rattle.layout_facts.proofs.Views.{view_has_their_words}
+use Rattle.source_maps.specs.Maps.{map_of}
+use Rattle.link_image.specs.Laws.{MapsFindStates}
+use Rattle.link_image.proofs.Rows.{Matches, RowStands, all_rows}
+
+matches : (written : Bool) (e : Extent) (place : VariablePlace) → IsPlaceOf written e place → Matches e place
+matches written (extent.Scalar w) (Scalar home copy) h = tt
+matches written (extent.Scalar w) (Array elements n copies) h = absurd h
+matches written (extent.Array n) (Scalar home copy) h = absurd h
+matches written (extent.Array n) (Array elements k copies) h = h.0
+
+module _ (text : List ℕ) (p : CheckedProgram) (allow : Allow) (plans : List TaskPlanValue) (l : LayoutValue) (laid : HasLayout p allow plans l)
+    (s : State) (x : World) (rests : RestsAt (program_places p l) (state_view p l) s x) where
+  row_stands : (v : ℕ) (place : VariablePlace) → slice_get l.variables v ≡ Some place → RowStands x (slice_index_or s.shared v []) place
+  row_stands v place at i below =
+      let a = 2 * i + (home_region place).address in
+      let word : IsWordOf l v i a = record { place = place; at = at; below = below; address = refl } in
+      rests.shared a (words_of_variables_are_shared p allow plans l laid v i a word) ∙ view_has_their_words p allow plans l laid s.shared v i a word
+
+  pub finds_state : HasWordsOf (map_of text p l allow) x s
+  finds_state = record {
+    task = rests.is_open.current_task;
+    shared = all_rows x text p.shared l.variables s.shared laid.layout.variables.count rests.is_open.is_state
+        (λ v d place at at_place. matches (is_written p.tasks v) d.extent place (laid.layout.variables.each v d place at at_place)) row_stands;
+    accepted = rests.is_open.accepted;
+  }
+
+pub maps_find_states : MapsFindStates
+maps_find_states text p allow image ok c s x rests =
+    finds_state text p allow c.plans c.layout (record { allowed = ok.allowed; plan = c.is_plan; layout = c.is_layout }) s x rests

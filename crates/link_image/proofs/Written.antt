@@ -1,0 +1,145 @@
+-- The words of the code, written part by part.
+use Rattle.std.proofs.Common.{◌≡◌, ◌∙◌, ℕ, zero, suc, ◌+◌, ◌-◌, ◌*◌, ◌/◌, ◌%◌, ◌<◌, ◌≤◌, List, [], ◌∷◌, ◌++◌, map, length, drop, refl, sym, ap, ap₂, subst, arith, append_assoc, length-append, get_or}
+use Rattle.std.specs.Prelude.{All}
+use Rattle.std.proofs.lemmas.List.{at_drop_more}
+use Rattle.msp_isa.specs.declared.instructions.Instr.{Instr}
+use Rattle.msp_isa.specs.Encoding.{encoding}
+use Rattle.code_forms.specs.Forms.{Form, instruction_of}
+use Rattle.code_forms.specs.Placed.{instructions, words_of}
+use Rattle.runtime_code.proofs.Sizes.{code_bytes}
+use Rattle.array_versions.specs.Program.{Program}
+use Rattle.array_versions.specs.View.{program_of}
+use Rattle.array_versions.specs.Form.{IsWhole}
+use Rattle.std.proofs.lemmas.List.Elements.{All-head, All-tail}
+use Rattle.array_versions.specs.declared.program.WordProgram.{WordProgram}
+use Rattle.codegen.specs.Code.{repeated}
+use Rattle.privatise.specs.LayoutValue.{LayoutValue, TaskLayoutValue}
+use Rattle.privatise.specs.Places.{end_of}
+use Rattle.linked_code.specs.Parts.{filler, CodePart, part_end, chained, PartsInOrder}
+use Rattle.linked_code.specs.Linked.{boot_part, commit_part, task_part, task_parts, linked, ProgramsFit, CodeFits}
+use Rattle.linked_code.proofs.Linked.{in_order}
+
+-- the words of forms
+abbrev pub words_in : List Form → List ℕ
+words_in ms = words_of (instructions ms)
+
+words_joined : (a b : List Instr) → words_of (a ++ b) ≡ words_of a ++ words_of b
+words_joined [] b = refl
+words_joined (i ∷ a) b = ap (λ l. encoding i ++ l) (words_joined a b) ∙ sym (append_assoc (encoding i) (words_of a) (words_of b))
+
+instructions_joined : (a b : List Form) → instructions (a ++ b) ≡ instructions a ++ instructions b
+instructions_joined [] b = refl
+instructions_joined (m ∷ a) b = ap (λ l. instruction_of m ∷ l) (instructions_joined a b)
+
+pub joined : (a b : List Form) → words_in (a ++ b) ≡ words_in a ++ words_in b
+joined a b = ap words_of (instructions_joined a b) ∙ words_joined (instructions a) (instructions b)
+
+-- one more filler
+pub filler_more : (n i : ℕ) → i < n → words_in (repeated (n - i) filler) ≡ 0x3FFF ∷ words_in (repeated (n - (i + 1)) filler)
+filler_more n i l = let e : n - i ≡ suc (n - (i + 1)) = omega (arith, l) in ap (λ k. words_in (repeated k filler)) e
+
+filler_length : (k : ℕ) → length (words_in (repeated k filler)) ≡ k
+filler_length zero = refl
+filler_length (suc k) = let r = filler_length k in omega (arith, r)
+
+-- a part behind others
+pub part_words : (start : ℕ) (old new all : List ℕ) (part : CodePart) (parts : List CodePart) → start % 2 ≡ 0 → part.address % 2 ≡ 0 → start + 2 * length old ≤ part.address
+    → new ≡ old ++ (words_in (repeated ((part.address - (start + 2 * length old)) / 2) filler) ++ words_in part.forms)
+    → old ++ words_in (chained (start + 2 * length old) (part ∷ parts)) ≡ all
+    → (start + 2 * length new ≡ part_end part) × (new ++ words_in (chained (start + 2 * length new) parts) ≡ all)
+part_words start old new all part parts even_start even from is rest =
+    let k = (part.address - (start + 2 * length old)) / 2 in
+    let f = repeated k filler in
+    let more = chained (part_end part) parts in
+    let count = ap length is ∙ length-append old (words_in f ++ words_in part.forms) in
+    let inner = length-append (words_in f) (words_in part.forms) in
+    let filled = filler_length k in
+    let bytes = code_bytes part.forms in
+    let end : start + 2 * length new ≡ part_end part = omega (arith, count, inner, filled, bytes, even_start, even, from) in (
+      end,
+      ap₂ (λ n e. n ++ words_in (chained e parts)) is end
+          ∙ append_assoc old (words_in f ++ words_in part.forms) (words_in more)
+          ∙ ap (λ l. old ++ l) (append_assoc (words_in f) (words_in part.forms) (words_in more) ∙ ap (λ l. words_in f ++ l) (sym (joined part.forms more)) ∙ sym (joined f (part.forms ++ more)))
+          ∙ rest,
+    )
+
+-- ---- tasks
+
+pub parts_more : (ts : List TaskLayoutValue) (ps : List WordProgram) (k : ℕ) (t : TaskLayoutValue) (p : WordProgram) → k < length ts → k < length ps → t ≡ get_or ts k t → p ≡ get_or ps k p
+    → task_parts (drop k ts) (map program_of (drop k ps)) ≡ task_part t (program_of p) ∷ task_parts (drop (k + 1) ts) (map program_of (drop (k + 1) ps))
+parts_more ts ps k t p l m a b =
+    at_drop_more (λ xs. task_parts xs (map program_of (drop k ps))) ts k t l ∙ ap (λ x. task_parts (x ∷ drop (k + 1) ts) (map program_of (drop k ps))) (sym a)
+    ∙ at_drop_more (λ xs. task_parts (t ∷ drop (k + 1) ts) (map program_of xs)) ps k p m
+    ∙ ap (λ x. task_parts (t ∷ drop (k + 1) ts) (map program_of (x ∷ drop (k + 1) ps))) (sym b)
+
+pub weaker_order : (from end more : ℕ) (parts : List CodePart) → end ≤ more → PartsInOrder from parts end → PartsInOrder from parts more
+weaker_order from end more [] l o = omega (arith, l, o)
+weaker_order from end more (part ∷ parts) l o = (o.0, weaker_order (part_end part) end more parts l o.1)
+
+pub same_count : (ts : List TaskLayoutValue) (ps : List Program) → ProgramsFit ts ps → length ts ≡ length ps
+same_count [] [] f = refl
+same_count [] (p ∷ ps) f = absurd f
+same_count (t ∷ ts) [] f = absurd f
+same_count (t ∷ ts) (p ∷ ps) f = let r = same_count ts ps f.1 in omega (arith, r)
+
+-- parts in order end behind where they begin
+pub order_end : (from end : ℕ) (parts : List CodePart) → PartsInOrder from parts end → from ≤ end
+order_end from end [] o = o
+order_end from end (part ∷ parts) o =
+    let start = o.0.from in let rest = order_end (part_end part) end parts o.1 in omega (arith, start, rest)
+
+-- the next task, and those behind it
+pub next_order : (ts : List TaskLayoutValue) (ps : List WordProgram) (at k : ℕ) (t : TaskLayoutValue) (p : WordProgram) → k < length ts → length ts ≡ length ps → t ≡ get_or ts k t → p ≡ get_or ps k p
+    → PartsInOrder at (task_parts (drop k ts) (map program_of (drop k ps))) 65534
+    → PartsInOrder at (task_part t (program_of p) ∷ task_parts (drop (k + 1) ts) (map program_of (drop (k + 1) ps))) 65534
+next_order ts ps at k t p l n a b o = subst (λ parts. PartsInOrder at parts 65534) (parts_more ts ps k t p l (omega (arith, l, n)) a b) o
+
+pub next_whole : (ps : List WordProgram) (k : ℕ) (p : WordProgram) → k < length ps → p ≡ get_or ps k p → All IsWhole (map program_of (drop k ps))
+    → IsWhole (program_of p) × All IsWhole (map program_of (drop (k + 1) ps))
+next_whole ps k p l a h =
+    let there = subst (All IsWhole) (at_drop_more (λ xs. map program_of xs) ps k p l ∙ ap (λ x. map program_of (x ∷ drop (k + 1) ps)) (sym a)) h in
+    (All-head IsWhole (program_of p) (map program_of (drop (k + 1) ps)) there, All-tail IsWhole (program_of p) (map program_of (drop (k + 1) ps)) there)
+
+-- ---- the whole code
+
+module _ (l : LayoutValue) (programs : List Program) (fits : CodeFits l programs) where
+  -- what is written when so many words stand, with the other parts behind them
+  pub record WrittenTo (start : ℕ) (words : List ℕ) (end : ℕ) (parts : List CodePart) : Type 0 where
+    pub there : start + 2 * length words ≡ end
+    pub rest : words ++ words_in (chained (start + 2 * length words) parts) ≡ words_of (linked l programs)
+
+  abbrev pub others : List CodePart
+  others = commit_part l ∷ task_parts l.tasks programs
+
+  -- a part written behind others
+  abbrev written : ℕ → ℕ → List ℕ → List Instr → List ℕ
+  written start at words code = words ++ (words_in (repeated ((at - (start + 2 * length words)) / 2) filler) ++ words_of code)
+
+  pub after_boot : (start : ℕ) (old new : List ℕ) (code : List Instr) → start ≡ l.boot.address → old ≡ [] → code ≡ instructions (boot_part l).forms → new ≡ written start start old code
+      → WrittenTo start new (part_end (boot_part l)) others
+  after_boot start old new code s o k is =
+      let same : new ≡ written l.boot.address l.boot.address [] (instructions (boot_part l).forms) =
+      is ∙ ap (λ x. written x x old code) s ∙ ap (λ x. written l.boot.address l.boot.address x code) o ∙ ap (written l.boot.address l.boot.address []) k in
+      let begin : l.boot.address + 2 * length {A = ℕ} [] ≡ l.boot.address = omega arith in
+      let r = part_words l.boot.address [] new (words_of (linked l programs)) (boot_part l) others fits.rules.even.boot fits.rules.even.boot (omega arith) same
+      (ap (λ a. words_in (chained a (boot_part l ∷ others))) begin) in
+      subst (λ x. WrittenTo x new (part_end (boot_part l)) others) (sym s) (record { there = r.0; rest = r.1 })
+
+  pub commit_behind : (start : ℕ) (words : List ℕ) → WrittenTo start words (part_end (boot_part l)) others → start + 2 * length words ≤ l.commit.address
+  commit_behind start words h = let there = h.there in let from = (in_order l programs fits).1.0.from in omega (arith, there, from)
+
+  pub after_commit : (start at : ℕ) (old new : List ℕ) (code : List Instr) → start ≡ l.boot.address → at ≡ l.commit.address → code ≡ instructions (commit_part l).forms
+      → WrittenTo start old (part_end (boot_part l)) others → new ≡ written start at old code → WrittenTo start new (part_end (commit_part l)) (task_parts l.tasks programs)
+  after_commit start at old new code s a k before is =
+      let same : new ≡ written start l.commit.address old (instructions (commit_part l).forms) =
+      is ∙ ap (λ x. written start x old code) a ∙ ap (written start l.commit.address old) k in
+      let even : start % 2 ≡ 0 = ap (λ x. x % 2) s ∙ fits.rules.even.boot in
+      let r = part_words start old new (words_of (linked l programs)) (commit_part l) (task_parts l.tasks programs) even fits.rules.even.commit (commit_behind start old before) same before.rest in
+      record { there = r.0; rest = r.1 }
+
+  pub tasks_behind : (start : ℕ) (words : List ℕ) → WrittenTo start words (part_end (commit_part l)) (task_parts l.tasks programs)
+      → PartsInOrder (start + 2 * length words) (task_parts l.tasks programs) 65534
+  tasks_behind start words h =
+      let high = fits.rules.apart.high in
+      subst (λ x. PartsInOrder x (task_parts l.tasks programs) 65534) (sym h.there)
+      (weaker_order (part_end (commit_part l)) (end_of l.code) 65534 (task_parts l.tasks programs) (omega (arith, high)) (in_order l programs fits).1.1)

@@ -1,0 +1,11 @@
+use Rattle.std.proofs.Common.{◌∙◌, ◌++◌, ◌∷◌, [], ◌-◌, ◌+◌, ap, sym, append_assoc}
+use Rattle.linked_code.specs.Parts.{filler}
+use Rattle.codegen.specs.Code.{repeated}
+use Rattle.link_image.proofs.Written.{words_in, filler_more}
+use Rattle.link_image.proofs.code.push_filler.Goals as goal
+
+pub loop-i-preserved : goal.loop-i-preserved
+loop-i-preserved c =
+    let rest = words_in (repeated (c.args.count - (c.loop-i.i + 1)) filler) in
+    ap (λ l. l ++ rest) c.in_ok-push.ensures.items ∙ append_assoc c.loop-i.words.items (0x3FFF ∷ []) rest
+    ∙ ap (λ l. c.loop-i.words.items ++ l) (sym (filler_more c.args.count c.loop-i.i c.loop-i-test.true)) ∙ c.loop-i.invariant

@@ -1,0 +1,51 @@
+use Rattle.std.proofs.Common.{◌≡◌, ◌∙◌, ◌-◌, ◌/◌, ◌==◌, ℕ, List, if◌then◌else◌, ap, sym, subst, length, map, arith, slice_index}
+use Rattle.task_ast.specs.View as tree
+use Rattle.task_ast.specs.declared.SharedDeclaration.{SharedDeclaration}
+use Rattle.array_versions.specs.View.{program_of}
+use Rattle.code_forms.specs.Placed.{words_of}
+use Rattle.source_values.specs.Runs.{initial_words}
+use Rattle.privatise.specs.LayoutValue.{LayoutValue}
+use Rattle.lower.specs.Lowered.{lowered}
+use Rattle.linked_code.specs.Linked.{linked}
+use Rattle.compiled_model.specs.View.{is_within, shared_word}
+use Rattle.link_image.specs.Words.{code_words, AreWords}
+use Rattle.link_image.proofs.Placing.{zeros_are_words}
+use Rattle.link_image.proofs.linking.image_of.Goals as goal
+
+-- the word at an address, by the code, the declarations and the entry task
+abbrev word_by : LayoutValue → List ℕ → List SharedDeclaration → ℕ → ℕ → ℕ
+word_by l code ds entry a = if a == 0xFFFE then l.boot.address
+    else if is_within (record { address = l.boot.address; words = length code }) a then slice_index code ((a - l.boot.address) / 2)
+    else if a == l.words.current_task then entry
+    else shared_word l.variables (map (λ d. initial_words d.extent) ds) a
+
+pub put_image-requires-clause-room : goal.put_image-requires-clause-room
+put_image-requires-clause-room c =
+    let l = c.args.layout.now in
+    let p = tree.program_of c.args.accepted.now.checked.source in
+    let code : c.as_slice-3.result.now ≡ code_words p l =
+    c.as_slice-3.ensures.value ∙ c.in_ok-code.ensures ∙ ap (λ ps. words_of (linked l (map program_of ps))) c.as_slice.ensures.value
+    ∙ ap (λ qs. words_of (linked l qs)) (c.in_ok-programs.ensures ∙ ap (λ ch. lowered l (tree.program_of ch.source)) c.checked-checked.ensures) in
+    let size = ap length code in
+    let end = (c.linked_is_code.ensures l (lowered l p) c.requires.fits).end in
+    let high = c.requires.fits.rules.apart.high in
+    omega (arith, size, end, high)
+
+pub returns : goal.returns
+returns c =
+    let l = c.args.layout.now in
+    let p = tree.program_of c.args.accepted.now.checked.source in
+    let source : c.source-source.result.now ≡ c.args.accepted.now.checked.source = c.source-source.ensures ∙ ap (λ ch. ch.source) c.checked-checked.ensures in
+    let code : c.as_slice-3.result.now ≡ code_words p l =
+    c.as_slice-3.ensures.value ∙ c.in_ok-code.ensures ∙ ap (λ ps. words_of (linked l (map program_of ps))) c.as_slice.ensures.value
+    ∙ ap (λ qs. words_of (linked l qs)) (c.in_ok-programs.ensures ∙ ap (λ ch. lowered l (tree.program_of ch.source)) c.checked-checked.ensures) in
+    let shared : c.as_slice-2.result.now ≡ p.shared = c.as_slice-2.ensures.value ∙ ap (λ s. s.shared.items) source in
+    let blank : AreWords c.in_ok-image.image.words = subst (λ i. AreWords i.words) (sym c.in_ok-image.ensures) (zeros_are_words 24064) in
+    record {
+      count = ap length (sym c.words-2.ensures.value) ∙ c.words-2.ensures.len;
+      are_words = c.put_image.ensures.are_words blank;
+      each = λ a is. c.put_image.ensures.each a is
+          ∙ ap (λ x. word_by l x c.as_slice-2.result.now c.source-source.result.now.entry.task a) code
+          ∙ ap (λ x. word_by l (code_words p l) x c.source-source.result.now.entry.task a) shared
+          ∙ ap (λ s. word_by l (code_words p l) p.shared s.entry.task a) source;
+    }

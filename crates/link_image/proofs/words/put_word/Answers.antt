@@ -1,0 +1,16 @@
+use Rattle.std.proofs.Common.{◌∙◌, ◌<◌, ap, sym, subst, length, arith}
+use Rattle.machine_effects.specs.Machine.{fram_of}
+use Rattle.std.proofs.lemmas.List.Elements.{All-set}
+use Rattle.image_text.specs.ImageValue.{place_of}
+use Rattle.link_image.specs.Words.{AreWords}
+use Rattle.link_image.proofs.Fram.{fram_set}
+use Rattle.link_image.proofs.words.put_word.Goals as goal
+
+pub returns-clause-each : goal.returns-clause-each
+returns-clause-each c = λ a is. ap (λ i. fram_of i.words a) c.set.ensures
+    ∙ fram_set c.args.image.now.words c.args.at c.args.word a (ap length (sym c.words.ensures.value) ∙ c.words.ensures.len)
+    (record { even = c.requires.even; low = c.requires.low; high = omega (arith, c.ranges.at.fits) }) is
+
+pub returns-clause-are_words : goal.returns-clause-are_words
+returns-clause-are_words c = λ h.
+    subst (λ i. AreWords i.words) (sym c.set.ensures) (All-set (λ w. w < 0x10000) c.args.image.now.words (place_of c.args.at) c.args.word (omega (arith, c.ranges.word.fits)) h)

@@ -1,0 +1,31 @@
+-- The image of an accepted source.
+use Rattle.std.specs.Prelude.{◌≡◌, ℕ, List, All, Some}
+use Rattle.cost_bound.specs.declared.allowance.Allow.{Allow}
+use Rattle.source_values.specs.Runs.{CheckedProgram}
+use Rattle.war_analysis.specs.PlanValue.{TaskPlanValue}
+use Rattle.war_analysis.specs.Plans.{IsPlan}
+use Rattle.privatise.specs.LayoutValue.{LayoutValue}
+use Rattle.privatise.specs.Layouts.{IsLayout}
+use Rattle.array_versions.specs.Form.{OfWords}
+use Rattle.image_text.specs.ImageValue.{ImageValue}
+use Rattle.lower.specs.Lowered.{lowered}
+use Rattle.source_meaning.specs.Acceptance.{IsAcceptedText}
+use Rattle.link_image.specs.Words.{AreImageWords}
+use Rattle.source_maps.specs.Maps.{map_of}
+
+-- an image has the words and the map of a source's layout, of which there is one: the layout for the source's plan and its allowance
+pub record IsCompiled (text : List ℕ) (p : CheckedProgram) (allow : Allow) (image : ImageValue) : Type 0 where
+  pub plans : List TaskPlanValue
+  pub layout : LayoutValue
+  pub is_plan : IsPlan p plans
+  pub is_layout : IsLayout p allow plans layout
+  pub of_words : All OfWords (lowered layout p)
+  pub words : AreImageWords p layout image.words
+  pub map : image.map ≡ Some (map_of text p layout allow)
+
+-- the text is accepted, and this is an image of it
+pub record IsImageOf (text : List ℕ) (image : ImageValue) : Type 0 where
+  pub program : CheckedProgram
+  pub allow : Allow
+  pub accepted : IsAcceptedText text program allow
+  pub compiled : IsCompiled text program allow image

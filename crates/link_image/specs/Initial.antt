@@ -1,0 +1,13 @@
+-- The initial words of shared scalars.
+use Rattle.std.specs.Prelude.{ℕ, ◌==◌, if◌then◌else◌}
+use Rattle.task_ast.specs.declared.Extent.{Extent}
+use Rattle.task_ast.specs.declared.Extent.TheVariants as extent
+use Rattle.privatise.specs.declared.place.VariablePlace.{VariablePlace}
+use Rattle.privatise.specs.declared.place.VariablePlace.TheVariants.{Scalar, Array}
+
+-- the word at an address where the initial word of a variable is put: a scalar's at its home
+abbrev pub initial_put : Extent → VariablePlace → ℕ → ℕ → ℕ
+initial_put (extent.Scalar w) (Scalar home copy) a old = if a == home then w else old
+initial_put (extent.Scalar w) (Array elements n copies) a old = old
+initial_put (extent.Array n) (Scalar home copy) a old = old
+initial_put (extent.Array n) (Array elements m copies) a old = old

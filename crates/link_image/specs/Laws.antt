@@ -1,0 +1,42 @@
+-- What holds of the image of an accepted source.
+use Rattle.std.specs.Prelude.{◌≡◌, ℕ, List, []}
+use Rattle.cost_bound.specs.declared.allowance.Allow.{Allow}
+use Rattle.source_values.specs.Runs.{CheckedProgram, State, IsRunnable, first_state}
+use Rattle.source_meaning.specs.Acceptance.{IsAcceptedText}
+use Rattle.image_text.specs.ImageValue.{ImageValue}
+use Rattle.machine_effects.specs.World.{World}
+use Rattle.machine_effects.specs.Machine.{fram_of}
+use Rattle.code_forms.specs.Placed.{Holds}
+use Rattle.privatise.specs.LayoutValue.{LayoutValue}
+use Rattle.stands_for.specs.StandsFor.{RestsAt}
+use Rattle.source_events.specs.Transitions.{HasWordsOf}
+use Rattle.lower.specs.Lowered.{lowered}
+use Rattle.linked_code.specs.Linked.{CodeFits}
+use Rattle.compiled_model.specs.Places.{program_places}
+use Rattle.compiled_model.specs.View.{state_view}
+use Rattle.link_image.specs.Words.{code_words}
+use Rattle.source_maps.specs.Maps.{map_of}
+use Rattle.link_image.specs.Compiled.{IsCompiled}
+
+-- the world of an image before anything was done
+abbrev pub fresh_world : ImageValue → World
+fresh_world image = record { fram = fram_of image.words; accepted = [] }
+
+-- a fresh image: the code has room in the layout and stands from the boot's address on, which is the reset vector; its world rests at
+-- the source's first state, and has that state's words
+pub record IsFreshImage (text : List ℕ) (p : CheckedProgram) (allow : Allow) (l : LayoutValue) (image : ImageValue) : Type 0 where
+  pub fits : CodeFits l (lowered l p)
+  pub code : Holds (fram_of image.words) l.boot.address (code_words p l)
+  pub vector : fram_of image.words 0xFFFE ≡ l.boot.address
+  pub rests : RestsAt (program_places p l) (state_view p l) (first_state p) (fresh_world image)
+  pub has_words : HasWordsOf (map_of text p l allow) (fresh_world image) (first_state p)
+
+abbrev pub ImagesAreFresh : Type 0
+ImagesAreFresh = (text : List ℕ) (p : CheckedProgram) (allow : Allow) (image : ImageValue) → IsAcceptedText text p allow
+    → IsRunnable p → (c : IsCompiled text p allow image) → IsFreshImage text p allow c.layout image
+
+-- where the world rests at a state of the source, the map finds the state's words in it
+abbrev pub MapsFindStates : Type 0
+MapsFindStates = (text : List ℕ) (p : CheckedProgram) (allow : Allow) (image : ImageValue) → IsAcceptedText text p allow
+    → (c : IsCompiled text p allow image) → (s : State) (x : World) → RestsAt (program_places p c.layout) (state_view p c.layout) s x
+    → HasWordsOf (map_of text p c.layout allow) x s

@@ -1,0 +1,5 @@
+pub mod Initial
+pub mod Words
+pub mod Compiled
+pub mod Laws
+pub mod Needs

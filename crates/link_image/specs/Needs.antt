@@ -1,0 +1,21 @@
+-- What an image is made from: an accepted source with its plan and its layout.
+use Rattle.std.specs.Prelude.{◌≡◌, ◌<◌, ℕ, List, All, length}
+use Rattle.cost_bound.specs.declared.allowance.Allow.{Allow}
+use Rattle.source_values.specs.Runs.{CheckedProgram}
+use Rattle.privatise.specs.LayoutValue.{LayoutValue}
+use Rattle.array_versions.specs.Form.{IsWhole, OfWords}
+use Rattle.lower.specs.Lowered.{lowered}
+use Rattle.linked_code.specs.Linked.{CodeFits}
+use Rattle.source_names.specs.Names.{HasNames}
+use Rattle.source_maps.specs.Laws.{IsSourceMap}
+
+-- its code has room, its programs are whole, its names can be a map's, and it has a task
+pub record IsReadyToLink (text : List ℕ) (p : CheckedProgram) (allow : Allow) (l : LayoutValue) : Type 0 where
+  pub fits : CodeFits l (lowered l p)
+  pub whole : All IsWhole (lowered l p)
+  pub of_words : All OfWords (lowered l p)
+  pub same_tasks : length l.tasks ≡ length p.tasks
+  pub same_variables : length l.variables ≡ length p.shared
+  pub names : HasNames text p
+  pub source_map : IsSourceMap text p allow l
+  pub some_task : 0 < length p.tasks

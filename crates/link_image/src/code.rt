@@ -1,0 +1,119 @@
+//! The words of the code.
+ghost use Rattle.std.specs.Prelude.{◌≡◌, ◌+◌, ◌-◌, ◌*◌, ◌/◌, ◌%◌, ◌≤◌, ◌++◌, ◌∷◌, [], ℕ, All, IfOk, OnOk, length, map};
+ghost use Rattle.code_forms.specs.Placed.{instructions, words_of};
+ghost use Rattle.array_versions.specs.View.{program_of};
+ghost use Rattle.array_versions.specs.Form.{IsWhole};
+ghost use Rattle.codegen.specs.Code.{repeated, code_of};
+ghost use Rattle.linked_code.specs.Parts.{filler, chained, PartsInOrder};
+ghost use Rattle.linked_code.specs.Linked.{linked, task_part, task_parts, CodeFits};
+
+use array_versions::WordProgram;
+use boot_runtime::boot_code;
+use codegen::emit;
+use commit_runtime::commit_code;
+use msp_encode::encode;
+use msp_isa::Instr;
+use privatise::{Layout, TaskLayout};
+use std::alloc::{AllocError, Global};
+
+/// A jump to itself.
+const FILLER: u16 = 0x3FFF;
+
+// Adds the words of instructions.
+fn push_code(words: &mut Vec<u16>, code: &[Instr]) -> Result<(), AllocError>
+    ensures { OnOk result (words.new.items ≡ words.old.items ++ words_of code.now) }
+{
+    for instruction in code {
+        words.extend_from_slice(encode(instruction).as_slice())?;
+    }
+    Ok(())
+}
+
+// Adds so many jumps to themselves.
+fn push_filler(words: &mut Vec<u16>, count: usize) -> Result<(), AllocError>
+    ensures { OnOk result (words.new.items ≡ words.old.items ++ words_of (instructions (repeated count filler))) }
+{
+    for i in 0..count {
+        words.push(FILLER)?;
+    }
+    Ok(())
+}
+
+// Adds the words of code that stands at an address, behind those from the start on, with filler up to it.
+fn push_part(words: &mut Vec<u16>, start: u16, at: u16, code: &[Instr]) -> Result<(), AllocError>
+    requires behind { start + 2 * length words.old.items ≤ at }
+    ensures { OnOk result (words.new.items ≡ words.old.items
+        ++ (words_of (instructions (repeated ((at - (start + 2 * length words.old.items)) / 2) filler)) ++ words_of code.now)) }
+{
+    let count = (at - start) as usize / 2 - words.len();
+    push_filler(words, count)?;
+    push_code(words, code)
+}
+
+// Adds the code of a task at its place.
+fn push_task(
+    alloc: Global,
+    words: &mut Vec<u16>,
+    start: u16,
+    task: &TaskLayout,
+    program: &WordProgram,
+) -> Result<(), AllocError>
+    requires low { 17408 ≤ start }
+    requires order { PartsInOrder (start + 2 * length words.old.items) (task_part task.now (program_of program.now) ∷ []) 65534 }
+    requires whole { IsWhole (program_of program.now) }
+    ensures { OnOk result (words.new.items ≡ words.old.items
+        ++ (words_of (instructions (repeated ((task.now.code.address - (start + 2 * length words.old.items)) / 2) filler))
+        ++ words_of (instructions (code_of task.now.code.address (program_of program.now))))) }
+{
+    let at = task.code().address;
+    let mut code = Vec::new(alloc);
+    let _ = emit(alloc, program, at, &mut code)?;
+    push_part(words, start, at, code.as_slice())
+}
+
+// Adds the code of each task at its place.
+fn push_tasks(
+    alloc: Global,
+    words: &mut Vec<u16>,
+    start: u16,
+    tasks: &[TaskLayout],
+    programs: &[WordProgram],
+) -> Result<(), AllocError>
+    requires even { start % 2 ≡ 0 }
+    requires low { 17408 ≤ start }
+    requires count { length tasks.now ≡ length programs.now }
+    requires order { PartsInOrder (start + 2 * length words.old.items) (task_parts tasks.now (map program_of programs.now)) 65534 }
+    requires whole { All IsWhole (map program_of programs.now) }
+    ensures { OnOk result (words.new.items ≡ words.old.items
+        ++ words_of (instructions (chained (start + 2 * length words.old.items) (task_parts tasks.now (map program_of programs.now))))) }
+{
+    for k in 0..tasks.len() {
+        push_task(alloc, words, start, &tasks[k], &programs[k])?;
+    }
+    Ok(())
+}
+
+/// The words of the code of a layout and the programs of its tasks, from the boot's address on.
+pub fn code_words(
+    alloc: Global,
+    layout: &Layout,
+    programs: &[WordProgram],
+) -> Result<Vec<u16>, AllocError>
+    requires fits { CodeFits layout.now (map program_of programs.now) }
+    requires whole { All IsWhole (map program_of programs.now) }
+    ensures { IfOk result (λ words. words.items ≡ words_of (linked layout.now (map program_of programs.now))) }
+{
+    let start = layout.boot().address;
+    let boot = boot_code(alloc, layout, start)?;
+    let commit = commit_code(alloc, layout)?;
+    let mut words = Vec::new(alloc);
+    push_part(&mut words, start, start, boot.as_slice())?;
+    push_part(
+        &mut words,
+        start,
+        layout.commit().address,
+        commit.as_slice(),
+    )?;
+    push_tasks(alloc, &mut words, start, layout.tasks(), programs)?;
+    Ok(words)
+}

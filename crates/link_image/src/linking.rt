@@ -1,0 +1,98 @@
+//! From a source to its image.
+ghost use Rattle.std.specs.Prelude.{◌≡◌, ◌<◌, ◌^◌, ◌-◌, All, length, IfOk, IfErr};
+ghost use Rattle.task_ast.specs.View.{program_of};
+ghost use Rattle.source_meaning.specs.Acceptance.{IsAcceptedText, IsRefusedText};
+ghost use Rattle.war_analysis.specs.Plans.{IsPlan};
+ghost use Rattle.privatise.specs.Layouts.{IsLayout};
+ghost use Rattle.link_image.specs.Needs.{IsReadyToLink};
+ghost use Rattle.link_image.specs.Words.{AreImageWords};
+ghost use Rattle.link_image.specs.Compiled.{IsCompiled, IsImageOf};
+
+use crate::code::code_words;
+use crate::words::put_image;
+use image_text::Image;
+use linked_code::{layouts_have_room, linked_is_code};
+use lower::laws::statements_keep_to_words;
+use lower::lower;
+use privatise::{Layout, layout};
+use source_maps::{map_of, maps_are_of_sources};
+use source_meaning::{Accepted, SourceFault, accept};
+use source_names::names_are_names;
+use std::alloc::{AllocError, Global};
+use war_analysis::{Plan, analyse, scalars_are_counted};
+use whole_programs::programs_are_whole;
+
+// A source with its plan and its layout is ready to be linked: its code has room, and its names can be those of a map.
+fn is_ready(accepted: &Accepted, plan: &Plan, layout: &Layout)
+    requires accepted { IsAcceptedText accepted.now.text.items (program_of accepted.now.checked.source) accepted.now.allow }
+    requires planned { IsPlan (program_of accepted.now.checked.source) plan.now }
+    requires laid_out { IsLayout (program_of accepted.now.checked.source) accepted.now.allow plan.now layout.now }
+    ensures { IsReadyToLink accepted.now.text.items (program_of accepted.now.checked.source) accepted.now.allow layout.now }
+{
+    layouts_have_room();
+    statements_keep_to_words();
+    scalars_are_counted();
+    programs_are_whole();
+    names_are_names();
+    maps_are_of_sources();
+    let _ = accepted.checked();
+    let _ = plan.tasks();
+    layout.rules();
+}
+
+// The image of the words of a source with its layout, without a map.
+fn image_of(alloc: Global, accepted: &Accepted, layout: &Layout) -> Result<Image, AllocError>
+    requires { IsReadyToLink accepted.now.text.items (program_of accepted.now.checked.source) accepted.now.allow layout.now }
+    ensures { IfOk result (λ image. AreImageWords (program_of accepted.now.checked.source) layout.now image.words) }
+{
+    // The law, that the code ends where the layout's code does.
+    linked_is_code();
+    let checked = accepted.checked();
+    let source = checked.source();
+    let programs = lower(alloc, checked, layout)?;
+    let code = code_words(alloc, layout, programs.as_slice())?;
+    let mut image = Image::blank(alloc)?;
+    let _ = image.words();
+    put_image(
+        &mut image,
+        source.shared.as_slice(),
+        source.entry.task as u16,
+        layout,
+        code.as_slice(),
+    );
+    let _ = image.words();
+    Ok(image)
+}
+
+/// The image of an accepted source, with a map; or no memory is left.
+pub fn link(alloc: Global, accepted: &Accepted) -> Result<Image, AllocError>
+    requires { IsAcceptedText accepted.now.text.items (program_of accepted.now.checked.source) accepted.now.allow }
+    ensures { IfOk result (IsCompiled accepted.now.text.items (program_of accepted.now.checked.source) accepted.now.allow) }
+{
+    let checked = accepted.checked();
+    let plan = analyse(alloc, checked)?;
+    let layout = layout(alloc, checked, accepted.allow(), &plan)?;
+    is_ready(accepted, &plan, &layout);
+    let image = image_of(alloc, accepted, &layout)?;
+    let map = map_of(
+        alloc,
+        accepted.source(),
+        checked.source(),
+        &layout,
+        accepted.allow(),
+    )?;
+    Ok(image.with_map(map))
+}
+
+/// The image of a source text, with a map; or the refusal of the first pass that refuses it.
+pub fn compile(alloc: Global, text: &[u8]) -> Result<Image, SourceFault>
+    requires { length text.now < 2 ^ 32 - 1 }
+    ensures image { IfOk result (IsImageOf text.now) }
+    ensures refused { IfErr result (λ f. IsRefusedText text.now f) }
+{
+    let accepted = accept(alloc, text)?;
+    match link(alloc, &accepted) {
+        Ok(image) => Ok(image),
+        Err(AllocError) => Err(SourceFault::Memory),
+    }
+}

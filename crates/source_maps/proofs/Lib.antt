@@ -1,0 +1,5 @@
+pub mod Places
+pub mod Scalars
+pub mod Takes
+pub mod Maps
+pub mod Making

@@ -1,0 +1,46 @@
+-- A map that is made call by call is the source's.
+use Rattle.std.proofs.Common.{◌≡◌, ◌∙◌, ℕ, List, [], ◌∷◌, map, ap, ap₂}
+use Rattle.std.specs.Prelude.{All}
+use Rattle.std.proofs.lemmas.List.Elements.{All-nil, All-cons, All-head, All-tail}
+use Rattle.alp_text.specs.declared.lines.Span.{Span}
+use Rattle.task_ast.specs.View.{task_of}
+use Rattle.task_ast.specs.declared.SharedDeclaration.{SharedDeclaration}
+use Rattle.task_ast.specs.declared.TaskDeclaration.{TaskDeclaration}
+use Rattle.task_ast.specs.declared.names.VariableName.{VariableName}
+use Rattle.task_ast.specs.declared.names.TaskName.{TaskName}
+use Rattle.image_map.specs.declared.parts.RuntimeWords.{RuntimeWords}
+use Rattle.image_map.specs.declared.parts.Place.{Place}
+use Rattle.image_map.specs.MapValue.{MapValue}
+use Rattle.cost_bound.specs.declared.allowance.Allow.{Allow}
+use Rattle.cost_bound.specs.Allowance.{CheckedTask}
+use Rattle.source_values.specs.Runs.{CheckedProgram}
+use Rattle.privatise.specs.declared.place.VariablePlace.{VariablePlace}
+use Rattle.privatise.specs.LayoutValue.{LayoutValue, TaskLayoutValue}
+use Rattle.source_maps.specs.Maps.{variables_of, tasks_of, map_of}
+use Rattle.source_maps.specs.Adding.{bare_map, with_variables, with_tasks}
+use Rattle.source_maps.proofs.Takes.{all_variables, all_tasks}
+
+pub names_back : (P : Span → Type 0) (ts : List (TaskDeclaration VariableName TaskName)) → All (λ t. P t.name) (map task_of ts) → All (λ t. P t.name) ts
+names_back P [] h = All-nil (λ t. P t.name)
+names_back P (t ∷ ts) h =
+    All-cons (λ t. P t.name) t ts (All-head (λ t. P t.name) (task_of t) (map task_of ts) h) (names_back P ts (All-tail (λ t. P t.name) (task_of t) (map task_of ts) h))
+
+abbrev bare : ℕ → RuntimeWords → Place → Place → Place → MapValue
+bare bound words list emits versions = record { bound = bound; words = words; list = list; emits = emits; versions = versions; variables = []; tasks = [] }
+
+pub bare_is : (l : LayoutValue) (allow : Allow) (m : MapValue) (w : RuntimeWords) (a b d : Place) → m ≡ bare allow.cycles w a b d → w ≡ l.words → a ≡ l.list → b ≡ l.emits → d ≡ l.versions
+    → m ≡ bare_map l allow
+bare_is l allow m w a b d e i j k n =
+    e ∙ ap (λ x. bare allow.cycles x a b d) i ∙ ap (λ x. bare allow.cycles l.words x b d) j ∙ ap (λ x. bare allow.cycles l.words l.list x d) k
+    ∙ ap (bare allow.cycles l.words l.list l.emits) n
+
+-- from the map without variables and tasks, with those that the calls were given
+pub made : (text : List ℕ) (p : CheckedProgram) (l : LayoutValue) (allow : Allow) (first second third : MapValue) (ds es : List SharedDeclaration) (places : List VariablePlace)
+    (tasks : List CheckedTask) (layouts : List TaskLayoutValue) → first ≡ bare_map l allow → ds ≡ p.shared → es ≡ p.shared → places ≡ l.variables → tasks ≡ p.tasks → layouts ≡ l.tasks
+    → second ≡ with_variables first (variables_of text ds places) → third ≡ with_tasks second (tasks_of text es tasks layouts) → third ≡ map_of text p l allow
+made text p l allow first second third ds es places tasks layouts e i j k n o v t =
+    let m = map_of text p l allow in
+    let given : variables_of text ds places ≡ m.variables = ap₂ (variables_of text) i k in
+    let then : tasks_of text es tasks layouts ≡ m.tasks =
+    ap (λ x. tasks_of text x tasks layouts) j ∙ ap₂ (tasks_of text p.shared) n o in
+    t ∙ ap₂ with_tasks (v ∙ ap₂ with_variables e given ∙ all_variables m [] m.variables) then ∙ all_tasks m [] m.tasks

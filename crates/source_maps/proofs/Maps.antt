@@ -1,0 +1,181 @@
+-- The map of a source.
+use Rattle.std.proofs.Common.{◌≡◌, ◌∙◌, ℕ, suc, ◌%◌, ◌<◌, ◌≤◌, true, List, [], ◌∷◌, ◌++◌, map, length, refl, sym, ap, ap₂, subst, arith, Some, get_or}
+use Rattle.std.specs.Prelude.{All, slice_get}
+use Rattle.std.proofs.lemmas.Option.{slice_get_within, slice_get-get_or}
+use Rattle.std.proofs.lemmas.List.Elements.{All-nil, All-cons, All-weaker}
+use Rattle.task_ast.specs.declared.SharedDeclaration.{SharedDeclaration}
+use Rattle.image_map.specs.MapValue.{IsMap, IsFramWord, AreFramWords, IsPlace, are_different, are_scalars, task_names}
+use Rattle.cost_bound.specs.Allowance.{CheckedTask, is_written}
+use Rattle.war_analysis.specs.PlanValue.{TaskPlanValue}
+use Rattle.war_analysis.specs.Plans.{IsScalarAt, IsPrivateIn, IsTaskPlan}
+use Rattle.source_report.specs.SourceReport.{spelled}
+use Rattle.privatise.specs.declared.place.VariablePlace.{VariablePlace}
+use Rattle.privatise.specs.declared.place.PrivateScalar.{PrivateScalar}
+use Rattle.privatise.specs.LayoutValue.{LayoutValue, TaskLayoutValue}
+use Rattle.privatise.specs.Places.{end_of, HasItsPlace, IsLaidOut}
+use Rattle.privatise.specs.Layouts.{IsTaskLayout}
+use Rattle.source_maps.specs.Maps.{variables_of, private_names, shared_name, tasks_of, map_of}
+use Rattle.source_maps.specs.Adding.{TakesTasks}
+use Rattle.source_maps.specs.Placing.{ArePlacesOf}
+use Rattle.source_maps.specs.Laws.{MapsAreOfSources}
+use Rattle.source_maps.proofs.Places.{places_by_number, variables_are, variables_count, names_of_variables, of_declarations}
+use Rattle.source_maps.proofs.Scalars.{AreFrom, from_pairs, starts_anywhere, scalars_from}
+use Rattle.source_maps.proofs.Takes.{takes_variables, all_variables, takes_tasks}
+
+no_plan : TaskPlanValue
+no_plan = record { private_scalars = []; versioned_arrays = [] }
+
+map_map : {A B C : Type 0} (f : A → B) (g : B → C) (xs : List A) → map (λ x. g (f x)) xs ≡ map g (map f xs)
+map_map f g [] = refl
+map_map f g (x ∷ xs) = ap (λ l. g (f x) ∷ l) (map_map f g xs)
+
+fram_word : (a : ℕ) → 17408 ≤ a → a < 65536 → a % 2 ≡ 0 → IsFramWord a
+fram_word a low high even = record { low = low; high = high; even = even }
+
+runtime_words : (l : LayoutValue) → IsLaidOut l → AreFramWords l.words
+runtime_words l h =
+    let a1 = h.apart.current_task in let a2 = h.apart.next_task in let a3 = h.apart.gate in let a4 = h.apart.list_length in
+    let a5 = h.apart.emit_count in let a6 = h.apart.base in let a7 = h.apart.sent_base in let a8 = h.apart.version in
+    let a9 = h.apart.list in let b1 = h.apart.emits in let b2 = h.apart.versions in let b3 = h.apart.homes in
+    let b4 = h.apart.copies in let b5 = h.apart.boot in let b6 = h.apart.commit in let b7 = h.apart.code in let b8 = h.apart.high in
+    record {
+      current_task = fram_word l.words.current_task (omega (arith, a1)) (omega (arith, a2, a3, a4, a5, a6, a7, a8, a9, b1, b2, b3, b4, b5, b6, b7, b8)) h.even.current_task;
+      next_task = fram_word l.words.next_task (omega (arith, a1, a2)) (omega (arith, a3, a4, a5, a6, a7, a8, a9, b1, b2, b3, b4, b5, b6, b7, b8)) h.even.next_task;
+      gate = fram_word l.words.gate (omega (arith, a1, a2, a3)) (omega (arith, a4, a5, a6, a7, a8, a9, b1, b2, b3, b4, b5, b6, b7, b8)) h.even.gate;
+      list_length = fram_word l.words.list_length (omega (arith, a1, a2, a3, a4)) (omega (arith, a5, a6, a7, a8, a9, b1, b2, b3, b4, b5, b6, b7, b8)) h.even.list_length;
+      emit_count = fram_word l.words.emit_count (omega (arith, a1, a2, a3, a4, a5)) (omega (arith, a6, a7, a8, a9, b1, b2, b3, b4, b5, b6, b7, b8)) h.even.emit_count;
+      base = fram_word l.words.base (omega (arith, a1, a2, a3, a4, a5, a6)) (omega (arith, a7, a8, a9, b1, b2, b3, b4, b5, b6, b7, b8)) h.even.base;
+      sent_base = fram_word l.words.sent_base (omega (arith, a1, a2, a3, a4, a5, a6, a7)) (omega (arith, a8, a9, b1, b2, b3, b4, b5, b6, b7, b8)) h.even.sent_base;
+      version = fram_word l.words.version (omega (arith, a1, a2, a3, a4, a5, a6, a7, a8)) (omega (arith, a9, b1, b2, b3, b4, b5, b6, b7, b8)) h.even.version;
+    }
+
+-- where the buffers and the variables stand
+record ArePlaced (l : LayoutValue) : Type 0 where
+  pub list : IsPlace l.list
+  pub emits : IsPlace l.emits
+  pub versions : IsPlace l.versions
+  pub low : 17408 ≤ l.homes.address
+  pub high : end_of l.homes ≤ 65534
+
+are_placed : (l : LayoutValue) → IsLaidOut l → ArePlaced l
+are_placed l h =
+    let v = (runtime_words l h).version.low in let a9 = h.apart.list in let b1 = h.apart.emits in let b2 = h.apart.versions in let b3 = h.apart.homes in
+    let b4 = h.apart.copies in let b5 = h.apart.boot in let b6 = h.apart.commit in let b7 = h.apart.code in let b8 = h.apart.high in
+    record {
+      list = record {
+        address = fram_word l.list.address (omega (arith, v, a9)) (omega (arith, b1, b2, b3, b4, b5, b6, b7, b8)) h.even.list;
+        capacity = omega (arith, b1, b2, b3, b4, b5, b6, b7, b8);
+      };
+      emits = record {
+        address = fram_word l.emits.address (omega (arith, v, a9, b1)) (omega (arith, b2, b3, b4, b5, b6, b7, b8)) h.even.emits;
+        capacity = omega (arith, b2, b3, b4, b5, b6, b7, b8);
+      };
+      versions = record {
+        address = fram_word l.versions.address (omega (arith, v, a9, b1, b2)) (omega (arith, b3, b4, b5, b6, b7, b8)) h.even.versions;
+        capacity = omega (arith, b3, b4, b5, b6, b7, b8);
+      };
+      low = omega (arith, v, a9, b1, b2, b3);
+      high = omega (arith, b4, b5, b6, b7, b8);
+    }
+
+-- ---- tasks
+
+-- a task's private scalars, by their numbers: ascending, and scalars
+record HasScalars (shared : List SharedDeclaration) (t : TaskLayoutValue) : Type 0 where
+  pub from : AreFrom 0 (map (λ s. s.number) t.privates)
+  pub scalars : All (IsScalarAt shared) (map (λ s. s.number) t.privates)
+
+scalars_of_plan : (shared : List SharedDeclaration) (task : CheckedTask) (plan : TaskPlanValue) (t : TaskLayoutValue) → IsTaskPlan shared task.body plan → IsTaskLayout shared task.body plan t → HasScalars shared t
+scalars_of_plan shared task plan t is has = record {
+  from = subst (AreFrom 0) (sym has.privates) (from_pairs 0 plan.private_scalars is.private_scalars.ascending (starts_anywhere plan.private_scalars));
+  scalars = subst (All (IsScalarAt shared)) (sym has.privates) (All-weaker (IsPrivateIn shared task.body) (IsScalarAt shared) (λ n h. h.scalar) plan.private_scalars is.private_scalars.only);
+}
+
+-- the same of each task
+abbrev HaveScalars : List SharedDeclaration → List CheckedTask → List TaskLayoutValue → Type 0
+HaveScalars shared [] [] = Unit {0}
+HaveScalars shared [] (t ∷ ts) = ⊥
+HaveScalars shared (task ∷ tasks) [] = ⊥
+HaveScalars shared (task ∷ tasks) (t ∷ ts) = HasScalars shared t × HaveScalars shared tasks ts
+
+have_scalars : (shared : List SharedDeclaration) (tasks : List CheckedTask) (ts : List TaskLayoutValue) → length ts ≡ length tasks
+    → ((k : ℕ) (task : CheckedTask) (t : TaskLayoutValue) → slice_get tasks k ≡ Some task → slice_get ts k ≡ Some t → HasScalars shared t) → HaveScalars shared tasks ts
+have_scalars shared [] [] n f = tt
+have_scalars shared [] (t ∷ ts) n f = absurd (omega (arith, n))
+have_scalars shared (task ∷ tasks) [] n f = absurd (omega (arith, n))
+have_scalars shared (task ∷ tasks) (t ∷ ts) n f = (f 0 task t refl refl, have_scalars shared tasks ts (omega (arith, n)) (λ k u v a b. f (suc k) u v a b))
+
+module _ (text : List ℕ) (shared : List SharedDeclaration) (places : List VariablePlace) (are : ArePlacesOf shared places) where
+  privates_are : (t : TaskLayoutValue) → HasScalars shared t → are_scalars (private_names text shared t.privates) (variables_of text shared places) ≡ true
+  privates_are t h =
+      ap (λ ns. are_scalars ns (variables_of text shared places)) (map_map (λ s. s.number) (shared_name text shared) t.privates)
+      ∙ scalars_from text shared 0 shared places (map (λ s. s.number) t.privates) are (λ i. ap (slice_get shared) (omega arith)) h.from h.scalars
+
+  all_privates_are : (tasks : List CheckedTask) (ts : List TaskLayoutValue) → HaveScalars shared tasks ts
+      → All (λ t. are_scalars t.privates (variables_of text shared places) ≡ true) (tasks_of text shared tasks ts)
+  all_privates_are [] [] h = All-nil (λ t. are_scalars t.privates (variables_of text shared places) ≡ true)
+  all_privates_are [] (t ∷ ts) h = absurd h
+  all_privates_are (task ∷ tasks) [] h = absurd h
+  all_privates_are (task ∷ tasks) (t ∷ ts) h =
+      All-cons (λ t. are_scalars t.privates (variables_of text shared places) ≡ true) _ (tasks_of text shared tasks ts) (privates_are t h.0) (all_privates_are tasks ts h.1)
+
+tasks_count : (text : List ℕ) (shared : List SharedDeclaration) (tasks : List CheckedTask) (ts : List TaskLayoutValue) → length ts ≡ length tasks → length (tasks_of text shared tasks ts) ≡ length tasks
+tasks_count text shared [] [] n = refl
+tasks_count text shared [] (t ∷ ts) n = absurd (omega (arith, n))
+tasks_count text shared (task ∷ tasks) [] n = absurd (omega (arith, n))
+tasks_count text shared (task ∷ tasks) (t ∷ ts) n = let r = tasks_count text shared tasks ts (omega (arith, n)) in omega (arith, r)
+
+names_of_tasks : (text : List ℕ) (shared : List SharedDeclaration) (tasks : List CheckedTask) (ts : List TaskLayoutValue) → length ts ≡ length tasks
+    → task_names (tasks_of text shared tasks ts) ≡ map (λ t. spelled text t.name) tasks
+names_of_tasks text shared [] [] n = refl
+names_of_tasks text shared [] (t ∷ ts) n = absurd (omega (arith, n))
+names_of_tasks text shared (task ∷ tasks) [] n = absurd (omega (arith, n))
+names_of_tasks text shared (task ∷ tasks) (t ∷ ts) n = ap (λ l. spelled text task.name ∷ l) (names_of_tasks text shared tasks ts (omega (arith, n)))
+
+-- a private scalar is a variable
+declared_there : (n : ℕ) (variables : List VariablePlace) → length variables ≡ n → (s : PrivateScalar) → HasItsPlace variables s → s.number < n
+declared_there n variables e s h = let w = slice_get_within variables s.number _ h.place in omega (arith, w, e)
+
+pub maps_are_of_sources : MapsAreOfSources
+maps_are_of_sources text p allow plans l h =
+    let rules = h.layout.rules in
+    let placed = are_placed l rules in
+    let places = places_by_number (is_written p.tasks) p.shared l.variables h.layout.variables.count h.layout.variables.each in
+    let count = h.layout.tasks.count in
+    let m = map_of text p l allow in
+    let names = names_of_variables text p.shared l.variables places in
+    let tasks = names_of_tasks text p.shared p.tasks l.tasks count in
+    let scalars = have_scalars p.shared p.tasks l.tasks count (λ k task t a b.
+    let within = slice_get_within p.tasks k task a in
+    let planned = h.plan.count in
+    let plan = slice_get-get_or plans k no_plan (omega (arith, within, planned)) in
+    scalars_of_plan p.shared task (get_or plans k no_plan) t (h.plan.each k task (get_or plans k no_plan) a plan) (h.layout.tasks.each k task (get_or plans k no_plan) t a plan b)) in
+    let few_shared = h.few_shared in
+    let few_tasks = h.few_tasks in
+    let bound = h.allowed.within_bound in
+    let cycles = h.allowed.cycles in
+    let shared_length = variables_count text p.shared l.variables places in
+    let task_length = tasks_count text p.shared p.tasks l.tasks count in
+    let is_map : IsMap m = record {
+      bound = omega (arith, bound, cycles);
+      words = runtime_words l rules;
+      list = placed.list;
+      emits = placed.emits;
+      versions = placed.versions;
+      variables = variables_are text l.homes.address (end_of l.homes) p.shared l.variables places rules.homes placed.low placed.high h.names.words;
+      few_variables = omega (arith, few_shared, shared_length);
+      few_tasks = omega (arith, few_tasks, task_length);
+      different = ap (are_different []) (ap₂ (λ a b. a ++ b) names tasks) ∙ h.names.different;
+      privates = all_privates_are text p.shared l.variables places p.tasks l.tasks scalars;
+    } in
+    record {
+      is_map = is_map;
+      of_source = record { variables = of_declarations text p.shared l.variables places; tasks = tasks };
+      takes = record {
+        variables = takes_variables m [] m.variables refl is_map;
+        tasks = subst (λ x. TakesTasks x m.tasks) (sym (all_variables m [] m.variables)) (takes_tasks m [] m.tasks refl is_map);
+      };
+      places = places;
+      declared = All-weaker (λ t. All (HasItsPlace l.variables) t.privates) (λ t. All (λ s. s.number < length p.shared) t.privates)
+          (λ t k. All-weaker (HasItsPlace l.variables) (λ s. s.number < length p.shared) (declared_there (length p.shared) l.variables h.layout.variables.count) t.privates k) l.tasks rules.privates;
+    }

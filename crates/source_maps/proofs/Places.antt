@@ -1,0 +1,90 @@
+-- The variables of a source at their places.
+use Rattle.std.proofs.Common.{◌≡◌, ℕ, suc, ◌+◌, ◌*◌, ◌≤◌, ◌&&◌, Bool, true, nat_lt, nat_le, List, [], ◌∷◌, map, length, refl, ap, subst, arith, Some}
+use Rattle.std.specs.Prelude.{All, slice_get}
+use Rattle.std.proofs.lemmas.Bool.Decides.{nat_tests}
+use Rattle.std.proofs.lemmas.List.Elements.{All-nil, All-cons, All-head, All-tail}
+use Rattle.task_ast.specs.declared.Extent.{Extent}
+use Rattle.task_ast.specs.declared.Extent.TheVariants as extent
+use Rattle.task_ast.specs.declared.SharedDeclaration.{SharedDeclaration}
+use Rattle.image_map.specs.MapValue.{IsFramWord, IsVariable, fits, variable_names}
+use Rattle.source_events.specs.Transitions.{length_of, AreVariablesOf}
+use Rattle.source_report.specs.SourceReport.{spelled}
+use Rattle.privatise.specs.declared.place.VariablePlace.{VariablePlace}
+use Rattle.privatise.specs.declared.place.VariablePlace.TheVariants.{Scalar, Array}
+use Rattle.privatise.specs.Places.{end_of, home_region, AreInOrder}
+use Rattle.privatise.specs.Layouts.{IsPlaceOf}
+use Rattle.source_names.specs.Names.{HasWords}
+use Rattle.source_maps.specs.Maps.{variable_of, variables_of}
+use Rattle.source_maps.specs.Placing.{IsOfKind, ArePlacesOf}
+
+of_kind : (b : Bool) (e : Extent) (place : VariablePlace) → IsPlaceOf b e place → IsOfKind e place
+of_kind b (extent.Scalar w) (Scalar home copy) h = tt
+of_kind b (extent.Scalar w) (Array elements n copies) h = h
+of_kind b (extent.Array n) (Scalar home copy) h = h
+of_kind b (extent.Array n) (Array elements m copies) h = h.0
+
+pub places_of : (shared : List SharedDeclaration) (places : List VariablePlace) → length places ≡ length shared
+    → ((i : ℕ) (d : SharedDeclaration) (place : VariablePlace) → slice_get shared i ≡ Some d → slice_get places i ≡ Some place → IsOfKind d.extent place) → ArePlacesOf shared places
+places_of [] [] n f = tt
+places_of [] (place ∷ places) n f = absurd (omega (arith, n))
+places_of (d ∷ ds) [] n f = absurd (omega (arith, n))
+places_of (d ∷ ds) (place ∷ places) n f = (f 0 d place refl refl, places_of ds places (omega (arith, n)) (λ i e q a b. f (suc i) e q a b))
+
+pub places_by_number : (written : ℕ → Bool) (shared : List SharedDeclaration) (places : List VariablePlace) → length places ≡ length shared
+    → ((i : ℕ) (d : SharedDeclaration) (place : VariablePlace) → slice_get shared i ≡ Some d → slice_get places i ≡ Some place → IsPlaceOf (written i) d.extent place) → ArePlacesOf shared places
+places_by_number written shared places n f = places_of shared places n (λ i d place a b. of_kind (written i) d.extent place (f i d place a b))
+
+-- a place of this kind has these many words
+region_words : (e : Extent) (place : VariablePlace) (n : ℕ) → IsOfKind e place → e ≡ extent.Array n → (home_region place).words ≡ n
+region_words e (Scalar home copy) n h is = absurd (subst (λ x. IsOfKind x (Scalar home copy)) is h)
+region_words e (Array elements m copies) n h is = subst (λ x. IsOfKind x (Array elements m copies)) is h
+
+fits_there : (e : Extent) (place : VariablePlace) (end : ℕ) → IsOfKind e place → HasWords e → end_of (home_region place) ≤ end → end ≤ 65534
+    → fits (home_region place).address (length_of e) ≡ true
+fits_there (extent.Scalar w) place end h words l m = refl
+fits_there (extent.Array n) place end h words l m =
+    let size = region_words (extent.Array n) place n h refl in
+    some n words ((home_region place).address) (omega (arith, size, l, m))
+  where
+    some : (n : ℕ) → (n ≡ 0 → ⊥) → (a : ℕ) → a + 2 * n ≤ 65536 → (nat_lt 0 n && nat_le (a + 2 * n) 65536) ≡ true
+    some n words a l = grind (arith, nat_tests, words, l)
+
+in_order_end : (from end : ℕ) (ps : List VariablePlace) → AreInOrder from (map home_region ps) end → from ≤ end
+in_order_end from end [] h = h
+in_order_end from end (p ∷ ps) h =
+    let a = h.0.from in
+    let b = in_order_end (end_of (home_region p)) end ps h.1 in
+    omega (arith, a, b)
+
+pub variables_are : (text : List ℕ) (from end : ℕ) (ds : List SharedDeclaration) (ps : List VariablePlace) → ArePlacesOf ds ps → AreInOrder from (map home_region ps) end
+    → 17408 ≤ from → end ≤ 65534 → All (λ d. HasWords d.extent) ds → All IsVariable (variables_of text ds ps)
+variables_are text from end [] [] places order low high words = All-nil IsVariable
+variables_are text from end [] (p ∷ ps) places order low high words = absurd places
+variables_are text from end (d ∷ ds) [] places order low high words = absurd places
+variables_are text from end (d ∷ ds) (p ∷ ps) places order low high words =
+    let behind = in_order_end (end_of (home_region p)) end ps order.1 in
+    let start = order.0.from in
+    let even = order.0.even in
+    let address : IsFramWord (home_region p).address = record { low = omega (arith, start, low); high = omega (arith, behind, high); even = even } in
+    All-cons IsVariable (variable_of text d p) (variables_of text ds ps)
+    (record { address = address; fits = fits_there d.extent p end places.0 (All-head (λ d. HasWords d.extent) d ds words) behind high })
+    (variables_are text (end_of (home_region p)) end ds ps places.1 order.1 (omega (arith, start, low)) high (All-tail (λ d. HasWords d.extent) d ds words))
+
+pub variables_count : (text : List ℕ) (ds : List SharedDeclaration) (ps : List VariablePlace) → ArePlacesOf ds ps → length (variables_of text ds ps) ≡ length ds
+variables_count text [] [] h = refl
+variables_count text [] (p ∷ ps) h = absurd h
+variables_count text (d ∷ ds) [] h = absurd h
+variables_count text (d ∷ ds) (p ∷ ps) h = let r = variables_count text ds ps h.1 in omega (arith, r)
+
+pub names_of_variables : (text : List ℕ) (ds : List SharedDeclaration) (ps : List VariablePlace) → ArePlacesOf ds ps
+    → variable_names (variables_of text ds ps) ≡ map (λ d. spelled text d.name) ds
+names_of_variables text [] [] h = refl
+names_of_variables text [] (p ∷ ps) h = absurd h
+names_of_variables text (d ∷ ds) [] h = absurd h
+names_of_variables text (d ∷ ds) (p ∷ ps) h = ap (λ l. spelled text d.name ∷ l) (names_of_variables text ds ps h.1)
+
+pub of_declarations : (text : List ℕ) (ds : List SharedDeclaration) (ps : List VariablePlace) → ArePlacesOf ds ps → AreVariablesOf text (variables_of text ds ps) ds
+of_declarations text [] [] h = tt
+of_declarations text [] (p ∷ ps) h = absurd h
+of_declarations text (d ∷ ds) [] h = absurd h
+of_declarations text (d ∷ ds) (p ∷ ps) h = (refl, refl, of_declarations text ds ps h.1)

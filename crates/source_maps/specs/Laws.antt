@@ -1,0 +1,36 @@
+-- What holds of the map of a source.
+use Rattle.std.specs.Prelude.{◌<◌, ◌≤◌, ℕ, List, length, All}
+use Rattle.cost_bound.specs.declared.allowance.Allow.{Allow}
+use Rattle.cost_bound.specs.Allowance.{CheckedProgram, IsAllowed}
+use Rattle.war_analysis.specs.PlanValue.{TaskPlanValue}
+use Rattle.war_analysis.specs.Plans.{IsPlan}
+use Rattle.privatise.specs.LayoutValue.{LayoutValue}
+use Rattle.privatise.specs.Layouts.{IsLayout}
+use Rattle.image_map.specs.MapValue.{IsMap}
+use Rattle.source_events.specs.Transitions.{IsMapOf}
+use Rattle.source_names.specs.Names.{HasNames}
+use Rattle.source_maps.specs.Maps.{map_of}
+use Rattle.source_maps.specs.Adding.{TakesSource}
+use Rattle.source_maps.specs.Placing.{ArePlacesOf}
+
+-- a source with names of its own, few variables and tasks, an allowance, a plan and a layout
+pub record IsLaidOutSource (text : List ℕ) (p : CheckedProgram) (allow : Allow) (plans : List TaskPlanValue) (l : LayoutValue) : Type 0 where
+  pub names : HasNames text p
+  pub few_shared : length p.shared ≤ 256
+  pub few_tasks : length p.tasks ≤ 64
+  pub allowed : IsAllowed p allow
+  pub plan : IsPlan p plans
+  pub layout : IsLayout p allow plans l
+
+-- the map keeps the rules of maps, names the source's variables and tasks, and can be made one line behind the other; each variable has a
+-- place of its kind, and each private scalar is a variable
+pub record IsSourceMap (text : List ℕ) (p : CheckedProgram) (allow : Allow) (l : LayoutValue) : Type 0 where
+  pub is_map : IsMap (map_of text p l allow)
+  pub of_source : IsMapOf text p (map_of text p l allow)
+  pub takes : TakesSource text p l allow
+  pub places : ArePlacesOf p.shared l.variables
+  pub declared : All (λ t. All (λ s. s.number < length p.shared) t.privates) l.tasks
+
+abbrev pub MapsAreOfSources : Type 0
+MapsAreOfSources = (text : List ℕ) (p : CheckedProgram) (allow : Allow) (plans : List TaskPlanValue) (l : LayoutValue)
+    → IsLaidOutSource text p allow plans l → IsSourceMap text p allow l

@@ -1,0 +1,4 @@
+pub mod Maps
+pub mod Adding
+pub mod Placing
+pub mod Laws

@@ -1,0 +1,70 @@
+-- The map of a compiled image.
+use Rattle.std.specs.Prelude.{ℕ, List, [], ◌∷◌, map, Option, Some, None, slice_get}
+use Rattle.task_ast.specs.declared.WordType.{WordType}
+use Rattle.task_ast.specs.declared.WordType.TheVariants as word_type
+use Rattle.task_ast.specs.declared.SharedDeclaration.{SharedDeclaration}
+use Rattle.image_map.specs.declared.parts.ValueType.{ValueType}
+use Rattle.image_map.specs.declared.parts.ValueType.TheVariants as value_type
+use Rattle.image_map.specs.declared.parts.Variable.{Variable}
+use Rattle.image_map.specs.MapValue.{MapValue, TaskValue}
+use Rattle.cost_bound.specs.declared.allowance.Allow.{Allow}
+use Rattle.cost_bound.specs.Allowance.{CheckedTask}
+use Rattle.source_values.specs.Runs.{CheckedProgram}
+use Rattle.source_report.specs.SourceReport.{spelled}
+use Rattle.source_events.specs.Transitions.{length_of}
+use Rattle.privatise.specs.declared.place.VariablePlace.{VariablePlace}
+use Rattle.privatise.specs.declared.place.PrivateScalar.{PrivateScalar}
+use Rattle.privatise.specs.LayoutValue.{LayoutValue, TaskLayoutValue}
+use Rattle.privatise.specs.Places.{home_region}
+
+-- how a type's words are read as numbers
+abbrev pub value_type_of : WordType → ValueType
+value_type_of word_type.Unsigned = value_type.Unsigned
+value_type_of word_type.Int = value_type.Int
+
+-- a shared variable: its name, its type, where its first word stands, and the length of an array
+abbrev pub variable_of : List ℕ → SharedDeclaration → VariablePlace → Variable
+variable_of text d place = record {
+  name = spelled text d.name;
+  value_type = value_type_of d.word_type;
+  address = (home_region place).address;
+  length = length_of d.extent;
+}
+
+-- the shared variables at their places
+abbrev pub variables_of : List ℕ → List SharedDeclaration → List VariablePlace → List Variable
+variables_of text (d ∷ ds) (place ∷ places) = variable_of text d place ∷ variables_of text ds places
+variables_of text _ _ = []
+
+-- the name of a shared variable by its number
+abbrev pub name_in : List ℕ → Option SharedDeclaration → List ℕ
+name_in text None = []
+name_in text (Some d) = spelled text d.name
+
+abbrev pub shared_name : List ℕ → List SharedDeclaration → ℕ → List ℕ
+shared_name text shared number = name_in text (slice_get shared number)
+
+-- the names of a task's private scalars
+abbrev pub private_names : List ℕ → List SharedDeclaration → List PrivateScalar → List (List ℕ)
+private_names text shared privates = map (λ s. shared_name text shared s.number) privates
+
+-- a task with its layout
+abbrev pub task_value_of : List ℕ → List SharedDeclaration → CheckedTask → TaskLayoutValue → TaskValue
+task_value_of text shared task layout = record { name = spelled text task.name; privates = private_names text shared layout.privates }
+
+-- the tasks, each with its layout
+abbrev pub tasks_of : List ℕ → List SharedDeclaration → List CheckedTask → List TaskLayoutValue → List TaskValue
+tasks_of text shared (task ∷ tasks) (layout ∷ layouts) = task_value_of text shared task layout ∷ tasks_of text shared tasks layouts
+tasks_of text shared _ _ = []
+
+-- the map of a source with its layout and its allowance
+abbrev pub map_of : List ℕ → CheckedProgram → LayoutValue → Allow → MapValue
+map_of text p l allow = record {
+  bound = allow.cycles;
+  words = l.words;
+  list = l.list;
+  emits = l.emits;
+  versions = l.versions;
+  variables = variables_of text p.shared l.variables;
+  tasks = tasks_of text p.shared p.tasks l.tasks;
+}

@@ -1,0 +1,196 @@
+//! The map of a source.
+ghost use Rattle.std.specs.Prelude.{◌≡◌, ◌<◌, ◌≤◌, ◌∷◌, [], true, All, IfOk, OnOk, length, map};
+ghost use Rattle.task_ast.specs.View as tree;
+ghost use Rattle.image_map.specs.Names.{is_name};
+ghost use Rattle.image_map.specs.MapValue.{AreFramWords, IsFramWord, takes_task, with_task};
+ghost use Rattle.source_events.specs.Transitions.{length_of};
+ghost use Rattle.source_report.specs.SourceReport.{spelled};
+ghost use Rattle.privatise.specs.Places.{home_region, IsLaidOut};
+ghost use Rattle.source_maps.specs.Maps as maps;
+ghost use Rattle.source_maps.specs.Maps.{variables_of, private_names, task_value_of, tasks_of};
+ghost use Rattle.source_names.specs.Names.{HasNames};
+ghost use Rattle.source_maps.specs.Adding.{bare_map, map_with_variables, with_variables, TakesVariables, with_privates, TakesPrivates, with_whole_task, with_tasks, TakesTasks, TakesSource};
+
+use alp_text::Span;
+use cost_bound::Allow;
+use image_map::{Map, Name, ValueType, Variable};
+use privatise::{Layout, PrivateScalar, TaskLayout, VariablePlace};
+use source_report::spelled;
+use std::alloc::{AllocError, Global};
+use task_ast::{
+    CheckedSource, Extent, SharedDeclaration, TaskDeclaration, TaskName, VariableName, WordType,
+};
+
+// The name that stands at a span of the text.
+fn name_at(text: &[u8], span: Span) -> Name
+    requires { is_name (spelled text.now span) ≡ true }
+    ensures { result ≡ spelled text.now span }
+{
+    match Name::of(spelled(text, span)) {
+        Some(name) => name,
+        None => unreachable!(),
+    }
+}
+
+fn value_type_of(word_type: WordType) -> ValueType
+    ensures { result ≡ maps.value_type_of word_type }
+{
+    match word_type {
+        WordType::Unsigned => ValueType::Unsigned,
+        WordType::Int => ValueType::Int,
+    }
+}
+
+fn length_of(extent: Extent) -> Option<u16>
+    ensures { result ≡ length_of extent }
+{
+    match extent {
+        Extent::Scalar(_) => None,
+        Extent::Array(length) => Some(length),
+    }
+}
+
+// The address of a variable's first word.
+fn home_of(place: VariablePlace) -> u16
+    ensures { result ≡ (home_region place).address }
+{
+    match place {
+        VariablePlace::Scalar { home, .. } => home,
+        VariablePlace::Array { elements, .. } => elements,
+    }
+}
+
+fn variable_of(text: &[u8], declaration: &SharedDeclaration, place: VariablePlace) -> Variable
+    requires { is_name (spelled text.now declaration.now.name) ≡ true }
+    ensures { result ≡ maps.variable_of text.now declaration.now place }
+{
+    Variable {
+        name: name_at(text, declaration.name),
+        value_type: value_type_of(declaration.word_type),
+        address: home_of(place),
+        length: length_of(declaration.extent),
+    }
+}
+
+// Adds the shared variables behind the others.
+fn add_variables(
+    added: &mut Map,
+    text: &[u8],
+    shared: &[SharedDeclaration],
+    places: &[VariablePlace],
+) -> Result<(), AllocError>
+    requires count { length shared.now ≡ length places.now }
+    requires names { All (λ d. is_name (spelled text.now d.name) ≡ true) shared.now }
+    requires takes { TakesVariables added.old (variables_of text.now shared.now places.now) }
+    ensures { OnOk result (added.new ≡ with_variables added.old (variables_of text.now shared.now places.now)) }
+{
+    for i in 0..shared.len() {
+        added.add_variable(variable_of(text, &shared[i], places[i]))?;
+    }
+    Ok(())
+}
+
+// The name of a shared variable by its number.
+fn shared_name(text: &[u8], shared: &[SharedDeclaration], number: u32) -> Name
+    requires declared { number < length shared.now }
+    requires names { All (λ d. is_name (spelled text.now d.name) ≡ true) shared.now }
+    ensures { result ≡ maps.shared_name text.now shared.now number }
+{
+    name_at(text, shared[number as usize].name)
+}
+
+// Adds private scalars to the last task.
+fn add_privates(
+    added: &mut Map,
+    text: &[u8],
+    shared: &[SharedDeclaration],
+    privates: &[PrivateScalar],
+) -> Result<(), AllocError>
+    requires declared { All (λ s. s.number < length shared.now) privates.now }
+    requires names { All (λ d. is_name (spelled text.now d.name) ≡ true) shared.now }
+    requires takes { TakesPrivates added.old (private_names text.now shared.now privates.now) }
+    ensures { OnOk result (added.new ≡ with_privates added.old (private_names text.now shared.now privates.now)) }
+{
+    for scalar in privates {
+        added.add_private(shared_name(text, shared, scalar.number))?;
+    }
+    Ok(())
+}
+
+// Adds a task with its private scalars.
+fn add_task(
+    alloc: Global,
+    added: &mut Map,
+    text: &[u8],
+    shared: &[SharedDeclaration],
+    task: &TaskDeclaration<VariableName, TaskName>,
+    layout: &TaskLayout,
+) -> Result<(), AllocError>
+    requires declared { All (λ s. s.number < length shared.now) layout.now.privates }
+    requires variables { All (λ d. is_name (spelled text.now d.name) ≡ true) shared.now }
+    requires name { is_name (spelled text.now task.now.name) ≡ true }
+    requires takes { takes_task added.old (spelled text.now task.now.name) ≡ true }
+    requires takes_privates { TakesPrivates (with_task added.old (spelled text.now task.now.name)) (private_names text.now shared.now layout.now.privates) }
+    ensures { OnOk result (added.new ≡ with_whole_task added.old (task_value_of text.now shared.now (tree.task_of task.now) layout.now)) }
+{
+    added.add_task(alloc, name_at(text, task.name))?;
+    add_privates(added, text, shared, layout.privates())
+}
+
+// Adds the tasks with their private scalars.
+fn add_tasks(
+    alloc: Global,
+    added: &mut Map,
+    text: &[u8],
+    shared: &[SharedDeclaration],
+    tasks: &[TaskDeclaration<VariableName, TaskName>],
+    layouts: &[TaskLayout],
+) -> Result<(), AllocError>
+    requires count { length tasks.now ≡ length layouts.now }
+    requires declared { All (λ t. All (λ s. s.number < length shared.now) t.privates) layouts.now }
+    requires variables { All (λ d. is_name (spelled text.now d.name) ≡ true) shared.now }
+    requires names { All (λ t. is_name (spelled text.now t.name) ≡ true) tasks.now }
+    requires takes { TakesTasks added.old (tasks_of text.now shared.now (map tree.task_of tasks.now) layouts.now) }
+    ensures { OnOk result (added.new ≡ with_tasks added.old (tasks_of text.now shared.now (map tree.task_of tasks.now) layouts.now)) }
+{
+    for k in 0..tasks.len() {
+        add_task(alloc, added, text, shared, &tasks[k], &layouts[k])?;
+    }
+    Ok(())
+}
+
+/// The map of a source with its layout and its allowance.
+pub fn map_of(
+    alloc: Global,
+    text: &[u8],
+    source: &CheckedSource,
+    layout: &Layout,
+    allow: &Allow,
+) -> Result<Map, AllocError>
+    requires variables { length source.now.shared.items ≡ length layout.now.variables }
+    requires tasks { length source.now.tasks.items ≡ length layout.now.tasks }
+    requires declared { All (λ t. All (λ s. s.number < length source.now.shared.items) t.privates) layout.now.tasks }
+    requires names { HasNames text.now (tree.program_of source.now) }
+    requires takes { TakesSource text.now (tree.program_of source.now) layout.now allow.now }
+    ensures { IfOk result (λ m. m ≡ maps.map_of text.now (tree.program_of source.now) layout.now allow.now) }
+{
+    layout.rules();
+    let mut map = Map::new(
+        alloc,
+        allow.cycles,
+        layout.words(),
+        layout.list(),
+        layout.emits(),
+        layout.versions(),
+    );
+    add_variables(&mut map, text, source.shared.as_slice(), layout.variables())?;
+    add_tasks(
+        alloc,
+        &mut map,
+        text,
+        source.shared.as_slice(),
+        source.tasks.as_slice(),
+        layout.tasks(),
+    )?;
+    Ok(map)
+}

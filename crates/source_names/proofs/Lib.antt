@@ -1,0 +1,4 @@
+pub mod Spelling
+pub mod Declared
+pub mod Different
+pub mod Accepted
