@@ -1,0 +1,4 @@
+pub mod Draws
+pub mod Source
+pub mod Trace
+pub mod Laws
