@@ -3,12 +3,11 @@ use Rattle.std.proofs.Common.{◌≡◌, ◌∙◌, ◌⊎◌, inl, inr, ◌≤�
 use Rattle.std.specs.Prelude.{unwrap_or}
 use Rattle.alp_io.specs.Count.{Rose}
 use Rattle.alp_io.specs.Shelf.{Files, Counts}
-use Rattle.command_line.specs.CommandLine.{line_of}
 use Rattle.fram_board.specs.Laws.{HasOneRun}
 use Rattle.alpaca_cli.specs.declared.status.Status.{Status}
 use Rattle.alpaca_cli.specs.declared.status.Status.TheVariants.{Done, Refused, Usage, Unreadable, Unwritable, OutOfMemory, MachineFault, TooLong}
 use Rattle.alpaca_cli.specs.Answers.{Answers, CommandAnswers, status_of}
-use Rattle.alpaca_cli.specs.Calls.{Call, OnLine, line_text, reads}
+use Rattle.alpaca_cli.specs.Calls.{Call, OnLine, Says, line_text, reads}
 use Rattle.alpaca_cli.specs.InputFiles.{AreHeld, IsFirstUnfit, here, behind, IsOverlong}
 use Rattle.alpaca_cli.specs.Outside.{Shelved, Written, IsSilent, WhereSilent}
 use Rattle.alpaca_cli.specs.Products.{Product, IsProduct}
@@ -17,20 +16,20 @@ use Rattle.alpaca_cli.proofs.OneProduct.{SourcesExclude, one_ending, not_refused
 
 -- the words are a line, and this is said of its command
 pub on_line : (status : Status) (call : Call) (words : List (List ℕ)) (shelf : Shelved) (out err : Written)
-    → line_of words ≡ Some (line_text call) → CommandAnswers status call shelf out err → Answers status words shelf out err
-on_line Done call words shelf out err line a = (call, line, a)
-on_line Refused call words shelf out err line a = (call, line, a)
-on_line Usage call words shelf out err line a = absurd a.2
-on_line Unreadable call words shelf out err line a = (call, line, a)
-on_line Unwritable call words shelf out err line a = (call, line, a)
-on_line OutOfMemory call words shelf out err line a = a
-on_line MachineFault call words shelf out err line a = (call, line, a)
-on_line TooLong call words shelf out err line a = (call, line, a)
+    → Says words call → CommandAnswers status call shelf out err → Answers status words shelf out err
+on_line Done call words shelf out err says a = (call, says, a)
+on_line Refused call words shelf out err says a = (call, says, a)
+on_line Usage call words shelf out err says a = absurd a.2
+on_line Unreadable call words shelf out err says a = (call, says, a)
+on_line Unwritable call words shelf out err says a = (call, says, a)
+on_line OutOfMemory call words shelf out err says a = a
+on_line MachineFault call words shelf out err says a = (call, says, a)
+on_line TooLong call words shelf out err says a = (call, says, a)
 
 -- the same of a command that has no output
 pub on_silent_line : (status : Status) (call : Call) (words : List (List ℕ)) (shelf : Shelved) (out err : Written)
-    → line_of words ≡ Some (line_text call) → IsSilent out → WhereSilent (λ o. CommandAnswers status call shelf o err) → Answers status words shelf out err
-on_silent_line status call words shelf out err line silent a = on_line status call words shelf out err line (a out silent)
+    → Says words call → IsSilent out → WhereSilent (λ o. CommandAnswers status call shelf o err) → Answers status words shelf out err
+on_silent_line status call words shelf out err says silent a = on_line status call words shelf out err says (a out silent)
 
 -- ---- where nothing fails
 
@@ -97,38 +96,38 @@ command_complete runs sources Usage call texts f now old new out err product hel
 
 -- the same of the words
 of_line : (status : Status) (words : List (List ℕ)) (call : Call) (shelf : Shelved) (out err : Written)
-    → line_of words ≡ Some (line_text call) → OnLine words (λ c. CommandAnswers status c shelf out err) → CommandAnswers status call shelf out err
-of_line status words call shelf out err line a =
-    let same : line_text a.0 ≡ line_text call = ap (λ o. unwrap_or o []) (sym a.1 ∙ line) in
-    subst (λ c. CommandAnswers status c shelf out err) (same_call a.0 call same) a.2
+    → Says words call → OnLine words (λ c. CommandAnswers status c shelf out err) → CommandAnswers status call shelf out err
+of_line status words call shelf out err says a =
+    let same : line_text a.0 ≡ line_text call = ap (λ o. unwrap_or o []) (sym a.1.line ∙ says.line) in
+    subst (λ c. CommandAnswers status c shelf out err) (same_call a.0 call a.1.number says.number same) a.2
 
 line_complete : HasOneRun → SourcesExclude → (status : Status) (words : List (List ℕ)) (call : Call) (texts : List (List ℕ)) (f : Files) (now : Option Files) (old new : Counts) (out err : Written) (product : Product)
     → OnLine words (λ c. CommandAnswers status c (before f now old new) out err)
-    → line_of words ≡ Some (line_text call) → AreHeld f (reads call) texts → IsProduct call texts product → NothingFailed old new out
+    → Says words call → AreHeld f (reads call) texts → IsProduct call texts product → NothingFailed old new out
     → (status ≡ status_of product.ending) ⊎ (status ≡ OutOfMemory)
-line_complete runs sources status words call texts f now old new out err product a line held is fine =
-    command_complete runs sources status call texts f now old new out err product held is fine (of_line status words call (before f now old new) out err line a)
+line_complete runs sources status words call texts f now old new out err product a says held is fine =
+    command_complete runs sources status call texts f now old new out err product held is fine (of_line status words call (before f now old new) out err says a)
 
 complete : HasOneRun → SourcesExclude → (status : Status) (words : List (List ℕ)) (call : Call) (texts : List (List ℕ)) (f : Files) (now : Option Files) (old new : Counts) (out err : Written) (product : Product)
     → Answers status words (before f now old new) out err
-    → line_of words ≡ Some (line_text call) → AreHeld f (reads call) texts → IsProduct call texts product → NothingFailed old new out
+    → Says words call → AreHeld f (reads call) texts → IsProduct call texts product → NothingFailed old new out
     → (status ≡ status_of product.ending) ⊎ (status ≡ OutOfMemory)
-complete runs sources Usage words call texts f now old new out err product a line held is fine = absurd (a.1 (call, line, tt))
-complete runs sources OutOfMemory words call texts f now old new out err product a line held is fine = inr refl
-complete runs sources Done words call texts f now old new out err product a line held is fine = line_complete runs sources Done words call texts f now old new out err product a line held is fine
-complete runs sources Refused words call texts f now old new out err product a line held is fine = line_complete runs sources Refused words call texts f now old new out err product a line held is fine
-complete runs sources Unreadable words call texts f now old new out err product a line held is fine = line_complete runs sources Unreadable words call texts f now old new out err product a line held is fine
-complete runs sources Unwritable words call texts f now old new out err product a line held is fine = line_complete runs sources Unwritable words call texts f now old new out err product a line held is fine
-complete runs sources MachineFault words call texts f now old new out err product a line held is fine = line_complete runs sources MachineFault words call texts f now old new out err product a line held is fine
-complete runs sources TooLong words call texts f now old new out err product a line held is fine = line_complete runs sources TooLong words call texts f now old new out err product a line held is fine
+complete runs sources Usage words call texts f now old new out err product a says held is fine = absurd (a.1 (call, says, tt))
+complete runs sources OutOfMemory words call texts f now old new out err product a says held is fine = inr refl
+complete runs sources Done words call texts f now old new out err product a says held is fine = line_complete runs sources Done words call texts f now old new out err product a says held is fine
+complete runs sources Refused words call texts f now old new out err product a says held is fine = line_complete runs sources Refused words call texts f now old new out err product a says held is fine
+complete runs sources Unreadable words call texts f now old new out err product a says held is fine = line_complete runs sources Unreadable words call texts f now old new out err product a says held is fine
+complete runs sources Unwritable words call texts f now old new out err product a says held is fine = line_complete runs sources Unwritable words call texts f now old new out err product a says held is fine
+complete runs sources MachineFault words call texts f now old new out err product a says held is fine = line_complete runs sources MachineFault words call texts f now old new out err product a says held is fine
+complete runs sources TooLong words call texts f now old new out err product a says held is fine = line_complete runs sources TooLong words call texts f now old new out err product a says held is fine
 
 -- the same where the files may be untold
 pub complete_told : HasOneRun → SourcesExclude → (status : Status) (words : List (List ℕ)) (told now : Option Files) (old new : Counts) (out err : Written)
     → Answers status words (record { old = told; new = now; counts_old = old; counts_new = new }) out err
     → IfSome told (λ f. (call : Call) (texts : List (List ℕ)) (product : Product)
-    → line_of words ≡ Some (line_text call) → AreHeld f (reads call) texts → IsProduct call texts product
+    → Says words call → AreHeld f (reads call) texts → IsProduct call texts product
     → (Rose old.failed_reads new.failed_reads → ⊥) → (Rose old.failed_puts new.failed_puts → ⊥) → (Rose out.faults_old out.faults_new → ⊥)
     → (status ≡ status_of product.ending) ⊎ (status ≡ OutOfMemory))
 complete_told runs sources status words None now old new out err a = tt
-complete_told runs sources status words (Some f) now old new out err a = λ call texts product line held is no_read no_put no_write.
-    complete runs sources status words call texts f now old new out err product a line held is (record { no_read = no_read; no_put = no_put; no_write = no_write })
+complete_told runs sources status words (Some f) now old new out err a = λ call texts product says held is no_read no_put no_write.
+    complete runs sources status words call texts f now old new out err product a says held is (record { no_read = no_read; no_put = no_put; no_write = no_write })

@@ -1,9 +1,6 @@
 -- Why a part of a command failed is why the command did.
 use Rattle.std.proofs.Common.{◌≡◌, ◌∙◌, ℕ, List, [], ◌∷◌, Some, None, Result, Ok, Err, refl, sym, ap, subst, IfOk, IfErr}
 use Rattle.std.specs.Prelude.{slice_get}
-use Rattle.std.specs.Io.KnownBytes.{Appends}
-use Rattle.alp_io.specs.Shelf.{Told, Sets}
-use Rattle.alp_io.proofs.Appends.{appends_none}
 use Rattle.energy_trace.specs.TraceValue.{TraceValue}
 use Rattle.energy_trace.specs.Reading.{trace_of}
 use Rattle.image_text.specs.ImageValue.{ImageValue}
@@ -14,12 +11,12 @@ use Rattle.alpaca_cli.specs.declared.failure.Failure.{Failure}
 use Rattle.alpaca_cli.specs.declared.failure.Failure.TheVariants.{Refused, Put, Write, Memory}
 use Rattle.alpaca_cli.specs.declared.run.RunEnding.{RunEnding}
 use Rattle.alpaca_cli.specs.Answers.{IsWhole}
-use Rattle.alpaca_cli.specs.Calls.{Call, mean, run, asm, dis, puts, reads}
+use Rattle.alpaca_cli.specs.Calls.{Call, mean, run, dis, puts, judges}
 use Rattle.alpaca_cli.specs.Ending.{Ending, well}
 use Rattle.alpaca_cli.specs.Ends.{ending_of}
-use Rattle.alpaca_cli.specs.Outcomes.{FailsBy, FailsWriting, FailsPutting, Gains}
-use Rattle.alpaca_cli.specs.Outside.{Shelved, Written, Stands, IsSilent, WhereStands, WhereSilent, IsPut, IsUnput}
-use Rattle.alpaca_cli.specs.Products.{Product, IsProduct, IsRefused, Assembles, IsListing}
+use Rattle.alpaca_cli.specs.Outcomes.{FailsBy, FailsWriting, Gains}
+use Rattle.alpaca_cli.specs.Outside.{Shelved, Written, Stands, IsSilent, WhereStands, IsPut}
+use Rattle.alpaca_cli.specs.Products.{Product, IsProduct, IsRefused, IsListing}
 use Rattle.alpaca_cli.specs.Refusals.{Refusal}
 use Rattle.alpaca_cli.specs.RunReport.{IsRunReport}
 use Rattle.alpaca_cli.specs.Sources.{IsSourceText}
@@ -27,7 +24,7 @@ use Rattle.alpaca_cli.specs.Texts.{FailsRefused}
 use Rattle.alpaca_cli.specs.Views.{refusal_of}
 
 pub refusal_fails : (e : Failure) (name : List ℕ) (P : Refusal → Type 0) (call : Call) (texts : List (List ℕ)) (place : ℕ) (shelf : Shelved) (out : Written)
-    → slice_get (reads call) place ≡ Some name → ((r : Refusal) → P r → IsRefused call texts place r) → Stands shelf → IsSilent out
+    → slice_get (judges call) place ≡ Some name → ((r : Refusal) → P r → IsRefused call texts place r) → Stands shelf → IsSilent out
     → FailsRefused name P e → FailsBy e call texts shelf out
 refusal_fails (Refused file r) name P call texts place shelf out named is stands silent fails = (
   record { place = place; named = named ∙ ap Some (sym fails.0); refused = is (refusal_of r) fails.1 },
@@ -37,6 +34,11 @@ refusal_fails (Refused file r) name P call texts place shelf out named is stands
 refusal_fails (Put file) name P call texts place shelf out named is stands silent fails = absurd fails
 refusal_fails Write name P call texts place shelf out named is stands silent fails = absurd fails
 refusal_fails Memory name P call texts place shelf out named is stands silent fails = (stands, silent)
+
+-- memory was refused before anything was put or written
+pub memory_fails : (e : Failure) (call : Call) (texts : List (List ℕ)) (shelf : Shelved) (out : Written) → e ≡ Memory → Stands shelf → IsSilent out
+    → FailsBy e call texts shelf out
+memory_fails e call texts shelf out memory stands silent = subst (λ x. FailsBy x call texts shelf out) (sym memory) (stands, silent)
 
 -- ---- a command that puts no file
 
@@ -139,34 +141,3 @@ pub dis_fails : {A : Type 0} (result : Result A Failure) (a image : List ℕ) (i
     → IfErr result (λ e. WhereStands (λ shelf. FailsBy e (dis a) (image ∷ []) shelf out))
 dis_fails result a image i out said fails =
     fails_by result (IsListing i.words) (dis a) (image ∷ []) well out refl (λ output is. (record { value = i; said = said; listing = is }, refl, refl)) fails
-
--- ---- `asm`, which writes nothing
-
--- the file that it puts
-abbrev put_text : List ℕ → Product
-put_text file = record { file = Some file; output = []; ending = well }
-
-pub asm_whole : {A : Type 0} (result : Result A Failure) (a i assembly file bytes : List ℕ) (shelf : Shelved) → Assembles assembly file → bytes ≡ file
-    → IfOk result (λ x. Told shelf.old shelf.new (Sets i bytes)) → IfOk result (λ x. WhereSilent (IsWhole (asm a i) (assembly ∷ []) well shelf))
-asm_whole (Ok x) a i assembly file bytes shelf is same put = λ out silent. record {
-  product = put_text file;
-  is = (is, refl, refl);
-  ends = refl;
-  put = subst (λ f. Told shelf.old shelf.new (Sets i f)) same put;
-  written = subst (λ now. Appends out.old now []) (sym silent) (appends_none out.old);
-}
-asm_whole (Err e) a i assembly file bytes shelf is same put = tt
-
-pub asm_fails : {A : Type 0} (result : Result A Failure) (a i assembly file : List ℕ) (shelf : Shelved) → Assembles assembly file
-    → IfErr result (λ e. FailsPutting e i shelf) → IfErr result (λ e. WhereSilent (FailsBy e (asm a i) (assembly ∷ []) shelf))
-asm_fails (Ok x) a i assembly file shelf is fails = tt
-asm_fails (Err (Refused named r)) a i assembly file shelf is fails = absurd fails
-asm_fails (Err (Put named)) a i assembly file shelf is fails = λ out silent. record {
-  product = put_text file;
-  is = (is, refl, refl);
-  named = ap Some (sym fails.0);
-  unput = subst (λ n. IsUnput n shelf) (sym fails.0) fails.1;
-  silent = silent;
-}
-asm_fails (Err Write) a i assembly file shelf is fails = absurd fails
-asm_fails (Err Memory) a i assembly file shelf is fails = λ out silent. (fails, silent)

@@ -1,11 +1,17 @@
 mod Answered
 mod AssemblyLaws
 mod FailureLaws
+mod FaultLaws
+mod GenLaws
+mod GenLines
 mod LineLaws
 mod OneProduct
+mod PutLaws
 mod Refused
 mod RunLaws
 mod ShelfLaws
 mod SourceLaws
 mod StatusLaws
+mod TraceLaws
+mod TrialLaws
 mod UnreadFiles

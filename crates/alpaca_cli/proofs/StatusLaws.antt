@@ -40,7 +40,7 @@ of_unread (unread.TooLong name) status call shelf out err told is stands silent 
 of_unread unread.Memory status call shelf out err told is stands silent =
     subst (λ s. CommandAnswers s call shelf out err) (sym told.is) (record { stands = stands; silent = silent; told = told.told })
 
-of_texts : (status : Status) (call : Call) (texts : List (List ℕ)) (shelf : Shelved) (out err : Written)
+pub of_texts : (status : Status) (call : Call) (texts : List (List ℕ)) (shelf : Shelved) (out err : Written)
     → IfSome shelf.old (λ f. AreHeld f (reads call) texts) → TextAnswers status call texts shelf out err → CommandAnswers status call shelf out err
 of_texts Done call texts shelf out err held a = (texts, held, a)
 of_texts Refused call texts shelf out err held a = (texts, held, a)
@@ -50,6 +50,11 @@ of_texts Unwritable call texts shelf out err held a = (texts, held, a)
 of_texts OutOfMemory call texts shelf out err held a = a
 of_texts MachineFault call texts shelf out err held a = (texts, held, a)
 of_texts TooLong call texts shelf out err held a = absurd a
+
+-- no file is read
+pub none_held : (files : Option Files) → IfSome files (λ f. AreHeld f [] [])
+none_held None = tt
+none_held (Some f) = tt
 
 -- one file is held
 pub held_alone : (files : Option Files) (name text : List ℕ) → IfSome files (λ f. f name ≡ Some text) → length text ≤ 1048576
@@ -72,15 +77,31 @@ pub of_one : (status : Status) (call : Call) (text a : List ℕ) (shelf : Shelve
 of_one status call text a shelf out err is_a held answer =
     of_texts status call (a ∷ []) shelf out err (subst (λ x. IfSome shelf.old (λ f. AreHeld f (reads call) (x ∷ []))) (sym is_a) held) answer
 
+-- what is said from behind the reads on, from before them
+earlier_read : (status : Status) (call : Call) (texts : List (List ℕ)) (files mid now : Option Files) (before between after : Counts) (out err : Written)
+    → mid ≡ files → NeverFall before between
+    → TextAnswers status call texts (record { old = mid; new = now; counts_old = between; counts_new = after }) out err
+    → TextAnswers status call texts (record { old = files; new = now; counts_old = before; counts_new = after }) out err
+earlier_read status call texts files mid now before between after out err same falls answer =
+    earlier status call texts files now before between after out err falls
+    (subst (λ m. TextAnswers status call texts (record { old = m; new = now; counts_old = between; counts_new = after }) out err) same answer)
+
 -- a command that reads one file and then may put one
 pub of_one_read : (status : Status) (call : Call) (text a : List ℕ) (files mid now : Option Files) (before between after : Counts) (out err : Written)
     → a ≡ text → mid ≡ files → NeverFall before between → IfSome files (λ f. AreHeld f (reads call) (text ∷ []))
     → TextAnswers status call (a ∷ []) (record { old = mid; new = now; counts_old = between; counts_new = after }) out err
     → CommandAnswers status call (record { old = files; new = now; counts_old = before; counts_new = after }) out err
 of_one_read status call text a files mid now before between after out err is_a same falls held answer =
-    let shelf : Shelved = record { old = files; new = now; counts_old = before; counts_new = after } in
-    of_one status call text a shelf out err is_a held (earlier status call (a ∷ []) files now before between after out err falls
-    (subst (λ m. TextAnswers status call (a ∷ []) (record { old = m; new = now; counts_old = between; counts_new = after }) out err) same answer))
+    of_one status call text a _ out err is_a held (earlier_read status call (a ∷ []) files mid now before between after out err same falls answer)
+
+-- a command that reads two files and then may put one
+pub of_two_read : (status : Status) (call : Call) (first second a b : List ℕ) (files mid now : Option Files) (before between after : Counts) (out err : Written)
+    → a ≡ first → b ≡ second → mid ≡ files → NeverFall before between → IfSome files (λ f. AreHeld f (reads call) (first ∷ second ∷ []))
+    → TextAnswers status call (a ∷ b ∷ []) (record { old = mid; new = now; counts_old = between; counts_new = after }) out err
+    → CommandAnswers status call (record { old = files; new = now; counts_old = before; counts_new = after }) out err
+of_two_read status call first second a b files mid now before between after out err is_a is_b same falls held answer =
+    of_two status call first second a b _ out err is_a is_b held
+    (earlier_read status call (a ∷ b ∷ []) files mid now before between after out err same falls answer)
 
 -- ---- `run`, by what its call answered
 

@@ -10,7 +10,7 @@ use Rattle.alpaca_cli.specs.declared.status.Status.TheVariants.{Done, Refused, U
 use Rattle.alpaca_cli.specs.InputFiles.{AreHeld, IsUnreadable, IsTooLong}
 use Rattle.alpaca_cli.specs.Refusals.{Refusal, refused_line}
 use Rattle.alpaca_cli.specs.Messages.{Tells, unreadable_line, too_long_line, unput_line, unwritable_line, memory_line, machine_fault_line, usage_line}
-use Rattle.alpaca_cli.specs.Calls.{Call, OnLine, reads, puts}
+use Rattle.alpaca_cli.specs.Calls.{Call, OnLine, reads, judges, puts}
 use Rattle.alpaca_cli.specs.Ending.{Ending, well, at_fault}
 use Rattle.alpaca_cli.specs.Outside.{Shelved, Written, Stands, IsSilent, IsPut, IsUnput}
 use Rattle.alpaca_cli.specs.Products.{Product, IsProduct, IsRefused}
@@ -49,10 +49,10 @@ pub record FailsPut (call : Call) (texts : List (List ℕ)) (name : List ℕ) (s
   pub unput : IsUnput name shelf
   pub silent : IsSilent out
 
--- the text of the named file is refused, and it is the first
+-- the text of this name is refused, and it is the first
 pub record IsFirstRefused (call : Call) (texts : List (List ℕ)) (name : List ℕ) (r : Refusal) : Type 0 where
   pub place : ℕ
-  pub named : slice_get (reads call) place ≡ Some name
+  pub named : slice_get (judges call) place ≡ Some name
   pub refused : IsRefused call texts place r
 
 -- What a status says of the texts of a command whose files were read.

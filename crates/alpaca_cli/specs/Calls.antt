@@ -1,35 +1,67 @@
--- The program's commands with the names of their files, and what their lines are.
-use Rattle.std.specs.Prelude.{◌≡◌, ℕ, List, [], ◌∷◌, codes, Option, Some, None}
+-- The program's commands with the names of their files and the number of `gen`, and what their lines are.
+use Rattle.std.specs.Prelude.{◌≡◌, ℕ, ◌^◌, ◌<◌, List, [], ◌∷◌, codes, decimal, Option, Some, None}
 use Rattle.command_line.specs.CommandLine.{line_of}
 
--- a command, with the names of its files in the order of its line
+-- a command, with what stands on its line, in order
 pub data Call : Type 0 where
   mean : (source trace : List ℕ) → Call
+  try_ : (source trace image : List ℕ) → Call
+  build : (source image : List ℕ) → Call
   run : (image trace : List ℕ) → Call
   asm : (assembly image : List ℕ) → Call
   dis : (image : List ℕ) → Call
+  gen : (number : ℕ) (image : List ℕ) → Call
 
--- its line: its first word, and then the names
+-- its line: its first word, and then the names, and the number in its decimal digits
 abbrev pub line_text : Call → List (List ℕ)
 line_text (mean source trace) = codes "mean" ∷ source ∷ trace ∷ []
+line_text (try_ source trace image) = codes "try" ∷ source ∷ trace ∷ image ∷ []
+line_text (build source image) = codes "build" ∷ source ∷ image ∷ []
 line_text (run image trace) = codes "run" ∷ image ∷ trace ∷ []
 line_text (asm assembly image) = codes "asm" ∷ assembly ∷ image ∷ []
 line_text (dis image) = codes "dis" ∷ image ∷ []
+line_text (gen number image) = codes "gen" ∷ decimal number ∷ image ∷ []
 
 -- the names of the files that it reads, in order
 abbrev pub reads : Call → List (List ℕ)
 reads (mean source trace) = source ∷ trace ∷ []
+reads (try_ source trace image) = source ∷ trace ∷ []
+reads (build source image) = source ∷ []
 reads (run image trace) = image ∷ trace ∷ []
 reads (asm assembly image) = assembly ∷ []
 reads (dis image) = image ∷ []
+reads (gen number image) = []
+
+-- the names of the texts that it may refuse, in order: those of its files, and of the generated source, which stands in none
+abbrev pub judges : Call → List (List ℕ)
+judges (gen number image) = codes "gen" ∷ []
+judges call = reads call
 
 -- the name of the file that it puts, if it puts one
 abbrev pub puts : Call → Option (List ℕ)
 puts (mean source trace) = None
+puts (try_ source trace image) = Some image
+puts (build source image) = Some image
 puts (run image trace) = None
 puts (asm assembly image) = Some image
 puts (dis image) = None
+puts (gen number image) = Some image
+
+-- it runs an image that it reads
+abbrev pub IsRun : Call → Type 0
+IsRun (run image trace) = Unit {0}
+IsRun call = ⊥
+
+-- its number, if it has one, is of 32 bits
+abbrev pub HasNumber : Call → Type 0
+HasNumber (gen number image) = number < 2 ^ 32
+HasNumber call = Unit {0}
+
+-- the words are the line of this command
+pub record Says (words : List (List ℕ)) (call : Call) : Type 0 where
+  pub number : HasNumber call
+  pub line : line_of words ≡ Some (line_text call)
 
 -- the words are the line of a command, and this holds of it
 abbrev pub OnLine : List (List ℕ) → (Call → Type 0) → Type 0
-OnLine words P = (call : Call) × (line_of words ≡ Some (line_text call)) × P call
+OnLine words P = (call : Call) × Says words call × P call

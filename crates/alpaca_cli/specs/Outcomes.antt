@@ -21,11 +21,15 @@ FailsBy Memory call texts shelf out = Stands shelf × IsSilent out
 abbrev pub Gains : Written → (List ℕ → Type 0) → Type 0
 Gains out P = (output : List ℕ) × P output × Appends out.old out.new output
 
+-- a write of a text of which this holds failed
+abbrev pub Breaks : Written → (List ℕ → Type 0) → Type 0
+Breaks out P = (output : List ℕ) × P output × AppendsProperPrefix out.old out.new output × Rose out.faults_old out.faults_new
+
 -- a write of a text of which this holds failed, or memory was refused before it
 abbrev pub FailsWriting : Failure → Written → (List ℕ → Type 0) → Type 0
 FailsWriting (Refused file r) out P = ⊥
 FailsWriting (Put name) out P = ⊥
-FailsWriting Write out P = (output : List ℕ) × P output × AppendsProperPrefix out.old out.new output × Rose out.faults_old out.faults_new
+FailsWriting Write out P = Breaks out P
 FailsWriting Memory out P = IsSilent out
 
 -- a put of the named file failed, or memory was refused

@@ -1,19 +1,32 @@
 -- What a command makes of its texts; or which of them is refused first, in the order of the words.
-use Rattle.std.specs.Prelude.{◌≡◌, ℕ, List, [], ◌∷◌, Option, None, Ok, IsSomeAnd}
+use Rattle.std.specs.Prelude.{◌≡◌, ℕ, List, [], ◌∷◌, ◌++◌, Option, None, Ok, IsSomeAnd}
 use Rattle.energy_trace.specs.TraceValue.{TraceValue}
 use Rattle.energy_trace.specs.Reading.{trace_of}
 use Rattle.image_text.specs.ImageValue.{ImageValue}
 use Rattle.image_text.specs.Reading.{image_of}
-use Rattle.image_text.specs.Text.{text_of}
+use Rattle.image_text.specs.Text.{map_part, text_of}
+use Rattle.text_parts.specs.Printed.{printed}
+use Rattle.alp_io.specs.Report.{bound_line}
+use Rattle.fram_board.specs.Board.{fresh}
+use Rattle.fram_board.specs.Run.{RunOutcome, Run}
+use Rattle.board_run.specs.Charges.{charges_of}
+use Rattle.board_run.specs.History.{start_of}
+use Rattle.board_run.specs.Report.{report_of}
+use Rattle.cost_bound.specs.declared.allowance.Allow.{Allow}
+use Rattle.source_meaning.specs.Acceptance.{IsAcceptedText}
+use Rattle.link_image.specs.Compiled.{IsCompiled}
 use Rattle.msp_asm.specs.Assembled.{assembled}
 use Rattle.msp_asm.specs.Disassembly.{IsTextOf}
 use Rattle.source_values.specs.Runs.{CheckedProgram}
 use Rattle.source_report.specs.SourceReport.{IsMeanReport}
+use Rattle.source_generator.specs.Source.{generated_text}
+use Rattle.source_generator.specs.Trace.{generated_trace}
 use Rattle.alpaca_cli.specs.Assemblies.{RefusesAssembly}
-use Rattle.alpaca_cli.specs.Calls.{Call, mean, run, asm, dis}
+use Rattle.alpaca_cli.specs.Calls.{Call, mean, try_, build, run, asm, dis, gen}
 use Rattle.alpaca_cli.specs.Ending.{Ending, well}
+use Rattle.alpaca_cli.specs.Generated.{generated_lines}
 use Rattle.alpaca_cli.specs.Refusals.{Refusal}
-use Rattle.alpaca_cli.specs.RunReport.{IsRunReport}
+use Rattle.alpaca_cli.specs.RunReport.{IsRunReport, SourceTells}
 use Rattle.alpaca_cli.specs.Sources.{IsSourceText, RefusesSource}
 use Rattle.alpaca_cli.specs.Texts.{RefusesTrace, RefusesImage}
 
@@ -39,6 +52,48 @@ pub record Runs (image trace : List ℕ) (ending : Ending) (output : List ℕ) :
   pub trace_said : trace_of trace ≡ Ok charges
   pub report : IsRunReport value charges ending output
 
+-- these bytes are the image text that is printed of the image of a source, and they read back
+pub record IsBuilt (source : List ℕ) (program : CheckedProgram) (allow : Allow) (image : ImageValue) (file : List ℕ) : Type 0 where
+  pub compiled : IsCompiled source program allow image
+  pub text : file ≡ text_of image.words ++ printed (map_part image.map)
+  pub reads_back : image_of file ≡ Ok image
+
+-- the text is a source, these bytes are the image text of its image, and this is the line of its bound
+pub record Builds (source file output : List ℕ) : Type 0 where
+  pub program : CheckedProgram
+  pub allow : Allow
+  pub image : ImageValue
+  pub accepted : IsAcceptedText source program allow
+  pub built : IsBuilt source program allow image file
+  pub bound : output ≡ bound_line allow.cycles
+
+-- The texts are a source and a trace. These bytes are the image text of the source's image, and this is the report of the run of that
+-- image on the trace, which ends well. And it is what the source tells of that run.
+pub record Tries (source trace file output : List ℕ) : Type 0 where
+  pub program : CheckedProgram
+  pub allow : Allow
+  pub image : ImageValue
+  pub charges : TraceValue
+  pub accepted : IsAcceptedText source program allow
+  pub trace_said : trace_of trace ≡ Ok charges
+  pub built : IsBuilt source program allow image file
+  pub report : IsRunReport image charges well output
+  pub told : SourceTells source program allow image built.compiled charges report.outcome output
+
+-- These bytes are the image text of the image of the source that is generated from the number. It has one run on the number's trace for
+-- its bound, of which the source tells, and these are the four lines of that run.
+pub record Generates (number : ℕ) (file output : List ℕ) : Type 0 where
+  pub program : CheckedProgram
+  pub allow : Allow
+  pub image : ImageValue
+  pub outcome : RunOutcome
+  pub accepted : IsAcceptedText (generated_text number) program allow
+  pub built : IsBuilt (generated_text number) program allow image file
+  pub run : let trace = generated_trace number allow.cycles in Run (charges_of trace.charges) (fresh image.words trace.readings) outcome
+  pub told : SourceTells (generated_text number) program allow image built.compiled (generated_trace number allow.cycles) outcome
+      (report_of (start_of image) outcome)
+  pub lines : output ≡ generated_lines number allow.cycles (start_of image) outcome
+
 -- the assembler text says an image without a map, and these bytes are the image text that is printed of it, which reads back
 pub record Assembles (assembly file : List ℕ) : Type 0 where
   pub words : List ℕ
@@ -60,12 +115,15 @@ pub record Lists (image output : List ℕ) : Type 0 where
 -- the texts are accepted, and this is what the command makes of them
 abbrev pub IsProduct : Call → List (List ℕ) → Product → Type 0
 IsProduct (mean _ _) (source ∷ trace ∷ []) p = Means source trace p.output × (p.file ≡ None) × (p.ending ≡ well)
+IsProduct (try_ _ _ _) (source ∷ trace ∷ []) p = IsSomeAnd p.file (λ file. Tries source trace file p.output) × (p.ending ≡ well)
+IsProduct (build _ _) (source ∷ []) p = IsSomeAnd p.file (λ file. Builds source file p.output) × (p.ending ≡ well)
 IsProduct (run _ _) (image ∷ trace ∷ []) p = Runs image trace p.ending p.output × (p.file ≡ None)
 IsProduct (asm _ _) (assembly ∷ []) p = IsSomeAnd p.file (Assembles assembly) × (p.output ≡ []) × (p.ending ≡ well)
 IsProduct (dis _) (image ∷ []) p = Lists image p.output × (p.file ≡ None) × (p.ending ≡ well)
+IsProduct (gen number _) [] p = IsSomeAnd p.file (λ file. Generates number file p.output) × (p.ending ≡ well)
 IsProduct call texts p = ⊥
 
--- the text of `mean` at this place, from 0, is the first that is refused, and so
+-- the text of `mean` or `try` at this place, from 0, is the first that is refused, and so
 pub data MeanRefuses (source trace : List ℕ) : ℕ → Refusal → Type 0 where
   the_source : (r : Refusal) → RefusesSource source r → MeanRefuses source trace 0 r
   its_trace : (program : CheckedProgram) (r : Refusal) → IsSourceText source program → RefusesTrace trace r → MeanRefuses source trace 1 r
@@ -78,7 +136,10 @@ pub data RunRefuses (image trace : List ℕ) : ℕ → Refusal → Type 0 where
 -- the text at this place, from 0, is the first that is refused, and so
 abbrev pub IsRefused : Call → List (List ℕ) → ℕ → Refusal → Type 0
 IsRefused (mean _ _) (source ∷ trace ∷ []) place r = MeanRefuses source trace place r
+IsRefused (try_ _ _ _) (source ∷ trace ∷ []) place r = MeanRefuses source trace place r
+IsRefused (build _ _) (source ∷ []) place r = RefusesSource source r × (place ≡ 0)
 IsRefused (run _ _) (image ∷ trace ∷ []) place r = RunRefuses image trace place r
 IsRefused (asm _ _) (assembly ∷ []) place r = RefusesAssembly assembly r × (place ≡ 0)
 IsRefused (dis _) (image ∷ []) place r = RefusesImage image r × (place ≡ 0)
+IsRefused (gen number _) [] place r = RefusesSource (generated_text number) r × (place ≡ 0)
 IsRefused call texts place r = ⊥

@@ -1,19 +1,21 @@
 //! The commands of the program.
-ghost use Rattle.std.specs.Prelude.{◌≡◌, ℕ, List, ◌≤◌, ◌⊎◌, map, string_bytes, IfSome, Some};
+ghost use Rattle.std.specs.Prelude.{◌≡◌, ℕ, List, ◌≤◌, ◌⊎◌, map, string_bytes, IfSome};
 ghost use Rattle.alp_io.specs.Count.{Rose};
 ghost use Rattle.alp_io.specs.Shelf.{NeverFall};
-ghost use Rattle.command_line.specs.CommandLine.{line_of};
 ghost use Rattle.alpaca_cli.specs.InputFiles.{AreHeld};
-ghost use Rattle.alpaca_cli.specs.Calls.{Call, OnLine, line_text, reads};
+ghost use Rattle.alpaca_cli.specs.Calls.{Call, IsRun, OnLine, Says, reads};
 ghost use Rattle.alpaca_cli.specs.Products.{Product, IsProduct};
 ghost use Rattle.alpaca_cli.specs.Answers.{Answers, OthersStand, status_of};
 
 use crate::asm::answer_asm;
+use crate::build::answer_build;
 use crate::dis::answer_dis;
+use crate::generate::answer_gen;
 use crate::mean::answer_mean;
 use crate::messages;
 use crate::run::answer_run;
 use crate::status::Status;
+use crate::try_::answer_try;
 use alp_io::{Shelf, Sink};
 use command_line::{Command, WordsFault, command_of};
 use fram_board::board_has_one_run;
@@ -38,9 +40,18 @@ fn answer<H: Shelf, O: Sink, E: Sink>(
 {
     match command_of(alloc, words) {
         Ok(Command::Mean { source, trace }) => answer_mean(alloc, source, trace, shelf, out, err),
+        Ok(
+            Command::Try {
+                source,
+                trace,
+                image,
+            },
+        ) => answer_try(alloc, (source, trace, image), shelf, out, err),
+        Ok(Command::Build { source, image }) => answer_build(alloc, source, image, shelf, out, err),
         Ok(Command::Run { image, trace }) => answer_run(alloc, image, trace, shelf, out, err),
         Ok(Command::Asm { assembly, image }) => answer_asm(alloc, assembly, image, shelf, err),
         Ok(Command::Dis { image }) => answer_dis(alloc, image, shelf, out, err),
+        Ok(Command::Gen { number, image }) => answer_gen(alloc, number, image, shelf, out, err),
         Err(WordsFault::Usage) => {
             messages::tell_usage(err);
             Status::Usage
@@ -56,7 +67,9 @@ fn answer<H: Shelf, O: Sink, E: Sink>(
 ///
 /// `mean SRC TRACE` writes to `out` the report of the source's meaning on the trace's readings, `run IMAGE TRACE` that of the
 /// image's run on the board under the trace's charges, and `dis IMAGE` the assembler text of the image. `asm ASM IMAGE` puts the
-/// image of the assembler text under the name IMAGE. Every other answer than `Done` writes its one line to `err`.
+/// image of the assembler text under the name IMAGE, and `build SRC IMAGE` that of the source, whose bound it writes; `try SRC TRACE
+/// IMAGE` puts it too, and writes the report of its run. `gen N IMAGE` puts the image of the source that is generated from N, and writes
+/// four lines of its run. Every other answer than `Done` writes its one line to `err`.
 pub fn alpaca<H: Shelf, O: Sink, E: Sink>(
     alloc: Global,
     words: &[String],
@@ -80,11 +93,13 @@ pub fn alpaca<H: Shelf, O: Sink, E: Sink>(
     ensures no_line { (OnLine (map string_bytes words.entry.now) (λ call. Unit {0}) → ⊥)
         → (result ≡ Status.Usage) ⊎ (result ≡ Status.OutOfMemory) }
 
+    // Only the run of an image that was read may meet a machine fault: `try` and `gen` never answer so.
+    ensures only_runs_fault { result ≡ Status.MachineFault → OnLine (map string_bytes words.entry.now) IsRun }
+
     // Where the words are a line, the files are told and fit, their texts are accepted, and no read, no put and no write fails,
     // the command is whole, or memory ran out.
     ensures complete { IfSome (H.files shelf.old) (λ f. (call : Call) (texts : List (List ℕ)) (product : Product)
-        → line_of (map string_bytes words.entry.now) ≡ Some (line_text call)
-        → AreHeld f (reads call) texts → IsProduct call texts product
+        → Says (map string_bytes words.entry.now) call → AreHeld f (reads call) texts → IsProduct call texts product
         → ¬ Rose (H.counts shelf.old).failed_reads (H.counts shelf.new).failed_reads
         → ¬ Rose (H.counts shelf.old).failed_puts (H.counts shelf.new).failed_puts → ¬ Rose (O.faults out.old) (O.faults out.new)
         → (result ≡ status_of product.ending) ⊎ (result ≡ Status.OutOfMemory)) }

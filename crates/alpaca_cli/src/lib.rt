@@ -4,9 +4,13 @@
 mod answers;
 mod asm;
 mod assemblies;
+mod build;
+mod built;
 mod command;
 mod dis;
 mod failure;
+mod gen_lines;
+mod generate;
 mod images;
 mod inputs;
 mod mean;
@@ -17,6 +21,7 @@ mod run;
 mod sources;
 mod status;
 mod traces;
+mod try_;
 
 pub use command::alpaca;
 pub use messages::{tell_out_of_memory, tell_usage};

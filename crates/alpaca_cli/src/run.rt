@@ -57,8 +57,8 @@ fn write_lines<S: Sink>(
     }
 }
 
-// Writes the report of a run of a board that is new from the image. Takes no memory.
-fn write_report<O: Sink>(
+/// Writes the report of a run of a board that is new from the image. Takes no memory.
+pub fn write_report<O: Sink>(
     out: &mut O,
     image: &Image,
     trace: &Trace,

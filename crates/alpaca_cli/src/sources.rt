@@ -1,6 +1,7 @@
 //! A source text, read for a command.
 ghost use Rattle.std.specs.Prelude.{◌≡◌, ◌<◌, ◌≤◌, IfOk, IfErr, Ok, length, codes, option_map, Some};
 ghost use Rattle.task_ast.specs.View.{program_of};
+ghost use Rattle.source_meaning.specs.Acceptance.{IsAcceptedText};
 ghost use Rattle.alpaca_cli.specs.Sources as told;
 ghost use Rattle.alpaca_cli.specs.Sources.{IsSourceText, RefusesSource};
 ghost use Rattle.alpaca_cli.specs.Texts.{FailsRefused};
@@ -116,6 +117,7 @@ fn failure_of<'t>(file: &'t str, text: &'t [u8], fault: SourceFault) -> Failure<
 pub fn source_of<'t>(alloc: Global, file: &'t str, text: &'t [u8]) -> Result<Accepted, Failure<'t>>
     requires { length text.now ≤ 1048576 }
     ensures text { IfOk result (λ a. a.text.items ≡ text.now) }
+    ensures accepted { IfOk result (λ a. IsAcceptedText text.now (program_of a.checked.source) a.allow) }
     ensures said { IfOk result (λ a. IsSourceText text.now (program_of a.checked.source)) }
     ensures refused { IfErr result (FailsRefused file.now (RefusesSource text.now)) }
 {

@@ -1,6 +1,7 @@
 //! A trace text, read for a command.
 ghost use Rattle.std.specs.Prelude.{◌≡◌, ◌<◌, IfOk, IfErr, Ok, length};
 ghost use Rattle.energy_trace.specs.Reading.{trace_of};
+ghost use Rattle.source_runs.specs.Traces.{IsTraceOfWords};
 ghost use Rattle.alpaca_cli.specs.Texts.{RefusesTrace, FailsRefused};
 
 use crate::failure::{Failure, refused_plainly};
@@ -14,6 +15,7 @@ use std::alloc::Global;
 pub fn trace_of<'t>(alloc: Global, file: &'t str, text: &[u8]) -> Result<Trace, Failure<'t>>
     requires { length text.now < 4294967295 }
     ensures said { IfOk result (λ t. trace_of text.now ≡ Ok t) }
+    ensures words { IfOk result (λ t. IsTraceOfWords t) }
     ensures refused { IfErr result (FailsRefused file.now (RefusesTrace text.now)) }
 {
     match parse_trace(alloc, text) {

@@ -4,6 +4,10 @@
 #[cfg(test)]
 mod assembly;
 #[cfg(test)]
+mod compile;
+#[cfg(test)]
+mod generate;
+#[cfg(test)]
 mod images;
 #[cfg(test)]
 mod mean;

@@ -10,14 +10,17 @@ use Rattle.std.specs.Option.{IsSome, option_and_then}
 use Rattle.std.specs.Str.{bytes_eq}
 use Rattle.clap.specs.Words.{Row, Rule, Text, first_of, found_of, has_subcommand, rows_of, subcommand_name_of, subcommand_of, subcommand_rows_of}
 use Rattle.clap.specs.Walk.{has_row}
+use Rattle.clap.specs.ValueTests.{is_signed_in}
+use Rattle.std.specs.Prelude.{decimal, pos}
+use Rattle.std.specs.Option.{option_map_or}
 use Rattle.clap.specs.declared.parser.matches.ArgMatches.{ArgMatches}
 use Rattle.clap.specs.declared.parser.matches.ArgMatches.TheViews.{out-ArgMatches, out-SubCommand}
-use Rattle.command_line.specs.CommandLine.{AreTexts, IsLine, Subcommand, alpaca_app, begins_with_hyphen, files_of, line_of, subcommand_named, subcommands}
+use Rattle.command_line.specs.CommandLine.{AreTexts, IsLine, Subcommand, all_said, alpaca_app, begins_with_hyphen, files_of, is_number_name, line_of, number_in, plain_line_of, said_behind, subcommand_named, subcommands}
 use Rattle.command_line.specs.Commands.{IsPlainLine, NamesCommand, line_found, plain_line, values_of}
 use Rattle.command_line.specs.declared.Command.{Command}
-use Rattle.command_line.specs.declared.Command.TheVariants.{Mean, Run, Asm, Dis}
-use Rattle.command_line.proofs.Files.{IsGiven, IsInOrder, built_subcommand, file_row, given_row, more_given, rows_for}
-use Rattle.command_line.proofs.Lines.{Line, all_in_order, has_name, in_order, line_reads, line_there, named}
+use Rattle.command_line.specs.declared.Command.TheVariants.{Mean, Try, Build, Run, Asm, Dis, Gen}
+use Rattle.command_line.proofs.Files.{files_said, said_length, IsGiven, IsInOrder, built_subcommand, file_row, given_row, more_given, rows_for}
+use Rattle.command_line.proofs.Lines.{Line, all_in_order, has_name, in_order, line_reads, line_says, line_there, named}
 
 -- ---- the program's words are texts
 
@@ -57,9 +60,11 @@ line_found_is words name rows l is =
     let word : l.command.name ≡ l.name = has_name subcommands l.name l.command l.named in
     let values : values_of l.command.files rows ≡ Some l.files = ap (values_of l.command.files) (sym kept)
     ∙ values_after l.command.files (built_subcommand l.command).rules [] 1 [] l.files (in_order subcommands l.name l.command all_in_order l.named) tt l.count in
-    let found : line_found l.name rows ≡ Some (l.name ∷ l.files) =
-    ap (λ o. option_and_then (λ (s : Subcommand). option_map (λ files. l.name ∷ files) (values_of s.files rows)) o) l.named ∙ ap (option_map (λ files. l.name ∷ files)) values in
-    ap (λ n. line_found n rows) (sym called ∙ word) ∙ found ∙ sym (ap line_of l.is ∙ ap (option_map (λ files. l.name ∷ files)) l.from)
+    let found : line_found l.name rows ≡ Some (l.name ∷ l.texts) =
+    ap (λ o. option_and_then (λ (s : Subcommand). option_map (λ texts. l.name ∷ texts) (option_and_then (all_said s.files) (values_of s.files rows))) o) l.named
+    ∙ ap (λ o. option_map (λ texts. l.name ∷ texts) (option_and_then (all_said l.command.files) o)) values
+    ∙ ap (option_map (λ texts. l.name ∷ texts)) l.said in
+    ap (λ n. line_found n rows) (sym called ∙ word) ∙ found ∙ sym (line_says words l)
 
 -- ---- each command has a line, and each line a command
 
@@ -72,6 +77,12 @@ subcommand_of_line : (c : Command) (name : Text) (files : List Text) → plain_l
 subcommand_of_line (Mean source trace) name files e =
     let named : name ≡ codes "mean" = ap (λ l. unwrap_or (slice_get l 0) []) (sym e) in
     (record { name = codes "mean"; files = codes "SRC" ∷ codes "TRACE" ∷ [] }, ap subcommand_named named, let all = ap length (sym e) in omega arith)
+subcommand_of_line (Try source trace image) name files e =
+    let named : name ≡ codes "try" = ap (λ l. unwrap_or (slice_get l 0) []) (sym e) in
+    (record { name = codes "try"; files = codes "SRC" ∷ codes "TRACE" ∷ codes "IMAGE" ∷ [] }, ap subcommand_named named, let all = ap length (sym e) in omega arith)
+subcommand_of_line (Build source image) name files e =
+    let named : name ≡ codes "build" = ap (λ l. unwrap_or (slice_get l 0) []) (sym e) in
+    (record { name = codes "build"; files = codes "SRC" ∷ codes "IMAGE" ∷ [] }, ap subcommand_named named, let all = ap length (sym e) in omega arith)
 subcommand_of_line (Run image trace) name files e =
     let named : name ≡ codes "run" = ap (λ l. unwrap_or (slice_get l 0) []) (sym e) in
     (record { name = codes "run"; files = codes "IMAGE" ∷ codes "TRACE" ∷ [] }, ap subcommand_named named, let all = ap length (sym e) in omega arith)
@@ -81,20 +92,51 @@ subcommand_of_line (Asm assembly image) name files e =
 subcommand_of_line (Dis image) name files e =
     let named : name ≡ codes "dis" = ap (λ l. unwrap_or (slice_get l 0) []) (sym e) in
     (record { name = codes "dis"; files = codes "IMAGE" ∷ [] }, ap subcommand_named named, let all = ap length (sym e) in omega arith)
+subcommand_of_line (Gen number image) name files e =
+    let named : name ≡ codes "gen" = ap (λ l. unwrap_or (slice_get l 0) []) (sym e) in
+    (record { name = codes "gen"; files = codes "N" ∷ codes "IMAGE" ∷ [] }, ap subcommand_named named, let all = ap length (sym e) in omega arith)
+
+-- the first step, where the second gives something
+some_before : (f : List Text → Option (List Text)) (o : Option (List Text)) (all : List Text) → option_and_then f o ≡ Some all → (files : List Text) × (o ≡ Some files) × (f files ≡ Some all)
+some_before f None all e = cc
+some_before f (Some files) all e = (files, refl, e)
 
 pub command_is_line : (words : List Text) → AreTexts words → NamesCommand words → IsLine words
 command_is_line [] texts n = cc
 command_is_line (name ∷ rest) texts n =
-    let m = some_more name (files_of rest) (plain_line n.0) n.1 in
+    let m = some_more name (option_and_then (said_behind name) (files_of rest)) (plain_line n.0) n.1 in
     let s = subcommand_of_line n.0 name m.0 m.2 in
-    line_there name rest m.0 s.0 texts s.1 m.1 s.2
+    let b = some_before (said_behind name) (files_of rest) m.0 m.1 in
+    let all : all_said s.0.files b.0 ≡ Some m.0 = ap (λ o. all_said (option_map_or (λ (x : Subcommand). x.files) o []) b.0) (sym s.1) ∙ b.2 in
+    line_there name rest b.0 m.0 s.0 texts s.1 b.1 (sym (said_length s.0.files b.0 m.0 all) ∙ s.2) all
 
 abbrev lent : Text → Bor Text
 lent text = record { ref_ptr = (0, 0); now = text }
 
--- each list of files, as many as the subcommand has, is that of a command's line
+-- what files say, as many as the subcommand has, is that of a command's line
 abbrev HasLines : Subcommand → Type 0
-HasLines s = (files : List Text) → length files ≡ length s.files → (c : Command) × (plain_line c ≡ s.name ∷ files)
+HasLines s = (files texts : List Text) → length files ≡ length s.files → all_said s.files files ≡ Some texts → (c : Command) × (plain_line c ≡ s.name ∷ texts)
+
+abbrev the_texts : Option (List Text) → List Text
+the_texts o = unwrap_or o []
+
+-- the same where no name is that of a number
+of_files : (s : Subcommand) → list_any is_number_name s.files ≡ false → ((files : List Text) → length files ≡ length s.files → (c : Command) × (plain_line c ≡ s.name ∷ files)) → HasLines s
+of_files s none has files texts count all =
+    let same : files ≡ texts = ap the_texts (sym (files_said s.files files none) ∙ all) in
+    let c = has files count in
+    (c.0, c.1 ∙ ap (λ fs. s.name ∷ fs) same)
+
+-- a number, and then a file
+number_and_file : HasLines (record { name = codes "gen"; files = codes "N" ∷ codes "IMAGE" ∷ [] })
+number_and_file [] texts count all = absurd (omega arith)
+number_and_file (n ∷ []) texts count all = absurd (omega arith)
+number_and_file (n ∷ image ∷ []) texts count all = go (is_signed_in (pos 0) (pos 4294967295) n) all
+  where
+    go : (b : Bool) → option_and_then (λ t. Some (t ∷ image ∷ [])) (cond b (Some (decimal (number_in n))) None) ≡ Some texts → (c : Command) × (plain_line c ≡ codes "gen" ∷ texts)
+    go true e = (Gen (number_in n) (lent image), ap (λ ts. codes "gen" ∷ ts) (ap the_texts e))
+    go false e = cc
+number_and_file (n ∷ image ∷ other ∷ more) texts count all = absurd (omega arith)
 
 -- the same of each of these
 AllHaveLines : List Subcommand → Type 0
@@ -117,11 +159,37 @@ two called make line (a ∷ []) count = absurd (omega arith)
 two called make line (a ∷ b ∷ []) count = (make (lent a) (lent b), line a b)
 two called make line (a ∷ b ∷ other ∷ more) count = absurd (omega arith)
 
+-- the same of three files
+three : (called : Text) (make : Bor Text → Bor Text → Bor Text → Command)
+    → ((a b d : Text) → plain_line (make (lent a) (lent b) (lent d)) ≡ called ∷ a ∷ b ∷ d ∷ [])
+    → (files : List Text) → length files ≡ 3 → (c : Command) × (plain_line c ≡ called ∷ files)
+three called make line [] count = absurd (omega arith)
+three called make line (a ∷ []) count = absurd (omega arith)
+three called make line (a ∷ b ∷ []) count = absurd (omega arith)
+three called make line (a ∷ b ∷ d ∷ []) count = (make (lent a) (lent b) (lent d), line a b d)
+three called make line (a ∷ b ∷ d ∷ other ∷ more) count = absurd (omega arith)
+
+-- a command of files alone
+abbrev of_names : Text → List Text → Subcommand
+of_names called files = record { name = called; files = files }
+
 all_have_lines : AllHaveLines subcommands
 unfolding AllHaveLines
 all_have_lines = (
-  two (codes "mean") Mean (λ a b. refl),
-  (two (codes "run") Run (λ a b. refl), (two (codes "asm") Asm (λ a b. refl), (one (codes "dis") Dis (λ a. refl), tt))),
+  of_files (of_names (codes "mean") (codes "SRC" ∷ codes "TRACE" ∷ [])) refl (two (codes "mean") Mean (λ a b. refl)),
+  (
+    of_files (of_names (codes "try") (codes "SRC" ∷ codes "TRACE" ∷ codes "IMAGE" ∷ [])) refl (three (codes "try") Try (λ a b d. refl)),
+    (
+      of_files (of_names (codes "build") (codes "SRC" ∷ codes "IMAGE" ∷ [])) refl (two (codes "build") Build (λ a b. refl)),
+      (
+        of_files (of_names (codes "run") (codes "IMAGE" ∷ codes "TRACE" ∷ [])) refl (two (codes "run") Run (λ a b. refl)),
+        (
+          of_files (of_names (codes "asm") (codes "ASM" ∷ codes "IMAGE" ∷ [])) refl (two (codes "asm") Asm (λ a b. refl)),
+          (of_files (of_names (codes "dis") (codes "IMAGE" ∷ [])) refl (one (codes "dis") Dis (λ a. refl)), (number_and_file, tt)),
+        ),
+      ),
+    ),
+  ),
 )
 
 have_lines : (xs : List Subcommand) (word : Text) (s : Subcommand) → AllHaveLines xs → named xs word ≡ Some s → HasLines s
@@ -133,16 +201,17 @@ have_lines (x ∷ xs) word s all e = go (bytes_eq x.name word) (have_lines xs wo
     go true rest e = subst HasLines (ap (λ o. unwrap_or o x) e) all.0
     go false rest e = rest e
 
-has_command : (name : Text) (files : List Text) (s : Subcommand) → subcommand_named name ≡ Some s → length files ≡ length s.files → (c : Command) × (plain_line c ≡ name ∷ files)
-has_command name files s is count =
-    let c = have_lines subcommands name s all_have_lines is files count in
-    (c.0, c.1 ∙ ap (λ n. n ∷ files) (has_name subcommands name s is))
+has_command : (name : Text) (files texts : List Text) (s : Subcommand) → subcommand_named name ≡ Some s → length files ≡ length s.files → all_said s.files files ≡ Some texts
+    → (c : Command) × (plain_line c ≡ name ∷ texts)
+has_command name files texts s is count all =
+    let c = have_lines subcommands name s all_have_lines is files texts count all in
+    (c.0, c.1 ∙ ap (λ n. n ∷ texts) (has_name subcommands name s is))
 
 pub line_is_command : (words : List Text) → AreTexts words → IsLine words → NamesCommand words
 line_is_command words texts line =
     let l = line_reads words texts line in
-    let c = has_command l.name l.files l.command l.named l.count in
-    (c.0, ap line_of l.is ∙ ap (option_map (λ files. l.name ∷ files)) l.from ∙ ap Some (sym c.1))
+    let c = has_command l.name l.files l.texts l.command l.named l.count l.said in
+    (c.0, line_says words l ∙ ap Some (sym c.1))
 
 -- ---- words without hyphens in front
 
@@ -160,21 +229,15 @@ files_plain (word ∷ words) e =
     let p = none_of (begins_with_hyphen word) (list_any begins_with_hyphen words) e in
     rw (not_end word p.0, p.0, files_plain words p.1) refl
 
--- such words are their own line
-pub line_plain : (words line : List Text) → list_any begins_with_hyphen words ≡ false → line_of words ≡ Some line → words ≡ line
-line_plain [] line e is = cc
-line_plain (word ∷ words) line e is =
+-- such words are files, all of them
+pub plain_is : (words : List Text) → list_any begins_with_hyphen words ≡ false → plain_line_of words ≡ line_of words
+plain_is [] e = refl
+plain_is (word ∷ words) e =
     let p = none_of (begins_with_hyphen word) (list_any begins_with_hyphen words) e in
-    ap (λ o. unwrap_or o []) (sym (ap (option_map (λ files. word ∷ files)) (files_plain words p.1)) ∙ is)
+    ap (λ o. option_map (λ texts. word ∷ texts) (option_and_then (said_behind word) o)) (sym (files_plain words p.1))
 
 pub plain_names : (words : List Text) → list_any begins_with_hyphen words ≡ false → IsPlainLine words → NamesCommand words
-plain_names [] e (Mean source trace, is) = cc
-plain_names [] e (Run image trace, is) = cc
-plain_names [] e (Asm assembly image, is) = cc
-plain_names [] e (Dis image, is) = cc
-plain_names (word ∷ words) e p =
-    let q = none_of (begins_with_hyphen word) (list_any begins_with_hyphen words) e in
-    (p.0, ap (option_map (λ files. word ∷ files)) (files_plain words q.1) ∙ ap Some p.1)
+plain_names words e p = (p.0, sym (plain_is words e) ∙ p.1)
 
 -- ---- the subcommand that a parse has met
 

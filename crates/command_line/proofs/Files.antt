@@ -18,7 +18,13 @@ use Rattle.clap.specs.declared.error.kind.ErrorKind.{ErrorKind}
 use Rattle.clap.specs.declared.error.kind.ErrorKind.TheVariants.{UnknownArgument, MissingRequiredArgument}
 use Rattle.std.proofs.Math.Bool.{or-false}
 use Rattle.clap.specs.declared.parser.matches.ValueSource.TheVariants.{CommandLine}
-use Rattle.command_line.specs.CommandLine.{AreTexts, Subcommand, file_rule, files_of, is_flag}
+use Rattle.std.specs.Prelude.{option_and_then, decimal, pos}
+use Rattle.clap.specs.ValueTests.{accepts, is_signed_in}
+use Rattle.clap.specs.Values.{refused_kind}
+use Rattle.clap.specs.declared.builder.value_parser.ValueParser.{ValueParser}
+use Rattle.clap.specs.declared.builder.value_parser.ValueParser.TheVariants as vp
+use Rattle.clap.specs.declared.error.kind.ErrorKind.TheVariants.{ArgumentConflict}
+use Rattle.command_line.specs.CommandLine.{AreTexts, Subcommand, all_said, file_rule, files_of, is_flag, is_number_name, number_in, number_parser, number_said, parser_named, said}
 
 -- ---- bits
 
@@ -147,6 +153,78 @@ IsInOrder rules keys k (id ∷ ids) = (arg_by_index rules k ≡ Some (place k id
     × (next_place k ≡ k + 1) × (has_key id keys ≡ false) × (lacks keys rules ≡ true)
     × IsInOrder rules (keys ++ id ∷ []) (k + 1) ids
 
+-- ---- what a word says in a file's place
+
+-- what reads the value of this name
+abbrev reader : Text → ValueParser
+reader id = unwrap_or (parser_named id) vp.String
+
+-- the word may stand in the place of this name
+abbrev accepted : Text → Text → Bool
+accepted id word = accepts false (reader id) word
+
+-- the word says something there, or is refused
+pub data Saying (id word : Text) : Type 0 where
+  says_text : (text : Text) → said id word ≡ Some text → accepted id word ≡ true → Saying id word
+  says_none : said id word ≡ None → accepted id word ≡ false → Saying id word
+
+pub saying : (id word : Text) → Saying id word
+saying id word = go (is_number_name id) (is_signed_in (pos 0) (pos 4294967295) word) refl refl
+  where
+    number : is_number_name id ≡ true → said id word ≡ number_said word
+    number e = ap (λ b. cond b (number_said word) (Some word)) e
+
+    reads : is_number_name id ≡ true → accepted id word ≡ is_signed_in (pos 0) (pos 4294967295) word
+    reads e = ap (λ b. accepts false (unwrap_or (cond b (Some number_parser) None) vp.String) word) e
+
+    go : (b c : Bool) → is_number_name id ≡ b → is_signed_in (pos 0) (pos 4294967295) word ≡ c → Saying id word
+    go false c e f = says_text word (ap (λ b. cond b (number_said word) (Some word)) e) (ap (λ b. accepts false (unwrap_or (cond b (Some number_parser) None) vp.String) word) e)
+    go true true e f = says_text (decimal (number_in word)) (number e ∙ ap (λ b. cond b (Some (decimal (number_in word))) None) f) (reads e ∙ f)
+    go true false e f = says_none (number e ∙ ap (λ b. cond b (Some (decimal (number_in word))) None) f) (reads e ∙ f)
+
+abbrev onto : Text → Option (List Text) → Option (List Text)
+onto text texts = option_map (λ ts. text ∷ ts) texts
+
+-- one word more that says something
+more_said : (id : Text) (ids : List Text) (word : Text) (words : List Text) (text : Text) (texts : List Text) → said id word ≡ Some text → all_said ids words ≡ Some texts
+    → all_said (id ∷ ids) (word ∷ words) ≡ Some (text ∷ texts)
+more_said id ids word words text texts e f = (λ i. option_and_then (λ t. onto t (f i)) (e i))
+
+-- where the first word says something, so do the others
+record SaysMore (id : Text) (ids : List Text) (word : Text) (words all : List Text) : Type 0 where
+  pub text : Text
+  pub texts : List Text
+  pub first : said id word ≡ Some text
+  pub rest : all_said ids words ≡ Some texts
+  pub is : all ≡ text ∷ texts
+
+says_more : (id : Text) (ids : List Text) (word : Text) (words all : List Text) → all_said (id ∷ ids) (word ∷ words) ≡ Some all → SaysMore id ids word words all
+says_more id ids word words all e = go (said id word) (all_said ids words) refl refl e
+  where
+    go : (a : Option Text) (b : Option (List Text)) → said id word ≡ a → all_said ids words ≡ b → option_and_then (λ t. onto t b) a ≡ Some all → SaysMore id ids word words all
+    go None b p q e = cc
+    go (Some text) None p q e = cc
+    go (Some text) (Some texts) p q e = record { text = text; texts = texts; first = p; rest = q; is = ap (λ o. unwrap_or o []) (sym e) }
+
+-- words say as many texts as they are
+pub said_length : (ids words texts : List Text) → all_said ids words ≡ Some texts → length texts ≡ length words
+said_length [] words texts e = ap (λ o. length (unwrap_or o [])) (sym e)
+said_length (id ∷ ids) [] texts e = ap (λ o. length (unwrap_or o [])) (sym e)
+said_length (id ∷ ids) (word ∷ words) texts e =
+    let m = says_more id ids word words texts e in
+    ap length m.is ∙ ap suc (said_length ids words m.texts m.rest)
+
+-- where no name is that of a number, words say themselves
+pub files_said : (ids words : List Text) → list_any is_number_name ids ≡ false → all_said ids words ≡ Some words
+files_said [] words e = refl
+files_said (id ∷ ids) [] e = refl
+files_said (id ∷ ids) (word ∷ words) e = go (is_number_name id) refl (files_said ids words) e
+  where
+    go : (b : Bool) → is_number_name id ≡ b → (list_any is_number_name ids ≡ false → all_said ids words ≡ Some words) → (b || list_any is_number_name ids) ≡ false
+        → all_said (id ∷ ids) (word ∷ words) ≡ Some (word ∷ words)
+    go true is rest none = cc
+    go false is rest none = more_said id ids word words word words (ap (λ b. cond b (number_said word) (Some word)) is) (rest none)
+
 -- ---- what a word is
 
 -- a word that goes to a file, before any `--`
@@ -211,11 +289,20 @@ at_row_missing id change missing (r ∷ rows) e = go (bytes_eq r.id id) refl (at
 abbrev with_file : List Row → Text → Text → Held
 with_file rows id word = record { rows = rows; pending = Some (id, word ∷ []); skip = 0 }
 
+-- what is at fault with one value
+abbrev value_fault : Bool → Text → Bool → Kinds
+value_fault given id fits = or_else (cond (given && true) (ArgumentConflict ∷ []) []) (or_else (cond fits [] (refused_kind (reader id) ∷ [])) [])
+
+settle_is : (c : List Rule) (k : ℕ) (id word : Text) (rows : List Row) (fits : Bool) → arg_by_id c id ≡ Some (place k id) → has_row id rows ≡ false → accepted id word ≡ fits
+    → settle_fault c false (with_file rows id word) ≡ value_fault false id fits
+settle_is c k id word rows fits is fresh fit =
+    ap (λ o. option_map_or (λ (a : Rule). use_fault false a (word ∷ []) rows) o []) is ∙ (λ i. value_fault (fresh i) id (fit i))
+
 -- a file that is given
-new_rests : (c : List Rule) (k : ℕ) (id word : Text) (rows : List Row) → arg_by_id c id ≡ Some (place k id) → has_row id rows ≡ false
+new_rests : (c : List Rule) (k : ℕ) (id word : Text) (rows : List Row) → arg_by_id c id ≡ Some (place k id) → has_row id rows ≡ false → accepted id word ≡ true
     → Rests c (rows ++ file_row id word ∷ []) (with_file rows id word)
-new_rests c k id word rows is fresh = record {
-  settle = ap (λ o. option_map_or (λ (a : Rule). use_fault false a (word ∷ []) rows) o []) is ∙ rw fresh refl;
+new_rests c k id word rows is fresh fit = record {
+  settle = settle_is c k id word rows true is fresh fit;
   rows = ap (λ o. used_by_id o (word ∷ []) rows) is
       ∙ ap (at_row id (more_values CommandLine (word ∷ [])) (file_row id word ∷ [])) (at_row_missing id (λ _. []) [] rows fresh ∙ append-nil rows)
       ∙ at_row_missing id (more_values CommandLine (word ∷ [])) (file_row id word ∷ []) rows fresh;
@@ -315,10 +402,10 @@ module _ (name : Text) (all : List Text) where
   unfolding walk_fault
   next_fault w after word words none is = (λ i. or_else (or_else (none i) (walk_fault shape [] (is i) words)) (end_fault (fold (walked rules []) (is i) words).held))
 
-  stuck_fault : (w : Walk) (word : Text) (words : List Text) (k : ErrorKind) → turn_fault shape [] w word ≡ k ∷ [] → rest_fault w (word ∷ words) ≡ [] → ⊥
+  stuck_fault : (w : Walk) (word : Text) (words : List Text) (k : ErrorKind) (ks : Kinds) → turn_fault shape [] w word ≡ k ∷ ks → rest_fault w (word ∷ words) ≡ [] → ⊥
   unfolding walk_fault
-  stuck_fault w word words k is e =
-      no_kind k [] ((λ i. or_else (or_else (sym is i) (walk_fault shape [] (walked rules [] w word) words)) (end_fault (fold (walked rules []) (walked rules [] w word) words).held)) ∙ e)
+  stuck_fault w word words k ks is e =
+      no_kind k ks ((λ i. or_else (or_else (sym is i) (walk_fault shape [] (walked rules [] w word) words)) (end_fault (fold (walked rules []) (walked rules [] w word) words).held)) ∙ e)
 
   last_fault : (keys : List Text) (given : List Row) (h : Held) → IsGiven keys given → Rests rules given h
       → end_fault h ≡ cond (lacks keys rules) (MissingRequiredArgument ∷ []) []
@@ -338,15 +425,17 @@ module _ (name : Text) (all : List Text) where
   -- the words are the files of `ids`, and none is left over
   pub record IsRead (t : Bool) (k : ℕ) (ids : List Text) (given : List Row) (h : Held) (words : List Text) : Type 0 where
     pub files : List Text
+    pub texts : List Text
     pub from : files_in t words ≡ Some files
     pub count : length files ≡ length ids
+    pub said : all_said ids files ≡ Some texts
     pub fault : rest_fault (walk_at h k t) words ≡ []
     pub rows : end_rows (walk_at h k t) words ≡ given ++ rows_for ids files
 
   -- they are not
   pub record IsRefused (t : Bool) (k : ℕ) (ids : List Text) (h : Held) (words : List Text) : Type 0 where
     pub fault : rest_fault (walk_at h k t) words ≡ [] → ⊥
-    pub none : (files : List Text) → files_in t words ≡ Some files → length files ≡ length ids → ⊥
+    pub none : (files texts : List Text) → files_in t words ≡ Some files → length files ≡ length ids → all_said ids files ≡ Some texts → ⊥
 
   abbrev pub IsJudged : Bool → ℕ → List Text → List Row → Held → List Text → Type 0
   IsJudged t k ids given h words = IsRead t k ids given h words ⊎ IsRefused t k ids h words
@@ -362,31 +451,93 @@ module _ (name : Text) (all : List Text) where
       some_inj : {a b : List Text} → Some a ≡ Some b → a ≡ b
       some_inj e = ap (λ o. unwrap_or o []) e
 
+  -- what is held is at fault: so is all that begins so
+  ended : (h : Held) (k : ℕ) (t : Bool) → rest_fault (walk_at h k t) [] ≡ end_fault h
+  unfolding walk_fault
+  ended h k t = refl
+
+  bad_turn : (t : Bool) (k : ℕ) (ids keys : List Text) (h : Held) (word : Text) (words : List Text) (kind : ErrorKind) (kinds : Kinds) → Goes t h k word → IsInOrder rules keys k ids
+      → settle_fault rules false h ≡ kind ∷ kinds → rest_fault (walk_at h k t) (word ∷ words) ≡ [] → ⊥
+  bad_turn t k [] keys h word words kind kinds goes order bad = stuck_fault (walk_at h k t) word words UnknownArgument [] (stray_turn t h k word goes order.0)
+  bad_turn t k (id ∷ ids) keys h word words kind kinds goes order bad = stuck_fault (walk_at h k t) word words kind kinds
+      (turn_is t h k word goes ∙ ap (λ o. option_map_or (λ (a : Rule). positional_fault rules false a h) o (stray_fault shape)) order.0
+      ∙ ap (λ b. cond b [] (settle_fault rules false h)) (and_false (is_pending (place k id) h.pending)) ∙ bad)
+
+  bad_word : (k : ℕ) (ids keys : List Text) (h : Held) (word : Text) (words : List Text) (kind : ErrorKind) (kinds : Kinds) → IsInOrder rules keys k ids
+      → settle_fault rules false h ≡ kind ∷ kinds → h.skip ≡ 0 → IsUtf8 word → Kind word → (rest_fault (walk_at h k true) words ≡ [] → ⊥)
+      → rest_fault (walk_at h k false) (word ∷ words) ≡ [] → ⊥
+  bad_word k ids keys h word words kind kinds order bad skip utf8 (ends e) behind none =
+      behind (sym (next_fault (walk_at h k false) _ word words (end_turn h k word e) (end_walked h k word e)) ∙ none)
+  bad_word k ids keys h word words kind kinds order bad skip utf8 (long p is not_end flag) behind none =
+      stuck_fault (walk_at h k false) word words UnknownArgument [] (long_turn h k word p is not_end) none
+  bad_word k ids keys h word words kind kinds order bad skip utf8 (short x rest is not_long is_short not_end flag) behind none =
+      stuck_fault (walk_at h k false) word words UnknownArgument [] (short_turn h k word x rest is not_long is_short not_end utf8 skip) none
+  bad_word k ids keys h word words kind kinds order bad skip utf8 (plain p flag) behind none =
+      bad_turn false k ids keys h word words kind kinds (plain_goes h k word p) order bad none
+
+  held_fault : (words : List Text) (t : Bool) (k : ℕ) (ids keys : List Text) (h : Held) (kind : ErrorKind) (kinds : Kinds) → IsInOrder rules keys k ids
+      → settle_fault rules false h ≡ kind ∷ kinds → h.skip ≡ 0 → AreTexts words → rest_fault (walk_at h k t) words ≡ [] → ⊥
+  held_fault [] t k ids keys h kind kinds order bad skip utf8 none =
+      no_kind kind kinds (ap (λ f. or_else f (or_else (defaults_fault (settled rules h).rows rules) (check_fault shape (finished rules h) false))) (sym bad) ∙ sym (ended h k t) ∙ none)
+  held_fault (word ∷ words) true k ids keys h kind kinds order bad skip utf8 none =
+      bad_turn true k ids keys h word words kind kinds (trailing_goes h k word) order bad none
+  held_fault (word ∷ words) false k ids keys h kind kinds order bad skip utf8 none =
+      bad_word k ids keys h word words kind kinds order bad skip utf8.0 (kind_of_word word) (held_fault words true k ids keys h kind kinds order bad skip utf8.1) none
+
   -- one more file, before words that are judged
-  one_more : (t : Bool) (k : ℕ) (id : Text) (ids : List Text) (given : List Row) (h : Held) (word : Text) (words : List Text) → TakesFile t word
+  one_more : (t : Bool) (k : ℕ) (id : Text) (ids : List Text) (given : List Row) (h : Held) (word : Text) (words : List Text) (text : Text) → TakesFile t word → said id word ≡ Some text
       → turn_fault shape [] (walk_at h k t) word ≡ [] → walked rules [] (walk_at h k t) word ≡ walk_at (with_file given id word) (k + 1) t
       → IsJudged t (k + 1) ids (given ++ file_row id word ∷ []) (with_file given id word) words
       → IsJudged t k (id ∷ ids) given h (word ∷ words)
-  one_more t k id ids given h word words takes none is (inl r) = inl (record {
+  one_more t k id ids given h word words text takes says none is (inl r) = inl (record {
     files = word ∷ r.files;
+    texts = text ∷ r.texts;
     from = takes words ∙ ap (option_map (λ files. word ∷ files)) r.from;
     count = ap suc r.count;
+    said = more_said id ids word r.files text r.texts says r.said;
     fault = next_fault (walk_at h k t) _ word words none is ∙ r.fault;
     rows = ap (λ w. finished rules (fold (walked rules []) w words).held) is ∙ r.rows ∙ append_assoc given (file_row id word ∷ []) (rows_for ids r.files);
   })
-  one_more t k id ids given h word words takes none is (inr r) = inr (record {
+  one_more t k id ids given h word words text takes says none is (inr r) = inr (record {
     fault = λ e. r.fault (sym (next_fault (walk_at h k t) _ word words none is) ∙ e);
-    none = λ files from count.
+    none = λ files texts from count all.
         let m = some_more word (files_in t words) files (sym (takes words) ∙ from) in
-        r.none m.0 m.1 (let longer : length files ≡ suc (length m.0) = ap length m.2 in omega arith);
+        let more = says_more id ids word m.0 texts (ap (all_said (id ∷ ids)) (sym m.2) ∙ all) in
+        r.none m.0 more.texts m.1 (let longer : length files ≡ suc (length m.0) = ap length m.2 in omega arith) more.rest;
   })
+
+  -- one more that says nothing in its place
+  refused_here : (t : Bool) (k : ℕ) (id : Text) (ids keys : List Text) (given : List Row) (h : Held) (word : Text) (words : List Text) → TakesFile t word → said id word ≡ None
+      → turn_fault shape [] (walk_at h k t) word ≡ [] → walked rules [] (walk_at h k t) word ≡ walk_at (with_file given id word) (k + 1) t
+      → IsInOrder rules (keys ++ id ∷ []) (k + 1) ids → settle_fault rules false (with_file given id word) ≡ refused_kind (reader id) ∷ [] → AreTexts words
+      → IsRefused t k (id ∷ ids) h (word ∷ words)
+  refused_here t k id ids keys given h word words takes silent none is order bad utf8 = record {
+    fault = λ e. held_fault words t (k + 1) ids (keys ++ id ∷ []) (with_file given id word) (refused_kind (reader id)) [] order bad refl utf8
+        (sym (next_fault (walk_at h k t) _ word words none is) ∙ e);
+    none = λ files texts from count all.
+        let m = some_more word (files_in t words) files (sym (takes words) ∙ from) in
+        let more = says_more id ids word m.0 texts (ap (all_said (id ∷ ids)) (sym m.2) ∙ all) in
+        let both : None ≡ Some more.text = sym silent ∙ more.first in cc;
+  }
+
+  -- one more, whatever it says
+  placed : (t : Bool) (k : ℕ) (id : Text) (ids keys : List Text) (given : List Row) (h : Held) (word : Text) (words : List Text) → TakesFile t word
+      → turn_fault shape [] (walk_at h k t) word ≡ [] → walked rules [] (walk_at h k t) word ≡ walk_at (with_file given id word) (k + 1) t
+      → IsInOrder rules keys k (id ∷ ids) → IsGiven keys given → AreTexts words
+      → (Rests rules (given ++ file_row id word ∷ []) (with_file given id word) → IsJudged t (k + 1) ids (given ++ file_row id word ∷ []) (with_file given id word) words)
+      → Saying id word → IsJudged t k (id ∷ ids) given h (word ∷ words)
+  placed t k id ids keys given h word words takes none is order g utf8 more (says_text text first fit) =
+      one_more t k id ids given h word words text takes first none is (more (new_rests rules k id word given order.1 (given_row keys given id g ∙ order.3) fit))
+  placed t k id ids keys given h word words takes none is order g utf8 more (says_none first fit) =
+      inr (refused_here t k id ids keys given h word words takes first none is order.5
+      (settle_is rules k id word given false order.1 (given_row keys given id g ∙ order.3) fit) utf8)
 
   -- a word too many
   too_many : (t : Bool) (k : ℕ) (h : Held) (word : Text) (words : List Text) → TakesFile t word
       → turn_fault shape [] (walk_at h k t) word ≡ UnknownArgument ∷ [] → IsRefused t k [] h (word ∷ words)
   too_many t k h word words takes is = record {
-    fault = stuck_fault (walk_at h k t) word words UnknownArgument is;
-    none = λ files from count.
+    fault = stuck_fault (walk_at h k t) word words UnknownArgument [] is;
+    none = λ files texts from count all.
         let m = some_more word (files_in t words) files (sym (takes words) ∙ from) in
         let longer : length files ≡ suc (length m.0) = ap length m.2 in absurd (omega arith);
   }
@@ -399,22 +550,24 @@ module _ (name : Text) (all : List Text) where
       → IsJudged true k ids given h words → IsJudged false k ids given h (word ∷ words)
   after_end k ids given h word words e (inl r) = inl (record {
     files = r.files;
+    texts = r.texts;
     from = end_files word words e ∙ r.from;
     count = r.count;
+    said = r.said;
     fault = next_fault (walk_at h k false) _ word words (end_turn h k word e) (end_walked h k word e) ∙ r.fault;
     rows = ap (λ w. finished rules (fold (walked rules []) w words).held) (end_walked h k word e) ∙ r.rows;
   })
   after_end k ids given h word words e (inr r) = inr (record {
     fault = λ none. r.fault (sym (next_fault (walk_at h k false) _ word words (end_turn h k word e) (end_walked h k word e)) ∙ none);
-    none = λ files from count. r.none files (sym (end_files word words e) ∙ from) count;
+    none = λ files texts from count all. r.none files texts (sym (end_files word words e) ∙ from) count all;
   })
 
   -- a flag
   not_a_file : (k : ℕ) (ids : List Text) (h : Held) (word : Text) (words : List Text) → bytes_eq word (codes "--") ≡ false → is_flag word ≡ true
       → turn_fault shape [] (walk_at h k false) word ≡ UnknownArgument ∷ [] → IsRefused false k ids h (word ∷ words)
   not_a_file k ids h word words not_end flag is = record {
-    fault = stuck_fault (walk_at h k false) word words UnknownArgument is;
-    none = λ files from count.
+    fault = stuck_fault (walk_at h k false) word words UnknownArgument [] is;
+    none = λ files texts from count all.
         let refused : files_of (word ∷ words) ≡ None = rw (not_end, flag) refl in cc;
   }
 
@@ -428,16 +581,14 @@ module _ (name : Text) (all : List Text) where
   nothing_in true = refl
   nothing_in false = refl
 
-  ended : (h : Held) (k : ℕ) (t : Bool) → rest_fault (walk_at h k t) [] ≡ end_fault h
-  unfolding walk_fault
-  ended h k t = refl
-
   nothing_left : (t : Bool) (k : ℕ) (keys : List Text) (given : List Row) (h : Held) → IsInOrder rules keys k [] → IsGiven keys given → Rests rules given h
       → IsRead t k [] given h []
   nothing_left t k keys given h order g rests = record {
     files = [];
+    texts = [];
     from = nothing_in t;
     count = refl;
+    said = refl;
     fault = ended h k t ∙ last_fault keys given h g rests ∙ ap (λ b. cond b (MissingRequiredArgument ∷ []) []) order.1;
     rows = last_rows given h rests ∙ sym (append-nil given);
   }
@@ -446,7 +597,7 @@ module _ (name : Text) (all : List Text) where
       → IsRefused t k (id ∷ ids) h []
   too_few t k keys id ids given h order g rests = record {
     fault = λ e. no_kind MissingRequiredArgument [] (sym (ended h k t ∙ last_fault keys given h g rests ∙ ap (λ b. cond b (MissingRequiredArgument ∷ []) []) order.4) ∙ e);
-    none = λ files from count.
+    none = λ files texts from count all.
         let empty : [] ≡ files = ap (λ o. unwrap_or o []) (sym (nothing_in t) ∙ from) in
         let zero : 0 ≡ length files = ap length empty in absurd (omega arith);
   }
@@ -460,18 +611,23 @@ module _ (name : Text) (all : List Text) where
   none_left k keys given h word words order rests utf8 (plain p flag) behind =
       inr (too_many false k h word words (takes_plain word p.not_end flag) (stray_turn false h k word (plain_goes h k word p) order.0))
 
+  -- the same words with one file less to find
+  abbrev Further : Bool → ℕ → Text → List Text → List Row → Text → List Text → Type 0
+  Further t k id ids given word words =
+      Rests rules (given ++ file_row id word ∷ []) (with_file given id word) → IsJudged t (k + 1) ids (given ++ file_row id word ∷ []) (with_file given id word) words
+
   some_left : (k : ℕ) (keys : List Text) (id : Text) (ids : List Text) (given : List Row) (h : Held) (word : Text) (words : List Text)
-      → IsInOrder rules keys k (id ∷ ids) → Rests rules given h → IsUtf8 word → Kind word → IsJudged true k (id ∷ ids) given h words
-      → IsJudged false (k + 1) ids (given ++ file_row id word ∷ []) (with_file given id word) words → IsJudged false k (id ∷ ids) given h (word ∷ words)
-  some_left k keys id ids given h word words order rests utf8 (ends e) behind more = after_end k (id ∷ ids) given h word words e behind
-  some_left k keys id ids given h word words order rests utf8 (long p is not_end flag) behind more =
+      → IsInOrder rules keys k (id ∷ ids) → IsGiven keys given → Rests rules given h → IsUtf8 word → AreTexts words → Kind word → IsJudged true k (id ∷ ids) given h words
+      → Further false k id ids given word words → IsJudged false k (id ∷ ids) given h (word ∷ words)
+  some_left k keys id ids given h word words order g rests utf8 texts (ends e) behind more = after_end k (id ∷ ids) given h word words e behind
+  some_left k keys id ids given h word words order g rests utf8 texts (long p is not_end flag) behind more =
       inr (not_a_file k (id ∷ ids) h word words not_end flag (long_turn h k word p is not_end))
-  some_left k keys id ids given h word words order rests utf8 (short x rest is not_long is_short not_end flag) behind more =
+  some_left k keys id ids given h word words order g rests utf8 texts (short x rest is not_long is_short not_end flag) behind more =
       inr (not_a_file k (id ∷ ids) h word words not_end flag (short_turn h k word x rest is not_long is_short not_end utf8 rests.skip))
-  some_left k keys id ids given h word words order rests utf8 (plain p flag) behind more =
-      one_more false k id ids given h word words (takes_plain word p.not_end flag)
+  some_left k keys id ids given h word words order g rests utf8 texts (plain p flag) behind more =
+      placed false k id ids keys given h word words (takes_plain word p.not_end flag)
       (file_turn false h k id word given (plain_goes h k word p) order.0 rests)
-      (file_walked false h k id word given (plain_goes h k word p) order.0 order.2 rests) more
+      (file_walked false h k id word given (plain_goes h k word p) order.0 order.2 rests) order g texts more (saying id word)
 
   judge : (words : List Text) (t : Bool) (k : ℕ) (ids keys : List Text) (given : List Row) (h : Held) → IsInOrder rules keys k ids → IsGiven keys given → Rests rules given h → AreTexts words
       → IsJudged t k ids given h words
@@ -480,19 +636,18 @@ module _ (name : Text) (all : List Text) where
   judge (word ∷ words) true k [] keys given h order g rests utf8 =
       inr (too_many true k h word words (takes_all word) (stray_turn true h k word (trailing_goes h k word) order.0))
   judge (word ∷ words) true k (id ∷ ids) keys given h order g rests utf8 =
-      one_more true k id ids given h word words (takes_all word)
+      placed true k id ids keys given h word words (takes_all word)
       (file_turn true h k id word given (trailing_goes h k word) order.0 rests)
-      (file_walked true h k id word given (trailing_goes h k word) order.0 order.2 rests)
-      (judge words true (k + 1) ids (keys ++ id ∷ []) (given ++ file_row id word ∷ []) (with_file given id word) order.5
-      (more_given keys given id word g)
-      (new_rests rules k id word given order.1 (given_row keys given id g ∙ order.3)) utf8.1)
+      (file_walked true h k id word given (trailing_goes h k word) order.0 order.2 rests) order g utf8.1
+      (λ more. judge words true (k + 1) ids (keys ++ id ∷ []) (given ++ file_row id word ∷ []) (with_file given id word) order.5
+      (more_given keys given id word g) more utf8.1)
+      (saying id word)
   judge (word ∷ words) false k [] keys given h order g rests utf8 =
       none_left k keys given h word words order rests utf8.0 (kind_of_word word) (judge words true k [] keys given h order g rests utf8.1)
   judge (word ∷ words) false k (id ∷ ids) keys given h order g rests utf8 =
-      some_left k keys id ids given h word words order rests utf8.0 (kind_of_word word) (judge words true k (id ∷ ids) keys given h order g rests utf8.1)
-      (judge words false (k + 1) ids (keys ++ id ∷ []) (given ++ file_row id word ∷ []) (with_file given id word) order.5
-      (more_given keys given id word g)
-      (new_rests rules k id word given order.1 (given_row keys given id g ∙ order.3)) utf8.1)
+      some_left k keys id ids given h word words order g rests utf8.0 utf8.1 (kind_of_word word) (judge words true k (id ∷ ids) keys given h order g rests utf8.1)
+      (λ more. judge words false (k + 1) ids (keys ++ id ∷ []) (given ++ file_row id word ∷ []) (with_file given id word) order.5
+      (more_given keys given id word g) more utf8.1)
 
   -- the words of a command that is given them all
   pub command_judged : (words : List Text) → IsInOrder rules [] 1 all → AreTexts words → IsJudged false 1 all [] nothing_held words

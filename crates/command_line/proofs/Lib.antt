@@ -1,3 +1,4 @@
 pub mod Files
+pub mod Numbers
 pub mod Lines
 pub mod Commands

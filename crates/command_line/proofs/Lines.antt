@@ -1,7 +1,7 @@
 -- Which words are a line of the program, by `clap`'s rules.
 use Rattle.std.proofs.Common.{◌≡◌, ◌∙◌, ◌++◌, ◌∷◌, inl, inr, ◌||◌, Bool, cond, codes, true, false, refl, sym, ap, subst, List, [], map, length, Option, Some, None, is_some, option_map, append_assoc, append-nil}
 use Rattle.std.proofs.lemmas.Slice.Eq.{bytes_eq-Decides}
-use Rattle.std.specs.Prelude.{find, fold, unwrap_or}
+use Rattle.std.specs.Prelude.{find, fold, unwrap_or, option_and_then}
 use Rattle.std.specs.Option.{option_map_or}
 use Rattle.std.specs.Str.{IsUtf8, bytes_eq}
 use Rattle.clap.specs.Walk.{Names, Text, Walk, after_step, idle, answers_to, finished, nothing_held, rows_after, settled, subcommand_met, subcommand_or_other, walk, walk_from, walked}
@@ -10,7 +10,7 @@ use Rattle.clap.specs.Kinds.{Kinds, or_else}
 use Rattle.clap.specs.Faults.{bundle_fault, built_fault, check_fault, defaults_fault, entered_fault, fault_of, flag_word_fault, flags_fault, level_fault, other_fault, settle_fault, step_fault, turn_fault, walk_fault}
 use Rattle.clap.specs.declared.error.kind.ErrorKind.{ErrorKind}
 use Rattle.clap.specs.declared.error.kind.ErrorKind.TheVariants.{UnknownArgument, MissingSubcommand, InvalidSubcommand}
-use Rattle.command_line.specs.CommandLine.{AreTexts, IsLine, Subcommand, alpaca_app, files_of, subcommand_named, subcommands}
+use Rattle.command_line.specs.CommandLine.{AreTexts, IsLine, Subcommand, all_said, alpaca_app, files_of, line_of, said_behind, subcommand_named, subcommands}
 use Rattle.command_line.proofs.Files.{IsInOrder, IsJudged, Kind, and_false, built_subcommand, command_judged, ends, kind_of_word, long, no_kind, plain, rows_for, short, some_char, walk_at}
 
 first_none : (a b : Kinds) → or_else a b ≡ [] → a ≡ []
@@ -88,13 +88,7 @@ AreInOrder (s ∷ rest) = IsInOrder (built_subcommand s).rules [] 1 s.files × A
 -- each command's files have names of their own
 pub all_in_order : AreInOrder subcommands
 unfolding AreInOrder
-all_in_order = (
-  (refl, refl, refl, refl, refl, (refl, refl, refl, refl, refl, (refl, refl))),
-  (
-    (refl, refl, refl, refl, refl, (refl, refl, refl, refl, refl, (refl, refl))),
-    ((refl, refl, refl, refl, refl, (refl, refl, refl, refl, refl, (refl, refl))), ((refl, refl, refl, refl, refl, (refl, refl)), tt)),
-  ),
-)
+all_in_order = ((refl, refl, refl, refl, refl, (refl, refl, refl, refl, refl, (refl, refl))), ((refl, refl, refl, refl, refl, (refl, refl, refl, refl, refl, (refl, refl, refl, refl, refl, (refl, refl)))), ((refl, refl, refl, refl, refl, (refl, refl, refl, refl, refl, (refl, refl))), ((refl, refl, refl, refl, refl, (refl, refl, refl, refl, refl, (refl, refl))), ((refl, refl, refl, refl, refl, (refl, refl, refl, refl, refl, (refl, refl))), ((refl, refl, refl, refl, refl, (refl, refl)), ((refl, refl, refl, refl, refl, (refl, refl, refl, refl, refl, (refl, refl))), tt)))))))
 
 pub in_order : (xs : List Subcommand) (word : Text) (s : Subcommand) → AreInOrder xs → named xs word ≡ Some s → IsInOrder (built_subcommand s).rules [] 1 s.files
 unfolding AreInOrder
@@ -233,10 +227,12 @@ pub record Line (words : List Text) : Type 0 where
   pub rest : List Text
   pub command : Subcommand
   pub files : List Text
+  pub texts : List Text
   pub is : words ≡ name ∷ rest
   pub named : subcommand_named name ≡ Some command
   pub from : files_of rest ≡ Some files
   pub count : length files ≡ length command.files
+  pub said : all_said command.files files ≡ Some texts
   pub rows : subcommand_of alpaca_app words ≡ Some (command.name, rows_for command.files files)
 
 pub line_reads : (words : List Text) → AreTexts words → IsLine words → Line words
@@ -249,10 +245,12 @@ line_reads (word ∷ words) texts line = go (subcommand_named word) refl
       rest = words;
       command = s;
       files = r.files;
+      texts = r.texts;
       is = refl;
       named = is;
       from = r.from;
       count = r.count;
+      said = r.said;
       rows = rows_behind word s is words ∙ ap (λ rows. Some (s.name, rows)) r.rows;
     }
     read s is (inr r) = absurd (r.fault (sym (fault_behind word s is words) ∙ line))
@@ -261,10 +259,17 @@ line_reads (word ∷ words) texts line = go (subcommand_named word) refl
     go None is = absurd (unnamed_fails word is words texts.0 (kind_of_word word) line)
     go (Some s) is = read s is (command_judged s.name s.files words (in_order subcommands word s all_in_order is) texts.1)
 
-pub line_there : (name : Text) (rest files : List Text) (s : Subcommand) → AreTexts (name ∷ rest) → subcommand_named name ≡ Some s → files_of rest ≡ Some files
-    → length files ≡ length s.files → IsLine (name ∷ rest)
-line_there name rest files s texts is from count = go (command_judged s.name s.files rest (in_order subcommands name s all_in_order is) texts.1)
+-- what a line says
+pub line_says : (words : List Text) (l : Line words) → line_of words ≡ Some (l.name ∷ l.texts)
+line_says words l =
+    ap line_of l.is ∙ ap (λ o. option_map (λ texts. l.name ∷ texts) (option_and_then (said_behind l.name) o)) l.from
+    ∙ ap (λ o. option_map (λ texts. l.name ∷ texts) (all_said (option_map_or (λ (s : Subcommand). s.files) o []) l.files)) l.named
+    ∙ ap (option_map (λ texts. l.name ∷ texts)) l.said
+
+pub line_there : (name : Text) (rest files said : List Text) (s : Subcommand) → AreTexts (name ∷ rest) → subcommand_named name ≡ Some s → files_of rest ≡ Some files
+    → length files ≡ length s.files → all_said s.files files ≡ Some said → IsLine (name ∷ rest)
+line_there name rest files said s texts is from count all = go (command_judged s.name s.files rest (in_order subcommands name s all_in_order is) texts.1)
   where
     go : IsJudged s.name s.files false 1 s.files [] nothing_held rest → IsLine (name ∷ rest)
     go (inl r) = fault_behind name s is rest ∙ r.fault
-    go (inr r) = absurd (r.none files from count)
+    go (inr r) = absurd (r.none files said from count all)

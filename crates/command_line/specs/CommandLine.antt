@@ -1,13 +1,18 @@
 -- The command lines of the program: its commands as `clap` reads them.
-use Rattle.std.specs.Prelude.{◌≡◌, ◌==◌, ◌&&◌, List, [], ◌∷◌, Bool, true, false, not, codes, map, find}
-use Rattle.std.specs.Prelude.{Option, Some, None, option_map, if◌then◌else◌}
+use Rattle.std.specs.Prelude.{◌≡◌, ◌==◌, ◌&&◌, ℕ, pos, List, [], ◌∷◌, Bool, true, false, not, codes, map, find, decimal}
+use Rattle.std.specs.Prelude.{Option, Some, None, option_map, option_and_then, if◌then◌else◌}
+use Rattle.std.specs.Option.{option_map_or}
 use Rattle.std.specs.Str.{IsUtf8, bytes_eq}
+use Rattle.std.specs.Str.Parse.{digits_value, without_leading_sign}
+use Rattle.clap.specs.ValueTests.{is_signed_in}
 use Rattle.clap.specs.Simple.{new_shape}
 use Rattle.clap.specs.Words.{App, Rule, Shape, Text, app_of, fault_of, new_rule}
 use Rattle.clap.specs.declared.builder.command.Command.{Command}
 use Rattle.clap.specs.declared.builder.command.Command.TheViews.{out-Command as fields_of}
+use Rattle.clap.specs.declared.builder.value_parser.ValueParser.{ValueParser}
+use Rattle.clap.specs.declared.builder.value_parser.ValueParser.TheVariants as vp
 
--- a command of the program: its name, and the names of the files that have to follow it, in order
+-- a command of the program: its name, and the names of what has to follow it, in order: files, and the number N
 pub record Subcommand : Type 0 where
   pub name : Text
   pub files : List Text
@@ -15,13 +20,28 @@ pub record Subcommand : Type 0 where
 -- all commands
 abbrev pub subcommands : List Subcommand
 subcommands = record { name = codes "mean"; files = codes "SRC" ∷ codes "TRACE" ∷ [] }
+    ∷ record { name = codes "try"; files = codes "SRC" ∷ codes "TRACE" ∷ codes "IMAGE" ∷ [] }
+    ∷ record { name = codes "build"; files = codes "SRC" ∷ codes "IMAGE" ∷ [] }
     ∷ record { name = codes "run"; files = codes "IMAGE" ∷ codes "TRACE" ∷ [] }
     ∷ record { name = codes "asm"; files = codes "ASM" ∷ codes "IMAGE" ∷ [] }
-    ∷ record { name = codes "dis"; files = codes "IMAGE" ∷ [] } ∷ []
+    ∷ record { name = codes "dis"; files = codes "IMAGE" ∷ [] }
+    ∷ record { name = codes "gen"; files = codes "N" ∷ codes "IMAGE" ∷ [] } ∷ []
 
--- `Arg::new(name).required(true)`: a positional that has to be there
+-- N is a number, and each other one is a file
+abbrev pub is_number_name : Text → Bool
+is_number_name name = bytes_eq name (codes "N")
+
+-- `value_parser!(u32)`
+abbrev pub number_parser : ValueParser
+number_parser = vp.Signed (pos 0) (pos 4294967295)
+
+-- what `clap` reads a value with
+abbrev pub parser_named : Text → Option ValueParser
+parser_named name = if is_number_name name then Some number_parser else None
+
+-- `Arg::new(name).required(true)`, with the parser of its name: a positional that has to be there
 abbrev pub file_rule : Text → Rule
-file_rule name = record (new_rule name) { required = true }
+file_rule name = record (new_rule name) { required = true; parser = parser_named name }
 
 -- what `clap` reads of the command: its positionals, in order
 abbrev pub subcommand_shape : Subcommand → Shape
@@ -73,14 +93,43 @@ files_of [] = Some []
 files_of (word ∷ rest) = if bytes_eq word (codes "--") then Some rest
     else (if is_flag word then None else option_map (λ files. word ∷ files) (files_of rest))
 
--- the command's name and then the files that the words behind it give
-abbrev pub line_of : List Text → Option (List Text)
-line_of [] = None
-line_of (name ∷ rest) = option_map (λ files. name ∷ files) (files_of rest)
-
 -- the command of this name
 abbrev pub subcommand_named : Text → Option Subcommand
 subcommand_named name = find (λ s. bytes_eq s.name name) subcommands
+
+-- the number that a word says behind its sign
+abbrev pub number_in : Text → ℕ
+number_in word = digits_value 10 (without_leading_sign word)
+
+-- A word that says a number of 32 bits, as its decimal digits. `clap` takes decimal digits, and a sign before them;
+-- below 0 there is no such number.
+abbrev pub number_said : Text → Option Text
+number_said word = if is_signed_in (pos 0) (pos 4294967295) word then Some (decimal (number_in word)) else None
+
+-- what a word says in the place of this name
+abbrev pub said : Text → Text → Option Text
+said name word = if is_number_name name then number_said word else Some word
+
+-- what words say in the places of these names
+abbrev pub all_said : List Text → List Text → Option (List Text)
+all_said [] words = Some words
+all_said (name ∷ names) [] = Some []
+all_said (name ∷ names) (word ∷ words) =
+    option_and_then (λ text. option_map (λ texts. text ∷ texts) (all_said names words)) (said name word)
+
+-- what words say behind a command's name
+abbrev pub said_behind : Text → List Text → Option (List Text)
+said_behind name words = all_said (option_map_or (λ s. s.files) (subcommand_named name) []) words
+
+-- the command's name and then what the files say that the words behind it give
+abbrev pub line_of : List Text → Option (List Text)
+line_of [] = None
+line_of (name ∷ rest) = option_map (λ texts. name ∷ texts) (option_and_then (said_behind name) (files_of rest))
+
+-- the same of words of which none is a flag or a `--`
+abbrev pub plain_line_of : List Text → Option (List Text)
+plain_line_of [] = None
+plain_line_of (name ∷ words) = option_map (λ texts. name ∷ texts) (said_behind name words)
 
 -- the words are UTF-8, as those of a program are that has taken them as strings
 abbrev pub AreTexts : List Text → Type 0

@@ -1,16 +1,19 @@
 -- The commands, as values and as words.
-use Rattle.std.specs.Prelude.{◌≡◌, List, [], ◌∷◌, codes, Option, Some, option_map, option_and_then}
+use Rattle.std.specs.Prelude.{◌≡◌, List, [], ◌∷◌, codes, decimal, Option, Some, option_map, option_and_then}
 use Rattle.clap.specs.Words.{Row, Text, first_of}
-use Rattle.command_line.specs.CommandLine.{line_of, subcommand_named}
+use Rattle.command_line.specs.CommandLine.{all_said, line_of, plain_line_of, subcommand_named}
 use Rattle.command_line.specs.declared.Command.{Command}
-use Rattle.command_line.specs.declared.Command.TheVariants.{Mean, Run, Asm, Dis}
+use Rattle.command_line.specs.declared.Command.TheVariants.{Mean, Try, Build, Run, Asm, Dis, Gen}
 
--- the words of a command's line, with neither a `--` nor a hyphen in front of a file
+-- the words of a command's line, with neither a `--` nor a hyphen in front of a file, and with a number in its decimal digits
 abbrev pub plain_line : Command → List Text
 plain_line (Mean source trace) = codes "mean" ∷ source.now ∷ trace.now ∷ []
+plain_line (Try source trace image) = codes "try" ∷ source.now ∷ trace.now ∷ image.now ∷ []
+plain_line (Build source image) = codes "build" ∷ source.now ∷ image.now ∷ []
 plain_line (Run image trace) = codes "run" ∷ image.now ∷ trace.now ∷ []
 plain_line (Asm assembly image) = codes "asm" ∷ assembly.now ∷ image.now ∷ []
 plain_line (Dis image) = codes "dis" ∷ image.now ∷ []
+plain_line (Gen number image) = codes "gen" ∷ decimal number ∷ image.now ∷ []
 
 -- the first values of these arguments, where each has one
 abbrev pub values_of : List Text → List Row → Option (List Text)
@@ -19,10 +22,10 @@ values_of (id ∷ ids) rows =
     option_and_then (λ file. option_map (λ files. file ∷ files) (values_of ids rows))
     (first_of id rows)
 
--- the line of the command of this name, with the files that a parse found
+-- the line of the command of this name, with what the values say that a parse found
 abbrev pub line_found : Text → List Row → Option (List Text)
-line_found name rows = option_and_then (λ s. option_map (λ files. name ∷ files)
-    (values_of s.files rows)) (subcommand_named name)
+line_found name rows = option_and_then (λ s. option_map (λ texts. name ∷ texts)
+    (option_and_then (all_said s.files) (values_of s.files rows))) (subcommand_named name)
 
 -- the words name a command and then its files, and no more
 abbrev pub NamesCommand : List Text → Type 0
@@ -30,4 +33,4 @@ NamesCommand words = (c : Command) × (line_of words ≡ Some (plain_line c))
 
 -- the words are a command's name and then its files, and no more
 abbrev pub IsPlainLine : List Text → Type 0
-IsPlainLine words = (c : Command) × (words ≡ plain_line c)
+IsPlainLine words = (c : Command) × (plain_line_of words ≡ Some (plain_line c))

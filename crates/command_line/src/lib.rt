@@ -1,25 +1,28 @@
 //! The words of the command line, read by `clap` into a command of the program.
 #![tactic(auto)]
 
-ghost use Rattle.std.specs.Prelude.{◌≡◌, ◌↔◌, ◌∷◌, [], IfOk, IsErrOf, Some, List, false, map, option_map, string_bytes};
+ghost use Rattle.std.specs.Prelude.{◌≡◌, ◌↔◌, ◌∷◌, [], IfOk, IsErrOf, Some, List, false, map, option_map, string_bytes, decimal};
 ghost use Rattle.std.specs.List.{list_any};
-ghost use Rattle.clap.specs.Words.{Text, found_of, rows_of, subcommand_of, subcommand_rows_of};
+ghost use Rattle.clap.specs.Words.{Text, found_of, rows_of, rule_of, subcommand_of, subcommand_rows_of};
 ghost use Rattle.command_line.specs.CommandLine.{
   AreTexts,
   IsCommand,
   IsLine,
   alpaca_app,
   begins_with_hyphen,
+  file_rule,
   line_of,
+  number_said,
+  plain_line_of,
   subcommand_app,
 };
 ghost use Rattle.command_line.specs.Commands.{IsPlainLine, NamesCommand, line_found, plain_line, values_of};
 
 use clap::error::ErrorKind;
-use clap::{Arg, ArgMatches};
+use clap::{Arg, ArgMatches, value_parser};
 use std::alloc::{AllocError, Global};
 
-/// A command of the program, with the names of its files.
+/// A command of the program, with the names of its files and its number.
 #[derive(Clone, Copy, Debug, PartialEq, Eq)]
 pub enum Command<'a> {
     /// `mean SRC TRACE`: what the source means on the trace's readings.
@@ -28,6 +31,22 @@ pub enum Command<'a> {
         source: &'a str,
         /// The file of the trace.
         trace: &'a str,
+    },
+    /// `try SRC TRACE IMAGE`: the image of a source, and its run under the trace.
+    Try {
+        /// The file of the source.
+        source: &'a str,
+        /// The file of the trace.
+        trace: &'a str,
+        /// The file that is to hold the image.
+        image: &'a str,
+    },
+    /// `build SRC IMAGE`: the image of a source.
+    Build {
+        /// The file of the source.
+        source: &'a str,
+        /// The file that is to hold the image.
+        image: &'a str,
     },
     /// `run IMAGE TRACE`: a run of the image on the board, whose power is cut wherever the trace says.
     Run {
@@ -46,6 +65,13 @@ pub enum Command<'a> {
     /// `dis IMAGE`: the assembler text of an image.
     Dis {
         /// The file of the image.
+        image: &'a str,
+    },
+    /// `gen N IMAGE`: the image of the source that is generated from N, and its run.
+    Gen {
+        /// The number N.
+        number: u32,
+        /// The file that is to hold the image.
         image: &'a str,
     },
 }
@@ -70,7 +96,7 @@ pub fn command_of<'a>(alloc: Global, words: &'a [String]) -> Result<Command<'a>,
     ensures no_command { IsErrOf result WordsFault.Usage
         → NamesCommand (map string_bytes words.entry.now) → ⊥ }
     ensures plain { list_any begins_with_hyphen (map string_bytes words.entry.now) ≡ false
-        → IfOk result (λ c. map string_bytes words.entry.now ≡ plain_line c) }
+        → IfOk result (λ c. plain_line_of (map string_bytes words.entry.now) ≡ Some (plain_line c)) }
     ensures no_plain { list_any begins_with_hyphen (map string_bytes words.entry.now) ≡ false
         → IsErrOf result WordsFault.Usage → IsPlainLine (map string_bytes words.entry.now) → ⊥ }
 {
@@ -81,7 +107,8 @@ pub fn command_of<'a>(alloc: Global, words: &'a [String]) -> Result<Command<'a>,
 
 /// What a command line of the program is, in plain words: a command's name and then its files, where
 /// a `--` before a file is dropped, `-` is a file's name, and no other word before a `--` may begin
-/// with a hyphen. Where no word begins with one, a line is exactly a command's name and its files.
+/// with a hyphen. N is decimal digits, maybe behind a sign. Where no word begins with a hyphen, a line is
+/// exactly a command's name and its files.
 pub fn command_lines()
     ensures lines { (words : List Text) → AreTexts words → IsLine words ↔ NamesCommand words }
     ensures plain_lines { (words : List Text) → AreTexts words
@@ -97,6 +124,18 @@ fn command_named<'a>(name: &str, files: &ArgMatches<'a>) -> Option<Command<'a>>
             let (source, trace) = two_files(files, "SRC", "TRACE")?;
             Some(Command::Mean { source, trace })
         }
+        "try" => {
+            let (source, trace, image) = three_files(files, "SRC", "TRACE", "IMAGE")?;
+            Some(Command::Try {
+                source,
+                trace,
+                image,
+            })
+        }
+        "build" => {
+            let (source, image) = two_files(files, "SRC", "IMAGE")?;
+            Some(Command::Build { source, image })
+        }
         "run" => {
             let (image, trace) = two_files(files, "IMAGE", "TRACE")?;
             Some(Command::Run { image, trace })
@@ -109,8 +148,21 @@ fn command_named<'a>(name: &str, files: &ArgMatches<'a>) -> Option<Command<'a>>
             let image = one_file(files, "IMAGE")?;
             Some(Command::Dis { image })
         }
+        "gen" => {
+            let (number, image) = two_files(files, "N", "IMAGE")?;
+            let number = number_of(number)?;
+            Some(Command::Gen { number, image })
+        }
         _ => None,
     }
+}
+
+/// The number of 32 bits that a word says, as `clap` reads one.
+fn number_of(word: &str) -> Option<u32>
+    ensures { option_map (λ n. decimal n) result ≡ number_said word.now }
+{
+    let number = word.parse::<i64>().ok()?;
+    u32::try_from(number).ok()
 }
 
 /// The file that `clap` found under this name.
@@ -127,6 +179,22 @@ fn two_files<'a>(files: &ArgMatches<'a>, first: &str, second: &str) -> Option<(&
     let first = files.get_str(first)?;
     let second = files.get_str(second)?;
     Some((first, second))
+}
+
+/// The files that `clap` found under these three names.
+fn three_files<'a>(
+    files: &ArgMatches<'a>,
+    first: &str,
+    second: &str,
+    third: &str,
+) -> Option<(&'a str, &'a str, &'a str)>
+    ensures { option_map (λ p. p.0.now ∷ p.1.now ∷ p.2.now ∷ []) result
+        ≡ values_of (first.now ∷ second.now ∷ third.now ∷ []) (rows_of (found_of files.now)) }
+{
+    let first = files.get_str(first)?;
+    let second = files.get_str(second)?;
+    let third = files.get_str(third)?;
+    Some((first, second, third))
 }
 
 /// What `clap` makes of the words.
@@ -148,6 +216,19 @@ fn matches_of<'a>(alloc: Global, words: &'a [String]) -> Result<ArgMatches<'a>, 
     }
 }
 
+/// An argument that has to be there: N is a number, and each other one is a text.
+fn positional<'a>(alloc: Global, name: &'a str) -> Arg<'a>
+    ensures rule { rule_of result ≡ file_rule name.entry.now }
+    ensures plain { result.global ≡ false }
+{
+    let argument = Arg::new(alloc, name).required(true);
+    if name == "N" {
+        argument.value_parser(value_parser!(u32))
+    } else {
+        argument
+    }
+}
+
 /// The command `name` with its files, which have to be there in this order.
 fn file_command<'a>(
     alloc: Global,
@@ -161,9 +242,54 @@ fn file_command<'a>(
 {
     let mut command = clap::Command::new(alloc, name);
     for file in files {
-        command = command.arg(Arg::new(alloc, file).required(true))?;
+        command = command.arg(positional(alloc, file))?;
     }
     Ok(command)
+}
+
+/// The command `name` with one file.
+fn with_one_file<'a>(
+    alloc: Global,
+    name: &'a str,
+    file: &'a str,
+) -> Result<clap::Command<'a>, AllocError>
+    ensures { IfOk result (IsCommand (subcommand_app (record {
+      name = name.entry.now;
+      files = file.entry.now ∷ [];
+    }))) }
+{
+    file_command(alloc, name, [file].as_slice())
+}
+
+/// The command `name` with two files.
+fn with_two_files<'a>(
+    alloc: Global,
+    name: &'a str,
+    first: &'a str,
+    second: &'a str,
+) -> Result<clap::Command<'a>, AllocError>
+    ensures { IfOk result (IsCommand (subcommand_app (record {
+      name = name.entry.now;
+      files = first.entry.now ∷ second.entry.now ∷ [];
+    }))) }
+{
+    file_command(alloc, name, [first, second].as_slice())
+}
+
+/// The command `name` with three files.
+fn with_three_files<'a>(
+    alloc: Global,
+    name: &'a str,
+    first: &'a str,
+    second: &'a str,
+    third: &'a str,
+) -> Result<clap::Command<'a>, AllocError>
+    ensures { IfOk result (IsCommand (subcommand_app (record {
+      name = name.entry.now;
+      files = first.entry.now ∷ second.entry.now ∷ third.entry.now ∷ [];
+    }))) }
+{
+    file_command(alloc, name, [first, second, third].as_slice())
 }
 
 /// The command line of the program.
@@ -175,14 +301,20 @@ fn alpaca_command<'a>(alloc: Global) -> Result<clap::Command<'a>, AllocError>
         .disable_help_flag(true)
         .disable_help_subcommand(true)
         .subcommand_required(true);
-    let mean = file_command(alloc, "mean", ["SRC", "TRACE"].as_slice())?;
-    let run = file_command(alloc, "run", ["IMAGE", "TRACE"].as_slice())?;
-    let asm = file_command(alloc, "asm", ["ASM", "IMAGE"].as_slice())?;
-    let dis = file_command(alloc, "dis", ["IMAGE"].as_slice())?;
+    let mean = with_two_files(alloc, "mean", "SRC", "TRACE")?;
+    let trial = with_three_files(alloc, "try", "SRC", "TRACE", "IMAGE")?;
+    let build = with_two_files(alloc, "build", "SRC", "IMAGE")?;
+    let run = with_two_files(alloc, "run", "IMAGE", "TRACE")?;
+    let asm = with_two_files(alloc, "asm", "ASM", "IMAGE")?;
+    let dis = with_one_file(alloc, "dis", "IMAGE")?;
+    let generate = with_two_files(alloc, "gen", "N", "IMAGE")?;
     let with_mean = bare.subcommand(mean)?;
-    let with_run = with_mean.subcommand(run)?;
+    let with_try = with_mean.subcommand(trial)?;
+    let with_build = with_try.subcommand(build)?;
+    let with_run = with_build.subcommand(run)?;
     let with_asm = with_run.subcommand(asm)?;
-    let whole = with_asm.subcommand(dis)?;
+    let with_dis = with_asm.subcommand(dis)?;
+    let whole = with_dis.subcommand(generate)?;
     Ok(whole)
 }
 

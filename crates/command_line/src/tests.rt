@@ -40,6 +40,12 @@ fn lists(alloc: Global, texts: &[&str], image: &str) -> Result<bool, AllocError>
     Ok(command_of(alloc, words.as_slice()) == Ok(Command::Dis { image }))
 }
 
+// the number and the file of a line of `gen`
+fn generates(alloc: Global, texts: &[&str], number: u32, image: &str) -> Result<bool, AllocError> {
+    let words = owned(alloc, texts)?;
+    Ok(command_of(alloc, words.as_slice()) == Ok(Command::Gen { number, image }))
+}
+
 // the words are no line
 fn is_usage(alloc: Global, texts: &[&str]) -> Result<bool, AllocError> {
     let words = owned(alloc, texts)?;
@@ -86,6 +92,23 @@ fn an_image_is_a_line_of_dis(rt: HostRuntime) -> Result<(), Fail> {
     assert!(rt; lists(alloc, &["dis", "--", "--"], "--")?);
     assert!(rt; is_usage(alloc, &["dis"])?);
     assert!(rt; is_usage(alloc, &["dis", "i", "t"])?);
+    Ok(())
+}
+
+#[test]
+fn a_number_and_an_image_are_a_line_of_gen(rt: HostRuntime) -> Result<(), Fail> {
+    let alloc = rt.alloc();
+    assert!(rt; generates(alloc, &["gen", "0", "i"], 0, "i")?);
+    assert!(rt; generates(alloc, &["gen", "4294967295", "i"], 4294967295, "i")?);
+    assert!(rt; generates(alloc, &["gen", "+007", "--", "-i"], 7, "-i")?);
+    assert!(rt; generates(alloc, &["gen", "--", "-0", "i"], 0, "i")?);
+    assert!(rt; is_usage(alloc, &["gen", "4294967296", "i"])?);
+    assert!(rt; is_usage(alloc, &["gen", "-1", "i"])?);
+    assert!(rt; is_usage(alloc, &["gen", "--", "-1", "i"])?);
+    assert!(rt; is_usage(alloc, &["gen", "x", "i"])?);
+    assert!(rt; is_usage(alloc, &["gen", "", "i"])?);
+    assert!(rt; is_usage(alloc, &["gen", "1"])?);
+    assert!(rt; is_usage(alloc, &["gen", "1", "i", "j"])?);
     Ok(())
 }
 

@@ -1,10 +1,10 @@
 use Rattle.std.proofs.Common.{◌∙◌, ◌∷◌, List, map, string_bytes, IsErrOf, option_map, sym, ap, arith}
 use Rattle.clap.specs.Words.{Text, found_of, rows_of}
-use Rattle.command_line.specs.CommandLine.{IsLine, line_of}
+use Rattle.command_line.specs.CommandLine.{IsLine}
 use Rattle.command_line.specs.Commands.{plain_line}
 use Rattle.command_line.specs.declared.WordsFault.TheVariants.{Usage}
-use Rattle.command_line.proofs.Commands.{are_texts, command_is_line, entered_is, has_met, is_there_by, line_found_is, line_plain, plain_names}
-use Rattle.command_line.proofs.Lines.{Line, line_reads}
+use Rattle.command_line.proofs.Commands.{are_texts, command_is_line, entered_is, has_met, is_there_by, line_found_is, plain_is, plain_names}
+use Rattle.command_line.proofs.Lines.{Line, line_reads, line_says}
 use Rattle.command_line.proofs.command_of.Goals as goal
 
 pub returns-in_err-matches-clause-no_command : goal.returns-in_err-matches-clause-no_command
@@ -31,7 +31,7 @@ unwrap-requires-2 c =
     let line : Line words = line_reads words (are_texts c.args.words.now) c.in_ok-matches.ensures.line in
     let entered = entered_is c.in_ok-matches.matches c.subcommand.result c.unwrap.result c.unwrap.ensures c.subcommand.ensures.name c.subcommand.ensures.rows in
     let found = line_found_is words c.unwrap.result.0.now (rows_of (found_of c.unwrap.result.1.now)) line (sym c.in_ok-matches.ensures.rows ∙ entered) in
-    is_there_by plain_line c.command_named.result (line.name ∷ line.files) (c.command_named.ensures ∙ found ∙ ap line_of line.is ∙ ap (option_map (λ files. line.name ∷ files)) line.from)
+    is_there_by plain_line c.command_named.result (line.name ∷ line.texts) (c.command_named.ensures ∙ found ∙ line_says words line)
 
 pub returns-clause-command : goal.returns-clause-command
 returns-clause-command c =
@@ -42,4 +42,4 @@ returns-clause-command c =
     sym found ∙ sym c.command_named.ensures ∙ ap (option_map plain_line) c.unwrap-2.ensures
 
 pub returns-clause-plain : goal.returns-clause-plain
-returns-clause-plain c = λ free. line_plain (map string_bytes c.args.words.now) (plain_line c.unwrap-2.result) free (returns-clause-command c)
+returns-clause-plain c = λ free. plain_is (map string_bytes c.args.words.now) free ∙ returns-clause-command c

@@ -1,5 +1,6 @@
 use Rattle.std.proofs.Common.{refl}
-use Rattle.alpaca_cli.proofs.FailureLaws.{refusal_fails, asm_whole, asm_fails}
+use Rattle.alpaca_cli.proofs.FailureLaws.{refusal_fails}
+use Rattle.alpaca_cli.proofs.PutLaws.{asm_whole, asm_fails}
 use Rattle.alpaca_cli.proofs.UnreadFiles.{handed_on}
 use Rattle.alpaca_cli.proofs.asm.asm_texts.Goals as goal
 

@@ -7,19 +7,33 @@ use Rattle.alpaca_cli.proofs.command.answer.Goals as goal
 
 pub returns-in-Ok-Mean-clause-answers : goal.returns-in-Ok-Mean-clause-answers
 returns-in-Ok-Mean-clause-answers g c =
-    on_line _ (call.mean _ _) _ _ _ _ (c.in-Ok-Mean.ensures.command ∙ ap (λ x. Some (plain_line x)) c.in-Ok-Mean.field-0-is) c.answer_mean.ensures.answers
+    on_line _ (call.mean _ _) _ _ _ _ (record { number = tt; line = c.in-Ok-Mean.ensures.command ∙ ap (λ x. Some (plain_line x)) c.in-Ok-Mean.field-0-is }) c.answer_mean.ensures.answers
+
+pub returns-in-Ok-Try-clause-answers : goal.returns-in-Ok-Try-clause-answers
+returns-in-Ok-Try-clause-answers g c =
+    on_line _ (call.try_ _ _ _) _ _ _ _ (record { number = tt; line = c.in-Ok-Try.ensures.command ∙ ap (λ x. Some (plain_line x)) c.in-Ok-Try.field-0-is }) c.answer_try.ensures.answers
+
+pub returns-in-Ok-Build-clause-answers : goal.returns-in-Ok-Build-clause-answers
+returns-in-Ok-Build-clause-answers g c =
+    on_line _ (call.build _ _) _ _ _ _ (record { number = tt; line = c.in-Ok-Build.ensures.command ∙ ap (λ x. Some (plain_line x)) c.in-Ok-Build.field-0-is }) c.answer_build.ensures.answers
 
 pub returns-in-Ok-Run-clause-answers : goal.returns-in-Ok-Run-clause-answers
 returns-in-Ok-Run-clause-answers g c =
-    on_line _ (call.run _ _) _ _ _ _ (c.in-Ok-Run.ensures.command ∙ ap (λ x. Some (plain_line x)) c.in-Ok-Run.field-0-is) c.answer_run.ensures.answers
+    on_line _ (call.run _ _) _ _ _ _ (record { number = tt; line = c.in-Ok-Run.ensures.command ∙ ap (λ x. Some (plain_line x)) c.in-Ok-Run.field-0-is }) c.answer_run.ensures.answers
 
 pub returns-in-Ok-Asm-clause-answers : goal.returns-in-Ok-Asm-clause-answers
 returns-in-Ok-Asm-clause-answers g c =
-    on_silent_line _ (call.asm _ _) _ _ _ _ (c.in-Ok-Asm.ensures.command ∙ ap (λ x. Some (plain_line x)) c.in-Ok-Asm.field-0-is) refl c.answer_asm.ensures.answers
+    on_silent_line _ (call.asm _ _) _ _ _ _ (record { number = tt; line = c.in-Ok-Asm.ensures.command ∙ ap (λ x. Some (plain_line x)) c.in-Ok-Asm.field-0-is }) refl c.answer_asm.ensures.answers
 
 pub returns-in-Ok-Dis-clause-answers : goal.returns-in-Ok-Dis-clause-answers
 returns-in-Ok-Dis-clause-answers g c =
-    on_line _ (call.dis _) _ _ _ _ (c.in-Ok-Dis.ensures.command ∙ ap (λ x. Some (plain_line x)) c.in-Ok-Dis.field-0-is) c.answer_dis.ensures.answers
+    on_line _ (call.dis _) _ _ _ _ (record { number = tt; line = c.in-Ok-Dis.ensures.command ∙ ap (λ x. Some (plain_line x)) c.in-Ok-Dis.field-0-is }) c.answer_dis.ensures.answers
+
+pub returns-in-Ok-Gen-clause-answers : goal.returns-in-Ok-Gen-clause-answers
+returns-in-Ok-Gen-clause-answers g c =
+    on_line _ (call.gen _ _) _ _ _ _
+    (record { number = c.answer_gen.ensures.number; line = c.in-Ok-Gen.ensures.command ∙ ap (λ x. Some (plain_line x)) c.in-Ok-Gen.field-0-is })
+    c.answer_gen.ensures.answers
 
 pub returns-in-Err-Usage-clause-answers : goal.returns-in-Err-Usage-clause-answers
 returns-in-Err-Usage-clause-answers g c = (

@@ -2,7 +2,11 @@ use Rattle.std.proofs.Common.{subst}
 use Rattle.energy_trace.specs.Reading.{Fails, trace_of}
 use Rattle.alpaca_cli.specs.Texts.{RefusesTrace, bad_trace_line, too_many}
 use Rattle.alpaca_cli.proofs.Refused.{refused_as}
+use Rattle.alpaca_cli.proofs.TraceLaws.{trace_of_words}
 use Rattle.alpaca_cli.proofs.traces.trace_of.Goals as goal
+
+pub returns-in-Ok-clause-words : goal.returns-in-Ok-clause-words
+returns-in-Ok-clause-words c = trace_of_words _ _ c.in-Ok.ensures.meaning
 
 pub returns-in-Err-BadLine-clause-refused : goal.returns-in-Err-BadLine-clause-refused
 returns-in-Err-BadLine-clause-refused c =

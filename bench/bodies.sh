@@ -1,0 +1,52 @@
+#!/usr/bin/env bash
+# Of ten task bodies: the cycles from a power-up to the end of the first commit, beside the bound; and the words of the code, beside
+# those that the allowance gives it (the image fills these up with `jmp $`).
+#
+# ALPACA names another build of the program. Nothing depends on these figures.
+set -u
+top=$(cd "$(dirname "$(readlink -f "$0")")/.." && pwd)
+program=${ALPACA:-$top/bin/alpaca}
+folder=$(mktemp -d)
+trap 'rm -rf "$folder"' EXIT
+cd "$folder" || exit 1
+
+# whether a charge of so many cycles completes a transition
+completes() {
+    printf 'c %s 0\nr 9 8 7 6 5 4 3 2\n' "$1" > t
+    "$program" try s t i 2>&1 | grep -q '^t 1 '
+}
+
+# the fewest cycles of a charge that completes one, at most $1
+fewest() {
+    local low=0 high=$1 middle
+    while ((low + 1 < high)); do
+        middle=$(((low + high) / 2))
+        if completes "$middle"; then high=$middle; else low=$middle; fi
+    done
+    echo "$high"
+}
+
+# the words of the code of image i, and how many of them fill it up
+words() {
+    awk '/^map/ { exit } /^@/ { code = seen; seen = 0; next } !/^q/ { for (k = 1; k < NF; k += 2) { n++; if ($k $(k + 1) == "FF3F") fill++ } } END { print n, fill + 0 }' i
+}
+
+measure() {
+    printf '%s\n' "$2" > s
+    local bound used all fill
+    bound=$("$program" build s i | awk '{ print $2 }')
+    used=$(fewest "$bound")
+    read -r all fill < <(words)
+    printf '%-22s %6s of %6s cycles (%2d%%)  %5s of %5s words (%2d%%)\n' "$1" "$used" "$bound" $((100 * used / bound)) $((all - fill)) "$all" $((100 * (all - fill) / all))
+}
+
+measure 'a sum' 'shared unsigned n; task t { n = n + sense(); transition_to(t); } entry t;'
+measure 'a sum that is sent' 'shared unsigned n; task t { n = n + sense(); emit(n); transition_to(t); } entry t;'
+measure 'four scalars' 'shared unsigned a; shared unsigned b; shared unsigned c; shared unsigned d; task t { a = a + 1; b = b + a; c = c ^ b; d = d - c; transition_to(t); } entry t;'
+measure 'an element' 'shared unsigned a[8]; shared unsigned i; task t { a[i] = sense(); i = (i + 1) & 7; transition_to(t); } entry t;'
+measure 'each element' 'shared unsigned a[16]; task t { unsigned i; for (i = 0; i < 16; i++) { a[i] = a[i] + i; } transition_to(t); } entry t;'
+measure 'a product' 'shared unsigned p = 3; task t { p = p * 5 + 1; transition_to(t); } entry t;'
+measure 'a quotient and a rest' 'shared unsigned q = 60000; task t { q = q / 7 + q % 7; transition_to(t); } entry t;'
+measure 'comparisons' 'shared int s = -2; shared unsigned m; task t { int r = sense(); m = 0; if (s < r && r <= 9) { m = 1; } else if (s > r || r == 4) { m = 2; } transition_to(t); } entry t;'
+measure 'nested loops' 'shared unsigned k; task t { unsigned i; unsigned j; for (i = 0; i < 8; i++) { for (j = 0; j < 8; j++) { k = k + i * j; } } transition_to(t); } entry t;'
+measure 'words that are sent' 'shared unsigned c; task t { unsigned i; for (i = 0; i < 16; i++) { emit(c + i); } c = c + 16; transition_to(t); } entry t;'

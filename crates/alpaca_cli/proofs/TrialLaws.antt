@@ -1,0 +1,70 @@
+-- The run of a source's image on a trace, by the law that each such run is told by its source.
+use Rattle.std.proofs.Common.{◌≡◌, ◌∙◌, ℕ, List, Option, Ok, Err, refl, sym, subst}
+use Rattle.std.specs.Io.KnownBytes.{Appends}
+use Rattle.alp_io.specs.Count.{Rose}
+use Rattle.alp_io.specs.declared.sink.Failed.{Failed}
+use Rattle.alp_io.specs.declared.report.Reason.{Reason}
+use Rattle.cost_bound.specs.declared.allowance.Allow.{Allow}
+use Rattle.energy_trace.specs.TraceValue.{TraceValue}
+use Rattle.image_text.specs.ImageValue.{ImageValue}
+use Rattle.msp_step.specs.declared.machine.Stop.TheVariants as stop
+use Rattle.fram_board.specs.Board.{fresh}
+use Rattle.fram_board.specs.Laws.{HasRun}
+use Rattle.fram_board.specs.Run.{End, Charges, Stopped}
+use Rattle.board_run.specs.Charges.{charges_of}
+use Rattle.board_run.specs.History.{start_of}
+use Rattle.board_run.specs.Report.{report_of}
+use Rattle.source_values.specs.Statements.{Outcome}
+use Rattle.source_values.specs.Runs.{CheckedProgram, IsRunnable}
+use Rattle.source_meaning.specs.Acceptance.{IsAcceptedText}
+use Rattle.source_runs.specs.Tells.{IsEndOf}
+use Rattle.source_runs.specs.Traces.{IsTraceOfWords}
+use Rattle.link_image.specs.Compiled.{IsCompiled}
+use Rattle.image_reports.specs.Laws.{ImagesAreTold}
+use Rattle.alpaca_cli.specs.declared.run.RunEnding.{RunEnding}
+use Rattle.alpaca_cli.specs.declared.run.RunEnding.TheVariants.{Well, AtFault}
+use Rattle.alpaca_cli.specs.Ending.{Ending, well, at_fault}
+use Rattle.alpaca_cli.specs.Ends.{WritesRun}
+use Rattle.alpaca_cli.specs.Outcomes.{Breaks}
+use Rattle.alpaca_cli.specs.Outside.{Written}
+use Rattle.alpaca_cli.specs.RunReport.{ending_of, IsRunReport, IsTold, SourceTells}
+
+-- a run that its source tells ends well
+ends_well : (e : End) (next : Outcome) (why : Reason) → IsEndOf e next why → well ≡ ending_of e
+ends_well Charges next why is = refl
+ends_well (Stopped stop.Off) next why is = refl
+ends_well (Stopped stop.NoReading) next why is = refl
+ends_well (Stopped (stop.Illegal pc word)) next why is = absurd is
+ends_well (Stopped (stop.Bus pc address)) next why is = absurd is
+
+pub is_told : ImagesAreTold → HasRun → (text : List ℕ) (p : CheckedProgram) (allow : Allow) (image : ImageValue) (trace : TraceValue)
+    → IsAcceptedText text p allow → IsRunnable p → IsCompiled text p allow image → IsTraceOfWords trace → IsTold text p allow image trace
+is_told law runs text p allow image trace accepted runnable compiled words =
+    let run = runs (charges_of trace.charges) (fresh image.words trace.readings) in
+    let told = law text p allow image accepted runnable compiled trace words in
+    record {
+      output = report_of (start_of image) run.0;
+      report = record { outcome = run.0; run = run.1; ends = ends_well _ _ _ (told run.0 run.1).ending; lines = refl };
+      ends_well = λ ending output r. r.ends ∙ sym (ends_well _ _ _ (told r.outcome r.run).ending);
+      told = λ c output r. subst (SourceTells text p allow image c trace r.outcome) (sym r.lines) (law text p allow image accepted runnable c trace words r.outcome r.run);
+    }
+
+-- ---- what is written of a run that ends well
+
+pub trial_whole : (image : ImageValue) (trace : TraceValue) (old new : Option (List ℕ)) (e : RunEnding) → e ≡ Well → WritesRun image trace old new (Ok e)
+    → (output : List ℕ) × IsRunReport image trace well output × Appends old new output
+trial_whole image trace old new e same writes = subst (λ x. WritesRun image trace old new (Ok x)) same writes
+
+pub trial_breaks : (image : ImageValue) (trace : TraceValue) (out : Written) (f : Failed)
+    → ((ending : Ending) (output : List ℕ) → IsRunReport image trace ending output → ending ≡ well)
+    → WritesRun image trace out.old out.new (Err f) → Rose out.faults_old out.faults_new → Breaks out (IsRunReport image trace well)
+trial_breaks image trace out f ends writes rose =
+    (writes.1, subst (λ e. IsRunReport image trace e writes.1) (ends writes.0 writes.1 writes.2) writes.2, writes.3, rose)
+
+pub no_fault : (image : ImageValue) (trace : TraceValue) (old new : Option (List ℕ)) (e : RunEnding)
+    → ((ending : Ending) (output : List ℕ) → IsRunReport image trace ending output → ending ≡ well)
+    → e ≡ AtFault → WritesRun image trace old new (Ok e) → ⊥
+no_fault image trace old new e ends same writes =
+    let at : WritesRun image trace old new (Ok AtFault) = subst (λ x. WritesRun image trace old new (Ok x)) same writes in
+    let is : at_fault ≡ well = ends at_fault at.0 at.1 in
+    cc

@@ -1,0 +1,36 @@
+use Rattle.std.proofs.Common.{refl}
+use Rattle.alpaca_cli.specs.Products.{the_source, its_trace}
+use Rattle.alpaca_cli.proofs.FailureLaws.{refusal_fails, memory_fails}
+use Rattle.alpaca_cli.proofs.PutLaws.{put_whole, put_breaks, put_fails, tries}
+use Rattle.alpaca_cli.proofs.UnreadFiles.{handed_on}
+use Rattle.alpaca_cli.proofs.try_.try_texts.Goals as goal
+
+pub returns-in_err-source-clause-failure : goal.returns-in_err-source-clause-failure
+returns-in_err-source-clause-failure g c =
+    handed_on _ _ _ c.from_residual.ensures (refusal_fails _ _ _ _ _ 0 _ _ refl (λ r no. the_source r no) refl refl c.in_err-source.ensures.refused)
+
+pub returns-in_err-trace-clause-failure : goal.returns-in_err-trace-clause-failure
+returns-in_err-trace-clause-failure g c =
+    handed_on _ _ _ c.from_residual-in_err-trace.ensures
+    (refusal_fails _ _ _ _ _ 1 _ _ refl (λ r no. its_trace _ r c.in_ok-source.ensures.said no) refl refl c.in_err-trace.ensures.refused)
+
+pub returns-in_err-built-clause-failure : goal.returns-in_err-built-clause-failure
+returns-in_err-built-clause-failure g c =
+    handed_on _ _ _ c.from_residual-in_err-built.ensures (memory_fails _ _ _ _ _ c.in_err-built.ensures.failure refl refl)
+
+pub returns-in_err-put_file-clause-failure : goal.returns-in_err-put_file-clause-failure
+returns-in_err-put_file-clause-failure g c =
+    let product = tries _ _ _ _ _ _ _ _ c.in_ok-source.ensures.text c.in_ok-source.ensures.accepted c.in_ok-trace.ensures.said c.in_ok-built.ensures.built c.run_is_told.ensures in
+    let told = c.run_is_told.ensures in
+    handed_on _ _ _ c.from_residual-in_err-put_file.ensures
+    (put_fails _ _ _ _ _ _ _ _ refl (product told.output told.report, refl) refl c.in_err-put_file.ensures.failure)
+
+pub returns-in-Ok-write_trial-clause-whole : goal.returns-in-Ok-write_trial-clause-whole
+returns-in-Ok-write_trial-clause-whole g c =
+    let product = tries _ _ _ _ _ _ _ _ c.in_ok-source.ensures.text c.in_ok-source.ensures.accepted c.in_ok-trace.ensures.said c.in_ok-built.ensures.built c.run_is_told.ensures in
+    put_whole _ _ _ _ _ _ _ _ refl (λ output report. (product output report, refl)) c.as_slice.ensures.value c.in_ok-put_file.ensures.put c.in-Ok-write_trial.ensures.whole
+
+pub returns-clause-failure : goal.returns-clause-failure
+returns-clause-failure g c =
+    let product = tries _ _ _ _ _ _ _ _ c.in_ok-source.ensures.text c.in_ok-source.ensures.accepted c.in_ok-trace.ensures.said c.in_ok-built.ensures.built c.run_is_told.ensures in
+    put_breaks _ _ _ _ _ _ _ _ refl (λ output report. (product output report, refl)) c.as_slice.ensures.value c.in_ok-put_file.ensures.put c.in-Err.ensures.failure

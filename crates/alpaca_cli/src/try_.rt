@@ -1,0 +1,162 @@
+//! `try SRC TRACE IMAGE`: the image of a source, put as an image text, and the report of its run on the trace.
+ghost use Rattle.std.specs.Prelude.{◌≡◌, ◌≤◌, ◌∷◌, [], ℕ, List, IfOk, IfErr, length};
+ghost use Rattle.task_ast.specs.View.{program_of};
+ghost use Rattle.fram_board.specs.Board.{fresh};
+ghost use Rattle.board_run.specs.History.{start_of};
+ghost use Rattle.source_meaning.specs.Acceptance.{IsAcceptedText};
+ghost use Rattle.link_image.specs.Compiled.{IsCompiled};
+ghost use Rattle.alp_io.specs.Shelf.{NeverFall};
+ghost use Rattle.alpaca_cli.specs.Calls as call;
+ghost use Rattle.source_runs.specs.Traces.{IsTraceOfWords};
+ghost use Rattle.alpaca_cli.specs.Ending.{Ending, well};
+ghost use Rattle.alpaca_cli.specs.RunReport.{IsRunReport, IsTold};
+ghost use Rattle.alpaca_cli.specs.Answers.{CommandAnswers, IsWhole, TextAnswers};
+ghost use Rattle.alpaca_cli.specs.Outcomes.{Breaks, FailsBy, Gains};
+
+use crate::answers::{answer_failure, answer_unread};
+use crate::built::built_of;
+use crate::failure::Failure;
+use crate::inputs::read_texts;
+use crate::puts::put_file;
+use crate::run::{RunEnding, write_report};
+use crate::sources::source_of;
+use crate::status::Status;
+use crate::traces::trace_of;
+use alp_io::{Failed, Shelf, Sink};
+use board_run::Watch;
+use energy_trace::Trace;
+use fram_board::{Board, board_has_one_run};
+use image_reports::images_are_told;
+use image_text::Image;
+use source_meaning::Accepted;
+use std::alloc::Global;
+
+/// The run of a source's image on a trace ends well and is told by the source.
+pub fn run_is_told(source: &Accepted, image: &Image, trace: &Trace)
+    requires accepted { IsAcceptedText source.now.text.items (program_of source.now.checked.source) source.now.allow }
+    requires compiled { IsCompiled source.now.text.items (program_of source.now.checked.source) source.now.allow image.now }
+    requires words { IsTraceOfWords trace.now }
+    ensures { IsTold source.now.text.items (program_of source.now.checked.source) source.now.allow image.now trace.now }
+{
+    board_has_one_run();
+    images_are_told();
+}
+
+// Writes the report of a run that ends well. Takes no memory.
+fn write_trial<O: Sink>(
+    out: &mut O,
+    image: &Image,
+    trace: &Trace,
+    board: &mut Board,
+    watch: &mut Watch<'_>,
+) -> Result<(), Failed>
+    requires board { board.old ≡ fresh image.now.words trace.now.readings }
+    requires watch { watch.old ≡ start_of image.now }
+    requires ends_well { (ending : Ending) (output : List ℕ) → IsRunReport image.now trace.now ending output → ending ≡ well }
+    ensures faults { O.faults out.old ≤ O.faults out.new }
+    ensures whole { IfOk result (λ _. Gains
+        (record { old = O.contents out.old; new = O.contents out.new; faults_old = O.faults out.old; faults_new = O.faults out.new })
+        (IsRunReport image.now trace.now well)) }
+    ensures failure { IfErr result (λ _. Breaks
+        (record { old = O.contents out.old; new = O.contents out.new; faults_old = O.faults out.old; faults_new = O.faults out.new })
+        (IsRunReport image.now trace.now well)) }
+{
+    match write_report(out, image, trace, board, watch)? {
+        RunEnding::Well => Ok(()),
+        RunEnding::AtFault => unreachable!(),
+    }
+}
+
+/// Puts the image of the source, and writes the report of its run on the trace. All memory but that of the put is taken before it.
+///
+/// # Errors
+/// `Refused` for the first text that is refused, `Memory` where memory was refused; no file is changed and nothing is written then.
+/// `Put` where the put failed, and the file of the image may hold anything or be absent. `Write` where a write failed behind it, and
+/// the output gained a proper prefix of the report.
+pub fn try_texts<'t, H: Shelf, O: Sink>(
+    alloc: Global,
+    names: (&'t str, &'t str, &'t str),
+    texts: (&'t [u8], &[u8]),
+    shelf: &mut H,
+    out: &mut O,
+) -> Result<(), Failure<'t>>
+    requires source { length texts.0.now ≤ 1048576 }
+    requires trace { length texts.1.now ≤ 1048576 }
+    ensures counts { NeverFall (H.counts shelf.old) (H.counts shelf.new) }
+    ensures faults { O.faults out.old ≤ O.faults out.new }
+    ensures whole { IfOk result (λ _. IsWhole (call.try_ names.entry.0.now names.entry.1.now names.entry.2.now) (texts.entry.0.now ∷ texts.entry.1.now ∷ []) well
+        (record { old = H.files shelf.old; new = H.files shelf.new; counts_old = H.counts shelf.old; counts_new = H.counts shelf.new })
+        (record { old = O.contents out.old; new = O.contents out.new; faults_old = O.faults out.old; faults_new = O.faults out.new })) }
+    ensures failure { IfErr result (λ e. FailsBy e (call.try_ names.entry.0.now names.entry.1.now names.entry.2.now) (texts.entry.0.now ∷ texts.entry.1.now ∷ [])
+        (record { old = H.files shelf.old; new = H.files shelf.new; counts_old = H.counts shelf.old; counts_new = H.counts shelf.new })
+        (record { old = O.contents out.old; new = O.contents out.new; faults_old = O.faults out.old; faults_new = O.faults out.new })) }
+{
+    let source = source_of(alloc, names.0, texts.0)?;
+    let trace = trace_of(alloc, names.1, texts.1)?;
+    let built = built_of(alloc, &source)?;
+    let Ok(mut board) = Board::new(alloc, &built.image, trace.readings()) else {
+        return Err(Failure::Memory);
+    };
+    let Ok(mut watch) = Watch::new(alloc, &built.image) else {
+        return Err(Failure::Memory);
+    };
+    run_is_told(&source, &built.image, &trace);
+    put_file(alloc, shelf, names.2, built.text.as_slice())?;
+    match write_trial(out, &built.image, &trace, &mut board, &mut watch) {
+        Ok(()) => Ok(()),
+        Err(Failed) => Err(Failure::Write),
+    }
+}
+
+fn try_of<H: Shelf, O: Sink, E: Sink>(
+    alloc: Global,
+    names: (&str, &str, &str),
+    texts: (&[u8], &[u8]),
+    shelf: &mut H,
+    out: &mut O,
+    err: &mut E,
+) -> Status
+    requires source { length texts.0.now ≤ 1048576 }
+    requires trace { length texts.1.now ≤ 1048576 }
+    ensures counts { NeverFall (H.counts shelf.old) (H.counts shelf.new) }
+    ensures out_faults { O.faults out.old ≤ O.faults out.new }
+    ensures err_faults { E.faults err.old ≤ E.faults err.new }
+    ensures answers { TextAnswers result (call.try_ names.entry.0.now names.entry.1.now names.entry.2.now) (texts.entry.0.now ∷ texts.entry.1.now ∷ [])
+        (record { old = H.files shelf.old; new = H.files shelf.new; counts_old = H.counts shelf.old; counts_new = H.counts shelf.new })
+        (record { old = O.contents out.old; new = O.contents out.new; faults_old = O.faults out.old; faults_new = O.faults out.new })
+        (record { old = E.contents err.old; new = E.contents err.new; faults_old = E.faults err.old; faults_new = E.faults err.new }) }
+{
+    match try_texts(alloc, names, texts, shelf, out) {
+        Ok(()) => Status::Done,
+        Err(failure) => answer_failure(err, failure),
+    }
+}
+
+/// The answer to `try SRC TRACE IMAGE`.
+pub fn answer_try<H: Shelf, O: Sink, E: Sink>(
+    alloc: Global,
+    names: (&str, &str, &str),
+    shelf: &mut H,
+    out: &mut O,
+    err: &mut E,
+) -> Status
+    ensures counts { NeverFall (H.counts shelf.old) (H.counts shelf.new) }
+    ensures out_faults { O.faults out.old ≤ O.faults out.new }
+    ensures err_faults { E.faults err.old ≤ E.faults err.new }
+    ensures answers { CommandAnswers result (call.try_ names.entry.0.now names.entry.1.now names.entry.2.now)
+        (record { old = H.files shelf.old; new = H.files shelf.new; counts_old = H.counts shelf.old; counts_new = H.counts shelf.new })
+        (record { old = O.contents out.old; new = O.contents out.new; faults_old = O.faults out.old; faults_new = O.faults out.new })
+        (record { old = E.contents err.old; new = E.contents err.new; faults_old = E.faults err.old; faults_new = E.faults err.new }) }
+{
+    match read_texts(alloc, shelf, names.0, names.1) {
+        Ok(texts) => try_of(
+            alloc,
+            names,
+            (texts.first.as_slice(), texts.second.as_slice()),
+            shelf,
+            out,
+            err,
+        ),
+        Err(unread) => answer_unread(err, unread),
+    }
+}

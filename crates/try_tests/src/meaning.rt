@@ -1,0 +1,107 @@
+//! A run's report beside the source's meaning: the lines of each transition are those that `mean` has for it on the readings that
+//! the run committed, in order.
+use crate::program::means;
+use alp_text::number;
+use std::alloc::Global;
+use std::test::Fail;
+use text_parts::{cut_line, next_field};
+
+// Field n of a line, from 0.
+fn field(line: &[u8], n: usize) -> Option<&[u8]> {
+    let mut rest = line;
+    for _ in 0..n {
+        let (_, behind) = next_field(rest)?;
+        rest = behind;
+    }
+    let (found, _) = next_field(rest)?;
+    Some(found)
+}
+
+// The readings of a line of a transition: from which position up to and without which.
+fn span(line: &[u8]) -> Option<(u64, u64)> {
+    if field(line, 0)? != b"t".as_slice() {
+        return None;
+    }
+    let from = number(field(line, 4)?).ok()?;
+    let to = number(field(line, 5)?).ok()?;
+    Some((from, to))
+}
+
+/// The lines of a text.
+pub fn lines_of(alloc: Global, text: &[u8]) -> Result<Vec<&[u8]>, Fail> {
+    let mut lines = Vec::new(alloc);
+    let mut rest = text;
+    for _ in 0..text.len() {
+        match cut_line(rest) {
+            Some((line, behind)) => {
+                lines.push(line)?;
+                rest = behind;
+            }
+            None => break,
+        }
+    }
+    Ok(lines)
+}
+
+// A trace of the readings that these lines' transitions took.
+fn committed(alloc: Global, lines: &[&[u8]], readings: &[u16]) -> Result<Vec<u8>, Fail> {
+    let mut trace = b"r".to_vec(alloc)?;
+    for line in lines {
+        if let Some((from, to)) = span(line) {
+            for i in from..to {
+                if let Some(reading) = readings.get(i as usize) {
+                    trace.extend_from_slice(format!(in alloc; " {reading}")?.as_bytes())?;
+                }
+            }
+        }
+    }
+    trace.push(b'\n')?;
+    Ok(trace)
+}
+
+// Whether two lines say the same: of transitions, the same number and tasks, and as many readings.
+fn same_line(line: &[u8], meant: &[u8]) -> bool {
+    match (span(line), span(meant)) {
+        (Some((from, to)), Some((a, b))) => {
+            to.checked_sub(from) == b.checked_sub(a)
+                && field(line, 1) == field(meant, 1)
+                && field(line, 2) == field(meant, 2)
+                && field(line, 3) == field(meant, 3)
+        }
+        (None, None) => line == meant,
+        _ => false,
+    }
+}
+
+/// Whether a report of a run, from its bound to its end, is the source's on the readings that its transitions took, and these lie in
+/// order and apart.
+pub fn is_meant(
+    alloc: Global,
+    source: &str,
+    report: &[u8],
+    readings: &[u16],
+) -> Result<bool, Fail> {
+    let lines = lines_of(alloc, report)?;
+    let meaning = means(alloc, source, &committed(alloc, &lines, readings)?)?;
+    let meant = lines_of(alloc, &meaning.out)?;
+    let mut last = 0;
+    let inner = lines.len().saturating_sub(2);
+    for (line, wanted) in lines.iter().skip(1).take(inner).zip(meant.iter()) {
+        if !same_line(line, wanted) {
+            return Ok(false);
+        }
+        if let Some((from, to)) = span(line) {
+            if from < last {
+                return Ok(false);
+            }
+            last = to;
+        }
+    }
+    Ok(lines.len() >= 2 && meant.len() > inner)
+}
+
+/// How many transitions a report tells of.
+pub fn transitions(alloc: Global, report: &[u8]) -> Result<usize, Fail> {
+    let lines = lines_of(alloc, report)?;
+    Ok(lines.iter().filter(|line| span(line).is_some()).count())
+}

@@ -1,0 +1,197 @@
+//! Rows worked by hand from the rules. Each is run with both fills.
+use crate::meaning::transitions;
+use crate::program::{Answer, run, tries};
+use crate::sources::{SUM, TWO};
+use std::alloc::Global;
+use std::process::Abort;
+use std::test::Fail;
+
+// `try` prints this, and ends well, with either fill in place of F.
+fn prints(
+    rt: &impl Abort,
+    alloc: Global,
+    source: &str,
+    trace: &str,
+    report: &str,
+) -> Result<(), Fail> {
+    for fill in ["0", "65535"] {
+        let answer = tries(alloc, source, &trace.replace(alloc, "F", fill)?)?;
+        assert_eq!(rt; answer.status.code(), 0);
+        assert_eq!(rt; answer.out.as_slice(), report.as_bytes());
+    }
+    Ok(())
+}
+
+#[test]
+fn one_private_scalar(rt: HostRuntime) -> Result<(), Fail> {
+    let source = "shared unsigned n = 0; task a { n = n + sense(); transition_to(a); } entry a;";
+    let report = "bound 772\nt 1 a a 0 1\nv n 5\nt 2 a a 1 2\nv n 12\nend readings 2 0 0\n";
+    prints(&rt, rt.alloc(), source, "c 1000000 F\nr 5 7\n", report)
+}
+
+#[test]
+fn bounds_are_printed(rt: HostRuntime) -> Result<(), Fail> {
+    let alloc = rt.alloc();
+    prints(&rt, alloc, SUM, "", "bound 912\nend charges 0 0 0\n")?;
+    let built = run(alloc, &["build", "s", "i"], &[("s", SUM.as_bytes())])?;
+    assert_eq!(rt; built.status.code(), 0);
+    assert_eq!(rt; built.out.as_slice(), b"bound 912\n".as_slice());
+    prints(
+        &rt,
+        alloc,
+        SUM,
+        "c 0 F\nr 5\n",
+        "bound 912\nend charges 0 0 0\n",
+    )
+}
+
+// The first lines of what `try` prints are these.
+fn begins(
+    rt: &impl Abort,
+    alloc: Global,
+    source: &str,
+    trace: &str,
+    lines: &str,
+) -> Result<(), Fail> {
+    let answer = tries(alloc, source, trace)?;
+    assert_eq!(rt; answer.status.code(), 0);
+    assert!(rt; answer.out.starts_with(lines.as_bytes()));
+    Ok(())
+}
+
+#[test]
+fn one_bound_pays_for_a_transition_and_three_for_three(rt: HostRuntime) -> Result<(), Fail> {
+    let alloc = rt.alloc();
+    begins(
+        &rt,
+        alloc,
+        SUM,
+        "c 912 0\nr 5\n",
+        "bound 912\nt 1 a a 0 1\no 5\nv n 5\n",
+    )?;
+    let readings = "r 1 2 3 4 5 6 7 8 9 10 11 12 13 14 15 16 17 18 19 20\n";
+    let answer = tries(alloc, SUM, &format!(in alloc; "c 2736 0\n{readings}")?)?;
+    assert!(rt; transitions(alloc, &answer.out)? >= 3);
+    Ok(())
+}
+
+#[test]
+fn values_of_words(rt: HostRuntime) -> Result<(), Fail> {
+    let alloc = rt.alloc();
+    let unsigned =
+        "shared unsigned a[8]; shared unsigned x; shared unsigned y; shared unsigned z = 9; \
+         task t { a[8] = 1; x = a[8] + 7 / 0; y = 7 % 0; z = 65535 + 1; transition_to(u); } \
+         task u { x = sense(); transition_to(u); } entry t;";
+    let answer = tries(alloc, unsigned, "c 100000 0\n")?;
+    assert!(rt;
+        ends_with(
+            &answer,
+            "t 1 t u 0 0\nv x 65535\nv y 7\nv z 0\nend readings 1 0 0\n"
+        )
+    );
+    let signed =
+        "shared int p = -3; shared unsigned a; shared unsigned b; shared unsigned c; shared unsigned d = 5; \
+         task t { a = p >> 1; b = p < 2; c = p / 2; d = p < 40000; transition_to(u); } \
+         task u { a = sense(); transition_to(u); } entry t;";
+    let answer = tries(alloc, signed, "c 100000 0\n")?;
+    assert!(rt;
+        ends_with(
+            &answer,
+            "t 1 t u 0 0\nv a 65534\nv b 1\nv c 32766\nv d 0\nend readings 1 0 0\n"
+        )
+    );
+    Ok(())
+}
+
+fn ends_with(answer: &Answer, lines: &str) -> bool {
+    answer.out.ends_with(lines.as_bytes())
+}
+
+// How many steps a charge has, so many at least, so that a run of this trace behind it begins with these lines; at most 400.
+fn steps_until(
+    alloc: Global,
+    source: &str,
+    least: u32,
+    behind: &str,
+    lines: &str,
+) -> Result<u32, Fail> {
+    for k in least..400 {
+        let answer = tries(alloc, source, &format!(in alloc; "s {k} 0\n{behind}")?)?;
+        if answer.out.starts_with(lines.as_bytes()) {
+            return Ok(k);
+        }
+    }
+    Ok(400)
+}
+
+// The reading that an attempt took before it was cut is gone.
+#[test]
+fn cut_right_after_a_take(rt: HostRuntime) -> Result<(), Fail> {
+    let alloc = rt.alloc();
+    let behind = "c 1000000 0\nr 5 7 9\n";
+    let k = steps_until(alloc, SUM, 0, behind, "bound 912\nt 1 a a 1 2\n")?;
+    assert!(rt; k > 0 && k < 400);
+    let trace = format!(in alloc; "s {k} F\nc 1000000 F\nr 5 7 9\n")?;
+    let report =
+        "bound 912\nt 1 a a 1 2\no 7\nv n 7\nt 2 a a 2 3\no 16\nv n 16\nend readings 2 2 0\n";
+    prints(&rt, alloc, SUM, &trace, report)
+}
+
+// One step more than to the store to BASE clears GATE; so the word is offered twice, and accepted once.
+#[test]
+fn cut_right_after_the_store_to_base(rt: HostRuntime) -> Result<(), Fail> {
+    let alloc = rt.alloc();
+    let done = steps_until(alloc, SUM, 0, "r 5\n", "bound 912\nt 1 ")?;
+    assert!(rt; done > 0 && done < 400);
+    let trace = format!(in alloc; "s {} F\nc 1000000 F\nr 5\n", done - 1)?;
+    let report = "bound 912\nt 1 a a 0 1\no 5\nv n 5\nend readings 1 1 1\n";
+    prints(&rt, alloc, SUM, &trace, report)
+}
+
+// Wherever the first charge ends, also between the two copies of the commit.
+#[test]
+fn two_private_scalars_cut_anywhere(rt: HostRuntime) -> Result<(), Fail> {
+    let alloc = rt.alloc();
+    for k in 0..=200 {
+        let trace = format!(in alloc; "s {k} F\nc 1000000 F\n")?;
+        let report = "bound 1044\nt 1 t u 0 0\nv x 1\nv y 2\nend readings 1 0 0\n";
+        prints(&rt, alloc, TWO, &trace, report)?;
+    }
+    Ok(())
+}
+
+// Cut where x has become 1 in its copy: the next attempt reads 3, and x stays.
+#[test]
+fn a_private_scalar_of_a_cut_attempt_is_gone(rt: HostRuntime) -> Result<(), Fail> {
+    let alloc = rt.alloc();
+    let source =
+        "shared unsigned v; shared unsigned x; task t { v = sense(); if (v > 9) { x = 1; } transition_to(u); } \
+         task u { x = sense(); transition_to(u); } entry t;";
+    let behind = "c 1000000 0\nr 20 3\n";
+    let taken = steps_until(alloc, source, 0, behind, "bound 1044\nt 1 t u 1 2\n")?;
+    let decided = steps_until(alloc, source, taken, behind, "bound 1044\nt 1 t u 0 1\n")?;
+    assert!(rt; taken > 0 && taken < decided && decided < 400);
+    let trace = format!(in alloc; "s {} F\nc 1000000 F\nr 20 3\n", decided - 1)?;
+    prints(
+        &rt,
+        alloc,
+        source,
+        &trace,
+        "bound 1044\nt 1 t u 1 2\nv v 3\nend readings 1 0 0\n",
+    )
+}
+
+// A bound that pays for one transition, behind 65540 charges that are cut while version words are cleared.
+#[test]
+fn many_charges_cut_in_the_clearing(rt: HostRuntime) -> Result<(), Fail> {
+    let source =
+        "shared unsigned a[64]; task t { unsigned i; for (i = 0; i < 64; i++) { a[0] = a[0] + 1; } transition_to(t); } entry t;";
+    let trace = "s 40 0 * 65540\nc 28188 0\n";
+    begins(
+        &rt,
+        rt.alloc(),
+        source,
+        trace,
+        "bound 28188\nt 1 t t 0 0\nv a 0 64\n",
+    )
+}
