@@ -10,9 +10,9 @@ ghost use Rattle.lower.specs.Lowered.{read_step, element_step, settled_program, 
 
 use crate::operations::{binary_operation, shift_operation, unary_operation};
 use crate::places::{TaskPlaces, array_place, local_number};
-use crate::types::{binary_type, joined_type, literal_type, unary_type};
 use array_versions::{UnaryOperation, WordProgram};
 use privatise::VariablePlace;
+use source_values::types::{binary_type, joined_type, literal_type, unary_type};
 use std::alloc::{AllocError, Global};
 use task_ast::{Expr, ShortCircuitOperator, Variable, VariableName, WordType};
 

@@ -12,6 +12,5 @@ mod lowering;
 mod operations;
 mod places;
 mod statements;
-mod types;
 
 pub use lowering::lower;

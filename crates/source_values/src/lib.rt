@@ -7,6 +7,7 @@ mod operators;
 mod run;
 mod scratch;
 mod statements;
+pub mod types;
 mod values;
 
 pub use laws::{readings_left_over, worked_rows};

@@ -2,60 +2,10 @@
 
 ghost use Rattle.std.specs.Prelude.{◌≡◌, ◌<◌};
 ghost use Rattle.alp_words.specs.Words.{bit};
-ghost use Rattle.source_values.specs.Values.{joined_type, binary_type, unary_type, literal_type, unary_value, is_less, binary_value, shifted_value, shift_value};
+ghost use Rattle.source_values.specs.Values.{unary_value, is_less, binary_value, shifted_value, shift_value};
 
 use alp_words::{div16, less_signed, mul16, rem16, sar16, shl16, shr16};
 use task_ast::{BinaryOperator, ShiftOperator, UnaryOperator, WordType};
-
-/// The type of an operation on operands of these types.
-pub fn joined_type(a: WordType, b: WordType) -> WordType
-    ensures { result ≡ joined_type a b }
-{
-    match a {
-        WordType::Int => b,
-        WordType::Unsigned => WordType::Unsigned,
-    }
-}
-
-/// The type of an operation by its operator and its operands' joined type.
-pub fn binary_type(op: BinaryOperator, a: WordType, b: WordType) -> WordType
-    ensures { result ≡ binary_type op a b }
-{
-    match op {
-        BinaryOperator::Divide | BinaryOperator::Remainder => WordType::Unsigned,
-        BinaryOperator::Less
-        | BinaryOperator::LessEqual
-        | BinaryOperator::Greater
-        | BinaryOperator::GreaterEqual
-        | BinaryOperator::Equal
-        | BinaryOperator::NotEqual => WordType::Int,
-        BinaryOperator::Multiply
-        | BinaryOperator::Add
-        | BinaryOperator::Subtract
-        | BinaryOperator::And
-        | BinaryOperator::Xor
-        | BinaryOperator::Or => joined_type(a, b),
-    }
-}
-
-pub fn unary_type(op: UnaryOperator, operand: WordType) -> WordType
-    ensures { result ≡ unary_type op operand }
-{
-    match op {
-        UnaryOperator::Negate | UnaryOperator::Complement => operand,
-        UnaryOperator::Not => WordType::Int,
-    }
-}
-
-pub fn literal_type(n: u16) -> WordType
-    ensures { result ≡ literal_type n }
-{
-    if n <= 32767 {
-        WordType::Int
-    } else {
-        WordType::Unsigned
-    }
-}
 
 pub fn unary_value(op: UnaryOperator, w: u16) -> u16
     ensures { result ≡ unary_value op w }

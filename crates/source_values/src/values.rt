@@ -7,10 +7,9 @@ ghost use Rattle.alp_words.specs.Words.{bit};
 ghost use Rattle.source_values.specs.Values.{type_of, value_of, next_reading, holds, is_settled};
 ghost use Rattle.source_values.specs.View.{variables_of};
 
-use crate::operators::{
-    binary_type, binary_value, joined_type, literal_type, shift_value, unary_type, unary_value,
-};
+use crate::operators::{binary_value, shift_value, unary_value};
 use crate::scratch::Scratch;
+use crate::types::{binary_type, joined_type, literal_type, unary_type};
 use task_ast::{Expr, ShortCircuitOperator, VariableName, WordType};
 
 /// A value with its type, and the readings that are left behind it.

@@ -1,4 +1,5 @@
 //! The types of expressions, by their parts' types.
+
 ghost use Rattle.std.specs.Prelude.{◌≡◌};
 ghost use Rattle.source_values.specs.Values.{joined_type, binary_type, unary_type, literal_type};
 
