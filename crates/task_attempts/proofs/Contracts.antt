@@ -29,7 +29,7 @@ use Rattle.task_attempts.proofs.Given.{IsGiven}
 use Rattle.compiled_model.specs.Needs.{LeavesFor}
 use Rattle.task_attempts.specs.Laws.{IsBelowCode}
 use Rattle.task_attempts.proofs.Rows.{HasRows, block_rows}
-use Rattle.task_attempts.proofs.Emits.{emits_same}
+use Rattle.source_meaning.proofs.Emits.{emits_same}
 use Rattle.task_attempts.proofs.StoredWords.{StoresWords, stores}
 use Rattle.task_attempts.proofs.Quiet.{stores_each, stores_as, quiet_through}
 use Rattle.task_attempts.proofs.Tasks.{IsAt, places, body, room, task_given, body_is, program_is}

@@ -1,6 +1,5 @@
 pub mod Given
 pub mod Rows
-pub mod Emits
 pub mod StoredWords
 pub mod Quiet
 pub mod Entries
