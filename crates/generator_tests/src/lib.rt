@@ -27,4 +27,11 @@ mod tests {
         assert!(rt; bound_of(rt.alloc(), 0).is_some());
         assert!(rt; bound_of(rt.alloc(), 4294967295).is_some());
     }
+    #[test]
+    fn numbers_all_over_give_accepted_sources(rt: HostRuntime) {
+        for k in 1..64u32 {
+            let number = k.wrapping_mul(67108863);
+            assert!(rt; bound_of(rt.alloc(), number).is_some());
+        }
+    }
 }
