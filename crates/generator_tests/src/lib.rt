@@ -27,6 +27,7 @@ mod tests {
         assert!(rt; bound_of(rt.alloc(), 0).is_some());
         assert!(rt; bound_of(rt.alloc(), 4294967295).is_some());
     }
+
     #[test]
     fn numbers_all_over_give_accepted_sources(rt: HostRuntime) {
         for k in 1..64u32 {
