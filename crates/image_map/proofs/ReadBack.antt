@@ -19,13 +19,14 @@ use Rattle.image_map.specs.declared.parts.ValueType.{ValueType}
 use Rattle.image_map.specs.declared.parts.ValueType.TheVariants as value_type
 use Rattle.image_map.specs.declared.parts.Variable.{Variable}
 use Rattle.image_map.specs.Names.{is_name, is_letter, is_name_byte, name_of}
-use Rattle.image_map.specs.MapValue.{MapValue, TaskValue, IsMap, IsFramWord, AreFramWords, IsPlace, IsVariable, is_fram_word, fits, is_among, variable_names, task_names, are_different, are_scalars, is_scalar_of, last_privates, follow, onto_last, takes_variable, takes_task, takes_private, with_private}
+use Rattle.image_map.specs.MapValue.{MapValue, TaskValue, IsMap, IsFramWord, AreFramWords, IsPlace, IsVariable, is_fram_word, fits, are_scalars, takes_variable, takes_task, takes_private, with_private}
 use Rattle.image_map.specs.Line.{single_from, line_fields, address_digit, address_of, fram_word, decimal_below, limited, type_of, bound_of, words_of, place_of, start_of}
 use Rattle.image_map.specs.Reading.{◌>>=◌, take_line, head, step, body, put_variable, put_task, put_private}
 use Rattle.image_map.specs.Named.{AreTaskNames}
 use Rattle.image_map.specs.ReadsBack.{ReadsBack}
 use Rattle.image_map.specs.Text.{address_text, runtime_fields, place_fields, type_text, sized_fields, variable_fields, private_fields, tasks_fields, head_fields, map_fields}
 use Rattle.image_map.proofs.Bodies.{body_next, body_done}
+use Rattle.image_map.proofs.Taking.{both, append_nil, fram_test, variables_alone, tasks_alone, task_with, middle, takes_next_variable, takes_next_task, takes_next_private, last_of, onto_of}
 
 -- fields as words of a line
 
@@ -46,10 +47,6 @@ upper_inked d h = grind (arith, nat_tests)
 address_word : (a : ℕ) (ws : List (List ℕ)) → a < 65536 → AreWords ws → AreWords (address_text a ∷ ws)
 unfolding address_text upper_hex
 address_word a ws h l = (upper_inked (a / 256 / 16) (omega arith), (upper_inked (a / 256 % 16) (omega arith), (upper_inked (a % 256 / 16) (omega arith), (upper_inked (a % 256 % 16) (omega arith), tt))), l)
-
-both : (a b : Bool) → (a && b) ≡ true → (a ≡ true) × (b ≡ true)
-both true b h = (refl, h)
-both false b h = cc
 
 name_byte_inked : (b : ℕ) → is_name_byte b ≡ true → 36 < b
 unfolding is_letter
@@ -85,10 +82,6 @@ single_space : (rest : List ℕ) → single_from false (32 ∷ rest) ≡ single_
 unfolding is_blank
 single_space rest = refl
 
-append_nil : {A : Type 0} (xs : List A) → xs ++ [] ≡ xs
-append_nil [] = refl
-append_nil (x ∷ xs) = ap (λ r. x ∷ r) (append_nil xs)
-
 single_spaced : (w : List ℕ) (ws : List (List ℕ)) → AreWords (w ∷ ws) → single_from true (spaced (w ∷ ws)) ≡ true
 single_spaced [] ws h = absurd h
 single_spaced (b ∷ bs) [] h = ap (λ r. single_from true (b ∷ r)) (sym (append_nil bs)) ∙ single_word true b bs [] h.0 h.1
@@ -103,14 +96,6 @@ line_back w ws h = rw (single_spaced w ws h) (fields_spaced (w ∷ ws) h)
 digit_back : (d : ℕ) → d < 16 → address_digit (upper_digit d) ≡ Some d
 unfolding address_digit
 digit_back d h = grind (arith, nat_tests)
-
-fram_test : (a : ℕ) → IsFramWord a → is_fram_word a ≡ true
-fram_test a h =
-    let l = h.low in
-    let e = h.even in
-    let low : nat_le 17408 a ≡ true = grind (arith, nat_tests) in
-    let even : (a % 2 == 0) ≡ true = grind (arith, nat_tests) in
-    rw (low, even) refl
 
 fram_back : (a b : ℕ) → a ≡ b → IsFramWord a → fram_word b ≡ Some a
 fram_back a b e h = ap fram_word (sym e) ∙ ap (λ t. if t then Some a else None) (fram_test a h)
@@ -210,107 +195,9 @@ head_back m n more h =
 
 -- which lines the rules allow
 
-neither : (a b : Bool) → not (a || b) ≡ true → (not a ≡ true) × (not b ≡ true)
-neither true b h = cc
-neither false b h = (refl, h)
-
-not_or : (a b : Bool) → not a ≡ true → not b ≡ true → not (a || b) ≡ true
-not_or true b h k = cc
-not_or false b h k = k
-
 and : (a b : Bool) → a ≡ true → b ≡ true → (a && b) ≡ true
 and true b h k = k
 and false b h k = cc
-
-among_split : (name : List ℕ) (ns ms : List (List ℕ)) → not (is_among name (ns ++ ms)) ≡ true → (not (is_among name ns) ≡ true) × (not (is_among name ms) ≡ true)
-among_split name [] ms h = (refl, h)
-among_split name (n ∷ ns) ms h =
-    let p = neither (bytes_eq n name) (is_among name (ns ++ ms)) h in
-    let q = among_split name ns ms p.1 in
-    (not_or (bytes_eq n name) (is_among name ns) p.0 q.0, q.1)
-
--- a name in the middle differs from all before it
-different_there : (before ns : List (List ℕ)) (n : List ℕ) (more : List (List ℕ)) → are_different before (ns ++ n ∷ more) ≡ true → not (is_among n (before ++ ns)) ≡ true
-different_there before [] n more h = ap (λ b. not (is_among n b)) (append_nil before) ∙ (both (not (is_among n before)) (are_different (before ++ n ∷ []) more) h).0
-different_there before (x ∷ ns) n more h =
-    ap (λ b. not (is_among n b)) (sym (append_assoc before (x ∷ []) ns))
-    ∙ different_there (before ++ x ∷ []) ns n more (both (not (is_among x before)) (are_different (before ++ x ∷ []) (ns ++ n ∷ more)) h).1
-
-map_append : {A B : Type 0} (f : A → B) (xs ys : List A) → map f (xs ++ ys) ≡ map f xs ++ map f ys
-map_append f [] ys = refl
-map_append f (x ∷ xs) ys = ap (λ r. f x ∷ r) (map_append f xs ys)
-
--- a map with these variables alone
-abbrev with_variables : MapValue → List Variable → MapValue
-with_variables m vs = record m { variables = vs; tasks = [] }
-
-middle : {A : Type 0} (P : A → Type 0) (done rest : List A) (x : A) → All P (done ++ x ∷ rest) → P x
-middle P [] rest x h = h 0 x (omega arith)
-middle P (d ∷ done) rest x h = middle P done rest x (λ i e l. h (suc i) e (omega arith))
-
-takes_next_variable : (m : MapValue) (done rest : List Variable) (v : Variable) → m.variables ≡ done ++ v ∷ rest → IsMap m → takes_variable (with_variables m done) v ≡ true
-unfolding takes_variable
-takes_next_variable m done rest v e h =
-    let P : List Variable → Type 0 = λ vs. All IsVariable vs in
-    let is = middle IsVariable done rest v (subst P e h.variables) in
-    let len : length m.variables ≡ length done + suc (length rest) = ap length e ∙ length-append done (v ∷ rest) in
-    let few = h.few_variables in
-    let room : nat_lt (length done) 256 ≡ true = grind (arith, nat_tests) in
-    let names : variable_names m.variables ++ task_names m.tasks ≡ variable_names done ++ v.name ∷ (variable_names rest ++ task_names m.tasks) =
-    ap (λ vs. variable_names vs ++ task_names m.tasks) e ∙ ap (λ ns. ns ++ task_names m.tasks) (map_append (λ v. v.name) done (v ∷ rest))
-    ∙ append_assoc (variable_names done) (v.name ∷ variable_names rest) (task_names m.tasks) in
-    let fresh = different_there [] (variable_names done) v.name (variable_names rest ++ task_names m.tasks) (sym (ap (are_different []) names) ∙ h.different) in
-    rw (room, fram_test v.address is.address, is.fits) (not_or (is_among v.name (variable_names done)) false fresh refl)
-
--- a map with these tasks alone
-abbrev with_tasks : MapValue → List TaskValue → MapValue
-with_tasks m ts = record m { tasks = ts }
-
-takes_next_task : (m : MapValue) (done rest : List TaskValue) (t : TaskValue) → m.tasks ≡ done ++ t ∷ rest → IsMap m → takes_task (with_tasks m done) t.name ≡ true
-unfolding takes_task
-takes_next_task m done rest t e h =
-    let len : length m.tasks ≡ length done + suc (length rest) = ap length e ∙ length-append done (t ∷ rest) in
-    let few = h.few_tasks in
-    let room : nat_lt (length done) 64 ≡ true = grind (arith, nat_tests) in
-    let vs : List (List ℕ) = variable_names m.variables in
-    let names : vs ++ task_names m.tasks ≡ (vs ++ task_names done) ++ t.name ∷ task_names rest =
-    ap (λ ts. vs ++ task_names ts) e ∙ ap (λ r. vs ++ r) (map_append (λ t. t.name) done (t ∷ rest)) ∙ sym (append_assoc vs (task_names done) (t.name ∷ task_names rest)) in
-    let fresh = different_there [] (vs ++ task_names done) t.name (task_names rest) (sym (ap (are_different []) names) ∙ h.different) in
-    let p = among_split t.name vs (task_names done) fresh in
-    rw room (not_or (is_among t.name vs) (is_among t.name (task_names done)) p.0 p.1)
-
--- the first names are scalars in order where all are
-scalars_by : (t : Bool) (vs : List Variable) (n : List ℕ) (ns more : List (List ℕ)) → (are_scalars (ns ++ more) vs ≡ true → are_scalars ns vs ≡ true)
-    → (are_scalars (n ∷ (ns ++ more)) vs ≡ true → are_scalars (n ∷ ns) vs ≡ true)
-    → are_scalars (if t then ns ++ more else n ∷ (ns ++ more)) vs ≡ true → are_scalars (if t then ns else n ∷ ns) vs ≡ true
-scalars_by true vs n ns more f g h = f h
-scalars_by false vs n ns more f g h = g h
-
-scalars_front : (vs : List Variable) (ns more : List (List ℕ)) → are_scalars (ns ++ more) vs ≡ true → are_scalars ns vs ≡ true
-scalars_front vs [] more h = refl
-scalars_front [] (n ∷ ns) more h = h
-scalars_front (v ∷ vs) (n ∷ ns) more h = scalars_by (is_scalar_of n v) vs n ns more (scalars_front vs ns more) (scalars_front vs (n ∷ ns) more) h
-
-last_of : (done : List TaskValue) (t : TaskValue) → last_privates (done ++ t ∷ []) ≡ Some t.privates
-last_of [] t = refl
-last_of (d ∷ []) t = refl
-last_of (d ∷ e ∷ done) t = last_of (e ∷ done) t
-
-onto_of : (done : List TaskValue) (t : TaskValue) (n : List ℕ) → onto_last n (done ++ t ∷ []) ≡ done ++ record t { privates = t.privates ++ n ∷ [] } ∷ []
-onto_of [] t n = refl
-onto_of (d ∷ []) t n = refl
-onto_of (d ∷ e ∷ done) t n = ap (λ r. d ∷ r) (onto_of (e ∷ done) t n)
-
--- a task of this name with these private scalars
-abbrev task_with : List ℕ → List (List ℕ) → TaskValue
-task_with name ns = record { name = name; privates = ns }
-
-takes_next_private : (m : MapValue) (done : List TaskValue) (name : List ℕ) (ns rest : List (List ℕ)) (n : List ℕ) → are_scalars (ns ++ n ∷ rest) m.variables ≡ true
-    → takes_private (with_tasks m (done ++ task_with name ns ∷ [])) n ≡ true
-unfolding takes_private
-takes_next_private m done name ns rest n h =
-    ap (λ o. follow o n m.variables) (last_of done (task_with name ns))
-    ∙ scalars_front m.variables (ns ++ n ∷ []) rest (ap (λ ns. are_scalars ns m.variables) (append_assoc ns (n ∷ []) rest) ∙ h)
 
 -- the lines of variables and tasks
 
@@ -335,8 +222,8 @@ put_by i true m h = refl
 put_by i false m h = cc
 
 read_variables : (m : MapValue) → IsMap m → All (λ v. is_name v.name ≡ true) m.variables → (i : ℕ) (done rest : List Variable) (more : List (List (List ℕ))) → m.variables ≡ done ++ rest
-    → (k : ℕ) × (body i (with_variables m done) (lines (printed (map variable_fields rest ++ more))) ≡ body k (with_variables m m.variables) (lines (printed more)))
-read_variables m h names i done [] more e = (i, ap (λ vs. body i (with_variables m vs) (lines (printed more))) (sym (append_nil done) ∙ sym e))
+    → (k : ℕ) × (body i (variables_alone m done) (lines (printed (map variable_fields rest ++ more))) ≡ body k (variables_alone m m.variables) (lines (printed more)))
+read_variables m h names i done [] more e = (i, ap (λ vs. body i (variables_alone m vs) (lines (printed more))) (sym (append_nil done) ∙ sym e))
 read_variables m h names i done (v ∷ rest) more e =
     let P : List Variable → Type 0 = λ vs. All IsVariable vs in
     let Q : List Variable → Type 0 = λ vs. All (λ v. is_name v.name ≡ true) vs in
@@ -344,10 +231,10 @@ read_variables m h names i done (v ∷ rest) more e =
     let named = middle (λ v. is_name v.name ≡ true) done rest v (subst Q e names) in
     let ls : List (List (List ℕ)) = map variable_fields rest ++ more in
     let words : AreWords (variable_fields v) = sized_words v.length v.name v.value_type v.address is.address named is.fits in
-    let one = body_next i (with_variables m done) (with_variables m (done ++ v ∷ [])) _ _ _ true (lines_printed (variable_fields v) ls words)
-    (line_step i (with_variables m done) (variable_fields v) words (some_first v.length v.name v.value_type v.address)
-    ∙ variable_step v.length i (with_variables m done) v.name v.value_type v.address is.address named is.fits
-    ∙ put_by i (takes_variable (with_variables m done) v) (with_variables m (done ++ v ∷ [])) (takes_next_variable m done rest v e h)) refl in
+    let one = body_next i (variables_alone m done) (variables_alone m (done ++ v ∷ [])) _ _ _ true (lines_printed (variable_fields v) ls words)
+    (line_step i (variables_alone m done) (variable_fields v) words (some_first v.length v.name v.value_type v.address)
+    ∙ variable_step v.length i (variables_alone m done) v.name v.value_type v.address is.address named is.fits
+    ∙ put_by i (takes_variable (variables_alone m done) v) (variables_alone m (done ++ v ∷ [])) (takes_next_variable m done rest v e h)) refl in
     let later = read_variables m h names (i + 1) (done ++ v ∷ []) rest more (e ∙ sym (append_assoc done (v ∷ []) rest)) in
     (later.0, sym one ∙ later.1)
   where
@@ -361,32 +248,32 @@ read_variables m h names i done (v ∷ rest) more e =
 
 read_privates : (m : MapValue) (done : List TaskValue) (name : List ℕ) (i : ℕ) (ns rest : List (List ℕ)) (more : List (List (List ℕ))) → are_scalars (ns ++ rest) m.variables ≡ true
     → All (λ n. is_name n ≡ true) rest
-    → (k : ℕ) × (body i (with_tasks m (done ++ task_with name ns ∷ [])) (lines (printed (map private_fields rest ++ more)))
-    ≡ body k (with_tasks m (done ++ task_with name (ns ++ rest) ∷ [])) (lines (printed more)))
-read_privates m done name i ns [] more h names = (i, ap (λ ns. body i (with_tasks m (done ++ task_with name ns ∷ [])) (lines (printed more))) (sym (append_nil ns)))
+    → (k : ℕ) × (body i (tasks_alone m (done ++ task_with name ns ∷ [])) (lines (printed (map private_fields rest ++ more)))
+    ≡ body k (tasks_alone m (done ++ task_with name (ns ++ rest) ∷ [])) (lines (printed more)))
+read_privates m done name i ns [] more h names = (i, ap (λ ns. body i (tasks_alone m (done ++ task_with name ns ∷ [])) (lines (printed more))) (sym (append_nil ns)))
 read_privates m done name i ns (n ∷ rest) more h names =
     let named : is_name n ≡ true = names 0 n (omega arith) in
-    let now : MapValue = with_tasks m (done ++ task_with name ns ∷ []) in
-    let next : MapValue = with_tasks m (done ++ task_with name (ns ++ n ∷ []) ∷ []) in
+    let now : MapValue = tasks_alone m (done ++ task_with name ns ∷ []) in
+    let next : MapValue = tasks_alone m (done ++ task_with name (ns ++ n ∷ []) ∷ []) in
     let words : AreWords (private_fields n) = (omega arith, omega arith, name_word n [] named tt) in
     let said : step i now (private_fields n) ≡ put_private i now (Some n) = rw (name_back n named) refl in
     let one = body_next i now next _ _ _ true (lines_printed (private_fields n) (map private_fields rest ++ more) words)
     (ap (step i now) (line_back (codes "private") (n ∷ []) words) ∙ said
     ∙ put_by i (takes_private now n) (with_private now n) (takes_next_private m done name ns rest n h)
-    ∙ ap (λ ts. Ok (true, with_tasks m ts)) (onto_of done (task_with name ns) n)) refl in
+    ∙ ap (λ ts. Ok (true, tasks_alone m ts)) (onto_of done (task_with name ns) n)) refl in
     let later = read_privates m done name (i + 1) (ns ++ n ∷ []) rest more (ap (λ ns. are_scalars ns m.variables) (append_assoc ns (n ∷ []) rest) ∙ h) (λ j d l. names (suc j) d (omega arith)) in
-    (later.0, sym one ∙ later.1 ∙ ap (λ ns. body later.0 (with_tasks m (done ++ task_with name ns ∷ [])) (lines (printed more))) (append_assoc ns (n ∷ []) rest))
+    (later.0, sym one ∙ later.1 ∙ ap (λ ns. body later.0 (tasks_alone m (done ++ task_with name ns ∷ [])) (lines (printed more))) (append_assoc ns (n ∷ []) rest))
 
 read_tasks : (m : MapValue) → IsMap m → All AreTaskNames m.tasks → (i : ℕ) (done rest : List TaskValue) (more : List (List (List ℕ))) → m.tasks ≡ done ++ rest
-    → (k : ℕ) × (body i (with_tasks m done) (lines (printed (tasks_fields rest ++ more))) ≡ body k m (lines (printed more)))
-read_tasks m h names i done [] more e = (i, ap (λ ts. body i (with_tasks m ts) (lines (printed more))) (sym (append_nil done) ∙ sym e))
+    → (k : ℕ) × (body i (tasks_alone m done) (lines (printed (tasks_fields rest ++ more))) ≡ body k m (lines (printed more)))
+read_tasks m h names i done [] more e = (i, ap (λ ts. body i (tasks_alone m ts) (lines (printed more))) (sym (append_nil done) ∙ sym e))
 read_tasks m h names i done (t ∷ rest) more e =
     let P : List TaskValue → Type 0 = λ ts. All AreTaskNames ts in
     let Q : List TaskValue → Type 0 = λ ts. All (λ t. are_scalars t.privates m.variables ≡ true) ts in
     let named = middle AreTaskNames done rest t (subst P e names) in
     let scalars = middle (λ t. are_scalars t.privates m.variables ≡ true) done rest t (subst Q e h.privates) in
-    let now : MapValue = with_tasks m done in
-    let next : MapValue = with_tasks m (done ++ task_with t.name [] ∷ []) in
+    let now : MapValue = tasks_alone m done in
+    let next : MapValue = tasks_alone m (done ++ task_with t.name [] ∷ []) in
     let privates : List (List (List ℕ)) = map private_fields t.privates in
     let ls : List (List (List ℕ)) = privates ++ (tasks_fields rest ++ more) in
     let line : List (List ℕ) = codes "task" ∷ t.name ∷ [] in
