@@ -1,5 +1,5 @@
 -- Appends, one behind another.
-use Rattle.std.proofs.Common.{◌≡◌, ◌≤◌, ◌<◌, ℕ, ◌+◌, ◌-◌, List, [], ◌∷◌, ◌++◌, length, take, drop, arith, Option, Some, None, append_assoc, ◌∙◌, ap, sym, length-append, length-drop, drop-cons, get_or, flat_map, Bor, Result, Ok, Err, IsErr, subst}
+use Rattle.std.proofs.Common.{◌≡◌, ◌≤◌, ◌<◌, ℕ, ◌+◌, ◌-◌, List, [], ◌++◌, length, take, drop, arith, Option, Some, None, append_assoc, ◌∙◌, ap, sym, length-append, length-drop, get_or, flat_map, Bor, Result, Ok, Err, IsErr, OnOk, subst}
 use Rattle.std.proofs.lemmas.List.{take-append-le, take_rest, take-append-drop}
 use Rattle.std.proofs.lemmas.Grind.{common_steps, flat_map-append}
 use Rattle.std.proofs.Math.Seq.{take-append-add, take-add}
@@ -54,19 +54,21 @@ appends_next old mid new piece at n inside fits p q =
     let fits2 : n ≤ length (drop at piece) = rw whole at fits in
     (omega (arith, length-drop at piece), rw (take-add at n piece) (appends_more old mid new (take at piece) (take n (drop at piece)) p more))
 
+-- pieces one behind the other, and those up to the next one
+pub pieces_next : (pieces : List (Bor (List ℕ))) (i : ℕ) (d : Bor (List ℕ)) → i < length pieces
+    → flat_map (λ p. p.now) (take (i + 1) pieces) ≡ flat_map (λ p. p.now) (take i pieces) ++ (get_or pieces i d).now
+pieces_next pieces i d inside = grind (arith, common_steps)
+
 -- a failure within one of the pieces
-pub pieces_part : (old mid new : Option (List ℕ)) (pieces : List (Bor (List ℕ))) (i : ℕ) (d : Bor (List ℕ)) → i < length pieces
-    → Appends old mid (flat_map (λ p. p.now) (take i pieces)) → AppendsProperPrefix mid new (get_or pieces i d).now
-    → AppendsProperPrefix old new (flat_map (λ p. p.now) pieces)
-pieces_part old mid new pieces i d inside p q =
-    let piece : Bor (List ℕ) = get_or pieces i d in
+pub pieces_part : (old new : Option (List ℕ)) (pieces : List (Bor (List ℕ))) (i : ℕ) (d : Bor (List ℕ)) → i < length pieces
+    → AppendsProperPrefix old new (flat_map (λ p. p.now) (take i pieces) ++ (get_or pieces i d).now) → AppendsProperPrefix old new (flat_map (λ p. p.now) pieces)
+pieces_part old new pieces i d inside q =
     let f : Bor (List ℕ) → List ℕ = λ p. p.now in
-    let rest : drop i pieces ≡ piece ∷ drop (i + 1) pieces = grind (arith, drop-cons pieces i d) in
-    let whole : pieces ≡ take i pieces ++ drop i pieces = sym (take-append-drop i pieces) in
-    let split : flat_map f pieces ≡ flat_map f (take i pieces) ++ (piece.now ++ flat_map f (drop (i + 1) pieces)) =
-    ap (flat_map f) whole ∙ flat_map-append f (take i pieces) (drop i pieces) ∙ ap (λ x. flat_map f (take i pieces) ++ flat_map f x) rest in
+    let front : AppendsProperPrefix old new (flat_map f (take (i + 1) pieces)) = rw (pieces_next pieces i d inside) q in
+    let whole : flat_map f pieces ≡ flat_map f (take (i + 1) pieces) ++ flat_map f (drop (i + 1) pieces) =
+    ap (flat_map f) (sym (take-append-drop (i + 1) pieces)) ∙ flat_map-append f (take (i + 1) pieces) (drop (i + 1) pieces) in
     let P : List ℕ → Type 0 = λ t. AppendsProperPrefix old new t in
-    subst P (sym split) (part_of_second old mid new _ _ p (part_of_first mid new piece.now _ q))
+    subst P (sym whole) (part_of_first old new _ _ front)
 
 -- what a failed call says where its error is handed on
 pub writes_err : {T E : Type 0} (old new : Option (List ℕ)) (result : Result T E) (text : List ℕ) → IsErr result → AppendsProperPrefix old new text → Writes old new result text
@@ -77,3 +79,9 @@ writes_err old new (Err x) text e p = record { whole = tt; part = p }
 pub writes_then : {T E : Type 0} (old mid new : Option (List ℕ)) (result : Result T E) (a b : List ℕ) → Appends old mid a → Writes mid new result b → Writes old new result (a ++ b)
 writes_then old mid new (Ok x) a b p q = record { whole = appends_more old mid new a b p q.whole; part = tt }
 writes_then old mid new (Err x) a b p q = record { whole = tt; part = part_of_second old mid new a b p q.part }
+
+-- two texts of which all but a rest was written
+pub writes_all_but : {T E : Type 0} (old mid new : Option (List ℕ)) (result : Result T E) (a b rest : List ℕ) → rest ≡ [] → Appends old mid a → Writes mid new result b
+    → OnOk result ((done : List ℕ) × Appends old new done × (done ++ rest ≡ a ++ b))
+writes_all_but old mid new (Ok x) a b rest none p q = (a ++ b, appends_more old mid new a b p q.whole, rw none (append-nil (a ++ b)))
+writes_all_but old mid new (Err x) a b rest none p q = tt

@@ -1,10 +1,12 @@
 //! What no clause says: that calls succeed with ample memory, and what files and writers of the system give.
+use crate::file_reads::read_within;
 use crate::{
     DirShelf, MemShelf, MemSink, NullSink, PutFault, ReadFault, Reason, Report, Shelf, Sink,
     StdSink, write_all,
 };
-use std::fs;
+use std::io::Read;
 use std::test::Fail;
+use std::{fs, io};
 
 #[test]
 fn writes_the_lines_of_a_report(rt: HostRuntime) -> Result<(), Fail> {
@@ -77,6 +79,7 @@ fn reads_files_of_the_system(rt: HostRuntime) -> Result<(), Fail> {
     let alloc = rt.alloc();
     let name = "alp_io_shelf_test.txt";
     let mut shelf = DirShelf::new(rt);
+    shelf.put(alloc, name, b"an old file")?;
     shelf.put(alloc, name, b"12345")?;
     let mut into = Vec::new(rt.alloc());
     shelf.read(alloc, name, 5, &mut into)?;
@@ -101,6 +104,36 @@ fn reads_files_of_the_system(rt: HostRuntime) -> Result<(), Fail> {
         shelf.put(alloc, "no_such_folder/file", b""),
         Err(PutFault::Failed)
     );
+    Ok(())
+}
+
+// A reader whose reads are short.
+#[derive(Drop)]
+struct ThreeAtATime<'a> {
+    rest: &'a [u8],
+}
+
+impl<'a> Read for ThreeAtATime<'a> {
+    fn read(&mut self, buf: &mut [u8]) -> io::Result<usize> {
+        let most = buf.len().min(3);
+        self.rest.read(&mut buf[..most])
+    }
+}
+
+#[test]
+fn takes_a_byte_past_the_limit_at_most(rt: HostRuntime) -> Result<(), Fail> {
+    let mut file = ThreeAtATime {
+        rest: b"0123456789",
+    };
+    let mut into = Vec::new(rt.alloc());
+    assert_eq!(rt;
+        read_within(&mut file, 4, &mut into),
+        Err(ReadFault::TooLong)
+    );
+    assert_eq!(rt; file.rest, b"56789".as_slice());
+    let mut into = Vec::new(rt.alloc());
+    read_within(&mut file, 5, &mut into)?;
+    assert_eq!(rt; into.as_slice(), b"56789".as_slice());
     Ok(())
 }
 
