@@ -6,7 +6,7 @@ use Rattle.std.specs.Str.{IsUtf8, bytes_eq}
 use Rattle.std.specs.Str.Parse.{digits_value, without_leading_sign}
 use Rattle.clap.specs.ValueTests.{is_signed_in}
 use Rattle.clap.specs.Simple.{new_shape}
-use Rattle.clap.specs.Words.{App, Rule, Shape, Text, app_of, fault_of, new_rule}
+use Rattle.clap.specs.Words.{App, Rule, Shape, Text, app_of, fault_of, new_app, new_rule}
 use Rattle.clap.specs.declared.builder.command.Command.{Command}
 use Rattle.clap.specs.declared.builder.command.Command.TheViews.{out-Command as fields_of}
 use Rattle.clap.specs.declared.builder.value_parser.ValueParser.{ValueParser}
@@ -51,6 +51,12 @@ subcommand_shape s = record (new_shape s.name) { rules = map file_rule s.files }
 abbrev pub subcommand_app : Subcommand → App
 subcommand_app s = record { top = subcommand_shape s; subs = [] }
 
+-- the program's command line with no command yet
+unfoldable pub bare_app : App
+bare_app = record (new_app (codes "alpaca")) {
+  top = record (new_shape (codes "alpaca")) { no_binary_name = true; disable_help_flag = true; disable_help_subcommand = true; subcommand_required = true };
+}
+
 -- the program's command line as `clap` sees it: one of the commands has to be named, and there are
 -- no help flag and no help command
 unfoldable pub alpaca_app : App
@@ -68,6 +74,10 @@ alpaca_app = record {
 -- the words are a command line of the program: `clap`'s rules give no fault for them
 abbrev pub IsLine : List Text → Type 0
 IsLine words = fault_of alpaca_app words ≡ []
+
+-- it has an argument that its subcommands share
+abbrev pub has_globals : Command → Bool
+has_globals c = (fields_of c).has_globals
 
 -- a command that clap has not built yet, and what it reads of it
 pub record IsCommand (a : App) (c : Command) : Type 0 where

@@ -3,18 +3,21 @@
 
 ghost use Rattle.std.specs.Prelude.{◌≡◌, ◌↔◌, ◌∷◌, [], IfOk, IsErrOf, Some, List, false, map, option_map, string_bytes, decimal};
 ghost use Rattle.std.specs.List.{list_any};
-ghost use Rattle.clap.specs.Words.{Text, found_of, rows_of, rule_of, subcommand_of, subcommand_rows_of};
+ghost use Rattle.clap.specs.Words.{Text, app_of, found_of, rows_of, rule_of, subcommand_of, subcommand_rows_of, with_subcommand};
 ghost use Rattle.command_line.specs.CommandLine.{
   AreTexts,
   IsCommand,
   IsLine,
   alpaca_app,
+  bare_app,
   begins_with_hyphen,
   file_rule,
+  has_globals,
   line_of,
   number_said,
   plain_line_of,
   subcommand_app,
+  subcommand_shape,
 };
 ghost use Rattle.command_line.specs.Commands.{IsPlainLine, NamesCommand, line_found, plain_line, values_of};
 
@@ -247,75 +250,97 @@ fn file_command<'a>(
     Ok(command)
 }
 
-/// The command `name` with one file.
+/// `command` with the command `name` added to it, which has these files.
+fn with_files<'a>(
+    alloc: Global,
+    command: clap::Command<'a>,
+    name: &'a str,
+    files: &[&'a str],
+) -> Result<clap::Command<'a>, AllocError>
+    requires { has_globals command ≡ false }
+    ensures { IfOk result (λ c. IsCommand (with_subcommand (app_of command.entry) (subcommand_shape (record {
+      name = name.entry.now;
+      files = map (λ f. f.now) files.now;
+    }))) c) }
+{
+    let added = file_command(alloc, name, files)?;
+    command.subcommand(added)
+}
+
+/// `command` with the command `name` added to it, which has one file.
 fn with_one_file<'a>(
     alloc: Global,
+    command: clap::Command<'a>,
     name: &'a str,
     file: &'a str,
 ) -> Result<clap::Command<'a>, AllocError>
-    ensures { IfOk result (IsCommand (subcommand_app (record {
+    requires { has_globals command ≡ false }
+    ensures { IfOk result (λ c. IsCommand (with_subcommand (app_of command.entry) (subcommand_shape (record {
       name = name.entry.now;
       files = file.entry.now ∷ [];
-    }))) }
+    }))) c) }
 {
-    file_command(alloc, name, [file].as_slice())
+    with_files(alloc, command, name, [file].as_slice())
 }
 
-/// The command `name` with two files.
+/// `command` with the command `name` added to it, which has two files.
 fn with_two_files<'a>(
     alloc: Global,
+    command: clap::Command<'a>,
     name: &'a str,
     first: &'a str,
     second: &'a str,
 ) -> Result<clap::Command<'a>, AllocError>
-    ensures { IfOk result (IsCommand (subcommand_app (record {
+    requires { has_globals command ≡ false }
+    ensures { IfOk result (λ c. IsCommand (with_subcommand (app_of command.entry) (subcommand_shape (record {
       name = name.entry.now;
       files = first.entry.now ∷ second.entry.now ∷ [];
-    }))) }
+    }))) c) }
 {
-    file_command(alloc, name, [first, second].as_slice())
+    with_files(alloc, command, name, [first, second].as_slice())
 }
 
-/// The command `name` with three files.
+/// `command` with the command `name` added to it, which has three files.
 fn with_three_files<'a>(
     alloc: Global,
+    command: clap::Command<'a>,
     name: &'a str,
     first: &'a str,
     second: &'a str,
     third: &'a str,
 ) -> Result<clap::Command<'a>, AllocError>
-    ensures { IfOk result (IsCommand (subcommand_app (record {
+    requires { has_globals command ≡ false }
+    ensures { IfOk result (λ c. IsCommand (with_subcommand (app_of command.entry) (subcommand_shape (record {
       name = name.entry.now;
       files = first.entry.now ∷ second.entry.now ∷ third.entry.now ∷ [];
-    }))) }
+    }))) c) }
 {
-    file_command(alloc, name, [first, second, third].as_slice())
+    with_files(alloc, command, name, [first, second, third].as_slice())
+}
+
+/// The command line of the program with no command yet.
+fn bare_command<'a>(alloc: Global) -> clap::Command<'a>
+    ensures { IsCommand bare_app result }
+{
+    clap::Command::new(alloc, "alpaca")
+        .no_binary_name(true)
+        .disable_help_flag(true)
+        .disable_help_subcommand(true)
+        .subcommand_required(true)
 }
 
 /// The command line of the program.
 fn alpaca_command<'a>(alloc: Global) -> Result<clap::Command<'a>, AllocError>
     ensures { IfOk result (IsCommand alpaca_app) }
 {
-    let bare = clap::Command::new(alloc, "alpaca")
-        .no_binary_name(true)
-        .disable_help_flag(true)
-        .disable_help_subcommand(true)
-        .subcommand_required(true);
-    let mean = with_two_files(alloc, "mean", "SRC", "TRACE")?;
-    let trial = with_three_files(alloc, "try", "SRC", "TRACE", "IMAGE")?;
-    let build = with_two_files(alloc, "build", "SRC", "IMAGE")?;
-    let run = with_two_files(alloc, "run", "IMAGE", "TRACE")?;
-    let asm = with_two_files(alloc, "asm", "ASM", "IMAGE")?;
-    let dis = with_one_file(alloc, "dis", "IMAGE")?;
-    let generate = with_two_files(alloc, "gen", "N", "IMAGE")?;
-    let with_mean = bare.subcommand(mean)?;
-    let with_try = with_mean.subcommand(trial)?;
-    let with_build = with_try.subcommand(build)?;
-    let with_run = with_build.subcommand(run)?;
-    let with_asm = with_run.subcommand(asm)?;
-    let with_dis = with_asm.subcommand(dis)?;
-    let whole = with_dis.subcommand(generate)?;
-    Ok(whole)
+    let command = bare_command(alloc);
+    let command = with_two_files(alloc, command, "mean", "SRC", "TRACE")?;
+    let command = with_three_files(alloc, command, "try", "SRC", "TRACE", "IMAGE")?;
+    let command = with_two_files(alloc, command, "build", "SRC", "IMAGE")?;
+    let command = with_two_files(alloc, command, "run", "IMAGE", "TRACE")?;
+    let command = with_two_files(alloc, command, "asm", "ASM", "IMAGE")?;
+    let command = with_one_file(alloc, command, "dis", "IMAGE")?;
+    with_two_files(alloc, command, "gen", "N", "IMAGE")
 }
 
 #[cfg(test)]
