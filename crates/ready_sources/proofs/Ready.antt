@@ -2,6 +2,7 @@
 use Rattle.std.proofs.Common.{ℕ, ◌<◌, sym, subst, arith, List, length}
 use Rattle.cost_bound.specs.declared.allowance.Allow.{Allow}
 use Rattle.source_values.specs.Runs.{CheckedProgram, IsRunnable}
+use Rattle.source_meaning.proofs.Runnable.{accepted_texts_run}
 use Rattle.war_analysis.specs.PlanValue.{TaskPlanValue}
 use Rattle.array_versions.specs.Program.{Program}
 use Rattle.array_versions.specs.Form.{IsWhole, OfWords}
@@ -20,8 +21,10 @@ use Rattle.compiled_runs.specs.Laws.{CanRun}
 use Rattle.compiled_runs.proofs.Fits.{sources_have_room}
 use Rattle.ready_sources.specs.Ready.{SourcesAreReady}
 
-module _ (text : List ℕ) (p : CheckedProgram) (allow : Allow) (plans : List TaskPlanValue) (l : LayoutValue) (t : IsLaidOutText text p allow plans l)
-    (run : IsRunnable p) where
+module _ (text : List ℕ) (p : CheckedProgram) (allow : Allow) (plans : List TaskPlanValue) (l : LayoutValue) (t : IsLaidOutText text p allow plans l) where
+  run : IsRunnable p
+  run = accepted_texts_run text p allow t.accepted
+
   laid : HasLayout p allow plans l
   laid = record { allowed = t.accepted.allowed; plan = t.plan; layout = t.layout }
 
@@ -48,11 +51,11 @@ module _ (text : List ℕ) (p : CheckedProgram) (allow : Allow) (plans : List Ta
   }
 
 pub sources_are_ready : SourcesAreReady
-sources_are_ready text p allow plans l t run = record {
-  model = compiled_laws text p allow plans l t run;
-  code = code text p allow plans l t run;
+sources_are_ready text p allow plans l t = record {
+  model = compiled_laws text p allow plans l t (run text p allow plans l t);
+  code = code text p allow plans l t;
   stores = record {
     below = λ s x readings words undecided. each_weaker _ (λ a w. a < l.boot.address) (λ a w h. h.below) _
-        (stores_below_code text p allow plans l t run s x readings words undecided);
+        (stores_below_code text p allow plans l t (run text p allow plans l t) s x readings words undecided);
   };
 }

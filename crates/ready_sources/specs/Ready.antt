@@ -1,7 +1,7 @@
 -- What the layers of the compiler give of a source with its layout.
 use Rattle.std.specs.Prelude.{ℕ, List}
 use Rattle.cost_bound.specs.declared.allowance.Allow.{Allow}
-use Rattle.source_values.specs.Runs.{CheckedProgram, IsRunnable}
+use Rattle.source_values.specs.Runs.{CheckedProgram}
 use Rattle.war_analysis.specs.PlanValue.{TaskPlanValue}
 use Rattle.privatise.specs.LayoutValue.{LayoutValue}
 use Rattle.crash_rules.specs.Model.{ModelLaws}
@@ -16,7 +16,7 @@ pub record IsReadyToRun (p : CheckedProgram) (l : LayoutValue) : Type 0 where
   pub code : CanRun p l
   pub stores : AttemptsStoreBelow p l l.boot.address
 
--- each accepted text with a plan and a layout of its source, whose runs go on, is so
+-- each accepted text with a plan and a layout of its source is so
 abbrev pub SourcesAreReady : Type 0
 SourcesAreReady = (text : List ℕ) (p : CheckedProgram) (allow : Allow) (plans : List TaskPlanValue) (l : LayoutValue)
-    → IsLaidOutText text p allow plans l → IsRunnable p → IsReadyToRun p l
+    → IsLaidOutText text p allow plans l → IsReadyToRun p l

@@ -1,6 +1,7 @@
 pub mod Emits
 pub mod Paths
 pub mod Targets
+mod Limits
 pub mod Runnable
 pub mod Lines
 pub mod Refusals

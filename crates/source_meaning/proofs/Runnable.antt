@@ -13,14 +13,16 @@ use Rattle.task_ast.specs.declared.names.VariableName.{VariableName}
 use Rattle.task_ast.specs.declared.names.TaskName.{TaskName}
 use Rattle.path_checks.specs.Firsts.{IsFirst, SomeTask}
 use Rattle.path_checks.specs.Transitions.{OpenAt, NoTransitionAt}
-use Rattle.task_check.specs.Limits.{is_numbered, are_numbered}
+use Rattle.task_check.specs.Limits.{is_numbered}
 use Rattle.task_check.specs.LookedUp.{task_variables, task_targets}
 use Rattle.cost_bound.specs.Allowance.{FewEmits}
 use Rattle.source_values.specs.Statements.{Outcome, goes_on, to_task, short, run_block}
 use Rattle.source_values.specs.Runs.{EndsWell, TransitionComes, EmitsFit, IsRunnable}
+use Rattle.source_meaning.specs.Laws.{AcceptedTextsRun}
 use Rattle.source_meaning.proofs.Emits.{few_emits}
 use Rattle.source_meaning.proofs.Paths.{OnPath, block_path}
 use Rattle.source_meaning.proofs.Targets.{GoesBelow, below, both, block_stays}
+use Rattle.source_meaning.proofs.Limits.{few_shared, few_tasks, targets_numbered}
 
 ends_well : (k : ℕ) (paths : List Access → Type 0) → ((xs : List Access) → paths xs → ⊥) → (o : Outcome) → OnPath paths o → GoesBelow k o → EndsWell k o
 ends_well k paths none (goes_on s) p h = none p.0 p.1
@@ -46,17 +48,35 @@ emits_fit : (tasks : List (Task VariableName TaskName)) → All FewEmits tasks �
 emits_fit [] h = All-nil EmitsFit
 emits_fit (task ∷ others) h = All-cons EmitsFit task others (few_emits task.body (All-head FewEmits task others h)) (emits_fit others (All-tail FewEmits task others h))
 
-pub runnable : (program : Program VariableName TaskName) → length program.shared ≤ 256 → length program.tasks ≤ 64 → are_numbered program ≡ true → IsFirst None (NoTransitionAt program) → All FewEmits program.tasks
-    → IsRunnable program
-runnable program shared tasks numbered none emits =
+pub runnable : (program : Program VariableName TaskName) → length program.shared ≤ 256 → length program.tasks ≤ 64
+    → below (length program.tasks) (task_targets program.tasks (program.entry.task ∷ [])) ≡ true → IsFirst None (NoTransitionAt program)
+    → All FewEmits program.tasks → IsRunnable program
+runnable program shared tasks targets none emits =
     let k = length program.tasks in
-    let targets = both (list_all (λ v. is_numbered (length program.shared) v.variable) (task_variables program.tasks [])) (below k (task_targets program.tasks (program.entry.task ∷ []))) numbered in
-    let come = tasks_come k program.tasks (program.entry.task ∷ []) none targets.1 in
+    let come = tasks_come k program.tasks (program.entry.task ∷ []) none targets in
     let entry = both (nat_lt program.entry.task k) (below k []) come.rest in
-    record { few_shared = shared; few_tasks = tasks; entry = ltb-true program.entry.task k entry.0; emits_fit = emits_fit program.tasks emits; transition_comes = come.comes }
+    record {
+      few_shared = shared;
+      few_tasks = tasks;
+      entry = ltb-true program.entry.task k entry.0;
+      emits_fit = emits_fit program.tasks emits;
+      transition_comes = come.comes;
+    }
 
 -- so a checked source whose emits are few can
 pub checked_runnable : (c : Checked) → All FewEmits (program_of c.source).tasks → IsRunnable (program_of c.source)
 checked_runnable c emits =
     let tasks : length (program_of c.source).tasks ≤ 64 = omega (arith, length-map c.source.tasks.items task_of, c.few_tasks) in
-    runnable (program_of c.source) c.few_shared tasks c.numbered c.transitions emits
+    let program = program_of c.source in
+    let targets = both (list_all (λ v. is_numbered (length program.shared) v.variable) (task_variables program.tasks []))
+    (below (length program.tasks) (task_targets program.tasks (program.entry.task ∷ []))) c.numbered in
+    runnable program c.few_shared tasks targets.1 c.transitions emits
+
+-- and so can what a text is accepted as
+pub accepted_texts_run : AcceptedTextsRun
+accepted_texts_run text program allow accepted =
+    let tree = accepted.checks.tree in
+    let clean = accepted.checks.checks in
+    let names = clean.named.looked_up in
+    runnable program (few_shared text tree program names clean.limits) (few_tasks text tree program names clean.limits)
+    (targets_numbered text tree program names clean.limits) clean.paths.transitions accepted.allowed.few_emits

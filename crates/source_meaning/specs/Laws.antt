@@ -1,4 +1,4 @@
--- No text is accepted and refused.
+-- No text is accepted and refused, and what is accepted can be run.
 use Rattle.std.specs.Prelude.{◌≡◌, ℕ, List}
 use Rattle.task_ast.specs.Tree.{Program}
 use Rattle.task_ast.specs.declared.names.VariableName.{VariableName}
@@ -6,9 +6,14 @@ use Rattle.task_ast.specs.declared.names.TaskName.{TaskName}
 use Rattle.cost_bound.specs.declared.allowance.Allow.{Allow}
 use Rattle.source_meaning.specs.declared.fault.SourceFault.{SourceFault}
 use Rattle.source_meaning.specs.declared.fault.SourceFault.TheVariants as source_fault
+use Rattle.source_values.specs.Runs.{IsRunnable}
 use Rattle.source_meaning.specs.Acceptance.{IsAcceptedText, IsRefusedText}
 
 -- of an accepted text no other fault is told than want of memory
 abbrev pub OneAnswer : Type 0
 OneAnswer = (text : List ℕ) (program : Program VariableName TaskName) (allow : Allow) (fault : SourceFault)
     → IsAcceptedText text program allow → IsRefusedText text fault → fault ≡ source_fault.Memory
+
+-- each accepted text can be run
+abbrev pub AcceptedTextsRun : Type 0
+AcceptedTextsRun = (text : List ℕ) (program : Program VariableName TaskName) (allow : Allow) → IsAcceptedText text program allow → IsRunnable program

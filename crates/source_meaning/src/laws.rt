@@ -1,6 +1,6 @@
-//! A law of the passes.
+//! Laws of the passes.
 
-ghost use Rattle.source_meaning.specs.Laws.{OneAnswer};
+ghost use Rattle.source_meaning.specs.Laws.{AcceptedTextsRun, OneAnswer};
 
 use cost_bound::one_answer as one_allowance;
 use task_check::one_answer as one_check;
@@ -14,3 +14,8 @@ pub fn one_answer()
     one_check();
     one_allowance();
 }
+
+/// Each accepted text can be run: its numbers are in range, no task emits too many words, and each task comes to a transition.
+pub fn accepted_texts_run()
+    ensures { AcceptedTextsRun }
+{}
