@@ -10,29 +10,29 @@ use Rattle.compiled_laws.specs.Laws.{SourcesKeepTheLaws, CodeKeepsTheLaws, CodeS
 use Rattle.ready_sources.proofs.Ready.{sources_are_ready}
 
 pub sources_keep_the_laws : SourcesKeepTheLaws
-sources_keep_the_laws text p allow plans l laid run = (sources_are_ready text p allow plans l laid run).model
+sources_keep_the_laws text p allow plans l laid = (sources_are_ready text p allow plans l laid).model
 
 pub code_keeps : CodeKeepsTheLaws
-code_keeps text p allow plans l laid run = let ready = sources_are_ready text p allow plans l laid run in code_keeps_the_laws p l ready.code ready.model
+code_keeps text p allow plans l laid = let ready = sources_are_ready text p allow plans l laid in code_keeps_the_laws p l ready.code ready.model
 
 pub code_stays : CodeStays
-code_stays text p allow plans l laid run = let ready = sources_are_ready text p allow plans l laid run in runs_leave_the_code p l ready.code ready.model ready.stores
+code_stays text p allow plans l laid = let ready = sources_are_ready text p allow plans l laid in runs_leave_the_code p l ready.code ready.model ready.stores
 
 pub runs_stand : RunsStandForTheSource
-runs_stand text p allow plans l laid run = crash_theorem (compiled_model p l) (compiled_program p l) (sources_keep_the_laws text p allow plans l laid run) (code_keeps text p allow plans l laid run)
+runs_stand text p allow plans l laid = crash_theorem (compiled_model p l) (compiled_program p l) (sources_keep_the_laws text p allow plans l laid) (code_keeps text p allow plans l laid)
 
 pub runs_stop : RunsStopWhereTheSourceIsShort
-runs_stop text p allow plans l laid run readings origin x s begins charges t k runs b up fram left n price e halted =
-    let r = stops_short (compiled_model p l) (compiled_program p l) (sources_keep_the_laws text p allow plans l laid run) (code_keeps text p allow plans l laid run) readings origin x s begins charges t k runs b up fram left n price e halted in
+runs_stop text p allow plans l laid readings origin x s begins charges t k runs b up fram left n price e halted =
+    let r = stops_short (compiled_model p l) (compiled_program p l) (sources_keep_the_laws text p allow plans l laid) (code_keeps text p allow plans l laid) readings origin x s begins charges t k runs b up fram left n price e halted in
     (r.0, (r.1.0, r.1.2))
 
 pub words_are_sent_once : WordsAreSentOnce
-words_are_sent_once text p allow plans l laid run = sent_once (compiled_model p l) (sources_keep_the_laws text p allow plans l laid run)
+words_are_sent_once text p allow plans l laid = sent_once (compiled_model p l) (sources_keep_the_laws text p allow plans l laid)
 
 pub reads_in_order : OneChargeReadsInOrder
-reads_in_order text p allow plans l laid run = spans_follow (compiled_model p l) (compiled_program p l) (sources_keep_the_laws text p allow plans l laid run) (code_keeps text p allow plans l laid run)
+reads_in_order text p allow plans l laid = spans_follow (compiled_model p l) (compiled_program p l) (sources_keep_the_laws text p allow plans l laid) (code_keeps text p allow plans l laid)
 
 pub bounds_pay : BoundsPayForTransitions
-bounds_pay text p allow plans l laid run readings origin x s begins charges t k runs b q up fram left n amount steps pays spends =
-    progress_law (compiled_model p l) (compiled_program p l) (sources_keep_the_laws text p allow plans l laid run) (code_keeps text p allow plans l laid run) readings origin x s begins charges t k runs b q up fram left n amount steps
+bounds_pay text p allow plans l laid readings origin x s begins charges t k runs b q up fram left n amount steps pays spends =
+    progress_law (compiled_model p l) (compiled_program p l) (sources_keep_the_laws text p allow plans l laid) (code_keeps text p allow plans l laid) readings origin x s begins charges t k runs b q up fram left n amount steps
     (subst (λ c. n * c ≤ amount) (sym (bound_is_the_sources p l)) pays) spends

@@ -12,7 +12,7 @@ use Rattle.code_forms.specs.Placed.{words_of}
 use Rattle.cost_bound.specs.declared.allowance.Allow.{Allow}
 use Rattle.cost_bound.specs.Allowance.{bound_of}
 use Rattle.war_analysis.specs.PlanValue.{TaskPlanValue}
-use Rattle.source_values.specs.Runs.{CheckedProgram, State, IsRunnable}
+use Rattle.source_values.specs.Runs.{CheckedProgram, State}
 use Rattle.privatise.specs.LayoutValue.{LayoutValue}
 use Rattle.crash_rules.specs.Model.{ModelLaws, Short}
 use Rattle.crash_rules.specs.History.{History, observe, behind_boot, first_history}
@@ -23,10 +23,10 @@ use Rattle.compiled_model.specs.Parts.{compiled_model}
 use Rattle.compiled_runs.specs.Program.{source_code, compiled_program}
 use Rattle.whole_programs.specs.Laws.{IsLaidOutText}
 
--- what holds of each accepted text with a plan and a layout of its source, whose runs go on
+-- what holds of each accepted text with a plan and a layout of its source
 abbrev OfSources : (CheckedProgram → LayoutValue → Type 0) → Type 0
 OfSources F = (text : List ℕ) (p : CheckedProgram) (allow : Allow) (plans : List TaskPlanValue) (l : LayoutValue)
-    → IsLaidOutText text p allow plans l → IsRunnable p → F p l
+    → IsLaidOutText text p allow plans l → F p l
 
 -- its tasks, its runtime and what FRAM stands for owe the crash theorem nothing
 abbrev pub SourcesKeepTheLaws : Type 0

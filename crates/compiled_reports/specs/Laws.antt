@@ -11,7 +11,8 @@ use Rattle.machine_effects.specs.World.{World}
 use Rattle.crash_rules.specs.Runs.{Program}
 use Rattle.run_charges.specs.Laws.{IsRunOfWords}
 use Rattle.model_runs.specs.Runs.{all_amounts}
-use Rattle.source_runs.specs.Tells.{IsOfSource, BeginsWithSource, IsToldBySource}
+use Rattle.source_runs.specs.Tells.{IsToldBySource}
+use Rattle.source_runs.specs.Sources.{IsOfSource, BeginsWithSource}
 use Rattle.compiled_model.specs.Parts.{compiled_model}
 use Rattle.compiled_reports.specs.Sources.{IsSourcesMap}
 
@@ -23,4 +24,4 @@ ModelsAreOfSources = (text : List ℕ) (p : CheckedProgram) (l : LayoutValue) (m
 abbrev pub CompiledRunsAreTold : Program → Type 0
 CompiledRunsAreTold c = (text : List ℕ) (p : CheckedProgram) (l : LayoutValue) (m : MapValue) (x : World) (cs : List BoardCharge) (b : BoardValue) (r : RunOutcome)
     → IsSourcesMap text p l m → BeginsWithSource p m (compiled_model p l) c x b → IsRunOfWords cs b r → all_amounts cs < 2 ^ 64
-    → IsToldBySource text p m x cs b r (report_of (start_with b.fram (Some m)) r)
+    → IsToldBySource text p m cs b r (report_of (start_with b.fram (Some m)) r)

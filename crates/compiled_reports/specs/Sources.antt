@@ -6,7 +6,8 @@ use Rattle.source_values.specs.Runs.{CheckedProgram, State, IsRunnable}
 use Rattle.privatise.specs.LayoutValue.{LayoutValue}
 use Rattle.machine_effects.specs.World.{World}
 use Rattle.stands_for.specs.StandsFor.{RestsAt}
-use Rattle.source_events.specs.Transitions.{IsMapOf, HasWordsOf}
+use Rattle.source_events.specs.Naming.{IsMapOf}
+use Rattle.source_events.specs.Transitions.{HasWordsOf}
 use Rattle.compiled_model.specs.Places.{program_places}
 use Rattle.compiled_model.specs.View.{state_view}
 

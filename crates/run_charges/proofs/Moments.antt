@@ -38,7 +38,7 @@ abbrev pub AreMoments : BoardValue → List Moment → Type 0
 AreMoments b [] = Unit {0}
 AreMoments b (m ∷ ms) = IsMomentFrom b m × AreMoments m.after ms
 
-charge_moments : (m : Measure) (left : ℕ) (b : BoardValue) (r : RunOutcome) → ChargeRun m left b r → AreMoments b r.moments
+pub charge_moments : (m : Measure) (left : ℕ) (b : BoardValue) (r : RunOutcome) → ChargeRun m left b r → AreMoments b r.moments
 charge_moments m left b r (Spent _ _ none) = tt
 charge_moments m left b r (NoInstruction _ _ e pos h) = tt
 charge_moments m left b r (TooDear _ _ i pos c dear) = tt

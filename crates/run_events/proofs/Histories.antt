@@ -137,7 +137,7 @@ module _ (m : MapValue) (x : World) (ok : IsMap m) where
     alike_moved : SaysAlike m x spoken moved
     alike_moved = words_told m x h k es done.accepted t.same.alike accepted_now
 
-    observed_so : observe gate es k ≡ behind_gate before now moved
+    pub observed_so : observe gate es k ≡ behind_gate before now moved
     observed_so = seen gate es k (one_write b t.whole i done current answer) ∙ ap (λ n. behind_gate before n moved) (sym gate_now)
 
     gate_before : spoken.gate ≡ before
@@ -200,7 +200,7 @@ module _ (m : MapValue) (x : World) (ok : IsMap m) where
   abbrev MomentLeads : BoardValue → board.History → History → Moment → Type 0
   MomentLeads b h k o = Leads m x o.after (noted h o) k (behind_action gate o.action o.before o.after k) (moment_lines h o)
 
-  moment_leads : (b : BoardValue) (h : board.History) (k : History) → Together m x b h k → (o : Moment) → IsMomentFrom b o → MomentLeads b h k o
+  pub moment_leads : (b : BoardValue) (h : board.History) (k : History) → Together m x b h k → (o : Moment) → IsMomentFrom b o → MomentLeads b h k o
   moment_leads b h k t o (PowersUp p start e) = let P : Moment → Type 0 = λ y. MomentLeads b h k y in subst P (sym e) (boot_leads b h k t p start)
   moment_leads b h k t o (Instructs i done c a e) =
       let P : Moment → Type 0 = λ y. MomentLeads b h k y in subst P (sym e) (instruction_leads b h k t i done c a)

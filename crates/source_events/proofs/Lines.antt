@@ -19,7 +19,8 @@ use Rattle.machine_effects.specs.World.{World}
 use Rattle.crash_rules.specs.History.{Done}
 use Rattle.run_events.specs.Events.{counted, world_values, words_between, word_lines, change_lines, done_lines, dones_lines}
 use Rattle.run_events.proofs.Reports.{few_words_have_lines}
-use Rattle.source_events.specs.Transitions.{length_of, AreVariablesOf, IsMapOf, rows_in, HasWordsOf, StandsForTransition, StandForTransitions, committed_by}
+use Rattle.source_events.specs.Naming.{length_of, AreVariablesOf, IsMapOf}
+use Rattle.source_events.specs.Transitions.{rows_in, HasWordsOf, StandsForTransition, StandForTransitions, committed_by}
 use Rattle.source_events.specs.Laws.{DonesAreTransitions}
 
 -- counts

@@ -6,7 +6,8 @@ use Rattle.source_report.specs.SourceReport.{source_report}
 use Rattle.machine_effects.specs.World.{World}
 use Rattle.crash_rules.specs.History.{Done}
 use Rattle.run_events.specs.Events.{counted, dones_lines}
-use Rattle.source_events.specs.Transitions.{IsMapOf, HasWordsOf, StandForTransitions, committed_by}
+use Rattle.source_events.specs.Naming.{IsMapOf}
+use Rattle.source_events.specs.Transitions.{HasWordsOf, StandForTransitions, committed_by}
 
 -- the lines of dones that stand for transitions are the source's lines of these on the dones' own committed readings
 abbrev pub DonesAreTransitions : Type 0

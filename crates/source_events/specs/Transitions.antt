@@ -1,33 +1,13 @@
 -- A source's transitions and the dones of a run that stand for them.
-use Rattle.std.specs.Prelude.{◌≡◌, ◌≤◌, ℕ, List, [], ◌∷◌, map, length, Option, Some, None}
-use Rattle.task_ast.specs.declared.SharedDeclaration.{SharedDeclaration}
-use Rattle.task_ast.specs.declared.Extent.{Extent}
-use Rattle.task_ast.specs.declared.Extent.TheVariants.{Scalar, Array}
+use Rattle.std.specs.Prelude.{◌≡◌, ◌≤◌, ℕ, List, [], ◌∷◌, map, length}
 use Rattle.image_map.specs.declared.parts.Variable.{Variable}
 use Rattle.image_map.specs.MapValue.{MapValue}
 use Rattle.board_run.specs.History.{variable_words}
-use Rattle.source_values.specs.Runs.{CheckedProgram, State, Transition, state_after}
-use Rattle.source_report.specs.SourceReport.{spelled, Committed}
+use Rattle.source_values.specs.Runs.{State, Transition, state_after}
+use Rattle.source_report.specs.SourceReport.{Committed}
 use Rattle.machine_effects.specs.World.{World}
 use Rattle.crash_rules.specs.History.{Done}
 use Rattle.run_events.specs.Events.{world_values}
-
--- the length of an array; nothing for a scalar
-abbrev pub length_of : Extent → Option ℕ
-length_of (Scalar w) = None
-length_of (Array n) = Some n
-
--- a map's variables are these declarations', by name and length, in order
-abbrev pub AreVariablesOf : List ℕ → List Variable → List SharedDeclaration → Type 0
-AreVariablesOf text [] [] = Unit {0}
-AreVariablesOf text [] (d ∷ ds) = ⊥
-AreVariablesOf text (v ∷ vs) [] = ⊥
-AreVariablesOf text (v ∷ vs) (d ∷ ds) = (v.name ≡ spelled text d.name) × (v.length ≡ length_of d.extent) × AreVariablesOf text vs ds
-
--- a map names the shared variables and the tasks of a source, in order
-pub record IsMapOf (text : List ℕ) (program : CheckedProgram) (m : MapValue) : Type 0 where
-  pub variables : AreVariablesOf text m.variables program.shared
-  pub tasks : map (λ t. t.name) m.tasks ≡ map (λ t. spelled text t.name) program.tasks
 
 -- the words of variables in a world
 abbrev pub rows_in : World → List Variable → List (List ℕ)

@@ -7,7 +7,7 @@ use Rattle.task_ast.specs.declared.Extent.{Extent}
 use Rattle.task_ast.specs.declared.Extent.TheVariants as extent
 use Rattle.task_ast.specs.declared.SharedDeclaration.{SharedDeclaration}
 use Rattle.image_map.specs.MapValue.{IsFramWord, IsVariable, fits, variable_names}
-use Rattle.source_events.specs.Transitions.{length_of, AreVariablesOf}
+use Rattle.source_events.specs.Naming.{length_of, AreVariablesOf}
 use Rattle.source_report.specs.SourceReport.{spelled}
 use Rattle.privatise.specs.declared.place.VariablePlace.{VariablePlace}
 use Rattle.privatise.specs.declared.place.VariablePlace.TheVariants.{Scalar, Array}

@@ -9,7 +9,7 @@ use Rattle.task_ast.specs.declared.Extent.{Extent}
 use Rattle.task_ast.specs.declared.Extent.TheVariants as extent
 use Rattle.task_ast.specs.declared.SharedDeclaration.{SharedDeclaration}
 use Rattle.image_map.specs.MapValue.{are_scalars, is_scalar_of}
-use Rattle.source_events.specs.Transitions.{length_of}
+use Rattle.source_events.specs.Naming.{length_of}
 use Rattle.source_report.specs.SourceReport.{spelled}
 use Rattle.war_analysis.specs.Plans.{IsScalarAt, is_scalar}
 use Rattle.privatise.specs.declared.place.VariablePlace.{VariablePlace}

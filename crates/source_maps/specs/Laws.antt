@@ -7,7 +7,7 @@ use Rattle.war_analysis.specs.Plans.{IsPlan}
 use Rattle.privatise.specs.LayoutValue.{LayoutValue}
 use Rattle.privatise.specs.Layouts.{IsLayout}
 use Rattle.image_map.specs.MapValue.{IsMap}
-use Rattle.source_events.specs.Transitions.{IsMapOf}
+use Rattle.source_events.specs.Naming.{IsMapOf}
 use Rattle.source_names.specs.Names.{HasNames}
 use Rattle.source_maps.specs.Maps.{map_of}
 use Rattle.source_maps.specs.Adding.{TakesSource}

@@ -11,7 +11,7 @@ use Rattle.cost_bound.specs.declared.allowance.Allow.{Allow}
 use Rattle.cost_bound.specs.Allowance.{CheckedTask}
 use Rattle.source_values.specs.Runs.{CheckedProgram}
 use Rattle.source_report.specs.SourceReport.{spelled}
-use Rattle.source_events.specs.Transitions.{length_of}
+use Rattle.source_events.specs.Naming.{length_of}
 use Rattle.privatise.specs.declared.place.VariablePlace.{VariablePlace}
 use Rattle.privatise.specs.declared.place.PrivateScalar.{PrivateScalar}
 use Rattle.privatise.specs.LayoutValue.{LayoutValue, TaskLayoutValue}

@@ -3,7 +3,7 @@ ghost use Rattle.std.specs.Prelude.{◌≡◌, ◌<◌, ◌≤◌, ◌∷◌, []
 ghost use Rattle.task_ast.specs.View as tree;
 ghost use Rattle.image_map.specs.Names.{is_name};
 ghost use Rattle.image_map.specs.MapValue.{AreFramWords, IsFramWord, takes_task, with_task};
-ghost use Rattle.source_events.specs.Transitions.{length_of};
+ghost use Rattle.source_events.specs.Naming.{length_of};
 ghost use Rattle.source_report.specs.SourceReport.{spelled};
 ghost use Rattle.privatise.specs.Places.{home_region, IsLaidOut};
 ghost use Rattle.source_maps.specs.Maps as maps;

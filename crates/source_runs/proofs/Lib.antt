@@ -1,4 +1,5 @@
 pub mod Emitted
 pub mod Transitions
+pub mod Spans
 pub mod Told
 pub mod Traces

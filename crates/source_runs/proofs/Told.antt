@@ -31,9 +31,11 @@ use Rattle.model_runs.proofs.Ends.{stops_where_short}
 use Rattle.model_runs.proofs.Progress.{makes_progress}
 use Rattle.model_runs.proofs.Counts.{dones_are_few, takes_what_is_there}
 use Rattle.model_runs.proofs.Spans.{spans_are_in_order}
-use Rattle.source_runs.specs.Tells.{IsOfSource, BeginsWithSource, events_of, IsEndOf, IsUninterrupted}
+use Rattle.source_runs.specs.Tells.{IsEndOf, IsUninterrupted, IsToldBySource, spans_of, at_first}
+use Rattle.source_runs.specs.Sources.{IsOfSource, BeginsWithSource, events_of}
 use Rattle.source_runs.specs.Laws.{RunsAreTold}
 use Rattle.source_runs.proofs.Transitions.{Tells, tells}
+use Rattle.source_runs.proofs.Spans.{IsReadOff, read_off}
 
 -- spans of dones as a source's report has them
 consecutive : (from to end : ℕ) (ds : List Done) → AreInOrder from to ds → to ≤ end
@@ -133,7 +135,7 @@ module _ (text : List ℕ) (program : CheckedProgram) (m : MapValue) (model : Mo
 module _ (text : List ℕ) (program : CheckedProgram) (m : MapValue) (model : Model State) (c : Program) (x : World) (b : BoardValue)
     (r : RunOutcome) (is : IsOfSource text program m model) (begins : BeginsWithSource program m model c x b) where
   one_charge : (cs : List BoardCharge) → IsRunOfWords cs b r → (events_of m x r).since ≤ length b.readings → length cs ≡ 1
-      → IsUninterrupted b.readings (events_of m x r) (committed_by (events_of m x r).completed)
+      → IsUninterrupted b.readings (events_of m x r).since (committed_by (events_of m x r).completed)
   one_charge [] run there e = absurd (cc e)
   one_charge (d ∷ []) run there e =
       let first = first_state program in
@@ -141,21 +143,28 @@ module _ (text : List ℕ) (program : CheckedProgram) (m : MapValue) (model : Mo
       let P : History → Type 0 = λ k. AreInOrder 0 k.since k.completed in
       let order = subst P same (spans_are_in_order model c b.readings first x d b r run begins.bears begins.undecided) in
       let k = consecutive 0 (events_of m x r).since (length b.readings) (events_of m x r).completed order there in
-      record { consecutive = k.0; since = k.1 }
+      record { consecutive = k.0; at_last = k.1 }
   one_charge (d ∷ f ∷ cs) run there e = absurd (omega (arith, e))
 
+-- the same by the events that are read off the moments, as the report reads them
 pub runs_are_told : (model : Model State) (c : Program) → RunsAreTold model c
 runs_are_told model c text program m x cs b r is begins run few =
     let es = ends_so text program m model c x cs b r is begins run few in
     let ts = all text program m model c x cs b r is begins run few in
+    let h = events_of m x r in
+    let off : IsReadOff m cs b r h = read_off m x cs b r is.is_map begins.starts run in
+    let s = state_behind (first_state program) ts.transitions in
+    let Ends : ℕ → Type 0 = λ n. IsEndOf r.ending (attempt_of program s.task s.shared (drop n b.readings)) es.why in
+    let Alone : ℕ → Type 0 = λ n. length cs ≡ 1 → IsUninterrupted b.readings n (committed_by h.completed) in
     record {
-      spans = committed_by (events_of m x r).completed;
+      spans = committed_by h.completed;
       transitions = ts.transitions;
       why = es.why;
-      spans_are = refl;
+      spans_are = off.spans;
       source = ts.source;
       lines = lines text program m model c x cs b r is begins run few;
-      ending = es.ending;
-      progress = progress text program m model c x cs b r is begins run few;
-      uninterrupted = one_charge text program m model c x b r is begins cs run (in_readings text program m model c x cs b r is begins run few);
+      ending = subst Ends off.since es.ending;
+      progress = off.pays x (progress text program m model c x cs b r is begins run few) begins.starts;
+      uninterrupted = subst Alone off.since
+          (one_charge text program m model c x b r is begins cs run (in_readings text program m model c x cs b r is begins run few));
     }

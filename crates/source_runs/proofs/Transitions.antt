@@ -15,7 +15,7 @@ use Rattle.crash_rules.specs.Model.{Model}
 use Rattle.crash_rules.specs.History.{Done, done_readings}
 use Rattle.crash_rules.specs.Laws.{SourceRun}
 use Rattle.source_events.specs.Transitions.{StandForTransitions, committed_by}
-use Rattle.source_runs.specs.Tells.{IsOfSource}
+use Rattle.source_runs.specs.Sources.{IsOfSource}
 use Rattle.source_runs.proofs.Emitted.{EmitsUpTo, block_up_to}
 
 -- what holds of a transition by the task that makes it

@@ -15,13 +15,14 @@ use Rattle.run_charges.specs.Charges.{ArePowerStates}
 use Rattle.run_charges.specs.Laws.{IsRunOfWords}
 use Rattle.model_runs.specs.Runs.{all_amounts}
 use Rattle.source_runs.specs.Traces.{IsTraceOfWords}
-use Rattle.source_runs.specs.Tells.{IsOfSource, BeginsWithSource, IsToldBySource}
+use Rattle.source_runs.specs.Tells.{IsToldBySource}
+use Rattle.source_runs.specs.Sources.{IsOfSource, BeginsWithSource}
 
 -- the report of each run of words under charges that have fewer than 2^64 cycles and instructions in all
 abbrev pub RunsAreTold : Model State → Program → Type 0
 RunsAreTold model c = (text : List ℕ) (program : CheckedProgram) (m : MapValue) (x : World) (cs : List BoardCharge) (b : BoardValue) (r : RunOutcome)
     → IsOfSource text program m model → BeginsWithSource program m model c x b → IsRunOfWords cs b r → all_amounts cs < 2 ^ 64
-    → IsToldBySource text program m x cs b r (report_of (start_with b.fram (Some m)) r)
+    → IsToldBySource text program m cs b r (report_of (start_with b.fram (Some m)) r)
 
 -- the charges of a trace leave words at each power-up, and have fewer than 2^64 cycles and instructions in all
 abbrev pub TracesAreFew : Type 0

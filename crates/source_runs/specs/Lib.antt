@@ -1,3 +1,4 @@
 pub mod Traces
 pub mod Tells
+pub mod Sources
 pub mod Laws

@@ -1,48 +1,49 @@
 -- A run of the board as its source tells it.
-use Rattle.std.specs.Prelude.{◌≡◌, ℕ, ◌<◌, List, [], ◌++◌, length, map, drop, All, Some}
+use Rattle.std.specs.Prelude.{◌≡◌, ℕ, ◌*◌, ◌≤◌, if◌then◌else◌, List, [], ◌∷◌, ◌++◌, length, map, drop, Some}
 use Rattle.alp_io.specs.declared.report.Reason.{Reason}
 use Rattle.alp_io.specs.declared.report.Reason.TheVariants as reason
 use Rattle.alp_io.specs.Report.{bound_line, end_line}
-use Rattle.image_map.specs.MapValue.{MapValue, IsMap}
+use Rattle.image_map.specs.MapValue.{MapValue}
+use Rattle.msp_step.specs.declared.machine.Stop.{Stop}
 use Rattle.msp_step.specs.declared.machine.Stop.TheVariants as stop
-use Rattle.fram_board.specs.Board.{BoardValue}
-use Rattle.fram_board.specs.Run.{BoardCharge, RunOutcome, End, Charges, Stopped}
+use Rattle.fram_board.specs.Board.{BoardValue, powered}
+use Rattle.fram_board.specs.Run.{Cycles, Action, PowerUp, Execute, Moment, End, Charges, Stopped, RunOutcome, run_outcome, after_moments, BoardCharge, ChargeRun, power_up_of}
+use Rattle.board_run.specs.History.{History, start_with, is_done, word_in, noted}
+use Rattle.board_run.specs.Report.{after_all}
 use Rattle.source_values.specs.Statements.{Outcome, short}
-use Rattle.source_values.specs.Runs.{CheckedProgram, State, Transition, EmitsFit, first_state, state_after, state_behind, transition_of, source_run, attempt_of}
+use Rattle.source_values.specs.Runs.{CheckedProgram, Transition, first_state, state_behind, source_run, attempt_of}
 use Rattle.source_report.specs.SourceReport.{Committed, IsConsecutive, position_after, readings_of, source_report}
-use Rattle.machine_effects.specs.World.{World}
-use Rattle.crash_rules.specs.Model.{Model, Ends, Short, bound}
-use Rattle.crash_rules.specs.History.{History, first_history}
-use Rattle.crash_rules.specs.Runs.{Program}
-use Rattle.crash_rules.specs.Laws.{Resting}
-use Rattle.run_charges.specs.Charges.{observed}
-use Rattle.run_events.specs.Laws.{StartsWith}
-use Rattle.source_events.specs.Transitions.{IsMapOf, HasWordsOf, committed_by}
-use Rattle.model_runs.specs.Runs.{BearsModel, Progresses}
 
--- a model whose tasks are a source's, and where GATE and the words of each state are as a map says
-pub record IsOfSource (text : List ℕ) (program : CheckedProgram) (m : MapValue) (model : Model State) : Type 0 where
-  pub is_map : IsMap m
-  pub of_source : IsMapOf text program m
-  pub emits_fit : All EmitsFit program.tasks
-  pub gate : model.gate ≡ m.words.gate
-  pub bound : bound model ≡ m.bound
-  pub transits : (s u : State) (readings : List ℕ) → model.task s readings ≡ Ends u []
-      → (t : Transition) × (transition_of program s readings ≡ Some t) × (u ≡ state_after s t)
-  pub is_short : (s : State) (readings : List ℕ) → model.task_number s < model.tasks → model.task s readings ≡ Short
-      → attempt_of program s.task s.shared readings ≡ short
-  pub rests : (s : State) (x : World) → model.Rests s x → HasWordsOf m x s
+-- the committed readings of the transition that an action completed, where it left this board and GATE tells of one: its span, or none
+abbrev pub spans_by : MapValue → History → Action → BoardValue → List Committed
+spans_by m h PowerUp b = []
+spans_by m h (Execute done offered) b =
+    if is_done h.gate (word_in b.fram m.words.gate) then record { from = h.span_from; to = h.span_to } ∷ [] else []
 
--- a board that begins with a compiled source at its first state
-pub record BeginsWithSource (program : CheckedProgram) (m : MapValue) (model : Model State) (c : Program) (x : World) (b : BoardValue) : Type 0 where
-  pub bears : BearsModel model c b.readings (Resting (first_state program)) x b
-  pub starts : StartsWith b x
-  pub undecided : model.Undecided (first_state program) x
-  pub words : HasWordsOf m x (first_state program)
+-- the spans of the transitions that are completed in these moments, in order
+abbrev pub spans_of : MapValue → History → List Moment → List Committed
+spans_of m h [] = []
+spans_of m h (x ∷ xs) = spans_by m h x.action x.after ++ spans_of m (noted h x) xs
 
--- what is known of a run, by the events at GATE
-abbrev pub events_of : MapValue → World → RunOutcome → History
-events_of m x r = observed m.words.gate r.moments (first_history m.words.gate x)
+-- what is known of a run before its first moment
+abbrev pub at_first : MapValue → BoardValue → History
+at_first m b = start_with b.fram (Some m)
+
+-- a charge of cycles has a transition at least for each bound that it has
+abbrev pub PaysFor : MapValue → BoardCharge → List Committed → Type 0
+PaysFor m c spans = c.measure ≡ Cycles → (n : ℕ) → n * m.bound ≤ c.amount → n ≤ length spans
+
+-- a run from a board and a history on, each of whose charges that is spent pays for its transitions
+pub data EachChargePays (m : MapValue) : List BoardCharge → BoardValue → History → RunOutcome → Type 0 where
+  AllSpent : (b : BoardValue) (h : History) → EachChargePays m [] b h (run_outcome [] Charges b)
+  SpentOne : (c : BoardCharge) (cs : List BoardCharge) (b : BoardValue) (h : History) (ms : List Moment) (end : BoardValue) (rest : RunOutcome)
+      → ChargeRun c.measure c.amount (powered b c.start) (run_outcome ms Charges end)
+      → PaysFor m c (spans_of m h (power_up_of b c.start ∷ ms))
+      → EachChargePays m cs end (after_all h (power_up_of b c.start ∷ ms)) rest
+      → EachChargePays m (c ∷ cs) b h (after_moments (power_up_of b c.start ∷ ms) rest)
+  StoppedIn : (c : BoardCharge) (cs : List BoardCharge) (b : BoardValue) (h : History) (ms : List Moment) (stop : Stop) (end : BoardValue)
+      → ChargeRun c.measure c.amount (powered b c.start) (run_outcome ms (Stopped stop) end)
+      → EachChargePays m (c ∷ cs) b h (run_outcome (power_up_of b c.start ∷ ms) (Stopped stop) end)
 
 -- why a run ended, where this is what the next attempt would come to on the readings from the last boot or done on
 abbrev pub IsEndOf : End → Outcome → Reason → Type 0
@@ -53,22 +54,22 @@ IsEndOf (Stopped (stop.Illegal pc word)) next why = ⊥
 IsEndOf (Stopped (stop.Bus pc address)) next why = ⊥
 
 -- what a run under one charge alone has: its spans follow one another from the first reading on, up to the last done
-pub record IsUninterrupted (readings : List ℕ) (h : History) (spans : List Committed) : Type 0 where
+pub record IsUninterrupted (readings : List ℕ) (since : ℕ) (spans : List Committed) : Type 0 where
   pub consecutive : IsConsecutive 0 (length readings) spans
-  pub since : position_after 0 spans ≡ h.since
+  pub at_last : position_after 0 spans ≡ since
 
 -- the report of a run, as the source tells it: behind the bound the source's report of the transitions on the spans of the dones,
 -- each of which one task takes exactly; and how it ended, with the number of transitions
-pub record IsToldBySource (text : List ℕ) (program : CheckedProgram) (m : MapValue) (x : World) (cs : List BoardCharge) (b : BoardValue) (r : RunOutcome)
+pub record IsToldBySource (text : List ℕ) (program : CheckedProgram) (m : MapValue) (cs : List BoardCharge) (b : BoardValue) (r : RunOutcome)
     (report : List ℕ) : Type 0 where
   pub spans : List Committed
   pub transitions : List Transition
   pub why : Reason
-  pub spans_are : spans ≡ committed_by (events_of m x r).completed
+  pub spans_are : spans ≡ spans_of m (at_first m b) r.moments
   pub source : source_run program (first_state program) (map (readings_of b.readings) spans) ≡ Some transitions
   pub lines : report ≡ bound_line m.bound ++ (source_report text program 1 spans transitions
       ++ end_line why (length spans) r.board.receiver.accepted r.board.receiver.repeats)
   pub ending : let s = state_behind (first_state program) transitions in
-      IsEndOf r.ending (attempt_of program s.task s.shared (drop (events_of m x r).since b.readings)) why
-  pub progress : Progresses m.words.gate m.bound cs b (first_history m.words.gate x) r
-  pub uninterrupted : length cs ≡ 1 → IsUninterrupted b.readings (events_of m x r) spans
+      IsEndOf r.ending (attempt_of program s.task s.shared (drop (after_all (at_first m b) r.moments).since b.readings)) why
+  pub progress : EachChargePays m cs b (at_first m b) r
+  pub uninterrupted : length cs ≡ 1 → IsUninterrupted b.readings (after_all (at_first m b) r.moments).since spans

@@ -1,0 +1,132 @@
+-- The spans of the transitions of a run, read off its moments, are those of the dones that are read off its effects; and so each of its
+-- charges pays for its transitions.
+use Rattle.std.proofs.Common.{◌≡◌, ℕ, ◌+◌, ◌*◌, ◌≤◌, refl, sym, ap, ap₂, ◌∙◌, subst, arith, Bool, true, false, cond, if◌then◌else◌, List, [], ◌∷◌, ◌++◌, length, map, append_assoc, append-nil, length-append, Some, Ok}
+use Rattle.std.proofs.lemmas.List.{length-map, map-append}
+use Rattle.msp_isa.specs.declared.instructions.Instr.{Instr}
+use Rattle.image_map.specs.MapValue.{MapValue, IsMap}
+use Rattle.fram_board.specs.declared.board.Stepped.{Stepped}
+use Rattle.fram_board.specs.Board.{BoardValue, PowerState, powered, executed, IsNextInstruction}
+use Rattle.fram_board.specs.Run.{Execute, Moment, moment_of, power_up_of, Charges, RunOutcome, run_outcome, after_moments, BoardCharge}
+use Rattle.board_run.specs.History.{noted, is_done, word_in}
+use Rattle.board_run.specs.History as board
+use Rattle.board_run.specs.Report.{after_all}
+use Rattle.machine_effects.specs.World.{World}
+use Rattle.machine_effects.specs.Runs.{action_effects, last_board}
+use Rattle.crash_rules.specs.History.{Done, History, is_decide, behind_boot, behind_decide, behind_done, behind_gate, first_history, observe}
+use Rattle.crash_rules.proofs.Observed.{with_effects}
+use Rattle.run_charges.specs.Charges.{ArePowerStates, behind_action, observed}
+use Rattle.run_charges.specs.Laws.{IsRunOfWords}
+use Rattle.run_charges.proofs.Moments.{IsMomentFrom, PowersUp, Instructs, AreMoments, charge_moments, charge_last, first_start, other_starts, front_moments}
+use Rattle.run_events.specs.Events.{SaysTheSame}
+use Rattle.run_events.specs.Laws.{StartsWith}
+use Rattle.run_events.proofs.Histories.{Together, observed_so, moment_leads, moments_lead, first_histories_are_the_same}
+use Rattle.source_report.specs.SourceReport.{Committed}
+use Rattle.source_events.specs.Transitions.{committed_by}
+use Rattle.model_runs.specs.Runs as model
+use Rattle.model_runs.specs.Runs.{Progresses}
+use Rattle.source_runs.specs.Tells.{spans_by, spans_of, at_first, PaysFor, EachChargePays, AllSpent, SpentOne, StoppedIn}
+
+-- a span, or none
+abbrev span_if : Bool → ℕ → ℕ → List Committed
+span_if b from to = if b then record { from = from; to = to } ∷ [] else []
+
+-- an event adds the span of the last decide where it is a done
+event_adds : (before now : ℕ) (k : History)
+    → committed_by (behind_gate before now k).completed ≡ committed_by k.completed ++ span_if (is_done before now) k.span_from k.span_to
+event_adds before now k =
+    elim (is_done before now) as (λ p. committed_by (cond p (behind_done k) (cond (is_decide before now) (behind_decide k) k)).completed
+    ≡ committed_by k.completed ++ span_if p k.span_from k.span_to) [
+      | true ↦ map-append (λ d. record { from = d.span_from; to = d.span_to }) k.completed
+          (record { span_from = k.span_from; span_to = k.span_to; world = k.world } ∷ [])
+      | false ↦ elim (is_decide before now) as (λ q. committed_by (cond q (behind_decide k) k).completed ≡ committed_by k.completed ++ []) [
+        | true ↦ sym (append-nil (committed_by k.completed))
+        | false ↦ sym (append-nil (committed_by k.completed))
+      ]
+    ]
+
+module _ (m : MapValue) (x : World) (ok : IsMap m) where
+  abbrev gate : ℕ
+  gate = m.words.gate
+
+  -- the history by effects behind a moment adds the spans of the moment
+  abbrev Adds : board.History → History → Moment → Type 0
+  Adds h k o = committed_by (behind_action gate o.action o.before o.after k).completed ≡ committed_by k.completed ++ spans_by m h o.action o.after
+
+  instruction_adds : (b : BoardValue) (h : board.History) (k : History) → Together m x b h k → (i : Instr) (done : Stepped) → IsNextInstruction b i
+      → (executed b i).answer ≡ Ok done → Adds h k (moment_of b i done)
+  instruction_adds b h k t i done current answer =
+      let after = (executed b i).board in
+      let moved = with_effects (action_effects (Execute done (executed b i).offered) b after) k in
+      let before : ℕ = k.world.fram gate in
+      let now : ℕ = word_in after.fram gate in
+      let a = t.same.alike in
+      ap (λ y. committed_by y.completed) (observed_so m x ok b h k t i done current answer)
+      ∙ event_adds before now moved
+      ∙ ap₂ (λ p q. committed_by k.completed ++ span_if (is_done before now) p q) (sym a.span_from) (sym a.span_to)
+      ∙ ap (λ g. committed_by k.completed ++ span_if (is_done g now) h.span_from h.span_to) (sym t.same.gate)
+
+  moment_adds : (b : BoardValue) (h : board.History) (k : History) → Together m x b h k → (o : Moment) → IsMomentFrom b o → Adds h k o
+  moment_adds b h k t o (PowersUp p start e) =
+      let P : Moment → Type 0 = λ y. Adds h k y in subst P (sym e) (sym (append-nil (committed_by k.completed)))
+  moment_adds b h k t o (Instructs i done c a e) =
+      let P : Moment → Type 0 = λ y. Adds h k y in subst P (sym e) (instruction_adds b h k t i done c a)
+
+  -- and behind all of them
+  moments_add : (b : BoardValue) (h : board.History) (k : History) (ms : List Moment) → Together m x b h k → AreMoments b ms
+      → committed_by (observed gate ms k).completed ≡ committed_by k.completed ++ spans_of m h ms
+  moments_add b h k [] t are = sym (append-nil (committed_by k.completed))
+  moments_add b h k (o ∷ ms) t are =
+      let j = behind_action gate o.action o.before o.after k in
+      let one = moment_leads m x ok b h k t o are.0 in
+      moments_add o.after (noted h o) j ms one.together are.1
+      ∙ ap (λ l. l ++ spans_of m (noted h o) ms) (moment_adds b h k t o are.0)
+      ∙ append_assoc (committed_by k.completed) (spans_by m h o.action o.after) (spans_of m (noted h o) ms)
+
+  -- a charge that pays for dones pays for the transitions that are read off its moments
+  pays_so : (c : BoardCharge) (k j : History) (spans : List Committed) → committed_by j.completed ≡ committed_by k.completed ++ spans
+      → model.PaysFor m.bound c k j → PaysFor m c spans
+  pays_so c k j spans e pays is n enough =
+      let more = pays is n enough in
+      let all : length (committed_by j.completed) ≡ length (committed_by k.completed) + length spans =
+      ap length e ∙ length-append (committed_by k.completed) spans in
+      let now : length (committed_by j.completed) ≡ length j.completed = length-map j.completed (λ d. record { from = d.span_from; to = d.span_to }) in
+      let old : length (committed_by k.completed) ≡ length k.completed = length-map k.completed (λ d. record { from = d.span_from; to = d.span_to }) in
+      omega (arith, more, all, now, old)
+
+  charges_pay : (cs : List BoardCharge) (b : BoardValue) (k : History) (r : RunOutcome) (h : board.History) → Together m x b h k → ArePowerStates cs
+      → Progresses gate m.bound cs b k r → EachChargePays m cs b h r
+  charges_pay cs b k r h t starts (model.AllSpent _ _) = AllSpent b h
+  charges_pay cs b k r h t starts (model.SpentOne c ds _ _ ms end rest one pays more) =
+      let start = first_start c ds starts in
+      let own = power_up_of b c.start ∷ ms in
+      let are : AreMoments b own = (PowersUp c.start start refl, charge_moments c.measure c.amount (powered b c.start) (run_outcome ms Charges end) one) in
+      let there : last_board (powered b c.start) ms ≡ end = charge_last c.measure c.amount (powered b c.start) (run_outcome ms Charges end) one refl in
+      let P : BoardValue → Type 0 = λ y. Together m x y (after_all h own) (observed gate own k) in
+      let next = subst P there (moments_lead m x ok b h k own t are).together in
+      SpentOne c ds b h ms end rest one
+      (pays_so c k (observed gate own k) (spans_of m h own) (moments_add b h k own t are) pays)
+      (charges_pay ds end (observed gate own k) rest (after_all h own) next (other_starts c ds starts) more)
+  charges_pay cs b k r h t starts (model.StoppedIn c ds _ _ ms stop end one) = StoppedIn c ds b h ms stop end one
+
+-- of a run from its beginning on: the spans, the readings taken at the last boot or done, and what its charges pay for
+pub record IsReadOff (m : MapValue) (cs : List BoardCharge) (b : BoardValue) (r : RunOutcome) (k : History) : Type 0 where
+  pub spans : committed_by k.completed ≡ spans_of m (at_first m b) r.moments
+  pub since : k.since ≡ (after_all (at_first m b) r.moments).since
+  pub pays : (x : World) → Progresses m.words.gate m.bound cs b (first_history m.words.gate x) r → StartsWith b x → EachChargePays m cs b (at_first m b) r
+
+pub read_off : (m : MapValue) (x : World) (cs : List BoardCharge) (b : BoardValue) (r : RunOutcome) → IsMap m → StartsWith b x → IsRunOfWords cs b r
+    → IsReadOff m cs b r (observed m.words.gate r.moments (first_history m.words.gate x))
+read_off m x cs b r ok starts run =
+    let k = first_history m.words.gate x in
+    let t = together x starts in
+    let are = front_moments cs b r r.moments [] run.starts run.run (sym (append-nil r.moments)) in
+    record {
+      spans = moments_add m x ok b (at_first m b) k r.moments t are;
+      since = sym (moments_lead m x ok b (at_first m b) k r.moments t are).together.same.alike.since;
+      pays = λ y progress begins. charges_pay m y ok cs b (first_history m.words.gate y) r (at_first m b) (together y begins) run.starts progress;
+    }
+  where
+    together : (y : World) → StartsWith b y → Together m y b (at_first m b) (first_history m.words.gate y)
+    together y begins =
+        let begun = first_histories_are_the_same b m y ok begins in
+        record { whole = run.whole; words = run.words; same = begun.0; tells = begun.1 }
