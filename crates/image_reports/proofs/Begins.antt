@@ -1,10 +1,10 @@
 -- The fresh board of a source's image begins with the source.
-use Rattle.std.proofs.Common.{◌<◌, ℕ, refl, sym, subst, List, All}
+use Rattle.std.proofs.Common.{◌<◌, ◌≤◌, ℕ, length, refl, sym, subst, List, All}
 use Rattle.cost_bound.specs.declared.allowance.Allow.{Allow}
 use Rattle.energy_trace.specs.TraceValue.{TraceValue}
 use Rattle.image_text.specs.ImageValue.{ImageValue}
 use Rattle.fram_board.specs.Board.{BoardValue, fresh}
-use Rattle.fram_board.specs.Run.{RunOutcome, Run}
+use Rattle.fram_board.specs.Run.{BoardCharge, RunOutcome, Run}
 use Rattle.board_run.specs.Charges.{charges_of}
 use Rattle.machine_effects.specs.World.{World}
 use Rattle.machine_effects.specs.View.{machine_of}
@@ -12,7 +12,7 @@ use Rattle.machine_effects.proofs.Words.{fresh_is_whole}
 use Rattle.source_values.specs.Runs.{CheckedProgram, first_state}
 use Rattle.crash_rules.specs.Laws.{Resting, Begins}
 use Rattle.crash_rules.proofs.Theorems.{runs_may_begin}
-use Rattle.run_charges.specs.Charges.{IsPlacedProgram}
+use Rattle.run_charges.specs.Charges.{ArePowerStates, IsPlacedProgram}
 use Rattle.run_charges.specs.Laws.{IsRunOfWords}
 use Rattle.privatise.specs.LayoutValue.{LayoutValue}
 use Rattle.compiled_model.specs.Parts.{compiled_model}
@@ -21,7 +21,7 @@ use Rattle.compiled_runs.proofs.Program.{code_keeps_the_laws}
 use Rattle.compiled_runs.proofs.Leaves.{code_is_placed, runs_leave_the_code}
 use Rattle.model_runs.specs.Runs.{BearsModel}
 use Rattle.source_runs.specs.Traces.{IsTraceOfWords}
-use Rattle.source_runs.specs.Tells.{BeginsWithSource}
+use Rattle.source_runs.specs.Sources.{BeginsWithSource}
 use Rattle.source_runs.proofs.Traces.{traces_are_few}
 use Rattle.source_maps.specs.Maps.{map_of}
 use Rattle.link_image.specs.Compiled.{IsCompiled}
@@ -39,7 +39,7 @@ module _ (text : List ℕ) (p : CheckedProgram) (allow : Allow) (image : ImageVa
   abbrev b : BoardValue
   b = fresh image.words readings
 
-  begins : Begins (compiled_model p l) readings (Resting (first_state p)) x (machine_of b)
+  abbrev pub begins : Begins (compiled_model p l) readings (Resting (first_state p)) x (machine_of b)
   begins = record {
     fram = refl;
     readings_left = refl;
@@ -48,7 +48,7 @@ module _ (text : List ℕ) (p : CheckedProgram) (allow : Allow) (image : ImageVa
         (ready.model.rests_undecided (first_state p) x new.rests);
   }
 
-  bears : BearsModel (compiled_model p l) (compiled_program p l) readings (Resting (first_state p)) x b
+  abbrev pub bears : BearsModel (compiled_model p l) (compiled_program p l) readings (Resting (first_state p)) x b
   bears =
       let P : ℕ → Type 0 = λ entry. IsPlacedProgram (compiled_program p l) l.boot.address (source_code p l) entry in
       record {
@@ -72,10 +72,17 @@ module _ (text : List ℕ) (p : CheckedProgram) (allow : Allow) (image : ImageVa
     words = new.has_words;
   }
 
--- its run on a trace is a run of words
+-- its run under any charges is a run of words
+pub run_of_states : (text : List ℕ) (p : CheckedProgram) (allow : Allow) (image : ImageValue) → IsCompiled text p allow image
+    → (cs : List BoardCharge) → ArePowerStates cs → (readings : List ℕ) → All (λ w. w < 0x10000) readings → length readings ≤ 262144
+    → (r : RunOutcome) → Run cs (fresh image.words readings) r → IsRunOfWords cs (fresh image.words readings) r
+run_of_states text p allow image c cs starts readings words few r run =
+    let w = fresh_is_whole image.words readings c.words.count few c.words.are_words words in
+    record { whole = w.0; words = w.1; starts = starts; run = run }
+
+-- so is its run on a trace
 pub run_of_words : (text : List ℕ) (p : CheckedProgram) (allow : Allow) (image : ImageValue) → IsCompiled text p allow image → (trace : TraceValue)
     → IsTraceOfWords trace → (r : RunOutcome) → Run (charges_of trace.charges) (fresh image.words trace.readings) r
     → IsRunOfWords (charges_of trace.charges) (fresh image.words trace.readings) r
 run_of_words text p allow image c trace t r run =
-    let w = fresh_is_whole image.words trace.readings c.words.count t.trace.readings c.words.are_words t.readings in
-    record { whole = w.0; words = w.1; starts = (traces_are_few trace t).0; run = run }
+    run_of_states text p allow image c (charges_of trace.charges) (traces_are_few trace t).0 trace.readings t.readings t.trace.readings r run

@@ -1,13 +1,17 @@
 -- A run of an image keeps to the capacities of the runtime's buffers.
-use Rattle.std.proofs.Common.{◌≡◌, ◌≤◌, ℕ, arith, List}
+use Rattle.std.proofs.Common.{◌≡◌, ◌<◌, ◌≤◌, ℕ, arith, List, ◌++◌, All}
 use Rattle.cost_bound.specs.declared.allowance.Allow.{Allow}
 use Rattle.image_text.specs.ImageValue.{ImageValue}
 use Rattle.fram_board.specs.Board.{fresh}
+use Rattle.fram_board.specs.Run.{BoardCharge, Moment, RunOutcome}
 use Rattle.board_run.specs.Charges.{charges_of}
 use Rattle.machine_effects.specs.Machine.{IsFram, fram_of}
+use Rattle.machine_effects.specs.Runs.{last_board}
 use Rattle.source_values.specs.Runs.{CheckedProgram, IsRunnable, first_state}
 use Rattle.source_meaning.specs.Acceptance.{IsAcceptedText}
+use Rattle.source_meaning.proofs.Runnable.{accepted_texts_run}
 use Rattle.crash_rules.specs.Laws.{Resting}
+use Rattle.run_charges.specs.Laws.{IsRunOfWords}
 use Rattle.privatise.specs.LayoutValue.{LayoutValue}
 use Rattle.stands_for.proofs.Starts.{each_weaker}
 use Rattle.task_attempts.specs.Laws.{IsBelowCode}
@@ -23,8 +27,11 @@ use Rattle.ready_sources.proofs.Ready.{sources_are_ready}
 use Rattle.image_reports.specs.Laws.{ImagesKeepCapacities}
 use Rattle.image_reports.proofs.Begins.{begins_with_source, run_of_words}
 
-module _ (text : List ℕ) (p : CheckedProgram) (allow : Allow) (image : ImageValue) (ok : IsAcceptedText text p allow) (runs : IsRunnable p)
+module _ (text : List ℕ) (p : CheckedProgram) (allow : Allow) (image : ImageValue) (ok : IsAcceptedText text p allow)
     (c : IsCompiled text p allow image) where
+  runs : IsRunnable p
+  runs = accepted_texts_run text p allow ok
+
   abbrev l : LayoutValue
   l = c.layout
 
@@ -56,12 +63,18 @@ module _ (text : List ℕ) (p : CheckedProgram) (allow : Allow) (image : ImageVa
         versions = λ i below. let zero = version text p allow image ok runs c i below in omega (arith, zero);
       }
 
+  -- at each board of a run under any charges
+  pub capacities_stay : (cs : List BoardCharge) (readings : List ℕ) → All (λ w. w < 0x10000) readings → (r : RunOutcome)
+      → IsRunOfWords cs (fresh image.words readings) r → (ms rest : List Moment) → r.moments ≡ ms ++ rest
+      → KeepsCapacities l (fram_of (last_board (fresh image.words readings) ms).fram)
+  capacities_stay cs readings words r run ms rest e =
+      let ready = sources_are_ready text p allow c.plans l laid in
+      let new = images_are_fresh text p allow image ok c in
+      let begins = begins_with_source text p allow image c readings words ready new in
+      capacities_are_kept (compiled_program p l) p l ready.code.apart ready.code.room attempts_fit readings (Resting (first_state p))
+      (fresh_world image) cs (fresh image.words readings) r run begins.bears at_first ms rest e
+
 pub images_keep_capacities : ImagesKeepCapacities
-images_keep_capacities text p allow image ok runs c trace t r run ms rest e =
-    let l = c.layout in
-    let ready = sources_are_ready text p allow c.plans l (laid text p allow image ok runs c) runs in
-    let new = images_are_fresh text p allow image ok runs c in
-    let begins = begins_with_source text p allow image c trace.readings t.readings ready new in
-    capacities_are_kept (compiled_program p l) p l ready.code.apart ready.code.room (attempts_fit text p allow image ok runs c)
-    trace.readings (Resting (first_state p)) (fresh_world image) (charges_of trace.charges) (fresh image.words trace.readings) r
-    (run_of_words text p allow image c trace t r run) begins.bears (at_first text p allow image ok runs c) ms rest e
+images_keep_capacities text p allow image ok c trace t r run ms rest e =
+    capacities_stay text p allow image ok c (charges_of trace.charges) trace.readings t.readings r
+    (run_of_words text p allow image c trace t r run) ms rest e

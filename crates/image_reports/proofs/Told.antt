@@ -1,10 +1,18 @@
 -- The headline.
-use Rattle.std.proofs.Common.{◌≡◌, ℕ, sym, ◌∙◌, refl, subst, Option, Some}
+use Rattle.std.proofs.Common.{◌<◌, ◌^◌, ℕ, sym, refl, subst, Option, List, All}
+use Rattle.cost_bound.specs.declared.allowance.Allow.{Allow}
 use Rattle.image_map.specs.MapValue.{MapValue}
-use Rattle.fram_board.specs.Board.{fresh}
+use Rattle.image_text.specs.ImageValue.{ImageValue}
+use Rattle.fram_board.specs.Board.{BoardValue, fresh}
+use Rattle.fram_board.specs.Run.{BoardCharge, RunOutcome}
 use Rattle.board_run.specs.Charges.{charges_of}
-use Rattle.board_run.specs.History.{start_with}
+use Rattle.board_run.specs.History.{start_with, start_of}
 use Rattle.board_run.specs.Report.{report_of}
+use Rattle.source_values.specs.Runs.{CheckedProgram, IsRunnable}
+use Rattle.source_meaning.specs.Acceptance.{IsAcceptedText}
+use Rattle.source_meaning.proofs.Runnable.{accepted_texts_run}
+use Rattle.run_charges.specs.Laws.{IsRunOfWords}
+use Rattle.model_runs.specs.Runs.{all_amounts}
 use Rattle.compiled_runs.specs.Program.{compiled_program}
 use Rattle.source_runs.specs.Tells.{IsToldBySource}
 use Rattle.source_runs.proofs.Traces.{traces_are_few}
@@ -14,39 +22,58 @@ use Rattle.source_names.proofs.Accepted.{names_are_names}
 use Rattle.source_maps.specs.Maps.{map_of}
 use Rattle.source_maps.specs.Laws.{IsSourceMap}
 use Rattle.source_maps.proofs.Maps.{maps_are_of_sources}
+use Rattle.link_image.specs.Compiled.{IsCompiled}
 use Rattle.link_image.specs.Laws.{fresh_world}
 use Rattle.link_image.proofs.Fresh.{images_are_fresh}
 use Rattle.link_image.proofs.States.{maps_find_states}
 use Rattle.ready_sources.proofs.Ready.{sources_are_ready}
-use Rattle.image_reports.specs.Laws.{ImagesAreTold}
+use Rattle.image_reports.specs.Laws.{ImagesAreTold, ImagesAreMapped}
 use Rattle.image_reports.proofs.Begins.{begins_with_source, run_of_words}
 
+module _ (text : List ℕ) (p : CheckedProgram) (allow : Allow) (image : ImageValue) (ok : IsAcceptedText text p allow) (c : IsCompiled text p allow image) where
+  runs : IsRunnable p
+  runs = accepted_texts_run text p allow ok
+
+  pub made : IsSourceMap text p allow c.layout
+  made = maps_are_of_sources text p allow c.plans c.layout (record {
+    names = names_are_names text p ok.checks;
+    few_shared = runs.few_shared;
+    few_tasks = runs.few_tasks;
+    allowed = ok.allowed;
+    plan = c.is_plan;
+    layout = c.is_layout;
+  })
+
+  abbrev m : MapValue
+  m = map_of text p c.layout allow
+
+  -- its run under any charges that have fewer than 2^64 cycles and instructions in all
+  pub runs_are_told : (cs : List BoardCharge) (readings : List ℕ) → All (λ w. w < 0x10000) readings → (r : RunOutcome)
+      → IsRunOfWords cs (fresh image.words readings) r → all_amounts cs < 2 ^ 64
+      → IsToldBySource text p (map_of text p c.layout allow) cs (fresh image.words readings) r (report_of (start_of image) r)
+  runs_are_told cs readings words r run few =
+      let l = c.layout in
+      let x = fresh_world image in
+      let b : BoardValue = fresh image.words readings in
+      let source : IsSourcesMap text p l m = record {
+        runnable = runs;
+        is_map = made.is_map;
+        of_source = made.of_source;
+        bound = ok.allowed.cycles;
+        words = refl;
+        rests = maps_find_states text p allow image ok c;
+      } in
+      let ready = sources_are_ready text p allow c.plans l (record { accepted = ok; plan = c.is_plan; layout = c.is_layout }) in
+      let new = images_are_fresh text p allow image ok c in
+      let P : Option MapValue → Type 0 = λ o. IsToldBySource text p m cs b r (report_of (start_with image.words o) r) in
+      subst P (sym c.map)
+      (compiled_runs_are_told (compiled_program p l) text p l m x cs b r source
+      (begins_with_source text p allow image c readings words ready new) run few)
+
+pub images_are_mapped : ImagesAreMapped
+images_are_mapped text p allow image ok c = (made text p allow image ok c).of_source
+
 pub images_are_told : ImagesAreTold
-images_are_told text p allow image ok runs c trace t r run =
-    let l = c.layout in
-    let m = map_of text p l allow in
-    let x = fresh_world image in
-    let b = fresh image.words trace.readings in
-    let made : IsSourceMap text p allow l = maps_are_of_sources text p allow c.plans l (record {
-      names = names_are_names text p ok.checks;
-      few_shared = runs.few_shared;
-      few_tasks = runs.few_tasks;
-      allowed = ok.allowed;
-      plan = c.is_plan;
-      layout = c.is_layout;
-    }) in
-    let source : IsSourcesMap text p l m = record {
-      runnable = runs;
-      is_map = made.is_map;
-      of_source = made.of_source;
-      bound = ok.allowed.cycles;
-      words = refl;
-      rests = maps_find_states text p allow image ok c;
-    } in
-    let ready = sources_are_ready text p allow c.plans l (record { accepted = ok; plan = c.is_plan; layout = c.is_layout }) runs in
-    let new = images_are_fresh text p allow image ok runs c in
-    let P : Option MapValue → Type 0 = λ o. IsToldBySource text p m x (charges_of trace.charges) b r (report_of (start_with image.words o) r) in
-    subst P (sym c.map)
-    (compiled_runs_are_told (compiled_program p l) text p l m x (charges_of trace.charges) b r source
-    (begins_with_source text p allow image c trace.readings t.readings ready new)
-    (run_of_words text p allow image c trace t r run) (traces_are_few trace t).1)
+images_are_told text p allow image ok c trace t r run =
+    runs_are_told text p allow image ok c (charges_of trace.charges) trace.readings t.readings r
+    (run_of_words text p allow image c trace t r run) (traces_are_few trace t).1

@@ -2,6 +2,8 @@
 //! says of images are the contracts of its laws.
 #![tactic(auto)]
 
+mod image_law;
 mod laws;
 
-pub use laws::{images_are_told, images_keep_capacities};
+pub use image_law::images_keep_the_laws;
+pub use laws::{images_are_mapped, images_are_told, images_keep_capacities};

@@ -5,6 +5,7 @@ use Rattle.std.specs.Prelude.{slice_index}
 use Rattle.cost_bound.specs.declared.allowance.Allow.{Allow}
 use Rattle.source_values.specs.Runs.{CheckedProgram, IsRunnable, first_state, initial_rows}
 use Rattle.source_meaning.specs.Acceptance.{IsAcceptedText}
+use Rattle.source_meaning.proofs.Runnable.{accepted_texts_run}
 use Rattle.image_text.specs.ImageValue.{ImageValue, place_of}
 use Rattle.fram_board.specs.Bus.{is_fram}
 use Rattle.machine_effects.specs.World.{World}
@@ -197,4 +198,4 @@ module _ (text : List ℕ) (p : CheckedProgram) (allow : Allow) (image : ImageVa
   }
 
 pub images_are_fresh : ImagesAreFresh
-images_are_fresh text p allow image ok runs c = is_fresh text p allow image ok runs c
+images_are_fresh text p allow image ok c = is_fresh text p allow image ok (accepted_texts_run text p allow ok) c

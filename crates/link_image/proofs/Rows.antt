@@ -13,7 +13,8 @@ use Rattle.privatise.specs.declared.place.VariablePlace.TheVariants.{Scalar, Arr
 use Rattle.privatise.specs.Places.{home_region}
 use Rattle.machine_effects.specs.World.{World}
 use Rattle.run_events.specs.Events.{world_values}
-use Rattle.source_events.specs.Transitions.{length_of, rows_in}
+use Rattle.source_events.specs.Naming.{length_of}
+use Rattle.source_events.specs.Transitions.{rows_in}
 use Rattle.compiled_model.specs.View.{are_words, are_rows}
 use Rattle.source_maps.specs.Maps.{variable_of, variables_of}
 

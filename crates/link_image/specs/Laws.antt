@@ -1,7 +1,7 @@
 -- What holds of the image of an accepted source.
 use Rattle.std.specs.Prelude.{◌≡◌, ℕ, List, []}
 use Rattle.cost_bound.specs.declared.allowance.Allow.{Allow}
-use Rattle.source_values.specs.Runs.{CheckedProgram, State, IsRunnable, first_state}
+use Rattle.source_values.specs.Runs.{CheckedProgram, State, first_state}
 use Rattle.source_meaning.specs.Acceptance.{IsAcceptedText}
 use Rattle.image_text.specs.ImageValue.{ImageValue}
 use Rattle.machine_effects.specs.World.{World}
@@ -33,7 +33,7 @@ pub record IsFreshImage (text : List ℕ) (p : CheckedProgram) (allow : Allow) (
 
 abbrev pub ImagesAreFresh : Type 0
 ImagesAreFresh = (text : List ℕ) (p : CheckedProgram) (allow : Allow) (image : ImageValue) → IsAcceptedText text p allow
-    → IsRunnable p → (c : IsCompiled text p allow image) → IsFreshImage text p allow c.layout image
+    → (c : IsCompiled text p allow image) → IsFreshImage text p allow c.layout image
 
 -- where the world rests at a state of the source, the map finds the state's words in it
 abbrev pub MapsFindStates : Type 0

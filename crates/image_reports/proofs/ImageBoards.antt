@@ -1,0 +1,73 @@
+-- What is known of a run tells of the board behind each front of it.
+use Rattle.std.proofs.Common.{◌≡◌, ℕ, sym, ap, ◌∙◌, subst, List, [], ◌∷◌, ◌++◌, length, append_assoc, append-nil, Ok}
+use Rattle.msp_isa.specs.declared.instructions.Instr.{Instr}
+use Rattle.fram_board.specs.declared.board.Stepped.{Stepped}
+use Rattle.fram_board.specs.Board.{BoardValue, PowerState, IsPowerState, powered, executed, IsNextInstruction}
+use Rattle.fram_board.specs.Effects.{Effect}
+use Rattle.fram_board.specs.Run.{Moment, moment_of, word_list, accepted_by, accepted_words, BoardCharge, RunOutcome}
+use Rattle.machine_effects.specs.World.{accepted_after}
+use Rattle.machine_effects.specs.View.{IsWhole, IsOfWords}
+use Rattle.machine_effects.specs.Runs.{last_board}
+use Rattle.machine_effects.proofs.Worlds.{world_by_its_parts}
+use Rattle.machine_effects.proofs.Words.{power_up_keeps_words}
+use Rattle.crash_rules.specs.History.{History, behind_boot}
+use Rattle.crash_rules.proofs.Observed.{observed_world, observed_taken}
+use Rattle.run_charges.specs.Charges.{behind_action, observed}
+use Rattle.run_charges.specs.Laws.{IsRunOfWords}
+use Rattle.run_charges.proofs.Moments.{IsMomentFrom, PowersUp, Instructs, AreMoments, front_moments, told, whole_after, words_after, words_accepted, words_counted, readings_counted}
+
+-- the words accepted and the readings taken are a board's
+pub record Counts (b : BoardValue) (h : History) (ws : List ℕ) : Type 0 where
+  pub whole : IsWhole b
+  pub words : IsOfWords b
+  pub accepted : h.world.accepted ≡ ws
+  pub count : length ws ≡ b.receiver.accepted
+  pub taken : h.taken ≡ b.taken
+
+module _ (gate : ℕ) where
+  power_counts : (b : BoardValue) (h : History) (ws : List ℕ) (p : PowerState) → Counts b h ws → IsPowerState p
+      → Counts (powered b p) (behind_boot h) (ws ++ [])
+  power_counts b h ws p k ok =
+      let up = power_up_keeps_words b p k.whole k.words ok in
+      let P : List ℕ → Type 0 = λ l. Counts (powered b p) (behind_boot h) l in
+      subst P (sym (append-nil ws)) (record { whole = up.0; words = up.1; accepted = k.accepted; count = k.count; taken = k.taken })
+
+  instruction_counts : (b : BoardValue) (h : History) (ws : List ℕ) (i : Instr) (done : Stepped) → Counts b h ws → IsNextInstruction b i
+      → (executed b i).answer ≡ Ok done
+      → Counts (executed b i).board (behind_action gate (moment_of b i done).action b (executed b i).board h) (ws ++ word_list done.accepted)
+  instruction_counts b h ws i done k c a =
+      let es : List Effect = told b k.whole i done c a in
+      let heard = words_accepted b k.whole i done c a ws k.count in
+      record {
+        whole = whole_after b k.whole i done c a;
+        words = words_after b k.whole i done c a k.words;
+        accepted = ap (λ w. w.accepted) (observed_world gate es h ∙ world_by_its_parts es h.world) ∙ ap (accepted_after es) k.accepted ∙ heard;
+        count = sym (ap length heard) ∙ words_counted b k.whole i done c a ws k.count;
+        taken = observed_taken gate es h ∙ readings_counted b k.whole i done c a h k.taken;
+      }
+
+  moment_counts : (b : BoardValue) (h : History) (ws : List ℕ) (m : Moment) → Counts b h ws → IsMomentFrom b m
+      → Counts m.after (behind_action gate m.action m.before m.after h) (ws ++ accepted_by m.action)
+  moment_counts b h ws m k (PowersUp p ok e) =
+      let P : Moment → Type 0 = λ y. Counts y.after (behind_action gate y.action y.before y.after h) (ws ++ accepted_by y.action) in
+      subst P (sym e) (power_counts b h ws p k ok)
+  moment_counts b h ws m k (Instructs i done c a e) =
+      let P : Moment → Type 0 = λ y. Counts y.after (behind_action gate y.action y.before y.after h) (ws ++ accepted_by y.action) in
+      subst P (sym e) (instruction_counts b h ws i done k c a)
+
+  moments_count : (b : BoardValue) (h : History) (ws : List ℕ) (ms : List Moment) → Counts b h ws → AreMoments b ms
+      → Counts (last_board b ms) (observed gate ms h) (ws ++ accepted_words ms)
+  moments_count b h ws [] k all = let P : List ℕ → Type 0 = λ l. Counts b h l in subst P (sym (append-nil ws)) k
+  moments_count b h ws (m ∷ ms) k all =
+      let one = moment_counts b h ws m k all.0 in
+      let j = behind_action gate m.action m.before m.after h in
+      let P : List ℕ → Type 0 = λ l. Counts (last_board m.after ms) (observed gate ms j) l in
+      subst P (append_assoc ws (accepted_by m.action) (accepted_words ms)) (moments_count m.after j (ws ++ accepted_by m.action) ms one all.1)
+
+  -- from a board whose receiver accepted nothing
+  pub front_counts : (cs : List BoardCharge) (b : BoardValue) (r : RunOutcome) (h : History) → IsRunOfWords cs b r → h.world.accepted ≡ []
+      → b.receiver.accepted ≡ 0 → h.taken ≡ b.taken → (ms rest : List Moment) → r.moments ≡ ms ++ rest
+      → Counts (last_board b ms) (observed gate ms h) (accepted_words ms)
+  front_counts cs b r h run none count taken ms rest e =
+      moments_count b h [] ms (record { whole = run.whole; words = run.words; accepted = none; count = sym count; taken = taken })
+      (front_moments cs b r ms rest run.starts run.run e)

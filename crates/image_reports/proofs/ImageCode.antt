@@ -1,0 +1,149 @@
+-- At each front of a run the board's next instruction is one of the code, whose words are those of the image.
+use Rattle.std.proofs.Common.{◌≡◌, ℕ, zero, suc, ◌+◌, ◌*◌, ◌%◌, ◌<◌, ◌≤◌, ◌==◌, ◌&&◌, Bool, true, false, cond, refl, sym, ap, ◌∙◌, subst, arith, eqb-true, List, [], ◌∷◌, length, length-append, Option, Some, None, slice_index}
+use Rattle.std.proofs.lemmas.Bool.Decides.{nat_tests}
+use Rattle.msp_isa.specs.declared.instructions.Instr.{Instr}
+use Rattle.msp_isa.specs.Encoding.{encoding, IsInstruction}
+use Rattle.msp_step.specs.declared.machine.Stop.{Stop}
+use Rattle.msp_step.specs.declared.machine.Stop.TheVariants as stop
+use Rattle.msp_step.specs.Effect.{sum16}
+use Rattle.msp_step.specs.Step.{off_bit, FetchedAt}
+use Rattle.image_text.specs.ImageValue.{place_of}
+use Rattle.fram_board.specs.Bus.{board_bus, is_word, is_ram, is_fram, memory_word, ram_place}
+use Rattle.fram_board.specs.Board.{BoardValue, fresh, filled, powered, opened}
+use Rattle.fram_board.specs.Effects.{Effect}
+use Rattle.machine_effects.specs.Going.{StepOutcome, Goes, Stops, At, Halted, going, continued}
+use Rattle.machine_effects.specs.Machine.{MachineBoard, Code, standing, exec, fram_of}
+use Rattle.code_forms.specs.Placed.{placed, words_of, Holds, AreInstructions}
+use Rattle.code_forms.proofs.Placed.{holds_front, holds_back}
+use Rattle.crash_rules.specs.History.{History, observe, behind_boot}
+use Rattle.crash_rules.specs.Runs.{Program, Charge, Charged}
+
+-- a machine that goes on, but where a reading is wanted that isn't left
+abbrev pub GoesOn : Program → MachineBoard → Type 0
+GoesOn c s = (es : List Effect) (price : ℕ) (e : Stop) → c.step s ≡ Stops es price e → e ≡ stop.NoReading
+
+-- steps that come to a machine which stops then, stop in the next one
+stops_next : {S X : Type 0} (step : S → StepOutcome S X) (n : ℕ) (s t : S) (es : List Effect) (price : ℕ) (e : X)
+    → (going step n s).status ≡ At t → step t ≡ Stops es price e → (going step (suc n) s).status ≡ Halted price e
+stops_next {S} {X} step zero s t es price e h k =
+    let same : s ≡ t = cc h in
+    ap (λ u. (continued (step u) (going step zero)).status) same ∙ ap (λ o. (continued o (going step zero)).status) k
+stops_next {S} {X} step (suc n) s t es price e h k =
+    (elim (step s) as (λ o. (continued o (going step n)).status ≡ At t → (continued o (going step (suc n))).status ≡ Halted price e) [
+      | Goes fs c u ↦ λ q. stops_next step n u t es price e q k
+      | Stops fs p x ↦ λ q. absurd cc
+    ]) h
+
+-- wherever charges lead, a further one stops for want of a reading alone
+abbrev pub StopsAtReadings : Program → ℕ → MachineBoard → History → Type 0
+StopsAtReadings c gate s h = (es : List Charge) (t : MachineBoard) (k : History) → Charged c gate s h es t k → (p : MachineBoard) → c.IsPoweredUp p
+    → p.fram ≡ t.fram → p.readings_left ≡ t.readings_left → (n price : ℕ) (e : Stop) → (going c.step n p).status ≡ Halted price e → e ≡ stop.NoReading
+
+-- so the machine goes on where charges lead
+pub goes_on : (c : Program) (gate : ℕ) (es : List Charge) (s t : MachineBoard) (h k : History) → StopsAtReadings c gate s h → GoesOn c s
+    → Charged c gate s h es t k → GoesOn c t
+goes_on c gate [] s t h k stops here run = let P : MachineBoard → Type 0 = λ u. GoesOn c u in subst P (sym run.0) here
+goes_on c gate (e ∷ es) s t h k stops here run =
+    let q = run.3.0 in
+    let made = (going c.step e.steps e.powered).effects in
+    goes_on c gate es q t (observe gate made (behind_boot h)) k
+    (λ fs u z more. stops (e ∷ fs) u z (run.0, run.1, run.2, (q, run.3.1, more)))
+    (λ fs price x k2. stops [] s h (refl, refl) e.powered run.0 run.1 run.2 (suc e.steps) price x
+    (stops_next c.step e.steps e.powered q fs price x run.3.1 k2))
+    run.3.2
+
+-- code that goes on at a machine: CPUOFF is clear, and an instruction stands at PC
+pub record StandsOn (code : Code) (s : MachineBoard) : Type 0 where
+  pub instruction : Instr
+  pub there : code (s.registers 0) ≡ Some instruction
+  pub on : off_bit s.registers ≡ 0
+
+stands_at : (code : Code) (s : MachineBoard) (q : Option Instr) → code (s.registers 0) ≡ q → off_bit s.registers ≡ 0
+    → ((es : List Effect) (price : ℕ) (e : Stop) → standing q s ≡ Stops es price e → e ≡ stop.NoReading) → StandsOn code s
+stands_at code s None h on goes = absurd (let e = goes _ _ _ refl in cc)
+stands_at code s (Some i) h on goes = record { instruction = i; there = h; on = on }
+
+pub stands_on : (code : Code) (s : MachineBoard)
+    → ((es : List Effect) (price : ℕ) (e : Stop) → exec code s ≡ Stops es price e → e ≡ stop.NoReading) → StandsOn code s
+stands_on code s goes = by (off_bit s.registers == 1) refl
+  where
+    by : (b : Bool) → (off_bit s.registers == 1) ≡ b → StandsOn code s
+    by true e = absurd (let x = goes [] 0 stop.Off (ap (λ b. cond b (Stops [] 0 stop.Off) (standing (code (s.registers 0)) s)) e) in cc)
+    by false e =
+        let on : off_bit s.registers ≡ 0 = grind (arith, nat_tests) in
+        stands_at code s (code (s.registers 0)) refl on
+        (λ es price x k. goes es price x (ap (λ b. cond b (Stops [] 0 stop.Off) (standing (code (s.registers 0)) s)) e ∙ k))
+
+-- an instruction of a list that stands in FRAM: its words are there, within those of the list
+pub record IsWithin (f : ℕ → ℕ) (p n a : ℕ) (i : Instr) : Type 0 where
+  pub is : IsInstruction i
+  pub holds : Holds f a (encoding i)
+  pub from : p ≤ a
+  pub to : a + 2 * length (encoding i) ≤ p + 2 * n
+  pub even : a % 2 ≡ 0
+
+pub placed_within : (f : ℕ → ℕ) (is : List Instr) (p a : ℕ) (i : Instr) → AreInstructions is → p % 2 ≡ 0 → Holds f p (words_of is) → placed p is a ≡ Some i
+    → IsWithin f p (length (words_of is)) a i
+placed_within f [] p a i are e h q = absurd cc
+placed_within f (j ∷ is) p a i are e h q =
+    let next = p + 2 * length (encoding j) in
+    let long : length (words_of (j ∷ is)) ≡ length (encoding j) + length (words_of is) = length-append (encoding j) (words_of is) in
+    (elim (a == p) as (λ x. (a == p) ≡ x → cond x (Some j) (placed next is a) ≡ Some i → IsWithin f p (length (words_of (j ∷ is))) a i) [
+      | true ↦ λ t k.
+          let at : a ≡ p = eqb-true a p t in
+          let same : j ≡ i = cc in
+          let P : ℕ → Instr → Type 0 = λ b x. IsWithin f p (length (words_of (j ∷ is))) b x in
+          subst (λ x. P a x) same (subst (λ b. P b j) (sym at) (record {
+            is = are.0;
+            holds = holds_front f p (encoding j) (words_of is) h;
+            from = omega arith;
+            to = omega (arith, long);
+            even = e;
+          }))
+      | false ↦ λ t k.
+          let r = placed_within f is next a i are.1 (omega arith) (holds_back f p (encoding j) (words_of is) h) k in
+          let from = r.from in
+          let to = r.to in
+          record { is = r.is; holds = r.holds; from = omega (arith, from); to = omega (arith, to, long); even = r.even }
+    ]) refl q
+
+-- words that stand in FRAM twice are the same
+pub same_words : (f g : ℕ → ℕ) (ws : List ℕ) (p a : ℕ) → Holds f p ws → Holds g p ws → p % 2 ≡ 0 → a % 2 ≡ 0 → p ≤ a → a < p + 2 * length ws → f a ≡ g a
+same_words f g [] p a h k e d from to = absurd (omega arith)
+same_words f g (w ∷ ws) p a h k e d from to =
+    (elim (a == p) as (λ x. (a == p) ≡ x → f a ≡ g a) [
+      | true ↦ λ t. let at : a ≡ p = eqb-true a p t in ap f at ∙ h.0 ∙ sym k.0 ∙ ap g (sym at)
+      | false ↦ λ t.
+          let further : p + 2 ≤ a = grind (arith, nat_tests) in
+          same_words f g ws (p + 2) a h.1 k.1 (omega arith) d further (omega arith)
+    ]) refl
+
+fram_word : (a : ℕ) → a % 2 ≡ 0 → 0x4400 ≤ a → a < 0x10000 → is_word a ≡ true
+fram_word a e l h = grind (arith, nat_tests)
+
+fram_no_ram : (a : ℕ) → 0x4400 ≤ a → is_ram a ≡ false
+fram_no_ram a l = grind (arith, nat_tests)
+
+fram_at : (a : ℕ) → a % 2 ≡ 0 → 0x4400 ≤ a → a < 0x10000 → ((a % 2 == 0) && is_fram a) ≡ true
+fram_at a e l h = grind (arith, nat_tests)
+
+-- words of FRAM are fetched by the board
+word_fetched : (b : BoardValue) (a w : ℕ) → a % 2 ≡ 0 → 0x4400 ≤ a → a < 0x10000 → fram_of b.fram a ≡ w → board_bus.fetches (opened b) a ≡ Some w
+word_fetched b a w e l h is =
+    ap (λ x. cond x (Some (memory_word (opened b) a)) None) (fram_word a e l h)
+    ∙ ap (λ x. Some (cond x (slice_index b.ram (ram_place a)) (slice_index b.fram (place_of a)))) (fram_no_ram a l)
+    ∙ ap (λ x. Some (cond x (slice_index b.fram (place_of a)) 0)) (sym (fram_at a e l h))
+    ∙ ap Some is
+
+pub words_fetched : (b : BoardValue) (a : ℕ) (ws : List ℕ) → a % 2 ≡ 0 → 0x4400 ≤ a → a + 2 * length ws < 0x10000 → Holds (fram_of b.fram) a ws
+    → FetchedAt board_bus (opened b) a ws
+words_fetched b a [] e l h k = tt
+words_fetched b a (w ∷ ws) e l h k =
+    let n : sum16 a 2 ≡ a + 2 = omega (arith, h) in (
+      word_fetched b a w e l (omega (arith, h)) k.0,
+      subst (λ q. FetchedAt board_bus (opened b) q ws) (sym n) (words_fetched b (a + 2) ws (omega arith) (omega arith) (omega (arith, h)) k.1),
+    )
+
+-- a board before anything was done is one that a power-up left
+pub fresh_is_powered : (fram readings : List ℕ) → fresh fram readings ≡ powered (fresh fram readings) (filled 0)
+fresh_is_powered fram readings = refl

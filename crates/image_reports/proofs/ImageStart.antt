@@ -1,0 +1,82 @@
+-- Behind an attempt's start each version word is below VER, whatever FRAM held before.
+use Rattle.std.proofs.Common.{◌≡◌, ℕ, zero, suc, ◌+◌, ◌*◌, ◌<◌, ◌≤◌, List, [], ◌∷◌, ap, ◌∙◌, arith}
+use Rattle.fram_board.specs.Effects.{Effect, Store}
+use Rattle.machine_effects.specs.World.{put, fram_after, EachStore}
+use Rattle.runtime_effects.specs.Places.{CopyPair}
+use Rattle.runtime_effects.specs.Stages.{cleared, opening_effects, copied_in, start_effects}
+use Rattle.crash_rules.specs.Model.{IsElsewhere}
+use Rattle.crash_rules.proofs.Lists.{fram_after-append}
+use Rattle.crash_rules.proofs.Observed.{put_same, put_other}
+use Rattle.stands_for.specs.Layout.{ProgramPlaces, AreApart, ArePrivate}
+use Rattle.stands_for.proofs.Starts.{elsewhere_same}
+
+-- words are cleared from an address on
+cleared_behind : (n p a : ℕ) → a < p → EachStore (IsElsewhere a) (cleared n p)
+cleared_behind zero p a l = tt
+cleared_behind (suc n) p a l = ((λ e. omega arith), cleared_behind n (p + 2) a (omega arith))
+
+cleared_before : (n p a : ℕ) → p + 2 * n ≤ a → EachStore (IsElsewhere a) (cleared n p)
+cleared_before zero p a l = tt
+cleared_before (suc n) p a l = ((λ e. omega arith), cleared_before n (p + 2) a (omega arith))
+
+-- each of them is 0 then
+cleared_zero : (n p i : ℕ) (f : ℕ → ℕ) → i < n → fram_after (cleared n p) f (p + 2 * i) ≡ 0
+cleared_zero zero p i f l = absurd (omega arith)
+cleared_zero (suc n) p zero f l =
+    let e : p + 2 * 0 ≡ p = omega arith in
+    ap (fram_after (cleared n (p + 2)) (put f p 0)) e
+    ∙ elsewhere_same p (cleared n (p + 2)) (put f p 0) (cleared_behind n (p + 2) p (omega arith))
+    ∙ put_same f p 0
+cleared_zero (suc n) p (suc i) f l =
+    let e : p + 2 * suc i ≡ p + 2 + 2 * i = omega arith in
+    ap (fram_after (cleared n (p + 2)) (put f p 0)) e ∙ cleared_zero n (p + 2) i (put f p 0) (omega arith)
+
+module _ (l : ProgramPlaces) (apart : AreApart l) where
+  -- copies of private scalars are made elsewhere
+  copied_elsewhere : (a t : ℕ) (ps : List CopyPair) (f : ℕ → ℕ) → a < l.copies → ArePrivate l t ps → EachStore (IsElsewhere a) (copied_in ps f)
+  copied_elsewhere a t [] f low laid = tt
+  copied_elsewhere a t (p ∷ ps) f low laid =
+      ((λ e. let from = laid.2.from in omega (arith, from, e)), copied_elsewhere a t ps (put f p.copy (f p.home)) low laid.4)
+
+  abbrev three : List Effect
+  three = Store l.runtime.words.version 1 ∷ Store l.runtime.words.list_length 0 ∷ Store l.runtime.words.emit_count 0 ∷ []
+
+  -- VER, CLN and EN are stored
+  version_then : (f : ℕ → ℕ) → fram_after three f l.runtime.words.version ≡ 1
+  version_then f =
+      let w = l.runtime.words in
+      put_other (put (put f w.version 1) w.list_length 0) w.emit_count 0 w.version (λ q. omega (arith, apart, q))
+      ∙ put_other (put f w.version 1) w.list_length 0 w.version (λ q. omega (arith, apart, q))
+      ∙ put_same f w.version 1
+
+  others_then : (f : ℕ → ℕ) (a : ℕ) → l.runtime.versions ≤ a → fram_after three f a ≡ f a
+  others_then f a low =
+      let w = l.runtime.words in
+      put_other (put (put f w.version 1) w.list_length 0) w.emit_count 0 a (λ q. omega (arith, apart, q, low))
+      ∙ put_other (put f w.version 1) w.list_length 0 a (λ q. omega (arith, apart, q, low))
+      ∙ put_other f w.version 1 a (λ q. omega (arith, apart, q, low))
+
+  module _ (privates : ℕ → List CopyPair) (laid : (t : ℕ) → ArePrivate l t (privates t)) (f : ℕ → ℕ) where
+    abbrev opened : ℕ → ℕ
+    opened = fram_after (opening_effects l.runtime f) f
+
+    abbrev clear : List Effect
+    clear = cleared l.runtime.version_count l.runtime.versions
+
+    -- a word below the copies is as the opening leaves it
+    as_opened : (a : ℕ) → a < l.copies → fram_after (start_effects l.runtime privates f) f a ≡ fram_after three (fram_after clear f) a
+    as_opened a low =
+        let copies = copied_in (privates (f l.runtime.words.current_task)) opened in
+        ap (λ g. g a) (fram_after-append (opening_effects l.runtime f) copies f)
+        ∙ elsewhere_same a copies opened
+        (copied_elsewhere a (f l.runtime.words.current_task) (privates (f l.runtime.words.current_task)) opened low (laid (f l.runtime.words.current_task)))
+        ∙ ap (λ g. g a) (fram_after-append clear three f)
+
+    pub versions_below : (i : ℕ) → i < l.runtime.version_count → fram_after (start_effects l.runtime privates f) f (l.runtime.versions + 2 * i)
+        < fram_after (start_effects l.runtime privates f) f l.runtime.words.version
+    versions_below i below =
+        let a = l.runtime.versions + 2 * i in
+        let word = as_opened a (omega (arith, apart, below)) ∙ others_then (fram_after clear f) a (omega arith)
+        ∙ cleared_zero l.runtime.version_count l.runtime.versions i f below in
+        let version = as_opened l.runtime.words.version (omega (arith, apart)) ∙ version_then (fram_after clear f) in
+        omega (arith, word, version)

@@ -1,0 +1,151 @@
+-- What holds of each run of the image of an accepted source, on the board itself, cut wherever power fails: the effects since the last
+-- boot or done, what the board stands for, the words accepted, the counts, the code that is fetched, how it ends, and its report.
+use Rattle.std.specs.Prelude.{◌≡◌, ℕ, ◌+◌, ◌*◌, ◌^◌, ◌%◌, ◌<◌, ◌≤◌, ◌==◌, true, if◌then◌else◌, List, [], ◌++◌, length, drop, All}
+use Rattle.msp_isa.specs.declared.instructions.Instr.{Instr}
+use Rattle.msp_isa.specs.Encoding.{encoding}
+use Rattle.msp_step.specs.Registers.{registers_of}
+use Rattle.msp_step.specs.declared.machine.Stop.{Stop}
+use Rattle.msp_step.specs.declared.machine.Stop.TheVariants as stop
+use Rattle.image_text.specs.ImageValue.{ImageValue}
+use Rattle.fram_board.specs.Board.{BoardValue, fresh, IsNextInstruction}
+use Rattle.fram_board.specs.Effects.{Effect}
+use Rattle.fram_board.specs.Run.{BoardCharge, Moment, Stopped, RunOutcome, Run, accepted_words}
+use Rattle.board_run.specs.History.{start_of}
+use Rattle.board_run.specs.Report.{report_of}
+use Rattle.machine_effects.specs.World.{World, fram_after, IsPrefix}
+use Rattle.machine_effects.specs.Machine.{fram_of}
+use Rattle.machine_effects.specs.Runs.{last_board}
+use Rattle.code_forms.specs.Placed.{Holds}
+use Rattle.cost_bound.specs.declared.allowance.Allow.{Allow}
+use Rattle.source_values.specs.Runs.{CheckedProgram, State, first_state}
+use Rattle.source_meaning.specs.Acceptance.{IsAcceptedText}
+use Rattle.source_runs.specs.Tells.{at_first, EachChargePays, IsToldBySource}
+use Rattle.source_maps.specs.Maps.{map_of}
+use Rattle.privatise.specs.LayoutValue.{LayoutValue}
+use Rattle.array_versions.specs.Behaviour.{behaviour, started}
+use Rattle.runtime_effects.specs.Stages.{commit_effects, start_effects, pending_effects, boot_effects}
+use Rattle.runtime_code.specs.LayoutPlaces.{runtime_places}
+use Rattle.boot_runtime.specs.Entries.{task_entries}
+use Rattle.boot_runtime.specs.Listing.{privates_in}
+use Rattle.crash_rules.specs.Model.{CommitContract}
+use Rattle.crash_rules.specs.History.{History, first_history}
+use Rattle.crash_rules.specs.Laws.{Resting, StandsFor, AcceptedWords}
+use Rattle.run_charges.specs.Charges.{ArePowerStates, observed}
+use Rattle.stands_for.specs.Layout.{AreApart}
+use Rattle.stands_for.specs.StandsFor.{RestsAt, UndecidedAt, DecidedFrom}
+use Rattle.compiled_model.specs.Places.{program_places}
+use Rattle.compiled_model.specs.View.{state_view}
+use Rattle.compiled_model.specs.Parts.{task_program, has_jumped, compiled_model}
+use Rattle.compiled_bounds.specs.Laws.{KeepsCapacities}
+use Rattle.model_runs.specs.Runs.{IsShort, all_amounts}
+use Rattle.link_image.specs.Words.{code_words}
+use Rattle.link_image.specs.Compiled.{IsCompiled}
+use Rattle.link_image.specs.Laws.{fresh_world}
+
+-- what is read off the effects of a run's moments, behind them, where an image's fresh board began it
+abbrev pub known_behind : LayoutValue → ImageValue → List Moment → History
+known_behind l image ms = observed l.words.gate ms (first_history l.words.gate (fresh_world image))
+
+-- an attempt's start, on FRAM as it is
+abbrev pub start_due : LayoutValue → (ℕ → ℕ) → List Effect
+start_due l f = start_effects (runtime_places l) (privates_in (task_entries l)) f
+
+-- a start; then the word program of the task that CUR names, on FRAM as the start leaves it and on these readings; and the commit, where
+-- that program comes to its transition
+abbrev pub attempt_due : CheckedProgram → LayoutValue → List Effect → (ℕ → ℕ) → List ℕ → List Effect
+attempt_due p l start f readings =
+    let task = behaviour (task_program p l (f l.words.current_task)) (started (fram_after start f) readings) in
+    let es = start ++ task.effects in
+    es ++ (if has_jumped task.end then commit_effects (runtime_places l) (fram_after es f) else [])
+
+-- all that is due from a boot or a done on, by FRAM and the readings left there. Where GATE is 1: the commit that is pending. Else all
+-- of a boot, which then is an attempt's start, with the task and its commit
+abbrev pub all_due : CheckedProgram → LayoutValue → (ℕ → ℕ) → List ℕ → List Effect
+all_due p l f readings =
+    if f l.words.gate == 1 then pending_effects (runtime_places l) f
+    else attempt_due p l (boot_effects (runtime_places l) (privates_in (task_entries l)) f) f readings
+
+-- what is known behind these moments is of the board behind them: its FRAM, the words that its receiver accepted, in order, and how many
+-- readings were taken
+pub record TellsOfBoard (b : BoardValue) (ms : List Moment) (h : History) : Type 0 where
+  pub fram : h.world.fram ≡ fram_of b.fram
+  pub accepted : h.world.accepted ≡ accepted_words ms
+  pub taken : h.taken ≡ b.taken
+
+-- each version word is below VER
+abbrev pub VersionsBelow : LayoutValue → (ℕ → ℕ) → Type 0
+VersionsBelow l f = (i : ℕ) → i < l.versions.capacity → f (l.versions.address + 2 * i) < f l.words.version
+
+-- the address behind the code
+abbrev pub code_end : CheckedProgram → LayoutValue → ℕ
+code_end p l = l.boot.address + 2 * length (code_words p l)
+
+-- FRAM has the image's words in all of the code, and its reset vector
+pub record KeepsCode (p : CheckedProgram) (l : LayoutValue) (image : ImageValue) (f : ℕ → ℕ) : Type 0 where
+  pub code : (a : ℕ) → a % 2 ≡ 0 → l.boot.address ≤ a → a < code_end p l → f a ≡ fram_of image.words a
+  pub vector : f 0xFFFE ≡ fram_of image.words 0xFFFE
+
+-- the board's next instruction is one of the code: CPUOFF is clear, and its words stand at PC, as they are fetched, within the code, and
+-- are those that the image has there
+pub record FetchesCode (p : CheckedProgram) (l : LayoutValue) (image : ImageValue) (b : BoardValue) : Type 0 where
+  pub instruction : Instr
+  pub next : IsNextInstruction b instruction
+  pub from : l.boot.address ≤ registers_of b.cpu 0
+  pub to : registers_of b.cpu 0 + 2 * length (encoding instruction) ≤ code_end p l
+  pub same : Holds (fram_of image.words) (registers_of b.cpu 0) (encoding instruction)
+
+-- What holds at each boundary between two instructions: `b` is the board behind these moments, and `h` what is known of the run so far.
+pub record HoldsAt (p : CheckedProgram) (l : LayoutValue) (image : ImageValue) (readings : List ℕ) (b : BoardValue) (ms : List Moment)
+    (h : History) : Type 0 where
+  pub tells : TellsOfBoard b ms h
+  -- the effects since the last boot or done are a prefix of what was due there
+  pub effects : IsPrefix h.effects (all_due p l h.start.fram (drop h.since readings))
+  -- the board is undecided at the state of the last done (at first the first state), which the source's tasks reach on the committed
+  -- readings of the dones; or it is decided from it to the state that its task gives on the committed readings of the decide
+  pub stands : StandsFor (compiled_model p l) readings (Resting (first_state p)) h
+  -- a decided state is never lost: between a decide and its done the board is undecided at no state, whatever boots stand between
+  pub never_lost : h.decided ≡ true → (fram_of b.fram l.words.gate ≡ 1) × ((s : State) → UndecidedAt (program_places p l) (state_view p l) s h.world → ⊥)
+  -- between a done, or the start, and the next decide no word is accepted; between a decide and its done a prefix of that task's
+  pub accepted : AcceptedWords (compiled_model p l) readings (Resting (first_state p)) h stands.state h.decided
+  -- CLN and EN are within the map's capacities, and version words at most VER
+  pub capacities : KeepsCapacities l (fram_of b.fram)
+  -- as a task's first own instruction runs, whose start is made and which has done nothing yet, each version word is below VER. (With
+  -- exactly the start's effects the code comes to the task's own: `start_is_made` of `boot_runtime`.)
+  pub versions : h.effects ≡ start_due l h.start.fram → VersionsBelow l (fram_of b.fram)
+  -- no store fell on the code
+  pub code : KeepsCode p l image (fram_of b.fram)
+  -- every word that is fetched is the fresh image's
+  pub fetches : FetchesCode p l image b
+
+-- What holds of a run of an image under charges, on readings.
+pub record IsLawfulRun (text : List ℕ) (p : CheckedProgram) (allow : Allow) (l : LayoutValue) (image : ImageValue) (cs : List BoardCharge) (readings : List ℕ)
+    (r : RunOutcome) : Type 0 where
+  -- the fresh board rests at the source's first state
+  pub rests : RestsAt (program_places p l) (state_view p l) (first_state p) (fresh_world image)
+  -- the places that the map names are apart
+  pub apart : AreApart (program_places p l)
+  -- each prefix of a commit keeps decided, and the whole of it rests at the new state
+  pub commits : (s next : State) (x : World) → DecidedFrom (program_places p l) (state_view p l) s next x → CommitContract (compiled_model p l) s next x
+  -- at each board, behind any number of instructions
+  pub fronts : (ms rest : List Moment) → r.moments ≡ ms ++ rest
+      → HoldsAt p l image readings (last_board (fresh image.words readings) ms) ms (known_behind l image ms)
+  -- it stops for want of a reading alone: at no illegal word, no bus fault and not off; and only where the source is short, at the state
+  -- of the last done on the readings from the last boot or done on
+  pub stops : (e : Stop) → r.ending ≡ Stopped e
+      → (e ≡ stop.NoReading) × IsShort (compiled_model p l) readings (Resting (first_state p)) (known_behind l image r.moments)
+  -- a charge of n bounds that is spent has n transitions
+  pub progress : let m = map_of text p l allow in EachChargePays m cs (fresh image.words readings) (at_first m (fresh image.words readings)) r
+  -- its report is told by the source, where the charges have fewer than 2^64 cycles and instructions in all
+  pub told : all_amounts cs < 2 ^ 64
+      → IsToldBySource text p (map_of text p l allow) cs (fresh image.words readings) r (report_of (start_of image) r)
+
+-- What holds of an image: under every list of charges of cycles or of instructions, from every state that each power-up may leave (any
+-- words in RAM, registers and OUTNUM), and on all readings that a board may hold, its run is such.
+abbrev pub IsLawful : List ℕ → CheckedProgram → Allow → LayoutValue → ImageValue → Type 0
+IsLawful text p allow l image = (cs : List BoardCharge) → ArePowerStates cs → (readings : List ℕ) → All (λ w. w < 0x10000) readings
+    → length readings ≤ 262144 → (r : RunOutcome) → Run cs (fresh image.words readings) r → IsLawfulRun text p allow l image cs readings r
+
+-- it holds of every accepted text and its image
+abbrev pub ImagesKeepTheLaws : Type 0
+ImagesKeepTheLaws = (text : List ℕ) (p : CheckedProgram) (allow : Allow) (image : ImageValue) → IsAcceptedText text p allow
+    → (c : IsCompiled text p allow image) → IsLawful text p allow c.layout image
