@@ -16,7 +16,7 @@ use Rattle.alpaca_cli.specs.Assemblies.{RefusesAssembly, assembly_refusal}
 use Rattle.alpaca_cli.specs.Products.{Assembles}
 
 -- a fault that is told is the text's
-pub refuses_assembly : (text : List ℕ) (e : AsmFault) (r : Refusal) → Fails e (assembled text) → assembly_refusal e ≡ Some r → RefusesAssembly text r
+pub refuses_assembly : (text : List ℕ) (e : AsmFault) (r : Refusal) → Fails e (assembled text) → assembly_refusal text e ≡ Some r → RefusesAssembly text r
 refuses_assembly text (fault.BadLine n) r is told = record { cause = fault.BadLine n; refused = is; told = told }
 refuses_assembly text (fault.RepeatedName n s) r is told = record { cause = fault.RepeatedName n s; refused = is; told = told }
 refuses_assembly text (fault.UnknownName n s) r is told = record { cause = fault.UnknownName n s; refused = is; told = told }
@@ -42,7 +42,7 @@ is_printed assembly file image said none text back = record {
 
 -- a failure that tells a fault of the text refuses it
 pub fails_assembly : (name text : List ℕ) (e : AsmFault) (failure : Failure) → Fails e (assembled text)
-    → FailsRefused name (λ r. assembly_refusal e ≡ Some r) failure → FailsRefused name (RefusesAssembly text) failure
+    → FailsRefused name (λ r. assembly_refusal text e ≡ Some r) failure → FailsRefused name (RefusesAssembly text) failure
 fails_assembly name text e (Refused file r) is fails = (fails.0, refuses_assembly text e (refusal_of r) is fails.1)
 fails_assembly name text e (Put file) is fails = fails
 fails_assembly name text e Write is fails = fails

@@ -11,7 +11,7 @@ use Rattle.alpaca_cli.specs.Products.{Product, IsProduct}
 not_both : (e : Ending) → e ≡ well → e ≡ at_fault → ⊥
 not_both e ends faults = let same : well ≡ at_fault = sym ends ∙ faults in cc
 
-faults_alone : (call : Call) (texts : List (List ℕ)) (p : Product) → IsProduct call texts p → p.ending ≡ at_fault → IsRun call
+pub faults_alone : (call : Call) (texts : List (List ℕ)) (p : Product) → IsProduct call texts p → p.ending ≡ at_fault → IsRun call
 faults_alone (run image trace) texts p is e = tt
 faults_alone (mean a b) [] p is e = is
 faults_alone (mean a b) (x ∷ []) p is e = is

@@ -26,7 +26,7 @@ use Rattle.source_runs.specs.Traces.{IsTraceOfWords}
 use Rattle.alpaca_cli.specs.Ending.{Ending, well, at_fault}
 use Rattle.alpaca_cli.specs.Generated.{RanSo, ended_line, four_lines, generated_lines}
 use Rattle.alpaca_cli.specs.Products.{IsBuilt, Generates}
-use Rattle.alpaca_cli.specs.RunReport.{ending_of, IsRunReport, IsTold}
+use Rattle.alpaca_cli.specs.RunReport.{ending_of, IsRunReport, IsTold, IsToldOnTraces}
 use Rattle.alpaca_cli.proofs.RunLaws.{run_illegal, run_bus}
 
 -- ---- the trace is of words
@@ -114,12 +114,11 @@ lines_of_run number bound image trace end board now r =
 
 -- of one run of the image
 generates_run : (number : ℕ) (file output : List ℕ) (p : CheckedProgram) (allow : Allow) (image : ImageValue)
-    → IsAcceptedText (generated_text number) p allow → IsBuilt (generated_text number) p allow image file
-    → IsTold (generated_text number) p allow image (generated_trace number allow.cycles)
+    → IsAcceptedText (generated_text number) p allow → (built : IsBuilt (generated_text number) p allow image file)
+    → IsTold (generated_text number) p built.map image (generated_trace number allow.cycles)
     → (r : (o : RunOutcome) × Run (charges_of (generated_trace number allow.cycles).charges) (fresh image.words (generated_trace number allow.cycles).readings) o)
     → output ≡ generated_lines number allow.cycles (start_of image) r.0 → Generates number file output
 generates_run number file output p allow image accepted built told r lines =
-    let trace = generated_trace number allow.cycles in
     let text = report_of (start_of image) r.0 in
     let ends = told.ends_well (ending_of r.0.ending) text (record { outcome = r.0; run = r.1; ends = refl; lines = refl }) in
     record {
@@ -130,21 +129,21 @@ generates_run number file output p allow image accepted built told r lines =
       accepted = accepted;
       built = built;
       run = r.1;
-      told = told.told built.compiled text (record { outcome = r.0; run = r.1; ends = sym ends; lines = refl });
+      told = told.told text (record { outcome = r.0; run = r.1; ends = sym ends; lines = refl });
       lines = lines;
     }
 
 -- of a source that keeps its text, of its trace for its bound, and of any run of its image
 pub generates : (number bound : ℕ) (source text file : List ℕ) (p : CheckedProgram) (allow : Allow) (image : ImageValue) (trace : TraceValue)
     → text ≡ source → source ≡ generated_text number → bound ≡ allow.cycles → trace ≡ generated_trace number bound
-    → IsAcceptedText source p allow → IsBuilt text p allow image file → IsTold text p allow image trace
+    → IsAcceptedText source p allow → IsBuilt text p allow image file → IsToldOnTraces text p image → IsTraceOfWords trace
     → (r : (o : RunOutcome) × Run (charges_of trace.charges) (fresh image.words trace.readings) o)
     → (output : List ℕ) → output ≡ generated_lines number bound (start_of image) r.0 → Generates number file output
-generates number bound source text file p allow image trace kept is is_bound made accepted built told r output lines =
+generates number bound source text file p allow image trace kept is is_bound made accepted built told words r output lines =
     let own : text ≡ generated_text number = kept ∙ is in
     let drawn : trace ≡ generated_trace number allow.cycles = made ∙ ap (λ b. generated_trace number b) is_bound in
-    generates_run number file output p allow image (subst (λ y. IsAcceptedText y p allow) is accepted)
-    (subst (λ y. IsBuilt y p allow image file) own built)
-    (subst (λ y. IsTold (generated_text number) p allow image y) drawn (subst (λ y. IsTold y p allow image trace) own told))
+    let new = subst (λ y. IsBuilt y p allow image file) own built in
+    generates_run number file output p allow image (subst (λ y. IsAcceptedText y p allow) is accepted) new
+    (subst (λ y. IsToldOnTraces y p image) own told new.map new.mapped (generated_trace number allow.cycles) (subst IsTraceOfWords drawn words))
     (r.0, subst (λ y. Run (charges_of y.charges) (fresh image.words y.readings) r.0) drawn r.1)
     (lines ∙ ap (λ b. generated_lines number b (start_of image) r.0) is_bound)

@@ -5,7 +5,7 @@ mod FaultLaws
 mod GenLaws
 mod GenLines
 mod LineLaws
-mod OneProduct
+mod NotRefused
 mod PutLaws
 mod Refused
 mod RunLaws

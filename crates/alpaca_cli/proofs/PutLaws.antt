@@ -18,6 +18,8 @@ use Rattle.alpaca_cli.specs.Ending.{well}
 use Rattle.alpaca_cli.specs.Outcomes.{Breaks, FailsBy, FailsPutting, Gains}
 use Rattle.alpaca_cli.specs.Outside.{Shelved, Written, IsSilent, WhereSilent, IsPut, IsUnput}
 use Rattle.alpaca_cli.specs.Products.{Product, IsProduct, Assembles, IsBuilt, Builds, Tries}
+use Rattle.source_runs.specs.Traces.{IsTraceOfWords}
+use Rattle.image_reports.specs.ImageLaw.{ImagesKeepTheLaws}
 use Rattle.alpaca_cli.specs.RunReport.{IsRunReport, IsTold}
 
 -- the file and the output of such a command, which ends well
@@ -80,19 +82,26 @@ asm_fails (Err e) a i assembly file shelf is fails = λ out silent. put_fails e 
 
 -- ---- `build` and `try`, whose source keeps its text
 
-pub builds : (source text file : List ℕ) (p : CheckedProgram) (allow : Allow) (image : ImageValue) → text ≡ source
-    → IsAcceptedText source p allow → IsBuilt text p allow image file → (output : List ℕ) → output ≡ bound_line allow.cycles → Builds source file output
-builds source text file p allow image kept accepted built output bound = record {
-  program = p;
-  allow = allow;
-  image = image;
-  accepted = accepted;
-  built = subst (λ x. IsBuilt x p allow image file) kept built;
-  bound = bound;
-}
+pub builds : ImagesKeepTheLaws → (source text file : List ℕ) (p : CheckedProgram) (allow : Allow) (image : ImageValue) → text ≡ source
+    → IsAcceptedText source p allow → (built : IsBuilt text p allow image file)
+    → ((trace : TraceValue) → IsTraceOfWords trace → IsTold text p built.map image trace)
+    → (output : List ℕ) → output ≡ bound_line allow.cycles → Builds source file output
+builds law source text file p allow image kept accepted built told output bound =
+    let own = subst (λ x. IsAcceptedText x p allow) (sym kept) accepted in
+    let made : Builds text file output = record {
+      program = p;
+      allow = allow;
+      image = image;
+      accepted = own;
+      built = built;
+      bound = bound;
+      told = told;
+      lawful = law text p allow image own built.compiled;
+    } in subst (λ x. Builds x file output) kept made
 
 pub tries : (source trace text file : List ℕ) (p : CheckedProgram) (allow : Allow) (image : ImageValue) (charges : TraceValue) → text ≡ source
-    → IsAcceptedText source p allow → trace_of trace ≡ Ok charges → IsBuilt text p allow image file → IsTold text p allow image charges
+    → IsAcceptedText source p allow → trace_of trace ≡ Ok charges → (built : IsBuilt text p allow image file)
+    → IsTold text p built.map image charges
     → (output : List ℕ) → IsRunReport image charges well output → Tries source trace file output
 tries source trace text file p allow image charges kept accepted said built told output report =
     let tried : Tries text trace file output = record {
@@ -104,5 +113,5 @@ tries source trace text file p allow image charges kept accepted said built told
       trace_said = said;
       built = built;
       report = report;
-      told = told.told built.compiled output report;
+      told = told.told output report;
     } in subst (λ x. Tries x trace file output) kept tried

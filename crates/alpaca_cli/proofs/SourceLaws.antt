@@ -2,7 +2,7 @@
 use Rattle.std.proofs.Common.{◌≡◌, ◌∙◌, Some, None, sym, ap}
 use Rattle.source_meaning.specs.Laws.{OneAnswer}
 use Rattle.alpaca_cli.specs.Sources.{source_refusal}
-use Rattle.alpaca_cli.proofs.OneProduct.{SourcesExclude}
+use Rattle.alpaca_cli.proofs.NotRefused.{SourcesExclude}
 
 pub sources_exclude : OneAnswer → SourcesExclude
 sources_exclude law text p r said refused =

@@ -1,5 +1,5 @@
 -- The run of a source's image on a trace, by the law that each such run is told by its source.
-use Rattle.std.proofs.Common.{◌≡◌, ◌∙◌, ℕ, List, Option, Ok, Err, refl, sym, subst}
+use Rattle.std.proofs.Common.{◌≡◌, ◌∙◌, ℕ, List, Option, Some, Ok, Err, refl, sym, subst}
 use Rattle.std.specs.Io.KnownBytes.{Appends}
 use Rattle.alp_io.specs.Count.{Rose}
 use Rattle.alp_io.specs.declared.sink.Failed.{Failed}
@@ -10,14 +10,15 @@ use Rattle.image_text.specs.ImageValue.{ImageValue}
 use Rattle.msp_step.specs.declared.machine.Stop.TheVariants as stop
 use Rattle.fram_board.specs.Board.{fresh}
 use Rattle.fram_board.specs.Laws.{HasRun}
-use Rattle.fram_board.specs.Run.{End, Charges, Stopped}
+use Rattle.fram_board.specs.Run.{End, Charges, Stopped, RunOutcome}
 use Rattle.board_run.specs.Charges.{charges_of}
 use Rattle.board_run.specs.History.{start_of}
 use Rattle.board_run.specs.Report.{report_of}
 use Rattle.source_values.specs.Statements.{Outcome}
-use Rattle.source_values.specs.Runs.{CheckedProgram, IsRunnable}
+use Rattle.source_values.specs.Runs.{CheckedProgram}
 use Rattle.source_meaning.specs.Acceptance.{IsAcceptedText}
-use Rattle.source_runs.specs.Tells.{IsEndOf}
+use Rattle.source_maps.specs.Maps.{map_of}
+use Rattle.source_runs.specs.Tells.{IsEndOf, IsToldBySource}
 use Rattle.source_runs.specs.Traces.{IsTraceOfWords}
 use Rattle.link_image.specs.Compiled.{IsCompiled}
 use Rattle.image_reports.specs.Laws.{ImagesAreTold}
@@ -27,7 +28,7 @@ use Rattle.alpaca_cli.specs.Ending.{Ending, well, at_fault}
 use Rattle.alpaca_cli.specs.Ends.{WritesRun}
 use Rattle.alpaca_cli.specs.Outcomes.{Breaks}
 use Rattle.alpaca_cli.specs.Outside.{Written}
-use Rattle.alpaca_cli.specs.RunReport.{ending_of, IsRunReport, IsTold, SourceTells}
+use Rattle.alpaca_cli.specs.RunReport.{ending_of, IsRunReport, IsTold, IsToldOnTraces}
 
 -- a run that its source tells ends well
 ends_well : (e : End) (next : Outcome) (why : Reason) → IsEndOf e next why → well ≡ ending_of e
@@ -37,17 +38,27 @@ ends_well (Stopped stop.NoReading) next why is = refl
 ends_well (Stopped (stop.Illegal pc word)) next why is = absurd is
 ends_well (Stopped (stop.Bus pc address)) next why is = absurd is
 
-pub is_told : ImagesAreTold → HasRun → (text : List ℕ) (p : CheckedProgram) (allow : Allow) (image : ImageValue) (trace : TraceValue)
-    → IsAcceptedText text p allow → IsRunnable p → IsCompiled text p allow image → IsTraceOfWords trace → IsTold text p allow image trace
-is_told law runs text p allow image trace accepted runnable compiled words =
-    let run = runs (charges_of trace.charges) (fresh image.words trace.readings) in
-    let told = law text p allow image accepted runnable compiled trace words in
-    record {
-      output = report_of (start_of image) run.0;
-      report = record { outcome = run.0; run = run.1; ends = ends_well _ _ _ (told run.0 run.1).ending; lines = refl };
-      ends_well = λ ending output r. r.ends ∙ sym (ends_well _ _ _ (told r.outcome r.run).ending);
-      told = λ c output r. subst (SourceTells text p allow image c trace r.outcome) (sym r.lines) (law text p allow image accepted runnable c trace words r.outcome r.run);
-    }
+-- of its map's values as an image has it
+module _ (law : ImagesAreTold) (runs : HasRun) (text : List ℕ) (p : CheckedProgram) (allow : Allow) (image : ImageValue)
+    (accepted : IsAcceptedText text p allow) (compiled : IsCompiled text p allow image) where
+  on_trace : (trace : TraceValue) → IsTraceOfWords trace → IsTold text p (map_of text p compiled.layout allow) image trace
+  on_trace trace words =
+      let run = runs (charges_of trace.charges) (fresh image.words trace.readings) in
+      let told = law text p allow image accepted compiled trace words in
+      let m = map_of text p compiled.layout allow in
+      let Told : RunOutcome → List ℕ → Type 0 = IsToldBySource text p m (charges_of trace.charges) (fresh image.words trace.readings) in
+      record {
+        output = report_of (start_of image) run.0;
+        report = record { outcome = run.0; run = run.1; ends = ends_well _ _ _ (told run.0 run.1).ending; lines = refl };
+        ends_well = λ ending output r. r.ends ∙ sym (ends_well _ _ _ (told r.outcome r.run).ending);
+        told = λ output r. subst (Told r.outcome) (sym r.lines) (told r.outcome r.run);
+      }
+
+  pub is_told : IsToldOnTraces text p image
+  is_told m mapped trace words =
+      let both : Some (map_of text p compiled.layout allow) ≡ Some m = sym compiled.map ∙ mapped in
+      let same : map_of text p compiled.layout allow ≡ m = cc both in
+      subst (λ x. IsTold text p x image trace) same (on_trace trace words)
 
 -- ---- what is written of a run that ends well
 

@@ -1,12 +1,13 @@
 -- The one line to standard error that goes with a status.
-use Rattle.std.specs.Prelude.{ℕ, List, [], ◌∷◌, codes, Option}
+use Rattle.std.specs.Prelude.{ℕ, ◌⊎◌, List, [], ◌∷◌, codes, Option}
 use Rattle.std.specs.Io.KnownBytes.{Appends}
 use Rattle.alp_io.specs.Count.{Rose}
 use Rattle.alp_io.specs.Report.{texts}
+use Rattle.alp_io.specs.Sink.{AppendsProperPrefix}
 
--- the line was written, unless the count of faults rose
+-- the line was written once; or the count of faults rose, and a proper prefix of the line was written
 abbrev pub Tells : Option (List ℕ) → Option (List ℕ) → ℕ → ℕ → List ℕ → Type 0
-Tells old new before now line = (Rose before now → ⊥) → Appends old new line
+Tells old new before now line = Appends old new line ⊎ (Rose before now × AppendsProperPrefix old new line)
 
 -- the line where a file could not be read
 unfoldable pub unreadable_line : List ℕ → List ℕ

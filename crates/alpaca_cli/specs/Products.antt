@@ -1,7 +1,8 @@
 -- What a command makes of its texts; or which of them is refused first, in the order of the words.
-use Rattle.std.specs.Prelude.{◌≡◌, ℕ, List, [], ◌∷◌, ◌++◌, Option, None, Ok, IsSomeAnd}
+use Rattle.std.specs.Prelude.{◌≡◌, ℕ, List, [], ◌∷◌, ◌++◌, Option, Some, None, Ok, IsSomeAnd}
 use Rattle.energy_trace.specs.TraceValue.{TraceValue}
 use Rattle.energy_trace.specs.Reading.{trace_of}
+use Rattle.image_map.specs.MapValue.{MapValue}
 use Rattle.image_text.specs.ImageValue.{ImageValue}
 use Rattle.image_text.specs.Reading.{image_of}
 use Rattle.image_text.specs.Text.{map_part, text_of}
@@ -15,10 +16,14 @@ use Rattle.board_run.specs.Report.{report_of}
 use Rattle.cost_bound.specs.declared.allowance.Allow.{Allow}
 use Rattle.source_meaning.specs.Acceptance.{IsAcceptedText}
 use Rattle.link_image.specs.Compiled.{IsCompiled}
+use Rattle.image_reports.specs.ImageLaw.{IsLawful}
 use Rattle.msp_asm.specs.Assembled.{assembled}
 use Rattle.msp_asm.specs.Disassembly.{IsTextOf}
 use Rattle.source_values.specs.Runs.{CheckedProgram}
 use Rattle.source_report.specs.SourceReport.{IsMeanReport}
+use Rattle.source_events.specs.Naming.{IsMapOf}
+use Rattle.source_runs.specs.Traces.{IsTraceOfWords}
+use Rattle.source_runs.specs.Tells.{IsToldBySource}
 use Rattle.source_generator.specs.Source.{generated_text}
 use Rattle.source_generator.specs.Trace.{generated_trace}
 use Rattle.alpaca_cli.specs.Assemblies.{RefusesAssembly}
@@ -26,7 +31,7 @@ use Rattle.alpaca_cli.specs.Calls.{Call, mean, try_, build, run, asm, dis, gen}
 use Rattle.alpaca_cli.specs.Ending.{Ending, well}
 use Rattle.alpaca_cli.specs.Generated.{generated_lines}
 use Rattle.alpaca_cli.specs.Refusals.{Refusal}
-use Rattle.alpaca_cli.specs.RunReport.{IsRunReport, SourceTells}
+use Rattle.alpaca_cli.specs.RunReport.{IsRunReport, IsTold}
 use Rattle.alpaca_cli.specs.Sources.{IsSourceText, RefusesSource}
 use Rattle.alpaca_cli.specs.Texts.{RefusesTrace, RefusesImage}
 
@@ -52,13 +57,19 @@ pub record Runs (image trace : List ℕ) (ending : Ending) (output : List ℕ) :
   pub trace_said : trace_of trace ≡ Ok charges
   pub report : IsRunReport value charges ending output
 
--- these bytes are the image text that is printed of the image of a source, and they read back
+-- These bytes are the image text that is printed of an image, and they read back. The image has a map, which names the source's
+-- variables and tasks and has its bound; and it is exactly what the compiler makes of the source.
 pub record IsBuilt (source : List ℕ) (program : CheckedProgram) (allow : Allow) (image : ImageValue) (file : List ℕ) : Type 0 where
-  pub compiled : IsCompiled source program allow image
   pub text : file ≡ text_of image.words ++ printed (map_part image.map)
   pub reads_back : image_of file ≡ Ok image
+  pub map : MapValue
+  pub mapped : image.map ≡ Some map
+  pub names : IsMapOf source program map
+  pub bound : map.bound ≡ allow.cycles
+  pub compiled : IsCompiled source program allow image
 
--- the text is a source, these bytes are the image text of its image, and this is the line of its bound
+-- The text is a source, these bytes are the image text of its image, and this is the line of its bound. On any trace the run of that
+-- image is told by the source; and the law of images holds of it, wherever its power is cut.
 pub record Builds (source file output : List ℕ) : Type 0 where
   pub program : CheckedProgram
   pub allow : Allow
@@ -66,6 +77,8 @@ pub record Builds (source file output : List ℕ) : Type 0 where
   pub accepted : IsAcceptedText source program allow
   pub built : IsBuilt source program allow image file
   pub bound : output ≡ bound_line allow.cycles
+  pub told : (trace : TraceValue) → IsTraceOfWords trace → IsTold source program built.map image trace
+  pub lawful : IsLawful source program allow built.compiled.layout image
 
 -- The texts are a source and a trace. These bytes are the image text of the source's image, and this is the report of the run of that
 -- image on the trace, which ends well. And it is what the source tells of that run.
@@ -78,7 +91,7 @@ pub record Tries (source trace file output : List ℕ) : Type 0 where
   pub trace_said : trace_of trace ≡ Ok charges
   pub built : IsBuilt source program allow image file
   pub report : IsRunReport image charges well output
-  pub told : SourceTells source program allow image built.compiled charges report.outcome output
+  pub told : IsToldBySource source program built.map (charges_of charges.charges) (fresh image.words charges.readings) report.outcome output
 
 -- These bytes are the image text of the image of the source that is generated from the number. It has one run on the number's trace for
 -- its bound, of which the source tells, and these are the four lines of that run.
@@ -90,8 +103,8 @@ pub record Generates (number : ℕ) (file output : List ℕ) : Type 0 where
   pub accepted : IsAcceptedText (generated_text number) program allow
   pub built : IsBuilt (generated_text number) program allow image file
   pub run : let trace = generated_trace number allow.cycles in Run (charges_of trace.charges) (fresh image.words trace.readings) outcome
-  pub told : SourceTells (generated_text number) program allow image built.compiled (generated_trace number allow.cycles) outcome
-      (report_of (start_of image) outcome)
+  pub told : let trace = generated_trace number allow.cycles in IsToldBySource (generated_text number) program built.map (charges_of trace.charges)
+      (fresh image.words trace.readings) outcome (report_of (start_of image) outcome)
   pub lines : output ≡ generated_lines number allow.cycles (start_of image) outcome
 
 -- the assembler text says an image without a map, and these bytes are the image text that is printed of it, which reads back
@@ -122,6 +135,30 @@ IsProduct (asm _ _) (assembly ∷ []) p = IsSomeAnd p.file (Assembles assembly) 
 IsProduct (dis _) (image ∷ []) p = Lists image p.output × (p.file ≡ None) × (p.ending ≡ well)
 IsProduct (gen number _) [] p = IsSomeAnd p.file (λ file. Generates number file p.output) × (p.ending ≡ well)
 IsProduct call texts p = ⊥
+
+-- this is a text of a source; of a trace; of an image; of an assembler text
+abbrev pub SaysSource : List ℕ → Type 0
+SaysSource text = (program : CheckedProgram) × IsSourceText text program
+
+abbrev pub SaysTrace : List ℕ → Type 0
+SaysTrace text = (value : TraceValue) × (trace_of text ≡ Ok value)
+
+abbrev pub SaysImage : List ℕ → Type 0
+SaysImage text = (value : ImageValue) × (image_of text ≡ Ok value)
+
+abbrev pub SaysAssembly : List ℕ → Type 0
+SaysAssembly text = (words : List ℕ) × (assembled text ≡ Ok words)
+
+-- the texts of a command are accepted
+abbrev pub AreAccepted : Call → List (List ℕ) → Type 0
+AreAccepted (mean _ _) (source ∷ trace ∷ []) = SaysSource source × SaysTrace trace
+AreAccepted (try_ _ _ _) (source ∷ trace ∷ []) = SaysSource source × SaysTrace trace
+AreAccepted (build _ _) (source ∷ []) = SaysSource source
+AreAccepted (run _ _) (image ∷ trace ∷ []) = SaysImage image × SaysTrace trace
+AreAccepted (asm _ _) (assembly ∷ []) = SaysAssembly assembly
+AreAccepted (dis _) (image ∷ []) = SaysImage image
+AreAccepted (gen number _) [] = SaysSource (generated_text number)
+AreAccepted call texts = ⊥
 
 -- the text of `mean` or `try` at this place, from 0, is the first that is refused, and so
 pub data MeanRefuses (source trace : List ℕ) : ℕ → Refusal → Type 0 where

@@ -1,6 +1,8 @@
 -- What the line of a refused text says of it.
 use Rattle.std.specs.Prelude.{ℕ, List, [], ◌∷◌, codes, decimal}
 use Rattle.alp_io.specs.Report.{texts}
+use Rattle.alp_text.specs.declared.lines.Span.{Span}
+use Rattle.source_report.specs.SourceReport.{spelled}
 
 -- what a fault keeps besides its line: nothing, a name of the text, or a number
 pub data Detail : Type 0 where
@@ -17,6 +19,10 @@ pub record Refusal : Type 0 where
 -- a refusal that keeps its line and kind alone
 abbrev pub plain : ℕ → List ℕ → Refusal
 plain line kind = record { line = line; kind = kind; detail = nothing }
+
+-- a refusal that keeps a name of the text
+abbrev pub named : List ℕ → ℕ → List ℕ → Span → Refusal
+named text line kind span = record { line = line; kind = kind; detail = name (spelled text span) }
 
 -- a space and the name or number, if one is kept
 abbrev pub detail_text : Detail → List ℕ

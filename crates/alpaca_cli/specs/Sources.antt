@@ -1,6 +1,5 @@
 -- Source texts: what one says, and how one is refused.
 use Rattle.std.specs.Prelude.{◌≡◌, ℕ, List, codes, Option, Some, None}
-use Rattle.alp_text.specs.declared.lines.Span.{Span}
 use Rattle.task_lex.specs.declared.fault.LexFault.{LexFault}
 use Rattle.task_lex.specs.declared.fault.LexFault.TheVariants as lex
 use Rattle.task_check.specs.declared.fault.CheckFault.{CheckFault}
@@ -11,20 +10,15 @@ use Rattle.cost_bound.specs.declared.fault.Over.{Over}
 use Rattle.cost_bound.specs.declared.fault.Over.TheVariants as over
 use Rattle.cost_bound.specs.declared.allowance.Allow.{Allow}
 use Rattle.source_values.specs.Runs.{CheckedProgram}
-use Rattle.source_report.specs.SourceReport.{spelled}
 use Rattle.source_meaning.specs.declared.fault.SourceFault.{SourceFault}
 use Rattle.source_meaning.specs.declared.fault.SourceFault.TheVariants as fault
 use Rattle.source_meaning.specs.Acceptance.{IsAcceptedText, IsRefusedText}
-use Rattle.alpaca_cli.specs.Refusals.{Refusal, name, number, plain}
+use Rattle.alpaca_cli.specs.Refusals.{Refusal, number, plain, named}
 
 -- the text is accepted as this program
 pub record IsSourceText (text : List ℕ) (program : CheckedProgram) : Type 0 where
   pub allow : Allow
   pub accepted : IsAcceptedText text program allow
-
--- a refusal that keeps a name of the text
-abbrev pub named : List ℕ → ℕ → List ℕ → Span → Refusal
-named text line kind span = record { line = line; kind = kind; detail = name (spelled text span) }
 
 -- a refusal that keeps a number
 abbrev pub numbered : ℕ → List ℕ → ℕ → Refusal

@@ -21,7 +21,11 @@ use image_text::print_image;
 use std::alloc::{AllocError, Global};
 
 // The image text of what the assembler text says.
-fn image_text_of<'t>(alloc: Global, file: &'t str, assembly: &[u8]) -> Result<Vec<u8>, Failure<'t>>
+fn image_text_of<'t>(
+    alloc: Global,
+    file: &'t str,
+    assembly: &'t [u8],
+) -> Result<Vec<u8>, Failure<'t>>
     requires { length assembly.now ≤ 1048576 }
     ensures said { IfOk result (λ v. Assembles assembly.now v.items) }
     ensures refused { IfErr result (FailsRefused file.now (RefusesAssembly assembly.now)) }
@@ -41,7 +45,7 @@ fn image_text_of<'t>(alloc: Global, file: &'t str, assembly: &[u8]) -> Result<Ve
 pub fn asm_texts<'t, H: Shelf>(
     alloc: Global,
     names: (&'t str, &'t str),
-    assembly: &[u8],
+    assembly: &'t [u8],
     shelf: &mut H,
 ) -> Result<(), Failure<'t>>
     requires { length assembly.now ≤ 1048576 }

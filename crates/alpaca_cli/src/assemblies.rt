@@ -7,19 +7,18 @@ ghost use Rattle.alpaca_cli.specs.Texts.{FailsRefused};
 ghost use Rattle.alpaca_cli.specs.Views.{refusal_of};
 
 use crate::failure::Failure;
-use crate::refusal::{Refusal, plain};
+use crate::refusal::{Refusal, named, plain};
 use image_text::Image;
 use msp_asm::{AsmFault, assemble};
 use std::alloc::Global;
 
-// Of a label that is refused the line and the kind are told, and not the name.
-fn assembly_refusal<'t>(fault: AsmFault) -> Option<Refusal<'t>>
-    ensures { option_map refusal_of result ≡ told.assembly_refusal fault }
+fn assembly_refusal<'t>(text: &'t [u8], fault: AsmFault) -> Option<Refusal<'t>>
+    ensures { option_map refusal_of result ≡ told.assembly_refusal text.now fault }
 {
     match fault {
         AsmFault::BadLine { line } => Some(plain(line, "BadLine")),
-        AsmFault::RepeatedName { line, name: _ } => Some(plain(line, "RepeatedName")),
-        AsmFault::UnknownName { line, name: _ } => Some(plain(line, "UnknownName")),
+        AsmFault::RepeatedName { line, name } => Some(named(text, line, "RepeatedName", name)),
+        AsmFault::UnknownName { line, name } => Some(named(text, line, "UnknownName", name)),
         AsmFault::OutOfRange { line } => Some(plain(line, "OutOfRange")),
         AsmFault::JumpTooFar { line } => Some(plain(line, "JumpTooFar")),
         AsmFault::Outside { line } => Some(plain(line, "Outside")),
@@ -28,10 +27,10 @@ fn assembly_refusal<'t>(fault: AsmFault) -> Option<Refusal<'t>>
     }
 }
 
-fn failure_of<'t>(file: &'t str, fault: AsmFault) -> Failure<'t>
-    ensures { FailsRefused file.now (λ r. told.assembly_refusal fault ≡ Some r) result }
+fn failure_of<'t>(file: &'t str, text: &'t [u8], fault: AsmFault) -> Failure<'t>
+    ensures { FailsRefused file.now (λ r. told.assembly_refusal text.now fault ≡ Some r) result }
 {
-    match assembly_refusal(fault) {
+    match assembly_refusal(text, fault) {
         Some(refusal) => Failure::Refused { file, refusal },
         None => Failure::Memory,
     }
@@ -41,7 +40,7 @@ fn failure_of<'t>(file: &'t str, fault: AsmFault) -> Failure<'t>
 ///
 /// # Errors
 /// `Refused` with the text's first fault; `Memory` where memory was refused.
-pub fn assembly_of<'t>(alloc: Global, file: &'t str, text: &[u8]) -> Result<Image, Failure<'t>>
+pub fn assembly_of<'t>(alloc: Global, file: &'t str, text: &'t [u8]) -> Result<Image, Failure<'t>>
     requires { length text.now < 4294967295 }
     ensures said { IfOk result (λ image. assembled text.now ≡ Ok image.words) }
     ensures no_map { IfOk result (λ image. image.map ≡ None) }
@@ -49,6 +48,6 @@ pub fn assembly_of<'t>(alloc: Global, file: &'t str, text: &[u8]) -> Result<Imag
 {
     match assemble(alloc, text) {
         Ok(image) => Ok(image),
-        Err(fault) => Err(failure_of(file, fault)),
+        Err(fault) => Err(failure_of(file, text, fault)),
     }
 }

@@ -15,6 +15,7 @@ use crate::puts::put_file;
 use crate::sources::source_of;
 use crate::status::Status;
 use alp_io::{Failed, Shelf, Sink};
+use image_reports::images_keep_the_laws;
 use std::alloc::Global;
 
 /// Puts the image of the source, and writes its bound. All memory but that of the put is taken before it.
@@ -40,6 +41,7 @@ pub fn build_texts<'t, H: Shelf, O: Sink>(
         (record { old = H.files shelf.old; new = H.files shelf.new; counts_old = H.counts shelf.old; counts_new = H.counts shelf.new })
         (record { old = O.contents out.old; new = O.contents out.new; faults_old = O.faults out.old; faults_new = O.faults out.new })) }
 {
+    images_keep_the_laws();
     let source = source_of(alloc, names.0, source)?;
     let built = built_of(alloc, &source)?;
     put_file(alloc, shelf, names.1, built.text.as_slice())?;

@@ -4,8 +4,8 @@ ghost use Rattle.alp_io.specs.Count.{Rose};
 ghost use Rattle.alp_io.specs.Shelf.{NeverFall};
 ghost use Rattle.alpaca_cli.specs.InputFiles.{AreHeld};
 ghost use Rattle.alpaca_cli.specs.Calls.{Call, IsRun, OnLine, Says, reads};
-ghost use Rattle.alpaca_cli.specs.Products.{Product, IsProduct};
-ghost use Rattle.alpaca_cli.specs.Answers.{Answers, OthersStand, status_of};
+ghost use Rattle.alpaca_cli.specs.Products.{AreAccepted};
+ghost use Rattle.alpaca_cli.specs.Answers.{Answers, IsCarriedOut, OthersStand};
 
 use crate::asm::answer_asm;
 use crate::build::answer_build;
@@ -18,7 +18,6 @@ use crate::status::Status;
 use crate::try_::answer_try;
 use alp_io::{Shelf, Sink};
 use command_line::{Command, WordsFault, command_of};
-use fram_board::board_has_one_run;
 use source_meaning::one_answer;
 use std::alloc::Global;
 
@@ -97,14 +96,13 @@ pub fn alpaca<H: Shelf, O: Sink, E: Sink>(
     ensures only_runs_fault { result ≡ Status.MachineFault → OnLine (map string_bytes words.entry.now) IsRun }
 
     // Where the words are a line, the files are told and fit, their texts are accepted, and no read, no put and no write fails,
-    // the command is whole, or memory ran out.
-    ensures complete { IfSome (H.files shelf.old) (λ f. (call : Call) (texts : List (List ℕ)) (product : Product)
-        → Says (map string_bytes words.entry.now) call → AreHeld f (reads call) texts → IsProduct call texts product
+    // the command is carried out, or memory ran out.
+    ensures complete { IfSome (H.files shelf.old) (λ f. (call : Call) (texts : List (List ℕ))
+        → Says (map string_bytes words.entry.now) call → AreHeld f (reads call) texts → AreAccepted call texts
         → ¬ Rose (H.counts shelf.old).failed_reads (H.counts shelf.new).failed_reads
         → ¬ Rose (H.counts shelf.old).failed_puts (H.counts shelf.new).failed_puts → ¬ Rose (O.faults out.old) (O.faults out.new)
-        → (result ≡ status_of product.ending) ⊎ (result ≡ Status.OutOfMemory)) }
+        → IsCarriedOut call result ⊎ (result ≡ Status.OutOfMemory)) }
 {
-    board_has_one_run();
     one_answer();
     answer(alloc, words, shelf, out, err)
 }

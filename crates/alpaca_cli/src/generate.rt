@@ -21,7 +21,6 @@ use crate::gen_lines::write_lines;
 use crate::puts::put_file;
 use crate::sources::source_of;
 use crate::status::Status;
-use crate::try_::run_is_told;
 use alp_io::{Failed, NullSink, Report, Shelf, Sink};
 use board_run::{RunEnd, Watch, run};
 use energy_trace::Trace;
@@ -93,7 +92,6 @@ pub fn gen_texts<'t, H: Shelf, O: Sink>(
     let Ok(mut watch) = Watch::new(alloc, &built.image) else {
         return Err(Failure::Memory);
     };
-    run_is_told(&source, &built.image, &trace);
     put_file(alloc, shelf, words.1, built.text.as_slice())?;
     let end = run_alone(&built.image, &trace, &mut board, &mut watch);
     match write_lines(out, (words.0, bound), end, &board, &watch) {

@@ -2,6 +2,7 @@
 #![tactic(auto)]
 
 mod answers;
+mod arguments;
 mod asm;
 mod assemblies;
 mod build;
@@ -23,6 +24,6 @@ mod status;
 mod traces;
 mod try_;
 
+pub use arguments::answer_arguments;
 pub use command::alpaca;
-pub use messages::{tell_out_of_memory, tell_usage};
 pub use status::Status;

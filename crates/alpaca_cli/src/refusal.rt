@@ -1,7 +1,10 @@
 //! What is told of a refused text.
 ghost use Rattle.std.specs.Prelude.{◌≡◌};
-ghost use Rattle.alpaca_cli.specs.Refusals.{plain};
+ghost use Rattle.alpaca_cli.specs.Refusals.{plain, named};
 ghost use Rattle.alpaca_cli.specs.Views.{refusal_of};
+
+use alp_text::Span;
+use source_report::spelled;
 
 /// What a fault keeps besides its line.
 #[derive(Clone, Copy, Debug, PartialEq, Eq)]
@@ -29,5 +32,16 @@ pub fn plain<'t>(line: u32, kind: &'static str) -> Refusal<'t>
         line,
         kind,
         detail: Detail::Nothing,
+    }
+}
+
+/// A refusal that keeps a name of the text.
+pub fn named<'t>(text: &'t [u8], line: u32, kind: &'static str, span: Span) -> Refusal<'t>
+    ensures { refusal_of result ≡ named text.now line kind.now span }
+{
+    Refusal {
+        line,
+        kind,
+        detail: Detail::Name(spelled(text, span)),
     }
 }

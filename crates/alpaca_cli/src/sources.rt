@@ -8,24 +8,12 @@ ghost use Rattle.alpaca_cli.specs.Texts.{FailsRefused};
 ghost use Rattle.alpaca_cli.specs.Views.{refusal_of};
 
 use crate::failure::Failure;
-use crate::refusal::{Detail, Refusal, plain};
-use alp_text::Span;
+use crate::refusal::{Detail, Refusal, named, plain};
 use cost_bound::Over;
 use source_meaning::{Accepted, SourceFault, accept};
-use source_report::spelled;
 use std::alloc::Global;
 use task_check::{CheckFault, Kept};
 use task_lex::LexFault;
-
-fn named<'t>(text: &'t [u8], line: u32, kind: &'static str, span: Span) -> Refusal<'t>
-    ensures { refusal_of result ≡ told.named text.now line kind.now span }
-{
-    Refusal {
-        line,
-        kind,
-        detail: Detail::Name(spelled(text, span)),
-    }
-}
 
 fn numbered<'t>(line: u32, kind: &'static str, n: u64) -> Refusal<'t>
     ensures { refusal_of result ≡ told.numbered line kind.now n }

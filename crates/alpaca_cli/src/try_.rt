@@ -1,15 +1,11 @@
 //! `try SRC TRACE IMAGE`: the image of a source, put as an image text, and the report of its run on the trace.
 ghost use Rattle.std.specs.Prelude.{◌≡◌, ◌≤◌, ◌∷◌, [], ℕ, List, IfOk, IfErr, length};
-ghost use Rattle.task_ast.specs.View.{program_of};
 ghost use Rattle.fram_board.specs.Board.{fresh};
 ghost use Rattle.board_run.specs.History.{start_of};
-ghost use Rattle.source_meaning.specs.Acceptance.{IsAcceptedText};
-ghost use Rattle.link_image.specs.Compiled.{IsCompiled};
 ghost use Rattle.alp_io.specs.Shelf.{NeverFall};
 ghost use Rattle.alpaca_cli.specs.Calls as call;
-ghost use Rattle.source_runs.specs.Traces.{IsTraceOfWords};
 ghost use Rattle.alpaca_cli.specs.Ending.{Ending, well};
-ghost use Rattle.alpaca_cli.specs.RunReport.{IsRunReport, IsTold};
+ghost use Rattle.alpaca_cli.specs.RunReport.{IsRunReport};
 ghost use Rattle.alpaca_cli.specs.Answers.{CommandAnswers, IsWhole, TextAnswers};
 ghost use Rattle.alpaca_cli.specs.Outcomes.{Breaks, FailsBy, Gains};
 
@@ -25,22 +21,9 @@ use crate::traces::trace_of;
 use alp_io::{Failed, Shelf, Sink};
 use board_run::Watch;
 use energy_trace::Trace;
-use fram_board::{Board, board_has_one_run};
-use image_reports::images_are_told;
+use fram_board::Board;
 use image_text::Image;
-use source_meaning::Accepted;
 use std::alloc::Global;
-
-/// The run of a source's image on a trace ends well and is told by the source.
-pub fn run_is_told(source: &Accepted, image: &Image, trace: &Trace)
-    requires accepted { IsAcceptedText source.now.text.items (program_of source.now.checked.source) source.now.allow }
-    requires compiled { IsCompiled source.now.text.items (program_of source.now.checked.source) source.now.allow image.now }
-    requires words { IsTraceOfWords trace.now }
-    ensures { IsTold source.now.text.items (program_of source.now.checked.source) source.now.allow image.now trace.now }
-{
-    board_has_one_run();
-    images_are_told();
-}
 
 // Writes the report of a run that ends well. Takes no memory.
 fn write_trial<O: Sink>(
@@ -100,7 +83,6 @@ pub fn try_texts<'t, H: Shelf, O: Sink>(
     let Ok(mut watch) = Watch::new(alloc, &built.image) else {
         return Err(Failure::Memory);
     };
-    run_is_told(&source, &built.image, &trace);
     put_file(alloc, shelf, names.2, built.text.as_slice())?;
     match write_trial(out, &built.image, &trace, &mut board, &mut watch) {
         Ok(()) => Ok(()),

@@ -1,5 +1,18 @@
+use Rattle.std.proofs.Common.{refl}
+use Rattle.task_ast.specs.View.{program_of}
+use Rattle.source_maps.specs.Maps.{map_of}
 use Rattle.alpaca_cli.proofs.built.built_of.Goals as goal
 
 pub returns-in-Ok-print_image-clause-built : goal.returns-in-Ok-print_image-clause-built
 returns-in-Ok-print_image-clause-built c =
-    record { compiled = c.in-Ok.ensures; text = c.in-Ok-print_image.ensures.text; reads_back = c.in-Ok-print_image.ensures.reads_back }
+    let source = c.args.source.now in
+    let compiled = c.in-Ok.ensures in
+    record {
+      text = c.in-Ok-print_image.ensures.text;
+      reads_back = c.in-Ok-print_image.ensures.reads_back;
+      map = map_of source.text.items (program_of source.checked.source) compiled.layout source.allow;
+      mapped = compiled.map;
+      names = c.images_are_mapped.ensures _ _ _ _ c.requires compiled;
+      bound = refl;
+      compiled = compiled;
+    }

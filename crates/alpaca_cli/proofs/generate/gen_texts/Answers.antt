@@ -6,23 +6,32 @@ use Rattle.alpaca_cli.proofs.generate.gen_texts.Goals as goal
 
 pub returns-in_err-put_file-clause-failure : goal.returns-in_err-put_file-clause-failure
 returns-in_err-put_file-clause-failure g c =
-    let told = c.run_is_told.ensures in
+    let built = c.in_ok-built.ensures.built in
+    let told = c.in_ok-built.ensures.told built.map built.mapped _ c.in_ok-trace.ensures.words in
     let product = generates _ _ _ _ _ _ _ _ _ c.in_ok-source.ensures.text c.requires.generated (ap (λ a. a.cycles) c.allow.ensures)
-    c.in_ok-trace.ensures.trace c.in_ok-source.ensures.accepted c.in_ok-built.ensures.built told (told.report.outcome, told.report.run) _ refl in
+    c.in_ok-trace.ensures.trace c.in_ok-source.ensures.accepted built c.in_ok-built.ensures.told c.in_ok-trace.ensures.words
+    (told.report.outcome, told.report.run) _ refl in
     handed_on _ _ _ c.from_residual-in_err-put_file.ensures (put_fails _ _ _ _ _ _ _ _ refl (product, refl) refl c.in_err-put_file.ensures.failure)
 
 pub returns-in-Ok-write_lines-clause-whole : goal.returns-in-Ok-write_lines-clause-whole
 returns-in-Ok-write_lines-clause-whole g c =
     let ran = c.run_alone-end.ensures in
+    let built = c.in_ok-built.ensures.built in
     let product = generates _ _ _ _ _ _ _ _ _ c.in_ok-source.ensures.text c.requires.generated (ap (λ a. a.cycles) c.allow.ensures)
-    c.in_ok-trace.ensures.trace c.in_ok-source.ensures.accepted c.in_ok-built.ensures.built c.run_is_told.ensures (ran.outcome, ran.run) in
+    c.in_ok-trace.ensures.trace c.in_ok-source.ensures.accepted built c.in_ok-built.ensures.told c.in_ok-trace.ensures.words (ran.outcome, ran.run) in
     put_whole (λ output. output ≡ _) _ _ _ _ _ _ _ refl (λ output same. (product output (same ∙ lines_of_run _ _ _ _ _ _ _ ran), refl)) c.as_slice.ensures.value c.in_ok-put_file.ensures.put
     (_, refl, c.in-Ok-write_lines.ensures.bytes.whole)
 
 pub returns-clause-failure : goal.returns-clause-failure
 returns-clause-failure g c =
     let ran = c.run_alone-end.ensures in
+    let built = c.in_ok-built.ensures.built in
     let product = generates _ _ _ _ _ _ _ _ _ c.in_ok-source.ensures.text c.requires.generated (ap (λ a. a.cycles) c.allow.ensures)
-    c.in_ok-trace.ensures.trace c.in_ok-source.ensures.accepted c.in_ok-built.ensures.built c.run_is_told.ensures (ran.outcome, ran.run) in
+    c.in_ok-trace.ensures.trace c.in_ok-source.ensures.accepted built c.in_ok-built.ensures.told c.in_ok-trace.ensures.words (ran.outcome, ran.run) in
     put_breaks (λ output. output ≡ _) _ _ _ _ _ _ _ refl (λ output same. (product output (same ∙ lines_of_run _ _ _ _ _ _ _ ran), refl))
     c.as_slice.ensures.value c.in_ok-put_file.ensures.put (_, refl, c.in-Err.ensures.bytes.part, c.in-Err.ensures.cause.failed)
+
+pub run_alone-end-requires-clause-ends_well : goal.run_alone-end-requires-clause-ends_well
+run_alone-end-requires-clause-ends_well g c =
+    let built = c.in_ok-built.ensures.built in
+    (c.in_ok-built.ensures.told built.map built.mapped _ c.in_ok-trace.ensures.words).ends_well

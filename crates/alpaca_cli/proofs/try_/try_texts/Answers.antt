@@ -20,17 +20,27 @@ returns-in_err-built-clause-failure g c =
 
 pub returns-in_err-put_file-clause-failure : goal.returns-in_err-put_file-clause-failure
 returns-in_err-put_file-clause-failure g c =
-    let product = tries _ _ _ _ _ _ _ _ c.in_ok-source.ensures.text c.in_ok-source.ensures.accepted c.in_ok-trace.ensures.said c.in_ok-built.ensures.built c.run_is_told.ensures in
-    let told = c.run_is_told.ensures in
+    let built = c.in_ok-built.ensures.built in
+    let told = c.in_ok-built.ensures.told built.map built.mapped _ c.in_ok-trace.ensures.words in
+    let product = tries _ _ _ _ _ _ _ _ c.in_ok-source.ensures.text c.in_ok-source.ensures.accepted c.in_ok-trace.ensures.said built told in
     handed_on _ _ _ c.from_residual-in_err-put_file.ensures
     (put_fails _ _ _ _ _ _ _ _ refl (product told.output told.report, refl) refl c.in_err-put_file.ensures.failure)
 
 pub returns-in-Ok-write_trial-clause-whole : goal.returns-in-Ok-write_trial-clause-whole
 returns-in-Ok-write_trial-clause-whole g c =
-    let product = tries _ _ _ _ _ _ _ _ c.in_ok-source.ensures.text c.in_ok-source.ensures.accepted c.in_ok-trace.ensures.said c.in_ok-built.ensures.built c.run_is_told.ensures in
+    let built = c.in_ok-built.ensures.built in
+    let told = c.in_ok-built.ensures.told built.map built.mapped _ c.in_ok-trace.ensures.words in
+    let product = tries _ _ _ _ _ _ _ _ c.in_ok-source.ensures.text c.in_ok-source.ensures.accepted c.in_ok-trace.ensures.said built told in
     put_whole _ _ _ _ _ _ _ _ refl (λ output report. (product output report, refl)) c.as_slice.ensures.value c.in_ok-put_file.ensures.put c.in-Ok-write_trial.ensures.whole
 
 pub returns-clause-failure : goal.returns-clause-failure
 returns-clause-failure g c =
-    let product = tries _ _ _ _ _ _ _ _ c.in_ok-source.ensures.text c.in_ok-source.ensures.accepted c.in_ok-trace.ensures.said c.in_ok-built.ensures.built c.run_is_told.ensures in
+    let built = c.in_ok-built.ensures.built in
+    let told = c.in_ok-built.ensures.told built.map built.mapped _ c.in_ok-trace.ensures.words in
+    let product = tries _ _ _ _ _ _ _ _ c.in_ok-source.ensures.text c.in_ok-source.ensures.accepted c.in_ok-trace.ensures.said built told in
     put_breaks _ _ _ _ _ _ _ _ refl (λ output report. (product output report, refl)) c.as_slice.ensures.value c.in_ok-put_file.ensures.put c.in-Err.ensures.failure
+
+pub write_trial-requires-clause-ends_well : goal.write_trial-requires-clause-ends_well
+write_trial-requires-clause-ends_well g c =
+    let built = c.in_ok-built.ensures.built in
+    (c.in_ok-built.ensures.told built.map built.mapped _ c.in_ok-trace.ensures.words).ends_well

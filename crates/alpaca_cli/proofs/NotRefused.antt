@@ -1,0 +1,69 @@
+-- Texts are accepted or refused, not both.
+use Rattle.std.proofs.Common.{◌≡◌, ◌∙◌, ℕ, List, [], ◌∷◌, Ok, Err, Result, sym}
+use Rattle.energy_trace.specs.Reading.{trace_of}
+use Rattle.image_text.specs.Reading.{image_of}
+use Rattle.msp_asm.specs.Assembled.{assembled}
+use Rattle.source_values.specs.Runs.{CheckedProgram}
+use Rattle.alpaca_cli.specs.Assemblies.{RefusesAssembly}
+use Rattle.alpaca_cli.specs.Calls.{Call, mean, try_, build, run, asm, dis, gen}
+use Rattle.alpaca_cli.specs.Refusals.{Refusal}
+use Rattle.alpaca_cli.specs.Sources.{IsSourceText, RefusesSource}
+use Rattle.alpaca_cli.specs.Texts.{RefusesTrace, RefusesImage, outside_fram, twice, no_reset, bad_map}
+use Rattle.alpaca_cli.specs.Texts as texts
+use Rattle.alpaca_cli.specs.Products.{SaysSource, SaysTrace, SaysImage, SaysAssembly, AreAccepted, MeanRefuses, the_source, its_trace, RunRefuses, the_image, the_trace, IsRefused}
+
+-- no text is a source and refused as one
+abbrev pub SourcesExclude : Type 0
+SourcesExclude = (text : List ℕ) (p : CheckedProgram) (r : Refusal) → IsSourceText text p → RefusesSource text r → ⊥
+
+not_both : {A E : Type 0} (x : Result A E) (a : A) (e : E) → x ≡ Ok a → x ≡ Err e → ⊥
+not_both x a e p q = let g : Ok a ≡ Err e = sym p ∙ q in cc
+
+no_trace : (text : List ℕ) (r : Refusal) → SaysTrace text → RefusesTrace text r → ⊥
+no_trace text r said (texts.bad_trace_line n fails) = not_both (trace_of text) said.0 _ said.1 fails
+no_trace text r said (texts.too_many n fails) = not_both (trace_of text) said.0 _ said.1 fails
+
+no_image : (text : List ℕ) (r : Refusal) → SaysImage text → RefusesImage text r → ⊥
+no_image text r said (texts.bad_line n fails) = not_both (image_of text) said.0 _ said.1 fails
+no_image text r said (outside_fram n fails) = not_both (image_of text) said.0 _ said.1 fails
+no_image text r said (twice n fails) = not_both (image_of text) said.0 _ said.1 fails
+no_image text r said (no_reset fails) = not_both (image_of text) said.0 _ said.1 fails
+no_image text r said (bad_map n fails) = not_both (image_of text) said.0 _ said.1 fails
+
+no_assembly : (text : List ℕ) (r : Refusal) → SaysAssembly text → RefusesAssembly text r → ⊥
+no_assembly text r said refuses = not_both (assembled text) said.0 refuses.cause said.1 refuses.refused
+
+no_mean : SourcesExclude → (source trace : List ℕ) (place : ℕ) (r : Refusal) → SaysSource source × SaysTrace trace
+    → MeanRefuses source trace place r → ⊥
+no_mean law source trace place r said (the_source x fails) = law source said.0.0 r said.0.1 fails
+no_mean law source trace place r said (its_trace p x other fails) = no_trace trace r said.1 fails
+
+no_run : (image trace : List ℕ) (place : ℕ) (r : Refusal) → SaysImage image × SaysTrace trace → RunRefuses image trace place r → ⊥
+no_run image trace place r said (the_image x fails) = no_image image r said.0 fails
+no_run image trace place r said (the_trace i x other fails) = no_trace trace r said.1 fails
+
+pub not_refused : SourcesExclude → (call : Call) (texts : List (List ℕ)) (place : ℕ) (r : Refusal)
+    → AreAccepted call texts → IsRefused call texts place r → ⊥
+not_refused law (mean c d) [] place r a b = a
+not_refused law (mean c d) (x ∷ []) place r a b = a
+not_refused law (mean c d) (x ∷ y ∷ []) place r a b = no_mean law x y place r a b
+not_refused law (mean c d) (x ∷ y ∷ z ∷ more) place r a b = a
+not_refused law (try_ c d i) [] place r a b = a
+not_refused law (try_ c d i) (x ∷ []) place r a b = a
+not_refused law (try_ c d i) (x ∷ y ∷ []) place r a b = no_mean law x y place r a b
+not_refused law (try_ c d i) (x ∷ y ∷ z ∷ more) place r a b = a
+not_refused law (build c i) [] place r a b = a
+not_refused law (build c i) (x ∷ []) place r a b = law x a.0 r a.1 b.0
+not_refused law (build c i) (x ∷ y ∷ more) place r a b = a
+not_refused law (run c d) [] place r a b = a
+not_refused law (run c d) (x ∷ []) place r a b = a
+not_refused law (run c d) (x ∷ y ∷ []) place r a b = no_run x y place r a b
+not_refused law (run c d) (x ∷ y ∷ z ∷ more) place r a b = a
+not_refused law (asm c d) [] place r a b = a
+not_refused law (asm c d) (x ∷ []) place r a b = no_assembly x r a b.0
+not_refused law (asm c d) (x ∷ y ∷ more) place r a b = a
+not_refused law (dis c) [] place r a b = a
+not_refused law (dis c) (x ∷ []) place r a b = no_image x r a b.0
+not_refused law (dis c) (x ∷ y ∷ more) place r a b = a
+not_refused law (gen n i) [] place r a b = law _ a.0 r a.1 b.0
+not_refused law (gen n i) (x ∷ more) place r a b = a

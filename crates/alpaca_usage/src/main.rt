@@ -1,0 +1,12 @@
+//! The program `alpaca` on words that are no command: what it tells goes to standard output, where a stored run holds it.
+#![tactic(auto)]
+
+use alp_io::StdSink;
+use alpaca_cli::answer_arguments;
+use std::process::ExitCode;
+
+fn main(rt: HostRuntime) -> ExitCode {
+    let mut out = StdSink::new(rt.stdout());
+    let mut err = StdSink::new(rt.stdout());
+    ExitCode::from(answer_arguments(rt, &mut out, &mut err).code())
+}
