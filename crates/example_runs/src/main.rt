@@ -1,0 +1,106 @@
+//! Runs programs under their traces, and says which print the report that stands beside them.
+//!
+//! Of each NAME in its words it runs `alpaca try NAME.alp NAME.trace NAME.img`, and compares what that prints with NAME.report.
+#![tactic(auto)]
+
+use alp_io::{DirShelf, Failed, MemSink, NoMemory, ReadFault, Shelf, Sink, StdSink, write_pieces};
+use alpaca_cli::{Status, alpaca};
+use std::alloc::{AllocError, Global};
+use std::env;
+use std::process::ExitCode;
+use thiserror::Error;
+
+/// The most bytes of a report, as it stands or as it is printed.
+const ROOM: usize = 65_536;
+
+/// Why the examples weren't run to their end.
+#[derive(Clone, Copy, Debug, Error)]
+enum Fault {
+    #[error("out of memory")]
+    Memory,
+    #[error("a report can't be read")]
+    Report,
+    #[error("a write failed")]
+    Write,
+}
+
+impl From<AllocError> for Fault {
+    fn from(_: AllocError) -> Fault {
+        Fault::Memory
+    }
+}
+
+impl From<NoMemory> for Fault {
+    fn from(_: NoMemory) -> Fault {
+        Fault::Memory
+    }
+}
+
+impl From<ReadFault> for Fault {
+    fn from(_: ReadFault) -> Fault {
+        Fault::Report
+    }
+}
+
+impl From<Failed> for Fault {
+    fn from(_: Failed) -> Fault {
+        Fault::Write
+    }
+}
+
+// The words of the command that runs an example.
+fn words_of(alloc: Global, name: &str) -> Result<Vec<String>, AllocError> {
+    let mut words = Vec::new(alloc);
+    words.push(String::from_str(alloc, "try")?)?;
+    for ending in [".alp", ".trace", ".img"] {
+        words.push(format!(in alloc; "{name}{ending}")?)?;
+    }
+    Ok(words)
+}
+
+// Whether an example ends with status 0, and prints its report and nothing else.
+fn agrees<H: Shelf>(alloc: Global, shelf: &mut H, name: &str) -> Result<bool, Fault> {
+    let mut report = Vec::new(alloc);
+    let report_name = format!(in alloc; "{name}.report")?;
+    shelf.read(alloc, &report_name, ROOM, &mut report)?;
+    let mut out = MemSink::new(alloc, ROOM, Vec::new(alloc))?;
+    let mut err = MemSink::new(alloc, ROOM, Vec::new(alloc))?;
+    let words = words_of(alloc, name)?;
+    let status = alpaca(alloc, &words, shelf, &mut out, &mut err);
+    Ok(status == Status::Done && out.bytes() == report.as_slice() && err.bytes().is_empty())
+}
+
+// Tells of each example whether it agrees, and answers whether all do.
+fn tell_all<H: Shelf, O: Sink>(
+    alloc: Global,
+    names: &[String],
+    shelf: &mut H,
+    out: &mut O,
+) -> Result<bool, Fault> {
+    let mut all = true;
+    for name in names {
+        let same = agrees(alloc, shelf, name)?;
+        let told: &[u8] = if same { b" agrees\n" } else { b" differs\n" };
+        write_pieces(out, &[name.as_bytes(), told])?;
+        all = all && same;
+    }
+    Ok(all)
+}
+
+fn main(rt: HostRuntime) -> ExitCode {
+    let alloc = rt.alloc();
+    let mut out = StdSink::new(rt.stdout());
+    let names: Vec<String> = match env::args(&rt) {
+        Ok(args) => match args.skip(1).collect(alloc) {
+            Ok(names) => names,
+            Err(_) => return ExitCode::from(5),
+        },
+        Err(_) => return ExitCode::from(2),
+    };
+    let mut shelf = DirShelf::new(rt);
+    match tell_all(alloc, &names, &mut shelf, &mut out) {
+        Ok(true) => ExitCode::from(0),
+        Ok(false) => ExitCode::from(1),
+        Err(_) => ExitCode::from(3),
+    }
+}

@@ -1,0 +1,54 @@
+//! Calls the program as files of rows say, over files and outputs in memory, and prints each answer that differs.
+//!
+//! A file of rows has these lines; `#` begins one that says nothing.
+//!
+//! - `row TITLE`: what follows begins anew, with no file, and no call of the outside fails.
+//! - `failing KIND N ..`: of KIND `reads`, `puts`, `writes` (to the output) or `tells` (to standard error) these fail, and no
+//!   others, counted from 0: reads and puts over the row, the puts of its own files among them, and writes and tells over a
+//!   call. Those of reads and puts come before the row's files.
+//! - `file NAME`: a file with the text that follows.
+//! - `call WORD ..`: the program is called with these words.
+//! - `status N`: what it answers; 0 where none is said.
+//! - `out` and `err`: what it writes, the text that follows; nothing where none is said.
+//! - `front NAME`: what it writes to the output is a proper front of that file, and not nothing.
+//! - `keep NAME`: what it writes to the output is put under a name.
+//! - `holds NAME`, `has NAME`, `lacks NAME`, `like NAME NAME`: the text that follows stands under a name, some text, none, and the
+//!   same under both.
+//!
+//! A text is made of lines `| TEXT`, which end with a line feed, and of `- TEXT` and `N * TEXT`, which don't; the last comes N
+//! times. In it `\HH` is the byte of two hexadecimal digits, and `\#` the number of the turn, from 1.
+#![tactic(auto)]
+
+mod bench;
+mod parts;
+
+use anyhow::Result;
+use bench::Bench;
+use parts::parts_of;
+use std::{env, fs};
+
+// How many parts differ from what is found; each is printed.
+fn differing(rt: &HostRuntime, rows: &str, bench: &mut Bench) -> Result<u64> {
+    let mut differ = 0u64;
+    for part in &parts_of(rt.alloc(), rows)? {
+        if let Some(found) = bench.take(part)? {
+            differ = differ.saturating_add(1);
+            println!(rt; "by line {}: {found}", part.line)?;
+        }
+    }
+    if let Some(found) = bench.unsaid()? {
+        differ = differ.saturating_add(1);
+        println!(rt; "at the end: {found}")?;
+    }
+    Ok(differ)
+}
+
+fn main(rt: HostRuntime) -> Result<()> {
+    for name in env::args(&rt)?.skip(1) {
+        let rows = fs::read_to_string(&rt, name.as_str())?;
+        let mut bench = Bench::new(rt.alloc());
+        let differ = differing(&rt, rows.as_str(), &mut bench)?;
+        println!(rt; "{name}: {} calls, {differ} differ", bench.calls)?;
+    }
+    Ok(())
+}

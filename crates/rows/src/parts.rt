@@ -1,0 +1,106 @@
+//! The file of rows, cut into parts: a line that says what comes, and the text behind it.
+use std::alloc::{AllocError, Global};
+use text_parts::hex_digit;
+
+/// A line that says what comes, and the text behind it.
+#[derive(Drop)]
+pub struct Part<'a> {
+    /// The number of the line, from 1.
+    pub line: usize,
+    pub head: &'a str,
+    pub text: Vec<u8>,
+}
+
+// A line of a text, which comes so often.
+#[derive(Clone, Copy)]
+struct TextLine<'a> {
+    text: &'a str,
+    times: u64,
+    is_ended: bool,
+}
+
+// `| TEXT` ends with a line feed; `- TEXT` and `N * TEXT`, which comes N times, don't.
+fn text_line(line: &str) -> Option<TextLine<'_>> {
+    if let Some(text) = line.strip_prefix("|") {
+        return Some(TextLine {
+            text: text.strip_prefix(" ").unwrap_or(text),
+            times: 1,
+            is_ended: true,
+        });
+    }
+    let (mark, text) = line.split_once(" ")?;
+    if mark == "-" {
+        return Some(TextLine {
+            text,
+            times: 1,
+            is_ended: false,
+        });
+    }
+    let text = text.strip_prefix("* ")?;
+    Some(TextLine {
+        text,
+        times: mark.parse::<u64>().ok()?,
+        is_ended: false,
+    })
+}
+
+// In a text `\#` is the number of the turn, and `\HH` the byte of two hexadecimal digits.
+fn push_said(alloc: Global, text: &[u8], turn: u64, into: &mut Vec<u8>) -> Result<(), AllocError> {
+    let mut rest = text;
+    while let [first, behind @ ..] = rest {
+        rest = behind;
+        match (*first, behind) {
+            (b'\\', [b'#', behind @ ..]) => {
+                into.extend_from_slice(format!(in alloc; "{turn}")?.as_bytes())?;
+                rest = behind;
+            }
+            (b'\\', [high, low, behind @ ..]) => {
+                into.push(16 * hex_digit(*high).unwrap_or(0) + hex_digit(*low).unwrap_or(0))?;
+                rest = behind;
+            }
+            (byte, _) => into.push(byte)?,
+        }
+    }
+    Ok(())
+}
+
+fn push_line(alloc: Global, line: TextLine<'_>, into: &mut Vec<u8>) -> Result<(), AllocError> {
+    for turn in 0..line.times {
+        push_said(alloc, line.text.as_bytes(), turn + 1, into)?;
+    }
+    if line.is_ended {
+        into.push(b'\n')?;
+    }
+    Ok(())
+}
+
+// A text in front of the first part is no part's.
+fn push_to_last(
+    alloc: Global,
+    line: TextLine<'_>,
+    parts: &mut Vec<Part<'_>>,
+) -> Result<(), AllocError> {
+    match parts.last_mut() {
+        Some(part) => push_line(alloc, line, &mut part.text),
+        None => Ok(()),
+    }
+}
+
+/// The parts of the file, in order. Empty lines and those that begin with `#` say nothing.
+pub fn parts_of(alloc: Global, rows: &str) -> Result<Vec<Part<'_>>, AllocError> {
+    let mut parts = Vec::new(alloc);
+    for (index, head) in rows.lines().enumerate() {
+        if head.is_empty() || head.starts_with("#") {
+            continue;
+        }
+        match text_line(head) {
+            Some(line) => push_to_last(alloc, line, &mut parts)?,
+            None => parts.push(Part {
+                line: index + 1,
+                head,
+                text: Vec::new(alloc),
+            })?,
+        }
+    }
+    Ok(parts)
+}
