@@ -1,7 +1,7 @@
 //! Tables of cuts: a source whose charges end after each of many numbers of steps, each report compared with the source's meaning.
 use crate::meaning::{is_meant, transitions};
 use crate::program::tries;
-use crate::sources::{SOURCES, SUM, Source};
+use crate::sources::{CUT_TWICE, SOURCES, SUM, Source};
 use std::alloc::Global;
 use std::process::Abort;
 use std::test::Fail;
@@ -9,9 +9,9 @@ use std::test::Fail;
 /// What RAM, registers and OUTNUM hold behind a power-up.
 const FILLS: [u16; 2] = [0, 65535];
 
-// The charges, then one of many cycles, then the readings.
-fn trace(alloc: Global, charges: &str, fill: u16, readings: &[u16]) -> Result<String, Fail> {
-    let mut text = format!(in alloc; "{charges}c 30000 {fill}\nr")?;
+// The charges, then the readings.
+fn trace(alloc: Global, charges: &str, readings: &[u16]) -> Result<String, Fail> {
+    let mut text = format!(in alloc; "{charges}r")?;
     for reading in readings {
         text.push_str(&format!(in alloc; " {reading}")?)?;
     }
@@ -20,18 +20,8 @@ fn trace(alloc: Global, charges: &str, fill: u16, readings: &[u16]) -> Result<St
 }
 
 // The run ends well, and is meant.
-fn keeps(
-    rt: &impl Abort,
-    alloc: Global,
-    source: &Source,
-    charges: &str,
-    fill: u16,
-) -> Result<(), Fail> {
-    let answer = tries(
-        alloc,
-        source.text,
-        &trace(alloc, charges, fill, source.readings)?,
-    )?;
+fn keeps(rt: &impl Abort, alloc: Global, source: &Source, charges: &str) -> Result<(), Fail> {
+    let answer = tries(alloc, source.text, &trace(alloc, charges, source.readings)?)?;
     assert_eq!(rt; answer.status.code(), 0);
     assert!(rt; is_meant(alloc, source.text, &answer.out, source.readings)?);
     Ok(())
@@ -46,31 +36,58 @@ fn cut_after_each_of_400_steps(rt: HostRuntime) -> Result<(), Fail> {
     };
     for fill in FILLS {
         for k in 0..=400 {
-            keeps(
-                &rt,
-                alloc,
-                &source,
-                &format!(in alloc; "s {k} {fill}\n")?,
-                fill,
-            )?;
+            let charges = format!(in alloc; "s {k} {fill}\nc 30000 {fill}\n")?;
+            keeps(&rt, alloc, &source, &charges)?;
         }
     }
     Ok(())
 }
 
-#[test]
-fn cut_twice_80_by_80(rt: HostRuntime) -> Result<(), Fail> {
-    let alloc = rt.alloc();
-    let source = Source {
-        text: SUM,
-        readings: &[5, 7, 9, 11],
-    };
-    for first in 0..80 {
-        for second in 0..80 {
-            let fill = if second % 2 == 0 { 0 } else { 65535 };
-            let charges = format!(in alloc; "s {first} {fill}\ns {second} {fill}\n")?;
-            keeps(&rt, alloc, &source, &charges, fill)?;
+// Cut twice, after each of the first and each of the second numbers of steps; the charge behind is long enough for all readings.
+fn keeps_cut_twice(
+    rt: &impl Abort,
+    alloc: Global,
+    source: &Source,
+    firsts: &[u32],
+    seconds: &[u32],
+) -> Result<(), Fail> {
+    for first in firsts {
+        for second in seconds {
+            let charges = format!(in alloc; "s {first} 0\ns {second} 0\nc 1000000 0\n")?;
+            keeps(rt, alloc, source, &charges)?;
         }
+    }
+    Ok(())
+}
+
+const SUM_OF_FIVE: Source = Source {
+    text: SUM,
+    readings: &[5, 7, 9, 11, 13],
+};
+
+// Two tests, as each has a minute.
+#[test]
+fn cut_twice_60_by_120(rt: HostRuntime) -> Result<(), Fail> {
+    let alloc = rt.alloc();
+    let firsts: Vec<u32> = (0..=60).collect(alloc)?;
+    let seconds: Vec<u32> = (0..=120).collect(alloc)?;
+    keeps_cut_twice(&rt, alloc, &SUM_OF_FIVE, &firsts, &seconds)
+}
+
+#[test]
+fn cut_twice_from_61_to_120_by_120(rt: HostRuntime) -> Result<(), Fail> {
+    let alloc = rt.alloc();
+    let firsts: Vec<u32> = (61..=120).collect(alloc)?;
+    let seconds: Vec<u32> = (0..=120).collect(alloc)?;
+    keeps_cut_twice(&rt, alloc, &SUM_OF_FIVE, &firsts, &seconds)
+}
+
+#[test]
+fn arrays_emits_and_loops_cut_twice(rt: HostRuntime) -> Result<(), Fail> {
+    let alloc = rt.alloc();
+    let steps: Vec<u32> = (0..=400).step_by(7).collect(alloc)?;
+    for source in &CUT_TWICE {
+        keeps_cut_twice(&rt, alloc, source, &steps, &steps)?;
     }
     Ok(())
 }
@@ -97,13 +114,8 @@ fn sources_cut_in_their_first_two_attempts(rt: HostRuntime) -> Result<(), Fail> 
     for source in &SOURCES {
         for k in 0..=steps_of_two(alloc, source, 1500)? {
             let fill = if k % 2 == 0 { 0 } else { 65535 };
-            keeps(
-                &rt,
-                alloc,
-                source,
-                &format!(in alloc; "s {k} {fill}\n")?,
-                fill,
-            )?;
+            let charges = format!(in alloc; "s {k} {fill}\nc 30000 {fill}\n")?;
+            keeps(&rt, alloc, source, &charges)?;
         }
     }
     Ok(())

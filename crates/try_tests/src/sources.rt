@@ -49,7 +49,7 @@ const LOOPS: &str = "shared unsigned g[4]; shared unsigned k; \
 
 /// Emits in a loop, more of them than transitions.
 const EMITS: &str =
-    "shared unsigned c = 65534; task t { unsigned i; for (i = 0; i < 5; i++) { emit(c + i); } c = c + 1; transition_to(t); } entry t;";
+    "shared unsigned c = 65534; task t { unsigned i; for (i = 0; i < 5; i++) { emit(c + i); } c = c + sense(); transition_to(t); } entry t;";
 
 /// Three tasks in a ring, with an array that none writes.
 const TABLE: &str = "shared unsigned zero[3]; shared unsigned x = 1; shared unsigned y; \
@@ -91,10 +91,26 @@ pub const SOURCES: [Source; 10] = [
     },
     Source {
         text: EMITS,
-        readings: &[],
+        readings: &[1, 3, 65535],
     },
     Source {
         text: TABLE,
         readings: &[2, 5, 6],
+    },
+];
+
+/// Of arrays, of emits and of control flow.
+pub const CUT_TWICE: [Source; 3] = [
+    Source {
+        text: RING,
+        readings: &[10, 20, 30, 40],
+    },
+    Source {
+        text: EMITS,
+        readings: &[1, 3, 65535],
+    },
+    Source {
+        text: LOOPS,
+        readings: &[1, 2, 3, 4, 5, 0, 7, 8, 9, 10],
     },
 ];
