@@ -3,18 +3,21 @@
 
 usage: docs/check_examples.py PROGRAM [PAGE ..]
 
-A block whose info string is `file NAME` is a file. A block `console` holds commands, `$ alpaca WORDS` or `$ cat FILES`, each
-followed by what it prints on standard output and standard error; a last line `[status N]` is the exit status where it isn't 0.
+A block whose info string is `file NAME` is a file. A block `console` holds commands, `$ alpaca WORDS`, `$ cat FILES` or
+`$ bench/bounds.py alpaca FILE`, each followed by what it prints on standard output and standard error; a last line `[status N]` is the exit status where it isn't 0.
 `> NAME` at a command's end puts standard output into that file, and a line `...` stands for any lines. The blocks of a page run
-in its order, in one empty folder.
+in its order, in one folder, where at first the files of examples/ lie. A block with the name of one of these has to be that file.
 """
 import pathlib
 import shlex
+import shutil
 import subprocess
 import sys
 import tempfile
 
 DOCS = pathlib.Path(__file__).resolve().parent
+EXAMPLES = DOCS.parent / "examples"
+BOUNDS = "bench/bounds.py"
 
 
 def blocks(text):
@@ -49,9 +52,13 @@ def run(program, words, folder):
     """What one command writes on standard output and standard error, and its exit status."""
     if words[0] == "cat":
         return "".join(pathlib.Path(folder, name).read_text() for name in words[1:]), "", 0
-    if words[0] != "alpaca":
-        raise SystemExit(f"neither cat nor a command of the program: {words}")
-    ended = subprocess.run([program, *words[1:]], cwd=folder, capture_output=True, text=True, timeout=60)
+    if words[:2] == [BOUNDS, "alpaca"]:
+        called = [sys.executable, DOCS.parent / BOUNDS, program, *words[2:]]
+    elif words[0] == "alpaca":
+        called = [program, *words[1:]]
+    else:
+        raise SystemExit(f"no command that this script knows: {words}")
+    ended = subprocess.run(called, cwd=folder, capture_output=True, text=True, timeout=60)
     return ended.stdout, ended.stderr, ended.returncode
 
 
@@ -75,14 +82,25 @@ def agree(got, wanted):
     return got[:at] == front and any(agree(got[k:], behind) for k in range(at, len(got) + 1))
 
 
+def is_another(name, text):
+    """Whether an example has that name and another text."""
+    example = EXAMPLES / name
+    return example.exists() and example.read_text() != text
+
+
 def check(program, page):
-    """How many commands of a page ran, and how many of them print something else."""
+    """How many commands and examples of a page were looked at, and how many of them aren't as the page says."""
     ran = wrong = 0
     with tempfile.TemporaryDirectory() as folder:
+        shutil.copytree(EXAMPLES, folder, dirs_exist_ok=True)
         for info, lines in blocks(page.read_text()):
             kind, _, name = info.partition(" ")
             if kind == "file":
-                pathlib.Path(folder, name).write_text("".join(line + "\n" for line in lines))
+                text = "".join(line + "\n" for line in lines)
+                pathlib.Path(folder, name).write_text(text)
+                if is_another(name, text):
+                    wrong += 1
+                    print(f"{page.name}: {name} isn't the file of examples/")
             elif kind == "console":
                 for command, wanted in commands(lines):
                     ran += 1
