@@ -3,16 +3,18 @@ use Rattle.std.proofs.Common.{◌≡◌, ◌∙◌, ◌⊎◌, inl, inr, ◌≤�
 use Rattle.std.specs.Prelude.{unwrap_or}
 use Rattle.alp_io.specs.Count.{Rose}
 use Rattle.alp_io.specs.Shelf.{Files, Counts}
+use Rattle.fram_board.specs.Laws.{HasOneRun}
 use Rattle.alpaca_cli.specs.declared.status.Status.{Status}
 use Rattle.alpaca_cli.specs.declared.status.Status.TheVariants.{Done, Refused, Usage, Unreadable, Unwritable, OutOfMemory, MachineFault, TooLong}
-use Rattle.alpaca_cli.specs.Answers.{Answers, CommandAnswers, IsCarriedOut}
+use Rattle.alpaca_cli.specs.Answers.{Answers, CommandAnswers, IsCarriedOut, IsWhole, status_of}
 use Rattle.alpaca_cli.specs.Calls.{Call, OnLine, Says, line_text, reads}
 use Rattle.alpaca_cli.specs.InputFiles.{AreHeld, IsFirstUnfit, here, behind, IsOverlong}
 use Rattle.alpaca_cli.specs.Outside.{Shelved, Written, IsSilent, WhereSilent}
-use Rattle.alpaca_cli.specs.Products.{AreAccepted}
-use Rattle.alpaca_cli.proofs.FaultLaws.{faults_alone}
+use Rattle.alpaca_cli.specs.Ending.{Ending, well, at_fault}
+use Rattle.alpaca_cli.specs.Products.{IsProduct, AreAccepted}
 use Rattle.alpaca_cli.proofs.LineLaws.{same_call}
 use Rattle.alpaca_cli.proofs.NotRefused.{SourcesExclude, not_refused}
+use Rattle.alpaca_cli.proofs.OneEnding.{one_ending}
 
 -- the words are a line, and this is said of its command
 pub on_line : (status : Status) (call : Call) (words : List (List ℕ)) (shelf : Shelved) (out err : Written)
@@ -68,27 +70,39 @@ pub record NothingFailed (old new : Counts) (out : Written) : Type 0 where
 abbrev before : Files → Option Files → Counts → Counts → Shelved
 before f now old new = record { old = Some f; new = now; counts_old = old; counts_new = new }
 
+-- a whole command is carried out, whichever texts its files hold
+carried_out : HasOneRun → (call : Call) (texts made : List (List ℕ)) (status : Status) (ending : Ending) (shelf : Shelved) (out : Written)
+    → texts ≡ made → status ≡ status_of ending → IsWhole call made ending shelf out → IsCarriedOut call texts status
+carried_out law call texts made status ending shelf out same said whole =
+    let is : IsProduct call texts whole.product = subst (λ t. IsProduct call t whole.product) (sym same) whole.is in
+    record {
+      ending = ending;
+      said = said;
+      only = λ product other. one_ending law call texts product whole.product other is ∙ whole.ends;
+    }
+
 -- what is said of a command whose files are held, accepted and read, put and written without a failure
-command_complete : SourcesExclude → (status : Status) (call : Call) (texts : List (List ℕ)) (f : Files) (now : Option Files) (old new : Counts) (out err : Written)
-    → AreHeld f (reads call) texts → AreAccepted call texts → NothingFailed old new out
-    → CommandAnswers status call (before f now old new) out err → IsCarriedOut call status ⊎ (status ≡ OutOfMemory)
-command_complete sources Done call texts f now old new out err held is fine a = inl (inl refl)
-command_complete sources MachineFault call texts f now old new out err held is fine a =
-    let whole = a.2.0 in
-    inl (inr (faults_alone call a.0 whole.product whole.is whole.ends, refl))
-command_complete sources Refused call texts f now old new out err held is fine a =
+command_complete : HasOneRun → SourcesExclude → (status : Status) (call : Call) (texts : List (List ℕ)) (f : Files)
+    (now : Option Files) (old new : Counts) (out err : Written) → AreHeld f (reads call) texts → AreAccepted call texts → NothingFailed old new out
+    → CommandAnswers status call (before f now old new) out err → IsCarriedOut call texts status ⊎ (status ≡ OutOfMemory)
+command_complete law sources Done call texts f now old new out err held is fine a =
+    inl (carried_out law call texts a.0 Done well _ out (same_files f (reads call) texts a.0 held a.1) refl a.2.0)
+command_complete law sources MachineFault call texts f now old new out err held is fine a =
+    inl (carried_out law call texts a.0 MachineFault at_fault _ out (same_files f (reads call) texts a.0 held a.1) refl a.2.0)
+command_complete law sources Refused call texts f now old new out err held is fine a =
     let same = same_files f (reads call) texts a.0 held a.1 in
     absurd (not_refused sources call a.0 _ _ (subst (AreAccepted call) same is) a.2.2.refused)
-command_complete sources Unreadable call texts f now old new out err held is fine a = absurd (cause a.1.cause)
+command_complete law sources Unreadable call texts f now old new out err held is fine a = absurd (cause a.1.cause)
   where
     cause : Rose old.failed_reads new.failed_reads ⊎ (Rose old.missing_reads new.missing_reads × IsFirstUnfit f (λ file. file ≡ None) (reads call) a.0) → ⊥
     cause (inl rose) = fine.no_read rose
     cause (inr (rose, none)) = none_unfit f _ a.0 (reads call) texts is_there held none
-command_complete sources TooLong call texts f now old new out err held is fine a = absurd (none_unfit f _ a.0 (reads call) texts is_short held a.1.overlong)
-command_complete sources Unwritable call texts f now old new out err held is fine (ts, theirs, inl broken) = absurd (fine.no_write broken.0.failed)
-command_complete sources Unwritable call texts f now old new out err held is fine (ts, theirs, inr unput) = absurd (fine.no_put unput.1.unput.failed)
-command_complete sources OutOfMemory call texts f now old new out err held is fine a = inr refl
-command_complete sources Usage call texts f now old new out err held is fine a = absurd a.2
+command_complete law sources TooLong call texts f now old new out err held is fine a =
+    absurd (none_unfit f _ a.0 (reads call) texts is_short held a.1.overlong)
+command_complete law sources Unwritable call texts f now old new out err held is fine (ts, theirs, inl broken) = absurd (fine.no_write broken.0.failed)
+command_complete law sources Unwritable call texts f now old new out err held is fine (ts, theirs, inr unput) = absurd (fine.no_put unput.1.unput.failed)
+command_complete law sources OutOfMemory call texts f now old new out err held is fine a = inr refl
+command_complete law sources Usage call texts f now old new out err held is fine a = absurd a.2
 
 -- the same of the words
 of_line : (status : Status) (words : List (List ℕ)) (call : Call) (shelf : Shelved) (out err : Written)
@@ -97,33 +111,39 @@ of_line status words call shelf out err says a =
     let same : line_text a.0 ≡ line_text call = ap (λ o. unwrap_or o []) (sym a.1.line ∙ says.line) in
     subst (λ c. CommandAnswers status c shelf out err) (same_call a.0 call a.1.number says.number same) a.2
 
-line_complete : SourcesExclude → (status : Status) (words : List (List ℕ)) (call : Call) (texts : List (List ℕ)) (f : Files) (now : Option Files) (old new : Counts) (out err : Written)
-    → OnLine words (λ c. CommandAnswers status c (before f now old new) out err)
+line_complete : HasOneRun → SourcesExclude → (status : Status) (words : List (List ℕ)) (call : Call) (texts : List (List ℕ)) (f : Files)
+    (now : Option Files) (old new : Counts) (out err : Written) → OnLine words (λ c. CommandAnswers status c (before f now old new) out err)
     → Says words call → AreHeld f (reads call) texts → AreAccepted call texts → NothingFailed old new out
-    → IsCarriedOut call status ⊎ (status ≡ OutOfMemory)
-line_complete sources status words call texts f now old new out err a says held is fine =
-    command_complete sources status call texts f now old new out err held is fine (of_line status words call (before f now old new) out err says a)
+    → IsCarriedOut call texts status ⊎ (status ≡ OutOfMemory)
+line_complete law sources status words call texts f now old new out err a says held is fine =
+    command_complete law sources status call texts f now old new out err held is fine (of_line status words call (before f now old new) out err says a)
 
-complete : SourcesExclude → (status : Status) (words : List (List ℕ)) (call : Call) (texts : List (List ℕ)) (f : Files) (now : Option Files) (old new : Counts) (out err : Written)
-    → Answers status words (before f now old new) out err
+complete : HasOneRun → SourcesExclude → (status : Status) (words : List (List ℕ)) (call : Call) (texts : List (List ℕ)) (f : Files)
+    (now : Option Files) (old new : Counts) (out err : Written) → Answers status words (before f now old new) out err
     → Says words call → AreHeld f (reads call) texts → AreAccepted call texts → NothingFailed old new out
-    → IsCarriedOut call status ⊎ (status ≡ OutOfMemory)
-complete sources Usage words call texts f now old new out err a says held is fine = absurd (a.1 (call, says, tt))
-complete sources OutOfMemory words call texts f now old new out err a says held is fine = inr refl
-complete sources Done words call texts f now old new out err a says held is fine = line_complete sources Done words call texts f now old new out err a says held is fine
-complete sources Refused words call texts f now old new out err a says held is fine = line_complete sources Refused words call texts f now old new out err a says held is fine
-complete sources Unreadable words call texts f now old new out err a says held is fine = line_complete sources Unreadable words call texts f now old new out err a says held is fine
-complete sources Unwritable words call texts f now old new out err a says held is fine = line_complete sources Unwritable words call texts f now old new out err a says held is fine
-complete sources MachineFault words call texts f now old new out err a says held is fine = line_complete sources MachineFault words call texts f now old new out err a says held is fine
-complete sources TooLong words call texts f now old new out err a says held is fine = line_complete sources TooLong words call texts f now old new out err a says held is fine
+    → IsCarriedOut call texts status ⊎ (status ≡ OutOfMemory)
+complete law sources Usage words call texts f now old new out err a says held is fine = absurd (a.1 (call, says, tt))
+complete law sources OutOfMemory words call texts f now old new out err a says held is fine = inr refl
+complete law sources Done words call texts f now old new out err a says held is fine =
+    line_complete law sources Done words call texts f now old new out err a says held is fine
+complete law sources Refused words call texts f now old new out err a says held is fine =
+    line_complete law sources Refused words call texts f now old new out err a says held is fine
+complete law sources Unreadable words call texts f now old new out err a says held is fine =
+    line_complete law sources Unreadable words call texts f now old new out err a says held is fine
+complete law sources Unwritable words call texts f now old new out err a says held is fine =
+    line_complete law sources Unwritable words call texts f now old new out err a says held is fine
+complete law sources MachineFault words call texts f now old new out err a says held is fine =
+    line_complete law sources MachineFault words call texts f now old new out err a says held is fine
+complete law sources TooLong words call texts f now old new out err a says held is fine =
+    line_complete law sources TooLong words call texts f now old new out err a says held is fine
 
 -- the same where the files may be untold
-pub complete_told : SourcesExclude → (status : Status) (words : List (List ℕ)) (told now : Option Files) (old new : Counts) (out err : Written)
+pub complete_told : HasOneRun → SourcesExclude → (status : Status) (words : List (List ℕ)) (told now : Option Files) (old new : Counts) (out err : Written)
     → Answers status words (record { old = told; new = now; counts_old = old; counts_new = new }) out err
     → IfSome told (λ f. (call : Call) (texts : List (List ℕ))
     → Says words call → AreHeld f (reads call) texts → AreAccepted call texts
     → (Rose old.failed_reads new.failed_reads → ⊥) → (Rose old.failed_puts new.failed_puts → ⊥) → (Rose out.faults_old out.faults_new → ⊥)
-    → IsCarriedOut call status ⊎ (status ≡ OutOfMemory))
-complete_told sources status words None now old new out err a = tt
-complete_told sources status words (Some f) now old new out err a = λ call texts says held is no_read no_put no_write.
-    complete sources status words call texts f now old new out err a says held is (record { no_read = no_read; no_put = no_put; no_write = no_write })
+    → IsCarriedOut call texts status ⊎ (status ≡ OutOfMemory))
+complete_told law sources status words None now old new out err a = tt
+complete_told law sources status words (Some f) now old new out err a = λ call texts says held is no_read no_put no_write.
+    complete law sources status words call texts f now old new out err a says held is (record { no_read = no_read; no_put = no_put; no_write = no_write })

@@ -6,6 +6,7 @@ mod GenLaws
 mod GenLines
 mod LineLaws
 mod NotRefused
+mod OneEnding
 mod PutLaws
 mod Refused
 mod RunLaws

@@ -10,7 +10,7 @@ use Rattle.alpaca_cli.specs.declared.status.Status.TheVariants.{Done, Refused, U
 use Rattle.alpaca_cli.specs.InputFiles.{AreHeld, IsUnreadable, IsTooLong}
 use Rattle.alpaca_cli.specs.Refusals.{Refusal, refused_line}
 use Rattle.alpaca_cli.specs.Messages.{Tells, unreadable_line, too_long_line, unput_line, unwritable_line, memory_line, machine_fault_line, usage_line}
-use Rattle.alpaca_cli.specs.Calls.{Call, OnLine, IsRun, reads, judges, puts}
+use Rattle.alpaca_cli.specs.Calls.{Call, OnLine, reads, judges, puts}
 use Rattle.alpaca_cli.specs.Ending.{Ending, well, at_fault}
 use Rattle.alpaca_cli.specs.Outside.{Shelved, Written, Stands, IsSilent, IsPut, IsUnput}
 use Rattle.alpaca_cli.specs.Products.{Product, IsProduct, IsRefused}
@@ -99,6 +99,13 @@ Answers status words shelf out err = OnLine words (λ call. CommandAnswers statu
 abbrev pub OthersStand : List (List ℕ) → Option Files → Option Files → Type 0
 OthersStand words old new = (name : List ℕ) → (OnLine words (λ call. puts call ≡ Some name) → ⊥) → Told old new (λ before after. after name ≡ before name)
 
--- the status of a command that is carried out: 0, or that of a run that met a machine fault
-abbrev pub IsCarriedOut : Call → Status → Type 0
-IsCarriedOut call status = (status ≡ Done) ⊎ (IsRun call × (status ≡ MachineFault))
+-- the status of a whole command
+abbrev pub status_of : Ending → Status
+status_of well = Done
+status_of at_fault = MachineFault
+
+-- the command is carried out: whatever it makes of these texts ends so, and the status says it
+pub record IsCarriedOut (call : Call) (texts : List (List ℕ)) (status : Status) : Type 0 where
+  pub ending : Ending
+  pub said : status ≡ status_of ending
+  pub only : (product : Product) → IsProduct call texts product → product.ending ≡ ending

@@ -18,6 +18,7 @@ use crate::status::Status;
 use crate::try_::answer_try;
 use alp_io::{Shelf, Sink};
 use command_line::{Command, WordsFault, command_of};
+use fram_board::board_has_one_run;
 use source_meaning::one_answer;
 use std::alloc::Global;
 
@@ -96,13 +97,14 @@ pub fn alpaca<H: Shelf, O: Sink, E: Sink>(
     ensures only_runs_fault { result ≡ Status.MachineFault → OnLine (map string_bytes words.entry.now) IsRun }
 
     // Where the words are a line, the files are told and fit, their texts are accepted, and no read, no put and no write fails,
-    // the command is carried out, or memory ran out.
+    // the command is carried out and ends as its status says, or memory ran out.
     ensures complete { IfSome (H.files shelf.old) (λ f. (call : Call) (texts : List (List ℕ))
         → Says (map string_bytes words.entry.now) call → AreHeld f (reads call) texts → AreAccepted call texts
         → ¬ Rose (H.counts shelf.old).failed_reads (H.counts shelf.new).failed_reads
         → ¬ Rose (H.counts shelf.old).failed_puts (H.counts shelf.new).failed_puts → ¬ Rose (O.faults out.old) (O.faults out.new)
-        → IsCarriedOut call result ⊎ (result ≡ Status.OutOfMemory)) }
+        → IsCarriedOut call texts result ⊎ (result ≡ Status.OutOfMemory)) }
 {
+    board_has_one_run();
     one_answer();
     answer(alloc, words, shelf, out, err)
 }

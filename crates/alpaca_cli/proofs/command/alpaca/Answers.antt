@@ -12,4 +12,4 @@ returns-clause-only_runs_fault g c = only_runs_fault _ _ _ _ _ c.answer.ensures.
 
 pub returns-clause-complete : goal.returns-clause-complete
 returns-clause-complete g c =
-    complete_told (sources_exclude c.one_answer.ensures) _ _ _ _ _ _ _ _ c.answer.ensures.answers
+    complete_told c.board_has_one_run.ensures.unique (sources_exclude c.one_answer.ensures) _ _ _ _ _ _ _ _ c.answer.ensures.answers

@@ -1,0 +1,50 @@
+-- Whatever a command makes of its texts has one ending.
+use Rattle.std.proofs.Common.{◌≡◌, ◌∙◌, ℕ, List, [], ◌∷◌, Ok, Result, sym, ap, subst}
+use Rattle.energy_trace.specs.TraceValue.{TraceValue}
+use Rattle.energy_trace.specs.Reading.{trace_of}
+use Rattle.image_text.specs.ImageValue.{ImageValue}
+use Rattle.image_text.specs.Reading.{image_of}
+use Rattle.fram_board.specs.Laws.{HasOneRun}
+use Rattle.alpaca_cli.specs.Calls.{Call, mean, try_, build, run, asm, dis, gen}
+use Rattle.alpaca_cli.specs.Ending.{Ending}
+use Rattle.alpaca_cli.specs.RunReport.{IsRunReport, ending_of}
+use Rattle.alpaca_cli.specs.Products.{Product, Runs, IsProduct}
+
+same_value : {A E : Type 0} (x : Result A E) (a b : A) → x ≡ Ok a → x ≡ Ok b → a ≡ b
+same_value x a b e f = let g : Ok a ≡ Ok b = sym e ∙ f in cc
+
+one_run : HasOneRun → (i : ImageValue) (t : TraceValue) (e e' : Ending) (o o' : List ℕ) → IsRunReport i t e o → IsRunReport i t e' o' → e ≡ e'
+one_run law i t e e' o o' a b = a.ends ∙ ap (λ r. ending_of r.ending) (law _ _ a.outcome b.outcome a.run b.run) ∙ sym b.ends
+
+run_ending : HasOneRun → (x y : List ℕ) (e e' : Ending) (o o' : List ℕ) → Runs x y e o → Runs x y e' o' → e ≡ e'
+run_ending law x y e e' o o' a b =
+    let image : b.value ≡ a.value = same_value (image_of x) b.value a.value b.image_said a.image_said in
+    let trace : b.charges ≡ a.charges = same_value (trace_of y) b.charges a.charges b.trace_said a.trace_said in
+    let report : IsRunReport a.value a.charges e' o' =
+    subst (λ t. IsRunReport a.value t e' o') trace (subst (λ i. IsRunReport i b.charges e' o') image b.report) in
+    one_run law a.value a.charges e e' o o' a.report report
+
+pub one_ending : HasOneRun → (call : Call) (texts : List (List ℕ)) (p q : Product) → IsProduct call texts p → IsProduct call texts q → p.ending ≡ q.ending
+one_ending law (mean c d) [] p q a b = absurd a
+one_ending law (mean c d) (x ∷ []) p q a b = absurd a
+one_ending law (mean c d) (x ∷ y ∷ []) p q a b = a.2 ∙ sym b.2
+one_ending law (mean c d) (x ∷ y ∷ z ∷ more) p q a b = absurd a
+one_ending law (try_ c d i) [] p q a b = absurd a
+one_ending law (try_ c d i) (x ∷ []) p q a b = absurd a
+one_ending law (try_ c d i) (x ∷ y ∷ []) p q a b = a.1 ∙ sym b.1
+one_ending law (try_ c d i) (x ∷ y ∷ z ∷ more) p q a b = absurd a
+one_ending law (build c i) [] p q a b = absurd a
+one_ending law (build c i) (x ∷ []) p q a b = a.1 ∙ sym b.1
+one_ending law (build c i) (x ∷ y ∷ more) p q a b = absurd a
+one_ending law (run c d) [] p q a b = absurd a
+one_ending law (run c d) (x ∷ []) p q a b = absurd a
+one_ending law (run c d) (x ∷ y ∷ []) p q a b = run_ending law x y p.ending q.ending p.output q.output a.0 b.0
+one_ending law (run c d) (x ∷ y ∷ z ∷ more) p q a b = absurd a
+one_ending law (asm c d) [] p q a b = absurd a
+one_ending law (asm c d) (x ∷ []) p q a b = a.2 ∙ sym b.2
+one_ending law (asm c d) (x ∷ y ∷ more) p q a b = absurd a
+one_ending law (dis c) [] p q a b = absurd a
+one_ending law (dis c) (x ∷ []) p q a b = a.2 ∙ sym b.2
+one_ending law (dis c) (x ∷ y ∷ more) p q a b = absurd a
+one_ending law (gen n i) [] p q a b = a.1 ∙ sym b.1
+one_ending law (gen n i) (x ∷ more) p q a b = absurd a
