@@ -50,10 +50,12 @@ fn keeps_cut_twice(
     source: &Source,
     firsts: &[u32],
     seconds: &[u32],
+    fill: u16,
 ) -> Result<(), Fail> {
     for first in firsts {
         for second in seconds {
-            let charges = format!(in alloc; "s {first} 0\ns {second} 0\nc 1000000 0\n")?;
+            let charges =
+                format!(in alloc; "s {first} {fill}\ns {second} {fill}\nc 1000000 {fill}\n")?;
             keeps(rt, alloc, source, &charges)?;
         }
     }
@@ -71,7 +73,7 @@ fn cut_twice_60_by_120(rt: HostRuntime) -> Result<(), Fail> {
     let alloc = rt.alloc();
     let firsts: Vec<u32> = (0..=60).collect(alloc)?;
     let seconds: Vec<u32> = (0..=120).collect(alloc)?;
-    keeps_cut_twice(&rt, alloc, &SUM_OF_FIVE, &firsts, &seconds)
+    keeps_cut_twice(&rt, alloc, &SUM_OF_FIVE, &firsts, &seconds, 0)
 }
 
 #[test]
@@ -79,17 +81,33 @@ fn cut_twice_from_61_to_120_by_120(rt: HostRuntime) -> Result<(), Fail> {
     let alloc = rt.alloc();
     let firsts: Vec<u32> = (61..=120).collect(alloc)?;
     let seconds: Vec<u32> = (0..=120).collect(alloc)?;
-    keeps_cut_twice(&rt, alloc, &SUM_OF_FIVE, &firsts, &seconds)
+    keeps_cut_twice(&rt, alloc, &SUM_OF_FIVE, &firsts, &seconds, 0)
+}
+
+#[test]
+fn cut_twice_80_by_80_with_ones_in_ram(rt: HostRuntime) -> Result<(), Fail> {
+    let alloc = rt.alloc();
+    let steps: Vec<u32> = (0..80).collect(alloc)?;
+    keeps_cut_twice(&rt, alloc, &SUM_OF_FIVE, &steps, &steps, 65535)
+}
+
+// A source each of arrays, emits and loops, cut twice.
+fn each_keeps_cut_twice(rt: &impl Abort, alloc: Global, fill: u16) -> Result<(), Fail> {
+    let steps: Vec<u32> = (0..=400).step_by(7).collect(alloc)?;
+    for source in &CUT_TWICE {
+        keeps_cut_twice(rt, alloc, source, &steps, &steps, fill)?;
+    }
+    Ok(())
 }
 
 #[test]
 fn arrays_emits_and_loops_cut_twice(rt: HostRuntime) -> Result<(), Fail> {
-    let alloc = rt.alloc();
-    let steps: Vec<u32> = (0..=400).step_by(7).collect(alloc)?;
-    for source in &CUT_TWICE {
-        keeps_cut_twice(&rt, alloc, source, &steps, &steps)?;
-    }
-    Ok(())
+    each_keeps_cut_twice(&rt, rt.alloc(), 0)
+}
+
+#[test]
+fn arrays_emits_and_loops_cut_twice_with_ones_in_ram(rt: HostRuntime) -> Result<(), Fail> {
+    each_keeps_cut_twice(&rt, rt.alloc(), 65535)
 }
 
 // How many steps lead to a second transition of a run that isn't cut; at most so many are looked at.
