@@ -1,19 +1,23 @@
 //! Files in memory, a call of the program over them, and what of its answer no part has said yet.
+use crate::calls::{is_compiled, is_first_word, is_kept, is_printed};
 use crate::parts::Part;
+use crate::turns::{ROOM, Turns};
 use alp_io::{MemShelf, MemSink, Shelf};
 use alpaca_cli::alpaca;
 use anyhow::Result;
 use std::alloc::Global;
 
-// An output holds no more bytes than these.
-const ROOM: usize = 400_000;
-
 /// The files of a row, the outside's calls that fail in it, and what of the last call's answer isn't said yet.
 #[derive(Drop)]
 pub struct Bench {
+    rt: HostRuntime,
     alloc: Global,
     failing: Failing,
     shelf: MemShelf,
+    /// The names of the row's files.
+    names: Vec<String>,
+    /// How many calls failed in turns, as a row says it.
+    failed: String,
     status: u8,
     out: Vec<u8>,
     err: Vec<u8>,
@@ -77,13 +81,33 @@ fn is_said(found: &mut Vec<u8>, text: &[u8]) -> bool {
     met
 }
 
+// The words of a line and of the text behind it.
+fn words_of(alloc: Global, said: &str, text: &[u8]) -> Result<Vec<String>> {
+    let mut words = Vec::new(alloc);
+    push_words(alloc, said, &mut words)?;
+    let more = String::from_utf8_lossy(alloc, text)?;
+    push_words(alloc, &more, &mut words)?;
+    Ok(words)
+}
+
+fn push_words(alloc: Global, said: &str, into: &mut Vec<String>) -> Result<()> {
+    for word in said.split_whitespace() {
+        into.push(String::from_str(alloc, word)?)?;
+    }
+    Ok(())
+}
+
 impl Bench {
     /// No file, no failing call, and nothing that isn't said.
-    pub fn new(alloc: Global) -> Bench {
+    pub fn new(rt: HostRuntime) -> Bench {
+        let alloc = rt.alloc();
         Bench {
+            rt,
             alloc,
             failing: Failing::none(alloc),
             shelf: MemShelf::new(Vec::new(alloc), Vec::new(alloc), Vec::new(alloc)),
+            names: Vec::new(alloc),
+            failed: String::new(alloc),
             status: 0,
             out: Vec::new(alloc),
             err: Vec::new(alloc),
@@ -98,16 +122,22 @@ impl Bench {
             b"row" => return self.begin(),
             b"failing" => self.fail(said)?,
             b"file" => self.put(said, &part.text)?,
-            b"call" => return self.call(said),
+            b"call" => return self.call(said, &part.text),
+            b"each" => return self.call_in_turns(said, &part.text),
+            b"failed" => self.says_failed(said),
             b"status" => self.says_status(said),
             b"out" => is_said(&mut self.out, &part.text),
             b"err" => is_said(&mut self.err, &part.text),
             b"keep" => self.keep(said)?,
-            b"front" => self.says_front(said),
             b"holds" => self.shelf.file(said) == Some(&part.text),
             b"has" => self.shelf.file(said).is_some(),
             b"lacks" => self.shelf.file(said).is_none(),
             b"like" => self.are_like(said),
+            b"ends" => self.says_end(said, &part.text),
+            b"size" => self.has_size(said),
+            b"prints" | b"compiles" | b"word" | b"real" => self.calls_below(
+                kind, said, &part.text,
+            )?,
             _ => false,
         };
         if met {
@@ -121,21 +151,46 @@ impl Bench {
     fn found(&self) -> Result<String> {
         let out = String::from_utf8_lossy(self.alloc, &self.out)?;
         let err = String::from_utf8_lossy(self.alloc, &self.err)?;
-        Ok(format!(in self.alloc; "status {}, out {out:?}, err {err:?}", self.status)?)
+        Ok(format!(in self.alloc;
+            "status {}, out {out:?}, err {err:?}, failed {}",
+            self.status, self.failed
+        )?)
     }
 
-    // Whether the output is a proper front of a file, and not nothing; it is said then.
-    fn says_front(&mut self, name: &str) -> bool {
-        let met = match self.shelf.file(name) {
-            Some(whole) => !self.out.is_empty()
-                && self.out.len() < whole.len()
-                && whole.starts_with(&self.out),
-            None => false,
-        };
+    // Whether the output has so many lines, and ends so; it is said then.
+    fn says_end(&mut self, lines: &str, end: &[u8]) -> bool {
+        let count = self.out.iter().filter(|byte| **byte == b'\n').count();
+        let met = lines.parse::<usize>() == Ok(count) && self.out.ends_with(end);
         if met {
             self.out.clear();
         }
         met
+    }
+
+    // Whether a text of so many bytes stands under a name.
+    fn has_size(&self, said: &str) -> bool {
+        match said.split_once(" ") {
+            Some((name, size)) => {
+                let bytes = self.shelf.file(name).unwrap_or(b"");
+                size.parse::<usize>() == Ok(bytes.len())
+            }
+            None => false,
+        }
+    }
+
+    // Whether a call that the program doesn't make answers so.
+    fn calls_below(&self, kind: &str, said: &str, text: &[u8]) -> Result<bool> {
+        let (front, name) = said.rsplit_once(" ").unwrap_or(("", said));
+        let file = self.shelf.file(name).unwrap_or(b"");
+        match kind.as_bytes() {
+            b"prints" => is_printed(self.alloc, file, text),
+            b"compiles" => {
+                let source = self.shelf.file(front).unwrap_or(b"");
+                is_compiled(self.alloc, source, file)
+            }
+            b"word" => is_first_word(self.alloc, file, front, text),
+            _ => is_kept(self.rt, name, file),
+        }
     }
 
     // Whether the status is this; it is said then.
@@ -150,6 +205,7 @@ impl Bench {
     // A row begins: no file, no failing call.
     fn begin(&mut self) -> Result<Option<String>> {
         self.failing = Failing::none(self.alloc);
+        self.names.clear();
         self.shelf = self.failing.shelf(self.alloc)?;
         self.unsaid()
     }
@@ -157,6 +213,7 @@ impl Bench {
     fn fail(&mut self, said: &str) -> Result<bool> {
         let is_set = self.failing.set(said)?;
         if said.starts_with("reads ") || said.starts_with("puts ") {
+            self.names.clear();
             self.shelf = self.failing.shelf(self.alloc)?;
         }
         Ok(is_set)
@@ -165,24 +222,57 @@ impl Bench {
     // The file of a row stands; a row's own puts don't fail.
     fn put(&mut self, name: &str, text: &[u8]) -> Result<bool> {
         self.shelf.put(self.alloc, name, text)?;
+        self.names.push(String::from_str(self.alloc, name)?)?;
         Ok(true)
     }
 
-    // Calls the program with these words.
-    fn call(&mut self, words: &str) -> Result<Option<String>> {
-        let unsaid = self.unsaid()?;
-        let mut list = Vec::new(self.alloc);
-        for word in words.split_whitespace() {
-            list.push(String::from_str(self.alloc, word)?)?;
+    // Each call of the outside fails in turn, and then none does.
+    fn call_in_turns(&mut self, said: &str, text: &[u8]) -> Result<Option<String>> {
+        let words = words_of(self.alloc, said, text)?;
+        let turns = Turns {
+            alloc: self.alloc,
+            words: &words,
+            files: &self.shelf,
+            names: &self.names,
+        };
+        let failed = turns.failed()?;
+        let unsaid = self.call(said, text)?;
+        self.failed = failed;
+        Ok(unsaid)
+    }
+
+    // Whether so many calls failed in turns; it is said then.
+    fn says_failed(&mut self, said: &str) -> bool {
+        let met = self.failed.as_str() == said;
+        if met {
+            self.failed.clear();
         }
+        met
+    }
+
+    // Calls the program with these words.
+    fn call(&mut self, said: &str, text: &[u8]) -> Result<Option<String>> {
+        let unsaid = self.unsaid()?;
+        let list = words_of(self.alloc, said, text)?;
         let mut out = MemSink::new(self.alloc, ROOM, self.failing.writes.to_vec(self.alloc)?)?;
         let mut err = MemSink::new(self.alloc, ROOM, self.failing.tells.to_vec(self.alloc)?)?;
         let status = alpaca(self.alloc, &list, &mut self.shelf, &mut out, &mut err);
+        self.note_put(&list)?;
         self.status = status.code();
         self.out = out.bytes().to_vec(self.alloc)?;
         self.err = err.bytes().to_vec(self.alloc)?;
         self.calls = self.calls.saturating_add(1);
         Ok(unsaid)
+    }
+
+    // The file under the last word is one of the row's from now on.
+    fn note_put(&mut self, words: &[String]) -> Result<()> {
+        if let Some(word) = words.last() {
+            if self.shelf.file(word).is_some() {
+                self.names.push(String::from_str(self.alloc, word)?)?;
+            }
+        }
+        Ok(())
     }
 
     // Puts the output under a name.
@@ -203,13 +293,18 @@ impl Bench {
 
     /// What of the last call's answer no part has said: each other status than 0, and each byte written.
     pub fn unsaid(&mut self) -> Result<Option<String>> {
-        if self.status == 0 && self.out.is_empty() && self.err.is_empty() {
+        if self.status == 0
+            && self.out.is_empty()
+            && self.err.is_empty()
+            && self.failed.is_empty()
+        {
             return Ok(None);
         }
         let found = self.found()?;
         self.status = 0;
         self.out.clear();
         self.err.clear();
+        self.failed.clear();
         Ok(Some(found))
     }
 }

@@ -7,20 +7,28 @@
 //!   others, counted from 0: reads and puts over the row, the puts of its own files among them, and writes and tells over a
 //!   call. Those of reads and puts come before the row's files.
 //! - `file NAME`: a file with the text that follows.
-//! - `call WORD ..`: the program is called with these words.
+//! - `call WORD ..`: the program is called with these words, and with those of the text that follows.
+//! - `each WORD ..`: the same, and before that again and again over the same files, where each read, put and write fails in turn,
+//!   by itself and with each write to standard error, as `turns` says.
+//! - `failed READS PUTS WRITES TELLS`: so many calls failed by themselves, and each was answered as it has to be.
 //! - `status N`: what it answers; 0 where none is said.
 //! - `out` and `err`: what it writes, the text that follows; nothing where none is said.
-//! - `front NAME`: what it writes to the output is a proper front of that file, and not nothing.
+//! - `ends N`: what it writes to the output has N lines, and ends with the text that follows.
 //! - `keep NAME`: what it writes to the output is put under a name.
 //! - `holds NAME`, `has NAME`, `lacks NAME`, `like NAME NAME`: the text that follows stands under a name, some text, none, and the
 //!   same under both.
+//! - `size NAME N`: a text of N bytes stands under a name.
+//! - `prints NAME`, `compiles NAME NAME`, `word V I NAME`, `real NAME`: calls that the program doesn't make, as `calls` says.
 //!
 //! A text is made of lines `| TEXT`, which end with a line feed, and of `- TEXT` and `N * TEXT`, which don't; the last comes N
-//! times. In it `\HH` is the byte of two hexadecimal digits, and `\#` the number of the turn, from 1.
+//! times. In it `\HH` is the byte of two hexadecimal digits, `\#` the number of the turn, from 1, and `\@` the same from 0;
+//! `\(N TEXT\)` is TEXT as often as N says, with turns of its own.
 #![tactic(auto)]
 
 mod bench;
+mod calls;
 mod parts;
+mod turns;
 
 use anyhow::Result;
 use bench::Bench;
@@ -46,7 +54,7 @@ fn differing(rt: &HostRuntime, rows: &str, bench: &mut Bench) -> Result<u64> {
 fn main(rt: HostRuntime) -> Result<()> {
     for name in env::args(&rt)?.skip(1) {
         let rows = fs::read_to_string(&rt, name.as_str())?;
-        let mut bench = Bench::new(rt.alloc());
+        let mut bench = Bench::new(rt);
         let differ = differing(&rt, rows.as_str(), &mut bench)?;
         println!(rt; "{name}: {} calls, {differ} differ", bench.calls)?;
     }

@@ -44,14 +44,22 @@ fn text_line(line: &str) -> Option<TextLine<'_>> {
     })
 }
 
-// In a text `\#` is the number of the turn, and `\HH` the byte of two hexadecimal digits.
+fn push_number(alloc: Global, number: u64, into: &mut Vec<u8>) -> Result<(), AllocError> {
+    into.extend_from_slice(format!(in alloc; "{number}")?.as_bytes())
+}
+
+// In a text `\#` is the number of the turn, counted from 1, `\@` the same from 0, and `\HH` the byte of two hexadecimal digits.
 fn push_said(alloc: Global, text: &[u8], turn: u64, into: &mut Vec<u8>) -> Result<(), AllocError> {
     let mut rest = text;
     while let [first, behind @ ..] = rest {
         rest = behind;
         match (*first, behind) {
             (b'\\', [b'#', behind @ ..]) => {
-                into.extend_from_slice(format!(in alloc; "{turn}")?.as_bytes())?;
+                push_number(alloc, turn.saturating_add(1), into)?;
+                rest = behind;
+            }
+            (b'\\', [b'@', behind @ ..]) => {
+                push_number(alloc, turn, into)?;
                 rest = behind;
             }
             (b'\\', [high, low, behind @ ..]) => {
@@ -64,9 +72,33 @@ fn push_said(alloc: Global, text: &[u8], turn: u64, into: &mut Vec<u8>) -> Resul
     Ok(())
 }
 
+// `N TEXT`, a text that comes N times, with turns of its own.
+fn push_group(alloc: Global, group: &str, into: &mut Vec<u8>) -> Result<(), AllocError> {
+    let (times, text) = group.split_once(" ").unwrap_or(("", group));
+    for turn in 0..times.parse::<u64>().unwrap_or(0) {
+        push_said(alloc, text.as_bytes(), turn, into)?;
+    }
+    Ok(())
+}
+
+// In a text `\(N TEXT\)` is a group. A text has fewer groups than bytes.
+fn push_text(alloc: Global, text: &str, turn: u64, into: &mut Vec<u8>) -> Result<(), AllocError> {
+    let mut rest = text;
+    for _ in 0..text.len() {
+        let Some((front, behind)) = rest.split_once("\\(") else {
+            break;
+        };
+        push_said(alloc, front.as_bytes(), turn, into)?;
+        let (group, behind) = behind.split_once("\\)").unwrap_or((behind, ""));
+        push_group(alloc, group, into)?;
+        rest = behind;
+    }
+    push_said(alloc, rest.as_bytes(), turn, into)
+}
+
 fn push_line(alloc: Global, line: TextLine<'_>, into: &mut Vec<u8>) -> Result<(), AllocError> {
     for turn in 0..line.times {
-        push_said(alloc, line.text.as_bytes(), turn + 1, into)?;
+        push_text(alloc, line.text, turn, into)?;
     }
     if line.is_ended {
         into.push(b'\n')?;

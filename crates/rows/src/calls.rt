@@ -1,0 +1,65 @@
+//! Calls of the crates below that the program doesn't make, or makes over files in memory alone here.
+use alp_io::{DirShelf, Shelf};
+use anyhow::Result;
+use energy_trace::{parse_trace, print_trace};
+use image_text::print_image;
+use link_image::compile;
+use source_meaning::{Meaning, accept};
+use std::alloc::Global;
+use std::fs;
+
+// A text has no more bytes than these.
+const LIMIT: usize = 1_048_576;
+
+/// Whether a trace is printed so.
+pub fn is_printed(alloc: Global, text: &[u8], printed: &[u8]) -> Result<bool> {
+    if text.len() > LIMIT {
+        return Ok(false);
+    }
+    let trace = parse_trace(alloc, text)?;
+    let found = print_trace(alloc, &trace)?;
+    Ok(found.as_slice() == printed)
+}
+
+/// Whether a source has this image.
+pub fn is_compiled(alloc: Global, source: &[u8], image: &[u8]) -> Result<bool> {
+    if source.len() > LIMIT {
+        return Ok(false);
+    }
+    let compiled = compile(alloc, source)?;
+    let found = print_image(alloc, &compiled)?;
+    Ok(found.as_slice() == image)
+}
+
+// The word `i` of a source's shared variable `v`, both counted from 0, before its first transition.
+fn first_word(alloc: Global, source: &[u8], v: u16, i: u16) -> Result<u16> {
+    if source.len() > LIMIT {
+        return Ok(0);
+    }
+    let accepted = accept(alloc, source)?;
+    let meaning = Meaning::new(alloc, &accepted)?;
+    Ok(meaning.word(v, i))
+}
+
+/// Whether a word of a source before its first transition is printed so: `V I`, its variable and its place in it, from 0.
+pub fn is_first_word(alloc: Global, source: &[u8], place: &str, word: &[u8]) -> Result<bool> {
+    let (v, i) = place.split_once(" ").unwrap_or((place, ""));
+    match (v.parse::<u16>(), i.parse::<u16>()) {
+        (Ok(v), Ok(i)) => {
+            let found = first_word(alloc, source, v, i)?;
+            Ok(format!(in alloc; "{found}\n")?.as_bytes() == word)
+        }
+        _ => Ok(false),
+    }
+}
+
+/// Whether a file of the operating system takes these bytes and gives them back; it is removed then.
+pub fn is_kept(rt: HostRuntime, name: &str, bytes: &[u8]) -> Result<bool> {
+    let alloc = rt.alloc();
+    let mut shelf = DirShelf::new(rt);
+    shelf.put(alloc, name, bytes)?;
+    let mut found = Vec::new(alloc);
+    shelf.read(alloc, name, LIMIT, &mut found)?;
+    fs::remove_file(&rt, name)?;
+    Ok(found.as_slice() == bytes)
+}
