@@ -54,8 +54,9 @@ fn keeps_cut_twice(
 ) -> Result<(), Fail> {
     for first in firsts {
         for second in seconds {
-            let charges =
-                format!(in alloc; "s {first} {fill}\ns {second} {fill}\nc 1000000 {fill}\n")?;
+            let charges = format!(in alloc;
+                "s {first} {fill}\ns {second} {fill}\nc 1000000 {fill}\n"
+            )?;
             keeps(rt, alloc, source, &charges)?;
         }
     }
