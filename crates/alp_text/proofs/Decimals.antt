@@ -43,14 +43,17 @@ more n ds h s = let e : digit_of (48 + n % 10) + 48 ≡ 48 + n % 10 = digit_is (
       value = let v = more_value ds 0 (48 + n % 10) in let w : value_after 10 0 ds ≡ n / 10 = s.value in omega arith;
     }
 
+-- a number's decimal digits spell it
 pub decimal_spells : (n : ℕ) → n < 2 ^ 64 → Spells n (decimal n)
 decimal_spells n h = decimal_by_steps Spells one more n h
 
 all_digits : (ds : List ℕ) → AreDigits ds → list_all (λ b. nat_lt (digit_of b) 10) ds ≡ true
 all_digits [] h = refl
-all_digits (b ∷ bs) h = let e : digit_of b + 48 ≡ b = digit_is b h.0 h.1 in let small : nat_lt (digit_of b) 10 ≡ true = grind (arith, nat_tests) in rw small (all_digits bs h.2)
+all_digits (b ∷ bs) h = let e : digit_of b + 48 ≡ b = digit_is b h.0 h.1 in let small : nat_lt (digit_of b) 10 ≡ true = grind (arith, nat_tests) in
+    rw small (all_digits bs h.2)
 
-no_x : (ds : List ℕ) → AreDigits ds → starts_with nat_eq ds (codes "0x") ≡ false
+-- decimal digits don't begin with `0x`
+pub no_x : (ds : List ℕ) → AreDigits ds → starts_with nat_eq ds (codes "0x") ≡ false
 no_x [] h = refl
 no_x (b ∷ []) h = grind (arith, nat_tests)
 no_x (b ∷ c ∷ bs) h = grind (arith, nat_tests)

@@ -3,7 +3,8 @@ use Rattle.std.proofs.Common.{◌≡◌, ◌≤◌, ◌<◌, ◌==◌, ℕ, ◌+
 use Rattle.std.proofs.lemmas.Bool.Decides.{nat_tests}
 use Rattle.std.proofs.lemmas.List.{take_rest, drop-drop}
 use mathlib.Core.Logic.{inl, inr}
-use Rattle.alp_text.specs.Lines.{line_len, lines_of, onto_first, with_line_feeds, LinesMakeUp, IsFirstLine}
+use Rattle.alp_text.specs.Lines.{line_len, lines_of, with_line_feeds, LinesMakeUp, IsFirstLine}
+use Rattle.alp_text.specs.Pieces.{onto_first}
 
 take_front : (n b : ℕ) (bs : List ℕ) → take (n + 1) (b ∷ bs) ≡ b ∷ take n bs
 take_front n b bs = grind arith

@@ -23,7 +23,8 @@ low_digit l h b = omega arith
 high_digits : (l h : ℕ) → l < 10 → (l + 16 * h) / 16 ≡ h
 high_digits l h b = omega arith
 
-bcd_is_decimal : (n d s : ℕ) (c : Bool) → IsDecimal n d → IsDecimal n s → IsDecimal n (bcd_sum n d s c).0 × (decimal_value n (bcd_sum n d s c).0 + 10 ^ n * bit (bcd_sum n d s c).1 ≡ decimal_value n d + decimal_value n s + bit c)
+bcd_is_decimal : (n d s : ℕ) (c : Bool) → IsDecimal n d → IsDecimal n s
+    → IsDecimal n (bcd_sum n d s c).0 × (decimal_value n (bcd_sum n d s c).0 + 10 ^ n * bit (bcd_sum n d s c).1 ≡ decimal_value n d + decimal_value n s + bit c)
 bcd_is_decimal zero d s c hd hs = (tt, omega arith)
 bcd_is_decimal (suc n) d s c hd hs =
     let low = digit_sum (d % 16) (s % 16) c hd.0 hs.0 in
@@ -38,7 +39,8 @@ bcd_is_decimal (suc n) d s c hd hs =
 pub is_decimal_sum : DecimalSum
 is_decimal_sum w d s before hd hs = bcd_is_decimal (digit_count w) d s before.c hd hs
 
-digit_below : (a b : ℕ) (c : Bool) → (decimal_digit a b c).0 < 16
+-- a digit of a decimal sum is below 16
+pub digit_below : (a b : ℕ) (c : Bool) → (decimal_digit a b c).0 < 16
 digit_below a b c = grind (arith, nat_tests)
 
 -- n digits are below 16 ^ n

@@ -30,6 +30,7 @@ pub sign_of : (w : Width) (x : ℕ) → IsWord x → Sign (sign_weight w) (opera
 sign_of Word x h = sign_by_test 0x8000 x (nat_le 0x8000 x) refl h
 sign_of Byte x h = sign_by_test 0x80 (x % 0x100) (nat_le 0x80 (x % 0x100)) refl (omega arith)
 
+-- a bit is at most 1
 pub bit_below : (b : Bool) → bit b ≤ 1
 bit_below b = grind arith
 

@@ -1,9 +1,9 @@
 -- A command that puts a file, and then may write.
 use Rattle.std.proofs.Common.{◌≡◌, ◌∙◌, ℕ, List, [], ◌∷◌, Some, Result, Ok, Err, refl, sym, ap, subst, IfOk, IfErr}
 use Rattle.std.specs.Io.KnownBytes.{Appends}
+use Rattle.std.proofs.KnownBytes.{Appends-nil}
 use Rattle.alp_io.specs.Report.{bound_line}
 use Rattle.alp_io.specs.Shelf.{Told, Sets}
-use Rattle.alp_io.proofs.Appends.{appends_none}
 use Rattle.cost_bound.specs.declared.allowance.Allow.{Allow}
 use Rattle.energy_trace.specs.TraceValue.{TraceValue}
 use Rattle.energy_trace.specs.Reading.{trace_of}
@@ -72,7 +72,7 @@ pub asm_whole : {A : Type 0} (result : Result A Failure) (a i assembly file byte
     → IfOk result (λ x. Told shelf.old shelf.new (Sets i bytes)) → IfOk result (λ x. WhereSilent (IsWhole (asm a i) (assembly ∷ []) well shelf))
 asm_whole (Ok x) a i assembly file bytes shelf is same put = λ out silent.
     put_whole (λ output. output ≡ []) (asm a i) (assembly ∷ []) i file bytes shelf out refl (λ output none. (is, none, refl)) same put
-    ([], refl, subst (λ now. Appends out.old now []) (sym silent) (appends_none out.old))
+    ([], refl, subst (λ now. Appends out.old now []) (sym silent) (Appends-nil out.old))
 asm_whole (Err e) a i assembly file bytes shelf is same put = tt
 
 pub asm_fails : {A : Type 0} (result : Result A Failure) (a i assembly file : List ℕ) (shelf : Shelved) → Assembles assembly file

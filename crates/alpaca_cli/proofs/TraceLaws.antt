@@ -1,16 +1,18 @@
 -- The numbers of a trace that is read are as their types say.
-use Rattle.std.proofs.Common.{◌≡◌, ◌<◌, ◌^◌, ◌==◌, ℕ, List, [], ◌∷◌, map, Bool, true, false, if◌then◌else◌, nat_lt, Option, Some, None, IfSome, Result, Ok, Err, codes, All, arith, refl, sym, subst}
+use Rattle.std.proofs.Common.{◌≡◌, ◌<◌, ◌^◌, ◌==◌, ℕ, List, [], ◌∷◌, map, Bool, true, false, if◌then◌else◌, nat_lt, Option, Some, None, IfSome, Result, Ok, Err}
+use Rattle.std.proofs.Common.{codes, All, arith, refl, sym, subst}
 use Rattle.std.specs.Str.{bytes_eq}
 use Rattle.std.proofs.lemmas.Bool.Decides.{nat_tests}
 use Rattle.std.proofs.lemmas.List.Elements.{All-nil, All-cons, All-append}
-use Rattle.alp_text.specs.Numbers.{number_of}
+use Rattle.alp_text.specs.Numbers.{number_of, limited}
 use Rattle.alp_text.specs.declared.numbers.NumberFault.{NumberFault}
 use Rattle.text_parts.specs.Fields.{fields}
 use Rattle.text_parts.specs.Lengths.{before}
 use Rattle.energy_trace.specs.declared.charge.Charge.{Charge}
 use Rattle.energy_trace.specs.declared.charge.ChargeKind.{ChargeKind}
 use Rattle.energy_trace.specs.declared.charge.ChargeKind.TheVariants as kind
-use Rattle.energy_trace.specs.Line.{LineMeaning, nothing, charge, readings, limited, number_below, positive, times_of, charge_of, readings_of, fields_say, line_says, ◌>>?◌}
+use Rattle.energy_trace.specs.Line.{LineMeaning, nothing, charge, readings, number_below, positive, times_of, charge_of, readings_of, fields_say, line_says}
+use Rattle.energy_trace.specs.Line.{◌>>?◌}
 use Rattle.energy_trace.specs.Ranges.{IsCharge}
 use Rattle.energy_trace.specs.Meaning.{all_charges, all_readings, AreLinesOf}
 use Rattle.energy_trace.specs.TraceValue.{TraceValue}
@@ -52,7 +54,8 @@ times_below (star ∷ count ∷ []) =
     (positives (2 ^ 32) (number_below (2 ^ 32) count) (below (2 ^ 32) (number_of count)))
 times_below (star ∷ count ∷ f ∷ fs) = tt
 
-charge_by : (k : ChargeKind) (n fill times : Option ℕ) (c : Charge) → IfSome n (λ x. x < 2 ^ 32) → IfSome fill (λ x. x < 2 ^ 16) → IfSome times (λ x. x < 2 ^ 32)
+charge_by : (k : ChargeKind) (n fill times : Option ℕ) (c : Charge) → IfSome n (λ x. x < 2 ^ 32) → IfSome fill (λ x. x < 2 ^ 16)
+    → IfSome times (λ x. x < 2 ^ 32)
     → (n >>? λ n. fill >>? λ fill. times >>? λ times. Some (record { kind = k; n = n; fill = fill; times = times })) ≡ Some c → IsCharge c
 charge_by k None fill times c n_low fill_low times_low e = cc
 charge_by k (Some n) None times c n_low fill_low times_low e = cc
@@ -89,7 +92,8 @@ said_readings (Some ws) m words e = let same : readings ws ≡ m = cc in subst I
 
 said_by : (x y z : Bool) (o p : Option Charge) (q : Option (List ℕ)) (m : LineMeaning)
     → ((c : Charge) → o ≡ Some c → IsCharge c) → ((c : Charge) → p ≡ Some c → IsCharge c) → IfSome q (All (λ w. w < 0x10000))
-    → (if x then o >>? (λ c. Some (charge c)) else (if y then p >>? (λ c. Some (charge c)) else (if z then q >>? (λ ws. Some (readings ws)) else None))) ≡ Some m → IsOfWords m
+    → (if x then o >>? (λ c. Some (charge c)) else (if y then p >>? (λ c. Some (charge c)) else (if z then q >>? (λ ws. Some (readings ws)) else None)))
+    ≡ Some m → IsOfWords m
 said_by true y z o p q m first second third e = said_charge o m first e
 said_by false true z o p q m first second third e = said_charge p m second e
 said_by false false true o p q m first second third e = said_readings q m third e
@@ -98,7 +102,8 @@ said_by false false false o p q m first second third e = cc
 fields_of_words : (fs : List (List ℕ)) (m : LineMeaning) → fields_say fs ≡ Some m → IsOfWords m
 fields_of_words [] m e = let same : nothing ≡ m = cc in subst IsOfWords same tt
 fields_of_words (word ∷ rest) m e =
-    said_by (bytes_eq word (codes "c")) (bytes_eq word (codes "s")) (bytes_eq word (codes "r")) (charge_of kind.Cycles rest) (charge_of kind.Steps rest) (readings_of rest) m
+    said_by (bytes_eq word (codes "c")) (bytes_eq word (codes "s")) (bytes_eq word (codes "r")) (charge_of kind.Cycles rest) (charge_of kind.Steps rest)
+    (readings_of rest) m
     (charge_words kind.Cycles rest) (charge_words kind.Steps rest) (reading_words rest) e
 
 line_of_words : (l : List ℕ) (m : LineMeaning) → line_says l ≡ Some m → IsOfWords m

@@ -1,14 +1,11 @@
 -- Why one file of a list wasn't read is why the list wasn't.
 use Rattle.std.proofs.Common.{◌≡◌, ◌≤◌, ◌⊎◌, inl, inr, ℕ, List, [], ◌∷◌, ◌++◌, length, Option, Some, None, IfSome, Result, Ok, Err, IsErr, IsErrAnd, IfErr, arith, subst, sym}
+use Rattle.std.proofs.lemmas.Option.{IfSome_then}
 use Rattle.alp_io.specs.Count.{Rose}
 use Rattle.alp_io.specs.Shelf.{Files, Counts, NeverFall}
 use Rattle.alpaca_cli.specs.declared.inputs.Unread.{Unread}
 use Rattle.alpaca_cli.specs.declared.inputs.Unread.TheVariants.{Unreadable, TooLong, Memory}
 use Rattle.alpaca_cli.specs.InputFiles.{Fits, IsFirstUnfit, here, behind, IsOneOf, first, later, IsUnreadable, IsTooLong, IsOverlong, IsUnread}
-
-where_some : {A : Type 0} (o : Option A) (P Q : A → Type 0) → IfSome o P → ((x : A) → P x → Q x) → IfSome o Q
-where_some None P Q p f = tt
-where_some (Some x) P Q p f = f x p
 
 -- ---- one file
 
@@ -18,12 +15,12 @@ alone_failed files name old new rose = record { one = first []; cause = inl rose
 pub alone_missing : (files : Option Files) (name : List ℕ) (old new : Counts) → Rose old.missing_reads new.missing_reads → IfSome files (λ f. f name ≡ None)
     → IsUnreadable files (name ∷ []) name old new
 alone_missing files name old new rose none =
-    record { one = first []; cause = inr (rose, where_some files _ _ none (λ f is. here name [] is)) }
+    record { one = first []; cause = inr (rose, IfSome_then files none (λ f is. here name [] is)) }
 
 pub alone_too_long : (files : Option Files) (name : List ℕ) (old new : Counts) → Rose old.overlong_reads new.overlong_reads → IfSome files (λ f. IsOverlong (f name))
     → IsTooLong files (name ∷ []) name old new
 alone_too_long files name old new rose long =
-    record { one = first []; cause = rose; overlong = where_some files _ _ long (λ f is. here name [] is) }
+    record { one = first []; cause = rose; overlong = IfSome_then files long (λ f is. here name [] is) }
 
 -- ---- the first of two
 
@@ -42,11 +39,11 @@ first_unread (Unreadable name) files a b old new u = record { one = one_before n
     causes : Rose old.failed_reads new.failed_reads ⊎ (Rose old.missing_reads new.missing_reads × IfSome files (λ f. IsFirstUnfit f (λ file. file ≡ None) (a ∷ []) name.now))
         → Rose old.failed_reads new.failed_reads ⊎ (Rose old.missing_reads new.missing_reads × IfSome files (λ f. IsFirstUnfit f (λ file. file ≡ None) (a ∷ b ∷ []) name.now))
     causes (inl rose) = inl rose
-    causes (inr (rose, none)) = inr (rose, where_some files _ _ none (λ f is. unfit_before f _ (a ∷ []) (b ∷ []) name.now is))
+    causes (inr (rose, none)) = inr (rose, IfSome_then files none (λ f is. unfit_before f _ (a ∷ []) (b ∷ []) name.now is))
 first_unread (TooLong name) files a b old new u = record {
   one = one_before name.now (a ∷ []) (b ∷ []) u.one;
   cause = u.cause;
-  overlong = where_some files _ _ u.overlong (λ f is. unfit_before f _ (a ∷ []) (b ∷ []) name.now is);
+  overlong = IfSome_then files u.overlong (λ f is. unfit_before f _ (a ∷ []) (b ∷ []) name.now is);
 }
 first_unread Memory files a b old new u = tt
 

@@ -1,22 +1,18 @@
 -- A program changes FRAM and the readings by its effects.
-use Rattle.std.proofs.Common.{◌≡◌, ℕ, zero, suc, ◌+◌, ◌-◌, ◌*◌, ◌%◌, ◌==◌, List, [], ◌∷◌, ◌++◌, Option, Some, None, Bool, true, false, nat_lt, refl, sym, ap, ◌∙◌, append_assoc, append-nil, if◌then◌else◌}
-use Rattle.fram_board.specs.Effects.{Effect, Store, Take, Send}
-use Rattle.machine_effects.specs.World.{fram_after, fram_after_one, readings_taken}
+use Rattle.std.proofs.Common.{◌≡◌, ℕ, zero, suc, ◌+◌, ◌-◌, ◌*◌, ◌%◌, ◌==◌, List, [], ◌∷◌, ◌++◌, Option, Some, None, Bool, true, false, nat_lt, refl, sym, ap}
+use Rattle.std.proofs.Common.{◌∙◌, append_assoc, append-nil, if◌then◌else◌}
+use Rattle.fram_board.specs.Effects.{Effect, Store}
+use Rattle.machine_effects.specs.World.{fram_after, readings_taken}
+use Rattle.machine_effects.proofs.Worlds.{fram_after-append, readings_taken-append}
 use Rattle.array_versions.specs.declared.program.ArrayPlace.{ArrayPlace}
 use Rattle.array_versions.specs.declared.program.ListPlace.{ListPlace}
-use Rattle.array_versions.specs.Program.{Step, Program, number, load, keep, local, set_local, unary, binary, shift, element, emit_word, list_entry, versioned_read, versioned_write, sense, choose, repeat, store_number, move_word, jump, nothing, step}
-use Rattle.array_versions.specs.Behaviour.{WordState, End, GoesOn, Jumps, Short, Strays, Broken, Behaviour, behaves, goes_on, strays, broken, behind_effects, then_on, is_place, at_place, with_top, with_two, with_stack, pushed, stored, with_local, local_pushed, reading_pushed, word_stored, element_pushed, word_emitted, entry_stored, own_element, versioned_pushed, first_stored, own_stored, versioned_stored, chosen, turns, step_behaviour, behaviour}
+use Rattle.array_versions.specs.Program.{Step, Program, number, load, keep, local, set_local, unary, binary, shift, element, emit_word, list_entry}
+use Rattle.array_versions.specs.Program.{versioned_read, versioned_write, sense, choose, repeat, store_number, move_word, jump, nothing, step}
+use Rattle.array_versions.specs.Behaviour.{WordState, End, GoesOn, Jumps, Short, Strays, Broken, Behaviour, behaves, goes_on, strays, broken, behind_effects}
+use Rattle.array_versions.specs.Behaviour.{then_on, is_place, at_place, with_top, with_two, with_stack, pushed, stored, with_local, local_pushed}
+use Rattle.array_versions.specs.Behaviour.{reading_pushed, word_stored, element_pushed, word_emitted, entry_stored, own_element, versioned_pushed, first_stored}
+use Rattle.array_versions.specs.Behaviour.{own_stored, versioned_stored, chosen, turns, step_behaviour, behaviour}
 use Rattle.array_versions.specs.Laws.{EndsByEffects, BehavesByEffects}
-
-fram_after-append : (es fs : List Effect) (f : ℕ → ℕ) → fram_after (es ++ fs) f ≡ fram_after fs (fram_after es f)
-fram_after-append [] fs f = refl
-fram_after-append (e ∷ es) fs f = fram_after-append es fs (fram_after_one e f)
-
-readings_taken-append : (es fs : List Effect) → readings_taken (es ++ fs) ≡ readings_taken es ++ readings_taken fs
-readings_taken-append [] fs = refl
-readings_taken-append (Store a w ∷ es) fs = readings_taken-append es fs
-readings_taken-append (Take w ∷ es) fs = ap (λ l. w ∷ l) (readings_taken-append es fs)
-readings_taken-append (Send n w ∷ es) fs = readings_taken-append es fs
 
 abbrev Good : WordState → Behaviour → Type 0
 Good s b = EndsByEffects s b.effects b.end
@@ -40,7 +36,8 @@ after_end es fs s t Short h k = took_all es fs s.readings t.readings h.1 k
 after_end es fs s t Strays h k = tt
 after_end es fs s t Broken h k = tt
 
-then_by : (es : List Effect) (s : WordState) (e : End) (next : WordState → Behaviour) → EndsByEffects s es e → ((t : WordState) → Good t (next t)) → Good s (then_on (behaves es e) next)
+then_by : (es : List Effect) (s : WordState) (e : End) (next : WordState → Behaviour) → EndsByEffects s es e → ((t : WordState) → Good t (next t))
+    → Good s (then_on (behaves es e) next)
 then_by es s (GoesOn t) next h k = after_end es (next t).effects s t (next t).end h (k t)
 then_by es s (Jumps to t) next h k =
     (h.0 ∙ ap (λ l. fram_after l s.fram) (sym (append-nil es)), ap (λ l. readings_taken l ++ t.readings) (append-nil es) ∙ h.1)
@@ -67,7 +64,8 @@ reading_by : (rs : List ℕ) (s : WordState) → s.readings ≡ rs → Good s (r
 reading_by [] s e = sym e
 reading_by (r ∷ rs) s e = (refl, sym e)
 
-element_by : (c : Bool) (base i : ℕ) (s : WordState) → Good s (if c then at_place (2 * i + base) (goes_on [] (pushed (s.fram (2 * i + base)) s)) else goes_on [] (pushed 0 s))
+element_by : (c : Bool) (base i : ℕ) (s : WordState)
+    → Good s (if c then at_place (2 * i + base) (goes_on [] (pushed (s.fram (2 * i + base)) s)) else goes_on [] (pushed 0 s))
 element_by true base i s = guarded (is_place (2 * i + base)) s (goes_on [] (pushed (s.fram (2 * i + base)) s)) (refl, refl)
 element_by false base i s = (refl, refl)
 
@@ -121,13 +119,16 @@ entry_by count list home copy s =
     guarded (is_place count) s (at_place a (at_place (a + 2) b)) (guarded (is_place a) s (at_place (a + 2) b) (guarded (is_place (a + 2)) s b (refl, refl)))
 
 own_element_by : (b : Bool) (place : ArrayPlace) (i : ℕ) (s : WordState)
-    → Good s (if b then at_place (2 * i + place.copies) (goes_on [] (pushed (s.fram (2 * i + place.copies)) s)) else at_place (2 * i + place.elements) (goes_on [] (pushed (s.fram (2 * i + place.elements)) s)))
+    → Good s (if b then at_place (2 * i + place.copies) (goes_on [] (pushed (s.fram (2 * i + place.copies)) s)) else at_place (2 * i + place.elements)
+    (goes_on [] (pushed (s.fram (2 * i + place.elements)) s)))
 own_element_by true place i s = guarded (is_place (2 * i + place.copies)) s (goes_on [] (pushed (s.fram (2 * i + place.copies)) s)) (refl, refl)
 own_element_by false place i s = guarded (is_place (2 * i + place.elements)) s (goes_on [] (pushed (s.fram (2 * i + place.elements)) s)) (refl, refl)
 
-versioned_pushed_by : (b : Bool) (place : ArrayPlace) (list : ListPlace) (i : ℕ) (s : WordState) → Good s (if b then own_element place list i s else goes_on [] (pushed 0 s))
+versioned_pushed_by : (b : Bool) (place : ArrayPlace) (list : ListPlace) (i : ℕ) (s : WordState)
+    → Good s (if b then own_element place list i s else goes_on [] (pushed 0 s))
 versioned_pushed_by true place list i s =
-    guarded (is_place list.ver) s _ (guarded (is_place (2 * i + place.versions)) s _ (own_element_by (s.fram list.ver == s.fram (2 * i + place.versions)) place i s))
+    guarded (is_place list.ver) s _ (guarded (is_place (2 * i + place.versions)) s _
+    (own_element_by (s.fram list.ver == s.fram (2 * i + place.versions)) place i s))
 versioned_pushed_by false place list i s = (refl, refl)
 
 -- a store in front
@@ -142,15 +143,18 @@ first_stored_by place list i s =
     guarded (is_place e) s (behind_effects (Store m (s.fram list.ver) ∷ []) (entry_stored list.cln list.list e (2 * i + place.copies) t))
     (behind_store m (s.fram list.ver) s (entry_stored list.cln list.list e (2 * i + place.copies) t) (entry_by list.cln list.list e (2 * i + place.copies) t))
 
-own_stored_by : (b : Bool) (place : ArrayPlace) (list : ListPlace) (i c v : ℕ) (s : WordState) → Good s (if b then goes_on (Store c v ∷ []) (stored c v s) else behind_effects (Store c v ∷ []) (first_stored place list i (stored c v s)))
+own_stored_by : (b : Bool) (place : ArrayPlace) (list : ListPlace) (i c v : ℕ) (s : WordState)
+    → Good s (if b then goes_on (Store c v ∷ []) (stored c v s) else behind_effects (Store c v ∷ []) (first_stored place list i (stored c v s)))
 own_stored_by true place list i c v s = (refl, refl)
 own_stored_by false place list i c v s = behind_store c v s (first_stored place list i (stored c v s)) (first_stored_by place list i (stored c v s))
 
-versioned_stored_by : (b : Bool) (place : ArrayPlace) (list : ListPlace) (i v : ℕ) (s : WordState) → Good s (if b then own_stored place list i v s else goes_on [] s)
+versioned_stored_by : (b : Bool) (place : ArrayPlace) (list : ListPlace) (i v : ℕ) (s : WordState)
+    → Good s (if b then own_stored place list i v s else goes_on [] s)
 versioned_stored_by true place list i v s =
     let c = 2 * i + place.copies in
     let t = stored c v s in
-    guarded (is_place c) s _ (guarded (is_place list.ver) s _ (guarded (is_place (2 * i + place.versions)) s _ (own_stored_by (t.fram list.ver == t.fram (2 * i + place.versions)) place list i c v s)))
+    guarded (is_place c) s _ (guarded (is_place list.ver) s _
+    (guarded (is_place (2 * i + place.versions)) s _ (own_stored_by (t.fram list.ver == t.fram (2 * i + place.versions)) place list i c v s)))
 versioned_stored_by false place list i v s = (refl, refl)
 
 mutual
@@ -163,13 +167,17 @@ mutual
   step_by (unary op) s = top_by s.stack s _ (λ v vs. (refl, refl))
   step_by (binary op) s = two_by s.stack s _ (λ u v vs. (refl, refl))
   step_by (shift op k) s = top_by s.stack s _ (λ v vs. (refl, refl))
-  step_by (element base length) s = top_by s.stack s _ (λ i vs. unstacked vs s (element_pushed base length i (with_stack vs s)) (element_by (nat_lt i length) base i (with_stack vs s)))
-  step_by (emit_word count buffer) s = top_by s.stack s _ (λ v vs. unstacked vs s (word_emitted count buffer v (with_stack vs s)) (emitted_by count buffer v (with_stack vs s)))
+  step_by (element base length) s =
+      top_by s.stack s _ (λ i vs. unstacked vs s (element_pushed base length i (with_stack vs s)) (element_by (nat_lt i length) base i (with_stack vs s)))
+  step_by (emit_word count buffer) s =
+      top_by s.stack s _ (λ v vs. unstacked vs s (word_emitted count buffer v (with_stack vs s)) (emitted_by count buffer v (with_stack vs s)))
   step_by (list_entry count list home copy) s = entry_by count list home copy s
   step_by (versioned_read place list) s =
-      top_by s.stack s _ (λ i vs. unstacked vs s (versioned_pushed place list i (with_stack vs s)) (versioned_pushed_by (nat_lt i place.length) place list i (with_stack vs s)))
+      top_by s.stack s _ (λ i vs. unstacked vs s (versioned_pushed place list i (with_stack vs s))
+      (versioned_pushed_by (nat_lt i place.length) place list i (with_stack vs s)))
   step_by (versioned_write place list) s =
-      two_by s.stack s _ (λ i v vs. unstacked vs s (versioned_stored place list i v (with_stack vs s)) (versioned_stored_by (nat_lt i place.length) place list i v (with_stack vs s)))
+      two_by s.stack s _ (λ i v vs. unstacked vs s (versioned_stored place list i v (with_stack vs s))
+      (versioned_stored_by (nat_lt i place.length) place list i v (with_stack vs s)))
   step_by sense s = reading_by s.readings s refl
   step_by (choose taken otherwise) s = top_by s.stack s _ (λ v vs. chosen_by v s (behaviour taken (with_stack vs s)) (behaviour otherwise (with_stack vs s))
       (unstacked vs s (behaviour taken (with_stack vs s)) (by_effects taken (with_stack vs s)))
@@ -183,5 +191,6 @@ mutual
   by_effects nothing s = (refl, refl)
   by_effects (step first more) s = let b = step_behaviour first s in then_by b.effects s b.end (behaviour more) (step_by first s) (by_effects more)
 
+-- a program changes FRAM and readings as its effects say
 pub behaves_by_effects : BehavesByEffects
 behaves_by_effects p s = by_effects p s

@@ -17,25 +17,29 @@ then_on_end es Short f g h k = behind_twice es [] (behaves [] Short)
 then_on_end es Strays f g h k = behind_twice es [] (behaves [] Strays)
 then_on_end es Broken f g h k = behind_twice es [] (behaves [] Broken)
 
+-- two programs do what one does and then the other
 pub joined_go_on : JoinedGoOn
 joined_go_on nothing q s = refl
 joined_go_on (step first more) q s =
     let b = step_behaviour first s in
     then_on_end b.effects b.end (behaviour more) (behaviour q) (behaviour (joined more q)) (joined_go_on more q)
 
+-- the cycles of two programs
 pub joined_cycles : JoinedCycles
 joined_cycles nothing q = omega arith
 joined_cycles (step first more) q = omega (arith, joined_cycles more q)
 
+-- the words of two programs
 pub joined_words : JoinedWords
 joined_words nothing q = omega arith
 joined_words (step first more) q = omega (arith, joined_words more q)
 
 -- the builders put a step behind a program
-pub joined-nothing : (p : Program) → joined p nothing ≡ p
-joined-nothing nothing = refl
-joined-nothing (step first more) = ap (step first) (joined-nothing more)
+pub joined_nothing : (p : Program) → joined p nothing ≡ p
+joined_nothing nothing = refl
+joined_nothing (step first more) = ap (step first) (joined_nothing more)
 
+-- three programs, one behind another
 pub joined_assoc : (p q r : Program) → joined (joined p q) r ≡ joined p (joined q r)
 joined_assoc nothing q r = refl
 joined_assoc (step first more) q r = ap (step first) (joined_assoc more q r)

@@ -101,6 +101,7 @@ steps_keep_to_cycles (store_number a w) = omega arith
 steps_keep_to_cycles (move_word from to) = omega arith
 steps_keep_to_cycles (jump to) = omega arith
 
+-- each step keeps to its words
 pub steps_keep_to_words : StepsKeepToWords
 steps_keep_to_words (number w) = omega arith
 steps_keep_to_words (load a) = omega arith

@@ -106,6 +106,7 @@ mutual
   step_leaves n o (move_word from to) s h e = guarded n o (is_place from) _ (guarded n o (is_place to) _ e)
   step_leaves n o (jump to) s h e = jump_leaves n o (to % 2 == 0) to s
 
+  -- a program leaves the locals that it doesn't set
   pub leaves : (n : ℕ) (o : Option ℕ) (p : Program) (s : WordState) → Spares n p → s.locals n ≡ o → Leaves n o (behaviour p s).end
   leaves n o nothing s h e = e
   leaves n o (step first more) s h e = then_leaves n o (step_behaviour first s).end (behaviour more) (step_leaves n o first s h.0 e) (λ t f. leaves n o more t h.1 f)

@@ -52,6 +52,7 @@ mutual
   step_most (move_word from to) s = omega arith
   step_most (jump to) s = omega arith
 
+  -- no way spends more than the program's cycles
   pub ways_keep_to_cycles : WaysKeepToCycles
   ways_keep_to_cycles nothing s = omega arith
   ways_keep_to_cycles (step first more) s =
@@ -65,6 +66,7 @@ spent_behind Short f a b c h = refl
 spent_behind Strays f a b c h = refl
 spent_behind Broken f a b c h = refl
 
+-- what two programs spend, one behind the other
 pub joined_spend : JoinedSpend
 joined_spend nothing q s = omega arith
 joined_spend (step first more) q s =

@@ -59,6 +59,7 @@ assigned_by : (b : Bool) (o : Option ℕ) (known : Bool) (v : ℕ) → (known �
 assigned_by true o known v h e = record { word = v; is = refl }
 assigned_by false o known v h e = h e
 
+-- a local that is set is one that is assigned
 pub matches_local : (q : Place) (s : WordState) (n v : ℕ) → Matches q s → Matches (assigning n q) (with_local n v s)
 matches_local q s n v m = record { depth = m.depth; assigned = λ k e. assigned_by (nat_eq k n) (s.locals k) (q.assigned k) v (m.assigned k) e }
 
@@ -198,9 +199,11 @@ mutual
   well room (step first more) next q s h m =
       then_well (EachWay room more next) next (step_behaviour first s) (behaviour more) (step_well room first (EachWay room more next) q s h m) (λ p t g w. well room more next p t g w)
 
+-- the state that an attempt starts with
 pub start_matches : (fram : ℕ → ℕ) (readings : List ℕ) → Matches start (started fram readings)
 start_matches fram readings = record { depth = refl; assigned = λ n e. absurd (let f = e in (cc)) }
 
+-- a whole program jumps, or is short of readings, or comes to an address that isn't in FRAM
 pub whole_ends_soundly : WholeEndsSoundly
 whole_ends_soundly p fram readings h = by_end (behaviour p (started fram readings)).end (well h.room p (λ q. ⊥) start (started fram readings) h.ways (start_matches fram readings))
   where

@@ -1,8 +1,10 @@
 -- From words a program makes words.
-use Rattle.std.proofs.Common.{◌≡◌, ℕ, zero, suc, ◌+◌, ◌-◌, ◌*◌, ◌/◌, ◌%◌, ◌^◌, ◌==◌, ◌<◌, List, [], ◌∷◌, Option, Some, None, Bool, true, false, not, nat_eq, nat_lt, nat_le, refl, subst, arith, if◌then◌else◌}
+use Rattle.std.proofs.Common.{◌≡◌, ℕ, zero, suc, ◌+◌, ◌-◌, ◌*◌, ◌/◌, ◌%◌, ◌^◌, ◌==◌, ◌<◌, List, [], ◌∷◌, Option, Some, None, Bool, true, false, not, nat_eq}
+use Rattle.std.proofs.Common.{nat_lt, nat_le, refl, subst, arith, if◌then◌else◌}
 use Rattle.std.specs.List.{AllByRecursion}
 use Rattle.std.proofs.lemmas.Bool.Decides.{nat_tests}
 use Rattle.std.proofs.lemmas.Nat.{and_le_l, or_lt, xor_lt}
+use Rattle.std.proofs.lemmas.Option.{same_Some}
 use Rattle.alp_words.specs.Words.{bit, biased, is_negative}
 use Rattle.alp_words.specs.declared.Width.TheVariants.{Word}
 use Rattle.fram_board.specs.Effects.{Store}
@@ -10,18 +12,23 @@ use Rattle.machine_effects.specs.World.{put}
 use Rattle.array_versions.specs.declared.operations.UnaryOperation.{UnaryOperation}
 use Rattle.array_versions.specs.declared.operations.UnaryOperation.TheVariants.{Negate, Complement, Not, Truth}
 use Rattle.array_versions.specs.declared.operations.BinaryOperation.{BinaryOperation}
-use Rattle.array_versions.specs.declared.operations.BinaryOperation.TheVariants.{Multiply, Divide, Remainder, Add, Subtract, And, Xor, Or, Equal, NotEqual, Below, AtMost, Above, AtLeast, SignedBelow, SignedAtMost, SignedAbove, SignedAtLeast}
+use Rattle.array_versions.specs.declared.operations.BinaryOperation.TheVariants.{Multiply, Divide, Remainder, Add, Subtract, And, Xor, Or, Equal, NotEqual}
+use Rattle.array_versions.specs.declared.operations.BinaryOperation.TheVariants.{Below, AtMost, Above, AtLeast, SignedBelow, SignedAtMost, SignedAbove}
+use Rattle.array_versions.specs.declared.operations.BinaryOperation.TheVariants.{SignedAtLeast}
 use Rattle.array_versions.specs.declared.operations.ShiftOperation.{ShiftOperation}
 use Rattle.array_versions.specs.declared.operations.ShiftOperation.TheVariants.{Left, Right, SignedRight}
 use Rattle.array_versions.specs.Operations.{unary_word, binary_word, shifted_word, shift_word}
 use Rattle.array_versions.specs.declared.program.ArrayPlace.{ArrayPlace}
 use Rattle.array_versions.specs.declared.program.ListPlace.{ListPlace}
-use Rattle.array_versions.specs.Program.{Step, Program, number, load, keep, local, set_local, unary, binary, shift, element, emit_word, list_entry, versioned_read, versioned_write, sense, choose, repeat, store_number, move_word, jump, nothing, step}
-use Rattle.array_versions.specs.Behaviour.{WordState, End, GoesOn, Jumps, Short, Strays, Broken, Behaviour, behaves, goes_on, strays, broken, on_end, is_place, at_place, with_top, with_stack, pushed, stored, with_local, local_pushed, reading_pushed, entry_stored, behind_effects, own_element, first_stored, own_stored, chosen, turns, step_behaviour, behaviour}
+use Rattle.array_versions.specs.Program.{Step, Program, number, load, keep, local, set_local, unary, binary, shift, element, emit_word, list_entry}
+use Rattle.array_versions.specs.Program.{versioned_read, versioned_write, sense, choose, repeat, store_number, move_word, jump, nothing, step}
+use Rattle.array_versions.specs.Behaviour.{WordState, End, GoesOn, Jumps, Short, Strays, Broken, Behaviour, behaves, goes_on, strays, broken, on_end, is_place}
+use Rattle.array_versions.specs.Behaviour.{at_place, with_top, with_stack, pushed, stored, with_local, local_pushed, reading_pushed, entry_stored}
+use Rattle.array_versions.specs.Behaviour.{behind_effects, own_element, first_stored, own_stored, chosen, turns, step_behaviour, behaviour}
 use Rattle.array_versions.specs.Form.{StepOfWords, OfWords}
 use Rattle.array_versions.specs.Laws.{IsStateOfWords, EndsInWords, WordsStayWords}
 
-abbrev AreWords : List ℕ → Type 0
+abbrev pub AreWords : List ℕ → Type 0
 AreWords vs = AllByRecursion (λ v. v < 0x10000) vs
 
 bit_small : (b : Bool) → bit b < 0x10000
@@ -71,7 +78,8 @@ shifted_small Left y k h = let p = y * 2 ^ k in omega arith
 shifted_small Right y k h = small_by false y (2 ^ k) h
 shifted_small SignedRight y k h = small_by (is_negative Word y) y (2 ^ k) h
 
-zero_unless : (b : Bool) (v : ℕ) → v < 0x10000 → (if b then v else 0) < 0x10000
+-- a word or 0 is a word
+pub zero_unless : (b : Bool) (v : ℕ) → v < 0x10000 → (if b then v else 0) < 0x10000
 zero_unless true v h = h
 zero_unless false v h = omega arith
 
@@ -82,27 +90,28 @@ put_by : (b : Bool) (v u : ℕ) → v < 0x10000 → u < 0x10000 → (if b then v
 put_by true v u h k = h
 put_by false v u h k = k
 
+-- FRAM with a word more holds words
 pub put_words : (f : ℕ → ℕ) (a v : ℕ) → ((x : ℕ) → f x < 0x10000) → v < 0x10000 → (x : ℕ) → put f a v x < 0x10000
 put_words f a v h l x = put_by (x == a) v (f x) l (h x)
 
-some_is : (v z : ℕ) → Some v ≡ Some z → v ≡ z
-some_is v z e = cc
-
 assigned_by : (b : Bool) (o : Option ℕ) (v z : ℕ) → v < 0x10000 → ((y : ℕ) → o ≡ Some y → y < 0x10000) → (if b then Some v else o) ≡ Some z → z < 0x10000
-assigned_by true o v z l h q = subst (λ n. n < 0x10000) (some_is v z q) l
+assigned_by true o v z l h q = subst (λ n. n < 0x10000) (same_Some v z q) l
 assigned_by false o v z l h q = h z q
 
-stack_words : (s : WordState) (vs : List ℕ) → IsStateOfWords s → AreWords vs → IsStateOfWords (with_stack vs s)
+-- a state with another stack of words
+pub stack_words : (s : WordState) (vs : List ℕ) → IsStateOfWords s → AreWords vs → IsStateOfWords (with_stack vs s)
 stack_words s vs w h = record { stack = h; locals = w.locals; fram = w.fram; readings = w.readings }
 
 stored_words : (s : WordState) (a v : ℕ) → IsStateOfWords s → v < 0x10000 → IsStateOfWords (stored a v s)
 stored_words s a v w h = record { stack = w.stack; locals = w.locals; fram = put_words s.fram a v w.fram h; readings = w.readings }
 
+-- a local that is set to a word
 pub local_words : (s : WordState) (n v : ℕ) → IsStateOfWords s → v < 0x10000 → IsStateOfWords (with_local n v s)
 local_words s n v w h =
     record { stack = w.stack; locals = λ m z q. assigned_by (nat_eq m n) (s.locals m) v z h (w.locals m) q; fram = w.fram; readings = w.readings }
 
-then_words : (e : End) (next : WordState → Behaviour) → EndsInWords e → ((t : WordState) → IsStateOfWords t → EndsInWords (next t).end) → EndsInWords (on_end e next).end
+then_words : (e : End) (next : WordState → Behaviour) → EndsInWords e → ((t : WordState) → IsStateOfWords t → EndsInWords (next t).end)
+    → EndsInWords (on_end e next).end
 then_words (GoesOn t) next h k = k t h
 then_words (Jumps to t) next h k = h
 then_words Short next h k = tt
@@ -113,7 +122,8 @@ guarded : (c : Bool) (b : Behaviour) → (c ≡ true → EndsInWords b.end) → 
 guarded true b h = h refl
 guarded false b h = tt
 
-top_words : (vs : List ℕ) (next : ℕ → List ℕ → Behaviour) → AreWords vs → ((v : ℕ) (us : List ℕ) → v < 0x10000 → AreWords us → EndsInWords (next v us).end) → EndsInWords (with_top vs next).end
+top_words : (vs : List ℕ) (next : ℕ → List ℕ → Behaviour) → AreWords vs → ((v : ℕ) (us : List ℕ) → v < 0x10000 → AreWords us → EndsInWords (next v us).end)
+    → EndsInWords (with_top vs next).end
 top_words [] next w h = tt
 top_words (v ∷ vs) next w h = h v vs w.0 w.1
 
@@ -128,95 +138,121 @@ reading_words : (rs : List ℕ) (s : WordState) → AreWords rs → IsStateOfWor
 reading_words [] s h w = tt
 reading_words (r ∷ rs) s h w = record { stack = (h.0, w.stack); locals = w.locals; fram = w.fram; readings = h.1 }
 
-element_words : (c : Bool) (base i : ℕ) (s : WordState) → IsStateOfWords s → EndsInWords (if c then at_place (2 * i + base) (goes_on [] (pushed (s.fram (2 * i + base)) s)) else goes_on [] (pushed 0 s)).end
+element_words : (c : Bool) (base i : ℕ) (s : WordState) → IsStateOfWords s
+    → EndsInWords (if c then at_place (2 * i + base) (goes_on [] (pushed (s.fram (2 * i + base)) s)) else goes_on [] (pushed 0 s)).end
 element_words true base i s w = guarded (is_place (2 * i + base)) _ (λ e. pushed_words s (s.fram (2 * i + base)) w (w.fram (2 * i + base)))
 element_words false base i s w = pushed_words s 0 w (omega arith)
 
+-- a place is an address
 pub place_high : (a : ℕ) → is_place a ≡ true → a < 0x10000
 place_high a e = grind (arith, nat_tests)
 
 own_element_words : (b : Bool) (place : ArrayPlace) (i : ℕ) (s : WordState) → IsStateOfWords s
-    → EndsInWords (if b then at_place (2 * i + place.copies) (goes_on [] (pushed (s.fram (2 * i + place.copies)) s)) else at_place (2 * i + place.elements) (goes_on [] (pushed (s.fram (2 * i + place.elements)) s))).end
-own_element_words true place i s w = guarded (is_place (2 * i + place.copies)) _ (λ e. pushed_words s (s.fram (2 * i + place.copies)) w (w.fram (2 * i + place.copies)))
-own_element_words false place i s w = guarded (is_place (2 * i + place.elements)) _ (λ e. pushed_words s (s.fram (2 * i + place.elements)) w (w.fram (2 * i + place.elements)))
+    → EndsInWords (if b then at_place (2 * i + place.copies) (goes_on [] (pushed (s.fram (2 * i + place.copies)) s)) else at_place (2 * i + place.elements)
+    (goes_on [] (pushed (s.fram (2 * i + place.elements)) s))).end
+own_element_words true place i s w =
+    guarded (is_place (2 * i + place.copies)) _ (λ e. pushed_words s (s.fram (2 * i + place.copies)) w (w.fram (2 * i + place.copies)))
+own_element_words false place i s w =
+    guarded (is_place (2 * i + place.elements)) _ (λ e. pushed_words s (s.fram (2 * i + place.elements)) w (w.fram (2 * i + place.elements)))
 
-versioned_pushed_words : (b : Bool) (place : ArrayPlace) (list : ListPlace) (i : ℕ) (s : WordState) → IsStateOfWords s → EndsInWords (if b then own_element place list i s else goes_on [] (pushed 0 s)).end
+versioned_pushed_words : (b : Bool) (place : ArrayPlace) (list : ListPlace) (i : ℕ) (s : WordState) → IsStateOfWords s
+    → EndsInWords (if b then own_element place list i s else goes_on [] (pushed 0 s)).end
 versioned_pushed_words true place list i s w =
-    guarded (is_place list.ver) _ (λ e. guarded (is_place (2 * i + place.versions)) _ (λ f. own_element_words (s.fram list.ver == s.fram (2 * i + place.versions)) place i s w))
+    guarded (is_place list.ver) _ (λ e. guarded (is_place (2 * i + place.versions)) _
+    (λ f. own_element_words (s.fram list.ver == s.fram (2 * i + place.versions)) place i s w))
 versioned_pushed_words false place list i s w = pushed_words s 0 w (omega arith)
 
-entry_words : (count list home copy : ℕ) (s : WordState) → home < 0x10000 → copy < 0x10000 → IsStateOfWords s → EndsInWords (entry_stored count list home copy s).end
+entry_words : (count list home copy : ℕ) (s : WordState) → home < 0x10000 → copy < 0x10000 → IsStateOfWords s
+    → EndsInWords (entry_stored count list home copy s).end
 entry_words count list home copy s h k w =
     let n = s.fram count in
     let a = 4 * n + list in
     guarded (is_place count) _ (λ e. guarded (is_place a) _ (λ f. guarded (is_place (a + 2)) _ (λ g.
     let x = place_high a f in
-    stored_words (stored (a + 2) copy (stored a home s)) count (n + 1) (stored_words (stored a home s) (a + 2) copy (stored_words s a home w h) k) (omega arith))))
+    stored_words (stored (a + 2) copy (stored a home s)) count (n + 1) (stored_words (stored a home s) (a + 2) copy (stored_words s a home w h) k)
+    (omega arith))))
 
-own_stored_words : (b : Bool) (place : ArrayPlace) (list : ListPlace) (i v : ℕ) (s : WordState) → v < 0x10000 → 2 * i + place.copies < 0x10000 → IsStateOfWords s
-    → EndsInWords (if b then goes_on (Store (2 * i + place.copies) v ∷ []) (stored (2 * i + place.copies) v s) else behind_effects (Store (2 * i + place.copies) v ∷ []) (first_stored place list i (stored (2 * i + place.copies) v s))).end
+own_stored_words : (b : Bool) (place : ArrayPlace) (list : ListPlace) (i v : ℕ) (s : WordState) → v < 0x10000 → 2 * i + place.copies < 0x10000
+    → IsStateOfWords s
+    → EndsInWords (if b then goes_on (Store (2 * i + place.copies) v ∷ []) (stored (2 * i + place.copies) v s) else behind_effects
+    (Store (2 * i + place.copies) v ∷ []) (first_stored place list i (stored (2 * i + place.copies) v s))).end
 own_stored_words true place list i v s l h w = stored_words s (2 * i + place.copies) v w l
 own_stored_words false place list i v s l h w =
     let c = 2 * i + place.copies in
     let t = stored c v s in
     let tw = stored_words s c v w l in
     guarded (is_place (2 * i + place.elements)) _ (λ e.
-    entry_words list.cln list.list (2 * i + place.elements) c (stored (2 * i + place.versions) (t.fram list.ver) t) (place_high (2 * i + place.elements) e) h (stored_words t (2 * i + place.versions) (t.fram list.ver) tw (tw.fram list.ver)))
+    entry_words list.cln list.list (2 * i + place.elements) c (stored (2 * i + place.versions) (t.fram list.ver) t) (place_high (2 * i + place.elements) e) h
+    (stored_words t (2 * i + place.versions) (t.fram list.ver) tw (tw.fram list.ver)))
 
-versioned_stored_words : (b : Bool) (place : ArrayPlace) (list : ListPlace) (i v : ℕ) (s : WordState) → v < 0x10000 → IsStateOfWords s → EndsInWords (if b then own_stored place list i v s else goes_on [] s).end
+versioned_stored_words : (b : Bool) (place : ArrayPlace) (list : ListPlace) (i v : ℕ) (s : WordState) → v < 0x10000 → IsStateOfWords s
+    → EndsInWords (if b then own_stored place list i v s else goes_on [] s).end
 versioned_stored_words true place list i v s l w =
     let c = 2 * i + place.copies in
     let t = stored c v s in
-    guarded (is_place c) _ (λ e. guarded (is_place list.ver) _ (λ f. guarded (is_place (2 * i + place.versions)) _ (λ g. own_stored_words (t.fram list.ver == t.fram (2 * i + place.versions)) place list i v s l (place_high c e) w)))
+    guarded (is_place c) _ (λ e. guarded (is_place list.ver) _
+    (λ f. guarded (is_place (2 * i + place.versions)) _
+    (λ g. own_stored_words (t.fram list.ver == t.fram (2 * i + place.versions)) place list i v s l (place_high c e) w)))
 versioned_stored_words false place list i v s l w = w
 
 chosen_words : (v : ℕ) (a b : Behaviour) → EndsInWords a.end → EndsInWords b.end → EndsInWords (chosen v a b).end
 chosen_words zero a b h k = k
 chosen_words (suc v) a b h k = h
 
-turns_words : (m n k : ℕ) (body : WordState → Behaviour) (s : WordState) → k + m < 0x10000 → ((t : WordState) → IsStateOfWords t → EndsInWords (body t).end) → IsStateOfWords s → EndsInWords (turns m n k body s).end
+turns_words : (m n k : ℕ) (body : WordState → Behaviour) (s : WordState) → k + m < 0x10000 → ((t : WordState) → IsStateOfWords t → EndsInWords (body t).end)
+    → IsStateOfWords s → EndsInWords (turns m n k body s).end
 turns_words zero n k body s l h w = local_words s n k w (omega arith)
 turns_words (suc m) n k body s l h w =
-    then_words (body (with_local n k s)).end (turns m n (k + 1) body) (h (with_local n k s) (local_words s n k w (omega arith))) (λ t v. turns_words m n (k + 1) body t (omega arith) h v)
+    then_words (body (with_local n k s)).end (turns m n (k + 1) body) (h (with_local n k s) (local_words s n k w (omega arith)))
+    (λ t v. turns_words m n (k + 1) body t (omega arith) h v)
 
 jumped_words : (c : Bool) (to : ℕ) (s : WordState) → IsStateOfWords s → EndsInWords (if c then behaves [] (Jumps to s) else broken).end
 jumped_words true to s w = w
 jumped_words false to s w = tt
 
 mutual
+  -- a step of words leaves words
   pub step_words : (first : Step) (s : WordState) → StepOfWords first → IsStateOfWords s → EndsInWords (step_behaviour first s).end
   step_words (number v) s h w = pushed_words s v w h
   step_words (load a) s h w = guarded (is_place a) _ (λ e. pushed_words s (s.fram a) w (w.fram a))
-  step_words (keep a) s h w = top_words s.stack _ w.stack (λ v vs l m. guarded (is_place a) _ (λ e. stored_words (with_stack vs s) a v (stack_words s vs w m) l))
+  step_words (keep a) s h w =
+      top_words s.stack _ w.stack (λ v vs l m. guarded (is_place a) _ (λ e. stored_words (with_stack vs s) a v (stack_words s vs w m) l))
   step_words (local n) s h w = local_pushed_words (s.locals n) s (w.locals n) w
   step_words (set_local n) s h w = top_words s.stack _ w.stack (λ v vs l m. local_words (with_stack vs s) n v (stack_words s vs w m) l)
   step_words (unary op) s h w = top_words s.stack _ w.stack (λ v vs l m. stack_words s _ w (unary_small op v l, m))
   step_words (binary op) s h w = top_words s.stack _ w.stack (λ v us l m. top_words us _ m (λ u vs k j. stack_words s _ w (binary_small op u v k l, j)))
   step_words (shift op k) s h w = top_words s.stack _ w.stack (λ v vs l m. stack_words s _ w (shift_small op v k l, m))
-  step_words (element base length) s h w = top_words s.stack _ w.stack (λ i vs l m. element_words (nat_lt i length) base i (with_stack vs s) (stack_words s vs w m))
+  step_words (element base length) s h w =
+      top_words s.stack _ w.stack (λ i vs l m. element_words (nat_lt i length) base i (with_stack vs s) (stack_words s vs w m))
   step_words (emit_word count buffer) s h w =
       let n = s.fram count in
       top_words s.stack _ w.stack (λ v vs l m. guarded (is_place count) _ (λ e. guarded (is_place (2 * n + buffer)) _ (λ f.
       let x = place_high (2 * n + buffer) f in
-      stored_words (stored (2 * n + buffer) v (with_stack vs s)) count (n + 1) (stored_words (with_stack vs s) (2 * n + buffer) v (stack_words s vs w m) l) (omega arith))))
+      stored_words (stored (2 * n + buffer) v (with_stack vs s)) count (n + 1) (stored_words (with_stack vs s) (2 * n + buffer) v (stack_words s vs w m) l)
+      (omega arith))))
   step_words (list_entry count list home copy) s h w =
       let n = s.fram count in
       let a = 4 * n + list in
       guarded (is_place count) _ (λ e. guarded (is_place a) _ (λ f. guarded (is_place (a + 2)) _ (λ g.
       let x = place_high a f in
-      stored_words (stored (a + 2) copy (stored a home s)) count (n + 1) (stored_words (stored a home s) (a + 2) copy (stored_words s a home w h.2) h.3) (omega arith))))
-  step_words (versioned_read place list) s h w = top_words s.stack _ w.stack (λ i vs l m. versioned_pushed_words (nat_lt i place.length) place list i (with_stack vs s) (stack_words s vs w m))
+      stored_words (stored (a + 2) copy (stored a home s)) count (n + 1) (stored_words (stored a home s) (a + 2) copy (stored_words s a home w h.2) h.3)
+      (omega arith))))
+  step_words (versioned_read place list) s h w =
+      top_words s.stack _ w.stack (λ i vs l m. versioned_pushed_words (nat_lt i place.length) place list i (with_stack vs s) (stack_words s vs w m))
   step_words (versioned_write place list) s h w =
-      top_words s.stack _ w.stack (λ v us l m. top_words us _ m (λ i vs k j. versioned_stored_words (nat_lt i place.length) place list i v (with_stack vs s) l (stack_words s vs w j)))
+      top_words s.stack _ w.stack (λ v us l m. top_words us _ m
+      (λ i vs k j. versioned_stored_words (nat_lt i place.length) place list i v (with_stack vs s) l (stack_words s vs w j)))
   step_words sense s h w = reading_words s.readings s w.readings w
   step_words (choose taken otherwise) s h w =
-      top_words s.stack _ w.stack (λ v vs l m. chosen_words v _ _ (words taken (with_stack vs s) h.0 (stack_words s vs w m)) (words otherwise (with_stack vs s) h.1 (stack_words s vs w m)))
+      top_words s.stack _ w.stack (λ v vs l m. chosen_words v _ _ (words taken (with_stack vs s) h.0 (stack_words s vs w m))
+      (words otherwise (with_stack vs s) h.1 (stack_words s vs w m)))
   step_words (repeat n from below body) s h w =
       turns_words (below - from) n from (behaviour body) s (let l = h.1 in let m = h.2 in omega arith) (λ t v. words body t h.3 v) w
   step_words (store_number a v) s h w = guarded (is_place a) _ (λ e. stored_words s a v w h.1)
   step_words (move_word from to) s h w = guarded (is_place from) _ (λ e. guarded (is_place to) _ (λ f. stored_words s to (s.fram from) w (w.fram from)))
   step_words (jump to) s h w = jumped_words (to % 2 == 0) to s w
 
+  -- a program of words leaves words
   pub words : (p : Program) (s : WordState) → OfWords p → IsStateOfWords s → EndsInWords (behaviour p s).end
   words nothing s h w = w
   words (step first more) s h w = then_words (step_behaviour first s).end (behaviour more) (step_words first s h.0 w) (λ t v. words more t h.1 v)

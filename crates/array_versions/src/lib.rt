@@ -5,8 +5,6 @@
 pub mod laws;
 mod operations;
 mod program;
-#[cfg(test)]
-mod tests;
 
 pub use operations::{BinaryOperation, ShiftOperation, UnaryOperation};
 pub use program::{ArrayPlace, ListPlace, WordProgram, WordStep};

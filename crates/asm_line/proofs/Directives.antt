@@ -30,6 +30,7 @@ pub record IsHex4 (a b c d w : ℕ) : Type 0 where
   pub value : (((0 * 16 + va) * 16 + vb) * 16 + vc) * 16 + vd ≡ w
   pub small : w < 65536
 
+-- `0x` and four digits
 abbrev pub hex : ℕ → ℕ → ℕ → ℕ → List ℕ
 hex a b c d = 48 ∷ 120 ∷ a ∷ b ∷ c ∷ d ∷ []
 

@@ -2,13 +2,8 @@
 use Rattle.std.specs.Prelude.{ℕ, ◌+◌, ◌*◌, ◌%◌, nat_lt, nat_le, nat_eq, if◌then◌else◌, List, [], ◌∷◌, length, drop, codes, Option, Some, None, option_map}
 use Rattle.std.specs.List.{starts_with}
 use Rattle.text_parts.specs.Hex.{hex_digit}
+pub use Rattle.text_parts.specs.Sequence.{◌>>?◌}
 use Rattle.asm_line.specs.declared.numbers.Numeral.{Numeral}
-
-infixl 10 ◌>>?◌
--- the second step behind the first, where there is a value
-abbrev pub ◌>>?◌ : {A B : Type 0} → Option A → (A → Option B) → Option B
-(Some x) >>? f = f x
-None >>? f = None
 
 -- a digit of a base up to 16
 abbrev pub below : ℕ → ℕ → Option ℕ

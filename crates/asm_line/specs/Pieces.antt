@@ -1,5 +1,6 @@
 -- Pieces of a text, with the places at which they begin, cut at marks and at blanks.
 use Rattle.std.specs.Prelude.{ℕ, ◌+◌, ◌==◌, not, nat_lt, if◌then◌else◌, List, [], ◌∷◌, length, map, take, drop, Option, Some, None}
+pub use Rattle.text_parts.specs.Lines.{onto_first}
 use Rattle.text_parts.specs.Lengths.{len_before}
 use Rattle.text_parts.specs.Fields.{fields, is_blank, no_fields}
 use Rattle.text_parts.specs.Lines.{without_return}
@@ -56,11 +57,6 @@ word_alone p = if no_fields (fields (behind_word p).text) then Some (word p) els
 -- the same behind the blanks in front
 unfoldable pub only_word : Located → Option Located
 only_word p = word_alone (without_blanks p)
-
--- what stands between marks
-abbrev pub onto_first : ℕ → List (List ℕ) → List (List ℕ)
-onto_first b [] = (b ∷ []) ∷ []
-onto_first b (p ∷ ps) = (b ∷ p) ∷ ps
 
 -- what stands between marks; it is one piece more than there are marks
 unfoldable pub split : ℕ → List ℕ → List (List ℕ)

@@ -22,6 +22,3 @@ pub use parse::line_of;
 pub use piece::Piece;
 pub use statements::{Line, Statement, Template, WordList};
 pub use values::Value;
-
-#[cfg(test)]
-mod tests;

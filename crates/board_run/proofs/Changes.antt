@@ -1,6 +1,6 @@
 -- Lines of accepted words and of shared words that have changed, one after another.
-use Rattle.std.proofs.Common.{◌≡◌, ◌≤◌, ◌<◌, ℕ, zero, suc, ◌+◌, List, [], ◌∷◌, ◌++◌, length, drop, drop-cons, get_or, slice_set, flat_map, arith, refl, ap, sym, subst, ◌∙◌, ◌*◌, ◌-◌, Option, Some, None, append_assoc, length-append, All}
-use Rattle.std.proofs.Math.ListN.{drop_of_length-le}
+use Rattle.std.proofs.Common.{◌≡◌, ◌<◌, ℕ, zero, suc, ◌+◌, List, [], ◌∷◌, ◌++◌, length, drop, drop-cons, get_or, slice_set, flat_map, arith, refl, ap, sym}
+use Rattle.std.proofs.Common.{subst, ◌∙◌, ◌*◌, ◌-◌, Option, Some, None, append_assoc, length-append, All}
 use Rattle.std.proofs.lemmas.List.{get_or_default, length-drop}
 use Rattle.alp_io.specs.Report.{accepted_line}
 use Rattle.alp_io.proofs.Progress.{Progress, progress_start}
@@ -10,11 +10,10 @@ use Rattle.image_map.specs.MapValue.{IsVariable}
 use Rattle.board_run.specs.History.{SharedWord, array_words, variable_words, changed_line, changed_lines, values_in, word_in, shared_words}
 use Rattle.board_run.specs.State.{words_from, words_left, HasIndex}
 
-pub words_next : (ws : List ℕ) (i : ℕ) → i < length ws → flat_map accepted_line (drop i ws) ≡ accepted_line (get_or ws i 0) ++ flat_map accepted_line (drop (i + 1) ws)
-words_next ws i h = ap (flat_map accepted_line) (drop-cons ws i 0 h) ∙ ap (λ j. accepted_line (get_or ws i 0) ++ flat_map accepted_line (drop j ws)) (let e : suc i ≡ i + 1 = omega arith in e)
-
-pub words_done : (ws : List ℕ) (i : ℕ) → length ws ≤ i → flat_map accepted_line (drop i ws) ≡ []
-words_done ws i h = ap (flat_map accepted_line) (drop_of_length-le ws h)
+pub words_next : (ws : List ℕ) (i : ℕ) → i < length ws
+    → flat_map accepted_line (drop i ws) ≡ accepted_line (get_or ws i 0) ++ flat_map accepted_line (drop (i + 1) ws)
+words_next ws i h = ap (flat_map accepted_line) (drop-cons ws i 0 h)
+    ∙ ap (λ j. accepted_line (get_or ws i 0) ++ flat_map accepted_line (drop j ws)) (let e : suc i ≡ i + 1 = omega arith in e)
 
 -- the first words are kept as they are now, and the others as they were
 pub record Kept (all left : List SharedWord) (fram olds shared : List ℕ) (k : ℕ) : Type 0 where
@@ -23,10 +22,6 @@ pub record Kept (all left : List SharedWord) (fram olds shared : List ℕ) (k : 
   pub len : length news ≡ k
   pub values : news ++ values_in fram left ≡ values_in fram all
   pub count : k + length left ≡ length olds
-
-values_len : (fram : List ℕ) (ps : List SharedWord) → length (values_in fram ps) ≡ length ps
-values_len fram [] = refl
-values_len fram (p ∷ ps) = ap suc (values_len fram ps)
 
 pub kept_first : (all : List SharedWord) (fram olds : List ℕ) → length olds ≡ length all → Kept all all fram olds olds 0
 kept_first all fram olds e = record { news = []; made = refl; len = refl; values = refl; count = omega arith }
@@ -47,16 +42,19 @@ old_next : (olds : List ℕ) (k : ℕ) → k < length olds → drop k olds ≡ g
 old_next olds k h = drop-cons olds k 0 h ∙ ap (λ j. get_or olds k 0 ∷ drop j olds) (let e : suc k ≡ k + 1 = omega arith in e)
 
 -- there is room for one word more
-pub kept_room : (all left rest : List SharedWord) (p : SharedWord) (fram olds shared : List ℕ) (k : ℕ) → Kept all left fram olds shared k → left ≡ p ∷ rest → k < length olds
+pub kept_room : (all left rest : List SharedWord) (p : SharedWord) (fram olds shared : List ℕ) (k : ℕ) → Kept all left fram olds shared k → left ≡ p ∷ rest
+    → k < length olds
 kept_room all left rest p fram olds shared k s e = let n : length left ≡ suc (length rest) = ap length e in let c = s.count in omega arith
 
 -- the word that is looked at is the old one
-pub kept_old : (all left rest : List SharedWord) (p : SharedWord) (fram olds shared : List ℕ) (k : ℕ) → Kept all left fram olds shared k → left ≡ p ∷ rest → get_or shared k 0 ≡ get_or olds k 0
+pub kept_old : (all left rest : List SharedWord) (p : SharedWord) (fram olds shared : List ℕ) (k : ℕ) → Kept all left fram olds shared k → left ≡ p ∷ rest
+    → get_or shared k 0 ≡ get_or olds k 0
 kept_old all left rest p fram olds shared k s e =
     let room = kept_room all left rest p fram olds shared k s e in
     ap (λ x. get_or x k 0) (s.made ∙ ap (λ x. s.news ++ x) (old_next olds k room)) ∙ get_seam s.news (drop (k + 1) olds) k (get_or olds k 0) s.len
 
-pub kept_next : (all left rest : List SharedWord) (p : SharedWord) (fram olds shared : List ℕ) (k now : ℕ) → Kept all left fram olds shared k → left ≡ p ∷ rest → now ≡ word_in fram p.address
+pub kept_next : (all left rest : List SharedWord) (p : SharedWord) (fram olds shared : List ℕ) (k now : ℕ) → Kept all left fram olds shared k → left ≡ p ∷ rest
+    → now ≡ word_in fram p.address
     → Kept all rest fram olds (slice_set shared k now) (k + 1)
 kept_next all left rest p fram olds shared k now s e is =
     let room = kept_room all left rest p fram olds shared k s e in
@@ -65,32 +63,22 @@ kept_next all left rest p fram olds shared k now s e is =
     let l = s.len in
     record {
       news = s.news ++ now ∷ [];
-      made = ap (λ x. slice_set x k now) (s.made ∙ ap (λ x. s.news ++ x) (old_next olds k room)) ∙ set_seam s.news (drop (k + 1) olds) k (get_or olds k 0) now s.len
+      made = ap (λ x. slice_set x k now) (s.made ∙ ap (λ x. s.news ++ x) (old_next olds k room))
+          ∙ set_seam s.news (drop (k + 1) olds) k (get_or olds k 0) now s.len
           ∙ sym (append_assoc s.news (now ∷ []) (drop (k + 1) olds));
       len = length-append s.news (now ∷ []) ∙ omega arith;
-      values = append_assoc s.news (now ∷ []) (values_in fram rest) ∙ ap (λ x. s.news ++ x ∷ values_in fram rest) is ∙ ap (λ x. s.news ++ values_in fram x) (sym e) ∙ s.values;
+      values = append_assoc s.news (now ∷ []) (values_in fram rest) ∙ ap (λ x. s.news ++ x ∷ values_in fram rest) is
+          ∙ ap (λ x. s.news ++ values_in fram x) (sym e) ∙ s.values;
       count = omega arith;
     }
 
-append_nil : (xs : List ℕ) → xs ++ [] ≡ xs
-append_nil [] = refl
-append_nil (x ∷ xs) = ap (λ r. x ∷ r) (append_nil xs)
-
-pub kept_end : (all left : List SharedWord) (fram olds shared : List ℕ) (k : ℕ) → Kept all left fram olds shared k → left ≡ [] → shared ≡ values_in fram all
-kept_end all left fram olds shared k s e =
-    let n : length left ≡ 0 = ap length e in
-    let c = s.count in
-    s.made ∙ ap (λ x. s.news ++ x) (drop_of_length-le olds (omega arith)) ∙ ap (λ x. s.news ++ values_in fram x) (sym e) ∙ s.values
-
 -- the line of the next word, and those of the others
-pub lines_next : (left rest : List SharedWord) (p : SharedWord) (fram olds : List ℕ) (k now : ℕ) → k < length olds → left ≡ p ∷ rest → now ≡ word_in fram p.address
+pub lines_next : (left rest : List SharedWord) (p : SharedWord) (fram olds : List ℕ) (k now : ℕ) → k < length olds → left ≡ p ∷ rest
+    → now ≡ word_in fram p.address
     → changed_lines left (drop k olds) fram ≡ changed_line p (get_or olds k 0) now ++ changed_lines rest (drop (k + 1) olds) fram
 lines_next left rest p fram olds k now h e is =
     ap (λ x. changed_lines x (drop k olds) fram) e ∙ ap (λ x. changed_lines (p ∷ rest) x fram) (old_next olds k h)
     ∙ ap (λ x. changed_line p (get_or olds k 0) x ++ changed_lines rest (drop (k + 1) olds) fram) (sym is)
-
-pub lines_end : (left : List SharedWord) (fram ws : List ℕ) → left ≡ [] → changed_lines left ws fram ≡ []
-lines_end left fram ws e = ap (λ x. changed_lines x ws fram) e
 
 -- all shared words are left at first
 pub all_left : (vs : List Variable) → words_left vs 0 ≡ shared_words vs
@@ -99,26 +87,31 @@ all_left (v ∷ vs) = ap (λ x. x ++ shared_words vs) (by_length v.name v.addres
   where
     by_length : (name : List ℕ) (a : ℕ) (o : Option ℕ) → words_from name a o 0 ≡ variable_words name a o
     by_length name a None = refl
-    by_length name a (Some n) = ap (λ b. array_words name b 0 (n - 0)) (let e : a + 2 * 0 ≡ a = omega arith in e) ∙ ap (array_words name a 0) (let e : n - 0 ≡ n = omega arith in e)
+    by_length name a (Some n) = ap (λ b. array_words name b 0 (n - 0)) (let e : a + 2 * 0 ≡ a = omega arith in e)
+        ∙ ap (array_words name a 0) (let e : n - 0 ≡ n = omega arith in e)
 
 -- lines that are written up to a word
 pub next_lines : (old new : Option (List ℕ)) (rest rest' whole : List ℕ) → rest ≡ rest' → Progress old new rest whole → Progress old new rest' whole
 next_lines old new rest rest' whole e p = let P : List ℕ → Type 0 = λ x. Progress old new x whole in subst P e p
 
 -- the line of the next word, where the old one is looked at in the shadow
-pub lines_of_next : (all left rest : List SharedWord) (p : SharedWord) (fram olds shared : List ℕ) (k was now : ℕ) → Kept all left fram olds shared k → left ≡ p ∷ rest → now ≡ word_in fram p.address → was ≡ get_or shared k 0
+pub lines_of_next : (all left rest : List SharedWord) (p : SharedWord) (fram olds shared : List ℕ) (k was now : ℕ) → Kept all left fram olds shared k
+    → left ≡ p ∷ rest → now ≡ word_in fram p.address → was ≡ get_or shared k 0
     → changed_lines left (drop k olds) fram ≡ changed_line p was now ++ changed_lines rest (drop (k + 1) olds) fram
 lines_of_next all left rest p fram olds shared k was now s e is old =
     lines_next left rest p fram olds k now (kept_room all left rest p fram olds shared k s e) e is
     ∙ ap (λ x. changed_line p x now ++ changed_lines rest (drop (k + 1) olds) fram) (sym (old ∙ kept_old all left rest p fram olds shared k s e))
 
 -- nothing is written yet
-pub start_lines : (old : Option (List ℕ)) (vs us : List Variable) (fram olds : List ℕ) → us ≡ vs → Progress old old (changed_lines (words_left us 0) olds fram) (changed_lines (shared_words vs) olds fram)
+pub start_lines : (old : Option (List ℕ)) (vs us : List Variable) (fram olds : List ℕ) → us ≡ vs
+    → Progress old old (changed_lines (words_left us 0) olds fram) (changed_lines (shared_words vs) olds fram)
 start_lines old vs us fram olds e =
     let P : List ℕ → Type 0 = λ x. Progress old old x (changed_lines (shared_words vs) olds fram) in
-    subst P (sym (ap (λ x. changed_lines x olds fram) (ap (λ x. words_left x 0) e ∙ all_left vs))) (progress_start old (changed_lines (shared_words vs) olds fram))
+    subst P (sym (ap (λ x. changed_lines x olds fram) (ap (λ x. words_left x 0) e ∙ all_left vs)))
+    (progress_start old (changed_lines (shared_words vs) olds fram))
 
-pub start_kept : (vs us : List Variable) (fram olds : List ℕ) → us ≡ vs → length olds ≡ length (shared_words vs) → Kept (shared_words vs) (words_left us 0) fram olds olds 0
+pub start_kept : (vs us : List Variable) (fram olds : List ℕ) → us ≡ vs → length olds ≡ length (shared_words vs)
+    → Kept (shared_words vs) (words_left us 0) fram olds olds 0
 start_kept vs us fram olds e h =
     let P : List SharedWord → Type 0 = λ x. Kept (shared_words vs) x fram olds olds 0 in
     subst P (sym (ap (λ x. words_left x 0) e ∙ all_left vs)) (kept_first (shared_words vs) fram olds h)
@@ -133,7 +126,8 @@ kept_len all left fram olds shared k s =
     ap length s.made ∙ length-append s.news (drop k olds) ∙ ap (λ n. length s.news + n) (length-drop k olds) ∙ omega arith
 
 -- the word of the shadow, as it was read
-pub read_old : (all left rest : List SharedWord) (p : SharedWord) (fram olds shared : List ℕ) (k w : ℕ) → Kept all left fram olds shared k → left ≡ p ∷ rest → w ≡ get_or shared k w → w ≡ get_or shared k 0
+pub read_old : (all left rest : List SharedWord) (p : SharedWord) (fram olds shared : List ℕ) (k w : ℕ) → Kept all left fram olds shared k → left ≡ p ∷ rest
+    → w ≡ get_or shared k w → w ≡ get_or shared k 0
 read_old all left rest p fram olds shared k w s e is =
     let room = kept_room all left rest p fram olds shared k s e in
     let len = kept_len all left fram olds shared k s in

@@ -1,32 +1,37 @@
 -- Charges that are spent one after another.
-use Rattle.std.proofs.Common.{◌≡◌, ◌≤◌, ◌<◌, ℕ, ◌+◌, ◌-◌, List, [], ◌∷◌, ◌++◌, arith, refl, ap, sym, subst, ◌∙◌, Option, Some, None, Result, Ok, Err, IsErr, append_assoc, true, false, is_some, zero, suc, replicate, drop, drop-cons, get_or, length, length-append, take}
+use Rattle.std.proofs.Common.{◌≡◌, ◌≤◌, ◌<◌, ℕ, ◌+◌, ◌-◌, List, [], ◌∷◌, ◌++◌, arith, refl, ap, sym, subst, ◌∙◌, Option, Some, None, Result, Ok, Err, IsErr}
+use Rattle.std.proofs.Common.{append_assoc, true, false, is_some, zero, suc, replicate, drop, drop-cons, get_or, length, length-append, take, append-nil}
 use Rattle.std.proofs.Math.ListN.{drop_of_length-le}
 use Rattle.std.proofs.Math.Seq.{take-append-add}
 use Rattle.std.proofs.lemmas.List.{take-append-le}
-use Rattle.std.proofs.lemmas.List.Sums.{sum_by-append}
+use Rattle.std.proofs.KnownBytes.{Appends-trans, Appends-nil}
 use Rattle.energy_trace.specs.declared.charge.Charge.{Charge}
-use Rattle.energy_trace.specs.declared.charge.ChargeKind.TheVariants as kind
 use Rattle.energy_trace.specs.TraceValue.{charge_count}
+use Rattle.energy_trace.specs.declared.charge.ChargeKind.TheVariants as kind
+use Rattle.energy_trace.proofs.Back.{count_cons}
 use Rattle.board_run.specs.declared.trace_run.RunEnd.{RunEnd}
 use Rattle.board_run.specs.declared.trace_run.RunFault.{RunFault}
-use Rattle.board_run.specs.declared.trace_run.RunFault.TheVariants as fault
 use Rattle.board_run.specs.Charges.{charge_of, charges_of}
 use Rattle.std.specs.Io.KnownBytes.{Appends}
 use Rattle.alp_io.specs.Sink.{AppendsProperPrefix}
 use Rattle.alp_io.specs.declared.sink.Failed.{Failed}
-use Rattle.alp_io.proofs.Appends.{appends_none, appends_more, part_of_first, part_of_second}
+use Rattle.alp_io.proofs.Appends.{part_of_first, part_of_second}
 use Rattle.msp_step.specs.declared.machine.Stop.{Stop}
 use Rattle.fram_board.specs.declared.receiver.Receiver.{Receiver}
 use Rattle.fram_board.specs.Board.{BoardValue, PowerState, powered}
-use Rattle.fram_board.specs.Run.{Moment, Charges, Stopped, End, RunOutcome, run_outcome, after_moments, power_up_of, BoardCharge, ChargeRun, Run, Over, Next, Last}
+use Rattle.fram_board.specs.Run.{Moment, Charges, Stopped, End, RunOutcome, run_outcome, after_moments, power_up_of, BoardCharge, ChargeRun, Run, Over, Next}
+use Rattle.fram_board.specs.Run.{Last}
 use Rattle.fram_board.proofs.Runs.{has_run}
 use Rattle.board_run.specs.History.{History, bound_lines, moment_lines, noted, behind_power_up}
-use Rattle.board_run.specs.Report.{lines_from, after_all, last_line, rest_of, BreaksOff, IsCutInMoment, IsCutAt, InText, InMoment, InLastLine, IsCut, IsRestOf, IsRunOf, IsEndOf}
+use Rattle.board_run.specs.Report.{lines_from, after_all, last_line, rest_of, BreaksOff, IsCutInMoment, IsCutAt, InText, InMoment, InLastLine, IsCut, IsRestOf}
+use Rattle.board_run.specs.Report.{IsRunOf, IsEndOf}
 use Rattle.board_run.specs.Parts.{FewMore, Wrote, ended, IsSpent, WentThrough, Went, SpentCharges, AreSpent}
-use Rattle.board_run.proofs.Spends.{lines_append, after_append, wrote_more, wrote_none, outcome_append, nil_behind, breaks_behind, breaks_first}
+use Rattle.board_run.proofs.Spends.{lines_append, after_append, wrote_more, wrote_none, outcome_append, breaks_behind, breaks_first}
+use Rattle.board_run.specs.declared.trace_run.RunFault.TheVariants as fault
 
 -- the power-up of a charge writes nothing
-power_up_wrote : (h mid now : History) (b : BoardValue) (p : PowerState) (ms : List Moment) (old new : Option (List ℕ)) → mid ≡ behind_power_up h.map h (powered b p) → Wrote mid ms old new now
+power_up_wrote : (h mid now : History) (b : BoardValue) (p : PowerState) (ms : List Moment) (old new : Option (List ℕ))
+    → mid ≡ behind_power_up h.map h (powered b p) → Wrote mid ms old new now
     → Wrote h (power_up_of b p ∷ ms) old new now
 unfolding moment_lines noted
 power_up_wrote h mid now b p ms old new e w =
@@ -35,21 +40,24 @@ power_up_wrote h mid now b p ms old new e w =
     record { written = v.written; history = v.history }
 
 -- a charge from its power-up on
-one_went : (c : BoardCharge) (b after : BoardValue) (ms : List Moment) (stop : Option Stop) → ChargeRun c.measure c.amount (powered b c.start) (run_outcome ms (ended stop) after)
+one_went : (c : BoardCharge) (b after : BoardValue) (ms : List Moment) (stop : Option Stop)
+    → ChargeRun c.measure c.amount (powered b c.start) (run_outcome ms (ended stop) after)
     → Went (c ∷ []) b (power_up_of b c.start ∷ ms) stop after
 one_went c b after ms None h = λ more r k. Next c more b ms after r h k
 one_went c b after ms (Some stop) h = λ more. Last c more b ms stop after h
 
 -- a run whose first charge is this
-run_with : (c : BoardCharge) (more : List BoardCharge) (b : BoardValue) (ms : List Moment) (e : End) (end : BoardValue) → ChargeRun c.measure c.amount (powered b c.start) (run_outcome ms e end)
+run_with : (c : BoardCharge) (more : List BoardCharge) (b : BoardValue) (ms : List Moment) (e : End) (end : BoardValue)
+    → ChargeRun c.measure c.amount (powered b c.start) (run_outcome ms e end)
     → (rest : List Moment) × (ending : End) × (last : BoardValue) × Run (c ∷ more) b (run_outcome (power_up_of b c.start ∷ (ms ++ rest)) ending last)
 run_with c more b ms Charges end h = let r = has_run more end in (r.0.moments, r.0.ending, r.0.board, Next c more b ms end r.0 h r.1)
 run_with c more b ms (Stopped stop) end h =
     let P : List Moment → Type 0 = λ x. Run (c ∷ more) b (run_outcome (power_up_of b c.start ∷ x) (Stopped stop) end) in
-    ([], Stopped stop, end, subst P (sym (nil_behind ms)) (Last c more b ms stop end h))
+    ([], Stopped stop, end, subst P (sym (append-nil ms)) (Last c more b ms stop end h))
 
 -- lines that are cut in some moments are cut in more
-cut_more : (h mid : History) (front ms rest whole : List Moment) (old between new : Option (List ℕ)) (after : BoardValue) → whole ≡ front ++ (ms ++ rest) → Wrote h front old between mid
+cut_more : (h mid : History) (front ms rest whole : List Moment) (old between new : Option (List ℕ)) (after : BoardValue) → whole ≡ front ++ (ms ++ rest)
+    → Wrote h front old between mid
     → IsCutInMoment mid [] ms between new after → IsCutInMoment h [] whole old new after
 cut_more h mid front ms rest whole old between new after e w c =
     let P : List ℕ → Type 0 = λ t. BreaksOff old new t (moment_lines (after_all h (front ++ c.before)) c.moment) in
@@ -61,23 +69,32 @@ cut_more h mid front ms rest whole old between new after e w c =
       before = front ++ c.before;
       moment = c.moment;
       later = c.later ++ rest;
-      split = e ∙ ap (λ x. front ++ (x ++ rest)) c.split ∙ ap (λ x. front ++ x) (append_assoc c.before (c.moment ∷ c.later) rest) ∙ sym (append_assoc front c.before (c.moment ∷ (c.later ++ rest)));
+      split = e ∙ ap (λ x. front ++ (x ++ rest)) c.split ∙ ap (λ x. front ++ x) (append_assoc c.before (c.moment ∷ c.later) rest)
+          ∙ sym (append_assoc front c.before (c.moment ∷ (c.later ++ rest)));
       board = c.board;
-      written = subst P lines (subst Q later (breaks_behind old between new (lines_from h front) (lines_from mid c.before) (moment_lines (after_all mid c.before) c.moment) w.written c.written));
+      written =
+          subst P lines (subst Q later (breaks_behind old between new (lines_from h front) (lines_from mid c.before)
+          (moment_lines (after_all mid c.before) c.moment) w.written c.written));
     }
 
 -- the power-up alone
-power_up_alone : (h mid : History) (b : BoardValue) (p : PowerState) (old : Option (List ℕ)) → mid ≡ behind_power_up h.map h (powered b p) → Wrote h (power_up_of b p ∷ []) old old mid
-power_up_alone h mid b p old e = power_up_wrote h mid mid b p [] old old e (wrote_none mid mid old old (appends_none old) refl)
+power_up_alone : (h mid : History) (b : BoardValue) (p : PowerState) (old : Option (List ℕ)) → mid ≡ behind_power_up h.map h (powered b p)
+    → Wrote h (power_up_of b p ∷ []) old old mid
+power_up_alone h mid b p old e = power_up_wrote h mid mid b p [] old old e (wrote_none mid mid old old (Appends-nil old) refl)
 
 -- a cut in a charge is a cut in a run that begins with it
-one_cut : (h mid : History) (c : BoardCharge) (more : List BoardCharge) (b after : BoardValue) (r : RunOutcome) (old new : Option (List ℕ)) → mid ≡ behind_power_up h.map h (powered b c.start)
+one_cut : (h mid : History) (c : BoardCharge) (more : List BoardCharge) (b after : BoardValue) (r : RunOutcome) (old new : Option (List ℕ))
+    → mid ≡ behind_power_up h.map h (powered b c.start)
     → ChargeRun c.measure c.amount (powered b c.start) r → IsCutInMoment mid [] r.moments old new after
     → (s : RunOutcome) × Run (c ∷ more) b s × IsCutInMoment h [] s.moments old new after
 one_cut h mid c more b after r old new e run cut =
     let w = run_with c more b r.moments r.ending r.board run in
-    let ms : List Moment = power_up_of b c.start ∷ (r.moments ++ w.0) in
-    (run_outcome ms w.1 w.2, w.3, cut_more h mid (power_up_of b c.start ∷ []) r.moments w.0 ms old old new after refl (power_up_alone h mid b c.start old e) cut)
+    let ms : List Moment = power_up_of b c.start ∷ (r.moments ++ w.0) in (
+      run_outcome ms w.1 w.2,
+      w.3,
+      cut_more h mid (power_up_of b c.start ∷ []) r.moments w.0 ms old old new after refl
+          (power_up_alone h mid b c.start old e) cut,
+    )
 
 few_of_one : (b p after : BoardValue) (n k : ℕ) → p.receiver ≡ b.receiver → FewMore p after n → n ≤ k → FewMore b after k
 few_of_one b p after n k e f le =
@@ -88,7 +105,8 @@ few_of_one b p after n k e f le =
     record { accepted = omega arith; repeats = omega arith }
 
 -- one charge, from its power-up on
-pub one_spent : (h mid now : History) (c : BoardCharge) (b p after : BoardValue) (old new : Option (List ℕ)) (result : Result (Option Stop) Failed) (k : ℕ) → p ≡ powered b c.start → mid ≡ behind_power_up h.map h p
+pub one_spent : (h mid now : History) (c : BoardCharge) (b p after : BoardValue) (old new : Option (List ℕ)) (result : Result (Option Stop) Failed) (k : ℕ)
+    → p ≡ powered b c.start → mid ≡ behind_power_up h.map h p
     → c.amount ≤ k → IsSpent mid c.measure c.amount p old new result after now → AreSpent h (c ∷ []) b old new result after now k
 one_spent h mid now c b p after old new (Ok stop) k is e le s =
     let P : BoardValue → Type 0 = λ p. ChargeRun c.measure c.amount p (run_outcome s.moments (ended stop) after) in
@@ -104,7 +122,8 @@ one_spent h mid now c b p after old new (Err f) k is e le (r, run, cut) = λ mor
     one_cut h mid c more b after r old new (e ∙ ap (λ p. behind_power_up h.map h p) is) (subst P is run) cut
 
 -- some charges are behind, and these are left
-pub record SpendsFor (h : History) (cs : List BoardCharge) (b : BoardValue) (old : Option (List ℕ)) (n : ℕ) (left : List BoardCharge) (now : BoardValue) (new : Option (List ℕ)) (watch : History) (spare : ℕ) : Type 0 where
+pub record SpendsFor (h : History) (cs : List BoardCharge) (b : BoardValue) (old : Option (List ℕ)) (n : ℕ) (left : List BoardCharge) (now : BoardValue)
+    (new : Option (List ℕ)) (watch : History) (spare : ℕ) : Type 0 where
   pub moments : List Moment
   pub run : (more : List BoardCharge) (r : RunOutcome) → Run (left ++ more) now r → Run (cs ++ more) b (after_moments moments r)
   pub wrote : Wrote h moments old new watch
@@ -115,7 +134,7 @@ pub spends_for_first : (h : History) (cs : List BoardCharge) (b : BoardValue) (o
 spends_for_first h cs b old n = record {
   moments = [];
   run = λ more r k. k;
-  wrote = record { written = appends_none old; history = refl };
+  wrote = record { written = Appends-nil old; history = refl };
   accepted = omega arith;
   repeats = omega arith;
 }
@@ -125,8 +144,10 @@ no_stop None e = refl
 no_stop (Some x) e = cc
 
 -- more of them
-pub spends_for_more : (h : History) (cs : List BoardCharge) (b : BoardValue) (old : Option (List ℕ)) (n : ℕ) (left front rest : List BoardCharge) (now next : BoardValue) (between new : Option (List ℕ)) (mid watch : History) (spare less k : ℕ) (stop : Option Stop)
-    → left ≡ front ++ rest → less + k ≤ spare → is_some stop ≡ false → SpendsFor h cs b old n left now between mid spare → SpentCharges mid front now between new stop next watch k
+pub spends_for_more : (h : History) (cs : List BoardCharge) (b : BoardValue) (old : Option (List ℕ)) (n : ℕ) (left front rest : List BoardCharge)
+    (now next : BoardValue) (between new : Option (List ℕ)) (mid watch : History) (spare less k : ℕ) (stop : Option Stop)
+    → left ≡ front ++ rest → less + k ≤ spare → is_some stop ≡ false → SpendsFor h cs b old n left now between mid spare
+    → SpentCharges mid front now between new stop next watch k
     → SpendsFor h cs b old n rest next new watch less
 spends_for_more h cs b old n left front rest now next between new mid watch spare less k stop e le none s w =
     let P : Option Stop → Type 0 = λ o. Went front now w.moments o next in
@@ -141,15 +162,18 @@ spends_for_more h cs b old n left front rest now next between new mid watch spar
       run = λ more r h.
           let Q : List BoardCharge → Type 0 = λ x. Run x now (after_moments w.moments r) in
           let R : RunOutcome → Type 0 = λ x. Run (cs ++ more) b x in
-          subst R (sym (outcome_append s.moments w.moments r)) (s.run more (after_moments w.moments r) (subst Q (sym (ap (λ x. x ++ more) e ∙ append_assoc front rest more)) (went (rest ++ more) r h)));
+          subst R (sym (outcome_append s.moments w.moments r))
+          (s.run more (after_moments w.moments r) (subst Q (sym (ap (λ x. x ++ more) e ∙ append_assoc front rest more)) (went (rest ++ more) r h)));
       wrote = wrote_more h mid watch s.moments w.moments old between new s.wrote w.wrote;
       accepted = omega arith;
       repeats = omega arith;
     }
 
 -- a stop in them
-pub spends_for_stop : (h : History) (cs : List BoardCharge) (b : BoardValue) (old : Option (List ℕ)) (n : ℕ) (left front rest : List BoardCharge) (now next : BoardValue) (between new : Option (List ℕ)) (mid watch : History) (spare k : ℕ) (stop : Option Stop)
-    → left ≡ front ++ rest → k ≤ spare → is_some stop ≡ true → SpendsFor h cs b old n left now between mid spare → SpentCharges mid front now between new stop next watch k
+pub spends_for_stop : (h : History) (cs : List BoardCharge) (b : BoardValue) (old : Option (List ℕ)) (n : ℕ) (left front rest : List BoardCharge)
+    (now next : BoardValue) (between new : Option (List ℕ)) (mid watch : History) (spare k : ℕ) (stop : Option Stop)
+    → left ≡ front ++ rest → k ≤ spare → is_some stop ≡ true → SpendsFor h cs b old n left now between mid spare
+    → SpentCharges mid front now between new stop next watch k
     → SpentCharges h cs b old new stop next watch n
 spends_for_stop h cs b old n left front rest now next between new mid watch spare k None e le some s w = cc
 spends_for_stop h cs b old n left front rest now next between new mid watch spare k (Some stop) e le some s w =
@@ -168,7 +192,8 @@ spends_for_stop h cs b old n left front rest now next between new mid watch spar
     }
 
 -- all of them
-pub spends_for_end : (h : History) (cs : List BoardCharge) (b : BoardValue) (old : Option (List ℕ)) (n : ℕ) (left : List BoardCharge) (now : BoardValue) (new : Option (List ℕ)) (watch : History) (spare : ℕ) → left ≡ []
+pub spends_for_end : (h : History) (cs : List BoardCharge) (b : BoardValue) (old : Option (List ℕ)) (n : ℕ) (left : List BoardCharge) (now : BoardValue)
+    (new : Option (List ℕ)) (watch : History) (spare : ℕ) → left ≡ []
     → SpendsFor h cs b old n left now new watch spare → SpentCharges h cs b old new None now watch n
 spends_for_end h cs b old n left now new watch spare e s =
     let a = s.accepted in
@@ -180,20 +205,27 @@ spends_for_end h cs b old n left now new watch spare e s =
       few = record { accepted = omega arith; repeats = omega arith };
     }
 
-are_err : (h now : History) (cs : List BoardCharge) (b after : BoardValue) (old new : Option (List ℕ)) (n : ℕ) (result : Result (Option Stop) Failed) → IsErr result
-    → ((more : List BoardCharge) → (r : RunOutcome) × Run (cs ++ more) b r × IsCutInMoment h [] r.moments old new after) → AreSpent h cs b old new result after now n
+are_err : (h now : History) (cs : List BoardCharge) (b after : BoardValue) (old new : Option (List ℕ)) (n : ℕ) (result : Result (Option Stop) Failed)
+    → IsErr result
+    → ((more : List BoardCharge) → (r : RunOutcome) × Run (cs ++ more) b r × IsCutInMoment h [] r.moments old new after)
+    → AreSpent h cs b old new result after now n
 are_err h now cs b after old new n (Ok o) e p = cc
 are_err h now cs b after old new n (Err f) e p = p
 
 -- a line of one of them isn't written whole
-pub spends_for_err : (h : History) (cs : List BoardCharge) (b : BoardValue) (old : Option (List ℕ)) (n : ℕ) (left front rest : List BoardCharge) (now next : BoardValue) (between new : Option (List ℕ)) (mid watch watch' : History) (spare k : ℕ)
-    (f : Failed) (result : Result (Option Stop) Failed) → IsErr result → left ≡ front ++ rest → SpendsFor h cs b old n left now between mid spare → AreSpent mid front now between new (Err f) next watch' k
+pub spends_for_err : (h : History) (cs : List BoardCharge) (b : BoardValue) (old : Option (List ℕ)) (n : ℕ) (left front rest : List BoardCharge)
+    (now next : BoardValue) (between new : Option (List ℕ)) (mid watch watch' : History) (spare k : ℕ)
+    (f : Failed) (result : Result (Option Stop) Failed) → IsErr result → left ≡ front ++ rest → SpendsFor h cs b old n left now between mid spare
+    → AreSpent mid front now between new (Err f) next watch' k
     → AreSpent h cs b old new result next watch n
-spends_for_err h cs b old n left front rest now next between new mid watch watch' spare k f result err e s w = are_err h watch cs b next old new n result err (λ more.
+spends_for_err h cs b old n left front rest now next between new mid watch watch' spare k f result err e s w =
+    are_err h watch cs b next old new n result err (λ more.
     let cut = w (rest ++ more) in
     let Q : List BoardCharge → Type 0 = λ x. Run x now cut.0 in
     let run = s.run more cut.0 (subst Q (sym (ap (λ x. x ++ more) e ∙ append_assoc front rest more)) cut.1) in
-    let more_cut = cut_more h mid s.moments cut.0.moments [] (s.moments ++ cut.0.moments) old between new next (ap (λ x. s.moments ++ x) (sym (nil_behind cut.0.moments))) s.wrote cut.2 in
+    let more_cut =
+    cut_more h mid s.moments cut.0.moments [] (s.moments ++ cut.0.moments) old between new next
+    (ap (λ x. s.moments ++ x) (sym (append-nil cut.0.moments))) s.wrote cut.2 in
     (after_moments s.moments cut.0, run, more_cut))
 
 -- the first of the charges that are left
@@ -205,16 +237,16 @@ pub repeated_end : (k : ℕ) (c : BoardCharge) → k ≤ 0 → replicate k c ≡
 repeated_end zero c h = refl
 repeated_end (suc k) c h = absurd (omega arith)
 
-pub all_split : (cs : List Charge) (d : Charge) (i : ℕ) → i < length cs → charges_of (drop i cs) ≡ replicate (get_or cs i d).times (charge_of (get_or cs i d)) ++ charges_of (drop (i + 1) cs)
+pub all_split : (cs : List Charge) (d : Charge) (i : ℕ) → i < length cs
+    → charges_of (drop i cs) ≡ replicate (get_or cs i d).times (charge_of (get_or cs i d)) ++ charges_of (drop (i + 1) cs)
 all_split cs d i h =
-    ap charges_of (drop-cons cs i d h) ∙ ap (λ j. replicate (get_or cs i d).times (charge_of (get_or cs i d)) ++ charges_of (drop j cs)) (let n : suc i ≡ i + 1 = omega arith in n)
-
-count_more : (c : Charge) (cs : List Charge) → charge_count (c ∷ cs) ≡ c.times + charge_count cs
-count_more c cs = sum_by-append (λ (c : Charge). c.times) (c ∷ []) cs ∙ ap (λ n. n + charge_count cs) (let e : 0 + c.times ≡ c.times = omega arith in e)
+    ap charges_of (drop-cons cs i d h) ∙ ap (λ j. replicate (get_or cs i d).times (charge_of (get_or cs i d)) ++ charges_of (drop j cs))
+    (let n : suc i ≡ i + 1 = omega arith in n)
 
 pub count_split : (cs : List Charge) (d : Charge) (i : ℕ) → i < length cs → charge_count (drop i cs) ≡ (get_or cs i d).times + charge_count (drop (i + 1) cs)
 count_split cs d i h =
-    ap charge_count (drop-cons cs i d h) ∙ count_more (get_or cs i d) (drop (suc i) cs) ∙ ap (λ j. (get_or cs i d).times + charge_count (drop j cs)) (let n : suc i ≡ i + 1 = omega arith in n)
+    ap charge_count (drop-cons cs i d h) ∙ count_cons (get_or cs i d) (drop (suc i) cs)
+    ∙ ap (λ j. (get_or cs i d).times + charge_count (drop j cs)) (let n : suc i ≡ i + 1 = omega arith in n)
 
 pub all_end : (cs : List Charge) (i : ℕ) → length cs ≤ i → charges_of (drop i cs) ≡ []
 all_end cs i h = ap charges_of (drop_of_length-le cs h)
@@ -227,27 +259,35 @@ front_of_both old new text next behind p =
     let front : text ++ take p.count next ≡ take (length text + p.count) (text ++ (next ++ behind)) =
     ap (λ x. text ++ x) (sym (take-append-le p.count next behind inside)) ∙ sym (take-append-add text (next ++ behind) p.count) in
     let proper = p.proper in
-    record { count = length text + p.count; proper = omega (arith, length-append text (next ++ behind), length-append next behind); held = subst P front p.held }
+    record {
+      count = length text + p.count;
+      proper = omega (arith, length-append text (next ++ behind), length-append next behind);
+      held = subst P front p.held;
+    }
 
 -- what is cut in a moment is a front of the report
-front_of_report : (h : History) (r : RunOutcome) (old new : Option (List ℕ)) (after : BoardValue) → IsCutInMoment h [] r.moments old new after → AppendsProperPrefix old new (rest_of h r)
+front_of_report : (h : History) (r : RunOutcome) (old new : Option (List ℕ)) (after : BoardValue) → IsCutInMoment h [] r.moments old new after
+    → AppendsProperPrefix old new (rest_of h r)
 front_of_report h r old new after c =
     let line : List ℕ = last_line (after_all h r.moments) r.ending r.board in
     let own : List ℕ = moment_lines (after_all h c.before) c.moment in
     let later : List ℕ = lines_from (noted (after_all h c.before) c.moment) c.later in
     let P : List ℕ → Type 0 = λ t. AppendsProperPrefix old new t in
     let lines : lines_from h r.moments ≡ lines_from h c.before ++ (own ++ later) = ap (lines_from h) c.split ∙ lines_append h c.before (c.moment ∷ c.later) in
-    subst P (sym (ap (λ x. x ++ line) lines)) (part_of_first old new (lines_from h c.before ++ (own ++ later)) line (front_of_both old new (lines_from h c.before) own later c.written))
+    subst P (sym (ap (λ x. x ++ line) lines))
+    (part_of_first old new (lines_from h c.before ++ (own ++ later)) line (front_of_both old new (lines_from h c.before) own later c.written))
 
 -- a run that was cut, or that is whole
-run_err : (h now : History) (cs : List BoardCharge) (b after : BoardValue) (old new : Option (List ℕ)) (result : Result RunEnd RunFault) → result ≡ Err fault.Write → (r : RunOutcome) × Run cs b r × IsCut h [] b r old new after
+run_err : (h now : History) (cs : List BoardCharge) (b after : BoardValue) (old new : Option (List ℕ)) (result : Result RunEnd RunFault)
+    → result ≡ Err fault.Write → (r : RunOutcome) × Run cs b r × IsCut h [] b r old new after
     → IsRestOf h cs b old new result after now
 run_err h now cs b after old new result e p = let P : Result RunEnd RunFault → Type 0 = λ x. IsRestOf h cs b old new x after now in subst P (sym e) p
 
 nil_charges : (cs : List BoardCharge) → cs ++ [] ≡ cs
-nil_charges cs = nil_behind cs
+nil_charges cs = append-nil cs
 
-pub run_cut : (h watch now : History) (cs : List BoardCharge) (b after : BoardValue) (old new : Option (List ℕ)) (n : ℕ) (f : Failed) (result : Result RunEnd RunFault) → result ≡ Err fault.Write
+pub run_cut : (h watch now : History) (cs : List BoardCharge) (b after : BoardValue) (old new : Option (List ℕ)) (n : ℕ) (f : Failed)
+    (result : Result RunEnd RunFault) → result ≡ Err fault.Write
     → AreSpent h cs b old new (Err f) after watch n → IsRestOf h cs b old new result after now
 run_cut h watch now cs b after old new n f result e w =
     let cut = w [] in
@@ -259,15 +299,18 @@ run_cut h watch now cs b after old new n f result e w =
     )
 
 -- the run of charges that were spent or in which the board stopped
-whole_run : (cs : List BoardCharge) (b after : BoardValue) (ms : List Moment) (stop : Option Stop) → Went cs b ms stop after → Run cs b (run_outcome ms (ended stop) after)
+whole_run : (cs : List BoardCharge) (b after : BoardValue) (ms : List Moment) (stop : Option Stop) → Went cs b ms stop after
+    → Run cs b (run_outcome ms (ended stop) after)
 whole_run cs b after ms None w =
     let P : List BoardCharge → Type 0 = λ x. Run x b (run_outcome ms Charges after) in
     let Q : List Moment → Type 0 = λ x. Run (cs ++ []) b (run_outcome x Charges after) in
-    subst P (nil_charges cs) (subst Q (nil_behind ms) (w [] (run_outcome [] Charges after) (Over after)))
-whole_run cs b after ms (Some stop) w = let P : List BoardCharge → Type 0 = λ x. Run x b (run_outcome ms (Stopped stop) after) in subst P (nil_charges cs) (w [])
+    subst P (nil_charges cs) (subst Q (append-nil ms) (w [] (run_outcome [] Charges after) (Over after)))
+whole_run cs b after ms (Some stop) w = let P : List BoardCharge → Type 0 = λ x. Run x b (run_outcome ms (Stopped stop) after) in
+    subst P (nil_charges cs) (w [])
 
 -- and its last line
-pub run_end : (h now : History) (cs : List BoardCharge) (b after : BoardValue) (old between new : Option (List ℕ)) (n : ℕ) (stop : Option Stop) (result : Result RunEnd RunFault)
+pub run_end : (h now : History) (cs : List BoardCharge) (b after : BoardValue) (old between new : Option (List ℕ)) (n : ℕ) (stop : Option Stop)
+    (result : Result RunEnd RunFault)
     → SpentCharges h cs b old between stop after now n → IsEndOf now (ended stop) after between new result → IsRestOf h cs b old new result after now
 run_end h now cs b after old between new n stop result w e = by_result result e
   where
@@ -284,7 +327,7 @@ run_end h now cs b after old between new n stop result w e = by_result result e
     text = ap (λ x. lines_from h w.moments ++ last_line x (ended stop) after) w.wrote.history
 
     written : Appends between new line → Appends old new (rest_of h r)
-    written a = let P : List ℕ → Type 0 = λ t. Appends old new t in subst P text (appends_more old between new (lines_from h w.moments) line w.wrote.written a)
+    written a = let P : List ℕ → Type 0 = λ t. Appends old new t in subst P text (Appends-trans old between new (lines_from h w.moments) line w.wrote.written a)
 
     by_result : (result : Result RunEnd RunFault) → IsEndOf now (ended stop) after between new result → IsRestOf h cs b old new result after now
     by_result (Ok end) e = (r, run, record { answer = e.0; board = refl; history = w.wrote.history; written = written e.1 })
@@ -294,15 +337,24 @@ run_end h now cs b after old between new n stop result w e = by_result result e
         let P : List ℕ → Type 0 = λ t. AppendsProperPrefix old new t in
         let Q : History → Type 0 = λ x. BreaksOff old new (lines_from h w.moments) (last_line x (ended stop) after) in
         let R : List ℕ → Type 0 = λ t. BreaksOff old new t line in
-        let cut = subst R (nil_behind (lines_from h w.moments)) (breaks_behind old between new (lines_from h w.moments) [] line w.wrote.written (breaks_first between new line e)) in
-        (r, run, record { written = subst P text (part_of_second old between new (lines_from h w.moments) line w.wrote.written e); place = InLastLine refl (subst Q w.wrote.history cut) })
+        let cut =
+        subst R (append-nil (lines_from h w.moments))
+        (breaks_behind old between new (lines_from h w.moments) [] line w.wrote.written (breaks_first between new line e)) in (
+          r,
+          run,
+          record {
+            written = subst P text (part_of_second old between new (lines_from h w.moments) line w.wrote.written e);
+            place = InLastLine refl (subst Q w.wrote.history cut);
+          },
+        )
 
 -- a charge that stands where there is none
 abbrev pub no_charge : Charge
 no_charge = record { kind = kind.Cycles; n = 0; fill = 0; times = 0 }
 
 -- where writing broke off, behind a text
-place_behind : (h : History) (b after : BoardValue) (r : RunOutcome) (old mid new : Option (List ℕ)) (text : List ℕ) → Appends old mid text → IsCutAt h [] b r mid new after → IsCutAt h text b r old new after
+place_behind : (h : History) (b after : BoardValue) (r : RunOutcome) (old mid new : Option (List ℕ)) (text : List ℕ) → Appends old mid text
+    → IsCutAt h [] b r mid new after → IsCutAt h text b r old new after
 place_behind h b after r old mid new text first (InText is p) = absurd (let h = p.proper in omega arith)
 place_behind h b after r old mid new text first (InMoment c) = InMoment (record {
   before = c.before;
@@ -316,19 +368,51 @@ place_behind h b after r old mid new text first (InLastLine is p) =
     InLastLine is (breaks_behind old mid new text (lines_from h r.moments) (last_line (after_all h r.moments) r.ending r.board) first p)
 
 -- behind the line of the bound
-pub bound_first : (h now : History) (cs : List BoardCharge) (b after : BoardValue) (old mid new : Option (List ℕ)) (result : Result RunEnd RunFault) → Appends old mid (bound_lines h.map)
+pub bound_first : (h now : History) (cs : List BoardCharge) (b after : BoardValue) (old mid new : Option (List ℕ)) (result : Result RunEnd RunFault)
+    → Appends old mid (bound_lines h.map)
     → IsRestOf h cs b mid new result after now → IsRunOf h cs b old new result after now
-bound_first h now cs b after old mid new (Ok end) first (r, run, w) =
-    (r, run, record { answer = w.answer; board = w.board; history = w.history; written = appends_more old mid new (bound_lines h.map) (rest_of h r) first w.written })
-bound_first h now cs b after old mid new (Err (fault.Illegal pc word)) first (r, run, w) =
-    (r, run, record { answer = w.answer; board = w.board; history = w.history; written = appends_more old mid new (bound_lines h.map) (rest_of h r) first w.written })
-bound_first h now cs b after old mid new (Err (fault.Bus pc address)) first (r, run, w) =
-    (r, run, record { answer = w.answer; board = w.board; history = w.history; written = appends_more old mid new (bound_lines h.map) (rest_of h r) first w.written })
-bound_first h now cs b after old mid new (Err fault.Write) first (r, run, w) =
-    (r, run, record { written = part_of_second old mid new (bound_lines h.map) (rest_of h r) first w.written; place = place_behind h b after r old mid new (bound_lines h.map) first w.place })
+bound_first h now cs b after old mid new (Ok end) first (r, run, w) = (
+  r,
+  run,
+  record {
+    answer = w.answer;
+    board = w.board;
+    history = w.history;
+    written = Appends-trans old mid new (bound_lines h.map) (rest_of h r) first w.written;
+  },
+)
+bound_first h now cs b after old mid new (Err (fault.Illegal pc word)) first (r, run, w) = (
+  r,
+  run,
+  record {
+    answer = w.answer;
+    board = w.board;
+    history = w.history;
+    written = Appends-trans old mid new (bound_lines h.map) (rest_of h r) first w.written;
+  },
+)
+bound_first h now cs b after old mid new (Err (fault.Bus pc address)) first (r, run, w) = (
+  r,
+  run,
+  record {
+    answer = w.answer;
+    board = w.board;
+    history = w.history;
+    written = Appends-trans old mid new (bound_lines h.map) (rest_of h r) first w.written;
+  },
+)
+bound_first h now cs b after old mid new (Err fault.Write) first (r, run, w) = (
+  r,
+  run,
+  record {
+    written = part_of_second old mid new (bound_lines h.map) (rest_of h r) first w.written;
+    place = place_behind h b after r old mid new (bound_lines h.map) first w.place;
+  },
+)
 
 -- the line of the bound itself isn't written whole
-pub bound_cut : (h now : History) (cs : List BoardCharge) (b : BoardValue) (old new : Option (List ℕ)) (result : Result RunEnd RunFault) → result ≡ Err fault.Write → AppendsProperPrefix old new (bound_lines h.map)
+pub bound_cut : (h now : History) (cs : List BoardCharge) (b : BoardValue) (old new : Option (List ℕ)) (result : Result RunEnd RunFault)
+    → result ≡ Err fault.Write → AppendsProperPrefix old new (bound_lines h.map)
     → IsRunOf h cs b old new result b now
 bound_cut h now cs b old new result e cut =
     let run = has_run cs b in

@@ -1,15 +1,13 @@
 -- The shared words of a map, one after another.
-use Rattle.std.proofs.Common.{◌≡◌, ◌≤◌, ◌<◌, ℕ, suc, ◌+◌, ◌*◌, ◌-◌, ◌&&◌, nat_lt, nat_le, List, [], ◌∷◌, ◌++◌, length, take, drop, get_or, arith, refl, ap, sym, subst, ◌∙◌, Bool, true, false, Option, Some, None, All}
+use Rattle.std.proofs.Common.{◌≡◌, ◌≤◌, ◌<◌, ℕ, suc, ◌+◌, ◌*◌, ◌-◌, nat_lt, nat_le, List, [], ◌∷◌, ◌++◌, length, take, drop, get_or, arith, ap, sym, subst, ◌∙◌}
+use Rattle.std.proofs.Common.{true, Option, Some, None, All}
 use Rattle.std.proofs.Math.Seq.{take-length}
 use Rattle.std.proofs.lemmas.Bool.Decides.{nat_tests}
+use Rattle.std.proofs.lemmas.Bool.{and_parts}
 use Rattle.image_map.specs.declared.parts.Variable.{Variable}
 use Rattle.image_map.specs.MapValue.{IsFramWord, IsVariable, fits}
 use Rattle.board_run.specs.History.{SharedWord, array_words, shared_words}
 use Rattle.board_run.specs.State.{word_count, words_from, words_left, HasIndex}
-
-both : (a b : Bool) → (a && b) ≡ true → (a ≡ true) × (b ≡ true)
-both true b h = (refl, h)
-both false b h = cc
 
 -- what stands behind the first of a list
 abbrev pub behind_first : List Variable → List Variable
@@ -26,7 +24,7 @@ some_words v h = by_length v.length v.address h.fits
   where
     by_length : (o : Option ℕ) (a : ℕ) → fits a o ≡ true → 0 < word_count o
     by_length None a h = omega arith
-    by_length (Some n) a h = let p = both (nat_lt 0 n) (nat_le (a + 2 * n) 65536) h in let q : nat_lt 0 n ≡ true = p.0 in grind (arith, nat_tests, q)
+    by_length (Some n) a h = let p = and_parts (nat_lt 0 n) (nat_le (a + 2 * n) 65536) h in let q : nat_lt 0 n ≡ true = p.0 in grind (arith, nat_tests, q)
 
 pub begins : (vs : List Variable) → All IsVariable vs → HasIndex vs 0
 begins [] h = tt
@@ -46,7 +44,7 @@ behind_scalar vs v h e all none =
 
 in_array : (a n i : ℕ) → IsFramWord a → fits a (Some n) ≡ true → i < n → IsFramWord (a + 2 * i)
 in_array a n i h f l =
-    let p = both (nat_lt 0 n) (nat_le (a + 2 * n) 65536) f in
+    let p = and_parts (nat_lt 0 n) (nat_le (a + 2 * n) 65536) f in
     let q : nat_le (a + 2 * n) 65536 ≡ true = p.1 in
     let top : a + 2 * n ≤ 65536 = grind (arith, nat_tests, q) in
     let low = h.low in
@@ -73,22 +71,12 @@ behind_array vs v n i h e all len index =
     let v_is = are 0 v (omega arith) in
     (rest, begins (behind_first vs) rest, in_array v.address n i v_is.address (fits_so v n len v_is) (index_in vs v (behind_first vs) n i split len index))
 
--- the next word of the array
-pub next_in_array : (vs : List Variable) (v : Variable) (n i : ℕ) → 1 ≤ length vs → v ≡ get_or vs 0 v → All IsVariable vs → v.length ≡ Some n → HasIndex vs i → i + 1 < n
-    → All IsVariable vs × HasIndex vs (i + 1) × IsFramWord (v.address + 2 * i)
-next_in_array vs v n i h e all len index less =
-    let P : List Variable → Type 0 = λ x. All IsVariable x in
-    let Q : List Variable → Type 0 = λ x. HasIndex x (i + 1) in
-    let R : Option ℕ → Type 0 = λ o. i + 1 < word_count o in
-    let split = first_and_rest vs v h e in
-    let are = subst P split all in
-    let v_is = are 0 v (omega arith) in
-    (all, subst Q (sym split) (subst R (sym len) less), in_array v.address n i v_is.address (fits_so v n len v_is) (index_in vs v (behind_first vs) n i split len index))
-
-array_next : (name : List ℕ) (a i n : ℕ) → i < n → words_from name a (Some n) i ≡ record { name = name; index = Some i; address = a + 2 * i } ∷ words_from name a (Some n) (i + 1)
+array_next : (name : List ℕ) (a i n : ℕ) → i < n
+    → words_from name a (Some n) i ≡ record { name = name; index = Some i; address = a + 2 * i } ∷ words_from name a (Some n) (i + 1)
 array_next name a i n h =
     ap (array_words name (a + 2 * i) i) (let e : n - i ≡ suc (n - (i + 1)) = omega arith in e)
-    ∙ ap (λ b. record { name = name; index = Some i; address = a + 2 * i } ∷ array_words name b (i + 1) (n - (i + 1))) (let e : a + 2 * i + 2 ≡ a + 2 * (i + 1) = omega arith in e)
+    ∙ ap (λ b. record { name = name; index = Some i; address = a + 2 * i } ∷ array_words name b (i + 1) (n - (i + 1)))
+    (let e : a + 2 * i + 2 ≡ a + 2 * (i + 1) = omega arith in e)
 
 pub cut_in_array : (vs : List Variable) (v : Variable) (n i : ℕ) → 1 ≤ length vs → v ≡ get_or vs 0 v → v.length ≡ Some n → i + 1 < n
     → words_left vs i ≡ record { name = v.name; index = Some i; address = v.address + 2 * i } ∷ words_left vs (i + 1)
@@ -97,4 +85,5 @@ cut_in_array vs v n i h e len less =
     let rest : List SharedWord = shared_words (behind_first vs) in
     ap (λ x. words_left x i) split ∙ ap (λ o. words_from v.name v.address o i ++ rest) len
     ∙ ap (λ x. x ++ rest) (array_next v.name v.address i n (omega arith))
-    ∙ ap (λ x. record { name = v.name; index = Some i; address = v.address + 2 * i } ∷ x) (ap (λ o. words_from v.name v.address o (i + 1) ++ rest) (sym len) ∙ ap (λ x. words_left x (i + 1)) (sym split))
+    ∙ ap (λ x. record { name = v.name; index = Some i; address = v.address + 2 * i } ∷ x)
+    (ap (λ o. words_from v.name v.address o (i + 1) ++ rest) (sym len) ∙ ap (λ x. words_left x (i + 1)) (sym split))

@@ -1,9 +1,10 @@
 -- A charge that is spent turn by turn.
-use Rattle.std.proofs.Common.{◌≡◌, ◌≤◌, ◌<◌, ℕ, ◌+◌, List, [], ◌∷◌, ◌++◌, arith, refl, ap, sym, subst, ◌∙◌, Option, Some, None, Result, Ok, Err, IsErr, append_assoc, take}
+use Rattle.std.proofs.Common.{◌≡◌, ◌≤◌, ◌<◌, ℕ, ◌+◌, List, [], ◌∷◌, ◌++◌, arith, refl, ap, sym, subst, ◌∙◌, Option, Some, None, Result, Ok, Err, IsErr}
+use Rattle.std.proofs.Common.{append_assoc, take, append-nil}
 use Rattle.std.specs.Io.KnownBytes.{Appends}
+use Rattle.std.proofs.KnownBytes.{Appends-trans, Appends-nil}
 use Rattle.alp_io.specs.Sink.{AppendsProperPrefix}
 use Rattle.alp_io.specs.declared.sink.Failed.{Failed}
-use Rattle.alp_io.proofs.Appends.{append-nil, appends_none, appends_more}
 use Rattle.msp_step.specs.declared.machine.Stop.{Stop}
 use Rattle.fram_board.specs.Board.{BoardValue}
 use Rattle.fram_board.specs.Run.{Measure, Moment, RunOutcome, run_outcome, after_moments, ChargeRun}
@@ -15,7 +16,8 @@ use Rattle.board_run.specs.Report.{lines_from, after_all, BreaksOff, IsCutInMome
 use Rattle.board_run.specs.Parts.{FewMore, Turned, TurnedPartly, IsTurn, Wrote, ended, SpentCharge, IsSpent}
 
 -- some moments of a charge are behind, and their lines are written
-pub record SpendsOn (h : History) (m : Measure) (amount : ℕ) (b : BoardValue) (old : Option (List ℕ)) (left : ℕ) (now : BoardValue) (new : Option (List ℕ)) (watch : History) : Type 0 where
+pub record SpendsOn (h : History) (m : Measure) (amount : ℕ) (b : BoardValue) (old : Option (List ℕ)) (left : ℕ) (now : BoardValue) (new : Option (List ℕ))
+    (watch : History) : Type 0 where
   pub moments : List Moment
   pub run : (r : RunOutcome) → ChargeRun m left now r → ChargeRun m amount b (after_moments moments r)
   pub wrote : Wrote h moments old new watch
@@ -24,7 +26,8 @@ pub record SpendsOn (h : History) (m : Measure) (amount : ℕ) (b : BoardValue) 
 
 pub lines_append : (h : History) (ms ns : List Moment) → lines_from h (ms ++ ns) ≡ lines_from h ms ++ lines_from (after_all h ms) ns
 lines_append h [] ns = refl
-lines_append h (m ∷ ms) ns = ap (λ r. moment_lines h m ++ r) (lines_append (noted h m) ms ns) ∙ sym (append_assoc (moment_lines h m) (lines_from (noted h m) ms) (lines_from (after_all (noted h m) ms) ns))
+lines_append h (m ∷ ms) ns = ap (λ r. moment_lines h m ++ r) (lines_append (noted h m) ms ns)
+    ∙ sym (append_assoc (moment_lines h m) (lines_from (noted h m) ms) (lines_from (after_all (noted h m) ms) ns))
 
 pub after_append : (h : History) (ms ns : List Moment) → after_all h (ms ++ ns) ≡ after_all (after_all h ms) ns
 after_append h [] ns = refl
@@ -34,22 +37,27 @@ pub spends_first : (h : History) (m : Measure) (amount : ℕ) (b : BoardValue) (
 spends_first h m amount b old = record {
   moments = [];
   run = λ r c. c;
-  wrote = record { written = appends_none old; history = refl };
+  wrote = record { written = Appends-nil old; history = refl };
   accepted = omega arith;
   repeats = omega arith;
 }
 
 -- moments behind moments
-pub wrote_more : (h mid now : History) (ms ns : List Moment) (old between new : Option (List ℕ)) → Wrote h ms old between mid → Wrote mid ns between new now → Wrote h (ms ++ ns) old new now
+pub wrote_more : (h mid now : History) (ms ns : List Moment) (old between new : Option (List ℕ)) → Wrote h ms old between mid → Wrote mid ns between new now
+    → Wrote h (ms ++ ns) old new now
 wrote_more h mid now ms ns old between new p q =
     let P : List ℕ → Type 0 = λ t. Appends old new t in
     record {
-      written = subst P (ap (λ x. lines_from h ms ++ lines_from x ns) p.history ∙ sym (lines_append h ms ns)) (appends_more old between new (lines_from h ms) (lines_from mid ns) p.written q.written);
+      written =
+          subst P (ap (λ x. lines_from h ms ++ lines_from x ns) p.history ∙ sym (lines_append h ms ns))
+          (Appends-trans old between new (lines_from h ms) (lines_from mid ns) p.written q.written);
       history = q.history ∙ ap (λ x. after_all x ns) p.history ∙ sym (after_append h ms ns);
     }
 
-wrote_one : (h now : History) (moment : Moment) (old new : Option (List ℕ)) → Appends old new (moment_lines h moment) → now ≡ noted h moment → Wrote h (moment ∷ []) old new now
-wrote_one h now moment old new a e = let P : List ℕ → Type 0 = λ t. Appends old new t in record { written = subst P (sym (append-nil (moment_lines h moment))) a; history = e }
+wrote_one : (h now : History) (moment : Moment) (old new : Option (List ℕ)) → Appends old new (moment_lines h moment) → now ≡ noted h moment
+    → Wrote h (moment ∷ []) old new now
+wrote_one h now moment old new a e = let P : List ℕ → Type 0 = λ t. Appends old new t in
+    record { written = subst P (sym (append-nil (moment_lines h moment))) a; history = e }
 
 pub wrote_none : (h now : History) (old new : Option (List ℕ)) → Appends old new [] → now ≡ h → Wrote h [] old new now
 wrote_none h now old new a e = record { written = a; history = e }
@@ -57,7 +65,8 @@ wrote_none h now old new a e = record { written = a; history = e }
 pub outcome_append : (ms ns : List Moment) (r : RunOutcome) → after_moments (ms ++ ns) r ≡ after_moments ms (after_moments ns r)
 outcome_append ms ns r = ap (λ x. run_outcome x r.ending r.board) (append_assoc ms ns r.moments)
 
-pub spends_more : (h : History) (m : Measure) (amount : ℕ) (b : BoardValue) (old : Option (List ℕ)) (left rest : ℕ) (now next : BoardValue) (between new : Option (List ℕ)) (mid watch : History)
+pub spends_more : (h : History) (m : Measure) (amount : ℕ) (b : BoardValue) (old : Option (List ℕ)) (left rest : ℕ) (now next : BoardValue)
+    (between new : Option (List ℕ)) (mid watch : History)
     → SpendsOn h m amount b old left now between mid → Turned mid m left now between new rest next watch → SpendsOn h m amount b old rest next new watch
 spends_more h m amount b old left rest now next between new mid watch s t =
     let few = t.first.few in
@@ -68,18 +77,17 @@ spends_more h m amount b old left rest now next between new mid watch s t =
     let less = t.less in
     record {
       moments = s.moments ++ t.moment ∷ [];
-      run = λ r c. let P : RunOutcome → Type 0 = λ x. ChargeRun m amount b x in subst P (sym (outcome_append s.moments (t.moment ∷ []) r)) (s.run _ (t.first.run r c));
+      run = λ r c. let P : RunOutcome → Type 0 = λ x. ChargeRun m amount b x in
+          subst P (sym (outcome_append s.moments (t.moment ∷ []) r)) (s.run _ (t.first.run r c));
       wrote = wrote_more h mid watch s.moments (t.moment ∷ []) old between new s.wrote (wrote_one mid watch t.moment between new t.written t.history);
       accepted = omega arith;
       repeats = omega arith;
     }
 
-pub nil_behind : {A : Type 0} (xs : List A) → xs ++ [] ≡ xs
-nil_behind [] = refl
-nil_behind (x ∷ xs) = ap (λ r. x ∷ r) (nil_behind xs)
-
-ends_so : (h : History) (m : Measure) (amount : ℕ) (b : BoardValue) (old : Option (List ℕ)) (left : ℕ) (now after : BoardValue) (between new : Option (List ℕ)) (mid watch : History) (stop : Option Stop)
-    → SpendsOn h m amount b old left now between mid → ChargeRun m left now (run_outcome [] (ended stop) after) → FewMore now after 0 → Appends between new [] → watch ≡ mid
+ends_so : (h : History) (m : Measure) (amount : ℕ) (b : BoardValue) (old : Option (List ℕ)) (left : ℕ) (now after : BoardValue) (between new : Option (List ℕ))
+    (mid watch : History) (stop : Option Stop)
+    → SpendsOn h m amount b old left now between mid → ChargeRun m left now (run_outcome [] (ended stop) after) → FewMore now after 0 → Appends between new []
+    → watch ≡ mid
     → SpentCharge h m amount b old new stop after watch
 ends_so h m amount b old left now after between new mid watch stop s c few bytes same =
     let P : RunOutcome → Type 0 = λ x. ChargeRun m amount b x in
@@ -90,37 +98,50 @@ ends_so h m amount b old left now after between new mid watch stop s c few bytes
     let fr = few.repeats in
     record {
       moments = s.moments;
-      run = subst P (ap (λ ms. run_outcome ms (ended stop) after) (nil_behind s.moments)) (s.run (run_outcome [] (ended stop) after) c);
-      wrote = subst Q (nil_behind s.moments) (wrote_more h mid watch s.moments [] old between new s.wrote (wrote_none mid watch between new bytes same));
+      run = subst P (ap (λ ms. run_outcome ms (ended stop) after) (append-nil s.moments)) (s.run (run_outcome [] (ended stop) after) c);
+      wrote = subst Q (append-nil s.moments) (wrote_more h mid watch s.moments [] old between new s.wrote (wrote_none mid watch between new bytes same));
       few = record { accepted = omega arith; repeats = omega arith };
     }
 
-pub spends_end : (h : History) (m : Measure) (amount : ℕ) (b : BoardValue) (old : Option (List ℕ)) (left : ℕ) (now after : BoardValue) (between new : Option (List ℕ)) (mid watch : History)
-    → SpendsOn h m amount b old left now between mid → IsTurn mid m left now between new (Ok turn.Spent) after watch → SpentCharge h m amount b old new None after watch
-spends_end h m amount b old left now after between new mid watch s (c, few, bytes, same) = ends_so h m amount b old left now after between new mid watch None s c few bytes same
+pub spends_end : (h : History) (m : Measure) (amount : ℕ) (b : BoardValue) (old : Option (List ℕ)) (left : ℕ) (now after : BoardValue)
+    (between new : Option (List ℕ)) (mid watch : History)
+    → SpendsOn h m amount b old left now between mid → IsTurn mid m left now between new (Ok turn.Spent) after watch
+    → SpentCharge h m amount b old new None after watch
+spends_end h m amount b old left now after between new mid watch s (c, few, bytes, same) =
+    ends_so h m amount b old left now after between new mid watch None s c few bytes same
 
-pub spends_stop : (h : History) (m : Measure) (amount : ℕ) (b : BoardValue) (old : Option (List ℕ)) (left : ℕ) (now after : BoardValue) (between new : Option (List ℕ)) (mid watch : History) (stop : Stop)
-    → SpendsOn h m amount b old left now between mid → IsTurn mid m left now between new (Ok (turn.Stopped stop)) after watch → SpentCharge h m amount b old new (Some stop) after watch
-spends_stop h m amount b old left now after between new mid watch stop s (c, few, bytes, same) = ends_so h m amount b old left now after between new mid watch (Some stop) s c few bytes same
+pub spends_stop : (h : History) (m : Measure) (amount : ℕ) (b : BoardValue) (old : Option (List ℕ)) (left : ℕ) (now after : BoardValue)
+    (between new : Option (List ℕ)) (mid watch : History) (stop : Stop)
+    → SpendsOn h m amount b old left now between mid → IsTurn mid m left now between new (Ok (turn.Stopped stop)) after watch
+    → SpentCharge h m amount b old new (Some stop) after watch
+spends_stop h m amount b old left now after between new mid watch stop s (c, few, bytes, same) =
+    ends_so h m amount b old left now after between new mid watch (Some stop) s c few bytes same
 
 -- a text is written, and then a front of the next
 pub breaks_behind : (old mid new : Option (List ℕ)) (a b next : List ℕ) → Appends old mid a → BreaksOff mid new b next → BreaksOff old new (a ++ b) next
 breaks_behind old mid new a b next p q =
     let P : List ℕ → Type 0 = λ t. Appends old new t in
-    record { count = q.count; proper = q.proper; held = subst P (sym (append_assoc a b (take q.count next))) (appends_more old mid new a (b ++ take q.count next) p q.held) }
+    record {
+      count = q.count;
+      proper = q.proper;
+      held = subst P (sym (append_assoc a b (take q.count next))) (Appends-trans old mid new a (b ++ take q.count next) p q.held);
+    }
 
 pub breaks_first : (old new : Option (List ℕ)) (next : List ℕ) → AppendsProperPrefix old new next → BreaksOff old new [] next
 breaks_first old new next p = record { count = p.count; proper = p.proper; held = p.held }
 
 -- behind moments whose lines are written, those of one more are written in part
-in_lines : (h mid : History) (ms : List Moment) (moment : Moment) (old between new : Option (List ℕ)) → Wrote h ms old between mid → AppendsProperPrefix between new (moment_lines mid moment)
+in_lines : (h mid : History) (ms : List Moment) (moment : Moment) (old between new : Option (List ℕ)) → Wrote h ms old between mid
+    → AppendsProperPrefix between new (moment_lines mid moment)
     → BreaksOff old new (lines_from h ms) (moment_lines (after_all h ms) moment)
 in_lines h mid ms moment old between new w p =
     let P : List ℕ → Type 0 = λ t. BreaksOff old new t (moment_lines (after_all h ms) moment) in
     let Q : History → Type 0 = λ x. AppendsProperPrefix between new (moment_lines x moment) in
-    subst P (nil_behind (lines_from h ms)) (breaks_behind old between new (lines_from h ms) [] (moment_lines (after_all h ms) moment) w.written (breaks_first between new _ (subst Q w.history p)))
+    subst P (append-nil (lines_from h ms)) (breaks_behind old between new (lines_from h ms) [] (moment_lines (after_all h ms) moment) w.written
+    (breaks_first between new _ (subst Q w.history p)))
 
-pub spends_err : (h : History) (m : Measure) (amount : ℕ) (b : BoardValue) (old : Option (List ℕ)) (left : ℕ) (now after : BoardValue) (between new : Option (List ℕ)) (mid : History)
+pub spends_err : (h : History) (m : Measure) (amount : ℕ) (b : BoardValue) (old : Option (List ℕ)) (left : ℕ) (now after : BoardValue)
+    (between new : Option (List ℕ)) (mid : History)
     → SpendsOn h m amount b old left now between mid → TurnedPartly mid m left now between new after
     → (r : RunOutcome) × ChargeRun m amount b r × IsCutInMoment h [] r.moments old new after
 spends_err h m amount b old left now after between new mid s t =
@@ -137,35 +158,43 @@ spends_err h m amount b old left now after between new mid s t =
       },
     )
 
-spent_err : (h watch : History) (m : Measure) (amount : ℕ) (b after : BoardValue) (old new : Option (List ℕ)) (result : Result (Option Stop) Failed) → IsErr result
+spent_err : (h watch : History) (m : Measure) (amount : ℕ) (b after : BoardValue) (old new : Option (List ℕ)) (result : Result (Option Stop) Failed)
+    → IsErr result
     → (r : RunOutcome) × ChargeRun m amount b r × IsCutInMoment h [] r.moments old new after → IsSpent h m amount b old new result after watch
 spent_err h watch m amount b after old new (Ok o) e p = cc
 spent_err h watch m amount b after old new (Err f) e p = p
 
-pub spends_stop_writing : (h watch : History) (m : Measure) (amount : ℕ) (b : BoardValue) (old : Option (List ℕ)) (left : ℕ) (now after : BoardValue) (between new : Option (List ℕ)) (mid : History) (result : Result (Option Stop) Failed) → IsErr result
+pub spends_stop_writing : (h watch : History) (m : Measure) (amount : ℕ) (b : BoardValue) (old : Option (List ℕ)) (left : ℕ) (now after : BoardValue)
+    (between new : Option (List ℕ)) (mid : History) (result : Result (Option Stop) Failed) → IsErr result
     → SpendsOn h m amount b old left now between mid → TurnedPartly mid m left now between new after → IsSpent h m amount b old new result after watch
-spends_stop_writing h watch m amount b old left now after between new mid result e s t = spent_err h watch m amount b after old new result e (spends_err h m amount b old left now after between new mid s t)
+spends_stop_writing h watch m amount b old left now after between new mid result e s t =
+    spent_err h watch m amount b after old new result e (spends_err h m amount b old left now after between new mid s t)
 
 -- what a turn came to, known by its answer
-pub turn_left : (h : History) (m : Measure) (amount : ℕ) (b : BoardValue) (old : Option (List ℕ)) (left rest : ℕ) (now next : BoardValue) (between new : Option (List ℕ)) (mid watch : History) (t : Turn) → t ≡ turn.Left rest
+pub turn_left : (h : History) (m : Measure) (amount : ℕ) (b : BoardValue) (old : Option (List ℕ)) (left rest : ℕ) (now next : BoardValue)
+    (between new : Option (List ℕ)) (mid watch : History) (t : Turn) → t ≡ turn.Left rest
     → SpendsOn h m amount b old left now between mid → IsTurn mid m left now between new (Ok t) next watch → SpendsOn h m amount b old rest next new watch
 turn_left h m amount b old left rest now next between new mid watch t e s is =
     let P : Turn → Type 0 = λ t. IsTurn mid m left now between new (Ok t) next watch in
     spends_more h m amount b old left rest now next between new mid watch s (subst P e is)
 
-pub turn_spent : (h : History) (m : Measure) (amount : ℕ) (b : BoardValue) (old : Option (List ℕ)) (left : ℕ) (now after : BoardValue) (between new : Option (List ℕ)) (mid watch : History) (t : Turn) → t ≡ turn.Spent
+pub turn_spent : (h : History) (m : Measure) (amount : ℕ) (b : BoardValue) (old : Option (List ℕ)) (left : ℕ) (now after : BoardValue)
+    (between new : Option (List ℕ)) (mid watch : History) (t : Turn) → t ≡ turn.Spent
     → SpendsOn h m amount b old left now between mid → IsTurn mid m left now between new (Ok t) after watch → SpentCharge h m amount b old new None after watch
 turn_spent h m amount b old left now after between new mid watch t e s is =
     let P : Turn → Type 0 = λ t. IsTurn mid m left now between new (Ok t) after watch in
     spends_end h m amount b old left now after between new mid watch s (subst P e is)
 
-pub turn_stopped : (h : History) (m : Measure) (amount : ℕ) (b : BoardValue) (old : Option (List ℕ)) (left : ℕ) (now after : BoardValue) (between new : Option (List ℕ)) (mid watch : History) (stop : Stop) (t : Turn) → t ≡ turn.Stopped stop
-    → SpendsOn h m amount b old left now between mid → IsTurn mid m left now between new (Ok t) after watch → SpentCharge h m amount b old new (Some stop) after watch
+pub turn_stopped : (h : History) (m : Measure) (amount : ℕ) (b : BoardValue) (old : Option (List ℕ)) (left : ℕ) (now after : BoardValue)
+    (between new : Option (List ℕ)) (mid watch : History) (stop : Stop) (t : Turn) → t ≡ turn.Stopped stop
+    → SpendsOn h m amount b old left now between mid → IsTurn mid m left now between new (Ok t) after watch
+    → SpentCharge h m amount b old new (Some stop) after watch
 turn_stopped h m amount b old left now after between new mid watch stop t e s is =
     let P : Turn → Type 0 = λ t. IsTurn mid m left now between new (Ok t) after watch in
     spends_stop h m amount b old left now after between new mid watch stop s (subst P e is)
 
-pub turn_less : (h : History) (m : Measure) (left rest : ℕ) (now next : BoardValue) (between new : Option (List ℕ)) (watch : History) (t : Turn) → t ≡ turn.Left rest → IsTurn h m left now between new (Ok t) next watch → rest < left
+pub turn_less : (h : History) (m : Measure) (left rest : ℕ) (now next : BoardValue) (between new : Option (List ℕ)) (watch : History) (t : Turn)
+    → t ≡ turn.Left rest → IsTurn h m left now between new (Ok t) next watch → rest < left
 turn_less h m left rest now next between new watch t e is =
     let P : Turn → Type 0 = λ t. IsTurn h m left now between new (Ok t) next watch in
     (subst P e is).less

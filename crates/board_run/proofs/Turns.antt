@@ -1,26 +1,21 @@
 -- One turn of a charge.
-use Rattle.std.proofs.Common.{◌≡◌, ◌≤◌, ◌<◌, ℕ, ◌+◌, ◌-◌, List, [], arith, refl, ap, sym, subst, ◌∙◌, Bool, true, false, if◌then◌else◌, Option, Some, None, Result, Ok, Err, IsErr}
+use Rattle.std.proofs.Common.{◌≡◌, ◌≤◌, ◌<◌, ℕ, ◌+◌, ◌-◌, List, [], arith, refl, ap, sym, subst, ◌∙◌, Bool, true, false, if◌then◌else◌, Option, Some, None}
+use Rattle.std.proofs.Common.{Result, Ok, Err, IsErr}
 use Rattle.std.specs.Io.KnownBytes.{Appends}
+use Rattle.std.proofs.KnownBytes.{Appends-nil}
 use Rattle.alp_io.specs.Sink.{AppendsProperPrefix}
 use Rattle.alp_io.specs.declared.sink.Failed.{Failed}
-use Rattle.alp_io.proofs.Appends.{appends_none}
 use Rattle.msp_isa.specs.declared.instructions.Instr.{Instr}
-use Rattle.msp_cycles.specs.Cycles.{cycles_of}
 use Rattle.msp_step.specs.declared.machine.Stop.{Stop}
 use Rattle.fram_board.specs.declared.board.Stepped.{Stepped}
 use Rattle.fram_board.specs.declared.receiver.Receiver.{Receiver}
 use Rattle.fram_board.specs.Board.{BoardValue, executed, IsNextInstruction, IsStoppedBy, KeepsAllButTaken, receiver_after, is_accepted}
-use Rattle.fram_board.specs.Run.{Measure, Cycles, Instructions, price, Moment, Execute, word_list, Charges, Stopped, RunOutcome, run_outcome, ChargeRun, Spent, NoInstruction, TooDear, Refused, Executed}
+use Rattle.fram_board.specs.Run.{Measure, price, word_list, Charges, Stopped, RunOutcome, run_outcome, ChargeRun, Spent, NoInstruction, TooDear, Refused}
+use Rattle.fram_board.specs.Run.{Executed, moment_of}
+use Rattle.fram_board.proofs.Runs.{price_low}
 use Rattle.board_run.specs.declared.spend.Turn.{Turn}
 use Rattle.board_run.specs.History.{History, moment_lines, noted, instruction_lines, behind_instruction}
 use Rattle.board_run.specs.Parts.{FewMore, ComesFirst, Turned, TurnedPartly, IsTurn}
-
-cycles_low : (i : Instr) → 1 ≤ cycles_of i
-cycles_low i = grind arith
-
-price_low : (m : Measure) (i : Instr) → 1 ≤ price m i
-price_low Cycles i = cycles_low i
-price_low Instructions i = omega arith
 
 no_more : (b : BoardValue) → FewMore b b 0
 no_more b = record { accepted = omega arith; repeats = omega arith }
@@ -46,17 +41,18 @@ one_more b after number o e =
 -- a charge that can't be begun, or is too dear
 pub spent_now : (m : Measure) (left : ℕ) (b : BoardValue) (h : History) (old : Option (List ℕ)) → left ≡ 0
     → ChargeRun m left b (run_outcome [] Charges b) × FewMore b b 0 × Appends old old [] × (h ≡ h)
-spent_now m left b h old e = (Spent left b e, no_more b, appends_none old, refl)
+spent_now m left b h old e = (Spent left b e, no_more b, Appends-nil old, refl)
 
 pub too_dear : (m : Measure) (left : ℕ) (b : BoardValue) (i : Instr) (h : History) (old : Option (List ℕ)) → 0 < left → IsNextInstruction b i → left < price m i
     → ChargeRun m left b (run_outcome [] Charges b) × FewMore b b 0 × Appends old old [] × (h ≡ h)
-too_dear m left b i h old pos next dear = (TooDear left b i pos next dear, no_more b, appends_none old, refl)
+too_dear m left b i h old pos next dear = (TooDear left b i pos next dear, no_more b, Appends-nil old, refl)
 
 pub stopped_now : (m : Measure) (left : ℕ) (b : BoardValue) (stop : Stop) (h : History) (old : Option (List ℕ)) → 0 < left → IsStoppedBy b stop
     → ChargeRun m left b (run_outcome [] (Stopped stop) b) × FewMore b b 0 × Appends old old [] × (h ≡ h)
-stopped_now m left b stop h old pos is = (NoInstruction left b stop pos is, no_more b, appends_none old, refl)
+stopped_now m left b stop h old pos is = (NoInstruction left b stop pos is, no_more b, Appends-nil old, refl)
 
-pub refused : (m : Measure) (left : ℕ) (b after : BoardValue) (i : Instr) (stop : Stop) (h : History) (old : Option (List ℕ)) → 0 < left → IsNextInstruction b i → price m i ≤ left
+pub refused : (m : Measure) (left : ℕ) (b after : BoardValue) (i : Instr) (stop : Stop) (h : History) (old : Option (List ℕ)) → 0 < left → IsNextInstruction b i
+    → price m i ≤ left
     → (executed b i).answer ≡ Err stop → after ≡ (executed b i).board → KeepsAllButTaken b after
     → ChargeRun m left b (run_outcome [] (Stopped stop) after) × FewMore b after 0 × Appends old old [] × (h ≡ h)
 refused m left b after i stop h old pos next paid answer is kept =
@@ -64,13 +60,10 @@ refused m left b after i stop h old pos next paid answer is kept =
     let same : after.receiver ≡ b.receiver = ap (λ (x : BoardValue). x.receiver) kept.same in
     let accepted : after.receiver.accepted ≡ b.receiver.accepted = ap (λ (r : Receiver). r.accepted) same in
     let repeats : after.receiver.repeats ≡ b.receiver.repeats = ap (λ (r : Receiver). r.repeats) same in
-    (subst P (sym is) (Refused left b i stop pos next paid answer), record { accepted = omega arith; repeats = omega arith }, appends_none old, refl)
+    (subst P (sym is) (Refused left b i stop pos next paid answer), record { accepted = omega arith; repeats = omega arith }, Appends-nil old, refl)
 
--- the moment of an instruction
-abbrev pub moment_of : BoardValue → Instr → Stepped → Moment
-moment_of b i done = record { action = Execute done (executed b i).offered; before = b; after = (executed b i).board }
-
-pub comes_first : (m : Measure) (left rest : ℕ) (b after : BoardValue) (i : Instr) (done : Stepped) → 0 < left → IsNextInstruction b i → price m i ≤ left → rest ≡ left - price m i
+pub comes_first : (m : Measure) (left rest : ℕ) (b after : BoardValue) (i : Instr) (done : Stepped) → 0 < left → IsNextInstruction b i → price m i ≤ left
+    → rest ≡ left - price m i
     → (executed b i).answer ≡ Ok done → after ≡ (executed b i).board → ComesFirst m left b (moment_of b i done) rest after
 comes_first m left rest b after i done pos next paid e answer is =
     let P : RunOutcome → ℕ → BoardValue → Type 0 = λ r n a. ChargeRun m n a r in
@@ -81,16 +74,20 @@ comes_first m left rest b after i done pos next paid e answer is =
     }
 
 -- the lines of the moment are those of the instruction
-lines_of_it : (h : History) (b after : BoardValue) (i : Instr) (done : Stepped) → after ≡ (executed b i).board → instruction_lines h.map h (word_list done.accepted) after ≡ moment_lines h (moment_of b i done)
+lines_of_it : (h : History) (b after : BoardValue) (i : Instr) (done : Stepped) → after ≡ (executed b i).board
+    → instruction_lines h.map h (word_list done.accepted) after ≡ moment_lines h (moment_of b i done)
 unfolding moment_lines
 lines_of_it h b after i done is = ap (λ a. instruction_lines h.map h (word_list done.accepted) a) is
 
-noted_it : (h : History) (b after : BoardValue) (i : Instr) (done : Stepped) → after ≡ (executed b i).board → behind_instruction h.map h (word_list done.accepted) after ≡ noted h (moment_of b i done)
+noted_it : (h : History) (b after : BoardValue) (i : Instr) (done : Stepped) → after ≡ (executed b i).board
+    → behind_instruction h.map h (word_list done.accepted) after ≡ noted h (moment_of b i done)
 unfolding noted
 noted_it h b after i done is = ap (λ a. behind_instruction h.map h (word_list done.accepted) a) is
 
-pub turned : (h now : History) (m : Measure) (left rest : ℕ) (b after : BoardValue) (i : Instr) (done : Stepped) (old new : Option (List ℕ)) → 0 < left → IsNextInstruction b i → price m i ≤ left → rest ≡ left - price m i
-    → (executed b i).answer ≡ Ok done → after ≡ (executed b i).board → Appends old new (instruction_lines h.map h (word_list done.accepted) after) → now ≡ behind_instruction h.map h (word_list done.accepted) after
+pub turned : (h now : History) (m : Measure) (left rest : ℕ) (b after : BoardValue) (i : Instr) (done : Stepped) (old new : Option (List ℕ)) → 0 < left
+    → IsNextInstruction b i → price m i ≤ left → rest ≡ left - price m i
+    → (executed b i).answer ≡ Ok done → after ≡ (executed b i).board → Appends old new (instruction_lines h.map h (word_list done.accepted) after)
+    → now ≡ behind_instruction h.map h (word_list done.accepted) after
     → Turned h m left b old new rest after now
 turned h now m left rest b after i done old new pos next paid e answer is bytes history =
     let low = price_low m i in
@@ -103,13 +100,16 @@ turned h now m left rest b after i done old new pos next paid e answer is bytes 
       history = history ∙ noted_it h b after i done is;
     }
 
-turn_err : (h now : History) (m : Measure) (left : ℕ) (b after : BoardValue) (old new : Option (List ℕ)) (result : Result Turn Failed) → IsErr result → TurnedPartly h m left b old new after
+turn_err : (h now : History) (m : Measure) (left : ℕ) (b after : BoardValue) (old new : Option (List ℕ)) (result : Result Turn Failed) → IsErr result
+    → TurnedPartly h m left b old new after
     → IsTurn h m left b old new result after now
 turn_err h now m left b after old new (Ok t) e p = cc
 turn_err h now m left b after old new (Err f) e p = p
 
-pub turned_partly : (h now : History) (m : Measure) (left : ℕ) (b after : BoardValue) (i : Instr) (done : Stepped) (old new : Option (List ℕ)) (result : Result Turn Failed) → 0 < left → IsNextInstruction b i → price m i ≤ left
-    → (executed b i).answer ≡ Ok done → after ≡ (executed b i).board → AppendsProperPrefix old new (instruction_lines h.map h (word_list done.accepted) after) → IsErr result
+pub turned_partly : (h now : History) (m : Measure) (left : ℕ) (b after : BoardValue) (i : Instr) (done : Stepped) (old new : Option (List ℕ))
+    (result : Result Turn Failed) → 0 < left → IsNextInstruction b i → price m i ≤ left
+    → (executed b i).answer ≡ Ok done → after ≡ (executed b i).board → AppendsProperPrefix old new (instruction_lines h.map h (word_list done.accepted) after)
+    → IsErr result
     → IsTurn h m left b old new result after now
 turned_partly h now m left b after i done old new result pos next paid answer is bytes err =
     let P : List ℕ → Type 0 = λ t. AppendsProperPrefix old new t in

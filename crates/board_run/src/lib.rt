@@ -9,6 +9,3 @@ mod words;
 
 pub use trace_run::{RunEnd, RunFault, run};
 pub use watch::Watch;
-
-#[cfg(test)]
-mod tests;

@@ -11,13 +11,14 @@ use Rattle.machine_effects.specs.Machine.{Code}
 use Rattle.machine_effects.proofs.Worlds.{fram_after-append}
 use Rattle.code_forms.specs.Forms.{Core, Form, Compare, SetStack, Jump, Branch, Constant}
 use Rattle.code_forms.specs.Code.{Stands, IsTidy, forms_run}
+use Rattle.code_forms.proofs.Placed.{stands_at}
 use Rattle.runtime_effects.specs.Places.{RuntimePlaces}
 use Rattle.runtime_effects.specs.Stages.{opening_effects, copied_in, start_effects}
 use Rattle.runtime_effects.specs.Needs.{AreInFram}
 use Rattle.runtime_code.specs.Addresses.{stack_top}
-use Rattle.code_forms.proofs.Blocks.{stands_front, stands_back}
+use Rattle.code_forms.proofs.Blocks.{stands_front, stands_back, end_of}
 use Rattle.runtime_code.specs.Comes.{Comes, IsAt, Enters}
-use Rattle.runtime_code.proofs.Chains.{stands_at, end_of, straight, one_form, comes_on, recounted, then_on, chain}
+use Rattle.runtime_code.proofs.Chains.{straight, one_form, comes_on, recounted, then_on, chain}
 use Rattle.boot_runtime.specs.Listing.{TaskEntry, entry_at, privates_in, head, opening, dispatch, ladder_to, stubs}
 use Rattle.boot_runtime.specs.Laws.{IsEntered, IsBoot, PendingCommitIsFound, AttemptIsFound, StartIsMade}
 use Rattle.boot_runtime.proofs.Opening.{task_stays, opens}

@@ -8,14 +8,14 @@ use Rattle.machine_effects.specs.Going.{Goes}
 use Rattle.machine_effects.specs.Machine.{Code}
 use Rattle.code_forms.specs.Forms.{Core, Move, Branch, BranchRegister, Fram, ToFram, R4, instruction_of}
 use Rattle.code_forms.specs.Code.{Stands, IsTidy, forms_run, forms_bytes}
+use Rattle.code_forms.proofs.Placed.{stands_at, forms_bytes-append}
 use Rattle.runtime_effects.specs.Places.{RuntimePlaces, CopyPair}
 use Rattle.runtime_effects.specs.Stages.{copied_in}
 use Rattle.runtime_effects.specs.Needs.{AreInFram, ArePairWords}
 use Rattle.runtime_code.specs.Addresses.{stack_top}
-use Rattle.code_forms.proofs.Blocks.{stands_front, stands_back}
+use Rattle.code_forms.proofs.Blocks.{stands_front, stands_back, end_of}
 use Rattle.runtime_code.specs.Comes.{Comes, Enters}
-use Rattle.runtime_code.proofs.Chains.{stands_at, end_of, straight, one_form, recounted, then_on}
-use Rattle.runtime_code.proofs.Sizes.{forms_bytes-append}
+use Rattle.runtime_code.proofs.Chains.{straight, one_form, recounted, then_on}
 use Rattle.boot_runtime.specs.Listing.{TaskEntry, entry_at, task_found, dispatch, copies_in, stub, stub_bytes, ladder_to, stubs}
 
 -- where the stub of a task stands

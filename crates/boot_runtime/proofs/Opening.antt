@@ -1,24 +1,22 @@
 -- An attempt's opening: the version words, VER, CLN and EN.
-use Rattle.std.proofs.Common.{◌≡◌, ◌≢◌, ℕ, zero, suc, ◌+◌, ◌-◌, ◌*◌, ◌%◌, ◌<◌, ◌≤◌, ◌⊎◌, inl, inr, List, [], ◌∷◌, ◌++◌, Some, cond, ne_eqb, refl, sym, ap, ◌∙◌, subst, arith}
+use Rattle.std.proofs.Common.{◌≡◌, ◌≢◌, ℕ, zero, suc, ◌+◌, ◌-◌, ◌*◌, ◌%◌, ◌<◌, ◌≤◌, ◌⊎◌, inl, inr, List, [], ◌∷◌, ◌++◌, Some, refl, sym, ap, ◌∙◌, subst, arith}
 use Rattle.msp_isa.specs.declared.instructions.Condition.TheVariants.{Always}
 use Rattle.msp_step.specs.Effect.{sum16, distance}
 use Rattle.fram_board.specs.Effects.{Effect, Store}
 use Rattle.machine_effects.specs.World.{put, fram_after}
 use Rattle.machine_effects.specs.Machine.{Code, IsFram}
-use Rattle.machine_effects.proofs.Worlds.{fram_after-append}
+use Rattle.machine_effects.proofs.Worlds.{fram_after-append, put_other}
 use Rattle.code_forms.specs.Forms.{Core, Jump, instruction_of}
 use Rattle.code_forms.specs.Code.{Stands, IsTidy, forms_run}
+use Rattle.code_forms.proofs.Placed.{stands_at}
 use Rattle.runtime_effects.specs.Places.{RuntimePlaces}
 use Rattle.runtime_effects.specs.Stages.{cleared, opening_effects}
 use Rattle.runtime_effects.specs.Needs.{AreInFram, KeepsTask}
-use Rattle.code_forms.proofs.Blocks.{stands_front, stands_back}
+use Rattle.code_forms.proofs.Blocks.{stands_front, stands_back, end_of}
 use Rattle.runtime_code.specs.Comes.{Comes, IsAt}
-use Rattle.runtime_code.proofs.Chains.{stands_at, end_of, straight, recounted, nothing, then_on, moved_to, chain}
+use Rattle.runtime_code.proofs.Chains.{straight, recounted, nothing, then_on, moved_to, chain}
 use Rattle.runtime_code.proofs.Loops.{tested, goes_in, leaves, jumps_back}
 use Rattle.boot_runtime.specs.Listing.{clearing_begins, clear_turn, clear_loop, counts_set, opening}
-
-elsewhere : (f : ℕ → ℕ) (a w x : ℕ) → a ≢ x → put f a w x ≡ f x
-elsewhere f a w x h = ap (λ b. cond b w (f x)) (ne_eqb x a (λ e. h (sym e)))
 
 -- an address outside others
 out_of : (p n a : ℕ) → (a < p) ⊎ (p + 2 * suc n ≤ a) → p ≢ a
@@ -33,7 +31,7 @@ out_of_rest p n a (inr g) = inr (omega (arith, g))
 cleared_leave : (n p a : ℕ) (f : ℕ → ℕ) → (a < p) ⊎ (p + 2 * n ≤ a) → fram_after (cleared n p) f a ≡ f a
 cleared_leave zero p a f h = refl
 cleared_leave (suc n) p a f h =
-    cleared_leave n (p + 2) a (put f p 0) (out_of_rest p n a h) ∙ elsewhere f p 0 a (out_of p n a h)
+    cleared_leave n (p + 2) a (put f p 0) (out_of_rest p n a h) ∙ (put_other f p 0 a (λ i. (out_of p n a h) (sym i)))
 
 -- the opening leaves CUR
 pub task_stays : (m : RuntimePlaces) (f : ℕ → ℕ) → KeepsTask m → fram_after (opening_effects m f) f m.words.current_task ≡ f m.words.current_task
@@ -45,9 +43,9 @@ task_stays m f keeps =
     let g1 = put g m.words.version 1 in
     let g2 = put g1 m.words.list_length 0 in
     ap (λ h. h a) (fram_after-append es last f)
-    ∙ elsewhere g2 m.words.emit_count 0 a (λ i. keeps.emit_count (sym i))
-    ∙ elsewhere g1 m.words.list_length 0 a (λ i. keeps.list_length (sym i))
-    ∙ elsewhere g m.words.version 1 a (λ i. keeps.version (sym i))
+    ∙ (put_other g2 m.words.emit_count 0 a (λ i. (λ i. keeps.emit_count (sym i)) (sym i)))
+    ∙ (put_other g1 m.words.list_length 0 a (λ i. (λ i. keeps.list_length (sym i)) (sym i)))
+    ∙ (put_other g m.words.version 1 a (λ i. (λ i. keeps.version (sym i)) (sym i)))
     ∙ cleared_leave m.version_count m.versions a f keeps.versions
 
 module _ (code : Code) (tidy : IsTidy code) (m : RuntimePlaces) (places : AreInFram m) where

@@ -1,18 +1,15 @@
 -- Code that is written part by part.
-use Rattle.std.proofs.Common.{◌≡◌, ℕ, ◌+◌, ◌*◌, ◌<◌, length, map, drop, get_or, List, [], ◌∷◌, ◌++◌, refl, sym, ap, ◌∙◌, append_assoc}
+use Rattle.std.proofs.Common.{◌≡◌, ℕ, ◌+◌, ◌*◌, ◌<◌, length, map, drop, get_or, List, [], ◌∷◌, ◌++◌, sym, ap, ◌∙◌, append_assoc}
 use Rattle.std.proofs.lemmas.List.{at_drop_more}
 use Rattle.msp_isa.specs.declared.instructions.Instr.{Instr}
-use Rattle.code_forms.specs.Forms.{Form, Branch, instruction_of}
+use Rattle.code_forms.specs.Forms.{Branch, instruction_of}
 use Rattle.code_forms.specs.Placed.{instructions}
+use Rattle.code_forms.proofs.Placed.{instructions-append}
 use Rattle.privatise.specs.LayoutValue.{TaskLayoutValue}
 use Rattle.runtime_effects.specs.Places.{RuntimePlaces}
 use Rattle.runtime_code.specs.LayoutPlaces.{pairs_of}
 use Rattle.boot_runtime.specs.Entries.{entry_of}
 use Rattle.boot_runtime.specs.Listing.{TaskEntry, copies_in, stub, stubs, ladder_to, fixed_forms, boot_forms}
-
-pub instructions_joined : (a b : List Form) → instructions (a ++ b) ≡ instructions a ++ instructions b
-instructions_joined [] b = refl
-instructions_joined (m ∷ a) b = ap (λ is. instruction_of m ∷ is) (instructions_joined a b)
 
 -- one more stub
 pub stub_written : (is js ks all : List Instr) (t : TaskEntry) (ts : List TaskEntry) → js ≡ is ++ instructions (copies_in t.privates) → ks ≡ js ++ (instruction_of (Branch t.code) ∷ [])
@@ -26,8 +23,8 @@ stub_written is js ks all t ts copied branched rest =
     ∙ ap (λ l. l ++ (b ++ s)) copied
     ∙ append_assoc is c (b ++ s)
     ∙ ap (λ l. is ++ l) (sym (append_assoc c b s))
-    ∙ ap (λ l. is ++ (l ++ s)) (sym (instructions_joined (copies_in t.privates) (Branch t.code ∷ [])))
-    ∙ ap (λ l. is ++ l) (sym (instructions_joined (stub t) (stubs ts)))
+    ∙ ap (λ l. is ++ (l ++ s)) (sym (instructions-append (copies_in t.privates) (Branch t.code ∷ [])))
+    ∙ ap (λ l. is ++ l) (sym (instructions-append (stub t) (stubs ts)))
     ∙ rest
 
 -- what stands before the ladder, the ladder, and the stubs
@@ -43,8 +40,8 @@ boot_written m commit at q tasks us u v w e there fixed ladder rest =
     ∙ ap (λ x. (p ++ instructions (ladder_to x us)) ++ instructions (stubs us)) there
     ∙ ap (λ x. (p ++ instructions (ladder_to (at + 66 + 4 * length x) x)) ++ instructions (stubs x)) e
     ∙ append_assoc p (instructions l) (instructions (stubs tasks))
-    ∙ ap (λ x. p ++ x) (sym (instructions_joined l (stubs tasks)))
-    ∙ sym (instructions_joined (fixed_forms m commit (at + 66)) (l ++ stubs tasks))
+    ∙ ap (λ x. p ++ x) (sym (instructions-append l (stubs tasks)))
+    ∙ sym (instructions-append (fixed_forms m commit (at + 66)) (l ++ stubs tasks))
 
 -- the stub of the next task
 pub next_written : (is js ks all : List Instr) (xs : List TaskLayoutValue) (x : TaskLayoutValue) (i : ℕ) → x ≡ get_or xs i x → i < length xs

@@ -1,23 +1,26 @@
 -- What the names of a source stand for, where no check finds a fault.
-use Rattle.std.proofs.Common.{◌≡◌, ℕ, ◌<◌, ◌≤◌, ◌==◌, ◌&&◌, nat_le, nat_lt, Bool, true, false, cond, List, [], ◌∷◌, length, Option, Some, None, slice_get, refl, arith}
+use Rattle.std.proofs.Common.{◌≡◌, ℕ, ◌<◌, ◌≤◌, ◌==◌, ◌&&◌, nat_le, nat_lt, Bool, true, false, cond, List, [], ◌∷◌, length, Option, Some, None, slice_get, refl}
+use Rattle.std.proofs.Common.{arith}
 use Rattle.std.specs.Option.{option_or}
 use Rattle.std.specs.Str.{bytes_eq}
 use Rattle.std.proofs.lemmas.Bool.Decides.{nat_tests}
 use Rattle.task_ast.specs.declared.Extent.TheVariants as extent
 use Rattle.task_ast.specs.declared.SharedDeclaration.{SharedDeclaration}
+use Rattle.task_check.specs.declared.fault.CheckFault.TheVariants as fault
+use Rattle.task_check.specs.declared.occurrence.Role.TheVariants as role
+use Rattle.task_check.specs.declared.symbol.Symbol.TheVariants as symbol
+use Rattle.task_check.proofs.Ranges.{no_fault, both_none, IfLocal}
 use Rattle.war_analysis.specs.Plans.{IsScalarAt, IsArrayAt}
 use Rattle.task_check.specs.declared.fault.CheckFault.{CheckFault}
-use Rattle.task_check.specs.declared.fault.CheckFault.TheVariants as fault
 use Rattle.task_check.specs.declared.occurrence.Role.{Role}
-use Rattle.task_check.specs.declared.occurrence.Role.TheVariants as role
 use Rattle.task_check.specs.declared.occurrence.Occurrence.{Occurrence}
 use Rattle.task_check.specs.declared.symbol.Symbol.{Symbol}
-use Rattle.task_check.specs.declared.symbol.Symbol.TheVariants as symbol
 use Rattle.task_check.specs.declared.symbol.Global.{Global}
 use Rattle.task_check.specs.declared.symbol.Local.{Local}
-use Rattle.task_check.specs.Scope.{text_of, shared_in, tasks_in, locals_in, locals_after, global_with, local_with, if_named, global_in, local_in, or_global, meaning}
+use Rattle.task_check.specs.Scope.{text_of, shared_in, tasks_in, locals_in, locals_after, global_with, local_with, if_named, global_in, local_in, or_global}
+use Rattle.task_check.specs.Scope.{meaning}
 use Rattle.task_check.specs.LookedUp.{symbol_by, behind, symbol_at}
-use Rattle.task_check.specs.Faults.{fault_if, line_at, first_fault, limit_fault, is_too_many}
+use Rattle.task_check.specs.Faults.{line_at, first_fault, limit_fault, is_too_many}
 use Rattle.checked_uses.proofs.Declared.{DeclaresOf, Declared}
 
 -- a symbol is of a shared variable as it was declared, or of one of 256 locals
@@ -35,16 +38,12 @@ abbrev GlobalSound : List SharedDeclaration → Option Global → Type 0
 GlobalSound shared None = Unit {0}
 GlobalSound shared (Some g) = IsSound shared g.symbol
 
-abbrev LocalSound : Option Local → Type 0
-LocalSound None = Unit {0}
-LocalSound (Some l) = l.number < 256
-
 -- of two there may be
 global_or : (shared : List SharedDeclaration) (a b : Option Global) → GlobalSound shared a → GlobalSound shared b → GlobalSound shared (option_or a b)
 global_or shared None b h k = k
 global_or shared (Some g) b h k = h
 
-local_or : (a b : Option Local) → LocalSound a → LocalSound b → LocalSound (option_or a b)
+local_or : (a b : Option Local) → IfLocal a → IfLocal b → IfLocal (option_or a b)
 local_or None b h k = k
 local_or (Some l) b h k = h
 
@@ -52,7 +51,7 @@ global_if : (shared : List SharedDeclaration) (c : Bool) (g : Option Global) →
 global_if shared true g h = h
 global_if shared false g h = tt
 
-local_if : (c : Bool) (l : Option Local) → LocalSound l → LocalSound (if_named c l)
+local_if : (c : Bool) (l : Option Local) → IfLocal l → IfLocal (if_named c l)
 local_if true l h = h
 local_if false l h = tt
 
@@ -88,26 +87,13 @@ global_sound source name shared (o ∷ front) h =
 abbrev pub Few : List ℕ → List Occurrence → Type 0
 Few source front = first_fault (limit_fault source) front ≡ None
 
--- none of two options is there
-none_first : {A : Type 0} (a b : Option A) → option_or a b ≡ None → a ≡ None
-none_first None b e = refl
-none_first (Some x) b e = absurd (cc)
-
-none_second : {A : Type 0} (a b : Option A) → option_or a b ≡ None → b ≡ None
-none_second None b e = e
-none_second (Some x) b e = absurd (cc)
-
 pub front_clean : (check : Occurrence → List Occurrence → Option CheckFault) (o : Occurrence) (front : List Occurrence) → first_fault check (o ∷ front) ≡ None
     → first_fault check front ≡ None
-front_clean check o front e = none_first (first_fault check front) (check o front) e
+front_clean check o front e = (both_none (first_fault check front) (check o front) e).0
 
 pub here_clean : (check : Occurrence → List Occurrence → Option CheckFault) (o : Occurrence) (front : List Occurrence) → first_fault check (o ∷ front) ≡ None
     → check o front ≡ None
-here_clean check o front e = none_second (first_fault check front) (check o front) e
-
-pub no_fault : (b : Bool) (f : CheckFault) → fault_if b f ≡ None → b ≡ false
-no_fault true f e = absurd (cc)
-no_fault false f e = refl
+here_clean check o front e = (both_none (first_fault check front) (check o front) e).1
 
 not_all : (n : ℕ) → n ≤ 256 → (n == 256) ≡ false → n < 256
 not_all n h e = grind (arith, nat_tests)
@@ -135,7 +121,7 @@ few_locals source (o ∷ front) e =
     one_more o.role (shared_in front) (tasks_in front) (locals_in front) (few_locals source front (front_clean (limit_fault source) o front e))
     (not_too_many source o front e)
 
-local_declared : (r : Role) (shared tasks n : ℕ) → n ≤ 256 → is_too_many r shared tasks n ≡ false → LocalSound (local_with r tasks n)
+local_declared : (r : Role) (shared tasks n : ℕ) → n ≤ 256 → is_too_many r shared tasks n ≡ false → IfLocal (local_with r tasks n)
 local_declared (role.Local of begin end) shared tasks n h e = not_all n h e
 local_declared (role.Shared of x) shared tasks n h e = tt
 local_declared role.Task shared tasks n h e = tt
@@ -145,7 +131,7 @@ local_declared role.Counter shared tasks n h e = tt
 local_declared role.Target shared tasks n h e = tt
 local_declared (role.Count k) shared tasks n h e = tt
 
-local_sound : (source name : List ℕ) (front : List Occurrence) → Few source front → LocalSound (local_in source name front)
+local_sound : (source name : List ℕ) (front : List Occurrence) → Few source front → IfLocal (local_in source name front)
 local_sound source name [] e = tt
 local_sound source name (o ∷ front) e =
     let few = front_clean (limit_fault source) o front e in
@@ -156,7 +142,7 @@ local_sound source name (o ∷ front) e =
 
 -- ---- what a name means
 
-meaning_sound : (shared : List SharedDeclaration) (n : ℕ) (l : Option Local) (g : Option Global) → LocalSound l → GlobalSound shared g
+meaning_sound : (shared : List SharedDeclaration) (n : ℕ) (l : Option Local) (g : Option Global) → IfLocal l → GlobalSound shared g
     → AreSound shared (meaning n l g)
 meaning_sound shared n None None h k = tt
 meaning_sound shared n None (Some g) h k = k

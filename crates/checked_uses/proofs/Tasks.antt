@@ -130,6 +130,7 @@ shared_uses : (ds : List SharedDeclaration) (behind : List Occurrence) → uses_
 shared_uses [] behind = refl
 shared_uses (d ∷ more) behind = front_uses (shared_names more behind) d.name (role.Shared d.word_type d.extent) ∙ shared_uses more behind
 
+-- each name is used as it is declared
 pub names_are_used_as_declared : NamesAreUsedAsDeclared
 unfolding program_names
 names_are_used_as_declared text tree p h =

@@ -1,9 +1,8 @@
 -- The variables that the names of a source stand for, each by the use that is made of its name.
-use Rattle.std.proofs.Common.{◌≡◌, ℕ, Bool, false, List, [], ◌∷◌, ◌++◌, Option, Some, None}
-use Rattle.std.specs.Option.{option_or, is_none}
+use Rattle.std.proofs.Common.{◌≡◌, ℕ, false, List, [], ◌∷◌, ◌++◌, Option, Some, None}
+use Rattle.std.specs.Option.{is_none}
 use Rattle.task_ast.specs.declared.SharedDeclaration.{SharedDeclaration}
 use Rattle.task_ast.specs.declared.names.Variable.{Variable}
-use Rattle.task_check.specs.declared.fault.CheckFault.{CheckFault}
 use Rattle.task_check.specs.declared.fault.CheckFault.TheVariants as fault
 use Rattle.task_check.specs.declared.fault.Kept.TheVariants as kept
 use Rattle.task_check.specs.declared.occurrence.Role.{Role}
@@ -14,10 +13,11 @@ use Rattle.task_check.specs.declared.symbol.Symbol.TheVariants as symbol
 use Rattle.task_check.specs.declared.symbol.TypedVariable.{TypedVariable}
 use Rattle.task_check.specs.Scope.{text_of, tasks_in, locals_in, global_in, local_in, stands_in_front}
 use Rattle.task_check.specs.LookedUp.{symbol_by, variable_by, symbol_at, variables_in}
-use Rattle.task_check.specs.Faults.{fault_if, line_at, first_fault, name_fault_if, is_repeated, is_unknown, name_fault, is_no_word, is_no_array, use_fault_by, use_fault, limit_fault}
+use Rattle.task_check.specs.Faults.{line_at, first_fault, is_repeated, is_unknown, name_fault, is_no_word, is_no_array, use_fault_by, use_fault, limit_fault}
+use Rattle.task_check.proofs.Ranges.{no_fault, no_name_fault}
 use Rattle.checked_uses.specs.Uses.{IsWordName, IsArrayName, IsLocalName}
 use Rattle.checked_uses.proofs.Declared.{Declared}
-use Rattle.checked_uses.proofs.Symbols.{AreSound, Few, front_clean, here_clean, no_fault, symbol_sound}
+use Rattle.checked_uses.proofs.Symbols.{AreSound, Few, front_clean, here_clean, symbol_sound}
 
 -- how a name is used that stands for a variable: as a word, as an array, or it is a local that is declared
 pub data Use : Type 0 where
@@ -85,16 +85,6 @@ counter_used shared (Some (symbol.Array n of)) e f h = absurd (cc)
 counter_used shared (Some (symbol.Local n of)) e f h = (h, tt)
 counter_used shared (Some (symbol.Task n)) e f h = absurd (cc)
 
-second_none : (a b : Option CheckFault) → option_or a b ≡ None → b ≡ None
-second_none None b e = e
-second_none (Some x) b e = absurd (cc)
-
--- what name_fault says of an unknown name
-known : (source : List ℕ) (o : Occurrence) (repeated unknown : Bool) → name_fault_if source o repeated unknown ≡ None → unknown ≡ false
-known source o repeated unknown e =
-    no_fault unknown (fault.UnknownName (line_at source o) o.span)
-    (second_none (fault_if repeated (fault.RepeatedName (line_at source o) o.span)) (fault_if unknown (fault.UnknownName (line_at source o) o.span)) e)
-
 one_used : (source : List ℕ) (shared : List SharedDeclaration) (o : Occurrence) (r : Role) (n : ℕ) (found : Option Symbol)
     → is_unknown r (symbol_by r n found) ≡ false → use_fault_by source o r (symbol_by r n found) ≡ None → AreSound shared (symbol_by r n found)
     → AreUsed shared (use_of r) (variable_by r (symbol_by r n found))
@@ -126,7 +116,7 @@ variables_used source shared all (o ∷ front) d c =
     let s = symbol_at source all o front in
     both_used shared (uses_in front) (use_of o.role) (variables_in source all front) (variable_by o.role s) (variables_used source shared all front d more)
     (one_used source shared o o.role (locals_in front) _
-    (known source o
+    (no_name_fault source o
     (is_repeated o.role (stands_in_front _ (global_in source (text_of source o.span) all)) (tasks_in front) (local_in source (text_of source o.span) front))
     (is_unknown o.role s) (here_clean (name_fault source all) o front c.names))
     (here_clean (use_fault source all) o front c.uses) (symbol_sound source shared all o front d c.limits))

@@ -1,25 +1,60 @@
 -- Straight stretches of code, and stretches one after another.
-use Rattle.std.proofs.Common.{◌≡◌, ℕ, ◌+◌, ◌≤◌, List, [], ◌∷◌, ◌++◌, length, Some, refl, sym, ap, ◌∙◌, subst, arith, suc-add, zero-add}
+use Rattle.std.proofs.Common.{◌≡◌, ℕ, ◌+◌, ◌≤◌, List, [], ◌∷◌, ◌++◌, length, Some, refl, sym, ap, ◌∙◌, subst, arith, suc-add, zero-add, zero, suc, take, drop}
+use Rattle.std.proofs.Common.{slice_get}
+use Rattle.std.proofs.lemmas.Option.{same_Some}
 use Rattle.msp_step.specs.declared.machine.Stop.{Stop}
 use Rattle.msp_step.specs.declared.machine.Stop.TheVariants as stop
 use Rattle.fram_board.specs.Effects.{Effect}
 use Rattle.machine_effects.specs.Going.{Goes, Stops, Status, At, Halted, stretch, after_effects, continued, going, Leads}
 use Rattle.machine_effects.specs.Machine.{MachineStretch, Code, step_with, exec}
 use Rattle.machine_effects.proofs.Going.{stay, one_step, join, join_stall, stall, after_after, after_nothing}
-use Rattle.code_forms.specs.Forms.{WorkRegister, Core, CoreOutcome, CoreStretch, board_of, outcome_of_core, source_read, Target, ToRegister, ToFram, ToRam, ToIndexed, ToPointed, ToOutnum, ToOutdata, target_written, Form, Move, Calculate, Compare, Update, Push, Modify, SetStack, Sense, Jump, Branch, BranchIndexed, BranchRegister, instruction_of, form_bytes, sensed, form_step, FormNeeds}
+use Rattle.code_forms.specs.Forms.{WorkRegister, Core, CoreOutcome, CoreStretch, board_of, outcome_of_core, source_read, Target, ToRegister, ToFram, ToRam}
+use Rattle.code_forms.specs.Forms.{ToIndexed, ToPointed, ToOutnum, ToOutdata, target_written, Form, Move, Calculate, Compare, Update, Push, Modify, SetStack}
+use Rattle.code_forms.specs.Forms.{Sense, Jump, Branch, BranchIndexed, BranchRegister, instruction_of, form_bytes, sensed, form_step, FormNeeds}
 use Rattle.code_forms.specs.Code.{Stands, forms_bytes, IsStraight, AreStraight, forms_run, OfNext, FormsNeed, IsTidy, Runs, Starves}
 use Rattle.code_forms.specs.Laws.{StraightCodeLeads}
 use Rattle.code_forms.proofs.Forms.{form_does}
 
+-- the first part stands where both do
 pub stands_front : (code : Code) (p : ℕ) (a b : List Form) → Stands code p (a ++ b) → Stands code p a
 stands_front code p [] b h = tt
 stands_front code p (i ∷ a) b h = (h.0, stands_front code (p + form_bytes i) a b h.1)
 
+-- the second part stands behind the first
 pub stands_back : (code : Code) (p : ℕ) (a b : List Form) → Stands code p (a ++ b) → Stands code (p + forms_bytes a) b
 stands_back code p [] b h = let e : p ≡ p + 0 = omega arith in subst (λ n. Stands code n b) e h
 stands_back code p (i ∷ a) b h =
     let e : p + form_bytes i + forms_bytes a ≡ p + forms_bytes (i ∷ a) = omega arith in
     subst (λ n. Stands code n b) e (stands_back code (p + form_bytes i) a b h.1)
+
+-- the forms behind the first k of those that stand from an address on
+pub forms_behind : (code : Code) (p k : ℕ) (ms : List Form) → Stands code p ms → Stands code (p + forms_bytes (take k ms)) (drop k ms)
+forms_behind code p zero ms h = let e : p ≡ p + 0 = omega arith in subst (λ n. Stands code n ms) e h
+forms_behind code p (suc k) [] h = tt
+forms_behind code p (suc k) (m ∷ ms) h =
+    let e : p + form_bytes m + forms_bytes (take k ms) ≡ p + (form_bytes m + forms_bytes (take k ms)) = omega arith in
+    subst (λ n. Stands code n (drop k ms)) e (forms_behind code (p + form_bytes m) k ms h.1)
+
+-- the first k of them
+pub first_forms : (code : Code) (p k : ℕ) (ms : List Form) → Stands code p ms → Stands code p (take k ms)
+first_forms code p zero ms h = tt
+first_forms code p (suc k) [] h = tt
+first_forms code p (suc k) (m ∷ ms) h = (h.0, first_forms code (p + form_bytes m) k ms h.1)
+
+-- n of them, behind the first k
+pub forms_at : (code : Code) (p k n : ℕ) (ms : List Form) → Stands code p ms → Stands code (p + forms_bytes (take k ms)) (take n (drop k ms))
+forms_at code p k n ms h = first_forms code (p + forms_bytes (take k ms)) n (drop k ms) (forms_behind code p k ms h)
+
+-- the one behind the first k
+pub form_at : (code : Code) (p k : ℕ) (ms : List Form) (m : Form) → Stands code p ms → slice_get ms k ≡ Some m
+    → code (p + forms_bytes (take k ms)) ≡ Some (instruction_of m)
+form_at code p k [] m h e = absurd (cc)
+form_at code p zero (i ∷ ms) m h e =
+    let o : p ≡ p + 0 = omega arith in
+    subst (λ n. code n ≡ Some (instruction_of m)) o (h.0 ∙ ap (λ i. Some (instruction_of i)) (same_Some i m e))
+form_at code p (suc k) (i ∷ ms) m h e =
+    let o : p + form_bytes i + forms_bytes (take k ms) ≡ p + (form_bytes i + forms_bytes (take k ms)) = omega arith in
+    subst (λ n. code n ≡ Some (instruction_of m)) o (form_at code (p + form_bytes i) k ms m h.1 e)
 
 abbrev IsAt : ℕ → Core → Type 0
 IsAt p t = t.pc ≡ p
@@ -168,3 +203,8 @@ module _ (code : Code) (tidy : IsTidy code) where
 
 pub straight_code_leads : StraightCodeLeads
 straight_code_leads code ms u t es c tidy st h w e = block code tidy ms u t es c st h w e
+
+-- the machine at a status, or else this one
+abbrev pub end_of : Core → Status Core Stop → Core
+end_of u (At t) = t
+end_of u (Halted price x) = u

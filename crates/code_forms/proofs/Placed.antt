@@ -1,5 +1,6 @@
 -- Instructions that stand one after another in FRAM, untouched, are what a machine fetches.
-use Rattle.std.proofs.Common.{◌≡◌, ℕ, suc, ◌+◌, ◌*◌, ◌%◌, ◌<◌, ◌≤◌, ◌==◌, List, [], ◌∷◌, ◌++◌, length, Option, Some, None, refl, sym, ap, ◌∙◌, subst, arith, true, false, if◌then◌else◌, cond, ◌⊎◌, inl, inr, ⊎_elim, eqb-true, ne_eqb, eq-eqb, length-append}
+use Rattle.std.proofs.Common.{◌≡◌, ℕ, suc, ◌+◌, ◌*◌, ◌%◌, ◌<◌, ◌≤◌, ◌==◌, List, [], ◌∷◌, ◌++◌, length, Option, Some, None, refl, sym, ap, ◌∙◌, subst, arith}
+use Rattle.std.proofs.Common.{true, false, if◌then◌else◌, cond, ◌⊎◌, inl, inr, ⊎_elim, eqb-true, ne_eqb, eq-eqb, length-append}
 use Rattle.std.proofs.lemmas.Bool.Decides.{nat_tests}
 use Rattle.msp_isa.specs.declared.instructions.Instr.{Instr}
 use Rattle.msp_isa.specs.Encoding.{encoding, IsInstruction, source_row, destination_row}
@@ -13,12 +14,14 @@ use Rattle.fram_board.specs.Bus.{is_word, is_ram}
 use Rattle.fram_board.specs.Effects.{Effect, Store, Take, Send}
 use Rattle.machine_effects.specs.World.{put, fram_after_one, fram_after, OfStore, EachStore}
 use Rattle.machine_effects.specs.Going.{Goes, Stops, Halted, stretch, after_effects, continued, going}
-use Rattle.machine_effects.specs.Machine.{MachineBoard, MachineOutcome, MachineStretch, machine_bus, machine_opened, machine_fetched, machine_executed, IsMachineStep, NoInstruction, Executes, MachineRun, Stays, Halts, Steps, Code, step_with, exec, word_address}
+use Rattle.machine_effects.specs.Machine.{MachineBoard, MachineOutcome, MachineStretch, machine_bus, machine_opened, machine_fetched, machine_executed}
+use Rattle.machine_effects.specs.Machine.{IsMachineStep, NoInstruction, Executes, MachineRun, Stays, Halts, Steps, Code, step_with, exec, word_address}
 use Rattle.machine_effects.specs.Laws.{ChangesByEffects}
 use Rattle.machine_effects.proofs.Worlds.{each_store-front, each_store-back}
 use Rattle.machine_effects.proofs.Logs.{step_changes}
-use Rattle.code_forms.specs.Forms.{Form, Move, Calculate, Compare, Update, Push, Modify, SetStack, Sense, Jump, Branch, BranchIndexed, BranchRegister, source_operand, target_operand, instruction_of, form_bytes}
-use Rattle.code_forms.specs.Code.{Stands}
+use Rattle.code_forms.specs.Forms.{Form, Move, Calculate, Compare, Update, Push, Modify, SetStack, Sense, Jump, Branch, BranchIndexed, BranchRegister}
+use Rattle.code_forms.specs.Forms.{source_operand, target_operand, instruction_of, form_bytes, Core}
+use Rattle.code_forms.specs.Code.{Stands, forms_bytes}
 use Rattle.code_forms.specs.Placed.{placed, words_of, instructions, Holds, AreInstructions, IsOutside, LeavesCode}
 use Rattle.code_forms.specs.Laws.{FormsStandWherePlaced, PlacedIsTidy, CodeInFramRuns}
 use Rattle.code_forms.proofs.Forms.{from_length, to_length}
@@ -45,20 +48,24 @@ bytes_are (BranchRegister b) = refl
 encoding_some : (i : Instr) → 0 < length (encoding i)
 encoding_some i = grind arith
 
+-- the first part of the words stands where both do
 pub holds_front : (f : ℕ → ℕ) (p : ℕ) (a b : List ℕ) → Holds f p (a ++ b) → Holds f p a
 holds_front f p [] b h = tt
 holds_front f p (w ∷ a) b h = (h.0, holds_front f (p + 2) a b h.1)
 
+-- the second part of the words stands behind the first
 pub holds_back : (f : ℕ → ℕ) (p : ℕ) (a b : List ℕ) → Holds f p (a ++ b) → Holds f (p + 2 * length a) b
 holds_back f p [] b h = let e : p ≡ p + 2 * 0 = omega arith in subst (λ n. Holds f n b) e h
 holds_back f p (w ∷ a) b h =
     let e : p + 2 + 2 * length a ≡ p + 2 * suc (length a) = omega arith in
     subst (λ n. Holds f n b) e (holds_back f (p + 2) a b h.1)
 
-fram_word : (a : ℕ) → a % 2 ≡ 0 → 0x4400 ≤ a → a < 0x10000 → is_word a ≡ true
+-- an even address of FRAM is a word's
+pub fram_word : (a : ℕ) → a % 2 ≡ 0 → 0x4400 ≤ a → a < 0x10000 → is_word a ≡ true
 fram_word a e l h = grind (arith, nat_tests)
 
-fram_no_ram : (a : ℕ) → 0x4400 ≤ a → is_ram a ≡ false
+-- an address of FRAM is none of RAM
+pub fram_no_ram : (a : ℕ) → 0x4400 ≤ a → is_ram a ≡ false
 fram_no_ram a l = grind (arith, nat_tests)
 
 -- words of FRAM are fetched
@@ -200,6 +207,7 @@ module _ (p : ℕ) (is : List Instr) (are : AreInstructions is) (even : p % 2 �
   transfer n s r (Halts k _ es price x st) h l = halts_part k s es price x st h l
   transfer n s r (Steps k _ t es c q st rest) h l = steps_part k s t es c q st h l (λ h' l'. transfer k t q rest h' l')
 
+-- code that stands in FRAM is executed as it stands
 pub code_in_fram_runs : CodeInFramRuns
 code_in_fram_runs p is n s r are even low high run h l = transfer p is are even low high n s r run h l
 
@@ -217,6 +225,7 @@ placed_within (j ∷ is) q e a i h =
           (r0, omega arith, omega (arith, long))
     ]) refl h
 
+-- code that is placed is tidy
 pub placed_is_tidy : PlacedIsTidy
 placed_is_tidy is p e b a i h = let r = placed_within is p e a i h in let r0 = r.0 in let r2 = r.2 in record { even = r0; high = omega arith }
 
@@ -239,3 +248,17 @@ forms_stand (m ∷ ms) p =
       stands_behind ms (p + form_bytes m) (instruction_of m) (instructions ms) p (omega arith)
           (subst (λ q. Stands (placed q (instructions ms)) (p + form_bytes m) ms) (sym e) (forms_stand ms (p + form_bytes m))),
     )
+
+-- the bytes of forms behind forms
+pub forms_bytes-append : (a b : List Form) → forms_bytes (a ++ b) ≡ forms_bytes a + forms_bytes b
+forms_bytes-append [] b = omega arith
+forms_bytes-append (m ∷ a) b = omega (arith, forms_bytes-append a b)
+
+-- the instructions of forms behind forms
+pub instructions-append : (a b : List Form) → instructions (a ++ b) ≡ instructions a ++ instructions b
+instructions-append [] b = refl
+instructions-append (m ∷ a) b = ap (λ l. instruction_of m ∷ l) (instructions-append a b)
+
+-- forms stand where the counter points
+pub stands_at : (code : Code) (p : ℕ) (ms : List Form) (u : Core) → Stands code p ms → u.pc ≡ p → Stands code u.pc ms
+stands_at code p ms u h e = subst (λ n. Stands code n ms) (sym e) h

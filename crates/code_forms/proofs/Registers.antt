@@ -11,8 +11,10 @@ use Rattle.msp_step.specs.Step.{off_bit}
 use Rattle.fram_board.specs.Bus.{is_word}
 use Rattle.machine_effects.specs.World.{put}
 use Rattle.machine_effects.specs.Machine.{MachineBoard, machine_powered}
+use Rattle.machine_effects.proofs.Values.{bit_low}
 use Rattle.code_forms.specs.Laws.{PoweredHasACore}
-use Rattle.code_forms.specs.Forms.{WorkRegister, R4, R5, R6, R7, R8, R9, R10, R11, R12, R13, R14, R15, work_number, index_of, register_file, board_of, clear_flags, core_of}
+use Rattle.code_forms.specs.Forms.{WorkRegister, R4, R5, R6, R7, R8, R9, R10, R11, R12, R13, R14, R15, work_number, index_of, register_file, board_of}
+use Rattle.code_forms.specs.Forms.{clear_flags, core_of}
 
 -- pointwise, and registers above 3 are those for work
 pub set_pc : (p q v n : ℕ) (f : Flags) (w : ℕ → ℕ) → v / 2 * 2 ≡ n → with_register (register_file p q f w) 0 v ≡ register_file n q f w
@@ -48,14 +50,10 @@ bit_test : (b : Bool) (n : ℕ) → n ≡ bit b → (n == 1) ≡ b
 bit_test true n e = rw e refl
 bit_test false n e = rw e refl
 
-bit_below : (b : Bool) → bit b < 2
-bit_below true = omega arith
-bit_below false = omega arith
-
 status_flags : (f g : Flags) → kept 2 (status_with (status_with 0 f) g) ≡ status_with 0 g
 status_flags f g =
-    let a = bit_below f.c in let b = bit_below f.z in let c = bit_below f.n in let d = bit_below f.v in
-    let h = bit_below g.c in let i = bit_below g.z in let j = bit_below g.n in let k = bit_below g.v in
+    let a = bit_low f.c in let b = bit_low f.z in let c = bit_low f.n in let d = bit_low f.v in
+    let h = bit_low g.c in let i = bit_low g.z in let j = bit_low g.n in let k = bit_low g.v in
     omega arith
 
 pub set_flags : (p q : ℕ) (f g : Flags) (w : ℕ → ℕ) → with_register (register_file p q f w) 2 (status_with (status_with 0 f) g) ≡ register_file p q g w
@@ -63,7 +61,7 @@ set_flags p q f g w = fun_ext (λ m. let e = status_flags f g in grind (arith, n
 
 pub flags_back : (f : Flags) → flags_of (status_with 0 f) ≡ f
 flags_back f =
-    let a = bit_below f.c in let b = bit_below f.z in let c = bit_below f.n in let d = bit_below f.v in
+    let a = bit_low f.c in let b = bit_low f.z in let c = bit_low f.n in let d = bit_low f.v in
     let s = status_with 0 f in
     let n = bit_test f.n (s / 4 % 2) (omega arith) in
     let z = bit_test f.z (s / 2 % 2) (omega arith) in
@@ -76,7 +74,7 @@ not_one n e = rw e refl
 
 pub is_on : (p q : ℕ) (f : Flags) (w : ℕ → ℕ) → (off_bit (register_file p q f w) == 1) ≡ false
 is_on p q f w =
-    let a = bit_below f.c in let b = bit_below f.z in let c = bit_below f.n in let d = bit_below f.v in
+    let a = bit_low f.c in let b = bit_low f.z in let c = bit_low f.n in let d = bit_low f.v in
     not_one (off_bit (register_file p q f w)) (omega arith)
 
 -- a word's address is no port
@@ -94,5 +92,6 @@ at_register r (suc (suc (suc (suc n)))) sr r3 = sym (get_work (r 0) (r 1) (suc (
 pub told_apart : (s : MachineBoard) → s.registers 2 ≡ 0 → s.registers 3 ≡ 0 → s ≡ board_of (core_of s)
 told_apart s sr r3 = let e = fun_ext (λ n. at_register s.registers n sr r3) in ap (λ r. record s { registers = r }) e
 
+-- a machine that was powered up has its registers told apart
 pub powered_has_a_core : PoweredHasACore
 powered_has_a_core s p = told_apart (machine_powered s p) refl refl

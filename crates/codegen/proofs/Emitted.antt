@@ -1,5 +1,6 @@
 -- Code that is appended piece by piece.
-use Rattle.std.proofs.Common.{◌≡◌, ℕ, suc, ◌+◌, ◌-◌, ◌*◌, ◌<◌, ◌≤◌, List, [], ◌∷◌, ◌++◌, length, drop, get_or, refl, sym, ap, ◌∙◌, arith, append_assoc, drop-cons, add-one, rules}
+use Rattle.std.proofs.Common.{◌≡◌, ℕ, suc, ◌+◌, ◌-◌, ◌*◌, ◌<◌, ◌≤◌, List, [], ◌∷◌, ◌++◌, length, drop, get_or, sym, ap, ◌∙◌, arith, append_assoc, drop-cons}
+use Rattle.std.proofs.Common.{add-one, rules}
 use Rattle.alp_words.specs.declared.Width.TheVariants.{Word}
 use Rattle.msp_isa.specs.declared.instructions.Instr.{Instr}
 use Rattle.msp_isa.specs.declared.instructions.Instr.TheVariants.{Two}
@@ -10,35 +11,36 @@ use Rattle.code_forms.specs.Forms.{R4, Form, Branch, instruction_of}
 use Rattle.code_forms.specs.Placed.{instructions}
 use Rattle.std.specs.declared.alloc.Global.{Global}
 use Rattle.std.specs.declared.vec.Vec.{Vec}
+use Rattle.code_forms.proofs.Placed.{instructions-append}
 use Rattle.array_versions.specs.declared.program.WordStep.{WordStep, the_lemmas}
 use Rattle.array_versions.specs.declared.program.WordStep.TheVariants.{Choose}
-use Rattle.array_versions.specs.Program.{Step, Program, number, load, keep, local, set_local, unary, binary, shift, element, emit_word, list_entry, versioned_read, versioned_write, sense, choose, repeat, store_number, move_word, jump, nothing, step}
+use Rattle.array_versions.specs.Program.{Step, Program, number, load, keep, local, set_local, unary, binary, shift, element, emit_word, list_entry}
+use Rattle.array_versions.specs.Program.{versioned_read, versioned_write, sense, choose, repeat, store_number, move_word, jump, nothing, step}
 use Rattle.array_versions.specs.View.{step_of, steps_of}
 use Rattle.array_versions.specs.Form.{StepLocalsBelow, LocalsBelow}
 use Rattle.array_versions.specs.Cost.{step_words, words_of}
 use Rattle.codegen.specs.Code.{pop_to, push_from, repeated, shift_code, choice_head, loop_head, loop_step, step_code, code_of}
 
-pub instructions-append : (a b : List Form) → instructions (a ++ b) ≡ instructions a ++ instructions b
-instructions-append [] b = refl
-instructions-append (m ∷ a) b = ap (λ l. instruction_of m ∷ l) (instructions-append a b)
-
 pub step_of-choose : (a b : Vec WordStep Global) → step_of (Choose a b) ≡ choose (steps_of a.items) (steps_of b.items)
 step_of-choose a b = search (rules, the_lemmas)
 
 -- the front of the list that is left
-pub left_front : (xs : List WordStep) (i : ℕ) (x : WordStep) → i < length xs → x ≡ get_or xs i x → steps_of (drop i xs) ≡ step (step_of x) (steps_of (drop (i + 1) xs))
+pub left_front : (xs : List WordStep) (i : ℕ) (x : WordStep) → i < length xs → x ≡ get_or xs i x
+    → steps_of (drop i xs) ≡ step (step_of x) (steps_of (drop (i + 1) xs))
 left_front xs i x l e =
     ap steps_of (drop-cons xs i x l) ∙ ap (λ y. steps_of (y ∷ drop (suc i) xs)) (sym e) ∙ ap (λ j. steps_of (x ∷ drop j xs)) (sym (add-one i))
 
 -- one more step of what is owed
-pub step_owed : (s : Step) (more : Program) (at : ℕ) (code new all : List Instr) → new ≡ code ++ instructions (step_code at s) → code ++ instructions (code_of at (step s more)) ≡ all → new ++ instructions (code_of (at + 2 * step_words s) more) ≡ all
+pub step_owed : (s : Step) (more : Program) (at : ℕ) (code new all : List Instr) → new ≡ code ++ instructions (step_code at s)
+    → code ++ instructions (code_of at (step s more)) ≡ all → new ++ instructions (code_of (at + 2 * step_words s) more) ≡ all
 step_owed s more at code new all e h =
     let rest = code_of (at + 2 * step_words s) more in
     ap (λ l. l ++ instructions rest) e ∙ append_assoc code (instructions (step_code at s)) (instructions rest)
     ∙ ap (λ l. code ++ l) (sym (instructions-append (step_code at s) rest)) ∙ h
 
 -- one more form of what is owed
-pub form_owed : (m : Form) (i : Instr) (n k : ℕ) (code new all : List Instr) → i ≡ instruction_of m → k < n → new ≡ code ++ i ∷ [] → code ++ instructions (repeated (n - k) m) ≡ all → new ++ instructions (repeated (n - (k + 1)) m) ≡ all
+pub form_owed : (m : Form) (i : Instr) (n k : ℕ) (code new all : List Instr) → i ≡ instruction_of m → k < n → new ≡ code ++ i ∷ []
+    → code ++ instructions (repeated (n - k) m) ≡ all → new ++ instructions (repeated (n - (k + 1)) m) ≡ all
 form_owed m i n k code new all e l f h =
     let j = n - (k + 1) in
     let s : n - k ≡ suc j = omega arith in
@@ -53,15 +55,11 @@ cons i j l m e f = ap (λ x. x ∷ l) e ∙ ap (λ x. j ∷ x) f
 pub from_source : (i : Instr) (o : TwoOp) (s t : Src) (d : Dst) → i ≡ Two o Word s d → s ≡ t → i ≡ Two o Word t d
 from_source i o s t d e f = e ∙ ap (λ x. Two o Word x d) f
 
--- four pieces one after another
-pub four_pieces : (code a b c d c1 c2 c3 c4 : List Instr) → c1 ≡ code ++ a → c2 ≡ c1 ++ b → c3 ≡ c2 ++ c → c4 ≡ c3 ++ d → c4 ≡ code ++ (a ++ (b ++ (c ++ d)))
-four_pieces code a b c d c1 c2 c3 c4 e f g h =
-    h ∙ ap (λ x. x ++ d) (g ∙ ap (λ x. x ++ c) (f ∙ ap (λ x. x ++ b) e))
-    ∙ append_assoc ((code ++ a) ++ b) c d ∙ append_assoc (code ++ a) b (c ++ d) ∙ append_assoc code a (b ++ (c ++ d))
-
 -- a choice from its pieces
-pub choice_emitted : (at middle end : ℕ) (p q : Program) (first second code new : List Instr) → first ≡ instructions (code_of (at + 10) p) → second ≡ instructions (code_of (middle + 4) q) → middle ≡ at + 10 + 2 * words_of p → end ≡ middle + 4 + 2 * words_of q
-    → new ≡ code ++ (instructions (choice_head (middle + 4)) ++ (first ++ instruction_of (Branch end) ∷ second)) → new ≡ code ++ instructions (step_code at (choose p q))
+pub choice_emitted : (at middle end : ℕ) (p q : Program) (first second code new : List Instr) → first ≡ instructions (code_of (at + 10) p)
+    → second ≡ instructions (code_of (middle + 4) q) → middle ≡ at + 10 + 2 * words_of p → end ≡ middle + 4 + 2 * words_of q
+    → new ≡ code ++ (instructions (choice_head (middle + 4)) ++ (first ++ instruction_of (Branch end) ∷ second))
+    → new ≡ code ++ instructions (step_code at (choose p q))
 choice_emitted at middle end p q first second code new f s m n h =
     let other = at + 14 + 2 * words_of p in
     let k : middle + 4 ≡ other = omega (arith, m) in
@@ -69,22 +67,27 @@ choice_emitted at middle end p q first second code new f s m n h =
     let A = code_of (at + 10) p in
     let shape : ℕ → ℕ → List Instr = λ u v. instructions (choice_head u) ++ (instructions A ++ instruction_of (Branch v) ∷ instructions (code_of u q)) in
     let i1 = instructions (choice_head (middle + 4)) in
-    h ∙ ap (λ x. code ++ (i1 ++ (x ++ instruction_of (Branch end) ∷ second))) f ∙ ap (λ x. code ++ (i1 ++ (instructions A ++ instruction_of (Branch end) ∷ x))) s
+    h ∙ ap (λ x. code ++ (i1 ++ (x ++ instruction_of (Branch end) ∷ second))) f
+    ∙ ap (λ x. code ++ (i1 ++ (instructions A ++ instruction_of (Branch end) ∷ x))) s
     ∙ ap (λ u. code ++ shape u end) k ∙ ap (λ v. code ++ shape other v) l
     ∙ ap (λ r. code ++ (instructions (choice_head other) ++ r)) (sym (instructions-append A (Branch (other + 2 * words_of q) ∷ code_of other q)))
     ∙ ap (λ r. code ++ r) (sym (instructions-append (choice_head other) (A ++ Branch (other + 2 * words_of q) ∷ code_of other q)))
 
 -- a shift from its three pieces
-pub shift_emitted : (ms : List Form) (code c1 c2 c3 : List Instr) → c1 ≡ code ++ instruction_of (pop_to R4) ∷ [] → c2 ≡ c1 ++ instructions ms → c3 ≡ c2 ++ instruction_of (push_from R4) ∷ [] → c3 ≡ code ++ instructions (shift_code ms)
+pub shift_emitted : (ms : List Form) (code c1 c2 c3 : List Instr) → c1 ≡ code ++ instruction_of (pop_to R4) ∷ [] → c2 ≡ c1 ++ instructions ms
+    → c3 ≡ c2 ++ instruction_of (push_from R4) ∷ [] → c3 ≡ code ++ instructions (shift_code ms)
 shift_emitted ms code c1 c2 c3 a b c =
     let first = instruction_of (pop_to R4) ∷ [] in
     let last = instruction_of (push_from R4) ∷ [] in
-    c ∙ ap (λ x. x ++ last) (b ∙ ap (λ x. x ++ instructions ms) a) ∙ append_assoc (code ++ first) (instructions ms) last ∙ append_assoc code first (instructions ms ++ last)
+    c ∙ ap (λ x. x ++ last) (b ∙ ap (λ x. x ++ instructions ms) a) ∙ append_assoc (code ++ first) (instructions ms) last
+    ∙ append_assoc code first (instructions ms ++ last)
     ∙ ap (λ x. code ++ (first ++ x)) (sym (instructions-append ms (push_from R4 ∷ [])))
 
 -- a loop from its three pieces
-pub loop_emitted : (at tail n from below : ℕ) (p : Program) (turn code c1 c2 c3 : List Instr) → turn ≡ instructions (code_of (at + 20) p) → tail ≡ at + 20 + 2 * words_of p
-    → c1 ≡ code ++ instructions (loop_head n from below (tail + 14)) → c2 ≡ c1 ++ turn → c3 ≡ c2 ++ instructions (loop_step n (at + 6)) → c3 ≡ code ++ instructions (step_code at (repeat n from below p))
+pub loop_emitted : (at tail n from below : ℕ) (p : Program) (turn code c1 c2 c3 : List Instr) → turn ≡ instructions (code_of (at + 20) p)
+    → tail ≡ at + 20 + 2 * words_of p
+    → c1 ≡ code ++ instructions (loop_head n from below (tail + 14)) → c2 ≡ c1 ++ turn → c3 ≡ c2 ++ instructions (loop_step n (at + 6))
+    → c3 ≡ code ++ instructions (step_code at (repeat n from below p))
 loop_emitted at tail n from below p turn code c1 c2 c3 f m a b c =
     let end = at + 34 + 2 * words_of p in
     let k : tail + 14 ≡ end = omega (arith, m) in

@@ -123,6 +123,7 @@ mutual
   step_are at (move_word from to) = (tt, tt)
   step_are at (jump to) = (tt, tt)
 
+  -- the code's forms are instructions
   pub code_are : (at : ℕ) (p : Program) → Are (code_of at p)
   code_are at nothing = tt
   code_are at (step first more) =

@@ -2,7 +2,7 @@ mod Stretches
 mod Memory
 mod Follows
 mod Parts
-mod Registers
+pub mod Registers
 mod Choices
 mod Loops
 mod Values

@@ -1,17 +1,14 @@
 -- The stack and the locals in RAM.
-use Rattle.std.proofs.Common.{◌≡◌, ℕ, ◌+◌, ◌-◌, ◌*◌, ◌<◌, ◌≤◌, List, [], ◌∷◌, length, Option, Some, refl, sym, ap, ◌∙◌, subst, arith, Bool, true, false, nat_eq, ne_eqb, eq-eqb, if◌then◌else◌}
+use Rattle.std.proofs.Common.{◌≡◌, ℕ, ◌+◌, ◌-◌, ◌*◌, ◌<◌, ◌≤◌, List, [], ◌∷◌, length, Option, Some, refl, sym, ap, ◌∙◌, subst, arith, Bool, true, false, nat_eq}
+use Rattle.std.proofs.Common.{eq-eqb, if◌then◌else◌}
 use Rattle.std.proofs.lemmas.Bool.Decides.{nat_tests}
+use Rattle.std.proofs.lemmas.Option.{same_Some}
 use Rattle.machine_effects.specs.World.{put}
 use Rattle.machine_effects.specs.Machine.{IsFram, IsRam}
+use Rattle.machine_effects.proofs.Worlds.{put_same, put_other}
 use Rattle.code_forms.specs.Forms.{HasPushRoom}
 use Rattle.array_versions.specs.Behaviour.{is_place, assigned}
 use Rattle.codegen.specs.Code.{local_address}
-
-pub put_same : (f : ℕ → ℕ) (a w : ℕ) → put f a w a ≡ w
-put_same f a w = ap (λ b. if b then w else f a) (eq-eqb a a refl)
-
-pub put_other : (f : ℕ → ℕ) (a w x : ℕ) → (x ≡ a → ⊥) → put f a w x ≡ f x
-put_other f a w x ne = ap (λ b. if b then w else f x) (ne_eqb x a ne)
 
 -- the stack in RAM, its top first
 abbrev pub StackIs : (ℕ → ℕ) → ℕ → List ℕ → Type 0
@@ -25,9 +22,6 @@ stack_put ram a w sp (v ∷ vs) l h = (put_other ram a w sp (λ e. omega arith) 
 pub place_is : (a : ℕ) → is_place a ≡ true → IsFram a
 place_is a h = record { even = grind (arith, nat_tests); low = grind (arith, nat_tests); high = grind (arith, nat_tests) }
 
-pub some_is : (v w : ℕ) → Some v ≡ Some w → v ≡ w
-some_is v w q = cc
-
 pub assigned_same : (f : ℕ → Option ℕ) (n v : ℕ) → assigned f n v n ≡ Some v
 assigned_same f n v = ap (λ b. if b then Some v else f n) (eq-eqb n n refl)
 
@@ -39,7 +33,8 @@ pub record Memory (locals room sp : ℕ) (ram : ℕ → ℕ) (vs : List ℕ) (ls
   pub vars : (n v : ℕ) → n < locals → ls n ≡ Some v → ram (local_address n) ≡ v
 
 module _ (locals room : ℕ) (roomy : 0x1C20 + 2 * (locals + room) ≤ 0x2400) where
-  pub pop_memory : (sp : ℕ) (ram : ℕ → ℕ) (v : ℕ) (vs : List ℕ) (ls : ℕ → Option ℕ) → Memory locals room sp ram (v ∷ vs) ls → Memory locals room (sp + 2) ram vs ls
+  pub pop_memory : (sp : ℕ) (ram : ℕ → ℕ) (v : ℕ) (vs : List ℕ) (ls : ℕ → Option ℕ) → Memory locals room sp ram (v ∷ vs) ls
+      → Memory locals room (sp + 2) ram vs ls
   pop_memory sp ram v vs ls m = record { depth = omega (arith, m.depth); fits = omega (arith, m.fits); stack = m.stack.1; vars = m.vars }
 
   pub pop_needs : (sp : ℕ) (ram : ℕ → ℕ) (v : ℕ) (vs : List ℕ) (ls : ℕ → Option ℕ) → Memory locals room sp ram (v ∷ vs) ls → IsRam sp
@@ -51,7 +46,8 @@ module _ (locals room : ℕ) (roomy : 0x1C20 + 2 * (locals + room) ≤ 0x2400) w
   pub local_needs : (n : ℕ) → n < locals → IsRam (local_address n)
   local_needs n l = record { even = omega arith; low = omega arith; high = omega arith }
 
-  pub push_memory : (sp : ℕ) (ram : ℕ → ℕ) (v : ℕ) (vs : List ℕ) (ls : ℕ → Option ℕ) → Memory locals room sp ram vs ls → length vs < room → Memory locals room (sp - 2) (put ram (sp - 2) v) (v ∷ vs) ls
+  pub push_memory : (sp : ℕ) (ram : ℕ → ℕ) (v : ℕ) (vs : List ℕ) (ls : ℕ → Option ℕ) → Memory locals room sp ram vs ls → length vs < room
+      → Memory locals room (sp - 2) (put ram (sp - 2) v) (v ∷ vs) ls
   push_memory sp ram v vs ls m l =
       let d = m.depth in
       let up : sp - 2 + 2 ≡ sp = omega arith in
@@ -62,7 +58,8 @@ module _ (locals room : ℕ) (roomy : 0x1C20 + 2 * (locals + room) ≤ 0x2400) w
         vars = λ n w h q. put_other ram (sp - 2) v (local_address n) (λ e. omega arith) ∙ m.vars n w h q;
       }
 
-  pub set_memory : (sp : ℕ) (ram : ℕ → ℕ) (n v : ℕ) (vs : List ℕ) (ls : ℕ → Option ℕ) → Memory locals room sp ram vs ls → n < locals → Memory locals room sp (put ram (local_address n) v) vs (assigned ls n v)
+  pub set_memory : (sp : ℕ) (ram : ℕ → ℕ) (n v : ℕ) (vs : List ℕ) (ls : ℕ → Option ℕ) → Memory locals room sp ram vs ls → n < locals
+      → Memory locals room sp (put ram (local_address n) v) vs (assigned ls n v)
   set_memory sp ram n v vs ls m lt =
       let d = m.depth in let f = m.fits in
       record {
@@ -76,7 +73,7 @@ module _ (locals room : ℕ) (roomy : 0x1C20 + 2 * (locals + room) ≤ 0x2400) w
       same_test k = grind (arith, nat_tests)
 
       by_test : (b : Bool) (k w : ℕ) → k < locals → (if b then Some v else ls k) ≡ Some w → (if b then v else ram (local_address k)) ≡ w
-      by_test true k w h q = some_is v w q
+      by_test true k w h q = same_Some v w q
       by_test false k w h q = m.vars k w h q
 
       put_vars : (k w : ℕ) → k < locals → assigned ls n v k ≡ Some w → put ram (local_address n) v (local_address k) ≡ w

@@ -7,55 +7,81 @@ use Rattle.machine_effects.specs.Machine.{IsFram}
 use Rattle.code_forms.specs.Forms as forms
 use Rattle.code_forms.specs.Forms.{R4, Core, Register, Number, Fram, Ram, Popped, ToFram, ToRam, Form, Move, Push, Branch, sensed, FormNeeds}
 use Rattle.code_forms.specs.Code.{Stands, forms_run, FormsNeed}
-use Rattle.array_versions.specs.Behaviour.{WordState, behaves, goes_on, Jumps, broken, with_top, with_stack, pushed, stored, assigned, with_local, is_place, word_stored, reading_pushed, jumped}
+use Rattle.code_forms.proofs.Placed.{stands_at}
+use Rattle.code_forms.proofs.Blocks.{end_of}
+use Rattle.array_versions.specs.Behaviour.{WordState, behaves, goes_on, Jumps, broken, with_top, with_stack, pushed, stored, assigned, with_local, is_place}
+use Rattle.array_versions.specs.Behaviour.{word_stored, reading_pushed, jumped}
 use Rattle.codegen.specs.Laws.{HasJumped}
 use Rattle.codegen.specs.Code.{local_address, push_from}
-use Rattle.codegen.proofs.Stretches.{Setting, stands_at, end_of, straight, hop, starved, dearer_stall}
+use Rattle.codegen.proofs.Stretches.{Setting, straight, hop, starved, dearer_stall}
 use Rattle.codegen.proofs.Memory.{Memory, pop_memory, pop_needs, push_needs, local_needs, push_memory, set_memory, place_is}
 use Rattle.codegen.proofs.Follows.{StandsFor, Follows, guarded, memory_as}
 
 module _ (z : Setting) where
-  pub number_part : (n pc : ℕ) (w : WordState) (u : Core) → length w.stack < z.room → Stands z.code pc (Push (Number n) ∷ []) → StandsFor z pc w u → Follows z (pc + 4) 4 u (goes_on [] (pushed n w))
+  pub number_part : (n pc : ℕ) (w : WordState) (u : Core) → length w.stack < z.room → Stands z.code pc (Push (Number n) ∷ []) → StandsFor z pc w u
+      → Follows z (pc + 4) 4 u (goes_on [] (pushed n w))
   number_part n pc w u s h i =
       let ms = Push (Number n) ∷ [] in
-      straight z ms 4 u (end_of u (forms_run ms u).status) [] 4 _ (tt, tt) (stands_at z.code pc ms u h i.at) ((tt, push_needs z.locals z.room z.roomy u.sp u.ram w.stack w.locals i.memory s), tt) refl (omega arith)
-      (record { at = omega (arith, i.at); memory = push_memory z.locals z.room z.roomy u.sp u.ram n w.stack w.locals i.memory s; fram = i.fram; readings = i.readings })
-
-  pub load_part : (a pc : ℕ) (w : WordState) (u : Core) → length w.stack < z.room → IsFram a → Stands z.code pc (Push (Fram a) ∷ []) → StandsFor z pc w u → Follows z (pc + 4) 5 u (goes_on [] (pushed (w.fram a) w))
-  load_part a pc w u s f h i =
-      let ms = Push (Fram a) ∷ [] in
-      straight z ms 5 u (end_of u (forms_run ms u).status) [] 5 _ (tt, tt) (stands_at z.code pc ms u h i.at) ((f, push_needs z.locals z.room z.roomy u.sp u.ram w.stack w.locals i.memory s), tt) refl (omega arith)
+      straight z ms 4 u (end_of u (forms_run ms u).status) [] 4 _ (tt, tt) (stands_at z.code pc ms u h i.at)
+      ((tt, push_needs z.locals z.room z.roomy u.sp u.ram w.stack w.locals i.memory s), tt) refl (omega arith)
       (record {
         at = omega (arith, i.at);
-        memory = subst (λ g. Memory z.locals z.room (u.sp - 2) (put u.ram (u.sp - 2) (g a)) (w.fram a ∷ w.stack) w.locals) (sym i.fram) (push_memory z.locals z.room z.roomy u.sp u.ram (w.fram a) w.stack w.locals i.memory s);
+        memory = push_memory z.locals z.room z.roomy u.sp u.ram n w.stack w.locals i.memory s;
         fram = i.fram;
         readings = i.readings;
       })
 
-  pub local_part : (n v pc : ℕ) (w : WordState) (u : Core) → length w.stack < z.room → n < z.locals → w.locals n ≡ Some v → Stands z.code pc (Push (Ram (local_address n)) ∷ []) → StandsFor z pc w u → Follows z (pc + 4) 5 u (goes_on [] (pushed v w))
+  pub load_part : (a pc : ℕ) (w : WordState) (u : Core) → length w.stack < z.room → IsFram a → Stands z.code pc (Push (Fram a) ∷ []) → StandsFor z pc w u
+      → Follows z (pc + 4) 5 u (goes_on [] (pushed (w.fram a) w))
+  load_part a pc w u s f h i =
+      let ms = Push (Fram a) ∷ [] in
+      straight z ms 5 u (end_of u (forms_run ms u).status) [] 5 _ (tt, tt) (stands_at z.code pc ms u h i.at)
+      ((f, push_needs z.locals z.room z.roomy u.sp u.ram w.stack w.locals i.memory s), tt) refl (omega arith)
+      (record {
+        at = omega (arith, i.at);
+        memory =
+            subst (λ g. Memory z.locals z.room (u.sp - 2) (put u.ram (u.sp - 2) (g a)) (w.fram a ∷ w.stack) w.locals) (sym i.fram)
+            (push_memory z.locals z.room z.roomy u.sp u.ram (w.fram a) w.stack w.locals i.memory s);
+        fram = i.fram;
+        readings = i.readings;
+      })
+
+  pub local_part : (n v pc : ℕ) (w : WordState) (u : Core) → length w.stack < z.room → n < z.locals → w.locals n ≡ Some v
+      → Stands z.code pc (Push (Ram (local_address n)) ∷ []) → StandsFor z pc w u → Follows z (pc + 4) 5 u (goes_on [] (pushed v w))
   local_part n v pc w u s f q h i =
       let ms = Push (Ram (local_address n)) ∷ [] in
       straight z ms 5 u (end_of u (forms_run ms u).status) [] 5 _ (tt, tt) (stands_at z.code pc ms u h i.at)
       ((local_needs z.locals z.room z.roomy n f, push_needs z.locals z.room z.roomy u.sp u.ram w.stack w.locals i.memory s), tt) refl (omega arith)
       (record {
         at = omega (arith, i.at);
-        memory = subst (λ g. Memory z.locals z.room (u.sp - 2) (put u.ram (u.sp - 2) g) (v ∷ w.stack) w.locals) (sym (i.memory.vars n v f q)) (push_memory z.locals z.room z.roomy u.sp u.ram v w.stack w.locals i.memory s);
+        memory =
+            subst (λ g. Memory z.locals z.room (u.sp - 2) (put u.ram (u.sp - 2) g) (v ∷ w.stack) w.locals) (sym (i.memory.vars n v f q))
+            (push_memory z.locals z.room z.roomy u.sp u.ram v w.stack w.locals i.memory s);
         fram = i.fram;
         readings = i.readings;
       })
 
-  pub keep_part : (a pc : ℕ) (w : WordState) (u : Core) (vs : List ℕ) → w.stack ≡ vs → Stands z.code pc (Move Popped (ToFram a) ∷ []) → StandsFor z pc w u → Follows z (pc + 4) 5 u (with_top vs (λ v us. word_stored a v (with_stack us w)))
+  pub keep_part : (a pc : ℕ) (w : WordState) (u : Core) (vs : List ℕ) → w.stack ≡ vs → Stands z.code pc (Move Popped (ToFram a) ∷ []) → StandsFor z pc w u
+      → Follows z (pc + 4) 5 u (with_top vs (λ v us. word_stored a v (with_stack us w)))
   keep_part a pc w u [] e h i = tt
   keep_part a pc w u (v ∷ vs) e h i =
       let ms = Move Popped (ToFram a) ∷ [] in
       let m = memory_as z pc w u (v ∷ vs) e i in
       let t : ℕ → Core = λ x. record u { pc = u.pc + (2 + 0 + 2); sp = u.sp + 2; fram = put u.fram a x } in
       guarded z (is_place a) (pc + 4) 5 u (goes_on (Store a v ∷ []) (stored a v (with_stack vs w))) (λ g.
-      straight z ms 5 u (t v) (Store a v ∷ []) 5 _ (tt, tt) (stands_at z.code pc ms u h i.at) ((pop_needs z.locals z.room z.roomy u.sp u.ram v vs w.locals m, place_is a g), tt)
+      straight z ms 5 u (t v) (Store a v ∷ []) 5 _ (tt, tt) (stands_at z.code pc ms u h i.at)
+      ((pop_needs z.locals z.room z.roomy u.sp u.ram v vs w.locals m, place_is a g), tt)
       (ap (λ x. stretch (Store a x ∷ []) 5 (At (t x))) m.stack.0) (omega arith)
-      (record { at = omega (arith, i.at); memory = pop_memory z.locals z.room z.roomy u.sp u.ram v vs w.locals m; fram = ap (λ f. put f a v) i.fram; readings = i.readings }))
+      (record {
+        at = omega (arith, i.at);
+        memory = pop_memory z.locals z.room z.roomy u.sp u.ram v vs w.locals m;
+        fram = ap (λ f. put f a v) i.fram;
+        readings = i.readings;
+      }))
 
-  pub set_part : (n pc : ℕ) (w : WordState) (u : Core) (vs : List ℕ) → n < z.locals → w.stack ≡ vs → Stands z.code pc (Move Popped (ToRam (local_address n)) ∷ []) → StandsFor z pc w u → Follows z (pc + 4) 5 u (with_top vs (λ v us. goes_on [] (with_local n v (with_stack us w))))
+  pub set_part : (n pc : ℕ) (w : WordState) (u : Core) (vs : List ℕ) → n < z.locals → w.stack ≡ vs
+      → Stands z.code pc (Move Popped (ToRam (local_address n)) ∷ []) → StandsFor z pc w u
+      → Follows z (pc + 4) 5 u (with_top vs (λ v us. goes_on [] (with_local n v (with_stack us w))))
   set_part n pc w u [] lt e h i = tt
   set_part n pc w u (v ∷ vs) lt e h i =
       let ms = Move Popped (ToRam (local_address n)) ∷ [] in
@@ -70,24 +96,35 @@ module _ (z : Setting) where
         readings = i.readings;
       })
 
-  pub sense_part : (pc : ℕ) (w : WordState) (u : Core) (rs : List ℕ) → length w.stack < z.room → w.readings ≡ rs → Stands z.code pc (forms.Sense R4 ∷ push_from R4 ∷ []) → StandsFor z pc w u → Follows z (pc + 6) 6 u (reading_pushed rs w)
+  pub sense_part : (pc : ℕ) (w : WordState) (u : Core) (rs : List ℕ) → length w.stack < z.room → w.readings ≡ rs
+      → Stands z.code pc (forms.Sense R4 ∷ push_from R4 ∷ []) → StandsFor z pc w u → Follows z (pc + 6) 6 u (reading_pushed rs w)
   sense_part pc w u [] s e h i =
       dearer_stall z [] 3 6 u (omega arith) (starved z (forms.Sense R4) u 3 (ap z.code i.at ∙ h.0) tt (ap (λ l. sensed l R4 u) (i.readings ∙ e)))
   sense_part pc w u (r ∷ rs) s e h i =
       let ms = forms.Sense R4 ∷ push_from R4 ∷ [] in
-      straight z ms 6 u (record u { pc = u.pc + 4 + 2; sp = u.sp - 2; work = put u.work 4 r; ram = put u.ram (u.sp - 2) r; readings_left = rs }) (Take r ∷ []) 6 _ (tt, (tt, tt)) (stands_at z.code pc ms u h i.at)
-      (subst (λ l. FormsNeed ms (record u { readings_left = l })) (sym (i.readings ∙ e)) (tt, ((tt, push_needs z.locals z.room z.roomy u.sp u.ram w.stack w.locals i.memory s), tt)))
+      straight z ms 6 u (record u { pc = u.pc + 4 + 2; sp = u.sp - 2; work = put u.work 4 r; ram = put u.ram (u.sp - 2) r; readings_left = rs })
+      (Take r ∷ []) 6 _ (tt, (tt, tt)) (stands_at z.code pc ms u h i.at)
+      (subst (λ l. FormsNeed ms (record u { readings_left = l })) (sym (i.readings ∙ e))
+      (tt, ((tt, push_needs z.locals z.room z.roomy u.sp u.ram w.stack w.locals i.memory s), tt)))
       (ap (λ l. continued (sensed l R4 u) (forms_run (push_from R4 ∷ []))) (i.readings ∙ e)) (omega arith)
-      (record { at = omega (arith, i.at); memory = push_memory z.locals z.room z.roomy u.sp u.ram r w.stack w.locals i.memory s; fram = i.fram; readings = refl })
+      (record {
+        at = omega (arith, i.at);
+        memory = push_memory z.locals z.room z.roomy u.sp u.ram r w.stack w.locals i.memory s;
+        fram = i.fram;
+        readings = refl;
+      })
 
-  pub store_part : (a v pc : ℕ) (w : WordState) (u : Core) → Stands z.code pc (Move (Number v) (ToFram a) ∷ []) → StandsFor z pc w u → Follows z (pc + 6) 5 u (word_stored a v w)
+  pub store_part : (a v pc : ℕ) (w : WordState) (u : Core) → Stands z.code pc (Move (Number v) (ToFram a) ∷ []) → StandsFor z pc w u
+      → Follows z (pc + 6) 5 u (word_stored a v w)
   store_part a v pc w u h i =
       let ms = Move (Number v) (ToFram a) ∷ [] in
       guarded z (is_place a) (pc + 6) 5 u (goes_on (Store a v ∷ []) (stored a v w)) (λ g.
-      straight z ms 5 u (end_of u (forms_run ms u).status) (Store a v ∷ []) 5 _ (tt, tt) (stands_at z.code pc ms u h i.at) ((tt, place_is a g), tt) refl (omega arith)
+      straight z ms 5 u (end_of u (forms_run ms u).status) (Store a v ∷ []) 5 _ (tt, tt) (stands_at z.code pc ms u h i.at) ((tt, place_is a g), tt) refl
+      (omega arith)
       (record { at = omega (arith, i.at); memory = i.memory; fram = ap (λ f. put f a v) i.fram; readings = i.readings }))
 
-  pub move_part : (from to pc : ℕ) (w : WordState) (u : Core) → IsFram from → Stands z.code pc (Move (Fram from) (ToFram to) ∷ []) → StandsFor z pc w u → Follows z (pc + 6) 6 u (word_stored to (w.fram from) w)
+  pub move_part : (from to pc : ℕ) (w : WordState) (u : Core) → IsFram from → Stands z.code pc (Move (Fram from) (ToFram to) ∷ []) → StandsFor z pc w u
+      → Follows z (pc + 6) 6 u (word_stored to (w.fram from) w)
   move_part from to pc w u f h i =
       let ms = Move (Fram from) (ToFram to) ∷ [] in
       let t : ℕ → Core = λ x. record u { pc = u.pc + (2 + 2 + 2); fram = put u.fram to x } in
@@ -96,7 +133,9 @@ module _ (z : Setting) where
       (ap (λ x. stretch (Store to x ∷ []) 6 (At (t x))) (ap (λ g. g from) i.fram)) (omega arith)
       (record { at = omega (arith, i.at); memory = i.memory; fram = ap (λ g. put g to (w.fram from)) i.fram; readings = i.readings }))
 
-  pub jump_part : (to pc : ℕ) (w : WordState) (u : Core) → to % 2 ≡ 0 → Stands z.code pc (Branch to ∷ []) → StandsFor z pc w u → Follows z (pc + 4) 3 u (jumped to w)
+  pub jump_part : (to pc : ℕ) (w : WordState) (u : Core) → to % 2 ≡ 0 → Stands z.code pc (Branch to ∷ []) → StandsFor z pc w u
+      → Follows z (pc + 4) 3 u (jumped to w)
   jump_part to pc w u ev h i =
       subst (λ b. Follows z (pc + 4) 3 u (if b then behaves [] (Jumps to w) else broken)) (sym (eq-eqb (to % 2) 0 ev))
-      (hop z (Branch to) 3 u (record u { pc = to }) [] 3 (HasJumped to w) (ap z.code i.at ∙ h.0) ev refl (omega arith) (record { pc = refl; fram = i.fram; readings = i.readings }))
+      (hop z (Branch to) 3 u (record u { pc = to }) [] 3 (HasJumped to w) (ap z.code i.at ∙ h.0) ev refl (omega arith)
+      (record { pc = refl; fram = i.fram; readings = i.readings }))

@@ -1,5 +1,6 @@
 -- Multiplication: a turn for each bit of the right side, up to its highest.
-use Rattle.std.proofs.Common.{◌≡◌, ℕ, zero, suc, ◌+◌, ◌*◌, ◌/◌, ◌%◌, ◌^◌, ◌<◌, ◌==◌, not, List, [], ◌∷◌, Some, refl, sym, ap, ap₂, ◌∙◌, subst, arith, Bool, true, false, eqb-true, if◌then◌else◌, bit_and}
+use Rattle.std.proofs.Common.{◌≡◌, ℕ, zero, suc, ◌+◌, ◌*◌, ◌/◌, ◌%◌, ◌^◌, ◌<◌, ◌==◌, not, List, [], ◌∷◌, Some, refl, sym, ap, ap₂, ◌∙◌, subst, arith, Bool}
+use Rattle.std.proofs.Common.{true, false, eqb-true, if◌then◌else◌, bit_and}
 use Rattle.std.proofs.lemmas.Bool.Decides.{nat_tests}
 use Rattle.std.proofs.lemmas.Nat.{and_mask, and_le_r, mul-mod_first}
 use Rattle.alp_words.specs.Words.{bit}
@@ -12,11 +13,13 @@ use Rattle.msp_step.specs.Effect.{sum16, distance, is_met}
 use Rattle.machine_effects.specs.Going.{Goes}
 use Rattle.code_forms.specs.Forms.{R4, R5, R6, Core, Register, Constant, ToRegister, Form, Move, Calculate, Modify, Jump, instruction_of}
 use Rattle.code_forms.specs.Code.{Stands, forms_bytes, forms_run, Runs}
+use Rattle.code_forms.proofs.Placed.{stands_at}
+use Rattle.code_forms.proofs.Blocks.{form_at, forms_at, end_of}
 use Rattle.array_versions.specs.declared.operations.BinaryOperation.TheVariants.{Multiply}
 use Rattle.array_versions.specs.Operations.{binary_word}
 use Rattle.array_versions.specs.Behaviour.{WordState}
 use Rattle.codegen.specs.Code.{binary_middle, multiply_turn}
-use Rattle.codegen.proofs.Stretches.{Setting, stands_at, end_of, straight, hop, runs_on, dearer}
+use Rattle.codegen.proofs.Stretches.{Setting, straight, hop, runs_on, dearer}
 use Rattle.codegen.proofs.Follows.{StandsFor, stands_elsewhere}
 use Rattle.codegen.proofs.Registers.{Has}
 use Rattle.codegen.proofs.Middles.{BinaryMiddle}
@@ -64,10 +67,12 @@ halved_below n b l = let e : 2 ^ suc (suc n) ≡ 2 * 2 ^ suc n = grind arith in 
 
 module _ (z : Setting) where
   -- a jump, with all else as it is
-  pub jump_exact : (k : Condition) (o pc' : ℕ) (b : Bool) (t : Core) (P : Core → Type 0) → z.code t.pc ≡ Some (instruction_of (Jump k o)) → is_met k t.flags ≡ b → (if b then sum16 (t.pc + 2) (distance o) else t.pc + 2) ≡ pc' → P (record t { pc = pc' }) → Runs z.code [] 2 t P
+  pub jump_exact : (k : Condition) (o pc' : ℕ) (b : Bool) (t : Core) (P : Core → Type 0) → z.code t.pc ≡ Some (instruction_of (Jump k o)) → is_met k t.flags ≡ b
+      → (if b then sum16 (t.pc + 2) (distance o) else t.pc + 2) ≡ pc' → P (record t { pc = pc' }) → Runs z.code [] 2 t P
   jump_exact k o pc' b t P h e to p =
       hop z (Jump k o) 2 t (record t { pc = pc' }) [] 2 P h tt
-      (ap (λ x. Goes [] 2 (record t { pc = if x then sum16 (t.pc + 2) (distance o) else t.pc + 2 })) e ∙ ap (λ x. Goes [] 2 (record t { pc = x })) to) (omega arith) p
+      (ap (λ x. Goes [] 2 (record t { pc = if x then sum16 (t.pc + 2) (distance o) else t.pc + 2 })) e ∙ ap (λ x. Goes [] 2 (record t { pc = x })) to)
+      (omega arith) p
 
   record Multi (pc : ℕ) (w : WordState) (a b acc : ℕ) (t : Core) : Type 0 where
     is : StandsFor z pc w t
@@ -91,24 +96,45 @@ module _ (z : Setting) where
 
     test_bit : (a b acc : ℕ) (w : WordState) (t : Core) → Multi p w a b acc t → Runs z.code [] 1 t (Flagged (p + 2) w a b acc (bit_and b 1 == 0))
     test_bit a b acc w t i =
-        straight z tested 1 t (end_of t (forms_run tested t).status) [] 1 _ (tt, tt) (stands_at z.code p tested t (h.0, tt) i.is.at) ((tt, tt), tt) refl (omega arith)
-        (record { all = record { is = stands_elsewhere z p (p + 2) w t _ i.is (omega (arith, i.is.at)) refl refl refl refl; four = i.four; five = i.five; six = i.six }; zero_flag = ap (λ v. bit_and v 1 == 0) i.five })
+        straight z tested 1 t (end_of t (forms_run tested t).status) [] 1 _ (tt, tt) (stands_at z.code p tested t (h.0, tt) i.is.at) ((tt, tt), tt) refl
+        (omega arith)
+        (record {
+          all = record { is = stands_elsewhere z p (p + 2) w t _ i.is (omega (arith, i.is.at)) refl refl refl refl; four = i.four; five = i.five; six = i.six };
+          zero_flag = ap (λ v. bit_and v 1 == 0) i.five;
+        })
 
     no_bits : (v : ℕ) → v / 2 + 0x8000 * bit (not (bit_and v 0 == 0)) ≡ v / 2
     no_bits v = let e : bit_and v 0 ≡ 0 = let l = and_le_r v 0 in omega arith in ap (λ n. v / 2 + 0x8000 * bit (not (n == 0))) e ∙ omega arith
 
-    halve : (a b acc : ℕ) (w : WordState) (t : Core) → Multi (p + 6) w a b acc t → Runs z.code [] 3 t (Flagged (p + 12) w ((a + a) % 0x10000) (b / 2) acc (b / 2 == 0))
+    halve : (a b acc : ℕ) (w : WordState) (t : Core) → Multi (p + 6) w a b acc t
+        → Runs z.code [] 3 t (Flagged (p + 12) w ((a + a) % 0x10000) (b / 2) acc (b / 2 == 0))
     halve a b acc w t i =
-        let at : Stands z.code (p + 6) halving = subst (λ n. Stands z.code n halving) (omega arith) (h.1.1.1.0, (h.1.1.1.1.0, (h.1.1.1.1.1.0, tt))) in
+        let at : Stands z.code (p + 6) halving = forms_at z.code p 3 3 multiply_turn h in
         let q : t.work 5 / 2 + 0x8000 * bit (not (bit_and (t.work 5) 0 == 0)) ≡ b / 2 = no_bits (t.work 5) ∙ ap (λ v. v / 2) i.five in
-        straight z halving 3 t (end_of t (forms_run halving t).status) [] 3 _ (tt, (tt, (tt, tt))) (stands_at z.code (p + 6) halving t at i.is.at) ((tt, tt), ((tt, tt), (tt, tt))) refl (omega arith)
-        (record { all = record { is = stands_elsewhere z (p + 6) (p + 12) w t _ i.is (omega (arith, i.is.at)) refl refl refl refl; four = ap (λ v. (v + v + 0) % 0x10000) i.four ∙ omega arith; five = q; six = i.six }; zero_flag = ap (λ v. v == 0) q })
+        straight z halving 3 t (end_of t (forms_run halving t).status) [] 3 _ (tt, (tt, (tt, tt))) (stands_at z.code (p + 6) halving t at i.is.at)
+        ((tt, tt), ((tt, tt), (tt, tt))) refl (omega arith)
+        (record {
+          all =
+              record {
+                is = stands_elsewhere z (p + 6) (p + 12) w t _ i.is (omega (arith, i.is.at)) refl refl refl refl;
+                four = ap (λ v. (v + v + 0) % 0x10000) i.four ∙ omega arith;
+                five = q;
+                six = i.six;
+              };
+          zero_flag = ap (λ v. v == 0) q;
+        })
 
     add_in : (a b acc : ℕ) (w : WordState) (t : Core) → Multi (p + 4) w a b acc t → Runs z.code [] 1 t (Multi (p + 6) w a b ((acc + a + 0) % 0x10000))
     add_in a b acc w t i =
-        let at : Stands z.code (p + 4) adding = (subst (λ n. z.code n ≡ Some (instruction_of (Calculate op.Add (Register R4) R6))) (omega arith) h.1.1.0, tt) in
-        straight z adding 1 t (end_of t (forms_run adding t).status) [] 1 _ (tt, tt) (stands_at z.code (p + 4) adding t at i.is.at) ((tt, tt), tt) refl (omega arith)
-        (record { is = stands_elsewhere z (p + 4) (p + 6) w t _ i.is (omega (arith, i.is.at)) refl refl refl refl; four = i.four; five = i.five; six = ap₂ (λ x y. (x + y + 0) % 0x10000) i.six i.four })
+        let at : Stands z.code (p + 4) adding = forms_at z.code p 2 1 multiply_turn h in
+        straight z adding 1 t (end_of t (forms_run adding t).status) [] 1 _ (tt, tt) (stands_at z.code (p + 4) adding t at i.is.at) ((tt, tt), tt) refl
+        (omega arith)
+        (record {
+          is = stands_elsewhere z (p + 4) (p + 6) w t _ i.is (omega (arith, i.is.at)) refl refl refl refl;
+          four = i.four;
+          five = i.five;
+          six = ap₂ (λ x y. (x + y + 0) % 0x10000) i.six i.four;
+        })
 
     moved : (pc pc' : ℕ) (w : WordState) (a b acc : ℕ) (t : Core) → Multi pc w a b acc t → Multi pc' w a b acc (record t { pc = pc' })
     moved pc pc' w a b acc t i = record { is = stands_elsewhere z pc pc' w t _ i.is refl refl refl refl refl; four = i.four; five = i.five; six = i.six }
@@ -121,7 +147,7 @@ module _ (z : Setting) where
 
     turn_by : (k : Bool) (a b acc : ℕ) (w : WordState) (t : Core) → (bit_and b 1 == 0) ≡ k → acc < 0x10000 → Multi p w a b acc t → Turn a b acc w t
     turn_by true a b acc w t e l i =
-        let at2 : z.code (p + 2) ≡ Some (instruction_of (Jump condition.Equal 1)) = subst (λ n. z.code n ≡ Some (instruction_of (Jump condition.Equal 1))) (omega arith) h.1.0 in
+        let at2 : z.code (p + 2) ≡ Some (instruction_of (Jump condition.Equal 1)) = form_at z.code p 1 multiply_turn (Jump condition.Equal 1) h refl in
         let high = (z.tidy (p + 2) _ at2).high in
         let ev : b % 2 ≡ 0 = eqb-true (b % 2) 0 (is_even b true e) in
         let to : sum16 (p + 2 + 2) (distance 1) ≡ p + 6 = omega arith in
@@ -130,10 +156,12 @@ module _ (z : Setting) where
           small = l;
           same = even_turn a b acc ev;
           runs = dearer z [] 6 7 t _ (omega arith) (runs_on z 1 5 t _ _ [] [] (test_bit a b acc w t i) (λ u j.
-              runs_on z 2 3 u (Multi (p + 6) w a b acc) _ [] [] (jump_exact condition.Equal 1 (p + 6) true u _ (ap z.code j.all.is.at ∙ at2) (j.zero_flag ∙ e) (ap (λ n. sum16 (n + 2) (distance 1)) j.all.is.at ∙ to) (moved (p + 2) (p + 6) w a b acc u j.all)) (λ v q. halve a b acc w v q)));
+              runs_on z 2 3 u (Multi (p + 6) w a b acc) _ [] []
+              (jump_exact condition.Equal 1 (p + 6) true u _ (ap z.code j.all.is.at ∙ at2) (j.zero_flag ∙ e)
+              (ap (λ n. sum16 (n + 2) (distance 1)) j.all.is.at ∙ to) (moved (p + 2) (p + 6) w a b acc u j.all)) (λ v q. halve a b acc w v q)));
         }
     turn_by false a b acc w t e l i =
-        let at2 : z.code (p + 2) ≡ Some (instruction_of (Jump condition.Equal 1)) = subst (λ n. z.code n ≡ Some (instruction_of (Jump condition.Equal 1))) (omega arith) h.1.0 in
+        let at2 : z.code (p + 2) ≡ Some (instruction_of (Jump condition.Equal 1)) = form_at z.code p 1 multiply_turn (Jump condition.Equal 1) h refl in
         let ne = is_even b false e in
         let od = is_odd b ne in
         record {
@@ -141,7 +169,9 @@ module _ (z : Setting) where
           small = omega arith;
           same = odd_turn a b acc od;
           runs = runs_on z 1 6 t _ _ [] [] (test_bit a b acc w t i) (λ u j.
-              runs_on z 2 4 u (Multi (p + 4) w a b acc) _ [] [] (jump_exact condition.Equal 1 (p + 4) false u _ (ap z.code j.all.is.at ∙ at2) (j.zero_flag ∙ e) (omega (arith, j.all.is.at)) (moved (p + 2) (p + 4) w a b acc u j.all)) (λ v q.
+              runs_on z 2 4 u (Multi (p + 4) w a b acc) _ [] []
+              (jump_exact condition.Equal 1 (p + 4) false u _ (ap z.code j.all.is.at ∙ at2) (j.zero_flag ∙ e) (omega (arith, j.all.is.at))
+              (moved (p + 2) (p + 4) w a b acc u j.all)) (λ v q.
               runs_on z 1 3 v _ _ [] [] (add_in a b acc w v q) (λ x r. halve a b ((acc + a + 0) % 0x10000) w x r)));
         }
 
@@ -149,22 +179,26 @@ module _ (z : Setting) where
     Result a b acc w t = Has z R6 (p + 14) w ((acc + a * b) % 0x10000) t
 
     at12 : z.code (p + 12) ≡ Some (instruction_of (Jump condition.NotEqual 1017))
-    at12 = subst (λ n. z.code n ≡ Some (instruction_of (Jump condition.NotEqual 1017))) (omega arith) h.1.1.1.1.1.1.0
+    at12 = form_at z.code p 6 multiply_turn (Jump condition.NotEqual 1017) h refl
 
     -- behind a turn: out where nothing is left, else back
     leave : (n a b acc : ℕ) (w : WordState) (t : Core) (k : Bool) → (b / 2 == 0) ≡ k → (r : Turn a b acc w t) →
-        ((b / 2 ≡ 0 → ⊥) → (u : Core) → Multi p w ((a + a) % 0x10000) (b / 2) r.next u → Runs z.code [] (n * 9) u (Result ((a + a) % 0x10000) (b / 2) r.next w)) → Runs z.code [] (suc n * 9) t (Result a b acc w)
+        ((b / 2 ≡ 0 → ⊥) → (u : Core) → Multi p w ((a + a) % 0x10000) (b / 2) r.next u → Runs z.code [] (n * 9) u (Result ((a + a) % 0x10000) (b / 2) r.next w))
+        → Runs z.code [] (suc n * 9) t (Result a b acc w)
     leave n a b acc w t true e r again =
         let is_zero : b / 2 ≡ 0 = eqb-true (b / 2) 0 e in
-        let v : r.next ≡ (acc + a * b) % 0x10000 = sym (no_more ((a + a) % 0x10000) r.next r.small) ∙ ap (λ q. (r.next + (a + a) % 0x10000 * q) % 0x10000) (sym is_zero) ∙ r.same in
+        let v : r.next ≡ (acc + a * b) % 0x10000 = sym (no_more ((a + a) % 0x10000) r.next r.small)
+        ∙ ap (λ q. (r.next + (a + a) % 0x10000 * q) % 0x10000) (sym is_zero) ∙ r.same in
         dearer z [] 9 (suc n * 9) t _ (omega arith)
-        (runs_on z 7 2 t _ _ [] [] r.runs (λ u j. jump_exact condition.NotEqual 1017 (p + 14) false u _ (ap z.code j.all.is.at ∙ at12) (ap not (j.zero_flag ∙ e)) (omega (arith, j.all.is.at))
+        (runs_on z 7 2 t _ _ [] [] r.runs (λ u j. jump_exact condition.NotEqual 1017 (p + 14) false u _ (ap z.code j.all.is.at ∙ at12)
+        (ap not (j.zero_flag ∙ e)) (omega (arith, j.all.is.at))
         (record { is = stands_elsewhere z (p + 12) (p + 14) w u _ j.all.is refl refl refl refl refl; value = j.all.six ∙ v })))
     leave n a b acc w t false e r again =
         let high = (z.tidy (p + 12) _ at12).high in
         let to : sum16 (p + 12 + 2) (distance 1017) ≡ p = omega arith in
         let back : Runs z.code [] 9 t (Multi p w ((a + a) % 0x10000) (b / 2) r.next) =
-        runs_on z 7 2 t _ _ [] [] r.runs (λ u j. jump_exact condition.NotEqual 1017 p true u _ (ap z.code j.all.is.at ∙ at12) (ap not (j.zero_flag ∙ e)) (ap (λ n. sum16 (n + 2) (distance 1017)) j.all.is.at ∙ to)
+        runs_on z 7 2 t _ _ [] [] r.runs (λ u j. jump_exact condition.NotEqual 1017 p true u _ (ap z.code j.all.is.at ∙ at12) (ap not (j.zero_flag ∙ e))
+        (ap (λ n. sum16 (n + 2) (distance 1017)) j.all.is.at ∙ to)
         (moved (p + 12) p w ((a + a) % 0x10000) (b / 2) r.next u j.all)) in
         dearer z [] (9 + n * 9) (suc n * 9) t _ (omega arith)
         (subst (λ v. Runs z.code [] (9 + n * 9) t (Has z R6 (p + 14) w v)) r.same

@@ -11,13 +11,13 @@ use Rattle.msp_isa.specs.declared.operands.Konst.TheVariants as konst
 use Rattle.msp_step.specs.declared.effect.Modification.TheVariants as change
 use Rattle.code_forms.specs.Forms.{R4, Core, Register, Number, Constant, ToRegister, Form, Move, Calculate, Modify, instruction_of, form_bytes}
 use Rattle.code_forms.specs.Code.{Stands, forms_bytes, forms_run, Runs}
-use Rattle.code_forms.proofs.Blocks.{stands_front, stands_back}
+use Rattle.code_forms.proofs.Blocks.{stands_front, stands_back, end_of}
 use Rattle.array_versions.specs.declared.operations.ShiftOperation.{ShiftOperation}
 use Rattle.array_versions.specs.declared.operations.ShiftOperation.TheVariants.{Left, Right, SignedRight}
 use Rattle.array_versions.specs.Operations.{shifted_word, shift_word}
 use Rattle.array_versions.specs.Behaviour.{WordState, goes_on, with_stack, with_top}
 use Rattle.codegen.specs.Code.{push_from, repeated, right_code, shift_by, shift_middle, shift_code}
-use Rattle.codegen.proofs.Stretches.{Setting, end_of, runs_on, dearer, nothing_run}
+use Rattle.codegen.proofs.Stretches.{Setting, runs_on, dearer, nothing_run}
 use Rattle.codegen.proofs.Follows.{StandsFor, Follows, memory_as}
 use Rattle.codegen.proofs.Registers.{Has, pop_part, push_result, middle}
 

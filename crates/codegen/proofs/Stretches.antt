@@ -1,9 +1,8 @@
 -- Stretches of code that stays, with room for locals and a stack.
-use Rattle.std.proofs.Common.{◌≡◌, ℕ, ◌+◌, ◌*◌, ◌≤◌, List, [], ◌++◌, Some, sym, subst, arith}
-use Rattle.msp_step.specs.declared.machine.Stop.{Stop}
+use Rattle.std.proofs.Common.{◌≡◌, ℕ, ◌+◌, ◌*◌, ◌≤◌, List, [], ◌++◌, Some, arith}
 use Rattle.msp_step.specs.declared.machine.Stop.TheVariants as stop
 use Rattle.fram_board.specs.Effects.{Effect}
-use Rattle.machine_effects.specs.Going.{Goes, Stops, Status, At, Halted, stretch}
+use Rattle.machine_effects.specs.Going.{Goes, Stops, At, stretch}
 use Rattle.machine_effects.specs.Machine.{Code}
 use Rattle.code_forms.specs.Forms.{Core, Form, instruction_of, form_step, FormNeeds}
 use Rattle.code_forms.specs.Code.{Stands, AreStraight, forms_run, FormsNeed, IsTidy, Runs, Starves}
@@ -17,28 +16,24 @@ pub record Setting : Type 0 where
   pub room : ℕ
   pub roomy : 0x1C20 + 2 * (locals + room) ≤ 0x2400
 
-pub stands_at : (code : Code) (p : ℕ) (ms : List Form) (u : Core) → Stands code p ms → u.pc ≡ p → Stands code u.pc ms
-stands_at code p ms u h e = subst (λ n. Stands code n ms) (sym e) h
-
--- the machine at a status, or else this one
-abbrev pub end_of : Core → Status Core Stop → Core
-end_of u (At t) = t
-end_of u (Halted price x) = u
-
 -- straight code comes to where its forms do
-pub straight : (z : Setting) (ms : List Form) (most : ℕ) (u t : Core) (es : List Effect) (c : ℕ) (P : Core → Type 0) → AreStraight ms → Stands z.code u.pc ms → FormsNeed ms u
+pub straight : (z : Setting) (ms : List Form) (most : ℕ) (u t : Core) (es : List Effect) (c : ℕ) (P : Core → Type 0) → AreStraight ms → Stands z.code u.pc ms
+    → FormsNeed ms u
     → forms_run ms u ≡ stretch es c (At t) → c ≤ most → P t → Runs z.code es most u P
 straight z = blocks.straight z.code z.tidy
 
 -- one form, a jump too
-pub hop : (z : Setting) (m : Form) (most : ℕ) (u t : Core) (es : List Effect) (c : ℕ) (P : Core → Type 0) → z.code u.pc ≡ Some (instruction_of m) → FormNeeds m u
+pub hop : (z : Setting) (m : Form) (most : ℕ) (u t : Core) (es : List Effect) (c : ℕ) (P : Core → Type 0) → z.code u.pc ≡ Some (instruction_of m)
+    → FormNeeds m u
     → form_step m u ≡ Goes es c t → c ≤ most → P t → Runs z.code es most u P
 hop z = blocks.hop z.code z.tidy
 
-pub runs_on : (z : Setting) (most more : ℕ) (u : Core) (P Q : Core → Type 0) (es fs : List Effect) → Runs z.code es most u P → ((t : Core) → P t → Runs z.code fs more t Q) → Runs z.code (es ++ fs) (most + more) u Q
+pub runs_on : (z : Setting) (most more : ℕ) (u : Core) (P Q : Core → Type 0) (es fs : List Effect) → Runs z.code es most u P
+    → ((t : Core) → P t → Runs z.code fs more t Q) → Runs z.code (es ++ fs) (most + more) u Q
 runs_on z = blocks.runs_on z.code z.tidy
 
-pub starves_on : (z : Setting) (most more : ℕ) (u : Core) (P : Core → Type 0) (es fs : List Effect) → Runs z.code es most u P → ((t : Core) → P t → Starves z.code fs more t) → Starves z.code (es ++ fs) (most + more) u
+pub starves_on : (z : Setting) (most more : ℕ) (u : Core) (P : Core → Type 0) (es fs : List Effect) → Runs z.code es most u P
+    → ((t : Core) → P t → Starves z.code fs more t) → Starves z.code (es ++ fs) (most + more) u
 starves_on z = blocks.starves_on z.code z.tidy
 
 pub dearer : (z : Setting) (es : List Effect) (most more : ℕ) (u : Core) (P : Core → Type 0) → most ≤ more → Runs z.code es most u P → Runs z.code es more u P
@@ -51,5 +46,6 @@ pub nothing_run : (z : Setting) (u : Core) (P : Core → Type 0) → P u → Run
 nothing_run z = blocks.nothing z.code z.tidy
 
 -- a form that wants a reading where none is left
-pub starved : (z : Setting) (m : Form) (u : Core) (price : ℕ) → z.code u.pc ≡ Some (instruction_of m) → FormNeeds m u → form_step m u ≡ Stops [] price stop.NoReading → Starves z.code [] price u
+pub starved : (z : Setting) (m : Form) (u : Core) (price : ℕ) → z.code u.pc ≡ Some (instruction_of m) → FormNeeds m u
+    → form_step m u ≡ Stops [] price stop.NoReading → Starves z.code [] price u
 starved z m u price h w e = blocks.starve z.code z.tidy m price price u [] h w e (omega arith)

@@ -34,9 +34,5 @@ one_is_not_zero x = grind (arith, nat_tests)
 pub differs : (x y : ℕ) → x < 0x10000 → y < 0x10000 → nat_le 1 ((x + (0xFFFF - y) + 1) % 0x10000) ≡ not (x == y)
 differs x y h k = grind (arith, nat_tests)
 
-pub not_not : (b : Bool) → not (not b) ≡ b
-not_not true = refl
-not_not false = refl
-
 pub biased_small : (x : ℕ) → biased x < 0x10000
 biased_small x = omega arith

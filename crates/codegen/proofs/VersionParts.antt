@@ -1,5 +1,6 @@
 -- Versioned reads and writes.
-use Rattle.std.proofs.Common.{◌≡◌, ℕ, ◌+◌, ◌-◌, ◌*◌, ◌%◌, ◌<◌, ◌==◌, not, List, [], ◌∷◌, length, Some, refl, sym, ap, ap₂, ◌∙◌, subst, arith, Bool, true, false, nat_lt, nat_le, if◌then◌else◌}
+use Rattle.std.proofs.Common.{◌≡◌, ℕ, ◌+◌, ◌-◌, ◌*◌, ◌%◌, ◌<◌, ◌==◌, not, List, [], ◌∷◌, length, Some, refl, sym, ap, ap₂, ◌∙◌, subst, arith, Bool, true, false}
+use Rattle.std.proofs.Common.{nat_lt, nat_le, if◌then◌else◌}
 use Rattle.std.specs.List.{AllByRecursion}
 use Rattle.std.proofs.lemmas.Bool.Decides.{nat_tests}
 use Rattle.alp_words.specs.Words.{word_sum}
@@ -10,14 +11,18 @@ use Rattle.msp_step.specs.Effect.{sum16, distance}
 use Rattle.fram_board.specs.Effects.{Effect, Store}
 use Rattle.machine_effects.specs.World.{put}
 use Rattle.machine_effects.specs.Machine.{IsFram}
-use Rattle.code_forms.specs.Forms.{R4, R5, R6, Core, Register, Number, Constant, Fram, Indexed, ToRegister, ToFram, ToIndexed, Form, Move, Calculate, Jump, instruction_of}
+use Rattle.code_forms.specs.Forms.{R4, R5, R6, Core, Register, Number, Constant, Fram, Indexed, ToRegister, ToFram, ToIndexed, Form, Move, Calculate, Jump}
+use Rattle.code_forms.specs.Forms.{instruction_of}
 use Rattle.code_forms.specs.Code.{Stands, forms_run, Runs}
+use Rattle.code_forms.proofs.Placed.{stands_at}
+use Rattle.code_forms.proofs.Blocks.{form_at, forms_at, forms_behind, end_of}
 use Rattle.array_versions.specs.declared.program.ArrayPlace.{ArrayPlace}
 use Rattle.array_versions.specs.declared.program.ListPlace.{ListPlace}
-use Rattle.array_versions.specs.Behaviour.{WordState, Behaviour, goes_on, strays, behind_effects, with_stack, with_top, with_two, is_place, at_place, pushed, stored, own_element, versioned_pushed, first_stored, own_stored, versioned_stored}
+use Rattle.array_versions.specs.Behaviour.{WordState, Behaviour, goes_on, strays, behind_effects, with_stack, with_top, with_two, is_place, at_place, pushed}
+use Rattle.array_versions.specs.Behaviour.{stored, own_element, versioned_pushed, first_stored, own_stored, versioned_stored}
 use Rattle.array_versions.proofs.Words.{put_words}
 use Rattle.codegen.specs.Code.{push_from, read_code, first_code, write_code}
-use Rattle.codegen.proofs.Stretches.{Setting, stands_at, end_of, straight, runs_on, dearer}
+use Rattle.codegen.proofs.Stretches.{Setting, straight, runs_on, dearer}
 use Rattle.codegen.proofs.Memory.{place_is}
 use Rattle.codegen.proofs.Follows.{StandsFor, Follows, then_end, guarded, stands_elsewhere, memory_as}
 use Rattle.codegen.proofs.Registers.{Has, HasTwo, pop_part, pop_two, push_result, middle, jump_to, jump_has, no_borrow}
@@ -28,16 +33,11 @@ use Rattle.codegen.proofs.Access.{compare_part, le_of_lt, quad, next_small, next
 equal_flag : (x y : ℕ) → x < 0x10000 → y < 0x10000 → ((x + (0xFFFF - y) + 1) % 0x10000 == 0) ≡ (x == y)
 equal_flag x y h k = grind (arith, nat_tests)
 
--- what seven numbers make
-by_seven : {X : Type 0} (f : ℕ → ℕ → ℕ → ℕ → ℕ → ℕ → ℕ → X) (a b c d e g h a' b' c' d' e' g' h' : ℕ) → a ≡ a' → b ≡ b' → c ≡ c' → d ≡ d' → e ≡ e' → g ≡ g' → h ≡ h' → f a b c d e g h ≡ f a' b' c' d' e' g' h'
-by_seven f a b c d e g h a' b' c' d' e' g' h' p q r s t u v =
-    ap (λ x. f x b c d e g h) p ∙ ap (λ x. f a' x c d e g h) q ∙ ap (λ x. f a' b' x d e g h) r ∙ ap (λ x. f a' b' c' x e g h) s ∙ ap (λ x. f a' b' c' d' x g h) t
-    ∙ ap (λ x. f a' b' c' d' e' x h) u ∙ ap (λ x. f a' b' c' d' e' g' x) v
-
 plus_small : (n base : ℕ) → 2 * n + base < 0x10000 → (2 * n + base + 0) % 0x10000 ≡ 2 * n + base
 plus_small n base h = omega arith
 
-first_pc : (p q : ℕ) → p ≡ q → p + (2 + 0 + 2) + (2 + 2 + 0) + (2 + 0 + 0) + (2 + 0) + (2 + 0) + (2 + 0 + 0) + (2 + 2) + (2 + 0 + 2) + (2 + 2) + (2 + 0 + 2) + (2 + 0) + (2 + 0 + 2) ≡ q + 38
+first_pc : (p q : ℕ) → p ≡ q → p + (2 + 0 + 2) + (2 + 2 + 0) + (2 + 0 + 0) + (2 + 0) + (2 + 0) + (2 + 0 + 0) + (2 + 2) + (2 + 0 + 2) + (2 + 2) + (2 + 0 + 2) +
+    (2 + 0) + (2 + 0 + 2) ≡ q + 38
 first_pc p q e = omega (arith, e)
 
 twice : (n base : ℕ) → 2 * n + base < 0x10000 → (n + n + 0) % 0x10000 ≡ 2 * n
@@ -52,7 +52,8 @@ module _ (z : Setting) where
   abbrev marking : ArrayPlace → ListPlace → List Form
   marking place list = Calculate op.Add (Register R4) R4 ∷ Move (Fram list.ver) (ToRegister R5) ∷ Calculate op.Cmp (Indexed R4 place.versions) R5 ∷ []
 
-  mark_part : (place : ArrayPlace) (list : ListPlace) (pc i : ℕ) (w : WordState) (t : Core) → ((a : ℕ) → w.fram a < 0x10000) → IsFram list.ver → IsFram (2 * i + place.versions) → Stands z.code pc (marking place list) → Has z R4 pc w i t
+  mark_part : (place : ArrayPlace) (list : ListPlace) (pc i : ℕ) (w : WordState) (t : Core) → ((a : ℕ) → w.fram a < 0x10000) → IsFram list.ver
+      → IsFram (2 * i + place.versions) → Stands z.code pc (marking place list) → Has z R4 pc w i t
       → Runs z.code [] 7 t (Marked (pc + 10) w i (w.fram list.ver == w.fram (2 * i + place.versions)))
   mark_part place list pc i w t l f g h k =
       let ms = marking place list in
@@ -62,85 +63,111 @@ module _ (z : Setting) where
       ((tt, tt), ((f, tt), ((tt, subst (λ v. IsFram (v + place.versions)) (sym d) g), tt))) refl (omega arith)
       (record {
         has = record { is = stands_elsewhere z pc (pc + 10) w t _ k.is (omega (arith, k.is.at)) refl refl refl refl; value = d };
-        flag = ap₂ (λ x y. (x + (0xFFFF - y) + 1) % 0x10000 == 0) (ap (λ q. q list.ver) k.is.fram) (ap (λ v. t.fram (v + place.versions)) d ∙ ap (λ q. q (2 * i + place.versions)) k.is.fram)
+        flag = ap₂ (λ x y. (x + (0xFFFF - y) + 1) % 0x10000 == 0) (ap (λ q. q list.ver) k.is.fram)
+            (ap (λ v. t.fram (v + place.versions)) d ∙ ap (λ q. q (2 * i + place.versions)) k.is.fram)
             ∙ equal_flag (w.fram list.ver) (w.fram (2 * i + place.versions)) (l list.ver) (l (2 * i + place.versions));
       })
 
   -- the word is read from the copies or the elements, and pushed
-  fetch_part : (base from pc o : ℕ) (i : ℕ) (w : WordState) (t : Core) → length w.stack < z.room → IsFram (2 * i + base) → sum16 (from + 4 + 2) (distance o) ≡ pc + 34
-      → z.code from ≡ Some (instruction_of (Move (Indexed R4 base) (ToRegister R4))) → z.code (from + 4) ≡ Some (instruction_of (Jump condition.Always o)) → z.code (pc + 34) ≡ Some (instruction_of (push_from R4))
+  fetch_part : (base from pc o : ℕ) (i : ℕ) (w : WordState) (t : Core) → length w.stack < z.room → IsFram (2 * i + base)
+      → sum16 (from + 4 + 2) (distance o) ≡ pc + 34
+      → z.code from ≡ Some (instruction_of (Move (Indexed R4 base) (ToRegister R4))) → z.code (from + 4) ≡ Some (instruction_of (Jump condition.Always o))
+      → z.code (pc + 34) ≡ Some (instruction_of (push_from R4))
       → Has z R4 from w (2 * i) t → Runs z.code [] 8 t (StandsFor z (pc + 36) (pushed (w.fram (2 * i + base)) w))
   fetch_part base from pc o i w t s f d a b c k =
       let ms = Move (Indexed R4 base) (ToRegister R4) ∷ [] in
       let e : pc + 34 + 2 ≡ pc + 36 = omega arith in
       subst (λ n. Runs z.code [] 8 t (StandsFor z n (pushed (w.fram (2 * i + base)) w))) e
-      (runs_on z 3 5 t _ _ [] [] (middle z ms 3 from (from + 4) (w.fram (2 * i + base)) R4 w t (end_of t (forms_run ms t).status) k.is (tt, tt) (a, tt) ((subst (λ v. IsFram (v + base)) (sym k.value) f, tt), tt) refl (omega (arith, k.is.at)) refl refl refl refl
+      (runs_on z 3 5 t _ _ [] [] (middle z ms 3 from (from + 4) (w.fram (2 * i + base)) R4 w t (end_of t (forms_run ms t).status) k.is (tt, tt) (a, tt)
+      ((subst (λ v. IsFram (v + base)) (sym k.value) f, tt), tt) refl (omega (arith, k.is.at)) refl refl refl refl
       (ap (λ v. t.fram (v + base)) k.value ∙ ap (λ q. q (2 * i + base)) k.is.fram)) (λ u j.
       runs_on z 2 3 u _ _ [] [] (jump_has z condition.Always o (from + 4) (pc + 34) true R4 (w.fram (2 * i + base)) w u b refl d j) (λ u j.
       push_result z R4 (pc + 34) (w.fram (2 * i + base)) w u s c j)))
 
   -- below the length: the copy where the version words are equal, else the element
-  own_part : (b : Bool) (place : ArrayPlace) (list : ListPlace) (pc i : ℕ) (w : WordState) (t : Core) → length w.stack < z.room → (w.fram list.ver == w.fram (2 * i + place.versions)) ≡ b → pc + 40 < 0x10000 → Stands z.code pc (read_code place list)
-      → Marked (pc + 18) w i b t → Follows z (pc + 36) 10 t (if b then at_place (2 * i + place.copies) (goes_on [] (pushed (w.fram (2 * i + place.copies)) w)) else at_place (2 * i + place.elements) (goes_on [] (pushed (w.fram (2 * i + place.elements)) w)))
+  own_part : (b : Bool) (place : ArrayPlace) (list : ListPlace) (pc i : ℕ) (w : WordState) (t : Core) → length w.stack < z.room
+      → (w.fram list.ver == w.fram (2 * i + place.versions)) ≡ b → pc + 40 < 0x10000 → Stands z.code pc (read_code place list)
+      → Marked (pc + 18) w i b t → Follows z (pc + 36) 10 t
+      (if b then at_place (2 * i + place.copies) (goes_on [] (pushed (w.fram (2 * i + place.copies)) w)) else at_place (2 * i + place.elements)
+      (goes_on [] (pushed (w.fram (2 * i + place.elements)) w)))
   own_part true place list pc i w t s e high h m =
       let to : sum16 (pc + 20 + 4 + 2) (distance 4) ≡ pc + 34 = omega arith in
+      let leaves = Jump condition.Always 4 in
+      let at24 : z.code (pc + 24) ≡ Some (instruction_of leaves) = form_at z.code pc 8 (read_code place list) leaves h refl in
+      let e24 : pc + 24 ≡ pc + 20 + 4 = omega arith in
       guarded z (is_place (2 * i + place.copies)) (pc + 36) 10 t (goes_on [] (pushed (w.fram (2 * i + place.copies)) w)) (λ g.
-      runs_on z 2 8 t _ _ [] [] (jump_has z condition.NotEqual 3 (pc + 18) (pc + 20) false R4 (2 * i) w t (subst (λ n. z.code n ≡ Some (instruction_of (Jump condition.NotEqual 3))) (omega arith) h.1.1.1.1.1.1.0) (ap not m.flag) (omega arith) m.has) (λ u j.
+      runs_on z 2 8 t _ _ [] [] (jump_has z condition.NotEqual 3 (pc + 18) (pc + 20) false R4 (2 * i) w t
+      (form_at z.code pc 6 (read_code place list) (Jump condition.NotEqual 3) h refl) (ap not m.flag) (omega arith) m.has) (λ u j.
       fetch_part place.copies (pc + 20) pc 4 i w u s (place_is (2 * i + place.copies) g) to
-      (subst (λ n. z.code n ≡ Some (instruction_of (Move (Indexed R4 place.copies) (ToRegister R4)))) (omega arith) h.1.1.1.1.1.1.1.0)
-      (subst (λ n. z.code n ≡ Some (instruction_of (Jump condition.Always 4))) (omega arith) h.1.1.1.1.1.1.1.1.0)
-      (subst (λ n. z.code n ≡ Some (instruction_of (push_from R4))) (omega arith) h.1.1.1.1.1.1.1.1.1.1.1.1.0) j))
+      (form_at z.code pc 7 (read_code place list) (Move (Indexed R4 place.copies) (ToRegister R4)) h refl)
+      (subst (λ n. z.code n ≡ Some (instruction_of leaves)) e24 at24)
+      (form_at z.code pc 12 (read_code place list) (push_from R4) h refl) j))
   own_part false place list pc i w t s e high h m =
       let to : sum16 (pc + 18 + 2) (distance 3) ≡ pc + 26 = omega arith in
       let back : sum16 (pc + 26 + 4 + 2) (distance 1) ≡ pc + 34 = omega arith in
+      let leaves = Jump condition.Always 1 in
+      let at30 : z.code (pc + 30) ≡ Some (instruction_of leaves) = form_at z.code pc 10 (read_code place list) leaves h refl in
+      let e30 : pc + 30 ≡ pc + 26 + 4 = omega arith in
       guarded z (is_place (2 * i + place.elements)) (pc + 36) 10 t (goes_on [] (pushed (w.fram (2 * i + place.elements)) w)) (λ g.
-      runs_on z 2 8 t _ _ [] [] (jump_has z condition.NotEqual 3 (pc + 18) (pc + 26) true R4 (2 * i) w t (subst (λ n. z.code n ≡ Some (instruction_of (Jump condition.NotEqual 3))) (omega arith) h.1.1.1.1.1.1.0) (ap not m.flag) to m.has) (λ u j.
+      runs_on z 2 8 t _ _ [] [] (jump_has z condition.NotEqual 3 (pc + 18) (pc + 26) true R4 (2 * i) w t
+      (form_at z.code pc 6 (read_code place list) (Jump condition.NotEqual 3) h refl) (ap not m.flag) to m.has) (λ u j.
       fetch_part place.elements (pc + 26) pc 1 i w u s (place_is (2 * i + place.elements) g) back
-      (subst (λ n. z.code n ≡ Some (instruction_of (Move (Indexed R4 place.elements) (ToRegister R4)))) (omega arith) h.1.1.1.1.1.1.1.1.1.0)
-      (subst (λ n. z.code n ≡ Some (instruction_of (Jump condition.Always 1))) (omega arith) h.1.1.1.1.1.1.1.1.1.1.0)
-      (subst (λ n. z.code n ≡ Some (instruction_of (push_from R4))) (omega arith) h.1.1.1.1.1.1.1.1.1.1.1.1.0) j))
+      (form_at z.code pc 9 (read_code place list) (Move (Indexed R4 place.elements) (ToRegister R4)) h refl)
+      (subst (λ n. z.code n ≡ Some (instruction_of leaves)) e30 at30)
+      (form_at z.code pc 12 (read_code place list) (push_from R4) h refl) j))
 
-  read_by : (b : Bool) (place : ArrayPlace) (list : ListPlace) (pc i : ℕ) (rest : List ℕ) (w : WordState) (u : Core) → ((a : ℕ) → w.fram a < 0x10000) → nat_lt i place.length ≡ b → i < 0x10000 → place.length < 0x10000 → w.stack ≡ i ∷ rest → Stands z.code pc (read_code place list) → StandsFor z pc w u
+  read_by : (b : Bool) (place : ArrayPlace) (list : ListPlace) (pc i : ℕ) (rest : List ℕ) (w : WordState) (u : Core) → ((a : ℕ) → w.fram a < 0x10000)
+      → nat_lt i place.length ≡ b → i < 0x10000 → place.length < 0x10000 → w.stack ≡ i ∷ rest → Stands z.code pc (read_code place list) → StandsFor z pc w u
       → Follows z (pc + 36) 23 u (if b then own_element place list i (with_stack rest w) else goes_on [] (pushed 0 (with_stack rest w)))
   read_by false place list pc i rest w u wl lt r l e h k =
       let x = with_stack rest w in
       let m = memory_as z pc w u (i ∷ rest) e k in
-      let at34 = subst (λ n. z.code n ≡ Some (instruction_of (push_from R4))) (omega arith) h.1.1.1.1.1.1.1.1.1.1.1.1.0 in
+      let at34 = form_at z.code pc 12 (read_code place list) (push_from R4) h refl in
       let high = (z.tidy (pc + 34) _ at34).high in
       let to : sum16 (pc + 6 + 2) (distance 12) ≡ pc + 32 = omega arith in
       let zeroed = Move (Constant konst.Zero) (ToRegister R4) ∷ [] in
-      let at32 : Stands z.code (pc + 32) zeroed = (subst (λ n. z.code n ≡ Some (instruction_of (Move (Constant konst.Zero) (ToRegister R4)))) (omega arith) h.1.1.1.1.1.1.1.1.1.1.1.0, tt) in
+      let at32 : Stands z.code (pc + 32) zeroed = forms_at z.code pc 11 1 (read_code place list) h in
       let e36 : pc + 34 + 2 ≡ pc + 36 = omega arith in
       subst (λ n. Runs z.code [] 23 u (StandsFor z n (pushed 0 x))) e36
       (dearer z [] 10 23 u _ (omega arith)
       (runs_on z 2 8 u _ _ [] [] (pop_part z pc i rest w u e h.0 k) (λ t j.
       runs_on z 2 6 t _ _ [] [] (compare_part z (pc + 2) i place.length x t r l h.1.0 j) (λ t j.
-      runs_on z 2 4 t _ _ [] [] (jump_has z condition.Carry 12 (pc + 6) (pc + 32) true R4 i x t (subst (λ n. z.code n ≡ Some (instruction_of (Jump condition.Carry 12))) (omega arith) h.1.1.0) (j.flag ∙ le_of_lt z i place.length false lt) to (record { is = stands_elsewhere z (pc + 2 + 4) (pc + 6) x t t j.has.is (omega (arith, j.has.is.at)) refl refl refl refl; value = j.has.value })) (λ t j.
-      runs_on z 1 3 t _ _ [] [] (middle z zeroed 1 (pc + 32) (pc + 34) 0 R4 x t (end_of t (forms_run zeroed t).status) j.is (tt, tt) at32 ((tt, tt), tt) refl (omega (arith, j.is.at)) refl refl refl refl refl) (λ t j.
+      runs_on z 2 4 t _ _ [] [] (jump_has z condition.Carry 12 (pc + 6) (pc + 32) true R4 i x t
+      (form_at z.code pc 2 (read_code place list) (Jump condition.Carry 12) h refl) (j.flag ∙ le_of_lt z i place.length false lt) to
+      (record { is = stands_elsewhere z (pc + 2 + 4) (pc + 6) x t t j.has.is (omega (arith, j.has.is.at)) refl refl refl refl; value = j.has.value }))
+      (λ t j.
+      runs_on z 1 3 t _ _ [] [] (middle z zeroed 1 (pc + 32) (pc + 34) 0 R4 x t (end_of t (forms_run zeroed t).status) j.is (tt, tt) at32 ((tt, tt), tt) refl
+      (omega (arith, j.is.at)) refl refl refl refl refl) (λ t j.
       push_result z R4 (pc + 34) 0 x t (omega (arith, m.fits)) at34 j))))))
   read_by true place list pc i rest w u wl lt r l e h k =
       let x = with_stack rest w in
       let m = memory_as z pc w u (i ∷ rest) e k in
-      let at34 = subst (λ n. z.code n ≡ Some (instruction_of (push_from R4))) (omega arith) h.1.1.1.1.1.1.1.1.1.1.1.1.0 in
+      let at34 = form_at z.code pc 12 (read_code place list) (push_from R4) h refl in
       let high = (z.tidy (pc + 34) _ at34).high in
-      let marks : Stands z.code (pc + 8) (marking place list) = subst (λ n. Stands z.code n (marking place list)) (omega arith) (h.1.1.1.0, (h.1.1.1.1.0, (h.1.1.1.1.1.0, tt))) in
+      let marks : Stands z.code (pc + 8) (marking place list) = forms_at z.code pc 3 3 (read_code place list) h in
       let e18 : pc + 8 + 10 ≡ pc + 18 = omega arith in
       let same = w.fram list.ver == w.fram (2 * i + place.versions) in
       guarded z (is_place list.ver) (pc + 36) 23 u _ (λ g1. guarded z (is_place (2 * i + place.versions)) (pc + 36) 23 u _ (λ g2.
       let head = runs_on z 6 7 u (Has z R4 (pc + 8) x i) (Marked (pc + 18) x i same) [] []
       (runs_on z 2 4 u _ _ [] [] (pop_part z pc i rest w u e h.0 k) (λ t j.
       runs_on z 2 2 t _ _ [] [] (compare_part z (pc + 2) i place.length x t r l h.1.0 j) (λ t j.
-      jump_has z condition.Carry 12 (pc + 6) (pc + 8) false R4 i x t (subst (λ n. z.code n ≡ Some (instruction_of (Jump condition.Carry 12))) (omega arith) h.1.1.0) (j.flag ∙ le_of_lt z i place.length true lt) (omega arith) (record { is = stands_elsewhere z (pc + 2 + 4) (pc + 6) x t t j.has.is (omega (arith, j.has.is.at)) refl refl refl refl; value = j.has.value }))))
-      (λ t j. subst (λ n. Runs z.code [] 7 t (Marked n x i same)) e18 (mark_part place list (pc + 8) i x t wl (place_is list.ver g1) (place_is (2 * i + place.versions) g2) marks j)) in
-      then_end z (pc + 36) 13 10 u (Marked (pc + 18) x i same) [] _ _ head (λ t j. own_part same place list pc i x t (omega (arith, m.fits)) refl (omega arith) h j)))
+      jump_has z condition.Carry 12 (pc + 6) (pc + 8) false R4 i x t (form_at z.code pc 2 (read_code place list) (Jump condition.Carry 12) h refl)
+      (j.flag ∙ le_of_lt z i place.length true lt) (omega arith)
+      (record { is = stands_elsewhere z (pc + 2 + 4) (pc + 6) x t t j.has.is (omega (arith, j.has.is.at)) refl refl refl refl; value = j.has.value }))))
+      (λ t j. subst (λ n. Runs z.code [] 7 t (Marked n x i same)) e18
+      (mark_part place list (pc + 8) i x t wl (place_is list.ver g1) (place_is (2 * i + place.versions) g2) marks j)) in
+      then_end z (pc + 36) 13 10 u (Marked (pc + 18) x i same) [] _ _ head
+      (λ t j. own_part same place list pc i x t (omega (arith, m.fits)) refl (omega arith) h j)))
 
-  pub read_part : (place : ArrayPlace) (list : ListPlace) (pc : ℕ) (vs : List ℕ) (w : WordState) (u : Core) → ((a : ℕ) → w.fram a < 0x10000) → place.length < 0x10000 → w.stack ≡ vs → AllByRecursion (λ v. v < 0x10000) vs → Stands z.code pc (read_code place list) → StandsFor z pc w u
+  pub read_part : (place : ArrayPlace) (list : ListPlace) (pc : ℕ) (vs : List ℕ) (w : WordState) (u : Core) → ((a : ℕ) → w.fram a < 0x10000)
+      → place.length < 0x10000 → w.stack ≡ vs → AllByRecursion (λ v. v < 0x10000) vs → Stands z.code pc (read_code place list) → StandsFor z pc w u
       → Follows z (pc + 36) 23 u (with_top vs (λ i us. versioned_pushed place list i (with_stack us w)))
   read_part place list pc [] w u wl l e s h k = tt
   read_part place list pc (i ∷ rest) w u wl l e s h k = read_by (nat_lt i place.length) place list pc i rest w u wl refl s.0 l e h k
 
   -- nothing is promised of what strays, behind effects too
-  guarded_behind : (c : Bool) (pc most : ℕ) (u : Core) (es : List Effect) (b : Behaviour) → (c ≡ true → Follows z pc most u (behind_effects es b)) → Follows z pc most u (behind_effects es (if c then b else strays))
+  guarded_behind : (c : Bool) (pc most : ℕ) (u : Core) (es : List Effect) (b : Behaviour) → (c ≡ true → Follows z pc most u (behind_effects es b))
+      → Follows z pc most u (behind_effects es (if c then b else strays))
   guarded_behind true pc most u es b h = h refl
   guarded_behind false pc most u es b h = tt
 
@@ -152,11 +179,15 @@ module _ (z : Setting) where
     flag : t.flags.z ≡ b
 
   abbrev copying : ArrayPlace → ListPlace → List Form
-  copying place list = Calculate op.Add (Register R4) R4 ∷ Move (Register R5) (ToIndexed R4 place.copies) ∷ Move (Fram list.ver) (ToRegister R6) ∷ Calculate op.Cmp (Indexed R4 place.versions) R6 ∷ []
+  copying place list =
+      Calculate op.Add (Register R4) R4 ∷ Move (Register R5) (ToIndexed R4 place.copies) ∷ Move (Fram list.ver) (ToRegister R6) ∷ Calculate op.Cmp
+      (Indexed R4 place.versions) R6 ∷ []
 
   -- the word is stored in the copy
-  copy_part : (place : ArrayPlace) (list : ListPlace) (pc i v : ℕ) (w : WordState) (t : Core) → ((a : ℕ) → w.fram a < 0x10000) → v < 0x10000 → IsFram (2 * i + place.copies) → IsFram list.ver → IsFram (2 * i + place.versions) → Stands z.code pc (copying place list) → HasTwo z pc w i v t
-      → (let y = stored (2 * i + place.copies) v w in Runs z.code (Store (2 * i + place.copies) v ∷ []) 11 t (Copied (pc + 14) y i (y.fram list.ver) (y.fram list.ver == y.fram (2 * i + place.versions))))
+  copy_part : (place : ArrayPlace) (list : ListPlace) (pc i v : ℕ) (w : WordState) (t : Core) → ((a : ℕ) → w.fram a < 0x10000) → v < 0x10000
+      → IsFram (2 * i + place.copies) → IsFram list.ver → IsFram (2 * i + place.versions) → Stands z.code pc (copying place list) → HasTwo z pc w i v t
+      → (let y = stored (2 * i + place.copies) v w in
+      Runs z.code (Store (2 * i + place.copies) v ∷ []) 11 t (Copied (pc + 14) y i (y.fram list.ver) (y.fram list.ver == y.fram (2 * i + place.versions))))
   copy_part place list pc i v w t l lv f g k h j =
       let ms = copying place list in
       let c = 2 * i + place.copies in
@@ -165,20 +196,24 @@ module _ (z : Setting) where
       let fh = f.high in
       let d : (t.work 4 + t.work 4 + 0) % 0x10000 ≡ 2 * i = ap (λ q. (q + q + 0) % 0x10000) j.four ∙ twice i place.copies fh in
       let a : (t.work 4 + t.work 4 + 0) % 0x10000 + place.copies ≡ c = ap (λ q. q + place.copies) d in
-      let fr : put t.fram ((t.work 4 + t.work 4 + 0) % 0x10000 + place.copies) (t.work 5) ≡ y.fram = ap (λ q. put t.fram q (t.work 5)) a ∙ ap (put t.fram c) j.five ∙ ap (λ q. put q c v) j.is.fram in
+      let fr : put t.fram ((t.work 4 + t.work 4 + 0) % 0x10000 + place.copies) (t.work 5) ≡ y.fram = ap (λ q. put t.fram q (t.work 5)) a
+      ∙ ap (put t.fram c) j.five ∙ ap (λ q. put q c v) j.is.fram in
       let yl = put_words w.fram c v l lv in
       subst (λ es. Runs z.code es 11 t (Copied (pc + 14) y i (y.fram list.ver) (y.fram list.ver == y.fram m))) (ap₂ (λ p q. Store p q ∷ []) a j.five)
-      (straight z ms 11 t (end_of t (forms_run ms t).status) (Store ((t.work 4 + t.work 4 + 0) % 0x10000 + place.copies) (t.work 5) ∷ []) 11 _ (tt, (tt, (tt, (tt, tt)))) (stands_at z.code pc ms t h j.is.at)
+      (straight z ms 11 t (end_of t (forms_run ms t).status) (Store ((t.work 4 + t.work 4 + 0) % 0x10000 + place.copies) (t.work 5) ∷ []) 11 _
+      (tt, (tt, (tt, (tt, tt)))) (stands_at z.code pc ms t h j.is.at)
       ((tt, tt), ((tt, subst IsFram (sym a) f), ((g, tt), ((tt, subst (λ q. IsFram (q + place.versions)) (sym d) k), tt)))) refl (omega arith)
       (record {
         is = record { at = omega (arith, j.is.at); memory = j.is.memory; fram = fr; readings = j.is.readings };
         four = d;
         six = ap (λ q. q list.ver) fr;
-        flag = ap₂ (λ p q. (p + (0xFFFF - q) + 1) % 0x10000 == 0) (ap (λ q. q list.ver) fr) (ap₂ (λ q r. q (r + place.versions)) fr d) ∙ equal_flag (y.fram list.ver) (y.fram m) (yl list.ver) (yl m);
+        flag = ap₂ (λ p q. (p + (0xFFFF - q) + 1) % 0x10000 == 0) (ap (λ q. q list.ver) fr) (ap₂ (λ q r. q (r + place.versions)) fr d)
+            ∙ equal_flag (y.fram list.ver) (y.fram m) (yl list.ver) (yl m);
       }))
 
   -- the first store to it: the version word, the entry, the count
-  first_part : (place : ArrayPlace) (list : ListPlace) (pc i : ℕ) (b : Bool) (w : WordState) (t : Core) → IsFram (2 * i + place.copies) → IsFram (2 * i + place.versions) → Stands z.code pc (first_code place list) → Copied pc w i (w.fram list.ver) b t
+  first_part : (place : ArrayPlace) (list : ListPlace) (pc i : ℕ) (b : Bool) (w : WordState) (t : Core) → IsFram (2 * i + place.copies)
+      → IsFram (2 * i + place.versions) → Stands z.code pc (first_code place list) → Copied pc w i (w.fram list.ver) b t
       → Follows z (pc + 38) 28 t (first_stored place list i w)
   first_part place list pc i b w t fc fm h j =
       let ms = first_code place list in
@@ -189,7 +224,8 @@ module _ (z : Setting) where
       let y = stored m x w in
       let n = y.fram list.cln in
       let a = 4 * n + list.list in
-      guarded z (is_place e) (pc + 38) 28 t _ (λ g1. guarded_behind (is_place list.cln) (pc + 38) 28 t (Store m x ∷ []) _ (λ g2. guarded_behind (is_place a) (pc + 38) 28 t (Store m x ∷ []) _ (λ g3. guarded_behind (is_place (a + 2)) (pc + 38) 28 t (Store m x ∷ []) _ (λ g4.
+      guarded z (is_place e) (pc + 38) 28 t _ (λ g1. guarded_behind (is_place list.cln) (pc + 38) 28 t (Store m x ∷ []) _
+      (λ g2. guarded_behind (is_place a) (pc + 38) 28 t (Store m x ∷ []) _ (λ g3. guarded_behind (is_place (a + 2)) (pc + 38) 28 t (Store m x ∷ []) _ (λ g4.
       let f2 = place_is list.cln g2 in
       let f3 = place_is a g3 in
       let f4 = place_is (a + 2) g4 in
@@ -198,34 +234,56 @@ module _ (z : Setting) where
       let ah = f3.high in
       let four : ℕ → ℕ = λ k. ((k + k + 0) % 0x10000 + (k + k + 0) % 0x10000 + 0) % 0x10000 in
       let F : ℕ → ℕ = put t.fram (t.work 4 + place.versions) (t.work 6) in
-      let pm : t.work 4 + place.versions ≡ m = ap (λ q. q + place.versions) j.four in
+      let versions_at = t.work 4 + place.versions in
+      let element_at = (t.work 4 + place.elements + 0) % 0x10000 in
+      let copy_at = (t.work 4 + place.copies + 0) % 0x10000 in
+      let entry_at = four (F list.cln) + list.list in
+      let next_at = four (F list.cln) + word_sum list.list 2 in
+      let counted = (F list.cln + 1 + 0) % 0x10000 in
+      let pm : versions_at ≡ m = ap (λ q. q + place.versions) j.four in
       let fr : F ≡ y.fram = ap (λ q. put t.fram q (t.work 6)) pm ∙ ap (put t.fram m) j.six ∙ ap (λ q. put q m x) j.is.fram in
       let un : F list.cln ≡ n = ap (λ q. q list.cln) fr in
-      let at : four (F list.cln) + list.list ≡ a = ap (λ k. four k + list.list) un ∙ ap (λ k. k + list.list) (quad n list.list ah) in
-      let at2 : four (F list.cln) + word_sum list.list 2 ≡ a + 2 = ap (λ k. four (F list.cln) + k) (second list.list (4 * n) f4.high) ∙ plus_two (four (F list.cln)) list.list a at in
-      let up : (F list.cln + 1 + 0) % 0x10000 ≡ n + 1 = ap (λ k. (k + 1 + 0) % 0x10000) un ∙ next_is n (next_small n list.list ah) in
-      let ph : (t.work 4 + place.elements + 0) % 0x10000 ≡ e = ap (λ q. (q + place.elements + 0) % 0x10000) j.four ∙ plus_small i place.elements eh in
-      let pc2 : (t.work 4 + place.copies + 0) % 0x10000 ≡ c = ap (λ q. (q + place.copies + 0) % 0x10000) j.four ∙ plus_small i place.copies ch in
+      let at : entry_at ≡ a = ap (λ k. four k + list.list) un ∙ ap (λ k. k + list.list) (quad n list.list ah) in
+      let at2 : next_at ≡ a + 2 = ap (λ k. four (F list.cln) + k) (second list.list (4 * n) f4.high)
+      ∙ plus_two (four (F list.cln)) list.list a at in
+      let up : counted ≡ n + 1 = ap (λ k. (k + 1 + 0) % 0x10000) un ∙ next_is n (next_small n list.list ah) in
+      let ph : element_at ≡ e = ap (λ q. (q + place.elements + 0) % 0x10000) j.four ∙ plus_small i place.elements eh in
+      let pc2 : copy_at ≡ c = ap (λ q. (q + place.copies + 0) % 0x10000) j.four ∙ plus_small i place.copies ch in
       let effects : ℕ → ℕ → ℕ → ℕ → ℕ → ℕ → ℕ → List Effect = λ p q r s u v k. Store p q ∷ Store r s ∷ Store u v ∷ Store list.cln k ∷ [] in
       let memory : ℕ → ℕ → ℕ → ℕ → ℕ → ℕ → ℕ → (ℕ → ℕ) = λ p q r s u v k. put (put (put (put t.fram p q) r s) u v) list.cln k in
-      let es = by_seven effects (t.work 4 + place.versions) (t.work 6) (four (F list.cln) + list.list) ((t.work 4 + place.elements + 0) % 0x10000) (four (F list.cln) + word_sum list.list 2) ((t.work 4 + place.copies + 0) % 0x10000) ((F list.cln + 1 + 0) % 0x10000) m x a e (a + 2) c (n + 1) pm j.six at ph at2 pc2 up in
-      let fs = by_seven memory (t.work 4 + place.versions) (t.work 6) (four (F list.cln) + list.list) ((t.work 4 + place.elements + 0) % 0x10000) (four (F list.cln) + word_sum list.list 2) ((t.work 4 + place.copies + 0) % 0x10000) ((F list.cln + 1 + 0) % 0x10000) m x a e (a + 2) c (n + 1) pm j.six at ph at2 pc2 up in
+      let fv : IsFram versions_at = subst IsFram (sym pm) fm in
+      let fe : IsFram entry_at = subst IsFram (sym at) f3 in
+      let fn : IsFram next_at = subst IsFram (sym at2) f4 in
+      let done : List Effect = effects versions_at (t.work 6) entry_at element_at next_at copy_at counted in
+      let es : done ≡ effects m x a e (a + 2) c (n + 1) = λ i. effects (pm i) (j.six i) (at i) (ph i) (at2 i) (pc2 i) (up i) in
+      let fs : memory versions_at (t.work 6) entry_at element_at next_at copy_at counted ≡ memory m x a e (a + 2) c (n + 1) =
+      λ i. memory (pm i) (j.six i) (at i) (ph i) (at2 i) (pc2 i) (up i) in
       subst (λ l. Runs z.code l 28 t (StandsFor z (pc + 38) (stored list.cln (n + 1) (stored (a + 2) c (stored a e y))))) es
-      (straight z ms 28 t (end_of t (forms_run ms t).status) (effects (t.work 4 + place.versions) (t.work 6) (four (F list.cln) + list.list) ((t.work 4 + place.elements + 0) % 0x10000) (four (F list.cln) + word_sum list.list 2) ((t.work 4 + place.copies + 0) % 0x10000) ((F list.cln + 1 + 0) % 0x10000)) 28 _
-      (tt, (tt, (tt, (tt, (tt, (tt, (tt, (tt, (tt, (tt, (tt, (tt, tt)))))))))))) (stands_at z.code pc ms t h j.is.at)
-      ((tt, subst IsFram (sym pm) fm), ((f2, tt), ((tt, tt), ((tt, tt), ((tt, tt), ((tt, tt), ((tt, tt), ((tt, subst IsFram (sym at) f3), ((tt, tt), ((tt, subst IsFram (sym at2) f4), ((tt, tt), ((tt, f2), tt)))))))))))) refl (omega arith)
-      (record { at = first_pc t.pc pc j.is.at; memory = j.is.memory; fram = fs ∙ ap (λ q. put (put (put (put q m x) a e) (a + 2) c) list.cln (n + 1)) j.is.fram; readings = j.is.readings }))))))
+      (straight z ms 28 t (end_of t (forms_run ms t).status) done 28 _ (tt, (tt, (tt, (tt, (tt, (tt, (tt, (tt, (tt, (tt, (tt, (tt, tt))))))))))))
+      (stands_at z.code pc ms t h j.is.at)
+      ((tt, fv), ((f2, tt), ((tt, tt), ((tt, tt), ((tt, tt), ((tt, tt), ((tt, tt), ((tt, fe), ((tt, tt), ((tt, fn), ((tt, tt), ((tt, f2), tt))))))))))))
+      refl (omega arith)
+      (record {
+        at = first_pc t.pc pc j.is.at;
+        memory = j.is.memory;
+        fram = fs ∙ ap (λ q. put (put (put (put q m x) a e) (a + 2) c) list.cln (n + 1)) j.is.fram;
+        readings = j.is.readings;
+      }))))))
 
   -- by whether the version word is the attempt's number
-  own_stored_part : (b : Bool) (place : ArrayPlace) (list : ListPlace) (pc i v : ℕ) (w : WordState) (t : Core) → ((a : ℕ) → w.fram a < 0x10000) → v < 0x10000 → IsFram (2 * i + place.copies) → IsFram list.ver → IsFram (2 * i + place.versions)
-      → (let y = stored (2 * i + place.copies) v w in (y.fram list.ver == y.fram (2 * i + place.versions)) ≡ b → Stands z.code pc (write_code place list) → HasTwo z (pc + 10) w i v t
-      → Follows z (pc + 64) 41 t (if b then goes_on (Store (2 * i + place.copies) v ∷ []) y else behind_effects (Store (2 * i + place.copies) v ∷ []) (first_stored place list i y)))
+  own_stored_part : (b : Bool) (place : ArrayPlace) (list : ListPlace) (pc i v : ℕ) (w : WordState) (t : Core) → ((a : ℕ) → w.fram a < 0x10000) → v < 0x10000
+      → IsFram (2 * i + place.copies) → IsFram list.ver → IsFram (2 * i + place.versions)
+      → (let y = stored (2 * i + place.copies) v w in
+      (y.fram list.ver == y.fram (2 * i + place.versions)) ≡ b → Stands z.code pc (write_code place list) → HasTwo z (pc + 10) w i v t
+      → Follows z (pc + 64) 41 t (if b then goes_on (Store (2 * i + place.copies) v ∷ []) y else behind_effects (Store (2 * i + place.copies) v ∷ [])
+      (first_stored place list i y)))
   own_stored_part true place list pc i v w t l lv fc fv fm e h j =
       let c = 2 * i + place.copies in
       let y = stored c v w in
-      let copies : Stands z.code (pc + 10) (copying place list) = subst (λ n. Stands z.code n (copying place list)) (omega arith) (h.1.1.1.1.0, (h.1.1.1.1.1.0, (h.1.1.1.1.1.1.0, (h.1.1.1.1.1.1.1.0, tt)))) in
-      let at24 = subst (λ n. z.code n ≡ Some (instruction_of (Jump condition.Equal 19))) (omega arith) h.1.1.1.1.1.1.1.1.0 in
-      let at60 : z.code (pc + 60) ≡ Some (instruction_of (Move (Register R6) (ToFram list.cln))) = subst (λ n. z.code n ≡ Some (instruction_of (Move (Register R6) (ToFram list.cln)))) (omega arith) h.1.1.1.1.1.1.1.1.1.1.1.1.1.1.1.1.1.1.1.1.0 in
+      let copies : Stands z.code (pc + 10) (copying place list) = forms_at z.code pc 4 4 (write_code place list) h in
+      let at24 = form_at z.code pc 8 (write_code place list) (Jump condition.Equal 19) h refl in
+      let at60 : z.code (pc + 60) ≡ Some (instruction_of (Move (Register R6) (ToFram list.cln))) =
+      form_at z.code pc 20 (write_code place list) (Move (Register R6) (ToFram list.cln)) h refl in
       let high = (z.tidy (pc + 60) _ at60).high in
       let to : sum16 (pc + 24 + 2) (distance 19) ≡ pc + 64 = omega arith in
       let e24 : pc + 10 + 14 ≡ pc + 24 = omega arith in
@@ -235,13 +293,15 @@ module _ (z : Setting) where
   own_stored_part false place list pc i v w t l lv fc fv fm e h j =
       let c = 2 * i + place.copies in
       let y = stored c v w in
-      let copies : Stands z.code (pc + 10) (copying place list) = subst (λ n. Stands z.code n (copying place list)) (omega arith) (h.1.1.1.1.0, (h.1.1.1.1.1.0, (h.1.1.1.1.1.1.0, (h.1.1.1.1.1.1.1.0, tt)))) in
-      let at24 : z.code (pc + 24) ≡ Some (instruction_of (Jump condition.Equal 19)) = subst (λ n. z.code n ≡ Some (instruction_of (Jump condition.Equal 19))) (omega arith) h.1.1.1.1.1.1.1.1.0 in
-      let rest : Stands z.code (pc + 26) (first_code place list) = subst (λ n. Stands z.code n (first_code place list)) (omega arith) h.1.1.1.1.1.1.1.1.1 in
+      let copies : Stands z.code (pc + 10) (copying place list) = forms_at z.code pc 4 4 (write_code place list) h in
+      let at24 : z.code (pc + 24) ≡ Some (instruction_of (Jump condition.Equal 19)) =
+      form_at z.code pc 8 (write_code place list) (Jump condition.Equal 19) h refl in
+      let rest : Stands z.code (pc + 26) (first_code place list) = forms_behind z.code pc 9 (write_code place list) h in
       let e24 : pc + 10 + 14 ≡ pc + 24 = omega arith in
       let e64 : pc + 26 + 38 ≡ pc + 64 = omega arith in
       subst (λ n. Follows z n 41 t (behind_effects (Store c v ∷ []) (first_stored place list i y))) e64
-      (then_end z (pc + 26 + 38) 11 30 t _ (Store c v ∷ []) (first_stored place list i y).effects (first_stored place list i y).end (copy_part place list (pc + 10) i v w t l lv fc fv fm copies j) (λ u k.
+      (then_end z (pc + 26 + 38) 11 30 t _ (Store c v ∷ []) (first_stored place list i y).effects (first_stored place list i y).end
+      (copy_part place list (pc + 10) i v w t l lv fc fv fm copies j) (λ u k.
       let p24 : u.pc ≡ pc + 24 = k.is.at ∙ e24 in
       then_end z (pc + 26 + 38) 2 28 u (Copied (pc + 26) y i (y.fram list.ver) false) [] (first_stored place list i y).effects (first_stored place list i y).end
       (jump_exact z condition.Equal 19 (pc + 26) false u _ (ap z.code p24 ∙ at24) (k.flag ∙ e) (omega (arith, p24))
@@ -252,41 +312,57 @@ module _ (z : Setting) where
     two : HasTwo z pc w i v t
     flag : t.flags.c ≡ b
 
-  compare_two : (pc i v size : ℕ) (w : WordState) (t : Core) → i < 0x10000 → size < 0x10000 → z.code pc ≡ Some (instruction_of (Calculate op.Cmp (Number size) R4)) → HasTwo z pc w i v t → Runs z.code [] 2 t (ComparedTwo (pc + 4) w i v (nat_le size i))
+  compare_two : (pc i v size : ℕ) (w : WordState) (t : Core) → i < 0x10000 → size < 0x10000
+      → z.code pc ≡ Some (instruction_of (Calculate op.Cmp (Number size) R4)) → HasTwo z pc w i v t
+      → Runs z.code [] 2 t (ComparedTwo (pc + 4) w i v (nat_le size i))
   compare_two pc i v size w t a b h k =
       let ms = Calculate op.Cmp (Number size) R4 ∷ [] in
       straight z ms 2 t (end_of t (forms_run ms t).status) [] 2 _ (tt, tt) (stands_at z.code pc ms t (h, tt) k.is.at) ((tt, tt), tt) refl (omega arith)
-      (record { two = record { is = stands_elsewhere z pc (pc + 4) w t _ k.is (omega (arith, k.is.at)) refl refl refl refl; four = k.four; five = k.five }; flag = ap (λ q. nat_le 0x10000 (q + (0xFFFF - size) + 1)) k.four ∙ no_borrow i size a b })
+      (record {
+        two = record { is = stands_elsewhere z pc (pc + 4) w t _ k.is (omega (arith, k.is.at)) refl refl refl refl; four = k.four; five = k.five };
+        flag = ap (λ q. nat_le 0x10000 (q + (0xFFFF - size) + 1)) k.four ∙ no_borrow i size a b;
+      })
 
-  write_by : (b : Bool) (place : ArrayPlace) (list : ListPlace) (pc i v : ℕ) (rest : List ℕ) (w : WordState) (u : Core) → ((a : ℕ) → w.fram a < 0x10000) → nat_lt i place.length ≡ b → i < 0x10000 → v < 0x10000 → place.length < 0x10000 → w.stack ≡ v ∷ (i ∷ rest) → Stands z.code pc (write_code place list) → StandsFor z pc w u
+  write_by : (b : Bool) (place : ArrayPlace) (list : ListPlace) (pc i v : ℕ) (rest : List ℕ) (w : WordState) (u : Core) → ((a : ℕ) → w.fram a < 0x10000)
+      → nat_lt i place.length ≡ b → i < 0x10000 → v < 0x10000 → place.length < 0x10000 → w.stack ≡ v ∷ (i ∷ rest) → Stands z.code pc (write_code place list)
+      → StandsFor z pc w u
       → Follows z (pc + 64) 49 u (if b then own_stored place list i v (with_stack rest w) else goes_on [] (with_stack rest w))
   write_by false place list pc i v rest w u wl lt r s l e h k =
       let x = with_stack rest w in
-      let at8 : z.code (pc + 8) ≡ Some (instruction_of (Jump condition.Carry 27)) = subst (λ n. z.code n ≡ Some (instruction_of (Jump condition.Carry 27))) (omega arith) h.1.1.1.0 in
-      let at60 : z.code (pc + 60) ≡ Some (instruction_of (Move (Register R6) (ToFram list.cln))) = subst (λ n. z.code n ≡ Some (instruction_of (Move (Register R6) (ToFram list.cln)))) (omega arith) h.1.1.1.1.1.1.1.1.1.1.1.1.1.1.1.1.1.1.1.1.0 in
+      let at8 : z.code (pc + 8) ≡ Some (instruction_of (Jump condition.Carry 27)) =
+      form_at z.code pc 3 (write_code place list) (Jump condition.Carry 27) h refl in
+      let at60 : z.code (pc + 60) ≡ Some (instruction_of (Move (Register R6) (ToFram list.cln))) =
+      form_at z.code pc 20 (write_code place list) (Move (Register R6) (ToFram list.cln)) h refl in
       let high = (z.tidy (pc + 60) _ at60).high in
       let to : sum16 (pc + 8 + 2) (distance 27) ≡ pc + 64 = omega arith in
       let e8 : pc + 4 + 4 ≡ pc + 8 = omega arith in
       dearer z [] 8 49 u _ (omega arith)
       (runs_on z 4 4 u _ _ [] [] (pop_two z pc i v rest w u e (h.0, (h.1.0, tt)) k) (λ t j.
-      runs_on z 2 2 t _ _ [] [] (compare_two (pc + 4) i v place.length x t r l (subst (λ n. z.code n ≡ Some (instruction_of (Calculate op.Cmp (Number place.length) R4))) (omega arith) h.1.1.0) j) (λ t q.
-      jump_to z condition.Carry 27 (pc + 8) (pc + 64) true x t at8 (q.flag ∙ le_of_lt z i place.length false lt) to (subst (λ n. StandsFor z n x t) e8 q.two.is))))
+      runs_on z 2 2 t _ _ [] [] (compare_two (pc + 4) i v place.length x t r l
+      (form_at z.code pc 2 (write_code place list) (Calculate op.Cmp (Number place.length) R4) h refl) j) (λ t q.
+      jump_to z condition.Carry 27 (pc + 8) (pc + 64) true x t at8 (q.flag ∙ le_of_lt z i place.length false lt) to
+      (subst (λ n. StandsFor z n x t) e8 q.two.is))))
   write_by true place list pc i v rest w u wl lt r s l e h k =
       let x = with_stack rest w in
       let c = 2 * i + place.copies in
       let y = stored c v x in
-      let at8 : z.code (pc + 8) ≡ Some (instruction_of (Jump condition.Carry 27)) = subst (λ n. z.code n ≡ Some (instruction_of (Jump condition.Carry 27))) (omega arith) h.1.1.1.0 in
+      let at8 : z.code (pc + 8) ≡ Some (instruction_of (Jump condition.Carry 27)) =
+      form_at z.code pc 3 (write_code place list) (Jump condition.Carry 27) h refl in
       let e8 : pc + 4 + 4 ≡ pc + 8 = omega arith in
-      guarded z (is_place c) (pc + 64) 49 u _ (λ g1. guarded z (is_place list.ver) (pc + 64) 49 u _ (λ g2. guarded z (is_place (2 * i + place.versions)) (pc + 64) 49 u _ (λ g3.
+      guarded z (is_place c) (pc + 64) 49 u _ (λ g1. guarded z (is_place list.ver) (pc + 64) 49 u _
+      (λ g2. guarded z (is_place (2 * i + place.versions)) (pc + 64) 49 u _ (λ g3.
       then_end z (pc + 64) 8 41 u (HasTwo z (pc + 10) x i v) [] _ _
       (runs_on z 4 4 u _ _ [] [] (pop_two z pc i v rest w u e (h.0, (h.1.0, tt)) k) (λ t j.
-      runs_on z 2 2 t _ _ [] [] (compare_two (pc + 4) i v place.length x t r l (subst (λ n. z.code n ≡ Some (instruction_of (Calculate op.Cmp (Number place.length) R4))) (omega arith) h.1.1.0) j) (λ t q.
+      runs_on z 2 2 t _ _ [] [] (compare_two (pc + 4) i v place.length x t r l
+      (form_at z.code pc 2 (write_code place list) (Calculate op.Cmp (Number place.length) R4) h refl) j) (λ t q.
       let p8 : t.pc ≡ pc + 8 = q.two.is.at ∙ e8 in
       jump_exact z condition.Carry 27 (pc + 10) false t _ (ap z.code p8 ∙ at8) (q.flag ∙ le_of_lt z i place.length true lt) (omega (arith, p8))
       (record { is = stands_elsewhere z (pc + 4 + 4) (pc + 10) x t _ q.two.is refl refl refl refl refl; four = q.two.four; five = q.two.five }))))
-      (λ t j. own_stored_part (y.fram list.ver == y.fram (2 * i + place.versions)) place list pc i v x t wl s (place_is c g1) (place_is list.ver g2) (place_is (2 * i + place.versions) g3) refl h j))))
+      (λ t j. own_stored_part (y.fram list.ver == y.fram (2 * i + place.versions)) place list pc i v x t wl s (place_is c g1) (place_is list.ver g2)
+      (place_is (2 * i + place.versions) g3) refl h j))))
 
-  pub write_part : (place : ArrayPlace) (list : ListPlace) (pc : ℕ) (vs : List ℕ) (w : WordState) (u : Core) → ((a : ℕ) → w.fram a < 0x10000) → place.length < 0x10000 → w.stack ≡ vs → AllByRecursion (λ v. v < 0x10000) vs → Stands z.code pc (write_code place list) → StandsFor z pc w u
+  pub write_part : (place : ArrayPlace) (list : ListPlace) (pc : ℕ) (vs : List ℕ) (w : WordState) (u : Core) → ((a : ℕ) → w.fram a < 0x10000)
+      → place.length < 0x10000 → w.stack ≡ vs → AllByRecursion (λ v. v < 0x10000) vs → Stands z.code pc (write_code place list) → StandsFor z pc w u
       → Follows z (pc + 64) 49 u (with_two vs (λ i v us. versioned_stored place list i v (with_stack us w)))
   write_part place list pc [] w u wl l e s h k = tt
   write_part place list pc (v ∷ []) w u wl l e s h k = tt

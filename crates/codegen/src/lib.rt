@@ -6,8 +6,6 @@ pub mod laws;
 mod operations;
 mod program;
 mod shifts;
-#[cfg(test)]
-mod tests;
 mod versioned;
 
 pub use program::emit;

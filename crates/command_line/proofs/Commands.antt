@@ -1,5 +1,6 @@
 -- Lines as commands: what stands in a line is what the command holds.
-use Rattle.std.proofs.Common.{◌≡◌, ◌∙◌, ◌+◌, ◌++◌, ◌∷◌, ◌||◌, ℕ, Bool, cond, codes, true, false, refl, sym, ap, ap₂, subst, arith, List, [], map, length, Option, Some, None, is_some, option_map, true≢false, append_assoc, string_bytes, String}
+use Rattle.std.proofs.Common.{◌≡◌, ◌∙◌, ◌+◌, ◌++◌, ◌∷◌, ◌||◌, ℕ, Bool, cond, codes, true, false, refl, sym, ap, ap₂, subst, arith, List, [], map, length}
+use Rattle.std.proofs.Common.{Option, Some, None, is_some, option_map, true≢false, append_assoc, string_bytes, String}
 use Rattle.std.proofs.lemmas.Slice.Eq.{bytes_eq-Decides}
 use Rattle.std.proofs.lemmas.Str.{IsUtf8-string_bytes}
 use Rattle.std.specs.Prelude.{slice_get, find, unwrap_or}
@@ -13,9 +14,11 @@ use Rattle.clap.specs.Walk.{has_row}
 use Rattle.clap.specs.ValueTests.{is_signed_in}
 use Rattle.std.specs.Prelude.{decimal, pos}
 use Rattle.std.specs.Option.{option_map_or}
+use Rattle.std.proofs.lemmas.Bool.{or_parts}
 use Rattle.clap.specs.declared.parser.matches.ArgMatches.{ArgMatches}
 use Rattle.clap.specs.declared.parser.matches.ArgMatches.TheViews.{out-ArgMatches, out-SubCommand}
-use Rattle.command_line.specs.CommandLine.{AreTexts, IsLine, Subcommand, all_said, alpaca_app, begins_with_hyphen, files_of, is_number_name, line_of, number_in, plain_line_of, said_behind, subcommand_named, subcommands}
+use Rattle.command_line.specs.CommandLine.{AreTexts, IsLine, Subcommand, all_said, alpaca_app, begins_with_hyphen, files_of, is_number_name, line_of, number_in}
+use Rattle.command_line.specs.CommandLine.{plain_line_of, said_behind, subcommand_named, subcommands}
 use Rattle.command_line.specs.Commands.{IsPlainLine, NamesCommand, line_found, plain_line, values_of}
 use Rattle.command_line.specs.declared.Command.{Command}
 use Rattle.command_line.specs.declared.Command.TheVariants.{Mean, Try, Build, Run, Asm, Dis, Gen}
@@ -35,11 +38,13 @@ first_after [] rest id file e = rw ((bytes_eq-Decides id id).1 refl) refl
 first_after (r ∷ front) rest id file e = go (bytes_eq r.id id) refl (first_after front rest id file)
   where
     go : (b : Bool) → bytes_eq r.id id ≡ b → (has_row id front ≡ false → first_of id (front ++ file_row id file ∷ rest) ≡ Some file)
-        → option_and_then (λ (x : Row). slice_get x.values 0) (cond b (Some r) (find (λ (x : Row). bytes_eq x.id id) (front ++ file_row id file ∷ rest))) ≡ Some file
+        → option_and_then (λ (x : Row). slice_get x.values 0)
+        (cond b (Some r) (find (λ (x : Row). bytes_eq x.id id) (front ++ file_row id file ∷ rest))) ≡ Some file
     go true is more = absurd (true≢false (sym (ap (λ b. b || has_row id front) is) ∙ e))
     go false is more = more (ap (λ b. b || has_row id front) (sym is) ∙ e)
 
-values_after : (ids : List Text) (rules : List Rule) (keys : List Text) (k : ℕ) (front : List Row) (files : List Text) → IsInOrder rules keys k ids → IsGiven keys front
+values_after : (ids : List Text) (rules : List Rule) (keys : List Text) (k : ℕ) (front : List Row) (files : List Text) → IsInOrder rules keys k ids
+    → IsGiven keys front
     → length files ≡ length ids → values_of ids (front ++ rows_for ids files) ≡ Some files
 values_after [] rules keys k front [] order given count = refl
 values_after [] rules keys k front (file ∷ files) order given count = absurd (omega arith)
@@ -52,7 +57,8 @@ values_after (id ∷ ids) rules keys k front (file ∷ files) order given count 
     (first_after front (rows_for ids files) id file (given_row keys front id given ∙ order.3)) rest
 
 -- what the parse found of a line is the line
-pub line_found_is : (words : List Text) (name : Text) (rows : List Row) → Line words → subcommand_of alpaca_app words ≡ Some (name, rows) → line_found name rows ≡ line_of words
+pub line_found_is : (words : List Text) (name : Text) (rows : List Row) → Line words → subcommand_of alpaca_app words ≡ Some (name, rows)
+    → line_found name rows ≡ line_of words
 line_found_is words name rows l is =
     let same = sym l.rows ∙ is in
     let called : l.command.name ≡ name = ap (λ (o : Option (Text × List Row)). (unwrap_or o (name, rows)).0) same in
@@ -68,18 +74,24 @@ line_found_is words name rows l is =
 
 -- ---- each command has a line, and each line a command
 
-some_more : (word : Text) (o : Option (List Text)) (line : List Text) → option_map (λ fs. word ∷ fs) o ≡ Some line → (files : List Text) × (o ≡ Some files) × (line ≡ word ∷ files)
+some_more : (word : Text) (o : Option (List Text)) (line : List Text) → option_map (λ fs. word ∷ fs) o ≡ Some line
+    → (files : List Text) × (o ≡ Some files) × (line ≡ word ∷ files)
 some_more word None line e = cc
 some_more word (Some files) line e = (files, refl, ap (λ o. unwrap_or o []) (sym e))
 
 -- the command of a line, by its name and files
-subcommand_of_line : (c : Command) (name : Text) (files : List Text) → plain_line c ≡ name ∷ files → (s : Subcommand) × (subcommand_named name ≡ Some s) × (length files ≡ length s.files)
+subcommand_of_line : (c : Command) (name : Text) (files : List Text) → plain_line c ≡ name ∷ files
+    → (s : Subcommand) × (subcommand_named name ≡ Some s) × (length files ≡ length s.files)
 subcommand_of_line (Mean source trace) name files e =
     let named : name ≡ codes "mean" = ap (λ l. unwrap_or (slice_get l 0) []) (sym e) in
     (record { name = codes "mean"; files = codes "SRC" ∷ codes "TRACE" ∷ [] }, ap subcommand_named named, let all = ap length (sym e) in omega arith)
 subcommand_of_line (Try source trace image) name files e =
-    let named : name ≡ codes "try" = ap (λ l. unwrap_or (slice_get l 0) []) (sym e) in
-    (record { name = codes "try"; files = codes "SRC" ∷ codes "TRACE" ∷ codes "IMAGE" ∷ [] }, ap subcommand_named named, let all = ap length (sym e) in omega arith)
+    let named : name ≡ codes "try" = ap (λ l. unwrap_or (slice_get l 0) []) (sym e) in (
+      record { name = codes "try"; files = codes "SRC" ∷ codes "TRACE" ∷ codes "IMAGE" ∷ [] },
+      ap subcommand_named named,
+      let all = ap length (sym e) in
+          omega arith,
+    )
 subcommand_of_line (Build source image) name files e =
     let named : name ≡ codes "build" = ap (λ l. unwrap_or (slice_get l 0) []) (sym e) in
     (record { name = codes "build"; files = codes "SRC" ∷ codes "IMAGE" ∷ [] }, ap subcommand_named named, let all = ap length (sym e) in omega arith)
@@ -97,7 +109,8 @@ subcommand_of_line (Gen number image) name files e =
     (record { name = codes "gen"; files = codes "N" ∷ codes "IMAGE" ∷ [] }, ap subcommand_named named, let all = ap length (sym e) in omega arith)
 
 -- the first step, where the second gives something
-some_before : (f : List Text → Option (List Text)) (o : Option (List Text)) (all : List Text) → option_and_then f o ≡ Some all → (files : List Text) × (o ≡ Some files) × (f files ≡ Some all)
+some_before : (f : List Text → Option (List Text)) (o : Option (List Text)) (all : List Text) → option_and_then f o ≡ Some all
+    → (files : List Text) × (o ≡ Some files) × (f files ≡ Some all)
 some_before f None all e = cc
 some_before f (Some files) all e = (files, refl, e)
 
@@ -121,7 +134,8 @@ abbrev the_texts : Option (List Text) → List Text
 the_texts o = unwrap_or o []
 
 -- the same where no name is that of a number
-of_files : (s : Subcommand) → list_any is_number_name s.files ≡ false → ((files : List Text) → length files ≡ length s.files → (c : Command) × (plain_line c ≡ s.name ∷ files)) → HasLines s
+of_files : (s : Subcommand) → list_any is_number_name s.files ≡ false
+    → ((files : List Text) → length files ≡ length s.files → (c : Command) × (plain_line c ≡ s.name ∷ files)) → HasLines s
 of_files s none has files texts count all =
     let same : files ≡ texts = ap the_texts (sym (files_said s.files files none) ∙ all) in
     let c = has files count in
@@ -133,7 +147,8 @@ number_and_file [] texts count all = absurd (omega arith)
 number_and_file (n ∷ []) texts count all = absurd (omega arith)
 number_and_file (n ∷ image ∷ []) texts count all = go (is_signed_in (pos 0) (pos 4294967295) n) all
   where
-    go : (b : Bool) → option_and_then (λ t. Some (t ∷ image ∷ [])) (cond b (Some (decimal (number_in n))) None) ≡ Some texts → (c : Command) × (plain_line c ≡ codes "gen" ∷ texts)
+    go : (b : Bool) → option_and_then (λ t. Some (t ∷ image ∷ [])) (cond b (Some (decimal (number_in n))) None) ≡ Some texts
+        → (c : Command) × (plain_line c ≡ codes "gen" ∷ texts)
     go true e = (Gen (number_in n) (lent image), ap (λ ts. codes "gen" ∷ ts) (ap the_texts e))
     go false e = cc
 number_and_file (n ∷ image ∷ other ∷ more) texts count all = absurd (omega arith)
@@ -201,7 +216,8 @@ have_lines (x ∷ xs) word s all e = go (bytes_eq x.name word) (have_lines xs wo
     go true rest e = subst HasLines (ap (λ o. unwrap_or o x) e) all.0
     go false rest e = rest e
 
-has_command : (name : Text) (files texts : List Text) (s : Subcommand) → subcommand_named name ≡ Some s → length files ≡ length s.files → all_said s.files files ≡ Some texts
+has_command : (name : Text) (files texts : List Text) (s : Subcommand) → subcommand_named name ≡ Some s → length files ≡ length s.files
+    → all_said s.files files ≡ Some texts
     → (c : Command) × (plain_line c ≡ name ∷ texts)
 has_command name files texts s is count all =
     let c = have_lines subcommands name s all_have_lines is files texts count all in
@@ -215,10 +231,6 @@ line_is_command words texts line =
 
 -- ---- words without hyphens in front
 
-none_of : (a b : Bool) → (a || b) ≡ false → (a ≡ false) × (b ≡ false)
-none_of true b e = cc
-none_of false b e = (refl, e)
-
 not_end : (word : Text) → begins_with_hyphen word ≡ false → bytes_eq word (codes "--") ≡ false
 not_end [] e = refl
 not_end (b ∷ rest) e = rw e refl
@@ -226,14 +238,14 @@ not_end (b ∷ rest) e = rw e refl
 files_plain : (words : List Text) → list_any begins_with_hyphen words ≡ false → files_of words ≡ Some words
 files_plain [] e = refl
 files_plain (word ∷ words) e =
-    let p = none_of (begins_with_hyphen word) (list_any begins_with_hyphen words) e in
+    let p = or_parts (begins_with_hyphen word) (list_any begins_with_hyphen words) e in
     rw (not_end word p.0, p.0, files_plain words p.1) refl
 
 -- such words are files, all of them
 pub plain_is : (words : List Text) → list_any begins_with_hyphen words ≡ false → plain_line_of words ≡ line_of words
 plain_is [] e = refl
 plain_is (word ∷ words) e =
-    let p = none_of (begins_with_hyphen word) (list_any begins_with_hyphen words) e in
+    let p = or_parts (begins_with_hyphen word) (list_any begins_with_hyphen words) e in
     ap (λ o. option_map (λ texts. word ∷ texts) (option_and_then (said_behind word) o)) (sym (files_plain words p.1))
 
 pub plain_names : (words : List Text) → list_any begins_with_hyphen words ≡ false → IsPlainLine words → NamesCommand words
@@ -249,12 +261,15 @@ pair_up : {B : Type 0} (x : Option B) (f : B → Text) (g : B → List Row) (n :
 pair_up None f g n rs a b = cc
 pair_up (Some y) f g n rs a b = λ i. Some (unwrap_or (sym a i) n, unwrap_or (sym b i) rs)
 
-pub entered_is : (m : ArgMatches) (o : Option (Bor Text × Bor ArgMatches)) (u : Bor Text × Bor ArgMatches) → o ≡ Some u → option_map (λ (p : Bor Text × Bor ArgMatches). p.0.now) o ≡ subcommand_name_of m
+pub entered_is : (m : ArgMatches) (o : Option (Bor Text × Bor ArgMatches)) (u : Bor Text × Bor ArgMatches) → o ≡ Some u
+    → option_map (λ (p : Bor Text × Bor ArgMatches). p.0.now) o ≡ subcommand_name_of m
     → option_map (λ (p : Bor Text × Bor ArgMatches). rows_of (found_of p.1.now)) o ≡ option_map (λ (p : Text × List Row). p.1) (subcommand_rows_of m)
     → subcommand_rows_of m ≡ Some (u.0.now, rows_of (found_of u.1.now))
 entered_is m o u is name rows =
-    pair_up (out-ArgMatches m).subcommand (λ b. (out-SubCommand (box_value b)).name.now) (λ b. rows_of (found_of (out-SubCommand (box_value b)).matches)) u.0.now (rows_of (found_of u.1.now))
-    (ap (option_map (λ (p : Bor Text × Bor ArgMatches). p.0.now)) (sym is) ∙ name) (ap (option_map (λ (p : Bor Text × Bor ArgMatches). rows_of (found_of p.1.now))) (sym is) ∙ rows)
+    pair_up (out-ArgMatches m).subcommand (λ b. (out-SubCommand (box_value b)).name.now)
+    (λ b. rows_of (found_of (out-SubCommand (box_value b)).matches)) u.0.now (rows_of (found_of u.1.now))
+    (ap (option_map (λ (p : Bor Text × Bor ArgMatches). p.0.now)) (sym is) ∙ name)
+    (ap (option_map (λ (p : Bor Text × Bor ArgMatches). rows_of (found_of p.1.now))) (sym is) ∙ rows)
 
 -- a parse of a line has met a subcommand
 pub has_met : (m : ArgMatches) (p : Text × List Row) → subcommand_rows_of m ≡ Some p → has_subcommand m ≡ true

@@ -1,5 +1,6 @@
 -- The words after a command's name, as `clap`'s rules read them: by induction over the words.
-use Rattle.std.proofs.Common.{◌≡◌, ◌∙◌, ◌+◌, ◌++◌, ◌∷◌, ◌⊎◌, inl, inr, ◌&&◌, ◌||◌, ◌==◌, ℕ, Bool, cond, codes, true, false, not, suc, refl, sym, ap, ap₂, subst, arith, List, [], map, length, drop, min, Option, Some, None, option_map, true≢false, append_assoc, append-nil}
+use Rattle.std.proofs.Common.{◌≡◌, ◌∙◌, ◌+◌, ◌++◌, ◌∷◌, ◌⊎◌, inl, inr, ◌&&◌, ◌||◌, ◌==◌, ℕ, Bool, cond, codes, true, false, not, suc, refl, sym, ap, ap₂, subst}
+use Rattle.std.proofs.Common.{arith, List, [], map, length, drop, min, Option, Some, None, option_map, true≢false, append_assoc, append-nil}
 use Rattle.std.proofs.lemmas.Bool.{eqb-true}
 use Rattle.std.proofs.lemmas.Str.{encodes-chars}
 use Rattle.std.specs.Prelude.{slice_get, find, fold, unwrap_or}
@@ -9,14 +10,17 @@ use Rattle.std.specs.Char.{encode_utf8}
 use Rattle.std.specs.Str.{IsUtf8, bytes_eq, chars, encode_utf8_all}
 use Rattle.clap.specs.Lexer.{long_of, name_and_value, short_of, usize_max}
 use Rattle.clap.specs.Facts.{explicit_source}
-use Rattle.clap.specs.Walk.{Held, Row, Rule, Step, Text, Walk, idle, value, after_step, at_row, is_pending, more_values, pushed, to_positional, used_by_id, arg_by_id, arg_by_index, arg_by_long, arg_by_short, finished, has_row, nothing_held, reading_by, settled, walk_from, walked, with_default, word_met}
+use Rattle.clap.specs.Walk.{Held, Row, Rule, Step, Text, Walk, idle, value, after_step, at_row, is_pending, more_values, pushed, to_positional, used_by_id}
+use Rattle.clap.specs.Walk.{arg_by_id, arg_by_index, arg_by_long, arg_by_short, finished, has_row, nothing_held, reading_by, settled, walk_from, walked}
+use Rattle.clap.specs.Walk.{with_default, word_met}
 use Rattle.clap.specs.Simple.{Shape, filled, filled_from, new_shape, with_index}
 use Rattle.clap.specs.Takes.{is_given}
 use Rattle.clap.specs.Kinds.{Kinds, or_else}
-use Rattle.clap.specs.Faults.{bundle_fault, flag_word_fault, long_fault, positional_fault, short_fault, stray_fault, check_fault, defaults_fault, flags_fault, level_fault, settle_fault, step_fault, turn_fault, use_fault, walk_fault, word_fault}
+use Rattle.clap.specs.Faults.{bundle_fault, flag_word_fault, long_fault, positional_fault, short_fault, stray_fault, check_fault, defaults_fault, flags_fault}
+use Rattle.clap.specs.Faults.{level_fault, settle_fault, step_fault, turn_fault, use_fault, walk_fault, word_fault}
 use Rattle.clap.specs.declared.error.kind.ErrorKind.{ErrorKind}
 use Rattle.clap.specs.declared.error.kind.ErrorKind.TheVariants.{UnknownArgument, MissingRequiredArgument}
-use Rattle.std.proofs.Math.Bool.{or-false}
+use Rattle.std.proofs.Math.Bool.{or-false, and-false, or-true}
 use Rattle.clap.specs.declared.parser.matches.ValueSource.TheVariants.{CommandLine}
 use Rattle.std.specs.Prelude.{option_and_then, decimal, pos}
 use Rattle.clap.specs.ValueTests.{accepts, is_signed_in}
@@ -24,17 +28,10 @@ use Rattle.clap.specs.Values.{refused_kind}
 use Rattle.clap.specs.declared.builder.value_parser.ValueParser.{ValueParser}
 use Rattle.clap.specs.declared.builder.value_parser.ValueParser.TheVariants as vp
 use Rattle.clap.specs.declared.error.kind.ErrorKind.TheVariants.{ArgumentConflict}
-use Rattle.command_line.specs.CommandLine.{AreTexts, Subcommand, all_said, file_rule, files_of, is_flag, is_number_name, number_in, number_parser, number_said, parser_named, said}
+use Rattle.command_line.specs.CommandLine.{AreTexts, Subcommand, all_said, file_rule, files_of, is_flag, is_number_name, number_in, number_parser, number_said}
+use Rattle.command_line.specs.CommandLine.{parser_named, said}
 
 -- ---- bits
-
-pub and_false : (b : Bool) → (b && false) ≡ false
-and_false true = refl
-and_false false = refl
-
-or_true : (b : Bool) → (b || true) ≡ true
-or_true true = refl
-or_true false = refl
 
 pub no_kind : (k : ErrorKind) (ks : Kinds) → k ∷ ks ≡ [] → ⊥
 no_kind k ks e = cc
@@ -78,11 +75,12 @@ same_rows rows id k = go (has_row id rows)
 no_defaults : (ids : List Text) (k : ℕ) (rows : List Row) → defaults_fault rows (filled_from k (map file_rule ids)) ≡ []
 unfolding defaults_fault
 no_defaults [] k rows = refl
-no_defaults (id ∷ ids) k rows = rw (or_true (has_row id rows)) (no_defaults ids (next_place k) (with_default rows (place k id)))
+no_defaults (id ∷ ids) k rows = rw (or-true (has_row id rows)) (no_defaults ids (next_place k) (with_default rows (place k id)))
 
 all_rows : (ids : List Text) (k : ℕ) (rows : List Row) → fold with_default rows (filled_from k (map file_rule ids)) ≡ rows
 all_rows [] k rows = refl
-all_rows (id ∷ ids) k rows = ap (λ r. fold with_default r (filled_from (next_place k) (map file_rule ids))) (same_rows rows id k) ∙ all_rows ids (next_place k) rows
+all_rows (id ∷ ids) k rows = ap (λ r. fold with_default r (filled_from (next_place k) (map file_rule ids))) (same_rows rows id k)
+    ∙ all_rows ids (next_place k) rows
 
 -- ---- the rows of the files read so far
 
@@ -178,7 +176,9 @@ saying id word = go (is_number_name id) (is_signed_in (pos 0) (pos 4294967295) w
     reads e = ap (λ b. accepts false (unwrap_or (cond b (Some number_parser) None) vp.String) word) e
 
     go : (b c : Bool) → is_number_name id ≡ b → is_signed_in (pos 0) (pos 4294967295) word ≡ c → Saying id word
-    go false c e f = says_text word (ap (λ b. cond b (number_said word) (Some word)) e) (ap (λ b. accepts false (unwrap_or (cond b (Some number_parser) None) vp.String) word) e)
+    go false c e f =
+        says_text word (ap (λ b. cond b (number_said word) (Some word)) e)
+        (ap (λ b. accepts false (unwrap_or (cond b (Some number_parser) None) vp.String) word) e)
     go true true e f = says_text (decimal (number_in word)) (number e ∙ ap (λ b. cond b (Some (decimal (number_in word))) None) f) (reads e ∙ f)
     go true false e f = says_none (number e ∙ ap (λ b. cond b (Some (decimal (number_in word))) None) f) (reads e ∙ f)
 
@@ -186,7 +186,8 @@ abbrev onto : Text → Option (List Text) → Option (List Text)
 onto text texts = option_map (λ ts. text ∷ ts) texts
 
 -- one word more that says something
-more_said : (id : Text) (ids : List Text) (word : Text) (words : List Text) (text : Text) (texts : List Text) → said id word ≡ Some text → all_said ids words ≡ Some texts
+more_said : (id : Text) (ids : List Text) (word : Text) (words : List Text) (text : Text) (texts : List Text) → said id word ≡ Some text
+    → all_said ids words ≡ Some texts
     → all_said (id ∷ ids) (word ∷ words) ≡ Some (text ∷ texts)
 more_said id ids word words text texts e f = (λ i. option_and_then (λ t. onto t (f i)) (e i))
 
@@ -201,7 +202,8 @@ record SaysMore (id : Text) (ids : List Text) (word : Text) (words all : List Te
 says_more : (id : Text) (ids : List Text) (word : Text) (words all : List Text) → all_said (id ∷ ids) (word ∷ words) ≡ Some all → SaysMore id ids word words all
 says_more id ids word words all e = go (said id word) (all_said ids words) refl refl e
   where
-    go : (a : Option Text) (b : Option (List Text)) → said id word ≡ a → all_said ids words ≡ b → option_and_then (λ t. onto t b) a ≡ Some all → SaysMore id ids word words all
+    go : (a : Option Text) (b : Option (List Text)) → said id word ≡ a → all_said ids words ≡ b → option_and_then (λ t. onto t b) a ≡ Some all
+        → SaysMore id ids word words all
     go None b p q e = cc
     go (Some text) None p q e = cc
     go (Some text) (Some texts) p q e = record { text = text; texts = texts; first = p; rest = q; is = ap (λ o. unwrap_or o []) (sym e) }
@@ -220,7 +222,8 @@ files_said [] words e = refl
 files_said (id ∷ ids) [] e = refl
 files_said (id ∷ ids) (word ∷ words) e = go (is_number_name id) refl (files_said ids words) e
   where
-    go : (b : Bool) → is_number_name id ≡ b → (list_any is_number_name ids ≡ false → all_said ids words ≡ Some words) → (b || list_any is_number_name ids) ≡ false
+    go : (b : Bool) → is_number_name id ≡ b → (list_any is_number_name ids ≡ false → all_said ids words ≡ Some words)
+        → (b || list_any is_number_name ids) ≡ false
         → all_said (id ∷ ids) (word ∷ words) ≡ Some (word ∷ words)
     go true is rest none = cc
     go false is rest none = more_said id ids word words word words (ap (λ b. cond b (number_said word) (Some word)) is) (rest none)
@@ -237,7 +240,8 @@ pub record IsPlain (word : Text) : Type 0 where
 pub data Kind (word : Text) : Type 0 where
   ends : bytes_eq word (codes "--") ≡ true → Kind word
   long : (p : Text × Option Text) → long_of word ≡ Some p → bytes_eq word (codes "--") ≡ false → is_flag word ≡ true → Kind word
-  short : (x : ℕ) (rest : Text) → word ≡ 45 ∷ x ∷ rest → long_of word ≡ None → short_of word ≡ Some (x ∷ rest) → bytes_eq word (codes "--") ≡ false → is_flag word ≡ true → Kind word
+  short : (x : ℕ) (rest : Text) → word ≡ 45 ∷ x ∷ rest → long_of word ≡ None → short_of word ≡ Some (x ∷ rest) → bytes_eq word (codes "--") ≡ false
+      → is_flag word ≡ true → Kind word
   plain : IsPlain word → is_flag word ≡ false → Kind word
 
 pub kind_of_word : (word : Text) → Kind word
@@ -293,7 +297,8 @@ with_file rows id word = record { rows = rows; pending = Some (id, word ∷ []);
 abbrev value_fault : Bool → Text → Bool → Kinds
 value_fault given id fits = or_else (cond (given && true) (ArgumentConflict ∷ []) []) (or_else (cond fits [] (refused_kind (reader id) ∷ [])) [])
 
-settle_is : (c : List Rule) (k : ℕ) (id word : Text) (rows : List Row) (fits : Bool) → arg_by_id c id ≡ Some (place k id) → has_row id rows ≡ false → accepted id word ≡ fits
+settle_is : (c : List Rule) (k : ℕ) (id word : Text) (rows : List Row) (fits : Bool) → arg_by_id c id ≡ Some (place k id) → has_row id rows ≡ false
+    → accepted id word ≡ fits
     → settle_fault c false (with_file rows id word) ≡ value_fault false id fits
 settle_is c k id word rows fits is fresh fit =
     ap (λ o. option_map_or (λ (a : Rule). use_fault false a (word ∷ []) rows) o []) is ∙ (λ i. value_fault (fresh i) id (fit i))
@@ -330,20 +335,22 @@ module _ (name : Text) (all : List Text) where
       → turn_fault shape [] (walk_at h k t) word ≡ step_fault shape k h value
   turn_is t h k word goes = λ i. or_else (goes.1 i) (step_fault shape k (goes.0 i).0 (goes.0 i).1)
 
-  file_turn : (t : Bool) (h : Held) (k : ℕ) (id word : Text) (given : List Row) → Goes t h k word → arg_by_index rules k ≡ Some (place k id) → Rests rules given h
+  file_turn : (t : Bool) (h : Held) (k : ℕ) (id word : Text) (given : List Row) → Goes t h k word → arg_by_index rules k ≡ Some (place k id)
+      → Rests rules given h
       → turn_fault shape [] (walk_at h k t) word ≡ []
   file_turn t h k id word given goes index rests =
       turn_is t h k word goes ∙ ap (λ o. option_map_or (λ (a : Rule). positional_fault rules false a h) o (stray_fault shape)) index
-      ∙ ap (λ b. cond b [] (settle_fault rules false h)) (and_false (is_pending (place k id) h.pending)) ∙ rests.settle
+      ∙ ap (λ b. cond b [] (settle_fault rules false h)) (and-false (is_pending (place k id) h.pending)) ∙ rests.settle
 
-  file_walked : (t : Bool) (h : Held) (k : ℕ) (id word : Text) (given : List Row) → Goes t h k word → arg_by_index rules k ≡ Some (place k id) → next_place k ≡ k + 1 → Rests rules given h
+  file_walked : (t : Bool) (h : Held) (k : ℕ) (id word : Text) (given : List Row) → Goes t h k word → arg_by_index rules k ≡ Some (place k id)
+      → next_place k ≡ k + 1 → Rests rules given h
       → walked rules [] (walk_at h k t) word ≡ walk_at (with_file given id word) (k + 1) t
   unfolding walked
   file_walked t h k id word given goes index after rests =
       ap (λ (m : Held × Step). after_step rules word (walk_at h k t) m.0 m.1) goes.0
       ∙ ap (λ o. to_positional rules o word (walk_at h k t) h) index
       ∙ (λ i. record {
-        held = pushed id word (cond (and_false (is_pending (place k id) h.pending) i) h (settled rules h));
+        held = pushed id word (cond (and-false (is_pending (place k id) h.pending) i) h (settled rules h));
         waiting = idle;
         position = after i;
         is_trailing = or-false t i;
@@ -371,7 +378,8 @@ module _ (name : Text) (all : List Text) where
       rw not_end (ap (λ o. flag_word_fault rules false o word h) is ∙ ap (λ o. long_fault rules false o p.1 h) (no_long all 1 p.0)) in
       ap (λ f. or_else f (step_fault shape k (word_met rules [] false idle k word h).0 (word_met rules [] false idle k word h).1)) unknown
 
-  short_turn : (h : Held) (k : ℕ) (word : Text) (x : ℕ) (rest : Text) → word ≡ 45 ∷ x ∷ rest → long_of word ≡ None → short_of word ≡ Some (x ∷ rest) → bytes_eq word (codes "--") ≡ false
+  short_turn : (h : Held) (k : ℕ) (word : Text) (x : ℕ) (rest : Text) → word ≡ 45 ∷ x ∷ rest → long_of word ≡ None → short_of word ≡ Some (x ∷ rest)
+      → bytes_eq word (codes "--") ≡ false
       → IsUtf8 word → h.skip ≡ 0 → turn_fault shape [] (walk_at h k false) word ≡ UnknownArgument ∷ []
   unfolding flags_fault
   short_turn h k word x rest is not_long is_short not_end utf8 skip =
@@ -381,7 +389,8 @@ module _ (name : Text) (all : List Text) where
       rw not_end (ap (λ o. flag_word_fault rules false o word h) not_long
       ∙ ap (λ o. option_map_or (λ (flags : Text). bundle_fault rules false flags h) o []) is_short
       ∙ ap (λ n. flags_fault rules false (suc (length rest)) (x ∷ rest) n (record h { skip = 0 })) skip
-      ∙ rw (c.1) (ap (λ o. short_fault rules false o (drop (length (encode_utf8 c.0)) (x ∷ rest)) (record h { skip = 0 }) (flags_fault rules false (length rest) (drop (length (encode_utf8 c.0)) (x ∷ rest)) 0)) none)) in
+      ∙ rw (c.1) (ap (λ o. short_fault rules false o (drop (length (encode_utf8 c.0)) (x ∷ rest)) (record h { skip = 0 })
+      (flags_fault rules false (length rest) (drop (length (encode_utf8 c.0)) (x ∷ rest)) 0)) none)) in
       ap (λ f. or_else f (step_fault shape k (word_met rules [] false idle k word h).0 (word_met rules [] false idle k word h).1)) unknown
 
   -- ---- all words
@@ -400,12 +409,15 @@ module _ (name : Text) (all : List Text) where
   next_fault : (w after : Walk) (word : Text) (words : List Text) → turn_fault shape [] w word ≡ [] → walked rules [] w word ≡ after
       → rest_fault w (word ∷ words) ≡ rest_fault after words
   unfolding walk_fault
-  next_fault w after word words none is = (λ i. or_else (or_else (none i) (walk_fault shape [] (is i) words)) (end_fault (fold (walked rules []) (is i) words).held))
+  next_fault w after word words none is =
+      (λ i. or_else (or_else (none i) (walk_fault shape [] (is i) words)) (end_fault (fold (walked rules []) (is i) words).held))
 
-  stuck_fault : (w : Walk) (word : Text) (words : List Text) (k : ErrorKind) (ks : Kinds) → turn_fault shape [] w word ≡ k ∷ ks → rest_fault w (word ∷ words) ≡ [] → ⊥
+  stuck_fault : (w : Walk) (word : Text) (words : List Text) (k : ErrorKind) (ks : Kinds) → turn_fault shape [] w word ≡ k ∷ ks
+      → rest_fault w (word ∷ words) ≡ [] → ⊥
   unfolding walk_fault
   stuck_fault w word words k ks is e =
-      no_kind k ks ((λ i. or_else (or_else (sym is i) (walk_fault shape [] (walked rules [] w word) words)) (end_fault (fold (walked rules []) (walked rules [] w word) words).held)) ∙ e)
+      no_kind k ks ((λ i. or_else (or_else (sym is i) (walk_fault shape [] (walked rules [] w word) words))
+      (end_fault (fold (walked rules []) (walked rules [] w word) words).held)) ∙ e)
 
   last_fault : (keys : List Text) (given : List Row) (h : Held) → IsGiven keys given → Rests rules given h
       → end_fault h ≡ cond (lacks keys rules) (MissingRequiredArgument ∷ []) []
@@ -456,12 +468,13 @@ module _ (name : Text) (all : List Text) where
   unfolding walk_fault
   ended h k t = refl
 
-  bad_turn : (t : Bool) (k : ℕ) (ids keys : List Text) (h : Held) (word : Text) (words : List Text) (kind : ErrorKind) (kinds : Kinds) → Goes t h k word → IsInOrder rules keys k ids
+  bad_turn : (t : Bool) (k : ℕ) (ids keys : List Text) (h : Held) (word : Text) (words : List Text) (kind : ErrorKind) (kinds : Kinds) → Goes t h k word
+      → IsInOrder rules keys k ids
       → settle_fault rules false h ≡ kind ∷ kinds → rest_fault (walk_at h k t) (word ∷ words) ≡ [] → ⊥
   bad_turn t k [] keys h word words kind kinds goes order bad = stuck_fault (walk_at h k t) word words UnknownArgument [] (stray_turn t h k word goes order.0)
   bad_turn t k (id ∷ ids) keys h word words kind kinds goes order bad = stuck_fault (walk_at h k t) word words kind kinds
       (turn_is t h k word goes ∙ ap (λ o. option_map_or (λ (a : Rule). positional_fault rules false a h) o (stray_fault shape)) order.0
-      ∙ ap (λ b. cond b [] (settle_fault rules false h)) (and_false (is_pending (place k id) h.pending)) ∙ bad)
+      ∙ ap (λ b. cond b [] (settle_fault rules false h)) (and-false (is_pending (place k id) h.pending)) ∙ bad)
 
   bad_word : (k : ℕ) (ids keys : List Text) (h : Held) (word : Text) (words : List Text) (kind : ErrorKind) (kinds : Kinds) → IsInOrder rules keys k ids
       → settle_fault rules false h ≡ kind ∷ kinds → h.skip ≡ 0 → IsUtf8 word → Kind word → (rest_fault (walk_at h k true) words ≡ [] → ⊥)
@@ -478,14 +491,17 @@ module _ (name : Text) (all : List Text) where
   held_fault : (words : List Text) (t : Bool) (k : ℕ) (ids keys : List Text) (h : Held) (kind : ErrorKind) (kinds : Kinds) → IsInOrder rules keys k ids
       → settle_fault rules false h ≡ kind ∷ kinds → h.skip ≡ 0 → AreTexts words → rest_fault (walk_at h k t) words ≡ [] → ⊥
   held_fault [] t k ids keys h kind kinds order bad skip utf8 none =
-      no_kind kind kinds (ap (λ f. or_else f (or_else (defaults_fault (settled rules h).rows rules) (check_fault shape (finished rules h) false))) (sym bad) ∙ sym (ended h k t) ∙ none)
+      no_kind kind kinds (ap (λ f. or_else f (or_else (defaults_fault (settled rules h).rows rules) (check_fault shape (finished rules h) false))) (sym bad)
+      ∙ sym (ended h k t) ∙ none)
   held_fault (word ∷ words) true k ids keys h kind kinds order bad skip utf8 none =
       bad_turn true k ids keys h word words kind kinds (trailing_goes h k word) order bad none
   held_fault (word ∷ words) false k ids keys h kind kinds order bad skip utf8 none =
-      bad_word k ids keys h word words kind kinds order bad skip utf8.0 (kind_of_word word) (held_fault words true k ids keys h kind kinds order bad skip utf8.1) none
+      bad_word k ids keys h word words kind kinds order bad skip utf8.0 (kind_of_word word)
+      (held_fault words true k ids keys h kind kinds order bad skip utf8.1) none
 
   -- one more file, before words that are judged
-  one_more : (t : Bool) (k : ℕ) (id : Text) (ids : List Text) (given : List Row) (h : Held) (word : Text) (words : List Text) (text : Text) → TakesFile t word → said id word ≡ Some text
+  one_more : (t : Bool) (k : ℕ) (id : Text) (ids : List Text) (given : List Row) (h : Held) (word : Text) (words : List Text) (text : Text) → TakesFile t word
+      → said id word ≡ Some text
       → turn_fault shape [] (walk_at h k t) word ≡ [] → walked rules [] (walk_at h k t) word ≡ walk_at (with_file given id word) (k + 1) t
       → IsJudged t (k + 1) ids (given ++ file_row id word ∷ []) (with_file given id word) words
       → IsJudged t k (id ∷ ids) given h (word ∷ words)
@@ -507,7 +523,8 @@ module _ (name : Text) (all : List Text) where
   })
 
   -- one more that says nothing in its place
-  refused_here : (t : Bool) (k : ℕ) (id : Text) (ids keys : List Text) (given : List Row) (h : Held) (word : Text) (words : List Text) → TakesFile t word → said id word ≡ None
+  refused_here : (t : Bool) (k : ℕ) (id : Text) (ids keys : List Text) (given : List Row) (h : Held) (word : Text) (words : List Text) → TakesFile t word
+      → said id word ≡ None
       → turn_fault shape [] (walk_at h k t) word ≡ [] → walked rules [] (walk_at h k t) word ≡ walk_at (with_file given id word) (k + 1) t
       → IsInOrder rules (keys ++ id ∷ []) (k + 1) ids → settle_fault rules false (with_file given id word) ≡ refused_kind (reader id) ∷ [] → AreTexts words
       → IsRefused t k (id ∷ ids) h (word ∷ words)
@@ -524,7 +541,8 @@ module _ (name : Text) (all : List Text) where
   placed : (t : Bool) (k : ℕ) (id : Text) (ids keys : List Text) (given : List Row) (h : Held) (word : Text) (words : List Text) → TakesFile t word
       → turn_fault shape [] (walk_at h k t) word ≡ [] → walked rules [] (walk_at h k t) word ≡ walk_at (with_file given id word) (k + 1) t
       → IsInOrder rules keys k (id ∷ ids) → IsGiven keys given → AreTexts words
-      → (Rests rules (given ++ file_row id word ∷ []) (with_file given id word) → IsJudged t (k + 1) ids (given ++ file_row id word ∷ []) (with_file given id word) words)
+      → (Rests rules (given ++ file_row id word ∷ []) (with_file given id word)
+      → IsJudged t (k + 1) ids (given ++ file_row id word ∷ []) (with_file given id word) words)
       → Saying id word → IsJudged t k (id ∷ ids) given h (word ∷ words)
   placed t k id ids keys given h word words takes none is order g utf8 more (says_text text first fit) =
       one_more t k id ids given h word words text takes first none is (more (new_rests rules k id word given order.1 (given_row keys given id g ∙ order.3) fit))
@@ -593,19 +611,23 @@ module _ (name : Text) (all : List Text) where
     rows = last_rows given h rests ∙ sym (append-nil given);
   }
 
-  too_few : (t : Bool) (k : ℕ) (keys : List Text) (id : Text) (ids : List Text) (given : List Row) (h : Held) → IsInOrder rules keys k (id ∷ ids) → IsGiven keys given → Rests rules given h
+  too_few : (t : Bool) (k : ℕ) (keys : List Text) (id : Text) (ids : List Text) (given : List Row) (h : Held) → IsInOrder rules keys k (id ∷ ids)
+      → IsGiven keys given → Rests rules given h
       → IsRefused t k (id ∷ ids) h []
   too_few t k keys id ids given h order g rests = record {
-    fault = λ e. no_kind MissingRequiredArgument [] (sym (ended h k t ∙ last_fault keys given h g rests ∙ ap (λ b. cond b (MissingRequiredArgument ∷ []) []) order.4) ∙ e);
+    fault = λ e. no_kind MissingRequiredArgument []
+        (sym (ended h k t ∙ last_fault keys given h g rests ∙ ap (λ b. cond b (MissingRequiredArgument ∷ []) []) order.4) ∙ e);
     none = λ files texts from count all.
         let empty : [] ≡ files = ap (λ o. unwrap_or o []) (sym (nothing_in t) ∙ from) in
         let zero : 0 ≡ length files = ap length empty in absurd (omega arith);
   }
 
-  none_left : (k : ℕ) (keys : List Text) (given : List Row) (h : Held) (word : Text) (words : List Text) → IsInOrder rules keys k [] → Rests rules given h → IsUtf8 word
+  none_left : (k : ℕ) (keys : List Text) (given : List Row) (h : Held) (word : Text) (words : List Text) → IsInOrder rules keys k [] → Rests rules given h
+      → IsUtf8 word
       → Kind word → IsJudged true k [] given h words → IsJudged false k [] given h (word ∷ words)
   none_left k keys given h word words order rests utf8 (ends e) behind = after_end k [] given h word words e behind
-  none_left k keys given h word words order rests utf8 (long p is not_end flag) behind = inr (not_a_file k [] h word words not_end flag (long_turn h k word p is not_end))
+  none_left k keys given h word words order rests utf8 (long p is not_end flag) behind =
+      inr (not_a_file k [] h word words not_end flag (long_turn h k word p is not_end))
   none_left k keys given h word words order rests utf8 (short x rest is not_long is_short not_end flag) behind =
       inr (not_a_file k [] h word words not_end flag (short_turn h k word x rest is not_long is_short not_end utf8 rests.skip))
   none_left k keys given h word words order rests utf8 (plain p flag) behind =
@@ -614,10 +636,12 @@ module _ (name : Text) (all : List Text) where
   -- the same words with one file less to find
   abbrev Further : Bool → ℕ → Text → List Text → List Row → Text → List Text → Type 0
   Further t k id ids given word words =
-      Rests rules (given ++ file_row id word ∷ []) (with_file given id word) → IsJudged t (k + 1) ids (given ++ file_row id word ∷ []) (with_file given id word) words
+      Rests rules (given ++ file_row id word ∷ []) (with_file given id word)
+      → IsJudged t (k + 1) ids (given ++ file_row id word ∷ []) (with_file given id word) words
 
   some_left : (k : ℕ) (keys : List Text) (id : Text) (ids : List Text) (given : List Row) (h : Held) (word : Text) (words : List Text)
-      → IsInOrder rules keys k (id ∷ ids) → IsGiven keys given → Rests rules given h → IsUtf8 word → AreTexts words → Kind word → IsJudged true k (id ∷ ids) given h words
+      → IsInOrder rules keys k (id ∷ ids) → IsGiven keys given → Rests rules given h → IsUtf8 word → AreTexts words → Kind word
+      → IsJudged true k (id ∷ ids) given h words
       → Further false k id ids given word words → IsJudged false k (id ∷ ids) given h (word ∷ words)
   some_left k keys id ids given h word words order g rests utf8 texts (ends e) behind more = after_end k (id ∷ ids) given h word words e behind
   some_left k keys id ids given h word words order g rests utf8 texts (long p is not_end flag) behind more =
@@ -629,7 +653,8 @@ module _ (name : Text) (all : List Text) where
       (file_turn false h k id word given (plain_goes h k word p) order.0 rests)
       (file_walked false h k id word given (plain_goes h k word p) order.0 order.2 rests) order g texts more (saying id word)
 
-  judge : (words : List Text) (t : Bool) (k : ℕ) (ids keys : List Text) (given : List Row) (h : Held) → IsInOrder rules keys k ids → IsGiven keys given → Rests rules given h → AreTexts words
+  judge : (words : List Text) (t : Bool) (k : ℕ) (ids keys : List Text) (given : List Row) (h : Held) → IsInOrder rules keys k ids → IsGiven keys given
+      → Rests rules given h → AreTexts words
       → IsJudged t k ids given h words
   judge [] t k [] keys given h order g rests utf8 = inl (nothing_left t k keys given h order g rests)
   judge [] t k (id ∷ ids) keys given h order g rests utf8 = inr (too_few t k keys id ids given h order g rests)
@@ -645,7 +670,8 @@ module _ (name : Text) (all : List Text) where
   judge (word ∷ words) false k [] keys given h order g rests utf8 =
       none_left k keys given h word words order rests utf8.0 (kind_of_word word) (judge words true k [] keys given h order g rests utf8.1)
   judge (word ∷ words) false k (id ∷ ids) keys given h order g rests utf8 =
-      some_left k keys id ids given h word words order g rests utf8.0 utf8.1 (kind_of_word word) (judge words true k (id ∷ ids) keys given h order g rests utf8.1)
+      some_left k keys id ids given h word words order g rests utf8.0 utf8.1 (kind_of_word word)
+      (judge words true k (id ∷ ids) keys given h order g rests utf8.1)
       (λ more. judge words false (k + 1) ids (keys ++ id ∷ []) (given ++ file_row id word ∷ []) (with_file given id word) order.5
       (more_given keys given id word g) more utf8.1)
 

@@ -1,17 +1,22 @@
 -- Which words are a line of the program, by `clap`'s rules.
-use Rattle.std.proofs.Common.{◌≡◌, ◌∙◌, ◌++◌, ◌∷◌, inl, inr, ◌||◌, Bool, cond, codes, true, false, refl, sym, ap, subst, List, [], map, length, Option, Some, None, is_some, option_map, append_assoc, append-nil}
+use Rattle.std.proofs.Common.{◌≡◌, ◌∙◌, ◌++◌, ◌∷◌, inl, inr, ◌||◌, Bool, cond, codes, true, false, refl, sym, ap, subst, List, [], map, length, Option, Some}
+use Rattle.std.proofs.Common.{None, is_some, option_map, append_assoc, append-nil}
 use Rattle.std.proofs.lemmas.Slice.Eq.{bytes_eq-Decides}
 use Rattle.std.specs.Prelude.{find, fold, unwrap_or, option_and_then}
 use Rattle.std.specs.Option.{option_map_or}
 use Rattle.std.specs.Str.{IsUtf8, bytes_eq}
-use Rattle.clap.specs.Walk.{Names, Text, Walk, after_step, idle, answers_to, finished, nothing_held, rows_after, settled, subcommand_met, subcommand_or_other, walk, walk_from, walked}
+use Rattle.std.proofs.Math.Bool.{and-false}
+use Rattle.clap.specs.Walk.{Names, Text, Walk, after_step, idle, answers_to, finished, nothing_held, rows_after, settled, subcommand_met, subcommand_or_other}
+use Rattle.clap.specs.Walk.{walk, walk_from, walked}
 use Rattle.clap.specs.Simple.{App, Shape, built, entered, label_of, new_shape, rows_at, subcommand_of}
 use Rattle.clap.specs.Kinds.{Kinds, or_else}
-use Rattle.clap.specs.Faults.{bundle_fault, built_fault, check_fault, defaults_fault, entered_fault, fault_of, flag_word_fault, flags_fault, level_fault, other_fault, settle_fault, step_fault, turn_fault, walk_fault}
+use Rattle.clap.specs.Faults.{bundle_fault, built_fault, check_fault, defaults_fault, entered_fault, fault_of, flag_word_fault, flags_fault, level_fault}
+use Rattle.clap.specs.Faults.{other_fault, settle_fault, step_fault, turn_fault, walk_fault}
 use Rattle.clap.specs.declared.error.kind.ErrorKind.{ErrorKind}
 use Rattle.clap.specs.declared.error.kind.ErrorKind.TheVariants.{UnknownArgument, MissingSubcommand, InvalidSubcommand}
 use Rattle.command_line.specs.CommandLine.{AreTexts, IsLine, Subcommand, all_said, alpaca_app, files_of, line_of, said_behind, subcommand_named, subcommands}
-use Rattle.command_line.proofs.Files.{IsInOrder, IsJudged, Kind, and_false, built_subcommand, command_judged, ends, kind_of_word, long, no_kind, plain, rows_for, short, some_char, walk_at}
+use Rattle.command_line.proofs.Files.{IsInOrder, IsJudged, Kind, built_subcommand, command_judged, ends, kind_of_word, long, no_kind, plain, rows_for, short}
+use Rattle.command_line.proofs.Files.{some_char, walk_at}
 
 first_none : (a b : Kinds) → or_else a b ≡ [] → a ≡ []
 first_none [] b e = refl
@@ -57,16 +62,19 @@ met_by_name [] word = refl
 met_by_name (x ∷ xs) word = go (bytes_eq x.name word) (met_by_name xs word)
   where
     go : (b : Bool) → find (answers_to word) (names_in xs) ≡ option_map (λ (s : Subcommand). (s.name, [])) (named xs word)
-        → cond (b || false) (Some (x.name, [])) (find (answers_to word) (names_in xs)) ≡ option_map (λ (s : Subcommand). (s.name, [])) (cond b (Some x) (named xs word))
+        → cond (b || false) (Some (x.name, [])) (find (answers_to word) (names_in xs)) ≡ option_map (λ (s : Subcommand). (s.name, []))
+        (cond b (Some x) (named xs word))
     go true rest = refl
     go false rest = rest
 
-entered_by_name : (xs : List Subcommand) (word : Text) → find (λ s. answers_to word (label_of s)) (map built_subcommand xs) ≡ option_map built_subcommand (named xs word)
+entered_by_name : (xs : List Subcommand) (word : Text)
+    → find (λ s. answers_to word (label_of s)) (map built_subcommand xs) ≡ option_map built_subcommand (named xs word)
 entered_by_name [] word = refl
 entered_by_name (x ∷ xs) word = go (bytes_eq x.name word) (entered_by_name xs word)
   where
     go : (b : Bool) → find (λ s. answers_to word (label_of s)) (map built_subcommand xs) ≡ option_map built_subcommand (named xs word)
-        → cond (b || false) (Some (built_subcommand x)) (find (λ s. answers_to word (label_of s)) (map built_subcommand xs)) ≡ option_map built_subcommand (cond b (Some x) (named xs word))
+        → cond (b || false) (Some (built_subcommand x)) (find (λ s. answers_to word (label_of s)) (map built_subcommand xs)) ≡ option_map built_subcommand
+        (cond b (Some x) (named xs word))
     go true rest = refl
     go false rest = rest
 
@@ -88,14 +96,31 @@ AreInOrder (s ∷ rest) = IsInOrder (built_subcommand s).rules [] 1 s.files × A
 -- each command's files have names of their own
 pub all_in_order : AreInOrder subcommands
 unfolding AreInOrder
-all_in_order = ((refl, refl, refl, refl, refl, (refl, refl, refl, refl, refl, (refl, refl))), ((refl, refl, refl, refl, refl, (refl, refl, refl, refl, refl, (refl, refl, refl, refl, refl, (refl, refl)))), ((refl, refl, refl, refl, refl, (refl, refl, refl, refl, refl, (refl, refl))), ((refl, refl, refl, refl, refl, (refl, refl, refl, refl, refl, (refl, refl))), ((refl, refl, refl, refl, refl, (refl, refl, refl, refl, refl, (refl, refl))), ((refl, refl, refl, refl, refl, (refl, refl)), ((refl, refl, refl, refl, refl, (refl, refl, refl, refl, refl, (refl, refl))), tt)))))))
+all_in_order = (
+  (refl, refl, refl, refl, refl, (refl, refl, refl, refl, refl, (refl, refl))),
+  (
+    (refl, refl, refl, refl, refl, (refl, refl, refl, refl, refl, (refl, refl, refl, refl, refl, (refl, refl)))),
+    (
+      (refl, refl, refl, refl, refl, (refl, refl, refl, refl, refl, (refl, refl))),
+      (
+        (refl, refl, refl, refl, refl, (refl, refl, refl, refl, refl, (refl, refl))),
+        (
+          (refl, refl, refl, refl, refl, (refl, refl, refl, refl, refl, (refl, refl))),
+          ((refl, refl, refl, refl, refl, (refl, refl)), ((refl, refl, refl, refl, refl, (refl, refl, refl, refl, refl, (refl, refl))), tt)),
+        ),
+      ),
+    ),
+  ),
+)
 
-pub in_order : (xs : List Subcommand) (word : Text) (s : Subcommand) → AreInOrder xs → named xs word ≡ Some s → IsInOrder (built_subcommand s).rules [] 1 s.files
+pub in_order : (xs : List Subcommand) (word : Text) (s : Subcommand) → AreInOrder xs → named xs word ≡ Some s
+    → IsInOrder (built_subcommand s).rules [] 1 s.files
 unfolding AreInOrder
 in_order [] word s all e = cc
 in_order (x ∷ xs) word s all e = go (bytes_eq x.name word) (in_order xs word s all.1) e
   where
-    go : (b : Bool) → (named xs word ≡ Some s → IsInOrder (built_subcommand s).rules [] 1 s.files) → cond b (Some x) (named xs word) ≡ Some s → IsInOrder (built_subcommand s).rules [] 1 s.files
+    go : (b : Bool) → (named xs word ≡ Some s → IsInOrder (built_subcommand s).rules [] 1 s.files) → cond b (Some x) (named xs word) ≡ Some s
+        → IsInOrder (built_subcommand s).rules [] 1 s.files
     go true rest e = subst (λ (y : Subcommand). IsInOrder (built_subcommand y).rules [] 1 y.files) (ap (λ o. unwrap_or o x) e) all.0
     go false rest e = rest e
 
@@ -107,7 +132,8 @@ names = names_in subcommands
 abbrev stopped_at : Text → List Text → Walk
 stopped_at name words = record (walk_from nothing_held) { stopped = Some (name, words) }
 
-stopped_walk : (words : List Text) (name : Text) (before : List Text) → fold (walked [] names) (stopped_at name before) words ≡ stopped_at name (before ++ words)
+stopped_walk : (words : List Text) (name : Text) (before : List Text)
+    → fold (walked [] names) (stopped_at name before) words ≡ stopped_at name (before ++ words)
 unfolding walked
 stopped_walk [] name before = ap (stopped_at name) (sym (append-nil before))
 stopped_walk (word ∷ words) name before = stopped_walk words name (before ++ word ∷ []) ∙ ap (stopped_at name) (append_assoc before (word ∷ []) words)
@@ -121,7 +147,8 @@ abbrev whole_fault : Kinds → Walk → Kinds
 whole_fault of_walk w = or_else of_walk (or_else (entered_fault built_app w.stopped) (or_else (settle_fault [] false w.held)
     (or_else (defaults_fault (settled [] w.held).rows []) (check_fault top (finished [] w.held) (is_some (entered built_app w.stopped))))))
 
-whole_is : (words : List Text) → built_fault built_app nothing_held words ≡ whole_fault (walk_fault top names (walk_from nothing_held) words) (walk [] names nothing_held words)
+whole_is : (words : List Text) → built_fault built_app nothing_held words ≡ whole_fault (walk_fault top names (walk_from nothing_held) words)
+    (walk [] names nothing_held words)
 whole_is words = refl
 
 module _ (word : Text) (s : Subcommand) (is : subcommand_named word ≡ Some s) where
@@ -131,12 +158,16 @@ module _ (word : Text) (s : Subcommand) (is : subcommand_named word ≡ Some s) 
       ∙ ap Some (has_name subcommands word s is)
 
   first_turn : turn_fault top names (walk_from nothing_held) word ≡ []
-  first_turn = ap (λ o. or_else (other_fault top o word nothing_held) (step_fault top 1 (subcommand_or_other [] o idle 1 word nothing_held).0 (subcommand_or_other [] o idle 1 word nothing_held).1)) met
-      ∙ rw (and_false (bytes_eq word (codes "help"))) refl
+  first_turn =
+      ap (λ o. or_else (other_fault top o word nothing_held)
+      (step_fault top 1 (subcommand_or_other [] o idle 1 word nothing_held).0 (subcommand_or_other [] o idle 1 word nothing_held).1)) met
+      ∙ rw (and-false (bytes_eq word (codes "help"))) refl
 
   first_walked : walked [] names (walk_from nothing_held) word ≡ stopped_at word []
   unfolding walked
-  first_walked = ap (λ o. after_step [] word (walk_from nothing_held) (subcommand_or_other [] o idle 1 word nothing_held).0 (subcommand_or_other [] o idle 1 word nothing_held).1) met
+  first_walked =
+      ap (λ o. after_step [] word (walk_from nothing_held) (subcommand_or_other [] o idle 1 word nothing_held).0
+      (subcommand_or_other [] o idle 1 word nothing_held).1) met
 
   whole_walk : (words : List Text) → walk [] names nothing_held (word ∷ words) ≡ stopped_at word words
   whole_walk words = ap (λ w. fold (walked [] names) w words) first_walked ∙ stopped_walk words word []
@@ -170,23 +201,29 @@ module _ (word : Text) (none : subcommand_named word ≡ None) where
       ∙ ap (λ o. option_map (λ (p : Text × List Text). p.0) (option_map (λ (s : Subcommand). (s.name, [])) o)) none
 
   turn_of : turn_fault top names (walk_from nothing_held) word
-      ≡ or_else (other_fault top None word nothing_held) (step_fault top 1 (subcommand_or_other [] None idle 1 word nothing_held).0 (subcommand_or_other [] None idle 1 word nothing_held).1)
-  turn_of = ap (λ o. or_else (other_fault top o word nothing_held) (step_fault top 1 (subcommand_or_other [] o idle 1 word nothing_held).0 (subcommand_or_other [] o idle 1 word nothing_held).1)) not_met
+      ≡ or_else (other_fault top None word nothing_held)
+      (step_fault top 1 (subcommand_or_other [] None idle 1 word nothing_held).0 (subcommand_or_other [] None idle 1 word nothing_held).1)
+  turn_of =
+      ap (λ o. or_else (other_fault top o word nothing_held)
+      (step_fault top 1 (subcommand_or_other [] o idle 1 word nothing_held).0 (subcommand_or_other [] o idle 1 word nothing_held).1)) not_met
 
   turn_fails : (words : List Text) (k : ErrorKind) (ks : Kinds) → turn_fault top names (walk_from nothing_held) word ≡ k ∷ ks → IsLine (word ∷ words) → ⊥
   unfolding walk_fault
   turn_fails words k ks is line =
-      let whole = first_none (walk_fault top names (walk_from nothing_held) (word ∷ words)) _ (sym (fault_is (word ∷ words) ∙ whole_is (word ∷ words)) ∙ line) in
+      let whole =
+      first_none (walk_fault top names (walk_from nothing_held) (word ∷ words)) _ (sym (fault_is (word ∷ words) ∙ whole_is (word ∷ words)) ∙ line) in
       no_kind k ks (sym is ∙ first_none (turn_fault top names (walk_from nothing_held) word) _ whole)
 
   other_fails : (words : List Text) (k : ErrorKind) (ks : Kinds) → other_fault top None word nothing_held ≡ k ∷ ks → IsLine (word ∷ words) → ⊥
   other_fails words k ks is line =
-      turn_fails words k ks (turn_of ∙ ap (λ f. or_else f (step_fault top 1 (subcommand_or_other [] None idle 1 word nothing_held).0 (subcommand_or_other [] None idle 1 word nothing_held).1)) is) line
+      turn_fails words k ks (turn_of ∙ ap (λ f. or_else f
+      (step_fault top 1 (subcommand_or_other [] None idle 1 word nothing_held).0 (subcommand_or_other [] None idle 1 word nothing_held).1)) is) line
 
   end_walks : bytes_eq word (codes "--") ≡ true → walked [] names (walk_from nothing_held) word ≡ walk_at nothing_held 1 true
   unfolding walked
   end_walks e =
-      ap (λ o. after_step [] word (walk_from nothing_held) (subcommand_or_other [] o idle 1 word nothing_held).0 (subcommand_or_other [] o idle 1 word nothing_held).1) not_met
+      ap (λ o. after_step [] word (walk_from nothing_held) (subcommand_or_other [] o idle 1 word nothing_held).0
+      (subcommand_or_other [] o idle 1 word nothing_held).1) not_met
       ∙ rw e refl
 
   end_turns : bytes_eq word (codes "--") ≡ true → turn_fault top names (walk_from nothing_held) word ≡ []
@@ -195,9 +232,12 @@ module _ (word : Text) (none : subcommand_named word ≡ None) where
   end_fails : (words : List Text) → bytes_eq word (codes "--") ≡ true → IsLine (word ∷ words) → ⊥
   unfolding walk_fault defaults_fault
   end_fails [] e line =
-      no_kind MissingSubcommand [] ((λ i. whole_fault (or_else (sym (end_turns e) i) []) (sym (end_walks e) i)) ∙ sym (fault_is (word ∷ []) ∙ whole_is (word ∷ [])) ∙ line)
+      no_kind MissingSubcommand [] ((λ i. whole_fault (or_else (sym (end_turns e) i) []) (sym (end_walks e) i))
+      ∙ sym (fault_is (word ∷ []) ∙ whole_is (word ∷ [])) ∙ line)
   end_fails (v ∷ words) e line =
-      let whole = first_none (walk_fault top names (walk_from nothing_held) (word ∷ v ∷ words)) _ (sym (fault_is (word ∷ v ∷ words) ∙ whole_is (word ∷ v ∷ words)) ∙ line) in
+      let whole =
+      first_none (walk_fault top names (walk_from nothing_held) (word ∷ v ∷ words)) _
+      (sym (fault_is (word ∷ v ∷ words) ∙ whole_is (word ∷ v ∷ words)) ∙ line) in
       no_kind UnknownArgument (InvalidSubcommand ∷ [])
       (first_none (turn_fault top names (walk_at nothing_held 1 true) v) (walk_fault top names (walked [] names (walk_at nothing_held 1 true) v) words)
       ((λ i. or_else (sym (end_turns e) i) (walk_fault top names (sym (end_walks e) i) (v ∷ words))) ∙ whole))
@@ -266,7 +306,8 @@ line_says words l =
     ∙ ap (λ o. option_map (λ texts. l.name ∷ texts) (all_said (option_map_or (λ (s : Subcommand). s.files) o []) l.files)) l.named
     ∙ ap (option_map (λ texts. l.name ∷ texts)) l.said
 
-pub line_there : (name : Text) (rest files said : List Text) (s : Subcommand) → AreTexts (name ∷ rest) → subcommand_named name ≡ Some s → files_of rest ≡ Some files
+pub line_there : (name : Text) (rest files said : List Text) (s : Subcommand) → AreTexts (name ∷ rest) → subcommand_named name ≡ Some s
+    → files_of rest ≡ Some files
     → length files ≡ length s.files → all_said s.files files ≡ Some said → IsLine (name ∷ rest)
 line_there name rest files said s texts is from count all = go (command_judged s.name s.files rest (in_order subcommands name s all_in_order is) texts.1)
   where

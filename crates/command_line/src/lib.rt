@@ -342,6 +342,3 @@ fn alpaca_command<'a>(alloc: Global) -> Result<clap::Command<'a>, AllocError>
     let command = with_one_file(alloc, command, "dis", "IMAGE")?;
     with_two_files(alloc, command, "gen", "N", "IMAGE")
 }
-
-#[cfg(test)]
-mod tests;

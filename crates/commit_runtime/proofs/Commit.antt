@@ -10,12 +10,13 @@ use Rattle.machine_effects.specs.Machine.{Code, IsFram}
 use Rattle.machine_effects.proofs.Worlds.{fram_after-append}
 use Rattle.code_forms.specs.Forms.{Core, Branch, Jump, instruction_of}
 use Rattle.code_forms.specs.Code.{Stands, IsTidy, forms_run}
+use Rattle.code_forms.proofs.Placed.{stands_at}
 use Rattle.runtime_effects.specs.Places.{RuntimePlaces, CopyPair, entries_from, listed}
 use Rattle.runtime_effects.specs.Stages.{copied_home, sends, emits_sent, commit_closed, commit_effects}
 use Rattle.runtime_effects.specs.Needs.{AreInFram, IsRegion, CanCommit, IsCopied}
-use Rattle.code_forms.proofs.Blocks.{stands_front, stands_back}
+use Rattle.code_forms.proofs.Blocks.{stands_front, stands_back, end_of}
 use Rattle.runtime_code.specs.Comes.{Comes, IsAt}
-use Rattle.runtime_code.proofs.Chains.{stands_at, end_of, straight, one_form, recounted, nothing, then_on, moved_to, chain}
+use Rattle.runtime_code.proofs.Chains.{straight, one_form, recounted, nothing, then_on, moved_to, chain}
 use Rattle.runtime_code.proofs.Loops.{tested, goes_in, leaves, jumps_back}
 use Rattle.commit_runtime.specs.Listing.{copies_begin, copy_turn, copy_loop, sends_begin, send_turn, send_loop, closing, commit_forms}
 use Rattle.commit_runtime.specs.Laws.{CommitIsMade}

@@ -1,9 +1,10 @@
 -- What copies to shared words leave as it is.
-use Rattle.std.proofs.Common.{◌≡◌, ◌≢◌, ℕ, zero, suc, ◌+◌, ◌*◌, ◌%◌, ◌<◌, ◌≤◌, ◌⊎◌, inl, inr, List, [], ◌∷◌, cond, ne_eqb, refl, sym, ap, ◌∙◌, arith}
+use Rattle.std.proofs.Common.{◌≡◌, ◌≢◌, ℕ, zero, suc, ◌+◌, ◌*◌, ◌%◌, ◌<◌, ◌≤◌, ◌⊎◌, inl, inr, List, [], ◌∷◌, refl, sym, ap, ◌∙◌, arith}
 use Rattle.std.specs.List.{All}
 use Rattle.std.proofs.lemmas.List.Elements.{All-head, All-tail, All-weaker}
 use Rattle.fram_board.specs.Effects.{Send}
 use Rattle.machine_effects.specs.World.{put, fram_after}
+use Rattle.machine_effects.proofs.Worlds.{put_other}
 use Rattle.runtime_effects.specs.Places.{RuntimePlaces, CopyPair, entries_from}
 use Rattle.runtime_effects.specs.Stages.{copied_home, sends}
 use Rattle.runtime_effects.specs.Needs.{IsCopied}
@@ -17,15 +18,12 @@ out_of_rest : (p n a : ℕ) → (a < p) ⊎ (p + 4 * suc n ≤ a) → (a < p + 4
 out_of_rest p n a (inl l) = inl (omega (arith, l))
 out_of_rest p n a (inr g) = inr (omega (arith, g))
 
-pub elsewhere : (f : ℕ → ℕ) (a w x : ℕ) → a ≢ x → put f a w x ≡ f x
-elsewhere f a w x h = ap (λ b. cond b w (f x)) (ne_eqb x a (λ e. h (sym e)))
-
 -- a store outside the entries leaves what they name
 pub entries_stay : (n p a w : ℕ) (f : ℕ → ℕ) → (a < p) ⊎ (p + 4 * n ≤ a) → entries_from n p (put f a w) ≡ entries_from n p f
 entries_stay zero p a w f h = refl
 entries_stay (suc n) p a w f h =
-    let e : put f a w p ≡ f p = elsewhere f a w p (out_of p (4 * suc n) a p h (omega arith) (omega arith)) in
-    let d : put f a w (p + 2) ≡ f (p + 2) = elsewhere f a w (p + 2) (out_of p (4 * suc n) a (p + 2) h (omega arith) (omega arith)) in
+    let e : put f a w p ≡ f p = (put_other f a w p (λ i. (out_of p (4 * suc n) a p h (omega arith) (omega arith)) (sym i))) in
+    let d : put f a w (p + 2) ≡ f (p + 2) = (put_other f a w (p + 2) (λ i. (out_of p (4 * suc n) a (p + 2) h (omega arith) (omega arith)) (sym i))) in
     let k = out_of_rest p n a h in
     let x : CopyPair = record { home = f p; copy = f (p + 2) } in
     ap (λ v. record { home = v; copy = put f a w (p + 2) } ∷ entries_from n (p + 4) (put f a w)) e
@@ -40,7 +38,7 @@ out_of_entries p n a from bytes (inr g) low high = inr (omega (arith, g, high))
 -- copies leave a word that is none of their homes
 pub copies_leave : (xs : List CopyPair) (f : ℕ → ℕ) (a : ℕ) → All (λ x. x.home ≢ a) xs → fram_after (copied_home xs f) f a ≡ f a
 copies_leave [] f a h = refl
-copies_leave (x ∷ xs) f a h = copies_leave xs (put f x.home (f x.copy)) a (All-tail (λ x. x.home ≢ a) x xs h) ∙ elsewhere f x.home (f x.copy) a (All-head (λ x. x.home ≢ a) x xs h)
+copies_leave (x ∷ xs) f a h = copies_leave xs (put f x.home (f x.copy)) a (All-tail (λ x. x.home ≢ a) x xs h) ∙ (put_other f x.home (f x.copy) a (λ i. (All-head (λ x. x.home ≢ a) x xs h) (sym i)))
 
 -- the same words are sent
 pub sends_alike : (n k p : ℕ) (f g : ℕ → ℕ) → ((a : ℕ) → p ≤ a → a < p + 2 * n → g a ≡ f a) → sends n k p g ≡ sends n k p f

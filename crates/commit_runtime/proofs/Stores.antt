@@ -1,29 +1,26 @@
 -- Where a commit stores.
-use Rattle.std.proofs.Common.{ℕ, zero, suc, ◌+◌, ◌%◌, List, [], ◌∷◌, ◌++◌}
+use Rattle.std.proofs.Common.{ℕ, List, [], ◌∷◌, ◌++◌}
 use Rattle.std.specs.List.{All}
 use Rattle.std.proofs.lemmas.List.Elements.{All-head, All-tail, All-weaker}
 use Rattle.machine_effects.specs.World.{put, EachStore}
 use Rattle.machine_effects.specs.Machine.{IsFram}
 use Rattle.machine_effects.proofs.Worlds.{each_store-append}
 use Rattle.runtime_effects.specs.Places.{RuntimePlaces, CopyPair, listed}
-use Rattle.runtime_effects.specs.Stages.{copied_home, sends, emits_sent, commit_closed, commit_effects}
+use Rattle.runtime_effects.specs.Stages.{copied_home, emits_sent, commit_closed, commit_effects}
 use Rattle.runtime_effects.specs.Needs.{IsCopied}
+use Rattle.runtime_effects.proofs.Sends.{sends_store}
 use Rattle.commit_runtime.specs.Laws.{CommitStoresInFram}
 
 homes_stored : (P : ℕ → ℕ → Type 0) (xs : List CopyPair) (f : ℕ → ℕ) → All (λ x. (w : ℕ) → P x.home w) xs → EachStore P (copied_home xs f)
 homes_stored P [] f h = tt
 homes_stored P (x ∷ xs) f h = (All-head (λ x. (w : ℕ) → P x.home w) x xs h (f x.copy), homes_stored P xs (put f x.home (f x.copy)) (All-tail (λ x. (w : ℕ) → P x.home w) x xs h))
 
-none_stored : (P : ℕ → ℕ → Type 0) (n k p : ℕ) (f : ℕ → ℕ) → EachStore P (sends n k p f)
-none_stored P zero k p f = tt
-none_stored P (suc n) k p f = (tt, none_stored P n ((k + 1) % 0x10000) (p + 2) f)
-
 -- what holds at each listed home, at CUR, at BASE and at GATE holds of each store of a commit
 pub commit_stores : (P : ℕ → ℕ → Type 0) (m : RuntimePlaces) (f : ℕ → ℕ) → All (λ x. (w : ℕ) → P x.home w) (listed m f)
     → ((w : ℕ) → P m.words.current_task w) → ((w : ℕ) → P m.words.base w) → P m.words.gate 0 → EachStore P (commit_effects m f)
 commit_stores P m f homes task base gate =
     each_store-append P (copied_home (listed m f) f) (emits_sent m f ++ commit_closed m f) (homes_stored P (listed m f) f homes)
-    (each_store-append P (emits_sent m f) (commit_closed m f) (none_stored P (f m.words.emit_count) (f m.words.sent_base) m.emits f) (task _, (base _, (gate, tt))))
+    (each_store-append P (emits_sent m f) (commit_closed m f) (sends_store P (f m.words.emit_count) (f m.words.sent_base) m.emits f) (task _, (base _, (gate, tt))))
 
 pub commit_stores_in_fram : CommitStoresInFram
 commit_stores_in_fram m f places can =

@@ -35,6 +35,7 @@ module _ (p : CheckedProgram) (l : LayoutValue) (apart : AreApart (program_place
   phase_versions readings origin s h (UndecidedPhase u settled w) = w.is_open.versions
   phase_versions readings origin s h (DecidedPhase next u t w) = w.decided.versions
 
+-- the counts of a compiled source keep to the capacities of its layout at each board of a run
 pub capacities_are_kept : (c : Program) → CapacitiesAreKept c
 capacities_are_kept c p l apart room fit readings origin x cs b r run bears first ms rest e =
     let model = compiled_model p l in

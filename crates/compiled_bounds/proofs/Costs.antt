@@ -1,5 +1,5 @@
 -- Each task keeps to its part of the bound.
-use Rattle.std.proofs.Common.{◌≡◌, ℕ, zero, suc, ◌+◌, ◌*◌, ◌<◌, ◌≤◌, refl, sym, ap, ◌∙◌, arith, List, [], ◌∷◌, length, get_or, Some}
+use Rattle.std.proofs.Common.{◌≡◌, ℕ, ◌+◌, ◌*◌, ◌≤◌, sym, ap, ◌∙◌, arith, List, [], length, Some}
 use Rattle.std.proofs.lemmas.List.{length-map}
 use Rattle.std.proofs.lemmas.Option.{slice_get-map, get_or_from_slice_get}
 use Rattle.std.specs.Option.{option_map}
@@ -8,36 +8,27 @@ use Rattle.cost_bound.specs.Table.{cycles_column, block_price}
 use Rattle.cost_bound.specs.Counts.{emits_of}
 use Rattle.cost_bound.specs.Allowance.{CheckedProgram, CheckedTask, IsAllowed, list_of, scalars_of, task_bound, versions_of}
 use Rattle.cost_bound.specs.declared.allowance.Allow.{Allow}
+use Rattle.war_analysis.proofs.Steps.{element}
 use Rattle.source_values.specs.Runs.{body_of, task_body}
 use Rattle.war_analysis.specs.PlanValue.{TaskPlanValue}
 use Rattle.war_analysis.specs.Plans.{IsPlan}
 use Rattle.war_analysis.proofs.Counted.{privates_counted}
-use Rattle.array_versions.specs.Program.{Program, nothing}
+use Rattle.array_versions.specs.Program.{Program}
 use Rattle.array_versions.specs.Behaviour.{WordState, End, GoesOn, Jumps, Short, Strays, Broken, behaviour, started}
 use Rattle.array_versions.specs.Cost.{spent}
 use Rattle.privatise.specs.LayoutValue.{LayoutValue, TaskLayoutValue}
 use Rattle.privatise.specs.Layouts.{IsLayout, IsTaskLayout}
+use Rattle.lower.proofs.Blocks.{program_at}
 use Rattle.runtime_code.specs.LayoutPlaces.{pair_of}
 use Rattle.boot_runtime.specs.Entries.{entry_of, task_entries}
 use Rattle.boot_runtime.specs.Listing.{privates_in, entry_at}
 use Rattle.lower.specs.Places.{places_of}
-use Rattle.lower.specs.Lowered.{lowered_block, lowered_tasks}
+use Rattle.lower.specs.Lowered.{lowered_block}
 use Rattle.lower.specs.Sizes.{entry_cycles}
 use Rattle.lower.proofs.Costs.{blocks_keep_to_cycles}
 use Rattle.compiled_model.specs.Parts.{task_program}
 use Rattle.compiled_model.specs.Needs.{whole_cycles}
 use Rattle.compiled_bounds.specs.Laws.{TasksKeepToTheBound}
-
--- the programs of tasks, by number
-pub program_at : (l : LayoutValue) (ts : List CheckedTask) (ls : List TaskLayoutValue) (k : ℕ) (task : CheckedTask) (layout : TaskLayoutValue)
-    → slice_get ts k ≡ Some task → slice_get ls k ≡ Some layout → get_or (lowered_tasks l ts ls) k nothing ≡ lowered_block (places_of l layout) task.body
-program_at l [] ls k task layout e f = absurd (cc e)
-program_at l (t ∷ ts) [] k task layout e f = absurd (cc f)
-program_at l (t ∷ ts) (u ∷ ls) zero task layout e f =
-    let a : t ≡ task = cc e in
-    let b : u ≡ layout = cc f in
-    ap (λ y. lowered_block (places_of l u) y.body) a ∙ ap (λ y. lowered_block (places_of l y) task.body) b
-program_at l (t ∷ ts) (u ∷ ls) (suc k) task layout e f = program_at l ts ls k task layout e f
 
 -- what the entries cost at most
 entries_cost : (l : LayoutValue) (layout : TaskLayoutValue) (e : End) → entry_cycles (places_of l layout) e ≤ 21 * length layout.privates
@@ -97,19 +88,13 @@ module _ (p : CheckedProgram) (allow : Allow) (plans : List TaskPlanValue) (l : 
       (spent (task_program p l t) (started fram readings)) (block_price cycles_column (task_body p t))
       (list_of p.shared (task_body p t)) (emits_of (task_body p t)) (layout.versions ∙ allowed.versions) privates_are body_costs
 
--- an element by its number
-pub there : {X : Type 0} (xs : List X) (i : ℕ) → i < length xs → (x : X) × (slice_get xs i ≡ Some x)
-there [] i h = absurd (omega (arith, h))
-there (x ∷ xs) zero h = (x, refl)
-there (x ∷ xs) (suc i) h = there xs i (omega (arith, h))
-
 pub tasks_keep_to_the_bound : TasksKeepToTheBound
 tasks_keep_to_the_bound p allow plans l allowed plan layout = record {
   within = λ t fram readings below words are_words.
-      let task = there p.tasks t below in
+      let task = element p.tasks t below in
       let count = layout.tasks.count in
       let plans_count = plan.count in
-      let own = there l.tasks t (omega (arith, below, count)) in
-      let kind = there plans t (omega (arith, below, plans_count)) in
+      let own = element l.tasks t (omega (arith, below, count)) in
+      let kind = element plans t (omega (arith, below, plans_count)) in
       within p allow plans l allowed plan layout t fram readings task.0 own.0 kind.0 task.1 own.1 kind.1;
 }

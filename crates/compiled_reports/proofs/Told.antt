@@ -19,6 +19,7 @@ models_are_of_sources text p l m is = record {
   rests = is.rests;
 }
 
+-- the report of each run of a compiled source is told by the source
 pub compiled_runs_are_told : (c : Program) → CompiledRunsAreTold c
 compiled_runs_are_told c text p l m x cs b r is begins run few =
     runs_are_told (compiled_model p l) c text p m x cs b r (models_are_of_sources text p l m is) begins run few

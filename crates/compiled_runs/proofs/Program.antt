@@ -1,5 +1,5 @@
 -- The code makes each attempt and each commit within the task's bound.
-use Rattle.std.proofs.Common.{◌≡◌, ◌<◌, ◌≤◌, ◌+◌, ℕ, true, cond, List, [], ◌∷◌, ◌++◌, length, refl, sym, ap, ◌∙◌, subst, inl, inr, All, arith, append-nil, eq-eqb}
+use Rattle.std.proofs.Common.{◌≡◌, ◌<◌, ◌≤◌, ◌+◌, ℕ, true, List, [], ◌∷◌, ◌++◌, length, refl, sym, ap, ◌∙◌, subst, inl, inr, All, arith, append-nil}
 use Rattle.msp_step.specs.declared.machine.Stop.TheVariants as stop
 use Rattle.fram_board.specs.Effects.{Effect, Store}
 use Rattle.machine_effects.specs.World.{World, put, fram_after, world_after, world_after_one}
@@ -7,9 +7,10 @@ use Rattle.machine_effects.specs.Going.{Stalls}
 use Rattle.machine_effects.specs.Machine.{Code, MachineBoard, exec}
 use Rattle.machine_effects.proofs.Going.{join, join_stall}
 use Rattle.machine_effects.proofs.Logs.{code_changes_by_effects}
-use Rattle.machine_effects.proofs.Worlds.{fram_after-append, world_by_its_parts}
+use Rattle.machine_effects.proofs.Worlds.{fram_after-append, put_same}
 use Rattle.code_forms.specs.Forms.{Core, board_of}
 use Rattle.code_forms.specs.Code.{Runs, Starves}
+use Rattle.crash_rules.proofs.Lists.{world_fram}
 use Rattle.source_values.specs.Runs.{CheckedProgram, State}
 use Rattle.array_versions.specs.Behaviour.{WordState, Behaviour, End, GoesOn, Jumps, Short as Lacks, Strays, Broken, behaviour, started}
 use Rattle.array_versions.specs.Cost.{spent}
@@ -43,15 +44,8 @@ use Rattle.compiled_runs.specs.Program.{placed_code, IsAtEntry, compiled_program
 use Rattle.compiled_runs.specs.Laws.{CanRun, CodeKeepsTheLaws}
 use Rattle.compiled_runs.proofs.Steps.{code_takes}
 
--- behind a store the word is there
-put_there : (f : ℕ → ℕ) (a w : ℕ) → put f a w a ≡ w
-put_there f a w = ap (λ b. cond b w (f a)) (eq-eqb a a refl)
-
 behind_last : (es : List Effect) (a w : ℕ) (f : ℕ → ℕ) → fram_after (es ++ Store a w ∷ []) f a ≡ w
-behind_last es a w f = ap (λ g. g a) (fram_after-append es (Store a w ∷ []) f) ∙ put_there (fram_after es f) a w
-
-world_fram : (es : List Effect) (x : World) → (world_after es x).fram ≡ fram_after es x.fram
-world_fram es x = ap (λ y. y.fram) (world_by_its_parts es x)
+behind_last es a w f = ap (λ g. g a) (fram_after-append es (Store a w ∷ []) f) ∙ put_same (fram_after es f) a w
 
 module _ (p : CheckedProgram) (l : LayoutValue) (r : CanRun p l) (laws : ModelLaws (compiled_model p l)) where
   abbrev m : Model State

@@ -1,5 +1,5 @@
 -- One level of the tree that a Rust tree stands for, and one more node at the front of a list.
-use Rattle.std.proofs.Common.{◌≡◌, ℕ, ◌-◌, ◌<◌, ◌≤◌, suc, List, ◌∷◌, length, get_or, drop, ap, sym, ◌∙◌, arith, drop-cons, rules, Option}
+use Rattle.std.proofs.Common.{◌≡◌, ℕ, arith, rules, Option}
 use Rattle.std.specs.declared.alloc.Global.{Global}
 use Rattle.std.specs.declared.vec.Vec.{Vec}
 use Rattle.task_ast.specs.Tree.{loop, choose}
@@ -18,9 +18,3 @@ statement_of-If arms last = search (rules, the_lemmas)
 
 pub tested_of-block : {V T : Type 0} (arm : Arm V T) → (tested_of arm).block ≡ block_view (out-Arm V T arm).block.items
 tested_of-block arm = search (rules, the_lemmas)
-
-pub drop_back : {A : Type 0} (xs : List A) (i : ℕ) (a : A) → 0 < i → i ≤ length xs → a ≡ get_or xs (i - 1) a → drop (i - 1) xs ≡ a ∷ drop i xs
-drop_back xs i a pos h is =
-    let lt : i - 1 < length xs = omega arith in
-    let e : suc (i - 1) ≡ i = omega arith in
-    drop-cons xs (i - 1) a lt ∙ ap (λ x. x ∷ drop (suc (i - 1)) xs) (sym is) ∙ ap (λ j. a ∷ drop j xs) e

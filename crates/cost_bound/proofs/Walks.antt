@@ -1,5 +1,6 @@
 -- Steps of the walks that mark and count.
-use Rattle.std.proofs.Common.{◌≡◌, ℕ, ◌+◌, ◌-◌, ◌*◌, ◌<◌, ◌≤◌, ◌||◌, Bool, true, false, max, List, length, get_or, drop, map, replicate, Option, ap, sym, subst, refl, ◌∙◌, arith, slice_index, slice_index_or}
+use Rattle.std.proofs.Common.{◌≡◌, ℕ, ◌+◌, ◌-◌, ◌*◌, ◌<◌, ◌≤◌, ◌||◌, Bool, true, false, max, List, length, get_or, drop, map, replicate, Option, ap, sym, subst}
+use Rattle.std.proofs.Common.{refl, ◌∙◌, arith, slice_index, slice_index_or}
 use Rattle.std.proofs.lemmas.List.{get_or-replicate}
 use Rattle.std.specs.declared.alloc.Global.{Global}
 use Rattle.std.specs.declared.vec.Vec.{Vec}
@@ -10,10 +11,11 @@ use Rattle.task_ast.specs.declared.names.TaskName.{TaskName}
 use Rattle.task_ast.specs.declared.Stmt.{Stmt}
 use Rattle.task_ast.specs.declared.Stmt.TheVariants.{If, For}
 use Rattle.task_ast.specs.declared.Arm.{Arm, out-Arm}
+use Rattle.task_ast.proofs.Backwards.{drop_back}
 use Rattle.cost_bound.specs.Table.{capped}
 use Rattle.cost_bound.specs.Counts.{is_store_to, statement_count, choice_count, block_count, choice_assigns, block_assigns}
 use Rattle.cost_bound.specs.Rooms.{AreCapped, HaveGrown, AreMarked}
-use Rattle.cost_bound.proofs.Views.{statement_of-If, statement_of-For, tested_of-block, drop_back}
+use Rattle.cost_bound.proofs.Views.{statement_of-If, statement_of-For, tested_of-block}
 use Rattle.cost_bound.proofs.Caps.{capped_times}
 
 abbrev CheckedArm : Type 0
@@ -43,9 +45,12 @@ marked_arm arms i arm items last start before after pos h at e x y =
     rest : ℕ → Bool
     rest k = choice_assigns k (choice_of (map tested_of (drop i arms)) last)
 
-    step : (k : ℕ) → k < 256 → slice_index_or after k false ≡ (slice_index_or start k false || (block_assigns k (tested_of arm).block || choice_assigns k (choice_of (map tested_of (drop i arms)) last)))
-    step k l = y k l ∙ ap (λ m. m || block_assigns k (block_view items)) (x k l) ∙ or_swap (slice_index_or start k false) (choice_assigns k (choice_of (map tested_of (drop i arms)) last)) (block_assigns k (block_view items))
-        ∙ ap (λ b. slice_index_or start k false || (block_assigns k b || choice_assigns k (choice_of (map tested_of (drop i arms)) last))) (ap block_view (e ∙ ap (λ a. (out-Arm VariableName TaskName a).block.items) (sym at)) ∙ sym (tested_of-block arm))
+    step : (k : ℕ) → k < 256 → slice_index_or after k false ≡
+        (slice_index_or start k false || (block_assigns k (tested_of arm).block || choice_assigns k (choice_of (map tested_of (drop i arms)) last)))
+    step k l = y k l ∙ ap (λ m. m || block_assigns k (block_view items)) (x k l)
+        ∙ or_swap (slice_index_or start k false) (choice_assigns k (choice_of (map tested_of (drop i arms)) last)) (block_assigns k (block_view items))
+        ∙ ap (λ b. slice_index_or start k false || (block_assigns k b || choice_assigns k (choice_of (map tested_of (drop i arms)) last)))
+        (ap block_view (e ∙ ap (λ a. (out-Arm VariableName TaskName a).block.items) (sym at)) ∙ sym (tested_of-block arm))
 
 greater : (after here before a b : ℕ) → after ≡ max here before → capped here ≡ capped a → capped before ≡ capped b → capped after ≡ capped (max a b)
 greater after here before a b x y z = omega arith
@@ -59,37 +64,47 @@ pub greatest_arm : (arms : List CheckedArm) (i : ℕ) (arm : CheckedArm) (items 
 greatest_arm arms i arm items last before here after pos h at e x y z =
     subst (λ a. AreCapped after (λ k. choice_count (is_store_to k) (choice_of (map tested_of a) last))) (sym (drop_back arms i arm pos h at)) step
   where
-    step : (k : ℕ) → k < 256 → capped (slice_index after k) ≡ capped (max (block_count (is_store_to k) (tested_of arm).block) (choice_count (is_store_to k) (choice_of (map tested_of (drop i arms)) last)))
-    step k l = greater (slice_index after k) (slice_index here k) (slice_index before k) (block_count (is_store_to k) (block_view items)) (choice_count (is_store_to k) (choice_of (map tested_of (drop i arms)) last))
+    step : (k : ℕ) → k < 256 → capped (slice_index after k) ≡ capped
+        (max (block_count (is_store_to k) (tested_of arm).block) (choice_count (is_store_to k) (choice_of (map tested_of (drop i arms)) last)))
+    step k l =
+        greater (slice_index after k) (slice_index here k) (slice_index before k) (block_count (is_store_to k) (block_view items))
+        (choice_count (is_store_to k) (choice_of (map tested_of (drop i arms)) last))
         (z k l) (y k l) (x k l)
-        ∙ ap (λ b. capped (max (block_count (is_store_to k) b) (choice_count (is_store_to k) (choice_of (map tested_of (drop i arms)) last)))) (ap block_view (e ∙ ap (λ a. (out-Arm VariableName TaskName a).block.items) (sym at)) ∙ sym (tested_of-block arm))
+        ∙ ap (λ b. capped (max (block_count (is_store_to k) b) (choice_count (is_store_to k) (choice_of (map tested_of (drop i arms)) last))))
+        (ap block_view (e ∙ ap (λ a. (out-Arm VariableName TaskName a).block.items) (sym at)) ∙ sym (tested_of-block arm))
 
 pub choice_added : (arms : List CheckedArm) (i : ℕ) (last : Last) (old greatest new : List ℕ) → i ≤ 0
     → AreCapped greatest (λ k. choice_count (is_store_to k) (choice_of (map tested_of (drop i arms)) last))
     → HaveGrown old new (λ k. 1 * slice_index greatest k)
     → HaveGrown old new (λ k. choice_count (is_store_to k) (choice_of (map tested_of arms) last))
 choice_added arms i last old greatest new low x y =
-    subst (λ j. AreCapped greatest (λ k. choice_count (is_store_to k) (choice_of (map tested_of (drop j arms)) last)) → HaveGrown old new (λ k. choice_count (is_store_to k) (choice_of (map tested_of arms) last)))
+    subst (λ j. AreCapped greatest (λ k. choice_count (is_store_to k) (choice_of (map tested_of (drop j arms)) last))
+    → HaveGrown old new (λ k. choice_count (is_store_to k) (choice_of (map tested_of arms) last)))
     (let e : 0 ≡ i = omega arith in e) step x
   where
-    step : AreCapped greatest (λ k. choice_count (is_store_to k) (choice_of (map tested_of arms) last)) → HaveGrown old new (λ k. choice_count (is_store_to k) (choice_of (map tested_of arms) last))
+    step : AreCapped greatest (λ k. choice_count (is_store_to k) (choice_of (map tested_of arms) last))
+        → HaveGrown old new (λ k. choice_count (is_store_to k) (choice_of (map tested_of arms) last))
     step g k l = let a : capped (slice_index greatest k) ≡ capped (choice_count (is_store_to k) (choice_of (map tested_of arms) last)) = g k l in
         let b : capped (slice_index new k) ≡ capped (slice_index old k + 1 * slice_index greatest k) = y k l in omega arith
 
 pub none_counted : (k : ℕ) → k < 256 → capped (slice_index (replicate 256 0) k) ≡ capped 0
 none_counted k l = ap capped (get_or-replicate 256 k 0 0 l)
 
-pub if_counted : (s : CheckedStmt) (arms : Vec CheckedArm Global) (field last : Option (Vec CheckedStmt Global)) (items : List CheckedArm) (old new : List ℕ) → s ≡ If arms field → field ≡ last → items ≡ arms.items
+pub if_counted : (s : CheckedStmt) (arms : Vec CheckedArm Global) (field last : Option (Vec CheckedStmt Global)) (items : List CheckedArm) (old new : List ℕ)
+    → s ≡ If arms field → field ≡ last → items ≡ arms.items
     → HaveGrown old new (λ k. choice_count (is_store_to k) (choice_of (map tested_of items) (last_view last)))
     → HaveGrown old new (λ k. statement_count (is_store_to k) (statement_of s))
-if_counted s arms field last items old new e g f h = λ k l. h k l ∙ ap (λ v. capped (slice_index old k + choice_count (is_store_to k) (choice_of (map tested_of v) (last_view last)))) f
-    ∙ ap (λ v. capped (slice_index old k + statement_count (is_store_to k) v)) (sym (statement_of-If arms last) ∙ ap (λ o. statement_of (If arms o)) (sym g) ∙ ap statement_of (sym e))
+if_counted s arms field last items old new e g f h = λ k l. h k l
+    ∙ ap (λ v. capped (slice_index old k + choice_count (is_store_to k) (choice_of (map tested_of v) (last_view last)))) f
+    ∙ ap (λ v. capped (slice_index old k + statement_count (is_store_to k) v))
+    (sym (statement_of-If arms last) ∙ ap (λ o. statement_of (If arms o)) (sym g) ∙ ap statement_of (sym e))
 
 capped_sum : (old new turns a b : ℕ) → capped new ≡ capped (old + turns * a) → capped a ≡ capped b → capped new ≡ capped (old + turns * b)
 capped_sum old new turns a b x y =
     let f : capped (turns * a) ≡ capped (turns * b) = sym (capped_times turns a) ∙ ap (λ c. capped (turns * c)) y ∙ capped_times turns b in omega (arith, f)
 
-pub loop_counted : (s : CheckedStmt) (variable : VariableName) (from : ℕ) (tested : VariableName) (below : ℕ) (stepped : VariableName) (body : Vec CheckedStmt Global)
+pub loop_counted : (s : CheckedStmt) (variable : VariableName) (from : ℕ) (tested : VariableName) (below : ℕ) (stepped : VariableName)
+    (body : Vec CheckedStmt Global)
     (items : List CheckedStmt) (turns : ℕ) (old turn new : List ℕ) → s ≡ For variable from tested below stepped body → items ≡ body.items → turns ≡ below - from
     → AreCapped turn (λ k. block_count (is_store_to k) (block_view items))
     → HaveGrown old new (λ k. turns * slice_index turn k)
@@ -99,4 +114,5 @@ loop_counted s variable from tested below stepped body items turns old turn new 
     (x k l)
     ∙ ap (λ n. capped (slice_index old k + n * block_count (is_store_to k) (block_view items))) g
     ∙ ap (λ v. capped (slice_index old k + (below - from) * block_count (is_store_to k) (block_view v))) f
-    ∙ ap (λ v. capped (slice_index old k + statement_count (is_store_to k) v)) (sym (statement_of-For variable from tested below stepped body) ∙ ap statement_of (sym e))
+    ∙ ap (λ v. capped (slice_index old k + statement_count (is_store_to k) v))
+    (sym (statement_of-For variable from tested below stepped body) ∙ ap statement_of (sym e))

@@ -31,6 +31,3 @@ pub fn allow(checked: &Checked) -> Result<Allow, Over>
 {
     allowance::allowance(checked.source(), checked.task_lines())
 }
-
-#[cfg(test)]
-mod tests;

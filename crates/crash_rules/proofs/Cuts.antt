@@ -1,12 +1,17 @@
 -- What is made from a boot or a done on, cut anywhere, keeps what a history stands for.
-use Rattle.std.proofs.Common.{◌≡◌, ℕ, ◌+◌, List, [], ◌∷◌, ◌++◌, length, drop, refl, sym, ap, ◌∙◌, subst, ⊎_elim, inl, inr, ◌⊎◌, arith, true, false, cond, ◌==◌, append_assoc, append-nil, All}
+use Rattle.std.proofs.Common.{◌≡◌, ℕ, ◌+◌, List, [], ◌∷◌, ◌++◌, length, drop, refl, sym, ap, ◌∙◌, subst, ⊎_elim, inl, inr, ◌⊎◌, arith, true, false, cond, ◌==◌}
+use Rattle.std.proofs.Common.{append_assoc, append-nil, All}
 use Rattle.std.proofs.lemmas.List.Elements.{All-drop}
 use Rattle.fram_board.specs.Effects.{Effect, Store}
 use Rattle.machine_effects.specs.World.{World, world_after, fram_after, readings_taken, IsPrefix, EachStore}
-use Rattle.crash_rules.specs.Model.{Model, ModelLaws, Outcome, Ends, Short, ProgramEffects, program_effects, readings_left, IsWord, IsElsewhere, with_commit, script, Decides, RunsShort, AttemptContract, CommitContract}
-use Rattle.crash_rules.specs.History.{Done, History, with_effect, behind_decide, behind_done, observe_one, observe, behind_boot, decided_readings, done_readings}
-use Rattle.crash_rules.specs.Laws.{Origin, Resting, Pending, SourceRun, Reaches, IsSettled, Transits, Phase, UndecidedPhase, DecidedPhase, StandsFor, IsLawful, AreConsecutive}
-use Rattle.crash_rules.proofs.Lists.{world_after-append, world_fram, each_prefix, holds_prefix, holds_end, prefix_cases, prefix_one, nothing_first, range_of}
+use Rattle.machine_effects.proofs.Worlds.{world_after-append}
+use Rattle.crash_rules.specs.Model.{Model, ModelLaws, Outcome, Ends, Short, ProgramEffects, program_effects, readings_left, IsWord, IsElsewhere, with_commit}
+use Rattle.crash_rules.specs.Model.{script, Decides, RunsShort, AttemptContract, CommitContract}
+use Rattle.crash_rules.specs.History.{Done, History, with_effect, behind_decide, behind_done, observe_one, observe, behind_boot, decided_readings}
+use Rattle.crash_rules.specs.History.{done_readings}
+use Rattle.crash_rules.specs.Laws.{Origin, Resting, Pending, SourceRun, Reaches, IsSettled, Transits, Phase, UndecidedPhase, DecidedPhase, StandsFor, IsLawful}
+use Rattle.crash_rules.specs.Laws.{AreConsecutive}
+use Rattle.crash_rules.proofs.Lists.{world_fram, each_prefix, holds_prefix, holds_end, prefix_cases, prefix_one, nothing_first, range_of}
 use Rattle.crash_rules.proofs.Observed.{observe-append, with_effects, observe_quiet, observe_done, observe_decide}
 
 -- charges as whole scripts and a prefix of one

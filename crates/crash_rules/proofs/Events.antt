@@ -1,5 +1,6 @@
 -- The events of an instruction, by its effects and by GATE before and behind it.
-use Rattle.std.proofs.Common.{◌≡◌, ℕ, ◌-◌, ◌≤◌, List, [], ◌∷◌, ◌++◌, length, drop, refl, sym, ap, ap₂, ◌∙◌, subst, arith, Bool, true, false, cond, length-take-le, Result, Ok, Err, Option, Some, None}
+use Rattle.std.proofs.Common.{◌≡◌, ℕ, ◌-◌, ◌≤◌, List, [], ◌∷◌, ◌++◌, length, drop, refl, sym, ap, ap₂, ◌∙◌, subst, arith, Bool, true, false, cond}
+use Rattle.std.proofs.Common.{length-take-le, Result, Ok, Err, Option, Some, None}
 use Rattle.std.proofs.lemmas.List.{length-drop, map-append}
 use Rattle.std.specs.Prelude.{map}
 use Rattle.std.specs.List.{slice_range}
@@ -9,9 +10,10 @@ use Rattle.fram_board.specs.Bus.{is_fram}
 use Rattle.fram_board.specs.Board.{BoardValue}
 use Rattle.fram_board.specs.Effects.{Effect, Store, Take, store_at, stores_of, sends_of}
 use Rattle.machine_effects.specs.World.{World, world_after_one, world_after, readings_taken, EachStore}
+use Rattle.machine_effects.proofs.Worlds.{taking_takes, world_after-append}
 use Rattle.crash_rules.specs.Model.{IsElsewhere}
-use Rattle.crash_rules.specs.History.{History, Done, Span, is_done, is_decide, with_effect, behind_decide, behind_done, behind_gate, observe_one, observe, Positions, positions_of, positions_behind, EventsOfInstructions}
-use Rattle.crash_rules.proofs.Lists.{world_after-append}
+use Rattle.crash_rules.specs.History.{History, is_done, is_decide, with_effect, behind_decide, behind_done, behind_gate, observe_one, observe, Positions}
+use Rattle.crash_rules.specs.History.{positions_of, positions_behind, EventsOfInstructions}
 use Rattle.crash_rules.proofs.Observed.{observe-append, with_effects, not_done, not_decide, observe_quiet, observed_taken}
 
 takes_store : (P : ℕ → ℕ → Type 0) (ws : List ℕ) → EachStore P (map (λ w. Take w) ws)
@@ -21,10 +23,6 @@ takes_store P (w ∷ ws) = (tt, takes_store P ws)
 takes_world : (ws : List ℕ) (x : World) → world_after (map (λ w. Take w) ws) x ≡ x
 takes_world [] x = refl
 takes_world (w ∷ ws) x = takes_world ws x
-
-takes_taken : (ws : List ℕ) → readings_taken (map (λ w. Take w) ws) ≡ ws
-takes_taken [] = refl
-takes_taken (w ∷ ws) = ap (λ l. w ∷ l) (takes_taken ws)
 
 sends_store : (P : ℕ → ℕ → Type 0) (n : ℕ) (o : Option ℕ) → EachStore P (sends_of n o)
 sends_store P n None = tt
@@ -64,9 +62,6 @@ same_positions v taken p =
       spans = p.spans ++ record { from = p.span_from; to = p.span_to } ∷ [];
     })
     (cond c (record { since = p.since; span_from = p.since; span_to = taken; spans = p.spans }) p)) (not_done v) (not_decide v)
-
-span_of : Done → Span
-span_of d = record { from = d.span_from; to = d.span_to }
 
 gate_positions : (before now : ℕ) (h : History) → positions_of (behind_gate before now h) ≡ positions_behind before now h.taken (positions_of h)
 gate_positions before now h =
@@ -126,6 +121,7 @@ module _ (gate : ℕ) (us : List Effect) (off : EachStore (IsElsewhere gate) us)
   behind_store m k (NoStore e) = subst (λ l. Behind l k) (sym e) (without_store k)
   behind_store m k (AStore a w e) = subst (λ l. Behind l k) (sym e) (with_store a w k)
 
+-- what is observed of each instruction
 pub events_of_instructions : EventsOfInstructions
 events_of_instructions gate b x h e from to =
     let ws = slice_range b.readings b.taken x.board.taken in
@@ -134,7 +130,7 @@ events_of_instructions gate b x h e from to =
     let us = sends_of b.outnum x.offered in
     let k = with_effects ts h in
     let room : x.board.taken - b.taken ≤ length (drop b.taken b.readings) = let n = length-drop b.taken b.readings in omega (arith, n, to) in
-    let len : length (readings_taken ts) ≡ x.board.taken - b.taken = ap length (takes_taken ws)
+    let len : length (readings_taken ts) ≡ x.board.taken - b.taken = ap length (taking_takes ws)
     ∙ length-take-le (x.board.taken - b.taken) (drop b.taken b.readings) room in
     let there : k.taken ≡ x.board.taken = omega (arith, e, len, from) in
     let seen : observe gate ts h ≡ k = observe_quiet gate ts h (takes_store (IsElsewhere gate) ws) in

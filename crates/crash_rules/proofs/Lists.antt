@@ -1,21 +1,11 @@
 -- Prefixes of effects, worlds behind them, and positions of readings.
 use Rattle.std.proofs.Common.{◌≡◌, ℕ, ◌+◌, ◌-◌, List, [], ◌∷◌, ◌++◌, length, take, drop, refl, sym, ap, ◌∙◌, subst, ⊎_elim, inl, inr, ◌⊎◌, arith, append-nil}
-use Rattle.std.proofs.Math.Seq.{take-append_seam, drop-append_seam}
-use Rattle.std.proofs.lemmas.List.{drop-drop}
+use Rattle.std.proofs.Math.Seq.{take-append_seam}
 use Rattle.std.specs.List.{slice_range}
 use Rattle.fram_board.specs.Effects.{Effect, Store, Take, Send}
-use Rattle.machine_effects.specs.World.{World, world_after_one, world_after, fram_after_one, fram_after, readings_taken, IsPrefix, EachStore}
+use Rattle.machine_effects.specs.World.{World, world_after_one, world_after, fram_after_one, fram_after, IsPrefix, EachStore}
+use Rattle.machine_effects.proofs.Worlds.{each_store-front}
 use Rattle.crash_rules.specs.Model.{HoldsThroughout}
-
--- the world behind two parts
-pub world_after-append : (es fs : List Effect) (x : World) → world_after (es ++ fs) x ≡ world_after fs (world_after es x)
-world_after-append [] fs x = refl
-world_after-append (e ∷ es) fs x = world_after-append es fs (world_after_one e x)
-
--- FRAM behind two parts
-pub fram_after-append : (es fs : List Effect) (f : ℕ → ℕ) → fram_after (es ++ fs) f ≡ fram_after fs (fram_after es f)
-fram_after-append [] fs f = refl
-fram_after-append (e ∷ es) fs f = fram_after-append es fs (fram_after_one e f)
 
 one_fram : (e : Effect) (x : World) → (world_after_one e x).fram ≡ fram_after_one e x.fram
 one_fram (Store a w) x = refl
@@ -27,26 +17,9 @@ pub world_fram : (es : List Effect) (x : World) → (world_after es x).fram ≡ 
 world_fram [] x = refl
 world_fram (e ∷ es) x = world_fram es (world_after_one e x) ∙ ap (fram_after es) (one_fram e x)
 
--- the readings that two parts take
-pub readings_taken-append : (es fs : List Effect) → readings_taken (es ++ fs) ≡ readings_taken es ++ readings_taken fs
-readings_taken-append [] fs = refl
-readings_taken-append (Store a w ∷ es) fs = readings_taken-append es fs
-readings_taken-append (Take w ∷ es) fs = ap (λ l. w ∷ l) (readings_taken-append es fs)
-readings_taken-append (Send n w ∷ es) fs = readings_taken-append es fs
-
--- a fact of each store, of the first part
-pub each_front : (P : ℕ → ℕ → Type 0) (es fs : List Effect) → EachStore P (es ++ fs) → EachStore P es
-each_front P [] fs h = tt
-each_front P (e ∷ es) fs h = (h.0, each_front P es fs h.1)
-
--- and of both
-pub each_both : (P : ℕ → ℕ → Type 0) (es fs : List Effect) → EachStore P es → EachStore P fs → EachStore P (es ++ fs)
-each_both P [] fs a b = b
-each_both P (e ∷ es) fs a b = (a.0, each_both P es fs a.1 b)
-
 -- a fact of each store, of a prefix
 pub each_prefix : (P : ℕ → ℕ → Type 0) (es all : List Effect) → IsPrefix es all → EachStore P all → EachStore P es
-each_prefix P es all p h = each_front P es p.rest (subst (EachStore P) (sym p.joins) h)
+each_prefix P es all p h = each_store-front P es p.rest (subst (EachStore P) (sym p.joins) h)
 
 -- what holds throughout holds behind the first part
 pub holds_front : (P : World → Type 0) (es fs : List Effect) (x : World) → HoldsThroughout P (es ++ fs) x → P (world_after es x)
@@ -90,21 +63,8 @@ prefix_one (x ∷ (y ∷ es)) e p = cc p.joins
 pub nothing_first : (all : List Effect) → IsPrefix [] all
 nothing_first all = record { rest = all; joins = refl }
 
--- a list is a prefix of itself
-pub all_first : (all : List Effect) → IsPrefix all all
-all_first all = record { rest = []; joins = append-nil all }
-
--- two lists that make nothing are empty
-pub back_nil : (es fs : List Effect) → es ++ fs ≡ [] → fs ≡ []
-back_nil [] fs h = h
-back_nil (e ∷ es) fs h = cc h
-
 -- readings from a position on that begin with these are these up to their end
 pub range_of : (readings pre left : List ℕ) (from to : ℕ) → pre ++ left ≡ drop from readings → to ≡ from + length pre → slice_range readings from to ≡ pre
 range_of readings pre left from to e t =
     let n : to - from ≡ length pre = omega (arith, t) in
     ap (λ k. take k (drop from readings)) n ∙ ap (take (length pre)) (sym e) ∙ take-append_seam pre left
-
--- the readings behind those taken
-pub drop_more : (readings pre left : List ℕ) (from : ℕ) → pre ++ left ≡ drop from readings → left ≡ drop (from + length pre) readings
-drop_more readings pre left from e = sym (drop-append_seam pre left) ∙ ap (drop (length pre)) e ∙ drop-drop (length pre) from readings

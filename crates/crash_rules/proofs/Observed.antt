@@ -1,17 +1,12 @@
 -- What effects make of a history.
-use Rattle.std.proofs.Common.{◌≡◌, ℕ, zero, suc, ◌+◌, ◌≤◌, List, [], ◌∷◌, ◌++◌, length, refl, sym, ap, ap₂, ◌∙◌, arith, true, false, cond, ne_eqb, eq-eqb, append_assoc, append-nil, length-append}
+use Rattle.std.proofs.Common.{◌≡◌, ℕ, zero, suc, ◌+◌, ◌≤◌, List, [], ◌∷◌, ◌++◌, length, refl, sym, ap, ap₂, ◌∙◌, arith, true, false, cond, ne_eqb, append_assoc}
+use Rattle.std.proofs.Common.{append-nil, length-append}
 use Rattle.std.specs.Prelude.{◌&&◌, not}
 use Rattle.fram_board.specs.Effects.{Effect, Store, Take, Send}
-use Rattle.machine_effects.specs.World.{World, put, world_after_one, world_after, readings_taken, OfStore, EachStore}
+use Rattle.machine_effects.specs.World.{World, world_after_one, world_after, readings_taken, OfStore, EachStore}
+use Rattle.machine_effects.proofs.Worlds.{put_same, put_other}
 use Rattle.crash_rules.specs.Model.{IsElsewhere}
 use Rattle.crash_rules.specs.History.{History, is_decide, is_done, with_effect, behind_decide, behind_done, behind_gate, observe_one, observe}
-
--- a function at the address where it was put, and elsewhere
-pub put_same : (f : ℕ → ℕ) (a w : ℕ) → put f a w a ≡ w
-put_same f a w = ap (λ b. cond b w (f a)) (eq-eqb a a refl)
-
-pub put_other : (f : ℕ → ℕ) (a w x : ℕ) → (x ≡ a → ⊥) → put f a w x ≡ f x
-put_other f a w x ne = ap (λ b. cond b w (f x)) (ne_eqb x a ne)
 
 -- the history behind two parts
 pub observe-append : (gate : ℕ) (es fs : List Effect) (h : History) → observe gate (es ++ fs) h ≡ observe gate fs (observe gate es h)
@@ -33,7 +28,8 @@ not_decide zero = refl
 not_decide (suc zero) = refl
 not_decide (suc (suc n)) = ap (λ q. q && not q) (ne_eqb (suc (suc n)) 1 (λ e. omega (arith, e)))
 
-unchanged : (v : ℕ) (h : History) → behind_gate v v h ≡ h
+-- a GATE that stays makes no event
+pub unchanged : (v : ℕ) (h : History) → behind_gate v v h ≡ h
 unchanged v h = ap₂ (λ p q. cond p (behind_done h) (cond q (behind_decide h) h)) (not_done v) (not_decide v)
 
 same_gate : (gate : ℕ) (e : Effect) (x : World) → OfStore (IsElsewhere gate) e → (world_after_one e x).fram gate ≡ x.fram gate

@@ -1,5 +1,6 @@
 -- From whole scripts to any number of steps, and to any charges.
-use Rattle.std.proofs.Common.{◌≡◌, ℕ, zero, suc, ◌+◌, ◌-◌, ◌<◌, ◌≤◌, List, [], ◌∷◌, ◌++◌, length, drop, refl, sym, ap, ap₂, ◌∙◌, subst, ⊎_elim, arith, Bool, true, false, cond, nat_lt, append_assoc, append-nil, All, ltb-true, ltb-false}
+use Rattle.std.proofs.Common.{◌≡◌, ℕ, zero, suc, ◌+◌, ◌-◌, ◌<◌, ◌≤◌, List, [], ◌∷◌, ◌++◌, length, drop, refl, sym, ap, ap₂, ◌∙◌, subst, ⊎_elim, arith, Bool}
+use Rattle.std.proofs.Common.{true, false, cond, nat_lt, append_assoc, append-nil, All, ltb-true, ltb-false}
 use Rattle.std.proofs.lemmas.Bool.{cases_lt}
 use Rattle.std.proofs.lemmas.List.{drop-drop}
 use Rattle.msp_step.specs.declared.machine.Stop.{Stop}
@@ -8,13 +9,16 @@ use Rattle.fram_board.specs.Effects.{Effect, Store}
 use Rattle.machine_effects.specs.World.{World, world_after_one, world_after, fram_after, readings_taken, IsPrefix, EachStore}
 use Rattle.machine_effects.specs.Going.{At, Halted, stretch, after_effects, going, Leads, Stalls}
 use Rattle.machine_effects.specs.Machine.{MachineBoard}
-use Rattle.crash_rules.specs.Model.{Model, ModelLaws, Outcome, Ends, Short, AttemptContract, ProgramEffects, program_effects, readings_left, IsWord, bound, greatest, with_commit, script}
+use Rattle.machine_effects.proofs.Worlds.{world_after-append, each_store-append}
+use Rattle.crash_rules.specs.Model.{Model, ModelLaws, Outcome, Ends, Short, AttemptContract, ProgramEffects, program_effects, readings_left, IsWord, bound}
+use Rattle.crash_rules.specs.Model.{greatest, with_commit, script}
 use Rattle.crash_rules.specs.History.{History, Done, observe}
 use Rattle.crash_rules.specs.Runs.{Program, Makes, ProgramLaws}
 use Rattle.crash_rules.specs.Laws.{Origin, IsLawful, Matches, AreConsecutive}
-use Rattle.crash_rules.proofs.Lists.{world_after-append, world_fram, each_both, each_prefix}
+use Rattle.crash_rules.proofs.Lists.{world_fram, each_prefix}
 use Rattle.crash_rules.proofs.Observed.{observe-append, observed_taken, observed_world}
-use Rattle.crash_rules.proofs.Cuts.{ChargeEffects, partial, complete, Point, Next, Spans, EndsShort, point_part, point_whole, point_some, point_short, phase_of, script_at, script_decided, script_undecided, words_left}
+use Rattle.crash_rules.proofs.Cuts.{ChargeEffects, partial, complete, Point, Next, Spans, EndsShort, point_part, point_whole, point_some, point_short, phase_of}
+use Rattle.crash_rules.proofs.Cuts.{script_at, script_decided, script_undecided, words_left}
 use Rattle.crash_rules.proofs.Steps.{halts, fewer, leads_end, stalls_end, no_steps, Changed, changed, left_behind}
 
 -- a task's cost is within the greatest
@@ -310,7 +314,7 @@ module _ {St : Type 0} (m : Model St) (laws : ModelLaws m) (c : Program) (code :
         let y = world_after_one (Store m.gate 1) (world_after k.before x) in
         let fr : fram_after es x.fram ≡ y.fram = sym (world_fram es x) ∙ ap (λ z. z.fram) (world_after-append k.before (Store m.gate 1 ∷ []) x) in
         let q2 : EachStore P es = subst (λ p. EachStore P p.effects) k.is q in
-        let both : EachStore P (with_commit m x.fram (program_effects es true)).effects = each_both P es (m.commit (fram_after es x.fram)) q2
+        let both : EachStore P (with_commit m x.fram (program_effects es true)).effects = each_store-append P es (m.commit (fram_after es x.fram)) q2
         (subst (λ f. EachStore P (m.commit f)) (sym fr) (commits s next y k.decided)) in
         subst (λ p. EachStore P (with_commit m x.fram p).effects) (sym k.is) both
     attempt_stores s x rs Short r k q = subst (EachStore P) (sym (ap (λ b. r.effects ++ cond b (m.commit (fram_after r.effects x.fram)) []) k.is
@@ -337,5 +341,5 @@ module _ {St : Type 0} (m : Model St) (laws : ModelLaws m) (c : Program) (code :
     charge_stores f rs es (complete {es = more} e ce) h ef er p =
         let q = script m f rs in
         let k = behind f rs h ef er p e in
-        each_both P q.effects more (subst (λ q. EachStore P q.effects) (sym (ap₂ (script m) ef er)) (script_stores h p))
+        each_store-append P q.effects more (subst (λ q. EachStore P q.effects) (sym (ap₂ (script m) ef er)) (script_stores h p))
         (charge_stores _ _ more ce k.history k.fram k.readings_there k.next.point)

@@ -1,20 +1,18 @@
 -- Steps of any machine, one after another.
-use Rattle.std.proofs.Common.{◌≡◌, ℕ, zero, suc, ◌+◌, ◌≤◌, List, [], ◌++◌, length, drop, refl, sym, ap, ap₂, ◌∙◌, subst, arith, append_assoc, append-nil, add_assoc, suc-add, zero-add}
+use Rattle.std.proofs.Common.{◌≡◌, ℕ, zero, suc, ◌+◌, ◌≤◌, List, [], ◌++◌, length, drop, refl, sym, ap, ap₂, ◌∙◌, subst, arith, append_assoc, append-nil}
+use Rattle.std.proofs.Common.{suc-add, zero-add}
 use Rattle.std.proofs.Math.Seq.{drop-append_seam}
 use Rattle.fram_board.specs.Effects.{Effect}
 use Rattle.machine_effects.specs.World.{fram_after, readings_taken, IsPrefix}
 use Rattle.machine_effects.specs.Going.{StepOutcome, Goes, Stops, At, Halted, Stretch, stretch, after_effects, continued, going, Leads, Stalls}
 use Rattle.machine_effects.specs.Machine.{MachineBoard, MachineOutcome}
 use Rattle.machine_effects.specs.Laws.{ChangesByEffects}
-use Rattle.crash_rules.proofs.Lists.{fram_after-append, readings_taken-append}
+use Rattle.machine_effects.proofs.Going.{after_after}
+use Rattle.machine_effects.proofs.Worlds.{fram_after-append, readings_taken-append}
 
 -- nothing in front
 after_nothing : {S X : Type 0} (r : Stretch S X) → r ≡ after_effects [] 0 r
 after_nothing r = ap (λ c. stretch r.effects c r.status) (sym (zero-add r.cycles))
-
--- two parts in front
-after_both : {S X : Type 0} (es fs : List Effect) (c d : ℕ) (r : Stretch S X) → after_effects es c (after_effects fs d r) ≡ after_effects (es ++ fs) (c + d) r
-after_both es fs c d r = ap₂ (λ l n. stretch l n r.status) (sym (append_assoc es fs r.effects)) (sym (add_assoc c d r.cycles))
 
 module _ {S X : Type 0} (step : S → StepOutcome S X) where
   -- a machine that is at a state after so many steps goes on from there
@@ -22,9 +20,11 @@ module _ {S X : Type 0} (step : S → StepOutcome S X) where
       → going step (n + j) t ≡ after_effects (going step n t).effects (going step n t).cycles (going step j q)) →
       (continued o (going step n)).status ≡ At q → (j : ℕ)
       → continued o (going step (n + j)) ≡ after_effects (continued o (going step n)).effects (continued o (going step n)).cycles (going step j q)
-  goes_on_from n (Goes es c t) q ih h j = ap (after_effects es c) (ih t h j) ∙ after_both es (going step n t).effects c (going step n t).cycles (going step j q)
+  goes_on_from n (Goes es c t) q ih h j = ap (after_effects es c) (ih t h j)
+      ∙ after_after es (going step n t).effects c (going step n t).cycles (going step j q)
   goes_on_from n (Stops es price e) q ih h j = absurd cc
 
+  -- going on from where a stretch ends
   pub goes_on : (n : ℕ) (s q : S) → (going step n s).status ≡ At q → (j : ℕ)
       → going step (n + j) s ≡ after_effects (going step n s).effects (going step n s).cycles (going step j q)
   goes_on zero s q h j =

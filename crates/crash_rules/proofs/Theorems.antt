@@ -60,17 +60,20 @@ module _ {St : Type 0} (m : Model St) (c : Program) (laws : ModelLaws m) (code :
       let k = charged_on charges s t (first_history m.gate x) h start.1 start.0 run in
       record { entry = code.enters p up; matches = powered_matches t p h k.1 f l; point = boot_point h k.0 }
 
+-- the crash theorem
 pub crash_theorem : {St : Type 0} (m : Model St) (c : Program) → CrashTheorem m c
 crash_theorem m c laws code readings origin x s b charges t h run =
     let start = begun m c laws code readings b.words origin x s b in
     charged_on m c laws code readings b.words origin charges s t (first_history m.gate x) h start.1 start.0 run
 
+-- a machine stops for want of a reading alone, where the source is short too
 pub stops_short : {St : Type 0} (m : Model St) (c : Program) → StopsShort m c
 stops_short m c laws code readings origin x s b charges t h run p up f l n price e halted =
     let r = ready m c laws code readings b.words origin x s b charges t h run p up f l in
     let k = halted_from m laws c code readings b.words origin (suc n) n (behind_boot h) p price e (omega arith) r.entry r.matches r.point halted in
     (k.reading, (k.short.stands, k.short.undecided, k.short.short))
 
+-- where a decide came and no done since, the world is decided
 pub never_lost : {St : Type 0} (m : Model St) → NeverLost m
 never_lost {St} m laws readings origin h l d = by_phase l.stands.state l.stands.phase
   where
@@ -80,6 +83,7 @@ never_lost {St} m laws readings origin h l d = by_phase l.stands.state l.stands.
         let one = laws.decided_gate s next h.world w in
         (one, λ z u. let none = laws.undecided_gate z h.world u in omega (arith, one, none))
 
+-- words are accepted only between a decide and its done, each once
 pub sent_once : {St : Type 0} (m : Model St) → SentOnce m
 sent_once {St} m laws readings origin h stands = by_phase stands.state stands.phase
   where
@@ -97,6 +101,7 @@ first_undecided {St} m laws readings s0 x st u = by_phase st.state st.phase
         let one = laws.decided_gate s next x w in
         let none = laws.undecided_gate s0 x u in absurd (omega (arith, one, none))
 
+-- in one charge the spans follow one another
 pub spans_follow : {St : Type 0} (m : Model St) (c : Program) → SpansFollow m c
 spans_follow m c laws code readings s0 x s b u e t h run =
     let h0 = first_history m.gate x in
@@ -111,11 +116,13 @@ spans_follow m c laws code readings s0 x s b u e t h run =
     subst (λ k. AreConsecutive 0 k.completed k.since) (sym is)
     (subst (λ ds. AreConsecutive 0 ds (observe m.gate (going c.step e.steps p).effects (behind_boot h0)).since) (sym sp.completed) (sp.follow d))
 
+-- a charge of at least n bounds that is spent has at least n dones
 pub progress_law : {St : Type 0} (m : Model St) (c : Program) → ProgressLaw m c
 progress_law m c laws code readings origin x s b charges t h run p q up f l n amount steps most sp =
     let r = ready m c laws code readings b.words origin x s b charges t h run p up f l in
     counts_from m laws c code readings b.words origin n amount steps (behind_boot h) p q r.entry r.matches r.point most sp
 
+-- a fact of each store that a run makes
 pub stores_only : {St : Type 0} (m : Model St) (c : Program) (P : ℕ → ℕ → Type 0) → StoresOnly m c P
 stores_only m c P laws code attempts commits readings origin x s b charges t h run p up f l n =
     let r = ready m c laws code readings b.words origin x s b charges t h run p up f l in
@@ -123,6 +130,7 @@ stores_only m c P laws code attempts commits readings origin x s b charges t h r
     (plays_from m laws c code readings b.words origin (suc n) n (behind_boot h) p (omega arith) r.entry r.matches r.point)
     (behind_boot h) r.matches.fram r.matches.readings_left r.point
 
+-- a run may begin with any readings
 pub runs_may_begin : {St : Type 0} (m : Model St) → RunsMayBegin m
 runs_may_begin m laws readings = record {
   resting = λ s x u. record { state = s; reached = refl; phase = UndecidedPhase (ap (λ n. n == 1) (laws.undecided_gate s x u)) tt u };

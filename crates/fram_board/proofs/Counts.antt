@@ -1,5 +1,6 @@
 -- The receiver's count is the number of the words that a run accepted.
-use Rattle.std.proofs.Common.{◌≡◌, ◌+◌, if◌then◌else◌, arith, ℕ, refl, sym, ◌∙◌, ap, Bool, true, false, List, [], ◌∷◌, ◌++◌, length, length-append, append_assoc, Option, Some, None, Result, Ok, Err}
+use Rattle.std.proofs.Common.{◌≡◌, ◌+◌, if◌then◌else◌, arith, ℕ, refl, sym, ◌∙◌, ap, Bool, true, false, List, [], ◌∷◌, ◌++◌, length, length-append}
+use Rattle.std.proofs.Common.{append_assoc, Option, Some, None, Result, Ok, Err}
 use Rattle.msp_isa.specs.declared.instructions.Instr.{Instr}
 use Rattle.msp_step.specs.declared.machine.Stop.{Stop}
 use Rattle.msp_step.specs.declared.machine.Stepped as machine
@@ -12,20 +13,24 @@ use Rattle.fram_board.specs.declared.board.Stepped.{Stepped}
 use Rattle.fram_board.specs.declared.receiver.Receiver.{Receiver}
 use Rattle.fram_board.specs.Bus.{BusState, board_bus}
 use Rattle.fram_board.specs.Board.{BoardValue, opened, answer_of, executed, is_accepted, accepted_word, receiver_after}
-use Rattle.fram_board.specs.Run.{Measure, BoardCharge, Moment, RunOutcome, ChargeRun, Spent, NoInstruction, TooDear, Refused, Executed, Run, Over, Next, Last, word_list, accepted_by, accepted_words}
+use Rattle.fram_board.specs.Run.{Measure, BoardCharge, Moment, RunOutcome, ChargeRun, Spent, NoInstruction, TooDear, Refused, Executed, Run, Over, Next, Last}
+use Rattle.fram_board.specs.Run.{word_list, accepted_by, accepted_words}
 use Rattle.fram_board.specs.Laws.{AcceptedAreCounted}
 use Rattle.fram_board.proofs.Takes.{only_takes}
 
 counted_one : (b : Bool) (w : ℕ) (r : Receiver)
-    → (if b then record r { accepted = r.accepted + 1 } else record r { repeats = r.repeats + 1 }).accepted ≡ r.accepted + length (word_list (if b then Some w else None))
+    → (if b then record r { accepted = r.accepted + 1 } else record r { repeats = r.repeats + 1 }).accepted ≡ r.accepted + length
+    (word_list (if b then Some w else None))
 counted_one true w r = omega arith
 counted_one false w r = omega arith
 
-counted : (number : ℕ) (o : Option ℕ) (r : Receiver) → (receiver_after number o r).accepted ≡ r.accepted + length (word_list (accepted_word number o r))
+-- the receiver counts each word that it accepts
+pub counted : (number : ℕ) (o : Option ℕ) (r : Receiver) → (receiver_after number o r).accepted ≡ r.accepted + length (word_list (accepted_word number o r))
 counted number None r = omega arith
 counted number (Some w) r = counted_one (is_accepted number r) w r
 
-told_ok : (b : BoardValue) (s : BusState) (a : Result machine.Stepped Stop) (done : Stepped) → answer_of b s a ≡ Ok done → done.accepted ≡ accepted_word s.outnum s.offered b.receiver
+told_ok : (b : BoardValue) (s : BusState) (a : Result machine.Stepped Stop) (done : Stepped) → answer_of b s a ≡ Ok done
+    → done.accepted ≡ accepted_word s.outnum s.offered b.receiver
 told_ok b s (Ok d) done e = cc
 told_ok b s (Err x) done e = cc
 
@@ -33,7 +38,8 @@ told_err : (b : BoardValue) (s : BusState) (a : Result machine.Stepped Stop) (st
 told_err b s (Ok d) stop e = cc
 told_err b s (Err x) stop e = (x, refl)
 
-executed_counts : (b : BoardValue) (i : Instr) (done : Stepped) → (executed b i).answer ≡ Ok done → (executed b i).board.receiver.accepted ≡ b.receiver.accepted + length (word_list done.accepted)
+executed_counts : (b : BoardValue) (i : Instr) (done : Stepped) → (executed b i).answer ≡ Ok done
+    → (executed b i).board.receiver.accepted ≡ b.receiver.accepted + length (word_list done.accepted)
 executed_counts b i done e =
     let o = execution board_bus i (registers_of b.cpu) (opened b) in
     counted o.bus.outnum o.bus.offered b.receiver ∙ ap (λ x. b.receiver.accepted + length (word_list x)) (sym (told_ok b o.bus o.answer done e))
@@ -59,7 +65,8 @@ words-append (m ∷ ms) ns =
 length-words : (ms ns : List Moment) → length (accepted_words (ms ++ ns)) ≡ length (accepted_words ms) + length (accepted_words ns)
 length-words ms ns = ap (λ ws. length ws) (words-append ms ns) ∙ length-append (accepted_words ms) (accepted_words ns)
 
-charge_counts : (m : Measure) (left : ℕ) (b : BoardValue) (r : RunOutcome) → ChargeRun m left b r → r.board.receiver.accepted ≡ b.receiver.accepted + length (accepted_words r.moments)
+charge_counts : (m : Measure) (left : ℕ) (b : BoardValue) (r : RunOutcome) → ChargeRun m left b r
+    → r.board.receiver.accepted ≡ b.receiver.accepted + length (accepted_words r.moments)
 charge_counts m left b r (Spent _ _ none) = omega arith
 charge_counts m left b r (NoInstruction _ _ e pos h) = omega arith
 charge_counts m left b r (TooDear _ _ i pos c dear) = omega arith
@@ -70,7 +77,8 @@ charge_counts m left b r (Executed _ _ i done rest pos c paid a h) =
     let parts = length-append (word_list done.accepted) (accepted_words rest.moments) in
     omega arith
 
-run_counts : (cs : List BoardCharge) (b : BoardValue) (r : RunOutcome) → Run cs b r → r.board.receiver.accepted ≡ b.receiver.accepted + length (accepted_words r.moments)
+run_counts : (cs : List BoardCharge) (b : BoardValue) (r : RunOutcome) → Run cs b r
+    → r.board.receiver.accepted ≡ b.receiver.accepted + length (accepted_words r.moments)
 run_counts cs b r (Over _) = omega arith
 run_counts cs b r (Next c ds _ ms end rest h k) =
     let first = charge_counts c.measure c.amount _ _ h in

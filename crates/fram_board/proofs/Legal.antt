@@ -1,6 +1,7 @@
 -- Each word begins an instruction, or none: the instructions are tried one form after another.
-use Rattle.std.proofs.Common.{◌≡◌, ◌≤◌, ◌<◌, ◌+◌, ◌-◌, ◌*◌, arith, ℕ, ◌⊎◌, inl, inr, List, [], ◌∷◌}
+use Rattle.std.proofs.Common.{◌≡◌, ◌≤◌, ◌<◌, ◌+◌, ◌-◌, ◌*◌, arith, ℕ, ◌⊎◌, inl, inr, List, [], ◌∷◌, refl, slice_get, subst, sym, zero, suc, Some}
 use Rattle.std.proofs.lemmas.Bool.{cases_eq, cases_lt}
+use Rattle.std.proofs.lemmas.Option.{same_Some}
 use Rattle.alp_words.specs.declared.Width.{Width}
 use Rattle.alp_words.specs.declared.Width.TheVariants.{Word, Byte}
 use Rattle.msp_isa.specs.declared.registers.IndexRegister.{IndexRegister}
@@ -27,7 +28,8 @@ use Rattle.msp_isa.specs.declared.instructions.Condition.{Condition}
 use Rattle.msp_isa.specs.declared.instructions.Condition.TheVariants as condition
 use Rattle.msp_isa.specs.declared.instructions.Instr.{Instr}
 use Rattle.msp_isa.specs.declared.instructions.Instr.TheVariants as instr
-use Rattle.msp_isa.specs.Encoding.{Row, index_number, source_number, indirect_number, register_number, operand_row, source_row, destination_row, opcode, condition_number, byte_bit, first_word, IsInstruction, IsIllegal}
+use Rattle.msp_isa.specs.Encoding.{Row, index_number, source_number, indirect_number, register_number, operand_row, source_row, destination_row, opcode}
+use Rattle.msp_isa.specs.Encoding.{condition_number, byte_bit, first_word, IsInstruction, IsIllegal}
 
 -- it holds or not
 abbrev Decision : Type 0 → Type 0
@@ -58,24 +60,30 @@ covered : {A : Type 0} (P : A → Type 0) (xs : List A) → (NoneOf P xs → (a 
 covered P xs all (inl f) = inl f
 covered P xs all (inr none) = inr (all none)
 
+-- of none of them: not of the one at a place
+none_at : {A : Type 0} (P : A → Type 0) (k : ℕ) (xs : List A) (x : A) → slice_get xs k ≡ Some x → NoneOf P xs → P x → ⊥
+none_at P k [] x e n p = cc
+none_at P zero (y ∷ ys) x e n p = n.0 (subst P (sym (same_Some y x e)) p)
+none_at P (suc k) (y ∷ ys) x e n p = none_at P k ys x e n.1 p
+
 -- a register by its number
 abbrev indexes : List IndexRegister
 indexes = Sp ∷ R4 ∷ R5 ∷ R6 ∷ R7 ∷ R8 ∷ R9 ∷ R10 ∷ R11 ∷ R12 ∷ R13 ∷ R14 ∷ R15 ∷ []
 
 no_index : (P : IndexRegister → Type 0) → NoneOf P indexes → (r : IndexRegister) → P r → ⊥
-no_index P n Sp = n.0
-no_index P n R4 = n.1.0
-no_index P n R5 = n.1.1.0
-no_index P n R6 = n.1.1.1.0
-no_index P n R7 = n.1.1.1.1.0
-no_index P n R8 = n.1.1.1.1.1.0
-no_index P n R9 = n.1.1.1.1.1.1.0
-no_index P n R10 = n.1.1.1.1.1.1.1.0
-no_index P n R11 = n.1.1.1.1.1.1.1.1.0
-no_index P n R12 = n.1.1.1.1.1.1.1.1.1.0
-no_index P n R13 = n.1.1.1.1.1.1.1.1.1.1.0
-no_index P n R14 = n.1.1.1.1.1.1.1.1.1.1.1.0
-no_index P n R15 = n.1.1.1.1.1.1.1.1.1.1.1.1.0
+no_index P n Sp = none_at P 0 indexes Sp refl n
+no_index P n R4 = none_at P 1 indexes R4 refl n
+no_index P n R5 = none_at P 2 indexes R5 refl n
+no_index P n R6 = none_at P 3 indexes R6 refl n
+no_index P n R7 = none_at P 4 indexes R7 refl n
+no_index P n R8 = none_at P 5 indexes R8 refl n
+no_index P n R9 = none_at P 6 indexes R9 refl n
+no_index P n R10 = none_at P 7 indexes R10 refl n
+no_index P n R11 = none_at P 8 indexes R11 refl n
+no_index P n R12 = none_at P 9 indexes R12 refl n
+no_index P n R13 = none_at P 10 indexes R13 refl n
+no_index P n R14 = none_at P 11 indexes R14 refl n
+no_index P n R15 = none_at P 12 indexes R15 refl n
 
 find_index : (Q : ℕ → Type 0) → ((n : ℕ) → Decision (Q n)) → Found IndexRegister (λ r. Q (index_number r))
 find_index Q dec =
@@ -88,7 +96,8 @@ no_source_register Q a b c readable.Pc = a
 no_source_register Q a b c readable.Sr = b
 no_source_register Q a b c (readable.Index r) = c r
 
-pick_source_register : (Q : ℕ → Type 0) → Decision (Q 0) → Decision (Q 2) → Found IndexRegister (λ r. Q (index_number r)) → Found SourceRegister (λ r. Q (source_number r))
+pick_source_register : (Q : ℕ → Type 0) → Decision (Q 0) → Decision (Q 2) → Found IndexRegister (λ r. Q (index_number r))
+    → Found SourceRegister (λ r. Q (source_number r))
 pick_source_register Q (inl h) b c = inl (readable.Pc, h)
 pick_source_register Q (inr a) (inl h) c = inl (readable.Sr, h)
 pick_source_register Q (inr a) (inr b) (inl f) = inl (readable.Index f.0, f.1)
@@ -111,7 +120,8 @@ no_register Q a b c d reg.Sr = b
 no_register Q a b c d reg.R3 = c
 no_register Q a b c d (reg.Index r) = d r
 
-pick_register : (Q : ℕ → Type 0) → Decision (Q 0) → Decision (Q 2) → Decision (Q 3) → Found IndexRegister (λ r. Q (index_number r)) → Found Reg (λ r. Q (register_number r))
+pick_register : (Q : ℕ → Type 0) → Decision (Q 0) → Decision (Q 2) → Decision (Q 3) → Found IndexRegister (λ r. Q (index_number r))
+    → Found Reg (λ r. Q (register_number r))
 pick_register Q (inl h) b c d = inl (reg.Pc, h)
 pick_register Q (inr a) (inl h) c d = inl (reg.Sr, h)
 pick_register Q (inr a) (inr b) (inl h) d = inl (reg.R3, h)
@@ -122,7 +132,8 @@ pick_register Q (inr a) (inr b) (inr c) (inr d) = inr (no_register Q a b c d)
 abbrev HasRow : (ℕ → ℕ → Type 0) → Row → Type 0
 HasRow Q r = Q r.mode r.register
 
-no_operand : (Q : ℕ → ℕ → Type 0) → ((r : SourceRegister) → Q 0 (source_number r) → ⊥) → ((r : IndexRegister) → Q 1 (index_number r) → ⊥) → (Q 1 0 → ⊥) → (Q 1 2 → ⊥)
+no_operand : (Q : ℕ → ℕ → Type 0) → ((r : SourceRegister) → Q 0 (source_number r) → ⊥) → ((r : IndexRegister) → Q 1 (index_number r) → ⊥) → (Q 1 0 → ⊥)
+    → (Q 1 2 → ⊥)
     → ((r : IndirectRegister) → Q 2 (indirect_number r) → ⊥) → ((r : IndexRegister) → Q 3 (index_number r) → ⊥) → (p : Operand) → HasRow Q (operand_row p) → ⊥
 no_operand Q a b c d e f (operand.Reg r) = a r
 no_operand Q a b c d e f (operand.Indexed r x) = b r
@@ -131,7 +142,8 @@ no_operand Q a b c d e f (operand.Absolute x) = d
 no_operand Q a b c d e f (operand.Indirect r) = e r
 no_operand Q a b c d e f (operand.Increment r) = f r
 
-pick_operand : (Q : ℕ → ℕ → Type 0) → Found SourceRegister (λ r. Q 0 (source_number r)) → Found IndexRegister (λ r. Q 1 (index_number r)) → Decision (Q 1 0) → Decision (Q 1 2)
+pick_operand : (Q : ℕ → ℕ → Type 0) → Found SourceRegister (λ r. Q 0 (source_number r)) → Found IndexRegister (λ r. Q 1 (index_number r)) → Decision (Q 1 0)
+    → Decision (Q 1 2)
     → Found IndirectRegister (λ r. Q 2 (indirect_number r)) → Found IndexRegister (λ r. Q 3 (index_number r)) → Found Operand (λ p. HasRow Q (operand_row p))
 pick_operand Q (inl h) b c d e f = inl (operand.Reg h.0, h.1)
 pick_operand Q (inr a) (inl h) c d e f = inl (operand.Indexed h.0 0, h.1)
@@ -151,19 +163,21 @@ abbrev constants : List Konst
 constants = konst.Zero ∷ konst.One ∷ konst.Two ∷ konst.MinusOne ∷ konst.Four ∷ konst.Eight ∷ []
 
 no_constant : (P : Konst → Type 0) → NoneOf P constants → (k : Konst) → P k → ⊥
-no_constant P n konst.Zero = n.0
-no_constant P n konst.One = n.1.0
-no_constant P n konst.Two = n.1.1.0
-no_constant P n konst.MinusOne = n.1.1.1.0
-no_constant P n konst.Four = n.1.1.1.1.0
-no_constant P n konst.Eight = n.1.1.1.1.1.0
+no_constant P n konst.Zero = none_at P 0 constants konst.Zero refl n
+no_constant P n konst.One = none_at P 1 constants konst.One refl n
+no_constant P n konst.Two = none_at P 2 constants konst.Two refl n
+no_constant P n konst.MinusOne = none_at P 3 constants konst.MinusOne refl n
+no_constant P n konst.Four = none_at P 4 constants konst.Four refl n
+no_constant P n konst.Eight = none_at P 5 constants konst.Eight refl n
 
-no_source : (Q : ℕ → ℕ → Type 0) → ((p : Operand) → HasRow Q (operand_row p) → ⊥) → (Q 3 0 → ⊥) → ((k : Konst) → HasRow Q (source_row (src.Constant k)) → ⊥) → (s : Src) → HasRow Q (source_row s) → ⊥
+no_source : (Q : ℕ → ℕ → Type 0) → ((p : Operand) → HasRow Q (operand_row p) → ⊥) → (Q 3 0 → ⊥) → ((k : Konst) → HasRow Q (source_row (src.Constant k)) → ⊥)
+    → (s : Src) → HasRow Q (source_row s) → ⊥
 no_source Q a b c (src.Operand p) = a p
 no_source Q a b c (src.Immediate x) = b
 no_source Q a b c (src.Constant k) = c k
 
-pick_source : (Q : ℕ → ℕ → Type 0) → Found Operand (λ p. HasRow Q (operand_row p)) → Decision (Q 3 0) → Found Konst (λ k. HasRow Q (source_row (src.Constant k))) → Found Src (λ s. HasRow Q (source_row s))
+pick_source : (Q : ℕ → ℕ → Type 0) → Found Operand (λ p. HasRow Q (operand_row p)) → Decision (Q 3 0)
+    → Found Konst (λ k. HasRow Q (source_row (src.Constant k))) → Found Src (λ s. HasRow Q (source_row s))
 pick_source Q (inl h) b c = inl (src.Operand h.0, h.1)
 pick_source Q (inr a) (inl h) c = inl (src.Immediate 0, h)
 pick_source Q (inr a) (inr b) (inl h) = inl (src.Constant h.0, h.1)
@@ -172,16 +186,19 @@ pick_source Q (inr a) (inr b) (inr c) = inr (no_source Q a b c)
 find_source : (Q : ℕ → ℕ → Type 0) → ((m r : ℕ) → Decision (Q m r)) → Found Src (λ s. HasRow Q (source_row s))
 find_source Q dec =
     let P : Konst → Type 0 = λ k. HasRow Q (source_row (src.Constant k)) in
-    pick_source Q (find_operand Q dec) (dec 3 0) (covered P constants (no_constant P) (find_in P (λ k. dec (source_row (src.Constant k)).mode (source_row (src.Constant k)).register) constants))
+    pick_source Q (find_operand Q dec) (dec 3 0)
+    (covered P constants (no_constant P) (find_in P (λ k. dec (source_row (src.Constant k)).mode (source_row (src.Constant k)).register) constants))
 
 -- a destination operand
-no_destination : (Q : ℕ → ℕ → Type 0) → ((r : Reg) → Q 0 (register_number r) → ⊥) → ((r : IndexRegister) → Q 1 (index_number r) → ⊥) → (Q 1 0 → ⊥) → (Q 1 2 → ⊥) → (d : Dst) → HasRow Q (destination_row d) → ⊥
+no_destination : (Q : ℕ → ℕ → Type 0) → ((r : Reg) → Q 0 (register_number r) → ⊥) → ((r : IndexRegister) → Q 1 (index_number r) → ⊥) → (Q 1 0 → ⊥) → (Q 1 2 → ⊥)
+    → (d : Dst) → HasRow Q (destination_row d) → ⊥
 no_destination Q a b c d (dst.Reg r) = a r
 no_destination Q a b c d (dst.Indexed r x) = b r
 no_destination Q a b c d (dst.Symbolic x) = c
 no_destination Q a b c d (dst.Absolute x) = d
 
-pick_destination : (Q : ℕ → ℕ → Type 0) → Found Reg (λ r. Q 0 (register_number r)) → Found IndexRegister (λ r. Q 1 (index_number r)) → Decision (Q 1 0) → Decision (Q 1 2) → Found Dst (λ d. HasRow Q (destination_row d))
+pick_destination : (Q : ℕ → ℕ → Type 0) → Found Reg (λ r. Q 0 (register_number r)) → Found IndexRegister (λ r. Q 1 (index_number r)) → Decision (Q 1 0)
+    → Decision (Q 1 2) → Found Dst (λ d. HasRow Q (destination_row d))
 pick_destination Q (inl h) b c d = inl (dst.Reg h.0, h.1)
 pick_destination Q (inr a) (inl h) c d = inl (dst.Indexed h.0 0, h.1)
 pick_destination Q (inr a) (inr b) (inl h) d = inl (dst.Symbolic 0, h)
@@ -189,7 +206,8 @@ pick_destination Q (inr a) (inr b) (inr c) (inl h) = inl (dst.Absolute 0, h)
 pick_destination Q (inr a) (inr b) (inr c) (inr d) = inr (no_destination Q a b c d)
 
 find_destination : (Q : ℕ → ℕ → Type 0) → ((m r : ℕ) → Decision (Q m r)) → Found Dst (λ d. HasRow Q (destination_row d))
-find_destination Q dec = pick_destination Q (pick_register (Q 0) (dec 0 0) (dec 0 2) (dec 0 3) (find_index (Q 0) (dec 0))) (find_index (Q 1) (dec 1)) (dec 1 0) (dec 1 2)
+find_destination Q dec =
+    pick_destination Q (pick_register (Q 0) (dec 0 0) (dec 0 2) (dec 0 3) (find_index (Q 0) (dec 0))) (find_index (Q 1) (dec 1)) (dec 1 0) (dec 1 2)
 
 -- a width
 no_width : (P : Width → Type 0) → (P Word → ⊥) → (P Byte → ⊥) → (w : Width) → P w → ⊥
@@ -206,18 +224,18 @@ abbrev operations : List TwoOp
 operations = Mov ∷ Add ∷ Addc ∷ Subc ∷ Sub ∷ Cmp ∷ Dadd ∷ Bit ∷ Bic ∷ Bis ∷ Xor ∷ And ∷ []
 
 no_operation : (P : TwoOp → Type 0) → NoneOf P operations → (o : TwoOp) → P o → ⊥
-no_operation P n Mov = n.0
-no_operation P n Add = n.1.0
-no_operation P n Addc = n.1.1.0
-no_operation P n Subc = n.1.1.1.0
-no_operation P n Sub = n.1.1.1.1.0
-no_operation P n Cmp = n.1.1.1.1.1.0
-no_operation P n Dadd = n.1.1.1.1.1.1.0
-no_operation P n Bit = n.1.1.1.1.1.1.1.0
-no_operation P n Bic = n.1.1.1.1.1.1.1.1.0
-no_operation P n Bis = n.1.1.1.1.1.1.1.1.1.0
-no_operation P n Xor = n.1.1.1.1.1.1.1.1.1.1.0
-no_operation P n And = n.1.1.1.1.1.1.1.1.1.1.1.0
+no_operation P n Mov = none_at P 0 operations Mov refl n
+no_operation P n Add = none_at P 1 operations Add refl n
+no_operation P n Addc = none_at P 2 operations Addc refl n
+no_operation P n Subc = none_at P 3 operations Subc refl n
+no_operation P n Sub = none_at P 4 operations Sub refl n
+no_operation P n Cmp = none_at P 5 operations Cmp refl n
+no_operation P n Dadd = none_at P 6 operations Dadd refl n
+no_operation P n Bit = none_at P 7 operations Bit refl n
+no_operation P n Bic = none_at P 8 operations Bic refl n
+no_operation P n Bis = none_at P 9 operations Bis refl n
+no_operation P n Xor = none_at P 10 operations Xor refl n
+no_operation P n And = none_at P 11 operations And refl n
 
 -- an instruction of two operands that begins with a word
 abbrev TwoBegins : ℕ → TwoOp → Width → Src → Dst → Type 0
@@ -229,7 +247,8 @@ TwoAt v o w sm sr dm dr = opcode o * 0x1000 + sr * 0x100 + dm * 0x80 + byte_bit 
 find_two_source : (v : ℕ) (o : TwoOp) (w : Width) → Found Src (λ s. (d : Dst) × TwoBegins v o w s d)
 find_two_source v o w =
     find_source (λ sm sr. (d : Dst) × TwoAt v o w sm sr (destination_row d).mode (destination_row d).register)
-    (λ sm sr. decided (λ d. TwoAt v o w sm sr (destination_row d).mode (destination_row d).register) (find_destination (TwoAt v o w sm sr) (λ dm dr. cases_eq _ v)))
+    (λ sm sr. decided (λ d. TwoAt v o w sm sr (destination_row d).mode (destination_row d).register)
+    (find_destination (TwoAt v o w sm sr) (λ dm dr. cases_eq _ v)))
 
 flat : (v : ℕ) (o : TwoOp) (w : Width) → Found Src (λ s. (d : Dst) × TwoBegins v o w s d) → Decision ((s : Src) × (d : Dst) × TwoBegins v o w s d)
 flat v o w (inl f) = inl (f.0, f.1.0, f.1.1)
@@ -239,7 +258,8 @@ find_two_width : (v : ℕ) (o : TwoOp) → Found Width (λ w. (s : Src) × (d : 
 find_two_width v o =
     find_width (λ w. (s : Src) × (d : Dst) × TwoBegins v o w s d) (flat v o Word (find_two_source v o Word)) (flat v o Byte (find_two_source v o Byte))
 
-flat_width : (v : ℕ) (o : TwoOp) → Found Width (λ w. (s : Src) × (d : Dst) × TwoBegins v o w s d) → Decision ((w : Width) × (s : Src) × (d : Dst) × TwoBegins v o w s d)
+flat_width : (v : ℕ) (o : TwoOp) → Found Width (λ w. (s : Src) × (d : Dst) × TwoBegins v o w s d)
+    → Decision ((w : Width) × (s : Src) × (d : Dst) × TwoBegins v o w s d)
 flat_width v o (inl f) = inl (f.0, f.1.0, f.1.1, f.1.2)
 flat_width v o (inr none) = inr (λ f. none f.0 (f.1, f.2, f.3))
 
@@ -322,17 +342,19 @@ decide_jump : (v c : ℕ) → Decision (JumpAt v c)
 decide_jump v c = jump_range v c (three_ranges v (0x2000 + c * 0x400) (0x2400 + c * 0x400))
 
 abbrev conditions : List Condition
-conditions = condition.NotEqual ∷ condition.Equal ∷ condition.NoCarry ∷ condition.Carry ∷ condition.Negative ∷ condition.GreaterOrEqual ∷ condition.Less ∷ condition.Always ∷ []
+conditions =
+    condition.NotEqual ∷ condition.Equal ∷ condition.NoCarry ∷ condition.Carry ∷ condition.Negative ∷ condition.GreaterOrEqual ∷ condition.Less
+    ∷ condition.Always ∷ []
 
 no_condition : (P : Condition → Type 0) → NoneOf P conditions → (c : Condition) → P c → ⊥
-no_condition P n condition.NotEqual = n.0
-no_condition P n condition.Equal = n.1.0
-no_condition P n condition.NoCarry = n.1.1.0
-no_condition P n condition.Carry = n.1.1.1.0
-no_condition P n condition.Negative = n.1.1.1.1.0
-no_condition P n condition.GreaterOrEqual = n.1.1.1.1.1.0
-no_condition P n condition.Less = n.1.1.1.1.1.1.0
-no_condition P n condition.Always = n.1.1.1.1.1.1.1.0
+no_condition P n condition.NotEqual = none_at P 0 conditions condition.NotEqual refl n
+no_condition P n condition.Equal = none_at P 1 conditions condition.Equal refl n
+no_condition P n condition.NoCarry = none_at P 2 conditions condition.NoCarry refl n
+no_condition P n condition.Carry = none_at P 3 conditions condition.Carry refl n
+no_condition P n condition.Negative = none_at P 4 conditions condition.Negative refl n
+no_condition P n condition.GreaterOrEqual = none_at P 5 conditions condition.GreaterOrEqual refl n
+no_condition P n condition.Less = none_at P 6 conditions condition.Less refl n
+no_condition P n condition.Always = none_at P 7 conditions condition.Always refl n
 
 find_jump : (v : ℕ) → Found Condition (λ c. JumpAt v (condition_number c))
 find_jump v =

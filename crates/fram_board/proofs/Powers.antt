@@ -12,6 +12,7 @@ power_board b p h q = record { fram = h.fram; ram = q.ram_len; taken = h.taken; 
 power_registers : (b : BoardValue) (p : PowerState) → IsPowerState p → IsRegisters (powered b p).cpu
 power_registers b p q = let l = q.work_len in record { long = omega arith; even_pc = omega arith; even_sp = omega arith; sr = omega arith; r3 = refl }
 
+-- a power-up leaves a board, whatever words it leaves in RAM
 pub power_up_leaves_a_board : PowerUpLeavesABoard
 power_up_leaves_a_board b p h q = (power_board b p h q, power_registers b p q)
 
@@ -26,5 +27,6 @@ length_filled n w = length-replicate n w
 all_work : (f : ℕ) → f < 0x10000 → All (λ x. x < 0x10000) (filled f).work
 all_work f h = All-replicate (λ x. x < 0x10000) 12 f h
 
+-- a fill word is what a power-up may leave
 pub fill_is_a_power_state : FillIsAPowerState
 fill_is_a_power_state f h = record { sp = h; work = all_work f h; work_len = refl; ram = all_filled 1024 f h; ram_len = length_filled 1024 f; outnum = h }

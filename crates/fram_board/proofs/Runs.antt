@@ -12,7 +12,8 @@ use Rattle.msp_step.proofs.Determined.{determined, takes_its_cost, same_current,
 use Rattle.fram_board.specs.declared.board.Stepped.{Stepped}
 use Rattle.fram_board.specs.Bus.{BusState, board_bus}
 use Rattle.fram_board.specs.Board.{BoardValue, opened, answer_of, board_outcome, executed, powered, IsNextInstruction, IsStoppedBy, BoardCosts}
-use Rattle.fram_board.specs.Run.{Measure, Cycles, Instructions, BoardCharge, price, Moment, End, Charges, Stopped, RunOutcome, run_outcome, after_moments, ChargeRun, Spent, NoInstruction, TooDear, Refused, Executed, power_up_of, moment_of, Run, Over, Next, Last}
+use Rattle.fram_board.specs.Run.{Measure, Cycles, Instructions, BoardCharge, price, Moment, End, Charges, Stopped, RunOutcome, run_outcome, after_moments}
+use Rattle.fram_board.specs.Run.{ChargeRun, Spent, NoInstruction, TooDear, Refused, Executed, power_up_of, moment_of, Run, Over, Next, Last}
 use Rattle.fram_board.specs.Laws.{IsDeterminedStep, StepTakesItsCost, HasRun, HasOneRun}
 use Rattle.fram_board.proofs.Fits.{InstructionOrStop, instruction_or_stop}
 
@@ -20,7 +21,8 @@ pub determined_step : IsDeterminedStep
 determined_step b x y h g =
     h.2 ∙ ap (λ o. board_outcome b o) (determined board_bus (registers_of b.cpu) (opened b) h.0 g.0 h.1 g.1) ∙ sym g.2
 
-cycles_told : (b : BoardValue) (s : BusState) (r : Result machine.Stepped Stop) (done : Stepped) → answer_of b s r ≡ Ok done → (d : machine.Stepped) × (r ≡ Ok d) × (d.cycles ≡ done.cycles)
+cycles_told : (b : BoardValue) (s : BusState) (r : Result machine.Stepped Stop) (done : Stepped) → answer_of b s r ≡ Ok done
+    → (d : machine.Stepped) × (r ≡ Ok d) × (d.cycles ≡ done.cycles)
 cycles_told b s (Ok d) done e = (d, refl, cc)
 cycles_told b s (Err e) done h = cc
 
@@ -53,7 +55,8 @@ next_or_stop b = off_or_on b (cases_lt 0 (off_bit (registers_of b.cpu)))
 cycles_low : (i : Instr) → 1 ≤ cycles_of i
 cycles_low i = grind arith
 
-price_low : (m : Measure) (i : Instr) → 1 ≤ price m i
+-- each instruction costs something, by either measure
+pub price_low : (m : Measure) (i : Instr) → 1 ≤ price m i
 price_low Cycles i = cycles_low i
 price_low Instructions i = omega arith
 
@@ -61,7 +64,8 @@ price_low Instructions i = omega arith
 abbrev HasCharge : Measure → ℕ → BoardValue → Type 0
 HasCharge m left b = (r : RunOutcome) × ChargeRun m left b r
 
-answered : (m : Measure) (fuel left : ℕ) (b : BoardValue) (i : Instr) → ((l : ℕ) (c : BoardValue) → l ≤ fuel → HasCharge m l c) → left ≤ suc fuel → 0 < left → IsNextInstruction b i → price m i ≤ left
+answered : (m : Measure) (fuel left : ℕ) (b : BoardValue) (i : Instr) → ((l : ℕ) (c : BoardValue) → l ≤ fuel → HasCharge m l c) → left ≤ suc fuel → 0 < left
+    → IsNextInstruction b i → price m i ≤ left
     → (a : Result Stepped Stop) → (executed b i).answer ≡ a → HasCharge m left b
 answered m fuel left b i next enough pos current paid (Err e) is = (_, Refused left b i e pos current paid is)
 answered m fuel left b i next enough pos current paid (Ok done) is =
@@ -69,17 +73,20 @@ answered m fuel left b i next enough pos current paid (Ok done) is =
     let rest = next (left - price m i) (executed b i).board (omega arith) in
     (_, Executed left b i done rest.0 pos current paid is rest.1)
 
-priced : (m : Measure) (fuel left : ℕ) (b : BoardValue) (i : Instr) → ((l : ℕ) (c : BoardValue) → l ≤ fuel → HasCharge m l c) → left ≤ suc fuel → 0 < left → IsNextInstruction b i
+priced : (m : Measure) (fuel left : ℕ) (b : BoardValue) (i : Instr) → ((l : ℕ) (c : BoardValue) → l ≤ fuel → HasCharge m l c) → left ≤ suc fuel → 0 < left
+    → IsNextInstruction b i
     → (left < price m i) ⊎ (price m i ≤ left) → HasCharge m left b
 priced m fuel left b i next enough pos current (inl dear) = (_, TooDear left b i pos current dear)
 priced m fuel left b i next enough pos current (inr paid) = answered m fuel left b i next enough pos current paid (executed b i).answer refl
 
-stopped_or_priced : (m : Measure) (fuel left : ℕ) (b : BoardValue) → ((l : ℕ) (c : BoardValue) → l ≤ fuel → HasCharge m l c) → left ≤ suc fuel → 0 < left → NextOrStop b → HasCharge m left b
+stopped_or_priced : (m : Measure) (fuel left : ℕ) (b : BoardValue) → ((l : ℕ) (c : BoardValue) → l ≤ fuel → HasCharge m l c) → left ≤ suc fuel → 0 < left
+    → NextOrStop b → HasCharge m left b
 unfolding NextOrStop
 stopped_or_priced m fuel left b next enough pos (inl i) = priced m fuel left b i.0 next enough pos i.1 (cases_lt left (price m i.0))
 stopped_or_priced m fuel left b next enough pos (inr e) = (_, NoInstruction left b e.0 pos e.1)
 
-spent_or_not : (m : Measure) (fuel left : ℕ) (b : BoardValue) → ((l : ℕ) (c : BoardValue) → l ≤ fuel → HasCharge m l c) → left ≤ suc fuel → (0 < left) ⊎ (left ≤ 0) → HasCharge m left b
+spent_or_not : (m : Measure) (fuel left : ℕ) (b : BoardValue) → ((l : ℕ) (c : BoardValue) → l ≤ fuel → HasCharge m l c) → left ≤ suc fuel
+    → (0 < left) ⊎ (left ≤ 0) → HasCharge m left b
 spent_or_not m fuel left b next enough (inl pos) = stopped_or_priced m fuel left b next enough pos (next_or_stop b)
 spent_or_not m fuel left b next enough (inr none) = (_, Spent left b (omega arith))
 
@@ -87,15 +94,18 @@ charge_from : (m : Measure) (fuel left : ℕ) (b : BoardValue) → left ≤ fuel
 charge_from m zero left b enough = (_, Spent left b (omega arith))
 charge_from m (suc fuel) left b enough = spent_or_not m fuel left b (charge_from m fuel) enough (cases_lt 0 left)
 
+-- a charge has a run
 pub charge_run : (m : Measure) (left : ℕ) (b : BoardValue) → HasCharge m left b
 charge_run m left b = charge_from m left left b (omega arith)
 
 -- a run by its first charge
-ended : (c : BoardCharge) (cs : List BoardCharge) (b : BoardValue) → ((d : BoardValue) → (r : RunOutcome) × Run cs d r) → (ms : List Moment) (e : End) (end : BoardValue)
+ended : (c : BoardCharge) (cs : List BoardCharge) (b : BoardValue) → ((d : BoardValue) → (r : RunOutcome) × Run cs d r)
+    → (ms : List Moment) (e : End) (end : BoardValue)
     → ChargeRun c.measure c.amount (powered b c.start) (run_outcome ms e end) → (r : RunOutcome) × Run (c ∷ cs) b r
 ended c cs b next ms Charges end h = let rest = next end in (_, Next c cs b ms end rest.0 h rest.1)
 ended c cs b next ms (Stopped stop) end h = (_, Last c cs b ms stop end h)
 
+-- a board has a run under any charges
 pub has_run : HasRun
 has_run [] b = (_, Over b)
 has_run (c ∷ cs) b =
@@ -141,7 +151,8 @@ one_charge m left b r (Spent _ _ none) s (TooDear _ _ i pos c dear) = absurd (om
 one_charge m left b r (Spent _ _ none) s (Refused _ _ i e pos c paid a) = absurd (omega arith)
 one_charge m left b r (Spent _ _ none) s (Executed _ _ i done rest pos c paid a h) = absurd (omega arith)
 one_charge m left b r (NoInstruction _ _ e pos h) s (Spent _ _ none) = absurd (omega arith)
-one_charge m left b r (NoInstruction _ _ e pos h) s (NoInstruction _ _ f pos' k) = ap (λ x. run_outcome [] (Stopped x) b) (same_stop board_bus (registers_of b.cpu) (opened b) e f h k)
+one_charge m left b r (NoInstruction _ _ e pos h) s (NoInstruction _ _ f pos' k) =
+    ap (λ x. run_outcome [] (Stopped x) b) (same_stop board_bus (registers_of b.cpu) (opened b) e f h k)
 one_charge m left b r (NoInstruction _ _ e pos h) s (TooDear _ _ i pos' c dear) = absurd (no_stop b e i h c)
 one_charge m left b r (NoInstruction _ _ e pos h) s (Refused _ _ i f pos' c paid a) = absurd (no_stop b e i h c)
 one_charge m left b r (NoInstruction _ _ e pos h) s (Executed _ _ i done rest pos' c paid a k) = absurd (no_stop b e i h c)
@@ -154,11 +165,13 @@ one_charge m left b r (Refused _ _ i e pos c paid a) s (Spent _ _ none) = absurd
 one_charge m left b r (Refused _ _ i e pos c paid a) s (NoInstruction _ _ f pos' h) = absurd (no_stop b f i h c)
 one_charge m left b r (Refused _ _ i e pos c paid a) s (TooDear _ _ j pos' d dear) = absurd (too_dear m left j i (same_next b j i d c) dear paid)
 one_charge m left b r (Refused _ _ i e pos c paid a) s (Refused _ _ j f pos' d paid' a') = refused_same b i j e f (same_next b i j c d) a a'
-one_charge m left b r (Refused _ _ i e pos c paid a) s (Executed _ _ j done rest pos' d paid' a' h) = absurd (refused_executed b i j e done (same_next b i j c d) a a')
+one_charge m left b r (Refused _ _ i e pos c paid a) s (Executed _ _ j done rest pos' d paid' a' h) =
+    absurd (refused_executed b i j e done (same_next b i j c d) a a')
 one_charge m left b r (Executed _ _ i done rest pos c paid a h) s (Spent _ _ none) = absurd (omega arith)
 one_charge m left b r (Executed _ _ i done rest pos c paid a h) s (NoInstruction _ _ f pos' k) = absurd (no_stop b f i k c)
 one_charge m left b r (Executed _ _ i done rest pos c paid a h) s (TooDear _ _ j pos' d dear) = absurd (too_dear m left j i (same_next b j i d c) dear paid)
-one_charge m left b r (Executed _ _ i done rest pos c paid a h) s (Refused _ _ j e pos' d paid' a') = absurd (refused_executed b j i e done (same_next b j i d c) a' a)
+one_charge m left b r (Executed _ _ i done rest pos c paid a h) s (Refused _ _ j e pos' d paid' a') =
+    absurd (refused_executed b j i e done (same_next b j i d c) a' a)
 one_charge m left b r (Executed _ _ i done rest pos c paid a h) s (Executed _ _ j done' rest' pos' d paid' a' h') =
     let P : Instr → Type 0 = λ k. (executed b k).answer ≡ Ok done' → ChargeRun m (left - price m k) (executed b k).board rest'
     → after_moments (moment_of b i done ∷ []) rest ≡ after_moments (moment_of b k done' ∷ []) rest' in
@@ -171,7 +184,8 @@ next_same : (c : BoardCharge) (b : BoardValue) (ms ns : List Moment) (r s : RunO
     → after_moments (power_up_of b c.start ∷ ms) r ≡ after_moments (power_up_of b c.start ∷ ns) s
 next_same c b ms ns r s e f = ap (λ x. after_moments (power_up_of b c.start ∷ x) r) e ∙ ap (λ x. after_moments (power_up_of b c.start ∷ ns) x) f
 
-same_charge : (c : BoardCharge) (b : BoardValue) (r s : RunOutcome) → ChargeRun c.measure c.amount (powered b c.start) r → ChargeRun c.measure c.amount (powered b c.start) s → r ≡ s
+same_charge : (c : BoardCharge) (b : BoardValue) (r s : RunOutcome) → ChargeRun c.measure c.amount (powered b c.start) r
+    → ChargeRun c.measure c.amount (powered b c.start) s → r ≡ s
 same_charge c b r s h k = one_charge c.measure c.amount (powered b c.start) r h s k
 
 one_run : (cs : List BoardCharge) (b : BoardValue) (r : RunOutcome) → Run cs b r → (s : RunOutcome) → Run cs b s → r ≡ s

@@ -41,6 +41,7 @@ reads_take : (s t : BusState) (n : ℕ) → HasRead board_bus s n t → TakesOnl
 reads_take s t n Nothing = record { same = refl; takes = record { from = omega arith; to = omega arith } }
 reads_take s t n (Once m u a w v h e) = join m s u t (reads_take s u m h) (read_takes u a w)
 
+-- reads take readings, and change nothing else
 pub only_takes : (n : ℕ) (s t : BusState) → OnlyReads board_bus n s t → TakesOnly n s t
 only_takes n s t h =
     let g = reads_take s t h.count h.reads in
@@ -83,5 +84,6 @@ outcome_takes i r s (Completed x t) h =
     record { from = omega arith; to = omega arith }
 outcome_takes i r s (Faulted e a t) h = (only_takes 2 s t h).takes
 
+-- an instruction takes at most two readings
 pub execution_takes : (i : Instr) (r : Registers) (s : BusState) → TakesUpTo 2 s (execution board_bus i r s).bus
 execution_takes i r s = outcome_takes i r s (effect board_bus i r s) (effect_ends board_bus i r s)

@@ -11,6 +11,3 @@ pub use laws::{
     accepted_words_are_counted, board_has_one_run, board_step_is_determined,
     board_step_makes_its_effects, board_step_takes_its_cost, power_up_leaves_a_board,
 };
-
-#[cfg(test)]
-mod tests;

@@ -1,29 +1,23 @@
 -- The text of a map as it is written.
-use Rattle.std.proofs.Common.{◌≡◌, ℕ, suc, ◌+◌, ◌<◌, List, [], ◌∷◌, ◌++◌, length, map, drop, get_or, drop-cons, arith, refl, ap, sym, subst, ◌∙◌, append_assoc, codes, nat_lt, Bool, true, false}
+use Rattle.std.proofs.Common.{◌≡◌, ℕ, suc, ◌+◌, ◌<◌, List, [], ◌∷◌, ◌++◌, length, map, drop, get_or, drop-cons, arith, refl, ap, sym, subst, ◌∙◌, append_assoc}
+use Rattle.std.proofs.Common.{codes, nat_lt, Bool, true, false, append-nil}
 use Rattle.std.proofs.lemmas.Bool.Decides.{nat_tests}
 use Rattle.std.proofs.lemmas.List.{get_or_default}
 use Rattle.text_parts.specs.Printed.{spaced, printed}
+use Rattle.text_parts.proofs.Printing.{printed_append}
 use Rattle.image_map.specs.MapValue.{MapValue, TaskValue}
 use Rattle.image_map.specs.Text.{tail_text, task_fields, tasks_fields, head_fields, variable_fields, map_fields, map_text}
 
-append_nil : {A : Type 0} (xs : List A) → xs ++ [] ≡ xs
-append_nil [] = refl
-append_nil (x ∷ xs) = ap (λ r. x ∷ r) (append_nil xs)
-
 spaced_tail : (v : List ℕ) (ws : List (List ℕ)) → spaced (v ∷ ws) ≡ v ++ tail_text ws
 unfolding tail_text
-spaced_tail v [] = sym (append_nil v)
+spaced_tail v [] = sym (append-nil v)
 spaced_tail v (w ∷ ws) = ap (λ r. v ++ 32 ∷ r) (spaced_tail w ws)
 
-pub line_written : (first : List ℕ) (ws : List (List ℕ)) (a b c d : List ℕ) → b ≡ a ++ first → c ≡ b ++ tail_text ws → d ≡ c ++ 10 ∷ [] → d ≡ a ++ (spaced (first ∷ ws) ++ 10 ∷ [])
+pub line_written : (first : List ℕ) (ws : List (List ℕ)) (a b c d : List ℕ) → b ≡ a ++ first → c ≡ b ++ tail_text ws → d ≡ c ++ 10 ∷ []
+    → d ≡ a ++ (spaced (first ∷ ws) ++ 10 ∷ [])
 line_written first ws a b c d e f g =
     g ∙ ap (λ x. x ++ 10 ∷ []) (f ∙ ap (λ x. x ++ tail_text ws) e ∙ append_assoc a first (tail_text ws) ∙ ap (λ x. a ++ x) (sym (spaced_tail first ws)))
     ∙ append_assoc a (spaced (first ∷ ws)) (10 ∷ [])
-
-pub printed_append : (xs ys : List (List (List ℕ))) → printed (xs ++ ys) ≡ printed xs ++ printed ys
-unfolding printed
-printed_append [] ys = refl
-printed_append (x ∷ xs) ys = ap (λ r. (spaced x ++ 10 ∷ []) ++ r) (printed_append xs ys) ∙ sym (append_assoc (spaced x ++ 10 ∷ []) (printed xs) (printed ys))
 
 -- one task more is written
 pub task_written : (ts : List TaskValue) (t : TaskValue) (i : ℕ) (a b : List ℕ) → i < length ts → t ≡ get_or ts i t → b ≡ a ++ printed (task_fields t)
@@ -36,14 +30,15 @@ task_written ts t i a b h e f =
 
 pub no_tasks_written : (a : List ℕ) → a ++ printed (tasks_fields []) ≡ a
 unfolding printed
-no_tasks_written a = append_nil a
+no_tasks_written a = append-nil a
 
 last_line : (l : List (List ℕ)) → printed (l ∷ []) ≡ spaced l ++ 10 ∷ []
 unfolding printed
-last_line l = append_nil (spaced l ++ 10 ∷ [])
+last_line l = append-nil (spaced l ++ 10 ∷ [])
 
 -- all lines are written
-pub map_written : (m : MapValue) (a b c d e : List ℕ) → b ≡ a ++ printed (head_fields m) → c ≡ b ++ printed (map variable_fields m.variables) → d ≡ c ++ printed (tasks_fields m.tasks)
+pub map_written : (m : MapValue) (a b c d e : List ℕ) → b ≡ a ++ printed (head_fields m) → c ≡ b ++ printed (map variable_fields m.variables)
+    → d ≡ c ++ printed (tasks_fields m.tasks)
     → e ≡ d ++ (spaced (codes "end" ∷ []) ++ 10 ∷ []) → e ≡ a ++ map_text m
 unfolding map_fields
 map_written m a b c d e f g h k =
@@ -52,12 +47,14 @@ map_written m a b c d e f g h k =
     let variables : List (List (List ℕ)) = map variable_fields m.variables in
     k ∙ ap (λ x. d ++ x) (sym (last_line (codes "end" ∷ [])))
     ∙ ap (λ x. x ++ printed end) h ∙ append_assoc c (printed tasks) (printed end) ∙ ap (λ x. c ++ x) (sym (printed_append tasks end))
-    ∙ ap (λ x. x ++ printed (tasks ++ end)) g ∙ append_assoc b (printed variables) (printed (tasks ++ end)) ∙ ap (λ x. b ++ x) (sym (printed_append variables (tasks ++ end)))
+    ∙ ap (λ x. x ++ printed (tasks ++ end)) g ∙ append_assoc b (printed variables) (printed (tasks ++ end))
+    ∙ ap (λ x. b ++ x) (sym (printed_append variables (tasks ++ end)))
     ∙ ap (λ x. x ++ printed (variables ++ (tasks ++ end))) f ∙ append_assoc a (printed (head_fields m)) (printed (variables ++ (tasks ++ end)))
     ∙ ap (λ x. a ++ x) (sym (printed_append (head_fields m) (variables ++ (tasks ++ end))))
 
 -- what holds of the items before one, and of that one
-pub one_more : {X : Type 0} (P : X → Type 0) (xs : List X) (x : X) (i : ℕ) → i < length xs → x ≡ get_or xs i x → P x → ((k : ℕ) (d : X) → k < i → P (get_or xs k d))
+pub one_more : {X : Type 0} (P : X → Type 0) (xs : List X) (x : X) (i : ℕ) → i < length xs → x ≡ get_or xs i x → P x
+    → ((k : ℕ) (d : X) → k < i → P (get_or xs k d))
     → (k : ℕ) (d : X) → k < i + 1 → P (get_or xs k d)
 one_more P xs x i h e p all k d l = by_test (nat_lt k i) refl
   where

@@ -1,16 +1,19 @@
 -- What is printed of a map reads back as that map.
-use Rattle.std.proofs.Common.{◌≡◌, ◌≤◌, ◌<◌, ◌^◌, ℕ, suc, ◌+◌, ◌*◌, ◌/◌, ◌%◌, ◌==◌, ◌&&◌, ◌||◌, List, [], ◌∷◌, ◌++◌, length, map, arith, refl, ap, sym, subst, ◌∙◌, if◌then◌else◌, nat_lt, nat_le, nat_eq, not, Bool, true, false, Option, Some, None, Result, Ok, Err, append_assoc, length-append, All, codes}
+use Rattle.std.proofs.Common.{◌≡◌, ◌≤◌, ◌<◌, ◌^◌, ℕ, suc, ◌+◌, ◌*◌, ◌/◌, ◌%◌, ◌==◌, ◌&&◌, ◌||◌, List, [], ◌∷◌, ◌++◌, length, map, arith, refl, ap, sym, subst}
+use Rattle.std.proofs.Common.{◌∙◌, if◌then◌else◌, nat_lt, nat_le, not, Bool, true, false, Option, Some, None, Result, Ok, Err, append_assoc, length-append, All}
+use Rattle.std.proofs.Common.{codes, append-nil}
 use Rattle.std.specs.Fmt.{decimal}
-use Rattle.std.specs.List.{list_all, starts_with}
+use Rattle.std.specs.List.{list_all}
 use Rattle.std.specs.Str.{bytes_eq}
 use Rattle.std.proofs.lemmas.Bool.Decides.{nat_tests}
-use Rattle.alp_text.specs.Numbers.{number_of}
-use Rattle.alp_text.proofs.Decimals.{AreDigits, decimal_spells, number_back}
+use Rattle.std.proofs.lemmas.Bool.{and_parts}
+use Rattle.alp_text.specs.Numbers.{number_of, limited}
+use Rattle.alp_text.proofs.Decimals.{decimal_spells, number_back, no_x}
 use Rattle.text_parts.specs.Lines.{lines, pieces}
 use Rattle.text_parts.specs.Fields.{is_blank}
 use Rattle.text_parts.specs.Hex.{upper_digit, upper_hex}
 use Rattle.text_parts.specs.Printed.{spaced, printed}
-use Rattle.text_parts.proofs.Printing.{Inked, AreWords, fields_spaced, lines_printed}
+use Rattle.text_parts.proofs.Printing.{Inked, AreWords, fields_spaced, lines_printed, not_blank, upper_inked, decimal_word}
 use Rattle.image_map.specs.declared.fault.MapFault.{MapFault}
 use Rattle.image_map.specs.declared.fault.MapFault.TheVariants.{BadMap}
 use Rattle.image_map.specs.declared.parts.RuntimeWords.{RuntimeWords}
@@ -19,34 +22,27 @@ use Rattle.image_map.specs.declared.parts.ValueType.{ValueType}
 use Rattle.image_map.specs.declared.parts.ValueType.TheVariants as value_type
 use Rattle.image_map.specs.declared.parts.Variable.{Variable}
 use Rattle.image_map.specs.Names.{is_name, is_letter, is_name_byte, name_of}
-use Rattle.image_map.specs.MapValue.{MapValue, TaskValue, IsMap, IsFramWord, AreFramWords, IsPlace, IsVariable, is_fram_word, fits, are_scalars, takes_variable, takes_task, takes_private, with_private}
-use Rattle.image_map.specs.Line.{single_from, line_fields, address_digit, address_of, fram_word, decimal_below, limited, type_of, bound_of, words_of, place_of, start_of}
+use Rattle.image_map.specs.MapValue.{MapValue, TaskValue, IsMap, IsFramWord, AreFramWords, IsPlace, IsVariable, is_fram_word, fits, are_scalars, takes_variable}
+use Rattle.image_map.specs.MapValue.{takes_task, takes_private, with_private}
+use Rattle.image_map.specs.Line.{single_from, line_fields, address_digit, address_of, fram_word, decimal_below, type_of, bound_of, words_of, place_of, start_of}
 use Rattle.image_map.specs.Reading.{◌>>=◌, take_line, head, step, body, put_variable, put_task, put_private}
 use Rattle.image_map.specs.Named.{AreTaskNames}
 use Rattle.image_map.specs.ReadsBack.{ReadsBack}
-use Rattle.image_map.specs.Text.{address_text, runtime_fields, place_fields, type_text, sized_fields, variable_fields, private_fields, tasks_fields, head_fields, map_fields}
+use Rattle.image_map.specs.Text.{address_text, runtime_fields, place_fields, type_text, sized_fields, variable_fields, private_fields, tasks_fields}
+use Rattle.image_map.specs.Text.{head_fields, map_fields}
 use Rattle.image_map.proofs.Bodies.{body_next, body_done}
-use Rattle.image_map.proofs.Taking.{both, append_nil, fram_test, variables_alone, tasks_alone, task_with, middle, takes_next_variable, takes_next_task, takes_next_private, last_of, onto_of}
+use Rattle.image_map.proofs.Taking.{fram_test, variables_alone, tasks_alone, task_with, middle, takes_next_variable, takes_next_task, takes_next_private}
+use Rattle.image_map.proofs.Taking.{last_of, onto_of}
 
 -- fields as words of a line
 
-inked_digits : (ds : List ℕ) → AreDigits ds → Inked ds
-inked_digits [] h = tt
-inked_digits (b ∷ bs) h = (omega (arith, h.0), inked_digits bs h.2)
-
-digits_word : (ds : List ℕ) (ws : List (List ℕ)) → AreDigits ds → 0 < length ds → AreWords ws → AreWords (ds ∷ ws)
-digits_word [] ws h k l = absurd (omega arith)
-digits_word (b ∷ bs) ws h k l = (omega (arith, h.0), inked_digits bs h.2, l)
-
-decimal_word : (n : ℕ) (ws : List (List ℕ)) → n < 2 ^ 64 → AreWords ws → AreWords (decimal n ∷ ws)
-decimal_word n ws h l = let s = decimal_spells n h in digits_word (decimal n) ws s.digits s.some l
-
-upper_inked : (d : ℕ) → d < 16 → 36 < upper_digit d
-upper_inked d h = grind (arith, nat_tests)
-
 address_word : (a : ℕ) (ws : List (List ℕ)) → a < 65536 → AreWords ws → AreWords (address_text a ∷ ws)
 unfolding address_text upper_hex
-address_word a ws h l = (upper_inked (a / 256 / 16) (omega arith), (upper_inked (a / 256 % 16) (omega arith), (upper_inked (a % 256 / 16) (omega arith), (upper_inked (a % 256 % 16) (omega arith), tt))), l)
+address_word a ws h l = (
+  upper_inked (a / 256 / 16) (omega arith),
+  (upper_inked (a / 256 % 16) (omega arith), (upper_inked (a % 256 / 16) (omega arith), (upper_inked (a % 256 % 16) (omega arith), tt))),
+  l,
+)
 
 name_byte_inked : (b : ℕ) → is_name_byte b ≡ true → 36 < b
 unfolding is_letter
@@ -54,13 +50,13 @@ name_byte_inked b h = grind (arith, nat_tests, h)
 
 name_inked : (bs : List ℕ) → list_all is_name_byte bs ≡ true → Inked bs
 name_inked [] h = tt
-name_inked (b ∷ bs) h = let p = both (is_name_byte b) (list_all is_name_byte bs) h in (name_byte_inked b p.0, name_inked bs p.1)
+name_inked (b ∷ bs) h = let p = and_parts (is_name_byte b) (list_all is_name_byte bs) h in (name_byte_inked b p.0, name_inked bs p.1)
 
 name_word : (n : List ℕ) (ws : List (List ℕ)) → is_name n ≡ true → AreWords ws → AreWords (n ∷ ws)
 name_word [] ws h l = cc
 name_word (b ∷ bs) ws h l =
-    let p = both (nat_le (length (b ∷ bs)) 31) (is_letter b && list_all is_name_byte (b ∷ bs)) h in
-    let q = both (is_letter b) (list_all is_name_byte (b ∷ bs)) p.1 in
+    let p = and_parts (nat_le (length (b ∷ bs)) 31) (is_letter b && list_all is_name_byte (b ∷ bs)) h in
+    let q = and_parts (is_letter b) (list_all is_name_byte (b ∷ bs)) p.1 in
     let i = name_inked (b ∷ bs) q.1 in
     (i.0, i.1, l)
 
@@ -69,10 +65,6 @@ type_word value_type.Unsigned ws l = (omega arith, omega arith, l)
 type_word value_type.Int ws l = (omega arith, omega arith, l)
 
 -- a printed line has single spaces
-
-not_blank : (b : ℕ) → 36 < b → is_blank b ≡ false
-unfolding is_blank
-not_blank b h = grind (arith, nat_tests)
 
 single_word : (apart : Bool) (b : ℕ) (bs rest : List ℕ) → 36 < b → Inked bs → single_from apart (b ∷ (bs ++ rest)) ≡ single_from false rest
 single_word apart b [] rest h i = rw (not_blank b h) refl
@@ -84,7 +76,7 @@ single_space rest = refl
 
 single_spaced : (w : List ℕ) (ws : List (List ℕ)) → AreWords (w ∷ ws) → single_from true (spaced (w ∷ ws)) ≡ true
 single_spaced [] ws h = absurd h
-single_spaced (b ∷ bs) [] h = ap (λ r. single_from true (b ∷ r)) (sym (append_nil bs)) ∙ single_word true b bs [] h.0 h.1
+single_spaced (b ∷ bs) [] h = ap (λ r. single_from true (b ∷ r)) (sym (append-nil bs)) ∙ single_word true b bs [] h.0 h.1
 single_spaced (b ∷ bs) (v ∷ vs) h = single_word true b bs (32 ∷ spaced (v ∷ vs)) h.0 h.1 ∙ single_space (spaced (v ∷ vs)) ∙ single_spaced v vs h.2
 
 line_back : (w : List ℕ) (ws : List (List ℕ)) → AreWords (w ∷ ws) → line_fields (spaced (w ∷ ws)) ≡ w ∷ ws
@@ -104,13 +96,13 @@ address_back : (a : ℕ) → IsFramWord a → address_of (address_text a) ≡ So
 unfolding address_text upper_hex
 address_back a h =
     let high = h.high in
-    rw (digit_back (a / 256 / 16) (omega arith), digit_back (a / 256 % 16) (omega arith), digit_back (a % 256 / 16) (omega arith), digit_back (a % 256 % 16) (omega arith))
+    rw (
+      digit_back (a / 256 / 16) (omega arith),
+      digit_back (a / 256 % 16) (omega arith),
+      digit_back (a % 256 / 16) (omega arith),
+      digit_back (a % 256 % 16) (omega arith),
+    )
     (fram_back a (4096 * (a / 256 / 16) + 256 * (a / 256 % 16) + 16 * (a % 256 / 16) + a % 256 % 16) (omega arith) h)
-
-no_x : (ds : List ℕ) → AreDigits ds → starts_with nat_eq ds (codes "0x") ≡ false
-no_x [] h = refl
-no_x (b ∷ []) h = grind (arith, nat_tests)
-no_x (b ∷ c ∷ bs) h = grind (arith, nat_tests)
 
 decimal_back : (limit n : ℕ) → n < limit → limit ≤ 2 ^ 64 → decimal_below limit (decimal n) ≡ Some n
 decimal_back limit n h k =
@@ -132,7 +124,8 @@ word_map : AreWords ((codes "map") ∷ [])
 word_map = (omega arith, omega arith, tt)
 
 -- one line taken
-taken : {A : Type 0} (says : List (List ℕ) → Option A) (n : ℕ) (w : List ℕ) (ws : List (List ℕ)) (more : List (List (List ℕ))) (x : A) → AreWords (w ∷ ws) → says (w ∷ ws) ≡ Some x
+taken : {A : Type 0} (says : List (List ℕ) → Option A) (n : ℕ) (w : List ℕ) (ws : List (List ℕ)) (more : List (List (List ℕ))) (x : A) → AreWords (w ∷ ws)
+    → says (w ∷ ws) ≡ Some x
     → take_line says n (lines (printed ((w ∷ ws) ∷ more))) ≡ Ok (x, lines (printed more))
 taken says n w ws more x h e =
     rw (lines_printed (w ∷ ws) more h, line_back w ws h, e) refl
@@ -156,8 +149,10 @@ runtime_words : (w : RuntimeWords) → AreFramWords w → AreWords (runtime_fiel
 runtime_words w h = (
   omega arith,
   omega arith,
-  address_word w.current_task _ h.current_task.high (address_word w.next_task _ h.next_task.high (address_word w.gate _ h.gate.high (address_word w.list_length _ h.list_length.high
-      (address_word w.emit_count _ h.emit_count.high (address_word w.base _ h.base.high (address_word w.sent_base _ h.sent_base.high (address_word w.version [] h.version.high tt))))))),
+  address_word w.current_task _ h.current_task.high
+      (address_word w.next_task _ h.next_task.high (address_word w.gate _ h.gate.high (address_word w.list_length _ h.list_length.high
+      (address_word w.emit_count _ h.emit_count.high
+      (address_word w.base _ h.base.high (address_word w.sent_base _ h.sent_base.high (address_word w.version [] h.version.high tt))))))),
 )
 
 place_words : (p : Place) → IsPlace p → AreWords (address_text p.address ∷ decimal p.capacity ∷ [])
@@ -176,7 +171,8 @@ versions_back p h = rw (address_back p.address h.address, decimal_back (2 ^ 32) 
 abbrev bare : MapValue → MapValue
 bare m = record m { variables = []; tasks = [] }
 
-head_back : (m : MapValue) (n : ℕ) (more : List (List (List ℕ))) → IsMap m → head n (lines (printed (head_fields m ++ more))) ≡ Ok (bare m, lines (printed more))
+head_back : (m : MapValue) (n : ℕ) (more : List (List (List ℕ))) → IsMap m
+    → head n (lines (printed (head_fields m ++ more))) ≡ Ok (bare m, lines (printed more))
 head_back m n more h =
     let b = h.bound in
     let versions : List (List (List ℕ)) = place_fields (codes "versions") m.versions ∷ more in
@@ -186,32 +182,33 @@ head_back m n more h =
     let bound : List (List (List ℕ)) = (codes "bound" ∷ decimal m.bound ∷ []) ∷ words in
     rw (
       taken start_of n (codes "map") [] bound true word_map refl,
-      taken bound_of (n + 1) (codes "bound") (decimal m.bound ∷ []) words m.bound (omega arith, omega arith, decimal_word m.bound [] (omega arith) tt) (bound_back m.bound h.bound),
+      taken bound_of (n + 1) (codes "bound") (decimal m.bound ∷ []) words m.bound (omega arith, omega arith, decimal_word m.bound [] (omega arith) tt)
+          (bound_back m.bound h.bound),
       taken words_of (n + 2) (codes "words") _ list m.words (runtime_words m.words h.words) (words_back m.words h.words),
       taken (place_of (codes "list")) (n + 3) (codes "list") _ emits m.list (omega arith, omega arith, place_words m.list h.list) (list_back m.list h.list),
-      taken (place_of (codes "emits")) (n + 4) (codes "emits") _ versions m.emits (omega arith, omega arith, place_words m.emits h.emits) (emits_back m.emits h.emits),
-      taken (place_of (codes "versions")) (n + 5) (codes "versions") _ more m.versions (omega arith, omega arith, place_words m.versions h.versions) (versions_back m.versions h.versions),
+      taken (place_of (codes "emits")) (n + 4) (codes "emits") _ versions m.emits (omega arith, omega arith, place_words m.emits h.emits)
+          (emits_back m.emits h.emits),
+      taken (place_of (codes "versions")) (n + 5) (codes "versions") _ more m.versions (omega arith, omega arith, place_words m.versions h.versions)
+          (versions_back m.versions h.versions),
     ) refl
 
 -- which lines the rules allow
 
-and : (a b : Bool) → a ≡ true → b ≡ true → (a && b) ≡ true
-and true b h k = k
-and false b h k = cc
-
 -- the lines of variables and tasks
 
 small_length : (a n : ℕ) → fits a (Some n) ≡ true → n < 2 ^ 16
-small_length a n h = let p = both (nat_lt 0 n) (nat_le (a + 2 * n) 65536) h in let k : nat_le (a + 2 * n) 65536 ≡ true = p.1 in grind (arith, nat_tests, k)
+small_length a n h = let p = and_parts (nat_lt 0 n) (nat_le (a + 2 * n) 65536) h in let k : nat_le (a + 2 * n) 65536 ≡ true = p.1 in grind (arith, nat_tests, k)
 
 sized_words : (o : Option ℕ) (name : List ℕ) (t : ValueType) (a : ℕ) → IsFramWord a → is_name name ≡ true → fits a o ≡ true → AreWords (sized_fields o name t a)
 sized_words None name t a h k f = (omega arith, omega arith, name_word name _ k (type_word t _ (address_word a [] h.high tt)))
-sized_words (Some n) name t a h k f = let l = small_length a n f in (omega arith, omega arith, name_word name _ k (type_word t _ (address_word a _ h.high (decimal_word n [] (omega arith) tt))))
+sized_words (Some n) name t a h k f = let l = small_length a n f in
+    (omega arith, omega arith, name_word name _ k (type_word t _ (address_word a _ h.high (decimal_word n [] (omega arith) tt))))
 
 variable_step : (o : Option ℕ) (i : ℕ) (m : MapValue) (name : List ℕ) (t : ValueType) (a : ℕ) → IsFramWord a → is_name name ≡ true → fits a o ≡ true
     → step i m (sized_fields o name t a) ≡ put_variable i m (Some (record { name = name; value_type = t; address = a; length = o }))
 variable_step None i m name t a h k f = rw (name_back name k, type_back t, address_back a h) refl
-variable_step (Some n) i m name t a h k f = rw (name_back name k, type_back t, address_back a h, decimal_back (2 ^ 16) n (small_length a n f) (omega arith)) refl
+variable_step (Some n) i m name t a h k f =
+    rw (name_back name k, type_back t, address_back a h, decimal_back (2 ^ 16) n (small_length a n f) (omega arith)) refl
 
 -- what is put where the rules allow it
 abbrev put_if : Bool → ℕ → MapValue → Result (Bool × MapValue) MapFault
@@ -221,9 +218,11 @@ put_by : (i : ℕ) (t : Bool) (m : MapValue) → t ≡ true → put_if t i m ≡
 put_by i true m h = refl
 put_by i false m h = cc
 
-read_variables : (m : MapValue) → IsMap m → All (λ v. is_name v.name ≡ true) m.variables → (i : ℕ) (done rest : List Variable) (more : List (List (List ℕ))) → m.variables ≡ done ++ rest
-    → (k : ℕ) × (body i (variables_alone m done) (lines (printed (map variable_fields rest ++ more))) ≡ body k (variables_alone m m.variables) (lines (printed more)))
-read_variables m h names i done [] more e = (i, ap (λ vs. body i (variables_alone m vs) (lines (printed more))) (sym (append_nil done) ∙ sym e))
+read_variables : (m : MapValue) → IsMap m → All (λ v. is_name v.name ≡ true) m.variables → (i : ℕ) (done rest : List Variable) (more : List (List (List ℕ)))
+    → m.variables ≡ done ++ rest
+    → (k : ℕ) × (body i (variables_alone m done) (lines (printed (map variable_fields rest ++ more))) ≡ body k (variables_alone m m.variables)
+    (lines (printed more)))
+read_variables m h names i done [] more e = (i, ap (λ vs. body i (variables_alone m vs) (lines (printed more))) (sym (append-nil done) ∙ sym e))
 read_variables m h names i done (v ∷ rest) more e =
     let P : List Variable → Type 0 = λ vs. All IsVariable vs in
     let Q : List Variable → Type 0 = λ vs. All (λ v. is_name v.name ≡ true) vs in
@@ -246,11 +245,13 @@ read_variables m h names i done (v ∷ rest) more e =
     line_step i m [] h l = absurd (omega arith)
     line_step i m (w ∷ ws) h l = ap (step i m) (line_back w ws h)
 
-read_privates : (m : MapValue) (done : List TaskValue) (name : List ℕ) (i : ℕ) (ns rest : List (List ℕ)) (more : List (List (List ℕ))) → are_scalars (ns ++ rest) m.variables ≡ true
+read_privates : (m : MapValue) (done : List TaskValue) (name : List ℕ) (i : ℕ) (ns rest : List (List ℕ)) (more : List (List (List ℕ)))
+    → are_scalars (ns ++ rest) m.variables ≡ true
     → All (λ n. is_name n ≡ true) rest
     → (k : ℕ) × (body i (tasks_alone m (done ++ task_with name ns ∷ [])) (lines (printed (map private_fields rest ++ more)))
     ≡ body k (tasks_alone m (done ++ task_with name (ns ++ rest) ∷ [])) (lines (printed more)))
-read_privates m done name i ns [] more h names = (i, ap (λ ns. body i (tasks_alone m (done ++ task_with name ns ∷ [])) (lines (printed more))) (sym (append_nil ns)))
+read_privates m done name i ns [] more h names =
+    (i, ap (λ ns. body i (tasks_alone m (done ++ task_with name ns ∷ [])) (lines (printed more))) (sym (append-nil ns)))
 read_privates m done name i ns (n ∷ rest) more h names =
     let named : is_name n ≡ true = names 0 n (omega arith) in
     let now : MapValue = tasks_alone m (done ++ task_with name ns ∷ []) in
@@ -261,12 +262,17 @@ read_privates m done name i ns (n ∷ rest) more h names =
     (ap (step i now) (line_back (codes "private") (n ∷ []) words) ∙ said
     ∙ put_by i (takes_private now n) (with_private now n) (takes_next_private m done name ns rest n h)
     ∙ ap (λ ts. Ok (true, tasks_alone m ts)) (onto_of done (task_with name ns) n)) refl in
-    let later = read_privates m done name (i + 1) (ns ++ n ∷ []) rest more (ap (λ ns. are_scalars ns m.variables) (append_assoc ns (n ∷ []) rest) ∙ h) (λ j d l. names (suc j) d (omega arith)) in
-    (later.0, sym one ∙ later.1 ∙ ap (λ ns. body later.0 (tasks_alone m (done ++ task_with name ns ∷ [])) (lines (printed more))) (append_assoc ns (n ∷ []) rest))
+    let later =
+    read_privates m done name (i + 1) (ns ++ n ∷ []) rest more (ap (λ ns. are_scalars ns m.variables) (append_assoc ns (n ∷ []) rest) ∙ h)
+    (λ j d l. names (suc j) d (omega arith)) in (
+      later.0,
+      sym one ∙ later.1 ∙ ap (λ ns. body later.0 (tasks_alone m (done ++ task_with name ns ∷ [])) (lines (printed more)))
+          (append_assoc ns (n ∷ []) rest),
+    )
 
 read_tasks : (m : MapValue) → IsMap m → All AreTaskNames m.tasks → (i : ℕ) (done rest : List TaskValue) (more : List (List (List ℕ))) → m.tasks ≡ done ++ rest
     → (k : ℕ) × (body i (tasks_alone m done) (lines (printed (tasks_fields rest ++ more))) ≡ body k m (lines (printed more)))
-read_tasks m h names i done [] more e = (i, ap (λ ts. body i (tasks_alone m ts) (lines (printed more))) (sym (append_nil done) ∙ sym e))
+read_tasks m h names i done [] more e = (i, ap (λ ts. body i (tasks_alone m ts) (lines (printed more))) (sym (append-nil done) ∙ sym e))
 read_tasks m h names i done (t ∷ rest) more e =
     let P : List TaskValue → Type 0 = λ ts. All AreTaskNames ts in
     let Q : List TaskValue → Type 0 = λ ts. All (λ t. are_scalars t.privates m.variables ≡ true) ts in
@@ -285,7 +291,8 @@ read_tasks m h names i done (t ∷ rest) more e =
     let later = read_tasks m h names own.0 (done ++ t ∷ []) rest more (e ∙ sym (append_assoc done (t ∷ []) rest)) in
     (later.0, ap (λ r. body i now (lines (printed (line ∷ r)))) (append_assoc privates (tasks_fields rest) more) ∙ sym one ∙ own.1 ∙ later.1)
 
-read_end : (m : MapValue) (i : ℕ) → 0 < length m.tasks → body i m (lines (printed ((codes "end" ∷ []) ∷ []))) ≡ Ok (record { value = m; rest = lines (printed []); line = i + 1 })
+read_end : (m : MapValue) (i : ℕ) → 0 < length m.tasks
+    → body i m (lines (printed ((codes "end" ∷ []) ∷ []))) ≡ Ok (record { value = m; rest = lines (printed []); line = i + 1 })
 read_end m i h =
     let words : AreWords (codes "end" ∷ []) = (omega arith, omega arith, tt) in
     let some : nat_lt 0 (length m.tasks) ≡ true = grind (arith, nat_tests) in
@@ -304,5 +311,8 @@ reads_back m h names tasks some n =
     let first = head_back m n (map variable_fields m.variables ++ (tasks_fields m.tasks ++ end)) h in
     let second = read_variables m h names (n + 6) [] m.variables (tasks_fields m.tasks ++ end) refl in
     let third = read_tasks m h tasks second.0 [] m.tasks end refl in
-    let last = read_end m third.0 some in
-    (third.0 + 1, ap (λ r. r >>= λ h. body (n + 6) h.0 h.1) first ∙ second.1 ∙ third.1 ∙ last ∙ ap (λ r. Ok (record { value = m; rest = r; line = third.0 + 1 })) no_lines)
+    let last = read_end m third.0 some in (
+      third.0 + 1,
+      ap (λ r. r >>= λ h. body (n + 6) h.0 h.1) first ∙ second.1 ∙ third.1 ∙ last
+          ∙ ap (λ r. Ok (record { value = m; rest = r; line = third.0 + 1 })) no_lines,
+    )

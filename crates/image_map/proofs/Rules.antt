@@ -1,26 +1,18 @@
 -- One variable, one task or one private scalar more keeps the rules of a map.
-use Rattle.std.proofs.Common.{◌≡◌, ◌<◌, ℕ, suc, ◌%◌, ◌==◌, ◌&&◌, ◌||◌, List, [], ◌∷◌, ◌++◌, length, map, arith, refl, ap, sym, subst, ◌∙◌, nat_lt, nat_le, not, Bool, true, false, append_assoc, length-append, All}
+use Rattle.std.proofs.Common.{◌≡◌, ◌<◌, ℕ, suc, ◌%◌, ◌==◌, ◌&&◌, ◌||◌, List, [], ◌∷◌, ◌++◌, length, map, arith, refl, ap, sym, subst, ◌∙◌, nat_lt, nat_le, not}
+use Rattle.std.proofs.Common.{Bool, true, false, append_assoc, length-append, All, append-nil}
 use Rattle.std.proofs.lemmas.Bool.Decides.{nat_tests}
 use Rattle.std.proofs.lemmas.List.Elements.{All-nil, All-cons, All-push}
 use Rattle.std.specs.Str.{bytes_eq}
+use Rattle.std.proofs.lemmas.Bool.{and_parts, and_from}
 use Rattle.image_map.specs.declared.parts.Variable.{Variable}
-use Rattle.image_map.specs.MapValue.{MapValue, TaskValue, IsMap, IsFramWord, IsVariable, are_different, are_scalars, is_among, is_used, is_fram_word, fits, variable_names, task_names, takes_variable, with_variable, takes_task, with_task, takes_private, with_private, last_privates, follow, onto_last}
-
-both : (a b : Bool) → (a && b) ≡ true → (a ≡ true) × (b ≡ true)
-both true b h = (refl, h)
-both false b h = cc
-
-and : (a b : Bool) → a ≡ true → b ≡ true → (a && b) ≡ true
-and true b h k = k
-and false b h k = cc
+use Rattle.image_map.specs.MapValue.{MapValue, TaskValue, IsMap, IsFramWord, IsVariable, are_different, are_scalars, is_among, is_used, is_fram_word, fits}
+use Rattle.image_map.specs.MapValue.{variable_names, task_names, takes_variable, with_variable, takes_task, with_task, takes_private, with_private}
+use Rattle.image_map.specs.MapValue.{last_privates, follow, onto_last}
 
 neither : (a b : Bool) → not (a || b) ≡ true → (not a ≡ true) × (not b ≡ true)
 neither true b h = cc
 neither false b h = (refl, h)
-
-append_nil : {A : Type 0} (xs : List A) → xs ++ [] ≡ xs
-append_nil [] = refl
-append_nil (x ∷ xs) = ap (λ r. x ∷ r) (append_nil xs)
 
 among_append : (name : List ℕ) (ns ms : List (List ℕ)) → not (is_among name ns) ≡ true → not (is_among name ms) ≡ true → not (is_among name (ns ++ ms)) ≡ true
 among_append name [] ms h k = k
@@ -32,11 +24,12 @@ among_append name (n ∷ ns) ms h k =
     not_or true b h k = cc
     not_or false b h k = k
 
-different_more : (before ns : List (List ℕ)) (n : List ℕ) → are_different before ns ≡ true → not (is_among n (before ++ ns)) ≡ true → are_different before (ns ++ n ∷ []) ≡ true
-different_more before [] n h k = and (not (is_among n before)) true (ap (λ b. not (is_among n b)) (sym (append_nil before)) ∙ k) refl
+different_more : (before ns : List (List ℕ)) (n : List ℕ) → are_different before ns ≡ true → not (is_among n (before ++ ns)) ≡ true
+    → are_different before (ns ++ n ∷ []) ≡ true
+different_more before [] n h k = and_from (not (is_among n before)) true (ap (λ b. not (is_among n b)) (sym (append-nil before)) ∙ k) refl
 different_more before (x ∷ ns) n h k =
-    let p = both (not (is_among x before)) (are_different (before ++ x ∷ []) ns) h in
-    and (not (is_among x before)) (are_different (before ++ x ∷ []) (ns ++ n ∷ [])) p.0
+    let p = and_parts (not (is_among x before)) (are_different (before ++ x ∷ []) ns) h in
+    and_from (not (is_among x before)) (are_different (before ++ x ∷ []) (ns ++ n ∷ [])) p.0
     (different_more (before ++ x ∷ []) ns n p.1 (ap (λ b. not (is_among n b)) (append_assoc before (x ∷ []) ns) ∙ k))
 
 map_more : {A B : Type 0} (f : A → B) (xs : List A) (x : A) → map f (xs ++ x ∷ []) ≡ map f xs ++ f x ∷ []
@@ -45,7 +38,7 @@ map_more f (y ∷ xs) x = ap (λ r. f y ∷ r) (map_more f xs x)
 
 is_fram : (a : ℕ) → a < 65536 → is_fram_word a ≡ true → IsFramWord a
 is_fram a l h =
-    let p = both (nat_le 17408 a) (a % 2 == 0) h in
+    let p = and_parts (nat_le 17408 a) (a % 2 == 0) h in
     let low : nat_le 17408 a ≡ true = p.0 in
     let even : (a % 2 == 0) ≡ true = p.1 in
     record { low = grind (arith, nat_tests, low); high = l; even = grind (arith, nat_tests, even) }
@@ -59,16 +52,16 @@ pub variable_more : (m : MapValue) (v : Variable) → v.address < 65536 → IsMa
 unfolding takes_variable
 variable_more m v l h t =
     let fresh : Bool = not (is_used m v.name) in
-    let p = both (nat_le (length m.tasks) 0) (nat_lt (length m.variables) 256 && (is_fram_word v.address && (fits v.address v.length && fresh))) t in
-    let q = both (nat_lt (length m.variables) 256) (is_fram_word v.address && (fits v.address v.length && fresh)) p.1 in
-    let r = both (is_fram_word v.address) (fits v.address v.length && fresh) q.1 in
-    let s = both (fits v.address v.length) fresh r.1 in
+    let p = and_parts (nat_le (length m.tasks) 0) (nat_lt (length m.variables) 256 && (is_fram_word v.address && (fits v.address v.length && fresh))) t in
+    let q = and_parts (nat_lt (length m.variables) 256) (is_fram_word v.address && (fits v.address v.length && fresh)) p.1 in
+    let r = and_parts (is_fram_word v.address) (fits v.address v.length && fresh) q.1 in
+    let s = and_parts (fits v.address v.length) fresh r.1 in
     let few : nat_lt (length m.variables) 256 ≡ true = q.0 in
     let small : length m.variables < 256 = grind (arith, nat_tests, few) in
     let none : m.tasks ≡ [] = no_tasks m.tasks p.0 in
     let no_names : task_names m.tasks ≡ [] = ap task_names none in
     let old : are_different [] (variable_names m.variables) ≡ true =
-    ap (are_different []) (sym (append_nil (variable_names m.variables)) ∙ ap (λ r. variable_names m.variables ++ r) (sym no_names)) ∙ h.different in
+    ap (are_different []) (sym (append-nil (variable_names m.variables)) ∙ ap (λ r. variable_names m.variables ++ r) (sym no_names)) ∙ h.different in
     let new = neither (is_among v.name (variable_names m.variables)) (is_among v.name (task_names m.tasks)) s.1 in
     let P : List TaskValue → Type 0 = All (λ t. are_scalars t.privates (m.variables ++ v ∷ []) ≡ true) in
     record {
@@ -80,7 +73,7 @@ variable_more m v l h t =
       variables = All-push IsVariable m.variables v h.variables (record { address = is_fram v.address l r.0; fits = s.0 });
       few_variables = omega (arith, length-append m.variables (v ∷ []));
       few_tasks = h.few_tasks;
-      different = ap (are_different []) (ap (λ r. variable_names (m.variables ++ v ∷ []) ++ r) no_names ∙ append_nil _ ∙ map_more (λ v. v.name) m.variables v)
+      different = ap (are_different []) (ap (λ r. variable_names (m.variables ++ v ∷ []) ++ r) no_names ∙ append-nil _ ∙ map_more (λ v. v.name) m.variables v)
           ∙ different_more [] (variable_names m.variables) v.name old new.0;
       privates = subst P (sym none) (All-nil (λ t. are_scalars t.privates (m.variables ++ v ∷ []) ≡ true));
     }
@@ -89,7 +82,7 @@ variable_more m v l h t =
 pub task_more : (m : MapValue) (name : List ℕ) → IsMap m → takes_task m name ≡ true → IsMap (with_task m name)
 unfolding takes_task
 task_more m name h t =
-    let p = both (nat_lt (length m.tasks) 64) (not (is_used m name)) t in
+    let p = and_parts (nat_lt (length m.tasks) 64) (not (is_used m name)) t in
     let few : nat_lt (length m.tasks) 64 ≡ true = p.0 in
     let small : length m.tasks < 64 = grind (arith, nat_tests, few) in
     let new = neither (is_among name (variable_names m.variables)) (is_among name (task_names m.tasks)) p.1 in
@@ -110,10 +103,12 @@ task_more m name h t =
       privates = All-push (λ t. are_scalars t.privates m.variables ≡ true) m.tasks t h.privates refl;
     }
 
-privates_kept : (ts : List TaskValue) (name : List ℕ) (vs : List Variable) → All (λ t. are_scalars t.privates vs ≡ true) ts → follow (last_privates ts) name vs ≡ true
+privates_kept : (ts : List TaskValue) (name : List ℕ) (vs : List Variable) → All (λ t. are_scalars t.privates vs ≡ true) ts
+    → follow (last_privates ts) name vs ≡ true
     → All (λ t. are_scalars t.privates vs ≡ true) (onto_last name ts)
 privates_kept [] name vs h k = cc
-privates_kept (t ∷ []) name vs h k = All-push (λ t. are_scalars t.privates vs ≡ true) [] (record t { privates = t.privates ++ name ∷ [] }) (All-nil (λ t. are_scalars t.privates vs ≡ true)) k
+privates_kept (t ∷ []) name vs h k =
+    All-push (λ t. are_scalars t.privates vs ≡ true) [] (record t { privates = t.privates ++ name ∷ [] }) (All-nil (λ t. are_scalars t.privates vs ≡ true)) k
 privates_kept (t ∷ u ∷ ts) name vs h k = All-cons (λ t. are_scalars t.privates vs ≡ true) t (onto_last name (u ∷ ts)) (h 0 t (omega arith))
     (privates_kept (u ∷ ts) name vs (λ i d l. h (suc i) d (omega arith)) k)
 
@@ -144,9 +139,12 @@ private_more m name h t = record {
 }
 
 -- the rules of a map whose variables are known by another list
-pub variable_pushed : (m : MapValue) (vs : List Variable) (v : Variable) → v.address < 65536 → vs ≡ m.variables ++ v ∷ [] → IsMap m → takes_variable m v ≡ true → IsMap (record m { variables = vs })
+pub variable_pushed : (m : MapValue) (vs : List Variable) (v : Variable) → v.address < 65536 → vs ≡ m.variables ++ v ∷ [] → IsMap m → takes_variable m v ≡ true
+    → IsMap (record m { variables = vs })
 variable_pushed m vs v l e h t = let P : List Variable → Type 0 = λ vs. IsMap (record m { variables = vs }) in subst P (sym e) (variable_more m v l h t)
 
 -- the same of tasks
-pub task_pushed : (m : MapValue) (ts : List TaskValue) (t : TaskValue) (name : List ℕ) → t ≡ record { name = name; privates = [] } → ts ≡ m.tasks ++ t ∷ [] → IsMap m → takes_task m name ≡ true → IsMap (record m { tasks = ts })
-task_pushed m ts t name d e h k = let P : List TaskValue → Type 0 = λ ts. IsMap (record m { tasks = ts }) in subst P (sym (e ∙ ap (λ t. m.tasks ++ t ∷ []) d)) (task_more m name h k)
+pub task_pushed : (m : MapValue) (ts : List TaskValue) (t : TaskValue) (name : List ℕ) → t ≡ record { name = name; privates = [] } → ts ≡ m.tasks ++ t ∷ []
+    → IsMap m → takes_task m name ≡ true → IsMap (record m { tasks = ts })
+task_pushed m ts t name d e h k = let P : List TaskValue → Type 0 = λ ts. IsMap (record m { tasks = ts }) in
+    subst P (sym (e ∙ ap (λ t. m.tasks ++ t ∷ []) d)) (task_more m name h k)

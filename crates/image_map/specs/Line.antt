@@ -1,9 +1,11 @@
 -- What the lines of a map say. One blank parts the fields of a line.
-use Rattle.std.specs.Prelude.{ℕ, ◌+◌, ◌-◌, ◌*◌, ◌^◌, ◌==◌, ◌&&◌, ◌||◌, Bool, true, false, not, nat_le, nat_lt, nat_eq, if◌then◌else◌, List, [], ◌∷◌, Option, Some, None, Ok, Err, Result, codes}
+use Rattle.std.specs.Prelude.{ℕ, ◌+◌, ◌-◌, ◌*◌, ◌^◌, ◌==◌, ◌&&◌, ◌||◌, Bool, true, false, not, nat_le, nat_lt, nat_eq, if◌then◌else◌, List, [], ◌∷◌, Option}
+use Rattle.std.specs.Prelude.{Some, None, Ok, Err, Result, codes}
 use Rattle.std.specs.Str.{bytes_eq}
 use Rattle.std.specs.List.{starts_with}
-use Rattle.alp_text.specs.Numbers.{number_of}
+use Rattle.alp_text.specs.Numbers.{number_of, limited}
 use Rattle.alp_text.specs.declared.numbers.NumberFault.{NumberFault}
+pub use Rattle.alp_text.specs.Sequence.{◌>>?◌}
 use Rattle.text_parts.specs.Fields.{fields, is_blank, no_fields}
 use Rattle.image_map.specs.declared.parts.RuntimeWords.{RuntimeWords}
 use Rattle.image_map.specs.declared.parts.Place.{Place}
@@ -12,12 +14,6 @@ use Rattle.image_map.specs.declared.parts.ValueType.TheVariants as value_type
 use Rattle.image_map.specs.declared.parts.Variable.{Variable}
 use Rattle.image_map.specs.Names.{name_of}
 use Rattle.image_map.specs.MapValue.{is_fram_word}
-
-infixl 10 ◌>>?◌
--- the second step behind the first, where there is a value
-abbrev pub ◌>>?◌ : {A B : Type 0} → Option A → (A → Option B) → Option B
-(Some x) >>? f = f x
-None >>? f = None
 
 -- whether each blank of a line is a space with another byte before and behind it; `apart` says whether a blank stands before, or nothing
 abbrev pub single_from : Bool → List ℕ → Bool
@@ -51,11 +47,6 @@ address_of (a ∷ b ∷ c ∷ []) = None
 address_of (a ∷ b ∷ c ∷ d ∷ []) = address_digit a >>? λ a. address_digit b >>? λ b. address_digit c >>? λ c. address_digit d >>? λ d.
     fram_word (4096 * a + 256 * b + 16 * c + d)
 address_of (a ∷ b ∷ c ∷ d ∷ e ∷ ds) = None
-
--- the number, where it is below a limit
-abbrev pub limited : ℕ → Result ℕ NumberFault → Option ℕ
-limited limit (Ok n) = if nat_lt n limit then Some n else None
-limited limit (Err e) = None
 
 -- a number in decimal digits, below a limit; leading zeros are fine
 abbrev pub decimal_below : ℕ → List ℕ → Option ℕ
@@ -108,7 +99,16 @@ bound_of fs = behind (codes "bound") fs >>? λ fs. next_number fs >>? λ n. alon
 abbrev pub words_of : List (List ℕ) → Option RuntimeWords
 words_of fs = behind (codes "words") fs >>? λ fs. next_address fs >>? λ cur. next_address cur.1 >>? λ next. next_address next.1 >>? λ gate.
     next_address gate.1 >>? λ cln. next_address cln.1 >>? λ en. next_address en.1 >>? λ base. next_address base.1 >>? λ sb. next_address sb.1 >>? λ ver.
-    alone ver.1 (record { current_task = cur.0; next_task = next.0; gate = gate.0; list_length = cln.0; emit_count = en.0; base = base.0; sent_base = sb.0; version = ver.0 })
+    alone ver.1 (record {
+      current_task = cur.0;
+      next_task = next.0;
+      gate = gate.0;
+      list_length = cln.0;
+      emit_count = en.0;
+      base = base.0;
+      sent_base = sb.0;
+      version = ver.0;
+    })
 
 -- `list ADDRESS N`, `emits ADDRESS N` or `versions ADDRESS N`, by the first word
 abbrev pub place_of : List ℕ → List (List ℕ) → Option Place

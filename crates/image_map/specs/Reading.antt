@@ -1,18 +1,13 @@
 -- What lines say as a map: line by line, the map so far, or the first line that breaks the form or a rule.
 use Rattle.std.specs.Prelude.{◌≡◌, ℕ, ◌+◌, ◌&&◌, Bool, true, false, nat_lt, if◌then◌else◌, List, [], ◌∷◌, length, Option, Some, None, Result, Ok, Err, codes}
 use Rattle.std.specs.Str.{bytes_eq}
+pub use Rattle.alp_text.specs.Sequence.{◌>>=◌}
 use Rattle.text_parts.specs.Fields.{no_fields}
 use Rattle.image_map.specs.declared.fault.MapFault.{MapFault}
 use Rattle.image_map.specs.declared.fault.MapFault.TheVariants.{BadMap, Memory}
 use Rattle.image_map.specs.declared.parts.Variable.{Variable}
 use Rattle.image_map.specs.MapValue.{MapValue, takes_variable, with_variable, takes_task, with_task, takes_private, with_private}
 use Rattle.image_map.specs.Line.{line_fields, start_of, bound_of, words_of, place_of, scalar_of, array_of, lone_name}
-
-infixl 10 ◌>>=◌
--- the second step behind the first, where that has no fault
-abbrev pub ◌>>=◌ : {A B : Type 0} → Result A MapFault → (A → Result B MapFault) → Result B MapFault
-(Ok x) >>= f = f x
-(Err e) >>= f = Err e
 
 -- what the n-th line says, and the lines behind it
 abbrev pub said : {A : Type 0} → ℕ → Option A → List (List ℕ) → Result (A × List (List ℕ)) MapFault

@@ -15,6 +15,3 @@ pub use name::Name;
 pub use parse::{MapText, read_map};
 pub use parts::{Place, RuntimeWords, Task, ValueType, Variable};
 pub use print::push_map;
-
-#[cfg(test)]
-mod tests;

@@ -1,5 +1,6 @@
 -- At each front of a run the board's next instruction is one of the code, whose words are those of the image.
-use Rattle.std.proofs.Common.{◌≡◌, ℕ, zero, suc, ◌+◌, ◌*◌, ◌%◌, ◌<◌, ◌≤◌, ◌==◌, ◌&&◌, Bool, true, false, cond, refl, sym, ap, ◌∙◌, subst, arith, eqb-true, List, [], ◌∷◌, length, length-append, Option, Some, None, slice_index}
+use Rattle.std.proofs.Common.{◌≡◌, ℕ, zero, suc, ◌+◌, ◌*◌, ◌%◌, ◌<◌, ◌≤◌, ◌==◌, Bool, true, false, cond, refl, sym, ap, ◌∙◌, subst, arith, eqb-true, List, []}
+use Rattle.std.proofs.Common.{◌∷◌, length, length-append, Option, Some, None, slice_index}
 use Rattle.std.proofs.lemmas.Bool.Decides.{nat_tests}
 use Rattle.msp_isa.specs.declared.instructions.Instr.{Instr}
 use Rattle.msp_isa.specs.Encoding.{encoding, IsInstruction}
@@ -8,13 +9,14 @@ use Rattle.msp_step.specs.declared.machine.Stop.TheVariants as stop
 use Rattle.msp_step.specs.Effect.{sum16}
 use Rattle.msp_step.specs.Step.{off_bit, FetchedAt}
 use Rattle.image_text.specs.ImageValue.{place_of}
-use Rattle.fram_board.specs.Bus.{board_bus, is_word, is_ram, is_fram, memory_word, ram_place}
-use Rattle.fram_board.specs.Board.{BoardValue, fresh, filled, powered, opened}
+use Rattle.fram_board.specs.Bus.{board_bus, memory_word, ram_place}
+use Rattle.fram_board.specs.Board.{BoardValue, powered, opened}
 use Rattle.fram_board.specs.Effects.{Effect}
 use Rattle.machine_effects.specs.Going.{StepOutcome, Goes, Stops, At, Halted, going, continued}
 use Rattle.machine_effects.specs.Machine.{MachineBoard, Code, standing, exec, fram_of}
+use Rattle.machine_effects.proofs.Alike.{is_fram_address}
 use Rattle.code_forms.specs.Placed.{placed, words_of, Holds, AreInstructions}
-use Rattle.code_forms.proofs.Placed.{holds_front, holds_back}
+use Rattle.code_forms.proofs.Placed.{holds_front, holds_back, fram_no_ram, fram_word}
 use Rattle.crash_rules.specs.History.{History, observe, behind_boot}
 use Rattle.crash_rules.specs.Runs.{Program, Charge, Charged}
 
@@ -118,21 +120,12 @@ same_words f g (w ∷ ws) p a h k e d from to =
           same_words f g ws (p + 2) a h.1 k.1 (omega arith) d further (omega arith)
     ]) refl
 
-fram_word : (a : ℕ) → a % 2 ≡ 0 → 0x4400 ≤ a → a < 0x10000 → is_word a ≡ true
-fram_word a e l h = grind (arith, nat_tests)
-
-fram_no_ram : (a : ℕ) → 0x4400 ≤ a → is_ram a ≡ false
-fram_no_ram a l = grind (arith, nat_tests)
-
-fram_at : (a : ℕ) → a % 2 ≡ 0 → 0x4400 ≤ a → a < 0x10000 → ((a % 2 == 0) && is_fram a) ≡ true
-fram_at a e l h = grind (arith, nat_tests)
-
 -- words of FRAM are fetched by the board
 word_fetched : (b : BoardValue) (a w : ℕ) → a % 2 ≡ 0 → 0x4400 ≤ a → a < 0x10000 → fram_of b.fram a ≡ w → board_bus.fetches (opened b) a ≡ Some w
 word_fetched b a w e l h is =
     ap (λ x. cond x (Some (memory_word (opened b) a)) None) (fram_word a e l h)
     ∙ ap (λ x. Some (cond x (slice_index b.ram (ram_place a)) (slice_index b.fram (place_of a)))) (fram_no_ram a l)
-    ∙ ap (λ x. Some (cond x (slice_index b.fram (place_of a)) 0)) (sym (fram_at a e l h))
+    ∙ ap (λ x. Some (cond x (slice_index b.fram (place_of a)) 0)) (sym (is_fram_address a e l h))
     ∙ ap Some is
 
 pub words_fetched : (b : BoardValue) (a : ℕ) (ws : List ℕ) → a % 2 ≡ 0 → 0x4400 ≤ a → a + 2 * length ws < 0x10000 → Holds (fram_of b.fram) a ws
@@ -143,7 +136,3 @@ words_fetched b a (w ∷ ws) e l h k =
       word_fetched b a w e l (omega (arith, h)) k.0,
       subst (λ q. FetchedAt board_bus (opened b) q ws) (sym n) (words_fetched b (a + 2) ws (omega arith) (omega arith) (omega (arith, h)) k.1),
     )
-
--- a board before anything was done is one that a power-up left
-pub fresh_is_powered : (fram readings : List ℕ) → fresh fram readings ≡ powered (fresh fram readings) (filled 0)
-fresh_is_powered fram readings = refl

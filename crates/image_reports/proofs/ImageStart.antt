@@ -2,11 +2,10 @@
 use Rattle.std.proofs.Common.{◌≡◌, ℕ, zero, suc, ◌+◌, ◌*◌, ◌<◌, ◌≤◌, List, [], ◌∷◌, ap, ◌∙◌, arith}
 use Rattle.fram_board.specs.Effects.{Effect, Store}
 use Rattle.machine_effects.specs.World.{put, fram_after, EachStore}
+use Rattle.machine_effects.proofs.Worlds.{fram_after-append, put_same, put_other}
 use Rattle.runtime_effects.specs.Places.{CopyPair}
 use Rattle.runtime_effects.specs.Stages.{cleared, opening_effects, copied_in, start_effects}
 use Rattle.crash_rules.specs.Model.{IsElsewhere}
-use Rattle.crash_rules.proofs.Lists.{fram_after-append}
-use Rattle.crash_rules.proofs.Observed.{put_same, put_other}
 use Rattle.stands_for.specs.Layout.{ProgramPlaces, AreApart, ArePrivate}
 use Rattle.stands_for.proofs.Starts.{elsewhere_same}
 
@@ -14,10 +13,6 @@ use Rattle.stands_for.proofs.Starts.{elsewhere_same}
 cleared_behind : (n p a : ℕ) → a < p → EachStore (IsElsewhere a) (cleared n p)
 cleared_behind zero p a l = tt
 cleared_behind (suc n) p a l = ((λ e. omega arith), cleared_behind n (p + 2) a (omega arith))
-
-cleared_before : (n p a : ℕ) → p + 2 * n ≤ a → EachStore (IsElsewhere a) (cleared n p)
-cleared_before zero p a l = tt
-cleared_before (suc n) p a l = ((λ e. omega arith), cleared_before n (p + 2) a (omega arith))
 
 -- each of them is 0 then
 cleared_zero : (n p i : ℕ) (f : ℕ → ℕ) → i < n → fram_after (cleared n p) f (p + 2 * i) ≡ 0

@@ -1,5 +1,6 @@
 -- The sections of words are rising, apart and as long as can be.
 use Rattle.std.proofs.Common.{◌≡◌, ℕ, suc, ◌+◌, List, [], ◌∷◌, ◌++◌, length, arith, refl, ap, sym, subst, ◌∙◌, if◌then◌else◌, Bool, true, false, append_assoc}
+use Rattle.std.proofs.Common.{true≢false}
 use Rattle.image_text.specs.Text.{is_shown, begins_shown, onto_section, sections, Section, AreShown, AreSections}
 
 -- a word more that isn't shown
@@ -19,16 +20,13 @@ hidden_more j w ws (s ∷ ss) e (rest, first, h) = (
   h,
 )
 
-differ : true ≡ false → ⊥
-differ e = cc
-
 no_gap : (j : ℕ) (gap rest ws : List ℕ) → AreShown false j gap → ws ≡ gap ++ rest → begins_shown j ws ≡ true → gap ≡ []
 no_gap j [] rest ws h e k = refl
-no_gap j (w ∷ gap) rest ws h e k = absurd (differ (sym k ∙ ap (begins_shown j) e ∙ h.0))
+no_gap j (w ∷ gap) rest ws h e k = absurd (true≢false (sym k ∙ ap (begins_shown j) e ∙ h.0))
 
 shown_front : (j : ℕ) (ws : List ℕ) → AreShown false j ws → begins_shown j ws ≡ true → ⊥
 shown_front j [] h k = cc
-shown_front j (w ∷ ws) h k = differ (sym k ∙ h.0)
+shown_front j (w ∷ ws) h k = true≢false (sym k ∙ h.0)
 
 -- a word more that is shown
 shown_more : (u : Bool) (j w : ℕ) (ws : List ℕ) (ss : List Section) → is_shown j w ≡ true → begins_shown (j + 1) ws ≡ u → AreSections (j + 1) ws ss
@@ -65,6 +63,7 @@ more : (t : Bool) (j w : ℕ) (ws : List ℕ) (ss : List Section) → is_shown j
 more true j w ws ss e h = shown_more (begins_shown (j + 1) ws) j w ws ss e refl h
 more false j w ws ss e h = hidden_more j w ws ss e h
 
+-- the sections of words are apart and in order
 pub sections_made : (j : ℕ) (ws : List ℕ) → AreSections j ws (sections j ws)
 unfolding sections
 sections_made j [] = tt

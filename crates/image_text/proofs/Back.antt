@@ -1,25 +1,20 @@
 -- Lines that are printed read back as what they say.
-use Rattle.std.proofs.Common.{◌≡◌, ◌≤◌, ◌<◌, ℕ, suc, ◌+◌, ◌-◌, ◌/◌, ◌%◌, ◌==◌, List, [], ◌∷◌, ◌++◌, length, map, arith, refl, ap, sym, subst, ◌∙◌, if◌then◌else◌, nat_lt, Bool, true, false, Option, Some, Ok, append_assoc, length-append}
+use Rattle.std.proofs.Common.{◌≡◌, ◌≤◌, ◌<◌, ℕ, suc, ◌+◌, ◌-◌, ◌/◌, ◌%◌, ◌==◌, List, [], ◌∷◌, ◌++◌, length, map, arith, refl, ap, sym, subst, ◌∙◌}
+use Rattle.std.proofs.Common.{if◌then◌else◌, nat_lt, Bool, true, false, Option, Some, Ok, append_assoc, length-append, append-nil}
 use Rattle.std.proofs.lemmas.Bool.Decides.{nat_tests}
+use Rattle.std.specs.List.{concat}
 use Rattle.text_parts.specs.Lines.{lines}
-use Rattle.text_parts.specs.Fields.{fields, is_blank, begins_blank}
+use Rattle.text_parts.specs.Fields.{fields, begins_blank}
 use Rattle.text_parts.specs.Groups.{groups, groups_from, onto_group}
-use Rattle.text_parts.specs.Hex.{hex_digit, upper_digit, upper_hex}
+use Rattle.text_parts.specs.Hex.{upper_digit, upper_hex}
 use Rattle.text_parts.specs.Printed.{spaced, printed}
-use Rattle.text_parts.proofs.Printing.{AreWords, fields_spaced, lines_printed}
+use Rattle.text_parts.proofs.Printing.{AreWords, fields_spaced, lines_printed, not_blank, upper_inked, digit_upper}
 use Rattle.image_text.specs.Line.{address, bytes, quit, line_says, front_says, fields_say, byte_of, bytes_of, address_of, bytes_said, ◌>>?◌}
 use Rattle.image_text.specs.Memory.{Placed, step}
 use Rattle.image_text.specs.Reading.{read}
 use Rattle.image_text.specs.Text.{upper_hex4, bytes_in}
 use Rattle.image_text.proofs.Lines.{read_next}
-use Rattle.image_text.proofs.Places.{nones, put_seam, append_nil}
-
-digit_upper : (d : ℕ) → d < 16 → hex_digit (upper_digit d) ≡ Some d
-unfolding hex_digit
-digit_upper d h = grind (arith, nat_tests)
-
-upper_inked : (d : ℕ) → d < 16 → 36 < upper_digit d
-upper_inked d h = grind (arith, nat_tests)
+use Rattle.image_text.proofs.Places.{nones, put_seam}
 
 upper_other : (d : ℕ) → d < 16 → ((upper_digit d == 64) ≡ false) × ((upper_digit d == 113) ≡ false) × ((upper_digit d == 81) ≡ false)
 upper_other d h = (grind (arith, nat_tests), grind (arith, nat_tests), grind (arith, nat_tests))
@@ -55,10 +50,6 @@ unfolding upper_hex
 bytes_say b [] h = one_byte b h.0 ∙ ap (λ o. o >>? λ bs. Some (bytes bs)) (bytes_back (b ∷ []) h)
 bytes_say b (c ∷ bs) h = ap (λ o. o >>? λ bs. Some (bytes bs)) (bytes_back (b ∷ c ∷ bs) h)
 
-not_blank : (b : ℕ) → 36 < b → is_blank b ≡ false
-unfolding is_blank
-not_blank b h = grind (arith, nat_tests)
-
 -- a printed line begins with no blank
 begins_inked : (w : List ℕ) (ws : List (List ℕ)) → AreWords (w ∷ ws) → begins_blank (spaced (w ∷ ws)) ≡ false
 begins_inked [] ws h = absurd h
@@ -74,23 +65,30 @@ line_bytes b bs h = line_back (upper_hex b) (map upper_hex bs) (bytes_words (b �
 
 pub upper_hex4_words : (a : ℕ) → a < 65536 → AreWords ((64 ∷ upper_hex4 a) ∷ [])
 unfolding upper_hex upper_hex4
-upper_hex4_words a h = (omega arith, (upper_inked (a / 256 / 16) (omega arith), (upper_inked (a / 256 % 16) (omega arith), (upper_inked (a % 256 / 16) (omega arith), (upper_inked (a % 256 % 16) (omega arith), tt)))), tt)
+upper_hex4_words a h = (
+  omega arith,
+  (
+    upper_inked (a / 256 / 16) (omega arith),
+    (upper_inked (a / 256 % 16) (omega arith), (upper_inked (a % 256 / 16) (omega arith), (upper_inked (a % 256 % 16) (omega arith), tt))),
+  ),
+  tt,
+)
 
 is_four : (a : ℕ) → a < 65536 → address_of (upper_hex4 a) ≡ Some a
 unfolding upper_hex upper_hex4
 is_four a h =
-    rw (digit_upper (a / 256 / 16) (omega arith), digit_upper (a / 256 % 16) (omega arith), digit_upper (a % 256 / 16) (omega arith), digit_upper (a % 256 % 16) (omega arith)) (ap Some (omega arith))
+    rw (
+      digit_upper (a / 256 / 16) (omega arith),
+      digit_upper (a / 256 % 16) (omega arith),
+      digit_upper (a % 256 / 16) (omega arith),
+      digit_upper (a % 256 % 16) (omega arith),
+    ) (ap Some (omega arith))
 
 pub line_at : (a : ℕ) → a < 65536 → line_says (spaced ((64 ∷ upper_hex4 a) ∷ [])) ≡ Some (address a)
 line_at a h = line_back (64 ∷ upper_hex4 a) [] (upper_hex4_words a h) ∙ ap (λ o. o >>? λ a. Some (address a)) (is_four a h)
 
 pub line_quit : line_says (113 ∷ []) ≡ Some quit
 line_quit = line_back (113 ∷ []) [] (omega arith, tt, tt)
-
--- the groups one behind the other
-abbrev pub joined : List (List ℕ) → List ℕ
-joined [] = []
-joined (g ∷ gs) = g ++ joined gs
 
 -- groups of bytes, none empty
 abbrev pub AreGroups : List (List ℕ) → Type 0
@@ -113,7 +111,8 @@ step_bytes n done bs k h =
     let high : nat_lt 65536 (17408 + length done + length bs) ≡ false = grind (arith, nat_tests) in
     let index : 17408 + length done - 17408 ≡ length done = omega arith in
     let len : 17408 + length done + length bs ≡ 17408 + length (done ++ map Some bs) = omega (arith, length-append done (map Some bs), length_some bs) in
-    rw (low, high) (rw index (rw (put_seam done bs (length done) k refl) (ap (λ a. Ok (true, record { next = Some a; memory = (done ++ map Some bs) ++ nones k })) len)))
+    rw (low, high) (rw index (rw (put_seam done bs (length done) k refl)
+    (ap (λ a. Ok (true, record { next = Some a; memory = (done ++ map Some bs) ++ nones k })) len)))
 
 -- words below 65536
 abbrev pub AreWords16 : List ℕ → Type 0
@@ -132,22 +131,23 @@ pub one_word : (w : ℕ) → bytes_in (w ∷ []) ≡ w % 256 ∷ w / 256 ∷ []
 one_word w = more_words w [] ∙ ap (λ r. w % 256 ∷ w / 256 ∷ r) no_words
 
 -- a word more at the front of bytes
-joined_by : (t : Bool) (w : ℕ) (ws : List ℕ) (x y : List (List ℕ)) → joined (map bytes_in x) ≡ bytes_in ws → joined (map bytes_in y) ≡ bytes_in ws
-    → joined (map bytes_in (if t then (w ∷ []) ∷ x else onto_group w y)) ≡ bytes_in (w ∷ ws)
-joined_by true w ws x y e f = ap (λ b. b ++ joined (map bytes_in x)) (one_word w) ∙ ap (λ r. w % 256 ∷ w / 256 ∷ r) e ∙ sym (more_words w ws)
+joined_by : (t : Bool) (w : ℕ) (ws : List ℕ) (x y : List (List ℕ)) → concat (map bytes_in x) ≡ bytes_in ws → concat (map bytes_in y) ≡ bytes_in ws
+    → concat (map bytes_in (if t then (w ∷ []) ∷ x else onto_group w y)) ≡ bytes_in (w ∷ ws)
+joined_by true w ws x y e f = ap (λ b. b ++ concat (map bytes_in x)) (one_word w) ∙ ap (λ r. w % 256 ∷ w / 256 ∷ r) e ∙ sym (more_words w ws)
 joined_by false w ws x [] e f = ap (λ b. b ++ []) (one_word w) ∙ ap (λ r. w % 256 ∷ w / 256 ∷ r) f ∙ sym (more_words w ws)
-joined_by false w ws x (g ∷ gs) e f = ap (λ b. b ++ joined (map bytes_in gs)) (more_words w g) ∙ ap (λ r. w % 256 ∷ w / 256 ∷ r) f ∙ sym (more_words w ws)
+joined_by false w ws x (g ∷ gs) e f = ap (λ b. b ++ concat (map bytes_in gs)) (more_words w g) ∙ ap (λ r. w % 256 ∷ w / 256 ∷ r) f ∙ sym (more_words w ws)
 
-joined_from : (k : ℕ) (ws : List ℕ) → joined (map bytes_in (groups_from 8 k ws)) ≡ bytes_in ws
+joined_from : (k : ℕ) (ws : List ℕ) → concat (map bytes_in (groups_from 8 k ws)) ≡ bytes_in ws
 unfolding groups_from
 joined_from k [] = sym no_words
 joined_from k (w ∷ ws) = joined_by (k == 1) w ws (groups 8 ws) (groups_from 8 (k - 1) ws) (joined_from 8 ws) (joined_from (k - 1) ws)
 
 -- the bytes of the groups are the bytes of the words
-pub joined_groups : (ws : List ℕ) → joined (map bytes_in (groups 8 ws)) ≡ bytes_in ws
+pub joined_groups : (ws : List ℕ) → concat (map bytes_in (groups 8 ws)) ≡ bytes_in ws
 joined_groups ws = joined_from 8 ws
 
-groups_by : (t : Bool) (w : ℕ) (x y : List (List ℕ)) → w < 65536 → AreGroups (map bytes_in x) → AreGroups (map bytes_in y) → AreGroups (map bytes_in (if t then (w ∷ []) ∷ x else onto_group w y))
+groups_by : (t : Bool) (w : ℕ) (x y : List (List ℕ)) → w < 65536 → AreGroups (map bytes_in x) → AreGroups (map bytes_in y)
+    → AreGroups (map bytes_in (if t then (w ∷ []) ∷ x else onto_group w y))
 groups_by true w x y h e f = rw (one_word w) ((omega arith, (omega arith, tt)), e)
 groups_by false w x [] h e f = rw (one_word w) ((omega arith, (omega arith, tt)), tt)
 groups_by false w x ([] ∷ gs) h e f = let P : List ℕ → Type 0 = λ g. AreGroups (g ∷ map bytes_in gs) in absurd (subst P no_words f)
@@ -166,28 +166,30 @@ pub are_groups : (ws : List ℕ) → AreWords16 ws → AreGroups (map bytes_in (
 are_groups ws h = groups_are 8 ws h
 
 pub read_groups : (n : ℕ) (done : List (Option ℕ)) (gs : List (List ℕ)) (k : ℕ) (rest : List (List (List ℕ))) → AreGroups gs
-    → 17408 + length done + length (joined gs) ≤ 65536
-    → read n (seam done (length (joined gs) + k)) (lines (printed (map (map upper_hex) gs ++ rest)))
-    ≡ read (n + length gs) (seam (done ++ map Some (joined gs)) k) (lines (printed rest))
+    → 17408 + length done + length (concat gs) ≤ 65536
+    → read n (seam done (length (concat gs) + k)) (lines (printed (map (map upper_hex) gs ++ rest)))
+    ≡ read (n + length gs) (seam (done ++ map Some (concat gs)) k) (lines (printed rest))
 read_groups n done [] k rest h l = ap (λ m. read m (seam done (0 + k)) (lines (printed rest))) (let e : n ≡ n + 0 = omega arith in e)
-    ∙ ap (λ j. read (n + 0) (record { next = Some (17408 + length done); memory = done ++ nones j }) (lines (printed rest))) (let e : 0 + k ≡ k = omega arith in e)
-    ∙ ap (λ d. read (n + 0) (seam d k) (lines (printed rest))) (sym (append_nil done))
+    ∙ ap (λ j. read (n + 0) (record { next = Some (17408 + length done); memory = done ++ nones j }) (lines (printed rest))) (let e : 0 + k ≡ k = omega arith in
+    e)
+    ∙ ap (λ d. read (n + 0) (seam d k) (lines (printed rest))) (sym (append-nil done))
 read_groups n done ([] ∷ gs) k rest h l = absurd h
 read_groups n done ((b ∷ bs) ∷ gs) k rest h l =
     let g : List ℕ = b ∷ bs in
-    let len : length (g ++ joined gs) ≡ length g + length (joined gs) = length-append g (joined gs) in
+    let len : length (g ++ concat gs) ≡ length g + length (concat gs) = length-append g (concat gs) in
     let room : 17408 + length done + length g ≤ 65536 = omega arith in
     let next : List (Option ℕ) = done ++ map Some g in
     let grown : length next ≡ length done + length g = omega (arith, length-append done (map Some g), length_some g) in
-    let split : length (g ++ joined gs) + k ≡ length g + (length (joined gs) + k) = omega arith in
-    let one = read_next n (seam done (length g + (length (joined gs) + k))) (seam next (length (joined gs) + k)) _ _ _ true
+    let split : length (g ++ concat gs) + k ≡ length g + (length (concat gs) + k) = omega arith in
+    let one = read_next n (seam done (length g + (length (concat gs) + k))) (seam next (length (concat gs) + k)) _ _ _ true
     (lines_printed (map upper_hex g) (map (map upper_hex) gs ++ rest) (bytes_words g h.0))
-    (ap (step n (seam done (length g + (length (joined gs) + k)))) (line_bytes b bs h.0) ∙ step_bytes n done g (length (joined gs) + k) room) refl in
+    (ap (step n (seam done (length g + (length (concat gs) + k)))) (line_bytes b bs h.0) ∙ step_bytes n done g (length (concat gs) + k) room) refl in
     ap (λ j. read n (seam done j) (lines (printed (map (map upper_hex) (g ∷ gs) ++ rest)))) split
     ∙ sym one
     ∙ read_groups (n + 1) next gs k rest h.1 (omega arith)
-    ∙ ap (λ m. read m (seam (next ++ map Some (joined gs)) k) (lines (printed rest))) (let e : n + 1 + length gs ≡ n + suc (length gs) = omega arith in e)
-    ∙ ap (λ d. read (n + suc (length gs)) (seam d k) (lines (printed rest))) (append_assoc done (map Some g) (map Some (joined gs)) ∙ ap (λ r. done ++ r) (sym (map_append g (joined gs))))
+    ∙ ap (λ m. read m (seam (next ++ map Some (concat gs)) k) (lines (printed rest))) (let e : n + 1 + length gs ≡ n + suc (length gs) = omega arith in e)
+    ∙ ap (λ d. read (n + suc (length gs)) (seam d k) (lines (printed rest)))
+    (append_assoc done (map Some g) (map Some (concat gs)) ∙ ap (λ r. done ++ r) (sym (map_append g (concat gs))))
   where
     map_append : (xs ys : List ℕ) → map Some (xs ++ ys) ≡ map Some xs ++ map Some ys
     map_append [] ys = refl

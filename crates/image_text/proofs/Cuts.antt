@@ -1,13 +1,15 @@
 -- The first section of words.
-use Rattle.std.proofs.Common.{◌≡◌, ◌≢◌, ◌≤◌, ◌<◌, ℕ, suc, zero, ◌+◌, ◌-◌, List, [], ◌∷◌, length, drop, take, arith, refl, ap, sym, ◌∙◌, if◌then◌else◌, Bool, true, false, length-drop}
-use Rattle.std.proofs.lemmas.List.{take_rest}
+use Rattle.std.proofs.Common.{◌≡◌, ◌≢◌, ◌≤◌, ◌<◌, ℕ, suc, zero, ◌+◌, List, [], ◌∷◌, length, drop, take, arith, refl, ap, sym, ◌∙◌, if◌then◌else◌, Bool, true}
+use Rattle.std.proofs.Common.{false, length-drop}
+use Rattle.text_parts.proofs.Pieces.{behind, behind_is}
 use Rattle.image_text.specs.Text.{is_shown, begins_shown, onto_section, sections, Section, hidden_len, shown_len}
 
 no_sections : (j : ℕ) → sections j [] ≡ []
 unfolding sections
 no_sections j = refl
 
-none_by : (t : Bool) (j w n m : ℕ) (u : Bool) (ss : List Section) → (if t then 0 else suc n) ≡ suc m → (n ≡ m → ss ≡ []) → (if t then onto_section j w u ss else ss) ≡ []
+none_by : (t : Bool) (j w n m : ℕ) (u : Bool) (ss : List Section) → (if t then 0 else suc n) ≡ suc m → (n ≡ m → ss ≡ [])
+    → (if t then onto_section j w u ss else ss) ≡ []
 none_by true j w n m u ss e ih = absurd (omega arith)
 none_by false j w n m u ss e ih = ih (omega arith)
 
@@ -15,9 +17,11 @@ none_by false j w n m u ss e ih = ih (omega arith)
 sections_none : (j : ℕ) (ws : List ℕ) → hidden_len j ws ≡ length ws → sections j ws ≡ []
 unfolding sections
 sections_none j [] e = refl
-sections_none j (w ∷ ws) e = none_by (is_shown j w) j w (hidden_len (j + 1) ws) (length ws) (begins_shown (j + 1) ws) (sections (j + 1) ws) e (sections_none (j + 1) ws)
+sections_none j (w ∷ ws) e =
+    none_by (is_shown j w) j w (hidden_len (j + 1) ws) (length ws) (begins_shown (j + 1) ws) (sections (j + 1) ws) e (sections_none (j + 1) ws)
 
-skip_by : (t : Bool) (j w : ℕ) (ws : List ℕ) → is_shown j w ≡ t → sections (j + 1) ws ≡ sections (j + 1 + hidden_len (j + 1) ws) (drop (hidden_len (j + 1) ws) ws)
+skip_by : (t : Bool) (j w : ℕ) (ws : List ℕ) → is_shown j w ≡ t
+    → sections (j + 1) ws ≡ sections (j + 1 + hidden_len (j + 1) ws) (drop (hidden_len (j + 1) ws) ws)
     → sections j (w ∷ ws) ≡ sections (j + (if t then 0 else suc (hidden_len (j + 1) ws))) (drop (if t then 0 else suc (hidden_len (j + 1) ws)) (w ∷ ws))
 unfolding sections
 skip_by true j w ws e ih = ap (λ k. sections k (w ∷ ws)) (let z : j ≡ j + 0 = omega arith in z)
@@ -36,7 +40,8 @@ first j w ws n = record { place = j; words = w ∷ take n ws } ∷ sections (j +
 word_by : (s : Bool) (j w v : ℕ) (vs : List ℕ) → is_shown (j + 1) v ≡ s
     → (is_shown (j + 1) v ≡ true → sections (j + 1) (v ∷ vs) ≡ first (j + 1) v vs (shown_len (j + 1 + 1) vs))
     → onto_section j w s (sections (j + 1) (v ∷ vs)) ≡ first j w (v ∷ vs) (if s then suc (shown_len (j + 1 + 1) vs) else 0)
-word_by true j w v vs e ih = ap (onto_section j w true) (ih e) ∙ ap (λ k. record { place = j; words = w ∷ v ∷ take (shown_len (j + 1 + 1) vs) vs } ∷ sections k (drop (shown_len (j + 1 + 1) vs) vs))
+word_by true j w v vs e ih = ap (onto_section j w true) (ih e)
+    ∙ ap (λ k. record { place = j; words = w ∷ v ∷ take (shown_len (j + 1 + 1) vs) vs } ∷ sections k (drop (shown_len (j + 1 + 1) vs) vs))
     (let z : j + 1 + suc (shown_len (j + 1 + 1) vs) ≡ j + suc (suc (shown_len (j + 1 + 1) vs)) = omega arith in z)
 word_by false j w v vs e ih = refl
 
@@ -65,13 +70,6 @@ hidden_stop : (j : ℕ) (ws : List ℕ) (v : ℕ) (vs : List ℕ) → drop (hidd
 hidden_stop j [] v vs e = cc
 hidden_stop j (w ∷ ws) v vs e = stop_by (is_shown j w) j w ws v vs refl (hidden_stop (j + 1) ws v vs) e
 
--- the rest behind a place
-abbrev pub behind : ℕ → List ℕ → List ℕ
-behind k xs = take (length xs - k) (drop k xs)
-
-pub behind_is : (k : ℕ) (xs : List ℕ) → behind k xs ≡ drop k xs
-behind_is k xs = take_rest xs k
-
 pub cut_none : (j n : ℕ) (ws : List ℕ) → n ≡ hidden_len j ws → n ≤ length ws → length (behind n ws) ≡ 0 → sections j ws ≡ []
 cut_none j n ws e h k = sections_none j ws (let l : length (drop n ws) ≡ 0 = rw (behind_is n ws) at k in omega (arith, length-drop n ws))
 
@@ -83,7 +81,8 @@ at_word j m (v ∷ vs) e h k =
     let len : m ≡ suc (shown_len (j + 1) vs) = rw shown at e in
     (rw len (sections_word j v vs shown), omega arith)
 
-pub section_cut : (j n m : ℕ) (ws : List ℕ) → n ≡ hidden_len j ws → n ≤ length ws → m ≡ shown_len (j + n) (behind n ws) → m ≤ length (behind n ws) → length (behind n ws) ≢ 0
+pub section_cut : (j n m : ℕ) (ws : List ℕ) → n ≡ hidden_len j ws → n ≤ length ws → m ≡ shown_len (j + n) (behind n ws) → m ≤ length (behind n ws)
+    → length (behind n ws) ≢ 0
     → (sections j ws ≡ record { place = j + n; words = take m (behind n ws) } ∷ sections (j + n + length (take m (behind n ws))) (behind m (behind n ws)))
     × (0 < length (take m (behind n ws))) × (j + n + length (take m (behind n ws)) + length (behind m (behind n ws)) ≡ j + length ws)
 section_cut j n m ws e h f g k =

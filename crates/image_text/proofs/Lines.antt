@@ -1,13 +1,15 @@
 -- The steps of reading, and the words of bytes.
-use Rattle.std.proofs.Common.{◌≡◌, ◌≤◌, ◌<◌, ℕ, suc, ◌+◌, ◌*◌, List, [], ◌∷◌, ◌++◌, length, drop, get_or, drop-cons, add-one, arith, ◌&&◌, refl, ap, sym, ◌∙◌, Bool, true, false, Option, None, Result, Ok, Err, append_assoc}
+use Rattle.std.proofs.Common.{◌≡◌, ◌≤◌, ◌<◌, ℕ, suc, ◌+◌, ◌*◌, List, [], ◌∷◌, ◌++◌, length, drop, get_or, drop-cons, add-one, arith, ◌&&◌, refl, ap, sym, ◌∙◌}
+use Rattle.std.proofs.Common.{Bool, true, false, Option, None, Result, Ok, Err, append_assoc}
 use Rattle.std.specs.Prelude.{unwrap_or}
+use Rattle.image_map.specs.Reading.{goes_on}
 use Rattle.image_text.proofs.Puts.{drop_end}
 use Rattle.text_parts.specs.Fields.{fields, no_fields}
 use Rattle.image_text.specs.declared.fault.ImageFault.{ImageFault}
-use Rattle.image_text.specs.declared.fault.ImageFault.TheVariants as fault
 use Rattle.image_text.specs.Line.{line_says}
 use Rattle.image_text.specs.Memory.{Placed, step}
-use Rattle.image_text.specs.Reading.{read, are_blank, goes_on, finish, Fails, ◌>>=◌, words_of}
+use Rattle.image_text.specs.Reading.{read, are_blank, finish, Fails, ◌>>=◌, words_of}
+use Rattle.image_text.specs.declared.fault.ImageFault.TheVariants as fault
 
 pub blank_end : (ls : List (List ℕ)) → ls ≡ [] → are_blank ls ≡ true
 unfolding are_blank
@@ -42,7 +44,8 @@ fails_bind fault.NoReset r f h = ap (λ x. x >>= f) h
 fails_bind fault.Memory r f h = tt
 
 -- the fault of a line, what follows it, and what ends there
-pub read_fault : (n : ℕ) (p : Placed) (ls rest : List (List ℕ)) (l : List ℕ) (f : ImageFault) → ls ≡ l ∷ rest → Fails f (step n p (line_says l)) → Fails f (read n p ls)
+pub read_fault : (n : ℕ) (p : Placed) (ls rest : List (List ℕ)) (l : List ℕ) (f : ImageFault) → ls ≡ l ∷ rest → Fails f (step n p (line_says l))
+    → Fails f (read n p ls)
 read_fault n p ls rest l f e h = rw (read_more n p ls rest l e) (fails_bind f _ (λ o. goes_on o.0 (read (n + 1) o.1 rest) (finish (n + 1) o.1.memory rest)) h)
 
 pub read_next : (n : ℕ) (p q : Placed) (ls rest : List (List ℕ)) (l : List ℕ) (on : Bool) → ls ≡ l ∷ rest → step n p (line_says l) ≡ Ok (on, q) → on ≡ true

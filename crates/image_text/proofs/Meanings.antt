@@ -1,28 +1,25 @@
 -- What reading gives is the meaning of the lines.
-use Rattle.std.proofs.Common.{◌≡◌, ◌≤◌, ◌<◌, ℕ, suc, zero, ◌+◌, ◌-◌, ◌*◌, ◌&&◌, ◌||◌, List, [], ◌∷◌, ◌++◌, length, map, get_or, refl, ap, sym, ◌∙◌, arith, subst, nat_lt, nat_le, if◌then◌else◌, Bool, true, false, Option, Some, None, Result, Ok, Err, ◌⊎◌, inl, inr, append_assoc, length-append}
+use Rattle.std.proofs.Common.{◌≡◌, ◌≤◌, ◌<◌, ℕ, suc, zero, ◌+◌, ◌-◌, ◌*◌, ◌&&◌, ◌||◌, List, [], ◌∷◌, ◌++◌, length, map, get_or, refl, ap, sym, ◌∙◌, arith}
+use Rattle.std.proofs.Common.{subst, nat_lt, nat_le, if◌then◌else◌, Bool, true, false, Option, Some, None, Result, Ok, Err, ◌⊎◌, inl, inr, append_assoc}
+use Rattle.std.proofs.Common.{length-append, append-nil}
 use Rattle.std.proofs.lemmas.Bool.Decides.{nat_tests}
 use Rattle.std.specs.Prelude.{is_some, unwrap_or, slice_get}
+use Rattle.std.proofs.lemmas.List.{map-append}
+use Rattle.std.specs.Option.{option_or}
 use Rattle.text_parts.specs.Fields.{fields, no_fields}
-use Rattle.image_text.specs.declared.fault.ImageFault.{ImageFault}
-use Rattle.image_text.specs.declared.fault.ImageFault.TheVariants as fault
-use Rattle.image_map.specs.declared.fault.MapFault.{MapFault}
 use Rattle.image_map.specs.declared.fault.MapFault.TheVariants as map_fault
+use Rattle.image_text.specs.declared.fault.ImageFault.{ImageFault}
+use Rattle.image_map.specs.declared.fault.MapFault.{MapFault}
 use Rattle.image_map.specs.MapValue.{MapValue}
-use Rattle.image_map.specs.Reading.{MapLines, map_lines}
+use Rattle.image_map.specs.Reading.{MapLines, map_lines, goes_on}
 use Rattle.image_text.specs.ImageValue.{ImageValue}
 use Rattle.image_text.specs.Line.{LineMeaning, nothing, address, bytes, quit, line_says}
 use Rattle.image_text.specs.Memory.{Placed, put_once, put_at, place, step}
-use Rattle.image_text.specs.Reading.{read, finish, are_blank, whole_map, image_behind, empty, words_of, goes_on, Gives, ◌>>=◌}
-use Rattle.image_text.specs.Meaning.{moved, next_address, byte_from, or_else, byte_at, given, Fits, GoesOn, AllGoOn, AreLines, IsBadLine, IsOutside, IsTwice, FaultAt, EndsAt, IsImageOf, HasReset, AreBlank, NotBlank, IsMeaningOf}
+use Rattle.image_text.specs.Reading.{read, finish, are_blank, whole_map, image_behind, empty, words_of, Gives, ◌>>=◌}
+use Rattle.image_text.specs.Meaning.{moved, next_address, byte_from, byte_at, given, Fits, GoesOn, AllGoOn, AreLines, IsBadLine, IsOutside, IsTwice, FaultAt}
+use Rattle.image_text.specs.Meaning.{EndsAt, IsImageOf, HasReset, AreBlank, NotBlank, IsMeaningOf}
 use Rattle.image_text.proofs.Placing.{or_none, not_given, Puts, puts, Taken, taken}
-
-append_nil : {A : Type 0} (xs : List A) → xs ++ [] ≡ xs
-append_nil [] = refl
-append_nil (x ∷ xs) = ap (λ r. x ∷ r) (append_nil xs)
-
-map_append : {A B : Type 0} (f : A → B) (xs ys : List A) → map f (xs ++ ys) ≡ map f xs ++ map f ys
-map_append f [] ys = refl
-map_append f (x ∷ xs) ys = ap (λ r. f x ∷ r) (map_append f xs ys)
+use Rattle.image_text.specs.declared.fault.ImageFault.TheVariants as fault
 
 next_append : (a : Option ℕ) (ms ns : List LineMeaning) → next_address a (ms ++ ns) ≡ next_address (next_address a ms) ns
 next_append a [] ns = refl
@@ -31,15 +28,16 @@ next_append a (address b ∷ ms) ns = next_append (Some b) ms ns
 next_append a (bytes bs ∷ ms) ns = next_append (moved (length bs) a) ms ns
 next_append a (quit ∷ ms) ns = next_append a ms ns
 
-or_assoc : (o p q : Option ℕ) → or_else o (or_else p q) ≡ or_else (or_else o p) q
+-- the first of three that is there
+pub or_assoc : {A : Type 0} (o p q : Option A) → option_or o (option_or p q) ≡ option_or (option_or o p) q
 or_assoc None p q = refl
 or_assoc (Some b) p q = refl
 
-byte_append : (a : Option ℕ) (ms ns : List LineMeaning) (x : ℕ) → byte_at a (ms ++ ns) x ≡ or_else (byte_at a ms x) (byte_at (next_address a ms) ns x)
+byte_append : (a : Option ℕ) (ms ns : List LineMeaning) (x : ℕ) → byte_at a (ms ++ ns) x ≡ option_or (byte_at a ms x) (byte_at (next_address a ms) ns x)
 byte_append a [] ns x = refl
 byte_append a (nothing ∷ ms) ns x = byte_append a ms ns x
 byte_append a (address b ∷ ms) ns x = byte_append (Some b) ms ns x
-byte_append a (bytes bs ∷ ms) ns x = ap (or_else (byte_from a bs x)) (byte_append (moved (length bs) a) ms ns x)
+byte_append a (bytes bs ∷ ms) ns x = ap (option_or (byte_from a bs x)) (byte_append (moved (length bs) a) ms ns x)
     ∙ or_assoc (byte_from a bs x) (byte_at (moved (length bs) a) ms x) (byte_at (next_address (moved (length bs) a) ms) ns x)
 byte_append a (quit ∷ ms) ns x = byte_append a ms ns x
 
@@ -50,22 +48,24 @@ record State (ms : List LineMeaning) (p : Placed) : Type 0 where
   pub each : (k : ℕ) → get_or p.memory k None ≡ given ms (17408 + k) ⊎ 48128 ≤ k
 
 all_more : (before ms : List LineMeaning) (m : LineMeaning) → AllGoOn before ms → GoesOn (before ++ ms) m → AllGoOn before (ms ++ m ∷ [])
-all_more before [] m h g = let P : List LineMeaning → Type 0 = λ ns. GoesOn ns m in (subst P (append_nil before) g, tt)
+all_more before [] m h g = let P : List LineMeaning → Type 0 = λ ns. GoesOn ns m in (subst P (append-nil before) g, tt)
 all_more before (k ∷ ms) m h g = let P : List LineMeaning → Type 0 = λ ns. GoesOn ns m in
     (h.0, all_more (before ++ k ∷ []) ms m h.1 (subst P (sym (append_assoc before (k ∷ []) ms)) g))
 
 more_lines : (done : List (List ℕ)) (l : List ℕ) (ms : List LineMeaning) (m : LineMeaning) → AreLines done ms → line_says l ≡ Some m → GoesOn ms m
     → AreLines (done ++ l ∷ []) (ms ++ m ∷ [])
 more_lines done l ms m h e g = record {
-  says = map_append line_says done (l ∷ []) ∙ ap (λ r. r ++ line_says l ∷ []) h.says ∙ ap (λ o. map Some ms ++ o ∷ []) e ∙ sym (map_append Some ms (m ∷ []));
+  says = map-append line_says done (l ∷ []) ∙ ap (λ r. r ++ line_says l ∷ []) h.says ∙ ap (λ o. map Some ms ++ o ∷ []) e ∙ sym (map-append Some ms (m ∷ []));
   go_on = all_more [] ms m h.go_on g;
 }
 
 -- whatever lines come behind those that are read
-abbrev Continues : List (List ℕ) → Type 0
-Continues ls = (done : List (List ℕ)) (ms : List LineMeaning) (p : Placed) → AreLines done ms → State ms p → IsMeaningOf (done ++ ls) (read (length done + 1) p ls)
+abbrev ImageContinues : List (List ℕ) → Type 0
+ImageContinues ls = (done : List (List ℕ)) (ms : List LineMeaning) (p : Placed) → AreLines done ms → State ms p
+    → IsMeaningOf (done ++ ls) (read (length done + 1) p ls)
 
-later : (done ls : List (List ℕ)) (l : List ℕ) (ms : List LineMeaning) (m : LineMeaning) (q : Placed) → Continues ls → AreLines done ms → line_says l ≡ Some m → GoesOn ms m
+later : (done ls : List (List ℕ)) (l : List ℕ) (ms : List LineMeaning) (m : LineMeaning) (q : Placed) → ImageContinues ls → AreLines done ms
+    → line_says l ≡ Some m → GoesOn ms m
     → State (ms ++ m ∷ []) q → IsMeaningOf (done ++ l ∷ ls) (read (length done + 1 + 1) q ls)
 later done ls l ms m q next h e g s =
     let rest = next (done ++ l ∷ []) (ms ++ m ∷ []) q (more_lines done l ms m h e g) s in
@@ -74,12 +74,14 @@ later done ls l ms m q next h e g s =
     let Q : ℕ → Type 0 = λ k. IsMeaningOf (done ++ l ∷ ls) (read k q ls) in
     subst Q len (subst P (append_assoc done (l ∷ []) ls) rest)
 
-fault_at : (done ls : List (List ℕ)) (l : List ℕ) (ms : List LineMeaning) (IsFault : List LineMeaning → Option LineMeaning → Type 0) → AreLines done ms → IsFault ms (line_says l)
+fault_at : (done ls : List (List ℕ)) (l : List ℕ) (ms : List LineMeaning) (IsFault : List LineMeaning → Option LineMeaning → Type 0) → AreLines done ms
+    → IsFault ms (line_says l)
     → FaultAt (done ++ l ∷ ls) (length done + 1) IsFault
 fault_at done ls l ms IsFault h f = record { before = done; line = l; behind = ls; made = refl; number = refl; meanings = ms; lines = h; fault = f }
 
 -- a line that gives no byte
-quiet : (ms : List LineMeaning) (m : LineMeaning) (p : Placed) (next : Option ℕ) → ((a : Option ℕ) (x : ℕ) → byte_at a (m ∷ []) x ≡ None) → next ≡ next_address (next_address None ms) (m ∷ [])
+quiet : (ms : List LineMeaning) (m : LineMeaning) (p : Placed) (next : Option ℕ) → ((a : Option ℕ) (x : ℕ) → byte_at a (m ∷ []) x ≡ None)
+    → next ≡ next_address (next_address None ms) (m ∷ [])
     → State ms p → State (ms ++ m ∷ []) (record { next = next; memory = p.memory })
 quiet ms m p next none e s = record {
   len = s.len;
@@ -89,7 +91,9 @@ quiet ms m p next none e s = record {
   where
     stays : (k : ℕ) → get_or p.memory k None ≡ given ms (17408 + k) ⊎ 48128 ≤ k → get_or p.memory k None ≡ given (ms ++ m ∷ []) (17408 + k) ⊎ 48128 ≤ k
     stays k (inr h) = inr h
-    stays k (inl h) = inl (h ∙ sym (byte_append None ms (m ∷ []) (17408 + k) ∙ ap (or_else (given ms (17408 + k))) (none (next_address None ms) (17408 + k)) ∙ or_none (given ms (17408 + k))))
+    stays k (inl h) =
+        inl (h ∙ sym (byte_append None ms (m ∷ []) (17408 + k) ∙ ap (option_or (given ms (17408 + k))) (none (next_address None ms) (17408 + k))
+        ∙ or_none (given ms (17408 + k))))
 
 -- bytes from an address on, counted from the start of the FRAM
 from_place : (a k : ℕ) (bs : List ℕ) → 17408 ≤ a → byte_from (Some (a - 17408)) bs k ≡ byte_from (Some a) bs (17408 + k)
@@ -99,7 +103,8 @@ from_place a k bs h = same_by (nat_le (a - 17408) k) (nat_le a (17408 + k)) (k -
     same_by t u i j bs e f = ap (λ t. if t then slice_get bs i else None) e ∙ ap (λ i. if u then slice_get bs i else None) f
 
 -- bytes that are put are what the line gives
-loud : (ms : List LineMeaning) (bs : List ℕ) (p : Placed) (a : ℕ) (n : List (Option ℕ)) → 17408 ≤ a → next_address None ms ≡ Some a → Puts (a - 17408) bs p.memory n
+loud : (ms : List LineMeaning) (bs : List ℕ) (p : Placed) (a : ℕ) (n : List (Option ℕ)) → 17408 ≤ a → next_address None ms ≡ Some a
+    → Puts (a - 17408) bs p.memory n
     → State ms p → State (ms ++ bytes bs ∷ []) (record { next = Some (a + length bs); memory = n })
 loud ms bs p a n low e put s = record {
   len = put.len ∙ s.len;
@@ -109,8 +114,9 @@ loud ms bs p a n low e put s = record {
   where
     puts_at : (k : ℕ) → get_or p.memory k None ≡ given ms (17408 + k) ⊎ 48128 ≤ k → get_or n k None ≡ given (ms ++ bytes bs ∷ []) (17408 + k) ⊎ 48128 ≤ k
     puts_at k (inr h) = inr h
-    puts_at k (inl h) = inl (put.each k ∙ ap (λ o. or_else o (byte_from (Some (a - 17408)) bs k)) h
-        ∙ ap (or_else (given ms (17408 + k))) (from_place a k bs low ∙ ap (λ o. byte_from o bs (17408 + k)) (sym e) ∙ sym (or_none (byte_from (next_address None ms) bs (17408 + k))))
+    puts_at k (inl h) = inl (put.each k ∙ ap (λ o. option_or o (byte_from (Some (a - 17408)) bs k)) h
+        ∙ ap (option_or (given ms (17408 + k))) (from_place a k bs low ∙ ap (λ o. byte_from o bs (17408 + k)) (sym e)
+        ∙ sym (or_none (byte_from (next_address None ms) bs (17408 + k))))
         ∙ sym (byte_append None ms (bytes bs ∷ []) (17408 + k)))
 
 -- the byte at a place of the FRAM
@@ -128,38 +134,50 @@ fitting ms bs p a n low high e put s = record {
   here = e;
   low = low;
   high = high;
-  free = λ x l r. ap (given ms) (let z : x ≡ 17408 + (x - 17408) = omega arith in z) ∙ sym (at_place ms p (x - 17408) s (omega arith)) ∙ put.free (x - 17408) (omega arith) (omega arith);
+  free = λ x l r. ap (given ms) (let z : x ≡ 17408 + (x - 17408) = omega arith in z) ∙ sym (at_place ms p (x - 17408) s (omega arith))
+      ∙ put.free (x - 17408) (omega arith) (omega arith);
 }
 
 -- what comes behind a line whose bytes were put, or are given twice
-put_meaning : (o : Option (List (Option ℕ))) (done ls : List (List ℕ)) (l : List ℕ) (ms : List LineMeaning) (bs : List ℕ) (p : Placed) (a : ℕ) → Continues ls → AreLines done ms → State ms p
+put_meaning : (o : Option (List (Option ℕ))) (done ls : List (List ℕ)) (l : List ℕ) (ms : List LineMeaning) (bs : List ℕ) (p : Placed) (a : ℕ)
+    → ImageContinues ls → AreLines done ms → State ms p
     → line_says l ≡ Some (bytes bs) → next_address None ms ≡ Some a → 17408 ≤ a → a + length bs ≤ 65536 → put_once (a - 17408) bs p.memory ≡ o
-    → IsMeaningOf (done ++ l ∷ ls) (put_at (length done + 1) a (length bs) o >>= λ o. goes_on o.0 (read (length done + 1 + 1) o.1 ls) (finish (length done + 1 + 1) o.1.memory ls))
+    → IsMeaningOf (done ++ l ∷ ls) (put_at (length done + 1) a (length bs) o >>= λ o. goes_on o.0 (read (length done + 1 + 1) o.1 ls)
+    (finish (length done + 1 + 1) o.1.memory ls))
 put_meaning (Some n) done ls l ms bs p a next h s e f low high put =
     let len : length p.memory ≡ 48128 = s.len in
     let ok = puts (a - 17408) bs p.memory n (omega arith) put in
-    later done ls l ms (bytes bs) (record { next = Some (a + length bs); memory = n }) next h e (fitting ms bs p a n low high f ok s) (loud ms bs p a n low f ok s)
+    later done ls l ms (bytes bs) (record { next = Some (a + length bs); memory = n }) next h e (fitting ms bs p a n low high f ok s)
+    (loud ms bs p a n low f ok s)
 put_meaning None done ls l ms bs p a next h s e f low high put = twice (taken (a - 17408) bs p.memory put)
   where
     twice : Taken (a - 17408) bs p.memory → FaultAt (done ++ l ∷ ls) (length done + 1) IsTwice
-    twice (k, i, j, g) = fault_at done ls l ms IsTwice h (bs, a, 17408 + k, e, f, low, high, omega arith, omega arith, ap is_some (sym (at_place ms p k s (omega arith))) ∙ g)
+    twice (k, i, j, g) =
+        fault_at done ls l ms IsTwice h (bs, a, 17408 + k, e, f, low, high, omega arith, omega arith, ap is_some (sym (at_place ms p k s (omega arith))) ∙ g)
 
-bytes_by : (t u : Bool) (done ls : List (List ℕ)) (l : List ℕ) (ms : List LineMeaning) (bs : List ℕ) (p : Placed) (a : ℕ) → Continues ls → AreLines done ms → State ms p
+bytes_by : (t u : Bool) (done ls : List (List ℕ)) (l : List ℕ) (ms : List LineMeaning) (bs : List ℕ) (p : Placed) (a : ℕ) → ImageContinues ls → AreLines done ms
+    → State ms p
     → line_says l ≡ Some (bytes bs) → next_address None ms ≡ Some a → nat_lt a 17408 ≡ t → nat_lt 65536 (a + length bs) ≡ u
-    → IsMeaningOf (done ++ l ∷ ls) ((if t || u then Err (fault.OutsideFram (length done + 1)) else put_at (length done + 1) a (length bs) (put_once (a - 17408) bs p.memory))
+    → IsMeaningOf (done ++ l ∷ ls) ((if t || u then Err (fault.OutsideFram (length done + 1)) else put_at (length done + 1) a (length bs)
+    (put_once (a - 17408) bs p.memory))
     >>= λ o. goes_on o.0 (read (length done + 1 + 1) o.1 ls) (finish (length done + 1 + 1) o.1.memory ls))
 bytes_by true u done ls l ms bs p a next h s e f t k = fault_at done ls l ms IsOutside h (bs, a, e, f, inl (grind (arith, nat_tests, t)))
 bytes_by false true done ls l ms bs p a next h s e f t k = fault_at done ls l ms IsOutside h (bs, a, e, f, inr (grind (arith, nat_tests, k)))
-bytes_by false false done ls l ms bs p a next h s e f t k = put_meaning (put_once (a - 17408) bs p.memory) done ls l ms bs p a next h s e f (grind (arith, nat_tests, t)) (grind (arith, nat_tests, k)) refl
+bytes_by false false done ls l ms bs p a next h s e f t k =
+    put_meaning (put_once (a - 17408) bs p.memory) done ls l ms bs p a next h s e f (grind (arith, nat_tests, t)) (grind (arith, nat_tests, k)) refl
 
-bytes_meaning : (o : Option ℕ) (done ls : List (List ℕ)) (l : List ℕ) (ms : List LineMeaning) (bs : List ℕ) (p : Placed) → Continues ls → AreLines done ms → State ms p
+bytes_meaning : (o : Option ℕ) (done ls : List (List ℕ)) (l : List ℕ) (ms : List LineMeaning) (bs : List ℕ) (p : Placed) → ImageContinues ls → AreLines done ms
+    → State ms p
     → line_says l ≡ Some (bytes bs) → p.next ≡ o
-    → IsMeaningOf (done ++ l ∷ ls) (place (length done + 1) p bs o >>= λ o. goes_on o.0 (read (length done + 1 + 1) o.1 ls) (finish (length done + 1 + 1) o.1.memory ls))
+    → IsMeaningOf (done ++ l ∷ ls) (place (length done + 1) p bs o >>= λ o. goes_on o.0 (read (length done + 1 + 1) o.1 ls)
+    (finish (length done + 1 + 1) o.1.memory ls))
 bytes_meaning None done ls l ms bs p next h s e f = inl (fault_at done ls l ms IsBadLine h (inr (bs, e, sym s.next ∙ f)))
-bytes_meaning (Some a) done ls l ms bs p next h s e f = bytes_by (nat_lt a 17408) (nat_lt 65536 (a + length bs)) done ls l ms bs p a next h s e (sym s.next ∙ f) refl refl
+bytes_meaning (Some a) done ls l ms bs p next h s e f =
+    bytes_by (nat_lt a 17408) (nat_lt 65536 (a + length bs)) done ls l ms bs p a next h s e (sym s.next ∙ f) refl refl
 
 -- the lines behind the end
-blank_by : (t : Bool) (ls : List (List ℕ)) (l : List ℕ) → no_fields (fields l) ≡ t → (are_blank ls ≡ true → AreBlank ls) → (t && are_blank ls) ≡ true → AreBlank (l ∷ ls)
+blank_by : (t : Bool) (ls : List (List ℕ)) (l : List ℕ) → no_fields (fields l) ≡ t → (are_blank ls ≡ true → AreBlank ls) → (t && are_blank ls) ≡ true
+    → AreBlank (l ∷ ls)
 blank_by true ls l e ih h = (e, ih h)
 blank_by false ls l e ih h = cc
 
@@ -188,31 +206,39 @@ words_len (suc n) (l ∷ []) e = absurd (omega arith)
 words_len zero (l ∷ h ∷ m) e = absurd (omega arith)
 words_len (suc n) (l ∷ h ∷ m) e = ap suc (words_len n m (omega arith))
 
-word_each : (k : ℕ) (m : List (Option ℕ)) → 2 * k + 1 < length m → get_or (words_of m) k 0 ≡ unwrap_or (get_or m (2 * k) None) 0 + 256 * unwrap_or (get_or m (2 * k + 1) None) 0
+word_each : (k : ℕ) (m : List (Option ℕ)) → 2 * k + 1 < length m
+    → get_or (words_of m) k 0 ≡ unwrap_or (get_or m (2 * k) None) 0 + 256 * unwrap_or (get_or m (2 * k + 1) None) 0
 unfolding words_of
 word_each k [] e = absurd (omega arith)
 word_each k (l ∷ []) e = absurd (omega arith)
 word_each zero (l ∷ h ∷ m) e = refl
 word_each (suc k) (l ∷ h ∷ m) e = word_each k m (omega arith)
-    ∙ ap (λ j. unwrap_or (get_or (l ∷ h ∷ m) j None) 0 + 256 * unwrap_or (get_or m (2 * k + 1) None) 0) (let z : suc (suc (2 * k)) ≡ 2 * suc k = omega arith in z)
-    ∙ ap (λ j. unwrap_or (get_or (l ∷ h ∷ m) (2 * suc k) None) 0 + 256 * unwrap_or (get_or (l ∷ h ∷ m) j None) 0) (let z : suc (suc (2 * k + 1)) ≡ 2 * suc k + 1 = omega arith in z)
+    ∙ ap (λ j. unwrap_or (get_or (l ∷ h ∷ m) j None) 0 + 256 * unwrap_or (get_or m (2 * k + 1) None) 0) (let z : suc (suc (2 * k)) ≡ 2 * suc k = omega arith in
+    z)
+    ∙ ap (λ j. unwrap_or (get_or (l ∷ h ∷ m) (2 * suc k) None) 0 + 256 * unwrap_or (get_or (l ∷ h ∷ m) j None) 0)
+    (let z : suc (suc (2 * k + 1)) ≡ 2 * suc k + 1 = omega arith in z)
 
 is_image : (ms : List LineMeaning) (p : Placed) → State ms p → IsImageOf ms (words_of p.memory)
 is_image ms p s =
     let len : length p.memory ≡ 48128 = s.len in
     record {
       len = words_len 24064 p.memory len;
-      each = λ k h. word_each k p.memory (omega arith) ∙ ap (λ o. unwrap_or o 0 + 256 * unwrap_or (get_or p.memory (2 * k + 1) None) 0) (at_place ms p (2 * k) s (omega arith))
-          ∙ ap (λ o. unwrap_or (given ms (17408 + 2 * k)) 0 + 256 * unwrap_or o 0) (at_place ms p (2 * k + 1) s (omega arith) ∙ ap (given ms) (let z : 17408 + (2 * k + 1) ≡ 17408 + 2 * k + 1 = omega arith in z));
+      each = λ k h. word_each k p.memory (omega arith)
+          ∙ ap (λ o. unwrap_or o 0 + 256 * unwrap_or (get_or p.memory (2 * k + 1) None) 0) (at_place ms p (2 * k) s (omega arith))
+          ∙ ap (λ o. unwrap_or (given ms (17408 + 2 * k)) 0 + 256 * unwrap_or o 0)
+          (at_place ms p (2 * k + 1) s (omega arith) ∙ ap (given ms) (let z : 17408 + (2 * k + 1) ≡ 17408 + 2 * k + 1 = omega arith in z));
     }
 
-rest_by : (v : MapValue) (more : List (List ℕ)) (k : ℕ) (ls rest : List (List ℕ)) (ms : List LineMeaning) (n : ℕ) (p : Placed) → State ms p → EndsAt ls ms rest n → HasReset ms → NotBlank rest
+rest_by : (v : MapValue) (more : List (List ℕ)) (k : ℕ) (ls rest : List (List ℕ)) (ms : List LineMeaning) (n : ℕ) (p : Placed) → State ms p
+    → EndsAt ls ms rest n → HasReset ms → NotBlank rest
     → map_lines n rest ≡ Ok (record { value = v; rest = more; line = k })
-    → IsMeaningOf ls ((whole_map (Ok (record { value = v; rest = more; line = k })) >>= λ m. Ok (Some m)) >>= λ o. Ok (record { words = words_of p.memory; map = o }))
+    → IsMeaningOf ls ((whole_map (Ok (record { value = v; rest = more; line = k })) >>= λ m. Ok (Some m)) >>= λ o. Ok
+    (record { words = words_of p.memory; map = o }))
 rest_by v [] k ls rest ms n p s end reset b e = (ms, rest, n, end, reset, (k, e), is_image ms p s)
 rest_by v (l ∷ more) k ls rest ms n p s end reset b e = (ms, rest, n, end, reset, (b, inr (v, l, more, e)))
 
-whole_by : (r : Result MapLines MapFault) (ls rest : List (List ℕ)) (ms : List LineMeaning) (n : ℕ) (p : Placed) → State ms p → EndsAt ls ms rest n → HasReset ms → NotBlank rest → map_lines n rest ≡ r
+whole_by : (r : Result MapLines MapFault) (ls rest : List (List ℕ)) (ms : List LineMeaning) (n : ℕ) (p : Placed) → State ms p → EndsAt ls ms rest n
+    → HasReset ms → NotBlank rest → map_lines n rest ≡ r
     → IsMeaningOf ls ((whole_map r >>= λ m. Ok (Some m)) >>= λ o. Ok (record { words = words_of p.memory; map = o }))
 whole_by (Ok t) ls rest ms n p s end reset b e = rest_by t.value t.rest t.line ls rest ms n p s end reset b e
 whole_by (Err (map_fault.BadMap m)) ls rest ms n p s end reset b e = (ms, rest, n, end, reset, (b, inl e))
@@ -224,12 +250,14 @@ map_by true ls rest ms n p s end reset e = (ms, rest, n, end, reset, all_blank r
 map_by false ls rest ms n p s end reset e = whole_by (map_lines n rest) ls rest ms n p s end reset (not_blank rest e) refl
 
 end_by : (t u : Bool) (ls rest : List (List ℕ)) (ms : List LineMeaning) (n : ℕ) (p : Placed) → State ms p → EndsAt ls ms rest n
-    → is_some (given ms 65534) ≡ t → is_some (given ms 65535) ≡ u → IsMeaningOf ls (if t && u then image_behind n (words_of p.memory) rest else Err fault.NoReset)
+    → is_some (given ms 65534) ≡ t → is_some (given ms 65535) ≡ u
+    → IsMeaningOf ls (if t && u then image_behind n (words_of p.memory) rest else Err fault.NoReset)
 end_by true true ls rest ms n p s end e f = map_by (are_blank rest) ls rest ms n p s end (e, f) refl
 end_by true false ls rest ms n p s end e f = (ms, rest, n, end, inr (not_given (given ms 65535) f))
 end_by false u ls rest ms n p s end e f = (ms, rest, n, end, inl (not_given (given ms 65534) e))
 
-end_meaning : (ls rest : List (List ℕ)) (ms : List LineMeaning) (n : ℕ) (p : Placed) → State ms p → EndsAt ls ms rest n → IsMeaningOf ls (finish n p.memory rest)
+end_meaning : (ls rest : List (List ℕ)) (ms : List LineMeaning) (n : ℕ) (p : Placed) → State ms p → EndsAt ls ms rest n
+    → IsMeaningOf ls (finish n p.memory rest)
 end_meaning ls rest ms n p s end =
     let low : get_or p.memory 48126 None ≡ given ms 65534 = at_place ms p 48126 s (omega arith) in
     let high : get_or p.memory 48127 None ≡ given ms 65535 = at_place ms p 48127 s (omega arith) in
@@ -241,19 +269,23 @@ no_byte a x = refl
 no_byte_at : (b : ℕ) (a : Option ℕ) (x : ℕ) → byte_at a (address b ∷ []) x ≡ None
 no_byte_at b a x = refl
 
-says_by : (said : Option LineMeaning) (done ls : List (List ℕ)) (l : List ℕ) (ms : List LineMeaning) (p : Placed) → Continues ls → AreLines done ms → State ms p → line_says l ≡ said
-    → IsMeaningOf (done ++ l ∷ ls) (step (length done + 1) p said >>= λ o. goes_on o.0 (read (length done + 1 + 1) o.1 ls) (finish (length done + 1 + 1) o.1.memory ls))
+says_by : (said : Option LineMeaning) (done ls : List (List ℕ)) (l : List ℕ) (ms : List LineMeaning) (p : Placed) → ImageContinues ls → AreLines done ms
+    → State ms p → line_says l ≡ said
+    → IsMeaningOf (done ++ l ∷ ls) (step (length done + 1) p said >>= λ o. goes_on o.0 (read (length done + 1 + 1) o.1 ls)
+    (finish (length done + 1 + 1) o.1.memory ls))
 says_by None done ls l ms p next h s e = inl (fault_at done ls l ms IsBadLine h (inl e))
 says_by (Some nothing) done ls l ms p next h s e = later done ls l ms nothing p next h e tt (quiet ms nothing p p.next no_byte s.next s)
-says_by (Some (address a)) done ls l ms p next h s e = later done ls l ms (address a) (record { next = Some a; memory = p.memory }) next h e tt (quiet ms (address a) p (Some a) (no_byte_at a) refl s)
+says_by (Some (address a)) done ls l ms p next h s e =
+    later done ls l ms (address a) (record { next = Some a; memory = p.memory }) next h e tt (quiet ms (address a) p (Some a) (no_byte_at a) refl s)
 says_by (Some (bytes bs)) done ls l ms p next h s e = bytes_meaning p.next done ls l ms bs p next h s e refl
 says_by (Some quit) done ls l ms p next h s e = end_meaning (done ++ l ∷ ls) ls ms (length done + 1 + 1) p s
     (record { before = done; line = l; made = refl; number = omega arith; lines = h; quit = e })
 
 -- reading goes on to the meaning of all lines
-continues : (ls : List (List ℕ)) → Continues ls
+continues : (ls : List (List ℕ)) → ImageContinues ls
 unfolding read
-continues [] done ms p h s = inr (ms, (let P : List (List ℕ) → Type 0 = λ ls. AreLines ls ms in subst P (sym (append_nil done)) h), ap (λ ls. length ls + 1) (sym (append_nil done)))
+continues [] done ms p h s =
+    inr (ms, (let P : List (List ℕ) → Type 0 = λ ls. AreLines ls ms in subst P (sym (append-nil done)) h), ap (λ ls. length ls + 1) (sym (append-nil done)))
 continues (l ∷ ls) done ms p h s = says_by (line_says l) done ls l ms p (continues ls) h s refl
 
 length_empty : (n : ℕ) → length (empty n) ≡ n
@@ -274,7 +306,8 @@ no_lines : AreLines [] []
 no_lines = record { says = refl; go_on = tt }
 
 -- what a call gives is the meaning of the lines
-pub meaning_is : (r : Result ImageValue ImageFault) (ls : List (List ℕ)) → Gives (λ v. v) r (read 1 (record { next = None; memory = empty 48128 }) ls) → IsMeaningOf ls r
+pub meaning_is : (r : Result ImageValue ImageFault) (ls : List (List ℕ)) → Gives (λ v. v) r (read 1 (record { next = None; memory = empty 48128 }) ls)
+    → IsMeaningOf ls r
 meaning_is r ls h = by_result r h (continues ls [] [] (record { next = None; memory = empty 48128 }) no_lines (start 48128 refl))
   where
     by_result : (r : Result ImageValue ImageFault) → Gives (λ v. v) r (read 1 (record { next = None; memory = empty 48128 }) ls)

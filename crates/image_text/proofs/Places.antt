@@ -1,5 +1,6 @@
 -- Bytes that are put right behind what is placed.
-use Rattle.std.proofs.Common.{◌≡◌, ℕ, suc, zero, ◌+◌, List, [], ◌∷◌, ◌++◌, length, map, get_or, arith, refl, ap, sym, ◌∙◌, if◌then◌else◌, Bool, false, Option, Some, None, append_assoc, length-append}
+use Rattle.std.proofs.Common.{◌≡◌, ℕ, suc, zero, ◌+◌, List, [], ◌∷◌, ◌++◌, length, map, get_or, arith, refl, ap, sym, ◌∙◌, if◌then◌else◌, Bool, false, Option}
+use Rattle.std.proofs.Common.{Some, None, append_assoc, length-append, append-nil}
 use Rattle.std.specs.Prelude.{slice_set, is_some}
 use Rattle.image_text.specs.Memory.{put_once}
 
@@ -21,13 +22,10 @@ put_cons : (t : Bool) (i b : ℕ) (bs : List ℕ) (m : List (Option ℕ)) → is
 unfolding put_once
 put_cons t i b bs m e = rw e refl
 
-put_none : (i : ℕ) (m : List (Option ℕ)) → put_once i [] m ≡ Some m
+-- nothing is put
+pub put_none : (i : ℕ) (m : List (Option ℕ)) → put_once i [] m ≡ Some m
 unfolding put_once
 put_none i m = refl
-
-pub append_nil : {A : Type 0} (xs : List A) → xs ++ [] ≡ xs
-append_nil [] = refl
-append_nil (x ∷ xs) = ap (λ r. x ∷ r) (append_nil xs)
 
 pub nones_more : (m n : ℕ) → nones (suc m + n) ≡ None ∷ nones (m + n)
 nones_more m n = ap nones (let e : suc m + n ≡ suc (m + n) = omega arith in e)
@@ -35,7 +33,8 @@ nones_more m n = ap nones (let e : suc m + n ≡ suc (m + n) = omega arith in e)
 -- bytes right behind what is placed
 pub put_seam : (done : List (Option ℕ)) (bs : List ℕ) (i k : ℕ) → i ≡ length done
     → put_once i bs (done ++ nones (length bs + k)) ≡ Some ((done ++ map Some bs) ++ nones k)
-put_seam done [] i k e = put_none i _ ∙ ap (λ n. Some (done ++ nones n)) (let z : 0 + k ≡ k = omega arith in z) ∙ ap (λ r. Some (r ++ nones k)) (sym (append_nil done))
+put_seam done [] i k e = put_none i _ ∙ ap (λ n. Some (done ++ nones n)) (let z : 0 + k ≡ k = omega arith in z)
+    ∙ ap (λ r. Some (r ++ nones k)) (sym (append-nil done))
 put_seam done (b ∷ bs) i k e =
     let m : List (Option ℕ) = nones (length bs + k) in
     let next : List (Option ℕ) = done ++ Some b ∷ [] in

@@ -1,12 +1,15 @@
 -- What is placed where bytes are put, and where they can't be.
-use Rattle.std.proofs.Common.{◌≡◌, ◌≤◌, ◌<◌, ℕ, suc, ◌+◌, ◌-◌, List, [], ◌∷◌, length, get_or, arith, refl, ap, sym, ◌∙◌, if◌then◌else◌, nat_lt, nat_le, Bool, true, false, Option, Some, None, length-set}
+use Rattle.std.proofs.Common.{◌≡◌, ◌≤◌, ◌<◌, ℕ, suc, ◌+◌, ◌-◌, List, [], ◌∷◌, length, get_or, arith, refl, ap, sym, ◌∙◌, if◌then◌else◌, nat_lt, nat_le, Bool}
+use Rattle.std.proofs.Common.{true, false, Option, Some, None, length-set}
 use Rattle.std.proofs.lemmas.List.{get_or-set_same, get_or-set_other}
 use Rattle.std.proofs.lemmas.Bool.Decides.{nat_tests}
 use Rattle.std.specs.Prelude.{slice_set, is_some, slice_get}
+use Rattle.std.specs.Option.{option_or}
 use Rattle.image_text.specs.Memory.{put_once}
-use Rattle.image_text.specs.Meaning.{byte_from, or_else}
+use Rattle.image_text.specs.Meaning.{byte_from}
 
-pub or_none : (o : Option ℕ) → or_else o None ≡ o
+-- nothing behind what is there, or not
+pub or_none : {A : Type 0} (o : Option A) → option_or o None ≡ o
 or_none None = refl
 or_none (Some b) = refl
 
@@ -31,7 +34,7 @@ none_by false j = refl
 pub record Puts (i : ℕ) (bs : List ℕ) (m n : List (Option ℕ)) : Type 0 where
   pub len : length n ≡ length m
   pub free : (k : ℕ) → i ≤ k → k < i + length bs → get_or m k None ≡ None
-  pub each : (k : ℕ) → get_or n k None ≡ or_else (get_or m k None) (byte_from (Some i) bs k)
+  pub each : (k : ℕ) → get_or n k None ≡ option_or (get_or m k None) (byte_from (Some i) bs k)
 
 -- below, at and above a place
 data Order (k i : ℕ) : Type 0 where
@@ -48,20 +51,21 @@ order : (k i : ℕ) → Order k i
 order k i = order_by (nat_lt k i) (nat_lt i k) k i refl refl
 
 shifted : (i k b : ℕ) (bs : List ℕ) → i < k → byte_from (Some (i + 1)) bs k ≡ byte_from (Some i) (b ∷ bs) k
-shifted i k b bs h = byte_past (i + 1) k bs (omega arith) ∙ sym (byte_past i k (b ∷ bs) (omega arith) ∙ ap (slice_get (b ∷ bs)) (let e : k - i ≡ suc (k - (i + 1)) = omega arith in e))
+shifted i k b bs h = byte_past (i + 1) k bs (omega arith)
+    ∙ sym (byte_past i k (b ∷ bs) (omega arith) ∙ ap (slice_get (b ∷ bs)) (let e : k - i ≡ suc (k - (i + 1)) = omega arith in e))
 
 each_by : (k i b : ℕ) (bs : List ℕ) (m n : List (Option ℕ)) → Order k i → i < length m → get_or m i None ≡ None
-    → get_or n k None ≡ or_else (get_or (slice_set m i (Some b)) k None) (byte_from (Some (i + 1)) bs k)
-    → get_or n k None ≡ or_else (get_or m k None) (byte_from (Some i) (b ∷ bs) k)
-each_by k i b bs m n (below l) h e f = f ∙ ap (λ o. or_else o (byte_from (Some (i + 1)) bs k)) (get_or-set_other m i k (Some b) None (omega arith))
-    ∙ ap (or_else (get_or m k None)) (byte_before (i + 1) k bs (omega arith) ∙ sym (byte_before i k (b ∷ bs) l))
-each_by k i b bs m n (above l) h e f = f ∙ ap (λ o. or_else o (byte_from (Some (i + 1)) bs k)) (get_or-set_other m i k (Some b) None (omega arith))
-    ∙ ap (or_else (get_or m k None)) (shifted i k b bs l)
+    → get_or n k None ≡ option_or (get_or (slice_set m i (Some b)) k None) (byte_from (Some (i + 1)) bs k)
+    → get_or n k None ≡ option_or (get_or m k None) (byte_from (Some i) (b ∷ bs) k)
+each_by k i b bs m n (below l) h e f = f ∙ ap (λ o. option_or o (byte_from (Some (i + 1)) bs k)) (get_or-set_other m i k (Some b) None (omega arith))
+    ∙ ap (option_or (get_or m k None)) (byte_before (i + 1) k bs (omega arith) ∙ sym (byte_before i k (b ∷ bs) l))
+each_by k i b bs m n (above l) h e f = f ∙ ap (λ o. option_or o (byte_from (Some (i + 1)) bs k)) (get_or-set_other m i k (Some b) None (omega arith))
+    ∙ ap (option_or (get_or m k None)) (shifted i k b bs l)
 each_by k i b bs m n (same s) h e f =
     let at : get_or (slice_set m i (Some b)) k None ≡ Some b = ap (λ k. get_or (slice_set m i (Some b)) k None) s ∙ get_or-set_same m i (Some b) None h in
     let was : get_or m k None ≡ None = ap (λ k. get_or m k None) s ∙ e in
     let now : byte_from (Some i) (b ∷ bs) k ≡ Some b = byte_past i k (b ∷ bs) (omega arith) ∙ ap (slice_get (b ∷ bs)) (let z : k - i ≡ 0 = omega arith in z) in
-    f ∙ ap (λ o. or_else o (byte_from (Some (i + 1)) bs k)) at ∙ sym (ap (λ o. or_else o (byte_from (Some i) (b ∷ bs) k)) was ∙ now)
+    f ∙ ap (λ o. option_or o (byte_from (Some (i + 1)) bs k)) at ∙ sym (ap (λ o. option_or o (byte_from (Some i) (b ∷ bs) k)) was ∙ now)
 
 free_by : (k i b : ℕ) (bs : List ℕ) (m : List (Option ℕ)) → Order k i → get_or m i None ≡ None
     → ((k : ℕ) → i + 1 ≤ k → k < i + 1 + length bs → get_or (slice_set m i (Some b)) k None ≡ None)
@@ -92,7 +96,7 @@ unfolding put_once some_of
 puts i [] m n h e = let same : m ≡ n = ap (some_of m) e in record {
   len = ap length (sym same);
   free = λ k l r. absurd (omega arith);
-  each = λ k. ap (λ n. get_or n k None) (sym same) ∙ sym (ap (or_else (get_or m k None)) (none_by (nat_le i k) (k - i)) ∙ or_none (get_or m k None));
+  each = λ k. ap (λ n. get_or n k None) (sym same) ∙ sym (ap (option_or (get_or m k None)) (none_by (nat_le i k) (k - i)) ∙ or_none (get_or m k None));
 }
 puts i (b ∷ bs) m n h e = put_by (is_some (get_or m i None)) i b bs m n refl (omega arith)
     (puts (i + 1) bs (slice_set m i (Some b)) n (omega (arith, length-set m i (Some b)))) e

@@ -1,20 +1,18 @@
 -- The text of an image as it is written: words, lines, sections.
 use Rattle.std.proofs.Common.{◌≡◌, ℕ, ◌+◌, ◌*◌, ◌%◌, ◌/◌, List, [], ◌∷◌, ◌++◌, map, refl, ap, sym, ◌∙◌, append_assoc, ◌≤◌, ◌<◌, length, get_or, arith}
+use Rattle.std.proofs.Common.{append-nil}
 use Rattle.text_parts.specs.Groups.{groups}
 use Rattle.text_parts.specs.Hex.{upper_hex}
 use Rattle.text_parts.specs.Printed.{spaced, printed}
+use Rattle.text_parts.proofs.Printing.{printed_append}
+use Rattle.text_parts.proofs.Pieces.{behind, behind_is}
 use Rattle.image_text.specs.Text.{sections, Section, section_lines, lines_of_sections, text_of, upper_hex4, bytes_in, pair_text, tail_text}
 use Rattle.image_text.proofs.Back.{more_words}
-use Rattle.image_text.proofs.Cuts.{behind, behind_is}
-
-append_nil : (xs : List ℕ) → xs ++ [] ≡ xs
-append_nil [] = refl
-append_nil (x ∷ xs) = ap (λ r. x ∷ r) (append_nil xs)
 
 -- words behind a byte
 spaced_tail : (v : List ℕ) (ws : List ℕ) → spaced (v ∷ map upper_hex (bytes_in ws)) ≡ v ++ tail_text ws
 unfolding tail_text bytes_in
-spaced_tail v [] = sym (append_nil v)
+spaced_tail v [] = sym (append-nil v)
 spaced_tail v (w ∷ ws) = ap (λ r. v ++ 32 ∷ (upper_hex (w % 256) ++ 32 ∷ r)) (spaced_tail (upper_hex (w / 256)) ws)
     ∙ ap (λ r. v ++ 32 ∷ r) (sym (append_assoc (upper_hex (w % 256)) (32 ∷ upper_hex (w / 256)) (tail_text ws)))
 
@@ -35,18 +33,15 @@ section_written place ws a b c e f =
     let head : List ℕ = 64 ∷ upper_hex4 (17408 + 2 * place) in
     f ∙ ap (λ x. x ++ rest) (e ∙ append_assoc a head (10 ∷ [])) ∙ append_assoc a (head ++ 10 ∷ []) rest
 
-pub printed_append : (xs ys : List (List (List ℕ))) → printed (xs ++ ys) ≡ printed xs ++ printed ys
-unfolding printed
-printed_append [] ys = refl
-printed_append (x ∷ xs) ys = ap (λ r. (spaced x ++ 10 ∷ []) ++ r) (printed_append xs ys) ∙ sym (append_assoc (spaced x ++ 10 ∷ []) (printed xs) (printed ys))
-
 sections_printed : (s : Section) (ss : List Section) → printed (lines_of_sections (s ∷ ss)) ≡ printed (section_lines s) ++ printed (lines_of_sections ss)
 unfolding lines_of_sections
 sections_printed s ss = printed_append (section_lines s) (lines_of_sections ss)
 
-pub text_more : (s : Section) (ss all : List Section) (text a b : List ℕ) → a ++ printed (lines_of_sections all) ≡ text → all ≡ s ∷ ss → b ≡ a ++ printed (section_lines s)
+pub text_more : (s : Section) (ss all : List Section) (text a b : List ℕ) → a ++ printed (lines_of_sections all) ≡ text → all ≡ s ∷ ss
+    → b ≡ a ++ printed (section_lines s)
     → b ++ printed (lines_of_sections ss) ≡ text
-text_more s ss all text a b e f g = ap (λ x. x ++ printed (lines_of_sections ss)) g ∙ append_assoc a (printed (section_lines s)) (printed (lines_of_sections ss))
+text_more s ss all text a b e f g = ap (λ x. x ++ printed (lines_of_sections ss)) g
+    ∙ append_assoc a (printed (section_lines s)) (printed (lines_of_sections ss))
     ∙ ap (λ x. a ++ x) (sym (ap (λ all. printed (lines_of_sections all)) f ∙ sections_printed s ss)) ∙ e
 
 pub text_end : (all : List Section) (text a b : List ℕ) → a ++ printed (lines_of_sections all) ≡ text → all ≡ [] → b ≡ a ++ 113 ∷ 10 ∷ [] → b ≡ text
@@ -57,14 +52,16 @@ pub text_begins : (ws out : List ℕ) → out ++ printed (lines_of_sections (sec
 unfolding text_of
 text_begins ws out = refl
 
-pub pairs_written : (ws a b c : List ℕ) → 1 ≤ length ws → b ≡ a ++ pair_text (get_or ws 0 0) → c ≡ b ++ tail_text (behind 1 ws) → c ≡ a ++ spaced (map upper_hex (bytes_in ws))
+pub pairs_written : (ws a b c : List ℕ) → 1 ≤ length ws → b ≡ a ++ pair_text (get_or ws 0 0) → c ≡ b ++ tail_text (behind 1 ws)
+    → c ≡ a ++ spaced (map upper_hex (bytes_in ws))
 pairs_written [] a b c h e f = absurd (omega arith)
-pairs_written (w ∷ ws) a b c h e f = f ∙ ap (λ r. b ++ tail_text r) (behind_is 1 (w ∷ ws)) ∙ ap (λ x. x ++ tail_text ws) e ∙ append_assoc a (pair_text w) (tail_text ws) ∙ ap (λ x. a ++ x) (sym (spaced_pairs w ws))
+pairs_written (w ∷ ws) a b c h e f = f ∙ ap (λ r. b ++ tail_text r) (behind_is 1 (w ∷ ws)) ∙ ap (λ x. x ++ tail_text ws) e
+    ∙ append_assoc a (pair_text w) (tail_text ws) ∙ ap (λ x. a ++ x) (sym (spaced_pairs w ws))
 
 pub nothing_written : (ws a : List ℕ) → length ws < 1 → a ≡ a ++ spaced (map upper_hex (bytes_in ws))
-nothing_written [] a h = sym (ap (λ x. a ++ x) pairs_none ∙ append_nil a)
+nothing_written [] a h = sym (ap (λ x. a ++ x) pairs_none ∙ append-nil a)
 nothing_written (w ∷ ws) a h = absurd (omega arith)
 
 pub none_printed : (a : List ℕ) → a ++ printed [] ≡ a
 unfolding printed
-none_printed a = append_nil a
+none_printed a = append-nil a

@@ -16,6 +16,7 @@ drop_end (suc k) [] h = refl
 drop_end zero (x ∷ xs) h = absurd (omega arith)
 drop_end (suc k) (x ∷ xs) h = drop_end k xs (omega arith)
 
+-- behind the last byte nothing is put
 pub put_end : (i k : ℕ) (bs : List ℕ) (m : List (Option ℕ)) → length bs ≤ k → put_once i (drop k bs) m ≡ Some m
 unfolding put_once
 put_end i k bs m h = rw (drop_end k bs h) refl
@@ -25,11 +26,13 @@ put_at_cons : (t : Bool) (i b : ℕ) (bs : List ℕ) (m : List (Option ℕ)) →
 unfolding put_once
 put_at_cons t i b bs m e = rw e refl
 
+-- no byte is put where one was
 pub put_stop : (i k : ℕ) (bs : List ℕ) (m : List (Option ℕ)) (x : Option ℕ) → k < length bs → i < length m
     → x ≡ get_or m i x → true ≡ is_some x → put_once i (drop k bs) m ≡ None
 put_stop i k bs m x h l e f = ap (λ r. put_once i r m) (drop-cons bs k 0 h)
     ∙ put_at_cons true i _ _ m (ap is_some (in_list m i x None l e) ∙ sym f)
 
+-- a byte is put where none was
 pub put_more : (i k : ℕ) (bs : List ℕ) (m : List (Option ℕ)) (x : Option ℕ) → k < length bs → i < length m
     → x ≡ get_or m i x → false ≡ is_some x → put_once i (drop k bs) m ≡ put_once (i + 1) (drop (k + 1) bs) (slice_set m i (Some (get_or bs k 0)))
 put_more i k bs m x h l e f = ap (λ r. put_once i r m) (drop-cons bs k 0 h)

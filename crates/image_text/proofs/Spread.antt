@@ -1,5 +1,6 @@
 -- The sections of words place these words, so an image that is printed reads back.
-use Rattle.std.proofs.Common.{◌≡◌, ◌<◌, ℕ, suc, zero, ◌+◌, ◌*◌, ◌/◌, ◌%◌, ◌==◌, ◌||◌, List, [], ◌∷◌, ◌++◌, length, map, get_or, arith, refl, ap, sym, subst, ◌∙◌, if◌then◌else◌, not, Bool, true, false, Option, Some, None, Ok, append_assoc, length-append, All, ◌^◌, codes}
+use Rattle.std.proofs.Common.{◌≡◌, ◌<◌, ℕ, suc, zero, ◌+◌, ◌*◌, ◌/◌, ◌%◌, ◌==◌, ◌||◌, List, [], ◌∷◌, ◌++◌, length, map, get_or, arith, refl, ap, sym, subst}
+use Rattle.std.proofs.Common.{◌∙◌, if◌then◌else◌, not, Bool, true, false, Option, Some, None, Ok, append_assoc, length-append, All, ◌^◌, codes, append-nil}
 use Rattle.std.proofs.lemmas.Bool.Decides.{nat_tests}
 use Rattle.std.specs.Prelude.{is_some, unwrap_or}
 use Rattle.image_text.specs.Reading.{read, finish, words_of, empty, image_of, are_blank, map_behind}
@@ -7,11 +8,10 @@ use Rattle.image_text.specs.Text.{is_shown, begins_shown, onto_section, sections
 use Rattle.text_parts.specs.Lines.{lines, pieces}
 use Rattle.text_parts.specs.Fields.{fields, no_fields}
 use Rattle.text_parts.specs.Printed.{printed}
-use Rattle.text_parts.proofs.Printing.{AreWords, fields_spaced, lines_printed}
+use Rattle.text_parts.proofs.Printing.{AreWords, fields_spaced, lines_printed, printed_append}
 use Rattle.image_map.specs.MapValue.{MapValue}
 use Rattle.image_map.specs.Text.{map_fields, map_text}
-use Rattle.image_text.proofs.Printed.{printed_append}
-use Rattle.image_text.proofs.Places.{nones, append_nil}
+use Rattle.image_text.proofs.Places.{nones}
 use Rattle.image_text.proofs.Back.{AreWords16, one_word, more_words}
 use Rattle.image_text.proofs.Sections.{Holds, read_runs}
 
@@ -26,7 +26,8 @@ spread j [] = []
 spread j (w ∷ ws) = places (is_shown j w) w ++ spread (j + 1) ws
 
 -- two places more that are not given
-shift : (done : List (Option ℕ)) (rs : List Section) (k : ℕ) (final : List (Option ℕ)) → Holds (done ++ None ∷ None ∷ []) rs k final → Holds done rs (2 + k) final
+shift : (done : List (Option ℕ)) (rs : List Section) (k : ℕ) (final : List (Option ℕ)) → Holds (done ++ None ∷ None ∷ []) rs k final
+    → Holds done rs (2 + k) final
 shift done [] k final h = h ∙ append_assoc done (None ∷ None ∷ []) (nones k) ∙ ap (λ r. done ++ r) (two_more k)
   where
     two_more : (k : ℕ) → None ∷ None ∷ nones k ≡ nones (2 + k)
@@ -35,7 +36,8 @@ shift done (r ∷ rs) k final (gap, left, s, h) =
     let room : k ≡ gap + (length (bytes_in r.words) + left) = s.room in
     let here : 2 * r.place ≡ length (done ++ None ∷ None ∷ []) + gap = s.here in
     let len : length (done ++ None ∷ None ∷ []) ≡ length done + 2 = length-append done (None ∷ None ∷ []) in
-    let joins : (done ++ None ∷ None ∷ []) ++ nones gap ≡ done ++ nones (2 + gap) = append_assoc done (None ∷ None ∷ []) (nones gap) ∙ ap (λ n. done ++ nones n) (let e : suc (suc gap) ≡ 2 + gap = omega arith in e) in
+    let joins : (done ++ None ∷ None ∷ []) ++ nones gap ≡ done ++ nones (2 + gap) = append_assoc done (None ∷ None ∷ []) (nones gap)
+    ∙ ap (λ n. done ++ nones n) (let e : suc (suc gap) ≡ 2 + gap = omega arith in e) in
     let P : List (Option ℕ) → Type 0 = λ d. Holds (d ++ map Some (bytes_in r.words)) rs left final in
     (2 + gap, left, record { room = omega arith; here = omega arith; are_words = s.are_words; some = s.some }, subst P joins h)
 
@@ -46,11 +48,13 @@ alone done j w rs k final h e l =
     let b : bytes_in (w ∷ []) ≡ w % 256 ∷ w / 256 ∷ [] = one_word w in
     let len : length (bytes_in (w ∷ [])) ≡ 2 = ap length b in
     let Q : List (Option ℕ) → Type 0 = λ d. Holds d rs k final in
-    let joins : done ++ Some (w % 256) ∷ Some (w / 256) ∷ [] ≡ (done ++ []) ++ map Some (bytes_in (w ∷ [])) = ap (λ d. d ++ Some (w % 256) ∷ Some (w / 256) ∷ []) (sym (append_nil done)) ∙ ap (λ bs. (done ++ []) ++ map Some bs) (sym b) in
+    let joins : done ++ Some (w % 256) ∷ Some (w / 256) ∷ [] ≡ (done ++ []) ++ map Some (bytes_in (w ∷ [])) =
+    ap (λ d. d ++ Some (w % 256) ∷ Some (w / 256) ∷ []) (sym (append-nil done)) ∙ ap (λ bs. (done ++ []) ++ map Some bs) (sym b) in
     (0, k, record { room = omega arith; here = omega arith; are_words = (h, tt); some = omega arith }, subst Q joins l)
 
 -- a word before the first of a run
-joined_on : (done : List (Option ℕ)) (j w : ℕ) (r : Section) (rs : List Section) (k : ℕ) (final : List (Option ℕ)) → w < 65536 → length done ≡ 2 * j → r.place ≡ j + 1
+joined_on : (done : List (Option ℕ)) (j w : ℕ) (r : Section) (rs : List Section) (k : ℕ) (final : List (Option ℕ)) → w < 65536 → length done ≡ 2 * j
+    → r.place ≡ j + 1
     → Holds (done ++ Some (w % 256) ∷ Some (w / 256) ∷ []) (r ∷ rs) k final → Holds done (record { place = j; words = w ∷ r.words } ∷ rs) (2 + k) final
 joined_on done j w r rs k final h e at (gap, left, s, l) =
     let pair : List (Option ℕ) = Some (w % 256) ∷ Some (w / 256) ∷ [] in
@@ -63,9 +67,9 @@ joined_on done j w r rs k final h e at (gap, left, s, l) =
     let Q : List (Option ℕ) → Type 0 = λ d. Holds d rs left final in
     let joins : ((done ++ pair) ++ nones gap) ++ map Some (bytes_in r.words) ≡ (done ++ []) ++ map Some (bytes_in (w ∷ r.words)) =
     ap (λ g. ((done ++ pair) ++ nones g) ++ map Some (bytes_in r.words)) none
-    ∙ ap (λ d. d ++ map Some (bytes_in r.words)) (append_nil (done ++ pair))
+    ∙ ap (λ d. d ++ map Some (bytes_in r.words)) (append-nil (done ++ pair))
     ∙ append_assoc done pair (map Some (bytes_in r.words))
-    ∙ ap (λ d. d ++ (pair ++ map Some (bytes_in r.words))) (sym (append_nil done))
+    ∙ ap (λ d. d ++ (pair ++ map Some (bytes_in r.words))) (sym (append-nil done))
     ∙ ap (λ bs. (done ++ []) ++ map Some bs) (sym b) in
     (0, left, record { room = omega arith; here = omega arith; are_words = (h, s.are_words); some = omega arith }, subst Q joins l)
 
@@ -116,9 +120,12 @@ runs_hold done j (w ∷ ws) h e =
     let len : length next ≡ 2 * (j + 1) = omega (arith, length-append done pair, length_places (is_shown j w) w) in
     let more = runs_hold next (j + 1) ws h.1 len in
     let P : List (Option ℕ) → Type 0 = λ f. Holds next (sections (j + 1) ws) (2 * length ws) f in
-    let Q : ℕ → Type 0 = λ k. Holds done (if is_shown j w then onto_section j w (begins_shown (j + 1) ws) (sections (j + 1) ws) else sections (j + 1) ws) k (done ++ (pair ++ spread (j + 1) ws)) in
+    let Q : ℕ → Type 0 =
+    λ k. Holds done (if is_shown j w then onto_section j w (begins_shown (j + 1) ws) (sections (j + 1) ws) else sections (j + 1) ws) k
+    (done ++ (pair ++ spread (j + 1) ws)) in
     subst Q (let k : 2 + 2 * length ws ≡ 2 * suc (length ws) = omega arith in k)
-    (word_holds (is_shown j w) (begins_shown (j + 1) ws) done j w (sections (j + 1) ws) (2 * length ws) (done ++ (pair ++ spread (j + 1) ws)) h.0 e (begins (j + 1) ws)
+    (word_holds (is_shown j w) (begins_shown (j + 1) ws) done j w (sections (j + 1) ws) (2 * length ws) (done ++ (pair ++ spread (j + 1) ws)) h.0 e
+    (begins (j + 1) ws)
     (subst P (append_assoc done pair (spread (j + 1) ws)) more))
 
 -- a word that isn't shown is 0
@@ -159,7 +166,8 @@ get_by false w m i h = (rw (two_suc i) h.0, rw (two_suc' i) h.1)
     two_suc' : (i : ℕ) → 2 * suc i + 1 ≡ suc (suc (2 * i + 1))
     two_suc' i = omega arith
 
-first_by : (t : Bool) (w : ℕ) (m : List (Option ℕ)) → t ≡ true → (is_some (get_or (places t w ++ m) 0 None) ≡ true) × (is_some (get_or (places t w ++ m) 1 None) ≡ true)
+first_by : (t : Bool) (w : ℕ) (m : List (Option ℕ)) → t ≡ true
+    → (is_some (get_or (places t w ++ m) 0 None) ≡ true) × (is_some (get_or (places t w ++ m) 1 None) ≡ true)
 first_by true w m e = (refl, refl)
 first_by false w m e = cc
 
@@ -171,7 +179,8 @@ shown_given j zero (w ∷ ws) h e = first_by (is_shown j w) w (spread (j + 1) ws
 shown_given j (suc i) (w ∷ ws) h e = get_by (is_shown j w) w (spread (j + 1) ws) i
     (shown_given (j + 1) i ws (omega arith) (ap (λ k. is_shown k (get_or ws i 0)) (let z : j + 1 + i ≡ j + suc i = omega arith in z) ∙ e))
 
-empty_is : (n : ℕ) → empty n ≡ nones n
+-- the memory at first has nothing in it
+pub empty_is : (n : ℕ) → empty n ≡ nones n
 unfolding empty
 empty_is zero = refl
 empty_is (suc n) = ap (λ r. None ∷ r) (empty_is n)
@@ -200,7 +209,8 @@ behind_back : (o : Option MapValue) (n : ℕ) → IsReadBack o → map_behind n 
 behind_back None n h = rw (no_lines, none_blank) refl
 behind_back (Some m) n h = rw (map_lines_there m, (h n).1) refl
 
-finished : (m : ℕ) (ws : List ℕ) (o : Option MapValue) → length ws ≡ 24064 → IsReadBack o → finish m (spread 0 ws) (lines (printed (map_part o))) ≡ Ok (record { words = ws; map = o })
+finished : (m : ℕ) (ws : List ℕ) (o : Option MapValue) → length ws ≡ 24064 → IsReadBack o
+    → finish m (spread 0 ws) (lines (printed (map_part o))) ≡ Ok (record { words = ws; map = o })
 finished m ws o e h =
     let last : is_shown (0 + 24063) (get_or ws 24063 0) ≡ true = last_shown (get_or ws 24063 0) in
     let given = shown_given 0 24063 ws (omega arith) last in
@@ -220,20 +230,24 @@ back k ws o h e b f =
     let P : ℕ → Type 0 = λ k. Holds [] (sections 0 ws) k (spread 0 ws) in
     let run = read_runs 1 None [] (sections 0 ws) k (spread 0 ws) (map_part o) (subst P (sym f) (runs_hold [] 0 ws h refl)) (omega arith) in
     ap (λ t. read 1 (record { next = None; memory = empty k }) (lines t)) (sym (printed_append (lines_of_sections (sections 0 ws)) (map_part o)))
-    ∙ ap (λ m. read 1 (record { next = None; memory = m }) (lines (printed (lines_of_sections (sections 0 ws) ++ map_part o)))) (empty_is k) ∙ run.1 ∙ finished run.0 ws o e b
+    ∙ ap (λ m. read 1 (record { next = None; memory = m }) (lines (printed (lines_of_sections (sections 0 ws) ++ map_part o)))) (empty_is k) ∙ run.1
+    ∙ finished run.0 ws o e b
 
 -- what is printed of an image is read as that image
-pub image_back : (ws : List ℕ) (o : Option MapValue) → AreWords16 ws → length ws ≡ 24064 → IsReadBack o → image_of (text_of ws ++ printed (map_part o)) ≡ Ok (record { words = ws; map = o })
+pub image_back : (ws : List ℕ) (o : Option MapValue) → AreWords16 ws → length ws ≡ 24064 → IsReadBack o
+    → image_of (text_of ws ++ printed (map_part o)) ≡ Ok (record { words = ws; map = o })
 image_back ws o h e b =
     let k : 48128 ≡ 2 * length ws = omega arith in
     back 48128 ws o h e b k
 
-words16 : (ws : List ℕ) → All (λ w. w < 2 ^ 16) ws → AreWords16 ws
+-- words below 2^16, one after another
+pub words16 : (ws : List ℕ) → All (λ w. w < 2 ^ 16) ws → AreWords16 ws
 words16 [] h = tt
 words16 (w ∷ ws) h = (h 0 w (omega arith), words16 ws (λ i d l. h (suc i) d (omega arith)))
 
 -- the same, where the words are known by another list
-pub printed_back : (ws rest text : List ℕ) (o : Option MapValue) → rest ≡ ws → length rest ≡ 24064 → All (λ (w : ℕ). w < 2 ^ 16) rest → IsReadBack o → text ≡ text_of ws ++ printed (map_part o)
+pub printed_back : (ws rest text : List ℕ) (o : Option MapValue) → rest ≡ ws → length rest ≡ 24064 → All (λ (w : ℕ). w < 2 ^ 16) rest → IsReadBack o
+    → text ≡ text_of ws ++ printed (map_part o)
     → image_of text ≡ Ok (record { words = ws; map = o })
 printed_back ws rest text o e len ranges b is =
     let P : List ℕ → Type 0 = λ ws. image_of (text_of ws ++ printed (map_part o)) ≡ Ok (record { words = ws; map = o }) in

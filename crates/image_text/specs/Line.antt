@@ -2,6 +2,7 @@
 use Rattle.std.specs.Prelude.{ℕ, ◌+◌, ◌*◌, ◌==◌, ◌&&◌, ◌||◌, Bool, true, false, nat_le, if◌then◌else◌, List, [], ◌∷◌, length, Option, Some, None}
 use Rattle.text_parts.specs.Fields.{fields, begins_blank}
 use Rattle.text_parts.specs.Hex.{hex_digit}
+pub use Rattle.text_parts.specs.Sequence.{◌>>?◌}
 
 -- a line says nothing, where the next byte stands, the next bytes, or that the image ends
 pub data LineMeaning : Type 0 where
@@ -9,12 +10,6 @@ pub data LineMeaning : Type 0 where
   address : ℕ → LineMeaning
   bytes : List ℕ → LineMeaning
   quit : LineMeaning
-
-infixl 10 ◌>>?◌
--- the second step behind the first, where there is a value
-abbrev pub ◌>>?◌ : {A B : Type 0} → Option A → (A → Option B) → Option B
-(Some x) >>? f = f x
-None >>? f = None
 
 -- a byte: two hexadecimal digits
 abbrev pub byte_of : List ℕ → Option ℕ

@@ -1,13 +1,15 @@
 -- When lines are an image, and which fault is the first, said by the lines themselves.
-use Rattle.std.specs.Prelude.{◌≡◌, ℕ, ◌+◌, ◌-◌, ◌*◌, ◌<◌, ◌≤◌, ◌⊎◌, true, nat_le, if◌then◌else◌, List, [], ◌∷◌, ◌++◌, length, map, Option, Some, None, Ok, Err, Result, slice_get, slice_index, is_some, unwrap_or}
+use Rattle.std.specs.Prelude.{◌≡◌, ℕ, ◌+◌, ◌-◌, ◌*◌, ◌<◌, ◌≤◌, ◌⊎◌, true, nat_le, if◌then◌else◌, List, [], ◌∷◌, ◌++◌, length, map, Option, Some, None, Ok, Err}
+use Rattle.std.specs.Prelude.{Result, slice_get, slice_index, is_some, unwrap_or}
+use Rattle.std.specs.Option.{option_or}
 use Rattle.text_parts.specs.Fields.{fields, no_fields}
-use Rattle.image_text.specs.declared.fault.ImageFault.{ImageFault}
-use Rattle.image_text.specs.declared.fault.ImageFault.TheVariants as fault
 use Rattle.image_map.specs.declared.fault.MapFault.TheVariants as map_fault
+use Rattle.image_text.specs.declared.fault.ImageFault.{ImageFault}
 use Rattle.image_map.specs.MapValue.{MapValue}
 use Rattle.image_map.specs.Reading.{map_lines}
 use Rattle.image_text.specs.ImageValue.{ImageValue}
 use Rattle.image_text.specs.Line.{LineMeaning, nothing, address, bytes, quit, line_says}
+use Rattle.image_text.specs.declared.fault.ImageFault.TheVariants as fault
 
 -- so many bytes behind an address
 abbrev pub moved : ℕ → Option ℕ → Option ℕ
@@ -27,17 +29,12 @@ abbrev pub byte_from : Option ℕ → List ℕ → ℕ → Option ℕ
 byte_from None bs x = None
 byte_from (Some a) bs x = if nat_le a x then slice_get bs (x - a) else None
 
--- the first byte that is given
-abbrev pub or_else : Option ℕ → Option ℕ → Option ℕ
-or_else (Some b) o = Some b
-or_else None o = o
-
 -- the byte that lines give at x, if one does; `a` is the address of the next byte before them
 abbrev pub byte_at : Option ℕ → List LineMeaning → ℕ → Option ℕ
 byte_at a [] x = None
 byte_at a (nothing ∷ ms) x = byte_at a ms x
 byte_at a (address b ∷ ms) x = byte_at (Some b) ms x
-byte_at a (bytes bs ∷ ms) x = or_else (byte_from a bs x) (byte_at (moved (length bs) a) ms x)
+byte_at a (bytes bs ∷ ms) x = option_or (byte_from a bs x) (byte_at (moved (length bs) a) ms x)
 byte_at a (quit ∷ ms) x = byte_at a ms x
 
 -- the byte that lines of a text give at x
@@ -132,10 +129,12 @@ IsBadMap ls n m = NotBlank ls × ((map_lines n ls ≡ Err (map_fault.BadMap m))
 
 -- what lines come to: an image that they are, or the first fault; nothing is said where memory was refused
 abbrev pub IsMeaningOf : List (List ℕ) → Result ImageValue ImageFault → Type 0
-IsMeaningOf ls (Ok v) = (ms : List LineMeaning) × (rest : List (List ℕ)) × (n : ℕ) × EndsAt ls ms rest n × HasReset ms × IsMapOf rest n v.map × IsImageOf ms v.words
+IsMeaningOf ls (Ok v) =
+    (ms : List LineMeaning) × (rest : List (List ℕ)) × (n : ℕ) × EndsAt ls ms rest n × HasReset ms × IsMapOf rest n v.map × IsImageOf ms v.words
 IsMeaningOf ls (Err (fault.BadLine n)) = FaultAt ls n IsBadLine ⊎ ((ms : List LineMeaning) × AreLines ls ms × (n ≡ length ls + 1))
 IsMeaningOf ls (Err (fault.OutsideFram n)) = FaultAt ls n IsOutside
 IsMeaningOf ls (Err (fault.Twice n)) = FaultAt ls n IsTwice
-IsMeaningOf ls (Err fault.NoReset) = (ms : List LineMeaning) × (rest : List (List ℕ)) × (n : ℕ) × EndsAt ls ms rest n × ((given ms 65534 ≡ None) ⊎ (given ms 65535 ≡ None))
+IsMeaningOf ls (Err fault.NoReset) =
+    (ms : List LineMeaning) × (rest : List (List ℕ)) × (n : ℕ) × EndsAt ls ms rest n × ((given ms 65534 ≡ None) ⊎ (given ms 65535 ≡ None))
 IsMeaningOf ls (Err (fault.BadMap m)) = (ms : List LineMeaning) × (rest : List (List ℕ)) × (n : ℕ) × EndsAt ls ms rest n × HasReset ms × IsBadMap rest n m
 IsMeaningOf ls (Err fault.Memory) = Unit {0}

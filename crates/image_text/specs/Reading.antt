@@ -1,22 +1,18 @@
 -- What a text says as an image: line by line, what is placed so far, or the first fault.
-use Rattle.std.specs.Prelude.{◌≡◌, ℕ, ◌+◌, ◌*◌, ◌&&◌, Bool, true, false, if◌then◌else◌, List, [], ◌∷◌, Option, Some, None, Result, Ok, Err, slice_index_or, is_some, unwrap_or, replicate}
+use Rattle.std.specs.Prelude.{◌≡◌, ℕ, ◌+◌, ◌*◌, ◌&&◌, Bool, true, false, if◌then◌else◌, List, [], ◌∷◌, Option, Some, None, Result, Ok, Err, slice_index_or}
+use Rattle.std.specs.Prelude.{is_some, unwrap_or, replicate}
 use Rattle.text_parts.specs.Fields.{fields, no_fields}
 use Rattle.text_parts.specs.Lines.{lines}
+pub use Rattle.text_parts.specs.Sequence.{◌>>=◌}
 use Rattle.image_text.specs.declared.fault.ImageFault.{ImageFault}
-use Rattle.image_text.specs.declared.fault.ImageFault.TheVariants as fault
 use Rattle.image_map.specs.declared.fault.MapFault.{MapFault}
 use Rattle.image_map.specs.MapValue.{MapValue}
-use Rattle.image_map.specs.Reading.{MapLines, map_lines}
+use Rattle.image_map.specs.Reading.{MapLines, map_lines, goes_on}
 use Rattle.image_text.specs.Faults.{image_fault}
 use Rattle.image_text.specs.ImageValue.{ImageValue}
 use Rattle.image_text.specs.Line.{line_says}
 use Rattle.image_text.specs.Memory.{Placed, step}
-
-infixl 10 ◌>>=◌
--- the second step behind the first, where that has no fault
-abbrev pub ◌>>=◌ : {A B : Type 0} → Result A ImageFault → (A → Result B ImageFault) → Result B ImageFault
-(Ok x) >>= f = f x
-(Err e) >>= f = Err e
+use Rattle.image_text.specs.declared.fault.ImageFault.TheVariants as fault
 
 -- so many places, none given
 unfoldable pub empty : ℕ → List (Option ℕ)
@@ -49,11 +45,6 @@ image_behind n words ls = map_behind n ls >>= λ o. Ok (record { words = words; 
 -- the image of what is placed, with the lines from the n-th on behind it; places 48126 and 48127 are FFFE and FFFF
 abbrev pub finish : ℕ → List (Option ℕ) → List (List ℕ) → Result ImageValue ImageFault
 finish n m ls = if is_some (slice_index_or m 48126 None) && is_some (slice_index_or m 48127 None) then image_behind n (words_of m) ls else Err fault.NoReset
-
--- what comes later, or the end
-abbrev pub goes_on : {A : Type 0} → Bool → A → A → A
-goes_on true later end = later
-goes_on false later end = end
 
 -- the lines from the n-th on, behind what is placed
 unfoldable pub read : ℕ → Placed → List (List ℕ) → Result ImageValue ImageFault

@@ -12,6 +12,3 @@ pub use fault::ImageFault;
 pub use image::Image;
 pub use parse::parse_image;
 pub use print::{cut_section, print_image};
-
-#[cfg(test)]
-mod tests;

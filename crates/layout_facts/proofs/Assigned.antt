@@ -11,6 +11,7 @@ use Rattle.cost_bound.specs.Allowance.{CheckedProgram, CheckedTask, is_written}
 use Rattle.war_analysis.specs.PlanValue.{TaskPlanValue}
 use Rattle.war_analysis.specs.Plans.{IsPrivateIn, IsVersionedIn}
 use Rattle.war_analysis.proofs.Counted.{privates_counted}
+use Rattle.war_analysis.proofs.Steps.{element}
 use Rattle.privatise.specs.declared.place.ArrayCopies.{ArrayCopies}
 use Rattle.privatise.specs.declared.place.VariablePlace.TheVariants.{Scalar, Array}
 use Rattle.privatise.specs.declared.place.PrivateScalar.{PrivateScalar}
@@ -19,7 +20,7 @@ use Rattle.privatise.specs.Places.{HasItsPlace}
 use Rattle.lower.specs.Places.{places_of, copy_among, home_of, home_in, copy_else, address_of}
 use Rattle.layout_facts.specs.Facts.{HasLayout, IsTaskAt}
 use Rattle.layout_facts.specs.Laws.{TasksMatch, TaskMatches, AddressesAre, AddressIs}
-use Rattle.layout_facts.proofs.Lists.{there_is, place_of, contains_at}
+use Rattle.layout_facts.proofs.Lists.{place_of, contains_at}
 use Rattle.layout_facts.proofs.Privates.{Privates, privates_of, ascending_numbers}
 use Rattle.layout_facts.proofs.TaskPlaces.{among_is}
 use Rattle.layout_facts.proofs.Planned.{array_declared, array_extent, array_has_place, places_match}
@@ -95,7 +96,7 @@ module _ (p : CheckedProgram) (allow : Allow) (plans : List TaskPlanValue) (l : 
       let numbers = mine.numbers in
       let c = mine.is_plan.private_scalars.each v a in
       let lt = c.1 in
-      let s = there_is layout.privates c.0 (omega (arith, lt, length-map layout.privates (λ (s : PrivateScalar). s.number), ap length numbers)) in
+      let s = element layout.privates c.0 (omega (arith, lt, length-map layout.privates (λ (s : PrivateScalar). s.number), ap length numbers)) in
       let same : get_or (map (λ (s : PrivateScalar). s.number) layout.privates) c.0 v ≡ v = ap (λ (xs : List ℕ). get_or xs c.0 v) numbers ∙ c.2 in
       (c.0, s.0, s.1, sym (number_at layout.privates c.0 s.0 v s.1) ∙ same)
 

@@ -4,9 +4,9 @@ use Rattle.std.specs.Prelude.{slice_get, All}
 use Rattle.std.proofs.lemmas.List.Elements.{All-head, All-tail}
 use Rattle.cost_bound.specs.Counts.{Code, emits_of}
 use Rattle.cost_bound.specs.Allowance.{CheckedProgram, CheckedTask, greatest, list_of}
+use Rattle.war_analysis.proofs.Steps.{element}
 use Rattle.source_values.specs.Runs.{body_of, task_body}
 use Rattle.layout_facts.specs.Laws.{PlacesAreApart, TasksHaveRoom}
-use Rattle.layout_facts.proofs.Lists.{there_is}
 
 pub places_are_apart : PlacesAreApart
 places_are_apart p allow plans l h =
@@ -50,7 +50,7 @@ greatest_within f most (t ∷ ts) h =
 -- the body of a task that there is
 body_within : (f : Code → ℕ) (p : CheckedProgram) (t : ℕ) → t < length p.tasks → f (task_body p t) ≤ greatest f p.tasks
 body_within f p t lt =
-    let task = there_is p.tasks t lt in
+    let task = element p.tasks t lt in
     subst (λ x. f x ≤ greatest f p.tasks) (sym (ap body_of task.1)) (at_most_greatest f p.tasks t task.0 task.1)
 
 pub tasks_have_room : TasksHaveRoom

@@ -1,6 +1,6 @@
 -- Names that are used as they were declared fit a task's places.
-use Rattle.std.proofs.Common.{◌≡◌, ℕ, Bool, true, false, ◌||◌, List, subst, sym, Some, None, refl}
-use Rattle.std.proofs.lemmas.Bool.{eq-eqb}
+use Rattle.std.proofs.Common.{◌≡◌, ℕ, Bool, true, List, subst, sym, Some, None, refl}
+use Rattle.std.proofs.lemmas.Bool.{eq-eqb, or_left, or_right}
 use Rattle.task_ast.specs.declared.SharedDeclaration.{SharedDeclaration}
 use Rattle.task_ast.specs.declared.names.Variable.{Variable}
 use Rattle.task_ast.specs.declared.names.Variable.TheVariants.{Shared, Local}
@@ -9,20 +9,12 @@ use Rattle.task_ast.specs.Paths.{CheckedExpression, CheckedStatement, CheckedCho
 use Rattle.cost_bound.specs.Counts.{is_shared, statement_assigns, choice_assigns, block_assigns}
 use Rattle.war_analysis.specs.Plans.{IsScalarAt, IsArrayAt}
 use Rattle.lower.specs.Places.{Places, places_of}
-use Rattle.lower.specs.Spots as spots
 use Rattle.lower.specs.Agreement.{IsKnown, IsTarget, IsArray, IsWrittenArray, IsLocal, ExpressionFits, StatementFits, ChoiceFits, BlockFits}
 use Rattle.checked_uses.specs.Uses.{IsWordName, IsArrayName, IsLocalName, ExpressionUses, StatementUses, ChoiceUses, BlockUses}
+use Rattle.lower.specs.Spots as spots
 use Rattle.layout_facts.specs.Laws.{NamesFit}
 use Rattle.layout_facts.proofs.Planned.{scalar_has_place, array_has_place, array_declared, array_extent}
 use Rattle.layout_facts.proofs.Assigned.{stored_has_copies}
-
-or_left : (a b : Bool) → a ≡ true → (a || b) ≡ true
-or_left true b h = refl
-or_left false b h = let no : false ≡ true = h in cc
-
-or_right : (a b : Bool) → b ≡ true → (a || b) ≡ true
-or_right true b h = refl
-or_right false b h = h
 
 -- what the places have: declared scalars and arrays, and copies of the arrays that are written
 record Have (shared : List SharedDeclaration) (p : Places) (written : ℕ → Bool) : Type 0 where

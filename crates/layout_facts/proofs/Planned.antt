@@ -9,6 +9,7 @@ use Rattle.cost_bound.specs.declared.allowance.Allow.{Allow}
 use Rattle.cost_bound.specs.Allowance.{CheckedProgram, is_written}
 use Rattle.war_analysis.specs.PlanValue.{TaskPlanValue}
 use Rattle.war_analysis.specs.Plans.{is_scalar, IsScalarAt, IsArrayAt}
+use Rattle.war_analysis.proofs.Steps.{element}
 use Rattle.privatise.specs.declared.place.ArrayCopies.{ArrayCopies}
 use Rattle.privatise.specs.declared.place.VariablePlace.{VariablePlace}
 use Rattle.privatise.specs.declared.place.VariablePlace.TheVariants.{Scalar, Array}
@@ -16,7 +17,6 @@ use Rattle.privatise.specs.LayoutValue.{LayoutValue}
 use Rattle.privatise.specs.Layouts.{IsPlaceOf}
 use Rattle.layout_facts.specs.Facts.{HasLayout}
 use Rattle.layout_facts.specs.Laws.{PlacesAreDeclared, PlacesMatch}
-use Rattle.layout_facts.proofs.Lists.{there_is}
 
 -- ---- declarations
 
@@ -84,7 +84,7 @@ module _ (p : CheckedProgram) (allow : Allow) (plans : List TaskPlanValue) (l : 
   its_place v d e =
       let lt = slice_get_within p.shared v d e in
       let count = h.layout.variables.count in
-      let x = there_is l.variables v (omega (arith, lt, count)) in
+      let x = element l.variables v (omega (arith, lt, count)) in
       (x.0, x.1, h.layout.variables.each v d x.0 e x.1)
 
   -- a place's declaration
@@ -93,7 +93,7 @@ module _ (p : CheckedProgram) (allow : Allow) (plans : List TaskPlanValue) (l : 
   its_declaration v x e =
       let lt = slice_get_within l.variables v x e in
       let count = h.layout.variables.count in
-      let d = there_is p.shared v (omega (arith, lt, count)) in
+      let d = element p.shared v (omega (arith, lt, count)) in
       (d.0, d.1, h.layout.variables.each v d.0 x d.1 e)
 
   pub scalar_has_place : (v : ℕ) → IsScalarAt p.shared v → (home copy : ℕ) × (slice_get l.variables v ≡ Some (Scalar home copy))

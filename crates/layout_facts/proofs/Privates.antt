@@ -9,6 +9,7 @@ use Rattle.cost_bound.specs.declared.allowance.Allow.{Allow}
 use Rattle.cost_bound.specs.Allowance.{CheckedProgram, CheckedTask}
 use Rattle.war_analysis.specs.PlanValue.{TaskPlanValue}
 use Rattle.war_analysis.specs.Plans.{IsTaskPlan}
+use Rattle.war_analysis.proofs.Steps.{element}
 use Rattle.privatise.specs.declared.place.Region.{Region}
 use Rattle.privatise.specs.declared.place.VariablePlace.TheVariants.{Scalar}
 use Rattle.privatise.specs.declared.place.PrivateScalar.{PrivateScalar}
@@ -22,7 +23,6 @@ use Rattle.stands_for.specs.Layout.{IsSharedWord, IsCopyWord, IsAmong, ArePrivat
 use Rattle.compiled_model.specs.Places.{program_places}
 use Rattle.layout_facts.specs.Facts.{HasLayout, IsTaskAt, IsWordOf}
 use Rattle.layout_facts.specs.Laws.{PrivatesAreTheirs, ScalarsStand}
-use Rattle.layout_facts.proofs.Lists.{there_is}
 use Rattle.layout_facts.proofs.Regions.{IsIn, within, before, alone}
 use Rattle.layout_facts.proofs.Homes.{words_of_variables_are_shared}
 
@@ -54,7 +54,7 @@ scalars_stand p allow plans l h v home copy e = record {
 -- a task's plan
 pub plan_at : (p : CheckedProgram) (plans : List TaskPlanValue) (t : ℕ) (task : CheckedTask) → length plans ≡ length p.tasks → slice_get p.tasks t ≡ Some task
     → (plan : TaskPlanValue) × (slice_get plans t ≡ Some plan)
-plan_at p plans t task count e = let lt = slice_get_within p.tasks t task e in there_is plans t (omega (arith, lt, count))
+plan_at p plans t task count e = let lt = slice_get_within p.tasks t task e in element plans t (omega (arith, lt, count))
 
 -- numbers in ascending order: the first is below each of the others
 first_below : (s : PrivateScalar) (xs : List PrivateScalar) (k : ℕ) (q : PrivateScalar) → AllPairs ◌<◌ (map (λ s. s.number) (s ∷ xs)) → slice_get xs k ≡ Some q
@@ -148,8 +148,8 @@ privates_are_theirs p allow plans l h t = pick (cases_lt t (length l.tasks))
     there : t < length l.tasks → ArePrivate (program_places p l) t (privates_in (task_entries l) t)
     there lt =
         let count = h.layout.tasks.count in
-        let layout = there_is l.tasks t lt in
-        let task = there_is p.tasks t (omega (arith, lt, count)) in
+        let layout = element l.tasks t lt in
+        let task = element p.tasks t (omega (arith, lt, count)) in
         let k = privates_of p allow plans l h t task.0 layout.0 (record { is_task = task.1; is_layout = layout.1 }) in
         subst (ArePrivate (program_places p l) t) (sym (entry_is l t layout.0 layout.1))
         (are_private p l h.layout.rules (words_of_variables_are_shared p allow plans l h) t layout.0.privates

@@ -8,6 +8,7 @@ use Rattle.task_ast.specs.declared.Extent.{Extent}
 use Rattle.task_ast.specs.declared.Extent.TheVariants as extent
 use Rattle.task_ast.specs.declared.SharedDeclaration.{SharedDeclaration}
 use Rattle.cost_bound.specs.Allowance.{is_written}
+use Rattle.war_analysis.proofs.Steps.{element}
 use Rattle.source_values.specs.Runs.{initial_words}
 use Rattle.privatise.specs.declared.place.Region.{Region}
 use Rattle.privatise.specs.declared.place.VariablePlace.{VariablePlace}
@@ -19,7 +20,6 @@ use Rattle.privatise.proofs.Apart.{mapped}
 use Rattle.lower.specs.Agreement.{place_length}
 use Rattle.compiled_model.specs.View.{is_within, word_of_row, shared_word, are_rows}
 use Rattle.layout_facts.specs.Laws.{ViewHasTheirWords, RowsFitPlaces}
-use Rattle.layout_facts.proofs.Lists.{there_is}
 
 is_in : (r : Region) (i a : ℕ) → i < r.words → a ≡ 2 * i + r.address → is_within r a ≡ true
 is_in r i a b e = and_from _ _ (le-leb r.address a (omega (arith, e))) (lt-ltb a (end_of r) (omega (arith, e, b)))
@@ -75,6 +75,6 @@ pub rows_fit_places : RowsFitPlaces
 rows_fit_places p allow plans l h rows v place r e =
     let lt = slice_get_within l.variables v place e in
     let count = h.layout.variables.count in
-    let d = there_is p.shared v (omega (arith, lt, count)) in
+    let d = element p.shared v (omega (arith, lt, count)) in
     let k = row_is p.shared rows v d.0 r d.1 in
     (k.0, k.1 ∙ initial_length (is_written p.tasks v) d.0.extent place (h.layout.variables.each v d.0 place d.1 e))

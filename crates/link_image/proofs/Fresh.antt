@@ -1,5 +1,5 @@
 -- The world of an image before anything was done.
-use Rattle.std.proofs.Common.{◌≡◌, ◌≢◌, ℕ, zero, suc, ◌+◌, ◌-◌, ◌*◌, ◌/◌, ◌%◌, ◌<◌, ◌≤◌, ◌==◌, ◌&&◌, nat_le, nat_lt, if◌then◌else◌, cond, ne_eqb, refl, sym, ap, ap₂, ◌∙◌, subst, arith, Bool, true, false, List, [], ◌∷◌, length, map, All}
+use Rattle.std.proofs.Common.{◌≡◌, ◌≢◌, ℕ, zero, suc, ◌+◌, ◌-◌, ◌*◌, ◌/◌, ◌%◌, ◌<◌, ◌≤◌, ◌==◌, ◌&&◌, nat_le, nat_lt, if◌then◌else◌, cond, ne_eqb, refl, sym, ap, ap₂, ◌∙◌, subst, arith, true, false, List, [], ◌∷◌, length, map, All}
 use Rattle.std.proofs.lemmas.Bool.Decides.{nat_tests}
 use Rattle.std.specs.Prelude.{slice_index}
 use Rattle.cost_bound.specs.declared.allowance.Allow.{Allow}
@@ -18,6 +18,7 @@ use Rattle.privatise.specs.LayoutValue.{LayoutValue, TaskLayoutValue}
 use Rattle.privatise.specs.Places.{end_of, home_region, AreInOrder, IsLaidOut}
 use Rattle.stands_for.specs.Layout.{IsSharedWord}
 use Rattle.stands_for.specs.StandsFor.{HoldsWords, IsOpen, RestsAt}
+use Rattle.array_versions.proofs.Words.{zero_unless}
 use Rattle.lower.specs.Lowered.{lowered}
 use Rattle.layout_facts.specs.Facts.{HasLayout}
 use Rattle.layout_facts.proofs.Assigned.{tasks_match}
@@ -66,12 +67,8 @@ none_before (v ∷ vs) (row ∷ rows) from end a h l =
     let out : is_within r a ≡ false = before r a (omega (arith, low, l)) in
     ap (λ b. cond b (word_of_row r row a) (shared_word vs rows a)) out ∙ none_before vs rows (end_of r) end a h.1 (omega (arith, low, l))
 
-small_if : (c : Bool) (w : ℕ) → w < 0x10000 → (if c then w else 0) < 0x10000
-small_if true w h = h
-small_if false w h = omega arith
-
 holds_words : (words : List ℕ) → All (λ w. w < 0x10000) words → HoldsWords (fram_of words)
-holds_words words all a = small_if ((a % 2 == 0) && is_fram a) (slice_index words (place_of a)) (index_small words (place_of a) all)
+holds_words words all a = zero_unless ((a % 2 == 0) && is_fram a) (slice_index words (place_of a)) (index_small words (place_of a) all)
 
 half : (p k : ℕ) → (p + 2 * k - p) / 2 ≡ k
 half p k = omega arith
@@ -156,6 +153,7 @@ module _ (text : List ℕ) (p : CheckedProgram) (allow : Allow) (image : ImageVa
       zero_at l.words.base (record { even = rules.even.base; low = omega (arith, apart); high = omega (arith, apart) }) (λ e. omega (arith, apart, e))
       (omega (arith, apart))
 
+  -- each version word of a fresh image is 0
   pub version : (i : ℕ) → i < l.versions.capacity → f (l.versions.address + 2 * i) ≡ 0
   version i below =
       let apart = rules.apart in

@@ -2,12 +2,13 @@
 use Rattle.std.proofs.Common.{◌≡◌, ◌∙◌, ◌+◌, ◌-◌, ◌*◌, ◌/◌, ◌%◌, ◌<◌, ◌≤◌, ◌==◌, ◌&&◌, ℕ, zero, suc, Bool, true, false, cond, if◌then◌else◌, List, [], ◌∷◌, map, drop, length, replicate, refl, sym, ap, subst, arith, eqb-true, slice_index, get_or}
 use Rattle.std.proofs.lemmas.Bool.Decides.{nat_tests}
 use Rattle.std.proofs.lemmas.List.{at_drop_more}
+use Rattle.machine_effects.proofs.Views.{zeros_at}
 use Rattle.task_ast.specs.declared.Extent.{Extent}
-use Rattle.task_ast.specs.declared.Extent.TheVariants as extent
 use Rattle.task_ast.specs.declared.SharedDeclaration.{SharedDeclaration}
 use Rattle.image_text.specs.ImageValue.{place_of, zeros}
 use Rattle.fram_board.specs.Bus.{is_fram}
 use Rattle.machine_effects.specs.Machine.{fram_of}
+use Rattle.task_ast.specs.declared.Extent.TheVariants as extent
 use Rattle.source_values.specs.Runs.{initial_words}
 use Rattle.privatise.specs.declared.place.Region.{Region}
 use Rattle.privatise.specs.declared.place.VariablePlace.{VariablePlace}
@@ -24,11 +25,6 @@ use Rattle.link_image.proofs.Fram.{within, none_before}
 -- the words that declarations begin with
 abbrev pub rows_of : List SharedDeclaration → List (List ℕ)
 rows_of ds = map (λ d. initial_words d.extent) ds
-
-zeros_at : (n i : ℕ) → slice_index (replicate n 0) i ≡ 0
-zeros_at zero i = refl
-zeros_at (suc n) zero = refl
-zeros_at (suc n) (suc i) = zeros_at n i
 
 -- an image without words has none
 pub blank_at : (ws : List ℕ) (a : ℕ) → ws ≡ zeros 24064 → fram_of ws a ≡ 0

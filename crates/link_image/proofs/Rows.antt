@@ -1,12 +1,13 @@
 -- A world that rests at a state has its words where the map says.
-use Rattle.std.proofs.Common.{◌≡◌, ℕ, zero, suc, ◌+◌, ◌*◌, ◌<◌, ◌≤◌, ◌==◌, ◌&&◌, refl, sym, ap, ap₂, ◌∙◌, subst, arith, Bool, true, false, eqb-true, List, [], ◌∷◌, length, map, get_or, Option, Some, None}
+use Rattle.std.proofs.Common.{◌≡◌, ℕ, zero, suc, ◌+◌, ◌*◌, ◌<◌, ◌≤◌, ◌==◌, ◌&&◌, refl, sym, ap, ap₂, ◌∙◌, subst, arith, true, eqb-true, List, [], ◌∷◌, length, map, get_or, Option, Some, None}
 use Rattle.std.proofs.lemmas.List.{length-replicate}
 use Rattle.std.specs.Prelude.{slice_get, slice_index, slice_index_or}
+use Rattle.std.proofs.lemmas.Bool.{and_parts}
 use Rattle.task_ast.specs.declared.SharedDeclaration.{SharedDeclaration}
 use Rattle.task_ast.specs.declared.Extent.{Extent}
-use Rattle.task_ast.specs.declared.Extent.TheVariants as extent
 use Rattle.image_map.specs.declared.parts.Variable.{Variable}
 use Rattle.board_run.specs.History.{SharedWord, array_words, variable_words}
+use Rattle.task_ast.specs.declared.Extent.TheVariants as extent
 use Rattle.source_values.specs.Runs.{initial_words}
 use Rattle.privatise.specs.declared.place.VariablePlace.{VariablePlace}
 use Rattle.privatise.specs.declared.place.VariablePlace.TheVariants.{Scalar, Array}
@@ -17,17 +18,7 @@ use Rattle.source_events.specs.Naming.{length_of}
 use Rattle.source_events.specs.Transitions.{rows_in}
 use Rattle.compiled_model.specs.View.{are_words, are_rows}
 use Rattle.source_maps.specs.Maps.{variable_of, variables_of}
-
-both_hold : (a b : Bool) → (a && b) ≡ true → (a ≡ true) × (b ≡ true)
-both_hold true b h = (refl, h)
-both_hold false b h = absurd (cc h)
-
--- a place of a variable of this extent
-abbrev pub Matches : Extent → VariablePlace → Type 0
-Matches (extent.Scalar w) (Scalar home copy) = Unit {0}
-Matches (extent.Scalar w) (Array elements n copies) = ⊥
-Matches (extent.Array n) (Scalar home copy) = ⊥
-Matches (extent.Array n) (Array elements k copies) = k ≡ n
+use Rattle.source_maps.specs.Placing.{IsOfKind}
 
 -- a row stands at a place
 abbrev pub RowStands : World → List ℕ → VariablePlace → Type 0
@@ -49,7 +40,7 @@ array_row x name a i (suc n) (w ∷ row) e h =
     next : (k a : ℕ) → 2 * k + (a + 2) ≡ 2 * suc k + a
     next k a = omega arith
 
-one_row : (x : World) (text : List ℕ) (d : SharedDeclaration) (e : Extent) (place : VariablePlace) (row : List ℕ) → Matches e place
+one_row : (x : World) (text : List ℕ) (d : SharedDeclaration) (e : Extent) (place : VariablePlace) (row : List ℕ) → IsOfKind e place
     → length row ≡ length (initial_words e) → RowStands x row place
     → world_values x (variable_words (variable_of text d place).name (variable_of text d place).address (length_of e)) ≡ row
 one_row x text d (extent.Scalar w) (Scalar home copy) [] m l h = absurd (cc l)
@@ -67,7 +58,7 @@ one_row x text d (extent.Array n) (Array elements k copies) row m l h =
 -- rows that stand at the places of their declarations are those that the map's variables name
 pub all_rows : (x : World) (text : List ℕ) (ds : List SharedDeclaration) (places : List VariablePlace) (rows : List (List ℕ))
     → length places ≡ length ds → are_rows ds rows ≡ true
-    → ((v : ℕ) (d : SharedDeclaration) (place : VariablePlace) → slice_get ds v ≡ Some d → slice_get places v ≡ Some place → Matches d.extent place)
+    → ((v : ℕ) (d : SharedDeclaration) (place : VariablePlace) → slice_get ds v ≡ Some d → slice_get places v ≡ Some place → IsOfKind d.extent place)
     → ((v : ℕ) (place : VariablePlace) → slice_get places v ≡ Some place → RowStands x (slice_index_or rows v []) place)
     → rows_in x (variables_of text ds places) ≡ rows
 all_rows x text [] places [] count are match stand = refl
@@ -75,8 +66,8 @@ all_rows x text [] places (row ∷ rows) count are match stand = absurd (cc are)
 all_rows x text (d ∷ ds) places [] count are match stand = absurd (cc are)
 all_rows x text (d ∷ ds) [] (row ∷ rows) count are match stand = absurd (omega (arith, count))
 all_rows x text (d ∷ ds) (place ∷ places) (row ∷ rows) count are match stand =
-    let two = both_hold (length row == length (initial_words d.extent)) (are_words row && are_rows ds rows) are in
-    let more = (both_hold (are_words row) (are_rows ds rows) two.1).1 in
+    let two = and_parts (length row == length (initial_words d.extent)) (are_words row && are_rows ds rows) are in
+    let more = (and_parts (are_words row) (are_rows ds rows) two.1).1 in
     ap₂ (λ p q. p ∷ q)
     (one_row x text d d.extent place row (match 0 d place refl refl) (eqb-true (length row) (length (initial_words d.extent)) two.0) (stand 0 place refl))
     (all_rows x text ds places rows (omega (arith, count)) more (λ v. match (suc v)) (λ v. stand (suc v)))

@@ -3,7 +3,6 @@ use Rattle.std.proofs.Common.{◌≡◌, ℕ, ◌+◌, ◌*◌, ◌<◌, refl, �
 use Rattle.std.specs.Prelude.{slice_get, slice_index_or}
 use Rattle.task_ast.specs.declared.SharedDeclaration.{SharedDeclaration}
 use Rattle.task_ast.specs.declared.Extent.{Extent}
-use Rattle.task_ast.specs.declared.Extent.TheVariants as extent
 use Rattle.cost_bound.specs.declared.allowance.Allow.{Allow}
 use Rattle.cost_bound.specs.Allowance.{is_written}
 use Rattle.source_values.specs.Runs.{CheckedProgram, State}
@@ -12,7 +11,6 @@ use Rattle.privatise.specs.declared.place.VariablePlace.{VariablePlace}
 use Rattle.privatise.specs.declared.place.VariablePlace.TheVariants.{Scalar, Array}
 use Rattle.privatise.specs.LayoutValue.{LayoutValue}
 use Rattle.privatise.specs.Places.{home_region}
-use Rattle.privatise.specs.Layouts.{IsPlaceOf}
 use Rattle.machine_effects.specs.World.{World}
 use Rattle.stands_for.specs.StandsFor.{RestsAt}
 use Rattle.source_events.specs.Transitions.{HasWordsOf}
@@ -22,14 +20,9 @@ use Rattle.layout_facts.specs.Facts.{HasLayout, IsWordOf}
 use Rattle.layout_facts.proofs.Homes.{words_of_variables_are_shared}
 use Rattle.layout_facts.proofs.Views.{view_has_their_words}
 use Rattle.source_maps.specs.Maps.{map_of}
+use Rattle.source_maps.proofs.Places.{of_kind}
 use Rattle.link_image.specs.Laws.{MapsFindStates}
-use Rattle.link_image.proofs.Rows.{Matches, RowStands, all_rows}
-
-matches : (written : Bool) (e : Extent) (place : VariablePlace) → IsPlaceOf written e place → Matches e place
-matches written (extent.Scalar w) (Scalar home copy) h = tt
-matches written (extent.Scalar w) (Array elements n copies) h = absurd h
-matches written (extent.Array n) (Scalar home copy) h = absurd h
-matches written (extent.Array n) (Array elements k copies) h = h.0
+use Rattle.link_image.proofs.Rows.{RowStands, all_rows}
 
 module _ (text : List ℕ) (p : CheckedProgram) (allow : Allow) (plans : List TaskPlanValue) (l : LayoutValue) (laid : HasLayout p allow plans l)
     (s : State) (x : World) (rests : RestsAt (program_places p l) (state_view p l) s x) where
@@ -43,7 +36,7 @@ module _ (text : List ℕ) (p : CheckedProgram) (allow : Allow) (plans : List Ta
   finds_state = record {
     task = rests.is_open.current_task;
     shared = all_rows x text p.shared l.variables s.shared laid.layout.variables.count rests.is_open.is_state
-        (λ v d place at at_place. matches (is_written p.tasks v) d.extent place (laid.layout.variables.each v d place at at_place)) row_stands;
+        (λ v d place at at_place. of_kind (is_written p.tasks v) d.extent place (laid.layout.variables.each v d place at at_place)) row_stands;
     accepted = rests.is_open.accepted;
   }
 

@@ -4,8 +4,9 @@ use Rattle.std.specs.Prelude.{All}
 use Rattle.std.proofs.lemmas.List.{at_drop_more}
 use Rattle.msp_isa.specs.declared.instructions.Instr.{Instr}
 use Rattle.msp_isa.specs.Encoding.{encoding}
-use Rattle.code_forms.specs.Forms.{Form, instruction_of}
+use Rattle.code_forms.specs.Forms.{Form}
 use Rattle.code_forms.specs.Placed.{instructions, words_of}
+use Rattle.code_forms.proofs.Placed.{instructions-append}
 use Rattle.runtime_code.proofs.Sizes.{code_bytes}
 use Rattle.array_versions.specs.Program.{Program}
 use Rattle.array_versions.specs.View.{program_of}
@@ -27,12 +28,8 @@ words_joined : (a b : List Instr) → words_of (a ++ b) ≡ words_of a ++ words_
 words_joined [] b = refl
 words_joined (i ∷ a) b = ap (λ l. encoding i ++ l) (words_joined a b) ∙ sym (append_assoc (encoding i) (words_of a) (words_of b))
 
-instructions_joined : (a b : List Form) → instructions (a ++ b) ≡ instructions a ++ instructions b
-instructions_joined [] b = refl
-instructions_joined (m ∷ a) b = ap (λ l. instruction_of m ∷ l) (instructions_joined a b)
-
 pub joined : (a b : List Form) → words_in (a ++ b) ≡ words_in a ++ words_in b
-joined a b = ap words_of (instructions_joined a b) ∙ words_joined (instructions a) (instructions b)
+joined a b = ap words_of (instructions-append a b) ∙ words_joined (instructions a) (instructions b)
 
 -- one more filler
 pub filler_more : (n i : ℕ) → i < n → words_in (repeated (n - i) filler) ≡ 0x3FFF ∷ words_in (repeated (n - (i + 1)) filler)

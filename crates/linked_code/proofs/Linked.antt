@@ -45,6 +45,7 @@ commit_length l programs f =
     let c = f.commit in let d = f.rules.apart.code in
     omega (arith, a, b, c, d)
 
+-- the parts of linked code stand one behind another
 pub in_order : (l : LayoutValue) (programs : List Program) → CodeFits l programs → PartsInOrder l.boot.address (code_parts l programs) (end_of l.code)
 in_order l programs f = (
   record { from = omega arith; even = f.rules.even.boot },

@@ -5,7 +5,9 @@ use Rattle.code_forms.specs.Forms.{Form}
 use Rattle.code_forms.specs.Code.{Stands, forms_bytes}
 use Rattle.code_forms.specs.Placed.{instructions, AreInstructions}
 use Rattle.code_forms.proofs.Blocks.{stands_front, stands_back}
-use Rattle.runtime_code.proofs.Sizes.{forms_bytes-append, code_bytes, are_instructions-append}
+use Rattle.code_forms.proofs.Placed.{forms_bytes-append}
+use Rattle.codegen.proofs.Registers.{bytes_even}
+use Rattle.runtime_code.proofs.Sizes.{are_instructions-append}
 use Rattle.codegen.specs.Code.{repeated}
 use Rattle.linked_code.specs.Parts.{filler, CodePart, part_end, chained, IsPartBehind, PartsInOrder}
 use Rattle.linked_code.specs.Laws.{PartStands}
@@ -28,11 +30,8 @@ filled at part e b =
     let from = b.from in let even = b.even in
     omega (arith, f)
 
-even_bytes : (ms : List Form) → forms_bytes ms % 2 ≡ 0
-even_bytes ms = let e = code_bytes ms in omega (arith, e)
-
 even_end : (at : ℕ) (part : CodePart) → IsPartBehind at part → part_end part % 2 ≡ 0
-even_end at part b = let e = even_bytes part.forms in let even = b.even in omega (arith, e)
+even_end at part b = let e = bytes_even part.forms in let even = b.even in omega (arith, e)
 
 pub chained_end : (at : ℕ) (parts : List CodePart) (end : ℕ) → at % 2 ≡ 0 → PartsInOrder at parts end → at + forms_bytes (chained at parts) ≤ end
 chained_end at [] end e o = omega arith

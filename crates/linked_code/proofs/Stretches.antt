@@ -44,6 +44,7 @@ entries_count : (ts : List TaskLayoutValue) → length (map entry_of ts) ≡ len
 entries_count [] = refl
 entries_count (t ∷ ts) = let e = entries_count ts in omega (arith, e)
 
+-- there are as many programs as tasks with places
 pub programs_count : (ts : List TaskLayoutValue) (ps : List Program) → ProgramsFit ts ps → length ps ≡ length ts
 programs_count [] [] f = refl
 programs_count [] (p ∷ ps) f = absurd f
@@ -135,6 +136,7 @@ module _ (l : LayoutValue) (programs : List Program) (fits : CodeFits l programs
   DoesBody v k g rs =
       let b = behaviour (program k) (started g rs) in ComesTo code (spent (program k) (started g rs)) v b.effects b.end
 
+  -- where a task is entered, its code does as its word program
   pub body_there : (v : Core) (k : ℕ) (g : ℕ → ℕ) (rs : List ℕ) → Enters (entry_at tasks k).code stack_top g rs v → k < length programs
       → ((a : ℕ) → g a < 0x10000) → All (λ w. w < 0x10000) rs → DoesBody v k g rs
   body_there v k g rs h named words readings =
@@ -155,6 +157,7 @@ module _ (l : LayoutValue) (programs : List Program) (fits : CodeFits l programs
       Comes code es (commit_steps (f l.words.list_length) (f l.words.emit_count)) (commit_cycles (f l.words.list_length) (f l.words.emit_count)) v
       (IsAt start_at (fram_after es f) rs)
 
+  -- where the commit is entered and can be made, its code makes it
   pub commit_there : (v : Core) (f : ℕ → ℕ) (rs : List ℕ) → IsAt l.commit.address f rs v → CanCommit (runtime_places l) f → DoesCommit v f rs
   commit_there v f rs h can =
       let c = fits.commit in let d = fits.rules.apart.code in let k = fits.rules.apart.high in

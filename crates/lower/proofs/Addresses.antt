@@ -1,8 +1,7 @@
 -- Where the words that a task works on stand.
-use Rattle.std.proofs.Common.{◌≡◌, ℕ, ◌+◌, ◌*◌, ◌%◌, ◌<◌, ◌≤◌, nat_lt, ◌&&◌, Option, Some, true, ap, ◌∙◌, subst, arith, eq-eqb, ne_eqb, le-leb, lt-ltb, inl, inr, ◌⊎◌, ⊎_elim, if◌then◌else◌}
+use Rattle.std.proofs.Common.{◌≡◌, ℕ, ◌+◌, ◌*◌, ◌%◌, ◌<◌, ◌≤◌, nat_lt, ◌&&◌, Option, Some, true, ap, ◌∙◌, subst, arith, eq-eqb, le-leb, lt-ltb, inl, inr, ◌⊎◌, ⊎_elim, if◌then◌else◌}
 use Rattle.std.proofs.lemmas.Bool.{cases_eq}
 use Rattle.fram_board.specs.Bus.{is_fram}
-use Rattle.machine_effects.specs.World.{put}
 use Rattle.array_versions.specs.Behaviour.{Behaviour, strays, is_place, at_place}
 use Rattle.privatise.specs.declared.place.ArrayCopies.{ArrayCopies}
 use Rattle.lower.specs.Places.{Places}
@@ -23,12 +22,6 @@ spot_place p room s apart even k =
     fram_place (spot_address p s) (even.spots s k) (omega (arith, low, apart)) (apart.below s k)
 
 -- ---- words that are stored
-
-pub put_same : (f : ℕ → ℕ) (a w x : ℕ) → x ≡ a → put f a w x ≡ w
-put_same f a w x e = ap (λ b. if b then w else f x) (eq-eqb x a e)
-
-pub put_other : (f : ℕ → ℕ) (a w x : ℕ) → (x ≡ a → ⊥) → put f a w x ≡ f x
-put_other f a w x ne = ap (λ b. if b then w else f x) (ne_eqb x a ne)
 
 -- ---- elements
 

@@ -1,26 +1,30 @@
 -- The program of statements does what they do.
-use Rattle.std.proofs.Common.{◌≡◌, ℕ, zero, suc, ◌+◌, ◌-◌, ◌*◌, ◌%◌, ◌<◌, ◌≤◌, List, [], ◌∷◌, ◌++◌, length, Option, Some, None, Bool, true, refl, sym, ap, ◌∙◌, subst, arith, if◌then◌else◌}
+use Rattle.std.proofs.Common.{◌≡◌, ℕ, zero, suc, ◌+◌, ◌-◌, ◌*◌, ◌%◌, ◌<◌, ◌≤◌, List, [], ◌∷◌, ◌++◌, length, Option, Some, None, Bool, true, refl, sym, ap, ◌∙◌, subst, arith, if◌then◌else◌, le_refl}
+use Rattle.std.specs.Prelude.{slice_get, get_or}
 use Rattle.fram_board.specs.Effects.{Store}
 use Rattle.task_ast.specs.Tree as t
 use Rattle.task_ast.specs.Paths.{CheckedExpression, CheckedStatement, CheckedChoice, CheckedBlock}
 use Rattle.task_ast.specs.declared.names.Variable.{Variable}
 use Rattle.task_ast.specs.declared.names.Variable.TheVariants.{Shared, Local}
+use Rattle.cost_bound.specs.Allowance.{CheckedTask}
+use Rattle.privatise.specs.LayoutValue.{LayoutValue, TaskLayoutValue}
 use Rattle.source_values.specs.Values.{value_of, holds}
 use Rattle.source_values.specs.Statements as source
 use Rattle.source_values.specs.Statements.{Attempt, Outcome, goes_on, to_task, short, and_then, if_value, run_statement, run_choice, run_block, statement_emits, choice_emits, block_emits}
 use Rattle.cost_bound.specs.Counts.{statement_count, choice_count, block_count, is_shared, is_store_to, stores_of}
+use Rattle.source_values.proofs.Emitted.{more_turns}
 use Rattle.array_versions.specs.Program.{Program, emit_word, versioned_write, choose, repeat, nothing, joined}
 use Rattle.array_versions.specs.Behaviour as words
 use Rattle.array_versions.specs.Behaviour.{WordState, End, GoesOn, Jumps, Short, Strays, Broken, Behaviour, behaves, behind_effects, on_end, then_on, is_place, at_place, stored, with_local, word_stored, word_emitted, chosen, step_behaviour, behaviour}
 use Rattle.array_versions.proofs.Joined.{joined_go_on, joined_assoc}
 use Rattle.privatise.specs.declared.place.VariablePlace.{VariablePlace}
-use Rattle.lower.specs.Places.{address_of}
-use Rattle.lower.specs.Lowered.{one, write_step, written_array, list_place, store_step, loop_local, assignment, element_assignment, lowered_transition, lowered_expression, lowered_statement, lowered_choice, lowered_block}
+use Rattle.lower.specs.Places.{address_of, places_of}
+use Rattle.lower.specs.Lowered.{one, write_step, written_array, list_place, store_step, loop_local, assignment, element_assignment, lowered_transition, lowered_expression, lowered_statement, lowered_choice, lowered_block, lowered_tasks}
 use Rattle.lower.specs.Spots.{Element, scalar, listed_of}
 use Rattle.lower.specs.Agreement.{IsTarget, IsWrittenArray, IsLocal, ExpressionFits, StatementFits, ChoiceFits, BlockFits, StandsFor, at_variable, at_emit_count, in_buffer, valued, AgreesWithValue, BlocksAgree}
 use Rattle.lower.proofs.Addresses.{fram_place, placed, spot_place}
 use Rattle.lower.proofs.Values.{suc_holds, expressions_agree}
-use Rattle.lower.proofs.Emitted.{EmitsAtMost, more_turns, statement_emitted, block_emitted}
+use Rattle.lower.proofs.Emitted.{EmitsAtMost, statement_emitted, block_emitted}
 use Rattle.lower.proofs.Stored.{same_variables, same_list, same_emits, spot_list, spot_emits, scalar_set, local_holds, after_emit, emit_spots, emit_list, emitted_emits}
 use Rattle.lower.proofs.Transitions.{transition_behaves}
 use Rattle.lower.proofs.Ends.{Scene, Does, does_then, does_alone, does_value}
@@ -339,13 +343,22 @@ module _ (z : Scene) where
           within = h.within;
         }))))
 
-at_most_itself : (n : ℕ) → n ≤ n
-at_most_itself n = omega arith
-
 pub blocks_agree : BlocksAgree
 unfolding stores_of
 blocks_agree p written room stores block m listed w apart even has_room fits stands emits lists =
     let z : Scene = record
     { p = p; written = written; room = room; stores = stores; ver = w.fram p.words.version; apart = apart; even = even; has_room = has_room } in
     let most : ℕ → ℕ = λ v. listed_of v listed + stores_of v block in
-    block_does z block m listed w most fits (record { stands = stands; number = refl; emits = emits; lists = λ v. at_most_itself (most v); within = lists })
+    block_does z block m listed w most fits (record { stands = stands; number = refl; emits = emits; lists = λ v. le_refl (most v); within = lists })
+
+-- the program of a task, by its number
+pub program_at : (l : LayoutValue) (tasks : List CheckedTask) (layouts : List TaskLayoutValue) (k : ℕ) (task : CheckedTask) (t : TaskLayoutValue)
+    → slice_get tasks k ≡ Some task
+    → slice_get layouts k ≡ Some t → get_or (lowered_tasks l tasks layouts) k nothing ≡ lowered_block (places_of l t) task.body
+program_at l [] layouts k task t e h = cc e
+program_at l (u ∷ tasks) [] k task t e h = cc h
+program_at l (u ∷ tasks) (v ∷ layouts) zero task t e h =
+    let a : u ≡ task = cc in
+    let b : v ≡ t = cc in
+    ap (λ z. lowered_block (places_of l v) z.body) a ∙ ap (λ z. lowered_block (places_of l z) task.body) b
+program_at l (u ∷ tasks) (v ∷ layouts) (suc k) task t e h = program_at l tasks layouts k task t e h

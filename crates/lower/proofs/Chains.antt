@@ -8,7 +8,7 @@ use Rattle.task_ast.specs.declared.names.TaskName.{TaskName}
 use Rattle.array_versions.specs.declared.program.WordStep.{WordStep}
 use Rattle.array_versions.specs.Program.{Program, list_entry, step, nothing, joined, behind}
 use Rattle.array_versions.specs.View.{step_of, steps_of}
-use Rattle.array_versions.proofs.Joined.{joined_assoc, joined-nothing}
+use Rattle.array_versions.proofs.Joined.{joined_assoc, joined_nothing}
 use Rattle.privatise.specs.declared.place.PrivateScalar.{PrivateScalar}
 use Rattle.lower.specs.Places.{Places}
 use Rattle.lower.specs.Lowered.{entries, lowered_statement, lowered_block}
@@ -16,9 +16,6 @@ use Rattle.lower.specs.Lowered.{entries, lowered_statement, lowered_block}
 pub steps_of_joined : (a b : List WordStep) → steps_of (a ++ b) ≡ joined (steps_of a) (steps_of b)
 steps_of_joined [] b = refl
 steps_of_joined (w ∷ a) b = ap (step (step_of w)) (steps_of_joined a b)
-
-pub joined_none : (p : Program) → joined p nothing ≡ p
-joined_none p = joined-nothing p
 
 -- the entries from one scalar on, as its own and those behind it
 pub entries_step : (count list : ℕ) (privates : List PrivateScalar) (i : ℕ) (d : PrivateScalar) (p : Program) → i < length privates
@@ -31,7 +28,7 @@ entries_step count list privates i d p h =
 
 -- none are left
 pub entries_end : (count list : ℕ) (privates : List PrivateScalar) (i : ℕ) (p : Program) → length privates ≤ i → joined p (entries count list (drop i privates)) ≡ p
-entries_end count list privates i p h = ap (λ l. joined p (entries count list l)) (drop_all i privates h) ∙ joined-nothing p
+entries_end count list privates i p h = ap (λ l. joined p (entries count list l)) (drop_all i privates h) ∙ joined_nothing p
 
 -- the statements from one on, as its own program and that of those behind it
 pub block_step : (p : Places) (body : List (Stmt VariableName TaskName)) (i : ℕ) (s : Stmt VariableName TaskName) (q : Program) → i < length body → s ≡ get_or body i s
@@ -42,4 +39,4 @@ block_step p body i s q h is =
     ∙ sym (ap (λ l. joined q (lowered_block p (block_view l))) (drop-cons body i s h ∙ ap (λ x. x ∷ drop (suc i) body) (sym is)))
 
 pub block_end : (p : Places) (body : List (Stmt VariableName TaskName)) (i : ℕ) (q : Program) → length body ≤ i → joined q (lowered_block p (block_view (drop i body))) ≡ q
-block_end p body i q h = ap (λ l. joined q (lowered_block p (block_view l))) (drop_all i body h) ∙ joined-nothing q
+block_end p body i q h = ap (λ l. joined q (lowered_block p (block_view l))) (drop_all i body h) ∙ joined_nothing q

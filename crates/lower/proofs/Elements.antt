@@ -3,6 +3,7 @@ use Rattle.std.proofs.Common.{◌≡◌, ℕ, ◌+◌, ◌*◌, ◌==◌, ◌<�
 use Rattle.std.proofs.lemmas.Bool.{cases_eq, cases_lt}
 use Rattle.fram_board.specs.Effects.{Store}
 use Rattle.machine_effects.specs.World.{put}
+use Rattle.machine_effects.proofs.Worlds.{put_other}
 use Rattle.task_ast.specs.declared.names.Variable.TheVariants.{Shared}
 use Rattle.source_values.specs.Values.{Variables, with_word}
 use Rattle.source_values.specs.Statements.{Attempt, goes_on}
@@ -15,7 +16,7 @@ use Rattle.lower.specs.Places.{Places}
 use Rattle.lower.specs.Lowered.{array_place, list_place}
 use Rattle.lower.specs.Spots.{IsArrayAt, Element, IsCopied, element, copy, version, element_address, copy_address, version_address, listed_of}
 use Rattle.lower.specs.Agreement.{at_copy, at_version, in_list, at_list_length, HoldVariables, StandsFor, WentOn}
-use Rattle.lower.proofs.Addresses.{fram_place, spot_place, put_other, element_is, copy_is, version_is, has_element}
+use Rattle.lower.proofs.Addresses.{fram_place, spot_place, element_is, copy_is, version_is, has_element}
 use Rattle.lower.proofs.Stored.{word_past, set_holds, same_list, same_emits, spot_emits}
 use Rattle.lower.proofs.Transitions.{even_at, even_behind}
 use Rattle.lower.proofs.Versioned.{stores_again, stores_first, stores_nothing, after_first, first_effects, element_set, again_stored, again_list, first_stored_at, first_emits, first_list, pushed_of, push_listed}

@@ -2,7 +2,7 @@
 use Rattle.std.proofs.Common.{◌≡◌, ℕ, ◌<◌, ◌≤◌, List, [], ◌∷◌, ◌++◌, length, Option, Some, None, Bool, refl, sym, ap, ◌∙◌, subst, arith, append_assoc, append-nil, ⊎_elim}
 use Rattle.fram_board.specs.Effects.{Effect, Store, Take, Send}
 use Rattle.machine_effects.specs.World.{put, fram_after}
-use Rattle.machine_effects.proofs.Worlds.{fram_after-append}
+use Rattle.machine_effects.proofs.Worlds.{fram_after-append, put_other}
 use Rattle.source_values.specs.Statements.{Attempt, Outcome, goes_on, to_task, short, and_then, if_value}
 use Rattle.array_versions.specs.Program.{Program, nothing}
 use Rattle.array_versions.specs.Behaviour.{WordState, End, GoesOn, Jumps, Short, Strays, Broken, Behaviour, behind_effects, on_end, then_on, behaviour}
@@ -11,7 +11,6 @@ use Rattle.array_versions.proofs.ByEffects.{behaves_by_effects}
 use Rattle.lower.specs.Places.{Places}
 use Rattle.lower.specs.Spots.{Element, scalar, copy, version, Room, AreApart, AreEven, listed_of, HasRoom}
 use Rattle.lower.specs.Agreement.{TakesAndStores, OnlyTakes, IsTaskStore, at_variable, at_copy, at_version, in_list, at_list_length, at_emit_count, in_buffer, StandsFor, valued, EndsWithValue, AgreesWithValue, Bounds, Left, EndsAs, Agrees}
-use Rattle.lower.proofs.Addresses.{put_other}
 use Rattle.lower.proofs.Values.{takes_append, only_takes}
 use Rattle.lower.proofs.Emitted.{EmitsAtMost}
 

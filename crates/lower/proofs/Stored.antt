@@ -5,6 +5,7 @@ use Rattle.std.proofs.lemmas.List.{get_or-set_same, get_or-set_other, length-set
 use Rattle.std.proofs.lemmas.Option.{slice_get_within}
 use Rattle.std.proofs.Math.Seq.{get_or-append_seam}
 use Rattle.machine_effects.specs.World.{put}
+use Rattle.machine_effects.proofs.Worlds.{put_at, put_other}
 use Rattle.task_ast.specs.declared.names.Variable.TheVariants.{Shared, Local}
 use Rattle.source_values.specs.Values.{Variables, word_at, with_word}
 use Rattle.array_versions.specs.Behaviour.{assigned}
@@ -14,7 +15,7 @@ use Rattle.privatise.specs.declared.place.VariablePlace.TheVariants.{Scalar, Arr
 use Rattle.lower.specs.Places.{Places, address_of}
 use Rattle.lower.specs.Spots.{IsScalarPlace, IsScalarAt, IsArrayAt, Element, IsElement, IsCopied, Spot, scalar, element, copy, version, IsSpot, element_address, copy_address, version_address, spot_address, Room, AreApart}
 use Rattle.lower.specs.Agreement.{own_word, HoldVariables, HoldEmits, HoldList}
-use Rattle.lower.proofs.Addresses.{put_same, put_other, element_is, copy_is, version_is, no_scalar}
+use Rattle.lower.proofs.Addresses.{element_is, copy_is, version_is, no_scalar}
 use Rattle.lower.proofs.Values.{small_modulo}
 
 -- ---- another word of a shared variable
@@ -197,7 +198,7 @@ scalar_set p room v w m f locals apart is h =
     same : (u : ℕ) → u ≡ v → put f (address_of p v) w (address_of p u) ≡ word_at (with_word m (Shared v) 0 w) (Shared u) 0
     same u e =
         let P : ℕ → Type 0 = λ j. put f (address_of p v) w (address_of p j) ≡ word_at (with_word m (Shared v) 0 w) (Shared j) 0 in
-        subst P (sym e) (put_same f (address_of p v) w (address_of p v) refl ∙ sym (word_same m v 0 w row.0 row.1))
+        subst P (sym e) (put_at f (address_of p v) w (address_of p v) refl ∙ sym (word_same m v 0 w row.0 row.1))
 
     keeps : (s : Spot) → IsSpot p s → (s ≡ scalar v → ⊥) → put f (address_of p v) w (spot_address p s) ≡ f (spot_address p s)
     keeps s k ne = put_other f (address_of p v) w (spot_address p s) (λ e. ne (apart.distinct s (scalar v) k is e))
@@ -278,7 +279,7 @@ buffer_words p v n emitted f count h i l = ⊎_elim same other (cases_eq i (leng
   where
     same : i ≡ length emitted → put f (2 * n + p.emits) v (2 * i + p.emits) ≡ get_or (emitted ++ v ∷ []) i 0
     same e =
-        put_same f (2 * n + p.emits) v (2 * i + p.emits) (ap (λ j. 2 * j + p.emits) (e ∙ sym count))
+        put_at f (2 * n + p.emits) v (2 * i + p.emits) (ap (λ j. 2 * j + p.emits) (e ∙ sym count))
         ∙ sym (ap (λ j. get_or (emitted ++ v ∷ []) j 0) e ∙ get_or-append_seam emitted v [] 0)
 
     other : (i ≡ length emitted → ⊥) → put f (2 * n + p.emits) v (2 * i + p.emits) ≡ get_or (emitted ++ v ∷ []) i 0
@@ -296,7 +297,7 @@ emitted_emits p room v emitted f apart h =
     let n = f p.words.emit_count in
     let g : ℕ → ℕ = put f (2 * n + p.emits) v in
     record {
-      emit_count = put_same g p.words.emit_count (n + 1) p.words.emit_count refl ∙ ap (λ j. j + 1) h.emit_count ∙ sym (length-append emitted (v ∷ []));
+      emit_count = put_at g p.words.emit_count (n + 1) p.words.emit_count refl ∙ ap (λ j. j + 1) h.emit_count ∙ sym (length-append emitted (v ∷ []));
       emits = λ i l. put_other g p.words.emit_count (n + 1) (2 * i + p.emits) (λ e. omega (arith, e, apart))
           ∙ buffer_words p v n emitted f h.emit_count h.emits i (at_most i (length emitted) (length (emitted ++ v ∷ [])) l (length-append emitted (v ∷ [])));
     }

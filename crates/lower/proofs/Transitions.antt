@@ -2,6 +2,7 @@
 use Rattle.std.proofs.Common.{◌≡◌, ℕ, ◌+◌, ◌*◌, ◌%◌, ◌≤◌, List, [], ◌∷◌, ◌++◌, length, true, refl, sym, ap, ◌∙◌, arith, eq-eqb, append_assoc, if◌then◌else◌}
 use Rattle.fram_board.specs.Effects.{Effect, Store}
 use Rattle.machine_effects.specs.World.{put, fram_after}
+use Rattle.machine_effects.proofs.Worlds.{put_at, put_other}
 use Rattle.array_versions.specs.Program.{Program, store_number, move_word, jump, nothing, step, joined}
 use Rattle.array_versions.specs.Behaviour.{WordState, Jumps, Behaviour, behaves, goes_on, broken, behind_effects, then_on, is_place, at_place, word_stored, entry_stored, jumped, step_behaviour, behaviour}
 use Rattle.array_versions.proofs.Joined.{joined_go_on}
@@ -10,7 +11,7 @@ use Rattle.lower.specs.Places.{Places}
 use Rattle.lower.specs.Lowered.{one, entries, lowered_transition}
 use Rattle.lower.specs.Spots.{Room, AreApart, AreEven}
 use Rattle.lower.specs.Agreement.{entry_effects, transition_effects}
-use Rattle.lower.proofs.Addresses.{fram_place, placed, put_same, put_other}
+use Rattle.lower.proofs.Addresses.{fram_place, placed}
 
 -- FRAM after an entry
 abbrev pub after_entry : ℕ → ℕ → ℕ → ℕ → ℕ → (ℕ → ℕ) → ℕ → ℕ
@@ -54,7 +55,7 @@ entries_behave count list (s ∷ more) i w e room =
     let first = entry_behaves count list i s.home s.copy w e (fram_place count room.even_count room.low (omega (arith, room)))
     (fram_place (4 * i + list) (even_at i list room.even_list) (omega (arith, room)) (omega (arith, room)))
     (fram_place (4 * i + list + 2) (even_behind i list room.even_list) (omega (arith, room)) (omega (arith, room))) in
-    let counted : u.fram count ≡ i + 1 = put_same (put (put w.fram (4 * i + list) s.home) (4 * i + list + 2) s.copy) count (i + 1) count refl in
+    let counted : u.fram count ≡ i + 1 = put_at (put (put w.fram (4 * i + list) s.home) (4 * i + list + 2) s.copy) count (i + 1) count refl in
     let rest = entries_behave count list more (i + 1) u counted
     (record { low = room.low; above = room.above; high = omega (arith, room); even_count = room.even_count; even_list = room.even_list }) in
     ap (λ b. then_on b (behaviour (entries count list more))) first

@@ -35,6 +35,7 @@ use Rattle.lower.proofs.Addresses.{fram_place, placed, spot_place, element_is, c
 
 -- ---- effects
 
+-- readings taken and such stores, one stretch behind another
 pub takes_append : (P : ℕ → ℕ → Type 0) (es fs : List Effect) → TakesAndStores P es → TakesAndStores P fs → TakesAndStores P (es ++ fs)
 takes_append P [] fs h k = k
 takes_append P (Store a w ∷ es) fs h k = (h.0, takes_append P es fs h.1 k)
@@ -86,6 +87,7 @@ local_agrees : (w : WordState) (o : Option ℕ) (v : ℕ) → ((u : ℕ) → o �
 local_agrees w None v h = (tt, tt)
 local_agrees w (Some u) v h = (tt, ap (λ x. valued w (x, w.readings)) (sym (h u refl)))
 
+-- a number below 256 is its own residue
 pub small_modulo : (n : ℕ) → n < 256 → n % 65536 ≡ n
 small_modulo n h = omega arith
 

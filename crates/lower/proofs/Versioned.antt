@@ -5,6 +5,7 @@ use Rattle.std.proofs.lemmas.List.Elements.{All-append, Contains-append_left, Co
 use Rattle.std.proofs.lemmas.List.Quantifiers.{all_pairs_push}
 use Rattle.fram_board.specs.Effects.{Effect, Store}
 use Rattle.machine_effects.specs.World.{put}
+use Rattle.machine_effects.proofs.Worlds.{put_at, put_other}
 use Rattle.task_ast.specs.declared.names.Variable.TheVariants.{Shared}
 use Rattle.source_values.specs.Values.{Variables, word_at, with_word}
 use Rattle.array_versions.specs.declared.program.ArrayPlace.{ArrayPlace}
@@ -15,7 +16,7 @@ use Rattle.lower.specs.Places.{Places, address_of}
 use Rattle.lower.specs.Lowered.{list_place}
 use Rattle.lower.specs.Spots.{IsScalarAt, Element, IsElement, IsCopied, Spot, scalar, element, copy, version, IsSpot, element_address, copy_address, version_address, spot_address, Room, AreApart, AreDifferent, AreListed, listed_of}
 use Rattle.lower.specs.Agreement.{own_word, HoldVariables, HoldList}
-use Rattle.lower.proofs.Addresses.{placed, put_same, put_other, copy_is, version_is, no_scalar, same_element, same_or_not}
+use Rattle.lower.proofs.Addresses.{placed, copy_is, version_is, no_scalar, same_element, same_or_not}
 use Rattle.lower.proofs.Stored.{word_same, word_other, set_holds, own_same, ListStays, EmitsStay, spot_list}
 use Rattle.lower.proofs.Transitions.{after_entry, entry_behaves}
 
@@ -135,7 +136,7 @@ again_stored p room x v f apart is marked =
     record {
       number = put_other f a v p.words.version (λ e. omega (arith, e, low, apart));
       mark = put_other f a v (version_address p x) (λ e. let d = (apart.distinct (version x) (copy x) is is e) in cc) ∙ sym marked;
-      copied = put_same f a v a refl;
+      copied = put_at f a v a refl;
       spots = λ s of ne d. put_other f a v (spot_address p s) (λ e. ne (apart.distinct s (copy x) of is e));
     }
 
@@ -196,8 +197,8 @@ first_stored_at p room k x v f apart is few =
     ∙ put_other f2 (4 * k + p.list) (element_address p x) a (λ e. omega (arith, e, low, apart, few)) in
     record {
       number = low_keeps p room k x v p.words.version f apart is (omega (arith, apart)) (λ e. omega (arith, e, apart));
-      mark = behind n at_n ∙ put_same f1 n ver n refl;
-      copied = behind c at_c ∙ put_other f1 n ver c (λ e. let d = (apart.distinct (copy x) (version x) is is e) in cc) ∙ put_same f c v c refl;
+      mark = behind n at_n ∙ put_at f1 n ver n refl;
+      copied = behind c at_c ∙ put_other f1 n ver c (λ e. let d = (apart.distinct (copy x) (version x) is is e) in cc) ∙ put_at f c v c refl;
       spots = λ s of d e. spot_keeps p room k x v f s apart is few of d e;
     }
 
@@ -251,7 +252,7 @@ pub first_list : (p : Places) (room : Room) (xs : List Element) (x : Element) (v
     → (f p.words.version ≡ f (version_address p x) → ⊥) → HoldList p xs f → HoldList p (xs ++ x ∷ []) (after_store p (length xs) x v f)
 first_list p room xs x v f apart is few unmarked h = record {
   are_listed = push_listed p xs x h.are_listed is fresh;
-  list_length = put_same (with_copy p (length xs) x v f) p.words.list_length (length xs + 1) p.words.list_length refl ∙ sym (length-append xs (x ∷ []));
+  list_length = put_at (with_copy p (length xs) x v f) p.words.list_length (length xs + 1) p.words.list_length refl ∙ sym (length-append xs (x ∷ []));
   homes = λ i y e. ⊎_elim (old_home i y) (new_home i y) (pushed_at xs x y i e);
   copies = λ i y e. ⊎_elim (old_copy i y) (new_copy i y) (pushed_at xs x y i e);
   marked = λ y c. ⊎_elim
@@ -285,7 +286,7 @@ first_list p room xs x v f apart is few unmarked h = record {
         ap (λ j. (after_store p (length xs) x v f) (4 * j + p.list)) e.0
         ∙ put_other (with_copy p (length xs) x v f) p.words.list_length (length xs + 1) (4 * length xs + p.list) (λ d. omega (arith, d, apart))
         ∙ put_other (with_home p (length xs) x v f) (4 * length xs + p.list + 2) (copy_address p x) (4 * length xs + p.list) (λ d. omega (arith, d))
-        ∙ put_same (put (put f (copy_address p x) v) (version_address p x) (f p.words.version)) (4 * length xs + p.list) (element_address p x)
+        ∙ put_at (put (put f (copy_address p x) v) (version_address p x) (f p.words.version)) (4 * length xs + p.list) (element_address p x)
         (4 * length xs + p.list) refl
         ∙ ap (element_address p) e.1
 
@@ -293,7 +294,7 @@ first_list p room xs x v f apart is few unmarked h = record {
     new_copy i y e =
         ap (λ j. (after_store p (length xs) x v f) (4 * j + p.list + 2)) e.0
         ∙ put_other (with_copy p (length xs) x v f) p.words.list_length (length xs + 1) (4 * length xs + p.list + 2) (λ d. omega (arith, d, apart))
-        ∙ put_same (with_home p (length xs) x v f) (4 * length xs + p.list + 2) (copy_address p x) (4 * length xs + p.list + 2) refl
+        ∙ put_at (with_home p (length xs) x v f) (4 * length xs + p.list + 2) (copy_address p x) (4 * length xs + p.list + 2) refl
         ∙ ap (copy_address p) e.1
 
     mark_keeps : (y : Element) → IsCopied p y → AreDifferent x y → (after_store p (length xs) x v f) (version_address p y) ≡ f (version_address p y)

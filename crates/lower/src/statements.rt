@@ -82,7 +82,7 @@ fn store(
 }
 
 // A declaration without a value has no steps.
-#[tactic(auto, using(crate::proofs::Chains::joined_none))]
+#[tactic(auto, using(array_versions::proofs::Joined::joined_nothing))]
 fn declare(
     alloc: Global,
     variable: Variable,
@@ -166,7 +166,7 @@ fn append(program: &mut WordProgram, mut more: WordProgram) -> Result<(), AllocE
 }
 
 #[cycle(lower)]
-#[tactic(auto, using(array_versions::proofs::Joined::joined_assoc, crate::proofs::Chains::joined_none))]
+#[tactic(auto, using(array_versions::proofs::Joined::joined_assoc, array_versions::proofs::Joined::joined_nothing))]
 fn lower_statement(
     alloc: Global,
     s: &Stmt<VariableName, TaskName>,

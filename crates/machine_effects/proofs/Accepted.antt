@@ -1,5 +1,6 @@
 -- The words that a charge's moments tell are those that its effects make the receiver accept.
-use Rattle.std.proofs.Common.{◌≡◌, ◌==◌, ◌+◌, ◌-◌, ◌%◌, ◌⊎◌, inl, inr, ⊎_elim, arith, ℕ, refl, sym, ◌∙◌, ap, ap₂, subst, Bool, true, false, if◌then◌else◌, List, [], ◌∷◌, ◌++◌, map, length, length-append, append_assoc, append-nil, slice_range, slice_index, Option, Some, None, Result, Ok, Err}
+use Rattle.std.proofs.Common.{◌≡◌, ◌==◌, ◌-◌, ◌%◌, ◌⊎◌, inl, inr, ⊎_elim, arith, ℕ, refl, sym, ◌∙◌, ap, ap₂, subst, Bool, true, false, if◌then◌else◌, List, []}
+use Rattle.std.proofs.Common.{◌∷◌, ◌++◌, map, length, length-append, append_assoc, append-nil, slice_range, slice_index, Option, Some, None, Result, Ok, Err}
 use Rattle.alp_words.specs.declared.Width.{Width}
 use Rattle.alp_words.specs.declared.Width.TheVariants.{Word, Byte}
 use Rattle.msp_isa.specs.declared.instructions.Instr.{Instr}
@@ -14,11 +15,13 @@ use Rattle.msp_step.proofs.Accesses.{Ends, effect_ends}
 use Rattle.image_text.specs.ImageValue.{place_of}
 use Rattle.fram_board.specs.declared.board.Stepped.{Stepped}
 use Rattle.fram_board.specs.declared.receiver.Receiver.{Receiver}
-use Rattle.fram_board.specs.Bus.{BusState, board_bus, is_ram, is_fram, is_memory, is_word, memory_word, with_word, with_byte, written, port_written, number_port, data_port}
-use Rattle.fram_board.specs.Board.{BoardValue, opened, answer_of, executed, is_accepted, accepted_word, receiver_after}
+use Rattle.fram_board.specs.Bus.{BusState, board_bus, is_ram, is_fram, is_memory, is_word, memory_word, with_word, with_byte, written, port_written}
+use Rattle.fram_board.specs.Bus.{number_port, data_port}
+use Rattle.fram_board.specs.Board.{BoardValue, opened, answer_of, executed, is_accepted, accepted_word}
 use Rattle.fram_board.specs.Effects.{Effect, Store, Take, store_at, sends_of}
 use Rattle.fram_board.specs.Run.{Measure, price, moment_of, RunOutcome, ChargeRun, Spent, NoInstruction, TooDear, Refused, Executed, word_list, accepted_words}
 use Rattle.fram_board.proofs.Takes.{only_takes}
+use Rattle.fram_board.proofs.Counts.{counted}
 use Rattle.machine_effects.specs.World.{accepted_after}
 use Rattle.machine_effects.specs.Runs.{action_effects, moments_effects}
 use Rattle.machine_effects.specs.Laws.{ChargeAcceptsBySends}
@@ -100,16 +103,6 @@ told : (b : BoardValue) (s : BusState) (a : Result cpu.Stepped Stop) (done : Ste
 told b s (Ok d) done e = cc
 told b s (Err x) done e = cc
 
-counted_one : (b : Bool) (w : ℕ) (r : Receiver)
-    → (if b then record r { accepted = r.accepted + 1 } else record r { repeats = r.repeats + 1 }).accepted ≡ r.accepted + length
-    (word_list (if b then Some w else None))
-counted_one true w r = omega arith
-counted_one false w r = omega arith
-
-counted : (number : ℕ) (o : Option ℕ) (r : Receiver) → (receiver_after number o r).accepted ≡ r.accepted + length (word_list (accepted_word number o r))
-counted number None r = omega arith
-counted number (Some w) r = counted_one (is_accepted number r) w r
-
 module _ (b : BoardValue) (i : Instr) (done : Stepped) (answer : (executed b i).answer ≡ Ok done) (ws : List ℕ) (len : length ws ≡ b.receiver.accepted) where
   abbrev after : BusState
   after = (execution board_bus i (registers_of b.cpu) (opened b)).bus
@@ -148,5 +141,6 @@ charge_accepts m amount b r ws len (Executed _ _ i done rest pos c paid a h) =
     ∙ ih
     ∙ append_assoc ws (word_list done.accepted) (accepted_words rest.moments)
 
+-- the words that a charge tells are those that its effects make the receiver accept
 pub charge_accepts_by_sends : ChargeAcceptsBySends
 charge_accepts_by_sends m amount b r ws len h = charge_accepts m amount b r ws len h

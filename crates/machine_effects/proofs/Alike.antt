@@ -1,18 +1,23 @@
 -- The board's bus and the machine's answer alike.
-use Rattle.std.proofs.Common.{◌≡◌, ◌==◌, ◌&&◌, if◌then◌else◌, cond, nat_lt, ◌≤◌, ◌<◌, ◌+◌, ◌-◌, ◌/◌, ◌%◌, arith, ℕ, zero, suc, refl, sym, ◌∙◌, ap, ap₂, subst, Bool, true, false, List, [], ◌∷◌, ◌++◌, length, drop, slice_index, slice_set, get_or-set_same, get_or-set_other, length-set, eqb-true, eq-eqb, Option, Some, None, Result, Ok, Err}
+use Rattle.std.proofs.Common.{◌≡◌, ◌==◌, ◌&&◌, if◌then◌else◌, cond, nat_lt, ◌≤◌, ◌<◌, ◌+◌, ◌-◌, ◌/◌, ◌%◌, arith, ℕ, zero, suc, refl, sym, ◌∙◌, ap, ap₂, subst}
+use Rattle.std.proofs.Common.{Bool, true, false, List, [], ◌∷◌, ◌++◌, length, drop, slice_index, slice_set, get_or-set_same, get_or-set_other, length-set}
+use Rattle.std.proofs.Common.{eqb-true, eq-eqb, Option, Some, None, Result, Ok, Err}
 use mathlib.Core.Path.{fun_ext}
 use Rattle.std.proofs.lemmas.Bool.Decides.{nat_tests}
+use Rattle.std.proofs.lemmas.Bool.{and_parts}
 use Rattle.alp_words.specs.declared.Width.{Width}
 use Rattle.alp_words.specs.declared.Width.TheVariants.{Word, Byte}
 use Rattle.msp_step.specs.declared.bus.Refused.{Refused}
 use Rattle.msp_step.specs.declared.bus.Refused.TheVariants as refused
 use Rattle.image_text.specs.ImageValue.{place_of}
-use Rattle.fram_board.specs.Bus.{BusState, IsBusState, board_bus, is_ram, is_fram, is_memory, is_word, ram_place, memory_word, with_word, byte_of, with_byte, next_reading, read_of, after_read, written, port_written, sensor_port, number_port, data_port}
+use Rattle.fram_board.specs.Bus.{BusState, IsBusState, board_bus, is_ram, is_fram, is_memory, is_word, ram_place, memory_word, with_word, byte_of, with_byte}
+use Rattle.fram_board.specs.Bus.{next_reading, read_of, after_read, written, port_written, sensor_port, number_port, data_port}
 use Rattle.fram_board.specs.Effects.{Effect, Store, Send}
 use Rattle.step_laws.specs.Alike.{AnswerAlike, WrittenAlike}
+use Rattle.fram_board.proofs.Effects.{other_is_fram, fram_low}
 use Rattle.machine_effects.specs.World.{put}
-use Rattle.machine_effects.specs.Machine.{MachineBus, machine_bus, machine_word, word_in, word_address, fram_of, ram_of, first_reading, machine_read, reading_taken, machine_after_read, machine_stored, machine_port_written, machine_written}
-use Rattle.machine_effects.proofs.Logs.{and_right, other_is_fram}
+use Rattle.machine_effects.specs.Machine.{MachineBus, machine_bus, machine_word, word_in, word_address, fram_of, ram_of, first_reading, machine_read}
+use Rattle.machine_effects.specs.Machine.{reading_taken, machine_after_read, machine_stored, machine_port_written, machine_written}
 
 -- the same memory, ports and readings, of which these are all
 pub record SameBus (readings : List ℕ) (s : BusState) (t : MachineBus) : Type 0 where
@@ -55,13 +60,11 @@ in_fram x h = (grind (arith, nat_tests), grind (arith, nat_tests))
 in_ram : (x : ℕ) → ((x % 2 == 0) && is_ram x) ≡ true → (x % 2 ≡ 0) × (0x1C00 ≤ x)
 in_ram x h = (grind (arith, nat_tests), grind (arith, nat_tests))
 
-pub fram_range : (a : ℕ) → is_fram a ≡ true → (0x4400 ≤ a) × (a < 0x10000)
-fram_range a h = (grind (arith, nat_tests), grind (arith, nat_tests))
-
 pub ram_range : (a : ℕ) → is_ram a ≡ true → (0x1C00 ≤ a) × (a < 0x2400)
 ram_range a h = (grind (arith, nat_tests), grind (arith, nat_tests))
 
-is_fram_address : (x : ℕ) → x % 2 ≡ 0 → 0x4400 ≤ x → x < 0x10000 → ((x % 2 == 0) && is_fram x) ≡ true
+-- an even address of FRAM
+pub is_fram_address : (x : ℕ) → x % 2 ≡ 0 → 0x4400 ≤ x → x < 0x10000 → ((x % 2 == 0) && is_fram x) ≡ true
 is_fram_address x e l h = grind (arith, nat_tests)
 
 is_ram_address : (x : ℕ) → x % 2 ≡ 0 → 0x1C00 ≤ x → x < 0x2400 → ((x % 2 == 0) && is_ram x) ≡ true
@@ -77,13 +80,13 @@ aligned : (a : ℕ) → Aligned a
 aligned a = record { even = omega arith; low = omega arith; high = omega arith }
 
 fram_there : (a : ℕ) → is_fram a ≡ true → ((word_address a % 2 == 0) && is_fram (word_address a)) ≡ true
-fram_there a h = let r = fram_range a h in let l = r.0 in let u = r.1 in is_fram_address (word_address a) (aligned a).even (omega arith) (omega arith)
+fram_there a h = let r = fram_low a h in let l = r.0 in let u = r.1 in is_fram_address (word_address a) (aligned a).even (omega arith) (omega arith)
 
 ram_there : (a : ℕ) → is_ram a ≡ true → ((word_address a % 2 == 0) && is_ram (word_address a)) ≡ true
 ram_there a h = let r = ram_range a h in let l = r.0 in let u = r.1 in is_ram_address (word_address a) (aligned a).even (omega arith) (omega arith)
 
 fram_place : (a : ℕ) → is_fram a ≡ true → place_of (word_address a) ≡ place_of a
-fram_place a h = let r = fram_range a h in let l = r.0 in omega arith
+fram_place a h = let r = fram_low a h in let l = r.0 in omega arith
 
 ram_place_same : (a : ℕ) → is_ram a ≡ true → ram_place (word_address a) ≡ ram_place a
 ram_place_same a h = let r = ram_range a h in let l = r.0 in omega arith
@@ -98,7 +101,7 @@ ram_at xs a h = ap (λ b. cond b (slice_index xs (ram_place (word_address a))) 0
 -- a word written
 put_fram : (xs : List ℕ) (a v : ℕ) → length xs ≡ 24064 → is_fram a ≡ true → put (fram_of xs) (word_address a) v ≡ fram_of (slice_set xs (place_of a) v)
 put_fram xs a v len h =
-    let r = fram_range a h in
+    let r = fram_low a h in
     let l = r.0 in let u = r.1 in
     let k = (aligned a).high in
     let within : place_of (word_address a) < length xs = omega arith in
@@ -127,7 +130,7 @@ module _ (readings : List ℕ) where
   fetched_on false x y e = refl
 
   pub fetches_same : (s : BusState) (t : MachineBus) (a : ℕ) → SameBus readings s t → board_bus.fetches s a ≡ machine_bus.fetches t a
-  fetches_same s t a h = fetched_on (is_word a) (memory_word s a) (machine_word t a) (λ e. word_same s t a h (and_right (a % 2 == 0) (is_memory a) e))
+  fetches_same s t a h = fetched_on (is_word a) (memory_word s a) (machine_word t a) (λ e. word_same s t a h (and_parts (a % 2 == 0) (is_memory a) e).1)
 
   -- a reading
   next_on : (xs : List ℕ) (n : ℕ) → (if nat_lt n (length xs) then Ok (slice_index xs n) else Err refused.NoReading) ≡ first_reading (drop n xs)
@@ -154,7 +157,7 @@ module _ (readings : List ℕ) where
   reads_same : (s : BusState) (t : MachineBus) (a : ℕ) (w : Width) → SameBus readings s t → read_of s a w ≡ machine_read t a w
   reads_same s t a Word h =
       read_on (is_word a) (a == sensor_port) (memory_word s a) (machine_word t a) (next_reading s) (first_reading t.readings_left)
-      (λ e. word_same s t a h (and_right (a % 2 == 0) (is_memory a) e)) (next_same s t h)
+      (λ e. word_same s t a h (and_parts (a % 2 == 0) (is_memory a) e).1) (next_same s t h)
   reads_same s t a Byte h = byte_on (is_memory a) a (memory_word s a) (machine_word t a) (λ e. word_same s t a h e)
 
   -- a reading taken
@@ -266,7 +269,7 @@ module _ (readings : List ℕ) where
       → WrittenAlike (SameBus readings) (written s a w v) (machine_written t a w v)
   writes_same s t a Word v h =
       either (is_word a) (Some (with_word s a v)) (port_written s a v) (Some (machine_stored t a v)) (machine_port_written t a v)
-      (λ e. word_stored s t a v (and_right (a % 2 == 0) (is_memory a) e) h) (port_same (a == number_port) (a == data_port) s t v
+      (λ e. word_stored s t a v (and_parts (a % 2 == 0) (is_memory a) e).1 h) (port_same (a == number_port) (a == data_port) s t v
       (t.log ++ Send t.outnum v ∷ []) h)
   writes_same s t a Byte v h =
       either (is_memory a) (Some (with_word s a (with_byte (memory_word s a) a v))) None

@@ -5,7 +5,6 @@ use Rattle.alp_words.specs.declared.Width.{Width}
 use Rattle.alp_words.specs.declared.Width.TheVariants.{Word}
 use Rattle.alp_words.specs.declared.Flags.{Flags}
 use Rattle.alp_words.specs.Words.{operand}
-use Rattle.msp_isa.specs.declared.registers.IndexRegister.{IndexRegister}
 use Rattle.msp_isa.specs.declared.registers.Reg.{Reg}
 use Rattle.msp_isa.specs.declared.operands.Konst.{Konst}
 use Rattle.msp_isa.specs.declared.operands.Operand.{Operand}
@@ -20,12 +19,16 @@ use Rattle.msp_isa.specs.declared.instructions.Instr.{Instr}
 use Rattle.msp_isa.specs.declared.instructions.Instr.TheVariants as instr
 use Rattle.msp_isa.specs.Constant.{constant_value}
 use Rattle.msp_isa.specs.Encoding.{index_number, register_number, source_row, destination_row, operand_row}
+use Rattle.msp_isa.proofs.Numbers.{index_below}
 use Rattle.msp_step.specs.declared.bus.Refused.{Refused}
 use Rattle.msp_step.specs.declared.operand.Location.{Location}
 use Rattle.msp_step.specs.declared.operand.Location.TheVariants.{Register, Memory}
 use Rattle.msp_step.specs.Registers.{Registers, with_register}
 use Rattle.msp_step.specs.Access.{BusModel, Access, Completed, Faulted, then_do, read_answer, write_answer, read_at, write_at}
-use Rattle.msp_step.specs.Effect.{Operated, sum16, step_of, status_with, Written, source, load, store, finish, operand_location, incremented, destination_operand, after_source, operated, flags_of, with_flags, reads_destination, writes_destination, destination_location, two_operand_effect, is_met, distance, read_modify_write, rotated, shifted, exchanged, sign_extended, below_stack, push_effect, call_effect, reti_effect}
+use Rattle.msp_step.specs.Effect.{Operated, sum16, step_of, status_with, Written, source, load, store, finish, operand_location, incremented}
+use Rattle.msp_step.specs.Effect.{destination_operand, after_source, operated, flags_of, with_flags, reads_destination, writes_destination}
+use Rattle.msp_step.specs.Effect.{destination_location, two_operand_effect, is_met, distance, read_modify_write, rotated, shifted, exchanged, sign_extended}
+use Rattle.msp_step.specs.Effect.{below_stack, push_effect, call_effect, reti_effect}
 use Rattle.msp_step.specs.Step.{effect, one_operand_effect}
 
 -- W holds of values, P of registers and Q of the bus, and each part of an instruction keeps them
@@ -68,9 +71,6 @@ InstructionHas W instr.Reti = Unit {0}
 abbrev pub Gives : {S A : Type 0} → (S → Type 0) → (A → Type 0) → Access S A → Type 0
 Gives Q G (Completed x s) = G x × Q s
 Gives Q G (Faulted e a s) = Q s
-
-index_low : (b : IndexRegister) → index_number b < 16
-index_low b = grind arith
 
 register_low : (n : Reg) → register_number n < 16
 register_low n = grind arith
@@ -116,7 +116,7 @@ module _ {S : Type 0} (bus : BusModel S) (W : ℕ → Type 0) (P : Registers →
 
   increment_gives : (o : Operand) (r : Registers) (w : Width) → P r → P (incremented r w o)
   increment_gives (mode.Increment b) r w p =
-      closed.with r (index_number b) (sum16 (r (index_number b)) (step_of w (index_number b))) (index_low b)
+      closed.with r (index_number b) (sum16 (r (index_number b)) (step_of w (index_number b))) (index_below b)
       (closed.sum (r (index_number b)) (step_of w (index_number b))) p
   increment_gives (mode.Reg n) r w p = p
   increment_gives (mode.Indexed b x) r w p = p

@@ -1,7 +1,9 @@
 -- What the machine's bus logs of an instruction: the readings that it takes, and then its one store or its one send.
-use Rattle.std.proofs.Common.{◌≡◌, ◌==◌, ◌&&◌, if◌then◌else◌, ◌%◌, arith, ℕ, refl, sym, ◌∙◌, ap, subst, Bool, true, false, List, [], ◌∷◌, ◌++◌, map, append_assoc, append-nil, eq-eqb, Option, Some, None}
+use Rattle.std.proofs.Common.{◌≡◌, ◌==◌, if◌then◌else◌, ◌%◌, arith, ℕ, refl, sym, ◌∙◌, ap, subst, Bool, true, false, List, [], ◌∷◌, ◌++◌, map, append_assoc}
+use Rattle.std.proofs.Common.{append-nil, eq-eqb, Option, Some, None}
 use Rattle.std.proofs.lemmas.List.{map-append}
 use Rattle.std.proofs.lemmas.Bool.Decides.{nat_tests}
+use Rattle.std.proofs.lemmas.Bool.{and_parts}
 use Rattle.alp_words.specs.declared.Width.{Width}
 use Rattle.alp_words.specs.declared.Width.TheVariants.{Word, Byte}
 use Rattle.msp_isa.specs.declared.instructions.Instr.{Instr}
@@ -11,16 +13,20 @@ use Rattle.msp_step.specs.Effect.{Written}
 use Rattle.msp_step.specs.Step.{effect, off_bit}
 use Rattle.msp_step.specs.Laws.{AfterWrite}
 use Rattle.msp_step.proofs.Accesses.{Ends, effect_ends}
-use Rattle.msp_step.specs.declared.machine.Stop.TheVariants as stop
 use Rattle.msp_cycles.specs.Cycles.{cycles_of}
+use Rattle.msp_step.specs.declared.machine.Stop.TheVariants as stop
 use Rattle.fram_board.specs.Bus.{is_ram, is_fram, is_memory, is_word, with_byte, sensor_port, number_port, data_port}
 use Rattle.fram_board.specs.Effects.{Effect, Store, Take, Send, sends_of}
+use Rattle.fram_board.proofs.Effects.{data_not_fram, other_is_fram, ram_not_fram}
 use Rattle.machine_effects.specs.World.{put, fram_after, readings_taken}
 use Rattle.machine_effects.specs.Going.{Stops}
-use Rattle.machine_effects.specs.Machine.{MachineBus, machine_bus, machine_word, word_address, reading_taken, machine_after_read, machine_stored, machine_port_written, machine_written, MachineBoard, machine_opened, MachineOutcome, machine_outcome, machine_executed, NoInstruction, Executes, standing, step_with}
+use Rattle.machine_effects.specs.Machine.{MachineBus, machine_bus, machine_word, word_address, reading_taken, machine_after_read, machine_stored}
+use Rattle.machine_effects.specs.Machine.{machine_port_written, machine_written, MachineBoard, machine_opened, MachineOutcome, machine_outcome}
+use Rattle.machine_effects.specs.Machine.{machine_executed, NoInstruction, Executes, standing, step_with}
 use Rattle.machine_effects.specs.Laws.{ChangesByEffects, CodeChangesByEffects, MachineChangesByEffects}
 use Rattle.machine_effects.proofs.Worlds.{fram_after-append, readings_taken-append, taking_keeps_fram, taking_takes}
 
+-- the effects of readings taken, the first one first
 abbrev pub takes : List ℕ → List Effect
 takes ws = map (λ w. Take w) ws
 
@@ -89,20 +95,11 @@ stores a v w f number e g = rw (e, g, eq-eqb (word_address a) (word_address a) r
 sends : (a v : ℕ) (f : ℕ → ℕ) (number : ℕ) → is_fram a ≡ false → (a == data_port) ≡ true → write_effects a v f number ≡ Send number v ∷ []
 sends a v f number e g = rw (e, g) refl
 
-ram_not_fram : (a : ℕ) → is_ram a ≡ true → is_fram a ≡ false
-ram_not_fram a e = grind (arith, nat_tests)
-
 memory_no_data : (a : ℕ) → is_memory a ≡ true → (a == data_port) ≡ false
 memory_no_data a e = grind (arith, nat_tests)
 
-pub other_is_fram : (a : ℕ) → is_ram a ≡ false → is_memory a ≡ true → is_fram a ≡ true
-other_is_fram a e h = grind (arith, nat_tests)
-
 pub number_no_fram : (a : ℕ) → (a == number_port) ≡ true → (is_fram a ≡ false) × ((a == data_port) ≡ false)
 number_no_fram a e = (grind (arith, nat_tests), grind (arith, nat_tests))
-
-pub data_no_fram : (a : ℕ) → (a == data_port) ≡ true → is_fram a ≡ false
-data_no_fram a e = grind (arith, nat_tests)
 
 wrote_quiet : (u t : MachineBus) (a v : ℕ) → is_fram a ≡ false → (a == data_port) ≡ false → t.readings_left ≡ u.readings_left → t.log ≡ u.log
     → t.fram ≡ u.fram → Wrote u a v t
@@ -130,13 +127,9 @@ port_wrote : (b c : Bool) (u : MachineBus) (a v : ℕ) → (a == number_port) �
     → WroteIf u a v (if b then Some (record u { outnum = v }) else if c then Some (record u { log = u.log ++ Send u.outnum v ∷ [] }) else None)
 port_wrote true c u a v e g = let n = number_no_fram a e in wrote_quiet u (record u { outnum = v }) a v n.0 n.1 refl refl refl
 port_wrote false true u a v e g =
-    let n = sends a v u.fram u.outnum (data_no_fram a g) g in
+    let n = sends a v u.fram u.outnum (data_not_fram a g) g in
     record { readings = refl; log = ap (λ x. u.log ++ x) (sym n); fram = ap (λ x. fram_after x u.fram) (sym n) }
 port_wrote false false u a v e g = tt
-
-pub and_right : (x y : Bool) → (x && y) ≡ true → y ≡ true
-and_right true y e = e
-and_right false y e = cc
 
 served : (b : Bool) (u : MachineBus) (a v : ℕ) (x y : Option MachineBus) → (b ≡ true → WroteIf u a v x) → WroteIf u a v y → WroteIf u a v (if b then x else y)
 served true u a v x y g h = g refl
@@ -145,7 +138,7 @@ served false u a v x y g h = h
 written_wrote : (u : MachineBus) (a : ℕ) (w : Width) (v : ℕ) → WroteIf u a v (machine_written u a w v)
 written_wrote u a Word v =
     served (is_word a) u a v (Some (machine_stored u a v)) (machine_port_written u a v)
-    (λ e. stored_wrote (is_ram a) u a v v refl (and_right (a % 2 == 0) (is_memory a) e)) (port_wrote (a == number_port) (a == data_port) u a v refl refl)
+    (λ e. stored_wrote (is_ram a) u a v v refl (and_parts (a % 2 == 0) (is_memory a) e).1) (port_wrote (a == number_port) (a == data_port) u a v refl refl)
 written_wrote u a Byte v =
     served (is_memory a) u a v (Some (machine_stored u a (with_byte (machine_word u a) a v))) None
     (λ e. stored_wrote (is_ram a) u a v (with_byte (machine_word u a) a v) refl e) tt
@@ -193,6 +186,7 @@ ends_logged : (s : MachineBus) (m : Access MachineBus (Registers × Option Writt
 ends_logged s (Completed x t) h = logged_write s h.0 t x.1 (only_took 2 s h.0 h.1) h.2
 ends_logged s (Faulted e a t) h = only_took 2 s t h
 
+-- an instruction's effects are logged
 pub effect_logged : (i : Instr) (r : Registers) (s : MachineBus) → LoggedBy s (effect machine_bus i r s)
 effect_logged i r s = ends_logged s (effect machine_bus i r s) (effect_ends machine_bus i r s)
 
@@ -236,12 +230,15 @@ if_off : (b : Bool) (s : MachineBoard) (o : MachineOutcome) → ChangesByEffects
 if_off true s o h = (refl, (s.readings_left, refl))
 if_off false s o h = h
 
+-- a step changes as its effects say
 pub step_changes : (i : Option Instr) (s : MachineBoard) → ChangesByEffects s (step_with i s)
 step_changes i s = if_off (off_bit s.registers == 1) s (standing i s) (standing_changes i s)
 
+-- code changes FRAM, readings and receiver as its effects say
 pub code_changes_by_effects : CodeChangesByEffects
 code_changes_by_effects code s = step_changes (code (s.registers 0)) s
 
+-- a machine changes as its effects say
 pub machine_changes_by_effects : MachineChangesByEffects
 machine_changes_by_effects s o (NoInstruction e h) = (refl, (s.readings_left, refl))
 machine_changes_by_effects s o (Executes i h) = executed_changes s i

@@ -1,5 +1,6 @@
 -- A charge of the board is one of the machine.
-use Rattle.std.proofs.Common.{◌≡◌, ◌≤◌, ◌<◌, ◌+◌, ◌-◌, inl, inr, arith, ℕ, suc, refl, sym, ◌∙◌, ap, subst, List, [], ◌∷◌, ◌++◌, length, drop, slice_range, append_assoc, append-nil, Option, None, Ok, Err}
+use Rattle.std.proofs.Common.{◌≡◌, ◌≤◌, ◌<◌, ◌+◌, ◌-◌, inl, inr, arith, ℕ, suc, refl, sym, ◌∙◌, ap, subst, List, [], ◌∷◌, ◌++◌, length, drop, slice_range}
+use Rattle.std.proofs.Common.{append_assoc, append-nil, Option, None, Ok, Err}
 use Rattle.std.proofs.lemmas.List.Folds.{drop_split}
 use Rattle.msp_isa.specs.declared.instructions.Instr.{Instr}
 use Rattle.msp_cycles.specs.Cycles.{cycles_of}
@@ -13,7 +14,8 @@ use Rattle.fram_board.specs.declared.board.Stepped.{Stepped}
 use Rattle.fram_board.specs.Bus.{BusState, board_bus}
 use Rattle.fram_board.specs.Board.{BoardValue, BoardOutcome, opened, board_outcome, executed, IsNextInstruction, IsStep}
 use Rattle.fram_board.specs.Effects.{Effect, sends_of, effects_of}
-use Rattle.fram_board.specs.Run.{Measure, Cycles, Instructions, price, Action, Execute, Moment, moment_of, End, Charges, RunOutcome, run_outcome, after_moments, ChargeRun, Spent, NoInstruction, TooDear, Refused}
+use Rattle.fram_board.specs.Run.{Measure, Cycles, Instructions, price, Action, Execute, Moment, moment_of, End, Charges, RunOutcome, run_outcome, after_moments}
+use Rattle.fram_board.specs.Run.{ChargeRun, Spent, NoInstruction, TooDear, Refused}
 use Rattle.fram_board.specs.Run as run
 use Rattle.fram_board.proofs.Takes.{only_takes}
 use Rattle.machine_effects.specs.World.{fram_after, readings_taken}
@@ -213,6 +215,7 @@ charge_alike m amount b r w (run.Executed _ _ i done rest pos c paid a h) =
     ends m amount b w i done c paid a rest rest.ending (charge_alike m (amount - price m i) (executed b i).board rest
     (whole_after m amount b w i done c paid a) h)
 
+-- a charge of the board is the machine's
 pub charges_alike : ChargesAlike
 charges_alike m amount b r w h = charge_alike m amount b r w h
 
@@ -224,6 +227,7 @@ charge_whole m amount b r w (Refused _ _ i e pos c paid a) = refused_whole b i w
 charge_whole m amount b r w (run.Executed _ _ i done rest pos c paid a h) =
     charge_whole m (amount - price m i) (executed b i).board rest (whole_after m amount b w i done c paid a) h
 
+-- a charge leaves a whole board
 pub charge_leaves_it_whole : ChargeLeavesItWhole
 charge_leaves_it_whole m amount b r w h = charge_whole m amount b r w h
 
@@ -235,11 +239,12 @@ charge_words m amount b r w q (Refused _ _ i e pos c paid a) = words_stay_words 
 charge_words m amount b r w q (run.Executed _ _ i done rest pos c paid a h) =
     charge_words m (amount - price m i) (executed b i).board rest (whole_after m amount b w i done c paid a) (words_after m amount b w i done c paid a q) h
 
+-- a charge keeps FRAM and readings words
 pub charge_keeps_words : ChargeKeepsWords
 charge_keeps_words m amount b r w q h = charge_words m amount b r w q h
 
 -- the fronts of a charge
-reaches_none : (b : BoardValue) → IsWhole b → ReachesAs b []
+pub reaches_none : (b : BoardValue) → IsWhole b → ReachesAs b []
 reaches_none b w = record { run = Stays (machine_of b); whole = w; words = λ q. q }
 
 no_front : (b : BoardValue) (ms rest : List Moment) → IsWhole b → [] ≡ ms ++ rest → ReachesAs b ms
@@ -276,5 +281,6 @@ charge_boards m amount b r ms rest w (run.Executed _ _ i done next pos c paid a 
     front_of m amount b w i done c paid a next.moments ms rest e
     (λ ns more f. charge_boards m (amount - price m i) (executed b i).board next ns more (whole_after m amount b w i done c paid a) h f)
 
+-- and so is each front of it
 pub charge_boards_alike : ChargeBoardsAlike
 charge_boards_alike m amount b r ms rest w h e = charge_boards m amount b r ms rest w h e

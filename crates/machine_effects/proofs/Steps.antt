@@ -1,10 +1,12 @@
 -- Each step of a board is a step of the machine that it is, and each step of that is one of the board.
-use Rattle.std.proofs.Common.{◌≡◌, ◌==◌, if◌then◌else◌, cond, ◌≤◌, ◌<◌, ◌-◌, ◌%◌, arith, ℕ, zero, suc, refl, sym, ◌∙◌, ap, ap₂, subst, inl, inr, Bool, true, false, List, [], ◌∷◌, ◌++◌, length, drop, take, slice_index, slice_range, append-nil, Option, Some, None, Err}
+use Rattle.std.proofs.Common.{◌≡◌, ◌==◌, if◌then◌else◌, cond, ◌≤◌, ◌<◌, ◌-◌, ◌%◌, arith, ℕ, zero, suc, refl, sym, ◌∙◌, ap, ap₂, subst, inl, inr, Bool, true}
+use Rattle.std.proofs.Common.{false, List, [], ◌∷◌, ◌++◌, length, drop, take, slice_index, slice_range, append-nil, Option, Some, None, Err}
 use mathlib.Core.Path.{fun_ext}
 use Rattle.std.specs.Option.{option_map}
 use Rattle.std.proofs.lemmas.Bool.Decides.{nat_tests}
 use Rattle.std.proofs.lemmas.List.{append_cancel_right}
 use Rattle.std.proofs.lemmas.List.Folds.{drop_split}
+use Rattle.std.proofs.lemmas.Bool.{and_parts}
 use Rattle.alp_words.specs.declared.Width.{Width}
 use Rattle.alp_words.specs.declared.Width.TheVariants.{Word, Byte}
 use Rattle.msp_isa.specs.declared.operands.Src.{Src}
@@ -19,24 +21,28 @@ use Rattle.msp_step.specs.declared.machine.Stop.TheVariants as stop
 use Rattle.msp_step.specs.Registers.{Registers, with_register, kept, registers_of}
 use Rattle.msp_step.specs.Access.{BusModel, Access, Completed, Faulted}
 use Rattle.msp_step.specs.Effect.{Written, sum16}
-use Rattle.msp_step.specs.Step.{FetchedAt, NotFetched, First, Second, Third, IsStopped, IsCurrentInstruction, effect, stop_of, Outcome, outcome_of, StepResult, Stopped, Executed}
+use Rattle.msp_step.specs.Step.{FetchedAt, NotFetched, First, Second, Third, IsStopped, IsCurrentInstruction, effect, stop_of, Outcome, outcome_of, StepResult}
+use Rattle.msp_step.specs.Step.{Stopped, Executed}
 use Rattle.msp_step.specs.Laws.{AfterWrite}
 use Rattle.msp_step.proofs.Accesses.{Ends, effect_ends}
 use Rattle.msp_step.proofs.Determined.{same_current, same_stop, not_stopped}
 use Rattle.step_laws.specs.Alike.{Alike}
 use Rattle.step_laws.proofs.EffectAlike.{effect_alike}
 use Rattle.image_text.specs.ImageValue.{place_of}
-use Rattle.fram_board.specs.Bus.{BusState, board_bus, is_ram, is_fram, is_memory, is_word, written, port_written, with_word, with_byte, memory_word, number_port, data_port}
+use Rattle.fram_board.specs.Bus.{BusState, board_bus, is_ram, is_fram, is_memory, is_word, written, port_written, with_word, with_byte, memory_word}
+use Rattle.fram_board.specs.Bus.{number_port, data_port}
 use Rattle.fram_board.specs.Board.{BoardValue, BoardOutcome, opened, closed, board_outcome, executed, register_list, IsNextInstruction}
 use Rattle.fram_board.specs.Effects.{Effect, Store, store_at, sends_of, effects_of}
 use Rattle.fram_board.proofs.Takes.{only_takes, execution_takes}
 use Rattle.machine_effects.specs.Going.{Goes, Stops, At, Halted, stretch, after_effects}
-use Rattle.machine_effects.specs.Machine.{MachineBus, MachineBoard, MachineOutcome, MachineStretch, machine_bus, machine_opened, machine_closed, machine_outcome, machine_executed, IsMachineStep, NoInstruction, Executes, MachineRun, Stays, Halts, Steps, word_address, fram_of}
+use Rattle.machine_effects.specs.Machine.{MachineBus, MachineBoard, MachineOutcome, MachineStretch, machine_bus, machine_opened, machine_closed}
+use Rattle.machine_effects.specs.Machine.{machine_outcome, machine_executed, IsMachineStep, NoInstruction, Executes, MachineRun, Stays, Halts, Steps}
+use Rattle.machine_effects.specs.Machine.{word_address, fram_of}
 use Rattle.machine_effects.specs.View.{machine_of, IsWhole, IsNextPrice, machine_outcome_of}
 use Rattle.machine_effects.specs.Laws.{BoardStepsAsMachine, MachineStepsAsBoard, MachineStepsInOneWay, MachineRunsInOneWay}
 use Rattle.machine_effects.proofs.Alike.{SameBus, buses_alike, fetches_same, fram_at}
 use Rattle.machine_effects.proofs.Along.{IsClosed, SourceHas, InstructionHas, Gives, effect_gives}
-use Rattle.machine_effects.proofs.Logs.{takes, LoggedBy, effect_logged, offered_by, written_effects, number_no_fram, and_right}
+use Rattle.machine_effects.proofs.Logs.{takes, LoggedBy, effect_logged, offered_by, written_effects, number_no_fram}
 
 -- two buses that fetch alike have the same instruction, or none, at an address
 module _ {S T : Type 0} (b : BusModel S) (c : BusModel T) (s : S) (t : T) (same : (a : ℕ) → b.fetches s a ≡ c.fetches t a) where
@@ -175,7 +181,7 @@ offers_served false a v x y g h = h
 written_offers : (s : BusState) (a : ℕ) (w : Width) (v : ℕ) → s.offered ≡ None → OffersIf a v (written s a w v)
 written_offers s a Word v h =
     offers_served (is_word a) a v (Some (with_word s a v)) (port_written s a v) (λ e. word_offers (is_ram a) s a v _ _
-    (memory_no_data a (and_right (a % 2 == 0) (is_memory a) e)) h) (port_offers (a == number_port) (a == data_port) s a v refl refl h)
+    (memory_no_data a (and_parts (a % 2 == 0) (is_memory a) e).1) h) (port_offers (a == number_port) (a == data_port) s a v refl refl h)
 written_offers s a Byte v h =
     offers_served (is_memory a) a v (Some (with_word s a (with_byte (memory_word s a) a v))) None
     (λ e. word_offers (is_ram a) s a v _ _ (memory_no_data a e) h) tt
@@ -281,6 +287,7 @@ pub stopped_to_machine : (b : BoardValue) (e : Stop) → IsWhole b → IsStopped
 stopped_to_machine b e h g =
     NoInstruction e (stopped_alike board_bus machine_bus (opened b) (machine_opened (machine_of b)) (fetches b h) (registers_of b.cpu) e g)
 
+-- the board's next instruction is the machine's step
 pub current_to_machine : (b : BoardValue) (i : Instr) → IsWhole b → IsNextInstruction b i → IsMachineStep (machine_of b) (machine_executed (machine_of b) i)
 current_to_machine b i h g = Executes i (current_alike board_bus machine_bus (opened b) (machine_opened (machine_of b)) (fetches b h) (registers_of b.cpu) i g)
 

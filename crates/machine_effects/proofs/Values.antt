@@ -1,11 +1,15 @@
 -- What the operations of the CPU make of words are words.
-use Rattle.std.proofs.Common.{◌≡◌, ◌==◌, ◌<◌, ◌+◌, ◌-◌, ◌*◌, ◌/◌, ◌%◌, arith, ℕ, zero, suc, refl, Bool, true, false, if◌then◌else◌, nat_le, bit_and, bit_or, bit_xor, slice_index, slice_set}
+use Rattle.std.proofs.Common.{◌==◌, ◌<◌, ◌+◌, ◌-◌, ◌*◌, ◌/◌, ◌%◌, arith, ℕ, zero, suc, Bool, true, false, if◌then◌else◌, bit_and, bit_or, bit_xor, slice_index, ◌≡◌}
+use Rattle.std.proofs.Common.{slice_set}
 use Rattle.std.proofs.lemmas.Nat.{and_le_l, or_of_16, xor_of_16}
+use Rattle.std.proofs.lemmas.Bool.Decides.{nat_tests}
 use Rattle.alp_words.specs.declared.Width.{Width}
 use Rattle.alp_words.specs.declared.Width.TheVariants.{Word, Byte}
 use Rattle.alp_words.specs.declared.Flags.{Flags}
 use Rattle.alp_words.specs.Words as words
-use Rattle.alp_words.specs.Words.{bit, operand, modulus, sign_weight, bcd_sum, decimal_digit, digit_count, word_bytes, word_of_bytes, extended, is_negative, swapped}
+use Rattle.alp_words.specs.Words.{bit, operand, modulus, sign_weight, bcd_sum, decimal_digit, digit_count, word_bytes, word_of_bytes, extended, is_negative}
+use Rattle.alp_words.specs.Words.{swapped}
+use Rattle.alp_words.proofs.Decimal.{digit_below}
 use Rattle.msp_isa.specs.declared.operands.Konst.{Konst}
 use Rattle.msp_isa.specs.declared.operands.Konst.TheVariants as konst
 use Rattle.msp_isa.specs.Constant.{constant_value}
@@ -33,7 +37,8 @@ constant_small konst.Four = omega arith
 constant_small konst.Eight = omega arith
 constant_small konst.MinusOne = omega arith
 
-bit_low : (b : Bool) → bit b < 2
+-- a bit is below 2
+pub bit_low : (b : Bool) → bit b < 2
 bit_low true = omega arith
 bit_low false = omega arith
 
@@ -55,13 +60,6 @@ abbrev sixteens : ℕ → ℕ
 sixteens zero = 1
 sixteens (suc n) = 16 * sixteens n
 
-digit_on : (b : Bool) (t : ℕ) → nat_le 10 t ≡ b → (if◌then◌else◌ {A = ℕ × Bool} b ((t + 6) % 16, true) (t, false)).0 < 16
-digit_on true t e = omega arith
-digit_on false t e = grind arith
-
-digit_low : (a b : ℕ) (c : Bool) → (decimal_digit a b c).0 < 16
-digit_low a b c = digit_on (nat_le 10 (a + b + bit c)) (a + b + bit c) refl
-
 both_digits : (l h s : ℕ) → l < 16 → h < s → l + 16 * h < 16 * s
 both_digits l h s a b = omega arith
 
@@ -69,7 +67,7 @@ decimal_low : (n d s : ℕ) (c : Bool) → (bcd_sum n d s c).0 < sixteens n
 decimal_low zero d s c = omega arith
 decimal_low (suc n) d s c =
     let low = decimal_digit (d % 16) (s % 16) c in
-    both_digits low.0 (bcd_sum n (d / 16) (s / 16) low.1).0 (sixteens n) (digit_low (d % 16) (s % 16) c) (decimal_low n (d / 16) (s / 16) low.1)
+    both_digits low.0 (bcd_sum n (d / 16) (s / 16) low.1).0 (sixteens n) (digit_below (d % 16) (s % 16) c) (decimal_low n (d / 16) (s / 16) low.1)
 
 decimal_small : (w : Width) (d s : ℕ) (c : Bool) → IsSmall (bcd_sum (digit_count w) d s c).0
 decimal_small Word d s c = decimal_low 4 d s c
@@ -164,3 +162,7 @@ either_small false x y h k = k
 
 pub with_small : (r : Registers) (n v : ℕ) → n < 16 → IsSmall v → AreSmall r → AreSmall (with_register r n v)
 with_small r n v low h k m = either_small (m == n) (kept n v) (r m) (kept_small n v h) (k m)
+
+-- a word that isn't zero, compared with zero, sets no zero flag
+pub zero_flag : (n : ℕ) → n < 0x10000 → 0 < n → ((n + 65535 + 1) % 65536 == 0) ≡ false
+zero_flag n l h = grind (arith, nat_tests)

@@ -7,10 +7,12 @@ use Rattle.fram_board.specs.Board.{filled_words, vector_of}
 use Rattle.machine_effects.specs.Machine.{MachineBoard, fram_of, ram_of}
 use Rattle.machine_effects.specs.Laws.{PowerUpIsTheMachines, FreshMachine}
 
+-- a power-up of the board is that of the machine
 pub power_up_is_the_machines : PowerUpIsTheMachines
 power_up_is_the_machines b p = refl
 
-zeros_at : (n k : ℕ) → slice_index (replicate n 0) k ≡ 0
+-- zeros everywhere
+pub zeros_at : (n k : ℕ) → slice_index (replicate n 0) k ≡ 0
 zeros_at zero k = refl
 zeros_at (suc n) zero = refl
 zeros_at (suc n) (suc k) = zeros_at n k

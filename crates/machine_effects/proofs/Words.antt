@@ -233,6 +233,7 @@ index_by : (ws : List ℕ) (k : ℕ) → All (λ w. w < 0x10000) ws → (k < len
 index_by ws k h (inl low) = h k 0 low
 index_by ws k h (inr high) = let e = past_end ws k high in subst IsSmall (sym e) (omega arith)
 
+-- one of words is a word
 pub index_small : (ws : List ℕ) (k : ℕ) → All (λ w. w < 0x10000) ws → IsSmall (slice_index ws k)
 index_small ws k h = index_by ws k h (cases_lt k (length ws))
 
@@ -349,6 +350,7 @@ outcome_lists b o h (Executed i k) =
     access_lists b i (effect board_bus i (registers_of b.cpu) (opened b)) h (effect_gives board_bus IsSmall AreSmall ListsOfWords board_closed_words i
     (registers_of b.cpu) (opened b) has (registers_small b h) q)
 
+-- FRAM and readings stay words
 pub words_stay_words : WordsStayWords
 words_stay_words b x w h is = subst (λ y. IsOfWords y.board) (sym is.2) (outcome_lists b is.0 h is.1)
 
@@ -380,6 +382,7 @@ outcome_whole b o h (Executed i k) =
     (effect_alike BusState MachineBus board_bus machine_bus (SameBus b.readings) (buses_alike b.readings) i r (opened b)
     (machine_opened (machine_of b)) (begins b h)) (stays_valid board_bus i r (opened b) (valid_registers b h))
 
+-- a step leaves a whole board
 pub step_leaves_it_whole : StepLeavesItWhole
 step_leaves_it_whole b x h is = subst (λ y. IsWhole y.board) (sym is.2) (outcome_whole b is.0 h is.1)
 
@@ -389,6 +392,7 @@ drop_small zero ws h = h
 drop_small (suc n) [] h = h
 drop_small (suc n) (w ∷ ws) h = drop_small n ws (all_tail w ws h)
 
+-- what a board of words is as a machine
 pub machine_is_of_words : MachineIsOfWords
 machine_is_of_words b h = record {
   registers = λ n. index_small b.cpu n h.registers;
@@ -460,6 +464,7 @@ fresh_registers v h = from_pairs (powered_up v 0) (
   ),
 )
 
+-- a fresh board is whole and holds words
 pub fresh_is_whole : FreshIsWhole
 fresh_is_whole fram readings long few f r = (
   record {

@@ -1,9 +1,11 @@
 -- The world after effects, by its parts and one stretch after another.
-use Rattle.std.proofs.Common.{◌≡◌, ◌≢◌, cond, ne_eqb, ℕ, List, [], ◌∷◌, ◌++◌, refl, sym, ap, ◌∙◌, map}
+use Rattle.std.proofs.Common.{◌≡◌, ◌≢◌, cond, ne_eqb, ℕ, List, [], ◌∷◌, ◌++◌, refl, sym, ap, ◌∙◌, map, eq-eqb, if◌then◌else◌}
 use Rattle.fram_board.specs.Effects.{Effect, Store, Take, Send}
-use Rattle.machine_effects.specs.World.{World, put, received, fram_after_one, fram_after, accepted_after_one, accepted_after, world_after_one, world_after, readings_taken, EachStore, OfStore}
+use Rattle.machine_effects.specs.World.{World, put, received, fram_after_one, fram_after, accepted_after_one, accepted_after, world_after_one, world_after}
+use Rattle.machine_effects.specs.World.{readings_taken, EachStore, OfStore}
 use Rattle.machine_effects.specs.Laws.{WorldByItsParts}
 
+-- FRAM behind two parts
 pub fram_after-append : (es fs : List Effect) (f : ℕ → ℕ) → fram_after (es ++ fs) f ≡ fram_after fs (fram_after es f)
 fram_after-append [] fs f = refl
 fram_after-append (e ∷ es) fs f = fram_after-append es fs (fram_after_one e f)
@@ -12,24 +14,29 @@ pub accepted_after-append : (es fs : List Effect) (ws : List ℕ) → accepted_a
 accepted_after-append [] fs ws = refl
 accepted_after-append (e ∷ es) fs ws = accepted_after-append es fs (accepted_after_one e ws)
 
+-- the world behind two parts
 pub world_after-append : (es fs : List Effect) (x : World) → world_after (es ++ fs) x ≡ world_after fs (world_after es x)
 world_after-append [] fs x = refl
 world_after-append (e ∷ es) fs x = world_after-append es fs (world_after_one e x)
 
+-- the readings of two parts
 pub readings_taken-append : (es fs : List Effect) → readings_taken (es ++ fs) ≡ readings_taken es ++ readings_taken fs
 readings_taken-append [] fs = refl
 readings_taken-append (Store a w ∷ es) fs = readings_taken-append es fs
 readings_taken-append (Take w ∷ es) fs = ap (λ l. w ∷ l) (readings_taken-append es fs)
 readings_taken-append (Send n w ∷ es) fs = readings_taken-append es fs
 
+-- a fact of each store, of both parts
 pub each_store-append : (P : ℕ → ℕ → Type 0) (es fs : List Effect) → EachStore P es → EachStore P fs → EachStore P (es ++ fs)
 each_store-append P [] fs h k = k
 each_store-append P (e ∷ es) fs h k = (h.0, each_store-append P es fs h.1 k)
 
+-- a fact of each store, of the first part
 pub each_store-front : (P : ℕ → ℕ → Type 0) (es fs : List Effect) → EachStore P (es ++ fs) → EachStore P es
 each_store-front P [] fs h = tt
 each_store-front P (e ∷ es) fs h = (h.0, each_store-front P es fs h.1)
 
+-- a fact of each store, of the second part
 pub each_store-back : (P : ℕ → ℕ → Type 0) (es fs : List Effect) → EachStore P (es ++ fs) → EachStore P fs
 each_store-back P [] fs h = h
 each_store-back P (e ∷ es) fs h = each_store-back P es fs h.1
@@ -40,6 +47,7 @@ untouched_one (Store a w) x f h = ap (λ b. cond b w (f x)) (ne_eqb x a (λ e. h
 untouched_one (Take w) x f h = refl
 untouched_one (Send n w) x f h = refl
 
+-- FRAM where nothing is stored
 pub fram_untouched : (es : List Effect) (x : ℕ) (f : ℕ → ℕ) → EachStore (λ a w. a ≢ x) es → fram_after es f x ≡ f x
 fram_untouched [] x f h = refl
 fram_untouched (e ∷ es) x f h = fram_untouched es x (fram_after_one e f) h.1 ∙ untouched_one e x f h.0
@@ -49,12 +57,26 @@ pub taking_keeps_fram : (ws : List ℕ) (f : ℕ → ℕ) → fram_after (map (�
 taking_keeps_fram [] f = refl
 taking_keeps_fram (w ∷ ws) f = taking_keeps_fram ws f
 
+-- takes take their readings
 pub taking_takes : (ws : List ℕ) → readings_taken (map (λ w. Take w) ws) ≡ ws
 taking_takes [] = refl
 taking_takes (w ∷ ws) = ap (λ l. w ∷ l) (taking_takes ws)
 
+-- the world behind effects, part by part
 pub world_by_its_parts : WorldByItsParts
 world_by_its_parts [] x = refl
 world_by_its_parts (Store a w ∷ es) x = world_by_its_parts es (record x { fram = put x.fram a w })
 world_by_its_parts (Take w ∷ es) x = world_by_its_parts es x
 world_by_its_parts (Send n w ∷ es) x = world_by_its_parts es (record x { accepted = received n w x.accepted })
+
+-- a word where it was put
+pub put_same : (f : ℕ → ℕ) (a w : ℕ) → put f a w a ≡ w
+put_same f a w = ap (λ b. cond b w (f a)) (eq-eqb a a refl)
+
+-- and what stands elsewhere
+pub put_other : (f : ℕ → ℕ) (a w x : ℕ) → (x ≡ a → ⊥) → put f a w x ≡ f x
+put_other f a w x ne = ap (λ b. cond b w (f x)) (ne_eqb x a ne)
+
+-- a word where it was put, by an address that is known to be the same
+pub put_at : (f : ℕ → ℕ) (a w x : ℕ) → x ≡ a → put f a w x ≡ w
+put_at f a w x e = ap (λ b. if b then w else f x) (eq-eqb x a e)

@@ -1,11 +1,12 @@
 -- How many dones a run has at most, and how many readings it takes.
 use Rattle.std.proofs.Common.{◌≡◌, ℕ, ◌+◌, ◌-◌, ◌≤◌, refl, sym, ap, ◌∙◌, subst, arith, true, false, cond, List, [], ◌∷◌, length, length-append, append-nil, Ok}
 use Rattle.msp_isa.specs.declared.instructions.Instr.{Instr}
-use Rattle.msp_cycles.specs.Cycles.{cycles_of}
 use Rattle.fram_board.specs.declared.board.Stepped.{Stepped}
 use Rattle.fram_board.specs.Board.{BoardValue, PowerState, IsPowerState, powered, executed, IsNextInstruction}
 use Rattle.fram_board.specs.Effects.{Effect}
-use Rattle.fram_board.specs.Run.{Measure, Cycles, Instructions, price, Moment, moment_of, Charges, Stopped, RunOutcome, run_outcome, BoardCharge, ChargeRun, Spent, NoInstruction, TooDear, Refused, Executed, Run, Over, Next, Last}
+use Rattle.fram_board.specs.Run.{Measure, price, Moment, moment_of, Charges, Stopped, RunOutcome, run_outcome, BoardCharge, ChargeRun, Spent, NoInstruction}
+use Rattle.fram_board.specs.Run.{TooDear, Refused, Executed, Run, Over, Next, Last}
+use Rattle.fram_board.proofs.Runs.{price_low}
 use Rattle.machine_effects.specs.World.{world_after}
 use Rattle.machine_effects.specs.View.{IsWhole, IsOfWords}
 use Rattle.machine_effects.specs.Runs.{last_board}
@@ -13,19 +14,12 @@ use Rattle.machine_effects.proofs.Words.{power_up_keeps_words}
 use Rattle.crash_rules.specs.History.{History, is_done, is_decide, behind_boot, behind_done, behind_decide, behind_gate, observe}
 use Rattle.crash_rules.proofs.Observed.{observed_taken, with_effects}
 use Rattle.run_charges.specs.Charges.{behind_action, observed}
-use Rattle.run_charges.proofs.Moments.{IsMomentFrom, PowersUp, Instructs, AreMoments, front_moments, told, whole_after, words_after, one_write, readings_counted, readings_stay}
+use Rattle.run_charges.proofs.Moments.{IsMomentFrom, PowersUp, Instructs, AreMoments, front_moments, told, whole_after, words_after, one_write}
+use Rattle.run_charges.proofs.Moments.{readings_counted, readings_stay}
 use Rattle.run_events.proofs.Events.{seen}
 use Rattle.run_charges.specs.Laws.{IsRunOfWords}
 use Rattle.model_runs.specs.Runs.{all_amounts}
 use Rattle.model_runs.specs.Laws.{DonesAreFew, TakesWhatIsThere}
-
--- an instruction takes a cycle at least
-cycles_low : (i : Instr) → 1 ≤ cycles_of i
-cycles_low i = grind arith
-
-price_low : (m : Measure) (i : Instr) → 1 ≤ price m i
-price_low Cycles i = cycles_low i
-price_low Instructions i = omega arith
 
 -- a charge has no more instructions than it pays for
 charge_short : (m : Measure) (left : ℕ) (b : BoardValue) (r : RunOutcome) → ChargeRun m left b r → length r.moments ≤ left
@@ -131,6 +125,7 @@ run_counts : (cs : List BoardCharge) (b : BoardValue) (r : RunOutcome) → IsRun
 run_counts cs b r run gate h = moments_count gate b h r.moments run.whole run.words
     (front_moments cs b r r.moments [] run.starts run.run (sym (append-nil r.moments)))
 
+-- a run has no more dones than its charges have cycles or instructions
 pub dones_are_few : DonesAreFew
 dones_are_few cs b r run gate h =
     let few = (run_counts cs b r run gate h).dones in
@@ -140,6 +135,7 @@ dones_are_few cs b r run gate h =
 within : (s t n k : ℕ) → s ≤ t → t ≤ n → n ≡ k → s ≤ k
 within s t n k a b e = omega arith
 
+-- no more readings are taken than there are
 pub takes_what_is_there : TakesWhatIsThere
 takes_what_is_there cs b r run gate h at since =
     let all = run_counts cs b r run gate h in

@@ -154,6 +154,7 @@ module _ {St : Type 0} (m : Model St) (c : Program) (readings : List ℕ) (origi
         },
       )
 
+-- a run stops for want of a reading alone, and only where the source is short
 pub stops_where_short : {St : Type 0} (m : Model St) (c : Program) → StopsWhereShort m c
 stops_where_short m c readings origin x cs b r run bears e h =
     stopped m c readings origin x cs b r run bears e (last_charge cs b r run.starts run.run e h)

@@ -47,6 +47,7 @@ module _ {St : Type 0} (m : Model St) (c : Program) (readings : List ℕ) (origi
     pub charged : Charged c m.gate (machine_of b) first charges (machine_of t) h
     pub ready : IsReady t h
 
+  -- what holds at a front of a charge
   pub at_front : (ms rest : List Moment) → r.moments ≡ ms ++ rest → AtFront (last_board b ms) (history_behind m x ms)
   at_front ms rest e =
       let st = bears.stands in
@@ -70,6 +71,7 @@ module _ {St : Type 0} (m : Model St) (c : Program) (readings : List ℕ) (origi
     abbrev pub begun : MachineBoard
     begun = machine_of (powered t start)
 
+    -- the charge begins with a power-up
     pub is_powered : c.IsPoweredUp begun
     is_powered =
         let P : MachineBoard → Type 0 = λ s. c.IsPoweredUp s in
@@ -88,6 +90,7 @@ module _ {St : Type 0} (m : Model St) (c : Program) (readings : List ℕ) (origi
         code_in_fram_runs st.place st.instructions n begun q pl.instructions pl.even pl.low pl.high go at.ready.holds (subst P pl.steps (leaves_code n).code)
         ∙ ap (λ f. going f n begun) (sym pl.steps)
 
+-- what a model says holds at each front
 pub fronts_are_lawful : {St : Type 0} (m : Model St) (c : Program) → FrontsAreLawful m c
 fronts_are_lawful m c readings origin x cs b r run bears ms rest e =
     let at = at_front m c readings origin x cs b r run bears ms rest e in

@@ -136,6 +136,7 @@ module _ {St : Type 0} (m : Model St) (c : Program) (readings : List ℕ) (origi
           subst Q known (subst P there (at_front m c readings origin x cs b r run bears ms more e))
   progresses ds t h o before ok (Last d es _ ms x end one) at known e = StoppedIn d es t h ms x end one
 
+-- each charge that is spent has as many dones as it has bounds
 pub makes_progress : {St : Type 0} (m : Model St) (c : Program) → MakesProgress m c
 makes_progress m c readings origin x cs b r run bears =
     progresses m c readings origin x cs b r run bears cs b (history_behind m x []) r [] run.starts run.run refl refl refl

@@ -130,5 +130,6 @@ module _ {St : Type 0} (m : Model St) (c : Program) (readings : List ℕ) (s : S
       let S : BoardCharge → Type 0 = λ y. InOrder (power_up_of b y.start ∷ ms) in
       subst R (sym there) (subst S (sym c1) (charge_in_order d.measure d.amount (run_outcome ms (Stopped stop) end) (subst Q there (subst P c1 one))))
 
+-- the spans of a run are in order
 pub spans_are_in_order : {St : Type 0} (m : Model St) (c : Program) → SpansAreInOrder m c
 spans_are_in_order m c readings s x d b r run bears here = run_in_order m c readings s x d b r run bears here (d ∷ []) b r run.run refl refl

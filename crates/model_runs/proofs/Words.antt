@@ -49,6 +49,7 @@ module _ (P : ℕ → ℕ → Type 0) (a most : ℕ) (few : (w : ℕ) → P a w 
         charges_within es q t (observe gate made (behind_boot h)) k
         (λ fs u z more. stores (e ∷ fs) u z (run.0, run.1, run.2, (q, run.3.1, more))) run.3.2 here
 
+-- a word stays within its bound at each front
 pub words_stay_within : {St : Type 0} (m : Model St) (c : Program) (P : ℕ → ℕ → Type 0) → WordsStayWithin m c P
 words_stay_within m c P readings origin x cs b r run bears attempts commits a most few first ms rest e =
     let at = at_front m c readings origin x cs b r run bears ms rest e in

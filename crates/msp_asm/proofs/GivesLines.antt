@@ -1,17 +1,20 @@
 -- Lines of a listing that give words, right behind what is placed.
-use Rattle.std.proofs.Common.{◌≡◌, ◌≤◌, ◌<◌, ℕ, suc, zero, ◌+◌, ◌-◌, ◌*◌, ◌/◌, ◌%◌, ◌==◌, ◌&&◌, List, [], ◌∷◌, ◌++◌, length, map, drop, arith, refl, ap, sym, subst, ◌∙◌, if◌then◌else◌, nat_lt, Bool, true, false, Option, Some, None, Ok, inl, inr, append_assoc, length-append, length-drop}
+use Rattle.std.proofs.Common.{◌≡◌, ◌≤◌, ◌<◌, ℕ, suc, zero, ◌+◌, ◌-◌, ◌*◌, ◌/◌, ◌%◌, ◌==◌, ◌&&◌, List, [], ◌∷◌, ◌++◌, length, map, drop, arith, refl, ap, sym}
+use Rattle.std.proofs.Common.{subst, ◌∙◌, if◌then◌else◌, nat_lt, Bool, true, false, Option, Some, None, Ok, inl, inr, append_assoc, length-append, length-drop}
+use Rattle.std.proofs.Common.{append-nil}
 use Rattle.std.proofs.lemmas.Bool.Decides.{nat_tests}
 use Rattle.std.specs.Prelude.{codes}
+use Rattle.std.proofs.lemmas.List.{map-append}
 use Rattle.msp_isa.specs.Encoding.{encoding, IsPrefix}
 use Rattle.msp_isa.specs.declared.instructions.Instr.{Instr}
-use Rattle.image_text.specs.Memory.{put_once}
-use Rattle.image_text.proofs.Places.{nones, put_seam, append_nil}
+use Rattle.msp_isa.specs.declared.instructions.Instr.TheVariants as instr
+use Rattle.image_text.proofs.Places.{nones, put_seam}
+use Rattle.image_text.proofs.Back.{AreWords16}
 use Rattle.asm_line.specs.Pieces.{Located, split, onto_first, place_all, bare, lines_left}
 use Rattle.asm_line.specs.Values.{number}
 use Rattle.asm_line.specs.Lines.{StatementMeaning, org, words, LineMeaning, line_of}
 use Rattle.asm_line.proofs.Directives.{word_line_says, org_line_says}
 use Rattle.msp_asm.specs.declared.labels.Place.{Place}
-use Rattle.msp_isa.specs.declared.instructions.Instr.TheVariants as instr
 use Rattle.msp_isa.specs.declared.instructions.OneOp.TheVariants.{Rrc, Swpb, Rra, Sxt, Push, Call}
 use Rattle.msp_asm.specs.Labels.{Table}
 use Rattle.msp_asm.specs.Program.{after, said, line_fault, line_words, items}
@@ -55,18 +58,20 @@ pub record Reads (a : ℕ) (ws : List ℕ) (b : ℕ) (ls ks : List Located) : Ty
 pub reads_none : (a : ℕ) (ls : List Located) → Reads a [] a ls ls
 reads_none a ls = record {
   labels = λ f n. (n, refl);
-  places = λ f n done k h. (n, ap (λ j. placed f n a (done ++ nones j) ls) (let z : 0 + k ≡ k = omega arith in z) ∙ ap (λ d. placed f n a (d ++ nones k) ls) (sym (append_nil done)));
+  places =
+      λ f n done k h. (
+        n,
+        ap (λ j. placed f n a (done ++ nones j) ls) (let z : 0 + k ≡ k = omega arith in z)
+            ∙ ap (λ d. placed f n a (d ++ nones k) ls) (sym (append-nil done)),
+      );
 }
-
-pub map_append : {A B : Type 0} (f : A → B) (xs ys : List A) → map f (xs ++ ys) ≡ map f xs ++ map f ys
-map_append f [] ys = refl
-map_append f (x ∷ xs) ys = ap (λ r. f x ∷ r) (map_append f xs ys)
 
 pub map_len : (xs : List ℕ) → length (map {B = Option ℕ} Some xs) ≡ length xs
 map_len [] = refl
 map_len (x ∷ xs) = ap suc (map_len xs)
 
-pub reads_then : (a b c : ℕ) (ws vs : List ℕ) (ls ks js : List Located) → Reads a ws b ls ks → (0 < length vs → b ≡ a + 2 * length ws) → Reads b vs c ks js → Reads a (ws ++ vs) c ls js
+pub reads_then : (a b c : ℕ) (ws vs : List ℕ) (ls ks js : List Located) → Reads a ws b ls ks → (0 < length vs → b ≡ a + 2 * length ws) → Reads b vs c ks js
+    → Reads a (ws ++ vs) c ls js
 reads_then a b c ws vs ls ks js r e q = record {
   labels = λ f n. both f n (r.labels f n);
   places = λ f n done k h. after_first f n done k h (r.places f n done (length vs + k) (λ s. h (omega (arith, length-append ws vs))));
@@ -87,7 +92,7 @@ reads_then a b c ws vs ls ks js r e q = record {
           p.0,
           ap (λ j. placed f n a (done ++ nones j) ls) (let z : length (ws ++ vs) + k ≡ length ws + (length vs + k) = omega (arith, length-append ws vs) in z)
               ∙ g ∙ p.1
-              ∙ ap (λ d. placed f p.0 c (d ++ nones k) js) (append_assoc done (map Some ws) (map Some vs) ∙ ap (λ r. done ++ r) (sym (map_append Some ws vs))),
+              ∙ ap (λ d. placed f p.0 c (d ++ nones k) js) (append_assoc done (map Some ws) (map Some vs) ∙ ap (λ r. done ++ r) (sym (map-append Some ws vs))),
         )
 
 place_seam : (n a : ℕ) (done : List (Option ℕ)) (ws : List ℕ) (k : ℕ) → a ≡ 17408 + 2 * length done → a + 2 * length ws ≤ 65536
@@ -102,7 +107,8 @@ place_seam n a done ws k e h =
     both true = refl
     both false = refl
 
-line_seam : (f : Table) (n a : ℕ) (done : List (Option ℕ)) (m : LineMeaning) (ws : List ℕ) (k : ℕ) → GivesWords a m ws → a ≡ 17408 + 2 * length done → a + 2 * length ws ≤ 65536
+line_seam : (f : Table) (n a : ℕ) (done : List (Option ℕ)) (m : LineMeaning) (ws : List ℕ) (k : ℕ) → GivesWords a m ws → a ≡ 17408 + 2 * length done
+    → a + 2 * length ws ≤ 65536
     → line_into f n a m (done ++ nones (length ws + k)) ≡ Ok ((done ++ map Some ws) ++ nones k)
 unfolding line_into
 line_seam f n a done m ws k g e h = rw (g.fine f n, g.no_org, g.words f) (place_seam n a done ws k e h)
@@ -117,7 +123,8 @@ labels_past f n a b l ks m e h g = ap (λ o. said n o >>= λ m. labels_of (note 
     ∙ ap (λ f. labels_of f (n + 1) (after a m.statement) ks) (no_note f m.label (record { address = a; line = n }) h)
     ∙ ap (λ b. labels_of f (n + 1) b ks) g
 
-pub placed_past : (f : Table) (n a b : ℕ) (s t : List (Option ℕ)) (l : Located) (ks : List Located) (m : LineMeaning) → line_of l ≡ Some m → line_into f n a m s ≡ Ok t → after a m.statement ≡ b
+pub placed_past : (f : Table) (n a b : ℕ) (s t : List (Option ℕ)) (l : Located) (ks : List Located) (m : LineMeaning) → line_of l ≡ Some m
+    → line_into f n a m s ≡ Ok t → after a m.statement ≡ b
     → placed f n a s (l ∷ ks) ≡ placed f (n + 1) b t ks
 unfolding placed
 placed_past f n a b s t l ks m e h g = ap (λ o. said n o >>= λ m. line_into f n a m s >>= λ t. placed f (n + 1) (after a m.statement) t ks) e
@@ -125,7 +132,8 @@ placed_past f n a b s t l ks m e h g = ap (λ o. said n o >>= λ m. line_into f 
     ∙ ap (λ b. placed f (n + 1) b t ks) g
 
 -- one line that gives words
-line_reads : (a : ℕ) (l : Located) (ks : List Located) (m : LineMeaning) (ws : List ℕ) → line_of l ≡ Some m → m.label ≡ None → GivesWords a m ws → 0 < length ws → a + 2 * length ws ≤ 65536
+line_reads : (a : ℕ) (l : Located) (ks : List Located) (m : LineMeaning) (ws : List ℕ) → line_of l ≡ Some m → m.label ≡ None → GivesWords a m ws → 0 < length ws
+    → a + 2 * length ws ≤ 65536
     → Reads a ws ((a + 2 * length ws) % 65536) (l ∷ ks) ks
 line_reads a l ks m ws e h g some room = record {
   labels = λ f n. (n + 1, labels_past f n a ((a + 2 * length ws) % 65536) l ks m e h g.next);
@@ -136,7 +144,8 @@ line_reads a l ks m ws e h g some room = record {
   );
 }
 
-label_by : (a : ℕ) (name : Option Located) (s : StatementMeaning) (ws : List ℕ) → meaning_alone a (record { label = name; statement = s }) ≡ Some ws → name ≡ None
+label_by : (a : ℕ) (name : Option Located) (s : StatementMeaning) (ws : List ℕ) → meaning_alone a (record { label = name; statement = s }) ≡ Some ws
+    → name ≡ None
 label_by a None s ws h = refl
 label_by a (Some p) s ws h = cc
 
@@ -147,12 +156,7 @@ word_gives : (a w : ℕ) → GivesWords a (record { label = None; statement = wo
 unfolding line_fault line_words items
 word_gives a w = record { fine = λ f n. refl; no_org = refl; words = λ f. refl; next = refl }
 
--- each number is below 65536
-abbrev pub AreShort : List ℕ → Type 0
-AreShort [] = Unit {0}
-AreShort (w ∷ ws) = (w < 65536) × AreShort ws
-
-short_drop : (n : ℕ) (ws : List ℕ) → AreShort ws → AreShort (drop n ws)
+short_drop : (n : ℕ) (ws : List ℕ) → AreWords16 ws → AreWords16 (drop n ws)
 short_drop zero ws h = h
 short_drop (suc n) [] h = tt
 short_drop (suc n) (w ∷ ws) h = short_drop n ws h.1
@@ -182,7 +186,8 @@ pub record NextReads (a at : ℕ) (ws line rest : List ℕ) (n : ℕ) : Type 0 w
   pub on : ℕ
   pub reads : Reads a vs ((a + 2 * length vs) % 65536) (lines_at at (line ++ rest)) (lines_at on rest)
 
-pub line_then : (at : ℕ) (l rest : List ℕ) → ArePlain l → lines_at at ((l ++ 10 ∷ []) ++ rest) ≡ record { at = at; text = l } ∷ lines_at (at + length l + 1) rest
+pub line_then : (at : ℕ) (l rest : List ℕ) → ArePlain l
+    → lines_at at ((l ++ 10 ∷ []) ++ rest) ≡ record { at = at; text = l } ∷ lines_at (at + length l + 1) rest
 line_then at l rest h = ap (lines_at at) (append_assoc l (10 ∷ []) rest) ∙ first_line at l rest h
 
 instr_reads : (a at : ℕ) (ws rest : List ℕ) (i : Instr) → Stands a ws i → a + 2 * length ws ≤ 65536
@@ -196,27 +201,30 @@ instr_reads a at ws rest i s room =
     (line_reads a (record { at = at; text = instr_text a i }) (lines_at (at + length (instr_text a i) + 1) rest) says.0 (encoding i) says.1
     (no_label a says.0 (encoding i) says.2) (alone_gives a says.0 (encoding i) says.2) (encoding_some i) (omega arith))
 
-word_text : ℕ → List ℕ
-word_text w = codes ".word " ++ number_text w
-
-word_says : (at w : ℕ) → w < 65536 → line_of (record { at = at; text = codes ".word " ++ number_text w }) ≡ Some (record { label = None; statement = words (number w ∷ []) })
+word_says : (at w : ℕ) → w < 65536 → line_of (record { at = at; text = codes ".word " ++ number_text w }) ≡ Some
+    (record { label = None; statement = words (number w ∷ []) })
 word_says at w h = ap (λ t. line_of (record { at = at; text = codes ".word " ++ t })) (number_is w) ∙ word_line_says at _ _ _ _ w (is_hex4 w h)
 
-pub org_says : (at w : ℕ) → w < 65536 → line_of (record { at = at; text = codes ".org " ++ number_text w }) ≡ Some (record { label = None; statement = org (number w) })
+pub org_says : (at w : ℕ) → w < 65536 → line_of (record { at = at; text = codes ".org " ++ number_text w }) ≡ Some
+    (record { label = None; statement = org (number w) })
 org_says at w h = ap (λ t. line_of (record { at = at; text = codes ".org " ++ t })) (number_is w) ∙ org_line_says at _ _ _ _ w (is_hex4 w h)
 
 word_reads : (a at w : ℕ) (rest : List ℕ) → w < 65536 → a + 2 ≤ 65536
-    → Reads a (w ∷ []) ((a + 2 * length (w ∷ [])) % 65536) (lines_at at (word_line w ++ rest)) (lines_at (at + length (codes ".word " ++ number_text w) + 1) rest)
+    → Reads a (w ∷ []) ((a + 2 * length (w ∷ [])) % 65536) (lines_at at (word_line w ++ rest))
+    (lines_at (at + length (codes ".word " ++ number_text w) + 1) rest)
 unfolding word_line
 word_reads a at w rest h room =
-    let P : List Located → Type 0 = λ ls. Reads a (w ∷ []) ((a + 2 * length (w ∷ [])) % 65536) ls (lines_at (at + length (codes ".word " ++ number_text w) + 1) rest) in
+    let P : List Located → Type 0 =
+    λ ls. Reads a (w ∷ []) ((a + 2 * length (w ∷ [])) % 65536) ls (lines_at (at + length (codes ".word " ++ number_text w) + 1) rest) in
     subst P (sym (line_then at (codes ".word " ++ number_text w) rest (word_plain w)))
     (line_reads a (record { at = at; text = codes ".word " ++ number_text w }) (lines_at (at + length (codes ".word " ++ number_text w) + 1) rest)
     (record { label = None; statement = words (number w ∷ []) }) (w ∷ []) (word_says at w h) refl (word_gives a w) (omega arith) (omega arith))
 
-next_reads : (a at n : ℕ) (ws line rest : List ℕ) → IsNext a ws line n → AreShort ws → 0 < length ws → a + 2 * length ws ≤ 65536 → NextReads a at ws line rest n
+next_reads : (a at n : ℕ) (ws line rest : List ℕ) → IsNext a ws line n → AreWords16 ws → 0 < length ws → a + 2 * length ws ≤ 65536
+    → NextReads a at ws line rest n
 next_reads a at n ws line rest (inl (i, s, e, f)) short some room =
-    let P : List ℕ → Type 0 = λ l. Reads a (encoding i) ((a + 2 * length (encoding i)) % 65536) (lines_at at (l ++ rest)) (lines_at (at + length (instr_text a i) + 1) rest) in
+    let P : List ℕ → Type 0 =
+    λ l. Reads a (encoding i) ((a + 2 * length (encoding i)) % 65536) (lines_at at (l ++ rest)) (lines_at (at + length (instr_text a i) + 1) rest) in
     record {
       vs = encoding i;
       made = front_is (encoding i) ws s.whole ∙ ap (λ k. encoding i ++ drop k ws) (sym f);
@@ -227,7 +235,9 @@ next_reads a at n ws line rest (inl (i, s, e, f)) short some room =
     }
 next_reads a at n [] line rest (inr (none, e, f)) short some room = absurd (omega arith)
 next_reads a at n (w ∷ ws) line rest (inr (none, e, f)) short some room =
-    let P : List ℕ → Type 0 = λ l. Reads a (w ∷ []) ((a + 2 * length (w ∷ [])) % 65536) (lines_at at (l ++ rest)) (lines_at (at + length (codes ".word " ++ number_text w) + 1) rest) in
+    let P : List ℕ → Type 0 =
+    λ l. Reads a (w ∷ []) ((a + 2 * length (w ∷ [])) % 65536) (lines_at at (l ++ rest))
+    (lines_at (at + length (codes ".word " ++ number_text w) + 1) rest) in
     record {
       vs = w ∷ [];
       made = ap (λ k. (w ∷ []) ++ drop k (w ∷ ws)) (sym f);
@@ -246,10 +256,11 @@ pub record ReadsOn (a at : ℕ) (ws text rest : List ℕ) : Type 0 where
 drop_len : (n : ℕ) (ws : List ℕ) → n ≤ length ws → n + length (drop n ws) ≡ length ws
 drop_len n ws h = omega (arith, length-drop n ws)
 
-more_lines : (a at n : ℕ) (ws line left rest rs : List ℕ) → drop n ws ≡ rs → NextReads a at ws line (left ++ rest) n → n ≤ length ws → a + 2 * length ws ≤ 65536 → AreLinesOf (a + 2 * n) 0 rs left
+more_lines : (a at n : ℕ) (ws line left rest rs : List ℕ) → drop n ws ≡ rs → NextReads a at ws line (left ++ rest) n → n ≤ length ws → a + 2 * length ws ≤ 65536
+    → AreLinesOf (a + 2 * n) 0 rs left
     → ((on : ℕ) → ReadsOn (a + 2 * n) on rs (left ++ rest) rest) → ReadsOn a at ws (line ++ (left ++ rest)) rest
 more_lines a at n ws line left rest [] e x high room none ih =
-    let whole : x.vs ≡ ws = sym (x.made ∙ ap (λ r. x.vs ++ r) e ∙ append_nil x.vs) in
+    let whole : x.vs ≡ ws = sym (x.made ∙ ap (λ r. x.vs ++ r) e ∙ append-nil x.vs) in
     let end : left ++ rest ≡ rest = ap (λ l. l ++ rest) none in
     let P : List ℕ → Type 0 = λ ws. Reads a ws ((a + 2 * length x.vs) % 65536) (lines_at at (line ++ (left ++ rest))) (lines_at x.on rest) in
     let Q : List ℕ → Type 0 = λ t. Reads a x.vs ((a + 2 * length x.vs) % 65536) (lines_at at (line ++ (left ++ rest))) (lines_at x.on t) in
@@ -266,11 +277,12 @@ more_lines a at n ws line left rest (r ∷ rs) e x high room none ih =
       b = later.b;
       on = later.on;
       reads = subst Q (sym (x.made ∙ ap (λ r. x.vs ++ r) e))
-          (reads_then a (a + 2 * n) later.b x.vs (r ∷ rs) (lines_at at (line ++ (left ++ rest))) (lines_at x.on (left ++ rest)) (lines_at later.on rest) (subst P same x.reads) (λ s. omega arith) later.reads);
+          (reads_then a (a + 2 * n) later.b x.vs (r ∷ rs) (lines_at at (line ++ (left ++ rest))) (lines_at x.on (left ++ rest)) (lines_at later.on rest)
+          (subst P same x.reads) (λ s. omega arith) later.reads);
     }
 
 -- the first line, and those behind it
-first_of : (a : ℕ) (ws text : List ℕ) → AreShort ws → 0 < length ws → AreLinesOf a 0 ws text
+first_of : (a : ℕ) (ws text : List ℕ) → AreWords16 ws → 0 < length ws → AreLinesOf a 0 ws text
     → (line : List ℕ) × (n : ℕ) × (left : List ℕ) × IsNext a ws line n × (n ≤ length ws) × (text ≡ line ++ left) × AreLinesOf (a + 2 * n) 0 (drop n ws) left
 first_of a [] text short some h = absurd (omega arith)
 first_of a (w ∷ ws) text short some (line, n, left, is, e, h) =
@@ -286,7 +298,8 @@ first_of a (w ∷ ws) text short some (line, n, left, is, e, h) =
     low (inr (none, e, f)) = omega arith
 
 -- the lines of a section's words give these words
-pub section_reads : (N a at : ℕ) (ws text rest : List ℕ) → length ws ≤ N → AreLinesOf a 0 ws text → AreShort ws → a + 2 * length ws ≤ 65536 → ReadsOn a at ws (text ++ rest) rest
+pub section_reads : (N a at : ℕ) (ws text rest : List ℕ) → length ws ≤ N → AreLinesOf a 0 ws text → AreWords16 ws → a + 2 * length ws ≤ 65536
+    → ReadsOn a at ws (text ++ rest) rest
 section_reads N a at [] text rest h is short room =
     let end : rest ≡ text ++ rest = ap (λ t. t ++ rest) (sym is) in
     let P : List ℕ → Type 0 = λ t. Reads a [] a (lines_at at t) (lines_at at rest) in
@@ -294,8 +307,10 @@ section_reads N a at [] text rest h is short room =
 section_reads zero a at (w ∷ ws) text rest h is short room = absurd (omega arith)
 section_reads (suc N) a at (w ∷ ws) text rest h is short room = section_by (first_of a (w ∷ ws) text short (omega arith) is) (section_reads N)
   where
-    section_by : ((line : List ℕ) × (n : ℕ) × (left : List ℕ) × IsNext a (w ∷ ws) line n × (n ≤ length (w ∷ ws)) × (text ≡ line ++ left) × AreLinesOf (a + 2 * n) 0 (drop n (w ∷ ws)) left)
-        → ((a at : ℕ) (ws text rest : List ℕ) → length ws ≤ N → AreLinesOf a 0 ws text → AreShort ws → a + 2 * length ws ≤ 65536 → ReadsOn a at ws (text ++ rest) rest)
+    section_by : ((line : List ℕ) × (n : ℕ) × (left : List ℕ) × IsNext a (w ∷ ws) line n × (n ≤ length (w ∷ ws)) × (text ≡ line ++ left)
+        × AreLinesOf (a + 2 * n) 0 (drop n (w ∷ ws)) left)
+        → ((a at : ℕ) (ws text rest : List ℕ) → length ws ≤ N → AreLinesOf a 0 ws text → AreWords16 ws → a + 2 * length ws ≤ 65536
+        → ReadsOn a at ws (text ++ rest) rest)
         → ReadsOn a at (w ∷ ws) (text ++ rest) rest
     section_by (line, n, left, next, high, e, lines) ih =
         let x : NextReads a at (w ∷ ws) line (left ++ rest) n = next_reads a at n (w ∷ ws) line (left ++ rest) next short (omega arith) room in
@@ -305,8 +320,3 @@ section_reads (suc N) a at (w ∷ ws) text rest h is short room = section_by (fi
         subst P (sym (ap (λ t. t ++ rest) e ∙ append_assoc line left rest))
         (more_lines a at n (w ∷ ws) line left rest (drop n (w ∷ ws)) refl x high room lines
         (λ on. ih (a + 2 * n) on (drop n (w ∷ ws)) left rest (omega arith) lines (short_drop n (w ∷ ws) short) (omega arith)))
-
--- nothing is put
-pub put_nothing : (i : ℕ) (m : List (Option ℕ)) → put_once i [] m ≡ Some m
-unfolding put_once
-put_nothing i m = refl

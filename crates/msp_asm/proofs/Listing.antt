@@ -1,9 +1,12 @@
 -- A text that is told by a property and written piece by piece.
-use Rattle.std.proofs.Common.{◌≡◌, ◌≤◌, ◌<◌, ℕ, suc, zero, ◌+◌, ◌-◌, ◌*◌, List, [], ◌∷◌, ◌++◌, length, drop, take, arith, refl, ap, sym, ◌∙◌, subst, Option, inl, inr, append_assoc, length-drop, Result, Ok, Err, OnErr, OnOk}
+use Rattle.std.proofs.Common.{◌≡◌, ◌≤◌, ◌<◌, ℕ, suc, zero, ◌+◌, ◌-◌, ◌*◌, List, [], ◌∷◌, ◌++◌, length, drop, arith, refl, ap, sym, ◌∙◌, subst, Option, inl, inr}
+use Rattle.std.proofs.Common.{append_assoc, length-drop, Result, Ok, Err, OnErr, OnOk, append-nil}
 use Rattle.std.proofs.lemmas.List.{take_rest}
 use Rattle.std.specs.Io.KnownBytes.{Appends}
+use Rattle.std.proofs.KnownBytes.{Appends-trans, Appends-nil}
+use Rattle.text_parts.proofs.Pieces.{behind}
 use Rattle.alp_io.specs.Sink.{AppendsProperPrefix}
-use Rattle.alp_io.proofs.Appends.{appends_none, appends_more, part_of_first, part_of_second, append-nil}
+use Rattle.alp_io.proofs.Appends.{part_of_first, part_of_second}
 use Rattle.msp_isa.specs.Encoding.{encoding}
 use Rattle.msp_decode.proofs.Unique.{is_unique}
 use Rattle.msp_asm.specs.Disassembly.{IsNext, AreLinesOf, IsSectionOf, AreSectionsOf, instr_line, org_line, IsTextOf}
@@ -23,12 +26,13 @@ pub record Fronts (Left Behind : List ℕ → Type 0) (piece : List ℕ) : Type 
   pub back : (text : List ℕ) → Left text → (rest : List ℕ) × (text ≡ piece ++ rest) × Behind rest
 
 pub listed_start : (Whole : List ℕ → Type 0) (old : Option (List ℕ)) → Listed Whole Whole old old
-listed_start Whole old = record { done = []; written = appends_none old; forward = λ t h. h; back = λ t h. (t, refl, h) }
+listed_start Whole old = record { done = []; written = Appends-nil old; forward = λ t h. h; back = λ t h. (t, refl, h) }
 
-pub listed_step : (Whole Left Behind : List ℕ → Type 0) (old mid new : Option (List ℕ)) (piece : List ℕ) → Listed Whole Left old mid → Fronts Left Behind piece → Appends mid new piece → Listed Whole Behind old new
+pub listed_step : (Whole Left Behind : List ℕ → Type 0) (old mid new : Option (List ℕ)) (piece : List ℕ) → Listed Whole Left old mid → Fronts Left Behind piece
+    → Appends mid new piece → Listed Whole Behind old new
 listed_step Whole Left Behind old mid new piece l f w = record {
   done = l.done ++ piece;
-  written = appends_more old mid new l.done piece l.written w;
+  written = Appends-trans old mid new l.done piece l.written w;
   forward = λ t h. subst Whole (sym (append_assoc l.done piece t)) (l.forward (piece ++ t) (f.forward t h));
   back = λ t h. later t (l.back t h);
 }
@@ -43,7 +47,8 @@ pub listed_end : (Whole Left : List ℕ → Type 0) (old now : Option (List ℕ)
 listed_end Whole Left old now l h = (l.done, subst Whole (append-nil l.done) (l.forward [] h), l.written)
 
 -- a failure in the next piece
-pub listed_cut : (Whole Left Behind : List ℕ → Type 0) (old mid new : Option (List ℕ)) (piece : List ℕ) → Listed Whole Left old mid → Fronts Left Behind piece → AppendsProperPrefix mid new piece → IsCut Whole old new
+pub listed_cut : (Whole Left Behind : List ℕ → Type 0) (old mid new : Option (List ℕ)) (piece : List ℕ) → Listed Whole Left old mid → Fronts Left Behind piece
+    → AppendsProperPrefix mid new piece → IsCut Whole old new
 listed_cut Whole Left Behind old mid new piece l f p = λ t h. later t (l.back t h)
   where
     latest : (t rest : List ℕ) → t ≡ l.done ++ rest → ((u : List ℕ) × (rest ≡ piece ++ u) × Behind u) → AppendsProperPrefix old new t
@@ -57,20 +62,25 @@ listed_cut Whole Left Behind old mid new piece l f p = λ t h. later t (l.back t
 skip_on : (a k : ℕ) (ws text : List ℕ) → k ≤ length ws → AreLinesOf (a + 2 * k) 0 (drop k ws) text → AreLinesOf a k ws text
 skip_on a zero ws text h l = let P : ℕ → Type 0 = λ a. AreLinesOf a 0 ws text in subst P (let e : a + 2 * 0 ≡ a = omega arith in e) l
 skip_on a (suc k) [] text h l = absurd (omega arith)
-skip_on a (suc k) (w ∷ ws) text h l = skip_on (a + 2) k ws text (omega arith) (let P : ℕ → Type 0 = λ a. AreLinesOf a 0 (drop k ws) text in subst P (let e : a + 2 * suc k ≡ a + 2 + 2 * k = omega arith in e) l)
+skip_on a (suc k) (w ∷ ws) text h l =
+    skip_on (a + 2) k ws text (omega arith) (let P : ℕ → Type 0 = λ a. AreLinesOf a 0 (drop k ws) text in
+    subst P (let e : a + 2 * suc k ≡ a + 2 + 2 * k = omega arith in e) l)
 
 skip_off : (a k : ℕ) (ws text : List ℕ) → k ≤ length ws → AreLinesOf a k ws text → AreLinesOf (a + 2 * k) 0 (drop k ws) text
 skip_off a zero ws text h l = let P : ℕ → Type 0 = λ a. AreLinesOf a 0 ws text in subst P (let e : a ≡ a + 2 * 0 = omega arith in e) l
 skip_off a (suc k) [] text h l = absurd (omega arith)
-skip_off a (suc k) (w ∷ ws) text h l = let P : ℕ → Type 0 = λ a. AreLinesOf a 0 (drop k ws) text in subst P (let e : a + 2 + 2 * k ≡ a + 2 * suc k = omega arith in e) (skip_off (a + 2) k ws text (omega arith) l)
+skip_off a (suc k) (w ∷ ws) text h l = let P : ℕ → Type 0 = λ a. AreLinesOf a 0 (drop k ws) text in
+    subst P (let e : a + 2 + 2 * k ≡ a + 2 * suc k = omega arith in e) (skip_off (a + 2) k ws text (omega arith) l)
 
 -- behind the first line
-pub behind_first : (a n w : ℕ) (ws text : List ℕ) → 1 ≤ n → n ≤ length (w ∷ ws) → AreLinesOf (a + 2) (n - 1) ws text → AreLinesOf (a + 2 * n) 0 (drop n (w ∷ ws)) text
+pub behind_first : (a n w : ℕ) (ws text : List ℕ) → 1 ≤ n → n ≤ length (w ∷ ws) → AreLinesOf (a + 2) (n - 1) ws text
+    → AreLinesOf (a + 2 * n) 0 (drop n (w ∷ ws)) text
 behind_first a zero w ws text low high l = absurd (omega arith)
 behind_first a (suc k) w ws text low high l =
     let P : ℕ → Type 0 = λ j. AreLinesOf (a + 2) j ws text in
     let Q : ℕ → Type 0 = λ b. AreLinesOf b 0 (drop k ws) text in
-    subst Q (let e : a + 2 + 2 * k ≡ a + 2 * suc k = omega arith in e) (skip_off (a + 2) k ws text (omega arith) (subst P (let e : suc k - 1 ≡ k = omega arith in e) l))
+    subst Q (let e : a + 2 + 2 * k ≡ a + 2 * suc k = omega arith in
+    e) (skip_off (a + 2) k ws text (omega arith) (subst P (let e : suc k - 1 ≡ k = omega arith in e) l))
 
 -- what comes next is one line
 pub next_unique : (a : ℕ) (ws l m : List ℕ) (n k : ℕ) → IsNext a ws l n → IsNext a ws m k → (l ≡ m) × (n ≡ k)
@@ -81,11 +91,9 @@ next_unique a ws l m n k (inl (i, s, e, f)) (inr (none, g, h)) = absurd (none i 
 next_unique a ws l m n k (inr (none, e, f)) (inl (j, t, g, h)) = absurd (none j t)
 next_unique a ws l m n k (inr (one, e, f)) (inr (none, g, h)) = (e ∙ sym g, f ∙ sym h)
 
-abbrev behind : ℕ → List ℕ → List ℕ
-behind k xs = take (length xs - k) (drop k xs)
-
 -- a line in front of the lines behind it
-pub line_fronts : (a n : ℕ) (ws line : List ℕ) → 0 < length ws → IsNext a ws line n → 1 ≤ n → n ≤ length ws → Fronts (AreLinesOf a 0 ws) (AreLinesOf (a + 2 * n) 0 (drop n ws)) line
+pub line_fronts : (a n : ℕ) (ws line : List ℕ) → 0 < length ws → IsNext a ws line n → 1 ≤ n → n ≤ length ws
+    → Fronts (AreLinesOf a 0 ws) (AreLinesOf (a + 2 * n) 0 (drop n ws)) line
 line_fronts a n [] line some next low high = absurd (omega arith)
 line_fronts a zero (w ∷ ws) line some next low high = absurd (omega arith)
 line_fronts a (suc k) (w ∷ ws) line some next low high = record { forward = λ t h. (line, suc k, t, next, refl, skip_in t h); back = λ t h. split t h }
@@ -106,7 +114,8 @@ line_fronts a (suc k) (w ∷ ws) line some next low high = record { forward = λ
 
     split : (t : List ℕ) → ((l : List ℕ) × (n : ℕ) × (rest : List ℕ) × IsNext a (w ∷ ws) l n × (t ≡ l ++ rest) × AreLinesOf (a + 2) (n - 1) ws rest)
         → (rest : List ℕ) × (t ≡ line ++ rest) × AreLinesOf (a + 2 * suc k) 0 (drop k ws) rest
-    split t (l, n, rest, is, e, h) = let same = next_unique a (w ∷ ws) line l (suc k) n next is in (rest, e ∙ ap (λ l. l ++ rest) (sym same.0), skip_out rest n same.1 h)
+    split t (l, n, rest, is, e, h) = let same = next_unique a (w ∷ ws) line l (suc k) n next is in
+        (rest, e ∙ ap (λ l. l ++ rest) (sym same.0), skip_out rest n same.1 h)
 
 behind_len : (n : ℕ) (ws : List ℕ) → n ≤ length ws → n + length (behind n ws) ≡ length ws
 behind_len n ws h = rw (take_rest ws n) (omega (arith, length-drop n ws))
@@ -151,7 +160,8 @@ pub section_unique : (place : ℕ) (ws t u : List ℕ) → IsSectionOf place ws 
 section_unique place ws t u (l, h, e) (m, g, f) = e ∙ ap (λ l. org_line (0x4400 + 2 * place) ++ l) (lines_unique (0x4400 + 2 * place) 0 ws l m h g) ∙ sym f
 
 -- a section in front of those behind it
-pub section_fronts : (s : Section) (ss all : List Section) (text : List ℕ) → all ≡ s ∷ ss → IsSectionOf s.place s.words text → Fronts (AreSectionsOf all) (AreSectionsOf ss) text
+pub section_fronts : (s : Section) (ss all : List Section) (text : List ℕ) → all ≡ s ∷ ss → IsSectionOf s.place s.words text
+    → Fronts (AreSectionsOf all) (AreSectionsOf ss) text
 section_fronts s ss all text e is =
     let P : List Section → Type 0 = λ all. Fronts (AreSectionsOf all) (AreSectionsOf ss) text in
     subst P (sym e) (record { forward = λ t h. (text, t, is, refl, h); back = λ t h. split t h })
@@ -161,13 +171,16 @@ section_fronts s ss all text e is =
     split t (section, rest, was, f, h) = (rest, f ∙ ap (λ x. x ++ rest) (section_unique s.place s.words section text was is), h)
 
 -- a failure within a section
-pub section_cut : (Whole : List ℕ → Type 0) (s : Section) (ss all : List Section) (old mid new : Option (List ℕ)) → Listed Whole (AreSectionsOf all) old mid → all ≡ s ∷ ss
+pub section_cut : (Whole : List ℕ → Type 0) (s : Section) (ss all : List Section) (old mid new : Option (List ℕ)) → Listed Whole (AreSectionsOf all) old mid
+    → all ≡ s ∷ ss
     → IsCut (IsSectionOf s.place s.words) mid new → IsCut Whole old new
 section_cut Whole s ss all old mid new l e cut = λ t h. later t (l.back t h)
   where
-    latest : (t rest : List ℕ) → t ≡ l.done ++ rest → ((section : List ℕ) × (u : List ℕ) × IsSectionOf s.place s.words section × (rest ≡ section ++ u) × AreSectionsOf ss u) → AppendsProperPrefix old new t
+    latest : (t rest : List ℕ) → t ≡ l.done ++ rest
+        → ((section : List ℕ) × (u : List ℕ) × IsSectionOf s.place s.words section × (rest ≡ section ++ u) × AreSectionsOf ss u) → AppendsProperPrefix old new t
     latest t rest f (section, u, is, g, h) = let Q : List ℕ → Type 0 = λ t. AppendsProperPrefix old new t in
-        subst Q (sym (f ∙ ap (λ r. l.done ++ r) g)) (part_of_second old mid new l.done (section ++ u) l.written (part_of_first mid new section u (cut section is)))
+        subst Q (sym (f ∙ ap (λ r. l.done ++ r) g))
+        (part_of_second old mid new l.done (section ++ u) l.written (part_of_first mid new section u (cut section is)))
 
     later : (t : List ℕ) → ((rest : List ℕ) × (t ≡ l.done ++ rest) × AreSectionsOf all rest) → AppendsProperPrefix old new t
     later t (rest, f, h) = let R : List Section → Type 0 = λ all. AreSectionsOf all rest in latest t rest f (subst R e h)
@@ -180,8 +193,9 @@ lines_cut Whole Left old mid new l cut = λ t h. later t (l.back t h)
     later t (rest, f, h) = let Q : List ℕ → Type 0 = λ t. AppendsProperPrefix old new t in
         subst Q (sym f) (part_of_second old mid new l.done rest l.written (cut rest h))
 
-pub lines_written : (Whole Left : List ℕ → Type 0) (old mid new : Option (List ℕ)) → Listed Whole Left old mid → IsWritten Left mid new → IsWritten Whole old new
-lines_written Whole Left old mid new l (t, h, w) = (l.done ++ t, l.forward t h, appends_more old mid new l.done t l.written w)
+pub lines_written : (Whole Left : List ℕ → Type 0) (old mid new : Option (List ℕ)) → Listed Whole Left old mid → IsWritten Left mid new
+    → IsWritten Whole old new
+lines_written Whole Left old mid new l (t, h, w) = (l.done ++ t, l.forward t h, Appends-trans old mid new l.done t l.written w)
 
 pub no_sections : (ss : List Section) → ss ≡ [] → AreSectionsOf ss []
 no_sections ss e = let P : List Section → Type 0 = λ ss. AreSectionsOf ss [] in subst P (sym e) refl

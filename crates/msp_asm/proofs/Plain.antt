@@ -1,10 +1,11 @@
 -- The bytes of a listing's lines: no line feed and no carriage return is among them, and numbers are four hexadecimal digits.
-use Rattle.std.proofs.Common.{◌≡◌, ◌<◌, ◌≤◌, ℕ, ◌+◌, ◌/◌, ◌%◌, ◌==◌, List, [], ◌∷◌, ◌++◌, length, refl, ap, arith, if◌then◌else◌, nat_lt, Bool, true, false, Some}
+use Rattle.std.proofs.Common.{◌≡◌, ◌<◌, ◌≤◌, ℕ, ◌+◌, ◌/◌, ◌%◌, ◌==◌, List, [], ◌∷◌, ◌++◌, length, refl, ap, arith, if◌then◌else◌, nat_lt, Bool, true, false}
+use Rattle.std.proofs.Common.{Some}
 use Rattle.std.specs.Prelude.{codes}
 use Rattle.std.proofs.lemmas.Bool.Decides.{nat_tests}
-use Rattle.text_parts.specs.Fields.{is_blank}
 use Rattle.text_parts.specs.Lines.{without_return}
-use Rattle.text_parts.specs.Hex.{hex_digit, upper_digit, upper_hex}
+use Rattle.text_parts.specs.Hex.{upper_digit, upper_hex}
+use Rattle.text_parts.proofs.Printing.{not_blank, upper_inked, digit_upper}
 use Rattle.alp_words.specs.declared.Width.{Width}
 use Rattle.alp_words.specs.declared.Width.TheVariants.{Word, Byte}
 use Rattle.msp_isa.specs.Constant.{constant_value}
@@ -35,7 +36,8 @@ use Rattle.image_text.specs.Text.{upper_hex4}
 use Rattle.asm_line.specs.Numbers.{digit}
 use Rattle.asm_line.specs.Filling.{words_on, jump_target}
 use Rattle.asm_line.proofs.Directives.{IsHex, IsHex4, hex}
-use Rattle.msp_asm.specs.Written.{number_text, index_text, readable_text, pointer_text, register_text, indexed_text, operand_text, source_text, destination_text, two_text, condition_text, width_text, one_text, instr_text}
+use Rattle.msp_asm.specs.Written.{number_text, index_text, readable_text, pointer_text, register_text, indexed_text, operand_text, source_text}
+use Rattle.msp_asm.specs.Written.{destination_text, two_text, condition_text, width_text, one_text, instr_text}
 
 -- each byte is a blank or a printed character
 abbrev pub ArePlain : List ℕ → Type 0
@@ -53,7 +55,8 @@ digit_by false d = omega arith
 hex4_plain : (a b c d : ℕ) → 32 ≤ a → 32 ≤ b → 32 ≤ c → 32 ≤ d → ArePlain (hex a b c d)
 hex4_plain a b c d h i j k = (omega arith, (omega arith, (h, (i, (j, (k, tt))))))
 
-pub number_is : (w : ℕ) → number_text w ≡ hex (upper_digit (w / 256 / 16)) (upper_digit (w / 256 % 16)) (upper_digit (w % 256 / 16)) (upper_digit (w % 256 % 16))
+pub number_is : (w : ℕ) → number_text w ≡ hex (upper_digit (w / 256 / 16)) (upper_digit (w / 256 % 16)) (upper_digit (w % 256 / 16))
+    (upper_digit (w % 256 % 16))
 unfolding number_text upper_hex4 upper_hex
 number_is w = refl
 
@@ -61,23 +64,12 @@ number_plain : (w : ℕ) → ArePlain (number_text w)
 number_plain w = rw (number_is w) (hex4_plain _ _ _ _ (digit_by (nat_lt (w / 256 / 16) 10) (w / 256 / 16)) (digit_by (nat_lt (w / 256 % 16) 10) (w / 256 % 16))
     (digit_by (nat_lt (w % 256 / 16) 10) (w % 256 / 16)) (digit_by (nat_lt (w % 256 % 16) 10) (w % 256 % 16)))
 
-hex_back : (d : ℕ) → d < 16 → hex_digit (upper_digit d) ≡ Some d
-unfolding hex_digit
-hex_back d h = grind (arith, nat_tests)
-
 below_back : (d : ℕ) → d < 16 → nat_lt d 16 ≡ true
 below_back d h = grind (arith, nat_tests)
 
-not_blank : (b : ℕ) → 36 < b → is_blank b ≡ false
-unfolding is_blank
-not_blank b h = grind (arith, nat_tests)
-
-inked : (d : ℕ) → d < 16 → 36 < upper_digit d
-inked d h = grind (arith, nat_tests)
-
 digit_back : (d : ℕ) → d < 16 → digit 16 (upper_digit d) ≡ Some d
 unfolding digit
-digit_back d h = rw (hex_back d h, below_back d h) refl
+digit_back d h = rw (digit_upper d h, below_back d h) refl
 
 is_hex : (d : ℕ) → d < 16 → IsHex (upper_digit d) d
 is_hex d h = record {
@@ -85,7 +77,7 @@ is_hex d h = record {
   comment = grind (arith, nat_tests);
   colon = grind (arith, nat_tests);
   comma = grind (arith, nat_tests);
-  blank = not_blank (upper_digit d) (inked d h);
+  blank = not_blank (upper_digit d) (upper_inked d h);
 }
 
 pub is_hex4 : (w : ℕ) → w < 65536 → IsHex4 (upper_digit (w / 256 / 16)) (upper_digit (w / 256 % 16)) (upper_digit (w % 256 / 16)) (upper_digit (w % 256 % 16)) w
@@ -134,7 +126,8 @@ register_plain (reg.Index r) = index_plain r
 
 indexed_plain : (x : ℕ) (r : IndexRegister) → ArePlain (indexed_text x r)
 indexed_plain x r = plain_append (number_text x ++ codes "(" ++ index_text r) (codes ")")
-    (plain_append (number_text x ++ codes "(") (index_text r) (plain_append (number_text x) (codes "(") (number_plain x) (omega arith, tt)) (index_plain r)) (omega arith, tt)
+    (plain_append (number_text x ++ codes "(") (index_text r) (plain_append (number_text x) (codes "(") (number_plain x) (omega arith, tt)) (index_plain r))
+    (omega arith, tt)
 
 operand_plain : (a : ℕ) (o : Operand) → ArePlain (operand_text a o)
 unfolding operand_text
@@ -192,11 +185,13 @@ named_plain name rest w h k = plain_append (name ++ width_text w ++ codes " ") r
 
 one_plain : (a : ℕ) (op : OneOp) → ArePlain (one_text a op)
 one_plain a (Rrc w o) = named_plain (codes "rrc") (operand_text a o) w (omega arith, (omega arith, (omega arith, tt))) (operand_plain a o)
-one_plain a (Swpb o) = plain_append (codes "swpb ") (operand_text a o) (omega arith, (omega arith, (omega arith, (omega arith, (omega arith, tt))))) (operand_plain a o)
+one_plain a (Swpb o) =
+    plain_append (codes "swpb ") (operand_text a o) (omega arith, (omega arith, (omega arith, (omega arith, (omega arith, tt))))) (operand_plain a o)
 one_plain a (Rra w o) = named_plain (codes "rra") (operand_text a o) w (omega arith, (omega arith, (omega arith, tt))) (operand_plain a o)
 one_plain a (Sxt o) = plain_append (codes "sxt ") (operand_text a o) (omega arith, (omega arith, (omega arith, (omega arith, tt)))) (operand_plain a o)
 one_plain a (Push w s) = named_plain (codes "push") (source_text a s) w (omega arith, (omega arith, (omega arith, (omega arith, tt)))) (source_plain a s)
-one_plain a (Call s) = plain_append (codes "call ") (source_text a s) (omega arith, (omega arith, (omega arith, (omega arith, (omega arith, tt))))) (source_plain a s)
+one_plain a (Call s) =
+    plain_append (codes "call ") (source_text a s) (omega arith, (omega arith, (omega arith, (omega arith, (omega arith, tt))))) (source_plain a s)
 
 -- an instruction's text
 pub instr_plain : (a : ℕ) (i : Instr) → ArePlain (instr_text a i)
@@ -205,7 +200,8 @@ instr_plain a (instr.Two op w s d) =
     let source : List ℕ = source_text (words_on 1 a) s in
     let destination : List ℕ = destination_text (words_on (1 + length (source_row s).extension) a) d in
     plain_append (two_text op ++ width_text w ++ codes " " ++ source ++ codes ",") destination
-    (plain_append (two_text op ++ width_text w ++ codes " " ++ source) (codes ",") (named_plain (two_text op) source w (two_plain op) (source_plain (words_on 1 a) s)) (omega arith, tt))
+    (plain_append (two_text op ++ width_text w ++ codes " " ++ source) (codes ",")
+    (named_plain (two_text op) source w (two_plain op) (source_plain (words_on 1 a) s)) (omega arith, tt))
     (destination_plain (words_on (1 + length (source_row s).extension) a) d)
 instr_plain a (instr.One op) = one_plain (words_on 1 a) op
 instr_plain a (instr.Jump c bits) = plain_append (condition_text c ++ codes " ") (number_text (jump_target a bits))
@@ -213,7 +209,8 @@ instr_plain a (instr.Jump c bits) = plain_append (condition_text c ++ codes " ")
 instr_plain a instr.Reti = (omega arith, (omega arith, (omega arith, (omega arith, tt))))
 
 pub word_plain : (w : ℕ) → ArePlain (codes ".word " ++ number_text w)
-word_plain w = plain_append (codes ".word ") (number_text w) (omega arith, (omega arith, (omega arith, (omega arith, (omega arith, (omega arith, tt)))))) (number_plain w)
+word_plain w =
+    plain_append (codes ".word ") (number_text w) (omega arith, (omega arith, (omega arith, (omega arith, (omega arith, (omega arith, tt)))))) (number_plain w)
 
 pub org_plain : (w : ℕ) → ArePlain (codes ".org " ++ number_text w)
 org_plain w = plain_append (codes ".org ") (number_text w) (omega arith, (omega arith, (omega arith, (omega arith, (omega arith, tt))))) (number_plain w)

@@ -1,5 +1,6 @@
 -- The lines of an assembler text as pieces between line feeds.
 use Rattle.std.proofs.Common.{◌≡◌, ℕ, ◌+◌, ◌==◌, List, [], ◌∷◌, ◌++◌, length, map, refl, ap, ◌∙◌, if◌then◌else◌, Bool, true, false, ◌⊎◌, inl, inr}
+use Rattle.std.proofs.lemmas.List.{map-append}
 use Rattle.text_parts.specs.Lines.{lines, pieces, without_return}
 use Rattle.text_parts.specs.Lines as text
 use Rattle.asm_line.specs.Pieces.{split, onto_first, place_all, bare}
@@ -16,7 +17,8 @@ onto b ss (p ∷ ps) (inl e) = inl (ap (onto_first b) e)
 onto b ss [] (inr e) = inl (ap (onto_first b) e)
 onto b ss (p ∷ ps) (inr e) = inr (ap (onto_first b) e)
 
-piece_by : (t : Bool) (b : ℕ) (ss ps : List (List ℕ)) → ArePieces ss ps → ArePieces (if t then [] ∷ ss else onto_first b ss) (if t then [] ∷ ps else text.onto_first b ps)
+piece_by : (t : Bool) (b : ℕ) (ss ps : List (List ℕ)) → ArePieces ss ps
+    → ArePieces (if t then [] ∷ ss else onto_first b ss) (if t then [] ∷ ps else text.onto_first b ps)
 piece_by true b ss ps (inl e) = inl (ap (λ r. [] ∷ r) e)
 piece_by true b ss ps (inr e) = inr (ap (λ r. [] ∷ r) e)
 piece_by false b ss ps h = onto b ss ps h
@@ -30,13 +32,10 @@ bare_texts : (at : ℕ) (ps : List (List ℕ)) → map (λ l. l.text) (map bare 
 bare_texts at [] = refl
 bare_texts at (p ∷ ps) = ap (λ r. without_return p ∷ r) (bare_texts (at + length p + 1) ps)
 
-map_append : {A B : Type 0} (f : A → B) (xs ys : List A) → map f (xs ++ ys) ≡ map f xs ++ map f ys
-map_append f [] ys = refl
-map_append f (x ∷ xs) ys = ap (λ r. f x ∷ r) (map_append f xs ys)
-
-lines_by : (ss ps : List (List ℕ)) → ArePieces ss ps → (map without_return ss ≡ map without_return ps) ⊎ (map without_return ss ≡ map without_return ps ++ [] ∷ [])
+lines_by : (ss ps : List (List ℕ)) → ArePieces ss ps
+    → (map without_return ss ≡ map without_return ps) ⊎ (map without_return ss ≡ map without_return ps ++ [] ∷ [])
 lines_by ss ps (inl e) = inl (ap (map without_return) e)
-lines_by ss ps (inr e) = inr (ap (map without_return) e ∙ map_append without_return ps ([] ∷ []))
+lines_by ss ps (inr e) = inr (ap (map without_return) e ∙ map-append without_return ps ([] ∷ []))
 
 pub same_lines : (t : List ℕ) → AreLines t (map (λ l. l.text) (lines_in t))
 same_lines t = later (lines_by (split 10 t) (pieces t) (are_pieces t))

@@ -1,5 +1,6 @@
 -- The image of a text, or its first fault: a line that is none, or else the first fault of the least line.
 use Rattle.std.specs.Prelude.{◌≡◌, ℕ, ◌+◌, List, [], ◌∷◌, map, Option, Some, None, Result, Ok, Err, unwrap_or}
+pub use Rattle.alp_text.specs.Sequence.{◌>>=◌}
 use Rattle.image_text.specs.Reading.{empty}
 use Rattle.asm_line.specs.Pieces.{Located, lines_left}
 use Rattle.asm_line.specs.Lines.{line_of}
@@ -9,12 +10,6 @@ use Rattle.msp_asm.specs.declared.fault.AsmFault.TheVariants as fault
 use Rattle.msp_asm.specs.Labels.{Table, with_label}
 use Rattle.msp_asm.specs.Program.{after, said}
 use Rattle.msp_asm.specs.Placing.{line_into}
-
-infixl 10 ◌>>=◌
--- the second step behind the first, where that has no fault
-abbrev pub ◌>>=◌ : {A B : Type 0} → Result A AsmFault → (A → Result B AsmFault) → Result B AsmFault
-(Ok x) >>= f = f x
-(Err e) >>= f = Err e
 
 -- the table with the label of a line that stands at an address
 abbrev pub note : Table → Option Located → Place → Table

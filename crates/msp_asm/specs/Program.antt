@@ -1,6 +1,7 @@
 -- The lines of a text with their addresses, and what they mean under the labels.
-use Rattle.std.specs.Prelude.{ℕ, ◌+◌, ◌*◌, ◌%◌, ◌==◌, ◌||◌, Bool, true, false, not, if◌then◌else◌, List, [], ◌∷◌, ◌++◌, length, Option, Some, None, Result, Ok, Err, is_none, option_map}
-use Rattle.std.specs.Option.{option_to_list}
+use Rattle.std.specs.Prelude.{ℕ, ◌+◌, ◌*◌, ◌%◌, ◌==◌, ◌||◌, Bool, true, false, not, if◌then◌else◌, List, [], ◌∷◌, ◌++◌, length, Option, Some, None, Result, Ok}
+use Rattle.std.specs.Prelude.{Err, is_none, option_map}
+use Rattle.std.specs.Option.{option_to_list, option_or}
 use Rattle.alp_text.specs.declared.lines.Span.{Span}
 use Rattle.msp_isa.specs.Encoding.{encoding}
 use Rattle.msp_isa.specs.declared.instructions.Instr.TheVariants as instr
@@ -54,11 +55,6 @@ values_in (words vs) = vs
 values_in (jump c v) = v ∷ []
 values_in (instruction t) = option_to_list t.source ++ option_to_list t.destination
 
--- the first label that stands nowhere
-abbrev pub or_else : {A : Type 0} → Option A → Option A → Option A
-or_else (Some x) o = Some x
-or_else None o = o
-
 -- the label of a value, if it stands nowhere
 abbrev pub unknown_in : Table → ValueMeaning → Option Located
 unknown_in f (number n) = None
@@ -69,7 +65,7 @@ unknown_in f here = None
 -- the first label of values that stands nowhere
 abbrev pub first_unknown : Table → List ValueMeaning → Option Located
 first_unknown f [] = None
-first_unknown f (v ∷ vs) = or_else (unknown_in f v) (first_unknown f vs)
+first_unknown f (v ∷ vs) = option_or (unknown_in f v) (first_unknown f vs)
 
 -- a number below -32768 or above 65535
 abbrev pub is_out_of_range : ValueMeaning → Bool
@@ -117,9 +113,9 @@ fault_if false e = None
 
 -- the first fault of the n-th line at an address, but for the places of its words
 unfoldable pub line_fault : Table → ℕ → ℕ → LineMeaning → Option AsmFault
-line_fault f n a l = or_else (repeated_fault f n l.label)
-    (or_else (unknown_fault n (option_map span_of (first_unknown f (values_in l.statement))))
-    (or_else (fault_if (any_out_of_range (values_in l.statement)) (fault.OutOfRange n))
+line_fault f n a l = option_or (repeated_fault f n l.label)
+    (option_or (unknown_fault n (option_map span_of (first_unknown f (values_in l.statement))))
+    (option_or (fault_if (any_out_of_range (values_in l.statement)) (fault.OutOfRange n))
     (fault_if (is_far f a l.statement) (fault.JumpTooFar n))))
 
 -- the words of values, each an item at its own address

@@ -19,6 +19,3 @@ pub use fault::AsmFault;
 pub use laws::{
     images_have_one_text, images_have_texts, labels_stand_first, lines_alone, lines_are_the_text_s,
 };
-
-#[cfg(test)]
-mod tests;

@@ -1,12 +1,12 @@
 -- What a first word says of the fields of its instruction.
-use Rattle.std.proofs.Common.{◌≡◌, length-append, ◌⊎◌, inl, inr, ℕ, length, subst, slice_index, ◌+◌, ◌*◌, ◌/◌, ◌%◌, ◌<◌, ◌≤◌, List, [], ◌∷◌, ◌++◌, refl, sym, ◌∙◌, ap, arith}
+use Rattle.std.proofs.Common.{◌≡◌, length-append, ◌⊎◌, inl, inr, ℕ, length, subst, slice_index, ◌+◌, ◌*◌, ◌/◌, ◌%◌, ◌<◌, ◌≤◌, List, [], ◌∷◌, ◌++◌, refl, sym}
+use Rattle.std.proofs.Common.{◌∙◌, ap, arith}
 use Rattle.alp_words.specs.declared.Width.{Width}
 use Rattle.alp_words.specs.declared.Width.TheVariants.{Word, Byte}
 use Rattle.msp_isa.specs.declared.instructions.Instr.{Instr}
 use Rattle.msp_isa.specs.declared.instructions.Instr.TheVariants.{Two, One, Jump, Reti}
 use Rattle.msp_isa.specs.declared.instructions.OneOp.TheVariants as one
 use Rattle.msp_isa.specs.declared.instructions.TwoOp.{TwoOp}
-use Rattle.msp_isa.specs.declared.registers.IndexRegister.{IndexRegister}
 use Rattle.msp_isa.specs.declared.instructions.Condition.{Condition}
 use Rattle.msp_isa.specs.declared.operands.Konst.TheVariants as konst
 use Rattle.msp_isa.specs.declared.operands.Operand.{Operand}
@@ -15,11 +15,9 @@ use Rattle.msp_isa.specs.declared.operands.Src.TheVariants as src
 use Rattle.msp_isa.specs.declared.operands.Dst.TheVariants as dst
 use Rattle.msp_isa.specs.declared.operands.Src.{Src}
 use Rattle.msp_isa.specs.declared.operands.Dst.{Dst}
-use Rattle.msp_isa.specs.Encoding.{Row, one_encoding, two_encoding, index_number, operand_row, source_row, destination_row, opcode, condition_number, byte_bit, encoding, HasFields, IsPrefix, IsInstruction, first_word}
-
--- the bounds of the fields
-index_below : (b : IndexRegister) → index_number b < 16
-index_below b = grind arith
+use Rattle.msp_isa.specs.Encoding.{Row, one_encoding, two_encoding, operand_row, source_row, destination_row, opcode, condition_number, byte_bit, encoding}
+use Rattle.msp_isa.specs.Encoding.{HasFields, IsPrefix, IsInstruction, first_word}
+use Rattle.msp_isa.proofs.Numbers.{index_below}
 
 operand_below : (p : Operand) → ((operand_row p).mode < 4) × ((operand_row p).register < 16)
 operand_below p = grind (arith, index_below)
@@ -37,7 +35,8 @@ condition_below : (c : Condition) → condition_number c < 8
 condition_below c = grind arith
 
 -- each field of a first word of two operands
-fields : (op r a b m d : ℕ) → r < 16 → a < 2 → b < 2 → m < 4 → d < 16 → (w : ℕ) → op * 0x1000 + r * 0x100 + a * 0x80 + b * 0x40 + m * 0x10 + d ≡ w → (op ≡ w / 0x1000) × (r ≡ w / 0x100 % 16) × (a ≡ w / 0x80 % 2) × (b ≡ w / 0x40 % 2) × (m ≡ w / 0x10 % 4) × (d ≡ w % 16)
+fields : (op r a b m d : ℕ) → r < 16 → a < 2 → b < 2 → m < 4 → d < 16 → (w : ℕ) → op * 0x1000 + r * 0x100 + a * 0x80 + b * 0x40 + m * 0x10 + d ≡ w
+    → (op ≡ w / 0x1000) × (r ≡ w / 0x100 % 16) × (a ≡ w / 0x80 % 2) × (b ≡ w / 0x40 % 2) × (m ≡ w / 0x10 % 4) × (d ≡ w % 16)
 fields op r a b m d hr ha hb hm hd w e = (omega arith, omega arith, omega arith, omega arith, omega arith, omega arith)
 
 -- an instruction of two operands with the fields of this first word
@@ -59,7 +58,8 @@ pub two_fields : (w0 : ℕ) → 0x4000 ≤ w0 → (i : Instr) → IsInstruction 
 two_fields w0 h (Two op w s d) fits e =
     let sb = source_below s in
     let db = destination_below d in
-    let f = fields (opcode op) (source_row s).register (destination_row d).mode (byte_bit w) (source_row s).mode (destination_row d).register sb.1 db.0 (byte_below w) sb.0 db.1 w0 e in
+    let f = fields (opcode op) (source_row s).register (destination_row d).mode (byte_bit w) (source_row s).mode (destination_row d).register sb.1 db.0
+    (byte_below w) sb.0 db.1 w0 e in
     record { op = op; width = w; src = s; dst = d; is = refl; op_is = f.0; width_is = f.3; src_is = (f.4, f.1); dst_is = (f.2, f.5) }
 two_fields w0 h (One (one.Rrc w p)) fits e = let b = operand_below p in let l = byte_below w in absurd (omega arith)
 two_fields w0 h (One (one.Swpb p)) fits e = let b = operand_below p in absurd (omega arith)
@@ -87,7 +87,8 @@ short_front [] v w l h = tt
 short_front (y ∷ []) v w l h = h
 short_front (y ∷ z ∷ ys) v w l h = absurd (omega arith)
 
-pub parted : (xs ys : List ℕ) (v w : ℕ) → length xs < 2 → length ys < 2 → IsPrefix (xs ++ ys) (v ∷ w ∷ []) → IsPrefix xs (v ∷ []) × IsPrefix ys (slice_index (v ∷ w ∷ []) (length xs) ∷ [])
+pub parted : (xs ys : List ℕ) (v w : ℕ) → length xs < 2 → length ys < 2 → IsPrefix (xs ++ ys) (v ∷ w ∷ [])
+    → IsPrefix xs (v ∷ []) × IsPrefix ys (slice_index (v ∷ w ∷ []) (length xs) ∷ [])
 parted [] ys v w l m h = (tt, short_front ys v w m h)
 parted (x ∷ []) ys v w l m h = ((h.0, tt), h.1)
 parted (x ∷ z ∷ xs) ys v w l m h = absurd (omega arith)
@@ -102,7 +103,9 @@ destination_short : (d : Dst) → length (destination_row d).extension < 2
 destination_short d = grind arith
 
 -- the words after the first one, of an instruction of two operands
-pub two_words : (i : Instr) (w0 w1 w2 : ℕ) (t : IsTwoOperand i w0) → IsPrefix (encoding i) (w0 ∷ w1 ∷ w2 ∷ []) → IsPrefix (source_row t.src).extension (w1 ∷ []) × IsPrefix (destination_row t.dst).extension (slice_index (w1 ∷ w2 ∷ []) (length (source_row t.src).extension) ∷ [])
+pub two_words : (i : Instr) (w0 w1 w2 : ℕ) (t : IsTwoOperand i w0) → IsPrefix (encoding i) (w0 ∷ w1 ∷ w2 ∷ [])
+    → IsPrefix (source_row t.src).extension (w1 ∷ [])
+    × IsPrefix (destination_row t.dst).extension (slice_index (w1 ∷ w2 ∷ []) (length (source_row t.src).extension) ∷ [])
 two_words i w0 w1 w2 t h =
     let P : Instr → Type 0 = λ j. IsPrefix (encoding j) (w0 ∷ w1 ∷ w2 ∷ []) in
     let all = subst P t.is h in
@@ -112,7 +115,8 @@ pub same_width : (v w : Width) → byte_bit v ≡ byte_bit w → v ≡ w
 same_width v w e = grind arith
 
 -- the fields of a first word of one operand
-one_parts : (f b m r w : ℕ) → b < 2 → m < 4 → r < 16 → f * 0x80 + b * 0x40 + m * 0x10 + r ≡ w → (w / 0x80 ≡ f) × (b ≡ w / 0x40 % 2) × (m ≡ w / 0x10 % 4) × (r ≡ w % 16)
+one_parts : (f b m r w : ℕ) → b < 2 → m < 4 → r < 16 → f * 0x80 + b * 0x40 + m * 0x10 + r ≡ w
+    → (w / 0x80 ≡ f) × (b ≡ w / 0x40 % 2) × (m ≡ w / 0x10 % 4) × (r ≡ w % 16)
 one_parts f b m r w hb hm hr e = (omega arith, omega arith, omega arith, omega arith)
 
 abbrev pub IsOneOperand : Instr → ℕ → Type 0
@@ -131,12 +135,18 @@ two_high op = grind arith
 
 pub one_fields : (i : Instr) (w0 : ℕ) → w0 < 0x2000 → IsInstruction i → first_word i ≡ w0 → IsOneOperand i w0
 one_fields (Two op w s d) v h fits e = let b = two_high op in absurd (omega arith)
-one_fields (One (one.Rrc w p)) v h fits e = let b = operand_below p in let f = one_parts 0x20 (byte_bit w) (operand_row p).mode (operand_row p).register v (byte_below w) b.0 b.1 e in (f.0, f.1, (f.2, f.3))
-one_fields (One (one.Swpb p)) v h fits e = let b = operand_below p in let f = one_parts 0x21 0 (operand_row p).mode (operand_row p).register v (omega arith) b.0 b.1 (omega arith) in (f.0, f.1, (f.2, f.3))
-one_fields (One (one.Rra w p)) v h fits e = let b = operand_below p in let f = one_parts 0x22 (byte_bit w) (operand_row p).mode (operand_row p).register v (byte_below w) b.0 b.1 e in (f.0, f.1, (f.2, f.3))
-one_fields (One (one.Sxt p)) v h fits e = let b = operand_below p in let f = one_parts 0x23 0 (operand_row p).mode (operand_row p).register v (omega arith) b.0 b.1 (omega arith) in (f.0, f.1, (f.2, f.3))
-one_fields (One (one.Push w s)) v h fits e = let b = source_below s in let f = one_parts 0x24 (byte_bit w) (source_row s).mode (source_row s).register v (byte_below w) b.0 b.1 e in (f.0, f.1, (f.2, f.3))
-one_fields (One (one.Call s)) v h fits e = let b = source_below s in let f = one_parts 0x25 0 (source_row s).mode (source_row s).register v (omega arith) b.0 b.1 (omega arith) in (f.0, f.1, (f.2, f.3))
+one_fields (One (one.Rrc w p)) v h fits e = let b = operand_below p in
+    let f = one_parts 0x20 (byte_bit w) (operand_row p).mode (operand_row p).register v (byte_below w) b.0 b.1 e in (f.0, f.1, (f.2, f.3))
+one_fields (One (one.Swpb p)) v h fits e = let b = operand_below p in
+    let f = one_parts 0x21 0 (operand_row p).mode (operand_row p).register v (omega arith) b.0 b.1 (omega arith) in (f.0, f.1, (f.2, f.3))
+one_fields (One (one.Rra w p)) v h fits e = let b = operand_below p in
+    let f = one_parts 0x22 (byte_bit w) (operand_row p).mode (operand_row p).register v (byte_below w) b.0 b.1 e in (f.0, f.1, (f.2, f.3))
+one_fields (One (one.Sxt p)) v h fits e = let b = operand_below p in
+    let f = one_parts 0x23 0 (operand_row p).mode (operand_row p).register v (omega arith) b.0 b.1 (omega arith) in (f.0, f.1, (f.2, f.3))
+one_fields (One (one.Push w s)) v h fits e = let b = source_below s in
+    let f = one_parts 0x24 (byte_bit w) (source_row s).mode (source_row s).register v (byte_below w) b.0 b.1 e in (f.0, f.1, (f.2, f.3))
+one_fields (One (one.Call s)) v h fits e = let b = source_below s in
+    let f = one_parts 0x25 0 (source_row s).mode (source_row s).register v (omega arith) b.0 b.1 (omega arith) in (f.0, f.1, (f.2, f.3))
 one_fields (Jump c o) v h fits e = absurd (omega arith)
 one_fields Reti v h fits e = sym e
 
@@ -244,18 +254,23 @@ two_zeros xs ys h g = elim h [
   | inr e ↦ rw e (refl, elim g [ inl f ↦ rw f tt | inr f ↦ rw f (refl, tt) ])
 ]
 
-one_blank : (f : ℕ) (w : Width) (r b : Row) → IsBlanked r b → IsPrefix (one_encoding f w b) (slice_index (one_encoding f w r) 0 ∷ 0 ∷ 0 ∷ []) × (length (one_encoding f w b) ≡ length (one_encoding f w r))
+one_blank : (f : ℕ) (w : Width) (r b : Row) → IsBlanked r b
+    → IsPrefix (one_encoding f w b) (slice_index (one_encoding f w r) 0 ∷ 0 ∷ 0 ∷ []) × (length (one_encoding f w b) ≡ length (one_encoding f w r))
 one_blank f w r b h = let m = h.mode in let n = h.register in let l = h.len in ((cc, zeros_front b.extension h.zero_after), cc)
 
-two_blank : (op : ℕ) (w : Width) (r b s d : Row) → IsBlanked r b → IsBlanked s d → IsPrefix (two_encoding op w b d) (slice_index (two_encoding op w r s) 0 ∷ 0 ∷ 0 ∷ []) × (length (two_encoding op w b d) ≡ length (two_encoding op w r s))
+two_blank : (op : ℕ) (w : Width) (r b s d : Row) → IsBlanked r b → IsBlanked s d
+    → IsPrefix (two_encoding op w b d) (slice_index (two_encoding op w r s) 0 ∷ 0 ∷ 0 ∷ []) × (length (two_encoding op w b d) ≡ length (two_encoding op w r s))
 two_blank op w r b s d h g =
     let m = h.mode in let n = h.register in let l = h.len in
-    let p = g.mode in let q = g.register in let k = g.len in
-    ((cc, two_zeros b.extension d.extension h.zero_after g.zero_after), omega (arith, length-append b.extension d.extension, length-append r.extension s.extension))
+    let p = g.mode in let q = g.register in let k = g.len in (
+      (cc, two_zeros b.extension d.extension h.zero_after g.zero_after),
+      omega (arith, length-append b.extension d.extension, length-append r.extension s.extension),
+    )
 
 blank_is : (i : Instr) → IsInstruction i → IsBlankOf i (blank i)
 unfolding blank
-blank_is (Two op w s d) fits = let t = two_blank (opcode op) w _ _ _ _ (blanked_source s) (blanked_destination d) in record { fits = tt; front = t.0; len = t.1 }
+blank_is (Two op w s d) fits = let t = two_blank (opcode op) w _ _ _ _ (blanked_source s) (blanked_destination d) in
+    record { fits = tt; front = t.0; len = t.1 }
 blank_is (One (one.Rrc w p)) fits = let t = one_blank 0x1000 w _ _ (blanked_operand p) in record { fits = tt; front = t.0; len = t.1 }
 blank_is (One (one.Swpb p)) fits = let t = one_blank 0x1080 Word _ _ (blanked_operand p) in record { fits = tt; front = t.0; len = t.1 }
 blank_is (One (one.Rra w p)) fits = let t = one_blank 0x1100 w _ _ (blanked_operand p) in record { fits = tt; front = t.0; len = t.1 }
@@ -265,6 +280,7 @@ blank_is (One (one.Call s)) fits = let t = one_blank 0x1280 Word _ _ (blanked_so
 blank_is (Jump c o) fits = record { fits = fits; front = (refl, tt); len = refl }
 blank_is Reti fits = record { fits = tt; front = (refl, tt); len = refl }
 
+-- each instruction is one of a blank form with its fields filled in
 pub blank_of : (i : Instr) → IsInstruction i → (j : Instr) × IsBlankOf i j
 blank_of i fits = (blank i, blank_is i fits)
 
@@ -284,12 +300,14 @@ jump_fields (One (one.Rra w p)) v fits e l h = let b = operand_below p in let c 
 jump_fields (One (one.Sxt p)) v fits e l h = let b = operand_below p in absurd (omega arith)
 jump_fields (One (one.Push w s)) v fits e l h = let b = source_below s in let c = byte_below w in absurd (omega arith)
 jump_fields (One (one.Call s)) v fits e l h = let b = source_below s in absurd (omega arith)
-jump_fields (Jump c o) v fits e l h = let b = condition_below c in record { condition = c; offset = o; is = refl; condition_is = omega arith; offset_is = omega arith }
+jump_fields (Jump c o) v fits e l h = let b = condition_below c in
+    record { condition = c; offset = o; is = refl; condition_is = omega arith; offset_is = omega arith }
 jump_fields Reti v fits e l h = absurd (omega arith)
 
 -- an instruction has at most three words
 pub length_below : (i : Instr) → length (encoding i) < 4
-length_below (Two op w s d) = let a = source_short s in let b = destination_short d in omega (arith, length-append (source_row s).extension (destination_row d).extension)
+length_below (Two op w s d) = let a = source_short s in let b = destination_short d in
+    omega (arith, length-append (source_row s).extension (destination_row d).extension)
 length_below (One (one.Rrc w p)) = let a = operand_short p in omega arith
 length_below (One (one.Swpb p)) = let a = operand_short p in omega arith
 length_below (One (one.Rra w p)) = let a = operand_short p in omega arith

@@ -86,5 +86,6 @@ three_front (x ∷ y ∷ z ∷ xs) (w ∷ v ∷ []) l h = absurd h.1.1
 three_front (x ∷ y ∷ z ∷ []) (w ∷ v ∷ u ∷ ws) l h = (h.0, (h.1.0, (h.1.1.0, tt)))
 three_front (x ∷ y ∷ z ∷ a ∷ xs) (w ∷ v ∷ u ∷ ws) l h = absurd (omega arith)
 
+-- words begin with one instruction at most
 pub is_unique : (i j : Instr) (ws : List ℕ) → IsInstruction i → IsInstruction j → IsPrefix (encoding i) ws → IsPrefix (encoding j) ws → i ≡ j
 is_unique i j ws f g h k = same_instruction i j (slice_index ws 0) (slice_index ws 1) (slice_index ws 2) f g (three_front _ _ (length_below i) h) (three_front _ _ (length_below j) k)

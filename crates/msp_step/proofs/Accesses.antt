@@ -133,6 +133,7 @@ one_ends bus s (one.Sxt p) r = modify_ends bus s sign_extended Word p r
 one_ends bus s (one.Push w x) r = push_ends bus s w x r
 one_ends bus s (one.Call x) r = call_ends bus s x r
 
+-- an instruction reads at most twice, and then may write
 pub effect_ends : {S : Type 0} (bus : BusModel S) (i : Instr) (r : Registers) (s : S) → Ends bus 2 s (effect bus i r s)
 unfolding effect
 effect_ends bus (instr.Two op w x d) r s = two_ends bus s op w x d r

@@ -38,6 +38,7 @@ in_front bus s pc (x ∷ y ∷ []) few f = (sym (ap word_at f.0), (sym (ap word_
 in_front bus s pc (x ∷ y ∷ z ∷ []) few f = (sym (ap word_at f.0), (sym (ap word_at f.1.0), (sym (ap word_at f.1.1.0), tt)))
 in_front bus s pc (x ∷ y ∷ z ∷ v ∷ ws) few f = absurd (omega arith)
 
+-- there is one current instruction
 pub same_current : {S : Type 0} (bus : BusModel S) (r : Registers) (s : S) (i j : Instr) → IsCurrentInstruction bus r s i → IsCurrentInstruction bus r s j → i ≡ j
 same_current bus r s i j a b =
     same_instruction i j _ _ _ a.is b.is (in_front bus s (r 0) (encoding i) (length_below i) a.fetched) (in_front bus s (r 0) (encoding j) (length_below j) b.fetched)
@@ -87,6 +88,7 @@ illegal_fetched bus s pc a w was bad (Third v u is longer there y) = bad longer.
 on_off : (r : Registers) → off_bit r ≡ 1 → off_bit r ≡ 0 → ⊥
 on_off r a b = let e = sym a ∙ b in omega arith
 
+-- there is one stop
 pub same_stop : {S : Type 0} (bus : BusModel S) (r : Registers) (s : S) (e f : Stop) → IsStopped bus r s e → IsStopped bus r s f → e ≡ f
 same_stop bus r s stop.Off stop.Off h k = refl
 same_stop bus r s stop.Off (stop.Illegal p w) h k = absurd (on_off r h k.0)
@@ -102,12 +104,14 @@ same_stop bus r s (stop.Bus p a) (stop.Bus q b) h k = let x = h.1.0 ∙ sym k.1.
 same_stop bus r s (stop.Bus p a) stop.NoReading h k = absurd k
 same_stop bus r s stop.NoReading f h k = absurd h
 
+-- a current instruction isn't stopped
 pub not_stopped : {S : Type 0} (bus : BusModel S) (r : Registers) (s : S) (e : Stop) (i : Instr) → IsStopped bus r s e → IsCurrentInstruction bus r s i → ⊥
 not_stopped bus r s stop.Off i h c = on_off r h c.on
 not_stopped bus r s (stop.Illegal p w) i h c = h.1.2 i c.is (some_same (begins bus s (r 0) i c.fetched) h.1.1)
 not_stopped bus r s (stop.Bus p a) i h c = not_missing bus s (r 0) a i c.is c.fetched h.1.1
 not_stopped bus r s stop.NoReading i h c = h
 
+-- a step has one outcome
 pub determined : {S : Type 0} (bus : BusModel S) (r : Registers) (s : S) (o p : Outcome S) → StepResult bus r s o → StepResult bus r s p → o ≡ p
 determined {S} bus r s o p (Stopped e h) (Stopped f k) = ap (λ x. record { answer = Err x; registers = r; bus = s }) (same_stop bus r s e f h k)
 determined bus r s o p (Stopped e h) (Executed i c) = absurd (not_stopped bus r s e i h c)
@@ -118,6 +122,7 @@ took : {S : Type 0} (i : Instr) (r : Registers) (m : Access S (Registers × Opti
 took i r (Completed x s) done e = cc
 took i r (Faulted f a s) done e = cc
 
+-- a step takes its cost
 pub takes_its_cost : {S : Type 0} (bus : BusModel S) (r : Registers) (s : S) (o : Outcome S) (done : Stepped) → StepResult bus r s o → o.answer ≡ Ok done → Costs bus r s (Ok done.cycles)
 takes_its_cost bus r s o done (Stopped e h) is = cc
 takes_its_cost bus r s o done (Executed i c) is = (i, c, took i r (effect bus i r s) done is)

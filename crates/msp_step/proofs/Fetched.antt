@@ -9,6 +9,7 @@ use Rattle.msp_step.specs.Access.{BusModel}
 use Rattle.msp_step.specs.Effect.{sum16}
 use Rattle.msp_step.specs.Step.{FetchedAt, IsNoInstruction, IsLongerThan, First, Second, Third}
 
+-- words that are fetched one after another
 pub fetched_at : {S : Type 0} (bus : BusModel S) (s : S) (pc : ℕ) (xs : List ℕ) (w0 w1 w2 : ℕ) → IsPrefix xs (w0 ∷ w1 ∷ w2 ∷ []) → bus.fetches s pc ≡ Some w0 → (1 < length xs → bus.fetches s (sum16 pc 2) ≡ Some w1) → (2 < length xs → bus.fetches s (sum16 (sum16 pc 2) 2) ≡ Some w2) → FetchedAt bus s pc xs
 fetched_at bus s pc [] w0 w1 w2 h f g k = tt
 fetched_at bus s pc (x ∷ []) w0 w1 w2 h f g k = (f ∙ ap Some (sym h.0), tt)

@@ -1,11 +1,13 @@
 -- The first of two places is the first at which either is so.
-use Rattle.std.proofs.Common.{◌≡◌, ℕ, ◌-◌, ◌<◌, ◌≤◌, suc, Bool, true, false, List, length, get_or, drop, map, drop-cons, Option, Some, None, ◌⊎◌, inl, inr, ap, sym, ◌∙◌, subst, refl, arith, if◌then◌else◌, nat_le, ◌∷◌}
+use Rattle.std.proofs.Common.{◌≡◌, ℕ, ◌-◌, ◌<◌, ◌≤◌, Bool, true, false, List, length, get_or, drop, map, Option, Some, None, ◌⊎◌, inl, inr, sym, subst, refl}
+use Rattle.std.proofs.Common.{arith, if◌then◌else◌, nat_le}
 use Rattle.std.proofs.lemmas.Bool.Decides.{nat_tests}
 use Rattle.alp_text.specs.declared.lines.Span.{Span}
 use Rattle.task_ast.specs.declared.names.VariableName.{VariableName}
 use Rattle.task_ast.specs.declared.names.TaskName.{TaskName}
 use Rattle.task_ast.specs.declared.TaskDeclaration.{TaskDeclaration}
 use Rattle.task_ast.specs.View.{task_of}
+use Rattle.task_ast.proofs.Backwards.{drop_back}
 use Rattle.path_checks.specs.Firsts.{CheckedTask, IsFirst, SomeTask, first_of}
 
 pub first_same : (o : Option Span) (P Q : Span → Type 0) → ((s : Span) → P s → Q s) → ((s : Span) → Q s → P s) → IsFirst o P → IsFirst o Q
@@ -32,14 +34,9 @@ first_either (Some p) (Some q) P Q h k = choose (nat_le p.from q.from) refl
         let l = le_false p.from q.from e in
         (inr k.0, λ s x. elim x [ inl y ↦ (let m : p.from ≤ s.from = h.1 s y in omega arith) | inr y ↦ k.1 s y ])
 
-drop_back : {A : Type 0} (xs : List A) (i : ℕ) (a : A) → 0 < i → i ≤ length xs → a ≡ get_or xs (i - 1) a → drop (i - 1) xs ≡ a ∷ drop i xs
-drop_back xs i a pos h is =
-    let lt : i - 1 < length xs = omega arith in
-    let e : suc (i - 1) ≡ i = omega arith in
-    drop-cons xs (i - 1) a lt ∙ ap (λ x. x ∷ drop (suc (i - 1)) xs) (sym is) ∙ ap (λ j. a ∷ drop j xs) e
-
 -- one more task at the front
-pub first_task : (P : CheckedTask → Span → Type 0) (ts : List (TaskDeclaration VariableName TaskName)) (i : ℕ) (a : TaskDeclaration VariableName TaskName) (one all r : Option Span) → 0 < i → i ≤ length ts
+pub first_task : (P : CheckedTask → Span → Type 0) (ts : List (TaskDeclaration VariableName TaskName)) (i : ℕ) (a : TaskDeclaration VariableName TaskName)
+    (one all r : Option Span) → 0 < i → i ≤ length ts
     → a ≡ get_or ts (i - 1) a → r ≡ first_of one all → IsFirst one (P (task_of a)) → IsFirst all (λ s. SomeTask (map task_of (drop i ts)) (λ t. P t s))
     → IsFirst r (λ s. SomeTask (map task_of (drop (i - 1) ts)) (λ t. P t s))
 first_task P ts i a one all r pos h at e x y =

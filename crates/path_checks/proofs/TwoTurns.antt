@@ -1,12 +1,14 @@
 -- When a second turn tells no more than the first.
 use Rattle.std.proofs.Common.{◌≡◌, ℕ, Bool, true, false, ◌&&◌, ◌||◌, refl, ap, ap₂, sym, ◌∙◌, if◌then◌else◌}
+use Rattle.std.proofs.lemmas.Bool.{and_parts}
 use Rattle.alp_text.specs.declared.lines.Span.{Span}
 use Rattle.task_ast.specs.Paths.{CheckedBlock, Access, read, write, unset}
 use Rattle.path_sums.specs.Sums.{block_sum}
 use Rattle.path_sums.proofs.Taut.{agree}
 use Rattle.path_sums.proofs.Every.{Kept, every_block}
 use Rattle.path_checks.specs.Loops.{is_local}
-use Rattle.path_checks.proofs.Assignments.{Assignment, assignment, assignment_eq, assignment_unit, assignment_write, assignment_unset, assignment_one, assignment_seq}
+use Rattle.path_checks.proofs.Assignments.{Assignment, assignment, assignment_eq, assignment_unit, assignment_write, assignment_unset, assignment_one}
+use Rattle.path_checks.proofs.Assignments.{assignment_seq}
 
 -- a path on which the local is untouched or unassigned at the end goes on there
 pub record IsWell (s : Assignment) : Type 0 where
@@ -86,18 +88,15 @@ from_unassigned false true u e h k = refl
 from_unassigned false false true e h k = k
 from_unassigned false false false e h k = h
 
-and_right : (a b : Bool) → (a && b) ≡ true → b ≡ true
-and_right true b h = h
-and_right false b h = cc
-
-pub second_turn : (s t : Assignment) → IsWell t → (((assignment_seq s t).unassigned && t.exposed) ≡ true → s.unassigned ≡ true) → assignment_seq s t ≡ assignment_seq (assignment_seq s t) t
+pub second_turn : (s t : Assignment) → IsWell t → (((assignment_seq s t).unassigned && t.exposed) ≡ true → s.unassigned ≡ true)
+    → assignment_seq s t ≡ assignment_seq (assignment_seq s t) t
 second_turn s t well settled = sym (assignment_eq _ _
     (agree 2 (λ a b. (a && b) && b) (λ a b. a && b) refl s.falls_through t.falls_through)
     (agree 2 (λ a b. (a && b) && b) (λ a b. a && b) refl s.untouched t.untouched)
     (second_unassigned s.falls_through t.falls_through s.unassigned t.unassigned t.untouched well.unassigned)
     (agree 4 (λ e k j d. (e || (k && d)) || ((k && j) && d)) (λ e k j d. e || (k && d)) refl s.exposed s.untouched t.untouched t.exposed)
     (absorbed (assignment_seq s t).fault _ _ (from_falls s.fault s.falls_through t.falls_through t.fault (s.unassigned && t.exposed))
-    (λ w. from_unassigned s.fault (s.falls_through && t.fault) s.unassigned t.exposed (settled w) (and_right (assignment_seq s t).unassigned t.exposed w))))
+    (λ w. from_unassigned s.fault (s.falls_through && t.fault) s.unassigned t.exposed (settled w) (and_parts (assignment_seq s t).unassigned t.exposed w).1)))
 
 pub second_falls : (s t : Assignment) → (assignment_seq s t).falls_through ≡ (assignment_seq (assignment_seq s t) t).falls_through
 second_falls s t = agree 2 (λ a b. a && b) (λ a b. (a && b) && b) refl s.falls_through t.falls_through
@@ -117,6 +116,7 @@ no_second false false b g u v h = agree 2 (λ u v. (u && false) || (false || (v 
 
 pub second_fault : (s t : Assignment) → t.exposed ≡ false → (assignment_seq s t).fault ≡ false → (assignment_seq (assignment_seq s t) t).fault ≡ false
 second_fault s t k h =
-    ap (λ e. (s.fault || ((s.falls_through && t.fault) || (s.unassigned && e))) || (((s.falls_through && t.falls_through) && t.fault) || ((assignment_seq s t).unassigned && e))) k
+    ap (λ e. (s.fault || ((s.falls_through && t.fault) || (s.unassigned && e))) ||
+    (((s.falls_through && t.falls_through) && t.fault) || ((assignment_seq s t).unassigned && e))) k
     ∙ no_second s.fault s.falls_through t.falls_through t.fault s.unassigned (assignment_seq s t).unassigned
     (ap (λ e. s.fault || ((s.falls_through && t.fault) || (s.unassigned && e))) (sym k) ∙ h)

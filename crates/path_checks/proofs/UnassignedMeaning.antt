@@ -1,6 +1,8 @@
 -- The first fault of the walks is the first place at which some path reads an unassigned local.
-use Rattle.std.proofs.Common.{◌≡◌, ◌==◌, ◌≤◌, ◌<◌, ◌+◌, ◌-◌, ◌^◌, ℕ, Bool, true, false, ◌&&◌, ◌||◌, List, [], ◌∷◌, ◌++◌, refl, ap, sym, ◌∙◌, subst, if◌then◌else◌, Option, Some, None, nat_lt, arith, ◌⊎◌, inl, inr}
+use Rattle.std.proofs.Common.{◌≡◌, ◌==◌, ◌≤◌, ◌<◌, ◌+◌, ◌-◌, ◌^◌, ℕ, Bool, true, false, ◌&&◌, ◌||◌, List, [], ◌∷◌, ◌++◌, refl, ap, sym, ◌∙◌, subst}
+use Rattle.std.proofs.Common.{if◌then◌else◌, Option, Some, None, nat_lt, arith, ◌⊎◌, inl, inr}
 use Rattle.std.proofs.lemmas.Bool.Decides.{nat_tests}
+use Rattle.std.proofs.lemmas.Bool.{and_parts, and_from, or_cases, or_right}
 use Rattle.alp_text.specs.declared.lines.Span.{Span}
 use Rattle.task_ast.specs.declared.names.Variable.{Variable}
 use Rattle.task_ast.specs.declared.names.Variable.TheVariants.{Shared, Local}
@@ -17,30 +19,12 @@ use Rattle.path_checks.specs.declared.unassigned.Reached.{Reached}
 use Rattle.path_checks.specs.Walk.{start, walk_block}
 use Rattle.path_checks.proofs.FirstPlaces.{first_same, first_either}
 use Rattle.path_checks.proofs.MaskBits.{bit_of_all, InGroup}
-use Rattle.path_checks.proofs.Assignments.{is_at, reads_unassigned, reads_is, from_state, Assignment, assignment, assignment_law, assignment_join, assignment_seq}
+use Rattle.path_checks.proofs.Assignments.{is_at, reads_unassigned, reads_is, from_state, Assignment, assignment, assignment_law, assignment_join}
+use Rattle.path_checks.proofs.Assignments.{assignment_seq}
 use Rattle.path_checks.proofs.Tells.{Tells, IsBelow, IsAhead, FaultOf, small_of}
 use Rattle.path_checks.proofs.WalkTells.{block_tells}
 
 -- ---- a read of an unassigned local, by a test and by its place on the path
-
-or_true : (a b : Bool) → (a || b) ≡ true → (a ≡ true) ⊎ (b ≡ true)
-or_true true b h = inl refl
-or_true false b h = inr h
-
-or_right : (a b : Bool) → b ≡ true → (a || b) ≡ true
-or_right true b h = refl
-or_right false b h = h
-
-and_left : (a b : Bool) → (a && b) ≡ true → a ≡ true
-and_left true b h = refl
-and_left false b h = h
-
-and_right : (a b : Bool) → (a && b) ≡ true → b ≡ true
-and_right true b h = h
-and_right false b h = cc
-
-both : (a b : Bool) → a ≡ true → b ≡ true → (a && b) ≡ true
-both a b h k = ap (λ a. a && b) h ∙ k
 
 eqb_true : (a b : ℕ) → (a == b) ≡ true → a ≡ b
 eqb_true a b h = grind (arith, nat_tests)
@@ -56,10 +40,11 @@ is_local_self : (x : ℕ) (v : Variable) → v ≡ Local x → is_local x v ≡ 
 is_local_self x v e = subst (λ v. is_local x v ≡ true) (sym e) (eq_true x x refl)
 
 at_true : (p s : Span) → is_at p s ≡ true → s ≡ p
-at_true p s h = let a = eqb_true s.from p.from (and_left _ _ h) in let b = eqb_true s.to p.to (and_right (s.from == p.from) _ h) in λ i. record { from = a i; to = b i }
+at_true p s h = let a = eqb_true s.from p.from (and_parts _ _ h).0 in let b = eqb_true s.to p.to (and_parts (s.from == p.from) _ h).1 in
+    λ i. record { from = a i; to = b i }
 
 at_self : (p s : Span) → s ≡ p → is_at p s ≡ true
-at_self p s e = both _ _ (eq_true s.from p.from (ap (λ s. s.from) e)) (eq_true s.to p.to (ap (λ s. s.to) e))
+at_self p s e = and_from _ _ (eq_true s.from p.from (ap (λ s. s.from) e)) (eq_true s.to p.to (ap (λ s. s.to) e))
 
 -- the read on the path
 record Read (u : Bool) (x : ℕ) (p : Span) (xs : List Access) : Type 0 where
@@ -71,29 +56,40 @@ record Read (u : Bool) (x : ℕ) (p : Span) (xs : List Access) : Type 0 where
   place : is_at p name.span ≡ true
   unassigned : is_unassigned u x before ≡ true
 
-behind : (u : Bool) (x : ℕ) (p : Span) (a : Access) (v : Bool) (xs : List Access) → ((ys : List Access) → is_unassigned u x (a ∷ ys) ≡ is_unassigned v x ys) → Read v x p xs → Read u x p (a ∷ xs)
-behind u x p a v xs same r = record { name = r.name; before = a ∷ r.before; after = r.after; whole = ap (λ ys. a ∷ ys) r.whole; is_x = r.is_x; place = r.place; unassigned = same r.before ∙ r.unassigned }
+behind : (u : Bool) (x : ℕ) (p : Span) (a : Access) (v : Bool) (xs : List Access) → ((ys : List Access) → is_unassigned u x (a ∷ ys) ≡ is_unassigned v x ys)
+    → Read v x p xs → Read u x p (a ∷ xs)
+behind u x p a v xs same r =
+    record {
+      name = r.name;
+      before = a ∷ r.before;
+      after = r.after;
+      whole = ap (λ ys. a ∷ ys) r.whole;
+      is_x = r.is_x;
+      place = r.place;
+      unassigned = same r.before ∙ r.unassigned;
+    }
 
 read_found : (u : Bool) (x : ℕ) (p : Span) (xs : List Access) → reads_unassigned u x p xs ≡ true → Read u x p xs
 read_found u x p [] h = cc
-read_found u x p (read n ∷ xs) h = elim (or_true (u && (is_local x n.variable && is_at p n.span)) (reads_unassigned u x p xs) h) [
+read_found u x p (read n ∷ xs) h = elim (or_cases (u && (is_local x n.variable && is_at p n.span)) (reads_unassigned u x p xs) h) [
   | inl l ↦ record {
     name = n;
     before = [];
     after = xs;
     whole = refl;
-    is_x = and_left _ _ (and_right u (is_local x n.variable && is_at p n.span) l);
-    place = and_right (is_local x n.variable) _ (and_right u (is_local x n.variable && is_at p n.span) l);
-    unassigned = and_left _ _ l;
+    is_x = (and_parts _ _ (and_parts u (is_local x n.variable && is_at p n.span) l).1).0;
+    place = (and_parts (is_local x n.variable) _ (and_parts u (is_local x n.variable && is_at p n.span) l).1).1;
+    unassigned = (and_parts _ _ l).0;
   }
   | inr r ↦ behind u x p (read n) u xs (λ ys. refl) (read_found u x p xs r)
 ]
 read_found u x p (write n ∷ xs) h = behind u x p (write n) _ xs (λ ys. refl) (read_found (if is_local x n.variable then false else u) x p xs h)
 read_found u x p (unset n ∷ xs) h = behind u x p (unset n) _ xs (λ ys. refl) (read_found (if is_local x n.variable then true else u) x p xs h)
 
-read_holds : (u : Bool) (x : ℕ) (p : Span) (before : List Access) (n : VariableName) (after : List Access) → is_local x n.variable ≡ true → is_at p n.span ≡ true → is_unassigned u x before ≡ true
+read_holds : (u : Bool) (x : ℕ) (p : Span) (before : List Access) (n : VariableName) (after : List Access) → is_local x n.variable ≡ true
+    → is_at p n.span ≡ true → is_unassigned u x before ≡ true
     → reads_unassigned u x p (before ++ read n ∷ after) ≡ true
-read_holds u x p [] n after l t h = ap (λ a. a || reads_unassigned u x p after) (both _ _ h (both _ _ l t))
+read_holds u x p [] n after l t h = ap (λ a. a || reads_unassigned u x p after) (and_from _ _ h (and_from _ _ l t))
 read_holds u x p (read m ∷ before) n after l t h = or_right _ _ (read_holds u x p before n after l t h)
 read_holds u x p (write m ∷ before) n after l t h = read_holds (if is_local x m.variable then false else u) x p before n after l t h
 read_holds u x p (unset m ∷ before) n after l t h = read_holds (if is_local x m.variable then true else u) x p before n after l t h
@@ -106,11 +102,27 @@ local_read : (b : CheckedBlock) (x : ℕ) (p : Span) → ReadsLocal b x p → Re
 unfolding ReadsLocal
 local_read b x p h =
     let r = read_found true x p h.0 h.3 in
-    record { x = x; name = r.name; is_x = local_true x r.name.variable r.is_x; place = at_true p r.name.span r.place; before = r.before; after = r.after; end = h.1; path = subst (λ xs. BlockPath b xs h.1) r.whole h.2; unassigned = r.unassigned }
+    record {
+      x = x;
+      name = r.name;
+      is_x = local_true x r.name.variable r.is_x;
+      place = at_true p r.name.span r.place;
+      before = r.before;
+      after = r.after;
+      end = h.1;
+      path = subst (λ xs. BlockPath b xs h.1) r.whole h.2;
+      unassigned = r.unassigned;
+    }
 
 read_local : (b : CheckedBlock) (p : Span) (r : ReadsUnassigned b p) → ReadsLocal b r.x p
 unfolding ReadsLocal
-read_local b p r = (r.before ++ read r.name ∷ r.after, r.end, r.path, read_holds true r.x p r.before r.name r.after (is_local_self r.x r.name.variable r.is_x) (at_self p r.name.span r.place) r.unassigned)
+read_local b p r = (
+  r.before ++ read r.name ∷ r.after,
+  r.end,
+  r.path,
+  read_holds true r.x p r.before r.name r.after (is_local_self r.x r.name.variable r.is_x)
+      (at_self p r.name.span r.place) r.unassigned,
+)
 
 -- ---- the sum over the paths
 
@@ -125,7 +137,9 @@ sum_reads b x p h =
 
 reads_sum : (b : CheckedBlock) (x : ℕ) (p : Span) → ReadsLocal b x p → from_state true (block_sum (assignment x p) b) ≡ true
 unfolding ReadsLocal
-reads_sum b x p h = holds (assignment x p) (from_state true) state_join (BlockPath b) _ (joins_block (assignment x p) (assignment_law x p) b) h.0 h.1 h.2 (sym (reads_is x p h.0 h.1 true) ∙ h.3)
+reads_sum b x p h =
+    holds (assignment x p) (from_state true) state_join (BlockPath b) _ (joins_block (assignment x p) (assignment_law x p) b) h.0 h.1 h.2
+    (sym (reads_is x p h.0 h.1 true) ∙ h.3)
 
 -- ---- the walks
 
@@ -182,7 +196,8 @@ module _ (b : CheckedBlock) (base : ℕ) where
   none_behind : (x : ℕ) (p : Span) → base + 128 ≤ x → IsBelow x (walk_block base start b).next → ReadsLocal b x p → ⊥
   none_behind x p l k r = let a : from_state true (block_sum (assignment x p) b) ≡ false = (told.beyond x p l k).1 in let c = reads_sum b x p r in cc
 
-  together : (first : Option Span) → IsFirst first (ReadsBelow b base) → IsFirst (first_of first (walk_block base start b).fault) (λ p. ReadsBelow b base p ⊎ InThese p)
+  together : (first : Option Span) → IsFirst first (ReadsBelow b base)
+      → IsFirst (first_of first (walk_block base start b).fault) (λ p. ReadsBelow b base p ⊎ InThese p)
   together first h = first_either first _ _ _ h these
 
   sort_out : (x : ℕ) (p : Span) → IsBelow x (walk_block base start b).next → ReadsLocal b x p → ReadsBelow b base p ⊎ InThese p
@@ -198,11 +213,15 @@ module _ (b : CheckedBlock) (base : ℕ) where
   any_of p (inr y) = (y.0, y.2)
 
   -- the last walk
-  last_is : (first : Option Span) → IsFirst first (ReadsBelow b base) → (walk_block base start b).next ≡ None → IsFirst (first_of first (walk_block base start b).fault) (ReadsUnassigned b)
-  last_is first h e = first_same _ _ _ (λ p z. let y = any_of p z in local_read b y.0 p y.1) (λ p r. sort_out r.x p (subst (IsBelow r.x) (sym e) tt) (read_local b p r)) (together first h)
+  last_is : (first : Option Span) → IsFirst first (ReadsBelow b base) → (walk_block base start b).next ≡ None
+      → IsFirst (first_of first (walk_block base start b).fault) (ReadsUnassigned b)
+  last_is first h e =
+      first_same _ _ _ (λ p z. let y = any_of p z in local_read b y.0 p y.1) (λ p r. sort_out r.x p (subst (IsBelow r.x) (sym e) tt) (read_local b p r))
+      (together first h)
 
   -- one more walk
-  more_is : (first : Option Span) (m : ℕ) → IsFirst first (ReadsBelow b base) → (walk_block base start b).next ≡ Some m → IsFirst (first_of first (walk_block base start b).fault) (ReadsBelow b m)
+  more_is : (first : Option Span) (m : ℕ) → IsFirst first (ReadsBelow b base) → (walk_block base start b).next ≡ Some m
+      → IsFirst (first_of first (walk_block base start b).fault) (ReadsBelow b m)
   unfolding ReadsBelow InThese
   more_is first m h e = first_same _ _ _ to (λ p r. sort_out r.0 p (subst (IsBelow r.0) (sym e) r.1) r.2) (together first h)
     where
@@ -213,15 +232,18 @@ module _ (b : CheckedBlock) (base : ℕ) where
       to p (inl y) = let a = ahead in let l = y.1 in (y.0, omega arith, y.2)
       to p (inr y) = let a = ahead in let l = y.1.below in (y.0, omega arith, y.2)
 
-pub last_walk : (b : CheckedBlock) (base : ℕ) (first result : Option Span) (reached : Reached) → reached ≡ walk_block base start b → result ≡ first_of first reached.fault → reached.next ≡ None
+pub last_walk : (b : CheckedBlock) (base : ℕ) (first result : Option Span) (reached : Reached) → reached ≡ walk_block base start b
+    → result ≡ first_of first reached.fault → reached.next ≡ None
     → IsFirst first (ReadsBelow b base) → IsFirst result (ReadsUnassigned b)
 last_walk b base first result reached e r n h =
     subst (λ o. IsFirst o (ReadsUnassigned b)) (sym (r ∙ ap (λ s. first_of first s.fault) e)) (last_is b base first h (sym (ap (λ s. s.next) e) ∙ n))
 
-pub more_walks : (b : CheckedBlock) (base m : ℕ) (first result : Option Span) (reached : Reached) → reached ≡ walk_block base start b → result ≡ first_of first reached.fault → reached.next ≡ Some m
+pub more_walks : (b : CheckedBlock) (base m : ℕ) (first result : Option Span) (reached : Reached) → reached ≡ walk_block base start b
+    → result ≡ first_of first reached.fault → reached.next ≡ Some m
     → IsFirst first (ReadsBelow b base) → IsFirst result (ReadsBelow b m)
 more_walks b base m first result reached e r n h =
     subst (λ o. IsFirst o (ReadsBelow b m)) (sym (r ∙ ap (λ s. first_of first s.fault) e)) (more_is b base first m h (sym (ap (λ s. s.next) e) ∙ n))
 
-pub nearer : (b : CheckedBlock) (base m : ℕ) (reached : Reached) → reached ≡ walk_block base start b → reached.next ≡ Some m → base < 2 ^ 32 → 2 ^ 32 - m < 2 ^ 32 - base
+pub nearer : (b : CheckedBlock) (base m : ℕ) (reached : Reached) → reached ≡ walk_block base start b → reached.next ≡ Some m → base < 2 ^ 32
+    → 2 ^ 32 - m < 2 ^ 32 - base
 nearer b base m reached e n l = let a : base + 128 ≤ m = subst (IsAhead base) (sym (ap (λ s. s.next) e) ∙ n) (told b base).ahead in omega arith

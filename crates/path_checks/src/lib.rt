@@ -9,6 +9,3 @@ mod unassigned;
 pub use loops::first_bad_loop;
 pub use transitions::first_open_task;
 pub use unassigned::first_unassigned;
-
-#[cfg(test)]
-mod tests;

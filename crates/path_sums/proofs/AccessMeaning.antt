@@ -1,10 +1,12 @@
 -- What the sum over one variable's summary says of the paths.
-use Rattle.std.proofs.Common.{◌≡◌, Bool, true, false, ◌&&◌, ◌||◌, List, [], ◌∷◌, refl, ap, sym, ◌∙◌, if◌then◌else◌, ◌↔◌}
+use Rattle.std.proofs.Common.{◌≡◌, Bool, true, false, ◌||◌, List, [], ◌∷◌, refl, ap, sym, ◌∙◌, if◌then◌else◌, ◌↔◌}
 use Rattle.std.specs.Prelude.{IsTrue}
+use Rattle.std.proofs.lemmas.Bool.{and_parts, and_from, not-false, not_from_true}
 use Rattle.task_ast.specs.declared.names.Variable.{Variable}
 use Rattle.task_ast.specs.Paths.{CheckedBlock, Access, read, write, unset, End, goes_on, goes_to, BlockPath}
 use Rattle.path_sums.specs.Sums.{block_sum}
-use Rattle.path_sums.specs.Access.{is_same, writes, writes_first, SomePath, SomePathNot, IsPrivate, summary, summary_seq, summary_join, summary_unit, summary_read, summary_write, private_of}
+use Rattle.path_sums.specs.Access.{is_same, writes, writes_first, SomePath, SomePathNot, IsPrivate, summary, summary_seq, summary_join, summary_unit}
+use Rattle.path_sums.specs.Access.{summary_read, summary_write, private_of}
 use Rattle.path_sums.specs.declared.access.AccessSummary.{AccessSummary}
 use Rattle.path_sums.proofs.Joins.{path_sum, Joins, joins_block}
 use Rattle.path_sums.proofs.Bits.{found, holds}
@@ -31,7 +33,8 @@ unfolding summary
 writes_is x [] goes_on = refl
 writes_is x [] (goes_to _) = refl
 writes_is x (read n ∷ xs) end = writes_read (is_same x n.variable) (path_sum (summary x) xs end) ∙ writes_is x xs end
-writes_is x (write n ∷ xs) end = writes_write (is_same x n.variable) (path_sum (summary x) xs end) ∙ ap (λ b. if is_same x n.variable then true else b) (writes_is x xs end)
+writes_is x (write n ∷ xs) end = writes_write (is_same x n.variable) (path_sum (summary x) xs end)
+    ∙ ap (λ b. if is_same x n.variable then true else b) (writes_is x xs end)
 writes_is x (unset n ∷ xs) end = writes_is x xs end
 
 amiss_read : (b : Bool) (s : AccessSummary) → not (amiss (summary_seq (if b then summary_read else summary_unit) s)) ≡ (if b then false else not (amiss s))
@@ -46,30 +49,16 @@ amiss_is : (x : Variable) (xs : List Access) (end : End) → not (amiss (path_su
 unfolding summary
 amiss_is x [] goes_on = refl
 amiss_is x [] (goes_to _) = refl
-amiss_is x (read n ∷ xs) end = amiss_read (is_same x n.variable) (path_sum (summary x) xs end) ∙ ap (λ b. if is_same x n.variable then false else b) (amiss_is x xs end)
-amiss_is x (write n ∷ xs) end = amiss_write (is_same x n.variable) (path_sum (summary x) xs end) ∙ ap (λ b. if is_same x n.variable then true else b) (amiss_is x xs end)
+amiss_is x (read n ∷ xs) end = amiss_read (is_same x n.variable) (path_sum (summary x) xs end)
+    ∙ ap (λ b. if is_same x n.variable then false else b) (amiss_is x xs end)
+amiss_is x (write n ∷ xs) end = amiss_write (is_same x n.variable) (path_sum (summary x) xs end)
+    ∙ ap (λ b. if is_same x n.variable then true else b) (amiss_is x xs end)
 amiss_is x (unset n ∷ xs) end = amiss_is x xs end
 
 amiss_join : (s t : AccessSummary) → amiss (summary_join s t) ≡ (amiss s || amiss t)
-amiss_join s t = agree 6 (λ a b c d e f. (a || b) || ((c || d) || (e || f))) (λ a b c d e f. (a || (c || e)) || (b || (d || f))) refl s.exposed t.exposed s.transitions_untouched t.transitions_untouched s.untouched t.untouched
-
-not_true : (b : Bool) → b ≡ true → not b ≡ false
-not_true b h = ap not h
-
-not_false : (b : Bool) → not b ≡ false → b ≡ true
-not_false true h = refl
-not_false false h = cc
-
-both_true : (a b : Bool) → a ≡ true → b ≡ true → (a && b) ≡ true
-both_true a b h k = ap (λ c. c && b) h ∙ k
-
-left_true : (a b : Bool) → (a && b) ≡ true → a ≡ true
-left_true true b h = refl
-left_true false b h = h
-
-right_true : (a b : Bool) → (a && b) ≡ true → b ≡ true
-right_true true b h = h
-right_true false b h = cc
+amiss_join s t =
+    agree 6 (λ a b c d e f. (a || b) || ((c || d) || (e || f)))
+    (λ a b c d e f. (a || (c || e)) || (b || (d || f))) refl s.exposed t.exposed s.transitions_untouched t.transitions_untouched s.untouched t.untouched
 
 module _ (x : Variable) (b : CheckedBlock) where
   sum : Joins (summary x) (BlockPath b) (block_sum (summary x) b)
@@ -85,17 +74,17 @@ module _ (x : Variable) (b : CheckedBlock) where
 
   some_amiss : amiss (block_sum (summary x) b) ≡ true → SomePathNot b (writes_first x)
   unfolding summary
-  some_amiss h = let f = found (summary x) amiss amiss_join (BlockPath b) _ sum h in (f.0, f.1, f.2, sym (amiss_is x f.0 f.1) ∙ not_true _ f.3)
+  some_amiss h = let f = found (summary x) amiss amiss_join (BlockPath b) _ sum h in (f.0, f.1, f.2, sym (amiss_is x f.0 f.1) ∙ not_from_true _ f.3)
 
   amiss_some : SomePathNot b (writes_first x) → amiss (block_sum (summary x) b) ≡ true
   unfolding summary
-  amiss_some f = holds (summary x) amiss amiss_join (BlockPath b) _ sum f.0 f.1 f.2 (not_false _ (amiss_is x f.0 f.1 ∙ f.3))
+  amiss_some f = holds (summary x) amiss amiss_join (BlockPath b) _ sum f.0 f.1 f.2 (not-false _ (amiss_is x f.0 f.1 ∙ f.3))
 
   pub private_is : private_of (block_sum (summary x) b) ≡ true → IsPrivate b x
-  private_is h = (some_writes (left_true _ _ h), some_amiss (right_true _ _ h))
+  private_is h = (some_writes (and_parts _ _ h).0, some_amiss (and_parts _ _ h).1)
 
   pub is_private_of : IsPrivate b x → private_of (block_sum (summary x) b) ≡ true
-  is_private_of h = both_true _ _ (writes_some h.0) (amiss_some h.1)
+  is_private_of h = and_from _ _ (writes_some h.0) (amiss_some h.1)
 
 bit_is : (P : Type 0) (a b : Bool) → a ≡ b → (b ≡ true → P) → (P → b ≡ true) → IsTrue a ↔ P
 bit_is P a b e to from = (λ h. to (sym e ∙ h), λ h. e ∙ from h)

@@ -46,6 +46,7 @@ module _ {S : Type 0} (A : Algebra S) (P : S → Type 0) (kept : Kept A P) where
     choice_is (t.otherwise b) = every_block b
     choice_is (t.test e b more) = kept.seq _ _ (expression_is e) (kept.join _ _ (every_block b) (choice_is more))
 
+    -- what the algebra keeps holds of a block's sum
     pub every_block : (b : CheckedBlock) → P (block_sum A b)
     every_block t.end = kept.unit
     every_block (t.step s more) = kept.seq _ _ (statement_is s) (every_block more)

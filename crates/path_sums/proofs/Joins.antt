@@ -337,6 +337,7 @@ module _ {S : Type 0} (A : Algebra S) (law : Lawful A) where
         back _ _ (p.taken _ _ _ xs ys end h k) = both xs ys end (going xs h) (inl k)
         back _ _ (p.passed _ _ _ xs ys end h k) = both xs ys end (going xs h) (inr k)
 
+    -- a block's sum joins the sums of its paths
     pub joins_block : (b : CheckedBlock) → Joins A (BlockPath b) (block_sum A b)
     joins_block t.end = joins_same (Only []) (BlockPath t.end) _ there back (joins_only [])
       where

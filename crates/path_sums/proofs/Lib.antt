@@ -1,4 +1,5 @@
 pub mod Taut
+pub mod Tests
 pub mod Joins
 pub mod Bits
 mod FlowMeaning

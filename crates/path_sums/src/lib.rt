@@ -6,6 +6,3 @@ mod reaches;
 
 pub use access::{AccessSummary, access_summary, is_private, is_written};
 pub use reaches::reaches_end;
-
-#[cfg(test)]
-mod tests;

@@ -27,12 +27,6 @@ each_push P [] y each new (suc k) x e = let no : None ≡ Some x = e in cc
 each_push P (z ∷ zs) y each new zero x e = each zero x e
 each_push P (z ∷ zs) y each new (suc k) x e = each_push (λ n. P (suc n)) zs y (λ k x h. each (suc k) x h) new k x e
 
--- an element by its place, whatever stands for one past the end
-pub at_any : {A : Type 0} (xs : List A) (i : ℕ) (d e : A) → i < length xs → get_or xs i d ≡ get_or xs i e
-at_any [] i d e h = absurd (omega arith)
-at_any (x ∷ xs) zero d e h = refl
-at_any (x ∷ xs) (suc i) d e h = at_any xs i d e (omega arith)
-
 kind_at : (written : Bool) (e : Extent) (free : Free) → IsPlaceOf written e (place_at written e free)
 kind_at written (extent.Scalar _) free = tt
 kind_at true (extent.Array n) free = (refl, refl)

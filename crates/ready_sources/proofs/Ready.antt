@@ -1,6 +1,7 @@
 -- An accepted source with its layout is ready to run.
 use Rattle.std.proofs.Common.{ℕ, ◌<◌, sym, subst, arith, List, length}
 use Rattle.cost_bound.specs.declared.allowance.Allow.{Allow}
+use Rattle.war_analysis.proofs.Steps.{element}
 use Rattle.source_values.specs.Runs.{CheckedProgram, IsRunnable}
 use Rattle.source_meaning.proofs.Runnable.{accepted_texts_run}
 use Rattle.war_analysis.specs.PlanValue.{TaskPlanValue}
@@ -8,6 +9,7 @@ use Rattle.array_versions.specs.Program.{Program}
 use Rattle.array_versions.specs.Form.{IsWhole, OfWords}
 use Rattle.privatise.specs.LayoutValue.{LayoutValue}
 use Rattle.stands_for.proofs.Starts.{each_weaker}
+use Rattle.lower.proofs.Blocks.{program_at}
 use Rattle.layout_facts.specs.Facts.{HasLayout}
 use Rattle.layout_facts.proofs.Chains.{places_are_apart, tasks_have_room}
 use Rattle.layout_facts.proofs.Privates.{privates_are_theirs}
@@ -16,7 +18,7 @@ use Rattle.whole_programs.specs.Laws.{IsLaidOutText}
 use Rattle.whole_programs.proofs.Whole.{tasks_are_whole}
 use Rattle.task_attempts.proofs.Theorems.{compiled_laws, stores_below_code, tasks_leave}
 use Rattle.compiled_model.specs.Parts.{task_program}
-use Rattle.compiled_bounds.proofs.Costs.{program_at, there, tasks_keep_to_the_bound}
+use Rattle.compiled_bounds.proofs.Costs.{tasks_keep_to_the_bound}
 use Rattle.compiled_runs.specs.Laws.{CanRun}
 use Rattle.compiled_runs.proofs.Fits.{sources_have_room}
 use Rattle.ready_sources.specs.Ready.{SourcesAreReady}
@@ -31,9 +33,9 @@ module _ (text : List ℕ) (p : CheckedProgram) (allow : Allow) (plans : List Ta
   -- the program of a task is whole, and of words
   one_whole : (k : ℕ) → k < length p.tasks → IsWhole (task_program p l k) × OfWords (task_program p l k)
   one_whole k below =
-      let task = there p.tasks k below in
+      let task = element p.tasks k below in
       let count = t.layout.tasks.count in
-      let own = there l.tasks k (omega (arith, below, count)) in
+      let own = element l.tasks k (omega (arith, below, count)) in
       let P : Program → Type 0 = λ q. IsWhole q × OfWords q in
       subst P (sym (program_at l p.tasks l.tasks k task.0 own.0 task.1 own.1)) (tasks_are_whole text p allow plans l t k task.0 own.0 task.1 own.1)
 

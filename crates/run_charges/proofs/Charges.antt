@@ -3,15 +3,18 @@ use Rattle.std.proofs.Common.{◌≡◌, refl, sym, ap, ◌∙◌, subst, List, 
 use Rattle.msp_isa.specs.declared.instructions.Instr.{Instr}
 use Rattle.fram_board.specs.declared.board.Stepped.{Stepped}
 use Rattle.fram_board.specs.Board.{BoardValue, PowerState, IsPowerState, powered, executed, IsNextInstruction}
-use Rattle.fram_board.specs.Run.{Action, PowerUp, Execute, Moment, moment_of, power_up_of, Charges, Stopped, RunOutcome, run_outcome, BoardCharge, Run, Over, Next, Last}
-use Rattle.machine_effects.specs.Machine.{Stays, Steps}
+use Rattle.fram_board.specs.Run.{Action, PowerUp, Execute, Moment, moment_of, power_up_of, Charges, Stopped, RunOutcome, run_outcome, BoardCharge, Run, Over}
+use Rattle.fram_board.specs.Run.{Next, Last}
+use Rattle.machine_effects.specs.Machine.{Steps}
 use Rattle.machine_effects.specs.View.{machine_of, IsWhole, IsOfWords}
 use Rattle.machine_effects.specs.Runs.{ReachesAs, last_board}
 use Rattle.machine_effects.proofs.Words.{power_up_keeps_words}
-use Rattle.machine_effects.proofs.Runs.{charges_alike, charge_leaves_it_whole, charge_keeps_words}
-use Rattle.run_charges.specs.Charges.{ArePowerStates, ChargeFront, moments_of, IsInstruction, AreInstructionMoments, AreMachineCharges, RunsAsMachine, NoCharge, SpentCharge, StoppedCharge}
+use Rattle.machine_effects.proofs.Runs.{charges_alike, charge_leaves_it_whole, charge_keeps_words, reaches_none}
+use Rattle.run_charges.specs.Charges.{ArePowerStates, ChargeFront, moments_of, IsInstruction, AreInstructionMoments, AreMachineCharges, RunsAsMachine, NoCharge}
+use Rattle.run_charges.specs.Charges.{SpentCharge, StoppedCharge}
 use Rattle.run_charges.specs.Laws.{RunsAreTheMachines, IsOfCharges, FrontsAreTheMachines}
-use Rattle.run_charges.proofs.Moments.{IsMomentFrom, PowersUp, Instructs, AreMoments, first_start, other_starts, front_moments, told, step, whole_after, words_after}
+use Rattle.run_charges.proofs.Moments.{IsMomentFrom, PowersUp, Instructs, AreMoments, first_start, other_starts, front_moments, told, step, whole_after}
+use Rattle.run_charges.proofs.Moments.{words_after}
 
 as_machine : (cs : List BoardCharge) (b : BoardValue) (r : RunOutcome) → IsWhole b → IsOfWords b → ArePowerStates cs → Run cs b r
     → RunsAsMachine cs b r
@@ -39,9 +42,6 @@ record Parts (b : BoardValue) (ms : List Moment) : Type 0 where
   pub reaches : ReachesAs b before
   pub machine : AreMachineCharges (last_board b before) charges
 
-reaches_itself : (b : BoardValue) → IsWhole b → ReachesAs b []
-reaches_itself b w = record { run = Stays (machine_of b); whole = w; words = λ q. q }
-
 -- what is known of the moments behind one
 abbrev PartsIf : BoardValue → List Moment → Type 0
 PartsIf b ms = IsWhole b → IsOfWords b → Parts b ms
@@ -56,7 +56,7 @@ power_up_part b p ms w q ok next =
       charges = record { start = p; instructions = rest.before } ∷ rest.charges;
       split = ap (λ l. power_up_of b p ∷ l) rest.split;
       instructions = tt;
-      reaches = reaches_itself b w;
+      reaches = reaches_none b w;
       machine = (record { start = ok; instructions = rest.instructions; reaches = rest.reaches }, rest.machine);
     }
 
@@ -86,7 +86,7 @@ one_part b m ms w q (Instructs i done c a e) =
     let P : Moment → Type 0 = λ x. PartsIf x.after ms → Parts b (x ∷ ms) in subst P (sym e) (instruction_part b i done ms w q c a)
 
 parts_of : (b : BoardValue) (ms : List Moment) → AreMoments b ms → PartsIf b ms
-parts_of b [] h w q = record { before = []; charges = []; split = refl; instructions = tt; reaches = reaches_itself b w; machine = tt }
+parts_of b [] h w q = record { before = []; charges = []; split = refl; instructions = tt; reaches = reaches_none b w; machine = tt }
 parts_of b (m ∷ ms) h w q = one_part b m ms w q h.0 (parts_of m.after ms h.1)
 
 -- moments that begin with a power-up

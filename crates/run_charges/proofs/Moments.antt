@@ -1,5 +1,6 @@
 -- The moments of a run, one behind the other, and what each of its instructions does to the machine.
-use Rattle.std.proofs.Common.{◌≡◌, ◌==◌, ◌≤◌, ◌+◌, ◌-◌, ◌%◌, ℕ, suc, refl, sym, ap, ◌∙◌, subst, arith, Bool, true, false, if◌then◌else◌, List, [], ◌∷◌, ◌++◌, length, append-nil, length-append, Option, Some, None, Ok}
+use Rattle.std.proofs.Common.{◌≡◌, ◌==◌, ◌≤◌, ◌+◌, ◌-◌, ◌%◌, ℕ, suc, refl, sym, ap, ◌∙◌, subst, arith, Bool, true, false, if◌then◌else◌, List, [], ◌∷◌, ◌++◌}
+use Rattle.std.proofs.Common.{length, append-nil, length-append, Option, Some, None, Ok}
 use Rattle.msp_isa.specs.declared.instructions.Instr.{Instr}
 use Rattle.msp_cycles.specs.Cycles.{cycles_of}
 use Rattle.msp_step.specs.Registers.{Registers, registers_of}
@@ -11,15 +12,17 @@ use Rattle.fram_board.specs.declared.receiver.Receiver.{Receiver}
 use Rattle.fram_board.specs.Bus.{board_bus, is_fram, data_port}
 use Rattle.fram_board.specs.Board.{BoardValue, PowerState, IsPowerState, powered, opened, executed, IsNextInstruction, IsStep, is_accepted, offered_to}
 use Rattle.fram_board.specs.Effects.{Effect, Store, Take, Send, sends_of, effects_of, heard}
-use Rattle.fram_board.specs.Run.{Measure, Instructions, price, Moment, moment_of, power_up_of, Charges, RunOutcome, run_outcome, after_moments, ChargeRun, Spent, NoInstruction, TooDear, Refused, BoardCharge, Run, Over, Next, Last, word_list}
+use Rattle.fram_board.specs.Run.{Measure, Instructions, price, Moment, moment_of, power_up_of, Charges, RunOutcome, run_outcome, after_moments, ChargeRun}
+use Rattle.fram_board.specs.Run.{Spent, NoInstruction, TooDear, Refused, BoardCharge, Run, Over, Next, Last, word_list}
 use Rattle.fram_board.specs.Run as run
-use Rattle.fram_board.proofs.Effects.{step_makes_its_effects}
+use Rattle.fram_board.proofs.Effects.{step_makes_its_effects, data_not_fram}
 use Rattle.machine_effects.specs.World.{fram_after, received, accepted_after, readings_taken}
 use Rattle.machine_effects.specs.Going.{Goes}
-use Rattle.machine_effects.specs.Machine.{MachineBus, MachineBoard, MachineOutcome, word_address, IsMachineStep, machine_bus, machine_opened, machine_outcome, machine_executed, fram_of}
+use Rattle.machine_effects.specs.Machine.{MachineBus, MachineBoard, MachineOutcome, word_address, IsMachineStep, machine_bus, machine_opened, machine_outcome}
+use Rattle.machine_effects.specs.Machine.{machine_executed, fram_of}
 use Rattle.machine_effects.specs.View.{machine_of, IsWhole, IsOfWords, outcome_of_answer}
 use Rattle.machine_effects.specs.Runs.{action_effects, last_board}
-use Rattle.machine_effects.proofs.Logs.{takes, written_effects, LoggedBy, effect_logged, data_no_fram, machine_changes_by_effects}
+use Rattle.machine_effects.proofs.Logs.{takes, written_effects, LoggedBy, effect_logged, machine_changes_by_effects}
 use Rattle.machine_effects.proofs.Steps.{executed_same, current_to_machine}
 use Rattle.machine_effects.proofs.Words.{step_leaves_it_whole, words_stay_words}
 use Rattle.machine_effects.proofs.Accepted.{charge_accepts_by_sends}
@@ -30,7 +33,9 @@ use Rattle.run_charges.specs.Charges.{ArePowerStates}
 
 -- a moment that may follow this board
 pub data IsMomentFrom (b : BoardValue) (m : Moment) : Type 0 where
+  -- a power-up
   PowersUp : (p : PowerState) → IsPowerState p → m ≡ power_up_of b p → IsMomentFrom b m
+  -- an instruction that is executed
   Instructs : (i : Instr) (done : Stepped) → IsNextInstruction b i → (executed b i).answer ≡ Ok done → m ≡ moment_of b i done → IsMomentFrom b m
 
 -- moments that follow this board, each the one before
@@ -38,6 +43,7 @@ abbrev pub AreMoments : BoardValue → List Moment → Type 0
 AreMoments b [] = Unit {0}
 AreMoments b (m ∷ ms) = IsMomentFrom b m × AreMoments m.after ms
 
+-- a charge's run is made of moments
 pub charge_moments : (m : Measure) (left : ℕ) (b : BoardValue) (r : RunOutcome) → ChargeRun m left b r → AreMoments b r.moments
 charge_moments m left b r (Spent _ _ none) = tt
 charge_moments m left b r (NoInstruction _ _ e pos h) = tt
@@ -66,6 +72,7 @@ are_front b (m ∷ ms) rest h = (h.0, are_front m.after ms rest h.1)
 pub first_start : (c : BoardCharge) (cs : List BoardCharge) → ArePowerStates (c ∷ cs) → IsPowerState c.start
 first_start c cs ok = ok 0 c (omega arith)
 
+-- the later charges start from states that a power-up leaves
 pub other_starts : (c : BoardCharge) (cs : List BoardCharge) → ArePowerStates (c ∷ cs) → ArePowerStates cs
 other_starts c cs ok = λ i d l. ok (suc i) d (omega arith)
 
@@ -89,8 +96,11 @@ front_moments cs b r ms rest ok h e = let P : List Moment → Type 0 = λ l. Are
 
 -- one store, one send, or none
 pub data AtMostOne (es : List Effect) : Type 0 where
+  -- nothing
   NoWrite : es ≡ [] → AtMostOne es
+  -- one store
   AStore : (a w : ℕ) → es ≡ Store a w ∷ [] → AtMostOne es
+  -- one word sent
   ASend : (n w : ℕ) → es ≡ Send n w ∷ [] → AtMostOne es
 
 -- takes, and then one store or one send at most
@@ -109,7 +119,7 @@ one_by_tests false false a v w n h = NoWrite refl
 
 one_written : (w : Option Written) (f : ℕ → ℕ) (n : ℕ) → AtMostOne (written_effects w f n)
 one_written None f n = NoWrite refl
-one_written (Some w) f n = one_by_tests (is_fram w.0) (w.0 == data_port) (word_address w.0) w.1 (f (word_address w.0)) n (data_no_fram w.0)
+one_written (Some w) f n = one_by_tests (is_fram w.0) (w.0 == data_port) (word_address w.0) w.1 (f (word_address w.0)) n (data_not_fram w.0)
 
 one_logged : (s : MachineBus) (pc c d : ℕ) (m : Access MachineBus (Registers × Option Written)) (es : List Effect) (next : MachineBoard) → s.log ≡ []
     → LoggedBy s m → machine_outcome pc c m ≡ Goes es d next → OneWrite es
@@ -147,6 +157,7 @@ module _ (b : BoardValue) (whole : IsWhole b) (i : Instr) (done : Stepped) (curr
   abbrev pub after : BoardValue
   after = (executed b i).board
 
+  -- the effects that the moment tells
   abbrev pub told : List Effect
   told = action_effects (moment_of b i done).action b (executed b i).board
 
@@ -165,15 +176,19 @@ module _ (b : BoardValue) (whole : IsWhole b) (i : Instr) (done : Stepped) (curr
   is_step : IsStep b (executed b i)
   is_step = (execution board_bus i (registers_of b.cpu) (opened b), Executed i current, refl)
 
+  -- the board is whole behind it
   pub whole_after : IsWhole after
   whole_after = step_leaves_it_whole b (executed b i) whole is_step
 
+  -- the board holds words behind it
   pub words_after : IsOfWords b → IsOfWords after
   words_after w = words_stay_words b (executed b i) whole w is_step
 
+  -- FRAM changes as what is told says
   pub fram_changed : fram_of after.fram ≡ fram_after told (fram_of b.fram)
   fram_changed = (machine_changes_by_effects (machine_of b) (Goes told done.cycles (machine_of after)) step).0
 
+  -- an instruction writes once
   pub one_write : OneWrite told
   one_write =
       let s = machine_of b in
@@ -183,12 +198,14 @@ module _ (b : BoardValue) (whole : IsWhole b) (i : Instr) (done : Stepped) (curr
   alone : ChargeRun Instructions 1 b (after_moments (moment_of b i done ∷ []) (run_outcome [] Charges after))
   alone = run.Executed 1 b i done (run_outcome [] Charges after) (omega arith) current (omega arith) answer (Spent (1 - 1) after refl)
 
+  -- the word that is accepted
   pub words_accepted : (ws : List ℕ) → length ws ≡ b.receiver.accepted → accepted_after told ws ≡ ws ++ word_list done.accepted
   words_accepted ws len =
       ap (λ es. accepted_after es ws) (sym (append-nil told))
       ∙ charge_accepts_by_sends Instructions 1 b (after_moments (moment_of b i done ∷ []) (run_outcome [] Charges after)) ws len alone
       ∙ ap (λ l. ws ++ l) (append-nil (word_list done.accepted))
 
+  -- the accepted words are counted
   pub words_counted : (ws : List ℕ) → length ws ≡ b.receiver.accepted → length (accepted_after told ws) ≡ after.receiver.accepted
   words_counted ws len =
       let made = step_makes_its_effects b (executed b i) whole.board is_step in
@@ -196,9 +213,11 @@ module _ (b : BoardValue) (whole : IsWhole b) (i : Instr) (done : Stepped) (curr
       ∙ heard_count (effects_of b (executed b i)) b.receiver ws len
       ∙ ap (λ y. y.accepted) (sym made.receiver)
 
+  -- the readings are those of the board
   pub readings_stay : after.readings ≡ b.readings
   readings_stay = (step_makes_its_effects b (executed b i) whole.board is_step).readings
 
+  -- the readings taken are counted
   pub readings_counted : (k : History) → k.taken ≡ b.taken → k.taken + length (readings_taken told) ≡ after.taken
   readings_counted k e =
       let made = step_makes_its_effects b (executed b i) whole.board is_step in

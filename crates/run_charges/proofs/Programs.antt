@@ -162,6 +162,7 @@ module _ (c : Program) (gate p : ℕ) (is : List Instr) (entry : ℕ) (stands : 
       subst P (observed_behind b h ready f all.0 (moments_of (board_behind b f) fs))
       (ready_behind_all (board_behind b f) (behind b h ready f all.0) fs (ready_behind b h ready f all.0) all.1)
 
+-- each front of a run is charges of the program
 pub fronts_are_charged : (c : Program) → FrontsAreCharged c
 fronts_are_charged c cs b r ms rest run e gate p is h stands holds leaves =
     let front = fronts_are_the_machines cs b r ms rest run e in

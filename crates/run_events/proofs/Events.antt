@@ -1,5 +1,6 @@
 -- One instruction in the two histories: the words that it made the receiver accept, and then its event.
-use Rattle.std.proofs.Common.{◌≡◌, ℕ, suc, ◌+◌, ◌-◌, ◌<◌, ◌≤◌, nat_lt, refl, sym, ap, ap₂, ◌∙◌, subst, arith, ◌⊎◌, inl, inr, Bool, true, false, cond, if◌then◌else◌, List, [], ◌∷◌, ◌++◌, length, take, drop, append_assoc, append-nil, length-append, Option, Some, None}
+use Rattle.std.proofs.Common.{◌≡◌, ℕ, suc, ◌+◌, ◌-◌, ◌<◌, ◌≤◌, nat_lt, refl, sym, ap, ap₂, ◌∙◌, subst, arith, ◌⊎◌, inl, inr, Bool, true, false, cond}
+use Rattle.std.proofs.Common.{if◌then◌else◌, List, [], ◌∷◌, ◌++◌, length, take, drop, append_assoc, append-nil, length-append, Option, Some, None}
 use Rattle.std.proofs.Math.Seq.{drop-append_seam}
 use Rattle.std.proofs.lemmas.List.{take_all, take-append-le, length-take-le}
 use Rattle.std.proofs.lemmas.Bool.{cases_lt}
@@ -9,23 +10,20 @@ use Rattle.alp_io.specs.Count.{risen}
 use Rattle.alp_io.specs.Report.{accepted_line, step_line}
 use Rattle.image_map.specs.MapValue.{MapValue, IsMap}
 use Rattle.fram_board.specs.Board.{BoardValue}
-use Rattle.fram_board.specs.Effects.{Effect, Store, Send}
+use Rattle.fram_board.specs.Effects.{Effect, Send}
 use Rattle.fram_board.specs.Run.{word_list}
-use Rattle.board_run.specs.History.{shared_words, word_in, values_in, task_name, more_lines, changed_lines, transition_lines, with_word, with_words, completed, decided}
+use Rattle.board_run.specs.History.{shared_words, word_in, values_in, task_name, more_lines, changed_lines, transition_lines, with_word, with_words, completed}
+use Rattle.board_run.specs.History.{decided}
 use Rattle.board_run.specs.History as board
 use Rattle.machine_effects.specs.World.{World, world_after, readings_taken, EachStore}
 use Rattle.machine_effects.proofs.Logs.{takes}
 use Rattle.machine_effects.proofs.Worlds.{world_after-append}
 use Rattle.crash_rules.specs.Model.{IsElsewhere}
-use Rattle.crash_rules.specs.History.{Done, History, is_done, is_decide, with_effect, behind_decide, behind_done, behind_gate, observe}
-use Rattle.crash_rules.proofs.Observed.{observe-append, with_effects, not_done, not_decide, observe_quiet}
+use Rattle.crash_rules.specs.History.{Done, History, is_done, is_decide, behind_decide, behind_done, behind_gate, observe}
+use Rattle.crash_rules.proofs.Observed.{observe-append, with_effects, observe_quiet, unchanged}
 use Rattle.run_events.specs.Events.{TellsOf, last_world, counted, world_values, words_between, SaysAlike, word_lines, change_lines, done_lines, dones_lines}
 use Rattle.run_charges.proofs.Moments.{AtMostOne, NoWrite, AStore, ASend, OneWrite}
 use Rattle.run_events.proofs.Places.{world_word, shared_in, values_same, changes_same}
-
--- a GATE that stays makes no event
-stays : (v : ℕ) (k : History) → behind_gate v v k ≡ k
-stays v k = ap₂ (λ p q. cond p (behind_done k) (cond q (behind_decide k) k)) (not_done v) (not_decide v)
 
 takes_store : (P : ℕ → ℕ → Type 0) (ws : List ℕ) → EachStore P (takes ws)
 takes_store P [] = tt
@@ -43,11 +41,8 @@ seen_quiet : (gate : ℕ) (es : List Effect) (k : History) → EachStore (IsElse
     → (world_after es k.world).fram ≡ k.world.fram → IsSeen gate es k
 seen_quiet gate es k off same =
     observe_quiet gate es k off
-    ∙ sym (stays (k.world.fram gate) (with_effects es k))
+    ∙ sym (unchanged (k.world.fram gate) (with_effects es k))
     ∙ ap (λ n. behind_gate (k.world.fram gate) n (with_effects es k)) (ap (λ f. f gate) (sym same))
-
-more_taken : (a w : ℕ) (k : History) → with_effect (Store a w) k ≡ with_effects (Store a w ∷ []) k
-more_taken a w k = refl
 
 seen_one : (gate : ℕ) (es : List Effect) (k : History) → AtMostOne es → IsSeen gate es k
 seen_one gate es k (NoWrite e) = let P : List Effect → Type 0 = λ l. IsSeen gate l k in subst P (sym e) (seen_quiet gate [] k tt refl)
@@ -69,6 +64,7 @@ with_both ws es k =
     ∙ ap₂ (λ t l. record k { world = world_after (takes ws ++ es) k.world; taken = t; effects = l }) (count_both ws es k.taken)
     (append_assoc k.effects (takes ws) es)
 
+-- what is seen of an instruction, by GATE before and behind it
 pub seen : (gate : ℕ) (es : List Effect) (k : History) → OneWrite es
     → observe gate es k ≡ behind_gate (k.world.fram gate) ((world_after es k.world).fram gate) (with_effects es k)
 seen gate es k h =

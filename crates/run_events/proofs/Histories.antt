@@ -137,6 +137,7 @@ module _ (m : MapValue) (x : World) (ok : IsMap m) where
     alike_moved : SaysAlike m x spoken moved
     alike_moved = words_told m x h k es done.accepted t.same.alike accepted_now
 
+    -- what is observed of this instruction
     pub observed_so : observe gate es k ≡ behind_gate before now moved
     observed_so = seen gate es k (one_write b t.whole i done current answer) ∙ ap (λ n. behind_gate before n moved) (sym gate_now)
 
@@ -200,6 +201,7 @@ module _ (m : MapValue) (x : World) (ok : IsMap m) where
   abbrev MomentLeads : BoardValue → board.History → History → Moment → Type 0
   MomentLeads b h k o = Leads m x o.after (noted h o) k (behind_action gate o.action o.before o.after k) (moment_lines h o)
 
+  -- a moment leads both histories on
   pub moment_leads : (b : BoardValue) (h : board.History) (k : History) → Together m x b h k → (o : Moment) → IsMomentFrom b o → MomentLeads b h k o
   moment_leads b h k t o (PowersUp p start e) = let P : Moment → Type 0 = λ y. MomentLeads b h k y in subst P (sym e) (boot_leads b h k t p start)
   moment_leads b h k t o (Instructs i done c a e) =
@@ -246,6 +248,7 @@ histories_stay_the_same cs b r ms rest run e m x h k ok same tells =
     let all = moments_lead m x ok b h k ms t (front_moments cs b r ms rest run.starts run.run e) in
     (all.together.same, all.together.tells)
 
+-- the two histories begin the same
 pub first_histories_are_the_same : FirstHistoriesAreTheSame
 first_histories_are_the_same b m x ok s =
     let alike : SaysAlike m x (start_with b.fram (Some m)) (first_history m.words.gate x) =

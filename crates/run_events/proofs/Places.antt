@@ -1,6 +1,8 @@
 -- The words of a map in the lists of the board's FRAM and in the FRAM of a world.
-use Rattle.std.proofs.Common.{◌≡◌, ℕ, zero, suc, ◌+◌, ◌*◌, ◌%◌, ◌<◌, ◌≤◌, ◌==◌, ◌&&◌, nat_lt, nat_le, refl, sym, ap, ap₂, ◌∙◌, arith, Bool, true, false, if◌then◌else◌, All, List, [], ◌∷◌, ◌++◌, slice_index, Option, Some, None}
+use Rattle.std.proofs.Common.{◌≡◌, ℕ, zero, suc, ◌+◌, ◌*◌, ◌%◌, ◌<◌, ◌≤◌, ◌==◌, ◌&&◌, nat_lt, nat_le, refl, sym, ap, ap₂, ◌∙◌, arith, true, if◌then◌else◌, All}
+use Rattle.std.proofs.Common.{List, [], ◌∷◌, ◌++◌, slice_index, Option, Some, None}
 use Rattle.std.proofs.lemmas.Bool.Decides.{nat_tests}
+use Rattle.std.proofs.lemmas.Bool.{and_parts}
 use Rattle.image_map.specs.declared.parts.Variable.{Variable}
 use Rattle.image_map.specs.MapValue.{IsFramWord, IsVariable, fits}
 use Rattle.image_text.specs.ImageValue.{place_of}
@@ -35,16 +37,12 @@ array_in name a i zero l e h = tt
 array_in name a i (suc n) l e h =
     (record { low = l; high = omega arith; even = e }, array_in name (a + 2) (i + 1) n (omega arith) (omega arith) (omega arith))
 
-both_true : (a b : Bool) → (a && b) ≡ true → b ≡ true
-both_true true b h = h
-both_true false b h = absurd cc
-
 below_end : (a n : ℕ) → nat_le (a + 2 * n) 65536 ≡ true → a + 2 * n ≤ 65536
 below_end a n h = grind (arith, nat_tests)
 
 variable_in : (name : List ℕ) (a : ℕ) (o : Option ℕ) → IsFramWord a → fits a o ≡ true → AreInFram (variable_words name a o)
 variable_in name a None h f = (h, tt)
-variable_in name a (Some n) h f = array_in name a 0 n h.low h.even (below_end a n (both_true (nat_lt 0 n) (nat_le (a + 2 * n) 65536) f))
+variable_in name a (Some n) h f = array_in name a 0 n h.low h.even (below_end a n (and_parts (nat_lt 0 n) (nat_le (a + 2 * n) 65536) f).1)
 
 pub shared_in : (vs : List Variable) → All IsVariable vs → AreInFram (shared_words vs)
 shared_in [] all = tt

@@ -48,6 +48,7 @@ same_last h k (Stopped stop.NoReading) b e = ap (λ n. end_line reason.Readings 
 same_last h k (Stopped (stop.Illegal pc word)) b e = refl
 same_last h k (Stopped (stop.Bus pc address)) b e = refl
 
+-- the report is the bound, the lines of the dones, and how the run ended
 pub report_is_of_dones : ReportIsOfDones
 report_is_of_dones cs b r run m x ok s h e =
     let whole : r.moments ≡ r.moments ++ [] = sym (append-nil r.moments) in
@@ -56,6 +57,7 @@ report_is_of_dones cs b r run m x ok s h e =
     let last = same_last (after_all (start_with b.fram (Some m)) r.moments) h r.ending r.board (all.together.same.alike.completed ∙ sym e) in
     ap₂ (λ p q. bound_line m.bound ++ (p ++ q)) lines last
 
+-- where at most 256 words are accepted, each has its line
 pub few_words_have_lines : FewWordsHaveLines
 few_words_have_lines ws few =
     let none : length ws - 256 ≡ 0 = omega arith in

@@ -1,22 +1,13 @@
 -- Stretches of code one after another.
 use Rattle.std.proofs.Common.{◌≡◌, ℕ, ◌+◌, List, [], ◌++◌, length, Some, sym, ap, ◌∙◌, subst}
 use Rattle.fram_board.specs.Effects.{Effect}
-use Rattle.machine_effects.specs.Going.{Goes, At, Status, stretch}
+use Rattle.machine_effects.specs.Going.{Goes, At, stretch}
 use Rattle.machine_effects.specs.Machine.{Code, exec}
 use Rattle.machine_effects.proofs.Going.{stay, one_step, join}
-use Rattle.msp_step.specs.declared.machine.Stop.{Stop}
 use Rattle.code_forms.specs.Forms.{Core, board_of, outcome_of_core, Form, instruction_of, form_step, FormNeeds}
 use Rattle.code_forms.specs.Code.{Stands, AreStraight, forms_run, FormsNeed, IsTidy}
 use Rattle.code_forms.proofs.Blocks.{does, block}
 use Rattle.runtime_code.specs.Comes.{Comes, IsAt}
-
-pub stands_at : (code : Code) (p : ℕ) (ms : List Form) (u : Core) → Stands code p ms → u.pc ≡ p → Stands code u.pc ms
-stands_at code p ms u h e = subst (λ q. Stands code q ms) (sym e) h
-
--- where a stretch ends
-abbrev pub end_of : Core → Status Core Stop → Core
-end_of u (At t) = t
-end_of u _ = u
 
 module _ (code : Code) (tidy : IsTidy code) where
   -- straight code
@@ -33,14 +24,17 @@ module _ (code : Code) (tidy : IsTidy code) where
     holds = p;
   }
 
+-- a stretch of code, and another from each state that it may come to
 pub comes_on : (code : Code) (n n' c c' : ℕ) (u : Core) (P Q : Core → Type 0) (es fs : List Effect) → Comes code es n c u P → ((t : Core) → P t → Comes code fs n' c' t Q) → Comes code (es ++ fs) (n + n') (c + c') u Q
 comes_on code n n' c c' u P Q es fs a f =
     let b = f a.end a.holds in
     record { end = b.end; leads = join (exec code) n n' es fs c c' (board_of u) (board_of a.end) (board_of b.end) a.leads b.leads; holds = b.holds }
 
+-- the same stretch with its steps and cycles added up
 pub recounted : (code : Code) (es : List Effect) (n n' c c' : ℕ) (u : Core) (P : Core → Type 0) → n ≡ n' → c ≡ c' → Comes code es n c u P → Comes code es n' c' u P
 recounted code es n n' c c' u P e d a = subst (λ k. Comes code es k c' u P) e (subst (λ k. Comes code es n k u P) d a)
 
+-- no step at all
 pub nothing : (code : Code) (u : Core) (P : Core → Type 0) → P u → Comes code [] 0 0 u P
 nothing code u P p = record { end = u; leads = stay (exec code) (board_of u); holds = p }
 

@@ -1,23 +1,22 @@
 -- The test and the jumps of loops that count down.
 use Rattle.std.proofs.Common.{◌≡◌, ℕ, ◌+◌, ◌%◌, ◌<◌, ◌==◌, [], ◌∷◌, Some, refl, ap, ◌∙◌, arith, Bool, true, false, if◌then◌else◌}
-use Rattle.std.proofs.lemmas.Bool.Decides.{nat_tests}
 use Rattle.msp_isa.specs.declared.instructions.TwoOp.TheVariants.{Cmp}
 use Rattle.msp_isa.specs.declared.operands.Konst.TheVariants.{Zero}
 use Rattle.msp_isa.specs.declared.instructions.Condition.TheVariants.{Equal, Always}
 use Rattle.msp_step.specs.Effect.{sum16, distance}
 use Rattle.machine_effects.specs.Going.{Goes}
 use Rattle.machine_effects.specs.Machine.{Code}
+use Rattle.machine_effects.proofs.Values.{zero_flag}
 use Rattle.code_forms.specs.Forms.{Core, Calculate, Jump, Constant, R4, instruction_of}
 use Rattle.code_forms.specs.Code.{IsTidy, forms_run}
+use Rattle.code_forms.proofs.Blocks.{end_of}
 use Rattle.runtime_code.specs.Comes.{Comes}
-use Rattle.runtime_code.proofs.Chains.{end_of, straight, one_form, then_on}
-
-zero_flag : (n : ℕ) → n < 0x10000 → 0 < n → ((n + 65535 + 1) % 65536 == 0) ≡ false
-zero_flag n l h = grind (arith, nat_tests)
+use Rattle.runtime_code.proofs.Chains.{straight, one_form, then_on}
 
 module _ (code : Code) (tidy : IsTidy code) where
   module _ (p over q : ℕ) (test : code p ≡ Some (instruction_of (Calculate Cmp (Constant Zero) R4))) (jump : code (p + 2) ≡ Some (instruction_of (Jump Equal over)))
       (there : sum16 (p + 2 + 2) (distance over) ≡ q) where
+    -- the state behind the comparison of R4 with 0
     abbrev pub tested : Core → Core
     tested u = end_of u (forms_run (Calculate Cmp (Constant Zero) R4 ∷ []) u).status
 

@@ -1,14 +1,10 @@
 -- The length of code.
-use Rattle.std.proofs.Common.{◌≡◌, ℕ, ◌+◌, ◌*◌, List, [], ◌∷◌, ◌++◌, length, refl, arith, length-append}
+use Rattle.std.proofs.Common.{◌≡◌, ℕ, ◌*◌, List, [], ◌∷◌, ◌++◌, length, refl, arith, length-append}
 use Rattle.msp_isa.specs.Encoding.{encoding}
 use Rattle.code_forms.specs.Forms.{Form, instruction_of}
 use Rattle.code_forms.specs.Code.{forms_bytes}
 use Rattle.code_forms.specs.Placed.{instructions, words_of, AreInstructions}
 use Rattle.code_forms.proofs.Placed.{bytes_are}
-
-pub forms_bytes-append : (a b : List Form) → forms_bytes (a ++ b) ≡ forms_bytes a + forms_bytes b
-forms_bytes-append [] b = omega arith
-forms_bytes-append (i ∷ a) b = let e = forms_bytes-append a b in omega (arith, e)
 
 -- code is as long as its forms
 pub code_bytes : (ms : List Form) → 2 * length (words_of (instructions ms)) ≡ forms_bytes ms
@@ -19,6 +15,7 @@ code_bytes (m ∷ ms) =
     let r = code_bytes ms in
     omega (arith, e, d, r)
 
+-- forms one list behind another are instructions
 pub are_instructions-append : (a b : List Form) → AreInstructions (instructions a) → AreInstructions (instructions b) → AreInstructions (instructions (a ++ b))
 are_instructions-append [] b h k = k
 are_instructions-append (i ∷ a) b h k = (h.0, are_instructions-append a b h.1 k)

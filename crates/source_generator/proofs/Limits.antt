@@ -28,11 +28,14 @@ unfolding draws
 count_of_draws zero s = refl
 count_of_draws (suc n) s = ap (λ k. suc k) (count_of_draws n (next s))
 
+-- the trace of a number has few charges
 pub few_charges : (cs : List Charge) (bound s : ℕ) → cs ≡ charges 256 bound s → charge_count cs ≤ 1000000
 few_charges cs bound s e = let count : charge_count cs ≡ 256 = ap charge_count e ∙ count_of_charges 256 bound s in omega (arith, count)
 
+-- each of them comes at least once
 pub each_once : (cs : List Charge) (bound s : ℕ) → cs ≡ charges 256 bound s → All (λ c. 0 < c.times) cs
 each_once cs bound s e = All-same (λ c. 0 < c.times) cs (charges 256 bound s) e (repeats_of_charges 256 bound s)
 
+-- it has few readings
 pub few_readings : (ws : List ℕ) (s : ℕ) → ws ≡ draws 512 s → length ws ≤ 262144
 few_readings ws s e = let count : length ws ≡ 512 = ap length e ∙ count_of_draws 512 s in omega (arith, count)

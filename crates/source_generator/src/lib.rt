@@ -9,6 +9,3 @@ mod trace;
 pub use laws::{rows_of_zero, statement_rows};
 pub use source::generated_source;
 pub use trace::generated_trace;
-
-#[cfg(test)]
-mod tests;

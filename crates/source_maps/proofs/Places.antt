@@ -17,7 +17,8 @@ use Rattle.source_names.specs.Names.{HasWords}
 use Rattle.source_maps.specs.Maps.{variable_of, variables_of}
 use Rattle.source_maps.specs.Placing.{IsOfKind, ArePlacesOf}
 
-of_kind : (b : Bool) (e : Extent) (place : VariablePlace) → IsPlaceOf b e place → IsOfKind e place
+-- a place of a declaration is of its kind
+pub of_kind : (b : Bool) (e : Extent) (place : VariablePlace) → IsPlaceOf b e place → IsOfKind e place
 of_kind b (extent.Scalar w) (Scalar home copy) h = tt
 of_kind b (extent.Scalar w) (Array elements n copies) h = h
 of_kind b (extent.Array n) (Scalar home copy) h = h

@@ -1,9 +1,9 @@
 -- What keeps the rules of a map can be added to it one behind the other.
-use Rattle.std.proofs.Common.{◌≡◌, ◌∙◌, ℕ, true, List, [], ◌∷◌, ◌++◌, sym, ap, subst, append_assoc}
+use Rattle.std.proofs.Common.{◌≡◌, ◌∙◌, ℕ, true, List, [], ◌∷◌, ◌++◌, sym, ap, subst, append_assoc, append-nil}
 use Rattle.std.specs.Prelude.{All}
 use Rattle.image_map.specs.declared.parts.Variable.{Variable}
 use Rattle.image_map.specs.MapValue.{MapValue, TaskValue, IsMap, are_scalars, with_private}
-use Rattle.image_map.proofs.Taking.{append_nil, variables_alone, tasks_alone, task_with, middle, takes_next_variable, takes_next_task, takes_next_private, onto_of}
+use Rattle.image_map.proofs.Taking.{variables_alone, tasks_alone, task_with, middle, takes_next_variable, takes_next_task, takes_next_private, onto_of}
 use Rattle.source_maps.specs.Adding.{with_variables, TakesVariables, with_privates, TakesPrivates, with_whole_task, with_tasks, TakesTasks}
 
 -- ---- variables
@@ -14,7 +14,7 @@ takes_variables m done (v ∷ rest) e h =
     (takes_next_variable m done rest v e h, takes_variables m (done ++ v ∷ []) rest (e ∙ sym (append_assoc done (v ∷ []) rest)) h)
 
 pub all_variables : (m : MapValue) (done rest : List Variable) → with_variables (variables_alone m done) rest ≡ variables_alone m (done ++ rest)
-all_variables m done [] = ap (variables_alone m) (sym (append_nil done))
+all_variables m done [] = ap (variables_alone m) (sym (append-nil done))
 all_variables m done (v ∷ rest) = all_variables m (done ++ v ∷ []) rest ∙ ap (variables_alone m) (append_assoc done (v ∷ []) rest)
 
 -- ---- private scalars
@@ -34,7 +34,7 @@ takes_privates m done name ns (n ∷ rest) h = (
 
 all_privates : (m : MapValue) (done : List TaskValue) (name : List ℕ) (ns rest : List (List ℕ))
     → with_privates (tasks_alone m (done ++ task_with name ns ∷ [])) rest ≡ tasks_alone m (done ++ task_with name (ns ++ rest) ∷ [])
-all_privates m done name ns [] = ap (λ l. tasks_alone m (done ++ task_with name l ∷ [])) (sym (append_nil ns))
+all_privates m done name ns [] = ap (λ l. tasks_alone m (done ++ task_with name l ∷ [])) (sym (append-nil ns))
 all_privates m done name ns (n ∷ rest) =
     ap (λ x. with_privates x rest) (next_private m done name ns n) ∙ all_privates m done name (ns ++ n ∷ []) rest
     ∙ ap (λ l. tasks_alone m (done ++ task_with name l ∷ [])) (append_assoc ns (n ∷ []) rest)
@@ -55,6 +55,6 @@ takes_tasks m done (t ∷ rest) e h =
     )
 
 pub all_tasks : (m : MapValue) (done rest : List TaskValue) → with_tasks (tasks_alone m done) rest ≡ tasks_alone m (done ++ rest)
-all_tasks m done [] = ap (tasks_alone m) (sym (append_nil done))
+all_tasks m done [] = ap (tasks_alone m) (sym (append-nil done))
 all_tasks m done (t ∷ rest) =
     ap (λ x. with_tasks x rest) (whole_task m done t) ∙ all_tasks m (done ++ t ∷ []) rest ∙ ap (tasks_alone m) (append_assoc done (t ∷ []) rest)

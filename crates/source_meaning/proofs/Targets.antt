@@ -1,12 +1,14 @@
 -- A run goes only to tasks that the source names.
-use Rattle.std.proofs.Common.{◌≡◌, ◌<◌, ℕ, zero, suc, ◌+◌, ◌-◌, Bool, true, false, ◌&&◌, List, Option, Some, None, refl, if◌then◌else◌, nat_lt, ltb-true}
+use Rattle.std.proofs.Common.{◌≡◌, ◌<◌, ℕ, zero, suc, ◌+◌, ◌-◌, Bool, true, false, List, Option, Some, None, if◌then◌else◌, nat_lt, ltb-true}
 use Rattle.std.specs.List.{list_all}
+use Rattle.std.proofs.lemmas.Bool.{and_parts}
 use Rattle.task_ast.specs.Tree.{Statement, declare, assign, store, choose, loop, emit, transition, Choice, nothing, otherwise, test, Block, end, step}
 use Rattle.task_ast.specs.declared.names.Variable.{Variable}
 use Rattle.task_ast.specs.declared.names.VariableName.{VariableName}
 use Rattle.task_ast.specs.declared.names.TaskName.{TaskName}
 use Rattle.source_values.specs.Values.{value_of, holds}
-use Rattle.source_values.specs.Statements.{Attempt, Outcome, goes_on, to_task, short, and_then, if_value, with_value, assigned, turns, run_statement, run_choice, run_block}
+use Rattle.source_values.specs.Statements.{Attempt, Outcome, goes_on, to_task, short, and_then, if_value, with_value, assigned, turns, run_statement}
+use Rattle.source_values.specs.Statements.{run_choice, run_block}
 use Rattle.task_check.specs.LookedUp.{statement_targets, choice_targets, block_targets}
 
 -- a task that an outcome goes to has a number below k
@@ -18,10 +20,6 @@ GoesBelow k short = Unit {0}
 abbrev pub below : ℕ → List ℕ → Bool
 below k targets = list_all (λ n. nat_lt n k) targets
 
-pub both : (a b : Bool) → (a && b) ≡ true → (a ≡ true) × (b ≡ true)
-both true b h = (refl, h)
-both false b h = absurd (cc)
-
 -- what runs, and what stands behind it
 pub record Stays (k : ℕ) (run : Attempt → Outcome) (more : List ℕ) : Type 0 where
   pub runs : (s : Attempt) → GoesBelow k (run s)
@@ -32,7 +30,8 @@ goes_then k (goes_on s) next h more = more s
 goes_then k (to_task t s) next h more = h
 goes_then k short next h more = tt
 
-goes_value : (k : ℕ) (v : Option (ℕ × List ℕ)) (s : Attempt) (next : ℕ → Attempt → Outcome) → ((w : ℕ) (s : Attempt) → GoesBelow k (next w s)) → GoesBelow k (if_value v s next)
+goes_value : (k : ℕ) (v : Option (ℕ × List ℕ)) (s : Attempt) (next : ℕ → Attempt → Outcome) → ((w : ℕ) (s : Attempt) → GoesBelow k (next w s))
+    → GoesBelow k (if_value v s next)
 goes_value k None s next more = tt
 goes_value k (Some x) s next more = more x.0 (record s { left = x.1 })
 
@@ -40,15 +39,19 @@ goes_if : (k : ℕ) (b : Bool) (first second : Outcome) → GoesBelow k first �
 goes_if k true first second p q = p
 goes_if k false first second p q = q
 
-goes_turns : (k n from : ℕ) (x : Variable) (body : Attempt → Outcome) (s : Attempt) → ((s : Attempt) → GoesBelow k (body s)) → GoesBelow k (turns n from x body s)
+goes_turns : (k n from : ℕ) (x : Variable) (body : Attempt → Outcome) (s : Attempt) → ((s : Attempt) → GoesBelow k (body s))
+    → GoesBelow k (turns n from x body s)
 goes_turns k zero from x body s h = tt
-goes_turns k (suc n) from x body s h = goes_then k (body (assigned s x 0 from)) (turns n (from + 1) x body) (h (assigned s x 0 from)) (λ s. goes_turns k n (from + 1) x body s h)
+goes_turns k (suc n) from x body s h =
+    goes_then k (body (assigned s x 0 from)) (turns n (from + 1) x body) (h (assigned s x 0 from)) (λ s. goes_turns k n (from + 1) x body s h)
 
 mutual
   statement_stays : (k : ℕ) (s : Statement VariableName TaskName) (more : List ℕ) → below k (statement_targets s more) ≡ true → Stays k (run_statement s) more
   statement_stays k (declare t x None) more h = record { runs = λ s. tt; rest = h }
-  statement_stays k (declare t x (Some e)) more h = record { runs = λ s. goes_value k (value_of e s.variables s.left) s (λ w s. goes_on (assigned s x.variable 0 w)) (λ w s. tt); rest = h }
-  statement_stays k (assign x e) more h = record { runs = λ s. goes_value k (value_of e s.variables s.left) s (λ w s. goes_on (assigned s x.variable 0 w)) (λ w s. tt); rest = h }
+  statement_stays k (declare t x (Some e)) more h =
+      record { runs = λ s. goes_value k (value_of e s.variables s.left) s (λ w s. goes_on (assigned s x.variable 0 w)) (λ w s. tt); rest = h }
+  statement_stays k (assign x e) more h =
+      record { runs = λ s. goes_value k (value_of e s.variables s.left) s (λ w s. goes_on (assigned s x.variable 0 w)) (λ w s. tt); rest = h }
   statement_stays k (store x index e) more h = record {
     runs = λ s. goes_value k (value_of index s.variables s.left) s (λ i s. with_value e s (λ w s. goes_on (assigned s x.variable i w)))
         (λ i s. goes_value k (value_of e s.variables s.left) s (λ w s. goes_on (assigned s x.variable i w)) (λ w s. tt));
@@ -60,7 +63,7 @@ mutual
       record { runs = λ s. goes_turns k (under - from) from x.variable (run_block body) s b.runs; rest = b.rest }
   statement_stays k (emit e) more h = record { runs = λ s. goes_value k (value_of e s.variables s.left) s _ (λ w s. tt); rest = h }
   statement_stays k (transition t) more h =
-      let p = both (nat_lt t.task k) (below k more) h in
+      let p = and_parts (nat_lt t.task k) (below k more) h in
       record { runs = λ s. ltb-true t.task k p.0; rest = p.1 }
 
   choice_stays : (k : ℕ) (c : Choice VariableName TaskName) (more : List ℕ) → below k (choice_targets c more) ≡ true → Stays k (run_choice c) more

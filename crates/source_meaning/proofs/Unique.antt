@@ -8,11 +8,11 @@ use Rattle.task_lex.specs.declared.token.Token.{Token}
 use Rattle.task_lex.specs.Lex.{lexed, tokens}
 use Rattle.task_parse.specs.Grammar.{IsProgram}
 use Rattle.task_check.specs.Answers.{IsNamed, IsAccepted}
+use Rattle.task_check.proofs.Fill.{one_program as one_source}
 use Rattle.cost_bound.specs.declared.allowance.Allow.{Allow}
 use Rattle.cost_bound.specs.Allowance.{IsAllowed}
 use Rattle.cost_bound.specs.Laws.{OneAnswer}
 use Rattle.source_meaning.specs.Acceptance.{Parses, Checks, IsAcceptedText}
-use Rattle.source_meaning.proofs.LookedUp.{one_source}
 
 same_tokens : (a b : List Token) → tokens a ≡ tokens b → a ≡ b
 same_tokens a b h = cc
@@ -25,7 +25,8 @@ one_tree text words tree lexes only other x =
 
 named_once : (text : List ℕ) (tree : Program Span Span) (p q : Program VariableName TaskName) → IsNamed text tree p → IsNamed text tree q → p ≡ q
 named_once text tree p q x y =
-    one_source p q (x.looked_up.places ∙ sym y.looked_up.places) (x.looked_up.variables ∙ sym y.looked_up.variables) (x.looked_up.targets ∙ sym y.looked_up.targets)
+    one_source p q (x.looked_up.places ∙ sym y.looked_up.places) (x.looked_up.variables ∙ sym y.looked_up.variables)
+    (x.looked_up.targets ∙ sym y.looked_up.targets)
 
 pub one_checked : (text : List ℕ) (tree : Program Span Span) (p : Program VariableName TaskName)
     → ((other : Program Span Span) → Parses text other → other ≡ tree) → IsAccepted text tree p

@@ -11,6 +11,3 @@ pub use laws::{accepted_texts_run, one_answer};
 pub use passes::{Accepted, accept};
 pub use source_values::{Done, Short};
 pub use state::Meaning;
-
-#[cfg(test)]
-mod tests;

@@ -1,5 +1,5 @@
 -- The shared variables and tasks among the names of a source.
-use Rattle.std.proofs.Common.{◌≡◌, ◌∙◌, ℕ, List, [], ◌∷◌, ◌++◌, map, length, refl, sym, ap, append_assoc, Option, Some, None}
+use Rattle.std.proofs.Common.{◌≡◌, ◌∙◌, ℕ, List, [], ◌∷◌, ◌++◌, map, length, refl, sym, ap, append_assoc, Option, Some, None, append-nil}
 use Rattle.alp_text.specs.declared.lines.Span.{Span}
 use Rattle.task_ast.specs.declared.SharedDeclaration.{SharedDeclaration}
 use Rattle.task_ast.specs.Tree.{Expression, Statement, Choice, Block, Task, Program}
@@ -8,7 +8,8 @@ use Rattle.task_check.specs.declared.occurrence.Role.{Role}
 use Rattle.task_check.specs.declared.occurrence.Role.TheVariants as role
 use Rattle.task_check.specs.declared.occurrence.Occurrence.{Occurrence}
 use Rattle.task_check.specs.Scope.{text_of}
-use Rattle.task_check.specs.Occurrences.{and_front, expression_names, value_names, statement_names, choice_names, names_up_to, task_names, shared_names, program_names}
+use Rattle.task_check.specs.Occurrences.{and_front, expression_names, value_names, statement_names, choice_names, names_up_to, task_names, shared_names}
+use Rattle.task_check.specs.Occurrences.{program_names}
 
 -- the name that is declared, if a shared variable or a task is
 abbrev pub declared_by : Role → List ℕ → List (List ℕ)
@@ -21,10 +22,6 @@ declared_by role.Counter name = []
 declared_by role.Target name = []
 declared_by (role.Count n) name = []
 
-append_none : {A : Type 0} (xs : List A) → xs ++ [] ≡ xs
-append_none [] = refl
-append_none (x ∷ xs) = ap (λ l. x ∷ l) (append_none xs)
-
 module _ (source : List ℕ) where
   -- the names that are declared, in the text's order
   abbrev pub declared : List Occurrence → List (List ℕ)
@@ -32,7 +29,7 @@ module _ (source : List ℕ) where
   declared (o ∷ front) = declared front ++ declared_by o.role (text_of source o.span)
 
   in_front : (behind : List Occurrence) (s : Span) (r : Role) → declared (and_front behind s r) ≡ declared_by r (text_of source s) ++ declared behind
-  in_front [] s r = sym (append_none (declared_by r (text_of source s)))
+  in_front [] s r = sym (append-nil (declared_by r (text_of source s)))
   in_front (o ∷ more) s r =
       ap (λ l. l ++ declared_by o.role (text_of source o.span)) (in_front more s r)
       ∙ append_assoc (declared_by r (text_of source s)) (declared more) (declared_by o.role (text_of source o.span))
@@ -44,7 +41,8 @@ module _ (source : List ℕ) where
   expression_silent t.sense behind = refl
   expression_silent (t.unary op a) behind = expression_silent a behind
   expression_silent (t.binary op a b) behind = expression_silent a (expression_names b behind) ∙ expression_silent b behind
-  expression_silent (t.shift op a count) behind = expression_silent a (and_front behind count.span (role.Count count.value)) ∙ in_front behind count.span (role.Count count.value)
+  expression_silent (t.shift op a count) behind = expression_silent a (and_front behind count.span (role.Count count.value))
+      ∙ in_front behind count.span (role.Count count.value)
   expression_silent (t.short_circuit op a b) behind = expression_silent a (expression_names b behind) ∙ expression_silent b behind
 
   value_silent : (e : Option (Expression Span)) (behind : List Occurrence) → declared (value_names e behind) ≡ declared behind
@@ -56,7 +54,8 @@ module _ (source : List ℕ) where
     statement_silent end (t.declare of s value) behind = in_front (value_names value behind) s (role.Local of (length behind) end) ∙ value_silent value behind
     statement_silent end (t.assign s e) behind = in_front (expression_names e behind) s role.Scalar ∙ expression_silent e behind
     statement_silent end (t.store s index e) behind =
-        in_front (expression_names index (expression_names e behind)) s role.Element ∙ expression_silent index (expression_names e behind) ∙ expression_silent e behind
+        in_front (expression_names index (expression_names e behind)) s role.Element ∙ expression_silent index (expression_names e behind)
+        ∙ expression_silent e behind
     statement_silent end (t.choose c) behind = choice_silent c behind
     statement_silent end (t.loop v from w below u body) behind =
         let inner = names_up_to (length behind) body behind in
@@ -76,21 +75,24 @@ module _ (source : List ℕ) where
     block_silent end t.end behind = refl
     block_silent end (t.step s more) behind = statement_silent end s (names_up_to end more behind) ∙ block_silent end more behind
 
-  tasks_declared : (ts : List (Task Span Span)) (behind : List Occurrence) → declared (task_names ts behind) ≡ map (λ t. text_of source t.name) ts ++ declared behind
+  tasks_declared : (ts : List (Task Span Span)) (behind : List Occurrence)
+      → declared (task_names ts behind) ≡ map (λ t. text_of source t.name) ts ++ declared behind
   tasks_declared [] behind = refl
   tasks_declared (k ∷ more) behind =
       let rest = task_names more behind in
       in_front (names_up_to (length rest) k.body rest) k.name role.Task
       ∙ ap (λ l. text_of source k.name ∷ l) (block_silent (length rest) k.body rest ∙ tasks_declared more behind)
 
-  shared_declared : (ds : List SharedDeclaration) (behind : List Occurrence) → declared (shared_names ds behind) ≡ map (λ d. text_of source d.name) ds ++ declared behind
+  shared_declared : (ds : List SharedDeclaration) (behind : List Occurrence)
+      → declared (shared_names ds behind) ≡ map (λ d. text_of source d.name) ds ++ declared behind
   shared_declared [] behind = refl
   shared_declared (d ∷ more) behind =
       in_front (shared_names more behind) d.name (role.Shared d.word_type d.extent) ∙ ap (λ l. text_of source d.name ∷ l) (shared_declared more behind)
 
-  pub program_declared : (p : Program Span Span) → declared (program_names p) ≡ map (λ d. text_of source d.name) p.shared ++ map (λ t. text_of source t.name) p.tasks
+  pub program_declared : (p : Program Span Span)
+      → declared (program_names p) ≡ map (λ d. text_of source d.name) p.shared ++ map (λ t. text_of source t.name) p.tasks
   unfolding program_names
   program_declared p =
       let behind : List Occurrence = and_front [] p.entry role.Target in
       shared_declared p.shared (task_names p.tasks behind)
-      ∙ ap (λ l. map (λ d. text_of source d.name) p.shared ++ l) (tasks_declared p.tasks behind ∙ append_none (map (λ t. text_of source t.name) p.tasks))
+      ∙ ap (λ l. map (λ d. text_of source d.name) p.shared ++ l) (tasks_declared p.tasks behind ∙ append-nil (map (λ t. text_of source t.name) p.tasks))

@@ -1,19 +1,19 @@
 -- The names of a source whose checks find nothing are different, and its arrays have words.
-use Rattle.std.proofs.Common.{◌≡◌, ◌∙◌, ◌⊎◌, inl, inr, ℕ, suc, ◌<◌, ◌==◌, Bool, true, false, not, ◌&&◌, ◌||◌, List, [], ◌∷◌, ◌++◌, length, refl, sym, ap, arith, append_assoc, Option, Some, None, is_some}
+use Rattle.std.proofs.Common.{◌≡◌, ◌∙◌, ◌⊎◌, inl, inr, ℕ, suc, ◌<◌, ◌==◌, Bool, true, false, not, ◌||◌, List, [], ◌∷◌, ◌++◌, length, refl, sym, ap, arith}
+use Rattle.std.proofs.Common.{append_assoc, Option, Some, None, is_some, append-nil}
 use Rattle.std.specs.Option.{option_or}
 use Rattle.std.specs.Prelude.{All}
 use Rattle.std.specs.Str.{bytes_eq}
 use Rattle.std.proofs.lemmas.Bool.Decides.{nat_tests}
 use Rattle.std.proofs.lemmas.List.Elements.{All-nil, All-cons}
+use Rattle.std.proofs.lemmas.Bool.{and_parts, and_from, or_parts}
 use Rattle.alp_text.specs.declared.lines.Span.{Span}
 use Rattle.task_ast.specs.declared.WordType.{WordType}
 use Rattle.task_ast.specs.declared.Extent.{Extent}
-use Rattle.task_ast.specs.declared.Extent.TheVariants as extent
 use Rattle.task_ast.specs.declared.SharedDeclaration.{SharedDeclaration}
 use Rattle.task_ast.specs.Tree.{Program}
-use Rattle.task_check.specs.declared.fault.CheckFault.{CheckFault}
+use Rattle.task_ast.specs.declared.Extent.TheVariants as extent
 use Rattle.task_check.specs.declared.occurrence.Role.{Role}
-use Rattle.task_check.specs.declared.occurrence.Role.TheVariants as role
 use Rattle.task_check.specs.declared.occurrence.Occurrence.{Occurrence}
 use Rattle.task_check.specs.declared.symbol.Global.{Global}
 use Rattle.task_check.specs.declared.symbol.Local.{Local}
@@ -23,52 +23,23 @@ use Rattle.task_check.specs.Scope.{text_of, shared_in, tasks_in, global_in, loca
 use Rattle.task_check.specs.LookedUp.{symbol_at}
 use Rattle.task_check.specs.Faults.{fault_if, first_fault, is_repeated, is_unknown, name_fault_if, name_fault, use_fault_by, use_fault}
 use Rattle.image_map.specs.MapValue.{is_among, are_different}
+use Rattle.task_check.specs.declared.occurrence.Role.TheVariants as role
+use Rattle.task_check.proofs.Ranges.{no_fault, both_none}
 use Rattle.source_names.specs.Names.{HasWords}
 use Rattle.source_names.proofs.Declared.{declared_by, declared}
 
 -- ---- tests
 
-none_first : {A : Type 0} (a b : Option A) → option_or a b ≡ None → a ≡ None
-none_first None b h = refl
-none_first (Some x) b h = absurd (cc)
-
-none_second : {A : Type 0} (a b : Option A) → option_or a b ≡ None → b ≡ None
-none_second None b h = h
-none_second (Some x) b h = absurd (cc)
-
-no_fault : (b : Bool) (f : CheckFault) → fault_if b f ≡ None → b ≡ false
-no_fault true f h = absurd (cc)
-no_fault false f h = refl
-
-both : (a b : Bool) → (a && b) ≡ true → (a ≡ true) × (b ≡ true)
-both true b h = (refl, h)
-both false b h = absurd (cc)
-
-and : (a b : Bool) → a ≡ true → b ≡ true → (a && b) ≡ true
-and true b h k = k
-and false b h k = absurd (cc)
-
-neither : (a b : Bool) → (a || b) ≡ false → (a ≡ false) × (b ≡ false)
-neither true b h = absurd (cc)
-neither false b h = (refl, h)
-
-either : (a b : Bool) → (a || b) ≡ true → (a ≡ true) ⊎ (b ≡ true)
-either true b h = inl refl
-either false b h = inr h
-
-append_none : {A : Type 0} (xs : List A) → xs ++ [] ≡ xs
-append_none [] = refl
-append_none (x ∷ xs) = ap (λ l. x ∷ l) (append_none xs)
-
 -- ---- one more name that differs from all others
 
-different_more : (before ns : List (List ℕ)) (n : List ℕ) → are_different before ns ≡ true → is_among n (before ++ ns) ≡ false → are_different before (ns ++ n ∷ []) ≡ true
+different_more : (before ns : List (List ℕ)) (n : List ℕ) → are_different before ns ≡ true → is_among n (before ++ ns) ≡ false
+    → are_different before (ns ++ n ∷ []) ≡ true
 different_more before [] n h k =
-    let free : is_among n before ≡ false = sym (ap (is_among n) (append_none before)) ∙ k in
-    and (not (is_among n before)) true (ap not free) refl
+    let free : is_among n before ≡ false = sym (ap (is_among n) (append-nil before)) ∙ k in
+    and_from (not (is_among n before)) true (ap not free) refl
 different_more before (x ∷ ns) n h k =
-    let p = both (not (is_among x before)) (are_different (before ++ x ∷ []) ns) h in
-    and (not (is_among x before)) (are_different (before ++ x ∷ []) (ns ++ n ∷ [])) p.0
+    let p = and_parts (not (is_among x before)) (are_different (before ++ x ∷ []) ns) h in
+    and_from (not (is_among x before)) (are_different (before ++ x ∷ []) (ns ++ n ∷ [])) p.0
     (different_more (before ++ x ∷ []) ns n p.1 (ap (is_among n) (append_assoc before (x ∷ []) ns) ∙ k))
 
 among_either : (n : List ℕ) (xs ys : List (List ℕ)) → is_among n (xs ++ ys) ≡ true → (is_among n xs ≡ true) ⊎ (is_among n ys ≡ true)
@@ -144,15 +115,18 @@ module _ (source : List ℕ) where
       go : (is_among name (declared source front) ≡ true) ⊎ (is_among name (declared_by o.role (text_of source o.span)) ≡ true)
           → (is_among name (declared source front) ≡ true → is_some (global_in source name front) ≡ true) → is_some (global_in source name (o ∷ front)) ≡ true
       go (inl h) later = some_first (global_in source name front) _ (later h)
-      go (inr h) later = some_second (global_in source name front) _ (own_found o.role (text_of source o.span) name (length front) (shared_in front) (tasks_in front) h)
+      go (inr h) later =
+          some_second (global_in source name front) _ (own_found o.role (text_of source o.span) name (length front) (shared_in front) (tasks_in front) h)
 
   -- what is found in front is found in all
-  found_behind : (name : List ℕ) (behind front : List Occurrence) → is_some (global_in source name front) ≡ true → global_in source name (behind ++ front) ≡ global_in source name front
+  found_behind : (name : List ℕ) (behind front : List Occurrence) → is_some (global_in source name front) ≡ true
+      → global_in source name (behind ++ front) ≡ global_in source name front
   found_behind name [] front h = refl
   found_behind name (o ∷ behind) front h = go (global_in source name (behind ++ front)) (global_in source name front) (found_behind name behind front h) h
     where
       go : (a b : Option Global) → a ≡ b → is_some b ≡ true
-          → option_or a (if_named (bytes_eq (text_of source o.span) name) (global_with o.role (length (behind ++ front)) (shared_in (behind ++ front)) (tasks_in (behind ++ front)))) ≡ b
+          → option_or a (if_named (bytes_eq (text_of source o.span) name)
+          (global_with o.role (length (behind ++ front)) (shared_in (behind ++ front)) (tasks_in (behind ++ front)))) ≡ b
       go None b e h = absurd (let none : is_some b ≡ false = ap is_some (sym e) in cc)
       go (Some g) b e h = e
 
@@ -163,7 +137,8 @@ module _ (source : List ℕ) where
   -- ---- names
 
   -- a declared name that isn't repeated differs from all that are declared in front of it
-  fresh : (all behind front : List Occurrence) (name : List ℕ) → all ≡ behind ++ front → stands_in_front (length front) (global_in source name all) ≡ false → is_among name (declared source front) ≡ false
+  fresh : (all behind front : List Occurrence) (name : List ℕ) → all ≡ behind ++ front → stands_in_front (length front) (global_in source name all) ≡ false
+      → is_among name (declared source front) ≡ false
   fresh all behind front name e h = go (is_among name (declared source front)) refl
     where
       go : (b : Bool) → is_among name (declared source front) ≡ b → b ≡ false
@@ -176,29 +151,31 @@ module _ (source : List ℕ) where
           absurd (let no : true ≡ false = sym there ∙ h in cc)
 
   repeated : (o : Occurrence) (a b : Bool) → name_fault_if source o a b ≡ None → a ≡ false
-  repeated o a b h = no_fault a _ (none_first (fault_if a _) (fault_if b _) h)
+  repeated o a b h = no_fault a _ (both_none (fault_if a _) (fault_if b _) h).0
 
   by_role : (r : Role) (text : List ℕ) (ns : List (List ℕ)) (global : Bool) (tasks : ℕ) (local : Option Local) → are_different [] ns ≡ true
       → is_repeated r global tasks local ≡ false → (global ≡ false → is_among text ns ≡ false) → are_different [] (ns ++ declared_by r text) ≡ true
-  by_role (role.Shared of e) text ns global tasks local h k free = different_more [] ns text h (free (neither global (is_some local) k).0)
-  by_role role.Task text ns global tasks local h k free = different_more [] ns text h (free (neither global (is_some local) k).0)
-  by_role (role.Local of begin end) text ns global tasks local h k free = ap (are_different []) (append_none ns) ∙ h
-  by_role role.Scalar text ns global tasks local h k free = ap (are_different []) (append_none ns) ∙ h
-  by_role role.Element text ns global tasks local h k free = ap (are_different []) (append_none ns) ∙ h
-  by_role role.Counter text ns global tasks local h k free = ap (are_different []) (append_none ns) ∙ h
-  by_role role.Target text ns global tasks local h k free = ap (are_different []) (append_none ns) ∙ h
-  by_role (role.Count c) text ns global tasks local h k free = ap (are_different []) (append_none ns) ∙ h
+  by_role (role.Shared of e) text ns global tasks local h k free = different_more [] ns text h (free (or_parts global (is_some local) k).0)
+  by_role role.Task text ns global tasks local h k free = different_more [] ns text h (free (or_parts global (is_some local) k).0)
+  by_role (role.Local of begin end) text ns global tasks local h k free = ap (are_different []) (append-nil ns) ∙ h
+  by_role role.Scalar text ns global tasks local h k free = ap (are_different []) (append-nil ns) ∙ h
+  by_role role.Element text ns global tasks local h k free = ap (are_different []) (append-nil ns) ∙ h
+  by_role role.Counter text ns global tasks local h k free = ap (are_different []) (append-nil ns) ∙ h
+  by_role role.Target text ns global tasks local h k free = ap (are_different []) (append-nil ns) ∙ h
+  by_role (role.Count c) text ns global tasks local h k free = ap (are_different []) (append-nil ns) ∙ h
 
   unrepeated : (all front : List Occurrence) (o : Occurrence) → name_fault source all o front ≡ None
-      → is_repeated o.role (stands_in_front (length front) (global_in source (text_of source o.span) all)) (tasks_in front) (local_in source (text_of source o.span) front) ≡ false
+      → is_repeated o.role (stands_in_front (length front) (global_in source (text_of source o.span) all)) (tasks_in front)
+      (local_in source (text_of source o.span) front) ≡ false
   unfolding name_fault
   unrepeated all front o h = repeated o _ (is_unknown o.role (symbol_at source all o front)) h
 
-  pub different : (all behind front : List Occurrence) → all ≡ behind ++ front → first_fault (name_fault source all) front ≡ None → are_different [] (declared source front) ≡ true
+  pub different : (all behind front : List Occurrence) → all ≡ behind ++ front → first_fault (name_fault source all) front ≡ None
+      → are_different [] (declared source front) ≡ true
   different all behind [] e h = refl
   different all behind (o ∷ front) e h =
-      let here = unrepeated all front o (none_second (first_fault (name_fault source all) front) (name_fault source all o front) h) in
-      let rest = none_first (first_fault (name_fault source all) front) (name_fault source all o front) h in
+      let here = unrepeated all front o (both_none (first_fault (name_fault source all) front) (name_fault source all o front) h).1 in
+      let rest = (both_none (first_fault (name_fault source all) front) (name_fault source all o front) h).0 in
       let there : all ≡ (behind ++ o ∷ []) ++ front = e ∙ sym (append_assoc behind (o ∷ []) front) in
       by_role o.role (text_of source o.span) (declared source front) _ (tasks_in front) (local_in source (text_of source o.span) front)
       (different all (behind ++ o ∷ []) front there rest) here
@@ -241,8 +218,8 @@ module _ (source : List ℕ) where
   pub have_words : (all front : List Occurrence) → first_fault (use_fault source all) front ≡ None → HaveWords front
   have_words all [] h = tt
   have_words all (o ∷ front) h = (
-    used all front o (none_second (first_fault (use_fault source all) front) (use_fault source all o front) h),
-    have_words all front (none_first (first_fault (use_fault source all) front) (use_fault source all o front) h),
+    used all front o (both_none (first_fault (use_fault source all) front) (use_fault source all o front) h).1,
+    have_words all front (both_none (first_fault (use_fault source all) front) (use_fault source all o front) h).0,
   )
 
   front_words : (xs : List Occurrence) (o : Occurrence) → HaveWords (xs ++ o ∷ []) → HaveWords xs × RoleHasWords o.role

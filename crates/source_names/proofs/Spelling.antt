@@ -1,24 +1,28 @@
 -- The token of a name spells a name.
-use Rattle.std.proofs.Common.{◌≡◌, ℕ, zero, suc, ◌+◌, ◌-◌, ◌≤◌, ◌<◌, Bool, true, false, cond, ◌&&◌, ◌||◌, ◌==◌, not, nat_lt, nat_le, List, [], ◌∷◌, ◌++◌, length, drop, take, slice_index, refl, sym, ap, ◌∙◌, subst, arith, Option, Some, None}
+use Rattle.std.proofs.Common.{◌≡◌, ℕ, zero, suc, ◌+◌, ◌-◌, ◌≤◌, ◌<◌, Bool, true, false, cond, ◌&&◌, ◌||◌, ◌==◌, not, nat_lt, nat_le, List, [], ◌∷◌, ◌++◌}
+use Rattle.std.proofs.Common.{length, drop, take, slice_index, refl, sym, ap, ◌∙◌, subst, arith, Option, Some, None}
 use Rattle.std.specs.List.{prefix_len, list_all}
 use Rattle.std.specs.Char.{is_ascii_digit}
 use Rattle.std.specs.Str.{bytes_eq}
 use Rattle.std.proofs.lemmas.Bool.Decides.{nat_tests}
 use Rattle.std.proofs.lemmas.Slice.Eq.{bytes_eq-Decides}
+use Rattle.std.proofs.lemmas.Bool.{and_from}
 use Rattle.alp_text.specs.declared.lines.Span.{Span}
 use Rattle.task_lex.specs.declared.token.Token.{Token}
 use Rattle.task_lex.specs.declared.token.Kind.{Kind}
-use Rattle.task_lex.specs.declared.token.Kind.TheVariants as k
 use Rattle.task_lex.specs.declared.piece.Piece.{Piece}
-use Rattle.task_lex.specs.declared.piece.Piece.TheVariants as piece
 use Rattle.task_lex.specs.declared.step.Place.{Place}
 use Rattle.task_lex.specs.declared.step.Step.{Step}
 use Rattle.task_lex.specs.declared.step.Step.TheVariants.{Skip, Take, Fails}
-use Rattle.task_lex.specs.declared.fault.Flaw.TheVariants as flaw
-use Rattle.task_lex.specs.Pieces.{is_blank, is_letter, is_word, is_in_line, spelling, singles, pairs, spelled as spelled_kind, single_piece, marked, mark, word_kind, number, piece_of}
-use Rattle.task_lex.specs.Lex.{Lexed, tokens, fault, with_front, after, step, step_by, counted, numbered, is_opening, is_end, depth_after, width_after, lex_within, lex_from, lexed}
+use Rattle.task_lex.specs.Pieces.{is_blank, is_letter, is_word, is_in_line, spelling, singles, pairs, spelled as spelled_kind, single_piece, marked, mark}
+use Rattle.task_lex.specs.Pieces.{word_kind, number, piece_of}
+use Rattle.task_lex.specs.Lex.{Lexed, tokens, fault, with_front, after, step, step_by, counted, numbered, is_opening, is_end, depth_after, width_after}
+use Rattle.task_lex.specs.Lex.{lex_within, lex_from, lexed}
 use Rattle.task_ast.specs.declared.SharedDeclaration.{SharedDeclaration}
 use Rattle.task_ast.specs.Tree.{Task, Program}
+use Rattle.task_lex.specs.declared.token.Kind.TheVariants as k
+use Rattle.task_lex.specs.declared.piece.Piece.TheVariants as piece
+use Rattle.task_lex.specs.declared.fault.Flaw.TheVariants as flaw
 use Rattle.task_parse.specs.Grammar.{IsShared, shared, IsTask, task, IsProgram, program, Row}
 use Rattle.std.specs.Prelude.{All}
 use Rattle.std.proofs.lemmas.List.Elements.{All-nil, All-cons}
@@ -38,10 +42,6 @@ same_byte b h = grind (arith, nat_tests, h)
 
 -- ---- a word
 
-and : (a b : Bool) → a ≡ true → b ≡ true → (a && b) ≡ true
-and true b h k = k
-and false b h k = cc
-
 take_more : (x : ℕ) (xs : List ℕ) (n : ℕ) → take (1 + n) (x ∷ xs) ≡ x ∷ take n xs
 take_more x xs n = let e : 1 + n ≡ suc n = omega arith in ap (λ m. take m (x ∷ xs)) e
 
@@ -51,7 +51,7 @@ all_name_bytes (x ∷ xs) = go (is_word x) refl (all_name_bytes xs)
   where
     go : (b : Bool) → is_word x ≡ b → list_all is_name_byte (take (prefix_len is_word xs) xs) ≡ true
         → list_all is_name_byte (take (cond b (1 + prefix_len is_word xs) 0) (x ∷ xs)) ≡ true
-    go true e more = ap (list_all is_name_byte) (take_more x xs (prefix_len is_word xs)) ∙ and (is_name_byte x) _ (same_byte x e) more
+    go true e more = ap (list_all is_name_byte) (take_more x xs (prefix_len is_word xs)) ∙ and_from (is_name_byte x) _ (same_byte x e) more
     go false e more = refl
 
 word_is_name : (xs : List ℕ) → is_letter (slice_index xs 0) ≡ true → prefix_len is_word xs ≤ 31 → is_name (take (prefix_len is_word xs) xs) ≡ true
@@ -64,7 +64,7 @@ word_is_name (x ∷ xs) h l =
     let few : n + 1 ≤ 31 = omega (arith, count, l) in
     let most : length (take n xs) ≤ n = at_most n xs in
     let fits : nat_le (length (x ∷ take n xs)) 31 ≡ true = grind (arith, nat_tests, few, most) in
-    ap is_name front ∙ and _ _ fits (and _ _ (same_letter x h) (ap (list_all is_name_byte) (sym front) ∙ all_name_bytes (x ∷ xs)))
+    ap is_name front ∙ and_from _ _ fits (and_from _ _ (same_letter x h) (ap (list_all is_name_byte) (sym front) ∙ all_name_bytes (x ∷ xs)))
   where
     at_most : (n : ℕ) (ys : List ℕ) → length (take n ys) ≤ n
     at_most zero ys = omega arith
@@ -149,7 +149,9 @@ module _ (source : List ℕ) where
   unfolding counted
   counted_takes p n kind value named = go (is_opening kind && p.depth == 64) (not (is_end kind) && p.width == 256)
     where
-      go : (a b : Bool) → Takes (cond a (Fails flaw.TooDeep) (cond b (Fails flaw.TooWide) (Take (record { kind = kind; span = record { from = p.at; to = p.at + n }; value = value }) (record { at = p.at + n; depth = depth_after kind (p.depth); width = width_after kind (p.width) }))))
+      go : (a b : Bool) → Takes (cond a (Fails flaw.TooDeep)
+          (cond b (Fails flaw.TooWide) (Take (record { kind = kind; span = record { from = p.at; to = p.at + n }; value = value })
+          (record { at = p.at + n; depth = depth_after kind (p.depth); width = width_after kind (p.width) }))))
       go true b = tt
       go false true = tt
       go false false = let size : p.at + n - p.at ≡ n = omega arith in λ is. ap (λ m. is_name (take m (drop p.at source))) size ∙ named is

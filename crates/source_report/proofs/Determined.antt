@@ -1,5 +1,6 @@
 -- The report that `mean` writes is that of a source run on consecutive spans of the readings, with its determined end.
-use Rattle.std.proofs.Common.{◌≡◌, ◌≤◌, ◌<◌, ℕ, zero, suc, ◌+◌, ◌-◌, List, [], ◌∷◌, ◌++◌, length, take, drop, map, sum_by, arith, refl, ap, sym, ◌∙◌, subst, Option, Some, append_assoc, zero-add, length-append, length-drop, drop-drop, slice_get, get_or, All}
+use Rattle.std.proofs.Common.{◌≡◌, ◌≤◌, ◌<◌, ℕ, zero, suc, ◌+◌, ◌-◌, List, [], ◌∷◌, ◌++◌, length, take, drop, map, sum_by, arith, refl, ap, sym, ◌∙◌, subst}
+use Rattle.std.proofs.Common.{Option, Some, append_assoc, zero-add, length-append, length-drop, drop-drop, slice_get, get_or, All, append-nil}
 use Rattle.std.proofs.lemmas.List.Elements.{All-get_or}
 use Rattle.std.proofs.lemmas.Option.{slice_get-get_or}
 use Rattle.std.proofs.lemmas.List.Sums.{sum_by-cons}
@@ -12,7 +13,8 @@ use Rattle.task_ast.specs.declared.names.VariableName.{VariableName}
 use Rattle.task_ast.specs.declared.names.TaskName.{TaskName}
 use Rattle.source_values.specs.Values.{◌>>?◌}
 use Rattle.source_values.specs.Statements.{Outcome, goes_on, to_task, short, run_block}
-use Rattle.source_values.specs.Runs.{CheckedProgram, IsRunnable, EndsWell, TransitionComes, fresh_attempt, body_of, attempt_of, Completion, completion_of, State, Transition, exactly, transition_of, source_run, state_after, state_behind, first_state}
+use Rattle.source_values.specs.Runs.{CheckedProgram, IsRunnable, EndsWell, TransitionComes, fresh_attempt, body_of, attempt_of, Completion, completion_of}
+use Rattle.source_values.specs.Runs.{State, Transition, exactly, transition_of, source_run, state_after, state_behind, first_state}
 use Rattle.source_values.proofs.Completions.{readings_left_over_lem}
 use Rattle.source_report.specs.SourceReport.{Committed, transition_lines, source_report, readings_of, IsConsecutive, position_after, IsEnding, IsMeanReport}
 use Rattle.source_report.specs.MeanReport.{report_from, mean_report}
@@ -27,10 +29,6 @@ record SpanTakes (trace used left : List ℕ) (from : ℕ) : Type 0 where
   onward : from ≤ to
   inside : to ≤ length trace
 
-append_nil : (xs : List ℕ) → xs ++ [] ≡ xs
-append_nil [] = refl
-append_nil (x ∷ xs) = ap (λ t. x ∷ t) (append_nil xs)
-
 span_takes : (trace used left : List ℕ) (from : ℕ) → from ≤ length trace → drop from trace ≡ used ++ left → SpanTakes trace used left from
 span_takes trace used left from h e =
     let len : length (drop from trace) ≡ length used + length left = ap length e ∙ length-append used left in
@@ -39,7 +37,7 @@ span_takes trace used left from h e =
     record {
       to = length trace - length left;
       to_is = refl;
-      taken = ap (λ n. take n (drop from trace)) n_is ∙ ap (take (length used)) e ∙ take-append_seam used left ∙ sym (append_nil used);
+      taken = ap (λ n. take n (drop from trace)) n_is ∙ ap (take (length used)) e ∙ take-append_seam used left ∙ sym (append-nil used);
       rest = ap (λ n. drop n trace) to_is ∙ sym (drop-drop (length used) from trace) ∙ ap (drop (length used)) e ∙ drop-append_seam used left;
       onward = omega arith;
       inside = omega arith;
@@ -65,7 +63,8 @@ record IsReportFrom (n : ℕ) (source_text : List ℕ) (program : CheckedProgram
   reason : Reason
   consecutive : IsConsecutive at (length trace) spans
   run : source_run program s (map (readings_of trace) spans) ≡ Some transitions
-  ending : IsEnding reason n (length spans) (attempt_of program (state_behind s transitions).task (state_behind s transitions).shared (drop (position_after at spans) trace))
+  ending : IsEnding reason n (length spans)
+      (attempt_of program (state_behind s transitions).task (state_behind s transitions).shared (drop (position_after at spans) trace))
   lines : text ≡ source_report source_text program (k + 1) spans transitions
       ++ end_line reason (k + length spans) (accepted + sum_by (λ t. length t.emitted) transitions) 0
 
@@ -91,7 +90,8 @@ from_here zero text program trace k accepted at s left r i h e = record {
       ∙ ap (λ m. end_line Limit (k + 0) m 0) (let same : accepted ≡ accepted + 0 = omega arith in same);
 }
 from_here (suc n) text program trace k accepted at s left r i h e =
-    go (λ accepted' at' s' left' i' h' e'. from_here n text program trace (k + 1) accepted' at' s' left' r i' h' e') (attempt_of program s.task s.shared left) refl
+    go (λ accepted' at' s' left' i' h' e'. from_here n text program trace (k + 1) accepted' at' s' left' r i' h' e')
+    (attempt_of program s.task s.shared left) refl
   where
     go : (ih : (accepted' at' : ℕ) (s' : State) (left' : List ℕ) → s'.task < length program.tasks → at' ≤ length trace → drop at' trace ≡ left'
         → IsReportFrom n text program trace (k + 1) accepted' at' s' (report_from n text program (length trace) (k + 1) accepted' s'.task s'.shared left'))
@@ -122,7 +122,8 @@ from_here (suc n) text program trace k accepted at s left r i h e =
         let t : Transition = record { from = s.task; next = next; before = s.shared; after = c.shared; emitted = c.emitted } in
         let rest = ih (accepted + length c.emitted) takes.to (state_after s t) c.left inside takes.inside takes.rest in
         let from_is : length trace - length left ≡ at = omega (arith, length-drop at trace, ap length e) in
-        let whole : completion_of (attempt_of program s.task s.shared (readings_of trace span)) ≡ Some (record { next = next; shared = c.shared; emitted = c.emitted; left = [] })
+        let whole : completion_of (attempt_of program s.task s.shared (readings_of trace span)) ≡ Some
+            (record { next = next; shared = c.shared; emitted = c.emitted; left = [] })
         = ap (λ x. completion_of (attempt_of program s.task s.shared x)) takes.taken ∙ law.2 [] in
         let one : transition_of program s (readings_of trace span) ≡ Some t = ap (λ x. x >>? exactly s) whole in
         let run : source_run program s (readings_of trace span ∷ map (readings_of trace) rest.spans) ≡ Some (t ∷ rest.transitions)
@@ -142,7 +143,8 @@ from_here (suc n) text program trace k accepted at s left r i h e =
           run = run;
           ending = one_more rest.reason n (length rest.spans) _ rest.ending;
           lines = report_more (suc n) n text program (length trace) k accepted s.task s.shared left c (omega arith) completes
-              ∙ ap (λ x. transition_lines text program (k + 1) (let span : Committed = record { from = x; to = length trace - length a.left } in span) t ++ behind) from_is
+              ∙ ap (λ x. transition_lines text program (k + 1) (let span : Committed = record { from = x; to = length trace - length a.left } in
+              span) t ++ behind) from_is
               ∙ ap (λ x. transition_lines text program (k + 1) (let span : Committed = record { from = at; to = x } in span) t ++ behind) (sym takes.to_is)
               ∙ ap (λ x. transition_lines text program (k + 1) span t ++ x) rest.lines
               ∙ sym (append_assoc (transition_lines text program (k + 1) span t) (source_report text program (k + 1 + 1) rest.spans rest.transitions) _)
@@ -152,7 +154,8 @@ from_here (suc n) text program trace k accepted at s left r i h e =
               ++ end_line rest.reason (k + suc (length rest.spans)) m 0) words;
         }
 
-pub mean_report_lem : (text : List ℕ) (program : CheckedProgram) (readings : List ℕ) → IsRunnable program → IsMeanReport text program readings (mean_report 10000 text program readings)
+pub mean_report_lem : (text : List ℕ) (program : CheckedProgram) (readings : List ℕ) → IsRunnable program
+    → IsMeanReport text program readings (mean_report 10000 text program readings)
 mean_report_lem text program readings r =
     let report = from_here 10000 text program readings 0 0 0 (first_state program) readings r r.entry (omega arith) refl in
     record {

@@ -1,4 +1,3 @@
-pub mod Emitted
 pub mod Transitions
 pub mod Spans
 pub mod Told

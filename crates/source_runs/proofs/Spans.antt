@@ -114,6 +114,7 @@ pub record IsReadOff (m : MapValue) (cs : List BoardCharge) (b : BoardValue) (r 
   pub since : k.since ≡ (after_all (at_first m b) r.moments).since
   pub pays : (x : World) → Progresses m.words.gate m.bound cs b (first_history m.words.gate x) r → StartsWith b x → EachChargePays m cs b (at_first m b) r
 
+-- the events that are read off moments are those of the effects
 pub read_off : (m : MapValue) (x : World) (cs : List BoardCharge) (b : BoardValue) (r : RunOutcome) → IsMap m → StartsWith b x → IsRunOfWords cs b r
     → IsReadOff m cs b r (observed m.words.gate r.moments (first_history m.words.gate x))
 read_off m x cs b r ok starts run =

@@ -9,14 +9,15 @@ use Rattle.task_ast.specs.declared.names.TaskName.{TaskName}
 use Rattle.image_map.specs.MapValue.{MapValue}
 use Rattle.source_values.specs.Values.{◌>>?◌}
 use Rattle.source_values.specs.Statements.{Outcome, goes_on, to_task, short, block_emits}
-use Rattle.source_values.specs.Runs.{CheckedProgram, State, Transition, Completion, EmitsFit, body_of, task_body, fresh_attempt, attempt_of, completion_of, exactly, transition_of, source_run, state_after, state_behind}
+use Rattle.source_values.specs.Runs.{CheckedProgram, State, Transition, Completion, EmitsFit, body_of, task_body, fresh_attempt, attempt_of, completion_of}
+use Rattle.source_values.specs.Runs.{exactly, transition_of, source_run, state_after, state_behind}
+use Rattle.source_values.proofs.Emitted.{EmitsUpTo, block_up_to}
 use Rattle.source_report.specs.SourceReport.{readings_of}
 use Rattle.crash_rules.specs.Model.{Model}
 use Rattle.crash_rules.specs.History.{Done, done_readings}
 use Rattle.crash_rules.specs.Laws.{SourceRun}
 use Rattle.source_events.specs.Transitions.{StandForTransitions, committed_by}
 use Rattle.source_runs.specs.Sources.{IsOfSource}
-use Rattle.source_runs.proofs.Emitted.{EmitsUpTo, block_up_to}
 
 -- what holds of a transition by the task that makes it
 record IsMadeBy (s : State) (t : Transition) : Type 0 where

@@ -19,6 +19,7 @@ to_task_of (to_task t s) c e =
     let h : record { next = t; shared = s.variables.shared; emitted = s.emitted; left = s.left } ≡ c = cc in
     record { state = s; is = ap (λ t. to_task t s) n; completion = ap (λ t. record { next = t; shared = s.variables.shared; emitted = s.emitted; left = s.left }) (sym n) ∙ h }
 
+-- a completion is the same with any readings behind those that it took
 pub readings_left_over_lem : ReadingsLeftOver
 readings_left_over_lem program task shared readings c e =
     let t = to_task_of (attempt_of program task shared readings) c e in

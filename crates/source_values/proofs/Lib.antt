@@ -1,5 +1,6 @@
 pub mod Choices
 pub mod Completions
+pub mod Emitted
 pub mod Rows
 pub mod Takes
 pub mod Tasks

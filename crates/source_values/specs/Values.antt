@@ -1,5 +1,7 @@
 -- The types and values of expressions: C's arithmetic on 16-bit words, and the rules of the language where C leaves one open.
-use Rattle.std.specs.Prelude.{ℕ, ◌^◌, ◌-◌, ◌/◌, List, [], ◌∷◌, Bool, not, ◌==◌, nat_le, nat_lt, bit_and, bit_or, bit_xor, if◌then◌else◌, Option, Some, None, slice_index, slice_index_or, slice_set}
+use Rattle.std.specs.Prelude.{ℕ, ◌^◌, ◌-◌, ◌/◌, List, [], ◌∷◌, Bool, not, ◌==◌, nat_le, nat_lt, bit_and, bit_or, bit_xor, if◌then◌else◌, Option, Some, None}
+use Rattle.std.specs.Prelude.{slice_index, slice_index_or, slice_set}
+pub use Rattle.alp_text.specs.Sequence.{◌>>?◌}
 use Rattle.alp_words.specs.Words.{word_sum, word_difference, word_product, quotient, remainder, arithmetic_shift, biased, bit}
 use Rattle.task_ast.specs.Tree.{Expression, number, name, element, sense, unary, binary, shift, short_circuit}
 use Rattle.task_ast.specs.declared.WordType.{WordType}
@@ -7,7 +9,8 @@ use Rattle.task_ast.specs.declared.WordType.TheVariants.{Unsigned, Int}
 use Rattle.task_ast.specs.declared.UnaryOperator.{UnaryOperator}
 use Rattle.task_ast.specs.declared.UnaryOperator.TheVariants.{Negate, Complement, Not}
 use Rattle.task_ast.specs.declared.BinaryOperator.{BinaryOperator}
-use Rattle.task_ast.specs.declared.BinaryOperator.TheVariants.{Multiply, Divide, Remainder, Add, Subtract, Less, LessEqual, Greater, GreaterEqual, Equal, NotEqual, And, Xor, Or}
+use Rattle.task_ast.specs.declared.BinaryOperator.TheVariants.{Multiply, Divide, Remainder, Add, Subtract, Less, LessEqual, Greater, GreaterEqual, Equal}
+use Rattle.task_ast.specs.declared.BinaryOperator.TheVariants.{NotEqual, And, Xor, Or}
 use Rattle.task_ast.specs.declared.ShiftOperator.{ShiftOperator}
 use Rattle.task_ast.specs.declared.ShiftOperator.TheVariants.{Left, Right}
 use Rattle.task_ast.specs.declared.ShortCircuitOperator.{ShortCircuitOperator}
@@ -15,12 +18,6 @@ use Rattle.task_ast.specs.declared.ShortCircuitOperator.TheVariants.{And as Both
 use Rattle.task_ast.specs.declared.names.Variable.{Variable}
 use Rattle.task_ast.specs.declared.names.Variable.TheVariants.{Shared, Local}
 use Rattle.task_ast.specs.declared.names.VariableName.{VariableName}
-
--- goes on with what is there
-infixl 10 ◌>>?◌
-abbrev pub ◌>>?◌ : {A B : Type 0} → Option A → (A → Option B) → Option B
-None >>? f = None
-(Some x) >>? f = f x
 
 -- the words of the variables: of each shared one its words, one for a scalar, in order of declaration; and the locals
 pub record Variables : Type 0 where

@@ -13,42 +13,44 @@ use Rattle.task_lex.specs.declared.token.Kind.TheVariants as k
 use Rattle.task_lex.specs.Lex.{depth_after}
 use Rattle.task_parse.specs.declared.operators.Infix.{Infix}
 use Rattle.task_parse.specs.Parsed.{Expression, Statement, Block, Tested, Task, Program}
-use Rattle.task_parse.specs.Grammar.{prefix_of, infix_of, weakest, type_of, IsExpression, IsGiven, IsStatement, IsElses, IsArm, IsBlock, IsStatements, Row, IsExtent, IsShared, IsTask, IsProgram}
+use Rattle.task_parse.specs.Grammar.{prefix_of, infix_of, weakest, type_of, IsExpression, IsGiven, IsStatement, IsElses, IsArm, IsBlock, IsStatements, Row}
+use Rattle.task_parse.specs.Grammar.{IsExtent, IsShared, IsTask, IsProgram}
 use Rattle.task_parse.specs.Grammar as grammar
 use Rattle.stack_needs.specs.Needs.{ExpressionFits, StatementFits, ChoiceFits, BlockFits}
 use Rattle.stack_needs.proofs.Tokens.{AreSound}
 
 -- ---- tokens that are no brackets
 
-abbrev IsPlain : Kind → Type 0
-IsPlain kind = (n : ℕ) → depth_after kind n ≡ n
+-- as many brackets are open behind a token as before it
+abbrev KeepsDepth : Kind → Type 0
+KeepsDepth kind = (n : ℕ) → depth_after kind n ≡ n
 
-prefix_plain : (kind : Kind) (op : UnaryOperator) → prefix_of kind ≡ Some op → IsPlain kind
-prefix_plain k.Minus op h n = refl
-prefix_plain k.Tilde op h n = refl
-prefix_plain k.Bang op h n = refl
-prefix_plain _ op h n = absurd (cc)
+prefix_keeps : (kind : Kind) (op : UnaryOperator) → prefix_of kind ≡ Some op → KeepsDepth kind
+prefix_keeps k.Minus op h n = refl
+prefix_keeps k.Tilde op h n = refl
+prefix_keeps k.Bang op h n = refl
+prefix_keeps _ op h n = absurd (cc)
 
-type_plain : (kind : Kind) (of : WordType) → type_of kind ≡ Some of → IsPlain kind
-type_plain k.Unsigned of h n = refl
-type_plain k.Int of h n = refl
-type_plain _ of h n = absurd (cc)
+type_keeps : (kind : Kind) (of : WordType) → type_of kind ≡ Some of → KeepsDepth kind
+type_keeps k.Unsigned of h n = refl
+type_keeps k.Int of h n = refl
+type_keeps _ of h n = absurd (cc)
 
-infix_plain : (kind : Kind) (found : ℕ × Infix) → infix_of kind ≡ Some found → IsPlain kind
-infix_plain k.Open found h n = absurd (cc)
-infix_plain k.Close found h n = absurd (cc)
-infix_plain k.OpenSquare found h n = absurd (cc)
-infix_plain k.CloseSquare found h n = absurd (cc)
-infix_plain k.OpenBrace found h n = absurd (cc)
-infix_plain k.CloseBrace found h n = absurd (cc)
-infix_plain _ found h n = refl
+infix_keeps : (kind : Kind) (found : ℕ × Infix) → infix_of kind ≡ Some found → KeepsDepth kind
+infix_keeps k.Open found h n = absurd (cc)
+infix_keeps k.Close found h n = absurd (cc)
+infix_keeps k.OpenSquare found h n = absurd (cc)
+infix_keeps k.CloseSquare found h n = absurd (cc)
+infix_keeps k.OpenBrace found h n = absurd (cc)
+infix_keeps k.CloseBrace found h n = absurd (cc)
+infix_keeps _ found h n = refl
 
 -- behind a token
 behind : (d : ℕ) (t : Token) (ts : List Token) (kind : Kind) → t.kind ≡ kind → AreSound d (t ∷ ts) → AreSound (depth_after kind d) ts
 behind d t ts kind is h = subst (λ kind. AreSound (depth_after kind d) ts) is h.2
 
 -- behind one that is no bracket
-past : (d : ℕ) (t : Token) (ts : List Token) → IsPlain t.kind → AreSound d (t ∷ ts) → AreSound d ts
+past : (d : ℕ) (t : Token) (ts : List Token) → KeepsDepth t.kind → AreSound d (t ∷ ts) → AreSound d ts
 past d t ts plain h = subst (λ n. AreSound n ts) (plain d) h.2
 
 -- behind one that opens or closes a bracket
@@ -89,19 +91,19 @@ expression_fits room j ts e (grammar.brackets o c xs inner is_o is_inner is_c) d
     let i = expression_fits room weakest xs inner is_inner (d + 1) beneath (c ∷ rest) (deep, omega (arith, l.1)) b in
     (i.0, closed d rest (behind (d + 1) c rest k.Close is_c i.1))
 expression_fits room j ts e (grammar.prefixed t op xs inner is is_inner) d beneath rest l h =
-    expression_fits room 0 xs inner is_inner d beneath rest l (past d t (xs ++ rest) (prefix_plain t.kind op is) h)
+    expression_fits room 0 xs inner is_inner d beneath rest l (past d t (xs ++ rest) (prefix_keeps t.kind op is) h)
 expression_fits room j ts e (grammar.tighter i xs inner is) d beneath rest l h = expression_fits room i xs inner is d beneath rest (l.0, omega (arith, l.1)) h
 expression_fits room j ts e (grammar.joined i t op xs ys a b is_a is is_b) d beneath rest l h =
     let x = expression_fits room (suc i) xs a is_a d beneath (t ∷ (ys ++ rest)) l (apart d xs (t ∷ ys) rest h) in
-    let y = expression_fits room i ys b is_b d (suc beneath) rest (l.0, omega (arith, l.1)) (past d t (ys ++ rest) (infix_plain t.kind _ is) x.1) in
+    let y = expression_fits room i ys b is_b d (suc beneath) rest (l.0, omega (arith, l.1)) (past d t (ys ++ rest) (infix_keeps t.kind _ is) x.1) in
     ((x.0, y.0), y.1)
 expression_fits room j ts e (grammar.short_circuited i t op xs ys a b is_a is is_b) d beneath rest l h =
     let x = expression_fits room (suc i) xs a is_a d beneath (t ∷ (ys ++ rest)) l (apart d xs (t ∷ ys) rest h) in
-    let y = expression_fits room i ys b is_b d beneath rest (l.0, omega (arith, l.1)) (past d t (ys ++ rest) (infix_plain t.kind _ is) x.1) in
+    let y = expression_fits room i ys b is_b d beneath rest (l.0, omega (arith, l.1)) (past d t (ys ++ rest) (infix_keeps t.kind _ is) x.1) in
     ((x.0, y.0), y.1)
 expression_fits room j ts e (grammar.shifted i t n op xs a is_a is is_n) d beneath rest l h =
     let x = expression_fits room (suc i) xs a is_a d beneath (t ∷ n ∷ rest) l (apart d xs (t ∷ n ∷ []) rest h) in
-    let y = past d t (n ∷ rest) (infix_plain t.kind _ is) x.1 in
+    let y = past d t (n ∷ rest) (infix_keeps t.kind _ is) x.1 in
     ((x.0, y.1), behind d n rest k.Number is_n y)
 
 given_fits : (room : ℕ) (ts : List Token) (value : Expression) → IsGiven ts value → (d beneath : ℕ) (rest : List Token) → HasRoom room d beneath weakest
@@ -126,9 +128,9 @@ module _ (room : ℕ) (enough : 652 ≤ room) where
     statement_fits : (ts : List Token) (s : Statement) → IsStatement ts s → (d : ℕ) (rest : List Token) → d ≤ 64 → AreSound d (ts ++ rest)
         → StatementFits room s × AreSound d rest
     statement_fits ts s (grammar.declare t n z of is_t is_n is_z) d rest l h =
-        (tt, behind d z rest k.Semicolon is_z (behind d n (z ∷ rest) k.Name is_n (past d t (n ∷ z ∷ rest) (type_plain t.kind of is_t) h)))
+        (tt, behind d z rest k.Semicolon is_z (behind d n (z ∷ rest) k.Name is_n (past d t (n ∷ z ∷ rest) (type_keeps t.kind of is_t) h)))
     statement_fits ts s (grammar.declare_as t n of xs value is_t is_n is) d rest l h =
-        given_fits room xs value is d 0 rest (roomy d l) (behind d n (xs ++ rest) k.Name is_n (past d t (n ∷ (xs ++ rest)) (type_plain t.kind of is_t) h))
+        given_fits room xs value is d 0 rest (roomy d l) (behind d n (xs ++ rest) k.Name is_n (past d t (n ∷ (xs ++ rest)) (type_keeps t.kind of is_t) h))
     statement_fits ts s (grammar.assign n xs value is_n is) d rest l h =
         given_fits room xs value is d 0 rest (roomy d l) (behind d n (xs ++ rest) k.Name is_n h)
     statement_fits ts s (grammar.store n o c xs ys index value is_n is_o is_index is_c is) d rest l h =
@@ -232,7 +234,7 @@ module _ (room : ℕ) (enough : 652 ≤ room) where
   shared_passes ts s (grammar.shared h t n z of xs found is_h is_t is_n is is_z) d rest sound =
       let tail = (xs ++ z ∷ []) ++ rest in
       let a = behind d h (t ∷ n ∷ tail) k.Shared is_h sound in
-      let b = past d t (n ∷ tail) (type_plain t.kind of is_t) a in
+      let b = past d t (n ∷ tail) (type_keeps t.kind of is_t) a in
       let c = apart d xs (z ∷ []) rest (behind d n tail k.Name is_n b) in
       behind d z rest k.Semicolon is_z (extent_passes xs found is d (z ∷ rest) c)
 

@@ -50,6 +50,7 @@ tasks_there room (task ∷ tasks) h =
     (block_there room task.body (All-head (λ task. BlockFits room task.body) (task_back task) (map task_back tasks) h))
     (tasks_there room tasks (All-tail (λ task. BlockFits room task.body) (task_back task) (map task_back tasks) h))
 
+-- the expressions of an accepted source have room, and its numbers are words
 pub sources_fit : SourcesFit
 sources_fit text program checks =
     let words = checks.parses.words in

@@ -1,5 +1,6 @@
 -- The tokens of a text: no more than 64 brackets are open behind any of them, and each number is a word.
-use Rattle.std.proofs.Common.{◌≡◌, ℕ, zero, suc, ◌+◌, ◌-◌, ◌≤◌, Bool, true, false, cond, ◌&&◌, ◌==◌, not, nat_lt, nat_le, List, [], ◌∷◌, length, drop, take, refl, subst, arith, Option, Some, None, Result, Ok, Err}
+use Rattle.std.proofs.Common.{◌≡◌, ℕ, zero, suc, ◌+◌, ◌-◌, ◌≤◌, Bool, true, false, cond, ◌&&◌, ◌==◌, not, nat_lt, nat_le, List, [], ◌∷◌, length, drop, take}
+use Rattle.std.proofs.Common.{refl, subst, arith, Option, Some, None, Result, Ok, Err}
 use Rattle.alp_words.specs.Words.{IsWord}
 use Rattle.alp_text.specs.Numbers.{number_of}
 use Rattle.alp_text.specs.declared.numbers.NumberFault.{NumberFault}
@@ -13,7 +14,9 @@ use Rattle.task_lex.specs.declared.step.Step.{Step}
 use Rattle.task_lex.specs.declared.step.Step.TheVariants.{Skip, Take, Fails}
 use Rattle.task_lex.specs.declared.fault.Flaw.TheVariants as flaw
 use Rattle.task_lex.specs.Pieces.{is_zero_led, to_65535, piece_of, number, word_kind}
-use Rattle.task_lex.specs.Lex.{Lexed, tokens, fault, with_front, after, step, step_by, counted, numbered, is_opening, is_closing, is_end, depth_after, width_after, lex_within, lex_from, lexed}
+use Rattle.task_lex.specs.Lex.{Lexed, tokens, fault, with_front, after, step, step_by, counted, numbered, is_opening, is_closing, is_end, depth_after}
+use Rattle.task_lex.specs.Lex.{width_after, lex_within, lex_from, lexed}
+use Rattle.task_lex.proofs.Bounds.{deep}
 
 -- behind so many open brackets, tokens with no more than 64 open brackets behind any of them, and with words for numbers
 abbrev pub AreSound : ℕ → List Token → Type 0
@@ -39,11 +42,6 @@ number_is_word w value h = go (is_zero_led w) h
     go false h = to_word (number_of w) value h
 
 -- ---- steps
-
-deep : (opens closes : Bool) (depth : ℕ) → depth ≤ 64 → (opens && depth == 64) ≡ false → cond opens (depth + 1) (cond closes (depth - 1) depth) ≤ 64
-deep true closes depth le h = let other : (depth == 64) ≡ false = h in grind arith
-deep false true depth le h = omega arith
-deep false false depth le h = le
 
 -- what a step takes is sound, and counts the brackets on
 abbrev StepSound : Place → Step → Type 0
@@ -114,6 +112,7 @@ module _ (source : List ℕ) where
       sound_if (p.depth) (nat_lt (p.at) (length source)) _
       (sound_after (lex_within source n) p (step source p) depth (step_sound source p depth) (λ q d. sound n q d))
 
+  -- lexed tokens have sound brackets
   pub are_sound : (ts : List Token) → lexed source ≡ tokens ts → AreSound 0 ts
   unfolding lex_from
   are_sound ts h = subst (Sound 0) h (sound (suc (length source - 0)) (record { at = 0; depth = 0; width = 0 }) (omega arith))

@@ -2,9 +2,10 @@
 use Rattle.std.proofs.Common.{◌≡◌, ℕ, List, [], ◌∷◌, ◌++◌, sym, ap, ◌∙◌, subst, true, append_assoc, All}
 use Rattle.fram_board.specs.Effects.{Effect, Store}
 use Rattle.machine_effects.specs.World.{World, world_after_one, world_after, fram_after, readings_taken, EachStore}
+use Rattle.machine_effects.proofs.Worlds.{readings_taken-append, world_after-append, each_store-append}
 use Rattle.runtime_effects.specs.Places.{CopyPair}
 use Rattle.crash_rules.specs.Model.{Outcome, Ends, Short, ProgramEffects, program_effects, HoldsThroughout, IsWord, IsElsewhere, Model, AttemptContract}
-use Rattle.crash_rules.proofs.Lists.{world_after-append, world_fram, readings_taken-append, each_both, holds-append}
+use Rattle.crash_rules.proofs.Lists.{world_fram, holds-append}
 use Rattle.stands_for.specs.Layout.{ProgramPlaces, StateView, AreApart}
 use Rattle.stands_for.specs.StandsFor.{UndecidedAt}
 use Rattle.stands_for.specs.Program.{behind_start, ProgramParts, attempt_effects, program_model, StartContract, TasksContract}
@@ -20,7 +21,7 @@ module _ {St : Type 0} (m : Model St) where
       record {
         before = st ++ c.before;
         is = ap (behind_start st) c.is ∙ ap (λ z. program_effects z true) (sym (append_assoc st c.before (Store m.gate 1 ∷ [])));
-        elsewhere = each_both (IsElsewhere m.gate) st c.before off c.elsewhere;
+        elsewhere = each_store-append (IsElsewhere m.gate) st c.before off c.elsewhere;
         reads = ap (λ z. z ++ left) none ∙ c.reads;
         undecided = holds-append (m.Undecided s) st c.before x th c.undecided;
         decided = subst (λ z. m.Decided s next (world_after_one (Store m.gate 1) z)) (sym (world_after-append st c.before x)) c.decided;
@@ -29,7 +30,7 @@ module _ {St : Type 0} (m : Model St) where
   in_front s x rs st Short r tk off th c =
       record {
         is = c.is;
-        elsewhere = each_both (IsElsewhere m.gate) st r.effects off c.elsewhere;
+        elsewhere = each_store-append (IsElsewhere m.gate) st r.effects off c.elsewhere;
         undecided = holds-append (m.Undecided s) st r.effects x th c.undecided;
       }
 

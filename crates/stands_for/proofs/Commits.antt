@@ -4,12 +4,13 @@ use Rattle.std.proofs.lemmas.Bool.{cases_eq}
 use Rattle.std.specs.List.{slice_index}
 use Rattle.fram_board.specs.Effects.{Effect, Store, Send}
 use Rattle.machine_effects.specs.World.{World, put, world_after_one, world_after, readings_taken, EachStore}
+use Rattle.machine_effects.proofs.Worlds.{readings_taken-append, world_after-append, each_store-append, put_same, put_other}
 use Rattle.runtime_effects.specs.Places.{CopyPair, listed}
 use Rattle.runtime_effects.specs.Stages.{copied_home, sends, emits_sent, commit_effects}
 use Rattle.runtime_effects.specs.Needs.{IsCopied, CanCommit}
+use Rattle.runtime_effects.proofs.Sends.{sends_store}
 use Rattle.crash_rules.specs.Model.{HoldsThroughout, IsElsewhere}
-use Rattle.crash_rules.proofs.Lists.{world_after-append, readings_taken-append, each_both, holds-append}
-use Rattle.crash_rules.proofs.Observed.{put_same, put_other}
+use Rattle.crash_rules.proofs.Lists.{holds-append}
 use Rattle.stands_for.specs.Layout.{ProgramPlaces, StateView, IsSharedWord, IsAmong, AreApart, HaveRoom}
 use Rattle.stands_for.specs.StandsFor.{HoldsWords, RestsAt, DecidedWith, DecidedFrom}
 use Rattle.stands_for.specs.Program.{IsCommitStore}
@@ -40,11 +41,6 @@ copied_takes (q ∷ qs) f = copied_takes qs (put f q.home (f q.copy))
 sends_take : (n k p : ℕ) (f : ℕ → ℕ) → readings_taken (sends n k p f) ≡ []
 sends_take zero k p f = refl
 sends_take (suc n) k p f = sends_take n ((k + 1) % 0x10000) (p + 2) f
-
--- sends store nothing
-sends_store : (P : ℕ → ℕ → Type 0) (n k p : ℕ) (f : ℕ → ℕ) → EachStore P (sends n k p f)
-sends_store P zero k p f = tt
-sends_store P (suc n) k p f = (tt, sends_store P n ((k + 1) % 0x10000) (p + 2) f)
 
 copied_store : (P : ℕ → ℕ → Type 0) (qs : List CopyPair) (f : ℕ → ℕ) → ((q : CopyPair) (w : ℕ) → IsAmong qs q → P q.home w) → EachStore P (copied_home qs f)
 copied_store P [] f h = tt
@@ -197,8 +193,8 @@ module _ {St : Type 0} (l : ProgramPlaces) (apart : AreApart l) (room : HaveRoom
       → ((w : ℕ) → P l.runtime.words.current_task w) → ((w : ℕ) → P l.runtime.words.base w) → EachStore P (commit_before x.fram)
   commit_stores_so P x d homes cur base =
       let f = x.fram in
-      each_both P (copied_home (listed l.runtime f) f) _ (copied_store P (listed l.runtime f) f (λ q w h. homes q.home w (d.decided.homes q h)))
-      (each_both P (emits_sent l.runtime f) _ (sends_store P (f l.runtime.words.emit_count) (f l.runtime.words.sent_base) l.runtime.emits f)
+      each_store-append P (copied_home (listed l.runtime f) f) _ (copied_store P (listed l.runtime f) f (λ q w h. homes q.home w (d.decided.homes q h)))
+      (each_store-append P (emits_sent l.runtime f) _ (sends_store P (f l.runtime.words.emit_count) (f l.runtime.words.sent_base) l.runtime.emits f)
       (cur _, (base _, tt)))
 
   pub commit_elsewhere : (x : World) → DecidedFrom l v s next x → EachStore (IsElsewhere l.runtime.words.gate) (commit_before x.fram)
@@ -211,7 +207,7 @@ module _ {St : Type 0} (l : ProgramPlaces) (apart : AreApart l) (room : HaveRoom
       → EachStore P (commit_effects l.runtime x.fram)
   commit_stores_all P x d homes cur base gate =
       subst (EachStore P) (sym (commit_is x.fram))
-      (each_both P (commit_before x.fram) (Store l.runtime.words.gate 0 ∷ []) (commit_stores_so P x d homes cur base) (gate 0, tt))
+      (each_store-append P (commit_before x.fram) (Store l.runtime.words.gate 0 ∷ []) (commit_stores_so P x d homes cur base) (gate 0, tt))
 
   pub commit_stores : (x : World) → DecidedFrom l v s next x → EachStore (IsCommitStore l) (commit_effects l.runtime x.fram)
   commit_stores x d =

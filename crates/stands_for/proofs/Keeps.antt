@@ -4,8 +4,8 @@ use Rattle.std.proofs.lemmas.Bool.{cases_eq}
 use Rattle.std.specs.List.{slice_index}
 use Rattle.fram_board.specs.Effects.{Store, Send}
 use Rattle.machine_effects.specs.World.{World, put, world_after_one}
+use Rattle.machine_effects.proofs.Worlds.{put_same, put_other}
 use Rattle.runtime_effects.specs.Places.{CopyPair, entry_bytes, entries_from}
-use Rattle.crash_rules.proofs.Observed.{put_same, put_other}
 use Rattle.stands_for.specs.Layout.{ProgramPlaces, StateView, IsSharedWord, IsAmong, AreApart, HaveRoom}
 use Rattle.stands_for.specs.StandsFor.{HoldsWords, AcceptedFrom, DecidedWith}
 

@@ -3,11 +3,11 @@ use Rattle.std.proofs.Common.{◌≡◌, ℕ, zero, suc, ◌+◌, ◌*◌, ◌<�
 use Rattle.std.proofs.lemmas.Bool.{cases_eq}
 use Rattle.fram_board.specs.Effects.{Effect, Store, Take, Send}
 use Rattle.machine_effects.specs.World.{World, put, world_after_one, world_after, fram_after, readings_taken, EachStore}
+use Rattle.machine_effects.proofs.Worlds.{readings_taken-append, world_after-append, each_store-append, put_same, put_other}
 use Rattle.runtime_effects.specs.Places.{CopyPair}
 use Rattle.runtime_effects.specs.Stages.{cleared, opening_effects, copied_in, start_effects}
 use Rattle.crash_rules.specs.Model.{HoldsThroughout, IsElsewhere}
-use Rattle.crash_rules.proofs.Lists.{world_after-append, world_fram, readings_taken-append, each_both, holds-append}
-use Rattle.crash_rules.proofs.Observed.{put_same, put_other}
+use Rattle.crash_rules.proofs.Lists.{world_fram, holds-append}
 use Rattle.stands_for.specs.Layout.{ProgramPlaces, StateView, IsSharedWord, IsCopyWord, IsAmong, AreApart, ArePrivate}
 use Rattle.stands_for.specs.StandsFor.{VersionsWithin, UndecidedAt, StartedAt}
 use Rattle.stands_for.specs.Program.{IsStartStore, StartContract}
@@ -222,14 +222,15 @@ module _ {St : Type 0} (l : ProgramPlaces) (apart : AreApart l) (v : StateView S
     opening_so : (f : ℕ → ℕ) → EachStore P (opening_effects l.runtime f)
     opening_so f =
         let first : l.runtime.versions + 2 * 0 ≡ l.runtime.versions = omega arith in
-        each_both P (cleared l.runtime.version_count l.runtime.versions) _
+        each_store-append P (cleared l.runtime.version_count l.runtime.versions) _
         (subst (λ p. EachStore P (cleared l.runtime.version_count p)) first (cleared_so l.runtime.version_count 0 (omega arith)))
         (version, (list_length, (emit_count, tt)))
 
+    -- each store of a start is of this kind
     pub start_stores_so : (privates : ℕ → List CopyPair) → ((t : ℕ) → ArePrivate l t (privates t)) → (f : ℕ → ℕ)
         → EachStore P (start_effects l.runtime privates f)
     start_stores_so privates laid f =
-        each_both P (opening_effects l.runtime f) _ (opening_so f)
+        each_store-append P (opening_effects l.runtime f) _ (opening_so f)
         (copied_in_so (f l.runtime.words.current_task) (privates (f l.runtime.words.current_task)) (fram_after (opening_effects l.runtime f) f)
         (laid (f l.runtime.words.current_task)))
 

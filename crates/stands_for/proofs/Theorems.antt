@@ -6,6 +6,7 @@ use Rattle.stands_for.proofs.Commits.{commit_before, commit_is, commit_takes, co
 use Rattle.stands_for.proofs.Starts.{clearing_start}
 use Rattle.stands_for.proofs.Attempts.{attempts}
 
+-- from a start and tasks that keep their contracts, all that the crash theorem asks of a source
 pub keeps_the_laws : (St : Type 0) → KeepsTheLaws St
 keeps_the_laws St l v privates p apart room start tasks =
     record {
@@ -33,11 +34,14 @@ keeps_the_laws St l v privates p apart room start tasks =
       attempts = attempts l v privates p apart start tasks;
     }
 
+-- the start that clears version words keeps its contract
 pub clearing_starts : (St : Type 0) → ClearingStarts St
 clearing_starts St l v privates apart laid = clearing_start l apart v privates laid
 
+-- a decided world has what its commit needs
 pub decided_can_commit : (St : Type 0) → DecidedCanCommit St
 decided_can_commit St l v s next x apart room d = can_commit l apart room v s next x d
 
+-- a commit stores to shared words, CUR, BASE and GATE alone
 pub commit_stores_there : (St : Type 0) → CommitStores St
 commit_stores_there St l v s next x apart room d = commit_stores l apart room v s next x d

@@ -97,6 +97,7 @@ module _ (S T : Type 0) (b : BusModel S) (c : BusModel T) (R : S → T → Type 
   one_alike (one.Push w x) r s t h = push_alike w x r s t h
   one_alike (one.Call x) r s t h = call_alike x r s t h
 
+  -- an instruction does alike on buses that are alike
   pub effect_alike : (i : Instr) (r : Registers) (s : S) (t : T) → R s t → Alike R (effect b i r s) (effect c i r t)
   unfolding effect
   effect_alike (instr.Two op w x d) r s t h = two_alike op w x d r s t h

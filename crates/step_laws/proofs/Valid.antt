@@ -122,6 +122,7 @@ one_valid bus (one.Sxt p) r s h = modified_valid bus sign_extended Word p r s h
 one_valid bus (one.Push w x) r s h = push_valid bus w x r s h
 one_valid bus (one.Call x) r s h = call_valid bus x r s h
 
+-- valid registers stay valid
 pub stays_valid : {S : Type 0} (bus : BusModel S) → StaysValid bus
 unfolding effect
 stays_valid bus (instr.Two op w x d) r s h = two_valid bus op w x d r s h

@@ -5,6 +5,7 @@ use Rattle.std.proofs.lemmas.List.{append_cancel_right}
 use Rattle.std.proofs.lemmas.Option.{get_or_from_slice_get}
 use Rattle.fram_board.specs.Effects.{Effect, Store}
 use Rattle.machine_effects.specs.World.{World, readings_taken, EachStore}
+use Rattle.machine_effects.proofs.Worlds.{readings_taken-append, each_store-append}
 use Rattle.cost_bound.specs.Counts.{emits_of, block_assigns, stores_of, Code}
 use Rattle.source_values.specs.Statements.{Attempt, Outcome, goes_on, to_task, short, run_block, block_emits}
 use Rattle.source_values.specs.Runs.{CheckedProgram, State, Completion, completion_of, attempt_of, fresh_attempt, EndsWell, TransitionComes}
@@ -18,7 +19,6 @@ use Rattle.privatise.specs.LayoutValue.{LayoutValue}
 use Rattle.boot_runtime.specs.Entries.{task_entries}
 use Rattle.boot_runtime.specs.Listing.{privates_in}
 use Rattle.crash_rules.specs.Model.{Ends, program_effects, IsWord, IsElsewhere, Model, AttemptContract, Decides, RunsShort}
-use Rattle.crash_rules.proofs.Lists.{readings_taken-append, each_both}
 use Rattle.stands_for.specs.StandsFor.{StartedAt}
 use Rattle.lower.specs.Agreement.{TakesAndStores, EndsAs, BlocksAgree}
 use Rattle.lower.specs.Lowered.{lowered_block}
@@ -161,7 +161,7 @@ module _ (p : CheckedProgram) (l : LayoutValue) (given : IsGiven p l) (s : State
         let apart = given.apart in
         let c = given.code in
         subst (EachStore (IsBelowCode l)) (sym effects)
-        (each_both (IsBelowCode l) front (Store l.words.gate 1 ∷ [])
+        (each_store-append (IsBelowCode l) front (Store l.words.gate 1 ∷ [])
         (below_code front (safe_before p l given s is_task i x readings st es to end task m h.agrees h.of_words h.well h.rows)) (
           record {
             from = omega (arith, apart);

@@ -5,13 +5,14 @@ use Rattle.std.proofs.lemmas.Bool.{cases_lt}
 use Rattle.std.proofs.lemmas.List.{get_or_past}
 use Rattle.std.proofs.lemmas.Option.{slice_get_cases, slice_get-get_or, slice_get_within}
 use Rattle.fram_board.specs.Effects.{Effect, Store}
-use Rattle.machine_effects.specs.World.{World, world_after_one, world_after, fram_after, EachStore}
-use Rattle.crash_rules.proofs.Lists.{world_after-append, world_fram, fram_after-append, each_front}
-use Rattle.crash_rules.proofs.Observed.{put_same, put_other}
+use Rattle.machine_effects.specs.World.{World, world_after_one, world_after, fram_after}
+use Rattle.machine_effects.proofs.Worlds.{fram_after-append, world_after-append, each_store-front, put_same, put_other, each_store-back}
+use Rattle.crash_rules.proofs.Lists.{world_fram}
 use Rattle.task_ast.specs.declared.SharedDeclaration.{SharedDeclaration}
 use Rattle.task_ast.specs.declared.names.Variable.TheVariants.{Shared}
 use Rattle.cost_bound.specs.Counts.{emits_of, block_assigns, Code}
 use Rattle.cost_bound.specs.Allowance.{is_written, list_of}
+use Rattle.war_analysis.proofs.Steps.{element as item_at}
 use Rattle.source_values.specs.Values.{word_at}
 use Rattle.source_values.specs.Statements.{Attempt}
 use Rattle.source_values.specs.Runs.{CheckedProgram, State, initial_words}
@@ -21,6 +22,7 @@ use Rattle.privatise.specs.declared.place.VariablePlace.TheVariants.{Scalar, Arr
 use Rattle.privatise.specs.declared.place.PrivateScalar.{PrivateScalar}
 use Rattle.privatise.specs.LayoutValue.{LayoutValue}
 use Rattle.runtime_effects.specs.Places.{CopyPair, listed}
+use Rattle.lower.proofs.Values.{takes_append}
 use Rattle.boot_runtime.specs.Entries.{task_entries}
 use Rattle.boot_runtime.specs.Listing.{privates_in}
 use Rattle.stands_for.specs.Layout.{IsAmong, IsSharedWord, IsCopyWord, ProgramPlaces, StateView}
@@ -32,19 +34,17 @@ use Rattle.lower.specs.Agreement.{TakesAndStores, transition_effects, Bounds, bo
 use Rattle.compiled_model.specs.Places.{program_places}
 use Rattle.compiled_model.specs.View.{state_view, are_rows}
 use Rattle.layout_facts.specs.Facts.{IsWordOf}
+use Rattle.layout_facts.proofs.Privates.{home_of_scalar}
+use Rattle.layout_facts.proofs.Lists.{contains_at}
 use Rattle.task_attempts.proofs.Given.{IsGiven, IsTaskGiven}
 use Rattle.task_attempts.proofs.Rows.{rows_are, rows_count, declared_length}
 use Rattle.task_attempts.proofs.StoredWords.{StoresWords}
-use Rattle.task_attempts.proofs.Quiet.{IsQuiet, IsQuietAt, quiet_behind, stores_both, stores_as, stays_within}
+use Rattle.task_attempts.proofs.Quiet.{IsQuiet, IsQuietAt, quiet_behind, stores_as, stays_within}
 use Rattle.task_attempts.proofs.Entries.{IsTransitionStore, transition_stores, closing, closed, closed_sent, closed_next, closed_count, closed_home, closed_copy, IsLeft, closed_left}
-use Rattle.task_attempts.proofs.Listed.{entry_at, entry_among, among_entries, contains_at}
-use Rattle.task_attempts.proofs.Tasks.{IsAt, places, body, room, task_given, body_is, item_at, private_copy}
+use Rattle.task_attempts.proofs.Listed.{entry_at, entry_among, among_entries}
+use Rattle.task_attempts.proofs.Tasks.{IsAt, places, body, room, task_given, body_is, private_copy}
 use Rattle.task_attempts.proofs.Stores.{Safe, StoresOf, task_safe, transition_safe}
-use Rattle.task_attempts.proofs.Words.{OwnWord, marked, unmarked, own_word_of, IsTaskWord, left_there, private, element as an_element, task_word, element_word, home_word}
-
-each_back : (P : ℕ → ℕ → Type 0) (es fs : List Effect) → EachStore P (es ++ fs) → EachStore P fs
-each_back P [] fs h = h
-each_back P (e ∷ es) fs h = each_back P es fs h.1
+use Rattle.task_attempts.proofs.Words.{OwnWord, marked, unmarked, own_word_of, IsTaskWord, left_there, private, element as an_element, task_word, element_word}
 
 module _ (p : CheckedProgram) (l : LayoutValue) (given : IsGiven p l) (s : State) (is_task : s.task < length p.tasks) (i : IsAt p l s.task) (x : World)
     (readings : List ℕ)
@@ -113,15 +113,15 @@ module _ (p : CheckedProgram) (l : LayoutValue) (given : IsGiven p l) (s : State
     few = facts.has_room left.listed left.stands.list.are_listed (λ v. let k = left.few v in omega (arith, k))
 
     words_before : StoresWords before
-    words_before = each_front (λ a w. w < 0x10000) before (Store l.words.gate 1 ∷ []) (subst StoresWords effects_are stored)
+    words_before = each_store-front (λ a w. w < 0x10000) before (Store l.words.gate 1 ∷ []) (subst StoresWords effects_are stored)
 
     pub safe_before : TakesAndStores SafeStore before
     safe_before =
-        stores_both SafeStore left.body transition
+        takes_append SafeStore left.body transition
         (stores_as (StoresOf p l given s.task is_task i ver) SafeStore (task_safe p l given s.task is_task i ver) left.body left.stores
-        (each_front (λ a w. w < 0x10000) left.body transition words_before))
+        (each_store-front (λ a w. w < 0x10000) left.body transition words_before))
         (stores_as (IsTransitionStore here space) SafeStore (transition_safe p l given s.task is_task i ver) transition
-        (transition_stores here space task count base few) (each_back (λ a w. w < 0x10000) left.body transition words_before))
+        (transition_stores here space task count base few) (each_store-back (λ a w. w < 0x10000) left.body transition words_before))
 
     pub quiet_before : TakesAndStores (IsQuiet sites ver) before
     quiet_before = quiet_of before safe_before words_before
@@ -195,7 +195,7 @@ module _ (p : CheckedProgram) (l : LayoutValue) (given : IsGiven p l) (s : State
         let at : slice_get l.variables r.number ≡ Some (Scalar r.home r.copy) = o.1.place in
         ap z.fram (sym (c.assigned r.number r.home r.copy at o.0))
         ∙ scalar_next r.number (subst IsScalarPlace (sym at) tt)
-        ∙ sym (next_word r.number 0 r.home (home_word l r.number r.home r.copy at))
+        ∙ sym (next_word r.number 0 r.home (home_of_scalar l r.number r.home r.copy at))
 
     of_copied : (e : Element) → IsCopied here e → IsElement here e
     of_copied e c = record { elements = c.elements; length = c.length; copies = Some c.copies; is_array = c.is_array; below = c.below }
@@ -375,7 +375,7 @@ module _ (p : CheckedProgram) (l : LayoutValue) (given : IsGiven p l) (s : State
         (element_word l code i.layout facts.privates e (of_copied e (listed_copied e h))))
     is_home q (of_private r h home copied) =
         subst (IsSharedWord sites) (sym home)
-        (given.words.is_shared r.number 0 r.home (home_word l r.number r.home r.copy (facts.privates.only r h).1.place))
+        (given.words.is_shared r.number 0 r.home (home_of_scalar l r.number r.home r.copy (facts.privates.only r h).1.place))
 
     is_copy : (q : CopyPair) → IsPair q → IsCopyWord sites q.copy
     is_copy q (of_element e h home copied) = subst (IsCopyWord sites) (sym copied) (facts.copies e (listed_copied e h))

@@ -3,17 +3,12 @@ use Rattle.std.proofs.Common.{◌≡◌, ℕ, zero, suc, ◌+◌, ◌*◌, ◌%�
 use Rattle.std.specs.Prelude.{slice_get}
 use Rattle.fram_board.specs.Effects.{Effect, Store}
 use Rattle.machine_effects.specs.World.{put, fram_after}
-use Rattle.crash_rules.proofs.Lists.{fram_after-append}
-use Rattle.crash_rules.proofs.Observed.{put_same, put_other}
+use Rattle.machine_effects.proofs.Worlds.{fram_after-append, put_same, put_other, put_at}
 use Rattle.privatise.specs.declared.place.PrivateScalar.{PrivateScalar}
 use Rattle.lower.specs.Places.{Places}
 use Rattle.lower.specs.Spots.{Room, AreApart}
 use Rattle.lower.specs.Agreement.{TakesAndStores, entry_effects, transition_effects}
-use Rattle.task_attempts.proofs.Quiet.{stores_both}
-
--- a word where it was put
-pub put_at : (f : ℕ → ℕ) (a w x : ℕ) → x ≡ a → put f a w x ≡ w
-put_at f a w x e = ap (put f a w) e ∙ put_same f a w
+use Rattle.lower.proofs.Values.{takes_append}
 
 module _ (count list : ℕ) where
   -- FRAM behind an entry, the i-th
@@ -91,7 +86,7 @@ module _ (p : Places) (room : Room) where
   pub transition_stores : (task n base : ℕ) → n + length p.privates ≤ room.list → TakesAndStores (IsTransitionStore p room) (transition_effects p task n base)
   transition_stores task n base few = (
     at_next_task refl,
-    stores_both (IsTransitionStore p room) (entry_effects p.words.list_length p.list n p.privates) (Store p.words.sent_base base ∷ [])
+    takes_append (IsTransitionStore p room) (entry_effects p.words.list_length p.list n p.privates) (Store p.words.sent_base base ∷ [])
         (entries_store p.privates n few)
         (at_sent_base refl, tt),
   )

@@ -1,7 +1,6 @@
 -- The pairs that a commit list names.
-use Rattle.std.proofs.Common.{◌≡◌, ℕ, zero, suc, ◌+◌, ◌*◌, ◌<◌, List, [], ◌∷◌, length, map, get_or, Some, sym, ap, ap₂, ◌∙◌, subst, ⊎_elim, inl, inr, arith}
-use Rattle.std.specs.Prelude.{Contains, slice_get}
-use Rattle.std.proofs.lemmas.Option.{slice_get_within, get_or_from_slice_get}
+use Rattle.std.proofs.Common.{◌≡◌, ℕ, zero, suc, ◌+◌, ◌*◌, ◌<◌, List, [], ◌∷◌, length, map, get_or, sym, ap, ap₂, ◌∙◌, subst, ⊎_elim, inl, inr, arith}
+use Rattle.std.specs.Prelude.{Contains}
 use Rattle.privatise.specs.declared.place.PrivateScalar.{PrivateScalar}
 use Rattle.runtime_effects.specs.Places.{CopyPair, entries_from}
 use Rattle.runtime_code.specs.LayoutPlaces.{pair_of}
@@ -47,7 +46,3 @@ private_among ps s h = go ps h.0 h.1 h.2
     go [] k l e = absurd (omega (arith, l))
     go (u ∷ more) zero l e = inl (ap pair_of (sym e))
     go (u ∷ more) (suc k) l e = inr (go more k (omega (arith, l)) e)
-
--- an item at a number is among the items
-pub contains_at : {X : Type 0} (xs : List X) (k : ℕ) (x : X) → slice_get xs k ≡ Some x → Contains xs x
-contains_at xs k x e = (k, slice_get_within xs k x e, get_or_from_slice_get xs k x x e)

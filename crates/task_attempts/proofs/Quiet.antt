@@ -1,9 +1,9 @@
 -- Stores that an undecided world bears.
-use Rattle.std.proofs.Common.{◌≡◌, ℕ, ◌+◌, ◌*◌, ◌<◌, ◌≤◌, List, [], ◌∷◌, ◌++◌, refl, sym, ◌∙◌, subst, ⊎_elim, inl, inr, arith}
+use Rattle.std.proofs.Common.{◌≡◌, ℕ, ◌+◌, ◌*◌, ◌<◌, ◌≤◌, List, [], ◌∷◌, refl, sym, ◌∙◌, subst, ⊎_elim, inl, inr, arith}
 use Rattle.fram_board.specs.Effects.{Effect, Store, Take, Send}
 use Rattle.machine_effects.specs.World.{World, put, world_after_one, world_after, fram_after, EachStore}
+use Rattle.machine_effects.proofs.Worlds.{put_other}
 use Rattle.crash_rules.specs.Model.{HoldsThroughout}
-use Rattle.crash_rules.proofs.Observed.{put_other}
 use Rattle.stands_for.specs.Layout.{ProgramPlaces, StateView, IsSharedWord}
 use Rattle.stands_for.specs.StandsFor.{VersionsWithin, UndecidedAt}
 use Rattle.stands_for.proofs.Keeps.{put_either, put_words}
@@ -76,13 +76,6 @@ accepts_none P [] x h = refl
 accepts_none P (Store a w ∷ es) x h = accepts_none P es (world_after_one (Store a w) x) h.1
 accepts_none P (Take r ∷ es) x h = accepts_none P es x h
 accepts_none P (Send n w ∷ es) x h = absurd h
-
--- a fact of each store, of one part behind another
-pub stores_both : (P : ℕ → ℕ → Type 0) (es fs : List Effect) → TakesAndStores P es → TakesAndStores P fs → TakesAndStores P (es ++ fs)
-stores_both P [] fs h k = k
-stores_both P (Store a w ∷ es) fs h k = (h.0, stores_both P es fs h.1 k)
-stores_both P (Take r ∷ es) fs h k = stores_both P es fs h k
-stores_both P (Send n w ∷ es) fs h k = absurd h
 
 -- what follows of each store that is of a word
 pub stores_as : (P Q : ℕ → ℕ → Type 0) → ((a w : ℕ) → P a w → w < 0x10000 → Q a w) → (es : List Effect) → TakesAndStores P es

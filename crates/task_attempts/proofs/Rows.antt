@@ -1,8 +1,8 @@
 -- Rows of words: statements keep how many there are, and rows of the declared lengths are a state's.
-use Rattle.std.proofs.Common.{◌≡◌, ℕ, zero, suc, ◌+◌, ◌-◌, ◌<◌, List, [], ◌∷◌, ◌++◌, length, Option, Some, None, Bool, true, false, get_or, refl, sym, ap, ◌∙◌, arith, eq-eqb, if◌then◌else◌}
+use Rattle.std.proofs.Common.{◌≡◌, ℕ, zero, suc, ◌+◌, ◌-◌, ◌<◌, List, [], ◌∷◌, ◌++◌, length, Option, Some, None, Bool, true, false, get_or, refl, sym, ◌∙◌, arith, eq-eqb, if◌then◌else◌}
 use Rattle.std.specs.Prelude.{◌&&◌, ◌==◌, nat_lt, slice_get}
 use Rattle.std.proofs.Math.ListN.{length-set}
-use Rattle.std.proofs.lemmas.Bool.{lt-ltb}
+use Rattle.std.proofs.lemmas.Bool.{lt-ltb, and_from, and_parts}
 use Rattle.std.proofs.lemmas.List.{length-replicate}
 use Rattle.task_ast.specs.Tree as t
 use Rattle.task_ast.specs.Paths.{CheckedStatement, CheckedChoice, CheckedBlock}
@@ -84,12 +84,9 @@ mutual
   block_rows t.end m n h = h
   block_rows (t.step s more) m n h = rows_then n (run_statement s m) (run_block more) (statement_rows s m n h) (λ u g. block_rows more u n g)
 
-both : (a b : Bool) → a ≡ true → b ≡ true → (a && b) ≡ true
-both a b h k = ap (λ c. c && b) h ∙ k
-
 words_are : (ws : List ℕ) → ((i : ℕ) → get_or ws i 0 < 0x10000) → are_words ws ≡ true
 words_are [] h = refl
-words_are (w ∷ ws) h = both (nat_lt w 0x10000) (are_words ws) (lt-ltb w 0x10000 (h 0)) (words_are ws (λ i. h (suc i)))
+words_are (w ∷ ws) h = and_from (nat_lt w 0x10000) (are_words ws) (lt-ltb w 0x10000 (h 0)) (words_are ws (λ i. h (suc i)))
 
 -- rows of words with the declared lengths
 pub rows_are : (ds : List SharedDeclaration) (rows : List (List ℕ)) → length rows ≡ length ds
@@ -99,13 +96,9 @@ rows_are [] [] e h k = refl
 rows_are [] (row ∷ rows) e h k = absurd (omega (arith, e))
 rows_are (d ∷ ds) [] e h k = absurd (omega (arith, e))
 rows_are (d ∷ ds) (row ∷ rows) e h k =
-    both (length row == length (initial_words d.extent)) (are_words row && are_rows ds rows)
+    and_from (length row == length (initial_words d.extent)) (are_words row && are_rows ds rows)
     (eq-eqb (length row) (length (initial_words d.extent)) (h 0 d refl))
-    (both (are_words row) (are_rows ds rows) (words_are row (k 0)) (rows_are ds rows (omega (arith, e)) (λ v. h (suc v)) (λ v. k (suc v))))
-
-second : (a b : Bool) → (a && b) ≡ true → b ≡ true
-second true b h = h
-second false b h = cc h
+    (and_from (are_words row) (are_rows ds rows) (words_are row (k 0)) (rows_are ds rows (omega (arith, e)) (λ v. h (suc v)) (λ v. k (suc v))))
 
 -- as many rows as declarations
 pub rows_count : (ds : List SharedDeclaration) (rows : List (List ℕ)) → are_rows ds rows ≡ true → length rows ≡ length ds
@@ -113,8 +106,7 @@ rows_count [] [] h = refl
 rows_count [] (row ∷ rows) h = cc h
 rows_count (d ∷ ds) [] h = cc h
 rows_count (d ∷ ds) (row ∷ rows) h =
-    let k = rows_count ds rows (second (are_words row) (are_rows ds rows)
-    (second (length row == length (initial_words d.extent)) (are_words row && are_rows ds rows) h)) in
+    let k = rows_count ds rows (and_parts (are_words row) (are_rows ds rows) (and_parts (length row == length (initial_words d.extent)) (are_words row && are_rows ds rows) h).1).1 in
     omega (arith, k)
 
 -- a place of the declared kind has the declared length

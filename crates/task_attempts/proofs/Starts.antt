@@ -18,10 +18,11 @@ use Rattle.lower.specs.Agreement.{own_word, StandsFor}
 use Rattle.compiled_model.specs.Places.{program_places}
 use Rattle.compiled_model.specs.View.{state_view}
 use Rattle.layout_facts.specs.Facts.{IsWordOf}
+use Rattle.layout_facts.proofs.Privates.{home_of_scalar}
 use Rattle.task_attempts.proofs.Given.{IsGiven, IsTaskGiven}
 use Rattle.task_attempts.proofs.Tasks.{IsAt, places, body, task_given, among_privates}
 use Rattle.task_attempts.proofs.Stores.{scalar_place}
-use Rattle.task_attempts.proofs.Words.{OwnWord, marked, unmarked, own_word_of, element_word, home_word}
+use Rattle.task_attempts.proofs.Words.{OwnWord, marked, unmarked, own_word_of, element_word}
 
 module _ (p : CheckedProgram) (l : LayoutValue) (given : IsGiven p l) (s : State) (i : IsAt p l s.task) (x : World) (readings : List ℕ)
     (st : StartedAt (program_places p l) (state_view p l) s (privates_in (task_entries l) s.task) x) where
@@ -52,10 +53,10 @@ module _ (p : CheckedProgram) (l : LayoutValue) (given : IsGiven p l) (s : State
       let c : Contains i.layout.privates (record { number = v; home = home; copy = copy }) = r.each v home copy e assigned in
       ap x.fram (r.assigned v home copy e assigned)
       ∙ st.copies (record { home = home; copy = copy }) (among_privates p l given s.task i (record { number = v; home = home; copy = copy }) c)
-      ∙ given.words.is_word s.shared v 0 home (home_word l v home copy e)
+      ∙ given.words.is_word s.shared v 0 home (home_of_scalar l v home copy e)
   scalar_stands v home copy false e left =
       let r = facts.privates in
-      ap x.fram (r.left v home copy e left) ∙ home_stands v 0 home (home_word l v home copy e)
+      ap x.fram (r.left v home copy e left) ∙ home_stands v 0 home (home_of_scalar l v home copy e)
 
   -- no element has a version word of this attempt
   none_marked : (e : Element) → IsCopied here e

@@ -1,16 +1,20 @@
 -- From words a program of words stores words.
-use Rattle.std.proofs.Common.{◌≡◌, ℕ, zero, suc, ◌+◌, ◌-◌, ◌*◌, ◌%◌, ◌==◌, ◌<◌, List, [], ◌∷◌, Option, Some, None, Bool, true, false, nat_lt, refl, arith, if◌then◌else◌}
+use Rattle.std.proofs.Common.{◌≡◌, ℕ, zero, suc, ◌+◌, ◌-◌, ◌*◌, ◌%◌, ◌==◌, ◌<◌, List, [], ◌∷◌, Option, Some, None, Bool, true, false, nat_lt, refl, arith}
+use Rattle.std.proofs.Common.{if◌then◌else◌}
 use Rattle.std.specs.List.{AllByRecursion}
 use Rattle.fram_board.specs.Effects.{Effect, Store}
 use Rattle.machine_effects.specs.World.{EachStore}
+use Rattle.machine_effects.proofs.Worlds.{each_store-append}
 use Rattle.array_versions.specs.declared.program.ArrayPlace.{ArrayPlace}
 use Rattle.array_versions.specs.declared.program.ListPlace.{ListPlace}
-use Rattle.array_versions.specs.Program.{Step, Program, number, load, keep, local, set_local, unary, binary, shift, element, emit_word, list_entry, versioned_read, versioned_write, sense, choose, repeat, store_number, move_word, jump, nothing, step}
-use Rattle.array_versions.specs.Behaviour.{WordState, End, GoesOn, Jumps, Short, Strays, Broken, Behaviour, behaves, goes_on, strays, broken, on_end, then_on, is_place, at_place, with_top, with_stack, pushed, stored, with_local, local_pushed, reading_pushed, entry_stored, behind_effects, own_element, first_stored, own_stored, chosen, turns, step_behaviour, behaviour}
+use Rattle.array_versions.specs.Program.{Step, Program, number, load, keep, local, set_local, unary, binary, shift, element, emit_word, list_entry}
+use Rattle.array_versions.specs.Program.{versioned_read, versioned_write, sense, choose, repeat, store_number, move_word, jump, nothing, step}
+use Rattle.array_versions.specs.Behaviour.{WordState, End, GoesOn, Jumps, Short, Strays, Broken, Behaviour, behaves, goes_on, strays, broken, on_end, then_on}
+use Rattle.array_versions.specs.Behaviour.{is_place, at_place, with_top, with_stack, pushed, stored, with_local, local_pushed, reading_pushed, entry_stored}
+use Rattle.array_versions.specs.Behaviour.{behind_effects, own_element, first_stored, own_stored, chosen, turns, step_behaviour, behaviour}
 use Rattle.array_versions.specs.Form.{StepOfWords, OfWords}
 use Rattle.array_versions.specs.Laws.{IsStateOfWords, EndsInWords}
-use Rattle.array_versions.proofs.Words.{put_words, local_words, place_high, step_words, words}
-use Rattle.crash_rules.proofs.Lists.{each_both}
+use Rattle.array_versions.proofs.Words.{put_words, local_words, place_high, step_words, words, stack_words}
 
 -- the word of each store is a word
 abbrev pub StoresWords : List Effect → Type 0
@@ -18,9 +22,6 @@ StoresWords = EachStore (λ a w. w < 0x10000)
 
 abbrev AreWords : List ℕ → Type 0
 AreWords vs = AllByRecursion (λ v. v < 0x10000) vs
-
-stack_words : (s : WordState) (vs : List ℕ) → IsStateOfWords s → AreWords vs → IsStateOfWords (with_stack vs s)
-stack_words s vs w h = record { stack = h; locals = w.locals; fram = w.fram; readings = w.readings }
 
 end_stores : (e : End) (next : WordState → Behaviour) → EndsInWords e → ((t : WordState) → IsStateOfWords t → StoresWords (next t).effects) → StoresWords
     (on_end e next).effects
@@ -33,7 +34,7 @@ end_stores Broken next h k = tt
 then_stores : (b : Behaviour) (next : WordState → Behaviour) → StoresWords b.effects → EndsInWords b.end →
     ((t : WordState) → IsStateOfWords t → StoresWords (next t).effects)
     → StoresWords (then_on b next).effects
-then_stores b next h e k = each_both (λ a w. w < 0x10000) b.effects (on_end b.end next).effects h (end_stores b.end next e k)
+then_stores b next h e k = each_store-append (λ a w. w < 0x10000) b.effects (on_end b.end next).effects h (end_stores b.end next e k)
 
 guarded : (c : Bool) (b : Behaviour) → (c ≡ true → StoresWords b.effects) → StoresWords (if c then b else strays).effects
 guarded true b h = h refl

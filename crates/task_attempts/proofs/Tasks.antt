@@ -1,21 +1,22 @@
 -- A task of a source by its number, and where its program stores.
-use Rattle.std.proofs.Common.{◌≡◌, ℕ, zero, suc, ◌<◌, List, [], ◌∷◌, length, map, Some, sym, ap, ◌∙◌, subst, ⊎_elim, arith}
-use Rattle.std.specs.Prelude.{Contains, slice_get, get_or, option_map}
-use Rattle.std.proofs.lemmas.Option.{slice_get_cases, slice_get-map, get_or_from_slice_get}
+use Rattle.std.proofs.Common.{◌≡◌, ℕ, ◌<◌, List, [], ◌∷◌, length, map, Some, sym, ap, ◌∙◌, subst, ⊎_elim, arith}
+use Rattle.std.specs.Prelude.{Contains, slice_get, option_map}
+use Rattle.std.proofs.lemmas.Option.{slice_get-map, get_or_from_slice_get}
 use Rattle.cost_bound.specs.Counts.{Code}
 use Rattle.cost_bound.specs.Allowance.{CheckedTask}
+use Rattle.war_analysis.proofs.Steps.{element}
 use Rattle.source_values.specs.Runs.{CheckedProgram, body_of, task_body}
-use Rattle.array_versions.specs.Program.{nothing}
 use Rattle.privatise.specs.declared.place.PrivateScalar.{PrivateScalar}
 use Rattle.privatise.specs.LayoutValue.{LayoutValue, TaskLayoutValue}
 use Rattle.runtime_effects.specs.Places.{CopyPair}
+use Rattle.lower.proofs.Blocks.{program_at}
 use Rattle.runtime_code.specs.LayoutPlaces.{pair_of, pairs_of}
 use Rattle.boot_runtime.specs.Listing.{privates_in}
 use Rattle.boot_runtime.specs.Entries.{entry_of, task_entries}
 use Rattle.stands_for.specs.Layout.{IsAmong, IsCopyWord, ArePrivate}
 use Rattle.lower.specs.Places.{Places, places_of}
 use Rattle.lower.specs.Spots.{Room}
-use Rattle.lower.specs.Lowered.{lowered_block, lowered_tasks}
+use Rattle.lower.specs.Lowered.{lowered_block}
 use Rattle.compiled_model.specs.Places.{program_places}
 use Rattle.compiled_model.specs.Parts.{task_program}
 use Rattle.layout_facts.specs.Facts.{task_room}
@@ -29,26 +30,11 @@ pub record IsAt (p : CheckedProgram) (l : LayoutValue) (k : ℕ) : Type 0 where
   pub task_is : slice_get p.tasks k ≡ Some task
   pub layout_is : slice_get l.tasks k ≡ Some layout
 
-pub item_at : {X : Type 0} (xs : List X) (k : ℕ) → k < length xs → (x : X) × (slice_get xs k ≡ Some x)
-item_at xs k h = ⊎_elim (λ c. (c.0, c.2)) (λ c. let past = c.0 in absurd (omega (arith, past, h))) (slice_get_cases xs k).1
-
 pub task_at : (p : CheckedProgram) (l : LayoutValue) → length l.tasks ≡ length p.tasks → (k : ℕ) → k < length p.tasks → IsAt p l k
 task_at p l count k h =
-    let a = item_at p.tasks k h in
-    let b = item_at l.tasks k (omega (arith, count, h)) in
+    let a = element p.tasks k h in
+    let b = element l.tasks k (omega (arith, count, h)) in
     record { task = a.0; layout = b.0; task_is = a.1; layout_is = b.1 }
-
--- the program of a task by its number
-pub program_in : (l : LayoutValue) (tasks : List CheckedTask) (layouts : List TaskLayoutValue) (k : ℕ) (task : CheckedTask) (t : TaskLayoutValue)
-    → slice_get tasks k ≡ Some task
-    → slice_get layouts k ≡ Some t → get_or (lowered_tasks l tasks layouts) k nothing ≡ lowered_block (places_of l t) task.body
-program_in l [] layouts k task t e h = cc e
-program_in l (u ∷ tasks) [] k task t e h = cc h
-program_in l (u ∷ tasks) (v ∷ layouts) zero task t e h =
-    let a : u ≡ task = cc in
-    let b : v ≡ t = cc in
-    ap (λ z. lowered_block (places_of l v) z.body) a ∙ ap (λ z. lowered_block (places_of l z) task.body) b
-program_in l (u ∷ tasks) (v ∷ layouts) (suc k) task t e h = program_in l tasks layouts k task t e h
 
 module _ (p : CheckedProgram) (l : LayoutValue) (given : IsGiven p l) (k : ℕ) (i : IsAt p l k) where
   abbrev pub body : Code
@@ -67,7 +53,7 @@ module _ (p : CheckedProgram) (l : LayoutValue) (given : IsGiven p l) (k : ℕ) 
   body_is = ap body_of i.task_is
 
   pub program_is : task_program p l k ≡ lowered_block places body
-  program_is = program_in l p.tasks l.tasks k i.task i.layout i.task_is i.layout_is
+  program_is = program_at l p.tasks l.tasks k i.task i.layout i.task_is i.layout_is
 
   pub privates_are : privates_in (task_entries l) k ≡ pairs_of i.layout
   privates_are =

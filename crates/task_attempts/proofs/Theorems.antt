@@ -1,10 +1,11 @@
 -- The laws of compiled tasks.
 use Rattle.std.proofs.Common.{◌≤◌, ◌<◌, sym, subst, arith}
 use Rattle.machine_effects.specs.World.{world_after, fram_after, EachStore}
+use Rattle.machine_effects.proofs.Worlds.{each_store-append}
 use Rattle.source_values.specs.Runs.{State}
 use Rattle.boot_runtime.specs.Entries.{task_entries}
 use Rattle.boot_runtime.specs.Listing.{privates_in}
-use Rattle.crash_rules.proofs.Lists.{world_fram, each_both}
+use Rattle.crash_rules.proofs.Lists.{world_fram}
 use Rattle.stands_for.proofs.Starts.{start_stores_so}
 use Rattle.stands_for.proofs.Theorems.{keeps_the_laws, clearing_starts}
 use Rattle.lower.proofs.Blocks.{blocks_agree}
@@ -39,7 +40,7 @@ stores_below_code text p allow plans l laid runnable s x readings small u =
     let apart = g.apart in
     let code = g.code in
     let task = program_stores p l g s is_task (task_at p l g.count s.task is_task) y readings (start.started s x u) blocks_agree small in
-    each_both (IsBelowCode l) es ((program_parts p l).body (x.fram l.words.current_task) (fram_after es x.fram) readings).effects
+    each_store-append (IsBelowCode l) es ((program_parts p l).body (x.fram l.words.current_task) (fram_after es x.fram) readings).effects
     (start_stores_so (program_places p l) apart (state_view p l) (IsBelowCode l)
     (λ i h. record { from = omega (arith, apart); below = omega (arith, apart, h, code); list = λ e. omega arith; emits = λ e. omega arith })
     (record {

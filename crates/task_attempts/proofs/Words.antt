@@ -82,7 +82,3 @@ module _ (l : LayoutValue) (body : Code) (t : TaskLayoutValue) (privates : ArePr
     below = h.below;
     address = ap (λ o. element_in o x.index) h.is_array.place;
   }
-
--- a scalar's word
-pub home_word : (l : LayoutValue) (v home copy : ℕ) → slice_get l.variables v ≡ Some (Scalar home copy) → IsWordOf l v 0 home
-home_word l v home copy e = record { place = Scalar home copy; at = e; below = omega arith; address = omega arith }

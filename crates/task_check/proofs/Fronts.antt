@@ -1,18 +1,18 @@
 -- The names in front of a place.
-use Rattle.std.proofs.Common.{◌≡◌, ℕ, zero, suc, ◌+◌, ◌-◌, ◌<◌, ◌≤◌, ◌^◌, List, [], ◌∷◌, length, get_or, drop, Option, Some, None, ◌⊎◌, inl, inr, refl, sym, subst, ap, ◌∙◌, arith, drop-cons}
+use Rattle.std.proofs.Common.{◌≡◌, ℕ, zero, suc, ◌+◌, ◌-◌, ◌<◌, ◌≤◌, ◌^◌, List, [], ◌∷◌, length, get_or, drop, Option, Some, None, ◌⊎◌, inl, inr, refl, sym}
+use Rattle.std.proofs.Common.{subst, ap, ◌∙◌, arith}
 use Rattle.std.proofs.Math.Seq.{drop-length}
 use Rattle.std.proofs.lemmas.List.{length-drop}
 use denote.Ref.{Bor}
 use Rattle.std.specs.BTreeMap.{BTreeMap}
 use Rattle.std.specs.Option.{option_or}
+use Rattle.task_ast.proofs.Backwards.{drop_back}
 use Rattle.task_check.specs.declared.occurrence.Occurrence.{Occurrence}
 use Rattle.task_check.specs.declared.occurrence.Role.{Role}
-use Rattle.task_check.specs.declared.occurrence.Role.TheVariants as role
 use Rattle.task_check.specs.declared.symbol.Global.{Global}
 use Rattle.task_check.specs.declared.symbol.Counts.{Counts}
 use Rattle.task_check.specs.declared.walk.Walk.{Walk}
 use Rattle.task_check.specs.declared.fault.CheckFault.{CheckFault}
-use Rattle.task_check.specs.declared.fault.CheckFault.TheVariants as fault
 use Rattle.std.specs.Str.{bytes_eq}
 use Rattle.task_check.specs.Scope.{text_of, global_in, global_with, if_named, shared_in, tasks_in, locals_in, locals_after, one_shared, one_task}
 use Rattle.task_check.specs.LookedUp.{behind}
@@ -20,21 +20,12 @@ use Rattle.task_check.specs.Faults.{first_fault, name_fault}
 use Rattle.task_check.specs.Tables.{found}
 use Rattle.task_check.specs.Walks.{HasGlobals, IsWalked, counts_in, symbol_of, name_fault_of, IsOneOn}
 use Rattle.task_check.proofs.Walks.{walked_on, same_name_fault, counts_same}
-
-pub drop_back : {A : Type 0} (xs : List A) (i : ℕ) (a : A) → 0 < i → i ≤ length xs → a ≡ get_or xs (i - 1) a → drop (i - 1) xs ≡ a ∷ drop i xs
-drop_back xs i a pos h is =
-    let lt : i - 1 < length xs = omega arith in
-    let e : suc (i - 1) ≡ i = omega arith in
-    drop-cons xs (i - 1) a lt ∙ ap (λ x. x ∷ drop (suc (i - 1)) xs) (sym is) ∙ ap (λ j. a ∷ drop j xs) e
-
--- an element by its place, whatever stands for one past the end
-pub at_any : {A : Type 0} (xs : List A) (i : ℕ) (d e : A) → i < length xs → get_or xs i d ≡ get_or xs i e
-at_any [] i d e h = absurd (omega arith)
-at_any (x ∷ xs) zero d e h = refl
-at_any (x ∷ xs) (suc i) d e h = at_any xs i d e (omega arith)
+use Rattle.task_check.specs.declared.occurrence.Role.TheVariants as role
+use Rattle.task_check.specs.declared.fault.CheckFault.TheVariants as fault
 
 -- a fault that is found in front stays the first
-pub first_stays : (f : Occurrence → List Occurrence → Option CheckFault) (xs : List Occurrence) (i : ℕ) (e : CheckFault) → first_fault f (drop i xs) ≡ Some e → first_fault f xs ≡ Some e
+pub first_stays : (f : Occurrence → List Occurrence → Option CheckFault) (xs : List Occurrence) (i : ℕ) (e : CheckFault) → first_fault f (drop i xs) ≡ Some e
+    → first_fault f xs ≡ Some e
 first_stays f xs zero e h = h
 first_stays f [] (suc i) e h = h
 first_stays f (x ∷ xs) (suc i) e h = ap (λ r. option_or r (f x xs)) (first_stays f xs i e h)
@@ -82,7 +73,8 @@ locals_in_le [] = omega arith
 locals_in_le (x ∷ xs) = let h = locals_in_le xs in let k = locals_after_le (locals_in xs) x.role in omega arith
 
 -- the counts stay in range
-pub few_counts : (c : Counts) (names : List Occurrence) (i : ℕ) → c ≡ counts_in (drop i names) → length names < 2 ^ 32 - 1 → (c.shared < 2 ^ 32 - 1) × (c.tasks < 2 ^ 32 - 1) × (c.locals < 2 ^ 32 - 1)
+pub few_counts : (c : Counts) (names : List Occurrence) (i : ℕ) → c ≡ counts_in (drop i names) → length names < 2 ^ 32 - 1
+    → (c.shared < 2 ^ 32 - 1) × (c.tasks < 2 ^ 32 - 1) × (c.locals < 2 ^ 32 - 1)
 few_counts c names i e few = subst (λ c. (c.shared < 2 ^ 32 - 1) × (c.tasks < 2 ^ 32 - 1) × (c.locals < 2 ^ 32 - 1)) (sym e) (shared, tasks, locals)
   where
     shared : shared_in (drop i names) < 2 ^ 32 - 1
@@ -95,7 +87,8 @@ few_counts c names i e few = subst (λ c. (c.shared < 2 ^ 32 - 1) × (c.tasks < 
     locals = let h = locals_in_le (drop i names) in let k = length-drop i names in omega arith
 
 -- before the first name
-pub walked_none : (source : List ℕ) (all : List Occurrence) (w : Walk) → ((q : List ℕ) → found w.locals q ≡ None) → w.counts ≡ counts_in [] → w.variables.items ≡ [] → w.targets.items ≡ [] → w.wrong_use ≡ None → w.too_many ≡ None
+pub walked_none : (source : List ℕ) (all : List Occurrence) (w : Walk) → ((q : List ℕ) → found w.locals q ≡ None) → w.counts ≡ counts_in []
+    → w.variables.items ≡ [] → w.targets.items ≡ [] → w.wrong_use ≡ None → w.too_many ≡ None
     → IsWalked source all [] w
 walked_none source all w l c v t u m = record { locals = l; counts = c; variables = v; targets = t; wrong_use = u; too_many = m; names = refl }
 
@@ -106,8 +99,10 @@ front_is : (names : List Occurrence) (i n : ℕ) → 0 < i → i ≤ length name
 front_is names i n pos within ns = let k = length-drop i names in omega arith
 
 module _ (source : List ℕ) (names : List Occurrence) (globals : BTreeMap (Bor (List ℕ)) Global) (has : HasGlobals source names globals)
-    (i : ℕ) (o : Occurrence) (w : Walk) (pos : 0 < i) (within : i ≤ length names) (at : o ≡ get_or names (i - 1) o) (walked : IsWalked source names (drop i names) w) (n b : ℕ) where
-  pub walked_back : (v : Walk) → IsOneOn source o (symbol_of source globals w o b) w v → name_fault_of source globals w o n b ≡ None → n ≡ length names - 1 - (i - 1) → b ≡ i - 1
+    (i : ℕ) (o : Occurrence) (w : Walk) (pos : 0 < i) (within : i ≤ length names) (at : o ≡ get_or names (i - 1) o)
+    (walked : IsWalked source names (drop i names) w) (n b : ℕ) where
+  pub walked_back : (v : Walk) → IsOneOn source o (symbol_of source globals w o b) w v → name_fault_of source globals w o n b ≡ None
+      → n ≡ length names - 1 - (i - 1) → b ≡ i - 1
       → IsWalked source names (drop (i - 1) names) v
   walked_back v on fine ns bs = subst (λ xs. IsWalked source names xs v) (sym (drop_back names i o pos within at))
       (walked_on source names (drop i names) o globals w b n has walked (behind_is names i b pos within bs) (front_is names i n pos within ns) v on fine)
@@ -118,28 +113,35 @@ module _ (source : List ℕ) (names : List Occurrence) (globals : BTreeMap (Bor 
   refused_back e (inr f) ns bs = inr (first_stays (name_fault source names) names (i - 1) e
       (subst (λ xs. first_fault (name_fault source names) xs ≡ Some e) (sym (drop_back names i o pos within at))
       (ap (λ r. option_or r (name_fault source names o (drop i names))) walked.names
-      ∙ (sym (same_name_fault source names (drop i names) o globals w b n has walked (behind_is names i b pos within bs) (front_is names i n pos within ns)) ∙ f))))
+      ∙ (sym (same_name_fault source names (drop i names) o globals w b n has walked (behind_is names i b pos within bs) (front_is names i n pos within ns))
+      ∙ f))))
 
 -- ---- the table of shared variables and tasks
 
 pub globals_none : (source : List ℕ) (names : List Occurrence) (table : BTreeMap (Bor (List ℕ)) Global) → ((q : List ℕ) → found table q ≡ None)
     → HasGlobals source (drop (length names) names) table × (record { shared = 0; tasks = 0; locals = 0 } ≡ counts_in (drop (length names) names))
-globals_none source names table none = subst (λ xs. HasGlobals source xs table × (record { shared = 0; tasks = 0; locals = 0 } ≡ counts_in xs)) (sym (drop-length names)) (none, refl)
+globals_none source names table none =
+    subst (λ xs. HasGlobals source xs table × (record { shared = 0; tasks = 0; locals = 0 } ≡ counts_in xs)) (sym (drop-length names)) (none, refl)
 
-counts_next : (c k : Counts) (o : Occurrence) (front : List Occurrence) → c ≡ counts_in front → k.shared ≡ c.shared + one_shared o.role → k.tasks ≡ c.tasks + one_task o.role → k.locals ≡ locals_after c.locals o.role
+counts_next : (c k : Counts) (o : Occurrence) (front : List Occurrence) → c ≡ counts_in front → k.shared ≡ c.shared + one_shared o.role
+    → k.tasks ≡ c.tasks + one_task o.role → k.locals ≡ locals_after c.locals o.role
     → k ≡ counts_in (o ∷ front)
-counts_next c k o front is e f g = counts_same k _ _ _ (e ∙ ap (λ c. c.shared + one_shared o.role) is) (f ∙ ap (λ c. c.tasks + one_task o.role) is) (g ∙ ap (λ c. locals_after c.locals o.role) is)
+counts_next c k o front is e f g =
+    counts_same k _ _ _ (e ∙ ap (λ c. c.shared + one_shared o.role) is) (f ∙ ap (λ c. c.tasks + one_task o.role) is)
+    (g ∙ ap (λ c. locals_after c.locals o.role) is)
 
 pub globals_back : (source : List ℕ) (names : List Occurrence) (i : ℕ) (o : Occurrence) → 0 < i → i ≤ length names → o ≡ get_or names (i - 1) o → (n : ℕ)
     → (table new : BTreeMap (Bor (List ℕ)) Global) (c k : Counts) → HasGlobals source (drop i names) table → c ≡ counts_in (drop i names)
-    → (g : Option Global) → g ≡ global_with o.role n c.shared c.tasks → (t : List ℕ) → t ≡ text_of source o.span → ((q : List ℕ) → found new q ≡ option_or (found table q) (if_named (bytes_eq t q) g))
+    → (g : Option Global) → g ≡ global_with o.role n c.shared c.tasks → (t : List ℕ) → t ≡ text_of source o.span
+    → ((q : List ℕ) → found new q ≡ option_or (found table q) (if_named (bytes_eq t q) g))
     → k.shared ≡ c.shared + one_shared o.role → k.tasks ≡ c.tasks + one_task o.role → k.locals ≡ locals_after c.locals o.role → n ≡ length names - 1 - (i - 1)
     → HasGlobals source (drop (i - 1) names) new × (k ≡ counts_in (drop (i - 1) names))
 globals_back source names i o pos within at n table new c k has is g gs t ts put e f h ns =
     subst (λ xs. HasGlobals source xs new × (k ≡ counts_in xs)) (sym (drop_back names i o pos within at)) (has_next, counts_next c k o (drop i names) is e f h)
   where
     g_is : g ≡ global_with o.role (length (drop i names)) (shared_in (drop i names)) (tasks_in (drop i names))
-    g_is = gs ∙ (ap (λ n. global_with o.role n c.shared c.tasks) (front_is names i n pos within ns) ∙ ap (λ c. global_with o.role (length (drop i names)) c.shared c.tasks) is)
+    g_is = gs ∙ (ap (λ n. global_with o.role n c.shared c.tasks) (front_is names i n pos within ns)
+        ∙ ap (λ c. global_with o.role (length (drop i names)) c.shared c.tasks) is)
 
     has_next : HasGlobals source (o ∷ drop i names) new
     has_next q = put q ∙ (ap (λ r. option_or r (if_named (bytes_eq t q) g)) (has q)

@@ -3,7 +3,7 @@ mod Walks
 mod Fronts
 pub mod Parts
 mod Finish
-mod Fill
+pub mod Fill
 mod Counted
-mod Ranges
+pub mod Ranges
 mod OneAnswer

@@ -27,8 +27,10 @@ use Rattle.task_check.specs.declared.fault.CheckFault.{CheckFault}
 use Rattle.task_check.specs.declared.walk.Walk.{Walk}
 use Rattle.task_check.specs.Walks.{IsWalked}
 use Rattle.task_check.specs.Occurrences.{program_names}
-use Rattle.task_check.specs.Scope.{text_of, one_shared, one_task, shared_in, tasks_in, locals_in, locals_after, local_in, local_with, global_in, global_with, if_named, or_global, meaning}
-use Rattle.task_check.specs.LookedUp.{program_back, task_back, task_variables, task_targets, symbol_by, symbol_at, behind, variable_of, target_of, variable_by, target_by, variables_in, targets_in}
+use Rattle.task_check.specs.Scope.{text_of, one_shared, one_task, shared_in, tasks_in, locals_in, locals_after, local_in, local_with, global_in, global_with}
+use Rattle.task_check.specs.Scope.{if_named, or_global, meaning}
+use Rattle.task_check.specs.LookedUp.{program_back, task_back, task_variables, task_targets, symbol_by, symbol_at, behind, variable_of, target_of, variable_by}
+use Rattle.task_check.specs.LookedUp.{target_by, variables_in, targets_in}
 use Rattle.task_check.specs.Faults.{first_fault, name_fault, name_fault_if, use_fault, use_fault_by, limit_fault, fault_if, is_unknown, is_too_many}
 use Rattle.task_check.specs.Limits.{is_numbered, are_numbered}
 use Rattle.task_check.specs.Answers.{IsLookedUp, limits_fault}
@@ -36,7 +38,7 @@ use Rattle.task_check.specs.Counted.{tasks_count, tasks_transitions}
 use Rattle.task_check.proofs.Counted.{count, one_variable, one_target, shared_of_program, tasks_of_program, variables_of_program, targets_of_program}
 
 -- no fault at a name nor in front of it
-both_none : {A : Type 0} (a b : Option A) → option_or a b ≡ None → (a ≡ None) × (b ≡ None)
+pub both_none : {A : Type 0} (a b : Option A) → option_or a b ≡ None → (a ≡ None) × (b ≡ None)
 both_none None b h = (refl, h)
 both_none (Some x) b h = absurd (cc)
 
@@ -55,14 +57,16 @@ IsOneOf role.Task front = tasks_in front < 64
 IsOneOf (role.Local of b e) front = locals_in front < 256
 IsOneOf _ front = Unit {0}
 
-no_fault : (b : Bool) (e : CheckFault) → fault_if b e ≡ None → b ≡ false
+-- no fault where the test fails
+pub no_fault : (b : Bool) (e : CheckFault) → fault_if b e ≡ None → b ≡ false
 no_fault true e h = absurd (cc)
 no_fault false e h = refl
 
 below : (n m : ℕ) → n ≤ m → (n == m) ≡ false → n < m
 below n m le h = grind (arith, nat_tests)
 
-one_of : (source : List ℕ) (o : Occurrence) (r : Role) (front : List Occurrence) → AreFew front → is_too_many r (shared_in front) (tasks_in front) (locals_in front) ≡ false → IsOneOf r front
+one_of : (source : List ℕ) (o : Occurrence) (r : Role) (front : List Occurrence) → AreFew front
+    → is_too_many r (shared_in front) (tasks_in front) (locals_in front) ≡ false → IsOneOf r front
 one_of source o (role.Shared of e) front few h = below (shared_in front) 256 few.shared h
 one_of source o role.Task front few h = below (tasks_in front) 64 few.tasks h
 one_of source o (role.Local of b e) front few h = below (locals_in front) 256 few.locals h
@@ -74,10 +78,13 @@ one_of source o (role.Count n) front few h = tt
 
 -- one more
 few_more : (o : Occurrence) (r : Role) (front : List Occurrence) → r ≡ o.role → AreFew front → IsOneOf r front → AreFew (o ∷ front)
-few_more o r front is few one = subst (λ r. (shared_in front + one_shared r ≤ 256) × (tasks_in front + one_task r ≤ 64) × (locals_after (locals_in front) r ≤ 256) → AreFew (o ∷ front)) (sym is)
+few_more o r front is few one =
+    subst (λ r. (shared_in front + one_shared r ≤ 256) × (tasks_in front + one_task r ≤ 64) × (locals_after (locals_in front) r ≤ 256) → AreFew (o ∷ front))
+    (sym is)
     (λ h. record { shared = h.0; tasks = h.1; locals = h.2 }) (bounds r one)
   where
-    bounds : (r : Role) → IsOneOf r front → (shared_in front + one_shared r ≤ 256) × (tasks_in front + one_task r ≤ 64) × (locals_after (locals_in front) r ≤ 256)
+    bounds : (r : Role) → IsOneOf r front → (shared_in front + one_shared r ≤ 256) × (tasks_in front + one_task r ≤ 64)
+        × (locals_after (locals_in front) r ≤ 256)
     bounds (role.Shared of e) one = let a = few.shared in let b = few.tasks in let c = few.locals in (omega arith, omega arith, omega arith)
     bounds role.Task one = let a = few.shared in let b = few.tasks in let c = few.locals in (omega arith, omega arith, omega arith)
     bounds (role.Local of b e) one = let a = few.shared in let b = few.tasks in let c = few.locals in (omega arith, omega arith, omega arith)
@@ -119,7 +126,7 @@ IfGlobal shared tasks None = Unit {0}
 IfGlobal shared tasks (Some g) = IsInRange shared tasks g.symbol
 
 -- of a local
-abbrev IfLocal : Option Local → Type 0
+abbrev pub IfLocal : Option Local → Type 0
 IfLocal None = Unit {0}
 IfLocal (Some l) = l.number < 256
 
@@ -128,7 +135,8 @@ local_or false l other h k = k
 local_or true None other h k = k
 local_or true (Some l) other h k = h
 
-global_or : (shared tasks : ℕ) (b : Bool) (other g : Option Global) → IfGlobal shared tasks other → IfGlobal shared tasks g → IfGlobal shared tasks (option_or other (if_named b g))
+global_or : (shared tasks : ℕ) (b : Bool) (other g : Option Global) → IfGlobal shared tasks other → IfGlobal shared tasks g
+    → IfGlobal shared tasks (option_or other (if_named b g))
 global_or shared tasks b (Some x) g h k = h
 global_or shared tasks false None g h k = tt
 global_or shared tasks true None g h k = k
@@ -168,7 +176,8 @@ meaning_in shared tasks n (Some l) g h k = known (nat_le l.end n && nat_lt n l.b
     known true = h
     known false = or_in g k
 
-symbol_in : (shared tasks : ℕ) (r : Role) (front : List Occurrence) (found : Option Symbol) → IsOneOf r front → IfInRange shared tasks found → IfInRange shared tasks (symbol_by r (locals_in front) found)
+symbol_in : (shared tasks : ℕ) (r : Role) (front : List Occurrence) (found : Option Symbol) → IsOneOf r front → IfInRange shared tasks found
+    → IfInRange shared tasks (symbol_by r (locals_in front) found)
 symbol_in shared tasks (role.Shared of e) front found one h = tt
 symbol_in shared tasks role.Task front found one h = tt
 symbol_in shared tasks (role.Local of b e) front found one h = one
@@ -233,29 +242,35 @@ module _ (source : List ℕ) where
       local_or (bytes_eq (text_of source o.span) name) (local_with o.role (tasks_in front) (locals_in front)) (local_in source name front)
       (local_here o.role front (one_here source o front (are_few source front both.0) both.1)) (local_in_range name front both.0)
 
-  global_in_range : (shared tasks : ℕ) (name : List ℕ) (front : List Occurrence) → shared_in front ≤ shared → tasks_in front ≤ tasks → IfGlobal shared tasks (global_in source name front)
+  global_in_range : (shared tasks : ℕ) (name : List ℕ) (front : List Occurrence) → shared_in front ≤ shared → tasks_in front ≤ tasks
+      → IfGlobal shared tasks (global_in source name front)
   global_in_range shared tasks name [] h k = tt
   global_in_range shared tasks name (o ∷ front) h k =
-      global_or shared tasks (bytes_eq (text_of source o.span) name) (global_in source name front) (global_with o.role (length front) (shared_in front) (tasks_in front))
+      global_or shared tasks (bytes_eq (text_of source o.span) name) (global_in source name front)
+      (global_with o.role (length front) (shared_in front) (tasks_in front))
       (global_in_range shared tasks name front (omega arith) (omega arith)) (global_here shared tasks (length front) o.role front h k)
 
   module _ (all : List Occurrence) where
-    symbol_in_range : (o : Occurrence) (front : List Occurrence) → first_fault (limit_fault source) front ≡ None → limit_fault source o front ≡ None → IfInRange (shared_in all) (tasks_in all) (symbol_at source all o front)
+    symbol_in_range : (o : Occurrence) (front : List Occurrence) → first_fault (limit_fault source) front ≡ None → limit_fault source o front ≡ None
+        → IfInRange (shared_in all) (tasks_in all) (symbol_at source all o front)
     unfolding symbol_at
     symbol_in_range o front h k =
         let name = text_of source o.span in
-        symbol_in (shared_in all) (tasks_in all) o.role front (meaning (behind all front) (local_in source name front) (global_in source name all)) (one_here source o front (are_few source front h) k)
+        symbol_in (shared_in all) (tasks_in all) o.role front (meaning (behind all front) (local_in source name front) (global_in source name all))
+        (one_here source o front (are_few source front h) k)
         (meaning_in (shared_in all) (tasks_in all) (behind all front) (local_in source name front) (global_in source name all) (local_in_range name front h)
         (global_in_range (shared_in all) (tasks_in all) name all (omega arith) (omega arith)))
 
-    variables_in_range : (front : List Occurrence) → first_fault (limit_fault source) front ≡ None → list_all (is_fine (shared_in all)) (variables_in source all front) ≡ true
+    variables_in_range : (front : List Occurrence) → first_fault (limit_fault source) front ≡ None
+        → list_all (is_fine (shared_in all)) (variables_in source all front) ≡ true
     variables_in_range [] h = refl
     variables_in_range (o ∷ front) h =
         let both = both_none (first_fault (limit_fault source) front) (limit_fault source o front) h in
         all_both (is_fine (shared_in all)) (variables_in source all front) (variable_by o.role (symbol_at source all o front)) (variables_in_range front both.0)
         (variables_fine (shared_in all) (tasks_in all) o.role (symbol_at source all o front) (symbol_in_range o front both.0 both.1))
 
-    targets_in_range : (front : List Occurrence) → first_fault (limit_fault source) front ≡ None → list_all (λ n. nat_lt n (tasks_in all)) (targets_in source all front) ≡ true
+    targets_in_range : (front : List Occurrence) → first_fault (limit_fault source) front ≡ None
+        → list_all (λ n. nat_lt n (tasks_in all)) (targets_in source all front) ≡ true
     targets_in_range [] h = refl
     targets_in_range (o ∷ front) h =
         let both = both_none (first_fault (limit_fault source) front) (limit_fault source o front) h in
@@ -264,32 +279,40 @@ module _ (source : List ℕ) where
 
 -- ---- a source with its names looked up, of which none is too many
 
-module _ (source : List ℕ) (tree : Program Span Span) (checked : Program VariableName TaskName) (is : IsLookedUp source tree checked) (fine : limits_fault source tree ≡ None) where
+module _ (source : List ℕ) (tree : Program Span Span) (checked : Program VariableName TaskName) (is : IsLookedUp source tree checked)
+    (fine : limits_fault source tree ≡ None) where
   shared_is : shared_in (program_names tree) ≡ length checked.shared
   shared_is = shared_of_program tree ∙ ap (λ p. length p.shared) (sym is.places)
 
   tasks_are : tasks_in (program_names tree) ≡ length checked.tasks
   tasks_are = tasks_of_program tree ∙ (ap (λ p. length p.tasks) (sym is.places) ∙ length-map checked.tasks task_back)
 
+  -- there are at most 256 shared variables
   pub few_shared : length checked.shared ≤ 256
   few_shared = let h = are_few source (program_names tree) fine in let k = h.shared in omega (arith, shared_is)
 
+  -- there are at most 64 tasks
   pub few_tasks : length checked.tasks ≤ 64
   few_tasks = let h = are_few source (program_names tree) fine in let k = h.tasks in omega (arith, tasks_are)
 
   variables_numbered : list_all (λ v. is_numbered (length checked.shared) v.variable) (task_variables checked.tasks []) ≡ true
   variables_numbered = ap (list_all (λ v. is_numbered (length checked.shared) v.variable)) is.variables
-      ∙ subst (λ n. list_all (λ v. is_numbered n v.variable) (variables_in source (program_names tree) (program_names tree)) ≡ true) shared_is (variables_in_range source (program_names tree) (program_names tree) fine)
+      ∙ subst (λ n. list_all (λ v. is_numbered n v.variable) (variables_in source (program_names tree) (program_names tree)) ≡ true) shared_is
+      (variables_in_range source (program_names tree) (program_names tree) fine)
 
-  targets_numbered : list_all (λ n. nat_lt n (length checked.tasks)) (task_targets checked.tasks (checked.entry.task ∷ [])) ≡ true
+  -- each transition names one of the tasks
+  pub targets_numbered : list_all (λ n. nat_lt n (length checked.tasks)) (task_targets checked.tasks (checked.entry.task ∷ [])) ≡ true
   targets_numbered = ap (list_all (λ n. nat_lt n (length checked.tasks))) is.targets
-      ∙ subst (λ m. list_all (λ n. nat_lt n m) (targets_in source (program_names tree) (program_names tree)) ≡ true) tasks_are (targets_in_range source (program_names tree) (program_names tree) fine)
+      ∙ subst (λ m. list_all (λ n. nat_lt n m) (targets_in source (program_names tree) (program_names tree)) ≡ true) tasks_are
+      (targets_in_range source (program_names tree) (program_names tree) fine)
 
   pub numbered : are_numbered checked ≡ true
-  numbered = ap (λ b. b && list_all (λ n. nat_lt n (length checked.tasks)) (task_targets checked.tasks (checked.entry.task ∷ []))) variables_numbered ∙ targets_numbered
+  numbered = ap (λ b. b && list_all (λ n. nat_lt n (length checked.tasks)) (task_targets checked.tasks (checked.entry.task ∷ []))) variables_numbered
+      ∙ targets_numbered
 
 -- the same of the code's tree, where the walk found none too many
-module _ (source : List ℕ) (s : Source VariableName TaskName) (is : IsLookedUp source (program_back (program_of s)) (program_of s)) (too_many : Option CheckFault)
+module _ (source : List ℕ) (s : Source VariableName TaskName) (is : IsLookedUp source (program_back (program_of s)) (program_of s))
+    (too_many : Option CheckFault)
     (limits : too_many ≡ limits_fault source (program_back (program_of s))) (fine : too_many ≡ None) where
   no_limit : limits_fault source (program_back (program_of s)) ≡ None
   no_limit = sym limits ∙ fine
@@ -305,12 +328,14 @@ module _ (source : List ℕ) (s : Source VariableName TaskName) (is : IsLookedUp
 
 -- ---- as many names are looked up as a tree has
 
-no_name_fault : (source : List ℕ) (o : Occurrence) (repeated unknown : Bool) → name_fault_if source o repeated unknown ≡ None → unknown ≡ false
+-- a name without a fault is known
+pub no_name_fault : (source : List ℕ) (o : Occurrence) (repeated unknown : Bool) → name_fault_if source o repeated unknown ≡ None → unknown ≡ false
 no_name_fault source o repeated false h = refl
 no_name_fault source o true true h = absurd (cc)
 no_name_fault source o false true h = absurd (cc)
 
-variable_found : (source : List ℕ) (o : Occurrence) (r : Role) (locals : ℕ) (found : Option Symbol) → is_unknown r (symbol_by r locals found) ≡ false → use_fault_by source o r (symbol_by r locals found) ≡ None
+variable_found : (source : List ℕ) (o : Occurrence) (r : Role) (locals : ℕ) (found : Option Symbol) → is_unknown r (symbol_by r locals found) ≡ false
+    → use_fault_by source o r (symbol_by r locals found) ≡ None
     → length (variable_by r (symbol_by r locals found)) ≡ one_variable r
 variable_found source o role.Target locals found h k = refl
 variable_found source o (role.Shared of e) locals found h k = refl
@@ -333,7 +358,8 @@ variable_found source o role.Counter locals (Some (symbol.Array n of)) h k = ref
 variable_found source o role.Counter locals (Some (symbol.Local n of)) h k = refl
 variable_found source o role.Counter locals (Some (symbol.Task n)) h k = absurd (cc)
 
-target_found : (source : List ℕ) (o : Occurrence) (r : Role) (locals : ℕ) (found : Option Symbol) → is_unknown r (symbol_by r locals found) ≡ false → use_fault_by source o r (symbol_by r locals found) ≡ None
+target_found : (source : List ℕ) (o : Occurrence) (r : Role) (locals : ℕ) (found : Option Symbol) → is_unknown r (symbol_by r locals found) ≡ false
+    → use_fault_by source o r (symbol_by r locals found) ≡ None
     → length (target_by r (symbol_by r locals found)) ≡ one_target r
 target_found source o role.Target locals None h k = absurd (cc)
 target_found source o role.Target locals (Some (symbol.Scalar n of)) h k = absurd (cc)
@@ -353,15 +379,18 @@ module _ (source : List ℕ) (all : List Occurrence) where
   unfolding name_fault
   known_here o front h = no_name_fault source o _ _ h
 
-  variable_here : (o : Occurrence) (front : List Occurrence) → name_fault source all o front ≡ None → use_fault source all o front ≡ None → length (variable_by o.role (symbol_at source all o front)) ≡ one_variable o.role
+  variable_here : (o : Occurrence) (front : List Occurrence) → name_fault source all o front ≡ None → use_fault source all o front ≡ None
+      → length (variable_by o.role (symbol_at source all o front)) ≡ one_variable o.role
   unfolding use_fault symbol_at
   variable_here o front h k = variable_found source o o.role _ _ (known_here o front h) k
 
-  target_here : (o : Occurrence) (front : List Occurrence) → name_fault source all o front ≡ None → use_fault source all o front ≡ None → length (target_by o.role (symbol_at source all o front)) ≡ one_target o.role
+  target_here : (o : Occurrence) (front : List Occurrence) → name_fault source all o front ≡ None → use_fault source all o front ≡ None
+      → length (target_by o.role (symbol_at source all o front)) ≡ one_target o.role
   unfolding use_fault symbol_at
   target_here o front h k = target_found source o o.role _ _ (known_here o front h) k
 
-  variables_counted : (front : List Occurrence) → first_fault (name_fault source all) front ≡ None → first_fault (use_fault source all) front ≡ None → length (variables_in source all front) ≡ count one_variable front
+  variables_counted : (front : List Occurrence) → first_fault (name_fault source all) front ≡ None → first_fault (use_fault source all) front ≡ None
+      → length (variables_in source all front) ≡ count one_variable front
   variables_counted [] h k = refl
   variables_counted (o ∷ front) h k =
       let a = both_none (first_fault (name_fault source all) front) (name_fault source all o front) h in
@@ -370,7 +399,8 @@ module _ (source : List ℕ) (all : List Occurrence) where
       let f = variable_here o front a.1 b.1 in
       omega (arith, length-append (variables_in source all front) (variable_by o.role (symbol_at source all o front)))
 
-  targets_counted : (front : List Occurrence) → first_fault (name_fault source all) front ≡ None → first_fault (use_fault source all) front ≡ None → length (targets_in source all front) ≡ count one_target front
+  targets_counted : (front : List Occurrence) → first_fault (name_fault source all) front ≡ None → first_fault (use_fault source all) front ≡ None
+      → length (targets_in source all front) ≡ count one_target front
   targets_counted [] h k = refl
   targets_counted (o ∷ front) h k =
       let a = both_none (first_fault (name_fault source all) front) (name_fault source all o front) h in
@@ -379,12 +409,14 @@ module _ (source : List ℕ) (all : List Occurrence) where
       let f = target_here o front a.1 b.1 in
       omega (arith, length-append (targets_in source all front) (target_by o.role (symbol_at source all o front)))
 
-module _ (source : List ℕ) (tree : Program Span Span) (names : List Occurrence) (w : Walk) (same : names ≡ program_names tree) (walked : IsWalked source names names w) (fine : w.wrong_use ≡ None) where
+module _ (source : List ℕ) (tree : Program Span Span) (names : List Occurrence) (w : Walk) (same : names ≡ program_names tree)
+    (walked : IsWalked source names names w) (fine : w.wrong_use ≡ None) where
   no_use : first_fault (use_fault source names) names ≡ None
   no_use = sym walked.wrong_use ∙ fine
 
   pub all_variables : length w.variables.items ≡ tasks_count tree.tasks
-  all_variables = ap length walked.variables ∙ (variables_counted source names names walked.names no_use ∙ (ap (count one_variable) same ∙ variables_of_program tree))
+  all_variables = ap length walked.variables
+      ∙ (variables_counted source names names walked.names no_use ∙ (ap (count one_variable) same ∙ variables_of_program tree))
 
   pub all_targets : length w.targets.items ≡ tasks_transitions tree.tasks + 1
   all_targets = ap length walked.targets ∙ (targets_counted source names names walked.names no_use ∙ (ap (count one_target) same ∙ targets_of_program tree))

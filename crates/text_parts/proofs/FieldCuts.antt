@@ -1,10 +1,12 @@
 -- The first field of a line, and how a line is made of its fields.
-use Rattle.std.proofs.Common.{◌≡◌, ◌≢◌, ◌≤◌, ◌<◌, ℕ, suc, ◌&&◌, not, List, [], ◌∷◌, ◌++◌, length, drop, take, arith, refl, ap, sym, ◌∙◌, if◌then◌else◌, Bool, true, false, length-drop, append_assoc}
+use Rattle.std.proofs.Common.{◌≡◌, ◌≢◌, ◌≤◌, ◌<◌, ℕ, suc, not, List, [], ◌∷◌, ◌++◌, length, drop, take, arith, refl, ap, sym, ◌∙◌, if◌then◌else◌, Bool, true}
+use Rattle.std.proofs.Common.{false, length-drop, append_assoc, true≢false}
 use Rattle.std.specs.List.{list_all}
+use Rattle.std.proofs.lemmas.Bool.{and_parts, not-true}
 use Rattle.text_parts.specs.Lengths.{len_before, before}
 use Rattle.text_parts.specs.Lines.{onto_first}
-use Rattle.text_parts.specs.Fields.{fields, is_blank, begins_blank, no_fields, BeginsWithField, IsMadeOfFields}
-use Rattle.text_parts.proofs.Pieces.{behind, behind_is, both_true, not_true}
+use Rattle.text_parts.specs.Fields.{fields, is_blank, begins_blank, BeginsWithField, IsMadeOfFields}
+use Rattle.text_parts.proofs.Pieces.{behind, behind_is}
 
 abbrev blank_len : List ℕ → ℕ
 blank_len line = len_before (λ b. not (is_blank b)) line
@@ -83,21 +85,26 @@ blank_more : (b : ℕ) (bs : List ℕ) (fs : List (List ℕ)) → is_blank b ≡
 blank_more b bs [] e h = rw e h
 blank_more b bs (f ∷ fs) e (rest, first, h) = (
   rest,
-  record { blanks = b ∷ first.blanks; are_blank = rw e first.are_blank; some = first.some; none_blank = first.none_blank; apart = first.apart; made = ap (λ r. b ∷ r) first.made },
+  record {
+    blanks = b ∷ first.blanks;
+    are_blank = rw e first.are_blank;
+    some = first.some;
+    none_blank = first.none_blank;
+    apart = first.apart;
+    made = ap (λ r. b ∷ r) first.made;
+  },
   h,
 )
-
-differ : true ≡ false → ⊥
-differ e = cc
 
 -- no blank comes before a word
 no_blanks : (blanks rest bs : List ℕ) → list_all is_blank blanks ≡ true → bs ≡ blanks ++ rest → begins_blank bs ≡ false → blanks ≡ []
 no_blanks [] rest bs h e k = refl
-no_blanks (c ∷ cs) rest bs h e k = absurd (differ (sym (both_true (is_blank c) (list_all is_blank cs) h).0 ∙ sym (ap begins_blank e) ∙ k))
+no_blanks (c ∷ cs) rest bs h e k = absurd (true≢false (sym (and_parts (is_blank c) (list_all is_blank cs) h).0 ∙ sym (ap begins_blank e) ∙ k))
 
-byte_more : (b : ℕ) (bs : List ℕ) (fs : List (List ℕ)) → is_blank b ≡ false → begins_blank bs ≡ false → IsMadeOfFields fs bs → IsMadeOfFields (onto_first b fs) (b ∷ bs)
-byte_more b [] [] e k h = absurd (differ k)
-byte_more b (c ∷ cs) [] e k h = absurd (differ (sym (both_true (is_blank c) (list_all is_blank cs) h).0 ∙ k))
+byte_more : (b : ℕ) (bs : List ℕ) (fs : List (List ℕ)) → is_blank b ≡ false → begins_blank bs ≡ false → IsMadeOfFields fs bs
+    → IsMadeOfFields (onto_first b fs) (b ∷ bs)
+byte_more b [] [] e k h = absurd (true≢false k)
+byte_more b (c ∷ cs) [] e k h = absurd (true≢false (sym (and_parts (is_blank c) (list_all is_blank cs) h).0 ∙ k))
 byte_more b bs (f ∷ fs) e k (rest, first, h) =
     let made : bs ≡ first.blanks ++ (f ++ rest) = first.made ∙ append_assoc first.blanks f rest in
     let none : first.blanks ≡ [] = no_blanks first.blanks (f ++ rest) bs first.are_blank made k in (
@@ -128,50 +135,40 @@ fields_made (b ∷ bs) = more_made (is_blank b) (begins_blank bs) b bs (fields b
 all_blank : (line : List ℕ) → list_all is_blank line ≡ true → fields line ≡ []
 unfolding fields
 all_blank [] h = refl
-all_blank (b ∷ bs) h = let t = both_true (is_blank b) (list_all is_blank bs) h in rw t.0 (all_blank bs t.1)
+all_blank (b ∷ bs) h = let t = and_parts (is_blank b) (list_all is_blank bs) h in rw t.0 (all_blank bs t.1)
 
 skip_blanks : (blanks rest : List ℕ) → list_all is_blank blanks ≡ true → fields (blanks ++ rest) ≡ fields rest
 unfolding fields
 skip_blanks [] rest h = refl
-skip_blanks (b ∷ bs) rest h = let t = both_true (is_blank b) (list_all is_blank bs) h in rw t.0 (skip_blanks bs rest t.1)
+skip_blanks (b ∷ bs) rest h = let t = and_parts (is_blank b) (list_all is_blank bs) h in rw t.0 (skip_blanks bs rest t.1)
 
 pick : (s : Bool) (x y : List (List ℕ)) → s ≡ false → (if s then x else y) ≡ y
 pick s x y e = rw e refl
 
 -- a word and what begins with a blank, or nothing
-pub fields_front : (b : ℕ) (bs rest : List ℕ) → list_all (λ b. not (is_blank b)) (b ∷ bs) ≡ true → begins_blank rest ≡ true → fields (b ∷ (bs ++ rest)) ≡ (b ∷ bs) ∷ fields rest
+pub fields_front : (b : ℕ) (bs rest : List ℕ) → list_all (λ b. not (is_blank b)) (b ∷ bs) ≡ true → begins_blank rest ≡ true
+    → fields (b ∷ (bs ++ rest)) ≡ (b ∷ bs) ∷ fields rest
 unfolding fields
 fields_front b [] rest h e =
-    let t = both_true (not (is_blank b)) true h in
-    rw (not_true (is_blank b) t.0, e) refl
+    let t = and_parts (not (is_blank b)) true h in
+    rw (not-true (is_blank b) t.0, e) refl
 fields_front b (c ∷ cs) rest h e =
-    let t = both_true (not (is_blank b)) (list_all (λ b. not (is_blank b)) (c ∷ cs)) h in
-    let u = both_true (not (is_blank c)) (list_all (λ b. not (is_blank b)) cs) t.1 in
-    rw (not_true (is_blank b) t.0)
-    (pick (is_blank c) ((b ∷ []) ∷ fields (c ∷ (cs ++ rest))) (onto_first b (fields (c ∷ (cs ++ rest)))) (not_true (is_blank c) u.0)
+    let t = and_parts (not (is_blank b)) (list_all (λ b. not (is_blank b)) (c ∷ cs)) h in
+    let u = and_parts (not (is_blank c)) (list_all (λ b. not (is_blank b)) cs) t.1 in
+    rw (not-true (is_blank b) t.0)
+    (pick (is_blank c) ((b ∷ []) ∷ fields (c ∷ (cs ++ rest))) (onto_first b (fields (c ∷ (cs ++ rest)))) (not-true (is_blank c) u.0)
     ∙ ap (onto_first b) (fields_front c cs rest t.1 e))
 
 first_field : (line f rest : List ℕ) → BeginsWithField line f rest → fields line ≡ f ∷ fields rest
 first_field line [] rest first = absurd (let s = first.some in omega arith)
-first_field line (b ∷ bs) rest first = ap fields (first.made ∙ append_assoc first.blanks (b ∷ bs) rest) ∙ skip_blanks first.blanks (b ∷ (bs ++ rest)) first.are_blank
+first_field line (b ∷ bs) rest first = ap fields (first.made ∙ append_assoc first.blanks (b ∷ bs) rest)
+    ∙ skip_blanks first.blanks (b ∷ (bs ++ rest)) first.are_blank
     ∙ fields_front b bs rest first.none_blank first.apart
 
 -- what a line is made of are its fields
 pub fields_only : (fs : List (List ℕ)) (line : List ℕ) → IsMadeOfFields fs line → fs ≡ fields line
 fields_only [] line h = sym (all_blank line h)
 fields_only (f ∷ fs) line (rest, first, h) = ap (λ gs. f ∷ gs) (fields_only fs rest h) ∙ sym (first_field line f rest first)
-
-no_by : (t u : Bool) (b : ℕ) (fs : List (List ℕ)) (v : Bool) → v ≡ no_fields fs → (t && v) ≡ no_fields (if t then fs else (if u then (b ∷ []) ∷ fs else onto_first b fs))
-no_by true u b fs v e = e
-no_by false true b fs v e = refl
-no_by false false b [] v e = refl
-no_by false false b (f ∷ fs) v e = refl
-
--- a line has no field where each byte is a blank
-pub no_fields_is : (line : List ℕ) → list_all is_blank line ≡ no_fields (fields line)
-unfolding fields
-no_fields_is [] = refl
-no_fields_is (b ∷ bs) = no_by (is_blank b) (begins_blank bs) b (fields bs) (list_all is_blank bs) (no_fields_is bs)
 
 before_by : (t : Bool) (n b : ℕ) (bs rest : List ℕ) → take n bs ≡ rest → take (if t then 0 else suc n) (b ∷ bs) ≡ (if t then [] else b ∷ rest)
 before_by true n b bs rest ih = refl

@@ -1,8 +1,10 @@
 -- The first piece of a text, and how a text is made of its pieces.
-use Rattle.std.proofs.Common.{◌≡◌, ◌≤◌, ◌<◌, ℕ, suc, zero, ◌+◌, ◌-◌, ◌==◌, ◌&&◌, not, List, [], ◌∷◌, ◌++◌, length, map, drop, take, arith, refl, ap, sym, ◌∙◌, if◌then◌else◌, Bool, true, false, ◌⊎◌, inl, inr, length-drop, add-one}
+use Rattle.std.proofs.Common.{◌≡◌, ◌≤◌, ◌<◌, ℕ, suc, zero, ◌+◌, ◌-◌, ◌==◌, not, List, [], ◌∷◌, ◌++◌, length, map, drop, take, arith, refl, ap, sym, ◌∙◌}
+use Rattle.std.proofs.Common.{if◌then◌else◌, Bool, true, false, ◌⊎◌, inl, inr, length-drop, add-one}
 use Rattle.std.specs.List.{list_all}
 use Rattle.std.proofs.lemmas.List.{take_rest}
 use Rattle.std.proofs.lemmas.Bool.Decides.{nat_tests}
+use Rattle.std.proofs.lemmas.Bool.{and_parts, not-true}
 use Rattle.text_parts.specs.Lengths.{len_before}
 use Rattle.text_parts.specs.Lines.{pieces, onto_first, without_return, lines, BeginsWithPiece, IsMadeOfPieces}
 
@@ -52,6 +54,7 @@ lines_none (b ∷ bs) e = absurd (omega arith)
 abbrev pub behind : {A : Type 0} → ℕ → List A → List A
 behind k xs = take (length xs - k) (drop k xs)
 
+-- the rest behind a place, as a drop
 pub behind_is : {A : Type 0} (k : ℕ) (xs : List A) → behind k xs ≡ drop k xs
 behind_is k xs = take_rest xs k
 
@@ -60,7 +63,8 @@ pub cut_fed : (text line : List ℕ) (n : ℕ) → n ≡ len_before feed text �
 cut_fed text line n e h k =
     let short : len_before feed text < length text = rw e at h in (
       ap (map without_return) (pieces_cut text short) ∙ ap (λ m. without_return (take m text) ∷ lines (drop (suc m) text)) (sym e)
-          ∙ ap (λ l. l ∷ lines (drop (suc n) text)) (sym k) ∙ ap (λ m. line ∷ lines (drop m text)) (sym (add-one n)) ∙ ap (λ r. line ∷ lines r) (sym (behind_is (n + 1) text)),
+          ∙ ap (λ l. l ∷ lines (drop (suc n) text)) (sym k) ∙ ap (λ m. line ∷ lines (drop m text)) (sym (add-one n))
+          ∙ ap (λ r. line ∷ lines r) (sym (behind_is (n + 1) text)),
       rw (behind_is (n + 1) text) (omega (arith, length-drop (n + 1) text)),
     )
 
@@ -79,24 +83,17 @@ cut_last (b ∷ bs) line n e h k l f =
       rw (behind_is n (b ∷ bs)) (omega (arith, length-drop n (b ∷ bs))),
     )
 
--- both hold where both tests do
-pub both_true : (t u : Bool) → (t && u) ≡ true → (t ≡ true) × (u ≡ true)
-both_true true u e = (refl, e)
-both_true false u e = cc
-
-pub not_true : (t : Bool) → not t ≡ true → t ≡ false
-not_true true e = cc
-not_true false e = refl
-
 is_feed : (b : ℕ) → (b == 10) ≡ true → b ≡ 10
 is_feed b e = grind (arith, nat_tests, e)
 
-more_made : (t : Bool) (b : ℕ) (bs : List ℕ) (ps : List (List ℕ)) → (b == 10) ≡ t → IsMadeOfPieces ps bs → IsMadeOfPieces (if t then [] ∷ ps else onto_first b ps) (b ∷ bs)
+more_made : (t : Bool) (b : ℕ) (bs : List ℕ) (ps : List (List ℕ)) → (b == 10) ≡ t → IsMadeOfPieces ps bs
+    → IsMadeOfPieces (if t then [] ∷ ps else onto_first b ps) (b ∷ bs)
 more_made true b bs ps e h = (bs, (refl, inl (ap (λ c. c ∷ bs) (is_feed b e))), h)
 more_made false b bs [] e h = ([], (rw e refl, inr (ap (λ r. b ∷ r) h, refl, omega arith)), refl)
 more_made false b bs (p ∷ ps) e (rest, (none, at), h) = (rest, (rw e none, ends at), h)
   where
-    ends : (bs ≡ p ++ 10 ∷ rest) ⊎ ((bs ≡ p) × (rest ≡ []) × (0 < length p)) → (b ∷ bs ≡ (b ∷ p) ++ 10 ∷ rest) ⊎ ((b ∷ bs ≡ b ∷ p) × (rest ≡ []) × (0 < length (b ∷ p)))
+    ends : (bs ≡ p ++ 10 ∷ rest) ⊎ ((bs ≡ p) × (rest ≡ []) × (0 < length p))
+        → (b ∷ bs ≡ (b ∷ p) ++ 10 ∷ rest) ⊎ ((b ∷ bs ≡ b ∷ p) × (rest ≡ []) × (0 < length (b ∷ p)))
     ends (inl e) = inl (ap (λ r. b ∷ r) e)
     ends (inr (e, f, g)) = inr (ap (λ r. b ∷ r) e, f, omega arith)
 
@@ -111,17 +108,17 @@ pub piece_fed : (p rest : List ℕ) → list_all (λ b. not (b == 10)) p ≡ tru
 unfolding pieces
 piece_fed [] rest h = refl
 piece_fed (b ∷ bs) rest h =
-    let t = both_true (not (b == 10)) (list_all (λ b. not (b == 10)) bs) h in
-    rw (not_true (b == 10) t.0) (ap (onto_first b) (piece_fed bs rest t.1))
+    let t = and_parts (not (b == 10)) (list_all (λ b. not (b == 10)) bs) h in
+    rw (not-true (b == 10) t.0) (ap (onto_first b) (piece_fed bs rest t.1))
 
 piece_whole : (b : ℕ) (bs : List ℕ) → list_all (λ b. not (b == 10)) (b ∷ bs) ≡ true → pieces (b ∷ bs) ≡ (b ∷ bs) ∷ []
 unfolding pieces
 piece_whole b [] h =
-    let t = both_true (not (b == 10)) true h in
-    rw (not_true (b == 10) t.0) refl
+    let t = and_parts (not (b == 10)) true h in
+    rw (not-true (b == 10) t.0) refl
 piece_whole b (c ∷ cs) h =
-    let t = both_true (not (b == 10)) (list_all (λ b. not (b == 10)) (c ∷ cs)) h in
-    rw (not_true (b == 10) t.0) (ap (onto_first b) (piece_whole c cs t.1))
+    let t = and_parts (not (b == 10)) (list_all (λ b. not (b == 10)) (c ∷ cs)) h in
+    rw (not-true (b == 10) t.0) (ap (onto_first b) (piece_whole c cs t.1))
 
 first_piece : (text p rest : List ℕ) → BeginsWithPiece text p rest → pieces text ≡ p ∷ pieces rest
 first_piece text p rest (none, inl e) = ap pieces e ∙ piece_fed p rest none

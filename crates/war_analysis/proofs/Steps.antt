@@ -1,10 +1,11 @@
 -- What one turn of the loops of the analysis finds.
-use Rattle.std.proofs.Common.{◌≡◌, ℕ, zero, suc, ◌+◌, ◌<◌, Bool, true, false, ◌&&◌, not, if◌then◌else◌, List, [], ◌∷◌, ◌++◌, length, map, get_or, refl, ap, sym, ◌∙◌, subst, inl, inr, arith, Option, Some, None}
+use Rattle.std.proofs.Common.{◌≡◌, ℕ, zero, suc, ◌+◌, ◌<◌, Bool, true, false, ◌&&◌, not, if◌then◌else◌, List, [], ◌∷◌, ◌++◌, length, map, get_or, refl, ap, sym}
+use Rattle.std.proofs.Common.{◌∙◌, subst, inl, inr, arith, Option, Some, None}
 use Rattle.std.specs.Prelude.{slice_get, IsSomeAnd}
 use Rattle.std.specs.Option.{option_map}
 use Rattle.std.proofs.lemmas.Option.{slice_get_read, slice_get_past, get_or_from_slice_get, slice_get-map, same_Some}
 use Rattle.std.proofs.lemmas.List.{length_push, length-map}
-use Rattle.std.proofs.lemmas.Bool.{cases_lt}
+use Rattle.std.proofs.lemmas.Bool.{cases_lt, and_parts, and_from, not-true}
 use Rattle.task_ast.specs.declared.Extent.{Extent}
 use Rattle.task_ast.specs.declared.SharedDeclaration.{SharedDeclaration}
 use Rattle.task_ast.specs.declared.TaskDeclaration.{TaskDeclaration}
@@ -36,42 +37,42 @@ private_within shared code i h = within shared i (λ d. is_scalar d.extent ≡ t
 pub versioned_within : (shared : List SharedDeclaration) (code : Code) (i : ℕ) → IsVersionedIn shared code i → i < length shared
 versioned_within shared code i h = within shared i (λ d. is_scalar d.extent ≡ false) h.array
 
-left : (a b : Bool) → (a && b) ≡ true → a ≡ true
-left true b h = refl
-left false b h = h
-
-right : (a b : Bool) → (a && b) ≡ true → b ≡ true
-right true b h = h
-right false b h = cc
-
-both : (a b : Bool) → a ≡ true → b ≡ true → (a && b) ≡ true
-both a b h k = ap (λ c. c && b) h ∙ k
-
-not_true : (b : Bool) → not b ≡ true → b ≡ false
-not_true true h = cc
-not_true false h = refl
-
 -- one variable, its mark and whether it is found
 module _ (shared : List SharedDeclaration) (code : Code) (i : ℕ) (extent : Extent) (mark r : Bool)
     (at : (d : SharedDeclaration) → slice_get shared i ≡ Some d → extent ≡ d.extent) (marked : mark ≡ block_assigns i code) where
   pub is_private : (d : SharedDeclaration) → slice_get shared i ≡ Some d → r ≡ (mark && is_scalar extent) → r ≡ true → IsPrivateIn shared code i
   is_private d there e h =
       let found : (mark && is_scalar extent) ≡ true = sym e ∙ h in
-      record { scalar = some_and (slice_get shared i) (λ d. is_scalar d.extent ≡ true) d there (ap is_scalar (sym (at d there)) ∙ right mark (is_scalar extent) found); assigned = sym marked ∙ left mark (is_scalar extent) found }
+      record {
+        scalar =
+            some_and (slice_get shared i) (λ d. is_scalar d.extent ≡ true) d there
+            (ap is_scalar (sym (at d there)) ∙ (and_parts mark (is_scalar extent) found).1);
+        assigned = sym marked ∙ (and_parts mark (is_scalar extent) found).0;
+      }
 
   pub not_private : (d : SharedDeclaration) → slice_get shared i ≡ Some d → r ≡ (mark && is_scalar extent) → r ≡ false → IsPrivateIn shared code i → ⊥
   not_private d there e h p =
-      let found = both mark (is_scalar extent) (marked ∙ p.assigned) (ap is_scalar (at d there) ∙ and_some (slice_get shared i) (λ d. is_scalar d.extent ≡ true) d there p.scalar) in
+      let found =
+      and_from mark (is_scalar extent) (marked ∙ p.assigned)
+      (ap is_scalar (at d there) ∙ and_some (slice_get shared i) (λ d. is_scalar d.extent ≡ true) d there p.scalar) in
       let clash : true ≡ false = sym found ∙ sym e ∙ h in cc
 
   pub is_versioned : (d : SharedDeclaration) → slice_get shared i ≡ Some d → r ≡ (mark && not (is_scalar extent)) → r ≡ true → IsVersionedIn shared code i
   is_versioned d there e h =
       let found : (mark && not (is_scalar extent)) ≡ true = sym e ∙ h in
-      record { array = some_and (slice_get shared i) (λ d. is_scalar d.extent ≡ false) d there (ap is_scalar (sym (at d there)) ∙ not_true (is_scalar extent) (right mark (not (is_scalar extent)) found)); assigned = sym marked ∙ left mark (not (is_scalar extent)) found }
+      record {
+        array =
+            some_and (slice_get shared i) (λ d. is_scalar d.extent ≡ false) d there
+            (ap is_scalar (sym (at d there)) ∙ not-true (is_scalar extent) (and_parts mark (not (is_scalar extent)) found).1);
+        assigned = sym marked
+            ∙ (and_parts mark (not (is_scalar extent)) found).0;
+      }
 
   pub not_versioned : (d : SharedDeclaration) → slice_get shared i ≡ Some d → r ≡ (mark && not (is_scalar extent)) → r ≡ false → IsVersionedIn shared code i → ⊥
   not_versioned d there e h p =
-      let found = both mark (not (is_scalar extent)) (marked ∙ p.assigned) (ap not (ap is_scalar (at d there) ∙ and_some (slice_get shared i) (λ d. is_scalar d.extent ≡ false) d there p.array)) in
+      let found =
+      and_from mark (not (is_scalar extent)) (marked ∙ p.assigned)
+      (ap not (ap is_scalar (at d there) ∙ and_some (slice_get shared i) (λ d. is_scalar d.extent ≡ false) d there p.array)) in
       let clash : true ≡ false = sym found ∙ sym e ∙ h in cc
 
 -- an element of a list below its end
@@ -81,36 +82,37 @@ element (x ∷ xs) zero l = (x, refl)
 element (x ∷ xs) (suc i) l = element xs i (omega arith)
 
 -- a turn of a loop over all numbers
-next : (P : ℕ → Type 0) (n : ℕ) (xs ys : List ℕ) (r : Bool) → (r ≡ true → P n) → (r ≡ false → P n → ⊥) → ys ≡ (if r then xs ++ n ∷ [] else xs) → AreNumbersBelow P n xs → AreNumbersBelow P (n + 1) ys
+next : (P : ℕ → Type 0) (n : ℕ) (xs ys : List ℕ) (r : Bool) → (r ≡ true → P n) → (r ≡ false → P n → ⊥) → ys ≡ (if r then xs ++ n ∷ [] else xs)
+    → AreNumbersBelow P n xs → AreNumbersBelow P (n + 1) ys
 next P n xs ys true found missed e h = one_more P n xs ys h (found refl) e
 next P n xs ys false found missed e h = subst (λ zs. AreNumbersBelow P (n + 1) zs) (sym e) (none_more P n xs h (missed refl))
 
-extent_at : (shared : List SharedDeclaration) (i : ℕ) (extent : Extent) → ((d : SharedDeclaration) → extent ≡ (get_or shared i d).extent) → (d : SharedDeclaration) → slice_get shared i ≡ Some d → extent ≡ d.extent
+extent_at : (shared : List SharedDeclaration) (i : ℕ) (extent : Extent) → ((d : SharedDeclaration) → extent ≡ (get_or shared i d).extent)
+    → (d : SharedDeclaration) → slice_get shared i ≡ Some d → extent ≡ d.extent
 extent_at shared i extent h d e = h d ∙ ap (λ x. x.extent) (get_or_from_slice_get shared i d d e)
 
 module _ (shared : List SharedDeclaration) (code : Code) (n : ℕ) (extent : Extent) (mark r : Bool) (xs ys : List ℕ)
-    (lt : n < length shared) (at : (d : SharedDeclaration) → extent ≡ (get_or shared n d).extent) (marked : mark ≡ block_assigns n code) (e : ys ≡ (if r then xs ++ n ∷ [] else xs)) where
+    (lt : n < length shared) (at : (d : SharedDeclaration) → extent ≡ (get_or shared n d).extent) (marked : mark ≡ block_assigns n code)
+    (e : ys ≡ (if r then xs ++ n ∷ [] else xs)) where
   pub next_private : r ≡ (mark && is_scalar extent) → AreNumbersBelow (IsPrivateIn shared code) n xs → AreNumbersBelow (IsPrivateIn shared code) (n + 1) ys
   next_private is h =
       let d = element shared n lt in
       let here = extent_at shared n extent at in
-      next (IsPrivateIn shared code) n xs ys r (is_private shared code n extent mark r here marked d.0 d.1 is) (not_private shared code n extent mark r here marked d.0 d.1 is) e h
+      next (IsPrivateIn shared code) n xs ys r (is_private shared code n extent mark r here marked d.0 d.1 is)
+      (not_private shared code n extent mark r here marked d.0 d.1 is) e h
 
-  pub next_versioned : r ≡ (mark && not (is_scalar extent)) → AreNumbersBelow (IsVersionedIn shared code) n xs → AreNumbersBelow (IsVersionedIn shared code) (n + 1) ys
+  pub next_versioned : r ≡ (mark && not (is_scalar extent)) → AreNumbersBelow (IsVersionedIn shared code) n xs
+      → AreNumbersBelow (IsVersionedIn shared code) (n + 1) ys
   next_versioned is h =
       let d = element shared n lt in
       let here = extent_at shared n extent at in
-      next (IsVersionedIn shared code) n xs ys r (is_versioned shared code n extent mark r here marked d.0 d.1 is) (not_versioned shared code n extent mark r here marked d.0 d.1 is) e h
-
--- an element by its place, whatever stands for one past the end
-pub at_any : {A : Type 0} (xs : List A) (i : ℕ) (d e : A) → i < length xs → get_or xs i d ≡ get_or xs i e
-at_any [] i d e h = absurd (omega arith)
-at_any (x ∷ xs) zero d e h = refl
-at_any (x ∷ xs) (suc i) d e h = at_any xs i d e (omega arith)
+      next (IsVersionedIn shared code) n xs ys r (is_versioned shared code n extent mark r here marked d.0 d.1 is)
+      (not_versioned shared code n extent mark r here marked d.0 d.1 is) e h
 
 -- ---- one more plan
 
-plan_push : (P : ℕ → TaskPlanValue → Type 0) (xs : List TaskPlanValue) (y : TaskPlanValue) → ((k : ℕ) (x : TaskPlanValue) → slice_get xs k ≡ Some x → P k x) → P (length xs) y
+plan_push : (P : ℕ → TaskPlanValue → Type 0) (xs : List TaskPlanValue) (y : TaskPlanValue) → ((k : ℕ) (x : TaskPlanValue) → slice_get xs k ≡ Some x → P k x)
+    → P (length xs) y
     → (k : ℕ) (x : TaskPlanValue) → slice_get (xs ++ y ∷ []) k ≡ Some x → P k x
 plan_push P [] y each new zero x e = let same : y ≡ x = cc in subst (P 0) same new
 plan_push P [] y each new (suc k) x e = let no : None ≡ Some x = e in cc
@@ -120,23 +122,28 @@ plan_push P (z ∷ zs) y each new (suc k) x e = plan_push (λ n. P (suc n)) zs y
 -- the plans of the first tasks
 pub record PlansBelow (shared : List SharedDeclaration) (tasks : List CheckedTask) (n : ℕ) (plans : List TaskPlanValue) : Type 0 where
   pub count : length plans ≡ n
-  pub each : (k : ℕ) (plan : TaskPlanValue) → slice_get plans k ≡ Some plan → (task : CheckedTask) → slice_get tasks k ≡ Some task → IsTaskPlan shared task.body plan
+  pub each : (k : ℕ) (plan : TaskPlanValue) → slice_get plans k ≡ Some plan → (task : CheckedTask) → slice_get tasks k ≡ Some task
+      → IsTaskPlan shared task.body plan
 
 pub no_plans : (shared : List SharedDeclaration) (tasks : List CheckedTask) → PlansBelow shared tasks 0 []
 no_plans shared tasks = record { count = refl; each = λ k plan e. let no : None ≡ Some plan = e in cc }
 
-pub next_plan : (shared : List SharedDeclaration) (tasks : List (TaskDeclaration VariableName TaskName)) (n : ℕ) (task : TaskDeclaration VariableName TaskName) (body : List (Stmt VariableName TaskName))
-    (plan : TaskPlanValue) (xs ys : List TaskPlanValue) → n < length tasks → task ≡ get_or tasks n task → body ≡ task.body.items → IsTaskPlan shared (block_view body) plan → ys ≡ xs ++ plan ∷ []
+pub next_plan : (shared : List SharedDeclaration) (tasks : List (TaskDeclaration VariableName TaskName)) (n : ℕ) (task : TaskDeclaration VariableName TaskName)
+    (body : List (Stmt VariableName TaskName))
+    (plan : TaskPlanValue) (xs ys : List TaskPlanValue) → n < length tasks → task ≡ get_or tasks n task → body ≡ task.body.items
+    → IsTaskPlan shared (block_view body) plan → ys ≡ xs ++ plan ∷ []
     → PlansBelow shared (map task_of tasks) n xs → PlansBelow shared (map task_of tasks) (n + 1) ys
 next_plan shared tasks n task body plan xs ys lt at b is e h = subst (λ zs. PlansBelow shared (map task_of tasks) (n + 1) zs) (sym e) (record {
   count = length_push xs plan ∙ ap (λ k. k + 1) h.count;
   each = plan_push (λ k x. (t : CheckedTask) → slice_get (map task_of tasks) k ≡ Some t → IsTaskPlan shared t.body x) xs plan h.each
-      (λ t found. let there : slice_get (map task_of tasks) n ≡ Some (task_of task) = slice_get-map task_of tasks n ∙ ap (option_map task_of) (slice_get_read tasks (length tasks) n task refl lt at) in
+      (λ t found. let there : slice_get (map task_of tasks) n ≡ Some (task_of task) = slice_get-map task_of tasks n
+      ∙ ap (option_map task_of) (slice_get_read tasks (length tasks) n task refl lt at) in
       let here : slice_get (map task_of tasks) n ≡ Some t = ap (λ k. slice_get (map task_of tasks) k) (sym h.count) ∙ found in
       let same : task_of task ≡ t = same_Some (task_of task) t (sym there ∙ here) in
       subst (λ c. IsTaskPlan shared c plan) (ap block_view b ∙ ap (λ t. t.body) same) is);
 })
 
-pub all_plans : (shared : List SharedDeclaration) (tasks : List (TaskDeclaration VariableName TaskName)) (n : ℕ) (plans : List TaskPlanValue) → n ≡ length tasks → PlansBelow shared (map task_of tasks) n plans
+pub all_plans : (shared : List SharedDeclaration) (tasks : List (TaskDeclaration VariableName TaskName)) (n : ℕ) (plans : List TaskPlanValue) → n ≡ length tasks
+    → PlansBelow shared (map task_of tasks) n plans
     → ArePlans shared (map task_of tasks) plans
 all_plans shared tasks n plans e h = record { count = h.count ∙ e ∙ sym (length-map tasks task_of); each = λ k task plan t p. h.each k plan p task t }

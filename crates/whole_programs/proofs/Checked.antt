@@ -54,6 +54,7 @@ safe_paths b none xs end q = safe_of (λ x. true) xs (λ before n more x cut is 
   unassigned = sym (behind_is (λ x. true) before x) ∙ unassigned;
 }))
 
+-- each task of a checked source has passed the checks
 pub task_checked : (text : List ℕ) (program : Program VariableName TaskName) → Checks text program → (k : ℕ) (task : Task VariableName TaskName)
     → slice_get program.tasks k ≡ Some task
     → IsChecked program.shared task.body

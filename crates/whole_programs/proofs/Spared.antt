@@ -2,6 +2,7 @@
 use Rattle.std.proofs.Common.{◌≡◌, ℕ, ◌%◌, ◌==◌, ◌<◌, Bool, true, false, ◌&&◌, ◌||◌, not, List, [], ◌∷◌, Option, Some, None, refl, arith, inl, inr, slice_get}
 use Rattle.std.specs.Prelude.{◌≢◌}
 use Rattle.std.proofs.lemmas.Bool.Decides.{nat_tests}
+use Rattle.std.proofs.lemmas.Bool.{or_parts}
 use Rattle.alp_text.specs.declared.lines.Span.{Span}
 use Rattle.task_ast.specs.Tree as t
 use Rattle.task_ast.specs.Paths.{CheckedExpression, CheckedStatement, CheckedChoice, CheckedBlock}
@@ -59,10 +60,6 @@ is_good a b c from below body h = good_loop a.variable b.variable c.variable bod
     by_test false e = absurd (h a.span (inl (refl, e)))
 
 -- ---- programs that spare a local
-
-either : (a b : Bool) → (a || b) ≡ false → (a ≡ false) × (b ≡ false)
-either false b h = (refl, h)
-either true b h = absurd (cc)
 
 spares_joined : (n : ℕ) (p q : Program) → Spares n p → Spares n q → Spares n (joined p q)
 spares_joined n nothing q h k = k
@@ -154,8 +151,8 @@ module _ (p : Places) (shared : List SharedDeclaration) (y : ℕ) (low : y < 256
     statement_spares (t.choose choice) h n g = choice_spares choice h n g
     statement_spares (t.loop a from b below c body) h n g =
         let others = is_same_local b.variable (Local y) || is_same_local c.variable (Local y) in
-        let both = either (is_same_local a.variable (Local y) || others) (block_assigns (Local y) body) h in
-        let first = either (is_same_local a.variable (Local y)) others both.0 in
+        let both = or_parts (is_same_local a.variable (Local y) || others) (block_assigns (Local y) body) h in
+        let first = or_parts (is_same_local a.variable (Local y)) others both.0 in
         ((loop_apart a.variable n.0 first.0, block_spares body both.1 n.1 (λ at bad. g at (inr bad))), tt)
     statement_spares (t.emit e) h n g =
         spares_joined (y % 65536) (lowered_expression p e) (one (emit_word p.words.emit_count p.emits)) (expression_spares p (y % 65536) e) (tt, tt)
@@ -165,13 +162,13 @@ module _ (p : Places) (shared : List SharedDeclaration) (y : ℕ) (low : y < 256
     choice_spares t.nothing h n g = tt
     choice_spares (t.otherwise b) h n g = block_spares b h n g
     choice_spares (t.test e b more) h n g =
-        let both = either (block_assigns (Local y) b) (choice_assigns (Local y) more) h in
+        let both = or_parts (block_assigns (Local y) b) (choice_assigns (Local y) more) h in
         spares_joined (y % 65536) (lowered_expression p e) (one (choose (lowered_block p b) (lowered_choice p more))) (expression_spares p (y % 65536) e)
         ((block_spares b both.0 n.1 (λ at bad. g at (inl bad)), choice_spares more both.1 n.2 (λ at bad. g at (inr bad))), tt)
 
     pub block_spares : (b : CheckedBlock) → block_assigns (Local y) b ≡ false → BlockUses shared b → GoodBlock b → Spares (y % 65536) (lowered_block p b)
     block_spares t.end h n g = tt
     block_spares (t.step s more) h n g =
-        let both = either (statement_assigns (Local y) s) (block_assigns (Local y) more) h in
+        let both = or_parts (statement_assigns (Local y) s) (block_assigns (Local y) more) h in
         spares_joined (y % 65536) (lowered_statement p s) (lowered_block p more)
         (statement_spares s both.0 n.0 (λ at bad. g at (inl bad))) (block_spares more both.1 n.1 (λ at bad. g at (inr bad)))

@@ -24,6 +24,7 @@ use Rattle.lower.specs.Operations.{unary_operation, binary_operation, shift_oper
 use Rattle.lower.specs.Lowered.{one, read_step, write_step, element_read, element_step, store_step, settled_program, evaluated_side, lowered_choice_of_sides, lowered_expression, assignment, element_assignment, loop_local, entries, lowered_transition, lowered_statement, lowered_choice, lowered_block}
 use Rattle.stack_needs.specs.Needs.{ExpressionFits, StatementFits, ChoiceFits, BlockFits}
 use Rattle.checked_uses.specs.Uses.{IsWordName, IsArrayName, ExpressionUses, StatementUses, ChoiceUses, BlockUses}
+use Rattle.lower.proofs.Values.{small_modulo}
 use Rattle.whole_programs.proofs.Paths.{names_read, is_path, some_turns, some_block, written, forgotten, behind, behind_both, behind_names, behind_expression, IsAssigned, Safe, safe_both, safe_expression}
 
 -- ---- ways
@@ -145,10 +146,6 @@ module _ (room : ℕ) (p : Places) where
 abbrev Covers : (ℕ → Bool) → (ℕ → Bool) → Type 0
 Covers u a = (x : ℕ) → x < 256 → u x ≡ false → a x ≡ true
 
--- a local of a task has a number of its own
-low : (n : ℕ) → n < 256 → n % 65536 ≡ n
-low n l = omega arith
-
 -- behind a write to a variable its local is assigned
 covers_written : (u a : ℕ → Bool) (x : VariableName) → Covers u a → Covers (written u x) (λ m. nat_eq m (loop_local x.variable) || a m)
 covers_written u a x c y l h = by_variable x.variable h
@@ -190,7 +187,7 @@ reads_assigned shared u a (t.name x) c n s = by_variable x.variable n s.0
   where
     by_variable : (v : Variable) → IsWordName shared v → IsAssigned u v → ReadOf a v
     by_variable (Shared v) n s = tt
-    by_variable (Local k) n s = subst (λ m. a m ≡ true) (sym (low k n)) (c k n s)
+    by_variable (Local k) n s = subst (λ m. a m ≡ true) (sym (small_modulo k n)) (c k n s)
 reads_assigned shared u a (t.element x index) c n s = reads_assigned shared u a index c n.1 (safe_both u (names_read index) (read x ∷ []) s).0
 reads_assigned shared u a t.sense c n s = tt
 reads_assigned shared u a (t.unary op e) c n s = reads_assigned shared u a e c n s

@@ -1,7 +1,6 @@
 use Rattle.std.proofs.Common.{◌≡◌, ◌∙◌, ◌+◌, ◌-◌, ◌<◌, ap, sym, refl, length, drop, arith, get_or}
-use Rattle.std.proofs.lemmas.List.{at_drop_all}
+use Rattle.std.proofs.lemmas.List.{at_drop_all, get_or_default}
 use Rattle.privatise.specs.declared.place.VariablePlace.TheVariants.{Scalar}
-use Rattle.war_analysis.proofs.Steps.{at_any}
 use Rattle.machine_effects.specs.Machine.{fram_of}
 use Rattle.compiled_model.specs.View.{shared_word}
 use Rattle.link_image.proofs.Placing.{rows_of, blank_at, same_length, region_at, next_put}
@@ -44,7 +43,7 @@ loop-i-preserved c =
     record {
       each = λ a is.
           next_put ds vs 17408 65534 k (get_or ds k _) (get_or vs k (Scalar 0 0)) c.requires.places c.requires.order inside there
-          (at_any ds k _ _ inside) (at_any vs k (Scalar 0 0) _ there)
+          (get_or_default ds k _ _ inside) (get_or_default vs k (Scalar 0 0) _ there)
           a (fram_of c.loop-i.image.words a) (fram_of c.put_initial.new.image.words a) is.even
           (c.loop-i.invariant.each a is ∙ ap (λ n. shared_word (drop n vs) (rows_of (drop n ds)) a) (sym index)) (c.put_initial.ensures.each a is);
       are_words = λ h. c.put_initial.ensures.are_words (c.loop-i.invariant.are_words h);

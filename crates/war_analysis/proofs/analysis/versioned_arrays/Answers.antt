@@ -1,8 +1,9 @@
 use Rattle.std.proofs.Common.{sym, subst, ap, arith}
+use Rattle.std.proofs.lemmas.List.{get_or_default}
 use Rattle.task_ast.specs.View.{block_view}
 use Rattle.war_analysis.specs.Plans.{IsVersionedIn}
 use Rattle.war_analysis.proofs.Numbers.{AreNumbersBelow, none_below, all_numbers}
-use Rattle.war_analysis.proofs.Steps.{at_any, next_versioned, versioned_within}
+use Rattle.war_analysis.proofs.Steps.{next_versioned, versioned_within}
 use Rattle.war_analysis.proofs.analysis.versioned_arrays.Goals as goal
 
 pub loop-i-init : goal.loop-i-init
@@ -12,8 +13,10 @@ loop-i-init c =
 
 pub loop-i-preserved : goal.loop-i-preserved
 loop-i-preserved c =
-    next_versioned c.args.shared.now (block_view c.args.body.now) c.loop-i.i _ _ c.is_versioned-versioned.result c.loop-i.numbers.items c.push_if.new.numbers.items
-    c.loop-i-test.true (λ d. ap (λ x. x.extent) (at_any c.args.shared.now c.loop-i.i _ d c.loop-i-test.true)) (c.assigned_variables-assigned.ensures c.loop-i.i (omega arith))
+    next_versioned c.args.shared.now (block_view c.args.body.now) c.loop-i.i _ _ c.is_versioned-versioned.result c.loop-i.numbers.items
+    c.push_if.new.numbers.items
+    c.loop-i-test.true (λ d. ap (λ x. x.extent) (get_or_default c.args.shared.now c.loop-i.i _ d c.loop-i-test.true))
+    (c.assigned_variables-assigned.ensures c.loop-i.i (omega arith))
     c.in_ok-push_if.ensures c.is_versioned-versioned.ensures c.loop-i.invariant
 
 pub returns : goal.returns

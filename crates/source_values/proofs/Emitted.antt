@@ -1,0 +1,85 @@
+-- An attempt emits no more words than its block counts, however it ends.
+use Rattle.std.proofs.Common.{ℕ, zero, suc, ◌+◌, ◌-◌, ◌*◌, ◌≤◌, subst, arith, List, [], ◌∷◌, ◌++◌, length, length-append, Option, Some, None, Bool, true, false}
+use Rattle.std.proofs.Common.{if◌then◌else◌}
+use Rattle.std.proofs.Math.Nat.{suc-mul}
+use Rattle.task_ast.specs.Tree as t
+use Rattle.task_ast.specs.Tree.{Statement, Choice, Block, Task}
+use Rattle.task_ast.specs.declared.names.Variable.{Variable}
+use Rattle.task_ast.specs.declared.names.VariableName.{VariableName}
+use Rattle.task_ast.specs.declared.names.TaskName.{TaskName}
+use Rattle.source_values.specs.Values.{value_of, holds}
+use Rattle.source_values.specs.Statements.{Attempt, Outcome, goes_on, to_task, short, and_then, if_value, assigned, turns, run_statement, run_choice, run_block}
+use Rattle.source_values.specs.Statements.{statement_emits, choice_emits, block_emits}
+
+-- where an outcome isn't short, at most so many words are emitted
+abbrev pub EmitsUpTo : ℕ → Outcome → Type 0
+EmitsUpTo n (goes_on s) = length s.emitted ≤ n
+EmitsUpTo n (to_task task s) = length s.emitted ≤ n
+EmitsUpTo n short = Unit {0}
+
+up_to_then : (n k : ℕ) (o : Outcome) (next : Attempt → Outcome) → n ≤ k → EmitsUpTo n o → ((s : Attempt) → length s.emitted ≤ n → EmitsUpTo k (next s))
+    → EmitsUpTo k (and_then o next)
+up_to_then n k (goes_on s) next l h f = f s h
+up_to_then n k (to_task task s) next l h f = omega (arith, l, h)
+up_to_then n k short next l h f = tt
+
+up_to_value : (n : ℕ) (o : Option (ℕ × List ℕ)) (m : Attempt) (next : ℕ → Attempt → Outcome)
+    → ((v : ℕ) (left : List ℕ) → EmitsUpTo n (next v (record m { left = left }))) → EmitsUpTo n (if_value o m next)
+up_to_value n None m next f = tt
+up_to_value n (Some x) m next f = f x.0 x.1
+
+up_to_if : (n : ℕ) (b : Bool) (o p : Outcome) → EmitsUpTo n o → EmitsUpTo n p → EmitsUpTo n (if b then o else p)
+up_to_if n true o p h k = h
+up_to_if n false o p h k = k
+
+-- one turn more, of those that are left
+pub more_turns : (j e a n : ℕ) → a + suc j * e ≤ n → a + e + j * e ≤ n
+more_turns j e a n h =
+    let P : ℕ → Type 0 = λ z. a + z ≤ n in
+    let l = subst P (suc-mul j e) h in
+    omega (arith, l)
+
+turns_emit : (x : Variable) (run : Attempt → Outcome) (e : ℕ) → ((m : Attempt) (n : ℕ) → length m.emitted + e ≤ n → EmitsUpTo n (run m))
+    → (j k : ℕ) (m : Attempt) (n : ℕ) → length m.emitted + j * e ≤ n → EmitsUpTo n (turns j k x run m)
+turns_emit x run e f zero k m n h = omega (arith, h)
+turns_emit x run e f (suc j) k m n h =
+    let l = more_turns j e (length m.emitted) n h in
+    up_to_then (length m.emitted + e) n (run (assigned m x 0 k)) (turns j (k + 1) x run) (omega (arith, l))
+    (f (assigned m x 0 k) (length m.emitted + e) (omega arith))
+    (λ s g. turns_emit x run e f j (k + 1) s n (omega (arith, l, g)))
+
+mutual
+  -- a statement emits no more words than it counts
+  pub statement_up_to : (s : Statement VariableName TaskName) (m : Attempt) (n : ℕ) → length m.emitted + statement_emits s ≤ n → EmitsUpTo n (run_statement s m)
+  statement_up_to (t.declare of x None) m n h = omega (arith, h)
+  statement_up_to (t.declare of x (Some e)) m n h =
+      up_to_value n (value_of e m.variables m.left) m (λ w s. goes_on (assigned s x.variable 0 w)) (λ v left. omega (arith, h))
+  statement_up_to (t.assign x e) m n h =
+      up_to_value n (value_of e m.variables m.left) m (λ w s. goes_on (assigned s x.variable 0 w)) (λ v left. omega (arith, h))
+  statement_up_to (t.store x index e) m n h =
+      up_to_value n (value_of index m.variables m.left) m (λ i s. if_value (value_of e s.variables s.left) s (λ w s. goes_on (assigned s x.variable i w)))
+      (λ i left. up_to_value n (value_of e m.variables left) (record m { left = left }) (λ w s. goes_on (assigned s x.variable i w))
+      (λ v more. omega (arith, h)))
+  statement_up_to (t.choose choice) m n h = choice_up_to choice m n h
+  statement_up_to (t.loop x from tested below stepped body) m n h =
+      turns_emit x.variable (run_block body) (block_emits body) (block_up_to body) (below - from) from m n h
+  statement_up_to (t.emit e) m n h =
+      up_to_value n (value_of e m.variables m.left) m (λ w s. goes_on (record s { emitted = s.emitted ++ w ∷ [] }))
+      (λ v left. let l = length-append m.emitted (v ∷ []) in omega (arith, l, h))
+  statement_up_to (t.transition task) m n h = omega (arith, h)
+
+  choice_up_to : (c : Choice VariableName TaskName) (m : Attempt) (n : ℕ) → length m.emitted + choice_emits c ≤ n → EmitsUpTo n (run_choice c m)
+  choice_up_to t.nothing m n h = omega (arith, h)
+  choice_up_to (t.otherwise block) m n h = block_up_to block m n h
+  choice_up_to (t.test e block more) m n h =
+      up_to_value n (value_of e m.variables m.left) m (λ w s. if holds w then run_block block s else run_choice more s)
+      (λ v left. up_to_if n (holds v) (run_block block (record m { left = left })) (run_choice more (record m { left = left }))
+      (block_up_to block (record m { left = left }) n (omega (arith, h))) (choice_up_to more (record m { left = left }) n (omega (arith, h))))
+
+  -- nor does a block
+  pub block_up_to : (b : Block VariableName TaskName) (m : Attempt) (n : ℕ) → length m.emitted + block_emits b ≤ n → EmitsUpTo n (run_block b m)
+  block_up_to t.end m n h = omega (arith, h)
+  block_up_to (t.step s more) m n h =
+      up_to_then (length m.emitted + statement_emits s) n (run_statement s m) (run_block more) (omega (arith, h))
+      (statement_up_to s m (length m.emitted + statement_emits s) (omega arith))
+      (λ u g. block_up_to more u n (omega (arith, g, h)))
