@@ -9,14 +9,16 @@ use Rattle.machine_effects.specs.Machine.{Code}
 use Rattle.code_forms.specs.Forms.{Core, Move, Branch, BranchRegister, Fram, ToFram, R4, instruction_of}
 use Rattle.code_forms.specs.Code.{Stands, IsTidy, forms_run, forms_bytes}
 use Rattle.code_forms.proofs.Placed.{stands_at, forms_bytes-append}
-use Rattle.runtime_effects.specs.Places.{RuntimePlaces, CopyPair}
+use Rattle.runtime_effects.specs.Places.{CopyPair}
 use Rattle.runtime_effects.specs.Stages.{copied_in}
 use Rattle.runtime_effects.specs.Needs.{AreInFram, ArePairWords}
-use Rattle.runtime_code.specs.Addresses.{stack_top}
 use Rattle.code_forms.proofs.Blocks.{stands_front, stands_back, end_of}
 use Rattle.runtime_code.specs.Comes.{Comes, Enters}
 use Rattle.runtime_code.proofs.Chains.{straight, one_form, recounted, then_on}
 use Rattle.boot_runtime.specs.Listing.{TaskEntry, entry_at, task_found, dispatch, copies_in, stub, stub_bytes, ladder_to, stubs}
+use Rattle.memory_map.specs.declared.words.RuntimeWord.TheVariants.{CurrentTask}
+use Rattle.memory_map.specs.MemoryMap.{MemoryMap, word_place}
+use Rattle.address_space.specs.Limits.{stack_top}
 
 -- where the stub of a task stands
 abbrev pub stub_at : ℕ → List TaskEntry → ℕ → ℕ
@@ -56,8 +58,9 @@ stub_stands code (t ∷ ts) p (suc k) h l =
 
 module _ (code : Code) (tidy : IsTidy code) where
   -- to the stub of the task that CUR names
-  pub dispatched : (m : RuntimePlaces) (p ladder q k : ℕ) (ts : List TaskEntry) (u : Core) → AreInFram m → u.pc ≡ p → Stands code p (dispatch m ladder) → Stands code ladder (ladder_to q ts)
-      → ladder % 2 ≡ 0 → ladder + 4 * length ts < 0x10000 → q % 2 ≡ 0 → u.fram m.words.current_task ≡ k → k < length ts
+  pub dispatched : (m : MemoryMap) (p ladder q k : ℕ) (ts : List TaskEntry) (u : Core) → AreInFram m → u.pc ≡ p → Stands code p (dispatch m ladder)
+      → Stands code ladder (ladder_to q ts)
+      → ladder % 2 ≡ 0 → ladder + 4 * length ts < 0x10000 → q % 2 ≡ 0 → u.fram (word_place m CurrentTask) ≡ k → k < length ts
       → Comes code [] 7 14 u (Enters (stub_at q ts k) stack_top u.fram u.readings_left)
   dispatched m p ladder q k ts u places e h r level few even c l =
       let hd = task_found m ladder in
@@ -67,7 +70,7 @@ module _ (code : Code) (tidy : IsTidy code) where
       let u2 : Core = record u1 { pc = ladder + 4 * k } in
       let u3 : Core = record u2 { pc = to } in
       let a : Comes code [] 5 9 u (λ v. v ≡ u1) = straight code tidy hd 5 u u1 [] 9 (λ v. v ≡ u1) (tt, (tt, (tt, (tt, (tt, tt))))) (stands_at code p hd u (stands_front code p hd (BranchRegister R4 ∷ []) h) e)
-      (refl, ((places.words.current_task, tt), ((tt, tt), ((tt, tt), ((tt, tt), tt))))) refl refl refl in
+      (refl, ((places.words CurrentTask, tt), ((tt, tt), ((tt, tt), ((tt, tt), tt))))) refl refl refl in
       let there : u1.pc ≡ p + forms_bytes hd = omega (arith, e) in
       let b : Comes code [] 1 2 u1 (λ v. v ≡ u2) = one_form code tidy (BranchRegister R4) u1 u2 [] 2 (λ v. v ≡ u2) (ap code there ∙ (stands_back code p hd (BranchRegister R4 ∷ []) h).0)
       (let w : u1.work 4 % 2 ≡ 0 = omega (arith, at4, level) in w) (ap (λ x. Goes [] 2 (record u1 { pc = x })) at4) refl in

@@ -9,7 +9,6 @@ use Rattle.machine_effects.proofs.Worlds.{fram_after-append, put_other}
 use Rattle.code_forms.specs.Forms.{Core, Jump, instruction_of}
 use Rattle.code_forms.specs.Code.{Stands, IsTidy, forms_run}
 use Rattle.code_forms.proofs.Placed.{stands_at}
-use Rattle.runtime_effects.specs.Places.{RuntimePlaces}
 use Rattle.runtime_effects.specs.Stages.{cleared, opening_effects}
 use Rattle.runtime_effects.specs.Needs.{AreInFram, KeepsTask}
 use Rattle.code_forms.proofs.Blocks.{stands_front, stands_back, end_of}
@@ -17,6 +16,8 @@ use Rattle.runtime_code.specs.Comes.{Comes, IsAt}
 use Rattle.runtime_code.proofs.Chains.{straight, recounted, nothing, then_on, moved_to, chain}
 use Rattle.runtime_code.proofs.Loops.{tested, goes_in, leaves, jumps_back}
 use Rattle.boot_runtime.specs.Listing.{clearing_begins, clear_turn, clear_loop, counts_set, opening}
+use Rattle.memory_map.specs.declared.words.RuntimeWord.TheVariants.{CurrentTask, ListLength, EmitCount, Version}
+use Rattle.memory_map.specs.MemoryMap.{MemoryMap, word_place}
 
 -- an address outside others
 out_of : (p n a : ℕ) → (a < p) ⊎ (p + 2 * suc n ≤ a) → p ≢ a
@@ -34,26 +35,26 @@ cleared_leave (suc n) p a f h =
     cleared_leave n (p + 2) a (put f p 0) (out_of_rest p n a h) ∙ (put_other f p 0 a (λ i. (out_of p n a h) (sym i)))
 
 -- the opening leaves CUR
-pub task_stays : (m : RuntimePlaces) (f : ℕ → ℕ) → KeepsTask m → fram_after (opening_effects m f) f m.words.current_task ≡ f m.words.current_task
+pub task_stays : (m : MemoryMap) (f : ℕ → ℕ) → KeepsTask m → fram_after (opening_effects m f) f (word_place m CurrentTask) ≡ f (word_place m CurrentTask)
 task_stays m f keeps =
-    let a = m.words.current_task in
-    let es = cleared m.version_count m.versions in
-    let last : List Effect = Store m.words.version 1 ∷ Store m.words.list_length 0 ∷ Store m.words.emit_count 0 ∷ [] in
+    let a = word_place m CurrentTask in
+    let es = cleared m.versions.words m.versions.address in
+    let last : List Effect = Store (word_place m Version) 1 ∷ Store (word_place m ListLength) 0 ∷ Store (word_place m EmitCount) 0 ∷ [] in
     let g = fram_after es f in
-    let g1 = put g m.words.version 1 in
-    let g2 = put g1 m.words.list_length 0 in
+    let g1 = put g (word_place m Version) 1 in
+    let g2 = put g1 (word_place m ListLength) 0 in
     ap (λ h. h a) (fram_after-append es last f)
-    ∙ (put_other g2 m.words.emit_count 0 a (λ i. (λ i. keeps.emit_count (sym i)) (sym i)))
-    ∙ (put_other g1 m.words.list_length 0 a (λ i. (λ i. keeps.list_length (sym i)) (sym i)))
-    ∙ (put_other g m.words.version 1 a (λ i. (λ i. keeps.version (sym i)) (sym i)))
-    ∙ cleared_leave m.version_count m.versions a f keeps.versions
+    ∙ put_other g2 (word_place m EmitCount) 0 a (λ i. let differ : word_place m CurrentTask ≡ word_place m EmitCount = i in omega (arith, differ))
+    ∙ put_other g1 (word_place m ListLength) 0 a (λ i. let differ : word_place m CurrentTask ≡ word_place m ListLength = i in omega (arith, differ))
+    ∙ put_other g (word_place m Version) 1 a (λ i. let differ : word_place m CurrentTask ≡ word_place m Version = i in omega (arith, differ))
+    ∙ cleared_leave m.versions.words m.versions.address a f keeps.versions
 
-module _ (code : Code) (tidy : IsTidy code) (m : RuntimePlaces) (places : AreInFram m) where
+module _ (code : Code) (tidy : IsTidy code) (m : MemoryMap) (places : AreInFram m) where
   -- where the version words from p on stand
   record InVersions (p n : ℕ) : Type 0 where
     pub even : p % 2 ≡ 0
-    pub low : m.versions ≤ p
-    pub high : p + 2 * n ≤ m.versions + 2 * m.version_count
+    pub low : m.versions.address ≤ p
+    pub high : p + 2 * n ≤ m.versions.address + 2 * m.versions.words
 
   in_fram : (p n : ℕ) → InVersions p (suc n) → IsFram p
   in_fram p n i =
@@ -100,16 +101,17 @@ module _ (code : Code) (tidy : IsTidy code) (m : RuntimePlaces) (places : AreInF
 
   -- 34 bytes
   pub opens : (p : ℕ) (u : Core) → p + 34 < 0x10000 → u.pc ≡ p → Stands code p (opening m)
-      → let n = m.version_count in let es = opening_effects m u.fram in Comes code es (7 + n * 6) (19 + n * 11) u (IsAt (p + 34) (fram_after es u.fram) u.readings_left)
+      → let n = m.versions.words in let es = opening_effects m u.fram in Comes code es (7 + n * 6) (19 + n * 11) u
+      (IsAt (p + 34) (fram_after es u.fram) u.readings_left)
   opens p u high e h =
       let hd = clearing_begins m in
-      let n = m.version_count in
+      let n = m.versions.words in
       let f = u.fram in
       let rs = u.readings_left in
       let end = places.versions.high in
-      let cs = cleared n m.versions in
+      let cs = cleared n m.versions.address in
       let g = fram_after cs f in
-      let last : List Effect = Store m.words.version 1 ∷ Store m.words.list_length 0 ∷ Store m.words.emit_count 0 ∷ [] in
+      let last : List Effect = Store (word_place m Version) 1 ∷ Store (word_place m ListLength) 0 ∷ Store (word_place m EmitCount) 0 ∷ [] in
       let u1 = end_of u (forms_run hd u).status in
       let h1 = stands_back code p hd (clear_loop ++ counts_set m) h in
       let l1 : Stands code (p + 4 + 4) clear_loop = subst (λ x. Stands code x clear_loop) (omega arith) (stands_front code _ clear_loop (counts_set m) h1) in
@@ -122,7 +124,8 @@ module _ (code : Code) (tidy : IsTidy code) (m : RuntimePlaces) (places : AreInF
       λ v at is left.
       subst (λ x. Comes code last 3 12 v (IsAt (p + 34) (fram_after last x) rs)) is
       (straight code tidy (counts_set m) 3 v (end_of v (forms_run (counts_set m) v).status) last 12 _ (tt, (tt, (tt, tt))) (stands_at code (p + 22) (counts_set m) v t2 at)
-      ((tt, places.words.version), ((tt, places.words.list_length), ((tt, places.words.emit_count), tt))) refl refl (record { pc = omega (arith, at); fram = refl; readings_left = left })) in
+      ((tt, places.words Version), ((tt, places.words ListLength), ((tt, places.words EmitCount), tt))) refl refl
+      (record { pc = omega (arith, at); fram = refl; readings_left = left })) in
       recounted code (cs ++ last) (2 + (2 + n * 6) + 3) (7 + n * 6) (4 + (3 + n * 11) + 12) (19 + n * 11) u _ (omega arith) (omega arith)
       (subst (λ x. Comes code (cs ++ last) (2 + (2 + n * 6) + 3) (4 + (3 + n * 11) + 12) u (IsAt (p + 34) x rs)) (sym (fram_after-append cs last f))
       (chain code (2 + (2 + n * 6)) 3 (4 + (3 + n * 11)) 12 (p + 22) u cs last g rs (IsAt (p + 34) (fram_after last g) rs) ab d))

@@ -5,7 +5,9 @@ use Rattle.std.proofs.lemmas.List.Elements.{All-head, All-tail, All-weaker}
 use Rattle.machine_effects.specs.World.{put, fram_after, EachStore}
 use Rattle.machine_effects.specs.Machine.{IsFram}
 use Rattle.machine_effects.proofs.Worlds.{each_store-append}
-use Rattle.runtime_effects.specs.Places.{RuntimePlaces, CopyPair}
+use Rattle.memory_map.specs.declared.words.RuntimeWord.TheVariants.{CurrentTask, ListLength, EmitCount, Version}
+use Rattle.memory_map.specs.MemoryMap.{MemoryMap, word_place}
+use Rattle.runtime_effects.specs.Places.{CopyPair}
 use Rattle.runtime_effects.specs.Stages.{cleared, copied_in, opening_effects, start_effects}
 use Rattle.runtime_effects.specs.Needs.{IsRegion, ArePairWords}
 use Rattle.boot_runtime.specs.Laws.{StartStoresInFram}
@@ -20,19 +22,23 @@ copies_stored P [] f h = tt
 copies_stored P (x ∷ xs) f h = (All-head (λ x. (w : ℕ) → P x.copy w) x xs h (f x.home), copies_stored P xs (put f x.copy (f x.home)) (All-tail (λ x. (w : ℕ) → P x.copy w) x xs h))
 
 -- what holds at each version word, at VER, CLN and EN, and at the copies of the task's private scalars holds of each store of a start
-pub start_stores : (P : ℕ → ℕ → Type 0) (m : RuntimePlaces) (privates : ℕ → List CopyPair) (f : ℕ → ℕ) → ((i : ℕ) → i < m.version_count → P (m.versions + 2 * i) 0)
-    → P m.words.version 1 → P m.words.list_length 0 → P m.words.emit_count 0 → All (λ x. (w : ℕ) → P x.copy w) (privates (f m.words.current_task))
+pub start_stores : (P : ℕ → ℕ → Type 0) (m : MemoryMap) (privates : ℕ → List CopyPair) (f : ℕ → ℕ)
+    → ((i : ℕ) → i < m.versions.words → P (m.versions.address + 2 * i) 0)
+    → P (word_place m Version) 1 → P (word_place m ListLength) 0 → P (word_place m EmitCount) 0
+    → All (λ x. (w : ℕ) → P x.copy w) (privates (f (word_place m CurrentTask)))
     → EachStore P (start_effects m privates f)
 start_stores P m privates f versions version length count copies =
     let g = fram_after (opening_effects m f) f in
-    each_store-append P (opening_effects m f) (copied_in (privates (f m.words.current_task)) g)
-    (each_store-append P (cleared m.version_count m.versions) _ (words_cleared P m.version_count m.versions versions) (version, (length, (count, tt))))
-    (copies_stored P (privates (f m.words.current_task)) g copies)
+    each_store-append P (opening_effects m f) (copied_in (privates (f (word_place m CurrentTask))) g)
+    (each_store-append P (cleared m.versions.words m.versions.address) _ (words_cleared P m.versions.words m.versions.address versions)
+    (version, (length, (count, tt))))
+    (copies_stored P (privates (f (word_place m CurrentTask))) g copies)
 
 in_fram : (p n i : ℕ) → IsRegion p (2 * n) → i < n → IsFram (p + 2 * i)
 in_fram p n i r l = let even = r.even in let low = r.low in let high = r.high in record { even = omega (arith, even); low = omega (arith, low); high = omega (arith, high, l) }
 
 pub start_stores_in_fram : StartStoresInFram
 start_stores_in_fram m privates f places words =
-    start_stores (λ a w. IsFram a) m privates f (λ i l. in_fram m.versions m.version_count i places.versions l) places.words.version places.words.list_length places.words.emit_count
-    (All-weaker ArePairWords (λ x. (w : ℕ) → IsFram x.copy) (λ x h w. h.copy) (privates (f m.words.current_task)) words)
+    start_stores (λ a w. IsFram a) m privates f (λ i l. in_fram m.versions.address m.versions.words i places.versions l) (places.words Version)
+    (places.words ListLength) (places.words EmitCount)
+    (All-weaker ArePairWords (λ x. (w : ℕ) → IsFram x.copy) (λ x h w. h.copy) (privates (f (word_place m CurrentTask))) words)

@@ -4,11 +4,12 @@ use Rattle.code_forms.specs.Forms.{Branch}
 use Rattle.code_forms.specs.Code.{forms_bytes}
 use Rattle.code_forms.specs.Placed.{instructions, AreInstructions}
 use Rattle.code_forms.proofs.Placed.{forms_bytes-append}
-use Rattle.runtime_effects.specs.Places.{RuntimePlaces, CopyPair}
+use Rattle.runtime_effects.specs.Places.{CopyPair}
 use Rattle.runtime_code.proofs.Sizes.{code_bytes, are_instructions-append}
 use Rattle.boot_runtime.specs.Listing.{TaskEntry, head, opening, dispatch, copies_in, stub, stub_bytes, ladder_to, stubs, stubs_bytes, boot_forms}
 use Rattle.boot_runtime.specs.Laws.{BootIsShort, BootIsCode, BootFits, entry_room}
 use Rattle.boot_runtime.proofs.Entering.{stub_size, ladder_bytes}
+use Rattle.memory_map.specs.MemoryMap.{MemoryMap}
 
 stubs_size : (ts : List TaskEntry) → forms_bytes (stubs ts) ≡ stubs_bytes ts
 stubs_size [] = refl
@@ -36,13 +37,13 @@ ladder_are : (q : ℕ) (ts : List TaskEntry) → AreInstructions (instructions (
 ladder_are q [] = tt
 ladder_are q (t ∷ ts) = (tt, ladder_are (q + stub_bytes t) ts)
 
-head_are : (m : RuntimePlaces) (commit : ℕ) → AreInstructions (instructions (head m commit))
+head_are : (m : MemoryMap) (commit : ℕ) → AreInstructions (instructions (head m commit))
 head_are m commit = search arith
 
-opening_are : (m : RuntimePlaces) → AreInstructions (instructions (opening m))
+opening_are : (m : MemoryMap) → AreInstructions (instructions (opening m))
 opening_are m = search arith
 
-dispatch_are : (m : RuntimePlaces) (ladder : ℕ) → AreInstructions (instructions (dispatch m ladder))
+dispatch_are : (m : MemoryMap) (ladder : ℕ) → AreInstructions (instructions (dispatch m ladder))
 dispatch_are m ladder = search arith
 
 pub boot_is_code : BootIsCode

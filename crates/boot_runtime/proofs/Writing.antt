@@ -5,11 +5,10 @@ use Rattle.msp_isa.specs.declared.instructions.Instr.{Instr}
 use Rattle.code_forms.specs.Forms.{Branch, instruction_of}
 use Rattle.code_forms.specs.Placed.{instructions}
 use Rattle.code_forms.proofs.Placed.{instructions-append}
-use Rattle.privatise.specs.LayoutValue.{TaskLayoutValue}
-use Rattle.runtime_effects.specs.Places.{RuntimePlaces}
 use Rattle.runtime_code.specs.LayoutPlaces.{pairs_of}
 use Rattle.boot_runtime.specs.Entries.{entry_of}
 use Rattle.boot_runtime.specs.Listing.{TaskEntry, copies_in, stub, stubs, ladder_to, fixed_forms, boot_forms}
+use Rattle.memory_map.specs.MemoryMap.{TaskPlace, MemoryMap}
 
 -- one more stub
 pub stub_written : (is js ks all : List Instr) (t : TaskEntry) (ts : List TaskEntry) → js ≡ is ++ instructions (copies_in t.privates) → ks ≡ js ++ (instruction_of (Branch t.code) ∷ [])
@@ -28,7 +27,7 @@ stub_written is js ks all t ts copied branched rest =
     ∙ rest
 
 -- what stands before the ladder, the ladder, and the stubs
-pub boot_written : (m : RuntimePlaces) (commit at q : ℕ) (tasks us : List TaskEntry) (u v w : List Instr) → us ≡ tasks → q ≡ at + 66 + 4 * length us
+pub boot_written : (m : MemoryMap) (commit at q : ℕ) (tasks us : List TaskEntry) (u v w : List Instr) → us ≡ tasks → q ≡ at + 66 + 4 * length us
     → u ≡ instructions (fixed_forms m commit (at + 66)) → v ≡ u ++ instructions (ladder_to q us) → w ≡ v ++ instructions (stubs us)
     → w ≡ instructions (boot_forms m commit tasks at)
 boot_written m commit at q tasks us u v w e there fixed ladder rest =
@@ -44,10 +43,10 @@ boot_written m commit at q tasks us u v w e there fixed ladder rest =
     ∙ sym (instructions-append (fixed_forms m commit (at + 66)) (l ++ stubs tasks))
 
 -- the stub of the next task
-pub next_written : (is js ks all : List Instr) (xs : List TaskLayoutValue) (x : TaskLayoutValue) (i : ℕ) → x ≡ get_or xs i x → i < length xs
+pub next_written : (is js ks all : List Instr) (xs : List TaskPlace) (x : TaskPlace) (i : ℕ) → x ≡ get_or xs i x → i < length xs
     → js ≡ is ++ instructions (copies_in (pairs_of x)) → ks ≡ js ++ (instruction_of (Branch x.code.address) ∷ []) → is ++ instructions (stubs (map entry_of (drop i xs))) ≡ all
     → ks ++ instructions (stubs (map entry_of (drop (i + 1) xs))) ≡ all
 next_written is js ks all xs x i it l copied branched rest =
-    let f : List TaskLayoutValue → List Instr = λ ys. is ++ instructions (stubs (map entry_of ys)) in
+    let f : List TaskPlace → List Instr = λ ys. is ++ instructions (stubs (map entry_of ys)) in
     let more : f (drop i xs) ≡ f (x ∷ drop (i + 1) xs) = at_drop_more f xs i x l ∙ ap (λ y. f (y ∷ drop (i + 1) xs)) (sym it) in
     stub_written is js ks all (entry_of x) (map entry_of (drop (i + 1) xs)) copied branched (sym more ∙ rest)

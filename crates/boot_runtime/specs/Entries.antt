@@ -1,13 +1,13 @@
 -- The tasks of a layout as the boot comes to them.
 use Rattle.std.specs.Prelude.{List, map}
-use Rattle.privatise.specs.LayoutValue.{LayoutValue, TaskLayoutValue}
+use Rattle.memory_map.specs.MemoryMap.{MemoryMap, TaskPlace}
 use Rattle.runtime_code.specs.LayoutPlaces.{pairs_of}
 use Rattle.boot_runtime.specs.Listing.{TaskEntry}
 
 -- a task, by its private scalars and its code's place
-abbrev pub entry_of : TaskLayoutValue → TaskEntry
+abbrev pub entry_of : TaskPlace → TaskEntry
 entry_of t = record { privates = pairs_of t; code = t.code.address }
 
 -- all tasks, in order of declaration
-abbrev pub task_entries : LayoutValue → List TaskEntry
+abbrev pub task_entries : MemoryMap → List TaskEntry
 task_entries l = map entry_of l.tasks

@@ -5,13 +5,16 @@ use Rattle.machine_effects.specs.Machine.{Code, IsFram}
 use Rattle.code_forms.specs.Forms.{Core}
 use Rattle.code_forms.specs.Code.{Stands, IsTidy}
 use Rattle.code_forms.specs.Placed.{instructions, words_of, AreInstructions}
-use Rattle.runtime_effects.specs.Places.{RuntimePlaces, CopyPair}
+use Rattle.memory_map.specs.declared.words.RuntimeWord.TheVariants.{CurrentTask, Gate}
+use Rattle.memory_map.specs.MemoryMap.{MemoryMap, word_place}
+use Rattle.runtime_effects.specs.Places.{CopyPair}
 use Rattle.runtime_effects.specs.Stages.{start_effects}
 use Rattle.runtime_effects.specs.Needs.{AreInFram, KeepsTask, ArePairWords}
-use Rattle.runtime_code.specs.Addresses.{start_address, stack_top}
+use Rattle.address_space.specs.Limits.{stack_top}
+use Rattle.runtime_code.specs.Addresses.{start_address}
 use Rattle.runtime_code.specs.Comes.{Comes, Enters}
-use Rattle.privatise.specs.LayoutValue.{LayoutValue}
-use Rattle.privatise.specs.Places.{IsLaidOut}
+use Rattle.memory_map.specs.Places.{IsLaidOut}
+use Rattle.privatise.specs.Sizes.{own_boot_words}
 use Rattle.boot_runtime.specs.Entries.{task_entries}
 use Rattle.boot_runtime.specs.Listing.{TaskEntry, entry_at, privates_in, boot_forms, boot_bytes, start_steps, start_cycles}
 
@@ -21,7 +24,7 @@ pub record IsEntered (t : TaskEntry) : Type 0 where
   pub even : t.code % 2 ≡ 0
 
 -- the boot's code stands at an address, above it room
-pub record IsBoot (code : Code) (m : RuntimePlaces) (commit : ℕ) (tasks : List TaskEntry) (at : ℕ) : Type 0 where
+pub record IsBoot (code : Code) (m : MemoryMap) (commit : ℕ) (tasks : List TaskEntry) (at : ℕ) : Type 0 where
   pub tidy : IsTidy code
   pub places : AreInFram m
   pub task : KeepsTask m
@@ -33,36 +36,37 @@ pub record IsBoot (code : Code) (m : RuntimePlaces) (commit : ℕ) (tasks : List
 
 -- from the boot's address on, whatever the registers: with GATE 1 it comes to the commit, and does nothing else
 abbrev pub PendingCommitIsFound : Type 0
-PendingCommitIsFound = (code : Code) (m : RuntimePlaces) (commit : ℕ) (tasks : List TaskEntry) (at : ℕ) (u : Core) → IsBoot code m commit tasks at
-    → u.pc ≡ at → u.fram m.words.gate ≡ 1 → Comes code [] 4 11 u (Enters commit stack_top u.fram u.readings_left)
+PendingCommitIsFound = (code : Code) (m : MemoryMap) (commit : ℕ) (tasks : List TaskEntry) (at : ℕ) (u : Core) → IsBoot code m commit tasks at
+    → u.pc ≡ at → u.fram (word_place m Gate) ≡ 1 → Comes code [] 4 11 u (Enters commit stack_top u.fram u.readings_left)
 
 -- else to the attempt's start
 abbrev pub AttemptIsFound : Type 0
-AttemptIsFound = (code : Code) (m : RuntimePlaces) (commit : ℕ) (tasks : List TaskEntry) (at : ℕ) (u : Core) → IsBoot code m commit tasks at
-    → u.pc ≡ at → u.fram m.words.gate < 0x10000 → u.fram m.words.gate ≢ 1 → Comes code [] 3 8 u (Enters (start_address at) stack_top u.fram u.readings_left)
+AttemptIsFound = (code : Code) (m : MemoryMap) (commit : ℕ) (tasks : List TaskEntry) (at : ℕ) (u : Core) → IsBoot code m commit tasks at
+    → u.pc ≡ at → u.fram (word_place m Gate) < 0x10000 → u.fram (word_place m Gate) ≢ 1
+    → Comes code [] 3 8 u (Enters (start_address at) stack_top u.fram u.readings_left)
 
 -- from the attempt's start on, whatever the registers: where CUR names a task it makes exactly the start, and comes to the task's
 -- code with nothing on the stack, in a number of steps and of cycles that depends on its private scalars alone
 abbrev pub StartIsMade : Type 0
-StartIsMade = (code : Code) (m : RuntimePlaces) (commit : ℕ) (tasks : List TaskEntry) (at : ℕ) (u : Core) → IsBoot code m commit tasks at
-    → u.pc ≡ start_address at → u.fram m.words.current_task < length tasks
-    → let t = entry_at tasks (u.fram m.words.current_task) in
+StartIsMade = (code : Code) (m : MemoryMap) (commit : ℕ) (tasks : List TaskEntry) (at : ℕ) (u : Core) → IsBoot code m commit tasks at
+    → u.pc ≡ start_address at → u.fram (word_place m CurrentTask) < length tasks
+    → let t = entry_at tasks (u.fram (word_place m CurrentTask)) in
     let es = start_effects m (privates_in tasks) u.fram in
-    Comes code es (start_steps m.version_count (length t.privates)) (start_cycles m.version_count (length t.privates)) u
+    Comes code es (start_steps m.versions.words (length t.privates)) (start_cycles m.versions.words (length t.privates)) u
     (Enters t.code stack_top (fram_after es u.fram) u.readings_left)
 
 -- the code's length
 abbrev pub BootIsShort : Type 0
-BootIsShort = (m : RuntimePlaces) (commit : ℕ) (tasks : List TaskEntry) (at : ℕ)
+BootIsShort = (m : MemoryMap) (commit : ℕ) (tasks : List TaskEntry) (at : ℕ)
     → 2 * length (words_of (instructions (boot_forms m commit tasks at))) ≡ boot_bytes tasks
 
 -- each of its instructions has its words
 abbrev pub BootIsCode : Type 0
-BootIsCode = (m : RuntimePlaces) (commit : ℕ) (tasks : List TaskEntry) (at : ℕ) → AreInstructions (instructions (boot_forms m commit tasks at))
+BootIsCode = (m : MemoryMap) (commit : ℕ) (tasks : List TaskEntry) (at : ℕ) → AreInstructions (instructions (boot_forms m commit tasks at))
 
 -- the start of an attempt stores at words of FRAM alone
 abbrev pub StartStoresInFram : Type 0
-StartStoresInFram = (m : RuntimePlaces) (privates : ℕ → List CopyPair) (f : ℕ → ℕ) → AreInFram m → All ArePairWords (privates (f m.words.current_task))
+StartStoresInFram = (m : MemoryMap) (privates : ℕ → List CopyPair) (f : ℕ → ℕ) → AreInFram m → All ArePairWords (privates (f (word_place m CurrentTask)))
     → EachStore (λ a w. IsFram a) (start_effects m privates f)
 
 -- the words that the allowance has for the entries of tasks: 200 for each, and 16 for each private scalar
@@ -70,10 +74,10 @@ abbrev pub entry_room : List TaskEntry → ℕ
 entry_room [] = 0
 entry_room (t ∷ ts) = 200 + 16 * length t.privates + entry_room ts
 
--- the code has room in 391 words and those of the entries
+-- the code has room in its own words and those of the entries
 abbrev pub BootFits : Type 0
-BootFits = (tasks : List TaskEntry) → boot_bytes tasks ≤ 2 * (391 + entry_room tasks)
+BootFits = (tasks : List TaskEntry) → boot_bytes tasks ≤ 2 * (own_boot_words + entry_room tasks)
 
 -- the boot can come to each task of a layout
 abbrev pub TasksAreEntered : Type 0
-TasksAreEntered = (l : LayoutValue) → IsLaidOut l → All IsEntered (task_entries l)
+TasksAreEntered = (l : MemoryMap) → IsLaidOut l → All IsEntered (task_entries l)

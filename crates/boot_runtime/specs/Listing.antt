@@ -5,8 +5,10 @@ use Rattle.msp_isa.specs.declared.instructions.Condition.TheVariants.{NotEqual}
 use Rattle.msp_isa.specs.declared.operands.Konst.TheVariants.{Zero, One, Two}
 use Rattle.code_forms.specs.Forms.{Form, Move, Calculate, Compare, SetStack, Jump, Branch, BranchRegister, R4, R5}
 use Rattle.code_forms.specs.Forms.{Register, Number, Constant, Fram, ToRegister, ToFram, ToPointed}
-use Rattle.runtime_effects.specs.Places.{RuntimePlaces, CopyPair}
-use Rattle.runtime_code.specs.Addresses.{stack_top}
+use Rattle.memory_map.specs.declared.words.RuntimeWord.TheVariants.{CurrentTask, Gate, ListLength, EmitCount, Version}
+use Rattle.memory_map.specs.MemoryMap.{MemoryMap, word_place}
+use Rattle.runtime_effects.specs.Places.{CopyPair}
+use Rattle.address_space.specs.Limits.{stack_top}
 use Rattle.runtime_code.specs.Counted.{counted}
 
 -- a task as the boot comes to it: its private scalars, and where its code stands
@@ -23,12 +25,12 @@ abbrev pub privates_in : List TaskEntry → ℕ → List CopyPair
 privates_in tasks k = (entry_at tasks k).privates
 
 -- SP := its top; where GATE is 1 a branch to the commit
-abbrev pub head : RuntimePlaces → ℕ → List Form
-head m commit = SetStack stack_top ∷ Compare (Constant One) m.words.gate ∷ Jump NotEqual 2 ∷ Branch commit ∷ []
+abbrev pub head : MemoryMap → ℕ → List Form
+head m commit = SetStack stack_top ∷ Compare (Constant One) (word_place m Gate) ∷ Jump NotEqual 2 ∷ Branch commit ∷ []
 
 -- R4 := the number of version words, R5 := their place
-abbrev pub clearing_begins : RuntimePlaces → List Form
-clearing_begins m = Move (Number m.version_count) (ToRegister R4) ∷ Move (Number m.versions) (ToRegister R5) ∷ []
+abbrev pub clearing_begins : MemoryMap → List Form
+clearing_begins m = Move (Number m.versions.words) (ToRegister R4) ∷ Move (Number m.versions.address) (ToRegister R5) ∷ []
 
 -- a version word becomes 0
 abbrev pub clear_turn : List Form
@@ -39,22 +41,23 @@ abbrev pub clear_loop : List Form
 clear_loop = counted clear_turn 5 (0x400 - 7)
 
 -- VER := 1, CLN := 0, EN := 0
-abbrev pub counts_set : RuntimePlaces → List Form
+abbrev pub counts_set : MemoryMap → List Form
 counts_set m =
-    Move (Constant One) (ToFram m.words.version) ∷ Move (Constant Zero) (ToFram m.words.list_length) ∷ Move (Constant Zero) (ToFram m.words.emit_count) ∷ []
+    Move (Constant One) (ToFram (word_place m Version)) ∷ Move (Constant Zero) (ToFram (word_place m ListLength))
+    ∷ Move (Constant Zero) (ToFram (word_place m EmitCount)) ∷ []
 
 -- an attempt's opening
-abbrev pub opening : RuntimePlaces → List Form
+abbrev pub opening : MemoryMap → List Form
 opening m = clearing_begins m ++ (clear_loop ++ counts_set m)
 
 -- SP := its top, R4 := the place in a ladder of four bytes a task
-abbrev pub task_found : RuntimePlaces → ℕ → List Form
+abbrev pub task_found : MemoryMap → ℕ → List Form
 task_found m ladder =
-    SetStack stack_top ∷ Move (Fram m.words.current_task) (ToRegister R4) ∷ Calculate Add (Register R4) R4 ∷ Calculate Add (Register R4) R4
+    SetStack stack_top ∷ Move (Fram (word_place m CurrentTask)) (ToRegister R4) ∷ Calculate Add (Register R4) R4 ∷ Calculate Add (Register R4) R4
     ∷ Calculate Add (Number ladder) R4 ∷ []
 
 -- to the stub of the task that CUR names
-abbrev pub dispatch : RuntimePlaces → ℕ → List Form
+abbrev pub dispatch : MemoryMap → ℕ → List Form
 dispatch m ladder = task_found m ladder ++ (BranchRegister R4 ∷ [])
 
 -- the private scalars are copied
@@ -93,11 +96,11 @@ abbrev pub stubs_address : List TaskEntry → ℕ → ℕ
 stubs_address tasks at = ladder_address at + 4 * length tasks
 
 -- what stands before the ladder: the look at GATE, an attempt's opening, and the way to the ladder
-abbrev pub fixed_forms : RuntimePlaces → ℕ → ℕ → List Form
+abbrev pub fixed_forms : MemoryMap → ℕ → ℕ → List Form
 fixed_forms m commit ladder = head m commit ++ (opening m ++ dispatch m ladder)
 
 -- boot, attempt start, ladder and stubs, to stand at an address
-abbrev pub boot_forms : RuntimePlaces → ℕ → List TaskEntry → ℕ → List Form
+abbrev pub boot_forms : MemoryMap → ℕ → List TaskEntry → ℕ → List Form
 boot_forms m commit tasks at = fixed_forms m commit (ladder_address at) ++ (ladder_to (stubs_address tasks at) tasks ++ stubs tasks)
 
 -- the length of stubs in bytes

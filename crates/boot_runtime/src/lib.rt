@@ -7,16 +7,16 @@ mod stubs;
 
 ghost use Rattle.std.specs.Prelude.{◌≡◌, ◌+◌, ◌<◌, ℕ, IfOk};
 ghost use Rattle.code_forms.specs.Placed.{instructions};
-ghost use Rattle.runtime_code.specs.LayoutPlaces.{runtime_places};
 ghost use Rattle.boot_runtime.specs.Entries.{task_entries};
 ghost use Rattle.boot_runtime.specs.Listing.{head, clearing_begins, clear_loop, counts_set, dispatch, fixed_forms, boot_forms, boot_bytes};
 
+use address_space::STACK_TOP;
 pub use laws::{
     boot_is_short, boot_obeys_the_gate, start_is_made, start_stores_in_fram, tasks_are_entered,
 };
+use memory_map::{Layout, RuntimeWord};
 use msp_isa::{Condition, Dst, IndexRegister, Instr, Konst, Reg, Src};
-use privatise::Layout;
-use runtime_code::{STACK_TOP, add, branch, cmp, jump, load, mov, read, set, sub};
+use runtime_code::{add, branch, cmp, jump, load, mov, read, set, sub};
 use std::alloc::{AllocError, Global};
 use stubs::{push_ladder, push_stubs};
 
@@ -25,14 +25,12 @@ const LADDER: u16 = 66;
 
 // SP := its top; where GATE is 1 a branch to the commit, else over it.
 fn head(layout: &Layout) -> [Instr; 4]
-    ensures { result ≡ instructions (head (runtime_places layout.now) layout.now.commit.address) }
+    ensures { result ≡ instructions (head layout.now layout.now.commit.address) }
 {
+    let gate = Dst::Absolute(layout.word_place(RuntimeWord::Gate));
     [
         mov(Src::Immediate(STACK_TOP), set(IndexRegister::Sp)),
-        cmp(
-            Src::Constant(Konst::One),
-            Dst::Absolute(layout.words().gate),
-        ),
+        cmp(Src::Constant(Konst::One), gate),
         jump(Condition::NotEqual, 2),
         branch(layout.commit().address),
     ]
@@ -40,13 +38,13 @@ fn head(layout: &Layout) -> [Instr; 4]
 
 // R4 := the number of version words, R5 := their place.
 fn clearing_begins(layout: &Layout) -> [Instr; 2]
-    ensures { result ≡ instructions (clearing_begins (runtime_places layout.now)) }
+    ensures { result ≡ instructions (clearing_begins layout.now) }
 {
     layout.rules();
     let versions = layout.versions();
     [
         mov(
-            Src::Immediate(versions.capacity as u16),
+            Src::Immediate(versions.words as u16),
             set(IndexRegister::R4),
         ),
         mov(Src::Immediate(versions.address), set(IndexRegister::R5)),
@@ -72,24 +70,27 @@ fn clear_loop() -> [Instr; 6]
 
 // VER := 1, CLN := 0, EN := 0.
 fn counts_set(layout: &Layout) -> [Instr; 3]
-    ensures { result ≡ instructions (counts_set (runtime_places layout.now)) }
+    ensures { result ≡ instructions (counts_set layout.now) }
 {
-    let words = layout.words();
+    let version = Dst::Absolute(layout.word_place(RuntimeWord::Version));
+    let list_length = Dst::Absolute(layout.word_place(RuntimeWord::ListLength));
+    let emit_count = Dst::Absolute(layout.word_place(RuntimeWord::EmitCount));
     [
-        mov(Src::Constant(Konst::One), Dst::Absolute(words.version)),
-        mov(Src::Constant(Konst::Zero), Dst::Absolute(words.list_length)),
-        mov(Src::Constant(Konst::Zero), Dst::Absolute(words.emit_count)),
+        mov(Src::Constant(Konst::One), version),
+        mov(Src::Constant(Konst::Zero), list_length),
+        mov(Src::Constant(Konst::Zero), emit_count),
     ]
 }
 
 // SP := its top; to the branch of the task that CUR names, in a ladder of branches of four bytes.
 fn dispatch(layout: &Layout, ladder: u16) -> [Instr; 6]
-    ensures { result ≡ instructions (dispatch (runtime_places layout.now) ladder) }
+    ensures { result ≡ instructions (dispatch layout.now ladder) }
 {
     let r4 = set(IndexRegister::R4);
+    let current_task = load(layout.word_place(RuntimeWord::CurrentTask));
     [
         mov(Src::Immediate(STACK_TOP), set(IndexRegister::Sp)),
-        mov(load(layout.words().current_task), r4),
+        mov(current_task, r4),
         add(read(IndexRegister::R4), r4),
         add(read(IndexRegister::R4), r4),
         add(Src::Immediate(ladder), r4),
@@ -99,7 +100,7 @@ fn dispatch(layout: &Layout, ladder: u16) -> [Instr; 6]
 
 // What stands before the ladder: the look at GATE, the opening of an attempt, and the way to the ladder.
 fn fixed_code(alloc: Global, layout: &Layout, ladder: u16) -> Result<Vec<Instr>, AllocError>
-    ensures { IfOk result (λ code. code.items ≡ instructions (fixed_forms (runtime_places layout.now) layout.now.commit.address ladder)) }
+    ensures { IfOk result (λ code. code.items ≡ instructions (fixed_forms layout.now layout.now.commit.address ladder)) }
 {
     let mut code = Vec::new(alloc);
     code.extend_from_slice(&head(layout))?;
@@ -117,7 +118,7 @@ fn fixed_code(alloc: Global, layout: &Layout, ladder: u16) -> Result<Vec<Instr>,
 /// task are copied, and a branch leads to its code. They take 33 words, and for each task 4 and 3 for each of its private scalars.
 pub fn boot_code(alloc: Global, layout: &Layout, at: u16) -> Result<Vec<Instr>, AllocError>
     requires { at + boot_bytes (task_entries layout.now) < 65536 }
-    ensures { IfOk result (λ code. code.items ≡ instructions (boot_forms (runtime_places layout.now) layout.now.commit.address (task_entries layout.now) at)) }
+    ensures { IfOk result (λ code. code.items ≡ instructions (boot_forms layout.now layout.now.commit.address (task_entries layout.now) at)) }
 {
     let tasks = layout.tasks();
     let ladder = at + LADDER;

@@ -6,8 +6,8 @@ ghost use Rattle.runtime_code.specs.LayoutPlaces.{pair_of};
 ghost use Rattle.boot_runtime.specs.Entries.{entry_of};
 ghost use Rattle.boot_runtime.specs.Listing.{copies_in, stub, stub_bytes, stubs, stubs_bytes, ladder_to};
 
+use memory_map::{PrivateScalar, TaskLayout};
 use msp_isa::{Dst, Instr};
-use privatise::{PrivateScalar, TaskLayout};
 use runtime_code::{branch, load, mov};
 use std::alloc::AllocError;
 

@@ -11,7 +11,7 @@ use Rattle.machine_effects.proofs.Worlds.{fram_after-append}
 use Rattle.code_forms.specs.Forms.{Core, Branch, Jump, instruction_of}
 use Rattle.code_forms.specs.Code.{Stands, IsTidy, forms_run}
 use Rattle.code_forms.proofs.Placed.{stands_at}
-use Rattle.runtime_effects.specs.Places.{RuntimePlaces, CopyPair, entries_from, listed}
+use Rattle.runtime_effects.specs.Places.{CopyPair, entries_from, listed}
 use Rattle.runtime_effects.specs.Stages.{copied_home, sends, emits_sent, commit_closed, commit_effects}
 use Rattle.runtime_effects.specs.Needs.{AreInFram, IsRegion, CanCommit, IsCopied}
 use Rattle.code_forms.proofs.Blocks.{stands_front, stands_back, end_of}
@@ -21,23 +21,25 @@ use Rattle.runtime_code.proofs.Loops.{tested, goes_in, leaves, jumps_back}
 use Rattle.commit_runtime.specs.Listing.{copies_begin, copy_turn, copy_loop, sends_begin, send_turn, send_loop, closing, commit_forms}
 use Rattle.commit_runtime.specs.Laws.{CommitIsMade}
 use Rattle.commit_runtime.proofs.Copies.{entries_stay, out_of_entries, sends_alike, sends_keep, sent_base_stays, emit_count_stays, next_task_stays, emits_stay}
+use Rattle.memory_map.specs.declared.words.RuntimeWord.TheVariants.{CurrentTask, NextTask, Gate, ListLength, EmitCount, Base, SentBase}
+use Rattle.memory_map.specs.MemoryMap.{MemoryMap, word_place}
 
 -- a word of a region
 in_region : (p bytes a : ℕ) → IsRegion p bytes → p ≤ a → a + 2 ≤ p + bytes → a % 2 ≡ 0 → IsFram a
 in_region p bytes a r l u e = let low = r.low in let high = r.high in record { even = e; low = omega (arith, low, l); high = omega (arith, high, u) }
 
-module _ (code : Code) (tidy : IsTidy code) (m : RuntimePlaces) (places : AreInFram m) where
+module _ (code : Code) (tidy : IsTidy code) (m : MemoryMap) (places : AreInFram m) where
   -- where the entries from p on stand
   record InList (p n : ℕ) : Type 0 where
     pub even : p % 2 ≡ 0
-    pub low : m.list ≤ p
-    pub high : p + 4 * n ≤ m.list + 4 * m.list_capacity
+    pub low : m.list.address ≤ p
+    pub high : p + 4 * n ≤ m.list.address + 4 * m.entries
 
   -- where the words from p on stand
   record InEmits (p n : ℕ) : Type 0 where
     pub even : p % 2 ≡ 0
-    pub low : m.emits ≤ p
-    pub high : p + 2 * n ≤ m.emits + 2 * m.emit_capacity
+    pub low : m.emits.address ≤ p
+    pub high : p + 2 * n ≤ m.emits.address + 2 * m.emits.words
 
   module _ (p : ℕ) (high : p + 22 < 0x10000) (stands : Stands code p copy_loop) where
     abbrev copied : ℕ
@@ -67,8 +69,8 @@ module _ (code : Code) (tidy : IsTidy code) (m : RuntimePlaces) (places : AreInF
         let u3 : Core = record u2 { pc = p } in
         let es : List Effect = Store x.home (f x.copy) ∷ [] in
         let a = goes_in code tidy p 6 copied stands.0 stands.1.0 copy_there u e (omega (arith, c, l)) (omega (arith, c)) in
-        let w1 = in_region m.list (4 * m.list_capacity) q places.list low (omega (arith, top)) even in
-        let w2 = in_region m.list (4 * m.list_capacity) (q + 2) places.list (omega (arith, low)) (omega (arith, top)) (omega (arith, even)) in
+        let w1 = in_region m.list.address (4 * m.entries) q places.list low (omega (arith, top)) even in
+        let w2 = in_region m.list.address (4 * m.entries) (q + 2) places.list (omega (arith, low)) (omega (arith, top)) (omega (arith, even)) in
         let b : Comes code es 4 10 u1 (λ v. v ≡ u2) =
         straight code tidy copy_turn 4 u1 u2 es 10 (λ v. v ≡ u2) (tt, (tt, (tt, (tt, tt)))) (stands_front code (p + 2 + 2) copy_turn (Jump Always (0x400 - 8) ∷ []) stands.1.1)
         (((w1, omega (arith, top, end)), tt), (((w2, omega (arith, top, end)), tt), ((is.copy, is.home), ((tt, tt), tt)))) refl refl refl in
@@ -77,7 +79,9 @@ module _ (code : Code) (tidy : IsTidy code) (m : RuntimePlaces) (places : AreInF
         let d = jumps_back code tidy (p + 2 + 2 + 2 + 2 + 4 + 2) p (0x400 - 8) u2 at refl copy_back in
         let out = is.leaves.list in
         let step : q + 2 + 2 ≡ q + 4 = omega arith in
-        let same : entries_from n (q + 2 + 2) g ≡ xs = ap (λ y. entries_from n y g) step ∙ entries_stay n (q + 4) x.home (f x.copy) f (out_of_entries (q + 4) n x.home m.list (4 * m.list_capacity) out (omega (arith, low)) (omega (arith, top))) in
+        let same : entries_from n (q + 2 + 2) g ≡ xs =
+        ap (λ y. entries_from n y g) step ∙ entries_stay n (q + 4) x.home (f x.copy) f
+        (out_of_entries (q + 4) n x.home m.list.address (4 * m.entries) out (omega (arith, low)) (omega (arith, top))) in
         let ok' = All-same (IsCopied m) (entries_from n (q + 2 + 2) g) xs same (All-tail (IsCopied m) x xs ok) in
         let r = copying n u3 refl (omega (arith, c)) (omega (arith, l)) (record { even = omega (arith, even); low = omega (arith, low); high = omega (arith, top) }) ok' in
         let r' : Comes code (copied_home xs g) (2 + n * 7) (3 + n * 15) u3 (IsAt copied (fram_after (copied_home xs g) g) u.readings_left) =
@@ -108,7 +112,7 @@ module _ (code : Code) (tidy : IsTidy code) (m : RuntimePlaces) (places : AreInF
         let u3 : Core = record u2 { pc = p } in
         let es : List Effect = Send (u.work 7) (u.fram (u.work 5)) ∷ [] in
         let a = goes_in code tidy p 7 sent stands.0 stands.1.0 send_there u e (omega (arith, c, l)) (omega (arith, c)) in
-        let w = in_region m.emits (2 * m.emit_capacity) (u.work 5) places.emits low (omega (arith, top)) even in
+        let w = in_region m.emits.address (2 * m.emits.words) (u.work 5) places.emits low (omega (arith, top)) even in
         let b : Comes code es 4 11 u1 (λ v. v ≡ u2) =
         straight code tidy send_turn 4 u1 u2 es 11 (λ v. v ≡ u2) (tt, (tt, (tt, (tt, tt)))) (stands_front code (p + 2 + 2) send_turn (Jump Always (0x400 - 9) ∷ []) stands.1.1)
         ((tt, tt), (((w, omega (arith, top, end)), tt), ((tt, tt), ((tt, tt), tt)))) refl refl refl in
@@ -125,27 +129,31 @@ module _ (code : Code) (tidy : IsTidy code) (m : RuntimePlaces) (places : AreInF
 
   -- the entries, from the first instruction on
   copy_part : (p : ℕ) (u : Core) → p + 30 < 0x10000 → u.pc ≡ p → Stands code p (copies_begin m) → Stands code (p + 4 + 4) copy_loop → CanCommit m u.fram
-      → let n = u.fram m.words.list_length in let es = copied_home (listed m u.fram) u.fram in Comes code es (4 + n * 7) (8 + n * 15) u (IsAt (p + 24) (fram_after es u.fram) u.readings_left)
+      → let n = u.fram (word_place m ListLength) in let es =
+      copied_home (listed m u.fram) u.fram in Comes code es (4 + n * 7) (8 + n * 15) u (IsAt (p + 24) (fram_after es u.fram) u.readings_left)
   copy_part p u high e h l can =
       let u1 = end_of u (forms_run (copies_begin m) u).status in
-      let n = u.fram m.words.list_length in
+      let n = u.fram (word_place m ListLength) in
       let es = copied_home (listed m u.fram) u.fram in
       let few = can.list_length in let end = places.list.high in
-      let a : Comes code [] 2 5 u (λ v. v ≡ u1) = straight code tidy (copies_begin m) 2 u u1 [] 5 (λ v. v ≡ u1) (tt, (tt, tt)) (stands_at code p (copies_begin m) u h e) ((places.words.list_length, tt), ((tt, tt), tt)) refl refl refl in
+      let a : Comes code [] 2 5 u (λ v. v ≡ u1) =
+      straight code tidy (copies_begin m) 2 u u1 [] 5 (λ v. v ≡ u1) (tt, (tt, tt)) (stands_at code p (copies_begin m) u h e)
+      ((places.words ListLength, tt), ((tt, tt), tt)) refl refl refl in
       let b = copying (p + 4 + 4) (omega (arith, high)) l n u1 (omega (arith, e)) refl (omega (arith, few, end)) (record { even = places.list.even; low = omega arith; high = omega (arith, few) }) can.copies in
       recounted code es (2 + (2 + n * 7)) (4 + n * 7) (5 + (3 + n * 15)) (8 + n * 15) u _ (omega arith) (omega arith)
       (moved_to code _ (p + 24) _ _ u es (fram_after es u.fram) u.readings_left (omega arith) (then_on code 2 (2 + n * 7) 5 (3 + n * 15) u u1 _ [] es a b))
 
   -- the sends
-  send_part : (p : ℕ) (u : Core) → p + 40 < 0x10000 → u.pc ≡ p → Stands code p (sends_begin m) → Stands code (p + 4 + 4 + 4) send_loop → u.fram m.words.emit_count ≤ m.emit_capacity
-      → let n = u.fram m.words.emit_count in Comes code (emits_sent m u.fram) (5 + n * 7) (11 + n * 16) u (IsAt (p + 30) u.fram u.readings_left)
+  send_part : (p : ℕ) (u : Core) → p + 40 < 0x10000 → u.pc ≡ p → Stands code p (sends_begin m) → Stands code (p + 4 + 4 + 4) send_loop
+      → u.fram (word_place m EmitCount) ≤ m.emits.words
+      → let n = u.fram (word_place m EmitCount) in Comes code (emits_sent m u.fram) (5 + n * 7) (11 + n * 16) u (IsAt (p + 30) u.fram u.readings_left)
   send_part p u high e h l few =
       let u1 = end_of u (forms_run (sends_begin m) u).status in
-      let n = u.fram m.words.emit_count in
+      let n = u.fram (word_place m EmitCount) in
       let es = emits_sent m u.fram in
       let end = places.emits.high in
       let a : Comes code [] 3 8 u (λ v. v ≡ u1) = straight code tidy (sends_begin m) 3 u u1 [] 8 (λ v. v ≡ u1) (tt, (tt, (tt, tt))) (stands_at code p (sends_begin m) u h e)
-      ((places.words.sent_base, tt), ((places.words.emit_count, tt), ((tt, tt), tt))) refl refl refl in
+      ((places.words SentBase, tt), ((places.words EmitCount, tt), ((tt, tt), tt))) refl refl refl in
       let b = sending (p + 4 + 4 + 4) (omega (arith, high)) l n u1 (omega (arith, e)) refl (omega (arith, few, end)) (record { even = places.emits.even; low = omega arith; high = omega (arith, few) }) in
       recounted code es (3 + (2 + n * 7)) (5 + n * 7) (8 + (3 + n * 16)) (11 + n * 16) u _ (omega arith) (omega arith)
       (moved_to code _ (p + 30) _ _ u es u.fram u.readings_left (omega arith) (then_on code 3 (2 + n * 7) 8 (3 + n * 16) u u1 _ [] es a b))
@@ -156,29 +164,36 @@ module _ (code : Code) (tidy : IsTidy code) (m : RuntimePlaces) (places : AreInF
   close_part p start u e even h =
       let u1 = end_of u (forms_run (closing m) u).status in
       let f = u.fram in
-      let n : (f m.words.sent_base + f m.words.emit_count + 0) % 0x10000 ≡ (f m.words.sent_base + f m.words.emit_count) % 0x10000 = omega arith in
-      let es : ℕ → List Effect = λ k. Store m.words.current_task (f m.words.next_task) ∷ Store m.words.base k ∷ Store m.words.gate 0 ∷ [] in
-      let sum = (f m.words.sent_base + f m.words.emit_count + 0) % 0x10000 in
+      let n : (f (word_place m SentBase) + f (word_place m EmitCount) + 0) % 0x10000 ≡
+      (f (word_place m SentBase) + f (word_place m EmitCount)) % 0x10000 = omega arith in
+      let es : ℕ → List Effect = λ k. Store (word_place m CurrentTask) (f (word_place m NextTask)) ∷ Store (word_place m Base) k ∷ Store (word_place m Gate) 0
+      ∷ [] in
+      let sum = (f (word_place m SentBase) + f (word_place m EmitCount) + 0) % 0x10000 in
       let t : Core = record u1 { pc = start } in
       let there : u1.pc ≡ p + 22 = omega (arith, e) in
       let at : code (p + 22) ≡ Some (instruction_of (Branch start)) = subst (λ x. code x ≡ Some (instruction_of (Branch start))) (omega arith) (stands_back code p (closing m) (Branch start ∷ []) h).0 in
       let a : Comes code (es sum) 5 20 u (λ v. v ≡ u1) = straight code tidy (closing m) 5 u u1 (es sum) 20 (λ v. v ≡ u1) (tt, (tt, (tt, (tt, (tt, tt)))))
-      (stands_at code p (closing m) u (stands_front code p (closing m) (Branch start ∷ []) h) e)
-      ((places.words.sent_base, tt), ((tt, places.words.emit_count), ((places.words.next_task, places.words.current_task), ((tt, places.words.base), ((tt, places.words.gate), tt))))) refl refl refl in
+      (stands_at code p (closing m) u (stands_front code p (closing m) (Branch start ∷ []) h) e) (
+        (places.words SentBase, tt),
+        (
+          (tt, places.words EmitCount),
+          ((places.words NextTask, places.words CurrentTask), ((tt, places.words Base), ((tt, places.words Gate), tt))),
+        ),
+      ) refl refl refl in
       let b : Comes code [] 1 3 u1 (IsAt start (fram_after (es sum) f) u.readings_left) = one_form code tidy (Branch start) u1 t [] 3 _ (ap code there ∙ at) even refl (record { pc = refl; fram = refl; readings_left = refl }) in
       let ab = then_on code 5 1 20 3 u u1 _ (es sum) [] a b in
       subst (λ k. Comes code (es k) 6 23 u (IsAt start (fram_after (es k) f) u.readings_left)) n ab
 
   commit_runs : (p start : ℕ) (u : Core) → p + 80 < 0x10000 → start % 2 ≡ 0 → Stands code p (commit_forms m start) → u.pc ≡ p → CanCommit m u.fram
-      → let n = u.fram m.words.list_length in let k = u.fram m.words.emit_count in let es = commit_effects m u.fram in
+      → let n = u.fram (word_place m ListLength) in let k = u.fram (word_place m EmitCount) in let es = commit_effects m u.fram in
       Comes code es (15 + 7 * n + 7 * k) (42 + 15 * n + 16 * k) u (IsAt start (fram_after es u.fram) u.readings_left)
   commit_runs p start u high even h e can =
       let f = u.fram in
       let xs = listed m f in
       let cs = copied_home xs f in
       let g = fram_after cs f in
-      let n = f m.words.list_length in
-      let k = f m.words.emit_count in
+      let n = f (word_place m ListLength) in
+      let k = f (word_place m EmitCount) in
       let rs = u.readings_left in
       let closes = closing m ++ (Branch start ∷ []) in
       let h1 = stands_back code p (copies_begin m) (copy_loop ++ (sends_begin m ++ (send_loop ++ closes))) h in
@@ -188,27 +203,33 @@ module _ (code : Code) (tidy : IsTidy code) (m : RuntimePlaces) (places : AreInF
       let h3 = stands_back code _ (sends_begin m) (send_loop ++ closes) h2 in
       let l3 : Stands code (p + 24 + 4 + 4 + 4) send_loop = subst (λ x. Stands code x send_loop) (omega arith) (stands_front code _ send_loop closes h3) in
       let c4 : Stands code (p + 54) closes = subst (λ x. Stands code x closes) (omega arith) (stands_back code _ send_loop closes h3) in
-      let sb : g m.words.sent_base ≡ f m.words.sent_base = sent_base_stays m xs f can.copies in
-      let en : g m.words.emit_count ≡ k = emit_count_stays m xs f can.copies in
-      let nx : g m.words.next_task ≡ f m.words.next_task = next_task_stays m xs f can.copies in
+      let sb : g (word_place m SentBase) ≡ f (word_place m SentBase) = sent_base_stays m xs f can.copies in
+      let en : g (word_place m EmitCount) ≡ k = emit_count_stays m xs f can.copies in
+      let nx : g (word_place m NextTask) ≡ f (word_place m NextTask) = next_task_stays m xs f can.copies in
       let few = can.emit_count in
       let sends_same : emits_sent m g ≡ emits_sent m f =
-      ap (λ x. sends x (g m.words.sent_base) m.emits g) en ∙ ap (λ x. sends k x m.emits g) sb
-      ∙ sends_alike k (f m.words.sent_base) m.emits f g (λ a l r. emits_stay m xs f can.copies a l (omega (arith, r, few))) in
+      ap (λ x. sends x (g (word_place m SentBase)) m.emits.address g) en ∙ ap (λ x. sends k x m.emits.address g) sb
+      ∙ sends_alike k (f (word_place m SentBase)) m.emits.address f g (λ a l r. emits_stay m xs f can.copies a l (omega (arith, r, few))) in
       let close_same : commit_closed m g ≡ commit_closed m f =
-      ap (λ x. Store m.words.current_task x ∷ Store m.words.base ((g m.words.sent_base + g m.words.emit_count) % 0x10000) ∷ Store m.words.gate 0 ∷ []) nx
-      ∙ ap (λ x. Store m.words.current_task (f m.words.next_task) ∷ Store m.words.base ((x + g m.words.emit_count) % 0x10000) ∷ Store m.words.gate 0 ∷ []) sb
-      ∙ ap (λ x. Store m.words.current_task (f m.words.next_task) ∷ Store m.words.base ((f m.words.sent_base + x) % 0x10000) ∷ Store m.words.gate 0 ∷ []) en in
+      ap (λ x. Store (word_place m CurrentTask) x ∷ Store (word_place m Base) ((g (word_place m SentBase) + g (word_place m EmitCount)) % 0x10000)
+      ∷ Store (word_place m Gate) 0 ∷ []) nx
+      ∙ ap (λ x. Store (word_place m CurrentTask) (f (word_place m NextTask)) ∷ Store (word_place m Base) ((x + g (word_place m EmitCount)) % 0x10000)
+      ∷ Store (word_place m Gate) 0 ∷ []) sb
+      ∙ ap (λ x. Store (word_place m CurrentTask) (f (word_place m NextTask)) ∷ Store (word_place m Base) ((f (word_place m SentBase) + x) % 0x10000)
+      ∷ Store (word_place m Gate) 0 ∷ []) en in
       let a = copy_part p u (omega (arith, high)) e (stands_front code p (copies_begin m) (copy_loop ++ (sends_begin m ++ (send_loop ++ closes))) h) l1 can in
       let ss = emits_sent m f in
       let b : (v : Core) → v.pc ≡ p + 24 → v.fram ≡ g → v.readings_left ≡ rs → Comes code ss (5 + k * 7) (11 + k * 16) v (IsAt (p + 54) g rs) =
       λ v at is left.
-      let r = send_part (p + 24) v (omega (arith, high)) at s2 l3 (subst (λ x. x m.words.emit_count ≤ m.emit_capacity) (sym is) (subst (λ x. x ≤ m.emit_capacity) (sym en) few)) in
-      let r1 : Comes code (emits_sent m g) (5 + g m.words.emit_count * 7) (11 + g m.words.emit_count * 16) v (IsAt (p + 24 + 30) g rs) =
-      subst (λ l. Comes code (emits_sent m g) (5 + g m.words.emit_count * 7) (11 + g m.words.emit_count * 16) v (IsAt (p + 24 + 30) g l)) left
-      (subst (λ x. Comes code (emits_sent m x) (5 + x m.words.emit_count * 7) (11 + x m.words.emit_count * 16) v (IsAt (p + 24 + 30) x v.readings_left)) is r) in
+      let r = send_part (p + 24) v (omega (arith, high)) at s2 l3
+      (subst (λ x. x (word_place m EmitCount) ≤ m.emits.words) (sym is) (subst (λ x. x ≤ m.emits.words) (sym en) few)) in
+      let r1 : Comes code (emits_sent m g) (5 + g (word_place m EmitCount) * 7) (11 + g (word_place m EmitCount) * 16) v (IsAt (p + 24 + 30) g rs) =
+      subst (λ l. Comes code (emits_sent m g) (5 + g (word_place m EmitCount) * 7) (11 + g (word_place m EmitCount) * 16) v (IsAt (p + 24 + 30) g l)) left
+      (subst (λ x. Comes code (emits_sent m x) (5 + x (word_place m EmitCount) * 7) (11 + x (word_place m EmitCount) * 16) v
+      (IsAt (p + 24 + 30) x v.readings_left)) is r) in
       moved_to code (p + 24 + 30) (p + 54) _ _ v ss g rs (omega arith)
-      (subst (λ x. Comes code ss (5 + x * 7) (11 + x * 16) v (IsAt (p + 24 + 30) g rs)) en (subst (λ es. Comes code es (5 + g m.words.emit_count * 7) (11 + g m.words.emit_count * 16) v (IsAt (p + 24 + 30) g rs)) sends_same r1)) in
+      (subst (λ x. Comes code ss (5 + x * 7) (11 + x * 16) v (IsAt (p + 24 + 30) g rs)) en
+      (subst (λ es. Comes code es (5 + g (word_place m EmitCount) * 7) (11 + g (word_place m EmitCount) * 16) v (IsAt (p + 24 + 30) g rs)) sends_same r1)) in
       let ab = chain code (4 + n * 7) (5 + k * 7) (8 + n * 15) (11 + k * 16) (p + 24) u cs ss g rs (IsAt (p + 54) g rs) a b in
       let ls = commit_closed m f in
       let d : (v : Core) → v.pc ≡ p + 54 → v.fram ≡ g → v.readings_left ≡ rs → Comes code ls 6 23 v (IsAt start (fram_after ls g) rs) =
@@ -221,7 +242,7 @@ module _ (code : Code) (tidy : IsTidy code) (m : RuntimePlaces) (places : AreInF
       let abd = chain code (4 + n * 7 + (5 + k * 7)) 6 (8 + n * 15 + (11 + k * 16)) 23 (p + 54) u (cs ++ ss) ls g rs (IsAt start (fram_after ls g) rs) ab d in
       let es : (cs ++ ss) ++ ls ≡ commit_effects m f = append_assoc cs ss ls in
       let fs : fram_after ls g ≡ fram_after (commit_effects m f) f =
-      sym (fram_after-append cs (ss ++ ls) f ∙ fram_after-append ss ls g ∙ ap (fram_after ls) (sends_keep k (f m.words.sent_base) m.emits f g)) in
+      sym (fram_after-append cs (ss ++ ls) f ∙ fram_after-append ss ls g ∙ ap (fram_after ls) (sends_keep k (f (word_place m SentBase)) m.emits.address f g)) in
       recounted code (commit_effects m f) (4 + n * 7 + (5 + k * 7) + 6) (15 + 7 * n + 7 * k) (8 + n * 15 + (11 + k * 16) + 23) (42 + 15 * n + 16 * k) u _ (omega arith) (omega arith)
       (subst (λ x. Comes code (commit_effects m f) (4 + n * 7 + (5 + k * 7) + 6) (8 + n * 15 + (11 + k * 16) + 23) u (IsAt start x rs)) fs
       (subst (λ x. Comes code x (4 + n * 7 + (5 + k * 7) + 6) (8 + n * 15 + (11 + k * 16) + 23) u (IsAt start (fram_after ls g) rs)) es abd))

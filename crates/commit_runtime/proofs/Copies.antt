@@ -5,9 +5,11 @@ use Rattle.std.proofs.lemmas.List.Elements.{All-head, All-tail, All-weaker}
 use Rattle.fram_board.specs.Effects.{Send}
 use Rattle.machine_effects.specs.World.{put, fram_after}
 use Rattle.machine_effects.proofs.Worlds.{put_other}
-use Rattle.runtime_effects.specs.Places.{RuntimePlaces, CopyPair, entries_from}
+use Rattle.runtime_effects.specs.Places.{CopyPair, entries_from}
 use Rattle.runtime_effects.specs.Stages.{copied_home, sends}
 use Rattle.runtime_effects.specs.Needs.{IsCopied}
+use Rattle.memory_map.specs.declared.words.RuntimeWord.TheVariants.{NextTask, EmitCount, SentBase}
+use Rattle.memory_map.specs.MemoryMap.{MemoryMap, word_place}
 
 -- an address outside others
 out_of : (p n a x : ℕ) → (a < p) ⊎ (p + n ≤ a) → p ≤ x → x < p + n → a ≢ x
@@ -52,21 +54,24 @@ pub sends_keep : (n k p : ℕ) (f g : ℕ → ℕ) → fram_after (sends n k p f
 sends_keep zero k p f g = refl
 sends_keep (suc n) k p f g = sends_keep n ((k + 1) % 0x10000) (p + 2) f g
 
-module _ (m : RuntimePlaces) (xs : List CopyPair) (f : ℕ → ℕ) (copied : All (IsCopied m) xs) where
+module _ (m : MemoryMap) (xs : List CopyPair) (f : ℕ → ℕ) (copied : All (IsCopied m) xs) where
   abbrev pub after : ℕ → ℕ
   after = fram_after (copied_home xs f) f
 
-  pub sent_base_stays : after m.words.sent_base ≡ f m.words.sent_base
-  sent_base_stays = copies_leave xs f m.words.sent_base (All-weaker (IsCopied m) (λ x. x.home ≢ m.words.sent_base) (λ x h. h.leaves.sent_base) xs copied)
+  pub sent_base_stays : after (word_place m SentBase) ≡ f (word_place m SentBase)
+  sent_base_stays = copies_leave xs f (word_place m SentBase)
+      (All-weaker (IsCopied m) (λ x. x.home ≢ word_place m SentBase) (λ x h. h.leaves.sent_base) xs copied)
 
-  pub emit_count_stays : after m.words.emit_count ≡ f m.words.emit_count
-  emit_count_stays = copies_leave xs f m.words.emit_count (All-weaker (IsCopied m) (λ x. x.home ≢ m.words.emit_count) (λ x h. h.leaves.emit_count) xs copied)
+  pub emit_count_stays : after (word_place m EmitCount) ≡ f (word_place m EmitCount)
+  emit_count_stays = copies_leave xs f (word_place m EmitCount)
+      (All-weaker (IsCopied m) (λ x. x.home ≢ word_place m EmitCount) (λ x h. h.leaves.emit_count) xs copied)
 
-  pub next_task_stays : after m.words.next_task ≡ f m.words.next_task
-  next_task_stays = copies_leave xs f m.words.next_task (All-weaker (IsCopied m) (λ x. x.home ≢ m.words.next_task) (λ x h. h.leaves.next_task) xs copied)
+  pub next_task_stays : after (word_place m NextTask) ≡ f (word_place m NextTask)
+  next_task_stays = copies_leave xs f (word_place m NextTask)
+      (All-weaker (IsCopied m) (λ x. x.home ≢ word_place m NextTask) (λ x h. h.leaves.next_task) xs copied)
 
-  not_emit : (a : ℕ) (x : CopyPair) → m.emits ≤ a → a < m.emits + 2 * m.emit_capacity → IsCopied m x → x.home ≢ a
-  not_emit a x l u h = out_of m.emits (2 * m.emit_capacity) x.home a h.leaves.emits l u
+  not_emit : (a : ℕ) (x : CopyPair) → m.emits.address ≤ a → a < m.emits.address + 2 * m.emits.words → IsCopied m x → x.home ≢ a
+  not_emit a x l u h = out_of m.emits.address (2 * m.emits.words) x.home a h.leaves.emits l u
 
-  pub emits_stay : (a : ℕ) → m.emits ≤ a → a < m.emits + 2 * m.emit_capacity → after a ≡ f a
+  pub emits_stay : (a : ℕ) → m.emits.address ≤ a → a < m.emits.address + 2 * m.emits.words → after a ≡ f a
   emits_stay a l u = copies_leave xs f a (All-weaker (IsCopied m) (λ x. x.home ≢ a) (λ x h. not_emit a x l u h) xs copied)

@@ -5,24 +5,27 @@ use Rattle.std.proofs.lemmas.List.Elements.{All-head, All-tail, All-weaker}
 use Rattle.machine_effects.specs.World.{put, EachStore}
 use Rattle.machine_effects.specs.Machine.{IsFram}
 use Rattle.machine_effects.proofs.Worlds.{each_store-append}
-use Rattle.runtime_effects.specs.Places.{RuntimePlaces, CopyPair, listed}
+use Rattle.runtime_effects.specs.Places.{CopyPair, listed}
 use Rattle.runtime_effects.specs.Stages.{copied_home, emits_sent, commit_closed, commit_effects}
 use Rattle.runtime_effects.specs.Needs.{IsCopied}
 use Rattle.runtime_effects.proofs.Sends.{sends_store}
 use Rattle.commit_runtime.specs.Laws.{CommitStoresInFram}
+use Rattle.memory_map.specs.declared.words.RuntimeWord.TheVariants.{CurrentTask, Gate, EmitCount, Base, SentBase}
+use Rattle.memory_map.specs.MemoryMap.{MemoryMap, word_place}
 
 homes_stored : (P : ℕ → ℕ → Type 0) (xs : List CopyPair) (f : ℕ → ℕ) → All (λ x. (w : ℕ) → P x.home w) xs → EachStore P (copied_home xs f)
 homes_stored P [] f h = tt
 homes_stored P (x ∷ xs) f h = (All-head (λ x. (w : ℕ) → P x.home w) x xs h (f x.copy), homes_stored P xs (put f x.home (f x.copy)) (All-tail (λ x. (w : ℕ) → P x.home w) x xs h))
 
 -- what holds at each listed home, at CUR, at BASE and at GATE holds of each store of a commit
-pub commit_stores : (P : ℕ → ℕ → Type 0) (m : RuntimePlaces) (f : ℕ → ℕ) → All (λ x. (w : ℕ) → P x.home w) (listed m f)
-    → ((w : ℕ) → P m.words.current_task w) → ((w : ℕ) → P m.words.base w) → P m.words.gate 0 → EachStore P (commit_effects m f)
+pub commit_stores : (P : ℕ → ℕ → Type 0) (m : MemoryMap) (f : ℕ → ℕ) → All (λ x. (w : ℕ) → P x.home w) (listed m f)
+    → ((w : ℕ) → P (word_place m CurrentTask) w) → ((w : ℕ) → P (word_place m Base) w) → P (word_place m Gate) 0 → EachStore P (commit_effects m f)
 commit_stores P m f homes task base gate =
     each_store-append P (copied_home (listed m f) f) (emits_sent m f ++ commit_closed m f) (homes_stored P (listed m f) f homes)
-    (each_store-append P (emits_sent m f) (commit_closed m f) (sends_store P (f m.words.emit_count) (f m.words.sent_base) m.emits f) (task _, (base _, (gate, tt))))
+    (each_store-append P (emits_sent m f) (commit_closed m f) (sends_store P (f (word_place m EmitCount)) (f (word_place m SentBase)) m.emits.address f)
+    (task _, (base _, (gate, tt))))
 
 pub commit_stores_in_fram : CommitStoresInFram
 commit_stores_in_fram m f places can =
     commit_stores (λ a w. IsFram a) m f (All-weaker (IsCopied m) (λ x. (w : ℕ) → IsFram x.home) (λ x h w. h.home) (listed m f) can.copies)
-    (λ w. places.words.current_task) (λ w. places.words.base) places.words.gate
+    (λ w. places.words CurrentTask) (λ w. places.words Base) (places.words Gate)

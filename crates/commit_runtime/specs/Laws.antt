@@ -5,7 +5,8 @@ use Rattle.machine_effects.specs.Machine.{Code, IsFram}
 use Rattle.code_forms.specs.Forms.{Core}
 use Rattle.code_forms.specs.Code.{Stands, IsTidy}
 use Rattle.code_forms.specs.Placed.{instructions, words_of, AreInstructions}
-use Rattle.runtime_effects.specs.Places.{RuntimePlaces}
+use Rattle.memory_map.specs.declared.words.RuntimeWord.TheVariants.{ListLength, EmitCount}
+use Rattle.memory_map.specs.MemoryMap.{MemoryMap, word_place}
 use Rattle.runtime_effects.specs.Stages.{commit_effects}
 use Rattle.runtime_effects.specs.Needs.{AreInFram, CanCommit}
 use Rattle.runtime_code.specs.Comes.{Comes, IsAt}
@@ -14,21 +15,21 @@ use Rattle.commit_runtime.specs.Listing.{commit_forms, commit_bytes, commit_step
 -- from where the listing stands, on FRAM on which a commit can be made, the code makes exactly the commit, whatever the registers,
 -- and comes to the attempt's start, in a number of steps and of cycles that depends on CLN and EN alone
 abbrev pub CommitIsMade : Type 0
-CommitIsMade = (code : Code) (m : RuntimePlaces) (at start : ℕ) (u : Core) → IsTidy code → AreInFram m → at + commit_bytes < 0x10000 → start % 2 ≡ 0
+CommitIsMade = (code : Code) (m : MemoryMap) (at start : ℕ) (u : Core) → IsTidy code → AreInFram m → at + commit_bytes < 0x10000 → start % 2 ≡ 0
     → Stands code at (commit_forms m start) → u.pc ≡ at → CanCommit m u.fram
-    → let entries = u.fram m.words.list_length in
-    let emits = u.fram m.words.emit_count in
+    → let entries = u.fram (word_place m ListLength) in
+    let emits = u.fram (word_place m EmitCount) in
     let es = commit_effects m u.fram in
     Comes code es (commit_steps entries emits) (commit_cycles entries emits) u (IsAt start (fram_after es u.fram) u.readings_left)
 
 -- the code's length
 abbrev pub CommitIsShort : Type 0
-CommitIsShort = (m : RuntimePlaces) (start : ℕ) → 2 * length (words_of (instructions (commit_forms m start))) ≡ commit_bytes
+CommitIsShort = (m : MemoryMap) (start : ℕ) → 2 * length (words_of (instructions (commit_forms m start))) ≡ commit_bytes
 
 -- each of its instructions has its words
 abbrev pub CommitIsCode : Type 0
-CommitIsCode = (m : RuntimePlaces) (start : ℕ) → AreInstructions (instructions (commit_forms m start))
+CommitIsCode = (m : MemoryMap) (start : ℕ) → AreInstructions (instructions (commit_forms m start))
 
 -- it stores at words of FRAM alone
 abbrev pub CommitStoresInFram : Type 0
-CommitStoresInFram = (m : RuntimePlaces) (f : ℕ → ℕ) → AreInFram m → CanCommit m f → EachStore (λ a w. IsFram a) (commit_effects m f)
+CommitStoresInFram = (m : MemoryMap) (f : ℕ → ℕ) → AreInFram m → CanCommit m f → EachStore (λ a w. IsFram a) (commit_effects m f)

@@ -4,12 +4,13 @@ use Rattle.msp_isa.specs.declared.instructions.TwoOp.TheVariants.{Add, Sub}
 use Rattle.msp_isa.specs.declared.operands.Konst.TheVariants.{Zero, One}
 use Rattle.code_forms.specs.Forms.{Form, Move, Calculate, Branch, R4, R5, R6, R7}
 use Rattle.code_forms.specs.Forms.{Register, Number, Constant, Fram, Pointed, PointedNext, ToRegister, ToFram, ToPointed, ToOutnum, ToOutdata}
-use Rattle.runtime_effects.specs.Places.{RuntimePlaces}
+use Rattle.memory_map.specs.declared.words.RuntimeWord.TheVariants.{CurrentTask, NextTask, Gate, ListLength, EmitCount, Base, SentBase}
+use Rattle.memory_map.specs.MemoryMap.{MemoryMap, word_place}
 use Rattle.runtime_code.specs.Counted.{counted}
 
 -- R4 := CLN, R5 := the commit list
-abbrev pub copies_begin : RuntimePlaces → List Form
-copies_begin m = Move (Fram m.words.list_length) (ToRegister R4) ∷ Move (Number m.list) (ToRegister R5) ∷ []
+abbrev pub copies_begin : MemoryMap → List Form
+copies_begin m = Move (Fram (word_place m ListLength)) (ToRegister R4) ∷ Move (Number m.list.address) (ToRegister R5) ∷ []
 
 -- an entry's home and copy are read, and the copy goes home
 abbrev pub copy_turn : List Form
@@ -21,8 +22,9 @@ abbrev pub copy_loop : List Form
 copy_loop = counted copy_turn 6 (0x400 - 8)
 
 -- R7 := SB, R4 := EN, R5 := the emitted words
-abbrev pub sends_begin : RuntimePlaces → List Form
-sends_begin m = Move (Fram m.words.sent_base) (ToRegister R7) ∷ Move (Fram m.words.emit_count) (ToRegister R4) ∷ Move (Number m.emits) (ToRegister R5) ∷ []
+abbrev pub sends_begin : MemoryMap → List Form
+sends_begin m = Move (Fram (word_place m SentBase)) (ToRegister R7) ∷ Move (Fram (word_place m EmitCount)) (ToRegister R4)
+    ∷ Move (Number m.emits.address) (ToRegister R5) ∷ []
 
 -- OUTNUM := the number in R7, OUTDATA := the word; the next number
 abbrev pub send_turn : List Form
@@ -33,13 +35,14 @@ abbrev pub send_loop : List Form
 send_loop = counted send_turn 7 (0x400 - 9)
 
 -- CUR := NEXT, BASE := SB + EN, GATE := 0
-abbrev pub closing : RuntimePlaces → List Form
+abbrev pub closing : MemoryMap → List Form
 closing m =
-    Move (Fram m.words.sent_base) (ToRegister R4) ∷ Calculate Add (Fram m.words.emit_count) R4 ∷ Move (Fram m.words.next_task) (ToFram m.words.current_task)
-    ∷ Move (Register R4) (ToFram m.words.base) ∷ Move (Constant Zero) (ToFram m.words.gate) ∷ []
+    Move (Fram (word_place m SentBase)) (ToRegister R4) ∷ Calculate Add (Fram (word_place m EmitCount)) R4
+    ∷ Move (Fram (word_place m NextTask)) (ToFram (word_place m CurrentTask))
+    ∷ Move (Register R4) (ToFram (word_place m Base)) ∷ Move (Constant Zero) (ToFram (word_place m Gate)) ∷ []
 
 -- the commit, and the branch to an attempt's start at this address: 40 words
-abbrev pub commit_forms : RuntimePlaces → ℕ → List Form
+abbrev pub commit_forms : MemoryMap → ℕ → List Form
 commit_forms m start = copies_begin m ++ (copy_loop ++ (sends_begin m ++ (send_loop ++ (closing m ++ (Branch start ∷ [])))))
 
 -- its length in bytes

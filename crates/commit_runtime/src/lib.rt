@@ -7,12 +7,11 @@ mod laws;
 ghost use Rattle.std.specs.Prelude.{◌≡◌, ◌+◌, ◌<◌, ℕ, IfOk};
 ghost use Rattle.code_forms.specs.Placed.{instructions};
 ghost use Rattle.runtime_code.specs.Addresses.{start_address};
-ghost use Rattle.runtime_code.specs.LayoutPlaces.{runtime_places};
 ghost use Rattle.commit_runtime.specs.Listing.{copies_begin, copy_loop, sends_begin, send_loop, closing, commit_forms};
 
 pub use laws::{commit_is_made, commit_is_short, commit_stores_in_fram};
+use memory_map::{Layout, RuntimeWord};
 use msp_isa::{Condition, Dst, IndexRegister, IndirectRegister, Instr, Konst, Operand, Src};
-use privatise::Layout;
 use runtime_code::{add, branch, cmp, jump, load, mov, read, set, start_address, sub};
 use std::alloc::{AllocError, Global};
 
@@ -24,10 +23,11 @@ const OUTDATA: u16 = 0x0204;
 
 // R4 := CLN, R5 := the commit list.
 fn copies_begin(layout: &Layout) -> [Instr; 2]
-    ensures { result ≡ instructions (copies_begin (runtime_places layout.now)) }
+    ensures { result ≡ instructions (copies_begin layout.now) }
 {
+    let list_length = load(layout.word_place(RuntimeWord::ListLength));
     [
-        mov(load(layout.words().list_length), set(IndexRegister::R4)),
+        mov(list_length, set(IndexRegister::R4)),
         mov(
             Src::Immediate(layout.list().address),
             set(IndexRegister::R5),
@@ -55,12 +55,13 @@ fn copy_loop() -> [Instr; 7]
 
 // R7 := SB, R4 := EN, R5 := the emitted words.
 fn sends_begin(layout: &Layout) -> [Instr; 3]
-    ensures { result ≡ instructions (sends_begin (runtime_places layout.now)) }
+    ensures { result ≡ instructions (sends_begin layout.now) }
 {
-    let words = layout.words();
+    let sent_base = load(layout.word_place(RuntimeWord::SentBase));
+    let emit_count = load(layout.word_place(RuntimeWord::EmitCount));
     [
-        mov(load(words.sent_base), set(IndexRegister::R7)),
-        mov(load(words.emit_count), set(IndexRegister::R4)),
+        mov(sent_base, set(IndexRegister::R7)),
+        mov(emit_count, set(IndexRegister::R4)),
         mov(
             Src::Immediate(layout.emits().address),
             set(IndexRegister::R5),
@@ -87,15 +88,20 @@ fn send_loop() -> [Instr; 7]
 
 // CUR := NEXT, BASE := SB + EN, GATE := 0. SB and EN are read before CUR is written.
 fn closing(layout: &Layout) -> [Instr; 5]
-    ensures { result ≡ instructions (closing (runtime_places layout.now)) }
+    ensures { result ≡ instructions (closing layout.now) }
 {
-    let words = layout.words();
+    let sent_base = load(layout.word_place(RuntimeWord::SentBase));
+    let emit_count = load(layout.word_place(RuntimeWord::EmitCount));
+    let next_task = load(layout.word_place(RuntimeWord::NextTask));
+    let current_task = Dst::Absolute(layout.word_place(RuntimeWord::CurrentTask));
+    let base = Dst::Absolute(layout.word_place(RuntimeWord::Base));
+    let gate = Dst::Absolute(layout.word_place(RuntimeWord::Gate));
     [
-        mov(load(words.sent_base), set(IndexRegister::R4)),
-        add(load(words.emit_count), set(IndexRegister::R4)),
-        mov(load(words.next_task), Dst::Absolute(words.current_task)),
-        mov(read(IndexRegister::R4), Dst::Absolute(words.base)),
-        mov(Src::Constant(Konst::Zero), Dst::Absolute(words.gate)),
+        mov(sent_base, set(IndexRegister::R4)),
+        add(emit_count, set(IndexRegister::R4)),
+        mov(next_task, current_task),
+        mov(read(IndexRegister::R4), base),
+        mov(Src::Constant(Konst::Zero), gate),
     ]
 }
 
@@ -106,7 +112,7 @@ fn closing(layout: &Layout) -> [Instr; 5]
 /// between finds it and begins the commit anew. They take 40 words, and may stand anywhere.
 pub fn commit_code(alloc: Global, layout: &Layout) -> Result<Vec<Instr>, AllocError>
     requires { layout.now.boot.address + 14 < 65536 }
-    ensures { IfOk result (λ code. code.items ≡ instructions (commit_forms (runtime_places layout.now) (start_address layout.now.boot.address))) }
+    ensures { IfOk result (λ code. code.items ≡ instructions (commit_forms layout.now (start_address layout.now.boot.address))) }
 {
     let mut code = Vec::new(alloc);
     code.extend_from_slice(&copies_begin(layout))?;

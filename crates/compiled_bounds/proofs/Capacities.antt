@@ -3,11 +3,13 @@ use Rattle.std.proofs.Common.{ℕ, refl, sym, subst, arith, List}
 use Rattle.machine_effects.specs.World.{World, EachStore}
 use Rattle.cost_bound.specs.Allowance.{CheckedProgram}
 use Rattle.source_values.specs.Runs.{State}
-use Rattle.privatise.specs.LayoutValue.{LayoutValue}
+use Rattle.memory_map.specs.declared.words.RuntimeWord.TheVariants.{ListLength, EmitCount}
+use Rattle.memory_map.specs.MemoryMap.{MemoryMap, word_place}
 use Rattle.crash_rules.specs.History.{History}
 use Rattle.crash_rules.specs.Runs.{Program}
 use Rattle.crash_rules.specs.Laws.{Origin, Phase, UndecidedPhase, DecidedPhase}
-use Rattle.stands_for.specs.Layout.{AreApart, HaveRoom}
+use Rattle.memory_map.specs.Laws.{AreApart}
+use Rattle.stands_for.specs.Layout.{HaveRoom}
 use Rattle.stands_for.specs.StandsFor.{DecidedFrom, VersionsWithin}
 use Rattle.stands_for.proofs.Commits.{commit_stores_all}
 use Rattle.compiled_model.specs.Places.{program_places}
@@ -18,7 +20,7 @@ use Rattle.model_runs.proofs.Fronts.{fronts_are_lawful}
 use Rattle.model_runs.proofs.Words.{words_stay_within}
 use Rattle.compiled_bounds.specs.Laws.{CountsFit, CapacitiesAreKept}
 
-module _ (p : CheckedProgram) (l : LayoutValue) (apart : AreApart (program_places p l)) (room : HaveRoom (program_places p l)) where
+module _ (p : CheckedProgram) (l : MemoryMap) (apart : AreApart l) (room : HaveRoom (program_places p l)) where
   -- a commit stores neither to CLN nor to EN
   commits_fit : (s next : State) (x : World) → DecidedFrom (program_places p l) (state_view p l) s next x
       → EachStore (CountsFit l) ((compiled_model p l).commit x.fram)
@@ -44,7 +46,7 @@ capacities_are_kept c p l apart room fit readings origin x cs b r run bears firs
     let h = history_behind model x ms in
     let P : (ℕ → ℕ) → Type 0 = λ f. VersionsWithin (program_places p l) f in
     record {
-      list = stays l.words.list_length l.list.capacity (λ w s. s.list refl) first.list ms rest e;
-      emits = stays l.words.emit_count l.emits.capacity (λ w s. s.emits refl) first.emits ms rest e;
+      list = stays (word_place l ListLength) l.entries (λ w s. s.list refl) first.list ms rest e;
+      emits = stays (word_place l EmitCount) l.emits.words (λ w s. s.emits refl) first.emits ms rest e;
       versions = subst P (sym k.1.fram) (phase_versions p l apart room readings origin k.0.stands.state h k.0.stands.phase);
     }

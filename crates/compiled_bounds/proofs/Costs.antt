@@ -16,22 +16,22 @@ use Rattle.war_analysis.proofs.Counted.{privates_counted}
 use Rattle.array_versions.specs.Program.{Program}
 use Rattle.array_versions.specs.Behaviour.{WordState, End, GoesOn, Jumps, Short, Strays, Broken, behaviour, started}
 use Rattle.array_versions.specs.Cost.{spent}
-use Rattle.privatise.specs.LayoutValue.{LayoutValue, TaskLayoutValue}
 use Rattle.privatise.specs.Layouts.{IsLayout, IsTaskLayout}
 use Rattle.lower.proofs.Blocks.{program_at}
 use Rattle.runtime_code.specs.LayoutPlaces.{pair_of}
 use Rattle.boot_runtime.specs.Entries.{entry_of, task_entries}
 use Rattle.boot_runtime.specs.Listing.{privates_in, entry_at}
-use Rattle.lower.specs.Places.{places_of}
 use Rattle.lower.specs.Lowered.{lowered_block}
 use Rattle.lower.specs.Sizes.{entry_cycles}
 use Rattle.lower.proofs.Costs.{blocks_keep_to_cycles}
 use Rattle.compiled_model.specs.Parts.{task_program}
 use Rattle.compiled_model.specs.Needs.{whole_cycles}
 use Rattle.compiled_bounds.specs.Laws.{TasksKeepToTheBound}
+use Rattle.memory_map.specs.MemoryMap.{MemoryMap, TaskPlace}
+use Rattle.memory_map.specs.Spots.{places_of}
 
 -- what the entries cost at most
-entries_cost : (l : LayoutValue) (layout : TaskLayoutValue) (e : End) → entry_cycles (places_of l layout) e ≤ 21 * length layout.privates
+entries_cost : (l : MemoryMap) (layout : TaskPlace) (e : End) → entry_cycles (places_of l layout) e ≤ 21 * length layout.privates
 entries_cost l layout (GoesOn s) = omega arith
 entries_cost l layout (Jumps to s) = omega arith
 entries_cost l layout Short = omega arith
@@ -44,8 +44,8 @@ all_within : (v1 v2 privates scalars body price list emits : ℕ) → v1 ≡ v2 
     ≤ 400 + 12 * v2 + 72 * scalars + price + 40 * list + 40 * emits
 all_within v1 v2 privates scalars body price list emits v e b = omega (arith, v, e, b)
 
-module _ (p : CheckedProgram) (allow : Allow) (plans : List TaskPlanValue) (l : LayoutValue) (allowed : IsAllowed p allow) (plan : IsPlan p plans)
-    (layout : IsLayout p allow plans l) (t : ℕ) (fram : ℕ → ℕ) (readings : List ℕ) (task : CheckedTask) (own : TaskLayoutValue) (kind : TaskPlanValue)
+module _ (p : CheckedProgram) (allow : Allow) (plans : List TaskPlanValue) (l : MemoryMap) (allowed : IsAllowed p allow) (plan : IsPlan p plans)
+    (layout : IsLayout p allow plans l) (t : ℕ) (fram : ℕ → ℕ) (readings : List ℕ) (task : CheckedTask) (own : TaskPlace) (kind : TaskPlanValue)
     (at_task : slice_get p.tasks t ≡ Some task) (at_own : slice_get l.tasks t ≡ Some own) (at_kind : slice_get plans t ≡ Some kind) where
   body_is : task_body p t ≡ task.body
   body_is = ap body_of at_task
@@ -84,7 +84,7 @@ module _ (p : CheckedProgram) (allow : Allow) (plans : List TaskPlanValue) (l : 
 
   within : whole_cycles p l t fram readings ≤ task_bound (versions_of p) p.shared (task_body p t)
   within =
-      all_within l.versions.capacity (versions_of p) (length (privates_in (task_entries l) t)) (scalars_of p.shared (task_body p t))
+      all_within l.versions.words (versions_of p) (length (privates_in (task_entries l) t)) (scalars_of p.shared (task_body p t))
       (spent (task_program p l t) (started fram readings)) (block_price cycles_column (task_body p t))
       (list_of p.shared (task_body p t)) (emits_of (task_body p t)) (layout.versions ∙ allowed.versions) privates_are body_costs
 

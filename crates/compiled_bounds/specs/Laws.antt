@@ -10,13 +10,15 @@ use Rattle.cost_bound.specs.Allowance.{CheckedProgram, IsAllowed, bound_of}
 use Rattle.source_values.specs.Runs.{State}
 use Rattle.war_analysis.specs.PlanValue.{TaskPlanValue}
 use Rattle.war_analysis.specs.Plans.{IsPlan}
-use Rattle.privatise.specs.LayoutValue.{LayoutValue}
+use Rattle.memory_map.specs.declared.words.RuntimeWord.TheVariants.{ListLength, EmitCount, Version}
+use Rattle.memory_map.specs.MemoryMap.{MemoryMap, word_place}
 use Rattle.privatise.specs.Layouts.{IsLayout}
 use Rattle.crash_rules.specs.Model.{IsWord, bound}
 use Rattle.crash_rules.specs.Runs.{Program}
 use Rattle.crash_rules.specs.Laws.{Origin}
 use Rattle.run_charges.specs.Laws.{IsRunOfWords}
-use Rattle.stands_for.specs.Layout.{AreApart, HaveRoom}
+use Rattle.memory_map.specs.Laws.{AreApart}
+use Rattle.stands_for.specs.Layout.{HaveRoom}
 use Rattle.stands_for.specs.StandsFor.{UndecidedAt}
 use Rattle.compiled_model.specs.Places.{program_places}
 use Rattle.compiled_model.specs.View.{state_view}
@@ -26,32 +28,32 @@ use Rattle.model_runs.specs.Runs.{BearsModel}
 
 -- the bound of a compiled source is that of its allowance
 abbrev pub BoundIsTheSources : Type 0
-BoundIsTheSources = (p : CheckedProgram) (l : LayoutValue) → bound (compiled_model p l) ≡ bound_of p
+BoundIsTheSources = (p : CheckedProgram) (l : MemoryMap) → bound (compiled_model p l) ≡ bound_of p
 
 -- each task of a source that costs no more than it may keeps to its part of the bound, from a boot up to the end of its commit
 abbrev pub TasksKeepToTheBound : Type 0
-TasksKeepToTheBound = (p : CheckedProgram) (allow : Allow) (plans : List TaskPlanValue) (l : LayoutValue) → IsAllowed p allow → IsPlan p plans
+TasksKeepToTheBound = (p : CheckedProgram) (allow : Allow) (plans : List TaskPlanValue) (l : MemoryMap) → IsAllowed p allow → IsPlan p plans
     → IsLayout p allow plans l → CostsAreWithin p l
 
 -- CLN and EN are within the capacities of the list and of the buffer, and no version word is above VER
-pub record KeepsCapacities (l : LayoutValue) (f : ℕ → ℕ) : Type 0 where
-  pub list : f l.words.list_length ≤ l.list.capacity
-  pub emits : f l.words.emit_count ≤ l.emits.capacity
-  pub versions : (i : ℕ) → i < l.versions.capacity → f (l.versions.address + 2 * i) ≤ f l.words.version
+pub record KeepsCapacities (l : MemoryMap) (f : ℕ → ℕ) : Type 0 where
+  pub list : f (word_place l ListLength) ≤ l.entries
+  pub emits : f (word_place l EmitCount) ≤ l.emits.words
+  pub versions : (i : ℕ) → i < l.versions.words → f (l.versions.address + 2 * i) ≤ f (word_place l Version)
 
 -- a store to CLN or EN is within the capacity
-pub record CountsFit (l : LayoutValue) (a w : ℕ) : Type 0 where
-  pub list : a ≡ l.words.list_length → w ≤ l.list.capacity
-  pub emits : a ≡ l.words.emit_count → w ≤ l.emits.capacity
+pub record CountsFit (l : MemoryMap) (a w : ℕ) : Type 0 where
+  pub list : a ≡ word_place l ListLength → w ≤ l.entries
+  pub emits : a ≡ word_place l EmitCount → w ≤ l.emits.words
 
 -- each attempt stores so
-abbrev pub AttemptsFit : CheckedProgram → LayoutValue → Type 0
+abbrev pub AttemptsFit : CheckedProgram → MemoryMap → Type 0
 AttemptsFit p l = (s : State) (x : World) (readings : List ℕ) → All IsWord readings → UndecidedAt (program_places p l) (state_view p l) s x
     → EachStore (CountsFit l) ((compiled_model p l).attempt x.fram readings).effects
 
 -- at each board of a run the capacities are kept, where they are at first
 abbrev pub CapacitiesAreKept : Program → Type 0
-CapacitiesAreKept c = (p : CheckedProgram) (l : LayoutValue) → AreApart (program_places p l) → HaveRoom (program_places p l) → AttemptsFit p l
+CapacitiesAreKept c = (p : CheckedProgram) (l : MemoryMap) → AreApart l → HaveRoom (program_places p l) → AttemptsFit p l
     → (readings : List ℕ) (origin : Origin State) (x : World) (cs : List BoardCharge) (b : BoardValue) (r : RunOutcome)
     → IsRunOfWords cs b r → BearsModel (compiled_model p l) c readings origin x b → KeepsCapacities l x.fram
     → (ms rest : List Moment) → r.moments ≡ ms ++ rest → KeepsCapacities l (fram_of (last_board b ms).fram)

@@ -13,7 +13,8 @@ use Rattle.cost_bound.specs.declared.allowance.Allow.{Allow}
 use Rattle.cost_bound.specs.Allowance.{bound_of}
 use Rattle.war_analysis.specs.PlanValue.{TaskPlanValue}
 use Rattle.source_values.specs.Runs.{CheckedProgram, State}
-use Rattle.privatise.specs.LayoutValue.{LayoutValue}
+use Rattle.memory_map.specs.declared.words.RuntimeWord.TheVariants.{Gate}
+use Rattle.memory_map.specs.MemoryMap.{MemoryMap, word_place}
 use Rattle.crash_rules.specs.Model.{ModelLaws, Short}
 use Rattle.crash_rules.specs.History.{History, observe, behind_boot, first_history}
 use Rattle.crash_rules.specs.Runs.{ProgramLaws, Charge, Spends}
@@ -24,8 +25,8 @@ use Rattle.compiled_runs.specs.Program.{source_code, compiled_program}
 use Rattle.whole_programs.specs.Laws.{IsLaidOutText}
 
 -- what holds of each accepted text with a plan and a layout of its source
-abbrev OfSources : (CheckedProgram → LayoutValue → Type 0) → Type 0
-OfSources F = (text : List ℕ) (p : CheckedProgram) (allow : Allow) (plans : List TaskPlanValue) (l : LayoutValue)
+abbrev OfSources : (CheckedProgram → MemoryMap → Type 0) → Type 0
+OfSources F = (text : List ℕ) (p : CheckedProgram) (allow : Allow) (plans : List TaskPlanValue) (l : MemoryMap)
     → IsLaidOutText text p allow plans l → F p l
 
 -- its tasks, its runtime and what FRAM stands for owe the crash theorem nothing
@@ -39,7 +40,7 @@ CodeKeepsTheLaws = OfSources (λ p l. ProgramLaws (compiled_model p l) (compiled
 -- no run changes the code
 abbrev pub CodeStays : Type 0
 CodeStays = OfSources (λ p l. (readings : List ℕ) (origin : Origin State) (x : World) (s : MachineBoard) → Begins (compiled_model p l) readings origin x s
-    → AlwaysLeaves (compiled_program p l) l.boot.address (length (words_of (source_code p l))) l.words.gate s (first_history l.words.gate x))
+    → AlwaysLeaves (compiled_program p l) l.boot.address (length (words_of (source_code p l))) (word_place l Gate) s (first_history (word_place l Gate) x))
 
 -- After any charges, each cut behind any number of instructions, from any boards that power-ups leave: the board stands for a run of
 -- the source, and the effects since the last boot or done are a prefix of the start, the task and the commit there
@@ -55,7 +56,7 @@ RunsStopWhereTheSourceIsShort = OfSources (λ p l. (readings : List ℕ) (origin
     → (charges : List Charge) (t : MachineBoard) (h : History) → RunsTo (compiled_model p l) (compiled_program p l) x s charges t h
     → (b : MachineBoard) → (compiled_program p l).IsPoweredUp b → b.fram ≡ t.fram → b.readings_left ≡ t.readings_left
     → (n price : ℕ) (e : Stop) → (going (compiled_program p l).step n b).status ≡ Halted price e
-    → let k = observe l.words.gate (going (compiled_program p l).step n b).effects (behind_boot h) in
+    → let k = observe (word_place l Gate) (going (compiled_program p l).step n b).effects (behind_boot h) in
     (e ≡ stop.NoReading) × ((st : StandsFor (compiled_model p l) readings origin k) × ((compiled_model p l).task st.state (drop k.since readings) ≡ Short)))
 
 -- words are accepted only between a decide and its done, each once
@@ -75,4 +76,4 @@ BoundsPayForTransitions = OfSources (λ p l. (readings : List ℕ) (origin : Ori
     → (charges : List Charge) (t : MachineBoard) (h : History) → RunsTo (compiled_model p l) (compiled_program p l) x s charges t h
     → (b q : MachineBoard) → (compiled_program p l).IsPoweredUp b → b.fram ≡ t.fram → b.readings_left ≡ t.readings_left
     → (n amount steps : ℕ) → n * bound_of p ≤ amount → Spends (compiled_program p l).step amount steps b q
-    → n + length h.completed ≤ length (observe l.words.gate (going (compiled_program p l).step steps b).effects (behind_boot h)).completed)
+    → n + length h.completed ≤ length (observe (word_place l Gate) (going (compiled_program p l).step steps b).effects (behind_boot h)).completed)

@@ -7,7 +7,7 @@ use Rattle.source_values.specs.Runs.{CheckedProgram, State, task_body}
 use Rattle.array_versions.specs.Behaviour.{End, GoesOn, Jumps, Short, Strays, Broken, behaviour, started}
 use Rattle.array_versions.specs.Form.{IsWhole, OfWords}
 use Rattle.array_versions.specs.Cost.{spent}
-use Rattle.privatise.specs.LayoutValue.{LayoutValue}
+use Rattle.memory_map.specs.MemoryMap.{MemoryMap}
 use Rattle.boot_runtime.specs.Entries.{task_entries}
 use Rattle.boot_runtime.specs.Listing.{privates_in, start_cycles}
 use Rattle.commit_runtime.specs.Listing.{commit_cycles}
@@ -18,13 +18,13 @@ use Rattle.compiled_model.specs.View.{state_view}
 use Rattle.compiled_model.specs.Parts.{task_program, compiled_model}
 
 -- a task, from a power-up up to the end of its commit: a boot, which takes 11 cycles at most, a start, the body and the commit
-abbrev pub whole_cycles : CheckedProgram → LayoutValue → ℕ → (ℕ → ℕ) → List ℕ → ℕ
+abbrev pub whole_cycles : CheckedProgram → MemoryMap → ℕ → (ℕ → ℕ) → List ℕ → ℕ
 whole_cycles p l t fram readings =
-    11 + start_cycles l.versions.capacity (length (privates_in (task_entries l) t)) + spent (task_program p l t) (started fram readings)
+    11 + start_cycles l.versions.words (length (privates_in (task_entries l) t)) + spent (task_program p l t) (started fram readings)
     + commit_cycles (list_of p.shared (task_body p t)) (emits_of (task_body p t))
 
 -- each task keeps to its bound, whatever FRAM holds and whatever the readings are
-pub record CostsAreWithin (p : CheckedProgram) (l : LayoutValue) : Type 0 where
+pub record CostsAreWithin (p : CheckedProgram) (l : MemoryMap) : Type 0 where
   pub within : (t : ℕ) (fram : ℕ → ℕ) (readings : List ℕ) → t < length p.tasks → HoldsWords fram → All IsWord readings
       → whole_cycles p l t fram readings ≤ task_bound (versions_of p) p.shared (task_body p t)
 
@@ -37,17 +37,17 @@ LeavesFor address Strays = ⊥
 LeavesFor address Broken = ⊥
 
 -- from a started attempt on, each task leaves for the commit, or is short of readings
-pub record TasksLeave (p : CheckedProgram) (l : LayoutValue) : Type 0 where
+pub record TasksLeave (p : CheckedProgram) (l : MemoryMap) : Type 0 where
   pub leave : (s : State) (x : World) (readings : List ℕ) → All IsWord readings
       → StartedAt (program_places p l) (state_view p l) s (privates_in (task_entries l) s.task) x
       → LeavesFor l.commit.address (behaviour (task_program p l s.task) (started x.fram readings)).end
 
 -- each task's program is one of which code can be made
-pub record ProgramsAreWhole (p : CheckedProgram) (l : LayoutValue) : Type 0 where
+pub record ProgramsAreWhole (p : CheckedProgram) (l : MemoryMap) : Type 0 where
   pub whole : (t : ℕ) → t < length p.tasks → IsWhole (task_program p l t)
   pub of_words : (t : ℕ) → t < length p.tasks → OfWords (task_program p l t)
 
 -- each attempt stores below an address alone
-pub record AttemptsStoreBelow (p : CheckedProgram) (l : LayoutValue) (end : ℕ) : Type 0 where
+pub record AttemptsStoreBelow (p : CheckedProgram) (l : MemoryMap) (end : ℕ) : Type 0 where
   pub below : (s : State) (x : World) (readings : List ℕ) → All IsWord readings → UndecidedAt (program_places p l) (state_view p l) s x
       → EachStore (λ a w. a < end) ((compiled_model p l).attempt x.fram readings).effects

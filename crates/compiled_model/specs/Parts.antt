@@ -4,9 +4,8 @@ use Rattle.cost_bound.specs.Allowance.{task_bound, versions_of}
 use Rattle.source_values.specs.Runs.{CheckedProgram, State, Completion, completion_of, attempt_of, task_body}
 use Rattle.array_versions.specs.Program.{Program, nothing}
 use Rattle.array_versions.specs.Behaviour.{Behaviour, End, GoesOn, Jumps, Short as Starves, Strays, Broken, behaviour, started}
-use Rattle.privatise.specs.LayoutValue.{LayoutValue}
+use Rattle.memory_map.specs.MemoryMap.{MemoryMap}
 use Rattle.runtime_effects.specs.Stages.{start_effects}
-use Rattle.runtime_code.specs.LayoutPlaces.{runtime_places}
 use Rattle.boot_runtime.specs.Entries.{task_entries}
 use Rattle.boot_runtime.specs.Listing.{privates_in}
 use Rattle.lower.specs.Lowered.{lowered}
@@ -37,18 +36,18 @@ abbrev pub effects_of : Behaviour → ProgramEffects
 effects_of b = program_effects b.effects (has_jumped b.end)
 
 -- the word program of a task by its number
-abbrev pub task_program : CheckedProgram → LayoutValue → ℕ → Program
+abbrev pub task_program : CheckedProgram → MemoryMap → ℕ → Program
 task_program p l t = get_or (lowered l p) t nothing
 
 -- the tasks, the start and the programs, each task within its allowance
-abbrev pub program_parts : CheckedProgram → LayoutValue → ProgramParts State
+abbrev pub program_parts : CheckedProgram → MemoryMap → ProgramParts State
 program_parts p l = record {
   task = whole_task p;
   cost = λ t. task_bound (versions_of p) p.shared (task_body p t);
-  start = start_effects (runtime_places l) (privates_in (task_entries l));
+  start = start_effects l (privates_in (task_entries l));
   body = λ t fram readings. effects_of (behaviour (task_program p l t) (started fram readings));
 }
 
 -- the source with its layout, as the crash theorem takes it
-abbrev pub compiled_model : CheckedProgram → LayoutValue → Model State
+abbrev pub compiled_model : CheckedProgram → MemoryMap → Model State
 compiled_model p l = program_model (program_places p l) (state_view p l) (program_parts p l)

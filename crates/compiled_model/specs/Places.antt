@@ -3,20 +3,14 @@ use Rattle.std.specs.Prelude.{false, length}
 use Rattle.cost_bound.specs.Allowance.{list_of}
 use Rattle.cost_bound.specs.Counts.{emits_of}
 use Rattle.source_values.specs.Runs.{CheckedProgram, task_body}
-use Rattle.privatise.specs.LayoutValue.{LayoutValue}
-use Rattle.privatise.specs.Places.{end_of}
-use Rattle.runtime_code.specs.LayoutPlaces.{runtime_places}
+use Rattle.memory_map.specs.MemoryMap.{MemoryMap}
 use Rattle.stands_for.specs.Layout.{ProgramPlaces}
 
--- where the runtime's words, the shared words and their copies stand, and for how much each task has room. Each shared scalar that
--- a task writes is private in it, so none is written in place
-abbrev pub program_places : CheckedProgram → LayoutValue → ProgramPlaces
+-- the memory map, and for how much each task has room. Each shared scalar that a task writes is private in it, so none is written in
+-- place
+abbrev pub program_places : CheckedProgram → MemoryMap → ProgramPlaces
 program_places p l = record {
-  runtime = runtime_places l;
-  homes = l.homes.address;
-  homes_end = end_of l.homes;
-  copies = l.copies.address;
-  copies_end = end_of l.copies;
+  map = l;
   tasks = length p.tasks;
   list_capacity = λ t. list_of p.shared (task_body p t);
   emit_capacity = λ t. emits_of (task_body p t);

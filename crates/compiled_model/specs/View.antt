@@ -2,10 +2,10 @@
 use Rattle.std.specs.Prelude.{ℕ, ◌-◌, ◌/◌, ◌==◌, ◌&&◌, Bool, true, false, nat_le, nat_lt, if◌then◌else◌, List, [], ◌∷◌, length, slice_index}
 use Rattle.task_ast.specs.declared.SharedDeclaration.{SharedDeclaration}
 use Rattle.source_values.specs.Runs.{CheckedProgram, State, initial_words}
-use Rattle.privatise.specs.declared.place.Region.{Region}
-use Rattle.privatise.specs.declared.place.VariablePlace.{VariablePlace}
-use Rattle.privatise.specs.LayoutValue.{LayoutValue}
-use Rattle.privatise.specs.Places.{end_of, home_region}
+use Rattle.memory_map.specs.declared.place.Region.{Region}
+use Rattle.memory_map.specs.declared.place.VariablePlace.{VariablePlace}
+use Rattle.memory_map.specs.MemoryMap.{MemoryMap}
+use Rattle.memory_map.specs.Places.{end_of, home_region}
 use Rattle.stands_for.specs.Layout.{StateView}
 
 -- whether an address is within a region
@@ -35,7 +35,7 @@ are_rows (d ∷ ds) [] = false
 are_rows (d ∷ ds) (row ∷ rows) = (length row == length (initial_words d.extent)) && (are_words row && are_rows ds rows)
 
 -- a state by addresses
-abbrev pub state_view : CheckedProgram → LayoutValue → StateView State
+abbrev pub state_view : CheckedProgram → MemoryMap → StateView State
 state_view p l = record {
   word = λ s. shared_word l.variables s.shared;
   task = λ s. s.task;

@@ -6,7 +6,7 @@ use Rattle.fram_board.specs.Run.{BoardCharge, RunOutcome}
 use Rattle.board_run.specs.History.{start_with}
 use Rattle.board_run.specs.Report.{report_of}
 use Rattle.source_values.specs.Runs.{CheckedProgram}
-use Rattle.privatise.specs.LayoutValue.{LayoutValue}
+use Rattle.memory_map.specs.MemoryMap.{MemoryMap}
 use Rattle.machine_effects.specs.World.{World}
 use Rattle.crash_rules.specs.Runs.{Program}
 use Rattle.run_charges.specs.Laws.{IsRunOfWords}
@@ -18,10 +18,11 @@ use Rattle.compiled_reports.specs.Sources.{IsSourcesMap}
 
 -- the tasks of a compiled source are the source's transitions
 abbrev pub ModelsAreOfSources : Type 0
-ModelsAreOfSources = (text : List ℕ) (p : CheckedProgram) (l : LayoutValue) (m : MapValue) → IsSourcesMap text p l m → IsOfSource text p m (compiled_model p l)
+ModelsAreOfSources = (text : List ℕ) (p : CheckedProgram) (l : MemoryMap) (m : MapValue) → IsSourcesMap text p l m → IsOfSource text p m (compiled_model p l)
 
 -- the report of each run that begins with a compiled source's first state is told by the source
 abbrev pub CompiledRunsAreTold : Program → Type 0
-CompiledRunsAreTold c = (text : List ℕ) (p : CheckedProgram) (l : LayoutValue) (m : MapValue) (x : World) (cs : List BoardCharge) (b : BoardValue) (r : RunOutcome)
+CompiledRunsAreTold c = (text : List ℕ) (p : CheckedProgram) (l : MemoryMap) (m : MapValue) (x : World) (cs : List BoardCharge) (b : BoardValue)
+    (r : RunOutcome)
     → IsSourcesMap text p l m → BeginsWithSource p m (compiled_model p l) c x b → IsRunOfWords cs b r → all_amounts cs < 2 ^ 64
     → IsToldBySource text p m cs b r (report_of (start_with b.fram (Some m)) r)

@@ -3,19 +3,20 @@ use Rattle.std.specs.Prelude.{◌≡◌, ℕ, List}
 use Rattle.image_map.specs.MapValue.{MapValue, IsMap}
 use Rattle.cost_bound.specs.Allowance.{bound_of}
 use Rattle.source_values.specs.Runs.{CheckedProgram, State, IsRunnable}
-use Rattle.privatise.specs.LayoutValue.{LayoutValue}
+use Rattle.memory_map.specs.MemoryMap.{MemoryMap}
 use Rattle.machine_effects.specs.World.{World}
 use Rattle.stands_for.specs.StandsFor.{RestsAt}
 use Rattle.source_events.specs.Naming.{IsMapOf}
+use Rattle.source_maps.specs.Maps.{map_words}
 use Rattle.source_events.specs.Transitions.{HasWordsOf}
 use Rattle.compiled_model.specs.Places.{program_places}
 use Rattle.compiled_model.specs.View.{state_view}
 
 -- a map tells of a source with its layout: its variables and tasks, its bound, the runtime's words, and where the words of each state are
-pub record IsSourcesMap (text : List ℕ) (p : CheckedProgram) (l : LayoutValue) (m : MapValue) : Type 0 where
+pub record IsSourcesMap (text : List ℕ) (p : CheckedProgram) (l : MemoryMap) (m : MapValue) : Type 0 where
   pub runnable : IsRunnable p
   pub is_map : IsMap m
   pub of_source : IsMapOf text p m
   pub bound : m.bound ≡ bound_of p
-  pub words : m.words ≡ l.words
+  pub words : m.words ≡ map_words l
   pub rests : (s : State) (x : World) → RestsAt (program_places p l) (state_view p l) s x → HasWordsOf m x s

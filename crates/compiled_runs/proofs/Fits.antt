@@ -2,16 +2,16 @@
 use Rattle.std.proofs.Common.{◌≡◌, ℕ, suc, List, [], ◌∷◌, length, Some, slice_get, refl, arith}
 use Rattle.task_ast.specs.declared.SharedDeclaration.{SharedDeclaration}
 use Rattle.cost_bound.specs.Allowance.{CheckedTask, scalars_of}
-use Rattle.privatise.specs.LayoutValue.{LayoutValue, TaskLayoutValue}
-use Rattle.lower.specs.Places.{places_of}
+use Rattle.memory_map.specs.MemoryMap.{MemoryMap, TaskPlace}
+use Rattle.memory_map.specs.Spots.{places_of}
 use Rattle.lower.specs.Lowered.{lowered_tasks}
 use Rattle.lower.proofs.Sizes.{blocks_keep_to_words}
 use Rattle.linked_code.specs.Rooms.{ProgramsKeep}
 use Rattle.linked_code.proofs.Rooms.{layouts_have_room}
 use Rattle.compiled_runs.specs.Laws.{SourcesHaveRoom}
 
-programs_keep : (l : LayoutValue) (shared : List SharedDeclaration) (tasks : List CheckedTask) (ts : List TaskLayoutValue) → length ts ≡ length tasks
-    → ((k : ℕ) (task : CheckedTask) (t : TaskLayoutValue) → slice_get tasks k ≡ Some task → slice_get ts k ≡ Some t
+programs_keep : (l : MemoryMap) (shared : List SharedDeclaration) (tasks : List CheckedTask) (ts : List TaskPlace) → length ts ≡ length tasks
+    → ((k : ℕ) (task : CheckedTask) (t : TaskPlace) → slice_get tasks k ≡ Some task → slice_get ts k ≡ Some t
     → length t.privates ≡ scalars_of shared task.body) → ProgramsKeep shared tasks (lowered_tasks l tasks ts)
 programs_keep l shared [] ts n f = tt
 programs_keep l shared (task ∷ tasks) [] n f = absurd (omega (arith, n))

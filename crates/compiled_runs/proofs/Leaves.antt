@@ -1,5 +1,6 @@
 -- A run leaves the code as it is, and stays in it.
 use Rattle.std.proofs.Common.{◌≡◌, ◌<◌, ◌*◌, ◌/◌, ℕ, length, refl, inl, arith}
+use Rattle.memory_map.proofs.Parts.{apart_of, even_of}
 use Rattle.msp_step.specs.declared.machine.Stop.TheVariants as stop
 use Rattle.machine_effects.specs.Machine.{machine_powered}
 use Rattle.code_forms.specs.Forms.{core_of}
@@ -23,10 +24,10 @@ use Rattle.compiled_runs.proofs.Program.{code_keeps_the_laws}
 pub code_is_placed : CodeIsPlaced
 code_is_placed p l f =
     let k = linked_is_code l (lowered l p) f in
-    let a = f.rules.apart in
+    let a = apart_of l f.rules in
     let end = k.end in
     let high = f.high in
-    let even = f.rules.even.boot in
+    let even = (even_of l f.rules).boot in
     record {
       instructions = k.instructions;
       even = even;
@@ -47,8 +48,8 @@ runs_leave_the_code p l r laws below readings origin x s begins charges t k char
     let own : ProgramLaws m c = code_keeps_the_laws p l r laws in
     let P : ℕ → ℕ → Type 0 = λ a w. a < l.boot.address in
     let places = program_places p l in let view = state_view p l in
-    let copies = r.fits.rules.apart.copies in
-    let boot = r.fits.rules.apart.boot in
+    let copies = (apart_of l r.fits.rules).copies in
+    let boot = (apart_of l r.fits.rules).boot in
     let end = (linked_is_code l (lowered l p) r.fits).end in
     let high = r.fits.high in
     let stores = stores_only m c P laws own (λ st y rs w u. below.below st y rs w u)

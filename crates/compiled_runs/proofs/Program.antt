@@ -17,13 +17,14 @@ use Rattle.array_versions.specs.Cost.{spent}
 use Rattle.array_versions.specs.Laws.{EndsByEffects}
 use Rattle.array_versions.proofs.ByEffects.{behaves_by_effects}
 use Rattle.codegen.specs.Laws.{HasJumped, ComesTo}
-use Rattle.privatise.specs.LayoutValue.{LayoutValue}
+use Rattle.memory_map.specs.declared.words.RuntimeWord.TheVariants.{CurrentTask, Gate, ListLength, EmitCount}
+use Rattle.memory_map.specs.MemoryMap.{MemoryMap, word_place}
 use Rattle.runtime_effects.specs.Places.{CopyPair}
 use Rattle.runtime_effects.specs.Stages.{start_effects, commit_effects}
 use Rattle.runtime_effects.specs.Needs.{CanCommit}
-use Rattle.runtime_code.specs.Addresses.{start_address, stack_top}
+use Rattle.address_space.specs.Limits.{stack_top}
+use Rattle.runtime_code.specs.Addresses.{start_address}
 use Rattle.runtime_code.specs.Comes.{Comes, IsAt, Enters}
-use Rattle.runtime_code.specs.LayoutPlaces.{runtime_places}
 use Rattle.runtime_code.proofs.Chains.{nothing as no_steps}
 use Rattle.boot_runtime.specs.Entries.{task_entries}
 use Rattle.boot_runtime.specs.Listing.{TaskEntry, entry_at, privates_in, start_steps, start_cycles}
@@ -47,7 +48,7 @@ use Rattle.compiled_runs.proofs.Steps.{code_takes}
 behind_last : (es : List Effect) (a w : ℕ) (f : ℕ → ℕ) → fram_after (es ++ Store a w ∷ []) f a ≡ w
 behind_last es a w f = ap (λ g. g a) (fram_after-append es (Store a w ∷ []) f) ∙ put_same (fram_after es f) a w
 
-module _ (p : CheckedProgram) (l : LayoutValue) (r : CanRun p l) (laws : ModelLaws (compiled_model p l)) where
+module _ (p : CheckedProgram) (l : MemoryMap) (r : CanRun p l) (laws : ModelLaws (compiled_model p l)) where
   abbrev m : Model State
   m = compiled_model p l
 
@@ -84,9 +85,9 @@ module _ (p : CheckedProgram) (l : LayoutValue) (r : CanRun p l) (laws : ModelLa
     pub within : cycles ≤ 8
     pub comes : Comes code [] steps cycles core (IsAt start_at core.fram core.readings_left)
 
-  reaches_start : (b : MachineBoard) → IsAtEntry l b → b.fram l.words.gate ≡ 0 → ReachesStart b
+  reaches_start : (b : MachineBoard) → IsAtEntry l b → b.fram (word_place l Gate) ≡ 0 → ReachesStart b
   reaches_start b (inl k) z =
-      let zero : k.core.fram l.words.gate ≡ 0 = ap (λ s. s.fram l.words.gate) (sym k.is) ∙ z in
+      let zero : k.core.fram (word_place l Gate) ≡ 0 = ap (λ s. s.fram (word_place l Gate)) (sym k.is) ∙ z in
       record { core = k.core; is = k.is; steps = 3; cycles = 8; within = omega arith; comes = to_start l (lowered l p) r.fits are_whole k.core k.pc zero }
   reaches_start b (inr k) z =
       let u = k.core in
@@ -97,23 +98,23 @@ module _ (p : CheckedProgram) (l : LayoutValue) (r : CanRun p l) (laws : ModelLa
   cost k = m.task_cost k
 
   -- what the start of an attempt keeps
-  start_keeps : StartContract (program_places p l) (state_view p l) privates (start_effects (runtime_places l) privates)
+  start_keeps : StartContract (program_places p l) (state_view p l) privates (start_effects l privates)
   start_keeps = clearing_starts State (program_places p l) (state_view p l) privates r.apart r.privates
 
   -- behind a commit the code is at the start of an attempt, where GATE is 0
   behind_commit : (s next : State) (x : World) → m.Decided s next x → (v : Core) (rs : List ℕ)
-      → IsAt start_at (fram_after (commit_effects (runtime_places l) x.fram) x.fram) rs v → IsAtEntry l (board_of v)
+      → IsAt start_at (fram_after (commit_effects l x.fram) x.fram) rs v → IsAtEntry l (board_of v)
   behind_commit s next x d v rs h =
       let k : CommitContract m s next x = laws.commits s next x d in
-      let gate : v.fram l.words.gate ≡ 0 =
-      ap (λ f. f l.words.gate) h.fram ∙ ap (λ es. fram_after es x.fram l.words.gate) k.is ∙ behind_last k.before l.words.gate 0 x.fram in
+      let gate : v.fram (word_place l Gate) ≡ 0 =
+      ap (λ f. f (word_place l Gate)) h.fram ∙ ap (λ es. fram_after es x.fram (word_place l Gate)) k.is ∙ behind_last k.before (word_place l Gate) 0 x.fram in
       inr (record { core = v; is = refl; pc = h.pc; gate = λ e. omega (arith, gate, e) })
 
   -- the room of the list and of the words to send
   record FitsCommit (k : ℕ) (f : ℕ → ℕ) : Type 0 where
-    pub can : CanCommit (runtime_places l) f
-    pub list : f l.words.list_length ≤ (program_places p l).list_capacity k
-    pub emits : f l.words.emit_count ≤ (program_places p l).emit_capacity k
+    pub can : CanCommit l f
+    pub list : f (word_place l ListLength) ≤ (program_places p l).list_capacity k
+    pub emits : f (word_place l EmitCount) ≤ (program_places p l).emit_capacity k
 
   fits_commit : (s next : State) (x : World) → m.Decided s next x → FitsCommit s.task x.fram
   fits_commit s next x d =
@@ -131,7 +132,7 @@ module _ (p : CheckedProgram) (l : LayoutValue) (r : CanRun p l) (laws : ModelLa
       let x : World = record { fram = u.fram; accepted = accepted } in
       let f = fits_commit s next x d in
       let a = to_commit l (lowered l p) r.fits are_whole u e (laws.decided_gate s next x d) f.can in
-      let n = u.fram l.words.list_length in let k = u.fram l.words.emit_count in
+      let n = u.fram (word_place l ListLength) in let k = u.fram (word_place l EmitCount) in
       let list = f.list in let emits = f.emits in
       let w = r.costs.within s.task (λ y. 0) [] (d.decided.is_task) (λ y. omega arith) (λ y q h. absurd (omega (arith, h))) in
       record {
@@ -150,8 +151,8 @@ module _ (p : CheckedProgram) (l : LayoutValue) (r : CanRun p l) (laws : ModelLa
       subst (λ g. m.Decided s next (record { fram = g; accepted = x.accepted })) f d in
       subst (λ q. Makes c (cost s.task) (program_effects (m.commit q.fram) true) q) (sym k.is) (commit_from_boot s next x.accepted u k.pc d')
   makes_commit s next x b (inr k) e d =
-      let one : x.fram l.words.gate ≡ 1 = laws.decided_gate s next x d in
-      let f : k.core.fram l.words.gate ≡ 1 = ap (λ q. q.fram l.words.gate) (sym k.is) ∙ ap (λ g. g l.words.gate) e ∙ one in
+      let one : x.fram (word_place l Gate) ≡ 1 = laws.decided_gate s next x d in
+      let f : k.core.fram (word_place l Gate) ≡ 1 = ap (λ q. q.fram (word_place l Gate)) (sym k.is) ∙ ap (λ g. g (word_place l Gate)) e ∙ one in
       absurd (k.gate f)
 
   -- an attempt that comes to its end is decided
@@ -165,12 +166,12 @@ module _ (p : CheckedProgram) (l : LayoutValue) (r : CanRun p l) (laws : ModelLa
       → IsDecidedBehind s x.fram q.effects
   decided_behind s x rs (Ends next left) q d t =
       let before = d.before in
-      let es : List Effect = Store l.words.gate 1 ∷ [] in
+      let es : List Effect = Store (word_place l Gate) 1 ∷ [] in
       record {
         next = next;
-        world = world_after_one (Store l.words.gate 1) (world_after before x);
+        world = world_after_one (Store (word_place l Gate) 1) (world_after before x);
         decided = d.decided;
-        fram = ap (λ g. put g l.words.gate 1) (world_fram before x)
+        fram = ap (λ g. put g (word_place l Gate) 1) (world_fram before x)
             ∙ sym (fram_after-append before es x.fram)
             ∙ ap (λ k. fram_after k.effects x.fram) (sym d.is);
       }
@@ -182,10 +183,10 @@ module _ (p : CheckedProgram) (l : LayoutValue) (r : CanRun p l) (laws : ModelLa
     x = record { fram = u.fram; accepted = accepted }
 
     abbrev k : ℕ
-    k = u.fram l.words.current_task
+    k = u.fram (word_place l CurrentTask)
 
     abbrev es : List Effect
-    es = start_effects (runtime_places l) privates u.fram
+    es = start_effects l privates u.fram
 
     abbrev g : ℕ → ℕ
     g = fram_after es u.fram
@@ -232,10 +233,10 @@ module _ (p : CheckedProgram) (l : LayoutValue) (r : CanRun p l) (laws : ModelLa
 
     module _ (steps cycles : ℕ) (few : cycles ≤ 8) (a : Comes code [] steps cycles u (IsAt start_at u.fram u.readings_left)) where
       abbrev to_steps : ℕ
-      to_steps = steps + start_steps l.versions.capacity (length (privates k))
+      to_steps = steps + start_steps l.versions.words (length (privates k))
 
       abbrev to_cycles : ℕ
-      to_cycles = cycles + start_cycles l.versions.capacity (length (privates k))
+      to_cycles = cycles + start_cycles l.versions.words (length (privates k))
 
       there : Comes code es to_steps to_cycles u (Enters (entry_at tasks k).code stack_top g u.readings_left)
       there = to_task l (lowered l p) r.fits are_whole u steps cycles a program_named
@@ -253,11 +254,11 @@ module _ (p : CheckedProgram) (l : LayoutValue) (r : CanRun p l) (laws : ModelLa
           let fits : FitsCommit s.task f = subst (FitsCommit s.task) d.fram (fits_commit s d.next d.world d.decided) in
           let arrived : IsAt l.commit.address f v.readings_left v = record { pc = q.holds.pc ∙ t; fram = q.holds.fram ∙ same; readings_left = refl } in
           let h = commit_there l (lowered l p) r.fits are_whole v f v.readings_left arrived fits.can in
-          let n = f l.words.list_length in let o = f l.words.emit_count in
-          let at : IsAt start_at (fram_after (commit_effects (runtime_places l) d.world.fram) d.world.fram) v.readings_left h.end =
-          subst (λ y. IsAt start_at (fram_after (commit_effects (runtime_places l) y) y) v.readings_left h.end) (sym d.fram) h.holds in
+          let n = f (word_place l ListLength) in let o = f (word_place l EmitCount) in
+          let at : IsAt start_at (fram_after (commit_effects l d.world.fram) d.world.fram) v.readings_left h.end =
+          subst (λ y. IsAt start_at (fram_after (commit_effects l y) y) v.readings_left h.end) (sym d.fram) h.holds in
           let one = join (exec code) to_steps q.steps es b.effects to_cycles q.cycles (board_of u) (board_of there.end) (board_of v) there.leads q.leads in
-          let all = join (exec code) (to_steps + q.steps) (commit_steps n o) (es ++ b.effects) (commit_effects (runtime_places l) f)
+          let all = join (exec code) (to_steps + q.steps) (commit_steps n o) (es ++ b.effects) (commit_effects l f)
           (to_cycles + q.cycles) (commit_cycles n o) (board_of u) (board_of v) (board_of h.end) one h.leads in
           let list : n ≤ (program_places p l).list_capacity k = subst (λ j. n ≤ (program_places p l).list_capacity j) (sym is_current) fits.list in
           let emits : o ≤ (program_places p l).emit_capacity k = subst (λ j. o ≤ (program_places p l).emit_capacity j) (sym is_current) fits.emits in
@@ -301,7 +302,7 @@ module _ (p : CheckedProgram) (l : LayoutValue) (r : CanRun p l) (laws : ModelLa
   makes_attempt : (s : State) (x : World) (b : MachineBoard) → IsAtEntry l b → b.fram ≡ x.fram → All IsWord b.readings_left → m.Undecided s x
       → Makes c (cost s.task) (with_commit m b.fram (m.attempt b.fram b.readings_left)) b
   makes_attempt s x b e same words und =
-      let zero : b.fram l.words.gate ≡ 0 = ap (λ f. f l.words.gate) same ∙ laws.undecided_gate s x und in
+      let zero : b.fram (word_place l Gate) ≡ 0 = ap (λ f. f (word_place l Gate)) same ∙ laws.undecided_gate s x und in
       let k = reaches_start b e zero in
       let u = k.core in
       let f : x.fram ≡ u.fram = sym same ∙ ap (λ q. q.fram) k.is in

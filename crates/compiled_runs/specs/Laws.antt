@@ -7,7 +7,8 @@ use Rattle.cost_bound.specs.declared.allowance.Allow.{Allow}
 use Rattle.cost_bound.specs.Allowance.{IsAllowed}
 use Rattle.war_analysis.specs.PlanValue.{TaskPlanValue}
 use Rattle.source_values.specs.Runs.{CheckedProgram, State}
-use Rattle.privatise.specs.LayoutValue.{LayoutValue}
+use Rattle.memory_map.specs.declared.words.RuntimeWord.TheVariants.{Gate}
+use Rattle.memory_map.specs.MemoryMap.{MemoryMap, word_place}
 use Rattle.privatise.specs.Layouts.{IsLayout}
 use Rattle.boot_runtime.specs.Entries.{task_entries}
 use Rattle.boot_runtime.specs.Listing.{privates_in}
@@ -17,7 +18,8 @@ use Rattle.crash_rules.specs.History.{first_history}
 use Rattle.crash_rules.specs.Runs.{ProgramLaws}
 use Rattle.crash_rules.specs.Laws.{Origin, Begins}
 use Rattle.run_charges.specs.Charges.{IsPlacedProgram, AlwaysLeaves}
-use Rattle.stands_for.specs.Layout.{AreApart, HaveRoom, ArePrivate}
+use Rattle.memory_map.specs.Laws.{AreApart}
+use Rattle.stands_for.specs.Layout.{HaveRoom, ArePrivate}
 use Rattle.linked_code.specs.Linked.{CodeFits}
 use Rattle.linked_code.specs.Rooms.{PrivatesAreCounted}
 use Rattle.compiled_model.specs.Places.{program_places}
@@ -26,10 +28,10 @@ use Rattle.compiled_model.specs.Needs.{CostsAreWithin, TasksLeave, ProgramsAreWh
 use Rattle.compiled_runs.specs.Program.{source_code, compiled_program}
 
 -- what is asked of a source and its layout
-pub record CanRun (p : CheckedProgram) (l : LayoutValue) : Type 0 where
+pub record CanRun (p : CheckedProgram) (l : MemoryMap) : Type 0 where
   pub fits : CodeFits l (lowered l p)
   pub count : length l.tasks ≡ length p.tasks
-  pub apart : AreApart (program_places p l)
+  pub apart : AreApart l
   pub room : HaveRoom (program_places p l)
   pub privates : (k : ℕ) → ArePrivate (program_places p l) k (privates_in (task_entries l) k)
   pub programs : ProgramsAreWhole p l
@@ -38,21 +40,21 @@ pub record CanRun (p : CheckedProgram) (l : LayoutValue) : Type 0 where
 
 -- the code makes each attempt and each commit within the task's bound, from a power-up on and from the end of a commit on
 abbrev pub CodeKeepsTheLaws : Type 0
-CodeKeepsTheLaws = (p : CheckedProgram) (l : LayoutValue) → CanRun p l → ModelLaws (compiled_model p l)
+CodeKeepsTheLaws = (p : CheckedProgram) (l : MemoryMap) → CanRun p l → ModelLaws (compiled_model p l)
     → ProgramLaws (compiled_model p l) (compiled_program p l)
 
 -- it is instructions placed in FRAM, and a power-up with the boot's address in the reset vector comes to its entry
 abbrev pub CodeIsPlaced : Type 0
-CodeIsPlaced = (p : CheckedProgram) (l : LayoutValue) → CodeFits l (lowered l p)
+CodeIsPlaced = (p : CheckedProgram) (l : MemoryMap) → CodeFits l (lowered l p)
     → IsPlacedProgram (compiled_program p l) l.boot.address (source_code p l) l.boot.address
 
 -- a run stores nowhere on the code, nor on the reset vector, and never comes to where no instruction stands
 abbrev pub RunsLeaveTheCode : Type 0
-RunsLeaveTheCode = (p : CheckedProgram) (l : LayoutValue) → CanRun p l → ModelLaws (compiled_model p l) → AttemptsStoreBelow p l l.boot.address
+RunsLeaveTheCode = (p : CheckedProgram) (l : MemoryMap) → CanRun p l → ModelLaws (compiled_model p l) → AttemptsStoreBelow p l l.boot.address
     → (readings : List ℕ) (origin : Origin State) (x : World) (s : MachineBoard) → Begins (compiled_model p l) readings origin x s
-    → AlwaysLeaves (compiled_program p l) l.boot.address (length (words_of (source_code p l))) l.words.gate s (first_history l.words.gate x)
+    → AlwaysLeaves (compiled_program p l) l.boot.address (length (words_of (source_code p l))) (word_place l Gate) s (first_history (word_place l Gate) x)
 
 -- the layout of a source that costs no more than it may has room for its code
 abbrev pub SourcesHaveRoom : Type 0
-SourcesHaveRoom = (p : CheckedProgram) (allow : Allow) (plans : List TaskPlanValue) (l : LayoutValue) → IsAllowed p allow → IsLayout p allow plans l
+SourcesHaveRoom = (p : CheckedProgram) (allow : Allow) (plans : List TaskPlanValue) (l : MemoryMap) → IsAllowed p allow → IsLayout p allow plans l
     → length plans ≡ length p.tasks → PrivatesAreCounted p l → CodeFits l (lowered l p)

@@ -5,37 +5,38 @@ use Rattle.machine_effects.specs.Machine.{Code, MachineBoard, exec}
 use Rattle.code_forms.specs.Forms.{Core, board_of}
 use Rattle.code_forms.specs.Placed.{placed}
 use Rattle.source_values.specs.Runs.{CheckedProgram}
-use Rattle.privatise.specs.LayoutValue.{LayoutValue}
+use Rattle.memory_map.specs.declared.words.RuntimeWord.TheVariants.{Gate}
+use Rattle.memory_map.specs.MemoryMap.{MemoryMap, word_place}
 use Rattle.runtime_code.specs.Addresses.{start_address}
 use Rattle.lower.specs.Lowered.{lowered}
 use Rattle.crash_rules.specs.Runs.{Program}
 use Rattle.linked_code.specs.Linked.{linked}
 
 -- the code of a source with its layout
-abbrev pub source_code : CheckedProgram → LayoutValue → List Instr
+abbrev pub source_code : CheckedProgram → MemoryMap → List Instr
 source_code p l = linked l (lowered l p)
 
 -- the same, in FRAM
-abbrev pub placed_code : CheckedProgram → LayoutValue → Code
+abbrev pub placed_code : CheckedProgram → MemoryMap → Code
 placed_code p l = placed l.boot.address (source_code p l)
 
 -- a machine whose registers are told apart, at the boot
-pub record IsBooting (l : LayoutValue) (b : MachineBoard) : Type 0 where
+pub record IsBooting (l : MemoryMap) (b : MachineBoard) : Type 0 where
   pub core : Core
   pub is : b ≡ board_of core
   pub pc : core.pc ≡ l.boot.address
 
 -- the same, at the start of an attempt, where GATE isn't 1
-pub record IsStarting (l : LayoutValue) (b : MachineBoard) : Type 0 where
+pub record IsStarting (l : MemoryMap) (b : MachineBoard) : Type 0 where
   pub core : Core
   pub is : b ≡ board_of core
   pub pc : core.pc ≡ start_address l.boot.address
-  pub gate : core.fram l.words.gate ≢ 1
+  pub gate : core.fram (word_place l Gate) ≢ 1
 
 -- where all that is to be done begins: at the boot, and at the start of an attempt
-abbrev pub IsAtEntry : LayoutValue → MachineBoard → Type 0
+abbrev pub IsAtEntry : MemoryMap → MachineBoard → Type 0
 IsAtEntry l b = IsBooting l b ⊎ IsStarting l b
 
 -- the code of a source, as a program that runs
-abbrev pub compiled_program : CheckedProgram → LayoutValue → Program
+abbrev pub compiled_program : CheckedProgram → MemoryMap → Program
 compiled_program p l = record { step = exec (placed_code p l); AtEntry = IsAtEntry l; IsPoweredUp = IsBooting l }

@@ -1,7 +1,7 @@
 //! Tests of the plans and the layouts of whole texts. The addresses are counted by hand from the order and the sizes.
 use cost_bound::allow;
-use image_map::{Place, RuntimeWords};
-use privatise::{ArrayCopies, Layout, PrivateScalar, Region, VariablePlace, layout};
+use memory_map::{ArrayCopies, Layout, PrivateScalar, Region, RuntimeWord, VariablePlace};
+use privatise::layout;
 use std::alloc::Global;
 use task_check::{Checked, check};
 use task_lex::lex;
@@ -67,19 +67,28 @@ fn is_task(layout: &Layout, task: usize, privates: &[PrivateScalar], code: Regio
     }
 }
 
-const WORDS: RuntimeWords = RuntimeWords {
-    current_task: 0x4400,
-    next_task: 0x4402,
-    gate: 0x4404,
-    list_length: 0x4406,
-    emit_count: 0x4408,
-    base: 0x440A,
-    sent_base: 0x440C,
-    version: 0x440E,
-};
+// The runtime's words, in the order in which they stand from 0x4400 on.
+const WORDS: [RuntimeWord; 8] = [
+    RuntimeWord::CurrentTask,
+    RuntimeWord::NextTask,
+    RuntimeWord::Gate,
+    RuntimeWord::ListLength,
+    RuntimeWord::EmitCount,
+    RuntimeWord::Base,
+    RuntimeWord::SentBase,
+    RuntimeWord::Version,
+];
 
-fn place(address: u16, capacity: u32) -> Place {
-    Place { address, capacity }
+// Whether the runtime's words stand side by side from 0x4400 on.
+fn has_words(layout: &Layout) -> bool {
+    let mut address = 0x4400u16;
+    for word in &WORDS {
+        if layout.word_place(*word) != address {
+            return false;
+        }
+        address = address.wrapping_add(2);
+    }
+    true
 }
 
 fn region(address: u16, words: u32) -> Region {
@@ -114,9 +123,9 @@ fn one_private_scalar(rt: HostRuntime) {
         assert!(rt; false);
         return;
     };
-    assert!(rt; layout.words() == WORDS);
-    assert!(rt; layout.list() == place(0x4410, 1) && layout.emits() == place(0x4416, 1));
-    assert!(rt; layout.versions() == place(0x4418, 0));
+    assert!(rt; has_words(&layout) && layout.entries() == 1);
+    assert!(rt; layout.list() == region(0x4410, 3) && layout.emits() == region(0x4416, 1));
+    assert!(rt; layout.versions() == region(0x4418, 0));
     assert!(rt; layout.homes() == region(0x4418, 1) && layout.copies() == region(0x441A, 1));
     let n = VariablePlace::Scalar {
         home: 0x4418,
@@ -141,8 +150,8 @@ fn arrays_and_two_tasks(rt: HostRuntime) {
         assert!(rt; false);
         return;
     };
-    assert!(rt; layout.list() == place(0x4410, 2) && layout.emits() == place(0x441C, 0));
-    assert!(rt; layout.versions() == place(0x441C, 4));
+    assert!(rt; layout.list() == region(0x4410, 6) && layout.emits() == region(0x441C, 0));
+    assert!(rt; layout.entries() == 2 && layout.versions() == region(0x441C, 4));
     assert!(rt; layout.homes() == region(0x4424, 9) && layout.copies() == region(0x4436, 6));
     let x = VariablePlace::Scalar {
         home: 0x4424,

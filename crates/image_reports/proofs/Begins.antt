@@ -14,7 +14,7 @@ use Rattle.crash_rules.specs.Laws.{Resting, Begins}
 use Rattle.crash_rules.proofs.Theorems.{runs_may_begin}
 use Rattle.run_charges.specs.Charges.{ArePowerStates, IsPlacedProgram}
 use Rattle.run_charges.specs.Laws.{IsRunOfWords}
-use Rattle.privatise.specs.LayoutValue.{LayoutValue}
+use Rattle.memory_map.specs.MemoryMap.{MemoryMap}
 use Rattle.compiled_model.specs.Parts.{compiled_model}
 use Rattle.compiled_runs.specs.Program.{source_code, compiled_program}
 use Rattle.compiled_runs.proofs.Program.{code_keeps_the_laws}
@@ -30,7 +30,7 @@ use Rattle.ready_sources.specs.Ready.{IsReadyToRun}
 
 module _ (text : List ℕ) (p : CheckedProgram) (allow : Allow) (image : ImageValue) (c : IsCompiled text p allow image) (readings : List ℕ)
     (words : All (λ w. w < 0x10000) readings) (ready : IsReadyToRun p c.layout) (new : IsFreshImage text p allow c.layout image) where
-  abbrev l : LayoutValue
+  abbrev l : MemoryMap
   l = c.layout
 
   abbrev x : World

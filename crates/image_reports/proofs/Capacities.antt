@@ -12,7 +12,10 @@ use Rattle.source_meaning.specs.Acceptance.{IsAcceptedText}
 use Rattle.source_meaning.proofs.Runnable.{accepted_texts_run}
 use Rattle.crash_rules.specs.Laws.{Resting}
 use Rattle.run_charges.specs.Laws.{IsRunOfWords}
-use Rattle.privatise.specs.LayoutValue.{LayoutValue}
+use Rattle.memory_map.specs.declared.words.RuntimeWord.TheVariants.{Gate, ListLength, EmitCount}
+use Rattle.memory_map.specs.MemoryMap.{MemoryMap, word_place}
+use Rattle.memory_map.proofs.Parts.{apart_of}
+use Rattle.runtime_code.proofs.Layouts.{places_are_in_fram}
 use Rattle.stands_for.proofs.Starts.{each_weaker}
 use Rattle.task_attempts.specs.Laws.{IsBelowCode}
 use Rattle.task_attempts.proofs.Theorems.{stores_below_code}
@@ -32,7 +35,7 @@ module _ (text : List ℕ) (p : CheckedProgram) (allow : Allow) (image : ImageVa
   runs : IsRunnable p
   runs = accepted_texts_run text p allow ok
 
-  abbrev l : LayoutValue
+  abbrev l : MemoryMap
   l = c.layout
 
   laid : IsLaidOutText text p allow c.plans l
@@ -44,19 +47,16 @@ module _ (text : List ℕ) (p : CheckedProgram) (allow : Allow) (image : ImageVa
       (stores_below_code text p allow c.plans l laid runs s x readings words undecided)
 
   -- a word of the runtime behind GATE is 0 at first
-  nothing_at : (a : ℕ) → IsFram a → l.words.gate ≤ a → a ≤ l.words.emit_count → fram_of image.words a ≡ 0
+  nothing_at : (a : ℕ) → IsFram a → word_place l Gate ≤ a → a ≤ word_place l EmitCount → fram_of image.words a ≡ 0
   nothing_at a is low high =
-      let apart = c.is_layout.rules.apart in
+      let apart = apart_of l c.is_layout.rules in
       zero_at text p allow image ok runs c a is (λ e. omega (arith, apart, low, e)) (omega (arith, apart, high))
 
   at_first : KeepsCapacities l (fram_of image.words)
   at_first =
-      let apart = c.is_layout.rules.apart in
-      let even = c.is_layout.rules.even in
-      let list = nothing_at l.words.list_length (record { even = even.list_length; low = omega (arith, apart); high = omega (arith, apart) })
-      (omega (arith, apart)) (omega (arith, apart)) in
-      let emits = nothing_at l.words.emit_count (record { even = even.emit_count; low = omega (arith, apart); high = omega (arith, apart) })
-      (omega (arith, apart)) (omega arith) in
+      let words = (places_are_in_fram l c.is_layout.rules).words in
+      let list = nothing_at (word_place l ListLength) (words ListLength) (omega arith) (omega arith) in
+      let emits = nothing_at (word_place l EmitCount) (words EmitCount) (omega arith) (omega arith) in
       record {
         list = omega (arith, list);
         emits = omega (arith, emits);

@@ -18,9 +18,9 @@ use Rattle.source_values.specs.Runs.{CheckedProgram, State, first_state}
 use Rattle.source_meaning.specs.Acceptance.{IsAcceptedText}
 use Rattle.source_maps.specs.Maps.{map_of}
 use Rattle.source_runs.proofs.Spans.{read_off}
-use Rattle.privatise.specs.LayoutValue.{LayoutValue}
+use Rattle.memory_map.specs.declared.words.RuntimeWord.TheVariants.{Gate}
+use Rattle.memory_map.specs.MemoryMap.{MemoryMap, word_place}
 use Rattle.runtime_effects.specs.Stages.{commit_effects}
-use Rattle.runtime_code.specs.LayoutPlaces.{runtime_places}
 use Rattle.boot_runtime.specs.Entries.{task_entries}
 use Rattle.boot_runtime.specs.Listing.{privates_in}
 use Rattle.crash_rules.specs.Model.{Model, program_effects, with_commit, script}
@@ -54,16 +54,16 @@ use Rattle.image_reports.proofs.ImageStart.{versions_below}
 use Rattle.image_reports.proofs.ImageCode.{GoesOn, StopsAtReadings, goes_on, StandsOn, stands_on, placed_within, same_words, words_fetched}
 
 -- what is due is the crash theorem's script
-due_is_script : (p : CheckedProgram) (l : LayoutValue) (f : ℕ → ℕ) (readings : List ℕ)
+due_is_script : (p : CheckedProgram) (l : MemoryMap) (f : ℕ → ℕ) (readings : List ℕ)
     → (script (compiled_model p l) f readings).effects ≡ all_due p l f readings
-due_is_script p l f readings = by (f l.words.gate == 1)
+due_is_script p l f readings = by (f (word_place l Gate) == 1)
   where
     by : (b : Bool) → ◌≡◌ {A = List Effect}
-        (if b then program_effects (commit_effects (runtime_places l) f) true
+        (if b then program_effects (commit_effects l f) true
         else with_commit (compiled_model p l) f ((compiled_model p l).attempt f readings)).effects
-        (if b then (if b then commit_effects (runtime_places l) f else [])
+        (if b then (if b then commit_effects l f else [])
         else attempt_due p l
-        (let es = (if b then commit_effects (runtime_places l) f else []) in es ++ start_due l (fram_after es f))
+        (let es = (if b then commit_effects l f else []) in es ++ start_due l (fram_after es f))
         f readings)
     by true = refl
     by false = refl
@@ -71,7 +71,7 @@ due_is_script p l f readings = by (f l.words.gate == 1)
 module _ (text : List ℕ) (p : CheckedProgram) (allow : Allow) (image : ImageValue) (ok : IsAcceptedText text p allow) (c : IsCompiled text p allow image)
     (cs : List BoardCharge) (starts : ArePowerStates cs) (readings : List ℕ) (words : All (λ w. w < 0x10000) readings) (few : length readings ≤ 262144)
     (r : RunOutcome) (go : Run cs (fresh image.words readings) r) where
-  abbrev l : LayoutValue
+  abbrev l : MemoryMap
   l = c.layout
 
   abbrev model : Model State
@@ -102,7 +102,7 @@ module _ (text : List ℕ) (p : CheckedProgram) (allow : Allow) (image : ImageVa
   run = run_of_states text p allow image c cs starts readings words few r go
 
   -- a charge stops for want of a reading alone, wherever charges lead
-  stops_at_readings : StopsAtReadings program l.words.gate (machine_of b) (first_history l.words.gate x)
+  stops_at_readings : StopsAtReadings program (word_place l Gate) (machine_of b) (first_history (word_place l Gate) x)
   stops_at_readings es t k charged q up fram left n price e halted =
       (stops_short model program ready.model bearing.program readings origin x (machine_of b) bearing.begins es t k charged q up fram left n price e halted).0
 
@@ -111,8 +111,8 @@ module _ (text : List ℕ) (p : CheckedProgram) (allow : Allow) (image : ImageVa
   begins_on es price e stops =
       let at = at_front model program readings origin x cs b r run bearing [] r.moments refl in
       let zero_fill = fill_is_a_power_state 0 (omega arith) in
-      let up = is_powered model program readings origin x cs b r run bearing b (first_history l.words.gate x) at (filled 0) zero_fill in
-      stops_at_readings [] (machine_of b) (first_history l.words.gate x) (refl, refl) (machine_of b) up refl refl 1 price e
+      let up = is_powered model program readings origin x cs b r run bearing b (first_history (word_place l Gate) x) at (filled 0) zero_fill in
+      stops_at_readings [] (machine_of b) (first_history (word_place l Gate) x) (refl, refl) (machine_of b) up refl refl 1 price e
       (ap (λ o. (continued o (going program.step zero)).status) stops)
 
   module _ (ms rest : List Moment) (e : r.moments ≡ ms ++ rest) where
@@ -127,7 +127,8 @@ module _ (text : List ℕ) (p : CheckedProgram) (allow : Allow) (image : ImageVa
 
     stands : StandsOn (placed_code p l) (machine_of t)
     stands = stands_on (placed_code p l) (machine_of t)
-        (goes_on program l.words.gate at.charges (machine_of b) (machine_of t) (first_history l.words.gate x) h stops_at_readings begins_on at.charged)
+        (goes_on program (word_place l Gate) at.charges (machine_of b) (machine_of t)
+        (first_history (word_place l Gate) x) h stops_at_readings begins_on at.charged)
 
     fetches : FetchesCode p l image t
     fetches =
@@ -165,12 +166,13 @@ module _ (text : List ℕ) (p : CheckedProgram) (allow : Allow) (image : ImageVa
         let known = fronts_are_lawful model program readings origin x cs b r run bearing ms rest e in
         let lawful = known.0 in
         let same = known.1.fram in
-        let counts = front_counts l.words.gate cs b r (first_history l.words.gate x) run refl refl refl ms rest e in
+        let counts = front_counts (word_place l Gate) cs b r (first_history (word_place l Gate) x) run refl refl refl ms rest e in
         record {
           tells = record { fram = sym same; accepted = counts.accepted; taken = counts.taken };
           effects = subst (IsPrefix h.effects) (due_is_script p l h.start.fram (drop h.since readings)) lawful.follows;
           stands = lawful.stands;
-          never_lost = λ decided. let kept = never_lost model ready.model readings origin h lawful decided in (ap (λ f. f l.words.gate) same ∙ kept.0, kept.1);
+          never_lost = λ decided. let kept = never_lost model ready.model readings origin h lawful decided in
+              (ap (λ f. f (word_place l Gate)) same ∙ kept.0, kept.1);
           accepted = sent_once model ready.model readings origin h lawful.stands;
           capacities = capacities_stay text p allow image ok c cs readings words r run ms rest e;
           versions = λ made.
@@ -194,8 +196,8 @@ images_keep_the_laws text p allow image ok c cs starts readings words few r go =
     let b = fresh image.words readings in
     let m = map_of text p l allow in
     let begins = begins_with_source text p allow image c readings words own (new text p allow image ok c cs starts readings words few r go) in
-    let P : ℕ → Type 0 = λ n. Progresses l.words.gate n cs b (first_history l.words.gate x) r in
-    let paid : Progresses l.words.gate m.bound cs b (first_history l.words.gate x) r =
+    let P : ℕ → Type 0 = λ n. Progresses (word_place l Gate) n cs b (first_history (word_place l Gate) x) r in
+    let paid : Progresses (word_place l Gate) m.bound cs b (first_history (word_place l Gate) x) r =
     subst P (bound_is_the_sources p l ∙ sym ok.allowed.cycles) (makes_progress model program readings (Resting (first_state p)) x cs b r same begun) in
     let off = read_off m x cs b r (made text p allow image ok c).is_map begins.starts same in
     record {

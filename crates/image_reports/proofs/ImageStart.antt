@@ -6,8 +6,11 @@ use Rattle.machine_effects.proofs.Worlds.{fram_after-append, put_same, put_other
 use Rattle.runtime_effects.specs.Places.{CopyPair}
 use Rattle.runtime_effects.specs.Stages.{cleared, opening_effects, copied_in, start_effects}
 use Rattle.crash_rules.specs.Model.{IsElsewhere}
-use Rattle.stands_for.specs.Layout.{ProgramPlaces, AreApart, ArePrivate}
+use Rattle.stands_for.specs.Layout.{ProgramPlaces, ArePrivate}
 use Rattle.stands_for.proofs.Starts.{elsewhere_same}
+use Rattle.memory_map.specs.MemoryMap.{word_place}
+use Rattle.memory_map.specs.declared.words.RuntimeWord.TheVariants.{CurrentTask, ListLength, EmitCount, Version}
+use Rattle.memory_map.specs.Laws.{AreApart}
 
 -- words are cleared from an address on
 cleared_behind : (n p a : ℕ) → a < p → EachStore (IsElsewhere a) (cleared n p)
@@ -26,52 +29,52 @@ cleared_zero (suc n) p (suc i) f l =
     let e : p + 2 * suc i ≡ p + 2 + 2 * i = omega arith in
     ap (fram_after (cleared n (p + 2)) (put f p 0)) e ∙ cleared_zero n (p + 2) i (put f p 0) (omega arith)
 
-module _ (l : ProgramPlaces) (apart : AreApart l) where
+module _ (l : ProgramPlaces) (apart : AreApart l.map) where
   -- copies of private scalars are made elsewhere
-  copied_elsewhere : (a t : ℕ) (ps : List CopyPair) (f : ℕ → ℕ) → a < l.copies → ArePrivate l t ps → EachStore (IsElsewhere a) (copied_in ps f)
+  copied_elsewhere : (a t : ℕ) (ps : List CopyPair) (f : ℕ → ℕ) → a < l.map.copies.address → ArePrivate l t ps → EachStore (IsElsewhere a) (copied_in ps f)
   copied_elsewhere a t [] f low laid = tt
   copied_elsewhere a t (p ∷ ps) f low laid =
       ((λ e. let from = laid.2.from in omega (arith, from, e)), copied_elsewhere a t ps (put f p.copy (f p.home)) low laid.4)
 
   abbrev three : List Effect
-  three = Store l.runtime.words.version 1 ∷ Store l.runtime.words.list_length 0 ∷ Store l.runtime.words.emit_count 0 ∷ []
+  three = Store (word_place l.map Version) 1 ∷ Store (word_place l.map ListLength) 0 ∷ Store (word_place l.map EmitCount) 0 ∷ []
 
   -- VER, CLN and EN are stored
-  version_then : (f : ℕ → ℕ) → fram_after three f l.runtime.words.version ≡ 1
+  version_then : (f : ℕ → ℕ) → fram_after three f (word_place l.map Version) ≡ 1
   version_then f =
-      let w = l.runtime.words in
-      put_other (put (put f w.version 1) w.list_length 0) w.emit_count 0 w.version (λ q. omega (arith, apart, q))
-      ∙ put_other (put f w.version 1) w.list_length 0 w.version (λ q. omega (arith, apart, q))
-      ∙ put_same f w.version 1
+      put_other (put (put f (word_place l.map Version) 1) (word_place l.map ListLength) 0) (word_place l.map EmitCount) 0 (word_place l.map Version)
+      (λ q. omega (arith, apart, q))
+      ∙ put_other (put f (word_place l.map Version) 1) (word_place l.map ListLength) 0 (word_place l.map Version) (λ q. omega (arith, apart, q))
+      ∙ put_same f (word_place l.map Version) 1
 
-  others_then : (f : ℕ → ℕ) (a : ℕ) → l.runtime.versions ≤ a → fram_after three f a ≡ f a
+  others_then : (f : ℕ → ℕ) (a : ℕ) → l.map.versions.address ≤ a → fram_after three f a ≡ f a
   others_then f a low =
-      let w = l.runtime.words in
-      put_other (put (put f w.version 1) w.list_length 0) w.emit_count 0 a (λ q. omega (arith, apart, q, low))
-      ∙ put_other (put f w.version 1) w.list_length 0 a (λ q. omega (arith, apart, q, low))
-      ∙ put_other f w.version 1 a (λ q. omega (arith, apart, q, low))
+      put_other (put (put f (word_place l.map Version) 1) (word_place l.map ListLength) 0) (word_place l.map EmitCount) 0 a (λ q. omega (arith, apart, q, low))
+      ∙ put_other (put f (word_place l.map Version) 1) (word_place l.map ListLength) 0 a (λ q. omega (arith, apart, q, low))
+      ∙ put_other f (word_place l.map Version) 1 a (λ q. omega (arith, apart, q, low))
 
   module _ (privates : ℕ → List CopyPair) (laid : (t : ℕ) → ArePrivate l t (privates t)) (f : ℕ → ℕ) where
     abbrev opened : ℕ → ℕ
-    opened = fram_after (opening_effects l.runtime f) f
+    opened = fram_after (opening_effects l.map f) f
 
     abbrev clear : List Effect
-    clear = cleared l.runtime.version_count l.runtime.versions
+    clear = cleared l.map.versions.words l.map.versions.address
 
     -- a word below the copies is as the opening leaves it
-    as_opened : (a : ℕ) → a < l.copies → fram_after (start_effects l.runtime privates f) f a ≡ fram_after three (fram_after clear f) a
+    as_opened : (a : ℕ) → a < l.map.copies.address → fram_after (start_effects l.map privates f) f a ≡ fram_after three (fram_after clear f) a
     as_opened a low =
-        let copies = copied_in (privates (f l.runtime.words.current_task)) opened in
-        ap (λ g. g a) (fram_after-append (opening_effects l.runtime f) copies f)
+        let copies = copied_in (privates (f (word_place l.map CurrentTask))) opened in
+        ap (λ g. g a) (fram_after-append (opening_effects l.map f) copies f)
         ∙ elsewhere_same a copies opened
-        (copied_elsewhere a (f l.runtime.words.current_task) (privates (f l.runtime.words.current_task)) opened low (laid (f l.runtime.words.current_task)))
+        (copied_elsewhere a (f (word_place l.map CurrentTask)) (privates (f (word_place l.map CurrentTask))) opened low
+        (laid (f (word_place l.map CurrentTask))))
         ∙ ap (λ g. g a) (fram_after-append clear three f)
 
-    pub versions_below : (i : ℕ) → i < l.runtime.version_count → fram_after (start_effects l.runtime privates f) f (l.runtime.versions + 2 * i)
-        < fram_after (start_effects l.runtime privates f) f l.runtime.words.version
+    pub versions_below : (i : ℕ) → i < l.map.versions.words → fram_after (start_effects l.map privates f) f (l.map.versions.address + 2 * i)
+        < fram_after (start_effects l.map privates f) f (word_place l.map Version)
     versions_below i below =
-        let a = l.runtime.versions + 2 * i in
+        let a = l.map.versions.address + 2 * i in
         let word = as_opened a (omega (arith, apart, below)) ∙ others_then (fram_after clear f) a (omega arith)
-        ∙ cleared_zero l.runtime.version_count l.runtime.versions i f below in
-        let version = as_opened l.runtime.words.version (omega (arith, apart)) ∙ version_then (fram_after clear f) in
+        ∙ cleared_zero l.map.versions.words l.map.versions.address i f below in
+        let version = as_opened (word_place l.map Version) (omega (arith, apart)) ∙ version_then (fram_after clear f) in
         omega (arith, word, version)

@@ -21,17 +21,17 @@ use Rattle.source_values.specs.Runs.{CheckedProgram, State, first_state}
 use Rattle.source_meaning.specs.Acceptance.{IsAcceptedText}
 use Rattle.source_runs.specs.Tells.{at_first, EachChargePays, IsToldBySource}
 use Rattle.source_maps.specs.Maps.{map_of}
-use Rattle.privatise.specs.LayoutValue.{LayoutValue}
+use Rattle.memory_map.specs.declared.words.RuntimeWord.TheVariants.{CurrentTask, Gate, Version}
+use Rattle.memory_map.specs.MemoryMap.{MemoryMap, word_place}
 use Rattle.array_versions.specs.Behaviour.{behaviour, started}
 use Rattle.runtime_effects.specs.Stages.{commit_effects, start_effects, pending_effects, boot_effects}
-use Rattle.runtime_code.specs.LayoutPlaces.{runtime_places}
 use Rattle.boot_runtime.specs.Entries.{task_entries}
 use Rattle.boot_runtime.specs.Listing.{privates_in}
 use Rattle.crash_rules.specs.Model.{CommitContract}
 use Rattle.crash_rules.specs.History.{History, first_history}
 use Rattle.crash_rules.specs.Laws.{Resting, StandsFor, AcceptedWords}
 use Rattle.run_charges.specs.Charges.{ArePowerStates, observed}
-use Rattle.stands_for.specs.Layout.{AreApart}
+use Rattle.memory_map.specs.Laws.{AreApart}
 use Rattle.stands_for.specs.StandsFor.{RestsAt, UndecidedAt, DecidedFrom}
 use Rattle.compiled_model.specs.Places.{program_places}
 use Rattle.compiled_model.specs.View.{state_view}
@@ -43,27 +43,27 @@ use Rattle.link_image.specs.Compiled.{IsCompiled}
 use Rattle.link_image.specs.Laws.{fresh_world}
 
 -- what is read off the effects of a run's moments, behind them, where an image's fresh board began it
-abbrev pub known_behind : LayoutValue → ImageValue → List Moment → History
-known_behind l image ms = observed l.words.gate ms (first_history l.words.gate (fresh_world image))
+abbrev pub known_behind : MemoryMap → ImageValue → List Moment → History
+known_behind l image ms = observed (word_place l Gate) ms (first_history (word_place l Gate) (fresh_world image))
 
 -- an attempt's start, on FRAM as it is
-abbrev pub start_due : LayoutValue → (ℕ → ℕ) → List Effect
-start_due l f = start_effects (runtime_places l) (privates_in (task_entries l)) f
+abbrev pub start_due : MemoryMap → (ℕ → ℕ) → List Effect
+start_due l f = start_effects l (privates_in (task_entries l)) f
 
 -- a start; then the word program of the task that CUR names, on FRAM as the start leaves it and on these readings; and the commit, where
 -- that program comes to its transition
-abbrev pub attempt_due : CheckedProgram → LayoutValue → List Effect → (ℕ → ℕ) → List ℕ → List Effect
+abbrev pub attempt_due : CheckedProgram → MemoryMap → List Effect → (ℕ → ℕ) → List ℕ → List Effect
 attempt_due p l start f readings =
-    let task = behaviour (task_program p l (f l.words.current_task)) (started (fram_after start f) readings) in
+    let task = behaviour (task_program p l (f (word_place l CurrentTask))) (started (fram_after start f) readings) in
     let es = start ++ task.effects in
-    es ++ (if has_jumped task.end then commit_effects (runtime_places l) (fram_after es f) else [])
+    es ++ (if has_jumped task.end then commit_effects l (fram_after es f) else [])
 
 -- all that is due from a boot or a done on, by FRAM and the readings left there. Where GATE is 1: the commit that is pending. Else all
 -- of a boot, which then is an attempt's start, with the task and its commit
-abbrev pub all_due : CheckedProgram → LayoutValue → (ℕ → ℕ) → List ℕ → List Effect
+abbrev pub all_due : CheckedProgram → MemoryMap → (ℕ → ℕ) → List ℕ → List Effect
 all_due p l f readings =
-    if f l.words.gate == 1 then pending_effects (runtime_places l) f
-    else attempt_due p l (boot_effects (runtime_places l) (privates_in (task_entries l)) f) f readings
+    if f (word_place l Gate) == 1 then pending_effects l f
+    else attempt_due p l (boot_effects l (privates_in (task_entries l)) f) f readings
 
 -- what is known behind these moments is of the board behind them: its FRAM, the words that its receiver accepted, in order, and how many
 -- readings were taken
@@ -73,21 +73,21 @@ pub record TellsOfBoard (b : BoardValue) (ms : List Moment) (h : History) : Type
   pub taken : h.taken ≡ b.taken
 
 -- each version word is below VER
-abbrev pub VersionsBelow : LayoutValue → (ℕ → ℕ) → Type 0
-VersionsBelow l f = (i : ℕ) → i < l.versions.capacity → f (l.versions.address + 2 * i) < f l.words.version
+abbrev pub VersionsBelow : MemoryMap → (ℕ → ℕ) → Type 0
+VersionsBelow l f = (i : ℕ) → i < l.versions.words → f (l.versions.address + 2 * i) < f (word_place l Version)
 
 -- the address behind the code
-abbrev pub code_end : CheckedProgram → LayoutValue → ℕ
+abbrev pub code_end : CheckedProgram → MemoryMap → ℕ
 code_end p l = l.boot.address + 2 * length (code_words p l)
 
 -- FRAM has the image's words in all of the code, and its reset vector
-pub record KeepsCode (p : CheckedProgram) (l : LayoutValue) (image : ImageValue) (f : ℕ → ℕ) : Type 0 where
+pub record KeepsCode (p : CheckedProgram) (l : MemoryMap) (image : ImageValue) (f : ℕ → ℕ) : Type 0 where
   pub code : (a : ℕ) → a % 2 ≡ 0 → l.boot.address ≤ a → a < code_end p l → f a ≡ fram_of image.words a
   pub vector : f 0xFFFE ≡ fram_of image.words 0xFFFE
 
 -- the board's next instruction is one of the code: CPUOFF is clear, and its words stand at PC, as they are fetched, within the code, and
 -- are those that the image has there
-pub record FetchesCode (p : CheckedProgram) (l : LayoutValue) (image : ImageValue) (b : BoardValue) : Type 0 where
+pub record FetchesCode (p : CheckedProgram) (l : MemoryMap) (image : ImageValue) (b : BoardValue) : Type 0 where
   pub instruction : Instr
   pub next : IsNextInstruction b instruction
   pub from : l.boot.address ≤ registers_of b.cpu 0
@@ -95,7 +95,7 @@ pub record FetchesCode (p : CheckedProgram) (l : LayoutValue) (image : ImageValu
   pub same : Holds (fram_of image.words) (registers_of b.cpu 0) (encoding instruction)
 
 -- What holds at each boundary between two instructions: `b` is the board behind these moments, and `h` what is known of the run so far.
-pub record HoldsAt (p : CheckedProgram) (l : LayoutValue) (image : ImageValue) (readings : List ℕ) (b : BoardValue) (ms : List Moment)
+pub record HoldsAt (p : CheckedProgram) (l : MemoryMap) (image : ImageValue) (readings : List ℕ) (b : BoardValue) (ms : List Moment)
     (h : History) : Type 0 where
   pub tells : TellsOfBoard b ms h
   -- the effects since the last boot or done are a prefix of what was due there
@@ -104,7 +104,7 @@ pub record HoldsAt (p : CheckedProgram) (l : LayoutValue) (image : ImageValue) (
   -- readings of the dones; or it is decided from it to the state that its task gives on the committed readings of the decide
   pub stands : StandsFor (compiled_model p l) readings (Resting (first_state p)) h
   -- a decided state is never lost: between a decide and its done the board is undecided at no state, whatever boots stand between
-  pub never_lost : h.decided ≡ true → (fram_of b.fram l.words.gate ≡ 1) × ((s : State) → UndecidedAt (program_places p l) (state_view p l) s h.world → ⊥)
+  pub never_lost : h.decided ≡ true → (fram_of b.fram (word_place l Gate) ≡ 1) × ((s : State) → UndecidedAt (program_places p l) (state_view p l) s h.world → ⊥)
   -- between a done, or the start, and the next decide no word is accepted; between a decide and its done a prefix of that task's
   pub accepted : AcceptedWords (compiled_model p l) readings (Resting (first_state p)) h stands.state h.decided
   -- CLN and EN are within the map's capacities, and version words at most VER
@@ -118,12 +118,12 @@ pub record HoldsAt (p : CheckedProgram) (l : LayoutValue) (image : ImageValue) (
   pub fetches : FetchesCode p l image b
 
 -- What holds of a run of an image under charges, on readings.
-pub record IsLawfulRun (text : List ℕ) (p : CheckedProgram) (allow : Allow) (l : LayoutValue) (image : ImageValue) (cs : List BoardCharge) (readings : List ℕ)
+pub record IsLawfulRun (text : List ℕ) (p : CheckedProgram) (allow : Allow) (l : MemoryMap) (image : ImageValue) (cs : List BoardCharge) (readings : List ℕ)
     (r : RunOutcome) : Type 0 where
   -- the fresh board rests at the source's first state
   pub rests : RestsAt (program_places p l) (state_view p l) (first_state p) (fresh_world image)
   -- the places that the map names are apart
-  pub apart : AreApart (program_places p l)
+  pub apart : AreApart l
   -- each prefix of a commit keeps decided, and the whole of it rests at the new state
   pub commits : (s next : State) (x : World) → DecidedFrom (program_places p l) (state_view p l) s next x → CommitContract (compiled_model p l) s next x
   -- at each board, behind any number of instructions
@@ -141,7 +141,7 @@ pub record IsLawfulRun (text : List ℕ) (p : CheckedProgram) (allow : Allow) (l
 
 -- What holds of an image: under every list of charges of cycles or of instructions, from every state that each power-up may leave (any
 -- words in RAM, registers and OUTNUM), and on all readings that a board may hold, its run is such.
-abbrev pub IsLawful : List ℕ → CheckedProgram → Allow → LayoutValue → ImageValue → Type 0
+abbrev pub IsLawful : List ℕ → CheckedProgram → Allow → MemoryMap → ImageValue → Type 0
 IsLawful text p allow l image = (cs : List BoardCharge) → ArePowerStates cs → (readings : List ℕ) → All (λ w. w < 0x10000) readings
     → length readings ≤ 262144 → (r : RunOutcome) → Run cs (fresh image.words readings) r → IsLawfulRun text p allow l image cs readings r
 

@@ -12,18 +12,18 @@ use Rattle.war_analysis.specs.PlanValue.{TaskPlanValue}
 use Rattle.war_analysis.specs.Plans.{IsPrivateIn, IsVersionedIn}
 use Rattle.war_analysis.proofs.Counted.{privates_counted}
 use Rattle.war_analysis.proofs.Steps.{element}
-use Rattle.privatise.specs.declared.place.ArrayCopies.{ArrayCopies}
-use Rattle.privatise.specs.declared.place.VariablePlace.TheVariants.{Scalar, Array}
-use Rattle.privatise.specs.declared.place.PrivateScalar.{PrivateScalar}
-use Rattle.privatise.specs.LayoutValue.{LayoutValue, TaskLayoutValue}
-use Rattle.privatise.specs.Places.{HasItsPlace}
-use Rattle.lower.specs.Places.{places_of, copy_among, home_of, home_in, copy_else, address_of}
 use Rattle.layout_facts.specs.Facts.{HasLayout, IsTaskAt}
 use Rattle.layout_facts.specs.Laws.{TasksMatch, TaskMatches, AddressesAre, AddressIs}
 use Rattle.layout_facts.proofs.Lists.{place_of, contains_at}
 use Rattle.layout_facts.proofs.Privates.{Privates, privates_of, ascending_numbers}
-use Rattle.layout_facts.proofs.TaskPlaces.{among_is}
 use Rattle.layout_facts.proofs.Planned.{array_declared, array_extent, array_has_place, places_match}
+use Rattle.memory_map.specs.declared.place.ArrayCopies.{ArrayCopies}
+use Rattle.memory_map.specs.declared.place.VariablePlace.TheVariants.{Scalar, Array}
+use Rattle.memory_map.specs.declared.place.PrivateScalar.{PrivateScalar}
+use Rattle.memory_map.specs.MemoryMap.{MemoryMap, TaskPlace}
+use Rattle.memory_map.specs.Places.{HasItsPlace}
+use Rattle.memory_map.specs.Spots.{places_of, copy_among, home_of, home_in, copy_else, address_of}
+use Rattle.memory_map.proofs.Addresses.{among_is}
 
 -- what a task assigns is written by some task
 written_by : (ts : List CheckedTask) (t : ℕ) (task : CheckedTask) (v : ℕ) → slice_get ts t ≡ Some task → block_assigns v task.body ≡ true
@@ -73,8 +73,8 @@ number_at xs k s d e =
     get_or_from_slice_get (map (λ (s : PrivateScalar). s.number) xs) k s.number d
     (slice_get-map (λ (s : PrivateScalar). s.number) xs k ∙ ap (option_map (λ (s : PrivateScalar). s.number)) e)
 
-module _ (p : CheckedProgram) (allow : Allow) (plans : List TaskPlanValue) (l : LayoutValue) (h : HasLayout p allow plans l) (t : ℕ) (task : CheckedTask)
-    (layout : TaskLayoutValue) (k : IsTaskAt p l t task layout) where
+module _ (p : CheckedProgram) (allow : Allow) (plans : List TaskPlanValue) (l : MemoryMap) (h : HasLayout p allow plans l) (t : ℕ) (task : CheckedTask)
+    (layout : TaskPlace) (k : IsTaskAt p l t task layout) where
   mine : Privates p l task layout
   mine = privates_of p allow plans l h t task layout k
 

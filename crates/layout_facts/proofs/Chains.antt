@@ -6,30 +6,11 @@ use Rattle.cost_bound.specs.Counts.{Code, emits_of}
 use Rattle.cost_bound.specs.Allowance.{CheckedProgram, CheckedTask, greatest, list_of}
 use Rattle.war_analysis.proofs.Steps.{element}
 use Rattle.source_values.specs.Runs.{body_of, task_body}
+use Rattle.memory_map.proofs.Parts.{apart_of}
 use Rattle.layout_facts.specs.Laws.{PlacesAreApart, TasksHaveRoom}
 
 pub places_are_apart : PlacesAreApart
-places_are_apart p allow plans l h =
-    let a = h.layout.rules.apart in
-    let emits = a.emits in let boot = a.boot in let commit = a.commit in let code = a.code in let high = a.high in
-    record {
-      low = a.current_task;
-      next_task = a.next_task;
-      gate = a.gate;
-      list_length = a.list_length;
-      emit_count = a.emit_count;
-      base = a.base;
-      sent_base = a.sent_base;
-      version = a.version;
-      list = a.list;
-      emits = omega (arith, emits);
-      versions = a.versions;
-      homes = a.homes;
-      homes_end = omega arith;
-      copies = a.copies;
-      copies_end = omega arith;
-      high = omega (arith, boot, commit, code, high);
-    }
+places_are_apart p allow plans l h = apart_of l h.layout.rules
 
 -- none is greater than the greatest
 pub at_most_greatest : (f : Code → ℕ) (ts : List CheckedTask) (t : ℕ) (task : CheckedTask) → slice_get ts t ≡ Some task → f task.body ≤ greatest f ts

@@ -8,13 +8,13 @@ use Rattle.task_ast.specs.Tree as t
 use Rattle.task_ast.specs.Paths.{CheckedExpression, CheckedStatement, CheckedChoice, CheckedBlock}
 use Rattle.cost_bound.specs.Counts.{is_shared, statement_assigns, choice_assigns, block_assigns}
 use Rattle.war_analysis.specs.Plans.{IsScalarAt, IsArrayAt}
-use Rattle.lower.specs.Places.{Places, places_of}
 use Rattle.lower.specs.Agreement.{IsKnown, IsTarget, IsArray, IsWrittenArray, IsLocal, ExpressionFits, StatementFits, ChoiceFits, BlockFits}
 use Rattle.checked_uses.specs.Uses.{IsWordName, IsArrayName, IsLocalName, ExpressionUses, StatementUses, ChoiceUses, BlockUses}
-use Rattle.lower.specs.Spots as spots
 use Rattle.layout_facts.specs.Laws.{NamesFit}
 use Rattle.layout_facts.proofs.Planned.{scalar_has_place, array_has_place, array_declared, array_extent}
 use Rattle.layout_facts.proofs.Assigned.{stored_has_copies}
+use Rattle.memory_map.specs.Spots.{Places, places_of}
+use Rattle.memory_map.specs.Spots as spots
 
 -- what the places have: declared scalars and arrays, and copies of the arrays that are written
 record Have (shared : List SharedDeclaration) (p : Places) (written : ℕ → Bool) : Type 0 where

@@ -1,40 +1,20 @@
 -- The words of the variables fill their region.
 use Rattle.std.proofs.Common.{◌≡◌, ℕ, suc, ◌+◌, ◌*◌, ◌%◌, ◌/◌, ◌-◌, ◌<◌, ◌≤◌, ◌⊎◌, inl, inr, Bool, List, [], ◌∷◌, length, map, sym, ◌∙◌, subst, arith, Some, refl}
 use Rattle.std.specs.Prelude.{slice_get}
-use Rattle.std.specs.List.{flat_map}
 use Rattle.std.proofs.lemmas.Bool.{cases_lt}
-use Rattle.std.proofs.lemmas.List.Concat.{flat_map_single}
 use Rattle.task_ast.specs.declared.Extent.{Extent}
 use Rattle.task_ast.specs.declared.Extent.TheVariants as extent
 use Rattle.task_ast.specs.declared.SharedDeclaration.{SharedDeclaration}
 use Rattle.cost_bound.specs.Allowance.{shared_sum_from, is_written}
-use Rattle.privatise.specs.declared.place.Region.{Region}
-use Rattle.privatise.specs.declared.place.VariablePlace.{VariablePlace}
-use Rattle.privatise.specs.declared.place.VariablePlace.TheVariants.{Scalar, Array}
-use Rattle.privatise.specs.LayoutValue.{LayoutValue}
-use Rattle.privatise.specs.Places.{end_of, AreInOrder, home_region, IsLaidOut}
+use Rattle.memory_map.specs.declared.place.Region.{Region}
+use Rattle.memory_map.specs.declared.place.VariablePlace.{VariablePlace}
+use Rattle.memory_map.specs.declared.place.VariablePlace.TheVariants.{Scalar, Array}
+use Rattle.memory_map.specs.Places.{end_of, AreInOrder, home_region}
+use Rattle.memory_map.proofs.Parts.{even_of}
+use Rattle.memory_map.proofs.Homes.{home_between, one_home}
 use Rattle.privatise.specs.Sizes.{home_part}
 use Rattle.privatise.specs.Layouts.{IsPlaceOf}
-use Rattle.layout_facts.specs.Facts.{IsWordOf}
 use Rattle.layout_facts.specs.Laws.{SharedWordsAreOfVariables, WordsOfVariablesAreShared, EachIsOneWord}
-use Rattle.layout_facts.proofs.Regions.{IsIn, IsSingle, IsBetween, within, one_word, alone, alone_is}
-
--- a variable's words as a list of one region
-abbrev pub homes_of : VariablePlace → List Region
-homes_of v = home_region v ∷ []
-
-pub homes_single : IsSingle homes_of
-homes_single x r q c d = sym (alone_is (home_region x) r c) ∙ alone_is (home_region x) q d
-
-pub homes_in_order : (l : LayoutValue) → IsLaidOut l → AreInOrder l.homes.address (flat_map homes_of l.variables) (end_of l.homes)
-homes_in_order l h = subst (λ rs. AreInOrder l.homes.address rs (end_of l.homes)) (sym (flat_map_single home_region l.variables)) h.homes
-
-pub in_homes : (l : LayoutValue) (v i a : ℕ) → IsWordOf l v i a → IsIn homes_of l.variables v i a
-in_homes l v i a w =
-    record { place = w.place; region = home_region w.place; at = w.at; contains = alone (home_region w.place); below = w.below; address = w.address }
-
-pub home_between : (l : LayoutValue) → IsLaidOut l → (v i a : ℕ) → IsWordOf l v i a → IsBetween l.homes.address a (end_of l.homes)
-home_between l h v i a w = within homes_of l.homes.address l.variables (end_of l.homes) v i a (homes_in_order l h) (in_homes l v i a w)
 
 pub words_of_variables_are_shared : WordsOfVariablesAreShared
 words_of_variables_are_shared p allow plans l h v i a w =
@@ -43,9 +23,7 @@ words_of_variables_are_shared p allow plans l h v i a w =
     record { even = b.even; from = b.from; below = omega (arith, end) }
 
 pub each_is_one_word : EachIsOneWord
-each_is_one_word p allow plans l h v w i j a s t =
-    one_word homes_of l.homes.address l.variables (end_of l.homes) v w i j a homes_single (homes_in_order l h.layout.rules) (in_homes l v i a s)
-    (in_homes l w j a t)
+each_is_one_word p allow plans l h v w i j a s t = one_home l h.layout.rules v i w j a s t
 
 -- ---- no gaps
 
@@ -116,5 +94,5 @@ shared_words_are_of_variables p allow plans l h a s =
     let sum = sum_is (is_written p.tasks) 0 p.shared l.variables h.layout.variables.count h.layout.variables.each in
     let words = h.layout.homes in
     let room : end_of l.homes ≤ l.homes.address + 2 * place_words l.variables = omega (arith, sum, words) in
-    let w = found l.homes.address l.variables (end_of l.homes) a h.layout.rules.homes room h.layout.rules.even.homes s.even s.from s.below in
+    let w = found l.homes.address l.variables (end_of l.homes) a h.layout.rules.homes room (even_of l h.layout.rules).homes s.even s.from s.below in
     (w.number, w.index, record { place = w.place; at = w.at; below = w.below; address = w.address })

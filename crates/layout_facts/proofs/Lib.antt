@@ -1,10 +1,8 @@
 pub mod Lists
-pub mod Regions
 pub mod Homes
 pub mod Views
 pub mod Chains
 pub mod Privates
-pub mod TaskPlaces
 pub mod Spots
 pub mod Room
 pub mod Planned

@@ -10,17 +10,17 @@ use Rattle.cost_bound.specs.Counts.{stores_of}
 use Rattle.cost_bound.specs.Allowance.{CheckedProgram, list_part}
 use Rattle.war_analysis.specs.PlanValue.{TaskPlanValue}
 use Rattle.war_analysis.specs.Plans.{is_scalar}
-use Rattle.privatise.specs.declared.place.VariablePlace.TheVariants.{Scalar, Array}
-use Rattle.privatise.specs.LayoutValue.{LayoutValue, TaskLayoutValue}
-use Rattle.lower.specs.Places.{places_of}
-use Rattle.lower.specs.Spots.{Element, IsCopied, AreListed, listed_of}
+use Rattle.memory_map.specs.declared.place.VariablePlace.TheVariants.{Scalar, Array}
+use Rattle.memory_map.specs.MemoryMap.{MemoryMap, TaskPlace}
+use Rattle.memory_map.specs.Spots.{places_of, Element, IsCopied}
+use Rattle.lower.specs.Spots.{AreListed, listed_of}
 use Rattle.layout_facts.specs.Facts.{HasLayout}
 use Rattle.layout_facts.specs.Laws.{ListsHaveRoom}
 use Rattle.layout_facts.proofs.Planned.{array_has_place, scalar_has_place, scalar_at}
 use Rattle.layout_facts.proofs.Room.{all_counted, sum_at_most, part_at_most, listed_none, listed_most}
 use Rattle.layout_facts.proofs.Assigned.{task_matches}
 
-module _ (p : CheckedProgram) (allow : Allow) (plans : List TaskPlanValue) (l : LayoutValue) (h : HasLayout p allow plans l) (layout : TaskLayoutValue) where
+module _ (p : CheckedProgram) (allow : Allow) (plans : List TaskPlanValue) (l : MemoryMap) (h : HasLayout p allow plans l) (layout : TaskPlace) where
   within : (x : Element) → IsCopied (places_of l layout) x → x.array < length p.shared
   within x m = let lt = slice_get_within l.variables x.array _ m.is_array.place in let count = h.layout.variables.count in omega (arith, lt, count)
 

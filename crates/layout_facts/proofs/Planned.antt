@@ -10,13 +10,13 @@ use Rattle.cost_bound.specs.Allowance.{CheckedProgram, is_written}
 use Rattle.war_analysis.specs.PlanValue.{TaskPlanValue}
 use Rattle.war_analysis.specs.Plans.{is_scalar, IsScalarAt, IsArrayAt}
 use Rattle.war_analysis.proofs.Steps.{element}
-use Rattle.privatise.specs.declared.place.ArrayCopies.{ArrayCopies}
-use Rattle.privatise.specs.declared.place.VariablePlace.{VariablePlace}
-use Rattle.privatise.specs.declared.place.VariablePlace.TheVariants.{Scalar, Array}
-use Rattle.privatise.specs.LayoutValue.{LayoutValue}
 use Rattle.privatise.specs.Layouts.{IsPlaceOf}
 use Rattle.layout_facts.specs.Facts.{HasLayout}
 use Rattle.layout_facts.specs.Laws.{PlacesAreDeclared, PlacesMatch}
+use Rattle.memory_map.specs.declared.place.ArrayCopies.{ArrayCopies}
+use Rattle.memory_map.specs.declared.place.VariablePlace.{VariablePlace}
+use Rattle.memory_map.specs.declared.place.VariablePlace.TheVariants.{Scalar, Array}
+use Rattle.memory_map.specs.MemoryMap.{MemoryMap}
 
 -- ---- declarations
 
@@ -77,7 +77,7 @@ extent_array : (written : Bool) (e : Extent) (elements n : ℕ) (copies : Option
 extent_array written (extent.Scalar w) elements n copies k = absurd k
 extent_array written (extent.Array m) elements n copies k = (ap (λ y. extent.Array y) (sym k.0), k.1)
 
-module _ (p : CheckedProgram) (allow : Allow) (plans : List TaskPlanValue) (l : LayoutValue) (h : HasLayout p allow plans l) where
+module _ (p : CheckedProgram) (allow : Allow) (plans : List TaskPlanValue) (l : MemoryMap) (h : HasLayout p allow plans l) where
   -- a declaration's place
   pub its_place : (v : ℕ) (d : SharedDeclaration) → slice_get p.shared v ≡ Some d
       → (x : VariablePlace) × (slice_get l.variables v ≡ Some x) × IsPlaceOf (is_written p.tasks v) d.extent x

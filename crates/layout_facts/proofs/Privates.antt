@@ -10,43 +10,34 @@ use Rattle.cost_bound.specs.Allowance.{CheckedProgram, CheckedTask}
 use Rattle.war_analysis.specs.PlanValue.{TaskPlanValue}
 use Rattle.war_analysis.specs.Plans.{IsTaskPlan}
 use Rattle.war_analysis.proofs.Steps.{element}
-use Rattle.privatise.specs.declared.place.Region.{Region}
-use Rattle.privatise.specs.declared.place.VariablePlace.TheVariants.{Scalar}
-use Rattle.privatise.specs.declared.place.PrivateScalar.{PrivateScalar}
-use Rattle.privatise.specs.LayoutValue.{LayoutValue, TaskLayoutValue}
-use Rattle.privatise.specs.Places.{end_of, HasItsPlace, copy_regions, IsLaidOut}
 use Rattle.runtime_effects.specs.Places.{CopyPair}
 use Rattle.runtime_code.specs.LayoutPlaces.{pair_of}
 use Rattle.boot_runtime.specs.Entries.{entry_of, task_entries}
 use Rattle.boot_runtime.specs.Listing.{TaskEntry, privates_in}
 use Rattle.stands_for.specs.Layout.{IsSharedWord, IsCopyWord, IsAmong, ArePrivate}
 use Rattle.compiled_model.specs.Places.{program_places}
-use Rattle.layout_facts.specs.Facts.{HasLayout, IsTaskAt, IsWordOf}
+use Rattle.layout_facts.specs.Facts.{HasLayout, IsTaskAt}
 use Rattle.layout_facts.specs.Laws.{PrivatesAreTheirs, ScalarsStand}
-use Rattle.layout_facts.proofs.Regions.{IsIn, within, before, alone}
 use Rattle.layout_facts.proofs.Homes.{words_of_variables_are_shared}
+use Rattle.memory_map.specs.declared.place.PrivateScalar.{PrivateScalar}
+use Rattle.memory_map.specs.MemoryMap.{MemoryMap, TaskPlace}
+use Rattle.memory_map.specs.Places.{end_of, HasItsPlace, copy_regions, IsLaidOut}
+use Rattle.memory_map.specs.Spots.{IsWordOf}
+use Rattle.memory_map.proofs.InRegions.{IsIn, within, before}
+use Rattle.memory_map.proofs.Addresses.{scalar_copy, scalar_home}
 
 -- ---- a scalar and its copy
 
--- the copy of a scalar among all copies
-pub copy_in : (l : LayoutValue) (v home copy : ℕ) → slice_get l.variables v ≡ Some (Scalar home copy) → IsIn copy_regions l.variables v 0 copy
-copy_in l v home copy e =
-    let r : Region = record { address = copy; words = 1 } in
-    record { place = Scalar home copy; region = r; at = e; contains = alone r; below = omega arith; address = omega arith }
-
-pub copy_is : (p : CheckedProgram) (l : LayoutValue) → IsLaidOut l → (v i a : ℕ) → IsIn copy_regions l.variables v i a → IsCopyWord (program_places p l) a
+pub copy_is : (p : CheckedProgram) (l : MemoryMap) → IsLaidOut l → (v i a : ℕ) → IsIn copy_regions l.variables v i a → IsCopyWord (program_places p l) a
 copy_is p l h v i a c =
     let b = within copy_regions l.copies.address l.variables (end_of l.copies) v i a h.copies c in
     let end = b.end in
     record { even = b.even; from = b.from; below = omega (arith, end) }
 
-pub home_of_scalar : (l : LayoutValue) (v home copy : ℕ) → slice_get l.variables v ≡ Some (Scalar home copy) → IsWordOf l v 0 home
-home_of_scalar l v home copy e = record { place = Scalar home copy; at = e; below = omega arith; address = omega arith }
-
 pub scalars_stand : ScalarsStand
 scalars_stand p allow plans l h v home copy e = record {
-  is_word = home_of_scalar l v home copy e;
-  is_copy = copy_is p l h.layout.rules v 0 copy (copy_in l v home copy e);
+  is_word = scalar_home l v home copy e;
+  is_copy = copy_is p l h.layout.rules v 0 copy (scalar_copy l v home copy e);
 }
 
 -- ---- the private scalars of a task
@@ -75,20 +66,20 @@ scalar_of [] q a = absurd a
 scalar_of (s ∷ xs) q (inl e) = (0, s, refl, e)
 scalar_of (s ∷ xs) q (inr a) = let r = scalar_of xs q a in (suc r.0, r.1, r.2, r.3)
 
-copies_differ : (l : LayoutValue) → IsLaidOut l → (s q : PrivateScalar) → HasItsPlace l.variables s → HasItsPlace l.variables q → s.number < q.number
+copies_differ : (l : MemoryMap) → IsLaidOut l → (s q : PrivateScalar) → HasItsPlace l.variables s → HasItsPlace l.variables q → s.number < q.number
     → s.copy ≡ q.copy → ⊥
 copies_differ l h s q a b lt e =
     before copy_regions l.copies.address l.variables (end_of l.copies) s.number q.number 0 0 q.copy h.copies lt
-    (subst (λ c. IsIn copy_regions l.variables s.number 0 c) e (copy_in l s.number s.home s.copy a.place)) (copy_in l q.number q.home q.copy b.place)
+    (subst (λ c. IsIn copy_regions l.variables s.number 0 c) e (scalar_copy l s.number s.home s.copy a.place)) (scalar_copy l q.number q.home q.copy b.place)
 
-are_private : (p : CheckedProgram) (l : LayoutValue) → IsLaidOut l → ((v i a : ℕ) → IsWordOf l v i a → IsSharedWord (program_places p l) a)
+are_private : (p : CheckedProgram) (l : MemoryMap) → IsLaidOut l → ((v i a : ℕ) → IsWordOf l v i a → IsSharedWord (program_places p l) a)
     → (t : ℕ) (xs : List PrivateScalar)
     → AllPairs ◌<◌ (map (λ s. s.number) xs) → All (HasItsPlace l.variables) xs → ArePrivate (program_places p l) t (map pair_of xs)
 are_private p l h shared t [] ascending places = tt
 are_private p l h shared t (s ∷ xs) ascending places = (
-  shared s.number 0 s.home (home_of_scalar l s.number s.home s.copy here.place),
+  shared s.number 0 s.home (scalar_home l s.number s.home s.copy here.place),
   refl,
-  copy_is p l h s.number 0 s.copy (copy_in l s.number s.home s.copy here.place),
+  copy_is p l h s.number 0 s.copy (scalar_copy l s.number s.home s.copy here.place),
   other,
   are_private p l h shared t xs (others_ascend s xs ascending) behind,
 )
@@ -106,14 +97,14 @@ are_private p l h shared t (s ∷ xs) ascending places = (
         copies_differ l h s r.1 here its (first_below s xs r.0 r.1 ascending r.2) (e ∙ ap (λ (x : CopyPair). x.copy) r.3)
 
 -- what the plan and the layout say of a task's private scalars
-pub record Privates (p : CheckedProgram) (l : LayoutValue) (task : CheckedTask) (layout : TaskLayoutValue) : Type 0 where
+pub record Privates (p : CheckedProgram) (l : MemoryMap) (task : CheckedTask) (layout : TaskPlace) : Type 0 where
   pub plan : TaskPlanValue
   pub is_plan : IsTaskPlan p.shared task.body plan
   pub numbers : map (λ s. s.number) layout.privates ≡ plan.private_scalars
   pub places : All (HasItsPlace l.variables) layout.privates
 
-pub privates_of : (p : CheckedProgram) (allow : Allow) (plans : List TaskPlanValue) (l : LayoutValue) → HasLayout p allow plans l
-    → (t : ℕ) (task : CheckedTask) (layout : TaskLayoutValue) → IsTaskAt p l t task layout → Privates p l task layout
+pub privates_of : (p : CheckedProgram) (allow : Allow) (plans : List TaskPlanValue) (l : MemoryMap) → HasLayout p allow plans l
+    → (t : ℕ) (task : CheckedTask) (layout : TaskPlace) → IsTaskAt p l t task layout → Privates p l task layout
 privates_of p allow plans l h t task layout k =
     let plan = plan_at p plans t task h.plan.count k.is_task in
     let is = get_or_from_slice_get l.tasks t layout layout k.is_layout in
@@ -122,22 +113,22 @@ privates_of p allow plans l h t task layout k =
       is_plan = h.plan.each t task plan.0 k.is_task plan.1;
       numbers = (h.layout.tasks.each t task plan.0 layout k.is_task plan.1 k.is_layout).privates;
       places =
-          subst (λ (x : TaskLayoutValue). All (HasItsPlace l.variables) x.privates) is
+          subst (λ (x : TaskPlace). All (HasItsPlace l.variables) x.privates) is
           (h.layout.rules.privates t layout (slice_get_within l.tasks t layout k.is_layout));
     }
 
-pub ascending_numbers : (p : CheckedProgram) (l : LayoutValue) (task : CheckedTask) (layout : TaskLayoutValue) → Privates p l task layout
+pub ascending_numbers : (p : CheckedProgram) (l : MemoryMap) (task : CheckedTask) (layout : TaskPlace) → Privates p l task layout
     → AllPairs ◌<◌ (map (λ s. s.number) layout.privates)
 ascending_numbers p l task layout k = subst (AllPairs ◌<◌) (sym k.numbers) k.is_plan.private_scalars.ascending
 
 -- the entry of a number, and that there is none beyond
-entry_is : (l : LayoutValue) (t : ℕ) (layout : TaskLayoutValue) → slice_get l.tasks t ≡ Some layout
+entry_is : (l : MemoryMap) (t : ℕ) (layout : TaskPlace) → slice_get l.tasks t ≡ Some layout
     → privates_in (task_entries l) t ≡ map pair_of layout.privates
 entry_is l t layout e =
     let at : slice_get (task_entries l) t ≡ Some (entry_of layout) = slice_get-map entry_of l.tasks t ∙ ap (option_map entry_of) e in
     ap (λ (x : TaskEntry). x.privates) (get_or_from_slice_get (task_entries l) t (entry_of layout) (record { privates = []; code = 0 }) at)
 
-entry_beyond : (ts : List TaskLayoutValue) (t : ℕ) → length ts ≤ t → privates_in (map entry_of ts) t ≡ []
+entry_beyond : (ts : List TaskPlace) (t : ℕ) → length ts ≤ t → privates_in (map entry_of ts) t ≡ []
 entry_beyond [] t h = refl
 entry_beyond (x ∷ ts) zero h = absurd (omega arith)
 entry_beyond (x ∷ ts) (suc t) h = entry_beyond ts t (omega arith)

@@ -7,7 +7,8 @@ use Rattle.task_ast.specs.declared.Extent.{Extent}
 use Rattle.task_ast.specs.declared.Extent.TheVariants.{Scalar, Array}
 use Rattle.task_ast.specs.declared.SharedDeclaration.{SharedDeclaration}
 use Rattle.cost_bound.specs.Allowance.{shared_sum_from, list_part}
-use Rattle.lower.specs.Spots.{Element, listed_of, AreDifferent}
+use Rattle.memory_map.specs.Spots.{Element}
+use Rattle.lower.specs.Spots.{listed_of, AreDifferent}
 
 -- 1 where a test holds
 abbrev bit : Bool → ℕ

@@ -1,226 +1,47 @@
--- The words that a task works on stand apart.
-use Rattle.std.proofs.Common.{◌≡◌, ℕ, ◌+◌, ◌-◌, ◌*◌, ◌/◌, ◌%◌, ◌<◌, ◌≤◌, inl, inr, arith, ap, subst, sym, ◌∙◌, Some, refl}
-use Rattle.std.specs.Prelude.{Option, slice_get, All}
+-- The words that a task works on stand apart, behind what it lists and emits.
+use Rattle.std.proofs.Common.{◌≡◌, ℕ, ◌+◌, ◌-◌, ◌*◌, ◌/◌, ◌%◌, ◌<◌, ◌≤◌, arith}
 use Rattle.cost_bound.specs.Counts.{emits_of}
 use Rattle.cost_bound.specs.Allowance.{list_of}
-use Rattle.privatise.specs.declared.place.ArrayCopies.{ArrayCopies}
-use Rattle.privatise.specs.declared.place.VariablePlace.TheVariants.{Scalar, Array}
-use Rattle.privatise.specs.LayoutValue.{LayoutValue, TaskLayoutValue}
-use Rattle.privatise.specs.Places.{end_of, HasItsPlace, copy_regions, version_regions, IsLaidOut}
-use Rattle.lower.specs.Places.{places_of}
-use Rattle.lower.specs.Spots.{Element, IsElement, IsCopied, IsScalarAt, IsArrayAt, Spot, scalar, element, copy, version, IsSpot, spot_address}
-use Rattle.layout_facts.specs.Facts.{IsWordOf}
+use Rattle.memory_map.proofs.Parts.{apart_of, even_of, parts_in_fram}
+use Rattle.memory_map.proofs.Addresses.{element_is, copy_is, version_is}
+use Rattle.memory_map.proofs.Spots.{version_between, spots_are_apart}
 use Rattle.layout_facts.specs.Laws.{TaskPlacesAreApart, TaskPlacesAreEven, ElementsStand}
-use Rattle.layout_facts.proofs.Regions.{IsIn, IsBetween, within, one_word}
-use Rattle.layout_facts.proofs.Homes.{homes_of, homes_single, homes_in_order, home_between, in_homes}
 use Rattle.layout_facts.proofs.Chains.{at_most_greatest}
-use Rattle.layout_facts.proofs.Privates.{Privates, privates_of}
+use Rattle.layout_facts.proofs.Privates.{privates_of}
 use Rattle.layout_facts.proofs.Privates as privates
-use Rattle.layout_facts.proofs.TaskPlaces.{copies_single, versions_single, element_is, copy_is, version_is, scalar_word, scalar_place, IsScalarWord}
-
--- ---- spots
-
--- where a spot stands: among the words, the copies or the versions
-pub data Stands (l : LayoutValue) (v i a : ℕ) : Type 0 where
-  at_home : IsWordOf l v i a → Stands l v i a
-  at_copy : IsIn copy_regions l.variables v i a → Stands l v i a
-  at_version : IsIn version_regions l.variables v i a → Stands l v i a
-
-abbrev pub number_of : Spot → ℕ
-number_of (scalar v) = v
-number_of (element x) = x.array
-number_of (copy x) = x.array
-number_of (version x) = x.array
-
-abbrev pub index_of : Spot → ℕ
-index_of (scalar v) = 0
-index_of (element x) = x.index
-index_of (copy x) = x.index
-index_of (version x) = x.index
-
-module _ (l : LayoutValue) (h : IsLaidOut l) where
-  copy_between : (v i a : ℕ) → IsIn copy_regions l.variables v i a → IsBetween l.copies.address a (end_of l.copies)
-  copy_between v i a c = within copy_regions l.copies.address l.variables (end_of l.copies) v i a h.copies c
-
-  version_between : (v i a : ℕ) → IsIn version_regions l.variables v i a → IsBetween l.versions.address a (l.versions.address + 2 * l.versions.capacity)
-  version_between v i a c = within version_regions l.versions.address l.variables (l.versions.address + 2 * l.versions.capacity) v i a h.versions c
-
-  -- the regions of the three kinds, one behind another
-  record Chain : Type 0 where
-    versions : l.versions.address + 2 * l.versions.capacity ≤ l.homes.address
-    homes : end_of l.homes ≤ l.copies.address
-    high : end_of l.copies ≤ 65534
-
-  chain : Chain
-  chain =
-      let boot = h.apart.boot in let commit = h.apart.commit in let code = h.apart.code in let high = h.apart.high in
-      record { versions = h.apart.homes; homes = h.apart.copies; high = omega (arith, boot, commit, code, high) }
-
-  -- all that stand are between the versions and the end of the copies
-  pub between : (v i a : ℕ) → Stands l v i a → IsBetween l.versions.address a 65534
-  between v i a (at_home w) =
-      let b = home_between l h v i a w in
-      let x = b.from in let y = b.end in let r = chain.versions in let s = chain.homes in let t = chain.high in
-      record { from = omega (arith, x, r); even = b.even; end = omega (arith, y, s, t) }
-  between v i a (at_copy c) =
-      let b = copy_between v i a c in
-      let x = b.from in let y = b.end in let r = chain.versions in let s = chain.homes in let t = chain.high in
-      record { from = omega (arith, x, r, s); even = b.even; end = omega (arith, y, t) }
-  between v i a (at_version c) =
-      let b = version_between v i a c in
-      let x = b.from in let y = b.end in let r = chain.versions in let s = chain.homes in let t = chain.high in
-      record { from = x; even = b.even; end = omega (arith, y, r, s, t) }
-
-  home_not_copy : (v i w j a : ℕ) → IsWordOf l v i a → IsIn copy_regions l.variables w j a → ⊥
-  home_not_copy v i w j a s c = let x = (home_between l h v i a s).end in let y = (copy_between w j a c).from in let r = chain.homes in omega (arith, x, y, r)
-
-  version_not_home : (v i w j a : ℕ) → IsIn version_regions l.variables v i a → IsWordOf l w j a → ⊥
-  version_not_home v i w j a c s =
-      let x = (version_between v i a c).end in
-      let y = (home_between l h w j a s).from in
-      let r = chain.versions in
-      omega (arith, x, y, r)
-
-  version_not_copy : (v i w j a : ℕ) → IsIn version_regions l.variables v i a → IsIn copy_regions l.variables w j a → ⊥
-  version_not_copy v i w j a c d =
-      let x = (version_between v i a c).end in let y = (copy_between w j a d).from in let r = chain.versions in let s = chain.homes in
-      omega (arith, x, y, r, s)
-
-  one_home : (v i w j a : ℕ) → IsWordOf l v i a → IsWordOf l w j a → (v ≡ w) × (i ≡ j)
-  one_home v i w j a s t =
-      one_word homes_of l.homes.address l.variables (end_of l.homes) v w i j a homes_single (homes_in_order l h) (in_homes l v i a s) (in_homes l w j a t)
-
-  one_copy : (v i w j a : ℕ) → IsIn copy_regions l.variables v i a → IsIn copy_regions l.variables w j a → (v ≡ w) × (i ≡ j)
-  one_copy v i w j a s t = one_word copy_regions l.copies.address l.variables (end_of l.copies) v w i j a copies_single h.copies s t
-
-  one_version : (v i w j a : ℕ) → IsIn version_regions l.variables v i a → IsIn version_regions l.variables w j a → (v ≡ w) × (i ≡ j)
-  one_version v i w j a s t =
-      one_word version_regions l.versions.address l.variables (l.versions.address + 2 * l.versions.capacity) v w i j a versions_single h.versions s t
-
-  module _ (layout : TaskLayoutValue) (places : All (HasItsPlace l.variables) layout.privates) where
-    pub stands : (s : Spot) → IsSpot (places_of l layout) s → Stands l (number_of s) (index_of s) (spot_address (places_of l layout) s)
-    stands (scalar v) k = by (scalar_word l layout v places k)
-      where
-        by : IsScalarWord l v (spot_address (places_of l layout) (scalar v)) → Stands l v 0 (spot_address (places_of l layout) (scalar v))
-        by (inl w) = at_home w
-        by (inr c) = at_copy c
-    stands (element x) k = at_home (element_is l layout x k)
-    stands (copy x) k = at_copy (copy_is l layout x k)
-    stands (version x) k = at_version (version_is l layout x k)
-
-    -- a scalar is no array
-    no_scalar : (v w elements length : ℕ) (copies : Option ArrayCopies) → IsScalarAt (places_of l layout) v
-        → IsArrayAt (places_of l layout) w elements length copies → v ≡ w → ⊥
-    no_scalar v w elements length copies k m e =
-        let place = scalar_place (slice_get l.variables v) k in
-        let both : Some (Scalar place.0 place.1) ≡ Some (Array elements length copies) = sym place.2 ∙ ap (slice_get l.variables) e ∙ m.place in
-        cc
-
-    -- a scalar and an element stand apart, a scalar and a copy, a scalar and a version word
-    scalar_element : (v : ℕ) (x : Element) (a : ℕ) → IsScalarAt (places_of l layout) v → IsElement (places_of l layout) x → IsScalarWord l v a
-        → IsWordOf l x.array x.index a → ⊥
-    scalar_element v x a k m (inl w) s = no_scalar v x.array m.elements m.length m.copies k m.is_array (one_home v 0 x.array x.index a w s).0
-    scalar_element v x a k m (inr c) s = home_not_copy x.array x.index v 0 a s c
-
-    scalar_copy : (v : ℕ) (x : Element) (a : ℕ) → IsScalarAt (places_of l layout) v → IsCopied (places_of l layout) x → IsScalarWord l v a
-        → IsIn copy_regions l.variables x.array x.index a → ⊥
-    scalar_copy v x a k m (inl w) s = home_not_copy v 0 x.array x.index a w s
-    scalar_copy v x a k m (inr c) s = no_scalar v x.array m.elements m.length (Some m.copies) k m.is_array (one_copy v 0 x.array x.index a c s).0
-
-    scalar_version : (v : ℕ) (x : Element) (a : ℕ) → IsScalarWord l v a → IsIn version_regions l.variables x.array x.index a → ⊥
-    scalar_version v x a (inl w) s = version_not_home x.array x.index v 0 a s w
-    scalar_version v x a (inr c) s = version_not_copy x.array x.index v 0 a s c
-
-    scalar_scalar : (v w a : ℕ) → IsScalarWord l v a → IsScalarWord l w a → v ≡ w
-    scalar_scalar v w a (inl s) (inl t) = (one_home v 0 w 0 a s t).0
-    scalar_scalar v w a (inl s) (inr t) = absurd (home_not_copy v 0 w 0 a s t)
-    scalar_scalar v w a (inr s) (inl t) = absurd (home_not_copy w 0 v 0 a t s)
-    scalar_scalar v w a (inr s) (inr t) = (one_copy v 0 w 0 a s t).0
-
-    word_of : (v : ℕ) (b : ℕ) → IsScalarAt (places_of l layout) v → spot_address (places_of l layout) (scalar v) ≡ b → IsScalarWord l v b
-    word_of v b k e = subst (IsScalarWord l v) e (scalar_word l layout v places k)
-
-    home_at : (x : Element) (b : ℕ) → IsElement (places_of l layout) x → spot_address (places_of l layout) (element x) ≡ b → IsWordOf l x.array x.index b
-    home_at x b k e = subst (IsWordOf l x.array x.index) e (element_is l layout x k)
-
-    copy_at : (x : Element) (b : ℕ) → IsCopied (places_of l layout) x → spot_address (places_of l layout) (copy x) ≡ b
-        → IsIn copy_regions l.variables x.array x.index b
-    copy_at x b k e = subst (IsIn copy_regions l.variables x.array x.index) e (copy_is l layout x k)
-
-    version_at : (x : Element) (b : ℕ) → IsCopied (places_of l layout) x → spot_address (places_of l layout) (version x) ≡ b
-        → IsIn version_regions l.variables x.array x.index b
-    version_at x b k e = subst (IsIn version_regions l.variables x.array x.index) e (version_is l layout x k)
-
-    same_element : (x y : Element) → (x.array ≡ y.array) × (x.index ≡ y.index) → x ≡ y
-    same_element x y e = λ j. record { array = e.0 j; index = e.1 j }
-
-    pub distinct : (s t : Spot) → IsSpot (places_of l layout) s → IsSpot (places_of l layout) t
-        → spot_address (places_of l layout) s ≡ spot_address (places_of l layout) t → s ≡ t
-    distinct (scalar v) (scalar w) k m e = ap scalar (scalar_scalar v w _ (word_of v _ k e) (word_of w _ m refl))
-    distinct (scalar v) (element x) k m e = absurd (scalar_element v x _ k m (word_of v _ k e) (home_at x _ m refl))
-    distinct (scalar v) (copy x) k m e = absurd (scalar_copy v x _ k m (word_of v _ k e) (copy_at x _ m refl))
-    distinct (scalar v) (version x) k m e = absurd (scalar_version v x _ (word_of v _ k e) (version_at x _ m refl))
-    distinct (element x) (scalar w) k m e = absurd (scalar_element w x _ m k (word_of w _ m refl) (home_at x _ k e))
-    distinct (element x) (element y) k m e = ap element (same_element x y (one_home x.array x.index y.array y.index _ (home_at x _ k e) (home_at y _ m refl)))
-    distinct (element x) (copy y) k m e = absurd (home_not_copy x.array x.index y.array y.index _ (home_at x _ k e) (copy_at y _ m refl))
-    distinct (element x) (version y) k m e = absurd (version_not_home y.array y.index x.array x.index _ (version_at y _ m refl) (home_at x _ k e))
-    distinct (copy x) (scalar w) k m e = absurd (scalar_copy w x _ m k (word_of w _ m refl) (copy_at x _ k e))
-    distinct (copy x) (element y) k m e = absurd (home_not_copy y.array y.index x.array x.index _ (home_at y _ m refl) (copy_at x _ k e))
-    distinct (copy x) (copy y) k m e = ap copy (same_element x y (one_copy x.array x.index y.array y.index _ (copy_at x _ k e) (copy_at y _ m refl)))
-    distinct (copy x) (version y) k m e = absurd (version_not_copy y.array y.index x.array x.index _ (version_at y _ m refl) (copy_at x _ k e))
-    distinct (version x) (scalar w) k m e = absurd (scalar_version w x _ (word_of w _ m refl) (version_at x _ k e))
-    distinct (version x) (element y) k m e = absurd (version_not_home x.array x.index y.array y.index _ (version_at x _ k e) (home_at y _ m refl))
-    distinct (version x) (copy y) k m e = absurd (version_not_copy x.array x.index y.array y.index _ (version_at x _ k e) (copy_at y _ m refl))
-    distinct (version x) (version y) k m e =
-        ap version (same_element x y (one_version x.array x.index y.array y.index _ (version_at x _ k e) (version_at y _ m refl)))
 
 pub task_places_are_apart : TaskPlacesAreApart
 task_places_are_apart p allow plans l h t task layout k =
     let mine = privates_of p allow plans l h t task layout k in
-    let a = h.layout.rules.apart in
-    let current = a.current_task in let next = a.next_task in
+    let stand = spots_are_apart l layout h.layout.rules mine.places in
+    let a = apart_of l h.layout.rules in
     let emits = a.emits in let versions = a.versions in
     let most_list = at_most_greatest (list_of p.shared) p.tasks t task k.is_task in
     let most_emits = at_most_greatest emits_of p.tasks t task k.is_task in
     let list_is = h.layout.list in let list_allowed = h.allowed.list in
     let emits_is = h.layout.emits in let emits_allowed = h.allowed.emits in
     let behind : l.emits.address + 2 * emits_of task.body ≤ l.versions.address = omega (arith, most_emits, emits_is, emits_allowed, versions) in
-    let low : l.versions.address + 2 * l.versions.capacity ≤ 65534 = low_versions in
+    let low = (parts_in_fram l h.layout.rules).versions.end in
     record {
-      next_task = omega (arith, current, next);
-      gate = a.gate;
-      list_length = a.list_length;
-      emit_count = a.emit_count;
-      base = a.base;
-      sent_base = a.sent_base;
-      version = a.version;
+      row = a.row;
       list = a.list;
       emits = omega (arith, most_list, list_is, list_allowed, emits);
       high = omega (arith, behind, low);
-      spots = λ s m. let b = (between l h.layout.rules _ _ _ (stands l h.layout.rules layout mine.places s m)).from in omega (arith, b, behind);
-      below = λ s m. let b = (between l h.layout.rules _ _ _ (stands l h.layout.rules layout mine.places s m)).end in omega (arith, b);
-      distinct = distinct l h.layout.rules layout mine.places;
+      spots = λ s m. let b = (stand.each s m).from in omega (arith, b, behind);
+      below = λ s m. let b = (stand.each s m).end in omega (arith, b);
+      distinct = stand.distinct;
     }
-  where
-    low_versions : l.versions.address + 2 * l.versions.capacity ≤ 65534
-    low_versions = let c = chain l h.layout.rules in let r = c.versions in let s = c.homes in let u = c.high in omega (arith, r, s, u)
 
 pub task_places_are_even : TaskPlacesAreEven
 task_places_are_even p allow plans l h t task layout k =
     let mine = privates_of p allow plans l h t task layout k in
-    let e = h.layout.rules.even in
+    let e = even_of l h.layout.rules in
     record {
-      next_task = e.next_task;
-      gate = e.gate;
-      list_length = e.list_length;
-      emit_count = e.emit_count;
-      base = e.base;
-      sent_base = e.sent_base;
-      version = e.version;
+      row = e.row;
       list = e.list;
       emits = e.emits;
       commit = e.commit;
-      spots = λ s m. (between l h.layout.rules _ _ _ (stands l h.layout.rules layout mine.places s m)).even;
+      spots = λ s m. ((spots_are_apart l layout h.layout.rules mine.places).each s m).even;
     }
 
 -- a word of a list, by its number
@@ -233,5 +54,5 @@ elements_stand p allow plans l h layout = record {
   copy = λ x m. privates.copy_is p l h.layout.rules x.array x.index _ (copy_is l layout x m);
   version = λ x m.
       let b = version_between l h.layout.rules x.array x.index _ (version_is l layout x m) in
-      counted l.versions.address _ l.versions.capacity h.layout.rules.even.versions b.even b.from b.end;
+      counted l.versions.address _ l.versions.words (even_of l h.layout.rules).versions b.even b.from b.end;
 }

@@ -10,13 +10,13 @@ use Rattle.task_ast.specs.declared.SharedDeclaration.{SharedDeclaration}
 use Rattle.cost_bound.specs.Allowance.{is_written}
 use Rattle.war_analysis.proofs.Steps.{element}
 use Rattle.source_values.specs.Runs.{initial_words}
-use Rattle.privatise.specs.declared.place.Region.{Region}
-use Rattle.privatise.specs.declared.place.VariablePlace.{VariablePlace}
-use Rattle.privatise.specs.declared.place.VariablePlace.TheVariants.{Scalar, Array}
-use Rattle.privatise.specs.Places.{end_of, AreInOrder, home_region}
+use Rattle.memory_map.specs.declared.place.Region.{Region}
+use Rattle.memory_map.specs.declared.place.VariablePlace.{VariablePlace}
+use Rattle.memory_map.specs.declared.place.VariablePlace.TheVariants.{Scalar, Array}
+use Rattle.memory_map.specs.Places.{end_of, AreInOrder, home_region}
 use Rattle.privatise.specs.Layouts.{IsPlaceOf}
-use Rattle.privatise.proofs.InOrder.{in_order_within}
-use Rattle.privatise.proofs.Apart.{mapped}
+use Rattle.memory_map.proofs.InOrder.{in_order_within}
+use Rattle.memory_map.proofs.Apart.{mapped}
 use Rattle.lower.specs.Agreement.{place_length}
 use Rattle.compiled_model.specs.View.{is_within, word_of_row, shared_word, are_rows}
 use Rattle.layout_facts.specs.Laws.{ViewHasTheirWords, RowsFitPlaces}

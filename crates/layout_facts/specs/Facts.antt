@@ -5,30 +5,21 @@ use Rattle.cost_bound.specs.Counts.{emits_of}
 use Rattle.cost_bound.specs.Allowance.{CheckedProgram, CheckedTask, IsAllowed, list_of}
 use Rattle.war_analysis.specs.PlanValue.{TaskPlanValue}
 use Rattle.war_analysis.specs.Plans.{IsPlan}
-use Rattle.privatise.specs.declared.place.VariablePlace.{VariablePlace}
-use Rattle.privatise.specs.LayoutValue.{LayoutValue, TaskLayoutValue}
-use Rattle.privatise.specs.Places.{home_region}
+use Rattle.memory_map.specs.MemoryMap.{MemoryMap, TaskPlace}
 use Rattle.privatise.specs.Layouts.{IsLayout}
 use Rattle.lower.specs.Spots.{Room}
 
 -- a source costs no more than it may, and has this plan and this layout
-pub record HasLayout (p : CheckedProgram) (allow : Allow) (plans : List TaskPlanValue) (l : LayoutValue) : Type 0 where
+pub record HasLayout (p : CheckedProgram) (allow : Allow) (plans : List TaskPlanValue) (l : MemoryMap) : Type 0 where
   pub allowed : IsAllowed p allow
   pub plan : IsPlan p plans
   pub layout : IsLayout p allow plans l
 
 -- a task by its number, with its layout
-pub record IsTaskAt (p : CheckedProgram) (l : LayoutValue) (t : ℕ) (task : CheckedTask) (layout : TaskLayoutValue) : Type 0 where
+pub record IsTaskAt (p : CheckedProgram) (l : MemoryMap) (t : ℕ) (task : CheckedTask) (layout : TaskPlace) : Type 0 where
   pub is_task : slice_get p.tasks t ≡ Some task
   pub is_layout : slice_get l.tasks t ≡ Some layout
 
 -- the room that a task has by its own counts
 abbrev pub task_room : CheckedProgram → CheckedTask → Room
 task_room p task = record { emits = emits_of task.body; list = list_of p.shared task.body }
-
--- word i of variable v stands at an address
-pub record IsWordOf (l : LayoutValue) (v i a : ℕ) : Type 0 where
-  pub place : VariablePlace
-  pub at : slice_get l.variables v ≡ Some place
-  pub below : i < (home_region place).words
-  pub address : a ≡ 2 * i + (home_region place).address

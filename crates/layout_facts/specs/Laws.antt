@@ -8,37 +8,38 @@ use Rattle.cost_bound.specs.Allowance.{CheckedProgram, CheckedTask, is_written, 
 use Rattle.war_analysis.specs.PlanValue.{TaskPlanValue}
 use Rattle.war_analysis.specs.Plans.{IsPrivateIn, IsVersionedIn}
 use Rattle.war_analysis.specs.Plans as plan
-use Rattle.privatise.specs.declared.place.ArrayCopies.{ArrayCopies}
-use Rattle.privatise.specs.declared.place.VariablePlace.{VariablePlace}
-use Rattle.privatise.specs.declared.place.VariablePlace.TheVariants.{Scalar, Array}
-use Rattle.privatise.specs.declared.place.PrivateScalar.{PrivateScalar}
-use Rattle.privatise.specs.LayoutValue.{LayoutValue, TaskLayoutValue}
-use Rattle.privatise.specs.Places.{HasItsPlace}
+use Rattle.memory_map.specs.declared.place.ArrayCopies.{ArrayCopies}
+use Rattle.memory_map.specs.declared.place.VariablePlace.{VariablePlace}
+use Rattle.memory_map.specs.declared.place.VariablePlace.TheVariants.{Scalar, Array}
+use Rattle.memory_map.specs.declared.place.PrivateScalar.{PrivateScalar}
+use Rattle.memory_map.specs.MemoryMap.{MemoryMap, TaskPlace}
+use Rattle.memory_map.specs.Places.{HasItsPlace}
 use Rattle.boot_runtime.specs.Entries.{task_entries}
 use Rattle.boot_runtime.specs.Listing.{privates_in}
-use Rattle.stands_for.specs.Layout.{AreApart, HaveRoom, ArePrivate, IsSharedWord, IsCopyWord}
-use Rattle.lower.specs.Places.{places_of, address_of}
-use Rattle.lower.specs.Spots.{HasRoom, Element, IsElement, IsCopied, IsScalarAt, element_address, copy_address, version_address}
+use Rattle.memory_map.specs.Laws.{AreApart}
+use Rattle.stands_for.specs.Layout.{HaveRoom, ArePrivate, IsSharedWord, IsCopyWord}
+use Rattle.memory_map.specs.Spots.{places_of, address_of, Element, IsElement, IsCopied, IsScalarAt, element_address, copy_address, version_address, IsWordOf}
+use Rattle.lower.specs.Spots.{HasRoom}
 use Rattle.lower.specs.Spots as spots
 use Rattle.lower.specs.Agreement.{place_length, BlockFits}
 use Rattle.checked_uses.specs.Uses.{BlockUses}
 use Rattle.compiled_model.specs.Places.{program_places}
 use Rattle.compiled_model.specs.View.{shared_word, are_rows}
-use Rattle.layout_facts.specs.Facts.{HasLayout, IsTaskAt, IsWordOf, task_room}
+use Rattle.layout_facts.specs.Facts.{HasLayout, IsTaskAt, task_room}
 
 -- what holds of each source and its layout
-abbrev OfLayouts : (CheckedProgram → LayoutValue → Type 0) → Type 0
-OfLayouts F = (p : CheckedProgram) (allow : Allow) (plans : List TaskPlanValue) (l : LayoutValue) → HasLayout p allow plans l → F p l
+abbrev OfLayouts : (CheckedProgram → MemoryMap → Type 0) → Type 0
+OfLayouts F = (p : CheckedProgram) (allow : Allow) (plans : List TaskPlanValue) (l : MemoryMap) → HasLayout p allow plans l → F p l
 
 -- what holds of each of its tasks
-abbrev OfTasks : (CheckedProgram → LayoutValue → CheckedTask → TaskLayoutValue → Type 0) → Type 0
-OfTasks F = OfLayouts (λ p l. (t : ℕ) (task : CheckedTask) (layout : TaskLayoutValue) → IsTaskAt p l t task layout → F p l task layout)
+abbrev OfTasks : (CheckedProgram → MemoryMap → CheckedTask → TaskPlace → Type 0) → Type 0
+OfTasks F = OfLayouts (λ p l. (t : ℕ) (task : CheckedTask) (layout : TaskPlace) → IsTaskAt p l t task layout → F p l task layout)
 
 -- ---- as the crash theorem takes places
 
 -- the places stand apart
 abbrev pub PlacesAreApart : Type 0
-PlacesAreApart = OfLayouts (λ p l. AreApart (program_places p l))
+PlacesAreApart = OfLayouts (λ p l. AreApart l)
 
 -- the buffers have room for each task
 abbrev pub TasksHaveRoom : Type 0
@@ -87,18 +88,18 @@ RowsFitPlaces = OfLayouts (λ p l. (rows : List (List ℕ)) (v : ℕ) (place : V
     → slice_get l.variables v ≡ Some place → (v < length rows) × (length (slice_index_or rows v []) ≡ place_length place))
 
 -- an element's address is that of its word; its copy is a copy, its version word one of those that are counted
-pub record ElementStands (p : CheckedProgram) (l : LayoutValue) (layout : TaskLayoutValue) : Type 0 where
+pub record ElementStands (p : CheckedProgram) (l : MemoryMap) (layout : TaskPlace) : Type 0 where
   pub word : (x : Element) → IsElement (places_of l layout) x → IsWordOf l x.array x.index (element_address (places_of l layout) x)
   pub copy : (x : Element) → IsCopied (places_of l layout) x → IsCopyWord (program_places p l) (copy_address (places_of l layout) x)
   pub version : (x : Element) → IsCopied (places_of l layout) x
-      → (j : ℕ) × (j < l.versions.capacity) × (version_address (places_of l layout) x ≡ l.versions.address + 2 * j)
+      → (j : ℕ) × (j < l.versions.words) × (version_address (places_of l layout) x ≡ l.versions.address + 2 * j)
 
 -- so with each element, whatever the task
 abbrev pub ElementsStand : Type 0
-ElementsStand = OfLayouts (λ p l. (layout : TaskLayoutValue) → ElementStands p l layout)
+ElementsStand = OfLayouts (λ p l. (layout : TaskPlace) → ElementStands p l layout)
 
 -- a scalar's word is a word of the variable, its copy a copy
-pub record ScalarStands (p : CheckedProgram) (l : LayoutValue) (v home copy : ℕ) : Type 0 where
+pub record ScalarStands (p : CheckedProgram) (l : MemoryMap) (v home copy : ℕ) : Type 0 where
   pub is_word : IsWordOf l v 0 home
   pub is_copy : IsCopyWord (program_places p l) copy
 
@@ -109,7 +110,7 @@ ScalarsStand = OfLayouts (λ p l. (v home copy : ℕ) → slice_get l.variables 
 -- ---- declarations and places
 
 -- a place of a variable is of the kind that the source declares, and an array has copies exactly where some task writes it
-pub record PlacesMatch (p : CheckedProgram) (l : LayoutValue) : Type 0 where
+pub record PlacesMatch (p : CheckedProgram) (l : MemoryMap) : Type 0 where
   pub count : length l.variables ≡ length p.shared
   pub scalar : (v : ℕ) → plan.IsScalarAt p.shared v → (home copy : ℕ) × (slice_get l.variables v ≡ Some (Scalar home copy))
   pub is_scalar : (v home copy : ℕ) → slice_get l.variables v ≡ Some (Scalar home copy) → plan.IsScalarAt p.shared v
@@ -124,7 +125,7 @@ abbrev pub PlacesAreDeclared : Type 0
 PlacesAreDeclared = OfLayouts PlacesMatch
 
 -- a task's private scalars are those that it assigns, each once and with its place; it has the copies of the arrays that it stores to
-pub record TaskMatches (p : CheckedProgram) (l : LayoutValue) (task : CheckedTask) (layout : TaskLayoutValue) : Type 0 where
+pub record TaskMatches (p : CheckedProgram) (l : MemoryMap) (task : CheckedTask) (layout : TaskPlace) : Type 0 where
   pub ascending : AllPairs ◌<◌ (map (λ s. s.number) layout.privates)
   pub only : (s : PrivateScalar) → Contains layout.privates s → IsPrivateIn p.shared task.body s.number × HasItsPlace l.variables s
   pub each : (v : ℕ) → IsPrivateIn p.shared task.body v → (s : PrivateScalar) × Contains layout.privates s × (s.number ≡ v)
@@ -137,7 +138,7 @@ abbrev pub TasksMatch : Type 0
 TasksMatch = OfTasks TaskMatches
 
 -- a scalar's address in a task is that of its copy where the task assigns it, else that of its word
-pub record AddressIs (p : CheckedProgram) (l : LayoutValue) (task : CheckedTask) (layout : TaskLayoutValue) : Type 0 where
+pub record AddressIs (p : CheckedProgram) (l : MemoryMap) (task : CheckedTask) (layout : TaskPlace) : Type 0 where
   pub assigned : (v home copy : ℕ) → slice_get l.variables v ≡ Some (Scalar home copy) → block_assigns v task.body ≡ true
       → address_of (places_of l layout) v ≡ copy
   pub left : (v home copy : ℕ) → slice_get l.variables v ≡ Some (Scalar home copy) → block_assigns v task.body ≡ false

@@ -9,9 +9,9 @@ use Rattle.cost_bound.specs.Allowance.{CheckedTask, CheckedProgram, IsAllowed, s
 use Rattle.war_analysis.specs.PlanValue.{TaskPlanValue}
 use Rattle.war_analysis.specs.Plans.{IsPlan}
 use Rattle.war_analysis.specs.Laws.{ScalarsAreCounted}
-use Rattle.privatise.specs.LayoutValue.{LayoutValue, TaskLayoutValue}
+use Rattle.memory_map.specs.MemoryMap.{MemoryMap, TaskPlace}
 use Rattle.privatise.specs.Layouts.{IsLayout}
-use Rattle.lower.specs.Places.{places_of}
+use Rattle.memory_map.specs.Spots.{places_of}
 use Rattle.lower.specs.Lowered.{lowered_tasks, lowered}
 use Rattle.lower.specs.Sizes.{BlocksKeepToWords}
 use Rattle.linked_code.specs.Linked.{CodeFits}
@@ -20,8 +20,8 @@ use Rattle.linked_code.specs.Rooms.{ProgramsKeep, PrivatesAreCounted, LayoutsHav
 no_plan : TaskPlanValue
 no_plan = record { private_scalars = []; versioned_arrays = [] }
 
-keep_all : BlocksKeepToWords → (l : LayoutValue) (shared : List SharedDeclaration) (tasks : List CheckedTask) (ts : List TaskLayoutValue) → length ts ≡ length tasks
-    → ((k : ℕ) (task : CheckedTask) (t : TaskLayoutValue) → slice_get tasks k ≡ Some task → slice_get ts k ≡ Some t → length t.privates ≡ scalars_of shared task.body)
+keep_all : BlocksKeepToWords → (l : MemoryMap) (shared : List SharedDeclaration) (tasks : List CheckedTask) (ts : List TaskPlace) → length ts ≡ length tasks
+    → ((k : ℕ) (task : CheckedTask) (t : TaskPlace) → slice_get tasks k ≡ Some task → slice_get ts k ≡ Some t → length t.privates ≡ scalars_of shared task.body)
     → ProgramsKeep shared tasks (lowered_tasks l tasks ts)
 keep_all keep l shared [] [] n f = tt
 keep_all keep l shared [] (t ∷ ts) n f = absurd (omega (arith, n))
@@ -30,7 +30,8 @@ keep_all keep l shared (task ∷ tasks) (t ∷ ts) n f =
     let few = f 0 task t refl refl in
     (keep (places_of l t) (scalars_of shared task.body) task.body (omega (arith, few)), keep_all keep l shared tasks ts (omega (arith, n)) (λ k u v a b. f (suc k) u v a b))
 
-privates_counted : ((p : CheckedProgram) → ScalarsAreCounted p) → (p : CheckedProgram) (allow : Allow) (plans : List TaskPlanValue) (l : LayoutValue) → IsPlan p plans → IsLayout p allow plans l
+privates_counted : ((p : CheckedProgram) → ScalarsAreCounted p) → (p : CheckedProgram) (allow : Allow) (plans : List TaskPlanValue) (l : MemoryMap)
+    → IsPlan p plans → IsLayout p allow plans l
     → PrivatesAreCounted p l
 privates_counted counted p allow plans l planned laid k task t a b =
     let inside = slice_get_within p.tasks k task a in
@@ -41,7 +42,8 @@ privates_counted counted p allow plans l planned laid k task t a b =
     sym (length-map t.privates (λ s. s.number)) ∙ ap length numbers ∙ counted p task plan (planned.each k task plan a there)
 
 pub code_fits : LayoutsHaveRoom → BlocksKeepToWords → ((p : CheckedProgram) → ScalarsAreCounted p)
-    → (p : CheckedProgram) (allow : Allow) (plans : List TaskPlanValue) (l : LayoutValue) → IsAllowed p allow → IsPlan p plans → IsLayout p allow plans l → CodeFits l (lowered l p)
+    → (p : CheckedProgram) (allow : Allow) (plans : List TaskPlanValue) (l : MemoryMap) → IsAllowed p allow → IsPlan p plans → IsLayout p allow plans l
+    → CodeFits l (lowered l p)
 code_fits rooms keep counted p allow plans l allowed planned laid =
     let are = privates_counted counted p allow plans l planned laid in
     rooms p allow plans l (lowered l p) allowed laid planned.count are (keep_all keep l p.shared p.tasks l.tasks laid.tasks.count are)

@@ -2,13 +2,14 @@
 use Rattle.std.proofs.Common.{◌≡◌, ◌≢◌, ◌∙◌, ◌+◌, ◌*◌, ◌%◌, ◌<◌, ◌≤◌, ◌==◌, ◌&&◌, ℕ, zero, suc, Bool, true, false, cond, if◌then◌else◌, nat_lt, nat_le, List, [], ◌∷◌, map, length, refl, sym, ap, arith, eqb-true, slice_index, slice_set, get_or-set_same, get_or-set_other}
 use Rattle.std.specs.Prelude.{All}
 use Rattle.std.proofs.lemmas.Bool.Decides.{nat_tests}
+use Rattle.address_space.specs.Limits.{fram_first}
 use Rattle.image_text.specs.ImageValue.{place_of}
 use Rattle.fram_board.specs.Bus.{is_fram}
 use Rattle.machine_effects.specs.Machine.{IsFram, fram_of}
 use Rattle.code_forms.specs.Placed.{Holds}
-use Rattle.privatise.specs.declared.place.Region.{Region}
-use Rattle.privatise.specs.declared.place.VariablePlace.{VariablePlace}
-use Rattle.privatise.specs.Places.{end_of, home_region, AreInOrder}
+use Rattle.memory_map.specs.declared.place.Region.{Region}
+use Rattle.memory_map.specs.declared.place.VariablePlace.{VariablePlace}
+use Rattle.memory_map.specs.Places.{end_of, home_region, AreInOrder}
 use Rattle.compiled_model.specs.View.{is_within, word_of_row, shared_word}
 
 -- ---- words by addresses
@@ -19,7 +20,7 @@ in_fram a h =
     let low = h.low in
     let high = h.high in
     let e : (a % 2 == 0) ≡ true = grind (arith, nat_tests) in
-    let l : nat_le 0x4400 a ≡ true = grind (arith, nat_tests) in
+    let l : nat_le fram_first a ≡ true = grind (arith, nat_tests) in
     let u : nat_lt a 0x10000 ≡ true = grind (arith, nat_tests) in
     rw (e, l, u) refl
 

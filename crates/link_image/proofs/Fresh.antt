@@ -12,12 +12,8 @@ use Rattle.machine_effects.specs.World.{World}
 use Rattle.machine_effects.specs.Machine.{IsFram, fram_of}
 use Rattle.machine_effects.proofs.Words.{index_small}
 use Rattle.code_forms.specs.Placed.{words_of, Holds}
-use Rattle.privatise.specs.declared.place.Region.{Region}
-use Rattle.privatise.specs.declared.place.VariablePlace.{VariablePlace}
-use Rattle.privatise.specs.LayoutValue.{LayoutValue, TaskLayoutValue}
-use Rattle.privatise.specs.Places.{end_of, home_region, AreInOrder, IsLaidOut}
 use Rattle.stands_for.specs.Layout.{IsSharedWord}
-use Rattle.stands_for.specs.StandsFor.{HoldsWords, IsOpen, RestsAt}
+use Rattle.stands_for.specs.StandsFor.{HoldsWords, RestsAt}
 use Rattle.array_versions.proofs.Words.{zero_unless}
 use Rattle.lower.specs.Lowered.{lowered}
 use Rattle.layout_facts.specs.Facts.{HasLayout}
@@ -32,6 +28,15 @@ use Rattle.link_image.specs.Compiled.{IsCompiled}
 use Rattle.link_image.specs.Laws.{fresh_world, IsFreshImage, ImagesAreFresh}
 use Rattle.link_image.proofs.Initial.{initial_rows_are}
 use Rattle.link_image.proofs.States.{finds_state}
+use Rattle.address_space.specs.Limits.{reset_vector}
+use Rattle.memory_map.specs.declared.words.RuntimeWord.{RuntimeWord}
+use Rattle.memory_map.specs.declared.words.RuntimeWord.TheVariants.{CurrentTask, Gate, Base}
+use Rattle.memory_map.specs.declared.place.Region.{Region}
+use Rattle.memory_map.specs.declared.place.VariablePlace.{VariablePlace}
+use Rattle.memory_map.specs.MemoryMap.{MemoryMap, word_place}
+use Rattle.memory_map.specs.Places.{end_of, home_region, AreInOrder, IsLaidOut}
+use Rattle.memory_map.proofs.Parts.{apart_of, even_of}
+use Rattle.runtime_code.proofs.Layouts.{places_are_in_fram}
 
 -- words that stand one behind the other
 holds_each : (f : ℕ → ℕ) (p : ℕ) (ws : List ℕ) → ((k : ℕ) → k < length ws → f (p + 2 * k) ≡ slice_index ws k) → Holds f p ws
@@ -75,7 +80,7 @@ half p k = omega arith
 
 module _ (text : List ℕ) (p : CheckedProgram) (allow : Allow) (image : ImageValue) (ok : IsAcceptedText text p allow) (runs : IsRunnable p)
     (c : IsCompiled text p allow image) where
-  abbrev l : LayoutValue
+  abbrev l : MemoryMap
   l = c.layout
 
   abbrev f : ℕ → ℕ
@@ -97,9 +102,9 @@ module _ (text : List ℕ) (p : CheckedProgram) (allow : Allow) (image : ImageVa
   -- the word before the code
   data_at : (a : ℕ) → IsFram a → a < l.boot.address → f a ≡ data_word p l a
   data_at a is low =
-      let high = rules.apart.high in
+      let high = (apart_of l rules).high in
       let end = code_end in
-      let other : (a == 0xFFFE) ≡ false = ne_eqb a 0xFFFE (λ e. omega (arith, low, high, end, e)) in
+      let other : (a == reset_vector) ≡ false = ne_eqb a reset_vector (λ e. omega (arith, low, high, end, e)) in
       let out : is_within (code_region p l) a ≡ false = before (code_region p l) a low in
       c.words.each a is
       ∙ ap (λ b. cond b l.boot.address (if is_within (code_region p l) a then slice_index (code_words p l) ((a - l.boot.address) / 2) else data_word p l a)) other
@@ -109,65 +114,67 @@ module _ (text : List ℕ) (p : CheckedProgram) (allow : Allow) (image : ImageVa
   code_at : (k : ℕ) → k < length (code_words p l) → f (l.boot.address + 2 * k) ≡ slice_index (code_words p l) k
   code_at k below =
       let a = l.boot.address + 2 * k in
-      let apart = rules.apart in
-      let even = rules.even.boot in
+      let apart = apart_of l rules in
+      let even = (even_of l rules).boot in
       let end = code_end in
       let is : IsFram a = record { even = omega (arith, even); low = omega (arith, apart); high = omega (arith, apart, end, below) } in
       let high = apart.high in
-      let other : (a == 0xFFFE) ≡ false = ne_eqb a 0xFFFE (λ e. omega (arith, high, end, below, e)) in
+      let other : (a == reset_vector) ≡ false = ne_eqb a reset_vector (λ e. omega (arith, high, end, below, e)) in
       let there : is_within (code_region p l) a ≡ true = inside (code_region p l) a (omega arith) (omega (arith, below)) in
       c.words.each a is
       ∙ ap (λ b. cond b l.boot.address (if is_within (code_region p l) a then slice_index (code_words p l) ((a - l.boot.address) / 2) else data_word p l a)) other
       ∙ ap (λ b. cond b (slice_index (code_words p l) ((a - l.boot.address) / 2)) (data_word p l a)) there
       ∙ ap (slice_index (code_words p l)) (half l.boot.address k)
 
-  vector : f 0xFFFE ≡ l.boot.address
-  vector = c.words.each 0xFFFE (record { even = refl; low = omega arith; high = omega arith })
+  vector : f reset_vector ≡ l.boot.address
+  vector = c.words.each reset_vector (record { even = refl; low = omega arith; high = omega arith })
+
+  -- the runtime's words are words of FRAM
+  words_are : (w : RuntimeWord) → IsFram (word_place l w)
+  words_are = (places_are_in_fram l rules).words
 
   -- the runtime's words but CUR are 0
-  pub zero_at : (a : ℕ) → IsFram a → a ≢ l.words.current_task → a < l.homes.address → f a ≡ 0
+  pub zero_at : (a : ℕ) → IsFram a → a ≢ word_place l CurrentTask → a < l.homes.address → f a ≡ 0
   zero_at a is other low =
-      let apart = rules.apart in
-      let e : (a == l.words.current_task) ≡ false = ne_eqb a l.words.current_task other in
+      let apart = apart_of l rules in
+      let e : (a == (word_place l CurrentTask)) ≡ false = ne_eqb a (word_place l CurrentTask) other in
       data_at a is (omega (arith, apart, low))
       ∙ ap (λ b. cond b p.entry.task (shared_word l.variables (initial_rows p) a)) e
       ∙ none_before l.variables (initial_rows p) l.homes.address (end_of l.homes) a rules.homes low
 
-  current : f l.words.current_task ≡ p.entry.task
+  current : f (word_place l CurrentTask) ≡ p.entry.task
   current =
-      let apart = rules.apart in
-      let a = l.words.current_task in
+      let apart = apart_of l rules in
+      let a = (word_place l CurrentTask) in
       let same : (a == a) ≡ true = grind (arith, nat_tests) in
-      data_at a (record { even = rules.even.current_task; low = apart.current_task; high = omega (arith, apart) }) (omega (arith, apart))
+      data_at a (words_are CurrentTask) (omega (arith, apart))
       ∙ ap (λ b. cond b p.entry.task (shared_word l.variables (initial_rows p) a)) same
 
-  gate : f l.words.gate ≡ 0
+  gate : f (word_place l Gate) ≡ 0
   gate =
-      let apart = rules.apart in
-      zero_at l.words.gate (record { even = rules.even.gate; low = omega (arith, apart); high = omega (arith, apart) }) (λ e. omega (arith, apart, e))
-      (omega (arith, apart))
+      let apart = apart_of l rules in
+      zero_at (word_place l Gate) (words_are Gate) (λ e. omega (arith, e)) (omega (arith, apart))
 
-  base : f l.words.base ≡ 0
+  base : f (word_place l Base) ≡ 0
   base =
-      let apart = rules.apart in
-      zero_at l.words.base (record { even = rules.even.base; low = omega (arith, apart); high = omega (arith, apart) }) (λ e. omega (arith, apart, e))
-      (omega (arith, apart))
+      let apart = apart_of l rules in
+      zero_at (word_place l Base) (words_are Base) (λ e. omega (arith, e)) (omega (arith, apart))
 
   -- each version word of a fresh image is 0
-  pub version : (i : ℕ) → i < l.versions.capacity → f (l.versions.address + 2 * i) ≡ 0
+  pub version : (i : ℕ) → i < l.versions.words → f (l.versions.address + 2 * i) ≡ 0
   version i below =
-      let apart = rules.apart in
-      let even = rules.even.versions in
+      let apart = apart_of l rules in
+      let even = (even_of l rules).versions in
       zero_at (l.versions.address + 2 * i)
       (record { even = omega (arith, even); low = omega (arith, apart); high = omega (arith, apart, below) }) (λ e. omega (arith, apart, e))
       (omega (arith, apart, below))
 
   shared_at : (a : ℕ) → IsSharedWord (program_places p l) a → f a ≡ shared_word l.variables (initial_rows p) a
   shared_at a is =
-      let apart = rules.apart in
+      let apart = apart_of l rules in
       let low = is.from in
       let high = is.below in
-      let e : (a == l.words.current_task) ≡ false = ne_eqb a l.words.current_task (λ q. omega (arith, apart, low, q)) in
+      let e : (a == (word_place l CurrentTask)) ≡ false = ne_eqb a (word_place l CurrentTask) (λ q. omega (arith, apart, low, q)) in
       data_at a (record { even = is.even; low = omega (arith, apart, low); high = omega (arith, apart, high) }) (omega (arith, apart, high))
       ∙ ap (λ b. cond b p.entry.task (shared_word l.variables (initial_rows p) a)) e
 

@@ -10,11 +10,13 @@ use Rattle.fram_board.specs.Bus.{is_fram}
 use Rattle.machine_effects.specs.Machine.{fram_of}
 use Rattle.task_ast.specs.declared.Extent.TheVariants as extent
 use Rattle.source_values.specs.Runs.{initial_words}
-use Rattle.privatise.specs.declared.place.Region.{Region}
-use Rattle.privatise.specs.declared.place.VariablePlace.{VariablePlace}
-use Rattle.privatise.specs.declared.place.VariablePlace.TheVariants.{Scalar, Array}
-use Rattle.privatise.specs.LayoutValue.{LayoutValue}
-use Rattle.privatise.specs.Places.{end_of, home_region, AreInOrder, IsLaidOut}
+use Rattle.address_space.specs.Limits.{fram_first, reset_vector}
+use Rattle.memory_map.specs.declared.place.Region.{Region}
+use Rattle.memory_map.specs.declared.place.VariablePlace.{VariablePlace}
+use Rattle.memory_map.specs.declared.place.VariablePlace.TheVariants.{Scalar, Array}
+use Rattle.memory_map.specs.MemoryMap.{MemoryMap}
+use Rattle.memory_map.specs.Places.{end_of, home_region, AreInOrder, IsLaidOut}
+use Rattle.memory_map.proofs.Parts.{parts_in_fram}
 use Rattle.compiled_model.specs.View.{is_within, word_of_row, shared_word}
 use Rattle.source_maps.specs.Placing.{IsOfKind, ArePlacesOf}
 use Rattle.link_image.specs.Initial.{initial_put}
@@ -151,13 +153,10 @@ wider from low end high (v ∷ vs) l h o =
     let start = o.0.from in
     (record { from = omega (arith, l, start); even = o.0.even }, wider (end_of (home_region v)) (end_of (home_region v)) end high vs (omega arith) h o.1)
 
-pub wider_order : (l : LayoutValue) → IsLaidOut l → AreInOrder 17408 (map home_region l.variables) 65534
+pub wider_order : (l : MemoryMap) → IsLaidOut l → AreInOrder fram_first (map home_region l.variables) reset_vector
 wider_order l h =
-    let a1 = h.apart.current_task in let a2 = h.apart.next_task in let a3 = h.apart.gate in let a4 = h.apart.list_length in
-    let a5 = h.apart.emit_count in let a6 = h.apart.base in let a7 = h.apart.sent_base in let a8 = h.apart.version in
-    let a9 = h.apart.list in let b1 = h.apart.emits in let b2 = h.apart.versions in let b3 = h.apart.homes in
-    let b4 = h.apart.copies in let b5 = h.apart.boot in let b6 = h.apart.commit in let b7 = h.apart.code in let b8 = h.apart.high in
-    wider l.homes.address 17408 (end_of l.homes) 65534 l.variables (omega (arith, a1, a2, a3, a4, a5, a6, a7, a8, a9, b1, b2, b3)) (omega (arith, b4, b5, b6, b7, b8)) h.homes
+    let homes = (parts_in_fram l h).homes in
+    wider l.homes.address fram_first (end_of l.homes) reset_vector l.variables homes.from homes.end h.homes
 
 -- ---- words
 

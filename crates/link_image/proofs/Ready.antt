@@ -6,7 +6,7 @@ use Rattle.source_meaning.specs.Acceptance.{IsAcceptedText}
 use Rattle.war_analysis.specs.PlanValue.{TaskPlanValue}
 use Rattle.war_analysis.specs.Plans.{IsPlan}
 use Rattle.war_analysis.specs.Laws.{ScalarsAreCounted}
-use Rattle.privatise.specs.LayoutValue.{LayoutValue}
+use Rattle.memory_map.specs.MemoryMap.{MemoryMap}
 use Rattle.privatise.specs.Layouts.{IsLayout}
 use Rattle.lower.specs.Sizes.{BlocksKeepToWords}
 use Rattle.linked_code.specs.Rooms.{LayoutsHaveRoom}
@@ -17,7 +17,8 @@ use Rattle.link_image.specs.Needs.{IsReadyToLink}
 use Rattle.link_image.proofs.Fits.{code_fits}
 
 pub ready : LayoutsHaveRoom → BlocksKeepToWords → ((p : CheckedProgram) → ScalarsAreCounted p) → ProgramsAreWhole → NamesAreNames → MapsAreOfSources
-    → (text : List ℕ) (p : CheckedProgram) (allow : Allow) (plans : List TaskPlanValue) (l : LayoutValue) → IsAcceptedText text p allow → IsRunnable p → IsPlan p plans → IsLayout p allow plans l
+    → (text : List ℕ) (p : CheckedProgram) (allow : Allow) (plans : List TaskPlanValue) (l : MemoryMap) → IsAcceptedText text p allow → IsRunnable p
+    → IsPlan p plans → IsLayout p allow plans l
     → IsReadyToLink text p allow l
 ready rooms keep counted whole named mapped text p allow plans l accepted runnable planned laid =
     let programs = whole text p allow plans l (record { accepted = accepted; plan = planned; layout = laid }) in

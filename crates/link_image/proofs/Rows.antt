@@ -5,13 +5,9 @@ use Rattle.std.specs.Prelude.{slice_get, slice_index, slice_index_or}
 use Rattle.std.proofs.lemmas.Bool.{and_parts}
 use Rattle.task_ast.specs.declared.SharedDeclaration.{SharedDeclaration}
 use Rattle.task_ast.specs.declared.Extent.{Extent}
-use Rattle.image_map.specs.declared.parts.Variable.{Variable}
 use Rattle.board_run.specs.History.{SharedWord, array_words, variable_words}
 use Rattle.task_ast.specs.declared.Extent.TheVariants as extent
 use Rattle.source_values.specs.Runs.{initial_words}
-use Rattle.privatise.specs.declared.place.VariablePlace.{VariablePlace}
-use Rattle.privatise.specs.declared.place.VariablePlace.TheVariants.{Scalar, Array}
-use Rattle.privatise.specs.Places.{home_region}
 use Rattle.machine_effects.specs.World.{World}
 use Rattle.run_events.specs.Events.{world_values}
 use Rattle.source_events.specs.Naming.{length_of}
@@ -19,6 +15,9 @@ use Rattle.source_events.specs.Transitions.{rows_in}
 use Rattle.compiled_model.specs.View.{are_words, are_rows}
 use Rattle.source_maps.specs.Maps.{variable_of, variables_of}
 use Rattle.source_maps.specs.Placing.{IsOfKind}
+use Rattle.memory_map.specs.declared.place.VariablePlace.{VariablePlace}
+use Rattle.memory_map.specs.declared.place.VariablePlace.TheVariants.{Scalar, Array}
+use Rattle.memory_map.specs.Places.{home_region}
 
 -- a row stands at a place
 abbrev pub RowStands : World → List ℕ → VariablePlace → Type 0

@@ -7,16 +7,17 @@ use Rattle.cost_bound.specs.declared.allowance.Allow.{Allow}
 use Rattle.cost_bound.specs.Allowance.{is_written}
 use Rattle.source_values.specs.Runs.{CheckedProgram, State}
 use Rattle.war_analysis.specs.PlanValue.{TaskPlanValue}
-use Rattle.privatise.specs.declared.place.VariablePlace.{VariablePlace}
-use Rattle.privatise.specs.declared.place.VariablePlace.TheVariants.{Scalar, Array}
-use Rattle.privatise.specs.LayoutValue.{LayoutValue}
-use Rattle.privatise.specs.Places.{home_region}
+use Rattle.memory_map.specs.declared.place.VariablePlace.{VariablePlace}
+use Rattle.memory_map.specs.declared.place.VariablePlace.TheVariants.{Scalar, Array}
+use Rattle.memory_map.specs.MemoryMap.{MemoryMap}
+use Rattle.memory_map.specs.Places.{home_region}
 use Rattle.machine_effects.specs.World.{World}
 use Rattle.stands_for.specs.StandsFor.{RestsAt}
 use Rattle.source_events.specs.Transitions.{HasWordsOf}
 use Rattle.compiled_model.specs.Places.{program_places}
 use Rattle.compiled_model.specs.View.{state_view}
-use Rattle.layout_facts.specs.Facts.{HasLayout, IsWordOf}
+use Rattle.memory_map.specs.Spots.{IsWordOf}
+use Rattle.layout_facts.specs.Facts.{HasLayout}
 use Rattle.layout_facts.proofs.Homes.{words_of_variables_are_shared}
 use Rattle.layout_facts.proofs.Views.{view_has_their_words}
 use Rattle.source_maps.specs.Maps.{map_of}
@@ -24,7 +25,7 @@ use Rattle.source_maps.proofs.Places.{of_kind}
 use Rattle.link_image.specs.Laws.{MapsFindStates}
 use Rattle.link_image.proofs.Rows.{RowStands, all_rows}
 
-module _ (text : List ℕ) (p : CheckedProgram) (allow : Allow) (plans : List TaskPlanValue) (l : LayoutValue) (laid : HasLayout p allow plans l)
+module _ (text : List ℕ) (p : CheckedProgram) (allow : Allow) (plans : List TaskPlanValue) (l : MemoryMap) (laid : HasLayout p allow plans l)
     (s : State) (x : World) (rests : RestsAt (program_places p l) (state_view p l) s x) where
   row_stands : (v : ℕ) (place : VariablePlace) → slice_get l.variables v ≡ Some place → RowStands x (slice_index_or s.shared v []) place
   row_stands v place at i below =

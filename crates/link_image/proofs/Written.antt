@@ -12,10 +12,12 @@ use Rattle.array_versions.specs.Program.{Program}
 use Rattle.array_versions.specs.View.{program_of}
 use Rattle.array_versions.specs.Form.{IsWhole}
 use Rattle.std.proofs.lemmas.List.Elements.{All-head, All-tail}
+use Rattle.address_space.specs.Limits.{reset_vector}
 use Rattle.array_versions.specs.declared.program.WordProgram.{WordProgram}
 use Rattle.codegen.specs.Code.{repeated}
-use Rattle.privatise.specs.LayoutValue.{LayoutValue, TaskLayoutValue}
-use Rattle.privatise.specs.Places.{end_of}
+use Rattle.memory_map.specs.MemoryMap.{MemoryMap, TaskPlace}
+use Rattle.memory_map.specs.Places.{end_of}
+use Rattle.memory_map.proofs.Parts.{apart_of, even_of}
 use Rattle.linked_code.specs.Parts.{filler, CodePart, part_end, chained, PartsInOrder}
 use Rattle.linked_code.specs.Linked.{boot_part, commit_part, task_part, task_parts, linked, ProgramsFit, CodeFits}
 use Rattle.linked_code.proofs.Linked.{in_order}
@@ -62,7 +64,8 @@ part_words start old new all part parts even_start even from is rest =
 
 -- ---- tasks
 
-pub parts_more : (ts : List TaskLayoutValue) (ps : List WordProgram) (k : ℕ) (t : TaskLayoutValue) (p : WordProgram) → k < length ts → k < length ps → t ≡ get_or ts k t → p ≡ get_or ps k p
+pub parts_more : (ts : List TaskPlace) (ps : List WordProgram) (k : ℕ) (t : TaskPlace) (p : WordProgram) → k < length ts → k < length ps → t ≡ get_or ts k t
+    → p ≡ get_or ps k p
     → task_parts (drop k ts) (map program_of (drop k ps)) ≡ task_part t (program_of p) ∷ task_parts (drop (k + 1) ts) (map program_of (drop (k + 1) ps))
 parts_more ts ps k t p l m a b =
     at_drop_more (λ xs. task_parts xs (map program_of (drop k ps))) ts k t l ∙ ap (λ x. task_parts (x ∷ drop (k + 1) ts) (map program_of (drop k ps))) (sym a)
@@ -73,7 +76,7 @@ pub weaker_order : (from end more : ℕ) (parts : List CodePart) → end ≤ mor
 weaker_order from end more [] l o = omega (arith, l, o)
 weaker_order from end more (part ∷ parts) l o = (o.0, weaker_order (part_end part) end more parts l o.1)
 
-pub same_count : (ts : List TaskLayoutValue) (ps : List Program) → ProgramsFit ts ps → length ts ≡ length ps
+pub same_count : (ts : List TaskPlace) (ps : List Program) → ProgramsFit ts ps → length ts ≡ length ps
 same_count [] [] f = refl
 same_count [] (p ∷ ps) f = absurd f
 same_count (t ∷ ts) [] f = absurd f
@@ -86,10 +89,11 @@ order_end from end (part ∷ parts) o =
     let start = o.0.from in let rest = order_end (part_end part) end parts o.1 in omega (arith, start, rest)
 
 -- the next task, and those behind it
-pub next_order : (ts : List TaskLayoutValue) (ps : List WordProgram) (at k : ℕ) (t : TaskLayoutValue) (p : WordProgram) → k < length ts → length ts ≡ length ps → t ≡ get_or ts k t → p ≡ get_or ps k p
-    → PartsInOrder at (task_parts (drop k ts) (map program_of (drop k ps))) 65534
-    → PartsInOrder at (task_part t (program_of p) ∷ task_parts (drop (k + 1) ts) (map program_of (drop (k + 1) ps))) 65534
-next_order ts ps at k t p l n a b o = subst (λ parts. PartsInOrder at parts 65534) (parts_more ts ps k t p l (omega (arith, l, n)) a b) o
+pub next_order : (ts : List TaskPlace) (ps : List WordProgram) (at k : ℕ) (t : TaskPlace) (p : WordProgram) → k < length ts → length ts ≡ length ps → t
+    ≡ get_or ts k t → p ≡ get_or ps k p
+    → PartsInOrder at (task_parts (drop k ts) (map program_of (drop k ps))) reset_vector
+    → PartsInOrder at (task_part t (program_of p) ∷ task_parts (drop (k + 1) ts) (map program_of (drop (k + 1) ps))) reset_vector
+next_order ts ps at k t p l n a b o = subst (λ parts. PartsInOrder at parts reset_vector) (parts_more ts ps k t p l (omega (arith, l, n)) a b) o
 
 pub next_whole : (ps : List WordProgram) (k : ℕ) (p : WordProgram) → k < length ps → p ≡ get_or ps k p → All IsWhole (map program_of (drop k ps))
     → IsWhole (program_of p) × All IsWhole (map program_of (drop (k + 1) ps))
@@ -99,7 +103,7 @@ next_whole ps k p l a h =
 
 -- ---- the whole code
 
-module _ (l : LayoutValue) (programs : List Program) (fits : CodeFits l programs) where
+module _ (l : MemoryMap) (programs : List Program) (fits : CodeFits l programs) where
   -- what is written when so many words stand, with the other parts behind them
   pub record WrittenTo (start : ℕ) (words : List ℕ) (end : ℕ) (parts : List CodePart) : Type 0 where
     pub there : start + 2 * length words ≡ end
@@ -118,7 +122,8 @@ module _ (l : LayoutValue) (programs : List Program) (fits : CodeFits l programs
       let same : new ≡ written l.boot.address l.boot.address [] (instructions (boot_part l).forms) =
       is ∙ ap (λ x. written x x old code) s ∙ ap (λ x. written l.boot.address l.boot.address x code) o ∙ ap (written l.boot.address l.boot.address []) k in
       let begin : l.boot.address + 2 * length {A = ℕ} [] ≡ l.boot.address = omega arith in
-      let r = part_words l.boot.address [] new (words_of (linked l programs)) (boot_part l) others fits.rules.even.boot fits.rules.even.boot (omega arith) same
+      let r = part_words l.boot.address [] new (words_of (linked l programs)) (boot_part l) others (even_of l fits.rules).boot (even_of l fits.rules).boot
+      (omega arith) same
       (ap (λ a. words_in (chained a (boot_part l ∷ others))) begin) in
       subst (λ x. WrittenTo x new (part_end (boot_part l)) others) (sym s) (record { there = r.0; rest = r.1 })
 
@@ -130,13 +135,14 @@ module _ (l : LayoutValue) (programs : List Program) (fits : CodeFits l programs
   after_commit start at old new code s a k before is =
       let same : new ≡ written start l.commit.address old (instructions (commit_part l).forms) =
       is ∙ ap (λ x. written start x old code) a ∙ ap (written start l.commit.address old) k in
-      let even : start % 2 ≡ 0 = ap (λ x. x % 2) s ∙ fits.rules.even.boot in
-      let r = part_words start old new (words_of (linked l programs)) (commit_part l) (task_parts l.tasks programs) even fits.rules.even.commit (commit_behind start old before) same before.rest in
+      let even : start % 2 ≡ 0 = ap (λ x. x % 2) s ∙ (even_of l fits.rules).boot in
+      let r = part_words start old new (words_of (linked l programs)) (commit_part l) (task_parts l.tasks programs) even (even_of l fits.rules).commit
+      (commit_behind start old before) same before.rest in
       record { there = r.0; rest = r.1 }
 
   pub tasks_behind : (start : ℕ) (words : List ℕ) → WrittenTo start words (part_end (commit_part l)) (task_parts l.tasks programs)
-      → PartsInOrder (start + 2 * length words) (task_parts l.tasks programs) 65534
+      → PartsInOrder (start + 2 * length words) (task_parts l.tasks programs) reset_vector
   tasks_behind start words h =
-      let high = fits.rules.apart.high in
-      subst (λ x. PartsInOrder x (task_parts l.tasks programs) 65534) (sym h.there)
-      (weaker_order (part_end (commit_part l)) (end_of l.code) 65534 (task_parts l.tasks programs) (omega (arith, high)) (in_order l programs fits).1.1)
+      let high = (apart_of l fits.rules).high in
+      subst (λ x. PartsInOrder x (task_parts l.tasks programs) reset_vector) (sym h.there)
+      (weaker_order (part_end (commit_part l)) (end_of l.code) reset_vector (task_parts l.tasks programs) (omega (arith, high)) (in_order l programs fits).1.1)

@@ -4,7 +4,7 @@ use Rattle.cost_bound.specs.declared.allowance.Allow.{Allow}
 use Rattle.source_values.specs.Runs.{CheckedProgram}
 use Rattle.war_analysis.specs.PlanValue.{TaskPlanValue}
 use Rattle.war_analysis.specs.Plans.{IsPlan}
-use Rattle.privatise.specs.LayoutValue.{LayoutValue}
+use Rattle.memory_map.specs.MemoryMap.{MemoryMap}
 use Rattle.privatise.specs.Layouts.{IsLayout}
 use Rattle.array_versions.specs.Form.{OfWords}
 use Rattle.image_text.specs.ImageValue.{ImageValue}
@@ -16,7 +16,7 @@ use Rattle.source_maps.specs.Maps.{map_of}
 -- an image has the words and the map of a source's layout, of which there is one: the layout for the source's plan and its allowance
 pub record IsCompiled (text : List ℕ) (p : CheckedProgram) (allow : Allow) (image : ImageValue) : Type 0 where
   pub plans : List TaskPlanValue
-  pub layout : LayoutValue
+  pub layout : MemoryMap
   pub is_plan : IsPlan p plans
   pub is_layout : IsLayout p allow plans layout
   pub of_words : All OfWords (lowered layout p)

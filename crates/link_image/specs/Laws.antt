@@ -1,5 +1,6 @@
 -- What holds of the image of an accepted source.
 use Rattle.std.specs.Prelude.{◌≡◌, ℕ, List, []}
+use Rattle.address_space.specs.Limits.{reset_vector}
 use Rattle.cost_bound.specs.declared.allowance.Allow.{Allow}
 use Rattle.source_values.specs.Runs.{CheckedProgram, State, first_state}
 use Rattle.source_meaning.specs.Acceptance.{IsAcceptedText}
@@ -7,7 +8,7 @@ use Rattle.image_text.specs.ImageValue.{ImageValue}
 use Rattle.machine_effects.specs.World.{World}
 use Rattle.machine_effects.specs.Machine.{fram_of}
 use Rattle.code_forms.specs.Placed.{Holds}
-use Rattle.privatise.specs.LayoutValue.{LayoutValue}
+use Rattle.memory_map.specs.MemoryMap.{MemoryMap}
 use Rattle.stands_for.specs.StandsFor.{RestsAt}
 use Rattle.source_events.specs.Transitions.{HasWordsOf}
 use Rattle.lower.specs.Lowered.{lowered}
@@ -24,10 +25,10 @@ fresh_world image = record { fram = fram_of image.words; accepted = [] }
 
 -- a fresh image: the code has room in the layout and stands from the boot's address on, which is the reset vector; its world rests at
 -- the source's first state, and has that state's words
-pub record IsFreshImage (text : List ℕ) (p : CheckedProgram) (allow : Allow) (l : LayoutValue) (image : ImageValue) : Type 0 where
+pub record IsFreshImage (text : List ℕ) (p : CheckedProgram) (allow : Allow) (l : MemoryMap) (image : ImageValue) : Type 0 where
   pub fits : CodeFits l (lowered l p)
   pub code : Holds (fram_of image.words) l.boot.address (code_words p l)
-  pub vector : fram_of image.words 0xFFFE ≡ l.boot.address
+  pub vector : fram_of image.words reset_vector ≡ l.boot.address
   pub rests : RestsAt (program_places p l) (state_view p l) (first_state p) (fresh_world image)
   pub has_words : HasWordsOf (map_of text p l allow) (fresh_world image) (first_state p)
 

@@ -2,7 +2,7 @@
 use Rattle.std.specs.Prelude.{◌≡◌, ◌<◌, ℕ, List, All, length}
 use Rattle.cost_bound.specs.declared.allowance.Allow.{Allow}
 use Rattle.source_values.specs.Runs.{CheckedProgram}
-use Rattle.privatise.specs.LayoutValue.{LayoutValue}
+use Rattle.memory_map.specs.MemoryMap.{MemoryMap}
 use Rattle.array_versions.specs.Form.{IsWhole, OfWords}
 use Rattle.lower.specs.Lowered.{lowered}
 use Rattle.linked_code.specs.Linked.{CodeFits}
@@ -10,7 +10,7 @@ use Rattle.source_names.specs.Names.{HasNames}
 use Rattle.source_maps.specs.Laws.{IsSourceMap}
 
 -- its code has room, its programs are whole, its names can be a map's, and it has a task
-pub record IsReadyToLink (text : List ℕ) (p : CheckedProgram) (allow : Allow) (l : LayoutValue) : Type 0 where
+pub record IsReadyToLink (text : List ℕ) (p : CheckedProgram) (allow : Allow) (l : MemoryMap) : Type 0 where
   pub fits : CodeFits l (lowered l p)
   pub whole : All IsWhole (lowered l p)
   pub of_words : All OfWords (lowered l p)

@@ -1,5 +1,6 @@
 //! The words of the code.
 ghost use Rattle.std.specs.Prelude.{◌≡◌, ◌+◌, ◌-◌, ◌*◌, ◌/◌, ◌%◌, ◌≤◌, ◌++◌, ◌∷◌, [], ℕ, All, IfOk, OnOk, length, map};
+ghost use Rattle.address_space.specs.Limits.{fram_first, reset_vector};
 ghost use Rattle.code_forms.specs.Placed.{instructions, words_of};
 ghost use Rattle.array_versions.specs.View.{program_of};
 ghost use Rattle.array_versions.specs.Form.{IsWhole};
@@ -11,9 +12,9 @@ use array_versions::WordProgram;
 use boot_runtime::boot_code;
 use codegen::emit;
 use commit_runtime::commit_code;
+use memory_map::{Layout, TaskLayout};
 use msp_encode::encode;
 use msp_isa::Instr;
-use privatise::{Layout, TaskLayout};
 use std::alloc::{AllocError, Global};
 
 /// A jump to itself.
@@ -58,8 +59,8 @@ fn push_task(
     task: &TaskLayout,
     program: &WordProgram,
 ) -> Result<(), AllocError>
-    requires low { 17408 ≤ start }
-    requires order { PartsInOrder (start + 2 * length words.old.items) (task_part task.now (program_of program.now) ∷ []) 65534 }
+    requires low { fram_first ≤ start }
+    requires order { PartsInOrder (start + 2 * length words.old.items) (task_part task.now (program_of program.now) ∷ []) reset_vector }
     requires whole { IsWhole (program_of program.now) }
     ensures { OnOk result (words.new.items ≡ words.old.items
         ++ (words_of (instructions (repeated ((task.now.code.address - (start + 2 * length words.old.items)) / 2) filler))
@@ -80,9 +81,9 @@ fn push_tasks(
     programs: &[WordProgram],
 ) -> Result<(), AllocError>
     requires even { start % 2 ≡ 0 }
-    requires low { 17408 ≤ start }
+    requires low { fram_first ≤ start }
     requires count { length tasks.now ≡ length programs.now }
-    requires order { PartsInOrder (start + 2 * length words.old.items) (task_parts tasks.now (map program_of programs.now)) 65534 }
+    requires order { PartsInOrder (start + 2 * length words.old.items) (task_parts tasks.now (map program_of programs.now)) reset_vector }
     requires whole { All IsWhole (map program_of programs.now) }
     ensures { OnOk result (words.new.items ≡ words.old.items
         ++ words_of (instructions (chained (start + 2 * length words.old.items) (task_parts tasks.now (map program_of programs.now))))) }

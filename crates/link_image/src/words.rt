@@ -1,25 +1,26 @@
 //! The words of the FRAM.
 ghost use Rattle.std.specs.Prelude.{◌≡◌, ◌+◌, ◌-◌, ◌*◌, ◌/◌, ◌%◌, ◌==◌, ◌≤◌, ℕ, All, length, map, if◌then◌else◌, slice_index};
+ghost use Rattle.address_space.specs.Limits.{fram_first, reset_vector};
 ghost use Rattle.image_text.specs.ImageValue.{zeros};
 ghost use Rattle.machine_effects.specs.Machine.{IsFram, fram_of};
 ghost use Rattle.source_values.specs.Runs.{initial_words};
-ghost use Rattle.privatise.specs.Places.{end_of, home_region, AreInOrder, IsLaidOut};
+ghost use Rattle.memory_map.specs.MemoryMap.{word_place};
+ghost use Rattle.memory_map.specs.declared.words.RuntimeWord.TheVariants.{CurrentTask};
+ghost use Rattle.memory_map.specs.Places.{home_region, AreInOrder};
 ghost use Rattle.compiled_model.specs.View.{is_within, shared_word};
 ghost use Rattle.source_maps.specs.Placing.{ArePlacesOf};
 ghost use Rattle.link_image.specs.Initial.{initial_put};
 ghost use Rattle.link_image.specs.Words.{AreWords};
 
+use address_space::RESET_VECTOR;
 use image_text::Image;
-use privatise::{Layout, VariablePlace};
+use memory_map::{Layout, RuntimeWord, VariablePlace};
 use task_ast::{Extent, SharedDeclaration};
-
-/// The place of the reset vector.
-const VECTOR: u16 = 0xFFFE;
 
 // Puts a word at an even address of the FRAM.
 fn put_word(image: &mut Image, at: u16, word: u16)
     requires even { at % 2 ≡ 0 }
-    requires low { 17408 ≤ at }
+    requires low { fram_first ≤ at }
     ensures each { (a : ℕ) → IsFram a → fram_of image.new.words a ≡ (if a == at then word else fram_of image.old.words a) }
     ensures are_words { AreWords image.old.words → AreWords image.new.words }
     ensures same_map { image.new.map ≡ image.old.map }
@@ -32,7 +33,7 @@ fn put_word(image: &mut Image, at: u16, word: u16)
 // Puts the initial word of a shared scalar. The words of arrays begin with 0.
 fn put_initial(image: &mut Image, extent: Extent, place: VariablePlace)
     requires even { (home_region place).address % 2 ≡ 0 }
-    requires low { 17408 ≤ (home_region place).address }
+    requires low { fram_first ≤ (home_region place).address }
     ensures each { (a : ℕ) → IsFram a → fram_of image.new.words a ≡ initial_put extent place a (fram_of image.old.words a) }
     ensures are_words { AreWords image.old.words → AreWords image.new.words }
     ensures same_map { image.new.map ≡ image.old.map }
@@ -47,7 +48,7 @@ fn put_initial(image: &mut Image, extent: Extent, place: VariablePlace)
 fn put_scalars(image: &mut Image, shared: &[SharedDeclaration], variables: &[VariablePlace])
     requires blank { image.old.words ≡ zeros 24064 }
     requires places { ArePlacesOf shared.now variables.now }
-    requires order { AreInOrder 17408 (map home_region variables.now) 65534 }
+    requires order { AreInOrder fram_first (map home_region variables.now) reset_vector }
     ensures each { (a : ℕ) → IsFram a → fram_of image.new.words a ≡ shared_word variables.now (map (λ d. initial_words d.extent) shared.now) a }
     ensures are_words { AreWords image.old.words → AreWords image.new.words }
     ensures same_map { image.new.map ≡ image.old.map }
@@ -60,7 +61,7 @@ fn put_scalars(image: &mut Image, shared: &[SharedDeclaration], variables: &[Var
 // Puts words one behind another from an address on.
 fn put_words(image: &mut Image, at: u16, words: &[u16])
     requires even { at % 2 ≡ 0 }
-    requires low { 17408 ≤ at }
+    requires low { fram_first ≤ at }
     requires room { at + 2 * length words.now ≤ 65536 }
     ensures each { (a : ℕ) → IsFram a → fram_of image.new.words a
         ≡ (if is_within (record { address = at; words = length words.now }) a then slice_index words.now ((a - at) / 2) else fram_of image.old.words a) }
@@ -82,17 +83,17 @@ pub fn put_image(
 )
     requires blank { image.old.words ≡ zeros 24064 }
     requires places { ArePlacesOf shared.now layout.now.variables }
-    requires room { layout.now.boot.address + 2 * length code.now ≤ 65534 }
-    ensures each { (a : ℕ) → IsFram a → fram_of image.new.words a ≡ (if a == 0xFFFE then layout.now.boot.address
+    requires room { layout.now.boot.address + 2 * length code.now ≤ reset_vector }
+    ensures each { (a : ℕ) → IsFram a → fram_of image.new.words a ≡ (if a == reset_vector then layout.now.boot.address
         else if is_within (record { address = layout.now.boot.address; words = length code.now }) a then slice_index code.now ((a - layout.now.boot.address) / 2)
-        else if a == layout.now.words.current_task then entry
+        else if a == word_place layout.now CurrentTask then entry
         else shared_word layout.now.variables (map (λ d. initial_words d.extent) shared.now) a) }
     ensures are_words { AreWords image.old.words → AreWords image.new.words }
     ensures same_map { image.new.map ≡ image.old.map }
 {
     layout.rules();
     put_scalars(image, shared, layout.variables());
-    put_word(image, layout.words().current_task, entry);
+    put_word(image, layout.word_place(RuntimeWord::CurrentTask), entry);
     put_words(image, layout.boot().address, code);
-    put_word(image, VECTOR, layout.boot().address);
+    put_word(image, RESET_VECTOR, layout.boot().address);
 }

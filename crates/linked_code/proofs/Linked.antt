@@ -7,10 +7,7 @@ use Rattle.runtime_code.proofs.Sizes.{code_bytes}
 use Rattle.array_versions.specs.Program.{Program}
 use Rattle.codegen.proofs.Lengths.{code_length}
 use Rattle.codegen.proofs.Instructions.{code_are}
-use Rattle.privatise.specs.LayoutValue.{LayoutValue, TaskLayoutValue}
-use Rattle.privatise.specs.Places.{end_of, AreInOrder}
 use Rattle.runtime_code.specs.Addresses.{start_address}
-use Rattle.runtime_code.specs.LayoutPlaces.{runtime_places}
 use Rattle.boot_runtime.specs.Entries.{task_entries}
 use Rattle.boot_runtime.proofs.Words.{boot_is_short, boot_is_code}
 use Rattle.commit_runtime.proofs.Words.{commit_is_short, commit_is_code}
@@ -18,8 +15,11 @@ use Rattle.linked_code.specs.Parts.{part_end, PartsInOrder}
 use Rattle.linked_code.specs.Linked.{boot_part, commit_part, task_part, task_parts, code_parts, linked_forms, linked, ProgramsFit, CodeFits}
 use Rattle.linked_code.specs.Laws.{LinkedIsCode, LinkedStands, PartStands}
 use Rattle.linked_code.proofs.Parts.{chained_end, AllStand, chained_stands, AllAre, chained_are, from_before}
+use Rattle.memory_map.specs.MemoryMap.{MemoryMap, TaskPlace}
+use Rattle.memory_map.specs.Places.{end_of, AreInOrder}
+use Rattle.memory_map.proofs.Parts.{apart_of, even_of}
 
-tasks_in_order : (from : ℕ) (ts : List TaskLayoutValue) (ps : List Program) (end : ℕ) → AreInOrder from (map (λ t. t.code) ts) end → ProgramsFit ts ps
+tasks_in_order : (from : ℕ) (ts : List TaskPlace) (ps : List Program) (end : ℕ) → AreInOrder from (map (λ t. t.code) ts) end → ProgramsFit ts ps
     → PartsInOrder from (task_parts ts ps) end
 tasks_in_order from [] ps end o f = o
 tasks_in_order from (t ∷ ts) [] end o f = absurd f
@@ -31,40 +31,40 @@ tasks_in_order from (t ∷ ts) (p ∷ ps) end o f =
           (tasks_in_order (end_of t.code) ts ps end o.1 f.1),
     )
 
-boot_length : (l : LayoutValue) (programs : List Program) → CodeFits l programs → part_end (boot_part l) ≤ l.commit.address
+boot_length : (l : MemoryMap) (programs : List Program) → CodeFits l programs → part_end (boot_part l) ≤ l.commit.address
 boot_length l programs f =
-    let a = boot_is_short (runtime_places l) l.commit.address (task_entries l) l.boot.address in
+    let a = boot_is_short l l.commit.address (task_entries l) l.boot.address in
     let b = code_bytes (boot_part l).forms in
-    let c = f.boot in let d = f.rules.apart.commit in
+    let c = f.boot in let d = (apart_of l f.rules).commit in
     omega (arith, a, b, c, d)
 
-commit_length : (l : LayoutValue) (programs : List Program) → CodeFits l programs → part_end (commit_part l) ≤ l.code.address
+commit_length : (l : MemoryMap) (programs : List Program) → CodeFits l programs → part_end (commit_part l) ≤ l.code.address
 commit_length l programs f =
-    let a = commit_is_short (runtime_places l) (start_address l.boot.address) in
+    let a = commit_is_short l (start_address l.boot.address) in
     let b = code_bytes (commit_part l).forms in
-    let c = f.commit in let d = f.rules.apart.code in
+    let c = f.commit in let d = (apart_of l f.rules).code in
     omega (arith, a, b, c, d)
 
 -- the parts of linked code stand one behind another
-pub in_order : (l : LayoutValue) (programs : List Program) → CodeFits l programs → PartsInOrder l.boot.address (code_parts l programs) (end_of l.code)
+pub in_order : (l : MemoryMap) (programs : List Program) → CodeFits l programs → PartsInOrder l.boot.address (code_parts l programs) (end_of l.code)
 in_order l programs f = (
-  record { from = omega arith; even = f.rules.even.boot },
+  record { from = omega arith; even = (even_of l f.rules).boot },
   (
-    record { from = boot_length l programs f; even = f.rules.even.commit },
+    record { from = boot_length l programs f; even = (even_of l f.rules).commit },
     from_before l.code.address (part_end (commit_part l)) (task_parts l.tasks programs) (end_of l.code) (commit_length l programs f)
         (tasks_in_order l.code.address l.tasks programs (end_of l.code) f.rules.code f.tasks),
   ),
 )
 
-tasks_are : (ts : List TaskLayoutValue) (ps : List Program) → AllAre (task_parts ts ps)
+tasks_are : (ts : List TaskPlace) (ps : List Program) → AllAre (task_parts ts ps)
 tasks_are [] ps = tt
 tasks_are (t ∷ ts) [] = tt
 tasks_are (t ∷ ts) (p ∷ ps) = (code_are t.code.address p, tasks_are ts ps)
 
-ends : (l : LayoutValue) (programs : List Program) → CodeFits l programs → l.boot.address + 2 * length (words_of (linked l programs)) ≤ end_of l.code
+ends : (l : MemoryMap) (programs : List Program) → CodeFits l programs → l.boot.address + 2 * length (words_of (linked l programs)) ≤ end_of l.code
 ends l programs f =
     let a = code_bytes (linked_forms l programs) in
-    let b = chained_end l.boot.address (code_parts l programs) (end_of l.code) f.rules.even.boot (in_order l programs f) in
+    let b = chained_end l.boot.address (code_parts l programs) (end_of l.code) (even_of l f.rules).boot (in_order l programs f) in
     omega (arith, a, b)
 
 pub linked_is_code : LinkedIsCode
@@ -73,14 +73,14 @@ linked_is_code l programs f =
     let h = f.high in
     record {
       instructions = chained_are l.boot.address (code_parts l programs) (
-        boot_is_code (runtime_places l) l.commit.address (task_entries l) l.boot.address,
-        (commit_is_code (runtime_places l) (start_address l.boot.address), tasks_are l.tasks programs),
+        boot_is_code l l.commit.address (task_entries l) l.boot.address,
+        (commit_is_code l (start_address l.boot.address), tasks_are l.tasks programs),
       );
       end = e;
-      tidy = placed_is_tidy (linked l programs) l.boot.address f.rules.even.boot (omega (arith, e, h));
+      tidy = placed_is_tidy (linked l programs) l.boot.address (even_of l f.rules).boot (omega (arith, e, h));
     }
 
-task_stands : (code : Code) (ts : List TaskLayoutValue) (ps : List Program) → AllStand code (task_parts ts ps) → (k : ℕ) (t : TaskLayoutValue) (p : Program)
+task_stands : (code : Code) (ts : List TaskPlace) (ps : List Program) → AllStand code (task_parts ts ps) → (k : ℕ) (t : TaskPlace) (p : Program)
     → slice_get ts k ≡ Some t → slice_get ps k ≡ Some p → PartStands code (task_part t p)
 task_stands code [] ps h k t p a b = absurd (cc (a))
 task_stands code (u ∷ ts) [] h k t p a b = absurd (cc (b))
@@ -92,7 +92,7 @@ task_stands code (u ∷ ts) (q ∷ ps) h (suc k) t p a b = task_stands code ts p
 pub linked_stands : LinkedStands
 linked_stands l programs f =
     let code = placed l.boot.address (linked l programs) in
-    let s = chained_stands code l.boot.address (code_parts l programs) (end_of l.code) f.rules.even.boot (in_order l programs f)
+    let s = chained_stands code l.boot.address (code_parts l programs) (end_of l.code) (even_of l f.rules).boot (in_order l programs f)
     (forms_stand (linked_forms l programs) l.boot.address) in
     record {
       boot = s.0;

@@ -5,8 +5,8 @@ use Rattle.task_ast.specs.declared.SharedDeclaration.{SharedDeclaration}
 use Rattle.cost_bound.specs.Allowance.{CheckedTask, scalars_of, total}
 use Rattle.war_analysis.specs.PlanValue.{TaskPlanValue}
 use Rattle.array_versions.specs.Program.{Program}
-use Rattle.privatise.specs.declared.place.PrivateScalar.{PrivateScalar}
-use Rattle.privatise.specs.LayoutValue.{TaskLayoutValue}
+use Rattle.memory_map.specs.declared.place.PrivateScalar.{PrivateScalar}
+use Rattle.memory_map.specs.MemoryMap.{TaskPlace}
 use Rattle.privatise.specs.Sizes.{body_words, entry_words}
 use Rattle.runtime_code.specs.LayoutPlaces.{pair_of}
 use Rattle.boot_runtime.specs.Entries.{entry_of, task_entries}
@@ -16,19 +16,19 @@ use Rattle.linked_code.specs.Linked.{ProgramsFit}
 use Rattle.linked_code.specs.Rooms.{ProgramsKeep, LayoutsHaveRoom}
 
 -- a task has the words and the private scalars that the allowance counts
-record IsCounted (shared : List SharedDeclaration) (task : CheckedTask) (t : TaskLayoutValue) : Type 0 where
+record IsCounted (shared : List SharedDeclaration) (task : CheckedTask) (t : TaskPlace) : Type 0 where
   pub privates : length t.privates ≡ scalars_of shared task.body
   pub words : t.code.words ≡ body_words shared task.body
 
 -- each task has
-abbrev AreCounted : List SharedDeclaration → List CheckedTask → List TaskLayoutValue → Type 0
+abbrev AreCounted : List SharedDeclaration → List CheckedTask → List TaskPlace → Type 0
 AreCounted shared [] [] = Unit {0}
 AreCounted shared [] (t ∷ ts) = ⊥
 AreCounted shared (task ∷ tasks) [] = ⊥
 AreCounted shared (task ∷ tasks) (t ∷ ts) = IsCounted shared task t × AreCounted shared tasks ts
 
-are_counted : (shared : List SharedDeclaration) (tasks : List CheckedTask) (ts : List TaskLayoutValue) → length ts ≡ length tasks
-    → ((k : ℕ) (task : CheckedTask) (t : TaskLayoutValue) → slice_get tasks k ≡ Some task → slice_get ts k ≡ Some t → IsCounted shared task t)
+are_counted : (shared : List SharedDeclaration) (tasks : List CheckedTask) (ts : List TaskPlace) → length ts ≡ length tasks
+    → ((k : ℕ) (task : CheckedTask) (t : TaskPlace) → slice_get tasks k ≡ Some task → slice_get ts k ≡ Some t → IsCounted shared task t)
     → AreCounted shared tasks ts
 are_counted shared [] [] n f = tt
 are_counted shared [] (t ∷ ts) n f = absurd (omega (arith, n))
@@ -40,7 +40,7 @@ pairs_count : (xs : List PrivateScalar) → length (map pair_of xs) ≡ length x
 pairs_count [] = refl
 pairs_count (x ∷ xs) = let e = pairs_count xs in omega (arith, e)
 
-entries_room : (shared : List SharedDeclaration) (tasks : List CheckedTask) (ts : List TaskLayoutValue) → AreCounted shared tasks ts
+entries_room : (shared : List SharedDeclaration) (tasks : List CheckedTask) (ts : List TaskPlace) → AreCounted shared tasks ts
     → entry_room (map entry_of ts) ≡ total (entry_words shared) tasks
 entries_room shared [] [] h = refl
 entries_room shared [] (t ∷ ts) h = absurd h
@@ -51,7 +51,7 @@ entries_room shared (task ∷ tasks) (t ∷ ts) h =
     let k = h.0.privates in
     omega (arith, e, d, k)
 
-programs_fit : (shared : List SharedDeclaration) (tasks : List CheckedTask) (ts : List TaskLayoutValue) (qs : List Program) → AreCounted shared tasks ts
+programs_fit : (shared : List SharedDeclaration) (tasks : List CheckedTask) (ts : List TaskPlace) (qs : List Program) → AreCounted shared tasks ts
     → ProgramsKeep shared tasks qs → ProgramsFit ts qs
 programs_fit shared [] [] [] h k = tt
 programs_fit shared [] [] (q ∷ qs) h k = k

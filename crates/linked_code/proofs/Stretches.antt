@@ -12,12 +12,10 @@ use Rattle.array_versions.specs.Cost.{spent}
 use Rattle.codegen.specs.Code.{code_of}
 use Rattle.codegen.specs.Laws.{IsEntry, ComesTo}
 use Rattle.codegen.proofs.Whole.{code_does_as_program}
-use Rattle.privatise.specs.LayoutValue.{LayoutValue, TaskLayoutValue}
 use Rattle.runtime_effects.specs.Stages.{start_effects, commit_effects}
 use Rattle.runtime_effects.specs.Needs.{CanCommit}
-use Rattle.runtime_code.specs.Addresses.{start_address, stack_top}
+use Rattle.runtime_code.specs.Addresses.{start_address}
 use Rattle.runtime_code.specs.Comes.{Comes, IsAt, Enters}
-use Rattle.runtime_code.specs.LayoutPlaces.{runtime_places}
 use Rattle.runtime_code.proofs.Chains.{comes_on}
 use Rattle.runtime_code.proofs.Layouts.{places_are_in_fram, opening_keeps_task}
 use Rattle.boot_runtime.specs.Entries.{entry_of, task_entries}
@@ -30,28 +28,32 @@ use Rattle.commit_runtime.proofs.Commit.{commit_is_made}
 use Rattle.linked_code.specs.Linked.{linked, ProgramsFit, CodeFits, ProgramsAreWhole}
 use Rattle.linked_code.specs.Laws.{IsLinkedCode, PartsStand}
 use Rattle.linked_code.proofs.Linked.{linked_is_code, linked_stands}
+use Rattle.memory_map.specs.declared.words.RuntimeWord.TheVariants.{CurrentTask, Gate, ListLength, EmitCount}
+use Rattle.memory_map.specs.MemoryMap.{MemoryMap, TaskPlace, word_place}
+use Rattle.memory_map.proofs.Parts.{apart_of, even_of}
+use Rattle.address_space.specs.Limits.{stack_top}
 
 -- a task's layout where there is none
-abbrev no_task : TaskLayoutValue
+abbrev no_task : TaskPlace
 no_task = record { privates = []; code = record { address = 0; words = 0 } }
 
-entry_is : (ts : List TaskLayoutValue) (k : ℕ) → entry_at (map entry_of ts) k ≡ entry_of (get_or ts k no_task)
+entry_is : (ts : List TaskPlace) (k : ℕ) → entry_at (map entry_of ts) k ≡ entry_of (get_or ts k no_task)
 entry_is [] k = refl
 entry_is (t ∷ ts) zero = refl
 entry_is (t ∷ ts) (suc k) = entry_is ts k
 
-entries_count : (ts : List TaskLayoutValue) → length (map entry_of ts) ≡ length ts
+entries_count : (ts : List TaskPlace) → length (map entry_of ts) ≡ length ts
 entries_count [] = refl
 entries_count (t ∷ ts) = let e = entries_count ts in omega (arith, e)
 
 -- there are as many programs as tasks with places
-pub programs_count : (ts : List TaskLayoutValue) (ps : List Program) → ProgramsFit ts ps → length ps ≡ length ts
+pub programs_count : (ts : List TaskPlace) (ps : List Program) → ProgramsFit ts ps → length ps ≡ length ts
 programs_count [] [] f = refl
 programs_count [] (p ∷ ps) f = absurd f
 programs_count (t ∷ ts) [] f = absurd f
 programs_count (t ∷ ts) (p ∷ ps) f = let e = programs_count ts ps f.1 in omega (arith, e)
 
-module _ (l : LayoutValue) (programs : List Program) (fits : CodeFits l programs) (whole : ProgramsAreWhole programs) where
+module _ (l : MemoryMap) (programs : List Program) (fits : CodeFits l programs) (whole : ProgramsAreWhole programs) where
   abbrev pub code : Code
   code = placed l.boot.address (linked l programs)
 
@@ -70,53 +72,53 @@ module _ (l : LayoutValue) (programs : List Program) (fits : CodeFits l programs
   parts : PartsStand l programs code
   parts = linked_stands l programs fits
 
-  is_boot : IsBoot code (runtime_places l) l.commit.address tasks l.boot.address
+  is_boot : IsBoot code l l.commit.address tasks l.boot.address
   is_boot =
-      let f = fits.boot in let c = fits.rules.apart.commit in let d = fits.rules.apart.code in let k = fits.rules.apart.high in
+      let f = fits.boot in let c = (apart_of l fits.rules).commit in let d = (apart_of l fits.rules).code in let k = (apart_of l fits.rules).high in
       record {
         tidy = is_linked.tidy;
         places = places_are_in_fram l fits.rules;
         task = opening_keeps_task l fits.rules;
-        even_commit = fits.rules.even.commit;
+        even_commit = (even_of l fits.rules).commit;
         entered = tasks_are_entered l fits.rules;
-        even = fits.rules.even.boot;
+        even = (even_of l fits.rules).boot;
         room = omega (arith, f, c, d, k);
         stands = parts.boot;
       }
 
   -- from the boot to the start of an attempt
-  pub to_start : (u : Core) → u.pc ≡ l.boot.address → u.fram l.words.gate ≡ 0 → Comes code [] 3 8 u (IsAt start_at u.fram u.readings_left)
+  pub to_start : (u : Core) → u.pc ≡ l.boot.address → u.fram (word_place l Gate) ≡ 0 → Comes code [] 3 8 u (IsAt start_at u.fram u.readings_left)
   to_start u e z =
-      let a = attempt_is_found code (runtime_places l) l.commit.address tasks l.boot.address u is_boot e (omega (arith, z)) (λ q. omega (arith, z, q)) in
+      let a = attempt_is_found code l l.commit.address tasks l.boot.address u is_boot e (omega (arith, z)) (λ q. omega (arith, z, q)) in
       record { end = a.end; leads = a.leads; holds = record { pc = a.holds.pc; fram = a.holds.fram; readings_left = a.holds.readings_left } }
 
   -- from the start of an attempt on FRAM and readings to the code of a task
   abbrev pub FromStart : Core → (ℕ → ℕ) → List ℕ → Type 0
   FromStart v f rs =
-      let t = entry_at tasks (f l.words.current_task) in
-      let es = start_effects (runtime_places l) (privates_in tasks) f in
-      Comes code es (start_steps l.versions.capacity (length t.privates)) (start_cycles l.versions.capacity (length t.privates)) v
+      let t = entry_at tasks (f (word_place l CurrentTask)) in
+      let es = start_effects l (privates_in tasks) f in
+      Comes code es (start_steps l.versions.words (length t.privates)) (start_cycles l.versions.words (length t.privates)) v
       (Enters t.code stack_top (fram_after es f) rs)
 
-  start_there : (v : Core) (f : ℕ → ℕ) (rs : List ℕ) → IsAt start_at f rs v → f l.words.current_task < length tasks → FromStart v f rs
+  start_there : (v : Core) (f : ℕ → ℕ) (rs : List ℕ) → IsAt start_at f rs v → f (word_place l CurrentTask) < length tasks → FromStart v f rs
   start_there v f rs h named =
-      let k : v.fram l.words.current_task < length tasks = subst (λ g. g l.words.current_task < length tasks) (sym h.fram) named in
-      let a : FromStart v v.fram v.readings_left = start_is_made code (runtime_places l) l.commit.address tasks l.boot.address v is_boot h.pc k in
+      let k : v.fram (word_place l CurrentTask) < length tasks = subst (λ g. g (word_place l CurrentTask) < length tasks) (sym h.fram) named in
+      let a : FromStart v v.fram v.readings_left = start_is_made code l l.commit.address tasks l.boot.address v is_boot h.pc k in
       subst (λ q. FromStart v f q) h.readings_left (subst (λ g. FromStart v g v.readings_left) h.fram a)
 
   -- from where a board enters to the code of the task that CUR names
   pub to_task : (u : Core) (steps cycles : ℕ) → Comes code [] steps cycles u (IsAt start_at u.fram u.readings_left)
-      → u.fram l.words.current_task < length programs
-      → let t = entry_at tasks (u.fram l.words.current_task) in
-      let es = start_effects (runtime_places l) (privates_in tasks) u.fram in
-      Comes code es (steps + start_steps l.versions.capacity (length t.privates)) (cycles + start_cycles l.versions.capacity (length t.privates)) u
+      → u.fram (word_place l CurrentTask) < length programs
+      → let t = entry_at tasks (u.fram (word_place l CurrentTask)) in
+      let es = start_effects l (privates_in tasks) u.fram in
+      Comes code es (steps + start_steps l.versions.words (length t.privates)) (cycles + start_cycles l.versions.words (length t.privates)) u
       (Enters t.code stack_top (fram_after es u.fram) u.readings_left)
   to_task u steps cycles a named =
       let count = programs_count l.tasks programs fits.tasks in
       let e = entries_count l.tasks in
-      let t = entry_at tasks (u.fram l.words.current_task) in
-      let es = start_effects (runtime_places l) (privates_in tasks) u.fram in
-      comes_on code steps (start_steps l.versions.capacity (length t.privates)) cycles (start_cycles l.versions.capacity (length t.privates)) u
+      let t = entry_at tasks (u.fram (word_place l CurrentTask)) in
+      let es = start_effects l (privates_in tasks) u.fram in
+      comes_on code steps (start_steps l.versions.words (length t.privates)) cycles (start_cycles l.versions.words (length t.privates)) u
       (IsAt start_at u.fram u.readings_left) (Enters t.code stack_top (fram_after es u.fram) u.readings_left) [] es a
       (λ v h. start_there v u.fram u.readings_left h (omega (arith, named, count, e)))
 
@@ -153,28 +155,29 @@ module _ (l : LayoutValue) (programs : List Program) (fits : CodeFits l programs
   -- the commit on FRAM
   abbrev pub DoesCommit : Core → (ℕ → ℕ) → List ℕ → Type 0
   DoesCommit v f rs =
-      let es = commit_effects (runtime_places l) f in
-      Comes code es (commit_steps (f l.words.list_length) (f l.words.emit_count)) (commit_cycles (f l.words.list_length) (f l.words.emit_count)) v
+      let es = commit_effects l f in
+      Comes code es (commit_steps (f (word_place l ListLength)) (f (word_place l EmitCount)))
+      (commit_cycles (f (word_place l ListLength)) (f (word_place l EmitCount))) v
       (IsAt start_at (fram_after es f) rs)
 
   -- where the commit is entered and can be made, its code makes it
-  pub commit_there : (v : Core) (f : ℕ → ℕ) (rs : List ℕ) → IsAt l.commit.address f rs v → CanCommit (runtime_places l) f → DoesCommit v f rs
+  pub commit_there : (v : Core) (f : ℕ → ℕ) (rs : List ℕ) → IsAt l.commit.address f rs v → CanCommit l f → DoesCommit v f rs
   commit_there v f rs h can =
-      let c = fits.commit in let d = fits.rules.apart.code in let k = fits.rules.apart.high in
-      let even = fits.rules.even.boot in
-      let a : DoesCommit v v.fram v.readings_left = commit_is_made code (runtime_places l) l.commit.address start_at v is_linked.tidy is_boot.places
-      (omega (arith, c, d, k)) (omega (arith, even)) parts.commit h.pc (subst (CanCommit (runtime_places l)) (sym h.fram) can) in
+      let c = fits.commit in let d = (apart_of l fits.rules).code in let k = (apart_of l fits.rules).high in
+      let even = (even_of l fits.rules).boot in
+      let a : DoesCommit v v.fram v.readings_left = commit_is_made code l l.commit.address start_at v is_linked.tidy is_boot.places
+      (omega (arith, c, d, k)) (omega (arith, even)) parts.commit h.pc (subst (CanCommit l) (sym h.fram) can) in
       subst (λ q. DoesCommit v f q) h.readings_left (subst (λ g. DoesCommit v g v.readings_left) h.fram a)
 
   -- from the boot to the commit, where GATE is 1
-  pub to_commit : (u : Core) → u.pc ≡ l.boot.address → u.fram l.words.gate ≡ 1 → CanCommit (runtime_places l) u.fram
-      → let es = commit_effects (runtime_places l) u.fram in
-      let n = u.fram l.words.list_length in let k = u.fram l.words.emit_count in
+  pub to_commit : (u : Core) → u.pc ≡ l.boot.address → u.fram (word_place l Gate) ≡ 1 → CanCommit l u.fram
+      → let es = commit_effects l u.fram in
+      let n = u.fram (word_place l ListLength) in let k = u.fram (word_place l EmitCount) in
       Comes code es (4 + commit_steps n k) (11 + commit_cycles n k) u (IsAt start_at (fram_after es u.fram) u.readings_left)
   to_commit u e one can =
-      let es = commit_effects (runtime_places l) u.fram in
-      let n = u.fram l.words.list_length in let k = u.fram l.words.emit_count in
+      let es = commit_effects l u.fram in
+      let n = u.fram (word_place l ListLength) in let k = u.fram (word_place l EmitCount) in
       comes_on code 4 (commit_steps n k) 11 (commit_cycles n k) u (Enters l.commit.address stack_top u.fram u.readings_left)
       (IsAt start_at (fram_after es u.fram) u.readings_left) [] es
-      (pending_commit_is_found code (runtime_places l) l.commit.address tasks l.boot.address u is_boot e one)
+      (pending_commit_is_found code l l.commit.address tasks l.boot.address u is_boot e one)
       (λ v h. commit_there v u.fram u.readings_left (record { pc = h.pc; fram = h.fram; readings_left = h.readings_left }) can)

@@ -4,29 +4,29 @@ use Rattle.machine_effects.specs.Machine.{Code}
 use Rattle.code_forms.specs.Code.{Stands, IsTidy}
 use Rattle.code_forms.specs.Placed.{placed, words_of, AreInstructions}
 use Rattle.array_versions.specs.Program.{Program}
-use Rattle.privatise.specs.LayoutValue.{LayoutValue, TaskLayoutValue}
-use Rattle.privatise.specs.Places.{end_of}
+use Rattle.memory_map.specs.MemoryMap.{MemoryMap, TaskPlace}
+use Rattle.memory_map.specs.Places.{end_of}
 use Rattle.linked_code.specs.Parts.{CodePart}
 use Rattle.linked_code.specs.Linked.{linked, boot_part, commit_part, task_part, CodeFits}
 
 -- the code is instructions, at even addresses, and ends where the layout's code does, at the latest
-pub record IsLinkedCode (l : LayoutValue) (programs : List Program) : Type 0 where
+pub record IsLinkedCode (l : MemoryMap) (programs : List Program) : Type 0 where
   pub instructions : AreInstructions (linked l programs)
   pub end : l.boot.address + 2 * length (words_of (linked l programs)) ≤ end_of l.code
   pub tidy : IsTidy (placed l.boot.address (linked l programs))
 
 abbrev pub LinkedIsCode : Type 0
-LinkedIsCode = (l : LayoutValue) (programs : List Program) → CodeFits l programs → IsLinkedCode l programs
+LinkedIsCode = (l : MemoryMap) (programs : List Program) → CodeFits l programs → IsLinkedCode l programs
 
 -- a part stands at its place
 abbrev pub PartStands : Code → CodePart → Type 0
 PartStands code part = Stands code part.address part.forms
 
 -- boot, commit and each task's code stand at their places
-pub record PartsStand (l : LayoutValue) (programs : List Program) (code : Code) : Type 0 where
+pub record PartsStand (l : MemoryMap) (programs : List Program) (code : Code) : Type 0 where
   pub boot : PartStands code (boot_part l)
   pub commit : PartStands code (commit_part l)
-  pub tasks : (k : ℕ) (t : TaskLayoutValue) (p : Program) → slice_get l.tasks k ≡ Some t → slice_get programs k ≡ Some p → PartStands code (task_part t p)
+  pub tasks : (k : ℕ) (t : TaskPlace) (p : Program) → slice_get l.tasks k ≡ Some t → slice_get programs k ≡ Some p → PartStands code (task_part t p)
 
 abbrev pub LinkedStands : Type 0
-LinkedStands = (l : LayoutValue) (programs : List Program) → CodeFits l programs → PartsStand l programs (placed l.boot.address (linked l programs))
+LinkedStands = (l : MemoryMap) (programs : List Program) → CodeFits l programs → PartsStand l programs (placed l.boot.address (linked l programs))

@@ -7,57 +7,56 @@ use Rattle.array_versions.specs.Program.{Program, nothing}
 use Rattle.array_versions.specs.Form.{IsWhole, OfWords}
 use Rattle.array_versions.specs.Cost.{words_of}
 use Rattle.codegen.specs.Code.{code_of}
-use Rattle.privatise.specs.LayoutValue.{LayoutValue, TaskLayoutValue}
-use Rattle.privatise.specs.Places.{end_of, IsLaidOut}
+use Rattle.memory_map.specs.MemoryMap.{MemoryMap, TaskPlace}
+use Rattle.memory_map.specs.Places.{end_of, IsLaidOut}
 use Rattle.runtime_code.specs.Addresses.{start_address}
-use Rattle.runtime_code.specs.LayoutPlaces.{runtime_places}
 use Rattle.boot_runtime.specs.Entries.{task_entries}
 use Rattle.boot_runtime.specs.Listing.{boot_forms, boot_bytes}
 use Rattle.commit_runtime.specs.Listing.{commit_forms, commit_bytes}
 use Rattle.linked_code.specs.Parts.{CodePart, chained}
 
 -- the boot, with the start of an attempt
-abbrev pub boot_part : LayoutValue → CodePart
+abbrev pub boot_part : MemoryMap → CodePart
 boot_part l = record {
   address = l.boot.address;
-  forms = boot_forms (runtime_places l) l.commit.address (task_entries l) l.boot.address;
+  forms = boot_forms l l.commit.address (task_entries l) l.boot.address;
 }
 
 -- the commit
-abbrev pub commit_part : LayoutValue → CodePart
-commit_part l = record { address = l.commit.address; forms = commit_forms (runtime_places l) (start_address l.boot.address) }
+abbrev pub commit_part : MemoryMap → CodePart
+commit_part l = record { address = l.commit.address; forms = commit_forms l (start_address l.boot.address) }
 
 -- a task's code
-abbrev pub task_part : TaskLayoutValue → Program → CodePart
+abbrev pub task_part : TaskPlace → Program → CodePart
 task_part t p = record { address = t.code.address; forms = code_of t.code.address p }
 
 -- the code of tasks, each with its program
-abbrev pub task_parts : List TaskLayoutValue → List Program → List CodePart
+abbrev pub task_parts : List TaskPlace → List Program → List CodePart
 task_parts [] programs = []
 task_parts (t ∷ ts) [] = []
 task_parts (t ∷ ts) (p ∷ ps) = task_part t p ∷ task_parts ts ps
 
 -- all parts
-abbrev pub code_parts : LayoutValue → List Program → List CodePart
+abbrev pub code_parts : MemoryMap → List Program → List CodePart
 code_parts l programs = boot_part l ∷ commit_part l ∷ task_parts l.tasks programs
 
 -- the whole code as forms
-abbrev pub linked_forms : LayoutValue → List Program → List Form
+abbrev pub linked_forms : MemoryMap → List Program → List Form
 linked_forms l programs = chained l.boot.address (code_parts l programs)
 
 -- the whole code
-abbrev pub linked : LayoutValue → List Program → List Instr
+abbrev pub linked : MemoryMap → List Program → List Instr
 linked l programs = instructions (linked_forms l programs)
 
 -- each program has the room that its task has
-abbrev pub ProgramsFit : List TaskLayoutValue → List Program → Type 0
+abbrev pub ProgramsFit : List TaskPlace → List Program → Type 0
 ProgramsFit [] [] = Unit {0}
 ProgramsFit [] (p ∷ ps) = ⊥
 ProgramsFit (t ∷ ts) [] = ⊥
 ProgramsFit (t ∷ ts) (p ∷ ps) = (words_of p ≤ t.code.words) × ProgramsFit ts ps
 
 -- the code has its room in the layout, and behind it there is room for an instruction
-pub record CodeFits (l : LayoutValue) (programs : List Program) : Type 0 where
+pub record CodeFits (l : MemoryMap) (programs : List Program) : Type 0 where
   pub rules : IsLaidOut l
   pub boot : boot_bytes (task_entries l) ≤ 2 * l.boot.words
   pub commit : commit_bytes ≤ 2 * l.commit.words

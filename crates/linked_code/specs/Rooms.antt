@@ -6,7 +6,7 @@ use Rattle.cost_bound.specs.Allowance.{CheckedProgram, CheckedTask, IsAllowed, s
 use Rattle.war_analysis.specs.PlanValue.{TaskPlanValue}
 use Rattle.array_versions.specs.Program.{Program}
 use Rattle.array_versions.specs.Cost.{words_of}
-use Rattle.privatise.specs.LayoutValue.{LayoutValue, TaskLayoutValue}
+use Rattle.memory_map.specs.MemoryMap.{MemoryMap, TaskPlace}
 use Rattle.privatise.specs.Layouts.{IsLayout}
 use Rattle.privatise.specs.Sizes.{body_words}
 use Rattle.linked_code.specs.Linked.{CodeFits}
@@ -19,12 +19,12 @@ ProgramsKeep shared (t ∷ ts) [] = ⊥
 ProgramsKeep shared (t ∷ ts) (q ∷ qs) = (words_of q ≤ body_words shared t.body) × ProgramsKeep shared ts qs
 
 -- each task has as many private scalars as the allowance counts
-abbrev pub PrivatesAreCounted : CheckedProgram → LayoutValue → Type 0
-PrivatesAreCounted p l = (k : ℕ) (task : CheckedTask) (t : TaskLayoutValue) → slice_get p.tasks k ≡ Some task → slice_get l.tasks k ≡ Some t
+abbrev pub PrivatesAreCounted : CheckedProgram → MemoryMap → Type 0
+PrivatesAreCounted p l = (k : ℕ) (task : CheckedTask) (t : TaskPlace) → slice_get p.tasks k ≡ Some task → slice_get l.tasks k ≡ Some t
     → length t.privates ≡ scalars_of p.shared task.body
 
 -- the layout of a source that costs no more than it may has room for the code
 abbrev pub LayoutsHaveRoom : Type 0
-LayoutsHaveRoom = (p : CheckedProgram) (allow : Allow) (plans : List TaskPlanValue) (l : LayoutValue) (programs : List Program)
+LayoutsHaveRoom = (p : CheckedProgram) (allow : Allow) (plans : List TaskPlanValue) (l : MemoryMap) (programs : List Program)
     → IsAllowed p allow → IsLayout p allow plans l → length plans ≡ length p.tasks → PrivatesAreCounted p l → ProgramsKeep p.shared p.tasks programs
     → CodeFits l programs

@@ -3,9 +3,9 @@ use Rattle.std.proofs.Common.{◌≡◌, ℕ, ◌+◌, ◌*◌, ◌%◌, ◌<◌
 use Rattle.std.proofs.lemmas.Bool.{cases_eq}
 use Rattle.fram_board.specs.Bus.{is_fram}
 use Rattle.array_versions.specs.Behaviour.{Behaviour, strays, is_place, at_place}
-use Rattle.privatise.specs.declared.place.ArrayCopies.{ArrayCopies}
-use Rattle.lower.specs.Places.{Places}
-use Rattle.lower.specs.Spots.{IsScalarPlace, IsScalarAt, IsArrayAt, Element, IsElement, IsCopied, Spot, copy, IsSpot, element_in, copy_in, version_in, element_address, copy_address, version_address, spot_address, Room, AreApart, AreEven, AreDifferent}
+use Rattle.memory_map.specs.declared.place.ArrayCopies.{ArrayCopies}
+use Rattle.memory_map.specs.Spots.{Places, IsScalarPlace, IsScalarAt, IsArrayAt, Element, IsElement, IsCopied, Spot, copy, IsSpot, element_in, copy_in, version_in, element_address, copy_address, version_address, spot_address}
+use Rattle.lower.specs.Spots.{Room, AreApart, AreEven, AreDifferent}
 
 -- ---- places
 

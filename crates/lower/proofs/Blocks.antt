@@ -7,7 +7,6 @@ use Rattle.task_ast.specs.Paths.{CheckedExpression, CheckedStatement, CheckedCho
 use Rattle.task_ast.specs.declared.names.Variable.{Variable}
 use Rattle.task_ast.specs.declared.names.Variable.TheVariants.{Shared, Local}
 use Rattle.cost_bound.specs.Allowance.{CheckedTask}
-use Rattle.privatise.specs.LayoutValue.{LayoutValue, TaskLayoutValue}
 use Rattle.source_values.specs.Values.{value_of, holds}
 use Rattle.source_values.specs.Statements as source
 use Rattle.source_values.specs.Statements.{Attempt, Outcome, goes_on, to_task, short, and_then, if_value, run_statement, run_choice, run_block, statement_emits, choice_emits, block_emits}
@@ -17,10 +16,9 @@ use Rattle.array_versions.specs.Program.{Program, emit_word, versioned_write, ch
 use Rattle.array_versions.specs.Behaviour as words
 use Rattle.array_versions.specs.Behaviour.{WordState, End, GoesOn, Jumps, Short, Strays, Broken, Behaviour, behaves, behind_effects, on_end, then_on, is_place, at_place, stored, with_local, word_stored, word_emitted, chosen, step_behaviour, behaviour}
 use Rattle.array_versions.proofs.Joined.{joined_go_on, joined_assoc}
-use Rattle.privatise.specs.declared.place.VariablePlace.{VariablePlace}
-use Rattle.lower.specs.Places.{address_of, places_of}
+use Rattle.memory_map.specs.Spots.{places_of}
 use Rattle.lower.specs.Lowered.{one, write_step, written_array, list_place, store_step, loop_local, assignment, element_assignment, lowered_transition, lowered_expression, lowered_statement, lowered_choice, lowered_block, lowered_tasks}
-use Rattle.lower.specs.Spots.{Element, scalar, listed_of}
+use Rattle.lower.specs.Spots.{listed_of}
 use Rattle.lower.specs.Agreement.{IsTarget, IsWrittenArray, IsLocal, ExpressionFits, StatementFits, ChoiceFits, BlockFits, StandsFor, at_variable, at_emit_count, in_buffer, valued, AgreesWithValue, BlocksAgree}
 use Rattle.lower.proofs.Addresses.{fram_place, placed, spot_place}
 use Rattle.lower.proofs.Values.{suc_holds, expressions_agree}
@@ -29,6 +27,11 @@ use Rattle.lower.proofs.Stored.{same_variables, same_list, same_emits, spot_list
 use Rattle.lower.proofs.Transitions.{transition_behaves}
 use Rattle.lower.proofs.Ends.{Scene, Does, does_then, does_alone, does_value}
 use Rattle.lower.proofs.Elements.{Begins, few_listed, list_fits, few_emitted, store_does}
+use Rattle.memory_map.specs.MemoryMap.{MemoryMap, TaskPlace, word_place}
+use Rattle.memory_map.specs.declared.words.RuntimeWord.TheVariants.{EmitCount, Version}
+use Rattle.memory_map.specs.declared.place.VariablePlace.{VariablePlace}
+use Rattle.memory_map.proofs.Parts.{word_even}
+use Rattle.memory_map.specs.Spots.{address_of, Element, scalar}
 
 module _ (z : Scene) where
   -- ---- assignments
@@ -124,22 +127,22 @@ module _ (z : Scene) where
 
   -- ---- emits
 
-  buffer_even : (n : ℕ) → (2 * n + z.p.emits) % 2 ≡ 0
+  buffer_even : (n : ℕ) → (2 * n + z.p.map.emits.address) % 2 ≡ 0
   buffer_even n = let h = z.even.emits in omega (arith, h)
 
-  buffer_place : (n : ℕ) → n < z.room.emits → is_place (2 * n + z.p.emits) ≡ true
-  buffer_place n h = let apart = z.apart in fram_place (2 * n + z.p.emits) (buffer_even n) (omega (arith, apart)) (omega (arith, apart, h))
+  buffer_place : (n : ℕ) → n < z.room.emits → is_place (2 * n + z.p.map.emits.address) ≡ true
+  buffer_place n h = let apart = z.apart in fram_place (2 * n + z.p.map.emits.address) (buffer_even n) (omega (arith, apart)) (omega (arith, apart, h))
 
   emit_does : (m : Attempt) (listed : List Element) (w : WordState) (count most : ℕ → ℕ) (v : ℕ) (left : List ℕ) → Begins z m listed w 1 count most
-      → Does z w.fram most w.stack (behaviour (one (emit_word z.p.words.emit_count z.p.emits)) (valued w (v, left)))
+      → Does z w.fram most w.stack (behaviour (one (emit_word (word_place z.p.map EmitCount) z.p.map.emits.address)) (valued w (v, left)))
       (goes_on (record m { emitted = m.emitted ++ v ∷ []; left = left }))
   emit_does m listed w many most v left h =
       let p = z.p in
       let apart = z.apart in
       let f = w.fram in
-      let count = p.words.emit_count in
+      let count = word_place p.map EmitCount in
       let n = f count in
-      let a = 2 * n + p.emits in
+      let a = 2 * n + p.map.emits.address in
       let u : WordState = record w { readings = left } in
       let o = goes_on (record m { emitted = m.emitted ++ v ∷ []; left = left }) in
       let counted = h.stands.emitted.emit_count in
@@ -147,8 +150,8 @@ module _ (z : Scene) where
       let fits = list_fits z m listed w 1 many most h in
       let below : n < z.room.emits = omega (arith, counted, few) in
       let last : Behaviour = words.goes_on (Store a v ∷ Store count (n + 1) ∷ []) (stored count (n + 1) (stored a v u)) in
-      let is : word_emitted count p.emits v u ≡ last =
-      placed count (at_place a last) (fram_place count z.even.emit_count (omega (arith, apart)) (omega (arith, apart)))
+      let is : word_emitted count p.map.emits.address v u ≡ last =
+      placed count (at_place a last) (fram_place count (word_even z.p.map EmitCount z.even.row) (omega (arith, apart)) (omega (arith, apart)))
       ∙ placed a last (buffer_place n below) in
       let P : Behaviour → Type 0 = λ b. Does z f most w.stack (then_on b (behaviour nothing)) o in
       subst P (sym is) (record {
@@ -278,7 +281,7 @@ module _ (z : Scene) where
         loop_does x.variable from below (lowered_block z.p body) (run_block body) (block_emits body) (λ v. block_count (is_store_to v) body) fits.0
         (λ u listing s few k. block_does body u listing s few fits.1 k) (block_emitted body) m listed w most h
     statement_does (t.emit e) m listed w most fits h =
-        let last = one (emit_word z.p.words.emit_count z.p.emits) in
+        let last = one (emit_word (word_place z.p.map EmitCount) z.p.map.emits.address) in
         let P : Behaviour → Type 0 = λ b. Does z w.fram most w.stack b (run_statement (t.emit e) m) in
         subst P (sym (joined_go_on (lowered_expression z.p e) last w))
         (does_value z most w.stack w (behaviour (lowered_expression z.p e) w) (value_of e m.variables m.left) (behaviour last) m
@@ -347,12 +350,12 @@ pub blocks_agree : BlocksAgree
 unfolding stores_of
 blocks_agree p written room stores block m listed w apart even has_room fits stands emits lists =
     let z : Scene = record
-    { p = p; written = written; room = room; stores = stores; ver = w.fram p.words.version; apart = apart; even = even; has_room = has_room } in
+    { p = p; written = written; room = room; stores = stores; ver = w.fram (word_place p.map Version); apart = apart; even = even; has_room = has_room } in
     let most : ℕ → ℕ = λ v. listed_of v listed + stores_of v block in
     block_does z block m listed w most fits (record { stands = stands; number = refl; emits = emits; lists = λ v. le_refl (most v); within = lists })
 
 -- the program of a task, by its number
-pub program_at : (l : LayoutValue) (tasks : List CheckedTask) (layouts : List TaskLayoutValue) (k : ℕ) (task : CheckedTask) (t : TaskLayoutValue)
+pub program_at : (l : MemoryMap) (tasks : List CheckedTask) (layouts : List TaskPlace) (k : ℕ) (task : CheckedTask) (t : TaskPlace)
     → slice_get tasks k ≡ Some task
     → slice_get layouts k ≡ Some t → get_or (lowered_tasks l tasks layouts) k nothing ≡ lowered_block (places_of l t) task.body
 program_at l [] layouts k task t e h = cc e

@@ -9,9 +9,9 @@ use Rattle.array_versions.specs.declared.program.WordStep.{WordStep}
 use Rattle.array_versions.specs.Program.{Program, list_entry, step, nothing, joined, behind}
 use Rattle.array_versions.specs.View.{step_of, steps_of}
 use Rattle.array_versions.proofs.Joined.{joined_assoc, joined_nothing}
-use Rattle.privatise.specs.declared.place.PrivateScalar.{PrivateScalar}
-use Rattle.lower.specs.Places.{Places}
 use Rattle.lower.specs.Lowered.{entries, lowered_statement, lowered_block}
+use Rattle.memory_map.specs.declared.place.PrivateScalar.{PrivateScalar}
+use Rattle.memory_map.specs.Spots.{Places}
 
 pub steps_of_joined : (a b : List WordStep) → steps_of (a ++ b) ≡ joined (steps_of a) (steps_of b)
 steps_of_joined [] b = refl

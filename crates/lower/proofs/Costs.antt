@@ -6,13 +6,15 @@ use Rattle.task_ast.specs.Paths.{CheckedExpression, CheckedStatement, CheckedCho
 use Rattle.task_ast.specs.declared.names.Variable.{Variable}
 use Rattle.task_ast.specs.declared.names.Variable.TheVariants.{Shared, Local}
 use Rattle.cost_bound.specs.Table.{cycles_column, expression_price, statement_price, conditions_price, blocks_price, block_price}
-use Rattle.privatise.specs.declared.place.PrivateScalar.{PrivateScalar}
+use Rattle.memory_map.specs.MemoryMap.{word_place}
+use Rattle.memory_map.specs.declared.words.RuntimeWord.TheVariants.{NextTask, Gate, ListLength, EmitCount, Base, SentBase}
+use Rattle.memory_map.specs.declared.place.PrivateScalar.{PrivateScalar}
 use Rattle.array_versions.specs.Program.{Step, Program, choose, repeat, emit_word, store_number, move_word, jump, nothing, step, joined}
 use Rattle.array_versions.specs.Behaviour.{WordState, End, GoesOn, Jumps, Short, Strays, Broken, Behaviour, behaves, broken, on_end, then_on, is_place, goes_on, strays, with_stack, with_top, chosen, with_local, turns, step_behaviour, behaviour}
 use Rattle.array_versions.specs.Cost.{step_cycles, cycles_of, spent_on, way_spent, turns_spent, step_spent, spent}
 use Rattle.array_versions.proofs.Joined.{joined_go_on, joined_cycles}
 use Rattle.array_versions.proofs.Spent.{joined_spend, ways_keep_to_cycles}
-use Rattle.lower.specs.Places.{Places}
+use Rattle.memory_map.specs.Spots.{Places}
 use Rattle.lower.specs.Lowered.{one, write_step, store_step, assignment, element_assignment, entries, lowered_transition, loop_local, lowered_expression, lowered_statement, lowered_choice, lowered_block}
 use Rattle.lower.specs.Sizes.{entry_cycles, BlocksKeepToCycles}
 use Rattle.lower.proofs.Sizes.{expression_cycles}
@@ -67,14 +69,16 @@ moved_leaves from to q h s = placed_leaves (is_place from) _ (behaviour q) (plac
 
 -- behind the entries: SB, GATE, the jump
 abbrev closing : Places → Program
-closing p = step (move_word p.words.base p.words.sent_base) (step (store_number p.words.gate 1) (one (jump p.commit)))
+closing p = step (move_word (word_place p.map Base) (word_place p.map SentBase))
+    (step (store_number (word_place p.map Gate) 1) (one (jump p.map.commit.address)))
 
 transition_leaves : (p : Places) (task : ℕ) (s : WordState) → Leaves (behaviour (lowered_transition p task) s).end
 transition_leaves p task s =
-    let gated = step (store_number p.words.gate 1) (one (jump p.commit)) in
-    let tail = joined (entries p.words.list_length p.list p.privates) (closing p) in
-    stored_leaves p.words.next_task (task % 65536) tail (entries_leave p.words.list_length p.list p.privates (closing p)
-    (moved_leaves p.words.base p.words.sent_base gated (stored_leaves p.words.gate 1 (one (jump p.commit)) (jump_leaves p.commit)))) s
+    let gated = step (store_number (word_place p.map Gate) 1) (one (jump p.map.commit.address)) in
+    let tail = joined (entries (word_place p.map ListLength) p.map.list.address p.privates) (closing p) in
+    stored_leaves (word_place p.map NextTask) (task % 65536) tail (entries_leave (word_place p.map ListLength) p.map.list.address p.privates (closing p)
+    (moved_leaves (word_place p.map Base) (word_place p.map SentBase) gated
+    (stored_leaves (word_place p.map Gate) 1 (one (jump p.map.commit.address)) (jump_leaves p.map.commit.address)))) s
 
 entries_cycles : (count list : ℕ) (privates : List PrivateScalar) → cycles_of (entries count list privates) ≡ 21 * length privates
 entries_cycles count list [] = refl
@@ -82,8 +86,8 @@ entries_cycles count list (x ∷ more) = let l = entries_cycles count list more 
 
 transition_spends : (p : Places) (task : ℕ) (s : WordState) → Within p 100 (behaviour (lowered_transition p task) s).end (spent (lowered_transition p task) s)
 transition_spends p task s =
-    let a = entries_cycles p.words.list_length p.list p.privates in
-    let l = joined_cycles (entries p.words.list_length p.list p.privates) (closing p) in
+    let a = entries_cycles (word_place p.map ListLength) p.map.list.address p.privates in
+    let l = joined_cycles (entries (word_place p.map ListLength) p.map.list.address p.privates) (closing p) in
     let k = ways_keep_to_cycles (lowered_transition p task) s in
     leaves_pay p (behaviour (lowered_transition p task) s).end (spent (lowered_transition p task) s) 100 (transition_leaves p task s) (omega (arith, a, l, k))
 
@@ -170,7 +174,7 @@ mutual
       let a = turns_spend p (block_price cycles_column body) (below - from) n from (behaviour turn) (spent turn) w (λ v. block_spends p body v) in
       alone p (repeat n from below turn) _ w (omega (arith, a))
   statement_spends p (t.emit e) w =
-      let l = joined_cycles (lowered_expression p e) (one (emit_word p.words.emit_count p.emits)) in
+      let l = joined_cycles (lowered_expression p e) (one (emit_word (word_place p.map EmitCount) p.map.emits.address)) in
       plain p (lowered_statement p (t.emit e)) _ w (omega (arith, l, expression_cycles p e))
   statement_spends p (t.transition task) w = transition_spends p task.task w
 

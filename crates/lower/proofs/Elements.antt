@@ -10,11 +10,14 @@ use Rattle.source_values.specs.Statements.{Attempt, goes_on}
 use Rattle.array_versions.specs.Behaviour.{WordState, Behaviour, then_on, is_place, versioned_stored, behaviour}
 use Rattle.array_versions.specs.Program.{nothing}
 use Rattle.array_versions.specs.declared.program.ArrayPlace.{ArrayPlace}
-use Rattle.privatise.specs.declared.place.ArrayCopies.{ArrayCopies}
-use Rattle.privatise.specs.declared.place.VariablePlace.TheVariants.{Array}
-use Rattle.lower.specs.Places.{Places}
+use Rattle.memory_map.specs.MemoryMap.{word_place}
+use Rattle.memory_map.specs.declared.words.RuntimeWord.TheVariants.{ListLength, Version}
+use Rattle.memory_map.specs.declared.place.ArrayCopies.{ArrayCopies}
+use Rattle.memory_map.specs.declared.place.VariablePlace.TheVariants.{Array}
+use Rattle.memory_map.proofs.Parts.{word_even}
+use Rattle.memory_map.specs.Spots.{Places, IsArrayAt, Element, IsCopied, element, copy, version, element_address, copy_address, version_address}
 use Rattle.lower.specs.Lowered.{array_place, list_place}
-use Rattle.lower.specs.Spots.{IsArrayAt, Element, IsCopied, element, copy, version, element_address, copy_address, version_address, listed_of}
+use Rattle.lower.specs.Spots.{listed_of}
 use Rattle.lower.specs.Agreement.{at_copy, at_version, in_list, at_list_length, HoldVariables, StandsFor, WentOn}
 use Rattle.lower.proofs.Addresses.{fram_place, spot_place, element_is, copy_is, version_is, has_element}
 use Rattle.lower.proofs.Stored.{word_past, set_holds, same_list, same_emits, spot_emits}
@@ -25,7 +28,7 @@ use Rattle.lower.proofs.Ends.{Scene, bounds, Does}
 -- what is asked where statements begin that emit and list so much: the state stands for the attempt, and there is room
 pub record Begins (z : Scene) (m : Attempt) (listed : List Element) (w : WordState) (emitting : ℕ) (count most : ℕ → ℕ) : Type 0 where
   pub stands : StandsFor z.p m listed w
-  pub number : w.fram z.p.words.version ≡ z.ver
+  pub number : w.fram (word_place z.p.map Version) ≡ z.ver
   pub emits : length m.emitted + emitting ≤ z.room.emits
   pub lists : (v : ℕ) → listed_of v listed + count v ≤ most v
   pub within : (v : ℕ) → most v ≤ z.stores v
@@ -88,8 +91,9 @@ module _ (z : Scene) (n i v elements len : ℕ) (c : ArrayCopies) (w : WordState
   here_element l = subst IsHere (element_is z.p x elements len (Some c) at)
       (spot_place z.p z.room (element x) z.apart z.even (has_element z.p x (is_copied l)))
 
-  here_number : IsHere z.p.words.version
-  here_number = let apart = z.apart in fram_place z.p.words.version z.even.version (omega (arith, apart)) (omega (arith, apart))
+  here_number : IsHere (word_place z.p.map Version)
+  here_number = let apart = z.apart in fram_place (word_place z.p.map Version) (word_even z.p.map Version z.even.row) (omega (arith, apart))
+      (omega (arith, apart))
 
   past : len ≤ i → Result (versioned_stored place (list_place z.p) i v from)
   past l =
@@ -102,14 +106,14 @@ module _ (z : Scene) (n i v elements len : ℕ) (c : ArrayCopies) (w : WordState
       })
 
   -- the version word is VER
-  again : (l : i < len) → w.fram z.p.words.version ≡ w.fram (version_address z.p x) → Result (versioned_stored place (list_place z.p) i v from)
+  again : (l : i < len) → w.fram (word_place z.p.map Version) ≡ w.fram (version_address z.p x) → Result (versioned_stored place (list_place z.p) i v from)
   again l marked =
       let p = z.p in
       let f = w.fram in
       let is = is_copied l in
       let now = again_stored p z.room x v f z.apart is marked in
       let fits = list_fits z m listed w 0 (λ u. if n == u then 1 else 0) most h in
-      let Q : ℕ → Type 0 = λ a. put f a v p.words.version ≡ put f a v (version_address p x) in
+      let Q : ℕ → Type 0 = λ a. put f a v (word_place p.map Version) ≡ put f a v (version_address p x) in
       let same = subst Q (copy_is p x elements len c at) (now.number ∙ sym now.mark) ∙ ap (put f (2 * i + c.copies) v) (version_is p x elements len c at) in
       let P : ℕ → Type 0 = λ a. WentOn p (bounds z f most) w.stack (Store a v ∷ []) (record w { fram = put f a v; readings = left }) after in
       subst Result (sym (stores_again place (list_place p) i v from l (here_copy l) here_number (here_version l) same))
@@ -137,7 +141,7 @@ module _ (z : Scene) (n i v elements len : ℕ) (c : ArrayCopies) (w : WordState
       omega (arith, fits, l)
 
   -- it isn't
-  first : (l : i < len) → (w.fram z.p.words.version ≡ w.fram (version_address z.p x) → ⊥) → Result (versioned_stored place (list_place z.p) i v from)
+  first : (l : i < len) → (w.fram (word_place z.p.map Version) ≡ w.fram (version_address z.p x) → ⊥) → Result (versioned_stored place (list_place z.p) i v from)
   first l unmarked =
       let p = z.p in
       let f = w.fram in
@@ -150,20 +154,22 @@ module _ (z : Scene) (n i v elements len : ℕ) (c : ArrayCopies) (w : WordState
       let at_c = copy_is p x elements len c at in
       let at_n = version_is p x elements len c at in
       let at_e = element_is p x elements len (Some c) at in
-      let Behind : ℕ → Type 0 = λ a. p.emits + 2 * z.room.emits ≤ a in
+      let Behind : ℕ → Type 0 = λ a. p.map.emits.address + 2 * z.room.emits ≤ a in
       let far_c = subst Behind at_c (apart.spots (copy x) is) in
       let far_n = subst Behind at_n (apart.spots (version x) is) in
-      let kept : put f (2 * i + c.copies) v p.words.version ≡ f p.words.version =
-      put_other f (2 * i + c.copies) v p.words.version (λ e. omega (arith, e, far_c, apart)) in
+      let kept : put f (2 * i + c.copies) v (word_place p.map Version) ≡ f (word_place p.map Version) =
+      put_other f (2 * i + c.copies) v (word_place p.map Version) (λ e. omega (arith, e, far_c, apart)) in
       let mark : put f (2 * i + c.copies) v (2 * i + c.versions) ≡ f (version_address p x) =
       sym (ap (put f (2 * i + c.copies) v) at_n) ∙ sym (ap (λ a. put f a v (version_address p x)) at_c)
       ∙ put_other f (copy_address p x) v (version_address p x) (λ e. let d = apart.distinct (version x) (copy x) is is e in cc) in
-      let counted : put (put f (2 * i + c.copies) v) (2 * i + c.versions) (f p.words.version) p.words.list_length ≡ k =
-      put_other (put f (2 * i + c.copies) v) (2 * i + c.versions) (f p.words.version) p.words.list_length (λ e. omega (arith, e, far_n, apart))
-      ∙ put_other f (2 * i + c.copies) v p.words.list_length (λ e. omega (arith, e, far_c, apart)) ∙ h.stands.list.list_length in
-      let here_length = fram_place p.words.list_length z.even.list_length (omega (arith, apart)) (omega (arith, apart)) in
-      let here_home = fram_place (4 * k + p.list) (even_at k p.list z.even.list) (omega (arith, apart)) (omega (arith, apart, fits)) in
-      let here_entry = fram_place (4 * k + p.list + 2) (even_behind k p.list z.even.list) (omega (arith, apart)) (omega (arith, apart, fits)) in
+      let counted : put (put f (2 * i + c.copies) v) (2 * i + c.versions) (f (word_place p.map Version)) (word_place p.map ListLength) ≡ k =
+      put_other (put f (2 * i + c.copies) v) (2 * i + c.versions) (f (word_place p.map Version)) (word_place p.map ListLength)
+      (λ e. omega (arith, e, far_n, apart))
+      ∙ put_other f (2 * i + c.copies) v (word_place p.map ListLength) (λ e. omega (arith, e, far_c, apart)) ∙ h.stands.list.list_length in
+      let here_length = fram_place (word_place p.map ListLength) (word_even z.p.map ListLength z.even.row) (omega (arith, apart)) (omega (arith, apart)) in
+      let here_home = fram_place (4 * k + p.map.list.address) (even_at k p.map.list.address z.even.list) (omega (arith, apart)) (omega (arith, apart, fits)) in
+      let here_entry = fram_place (4 * k + p.map.list.address + 2) (even_behind k p.map.list.address z.even.list) (omega (arith, apart))
+      (omega (arith, apart, fits)) in
       let P : ℕ → ℕ → ℕ → Type 0 = λ a b d. WentOn p (bounds z f most) w.stack (first_effects list k a b d v f)
       (record w { fram = after_first list k a b d v f; readings = left }) after in
       let went : P (copy_address p x) (version_address p x) (element_address p x) = record {
@@ -188,4 +194,4 @@ module _ (z : Scene) (n i v elements len : ℕ) (c : ArrayCopies) (w : WordState
       (subst (λ a. P a (version_address p x) (element_address p x)) at_c went)))
 
   pub store_does : Result (versioned_stored place (list_place z.p) i v from)
-  store_does = ⊎_elim (λ l. ⊎_elim (again l) (first l) (cases_eq (w.fram z.p.words.version) (w.fram (version_address z.p x)))) past (cases_lt i len)
+  store_does = ⊎_elim (λ l. ⊎_elim (again l) (first l) (cases_eq (w.fram (word_place z.p.map Version)) (w.fram (version_address z.p x)))) past (cases_lt i len)

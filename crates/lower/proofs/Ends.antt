@@ -1,5 +1,7 @@
 -- Programs and statements one behind another: the ends of both agree where each step's do.
 use Rattle.std.proofs.Common.{◌≡◌, ℕ, ◌<◌, ◌≤◌, List, [], ◌∷◌, ◌++◌, length, Option, Some, None, Bool, refl, sym, ap, ◌∙◌, subst, arith, append_assoc, append-nil, ⊎_elim}
+use Rattle.memory_map.specs.MemoryMap.{word_place}
+use Rattle.memory_map.specs.declared.words.RuntimeWord.TheVariants.{ListLength, EmitCount, Base, Version}
 use Rattle.fram_board.specs.Effects.{Effect, Store, Take, Send}
 use Rattle.machine_effects.specs.World.{put, fram_after}
 use Rattle.machine_effects.proofs.Worlds.{fram_after-append, put_other}
@@ -8,8 +10,8 @@ use Rattle.array_versions.specs.Program.{Program, nothing}
 use Rattle.array_versions.specs.Behaviour.{WordState, End, GoesOn, Jumps, Short, Strays, Broken, Behaviour, behind_effects, on_end, then_on, behaviour}
 use Rattle.array_versions.specs.Laws.{EndsByEffects}
 use Rattle.array_versions.proofs.ByEffects.{behaves_by_effects}
-use Rattle.lower.specs.Places.{Places}
-use Rattle.lower.specs.Spots.{Element, scalar, copy, version, Room, AreApart, AreEven, listed_of, HasRoom}
+use Rattle.memory_map.specs.Spots.{Places, Element, scalar, copy, version}
+use Rattle.lower.specs.Spots.{Room, AreApart, AreEven, listed_of, HasRoom}
 use Rattle.lower.specs.Agreement.{TakesAndStores, OnlyTakes, IsTaskStore, at_variable, at_copy, at_version, in_list, at_list_length, at_emit_count, in_buffer, StandsFor, valued, EndsWithValue, AgreesWithValue, Bounds, Left, EndsAs, Agrees}
 use Rattle.lower.proofs.Values.{takes_append, only_takes}
 use Rattle.lower.proofs.Emitted.{EmitsAtMost}
@@ -42,9 +44,9 @@ Does z start most = Agrees z.p (bounds z start most)
 -- ---- words that no statement stores
 
 pub record IsKept (p : Places) (a : ℕ) : Type 0 where
-  pub low : a < p.list
-  pub not_length : a ≡ p.words.list_length → ⊥
-  pub not_count : a ≡ p.words.emit_count → ⊥
+  pub low : a < p.map.list.address
+  pub not_length : a ≡ word_place p.map ListLength → ⊥
+  pub not_count : a ≡ word_place p.map EmitCount → ⊥
 
 store_elsewhere : (p : Places) (written : ℕ → Bool) (room : Room) (ver a b w : ℕ) → AreApart p room → IsKept p a → IsTaskStore p written room ver b w → a ≡ b
     → ⊥
@@ -67,11 +69,11 @@ stores_keep p written room ver a (Take r ∷ es) f apart kept h = stores_keep p 
 stores_keep p written room ver a (Send n w ∷ es) f apart kept h = absurd h
 
 -- VER is one
-pub keeps_version : (p : Places) (room : Room) → AreApart p room → IsKept p p.words.version
+pub keeps_version : (p : Places) (room : Room) → AreApart p room → IsKept p (word_place p.map Version)
 keeps_version p room apart = record { low = omega (arith, apart); not_length = λ e. omega (arith, e, apart); not_count = λ e. omega (arith, e, apart) }
 
 -- and BASE is another
-pub keeps_base : (p : Places) (room : Room) → AreApart p room → IsKept p p.words.base
+pub keeps_base : (p : Places) (room : Room) → AreApart p room → IsKept p (word_place p.map Base)
 keeps_base p room apart = record { low = omega (arith, apart); not_length = λ e. omega (arith, e, apart); not_count = λ e. omega (arith, e, apart) }
 
 -- readings alone change nothing
@@ -144,13 +146,13 @@ left_with_fewer z start most few es to s task m less k = record {
 pub record IsThere (z : Scene) (few : ℕ → ℕ) (stack : List ℕ) (n : ℕ) (s : WordState) (m : Attempt) (listed : List Element) : Type 0 where
   pub stack_kept : s.stack ≡ stack
   pub stands : StandsFor z.p m listed s
-  pub number : s.fram z.p.words.version ≡ z.ver
+  pub number : s.fram (word_place z.p.map Version) ≡ z.ver
   pub few_emitted : length m.emitted ≤ n
   pub few_listed : (v : ℕ) → listed_of v listed ≤ few v
 
 pub does_then : (z : Scene) (q : Program) (w : WordState) (few most : ℕ → ℕ) (stack : List ℕ) (n : ℕ) (o : Outcome) (next : WordState → Behaviour)
     (more : Attempt → Outcome)
-    → w.fram z.p.words.version ≡ z.ver → ((v : ℕ) → few v ≤ most v) → Does z w.fram few stack (behaviour q w) o → EmitsAtMost n o
+    → w.fram (word_place z.p.map Version) ≡ z.ver → ((v : ℕ) → few v ≤ most v) → Does z w.fram few stack (behaviour q w) o → EmitsAtMost n o
     → ((s : WordState) (m : Attempt) (listed : List Element) → IsThere z few stack n s m listed → Does z s.fram most stack (next s) (more m))
     → Does z w.fram most stack (then_on (behaviour q w) next) (and_then o more)
 does_then z q w few most stack n o next more ver less h emits k = go (behaviour q w).effects (behaviour q w).end o (behaves_by_effects q w) h emits
@@ -158,9 +160,9 @@ does_then z q w few most stack n o next more ver less h emits k = go (behaviour 
     go : (es : List Effect) (e : End) (o : Outcome) → EndsByEffects w es e → Ends z w.fram few stack es e o → EmitsAtMost n o
         → Does z w.fram most stack (behind_effects es (on_end e next)) (and_then o more)
     go es (GoesOn s) (goes_on m) by h emits =
-        let kept : s.fram z.p.words.version ≡ z.ver =
-        ap (λ f. f z.p.words.version) by.0
-        ∙ stores_keep z.p z.written z.room z.ver z.p.words.version es w.fram z.apart (keeps_version z.p z.room z.apart) h.stores ∙ ver in
+        let kept : s.fram (word_place z.p.map Version) ≡ z.ver =
+        ap (λ f. f (word_place z.p.map Version)) by.0
+        ∙ stores_keep z.p z.written z.room z.ver (word_place z.p.map Version) es w.fram z.apart (keeps_version z.p z.room z.apart) h.stores ∙ ver in
         ends_behind z w.fram s.fram most stack es (next s).effects (next s).end (more m) by.0 h.stores
         (k s m h.listed (record { stack_kept = h.stack_kept; stands = h.stands; number = kept; few_emitted = emits; few_listed = h.few }))
     go es (GoesOn s) (to_task task m) by h emits = absurd h

@@ -19,10 +19,12 @@ use Rattle.array_versions.specs.Program.{Program, unary, binary, shift, choose, 
 use Rattle.array_versions.specs.Cost.{unary_cycles, binary_cycles, step_cycles, cycles_of, step_words, words_of}
 use Rattle.array_versions.proofs.Joined.{joined_cycles, joined_words}
 use Rattle.array_versions.proofs.Kept.{steps_keep_to_words}
-use Rattle.privatise.specs.declared.place.VariablePlace.{VariablePlace}
-use Rattle.privatise.specs.declared.place.VariablePlace.TheVariants.{Scalar, Array}
-use Rattle.privatise.specs.declared.place.PrivateScalar.{PrivateScalar}
-use Rattle.lower.specs.Places.{Places}
+use Rattle.memory_map.specs.MemoryMap.{word_place}
+use Rattle.memory_map.specs.declared.words.RuntimeWord.TheVariants.{Gate, ListLength, EmitCount, Base, SentBase}
+use Rattle.memory_map.specs.declared.place.VariablePlace.{VariablePlace}
+use Rattle.memory_map.specs.declared.place.VariablePlace.TheVariants.{Scalar, Array}
+use Rattle.memory_map.specs.declared.place.PrivateScalar.{PrivateScalar}
+use Rattle.memory_map.specs.Spots.{Places}
 use Rattle.lower.specs.Operations.{unary_operation, binary_operation, shift_operation}
 use Rattle.lower.specs.Sizes.{BlocksKeepToWords}
 use Rattle.lower.specs.Lowered.{one, read_step, write_step, element_read, element_step, store_step, lowered_choice_of_sides, evaluated_side, assignment, element_assignment, entries, lowered_transition, lowered_expression, lowered_statement, lowered_choice, lowered_block}
@@ -44,7 +46,7 @@ read_array_words p (Some (Scalar home copy)) = omega arith
 read_array_words p None = omega arith
 
 element_words : (p : Places) (x : Variable) → step_words (element_step p x) ≤ 18
-element_words p (Shared v) = read_array_words p (slice_get p.variables v)
+element_words p (Shared v) = read_array_words p (slice_get p.map.variables v)
 element_words p (Local n) = omega arith
 
 sides_words : (op : ShortCircuitOperator) (right : Program) → step_words (lowered_choice_of_sides op right) ≤ 9 + words_of right
@@ -104,9 +106,10 @@ entries_words count list (x ∷ more) = let l = entries_words count list more in
 
 transition_words : (p : Places) (s task : ℕ) → length p.privates ≤ s → words_of (lowered_transition p task) ≤ 40 + 16 * s
 transition_words p s task few =
-    let a = entries_words p.words.list_length p.list p.privates in
-    let close : Program = step (move_word p.words.base p.words.sent_base) (step (store_number p.words.gate 1) (one (jump p.commit))) in
-    let l = joined_words (entries p.words.list_length p.list p.privates) close in
+    let a = entries_words (word_place p.map ListLength) p.map.list.address p.privates in
+    let close : Program = step (move_word (word_place p.map Base) (word_place p.map SentBase))
+    (step (store_number (word_place p.map Gate) 1) (one (jump p.map.commit.address))) in
+    let l = joined_words (entries (word_place p.map ListLength) p.map.list.address p.privates) close in
     omega (arith, a, l, few)
 
 assignment_words : (p : Places) (s : ℕ) (x : Variable) (e : CheckedExpression) → words_of (assignment p x e) ≤ 24 + expression_price (words_column s) e
@@ -136,7 +139,7 @@ mutual
   statement_words p s few (t.choose choice) = let a = choice_words p s few choice in omega (arith, a)
   statement_words p s few (t.loop x from tested below stepped body) = let a = block_words p s few body in omega (arith, a)
   statement_words p s few (t.emit e) =
-      let l = joined_words (lowered_expression p e) (one (emit_word p.words.emit_count p.emits)) in
+      let l = joined_words (lowered_expression p e) (one (emit_word (word_place p.map EmitCount) p.map.emits.address)) in
       omega (arith, l, expression_words p s e)
   statement_words p s few (t.transition task) = transition_words p s task.task few
 
@@ -170,7 +173,7 @@ read_array_cycles p (Some (Scalar home copy)) = omega arith
 read_array_cycles p None = omega arith
 
 element_cycles : (p : Places) (x : Variable) → step_cycles (element_step p x) ≤ 23
-element_cycles p (Shared v) = read_array_cycles p (slice_get p.variables v)
+element_cycles p (Shared v) = read_array_cycles p (slice_get p.map.variables v)
 element_cycles p (Local n) = omega arith
 
 unary_most : (op : UnaryOperator) → unary_cycles (unary_operation op) ≤ 8

@@ -9,14 +9,16 @@ use Rattle.machine_effects.proofs.Worlds.{put_at, put_other}
 use Rattle.task_ast.specs.declared.names.Variable.TheVariants.{Shared, Local}
 use Rattle.source_values.specs.Values.{Variables, word_at, with_word}
 use Rattle.array_versions.specs.Behaviour.{assigned}
-use Rattle.privatise.specs.declared.place.ArrayCopies.{ArrayCopies}
-use Rattle.privatise.specs.declared.place.VariablePlace.{VariablePlace}
-use Rattle.privatise.specs.declared.place.VariablePlace.TheVariants.{Scalar, Array}
-use Rattle.lower.specs.Places.{Places, address_of}
-use Rattle.lower.specs.Spots.{IsScalarPlace, IsScalarAt, IsArrayAt, Element, IsElement, IsCopied, Spot, scalar, element, copy, version, IsSpot, element_address, copy_address, version_address, spot_address, Room, AreApart}
+use Rattle.lower.specs.Spots.{Room, AreApart}
 use Rattle.lower.specs.Agreement.{own_word, HoldVariables, HoldEmits, HoldList}
 use Rattle.lower.proofs.Addresses.{element_is, copy_is, version_is, no_scalar}
 use Rattle.lower.proofs.Values.{small_modulo}
+use Rattle.memory_map.specs.MemoryMap.{word_place}
+use Rattle.memory_map.specs.declared.words.RuntimeWord.TheVariants.{ListLength, EmitCount, Version}
+use Rattle.memory_map.specs.declared.place.ArrayCopies.{ArrayCopies}
+use Rattle.memory_map.specs.declared.place.VariablePlace.{VariablePlace}
+use Rattle.memory_map.specs.declared.place.VariablePlace.TheVariants.{Scalar, Array}
+use Rattle.memory_map.specs.Spots.{Places, address_of, IsScalarPlace, IsScalarAt, IsArrayAt, Element, IsElement, IsCopied, Spot, scalar, element, copy, version, IsSpot, element_address, copy_address, version_address, spot_address}
 
 -- ---- another word of a shared variable
 
@@ -61,7 +63,7 @@ word_past m v i w u j h past = ⊎_elim (λ a. ⊎_elim (both a) (λ d. word_oth
 
 pub set_holds : (p : Places) (v i w : ℕ) (m : Variables) (f g : ℕ → ℕ) (locals : ℕ → Option ℕ) → v < length m.shared → HoldVariables p m f locals
     → ((u : ℕ) → IsScalarAt p u → g (address_of p u) ≡ word_at (with_word m (Shared v) i w) (Shared u) 0)
-    → ((x : Element) → IsElement p x → own_word p g (slice_get p.variables x.array) x.index ≡ word_at (with_word m (Shared v) i w) (Shared x.array) x.index)
+    → ((x : Element) → IsElement p x → own_word p g (slice_get p.map.variables x.array) x.index ≡ word_at (with_word m (Shared v) i w) (Shared x.array) x.index)
     → HoldVariables p (with_word m (Shared v) i w) g locals
 set_holds p v i w m f g locals inside h words elements = record {
   words = words;
@@ -76,7 +78,7 @@ set_holds p v i w m f g locals inside h words elements = record {
 
 own_same_at : (p : Places) (f g : ℕ → ℕ) (x : Element) (elements length : ℕ) (copies : Option ArrayCopies) → IsArrayAt p x.array elements length copies
     → x.index < length
-    → g p.words.version ≡ f p.words.version → g (element_address p x) ≡ f (element_address p x)
+    → g (word_place p.map Version) ≡ f (word_place p.map Version) → g (element_address p x) ≡ f (element_address p x)
     → (IsCopied p x → g (copy_address p x) ≡ f (copy_address p x)) → (IsCopied p x → g (version_address p x) ≡ f (version_address p x))
     → own_word p g (Some (Array elements length copies)) x.index ≡ own_word p f (Some (Array elements length copies)) x.index
 own_same_at p f g x elements length None at below ver e c n =
@@ -91,22 +93,22 @@ own_same_at p f g x elements length (Some k) at below ver e c n =
     let same_version = sym (ap g at_version) ∙ n is ∙ ap f at_version in
     let i = x.index in
     ap (λ z. if z == g (2 * i + k.versions) then g (2 * i + k.copies) else g (2 * i + elements)) ver
-    ∙ ap (λ z. if f p.words.version == z then g (2 * i + k.copies) else g (2 * i + elements)) same_version
-    ∙ ap (λ z. if f p.words.version == f (2 * i + k.versions) then z else g (2 * i + elements)) same_copy
-    ∙ ap (λ z. if f p.words.version == f (2 * i + k.versions) then f (2 * i + k.copies) else z) same_element
+    ∙ ap (λ z. if f (word_place p.map Version) == z then g (2 * i + k.copies) else g (2 * i + elements)) same_version
+    ∙ ap (λ z. if f (word_place p.map Version) == f (2 * i + k.versions) then z else g (2 * i + elements)) same_copy
+    ∙ ap (λ z. if f (word_place p.map Version) == f (2 * i + k.versions) then f (2 * i + k.copies) else z) same_element
 
 -- an element whose words stay is the same one
-pub own_same : (p : Places) (f g : ℕ → ℕ) (x : Element) → IsElement p x → g p.words.version ≡ f p.words.version
+pub own_same : (p : Places) (f g : ℕ → ℕ) (x : Element) → IsElement p x → g (word_place p.map Version) ≡ f (word_place p.map Version)
     → g (element_address p x) ≡ f (element_address p x)
     → (IsCopied p x → g (copy_address p x) ≡ f (copy_address p x)) → (IsCopied p x → g (version_address p x) ≡ f (version_address p x))
-    → own_word p g (slice_get p.variables x.array) x.index ≡ own_word p f (slice_get p.variables x.array) x.index
+    → own_word p g (slice_get p.map.variables x.array) x.index ≡ own_word p f (slice_get p.map.variables x.array) x.index
 own_same p f g x is ver e c n =
     ap (λ o. own_word p g o x.index) is.is_array.place ∙ own_same_at p f g x is.elements is.length is.copies is.is_array is.below ver e c n
     ∙ sym (ap (λ o. own_word p f o x.index) is.is_array.place)
 
 -- VER and the words that the task works on stay
 pub record SpotsStay (p : Places) (f g : ℕ → ℕ) : Type 0 where
-  pub version : g p.words.version ≡ f p.words.version
+  pub version : g (word_place p.map Version) ≡ f (word_place p.map Version)
   pub spots : (s : Spot) → IsSpot p s → g (spot_address p s) ≡ f (spot_address p s)
 
 pub same_variables : (p : Places) (m : Variables) (f g : ℕ → ℕ) (locals : ℕ → Option ℕ) → SpotsStay p f g → HoldVariables p m f locals
@@ -122,9 +124,9 @@ same_variables p m f g locals k h = record {
 
 -- the list stays, with the version words
 pub record ListStays (p : Places) (room : Room) (f g : ℕ → ℕ) : Type 0 where
-  pub version : g p.words.version ≡ f p.words.version
-  pub list_length : g p.words.list_length ≡ f p.words.list_length
-  pub entries : (a : ℕ) → p.list ≤ a → a + 2 ≤ p.list + 4 * room.list → g a ≡ f a
+  pub version : g (word_place p.map Version) ≡ f (word_place p.map Version)
+  pub list_length : g (word_place p.map ListLength) ≡ f (word_place p.map ListLength)
+  pub entries : (a : ℕ) → p.map.list.address ≤ a → a + 2 ≤ p.map.list.address + 4 * room.list → g a ≡ f a
   pub marks : (x : Element) → IsCopied p x → g (version_address p x) ≡ f (version_address p x)
 
 pub all_of : (P : Element → Type 0) (xs : List Element) (x : Element) → All P xs → Contains xs x → P x
@@ -135,16 +137,16 @@ pub same_list : (p : Places) (room : Room) (listed : List Element) (f g : ℕ �
 same_list p room listed f g few k h = record {
   are_listed = h.are_listed;
   list_length = k.list_length ∙ h.list_length;
-  homes = λ i x e. let l = slice_get_within listed i x e in k.entries (4 * i + p.list) (omega arith) (omega (arith, l, few)) ∙ h.homes i x e;
-  copies = λ i x e. let l = slice_get_within listed i x e in k.entries (4 * i + p.list + 2) (omega arith) (omega (arith, l, few)) ∙ h.copies i x e;
+  homes = λ i x e. let l = slice_get_within listed i x e in k.entries (4 * i + p.map.list.address) (omega arith) (omega (arith, l, few)) ∙ h.homes i x e;
+  copies = λ i x e. let l = slice_get_within listed i x e in k.entries (4 * i + p.map.list.address + 2) (omega arith) (omega (arith, l, few)) ∙ h.copies i x e;
   marked = λ x c. k.marks x (all_of (IsCopied p) listed x h.are_listed.copied c) ∙ h.marked x c ∙ sym k.version;
   only_marked = λ x is e. h.only_marked x is (sym (k.marks x is) ∙ e ∙ k.version);
 }
 
 -- the emitted words stay
 pub record EmitsStay (p : Places) (room : Room) (f g : ℕ → ℕ) : Type 0 where
-  pub emit_count : g p.words.emit_count ≡ f p.words.emit_count
-  pub buffer : (i : ℕ) → i < room.emits → g (2 * i + p.emits) ≡ f (2 * i + p.emits)
+  pub emit_count : g (word_place p.map EmitCount) ≡ f (word_place p.map EmitCount)
+  pub buffer : (i : ℕ) → i < room.emits → g (2 * i + p.map.emits.address) ≡ f (2 * i + p.map.emits.address)
 
 pub same_emits : (p : Places) (room : Room) (emitted : List ℕ) (f g : ℕ → ℕ) → length emitted ≤ room.emits → EmitsStay p room f g → HoldEmits p emitted f
     → HoldEmits p emitted g
@@ -161,8 +163,8 @@ spot_list p room s w f apart is ne =
     let low = apart.spots s is in
     let a = spot_address p s in
     record {
-      version = put_other f a w p.words.version (λ e. omega (arith, e, low, apart));
-      list_length = put_other f a w p.words.list_length (λ e. omega (arith, e, low, apart));
+      version = put_other f a w (word_place p.map Version) (λ e. omega (arith, e, low, apart));
+      list_length = put_other f a w (word_place p.map ListLength) (λ e. omega (arith, e, low, apart));
       entries = λ b from to. put_other f a w b (λ e. omega (arith, e, low, apart, to));
       marks = λ x k. put_other f a w (version_address p x) (λ e. ne x (apart.distinct (version x) s k is e));
     }
@@ -172,13 +174,13 @@ spot_emits p room s w f apart is =
     let low = apart.spots s is in
     let a = spot_address p s in
     record {
-      emit_count = put_other f a w p.words.emit_count (λ e. omega (arith, e, low, apart));
-      buffer = λ i l. put_other f a w (2 * i + p.emits) (λ e. omega (arith, e, low, l));
+      emit_count = put_other f a w (word_place p.map EmitCount) (λ e. omega (arith, e, low, apart));
+      buffer = λ i l. put_other f a w (2 * i + p.map.emits.address) (λ e. omega (arith, e, low, l));
     }
 
 -- ---- an assignment to a shared scalar
 
-scalar_row : (p : Places) (v : ℕ) (o : Option VariablePlace) (m : Variables) (f : ℕ → ℕ) (locals : ℕ → Option ℕ) → slice_get p.variables v ≡ o
+scalar_row : (p : Places) (v : ℕ) (o : Option VariablePlace) (m : Variables) (f : ℕ → ℕ) (locals : ℕ → Option ℕ) → slice_get p.map.variables v ≡ o
     → IsScalarPlace o → HoldVariables p m f locals
     → (v < length m.shared) × (0 < length (get_or m.shared v []))
 scalar_row p v (Some (Scalar home other)) m f locals at is h =
@@ -193,7 +195,7 @@ scalar_set p room v w m f locals apart is h =
     set_holds p v 0 w m f (put f (address_of p v) w) locals row.0 h (λ u k. ⊎_elim (same u) (other u k) (cases_eq u v)) elements
   where
     row : (v < length m.shared) × (0 < length (get_or m.shared v []))
-    row = scalar_row p v (slice_get p.variables v) m f locals refl is h
+    row = scalar_row p v (slice_get p.map.variables v) m f locals refl is h
 
     same : (u : ℕ) → u ≡ v → put f (address_of p v) w (address_of p u) ≡ word_at (with_word m (Shared v) 0 w) (Shared u) 0
     same u e =
@@ -208,10 +210,10 @@ scalar_set p room v w m f locals apart is h =
         keeps (scalar u) k (λ e. let d : u ≡ v = cc in ne d) ∙ h.words u k ∙ sym (word_other m v 0 w u 0 row.0 (λ e. absurd (ne e)))
 
     elements : (x : Element) → IsElement p x
-        → own_word p (put f (address_of p v) w) (slice_get p.variables x.array) x.index ≡ word_at (with_word m (Shared v) 0 w) (Shared x.array) x.index
+        → own_word p (put f (address_of p v) w) (slice_get p.map.variables x.array) x.index ≡ word_at (with_word m (Shared v) 0 w) (Shared x.array) x.index
     elements x k =
         let low = apart.spots (scalar v) is in
-        let ver = put_other f (address_of p v) w p.words.version (λ e. omega (arith, e, low, apart)) in
+        let ver = put_other f (address_of p v) w (word_place p.map Version) (λ e. omega (arith, e, low, apart)) in
         let array : x.array ≡ v → ⊥ = λ e. no_scalar p x.array k.elements k.length k.copies k.is_array (subst (IsScalarAt p) (sym e) is) in
         own_same p f (put f (address_of p v) w) x k ver (keeps (element x) k (λ e. cc)) (λ c. keeps (copy x) c (λ e. cc)) (λ c. keeps (version x) c (λ e. cc))
         ∙ h.elements x k ∙ sym (word_other m v 0 w x.array x.index row.0 (λ e. absurd (array e)))
@@ -250,14 +252,16 @@ local_holds p n v m f locals few h =
 
 -- FRAM with a word in the buffer, and another count
 abbrev pub after_emit : Places → ℕ → ℕ → ℕ → (ℕ → ℕ) → ℕ → ℕ
-after_emit p n v c f = put (put f (2 * n + p.emits) v) p.words.emit_count c
+after_emit p n v c f = put (put f (2 * n + p.map.emits.address) v) (word_place p.map EmitCount) c
 
-emit_keeps : (p : Places) (n v c a : ℕ) (f : ℕ → ℕ) → (a ≡ 2 * n + p.emits → ⊥) → (a ≡ p.words.emit_count → ⊥) → after_emit p n v c f a ≡ f a
-emit_keeps p n v c a f d e = put_other (put f (2 * n + p.emits) v) p.words.emit_count c a e ∙ put_other f (2 * n + p.emits) v a d
+emit_keeps : (p : Places) (n v c a : ℕ) (f : ℕ → ℕ) → (a ≡ 2 * n + p.map.emits.address → ⊥) → (a ≡ word_place p.map EmitCount → ⊥) → after_emit p n v c f a
+    ≡ f a
+emit_keeps p n v c a f d e = put_other (put f (2 * n + p.map.emits.address) v) (word_place p.map EmitCount) c a e
+    ∙ put_other f (2 * n + p.map.emits.address) v a d
 
 pub emit_spots : (p : Places) (room : Room) (n v c : ℕ) (f : ℕ → ℕ) → AreApart p room → n < room.emits → SpotsStay p f (after_emit p n v c f)
 emit_spots p room n v c f apart few = record {
-  version = emit_keeps p n v c p.words.version f (λ e. omega (arith, e, apart)) (λ e. omega (arith, e, apart));
+  version = emit_keeps p n v c (word_place p.map Version) f (λ e. omega (arith, e, apart)) (λ e. omega (arith, e, apart));
   spots = λ s is. let low = apart.spots s is in emit_keeps p n v c (spot_address p s) f (λ e. omega (arith, e, low, few)) (λ e. omega (arith, e, low, apart));
 }
 
@@ -266,38 +270,39 @@ emit_list p room n v c f apart few =
     let k = emit_spots p room n v c f apart few in
     record {
       version = k.version;
-      list_length = emit_keeps p n v c p.words.list_length f (λ e. omega (arith, e, apart)) (λ e. omega (arith, e, apart));
+      list_length = emit_keeps p n v c (word_place p.map ListLength) f (λ e. omega (arith, e, apart)) (λ e. omega (arith, e, apart));
       entries = λ a from to. emit_keeps p n v c a f (λ e. omega (arith, e, apart, to)) (λ e. omega (arith, e, apart, from));
       marks = λ x is. k.spots (version x) is;
     }
 
 -- the words in the buffer
 buffer_words : (p : Places) (v n : ℕ) (emitted : List ℕ) (f : ℕ → ℕ) → n ≡ length emitted
-    → ((i : ℕ) → i < length emitted → f (2 * i + p.emits) ≡ get_or emitted i 0)
-    → (i : ℕ) → i ≤ length emitted → put f (2 * n + p.emits) v (2 * i + p.emits) ≡ get_or (emitted ++ v ∷ []) i 0
+    → ((i : ℕ) → i < length emitted → f (2 * i + p.map.emits.address) ≡ get_or emitted i 0)
+    → (i : ℕ) → i ≤ length emitted → put f (2 * n + p.map.emits.address) v (2 * i + p.map.emits.address) ≡ get_or (emitted ++ v ∷ []) i 0
 buffer_words p v n emitted f count h i l = ⊎_elim same other (cases_eq i (length emitted))
   where
-    same : i ≡ length emitted → put f (2 * n + p.emits) v (2 * i + p.emits) ≡ get_or (emitted ++ v ∷ []) i 0
+    same : i ≡ length emitted → put f (2 * n + p.map.emits.address) v (2 * i + p.map.emits.address) ≡ get_or (emitted ++ v ∷ []) i 0
     same e =
-        put_at f (2 * n + p.emits) v (2 * i + p.emits) (ap (λ j. 2 * j + p.emits) (e ∙ sym count))
+        put_at f (2 * n + p.map.emits.address) v (2 * i + p.map.emits.address) (ap (λ j. 2 * j + p.map.emits.address) (e ∙ sym count))
         ∙ sym (ap (λ j. get_or (emitted ++ v ∷ []) j 0) e ∙ get_or-append_seam emitted v [] 0)
 
-    other : (i ≡ length emitted → ⊥) → put f (2 * n + p.emits) v (2 * i + p.emits) ≡ get_or (emitted ++ v ∷ []) i 0
+    other : (i ≡ length emitted → ⊥) → put f (2 * n + p.map.emits.address) v (2 * i + p.map.emits.address) ≡ get_or (emitted ++ v ∷ []) i 0
     other ne =
         let below : i < length emitted = omega (arith, l, ne) in
-        put_other f (2 * n + p.emits) v (2 * i + p.emits) (λ e. omega (arith, e, count, below)) ∙ h i below
+        put_other f (2 * n + p.map.emits.address) v (2 * i + p.map.emits.address) (λ e. omega (arith, e, count, below)) ∙ h i below
         ∙ sym (get_or_append_left emitted (v ∷ []) 0 i below)
 
 at_most : (i n m : ℕ) → i < m → m ≡ n + 1 → i ≤ n
 at_most i n m h e = omega (arith, h, e)
 
 pub emitted_emits : (p : Places) (room : Room) (v : ℕ) (emitted : List ℕ) (f : ℕ → ℕ) → AreApart p room → HoldEmits p emitted f
-    → HoldEmits p (emitted ++ v ∷ []) (after_emit p (f p.words.emit_count) v (f p.words.emit_count + 1) f)
+    → HoldEmits p (emitted ++ v ∷ []) (after_emit p (f (word_place p.map EmitCount)) v (f (word_place p.map EmitCount) + 1) f)
 emitted_emits p room v emitted f apart h =
-    let n = f p.words.emit_count in
-    let g : ℕ → ℕ = put f (2 * n + p.emits) v in
+    let n = f (word_place p.map EmitCount) in
+    let g : ℕ → ℕ = put f (2 * n + p.map.emits.address) v in
     record {
-      emit_count = put_at g p.words.emit_count (n + 1) p.words.emit_count refl ∙ ap (λ j. j + 1) h.emit_count ∙ sym (length-append emitted (v ∷ []));
-      emits = λ i l. put_other g p.words.emit_count (n + 1) (2 * i + p.emits) (λ e. omega (arith, e, apart))
+      emit_count = put_at g (word_place p.map EmitCount) (n + 1) (word_place p.map EmitCount) refl ∙ ap (λ j. j + 1) h.emit_count
+          ∙ sym (length-append emitted (v ∷ []));
+      emits = λ i l. put_other g (word_place p.map EmitCount) (n + 1) (2 * i + p.map.emits.address) (λ e. omega (arith, e, apart))
           ∙ buffer_words p v n emitted f h.emit_count h.emits i (at_most i (length emitted) (length (emitted ++ v ∷ [])) l (length-append emitted (v ∷ [])));
     }

@@ -6,8 +6,11 @@ use Rattle.machine_effects.proofs.Worlds.{put_at, put_other}
 use Rattle.array_versions.specs.Program.{Program, store_number, move_word, jump, nothing, step, joined}
 use Rattle.array_versions.specs.Behaviour.{WordState, Jumps, Behaviour, behaves, goes_on, broken, behind_effects, then_on, is_place, at_place, word_stored, entry_stored, jumped, step_behaviour, behaviour}
 use Rattle.array_versions.proofs.Joined.{joined_go_on}
-use Rattle.privatise.specs.declared.place.PrivateScalar.{PrivateScalar}
-use Rattle.lower.specs.Places.{Places}
+use Rattle.memory_map.specs.MemoryMap.{word_place}
+use Rattle.memory_map.specs.declared.words.RuntimeWord.TheVariants.{NextTask, Gate, ListLength, Base, SentBase}
+use Rattle.memory_map.specs.declared.place.PrivateScalar.{PrivateScalar}
+use Rattle.memory_map.proofs.Parts.{word_even}
+use Rattle.memory_map.specs.Spots.{Places}
 use Rattle.lower.specs.Lowered.{one, entries, lowered_transition}
 use Rattle.lower.specs.Spots.{Room, AreApart, AreEven}
 use Rattle.lower.specs.Agreement.{entry_effects, transition_effects}
@@ -72,67 +75,75 @@ entries_keep count list (s ∷ more) i x f ne low =
     ∙ put_other f (4 * i + list) s.home x (λ e. omega (arith, e, low))
 
 -- SB := BASE, GATE := 1, and on to the commit
-close_behaves : (p : Places) (w : WordState) → is_place p.words.base ≡ true → is_place p.words.sent_base ≡ true → is_place p.words.gate ≡ true
-    → p.commit % 2 ≡ 0
-    → behaviour (step (move_word p.words.base p.words.sent_base) (step (store_number p.words.gate 1) (one (jump p.commit)))) w
-    ≡ behaves (Store p.words.sent_base (w.fram p.words.base) ∷ Store p.words.gate 1 ∷ [])
-    (Jumps p.commit (record w { fram = put (put w.fram p.words.sent_base (w.fram p.words.base)) p.words.gate 1 }))
+close_behaves : (p : Places) (w : WordState) → is_place (word_place p.map Base) ≡ true → is_place (word_place p.map SentBase) ≡ true
+    → is_place (word_place p.map Gate) ≡ true
+    → p.map.commit.address % 2 ≡ 0
+    → behaviour (step (move_word (word_place p.map Base) (word_place p.map SentBase))
+    (step (store_number (word_place p.map Gate) 1) (one (jump p.map.commit.address)))) w
+    ≡ behaves (Store (word_place p.map SentBase) (w.fram (word_place p.map Base)) ∷ Store (word_place p.map Gate) 1 ∷ [])
+    (Jumps p.map.commit.address (record w { fram = put (put w.fram (word_place p.map SentBase) (w.fram (word_place p.map Base))) (word_place p.map Gate) 1 }))
 close_behaves p w base sent gate even =
-    let v = w.fram p.words.base in
-    let u : WordState = record w { fram = put w.fram p.words.sent_base v } in
-    let x : WordState = record u { fram = put u.fram p.words.gate 1 } in
-    let moved : step_behaviour (move_word p.words.base p.words.sent_base) w ≡ goes_on (Store p.words.sent_base v ∷ []) u =
-    placed p.words.base (word_stored p.words.sent_base v w) base ∙ placed p.words.sent_base (goes_on (Store p.words.sent_base v ∷ []) u) sent in
-    let raised : step_behaviour (store_number p.words.gate 1) u ≡ goes_on (Store p.words.gate 1 ∷ []) x = placed p.words.gate
-    (goes_on (Store p.words.gate 1 ∷ []) x) gate in
-    let left : jumped p.commit x ≡ behaves [] (Jumps p.commit x) = ap (λ b. if b then behaves [] (Jumps p.commit x) else broken)
-    (eq-eqb (p.commit % 2) 0 even) in
-    ap (λ b. then_on b (behaviour (step (store_number p.words.gate 1) (one (jump p.commit))))) moved
-    ∙ ap (λ b. behind_effects (Store p.words.sent_base v ∷ []) (then_on b (behaviour (one (jump p.commit))))) raised
-    ∙ ap (λ b. behind_effects (Store p.words.sent_base v ∷ []) (behind_effects (Store p.words.gate 1 ∷ []) (then_on b (behaviour nothing)))) left
+    let v = w.fram (word_place p.map Base) in
+    let u : WordState = record w { fram = put w.fram (word_place p.map SentBase) v } in
+    let x : WordState = record u { fram = put u.fram (word_place p.map Gate) 1 } in
+    let moved : step_behaviour (move_word (word_place p.map Base) (word_place p.map SentBase)) w ≡ goes_on (Store (word_place p.map SentBase) v ∷ []) u =
+    placed (word_place p.map Base) (word_stored (word_place p.map SentBase) v w) base
+    ∙ placed (word_place p.map SentBase) (goes_on (Store (word_place p.map SentBase) v ∷ []) u) sent in
+    let raised : step_behaviour (store_number (word_place p.map Gate) 1) u ≡ goes_on (Store (word_place p.map Gate) 1 ∷ []) x = placed (word_place p.map Gate)
+    (goes_on (Store (word_place p.map Gate) 1 ∷ []) x) gate in
+    let left : jumped p.map.commit.address x ≡ behaves [] (Jumps p.map.commit.address x) =
+    ap (λ b. if b then behaves [] (Jumps p.map.commit.address x) else broken)
+    (eq-eqb (p.map.commit.address % 2) 0 even) in
+    ap (λ b. then_on b (behaviour (step (store_number (word_place p.map Gate) 1) (one (jump p.map.commit.address))))) moved
+    ∙ ap (λ b. behind_effects (Store (word_place p.map SentBase) v ∷ []) (then_on b (behaviour (one (jump p.map.commit.address))))) raised
+    ∙ ap (λ b. behind_effects (Store (word_place p.map SentBase) v ∷ [])
+    (behind_effects (Store (word_place p.map Gate) 1 ∷ []) (then_on b (behaviour nothing)))) left
 
 -- the whole transition
-pub transition_behaves : (p : Places) (room : Room) (task n : ℕ) (w : WordState) → AreApart p room → AreEven p → w.fram p.words.list_length ≡ n
+pub transition_behaves : (p : Places) (room : Room) (task n : ℕ) (w : WordState) → AreApart p room → AreEven p → w.fram (word_place p.map ListLength) ≡ n
     → n + length p.privates ≤ room.list
-    → (u : WordState) × (behaviour (lowered_transition p task) w ≡ behaves (transition_effects p task n (w.fram p.words.base) ++ Store p.words.gate 1 ∷ [])
-    (Jumps p.commit u)) × (u.readings ≡ w.readings)
+    → (u : WordState) × (behaviour (lowered_transition p task) w
+    ≡ behaves (transition_effects p task n (w.fram (word_place p.map Base)) ++ Store (word_place p.map Gate) 1 ∷ [])
+    (Jumps p.map.commit.address u)) × (u.readings ≡ w.readings)
 transition_behaves p room task n w apart even listed fits =
-    let count = p.words.list_length in
+    let count = word_place p.map ListLength in
     let k = task % 65536 in
-    let w1 : WordState = record w { fram = put w.fram p.words.next_task k } in
-    let es = entry_effects count p.list n p.privates in
+    let w1 : WordState = record w { fram = put w.fram (word_place p.map NextTask) k } in
+    let es = entry_effects count p.map.list.address n p.privates in
     let w2 : WordState = record w1 { fram = fram_after es w1.fram } in
-    let close : Program = step (move_word p.words.base p.words.sent_base) (step (store_number p.words.gate 1) (one (jump p.commit))) in
-    let base : ℕ = w2.fram p.words.base in
-    let u : WordState = record w2 { fram = put (put w2.fram p.words.sent_base base) p.words.gate 1 } in
-    let fs : List Effect = Store p.words.sent_base base ∷ Store p.words.gate 1 ∷ [] in
-    let first : step_behaviour (store_number p.words.next_task k) w ≡ goes_on (Store p.words.next_task k ∷ []) w1 =
-    placed p.words.next_task (goes_on (Store p.words.next_task k ∷ []) w1)
-    (fram_place p.words.next_task even.next_task (omega (arith, apart)) (omega (arith, apart))) in
-    let counted : w1.fram count ≡ n = put_other w.fram p.words.next_task k count (λ e. omega (arith, e, apart)) ∙ listed in
-    let made = entries_behave count p.list p.privates n w1 counted
+    let close : Program = step (move_word (word_place p.map Base) (word_place p.map SentBase))
+    (step (store_number (word_place p.map Gate) 1) (one (jump p.map.commit.address))) in
+    let base : ℕ = w2.fram (word_place p.map Base) in
+    let u : WordState = record w2 { fram = put (put w2.fram (word_place p.map SentBase) base) (word_place p.map Gate) 1 } in
+    let fs : List Effect = Store (word_place p.map SentBase) base ∷ Store (word_place p.map Gate) 1 ∷ [] in
+    let first : step_behaviour (store_number (word_place p.map NextTask) k) w ≡ goes_on (Store (word_place p.map NextTask) k ∷ []) w1 =
+    placed (word_place p.map NextTask) (goes_on (Store (word_place p.map NextTask) k ∷ []) w1)
+    (fram_place (word_place p.map NextTask) (word_even p.map NextTask even.row) (omega (arith, apart)) (omega (arith, apart))) in
+    let counted : w1.fram count ≡ n = put_other w.fram (word_place p.map NextTask) k count (λ e. omega (arith, e, apart)) ∙ listed in
+    let made = entries_behave count p.map.list.address p.privates n w1 counted
     (record {
       low = omega (arith, apart);
       above = omega (arith, apart);
       high = omega
           (arith, apart, fits);
-      even_count = even.list_length;
+      even_count = word_even p.map ListLength even.row;
       even_list = even.list;
     }) in
-    let closed = close_behaves p w2 (fram_place p.words.base even.base (omega (arith, apart)) (omega (arith, apart)))
-    (fram_place p.words.sent_base even.sent_base (omega (arith, apart)) (omega (arith, apart)))
-    (fram_place p.words.gate even.gate (omega (arith, apart)) (omega (arith, apart))) even.commit in
-    let kept : base ≡ w.fram p.words.base =
-    entries_keep count p.list p.privates n p.words.base w1.fram (λ e. omega (arith, e, apart)) (omega (arith, apart))
-    ∙ put_other w.fram p.words.next_task k p.words.base (λ e. omega (arith, e, apart)) in
-    let tail : behaviour (joined (entries count p.list p.privates) close) w1 ≡ behaves (es ++ fs) (Jumps p.commit u) =
-    joined_go_on (entries count p.list p.privates) close w1 ∙ ap (λ b. then_on b (behaviour close)) made ∙ ap (behind_effects es) closed in
-    let whole : behaviour (lowered_transition p task) w ≡ behaves (Store p.words.next_task k ∷ (es ++ fs)) (Jumps p.commit u) =
-    ap (λ b. then_on b (behaviour (joined (entries count p.list p.privates) close))) first ∙ ap (behind_effects (Store p.words.next_task k ∷ [])) tail in
-    let in_order : es ++ fs ≡ (es ++ Store p.words.sent_base base ∷ []) ++ Store p.words.gate 1 ∷ [] = sym
-    (append_assoc es (Store p.words.sent_base base ∷ []) (Store p.words.gate 1 ∷ [])) in (
+    let closed = close_behaves p w2 (fram_place (word_place p.map Base) (word_even p.map Base even.row) (omega (arith, apart)) (omega (arith, apart)))
+    (fram_place (word_place p.map SentBase) (word_even p.map SentBase even.row) (omega (arith, apart)) (omega (arith, apart)))
+    (fram_place (word_place p.map Gate) (word_even p.map Gate even.row) (omega (arith, apart)) (omega (arith, apart))) even.commit in
+    let kept : base ≡ w.fram (word_place p.map Base) =
+    entries_keep count p.map.list.address p.privates n (word_place p.map Base) w1.fram (λ e. omega (arith, e, apart)) (omega (arith, apart))
+    ∙ put_other w.fram (word_place p.map NextTask) k (word_place p.map Base) (λ e. omega (arith, e, apart)) in
+    let tail : behaviour (joined (entries count p.map.list.address p.privates) close) w1 ≡ behaves (es ++ fs) (Jumps p.map.commit.address u) =
+    joined_go_on (entries count p.map.list.address p.privates) close w1 ∙ ap (λ b. then_on b (behaviour close)) made ∙ ap (behind_effects es) closed in
+    let whole : behaviour (lowered_transition p task) w ≡ behaves (Store (word_place p.map NextTask) k ∷ (es ++ fs)) (Jumps p.map.commit.address u) =
+    ap (λ b. then_on b (behaviour (joined (entries count p.map.list.address p.privates) close))) first
+    ∙ ap (behind_effects (Store (word_place p.map NextTask) k ∷ [])) tail in
+    let in_order : es ++ fs ≡ (es ++ Store (word_place p.map SentBase) base ∷ []) ++ Store (word_place p.map Gate) 1 ∷ [] = sym
+    (append_assoc es (Store (word_place p.map SentBase) base ∷ []) (Store (word_place p.map Gate) 1 ∷ [])) in (
       u,
-      whole ∙ ap (λ l. behaves (Store p.words.next_task k ∷ l) (Jumps p.commit u))
-          (in_order ∙ ap (λ b. (es ++ Store p.words.sent_base b ∷ []) ++ Store p.words.gate 1 ∷ []) kept),
+      whole ∙ ap (λ l. behaves (Store (word_place p.map NextTask) k ∷ l) (Jumps p.map.commit.address u))
+          (in_order ∙ ap (λ b. (es ++ Store (word_place p.map SentBase) b ∷ []) ++ Store (word_place p.map Gate) 1 ∷ []) kept),
       refl,
     )

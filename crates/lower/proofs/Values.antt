@@ -23,13 +23,16 @@ use Rattle.array_versions.specs.Operations.{unary_word, binary_word, shift_word,
 use Rattle.array_versions.specs.Program.{Program, load, local, unary, binary, shift, nothing, joined}
 use Rattle.array_versions.specs.Behaviour.{WordState, End, GoesOn, Jumps, Short, Strays, Broken, Behaviour, goes_on, behind_effects, on_end, then_on, is_place, at_place, pushed, local_pushed, reading_pushed, behaviour}
 use Rattle.array_versions.proofs.Joined.{joined_go_on, joined_assoc}
-use Rattle.privatise.specs.declared.place.ArrayCopies.{ArrayCopies}
-use Rattle.privatise.specs.declared.place.VariablePlace.{VariablePlace}
-use Rattle.privatise.specs.declared.place.VariablePlace.TheVariants.{Array}
-use Rattle.lower.specs.Places.{Places, address_of}
+use Rattle.memory_map.specs.MemoryMap.{word_place}
+use Rattle.memory_map.specs.declared.words.RuntimeWord.TheVariants.{Version}
+use Rattle.memory_map.specs.declared.place.ArrayCopies.{ArrayCopies}
+use Rattle.memory_map.specs.declared.place.VariablePlace.{VariablePlace}
+use Rattle.memory_map.specs.declared.place.VariablePlace.TheVariants.{Array}
+use Rattle.memory_map.proofs.Parts.{word_even}
+use Rattle.memory_map.specs.Spots.{Places, address_of, IsArrayAt, Element, IsElement, IsCopied, scalar, element, copy, version}
 use Rattle.lower.specs.Operations.{unary_operation, binary_operation, shift_operation}
 use Rattle.lower.specs.Lowered.{one, read_step, element_read, element_step, evaluated_side, lowered_choice_of_sides, lowered_expression}
-use Rattle.lower.specs.Spots.{IsArrayAt, Element, IsElement, IsCopied, scalar, element, copy, version, Room, AreApart, AreEven}
+use Rattle.lower.specs.Spots.{Room, AreApart, AreEven}
 use Rattle.lower.specs.Agreement.{IsKnown, IsArray, own_word, HoldVariables, TakesAndStores, OnlyTakes, valued, EndsWithValue, AgreesWithValue, ExpressionsAgree}
 use Rattle.lower.proofs.Addresses.{fram_place, placed, spot_place, element_is, copy_is, version_is, has_element}
 
@@ -165,7 +168,7 @@ array_agrees p room v elements length i (Some c) m w left apart even at h =
     let e = 2 * i + elements in
     let o = 2 * i + c.copies in
     let n = 2 * i + c.versions in
-    let ver = p.words.version in
+    let ver = word_place p.map Version in
     let word = word_at m (Shared v) i in
     let P : ℕ → Type 0 = λ a. is_place a ≡ true in
     let Q : Option VariablePlace → Type 0 = λ o. own_word p w.fram o i ≡ word in
@@ -175,7 +178,7 @@ array_agrees p room v elements length i (Some c) m w left apart even at h =
     index_agrees w i length word left (at_place ver (at_place n read))
     (λ l.
     let is : IsCopied p x = record { elements = elements; length = length; copies = c; is_array = at; below = l } in
-    let at_version = placed ver (at_place n read) (fram_place ver even.version (omega (arith, apart)) (omega (arith, apart))) in
+    let at_version = placed ver (at_place n read) (fram_place ver (word_even p.map Version even.row) (omega (arith, apart)) (omega (arith, apart))) in
     let at_mark = placed n read (subst P (version_is p x elements length c at) (spot_place p room (version x) apart even is)) in
     subst R (sym (at_version ∙ at_mark))
     (either_agrees w (w.fram ver == w.fram n) o e (w.fram o) (w.fram e) word left

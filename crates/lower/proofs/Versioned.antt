@@ -11,14 +11,16 @@ use Rattle.source_values.specs.Values.{Variables, word_at, with_word}
 use Rattle.array_versions.specs.declared.program.ArrayPlace.{ArrayPlace}
 use Rattle.array_versions.specs.declared.program.ListPlace.{ListPlace}
 use Rattle.array_versions.specs.Behaviour.{WordState, Behaviour, goes_on, behind_effects, is_place, at_place, stored, entry_stored, first_stored, own_stored, versioned_stored}
-use Rattle.privatise.specs.declared.place.VariablePlace.TheVariants.{Array}
-use Rattle.lower.specs.Places.{Places, address_of}
 use Rattle.lower.specs.Lowered.{list_place}
-use Rattle.lower.specs.Spots.{IsScalarAt, Element, IsElement, IsCopied, Spot, scalar, element, copy, version, IsSpot, element_address, copy_address, version_address, spot_address, Room, AreApart, AreDifferent, AreListed, listed_of}
+use Rattle.lower.specs.Spots.{Room, AreApart, AreDifferent, AreListed, listed_of}
 use Rattle.lower.specs.Agreement.{own_word, HoldVariables, HoldList}
 use Rattle.lower.proofs.Addresses.{placed, copy_is, version_is, no_scalar, same_element, same_or_not}
 use Rattle.lower.proofs.Stored.{word_same, word_other, set_holds, own_same, ListStays, EmitsStay, spot_list}
 use Rattle.lower.proofs.Transitions.{after_entry, entry_behaves}
+use Rattle.memory_map.specs.MemoryMap.{word_place}
+use Rattle.memory_map.specs.declared.words.RuntimeWord.TheVariants.{ListLength, EmitCount, Version}
+use Rattle.memory_map.specs.declared.place.VariablePlace.TheVariants.{Array}
+use Rattle.memory_map.specs.Spots.{Places, address_of, IsScalarAt, Element, IsElement, IsCopied, Spot, scalar, element, copy, version, IsSpot, element_address, copy_address, version_address, spot_address}
 
 -- ---- what the step does
 
@@ -79,20 +81,20 @@ stores_nothing place list i v s past = ap (λ z. if z then own_stored place list
 
 -- an element has this word in its copy, and its version word is VER; all other words that the task works on stay
 pub record IsStored (p : Places) (x : Element) (v : ℕ) (f g : ℕ → ℕ) : Type 0 where
-  pub number : g p.words.version ≡ f p.words.version
-  pub mark : g (version_address p x) ≡ f p.words.version
+  pub number : g (word_place p.map Version) ≡ f (word_place p.map Version)
+  pub mark : g (version_address p x) ≡ f (word_place p.map Version)
   pub copied : g (copy_address p x) ≡ v
   pub spots : (s : Spot) → IsSpot p s → (s ≡ copy x → ⊥) → (s ≡ version x → ⊥) → g (spot_address p s) ≡ f (spot_address p s)
 
 -- an element whose version word is VER is its copy
-own_copy : (p : Places) (g : ℕ → ℕ) (x : Element) → IsCopied p x → g p.words.version ≡ g (version_address p x)
-    → own_word p g (slice_get p.variables x.array) x.index ≡ g (copy_address p x)
+own_copy : (p : Places) (g : ℕ → ℕ) (x : Element) → IsCopied p x → g (word_place p.map Version) ≡ g (version_address p x)
+    → own_word p g (slice_get p.map.variables x.array) x.index ≡ g (copy_address p x)
 own_copy p g x is e =
     let i = x.index in
     let c = is.copies in
     ap (λ o. own_word p g o i) is.is_array.place
     ∙ ap (λ b. if b then g (2 * i + c.copies) else g (2 * i + is.elements))
-    (eq-eqb (g p.words.version) (g (2 * i + c.versions)) (e ∙ ap g (version_is p x is.elements is.length c is.is_array)))
+    (eq-eqb (g (word_place p.map Version)) (g (2 * i + c.versions)) (e ∙ ap g (version_is p x is.elements is.length c is.is_array)))
     ∙ sym (ap g (copy_is p x is.elements is.length c is.is_array))
 
 pub element_set : (p : Places) (room : Room) (x : Element) (v : ℕ) (m : Variables) (f g : ℕ → ℕ) (locals : ℕ → Option ℕ) → IsCopied p x → IsStored p x v f g
@@ -110,16 +112,16 @@ element_set p room x v m f g locals is k h =
         ∙ sym (word_other m x.array x.index v u 0 row (λ e. absurd (ne e)))
 
     same : (y : Element) → x ≡ y
-        → own_word p g (slice_get p.variables y.array) y.index ≡ word_at (with_word m (Shared x.array) x.index v) (Shared y.array) y.index
+        → own_word p g (slice_get p.map.variables y.array) y.index ≡ word_at (with_word m (Shared x.array) x.index v) (Shared y.array) y.index
     same y e =
-        let P : Element → Type 0 = λ z. own_word p g (slice_get p.variables z.array) z.index ≡ word_at (with_word m (Shared x.array) x.index v)
+        let P : Element → Type 0 = λ z. own_word p g (slice_get p.map.variables z.array) z.index ≡ word_at (with_word m (Shared x.array) x.index v)
         (Shared z.array) z.index in
         let l = h.lengths x.array (Array is.elements is.length (Some is.copies)) is.is_array.place in
         let below = is.below in
         subst P e (own_copy p g x is (k.number ∙ sym k.mark) ∙ k.copied ∙ sym (word_same m x.array x.index v row (omega (arith, l, below))))
 
     other : (y : Element) → IsElement p y → AreDifferent x y
-        → own_word p g (slice_get p.variables y.array) y.index ≡ word_at (with_word m (Shared x.array) x.index v) (Shared y.array) y.index
+        → own_word p g (slice_get p.map.variables y.array) y.index ≡ word_at (with_word m (Shared x.array) x.index v) (Shared y.array) y.index
     other y of ne =
         own_same p f g y of k.number (k.spots (element y) of (λ e. cc) (λ e. cc))
         (λ c. k.spots (copy y) c (λ e. let d : x ≡ y = cc in ne d) (λ e. cc))
@@ -128,13 +130,14 @@ element_set p room x v m f g locals is k h =
 
 -- ---- a later store
 
-pub again_stored : (p : Places) (room : Room) (x : Element) (v : ℕ) (f : ℕ → ℕ) → AreApart p room → IsCopied p x → f p.words.version ≡ f (version_address p x)
+pub again_stored : (p : Places) (room : Room) (x : Element) (v : ℕ) (f : ℕ → ℕ) → AreApart p room → IsCopied p x → f (word_place p.map Version)
+    ≡ f (version_address p x)
     → IsStored p x v f (put f (copy_address p x) v)
 again_stored p room x v f apart is marked =
     let low = apart.spots (copy x) is in
     let a = copy_address p x in
     record {
-      number = put_other f a v p.words.version (λ e. omega (arith, e, low, apart));
+      number = put_other f a v (word_place p.map Version) (λ e. omega (arith, e, low, apart));
       mark = put_other f a v (version_address p x) (λ e. let d = (apart.distinct (version x) (copy x) is is e) in cc) ∙ sym marked;
       copied = put_at f a v a refl;
       spots = λ s of ne d. put_other f a v (spot_address p s) (λ e. ne (apart.distinct s (copy x) of is e));
@@ -151,14 +154,14 @@ abbrev pub after_store : Places → ℕ → Element → ℕ → (ℕ → ℕ) �
 after_store p k x v f = after_first (list_place p) k (copy_address p x) (version_address p x) (element_address p x) v f
 
 store_keeps : (p : Places) (k : ℕ) (x : Element) (v a : ℕ) (f : ℕ → ℕ) → (a ≡ copy_address p x → ⊥) → (a ≡ version_address p x → ⊥)
-    → (a ≡ 4 * k + p.list → ⊥) → (a ≡ 4 * k + p.list + 2 → ⊥) → (a ≡ p.words.list_length → ⊥) → after_store p k x v f a ≡ f a
+    → (a ≡ 4 * k + p.map.list.address → ⊥) → (a ≡ 4 * k + p.map.list.address + 2 → ⊥) → (a ≡ word_place p.map ListLength → ⊥) → after_store p k x v f a ≡ f a
 store_keeps p k x v a f c n l m d =
     let f1 : ℕ → ℕ = put f (copy_address p x) v in
-    let f2 : ℕ → ℕ = put f1 (version_address p x) (f p.words.version) in
-    let f3 : ℕ → ℕ = put f2 (4 * k + p.list) (element_address p x) in
-    let f4 : ℕ → ℕ = put f3 (4 * k + p.list + 2) (copy_address p x) in
-    put_other f4 p.words.list_length (k + 1) a d ∙ put_other f3 (4 * k + p.list + 2) (copy_address p x) a m
-    ∙ put_other f2 (4 * k + p.list) (element_address p x) a l ∙ put_other f1 (version_address p x) (f p.words.version) a n
+    let f2 : ℕ → ℕ = put f1 (version_address p x) (f (word_place p.map Version)) in
+    let f3 : ℕ → ℕ = put f2 (4 * k + p.map.list.address) (element_address p x) in
+    let f4 : ℕ → ℕ = put f3 (4 * k + p.map.list.address + 2) (copy_address p x) in
+    put_other f4 (word_place p.map ListLength) (k + 1) a d ∙ put_other f3 (4 * k + p.map.list.address + 2) (copy_address p x) a m
+    ∙ put_other f2 (4 * k + p.map.list.address) (element_address p x) a l ∙ put_other f1 (version_address p x) (f (word_place p.map Version)) a n
     ∙ put_other f (copy_address p x) v a c
 
 -- a spot is behind the lists
@@ -170,8 +173,8 @@ spot_keeps p room k x v f s apart is few of c n =
     (λ e. omega (arith, e, low, apart, few)) (λ e. omega (arith, e, low, apart, few)) (λ e. omega (arith, e, low, apart))
 
 -- a word in front of the list
-low_keeps : (p : Places) (room : Room) (k : ℕ) (x : Element) (v a : ℕ) (f : ℕ → ℕ) → AreApart p room → IsCopied p x → a < p.list
-    → (a ≡ p.words.list_length → ⊥)
+low_keeps : (p : Places) (room : Room) (k : ℕ) (x : Element) (v a : ℕ) (f : ℕ → ℕ) → AreApart p room → IsCopied p x → a < p.map.list.address
+    → (a ≡ word_place p.map ListLength → ⊥)
     → after_store p k x v f a ≡ f a
 low_keeps p room k x v a f apart is low d =
     let c = apart.spots (copy x) is in
@@ -184,19 +187,19 @@ pub first_stored_at : (p : Places) (room : Room) (k : ℕ) (x : Element) (v : �
 first_stored_at p room k x v f apart is few =
     let c = copy_address p x in
     let n = version_address p x in
-    let ver = f p.words.version in
+    let ver = f (word_place p.map Version) in
     let f1 : ℕ → ℕ = put f c v in
     let f2 : ℕ → ℕ = put f1 n ver in
-    let f3 : ℕ → ℕ = put f2 (4 * k + p.list) (element_address p x) in
-    let f4 : ℕ → ℕ = put f3 (4 * k + p.list + 2) c in
+    let f3 : ℕ → ℕ = put f2 (4 * k + p.map.list.address) (element_address p x) in
+    let f4 : ℕ → ℕ = put f3 (4 * k + p.map.list.address + 2) c in
     let at_c = apart.spots (copy x) is in
     let at_n = apart.spots (version x) is in
-    let behind : (a : ℕ) → p.emits + 2 * room.emits ≤ a → after_store p k x v f a ≡ f2 a = λ a low.
-    put_other f4 p.words.list_length (k + 1) a (λ e. omega (arith, e, low, apart))
-    ∙ put_other f3 (4 * k + p.list + 2) c a (λ e. omega (arith, e, low, apart, few))
-    ∙ put_other f2 (4 * k + p.list) (element_address p x) a (λ e. omega (arith, e, low, apart, few)) in
+    let behind : (a : ℕ) → p.map.emits.address + 2 * room.emits ≤ a → after_store p k x v f a ≡ f2 a = λ a low.
+    put_other f4 (word_place p.map ListLength) (k + 1) a (λ e. omega (arith, e, low, apart))
+    ∙ put_other f3 (4 * k + p.map.list.address + 2) c a (λ e. omega (arith, e, low, apart, few))
+    ∙ put_other f2 (4 * k + p.map.list.address) (element_address p x) a (λ e. omega (arith, e, low, apart, few)) in
     record {
-      number = low_keeps p room k x v p.words.version f apart is (omega (arith, apart)) (λ e. omega (arith, e, apart));
+      number = low_keeps p room k x v (word_place p.map Version) f apart is (omega (arith, apart)) (λ e. omega (arith, e, apart));
       mark = behind n at_n ∙ put_at f1 n ver n refl;
       copied = behind c at_c ∙ put_other f1 n ver c (λ e. let d = (apart.distinct (copy x) (version x) is is e) in cc) ∙ put_at f c v c refl;
       spots = λ s of d e. spot_keeps p room k x v f s apart is few of d e;
@@ -208,8 +211,8 @@ first_emits p room k x v f apart is few =
     let c = apart.spots (copy x) is in
     let n = apart.spots (version x) is in
     record {
-      emit_count = low_keeps p room k x v p.words.emit_count f apart is (omega (arith, apart)) (λ e. omega (arith, e, apart));
-      buffer = λ i l. store_keeps p k x v (2 * i + p.emits) f (λ e. omega (arith, e, c, l)) (λ e. omega (arith, e, n, l))
+      emit_count = low_keeps p room k x v (word_place p.map EmitCount) f apart is (omega (arith, apart)) (λ e. omega (arith, e, apart));
+      buffer = λ i l. store_keeps p k x v (2 * i + p.map.emits.address) f (λ e. omega (arith, e, c, l)) (λ e. omega (arith, e, n, l))
           (λ e. omega (arith, e, apart, few)) (λ e. omega (arith, e, apart, few)) (λ e. omega (arith, e, apart));
     }
 
@@ -243,20 +246,22 @@ push_listed p xs x h is fresh = record {
 
 -- FRAM before the count is raised, and before that
 abbrev with_home : Places → ℕ → Element → ℕ → (ℕ → ℕ) → ℕ → ℕ
-with_home p k x v f = put (put (put f (copy_address p x) v) (version_address p x) (f p.words.version)) (4 * k + p.list) (element_address p x)
+with_home p k x v f = put (put (put f (copy_address p x) v) (version_address p x) (f (word_place p.map Version))) (4 * k + p.map.list.address)
+    (element_address p x)
 
 abbrev with_copy : Places → ℕ → Element → ℕ → (ℕ → ℕ) → ℕ → ℕ
-with_copy p k x v f = put (with_home p k x v f) (4 * k + p.list + 2) (copy_address p x)
+with_copy p k x v f = put (with_home p k x v f) (4 * k + p.map.list.address + 2) (copy_address p x)
 
 pub first_list : (p : Places) (room : Room) (xs : List Element) (x : Element) (v : ℕ) (f : ℕ → ℕ) → AreApart p room → IsCopied p x → length xs < room.list
-    → (f p.words.version ≡ f (version_address p x) → ⊥) → HoldList p xs f → HoldList p (xs ++ x ∷ []) (after_store p (length xs) x v f)
+    → (f (word_place p.map Version) ≡ f (version_address p x) → ⊥) → HoldList p xs f → HoldList p (xs ++ x ∷ []) (after_store p (length xs) x v f)
 first_list p room xs x v f apart is few unmarked h = record {
   are_listed = push_listed p xs x h.are_listed is fresh;
-  list_length = put_at (with_copy p (length xs) x v f) p.words.list_length (length xs + 1) p.words.list_length refl ∙ sym (length-append xs (x ∷ []));
+  list_length = put_at (with_copy p (length xs) x v f) (word_place p.map ListLength) (length xs + 1) (word_place p.map ListLength) refl
+      ∙ sym (length-append xs (x ∷ []));
   homes = λ i y e. ⊎_elim (old_home i y) (new_home i y) (pushed_at xs x y i e);
   copies = λ i y e. ⊎_elim (old_copy i y) (new_copy i y) (pushed_at xs x y i e);
   marked = λ y c. ⊎_elim
-      (λ e. subst (λ z. (after_store p (length xs) x v f) (version_address p z) ≡ (after_store p (length xs) x v f) p.words.version) e
+      (λ e. subst (λ z. (after_store p (length xs) x v f) (version_address p z) ≡ (after_store p (length xs) x v f) (word_place p.map Version)) e
       (now.mark ∙ sym now.number)) (λ ne. still y ne (old y ne c)) (same_or_not x y);
   only_marked = λ y of e. ⊎_elim (λ d. subst (Contains (xs ++ x ∷ [])) d last)
       (λ ne. Contains-append_left xs (x ∷ []) y (h.only_marked y of (sym (mark_keeps y of ne) ∙ e ∙ now.number))) (same_or_not x y);
@@ -268,33 +273,39 @@ first_list p room xs x v f apart is few unmarked h = record {
     now : IsStored p x v f (after_store p (length xs) x v f)
     now = first_stored_at p room (length xs) x v f apart is few
 
-    entry_keeps : (a : ℕ) → p.list ≤ a → a < 4 * length xs + p.list → (after_store p (length xs) x v f) a ≡ f a
+    entry_keeps : (a : ℕ) → p.map.list.address ≤ a → a < 4 * length xs + p.map.list.address → (after_store p (length xs) x v f) a ≡ f a
     entry_keeps a from to =
         let c = apart.spots (copy x) is in
         let n = apart.spots (version x) is in
         store_keeps p (length xs) x v a f (λ e. omega (arith, e, to, few, apart, c)) (λ e. omega (arith, e, to, few, apart, n))
         (λ e. omega (arith, e, to)) (λ e. omega (arith, e, to)) (λ e. omega (arith, e, from, apart))
 
-    old_home : (i : ℕ) (y : Element) → (i < length xs) × (slice_get xs i ≡ Some y) → (after_store p (length xs) x v f) (4 * i + p.list) ≡ element_address p y
-    old_home i y e = let l = e.0 in entry_keeps (4 * i + p.list) (omega arith) (omega (arith, l)) ∙ h.homes i y e.1
+    old_home : (i : ℕ) (y : Element) → (i < length xs) × (slice_get xs i ≡ Some y) → (after_store p (length xs) x v f) (4 * i + p.map.list.address)
+        ≡ element_address p y
+    old_home i y e = let l = e.0 in entry_keeps (4 * i + p.map.list.address) (omega arith) (omega (arith, l)) ∙ h.homes i y e.1
 
-    old_copy : (i : ℕ) (y : Element) → (i < length xs) × (slice_get xs i ≡ Some y) → (after_store p (length xs) x v f) (4 * i + p.list + 2) ≡ copy_address p y
-    old_copy i y e = let l = e.0 in entry_keeps (4 * i + p.list + 2) (omega arith) (omega (arith, l)) ∙ h.copies i y e.1
+    old_copy : (i : ℕ) (y : Element) → (i < length xs) × (slice_get xs i ≡ Some y) → (after_store p (length xs) x v f) (4 * i + p.map.list.address + 2)
+        ≡ copy_address p y
+    old_copy i y e = let l = e.0 in entry_keeps (4 * i + p.map.list.address + 2) (omega arith) (omega (arith, l)) ∙ h.copies i y e.1
 
-    new_home : (i : ℕ) (y : Element) → (i ≡ length xs) × (x ≡ y) → (after_store p (length xs) x v f) (4 * i + p.list) ≡ element_address p y
+    new_home : (i : ℕ) (y : Element) → (i ≡ length xs) × (x ≡ y) → (after_store p (length xs) x v f) (4 * i + p.map.list.address) ≡ element_address p y
     new_home i y e =
-        ap (λ j. (after_store p (length xs) x v f) (4 * j + p.list)) e.0
-        ∙ put_other (with_copy p (length xs) x v f) p.words.list_length (length xs + 1) (4 * length xs + p.list) (λ d. omega (arith, d, apart))
-        ∙ put_other (with_home p (length xs) x v f) (4 * length xs + p.list + 2) (copy_address p x) (4 * length xs + p.list) (λ d. omega (arith, d))
-        ∙ put_at (put (put f (copy_address p x) v) (version_address p x) (f p.words.version)) (4 * length xs + p.list) (element_address p x)
-        (4 * length xs + p.list) refl
+        ap (λ j. (after_store p (length xs) x v f) (4 * j + p.map.list.address)) e.0
+        ∙ put_other (with_copy p (length xs) x v f) (word_place p.map ListLength) (length xs + 1) (4 * length xs + p.map.list.address)
+        (λ d. omega (arith, d, apart))
+        ∙ put_other (with_home p (length xs) x v f) (4 * length xs + p.map.list.address + 2) (copy_address p x) (4 * length xs + p.map.list.address)
+        (λ d. omega (arith, d))
+        ∙ put_at (put (put f (copy_address p x) v) (version_address p x) (f (word_place p.map Version))) (4 * length xs + p.map.list.address)
+        (element_address p x)
+        (4 * length xs + p.map.list.address) refl
         ∙ ap (element_address p) e.1
 
-    new_copy : (i : ℕ) (y : Element) → (i ≡ length xs) × (x ≡ y) → (after_store p (length xs) x v f) (4 * i + p.list + 2) ≡ copy_address p y
+    new_copy : (i : ℕ) (y : Element) → (i ≡ length xs) × (x ≡ y) → (after_store p (length xs) x v f) (4 * i + p.map.list.address + 2) ≡ copy_address p y
     new_copy i y e =
-        ap (λ j. (after_store p (length xs) x v f) (4 * j + p.list + 2)) e.0
-        ∙ put_other (with_copy p (length xs) x v f) p.words.list_length (length xs + 1) (4 * length xs + p.list + 2) (λ d. omega (arith, d, apart))
-        ∙ put_at (with_home p (length xs) x v f) (4 * length xs + p.list + 2) (copy_address p x) (4 * length xs + p.list + 2) refl
+        ap (λ j. (after_store p (length xs) x v f) (4 * j + p.map.list.address + 2)) e.0
+        ∙ put_other (with_copy p (length xs) x v f) (word_place p.map ListLength) (length xs + 1) (4 * length xs + p.map.list.address + 2)
+        (λ d. omega (arith, d, apart))
+        ∙ put_at (with_home p (length xs) x v f) (4 * length xs + p.map.list.address + 2) (copy_address p x) (4 * length xs + p.map.list.address + 2) refl
         ∙ ap (copy_address p) e.1
 
     mark_keeps : (y : Element) → IsCopied p y → AreDifferent x y → (after_store p (length xs) x v f) (version_address p y) ≡ f (version_address p y)
@@ -304,7 +315,7 @@ first_list p room xs x v f apart is few unmarked h = record {
     old y ne c = ⊎_elim (λ a. a) (λ b. absurd (ne (single x y b))) (Contains-append_cases xs (x ∷ []) y c)
 
     still : (y : Element) → AreDifferent x y → Contains xs y
-        → (after_store p (length xs) x v f) (version_address p y) ≡ (after_store p (length xs) x v f) p.words.version
+        → (after_store p (length xs) x v f) (version_address p y) ≡ (after_store p (length xs) x v f) (word_place p.map Version)
     still y ne c = mark_keeps y (subst (IsCopied p) c.2 (h.are_listed.copied c.0 y c.1)) ne ∙ h.marked y c ∙ sym now.number
 
     last : Contains (xs ++ x ∷ []) x

@@ -11,12 +11,14 @@ use Rattle.source_values.specs.Values.{Variables, word_at, value_of}
 use Rattle.source_values.specs.Statements.{Attempt, Outcome, goes_on, to_task, short, run_block, block_emits}
 use Rattle.array_versions.specs.Behaviour.{WordState, End, GoesOn, Jumps, Short, Strays, Broken, Behaviour, behaviour}
 use Rattle.cost_bound.specs.Counts.{stores_of}
-use Rattle.privatise.specs.declared.place.ArrayCopies.{ArrayCopies}
-use Rattle.privatise.specs.declared.place.VariablePlace.{VariablePlace}
-use Rattle.privatise.specs.declared.place.VariablePlace.TheVariants.{Scalar, Array}
-use Rattle.privatise.specs.declared.place.PrivateScalar.{PrivateScalar}
-use Rattle.lower.specs.Places.{Places, address_of}
-use Rattle.lower.specs.Spots.{IsScalarAt, IsArrayAt, Element, IsElement, IsCopied, element_address, copy_address, version_address, Room, AreApart, AreEven, listed_of, AreListed, HasRoom}
+use Rattle.memory_map.specs.MemoryMap.{word_place}
+use Rattle.memory_map.specs.declared.words.RuntimeWord.TheVariants.{NextTask, Gate, ListLength, EmitCount, Base, SentBase, Version}
+use Rattle.memory_map.specs.declared.place.ArrayCopies.{ArrayCopies}
+use Rattle.memory_map.specs.declared.place.VariablePlace.{VariablePlace}
+use Rattle.memory_map.specs.declared.place.VariablePlace.TheVariants.{Scalar, Array}
+use Rattle.memory_map.specs.declared.place.PrivateScalar.{PrivateScalar}
+use Rattle.memory_map.specs.Spots.{Places, address_of, IsScalarAt, IsArrayAt, Element, IsElement, IsCopied, element_address, copy_address, version_address}
+use Rattle.lower.specs.Spots.{Room, AreApart, AreEven, listed_of, AreListed, HasRoom}
 use Rattle.lower.specs.Lowered.{lowered_expression, lowered_block}
 
 -- ---- what is asked of a tree: each name is used as it was declared
@@ -86,7 +88,7 @@ place_length (Array elements length copies) = length
 -- an element as the attempt has it: its copy where its version word is VER, else the element itself
 abbrev pub own_word : Places → (ℕ → ℕ) → Option VariablePlace → ℕ → ℕ
 own_word p f (Some (Array elements length (Some c))) i =
-    if f p.words.version == f (2 * i + c.versions) then f (2 * i + c.copies) else f (2 * i + elements)
+    if f (word_place p.map Version) == f (2 * i + c.versions) then f (2 * i + c.copies) else f (2 * i + elements)
 own_word p f (Some (Array elements length None)) i = f (2 * i + elements)
 own_word p f (Some (Scalar home copy)) i = 0
 own_word p f None i = 0
@@ -95,26 +97,26 @@ own_word p f None i = 0
 -- word
 pub record HoldVariables (p : Places) (m : Variables) (fram : ℕ → ℕ) (found : ℕ → Option ℕ) : Type 0 where
   pub words : (v : ℕ) → IsScalarAt p v → fram (address_of p v) ≡ word_at m (Shared v) 0
-  pub elements : (x : Element) → IsElement p x → own_word p fram (slice_get p.variables x.array) x.index ≡ word_at m (Shared x.array) x.index
-  pub rows : (v : ℕ) (place : VariablePlace) → slice_get p.variables v ≡ Some place → v < length m.shared
-  pub lengths : (v : ℕ) (place : VariablePlace) → slice_get p.variables v ≡ Some place → length (slice_index_or m.shared v []) ≡ place_length place
+  pub elements : (x : Element) → IsElement p x → own_word p fram (slice_get p.map.variables x.array) x.index ≡ word_at m (Shared x.array) x.index
+  pub rows : (v : ℕ) (place : VariablePlace) → slice_get p.map.variables v ≡ Some place → v < length m.shared
+  pub lengths : (v : ℕ) (place : VariablePlace) → slice_get p.map.variables v ≡ Some place → length (slice_index_or m.shared v []) ≡ place_length place
   pub locals : (n v : ℕ) → found n ≡ Some v → slice_index m.locals n ≡ v
   pub local_count : length m.locals ≡ 256
 
 -- the emitted words stand in the buffer, as many as are counted
 pub record HoldEmits (p : Places) (emitted : List ℕ) (fram : ℕ → ℕ) : Type 0 where
-  pub emit_count : fram p.words.emit_count ≡ length emitted
-  pub emits : (i : ℕ) → i < length emitted → fram (2 * i + p.emits) ≡ slice_index emitted i
+  pub emit_count : fram (word_place p.map EmitCount) ≡ length emitted
+  pub emits : (i : ℕ) → i < length emitted → fram (2 * i + p.map.emits.address) ≡ slice_index emitted i
 
 -- these elements have entries in the commit list, as many as are counted, each a home and its copy; they are those whose version word
 -- is VER
 pub record HoldList (p : Places) (listed : List Element) (fram : ℕ → ℕ) : Type 0 where
   pub are_listed : AreListed p listed
-  pub list_length : fram p.words.list_length ≡ length listed
-  pub homes : (i : ℕ) (x : Element) → slice_get listed i ≡ Some x → fram (4 * i + p.list) ≡ element_address p x
-  pub copies : (i : ℕ) (x : Element) → slice_get listed i ≡ Some x → fram (4 * i + p.list + 2) ≡ copy_address p x
-  pub marked : (x : Element) → Contains listed x → fram (version_address p x) ≡ fram p.words.version
-  pub only_marked : (x : Element) → IsCopied p x → fram (version_address p x) ≡ fram p.words.version → Contains listed x
+  pub list_length : fram (word_place p.map ListLength) ≡ length listed
+  pub homes : (i : ℕ) (x : Element) → slice_get listed i ≡ Some x → fram (4 * i + p.map.list.address) ≡ element_address p x
+  pub copies : (i : ℕ) (x : Element) → slice_get listed i ≡ Some x → fram (4 * i + p.map.list.address + 2) ≡ copy_address p x
+  pub marked : (x : Element) → Contains listed x → fram (version_address p x) ≡ fram (word_place p.map Version)
+  pub only_marked : (x : Element) → IsCopied p x → fram (version_address p x) ≡ fram (word_place p.map Version) → Contains listed x
 
 -- a state stands for an attempt, with these elements listed
 pub record StandsFor (p : Places) (m : Attempt) (listed : List Element) (w : WordState) : Type 0 where
@@ -142,10 +144,10 @@ pub data IsTaskStore (p : Places) (written : ℕ → Bool) (room : Room) (ver : 
   at_variable : (v : ℕ) → IsScalarAt p v → written v ≡ true → a ≡ address_of p v → IsTaskStore p written room ver a w
   at_copy : (x : Element) → IsCopied p x → a ≡ copy_address p x → IsTaskStore p written room ver a w
   at_version : (x : Element) → IsCopied p x → a ≡ version_address p x → w ≡ ver → IsTaskStore p written room ver a w
-  in_list : (i : ℕ) → i < room.list → (a ≡ 4 * i + p.list) ⊎ (a ≡ 4 * i + p.list + 2) → IsTaskStore p written room ver a w
-  at_list_length : a ≡ p.words.list_length → w ≤ room.list → IsTaskStore p written room ver a w
-  at_emit_count : a ≡ p.words.emit_count → w ≤ room.emits → IsTaskStore p written room ver a w
-  in_buffer : (i : ℕ) → i < room.emits → a ≡ 2 * i + p.emits → IsTaskStore p written room ver a w
+  in_list : (i : ℕ) → i < room.list → (a ≡ 4 * i + p.map.list.address) ⊎ (a ≡ 4 * i + p.map.list.address + 2) → IsTaskStore p written room ver a w
+  at_list_length : a ≡ word_place p.map ListLength → w ≤ room.list → IsTaskStore p written room ver a w
+  at_emit_count : a ≡ word_place p.map EmitCount → w ≤ room.emits → IsTaskStore p written room ver a w
+  in_buffer : (i : ℕ) → i < room.emits → a ≡ 2 * i + p.map.emits.address → IsTaskStore p written room ver a w
 
 -- entries of the commit list from number i on, each a home and its copy, with the count raised behind each
 abbrev pub entry_effects : ℕ → ℕ → ℕ → List PrivateScalar → List Effect
@@ -156,7 +158,8 @@ entry_effects count list i (s ∷ more) =
 -- a transition up to the gate, with so many entries in the list: NEXT, an entry for each private scalar, SB := BASE
 abbrev pub transition_effects : Places → ℕ → ℕ → ℕ → List Effect
 transition_effects p task entries base =
-    Store p.words.next_task (task % 65536) ∷ entry_effects p.words.list_length p.list entries p.privates ++ Store p.words.sent_base base ∷ []
+    Store (word_place p.map NextTask) (task % 65536) ∷ entry_effects (word_place p.map ListLength) p.map.list.address entries p.privates
+    ++ Store (word_place p.map SentBase) base ∷ []
 
 -- ---- an expression
 
@@ -211,12 +214,12 @@ pub record Left (p : Places) (b : Bounds) (es : List Effect) (to : ℕ) (s : Wor
   pub body : List Effect
   pub there : WordState
   pub listed : List Element
-  pub effects : es ≡ body ++ (transition_effects p task (length listed) (there.fram p.words.base) ++ Store p.words.gate 1 ∷ [])
+  pub effects : es ≡ body ++ (transition_effects p task (length listed) (there.fram (word_place p.map Base)) ++ Store (word_place p.map Gate) 1 ∷ [])
   pub stores : TakesAndStores (IsStore p b) body
   pub arrived : there.fram ≡ fram_after body b.start
   pub stands : StandsFor p m listed there
   pub few : (v : ℕ) → listed_of v listed ≤ b.most v
-  pub commits : to ≡ p.commit
+  pub commits : to ≡ p.map.commit.address
   pub readings : s.readings ≡ m.left
 
 -- the end is as the outcome has it
@@ -242,7 +245,7 @@ bounds_of p written room block listed w = record {
   start = w.fram;
   written = written;
   room = room;
-  ver = w.fram p.words.version;
+  ver = w.fram (word_place p.map Version);
   most = λ v. listed_of v listed + stores_of v block;
 }
 

@@ -1,4 +1,3 @@
-pub mod Places
 pub mod View
 pub mod Operations
 pub mod Lowered

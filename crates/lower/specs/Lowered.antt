@@ -15,12 +15,13 @@ use Rattle.array_versions.specs.declared.operations.UnaryOperation.TheVariants.{
 use Rattle.array_versions.specs.Program.{Step, Program, number, load, keep, local, set_local, unary, binary, shift, element, emit_word, list_entry, sense, choose, repeat, versioned_read, versioned_write, store_number, move_word, jump, nothing, step, joined, behind}
 use Rattle.array_versions.specs.declared.program.ArrayPlace.{ArrayPlace}
 use Rattle.array_versions.specs.declared.program.ListPlace.{ListPlace}
-use Rattle.privatise.specs.declared.place.ArrayCopies.{ArrayCopies}
-use Rattle.privatise.specs.declared.place.VariablePlace.{VariablePlace}
-use Rattle.privatise.specs.declared.place.VariablePlace.TheVariants.{Scalar, Array}
-use Rattle.privatise.specs.declared.place.PrivateScalar.{PrivateScalar}
-use Rattle.privatise.specs.LayoutValue.{LayoutValue, TaskLayoutValue}
-use Rattle.lower.specs.Places.{Places, places_of, address_of}
+use Rattle.memory_map.specs.declared.words.RuntimeWord.TheVariants.{NextTask, Gate, ListLength, EmitCount, Base, SentBase, Version}
+use Rattle.memory_map.specs.declared.place.ArrayCopies.{ArrayCopies}
+use Rattle.memory_map.specs.declared.place.VariablePlace.{VariablePlace}
+use Rattle.memory_map.specs.declared.place.VariablePlace.TheVariants.{Scalar, Array}
+use Rattle.memory_map.specs.declared.place.PrivateScalar.{PrivateScalar}
+use Rattle.memory_map.specs.MemoryMap.{MemoryMap, TaskPlace, word_place}
+use Rattle.memory_map.specs.Spots.{Places, places_of, address_of}
 use Rattle.lower.specs.Operations.{unary_operation, binary_operation, shift_operation}
 
 -- a program of one step
@@ -47,7 +48,7 @@ no_array = record { elements = 0; copies = 0; versions = 0; length = 0 }
 
 -- the number of the attempt, and the commit list
 abbrev pub list_place : Places → ListPlace
-list_place p = record { ver = p.words.version; cln = p.words.list_length; list = p.list }
+list_place p = record { ver = word_place p.map Version; cln = word_place p.map ListLength; list = p.map.list.address }
 
 -- pops an index and pushes an element of the array at a place: where some task writes the array, as this attempt has the element
 abbrev pub element_read : Places → Option VariablePlace → Step
@@ -57,7 +58,7 @@ element_read p (Some (Scalar home copy)) = element 0 0
 element_read p None = element 0 0
 
 abbrev pub element_step : Places → Variable → Step
-element_step p (Shared v) = element_read p (slice_get p.variables v)
+element_step p (Shared v) = element_read p (slice_get p.map.variables v)
 element_step p (Local n) = element 0 0
 
 -- the array at a place that a task may write
@@ -69,7 +70,7 @@ written_array None = no_array
 
 -- pops a word and an index, and stores the word in the copy of an element
 abbrev pub store_step : Places → Variable → Step
-store_step p (Shared v) = versioned_write (written_array (slice_get p.variables v)) (list_place p)
+store_step p (Shared v) = versioned_write (written_array (slice_get p.map.variables v)) (list_place p)
 store_step p (Local n) = versioned_write no_array (list_place p)
 
 -- what `&&` or `||` gives where the left side settles it
@@ -114,7 +115,7 @@ declaration p x (Some e) = assignment p x e
 
 -- puts an expression's value into the emit buffer
 abbrev pub emission : Places → CheckedExpression → Program
-emission p e = behind (lowered_expression p e) (emit_word p.words.emit_count p.emits)
+emission p e = behind (lowered_expression p e) (emit_word (word_place p.map EmitCount) p.map.emits.address)
 
 -- the local that counts the turns of a loop
 abbrev pub loop_local : Variable → ℕ
@@ -129,11 +130,11 @@ entries count list (s ∷ more) = step (list_entry count list s.home s.copy) (en
 -- NEXT, the entries of the commit list, SB := BASE, GATE := 1; then on to the commit
 abbrev pub lowered_transition : Places → ℕ → Program
 lowered_transition p task =
-    step (store_number p.words.next_task (task % 65536))
-    (joined (entries p.words.list_length p.list p.privates)
-    (step (move_word p.words.base p.words.sent_base)
-    (step (store_number p.words.gate 1)
-    (one (jump p.commit)))))
+    step (store_number (word_place p.map NextTask) (task % 65536))
+    (joined (entries (word_place p.map ListLength) p.map.list.address p.privates)
+    (step (move_word (word_place p.map Base) (word_place p.map SentBase))
+    (step (store_number (word_place p.map Gate) 1)
+    (one (jump p.map.commit.address)))))
 
 abbrev mutual
   -- what a statement does
@@ -158,14 +159,14 @@ abbrev mutual
   lowered_block p (t.step s more) = joined (lowered_statement p s) (lowered_block p more)
 
 -- a task's program
-abbrev pub lowered_task : LayoutValue → TaskLayoutValue → CheckedBlock → Program
+abbrev pub lowered_task : MemoryMap → TaskPlace → CheckedBlock → Program
 lowered_task l task body = lowered_block (places_of l task) body
 
 -- the programs of tasks, each with its layout
-abbrev pub lowered_tasks : LayoutValue → List (Task VariableName TaskName) → List TaskLayoutValue → List Program
+abbrev pub lowered_tasks : MemoryMap → List (Task VariableName TaskName) → List TaskPlace → List Program
 lowered_tasks l (task ∷ tasks) (layout ∷ layouts) = lowered_task l layout task.body ∷ lowered_tasks l tasks layouts
 lowered_tasks l _ _ = []
 
 -- the programs of a source
-abbrev pub lowered : LayoutValue → CheckedProgram → List Program
+abbrev pub lowered : MemoryMap → CheckedProgram → List Program
 lowered l p = lowered_tasks l p.tasks l.tasks

@@ -4,7 +4,7 @@ use Rattle.task_ast.specs.Paths.{CheckedExpression, CheckedBlock}
 use Rattle.cost_bound.specs.Table.{cycles_column, words_column, expression_price, block_price}
 use Rattle.array_versions.specs.Behaviour.{WordState, End, GoesOn, Jumps, Short, Strays, Broken, behaviour}
 use Rattle.array_versions.specs.Cost.{cycles_of, words_of, spent}
-use Rattle.lower.specs.Places.{Places}
+use Rattle.memory_map.specs.Spots.{Places}
 use Rattle.lower.specs.Lowered.{lowered_expression, lowered_block}
 
 -- the words of statements' code, in a task with at most so many private scalars

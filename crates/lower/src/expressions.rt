@@ -11,7 +11,7 @@ ghost use Rattle.lower.specs.Lowered.{read_step, element_step, settled_program, 
 use crate::operations::{binary_operation, shift_operation, unary_operation};
 use crate::places::{TaskPlaces, array_place, local_number};
 use array_versions::{UnaryOperation, WordProgram};
-use privatise::VariablePlace;
+use memory_map::VariablePlace;
 use source_values::types::{binary_type, joined_type, literal_type, unary_type};
 use std::alloc::{AllocError, Global};
 use task_ast::{Expr, ShortCircuitOperator, Variable, VariableName, WordType};
@@ -40,7 +40,7 @@ fn read_array(
     ensures { OnOk result (program_of program.new
         ≡ behind (program_of program.old) (element_step (places_in places.now) (Shared number))) }
 {
-    match places.variables.get(number as usize) {
+    match places.layout.variables().get(number as usize) {
         Some(
             VariablePlace::Array {
                 elements,

@@ -8,7 +8,7 @@ ghost use Rattle.lower.specs.Lowered.{lowered_task, lowered};
 use crate::places::TaskPlaces;
 use crate::statements::lower_block;
 use array_versions::WordProgram;
-use privatise::{Layout, TaskLayout};
+use memory_map::{Layout, TaskLayout};
 use std::alloc::{AllocError, Global};
 use task_ast::{Stmt, TaskName, VariableName};
 use task_check::Checked;
@@ -22,11 +22,7 @@ fn lower_task(
     ensures { IfOk result (λ p. program_of p ≡ lowered_task layout.now task.now (block_view body.now)) }
 {
     let places = TaskPlaces {
-        words: layout.words(),
-        list: layout.list().address,
-        emits: layout.emits().address,
-        commit: layout.commit().address,
-        variables: layout.variables(),
+        layout,
         privates: task.privates(),
     };
     let mut program = WordProgram::new(alloc);

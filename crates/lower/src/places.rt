@@ -1,25 +1,16 @@
 //! Where what a task works on stands.
 ghost use Rattle.std.specs.Prelude.{◌≡◌, ◌%◌, slice_get};
-ghost use Rattle.lower.specs.Places.{copy_among, home_of};
+ghost use Rattle.memory_map.specs.Spots.{copy_among, home_of};
 ghost use Rattle.lower.specs.Lowered.{array_place, no_array, written_array};
 
 use array_versions::{ArrayPlace, ListPlace};
-use image_map::RuntimeWords;
-use privatise::{ArrayCopies, PrivateScalar, VariablePlace};
+use memory_map::{ArrayCopies, Layout, PrivateScalar, RuntimeWord, VariablePlace};
 
-/// The addresses that a task's program needs of a layout.
+/// The places that a task's program works on: those of the layout, and the scalars that are private in the task.
 #[derive(Clone, Copy)]
 pub struct TaskPlaces<'l> {
-    pub words: RuntimeWords,
-    /// The commit list.
-    pub list: u16,
-    /// The words that an attempt emits.
-    pub emits: u16,
-    /// The code of the commit.
-    pub commit: u16,
-    /// The shared variables, in order of declaration.
-    pub variables: &'l [VariablePlace],
-    /// The scalars that are private in the task, in order of declaration.
+    pub layout: &'l Layout,
+    /// In order of declaration.
     pub privates: &'l [PrivateScalar],
 }
 
@@ -88,7 +79,7 @@ pub fn written_array(variables: &[VariablePlace], number: u32) -> ArrayPlace
 }
 
 impl<'l> TaskPlaces<'l> {
-    ghost use Rattle.lower.specs.Places.{address_of};
+    ghost use Rattle.memory_map.specs.Spots.{address_of};
     ghost use Rattle.lower.specs.Lowered.{list_place};
     ghost use Rattle.lower.specs.View.{places_in};
 
@@ -98,7 +89,7 @@ impl<'l> TaskPlaces<'l> {
     {
         match copy_among(self.privates, number) {
             Some(copy) => copy,
-            None => home_of(self.variables, number),
+            None => home_of(self.layout.variables(), number),
         }
     }
 
@@ -107,9 +98,9 @@ impl<'l> TaskPlaces<'l> {
         ensures { result ≡ list_place (places_in self.now) }
     {
         ListPlace {
-            ver: self.words.version,
-            cln: self.words.list_length,
-            list: self.list,
+            ver: self.layout.word_place(RuntimeWord::Version),
+            cln: self.layout.word_place(RuntimeWord::ListLength),
+            list: self.layout.list().address,
         }
     }
 }

@@ -13,7 +13,7 @@ ghost use Rattle.lower.specs.Lowered.{write_step, loop_local, lowered_expression
 use crate::expressions::lower_expression;
 use crate::places::{TaskPlaces, local_number, no_array, written_array};
 use array_versions::WordProgram;
-use privatise::PrivateScalar;
+use memory_map::{PrivateScalar, RuntimeWord};
 use std::alloc::{AllocError, Global};
 use task_ast::{Arm, Expr, Stmt, TaskName, Variable, VariableName};
 
@@ -57,7 +57,7 @@ fn store_element(
         ≡ behind (program_of program.old) (store_step (places_in places.now) variable)) }
 {
     let array = match variable {
-        Variable::Shared(number) => written_array(places.variables, number),
+        Variable::Shared(number) => written_array(places.layout.variables(), number),
         Variable::Local(_) => no_array(),
     };
     program.versioned_write(&array, &places.list_place())
@@ -110,7 +110,9 @@ fn emit(
         ≡ joined (program_of program.old) (emission (places_in places.now) (expression_of e.now))) }
 {
     let _ = lower_expression(alloc, e, places, program)?;
-    program.emit_word(places.words.emit_count, places.emits)
+    let layout = places.layout;
+    let emit_count = layout.word_place(RuntimeWord::EmitCount);
+    program.emit_word(emit_count, layout.emits().address)
 }
 
 // The local that counts the turns of a `for`. The checks refuse a shared variable there.
@@ -149,12 +151,17 @@ fn lower_transition(
     ensures { OnOk result (program_of program.new
         ≡ joined (program_of program.old) (lowered_transition (places_in places.now) task)) }
 {
-    let words = places.words;
-    program.store_number(words.next_task, local_number(task))?;
-    list_entries(places.privates, words.list_length, places.list, program)?;
-    program.move_word(words.base, words.sent_base)?;
-    program.store_number(words.gate, 1)?;
-    program.jump(places.commit)
+    let layout = places.layout;
+    let next_task = layout.word_place(RuntimeWord::NextTask);
+    let list_length = layout.word_place(RuntimeWord::ListLength);
+    let base = layout.word_place(RuntimeWord::Base);
+    let sent_base = layout.word_place(RuntimeWord::SentBase);
+    let gate = layout.word_place(RuntimeWord::Gate);
+    program.store_number(next_task, local_number(task))?;
+    list_entries(places.privates, list_length, layout.list().address, program)?;
+    program.move_word(base, sent_base)?;
+    program.store_number(gate, 1)?;
+    program.jump(layout.commit().address)
 }
 
 // Puts a program behind another.

@@ -9,7 +9,8 @@ use Rattle.task_ast.specs.declared.names.VariableName.{VariableName}
 use Rattle.task_ast.specs.declared.names.TaskName.{TaskName}
 use Rattle.cost_bound.specs.Counts.{Code, emits_of}
 use Rattle.cost_bound.specs.Allowance.{CheckedTask, CheckedProgram, shared_sum_from, version_part, place_part, is_written, total, greatest, task_words, list_of, words_of, versions_of}
-use Rattle.privatise.specs.Sizes.{home_part, home_words, copy_part, copy_words, body_words, entry_words, boot_words}
+use Rattle.memory_map.specs.Words.{row_words}
+use Rattle.privatise.specs.Sizes.{home_part, home_words, copy_part, copy_words, body_words, entry_words, boot_words, commit_words, own_boot_words}
 
 part_split : (written : Bool) (e : Extent) → place_part written e ≡ home_part e + copy_part written e + version_part written e
 part_split written (Scalar _) = refl
@@ -33,11 +34,14 @@ total_split f g h (t ∷ ts) e =
     let rest : total f ts ≡ total g ts + total h ts = total_split f g h ts e in
     omega (arith, here, rest)
 
-together : (t e b p h c v l m w : ℕ) → t ≡ e + b → p ≡ h + c + v → w ≡ 600 + t + p + 3 * l + m → 208 + 3 * l + m + v + h + c + (391 + e) + b + 1 ≡ w
+together : (t e b p h c v l m w : ℕ) → t ≡ e + b → p ≡ h + c + v → w ≡ 600 + t + p + 3 * l + m
+    → row_words + commit_words + 3 * l + m + v + h + c + (own_boot_words + e) + b + 1 ≡ w
 together t e b p h c v l m w x y z = omega (arith, x, y, z)
 
--- a word for the vector, eight of the runtime, the buffers, the variables, and the code of boot, commit and tasks
-pub words_split : (p : CheckedProgram) → 208 + 3 * greatest (list_of p.shared) p.tasks + greatest emits_of p.tasks + versions_of p + home_words p.shared + copy_words p + boot_words p.shared p.tasks + total (body_words p.shared) p.tasks + 1
+-- a word for the vector, those of the runtime, the buffers, the variables, and the code of boot, commit and tasks
+pub words_split : (p : CheckedProgram) → row_words + commit_words + 3 * greatest
+    (list_of p.shared) p.tasks + greatest emits_of p.tasks + versions_of p + home_words p.shared + copy_words p + boot_words p.shared p.tasks + total
+    (body_words p.shared) p.tasks + 1
     ≡ words_of p
 words_split p = together (total (task_words p.shared) p.tasks) (total (entry_words p.shared) p.tasks) (total (body_words p.shared) p.tasks) _ (home_words p.shared) (copy_words p) (versions_of p) (greatest (list_of p.shared) p.tasks) (greatest emits_of p.tasks) (words_of p)
     (total_split (task_words p.shared) (entry_words p.shared) (body_words p.shared) p.tasks (λ c. refl)) (places_split (is_written p.tasks) 0 p.shared) refl

@@ -13,14 +13,15 @@ use Rattle.task_ast.specs.declared.names.VariableName.{VariableName}
 use Rattle.task_ast.specs.declared.names.TaskName.{TaskName}
 use Rattle.cost_bound.specs.Allowance.{CheckedTask, total}
 use Rattle.war_analysis.specs.PlanValue.{TaskPlanValue}
-use Rattle.privatise.specs.declared.place.VariablePlace.{VariablePlace}
-use Rattle.privatise.specs.declared.place.PrivateScalar.{PrivateScalar}
-use Rattle.privatise.specs.LayoutValue.{TaskLayoutValue}
-use Rattle.privatise.specs.Places.{AreInOrder, HasItsPlace}
+use Rattle.address_space.specs.Limits.{reset_vector}
+use Rattle.memory_map.specs.declared.place.VariablePlace.{VariablePlace}
+use Rattle.memory_map.specs.declared.place.PrivateScalar.{PrivateScalar}
+use Rattle.memory_map.specs.MemoryMap.{TaskPlace}
+use Rattle.memory_map.specs.Places.{AreInOrder, HasItsPlace}
 use Rattle.privatise.specs.Sizes.{body_words}
 use Rattle.privatise.specs.Layouts.{IsTaskLayout}
 use Rattle.privatise.specs.Placing.{is_scalar_place, IsScalarPlaceAt, ArePrivates, IsPlacedTask, ArePlacedTasks}
-use Rattle.privatise.proofs.InOrder.{in_order_push, in_order_higher}
+use Rattle.memory_map.proofs.InOrder.{in_order_push, in_order_higher}
 use Rattle.privatise.proofs.Sums.{total_step, total_part}
 use Rattle.privatise.proofs.VariablesPlaced.{each_push, even_behind}
 
@@ -64,9 +65,11 @@ all_privates places numbers i privates l h = subst (λ ns. ArePrivates places ns
 -- ---- tasks
 
 -- the layouts of the first tasks, and the address for the next
-pub record TasksBelow (shared : List SharedDeclaration) (places : List VariablePlace) (tasks : List (TaskDeclaration VariableName TaskName)) (plans : List TaskPlanValue) (address : ℕ) (i at : ℕ) (layouts : List TaskLayoutValue) : Type 0 where
+pub record TasksBelow (shared : List SharedDeclaration) (places : List VariablePlace) (tasks : List (TaskDeclaration VariableName TaskName))
+    (plans : List TaskPlanValue) (address : ℕ) (i at : ℕ) (layouts : List TaskPlace) : Type 0 where
   pub count : length layouts ≡ i
-  pub each : (k : ℕ) (t : TaskLayoutValue) → slice_get layouts k ≡ Some t → (task : CheckedTask) (plan : TaskPlanValue) → slice_get (map task_of tasks) k ≡ Some task → slice_get plans k ≡ Some plan → IsTaskLayout shared task.body plan t
+  pub each : (k : ℕ) (t : TaskPlace) → slice_get layouts k ≡ Some t → (task : CheckedTask) (plan : TaskPlanValue) → slice_get (map task_of tasks) k
+      ≡ Some task → slice_get plans k ≡ Some plan → IsTaskLayout shared task.body plan t
   pub privates : All (λ t. All (HasItsPlace places) t.privates) layouts
   pub code : AreInOrder address (map (λ t. t.code) layouts) at
   pub room : at + 2 * total (body_words shared) (map task_of (drop i tasks)) ≡ address + 2 * total (body_words shared) (map task_of tasks)
@@ -87,13 +90,14 @@ module _ (shared : List SharedDeclaration) (places : List VariablePlace) (tasks 
   pub small_task : total (body_words shared) (map task_of tasks) ≤ 22000 → body_words shared (task_of task).body ≤ 22000
   small_task small = let part = total_part (body_words shared) tasks i task l is in omega (arith, part, small)
 
-  fits : (at part rest all : ℕ) → at + 2 * (part + rest) ≡ all → all ≤ 65534 → at + 2 * part < 65536
+  fits : (at part rest all : ℕ) → at + 2 * (part + rest) ≡ all → all ≤ reset_vector → at + 2 * part < 65536
   fits at part rest all h k = omega (arith, h, k)
 
   step : total (body_words shared) (map task_of (drop i tasks)) ≡ body_words shared (task_of task).body + total (body_words shared) (map task_of (drop (i + 1) tasks))
   step = total_step (body_words shared) tasks i task l is
 
-  pub task_fits : (layouts : List TaskLayoutValue) (words : ℕ) → address + 2 * total (body_words shared) (map task_of tasks) ≤ 65534 → words ≡ body_words shared (task_of task).body → TasksBelow shared places tasks plans address i at layouts → at + 2 * words < 65536
+  pub task_fits : (layouts : List TaskPlace) (words : ℕ) → address + 2 * total (body_words shared) (map task_of tasks) ≤ reset_vector → words
+      ≡ body_words shared (task_of task).body → TasksBelow shared places tasks plans address i at layouts → at + 2 * words < 65536
   task_fits layouts words room e h =
       let f : at + 2 * body_words shared (task_of task).body < 65536 = fits at (body_words shared (task_of task).body) _ _ (ap (λ s. at + 2 * s) (sym step) ∙ h.room) room in
       subst (λ w. at + 2 * w < 65536) (sym e) f
@@ -101,7 +105,8 @@ module _ (shared : List SharedDeclaration) (places : List VariablePlace) (tasks 
   on : (at later part rest all : ℕ) → later ≡ at + 2 * part → at + 2 * (part + rest) ≡ all → later + 2 * rest ≡ all
   on at later part rest all e h = omega (arith, e, h)
 
-  pub one_task : (plan : TaskPlanValue) (t : TaskLayoutValue) (later : ℕ) (xs ys : List TaskLayoutValue) → slice_get plans i ≡ Some plan → IsPlacedTask shared places (task_of task) plan at t → later ≡ at + 2 * t.code.words
+  pub one_task : (plan : TaskPlanValue) (t : TaskPlace) (later : ℕ) (xs ys : List TaskPlace) → slice_get plans i ≡ Some plan
+      → IsPlacedTask shared places (task_of task) plan at t → later ≡ at + 2 * t.code.words
       → ys ≡ xs ++ t ∷ [] → TasksBelow shared places tasks plans address i at xs → TasksBelow shared places tasks plans address (i + 1) later ys
   one_task plan t later xs ys planned placed behind e h = subst (λ zs. TasksBelow shared places tasks plans address (i + 1) later zs) (sym e) (record {
     count = length_push xs t ∙ ap (λ k. k + 1) h.count;
@@ -124,7 +129,8 @@ module _ (shared : List SharedDeclaration) (places : List VariablePlace) (tasks 
 over : (at rest all : ℕ) → rest ≡ 0 → at + 2 * rest ≡ all → at ≤ all
 over at rest all e h = omega (arith, e, h)
 
-pub all_tasks : (shared : List SharedDeclaration) (places : List VariablePlace) (tasks : List (TaskDeclaration VariableName TaskName)) (plans : List TaskPlanValue) (address : ℕ) (i at : ℕ) (layouts : List TaskLayoutValue) → i ≡ length tasks
+pub all_tasks : (shared : List SharedDeclaration) (places : List VariablePlace) (tasks : List (TaskDeclaration VariableName TaskName))
+    (plans : List TaskPlanValue) (address : ℕ) (i at : ℕ) (layouts : List TaskPlace) → i ≡ length tasks
     → TasksBelow shared places tasks plans address i at layouts → ArePlacedTasks shared places (map task_of tasks) plans address layouts
 all_tasks shared places tasks plans address i at layouts e h = record {
   count = h.count ∙ e ∙ sym (length-map tasks task_of);

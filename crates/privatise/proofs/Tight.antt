@@ -6,10 +6,10 @@ use Rattle.task_ast.specs.declared.Extent.{Extent}
 use Rattle.task_ast.specs.declared.Extent.TheVariants as extent
 use Rattle.task_ast.specs.declared.SharedDeclaration.{SharedDeclaration}
 use Rattle.cost_bound.specs.Allowance.{shared_sum_from, version_part}
-use Rattle.privatise.specs.declared.place.VariablePlace.{VariablePlace}
-use Rattle.privatise.specs.declared.place.VariablePlace.TheVariants.{Scalar, Array}
+use Rattle.memory_map.specs.declared.place.VariablePlace.{VariablePlace}
+use Rattle.memory_map.specs.declared.place.VariablePlace.TheVariants.{Scalar, Array}
 use Rattle.privatise.specs.declared.variables.Free.{Free}
-use Rattle.privatise.specs.Places.{AreInOrder, home_region, copy_regions, version_regions}
+use Rattle.memory_map.specs.Places.{AreInOrder, home_region, copy_regions, version_regions}
 use Rattle.privatise.specs.Sizes.{home_part, copy_part}
 use Rattle.privatise.specs.Layouts.{IsPlaceOf}
 use Rattle.privatise.specs.Placing.{place_at}

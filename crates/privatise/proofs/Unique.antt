@@ -1,23 +1,25 @@
 -- A source has one layout.
-use Rattle.std.proofs.Common.{◌≡◌, ℕ, zero, suc, ◌+◌, ◌*◌, ◌≤◌, List, [], ◌∷◌, length, map, get_or, refl, sym, ◌∙◌, ap, subst, arith, Some}
+use Rattle.std.proofs.Common.{◌≡◌, ℕ, zero, suc, ◌+◌, ◌-◌, ◌*◌, ◌≤◌, List, [], ◌∷◌, length, map, get_or, refl, sym, ◌∙◌, ap, subst, arith, Some}
 use Rattle.std.specs.Prelude.{slice_get, All}
 use Rattle.std.proofs.lemmas.List.Elements.{All-head, All-tail}
-use Rattle.image_map.specs.declared.parts.Place.{Place}
+use Rattle.address_space.specs.Limits.{fram_first}
+use Rattle.memory_map.specs.Words.{row_words}
 use Rattle.task_ast.specs.declared.SharedDeclaration.{SharedDeclaration}
 use Rattle.cost_bound.specs.declared.allowance.Allow.{Allow}
 use Rattle.cost_bound.specs.Counts.{emits_of}
 use Rattle.cost_bound.specs.Allowance.{CheckedTask, CheckedProgram, is_written, total, greatest, list_of, words_of, versions_of, IsAllowed}
 use Rattle.war_analysis.specs.PlanValue.{TaskPlanValue}
-use Rattle.privatise.specs.declared.place.Region.{Region}
-use Rattle.privatise.specs.declared.place.VariablePlace.{VariablePlace}
-use Rattle.privatise.specs.declared.place.VariablePlace.TheVariants.{Scalar}
-use Rattle.privatise.specs.declared.place.PrivateScalar.{PrivateScalar}
-use Rattle.privatise.specs.LayoutValue.{LayoutValue, TaskLayoutValue}
+use Rattle.memory_map.specs.declared.place.Region.{Region}
+use Rattle.memory_map.specs.declared.place.VariablePlace.{VariablePlace}
+use Rattle.memory_map.specs.declared.place.VariablePlace.TheVariants.{Scalar}
+use Rattle.memory_map.specs.declared.place.PrivateScalar.{PrivateScalar}
+use Rattle.memory_map.specs.MemoryMap.{MemoryMap, TaskPlace, parts}
 use Rattle.std.specs.List.{flat_map}
-use Rattle.privatise.specs.Places.{end_of, AreInOrder, HasItsPlace, home_region, copy_regions, version_regions}
-use Rattle.privatise.specs.Sizes.{home_words, copy_words, body_words, boot_words}
+use Rattle.memory_map.specs.Places.{end_of, list_entry_room, AreInOrder, HasItsPlace, home_region, copy_regions, version_regions}
+use Rattle.privatise.specs.Sizes.{home_words, copy_words, body_words, boot_words, commit_words}
 use Rattle.privatise.specs.Layouts.{IsPlaceOf, IsTaskLayout, IsLayout}
 use Rattle.privatise.specs.Laws.{OneLayout}
+use Rattle.memory_map.proofs.Parts.{apart_of}
 use Rattle.privatise.proofs.Sums.{words_split}
 use Rattle.privatise.proofs.Whole.{add_up}
 use Rattle.privatise.proofs.Tight.{IsChain, bytes, same_chain, kinds_from, same_variables}
@@ -40,13 +42,15 @@ same_privates places (x ∷ xs) (y ∷ ys) e a b =
     ap (λ s. s ∷ xs) same ∙ ap (λ s. y ∷ s) (same_privates places xs ys behind (All-tail (HasItsPlace places) x xs a) (All-tail (HasItsPlace places) y ys b))
 
 -- layouts of tasks by their plans
-abbrev AreOfTasks : List SharedDeclaration → List CheckedTask → List TaskPlanValue → List TaskLayoutValue → Type 0
+abbrev AreOfTasks : List SharedDeclaration → List CheckedTask → List TaskPlanValue → List TaskPlace → Type 0
 AreOfTasks shared [] [] [] = Unit {0}
 AreOfTasks shared (t ∷ ts) (p ∷ ps) (l ∷ ls) = IsTaskLayout shared t.body p l × AreOfTasks shared ts ps ls
 AreOfTasks shared _ _ _ = ⊥
 
-of_tasks : (shared : List SharedDeclaration) (ts : List CheckedTask) (ps : List TaskPlanValue) (ls : List TaskLayoutValue) → length ps ≡ length ts → length ls ≡ length ts
-    → ((k : ℕ) (t : CheckedTask) (p : TaskPlanValue) (l : TaskLayoutValue) → slice_get ts k ≡ Some t → slice_get ps k ≡ Some p → slice_get ls k ≡ Some l → IsTaskLayout shared t.body p l) → AreOfTasks shared ts ps ls
+of_tasks : (shared : List SharedDeclaration) (ts : List CheckedTask) (ps : List TaskPlanValue) (ls : List TaskPlace) → length ps ≡ length ts → length ls
+    ≡ length ts
+    → ((k : ℕ) (t : CheckedTask) (p : TaskPlanValue) (l : TaskPlace) → slice_get ts k ≡ Some t → slice_get ps k ≡ Some p → slice_get ls k ≡ Some l
+    → IsTaskLayout shared t.body p l) → AreOfTasks shared ts ps ls
 of_tasks shared [] [] [] e f h = tt
 of_tasks shared [] (p ∷ ps) ls e f h = absurd (omega (arith, e))
 of_tasks shared [] [] (l ∷ ls) e f h = absurd (omega (arith, f))
@@ -54,7 +58,8 @@ of_tasks shared (t ∷ ts) [] ls e f h = absurd (omega (arith, e))
 of_tasks shared (t ∷ ts) (p ∷ ps) [] e f h = absurd (omega (arith, f))
 of_tasks shared (t ∷ ts) (p ∷ ps) (l ∷ ls) e f h = (h zero t p l refl refl refl, of_tasks shared ts ps ls (omega (arith, e)) (omega (arith, f)) (λ k t p l a b c. h (suc k) t p l a b c))
 
-task_room : (shared : List SharedDeclaration) (ts : List CheckedTask) (ps : List TaskPlanValue) (ls : List TaskLayoutValue) (from end : ℕ) → AreOfTasks shared ts ps ls → AreInOrder from (map (λ t. t.code) ls) end
+task_room : (shared : List SharedDeclaration) (ts : List CheckedTask) (ps : List TaskPlanValue) (ls : List TaskPlace) (from end : ℕ)
+    → AreOfTasks shared ts ps ls → AreInOrder from (map (λ t. t.code) ls) end
     → from + 2 * total (body_words shared) ts ≤ end
 task_room shared [] [] [] from end k h = omega (arith, h)
 task_room shared [] (p ∷ ps) ls from end k h = absurd k
@@ -71,7 +76,8 @@ task_room shared (t ∷ ts) (p ∷ ps) (l ∷ ls) from end (here, others) (b, re
 begins : (from a w n rest end : ℕ) → from ≤ a → w ≡ n → a + 2 * w + 2 * rest ≤ end → end ≤ from + 2 * (n + rest) → a ≡ from
 begins from a w n rest end x y z t = omega (arith, x, y, z, t)
 
-same_tasks : (shared : List SharedDeclaration) (places : List VariablePlace) (ts : List CheckedTask) (ps : List TaskPlanValue) (xs ys : List TaskLayoutValue) (from end : ℕ) → end ≤ from + 2 * total (body_words shared) ts
+same_tasks : (shared : List SharedDeclaration) (places : List VariablePlace) (ts : List CheckedTask) (ps : List TaskPlanValue) (xs ys : List TaskPlace)
+    (from end : ℕ) → end ≤ from + 2 * total (body_words shared) ts
     → AreOfTasks shared ts ps xs → AreOfTasks shared ts ps ys → All (λ t. All (HasItsPlace places) t.privates) xs → All (λ t. All (HasItsPlace places) t.privates) ys
     → AreInOrder from (map (λ t. t.code) xs) end → AreInOrder from (map (λ t. t.code) ys) end → xs ≡ ys
 same_tasks shared places [] [] [] [] from end t j k a b x y = refl
@@ -82,7 +88,7 @@ same_tasks shared places (_ ∷ _) [] xs ys from end t j k a b x y = absurd j
 same_tasks shared places (_ ∷ _) (_ ∷ _) [] ys from end t j k a b x y = absurd j
 same_tasks shared places (_ ∷ _) (_ ∷ _) (_ ∷ _) [] from end t j k a b x y = absurd k
 same_tasks shared places (task ∷ ts) (p ∷ ps) (l ∷ ls) (m ∷ ms) from end t (here, others) (here', others') a b (x, xs) (y, ys) =
-    let P = λ (t : TaskLayoutValue). All (HasItsPlace places) t.privates in
+    let P = λ (t : TaskPlace). All (HasItsPlace places) t.privates in
     let n = body_words shared task.body in
     let rest = total (body_words shared) ts in
     let lat : l.code.address ≡ from = begins from l.code.address l.code.words n rest end x.from here.words (task_room shared ts ps ls (end_of l.code) end others xs) t in
@@ -105,96 +111,60 @@ same_tasks shared places (task ∷ ts) (p ∷ ps) (l ∷ ls) (m ∷ ms) from end
 
 -- ---- the single places
 
-abbrev addresses : LayoutValue → List ℕ
-addresses l = l.words.current_task ∷ l.words.next_task ∷ l.words.gate ∷ l.words.list_length ∷ l.words.emit_count ∷ l.words.base ∷ l.words.sent_base ∷ l.words.version
-    ∷ l.list.address ∷ l.emits.address ∷ l.versions.address ∷ l.homes.address ∷ l.copies.address ∷ l.boot.address ∷ l.commit.address ∷ l.code.address ∷ []
+abbrev addresses : MemoryMap → List ℕ
+addresses l = map (λ (r : Region). r.address) (parts l)
 
 abbrev sizes : CheckedProgram → Allow → List ℕ
-sizes p allow = 2 ∷ 2 ∷ 2 ∷ 2 ∷ 2 ∷ 2 ∷ 2 ∷ 2 ∷ 6 * allow.list ∷ 2 * allow.emits ∷ 2 * allow.versions ∷ 2 * home_words p.shared ∷ 2 * copy_words p ∷ 2 * boot_words p.shared p.tasks ∷ 2 * 200 ∷ 2 * total (body_words p.shared) p.tasks ∷ []
+sizes p allow = 2 * row_words ∷ 2 * (list_entry_room * allow.list) ∷ 2 * allow.emits ∷ 2 * allow.versions ∷ 2 * home_words p.shared ∷ 2 * copy_words p
+    ∷ 2 * boot_words p.shared p.tasks ∷ 2 * commit_words ∷ 2 * total (body_words p.shared) p.tasks ∷ []
 
 times : (a b c n m : ℕ) → a + n * b ≤ c → b ≡ m → a + n * m ≤ c
 times a b c n m h e = subst (λ x. a + n * x ≤ c) e h
 
-last : (a w n p : ℕ) → a + 2 * w + 2 ≤ 17408 + 2 * p → w ≡ n → a + 2 * n ≤ 17406 + 2 * p
+last : (a w n p : ℕ) → a + 2 * w + 2 ≤ fram_first + 2 * p → w ≡ n → a + 2 * n ≤ fram_first - 2 + 2 * p
 last a w n p h e = omega (arith, h, e)
 
-chain_of : (p : CheckedProgram) (allow : Allow) (plans : List TaskPlanValue) (l : LayoutValue) → IsLayout p allow plans l → IsChain 17408 (addresses l) (sizes p allow) (17406 + 2 * words_of p)
+chain_of : (p : CheckedProgram) (allow : Allow) (plans : List TaskPlanValue) (l : MemoryMap) → IsLayout p allow plans l
+    → IsChain fram_first (addresses l) (sizes p allow) (fram_first - 2 + 2 * words_of p)
 chain_of p allow plans l h =
-    let a = h.rules.apart in (
-      a.current_task,
-      (
-        a.next_task,
-        (
-          a.gate,
-          (
-            a.list_length,
-            (
-              a.emit_count,
-              (
-                a.base,
-                (
-                  a.sent_base,
-                  (
-                    a.version,
-                    (
-                      a.list,
-                      (
-                        times l.list.address l.list.capacity l.emits.address 6 allow.list a.emits h.list,
-                        (
-                          times l.emits.address l.emits.capacity l.versions.address 2 allow.emits a.versions h.emits,
-                          (
-                            times l.versions.address l.versions.capacity l.homes.address 2 allow.versions a.homes h.versions,
-                            (
-                              times l.homes.address l.homes.words l.copies.address 2 (home_words p.shared) a.copies h.homes,
-                              (
-                                times l.copies.address l.copies.words l.boot.address 2 (copy_words p) a.boot h.copies,
-                                (
-                                  times l.boot.address l.boot.words l.commit.address 2 (boot_words p.shared p.tasks) a.commit h.boot,
-                                  (
-                                    times l.commit.address l.commit.words l.code.address 2 200 a.code h.commit,
-                                    last l.code.address l.code.words (total (body_words p.shared) p.tasks) (words_of p) h.size h.code,
-                                  ),
-                                ),
-                              ),
-                            ),
-                          ),
-                        ),
-                      ),
-                    ),
-                  ),
-                ),
-              ),
-            ),
-          ),
-        ),
-      ),
-    )
+    let a = apart_of l h.rules in
+    let emits = times l.list.address (list_entry_room * l.entries) l.emits.address 2 (list_entry_room * allow.list) a.emits
+    (ap (λ n. list_entry_room * n) h.list) in
+    let versions = times l.emits.address l.emits.words l.versions.address 2 allow.emits a.versions h.emits in
+    let homes = times l.versions.address l.versions.words l.homes.address 2 allow.versions a.homes h.versions in
+    let copies = times l.homes.address l.homes.words l.copies.address 2 (home_words p.shared) a.copies h.homes in
+    let boot = times l.copies.address l.copies.words l.boot.address 2 (copy_words p) a.boot h.copies in
+    let commit = times l.boot.address l.boot.words l.commit.address 2 (boot_words p.shared p.tasks) a.commit h.boot in
+    let code = times l.commit.address l.commit.words l.code.address 2 commit_words a.code h.commit in
+    let end = last l.code.address l.code.words (total (body_words p.shared) p.tasks) (words_of p) h.size h.code in
+    (a.row, (a.list, (emits, (versions, (homes, (copies, (boot, (commit, (code, end)))))))))
 
-full : (l m v h c b t w : ℕ) → (208 + 3 * l + m + v + h + c + b + t) + 1 ≡ w
-    → 17406 + 2 * w ≤ 17408 + (2 + (2 + (2 + (2 + (2 + (2 + (2 + (2 + (6 * l + (2 * m + (2 * v + (2 * h + (2 * c + (2 * b + (2 * 200 + (2 * t + 0))))))))))))))))
+full : (l m v h c b t w : ℕ) → (row_words + commit_words + 3 * l + m + v + h + c + b + t) + 1 ≡ w
+    → fram_first - 2 + 2 * w
+    ≤ fram_first + (2 * row_words + (2 * (3 * l) + (2 * m + (2 * v + (2 * h + (2 * c + (2 * b + (2 * commit_words + (2 * t + 0)))))))))
 full l m v h c b t w e = omega (arith, e)
 
-all_full : (p : CheckedProgram) (allow : Allow) → IsAllowed p allow → 17406 + 2 * words_of p ≤ 17408 + bytes (sizes p allow)
+all_full : (p : CheckedProgram) (allow : Allow) → IsAllowed p allow → fram_first - 2 + 2 * words_of p ≤ fram_first + bytes (sizes p allow)
 all_full p allow a = full allow.list allow.emits allow.versions (home_words p.shared) (copy_words p) (boot_words p.shared p.tasks) (total (body_words p.shared) p.tasks) (words_of p)
     (add_up (greatest (list_of p.shared) p.tasks) (greatest emits_of p.tasks) (versions_of p) (home_words p.shared) (copy_words p) (boot_words p.shared p.tasks) (total (body_words p.shared) p.tasks) (words_of p)
     allow.list allow.emits allow.versions (home_words p.shared) (copy_words p) (boot_words p.shared p.tasks) (total (body_words p.shared) p.tasks) (words_split p) a.list a.emits a.versions refl refl refl refl)
 
-same_addresses : (p : CheckedProgram) (allow : Allow) (plans : List TaskPlanValue) (a b : LayoutValue) → IsAllowed p allow → IsLayout p allow plans a → IsLayout p allow plans b → addresses a ≡ addresses b
-same_addresses p allow plans a b h x y = same_chain 17408 (addresses a) (addresses b) (sizes p allow) (17406 + 2 * words_of p) (all_full p allow h) (chain_of p allow plans a x) (chain_of p allow plans b y)
+same_addresses : (p : CheckedProgram) (allow : Allow) (plans : List TaskPlanValue) (a b : MemoryMap) → IsAllowed p allow → IsLayout p allow plans a
+    → IsLayout p allow plans b → addresses a ≡ addresses b
+same_addresses p allow plans a b h x y = same_chain fram_first (addresses a) (addresses b) (sizes p allow) (fram_first - 2 + 2 * words_of p)
+    (all_full p allow h) (chain_of p allow plans a x) (chain_of p allow plans b y)
 
 same_region : (r q : Region) → r.address ≡ q.address → r.words ≡ q.words → r ≡ q
 same_region r q e f = λ j. record { address = e j; words = f j }
-
-same_place : (r q : Place) → r.address ≡ q.address → r.capacity ≡ q.capacity → r ≡ q
-same_place r q e f = λ j. record { address = e j; capacity = f j }
 
 behind : (a w n : ℕ) → w ≡ n → a + 2 * w ≤ a + 2 * n
 behind a w n e = omega (arith, e)
 
 pub one_layout : (p : CheckedProgram) (allow : Allow) → IsAllowed p allow → OneLayout p allow
 one_layout p allow h plans a b planned x y = λ j. record {
-  words = words j;
+  row = at 0 j;
   list = list j;
+  entries = entries j;
   emits = emits j;
   versions = versions j;
   homes = homes j;
@@ -209,59 +179,51 @@ one_layout p allow h plans a b planned x y = λ j. record {
     at : (k : ℕ) → get_or (addresses a) k 0 ≡ get_or (addresses b) k 0
     at k = ap (λ xs. get_or xs k 0) (same_addresses p allow plans a b h x y)
 
-    words : a.words ≡ b.words
-    words = λ j. record {
-      current_task = at 0 j;
-      next_task = at 1 j;
-      gate = at 2 j;
-      list_length = at 3 j;
-      emit_count = at 4 j;
-      base = at 5 j;
-      sent_base = at 6 j;
-      version = at 7 j;
-    }
+    entries : a.entries ≡ b.entries
+    entries = x.list ∙ sym y.list
 
     list : a.list ≡ b.list
-    list = same_place a.list b.list (at 8) (x.list ∙ sym y.list)
+    list = same_region a.list b.list (at 1) (x.rules.list ∙ ap (λ n. list_entry_room * n) entries ∙ sym y.rules.list)
 
     emits : a.emits ≡ b.emits
-    emits = same_place a.emits b.emits (at 9) (x.emits ∙ sym y.emits)
+    emits = same_region a.emits b.emits (at 2) (x.emits ∙ sym y.emits)
 
     versions : a.versions ≡ b.versions
-    versions = same_place a.versions b.versions (at 10) (x.versions ∙ sym y.versions)
+    versions = same_region a.versions b.versions (at 3) (x.versions ∙ sym y.versions)
 
     homes : a.homes ≡ b.homes
-    homes = same_region a.homes b.homes (at 11) (x.homes ∙ sym y.homes)
+    homes = same_region a.homes b.homes (at 4) (x.homes ∙ sym y.homes)
 
     copies : a.copies ≡ b.copies
-    copies = same_region a.copies b.copies (at 12) (x.copies ∙ sym y.copies)
+    copies = same_region a.copies b.copies (at 5) (x.copies ∙ sym y.copies)
 
     boot : a.boot ≡ b.boot
-    boot = same_region a.boot b.boot (at 13) (x.boot ∙ sym y.boot)
+    boot = same_region a.boot b.boot (at 6) (x.boot ∙ sym y.boot)
 
     commit : a.commit ≡ b.commit
-    commit = same_region a.commit b.commit (at 14) (x.commit ∙ sym y.commit)
+    commit = same_region a.commit b.commit (at 7) (x.commit ∙ sym y.commit)
 
     code : a.code ≡ b.code
-    code = same_region a.code b.code (at 15) (x.code ∙ sym y.code)
+    code = same_region a.code b.code (at 8) (x.code ∙ sym y.code)
 
     variables : a.variables ≡ b.variables
     variables = same_variables (is_written p.tasks) 0 p.shared a.variables b.variables (record { home = a.homes.address; copy = a.copies.address; version = a.versions.address })
-        (record { home = end_of a.homes; copy = end_of a.copies; version = a.versions.address + 2 * a.versions.capacity })
+        (record { home = end_of a.homes; copy = end_of a.copies; version = end_of a.versions })
         (record {
           home = behind a.homes.address a.homes.words (home_words p.shared) x.homes;
           copy = behind a.copies.address a.copies.words (copy_words p) x.copies;
-          version = behind a.versions.address a.versions.capacity (versions_of p) (x.versions ∙ h.versions);
+          version = behind a.versions.address a.versions.words (versions_of p) (x.versions ∙ h.versions);
         })
         (kinds_from (is_written p.tasks) 0 p.shared a.variables x.variables.count (λ k d v e f. kind a x k d v e f)) (kinds_from (is_written p.tasks) 0 p.shared b.variables y.variables.count (λ k d v e f. kind b y k d v e f))
         (record { home = x.rules.homes; copy = x.rules.copies; version = x.rules.versions })
         (record {
           home = subst (λ r. AreInOrder r.address (map home_region b.variables) (end_of r)) (sym homes) y.rules.homes;
           copy = subst (λ r. AreInOrder r.address (flat_map copy_regions b.variables) (end_of r)) (sym copies) y.rules.copies;
-          version = subst (λ r. AreInOrder r.address (flat_map version_regions b.variables) (r.address + 2 * r.capacity)) (sym versions) y.rules.versions;
+          version = subst (λ r. AreInOrder r.address (flat_map version_regions b.variables) (end_of r)) (sym versions) y.rules.versions;
         })
       where
-        kind : (l : LayoutValue) → IsLayout p allow plans l → (k : ℕ) (d : SharedDeclaration) (v : VariablePlace) → slice_get p.shared k ≡ Some d → slice_get l.variables k ≡ Some v → IsPlaceOf (is_written p.tasks (0 + k)) d.extent v
+        kind : (l : MemoryMap) → IsLayout p allow plans l → (k : ℕ) (d : SharedDeclaration) (v : VariablePlace) → slice_get p.shared k ≡ Some d
+            → slice_get l.variables k ≡ Some v → IsPlaceOf (is_written p.tasks (0 + k)) d.extent v
         kind l z k d v e f = let same : k ≡ 0 + k = omega arith in subst (λ n. IsPlaceOf (is_written p.tasks n) d.extent v) same (z.variables.each k d v e f)
 
     tasks : a.tasks ≡ b.tasks

@@ -18,14 +18,18 @@ use Rattle.cost_bound.proofs.Sums.{written_sum}
 use Rattle.war_analysis.specs.PlanValue.{TaskPlanValue}
 use Rattle.war_analysis.specs.Plans.{is_scalar, IsPrivateIn, IsPlan}
 use Rattle.war_analysis.proofs.Steps.{element}
-use Rattle.privatise.specs.declared.place.VariablePlace.{VariablePlace}
-use Rattle.privatise.specs.declared.place.VariablePlace.TheVariants.{Scalar, Array}
+use Rattle.address_space.specs.Limits.{fram_first, reset_vector}
+use Rattle.memory_map.specs.declared.place.VariablePlace.{VariablePlace}
+use Rattle.memory_map.specs.declared.place.VariablePlace.TheVariants.{Scalar, Array}
 use Rattle.privatise.specs.declared.variables.Free.{Free}
 use Rattle.privatise.specs.declared.sizes.Sizes.{Sizes}
-use Rattle.privatise.specs.declared.placing.Regions.{Regions}
-use Rattle.privatise.specs.LayoutValue.{LayoutValue, TaskLayoutValue}
-use Rattle.privatise.specs.Places.{end_of, home_region, copy_regions, version_regions, AreInOrder, AreApart, AreEven, IsLaidOut}
-use Rattle.privatise.specs.Sizes.{home_words, copy_part, copy_words, body_words, boot_words}
+use Rattle.memory_map.specs.declared.layouts.Regions.{Regions}
+use Rattle.memory_map.specs.declared.place.Region.{Region}
+use Rattle.memory_map.specs.Words.{row_words}
+use Rattle.memory_map.specs.MemoryMap.{TaskPlace, parts, row_region}
+use Rattle.memory_map.specs.View.{map_with}
+use Rattle.memory_map.specs.Places.{end_of, list_entry_room, home_region, copy_regions, version_regions, IsBehind, AreInOrder, IsLaidOut}
+use Rattle.privatise.specs.Sizes.{home_words, copy_part, copy_words, body_words, boot_words, commit_words}
 use Rattle.privatise.specs.Layouts.{IsPlaceOf, AreVariables, IsLayout}
 use Rattle.privatise.specs.Placing.{copy_sum, version_sum, IsRoom, ArePlaced, is_scalar_place, IsScalarPlaceAt, ArePlacedTasks, AreSizes, AreRegions}
 use Rattle.privatise.proofs.Sums.{words_split}
@@ -36,44 +40,49 @@ AreWritten p written = (i : ℕ) → i < 256 → slice_index_or written i false 
 
 -- ---- the sizes
 
-pub add_up : (l m v h c b t w al am av sh sc sb st : ℕ) → 208 + 3 * l + m + v + h + c + b + t + 1 ≡ w → al ≡ l → am ≡ m → av ≡ v → sh ≡ h → sc ≡ c → sb ≡ b → st ≡ t
-    → (208 + 3 * al + am + av + sh + sc + sb + st) + 1 ≡ w
+pub add_up : (l m v h c b t w al am av sh sc sb st : ℕ) → row_words + commit_words + 3 * l + m + v + h + c + b + t + 1 ≡ w → al ≡ l → am ≡ m → av ≡ v → sh ≡ h
+    → sc ≡ c → sb ≡ b → st ≡ t
+    → (row_words + commit_words + 3 * al + am + av + sh + sc + sb + st) + 1 ≡ w
 add_up l m v h c b t w al am av sh sc sb st sum x y z p q r s = omega (arith, sum, x, y, z, p, q, r, s)
 
 -- all but the vector, whose word is the last
 pub sizes_add : (p : CheckedProgram) (allow : Allow) (s : Sizes) → IsAllowed p allow → AreSizes p s
-    → (208 + 3 * allow.list + allow.emits + allow.versions + s.homes + s.copies + s.boot + s.code) + 1 ≡ words_of p
+    → (row_words + commit_words + 3 * allow.list + allow.emits + allow.versions + s.homes + s.copies + s.boot + s.code) + 1 ≡ words_of p
 sizes_add p allow s a k =
     add_up (greatest (list_of p.shared) p.tasks) (greatest emits_of p.tasks) (versions_of p) (home_words p.shared) (copy_words p) (boot_words p.shared p.tasks) (total (body_words p.shared) p.tasks) (words_of p)
     allow.list allow.emits allow.versions s.homes s.copies s.boot s.code (words_split p) a.list a.emits a.versions k.homes k.copies k.boot k.code
 
-below_top : (n w : ℕ) → n + 1 ≡ w → w ≤ 22000 → 17408 + 2 * n ≤ 65534
+below_top : (n w : ℕ) → n + 1 ≡ w → w ≤ 22000 → fram_first + 2 * n ≤ reset_vector
 below_top n w e h = omega (arith, e, h)
 
 pub sizes_fit : (p : CheckedProgram) (allow : Allow) (s : Sizes) → IsAllowed p allow → AreSizes p s
-    → 17408 + 2 * (208 + 3 * allow.list + allow.emits + allow.versions + s.homes + s.copies + s.boot + s.code) ≤ 65534
+    → fram_first + 2 * (row_words + commit_words + 3 * allow.list + allow.emits + allow.versions + s.homes + s.copies + s.boot + s.code) ≤ reset_vector
 sizes_fit p allow s a k = below_top _ (words_of p) (sizes_add p allow s a k) a.within_size
 
 -- ---- the regions
 
+-- the address behind the words of the runtime
+abbrev row_end : ℕ
+row_end = fram_first + 2 * row_words
+
 -- where each region begins, by the sizes in front of it
 pub record Starts (allow : Allow) (s : Sizes) (r : Regions) : Type 0 where
-  pub list : r.list.address ≡ 17424
-  pub emits : r.emits.address ≡ 17424 + 6 * allow.list
-  pub versions : r.versions.address ≡ 17424 + 2 * (3 * allow.list + allow.emits)
-  pub homes : r.homes.address ≡ 17424 + 2 * (3 * allow.list + allow.emits + allow.versions)
-  pub copies : r.copies.address ≡ 17424 + 2 * (3 * allow.list + allow.emits + allow.versions + s.homes)
-  pub boot : r.boot.address ≡ 17424 + 2 * (3 * allow.list + allow.emits + allow.versions + s.homes + s.copies)
-  pub commit : r.commit.address ≡ 17424 + 2 * (3 * allow.list + allow.emits + allow.versions + s.homes + s.copies + s.boot)
-  pub code : r.code.address ≡ 17408 + 2 * (208 + 3 * allow.list + allow.emits + allow.versions + s.homes + s.copies + s.boot)
-  pub end : end_of r.code ≡ 17408 + 2 * (208 + 3 * allow.list + allow.emits + allow.versions + s.homes + s.copies + s.boot + s.code)
+  pub list : r.list.address ≡ row_end
+  pub emits : r.emits.address ≡ row_end + 2 * (3 * allow.list)
+  pub versions : r.versions.address ≡ row_end + 2 * (3 * allow.list + allow.emits)
+  pub homes : r.homes.address ≡ row_end + 2 * (3 * allow.list + allow.emits + allow.versions)
+  pub copies : r.copies.address ≡ row_end + 2 * (3 * allow.list + allow.emits + allow.versions + s.homes)
+  pub boot : r.boot.address ≡ row_end + 2 * (3 * allow.list + allow.emits + allow.versions + s.homes + s.copies)
+  pub commit : r.commit.address ≡ row_end + 2 * (3 * allow.list + allow.emits + allow.versions + s.homes + s.copies + s.boot)
+  pub code : r.code.address ≡ fram_first + 2 * (row_words + commit_words + 3 * allow.list + allow.emits + allow.versions + s.homes + s.copies + s.boot)
+  pub end : end_of r.code ≡ fram_first + 2 * (row_words + commit_words + 3 * allow.list + allow.emits + allow.versions + s.homes + s.copies + s.boot + s.code)
 
-behind : (a from n m words : ℕ) → a ≡ from + 2 * words → from ≡ 17424 + 2 * n → words ≡ m → a ≡ 17424 + 2 * (n + m)
+behind : (a from n m words : ℕ) → a ≡ from + 2 * words → from ≡ row_end + 2 * n → words ≡ m → a ≡ row_end + 2 * (n + m)
 behind a from n m words e f g = omega (arith, e, f, g)
 
 pub starts : (allow : Allow) (s : Sizes) (r : Regions) → AreRegions allow s r → Starts allow s r
 starts allow s r k = record {
-  list = k.list;
+  list = list;
   emits = emits;
   versions = versions;
   homes = homes;
@@ -84,107 +93,77 @@ starts allow s r k = record {
   end = let w = k.code_words in omega (arith, code, w);
 }
   where
-    emits : r.emits.address ≡ 17424 + 6 * allow.list
-    emits = let a = k.emits in let b = k.list in omega (arith, a, b)
+    list : r.list.address ≡ row_end
+    list = k.list ∙ ap (λ a. a + 2 * row_words) k.row
 
-    versions : r.versions.address ≡ 17424 + 2 * (3 * allow.list + allow.emits)
-    versions = let a = k.versions in omega (arith, a, emits)
+    emits : r.emits.address ≡ row_end + 2 * (3 * allow.list)
+    emits = let a = k.emits in let w = k.list_words in omega (arith, a, w, list)
 
-    homes : r.homes.address ≡ 17424 + 2 * (3 * allow.list + allow.emits + allow.versions)
-    homes = behind r.homes.address r.versions.address (3 * allow.list + allow.emits) allow.versions allow.versions k.homes versions refl
+    versions : r.versions.address ≡ row_end + 2 * (3 * allow.list + allow.emits)
+    versions = behind r.versions.address r.emits.address (3 * allow.list) allow.emits r.emits.words k.versions emits k.emits_words
 
-    copies : r.copies.address ≡ 17424 + 2 * (3 * allow.list + allow.emits + allow.versions + s.homes)
+    homes : r.homes.address ≡ row_end + 2 * (3 * allow.list + allow.emits + allow.versions)
+    homes = behind r.homes.address r.versions.address (3 * allow.list + allow.emits) allow.versions r.versions.words k.homes versions k.versions_words
+
+    copies : r.copies.address ≡ row_end + 2 * (3 * allow.list + allow.emits + allow.versions + s.homes)
     copies = behind r.copies.address r.homes.address (3 * allow.list + allow.emits + allow.versions) s.homes r.homes.words k.copies homes k.homes_words
 
-    boot : r.boot.address ≡ 17424 + 2 * (3 * allow.list + allow.emits + allow.versions + s.homes + s.copies)
+    boot : r.boot.address ≡ row_end + 2 * (3 * allow.list + allow.emits + allow.versions + s.homes + s.copies)
     boot = behind r.boot.address r.copies.address (3 * allow.list + allow.emits + allow.versions + s.homes) s.copies r.copies.words k.boot copies k.copies_words
 
-    commit : r.commit.address ≡ 17424 + 2 * (3 * allow.list + allow.emits + allow.versions + s.homes + s.copies + s.boot)
+    commit : r.commit.address ≡ row_end + 2 * (3 * allow.list + allow.emits + allow.versions + s.homes + s.copies + s.boot)
     commit = behind r.commit.address r.boot.address (3 * allow.list + allow.emits + allow.versions + s.homes + s.copies) s.boot r.boot.words k.commit boot k.boot_words
 
-    code : r.code.address ≡ 17424 + 2 * (3 * allow.list + allow.emits + allow.versions + s.homes + s.copies + s.boot + 200)
-    code = behind r.code.address r.commit.address (3 * allow.list + allow.emits + allow.versions + s.homes + s.copies + s.boot) 200 r.commit.words k.code commit k.commit_words
+    code : r.code.address ≡ row_end + 2 * (3 * allow.list + allow.emits + allow.versions + s.homes + s.copies + s.boot + commit_words)
+    code = behind r.code.address r.commit.address
+        (3 * allow.list + allow.emits + allow.versions + s.homes + s.copies + s.boot) commit_words r.commit.words k.code commit k.commit_words
 
-even : (a n : ℕ) → a ≡ 17424 + 2 * n → a % 2 ≡ 0
+even : (a n : ℕ) → a ≡ row_end + 2 * n → a % 2 ≡ 0
 even a n e = omega (arith, e)
 
-even_from : (a n : ℕ) → a ≡ 17408 + 2 * n → a % 2 ≡ 0
+even_from : (a n : ℕ) → a ≡ fram_first + 2 * n → a % 2 ≡ 0
 even_from a n e = omega (arith, e)
 
--- the layout of regions, places of variables and layouts of tasks
-abbrev pub layout_with : Regions → List VariablePlace → List TaskLayoutValue → LayoutValue
-layout_with r places layouts = record {
-  words = r.words;
-  list = r.list;
-  emits = r.emits;
-  versions = r.versions;
-  homes = r.homes;
-  copies = r.copies;
-  variables = places;
-  boot = r.boot;
-  commit = r.commit;
-  code = r.code;
-  tasks = layouts;
-}
+-- each of the regions that the places of variables and tasks begin at is even
+pub record AreEvenStarts (r : Regions) : Type 0 where
+  pub versions : r.versions.address % 2 ≡ 0
+  pub homes : r.homes.address % 2 ≡ 0
+  pub copies : r.copies.address % 2 ≡ 0
+  pub code : r.code.address % 2 ≡ 0
 
-next_is : (a b x y n : ℕ) → a ≡ x → b ≡ y → x + n ≤ y → a + n ≤ b
-next_is a b x y n e f h = omega (arith, e, f, h)
-
-same_end : (a b : ℕ) → a ≡ b → b ≤ a
-same_end a b e = omega (arith, e)
-
-list_end : (a b n c : ℕ) → a ≡ b + 6 * n → c ≡ n → b + 6 * c ≤ a
-list_end a b n c e f = omega (arith, e, f)
-
-place_end : (a b n c : ℕ) → a ≡ b + 2 * n → c ≡ n → b + 2 * c ≤ a
-place_end a b n c e f = omega (arith, e, f)
-
-version_end : (a b : ℕ) → a ≡ 17422 → b ≡ 17424 → a + 2 ≤ b
-version_end a b e f = omega (arith, e, f)
-
-pub apart : (allow : Allow) (s : Sizes) (r : Regions) (places : List VariablePlace) (layouts : List TaskLayoutValue) → AreRegions allow s r
-    → 17408 + 2 * (208 + 3 * allow.list + allow.emits + allow.versions + s.homes + s.copies + s.boot + s.code) ≤ 65534 → AreApart (layout_with r places layouts)
-apart allow s r places layouts k fits = record {
-  current_task = let a = k.current_task in omega (arith, a);
-  next_task = let a = k.current_task in let b = k.next_task in omega (arith, a, b);
-  gate = let a = k.next_task in let b = k.gate in omega (arith, a, b);
-  list_length = let a = k.gate in let b = k.list_length in omega (arith, a, b);
-  emit_count = let a = k.list_length in let b = k.emit_count in omega (arith, a, b);
-  base = let a = k.emit_count in let b = k.base in omega (arith, a, b);
-  sent_base = let a = k.base in let b = k.sent_base in omega (arith, a, b);
-  version = let a = k.sent_base in let b = k.version in omega (arith, a, b);
-  list = version_end r.words.version r.list.address k.version k.list;
-  emits = list_end r.emits.address r.list.address allow.list r.list.capacity k.emits k.list_capacity;
-  versions = place_end r.versions.address r.emits.address allow.emits r.emits.capacity k.versions k.emits_capacity;
-  homes = place_end r.homes.address r.versions.address allow.versions r.versions.capacity k.homes k.versions_capacity;
-  copies = same_end r.copies.address (end_of r.homes) k.copies;
-  boot = same_end r.boot.address (end_of r.copies) k.boot;
-  commit = same_end r.commit.address (end_of r.boot) k.commit;
-  code = same_end r.code.address (end_of r.commit) k.code;
-  high = let e = (starts allow s r k).end in omega (arith, e, fits);
-}
-
-pub all_even : (allow : Allow) (s : Sizes) (r : Regions) (places : List VariablePlace) (layouts : List TaskLayoutValue) → AreRegions allow s r → AreEven (layout_with r places layouts)
-all_even allow s r places layouts k =
+pub even_starts : (allow : Allow) (s : Sizes) (r : Regions) → AreRegions allow s r → AreEvenStarts r
+even_starts allow s r k =
     let b = starts allow s r k in
     record {
-      current_task = ap (λ a. a % 2) k.current_task;
-      next_task = ap (λ a. a % 2) k.next_task;
-      gate = ap (λ a. a % 2) k.gate;
-      list_length = ap (λ a. a % 2) k.list_length;
-      emit_count = ap (λ a. a % 2) k.emit_count;
-      base = ap (λ a. a % 2) k.base;
-      sent_base = ap (λ a. a % 2) k.sent_base;
-      version = ap (λ a. a % 2) k.version;
-      list = ap (λ a. a % 2) k.list;
-      emits = let e = b.emits in even r.emits.address (3 * allow.list) (omega (arith, e));
       versions = even r.versions.address _ b.versions;
       homes = even r.homes.address _ b.homes;
       copies = even r.copies.address _ b.copies;
-      boot = even r.boot.address _ b.boot;
-      commit = even r.commit.address _ b.commit;
       code = even_from r.code.address _ b.code;
     }
+
+-- right behind an address
+right_behind : (end : ℕ) (r : Region) → r.address ≡ end → r.address % 2 ≡ 0 → IsBehind end r
+right_behind end r e f = record { from = omega (arith, e); even = f }
+
+-- the regions in order
+pub chain : (allow : Allow) (s : Sizes) (r : Regions) (places : List VariablePlace) (layouts : List TaskPlace) → AreRegions allow s r
+    → fram_first + 2 * (row_words + commit_words + 3 * allow.list + allow.emits + allow.versions + s.homes + s.copies + s.boot + s.code) ≤ reset_vector
+    → AreInOrder fram_first (parts (map_with r places layouts)) reset_vector
+chain allow s r places layouts k fits =
+    let b = starts allow s r k in
+    let e = even_starts allow s r k in
+    let end = b.end in
+    let row : IsBehind fram_first (row_region (map_with r places layouts)) = right_behind fram_first _ k.row (ap (λ a. a % 2) k.row) in
+    let list : IsBehind (r.row + 2 * row_words) r.list = right_behind _ r.list k.list (ap (λ a. a % 2) b.list) in
+    let emits : IsBehind (end_of r.list) r.emits = right_behind _ r.emits k.emits (even r.emits.address _ b.emits) in
+    let versions : IsBehind (end_of r.emits) r.versions = right_behind _ r.versions k.versions e.versions in
+    let homes : IsBehind (end_of r.versions) r.homes = right_behind _ r.homes k.homes e.homes in
+    let copies : IsBehind (end_of r.homes) r.copies = right_behind _ r.copies k.copies e.copies in
+    let boot : IsBehind (end_of r.copies) r.boot = right_behind _ r.boot k.boot (even r.boot.address _ b.boot) in
+    let commit : IsBehind (end_of r.boot) r.commit = right_behind _ r.commit k.commit (even r.commit.address _ b.commit) in
+    let code : IsBehind (end_of r.commit) r.code = right_behind _ r.code k.code e.code in
+    let high : end_of r.code ≤ reset_vector = omega (arith, end, fits) in
+    (row, (list, (emits, (versions, (homes, (copies, (boot, (commit, (code, high)))))))))
 
 -- ---- the variables
 
@@ -194,7 +173,7 @@ copies_are p written few h = written_sum copy_part p.shared p.shared written (is
 versions_are : (p : CheckedProgram) (written : List Bool) → length p.shared ≤ 256 → AreWritten p written → version_sum written p.shared ≡ versions_of p
 versions_are p written few h = written_sum version_part p.shared p.shared written (is_written p.tasks) (version_sum written p.shared) few refl h refl
 
-fits_in : (a w n m total : ℕ) → a ≡ 17424 + 2 * n → w ≡ m → 17408 + 2 * total ≤ 65534 → n + m + 8 ≤ total → a + 2 * w ≤ 65534
+fits_in : (a w n m total : ℕ) → a ≡ row_end + 2 * n → w ≡ m → fram_first + 2 * total ≤ reset_vector → n + m + row_words ≤ total → a + 2 * w ≤ reset_vector
 fits_in a w n m total e f h k = omega (arith, e, f, h, k)
 
 pub room : (p : CheckedProgram) (allow : Allow) (s : Sizes) (r : Regions) (written : List Bool) → length p.shared ≤ 256 → AreWritten p written → IsAllowed p allow → AreSizes p s → AreRegions allow s r
@@ -202,7 +181,7 @@ pub room : (p : CheckedProgram) (allow : Allow) (s : Sizes) (r : Regions) (writt
 room p allow s r written few h a k g =
     let b = starts allow s r g in
     let fits = sizes_fit p allow s a k in
-    let e = all_even allow s r [] [] g in
+    let e = even_starts allow s r g in
     record {
       home = fits_in r.homes.address (home_words p.shared) (3 * allow.list + allow.emits + allow.versions) s.homes _ b.homes (sym k.homes) fits (omega arith);
       copy = fits_in r.copies.address (copy_sum written p.shared) (3 * allow.list + allow.emits + allow.versions + s.homes) s.copies _ b.copies (copies_are p written few h ∙ sym k.copies) fits (omega arith);
@@ -257,14 +236,16 @@ small t n rest w e h k = omega (arith, e, h, k)
 pub code_small : (p : CheckedProgram) (allow : Allow) (s : Sizes) → IsAllowed p allow → AreSizes p s → total (body_words p.shared) p.tasks ≤ 22000
 code_small p allow s a k = small _ s.code _ (words_of p) (sym k.code) (sizes_add p allow s a k) a.within_size
 
-code_room_by : (a t n rest : ℕ) → a ≡ 17408 + 2 * rest → t ≡ n → 17408 + 2 * (rest + n) ≤ 65534 → a + 2 * t ≤ 65534
+code_room_by : (a t n rest : ℕ) → a ≡ fram_first + 2 * rest → t ≡ n → fram_first + 2 * (rest + n) ≤ reset_vector → a + 2 * t ≤ reset_vector
 code_room_by a t n rest e f h = omega (arith, e, f, h)
 
-pub code_room : (p : CheckedProgram) (allow : Allow) (s : Sizes) (r : Regions) → IsAllowed p allow → AreSizes p s → AreRegions allow s r → r.code.address + 2 * total (body_words p.shared) p.tasks ≤ 65534
+pub code_room : (p : CheckedProgram) (allow : Allow) (s : Sizes) (r : Regions) → IsAllowed p allow → AreSizes p s → AreRegions allow s r
+    → r.code.address + 2 * total (body_words p.shared) p.tasks ≤ reset_vector
 code_room p allow s r a k g = code_room_by r.code.address _ s.code _ (starts allow s r g).code (sym k.code) (sizes_fit p allow s a k)
 
 -- the same of equal lists
-pub tasks_moved : (shared shared' : List SharedDeclaration) (places places' : List VariablePlace) (tasks tasks' : List (TaskDeclaration VariableName TaskName)) (plans plans' : List TaskPlanValue) (address : ℕ) (layouts : List TaskLayoutValue)
+pub tasks_moved : (shared shared' : List SharedDeclaration) (places places' : List VariablePlace)
+    (tasks tasks' : List (TaskDeclaration VariableName TaskName)) (plans plans' : List TaskPlanValue) (address : ℕ) (layouts : List TaskPlace)
     → shared ≡ shared' → places ≡ places' → tasks ≡ tasks' → plans ≡ plans' → ArePlacedTasks shared places (map task_of tasks) plans address layouts → ArePlacedTasks shared' places' (map task_of tasks') plans' address layouts
 tasks_moved shared shared' places places' tasks tasks' plans plans' address layouts a b c d h =
     subst (λ x. ArePlacedTasks x places' (map task_of tasks') plans' address layouts) a
@@ -277,34 +258,37 @@ tasks_moved shared shared' places places' tasks tasks' plans plans' address layo
 words_end : (a w n m : ℕ) → w ≡ n → n ≡ m → a + 2 * m ≡ a + 2 * w
 words_end a w n m e f = omega (arith, e, f)
 
-pub laid_out : (p : CheckedProgram) (allow : Allow) (plans : List TaskPlanValue) (s : Sizes) (r : Regions) (written : List Bool) (places : List VariablePlace) (layouts : List TaskLayoutValue)
+pub laid_out : (p : CheckedProgram) (allow : Allow) (plans : List TaskPlanValue) (s : Sizes) (r : Regions) (written : List Bool) (places : List VariablePlace)
+    (layouts : List TaskPlace)
     → length p.shared ≤ 256 → AreWritten p written → IsAllowed p allow → AreSizes p s → AreRegions allow s r
     → ArePlaced p.shared written (record { home = r.homes.address; copy = r.copies.address; version = r.versions.address }) places → ArePlacedTasks p.shared places p.tasks plans r.code.address layouts
-    → IsLaidOut (layout_with r places layouts)
+    → IsLaidOut (map_with r places layouts)
 laid_out p allow plans s r written places layouts few h a k g v t = record {
-  apart = apart allow s r places layouts g (sizes_fit p allow s a k);
-  even = all_even allow s r places layouts g;
+  chain = chain allow s r places layouts g (sizes_fit p allow s a k);
+  list = g.list_words ∙ ap (λ n. list_entry_room * n) (sym g.entries);
   homes = subst (λ end. AreInOrder r.homes.address (map home_region places) end) (words_end r.homes.address r.homes.words s.homes (home_words p.shared) g.homes_words k.homes) v.homes;
   copies = subst (λ end. AreInOrder r.copies.address (flat_map copy_regions places) end)
       (words_end r.copies.address r.copies.words s.copies (copy_sum written p.shared) g.copies_words (k.copies ∙ sym (copies_are p written few h))) v.copies;
   versions = subst (λ end. AreInOrder r.versions.address (flat_map version_regions places) end)
-      (words_end r.versions.address r.versions.capacity allow.versions (version_sum written p.shared) g.versions_capacity (a.versions ∙ sym (versions_are p written few h))) v.versions;
+      (words_end r.versions.address r.versions.words allow.versions (version_sum written p.shared) g.versions_words
+      (a.versions ∙ sym (versions_are p written few h))) v.versions;
   code = subst (λ end. AreInOrder r.code.address (map (λ t. t.code) layouts) end) (words_end r.code.address r.code.words s.code (total (body_words p.shared) p.tasks) g.code_words k.code) t.code;
   privates = t.privates;
 }
 
-size_is : (e n w : ℕ) → e ≡ 17408 + 2 * n → n + 1 ≡ w → e + 2 ≤ 17408 + 2 * w
+size_is : (e n w : ℕ) → e ≡ fram_first + 2 * n → n + 1 ≡ w → e + 2 ≤ fram_first + 2 * w
 size_is e n w h k = omega (arith, h, k)
 
-pub whole : (p : CheckedProgram) (allow : Allow) (plans : List TaskPlanValue) (s : Sizes) (r : Regions) (written : List Bool) (places : List VariablePlace) (layouts : List TaskLayoutValue)
+pub whole : (p : CheckedProgram) (allow : Allow) (plans : List TaskPlanValue) (s : Sizes) (r : Regions) (written : List Bool) (places : List VariablePlace)
+    (layouts : List TaskPlace)
     → length p.shared ≤ 256 → AreWritten p written → IsAllowed p allow → AreSizes p s → AreRegions allow s r
     → ArePlaced p.shared written (record { home = r.homes.address; copy = r.copies.address; version = r.versions.address }) places → ArePlacedTasks p.shared places p.tasks plans r.code.address layouts
-    → IsLayout p allow plans (layout_with r places layouts)
+    → IsLayout p allow plans (map_with r places layouts)
 whole p allow plans s r written places layouts few h a k g v t = record {
   rules = laid_out p allow plans s r written places layouts few h a k g v t;
-  list = g.list_capacity;
-  emits = g.emits_capacity;
-  versions = g.versions_capacity;
+  list = g.entries;
+  emits = g.emits_words;
+  versions = g.versions_words;
   homes = g.homes_words ∙ k.homes;
   copies = g.copies_words ∙ k.copies;
   variables = variables_are p written _ places few h v;

@@ -7,10 +7,11 @@ use Rattle.cost_bound.specs.declared.allowance.Allow.{Allow}
 use Rattle.cost_bound.specs.Counts.{Code}
 use Rattle.cost_bound.specs.Allowance.{CheckedProgram, CheckedTask, is_written, total, words_of}
 use Rattle.war_analysis.specs.PlanValue.{TaskPlanValue}
-use Rattle.privatise.specs.declared.place.VariablePlace.{VariablePlace}
-use Rattle.privatise.specs.declared.place.VariablePlace.TheVariants.{Scalar, Array}
-use Rattle.privatise.specs.LayoutValue.{LayoutValue, TaskLayoutValue}
-use Rattle.privatise.specs.Places.{end_of, IsLaidOut}
+use Rattle.address_space.specs.Limits.{fram_first}
+use Rattle.memory_map.specs.declared.place.VariablePlace.{VariablePlace}
+use Rattle.memory_map.specs.declared.place.VariablePlace.TheVariants.{Scalar, Array}
+use Rattle.memory_map.specs.MemoryMap.{MemoryMap, TaskPlace}
+use Rattle.memory_map.specs.Places.{end_of, IsLaidOut}
 use Rattle.privatise.specs.Sizes.{home_words, copy_words, body_words, boot_words, commit_words}
 
 -- a scalar has the place of a scalar; an array one of its length, with copies and versions exactly where some task writes it
@@ -27,23 +28,23 @@ pub record AreVariables (p : CheckedProgram) (places : List VariablePlace) : Typ
       → IsPlaceOf (is_written p.tasks i) d.extent place
 
 -- the private scalars of the plan, and the words of the task's code
-pub record IsTaskLayout (shared : List SharedDeclaration) (code : Code) (plan : TaskPlanValue) (t : TaskLayoutValue) : Type 0 where
+pub record IsTaskLayout (shared : List SharedDeclaration) (code : Code) (plan : TaskPlanValue) (t : TaskPlace) : Type 0 where
   pub privates : map (λ s. s.number) t.privates ≡ plan.private_scalars
   pub words : t.code.words ≡ body_words shared code
 
 -- each task has a layout, by its number
-pub record AreTasks (p : CheckedProgram) (plans : List TaskPlanValue) (tasks : List TaskLayoutValue) : Type 0 where
+pub record AreTasks (p : CheckedProgram) (plans : List TaskPlanValue) (tasks : List TaskPlace) : Type 0 where
   pub count : length tasks ≡ length p.tasks
-  pub each : (k : ℕ) (task : CheckedTask) (plan : TaskPlanValue) (t : TaskLayoutValue) → slice_get p.tasks k ≡ Some task → slice_get plans k ≡ Some plan
+  pub each : (k : ℕ) (task : CheckedTask) (plan : TaskPlanValue) (t : TaskPlace) → slice_get p.tasks k ≡ Some task → slice_get plans k ≡ Some plan
       → slice_get tasks k ≡ Some t → IsTaskLayout p.shared task.body plan t
 
 -- The layout of a source: it keeps the rules of layouts, its buffers have room for what the source's allowance says, its variables and
 -- tasks are those of the source, and the whole takes no more words than the source has, of which the last is the one at FFFE.
-pub record IsLayout (p : CheckedProgram) (allow : Allow) (plans : List TaskPlanValue) (l : LayoutValue) : Type 0 where
+pub record IsLayout (p : CheckedProgram) (allow : Allow) (plans : List TaskPlanValue) (l : MemoryMap) : Type 0 where
   pub rules : IsLaidOut l
-  pub list : l.list.capacity ≡ allow.list
-  pub emits : l.emits.capacity ≡ allow.emits
-  pub versions : l.versions.capacity ≡ allow.versions
+  pub list : l.entries ≡ allow.list
+  pub emits : l.emits.words ≡ allow.emits
+  pub versions : l.versions.words ≡ allow.versions
   pub homes : l.homes.words ≡ home_words p.shared
   pub copies : l.copies.words ≡ copy_words p
   pub variables : AreVariables p l.variables
@@ -51,4 +52,4 @@ pub record IsLayout (p : CheckedProgram) (allow : Allow) (plans : List TaskPlanV
   pub commit : l.commit.words ≡ commit_words
   pub code : l.code.words ≡ total (body_words p.shared) p.tasks
   pub tasks : AreTasks p plans l.tasks
-  pub size : end_of l.code + 2 ≤ 17408 + 2 * words_of p
+  pub size : end_of l.code + 2 ≤ fram_first + 2 * words_of p

@@ -7,16 +7,18 @@ use Rattle.task_ast.specs.declared.SharedDeclaration.{SharedDeclaration}
 use Rattle.cost_bound.specs.declared.allowance.Allow.{Allow}
 use Rattle.cost_bound.specs.Allowance.{CheckedTask, CheckedProgram, shared_sum, version_part, total}
 use Rattle.war_analysis.specs.PlanValue.{TaskPlanValue}
-use Rattle.privatise.specs.declared.place.ArrayCopies.{ArrayCopies}
-use Rattle.privatise.specs.declared.place.VariablePlace.{VariablePlace}
-use Rattle.privatise.specs.declared.place.VariablePlace.TheVariants.{Scalar, Array}
-use Rattle.privatise.specs.declared.place.PrivateScalar.{PrivateScalar}
+use Rattle.address_space.specs.Limits.{fram_first, reset_vector}
+use Rattle.memory_map.specs.Words.{row_words}
+use Rattle.memory_map.specs.declared.place.ArrayCopies.{ArrayCopies}
+use Rattle.memory_map.specs.declared.place.VariablePlace.{VariablePlace}
+use Rattle.memory_map.specs.declared.place.VariablePlace.TheVariants.{Scalar, Array}
+use Rattle.memory_map.specs.declared.place.PrivateScalar.{PrivateScalar}
 use Rattle.privatise.specs.declared.variables.Free.{Free}
 use Rattle.privatise.specs.declared.sizes.Sizes.{Sizes}
-use Rattle.privatise.specs.declared.placing.Regions.{Regions}
-use Rattle.privatise.specs.LayoutValue.{TaskLayoutValue}
-use Rattle.privatise.specs.Places.{home_region, copy_regions, version_regions, AreInOrder, HasItsPlace, end_of}
-use Rattle.privatise.specs.Sizes.{home_words, copy_part, copy_words, body_words, boot_words}
+use Rattle.memory_map.specs.declared.layouts.Regions.{Regions}
+use Rattle.memory_map.specs.MemoryMap.{TaskPlace}
+use Rattle.memory_map.specs.Places.{home_region, copy_regions, version_regions, AreInOrder, HasItsPlace, end_of, list_entry_room}
+use Rattle.privatise.specs.Sizes.{home_words, copy_part, copy_words, body_words, boot_words, commit_words}
 use Rattle.privatise.specs.Layouts.{IsPlaceOf, IsTaskLayout}
 
 -- copies and versions of an array at the free addresses, where it is written
@@ -37,9 +39,9 @@ version_sum written shared = shared_sum (λ i extent. version_part (slice_index_
 
 -- all variables have room from the free addresses on, which are even
 pub record IsRoom (shared : List SharedDeclaration) (written : List Bool) (free : Free) : Type 0 where
-  pub home : free.home + 2 * home_words shared ≤ 65534
-  pub copy : free.copy + 2 * copy_sum written shared ≤ 65534
-  pub version : free.version + 2 * version_sum written shared ≤ 65534
+  pub home : free.home + 2 * home_words shared ≤ reset_vector
+  pub copy : free.copy + 2 * copy_sum written shared ≤ reset_vector
+  pub version : free.version + 2 * version_sum written shared ≤ reset_vector
   pub even_home : free.home % 2 ≡ 0
   pub even_copy : free.copy % 2 ≡ 0
   pub even_version : free.version % 2 ≡ 0
@@ -67,15 +69,17 @@ pub record ArePrivates (variables : List VariablePlace) (plan : List ℕ) (priva
   pub places : All (HasItsPlace variables) privates
 
 -- a task's layout, its code from an address on
-pub record IsPlacedTask (shared : List SharedDeclaration) (places : List VariablePlace) (task : CheckedTask) (plan : TaskPlanValue) (at : ℕ) (t : TaskLayoutValue) : Type 0 where
+pub record IsPlacedTask (shared : List SharedDeclaration) (places : List VariablePlace) (task : CheckedTask) (plan : TaskPlanValue) (at : ℕ)
+    (t : TaskPlace) : Type 0 where
   pub layout : IsTaskLayout shared task.body plan t
   pub privates : All (HasItsPlace places) t.privates
   pub address : t.code.address ≡ at
 
 -- the layouts of all tasks, their code in order from an address on
-pub record ArePlacedTasks (shared : List SharedDeclaration) (places : List VariablePlace) (tasks : List CheckedTask) (plans : List TaskPlanValue) (address : ℕ) (layouts : List TaskLayoutValue) : Type 0 where
+pub record ArePlacedTasks (shared : List SharedDeclaration) (places : List VariablePlace) (tasks : List CheckedTask) (plans : List TaskPlanValue)
+    (address : ℕ) (layouts : List TaskPlace) : Type 0 where
   pub count : length layouts ≡ length tasks
-  pub each : (k : ℕ) (task : CheckedTask) (plan : TaskPlanValue) (t : TaskLayoutValue) → slice_get tasks k ≡ Some task → slice_get plans k ≡ Some plan
+  pub each : (k : ℕ) (task : CheckedTask) (plan : TaskPlanValue) (t : TaskPlace) → slice_get tasks k ≡ Some task → slice_get plans k ≡ Some plan
       → slice_get layouts k ≡ Some t → IsTaskLayout shared task.body plan t
   pub privates : All (λ t. All (HasItsPlace places) t.privates) layouts
   pub code : AreInOrder address (map (λ t. t.code) layouts) (address + 2 * total (body_words shared) tasks)
@@ -89,27 +93,21 @@ pub record AreSizes (p : CheckedProgram) (sizes : Sizes) : Type 0 where
 
 -- the words of the runtime, and behind them the regions of these sizes, one right behind another
 pub record AreRegions (allow : Allow) (sizes : Sizes) (r : Regions) : Type 0 where
-  pub current_task : r.words.current_task ≡ 17408
-  pub next_task : r.words.next_task ≡ 17410
-  pub gate : r.words.gate ≡ 17412
-  pub list_length : r.words.list_length ≡ 17414
-  pub emit_count : r.words.emit_count ≡ 17416
-  pub base : r.words.base ≡ 17418
-  pub sent_base : r.words.sent_base ≡ 17420
-  pub version : r.words.version ≡ 17422
-  pub list : r.list.address ≡ 17424
-  pub list_capacity : r.list.capacity ≡ allow.list
-  pub emits : r.emits.address ≡ r.list.address + 6 * allow.list
-  pub emits_capacity : r.emits.capacity ≡ allow.emits
-  pub versions : r.versions.address ≡ r.emits.address + 2 * allow.emits
-  pub versions_capacity : r.versions.capacity ≡ allow.versions
-  pub homes : r.homes.address ≡ r.versions.address + 2 * allow.versions
+  pub row : r.row ≡ fram_first
+  pub list : r.list.address ≡ r.row + 2 * row_words
+  pub list_words : r.list.words ≡ list_entry_room * allow.list
+  pub entries : r.entries ≡ allow.list
+  pub emits : r.emits.address ≡ end_of r.list
+  pub emits_words : r.emits.words ≡ allow.emits
+  pub versions : r.versions.address ≡ end_of r.emits
+  pub versions_words : r.versions.words ≡ allow.versions
+  pub homes : r.homes.address ≡ end_of r.versions
   pub homes_words : r.homes.words ≡ sizes.homes
   pub copies : r.copies.address ≡ end_of r.homes
   pub copies_words : r.copies.words ≡ sizes.copies
   pub boot : r.boot.address ≡ end_of r.copies
   pub boot_words : r.boot.words ≡ sizes.boot
   pub commit : r.commit.address ≡ end_of r.boot
-  pub commit_words : r.commit.words ≡ 200
+  pub commit_words : r.commit.words ≡ commit_words
   pub code : r.code.address ≡ end_of r.commit
   pub code_words : r.code.words ≡ sizes.code

@@ -1,9 +1,10 @@
 -- The words that a source's data and code are given.
-use Rattle.std.specs.Prelude.{ℕ, ◌+◌, ◌*◌, Bool, if◌then◌else◌, List}
+use Rattle.std.specs.Prelude.{ℕ, ◌+◌, ◌-◌, ◌*◌, Bool, if◌then◌else◌, List}
 use Rattle.task_ast.specs.declared.Extent.{Extent}
 use Rattle.task_ast.specs.declared.Extent.TheVariants.{Scalar, Array}
 use Rattle.task_ast.specs.declared.SharedDeclaration.{SharedDeclaration}
 use Rattle.cost_bound.specs.Counts.{Code}
+use Rattle.memory_map.specs.Words.{row_words}
 use Rattle.cost_bound.specs.Table.{words_column, block_price}
 use Rattle.cost_bound.specs.Allowance.{CheckedProgram, CheckedTask, shared_sum, scalars_of, is_written, total}
 
@@ -27,13 +28,17 @@ copy_words p = shared_sum (λ i extent. copy_part (is_written p.tasks i) extent)
 abbrev pub body_words : List SharedDeclaration → Code → ℕ
 body_words shared code = block_price (words_column (scalars_of shared code)) code
 
--- of the boot: what it costs by itself, and for each task its entry and the copies of its scalars
+-- of the commit
+abbrev pub commit_words : ℕ
+commit_words = 200
+
+-- of the boot: what it costs by itself, and for each task its entry and the copies of its scalars. It shares 599 words with the words of
+-- the runtime and the commit
+abbrev pub own_boot_words : ℕ
+own_boot_words = 599 - row_words - commit_words
+
 abbrev pub entry_words : List SharedDeclaration → Code → ℕ
 entry_words shared code = 200 + 16 * scalars_of shared code
 
 abbrev pub boot_words : List SharedDeclaration → List CheckedTask → ℕ
-boot_words shared tasks = 391 + total (entry_words shared) tasks
-
--- of the commit
-abbrev pub commit_words : ℕ
-commit_words = 200
+boot_words shared tasks = own_boot_words + total (entry_words shared) tasks

@@ -3,59 +3,30 @@ ghost use Rattle.std.specs.Prelude.{◌≡◌, ◌+◌, ◌*◌, ◌≤◌, IfOk
 ghost use Rattle.task_ast.specs.View.{program_of};
 ghost use Rattle.cost_bound.specs.Allowance.{IsAllowed};
 ghost use Rattle.war_analysis.specs.Plans.{IsPlan};
+ghost use Rattle.address_space.specs.Limits.{fram_first, reset_vector};
+ghost use Rattle.memory_map.specs.Words.{row_words};
+ghost use Rattle.memory_map.specs.Places.{end_of};
+ghost use Rattle.privatise.specs.Sizes.{commit_words};
 ghost use Rattle.privatise.specs.Layouts.{IsLayout};
 ghost use Rattle.privatise.specs.Placing.{AreRegions};
 
-use crate::layouts::Layout;
-use crate::place::Region;
-use crate::sizes::{Sizes, sizes_of};
+use crate::sizes::{COMMIT, Sizes, sizes_of};
 use crate::tasks::place_tasks;
 use crate::variables::{Free, address_behind, place_variables};
+use address_space::FRAM_FIRST;
 use cost_bound::{Allow, written_variables};
-use image_map::{Place, RuntimeWords};
+use memory_map::{Layout, ROW_WORDS, Region, Regions};
 use std::alloc::{AllocError, Global};
 use task_ast::CheckedSource;
 use task_check::Checked;
 use war_analysis::Plan;
 
-/// The words of the code that commits.
-const COMMIT: u32 = 200;
-
-/// The words that are kept for an entry of the commit list.
+// The words that are kept for an entry of the commit list.
 const ENTRY: u32 = 3;
 
-/// The words of the runtime stand at the start of the FRAM.
-const WORDS: RuntimeWords = RuntimeWords {
-    current_task: 0x4400,
-    next_task: 0x4402,
-    gate: 0x4404,
-    list_length: 0x4406,
-    emit_count: 0x4408,
-    base: 0x440A,
-    sent_base: 0x440C,
-    version: 0x440E,
-};
-
-/// Behind them stands the commit list.
-const LIST: u16 = 0x4410;
-
-// The runtime's words, the buffers, and the regions of variables, copies and code.
-#[derive(Clone, Copy)]
-struct Regions {
-    words: RuntimeWords,
-    list: Place,
-    emits: Place,
-    versions: Place,
-    homes: Region,
-    copies: Region,
-    boot: Region,
-    commit: Region,
-    code: Region,
-}
-
 fn region_behind(region: Region, words: u32) -> Region
-    requires { region.address + 2 * region.words ≤ 65534 }
-    ensures address { result.address ≡ region.address + 2 * region.words }
+    requires { region.address + 2 * region.words ≤ reset_vector }
+    ensures address { result.address ≡ end_of region }
     ensures words { result.words ≡ words }
 {
     Region {
@@ -64,33 +35,27 @@ fn region_behind(region: Region, words: u32) -> Region
     }
 }
 
+// The runtime's words stand at the start of the FRAM, and behind them the regions, one right behind another.
 fn regions_of(allow: &Allow, sizes: Sizes) -> Regions
-    requires { 17408 + 2 * (208 + 3 * allow.now.list + allow.now.emits + allow.now.versions + sizes.homes + sizes.copies + sizes.boot + sizes.code) ≤ 65534 }
+    requires { fram_first + 2 * (row_words + commit_words + 3 * allow.now.list + allow.now.emits + allow.now.versions + sizes.homes + sizes.copies + sizes.boot + sizes.code) ≤ reset_vector }
     ensures { AreRegions allow.now sizes result }
 {
-    let list = Place {
-        address: LIST,
-        capacity: allow.list,
+    let row = Region {
+        address: FRAM_FIRST,
+        words: ROW_WORDS,
     };
-    let emits = Place {
-        address: address_behind(list.address, ENTRY * allow.list),
-        capacity: allow.emits,
-    };
-    let versions = Place {
-        address: address_behind(emits.address, allow.emits),
-        capacity: allow.versions,
-    };
-    let homes = Region {
-        address: address_behind(versions.address, allow.versions),
-        words: sizes.homes,
-    };
+    let list = region_behind(row, ENTRY * allow.list);
+    let emits = region_behind(list, allow.emits);
+    let versions = region_behind(emits, allow.versions);
+    let homes = region_behind(versions, sizes.homes);
     let copies = region_behind(homes, sizes.copies);
     let boot = region_behind(copies, sizes.boot);
     let commit = region_behind(boot, COMMIT);
     let code = region_behind(commit, sizes.code);
     Regions {
-        words: WORDS,
+        row: row.address,
         list,
+        entries: allow.list,
         emits,
         versions,
         homes,
@@ -131,19 +96,7 @@ fn layout_of(
         plan.tasks(),
         regions.code.address,
     )?;
-    Ok(Layout {
-        words: regions.words,
-        list: regions.list,
-        emits: regions.emits,
-        versions: regions.versions,
-        homes: regions.homes,
-        copies: regions.copies,
-        variables,
-        boot: regions.boot,
-        commit: regions.commit,
-        code: regions.code,
-        tasks: layouts,
-    })
+    Ok(Layout::new(regions, variables, layouts))
 }
 
 /// Where the data and the code of a source stand; or no memory is left. The allowance and the plan are those of the source.

@@ -6,6 +6,7 @@ ghost use Rattle.privatise.specs.Sizes.{home_part, home_words, copy_part, body_w
 ghost use Rattle.privatise.specs.Placing.{AreSizes};
 
 use cost_bound::{SHARED, assigned_scalars, code_words};
+use memory_map::ROW_WORDS;
 use task_ast::{CheckedSource, Extent, SharedDeclaration, TaskDeclaration, TaskName, VariableName};
 
 /// The words of a variable.
@@ -65,6 +66,12 @@ fn copy_words(shared: &[SharedDeclaration], written: &[bool; SHARED]) -> u32
     n
 }
 
+/// The words of the code that commits.
+pub const COMMIT: u32 = 200;
+
+// The words of the boot, beside what each task takes there. It shares 599 with the words of the runtime and the commit.
+const BOOT: u32 = 599 - ROW_WORDS - COMMIT;
+
 // The words of the boot.
 fn boot_words(
     shared: &[SharedDeclaration],
@@ -74,7 +81,7 @@ fn boot_words(
     requires few_tasks { length tasks.now ≤ 64 }
     ensures { result ≡ boot_words shared.now (map task_of tasks.now) }
 {
-    let mut n = 391u32;
+    let mut n = BOOT;
     for i in (0..tasks.len()).rev() {
         n += 200 + 16 * assigned_scalars(shared, &tasks[i].body) as u32;
     }

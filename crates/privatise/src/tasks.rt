@@ -3,14 +3,14 @@ ghost use Rattle.std.specs.Prelude.{◌≡◌, ◌+◌, ◌*◌, ◌%◌, ◌≤
 ghost use Rattle.task_ast.specs.View.{task_of};
 ghost use Rattle.cost_bound.specs.Allowance.{total};
 ghost use Rattle.war_analysis.specs.PlanValue.{TaskPlanValue};
-ghost use Rattle.privatise.specs.Places.{HasItsPlace};
+ghost use Rattle.address_space.specs.Limits.{reset_vector};
+ghost use Rattle.memory_map.specs.Places.{HasItsPlace};
 ghost use Rattle.privatise.specs.Sizes.{body_words};
 ghost use Rattle.privatise.specs.Placing.{IsScalarPlaceAt, ArePrivates, IsPlacedTask, ArePlacedTasks};
 
-use crate::layouts::TaskLayout;
-use crate::place::{PrivateScalar, Region, VariablePlace};
 use crate::sizes::task_words;
 use crate::variables::address_behind;
+use memory_map::{PrivateScalar, Region, TaskLayout, VariablePlace};
 use std::alloc::{AllocError, Global};
 use task_ast::{SharedDeclaration, TaskDeclaration, TaskName, VariableName};
 use war_analysis::TaskPlan;
@@ -57,10 +57,7 @@ fn task_layout(
 {
     let privates = place_privates(alloc, variables, plan.private_scalars())?;
     let words = task_words(shared, task);
-    Ok(TaskLayout {
-        privates,
-        code: Region { address, words },
-    })
+    Ok(TaskLayout::new(privates, Region { address, words }))
 }
 
 /// The layouts of the tasks, their code from an address on.
@@ -74,7 +71,7 @@ pub fn place_tasks(
 ) -> Result<Vec<TaskLayout>, AllocError>
     requires few { length shared.now ≤ 256 }
     requires small { total (body_words shared.now) (map task_of tasks.now) ≤ 22000 }
-    requires room { address + 2 * total (body_words shared.now) (map task_of tasks.now) ≤ 65534 }
+    requires room { address + 2 * total (body_words shared.now) (map task_of tasks.now) ≤ reset_vector }
     requires even { address % 2 ≡ 0 }
     requires count { length plans.now ≡ length tasks.now }
     requires scalars { (k : ℕ) (plan : TaskPlanValue) → slice_get plans.now k ≡ Some plan → All (IsScalarPlaceAt variables.now) plan.private_scalars }

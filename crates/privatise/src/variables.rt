@@ -4,9 +4,9 @@ ghost use Rattle.cost_bound.specs.Allowance.{version_part};
 ghost use Rattle.privatise.specs.Sizes.{home_part, copy_part};
 ghost use Rattle.privatise.specs.Placing.{copies_where, place_at, IsRoom, ArePlaced};
 
-use crate::place::{ArrayCopies, VariablePlace};
 use crate::sizes::{copy_part, home_part, version_part};
 use cost_bound::SHARED;
+use memory_map::{ArrayCopies, VariablePlace};
 use std::alloc::{AllocError, Global};
 use task_ast::{Extent, SharedDeclaration};
 

@@ -7,7 +7,7 @@ use Rattle.source_meaning.proofs.Runnable.{accepted_texts_run}
 use Rattle.war_analysis.specs.PlanValue.{TaskPlanValue}
 use Rattle.array_versions.specs.Program.{Program}
 use Rattle.array_versions.specs.Form.{IsWhole, OfWords}
-use Rattle.privatise.specs.LayoutValue.{LayoutValue}
+use Rattle.memory_map.specs.MemoryMap.{MemoryMap}
 use Rattle.stands_for.proofs.Starts.{each_weaker}
 use Rattle.lower.proofs.Blocks.{program_at}
 use Rattle.layout_facts.specs.Facts.{HasLayout}
@@ -23,7 +23,7 @@ use Rattle.compiled_runs.specs.Laws.{CanRun}
 use Rattle.compiled_runs.proofs.Fits.{sources_have_room}
 use Rattle.ready_sources.specs.Ready.{SourcesAreReady}
 
-module _ (text : List ℕ) (p : CheckedProgram) (allow : Allow) (plans : List TaskPlanValue) (l : LayoutValue) (t : IsLaidOutText text p allow plans l) where
+module _ (text : List ℕ) (p : CheckedProgram) (allow : Allow) (plans : List TaskPlanValue) (l : MemoryMap) (t : IsLaidOutText text p allow plans l) where
   run : IsRunnable p
   run = accepted_texts_run text p allow t.accepted
 

@@ -3,7 +3,7 @@ use Rattle.std.specs.Prelude.{ℕ, List}
 use Rattle.cost_bound.specs.declared.allowance.Allow.{Allow}
 use Rattle.source_values.specs.Runs.{CheckedProgram}
 use Rattle.war_analysis.specs.PlanValue.{TaskPlanValue}
-use Rattle.privatise.specs.LayoutValue.{LayoutValue}
+use Rattle.memory_map.specs.MemoryMap.{MemoryMap}
 use Rattle.crash_rules.specs.Model.{ModelLaws}
 use Rattle.whole_programs.specs.Laws.{IsLaidOutText}
 use Rattle.compiled_model.specs.Parts.{compiled_model}
@@ -11,12 +11,12 @@ use Rattle.compiled_model.specs.Needs.{AttemptsStoreBelow}
 use Rattle.compiled_runs.specs.Laws.{CanRun}
 
 -- its tasks and its runtime keep what the crash theorem asks for, its code can run, and no attempt stores on the code
-pub record IsReadyToRun (p : CheckedProgram) (l : LayoutValue) : Type 0 where
+pub record IsReadyToRun (p : CheckedProgram) (l : MemoryMap) : Type 0 where
   pub model : ModelLaws (compiled_model p l)
   pub code : CanRun p l
   pub stores : AttemptsStoreBelow p l l.boot.address
 
 -- each accepted text with a plan and a layout of its source is so
 abbrev pub SourcesAreReady : Type 0
-SourcesAreReady = (text : List ℕ) (p : CheckedProgram) (allow : Allow) (plans : List TaskPlanValue) (l : LayoutValue)
+SourcesAreReady = (text : List ℕ) (p : CheckedProgram) (allow : Allow) (plans : List TaskPlanValue) (l : MemoryMap)
     → IsLaidOutText text p allow plans l → IsReadyToRun p l

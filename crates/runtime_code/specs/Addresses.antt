@@ -8,7 +8,3 @@ boot_head_bytes = 14
 -- where an attempt starts, by the address of the boot
 abbrev pub start_address : ℕ → ℕ
 start_address boot = boot + boot_head_bytes
-
--- SP where nothing is on the stack: behind the last word of RAM
-abbrev pub stack_top : ℕ
-stack_top = 0x2400

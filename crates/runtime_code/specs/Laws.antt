@@ -1,22 +1,22 @@
 -- What the rules of layouts say of the runtime.
 use Rattle.std.specs.Prelude.{ℕ, ◌<◌, ◌≤◌, All}
-use Rattle.privatise.specs.LayoutValue.{LayoutValue}
-use Rattle.privatise.specs.Places.{end_of, IsLaidOut}
+use Rattle.memory_map.specs.MemoryMap.{MemoryMap}
+use Rattle.memory_map.specs.Places.{end_of, IsLaidOut}
 use Rattle.runtime_effects.specs.Needs.{AreInFram, LeavesCommit, KeepsTask, ArePairWords}
-use Rattle.runtime_code.specs.LayoutPlaces.{runtime_places, pairs_of}
+use Rattle.runtime_code.specs.LayoutPlaces.{pairs_of}
 
 -- the runtime's words and lists stand in FRAM
 abbrev pub PlacesAreInFram : Type 0
-PlacesAreInFram = (l : LayoutValue) → IsLaidOut l → AreInFram (runtime_places l)
+PlacesAreInFram = (l : MemoryMap) → IsLaidOut l → AreInFram l
 
 -- the opening of an attempt leaves CUR
 abbrev pub OpeningKeepsTask : Type 0
-OpeningKeepsTask = (l : LayoutValue) → IsLaidOut l → KeepsTask (runtime_places l)
+OpeningKeepsTask = (l : MemoryMap) → IsLaidOut l → KeepsTask l
 
 -- shared words are none of those that a commit reads
 abbrev pub HomesLeaveCommit : Type 0
-HomesLeaveCommit = (l : LayoutValue) (a : ℕ) → IsLaidOut l → l.homes.address ≤ a → a < end_of l.homes → LeavesCommit (runtime_places l) a
+HomesLeaveCommit = (l : MemoryMap) (a : ℕ) → IsLaidOut l → l.homes.address ≤ a → a < end_of l.homes → LeavesCommit l a
 
 -- private scalars and their copies are words of FRAM
 abbrev pub PrivatesAreWords : Type 0
-PrivatesAreWords = (l : LayoutValue) → IsLaidOut l → All (λ t. All ArePairWords (pairs_of t)) l.tasks
+PrivatesAreWords = (l : MemoryMap) → IsLaidOut l → All (λ t. All ArePairWords (pairs_of t)) l.tasks

@@ -3,9 +3,6 @@
 ghost use Rattle.std.specs.Prelude.{◌≡◌, ◌+◌, ◌<◌, ℕ};
 ghost use Rattle.runtime_code.specs.Addresses.{start_address};
 
-/// SP where nothing is on the stack: the address behind the last word of RAM, from which PUSH goes down.
-pub const STACK_TOP: u16 = 0x2400;
-
 /// Where an attempt starts, by the address of the boot: behind its first 14 bytes, which look at GATE.
 pub fn start_address(boot: u16) -> u16
     requires { boot + 14 < 65536 }

@@ -6,6 +6,6 @@ mod addresses;
 mod laws;
 mod writing;
 
-pub use addresses::{STACK_TOP, start_address};
+pub use addresses::start_address;
 pub use laws::{layout_is_in_fram, layout_keeps_apart};
 pub use writing::{add, branch, cmp, jump, load, mov, read, set, sub};

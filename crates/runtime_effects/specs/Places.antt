@@ -1,16 +1,7 @@
--- Where the runtime's words and lists stand.
+-- The entries of the commit list.
 use Rattle.std.specs.Prelude.{ℕ, zero, suc, ◌+◌, List, [], ◌∷◌}
-use Rattle.image_map.specs.declared.parts.RuntimeWords.{RuntimeWords}
-
--- the addresses of the runtime's words and of its lists, each list with the number of items for which there is room
-pub record RuntimePlaces : Type 0 where
-  pub words : RuntimeWords
-  pub list : ℕ  -- the commit list: entries of a word's home and its copy
-  pub list_capacity : ℕ
-  pub emits : ℕ  -- the words that the attempt emitted
-  pub emit_capacity : ℕ
-  pub versions : ℕ  -- the version words
-  pub version_count : ℕ
+use Rattle.memory_map.specs.MemoryMap.{MemoryMap, word_place}
+use Rattle.memory_map.specs.declared.words.RuntimeWord.TheVariants.{ListLength}
 
 -- a shared word, and the copy of it that a task works on: their addresses
 pub record CopyPair : Type 0 where
@@ -27,5 +18,5 @@ entries_from zero p f = []
 entries_from (suc n) p f = record { home = f p; copy = f (p + 2) } ∷ entries_from n (p + entry_bytes) f
 
 -- the words to copy: what the entries of the commit list name, CLN of them
-abbrev pub listed : RuntimePlaces → (ℕ → ℕ) → List CopyPair
-listed m f = entries_from (f m.words.list_length) m.list f
+abbrev pub listed : MemoryMap → (ℕ → ℕ) → List CopyPair
+listed m f = entries_from (f (word_place m ListLength)) m.list.address f

@@ -2,7 +2,9 @@
 use Rattle.std.specs.Prelude.{ℕ, zero, suc, ◌+◌, ◌%◌, ◌==◌, if◌then◌else◌, List, [], ◌∷◌, ◌++◌}
 use Rattle.fram_board.specs.Effects.{Effect, Store, Send}
 use Rattle.machine_effects.specs.World.{put, fram_after}
-use Rattle.runtime_effects.specs.Places.{RuntimePlaces, CopyPair, listed}
+use Rattle.memory_map.specs.declared.words.RuntimeWord.TheVariants.{CurrentTask, NextTask, Gate, ListLength, EmitCount, Base, SentBase, Version}
+use Rattle.memory_map.specs.MemoryMap.{MemoryMap, word_place}
+use Rattle.runtime_effects.specs.Places.{CopyPair, listed}
 
 -- copies go home, the first one first, each as FRAM then is
 abbrev pub copied_home : List CopyPair → (ℕ → ℕ) → List Effect
@@ -15,16 +17,17 @@ sends zero number p f = []
 sends (suc n) number p f = Send number (f p) ∷ sends n ((number + 1) % 0x10000) (p + 2) f
 
 -- the emitted words, EN of them, numbered from SB on
-abbrev pub emits_sent : RuntimePlaces → (ℕ → ℕ) → List Effect
-emits_sent m f = sends (f m.words.emit_count) (f m.words.sent_base) m.emits f
+abbrev pub emits_sent : MemoryMap → (ℕ → ℕ) → List Effect
+emits_sent m f = sends (f (word_place m EmitCount)) (f (word_place m SentBase)) m.emits.address f
 
 -- a commit's last stores: CUR := NEXT, BASE := SB + EN, GATE := 0
-abbrev pub commit_closed : RuntimePlaces → (ℕ → ℕ) → List Effect
+abbrev pub commit_closed : MemoryMap → (ℕ → ℕ) → List Effect
 commit_closed m f =
-    Store m.words.current_task (f m.words.next_task) ∷ Store m.words.base ((f m.words.sent_base + f m.words.emit_count) % 0x10000) ∷ Store m.words.gate 0 ∷ []
+    Store (word_place m CurrentTask) (f (word_place m NextTask))
+    ∷ Store (word_place m Base) ((f (word_place m SentBase) + f (word_place m EmitCount)) % 0x10000) ∷ Store (word_place m Gate) 0 ∷ []
 
 -- the commit: the listed words are copied home, the emitted words are sent, then the last stores
-abbrev pub commit_effects : RuntimePlaces → (ℕ → ℕ) → List Effect
+abbrev pub commit_effects : MemoryMap → (ℕ → ℕ) → List Effect
 commit_effects m f = copied_home (listed m f) f ++ (emits_sent m f ++ commit_closed m f)
 
 -- so many words from an address on become 0
@@ -33,8 +36,9 @@ cleared zero p = []
 cleared (suc n) p = Store p 0 ∷ cleared n (p + 2)
 
 -- an attempt's opening: every version word := 0, VER := 1, CLN := 0, EN := 0
-abbrev pub opening_effects : RuntimePlaces → (ℕ → ℕ) → List Effect
-opening_effects m f = cleared m.version_count m.versions ++ (Store m.words.version 1 ∷ Store m.words.list_length 0 ∷ Store m.words.emit_count 0 ∷ [])
+abbrev pub opening_effects : MemoryMap → (ℕ → ℕ) → List Effect
+opening_effects m f = cleared m.versions.words m.versions.address
+    ++ (Store (word_place m Version) 1 ∷ Store (word_place m ListLength) 0 ∷ Store (word_place m EmitCount) 0 ∷ [])
 
 -- homes are copied, the first one first, each as FRAM then is
 abbrev pub copied_in : List CopyPair → (ℕ → ℕ) → List Effect
@@ -42,13 +46,13 @@ copied_in [] f = []
 copied_in (x ∷ xs) f = Store x.copy (f x.home) ∷ copied_in xs (put f x.copy (f x.home))
 
 -- an attempt's start: its opening, then the private scalars of the task that CUR names are copied
-abbrev pub start_effects : RuntimePlaces → (ℕ → List CopyPair) → (ℕ → ℕ) → List Effect
-start_effects m privates f = let es = opening_effects m f in es ++ copied_in (privates (f m.words.current_task)) (fram_after es f)
+abbrev pub start_effects : MemoryMap → (ℕ → List CopyPair) → (ℕ → ℕ) → List Effect
+start_effects m privates f = let es = opening_effects m f in es ++ copied_in (privates (f (word_place m CurrentTask))) (fram_after es f)
 
 -- what a boot has to do first: the commit where GATE is 1, from its start
-abbrev pub pending_effects : RuntimePlaces → (ℕ → ℕ) → List Effect
-pending_effects m f = if f m.words.gate == 1 then commit_effects m f else []
+abbrev pub pending_effects : MemoryMap → (ℕ → ℕ) → List Effect
+pending_effects m f = if f (word_place m Gate) == 1 then commit_effects m f else []
 
 -- a boot, up to the task: the commit where GATE is 1, then an attempt's start
-abbrev pub boot_effects : RuntimePlaces → (ℕ → List CopyPair) → (ℕ → ℕ) → List Effect
+abbrev pub boot_effects : MemoryMap → (ℕ → List CopyPair) → (ℕ → ℕ) → List Effect
 boot_effects m privates f = let es = pending_effects m f in es ++ start_effects m privates (fram_after es f)

@@ -14,9 +14,9 @@ use Rattle.image_map.specs.MapValue.{MapValue}
 use Rattle.cost_bound.specs.declared.allowance.Allow.{Allow}
 use Rattle.cost_bound.specs.Allowance.{CheckedTask}
 use Rattle.source_values.specs.Runs.{CheckedProgram}
-use Rattle.privatise.specs.declared.place.VariablePlace.{VariablePlace}
-use Rattle.privatise.specs.LayoutValue.{LayoutValue, TaskLayoutValue}
-use Rattle.source_maps.specs.Maps.{variables_of, tasks_of, map_of}
+use Rattle.memory_map.specs.declared.place.VariablePlace.{VariablePlace}
+use Rattle.memory_map.specs.MemoryMap.{MemoryMap, TaskPlace}
+use Rattle.source_maps.specs.Maps.{map_words, map_list, map_buffer, variables_of, tasks_of, map_of}
 use Rattle.source_maps.specs.Adding.{bare_map, with_variables, with_tasks}
 use Rattle.source_maps.proofs.Takes.{all_variables, all_tasks}
 
@@ -28,15 +28,19 @@ names_back P (t ∷ ts) h =
 abbrev bare : ℕ → RuntimeWords → Place → Place → Place → MapValue
 bare bound words list emits versions = record { bound = bound; words = words; list = list; emits = emits; versions = versions; variables = []; tasks = [] }
 
-pub bare_is : (l : LayoutValue) (allow : Allow) (m : MapValue) (w : RuntimeWords) (a b d : Place) → m ≡ bare allow.cycles w a b d → w ≡ l.words → a ≡ l.list → b ≡ l.emits → d ≡ l.versions
-    → m ≡ bare_map l allow
+pub bare_is : (l : MemoryMap) (allow : Allow) (m : MapValue) (w : RuntimeWords) (a b d : Place) → m ≡ bare allow.cycles w a b d → w ≡ map_words l → a
+    ≡ map_list l
+    → b ≡ map_buffer l.emits → d ≡ map_buffer l.versions → m ≡ bare_map l allow
 bare_is l allow m w a b d e i j k n =
-    e ∙ ap (λ x. bare allow.cycles x a b d) i ∙ ap (λ x. bare allow.cycles l.words x b d) j ∙ ap (λ x. bare allow.cycles l.words l.list x d) k
-    ∙ ap (bare allow.cycles l.words l.list l.emits) n
+    let bound = allow.cycles in
+    e ∙ ap (λ x. bare bound x a b d) i ∙ ap (λ x. bare bound (map_words l) x b d) j ∙ ap (λ x. bare bound (map_words l) (map_list l) x d) k
+    ∙ ap (bare bound (map_words l) (map_list l) (map_buffer l.emits)) n
 
 -- from the map without variables and tasks, with those that the calls were given
-pub made : (text : List ℕ) (p : CheckedProgram) (l : LayoutValue) (allow : Allow) (first second third : MapValue) (ds es : List SharedDeclaration) (places : List VariablePlace)
-    (tasks : List CheckedTask) (layouts : List TaskLayoutValue) → first ≡ bare_map l allow → ds ≡ p.shared → es ≡ p.shared → places ≡ l.variables → tasks ≡ p.tasks → layouts ≡ l.tasks
+pub made : (text : List ℕ) (p : CheckedProgram) (l : MemoryMap) (allow : Allow) (first second third : MapValue) (ds es : List SharedDeclaration)
+    (places : List VariablePlace)
+    (tasks : List CheckedTask) (layouts : List TaskPlace) → first ≡ bare_map l allow → ds ≡ p.shared → es ≡ p.shared → places ≡ l.variables → tasks ≡ p.tasks
+    → layouts ≡ l.tasks
     → second ≡ with_variables first (variables_of text ds places) → third ≡ with_tasks second (tasks_of text es tasks layouts) → third ≡ map_of text p l allow
 made text p l allow first second third ds es places tasks layouts e i j k n o v t =
     let m = map_of text p l allow in

@@ -1,5 +1,5 @@
 -- The map of a source.
-use Rattle.std.proofs.Common.{◌≡◌, ◌∙◌, ℕ, suc, ◌%◌, ◌<◌, ◌≤◌, true, List, [], ◌∷◌, ◌++◌, map, length, refl, sym, ap, ap₂, subst, arith, Some, get_or}
+use Rattle.std.proofs.Common.{◌≡◌, ◌∙◌, ℕ, suc, ◌*◌, ◌%◌, ◌<◌, ◌≤◌, true, List, [], ◌∷◌, ◌++◌, map, length, refl, sym, ap, ap₂, subst, arith, Some, get_or}
 use Rattle.std.specs.Prelude.{All, slice_get}
 use Rattle.std.proofs.lemmas.Option.{slice_get_within, slice_get-get_or}
 use Rattle.std.proofs.lemmas.List.Elements.{All-nil, All-cons, All-weaker}
@@ -9,12 +9,16 @@ use Rattle.cost_bound.specs.Allowance.{CheckedTask, is_written}
 use Rattle.war_analysis.specs.PlanValue.{TaskPlanValue}
 use Rattle.war_analysis.specs.Plans.{IsScalarAt, IsPrivateIn, IsTaskPlan}
 use Rattle.source_report.specs.SourceReport.{spelled}
-use Rattle.privatise.specs.declared.place.VariablePlace.{VariablePlace}
-use Rattle.privatise.specs.declared.place.PrivateScalar.{PrivateScalar}
-use Rattle.privatise.specs.LayoutValue.{LayoutValue, TaskLayoutValue}
-use Rattle.privatise.specs.Places.{end_of, HasItsPlace, IsLaidOut}
+use Rattle.address_space.specs.Limits.{fram_first, fram_end, reset_vector}
+use Rattle.memory_map.specs.declared.words.RuntimeWord.{RuntimeWord}
+use Rattle.memory_map.specs.declared.words.RuntimeWord.TheVariants.{CurrentTask, NextTask, Gate, ListLength, EmitCount, Base, SentBase, Version}
+use Rattle.memory_map.specs.declared.place.VariablePlace.{VariablePlace}
+use Rattle.memory_map.specs.declared.place.PrivateScalar.{PrivateScalar}
+use Rattle.memory_map.specs.MemoryMap.{MemoryMap, TaskPlace, word_place}
+use Rattle.memory_map.specs.Places.{end_of, list_entry_room, HasItsPlace, IsLaidOut}
+use Rattle.memory_map.proofs.Parts.{parts_in_fram, words_stand}
 use Rattle.privatise.specs.Layouts.{IsTaskLayout}
-use Rattle.source_maps.specs.Maps.{variables_of, private_names, shared_name, tasks_of, map_of}
+use Rattle.source_maps.specs.Maps.{map_words, map_list, map_buffer, variables_of, private_names, shared_name, tasks_of, map_of}
 use Rattle.source_maps.specs.Adding.{TakesTasks}
 use Rattle.source_maps.specs.Placing.{ArePlacesOf}
 use Rattle.source_maps.specs.Laws.{MapsAreOfSources}
@@ -29,89 +33,84 @@ map_map : {A B C : Type 0} (f : A → B) (g : B → C) (xs : List A) → map (λ
 map_map f g [] = refl
 map_map f g (x ∷ xs) = ap (λ l. g (f x) ∷ l) (map_map f g xs)
 
-fram_word : (a : ℕ) → 17408 ≤ a → a < 65536 → a % 2 ≡ 0 → IsFramWord a
+fram_word : (a : ℕ) → fram_first ≤ a → a < fram_end → a % 2 ≡ 0 → IsFramWord a
 fram_word a low high even = record { low = low; high = high; even = even }
 
-runtime_words : (l : LayoutValue) → IsLaidOut l → AreFramWords l.words
-runtime_words l h =
-    let a1 = h.apart.current_task in let a2 = h.apart.next_task in let a3 = h.apart.gate in let a4 = h.apart.list_length in
-    let a5 = h.apart.emit_count in let a6 = h.apart.base in let a7 = h.apart.sent_base in let a8 = h.apart.version in
-    let a9 = h.apart.list in let b1 = h.apart.emits in let b2 = h.apart.versions in let b3 = h.apart.homes in
-    let b4 = h.apart.copies in let b5 = h.apart.boot in let b6 = h.apart.commit in let b7 = h.apart.code in let b8 = h.apart.high in
-    record {
-      current_task = fram_word l.words.current_task (omega (arith, a1)) (omega (arith, a2, a3, a4, a5, a6, a7, a8, a9, b1, b2, b3, b4, b5, b6, b7, b8)) h.even.current_task;
-      next_task = fram_word l.words.next_task (omega (arith, a1, a2)) (omega (arith, a3, a4, a5, a6, a7, a8, a9, b1, b2, b3, b4, b5, b6, b7, b8)) h.even.next_task;
-      gate = fram_word l.words.gate (omega (arith, a1, a2, a3)) (omega (arith, a4, a5, a6, a7, a8, a9, b1, b2, b3, b4, b5, b6, b7, b8)) h.even.gate;
-      list_length = fram_word l.words.list_length (omega (arith, a1, a2, a3, a4)) (omega (arith, a5, a6, a7, a8, a9, b1, b2, b3, b4, b5, b6, b7, b8)) h.even.list_length;
-      emit_count = fram_word l.words.emit_count (omega (arith, a1, a2, a3, a4, a5)) (omega (arith, a6, a7, a8, a9, b1, b2, b3, b4, b5, b6, b7, b8)) h.even.emit_count;
-      base = fram_word l.words.base (omega (arith, a1, a2, a3, a4, a5, a6)) (omega (arith, a7, a8, a9, b1, b2, b3, b4, b5, b6, b7, b8)) h.even.base;
-      sent_base = fram_word l.words.sent_base (omega (arith, a1, a2, a3, a4, a5, a6, a7)) (omega (arith, a8, a9, b1, b2, b3, b4, b5, b6, b7, b8)) h.even.sent_base;
-      version = fram_word l.words.version (omega (arith, a1, a2, a3, a4, a5, a6, a7, a8)) (omega (arith, a9, b1, b2, b3, b4, b5, b6, b7, b8)) h.even.version;
-    }
+pub runtime_words : (l : MemoryMap) → IsLaidOut l → AreFramWords (map_words l)
+runtime_words l h = record {
+  current_task = there CurrentTask;
+  next_task = there NextTask;
+  gate = there Gate;
+  list_length = there ListLength;
+  emit_count = there EmitCount;
+  base = there Base;
+  sent_base = there SentBase;
+  version = there Version;
+}
+  where
+    there : (w : RuntimeWord) → IsFramWord (word_place l w)
+    there w = let is = (words_stand l w h).is_fram in fram_word (word_place l w) is.low is.high is.even
 
 -- where the buffers and the variables stand
-record ArePlaced (l : LayoutValue) : Type 0 where
-  pub list : IsPlace l.list
-  pub emits : IsPlace l.emits
-  pub versions : IsPlace l.versions
-  pub low : 17408 ≤ l.homes.address
-  pub high : end_of l.homes ≤ 65534
+pub record ArePlaced (l : MemoryMap) : Type 0 where
+  pub list : IsPlace (map_list l)
+  pub emits : IsPlace (map_buffer l.emits)
+  pub versions : IsPlace (map_buffer l.versions)
+  pub low : fram_first ≤ l.homes.address
+  pub high : end_of l.homes ≤ reset_vector
 
-are_placed : (l : LayoutValue) → IsLaidOut l → ArePlaced l
+pub are_placed : (l : MemoryMap) → IsLaidOut l → ArePlaced l
 are_placed l h =
-    let v = (runtime_words l h).version.low in let a9 = h.apart.list in let b1 = h.apart.emits in let b2 = h.apart.versions in let b3 = h.apart.homes in
-    let b4 = h.apart.copies in let b5 = h.apart.boot in let b6 = h.apart.commit in let b7 = h.apart.code in let b8 = h.apart.high in
+    let r = parts_in_fram l h in
+    let list = r.list.end in let emits = r.emits.end in let versions = r.versions.end in
+    let entries : l.list.words ≡ list_entry_room * l.entries = h.list in
     record {
-      list = record {
-        address = fram_word l.list.address (omega (arith, v, a9)) (omega (arith, b1, b2, b3, b4, b5, b6, b7, b8)) h.even.list;
-        capacity = omega (arith, b1, b2, b3, b4, b5, b6, b7, b8);
-      };
-      emits = record {
-        address = fram_word l.emits.address (omega (arith, v, a9, b1)) (omega (arith, b2, b3, b4, b5, b6, b7, b8)) h.even.emits;
-        capacity = omega (arith, b2, b3, b4, b5, b6, b7, b8);
-      };
+      list = record { address = fram_word l.list.address r.list.from (omega (arith, list)) r.list.even; capacity = omega (arith, list, entries) };
+      emits = record { address = fram_word l.emits.address r.emits.from (omega (arith, emits)) r.emits.even; capacity = omega (arith, emits) };
       versions = record {
-        address = fram_word l.versions.address (omega (arith, v, a9, b1, b2)) (omega (arith, b3, b4, b5, b6, b7, b8)) h.even.versions;
-        capacity = omega (arith, b3, b4, b5, b6, b7, b8);
+        address = fram_word l.versions.address r.versions.from (omega (arith, versions)) r.versions.even;
+        capacity = omega (arith, versions);
       };
-      low = omega (arith, v, a9, b1, b2, b3);
-      high = omega (arith, b4, b5, b6, b7, b8);
+      low = r.homes.from;
+      high = r.homes.end;
     }
 
 -- ---- tasks
 
 -- a task's private scalars, by their numbers: ascending, and scalars
-record HasScalars (shared : List SharedDeclaration) (t : TaskLayoutValue) : Type 0 where
+record HasScalars (shared : List SharedDeclaration) (t : TaskPlace) : Type 0 where
   pub from : AreFrom 0 (map (λ s. s.number) t.privates)
   pub scalars : All (IsScalarAt shared) (map (λ s. s.number) t.privates)
 
-scalars_of_plan : (shared : List SharedDeclaration) (task : CheckedTask) (plan : TaskPlanValue) (t : TaskLayoutValue) → IsTaskPlan shared task.body plan → IsTaskLayout shared task.body plan t → HasScalars shared t
+scalars_of_plan : (shared : List SharedDeclaration) (task : CheckedTask) (plan : TaskPlanValue) (t : TaskPlace) → IsTaskPlan shared task.body plan
+    → IsTaskLayout shared task.body plan t → HasScalars shared t
 scalars_of_plan shared task plan t is has = record {
   from = subst (AreFrom 0) (sym has.privates) (from_pairs 0 plan.private_scalars is.private_scalars.ascending (starts_anywhere plan.private_scalars));
   scalars = subst (All (IsScalarAt shared)) (sym has.privates) (All-weaker (IsPrivateIn shared task.body) (IsScalarAt shared) (λ n h. h.scalar) plan.private_scalars is.private_scalars.only);
 }
 
 -- the same of each task
-abbrev HaveScalars : List SharedDeclaration → List CheckedTask → List TaskLayoutValue → Type 0
+abbrev HaveScalars : List SharedDeclaration → List CheckedTask → List TaskPlace → Type 0
 HaveScalars shared [] [] = Unit {0}
 HaveScalars shared [] (t ∷ ts) = ⊥
 HaveScalars shared (task ∷ tasks) [] = ⊥
 HaveScalars shared (task ∷ tasks) (t ∷ ts) = HasScalars shared t × HaveScalars shared tasks ts
 
-have_scalars : (shared : List SharedDeclaration) (tasks : List CheckedTask) (ts : List TaskLayoutValue) → length ts ≡ length tasks
-    → ((k : ℕ) (task : CheckedTask) (t : TaskLayoutValue) → slice_get tasks k ≡ Some task → slice_get ts k ≡ Some t → HasScalars shared t) → HaveScalars shared tasks ts
+have_scalars : (shared : List SharedDeclaration) (tasks : List CheckedTask) (ts : List TaskPlace) → length ts ≡ length tasks
+    → ((k : ℕ) (task : CheckedTask) (t : TaskPlace) → slice_get tasks k ≡ Some task → slice_get ts k ≡ Some t → HasScalars shared t)
+    → HaveScalars shared tasks ts
 have_scalars shared [] [] n f = tt
 have_scalars shared [] (t ∷ ts) n f = absurd (omega (arith, n))
 have_scalars shared (task ∷ tasks) [] n f = absurd (omega (arith, n))
 have_scalars shared (task ∷ tasks) (t ∷ ts) n f = (f 0 task t refl refl, have_scalars shared tasks ts (omega (arith, n)) (λ k u v a b. f (suc k) u v a b))
 
 module _ (text : List ℕ) (shared : List SharedDeclaration) (places : List VariablePlace) (are : ArePlacesOf shared places) where
-  privates_are : (t : TaskLayoutValue) → HasScalars shared t → are_scalars (private_names text shared t.privates) (variables_of text shared places) ≡ true
+  privates_are : (t : TaskPlace) → HasScalars shared t → are_scalars (private_names text shared t.privates) (variables_of text shared places) ≡ true
   privates_are t h =
       ap (λ ns. are_scalars ns (variables_of text shared places)) (map_map (λ s. s.number) (shared_name text shared) t.privates)
       ∙ scalars_from text shared 0 shared places (map (λ s. s.number) t.privates) are (λ i. ap (slice_get shared) (omega arith)) h.from h.scalars
 
-  all_privates_are : (tasks : List CheckedTask) (ts : List TaskLayoutValue) → HaveScalars shared tasks ts
+  all_privates_are : (tasks : List CheckedTask) (ts : List TaskPlace) → HaveScalars shared tasks ts
       → All (λ t. are_scalars t.privates (variables_of text shared places) ≡ true) (tasks_of text shared tasks ts)
   all_privates_are [] [] h = All-nil (λ t. are_scalars t.privates (variables_of text shared places) ≡ true)
   all_privates_are [] (t ∷ ts) h = absurd h
@@ -119,13 +118,14 @@ module _ (text : List ℕ) (shared : List SharedDeclaration) (places : List Vari
   all_privates_are (task ∷ tasks) (t ∷ ts) h =
       All-cons (λ t. are_scalars t.privates (variables_of text shared places) ≡ true) _ (tasks_of text shared tasks ts) (privates_are t h.0) (all_privates_are tasks ts h.1)
 
-tasks_count : (text : List ℕ) (shared : List SharedDeclaration) (tasks : List CheckedTask) (ts : List TaskLayoutValue) → length ts ≡ length tasks → length (tasks_of text shared tasks ts) ≡ length tasks
+tasks_count : (text : List ℕ) (shared : List SharedDeclaration) (tasks : List CheckedTask) (ts : List TaskPlace) → length ts ≡ length tasks
+    → length (tasks_of text shared tasks ts) ≡ length tasks
 tasks_count text shared [] [] n = refl
 tasks_count text shared [] (t ∷ ts) n = absurd (omega (arith, n))
 tasks_count text shared (task ∷ tasks) [] n = absurd (omega (arith, n))
 tasks_count text shared (task ∷ tasks) (t ∷ ts) n = let r = tasks_count text shared tasks ts (omega (arith, n)) in omega (arith, r)
 
-names_of_tasks : (text : List ℕ) (shared : List SharedDeclaration) (tasks : List CheckedTask) (ts : List TaskLayoutValue) → length ts ≡ length tasks
+names_of_tasks : (text : List ℕ) (shared : List SharedDeclaration) (tasks : List CheckedTask) (ts : List TaskPlace) → length ts ≡ length tasks
     → task_names (tasks_of text shared tasks ts) ≡ map (λ t. spelled text t.name) tasks
 names_of_tasks text shared [] [] n = refl
 names_of_tasks text shared [] (t ∷ ts) n = absurd (omega (arith, n))

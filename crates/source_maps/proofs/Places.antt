@@ -9,9 +9,10 @@ use Rattle.task_ast.specs.declared.SharedDeclaration.{SharedDeclaration}
 use Rattle.image_map.specs.MapValue.{IsFramWord, IsVariable, fits, variable_names}
 use Rattle.source_events.specs.Naming.{length_of, AreVariablesOf}
 use Rattle.source_report.specs.SourceReport.{spelled}
-use Rattle.privatise.specs.declared.place.VariablePlace.{VariablePlace}
-use Rattle.privatise.specs.declared.place.VariablePlace.TheVariants.{Scalar, Array}
-use Rattle.privatise.specs.Places.{end_of, home_region, AreInOrder}
+use Rattle.address_space.specs.Limits.{fram_first, reset_vector}
+use Rattle.memory_map.specs.declared.place.VariablePlace.{VariablePlace}
+use Rattle.memory_map.specs.declared.place.VariablePlace.TheVariants.{Scalar, Array}
+use Rattle.memory_map.specs.Places.{end_of, home_region, AreInOrder}
 use Rattle.privatise.specs.Layouts.{IsPlaceOf}
 use Rattle.source_names.specs.Names.{HasWords}
 use Rattle.source_maps.specs.Maps.{variable_of, variables_of}
@@ -40,7 +41,7 @@ region_words : (e : Extent) (place : VariablePlace) (n : ℕ) → IsOfKind e pla
 region_words e (Scalar home copy) n h is = absurd (subst (λ x. IsOfKind x (Scalar home copy)) is h)
 region_words e (Array elements m copies) n h is = subst (λ x. IsOfKind x (Array elements m copies)) is h
 
-fits_there : (e : Extent) (place : VariablePlace) (end : ℕ) → IsOfKind e place → HasWords e → end_of (home_region place) ≤ end → end ≤ 65534
+fits_there : (e : Extent) (place : VariablePlace) (end : ℕ) → IsOfKind e place → HasWords e → end_of (home_region place) ≤ end → end ≤ reset_vector
     → fits (home_region place).address (length_of e) ≡ true
 fits_there (extent.Scalar w) place end h words l m = refl
 fits_there (extent.Array n) place end h words l m =
@@ -58,7 +59,7 @@ in_order_end from end (p ∷ ps) h =
     omega (arith, a, b)
 
 pub variables_are : (text : List ℕ) (from end : ℕ) (ds : List SharedDeclaration) (ps : List VariablePlace) → ArePlacesOf ds ps → AreInOrder from (map home_region ps) end
-    → 17408 ≤ from → end ≤ 65534 → All (λ d. HasWords d.extent) ds → All IsVariable (variables_of text ds ps)
+    → fram_first ≤ from → end ≤ reset_vector → All (λ d. HasWords d.extent) ds → All IsVariable (variables_of text ds ps)
 variables_are text from end [] [] places order low high words = All-nil IsVariable
 variables_are text from end [] (p ∷ ps) places order low high words = absurd places
 variables_are text from end (d ∷ ds) [] places order low high words = absurd places

@@ -4,17 +4,17 @@ use Rattle.image_map.specs.declared.parts.Variable.{Variable}
 use Rattle.image_map.specs.MapValue.{MapValue, TaskValue, takes_variable, with_variable, takes_task, with_task, takes_private, with_private}
 use Rattle.cost_bound.specs.declared.allowance.Allow.{Allow}
 use Rattle.source_values.specs.Runs.{CheckedProgram}
-use Rattle.privatise.specs.LayoutValue.{LayoutValue}
-use Rattle.source_maps.specs.Maps.{variables_of, tasks_of}
+use Rattle.memory_map.specs.MemoryMap.{MemoryMap}
+use Rattle.source_maps.specs.Maps.{map_words, map_list, map_buffer, variables_of, tasks_of}
 
 -- the map of a layout and an allowance, without variables and tasks
-abbrev pub bare_map : LayoutValue → Allow → MapValue
+abbrev pub bare_map : MemoryMap → Allow → MapValue
 bare_map l allow = record {
   bound = allow.cycles;
-  words = l.words;
-  list = l.list;
-  emits = l.emits;
-  versions = l.versions;
+  words = map_words l;
+  list = map_list l;
+  emits = map_buffer l.emits;
+  versions = map_buffer l.versions;
   variables = [];
   tasks = [];
 }
@@ -49,10 +49,10 @@ TakesTasks m [] = Unit {0}
 TakesTasks m (t ∷ ts) = (takes_task m t.name ≡ true) × TakesPrivates (with_task m t.name) t.privates × TakesTasks (with_whole_task m t) ts
 
 -- the map with the variables of a source
-abbrev pub map_with_variables : List ℕ → CheckedProgram → LayoutValue → Allow → MapValue
+abbrev pub map_with_variables : List ℕ → CheckedProgram → MemoryMap → Allow → MapValue
 map_with_variables text p l allow = with_variables (bare_map l allow) (variables_of text p.shared l.variables)
 
 -- all that is said of a source may be added
-pub record TakesSource (text : List ℕ) (p : CheckedProgram) (l : LayoutValue) (allow : Allow) : Type 0 where
+pub record TakesSource (text : List ℕ) (p : CheckedProgram) (l : MemoryMap) (allow : Allow) : Type 0 where
   pub variables : TakesVariables (bare_map l allow) (variables_of text p.shared l.variables)
   pub tasks : TakesTasks (map_with_variables text p l allow) (tasks_of text p.shared p.tasks l.tasks)

@@ -4,7 +4,7 @@ use Rattle.cost_bound.specs.declared.allowance.Allow.{Allow}
 use Rattle.cost_bound.specs.Allowance.{CheckedProgram, IsAllowed}
 use Rattle.war_analysis.specs.PlanValue.{TaskPlanValue}
 use Rattle.war_analysis.specs.Plans.{IsPlan}
-use Rattle.privatise.specs.LayoutValue.{LayoutValue}
+use Rattle.memory_map.specs.MemoryMap.{MemoryMap}
 use Rattle.privatise.specs.Layouts.{IsLayout}
 use Rattle.image_map.specs.MapValue.{IsMap}
 use Rattle.source_events.specs.Naming.{IsMapOf}
@@ -14,7 +14,7 @@ use Rattle.source_maps.specs.Adding.{TakesSource}
 use Rattle.source_maps.specs.Placing.{ArePlacesOf}
 
 -- a source with names of its own, few variables and tasks, an allowance, a plan and a layout
-pub record IsLaidOutSource (text : List ℕ) (p : CheckedProgram) (allow : Allow) (plans : List TaskPlanValue) (l : LayoutValue) : Type 0 where
+pub record IsLaidOutSource (text : List ℕ) (p : CheckedProgram) (allow : Allow) (plans : List TaskPlanValue) (l : MemoryMap) : Type 0 where
   pub names : HasNames text p
   pub few_shared : length p.shared ≤ 256
   pub few_tasks : length p.tasks ≤ 64
@@ -24,7 +24,7 @@ pub record IsLaidOutSource (text : List ℕ) (p : CheckedProgram) (allow : Allow
 
 -- the map keeps the rules of maps, names the source's variables and tasks, and can be made one line behind the other; each variable has a
 -- place of its kind, and each private scalar is a variable
-pub record IsSourceMap (text : List ℕ) (p : CheckedProgram) (allow : Allow) (l : LayoutValue) : Type 0 where
+pub record IsSourceMap (text : List ℕ) (p : CheckedProgram) (allow : Allow) (l : MemoryMap) : Type 0 where
   pub is_map : IsMap (map_of text p l allow)
   pub of_source : IsMapOf text p (map_of text p l allow)
   pub takes : TakesSource text p l allow
@@ -32,5 +32,5 @@ pub record IsSourceMap (text : List ℕ) (p : CheckedProgram) (allow : Allow) (l
   pub declared : All (λ t. All (λ s. s.number < length p.shared) t.privates) l.tasks
 
 abbrev pub MapsAreOfSources : Type 0
-MapsAreOfSources = (text : List ℕ) (p : CheckedProgram) (allow : Allow) (plans : List TaskPlanValue) (l : LayoutValue)
+MapsAreOfSources = (text : List ℕ) (p : CheckedProgram) (allow : Allow) (plans : List TaskPlanValue) (l : MemoryMap)
     → IsLaidOutSource text p allow plans l → IsSourceMap text p allow l

@@ -3,6 +3,8 @@ use Rattle.std.specs.Prelude.{ℕ, List, [], ◌∷◌, map, Option, Some, None,
 use Rattle.task_ast.specs.declared.WordType.{WordType}
 use Rattle.task_ast.specs.declared.WordType.TheVariants as word_type
 use Rattle.task_ast.specs.declared.SharedDeclaration.{SharedDeclaration}
+use Rattle.image_map.specs.declared.parts.RuntimeWords.{RuntimeWords}
+use Rattle.image_map.specs.declared.parts.Place.{Place}
 use Rattle.image_map.specs.declared.parts.ValueType.{ValueType}
 use Rattle.image_map.specs.declared.parts.ValueType.TheVariants as value_type
 use Rattle.image_map.specs.declared.parts.Variable.{Variable}
@@ -12,10 +14,12 @@ use Rattle.cost_bound.specs.Allowance.{CheckedTask}
 use Rattle.source_values.specs.Runs.{CheckedProgram}
 use Rattle.source_report.specs.SourceReport.{spelled}
 use Rattle.source_events.specs.Naming.{length_of}
-use Rattle.privatise.specs.declared.place.VariablePlace.{VariablePlace}
-use Rattle.privatise.specs.declared.place.PrivateScalar.{PrivateScalar}
-use Rattle.privatise.specs.LayoutValue.{LayoutValue, TaskLayoutValue}
-use Rattle.privatise.specs.Places.{home_region}
+use Rattle.memory_map.specs.declared.place.VariablePlace.{VariablePlace}
+use Rattle.memory_map.specs.declared.place.PrivateScalar.{PrivateScalar}
+use Rattle.memory_map.specs.declared.place.Region.{Region}
+use Rattle.memory_map.specs.declared.words.RuntimeWord.TheVariants.{CurrentTask, NextTask, Gate, ListLength, EmitCount, Base, SentBase, Version}
+use Rattle.memory_map.specs.MemoryMap.{MemoryMap, TaskPlace, word_place}
+use Rattle.memory_map.specs.Places.{home_region}
 
 -- how a type's words are read as numbers
 abbrev pub value_type_of : WordType → ValueType
@@ -49,22 +53,42 @@ abbrev pub private_names : List ℕ → List SharedDeclaration → List PrivateS
 private_names text shared privates = map (λ s. shared_name text shared s.number) privates
 
 -- a task with its layout
-abbrev pub task_value_of : List ℕ → List SharedDeclaration → CheckedTask → TaskLayoutValue → TaskValue
+abbrev pub task_value_of : List ℕ → List SharedDeclaration → CheckedTask → TaskPlace → TaskValue
 task_value_of text shared task layout = record { name = spelled text task.name; privates = private_names text shared layout.privates }
 
 -- the tasks, each with its layout
-abbrev pub tasks_of : List ℕ → List SharedDeclaration → List CheckedTask → List TaskLayoutValue → List TaskValue
+abbrev pub tasks_of : List ℕ → List SharedDeclaration → List CheckedTask → List TaskPlace → List TaskValue
 tasks_of text shared (task ∷ tasks) (layout ∷ layouts) = task_value_of text shared task layout ∷ tasks_of text shared tasks layouts
 tasks_of text shared _ _ = []
 
+-- the words of the runtime, by their names in a map
+abbrev pub map_words : MemoryMap → RuntimeWords
+map_words m = record {
+  current_task = word_place m CurrentTask;
+  next_task = word_place m NextTask;
+  gate = word_place m Gate;
+  list_length = word_place m ListLength;
+  emit_count = word_place m EmitCount;
+  base = word_place m Base;
+  sent_base = word_place m SentBase;
+  version = word_place m Version;
+}
+
+-- the commit list, with the entries that it has room for, and a buffer of single words
+abbrev pub map_list : MemoryMap → Place
+map_list m = record { address = m.list.address; capacity = m.entries }
+
+abbrev pub map_buffer : Region → Place
+map_buffer r = record { address = r.address; capacity = r.words }
+
 -- the map of a source with its layout and its allowance
-abbrev pub map_of : List ℕ → CheckedProgram → LayoutValue → Allow → MapValue
+abbrev pub map_of : List ℕ → CheckedProgram → MemoryMap → Allow → MapValue
 map_of text p l allow = record {
   bound = allow.cycles;
-  words = l.words;
-  list = l.list;
-  emits = l.emits;
-  versions = l.versions;
+  words = map_words l;
+  list = map_list l;
+  emits = map_buffer l.emits;
+  versions = map_buffer l.versions;
   variables = variables_of text p.shared l.variables;
   tasks = tasks_of text p.shared p.tasks l.tasks;
 }

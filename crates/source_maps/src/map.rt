@@ -2,10 +2,10 @@
 ghost use Rattle.std.specs.Prelude.{◌≡◌, ◌<◌, ◌≤◌, ◌∷◌, [], true, All, IfOk, OnOk, length, map};
 ghost use Rattle.task_ast.specs.View as tree;
 ghost use Rattle.image_map.specs.Names.{is_name};
-ghost use Rattle.image_map.specs.MapValue.{AreFramWords, IsFramWord, takes_task, with_task};
+ghost use Rattle.image_map.specs.MapValue.{takes_task, with_task};
 ghost use Rattle.source_events.specs.Naming.{length_of};
 ghost use Rattle.source_report.specs.SourceReport.{spelled};
-ghost use Rattle.privatise.specs.Places.{home_region, IsLaidOut};
+ghost use Rattle.memory_map.specs.Places.{home_region};
 ghost use Rattle.source_maps.specs.Maps as maps;
 ghost use Rattle.source_maps.specs.Maps.{variables_of, private_names, task_value_of, tasks_of};
 ghost use Rattle.source_names.specs.Names.{HasNames};
@@ -13,8 +13,8 @@ ghost use Rattle.source_maps.specs.Adding.{bare_map, map_with_variables, with_va
 
 use alp_text::Span;
 use cost_bound::Allow;
-use image_map::{Map, Name, ValueType, Variable};
-use privatise::{Layout, PrivateScalar, TaskLayout, VariablePlace};
+use image_map::{Map, Name, Place, RuntimeWords, ValueType, Variable};
+use memory_map::{Layout, PrivateScalar, Region, RuntimeWord, TaskLayout, VariablePlace};
 use source_report::spelled;
 use std::alloc::{AllocError, Global};
 use task_ast::{
@@ -159,6 +159,42 @@ fn add_tasks(
     Ok(())
 }
 
+// The words of the runtime, by their names in a map.
+fn map_words(layout: &Layout) -> RuntimeWords
+    ensures { result ≡ maps.map_words layout.now }
+{
+    RuntimeWords {
+        current_task: layout.word_place(RuntimeWord::CurrentTask),
+        next_task: layout.word_place(RuntimeWord::NextTask),
+        gate: layout.word_place(RuntimeWord::Gate),
+        list_length: layout.word_place(RuntimeWord::ListLength),
+        emit_count: layout.word_place(RuntimeWord::EmitCount),
+        base: layout.word_place(RuntimeWord::Base),
+        sent_base: layout.word_place(RuntimeWord::SentBase),
+        version: layout.word_place(RuntimeWord::Version),
+    }
+}
+
+// The commit list, with the entries that it has room for.
+fn map_list(layout: &Layout) -> Place
+    ensures { result ≡ maps.map_list layout.now }
+{
+    Place {
+        address: layout.list().address,
+        capacity: layout.entries(),
+    }
+}
+
+// A buffer of single words.
+fn map_buffer(region: Region) -> Place
+    ensures { result ≡ maps.map_buffer region }
+{
+    Place {
+        address: region.address,
+        capacity: region.words,
+    }
+}
+
 /// The map of a source with its layout and its allowance.
 pub fn map_of(
     alloc: Global,
@@ -175,14 +211,11 @@ pub fn map_of(
     ensures { IfOk result (λ m. m ≡ maps.map_of text.now (tree.program_of source.now) layout.now allow.now) }
 {
     layout.rules();
-    let mut map = Map::new(
-        alloc,
-        allow.cycles,
-        layout.words(),
-        layout.list(),
-        layout.emits(),
-        layout.versions(),
-    );
+    let words = map_words(layout);
+    let list = map_list(layout);
+    let emits = map_buffer(layout.emits());
+    let versions = map_buffer(layout.versions());
+    let mut map = Map::new(alloc, allow.cycles, words, list, emits, versions);
     add_variables(&mut map, text, source.shared.as_slice(), layout.variables())?;
     add_tasks(
         alloc,

@@ -6,10 +6,11 @@ use Rattle.machine_effects.proofs.Worlds.{readings_taken-append, world_after-app
 use Rattle.runtime_effects.specs.Places.{CopyPair}
 use Rattle.crash_rules.specs.Model.{Outcome, Ends, Short, ProgramEffects, program_effects, HoldsThroughout, IsWord, IsElsewhere, Model, AttemptContract}
 use Rattle.crash_rules.proofs.Lists.{world_fram, holds-append}
-use Rattle.stands_for.specs.Layout.{ProgramPlaces, StateView, AreApart}
+use Rattle.stands_for.specs.Layout.{ProgramPlaces, StateView}
 use Rattle.stands_for.specs.StandsFor.{UndecidedAt}
 use Rattle.stands_for.specs.Program.{behind_start, ProgramParts, attempt_effects, program_model, StartContract, TasksContract}
 use Rattle.stands_for.proofs.Starts.{start_off_gate}
+use Rattle.memory_map.specs.Laws.{AreApart}
 
 module _ {St : Type 0} (m : Model St) where
   -- effects in front, which store nothing to GATE, take no reading and keep the world undecided
@@ -35,7 +36,7 @@ module _ {St : Type 0} (m : Model St) where
       }
 
 -- an attempt keeps its contract
-pub attempts : {St : Type 0} (l : ProgramPlaces) (v : StateView St) (privates : ℕ → List CopyPair) (p : ProgramParts St) → AreApart l
+pub attempts : {St : Type 0} (l : ProgramPlaces) (v : StateView St) (privates : ℕ → List CopyPair) (p : ProgramParts St) → AreApart l.map
     → StartContract l v privates p.start → TasksContract l v privates p
     → (s : St) (x : World) (rs : List ℕ) → All IsWord rs → UndecidedAt l v s x
     → AttemptContract (program_model l v p) s rs x (p.task s rs) (attempt_effects l p x.fram rs)

@@ -11,10 +11,13 @@ use Rattle.runtime_effects.specs.Needs.{IsCopied, CanCommit}
 use Rattle.runtime_effects.proofs.Sends.{sends_store}
 use Rattle.crash_rules.specs.Model.{HoldsThroughout, IsElsewhere}
 use Rattle.crash_rules.proofs.Lists.{holds-append}
-use Rattle.stands_for.specs.Layout.{ProgramPlaces, StateView, IsSharedWord, IsAmong, AreApart, HaveRoom}
+use Rattle.stands_for.specs.Layout.{ProgramPlaces, StateView, IsSharedWord, IsAmong, HaveRoom}
 use Rattle.stands_for.specs.StandsFor.{HoldsWords, RestsAt, DecidedWith, DecidedFrom}
 use Rattle.stands_for.specs.Program.{IsCommitStore}
 use Rattle.stands_for.proofs.Keeps.{put_either, put_words, With, few, few_emits, copy_keeps, cur_keeps, base_keeps, weaken, send_keeps}
+use Rattle.memory_map.specs.MemoryMap.{word_place}
+use Rattle.memory_map.specs.declared.words.RuntimeWord.TheVariants.{CurrentTask, NextTask, Gate, EmitCount, Base, SentBase, Version}
+use Rattle.memory_map.specs.Laws.{AreApart}
 
 any_among : (ps : List CopyPair) (a : ℕ) → ((p : CopyPair) × IsAmong ps p × (p.home ≡ a)) ⊎ ((p : CopyPair) → IsAmong ps p → p.home ≡ a → ⊥)
 any_among [] a = inr (λ p h e. elim h [ ])
@@ -49,7 +52,7 @@ copied_store P (q ∷ qs) f h = (h q (f q.copy) (inl refl), copied_store P qs (p
 wrapped : (a b : ℕ) → (a % 0x10000 + b) % 0x10000 ≡ (a + b) % 0x10000
 wrapped a b = omega arith
 
-module _ {St : Type 0} (l : ProgramPlaces) (apart : AreApart l) (room : HaveRoom l) (v : StateView St) (s next : St) where
+module _ {St : Type 0} (l : ProgramPlaces) (apart : AreApart l.map) (room : HaveRoom l) (v : StateView St) (s next : St) where
   module _ (ps : List CopyPair) (es : List ℕ) where
     abbrev So : ℕ → World → Type 0
     So k x = With l apart room v s next ps es k x
@@ -86,8 +89,8 @@ module _ {St : Type 0} (l : ProgramPlaces) (apart : AreApart l) (room : HaveRoom
         (one_copied q qs x k d c) in
         ((decided_of 0 x d, r.0), r.1, r.2)
 
-    sends_through : (n i k p : ℕ) (f : ℕ → ℕ) (x : World) → i + n ≡ length es → k ≡ (length (v.emitted s) + i) % 0x10000 → p ≡ l.runtime.emits + 2 * i
-        → ((j : ℕ) → j < length es → f (l.runtime.emits + 2 * j) ≡ slice_index es j) → So i x →
+    sends_through : (n i k p : ℕ) (f : ℕ → ℕ) (x : World) → i + n ≡ length es → k ≡ (length (v.emitted s) + i) % 0x10000 → p ≡ l.map.emits.address + 2 * i
+        → ((j : ℕ) → j < length es → f (l.map.emits.address + 2 * j) ≡ slice_index es j) → So i x →
         HoldsThroughout (DecidedFrom l v s next) (sends n k p f) x × So (length es) (world_after (sends n k p f) x)
         × ((world_after (sends n k p f) x).fram ≡ x.fram)
     sends_through zero i k p f x e ek ep words d = (decided_of i x d, subst (λ y. So y x) (omega (arith, e)) d, refl)
@@ -113,50 +116,55 @@ module _ {St : Type 0} (l : ProgramPlaces) (apart : AreApart l) (room : HaveRoom
 
     -- the last stores but GATE's
     abbrev closed_before : (ℕ → ℕ) → List Effect
-    closed_before f = Store l.runtime.words.current_task (f l.runtime.words.next_task) ∷ Store l.runtime.words.base
-        ((f l.runtime.words.sent_base + f l.runtime.words.emit_count) % 0x10000) ∷ []
+    closed_before f = Store (word_place l.map CurrentTask) (f (word_place l.map NextTask)) ∷ Store (word_place l.map Base)
+        ((f (word_place l.map SentBase) + f (word_place l.map EmitCount)) % 0x10000) ∷ []
 
     -- what the commit read at its start
     record Read (f : ℕ → ℕ) : Type 0 where
       words : HoldsWords f
-      next_task : f l.runtime.words.next_task ≡ v.task next
-      sent_base : f l.runtime.words.sent_base ≡ length (v.emitted s) % 0x10000
-      emit_count : f l.runtime.words.emit_count ≡ length es
+      next_task : f (word_place l.map NextTask) ≡ v.task next
+      sent_base : f (word_place l.map SentBase) ≡ length (v.emitted s) % 0x10000
+      emit_count : f (word_place l.map EmitCount) ≡ length es
 
     closes_through : (f : ℕ → ℕ) (x : World) → Read f → So (length es) x → ((a : ℕ) → IsSharedWord l a → x.fram a ≡ v.word next a) →
-        HoldsThroughout (DecidedFrom l v s next) (closed_before f) x × RestsAt l v next (world_after_one (Store l.runtime.words.gate 0)
+        HoldsThroughout (DecidedFrom l v s next) (closed_before f) x × RestsAt l v next (world_after_one (Store (word_place l.map Gate) 0)
         (world_after (closed_before f) x))
     closes_through f x rd d shared =
-        let m = l.runtime in let w = l.runtime.words in
-        let c = f w.next_task in
-        let b = (f w.sent_base + f w.emit_count) % 0x10000 in
+        let m = l.map in
+        let c = f (word_place m NextTask) in
+        let b = (f (word_place m SentBase) + f (word_place m EmitCount)) % 0x10000 in
         let b_small : b < 0x10000 = omega arith in
-        let x1 = world_after_one (Store w.current_task c) x in
-        let x2 = world_after_one (Store w.base b) x1 in
-        let x3 = world_after_one (Store w.gate 0) x2 in
-        let d1 = cur_keeps l apart room v s next ps es (length es) x c (rd.words w.next_task) rd.next_task d in
-        let sum : b ≡ (x1.fram w.sent_base + x1.fram w.emit_count) % 0x10000 = ap₂ (λ p q. (p + q) % 0x10000) (rd.sent_base ∙ sym d1.sent_base)
+        let x1 = world_after_one (Store (word_place m CurrentTask) c) x in
+        let x2 = world_after_one (Store (word_place m Base) b) x1 in
+        let x3 = world_after_one (Store (word_place m Gate) 0) x2 in
+        let d1 = cur_keeps l apart room v s next ps es (length es) x c (rd.words (word_place m NextTask)) rd.next_task d in
+        let sum : b ≡ (x1.fram (word_place m SentBase) + x1.fram (word_place m EmitCount)) % 0x10000 =
+        ap₂ (λ p q. (p + q) % 0x10000) (rd.sent_base ∙ sym d1.sent_base)
         (rd.emit_count ∙ sym d1.emit_count) in
         let d2 = base_keeps l apart room v s next ps es (length es) x1 b b_small sum d1 in
-        let other : (a : ℕ) → (a ≡ w.gate → ⊥) → (a ≡ w.base → ⊥) → (a ≡ w.current_task → ⊥)
-        → x3.fram a ≡ x.fram a = λ a p q r. put_other x2.fram w.gate 0 a p ∙ put_other x1.fram w.base b a q ∙ put_other x.fram w.current_task c a r in (
+        let other : (a : ℕ) → (a ≡ word_place m Gate → ⊥) → (a ≡ word_place m Base → ⊥) → (a ≡ word_place m CurrentTask → ⊥)
+        → x3.fram a ≡ x.fram a = λ a p q r. put_other x2.fram (word_place m Gate) 0 a p ∙ put_other x1.fram (word_place m Base) b a q
+        ∙ put_other x.fram (word_place m CurrentTask) c a r in (
           (decided_of (length es) x d, (decided_of (length es) x1 d1, decided_of (length es) x2 d2)),
           record {
             is_open = record {
               is_state = d.next_is_state;
               is_task = d.next_is_task;
-              words = put_words x2.fram w.gate 0 d2.words (omega arith);
-              current_task = put_other x2.fram w.gate 0 w.current_task (λ e. omega (arith, apart, e))
-                  ∙ put_other x1.fram w.base b w.current_task (λ e. omega (arith, apart, e)) ∙ put_same x.fram w.current_task c ∙ rd.next_task;
-              gate = put_same x2.fram w.gate 0;
+              words = put_words x2.fram (word_place m Gate) 0 d2.words (omega arith);
+              current_task = put_other x2.fram (word_place m Gate) 0 (word_place m CurrentTask) (λ e. omega (arith, apart, e))
+                  ∙ put_other x1.fram (word_place m Base) b (word_place m CurrentTask) (λ e. omega (arith, apart, e))
+                  ∙ put_same x.fram (word_place m CurrentTask) c ∙ rd.next_task;
+              gate = put_same x2.fram (word_place m Gate) 0;
               accepted = all_accepted x d;
-              base = put_other x2.fram w.gate 0 w.base (λ e. omega (arith, apart, e)) ∙ put_same x1.fram w.base b
+              base = put_other x2.fram (word_place m Gate) 0 (word_place m Base) (λ e. omega (arith, apart, e)) ∙ put_same x1.fram (word_place m Base) b
                   ∙ ap₂ (λ p q. (p + q) % 0x10000) rd.sent_base rd.emit_count ∙ wrapped (length (v.emitted s)) (length es)
                   ∙ ap (λ y. y % 0x10000) (sym (ap length d.emitted ∙ length-append (v.emitted s) es));
               versions = λ i h.
-                  let e : x3.fram (m.versions + 2 * i) ≡ x.fram (m.versions + 2 * i) = other (m.versions + 2 * i) (λ e. omega (arith, apart, e))
+                  let e : x3.fram (m.versions.address + 2 * i) ≡ x.fram (m.versions.address + 2 * i) =
+                  other (m.versions.address + 2 * i) (λ e. omega (arith, apart, e))
                   (λ e. omega (arith, apart, e)) (λ e. omega (arith, apart, e)) in
-                  let g : x3.fram w.version ≡ x.fram w.version = other w.version (λ e. omega (arith, apart, e)) (λ e. omega (arith, apart, e))
+                  let g : x3.fram (word_place m Version) ≡ x.fram (word_place m Version) =
+                  other (word_place m Version) (λ e. omega (arith, apart, e)) (λ e. omega (arith, apart, e))
                   (λ e. omega (arith, apart, e)) in
                   let k = d.versions i h in omega (arith, e, g, k);
             };
@@ -167,49 +175,49 @@ module _ {St : Type 0} (l : ProgramPlaces) (apart : AreApart l) (room : HaveRoom
   -- a commit's effects but the last
   abbrev pub commit_before : (ℕ → ℕ) → List Effect
   commit_before f =
-      copied_home (listed l.runtime f) f
-      ++ (emits_sent l.runtime f
-      ++ (Store l.runtime.words.current_task (f l.runtime.words.next_task) ∷ Store l.runtime.words.base
-      ((f l.runtime.words.sent_base + f l.runtime.words.emit_count) % 0x10000) ∷ []))
+      copied_home (listed l.map f) f
+      ++ (emits_sent l.map f
+      ++ (Store (word_place l.map CurrentTask) (f (word_place l.map NextTask)) ∷ Store (word_place l.map Base)
+      ((f (word_place l.map SentBase) + f (word_place l.map EmitCount)) % 0x10000) ∷ []))
 
-  pub commit_is : (f : ℕ → ℕ) → commit_effects l.runtime f ≡ commit_before f ++ Store l.runtime.words.gate 0 ∷ []
+  pub commit_is : (f : ℕ → ℕ) → commit_effects l.map f ≡ commit_before f ++ Store (word_place l.map Gate) 0 ∷ []
   commit_is f =
-      let a = copied_home (listed l.runtime f) f in let b = emits_sent l.runtime f in
-      let c : List Effect = Store l.runtime.words.current_task (f l.runtime.words.next_task) ∷ Store l.runtime.words.base
-      ((f l.runtime.words.sent_base + f l.runtime.words.emit_count) % 0x10000) ∷ [] in
-      let g : List Effect = Store l.runtime.words.gate 0 ∷ [] in
+      let a = copied_home (listed l.map f) f in let b = emits_sent l.map f in
+      let c : List Effect = Store (word_place l.map CurrentTask) (f (word_place l.map NextTask)) ∷ Store (word_place l.map Base)
+      ((f (word_place l.map SentBase) + f (word_place l.map EmitCount)) % 0x10000) ∷ [] in
+      let g : List Effect = Store (word_place l.map Gate) 0 ∷ [] in
       sym (append_assoc a (b ++ c) g ∙ ap (λ z. a ++ z) (append_assoc b c g))
 
   pub commit_takes : (f : ℕ → ℕ) → readings_taken (commit_before f) ≡ []
   commit_takes f =
-      let a = copied_home (listed l.runtime f) f in let b = emits_sent l.runtime f in
-      let c : List Effect = Store l.runtime.words.current_task (f l.runtime.words.next_task) ∷ Store l.runtime.words.base
-      ((f l.runtime.words.sent_base + f l.runtime.words.emit_count) % 0x10000) ∷ [] in
-      readings_taken-append a (b ++ c) ∙ ap (λ z. z ++ readings_taken (b ++ c)) (copied_takes (listed l.runtime f) f) ∙ readings_taken-append b c
-      ∙ ap (λ z. z ++ readings_taken c) (sends_take (f l.runtime.words.emit_count) (f l.runtime.words.sent_base) l.runtime.emits f)
+      let a = copied_home (listed l.map f) f in let b = emits_sent l.map f in
+      let c : List Effect = Store (word_place l.map CurrentTask) (f (word_place l.map NextTask)) ∷ Store (word_place l.map Base)
+      ((f (word_place l.map SentBase) + f (word_place l.map EmitCount)) % 0x10000) ∷ [] in
+      readings_taken-append a (b ++ c) ∙ ap (λ z. z ++ readings_taken (b ++ c)) (copied_takes (listed l.map f) f) ∙ readings_taken-append b c
+      ∙ ap (λ z. z ++ readings_taken c) (sends_take (f (word_place l.map EmitCount)) (f (word_place l.map SentBase)) l.map.emits.address f)
 
   -- where the commit of a decided world stores
   commit_stores_so : (P : ℕ → ℕ → Type 0) (x : World) → DecidedFrom l v s next x → ((a w : ℕ) → IsSharedWord l a → P a w)
-      → ((w : ℕ) → P l.runtime.words.current_task w) → ((w : ℕ) → P l.runtime.words.base w) → EachStore P (commit_before x.fram)
+      → ((w : ℕ) → P (word_place l.map CurrentTask) w) → ((w : ℕ) → P (word_place l.map Base) w) → EachStore P (commit_before x.fram)
   commit_stores_so P x d homes cur base =
       let f = x.fram in
-      each_store-append P (copied_home (listed l.runtime f) f) _ (copied_store P (listed l.runtime f) f (λ q w h. homes q.home w (d.decided.homes q h)))
-      (each_store-append P (emits_sent l.runtime f) _ (sends_store P (f l.runtime.words.emit_count) (f l.runtime.words.sent_base) l.runtime.emits f)
+      each_store-append P (copied_home (listed l.map f) f) _ (copied_store P (listed l.map f) f (λ q w h. homes q.home w (d.decided.homes q h)))
+      (each_store-append P (emits_sent l.map f) _ (sends_store P (f (word_place l.map EmitCount)) (f (word_place l.map SentBase)) l.map.emits.address f)
       (cur _, (base _, tt)))
 
-  pub commit_elsewhere : (x : World) → DecidedFrom l v s next x → EachStore (IsElsewhere l.runtime.words.gate) (commit_before x.fram)
-  commit_elsewhere x d = commit_stores_so (IsElsewhere l.runtime.words.gate) x d (λ a w h e. omega (arith, apart, h, e)) (λ w e. omega (arith, apart, e))
+  pub commit_elsewhere : (x : World) → DecidedFrom l v s next x → EachStore (IsElsewhere (word_place l.map Gate)) (commit_before x.fram)
+  commit_elsewhere x d = commit_stores_so (IsElsewhere (word_place l.map Gate)) x d (λ a w h e. omega (arith, apart, h, e)) (λ w e. omega (arith, apart, e))
       (λ w e. omega (arith, apart, e))
 
   -- the whole of it, with the store to GATE
   pub commit_stores_all : (P : ℕ → ℕ → Type 0) (x : World) → DecidedFrom l v s next x → ((a w : ℕ) → IsSharedWord l a → P a w)
-      → ((w : ℕ) → P l.runtime.words.current_task w) → ((w : ℕ) → P l.runtime.words.base w) → ((w : ℕ) → P l.runtime.words.gate w)
-      → EachStore P (commit_effects l.runtime x.fram)
+      → ((w : ℕ) → P (word_place l.map CurrentTask) w) → ((w : ℕ) → P (word_place l.map Base) w) → ((w : ℕ) → P (word_place l.map Gate) w)
+      → EachStore P (commit_effects l.map x.fram)
   commit_stores_all P x d homes cur base gate =
       subst (EachStore P) (sym (commit_is x.fram))
-      (each_store-append P (commit_before x.fram) (Store l.runtime.words.gate 0 ∷ []) (commit_stores_so P x d homes cur base) (gate 0, tt))
+      (each_store-append P (commit_before x.fram) (Store (word_place l.map Gate) 0 ∷ []) (commit_stores_so P x d homes cur base) (gate 0, tt))
 
-  pub commit_stores : (x : World) → DecidedFrom l v s next x → EachStore (IsCommitStore l) (commit_effects l.runtime x.fram)
+  pub commit_stores : (x : World) → DecidedFrom l v s next x → EachStore (IsCommitStore l) (commit_effects l.map x.fram)
   commit_stores x d =
       commit_stores_all (IsCommitStore l) x d (λ a w h. record { from = omega (arith, apart, h); below = omega (arith, h) })
       (λ w. record { from = omega arith; below = omega (arith, apart) }) (λ w. record { from = omega (arith, apart); below = omega (arith, apart) })
@@ -218,23 +226,24 @@ module _ {St : Type 0} (l : ProgramPlaces) (apart : AreApart l) (room : HaveRoom
   -- the whole commit
   pub record Committed (x : World) : Type 0 where
     pub through : HoldsThroughout (DecidedFrom l v s next) (commit_before x.fram) x
-    pub rests : RestsAt l v next (world_after_one (Store l.runtime.words.gate 0) (world_after (commit_before x.fram) x))
+    pub rests : RestsAt l v next (world_after_one (Store (word_place l.map Gate) 0) (world_after (commit_before x.fram) x))
 
   pub committed : (x : World) → DecidedFrom l v s next x → Committed x
   committed x dd =
       let d = dd.decided in
       let es = dd.emits in
       let f = x.fram in
-      let ps = listed l.runtime f in
+      let ps = listed l.map f in
       let a = copied_home ps f in
-      let b = emits_sent l.runtime f in
+      let b = emits_sent l.map f in
       let c = closed_before ps es f in
       let one = copies_through ps es ps x (λ q h. h) d (λ p h. inl h) in
       let y1 = world_after a x in
-      let len : 0 + f l.runtime.words.emit_count ≡ length es = let n = d.emit_count in omega (arith, n) in
-      let number : f l.runtime.words.sent_base ≡ (length (v.emitted s) + 0) % 0x10000 = d.sent_base ∙ ap (λ n. n % 0x10000) (omega arith) in
-      let place : l.runtime.emits ≡ l.runtime.emits + 2 * 0 = omega arith in
-      let two = sends_through ps es (f l.runtime.words.emit_count) 0 (f l.runtime.words.sent_base) l.runtime.emits f y1 len number place d.buffer one.1 in
+      let len : 0 + f (word_place l.map EmitCount) ≡ length es = let n = d.emit_count in omega (arith, n) in
+      let number : f (word_place l.map SentBase) ≡ (length (v.emitted s) + 0) % 0x10000 = d.sent_base ∙ ap (λ n. n % 0x10000) (omega arith) in
+      let place : l.map.emits.address ≡ l.map.emits.address + 2 * 0 = omega arith in
+      let two = sends_through ps es (f (word_place l.map EmitCount)) 0
+      (f (word_place l.map SentBase)) l.map.emits.address f y1 len number place d.buffer one.1 in
       let y2 = world_after b y1 in
       let shared : (p : ℕ) → IsSharedWord l p → y2.fram p ≡ v.word next p = λ p h. ap (λ g. g p) two.2 ∙ all_copied ps es y1 one.1 one.2 p h in
       let three = closes_through ps es f y2 (record {
@@ -246,19 +255,19 @@ module _ {St : Type 0} (l : ProgramPlaces) (apart : AreApart l) (room : HaveRoom
       let e : world_after (a ++ (b ++ c)) x ≡ world_after c y2 = world_after-append a (b ++ c) x ∙ world_after-append b c y1 in
       record {
         through = holds-append (DecidedFrom l v s next) a (b ++ c) x one.0 (holds-append (DecidedFrom l v s next) b c y1 two.0 three.0);
-        rests = subst (λ z. RestsAt l v next (world_after_one (Store l.runtime.words.gate 0) z)) (sym e) three.1;
+        rests = subst (λ z. RestsAt l v next (world_after_one (Store (word_place l.map Gate) 0) z)) (sym e) three.1;
       }
 
   -- what the commit's code needs
-  pub can_commit : (x : World) → DecidedFrom l v s next x → CanCommit l.runtime x.fram
+  pub can_commit : (x : World) → DecidedFrom l v s next x → CanCommit l.map x.fram
   can_commit x dd =
       let d = dd.decided in
       let count = d.emit_count in
-      let most = few_emits l apart room v s next (listed l.runtime x.fram) dd.emits 0 x d in
+      let most = few_emits l apart room v s next (listed l.map x.fram) dd.emits 0 x d in
       record {
-        list_length = few l apart room v s next (listed l.runtime x.fram) dd.emits 0 x d;
+        list_length = few l apart room v s next (listed l.map x.fram) dd.emits 0 x d;
         emit_count = omega (arith, count, most);
-        copies = all_among (IsCopied l.runtime) (listed l.runtime x.fram) (λ p h.
+        copies = all_among (IsCopied l.map) (listed l.map x.fram) (λ p h.
             let home = d.homes p h in let copy = d.copies p h in
             let even_home = home.even in let even_copy = copy.even in
             record {

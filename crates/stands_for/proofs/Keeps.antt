@@ -6,8 +6,11 @@ use Rattle.fram_board.specs.Effects.{Store, Send}
 use Rattle.machine_effects.specs.World.{World, put, world_after_one}
 use Rattle.machine_effects.proofs.Worlds.{put_same, put_other}
 use Rattle.runtime_effects.specs.Places.{CopyPair, entry_bytes, entries_from}
-use Rattle.stands_for.specs.Layout.{ProgramPlaces, StateView, IsSharedWord, IsAmong, AreApart, HaveRoom}
+use Rattle.stands_for.specs.Layout.{ProgramPlaces, StateView, IsSharedWord, IsAmong, HaveRoom}
 use Rattle.stands_for.specs.StandsFor.{HoldsWords, AcceptedFrom, DecidedWith}
+use Rattle.memory_map.specs.MemoryMap.{word_place}
+use Rattle.memory_map.specs.declared.words.RuntimeWord.TheVariants.{CurrentTask, NextTask, Gate, ListLength, EmitCount, Base, SentBase, Version}
+use Rattle.memory_map.specs.Laws.{AreApart}
 
 -- what was put, or what was there
 pub put_either : (f : ℕ → ℕ) (a w x : ℕ) → ((x ≡ a) × (put f a w x ≡ w)) ⊎ ((x ≡ a → ⊥) × (put f a w x ≡ f x))
@@ -31,39 +34,43 @@ entries_same (suc n) p f g h =
 same_number : (a j i : ℕ) → j ≤ 256 → i ≤ 256 → (a + i) % 0x10000 ≡ (a + j) % 0x10000 → i ≡ j
 same_number a j i hj hi e = omega arith
 
-module _ {St : Type 0} (l : ProgramPlaces) (apart : AreApart l) (room : HaveRoom l) (v : StateView St) (s next : St) (ps : List CopyPair) (es : List ℕ) where
+module _ {St : Type 0} (l : ProgramPlaces) (apart : AreApart l.map) (room : HaveRoom l) (v : StateView St) (s next : St) (ps : List CopyPair)
+    (es : List ℕ) where
   abbrev pub With : ℕ → World → Type 0
   With k x = DecidedWith l v s next ps es k x
 
   -- the list and the emitted words have room
-  pub few : (k : ℕ) (x : World) → With k x → x.fram l.runtime.words.list_length ≤ l.runtime.list_capacity
+  pub few : (k : ℕ) (x : World) → With k x → x.fram (word_place l.map ListLength) ≤ l.map.entries
   few k x d = let a = d.within_list in let b = room.list (v.task s) d.is_task in omega (arith, a, b)
 
-  pub few_emits : (k : ℕ) (x : World) → With k x → length es ≤ l.runtime.emit_capacity
+  pub few_emits : (k : ℕ) (x : World) → With k x → length es ≤ l.map.emits.words
   few_emits k x d = let a = d.within_emits in let b = room.emits (v.task s) d.is_task in omega (arith, a, b)
 
   -- a change that leaves all words but shared ones, CUR and BASE, and that sets these only to what the next state has
   pub keeps : (k k' : ℕ) (x y : World) → HoldsWords y.fram
-      → ((a : ℕ) → (IsSharedWord l a → ⊥) → (a ≡ l.runtime.words.current_task → ⊥) → (a ≡ l.runtime.words.base → ⊥) → y.fram a ≡ x.fram a)
-      → ((y.fram l.runtime.words.current_task ≡ x.fram l.runtime.words.current_task) ⊎ (y.fram l.runtime.words.current_task ≡ v.task next))
-      → ((y.fram l.runtime.words.base ≡ x.fram l.runtime.words.base) ⊎
-      (y.fram l.runtime.words.base ≡ (x.fram l.runtime.words.sent_base + x.fram l.runtime.words.emit_count) % 0x10000))
+      → ((a : ℕ) → (IsSharedWord l a → ⊥) → (a ≡ word_place l.map CurrentTask → ⊥) → (a ≡ word_place l.map Base → ⊥) → y.fram a ≡ x.fram a)
+      → ((y.fram (word_place l.map CurrentTask) ≡ x.fram (word_place l.map CurrentTask)) ⊎ (y.fram (word_place l.map CurrentTask) ≡ v.task next))
+      → ((y.fram (word_place l.map Base) ≡ x.fram (word_place l.map Base)) ⊎
+      (y.fram (word_place l.map Base) ≡ (x.fram (word_place l.map SentBase) + x.fram (word_place l.map EmitCount)) % 0x10000))
       → ((a : ℕ) → IsSharedWord l a → (y.fram a ≡ x.fram a) ⊎ (y.fram a ≡ v.word next a))
       → AcceptedFrom v s es k' y → With k x → With k' y
   keeps k k' x y ws same curs bases moves so d =
-      let m = l.runtime in
-      let w = l.runtime.words in
-      let cln : y.fram w.list_length ≡ x.fram w.list_length = same w.list_length (λ h. omega (arith, apart, h)) (λ e. omega (arith, apart, e))
+      let m = l.map in
+      let cln : y.fram (word_place m ListLength) ≡ x.fram (word_place m ListLength) =
+      same (word_place m ListLength) (λ h. omega (arith, apart, h)) (λ e. omega (arith, apart, e))
       (λ e. omega (arith, apart, e)) in
-      let en : y.fram w.emit_count ≡ x.fram w.emit_count = same w.emit_count (λ h. omega (arith, apart, h)) (λ e. omega (arith, apart, e))
+      let en : y.fram (word_place m EmitCount) ≡ x.fram (word_place m EmitCount) =
+      same (word_place m EmitCount) (λ h. omega (arith, apart, h)) (λ e. omega (arith, apart, e))
       (λ e. omega (arith, apart, e)) in
-      let sb : y.fram w.sent_base ≡ x.fram w.sent_base = same w.sent_base (λ h. omega (arith, apart, h)) (λ e. omega (arith, apart, e))
+      let sb : y.fram (word_place m SentBase) ≡ x.fram (word_place m SentBase) =
+      same (word_place m SentBase) (λ h. omega (arith, apart, h)) (λ e. omega (arith, apart, e))
       (λ e. omega (arith, apart, e)) in
-      let ver : y.fram w.version ≡ x.fram w.version = same w.version (λ h. omega (arith, apart, h)) (λ e. omega (arith, apart, e))
+      let ver : y.fram (word_place m Version) ≡ x.fram (word_place m Version) =
+      same (word_place m Version) (λ h. omega (arith, apart, h)) (λ e. omega (arith, apart, e))
       (λ e. omega (arith, apart, e)) in
       let small = few k x d in
       let small_emits = few_emits k x d in
-      let list : (a : ℕ) → m.list ≤ a → a < m.list + entry_bytes * x.fram w.list_length
+      let list : (a : ℕ) → m.list.address ≤ a → a < m.list.address + entry_bytes * x.fram (word_place m ListLength)
       → y.fram a ≡ x.fram a = λ a lo hi. same a (λ h. omega (arith, apart, h, small, hi)) (λ e. omega (arith, apart, e, lo))
       (λ e. omega (arith, apart, e, lo)) in
       record {
@@ -72,9 +79,10 @@ module _ {St : Type 0} (l : ProgramPlaces) (apart : AreApart l) (room : HaveRoom
         is_task = d.is_task;
         next_is_task = d.next_is_task;
         words = ws;
-        gate = same w.gate (λ h. omega (arith, apart, h)) (λ e. omega (arith, apart, e)) (λ e. omega (arith, apart, e)) ∙ d.gate;
-        next_task = same w.next_task (λ h. omega (arith, apart, h)) (λ e. omega (arith, apart, e)) (λ e. omega (arith, apart, e)) ∙ d.next_task;
-        pairs_listed = ap (λ n. entries_from n m.list y.fram) cln ∙ entries_same (x.fram w.list_length) m.list x.fram y.fram list ∙ d.pairs_listed;
+        gate = same (word_place m Gate) (λ h. omega (arith, apart, h)) (λ e. omega (arith, apart, e)) (λ e. omega (arith, apart, e)) ∙ d.gate;
+        next_task = same (word_place m NextTask) (λ h. omega (arith, apart, h)) (λ e. omega (arith, apart, e)) (λ e. omega (arith, apart, e)) ∙ d.next_task;
+        pairs_listed = ap (λ n. entries_from n m.list.address y.fram) cln ∙ entries_same (x.fram (word_place m ListLength)) m.list.address x.fram y.fram list
+            ∙ d.pairs_listed;
         within_list = subst (λ n. n ≤ l.list_capacity (v.task s)) (sym cln) d.within_list;
         homes = d.homes;
         copies = d.copies;
@@ -86,23 +94,25 @@ module _ {St : Type 0} (l : ProgramPlaces) (apart : AreApart l) (room : HaveRoom
         emitted = d.emitted;
         emit_count = en ∙ d.emit_count;
         within_emits = d.within_emits;
-        buffer = λ i h. same (m.emits + 2 * i) (λ q. omega (arith, apart, q, h, small_emits)) (λ e. omega (arith, apart, e)) (λ e. omega (arith, apart, e))
+        buffer = λ i h. same (m.emits.address + 2 * i) (λ q. omega (arith, apart, q, h, small_emits)) (λ e. omega (arith, apart, e))
+            (λ e. omega (arith, apart, e))
             ∙ d.buffer i h;
         sent_base = sb ∙ d.sent_base;
         base = ⊎_elim (λ e. ⊎_elim (λ o. inl (e ∙ o ∙ sym sb)) (λ o. inr (e ∙ o ∙ ap₂ (λ a b. (a + b) % 0x10000) (sym sb) (sym en))) d.base)
             (λ e. inr (e ∙ ap₂ (λ a b. (a + b) % 0x10000) (sym sb) (sym en))) bases;
         accepted = so;
-        versions = λ i h. let c = d.versions i h in let e : y.fram (m.versions + 2 * i) ≡ x.fram (m.versions + 2 * i) = same (m.versions + 2 * i)
+        versions = λ i h. let c = d.versions i h in let e : y.fram (m.versions.address + 2 * i) ≡ x.fram (m.versions.address + 2 * i) =
+            same (m.versions.address + 2 * i)
             (λ q. omega (arith, apart, q, h)) (λ e. omega (arith, apart, e)) (λ e. omega (arith, apart, e)) in omega (arith, c, e, ver);
       }
 
   not_shared : (a b : ℕ) → IsSharedWord l a → (IsSharedWord l b → ⊥) → b ≡ a → ⊥
   not_shared a b h n e = n (subst (IsSharedWord l) (sym e) h)
 
-  cur_apart : IsSharedWord l l.runtime.words.current_task → ⊥
+  cur_apart : IsSharedWord l (word_place l.map CurrentTask) → ⊥
   cur_apart h = omega (arith, apart, h)
 
-  base_apart : IsSharedWord l l.runtime.words.base → ⊥
+  base_apart : IsSharedWord l (word_place l.map Base) → ⊥
   base_apart h = omega (arith, apart, h)
 
   -- a word is copied home
@@ -111,30 +121,30 @@ module _ {St : Type 0} (l : ProgramPlaces) (apart : AreApart l) (room : HaveRoom
       let f = x.fram in let a = p.home in let w = f p.copy in
       keeps k k x (world_after_one (Store a w) x) (put_words f a w d.words (d.words p.copy))
       (λ b n c e. put_other f a w b (not_shared a b (d.homes p h) n))
-      (inl (put_other f a w l.runtime.words.current_task (not_shared a l.runtime.words.current_task (d.homes p h) cur_apart)))
-      (inl (put_other f a w l.runtime.words.base (not_shared a l.runtime.words.base (d.homes p h) base_apart)))
+      (inl (put_other f a w (word_place l.map CurrentTask) (not_shared a (word_place l.map CurrentTask) (d.homes p h) cur_apart)))
+      (inl (put_other f a w (word_place l.map Base) (not_shared a (word_place l.map Base) (d.homes p h) base_apart)))
       (λ b sh. ⊎_elim (λ q. inr (q.1 ∙ d.copied p h ∙ ap (v.word next) (sym q.0))) (λ q. inl q.1) (put_either f a w b))
       (record { count = d.accepted.count; at_least = d.accepted.at_least; at_most = d.accepted.at_most; is = d.accepted.is }) d
 
   -- CUR becomes the next task
-  pub cur_keeps : (k : ℕ) (x : World) (w : ℕ) → w < 0x10000 → w ≡ v.task next → With k x → With k (world_after_one (Store l.runtime.words.current_task w) x)
+  pub cur_keeps : (k : ℕ) (x : World) (w : ℕ) → w < 0x10000 → w ≡ v.task next → With k x → With k (world_after_one (Store (word_place l.map CurrentTask) w) x)
   cur_keeps k x w small e0 d =
-      let f = x.fram in let a = l.runtime.words.current_task in
+      let f = x.fram in let a = word_place l.map CurrentTask in
       keeps k k x (world_after_one (Store a w) x) (put_words f a w d.words small)
       (λ b n c e. put_other f a w b c)
       (inr (put_same f a w ∙ e0))
-      (inl (put_other f a w l.runtime.words.base (λ e. omega (arith, apart, e))))
+      (inl (put_other f a w (word_place l.map Base) (λ e. omega (arith, apart, e))))
       (λ b sh. inl (put_other f a w b (λ e. cur_apart (subst (IsSharedWord l) e sh))))
       (record { count = d.accepted.count; at_least = d.accepted.at_least; at_most = d.accepted.at_most; is = d.accepted.is }) d
 
   -- BASE becomes SB and EN
-  pub base_keeps : (k : ℕ) (x : World) (w : ℕ) → w < 0x10000 → w ≡ (x.fram l.runtime.words.sent_base + x.fram l.runtime.words.emit_count) % 0x10000
-      → With k x → With k (world_after_one (Store l.runtime.words.base w) x)
+  pub base_keeps : (k : ℕ) (x : World) (w : ℕ) → w < 0x10000 → w ≡ (x.fram (word_place l.map SentBase) + x.fram (word_place l.map EmitCount)) % 0x10000
+      → With k x → With k (world_after_one (Store (word_place l.map Base) w) x)
   base_keeps k x w small e0 d =
-      let f = x.fram in let a = l.runtime.words.base in
+      let f = x.fram in let a = word_place l.map Base in
       keeps k k x (world_after_one (Store a w) x) (put_words f a w d.words small)
       (λ b n c e. put_other f a w b e)
-      (inl (put_other f a w l.runtime.words.current_task (λ e. omega (arith, apart, e))))
+      (inl (put_other f a w (word_place l.map CurrentTask) (λ e. omega (arith, apart, e))))
       (inr (put_same f a w ∙ e0))
       (λ b sh. inl (put_other f a w b (λ e. base_apart (subst (IsSharedWord l) e sh))))
       (record { count = d.accepted.count; at_least = d.accepted.at_least; at_most = d.accepted.at_most; is = d.accepted.is }) d

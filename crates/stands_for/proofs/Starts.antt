@@ -8,10 +8,13 @@ use Rattle.runtime_effects.specs.Places.{CopyPair}
 use Rattle.runtime_effects.specs.Stages.{cleared, opening_effects, copied_in, start_effects}
 use Rattle.crash_rules.specs.Model.{HoldsThroughout, IsElsewhere}
 use Rattle.crash_rules.proofs.Lists.{world_fram, holds-append}
-use Rattle.stands_for.specs.Layout.{ProgramPlaces, StateView, IsSharedWord, IsCopyWord, IsAmong, AreApart, ArePrivate}
+use Rattle.stands_for.specs.Layout.{ProgramPlaces, StateView, IsSharedWord, IsCopyWord, IsAmong, ArePrivate}
 use Rattle.stands_for.specs.StandsFor.{VersionsWithin, UndecidedAt, StartedAt}
 use Rattle.stands_for.specs.Program.{IsStartStore, StartContract}
 use Rattle.stands_for.proofs.Keeps.{put_either, put_words}
+use Rattle.memory_map.specs.MemoryMap.{word_place}
+use Rattle.memory_map.specs.declared.words.RuntimeWord.TheVariants.{CurrentTask, Gate, ListLength, EmitCount, Base, Version}
+use Rattle.memory_map.specs.Laws.{AreApart}
 
 -- a weaker fact of each store
 pub each_weaker : (P Q : ℕ → ℕ → Type 0) → ((a w : ℕ) → P a w → Q a w) → (es : List Effect) → EachStore P es → EachStore Q es
@@ -35,11 +38,11 @@ copied_in_takes : (ps : List CopyPair) (f : ℕ → ℕ) → readings_taken (cop
 copied_in_takes [] f = refl
 copied_in_takes (p ∷ ps) f = copied_in_takes ps (put f p.copy (f p.home))
 
-module _ {St : Type 0} (l : ProgramPlaces) (apart : AreApart l) (v : StateView St) where
+module _ {St : Type 0} (l : ProgramPlaces) (apart : AreApart l.map) (v : StateView St) where
   module _ (s : St) where
     -- a store to none of the words that an undecided world speaks of, but for VER and the version words
-    store_keeps : (x : World) (a w : ℕ) → w < 0x10000 → (IsSharedWord l a → ⊥) → (a ≡ l.runtime.words.current_task → ⊥) → (a ≡ l.runtime.words.gate → ⊥)
-        → (a ≡ l.runtime.words.base → ⊥)
+    store_keeps : (x : World) (a w : ℕ) → w < 0x10000 → (IsSharedWord l a → ⊥) → (a ≡ word_place l.map CurrentTask → ⊥) → (a ≡ word_place l.map Gate → ⊥)
+        → (a ≡ word_place l.map Base → ⊥)
         → VersionsWithin l (put x.fram a w) → UndecidedAt l v s x → UndecidedAt l v s (world_after_one (Store a w) x)
     store_keeps x a w small sh c g b versions u =
         record {
@@ -47,86 +50,94 @@ module _ {St : Type 0} (l : ProgramPlaces) (apart : AreApart l) (v : StateView S
             is_state = u.is_open.is_state;
             is_task = u.is_open.is_task;
             words = put_words x.fram a w u.is_open.words small;
-            current_task = put_other x.fram a w l.runtime.words.current_task (λ q. c (sym q)) ∙ u.is_open.current_task;
-            gate = put_other x.fram a w l.runtime.words.gate (λ q. g (sym q)) ∙ u.is_open.gate;
+            current_task = put_other x.fram a w (word_place l.map CurrentTask) (λ q. c (sym q)) ∙ u.is_open.current_task;
+            gate = put_other x.fram a w (word_place l.map Gate) (λ q. g (sym q)) ∙ u.is_open.gate;
             accepted = u.is_open.accepted;
-            base = put_other x.fram a w l.runtime.words.base (λ q. b (sym q)) ∙ u.is_open.base;
+            base = put_other x.fram a w (word_place l.map Base) (λ q. b (sym q)) ∙ u.is_open.base;
             versions = versions;
           };
           shared = λ y h. ⊎_elim (λ f. inl f) (λ e. inr (put_other x.fram a w y (λ q. sh (subst (IsSharedWord l) q h)) ∙ e)) (u.shared y h);
         }
 
     -- a store elsewhere
-    scratch : (x : World) (a w : ℕ) → w < 0x10000 → (IsSharedWord l a → ⊥) → (a ≡ l.runtime.words.current_task → ⊥) → (a ≡ l.runtime.words.gate → ⊥)
-        → (a ≡ l.runtime.words.base → ⊥) → (a ≡ l.runtime.words.version → ⊥) → ((i : ℕ) → i < l.runtime.version_count → a ≡ l.runtime.versions + 2 * i → ⊥)
+    scratch : (x : World) (a w : ℕ) → w < 0x10000 → (IsSharedWord l a → ⊥) → (a ≡ word_place l.map CurrentTask → ⊥) → (a ≡ word_place l.map Gate → ⊥)
+        → (a ≡ word_place l.map Base → ⊥) → (a ≡ word_place l.map Version → ⊥) → ((i : ℕ) → i < l.map.versions.words → a ≡ l.map.versions.address + 2 * i → ⊥)
         → UndecidedAt l v s x → UndecidedAt l v s (world_after_one (Store a w) x)
     scratch x a w small sh c g b ver vs u =
         store_keeps x a w small sh c g b
-        (λ i h. let k = u.is_open.versions i h in let e = put_other x.fram a w (l.runtime.versions + 2 * i)
-        (λ q. vs i h (sym q)) in let f = put_other x.fram a w l.runtime.words.version (λ q. ver (sym q)) in omega (arith, e, f, k)) u
+        (λ i h. let k = u.is_open.versions i h in let e = put_other x.fram a w (l.map.versions.address + 2 * i)
+        (λ q. vs i h (sym q)) in let f = put_other x.fram a w (word_place l.map Version) (λ q. ver (sym q)) in omega (arith, e, f, k)) u
 
     -- the first j version words are 0
     abbrev AreZero : ℕ → World → Type 0
-    AreZero j x = (i : ℕ) → i < j → x.fram (l.runtime.versions + 2 * i) ≡ 0
+    AreZero j x = (i : ℕ) → i < j → x.fram (l.map.versions.address + 2 * i) ≡ 0
 
-    clear_through : (n j : ℕ) (x : World) → j + n ≡ l.runtime.version_count → UndecidedAt l v s x → AreZero j x →
-        HoldsThroughout (UndecidedAt l v s) (cleared n (l.runtime.versions + 2 * j)) x
-        × UndecidedAt l v s (world_after (cleared n (l.runtime.versions + 2 * j)) x)
-        × AreZero l.runtime.version_count (world_after (cleared n (l.runtime.versions + 2 * j)) x)
+    clear_through : (n j : ℕ) (x : World) → j + n ≡ l.map.versions.words → UndecidedAt l v s x → AreZero j x →
+        HoldsThroughout (UndecidedAt l v s) (cleared n (l.map.versions.address + 2 * j)) x
+        × UndecidedAt l v s (world_after (cleared n (l.map.versions.address + 2 * j)) x)
+        × AreZero l.map.versions.words (world_after (cleared n (l.map.versions.address + 2 * j)) x)
     clear_through zero j x e u z = (u, u, λ i h. z i (omega (arith, e, h)))
     clear_through (suc n) j x e u z =
-        let a = l.runtime.versions + 2 * j in
+        let a = l.map.versions.address + 2 * j in
         let y = world_after_one (Store a 0) x in
-        let ver : put x.fram a 0 l.runtime.words.version ≡ x.fram l.runtime.words.version = put_other x.fram a 0 l.runtime.words.version
+        let ver : put x.fram a 0 (word_place l.map Version) ≡ x.fram (word_place l.map Version) = put_other x.fram a 0 (word_place l.map Version)
         (λ q. omega (arith, apart, q)) in
         let u2 : UndecidedAt l v s y =
         store_keeps x a 0 (omega arith) (λ h. omega (arith, apart, h, e)) (λ q. omega (arith, apart, q)) (λ q. omega (arith, apart, q))
         (λ q. omega (arith, apart, q))
-        (λ i h. ⊎_elim {C = put x.fram a 0 (l.runtime.versions + 2 * i) ≤ put x.fram a 0 l.runtime.words.version} (λ p. let p1 = p.1 in omega (arith, p1))
-        (λ p. let p1 = p.1 in let k = u.is_open.versions i h in omega (arith, p1, ver, k)) (put_either x.fram a 0 (l.runtime.versions + 2 * i))) u in
-        let z2 : AreZero (suc j) y = λ i h. ⊎_elim {C = put x.fram a 0 (l.runtime.versions + 2 * i) ≡ 0} (λ p. p.1)
-        (λ p. p.1 ∙ z i (let ne = p.0 in ⊎_elim {C = i < j} (λ q. absurd (ne (ap (λ k. l.runtime.versions + 2 * k) q))) (λ q. omega (arith, h, q))
-        (cases_eq i j))) (put_either x.fram a 0 (l.runtime.versions + 2 * i)) in
-        let n2 : l.runtime.versions + 2 * suc j ≡ l.runtime.versions + 2 * j + 2 = omega arith in
+        (λ i h. ⊎_elim {C = put x.fram a 0 (l.map.versions.address + 2 * i) ≤ put x.fram a 0 (word_place l.map Version)}
+        (λ p. let p1 = p.1 in omega (arith, p1))
+        (λ p. let p1 = p.1 in let k = u.is_open.versions i h in omega (arith, p1, ver, k)) (put_either x.fram a 0 (l.map.versions.address + 2 * i))) u in
+        let z2 : AreZero (suc j) y = λ i h. ⊎_elim {C = put x.fram a 0 (l.map.versions.address + 2 * i) ≡ 0} (λ p. p.1)
+        (λ p. p.1 ∙ z i (let ne = p.0 in ⊎_elim {C = i < j} (λ q. absurd (ne (ap (λ k. l.map.versions.address + 2 * k) q))) (λ q. omega (arith, h, q))
+        (cases_eq i j))) (put_either x.fram a 0 (l.map.versions.address + 2 * i)) in
+        let n2 : l.map.versions.address + 2 * suc j ≡ l.map.versions.address + 2 * j + 2 = omega arith in
         let r = clear_through n (suc j) y (omega (arith, e)) u2 z2 in
         let r2 = subst (λ p. HoldsThroughout (UndecidedAt l v s) (cleared n p) y × UndecidedAt l v s (world_after (cleared n p) y)
-        × AreZero l.runtime.version_count (world_after (cleared n p) y)) n2 r in
+        × AreZero l.map.versions.words (world_after (cleared n p) y)) n2 r in
         ((u, r2.0), r2.1, r2.2)
 
     -- VER, CLN and EN, once the version words are cleared
     record Opened (x : World) : Type 0 where
       undecided : UndecidedAt l v s x
-      list_length : x.fram l.runtime.words.list_length ≡ 0
-      emit_count : x.fram l.runtime.words.emit_count ≡ 0
-      versions : (i : ℕ) → i < l.runtime.version_count → x.fram (l.runtime.versions + 2 * i) < x.fram l.runtime.words.version
+      list_length : x.fram (word_place l.map ListLength) ≡ 0
+      emit_count : x.fram (word_place l.map EmitCount) ≡ 0
+      versions : (i : ℕ) → i < l.map.versions.words → x.fram (l.map.versions.address + 2 * i) < x.fram (word_place l.map Version)
 
     abbrev three : List Effect
-    three = Store l.runtime.words.version 1 ∷ Store l.runtime.words.list_length 0 ∷ Store l.runtime.words.emit_count 0 ∷ []
+    three = Store (word_place l.map Version) 1 ∷ Store (word_place l.map ListLength) 0 ∷ Store (word_place l.map EmitCount) 0 ∷ []
 
-    three_through : (x : World) → UndecidedAt l v s x → AreZero l.runtime.version_count x
+    three_through : (x : World) → UndecidedAt l v s x → AreZero l.map.versions.words x
         → HoldsThroughout (UndecidedAt l v s) three x × Opened (world_after three x)
     three_through x u z =
-        let m = l.runtime in let w = l.runtime.words in
-        let x1 = world_after_one (Store w.version 1) x in let x2 = world_after_one (Store w.list_length 0) x1 in
-        let x3 = world_after_one (Store w.emit_count 0) x2 in
-        let v1 : x1.fram w.version ≡ 1 = put_same x.fram w.version 1 in
-        let z1 : (i : ℕ) → i < m.version_count → x1.fram (m.versions + 2 * i) ≡ 0 = λ i h. put_other x.fram w.version 1 (m.versions + 2 * i)
+        let m = l.map in
+        let x1 = world_after_one (Store (word_place m Version) 1) x in let x2 = world_after_one (Store (word_place m ListLength) 0) x1 in
+        let x3 = world_after_one (Store (word_place m EmitCount) 0) x2 in
+        let v1 : x1.fram (word_place m Version) ≡ 1 = put_same x.fram (word_place m Version) 1 in
+        let z1 : (i : ℕ) → i < m.versions.words → x1.fram (m.versions.address + 2 * i) ≡ 0 =
+        λ i h. put_other x.fram (word_place m Version) 1 (m.versions.address + 2 * i)
         (λ q. omega (arith, apart, q)) ∙ z i h in
-        let u1 = store_keeps x w.version 1 (omega arith) (λ h. omega (arith, apart, h)) (λ q. omega (arith, apart, q)) (λ q. omega (arith, apart, q))
+        let u1 = store_keeps x (word_place m Version) 1 (omega arith) (λ h. omega (arith, apart, h)) (λ q. omega (arith, apart, q))
+        (λ q. omega (arith, apart, q))
         (λ q. omega (arith, apart, q)) (λ i h. let k = z1 i h in omega (arith, k, v1)) u in
-        let u2 = scratch x1 w.list_length 0 (omega arith) (λ h. omega (arith, apart, h)) (λ q. omega (arith, apart, q)) (λ q. omega (arith, apart, q))
+        let u2 = scratch x1 (word_place m ListLength) 0 (omega arith) (λ h. omega (arith, apart, h)) (λ q. omega (arith, apart, q))
+        (λ q. omega (arith, apart, q))
         (λ q. omega (arith, apart, q)) (λ q. omega (arith, apart, q)) (λ i h q. omega (arith, apart, q)) u1 in
-        let u3 = scratch x2 w.emit_count 0 (omega arith) (λ h. omega (arith, apart, h)) (λ q. omega (arith, apart, q)) (λ q. omega (arith, apart, q))
+        let u3 = scratch x2 (word_place m EmitCount) 0 (omega arith) (λ h. omega (arith, apart, h)) (λ q. omega (arith, apart, q))
+        (λ q. omega (arith, apart, q))
         (λ q. omega (arith, apart, q)) (λ q. omega (arith, apart, q)) (λ i h q. omega (arith, apart, q)) u2 in
-        let same : (a : ℕ) → (a ≡ w.list_length → ⊥) → (a ≡ w.emit_count → ⊥) → x3.fram a ≡ x1.fram a = λ a p q. put_other x2.fram w.emit_count 0 a q
-        ∙ put_other x1.fram w.list_length 0 a p in
-        let v3 : x3.fram w.version ≡ 1 = same w.version (λ q. omega (arith, apart, q)) (λ q. omega (arith, apart, q)) ∙ v1 in (
+        let same : (a : ℕ) → (a ≡ word_place m ListLength → ⊥) → (a ≡ word_place m EmitCount → ⊥) → x3.fram a ≡ x1.fram a =
+        λ a p q. put_other x2.fram (word_place m EmitCount) 0 a q
+        ∙ put_other x1.fram (word_place m ListLength) 0 a p in
+        let v3 : x3.fram (word_place m Version) ≡ 1 = same (word_place m Version) (λ q. omega (arith, apart, q)) (λ q. omega (arith, apart, q)) ∙ v1 in (
           (u, (u1, (u2, u3))),
           record {
             undecided = u3;
-            list_length = put_other x2.fram w.emit_count 0 w.list_length (λ q. omega (arith, apart, q)) ∙ put_same x1.fram w.list_length 0;
-            emit_count = put_same x2.fram w.emit_count 0;
-            versions = λ i h. let k = same (m.versions + 2 * i) (λ q. omega (arith, apart, q)) (λ q. omega (arith, apart, q)) ∙ z1 i h in omega (arith, k, v3);
+            list_length = put_other x2.fram (word_place m EmitCount) 0 (word_place m ListLength) (λ q. omega (arith, apart, q))
+                ∙ put_same x1.fram (word_place m ListLength) 0;
+            emit_count = put_same x2.fram (word_place m EmitCount) 0;
+            versions = λ i h. let k = same (m.versions.address + 2 * i) (λ q. omega (arith, apart, q)) (λ q. omega (arith, apart, q))
+                ∙ z1 i h in omega (arith, k, v3);
           },
         )
 
@@ -137,7 +148,7 @@ module _ {St : Type 0} (l : ProgramPlaces) (apart : AreApart l) (v : StateView S
         × ((a : ℕ) → ((p : CopyPair) → IsAmong ps p → a ≡ p.copy → ⊥) → (world_after (copied_in ps x.fram) x).fram a ≡ x.fram a)
     copied_through [] x laid o = (o.undecided, o, (λ p h. elim h [ ]), λ a n. refl)
     copied_through (p ∷ ps) x laid o =
-        let m = l.runtime in let ws = l.runtime.words in
+        let m = l.map in
         let a = p.copy in let w = x.fram p.home in
         let home = laid.0 in let fixed = laid.1 in let place = laid.2 in
         let y = world_after_one (Store a w) x in
@@ -147,10 +158,10 @@ module _ {St : Type 0} (l : ProgramPlaces) (apart : AreApart l) (v : StateView S
         (λ i h q. omega (arith, apart, q, h, place)) o.undecided in
         let o2 : Opened y = record {
           undecided = u2;
-          list_length = put_other x.fram a w ws.list_length (λ q. omega (arith, apart, q, place)) ∙ o.list_length;
-          emit_count = put_other x.fram a w ws.emit_count (λ q. omega (arith, apart, q, place)) ∙ o.emit_count;
-          versions = λ i h. let k = o.versions i h in let e = put_other x.fram a w (m.versions + 2 * i)
-              (λ q. omega (arith, apart, q, h, place)) in let f = put_other x.fram a w ws.version (λ q. omega (arith, apart, q, place)) in omega (
+          list_length = put_other x.fram a w (word_place m ListLength) (λ q. omega (arith, apart, q, place)) ∙ o.list_length;
+          emit_count = put_other x.fram a w (word_place m EmitCount) (λ q. omega (arith, apart, q, place)) ∙ o.emit_count;
+          versions = λ i h. let k = o.versions i h in let e = put_other x.fram a w (m.versions.address + 2 * i)
+              (λ q. omega (arith, apart, q, h, place)) in let f = put_other x.fram a w (word_place m Version) (λ q. omega (arith, apart, q, place)) in omega (
                 arith,
                 k,
                 e,
@@ -168,7 +179,7 @@ module _ {St : Type 0} (l : ProgramPlaces) (apart : AreApart l) (v : StateView S
 
     -- the start with these private scalars
     abbrev start_with : List CopyPair → (ℕ → ℕ) → List Effect
-    start_with ps f = opening_effects l.runtime f ++ copied_in ps (fram_after (opening_effects l.runtime f) f)
+    start_with ps f = opening_effects l.map f ++ copied_in ps (fram_after (opening_effects l.map f) f)
 
     record Starts (ps : List CopyPair) (x : World) : Type 0 where
       through : HoldsThroughout (UndecidedAt l v s) (start_with ps x.fram) x
@@ -176,13 +187,13 @@ module _ {St : Type 0} (l : ProgramPlaces) (apart : AreApart l) (v : StateView S
 
     starts : (ps : List CopyPair) (x : World) → ArePrivate l (v.task s) ps → UndecidedAt l v s x → Starts ps x
     starts ps x laid u =
-        let m = l.runtime in
+        let m = l.map in
         let op = opening_effects m x.fram in
-        let c = cleared m.version_count m.versions in
-        let e0 : m.versions + 2 * 0 ≡ m.versions = omega arith in
-        let a0 = clear_through m.version_count 0 x (omega arith) u (λ i h. absurd (omega (arith, h))) in
-        let a = subst (λ p. HoldsThroughout (UndecidedAt l v s) (cleared m.version_count p) x
-        × UndecidedAt l v s (world_after (cleared m.version_count p) x) × AreZero m.version_count (world_after (cleared m.version_count p) x)) e0 a0 in
+        let c = cleared m.versions.words m.versions.address in
+        let e0 : m.versions.address + 2 * 0 ≡ m.versions.address = omega arith in
+        let a0 = clear_through m.versions.words 0 x (omega arith) u (λ i h. absurd (omega (arith, h))) in
+        let a = subst (λ p. HoldsThroughout (UndecidedAt l v s) (cleared m.versions.words p) x
+        × UndecidedAt l v s (world_after (cleared m.versions.words p) x) × AreZero m.versions.words (world_after (cleared m.versions.words p) x)) e0 a0 in
         let x1 = world_after c x in
         let b = three_through x1 a.1 a.2 in
         let x2 = world_after three x1 in
@@ -206,68 +217,68 @@ module _ {St : Type 0} (l : ProgramPlaces) (apart : AreApart l) (v : StateView S
         }
 
   -- where a start stores: 0 to the version words, 1 to VER, 0 to CLN and EN, and to copies
-  module _ (P : ℕ → ℕ → Type 0) (version_words : (i : ℕ) → i < l.runtime.version_count → P (l.runtime.versions + 2 * i) 0)
-      (version : P l.runtime.words.version 1) (list_length : P l.runtime.words.list_length 0) (emit_count : P l.runtime.words.emit_count 0)
+  module _ (P : ℕ → ℕ → Type 0) (version_words : (i : ℕ) → i < l.map.versions.words → P (l.map.versions.address + 2 * i) 0)
+      (version : P (word_place l.map Version) 1) (list_length : P (word_place l.map ListLength) 0) (emit_count : P (word_place l.map EmitCount) 0)
       (copies : (a w : ℕ) → IsCopyWord l a → P a w) where
-    cleared_so : (n j : ℕ) → j + n ≡ l.runtime.version_count → EachStore P (cleared n (l.runtime.versions + 2 * j))
+    cleared_so : (n j : ℕ) → j + n ≡ l.map.versions.words → EachStore P (cleared n (l.map.versions.address + 2 * j))
     cleared_so zero j e = tt
     cleared_so (suc n) j e =
-        let next : l.runtime.versions + 2 * suc j ≡ l.runtime.versions + 2 * j + 2 = omega arith in
+        let next : l.map.versions.address + 2 * suc j ≡ l.map.versions.address + 2 * j + 2 = omega arith in
         (version_words j (omega (arith, e)), subst (λ p. EachStore P (cleared n p)) next (cleared_so n (suc j) (omega (arith, e))))
 
     copied_in_so : (t : ℕ) (ps : List CopyPair) (f : ℕ → ℕ) → ArePrivate l t ps → EachStore P (copied_in ps f)
     copied_in_so t [] f h = tt
     copied_in_so t (p ∷ ps) f h = (copies p.copy (f p.home) h.2, copied_in_so t ps (put f p.copy (f p.home)) h.4)
 
-    opening_so : (f : ℕ → ℕ) → EachStore P (opening_effects l.runtime f)
+    opening_so : (f : ℕ → ℕ) → EachStore P (opening_effects l.map f)
     opening_so f =
-        let first : l.runtime.versions + 2 * 0 ≡ l.runtime.versions = omega arith in
-        each_store-append P (cleared l.runtime.version_count l.runtime.versions) _
-        (subst (λ p. EachStore P (cleared l.runtime.version_count p)) first (cleared_so l.runtime.version_count 0 (omega arith)))
+        let first : l.map.versions.address + 2 * 0 ≡ l.map.versions.address = omega arith in
+        each_store-append P (cleared l.map.versions.words l.map.versions.address) _
+        (subst (λ p. EachStore P (cleared l.map.versions.words p)) first (cleared_so l.map.versions.words 0 (omega arith)))
         (version, (list_length, (emit_count, tt)))
 
     -- each store of a start is of this kind
     pub start_stores_so : (privates : ℕ → List CopyPair) → ((t : ℕ) → ArePrivate l t (privates t)) → (f : ℕ → ℕ)
-        → EachStore P (start_effects l.runtime privates f)
+        → EachStore P (start_effects l.map privates f)
     start_stores_so privates laid f =
-        each_store-append P (opening_effects l.runtime f) _ (opening_so f)
-        (copied_in_so (f l.runtime.words.current_task) (privates (f l.runtime.words.current_task)) (fram_after (opening_effects l.runtime f) f)
-        (laid (f l.runtime.words.current_task)))
+        each_store-append P (opening_effects l.map f) _ (opening_so f)
+        (copied_in_so (f (word_place l.map CurrentTask)) (privates (f (word_place l.map CurrentTask))) (fram_after (opening_effects l.map f) f)
+        (laid (f (word_place l.map CurrentTask))))
 
-  pub start_elsewhere : (es : List Effect) → EachStore (IsStartStore l) es → EachStore (IsElsewhere l.runtime.words.current_task) es
-  start_elsewhere es h = each_weaker (IsStartStore l) (IsElsewhere l.runtime.words.current_task) (λ a w k e. omega (arith, apart, k, e)) es h
+  pub start_elsewhere : (es : List Effect) → EachStore (IsStartStore l) es → EachStore (IsElsewhere (word_place l.map CurrentTask)) es
+  start_elsewhere es h = each_weaker (IsStartStore l) (IsElsewhere (word_place l.map CurrentTask)) (λ a w k e. omega (arith, apart, k, e)) es h
 
-  pub start_off_gate : (es : List Effect) → EachStore (IsStartStore l) es → EachStore (IsElsewhere l.runtime.words.gate) es
-  start_off_gate es h = each_weaker (IsStartStore l) (IsElsewhere l.runtime.words.gate) (λ a w k e. omega (arith, k, e)) es h
+  pub start_off_gate : (es : List Effect) → EachStore (IsStartStore l) es → EachStore (IsElsewhere (word_place l.map Gate)) es
+  start_off_gate es h = each_weaker (IsStartStore l) (IsElsewhere (word_place l.map Gate)) (λ a w k e. omega (arith, k, e)) es h
 
   module _ (privates : ℕ → List CopyPair) (laid : (t : ℕ) → ArePrivate l t (privates t)) where
-    start_stores : (f : ℕ → ℕ) → EachStore (IsStartStore l) (start_effects l.runtime privates f)
+    start_stores : (f : ℕ → ℕ) → EachStore (IsStartStore l) (start_effects l.map privates f)
     start_stores f =
         start_stores_so (IsStartStore l) (λ i h. record { from = omega (arith, apart); below = omega (arith, apart, h) })
         (record { from = omega (arith, apart); below = omega (arith, apart) }) (record { from = omega (arith, apart); below = omega (arith, apart) })
         (record { from = omega (arith, apart); below = omega (arith, apart) }) (λ a w c. record { from = omega (arith, apart, c); below = omega (arith, c) })
         privates laid f
 
-    start_takes : (f : ℕ → ℕ) → readings_taken (start_effects l.runtime privates f) ≡ []
+    start_takes : (f : ℕ → ℕ) → readings_taken (start_effects l.map privates f) ≡ []
     start_takes f =
-        let op = opening_effects l.runtime f in
-        let rest = copied_in (privates (f l.runtime.words.current_task)) (fram_after op f) in
-        let c = cleared l.runtime.version_count l.runtime.versions in
+        let op = opening_effects l.map f in
+        let rest = copied_in (privates (f (word_place l.map CurrentTask))) (fram_after op f) in
+        let c = cleared l.map.versions.words l.map.versions.address in
         readings_taken-append op rest ∙ ap (λ z. z ++ readings_taken rest)
-        (readings_taken-append c _ ∙ ap (λ z. z ++ []) (cleared_takes l.runtime.version_count l.runtime.versions))
-        ∙ copied_in_takes (privates (f l.runtime.words.current_task)) (fram_after op f)
+        (readings_taken-append c _ ∙ ap (λ z. z ++ []) (cleared_takes l.map.versions.words l.map.versions.address))
+        ∙ copied_in_takes (privates (f (word_place l.map CurrentTask))) (fram_after op f)
 
     -- the start of the state's task is the one that CUR names
-    there : (s : St) (x : World) → UndecidedAt l v s x → Starts s (privates (x.fram l.runtime.words.current_task)) x
-    there s x u = starts s (privates (x.fram l.runtime.words.current_task)) x
-        (subst (λ t. ArePrivate l t (privates (x.fram l.runtime.words.current_task))) u.is_open.current_task (laid (x.fram l.runtime.words.current_task))) u
+    there : (s : St) (x : World) → UndecidedAt l v s x → Starts s (privates (x.fram (word_place l.map CurrentTask))) x
+    there s x u = starts s (privates (x.fram (word_place l.map CurrentTask))) x
+        (subst (λ t. ArePrivate l t (privates (x.fram (word_place l.map CurrentTask)))) u.is_open.current_task (laid (x.fram (word_place l.map CurrentTask)))) u
 
-    pub clearing_start : StartContract l v privates (start_effects l.runtime privates)
+    pub clearing_start : StartContract l v privates (start_effects l.map privates)
     clearing_start = record {
       takes_none = start_takes;
       stores = start_stores;
-      keeps_task = λ f. elsewhere_same l.runtime.words.current_task (start_effects l.runtime privates f) f (start_elsewhere _ (start_stores f));
+      keeps_task = λ f. elsewhere_same (word_place l.map CurrentTask) (start_effects l.map privates f) f (start_elsewhere _ (start_stores f));
       undecided = λ s x u. (there s x u).through;
       started = λ s x u. subst (λ t. StartedAt l v s (privates t)
-          (world_after (start_effects l.runtime privates x.fram) x)) u.is_open.current_task (there s x u).started;
+          (world_after (start_effects l.map privates x.fram) x)) u.is_open.current_task (there s x u).started;
     }

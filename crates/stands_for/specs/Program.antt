@@ -1,12 +1,16 @@
 -- A compiled program as the crash theorem takes it, and what its start and its tasks owe.
 use Rattle.std.specs.Prelude.{◌≡◌, ℕ, ◌<◌, ◌≤◌, List, [], ◌++◌, All}
+use Rattle.memory_map.specs.MemoryMap.{word_place}
+use Rattle.memory_map.specs.Places.{end_of}
+use Rattle.memory_map.specs.declared.words.RuntimeWord.TheVariants.{CurrentTask, Gate}
 use Rattle.fram_board.specs.Effects.{Effect}
 use Rattle.machine_effects.specs.World.{World, world_after, fram_after, readings_taken, EachStore}
 use Rattle.runtime_effects.specs.Places.{CopyPair}
 use Rattle.runtime_effects.specs.Stages.{commit_effects, start_effects}
 use Rattle.runtime_effects.specs.Needs.{CanCommit}
 use Rattle.crash_rules.specs.Model.{Outcome, ProgramEffects, program_effects, HoldsThroughout, IsWord, Model, ModelLaws, AttemptContract}
-use Rattle.stands_for.specs.Layout.{ProgramPlaces, StateView, AreApart, HaveRoom, ArePrivate}
+use Rattle.memory_map.specs.Laws.{AreApart}
+use Rattle.stands_for.specs.Layout.{ProgramPlaces, StateView, HaveRoom, ArePrivate}
 use Rattle.stands_for.specs.StandsFor.{RestsAt, UndecidedAt, DecidedFrom, StartedAt}
 
 -- effects in front of a program's
@@ -22,7 +26,7 @@ pub record ProgramParts (St : Type 0) : Type 0 where
 
 -- an attempt: the start, then the task that CUR names
 abbrev pub attempt_effects : {St : Type 0} → ProgramPlaces → ProgramParts St → (ℕ → ℕ) → List ℕ → ProgramEffects
-attempt_effects l p f readings = behind_start (p.start f) (p.body (f l.runtime.words.current_task) (fram_after (p.start f) f) readings)
+attempt_effects l p f readings = behind_start (p.start f) (p.body (f (word_place l.map CurrentTask)) (fram_after (p.start f) f) readings)
 
 -- the source with its layout and its runtime
 abbrev pub program_model : {St : Type 0} → ProgramPlaces → StateView St → ProgramParts St → Model St
@@ -32,8 +36,8 @@ program_model l v p = record {
   emitted = v.emitted;
   tasks = l.tasks;
   task_cost = p.cost;
-  gate = l.runtime.words.gate;
-  commit = commit_effects l.runtime;
+  gate = word_place l.map Gate;
+  commit = commit_effects l.map;
   attempt = attempt_effects l p;
   Rests = RestsAt l v;
   Undecided = UndecidedAt l v;
@@ -42,15 +46,15 @@ program_model l v p = record {
 
 -- a store of a start: to VER, CLN or EN, to a version word or to a copy
 pub record IsStartStore (l : ProgramPlaces) (a w : ℕ) : Type 0 where
-  pub from : l.runtime.words.gate < a
-  pub below : a < l.copies_end
+  pub from : word_place l.map Gate < a
+  pub below : a < end_of l.map.copies
 
 -- what the start owes, where these are the private scalars of each task: it takes no reading, stores to the runtime's places and the
 -- copies alone, keeps CUR, keeps the world undecided throughout, and leaves an attempt that has started
 pub record StartContract {St : Type 0} (l : ProgramPlaces) (v : StateView St) (privates : ℕ → List CopyPair) (start : (ℕ → ℕ) → List Effect) : Type 0 where
   pub takes_none : (f : ℕ → ℕ) → readings_taken (start f) ≡ []
   pub stores : (f : ℕ → ℕ) → EachStore (IsStartStore l) (start f)
-  pub keeps_task : (f : ℕ → ℕ) → fram_after (start f) f l.runtime.words.current_task ≡ f l.runtime.words.current_task
+  pub keeps_task : (f : ℕ → ℕ) → fram_after (start f) f (word_place l.map CurrentTask) ≡ f (word_place l.map CurrentTask)
   pub undecided : (s : St) (x : World) → UndecidedAt l v s x → HoldsThroughout (UndecidedAt l v s) (start x.fram) x
   pub started : (s : St) (x : World) → UndecidedAt l v s x → StartedAt l v s (privates (v.task s)) (world_after (start x.fram) x)
 
@@ -62,24 +66,24 @@ TasksContract {St} l v privates p = (s : St) (x : World) (readings : List ℕ) �
 -- from a start and from tasks that keep their contracts, all that the crash theorem needs
 abbrev pub KeepsTheLaws : (St : Type 0) → Type 0
 KeepsTheLaws St = (l : ProgramPlaces) (v : StateView St) (privates : ℕ → List CopyPair) (p : ProgramParts St)
-    → AreApart l → HaveRoom l → StartContract l v privates p.start → TasksContract l v privates p → ModelLaws (program_model l v p)
+    → AreApart l.map → HaveRoom l → StartContract l v privates p.start → TasksContract l v privates p → ModelLaws (program_model l v p)
 
 -- the runtime's start, whose version words are cleared at each attempt, keeps the start's contract
 abbrev pub ClearingStarts : (St : Type 0) → Type 0
 ClearingStarts St = (l : ProgramPlaces) (v : StateView St) (privates : ℕ → List CopyPair)
-    → AreApart l → ((t : ℕ) → ArePrivate l t (privates t)) → StartContract l v privates (start_effects l.runtime privates)
+    → AreApart l.map → ((t : ℕ) → ArePrivate l t (privates t)) → StartContract l v privates (start_effects l.map privates)
 
 -- where a world is decided the commit finds what it needs
 abbrev pub DecidedCanCommit : (St : Type 0) → Type 0
-DecidedCanCommit St = (l : ProgramPlaces) (v : StateView St) (s next : St) (x : World) → AreApart l → HaveRoom l → DecidedFrom l v s next x
-    → CanCommit l.runtime x.fram
+DecidedCanCommit St = (l : ProgramPlaces) (v : StateView St) (s next : St) (x : World) → AreApart l.map → HaveRoom l → DecidedFrom l v s next x
+    → CanCommit l.map x.fram
 
 -- the stores of a commit: to shared words, CUR, BASE and GATE
 pub record IsCommitStore (l : ProgramPlaces) (a w : ℕ) : Type 0 where
-  pub from : l.runtime.words.current_task ≤ a
-  pub below : a < l.homes_end
+  pub from : word_place l.map CurrentTask ≤ a
+  pub below : a < end_of l.map.homes
 
 -- a decided world's commit stores nowhere else
 abbrev pub CommitStores : (St : Type 0) → Type 0
-CommitStores St = (l : ProgramPlaces) (v : StateView St) (s next : St) (x : World) → AreApart l → HaveRoom l → DecidedFrom l v s next x
-    → EachStore (IsCommitStore l) (commit_effects l.runtime x.fram)
+CommitStores St = (l : ProgramPlaces) (v : StateView St) (s next : St) (x : World) → AreApart l.map → HaveRoom l → DecidedFrom l v s next x
+    → EachStore (IsCommitStore l) (commit_effects l.map x.fram)

@@ -1,5 +1,7 @@
 -- What FRAM and the accepted words stand for: they rest at a state of the source, are undecided at it, or decided from one to another.
 use Rattle.std.specs.Prelude.{◌≡◌, ℕ, ◌+◌, ◌*◌, ◌%◌, ◌<◌, ◌≤◌, ◌⊎◌, true, List, ◌++◌, length, take, slice_index}
+use Rattle.memory_map.specs.MemoryMap.{word_place}
+use Rattle.memory_map.specs.declared.words.RuntimeWord.TheVariants.{CurrentTask, NextTask, Gate, ListLength, EmitCount, Base, SentBase, Version}
 use Rattle.machine_effects.specs.World.{World}
 use Rattle.runtime_effects.specs.Places.{CopyPair, listed}
 use Rattle.stands_for.specs.Layout.{ProgramPlaces, StateView, IsSharedWord, IsCopyWord, IsAmong}
@@ -10,7 +12,7 @@ HoldsWords f = (a : ℕ) → f a < 0x10000
 
 -- every version word is at most VER
 abbrev pub VersionsWithin : ProgramPlaces → (ℕ → ℕ) → Type 0
-VersionsWithin l f = (i : ℕ) → i < l.runtime.version_count → f (l.runtime.versions + 2 * i) ≤ f l.runtime.words.version
+VersionsWithin l f = (i : ℕ) → i < l.map.versions.words → f (l.map.versions.address + 2 * i) ≤ f (word_place l.map Version)
 
 -- no transition is decided: CUR is the number of the state's task, GATE is 0, the accepted words are those of the state, and BASE is
 -- their number
@@ -18,10 +20,10 @@ pub record IsOpen {St : Type 0} (l : ProgramPlaces) (v : StateView St) (s : St) 
   pub is_state : v.is_state s ≡ true
   pub is_task : v.task s < l.tasks
   pub words : HoldsWords x.fram
-  pub current_task : x.fram l.runtime.words.current_task ≡ v.task s
-  pub gate : x.fram l.runtime.words.gate ≡ 0
+  pub current_task : x.fram (word_place l.map CurrentTask) ≡ v.task s
+  pub gate : x.fram (word_place l.map Gate) ≡ 0
   pub accepted : x.accepted ≡ v.emitted s
-  pub base : x.fram l.runtime.words.base ≡ length (v.emitted s) % 0x10000
+  pub base : x.fram (word_place l.map Base) ≡ length (v.emitted s) % 0x10000
   pub versions : VersionsWithin l x.fram
 
 -- the world rests at a state: no transition is decided, and every shared word is the state's
@@ -49,35 +51,35 @@ pub record DecidedWith {St : Type 0} (l : ProgramPlaces) (v : StateView St) (s n
   pub is_task : v.task s < l.tasks
   pub next_is_task : v.task next < l.tasks
   pub words : HoldsWords x.fram
-  pub gate : x.fram l.runtime.words.gate ≡ 1
-  pub next_task : x.fram l.runtime.words.next_task ≡ v.task next
-  pub pairs_listed : listed l.runtime x.fram ≡ pairs
-  pub within_list : x.fram l.runtime.words.list_length ≤ l.list_capacity (v.task s)
+  pub gate : x.fram (word_place l.map Gate) ≡ 1
+  pub next_task : x.fram (word_place l.map NextTask) ≡ v.task next
+  pub pairs_listed : listed l.map x.fram ≡ pairs
+  pub within_list : x.fram (word_place l.map ListLength) ≤ l.list_capacity (v.task s)
   pub homes : (p : CopyPair) → IsAmong pairs p → IsSharedWord l p.home
   pub copies : (p : CopyPair) → IsAmong pairs p → IsCopyWord l p.copy
   pub copied : (p : CopyPair) → IsAmong pairs p → x.fram p.copy ≡ v.word next p.home
   pub either : (p : CopyPair) → IsAmong pairs p → (x.fram p.home ≡ v.word s p.home) ⊎ (x.fram p.home ≡ v.word next p.home)
   pub others : (a : ℕ) → IsSharedWord l a → ((p : CopyPair) → IsAmong pairs p → p.home ≡ a → ⊥) → x.fram a ≡ v.word next a
-  pub current_task : (x.fram l.runtime.words.current_task ≡ v.task s) ⊎ (x.fram l.runtime.words.current_task ≡ v.task next)
+  pub current_task : (x.fram (word_place l.map CurrentTask) ≡ v.task s) ⊎ (x.fram (word_place l.map CurrentTask) ≡ v.task next)
   pub emitted : v.emitted next ≡ v.emitted s ++ emits
-  pub emit_count : x.fram l.runtime.words.emit_count ≡ length emits
+  pub emit_count : x.fram (word_place l.map EmitCount) ≡ length emits
   pub within_emits : length emits ≤ l.emit_capacity (v.task s)
-  pub buffer : (i : ℕ) → i < length emits → x.fram (l.runtime.emits + 2 * i) ≡ slice_index emits i
-  pub sent_base : x.fram l.runtime.words.sent_base ≡ length (v.emitted s) % 0x10000
-  pub base : (x.fram l.runtime.words.base ≡ x.fram l.runtime.words.sent_base)
-      ⊎ (x.fram l.runtime.words.base ≡ (x.fram l.runtime.words.sent_base + x.fram l.runtime.words.emit_count) % 0x10000)
+  pub buffer : (i : ℕ) → i < length emits → x.fram (l.map.emits.address + 2 * i) ≡ slice_index emits i
+  pub sent_base : x.fram (word_place l.map SentBase) ≡ length (v.emitted s) % 0x10000
+  pub base : (x.fram (word_place l.map Base) ≡ x.fram (word_place l.map SentBase))
+      ⊎ (x.fram (word_place l.map Base) ≡ (x.fram (word_place l.map SentBase) + x.fram (word_place l.map EmitCount)) % 0x10000)
   pub accepted : AcceptedFrom v s emits least x
   pub versions : VersionsWithin l x.fram
 
 -- it is decided from s to the next state: with the words that the commit list names, and those that the next state has emitted beyond s
 pub record DecidedFrom {St : Type 0} (l : ProgramPlaces) (v : StateView St) (s next : St) (x : World) : Type 0 where
   pub emits : List ℕ
-  pub decided : DecidedWith l v s next (listed l.runtime x.fram) emits 0 x
+  pub decided : DecidedWith l v s next (listed l.map x.fram) emits 0 x
 
 -- an attempt has started: nothing is listed and nothing emitted, every version word is below VER, and the copies of these scalars are made
 pub record StartedAt {St : Type 0} (l : ProgramPlaces) (v : StateView St) (s : St) (privates : List CopyPair) (x : World) : Type 0 where
   pub undecided : UndecidedAt l v s x
-  pub list_length : x.fram l.runtime.words.list_length ≡ 0
-  pub emit_count : x.fram l.runtime.words.emit_count ≡ 0
-  pub versions : (i : ℕ) → i < l.runtime.version_count → x.fram (l.runtime.versions + 2 * i) < x.fram l.runtime.words.version
+  pub list_length : x.fram (word_place l.map ListLength) ≡ 0
+  pub emit_count : x.fram (word_place l.map EmitCount) ≡ 0
+  pub versions : (i : ℕ) → i < l.map.versions.words → x.fram (l.map.versions.address + 2 * i) < x.fram (word_place l.map Version)
   pub copies : (p : CopyPair) → IsAmong privates p → x.fram p.copy ≡ v.word s p.home

@@ -15,7 +15,6 @@ use Rattle.array_versions.specs.Behaviour.{WordState, End, GoesOn, Jumps, Short 
 use Rattle.array_versions.specs.Laws.{EndsByEffects, IsSound}
 use Rattle.array_versions.proofs.ByEffects.{behaves_by_effects}
 use Rattle.array_versions.proofs.Ways.{whole_ends_soundly}
-use Rattle.privatise.specs.LayoutValue.{LayoutValue}
 use Rattle.boot_runtime.specs.Entries.{task_entries}
 use Rattle.boot_runtime.specs.Listing.{privates_in}
 use Rattle.crash_rules.specs.Model.{Ends, program_effects, IsWord, IsElsewhere, Model, AttemptContract, Decides, RunsShort}
@@ -36,16 +35,18 @@ use Rattle.task_attempts.proofs.Tasks.{IsAt, places, body, room, task_given, bod
 use Rattle.task_attempts.proofs.Stores.{Safe, StoresOf, task_safe, emits_fit}
 use Rattle.task_attempts.proofs.Starts.{attempt_stands}
 use Rattle.task_attempts.proofs.Decided.{ver, bounds, before, effects_are, safe_before, quiet_before, quiet_start, quiet_of, next, decided}
-use Rattle.lower.specs.Places.{Places}
 use Rattle.lower.specs.Spots.{Room}
 use Rattle.stands_for.specs.Layout.{ProgramPlaces, StateView}
+use Rattle.memory_map.specs.declared.words.RuntimeWord.TheVariants.{Gate}
+use Rattle.memory_map.specs.MemoryMap.{MemoryMap, word_place}
+use Rattle.memory_map.specs.Spots.{Places}
 
 -- the readings are words
 words_of : (rs : List ℕ) → All IsWord rs → AllByRecursion (λ v. v < 0x10000) rs
 words_of [] h = tt
 words_of (r ∷ rs) h = (h 0 r (omega arith), words_of rs (λ k d b. h (suc k) d (omega (arith, b))))
 
-module _ (p : CheckedProgram) (l : LayoutValue) (given : IsGiven p l) (s : State) (is_task : s.task < length p.tasks) (i : IsAt p l s.task) (x : World)
+module _ (p : CheckedProgram) (l : MemoryMap) (given : IsGiven p l) (s : State) (is_task : s.task < length p.tasks) (i : IsAt p l s.task) (x : World)
     (readings : List ℕ)
     (st : StartedAt (program_places p l) (state_view p l) s (privates_in (task_entries l) s.task) x) where
   -- the places that the task works on
@@ -84,8 +85,8 @@ module _ (p : CheckedProgram) (l : LayoutValue) (given : IsGiven p l) (s : State
     rows : HasRows (length s.shared) o
     source : completion_of (attempt_of p s.task s.shared readings) ≡ completion_of o
 
-  off_gate : (es : List Effect) → TakesAndStores SafeIn es → EachStore (IsElsewhere l.words.gate) es
-  off_gate es h = stores_each SafeIn (IsElsewhere l.words.gate) (λ a w q e. q.quiet.gate e) es h
+  off_gate : (es : List Effect) → TakesAndStores SafeIn es → EachStore (IsElsewhere (word_place l Gate)) es
+  off_gate es h = stores_each SafeIn (IsElsewhere (word_place l Gate)) (λ a w q e. q.quiet.gate e) es h
 
   below_code : (es : List Effect) → TakesAndStores SafeIn es → EachStore (IsBelowCode l) es
   below_code es h =
@@ -120,7 +121,7 @@ module _ (p : CheckedProgram) (l : LayoutValue) (given : IsGiven p l) (s : State
     abbrev front : List Effect
     front = before p l given s is_task i x readings st es to end task m h.agrees h.of_words h.well h.rows
 
-    effects : es ≡ front ++ Store l.words.gate 1 ∷ []
+    effects : es ≡ front ++ Store (word_place l Gate) 1 ∷ []
     effects = effects_are p l given s is_task i x readings st es to end task m h.agrees h.of_words h.well h.rows
 
     abbrev next_state : State
@@ -129,7 +130,7 @@ module _ (p : CheckedProgram) (l : LayoutValue) (given : IsGiven p l) (s : State
     -- the effects take what the source takes
     taken : readings_taken es ≡ readings_taken front
     taken =
-        ap readings_taken effects ∙ readings_taken-append front (Store l.words.gate 1 ∷ []) ∙ append-nil (readings_taken front)
+        ap readings_taken effects ∙ readings_taken-append front (Store (word_place l Gate) 1 ∷ []) ∙ append-nil (readings_taken front)
 
     reads : readings_taken front ++ m.left ≡ readings
     reads = ap (λ r. r ++ m.left) (sym taken) ∙ ap (λ r. readings_taken es ++ r) (sym h.agrees.readings) ∙ h.by_effects.1
@@ -161,7 +162,7 @@ module _ (p : CheckedProgram) (l : LayoutValue) (given : IsGiven p l) (s : State
         let apart = given.apart in
         let c = given.code in
         subst (EachStore (IsBelowCode l)) (sym effects)
-        (each_store-append (IsBelowCode l) front (Store l.words.gate 1 ∷ [])
+        (each_store-append (IsBelowCode l) front (Store (word_place l Gate) 1 ∷ [])
         (below_code front (safe_before p l given s is_task i x readings st es to end task m h.agrees h.of_words h.well h.rows)) (
           record {
             from = omega (arith, apart);

@@ -17,10 +17,6 @@ use Rattle.source_values.specs.Values.{word_at}
 use Rattle.source_values.specs.Statements.{Attempt}
 use Rattle.source_values.specs.Runs.{CheckedProgram, State, initial_words}
 use Rattle.array_versions.specs.Behaviour.{WordState, started}
-use Rattle.privatise.specs.declared.place.VariablePlace.{VariablePlace}
-use Rattle.privatise.specs.declared.place.VariablePlace.TheVariants.{Scalar, Array}
-use Rattle.privatise.specs.declared.place.PrivateScalar.{PrivateScalar}
-use Rattle.privatise.specs.LayoutValue.{LayoutValue}
 use Rattle.runtime_effects.specs.Places.{CopyPair, listed}
 use Rattle.lower.proofs.Values.{takes_append}
 use Rattle.boot_runtime.specs.Entries.{task_entries}
@@ -28,13 +24,11 @@ use Rattle.boot_runtime.specs.Listing.{privates_in}
 use Rattle.stands_for.specs.Layout.{IsAmong, IsSharedWord, IsCopyWord, ProgramPlaces, StateView}
 use Rattle.stands_for.specs.StandsFor.{StartedAt, DecidedWith, DecidedFrom}
 use Rattle.stands_for.proofs.Keeps.{put_words}
-use Rattle.lower.specs.Places.{address_of, Places}
-use Rattle.lower.specs.Spots.{IsScalarPlace, IsScalarAt, Element, IsElement, IsCopied, Spot, IsSpot, scalar, element, copy, spot_address, element_address, copy_address, Room}
+use Rattle.lower.specs.Spots.{Room}
 use Rattle.lower.specs.Agreement.{TakesAndStores, transition_effects, Bounds, bounds_of, Left, place_length}
 use Rattle.compiled_model.specs.Places.{program_places}
 use Rattle.compiled_model.specs.View.{state_view, are_rows}
-use Rattle.layout_facts.specs.Facts.{IsWordOf}
-use Rattle.layout_facts.proofs.Privates.{home_of_scalar}
+use Rattle.memory_map.proofs.Addresses.{scalar_home}
 use Rattle.layout_facts.proofs.Lists.{contains_at}
 use Rattle.task_attempts.proofs.Given.{IsGiven, IsTaskGiven}
 use Rattle.task_attempts.proofs.Rows.{rows_are, rows_count, declared_length}
@@ -45,8 +39,14 @@ use Rattle.task_attempts.proofs.Listed.{entry_at, entry_among, among_entries}
 use Rattle.task_attempts.proofs.Tasks.{IsAt, places, body, room, task_given, body_is, private_copy}
 use Rattle.task_attempts.proofs.Stores.{Safe, StoresOf, task_safe, transition_safe}
 use Rattle.task_attempts.proofs.Words.{OwnWord, marked, unmarked, own_word_of, IsTaskWord, left_there, private, element as an_element, task_word, element_word}
+use Rattle.memory_map.specs.declared.words.RuntimeWord.TheVariants.{CurrentTask, NextTask, Gate, ListLength, EmitCount, Base, SentBase, Version}
+use Rattle.memory_map.specs.declared.place.VariablePlace.{VariablePlace}
+use Rattle.memory_map.specs.declared.place.VariablePlace.TheVariants.{Scalar, Array}
+use Rattle.memory_map.specs.declared.place.PrivateScalar.{PrivateScalar}
+use Rattle.memory_map.specs.MemoryMap.{MemoryMap, word_place}
+use Rattle.memory_map.specs.Spots.{address_of, Places, IsScalarPlace, IsScalarAt, Element, IsElement, IsCopied, Spot, IsSpot, scalar, element, copy, spot_address, element_address, copy_address, IsWordOf}
 
-module _ (p : CheckedProgram) (l : LayoutValue) (given : IsGiven p l) (s : State) (is_task : s.task < length p.tasks) (i : IsAt p l s.task) (x : World)
+module _ (p : CheckedProgram) (l : MemoryMap) (given : IsGiven p l) (s : State) (is_task : s.task < length p.tasks) (i : IsAt p l s.task) (x : World)
     (readings : List ℕ)
     (st : StartedAt (program_places p l) (state_view p l) s (privates_in (task_entries l) s.task) x) where
   -- the places that the task works on
@@ -74,7 +74,7 @@ module _ (p : CheckedProgram) (l : LayoutValue) (given : IsGiven p l) (s : State
   view = state_view p l
 
   abbrev pub ver : ℕ
-  ver = x.fram l.words.version
+  ver = x.fram (word_place l Version)
 
   -- the bounds of the task's statements
   abbrev pub bounds : Bounds
@@ -97,7 +97,7 @@ module _ (p : CheckedProgram) (l : LayoutValue) (given : IsGiven p l) (s : State
     count = length left.listed
 
     abbrev base : ℕ
-    base = left.there.fram l.words.base
+    base = left.there.fram (word_place l Base)
 
     abbrev transition : List Effect
     transition = transition_effects here task count base
@@ -106,14 +106,14 @@ module _ (p : CheckedProgram) (l : LayoutValue) (given : IsGiven p l) (s : State
     abbrev pub before : List Effect
     before = left.body ++ transition
 
-    pub effects_are : es ≡ before ++ Store l.words.gate 1 ∷ []
-    effects_are = left.effects ∙ sym (append_assoc left.body transition (Store l.words.gate 1 ∷ []))
+    pub effects_are : es ≡ before ++ Store (word_place l Gate) 1 ∷ []
+    effects_are = left.effects ∙ sym (append_assoc left.body transition (Store (word_place l Gate) 1 ∷ []))
 
     few : count + length i.layout.privates ≤ list_of p.shared code
     few = facts.has_room left.listed left.stands.list.are_listed (λ v. let k = left.few v in omega (arith, k))
 
     words_before : StoresWords before
-    words_before = each_store-front (λ a w. w < 0x10000) before (Store l.words.gate 1 ∷ []) (subst StoresWords effects_are stored)
+    words_before = each_store-front (λ a w. w < 0x10000) before (Store (word_place l Gate) 1 ∷ []) (subst StoresWords effects_are stored)
 
     pub safe_before : TakesAndStores SafeStore before
     safe_before =
@@ -131,7 +131,7 @@ module _ (p : CheckedProgram) (l : LayoutValue) (given : IsGiven p l) (s : State
     y = world_after before x
 
     abbrev pub z : World
-    z = world_after_one (Store l.words.gate 1) y
+    z = world_after_one (Store (word_place l Gate) 1) y
 
     u : IsQuietAt sites view s ver y
     u = quiet_behind sites view s ver before x quiet_before quiet_start
@@ -141,16 +141,16 @@ module _ (p : CheckedProgram) (l : LayoutValue) (given : IsGiven p l) (s : State
 
     z_is : z.fram ≡ g
     z_is =
-        ap (λ w. w.fram) (sym (world_after-append before (Store l.words.gate 1 ∷ []) x))
-        ∙ world_fram (before ++ Store l.words.gate 1 ∷ []) x
-        ∙ ap (λ e. fram_after e x.fram) (append_assoc left.body transition (Store l.words.gate 1 ∷ []))
+        ap (λ w. w.fram) (sym (world_after-append before (Store (word_place l Gate) 1 ∷ []) x))
+        ∙ world_fram (before ++ Store (word_place l Gate) 1 ∷ []) x
+        ∙ ap (λ e. fram_after e x.fram) (append_assoc left.body transition (Store (word_place l Gate) 1 ∷ []))
         ∙ fram_after-append left.body (closing here space facts.apart task count base left.there.fram
         left.stands.list.list_length) x.fram
         ∙ ap (fram_after (closing here space facts.apart task count base left.there.fram
         left.stands.list.list_length)) (sym left.arrived)
 
-    z_before : (a : ℕ) → (a ≡ l.words.gate → ⊥) → z.fram a ≡ y.fram a
-    z_before a ne = put_other y.fram l.words.gate 1 a ne
+    z_before : (a : ℕ) → (a ≡ word_place l Gate → ⊥) → z.fram a ≡ y.fram a
+    z_before a ne = put_other y.fram (word_place l Gate) 1 a ne
 
     abbrev Stays : ℕ → Type 0
     Stays a = IsLeft here space facts.apart task count base left.there.fram left.stands.list.list_length a
@@ -195,7 +195,7 @@ module _ (p : CheckedProgram) (l : LayoutValue) (given : IsGiven p l) (s : State
         let at : slice_get l.variables r.number ≡ Some (Scalar r.home r.copy) = o.1.place in
         ap z.fram (sym (c.assigned r.number r.home r.copy at o.0))
         ∙ scalar_next r.number (subst IsScalarPlace (sym at) tt)
-        ∙ sym (next_word r.number 0 r.home (home_of_scalar l r.number r.home r.copy at))
+        ∙ sym (next_word r.number 0 r.home (scalar_home l r.number r.home r.copy at))
 
     of_copied : (e : Element) → IsCopied here e → IsElement here e
     of_copied e c = record { elements = c.elements; length = c.length; copies = Some c.copies; is_array = c.is_array; below = c.below }
@@ -222,9 +222,9 @@ module _ (p : CheckedProgram) (l : LayoutValue) (given : IsGiven p l) (s : State
 
     -- ---- the commit list
 
-    z_count : z.fram l.words.list_length ≡ count + length i.layout.privates
+    z_count : z.fram (word_place l ListLength) ≡ count + length i.layout.privates
     z_count =
-        ap (λ f. f l.words.list_length) z_is
+        ap (λ f. f (word_place l ListLength)) z_is
         ∙ closed_count here space facts.apart task count base left.there.fram left.stands.list.list_length
 
     old_stays : (a j : ℕ) → j < count → l.list.address ≤ a → a < 4 * (j + 1) + l.list.address → Stays a
@@ -278,17 +278,17 @@ module _ (p : CheckedProgram) (l : LayoutValue) (given : IsGiven p l) (s : State
         (slice_get_cases left.listed j).1
 
     abbrev Listed : CopyPair → Type 0
-    Listed q = IsAmong (listed sites.runtime z.fram) q
+    Listed q = IsAmong (listed sites.map z.fram) q
 
     pair_of_list : (q : CopyPair) → Listed q → IsPair q
     pair_of_list q h =
-        let r = among_entries (z.fram l.words.list_length) l.list.address z.fram q h in
+        let r = among_entries (z.fram (word_place l ListLength)) l.list.address z.fram q h in
         let below = r.1 in
         let counted = z_count in
         entry_pair r.0 (omega (arith, below, counted)) q r.2
 
     list_has : (j : ℕ) → j < count + length i.layout.privates → Listed (entry_at l.list.address z.fram j)
-    list_has j h = let counted = z_count in entry_among (z.fram l.words.list_length) l.list.address j z.fram (omega (arith, h, counted))
+    list_has j h = let counted = z_count in entry_among (z.fram (word_place l ListLength)) l.list.address j z.fram (omega (arith, h, counted))
 
     at_of : {X : Type 0} (xs : List X) (e : X) (h : Contains xs e) → slice_get xs h.0 ≡ Some e
     at_of xs e h = slice_get-get_or xs h.0 e h.1 ∙ ap Some h.2
@@ -308,10 +308,10 @@ module _ (p : CheckedProgram) (l : LayoutValue) (given : IsGiven p l) (s : State
     word_of_own : (e : Element) → (h : IsElement here e) → OwnWord here left.there.fram e
         → word_at m.variables (Shared e.array) e.index < 0x10000
     word_of_own e h (marked k q is) =
-        let words = put_words y.fram l.words.gate 1 u.undecided.is_open.words (omega arith) in
+        let words = put_words y.fram (word_place l Gate) 1 u.undecided.is_open.words (omega arith) in
         subst (λ n. n < 0x10000) (spot_stays (copy e) k ∙ sym is ∙ left.stands.variables.elements e h) (words (copy_address here e))
     word_of_own e h (unmarked n is) =
-        let words = put_words y.fram l.words.gate 1 u.undecided.is_open.words (omega arith) in
+        let words = put_words y.fram (word_place l Gate) 1 u.undecided.is_open.words (omega arith) in
         subst (λ n. n < 0x10000) (spot_stays (element e) h ∙ sym is ∙ left.stands.variables.elements e h) (words (element_address here e))
 
     past_small : (row : List ℕ) (n : ℕ) → length row ≤ n → get_or row n 0 < 0x10000
@@ -320,7 +320,7 @@ module _ (p : CheckedProgram) (l : LayoutValue) (given : IsGiven p l) (s : State
     row_of : (v n : ℕ) (place : VariablePlace) → slice_get l.variables v ≡ Some place → n < place_length place → get_or
         (get_or m.variables.shared v []) n 0 < 0x10000
     row_of v n (Scalar home copied) e h =
-        let words = put_words y.fram l.words.gate 1 u.undecided.is_open.words (omega arith) in
+        let words = put_words y.fram (word_place l Gate) 1 u.undecided.is_open.words (omega arith) in
         let first : n ≡ 0 = omega (arith, h) in
         subst (λ k. get_or (get_or m.variables.shared v []) k 0 < 0x10000) (sym first)
         (subst (λ w. w < 0x10000) (scalar_next v (subst IsScalarPlace (sym e) tt)) (words (address_of here v)))
@@ -360,7 +360,7 @@ module _ (p : CheckedProgram) (l : LayoutValue) (given : IsGiven p l) (s : State
 
     -- ---- the world is decided
 
-    shared_off_gate : (a : ℕ) → IsSharedWord sites a → a ≡ l.words.gate → ⊥
+    shared_off_gate : (a : ℕ) → IsSharedWord sites a → a ≡ word_place l Gate → ⊥
     shared_off_gate a h e = let apart = given.apart in omega (arith, apart, h, e)
 
     home_is : (a : ℕ) → IsSharedWord sites a → z.fram a ≡ view.word s a
@@ -375,7 +375,7 @@ module _ (p : CheckedProgram) (l : LayoutValue) (given : IsGiven p l) (s : State
         (element_word l code i.layout facts.privates e (of_copied e (listed_copied e h))))
     is_home q (of_private r h home copied) =
         subst (IsSharedWord sites) (sym home)
-        (given.words.is_shared r.number 0 r.home (home_of_scalar l r.number r.home r.copy (facts.privates.only r h).1.place))
+        (given.words.is_shared r.number 0 r.home (scalar_home l r.number r.home r.copy (facts.privates.only r h).1.place))
 
     is_copy : (q : CopyPair) → IsPair q → IsCopyWord sites q.copy
     is_copy q (of_element e h home copied) = subst (IsCopyWord sites) (sym copied) (facts.copies e (listed_copied e h))
@@ -409,10 +409,10 @@ module _ (p : CheckedProgram) (l : LayoutValue) (given : IsGiven p l) (s : State
         let w = given.words.each a h in
         word_kept w.0 w.1 a w.2 (task_word l code i.layout facts.privates w.0 w.1 a w.2) none
 
-    base_kept : z.fram l.words.base ≡ base
+    base_kept : z.fram (word_place l Base) ≡ base
     base_kept =
         let apart = facts.apart in
-        z_there l.words.base (record {
+        z_there (word_place l Base) (record {
           next_task = λ e. omega (arith, apart, e);
           gate = λ e. omega (arith, apart, e);
           list_length = λ e. omega (arith, apart, e);
@@ -420,23 +420,23 @@ module _ (p : CheckedProgram) (l : LayoutValue) (given : IsGiven p l) (s : State
           entries = λ lo hi. omega (arith, apart, lo);
         })
 
-    base_is : z.fram l.words.base ≡ length s.emitted % 0x10000
-    base_is = let apart = given.apart in z_before l.words.base (λ e. omega (arith, apart, e)) ∙ u.undecided.is_open.base
+    base_is : z.fram (word_place l Base) ≡ length s.emitted % 0x10000
+    base_is = let apart = given.apart in z_before (word_place l Base) (λ e. omega (arith, apart, e)) ∙ u.undecided.is_open.base
 
-    sent_is : z.fram l.words.sent_base ≡ base
+    sent_is : z.fram (word_place l SentBase) ≡ base
     sent_is =
-        ap (λ f. f l.words.sent_base) z_is
+        ap (λ f. f (word_place l SentBase)) z_is
         ∙ closed_sent here space facts.apart task count base left.there.fram left.stands.list.list_length
 
-    next_is : z.fram l.words.next_task ≡ task % 65536
+    next_is : z.fram (word_place l NextTask) ≡ task % 65536
     next_is =
-        ap (λ f. f l.words.next_task) z_is
+        ap (λ f. f (word_place l NextTask)) z_is
         ∙ closed_next here space facts.apart task count base left.there.fram left.stands.list.list_length
 
-    emit_count_is : z.fram l.words.emit_count ≡ length m.emitted
+    emit_count_is : z.fram (word_place l EmitCount) ≡ length m.emitted
     emit_count_is =
         let apart = facts.apart in
-        z_there l.words.emit_count (record {
+        z_there (word_place l EmitCount) (record {
           next_task = λ e. omega (arith, apart, e);
           gate = λ e. omega (arith, apart, e);
           list_length = λ e. omega (arith, apart, e);
@@ -448,9 +448,9 @@ module _ (p : CheckedProgram) (l : LayoutValue) (given : IsGiven p l) (s : State
     few_emits =
         let apart = given.apart in
         let none = st.emit_count in
-        let most = stays_within SafeStore l.words.emit_count (emits_of code) (λ w q. q.emit_count refl) before x.fram safe_before (omega (arith, none)) in
-        let there = ap (λ f. f l.words.emit_count) (world_fram before x) in
-        let here = z_before l.words.emit_count (λ e. omega (arith, apart, e)) in
+        let most = stays_within SafeStore (word_place l EmitCount) (emits_of code) (λ w q. q.emit_count refl) before x.fram safe_before (omega (arith, none)) in
+        let there = ap (λ f. f (word_place l EmitCount)) (world_fram before x) in
+        let here = z_before (word_place l EmitCount) (λ e. omega (arith, apart, e)) in
         let counted = emit_count_is in
         omega (arith, most, there, here, counted)
 
@@ -459,7 +459,7 @@ module _ (p : CheckedProgram) (l : LayoutValue) (given : IsGiven p l) (s : State
         let same : l.emits.address + 2 * n ≡ 2 * n + l.emits.address = omega arith in
         z_there (l.emits.address + 2 * n) (high_stays (l.emits.address + 2 * n) (omega arith)) ∙ ap left.there.fram same ∙ left.stands.emitted.emits n h
 
-    pub decided_with : DecidedWith sites view s next (listed sites.runtime z.fram) m.emitted 0 z
+    pub decided_with : DecidedWith sites view s next (listed sites.map z.fram) m.emitted 0 z
     decided_with =
         let o = u.undecided.is_open in
         let apart = given.apart in
@@ -469,18 +469,18 @@ module _ (p : CheckedProgram) (l : LayoutValue) (given : IsGiven p l) (s : State
           next_is_state = next_is_state;
           is_task = is_task;
           next_is_task = next_task;
-          words = put_words y.fram l.words.gate 1 o.words (omega arith);
-          gate = put_same y.fram l.words.gate 1;
+          words = put_words y.fram (word_place l Gate) 1 o.words (omega arith);
+          gate = put_same y.fram (word_place l Gate) 1;
           next_task = let e = next_is in omega (arith, e, next_task, few_tasks);
           pairs_listed = refl;
-          within_list = subst (λ b. z.fram l.words.list_length ≤ list_of p.shared b) (sym (body_is p l given s.task i))
+          within_list = subst (λ b. z.fram (word_place l ListLength) ≤ list_of p.shared b) (sym (body_is p l given s.task i))
               (let e = z_count in let f = few in omega (arith, e, f));
           homes = λ q h. is_home q (pair_of_list q h);
           copies = λ q h. is_copy q (pair_of_list q h);
           copied = λ q h. is_copied q (pair_of_list q h);
           either = λ q h. inl (home_is q.home (is_home q (pair_of_list q h)));
           others = others_kept;
-          current_task = inl (z_before l.words.current_task (λ e. omega (arith, apart, e)) ∙ o.current_task);
+          current_task = inl (z_before (word_place l CurrentTask) (λ e. omega (arith, apart, e)) ∙ o.current_task);
           emitted = refl;
           emit_count = emit_count_is;
           within_emits = subst (λ b. length m.emitted ≤ emits_of b) (sym (body_is p l given s.task i)) few_emits;
@@ -491,7 +491,7 @@ module _ (p : CheckedProgram) (l : LayoutValue) (given : IsGiven p l) (s : State
           versions = λ n h.
               let most = o.versions n h in
               let a = z_before (l.versions.address + 2 * n) (λ e. omega (arith, apart, e)) in
-              let b = z_before l.words.version (λ e. omega (arith, apart, e)) in
+              let b = z_before (word_place l Version) (λ e. omega (arith, apart, e)) in
               omega (arith, most, a, b);
         }
 

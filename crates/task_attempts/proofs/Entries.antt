@@ -4,11 +4,13 @@ use Rattle.std.specs.Prelude.{slice_get}
 use Rattle.fram_board.specs.Effects.{Effect, Store}
 use Rattle.machine_effects.specs.World.{put, fram_after}
 use Rattle.machine_effects.proofs.Worlds.{fram_after-append, put_same, put_other, put_at}
-use Rattle.privatise.specs.declared.place.PrivateScalar.{PrivateScalar}
-use Rattle.lower.specs.Places.{Places}
 use Rattle.lower.specs.Spots.{Room, AreApart}
 use Rattle.lower.specs.Agreement.{TakesAndStores, entry_effects, transition_effects}
 use Rattle.lower.proofs.Values.{takes_append}
+use Rattle.memory_map.specs.MemoryMap.{word_place}
+use Rattle.memory_map.specs.declared.words.RuntimeWord.TheVariants.{NextTask, Gate, ListLength, SentBase}
+use Rattle.memory_map.specs.declared.place.PrivateScalar.{PrivateScalar}
+use Rattle.memory_map.specs.Spots.{Places}
 
 module _ (count list : ℕ) where
   -- FRAM behind an entry, the i-th
@@ -66,14 +68,14 @@ module _ (count list : ℕ) where
 
 -- where a transition stores, up to the gate
 pub data IsTransitionStore (p : Places) (room : Room) (a w : ℕ) : Type 0 where
-  at_next_task : a ≡ p.words.next_task → IsTransitionStore p room a w
-  at_list_length : a ≡ p.words.list_length → w ≤ room.list → IsTransitionStore p room a w
-  at_sent_base : a ≡ p.words.sent_base → IsTransitionStore p room a w
-  in_entries : p.list ≤ a → a < p.list + 4 * room.list → IsTransitionStore p room a w
+  at_next_task : a ≡ word_place p.map NextTask → IsTransitionStore p room a w
+  at_list_length : a ≡ word_place p.map ListLength → w ≤ room.list → IsTransitionStore p room a w
+  at_sent_base : a ≡ word_place p.map SentBase → IsTransitionStore p room a w
+  in_entries : p.map.list.address ≤ a → a < p.map.list.address + 4 * room.list → IsTransitionStore p room a w
 
 module _ (p : Places) (room : Room) where
   entries_store : (ps : List PrivateScalar) (i : ℕ) → i + length ps ≤ room.list → TakesAndStores (IsTransitionStore p room)
-      (entry_effects p.words.list_length p.list i ps)
+      (entry_effects (word_place p.map ListLength) p.map.list.address i ps)
   entries_store [] i few = tt
   entries_store (s ∷ more) i few = (
     in_entries (omega arith) (omega (arith, few)),
@@ -86,77 +88,81 @@ module _ (p : Places) (room : Room) where
   pub transition_stores : (task n base : ℕ) → n + length p.privates ≤ room.list → TakesAndStores (IsTransitionStore p room) (transition_effects p task n base)
   transition_stores task n base few = (
     at_next_task refl,
-    takes_append (IsTransitionStore p room) (entry_effects p.words.list_length p.list n p.privates) (Store p.words.sent_base base ∷ [])
+    takes_append (IsTransitionStore p room) (entry_effects (word_place p.map ListLength) p.map.list.address n p.privates)
+        (Store (word_place p.map SentBase) base ∷ [])
         (entries_store p.privates n few)
         (at_sent_base refl, tt),
   )
 
-module _ (p : Places) (room : Room) (apart : AreApart p room) (task n base : ℕ) (f : ℕ → ℕ) (counted : f p.words.list_length ≡ n) where
+module _ (p : Places) (room : Room) (apart : AreApart p room) (task n base : ℕ) (f : ℕ → ℕ) (counted : f (word_place p.map ListLength) ≡ n) where
   -- a transition's effects, with the gate
   abbrev pub closing : List Effect
-  closing = transition_effects p task n base ++ Store p.words.gate 1 ∷ []
+  closing = transition_effects p task n base ++ Store (word_place p.map Gate) 1 ∷ []
 
   -- FRAM behind it
   abbrev pub closed : ℕ → ℕ
   closed = fram_after closing f
 
   abbrev told : ℕ → ℕ
-  told = put f p.words.next_task (task % 65536)
+  told = put f (word_place p.map NextTask) (task % 65536)
 
   abbrev with_entries : ℕ → ℕ
-  with_entries = fram_after (entry_effects p.words.list_length p.list n p.privates) told
+  with_entries = fram_after (entry_effects (word_place p.map ListLength) p.map.list.address n p.privates) told
 
-  closed_is : closed ≡ put (put with_entries p.words.sent_base base) p.words.gate 1
+  closed_is : closed ≡ put (put with_entries (word_place p.map SentBase) base) (word_place p.map Gate) 1
   closed_is =
-      let es = entry_effects p.words.list_length p.list n p.privates in
-      fram_after-append (es ++ Store p.words.sent_base base ∷ []) (Store p.words.gate 1 ∷ []) told
-      ∙ ap (λ g. put g p.words.gate 1) (fram_after-append es (Store p.words.sent_base base ∷ []) told)
+      let es = entry_effects (word_place p.map ListLength) p.map.list.address n p.privates in
+      fram_after-append (es ++ Store (word_place p.map SentBase) base ∷ []) (Store (word_place p.map Gate) 1 ∷ []) told
+      ∙ ap (λ g. put g (word_place p.map Gate) 1) (fram_after-append es (Store (word_place p.map SentBase) base ∷ []) told)
 
-  at_close : (a : ℕ) → (a ≡ p.words.gate → ⊥) → (a ≡ p.words.sent_base → ⊥) → closed a ≡ with_entries a
+  at_close : (a : ℕ) → (a ≡ word_place p.map Gate → ⊥) → (a ≡ word_place p.map SentBase → ⊥) → closed a ≡ with_entries a
   at_close a ng ns =
-      ap (λ g. g a) closed_is ∙ put_other (put with_entries p.words.sent_base base) p.words.gate 1 a ng ∙ put_other with_entries p.words.sent_base base a ns
+      ap (λ g. g a) closed_is ∙ put_other (put with_entries (word_place p.map SentBase) base) (word_place p.map Gate) 1 a ng
+      ∙ put_other with_entries (word_place p.map SentBase) base a ns
 
-  pub closed_gate : closed p.words.gate ≡ 1
-  closed_gate = ap (λ g. g p.words.gate) closed_is ∙ put_same (put with_entries p.words.sent_base base) p.words.gate 1
+  pub closed_gate : closed (word_place p.map Gate) ≡ 1
+  closed_gate = ap (λ g. g (word_place p.map Gate)) closed_is ∙ put_same (put with_entries (word_place p.map SentBase) base) (word_place p.map Gate) 1
 
-  pub closed_sent : closed p.words.sent_base ≡ base
+  pub closed_sent : closed (word_place p.map SentBase) ≡ base
   closed_sent =
-      ap (λ g. g p.words.sent_base) closed_is ∙ put_other (put with_entries p.words.sent_base base) p.words.gate 1 p.words.sent_base
+      ap (λ g. g (word_place p.map SentBase)) closed_is
+      ∙ put_other (put with_entries (word_place p.map SentBase) base) (word_place p.map Gate) 1 (word_place p.map SentBase)
       (λ e. omega (arith, e, apart))
-      ∙ put_same with_entries p.words.sent_base base
+      ∙ put_same with_entries (word_place p.map SentBase) base
 
-  pub closed_next : closed p.words.next_task ≡ task % 65536
+  pub closed_next : closed (word_place p.map NextTask) ≡ task % 65536
   closed_next =
-      at_close p.words.next_task (λ e. omega (arith, e, apart)) (λ e. omega (arith, e, apart))
-      ∙ entries_elsewhere p.words.list_length p.list p.privates n p.words.next_task told (λ e. omega (arith, e, apart)) (λ lo hi. omega (arith, lo, apart))
-      ∙ put_same f p.words.next_task (task % 65536)
+      at_close (word_place p.map NextTask) (λ e. omega (arith, e, apart)) (λ e. omega (arith, e, apart))
+      ∙ entries_elsewhere (word_place p.map ListLength) p.map.list.address p.privates n (word_place p.map NextTask) told (λ e. omega (arith, e, apart))
+      (λ lo hi. omega (arith, lo, apart))
+      ∙ put_same f (word_place p.map NextTask) (task % 65536)
 
-  pub closed_count : closed p.words.list_length ≡ n + length p.privates
+  pub closed_count : closed (word_place p.map ListLength) ≡ n + length p.privates
   closed_count =
-      at_close p.words.list_length (λ e. omega (arith, e, apart)) (λ e. omega (arith, e, apart))
-      ∙ count_there p.words.list_length p.list p.privates n told
-      (put_other f p.words.next_task (task % 65536) p.words.list_length (λ e. omega (arith, e, apart)) ∙ counted)
+      at_close (word_place p.map ListLength) (λ e. omega (arith, e, apart)) (λ e. omega (arith, e, apart))
+      ∙ count_there (word_place p.map ListLength) p.map.list.address p.privates n told
+      (put_other f (word_place p.map NextTask) (task % 65536) (word_place p.map ListLength) (λ e. omega (arith, e, apart)) ∙ counted)
 
-  pub closed_home : (j : ℕ) (s : PrivateScalar) → slice_get p.privates j ≡ Some s → closed (4 * (n + j) + p.list) ≡ s.home
+  pub closed_home : (j : ℕ) (s : PrivateScalar) → slice_get p.privates j ≡ Some s → closed (4 * (n + j) + p.map.list.address) ≡ s.home
   closed_home j s e =
-      at_close (4 * (n + j) + p.list) (λ k. omega (arith, k, apart)) (λ k. omega (arith, k, apart))
-      ∙ home_there p.words.list_length p.list p.privates n j (4 * (n + j) + p.list) told s e (omega (arith, apart)) refl
+      at_close (4 * (n + j) + p.map.list.address) (λ k. omega (arith, k, apart)) (λ k. omega (arith, k, apart))
+      ∙ home_there (word_place p.map ListLength) p.map.list.address p.privates n j (4 * (n + j) + p.map.list.address) told s e (omega (arith, apart)) refl
 
-  pub closed_copy : (j : ℕ) (s : PrivateScalar) → slice_get p.privates j ≡ Some s → closed (4 * (n + j) + p.list + 2) ≡ s.copy
+  pub closed_copy : (j : ℕ) (s : PrivateScalar) → slice_get p.privates j ≡ Some s → closed (4 * (n + j) + p.map.list.address + 2) ≡ s.copy
   closed_copy j s e =
-      at_close (4 * (n + j) + p.list + 2) (λ k. omega (arith, k, apart)) (λ k. omega (arith, k, apart))
-      ∙ copy_there p.words.list_length p.list p.privates n j (4 * (n + j) + p.list + 2) told s e (omega (arith, apart)) refl
+      at_close (4 * (n + j) + p.map.list.address + 2) (λ k. omega (arith, k, apart)) (λ k. omega (arith, k, apart))
+      ∙ copy_there (word_place p.map ListLength) p.map.list.address p.privates n j (4 * (n + j) + p.map.list.address + 2) told s e (omega (arith, apart)) refl
 
   -- a word at which a transition doesn't store
   pub record IsLeft (a : ℕ) : Type 0 where
-    pub next_task : a ≡ p.words.next_task → ⊥
-    pub gate : a ≡ p.words.gate → ⊥
-    pub list_length : a ≡ p.words.list_length → ⊥
-    pub sent_base : a ≡ p.words.sent_base → ⊥
-    pub entries : 4 * n + p.list ≤ a → a < 4 * (n + length p.privates) + p.list → ⊥
+    pub next_task : a ≡ word_place p.map NextTask → ⊥
+    pub gate : a ≡ word_place p.map Gate → ⊥
+    pub list_length : a ≡ word_place p.map ListLength → ⊥
+    pub sent_base : a ≡ word_place p.map SentBase → ⊥
+    pub entries : 4 * n + p.map.list.address ≤ a → a < 4 * (n + length p.privates) + p.map.list.address → ⊥
 
   pub closed_left : (a : ℕ) → IsLeft a → closed a ≡ f a
   closed_left a h =
       at_close a h.gate h.sent_base
-      ∙ entries_elsewhere p.words.list_length p.list p.privates n a told h.list_length h.entries
-      ∙ put_other f p.words.next_task (task % 65536) a h.next_task
+      ∙ entries_elsewhere (word_place p.map ListLength) p.map.list.address p.privates n a told h.list_length h.entries
+      ∙ put_other f (word_place p.map NextTask) (task % 65536) a h.next_task

@@ -6,23 +6,24 @@ use Rattle.cost_bound.specs.Allowance.{CheckedTask}
 use Rattle.war_analysis.specs.PlanValue.{TaskPlanValue}
 use Rattle.source_values.specs.Runs.{CheckedProgram, IsRunnable}
 use Rattle.array_versions.specs.Form.{IsWhole, OfWords}
-use Rattle.privatise.specs.declared.place.VariablePlace.{VariablePlace}
-use Rattle.privatise.specs.declared.place.VariablePlace.TheVariants.{Scalar}
-use Rattle.privatise.specs.declared.place.PrivateScalar.{PrivateScalar}
-use Rattle.privatise.specs.LayoutValue.{LayoutValue, TaskLayoutValue}
-use Rattle.privatise.specs.Places.{end_of, HasItsPlace}
+use Rattle.memory_map.specs.declared.place.VariablePlace.{VariablePlace}
+use Rattle.memory_map.specs.declared.place.VariablePlace.TheVariants.{Scalar}
+use Rattle.memory_map.specs.declared.place.PrivateScalar.{PrivateScalar}
+use Rattle.memory_map.specs.MemoryMap.{MemoryMap, TaskPlace}
+use Rattle.memory_map.specs.Places.{end_of, HasItsPlace}
 use Rattle.privatise.specs.Layouts.{AreVariables}
 use Rattle.boot_runtime.specs.Entries.{task_entries}
 use Rattle.boot_runtime.specs.Listing.{privates_in}
-use Rattle.stands_for.specs.Layout as program
+use Rattle.memory_map.specs.Laws as memory
+use Rattle.memory_map.proofs.Parts.{apart_of}
 use Rattle.stands_for.specs.Layout.{IsSharedWord, IsCopyWord, HaveRoom, ArePrivate}
-use Rattle.lower.specs.Places.{places_of, address_of}
-use Rattle.lower.specs.Spots.{Element, IsCopied, copy_address, version_address, AreApart, AreEven, HasRoom}
+use Rattle.memory_map.specs.Spots.{places_of, address_of, Element, IsCopied, copy_address, version_address, IsWordOf}
+use Rattle.lower.specs.Spots.{AreApart, AreEven, HasRoom}
 use Rattle.lower.specs.Lowered.{lowered_block}
 use Rattle.lower.specs.Agreement.{place_length, BlockFits}
 use Rattle.compiled_model.specs.Places.{program_places}
 use Rattle.compiled_model.specs.View.{shared_word, are_rows}
-use Rattle.layout_facts.specs.Facts.{HasLayout, IsTaskAt, IsWordOf, task_room}
+use Rattle.layout_facts.specs.Facts.{HasLayout, IsTaskAt, task_room}
 use Rattle.layout_facts.proofs.Assigned.{addresses_are, tasks_match}
 use Rattle.layout_facts.proofs.Chains.{places_are_apart, tasks_have_room}
 use Rattle.whole_programs.specs.Laws.{IsLaidOutText}
@@ -36,25 +37,25 @@ use Rattle.layout_facts.proofs.Spots.{elements_stand, task_places_are_apart, tas
 use Rattle.layout_facts.proofs.Views.{view_has_their_words, rows_fit_places}
 
 -- rows have the places' lengths
-abbrev pub FitPlaces : LayoutValue → List (List ℕ) → Type 0
+abbrev pub FitPlaces : MemoryMap → List (List ℕ) → Type 0
 FitPlaces l rows = (v : ℕ) (place : VariablePlace) → slice_get l.variables v ≡ Some place
     → (v < length rows) × (length (slice_index_or rows v []) ≡ place_length place)
 
 -- the shared words are the words of the variables
-pub record AreSharedWords (p : CheckedProgram) (l : LayoutValue) : Type 0 where
+pub record AreSharedWords (p : CheckedProgram) (l : MemoryMap) : Type 0 where
   pub each : (a : ℕ) → IsSharedWord (program_places p l) a → (v : ℕ) × (i : ℕ) × IsWordOf l v i a
   pub is_shared : (v i a : ℕ) → IsWordOf l v i a → IsSharedWord (program_places p l) a
   pub is_word : (rows : List (List ℕ)) (v i a : ℕ) → IsWordOf l v i a → shared_word l.variables rows a ≡ slice_index (slice_index_or rows v []) i
   pub fit : (rows : List (List ℕ)) → are_rows p.shared rows ≡ true → FitPlaces l rows
 
 -- one of the version words
-pub record IsVersionWord (l : LayoutValue) (a : ℕ) : Type 0 where
+pub record IsVersionWord (l : MemoryMap) (a : ℕ) : Type 0 where
   pub number : ℕ
-  pub below : number < l.versions.capacity
+  pub below : number < l.versions.words
   pub is : a ≡ l.versions.address + 2 * number
 
 -- the private scalars of a task are those that it assigns: there it has the copy, and of each other scalar the word itself
-pub record ArePrivates (l : LayoutValue) (body : Code) (t : TaskLayoutValue) : Type 0 where
+pub record ArePrivates (l : MemoryMap) (body : Code) (t : TaskPlace) : Type 0 where
   pub assigned : (v home copy : ℕ) → slice_get l.variables v ≡ Some (Scalar home copy) → block_assigns v body ≡ true → address_of (places_of l t) v ≡ copy
   pub left : (v home copy : ℕ) → slice_get l.variables v ≡ Some (Scalar home copy) → block_assigns v body ≡ false → address_of (places_of l t) v ≡ home
   pub each : (v home copy : ℕ) → slice_get l.variables v ≡ Some (Scalar home copy) → block_assigns v body ≡ true
@@ -63,7 +64,7 @@ pub record ArePrivates (l : LayoutValue) (body : Code) (t : TaskLayoutValue) : T
 
 -- what is asked of a task with its layout: its places are apart, even, with room; its names are used as they were declared; and its word
 -- program is whole, and of words
-pub record IsTaskGiven (p : CheckedProgram) (l : LayoutValue) (task : CheckedTask) (t : TaskLayoutValue) : Type 0 where
+pub record IsTaskGiven (p : CheckedProgram) (l : MemoryMap) (task : CheckedTask) (t : TaskPlace) : Type 0 where
   pub apart : AreApart (places_of l t) (task_room p task)
   pub even : AreEven (places_of l t)
   pub has_room : HasRoom (places_of l t) (λ v. stores_of v task.body) (task_room p task)
@@ -75,23 +76,23 @@ pub record IsTaskGiven (p : CheckedProgram) (l : LayoutValue) (task : CheckedTas
   pub of_words : OfWords (lowered_block (places_of l t) task.body)
 
 -- what is asked of a source with its layout
-pub record IsGiven (p : CheckedProgram) (l : LayoutValue) : Type 0 where
+pub record IsGiven (p : CheckedProgram) (l : MemoryMap) : Type 0 where
   pub runnable : IsRunnable p
   pub variables : AreVariables p l.variables
   pub words : AreSharedWords p l
-  pub apart : program.AreApart (program_places p l)
+  pub apart : memory.AreApart l
   pub room : HaveRoom (program_places p l)
   pub privates : (k : ℕ) → ArePrivate (program_places p l) k (privates_in (task_entries l) k)
   pub code : end_of l.copies ≤ l.boot.address
   pub count : length l.tasks ≡ length p.tasks
-  pub tasks : (k : ℕ) (task : CheckedTask) (t : TaskLayoutValue) → slice_get p.tasks k ≡ Some task → slice_get l.tasks k ≡ Some t
+  pub tasks : (k : ℕ) (task : CheckedTask) (t : TaskPlace) → slice_get p.tasks k ≡ Some task → slice_get l.tasks k ≡ Some t
       → IsTaskGiven p l task t
 
-module _ (text : List ℕ) (p : CheckedProgram) (allow : Allow) (plans : List TaskPlanValue) (l : LayoutValue) (laid : IsLaidOutText text p allow plans l) where
+module _ (text : List ℕ) (p : CheckedProgram) (allow : Allow) (plans : List TaskPlanValue) (l : MemoryMap) (laid : IsLaidOutText text p allow plans l) where
   has : HasLayout p allow plans l
   has = record { allowed = laid.accepted.allowed; plan = laid.plan; layout = laid.layout }
 
-  privates_of : (k : ℕ) (task : CheckedTask) (t : TaskLayoutValue) → IsTaskAt p l k task t → ArePrivates l task.body t
+  privates_of : (k : ℕ) (task : CheckedTask) (t : TaskPlace) → IsTaskAt p l k task t → ArePrivates l task.body t
   privates_of k task t at =
       let a = addresses_are p allow plans l has k task t at in
       let m = tasks_match p allow plans l has k task t at in
@@ -102,7 +103,7 @@ module _ (text : List ℕ) (p : CheckedProgram) (allow : Allow) (plans : List Ta
         only = λ s c. let o = m.only s c in (o.0.assigned, o.1);
       }
 
-  task_given : (k : ℕ) (task : CheckedTask) (t : TaskLayoutValue) → slice_get p.tasks k ≡ Some task → slice_get l.tasks k ≡ Some t → IsTaskGiven p l task t
+  task_given : (k : ℕ) (task : CheckedTask) (t : TaskPlace) → slice_get p.tasks k ≡ Some task → slice_get l.tasks k ≡ Some t → IsTaskGiven p l task t
   task_given k task t is_task is_layout =
       let at : IsTaskAt p l k task t = record { is_task = is_task; is_layout = is_layout } in
       let e = elements_stand p allow plans l has t in
@@ -133,7 +134,7 @@ module _ (text : List ℕ) (p : CheckedProgram) (allow : Allow) (plans : List Ta
         apart = places_are_apart p allow plans l has;
         room = tasks_have_room p allow plans l has;
         privates = privates_are_theirs p allow plans l has;
-        code = has.layout.rules.apart.boot;
+        code = (apart_of l has.layout.rules).boot;
         count = has.layout.tasks.count;
         tasks = task_given;
       }

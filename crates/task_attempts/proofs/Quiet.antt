@@ -8,30 +8,32 @@ use Rattle.stands_for.specs.Layout.{ProgramPlaces, StateView, IsSharedWord}
 use Rattle.stands_for.specs.StandsFor.{VersionsWithin, UndecidedAt}
 use Rattle.stands_for.proofs.Keeps.{put_either, put_words}
 use Rattle.lower.specs.Agreement.{TakesAndStores}
+use Rattle.memory_map.specs.MemoryMap.{word_place}
+use Rattle.memory_map.specs.declared.words.RuntimeWord.TheVariants.{CurrentTask, Gate, Base, Version}
 
 -- a store of a word to none of the words that an undecided world speaks of, and to a version word of no more than VER, which is this number
 pub record IsQuiet (l : ProgramPlaces) (ver a w : ℕ) : Type 0 where
   pub is_word : w < 0x10000
   pub not_shared : IsSharedWord l a → ⊥
-  pub current_task : a ≡ l.runtime.words.current_task → ⊥
-  pub gate : a ≡ l.runtime.words.gate → ⊥
-  pub base : a ≡ l.runtime.words.base → ⊥
-  pub version : a ≡ l.runtime.words.version → ⊥
-  pub versions : (i : ℕ) → i < l.runtime.version_count → a ≡ l.runtime.versions + 2 * i → w ≤ ver
+  pub current_task : a ≡ word_place l.map CurrentTask → ⊥
+  pub gate : a ≡ word_place l.map Gate → ⊥
+  pub base : a ≡ word_place l.map Base → ⊥
+  pub version : a ≡ word_place l.map Version → ⊥
+  pub versions : (i : ℕ) → i < l.map.versions.words → a ≡ l.map.versions.address + 2 * i → w ≤ ver
 
 module _ {St : Type 0} (l : ProgramPlaces) (v : StateView St) (s : St) (ver : ℕ) where
   -- a world that is undecided, with VER
   pub record IsQuietAt (x : World) : Type 0 where
     pub undecided : UndecidedAt l v s x
-    pub version : x.fram l.runtime.words.version ≡ ver
+    pub version : x.fram (word_place l.map Version) ≡ ver
 
   versions_keep : (x : World) (a w : ℕ) → IsQuiet l ver a w → IsQuietAt x → VersionsWithin l (put x.fram a w)
   versions_keep x a w q u i h =
-      let m = l.runtime.versions + 2 * i in
-      let top : put x.fram a w l.runtime.words.version ≡ ver = put_other x.fram a w l.runtime.words.version (λ e. q.version (sym e)) ∙ u.version in
+      let m = l.map.versions.address + 2 * i in
+      let top : put x.fram a w (word_place l.map Version) ≡ ver = put_other x.fram a w (word_place l.map Version) (λ e. q.version (sym e)) ∙ u.version in
       let was = u.undecided.is_open.versions i h in
       let same = u.version in
-      ⊎_elim {C = put x.fram a w m ≤ put x.fram a w l.runtime.words.version}
+      ⊎_elim {C = put x.fram a w m ≤ put x.fram a w (word_place l.map Version)}
       (λ k. let e = k.1 in let most = q.versions i h (sym k.0) in omega (arith, e, most, top))
       (λ k. let e = k.1 in omega (arith, e, was, same, top))
       (put_either x.fram a w m)
@@ -46,15 +48,15 @@ module _ {St : Type 0} (l : ProgramPlaces) (v : StateView St) (s : St) (ver : �
             is_state = o.is_state;
             is_task = o.is_task;
             words = put_words x.fram a w o.words q.is_word;
-            current_task = put_other x.fram a w l.runtime.words.current_task (λ e. q.current_task (sym e)) ∙ o.current_task;
-            gate = put_other x.fram a w l.runtime.words.gate (λ e. q.gate (sym e)) ∙ o.gate;
+            current_task = put_other x.fram a w (word_place l.map CurrentTask) (λ e. q.current_task (sym e)) ∙ o.current_task;
+            gate = put_other x.fram a w (word_place l.map Gate) (λ e. q.gate (sym e)) ∙ o.gate;
             accepted = o.accepted;
-            base = put_other x.fram a w l.runtime.words.base (λ e. q.base (sym e)) ∙ o.base;
+            base = put_other x.fram a w (word_place l.map Base) (λ e. q.base (sym e)) ∙ o.base;
             versions = versions_keep x a w q u;
           };
           shared = λ y h. ⊎_elim (λ f. inl f) (λ e. inr (put_other x.fram a w y (λ k. q.not_shared (subst (IsSharedWord l) k h)) ∙ e)) (u.undecided.shared y h);
         };
-        version = put_other x.fram a w l.runtime.words.version (λ e. q.version (sym e)) ∙ u.version;
+        version = put_other x.fram a w (word_place l.map Version) (λ e. q.version (sym e)) ∙ u.version;
       }
 
   -- quiet effects keep it so throughout

@@ -7,24 +7,23 @@ use Rattle.source_values.specs.Values.{word_at}
 use Rattle.source_values.specs.Runs.{CheckedProgram, State, fresh_attempt}
 use Rattle.task_ast.specs.declared.names.Variable.TheVariants.{Shared}
 use Rattle.array_versions.specs.Behaviour.{started}
-use Rattle.privatise.specs.declared.place.VariablePlace.TheVariants.{Scalar}
-use Rattle.privatise.specs.LayoutValue.{LayoutValue}
 use Rattle.boot_runtime.specs.Entries.{task_entries}
 use Rattle.boot_runtime.specs.Listing.{privates_in}
 use Rattle.stands_for.specs.StandsFor.{StartedAt}
-use Rattle.lower.specs.Places.{address_of, Places}
-use Rattle.lower.specs.Spots.{Element, IsElement, IsCopied, version_address, element_address}
 use Rattle.lower.specs.Agreement.{own_word, StandsFor}
 use Rattle.compiled_model.specs.Places.{program_places}
 use Rattle.compiled_model.specs.View.{state_view}
-use Rattle.layout_facts.specs.Facts.{IsWordOf}
-use Rattle.layout_facts.proofs.Privates.{home_of_scalar}
+use Rattle.memory_map.proofs.Addresses.{scalar_home}
 use Rattle.task_attempts.proofs.Given.{IsGiven, IsTaskGiven}
 use Rattle.task_attempts.proofs.Tasks.{IsAt, places, body, task_given, among_privates}
 use Rattle.task_attempts.proofs.Stores.{scalar_place}
 use Rattle.task_attempts.proofs.Words.{OwnWord, marked, unmarked, own_word_of, element_word}
+use Rattle.memory_map.specs.declared.words.RuntimeWord.TheVariants.{Version}
+use Rattle.memory_map.specs.declared.place.VariablePlace.TheVariants.{Scalar}
+use Rattle.memory_map.specs.MemoryMap.{MemoryMap, word_place}
+use Rattle.memory_map.specs.Spots.{address_of, Places, Element, IsElement, IsCopied, version_address, element_address, IsWordOf}
 
-module _ (p : CheckedProgram) (l : LayoutValue) (given : IsGiven p l) (s : State) (i : IsAt p l s.task) (x : World) (readings : List ℕ)
+module _ (p : CheckedProgram) (l : MemoryMap) (given : IsGiven p l) (s : State) (i : IsAt p l s.task) (x : World) (readings : List ℕ)
     (st : StartedAt (program_places p l) (state_view p l) s (privates_in (task_entries l) s.task) x) where
   -- the places that the task works on
   abbrev here : Places
@@ -53,14 +52,14 @@ module _ (p : CheckedProgram) (l : LayoutValue) (given : IsGiven p l) (s : State
       let c : Contains i.layout.privates (record { number = v; home = home; copy = copy }) = r.each v home copy e assigned in
       ap x.fram (r.assigned v home copy e assigned)
       ∙ st.copies (record { home = home; copy = copy }) (among_privates p l given s.task i (record { number = v; home = home; copy = copy }) c)
-      ∙ given.words.is_word s.shared v 0 home (home_of_scalar l v home copy e)
+      ∙ given.words.is_word s.shared v 0 home (scalar_home l v home copy e)
   scalar_stands v home copy false e left =
       let r = facts.privates in
-      ap x.fram (r.left v home copy e left) ∙ home_stands v 0 home (home_of_scalar l v home copy e)
+      ap x.fram (r.left v home copy e left) ∙ home_stands v 0 home (scalar_home l v home copy e)
 
   -- no element has a version word of this attempt
   none_marked : (e : Element) → IsCopied here e
-      → x.fram (version_address here e) ≡ x.fram l.words.version → ⊥
+      → x.fram (version_address here e) ≡ x.fram (word_place l Version) → ⊥
   none_marked e c h =
       let v = facts.versions e c in
       let below = st.versions v.number v.below in

@@ -4,12 +4,14 @@ use Rattle.std.specs.Prelude.{true, slice_get}
 use Rattle.cost_bound.specs.Counts.{emits_of, block_assigns, Code}
 use Rattle.cost_bound.specs.Allowance.{list_of}
 use Rattle.source_values.specs.Runs.{CheckedProgram}
-use Rattle.privatise.specs.declared.place.VariablePlace.{VariablePlace}
-use Rattle.privatise.specs.declared.place.VariablePlace.TheVariants.{Scalar, Array}
-use Rattle.privatise.specs.LayoutValue.{LayoutValue}
+use Rattle.memory_map.specs.declared.words.RuntimeWord.TheVariants.{CurrentTask, Gate, ListLength, EmitCount, Base, Version}
+use Rattle.memory_map.specs.declared.place.VariablePlace.{VariablePlace}
+use Rattle.memory_map.specs.declared.place.VariablePlace.TheVariants.{Scalar, Array}
+use Rattle.memory_map.specs.MemoryMap.{MemoryMap, word_place}
 use Rattle.stands_for.specs.Layout.{IsCopyWord, ProgramPlaces}
-use Rattle.lower.specs.Places.{address_of, Places}
-use Rattle.lower.specs.Spots.{IsScalarPlace, IsScalarAt, Room}
+use Rattle.memory_map.specs.Spots.{address_of, Places, IsScalarPlace, IsScalarAt}
+use Rattle.memory_map.specs.Places.{end_of}
+use Rattle.lower.specs.Spots.{Room}
 use Rattle.lower.specs.Agreement.{IsTaskStore, at_variable, at_copy, at_version, in_list, at_list_length, at_emit_count, in_buffer}
 use Rattle.compiled_model.specs.Places.{program_places}
 use Rattle.task_attempts.proofs.Given.{IsGiven, IsVersionWord, IsTaskGiven}
@@ -24,19 +26,19 @@ scalar_place (Some (Scalar home copied)) h = (home, copied, refl)
 scalar_place (Some (Array elements length copies)) h = absurd h
 scalar_place None h = absurd h
 
-module _ (p : CheckedProgram) (l : LayoutValue) (given : IsGiven p l) (ver most : ℕ) where
+module _ (p : CheckedProgram) (l : MemoryMap) (given : IsGiven p l) (ver most : ℕ) where
   -- a store that an undecided world bears, of no more than so many emitted words, to data
   pub record IsSafe (a w : ℕ) : Type 0 where
     pub quiet : IsQuiet (program_places p l) ver a w
-    pub list_length : a ≡ l.words.list_length → w ≤ l.list.capacity
-    pub emit_count : a ≡ l.words.emit_count → w ≤ most
+    pub list_length : a ≡ word_place l ListLength → w ≤ l.entries
+    pub emit_count : a ≡ word_place l EmitCount → w ≤ most
     pub from : 0x4400 ≤ a
-    pub below : a < (program_places p l).copies_end
+    pub below : a < end_of l.copies
 
   -- behind CUR and before the version words
-  safe_low : (a w : ℕ) → w < 0x10000 → l.words.current_task < a → a < l.versions.address → (a ≡ l.words.gate → ⊥) → (a ≡ l.words.base → ⊥) →
-      (a ≡ l.words.version → ⊥)
-      → (a ≡ l.words.list_length → w ≤ l.list.capacity) → (a ≡ l.words.emit_count → w ≤ most) → IsSafe a w
+  safe_low : (a w : ℕ) → w < 0x10000 → word_place l CurrentTask < a → a < l.versions.address → (a ≡ word_place l Gate → ⊥) → (a ≡ word_place l Base → ⊥) →
+      (a ≡ word_place l Version → ⊥)
+      → (a ≡ word_place l ListLength → w ≤ l.entries) → (a ≡ word_place l EmitCount → w ≤ most) → IsSafe a w
   safe_low a w small lo hi gate base ver list few =
       let apart = given.apart in
       record {
@@ -93,7 +95,7 @@ module _ (p : CheckedProgram) (l : LayoutValue) (given : IsGiven p l) (ver most 
         below = omega (arith, apart, c);
       }
 
-module _ (p : CheckedProgram) (l : LayoutValue) (given : IsGiven p l) (k : ℕ) (is_task : k < length p.tasks) (i : IsAt p l k) where
+module _ (p : CheckedProgram) (l : MemoryMap) (given : IsGiven p l) (k : ℕ) (is_task : k < length p.tasks) (i : IsAt p l k) where
   -- the places that the task works on
   abbrev here : Places
   here = places p l given k i
@@ -114,11 +116,11 @@ module _ (p : CheckedProgram) (l : LayoutValue) (given : IsGiven p l) (k : ℕ) 
   abbrev sites : ProgramPlaces
   sites = program_places p l
 
-  list_fits : list_of p.shared code ≤ l.list.capacity
-  list_fits = subst (λ b. list_of p.shared b ≤ l.list.capacity) (body_is p l given k i) (given.room.list k is_task)
+  list_fits : list_of p.shared code ≤ l.entries
+  list_fits = subst (λ b. list_of p.shared b ≤ l.entries) (body_is p l given k i) (given.room.list k is_task)
 
-  pub emits_fit : emits_of code ≤ l.emits.capacity
-  emits_fit = subst (λ b. emits_of b ≤ l.emits.capacity) (body_is p l given k i) (given.room.emits k is_task)
+  pub emits_fit : emits_of code ≤ l.emits.words
+  emits_fit = subst (λ b. emits_of b ≤ l.emits.words) (body_is p l given k i) (given.room.emits k is_task)
 
   module _ (ver : ℕ) where
     abbrev pub Safe : ℕ → ℕ → Type 0

@@ -6,15 +6,12 @@ use Rattle.cost_bound.specs.Counts.{Code}
 use Rattle.cost_bound.specs.Allowance.{CheckedTask}
 use Rattle.war_analysis.proofs.Steps.{element}
 use Rattle.source_values.specs.Runs.{CheckedProgram, body_of, task_body}
-use Rattle.privatise.specs.declared.place.PrivateScalar.{PrivateScalar}
-use Rattle.privatise.specs.LayoutValue.{LayoutValue, TaskLayoutValue}
 use Rattle.runtime_effects.specs.Places.{CopyPair}
 use Rattle.lower.proofs.Blocks.{program_at}
 use Rattle.runtime_code.specs.LayoutPlaces.{pair_of, pairs_of}
 use Rattle.boot_runtime.specs.Listing.{privates_in}
 use Rattle.boot_runtime.specs.Entries.{entry_of, task_entries}
 use Rattle.stands_for.specs.Layout.{IsAmong, IsCopyWord, ArePrivate}
-use Rattle.lower.specs.Places.{Places, places_of}
 use Rattle.lower.specs.Spots.{Room}
 use Rattle.lower.specs.Lowered.{lowered_block}
 use Rattle.compiled_model.specs.Places.{program_places}
@@ -22,21 +19,24 @@ use Rattle.compiled_model.specs.Parts.{task_program}
 use Rattle.layout_facts.specs.Facts.{task_room}
 use Rattle.task_attempts.proofs.Given.{IsGiven, IsTaskGiven}
 use Rattle.task_attempts.proofs.Listed.{private_among}
+use Rattle.memory_map.specs.declared.place.PrivateScalar.{PrivateScalar}
+use Rattle.memory_map.specs.MemoryMap.{MemoryMap, TaskPlace}
+use Rattle.memory_map.specs.Spots.{Places, places_of}
 
 -- a task of a source by its number, with its layout
-pub record IsAt (p : CheckedProgram) (l : LayoutValue) (k : ℕ) : Type 0 where
+pub record IsAt (p : CheckedProgram) (l : MemoryMap) (k : ℕ) : Type 0 where
   pub task : CheckedTask
-  pub layout : TaskLayoutValue
+  pub layout : TaskPlace
   pub task_is : slice_get p.tasks k ≡ Some task
   pub layout_is : slice_get l.tasks k ≡ Some layout
 
-pub task_at : (p : CheckedProgram) (l : LayoutValue) → length l.tasks ≡ length p.tasks → (k : ℕ) → k < length p.tasks → IsAt p l k
+pub task_at : (p : CheckedProgram) (l : MemoryMap) → length l.tasks ≡ length p.tasks → (k : ℕ) → k < length p.tasks → IsAt p l k
 task_at p l count k h =
     let a = element p.tasks k h in
     let b = element l.tasks k (omega (arith, count, h)) in
     record { task = a.0; layout = b.0; task_is = a.1; layout_is = b.1 }
 
-module _ (p : CheckedProgram) (l : LayoutValue) (given : IsGiven p l) (k : ℕ) (i : IsAt p l k) where
+module _ (p : CheckedProgram) (l : MemoryMap) (given : IsGiven p l) (k : ℕ) (i : IsAt p l k) where
   abbrev pub body : Code
   body = i.task.body
 

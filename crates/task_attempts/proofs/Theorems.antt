@@ -16,6 +16,8 @@ use Rattle.task_attempts.specs.Laws.{TasksKeepTheirContract, CompiledSourcesKeep
 use Rattle.task_attempts.proofs.Given.{given}
 use Rattle.task_attempts.proofs.Tasks.{task_at}
 use Rattle.task_attempts.proofs.Contracts.{program_keeps, program_stores, program_leaves}
+use Rattle.memory_map.specs.MemoryMap.{word_place}
+use Rattle.memory_map.specs.declared.words.RuntimeWord.TheVariants.{CurrentTask}
 
 pub tasks_contract : TasksKeepTheirContract
 tasks_contract text p allow plans l laid runnable s x readings small st =
@@ -40,7 +42,7 @@ stores_below_code text p allow plans l laid runnable s x readings small u =
     let apart = g.apart in
     let code = g.code in
     let task = program_stores p l g s is_task (task_at p l g.count s.task is_task) y readings (start.started s x u) blocks_agree small in
-    each_store-append (IsBelowCode l) es ((program_parts p l).body (x.fram l.words.current_task) (fram_after es x.fram) readings).effects
+    each_store-append (IsBelowCode l) es ((program_parts p l).body (x.fram (word_place l CurrentTask)) (fram_after es x.fram) readings).effects
     (start_stores_so (program_places p l) apart (state_view p l) (IsBelowCode l)
     (λ i h. record { from = omega (arith, apart); below = omega (arith, apart, h, code); list = λ e. omega arith; emits = λ e. omega arith })
     (record {

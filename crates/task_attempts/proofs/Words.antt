@@ -3,52 +3,52 @@ use Rattle.std.proofs.Common.{◌≡◌, ℕ, ◌+◌, ◌*◌, ◌==◌, ◌<�
 use Rattle.std.proofs.lemmas.Bool.{cases_eq}
 use Rattle.std.specs.Prelude.{Contains, slice_get}
 use Rattle.cost_bound.specs.Counts.{Code, block_assigns}
-use Rattle.privatise.specs.declared.place.ArrayCopies.{ArrayCopies}
-use Rattle.privatise.specs.declared.place.VariablePlace.{VariablePlace}
-use Rattle.privatise.specs.declared.place.VariablePlace.TheVariants.{Scalar, Array}
-use Rattle.privatise.specs.declared.place.PrivateScalar.{PrivateScalar}
-use Rattle.privatise.specs.LayoutValue.{LayoutValue, TaskLayoutValue}
-use Rattle.privatise.specs.Places.{home_region}
-use Rattle.lower.specs.Places.{Places, places_of, address_of}
-use Rattle.lower.specs.Spots.{IsScalarPlace, IsScalarAt, Element, IsElement, IsCopied, element_in, copy_in, version_in, element_address, copy_address, version_address}
 use Rattle.lower.specs.Agreement.{own_word}
-use Rattle.layout_facts.specs.Facts.{IsWordOf}
 use Rattle.task_attempts.proofs.Given.{ArePrivates}
+use Rattle.memory_map.specs.declared.words.RuntimeWord.TheVariants.{Version}
+use Rattle.memory_map.specs.declared.place.ArrayCopies.{ArrayCopies}
+use Rattle.memory_map.specs.declared.place.VariablePlace.{VariablePlace}
+use Rattle.memory_map.specs.declared.place.VariablePlace.TheVariants.{Scalar, Array}
+use Rattle.memory_map.specs.declared.place.PrivateScalar.{PrivateScalar}
+use Rattle.memory_map.specs.MemoryMap.{MemoryMap, TaskPlace, word_place}
+use Rattle.memory_map.specs.Places.{home_region}
+use Rattle.memory_map.specs.Spots.{Places, places_of, address_of, IsScalarPlace, IsScalarAt, Element, IsElement, IsCopied, element_in, copy_in, version_in, element_address, copy_address, version_address, IsWordOf}
 
 -- an element as an attempt has it: its copy where its version word is VER, else the element itself
 pub data OwnWord (p : Places) (f : ℕ → ℕ) (x : Element) : Type 0 where
-  marked : IsCopied p x → f (version_address p x) ≡ f p.words.version → own_word p f (slice_get p.variables x.array) x.index ≡ f (copy_address p x)
+  marked : IsCopied p x → f (version_address p x) ≡ f (word_place p.map Version) → own_word p f (slice_get p.map.variables x.array) x.index
+      ≡ f (copy_address p x)
       → OwnWord p f x
-  unmarked : (IsCopied p x → f (version_address p x) ≡ f p.words.version → ⊥) → own_word p f (slice_get p.variables x.array) x.index ≡ f
+  unmarked : (IsCopied p x → f (version_address p x) ≡ f (word_place p.map Version) → ⊥) → own_word p f (slice_get p.map.variables x.array) x.index ≡ f
       (element_address p x) → OwnWord p f x
 
 module _ (p : Places) (f : ℕ → ℕ) (x : Element) (elements length : ℕ) (below : x.index < length) where
-  own_uncopied : slice_get p.variables x.array ≡ Some (Array elements length None) → OwnWord p f x
+  own_uncopied : slice_get p.map.variables x.array ≡ Some (Array elements length None) → OwnWord p f x
   own_uncopied e =
       unmarked (λ c m. let k = c.is_array.place in cc) (ap (λ o. own_word p f o x.index) e ∙ sym (ap (λ o. f (element_in o x.index)) e))
 
-  own_copied : (c : ArrayCopies) → slice_get p.variables x.array ≡ Some (Array elements length (Some c)) → OwnWord p f x
+  own_copied : (c : ArrayCopies) → slice_get p.map.variables x.array ≡ Some (Array elements length (Some c)) → OwnWord p f x
   own_copied c e =
       let m = 2 * x.index + c.versions in
       let copied : IsCopied p x = record { elements = elements; length = length; copies = c; is_array = record { place = e }; below = below } in
       let at_version : version_address p x ≡ m = ap (λ o. version_in o x.index) e in
       let chosen : Bool → ℕ = λ b. if b then f (2 * x.index + c.copies) else f (2 * x.index + elements) in
-      let word : own_word p f (slice_get p.variables x.array) x.index ≡ chosen (f p.words.version == f m) = ap (λ o. own_word p f o x.index) e in
+      let word : own_word p f (slice_get p.map.variables x.array) x.index ≡ chosen (f (word_place p.map Version) == f m) = ap (λ o. own_word p f o x.index) e in
       ⊎_elim {C = OwnWord p f x}
       (λ same. marked copied (ap f at_version ∙ sym same)
-      (word ∙ ap chosen (eq-eqb (f p.words.version) (f m) same) ∙ sym (ap (λ o. f (copy_in o x.index)) e)))
+      (word ∙ ap chosen (eq-eqb (f (word_place p.map Version)) (f m) same) ∙ sym (ap (λ o. f (copy_in o x.index)) e)))
       (λ other. unmarked (λ k h. other (sym h ∙ ap f at_version))
-      (word ∙ ap chosen (ne_eqb (f p.words.version) (f m) other) ∙ sym (ap (λ o. f (element_in o x.index)) e)))
-      (cases_eq (f p.words.version) (f m))
+      (word ∙ ap chosen (ne_eqb (f (word_place p.map Version)) (f m) other) ∙ sym (ap (λ o. f (element_in o x.index)) e)))
+      (cases_eq (f (word_place p.map Version)) (f m))
 
-  own_by : (copies : Option ArrayCopies) → slice_get p.variables x.array ≡ Some (Array elements length copies) → OwnWord p f x
+  own_by : (copies : Option ArrayCopies) → slice_get p.map.variables x.array ≡ Some (Array elements length copies) → OwnWord p f x
   own_by None e = own_uncopied e
   own_by (Some c) e = own_copied c e
 
 pub own_word_of : (p : Places) (f : ℕ → ℕ) (x : Element) → IsElement p x → OwnWord p f x
 own_word_of p f x h = own_by p f x h.elements h.length h.below h.copies h.is_array.place
 
-module _ (l : LayoutValue) (body : Code) (t : TaskLayoutValue) (privates : ArePrivates l body t) where
+module _ (l : MemoryMap) (body : Code) (t : TaskPlace) (privates : ArePrivates l body t) where
   -- word i of variable v, at an address: a scalar that the task has there, one that it has in a copy, or an element
   pub data IsTaskWord (v i a : ℕ) : Type 0 where
     left_there : IsScalarAt (places_of l t) v → i ≡ 0 → address_of (places_of l t) v ≡ a → IsTaskWord v i a

@@ -4,7 +4,8 @@ use Rattle.machine_effects.specs.World.{World, EachStore}
 use Rattle.cost_bound.specs.declared.allowance.Allow.{Allow}
 use Rattle.source_values.specs.Runs.{CheckedProgram, State, IsRunnable}
 use Rattle.war_analysis.specs.PlanValue.{TaskPlanValue}
-use Rattle.privatise.specs.LayoutValue.{LayoutValue}
+use Rattle.memory_map.specs.declared.words.RuntimeWord.TheVariants.{ListLength, EmitCount}
+use Rattle.memory_map.specs.MemoryMap.{MemoryMap, word_place}
 use Rattle.array_versions.specs.Behaviour.{behaviour, started}
 use Rattle.boot_runtime.specs.Entries.{task_entries}
 use Rattle.boot_runtime.specs.Listing.{privates_in}
@@ -18,8 +19,8 @@ use Rattle.compiled_model.specs.Needs.{LeavesFor}
 use Rattle.whole_programs.specs.Laws.{IsLaidOutText}
 
 -- what holds of each accepted text with a plan and a layout, whose runs go on
-abbrev OfTexts : (CheckedProgram → LayoutValue → Type 0) → Type 0
-OfTexts F = (text : List ℕ) (p : CheckedProgram) (allow : Allow) (plans : List TaskPlanValue) (l : LayoutValue)
+abbrev OfTexts : (CheckedProgram → MemoryMap → Type 0) → Type 0
+OfTexts F = (text : List ℕ) (p : CheckedProgram) (allow : Allow) (plans : List TaskPlanValue) (l : MemoryMap)
     → IsLaidOutText text p allow plans l → IsRunnable p → F p l
 
 -- the word programs keep the tasks' contract
@@ -32,11 +33,11 @@ CompiledSourcesKeepTheLaws = OfTexts (λ p l. ModelLaws (compiled_model p l))
 
 -- a store to the runtime's words, to its lists, or to copies: behind the beginning of FRAM and before the code, to CLN and EN within the
 -- capacities of the list and the buffer
-pub record IsBelowCode (l : LayoutValue) (a w : ℕ) : Type 0 where
+pub record IsBelowCode (l : MemoryMap) (a w : ℕ) : Type 0 where
   pub from : 0x4400 ≤ a
   pub below : a < l.boot.address
-  pub list : a ≡ l.words.list_length → w ≤ l.list.capacity
-  pub emits : a ≡ l.words.emit_count → w ≤ l.emits.capacity
+  pub list : a ≡ word_place l ListLength → w ≤ l.entries
+  pub emits : a ≡ word_place l EmitCount → w ≤ l.emits.words
 
 -- an attempt from an undecided world stores nothing to the code
 abbrev pub AttemptsStoreBelowCode : Type 0

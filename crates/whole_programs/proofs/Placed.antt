@@ -6,14 +6,16 @@ use Rattle.std.specs.Option.{option_map}
 use Rattle.std.proofs.lemmas.Option.{slice_get-map}
 use Rattle.std.proofs.lemmas.List.Elements.{All-head, All-tail}
 use Rattle.alp_words.specs.Words.{IsWord}
-use Rattle.privatise.specs.declared.place.Region.{Region}
-use Rattle.privatise.specs.declared.place.VariablePlace.{VariablePlace}
-use Rattle.privatise.specs.declared.place.VariablePlace.TheVariants.{Scalar, Array}
-use Rattle.privatise.specs.declared.place.PrivateScalar.{PrivateScalar}
-use Rattle.privatise.specs.LayoutValue.{LayoutValue, TaskLayoutValue}
-use Rattle.privatise.specs.Places.{end_of, AreInOrder, home_region, copy_regions, version_regions, HasItsPlace, IsLaidOut}
-use Rattle.privatise.proofs.InOrder.{in_order_within, in_order_split, in_order_end}
-use Rattle.lower.specs.Places.{places_of, copy_among, home_in, home_of, copy_else}
+use Rattle.address_space.specs.Limits.{reset_vector}
+use Rattle.memory_map.specs.declared.place.Region.{Region}
+use Rattle.memory_map.specs.declared.place.VariablePlace.{VariablePlace}
+use Rattle.memory_map.specs.declared.place.VariablePlace.TheVariants.{Scalar, Array}
+use Rattle.memory_map.specs.declared.place.PrivateScalar.{PrivateScalar}
+use Rattle.memory_map.specs.MemoryMap.{MemoryMap, TaskPlace}
+use Rattle.memory_map.specs.Places.{end_of, AreInOrder, home_region, copy_regions, version_regions, HasItsPlace, IsLaidOut}
+use Rattle.memory_map.proofs.Parts.{parts_in_fram, words_stand}
+use Rattle.memory_map.proofs.InOrder.{in_order_within, in_order_split, in_order_end}
+use Rattle.memory_map.specs.Spots.{places_of, copy_among, home_in, home_of, copy_else}
 use Rattle.whole_programs.proofs.Steps.{PlaceOfWords, PrivateOfWords, PlacesOfWords}
 
 -- the regions of one variable among those of all end by the end
@@ -27,75 +29,34 @@ regions_end f from (x ∷ vs) end zero v h e =
     (from, s.0, in_order_end s.0 (flat_map f vs) end s.2, subst (λ y. AreInOrder from (f y) s.0) same s.1)
 regions_end f from (x ∷ vs) end (suc i) v h e = let s = in_order_split from (f x) (flat_map f vs) end h in regions_end f s.0 vs end i v s.2 e
 
-module _ (l : LayoutValue) (laid : IsLaidOut l) where
-  code_is_low : l.code.address ≤ 65534
-  code_is_low = let a = laid.apart.high in omega arith
-
-  commit_is_low : l.commit.address ≤ 65534
-  commit_is_low = let a = laid.apart.code in let b = code_is_low in omega arith
-
-  copies_are_low : end_of l.copies ≤ 65534
-  copies_are_low = let a = laid.apart.boot in let b = laid.apart.commit in let c = commit_is_low in omega arith
-
-  homes_are_low : end_of l.homes ≤ 65534
-  homes_are_low = let a = laid.apart.copies in let b = copies_are_low in omega arith
-
-  versions_are_low : l.versions.address + 2 * l.versions.capacity ≤ 65534
-  versions_are_low = let a = laid.apart.homes in let b = homes_are_low in omega arith
-
-  emits_are_low : l.emits.address ≤ 65534
-  emits_are_low = let a = laid.apart.versions in let b = versions_are_low in omega arith
-
-  list_is_low : l.list.address ≤ 65534
-  list_is_low = let a = laid.apart.emits in let b = emits_are_low in omega arith
-
-  version_is_low : l.words.version ≤ 65534
-  version_is_low = let a = laid.apart.list in let b = list_is_low in omega arith
-
-  sent_base_is_low : l.words.sent_base ≤ 65534
-  sent_base_is_low = let a = laid.apart.version in let b = version_is_low in omega arith
-
-  base_is_low : l.words.base ≤ 65534
-  base_is_low = let a = laid.apart.sent_base in let b = sent_base_is_low in omega arith
-
-  emit_count_is_low : l.words.emit_count ≤ 65534
-  emit_count_is_low = let a = laid.apart.base in let b = base_is_low in omega arith
-
-  list_length_is_low : l.words.list_length ≤ 65534
-  list_length_is_low = let a = laid.apart.emit_count in let b = emit_count_is_low in omega arith
-
-  gate_is_low : l.words.gate ≤ 65534
-  gate_is_low = let a = laid.apart.list_length in let b = list_length_is_low in omega arith
-
-  next_task_is_low : l.words.next_task ≤ 65534
-  next_task_is_low = let a = laid.apart.gate in let b = gate_is_low in omega arith
-
+module _ (l : MemoryMap) (laid : IsLaidOut l) where
   -- ---- variables
 
-  home_ends : (i : ℕ) (v : VariablePlace) → slice_get l.variables i ≡ Some v → end_of (home_region v) ≤ 65534
+  home_ends : (i : ℕ) (v : VariablePlace) → slice_get l.variables i ≡ Some v → end_of (home_region v) ≤ reset_vector
   home_ends i v e =
       let there = slice_get-map home_region l.variables i ∙ ap (option_map home_region) e in
       let a = (in_order_within l.homes.address (map home_region l.variables) (end_of l.homes) i (home_region v) laid.homes there).end in
-      let b = homes_are_low in
+      let b = (parts_in_fram l laid).homes.end in
       omega arith
 
-  copies_end : (i : ℕ) (v : VariablePlace) → slice_get l.variables i ≡ Some v → (low : ℕ) × (high : ℕ) × (high ≤ 65534) × AreInOrder low (copy_regions v) high
+  copies_end : (i : ℕ) (v : VariablePlace) → slice_get l.variables i ≡ Some v → (low : ℕ) × (high : ℕ) × (high ≤ reset_vector)
+      × AreInOrder low (copy_regions v) high
   copies_end i v e =
       let r = regions_end copy_regions l.copies.address l.variables (end_of l.copies) i v laid.copies e in
       let a = r.2 in
-      let b = copies_are_low in
+      let b = (parts_in_fram l laid).copies.end in
       (r.0, r.1, omega arith, r.3)
 
   versions_end : (i : ℕ) (v : VariablePlace) → slice_get l.variables i ≡ Some v
-      → (low : ℕ) × (high : ℕ) × (high ≤ 65534) × AreInOrder low (version_regions v) high
+      → (low : ℕ) × (high : ℕ) × (high ≤ reset_vector) × AreInOrder low (version_regions v) high
   versions_end i v e =
-      let r = regions_end version_regions l.versions.address l.variables (l.versions.address + 2 * l.versions.capacity) i v laid.versions e in
+      let r = regions_end version_regions l.versions.address l.variables (end_of l.versions) i v laid.versions e in
       let a = r.2 in
-      let b = versions_are_low in
+      let b = (parts_in_fram l laid).versions.end in
       (r.0, r.1, omega arith, r.3)
 
   -- the first address of a region that ends by a low end
-  one_region : (low high a words : ℕ) → high ≤ 65534 → AreInOrder low (record { address = a; words = words } ∷ []) high → IsWord a
+  one_region : (low high a words : ℕ) → high ≤ reset_vector → AreInOrder low (record { address = a; words = words } ∷ []) high → IsWord a
   one_region low high a words l h = let end = h.1 in omega arith
 
   place_of_words : (i : ℕ) (v : VariablePlace) → slice_get l.variables i ≡ Some v → PlaceOfWords (Some v)
@@ -138,20 +99,14 @@ module _ (l : LayoutValue) (laid : IsLaidOut l) where
       by_test true other = h.0.1
       by_test false other = other
 
-  pub task_places : (t : TaskLayoutValue) → All (HasItsPlace l.variables) t.privates → PlacesOfWords (places_of l t)
+  pub task_places : (t : TaskPlace) → All (HasItsPlace l.variables) t.privates → PlacesOfWords (places_of l t)
   task_places t h =
       let privates = privates_of_words t.privates h in
       record {
-        next_task = let a = next_task_is_low in omega arith;
-        gate = let a = gate_is_low in omega arith;
-        list_length = let a = list_length_is_low in omega arith;
-        emit_count = let a = emit_count_is_low in omega arith;
-        base = let a = base_is_low in omega arith;
-        sent_base = let a = sent_base_is_low in omega arith;
-        version = let a = version_is_low in omega arith;
-        list = let a = list_is_low in omega arith;
-        emits = let a = emits_are_low in omega arith;
-        commit = let a = commit_is_low in omega arith;
+        words = λ w. (words_stand l w laid).is_fram.high;
+        list = let a = (parts_in_fram l laid).list.end in omega arith;
+        emits = let a = (parts_in_fram l laid).emits.end in omega arith;
+        commit = let a = (parts_in_fram l laid).commit.end in omega arith;
         addresses =
             λ v. address_is_word t.privates v (home_of l.variables v) privates
             (home_is_word (slice_get l.variables v) (places_of_words v (slice_get l.variables v) refl));

@@ -17,10 +17,12 @@ use Rattle.source_values.specs.Values.{joined_type, type_of}
 use Rattle.array_versions.specs.declared.operations.UnaryOperation.TheVariants.{Truth}
 use Rattle.array_versions.specs.Program.{Program, unary, binary, shift, emit_word, choose, store_number, move_word, jump, nothing, step, joined}
 use Rattle.array_versions.specs.Form.{StepSpares, Spares}
-use Rattle.privatise.specs.declared.place.VariablePlace.{VariablePlace}
-use Rattle.privatise.specs.declared.place.VariablePlace.TheVariants.{Scalar, Array}
-use Rattle.privatise.specs.declared.place.PrivateScalar.{PrivateScalar}
-use Rattle.lower.specs.Places.{Places}
+use Rattle.memory_map.specs.MemoryMap.{word_place}
+use Rattle.memory_map.specs.declared.words.RuntimeWord.TheVariants.{Gate, ListLength, EmitCount, Base, SentBase}
+use Rattle.memory_map.specs.declared.place.VariablePlace.{VariablePlace}
+use Rattle.memory_map.specs.declared.place.VariablePlace.TheVariants.{Scalar, Array}
+use Rattle.memory_map.specs.declared.place.PrivateScalar.{PrivateScalar}
+use Rattle.memory_map.specs.Spots.{Places}
 use Rattle.lower.specs.Operations.{unary_operation, binary_operation, shift_operation}
 use Rattle.lower.specs.Lowered.{one, read_step, write_step, element_read, element_step, store_step, evaluated_side, lowered_choice_of_sides, lowered_expression, assignment, loop_local, entries, lowered_transition, lowered_statement, lowered_choice, lowered_block}
 use Rattle.checked_uses.specs.Uses.{IsWordName, IsLocalName, StatementUses, ChoiceUses, BlockUses}
@@ -71,7 +73,7 @@ module _ (p : Places) (n : ℕ) where
   read_spares (Local m) = tt
 
   element_spares : (x : Variable) → StepSpares n (element_step p x)
-  element_spares (Shared v) = by_place (slice_get p.variables v)
+  element_spares (Shared v) = by_place (slice_get p.map.variables v)
     where
       by_place : (o : Option VariablePlace) → StepSpares n (element_read p o)
       by_place None = tt
@@ -111,8 +113,12 @@ module _ (p : Places) (n : ℕ) where
 
   transition_spares : (task : ℕ) → Spares n (lowered_transition p task)
   transition_spares task =
-      let close : Program = step (move_word p.words.base p.words.sent_base) (step (store_number p.words.gate 1) (one (jump p.commit))) in
-      (tt, spares_joined n (entries p.words.list_length p.list p.privates) close (entries_spare p.words.list_length p.list p.privates) (tt, (tt, (tt, tt))))
+      let close : Program = step (move_word (word_place p.map Base) (word_place p.map SentBase))
+      (step (store_number (word_place p.map Gate) 1) (one (jump p.map.commit.address))) in (
+        tt,
+        spares_joined n (entries (word_place p.map ListLength) p.map.list.address p.privates) close
+            (entries_spare (word_place p.map ListLength) p.map.list.address p.privates) (tt, (tt, (tt, tt))),
+      )
 
 -- two locals of a task have two numbers
 apart : (m y : ℕ) → m < 256 → y < 256 → (y == m) ≡ false → m % 65536 ≢ y % 65536
@@ -155,7 +161,8 @@ module _ (p : Places) (shared : List SharedDeclaration) (y : ℕ) (low : y < 256
         let first = or_parts (is_same_local a.variable (Local y)) others both.0 in
         ((loop_apart a.variable n.0 first.0, block_spares body both.1 n.1 (λ at bad. g at (inr bad))), tt)
     statement_spares (t.emit e) h n g =
-        spares_joined (y % 65536) (lowered_expression p e) (one (emit_word p.words.emit_count p.emits)) (expression_spares p (y % 65536) e) (tt, tt)
+        spares_joined (y % 65536) (lowered_expression p e) (one (emit_word (word_place p.map EmitCount) p.map.emits.address))
+        (expression_spares p (y % 65536) e) (tt, tt)
     statement_spares (t.transition task) h n g = transition_spares p (y % 65536) task.task
 
     choice_spares : (c : CheckedChoice) → choice_assigns (Local y) c ≡ false → ChoiceUses shared c → GoodChoice c → Spares (y % 65536) (lowered_choice p c)

@@ -15,11 +15,14 @@ use Rattle.source_values.specs.Values.{joined_type, type_of}
 use Rattle.array_versions.specs.declared.operations.UnaryOperation.TheVariants.{Truth}
 use Rattle.array_versions.specs.Program.{Step, Program, number, unary, binary, shift, emit_word, list_entry, sense, choose, repeat, store_number, move_word, jump, nothing, step, joined}
 use Rattle.array_versions.specs.Form.{StepLocalsBelow, LocalsBelow, StepLoopsCount, LoopsCount, StepOfWords, OfWords, ArrayOfWords, ListOfWords}
-use Rattle.privatise.specs.declared.place.ArrayCopies.{ArrayCopies}
-use Rattle.privatise.specs.declared.place.VariablePlace.{VariablePlace}
-use Rattle.privatise.specs.declared.place.VariablePlace.TheVariants.{Scalar, Array}
-use Rattle.privatise.specs.declared.place.PrivateScalar.{PrivateScalar}
-use Rattle.lower.specs.Places.{Places, address_of}
+use Rattle.memory_map.specs.MemoryMap.{word_place}
+use Rattle.memory_map.specs.declared.words.RuntimeWord.{RuntimeWord}
+use Rattle.memory_map.specs.declared.words.RuntimeWord.TheVariants.{NextTask, Gate, ListLength, EmitCount, Base, SentBase, Version}
+use Rattle.memory_map.specs.declared.place.ArrayCopies.{ArrayCopies}
+use Rattle.memory_map.specs.declared.place.VariablePlace.{VariablePlace}
+use Rattle.memory_map.specs.declared.place.VariablePlace.TheVariants.{Scalar, Array}
+use Rattle.memory_map.specs.declared.place.PrivateScalar.{PrivateScalar}
+use Rattle.memory_map.specs.Spots.{Places, address_of}
 use Rattle.lower.specs.Operations.{unary_operation, binary_operation, shift_operation}
 use Rattle.lower.specs.Lowered.{one, read_step, write_step, list_place, written_array, element_read, element_step, store_step, settled_program, evaluated_side, lowered_choice_of_sides, lowered_expression, assignment, loop_local, entries, lowered_transition, lowered_statement, lowered_choice, lowered_block}
 use Rattle.stack_needs.specs.Needs.{ExpressionFits, StatementFits, ChoiceFits, BlockFits}
@@ -43,18 +46,12 @@ PrivateOfWords s = IsWord s.home × IsWord s.copy
 
 -- all addresses that a task's program needs are words
 pub record PlacesOfWords (p : Places) : Type 0 where
-  pub next_task : IsWord p.words.next_task
-  pub gate : IsWord p.words.gate
-  pub list_length : IsWord p.words.list_length
-  pub emit_count : IsWord p.words.emit_count
-  pub base : IsWord p.words.base
-  pub sent_base : IsWord p.words.sent_base
-  pub version : IsWord p.words.version
-  pub list : IsWord p.list
-  pub emits : IsWord p.emits
-  pub commit : IsWord p.commit
+  pub words : (w : RuntimeWord) → IsWord (word_place p.map w)
+  pub list : IsWord p.map.list.address
+  pub emits : IsWord p.map.emits.address
+  pub commit : IsWord p.map.commit.address
   pub addresses : (v : ℕ) → IsWord (address_of p v)
-  pub places : (v : ℕ) → PlaceOfWords (slice_get p.variables v)
+  pub places : (v : ℕ) → PlaceOfWords (slice_get p.map.variables v)
   pub privates : AllByRecursion PrivateOfWords p.privates
 
 -- ---- sound programs
@@ -96,7 +93,7 @@ local_is_word n l = omega arith
 
 module _ (p : Places) (words : PlacesOfWords p) where
   list_of_words : ListOfWords (list_place p)
-  list_of_words = (words.version, words.list_length, words.list)
+  list_of_words = (words.words Version, words.words ListLength, words.list)
 
   element_read_sound : (o : Option VariablePlace) → PlaceOfWords o → StepSound (element_read p o)
   element_read_sound None h = (tt, tt, (zero_is_word, zero_is_word))
@@ -111,11 +108,11 @@ module _ (p : Places) (words : PlacesOfWords p) where
   written_of_words (Some (Array elements length (Some c))) h = (h.0, h.2.0, h.2.1, h.1)
 
   element_sound : (x : Variable) → StepSound (element_step p x)
-  element_sound (Shared v) = element_read_sound (slice_get p.variables v) (words.places v)
+  element_sound (Shared v) = element_read_sound (slice_get p.map.variables v) (words.places v)
   element_sound (Local n) = (tt, tt, (zero_is_word, zero_is_word))
 
   store_sound : (x : Variable) → StepSound (store_step p x)
-  store_sound (Shared v) = (tt, tt, (written_of_words (slice_get p.variables v) (words.places v), list_of_words))
+  store_sound (Shared v) = (tt, tt, (written_of_words (slice_get p.map.variables v) (words.places v), list_of_words))
   store_sound (Local n) = (tt, tt, ((zero_is_word, zero_is_word, zero_is_word, zero_is_word), list_of_words))
 
   sides_sound : (op : ShortCircuitOperator) (right : Program) → Sound right → StepSound (lowered_choice_of_sides op right)
@@ -150,22 +147,25 @@ module _ (p : Places) (words : PlacesOfWords p) where
         sound_behind (lowered_expression p a) (lowered_choice_of_sides op right) (expression_sound room beneath a f.0 n.0)
         (sides_sound op right (sound_behind (lowered_expression p b) (unary Truth) (expression_sound room beneath b f.1 n.1) (tt, tt, tt)))
 
-    entries_sound : (privates : List PrivateScalar) → AllByRecursion PrivateOfWords privates → Sound (entries p.words.list_length p.list privates)
+    entries_sound : (privates : List PrivateScalar) → AllByRecursion PrivateOfWords privates
+        → Sound (entries (word_place p.map ListLength) p.map.list.address privates)
     entries_sound [] h = (tt, tt, tt)
     entries_sound (s ∷ more) h =
-        sound_step (list_entry p.words.list_length p.list s.home s.copy) (entries p.words.list_length p.list more)
-        (tt, tt, (words.list_length, words.list, h.0.0, h.0.1)) (entries_sound more h.1)
+        sound_step (list_entry (word_place p.map ListLength) p.map.list.address s.home s.copy) (entries (word_place p.map ListLength) p.map.list.address more)
+        (tt, tt, (words.words ListLength, words.list, h.0.0, h.0.1)) (entries_sound more h.1)
 
     transition_sound : (task : ℕ) → Sound (lowered_transition p task)
     transition_sound task =
-        let leaves = one (jump p.commit) in
-        let raises = step (store_number p.words.gate 1) leaves in
-        let closes = step (move_word p.words.base p.words.sent_base) raises in
-        sound_step (store_number p.words.next_task (task % 65536)) (joined (entries p.words.list_length p.list p.privates) closes)
-        (tt, tt, (words.next_task, omega arith))
-        (sound_joined (entries p.words.list_length p.list p.privates) closes (entries_sound p.privates words.privates)
-        (sound_step (move_word p.words.base p.words.sent_base) raises (tt, tt, (words.base, words.sent_base))
-        (sound_step (store_number p.words.gate 1) leaves (tt, tt, (words.gate, one_is_word)) (sound_one (jump p.commit) (tt, tt, words.commit)))))
+        let leaves = one (jump p.map.commit.address) in
+        let raises = step (store_number (word_place p.map Gate) 1) leaves in
+        let closes = step (move_word (word_place p.map Base) (word_place p.map SentBase)) raises in
+        sound_step (store_number (word_place p.map NextTask) (task % 65536))
+        (joined (entries (word_place p.map ListLength) p.map.list.address p.privates) closes)
+        (tt, tt, (words.words NextTask, omega arith))
+        (sound_joined (entries (word_place p.map ListLength) p.map.list.address p.privates) closes (entries_sound p.privates words.privates)
+        (sound_step (move_word (word_place p.map Base) (word_place p.map SentBase)) raises (tt, tt, (words.words Base, words.words SentBase))
+        (sound_step (store_number (word_place p.map Gate) 1) leaves (tt, tt, (words.words Gate, one_is_word))
+        (sound_one (jump p.map.commit.address) (tt, tt, words.commit)))))
 
     assigned_sound : (room : ℕ) (x : VariableName) (e : CheckedExpression) → IsWordName shared x.variable → ExpressionFits room 0 e
         → ExpressionUses shared e → Sound (assignment p x.variable e)
@@ -203,7 +203,8 @@ module _ (p : Places) (words : PlacesOfWords p) where
           sound_one (repeat (loop_local a.variable) from below (lowered_block p body))
           (loop_sound a.variable from below body (is_good a b c from below body g) n.0 n.1 inner f.0 f.1 (block_sound room body f.2 n.1 inner))
       statement_sound room (t.emit e) f n g =
-          sound_behind (lowered_expression p e) (emit_word p.words.emit_count p.emits) (expression_sound room 0 e f n) (tt, tt, (words.emit_count, words.emits))
+          sound_behind (lowered_expression p e) (emit_word (word_place p.map EmitCount) p.map.emits.address) (expression_sound room 0 e f n)
+          (tt, tt, (words.words EmitCount, words.emits))
       statement_sound room (t.transition task) f n g = transition_sound task.task
 
       choice_sound : (room : ℕ) (c : CheckedChoice) → ChoiceFits room c → ChoiceUses shared c → GoodChoice c → Sound (lowered_choice p c)

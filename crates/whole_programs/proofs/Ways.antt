@@ -16,10 +16,12 @@ use Rattle.source_values.specs.Values.{joined_type, type_of}
 use Rattle.array_versions.specs.declared.operations.UnaryOperation.TheVariants.{Truth}
 use Rattle.array_versions.specs.Program.{Program, unary, binary, shift, emit_word, choose, store_number, move_word, jump, nothing, step, joined}
 use Rattle.array_versions.specs.Form.{Place, start, assigning, Moves, EachTurn, EachStepWay, EachWay}
-use Rattle.privatise.specs.declared.place.VariablePlace.{VariablePlace}
-use Rattle.privatise.specs.declared.place.VariablePlace.TheVariants.{Scalar, Array}
-use Rattle.privatise.specs.declared.place.PrivateScalar.{PrivateScalar}
-use Rattle.lower.specs.Places.{Places}
+use Rattle.memory_map.specs.MemoryMap.{word_place}
+use Rattle.memory_map.specs.declared.words.RuntimeWord.TheVariants.{Gate, ListLength, EmitCount, Base, SentBase}
+use Rattle.memory_map.specs.declared.place.VariablePlace.{VariablePlace}
+use Rattle.memory_map.specs.declared.place.VariablePlace.TheVariants.{Scalar, Array}
+use Rattle.memory_map.specs.declared.place.PrivateScalar.{PrivateScalar}
+use Rattle.memory_map.specs.Spots.{Places}
 use Rattle.lower.specs.Operations.{unary_operation, binary_operation, shift_operation}
 use Rattle.lower.specs.Lowered.{one, read_step, write_step, element_read, element_step, store_step, settled_program, evaluated_side, lowered_choice_of_sides, lowered_expression, assignment, element_assignment, loop_local, entries, lowered_transition, lowered_statement, lowered_choice, lowered_block}
 use Rattle.stack_needs.specs.Needs.{ExpressionFits, StatementFits, ChoiceFits, BlockFits}
@@ -92,7 +94,7 @@ module _ (room : ℕ) (p : Places) where
 
   element_way : (d : ℕ) (a : ℕ → Bool) (x : Variable) (next : Place → Type 0) → d < room → next (at (suc d) a)
       → EachStepWay room (element_step p x) next (at (suc d) a)
-  element_way d a (Shared v) next l h = by_place (slice_get p.variables v)
+  element_way d a (Shared v) next l h = by_place (slice_get p.map.variables v)
     where
       by_place : (o : Option VariablePlace) → EachStepWay room (element_read p o) next (at (suc d) a)
       by_place None = turned d a next l h
@@ -236,7 +238,7 @@ module _ (room : ℕ) (x : VariableName) (code : Program) (body : CheckedBlock) 
       way (written u x) _ _ (covers_written u a x c)
       (turn_follows m (written u x) next _ h (λ xs q b d. turns_way m (behind (written u x) xs) b next d (turns_follow m (written u x) next xs h q)))
 
-module _ (room : ℕ) (p : Places) (shared : List SharedDeclaration) (even : p.commit % 2 ≡ 0) where
+module _ (room : ℕ) (p : Places) (shared : List SharedDeclaration) (even : p.map.commit.address % 2 ≡ 0) where
   write_way : (u a : ℕ → Bool) (x : VariableName) (next : Place → Type 0) → Covers u a → ((b : ℕ → Bool) → Covers (written u x) b → next (at 0 b))
       → EachStepWay room (write_step p x.variable) next (at 1 a)
   write_way u a x next c h = by_variable x.variable refl
@@ -263,9 +265,10 @@ module _ (room : ℕ) (p : Places) (shared : List SharedDeclaration) (even : p.c
 
   transition_way : (task : ℕ) (next : Place → Type 0) (o : Place) → EachWay room (lowered_transition p task) next o
   transition_way task next o =
-      let close : Program = step (move_word p.words.base p.words.sent_base) (step (store_number p.words.gate 1) (one (jump p.commit))) in
-      joined_way room (entries p.words.list_length p.list p.privates) close next o
-      (entries_way p.words.list_length p.list p.privates (EachWay room close next) o even)
+      let close : Program = step (move_word (word_place p.map Base) (word_place p.map SentBase))
+      (step (store_number (word_place p.map Gate) 1) (one (jump p.map.commit.address))) in
+      joined_way room (entries (word_place p.map ListLength) p.map.list.address p.privates) close next o
+      (entries_way (word_place p.map ListLength) p.map.list.address p.privates (EachWay room close next) o even)
 
   -- of an index and a value
   element_assigned_way : (u a : ℕ → Bool) (x : VariableName) (index e : CheckedExpression) (next : Place → Type 0) → ExpressionFits room 0 index
@@ -355,7 +358,7 @@ module _ (room : ℕ) (p : Places) (shared : List SharedDeclaration) (even : p.c
         })
     statement_way (t.emit e) u a next f n c h =
         let q = path.emit e (names_read e) (is_path e) in
-        joined_way room (lowered_expression p e) (one (emit_word p.words.emit_count p.emits)) next (at 0 a)
+        joined_way room (lowered_expression p e) (one (emit_word (word_place p.map EmitCount) p.map.emits.address)) next (at 0 a)
         (expression_way room p 0 a e _ f (reads_assigned shared u a e c n (h.safe (names_read e) goes_on q))
         (moves room 1 0 1 0 a next (omega arith) (omega arith) (omega arith) (h.on (names_read e) q a (subst (λ v. Covers v a) (sym (behind_names u e)) c))))
     statement_way (t.transition task) u a next f n c h = transition_way task.task next (at 0 a)

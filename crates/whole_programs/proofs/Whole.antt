@@ -7,11 +7,12 @@ use Rattle.task_ast.specs.Paths.{CheckedBlock}
 use Rattle.task_ast.specs.declared.SharedDeclaration.{SharedDeclaration}
 use Rattle.task_ast.specs.declared.names.VariableName.{VariableName}
 use Rattle.task_ast.specs.declared.names.TaskName.{TaskName}
-use Rattle.privatise.specs.LayoutValue.{LayoutValue, TaskLayoutValue}
-use Rattle.privatise.specs.Places.{HasItsPlace}
+use Rattle.memory_map.specs.MemoryMap.{MemoryMap, TaskPlace}
+use Rattle.memory_map.specs.Places.{HasItsPlace}
+use Rattle.memory_map.proofs.Parts.{even_of}
 use Rattle.array_versions.specs.Program as word
 use Rattle.array_versions.specs.Form.{IsWhole, OfWords}
-use Rattle.lower.specs.Places.{Places, places_of}
+use Rattle.memory_map.specs.Spots.{Places, places_of}
 use Rattle.lower.specs.Lowered.{lowered_block, lowered_tasks}
 use Rattle.stack_needs.specs.Laws.{enough}
 use Rattle.whole_programs.specs.Laws.{TasksAreWhole, ProgramsAreWhole}
@@ -21,7 +22,7 @@ use Rattle.whole_programs.proofs.Placed.{task_places}
 use Rattle.whole_programs.proofs.Checked.{all_at, IsChecked, task_checked}
 
 -- a checked task's program, where its places are words and the commit stands at an even address
-block_whole : (p : Places) (shared : List SharedDeclaration) (b : CheckedBlock) → PlacesOfWords p → p.commit % 2 ≡ 0 → IsChecked shared b
+block_whole : (p : Places) (shared : List SharedDeclaration) (b : CheckedBlock) → PlacesOfWords p → p.map.commit.address % 2 ≡ 0 → IsChecked shared b
     → IsWhole (lowered_block p b) × OfWords (lowered_block p b)
 block_whole p shared b words even checked =
     let sound : Sound (lowered_block p b) = block_sound p words shared enough b checked.fits checked.uses checked.good in (
@@ -40,12 +41,12 @@ pub tasks_are_whole : TasksAreWhole
 tasks_are_whole text program allow plans l laid k task t e f =
     let rules = laid.layout.rules in
     block_whole (places_of l t) program.shared task.body
-    (task_places l rules t (all_at (λ t. All (HasItsPlace l.variables) t.privates) l.tasks k t rules.privates f)) rules.even.commit
+    (task_places l rules t (all_at (λ t. All (HasItsPlace l.variables) t.privates) l.tasks k t rules.privates f)) (even_of l rules).commit
     (task_checked text program laid.accepted.checks k task e)
 
 -- what holds of each task's program by number holds of all
-all_lowered : (P : word.Program → Type 0) (l : LayoutValue) (tasks : List (Task VariableName TaskName)) (layouts : List TaskLayoutValue)
-    → ((k : ℕ) (task : Task VariableName TaskName) (t : TaskLayoutValue) → slice_get tasks k ≡ Some task → slice_get layouts k ≡ Some t
+all_lowered : (P : word.Program → Type 0) (l : MemoryMap) (tasks : List (Task VariableName TaskName)) (layouts : List TaskPlace)
+    → ((k : ℕ) (task : Task VariableName TaskName) (t : TaskPlace) → slice_get tasks k ≡ Some task → slice_get layouts k ≡ Some t
     → P (lowered_block (places_of l t) task.body)) → All P (lowered_tasks l tasks layouts)
 all_lowered P l [] layouts h = All-nil P
 all_lowered P l (task ∷ tasks) [] h = All-nil P

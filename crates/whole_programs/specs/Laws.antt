@@ -7,26 +7,26 @@ use Rattle.cost_bound.specs.declared.allowance.Allow.{Allow}
 use Rattle.source_meaning.specs.Acceptance.{IsAcceptedText}
 use Rattle.war_analysis.specs.PlanValue.{TaskPlanValue}
 use Rattle.war_analysis.specs.Plans.{IsPlan}
-use Rattle.privatise.specs.LayoutValue.{LayoutValue, TaskLayoutValue}
+use Rattle.memory_map.specs.MemoryMap.{MemoryMap, TaskPlace}
 use Rattle.privatise.specs.Layouts.{IsLayout}
 use Rattle.array_versions.specs.Form.{IsWhole, OfWords}
-use Rattle.lower.specs.Places.{places_of}
+use Rattle.memory_map.specs.Spots.{places_of}
 use Rattle.lower.specs.Lowered.{lowered_block, lowered}
 
 -- an accepted text, with a plan and a layout of its source
-pub record IsLaidOutText (text : List ℕ) (program : Program VariableName TaskName) (allow : Allow) (plans : List TaskPlanValue) (l : LayoutValue) : Type 0 where
+pub record IsLaidOutText (text : List ℕ) (program : Program VariableName TaskName) (allow : Allow) (plans : List TaskPlanValue) (l : MemoryMap) : Type 0 where
   pub accepted : IsAcceptedText text program allow
   pub plan : IsPlan program plans
   pub layout : IsLayout program allow plans l
 
 -- what holds of each accepted text with a plan and a layout
-abbrev OfTexts : (Program VariableName TaskName → LayoutValue → Type 0) → Type 0
-OfTexts F = (text : List ℕ) (program : Program VariableName TaskName) (allow : Allow) (plans : List TaskPlanValue) (l : LayoutValue)
+abbrev OfTexts : (Program VariableName TaskName → MemoryMap → Type 0) → Type 0
+OfTexts F = (text : List ℕ) (program : Program VariableName TaskName) (allow : Allow) (plans : List TaskPlanValue) (l : MemoryMap)
     → IsLaidOutText text program allow plans l → F program l
 
 -- what holds of each of its tasks, by number
-abbrev OfTasks : (Task VariableName TaskName → LayoutValue → TaskLayoutValue → Type 0) → Type 0
-OfTasks F = OfTexts (λ program l. (k : ℕ) (task : Task VariableName TaskName) (t : TaskLayoutValue)
+abbrev OfTasks : (Task VariableName TaskName → MemoryMap → TaskPlace → Type 0) → Type 0
+OfTasks F = OfTexts (λ program l. (k : ℕ) (task : Task VariableName TaskName) (t : TaskPlace)
     → slice_get program.tasks k ≡ Some task → slice_get l.tasks k ≡ Some t → F task l t)
 
 -- the word program of each task is whole, and of words

@@ -1,7 +1,7 @@
 use Rattle.std.proofs.Common.{◌≡◌, ◌∙◌, ◌+◌, ◌*◌, ◌++◌, ap, sym, subst, length, map, arith}
 use Rattle.std.proofs.lemmas.List.{length-map}
+use Rattle.address_space.specs.Limits.{reset_vector}
 use Rattle.code_forms.specs.Placed.{instructions}
-use Rattle.runtime_code.specs.LayoutPlaces.{runtime_places}
 use Rattle.boot_runtime.specs.Entries.{task_entries}
 use Rattle.boot_runtime.specs.Listing.{boot_forms}
 use Rattle.array_versions.specs.View.{program_of}
@@ -16,7 +16,8 @@ push_part-requires-2 c =
     let ps = map program_of c.args.programs.now in
     let start : c.boot-start.result.address ≡ l.boot.address = ap (λ r. r.address) c.boot-start.ensures in
     let boot = after_boot l ps c.requires.fits c.boot-start.result.address c.new-words.result.items c.push_part.new.words.items c.as_slice.result.now start c.new-words.ensures.items
-    (c.as_slice.ensures.value ∙ c.in_ok-boot.ensures ∙ ap (λ a. instructions (boot_forms (runtime_places l) l.commit.address (task_entries l) a)) start) c.in_ok-push_part.ensures in
+    (c.as_slice.ensures.value ∙ c.in_ok-boot.ensures
+    ∙ ap (λ a. instructions (boot_forms l l.commit.address (task_entries l) a)) start) c.in_ok-push_part.ensures in
     let at : c.commit.result.address ≡ l.commit.address = ap (λ r. r.address) c.commit.ensures in
     let behind = commit_behind l ps c.requires.fits c.boot-start.result.address c.push_part.new.words.items boot in
     record { behind = omega (arith, at, behind) }
@@ -32,10 +33,11 @@ push_tasks-requires-clause-order c =
     let ps = map program_of c.args.programs.now in
     let start : c.boot-start.result.address ≡ l.boot.address = ap (λ r. r.address) c.boot-start.ensures in
     let boot = after_boot l ps c.requires.fits c.boot-start.result.address c.new-words.result.items c.push_part.new.words.items c.as_slice.result.now start c.new-words.ensures.items
-    (c.as_slice.ensures.value ∙ c.in_ok-boot.ensures ∙ ap (λ a. instructions (boot_forms (runtime_places l) l.commit.address (task_entries l) a)) start) c.in_ok-push_part.ensures in
+    (c.as_slice.ensures.value ∙ c.in_ok-boot.ensures
+    ∙ ap (λ a. instructions (boot_forms l l.commit.address (task_entries l) a)) start) c.in_ok-push_part.ensures in
     let commit = after_commit l ps c.requires.fits c.boot-start.result.address c.commit.result.address c.push_part.new.words.items c.push_part-2.new.words.items c.as_slice-2.result.now
     start (ap (λ r. r.address) c.commit.ensures) (c.as_slice-2.ensures.value ∙ c.in_ok-commit.ensures) boot c.in_ok-push_part-2.ensures in
-    subst (λ ts. PartsInOrder (c.boot-start.result.address + 2 * length c.push_part-2.new.words.items) (task_parts ts ps) 65534) (sym c.tasks.ensures)
+    subst (λ ts. PartsInOrder (c.boot-start.result.address + 2 * length c.push_part-2.new.words.items) (task_parts ts ps) reset_vector) (sym c.tasks.ensures)
     (tasks_behind l ps c.requires.fits c.boot-start.result.address c.push_part-2.new.words.items commit)
 
 pub returns : goal.returns
@@ -44,7 +46,8 @@ returns c =
     let ps = map program_of c.args.programs.now in
     let start : c.boot-start.result.address ≡ l.boot.address = ap (λ r. r.address) c.boot-start.ensures in
     let boot = after_boot l ps c.requires.fits c.boot-start.result.address c.new-words.result.items c.push_part.new.words.items c.as_slice.result.now start c.new-words.ensures.items
-    (c.as_slice.ensures.value ∙ c.in_ok-boot.ensures ∙ ap (λ a. instructions (boot_forms (runtime_places l) l.commit.address (task_entries l) a)) start) c.in_ok-push_part.ensures in
+    (c.as_slice.ensures.value ∙ c.in_ok-boot.ensures
+    ∙ ap (λ a. instructions (boot_forms l l.commit.address (task_entries l) a)) start) c.in_ok-push_part.ensures in
     let commit = after_commit l ps c.requires.fits c.boot-start.result.address c.commit.result.address c.push_part.new.words.items c.push_part-2.new.words.items c.as_slice-2.result.now
     start (ap (λ r. r.address) c.commit.ensures) (c.as_slice-2.ensures.value ∙ c.in_ok-commit.ensures) boot c.in_ok-push_part-2.ensures in
     c.in_ok-push_tasks.ensures

@@ -1,4 +1,5 @@
 use Rattle.std.proofs.Common.{◌∙◌, ◌+◌, ◌*◌, ◌++◌, ap, sym, subst, length, drop, map, arith}
+use Rattle.address_space.specs.Limits.{reset_vector}
 use Rattle.array_versions.specs.View.{program_of}
 use Rattle.linked_code.specs.Parts.{chained, PartsInOrder}
 use Rattle.linked_code.specs.Linked.{task_part, task_parts}
@@ -9,7 +10,7 @@ pub push_task-requires-clause-order : goal.push_task-requires-clause-order
 push_task-requires-clause-order c =
     let at = c.args.start + 2 * length c.loop-k.words.items in
     let order = next_order c.args.tasks.now c.args.programs.now at c.loop-k.k c.index-tasks-k.result c.index-programs-k.result c.loop-k-test.true c.requires.count c.index-tasks-k.is c.index-programs-k.is c.loop-k.invariant.order in
-    (order.0, order_end _ 65534 _ order.1)
+    (order.0, order_end _ reset_vector _ order.1)
 
 pub push_task-requires-clause-whole : goal.push_task-requires-clause-whole
 push_task-requires-clause-whole c =
@@ -33,6 +34,6 @@ loop-k-preserved c =
     (ap (λ l. old ++ words_in (chained at l)) (sym more) ∙ c.loop-k.invariant.made) in
     record {
       made = made.1;
-      order = subst (λ e. PartsInOrder e rest 65534) (sym made.0) order.1;
+      order = subst (λ e. PartsInOrder e rest reset_vector) (sym made.0) order.1;
       whole = (next_whole ps k p (omega (arith, c.loop-k-test.true, c.requires.count)) c.index-programs-k.is c.loop-k.invariant.whole).1;
     }

@@ -1,5 +1,6 @@
 use Rattle.std.proofs.Common.{◌≡◌, ◌++◌, ◌+◌, ◌*◌, drop, map, length}
 use Rattle.std.specs.Prelude.{All}
+use Rattle.address_space.specs.Limits.{reset_vector}
 use Rattle.code_forms.specs.Placed.{instructions, words_of}
 use Rattle.array_versions.specs.View.{program_of}
 use Rattle.array_versions.specs.Form.{IsWhole}
@@ -14,6 +15,6 @@ invariant-loop-k l =
     record {
       made : l.words.items ++ words_of (instructions (chained at left))
           ≡ l.fn.words.items ++ words_of (instructions (chained (l.fn.start + 2 * length l.fn.words.items) (task_parts l.fn.tasks (map program_of l.fn.programs))));
-      order : PartsInOrder at left 65534;
+      order : PartsInOrder at left reset_vector;
       whole : All IsWhole (map program_of (drop l.k l.programs));
     }

@@ -1,10 +1,13 @@
 use Rattle.std.proofs.Common.{◌≡◌, ◌∙◌, ◌-◌, ◌/◌, ◌==◌, ℕ, List, if◌then◌else◌, ap, sym, subst, length, map, arith, slice_index}
+use Rattle.address_space.specs.Limits.{reset_vector}
 use Rattle.task_ast.specs.View as tree
 use Rattle.task_ast.specs.declared.SharedDeclaration.{SharedDeclaration}
 use Rattle.array_versions.specs.View.{program_of}
 use Rattle.code_forms.specs.Placed.{words_of}
 use Rattle.source_values.specs.Runs.{initial_words}
-use Rattle.privatise.specs.LayoutValue.{LayoutValue}
+use Rattle.memory_map.specs.declared.words.RuntimeWord.TheVariants.{CurrentTask}
+use Rattle.memory_map.specs.MemoryMap.{MemoryMap, word_place}
+use Rattle.memory_map.proofs.Parts.{apart_of}
 use Rattle.lower.specs.Lowered.{lowered}
 use Rattle.linked_code.specs.Linked.{linked}
 use Rattle.compiled_model.specs.View.{is_within, shared_word}
@@ -13,10 +16,10 @@ use Rattle.link_image.proofs.Placing.{zeros_are_words}
 use Rattle.link_image.proofs.linking.image_of.Goals as goal
 
 -- the word at an address, by the code, the declarations and the entry task
-abbrev word_by : LayoutValue → List ℕ → List SharedDeclaration → ℕ → ℕ → ℕ
-word_by l code ds entry a = if a == 0xFFFE then l.boot.address
+abbrev word_by : MemoryMap → List ℕ → List SharedDeclaration → ℕ → ℕ → ℕ
+word_by l code ds entry a = if a == reset_vector then l.boot.address
     else if is_within (record { address = l.boot.address; words = length code }) a then slice_index code ((a - l.boot.address) / 2)
-    else if a == l.words.current_task then entry
+    else if a == (word_place l CurrentTask) then entry
     else shared_word l.variables (map (λ d. initial_words d.extent) ds) a
 
 pub put_image-requires-clause-room : goal.put_image-requires-clause-room
@@ -28,7 +31,7 @@ put_image-requires-clause-room c =
     ∙ ap (λ qs. words_of (linked l qs)) (c.in_ok-programs.ensures ∙ ap (λ ch. lowered l (tree.program_of ch.source)) c.checked-checked.ensures) in
     let size = ap length code in
     let end = (c.linked_is_code.ensures l (lowered l p) c.requires.fits).end in
-    let high = c.requires.fits.rules.apart.high in
+    let high = (apart_of l c.requires.fits.rules).high in
     omega (arith, size, end, high)
 
 pub returns : goal.returns

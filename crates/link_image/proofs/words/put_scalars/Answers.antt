@@ -1,10 +1,11 @@
 use Rattle.std.proofs.Common.{◌≡◌, ◌∙◌, ◌+◌, ◌-◌, ◌<◌, ap, sym, refl, length, drop, arith, get_or}
 use Rattle.std.proofs.lemmas.List.{at_drop_all, get_or_default}
-use Rattle.privatise.specs.declared.place.VariablePlace.TheVariants.{Scalar}
 use Rattle.machine_effects.specs.Machine.{fram_of}
 use Rattle.compiled_model.specs.View.{shared_word}
 use Rattle.link_image.proofs.Placing.{rows_of, blank_at, same_length, region_at, next_put}
 use Rattle.link_image.proofs.words.put_scalars.Goals as goal
+use Rattle.address_space.specs.Limits.{fram_first, reset_vector}
+use Rattle.memory_map.specs.declared.place.VariablePlace.TheVariants.{Scalar}
 
 pub loop-i-init : goal.loop-i-init
 loop-i-init c =
@@ -24,12 +25,14 @@ bounds-variables-i c = let count = same_length c.args.shared.now c.args.variable
 pub put_initial-requires-clause-even : goal.put_initial-requires-clause-even
 put_initial-requires-clause-even c =
     let count = same_length c.args.shared.now c.args.variables.now c.requires.places in
-    (region_at c.args.variables.now 17408 65534 (c.loop-i.i - 1) (Scalar 0 0) c.requires.order (omega (arith, count, c.loop-i-test.true, c.loop-i.auto.i))).0
+    (region_at c.args.variables.now fram_first reset_vector (c.loop-i.i - 1) (Scalar 0 0) c.requires.order
+    (omega (arith, count, c.loop-i-test.true, c.loop-i.auto.i))).0
 
 pub put_initial-requires-clause-low : goal.put_initial-requires-clause-low
 put_initial-requires-clause-low c =
     let count = same_length c.args.shared.now c.args.variables.now c.requires.places in
-    (region_at c.args.variables.now 17408 65534 (c.loop-i.i - 1) (Scalar 0 0) c.requires.order (omega (arith, count, c.loop-i-test.true, c.loop-i.auto.i))).1
+    (region_at c.args.variables.now fram_first reset_vector (c.loop-i.i - 1) (Scalar 0 0) c.requires.order
+    (omega (arith, count, c.loop-i-test.true, c.loop-i.auto.i))).1
 
 pub loop-i-preserved : goal.loop-i-preserved
 loop-i-preserved c =
@@ -42,7 +45,7 @@ loop-i-preserved c =
     let index : k + 1 ≡ c.loop-i.i = omega (arith, c.loop-i-test.true) in
     record {
       each = λ a is.
-          next_put ds vs 17408 65534 k (get_or ds k _) (get_or vs k (Scalar 0 0)) c.requires.places c.requires.order inside there
+          next_put ds vs fram_first reset_vector k (get_or ds k _) (get_or vs k (Scalar 0 0)) c.requires.places c.requires.order inside there
           (get_or_default ds k _ _ inside) (get_or_default vs k (Scalar 0 0) _ there)
           a (fram_of c.loop-i.image.words a) (fram_of c.put_initial.new.image.words a) is.even
           (c.loop-i.invariant.each a is ∙ ap (λ n. shared_word (drop n vs) (rows_of (drop n ds)) a) (sym index)) (c.put_initial.ensures.each a is);

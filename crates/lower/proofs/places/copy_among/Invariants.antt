@@ -1,5 +1,5 @@
 use Rattle.std.proofs.Common.{◌≡◌, drop}
-use Rattle.lower.specs.Places.{copy_among}
+use Rattle.memory_map.specs.Spots.{copy_among}
 use Rattle.lower.proofs.places.copy_among.Given as goal
 
 abbrev pub invariant-loop-scalar : goal.invariant-loop-scalar

@@ -1,8 +1,9 @@
-use Rattle.std.proofs.Common.{◌∙◌, ap, map, []}
+use Rattle.std.proofs.Common.{◌∙◌, ap, map, subst, sym}
 use Rattle.std.proofs.lemmas.List.{length-map}
 use Rattle.task_ast.specs.View.{task_of, program_of}
 use Rattle.cost_bound.specs.Allowance.{is_written}
-use Rattle.privatise.proofs.Whole.{AreWritten, all_even, sizes_fit, room, code_small, code_room, scalars_placed, tasks_moved, laid_out, whole}
+use Rattle.privatise.specs.Layouts.{IsLayout}
+use Rattle.privatise.proofs.Whole.{AreWritten, even_starts, sizes_fit, room, code_small, code_room, scalars_placed, tasks_moved, laid_out, whole}
 use Rattle.privatise.proofs.placing.layout_of.Goals as goal
 
 pub sizes_of-requires-clause-written : goal.sizes_of-requires-clause-written
@@ -35,7 +36,7 @@ place_tasks-requires-clause-room c =
     (code_room (program_of c.args.source.now) c.args.allow.now c.sizes_of.result c.regions_of-regions.result c.requires.allowed c.sizes_of.ensures c.regions_of-regions.ensures)
 
 pub place_tasks-requires-clause-even : goal.place_tasks-requires-clause-even
-place_tasks-requires-clause-even c = (all_even c.args.allow.now c.sizes_of.result c.regions_of-regions.result [] [] c.regions_of-regions.ensures).code
+place_tasks-requires-clause-even c = (even_starts c.args.allow.now c.sizes_of.result c.regions_of-regions.result c.regions_of-regions.ensures).code
 
 pub place_tasks-requires-clause-count : goal.place_tasks-requires-clause-count
 place_tasks-requires-clause-count c =
@@ -47,8 +48,8 @@ place_tasks-requires-clause-scalars c = λ k plan at.
     (scalars_placed (program_of c.args.source.now) c.args.plan.now c.written_variables-written.result _ c.in_ok-variables.variables.items c.requires.planned
     (rw c.as_slice-shared.ensures.value at c.in_ok-variables.ensures) k plan (rw c.tasks.ensures at at))
 
-pub invariant_of-result : goal.invariant_of-result
-invariant_of-result c =
+pub new-requires : goal.new-requires
+new-requires c =
     let marks : AreWritten (program_of c.args.source.now) c.written_variables-written.result = λ i l. c.written_variables-written.ensures i l ∙ ap (λ ts. is_written (map task_of ts) i) c.as_slice-tasks.ensures.value in
     laid_out (program_of c.args.source.now) c.args.allow.now c.args.plan.now c.sizes_of.result c.regions_of-regions.result c.written_variables-written.result c.in_ok-variables.variables.items c.in_ok-layouts.layouts.items
     c.requires.few marks c.requires.allowed c.sizes_of.ensures c.regions_of-regions.ensures (rw c.as_slice-shared.ensures.value at c.in_ok-variables.ensures)
@@ -57,6 +58,7 @@ invariant_of-result c =
 pub returns : goal.returns
 returns c =
     let marks : AreWritten (program_of c.args.source.now) c.written_variables-written.result = λ i l. c.written_variables-written.ensures i l ∙ ap (λ ts. is_written (map task_of ts) i) c.as_slice-tasks.ensures.value in
-    whole (program_of c.args.source.now) c.args.allow.now c.args.plan.now c.sizes_of.result c.regions_of-regions.result c.written_variables-written.result c.in_ok-variables.variables.items c.in_ok-layouts.layouts.items
+    let is = whole (program_of c.args.source.now) c.args.allow.now c.args.plan.now c.sizes_of.result c.regions_of-regions.result c.written_variables-written.result c.in_ok-variables.variables.items c.in_ok-layouts.layouts.items
     c.requires.few marks c.requires.allowed c.sizes_of.ensures c.regions_of-regions.ensures (rw c.as_slice-shared.ensures.value at c.in_ok-variables.ensures)
-    (tasks_moved _ _ _ _ _ _ _ _ _ _ c.as_slice-shared.ensures.value c.as_slice.ensures.value c.as_slice-tasks.ensures.value c.tasks.ensures c.in_ok-layouts.ensures)
+    (tasks_moved _ _ _ _ _ _ _ _ _ _ c.as_slice-shared.ensures.value c.as_slice.ensures.value c.as_slice-tasks.ensures.value c.tasks.ensures c.in_ok-layouts.ensures) in
+    subst (IsLayout (program_of c.args.source.now) c.args.allow.now c.args.plan.now) (sym c.new.ensures) is

@@ -4,18 +4,19 @@ use Rattle.std.specs.Prelude.{slice_get, Contains}
 use Rattle.std.specs.Option.{option_map}
 use Rattle.std.specs.List.{flat_map}
 use Rattle.std.proofs.lemmas.Option.{slice_get-map, slice_get-get_or}
-use Rattle.privatise.specs.declared.place.Region.{Region}
-use Rattle.privatise.specs.declared.place.VariablePlace.{VariablePlace}
-use Rattle.privatise.specs.LayoutValue.{LayoutValue}
-use Rattle.privatise.specs.Places.{end_of, AreInOrder, home_region, copy_regions, version_regions, IsLaidOut}
-use Rattle.privatise.specs.Laws.{HomesAreApart, CopiesAreApart, VersionsAreApart}
-use Rattle.privatise.proofs.InOrder.{Within, in_order_within, in_order_apart, in_order_split, in_order_end}
+use Rattle.memory_map.specs.declared.place.Region.{Region}
+use Rattle.memory_map.specs.declared.place.VariablePlace.{VariablePlace}
+use Rattle.memory_map.specs.MemoryMap.{MemoryMap}
+use Rattle.memory_map.specs.Places.{end_of, AreInOrder, home_region, copy_regions, version_regions, IsLaidOut}
+use Rattle.memory_map.specs.Laws.{HomesAreApart, CopiesAreApart, VersionsAreApart}
+use Rattle.memory_map.proofs.Parts.{apart_of}
+use Rattle.memory_map.proofs.InOrder.{Within, in_order_within, in_order_apart, in_order_split, in_order_end}
 
 -- a variable's region among those of all
 pub mapped : {A B : Type 0} (f : A → B) (xs : List A) (i : ℕ) (a : A) → slice_get xs i ≡ Some a → slice_get (map f xs) i ≡ Some (f a)
 mapped f xs i a e = slice_get-map f xs i ∙ ap (option_map f) e
 
-pub homes_apart : (l : LayoutValue) → IsLaidOut l → HomesAreApart l
+pub homes_apart : (l : MemoryMap) → IsLaidOut l → HomesAreApart l
 homes_apart l h i j a b lt e f = in_order_apart l.homes.address (map home_region l.variables) (end_of l.homes) i j (home_region a) (home_region b) h.homes lt (mapped home_region l.variables i a e) (mapped home_region l.variables j b f)
 
 -- one region among others
@@ -55,19 +56,19 @@ later f from (v ∷ vs) end (suc i) (suc j) a b r q h l e g c d =
     let s = in_order_split from (f v) (flat_map f vs) end h in
     later f s.0 vs end i j a b r q s.2 (omega arith) e g c d
 
-pub copies_apart : (l : LayoutValue) → IsLaidOut l → CopiesAreApart l
+pub copies_apart : (l : MemoryMap) → IsLaidOut l → CopiesAreApart l
 copies_apart l h = record {
   from_each_other = λ i j a b r q lt e f c d. later copy_regions l.copies.address l.variables (end_of l.copies) i j a b r q h.copies lt e f c d;
   from_homes = λ i j a b q e f d.
       let home = (in_order_within l.homes.address (map home_region l.variables) (end_of l.homes) i (home_region a) h.homes (mapped home_region l.variables i a e)).end in
       let copy = (among copy_regions l.copies.address l.variables (end_of l.copies) j b q h.copies f d).from in
-      let between = h.apart.copies in
+      let between = (apart_of l h).copies in
       omega (arith, home, copy, between);
 }
 
-pub versions_apart : (l : LayoutValue) → IsLaidOut l → VersionsAreApart l
+pub versions_apart : (l : MemoryMap) → IsLaidOut l → VersionsAreApart l
 versions_apart l h =
-    let end : ℕ = l.versions.address + 2 * l.versions.capacity in
+    let end : ℕ = end_of l.versions in
     record {
       from_each_other = λ i j a b r q lt e f c d. later version_regions l.versions.address l.variables end i j a b r q h.versions lt e f c d;
       from = λ i a r e c. (among version_regions l.versions.address l.variables end i a r h.versions e c).from;

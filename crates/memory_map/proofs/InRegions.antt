@@ -3,10 +3,10 @@ use Rattle.std.proofs.Common.{◌≡◌, ℕ, zero, suc, ◌+◌, ◌*◌, ◌%�
 use Rattle.std.specs.Prelude.{slice_get, Contains}
 use Rattle.std.specs.List.{flat_map}
 use Rattle.std.proofs.lemmas.Bool.{cases_order}
-use Rattle.privatise.specs.declared.place.Region.{Region}
-use Rattle.privatise.specs.declared.place.VariablePlace.{VariablePlace}
-use Rattle.privatise.specs.Places.{AreInOrder}
-use Rattle.privatise.proofs.Apart.{among, later}
+use Rattle.memory_map.specs.declared.place.Region.{Region}
+use Rattle.memory_map.specs.declared.place.VariablePlace.{VariablePlace}
+use Rattle.memory_map.specs.Places.{AreInOrder}
+use Rattle.memory_map.proofs.Apart.{among, later}
 
 -- word i of a region of variable v is at an address
 pub record IsIn (f : VariablePlace → List Region) (vs : List VariablePlace) (v i a : ℕ) : Type 0 where

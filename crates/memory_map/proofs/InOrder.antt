@@ -1,8 +1,8 @@
 -- Regions one behind another.
 use Rattle.std.proofs.Common.{◌≡◌, ℕ, zero, suc, ◌+◌, ◌*◌, ◌%◌, ◌<◌, ◌≤◌, List, [], ◌∷◌, ◌++◌, sym, subst, arith, Some, None}
 use Rattle.std.specs.Prelude.{slice_get}
-use Rattle.privatise.specs.declared.place.Region.{Region}
-use Rattle.privatise.specs.Places.{end_of, AreInOrder}
+use Rattle.memory_map.specs.declared.place.Region.{Region}
+use Rattle.memory_map.specs.Places.{end_of, AreInOrder}
 
 -- from an earlier address
 pub in_order_lower : (low from : ℕ) (rs : List Region) (end : ℕ) → low ≤ from → AreInOrder from rs end → AreInOrder low rs end

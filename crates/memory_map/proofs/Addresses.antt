@@ -1,19 +1,16 @@
--- The words that a task works on.
+-- The addresses of the words that a task works on.
 use Rattle.std.proofs.Common.{◌≡◌, ℕ, ◌⊎◌, inl, inr, List, [], ◌∷◌, arith, ap, subst, sym, ◌∙◌, Some, None, refl, true, false}
 use Rattle.std.specs.Prelude.{slice_get, All, Option, ◌==◌}
 use Rattle.std.proofs.lemmas.Bool.{eqb-true, cases_Bool}
 use Rattle.std.proofs.lemmas.List.Elements.{All-head, All-tail}
-use Rattle.privatise.specs.declared.place.Region.{Region}
-use Rattle.privatise.specs.declared.place.VariablePlace.{VariablePlace}
-use Rattle.privatise.specs.declared.place.VariablePlace.TheVariants.{Scalar, Array}
-use Rattle.privatise.specs.declared.place.PrivateScalar.{PrivateScalar}
-use Rattle.privatise.specs.LayoutValue.{LayoutValue, TaskLayoutValue}
-use Rattle.privatise.specs.Places.{HasItsPlace, copy_regions, version_regions}
-use Rattle.lower.specs.Places.{places_of, copy_among, home_of, home_in, copy_else, address_of}
-use Rattle.lower.specs.Spots.{Element, IsElement, IsCopied, IsScalarAt, IsScalarPlace, element_in, copy_in, version_in, element_address, copy_address, version_address}
-use Rattle.layout_facts.specs.Facts.{IsWordOf}
-use Rattle.layout_facts.proofs.Regions.{IsIn, IsSingle, alone, alone_is}
-use Rattle.layout_facts.proofs.Privates as privates
+use Rattle.memory_map.specs.declared.place.Region.{Region}
+use Rattle.memory_map.specs.declared.place.VariablePlace.{VariablePlace}
+use Rattle.memory_map.specs.declared.place.VariablePlace.TheVariants.{Scalar, Array}
+use Rattle.memory_map.specs.declared.place.PrivateScalar.{PrivateScalar}
+use Rattle.memory_map.specs.MemoryMap.{MemoryMap, TaskPlace}
+use Rattle.memory_map.specs.Places.{HasItsPlace, copy_regions, version_regions}
+use Rattle.memory_map.specs.Spots.{places_of, copy_among, home_of, home_in, copy_else, address_of, Element, IsElement, IsCopied, IsScalarAt, IsScalarPlace, element_in, copy_in, version_in, element_address, copy_address, version_address, IsWordOf}
+use Rattle.memory_map.proofs.InRegions.{IsIn, IsSingle, alone, alone_is}
 
 -- ---- one region of a kind for each variable
 
@@ -31,7 +28,7 @@ versions_single (Array elements length None) r q c d = let no = c.1 in absurd (o
 
 -- ---- elements
 
-module _ (l : LayoutValue) (layout : TaskLayoutValue) where
+module _ (l : MemoryMap) (layout : TaskPlace) where
   pub element_is : (x : Element) → IsElement (places_of l layout) x → IsWordOf l x.array x.index (element_address (places_of l layout) x)
   element_is x e =
       record { place = Array e.elements e.length e.copies; at = e.is_array.place; below = e.below; address = ap (λ o. element_in o x.index) e.is_array.place }
@@ -62,6 +59,16 @@ module _ (l : LayoutValue) (layout : TaskLayoutValue) where
 
 -- ---- scalars
 
+-- the copy of a scalar among all copies
+pub scalar_copy : (l : MemoryMap) (v home copy : ℕ) → slice_get l.variables v ≡ Some (Scalar home copy) → IsIn copy_regions l.variables v 0 copy
+scalar_copy l v home copy e =
+    let r : Region = record { address = copy; words = 1 } in
+    record { place = Scalar home copy; region = r; at = e; contains = alone r; below = omega arith; address = omega arith }
+
+-- the word of a scalar
+pub scalar_home : (l : MemoryMap) (v home copy : ℕ) → slice_get l.variables v ≡ Some (Scalar home copy) → IsWordOf l v 0 home
+scalar_home l v home copy e = record { place = Scalar home copy; at = e; below = omega arith; address = omega arith }
+
 -- what is found among the private scalars is the copy of the variable
 pub among_is : (vs : List VariablePlace) (xs : List PrivateScalar) (v copy : ℕ) → All (HasItsPlace vs) xs → copy_among xs v ≡ Some copy
     → (home : ℕ) × (slice_get vs v ≡ Some (Scalar home copy))
@@ -83,15 +90,15 @@ scalar_place (Some (Array elements length copies)) h = absurd h
 scalar_place None h = absurd h
 
 -- an address is that of a scalar's word, or of its copy
-abbrev pub IsScalarWord : LayoutValue → ℕ → ℕ → Type 0
+abbrev pub IsScalarWord : MemoryMap → ℕ → ℕ → Type 0
 IsScalarWord l v a = IsWordOf l v 0 a ⊎ IsIn copy_regions l.variables v 0 a
 
-pub scalar_word : (l : LayoutValue) (layout : TaskLayoutValue) (v : ℕ) → All (HasItsPlace l.variables) layout.privates → IsScalarAt (places_of l layout) v
+pub scalar_word : (l : MemoryMap) (layout : TaskPlace) (v : ℕ) → All (HasItsPlace l.variables) layout.privates → IsScalarAt (places_of l layout) v
     → IsScalarWord l v (address_of (places_of l layout) v)
 scalar_word l layout v h k = by (copy_among layout.privates v) refl
   where
     by : (o : Option ℕ) → copy_among layout.privates v ≡ o → IsScalarWord l v (copy_else o (home_of l.variables v))
-    by (Some c) e = let place = among_is l.variables layout.privates v c h e in inr (privates.copy_in l v place.0 c place.1)
+    by (Some c) e = let place = among_is l.variables layout.privates v c h e in inr (scalar_copy l v place.0 c place.1)
     by None e =
         let place = scalar_place (slice_get l.variables v) k in
-        inl (subst (λ a. IsWordOf l v 0 a) (sym (ap home_in place.2)) (privates.home_of_scalar l v place.0 place.1 place.2))
+        inl (subst (λ a. IsWordOf l v 0 a) (sym (ap home_in place.2)) (scalar_home l v place.0 place.1 place.2))

@@ -1,0 +1,6 @@
+pub mod Words
+pub mod MemoryMap
+pub mod Places
+pub mod View
+pub mod Spots
+pub mod Laws

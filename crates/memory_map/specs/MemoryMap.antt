@@ -1,0 +1,39 @@
+-- Where all that a compiled source keeps in the FRAM stands.
+use Rattle.std.specs.Prelude.{ℕ, ◌+◌, ◌*◌, List, [], ◌∷◌}
+use Rattle.memory_map.specs.declared.place.Region.{Region}
+use Rattle.memory_map.specs.declared.place.VariablePlace.{VariablePlace}
+use Rattle.memory_map.specs.declared.place.PrivateScalar.{PrivateScalar}
+use Rattle.memory_map.specs.declared.words.RuntimeWord.{RuntimeWord}
+use Rattle.memory_map.specs.Words.{index_of, row_words}
+
+-- a task's private scalars in order of declaration, and the room for its code
+pub record TaskPlace : Type 0 where
+  pub privates : List PrivateScalar
+  pub code : Region
+
+-- the runtime's words, the buffers, the words of the shared variables and of their copies, then the code of boot, commit and tasks
+pub record MemoryMap : Type 0 where
+  pub row : ℕ  -- the runtime's words stand side by side from this address on
+  pub list : Region  -- the commit list
+  pub entries : ℕ  -- the entries for which it has room
+  pub emits : Region  -- the words that an attempt emits
+  pub versions : Region  -- the version words of all written arrays
+  pub homes : Region  -- the words of all shared variables
+  pub copies : Region  -- the copies of all scalars and written arrays
+  pub variables : List VariablePlace  -- in order of declaration
+  pub boot : Region
+  pub commit : Region
+  pub code : Region  -- of all tasks
+  pub tasks : List TaskPlace
+
+-- the address of a word of the runtime
+abbrev pub word_place : MemoryMap → RuntimeWord → ℕ
+word_place m word = m.row + 2 * index_of word
+
+-- the words of the runtime as a region
+abbrev pub row_region : MemoryMap → Region
+row_region m = record { address = m.row; words = row_words }
+
+-- all of it, region by region
+abbrev pub parts : MemoryMap → List Region
+parts m = row_region m ∷ m.list ∷ m.emits ∷ m.versions ∷ m.homes ∷ m.copies ∷ m.boot ∷ m.commit ∷ m.code ∷ []

@@ -1,0 +1,26 @@
+-- The memory map that a layout is.
+use Rattle.std.specs.Prelude.{List}
+use Rattle.memory_map.specs.declared.place.VariablePlace.{VariablePlace}
+use Rattle.memory_map.specs.declared.layouts.Regions.{Regions}
+use Rattle.memory_map.specs.declared.layouts.Layout.TheInside.{Inside}
+use Rattle.memory_map.specs.MemoryMap.{MemoryMap, TaskPlace}
+
+-- the regions, with the places of the variables and of the tasks
+abbrev pub map_with : Regions → List VariablePlace → List TaskPlace → MemoryMap
+map_with r variables tasks = record {
+  row = r.row;
+  list = r.list;
+  entries = r.entries;
+  emits = r.emits;
+  versions = r.versions;
+  homes = r.homes;
+  copies = r.copies;
+  variables = variables;
+  boot = r.boot;
+  commit = r.commit;
+  code = r.code;
+  tasks = tasks;
+}
+
+abbrev pub map_of : Inside → MemoryMap
+map_of l = map_with l.regions l.variables.items l.tasks.items
