@@ -13,9 +13,11 @@ APART = ("link_image/", "image_reports/", "asm_line/", "msp_asm/", "source_gener
 
 
 def imports(text):
-    """The spec files that a file imports; a declared type is one of the program's own."""
+    """The spec files that a file imports, also through a crate that passes them on; a declared type is one of the program's own."""
     for crate, words in re.findall(r"use Rattle\.(\w+)\.specs\.([\w.]+)", text):
         path = words.rstrip(".").split(".")
+        while os.path.isdir(os.path.join(CRATES, path[0])) and not os.path.exists(os.path.join(CRATES, crate, "specs", path[0] + ".antt")):
+            crate, path = path[0], path[1:]
         files = ("%s/specs/%s.antt" % (crate, "/".join(path[:k])) for k in range(len(path), 0, -1))
         yield from [f for f in files if os.path.exists(os.path.join(CRATES, f))][:1]
 

@@ -1,3 +1,4 @@
-pub mod Signed
-pub mod Carries
-pub mod Decimal
+mod Signed
+mod Carries
+mod Decimal
+pub mod Interface

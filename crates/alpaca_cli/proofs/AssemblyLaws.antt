@@ -1,6 +1,6 @@
 -- What a call that assembles says of the text.
 use Rattle.std.proofs.Common.{◌≡◌, ◌∙◌, ◌++◌, ℕ, List, [], Some, None, Ok, refl, ap, append-nil}
-use Rattle.text_parts.specs.Printed.{printed}
+use Rattle.image_reports.specs.text_parts.Printed.{printed}
 use Rattle.image_text.specs.ImageValue.{ImageValue}
 use Rattle.image_text.specs.Reading.{image_of}
 use Rattle.image_text.specs.Text.{text_of, map_part}

@@ -6,7 +6,7 @@ use Rattle.cost_bound.specs.declared.allowance.Allow.{Allow}
 use Rattle.energy_trace.specs.Ranges.{IsCharge}
 use Rattle.energy_trace.specs.TraceValue.{TraceValue}
 use Rattle.image_text.specs.ImageValue.{ImageValue}
-use Rattle.msp_step.specs.declared.machine.Stop.TheVariants as stop
+use Rattle.image_reports.specs.msp_step.declared.machine.Stop.TheVariants as stop
 use Rattle.fram_board.specs.Board.{BoardValue, fresh}
 use Rattle.fram_board.specs.Run.{End, Charges, Stopped, RunOutcome, Run}
 use Rattle.board_run.specs.Charges.{charges_of}
@@ -19,7 +19,7 @@ use Rattle.board_run.specs.declared.trace_run.RunFault.TheVariants as fault
 use Rattle.source_generator.specs.Draws.{next, drawn, draws, behind}
 use Rattle.source_generator.specs.Source.{generated_text}
 use Rattle.source_generator.specs.Trace.{charge_of, charges, behind_source, generated_trace}
-use Rattle.source_generator.proofs.Limits.{few_charges, each_once, few_readings}
+use Rattle.source_generator.proofs.Interface.{few_charges, each_once, few_readings}
 use Rattle.source_values.specs.Runs.{CheckedProgram}
 use Rattle.source_meaning.specs.Acceptance.{IsAcceptedText}
 use Rattle.source_runs.specs.Traces.{IsTraceOfWords}

@@ -2,7 +2,7 @@
 use Rattle.std.proofs.Common.{ℕ, List, ◌++◌, Option, Result}
 use Rattle.std.specs.Io.KnownBytes.{Appends}
 use Rattle.alp_io.specs.Sink.{AppendsProperPrefix, Writes}
-use Rattle.alp_io.proofs.Appends.{part_of_first, part_of_second, writes_then}
+use Rattle.alp_io.proofs.Interface.{part_of_first, part_of_second, writes_then}
 
 -- the second is written in part
 pub in_second : (old x new : Option (List ℕ)) (a b c d : List ℕ) → Appends old x a → AppendsProperPrefix x new b

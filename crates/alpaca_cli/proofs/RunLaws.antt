@@ -4,7 +4,7 @@ use Rattle.std.specs.Io.KnownBytes.{Appends}
 use Rattle.alp_io.specs.Sink.{AppendsProperPrefix}
 use Rattle.energy_trace.specs.TraceValue.{TraceValue}
 use Rattle.image_text.specs.ImageValue.{ImageValue}
-use Rattle.msp_step.specs.declared.machine.Stop.TheVariants as stop
+use Rattle.image_reports.specs.msp_step.declared.machine.Stop.TheVariants as stop
 use Rattle.fram_board.specs.Board.{BoardValue, fresh}
 use Rattle.fram_board.specs.Run.{End, Charges, Stopped}
 use Rattle.board_run.specs.Charges.{charges_of}

@@ -6,8 +6,8 @@ use Rattle.std.proofs.lemmas.Bool.Decides.{nat_tests}
 use Rattle.std.proofs.lemmas.List.Elements.{All-nil, All-cons, All-append}
 use Rattle.alp_text.specs.Numbers.{number_of, limited}
 use Rattle.alp_text.specs.declared.numbers.NumberFault.{NumberFault}
-use Rattle.text_parts.specs.Fields.{fields}
-use Rattle.text_parts.specs.Lengths.{before}
+use Rattle.image_reports.specs.text_parts.Fields.{fields}
+use Rattle.image_reports.specs.text_parts.Lengths.{before}
 use Rattle.energy_trace.specs.declared.charge.Charge.{Charge}
 use Rattle.energy_trace.specs.declared.charge.ChargeKind.{ChargeKind}
 use Rattle.energy_trace.specs.declared.charge.ChargeKind.TheVariants as kind

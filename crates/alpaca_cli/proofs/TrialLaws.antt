@@ -7,7 +7,7 @@ use Rattle.alp_io.specs.declared.report.Reason.{Reason}
 use Rattle.cost_bound.specs.declared.allowance.Allow.{Allow}
 use Rattle.energy_trace.specs.TraceValue.{TraceValue}
 use Rattle.image_text.specs.ImageValue.{ImageValue}
-use Rattle.msp_step.specs.declared.machine.Stop.TheVariants as stop
+use Rattle.image_reports.specs.msp_step.declared.machine.Stop.TheVariants as stop
 use Rattle.fram_board.specs.Board.{fresh}
 use Rattle.fram_board.specs.Laws.{HasRun}
 use Rattle.fram_board.specs.Run.{End, Charges, Stopped, RunOutcome}
@@ -17,7 +17,7 @@ use Rattle.board_run.specs.Report.{report_of}
 use Rattle.source_values.specs.Statements.{Outcome}
 use Rattle.source_values.specs.Runs.{CheckedProgram}
 use Rattle.source_meaning.specs.Acceptance.{IsAcceptedText}
-use Rattle.source_maps.specs.Maps.{map_of}
+use Rattle.image_reports.specs.source_maps.Maps.{map_of}
 use Rattle.source_runs.specs.Tells.{IsEndOf, IsToldBySource}
 use Rattle.source_runs.specs.Traces.{IsTraceOfWords}
 use Rattle.link_image.specs.Compiled.{IsCompiled}

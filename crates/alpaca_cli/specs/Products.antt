@@ -2,11 +2,11 @@
 use Rattle.std.specs.Prelude.{◌≡◌, ℕ, List, [], ◌∷◌, ◌++◌, Option, Some, None, Ok, IsSomeAnd}
 use Rattle.energy_trace.specs.TraceValue.{TraceValue}
 use Rattle.energy_trace.specs.Reading.{trace_of}
-use Rattle.image_map.specs.MapValue.{MapValue}
+use Rattle.image_reports.specs.image_map.MapValue.{MapValue}
 use Rattle.image_text.specs.ImageValue.{ImageValue}
 use Rattle.image_text.specs.Reading.{image_of}
 use Rattle.image_text.specs.Text.{map_part, text_of}
-use Rattle.text_parts.specs.Printed.{printed}
+use Rattle.image_reports.specs.text_parts.Printed.{printed}
 use Rattle.alp_io.specs.Report.{bound_line}
 use Rattle.fram_board.specs.Board.{fresh}
 use Rattle.fram_board.specs.Run.{RunOutcome, Run}
@@ -21,7 +21,7 @@ use Rattle.msp_asm.specs.Assembled.{assembled}
 use Rattle.msp_asm.specs.Disassembly.{IsTextOf}
 use Rattle.source_values.specs.Runs.{CheckedProgram}
 use Rattle.source_report.specs.SourceReport.{IsMeanReport}
-use Rattle.source_events.specs.Naming.{IsMapOf}
+use Rattle.source_runs.specs.Naming.{IsMapOf}
 use Rattle.source_runs.specs.Traces.{IsTraceOfWords}
 use Rattle.source_runs.specs.Tells.{IsToldBySource}
 use Rattle.source_generator.specs.Source.{generated_text}

@@ -2,9 +2,9 @@
 use Rattle.std.specs.Prelude.{◌≡◌, ℕ, List, Some}
 use Rattle.energy_trace.specs.TraceValue.{TraceValue}
 use Rattle.source_values.specs.Runs.{CheckedProgram}
-use Rattle.image_map.specs.MapValue.{MapValue}
+use Rattle.image_reports.specs.image_map.MapValue.{MapValue}
 use Rattle.image_text.specs.ImageValue.{ImageValue}
-use Rattle.msp_step.specs.declared.machine.Stop.TheVariants as stop
+use Rattle.image_reports.specs.msp_step.declared.machine.Stop.TheVariants as stop
 use Rattle.fram_board.specs.Board.{fresh}
 use Rattle.fram_board.specs.Run.{End, Charges, Stopped, RunOutcome, Run}
 use Rattle.board_run.specs.Charges.{charges_of}

@@ -1,6 +1,6 @@
 //! The image of a source, and its text.
 ghost use Rattle.std.specs.Prelude.{◌≡◌, IfOk, IfErr};
-ghost use Rattle.task_ast.specs.View.{program_of};
+ghost use Rattle.image_reports.specs.task_ast.View.{program_of};
 ghost use Rattle.source_meaning.specs.Acceptance.{IsAcceptedText};
 ghost use Rattle.alpaca_cli.specs.declared.failure.Failure.TheVariants.{Memory};
 ghost use Rattle.link_image.specs.Compiled.{IsCompiled};

@@ -1,6 +1,6 @@
 //! A source text, read for a command.
 ghost use Rattle.std.specs.Prelude.{◌≡◌, ◌<◌, ◌≤◌, IfOk, IfErr, Ok, length, codes, option_map, Some};
-ghost use Rattle.task_ast.specs.View.{program_of};
+ghost use Rattle.image_reports.specs.task_ast.View.{program_of};
 ghost use Rattle.source_meaning.specs.Acceptance.{IsAcceptedText};
 ghost use Rattle.alpaca_cli.specs.Sources as told;
 ghost use Rattle.alpaca_cli.specs.Sources.{IsSourceText, RefusesSource};

@@ -1,9 +1,9 @@
 -- A program changes FRAM and the readings by its effects.
 use Rattle.std.proofs.Common.{◌≡◌, ℕ, zero, suc, ◌+◌, ◌-◌, ◌*◌, ◌%◌, ◌==◌, List, [], ◌∷◌, ◌++◌, Option, Some, None, Bool, true, false, nat_lt, refl, sym, ap}
 use Rattle.std.proofs.Common.{◌∙◌, append_assoc, append-nil, if◌then◌else◌}
-use Rattle.fram_board.specs.Effects.{Effect, Store}
+use Rattle.machine_effects.specs.fram_board.Effects.{Effect, Store}
 use Rattle.machine_effects.specs.World.{fram_after, readings_taken}
-use Rattle.machine_effects.proofs.Worlds.{fram_after-append, readings_taken-append}
+use Rattle.machine_effects.proofs.Interface.{fram_after-append, readings_taken-append}
 use Rattle.array_versions.specs.declared.program.ArrayPlace.{ArrayPlace}
 use Rattle.array_versions.specs.declared.program.ListPlace.{ListPlace}
 use Rattle.array_versions.specs.Program.{Step, Program, number, load, keep, local, set_local, unary, binary, shift, element, emit_word, list_entry}

@@ -1,6 +1,6 @@
 -- A program behind another.
 use Rattle.std.proofs.Common.{◌≡◌, List, [], ◌++◌, refl, sym, ap, ◌∙◌, arith, append_assoc}
-use Rattle.fram_board.specs.Effects.{Effect}
+use Rattle.machine_effects.specs.fram_board.Effects.{Effect}
 use Rattle.array_versions.specs.Program.{Program, nothing, step, joined}
 use Rattle.array_versions.specs.Behaviour.{WordState, End, GoesOn, Jumps, Short, Strays, Broken, Behaviour, behaves, behind_effects, on_end, then_on, step_behaviour, behaviour}
 use Rattle.array_versions.specs.Laws.{JoinedGoOn, JoinedCycles, JoinedWords}

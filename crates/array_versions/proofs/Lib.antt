@@ -1,8 +1,10 @@
-pub mod Joined
-pub mod ByEffects
-pub mod Ways
-pub mod Words
-pub mod Spared
-pub mod Views
-pub mod Kept
-pub mod Spent
+mod Joined
+mod ByEffects
+mod Ways
+mod Words
+mod Spared
+mod Views
+mod Kept
+mod Spent
+pub mod Interface
+pub use Rattle.machine_effects.proofs as machine_effects

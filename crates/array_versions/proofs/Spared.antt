@@ -1,6 +1,6 @@
 -- A program that spares a local leaves its word.
 use Rattle.std.proofs.Common.{◌≡◌, ℕ, zero, suc, ◌+◌, ◌-◌, ◌*◌, ◌%◌, ◌==◌, List, [], ◌∷◌, Option, Some, None, Bool, true, false, nat_lt, sym, ap, ◌∙◌, ne_eqb, ◌≢◌, if◌then◌else◌}
-use Rattle.fram_board.specs.Effects.{Store}
+use Rattle.machine_effects.specs.fram_board.Effects.{Store}
 use Rattle.array_versions.specs.declared.program.ArrayPlace.{ArrayPlace}
 use Rattle.array_versions.specs.declared.program.ListPlace.{ListPlace}
 use Rattle.array_versions.specs.Program.{Step, Program, number, load, keep, local, set_local, unary, binary, shift, element, emit_word, list_entry, versioned_read, versioned_write, sense, choose, repeat, store_number, move_word, jump, nothing, step}

@@ -5,9 +5,9 @@ use Rattle.std.specs.List.{AllByRecursion}
 use Rattle.std.proofs.lemmas.Bool.Decides.{nat_tests}
 use Rattle.std.proofs.lemmas.Nat.{and_le_l, or_lt, xor_lt}
 use Rattle.std.proofs.lemmas.Option.{same_Some}
-use Rattle.alp_words.specs.Words.{bit, biased, is_negative}
-use Rattle.alp_words.specs.declared.Width.TheVariants.{Word}
-use Rattle.fram_board.specs.Effects.{Store}
+use Rattle.machine_effects.specs.alp_words.Words.{bit, biased, is_negative}
+use Rattle.machine_effects.specs.alp_words.declared.Width.TheVariants.{Word}
+use Rattle.machine_effects.specs.fram_board.Effects.{Store}
 use Rattle.machine_effects.specs.World.{put}
 use Rattle.array_versions.specs.declared.operations.UnaryOperation.{UnaryOperation}
 use Rattle.array_versions.specs.declared.operations.UnaryOperation.TheVariants.{Negate, Complement, Not, Truth}

@@ -1,7 +1,7 @@
 -- What a word program does from a state on: its effects, and how it ends. Both depend on FRAM and the readings at its start.
 use Rattle.std.specs.Prelude.{ℕ, zero, suc, ◌+◌, ◌-◌, ◌*◌, ◌%◌, ◌==◌, ◌&&◌, Bool, nat_eq, nat_lt, if◌then◌else◌, List, [], ◌∷◌, ◌++◌, Option, Some, None}
-use Rattle.fram_board.specs.Bus.{is_fram}
-use Rattle.fram_board.specs.Effects.{Effect, Store, Take}
+use Rattle.machine_effects.specs.fram_board.Bus.{is_fram}
+use Rattle.machine_effects.specs.fram_board.Effects.{Effect, Store, Take}
 use Rattle.machine_effects.specs.World.{put}
 use Rattle.array_versions.specs.declared.program.ArrayPlace.{ArrayPlace}
 use Rattle.array_versions.specs.declared.program.ListPlace.{ListPlace}

@@ -1,7 +1,7 @@
 -- What holds of the behaviour of word programs.
 use Rattle.std.specs.Prelude.{ℕ, ◌≡◌, ◌+◌, ◌<◌, ◌≤◌, List, ◌++◌, Some}
 use Rattle.std.specs.List.{AllByRecursion}
-use Rattle.fram_board.specs.Effects.{Effect}
+use Rattle.machine_effects.specs.fram_board.Effects.{Effect}
 use Rattle.machine_effects.specs.World.{fram_after, readings_taken}
 use Rattle.array_versions.specs.Program.{Program, joined}
 use Rattle.array_versions.specs.Behaviour.{WordState, started, End, GoesOn, Jumps, Short, Strays, Broken, behaviour, then_on}

@@ -1,6 +1,6 @@
 -- What the operations give, by the arithmetic of words.
 use Rattle.std.specs.Prelude.{ℕ, ◌^◌, ◌-◌, ◌/◌, ◌==◌, not, nat_le, nat_lt, bit_and, bit_or, bit_xor, if◌then◌else◌}
-use Rattle.alp_words.specs.Words.{word_sum, word_difference, word_product, quotient, remainder, arithmetic_shift, biased, bit}
+use Rattle.machine_effects.specs.alp_words.Words.{word_sum, word_difference, word_product, quotient, remainder, arithmetic_shift, biased, bit}
 use Rattle.array_versions.specs.declared.operations.UnaryOperation.{UnaryOperation}
 use Rattle.array_versions.specs.declared.operations.UnaryOperation.TheVariants.{Negate, Complement, Not, Truth}
 use Rattle.array_versions.specs.declared.operations.BinaryOperation.{BinaryOperation}

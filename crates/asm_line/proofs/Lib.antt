@@ -1,4 +1,5 @@
-pub mod Digits
-pub mod Splits
-pub mod Moved
-pub mod Directives
+mod Digits
+mod Splits
+mod Moved
+mod Directives
+pub mod Interface

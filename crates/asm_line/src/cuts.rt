@@ -112,7 +112,7 @@ pub fn only_word(piece: Piece<'_>) -> Option<Piece<'_>>
 }
 
 /// A line without one carriage return at its end.
-#[tactic(auto, using(text_parts::proofs::Returns::return_last, text_parts::proofs::Returns::other_last, text_parts::proofs::Returns::return_none))]
+#[tactic(auto, using(text_parts::proofs::Interface::return_last, text_parts::proofs::Interface::other_last, text_parts::proofs::Interface::return_none))]
 fn bare(line: Piece<'_>) -> Piece<'_>
     ensures { located result ≡ bare (located line.entry) }
 {

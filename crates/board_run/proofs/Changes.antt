@@ -3,7 +3,7 @@ use Rattle.std.proofs.Common.{◌≡◌, ◌<◌, ℕ, zero, suc, ◌+◌, List,
 use Rattle.std.proofs.Common.{subst, ◌∙◌, ◌*◌, ◌-◌, Option, Some, None, append_assoc, length-append, All}
 use Rattle.std.proofs.lemmas.List.{get_or_default, length-drop}
 use Rattle.alp_io.specs.Report.{accepted_line}
-use Rattle.alp_io.proofs.Progress.{Progress, progress_start}
+use Rattle.alp_io.proofs.Interface.{Progress, progress_start}
 use Rattle.board_run.proofs.Placed.{begins}
 use Rattle.image_map.specs.declared.parts.Variable.{Variable}
 use Rattle.image_map.specs.MapValue.{IsVariable}

@@ -8,20 +8,20 @@ use Rattle.std.proofs.KnownBytes.{Appends-trans, Appends-nil}
 use Rattle.energy_trace.specs.declared.charge.Charge.{Charge}
 use Rattle.energy_trace.specs.TraceValue.{charge_count}
 use Rattle.energy_trace.specs.declared.charge.ChargeKind.TheVariants as kind
-use Rattle.energy_trace.proofs.Back.{count_cons}
+use Rattle.energy_trace.proofs.Interface.{count_cons}
 use Rattle.board_run.specs.declared.trace_run.RunEnd.{RunEnd}
 use Rattle.board_run.specs.declared.trace_run.RunFault.{RunFault}
 use Rattle.board_run.specs.Charges.{charge_of, charges_of}
 use Rattle.std.specs.Io.KnownBytes.{Appends}
 use Rattle.alp_io.specs.Sink.{AppendsProperPrefix}
 use Rattle.alp_io.specs.declared.sink.Failed.{Failed}
-use Rattle.alp_io.proofs.Appends.{part_of_first, part_of_second}
+use Rattle.alp_io.proofs.Interface.{part_of_first, part_of_second}
 use Rattle.msp_step.specs.declared.machine.Stop.{Stop}
 use Rattle.fram_board.specs.declared.receiver.Receiver.{Receiver}
 use Rattle.fram_board.specs.Board.{BoardValue, PowerState, powered}
 use Rattle.fram_board.specs.Run.{Moment, Charges, Stopped, End, RunOutcome, run_outcome, after_moments, power_up_of, BoardCharge, ChargeRun, Run, Over, Next}
 use Rattle.fram_board.specs.Run.{Last}
-use Rattle.fram_board.proofs.Runs.{has_run}
+use Rattle.fram_board.proofs.Interface.{has_run}
 use Rattle.board_run.specs.History.{History, bound_lines, moment_lines, noted, behind_power_up}
 use Rattle.board_run.specs.Report.{lines_from, after_all, last_line, rest_of, BreaksOff, IsCutInMoment, IsCutAt, InText, InMoment, InLastLine, IsCut, IsRestOf}
 use Rattle.board_run.specs.Report.{IsRunOf, IsEndOf}

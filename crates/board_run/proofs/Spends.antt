@@ -8,7 +8,7 @@ use Rattle.alp_io.specs.declared.sink.Failed.{Failed}
 use Rattle.msp_step.specs.declared.machine.Stop.{Stop}
 use Rattle.fram_board.specs.Board.{BoardValue}
 use Rattle.fram_board.specs.Run.{Measure, Moment, RunOutcome, run_outcome, after_moments, ChargeRun}
-use Rattle.fram_board.proofs.Runs.{charge_run}
+use Rattle.fram_board.proofs.Interface.{charge_run}
 use Rattle.board_run.specs.declared.spend.Turn.{Turn}
 use Rattle.board_run.specs.declared.spend.Turn.TheVariants as turn
 use Rattle.board_run.specs.History.{History, moment_lines, noted}

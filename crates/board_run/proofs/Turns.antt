@@ -12,7 +12,7 @@ use Rattle.fram_board.specs.declared.receiver.Receiver.{Receiver}
 use Rattle.fram_board.specs.Board.{BoardValue, executed, IsNextInstruction, IsStoppedBy, KeepsAllButTaken, receiver_after, is_accepted}
 use Rattle.fram_board.specs.Run.{Measure, price, word_list, Charges, Stopped, RunOutcome, run_outcome, ChargeRun, Spent, NoInstruction, TooDear, Refused}
 use Rattle.fram_board.specs.Run.{Executed, moment_of}
-use Rattle.fram_board.proofs.Runs.{price_low}
+use Rattle.fram_board.proofs.Interface.{price_low}
 use Rattle.board_run.specs.declared.spend.Turn.{Turn}
 use Rattle.board_run.specs.History.{History, moment_lines, noted, instruction_lines, behind_instruction}
 use Rattle.board_run.specs.Parts.{FewMore, ComesFirst, Turned, TurnedPartly, IsTurn}

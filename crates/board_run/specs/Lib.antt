@@ -4,3 +4,4 @@ pub mod Report
 pub mod Parts
 pub mod State
 pub mod Watched
+pub use Rattle.alp_io.specs as alp_io

@@ -4,19 +4,18 @@ use Rattle.std.proofs.lemmas.Bool.Decides.{nat_tests}
 use Rattle.std.proofs.lemmas.List.Elements.{All-get_or}
 use Rattle.msp_isa.specs.declared.instructions.Condition.TheVariants.{NotEqual}
 use Rattle.msp_isa.specs.declared.operands.Konst.TheVariants.{One}
-use Rattle.msp_step.specs.Effect.{sum16, distance}
-use Rattle.machine_effects.specs.World.{fram_after}
-use Rattle.machine_effects.specs.Going.{Goes}
-use Rattle.machine_effects.specs.Machine.{Code}
-use Rattle.machine_effects.proofs.Worlds.{fram_after-append}
-use Rattle.code_forms.specs.Forms.{Core, Form, Compare, SetStack, Jump, Branch, Constant}
-use Rattle.code_forms.specs.Code.{Stands, IsTidy, forms_run}
-use Rattle.code_forms.proofs.Placed.{stands_at}
-use Rattle.runtime_effects.specs.Stages.{opening_effects, copied_in, start_effects}
-use Rattle.runtime_effects.specs.Needs.{AreInFram}
-use Rattle.code_forms.proofs.Blocks.{stands_front, stands_back, end_of}
+use Rattle.runtime_code.specs.msp_step.Effect.{sum16, distance}
+use Rattle.runtime_code.specs.machine_effects.World.{fram_after}
+use Rattle.runtime_code.specs.machine_effects.Going.{Goes}
+use Rattle.runtime_code.specs.machine_effects.Machine.{Code}
+use Rattle.runtime_code.proofs.machine_effects.Interface.{fram_after-append}
+use Rattle.runtime_code.specs.code_forms.Forms.{Core, Form, Compare, SetStack, Jump, Branch, Constant}
+use Rattle.runtime_code.specs.code_forms.Code.{Stands, IsTidy, forms_run}
+use Rattle.runtime_code.proofs.code_forms.Interface.{stands_at, stands_front, stands_back, end_of}
+use Rattle.runtime_code.specs.runtime_effects.Stages.{opening_effects, copied_in, start_effects}
+use Rattle.runtime_code.specs.runtime_effects.Needs.{AreInFram}
 use Rattle.runtime_code.specs.Comes.{Comes, IsAt, Enters}
-use Rattle.runtime_code.proofs.Chains.{straight, one_form, comes_on, recounted, then_on, chain}
+use Rattle.runtime_code.proofs.Interface.{straight, one_form, comes_on, recounted, then_on, chain}
 use Rattle.boot_runtime.specs.Listing.{TaskEntry, entry_at, privates_in, head, opening, dispatch, ladder_to, stubs}
 use Rattle.boot_runtime.specs.Laws.{IsEntered, IsBoot, PendingCommitIsFound, AttemptIsFound, StartIsMade}
 use Rattle.boot_runtime.proofs.Opening.{task_stays, opens}

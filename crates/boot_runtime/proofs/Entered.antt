@@ -4,9 +4,9 @@ use Rattle.std.specs.List.{All}
 use Rattle.std.proofs.lemmas.List.Elements.{All-nil, All-cons, All-head, All-tail}
 use Rattle.memory_map.specs.MemoryMap.{TaskPlace}
 use Rattle.memory_map.specs.Places.{end_of, AreInOrder}
-use Rattle.runtime_effects.specs.Needs.{ArePairWords}
+use Rattle.runtime_code.specs.runtime_effects.Needs.{ArePairWords}
 use Rattle.runtime_code.specs.LayoutPlaces.{pairs_of}
-use Rattle.runtime_code.proofs.Layouts.{privates_are_words}
+use Rattle.runtime_code.proofs.Interface.{privates_are_words}
 use Rattle.boot_runtime.specs.Entries.{entry_of}
 use Rattle.boot_runtime.specs.Laws.{IsEntered, TasksAreEntered}
 

@@ -2,19 +2,18 @@
 use Rattle.std.proofs.Common.{◌≡◌, ℕ, zero, suc, ◌+◌, ◌*◌, ◌%◌, ◌<◌, List, [], ◌∷◌, ◌++◌, length, Some, refl, ap, ◌∙◌, subst, arith}
 use Rattle.std.specs.List.{All}
 use Rattle.std.proofs.lemmas.List.Elements.{All-head, All-tail}
-use Rattle.fram_board.specs.Effects.{Effect, Store}
-use Rattle.machine_effects.specs.World.{put, fram_after}
-use Rattle.machine_effects.specs.Going.{Goes}
-use Rattle.machine_effects.specs.Machine.{Code}
-use Rattle.code_forms.specs.Forms.{Core, Move, Branch, BranchRegister, Fram, ToFram, R4, instruction_of}
-use Rattle.code_forms.specs.Code.{Stands, IsTidy, forms_run, forms_bytes}
-use Rattle.code_forms.proofs.Placed.{stands_at, forms_bytes-append}
-use Rattle.runtime_effects.specs.Places.{CopyPair}
-use Rattle.runtime_effects.specs.Stages.{copied_in}
-use Rattle.runtime_effects.specs.Needs.{AreInFram, ArePairWords}
-use Rattle.code_forms.proofs.Blocks.{stands_front, stands_back, end_of}
+use Rattle.runtime_code.specs.fram_board.Effects.{Effect, Store}
+use Rattle.runtime_code.specs.machine_effects.World.{put, fram_after}
+use Rattle.runtime_code.specs.machine_effects.Going.{Goes}
+use Rattle.runtime_code.specs.machine_effects.Machine.{Code}
+use Rattle.runtime_code.specs.code_forms.Forms.{Core, Move, Branch, BranchRegister, Fram, ToFram, R4, instruction_of}
+use Rattle.runtime_code.specs.code_forms.Code.{Stands, IsTidy, forms_run, forms_bytes}
+use Rattle.runtime_code.proofs.code_forms.Interface.{stands_at, forms_bytes-append, stands_front, stands_back, end_of}
+use Rattle.runtime_code.specs.runtime_effects.Places.{CopyPair}
+use Rattle.runtime_code.specs.runtime_effects.Stages.{copied_in}
+use Rattle.runtime_code.specs.runtime_effects.Needs.{AreInFram, ArePairWords}
 use Rattle.runtime_code.specs.Comes.{Comes, Enters}
-use Rattle.runtime_code.proofs.Chains.{straight, one_form, recounted, then_on}
+use Rattle.runtime_code.proofs.Interface.{straight, one_form, recounted, then_on}
 use Rattle.boot_runtime.specs.Listing.{TaskEntry, entry_at, task_found, dispatch, copies_in, stub, stub_bytes, ladder_to, stubs}
 use Rattle.memory_map.specs.declared.words.RuntimeWord.TheVariants.{CurrentTask}
 use Rattle.memory_map.specs.MemoryMap.{MemoryMap, word_place}

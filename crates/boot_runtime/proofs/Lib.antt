@@ -1,7 +1,14 @@
-pub mod Opening
-pub mod Entering
-pub mod Boot
-pub mod Words
-pub mod Stores
-pub mod Writing
-pub mod Entered
+mod Opening
+mod Entering
+mod Boot
+mod Words
+mod Stores
+mod Writing
+mod Entered
+pub mod Interface
+pub use Rattle.memory_map.proofs as memory_map
+pub use Rattle.runtime_code.proofs.fram_board as fram_board
+pub use Rattle.runtime_code.proofs.machine_effects as machine_effects
+pub use Rattle.runtime_code.proofs.code_forms as code_forms
+pub use Rattle.privatise.proofs.war_analysis as war_analysis
+pub use Rattle.runtime_code.proofs as runtime_code

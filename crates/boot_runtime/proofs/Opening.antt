@@ -1,20 +1,18 @@
 -- An attempt's opening: the version words, VER, CLN and EN.
 use Rattle.std.proofs.Common.{◌≡◌, ◌≢◌, ℕ, zero, suc, ◌+◌, ◌-◌, ◌*◌, ◌%◌, ◌<◌, ◌≤◌, ◌⊎◌, inl, inr, List, [], ◌∷◌, ◌++◌, Some, refl, sym, ap, ◌∙◌, subst, arith}
 use Rattle.msp_isa.specs.declared.instructions.Condition.TheVariants.{Always}
-use Rattle.msp_step.specs.Effect.{sum16, distance}
-use Rattle.fram_board.specs.Effects.{Effect, Store}
-use Rattle.machine_effects.specs.World.{put, fram_after}
-use Rattle.machine_effects.specs.Machine.{Code, IsFram}
-use Rattle.machine_effects.proofs.Worlds.{fram_after-append, put_other}
-use Rattle.code_forms.specs.Forms.{Core, Jump, instruction_of}
-use Rattle.code_forms.specs.Code.{Stands, IsTidy, forms_run}
-use Rattle.code_forms.proofs.Placed.{stands_at}
-use Rattle.runtime_effects.specs.Stages.{cleared, opening_effects}
-use Rattle.runtime_effects.specs.Needs.{AreInFram, KeepsTask}
-use Rattle.code_forms.proofs.Blocks.{stands_front, stands_back, end_of}
+use Rattle.runtime_code.specs.msp_step.Effect.{sum16, distance}
+use Rattle.runtime_code.specs.fram_board.Effects.{Effect, Store}
+use Rattle.runtime_code.specs.machine_effects.World.{put, fram_after}
+use Rattle.runtime_code.specs.machine_effects.Machine.{Code, IsFram}
+use Rattle.runtime_code.proofs.machine_effects.Interface.{fram_after-append, put_other}
+use Rattle.runtime_code.specs.code_forms.Forms.{Core, Jump, instruction_of}
+use Rattle.runtime_code.specs.code_forms.Code.{Stands, IsTidy, forms_run}
+use Rattle.runtime_code.proofs.code_forms.Interface.{stands_at, stands_front, stands_back, end_of}
+use Rattle.runtime_code.specs.runtime_effects.Stages.{cleared, opening_effects}
+use Rattle.runtime_code.specs.runtime_effects.Needs.{AreInFram, KeepsTask}
 use Rattle.runtime_code.specs.Comes.{Comes, IsAt}
-use Rattle.runtime_code.proofs.Chains.{straight, recounted, nothing, then_on, moved_to, chain}
-use Rattle.runtime_code.proofs.Loops.{tested, goes_in, leaves, jumps_back}
+use Rattle.runtime_code.proofs.Interface.{straight, recounted, nothing, then_on, moved_to, chain, tested, goes_in, leaves, jumps_back}
 use Rattle.boot_runtime.specs.Listing.{clearing_begins, clear_turn, clear_loop, counts_set, opening}
 use Rattle.memory_map.specs.declared.words.RuntimeWord.TheVariants.{CurrentTask, ListLength, EmitCount, Version}
 use Rattle.memory_map.specs.MemoryMap.{MemoryMap, word_place}

@@ -2,14 +2,14 @@
 use Rattle.std.proofs.Common.{ℕ, zero, suc, ◌+◌, ◌*◌, ◌<◌, List, [], ◌∷◌, arith, subst}
 use Rattle.std.specs.List.{All}
 use Rattle.std.proofs.lemmas.List.Elements.{All-head, All-tail, All-weaker}
-use Rattle.machine_effects.specs.World.{put, fram_after, EachStore}
-use Rattle.machine_effects.specs.Machine.{IsFram}
-use Rattle.machine_effects.proofs.Worlds.{each_store-append}
+use Rattle.runtime_code.specs.machine_effects.World.{put, fram_after, EachStore}
+use Rattle.runtime_code.specs.machine_effects.Machine.{IsFram}
+use Rattle.runtime_code.proofs.machine_effects.Interface.{each_store-append}
 use Rattle.memory_map.specs.declared.words.RuntimeWord.TheVariants.{CurrentTask, ListLength, EmitCount, Version}
 use Rattle.memory_map.specs.MemoryMap.{MemoryMap, word_place}
-use Rattle.runtime_effects.specs.Places.{CopyPair}
-use Rattle.runtime_effects.specs.Stages.{cleared, copied_in, opening_effects, start_effects}
-use Rattle.runtime_effects.specs.Needs.{IsRegion, ArePairWords}
+use Rattle.runtime_code.specs.runtime_effects.Places.{CopyPair}
+use Rattle.runtime_code.specs.runtime_effects.Stages.{cleared, copied_in, opening_effects, start_effects}
+use Rattle.runtime_code.specs.runtime_effects.Needs.{IsRegion, ArePairWords}
 use Rattle.boot_runtime.specs.Laws.{StartStoresInFram}
 
 words_cleared : (P : ℕ → ℕ → Type 0) (n p : ℕ) → ((i : ℕ) → i < n → P (p + 2 * i) 0) → EachStore P (cleared n p)

@@ -1,11 +1,11 @@
 -- The length of the boot's code.
 use Rattle.std.proofs.Common.{◌≡◌, ℕ, ◌+◌, ◌*◌, ◌≤◌, List, [], ◌∷◌, ◌++◌, length, refl, ◌∙◌, arith}
-use Rattle.code_forms.specs.Forms.{Branch}
-use Rattle.code_forms.specs.Code.{forms_bytes}
-use Rattle.code_forms.specs.Placed.{instructions, AreInstructions}
-use Rattle.code_forms.proofs.Placed.{forms_bytes-append}
-use Rattle.runtime_effects.specs.Places.{CopyPair}
-use Rattle.runtime_code.proofs.Sizes.{code_bytes, are_instructions-append}
+use Rattle.runtime_code.specs.code_forms.Forms.{Branch}
+use Rattle.runtime_code.specs.code_forms.Code.{forms_bytes}
+use Rattle.runtime_code.specs.code_forms.Placed.{instructions, AreInstructions}
+use Rattle.runtime_code.proofs.code_forms.Interface.{forms_bytes-append}
+use Rattle.runtime_code.specs.runtime_effects.Places.{CopyPair}
+use Rattle.runtime_code.proofs.Interface.{code_bytes, are_instructions-append}
 use Rattle.boot_runtime.specs.Listing.{TaskEntry, head, opening, dispatch, copies_in, stub, stub_bytes, ladder_to, stubs, stubs_bytes, boot_forms}
 use Rattle.boot_runtime.specs.Laws.{BootIsShort, BootIsCode, BootFits, entry_room}
 use Rattle.boot_runtime.proofs.Entering.{stub_size, ladder_bytes}

@@ -2,9 +2,9 @@
 use Rattle.std.proofs.Common.{◌≡◌, ℕ, ◌+◌, ◌*◌, ◌<◌, length, map, drop, get_or, List, [], ◌∷◌, ◌++◌, sym, ap, ◌∙◌, append_assoc}
 use Rattle.std.proofs.lemmas.List.{at_drop_more}
 use Rattle.msp_isa.specs.declared.instructions.Instr.{Instr}
-use Rattle.code_forms.specs.Forms.{Branch, instruction_of}
-use Rattle.code_forms.specs.Placed.{instructions}
-use Rattle.code_forms.proofs.Placed.{instructions-append}
+use Rattle.runtime_code.specs.code_forms.Forms.{Branch, instruction_of}
+use Rattle.runtime_code.specs.code_forms.Placed.{instructions}
+use Rattle.runtime_code.proofs.code_forms.Interface.{instructions-append}
 use Rattle.runtime_code.specs.LayoutPlaces.{pairs_of}
 use Rattle.boot_runtime.specs.Entries.{entry_of}
 use Rattle.boot_runtime.specs.Listing.{TaskEntry, copies_in, stub, stubs, ladder_to, fixed_forms, boot_forms}

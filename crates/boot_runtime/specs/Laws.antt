@@ -1,15 +1,15 @@
 -- What the boot's code does.
 use Rattle.std.specs.Prelude.{◌≡◌, ◌≢◌, ℕ, ◌+◌, ◌*◌, ◌%◌, ◌<◌, List, [], length, All, ◌≤◌, ◌∷◌}
-use Rattle.machine_effects.specs.World.{fram_after, EachStore}
-use Rattle.machine_effects.specs.Machine.{Code, IsFram}
-use Rattle.code_forms.specs.Forms.{Core}
-use Rattle.code_forms.specs.Code.{Stands, IsTidy}
-use Rattle.code_forms.specs.Placed.{instructions, words_of, AreInstructions}
+use Rattle.runtime_code.specs.machine_effects.World.{fram_after, EachStore}
+use Rattle.runtime_code.specs.machine_effects.Machine.{Code, IsFram}
+use Rattle.runtime_code.specs.code_forms.Forms.{Core}
+use Rattle.runtime_code.specs.code_forms.Code.{Stands, IsTidy}
+use Rattle.runtime_code.specs.code_forms.Placed.{instructions, words_of, AreInstructions}
 use Rattle.memory_map.specs.declared.words.RuntimeWord.TheVariants.{CurrentTask, Gate}
 use Rattle.memory_map.specs.MemoryMap.{MemoryMap, word_place}
-use Rattle.runtime_effects.specs.Places.{CopyPair}
-use Rattle.runtime_effects.specs.Stages.{start_effects}
-use Rattle.runtime_effects.specs.Needs.{AreInFram, KeepsTask, ArePairWords}
+use Rattle.runtime_code.specs.runtime_effects.Places.{CopyPair}
+use Rattle.runtime_code.specs.runtime_effects.Stages.{start_effects}
+use Rattle.runtime_code.specs.runtime_effects.Needs.{AreInFram, KeepsTask, ArePairWords}
 use Rattle.address_space.specs.Limits.{stack_top}
 use Rattle.runtime_code.specs.Addresses.{start_address}
 use Rattle.runtime_code.specs.Comes.{Comes, Enters}

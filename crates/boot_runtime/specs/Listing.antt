@@ -3,11 +3,11 @@ use Rattle.std.specs.Prelude.{ℕ, ◌+◌, ◌-◌, ◌*◌, List, [], ◌∷�
 use Rattle.msp_isa.specs.declared.instructions.TwoOp.TheVariants.{Add, Sub}
 use Rattle.msp_isa.specs.declared.instructions.Condition.TheVariants.{NotEqual}
 use Rattle.msp_isa.specs.declared.operands.Konst.TheVariants.{Zero, One, Two}
-use Rattle.code_forms.specs.Forms.{Form, Move, Calculate, Compare, SetStack, Jump, Branch, BranchRegister, R4, R5}
-use Rattle.code_forms.specs.Forms.{Register, Number, Constant, Fram, ToRegister, ToFram, ToPointed}
+use Rattle.runtime_code.specs.code_forms.Forms.{Form, Move, Calculate, Compare, SetStack, Jump, Branch, BranchRegister, R4, R5}
+use Rattle.runtime_code.specs.code_forms.Forms.{Register, Number, Constant, Fram, ToRegister, ToFram, ToPointed}
 use Rattle.memory_map.specs.declared.words.RuntimeWord.TheVariants.{CurrentTask, Gate, ListLength, EmitCount, Version}
 use Rattle.memory_map.specs.MemoryMap.{MemoryMap, word_place}
-use Rattle.runtime_effects.specs.Places.{CopyPair}
+use Rattle.runtime_code.specs.runtime_effects.Places.{CopyPair}
 use Rattle.address_space.specs.Limits.{stack_top}
 use Rattle.runtime_code.specs.Counted.{counted}
 

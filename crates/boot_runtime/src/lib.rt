@@ -6,7 +6,7 @@ mod laws;
 mod stubs;
 
 ghost use Rattle.std.specs.Prelude.{◌≡◌, ◌+◌, ◌<◌, ℕ, IfOk};
-ghost use Rattle.code_forms.specs.Placed.{instructions};
+ghost use Rattle.runtime_code.specs.code_forms.Placed.{instructions};
 ghost use Rattle.boot_runtime.specs.Entries.{task_entries};
 ghost use Rattle.boot_runtime.specs.Listing.{head, clearing_begins, clear_loop, counts_set, dispatch, fixed_forms, boot_forms, boot_bytes};
 

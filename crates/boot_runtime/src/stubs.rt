@@ -1,7 +1,7 @@
 //! The ladder of branches to the tasks' stubs, and the stubs.
 
 ghost use Rattle.std.specs.Prelude.{◌≡◌, ◌+◌, ◌*◌, ◌<◌, ◌++◌, ℕ, OnOk, length, map};
-ghost use Rattle.code_forms.specs.Placed.{instructions};
+ghost use Rattle.runtime_code.specs.code_forms.Placed.{instructions};
 ghost use Rattle.runtime_code.specs.LayoutPlaces.{pair_of};
 ghost use Rattle.boot_runtime.specs.Entries.{entry_of};
 ghost use Rattle.boot_runtime.specs.Listing.{copies_in, stub, stub_bytes, stubs, stubs_bytes, ladder_to};

@@ -2,12 +2,12 @@
 use Rattle.std.proofs.Common.{◌≡◌, ℕ, ◌+◌, ◌≤◌, List, [], ◌∷◌, ◌++◌, length, Some, refl, sym, ap, ◌∙◌, subst, arith, suc-add, zero-add, zero, suc, take, drop}
 use Rattle.std.proofs.Common.{slice_get}
 use Rattle.std.proofs.lemmas.Option.{same_Some}
-use Rattle.msp_step.specs.declared.machine.Stop.{Stop}
-use Rattle.msp_step.specs.declared.machine.Stop.TheVariants as stop
-use Rattle.fram_board.specs.Effects.{Effect}
+use Rattle.machine_effects.specs.msp_step.declared.machine.Stop.{Stop}
+use Rattle.machine_effects.specs.msp_step.declared.machine.Stop.TheVariants as stop
+use Rattle.machine_effects.specs.fram_board.Effects.{Effect}
 use Rattle.machine_effects.specs.Going.{Goes, Stops, Status, At, Halted, stretch, after_effects, continued, going, Leads}
 use Rattle.machine_effects.specs.Machine.{MachineStretch, Code, step_with, exec}
-use Rattle.machine_effects.proofs.Going.{stay, one_step, join, join_stall, stall, after_after, after_nothing}
+use Rattle.machine_effects.proofs.Interface.{stay, one_step, join, join_stall, stall, after_after, after_nothing}
 use Rattle.code_forms.specs.Forms.{WorkRegister, Core, CoreOutcome, CoreStretch, board_of, outcome_of_core, source_read, Target, ToRegister, ToFram, ToRam}
 use Rattle.code_forms.specs.Forms.{ToIndexed, ToPointed, ToOutnum, ToOutdata, target_written, Form, Move, Calculate, Compare, Update, Push, Modify, SetStack}
 use Rattle.code_forms.specs.Forms.{Sense, Jump, Branch, BranchIndexed, BranchRegister, instruction_of, form_bytes, sensed, form_step, FormNeeds}

@@ -1,32 +1,32 @@
 -- Each form does what its instruction does.
 use Rattle.std.proofs.Common.{◌≡◌, ◌/◌, ◌==◌, if◌then◌else◌, ◌+◌, ◌-◌, ◌*◌, ◌%◌, ◌≤◌, ℕ, refl, sym, ◌∙◌, ap, Bool, true, false, arith, List, [], ◌∷◌, Option, Some, None, length}
 use Rattle.std.proofs.lemmas.Bool.Decides.{nat_tests}
-use Rattle.alp_words.specs.declared.Flags.{Flags}
-use Rattle.alp_words.specs.declared.Width.{Width}
-use Rattle.alp_words.specs.declared.Width.TheVariants.{Word}
-use Rattle.alp_words.specs.Words.{difference_of}
-use Rattle.msp_isa.specs.declared.instructions.TwoOp.{TwoOp}
-use Rattle.msp_isa.specs.declared.instructions.TwoOp.TheVariants.{Mov, Add, Addc, Subc, Sub, Cmp, Dadd, Bit, Bic, Bis, Xor, And}
-use Rattle.msp_isa.specs.declared.instructions.Condition.{Condition}
-use Rattle.msp_isa.specs.declared.instructions.Instr.TheVariants as instr
-use Rattle.msp_isa.specs.declared.operands.Dst.{Dst}
-use Rattle.msp_isa.specs.declared.operands.Dst.TheVariants as dst
-use Rattle.msp_isa.specs.declared.operands.Konst.TheVariants as konst
-use Rattle.msp_isa.specs.declared.operands.Operand.TheVariants as mode
-use Rattle.msp_isa.specs.declared.registers.Reg.TheVariants as reg
-use Rattle.msp_isa.specs.declared.registers.IndexRegister.TheVariants as index
-use Rattle.msp_isa.specs.declared.registers.SourceRegister.TheVariants as source_register
-use Rattle.msp_isa.specs.Encoding.{source_row, destination_row, index_number}
-use Rattle.msp_cycles.specs.Cycles.{cycles_of}
-use Rattle.msp_step.specs.declared.effect.Modification.{Modification}
-use Rattle.msp_step.specs.declared.effect.Modification.TheVariants as change
-use Rattle.msp_step.specs.declared.operand.Location.TheVariants as location
-use Rattle.msp_step.specs.Registers.{Registers, with_register}
-use Rattle.msp_step.specs.Access.{Access, Completed, then_do, read_at}
-use Rattle.msp_step.specs.Effect.{written_back, store, read_modify_write, shifted, rotated, exchanged, sign_extended, modification_of, push_effect, pushed, reads_destination, writes_destination, with_flags, Operated, finish, sum16, source, after_source, two_operand_effect, destination_location, Written, distance, is_met, operated}
-use Rattle.msp_step.specs.Step.{effect}
-use Rattle.fram_board.specs.Bus.{is_word, is_ram}
-use Rattle.fram_board.specs.Effects.{Store}
+use Rattle.machine_effects.specs.alp_words.declared.Flags.{Flags}
+use Rattle.machine_effects.specs.alp_words.declared.Width.{Width}
+use Rattle.machine_effects.specs.alp_words.declared.Width.TheVariants.{Word}
+use Rattle.machine_effects.specs.alp_words.Words.{difference_of}
+use Rattle.machine_effects.specs.msp_isa.declared.instructions.TwoOp.{TwoOp}
+use Rattle.machine_effects.specs.msp_isa.declared.instructions.TwoOp.TheVariants.{Mov, Add, Addc, Subc, Sub, Cmp, Dadd, Bit, Bic, Bis, Xor, And}
+use Rattle.machine_effects.specs.msp_isa.declared.instructions.Condition.{Condition}
+use Rattle.machine_effects.specs.msp_isa.declared.instructions.Instr.TheVariants as instr
+use Rattle.machine_effects.specs.msp_isa.declared.operands.Dst.{Dst}
+use Rattle.machine_effects.specs.msp_isa.declared.operands.Dst.TheVariants as dst
+use Rattle.machine_effects.specs.msp_isa.declared.operands.Konst.TheVariants as konst
+use Rattle.machine_effects.specs.msp_isa.declared.operands.Operand.TheVariants as mode
+use Rattle.machine_effects.specs.msp_isa.declared.registers.Reg.TheVariants as reg
+use Rattle.machine_effects.specs.msp_isa.declared.registers.IndexRegister.TheVariants as index
+use Rattle.machine_effects.specs.msp_isa.declared.registers.SourceRegister.TheVariants as source_register
+use Rattle.machine_effects.specs.msp_isa.Encoding.{source_row, destination_row, index_number}
+use Rattle.machine_effects.specs.msp_cycles.Cycles.{cycles_of}
+use Rattle.machine_effects.specs.msp_step.declared.effect.Modification.{Modification}
+use Rattle.machine_effects.specs.msp_step.declared.effect.Modification.TheVariants as change
+use Rattle.machine_effects.specs.msp_step.declared.operand.Location.TheVariants as location
+use Rattle.machine_effects.specs.msp_step.Registers.{Registers, with_register}
+use Rattle.machine_effects.specs.msp_step.Access.{Access, Completed, then_do, read_at}
+use Rattle.machine_effects.specs.msp_step.Effect.{written_back, store, read_modify_write, shifted, rotated, exchanged, sign_extended, modification_of, push_effect, pushed, reads_destination, writes_destination, with_flags, Operated, finish, sum16, source, after_source, two_operand_effect, destination_location, Written, distance, is_met, operated}
+use Rattle.machine_effects.specs.msp_step.Step.{effect}
+use Rattle.machine_effects.specs.fram_board.Bus.{is_word, is_ram}
+use Rattle.machine_effects.specs.fram_board.Effects.{Store}
 use Rattle.machine_effects.specs.World.{put}
 use Rattle.machine_effects.specs.Going.{Goes}
 use Rattle.machine_effects.specs.Machine.{MachineOutcome, MachineBus, machine_bus, machine_outcome, step_with, word_address, IsFram, IsRam}

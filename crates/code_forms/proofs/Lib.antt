@@ -1,4 +1,5 @@
-pub mod Registers
-pub mod Forms
-pub mod Blocks
-pub mod Placed
+mod Registers
+mod Forms
+mod Blocks
+mod Placed
+pub mod Interface

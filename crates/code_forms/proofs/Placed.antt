@@ -2,23 +2,22 @@
 use Rattle.std.proofs.Common.{◌≡◌, ℕ, suc, ◌+◌, ◌*◌, ◌%◌, ◌<◌, ◌≤◌, ◌==◌, List, [], ◌∷◌, ◌++◌, length, Option, Some, None, refl, sym, ap, ◌∙◌, subst, arith}
 use Rattle.std.proofs.Common.{true, false, if◌then◌else◌, cond, ◌⊎◌, inl, inr, ⊎_elim, eqb-true, ne_eqb, eq-eqb, length-append}
 use Rattle.std.proofs.lemmas.Bool.Decides.{nat_tests}
-use Rattle.msp_isa.specs.declared.instructions.Instr.{Instr}
-use Rattle.msp_isa.specs.Encoding.{encoding, IsInstruction, source_row, destination_row}
-use Rattle.msp_step.specs.declared.effect.Modification.TheVariants as change
-use Rattle.msp_step.specs.declared.machine.Stop.{Stop}
-use Rattle.msp_step.specs.declared.machine.Stop.TheVariants as stop
-use Rattle.msp_step.specs.Effect.{sum16}
-use Rattle.msp_step.specs.Step.{off_bit, FetchedAt, IsStopped, IsCurrentInstruction}
-use Rattle.msp_step.proofs.Determined.{same_current, not_stopped}
-use Rattle.fram_board.specs.Bus.{is_word, is_ram}
-use Rattle.fram_board.specs.Effects.{Effect, Store, Take, Send}
+use Rattle.machine_effects.specs.msp_isa.declared.instructions.Instr.{Instr}
+use Rattle.machine_effects.specs.msp_isa.Encoding.{encoding, IsInstruction, source_row, destination_row}
+use Rattle.machine_effects.specs.msp_step.declared.effect.Modification.TheVariants as change
+use Rattle.machine_effects.specs.msp_step.declared.machine.Stop.{Stop}
+use Rattle.machine_effects.specs.msp_step.declared.machine.Stop.TheVariants as stop
+use Rattle.machine_effects.specs.msp_step.Effect.{sum16}
+use Rattle.machine_effects.specs.msp_step.Step.{off_bit, FetchedAt, IsStopped, IsCurrentInstruction}
+use Rattle.machine_effects.proofs.msp_step.Interface.{same_current, not_stopped}
+use Rattle.machine_effects.specs.fram_board.Bus.{is_word, is_ram}
+use Rattle.machine_effects.specs.fram_board.Effects.{Effect, Store, Take, Send}
 use Rattle.machine_effects.specs.World.{put, fram_after_one, fram_after, OfStore, EachStore}
 use Rattle.machine_effects.specs.Going.{Goes, Stops, Halted, stretch, after_effects, continued, going}
 use Rattle.machine_effects.specs.Machine.{MachineBoard, MachineOutcome, MachineStretch, machine_bus, machine_opened, machine_fetched, machine_executed}
 use Rattle.machine_effects.specs.Machine.{IsMachineStep, NoInstruction, Executes, MachineRun, Stays, Halts, Steps, Code, step_with, exec, word_address}
 use Rattle.machine_effects.specs.Laws.{ChangesByEffects}
-use Rattle.machine_effects.proofs.Worlds.{each_store-front, each_store-back}
-use Rattle.machine_effects.proofs.Logs.{step_changes}
+use Rattle.machine_effects.proofs.Interface.{each_store-front, each_store-back, step_changes}
 use Rattle.code_forms.specs.Forms.{Form, Move, Calculate, Compare, Update, Push, Modify, SetStack, Sense, Jump, Branch, BranchIndexed, BranchRegister}
 use Rattle.code_forms.specs.Forms.{source_operand, target_operand, instruction_of, form_bytes, Core}
 use Rattle.code_forms.specs.Code.{Stands, forms_bytes}

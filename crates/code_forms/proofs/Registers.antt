@@ -2,16 +2,16 @@
 use Rattle.std.proofs.Common.{◌≡◌, ◌/◌, ◌==◌, ◌*◌, ◌%◌, ◌≤◌, ◌<◌, ℕ, zero, suc, refl, sym, ap, Bool, true, false, arith}
 use mathlib.Core.Path.{fun_ext}
 use Rattle.std.proofs.lemmas.Bool.Decides.{nat_tests}
-use Rattle.alp_words.specs.declared.Flags.{Flags}
-use Rattle.alp_words.specs.Words.{bit}
-use Rattle.msp_isa.specs.Encoding.{index_number}
-use Rattle.msp_step.specs.Registers.{Registers, with_register, kept}
-use Rattle.msp_step.specs.Effect.{status_with, flags_of}
-use Rattle.msp_step.specs.Step.{off_bit}
-use Rattle.fram_board.specs.Bus.{is_word}
+use Rattle.machine_effects.specs.alp_words.declared.Flags.{Flags}
+use Rattle.machine_effects.specs.alp_words.Words.{bit}
+use Rattle.machine_effects.specs.msp_isa.Encoding.{index_number}
+use Rattle.machine_effects.specs.msp_step.Registers.{Registers, with_register, kept}
+use Rattle.machine_effects.specs.msp_step.Effect.{status_with, flags_of}
+use Rattle.machine_effects.specs.msp_step.Step.{off_bit}
+use Rattle.machine_effects.specs.fram_board.Bus.{is_word}
 use Rattle.machine_effects.specs.World.{put}
 use Rattle.machine_effects.specs.Machine.{MachineBoard, machine_powered}
-use Rattle.machine_effects.proofs.Values.{bit_low}
+use Rattle.machine_effects.proofs.Interface.{bit_low}
 use Rattle.code_forms.specs.Laws.{PoweredHasACore}
 use Rattle.code_forms.specs.Forms.{WorkRegister, R4, R5, R6, R7, R8, R9, R10, R11, R12, R13, R14, R15, work_number, index_of, register_file, board_of}
 use Rattle.code_forms.specs.Forms.{clear_flags, core_of}

@@ -1,8 +1,8 @@
 -- Code that stays, made of forms: where it stands, what straight code does and needs, and what code makes from where it is begun.
 use Rattle.std.specs.Prelude.{ℕ, ◌+◌, ◌≡◌, ◌≤◌, List, [], ◌∷◌, Some}
-use Rattle.msp_isa.specs.declared.instructions.Instr.{Instr}
-use Rattle.msp_step.specs.declared.machine.Stop.TheVariants as stop
-use Rattle.fram_board.specs.Effects.{Effect}
+use Rattle.machine_effects.specs.msp_isa.declared.instructions.Instr.{Instr}
+use Rattle.machine_effects.specs.msp_step.declared.machine.Stop.TheVariants as stop
+use Rattle.machine_effects.specs.fram_board.Effects.{Effect}
 use Rattle.machine_effects.specs.Going.{Goes, Stops, At, stretch, continued, Leads, Stalls}
 use Rattle.machine_effects.specs.Machine.{Code, exec}
 use Rattle.code_forms.specs.Forms.{Core, CoreOutcome, CoreStretch, board_of, Form, Move, Calculate, Compare, Update, Push, Modify, SetStack, Sense, Jump, Branch, BranchIndexed, BranchRegister, instruction_of, form_bytes, form_step, FormNeeds, IsCodeAddress}

@@ -1,36 +1,36 @@
 -- The forms of instructions that the compiler and its runtime write, on a machine whose registers are told apart: what each is
 -- as an instruction, how long it is, what it needs and what it does (SLAU049 and SLAU144, CPU chapter).
 use Rattle.std.specs.Prelude.{ℕ, ◌+◌, ◌-◌, ◌%◌, ◌≡◌, ◌<◌, ◌≤◌, true, false, ◌==◌, if◌then◌else◌, List, [], ◌∷◌, Option, Some, None}
-use Rattle.alp_words.specs.declared.Flags.{Flags}
-use Rattle.alp_words.specs.declared.Width.TheVariants.{Word}
-use Rattle.msp_isa.specs.declared.registers.IndexRegister.{IndexRegister}
-use Rattle.msp_isa.specs.declared.registers.IndexRegister.TheVariants as index
-use Rattle.msp_isa.specs.declared.registers.SourceRegister.TheVariants as source_register
-use Rattle.msp_isa.specs.declared.registers.IndirectRegister.TheVariants as pointer
-use Rattle.msp_isa.specs.declared.registers.Reg.TheVariants as reg
-use Rattle.msp_isa.specs.declared.operands.Konst.{Konst}
-use Rattle.msp_isa.specs.declared.operands.Operand.TheVariants as mode
-use Rattle.msp_isa.specs.declared.operands.Src.{Src}
-use Rattle.msp_isa.specs.declared.operands.Src.TheVariants as src
-use Rattle.msp_isa.specs.declared.operands.Dst.{Dst}
-use Rattle.msp_isa.specs.declared.operands.Dst.TheVariants as dst
-use Rattle.msp_isa.specs.declared.instructions.TwoOp.{TwoOp}
-use Rattle.msp_isa.specs.declared.instructions.TwoOp.TheVariants.{Mov, Cmp}
-use Rattle.msp_isa.specs.declared.instructions.OneOp.{OneOp}
-use Rattle.msp_isa.specs.declared.instructions.OneOp.TheVariants as one
-use Rattle.msp_isa.specs.declared.instructions.Condition.{Condition}
-use Rattle.msp_isa.specs.declared.instructions.Instr.{Instr}
-use Rattle.msp_isa.specs.declared.instructions.Instr.TheVariants as instr
-use Rattle.msp_isa.specs.Constant.{constant_value}
-use Rattle.msp_cycles.specs.Cycles.{cycles_of}
-use Rattle.msp_step.specs.declared.effect.Modification.{Modification}
-use Rattle.msp_step.specs.declared.effect.Modification.TheVariants as change
-use Rattle.msp_step.specs.declared.machine.Stop.{Stop}
-use Rattle.msp_step.specs.declared.machine.Stop.TheVariants as stop
-use Rattle.msp_step.specs.Registers.{Registers}
-use Rattle.msp_step.specs.Effect.{status_with, operated, Operated, modification_of, writes_destination, sum16, distance, is_met}
-use Rattle.fram_board.specs.Bus.{sensor_port, number_port, data_port}
-use Rattle.fram_board.specs.Effects.{Store, Take, Send}
+use Rattle.machine_effects.specs.alp_words.declared.Flags.{Flags}
+use Rattle.machine_effects.specs.alp_words.declared.Width.TheVariants.{Word}
+use Rattle.machine_effects.specs.msp_isa.declared.registers.IndexRegister.{IndexRegister}
+use Rattle.machine_effects.specs.msp_isa.declared.registers.IndexRegister.TheVariants as index
+use Rattle.machine_effects.specs.msp_isa.declared.registers.SourceRegister.TheVariants as source_register
+use Rattle.machine_effects.specs.msp_isa.declared.registers.IndirectRegister.TheVariants as pointer
+use Rattle.machine_effects.specs.msp_isa.declared.registers.Reg.TheVariants as reg
+use Rattle.machine_effects.specs.msp_isa.declared.operands.Konst.{Konst}
+use Rattle.machine_effects.specs.msp_isa.declared.operands.Operand.TheVariants as mode
+use Rattle.machine_effects.specs.msp_isa.declared.operands.Src.{Src}
+use Rattle.machine_effects.specs.msp_isa.declared.operands.Src.TheVariants as src
+use Rattle.machine_effects.specs.msp_isa.declared.operands.Dst.{Dst}
+use Rattle.machine_effects.specs.msp_isa.declared.operands.Dst.TheVariants as dst
+use Rattle.machine_effects.specs.msp_isa.declared.instructions.TwoOp.{TwoOp}
+use Rattle.machine_effects.specs.msp_isa.declared.instructions.TwoOp.TheVariants.{Mov, Cmp}
+use Rattle.machine_effects.specs.msp_isa.declared.instructions.OneOp.{OneOp}
+use Rattle.machine_effects.specs.msp_isa.declared.instructions.OneOp.TheVariants as one
+use Rattle.machine_effects.specs.msp_isa.declared.instructions.Condition.{Condition}
+use Rattle.machine_effects.specs.msp_isa.declared.instructions.Instr.{Instr}
+use Rattle.machine_effects.specs.msp_isa.declared.instructions.Instr.TheVariants as instr
+use Rattle.machine_effects.specs.msp_isa.Constant.{constant_value}
+use Rattle.machine_effects.specs.msp_cycles.Cycles.{cycles_of}
+use Rattle.machine_effects.specs.msp_step.declared.effect.Modification.{Modification}
+use Rattle.machine_effects.specs.msp_step.declared.effect.Modification.TheVariants as change
+use Rattle.machine_effects.specs.msp_step.declared.machine.Stop.{Stop}
+use Rattle.machine_effects.specs.msp_step.declared.machine.Stop.TheVariants as stop
+use Rattle.machine_effects.specs.msp_step.Registers.{Registers}
+use Rattle.machine_effects.specs.msp_step.Effect.{status_with, operated, Operated, modification_of, writes_destination, sum16, distance, is_met}
+use Rattle.machine_effects.specs.fram_board.Bus.{sensor_port, number_port, data_port}
+use Rattle.machine_effects.specs.fram_board.Effects.{Store, Take, Send}
 use Rattle.machine_effects.specs.World.{put}
 use Rattle.machine_effects.specs.Going.{StepOutcome, Goes, Stops, Stretch}
 use Rattle.machine_effects.specs.Machine.{MachineBoard, MachineOutcome, IsFram, IsRam}

@@ -1,8 +1,8 @@
 -- Laws of the forms and of code that stands in FRAM.
 use Rattle.std.specs.Prelude.{◌≡◌, ℕ, ◌+◌, ◌*◌, ◌%◌, ◌<◌, ◌≤◌, List, length, Some}
-use Rattle.msp_isa.specs.declared.instructions.Instr.{Instr}
-use Rattle.fram_board.specs.Board.{PowerState}
-use Rattle.fram_board.specs.Effects.{Effect}
+use Rattle.machine_effects.specs.msp_isa.declared.instructions.Instr.{Instr}
+use Rattle.machine_effects.specs.fram_board.Board.{PowerState}
+use Rattle.machine_effects.specs.fram_board.Effects.{Effect}
 use Rattle.machine_effects.specs.Going.{At, stretch, Leads, going}
 use Rattle.machine_effects.specs.Machine.{Code, MachineBoard, MachineStretch, MachineRun, exec, step_with, machine_powered}
 use Rattle.code_forms.specs.Forms.{Core, board_of, core_of, outcome_of_core, Form, instruction_of, form_step, FormNeeds, IsCodeAddress}

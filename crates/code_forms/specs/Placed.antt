@@ -1,8 +1,8 @@
 -- Instructions one after another in FRAM.
 use Rattle.std.specs.Prelude.{◌≡◌, ◌≢◌, ℕ, ◌+◌, ◌*◌, ◌<◌, ◌≤◌, ◌==◌, ◌⊎◌, if◌then◌else◌, List, [], ◌∷◌, ◌++◌, length, Some, None}
-use Rattle.msp_isa.specs.declared.instructions.Instr.{Instr}
-use Rattle.msp_isa.specs.Encoding.{encoding, IsInstruction}
-use Rattle.msp_step.specs.declared.machine.Stop.TheVariants as stop
+use Rattle.machine_effects.specs.msp_isa.declared.instructions.Instr.{Instr}
+use Rattle.machine_effects.specs.msp_isa.Encoding.{encoding, IsInstruction}
+use Rattle.machine_effects.specs.msp_step.declared.machine.Stop.TheVariants as stop
 use Rattle.machine_effects.specs.World.{EachStore}
 use Rattle.machine_effects.specs.Going.{Halted}
 use Rattle.machine_effects.specs.Machine.{Code, MachineStretch}

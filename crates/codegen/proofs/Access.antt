@@ -7,15 +7,14 @@ use Rattle.alp_words.specs.Words.{word_sum}
 use Rattle.msp_isa.specs.declared.instructions.Condition.TheVariants as condition
 use Rattle.msp_isa.specs.declared.instructions.TwoOp.TheVariants as op
 use Rattle.msp_isa.specs.declared.operands.Konst.TheVariants as konst
-use Rattle.msp_step.specs.Effect.{sum16, distance}
-use Rattle.fram_board.specs.Effects.{Store}
-use Rattle.machine_effects.specs.World.{put}
-use Rattle.machine_effects.specs.Going.{At, stretch}
-use Rattle.machine_effects.specs.Machine.{IsFram}
+use Rattle.array_versions.specs.msp_step.Effect.{sum16, distance}
+use Rattle.array_versions.specs.fram_board.Effects.{Store}
+use Rattle.array_versions.specs.machine_effects.World.{put}
+use Rattle.array_versions.specs.machine_effects.Going.{At, stretch}
+use Rattle.array_versions.specs.machine_effects.Machine.{IsFram}
 use Rattle.code_forms.specs.Forms.{WorkRegister, R4, Core, CoreStretch, Register, Number, Constant, Indexed, ToRegister, Move, Calculate, Jump, instruction_of}
 use Rattle.code_forms.specs.Code.{Stands, forms_run, Runs}
-use Rattle.code_forms.proofs.Placed.{stands_at}
-use Rattle.code_forms.proofs.Blocks.{form_at, forms_at, end_of}
+use Rattle.code_forms.proofs.Interface.{stands_at, form_at, forms_at, end_of}
 use Rattle.array_versions.specs.Behaviour.{WordState, goes_on, with_stack, with_top, is_place, at_place, element_pushed, word_emitted, entry_stored}
 use Rattle.codegen.specs.Code.{push_from, element_code, emit_code, entry_code}
 use Rattle.codegen.proofs.Stretches.{Setting, straight, runs_on, dearer}

@@ -5,12 +5,11 @@ use Rattle.msp_isa.specs.declared.instructions.Condition.{Condition}
 use Rattle.msp_isa.specs.declared.instructions.Condition.TheVariants as condition
 use Rattle.msp_isa.specs.declared.instructions.TwoOp.TheVariants as op
 use Rattle.msp_isa.specs.declared.operands.Konst.TheVariants as konst
-use Rattle.msp_step.specs.Effect.{is_met}
-use Rattle.machine_effects.proofs.Values.{zero_flag}
+use Rattle.array_versions.specs.msp_step.Effect.{is_met}
+use Rattle.array_versions.proofs.machine_effects.Interface.{zero_flag}
 use Rattle.code_forms.specs.Forms.{R4, Core, Constant, Form, Calculate, Jump, Branch, instruction_of}
 use Rattle.code_forms.specs.Code.{Stands, forms_bytes, forms_run, Runs}
-use Rattle.code_forms.proofs.Blocks.{stands_back, form_at, forms_behind, end_of}
-use Rattle.code_forms.proofs.Placed.{stands_at}
+use Rattle.code_forms.proofs.Interface.{stands_back, form_at, forms_behind, end_of, stands_at}
 use Rattle.array_versions.specs.Behaviour.{WordState, Behaviour, with_top, with_stack, chosen}
 use Rattle.array_versions.specs.Cost.{way_spent}
 use Rattle.codegen.specs.Code.{pop_to, choice_code}

@@ -11,7 +11,7 @@ use Rattle.code_forms.specs.Forms.{R4, Form, Branch, instruction_of}
 use Rattle.code_forms.specs.Placed.{instructions}
 use Rattle.std.specs.declared.alloc.Global.{Global}
 use Rattle.std.specs.declared.vec.Vec.{Vec}
-use Rattle.code_forms.proofs.Placed.{instructions-append}
+use Rattle.code_forms.proofs.Interface.{instructions-append}
 use Rattle.array_versions.specs.declared.program.WordStep.{WordStep, the_lemmas}
 use Rattle.array_versions.specs.declared.program.WordStep.TheVariants.{Choose}
 use Rattle.array_versions.specs.Program.{Step, Program, number, load, keep, local, set_local, unary, binary, shift, element, emit_word, list_entry}

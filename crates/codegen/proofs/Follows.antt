@@ -1,6 +1,6 @@
 -- What it is that a stretch of code follows a word program.
 use Rattle.std.proofs.Common.{◌≡◌, ℕ, ◌+◌, ◌≤◌, List, [], ◌++◌, refl, sym, ◌∙◌, subst, arith, append-nil, Bool, true, false, if◌then◌else◌}
-use Rattle.fram_board.specs.Effects.{Effect}
+use Rattle.array_versions.specs.fram_board.Effects.{Effect}
 use Rattle.code_forms.specs.Forms.{Core}
 use Rattle.code_forms.specs.Code.{Runs, Starves}
 use Rattle.array_versions.specs.Behaviour.{WordState, End, GoesOn, Jumps, Short, Strays, Broken, Behaviour, behind_effects, on_end, strays}

@@ -3,12 +3,12 @@ use Rattle.std.proofs.Common.{◌≡◌, ℕ, zero, suc, ◌+◌, ◌-◌, ◌*�
 use Rattle.std.proofs.Common.{if◌then◌else◌}
 use Rattle.msp_isa.specs.declared.operands.Konst.TheVariants as konst
 use Rattle.msp_isa.specs.Encoding.{encoding}
-use Rattle.msp_step.specs.declared.effect.Modification.TheVariants as change
+use Rattle.array_versions.specs.msp_step.declared.effect.Modification.TheVariants as change
 use Rattle.code_forms.specs.Forms as forms
 use Rattle.code_forms.specs.Forms.{R4, Form, Branch, instruction_of}
 use Rattle.code_forms.specs.Code.{forms_bytes}
 use Rattle.code_forms.specs.Placed.{words_of as instruction_words, instructions}
-use Rattle.code_forms.proofs.Placed.{bytes_are, forms_bytes-append}
+use Rattle.code_forms.proofs.Interface.{bytes_are, forms_bytes-append}
 use Rattle.array_versions.specs.declared.operations.UnaryOperation.{UnaryOperation}
 use Rattle.array_versions.specs.declared.operations.UnaryOperation.TheVariants.{Negate, Complement, Not, Truth}
 use Rattle.array_versions.specs.declared.operations.BinaryOperation.{BinaryOperation}

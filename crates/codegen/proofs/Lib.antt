@@ -2,7 +2,7 @@ mod Stretches
 mod Memory
 mod Follows
 mod Parts
-pub mod Registers
+mod Registers
 mod Choices
 mod Loops
 mod Values
@@ -14,6 +14,8 @@ mod Products
 mod Quotients
 mod Emitted
 mod Prefixes
-pub mod Lengths
-pub mod Whole
-pub mod Instructions
+mod Lengths
+mod Whole
+mod Instructions
+pub mod Interface
+pub use Rattle.array_versions.proofs as array_versions

@@ -5,11 +5,10 @@ use Rattle.std.proofs.lemmas.Bool.Decides.{nat_tests}
 use Rattle.msp_isa.specs.declared.instructions.Condition.TheVariants as condition
 use Rattle.msp_isa.specs.declared.instructions.TwoOp.TheVariants as op
 use Rattle.msp_isa.specs.declared.operands.Konst.TheVariants as konst
-use Rattle.machine_effects.specs.World.{put}
+use Rattle.array_versions.specs.machine_effects.World.{put}
 use Rattle.code_forms.specs.Forms.{R4, Core, Register, Number, Constant, Ram, ToRegister, ToRam, Form, Move, Calculate, Jump, Branch, instruction_of}
 use Rattle.code_forms.specs.Code.{Stands, forms_bytes, forms_run, Runs}
-use Rattle.code_forms.proofs.Blocks.{stands_front, stands_back, form_at, first_forms, end_of}
-use Rattle.code_forms.proofs.Placed.{stands_at}
+use Rattle.code_forms.proofs.Interface.{stands_front, stands_back, form_at, first_forms, end_of, stands_at}
 use Rattle.array_versions.specs.Behaviour.{WordState, End, GoesOn, Jumps, Short, Strays, Broken, Behaviour, with_local, assigned, turns}
 use Rattle.array_versions.specs.Cost.{spent_on, turns_spent}
 use Rattle.codegen.specs.Code.{local_address, loop_test, loop_step, loop_code}

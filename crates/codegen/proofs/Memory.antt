@@ -3,9 +3,9 @@ use Rattle.std.proofs.Common.{◌≡◌, ℕ, ◌+◌, ◌-◌, ◌*◌, ◌<◌
 use Rattle.std.proofs.Common.{eq-eqb, if◌then◌else◌}
 use Rattle.std.proofs.lemmas.Bool.Decides.{nat_tests}
 use Rattle.std.proofs.lemmas.Option.{same_Some}
-use Rattle.machine_effects.specs.World.{put}
-use Rattle.machine_effects.specs.Machine.{IsFram, IsRam}
-use Rattle.machine_effects.proofs.Worlds.{put_same, put_other}
+use Rattle.array_versions.specs.machine_effects.World.{put}
+use Rattle.array_versions.specs.machine_effects.Machine.{IsFram, IsRam}
+use Rattle.array_versions.proofs.machine_effects.Interface.{put_same, put_other}
 use Rattle.code_forms.specs.Forms.{HasPushRoom}
 use Rattle.array_versions.specs.Behaviour.{is_place, assigned}
 use Rattle.codegen.specs.Code.{local_address}

@@ -4,10 +4,10 @@ use Rattle.std.proofs.Common.{bit_xor}
 use Rattle.std.specs.List.{AllByRecursion}
 use Rattle.std.proofs.Math.Bool.{not-not}
 use Rattle.alp_words.specs.Words.{bit, biased}
-use Rattle.machine_effects.specs.Going.{At, stretch}
+use Rattle.array_versions.specs.machine_effects.Going.{At, stretch}
 use Rattle.code_forms.specs.Forms.{WorkRegister, R4, R5, work_number, Core, Register, Form, Push}
 use Rattle.code_forms.specs.Code.{Stands, forms_bytes, AreStraight, forms_run, FormsNeed, Runs}
-use Rattle.code_forms.proofs.Blocks.{stands_front, stands_back, end_of}
+use Rattle.code_forms.proofs.Interface.{stands_front, stands_back, end_of}
 use Rattle.array_versions.specs.declared.operations.UnaryOperation.TheVariants.{Negate, Complement, Not, Truth}
 use Rattle.array_versions.specs.declared.operations.BinaryOperation.TheVariants.{Add, Subtract, And, Xor, Or, Equal, NotEqual, Below, AtMost, Above, AtLeast}
 use Rattle.array_versions.specs.declared.operations.BinaryOperation.TheVariants.{SignedBelow, SignedAtMost, SignedAbove, SignedAtLeast}

@@ -1,14 +1,13 @@
 -- The steps that are straight code: numbers, words of FRAM, locals, readings, jumps.
 use Rattle.std.proofs.Common.{◌≡◌, ℕ, ◌+◌, ◌-◌, ◌%◌, ◌<◌, List, [], ◌∷◌, length, Some, refl, sym, ap, ◌∙◌, subst, arith, eq-eqb, if◌then◌else◌}
-use Rattle.fram_board.specs.Effects.{Store, Take}
-use Rattle.machine_effects.specs.World.{put}
-use Rattle.machine_effects.specs.Going.{At, stretch, continued}
-use Rattle.machine_effects.specs.Machine.{IsFram}
+use Rattle.array_versions.specs.fram_board.Effects.{Store, Take}
+use Rattle.array_versions.specs.machine_effects.World.{put}
+use Rattle.array_versions.specs.machine_effects.Going.{At, stretch, continued}
+use Rattle.array_versions.specs.machine_effects.Machine.{IsFram}
 use Rattle.code_forms.specs.Forms as forms
 use Rattle.code_forms.specs.Forms.{R4, Core, Register, Number, Fram, Ram, Popped, ToFram, ToRam, Form, Move, Push, Branch, sensed, FormNeeds}
 use Rattle.code_forms.specs.Code.{Stands, forms_run, FormsNeed}
-use Rattle.code_forms.proofs.Placed.{stands_at}
-use Rattle.code_forms.proofs.Blocks.{end_of}
+use Rattle.code_forms.proofs.Interface.{stands_at, end_of}
 use Rattle.array_versions.specs.Behaviour.{WordState, behaves, goes_on, Jumps, broken, with_top, with_stack, pushed, stored, assigned, with_local, is_place}
 use Rattle.array_versions.specs.Behaviour.{word_stored, reading_pushed, jumped}
 use Rattle.codegen.specs.Laws.{HasJumped}

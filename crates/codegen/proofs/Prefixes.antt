@@ -1,11 +1,11 @@
 -- The effects so far are a prefix of all.
 use Rattle.std.proofs.Common.{◌≡◌, ℕ, zero, suc, ◌+◌, ◌-◌, ◌≤◌, List, [], ◌++◌, refl, sym, ap, ◌∙◌, subst, arith, append_assoc, append-nil, suc-add}
-use Rattle.msp_step.specs.declared.machine.Stop.{Stop}
-use Rattle.msp_step.specs.declared.machine.Stop.TheVariants as stop
-use Rattle.fram_board.specs.Effects.{Effect}
-use Rattle.machine_effects.specs.World.{IsPrefix}
-use Rattle.machine_effects.specs.Going.{StepOutcome, Goes, Stops, Stretch, stretch, At, Halted, after_effects, continued, going}
-use Rattle.machine_effects.specs.Machine.{MachineBoard, exec}
+use Rattle.array_versions.specs.msp_step.declared.machine.Stop.{Stop}
+use Rattle.array_versions.specs.msp_step.declared.machine.Stop.TheVariants as stop
+use Rattle.array_versions.specs.fram_board.Effects.{Effect}
+use Rattle.array_versions.specs.machine_effects.World.{IsPrefix}
+use Rattle.array_versions.specs.machine_effects.Going.{StepOutcome, Goes, Stops, Stretch, stretch, At, Halted, after_effects, continued, going}
+use Rattle.array_versions.specs.machine_effects.Machine.{MachineBoard, exec}
 use Rattle.code_forms.specs.Forms.{board_of}
 use Rattle.codegen.specs.Laws.{IsWithin, RunsStayWithin, StarvingStaysWithin}
 

@@ -8,13 +8,12 @@ use Rattle.msp_isa.specs.declared.instructions.Condition.{Condition}
 use Rattle.msp_isa.specs.declared.instructions.Condition.TheVariants as condition
 use Rattle.msp_isa.specs.declared.instructions.TwoOp.TheVariants as op
 use Rattle.msp_isa.specs.declared.operands.Konst.TheVariants as konst
-use Rattle.msp_step.specs.declared.effect.Modification.TheVariants as change
-use Rattle.msp_step.specs.Effect.{sum16, distance, is_met}
-use Rattle.machine_effects.specs.Going.{Goes}
+use Rattle.array_versions.specs.msp_step.declared.effect.Modification.TheVariants as change
+use Rattle.array_versions.specs.msp_step.Effect.{sum16, distance, is_met}
+use Rattle.array_versions.specs.machine_effects.Going.{Goes}
 use Rattle.code_forms.specs.Forms.{R4, R5, R6, Core, Register, Constant, ToRegister, Form, Move, Calculate, Modify, Jump, instruction_of}
 use Rattle.code_forms.specs.Code.{Stands, forms_bytes, forms_run, Runs}
-use Rattle.code_forms.proofs.Placed.{stands_at}
-use Rattle.code_forms.proofs.Blocks.{form_at, forms_at, end_of}
+use Rattle.code_forms.proofs.Interface.{stands_at, form_at, forms_at, end_of}
 use Rattle.array_versions.specs.declared.operations.BinaryOperation.TheVariants.{Multiply}
 use Rattle.array_versions.specs.Operations.{binary_word}
 use Rattle.array_versions.specs.Behaviour.{WordState}

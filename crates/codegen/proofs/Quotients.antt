@@ -5,15 +5,14 @@ use Rattle.std.proofs.lemmas.Bool.Decides.{nat_tests}
 use Rattle.std.proofs.lemmas.Nat.{div-mul-add, mod-mul-add}
 use Rattle.std.proofs.lemmas.Bool.{cases_eq}
 use Rattle.alp_words.specs.Words.{bit, quotient, remainder}
-use Rattle.alp_words.proofs.Signed.{bit_below}
+use Rattle.alp_words.proofs.Interface.{bit_below}
 use Rattle.msp_isa.specs.declared.instructions.Condition.TheVariants as condition
 use Rattle.msp_isa.specs.declared.instructions.TwoOp.TheVariants as op
 use Rattle.msp_isa.specs.declared.operands.Konst.TheVariants as konst
-use Rattle.msp_step.specs.Effect.{sum16, distance}
+use Rattle.array_versions.specs.msp_step.Effect.{sum16, distance}
 use Rattle.code_forms.specs.Forms.{R4, R5, R6, R7, Core, Register, Number, Constant, ToRegister, Form, Move, Calculate, Jump, instruction_of}
 use Rattle.code_forms.specs.Code.{Stands, forms_bytes, forms_run, Runs}
-use Rattle.code_forms.proofs.Placed.{stands_at}
-use Rattle.code_forms.proofs.Blocks.{form_at, forms_at, forms_behind, end_of}
+use Rattle.code_forms.proofs.Interface.{stands_at, form_at, forms_at, forms_behind, end_of}
 use Rattle.array_versions.specs.declared.operations.BinaryOperation.TheVariants.{Divide, Remainder}
 use Rattle.array_versions.specs.Operations.{binary_word}
 use Rattle.array_versions.specs.Behaviour.{WordState}

@@ -2,16 +2,15 @@
 use Rattle.std.proofs.Common.{◌≡◌, ℕ, ◌+◌, ◌-◌, ◌%◌, ◌<◌, List, [], ◌∷◌, length, Some, refl, sym, ap, ap₂, ◌∙◌, subst, arith, Bool, nat_le, if◌then◌else◌}
 use Rattle.std.proofs.lemmas.Bool.Decides.{nat_tests}
 use Rattle.msp_isa.specs.declared.instructions.Condition.{Condition}
-use Rattle.msp_step.specs.Effect.{sum16, distance, is_met}
-use Rattle.machine_effects.specs.World.{put}
-use Rattle.machine_effects.specs.Going.{At, stretch}
+use Rattle.array_versions.specs.msp_step.Effect.{sum16, distance, is_met}
+use Rattle.array_versions.specs.machine_effects.World.{put}
+use Rattle.array_versions.specs.machine_effects.Going.{At, stretch}
 use Rattle.code_forms.specs.Forms.{WorkRegister, R4, R5, work_number, Core, Register, Form, Push, Jump, Branch, Move, Calculate, Compare, Update, Modify}
 use Rattle.code_forms.specs.Forms.{SetStack, BranchIndexed, BranchRegister, Source, PointedNext, Number, Constant, Fram, Ram, Pointed, Indexed, Popped, Target}
 use Rattle.code_forms.specs.Forms.{instruction_of, form_bytes, FormNeeds}
 use Rattle.code_forms.specs.Forms as forms
 use Rattle.code_forms.specs.Code.{Stands, forms_bytes, AreStraight, forms_run, FormsNeed, Runs}
-use Rattle.code_forms.proofs.Placed.{stands_at}
-use Rattle.code_forms.proofs.Blocks.{end_of}
+use Rattle.code_forms.proofs.Interface.{stands_at, end_of}
 use Rattle.array_versions.specs.Behaviour.{WordState, with_stack}
 use Rattle.codegen.specs.Code.{pop_to, push_from}
 use Rattle.codegen.proofs.Stretches.{Setting, straight, hop}

@@ -8,10 +8,10 @@ use Rattle.std.proofs.lemmas.Grind.{and_high_numeral}
 use Rattle.alp_words.specs.Words.{bit, arithmetic_shift}
 use Rattle.msp_isa.specs.declared.instructions.TwoOp.TheVariants as op
 use Rattle.msp_isa.specs.declared.operands.Konst.TheVariants as konst
-use Rattle.msp_step.specs.declared.effect.Modification.TheVariants as change
+use Rattle.array_versions.specs.msp_step.declared.effect.Modification.TheVariants as change
 use Rattle.code_forms.specs.Forms.{R4, Core, Register, Number, Constant, ToRegister, Form, Move, Calculate, Modify, instruction_of, form_bytes}
 use Rattle.code_forms.specs.Code.{Stands, forms_bytes, forms_run, Runs}
-use Rattle.code_forms.proofs.Blocks.{stands_front, stands_back, end_of}
+use Rattle.code_forms.proofs.Interface.{stands_front, stands_back, end_of}
 use Rattle.array_versions.specs.declared.operations.ShiftOperation.{ShiftOperation}
 use Rattle.array_versions.specs.declared.operations.ShiftOperation.TheVariants.{Left, Right, SignedRight}
 use Rattle.array_versions.specs.Operations.{shifted_word, shift_word}

@@ -7,20 +7,19 @@ use Rattle.alp_words.specs.Words.{word_sum}
 use Rattle.msp_isa.specs.declared.instructions.Condition.TheVariants as condition
 use Rattle.msp_isa.specs.declared.instructions.TwoOp.TheVariants as op
 use Rattle.msp_isa.specs.declared.operands.Konst.TheVariants as konst
-use Rattle.msp_step.specs.Effect.{sum16, distance}
-use Rattle.fram_board.specs.Effects.{Effect, Store}
-use Rattle.machine_effects.specs.World.{put}
-use Rattle.machine_effects.specs.Machine.{IsFram}
+use Rattle.array_versions.specs.msp_step.Effect.{sum16, distance}
+use Rattle.array_versions.specs.fram_board.Effects.{Effect, Store}
+use Rattle.array_versions.specs.machine_effects.World.{put}
+use Rattle.array_versions.specs.machine_effects.Machine.{IsFram}
 use Rattle.code_forms.specs.Forms.{R4, R5, R6, Core, Register, Number, Constant, Fram, Indexed, ToRegister, ToFram, ToIndexed, Form, Move, Calculate, Jump}
 use Rattle.code_forms.specs.Forms.{instruction_of}
 use Rattle.code_forms.specs.Code.{Stands, forms_run, Runs}
-use Rattle.code_forms.proofs.Placed.{stands_at}
-use Rattle.code_forms.proofs.Blocks.{form_at, forms_at, forms_behind, end_of}
+use Rattle.code_forms.proofs.Interface.{stands_at, form_at, forms_at, forms_behind, end_of}
 use Rattle.array_versions.specs.declared.program.ArrayPlace.{ArrayPlace}
 use Rattle.array_versions.specs.declared.program.ListPlace.{ListPlace}
 use Rattle.array_versions.specs.Behaviour.{WordState, Behaviour, goes_on, strays, behind_effects, with_stack, with_top, with_two, is_place, at_place, pushed}
 use Rattle.array_versions.specs.Behaviour.{stored, own_element, versioned_pushed, first_stored, own_stored, versioned_stored}
-use Rattle.array_versions.proofs.Words.{put_words}
+use Rattle.array_versions.proofs.Interface.{put_words}
 use Rattle.codegen.specs.Code.{push_from, read_code, first_code, write_code}
 use Rattle.codegen.proofs.Stretches.{Setting, straight, runs_on, dearer}
 use Rattle.codegen.proofs.Memory.{place_is}

@@ -1,10 +1,10 @@
 -- The code of a word program does what the program does, within the cycles of the way that it takes.
 use Rattle.std.proofs.Common.{◌≡◌, ℕ, suc, ◌+◌, ◌-◌, ◌*◌, ◌<◌, List, [], ◌∷◌, ◌++◌, length, All, Some, None, refl, sym, ap, subst, arith}
 use Rattle.std.specs.List.{AllByRecursion}
-use Rattle.fram_board.specs.Effects.{Effect}
+use Rattle.array_versions.specs.fram_board.Effects.{Effect}
 use Rattle.code_forms.specs.Forms.{WorkRegister, R4, R5, R6, Core, Branch}
 use Rattle.code_forms.specs.Code.{Stands, forms_bytes}
-use Rattle.code_forms.proofs.Blocks.{stands_front, stands_back, forms_behind}
+use Rattle.code_forms.proofs.Interface.{stands_front, stands_back, forms_behind}
 use Rattle.array_versions.specs.declared.operations.UnaryOperation.{UnaryOperation}
 use Rattle.array_versions.specs.declared.operations.UnaryOperation.TheVariants.{Negate, Complement, Not, Truth}
 use Rattle.array_versions.specs.declared.operations.BinaryOperation.{BinaryOperation}
@@ -20,9 +20,7 @@ use Rattle.array_versions.specs.Form.{Place, start, assigning, EachTurn, EachSte
 use Rattle.array_versions.specs.Form.{StepOfWords, OfWords}
 use Rattle.array_versions.specs.Cost.{unary_cycles, unary_words, binary_cycles, binary_words, step_spent, spent, step_words, words_of}
 use Rattle.array_versions.specs.Laws.{IsStateOfWords, EndsInWords, IsSound}
-use Rattle.array_versions.proofs.Ways.{Matches, GoesWell, matches_local, start_matches, step_well, well, whole_ends_soundly}
-use Rattle.array_versions.proofs.Words.{local_words, step_words as words_step, words}
-use Rattle.array_versions.proofs.Spared.{Leaves, leaves}
+use Rattle.array_versions.proofs.Interface.{Matches, GoesWell, matches_local, start_matches, step_well, well, whole_ends_soundly, local_words, step_words as words_step, words, Leaves, leaves}
 use Rattle.codegen.specs.Code.{local_address, unary_middle, unary_result, unary_code, binary_middle, binary_result, binary_code, choice_code, loop_test}
 use Rattle.codegen.specs.Code.{loop_step, loop_code, step_code, code_of}
 use Rattle.codegen.specs.Laws.{ComesTo, CodeDoesAsProgram}

@@ -1,9 +1,9 @@
 -- What the code of a word program does.
 use Rattle.std.specs.Prelude.{◌≡◌, ℕ, ◌*◌, ◌<◌, ◌≤◌, List, All, length}
-use Rattle.fram_board.specs.Effects.{Effect}
-use Rattle.machine_effects.specs.World.{IsPrefix}
-use Rattle.machine_effects.specs.Going.{going}
-use Rattle.machine_effects.specs.Machine.{Code, MachineStretch, exec}
+use Rattle.array_versions.specs.fram_board.Effects.{Effect}
+use Rattle.array_versions.specs.machine_effects.World.{IsPrefix}
+use Rattle.array_versions.specs.machine_effects.Going.{going}
+use Rattle.array_versions.specs.machine_effects.Machine.{Code, MachineStretch, exec}
 use Rattle.code_forms.specs.Forms.{Core, board_of}
 use Rattle.code_forms.specs.Code.{Stands, IsTidy, Runs, Starves, forms_bytes}
 use Rattle.code_forms.specs.Placed.{words_of as instruction_words, instructions, AreInstructions}

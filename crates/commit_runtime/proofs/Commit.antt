@@ -3,21 +3,19 @@ use Rattle.std.proofs.Common.{◌≡◌, ℕ, zero, suc, ◌+◌, ◌-◌, ◌*�
 use Rattle.std.specs.List.{All}
 use Rattle.std.proofs.lemmas.List.Elements.{All-head, All-tail, All-same}
 use Rattle.msp_isa.specs.declared.instructions.Condition.TheVariants.{Always}
-use Rattle.msp_step.specs.Effect.{sum16, distance}
-use Rattle.fram_board.specs.Effects.{Effect, Store, Send}
-use Rattle.machine_effects.specs.World.{put, fram_after}
-use Rattle.machine_effects.specs.Machine.{Code, IsFram}
-use Rattle.machine_effects.proofs.Worlds.{fram_after-append}
-use Rattle.code_forms.specs.Forms.{Core, Branch, Jump, instruction_of}
-use Rattle.code_forms.specs.Code.{Stands, IsTidy, forms_run}
-use Rattle.code_forms.proofs.Placed.{stands_at}
-use Rattle.runtime_effects.specs.Places.{CopyPair, entries_from, listed}
-use Rattle.runtime_effects.specs.Stages.{copied_home, sends, emits_sent, commit_closed, commit_effects}
-use Rattle.runtime_effects.specs.Needs.{AreInFram, IsRegion, CanCommit, IsCopied}
-use Rattle.code_forms.proofs.Blocks.{stands_front, stands_back, end_of}
+use Rattle.runtime_code.specs.msp_step.Effect.{sum16, distance}
+use Rattle.runtime_code.specs.fram_board.Effects.{Effect, Store, Send}
+use Rattle.runtime_code.specs.machine_effects.World.{put, fram_after}
+use Rattle.runtime_code.specs.machine_effects.Machine.{Code, IsFram}
+use Rattle.runtime_code.proofs.machine_effects.Interface.{fram_after-append}
+use Rattle.runtime_code.specs.code_forms.Forms.{Core, Branch, Jump, instruction_of}
+use Rattle.runtime_code.specs.code_forms.Code.{Stands, IsTidy, forms_run}
+use Rattle.runtime_code.proofs.code_forms.Interface.{stands_at, stands_front, stands_back, end_of}
+use Rattle.runtime_code.specs.runtime_effects.Places.{CopyPair, entries_from, listed}
+use Rattle.runtime_code.specs.runtime_effects.Stages.{copied_home, sends, emits_sent, commit_closed, commit_effects}
+use Rattle.runtime_code.specs.runtime_effects.Needs.{AreInFram, IsRegion, CanCommit, IsCopied}
 use Rattle.runtime_code.specs.Comes.{Comes, IsAt}
-use Rattle.runtime_code.proofs.Chains.{straight, one_form, recounted, nothing, then_on, moved_to, chain}
-use Rattle.runtime_code.proofs.Loops.{tested, goes_in, leaves, jumps_back}
+use Rattle.runtime_code.proofs.Interface.{straight, one_form, recounted, nothing, then_on, moved_to, chain, tested, goes_in, leaves, jumps_back}
 use Rattle.commit_runtime.specs.Listing.{copies_begin, copy_turn, copy_loop, sends_begin, send_turn, send_loop, closing, commit_forms}
 use Rattle.commit_runtime.specs.Laws.{CommitIsMade}
 use Rattle.commit_runtime.proofs.Copies.{entries_stay, out_of_entries, sends_alike, sends_keep, sent_base_stays, emit_count_stays, next_task_stays, emits_stay}

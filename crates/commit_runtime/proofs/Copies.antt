@@ -2,12 +2,12 @@
 use Rattle.std.proofs.Common.{◌≡◌, ◌≢◌, ℕ, zero, suc, ◌+◌, ◌*◌, ◌%◌, ◌<◌, ◌≤◌, ◌⊎◌, inl, inr, List, [], ◌∷◌, refl, sym, ap, ◌∙◌, arith}
 use Rattle.std.specs.List.{All}
 use Rattle.std.proofs.lemmas.List.Elements.{All-head, All-tail, All-weaker}
-use Rattle.fram_board.specs.Effects.{Send}
-use Rattle.machine_effects.specs.World.{put, fram_after}
-use Rattle.machine_effects.proofs.Worlds.{put_other}
-use Rattle.runtime_effects.specs.Places.{CopyPair, entries_from}
-use Rattle.runtime_effects.specs.Stages.{copied_home, sends}
-use Rattle.runtime_effects.specs.Needs.{IsCopied}
+use Rattle.runtime_code.specs.fram_board.Effects.{Send}
+use Rattle.runtime_code.specs.machine_effects.World.{put, fram_after}
+use Rattle.runtime_code.proofs.machine_effects.Interface.{put_other}
+use Rattle.runtime_code.specs.runtime_effects.Places.{CopyPair, entries_from}
+use Rattle.runtime_code.specs.runtime_effects.Stages.{copied_home, sends}
+use Rattle.runtime_code.specs.runtime_effects.Needs.{IsCopied}
 use Rattle.memory_map.specs.declared.words.RuntimeWord.TheVariants.{NextTask, EmitCount, SentBase}
 use Rattle.memory_map.specs.MemoryMap.{MemoryMap, word_place}
 

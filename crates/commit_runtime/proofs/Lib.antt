@@ -1,4 +1,5 @@
-pub mod Copies
-pub mod Commit
-pub mod Words
-pub mod Stores
+mod Copies
+mod Commit
+mod Words
+mod Stores
+pub mod Interface

@@ -2,13 +2,13 @@
 use Rattle.std.proofs.Common.{ℕ, List, [], ◌∷◌, ◌++◌}
 use Rattle.std.specs.List.{All}
 use Rattle.std.proofs.lemmas.List.Elements.{All-head, All-tail, All-weaker}
-use Rattle.machine_effects.specs.World.{put, EachStore}
-use Rattle.machine_effects.specs.Machine.{IsFram}
-use Rattle.machine_effects.proofs.Worlds.{each_store-append}
-use Rattle.runtime_effects.specs.Places.{CopyPair, listed}
-use Rattle.runtime_effects.specs.Stages.{copied_home, emits_sent, commit_closed, commit_effects}
-use Rattle.runtime_effects.specs.Needs.{IsCopied}
-use Rattle.runtime_effects.proofs.Sends.{sends_store}
+use Rattle.runtime_code.specs.machine_effects.World.{put, EachStore}
+use Rattle.runtime_code.specs.machine_effects.Machine.{IsFram}
+use Rattle.runtime_code.proofs.machine_effects.Interface.{each_store-append}
+use Rattle.runtime_code.specs.runtime_effects.Places.{CopyPair, listed}
+use Rattle.runtime_code.specs.runtime_effects.Stages.{copied_home, emits_sent, commit_closed, commit_effects}
+use Rattle.runtime_code.specs.runtime_effects.Needs.{IsCopied}
+use Rattle.runtime_code.proofs.runtime_effects.Interface.{sends_store}
 use Rattle.commit_runtime.specs.Laws.{CommitStoresInFram}
 use Rattle.memory_map.specs.declared.words.RuntimeWord.TheVariants.{CurrentTask, Gate, EmitCount, Base, SentBase}
 use Rattle.memory_map.specs.MemoryMap.{MemoryMap, word_place}

@@ -1,14 +1,14 @@
 -- What the commit's code does.
 use Rattle.std.specs.Prelude.{◌≡◌, ℕ, ◌+◌, ◌*◌, ◌%◌, ◌<◌, length}
-use Rattle.machine_effects.specs.World.{fram_after, EachStore}
-use Rattle.machine_effects.specs.Machine.{Code, IsFram}
-use Rattle.code_forms.specs.Forms.{Core}
-use Rattle.code_forms.specs.Code.{Stands, IsTidy}
-use Rattle.code_forms.specs.Placed.{instructions, words_of, AreInstructions}
+use Rattle.runtime_code.specs.machine_effects.World.{fram_after, EachStore}
+use Rattle.runtime_code.specs.machine_effects.Machine.{Code, IsFram}
+use Rattle.runtime_code.specs.code_forms.Forms.{Core}
+use Rattle.runtime_code.specs.code_forms.Code.{Stands, IsTidy}
+use Rattle.runtime_code.specs.code_forms.Placed.{instructions, words_of, AreInstructions}
 use Rattle.memory_map.specs.declared.words.RuntimeWord.TheVariants.{ListLength, EmitCount}
 use Rattle.memory_map.specs.MemoryMap.{MemoryMap, word_place}
-use Rattle.runtime_effects.specs.Stages.{commit_effects}
-use Rattle.runtime_effects.specs.Needs.{AreInFram, CanCommit}
+use Rattle.runtime_code.specs.runtime_effects.Stages.{commit_effects}
+use Rattle.runtime_code.specs.runtime_effects.Needs.{AreInFram, CanCommit}
 use Rattle.runtime_code.specs.Comes.{Comes, IsAt}
 use Rattle.commit_runtime.specs.Listing.{commit_forms, commit_bytes, commit_steps, commit_cycles}
 

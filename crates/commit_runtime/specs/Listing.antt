@@ -2,8 +2,8 @@
 use Rattle.std.specs.Prelude.{ℕ, ◌+◌, ◌-◌, ◌*◌, List, [], ◌∷◌, ◌++◌}
 use Rattle.msp_isa.specs.declared.instructions.TwoOp.TheVariants.{Add, Sub}
 use Rattle.msp_isa.specs.declared.operands.Konst.TheVariants.{Zero, One}
-use Rattle.code_forms.specs.Forms.{Form, Move, Calculate, Branch, R4, R5, R6, R7}
-use Rattle.code_forms.specs.Forms.{Register, Number, Constant, Fram, Pointed, PointedNext, ToRegister, ToFram, ToPointed, ToOutnum, ToOutdata}
+use Rattle.runtime_code.specs.code_forms.Forms.{Form, Move, Calculate, Branch, R4, R5, R6, R7}
+use Rattle.runtime_code.specs.code_forms.Forms.{Register, Number, Constant, Fram, Pointed, PointedNext, ToRegister, ToFram, ToPointed, ToOutnum, ToOutdata}
 use Rattle.memory_map.specs.declared.words.RuntimeWord.TheVariants.{CurrentTask, NextTask, Gate, ListLength, EmitCount, Base, SentBase}
 use Rattle.memory_map.specs.MemoryMap.{MemoryMap, word_place}
 use Rattle.runtime_code.specs.Counted.{counted}

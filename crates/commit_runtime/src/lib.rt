@@ -5,7 +5,7 @@
 mod laws;
 
 ghost use Rattle.std.specs.Prelude.{◌≡◌, ◌+◌, ◌<◌, ℕ, IfOk};
-ghost use Rattle.code_forms.specs.Placed.{instructions};
+ghost use Rattle.runtime_code.specs.code_forms.Placed.{instructions};
 ghost use Rattle.runtime_code.specs.Addresses.{start_address};
 ghost use Rattle.commit_runtime.specs.Listing.{copies_begin, copy_loop, sends_begin, send_loop, closing, commit_forms};
 

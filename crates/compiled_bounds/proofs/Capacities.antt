@@ -1,23 +1,22 @@
 -- The commit list and the emit buffer keep to their capacities, and version words to VER.
 use Rattle.std.proofs.Common.{ℕ, refl, sym, subst, arith, List}
-use Rattle.machine_effects.specs.World.{World, EachStore}
-use Rattle.cost_bound.specs.Allowance.{CheckedProgram}
-use Rattle.source_values.specs.Runs.{State}
-use Rattle.memory_map.specs.declared.words.RuntimeWord.TheVariants.{ListLength, EmitCount}
-use Rattle.memory_map.specs.MemoryMap.{MemoryMap, word_place}
-use Rattle.crash_rules.specs.History.{History}
-use Rattle.crash_rules.specs.Runs.{Program}
-use Rattle.crash_rules.specs.Laws.{Origin, Phase, UndecidedPhase, DecidedPhase}
-use Rattle.memory_map.specs.Laws.{AreApart}
-use Rattle.stands_for.specs.Layout.{HaveRoom}
-use Rattle.stands_for.specs.StandsFor.{DecidedFrom, VersionsWithin}
-use Rattle.stands_for.proofs.Commits.{commit_stores_all}
+use Rattle.compiled_model.specs.machine_effects.World.{World, EachStore}
+use Rattle.compiled_model.specs.cost_bound.Allowance.{CheckedProgram}
+use Rattle.compiled_model.specs.source_values.Runs.{State}
+use Rattle.compiled_model.specs.memory_map.declared.words.RuntimeWord.TheVariants.{ListLength, EmitCount}
+use Rattle.compiled_model.specs.memory_map.MemoryMap.{MemoryMap, word_place}
+use Rattle.compiled_model.specs.crash_rules.History.{History}
+use Rattle.compiled_model.specs.crash_rules.Runs.{Program}
+use Rattle.compiled_model.specs.crash_rules.Laws.{Origin, Phase, UndecidedPhase, DecidedPhase}
+use Rattle.compiled_model.specs.memory_map.Laws.{AreApart}
+use Rattle.compiled_model.specs.stands_for.Layout.{HaveRoom}
+use Rattle.compiled_model.specs.stands_for.StandsFor.{DecidedFrom, VersionsWithin}
+use Rattle.compiled_model.proofs.stands_for.Interface.{commit_stores_all}
 use Rattle.compiled_model.specs.Places.{program_places}
 use Rattle.compiled_model.specs.View.{state_view}
 use Rattle.compiled_model.specs.Parts.{compiled_model}
 use Rattle.model_runs.specs.Runs.{history_behind}
-use Rattle.model_runs.proofs.Fronts.{fronts_are_lawful}
-use Rattle.model_runs.proofs.Words.{words_stay_within}
+use Rattle.model_runs.proofs.Interface.{fronts_are_lawful, words_stay_within}
 use Rattle.compiled_bounds.specs.Laws.{CountsFit, CapacitiesAreKept}
 
 module _ (p : CheckedProgram) (l : MemoryMap) (apart : AreApart l) (room : HaveRoom (program_places p l)) where

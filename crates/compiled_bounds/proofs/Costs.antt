@@ -4,31 +4,29 @@ use Rattle.std.proofs.lemmas.List.{length-map}
 use Rattle.std.proofs.lemmas.Option.{slice_get-map, get_or_from_slice_get}
 use Rattle.std.specs.Option.{option_map}
 use Rattle.std.specs.Prelude.{slice_get}
-use Rattle.cost_bound.specs.Table.{cycles_column, block_price}
-use Rattle.cost_bound.specs.Counts.{emits_of}
-use Rattle.cost_bound.specs.Allowance.{CheckedProgram, CheckedTask, IsAllowed, list_of, scalars_of, task_bound, versions_of}
-use Rattle.cost_bound.specs.declared.allowance.Allow.{Allow}
-use Rattle.war_analysis.proofs.Steps.{element}
-use Rattle.source_values.specs.Runs.{body_of, task_body}
-use Rattle.war_analysis.specs.PlanValue.{TaskPlanValue}
-use Rattle.war_analysis.specs.Plans.{IsPlan}
-use Rattle.war_analysis.proofs.Counted.{privates_counted}
-use Rattle.array_versions.specs.Program.{Program}
-use Rattle.array_versions.specs.Behaviour.{WordState, End, GoesOn, Jumps, Short, Strays, Broken, behaviour, started}
-use Rattle.array_versions.specs.Cost.{spent}
-use Rattle.privatise.specs.Layouts.{IsLayout, IsTaskLayout}
-use Rattle.lower.proofs.Blocks.{program_at}
-use Rattle.runtime_code.specs.LayoutPlaces.{pair_of}
-use Rattle.boot_runtime.specs.Entries.{entry_of, task_entries}
-use Rattle.boot_runtime.specs.Listing.{privates_in, entry_at}
-use Rattle.lower.specs.Lowered.{lowered_block}
-use Rattle.lower.specs.Sizes.{entry_cycles}
-use Rattle.lower.proofs.Costs.{blocks_keep_to_cycles}
+use Rattle.compiled_model.specs.cost_bound.Table.{cycles_column, block_price}
+use Rattle.compiled_model.specs.cost_bound.Counts.{emits_of}
+use Rattle.compiled_model.specs.cost_bound.Allowance.{CheckedProgram, CheckedTask, IsAllowed, list_of, scalars_of, task_bound, versions_of}
+use Rattle.compiled_model.specs.cost_bound.declared.allowance.Allow.{Allow}
+use Rattle.compiled_model.proofs.war_analysis.Interface.{element, privates_counted}
+use Rattle.compiled_model.specs.source_values.Runs.{body_of, task_body}
+use Rattle.compiled_model.specs.war_analysis.PlanValue.{TaskPlanValue}
+use Rattle.compiled_model.specs.war_analysis.Plans.{IsPlan}
+use Rattle.compiled_model.specs.array_versions.Program.{Program}
+use Rattle.compiled_model.specs.array_versions.Behaviour.{WordState, End, GoesOn, Jumps, Short, Strays, Broken, behaviour, started}
+use Rattle.compiled_model.specs.array_versions.Cost.{spent}
+use Rattle.compiled_model.specs.privatise.Layouts.{IsLayout, IsTaskLayout}
+use Rattle.compiled_model.proofs.lower.Interface.{program_at, blocks_keep_to_cycles}
+use Rattle.compiled_model.specs.runtime_code.LayoutPlaces.{pair_of}
+use Rattle.compiled_model.specs.boot_runtime.Entries.{entry_of, task_entries}
+use Rattle.compiled_model.specs.boot_runtime.Listing.{privates_in, entry_at}
+use Rattle.compiled_model.specs.lower.Lowered.{lowered_block}
+use Rattle.compiled_model.specs.lower.Sizes.{entry_cycles}
 use Rattle.compiled_model.specs.Parts.{task_program}
 use Rattle.compiled_model.specs.Needs.{whole_cycles}
 use Rattle.compiled_bounds.specs.Laws.{TasksKeepToTheBound}
-use Rattle.memory_map.specs.MemoryMap.{MemoryMap, TaskPlace}
-use Rattle.memory_map.specs.Spots.{places_of}
+use Rattle.compiled_model.specs.memory_map.MemoryMap.{MemoryMap, TaskPlace}
+use Rattle.compiled_model.specs.memory_map.Spots.{places_of}
 
 -- what the entries cost at most
 entries_cost : (l : MemoryMap) (layout : TaskPlace) (e : End) → entry_cycles (places_of l layout) e ≤ 21 * length layout.privates

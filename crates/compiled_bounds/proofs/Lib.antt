@@ -1,3 +1,4 @@
-pub mod Bounds
-pub mod Costs
-pub mod Capacities
+mod Bounds
+mod Costs
+mod Capacities
+pub mod Interface

@@ -1,13 +1,12 @@
 -- The crash theorem on compiled sources.
 use Rattle.std.proofs.Common.{◌≡◌, ℕ, ◌+◌, ◌*◌, ◌<◌, ◌≤◌, List, refl, sym, ap, ◌∙◌, subst, arith}
-use Rattle.crash_rules.proofs.Theorems.{crash_theorem, stops_short, sent_once, spans_follow, progress_law}
-use Rattle.compiled_model.specs.Parts.{compiled_model}
-use Rattle.compiled_bounds.proofs.Bounds.{bound_is_the_sources}
+use Rattle.task_attempts.proofs.crash_rules.Interface.{crash_theorem, stops_short, sent_once, spans_follow, progress_law}
+use Rattle.task_attempts.specs.compiled_model.Parts.{compiled_model}
+use Rattle.compiled_bounds.proofs.Interface.{bound_is_the_sources}
 use Rattle.compiled_runs.specs.Program.{compiled_program}
-use Rattle.compiled_runs.proofs.Program.{code_keeps_the_laws}
-use Rattle.compiled_runs.proofs.Leaves.{runs_leave_the_code}
+use Rattle.compiled_runs.proofs.Interface.{code_keeps_the_laws, runs_leave_the_code}
 use Rattle.compiled_laws.specs.Laws.{SourcesKeepTheLaws, CodeKeepsTheLaws, CodeStays, RunsStandForTheSource, RunsStopWhereTheSourceIsShort, WordsAreSentOnce, OneChargeReadsInOrder, BoundsPayForTransitions}
-use Rattle.ready_sources.proofs.Ready.{sources_are_ready}
+use Rattle.compiled_laws.proofs.Ready.{sources_are_ready}
 
 pub sources_keep_the_laws : SourcesKeepTheLaws
 sources_keep_the_laws text p allow plans l laid = (sources_are_ready text p allow plans l laid).model

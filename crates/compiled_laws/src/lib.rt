@@ -6,6 +6,6 @@ mod laws;
 
 pub use laws::{
     bounds_pay_for_transitions, code_keeps_the_laws, code_stays, one_charge_reads_in_order,
-    runs_stand_for_the_source, runs_stop_where_the_source_is_short, sources_keep_the_laws,
-    words_are_sent_once,
+    runs_stand_for_the_source, runs_stop_where_the_source_is_short, sources_are_ready,
+    sources_keep_the_laws, words_are_sent_once,
 };

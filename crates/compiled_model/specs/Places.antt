@@ -1,9 +1,9 @@
 -- The places of a compiled source, by its layout, as the crash theorem takes them.
 use Rattle.std.specs.Prelude.{false, length}
-use Rattle.cost_bound.specs.Allowance.{list_of}
-use Rattle.cost_bound.specs.Counts.{emits_of}
-use Rattle.source_values.specs.Runs.{CheckedProgram, task_body}
-use Rattle.memory_map.specs.MemoryMap.{MemoryMap}
+use Rattle.linked_code.specs.cost_bound.Allowance.{list_of}
+use Rattle.linked_code.specs.cost_bound.Counts.{emits_of}
+use Rattle.lower.specs.source_values.Runs.{CheckedProgram, task_body}
+use Rattle.linked_code.specs.memory_map.MemoryMap.{MemoryMap}
 use Rattle.stands_for.specs.Layout.{ProgramPlaces}
 
 -- the memory map, and for how much each task has room. Each shared scalar that a task writes is private in it, so none is written in

@@ -1,11 +1,11 @@
 -- A state of a source by the addresses of its shared words.
 use Rattle.std.specs.Prelude.{ℕ, ◌-◌, ◌/◌, ◌==◌, ◌&&◌, Bool, true, false, nat_le, nat_lt, if◌then◌else◌, List, [], ◌∷◌, length, slice_index}
-use Rattle.task_ast.specs.declared.SharedDeclaration.{SharedDeclaration}
-use Rattle.source_values.specs.Runs.{CheckedProgram, State, initial_words}
-use Rattle.memory_map.specs.declared.place.Region.{Region}
-use Rattle.memory_map.specs.declared.place.VariablePlace.{VariablePlace}
-use Rattle.memory_map.specs.MemoryMap.{MemoryMap}
-use Rattle.memory_map.specs.Places.{end_of, home_region}
+use Rattle.linked_code.specs.task_ast.declared.SharedDeclaration.{SharedDeclaration}
+use Rattle.lower.specs.source_values.Runs.{CheckedProgram, State, initial_words}
+use Rattle.linked_code.specs.memory_map.declared.place.Region.{Region}
+use Rattle.linked_code.specs.memory_map.declared.place.VariablePlace.{VariablePlace}
+use Rattle.linked_code.specs.memory_map.MemoryMap.{MemoryMap}
+use Rattle.linked_code.specs.memory_map.Places.{end_of, home_region}
 use Rattle.stands_for.specs.Layout.{StateView}
 
 -- whether an address is within a region

@@ -1,4 +1,8 @@
-pub mod Steps
-pub mod Program
-pub mod Leaves
-pub mod Fits
+mod Steps
+mod Program
+mod Leaves
+mod Fits
+pub mod Interface
+pub use Rattle.compiled_model.proofs.crash_rules as crash_rules
+pub use Rattle.compiled_model.proofs.stands_for as stands_for
+pub use Rattle.run_charges.proofs as run_charges

@@ -4,8 +4,8 @@ ghost use Rattle.std.specs.Prelude.{◌≡◌, IfOk};
 ghost use Rattle.array_versions.specs.View.{program_of};
 ghost use Rattle.compiler_tests.specs.Sample.{sample_steps};
 
-use codegen::emit;
 use array_versions::WordProgram;
+use codegen::emit;
 use msp_encode::encode;
 use std::alloc::{AllocError, Global};
 

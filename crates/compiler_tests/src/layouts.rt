@@ -53,8 +53,7 @@ fn is_planned(plan: &Option<Plan>, task: usize, scalars: &[u32], arrays: &[u32])
         return false;
     };
     match plan.tasks().get(task) {
-        Some(task) => *task.private_scalars() == *scalars
-            && *task.versioned_arrays() == *arrays,
+        Some(task) => *task.private_scalars() == *scalars && *task.versioned_arrays() == *arrays,
         None => false,
     }
 }

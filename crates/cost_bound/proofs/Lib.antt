@@ -1,7 +1,10 @@
-pub mod Caps
-pub mod Views
-pub mod Walks
-pub mod Sums
-pub mod Emits
-pub mod First
-pub mod Unique
+mod Caps
+mod Views
+mod Walks
+mod Sums
+mod Emits
+mod First
+mod Unique
+pub mod Interface
+pub use Rattle.task_check.proofs.task_lex as task_lex
+pub use Rattle.task_check.proofs as task_check

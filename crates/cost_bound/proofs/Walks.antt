@@ -11,7 +11,7 @@ use Rattle.task_ast.specs.declared.names.TaskName.{TaskName}
 use Rattle.task_ast.specs.declared.Stmt.{Stmt}
 use Rattle.task_ast.specs.declared.Stmt.TheVariants.{If, For}
 use Rattle.task_ast.specs.declared.Arm.{Arm, out-Arm}
-use Rattle.task_ast.proofs.Backwards.{drop_back}
+use Rattle.task_ast.proofs.Interface.{drop_back}
 use Rattle.cost_bound.specs.Table.{capped}
 use Rattle.cost_bound.specs.Counts.{is_store_to, statement_count, choice_count, block_count, choice_assigns, block_assigns}
 use Rattle.cost_bound.specs.Rooms.{AreCapped, HaveGrown, AreMarked}

@@ -2,9 +2,9 @@
 use Rattle.std.proofs.Common.{◌≡◌, ℕ, ◌+◌, List, [], ◌∷◌, ◌++◌, length, drop, refl, sym, ap, ◌∙◌, subst, ⊎_elim, inl, inr, ◌⊎◌, arith, true, false, cond, ◌==◌}
 use Rattle.std.proofs.Common.{append_assoc, append-nil, All}
 use Rattle.std.proofs.lemmas.List.Elements.{All-drop}
-use Rattle.fram_board.specs.Effects.{Effect, Store}
+use Rattle.machine_effects.specs.fram_board.Effects.{Effect, Store}
 use Rattle.machine_effects.specs.World.{World, world_after, fram_after, readings_taken, IsPrefix, EachStore}
-use Rattle.machine_effects.proofs.Worlds.{world_after-append}
+use Rattle.machine_effects.proofs.Interface.{world_after-append}
 use Rattle.crash_rules.specs.Model.{Model, ModelLaws, Outcome, Ends, Short, ProgramEffects, program_effects, readings_left, IsWord, IsElsewhere, with_commit}
 use Rattle.crash_rules.specs.Model.{script, Decides, RunsShort, AttemptContract, CommitContract}
 use Rattle.crash_rules.specs.History.{Done, History, with_effect, behind_decide, behind_done, observe_one, observe, behind_boot, decided_readings}

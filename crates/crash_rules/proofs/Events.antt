@@ -4,13 +4,13 @@ use Rattle.std.proofs.Common.{length-take-le, Result, Ok, Err, Option, Some, Non
 use Rattle.std.proofs.lemmas.List.{length-drop, map-append}
 use Rattle.std.specs.Prelude.{map}
 use Rattle.std.specs.List.{slice_range}
-use Rattle.msp_step.specs.declared.machine.Stop.{Stop}
-use Rattle.fram_board.specs.declared.board.Stepped.{Stepped}
-use Rattle.fram_board.specs.Bus.{is_fram}
-use Rattle.fram_board.specs.Board.{BoardValue}
-use Rattle.fram_board.specs.Effects.{Effect, Store, Take, store_at, stores_of, sends_of}
+use Rattle.machine_effects.specs.msp_step.declared.machine.Stop.{Stop}
+use Rattle.machine_effects.specs.fram_board.declared.board.Stepped.{Stepped}
+use Rattle.machine_effects.specs.fram_board.Bus.{is_fram}
+use Rattle.machine_effects.specs.fram_board.Board.{BoardValue}
+use Rattle.machine_effects.specs.fram_board.Effects.{Effect, Store, Take, store_at, stores_of, sends_of}
 use Rattle.machine_effects.specs.World.{World, world_after_one, world_after, readings_taken, EachStore}
-use Rattle.machine_effects.proofs.Worlds.{taking_takes, world_after-append}
+use Rattle.machine_effects.proofs.Interface.{taking_takes, world_after-append}
 use Rattle.crash_rules.specs.Model.{IsElsewhere}
 use Rattle.crash_rules.specs.History.{History, is_done, is_decide, with_effect, behind_decide, behind_done, behind_gate, observe_one, observe, Positions}
 use Rattle.crash_rules.specs.History.{positions_of, positions_behind, EventsOfInstructions}

@@ -1,8 +1,11 @@
-pub mod Lists
-pub mod Observed
-pub mod Events
-pub mod Cuts
-pub mod Steps
-pub mod Plays
-pub mod Progress
-pub mod Theorems
+mod Lists
+mod Observed
+mod Events
+mod Cuts
+mod Steps
+mod Plays
+mod Progress
+mod Theorems
+pub mod Interface
+pub use Rattle.machine_effects.proofs.fram_board as fram_board
+pub use Rattle.machine_effects.proofs as machine_effects

@@ -2,9 +2,9 @@
 use Rattle.std.proofs.Common.{◌≡◌, ℕ, ◌+◌, ◌-◌, List, [], ◌∷◌, ◌++◌, length, take, drop, refl, sym, ap, ◌∙◌, subst, ⊎_elim, inl, inr, ◌⊎◌, arith, append-nil}
 use Rattle.std.proofs.Math.Seq.{take-append_seam}
 use Rattle.std.specs.List.{slice_range}
-use Rattle.fram_board.specs.Effects.{Effect, Store, Take, Send}
+use Rattle.machine_effects.specs.fram_board.Effects.{Effect, Store, Take, Send}
 use Rattle.machine_effects.specs.World.{World, world_after_one, world_after, fram_after_one, fram_after, IsPrefix, EachStore}
-use Rattle.machine_effects.proofs.Worlds.{each_store-front}
+use Rattle.machine_effects.proofs.Interface.{each_store-front}
 use Rattle.crash_rules.specs.Model.{HoldsThroughout}
 
 one_fram : (e : Effect) (x : World) → (world_after_one e x).fram ≡ fram_after_one e x.fram

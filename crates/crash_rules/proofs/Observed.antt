@@ -2,9 +2,9 @@
 use Rattle.std.proofs.Common.{◌≡◌, ℕ, zero, suc, ◌+◌, ◌≤◌, List, [], ◌∷◌, ◌++◌, length, refl, sym, ap, ap₂, ◌∙◌, arith, true, false, cond, ne_eqb, append_assoc}
 use Rattle.std.proofs.Common.{append-nil, length-append}
 use Rattle.std.specs.Prelude.{◌&&◌, not}
-use Rattle.fram_board.specs.Effects.{Effect, Store, Take, Send}
+use Rattle.machine_effects.specs.fram_board.Effects.{Effect, Store, Take, Send}
 use Rattle.machine_effects.specs.World.{World, world_after_one, world_after, readings_taken, OfStore, EachStore}
-use Rattle.machine_effects.proofs.Worlds.{put_same, put_other}
+use Rattle.machine_effects.proofs.Interface.{put_same, put_other}
 use Rattle.crash_rules.specs.Model.{IsElsewhere}
 use Rattle.crash_rules.specs.History.{History, is_decide, is_done, with_effect, behind_decide, behind_done, behind_gate, observe_one, observe}
 

@@ -3,13 +3,13 @@ use Rattle.std.proofs.Common.{◌≡◌, ℕ, zero, suc, ◌+◌, ◌-◌, ◌<�
 use Rattle.std.proofs.Common.{true, false, cond, nat_lt, append_assoc, append-nil, All, ltb-true, ltb-false}
 use Rattle.std.proofs.lemmas.Bool.{cases_lt}
 use Rattle.std.proofs.lemmas.List.{drop-drop}
-use Rattle.msp_step.specs.declared.machine.Stop.{Stop}
-use Rattle.msp_step.specs.declared.machine.Stop.TheVariants as stop
-use Rattle.fram_board.specs.Effects.{Effect, Store}
+use Rattle.machine_effects.specs.msp_step.declared.machine.Stop.{Stop}
+use Rattle.machine_effects.specs.msp_step.declared.machine.Stop.TheVariants as stop
+use Rattle.machine_effects.specs.fram_board.Effects.{Effect, Store}
 use Rattle.machine_effects.specs.World.{World, world_after_one, world_after, fram_after, readings_taken, IsPrefix, EachStore}
 use Rattle.machine_effects.specs.Going.{At, Halted, stretch, after_effects, going, Leads, Stalls}
 use Rattle.machine_effects.specs.Machine.{MachineBoard}
-use Rattle.machine_effects.proofs.Worlds.{world_after-append, each_store-append}
+use Rattle.machine_effects.proofs.Interface.{world_after-append, each_store-append}
 use Rattle.crash_rules.specs.Model.{Model, ModelLaws, Outcome, Ends, Short, AttemptContract, ProgramEffects, program_effects, readings_left, IsWord, bound}
 use Rattle.crash_rules.specs.Model.{greatest, with_commit, script}
 use Rattle.crash_rules.specs.History.{History, Done, observe}

@@ -1,8 +1,8 @@
 -- A charge that can pay for n bounds has n dones.
 use Rattle.std.proofs.Common.{◌≡◌, ℕ, zero, suc, ◌+◌, ◌-◌, ◌*◌, ◌<◌, ◌≤◌, List, [], ◌∷◌, length, refl, sym, ap, ◌∙◌, subst, ⊎_elim, ◌⊎◌, arith, Bool, true, false, All, length-append}
 use Rattle.std.proofs.lemmas.Bool.{cases_lt}
-use Rattle.msp_step.specs.declared.machine.Stop.TheVariants as stop
-use Rattle.fram_board.specs.Effects.{Effect}
+use Rattle.machine_effects.specs.msp_step.declared.machine.Stop.TheVariants as stop
+use Rattle.machine_effects.specs.fram_board.Effects.{Effect}
 use Rattle.machine_effects.specs.Going.{Goes, Stops, At, Halted, stretch, after_effects, continued, going, Stalls}
 use Rattle.machine_effects.specs.Machine.{MachineBoard, MachineOutcome}
 use Rattle.crash_rules.specs.Model.{Model, ModelLaws, IsWord, bound}

@@ -2,13 +2,12 @@
 use Rattle.std.proofs.Common.{◌≡◌, ℕ, zero, suc, ◌+◌, ◌≤◌, List, [], ◌++◌, length, drop, refl, sym, ap, ap₂, ◌∙◌, subst, arith, append_assoc, append-nil}
 use Rattle.std.proofs.Common.{suc-add, zero-add}
 use Rattle.std.proofs.Math.Seq.{drop-append_seam}
-use Rattle.fram_board.specs.Effects.{Effect}
+use Rattle.machine_effects.specs.fram_board.Effects.{Effect}
 use Rattle.machine_effects.specs.World.{fram_after, readings_taken, IsPrefix}
 use Rattle.machine_effects.specs.Going.{StepOutcome, Goes, Stops, At, Halted, Stretch, stretch, after_effects, continued, going, Leads, Stalls}
 use Rattle.machine_effects.specs.Machine.{MachineBoard, MachineOutcome}
 use Rattle.machine_effects.specs.Laws.{ChangesByEffects}
-use Rattle.machine_effects.proofs.Going.{after_after}
-use Rattle.machine_effects.proofs.Worlds.{fram_after-append, readings_taken-append}
+use Rattle.machine_effects.proofs.Interface.{after_after, fram_after-append, readings_taken-append}
 
 -- nothing in front
 after_nothing : {S X : Type 0} (r : Stretch S X) → r ≡ after_effects [] 0 r

@@ -3,8 +3,8 @@
 -- readings taken.
 use Rattle.std.specs.Prelude.{◌≡◌, ℕ, ◌+◌, ◌≤◌, ◌==◌, ◌&&◌, Bool, true, false, not, if◌then◌else◌, List, [], ◌∷◌, ◌++◌, length, map}
 use Rattle.std.specs.List.{slice_range}
-use Rattle.fram_board.specs.Board.{BoardValue, BoardOutcome}
-use Rattle.fram_board.specs.Effects.{Effect, effects_of}
+use Rattle.machine_effects.specs.fram_board.Board.{BoardValue, BoardOutcome}
+use Rattle.machine_effects.specs.fram_board.Effects.{Effect, effects_of}
 use Rattle.machine_effects.specs.World.{World, world_after_one, world_after, readings_taken}
 
 -- a done: the span of the decide before it, and FRAM and the accepted words behind it

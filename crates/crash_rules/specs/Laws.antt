@@ -1,7 +1,7 @@
 -- What runs that are cut anywhere stand for, and the laws of them.
 use Rattle.std.specs.Prelude.{◌≡◌, ℕ, ◌+◌, ◌*◌, ◌≤◌, Bool, true, false, List, [], ◌∷◌, length, drop, All}
-use Rattle.msp_step.specs.declared.machine.Stop.{Stop}
-use Rattle.msp_step.specs.declared.machine.Stop.TheVariants as stop
+use Rattle.machine_effects.specs.msp_step.declared.machine.Stop.{Stop}
+use Rattle.machine_effects.specs.msp_step.declared.machine.Stop.TheVariants as stop
 use Rattle.machine_effects.specs.World.{World, world_after, IsPrefix, EachStore}
 use Rattle.machine_effects.specs.Going.{Halted, going}
 use Rattle.machine_effects.specs.Machine.{MachineBoard}

@@ -1,7 +1,7 @@
 -- What the crash theorem needs to know of a source, of its runtime and of what FRAM stands for: the model, and what each layer
 -- owes. Nothing here knows where anything is in FRAM.
 use Rattle.std.specs.Prelude.{◌≡◌, ◌≢◌, ℕ, zero, suc, ◌<◌, ◌==◌, if◌then◌else◌, nat_lt, Bool, true, false, List, [], ◌∷◌, ◌++◌, length, drop, All}
-use Rattle.fram_board.specs.Effects.{Effect, Store}
+use Rattle.machine_effects.specs.fram_board.Effects.{Effect, Store}
 use Rattle.machine_effects.specs.World.{World, world_after_one, world_after, fram_after, readings_taken, EachStore}
 
 -- how a whole task ends: in a state of the source, with readings left over, or for want of a reading

@@ -8,7 +8,7 @@ use Rattle.msp_step.specs.Registers.{Registers, registers_of}
 use Rattle.msp_step.specs.Access.{Access, Completed, Faulted}
 use Rattle.msp_step.specs.Effect.{Written}
 use Rattle.msp_step.specs.Step.{outcome_of, effect, execution}
-use Rattle.msp_step.proofs.Accesses.{Ends, effect_ends}
+use Rattle.msp_step.proofs.Interface.{Ends, effect_ends}
 use Rattle.fram_board.specs.declared.board.Stepped.{Stepped}
 use Rattle.fram_board.specs.declared.receiver.Receiver.{Receiver}
 use Rattle.fram_board.specs.Bus.{BusState, board_bus}

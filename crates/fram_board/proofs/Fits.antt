@@ -16,14 +16,13 @@ use Rattle.msp_isa.specs.declared.instructions.OneOp.TheVariants.{Rrc, Swpb, Rra
 use Rattle.msp_isa.specs.declared.instructions.Instr.{Instr}
 use Rattle.msp_isa.specs.declared.instructions.Instr.TheVariants as instr
 use Rattle.msp_isa.specs.Encoding.{Row, operand_row, source_row, destination_row, opcode, two_encoding, one_encoding, encoding, first_word, IsInstruction, IsIllegal, IsPrefix}
-use Rattle.msp_decode.proofs.Fields.{blank_of}
-use Rattle.msp_decode.proofs.Unique.{same_instruction}
+use Rattle.msp_step.proofs.msp_decode.Interface.{blank_of, same_instruction}
 use Rattle.msp_step.specs.declared.machine.Stop.{Stop}
 use Rattle.msp_step.specs.declared.machine.Stop.TheVariants as stop
 use Rattle.msp_step.specs.Access.{BusModel}
 use Rattle.msp_step.specs.Effect.{sum16}
 use Rattle.msp_step.specs.Step.{FetchedAt, IsNoInstruction, IsLongerThan, First, Second, Third}
-use Rattle.msp_step.proofs.Fetched.{fetched_at}
+use Rattle.msp_step.proofs.Interface.{fetched_at}
 use Rattle.fram_board.proofs.Legal.{BeginsAt, legal_or_not}
 
 -- a row with the same fields, whose extension, if any, is this word

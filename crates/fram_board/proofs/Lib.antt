@@ -1,8 +1,12 @@
-pub mod Takes
-pub mod Steps
-pub mod Legal
-pub mod Fits
-pub mod Effects
-pub mod Runs
-pub mod Counts
-pub mod Powers
+mod Takes
+mod Steps
+mod Legal
+mod Fits
+mod Effects
+mod Runs
+mod Counts
+mod Powers
+pub mod Interface
+pub use Rattle.alp_words.proofs as alp_words
+pub use Rattle.msp_isa.proofs as msp_isa
+pub use Rattle.msp_step.proofs as msp_step

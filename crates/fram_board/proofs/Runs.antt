@@ -8,7 +8,7 @@ use Rattle.msp_step.specs.declared.machine.Stop.TheVariants as stop
 use Rattle.msp_step.specs.declared.machine.Stepped as machine
 use Rattle.msp_step.specs.Registers.{registers_of}
 use Rattle.msp_step.specs.Step.{off_bit}
-use Rattle.msp_step.proofs.Determined.{determined, takes_its_cost, same_current, same_stop, not_stopped}
+use Rattle.msp_step.proofs.Interface.{determined, takes_its_cost, same_current, same_stop, not_stopped}
 use Rattle.fram_board.specs.declared.board.Stepped.{Stepped}
 use Rattle.fram_board.specs.Bus.{BusState, board_bus}
 use Rattle.fram_board.specs.Board.{BoardValue, opened, answer_of, board_outcome, executed, powered, IsNextInstruction, IsStoppedBy, BoardCosts}

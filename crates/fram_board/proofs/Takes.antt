@@ -8,7 +8,7 @@ use Rattle.msp_step.specs.Access.{Access, Completed, Faulted, HasRead, Nothing, 
 use Rattle.msp_step.specs.Effect.{Written}
 use Rattle.msp_step.specs.Step.{effect, execution, outcome_of}
 use Rattle.msp_step.specs.Laws.{AfterWrite}
-use Rattle.msp_step.proofs.Accesses.{Ends, effect_ends}
+use Rattle.msp_step.proofs.Interface.{Ends, effect_ends}
 use Rattle.fram_board.specs.Bus.{BusState, board_bus, after_read, written, port_written, with_word, is_ram, is_word, is_memory, with_byte, memory_word, sensor_port, number_port, data_port}
 
 -- so many readings more at most

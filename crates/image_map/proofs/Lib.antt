@@ -1,6 +1,7 @@
 mod Rules
 mod Last
 mod Bodies
-pub mod Taking
-pub mod ReadBack
-pub mod Printed
+mod Taking
+mod ReadBack
+mod Printed
+pub mod Interface

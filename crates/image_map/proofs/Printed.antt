@@ -4,7 +4,7 @@ use Rattle.std.proofs.Common.{codes, nat_lt, Bool, true, false, append-nil}
 use Rattle.std.proofs.lemmas.Bool.Decides.{nat_tests}
 use Rattle.std.proofs.lemmas.List.{get_or_default}
 use Rattle.text_parts.specs.Printed.{spaced, printed}
-use Rattle.text_parts.proofs.Printing.{printed_append}
+use Rattle.text_parts.proofs.Interface.{printed_append}
 use Rattle.image_map.specs.MapValue.{MapValue, TaskValue}
 use Rattle.image_map.specs.Text.{tail_text, task_fields, tasks_fields, head_fields, variable_fields, map_fields, map_text}
 

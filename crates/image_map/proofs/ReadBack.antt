@@ -8,12 +8,12 @@ use Rattle.std.specs.Str.{bytes_eq}
 use Rattle.std.proofs.lemmas.Bool.Decides.{nat_tests}
 use Rattle.std.proofs.lemmas.Bool.{and_parts}
 use Rattle.alp_text.specs.Numbers.{number_of, limited}
-use Rattle.alp_text.proofs.Decimals.{decimal_spells, number_back, no_x}
+use Rattle.alp_text.proofs.Interface.{decimal_spells, number_back, no_x}
 use Rattle.text_parts.specs.Lines.{lines, pieces}
 use Rattle.text_parts.specs.Fields.{is_blank}
 use Rattle.text_parts.specs.Hex.{upper_digit, upper_hex}
 use Rattle.text_parts.specs.Printed.{spaced, printed}
-use Rattle.text_parts.proofs.Printing.{Inked, AreWords, fields_spaced, lines_printed, not_blank, upper_inked, decimal_word}
+use Rattle.text_parts.proofs.Interface.{Inked, AreWords, fields_spaced, lines_printed, not_blank, upper_inked, decimal_word}
 use Rattle.image_map.specs.declared.fault.MapFault.{MapFault}
 use Rattle.image_map.specs.declared.fault.MapFault.TheVariants.{BadMap}
 use Rattle.image_map.specs.declared.parts.RuntimeWords.{RuntimeWords}

@@ -7,3 +7,4 @@ pub mod Read
 pub mod Text
 pub mod Named
 pub mod ReadsBack
+pub use Rattle.alp_text.specs as alp_text

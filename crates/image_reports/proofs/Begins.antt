@@ -1,32 +1,31 @@
 -- The fresh board of a source's image begins with the source.
 use Rattle.std.proofs.Common.{◌<◌, ◌≤◌, ℕ, length, refl, sym, subst, List, All}
-use Rattle.cost_bound.specs.declared.allowance.Allow.{Allow}
-use Rattle.energy_trace.specs.TraceValue.{TraceValue}
-use Rattle.image_text.specs.ImageValue.{ImageValue}
-use Rattle.fram_board.specs.Board.{BoardValue, fresh}
-use Rattle.fram_board.specs.Run.{BoardCharge, RunOutcome, Run}
-use Rattle.board_run.specs.Charges.{charges_of}
-use Rattle.machine_effects.specs.World.{World}
-use Rattle.machine_effects.specs.View.{machine_of}
-use Rattle.machine_effects.proofs.Words.{fresh_is_whole}
-use Rattle.source_values.specs.Runs.{CheckedProgram, first_state}
-use Rattle.crash_rules.specs.Laws.{Resting, Begins}
-use Rattle.crash_rules.proofs.Theorems.{runs_may_begin}
-use Rattle.run_charges.specs.Charges.{ArePowerStates, IsPlacedProgram}
-use Rattle.run_charges.specs.Laws.{IsRunOfWords}
-use Rattle.memory_map.specs.MemoryMap.{MemoryMap}
-use Rattle.compiled_model.specs.Parts.{compiled_model}
-use Rattle.compiled_runs.specs.Program.{source_code, compiled_program}
-use Rattle.compiled_runs.proofs.Program.{code_keeps_the_laws}
-use Rattle.compiled_runs.proofs.Leaves.{code_is_placed, runs_leave_the_code}
-use Rattle.model_runs.specs.Runs.{BearsModel}
-use Rattle.source_runs.specs.Traces.{IsTraceOfWords}
-use Rattle.source_runs.specs.Sources.{BeginsWithSource}
-use Rattle.source_runs.proofs.Traces.{traces_are_few}
-use Rattle.source_maps.specs.Maps.{map_of}
+use Rattle.link_image.specs.cost_bound.declared.allowance.Allow.{Allow}
+use Rattle.link_image.specs.energy_trace.TraceValue.{TraceValue}
+use Rattle.link_image.specs.image_text.ImageValue.{ImageValue}
+use Rattle.link_image.specs.fram_board.Board.{BoardValue, fresh}
+use Rattle.link_image.specs.fram_board.Run.{BoardCharge, RunOutcome, Run}
+use Rattle.link_image.specs.board_run.Charges.{charges_of}
+use Rattle.link_image.specs.machine_effects.World.{World}
+use Rattle.link_image.specs.machine_effects.View.{machine_of}
+use Rattle.link_image.proofs.machine_effects.Interface.{fresh_is_whole}
+use Rattle.link_image.specs.source_values.Runs.{CheckedProgram, first_state}
+use Rattle.link_image.specs.crash_rules.Laws.{Resting, Begins}
+use Rattle.link_image.proofs.crash_rules.Interface.{runs_may_begin}
+use Rattle.link_image.specs.run_charges.Charges.{ArePowerStates, IsPlacedProgram}
+use Rattle.link_image.specs.run_charges.Laws.{IsRunOfWords}
+use Rattle.link_image.specs.memory_map.MemoryMap.{MemoryMap}
+use Rattle.link_image.specs.compiled_model.Parts.{compiled_model}
+use Rattle.link_image.specs.compiled_runs.Program.{source_code, compiled_program}
+use Rattle.link_image.proofs.compiled_runs.Interface.{code_keeps_the_laws, code_is_placed, runs_leave_the_code}
+use Rattle.link_image.specs.model_runs.Runs.{BearsModel}
+use Rattle.link_image.specs.source_runs.Traces.{IsTraceOfWords}
+use Rattle.link_image.specs.source_runs.Sources.{BeginsWithSource}
+use Rattle.link_image.proofs.source_runs.Interface.{traces_are_few}
+use Rattle.link_image.specs.source_maps.Maps.{map_of}
 use Rattle.link_image.specs.Compiled.{IsCompiled}
 use Rattle.link_image.specs.Laws.{fresh_world, IsFreshImage}
-use Rattle.ready_sources.specs.Ready.{IsReadyToRun}
+use Rattle.compiled_laws.specs.Ready.{IsReadyToRun}
 
 module _ (text : List ℕ) (p : CheckedProgram) (allow : Allow) (image : ImageValue) (c : IsCompiled text p allow image) (readings : List ℕ)
     (words : All (λ w. w < 0x10000) readings) (ready : IsReadyToRun p c.layout) (new : IsFreshImage text p allow c.layout image) where

@@ -1,32 +1,32 @@
 -- A run of an image keeps to the capacities of the runtime's buffers.
 use Rattle.std.proofs.Common.{◌≡◌, ◌<◌, ◌≤◌, ℕ, arith, List, ◌++◌, All}
-use Rattle.cost_bound.specs.declared.allowance.Allow.{Allow}
-use Rattle.image_text.specs.ImageValue.{ImageValue}
-use Rattle.fram_board.specs.Board.{fresh}
-use Rattle.fram_board.specs.Run.{BoardCharge, Moment, RunOutcome}
-use Rattle.board_run.specs.Charges.{charges_of}
-use Rattle.machine_effects.specs.Machine.{IsFram, fram_of}
-use Rattle.machine_effects.specs.Runs.{last_board}
-use Rattle.source_values.specs.Runs.{CheckedProgram, IsRunnable, first_state}
-use Rattle.source_meaning.specs.Acceptance.{IsAcceptedText}
-use Rattle.source_meaning.proofs.Runnable.{accepted_texts_run}
-use Rattle.crash_rules.specs.Laws.{Resting}
-use Rattle.run_charges.specs.Laws.{IsRunOfWords}
-use Rattle.memory_map.specs.declared.words.RuntimeWord.TheVariants.{Gate, ListLength, EmitCount}
-use Rattle.memory_map.specs.MemoryMap.{MemoryMap, word_place}
-use Rattle.memory_map.proofs.Parts.{apart_of}
-use Rattle.runtime_code.proofs.Layouts.{places_are_in_fram}
-use Rattle.stands_for.proofs.Starts.{each_weaker}
-use Rattle.task_attempts.specs.Laws.{IsBelowCode}
-use Rattle.task_attempts.proofs.Theorems.{stores_below_code}
-use Rattle.compiled_bounds.specs.Laws.{KeepsCapacities, CountsFit, AttemptsFit}
-use Rattle.compiled_bounds.proofs.Capacities.{capacities_are_kept}
-use Rattle.compiled_runs.specs.Program.{compiled_program}
-use Rattle.whole_programs.specs.Laws.{IsLaidOutText}
+use Rattle.link_image.specs.cost_bound.declared.allowance.Allow.{Allow}
+use Rattle.link_image.specs.image_text.ImageValue.{ImageValue}
+use Rattle.link_image.specs.fram_board.Board.{fresh}
+use Rattle.link_image.specs.fram_board.Run.{BoardCharge, Moment, RunOutcome}
+use Rattle.link_image.specs.board_run.Charges.{charges_of}
+use Rattle.link_image.specs.machine_effects.Machine.{IsFram, fram_of}
+use Rattle.link_image.specs.machine_effects.Runs.{last_board}
+use Rattle.link_image.specs.source_values.Runs.{CheckedProgram, IsRunnable, first_state}
+use Rattle.link_image.specs.source_meaning.Acceptance.{IsAcceptedText}
+use Rattle.link_image.proofs.source_meaning.Interface.{accepted_texts_run}
+use Rattle.link_image.specs.crash_rules.Laws.{Resting}
+use Rattle.link_image.specs.run_charges.Laws.{IsRunOfWords}
+use Rattle.link_image.specs.memory_map.declared.words.RuntimeWord.TheVariants.{Gate, ListLength, EmitCount}
+use Rattle.link_image.specs.memory_map.MemoryMap.{MemoryMap, word_place}
+use Rattle.link_image.proofs.memory_map.Interface.{apart_of}
+use Rattle.link_image.proofs.runtime_code.Interface.{places_are_in_fram}
+use Rattle.link_image.proofs.stands_for.Interface.{each_weaker}
+use Rattle.compiled_laws.specs.task_attempts.Laws.{IsBelowCode}
+use Rattle.compiled_laws.proofs.task_attempts.Interface.{stores_below_code}
+use Rattle.compiled_laws.specs.compiled_bounds.Laws.{KeepsCapacities, CountsFit, AttemptsFit}
+use Rattle.compiled_laws.proofs.compiled_bounds.Interface.{capacities_are_kept}
+use Rattle.link_image.specs.compiled_runs.Program.{compiled_program}
+use Rattle.link_image.specs.whole_programs.Laws.{IsLaidOutText}
 use Rattle.link_image.specs.Compiled.{IsCompiled}
 use Rattle.link_image.specs.Laws.{fresh_world}
-use Rattle.link_image.proofs.Fresh.{images_are_fresh, zero_at, version}
-use Rattle.ready_sources.proofs.Ready.{sources_are_ready}
+use Rattle.link_image.proofs.Interface.{images_are_fresh, zero_at, version}
+use Rattle.compiled_laws.proofs.Interface.{sources_are_ready}
 use Rattle.image_reports.specs.Laws.{ImagesKeepCapacities}
 use Rattle.image_reports.proofs.Begins.{begins_with_source, run_of_words}
 

@@ -1,20 +1,19 @@
 -- What is known of a run tells of the board behind each front of it.
 use Rattle.std.proofs.Common.{◌≡◌, ℕ, sym, ap, ◌∙◌, subst, List, [], ◌∷◌, ◌++◌, length, append_assoc, append-nil, Ok}
-use Rattle.msp_isa.specs.declared.instructions.Instr.{Instr}
-use Rattle.fram_board.specs.declared.board.Stepped.{Stepped}
-use Rattle.fram_board.specs.Board.{BoardValue, PowerState, IsPowerState, powered, executed, IsNextInstruction}
-use Rattle.fram_board.specs.Effects.{Effect}
-use Rattle.fram_board.specs.Run.{Moment, moment_of, word_list, accepted_by, accepted_words, BoardCharge, RunOutcome}
-use Rattle.machine_effects.specs.World.{accepted_after}
-use Rattle.machine_effects.specs.View.{IsWhole, IsOfWords}
-use Rattle.machine_effects.specs.Runs.{last_board}
-use Rattle.machine_effects.proofs.Worlds.{world_by_its_parts}
-use Rattle.machine_effects.proofs.Words.{power_up_keeps_words}
-use Rattle.crash_rules.specs.History.{History, behind_boot}
-use Rattle.crash_rules.proofs.Observed.{observed_world, observed_taken}
-use Rattle.run_charges.specs.Charges.{behind_action, observed}
-use Rattle.run_charges.specs.Laws.{IsRunOfWords}
-use Rattle.run_charges.proofs.Moments.{IsMomentFrom, PowersUp, Instructs, AreMoments, front_moments, told, whole_after, words_after, words_accepted, words_counted, readings_counted}
+use Rattle.link_image.specs.msp_isa.declared.instructions.Instr.{Instr}
+use Rattle.link_image.specs.fram_board.declared.board.Stepped.{Stepped}
+use Rattle.link_image.specs.fram_board.Board.{BoardValue, PowerState, IsPowerState, powered, executed, IsNextInstruction}
+use Rattle.link_image.specs.fram_board.Effects.{Effect}
+use Rattle.link_image.specs.fram_board.Run.{Moment, moment_of, word_list, accepted_by, accepted_words, BoardCharge, RunOutcome}
+use Rattle.link_image.specs.machine_effects.World.{accepted_after}
+use Rattle.link_image.specs.machine_effects.View.{IsWhole, IsOfWords}
+use Rattle.link_image.specs.machine_effects.Runs.{last_board}
+use Rattle.link_image.proofs.machine_effects.Interface.{world_by_its_parts, power_up_keeps_words}
+use Rattle.link_image.specs.crash_rules.History.{History, behind_boot}
+use Rattle.link_image.proofs.crash_rules.Interface.{observed_world, observed_taken}
+use Rattle.link_image.specs.run_charges.Charges.{behind_action, observed}
+use Rattle.link_image.specs.run_charges.Laws.{IsRunOfWords}
+use Rattle.link_image.proofs.run_charges.Interface.{IsMomentFrom, PowersUp, Instructs, AreMoments, front_moments, told, whole_after, words_after, words_accepted, words_counted, readings_counted}
 
 -- the words accepted and the readings taken are a board's
 pub record Counts (b : BoardValue) (h : History) (ws : List ℕ) : Type 0 where

@@ -1,50 +1,47 @@
 -- Each run of an image of an accepted text keeps the laws.
 use Rattle.std.proofs.Common.{◌≡◌, ℕ, zero, ◌+◌, ◌<◌, ◌≤◌, ◌==◌, Bool, true, false, if◌then◌else◌, refl, sym, ap, ◌∙◌, subst, arith, List, [], ◌++◌, length, drop, All}
-use Rattle.msp_isa.specs.Encoding.{encoding}
-use Rattle.msp_step.specs.Registers.{registers_of}
-use Rattle.image_text.specs.ImageValue.{ImageValue}
-use Rattle.fram_board.specs.Board.{BoardValue, fresh, filled}
-use Rattle.fram_board.specs.Effects.{Effect}
-use Rattle.fram_board.specs.Run.{BoardCharge, Moment, RunOutcome, Run}
-use Rattle.fram_board.proofs.Powers.{fill_is_a_power_state}
-use Rattle.machine_effects.specs.World.{World, fram_after, IsPrefix}
-use Rattle.machine_effects.specs.Going.{going, continued}
-use Rattle.machine_effects.specs.Machine.{fram_of}
-use Rattle.machine_effects.specs.View.{machine_of}
-use Rattle.machine_effects.specs.Runs.{last_board}
-use Rattle.code_forms.specs.Placed.{words_of}
-use Rattle.cost_bound.specs.declared.allowance.Allow.{Allow}
-use Rattle.source_values.specs.Runs.{CheckedProgram, State, first_state}
-use Rattle.source_meaning.specs.Acceptance.{IsAcceptedText}
-use Rattle.source_maps.specs.Maps.{map_of}
-use Rattle.source_runs.proofs.Spans.{read_off}
-use Rattle.memory_map.specs.declared.words.RuntimeWord.TheVariants.{Gate}
-use Rattle.memory_map.specs.MemoryMap.{MemoryMap, word_place}
-use Rattle.runtime_effects.specs.Stages.{commit_effects}
-use Rattle.boot_runtime.specs.Entries.{task_entries}
-use Rattle.boot_runtime.specs.Listing.{privates_in}
-use Rattle.crash_rules.specs.Model.{Model, program_effects, with_commit, script}
-use Rattle.crash_rules.specs.History.{History, first_history}
-use Rattle.crash_rules.specs.Runs.{Program}
-use Rattle.crash_rules.specs.Laws.{Origin, Resting}
-use Rattle.crash_rules.proofs.Lists.{world_fram}
-use Rattle.crash_rules.proofs.Theorems.{never_lost, sent_once, stops_short}
-use Rattle.run_charges.specs.Charges.{ArePowerStates}
-use Rattle.run_charges.specs.Laws.{IsRunOfWords}
-use Rattle.model_runs.specs.Runs.{BearsModel, Progresses}
-use Rattle.model_runs.proofs.Fronts.{AtFront, at_front, is_powered, fronts_are_lawful}
-use Rattle.model_runs.proofs.Ends.{stops_where_short}
-use Rattle.model_runs.proofs.Progress.{makes_progress}
-use Rattle.compiled_model.specs.Places.{program_places}
-use Rattle.compiled_model.specs.Parts.{compiled_model}
-use Rattle.compiled_bounds.proofs.Bounds.{bound_is_the_sources}
-use Rattle.compiled_runs.specs.Program.{source_code, placed_code, compiled_program}
-use Rattle.compiled_runs.proofs.Leaves.{code_is_placed}
-use Rattle.ready_sources.specs.Ready.{IsReadyToRun}
-use Rattle.ready_sources.proofs.Ready.{sources_are_ready}
+use Rattle.link_image.specs.msp_isa.Encoding.{encoding}
+use Rattle.link_image.specs.msp_step.Registers.{registers_of}
+use Rattle.link_image.specs.image_text.ImageValue.{ImageValue}
+use Rattle.link_image.specs.fram_board.Board.{BoardValue, fresh, filled}
+use Rattle.link_image.specs.fram_board.Effects.{Effect}
+use Rattle.link_image.specs.fram_board.Run.{BoardCharge, Moment, RunOutcome, Run}
+use Rattle.link_image.proofs.fram_board.Interface.{fill_is_a_power_state}
+use Rattle.link_image.specs.machine_effects.World.{World, fram_after, IsPrefix}
+use Rattle.link_image.specs.machine_effects.Going.{going, continued}
+use Rattle.link_image.specs.machine_effects.Machine.{fram_of}
+use Rattle.link_image.specs.machine_effects.View.{machine_of}
+use Rattle.link_image.specs.machine_effects.Runs.{last_board}
+use Rattle.link_image.specs.code_forms.Placed.{words_of}
+use Rattle.link_image.specs.cost_bound.declared.allowance.Allow.{Allow}
+use Rattle.link_image.specs.source_values.Runs.{CheckedProgram, State, first_state}
+use Rattle.link_image.specs.source_meaning.Acceptance.{IsAcceptedText}
+use Rattle.link_image.specs.source_maps.Maps.{map_of}
+use Rattle.link_image.proofs.source_runs.Interface.{read_off}
+use Rattle.link_image.specs.memory_map.declared.words.RuntimeWord.TheVariants.{Gate}
+use Rattle.link_image.specs.memory_map.MemoryMap.{MemoryMap, word_place}
+use Rattle.link_image.specs.runtime_effects.Stages.{commit_effects}
+use Rattle.link_image.specs.boot_runtime.Entries.{task_entries}
+use Rattle.link_image.specs.boot_runtime.Listing.{privates_in}
+use Rattle.link_image.specs.crash_rules.Model.{Model, program_effects, with_commit, script}
+use Rattle.link_image.specs.crash_rules.History.{History, first_history}
+use Rattle.link_image.specs.crash_rules.Runs.{Program}
+use Rattle.link_image.specs.crash_rules.Laws.{Origin, Resting}
+use Rattle.link_image.proofs.crash_rules.Interface.{world_fram, never_lost, sent_once, stops_short}
+use Rattle.link_image.specs.run_charges.Charges.{ArePowerStates}
+use Rattle.link_image.specs.run_charges.Laws.{IsRunOfWords}
+use Rattle.link_image.specs.model_runs.Runs.{BearsModel, Progresses}
+use Rattle.link_image.proofs.model_runs.Interface.{AtFront, at_front, is_powered, fronts_are_lawful, stops_where_short, makes_progress}
+use Rattle.link_image.specs.compiled_model.Places.{program_places}
+use Rattle.link_image.specs.compiled_model.Parts.{compiled_model}
+use Rattle.compiled_laws.proofs.compiled_bounds.Interface.{bound_is_the_sources}
+use Rattle.link_image.specs.compiled_runs.Program.{source_code, placed_code, compiled_program}
+use Rattle.link_image.proofs.compiled_runs.Interface.{code_is_placed}
+use Rattle.compiled_laws.specs.Ready.{IsReadyToRun}
+use Rattle.compiled_laws.proofs.Interface.{sources_are_ready}
 use Rattle.link_image.specs.Compiled.{IsCompiled}
 use Rattle.link_image.specs.Laws.{fresh_world, IsFreshImage}
-use Rattle.link_image.proofs.Fresh.{images_are_fresh}
+use Rattle.link_image.proofs.Interface.{images_are_fresh}
 use Rattle.image_reports.specs.ImageLaw.{known_behind, start_due, attempt_due, all_due, VersionsBelow, KeepsCode, FetchesCode, HoldsAt, ImagesKeepTheLaws}
 use Rattle.image_reports.proofs.Begins.{bears, begins_with_source, run_of_states}
 use Rattle.image_reports.proofs.Capacities.{capacities_stay}

@@ -1,16 +1,16 @@
 -- Behind an attempt's start each version word is below VER, whatever FRAM held before.
 use Rattle.std.proofs.Common.{◌≡◌, ℕ, zero, suc, ◌+◌, ◌*◌, ◌<◌, ◌≤◌, List, [], ◌∷◌, ap, ◌∙◌, arith}
-use Rattle.fram_board.specs.Effects.{Effect, Store}
-use Rattle.machine_effects.specs.World.{put, fram_after, EachStore}
-use Rattle.machine_effects.proofs.Worlds.{fram_after-append, put_same, put_other}
-use Rattle.runtime_effects.specs.Places.{CopyPair}
-use Rattle.runtime_effects.specs.Stages.{cleared, opening_effects, copied_in, start_effects}
-use Rattle.crash_rules.specs.Model.{IsElsewhere}
-use Rattle.stands_for.specs.Layout.{ProgramPlaces, ArePrivate}
-use Rattle.stands_for.proofs.Starts.{elsewhere_same}
-use Rattle.memory_map.specs.MemoryMap.{word_place}
-use Rattle.memory_map.specs.declared.words.RuntimeWord.TheVariants.{CurrentTask, ListLength, EmitCount, Version}
-use Rattle.memory_map.specs.Laws.{AreApart}
+use Rattle.link_image.specs.fram_board.Effects.{Effect, Store}
+use Rattle.link_image.specs.machine_effects.World.{put, fram_after, EachStore}
+use Rattle.link_image.proofs.machine_effects.Interface.{fram_after-append, put_same, put_other}
+use Rattle.link_image.specs.runtime_effects.Places.{CopyPair}
+use Rattle.link_image.specs.runtime_effects.Stages.{cleared, opening_effects, copied_in, start_effects}
+use Rattle.link_image.specs.crash_rules.Model.{IsElsewhere}
+use Rattle.link_image.specs.stands_for.Layout.{ProgramPlaces, ArePrivate}
+use Rattle.link_image.proofs.stands_for.Interface.{elsewhere_same}
+use Rattle.link_image.specs.memory_map.MemoryMap.{word_place}
+use Rattle.link_image.specs.memory_map.declared.words.RuntimeWord.TheVariants.{CurrentTask, ListLength, EmitCount, Version}
+use Rattle.link_image.specs.memory_map.Laws.{AreApart}
 
 -- words are cleared from an address on
 cleared_behind : (n p a : ℕ) → a < p → EachStore (IsElsewhere a) (cleared n p)

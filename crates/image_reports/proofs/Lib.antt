@@ -5,3 +5,5 @@ pub mod ImageBoards
 pub mod ImageStart
 pub mod ImageCode
 pub mod ImageLaw
+pub mod Tasks
+pub mod CompiledTold

@@ -1,32 +1,30 @@
 -- The headline.
 use Rattle.std.proofs.Common.{◌<◌, ◌^◌, ℕ, sym, refl, subst, Option, List, All}
-use Rattle.cost_bound.specs.declared.allowance.Allow.{Allow}
-use Rattle.image_map.specs.MapValue.{MapValue}
-use Rattle.image_text.specs.ImageValue.{ImageValue}
-use Rattle.fram_board.specs.Board.{BoardValue, fresh}
-use Rattle.fram_board.specs.Run.{BoardCharge, RunOutcome}
-use Rattle.board_run.specs.Charges.{charges_of}
-use Rattle.board_run.specs.History.{start_with, start_of}
-use Rattle.board_run.specs.Report.{report_of}
-use Rattle.source_values.specs.Runs.{CheckedProgram, IsRunnable}
-use Rattle.source_meaning.specs.Acceptance.{IsAcceptedText}
-use Rattle.source_meaning.proofs.Runnable.{accepted_texts_run}
-use Rattle.run_charges.specs.Laws.{IsRunOfWords}
-use Rattle.model_runs.specs.Runs.{all_amounts}
-use Rattle.compiled_runs.specs.Program.{compiled_program}
-use Rattle.source_runs.specs.Tells.{IsToldBySource}
-use Rattle.source_runs.proofs.Traces.{traces_are_few}
-use Rattle.compiled_reports.specs.Sources.{IsSourcesMap}
-use Rattle.compiled_reports.proofs.Told.{compiled_runs_are_told}
-use Rattle.source_names.proofs.Accepted.{names_are_names}
-use Rattle.source_maps.specs.Maps.{map_of}
-use Rattle.source_maps.specs.Laws.{IsSourceMap}
-use Rattle.source_maps.proofs.Maps.{maps_are_of_sources}
+use Rattle.link_image.specs.cost_bound.declared.allowance.Allow.{Allow}
+use Rattle.link_image.specs.image_map.MapValue.{MapValue}
+use Rattle.link_image.specs.image_text.ImageValue.{ImageValue}
+use Rattle.link_image.specs.fram_board.Board.{BoardValue, fresh}
+use Rattle.link_image.specs.fram_board.Run.{BoardCharge, RunOutcome}
+use Rattle.link_image.specs.board_run.Charges.{charges_of}
+use Rattle.link_image.specs.board_run.History.{start_with, start_of}
+use Rattle.link_image.specs.board_run.Report.{report_of}
+use Rattle.link_image.specs.source_values.Runs.{CheckedProgram, IsRunnable}
+use Rattle.link_image.specs.source_meaning.Acceptance.{IsAcceptedText}
+use Rattle.link_image.proofs.source_meaning.Interface.{accepted_texts_run}
+use Rattle.link_image.specs.run_charges.Laws.{IsRunOfWords}
+use Rattle.link_image.specs.model_runs.Runs.{all_amounts}
+use Rattle.link_image.specs.compiled_runs.Program.{compiled_program}
+use Rattle.link_image.specs.source_runs.Tells.{IsToldBySource}
+use Rattle.link_image.proofs.source_runs.Interface.{traces_are_few}
+use Rattle.image_reports.specs.Sources.{IsSourcesMap}
+use Rattle.image_reports.proofs.CompiledTold.{compiled_runs_are_told}
+use Rattle.link_image.proofs.source_maps.Interface.{names_are_names, maps_are_of_sources}
+use Rattle.link_image.specs.source_maps.Maps.{map_of}
+use Rattle.link_image.specs.source_maps.Laws.{IsSourceMap}
 use Rattle.link_image.specs.Compiled.{IsCompiled}
 use Rattle.link_image.specs.Laws.{fresh_world}
-use Rattle.link_image.proofs.Fresh.{images_are_fresh}
-use Rattle.link_image.proofs.States.{maps_find_states}
-use Rattle.ready_sources.proofs.Ready.{sources_are_ready}
+use Rattle.link_image.proofs.Interface.{images_are_fresh, maps_find_states}
+use Rattle.compiled_laws.proofs.Interface.{sources_are_ready}
 use Rattle.image_reports.specs.Laws.{ImagesAreTold, ImagesAreMapped}
 use Rattle.image_reports.proofs.Begins.{begins_with_source, run_of_words}
 

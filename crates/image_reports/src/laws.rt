@@ -1,6 +1,25 @@
 //! The headline, and the capacities of a run. The functions do nothing: their contracts are the laws.
 
 ghost use Rattle.image_reports.specs.Laws.{ImagesAreMapped, ImagesAreTold, ImagesKeepCapacities};
+ghost use Rattle.link_image.specs.crash_rules.Runs.{Program};
+ghost use Rattle.image_reports.specs.CompiledLaws.{CompiledRunsAreTold, ModelsAreOfSources};
+
+/// The code of a compiled source as the laws see it.
+pub trait Coded {
+    /// Its code.
+    ghost program: { Program };
+}
+
+/// The tasks of a compiled source's model are the source's transitions.
+pub fn models_are_of_sources()
+    ensures { ModelsAreOfSources }
+{}
+
+/// The report of a run of a compiled source is the source's report on the committed readings of its transitions, behind the bound and
+/// before the line that says how it ended; each charge of n bounds that is spent has n transitions.
+pub fn compiled_runs_are_told<S: Coded>()
+    ensures { CompiledRunsAreTold S.program }
+{}
 
 /// The report of the run of an accepted source's image on a trace is the source's report on the committed readings of its
 /// transitions, behind the bound and before the line that says how it ended; the run never ends at a fault, and for want of a reading

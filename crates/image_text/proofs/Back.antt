@@ -8,7 +8,7 @@ use Rattle.text_parts.specs.Fields.{fields, begins_blank}
 use Rattle.text_parts.specs.Groups.{groups, groups_from, onto_group}
 use Rattle.text_parts.specs.Hex.{upper_digit, upper_hex}
 use Rattle.text_parts.specs.Printed.{spaced, printed}
-use Rattle.text_parts.proofs.Printing.{AreWords, fields_spaced, lines_printed, not_blank, upper_inked, digit_upper}
+use Rattle.text_parts.proofs.Interface.{AreWords, fields_spaced, lines_printed, not_blank, upper_inked, digit_upper}
 use Rattle.image_text.specs.Line.{address, bytes, quit, line_says, front_says, fields_say, byte_of, bytes_of, address_of, bytes_said, ◌>>?◌}
 use Rattle.image_text.specs.Memory.{Placed, step}
 use Rattle.image_text.specs.Reading.{read}

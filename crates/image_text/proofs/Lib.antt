@@ -1,12 +1,13 @@
-pub mod Puts
-pub mod Lines
-pub mod Digits
-pub mod Places
-pub mod Back
-pub mod Sections
-pub mod Spread
-pub mod Cuts
-pub mod Printed
-pub mod Apart
-pub mod Placing
-pub mod Meanings
+mod Puts
+mod Lines
+mod Digits
+mod Places
+mod Back
+mod Sections
+mod Spread
+mod Cuts
+mod Printed
+mod Apart
+mod Placing
+mod Meanings
+pub mod Interface

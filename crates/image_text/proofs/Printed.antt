@@ -4,8 +4,7 @@ use Rattle.std.proofs.Common.{append-nil}
 use Rattle.text_parts.specs.Groups.{groups}
 use Rattle.text_parts.specs.Hex.{upper_hex}
 use Rattle.text_parts.specs.Printed.{spaced, printed}
-use Rattle.text_parts.proofs.Printing.{printed_append}
-use Rattle.text_parts.proofs.Pieces.{behind, behind_is}
+use Rattle.text_parts.proofs.Interface.{printed_append, behind, behind_is}
 use Rattle.image_text.specs.Text.{sections, Section, section_lines, lines_of_sections, text_of, upper_hex4, bytes_in, pair_text, tail_text}
 use Rattle.image_text.proofs.Back.{more_words}
 

@@ -4,7 +4,7 @@ use Rattle.std.proofs.Common.{None, append_assoc, length-append}
 use Rattle.std.specs.List.{concat}
 use Rattle.text_parts.specs.Lines.{lines}
 use Rattle.text_parts.specs.Printed.{printed}
-use Rattle.text_parts.proofs.Printing.{lines_printed}
+use Rattle.text_parts.proofs.Interface.{lines_printed}
 use Rattle.image_text.specs.Memory.{Placed, step}
 use Rattle.image_text.specs.Reading.{read, finish}
 use Rattle.image_text.specs.Text.{upper_hex4, bytes_in, Section, section_lines, lines_of_sections}

@@ -8,7 +8,7 @@ use Rattle.image_text.specs.Text.{is_shown, begins_shown, onto_section, sections
 use Rattle.text_parts.specs.Lines.{lines, pieces}
 use Rattle.text_parts.specs.Fields.{fields, no_fields}
 use Rattle.text_parts.specs.Printed.{printed}
-use Rattle.text_parts.proofs.Printing.{AreWords, fields_spaced, lines_printed, printed_append}
+use Rattle.text_parts.proofs.Interface.{AreWords, fields_spaced, lines_printed, printed_append}
 use Rattle.image_map.specs.MapValue.{MapValue}
 use Rattle.image_map.specs.Text.{map_fields, map_text}
 use Rattle.image_text.proofs.Places.{nones}

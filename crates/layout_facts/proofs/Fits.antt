@@ -1,20 +1,20 @@
 -- Names that are used as they were declared fit a task's places.
 use Rattle.std.proofs.Common.{◌≡◌, ℕ, Bool, true, List, subst, sym, Some, None, refl}
 use Rattle.std.proofs.lemmas.Bool.{eq-eqb, or_left, or_right}
-use Rattle.task_ast.specs.declared.SharedDeclaration.{SharedDeclaration}
-use Rattle.task_ast.specs.declared.names.Variable.{Variable}
-use Rattle.task_ast.specs.declared.names.Variable.TheVariants.{Shared, Local}
-use Rattle.task_ast.specs.Tree as t
-use Rattle.task_ast.specs.Paths.{CheckedExpression, CheckedStatement, CheckedChoice, CheckedBlock}
-use Rattle.cost_bound.specs.Counts.{is_shared, statement_assigns, choice_assigns, block_assigns}
-use Rattle.war_analysis.specs.Plans.{IsScalarAt, IsArrayAt}
-use Rattle.lower.specs.Agreement.{IsKnown, IsTarget, IsArray, IsWrittenArray, IsLocal, ExpressionFits, StatementFits, ChoiceFits, BlockFits}
-use Rattle.checked_uses.specs.Uses.{IsWordName, IsArrayName, IsLocalName, ExpressionUses, StatementUses, ChoiceUses, BlockUses}
+use Rattle.compiled_model.specs.task_ast.declared.SharedDeclaration.{SharedDeclaration}
+use Rattle.compiled_model.specs.task_ast.declared.names.Variable.{Variable}
+use Rattle.compiled_model.specs.task_ast.declared.names.Variable.TheVariants.{Shared, Local}
+use Rattle.compiled_model.specs.task_ast.Tree as t
+use Rattle.compiled_model.specs.task_ast.Paths.{CheckedExpression, CheckedStatement, CheckedChoice, CheckedBlock}
+use Rattle.compiled_model.specs.cost_bound.Counts.{is_shared, statement_assigns, choice_assigns, block_assigns}
+use Rattle.compiled_model.specs.war_analysis.Plans.{IsScalarAt, IsArrayAt}
+use Rattle.compiled_model.specs.lower.Agreement.{IsKnown, IsTarget, IsArray, IsWrittenArray, IsLocal, ExpressionFits, StatementFits, ChoiceFits, BlockFits}
+use Rattle.whole_programs.specs.Uses.{IsWordName, IsArrayName, IsLocalName, ExpressionUses, StatementUses, ChoiceUses, BlockUses}
 use Rattle.layout_facts.specs.Laws.{NamesFit}
 use Rattle.layout_facts.proofs.Planned.{scalar_has_place, array_has_place, array_declared, array_extent}
 use Rattle.layout_facts.proofs.Assigned.{stored_has_copies}
-use Rattle.memory_map.specs.Spots.{Places, places_of}
-use Rattle.memory_map.specs.Spots as spots
+use Rattle.compiled_model.specs.memory_map.Spots.{Places, places_of}
+use Rattle.compiled_model.specs.memory_map.Spots as spots
 
 -- what the places have: declared scalars and arrays, and copies of the arrays that are written
 record Have (shared : List SharedDeclaration) (p : Places) (written : ℕ → Bool) : Type 0 where

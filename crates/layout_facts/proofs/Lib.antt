@@ -1,11 +1,22 @@
-pub mod Lists
-pub mod Homes
-pub mod Views
-pub mod Chains
-pub mod Privates
-pub mod Spots
-pub mod Room
-pub mod Planned
-pub mod Assigned
-pub mod Listed
-pub mod Fits
+mod Lists
+mod Homes
+mod Views
+mod Chains
+mod Privates
+mod Spots
+mod Room
+mod Planned
+mod Assigned
+mod Listed
+mod Fits
+pub mod Interface
+pub use Rattle.compiled_model.proofs.memory_map as memory_map
+pub use Rattle.compiled_model.proofs.machine_effects as machine_effects
+pub use Rattle.compiled_model.proofs.crash_rules as crash_rules
+pub use Rattle.compiled_model.proofs.stands_for as stands_for
+pub use Rattle.compiled_model.proofs.war_analysis as war_analysis
+pub use Rattle.compiled_model.proofs.source_values as source_values
+pub use Rattle.whole_programs.proofs.source_meaning as source_meaning
+pub use Rattle.compiled_model.proofs.array_versions as array_versions
+pub use Rattle.compiled_model.proofs.lower as lower
+pub use Rattle.whole_programs.proofs as whole_programs

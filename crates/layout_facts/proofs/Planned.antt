@@ -2,21 +2,21 @@
 use Rattle.std.proofs.Common.{◌≡◌, ℕ, Bool, true, false, List, length, arith, ap, subst, sym, ◌∙◌, Some, None, refl}
 use Rattle.std.specs.Prelude.{Option, is_some, slice_get, IsSomeAnd}
 use Rattle.std.proofs.lemmas.Option.{slice_get_within}
-use Rattle.task_ast.specs.declared.Extent.{Extent}
-use Rattle.task_ast.specs.declared.Extent.TheVariants as extent
-use Rattle.task_ast.specs.declared.SharedDeclaration.{SharedDeclaration}
-use Rattle.cost_bound.specs.declared.allowance.Allow.{Allow}
-use Rattle.cost_bound.specs.Allowance.{CheckedProgram, is_written}
-use Rattle.war_analysis.specs.PlanValue.{TaskPlanValue}
-use Rattle.war_analysis.specs.Plans.{is_scalar, IsScalarAt, IsArrayAt}
-use Rattle.war_analysis.proofs.Steps.{element}
-use Rattle.privatise.specs.Layouts.{IsPlaceOf}
+use Rattle.compiled_model.specs.task_ast.declared.Extent.{Extent}
+use Rattle.compiled_model.specs.task_ast.declared.Extent.TheVariants as extent
+use Rattle.compiled_model.specs.task_ast.declared.SharedDeclaration.{SharedDeclaration}
+use Rattle.compiled_model.specs.cost_bound.declared.allowance.Allow.{Allow}
+use Rattle.compiled_model.specs.cost_bound.Allowance.{CheckedProgram, is_written}
+use Rattle.compiled_model.specs.war_analysis.PlanValue.{TaskPlanValue}
+use Rattle.compiled_model.specs.war_analysis.Plans.{is_scalar, IsScalarAt, IsArrayAt}
+use Rattle.compiled_model.proofs.war_analysis.Interface.{element}
+use Rattle.compiled_model.specs.privatise.Layouts.{IsPlaceOf}
 use Rattle.layout_facts.specs.Facts.{HasLayout}
 use Rattle.layout_facts.specs.Laws.{PlacesAreDeclared, PlacesMatch}
-use Rattle.memory_map.specs.declared.place.ArrayCopies.{ArrayCopies}
-use Rattle.memory_map.specs.declared.place.VariablePlace.{VariablePlace}
-use Rattle.memory_map.specs.declared.place.VariablePlace.TheVariants.{Scalar, Array}
-use Rattle.memory_map.specs.MemoryMap.{MemoryMap}
+use Rattle.compiled_model.specs.memory_map.declared.place.ArrayCopies.{ArrayCopies}
+use Rattle.compiled_model.specs.memory_map.declared.place.VariablePlace.{VariablePlace}
+use Rattle.compiled_model.specs.memory_map.declared.place.VariablePlace.TheVariants.{Scalar, Array}
+use Rattle.compiled_model.specs.memory_map.MemoryMap.{MemoryMap}
 
 -- ---- declarations
 

@@ -5,26 +5,25 @@ use Rattle.std.specs.Option.{option_map}
 use Rattle.std.proofs.lemmas.Bool.{cases_lt}
 use Rattle.std.proofs.lemmas.List.Elements.{All-head, All-tail}
 use Rattle.std.proofs.lemmas.Option.{slice_get-map, slice_get_within, get_or_from_slice_get}
-use Rattle.cost_bound.specs.declared.allowance.Allow.{Allow}
-use Rattle.cost_bound.specs.Allowance.{CheckedProgram, CheckedTask}
-use Rattle.war_analysis.specs.PlanValue.{TaskPlanValue}
-use Rattle.war_analysis.specs.Plans.{IsTaskPlan}
-use Rattle.war_analysis.proofs.Steps.{element}
-use Rattle.runtime_effects.specs.Places.{CopyPair}
-use Rattle.runtime_code.specs.LayoutPlaces.{pair_of}
-use Rattle.boot_runtime.specs.Entries.{entry_of, task_entries}
-use Rattle.boot_runtime.specs.Listing.{TaskEntry, privates_in}
-use Rattle.stands_for.specs.Layout.{IsSharedWord, IsCopyWord, IsAmong, ArePrivate}
+use Rattle.compiled_model.specs.cost_bound.declared.allowance.Allow.{Allow}
+use Rattle.compiled_model.specs.cost_bound.Allowance.{CheckedProgram, CheckedTask}
+use Rattle.compiled_model.specs.war_analysis.PlanValue.{TaskPlanValue}
+use Rattle.compiled_model.specs.war_analysis.Plans.{IsTaskPlan}
+use Rattle.compiled_model.proofs.war_analysis.Interface.{element}
+use Rattle.compiled_model.specs.runtime_effects.Places.{CopyPair}
+use Rattle.compiled_model.specs.runtime_code.LayoutPlaces.{pair_of}
+use Rattle.compiled_model.specs.boot_runtime.Entries.{entry_of, task_entries}
+use Rattle.compiled_model.specs.boot_runtime.Listing.{TaskEntry, privates_in}
+use Rattle.compiled_model.specs.stands_for.Layout.{IsSharedWord, IsCopyWord, IsAmong, ArePrivate}
 use Rattle.compiled_model.specs.Places.{program_places}
 use Rattle.layout_facts.specs.Facts.{HasLayout, IsTaskAt}
 use Rattle.layout_facts.specs.Laws.{PrivatesAreTheirs, ScalarsStand}
 use Rattle.layout_facts.proofs.Homes.{words_of_variables_are_shared}
-use Rattle.memory_map.specs.declared.place.PrivateScalar.{PrivateScalar}
-use Rattle.memory_map.specs.MemoryMap.{MemoryMap, TaskPlace}
-use Rattle.memory_map.specs.Places.{end_of, HasItsPlace, copy_regions, IsLaidOut}
-use Rattle.memory_map.specs.Spots.{IsWordOf}
-use Rattle.memory_map.proofs.InRegions.{IsIn, within, before}
-use Rattle.memory_map.proofs.Addresses.{scalar_copy, scalar_home}
+use Rattle.compiled_model.specs.memory_map.declared.place.PrivateScalar.{PrivateScalar}
+use Rattle.compiled_model.specs.memory_map.MemoryMap.{MemoryMap, TaskPlace}
+use Rattle.compiled_model.specs.memory_map.Places.{end_of, HasItsPlace, copy_regions, IsLaidOut}
+use Rattle.compiled_model.specs.memory_map.Spots.{IsWordOf}
+use Rattle.compiled_model.proofs.memory_map.Interface.{IsIn, within, before, scalar_copy, scalar_home}
 
 -- ---- a scalar and its copy
 

@@ -3,12 +3,12 @@ use Rattle.std.proofs.Common.{◌≡◌, ℕ, zero, suc, ◌+◌, ◌<◌, ◌�
 use Rattle.std.specs.Prelude.{slice_get, All, AllPairs, ◌==◌, if◌then◌else◌}
 use Rattle.std.proofs.lemmas.Bool.{cases_Bool, eqb-true, eq-eqb, ne_eqb, lt-ltb, le-ltb, cases_lt, cases_eq, cases_order, and_right}
 use Rattle.std.proofs.lemmas.List.Elements.{All-head, All-tail}
-use Rattle.task_ast.specs.declared.Extent.{Extent}
-use Rattle.task_ast.specs.declared.Extent.TheVariants.{Scalar, Array}
-use Rattle.task_ast.specs.declared.SharedDeclaration.{SharedDeclaration}
-use Rattle.cost_bound.specs.Allowance.{shared_sum_from, list_part}
-use Rattle.memory_map.specs.Spots.{Element}
-use Rattle.lower.specs.Spots.{listed_of, AreDifferent}
+use Rattle.compiled_model.specs.task_ast.declared.Extent.{Extent}
+use Rattle.compiled_model.specs.task_ast.declared.Extent.TheVariants.{Scalar, Array}
+use Rattle.compiled_model.specs.task_ast.declared.SharedDeclaration.{SharedDeclaration}
+use Rattle.compiled_model.specs.cost_bound.Allowance.{shared_sum_from, list_part}
+use Rattle.compiled_model.specs.memory_map.Spots.{Element}
+use Rattle.compiled_model.specs.lower.Spots.{listed_of, AreDifferent}
 
 -- 1 where a test holds
 abbrev bit : Bool → ℕ

@@ -1,10 +1,8 @@
 -- The words that a task works on stand apart, behind what it lists and emits.
 use Rattle.std.proofs.Common.{◌≡◌, ℕ, ◌+◌, ◌-◌, ◌*◌, ◌/◌, ◌%◌, ◌<◌, ◌≤◌, arith}
-use Rattle.cost_bound.specs.Counts.{emits_of}
-use Rattle.cost_bound.specs.Allowance.{list_of}
-use Rattle.memory_map.proofs.Parts.{apart_of, even_of, parts_in_fram}
-use Rattle.memory_map.proofs.Addresses.{element_is, copy_is, version_is}
-use Rattle.memory_map.proofs.Spots.{version_between, spots_are_apart}
+use Rattle.compiled_model.specs.cost_bound.Counts.{emits_of}
+use Rattle.compiled_model.specs.cost_bound.Allowance.{list_of}
+use Rattle.compiled_model.proofs.memory_map.Interface.{apart_of, even_of, parts_in_fram, element_is, copy_is, version_is, version_between, spots_are_apart}
 use Rattle.layout_facts.specs.Laws.{TaskPlacesAreApart, TaskPlacesAreEven, ElementsStand}
 use Rattle.layout_facts.proofs.Chains.{at_most_greatest}
 use Rattle.layout_facts.proofs.Privates.{privates_of}

@@ -1,13 +1,13 @@
 -- The words of a source's variables, by number and by index.
 use Rattle.std.specs.Prelude.{◌≡◌, ℕ, ◌+◌, ◌*◌, ◌<◌, List, Some, slice_get}
-use Rattle.cost_bound.specs.declared.allowance.Allow.{Allow}
-use Rattle.cost_bound.specs.Counts.{emits_of}
-use Rattle.cost_bound.specs.Allowance.{CheckedProgram, CheckedTask, IsAllowed, list_of}
-use Rattle.war_analysis.specs.PlanValue.{TaskPlanValue}
-use Rattle.war_analysis.specs.Plans.{IsPlan}
-use Rattle.memory_map.specs.MemoryMap.{MemoryMap, TaskPlace}
-use Rattle.privatise.specs.Layouts.{IsLayout}
-use Rattle.lower.specs.Spots.{Room}
+use Rattle.compiled_model.specs.cost_bound.declared.allowance.Allow.{Allow}
+use Rattle.compiled_model.specs.cost_bound.Counts.{emits_of}
+use Rattle.compiled_model.specs.cost_bound.Allowance.{CheckedProgram, CheckedTask, IsAllowed, list_of}
+use Rattle.compiled_model.specs.war_analysis.PlanValue.{TaskPlanValue}
+use Rattle.compiled_model.specs.war_analysis.Plans.{IsPlan}
+use Rattle.compiled_model.specs.memory_map.MemoryMap.{MemoryMap, TaskPlace}
+use Rattle.compiled_model.specs.privatise.Layouts.{IsLayout}
+use Rattle.compiled_model.specs.lower.Spots.{Room}
 
 -- a source costs no more than it may, and has this plan and this layout
 pub record HasLayout (p : CheckedProgram) (allow : Allow) (plans : List TaskPlanValue) (l : MemoryMap) : Type 0 where

@@ -1,28 +1,28 @@
 -- What the layout of a source gives to the layers above.
 use Rattle.std.specs.Prelude.{◌≡◌, ℕ, ◌+◌, ◌*◌, ◌<◌, true, false, Option, Some, is_some, List, [], length, map, AllPairs, Contains, slice_get, slice_index, slice_index_or}
-use Rattle.task_ast.specs.declared.Extent.TheVariants as extent
-use Rattle.task_ast.specs.declared.SharedDeclaration.{SharedDeclaration}
-use Rattle.cost_bound.specs.declared.allowance.Allow.{Allow}
-use Rattle.cost_bound.specs.Counts.{stores_of, block_assigns}
-use Rattle.cost_bound.specs.Allowance.{CheckedProgram, CheckedTask, is_written, scalars_of}
-use Rattle.war_analysis.specs.PlanValue.{TaskPlanValue}
-use Rattle.war_analysis.specs.Plans.{IsPrivateIn, IsVersionedIn}
-use Rattle.war_analysis.specs.Plans as plan
-use Rattle.memory_map.specs.declared.place.ArrayCopies.{ArrayCopies}
-use Rattle.memory_map.specs.declared.place.VariablePlace.{VariablePlace}
-use Rattle.memory_map.specs.declared.place.VariablePlace.TheVariants.{Scalar, Array}
-use Rattle.memory_map.specs.declared.place.PrivateScalar.{PrivateScalar}
-use Rattle.memory_map.specs.MemoryMap.{MemoryMap, TaskPlace}
-use Rattle.memory_map.specs.Places.{HasItsPlace}
-use Rattle.boot_runtime.specs.Entries.{task_entries}
-use Rattle.boot_runtime.specs.Listing.{privates_in}
-use Rattle.memory_map.specs.Laws.{AreApart}
-use Rattle.stands_for.specs.Layout.{HaveRoom, ArePrivate, IsSharedWord, IsCopyWord}
-use Rattle.memory_map.specs.Spots.{places_of, address_of, Element, IsElement, IsCopied, IsScalarAt, element_address, copy_address, version_address, IsWordOf}
-use Rattle.lower.specs.Spots.{HasRoom}
-use Rattle.lower.specs.Spots as spots
-use Rattle.lower.specs.Agreement.{place_length, BlockFits}
-use Rattle.checked_uses.specs.Uses.{BlockUses}
+use Rattle.compiled_model.specs.task_ast.declared.Extent.TheVariants as extent
+use Rattle.compiled_model.specs.task_ast.declared.SharedDeclaration.{SharedDeclaration}
+use Rattle.compiled_model.specs.cost_bound.declared.allowance.Allow.{Allow}
+use Rattle.compiled_model.specs.cost_bound.Counts.{stores_of, block_assigns}
+use Rattle.compiled_model.specs.cost_bound.Allowance.{CheckedProgram, CheckedTask, is_written, scalars_of}
+use Rattle.compiled_model.specs.war_analysis.PlanValue.{TaskPlanValue}
+use Rattle.compiled_model.specs.war_analysis.Plans.{IsPrivateIn, IsVersionedIn}
+use Rattle.compiled_model.specs.war_analysis.Plans as plan
+use Rattle.compiled_model.specs.memory_map.declared.place.ArrayCopies.{ArrayCopies}
+use Rattle.compiled_model.specs.memory_map.declared.place.VariablePlace.{VariablePlace}
+use Rattle.compiled_model.specs.memory_map.declared.place.VariablePlace.TheVariants.{Scalar, Array}
+use Rattle.compiled_model.specs.memory_map.declared.place.PrivateScalar.{PrivateScalar}
+use Rattle.compiled_model.specs.memory_map.MemoryMap.{MemoryMap, TaskPlace}
+use Rattle.compiled_model.specs.memory_map.Places.{HasItsPlace}
+use Rattle.compiled_model.specs.boot_runtime.Entries.{task_entries}
+use Rattle.compiled_model.specs.boot_runtime.Listing.{privates_in}
+use Rattle.compiled_model.specs.memory_map.Laws.{AreApart}
+use Rattle.compiled_model.specs.stands_for.Layout.{HaveRoom, ArePrivate, IsSharedWord, IsCopyWord}
+use Rattle.compiled_model.specs.memory_map.Spots.{places_of, address_of, Element, IsElement, IsCopied, IsScalarAt, element_address, copy_address, version_address, IsWordOf}
+use Rattle.compiled_model.specs.lower.Spots.{HasRoom}
+use Rattle.compiled_model.specs.lower.Spots as spots
+use Rattle.compiled_model.specs.lower.Agreement.{place_length, BlockFits}
+use Rattle.whole_programs.specs.Uses.{BlockUses}
 use Rattle.compiled_model.specs.Places.{program_places}
 use Rattle.compiled_model.specs.View.{shared_word, are_rows}
 use Rattle.layout_facts.specs.Facts.{HasLayout, IsTaskAt, task_room}

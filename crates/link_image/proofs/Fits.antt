@@ -4,8 +4,8 @@ use Rattle.std.specs.Prelude.{slice_get}
 use Rattle.std.proofs.lemmas.Option.{slice_get_within, slice_get-get_or}
 use Rattle.std.proofs.lemmas.List.{length-map}
 use Rattle.task_ast.specs.declared.SharedDeclaration.{SharedDeclaration}
-use Rattle.cost_bound.specs.declared.allowance.Allow.{Allow}
-use Rattle.cost_bound.specs.Allowance.{CheckedTask, CheckedProgram, IsAllowed, scalars_of}
+use Rattle.linked_code.specs.cost_bound.declared.allowance.Allow.{Allow}
+use Rattle.linked_code.specs.cost_bound.Allowance.{CheckedTask, CheckedProgram, IsAllowed, scalars_of}
 use Rattle.war_analysis.specs.PlanValue.{TaskPlanValue}
 use Rattle.war_analysis.specs.Plans.{IsPlan}
 use Rattle.war_analysis.specs.Laws.{ScalarsAreCounted}

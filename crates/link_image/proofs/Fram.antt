@@ -4,13 +4,13 @@ use Rattle.std.specs.Prelude.{All}
 use Rattle.std.proofs.lemmas.Bool.Decides.{nat_tests}
 use Rattle.address_space.specs.Limits.{fram_first}
 use Rattle.image_text.specs.ImageValue.{place_of}
-use Rattle.fram_board.specs.Bus.{is_fram}
-use Rattle.machine_effects.specs.Machine.{IsFram, fram_of}
-use Rattle.code_forms.specs.Placed.{Holds}
+use Rattle.linked_code.specs.fram_board.Bus.{is_fram}
+use Rattle.linked_code.specs.machine_effects.Machine.{IsFram, fram_of}
+use Rattle.linked_code.specs.code_forms.Placed.{Holds}
 use Rattle.memory_map.specs.declared.place.Region.{Region}
 use Rattle.memory_map.specs.declared.place.VariablePlace.{VariablePlace}
 use Rattle.memory_map.specs.Places.{end_of, home_region, AreInOrder}
-use Rattle.compiled_model.specs.View.{is_within, word_of_row, shared_word}
+use Rattle.compiled_runs.specs.compiled_model.View.{is_within, word_of_row, shared_word}
 
 -- ---- words by addresses
 

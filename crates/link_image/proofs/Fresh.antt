@@ -2,27 +2,27 @@
 use Rattle.std.proofs.Common.{◌≡◌, ◌≢◌, ℕ, zero, suc, ◌+◌, ◌-◌, ◌*◌, ◌/◌, ◌%◌, ◌<◌, ◌≤◌, ◌==◌, ◌&&◌, nat_le, nat_lt, if◌then◌else◌, cond, ne_eqb, refl, sym, ap, ap₂, ◌∙◌, subst, arith, true, false, List, [], ◌∷◌, length, map, All}
 use Rattle.std.proofs.lemmas.Bool.Decides.{nat_tests}
 use Rattle.std.specs.Prelude.{slice_index}
-use Rattle.cost_bound.specs.declared.allowance.Allow.{Allow}
-use Rattle.source_values.specs.Runs.{CheckedProgram, IsRunnable, first_state, initial_rows}
+use Rattle.linked_code.specs.cost_bound.declared.allowance.Allow.{Allow}
+use Rattle.whole_programs.specs.source_values.Runs.{CheckedProgram, IsRunnable, first_state, initial_rows}
 use Rattle.source_meaning.specs.Acceptance.{IsAcceptedText}
-use Rattle.source_meaning.proofs.Runnable.{accepted_texts_run}
+use Rattle.source_meaning.proofs.Interface.{accepted_texts_run}
 use Rattle.image_text.specs.ImageValue.{ImageValue, place_of}
-use Rattle.fram_board.specs.Bus.{is_fram}
-use Rattle.machine_effects.specs.World.{World}
-use Rattle.machine_effects.specs.Machine.{IsFram, fram_of}
-use Rattle.machine_effects.proofs.Words.{index_small}
-use Rattle.code_forms.specs.Placed.{words_of, Holds}
-use Rattle.stands_for.specs.Layout.{IsSharedWord}
-use Rattle.stands_for.specs.StandsFor.{HoldsWords, RestsAt}
-use Rattle.array_versions.proofs.Words.{zero_unless}
+use Rattle.linked_code.specs.fram_board.Bus.{is_fram}
+use Rattle.linked_code.specs.machine_effects.World.{World}
+use Rattle.linked_code.specs.machine_effects.Machine.{IsFram, fram_of}
+use Rattle.linked_code.proofs.machine_effects.Interface.{index_small}
+use Rattle.linked_code.specs.code_forms.Placed.{words_of, Holds}
+use Rattle.compiled_runs.specs.stands_for.Layout.{IsSharedWord}
+use Rattle.compiled_runs.specs.stands_for.StandsFor.{HoldsWords, RestsAt}
+use Rattle.array_versions.proofs.Interface.{zero_unless}
 use Rattle.lower.specs.Lowered.{lowered}
 use Rattle.layout_facts.specs.Facts.{HasLayout}
-use Rattle.layout_facts.proofs.Assigned.{tasks_match}
+use Rattle.layout_facts.proofs.Interface.{tasks_match}
 use Rattle.linked_code.specs.Linked.{linked, CodeFits}
-use Rattle.linked_code.proofs.Linked.{linked_is_code}
-use Rattle.compiled_model.specs.Places.{program_places}
-use Rattle.compiled_model.specs.View.{is_within, word_of_row, shared_word, state_view}
-use Rattle.compiled_runs.proofs.Fits.{sources_have_room}
+use Rattle.linked_code.proofs.Interface.{linked_is_code}
+use Rattle.compiled_runs.specs.compiled_model.Places.{program_places}
+use Rattle.compiled_runs.specs.compiled_model.View.{is_within, word_of_row, shared_word, state_view}
+use Rattle.compiled_runs.proofs.Interface.{sources_have_room}
 use Rattle.link_image.specs.Words.{code_words, code_region, data_word, image_word, AreImageWords}
 use Rattle.link_image.specs.Compiled.{IsCompiled}
 use Rattle.link_image.specs.Laws.{fresh_world, IsFreshImage, ImagesAreFresh}
@@ -35,8 +35,8 @@ use Rattle.memory_map.specs.declared.place.Region.{Region}
 use Rattle.memory_map.specs.declared.place.VariablePlace.{VariablePlace}
 use Rattle.memory_map.specs.MemoryMap.{MemoryMap, word_place}
 use Rattle.memory_map.specs.Places.{end_of, home_region, AreInOrder, IsLaidOut}
-use Rattle.memory_map.proofs.Parts.{apart_of, even_of}
-use Rattle.runtime_code.proofs.Layouts.{places_are_in_fram}
+use Rattle.memory_map.proofs.Interface.{apart_of, even_of}
+use Rattle.linked_code.proofs.runtime_code.Interface.{places_are_in_fram}
 
 -- words that stand one behind the other
 holds_each : (f : ℕ → ℕ) (p : ℕ) (ws : List ℕ) → ((k : ℕ) → k < length ws → f (p + 2 * k) ≡ slice_index ws k) → Holds f p ws

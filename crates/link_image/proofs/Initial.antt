@@ -2,19 +2,19 @@
 use Rattle.std.proofs.Common.{◌≡◌, ℕ, zero, suc, ◌+◌, ◌-◌, ◌%◌, ◌<◌, ◌&&◌, ◌==◌, nat_lt, refl, sym, ap, ap₂, ◌∙◌, subst, arith, Bool, true, false, List, [], ◌∷◌, ◌++◌, length, map, replicate, All}
 use Rattle.std.proofs.lemmas.List.Elements.{All-nil, All-cons, All-head, All-tail}
 use Rattle.std.proofs.lemmas.Bool.Decides.{nat_tests}
-use Rattle.alp_words.specs.Words.{IsWord}
+use Rattle.linked_code.specs.alp_words.Words.{IsWord}
 use Rattle.task_ast.specs.declared.SharedDeclaration.{SharedDeclaration}
 use Rattle.task_ast.specs.declared.Extent.{Extent}
 use Rattle.task_ast.specs.declared.Extent.TheVariants as extent
-use Rattle.task_lex.specs.declared.token.Token.{Token}
-use Rattle.task_lex.specs.Lex.{depth_after}
-use Rattle.task_parse.specs.Grammar.{Row, IsExtent, IsShared, IsProgram, negated}
-use Rattle.task_parse.specs.Parsed.{Program}
-use Rattle.task_parse.specs.Grammar as grammar
-use Rattle.source_values.specs.Runs.{CheckedProgram, initial_words, initial_rows}
+use Rattle.linked_code.specs.task_lex.declared.token.Token.{Token}
+use Rattle.linked_code.specs.task_lex.Lex.{depth_after}
+use Rattle.whole_programs.specs.task_parse.Grammar.{Row, IsExtent, IsShared, IsProgram, negated}
+use Rattle.whole_programs.specs.task_parse.Parsed.{Program}
+use Rattle.whole_programs.specs.task_parse.Grammar as grammar
+use Rattle.whole_programs.specs.source_values.Runs.{CheckedProgram, initial_words, initial_rows}
 use Rattle.source_meaning.specs.Acceptance.{Checks}
-use Rattle.stack_needs.proofs.Tokens.{AreSound, are_sound}
-use Rattle.compiled_model.specs.View.{are_words, are_rows}
+use Rattle.whole_programs.proofs.Interface.{AreSound, are_sound}
+use Rattle.compiled_runs.specs.compiled_model.View.{are_words, are_rows}
 
 -- tokens with words for numbers
 abbrev HaveWords : List Token → Type 0

@@ -2,22 +2,22 @@
 use Rattle.std.proofs.Common.{◌≡◌, ◌∙◌, ◌+◌, ◌-◌, ◌*◌, ◌/◌, ◌%◌, ◌<◌, ◌≤◌, ◌==◌, ◌&&◌, ℕ, zero, suc, Bool, true, false, cond, if◌then◌else◌, List, [], ◌∷◌, map, drop, length, replicate, refl, sym, ap, subst, arith, eqb-true, slice_index, get_or}
 use Rattle.std.proofs.lemmas.Bool.Decides.{nat_tests}
 use Rattle.std.proofs.lemmas.List.{at_drop_more}
-use Rattle.machine_effects.proofs.Views.{zeros_at}
+use Rattle.linked_code.proofs.machine_effects.Interface.{zeros_at}
 use Rattle.task_ast.specs.declared.Extent.{Extent}
 use Rattle.task_ast.specs.declared.SharedDeclaration.{SharedDeclaration}
 use Rattle.image_text.specs.ImageValue.{place_of, zeros}
-use Rattle.fram_board.specs.Bus.{is_fram}
-use Rattle.machine_effects.specs.Machine.{fram_of}
+use Rattle.linked_code.specs.fram_board.Bus.{is_fram}
+use Rattle.linked_code.specs.machine_effects.Machine.{fram_of}
 use Rattle.task_ast.specs.declared.Extent.TheVariants as extent
-use Rattle.source_values.specs.Runs.{initial_words}
+use Rattle.whole_programs.specs.source_values.Runs.{initial_words}
 use Rattle.address_space.specs.Limits.{fram_first, reset_vector}
 use Rattle.memory_map.specs.declared.place.Region.{Region}
 use Rattle.memory_map.specs.declared.place.VariablePlace.{VariablePlace}
 use Rattle.memory_map.specs.declared.place.VariablePlace.TheVariants.{Scalar, Array}
 use Rattle.memory_map.specs.MemoryMap.{MemoryMap}
 use Rattle.memory_map.specs.Places.{end_of, home_region, AreInOrder, IsLaidOut}
-use Rattle.memory_map.proofs.Parts.{parts_in_fram}
-use Rattle.compiled_model.specs.View.{is_within, word_of_row, shared_word}
+use Rattle.memory_map.proofs.Interface.{parts_in_fram}
+use Rattle.compiled_runs.specs.compiled_model.View.{is_within, word_of_row, shared_word}
 use Rattle.source_maps.specs.Placing.{IsOfKind, ArePlacesOf}
 use Rattle.link_image.specs.Initial.{initial_put}
 use Rattle.link_image.specs.Words.{AreWords}

@@ -1,7 +1,7 @@
 -- A source with its plan and its layout is ready to be linked.
 use Rattle.std.proofs.Common.{ℕ, List, arith}
-use Rattle.cost_bound.specs.declared.allowance.Allow.{Allow}
-use Rattle.source_values.specs.Runs.{CheckedProgram, IsRunnable}
+use Rattle.linked_code.specs.cost_bound.declared.allowance.Allow.{Allow}
+use Rattle.whole_programs.specs.source_values.Runs.{CheckedProgram, IsRunnable}
 use Rattle.source_meaning.specs.Acceptance.{IsAcceptedText}
 use Rattle.war_analysis.specs.PlanValue.{TaskPlanValue}
 use Rattle.war_analysis.specs.Plans.{IsPlan}
@@ -11,7 +11,7 @@ use Rattle.privatise.specs.Layouts.{IsLayout}
 use Rattle.lower.specs.Sizes.{BlocksKeepToWords}
 use Rattle.linked_code.specs.Rooms.{LayoutsHaveRoom}
 use Rattle.whole_programs.specs.Laws.{ProgramsAreWhole}
-use Rattle.source_names.specs.Names.{NamesAreNames}
+use Rattle.source_maps.specs.Names.{NamesAreNames}
 use Rattle.source_maps.specs.Laws.{MapsAreOfSources}
 use Rattle.link_image.specs.Needs.{IsReadyToLink}
 use Rattle.link_image.proofs.Fits.{code_fits}

@@ -5,14 +5,14 @@ use Rattle.std.specs.Prelude.{slice_get, slice_index, slice_index_or}
 use Rattle.std.proofs.lemmas.Bool.{and_parts}
 use Rattle.task_ast.specs.declared.SharedDeclaration.{SharedDeclaration}
 use Rattle.task_ast.specs.declared.Extent.{Extent}
-use Rattle.board_run.specs.History.{SharedWord, array_words, variable_words}
+use Rattle.source_maps.specs.board_run.History.{SharedWord, array_words, variable_words}
 use Rattle.task_ast.specs.declared.Extent.TheVariants as extent
-use Rattle.source_values.specs.Runs.{initial_words}
-use Rattle.machine_effects.specs.World.{World}
-use Rattle.run_events.specs.Events.{world_values}
-use Rattle.source_events.specs.Naming.{length_of}
-use Rattle.source_events.specs.Transitions.{rows_in}
-use Rattle.compiled_model.specs.View.{are_words, are_rows}
+use Rattle.whole_programs.specs.source_values.Runs.{initial_words}
+use Rattle.linked_code.specs.machine_effects.World.{World}
+use Rattle.source_maps.specs.model_runs.Events.{world_values}
+use Rattle.source_maps.specs.source_runs.Naming.{length_of}
+use Rattle.source_maps.specs.source_runs.Transitions.{rows_in}
+use Rattle.compiled_runs.specs.compiled_model.View.{are_words, are_rows}
 use Rattle.source_maps.specs.Maps.{variable_of, variables_of}
 use Rattle.source_maps.specs.Placing.{IsOfKind}
 use Rattle.memory_map.specs.declared.place.VariablePlace.{VariablePlace}

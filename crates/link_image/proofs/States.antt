@@ -3,25 +3,24 @@ use Rattle.std.proofs.Common.{◌≡◌, ℕ, ◌+◌, ◌*◌, ◌<◌, refl, �
 use Rattle.std.specs.Prelude.{slice_get, slice_index_or}
 use Rattle.task_ast.specs.declared.SharedDeclaration.{SharedDeclaration}
 use Rattle.task_ast.specs.declared.Extent.{Extent}
-use Rattle.cost_bound.specs.declared.allowance.Allow.{Allow}
-use Rattle.cost_bound.specs.Allowance.{is_written}
-use Rattle.source_values.specs.Runs.{CheckedProgram, State}
+use Rattle.linked_code.specs.cost_bound.declared.allowance.Allow.{Allow}
+use Rattle.linked_code.specs.cost_bound.Allowance.{is_written}
+use Rattle.whole_programs.specs.source_values.Runs.{CheckedProgram, State}
 use Rattle.war_analysis.specs.PlanValue.{TaskPlanValue}
 use Rattle.memory_map.specs.declared.place.VariablePlace.{VariablePlace}
 use Rattle.memory_map.specs.declared.place.VariablePlace.TheVariants.{Scalar, Array}
 use Rattle.memory_map.specs.MemoryMap.{MemoryMap}
 use Rattle.memory_map.specs.Places.{home_region}
-use Rattle.machine_effects.specs.World.{World}
-use Rattle.stands_for.specs.StandsFor.{RestsAt}
-use Rattle.source_events.specs.Transitions.{HasWordsOf}
-use Rattle.compiled_model.specs.Places.{program_places}
-use Rattle.compiled_model.specs.View.{state_view}
+use Rattle.linked_code.specs.machine_effects.World.{World}
+use Rattle.compiled_runs.specs.stands_for.StandsFor.{RestsAt}
+use Rattle.source_maps.specs.source_runs.Transitions.{HasWordsOf}
+use Rattle.compiled_runs.specs.compiled_model.Places.{program_places}
+use Rattle.compiled_runs.specs.compiled_model.View.{state_view}
 use Rattle.memory_map.specs.Spots.{IsWordOf}
 use Rattle.layout_facts.specs.Facts.{HasLayout}
-use Rattle.layout_facts.proofs.Homes.{words_of_variables_are_shared}
-use Rattle.layout_facts.proofs.Views.{view_has_their_words}
+use Rattle.layout_facts.proofs.Interface.{words_of_variables_are_shared, view_has_their_words}
 use Rattle.source_maps.specs.Maps.{map_of}
-use Rattle.source_maps.proofs.Places.{of_kind}
+use Rattle.source_maps.proofs.Interface.{of_kind}
 use Rattle.link_image.specs.Laws.{MapsFindStates}
 use Rattle.link_image.proofs.Rows.{RowStands, all_rows}
 

@@ -4,10 +4,10 @@ use Rattle.std.specs.Prelude.{All}
 use Rattle.std.proofs.lemmas.List.{at_drop_more}
 use Rattle.msp_isa.specs.declared.instructions.Instr.{Instr}
 use Rattle.msp_isa.specs.Encoding.{encoding}
-use Rattle.code_forms.specs.Forms.{Form}
-use Rattle.code_forms.specs.Placed.{instructions, words_of}
-use Rattle.code_forms.proofs.Placed.{instructions-append}
-use Rattle.runtime_code.proofs.Sizes.{code_bytes}
+use Rattle.linked_code.specs.code_forms.Forms.{Form}
+use Rattle.linked_code.specs.code_forms.Placed.{instructions, words_of}
+use Rattle.linked_code.proofs.code_forms.Interface.{instructions-append}
+use Rattle.linked_code.proofs.runtime_code.Interface.{code_bytes}
 use Rattle.array_versions.specs.Program.{Program}
 use Rattle.array_versions.specs.View.{program_of}
 use Rattle.array_versions.specs.Form.{IsWhole}
@@ -17,10 +17,10 @@ use Rattle.array_versions.specs.declared.program.WordProgram.{WordProgram}
 use Rattle.codegen.specs.Code.{repeated}
 use Rattle.memory_map.specs.MemoryMap.{MemoryMap, TaskPlace}
 use Rattle.memory_map.specs.Places.{end_of}
-use Rattle.memory_map.proofs.Parts.{apart_of, even_of}
+use Rattle.memory_map.proofs.Interface.{apart_of, even_of}
 use Rattle.linked_code.specs.Parts.{filler, CodePart, part_end, chained, PartsInOrder}
 use Rattle.linked_code.specs.Linked.{boot_part, commit_part, task_part, task_parts, linked, ProgramsFit, CodeFits}
-use Rattle.linked_code.proofs.Linked.{in_order}
+use Rattle.linked_code.proofs.Interface.{in_order}
 
 -- the words of forms
 abbrev pub words_in : List Form → List ℕ

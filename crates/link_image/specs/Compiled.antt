@@ -1,7 +1,7 @@
 -- The image of an accepted source.
 use Rattle.std.specs.Prelude.{◌≡◌, ℕ, List, All, Some}
-use Rattle.cost_bound.specs.declared.allowance.Allow.{Allow}
-use Rattle.source_values.specs.Runs.{CheckedProgram}
+use Rattle.linked_code.specs.cost_bound.declared.allowance.Allow.{Allow}
+use Rattle.whole_programs.specs.source_values.Runs.{CheckedProgram}
 use Rattle.war_analysis.specs.PlanValue.{TaskPlanValue}
 use Rattle.war_analysis.specs.Plans.{IsPlan}
 use Rattle.memory_map.specs.MemoryMap.{MemoryMap}

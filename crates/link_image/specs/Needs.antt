@@ -1,12 +1,12 @@
 -- What an image is made from: an accepted source with its plan and its layout.
 use Rattle.std.specs.Prelude.{◌≡◌, ◌<◌, ℕ, List, All, length}
-use Rattle.cost_bound.specs.declared.allowance.Allow.{Allow}
-use Rattle.source_values.specs.Runs.{CheckedProgram}
+use Rattle.linked_code.specs.cost_bound.declared.allowance.Allow.{Allow}
+use Rattle.whole_programs.specs.source_values.Runs.{CheckedProgram}
 use Rattle.memory_map.specs.MemoryMap.{MemoryMap}
 use Rattle.array_versions.specs.Form.{IsWhole, OfWords}
 use Rattle.lower.specs.Lowered.{lowered}
 use Rattle.linked_code.specs.Linked.{CodeFits}
-use Rattle.source_names.specs.Names.{HasNames}
+use Rattle.source_maps.specs.Names.{HasNames}
 use Rattle.source_maps.specs.Laws.{IsSourceMap}
 
 -- its code has room, its programs are whole, its names can be a map's, and it has a task

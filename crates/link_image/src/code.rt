@@ -1,7 +1,7 @@
 //! The words of the code.
 ghost use Rattle.std.specs.Prelude.{◌≡◌, ◌+◌, ◌-◌, ◌*◌, ◌/◌, ◌%◌, ◌≤◌, ◌++◌, ◌∷◌, [], ℕ, All, IfOk, OnOk, length, map};
 ghost use Rattle.address_space.specs.Limits.{fram_first, reset_vector};
-ghost use Rattle.code_forms.specs.Placed.{instructions, words_of};
+ghost use Rattle.linked_code.specs.code_forms.Placed.{instructions, words_of};
 ghost use Rattle.array_versions.specs.View.{program_of};
 ghost use Rattle.array_versions.specs.Form.{IsWhole};
 ghost use Rattle.codegen.specs.Code.{repeated, code_of};

@@ -2,12 +2,12 @@
 ghost use Rattle.std.specs.Prelude.{◌≡◌, ◌+◌, ◌-◌, ◌*◌, ◌/◌, ◌%◌, ◌==◌, ◌≤◌, ℕ, All, length, map, if◌then◌else◌, slice_index};
 ghost use Rattle.address_space.specs.Limits.{fram_first, reset_vector};
 ghost use Rattle.image_text.specs.ImageValue.{zeros};
-ghost use Rattle.machine_effects.specs.Machine.{IsFram, fram_of};
-ghost use Rattle.source_values.specs.Runs.{initial_words};
+ghost use Rattle.linked_code.specs.machine_effects.Machine.{IsFram, fram_of};
+ghost use Rattle.whole_programs.specs.source_values.Runs.{initial_words};
 ghost use Rattle.memory_map.specs.MemoryMap.{word_place};
 ghost use Rattle.memory_map.specs.declared.words.RuntimeWord.TheVariants.{CurrentTask};
 ghost use Rattle.memory_map.specs.Places.{home_region, AreInOrder};
-ghost use Rattle.compiled_model.specs.View.{is_within, shared_word};
+ghost use Rattle.compiled_runs.specs.compiled_model.View.{is_within, shared_word};
 ghost use Rattle.source_maps.specs.Placing.{ArePlacesOf};
 ghost use Rattle.link_image.specs.Initial.{initial_put};
 ghost use Rattle.link_image.specs.Words.{AreWords};

@@ -1,4 +1,12 @@
-pub mod Parts
-pub mod Linked
-pub mod Rooms
-pub mod Stretches
+mod Parts
+mod Linked
+mod Rooms
+mod Stretches
+pub mod Interface
+pub use Rattle.boot_runtime.proofs.memory_map as memory_map
+pub use Rattle.boot_runtime.proofs.fram_board as fram_board
+pub use Rattle.boot_runtime.proofs.machine_effects as machine_effects
+pub use Rattle.boot_runtime.proofs.code_forms as code_forms
+pub use Rattle.boot_runtime.proofs.war_analysis as war_analysis
+pub use Rattle.codegen.proofs.array_versions as array_versions
+pub use Rattle.boot_runtime.proofs.runtime_code as runtime_code

@@ -1,23 +1,22 @@
 -- The code of a compiled source, from what its layout gives.
 use Rattle.std.proofs.Common.{◌≡◌, ℕ, zero, suc, ◌+◌, ◌*◌, ◌≤◌, List, [], ◌∷◌, length, map, Some, slice_get, arith, subst}
-use Rattle.machine_effects.specs.Machine.{Code}
-use Rattle.code_forms.specs.Placed.{placed, words_of}
-use Rattle.code_forms.proofs.Placed.{forms_stand, placed_is_tidy}
-use Rattle.runtime_code.proofs.Sizes.{code_bytes}
-use Rattle.array_versions.specs.Program.{Program}
-use Rattle.codegen.proofs.Lengths.{code_length}
-use Rattle.codegen.proofs.Instructions.{code_are}
-use Rattle.runtime_code.specs.Addresses.{start_address}
+use Rattle.boot_runtime.specs.machine_effects.Machine.{Code}
+use Rattle.boot_runtime.specs.code_forms.Placed.{placed, words_of}
+use Rattle.boot_runtime.proofs.code_forms.Interface.{forms_stand, placed_is_tidy}
+use Rattle.boot_runtime.proofs.runtime_code.Interface.{code_bytes}
+use Rattle.codegen.specs.array_versions.Program.{Program}
+use Rattle.codegen.proofs.Interface.{code_length, code_are}
+use Rattle.boot_runtime.specs.runtime_code.Addresses.{start_address}
 use Rattle.boot_runtime.specs.Entries.{task_entries}
-use Rattle.boot_runtime.proofs.Words.{boot_is_short, boot_is_code}
-use Rattle.commit_runtime.proofs.Words.{commit_is_short, commit_is_code}
+use Rattle.boot_runtime.proofs.Interface.{boot_is_short, boot_is_code}
+use Rattle.commit_runtime.proofs.Interface.{commit_is_short, commit_is_code}
 use Rattle.linked_code.specs.Parts.{part_end, PartsInOrder}
 use Rattle.linked_code.specs.Linked.{boot_part, commit_part, task_part, task_parts, code_parts, linked_forms, linked, ProgramsFit, CodeFits}
 use Rattle.linked_code.specs.Laws.{LinkedIsCode, LinkedStands, PartStands}
 use Rattle.linked_code.proofs.Parts.{chained_end, AllStand, chained_stands, AllAre, chained_are, from_before}
-use Rattle.memory_map.specs.MemoryMap.{MemoryMap, TaskPlace}
-use Rattle.memory_map.specs.Places.{end_of, AreInOrder}
-use Rattle.memory_map.proofs.Parts.{apart_of, even_of}
+use Rattle.boot_runtime.specs.memory_map.MemoryMap.{MemoryMap, TaskPlace}
+use Rattle.boot_runtime.specs.memory_map.Places.{end_of, AreInOrder}
+use Rattle.boot_runtime.proofs.memory_map.Interface.{apart_of, even_of}
 
 tasks_in_order : (from : ℕ) (ts : List TaskPlace) (ps : List Program) (end : ℕ) → AreInOrder from (map (λ t. t.code) ts) end → ProgramsFit ts ps
     → PartsInOrder from (task_parts ts ps) end

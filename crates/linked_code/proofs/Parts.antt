@@ -1,13 +1,12 @@
 -- Parts in order, with filler between them.
 use Rattle.std.proofs.Common.{◌≡◌, ℕ, zero, suc, ◌+◌, ◌-◌, ◌*◌, ◌/◌, ◌%◌, ◌≤◌, List, [], ◌∷◌, ◌++◌, refl, arith, subst}
-use Rattle.machine_effects.specs.Machine.{Code}
-use Rattle.code_forms.specs.Forms.{Form}
-use Rattle.code_forms.specs.Code.{Stands, forms_bytes}
-use Rattle.code_forms.specs.Placed.{instructions, AreInstructions}
-use Rattle.code_forms.proofs.Blocks.{stands_front, stands_back}
-use Rattle.code_forms.proofs.Placed.{forms_bytes-append}
-use Rattle.codegen.proofs.Registers.{bytes_even}
-use Rattle.runtime_code.proofs.Sizes.{are_instructions-append}
+use Rattle.boot_runtime.specs.machine_effects.Machine.{Code}
+use Rattle.boot_runtime.specs.code_forms.Forms.{Form}
+use Rattle.boot_runtime.specs.code_forms.Code.{Stands, forms_bytes}
+use Rattle.boot_runtime.specs.code_forms.Placed.{instructions, AreInstructions}
+use Rattle.boot_runtime.proofs.code_forms.Interface.{stands_front, stands_back, forms_bytes-append}
+use Rattle.codegen.proofs.Interface.{bytes_even}
+use Rattle.boot_runtime.proofs.runtime_code.Interface.{are_instructions-append}
 use Rattle.codegen.specs.Code.{repeated}
 use Rattle.linked_code.specs.Parts.{filler, CodePart, part_end, chained, IsPartBehind, PartsInOrder}
 use Rattle.linked_code.specs.Laws.{PartStands}

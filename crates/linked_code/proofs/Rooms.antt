@@ -1,17 +1,17 @@
 -- The layout of a source has room for its code.
 use Rattle.std.proofs.Common.{◌≡◌, ℕ, suc, List, [], ◌∷◌, length, map, Some, slice_get, get_or, refl, arith}
 use Rattle.std.proofs.lemmas.Option.{slice_get_within, slice_get-get_or}
-use Rattle.task_ast.specs.declared.SharedDeclaration.{SharedDeclaration}
-use Rattle.cost_bound.specs.Allowance.{CheckedTask, scalars_of, total}
-use Rattle.war_analysis.specs.PlanValue.{TaskPlanValue}
-use Rattle.array_versions.specs.Program.{Program}
-use Rattle.memory_map.specs.declared.place.PrivateScalar.{PrivateScalar}
-use Rattle.memory_map.specs.MemoryMap.{TaskPlace}
-use Rattle.privatise.specs.Sizes.{body_words, entry_words}
-use Rattle.runtime_code.specs.LayoutPlaces.{pair_of}
+use Rattle.boot_runtime.specs.task_ast.declared.SharedDeclaration.{SharedDeclaration}
+use Rattle.boot_runtime.specs.cost_bound.Allowance.{CheckedTask, scalars_of, total}
+use Rattle.boot_runtime.specs.war_analysis.PlanValue.{TaskPlanValue}
+use Rattle.codegen.specs.array_versions.Program.{Program}
+use Rattle.boot_runtime.specs.memory_map.declared.place.PrivateScalar.{PrivateScalar}
+use Rattle.boot_runtime.specs.memory_map.MemoryMap.{TaskPlace}
+use Rattle.boot_runtime.specs.privatise.Sizes.{body_words, entry_words}
+use Rattle.boot_runtime.specs.runtime_code.LayoutPlaces.{pair_of}
 use Rattle.boot_runtime.specs.Entries.{entry_of, task_entries}
 use Rattle.boot_runtime.specs.Laws.{entry_room}
-use Rattle.boot_runtime.proofs.Words.{boot_fits}
+use Rattle.boot_runtime.proofs.Interface.{boot_fits}
 use Rattle.linked_code.specs.Linked.{ProgramsFit}
 use Rattle.linked_code.specs.Rooms.{ProgramsKeep, LayoutsHaveRoom}
 

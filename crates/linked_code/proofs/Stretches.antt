@@ -1,37 +1,35 @@
 -- The stretches of linked code: from the boot to the start of an attempt and to the commit, from there to a task, the task's body, the commit.
 use Rattle.std.proofs.Common.{◌≡◌, ◌<◌, ◌+◌, ℕ, zero, suc, List, [], ◌∷◌, length, map, get_or, refl, sym, ap, subst, All, arith}
 use Rattle.std.proofs.lemmas.Option.{slice_get-get_or}
-use Rattle.machine_effects.specs.World.{fram_after}
-use Rattle.machine_effects.specs.Machine.{Code}
-use Rattle.code_forms.specs.Forms.{Core}
-use Rattle.code_forms.specs.Code.{Stands}
-use Rattle.code_forms.specs.Placed.{placed}
-use Rattle.array_versions.specs.Program.{Program, nothing}
-use Rattle.array_versions.specs.Behaviour.{behaviour, started}
-use Rattle.array_versions.specs.Cost.{spent}
+use Rattle.boot_runtime.specs.machine_effects.World.{fram_after}
+use Rattle.boot_runtime.specs.machine_effects.Machine.{Code}
+use Rattle.boot_runtime.specs.code_forms.Forms.{Core}
+use Rattle.boot_runtime.specs.code_forms.Code.{Stands}
+use Rattle.boot_runtime.specs.code_forms.Placed.{placed}
+use Rattle.codegen.specs.array_versions.Program.{Program, nothing}
+use Rattle.codegen.specs.array_versions.Behaviour.{behaviour, started}
+use Rattle.codegen.specs.array_versions.Cost.{spent}
 use Rattle.codegen.specs.Code.{code_of}
 use Rattle.codegen.specs.Laws.{IsEntry, ComesTo}
-use Rattle.codegen.proofs.Whole.{code_does_as_program}
-use Rattle.runtime_effects.specs.Stages.{start_effects, commit_effects}
-use Rattle.runtime_effects.specs.Needs.{CanCommit}
-use Rattle.runtime_code.specs.Addresses.{start_address}
-use Rattle.runtime_code.specs.Comes.{Comes, IsAt, Enters}
-use Rattle.runtime_code.proofs.Chains.{comes_on}
-use Rattle.runtime_code.proofs.Layouts.{places_are_in_fram, opening_keeps_task}
+use Rattle.codegen.proofs.Interface.{code_does_as_program}
+use Rattle.boot_runtime.specs.runtime_effects.Stages.{start_effects, commit_effects}
+use Rattle.boot_runtime.specs.runtime_effects.Needs.{CanCommit}
+use Rattle.boot_runtime.specs.runtime_code.Addresses.{start_address}
+use Rattle.boot_runtime.specs.runtime_code.Comes.{Comes, IsAt, Enters}
+use Rattle.boot_runtime.proofs.runtime_code.Interface.{comes_on, places_are_in_fram, opening_keeps_task}
 use Rattle.boot_runtime.specs.Entries.{entry_of, task_entries}
 use Rattle.boot_runtime.specs.Listing.{TaskEntry, entry_at, privates_in, start_steps, start_cycles}
 use Rattle.boot_runtime.specs.Laws.{IsBoot}
-use Rattle.boot_runtime.proofs.Boot.{pending_commit_is_found, attempt_is_found, start_is_made}
-use Rattle.boot_runtime.proofs.Entered.{tasks_are_entered}
+use Rattle.boot_runtime.proofs.Interface.{pending_commit_is_found, attempt_is_found, start_is_made, tasks_are_entered}
 use Rattle.commit_runtime.specs.Listing.{commit_steps, commit_cycles}
-use Rattle.commit_runtime.proofs.Commit.{commit_is_made}
+use Rattle.commit_runtime.proofs.Interface.{commit_is_made}
 use Rattle.linked_code.specs.Linked.{linked, ProgramsFit, CodeFits, ProgramsAreWhole}
 use Rattle.linked_code.specs.Laws.{IsLinkedCode, PartsStand}
 use Rattle.linked_code.proofs.Linked.{linked_is_code, linked_stands}
-use Rattle.memory_map.specs.declared.words.RuntimeWord.TheVariants.{CurrentTask, Gate, ListLength, EmitCount}
-use Rattle.memory_map.specs.MemoryMap.{MemoryMap, TaskPlace, word_place}
-use Rattle.memory_map.proofs.Parts.{apart_of, even_of}
-use Rattle.address_space.specs.Limits.{stack_top}
+use Rattle.boot_runtime.specs.memory_map.declared.words.RuntimeWord.TheVariants.{CurrentTask, Gate, ListLength, EmitCount}
+use Rattle.boot_runtime.specs.memory_map.MemoryMap.{MemoryMap, TaskPlace, word_place}
+use Rattle.boot_runtime.proofs.memory_map.Interface.{apart_of, even_of}
+use Rattle.boot_runtime.specs.address_space.Limits.{stack_top}
 
 -- a task's layout where there is none
 abbrev no_task : TaskPlace

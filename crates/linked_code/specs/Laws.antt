@@ -1,11 +1,11 @@
 -- What holds of the code of a compiled source.
 use Rattle.std.specs.Prelude.{◌≡◌, ℕ, ◌+◌, ◌*◌, ◌≤◌, List, length, Some, slice_get}
-use Rattle.machine_effects.specs.Machine.{Code}
-use Rattle.code_forms.specs.Code.{Stands, IsTidy}
-use Rattle.code_forms.specs.Placed.{placed, words_of, AreInstructions}
-use Rattle.array_versions.specs.Program.{Program}
-use Rattle.memory_map.specs.MemoryMap.{MemoryMap, TaskPlace}
-use Rattle.memory_map.specs.Places.{end_of}
+use Rattle.boot_runtime.specs.machine_effects.Machine.{Code}
+use Rattle.boot_runtime.specs.code_forms.Code.{Stands, IsTidy}
+use Rattle.boot_runtime.specs.code_forms.Placed.{placed, words_of, AreInstructions}
+use Rattle.codegen.specs.array_versions.Program.{Program}
+use Rattle.boot_runtime.specs.memory_map.MemoryMap.{MemoryMap, TaskPlace}
+use Rattle.boot_runtime.specs.memory_map.Places.{end_of}
 use Rattle.linked_code.specs.Parts.{CodePart}
 use Rattle.linked_code.specs.Linked.{linked, boot_part, commit_part, task_part, CodeFits}
 

@@ -1,15 +1,15 @@
 -- The code of a compiled source: boot, commit and tasks as one list of instructions, which stands at the boot's place.
 use Rattle.std.specs.Prelude.{ℕ, ◌+◌, ◌*◌, ◌<◌, ◌≤◌, List, [], ◌∷◌, length, get_or}
-use Rattle.msp_isa.specs.declared.instructions.Instr.{Instr}
-use Rattle.code_forms.specs.Forms.{Form}
-use Rattle.code_forms.specs.Placed.{instructions}
-use Rattle.array_versions.specs.Program.{Program, nothing}
-use Rattle.array_versions.specs.Form.{IsWhole, OfWords}
-use Rattle.array_versions.specs.Cost.{words_of}
+use Rattle.boot_runtime.specs.msp_isa.declared.instructions.Instr.{Instr}
+use Rattle.boot_runtime.specs.code_forms.Forms.{Form}
+use Rattle.boot_runtime.specs.code_forms.Placed.{instructions}
+use Rattle.codegen.specs.array_versions.Program.{Program, nothing}
+use Rattle.codegen.specs.array_versions.Form.{IsWhole, OfWords}
+use Rattle.codegen.specs.array_versions.Cost.{words_of}
 use Rattle.codegen.specs.Code.{code_of}
-use Rattle.memory_map.specs.MemoryMap.{MemoryMap, TaskPlace}
-use Rattle.memory_map.specs.Places.{end_of, IsLaidOut}
-use Rattle.runtime_code.specs.Addresses.{start_address}
+use Rattle.boot_runtime.specs.memory_map.MemoryMap.{MemoryMap, TaskPlace}
+use Rattle.boot_runtime.specs.memory_map.Places.{end_of, IsLaidOut}
+use Rattle.boot_runtime.specs.runtime_code.Addresses.{start_address}
 use Rattle.boot_runtime.specs.Entries.{task_entries}
 use Rattle.boot_runtime.specs.Listing.{boot_forms, boot_bytes}
 use Rattle.commit_runtime.specs.Listing.{commit_forms, commit_bytes}

@@ -1,8 +1,8 @@
 -- Parts of code, each at its place, as one list of forms.
 use Rattle.std.specs.Prelude.{◌≡◌, ℕ, ◌+◌, ◌-◌, ◌/◌, ◌%◌, ◌≤◌, List, [], ◌∷◌, ◌++◌}
-use Rattle.msp_isa.specs.declared.instructions.Condition.TheVariants.{Always}
-use Rattle.code_forms.specs.Forms.{Form, Jump}
-use Rattle.code_forms.specs.Code.{forms_bytes}
+use Rattle.boot_runtime.specs.msp_isa.declared.instructions.Condition.TheVariants.{Always}
+use Rattle.boot_runtime.specs.code_forms.Forms.{Form, Jump}
+use Rattle.boot_runtime.specs.code_forms.Code.{forms_bytes}
 use Rattle.codegen.specs.Code.{repeated}
 
 -- a jump to itself, of one word

@@ -1,14 +1,14 @@
 -- That the layout of a source has room for its code.
 use Rattle.std.specs.Prelude.{◌≡◌, ℕ, ◌≤◌, List, [], ◌∷◌, length, Some, slice_get}
-use Rattle.task_ast.specs.declared.SharedDeclaration.{SharedDeclaration}
-use Rattle.cost_bound.specs.declared.allowance.Allow.{Allow}
-use Rattle.cost_bound.specs.Allowance.{CheckedProgram, CheckedTask, IsAllowed, scalars_of}
-use Rattle.war_analysis.specs.PlanValue.{TaskPlanValue}
-use Rattle.array_versions.specs.Program.{Program}
-use Rattle.array_versions.specs.Cost.{words_of}
-use Rattle.memory_map.specs.MemoryMap.{MemoryMap, TaskPlace}
-use Rattle.privatise.specs.Layouts.{IsLayout}
-use Rattle.privatise.specs.Sizes.{body_words}
+use Rattle.boot_runtime.specs.task_ast.declared.SharedDeclaration.{SharedDeclaration}
+use Rattle.boot_runtime.specs.cost_bound.declared.allowance.Allow.{Allow}
+use Rattle.boot_runtime.specs.cost_bound.Allowance.{CheckedProgram, CheckedTask, IsAllowed, scalars_of}
+use Rattle.boot_runtime.specs.war_analysis.PlanValue.{TaskPlanValue}
+use Rattle.codegen.specs.array_versions.Program.{Program}
+use Rattle.codegen.specs.array_versions.Cost.{words_of}
+use Rattle.boot_runtime.specs.memory_map.MemoryMap.{MemoryMap, TaskPlace}
+use Rattle.boot_runtime.specs.privatise.Layouts.{IsLayout}
+use Rattle.boot_runtime.specs.privatise.Sizes.{body_words}
 use Rattle.linked_code.specs.Linked.{CodeFits}
 
 -- each program keeps to the words that the allowance has for its task

@@ -8,7 +8,7 @@ use Rattle.task_ast.specs.declared.names.TaskName.{TaskName}
 use Rattle.array_versions.specs.declared.program.WordStep.{WordStep}
 use Rattle.array_versions.specs.Program.{Program, list_entry, step, nothing, joined, behind}
 use Rattle.array_versions.specs.View.{step_of, steps_of}
-use Rattle.array_versions.proofs.Joined.{joined_assoc, joined_nothing}
+use Rattle.array_versions.proofs.Interface.{joined_assoc, joined_nothing}
 use Rattle.lower.specs.Lowered.{entries, lowered_statement, lowered_block}
 use Rattle.memory_map.specs.declared.place.PrivateScalar.{PrivateScalar}
 use Rattle.memory_map.specs.Spots.{Places}

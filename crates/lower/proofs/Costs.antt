@@ -12,8 +12,7 @@ use Rattle.memory_map.specs.declared.place.PrivateScalar.{PrivateScalar}
 use Rattle.array_versions.specs.Program.{Step, Program, choose, repeat, emit_word, store_number, move_word, jump, nothing, step, joined}
 use Rattle.array_versions.specs.Behaviour.{WordState, End, GoesOn, Jumps, Short, Strays, Broken, Behaviour, behaves, broken, on_end, then_on, is_place, goes_on, strays, with_stack, with_top, chosen, with_local, turns, step_behaviour, behaviour}
 use Rattle.array_versions.specs.Cost.{step_cycles, cycles_of, spent_on, way_spent, turns_spent, step_spent, spent}
-use Rattle.array_versions.proofs.Joined.{joined_go_on, joined_cycles}
-use Rattle.array_versions.proofs.Spent.{joined_spend, ways_keep_to_cycles}
+use Rattle.array_versions.proofs.Interface.{joined_go_on, joined_cycles, joined_spend, ways_keep_to_cycles}
 use Rattle.memory_map.specs.Spots.{Places}
 use Rattle.lower.specs.Lowered.{one, write_step, store_step, assignment, element_assignment, entries, lowered_transition, loop_local, lowered_expression, lowered_statement, lowered_choice, lowered_block}
 use Rattle.lower.specs.Sizes.{entry_cycles, BlocksKeepToCycles}

@@ -1,9 +1,9 @@
 -- A store to an element, as the step of a task.
 use Rattle.std.proofs.Common.{◌≡◌, ℕ, ◌+◌, ◌*◌, ◌==◌, ◌<◌, ◌≤◌, List, [], ◌∷◌, ◌++◌, length, get_or, Option, Some, Contains, true, refl, sym, ap, ◌∙◌, subst, arith, inl, inr, ⊎_elim, length-append, if◌then◌else◌}
 use Rattle.std.proofs.lemmas.Bool.{cases_eq, cases_lt}
-use Rattle.fram_board.specs.Effects.{Store}
-use Rattle.machine_effects.specs.World.{put}
-use Rattle.machine_effects.proofs.Worlds.{put_other}
+use Rattle.array_versions.specs.fram_board.Effects.{Store}
+use Rattle.array_versions.specs.machine_effects.World.{put}
+use Rattle.array_versions.proofs.machine_effects.Interface.{put_other}
 use Rattle.task_ast.specs.declared.names.Variable.TheVariants.{Shared}
 use Rattle.source_values.specs.Values.{Variables, with_word}
 use Rattle.source_values.specs.Statements.{Attempt, goes_on}
@@ -14,7 +14,7 @@ use Rattle.memory_map.specs.MemoryMap.{word_place}
 use Rattle.memory_map.specs.declared.words.RuntimeWord.TheVariants.{ListLength, Version}
 use Rattle.memory_map.specs.declared.place.ArrayCopies.{ArrayCopies}
 use Rattle.memory_map.specs.declared.place.VariablePlace.TheVariants.{Array}
-use Rattle.memory_map.proofs.Parts.{word_even}
+use Rattle.memory_map.proofs.Interface.{word_even}
 use Rattle.memory_map.specs.Spots.{Places, IsArrayAt, Element, IsCopied, element, copy, version, element_address, copy_address, version_address}
 use Rattle.lower.specs.Lowered.{array_place, list_place}
 use Rattle.lower.specs.Spots.{listed_of}

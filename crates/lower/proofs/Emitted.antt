@@ -2,7 +2,7 @@
 use Rattle.std.proofs.Common.{ℕ, ◌+◌, ◌≤◌, List, length}
 use Rattle.task_ast.specs.Paths.{CheckedStatement, CheckedBlock}
 use Rattle.source_values.specs.Statements.{Attempt, Outcome, goes_on, to_task, short, run_statement, run_block, statement_emits, block_emits}
-use Rattle.source_values.proofs.Emitted.{EmitsUpTo, statement_up_to, block_up_to}
+use Rattle.source_values.proofs.Interface.{EmitsUpTo, statement_up_to, block_up_to}
 
 -- where an outcome goes on, at most so many words are emitted
 abbrev pub EmitsAtMost : ℕ → Outcome → Type 0

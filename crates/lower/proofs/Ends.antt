@@ -2,14 +2,14 @@
 use Rattle.std.proofs.Common.{◌≡◌, ℕ, ◌<◌, ◌≤◌, List, [], ◌∷◌, ◌++◌, length, Option, Some, None, Bool, refl, sym, ap, ◌∙◌, subst, arith, append_assoc, append-nil, ⊎_elim}
 use Rattle.memory_map.specs.MemoryMap.{word_place}
 use Rattle.memory_map.specs.declared.words.RuntimeWord.TheVariants.{ListLength, EmitCount, Base, Version}
-use Rattle.fram_board.specs.Effects.{Effect, Store, Take, Send}
-use Rattle.machine_effects.specs.World.{put, fram_after}
-use Rattle.machine_effects.proofs.Worlds.{fram_after-append, put_other}
+use Rattle.array_versions.specs.fram_board.Effects.{Effect, Store, Take, Send}
+use Rattle.array_versions.specs.machine_effects.World.{put, fram_after}
+use Rattle.array_versions.proofs.machine_effects.Interface.{fram_after-append, put_other}
 use Rattle.source_values.specs.Statements.{Attempt, Outcome, goes_on, to_task, short, and_then, if_value}
 use Rattle.array_versions.specs.Program.{Program, nothing}
 use Rattle.array_versions.specs.Behaviour.{WordState, End, GoesOn, Jumps, Short, Strays, Broken, Behaviour, behind_effects, on_end, then_on, behaviour}
 use Rattle.array_versions.specs.Laws.{EndsByEffects}
-use Rattle.array_versions.proofs.ByEffects.{behaves_by_effects}
+use Rattle.array_versions.proofs.Interface.{behaves_by_effects}
 use Rattle.memory_map.specs.Spots.{Places, Element, scalar, copy, version}
 use Rattle.lower.specs.Spots.{Room, AreApart, AreEven, listed_of, HasRoom}
 use Rattle.lower.specs.Agreement.{TakesAndStores, OnlyTakes, IsTaskStore, at_variable, at_copy, at_version, in_list, at_list_length, at_emit_count, in_buffer, StandsFor, valued, EndsWithValue, AgreesWithValue, Bounds, Left, EndsAs, Agrees}

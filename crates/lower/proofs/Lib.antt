@@ -1,12 +1,17 @@
-pub mod Addresses
-pub mod Values
-pub mod Emitted
-pub mod Stored
-pub mod Transitions
-pub mod Versioned
-pub mod Ends
-pub mod Elements
-pub mod Blocks
-pub mod Chains
-pub mod Sizes
-pub mod Costs
+mod Addresses
+mod Values
+mod Emitted
+mod Stored
+mod Transitions
+mod Versioned
+mod Ends
+mod Elements
+mod Blocks
+mod Chains
+mod Sizes
+mod Costs
+pub mod Interface
+pub use Rattle.memory_map.proofs as memory_map
+pub use Rattle.cost_bound.proofs.task_lex as task_lex
+pub use Rattle.task_check.proofs as task_check
+pub use Rattle.source_values.proofs as source_values

@@ -17,8 +17,7 @@ use Rattle.cost_bound.specs.Table.{cycles_column, words_column, operator_price, 
 use Rattle.array_versions.specs.declared.operations.UnaryOperation.TheVariants.{Truth}
 use Rattle.array_versions.specs.Program.{Program, unary, binary, shift, choose, emit_word, store_number, move_word, jump, step, joined}
 use Rattle.array_versions.specs.Cost.{unary_cycles, binary_cycles, step_cycles, cycles_of, step_words, words_of}
-use Rattle.array_versions.proofs.Joined.{joined_cycles, joined_words}
-use Rattle.array_versions.proofs.Kept.{steps_keep_to_words}
+use Rattle.array_versions.proofs.Interface.{joined_cycles, joined_words, steps_keep_to_words}
 use Rattle.memory_map.specs.MemoryMap.{word_place}
 use Rattle.memory_map.specs.declared.words.RuntimeWord.TheVariants.{Gate, ListLength, EmitCount, Base, SentBase}
 use Rattle.memory_map.specs.declared.place.VariablePlace.{VariablePlace}

@@ -1,15 +1,15 @@
 -- The program of a transition.
 use Rattle.std.proofs.Common.{◌≡◌, ℕ, ◌+◌, ◌*◌, ◌%◌, ◌≤◌, List, [], ◌∷◌, ◌++◌, length, true, refl, sym, ap, ◌∙◌, arith, eq-eqb, append_assoc, if◌then◌else◌}
-use Rattle.fram_board.specs.Effects.{Effect, Store}
-use Rattle.machine_effects.specs.World.{put, fram_after}
-use Rattle.machine_effects.proofs.Worlds.{put_at, put_other}
+use Rattle.array_versions.specs.fram_board.Effects.{Effect, Store}
+use Rattle.array_versions.specs.machine_effects.World.{put, fram_after}
+use Rattle.array_versions.proofs.machine_effects.Interface.{put_at, put_other}
 use Rattle.array_versions.specs.Program.{Program, store_number, move_word, jump, nothing, step, joined}
 use Rattle.array_versions.specs.Behaviour.{WordState, Jumps, Behaviour, behaves, goes_on, broken, behind_effects, then_on, is_place, at_place, word_stored, entry_stored, jumped, step_behaviour, behaviour}
-use Rattle.array_versions.proofs.Joined.{joined_go_on}
+use Rattle.array_versions.proofs.Interface.{joined_go_on}
 use Rattle.memory_map.specs.MemoryMap.{word_place}
 use Rattle.memory_map.specs.declared.words.RuntimeWord.TheVariants.{NextTask, Gate, ListLength, Base, SentBase}
 use Rattle.memory_map.specs.declared.place.PrivateScalar.{PrivateScalar}
-use Rattle.memory_map.proofs.Parts.{word_even}
+use Rattle.memory_map.proofs.Interface.{word_even}
 use Rattle.memory_map.specs.Spots.{Places}
 use Rattle.lower.specs.Lowered.{one, entries, lowered_transition}
 use Rattle.lower.specs.Spots.{Room, AreApart, AreEven}

@@ -1,7 +1,7 @@
 -- The program of an expression leaves its value.
 use Rattle.std.proofs.Common.{◌≡◌, ℕ, zero, suc, ◌+◌, ◌*◌, ◌%◌, ◌==◌, ◌<◌, ◌≤◌, List, [], ◌∷◌, ◌++◌, Option, Some, None, Bool, true, false, not, nat_le, nat_lt, refl, sym, ap, ◌∙◌, subst, arith, ne_eqb, le-ltb, lt-ltb, get_or, ⊎_elim, if◌then◌else◌}
-use Rattle.alp_words.specs.Words.{bit}
-use Rattle.fram_board.specs.Effects.{Effect, Store, Take, Send}
+use Rattle.array_versions.specs.alp_words.Words.{bit}
+use Rattle.array_versions.specs.fram_board.Effects.{Effect, Store, Take, Send}
 use Rattle.std.proofs.lemmas.Bool.{cases_lt}
 use Rattle.std.proofs.lemmas.List.{get_or_past}
 use Rattle.task_ast.specs.Tree as t
@@ -22,13 +22,13 @@ use Rattle.array_versions.specs.declared.operations.UnaryOperation.TheVariants.{
 use Rattle.array_versions.specs.Operations.{unary_word, binary_word, shift_word, shifted_word}
 use Rattle.array_versions.specs.Program.{Program, load, local, unary, binary, shift, nothing, joined}
 use Rattle.array_versions.specs.Behaviour.{WordState, End, GoesOn, Jumps, Short, Strays, Broken, Behaviour, goes_on, behind_effects, on_end, then_on, is_place, at_place, pushed, local_pushed, reading_pushed, behaviour}
-use Rattle.array_versions.proofs.Joined.{joined_go_on, joined_assoc}
+use Rattle.array_versions.proofs.Interface.{joined_go_on, joined_assoc}
 use Rattle.memory_map.specs.MemoryMap.{word_place}
 use Rattle.memory_map.specs.declared.words.RuntimeWord.TheVariants.{Version}
 use Rattle.memory_map.specs.declared.place.ArrayCopies.{ArrayCopies}
 use Rattle.memory_map.specs.declared.place.VariablePlace.{VariablePlace}
 use Rattle.memory_map.specs.declared.place.VariablePlace.TheVariants.{Array}
-use Rattle.memory_map.proofs.Parts.{word_even}
+use Rattle.memory_map.proofs.Interface.{word_even}
 use Rattle.memory_map.specs.Spots.{Places, address_of, IsArrayAt, Element, IsElement, IsCopied, scalar, element, copy, version}
 use Rattle.lower.specs.Operations.{unary_operation, binary_operation, shift_operation}
 use Rattle.lower.specs.Lowered.{one, read_step, element_read, element_step, evaluated_side, lowered_choice_of_sides, lowered_expression}

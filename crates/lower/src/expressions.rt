@@ -125,7 +125,7 @@ fn right_side(
 /// Puts the program of an expression behind another, and answers the expression's type. Without memory part of it may
 /// stand there.
 #[cycle(expression)]
-#[tactic(auto, using(array_versions::proofs::Joined::joined_assoc))]
+#[tactic(auto, using(array_versions::proofs::Interface::joined_assoc))]
 pub fn lower_expression(
     alloc: Global,
     e: &Expr<VariableName>,

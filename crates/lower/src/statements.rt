@@ -31,7 +31,7 @@ fn write(
     }
 }
 
-#[tactic(auto, using(array_versions::proofs::Joined::joined_assoc))]
+#[tactic(auto, using(array_versions::proofs::Interface::joined_assoc))]
 fn assign(
     alloc: Global,
     variable: Variable,
@@ -64,7 +64,7 @@ fn store_element(
 }
 
 // The index is evaluated first.
-#[tactic(auto, using(array_versions::proofs::Joined::joined_assoc))]
+#[tactic(auto, using(array_versions::proofs::Interface::joined_assoc))]
 fn store(
     alloc: Global,
     variable: Variable,
@@ -82,7 +82,7 @@ fn store(
 }
 
 // A declaration without a value has no steps.
-#[tactic(auto, using(array_versions::proofs::Joined::joined_nothing))]
+#[tactic(auto, using(array_versions::proofs::Interface::joined_nothing))]
 fn declare(
     alloc: Global,
     variable: Variable,
@@ -99,7 +99,7 @@ fn declare(
     }
 }
 
-#[tactic(auto, using(array_versions::proofs::Joined::joined_assoc))]
+#[tactic(auto, using(array_versions::proofs::Interface::joined_assoc))]
 fn emit(
     alloc: Global,
     e: &Expr<VariableName>,
@@ -142,7 +142,7 @@ fn list_entries(
 }
 
 // The gate is raised last: from then on the transition stands, whatever happens to the power.
-#[tactic(auto, using(array_versions::proofs::Joined::joined_assoc))]
+#[tactic(auto, using(array_versions::proofs::Interface::joined_assoc))]
 fn lower_transition(
     task: u32,
     places: &TaskPlaces<'_>,
@@ -173,7 +173,7 @@ fn append(program: &mut WordProgram, mut more: WordProgram) -> Result<(), AllocE
 }
 
 #[cycle(lower)]
-#[tactic(auto, using(array_versions::proofs::Joined::joined_assoc, array_versions::proofs::Joined::joined_nothing))]
+#[tactic(auto, using(array_versions::proofs::Interface::joined_assoc, array_versions::proofs::Interface::joined_nothing))]
 fn lower_statement(
     alloc: Global,
     s: &Stmt<VariableName, TaskName>,
@@ -254,7 +254,7 @@ fn lower_arms(
 
 /// Puts the program of statements behind another. Without memory part of it may stand there.
 #[cycle(lower)]
-#[tactic(auto, using(array_versions::proofs::Joined::joined_assoc))]
+#[tactic(auto, using(array_versions::proofs::Interface::joined_assoc))]
 pub fn lower_block(
     alloc: Global,
     body: &[Stmt<VariableName, TaskName>],

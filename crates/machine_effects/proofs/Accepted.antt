@@ -1,18 +1,18 @@
 -- The words that a charge's moments tell are those that its effects make the receiver accept.
 use Rattle.std.proofs.Common.{◌≡◌, ◌==◌, ◌-◌, ◌%◌, ◌⊎◌, inl, inr, ⊎_elim, arith, ℕ, refl, sym, ◌∙◌, ap, ap₂, subst, Bool, true, false, if◌then◌else◌, List, []}
 use Rattle.std.proofs.Common.{◌∷◌, ◌++◌, map, length, length-append, append_assoc, append-nil, slice_range, slice_index, Option, Some, None, Result, Ok, Err}
-use Rattle.alp_words.specs.declared.Width.{Width}
-use Rattle.alp_words.specs.declared.Width.TheVariants.{Word, Byte}
-use Rattle.msp_isa.specs.declared.instructions.Instr.{Instr}
-use Rattle.msp_step.specs.declared.machine.Stop.{Stop}
-use Rattle.msp_step.specs.declared.machine.Stepped as cpu
-use Rattle.msp_step.specs.Registers.{Registers, registers_of}
-use Rattle.msp_step.specs.Access.{Access, Completed, Faulted}
-use Rattle.msp_step.specs.Effect.{Written}
-use Rattle.msp_step.specs.Step.{effect, execution, outcome_of}
-use Rattle.msp_step.specs.Laws.{AfterWrite}
-use Rattle.msp_step.proofs.Accesses.{Ends, effect_ends}
-use Rattle.image_text.specs.ImageValue.{place_of}
+use Rattle.fram_board.specs.alp_words.declared.Width.{Width}
+use Rattle.fram_board.specs.alp_words.declared.Width.TheVariants.{Word, Byte}
+use Rattle.fram_board.specs.msp_isa.declared.instructions.Instr.{Instr}
+use Rattle.fram_board.specs.msp_step.declared.machine.Stop.{Stop}
+use Rattle.fram_board.specs.msp_step.declared.machine.Stepped as cpu
+use Rattle.fram_board.specs.msp_step.Registers.{Registers, registers_of}
+use Rattle.fram_board.specs.msp_step.Access.{Access, Completed, Faulted}
+use Rattle.fram_board.specs.msp_step.Effect.{Written}
+use Rattle.fram_board.specs.msp_step.Step.{effect, execution, outcome_of}
+use Rattle.fram_board.specs.msp_step.Laws.{AfterWrite}
+use Rattle.fram_board.proofs.msp_step.Interface.{Ends, effect_ends}
+use Rattle.fram_board.specs.image_text.ImageValue.{place_of}
 use Rattle.fram_board.specs.declared.board.Stepped.{Stepped}
 use Rattle.fram_board.specs.declared.receiver.Receiver.{Receiver}
 use Rattle.fram_board.specs.Bus.{BusState, board_bus, is_ram, is_fram, is_memory, is_word, memory_word, with_word, with_byte, written, port_written}
@@ -20,8 +20,7 @@ use Rattle.fram_board.specs.Bus.{number_port, data_port}
 use Rattle.fram_board.specs.Board.{BoardValue, opened, answer_of, executed, is_accepted, accepted_word}
 use Rattle.fram_board.specs.Effects.{Effect, Store, Take, store_at, sends_of}
 use Rattle.fram_board.specs.Run.{Measure, price, moment_of, RunOutcome, ChargeRun, Spent, NoInstruction, TooDear, Refused, Executed, word_list, accepted_words}
-use Rattle.fram_board.proofs.Takes.{only_takes}
-use Rattle.fram_board.proofs.Counts.{counted}
+use Rattle.fram_board.proofs.Interface.{only_takes, counted}
 use Rattle.machine_effects.specs.World.{accepted_after}
 use Rattle.machine_effects.specs.Runs.{action_effects, moments_effects}
 use Rattle.machine_effects.specs.Laws.{ChargeAcceptsBySends}

@@ -5,16 +5,16 @@ use Rattle.std.proofs.Common.{eqb-true, eq-eqb, Option, Some, None, Result, Ok, 
 use mathlib.Core.Path.{fun_ext}
 use Rattle.std.proofs.lemmas.Bool.Decides.{nat_tests}
 use Rattle.std.proofs.lemmas.Bool.{and_parts}
-use Rattle.alp_words.specs.declared.Width.{Width}
-use Rattle.alp_words.specs.declared.Width.TheVariants.{Word, Byte}
-use Rattle.msp_step.specs.declared.bus.Refused.{Refused}
-use Rattle.msp_step.specs.declared.bus.Refused.TheVariants as refused
-use Rattle.image_text.specs.ImageValue.{place_of}
+use Rattle.fram_board.specs.alp_words.declared.Width.{Width}
+use Rattle.fram_board.specs.alp_words.declared.Width.TheVariants.{Word, Byte}
+use Rattle.fram_board.specs.msp_step.declared.bus.Refused.{Refused}
+use Rattle.fram_board.specs.msp_step.declared.bus.Refused.TheVariants as refused
+use Rattle.fram_board.specs.image_text.ImageValue.{place_of}
 use Rattle.fram_board.specs.Bus.{BusState, IsBusState, board_bus, is_ram, is_fram, is_memory, is_word, ram_place, memory_word, with_word, byte_of, with_byte}
 use Rattle.fram_board.specs.Bus.{next_reading, read_of, after_read, written, port_written, sensor_port, number_port, data_port}
 use Rattle.fram_board.specs.Effects.{Effect, Store, Send}
 use Rattle.step_laws.specs.Alike.{AnswerAlike, WrittenAlike}
-use Rattle.fram_board.proofs.Effects.{other_is_fram, fram_low}
+use Rattle.fram_board.proofs.Interface.{other_is_fram, fram_low}
 use Rattle.machine_effects.specs.World.{put}
 use Rattle.machine_effects.specs.Machine.{MachineBus, machine_bus, machine_word, word_in, word_address, fram_of, ram_of, first_reading, machine_read}
 use Rattle.machine_effects.specs.Machine.{reading_taken, machine_after_read, machine_stored, machine_port_written, machine_written}

@@ -1,35 +1,35 @@
 -- What an instruction leaves of its registers and its bus, along the accesses that it makes.
 use Rattle.std.proofs.Common.{◌≡◌, ◌<◌, ◌*◌, if◌then◌else◌, arith, ℕ, refl, length, Bool, true, false, Option, Some, None}
 use Rattle.std.specs.Prelude.{Result, Ok, Err}
-use Rattle.alp_words.specs.declared.Width.{Width}
-use Rattle.alp_words.specs.declared.Width.TheVariants.{Word}
-use Rattle.alp_words.specs.declared.Flags.{Flags}
-use Rattle.alp_words.specs.Words.{operand}
-use Rattle.msp_isa.specs.declared.registers.Reg.{Reg}
-use Rattle.msp_isa.specs.declared.operands.Konst.{Konst}
-use Rattle.msp_isa.specs.declared.operands.Operand.{Operand}
-use Rattle.msp_isa.specs.declared.operands.Operand.TheVariants as mode
-use Rattle.msp_isa.specs.declared.operands.Src.{Src}
-use Rattle.msp_isa.specs.declared.operands.Src.TheVariants as src
-use Rattle.msp_isa.specs.declared.operands.Dst.{Dst}
-use Rattle.msp_isa.specs.declared.instructions.TwoOp.{TwoOp}
-use Rattle.msp_isa.specs.declared.instructions.OneOp.{OneOp}
-use Rattle.msp_isa.specs.declared.instructions.OneOp.TheVariants as one
-use Rattle.msp_isa.specs.declared.instructions.Instr.{Instr}
-use Rattle.msp_isa.specs.declared.instructions.Instr.TheVariants as instr
-use Rattle.msp_isa.specs.Constant.{constant_value}
-use Rattle.msp_isa.specs.Encoding.{index_number, register_number, source_row, destination_row, operand_row}
-use Rattle.msp_isa.proofs.Numbers.{index_below}
-use Rattle.msp_step.specs.declared.bus.Refused.{Refused}
-use Rattle.msp_step.specs.declared.operand.Location.{Location}
-use Rattle.msp_step.specs.declared.operand.Location.TheVariants.{Register, Memory}
-use Rattle.msp_step.specs.Registers.{Registers, with_register}
-use Rattle.msp_step.specs.Access.{BusModel, Access, Completed, Faulted, then_do, read_answer, write_answer, read_at, write_at}
-use Rattle.msp_step.specs.Effect.{Operated, sum16, step_of, status_with, Written, source, load, store, finish, operand_location, incremented}
-use Rattle.msp_step.specs.Effect.{destination_operand, after_source, operated, flags_of, with_flags, reads_destination, writes_destination}
-use Rattle.msp_step.specs.Effect.{destination_location, two_operand_effect, is_met, distance, read_modify_write, rotated, shifted, exchanged, sign_extended}
-use Rattle.msp_step.specs.Effect.{below_stack, push_effect, call_effect, reti_effect}
-use Rattle.msp_step.specs.Step.{effect, one_operand_effect}
+use Rattle.fram_board.specs.alp_words.declared.Width.{Width}
+use Rattle.fram_board.specs.alp_words.declared.Width.TheVariants.{Word}
+use Rattle.fram_board.specs.alp_words.declared.Flags.{Flags}
+use Rattle.fram_board.specs.alp_words.Words.{operand}
+use Rattle.fram_board.specs.msp_isa.declared.registers.Reg.{Reg}
+use Rattle.fram_board.specs.msp_isa.declared.operands.Konst.{Konst}
+use Rattle.fram_board.specs.msp_isa.declared.operands.Operand.{Operand}
+use Rattle.fram_board.specs.msp_isa.declared.operands.Operand.TheVariants as mode
+use Rattle.fram_board.specs.msp_isa.declared.operands.Src.{Src}
+use Rattle.fram_board.specs.msp_isa.declared.operands.Src.TheVariants as src
+use Rattle.fram_board.specs.msp_isa.declared.operands.Dst.{Dst}
+use Rattle.fram_board.specs.msp_isa.declared.instructions.TwoOp.{TwoOp}
+use Rattle.fram_board.specs.msp_isa.declared.instructions.OneOp.{OneOp}
+use Rattle.fram_board.specs.msp_isa.declared.instructions.OneOp.TheVariants as one
+use Rattle.fram_board.specs.msp_isa.declared.instructions.Instr.{Instr}
+use Rattle.fram_board.specs.msp_isa.declared.instructions.Instr.TheVariants as instr
+use Rattle.fram_board.specs.msp_isa.Constant.{constant_value}
+use Rattle.fram_board.specs.msp_isa.Encoding.{index_number, register_number, source_row, destination_row, operand_row}
+use Rattle.fram_board.proofs.msp_isa.Interface.{index_below}
+use Rattle.fram_board.specs.msp_step.declared.bus.Refused.{Refused}
+use Rattle.fram_board.specs.msp_step.declared.operand.Location.{Location}
+use Rattle.fram_board.specs.msp_step.declared.operand.Location.TheVariants.{Register, Memory}
+use Rattle.fram_board.specs.msp_step.Registers.{Registers, with_register}
+use Rattle.fram_board.specs.msp_step.Access.{BusModel, Access, Completed, Faulted, then_do, read_answer, write_answer, read_at, write_at}
+use Rattle.fram_board.specs.msp_step.Effect.{Operated, sum16, step_of, status_with, Written, source, load, store, finish, operand_location, incremented}
+use Rattle.fram_board.specs.msp_step.Effect.{destination_operand, after_source, operated, flags_of, with_flags, reads_destination, writes_destination}
+use Rattle.fram_board.specs.msp_step.Effect.{destination_location, two_operand_effect, is_met, distance, read_modify_write, rotated, shifted, exchanged, sign_extended}
+use Rattle.fram_board.specs.msp_step.Effect.{below_stack, push_effect, call_effect, reti_effect}
+use Rattle.fram_board.specs.msp_step.Step.{effect, one_operand_effect}
 
 -- W holds of values, P of registers and Q of the bus, and each part of an instruction keeps them
 pub record IsClosed {S : Type 0} (bus : BusModel S) (W : ℕ → Type 0) (P : Registers → Type 0) (Q : S → Type 0) : Type 0 where

@@ -1,11 +1,14 @@
-pub mod Going
-pub mod Worlds
-pub mod Logs
-pub mod Alike
-pub mod Along
-pub mod Steps
-pub mod Values
-pub mod Words
-pub mod Views
-pub mod Runs
-pub mod Accepted
+mod Going
+mod Worlds
+mod Logs
+mod Alike
+mod Along
+mod Steps
+mod Values
+mod Words
+mod Views
+mod Runs
+mod Accepted
+pub mod Interface
+pub use Rattle.fram_board.proofs.msp_step as msp_step
+pub use Rattle.fram_board.proofs as fram_board

@@ -4,20 +4,20 @@ use Rattle.std.proofs.Common.{append-nil, eq-eqb, Option, Some, None}
 use Rattle.std.proofs.lemmas.List.{map-append}
 use Rattle.std.proofs.lemmas.Bool.Decides.{nat_tests}
 use Rattle.std.proofs.lemmas.Bool.{and_parts}
-use Rattle.alp_words.specs.declared.Width.{Width}
-use Rattle.alp_words.specs.declared.Width.TheVariants.{Word, Byte}
-use Rattle.msp_isa.specs.declared.instructions.Instr.{Instr}
-use Rattle.msp_step.specs.Registers.{Registers}
-use Rattle.msp_step.specs.Access.{Access, Completed, Faulted, HasRead, Nothing, Once, OnlyReads}
-use Rattle.msp_step.specs.Effect.{Written}
-use Rattle.msp_step.specs.Step.{effect, off_bit}
-use Rattle.msp_step.specs.Laws.{AfterWrite}
-use Rattle.msp_step.proofs.Accesses.{Ends, effect_ends}
-use Rattle.msp_cycles.specs.Cycles.{cycles_of}
-use Rattle.msp_step.specs.declared.machine.Stop.TheVariants as stop
+use Rattle.fram_board.specs.alp_words.declared.Width.{Width}
+use Rattle.fram_board.specs.alp_words.declared.Width.TheVariants.{Word, Byte}
+use Rattle.fram_board.specs.msp_isa.declared.instructions.Instr.{Instr}
+use Rattle.fram_board.specs.msp_step.Registers.{Registers}
+use Rattle.fram_board.specs.msp_step.Access.{Access, Completed, Faulted, HasRead, Nothing, Once, OnlyReads}
+use Rattle.fram_board.specs.msp_step.Effect.{Written}
+use Rattle.fram_board.specs.msp_step.Step.{effect, off_bit}
+use Rattle.fram_board.specs.msp_step.Laws.{AfterWrite}
+use Rattle.fram_board.proofs.msp_step.Interface.{Ends, effect_ends}
+use Rattle.fram_board.specs.msp_cycles.Cycles.{cycles_of}
+use Rattle.fram_board.specs.msp_step.declared.machine.Stop.TheVariants as stop
 use Rattle.fram_board.specs.Bus.{is_ram, is_fram, is_memory, is_word, with_byte, sensor_port, number_port, data_port}
 use Rattle.fram_board.specs.Effects.{Effect, Store, Take, Send, sends_of}
-use Rattle.fram_board.proofs.Effects.{data_not_fram, other_is_fram, ram_not_fram}
+use Rattle.fram_board.proofs.Interface.{data_not_fram, other_is_fram, ram_not_fram}
 use Rattle.machine_effects.specs.World.{put, fram_after, readings_taken}
 use Rattle.machine_effects.specs.Going.{Stops}
 use Rattle.machine_effects.specs.Machine.{MachineBus, machine_bus, machine_word, word_address, reading_taken, machine_after_read, machine_stored}

@@ -2,14 +2,14 @@
 use Rattle.std.proofs.Common.{◌≡◌, ◌≤◌, ◌<◌, ◌+◌, ◌-◌, inl, inr, arith, ℕ, suc, refl, sym, ◌∙◌, ap, subst, List, [], ◌∷◌, ◌++◌, length, drop, slice_range}
 use Rattle.std.proofs.Common.{append_assoc, append-nil, Option, None, Ok, Err}
 use Rattle.std.proofs.lemmas.List.Folds.{drop_split}
-use Rattle.msp_isa.specs.declared.instructions.Instr.{Instr}
-use Rattle.msp_cycles.specs.Cycles.{cycles_of}
-use Rattle.msp_step.specs.declared.machine.Stop.{Stop}
-use Rattle.msp_step.specs.Registers.{Registers, registers_of}
-use Rattle.msp_step.specs.Access.{Access, Completed, Faulted}
-use Rattle.msp_step.specs.Effect.{Written}
-use Rattle.msp_step.specs.Step.{effect, execution, outcome_of, Executed}
-use Rattle.msp_step.proofs.Accesses.{Ends, effect_ends}
+use Rattle.fram_board.specs.msp_isa.declared.instructions.Instr.{Instr}
+use Rattle.fram_board.specs.msp_cycles.Cycles.{cycles_of}
+use Rattle.fram_board.specs.msp_step.declared.machine.Stop.{Stop}
+use Rattle.fram_board.specs.msp_step.Registers.{Registers, registers_of}
+use Rattle.fram_board.specs.msp_step.Access.{Access, Completed, Faulted}
+use Rattle.fram_board.specs.msp_step.Effect.{Written}
+use Rattle.fram_board.specs.msp_step.Step.{effect, execution, outcome_of, Executed}
+use Rattle.fram_board.proofs.msp_step.Interface.{Ends, effect_ends}
 use Rattle.fram_board.specs.declared.board.Stepped.{Stepped}
 use Rattle.fram_board.specs.Bus.{BusState, board_bus}
 use Rattle.fram_board.specs.Board.{BoardValue, BoardOutcome, opened, board_outcome, executed, IsNextInstruction, IsStep}
@@ -17,7 +17,7 @@ use Rattle.fram_board.specs.Effects.{Effect, sends_of, effects_of}
 use Rattle.fram_board.specs.Run.{Measure, Cycles, Instructions, price, Action, Execute, Moment, moment_of, End, Charges, RunOutcome, run_outcome, after_moments}
 use Rattle.fram_board.specs.Run.{ChargeRun, Spent, NoInstruction, TooDear, Refused}
 use Rattle.fram_board.specs.Run as run
-use Rattle.fram_board.proofs.Takes.{only_takes}
+use Rattle.fram_board.proofs.Interface.{only_takes}
 use Rattle.machine_effects.specs.World.{fram_after, readings_taken}
 use Rattle.machine_effects.specs.Going.{Goes, Stops, Halted, stretch}
 use Rattle.machine_effects.specs.Machine.{IsMachineStep, MachineRun, Stays, Halts, Steps, machine_executed, fram_of}

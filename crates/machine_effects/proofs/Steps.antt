@@ -7,33 +7,32 @@ use Rattle.std.proofs.lemmas.Bool.Decides.{nat_tests}
 use Rattle.std.proofs.lemmas.List.{append_cancel_right}
 use Rattle.std.proofs.lemmas.List.Folds.{drop_split}
 use Rattle.std.proofs.lemmas.Bool.{and_parts}
-use Rattle.alp_words.specs.declared.Width.{Width}
-use Rattle.alp_words.specs.declared.Width.TheVariants.{Word, Byte}
-use Rattle.msp_isa.specs.declared.operands.Src.{Src}
-use Rattle.msp_isa.specs.declared.operands.Src.TheVariants as src
-use Rattle.msp_isa.specs.declared.instructions.OneOp.TheVariants as one
-use Rattle.msp_isa.specs.declared.instructions.Instr.{Instr}
-use Rattle.msp_isa.specs.declared.instructions.Instr.TheVariants as instr
-use Rattle.msp_isa.specs.Encoding.{encoding}
-use Rattle.msp_cycles.specs.Cycles.{cycles_of}
-use Rattle.msp_step.specs.declared.machine.Stop.{Stop}
-use Rattle.msp_step.specs.declared.machine.Stop.TheVariants as stop
-use Rattle.msp_step.specs.Registers.{Registers, with_register, kept, registers_of}
-use Rattle.msp_step.specs.Access.{BusModel, Access, Completed, Faulted}
-use Rattle.msp_step.specs.Effect.{Written, sum16}
-use Rattle.msp_step.specs.Step.{FetchedAt, NotFetched, First, Second, Third, IsStopped, IsCurrentInstruction, effect, stop_of, Outcome, outcome_of, StepResult}
-use Rattle.msp_step.specs.Step.{Stopped, Executed}
-use Rattle.msp_step.specs.Laws.{AfterWrite}
-use Rattle.msp_step.proofs.Accesses.{Ends, effect_ends}
-use Rattle.msp_step.proofs.Determined.{same_current, same_stop, not_stopped}
+use Rattle.fram_board.specs.alp_words.declared.Width.{Width}
+use Rattle.fram_board.specs.alp_words.declared.Width.TheVariants.{Word, Byte}
+use Rattle.fram_board.specs.msp_isa.declared.operands.Src.{Src}
+use Rattle.fram_board.specs.msp_isa.declared.operands.Src.TheVariants as src
+use Rattle.fram_board.specs.msp_isa.declared.instructions.OneOp.TheVariants as one
+use Rattle.fram_board.specs.msp_isa.declared.instructions.Instr.{Instr}
+use Rattle.fram_board.specs.msp_isa.declared.instructions.Instr.TheVariants as instr
+use Rattle.fram_board.specs.msp_isa.Encoding.{encoding}
+use Rattle.fram_board.specs.msp_cycles.Cycles.{cycles_of}
+use Rattle.fram_board.specs.msp_step.declared.machine.Stop.{Stop}
+use Rattle.fram_board.specs.msp_step.declared.machine.Stop.TheVariants as stop
+use Rattle.fram_board.specs.msp_step.Registers.{Registers, with_register, kept, registers_of}
+use Rattle.fram_board.specs.msp_step.Access.{BusModel, Access, Completed, Faulted}
+use Rattle.fram_board.specs.msp_step.Effect.{Written, sum16}
+use Rattle.fram_board.specs.msp_step.Step.{FetchedAt, NotFetched, First, Second, Third, IsStopped, IsCurrentInstruction, effect, stop_of, Outcome, outcome_of, StepResult}
+use Rattle.fram_board.specs.msp_step.Step.{Stopped, Executed}
+use Rattle.fram_board.specs.msp_step.Laws.{AfterWrite}
+use Rattle.fram_board.proofs.msp_step.Interface.{Ends, effect_ends, same_current, same_stop, not_stopped}
 use Rattle.step_laws.specs.Alike.{Alike}
-use Rattle.step_laws.proofs.EffectAlike.{effect_alike}
-use Rattle.image_text.specs.ImageValue.{place_of}
+use Rattle.step_laws.proofs.Interface.{effect_alike}
+use Rattle.fram_board.specs.image_text.ImageValue.{place_of}
 use Rattle.fram_board.specs.Bus.{BusState, board_bus, is_ram, is_fram, is_memory, is_word, written, port_written, with_word, with_byte, memory_word}
 use Rattle.fram_board.specs.Bus.{number_port, data_port}
 use Rattle.fram_board.specs.Board.{BoardValue, BoardOutcome, opened, closed, board_outcome, executed, register_list, IsNextInstruction}
 use Rattle.fram_board.specs.Effects.{Effect, Store, store_at, sends_of, effects_of}
-use Rattle.fram_board.proofs.Takes.{only_takes, execution_takes}
+use Rattle.fram_board.proofs.Interface.{only_takes, execution_takes}
 use Rattle.machine_effects.specs.Going.{Goes, Stops, At, Halted, stretch, after_effects}
 use Rattle.machine_effects.specs.Machine.{MachineBus, MachineBoard, MachineOutcome, MachineStretch, machine_bus, machine_opened, machine_closed}
 use Rattle.machine_effects.specs.Machine.{machine_outcome, machine_executed, IsMachineStep, NoInstruction, Executes, MachineRun, Stays, Halts, Steps}

@@ -3,20 +3,20 @@ use Rattle.std.proofs.Common.{◌==◌, ◌<◌, ◌+◌, ◌-◌, ◌*◌, ◌/
 use Rattle.std.proofs.Common.{slice_set}
 use Rattle.std.proofs.lemmas.Nat.{and_le_l, or_of_16, xor_of_16}
 use Rattle.std.proofs.lemmas.Bool.Decides.{nat_tests}
-use Rattle.alp_words.specs.declared.Width.{Width}
-use Rattle.alp_words.specs.declared.Width.TheVariants.{Word, Byte}
-use Rattle.alp_words.specs.declared.Flags.{Flags}
-use Rattle.alp_words.specs.Words as words
-use Rattle.alp_words.specs.Words.{bit, operand, modulus, sign_weight, bcd_sum, decimal_digit, digit_count, word_bytes, word_of_bytes, extended, is_negative}
-use Rattle.alp_words.specs.Words.{swapped}
-use Rattle.alp_words.proofs.Decimal.{digit_below}
-use Rattle.msp_isa.specs.declared.operands.Konst.{Konst}
-use Rattle.msp_isa.specs.declared.operands.Konst.TheVariants as konst
-use Rattle.msp_isa.specs.Constant.{constant_value}
-use Rattle.msp_isa.specs.declared.instructions.TwoOp.{TwoOp}
-use Rattle.msp_isa.specs.declared.instructions.TwoOp.TheVariants.{Mov, Add, Addc, Subc, Sub, Cmp, Dadd, Bit, Bic, Bis, Xor, And}
-use Rattle.msp_step.specs.Registers.{Registers, with_register, kept}
-use Rattle.msp_step.specs.Effect.{operated, status_with, rotated, shifted, exchanged, sign_extended, sum16}
+use Rattle.fram_board.specs.alp_words.declared.Width.{Width}
+use Rattle.fram_board.specs.alp_words.declared.Width.TheVariants.{Word, Byte}
+use Rattle.fram_board.specs.alp_words.declared.Flags.{Flags}
+use Rattle.fram_board.specs.alp_words.Words as words
+use Rattle.fram_board.specs.alp_words.Words.{bit, operand, modulus, sign_weight, bcd_sum, decimal_digit, digit_count, word_bytes, word_of_bytes, extended, is_negative}
+use Rattle.fram_board.specs.alp_words.Words.{swapped}
+use Rattle.fram_board.proofs.alp_words.Interface.{digit_below}
+use Rattle.fram_board.specs.msp_isa.declared.operands.Konst.{Konst}
+use Rattle.fram_board.specs.msp_isa.declared.operands.Konst.TheVariants as konst
+use Rattle.fram_board.specs.msp_isa.Constant.{constant_value}
+use Rattle.fram_board.specs.msp_isa.declared.instructions.TwoOp.{TwoOp}
+use Rattle.fram_board.specs.msp_isa.declared.instructions.TwoOp.TheVariants.{Mov, Add, Addc, Subc, Sub, Cmp, Dadd, Bit, Bic, Bis, Xor, And}
+use Rattle.fram_board.specs.msp_step.Registers.{Registers, with_register, kept}
+use Rattle.fram_board.specs.msp_step.Effect.{operated, status_with, rotated, shifted, exchanged, sign_extended, sum16}
 use Rattle.fram_board.specs.Bus.{byte_of, with_byte}
 
 abbrev pub IsSmall : ℕ → Type 0

@@ -1,7 +1,7 @@
 -- The views of a powered and of a fresh board.
 use Rattle.std.proofs.Common.{◌≡◌, ◌==◌, ◌&&◌, ◌%◌, ℕ, zero, suc, refl, ap, Bool, true, false, if◌then◌else◌, replicate, slice_index}
 use mathlib.Core.Path.{fun_ext}
-use Rattle.msp_step.specs.Registers.{registers_of, powered_up}
+use Rattle.fram_board.specs.msp_step.Registers.{registers_of, powered_up}
 use Rattle.fram_board.specs.Bus.{is_ram, ram_place}
 use Rattle.fram_board.specs.Board.{filled_words, vector_of}
 use Rattle.machine_effects.specs.Machine.{MachineBoard, fram_of, ram_of}

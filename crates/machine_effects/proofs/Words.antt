@@ -3,31 +3,30 @@ use Rattle.std.proofs.Common.{◌≡◌, ◌==◌, ◌&&◌, ◌≤◌, ◌<◌,
 use Rattle.std.proofs.lemmas.Bool.{cases_lt}
 use Rattle.std.proofs.lemmas.List.{length-replicate}
 use Rattle.std.proofs.lemmas.List.Elements.{All-set, All-replicate}
-use Rattle.alp_words.specs.declared.Width.{Width}
-use Rattle.alp_words.specs.declared.Width.TheVariants.{Word, Byte}
-use Rattle.msp_isa.specs.declared.operands.Src.TheVariants as src
-use Rattle.msp_isa.specs.declared.instructions.OneOp.TheVariants as one
-use Rattle.msp_isa.specs.declared.instructions.Instr.{Instr}
-use Rattle.msp_isa.specs.declared.instructions.Instr.TheVariants as instr
-use Rattle.msp_isa.specs.Encoding.{encoding}
-use Rattle.msp_cycles.specs.Cycles.{cycles_of}
-use Rattle.msp_step.specs.declared.bus.Refused.{Refused}
-use Rattle.msp_step.specs.declared.bus.Refused.TheVariants as refused
-use Rattle.msp_step.specs.declared.machine.Stop.TheVariants as stop
-use Rattle.msp_step.specs.Registers.{Registers, registers_of, kept, powered_up}
-use Rattle.msp_step.specs.Access.{BusModel, Access, Completed, Faulted}
-use Rattle.msp_step.specs.Effect.{Written}
-use Rattle.msp_step.specs.Step.{FetchedAt, effect, outcome_of, Outcome, StepResult, Stopped, Executed, off_bit}
+use Rattle.fram_board.specs.alp_words.declared.Width.{Width}
+use Rattle.fram_board.specs.alp_words.declared.Width.TheVariants.{Word, Byte}
+use Rattle.fram_board.specs.msp_isa.declared.operands.Src.TheVariants as src
+use Rattle.fram_board.specs.msp_isa.declared.instructions.OneOp.TheVariants as one
+use Rattle.fram_board.specs.msp_isa.declared.instructions.Instr.{Instr}
+use Rattle.fram_board.specs.msp_isa.declared.instructions.Instr.TheVariants as instr
+use Rattle.fram_board.specs.msp_isa.Encoding.{encoding}
+use Rattle.fram_board.specs.msp_cycles.Cycles.{cycles_of}
+use Rattle.fram_board.specs.msp_step.declared.bus.Refused.{Refused}
+use Rattle.fram_board.specs.msp_step.declared.bus.Refused.TheVariants as refused
+use Rattle.fram_board.specs.msp_step.declared.machine.Stop.TheVariants as stop
+use Rattle.fram_board.specs.msp_step.Registers.{Registers, registers_of, kept, powered_up}
+use Rattle.fram_board.specs.msp_step.Access.{BusModel, Access, Completed, Faulted}
+use Rattle.fram_board.specs.msp_step.Effect.{Written}
+use Rattle.fram_board.specs.msp_step.Step.{FetchedAt, effect, outcome_of, Outcome, StepResult, Stopped, Executed, off_bit}
 use Rattle.step_laws.specs.Alike.{Alike}
 use Rattle.step_laws.specs.Effects.{IsValid}
 use Rattle.step_laws.specs.Effects as laws
-use Rattle.step_laws.proofs.Valid.{stays_valid}
-use Rattle.step_laws.proofs.EffectAlike.{effect_alike}
-use Rattle.image_text.specs.ImageValue.{place_of}
+use Rattle.step_laws.proofs.Interface.{stays_valid, effect_alike}
+use Rattle.fram_board.specs.image_text.ImageValue.{place_of}
 use Rattle.fram_board.specs.Bus.{BusState, IsBusState, board_bus, is_ram, is_fram, is_memory, is_word, ram_place, memory_word, with_word, with_byte, byte_of, next_reading, read_of, after_read, written, port_written, sensor_port, number_port, data_port}
 use Rattle.fram_board.specs.Board.{BoardValue, opened, closed, board_outcome, register_list, filled_words, vector_of}
 use Rattle.fram_board.specs.Effects.{Effect, Store}
-use Rattle.fram_board.proofs.Powers.{power_up_leaves_a_board}
+use Rattle.fram_board.proofs.Interface.{power_up_leaves_a_board}
 use Rattle.machine_effects.specs.World.{put}
 use Rattle.machine_effects.specs.Going.{Stops}
 use Rattle.machine_effects.specs.Machine.{MachineBus, MachineBoard, MachineOutcome, machine_bus, machine_word, word_address, first_reading, machine_read, reading_taken, machine_after_read, machine_stored, machine_port_written, machine_written, machine_opened, machine_outcome, machine_executed, NoInstruction, Executes, standing}

@@ -1,8 +1,8 @@
 -- Laws of the machine, and that it is the board.
 use Rattle.std.specs.Prelude.{ℕ, ◌≡◌, ◌<◌, ◌≤◌, List, All, ◌++◌, length, Some}
-use Rattle.msp_isa.specs.declared.instructions.Instr.{Instr}
-use Rattle.msp_isa.specs.Encoding.{encoding}
-use Rattle.msp_step.specs.Registers.{registers_of, powered_up}
+use Rattle.fram_board.specs.msp_isa.declared.instructions.Instr.{Instr}
+use Rattle.fram_board.specs.msp_isa.Encoding.{encoding}
+use Rattle.fram_board.specs.msp_step.Registers.{registers_of, powered_up}
 use Rattle.fram_board.specs.Board.{BoardValue, BoardOutcome, IsStep, PowerState, IsPowerState, powered, fresh, vector_of}
 use Rattle.fram_board.specs.Effects.{Effect}
 use Rattle.fram_board.specs.Run.{Measure, Moment, RunOutcome, ChargeRun, accepted_words}

@@ -2,19 +2,19 @@
 -- Its bus keeps a log of what an instruction does to FRAM, the sensor and the receiver. Its instructions, their effects and
 -- cycles are those of every bus (SLAU049 and SLAU144, CPU chapter).
 use Rattle.std.specs.Prelude.{ℕ, zero, suc, ◌-◌, ◌%◌, ◌≡◌, ◌<◌, ◌≤◌, ◌==◌, ◌&&◌, if◌then◌else◌, slice_index, List, [], ◌∷◌, ◌++◌, Result, Ok, Err, Option, Some, None}
-use Rattle.alp_words.specs.declared.Width.{Width}
-use Rattle.alp_words.specs.declared.Width.TheVariants.{Word, Byte}
-use Rattle.msp_isa.specs.declared.instructions.Instr.{Instr}
-use Rattle.msp_cycles.specs.Cycles.{cycles_of}
-use Rattle.msp_step.specs.declared.bus.Refused.{Refused}
-use Rattle.msp_step.specs.declared.bus.Refused.TheVariants as refused
-use Rattle.msp_step.specs.declared.machine.Stop.{Stop}
-use Rattle.msp_step.specs.declared.machine.Stop.TheVariants as stop
-use Rattle.msp_step.specs.Registers.{Registers, registers_of, kept}
-use Rattle.msp_step.specs.Access.{BusModel, Access, Completed, Faulted}
-use Rattle.msp_step.specs.Effect.{Written}
-use Rattle.msp_step.specs.Step.{effect, off_bit, stop_of, IsStopped, IsCurrentInstruction}
-use Rattle.image_text.specs.ImageValue.{place_of}
+use Rattle.fram_board.specs.alp_words.declared.Width.{Width}
+use Rattle.fram_board.specs.alp_words.declared.Width.TheVariants.{Word, Byte}
+use Rattle.fram_board.specs.msp_isa.declared.instructions.Instr.{Instr}
+use Rattle.fram_board.specs.msp_cycles.Cycles.{cycles_of}
+use Rattle.fram_board.specs.msp_step.declared.bus.Refused.{Refused}
+use Rattle.fram_board.specs.msp_step.declared.bus.Refused.TheVariants as refused
+use Rattle.fram_board.specs.msp_step.declared.machine.Stop.{Stop}
+use Rattle.fram_board.specs.msp_step.declared.machine.Stop.TheVariants as stop
+use Rattle.fram_board.specs.msp_step.Registers.{Registers, registers_of, kept}
+use Rattle.fram_board.specs.msp_step.Access.{BusModel, Access, Completed, Faulted}
+use Rattle.fram_board.specs.msp_step.Effect.{Written}
+use Rattle.fram_board.specs.msp_step.Step.{effect, off_bit, stop_of, IsStopped, IsCurrentInstruction}
+use Rattle.fram_board.specs.image_text.ImageValue.{place_of}
 use Rattle.fram_board.specs.Bus.{ram_place, is_ram, is_fram, is_memory, is_word, byte_of, with_byte, sensor_port, number_port, data_port}
 use Rattle.fram_board.specs.Board.{PowerState}
 use Rattle.fram_board.specs.Effects.{Effect, Store, Take, Send}

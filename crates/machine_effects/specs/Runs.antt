@@ -1,7 +1,7 @@
 -- A charge of the board as steps of the machine.
 use Rattle.std.specs.Prelude.{ℕ, suc, ◌+◌, ◌≡◌, ◌<◌, ◌≤◌, ◌⊎◌, List, [], ◌∷◌, ◌++◌, length, map, drop, Ok}
-use Rattle.msp_isa.specs.declared.instructions.Instr.{Instr}
-use Rattle.msp_step.specs.declared.machine.Stop.{Stop}
+use Rattle.fram_board.specs.msp_isa.declared.instructions.Instr.{Instr}
+use Rattle.fram_board.specs.msp_step.declared.machine.Stop.{Stop}
 use Rattle.fram_board.specs.Board.{BoardValue, IsNextInstruction}
 use Rattle.fram_board.specs.Effects.{Effect, Take, effects_of}
 use Rattle.fram_board.specs.Run.{Measure, Cycles, Instructions, price, Action, PowerUp, Execute, Moment, End, Charges, Stopped, RunOutcome}

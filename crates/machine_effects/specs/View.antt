@@ -1,7 +1,7 @@
 -- The board of the running program as the machine.
 use Rattle.std.specs.Prelude.{ℕ, ◌≡◌, ◌<◌, ◌⊎◌, List, All, drop, Result, Ok, Err}
-use Rattle.msp_step.specs.declared.machine.Stop.{Stop}
-use Rattle.msp_step.specs.Registers.{IsRegisters, registers_of}
+use Rattle.fram_board.specs.msp_step.declared.machine.Stop.{Stop}
+use Rattle.fram_board.specs.msp_step.Registers.{IsRegisters, registers_of}
 use Rattle.fram_board.specs.declared.board.Stepped.{Stepped}
 use Rattle.fram_board.specs.Board.{BoardValue, BoardOutcome, BoardCosts, IsBoard}
 use Rattle.fram_board.specs.Effects.{Effect, effects_of}

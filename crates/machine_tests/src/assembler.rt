@@ -1,8 +1,8 @@
 //! Instructions and words from outside assemblers, the worked texts, and each fault.
-use msp_asm::{AsmFault, assemble, disassemble};
 use alp_io::{MemSink, NullSink};
 use alp_text::Span;
 use image_text::{Image, parse_image, print_image};
+use msp_asm::{AsmFault, assemble, disassemble};
 use std::test::Fail;
 
 fn assembled(rt: &HostRuntime, text: &[u8]) -> Result<Image, AsmFault> {

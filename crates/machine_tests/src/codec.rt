@@ -4,8 +4,8 @@ use msp_cycles::cycles;
 use msp_decode::{Illegal, decode, words_of};
 use msp_encode::encode;
 use msp_isa::{
-    Condition, Dst, IndexRegister, Instr, Konst, Offset, OneOp, Operand, Reg, SourceRegister,
-    Src, TwoOp,
+    Condition, Dst, IndexRegister, Instr, Konst, Offset, OneOp, Operand, Reg, SourceRegister, Src,
+    TwoOp,
 };
 use std::process::Abort;
 

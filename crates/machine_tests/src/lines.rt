@@ -1,6 +1,6 @@
 //! Each call once.
-use asm_line::{Line, Piece, Statement, Value, cut_line, fill, line_of, next_value, offset_to};
 use alp_words::Width;
+use asm_line::{Line, Piece, Statement, Value, cut_line, fill, line_of, next_value, offset_to};
 use msp_isa::{Dst, IndexRegister, Instr, Konst, Operand, Reg, Src, TwoOp};
 
 fn piece(text: &[u8]) -> Piece<'_> {

@@ -1,8 +1,8 @@
 //! Runs from the description of the board and of reports.
 ghost use Rattle.std.specs.Prelude.{◌≡◌, ◌<◌, length};
 
-use board_run::{RunEnd, RunFault, Watch, run};
 use alp_io::{MemSink, Report};
+use board_run::{RunEnd, RunFault, Watch, run};
 use energy_trace::{Trace, parse_trace};
 use fram_board::Board;
 use image_text::parse_image;

@@ -1,7 +1,8 @@
-pub mod InOrder
-pub mod Parts
-pub mod Apart
-pub mod InRegions
-pub mod Homes
-pub mod Addresses
-pub mod Spots
+mod InOrder
+mod Parts
+mod Apart
+mod InRegions
+mod Homes
+mod Addresses
+mod Spots
+pub mod Interface

@@ -4,3 +4,4 @@ pub mod Places
 pub mod View
 pub mod Spots
 pub mod Laws
+pub use Rattle.address_space.specs as address_space

@@ -1,27 +1,24 @@
 -- A run that stops stops where the source is short.
 use Rattle.std.proofs.Common.{◌≡◌, ℕ, suc, ◌-◌, ◌<◌, false, refl, sym, ap, ◌∙◌, subst, List, [], ◌∷◌, ◌++◌, length, drop, map, append_assoc}
-use Rattle.msp_step.specs.declared.machine.Stop.{Stop}
-use Rattle.msp_step.specs.declared.machine.Stop.TheVariants as stop
-use Rattle.fram_board.specs.Board.{BoardValue, IsPowerState, powered, executed}
-use Rattle.fram_board.specs.Effects.{Effect, Take}
-use Rattle.fram_board.specs.Run.{Measure, price, Moment, Charges, Stopped, RunOutcome, run_outcome, BoardCharge, ChargeRun, Spent, NoInstruction, TooDear, Refused, Executed, Run, Over, Next, Last, power_up_of}
-use Rattle.machine_effects.specs.World.{World, EachStore}
-use Rattle.machine_effects.specs.Going.{Halted, stretch, going}
-use Rattle.machine_effects.specs.Machine.{MachineBoard}
-use Rattle.machine_effects.specs.View.{machine_of}
-use Rattle.machine_effects.specs.Runs.{moments_effects, moments_cycles, last_board, StopsAs}
-use Rattle.machine_effects.proofs.Words.{power_up_keeps_words}
-use Rattle.machine_effects.proofs.Runs.{charges_alike}
+use Rattle.crash_rules.specs.msp_step.declared.machine.Stop.{Stop}
+use Rattle.crash_rules.specs.msp_step.declared.machine.Stop.TheVariants as stop
+use Rattle.crash_rules.specs.fram_board.Board.{BoardValue, IsPowerState, powered, executed}
+use Rattle.crash_rules.specs.fram_board.Effects.{Effect, Take}
+use Rattle.crash_rules.specs.fram_board.Run.{Measure, price, Moment, Charges, Stopped, RunOutcome, run_outcome, BoardCharge, ChargeRun, Spent, NoInstruction, TooDear, Refused, Executed, Run, Over, Next, Last, power_up_of}
+use Rattle.crash_rules.specs.machine_effects.World.{World, EachStore}
+use Rattle.crash_rules.specs.machine_effects.Going.{Halted, stretch, going}
+use Rattle.crash_rules.specs.machine_effects.Machine.{MachineBoard}
+use Rattle.crash_rules.specs.machine_effects.View.{machine_of}
+use Rattle.crash_rules.specs.machine_effects.Runs.{moments_effects, moments_cycles, last_board, StopsAs}
+use Rattle.crash_rules.proofs.machine_effects.Interface.{power_up_keeps_words, charges_alike}
 use Rattle.crash_rules.specs.Model.{Model, IsElsewhere}
 use Rattle.crash_rules.specs.History.{History, observe, behind_boot}
 use Rattle.crash_rules.specs.Runs.{Program}
 use Rattle.crash_rules.specs.Laws.{Origin, Reaches, Phase, UndecidedPhase, DecidedPhase}
-use Rattle.crash_rules.proofs.Observed.{observe-append, observe_quiet, with_effects}
-use Rattle.crash_rules.proofs.Theorems.{stops_short}
+use Rattle.crash_rules.proofs.Interface.{observe-append, observe_quiet, with_effects, stops_short}
 use Rattle.run_charges.specs.Charges.{ArePowerStates, AreInstructionMoments}
 use Rattle.run_charges.specs.Laws.{IsRunOfWords}
-use Rattle.run_charges.proofs.Moments.{first_start, other_starts, charge_last}
-use Rattle.run_charges.proofs.Programs.{observed-append, instructions_observed}
+use Rattle.run_charges.proofs.Interface.{first_start, other_starts, charge_last, observed-append, instructions_observed}
 use Rattle.model_runs.specs.Runs.{BearsModel, history_behind, IsShort}
 use Rattle.model_runs.specs.Laws.{StopsWhereShort}
 use Rattle.model_runs.proofs.Fronts.{last-append, AtFront, at_front, begun, is_powered, program_runs}

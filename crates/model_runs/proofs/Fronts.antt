@@ -1,24 +1,23 @@
 -- Fronts of a run whose code is a program of a model.
 use Rattle.std.proofs.Common.{◌≡◌, ℕ, refl, sym, ap, ◌∙◌, subst, List, [], ◌∷◌, ◌++◌, length}
-use Rattle.fram_board.specs.Board.{BoardValue, PowerState, IsPowerState, powered}
-use Rattle.fram_board.specs.Run.{Moment, RunOutcome, BoardCharge}
-use Rattle.machine_effects.specs.World.{World}
-use Rattle.machine_effects.specs.Going.{going}
-use Rattle.machine_effects.specs.Machine.{MachineBoard, MachineOutcome, MachineStretch, MachineRun, fram_of}
-use Rattle.machine_effects.specs.View.{machine_of}
-use Rattle.machine_effects.specs.Runs.{last_board}
-use Rattle.machine_effects.proofs.Words.{machine_is_of_words}
-use Rattle.machine_effects.proofs.Views.{power_up_is_the_machines}
-use Rattle.code_forms.specs.Placed.{words_of, LeavesCode}
-use Rattle.code_forms.proofs.Placed.{code_in_fram_runs}
+use Rattle.crash_rules.specs.fram_board.Board.{BoardValue, PowerState, IsPowerState, powered}
+use Rattle.crash_rules.specs.fram_board.Run.{Moment, RunOutcome, BoardCharge}
+use Rattle.crash_rules.specs.machine_effects.World.{World}
+use Rattle.crash_rules.specs.machine_effects.Going.{going}
+use Rattle.crash_rules.specs.machine_effects.Machine.{MachineBoard, MachineOutcome, MachineStretch, MachineRun, fram_of}
+use Rattle.crash_rules.specs.machine_effects.View.{machine_of}
+use Rattle.crash_rules.specs.machine_effects.Runs.{last_board}
+use Rattle.crash_rules.proofs.machine_effects.Interface.{machine_is_of_words, power_up_is_the_machines}
+use Rattle.run_charges.specs.code_forms.Placed.{words_of, LeavesCode}
+use Rattle.run_charges.proofs.code_forms.Interface.{code_in_fram_runs}
 use Rattle.crash_rules.specs.Model.{Model}
 use Rattle.crash_rules.specs.History.{History, first_history}
 use Rattle.crash_rules.specs.Runs.{Program, Charge, Charged}
 use Rattle.crash_rules.specs.Laws.{Origin}
-use Rattle.crash_rules.proofs.Theorems.{crash_theorem}
+use Rattle.crash_rules.proofs.Interface.{crash_theorem}
 use Rattle.run_charges.specs.Charges.{ChargeFront, board_behind, board_behind_all, moments_of, charges_of, observed, LeavesProgram}
 use Rattle.run_charges.specs.Laws.{IsRunOfWords, IsChargedBy}
-use Rattle.run_charges.proofs.Programs.{Ready, ready_behind_all, fronts_are_charged}
+use Rattle.run_charges.proofs.Interface.{Ready, ready_behind_all, fronts_are_charged}
 use Rattle.model_runs.specs.Runs.{BearsModel, history_behind}
 use Rattle.model_runs.specs.Laws.{FrontsAreLawful}
 

@@ -1,7 +1,15 @@
-pub mod Fronts
-pub mod Ends
-pub mod Steps
-pub mod Progress
-pub mod Counts
-pub mod Spans
-pub mod Words
+mod Fronts
+mod Ends
+mod Steps
+mod Progress
+mod Counts
+mod Spans
+mod Words
+mod Places
+mod Events
+mod Histories
+mod Reports
+pub mod Interface
+pub use Rattle.crash_rules.proofs.fram_board as fram_board
+pub use Rattle.crash_rules.proofs as crash_rules
+pub use Rattle.run_charges.proofs as run_charges

@@ -1,30 +1,25 @@
 -- Each charge that is spent has as many dones as it has bounds.
 use Rattle.std.proofs.Common.{◌≡◌, ℕ, ◌+◌, ◌-◌, ◌≤◌, refl, sym, ap, ◌∙◌, subst, arith, inl, inr, List, [], ◌∷◌, ◌++◌, length, append_assoc}
-use Rattle.msp_isa.specs.declared.instructions.Instr.{Instr}
-use Rattle.msp_cycles.specs.Cycles.{cycles_of}
-use Rattle.fram_board.specs.Board.{BoardValue, IsPowerState, powered, IsNextInstruction}
-use Rattle.fram_board.specs.Run.{Measure, Cycles, Moment, Charges, RunOutcome, run_outcome, BoardCharge, ChargeRun, Run, Over, Next, Last, power_up_of}
-use Rattle.machine_effects.specs.World.{World}
-use Rattle.machine_effects.specs.Going.{At, stretch, after_effects, going}
-use Rattle.machine_effects.specs.Machine.{MachineBoard, MachineOutcome, MachineStretch, machine_executed}
-use Rattle.machine_effects.specs.View.{machine_of}
-use Rattle.machine_effects.specs.Runs.{moments_effects, moments_cycles, last_board, SpendsAs, IsUsedUp}
-use Rattle.machine_effects.proofs.Words.{power_up_keeps_words}
-use Rattle.machine_effects.proofs.Worlds.{each_store-back}
-use Rattle.machine_effects.proofs.Runs.{charges_alike}
-use Rattle.machine_effects.proofs.Steps.{current_to_machine}
-use Rattle.code_forms.specs.Placed.{words_of, IsOutside, LeavesCode}
-use Rattle.code_forms.proofs.Placed.{code_in_fram_runs}
+use Rattle.crash_rules.specs.msp_isa.declared.instructions.Instr.{Instr}
+use Rattle.crash_rules.specs.msp_cycles.Cycles.{cycles_of}
+use Rattle.crash_rules.specs.fram_board.Board.{BoardValue, IsPowerState, powered, IsNextInstruction}
+use Rattle.crash_rules.specs.fram_board.Run.{Measure, Cycles, Moment, Charges, RunOutcome, run_outcome, BoardCharge, ChargeRun, Run, Over, Next, Last, power_up_of}
+use Rattle.crash_rules.specs.machine_effects.World.{World}
+use Rattle.crash_rules.specs.machine_effects.Going.{At, stretch, after_effects, going}
+use Rattle.crash_rules.specs.machine_effects.Machine.{MachineBoard, MachineOutcome, MachineStretch, machine_executed}
+use Rattle.crash_rules.specs.machine_effects.View.{machine_of}
+use Rattle.crash_rules.specs.machine_effects.Runs.{moments_effects, moments_cycles, last_board, SpendsAs, IsUsedUp}
+use Rattle.crash_rules.proofs.machine_effects.Interface.{power_up_keeps_words, each_store-back, charges_alike, current_to_machine}
+use Rattle.run_charges.specs.code_forms.Placed.{words_of, IsOutside, LeavesCode}
+use Rattle.run_charges.proofs.code_forms.Interface.{code_in_fram_runs}
 use Rattle.crash_rules.specs.Model.{Model, bound}
 use Rattle.crash_rules.specs.History.{History, observe, behind_boot}
 use Rattle.crash_rules.specs.Runs.{Program, IsSpent, Spends}
 use Rattle.crash_rules.specs.Laws.{Origin}
-use Rattle.crash_rules.proofs.Steps.{goes_on}
-use Rattle.crash_rules.proofs.Theorems.{progress_law}
+use Rattle.crash_rules.proofs.Interface.{goes_on, progress_law}
 use Rattle.run_charges.specs.Charges.{ArePowerStates, observed}
 use Rattle.run_charges.specs.Laws.{IsRunOfWords}
-use Rattle.run_charges.proofs.Moments.{first_start, other_starts, charge_last}
-use Rattle.run_charges.proofs.Programs.{observed-append, instructions_observed}
+use Rattle.run_charges.proofs.Interface.{first_start, other_starts, charge_last, observed-append, instructions_observed}
 use Rattle.model_runs.specs.Runs.{BearsModel, history_behind, PaysFor, Progresses, AllSpent, SpentOne, StoppedIn}
 use Rattle.model_runs.specs.Laws.{MakesProgress}
 use Rattle.model_runs.proofs.Fronts.{last-append, AtFront, at_front, begun, is_powered, leaves_code, program_runs}

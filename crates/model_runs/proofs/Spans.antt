@@ -1,23 +1,21 @@
 -- In one charge the spans follow one another.
 use Rattle.std.proofs.Common.{◌≡◌, ℕ, ◌≤◌, refl, sym, ap, ◌∙◌, subst, arith, true, false, cond, List, [], ◌∷◌, ◌++◌, length, append-nil}
-use Rattle.fram_board.specs.Board.{BoardValue, IsPowerState, powered}
-use Rattle.fram_board.specs.Effects.{Effect}
-use Rattle.fram_board.specs.Run.{Measure, Moment, RunOutcome, BoardCharge, ChargeRun, Run, Over, Next, Last, power_up_of, Charges, Stopped, run_outcome}
-use Rattle.machine_effects.specs.World.{World, world_after_one}
-use Rattle.machine_effects.specs.Going.{going}
-use Rattle.machine_effects.specs.View.{machine_of}
-use Rattle.machine_effects.specs.Runs.{last_board, ReachesAs}
-use Rattle.machine_effects.proofs.Words.{power_up_keeps_words}
-use Rattle.machine_effects.proofs.Runs.{charge_boards_alike}
+use Rattle.crash_rules.specs.fram_board.Board.{BoardValue, IsPowerState, powered}
+use Rattle.crash_rules.specs.fram_board.Effects.{Effect}
+use Rattle.crash_rules.specs.fram_board.Run.{Measure, Moment, RunOutcome, BoardCharge, ChargeRun, Run, Over, Next, Last, power_up_of, Charges, Stopped, run_outcome}
+use Rattle.crash_rules.specs.machine_effects.World.{World, world_after_one}
+use Rattle.crash_rules.specs.machine_effects.Going.{going}
+use Rattle.crash_rules.specs.machine_effects.View.{machine_of}
+use Rattle.crash_rules.specs.machine_effects.Runs.{last_board, ReachesAs}
+use Rattle.crash_rules.proofs.machine_effects.Interface.{power_up_keeps_words, charge_boards_alike}
 use Rattle.crash_rules.specs.Model.{Model}
 use Rattle.crash_rules.specs.History.{Done, History, is_done, is_decide, with_effect, behind_boot, behind_done, behind_decide, behind_gate, observe_one, observe, first_history}
 use Rattle.crash_rules.specs.Runs.{Program, Charge, Charged}
 use Rattle.crash_rules.specs.Laws.{Resting, AreConsecutive}
-use Rattle.crash_rules.proofs.Theorems.{spans_follow}
+use Rattle.crash_rules.proofs.Interface.{spans_follow}
 use Rattle.run_charges.specs.Charges.{AreInstructionMoments, observed}
 use Rattle.run_charges.specs.Laws.{IsRunOfWords}
-use Rattle.run_charges.proofs.Moments.{first_start}
-use Rattle.run_charges.proofs.Programs.{instructions_observed}
+use Rattle.run_charges.proofs.Interface.{first_start, instructions_observed}
 use Rattle.model_runs.specs.Runs.{BearsModel, history_behind, AreInOrder}
 use Rattle.model_runs.specs.Laws.{SpansAreInOrder}
 use Rattle.model_runs.proofs.Fronts.{AtFront, at_front, begun, is_powered, program_runs}

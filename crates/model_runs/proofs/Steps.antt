@@ -1,13 +1,13 @@
 -- The step that a spent charge can't pay for.
 use Rattle.std.proofs.Common.{◌≡◌, ℕ, ◌+◌, ◌<◌, refl, sym, ap, ◌∙◌, arith, inl, inr, [], Option}
-use Rattle.msp_isa.specs.declared.instructions.Instr.{Instr}
-use Rattle.msp_cycles.specs.Cycles.{cycles_of}
-use Rattle.msp_step.specs.Registers.{Registers}
-use Rattle.msp_step.specs.Access.{Access, Completed, Faulted}
-use Rattle.msp_step.specs.Effect.{Written}
-use Rattle.msp_step.specs.Step.{effect}
-use Rattle.machine_effects.specs.Going.{Goes, Stops, At, Halted, stretch, continued}
-use Rattle.machine_effects.specs.Machine.{MachineBus, MachineBoard, MachineOutcome, MachineStretch, MachineRun, Stays, Halts, Steps, IsMachineStep, machine_bus, machine_opened, machine_outcome, machine_executed}
+use Rattle.crash_rules.specs.msp_isa.declared.instructions.Instr.{Instr}
+use Rattle.crash_rules.specs.msp_cycles.Cycles.{cycles_of}
+use Rattle.crash_rules.specs.msp_step.Registers.{Registers}
+use Rattle.crash_rules.specs.msp_step.Access.{Access, Completed, Faulted}
+use Rattle.crash_rules.specs.msp_step.Effect.{Written}
+use Rattle.crash_rules.specs.msp_step.Step.{effect}
+use Rattle.crash_rules.specs.machine_effects.Going.{Goes, Stops, At, Halted, stretch, continued}
+use Rattle.crash_rules.specs.machine_effects.Machine.{MachineBus, MachineBoard, MachineOutcome, MachineStretch, MachineRun, Stays, Halts, Steps, IsMachineStep, machine_bus, machine_opened, machine_outcome, machine_executed}
 use Rattle.crash_rules.specs.Runs.{IsSpent}
 
 -- a step that takes, or would take, so many cycles

@@ -1,13 +1,13 @@
 -- Laws of a board's run and a model.
 use Rattle.std.specs.Prelude.{◌≡◌, ℕ, ◌+◌, ◌≤◌, List, [], ◌∷◌, ◌++◌, length, All}
-use Rattle.msp_step.specs.declared.machine.Stop.{Stop}
-use Rattle.msp_step.specs.declared.machine.Stop.TheVariants as stop
-use Rattle.fram_board.specs.Board.{BoardValue}
-use Rattle.fram_board.specs.Run.{Moment, Stopped, RunOutcome, BoardCharge}
-use Rattle.machine_effects.specs.World.{World, EachStore}
-use Rattle.machine_effects.specs.Machine.{fram_of}
-use Rattle.machine_effects.specs.View.{machine_of}
-use Rattle.machine_effects.specs.Runs.{last_board}
+use Rattle.crash_rules.specs.msp_step.declared.machine.Stop.{Stop}
+use Rattle.crash_rules.specs.msp_step.declared.machine.Stop.TheVariants as stop
+use Rattle.crash_rules.specs.fram_board.Board.{BoardValue}
+use Rattle.crash_rules.specs.fram_board.Run.{Moment, Stopped, RunOutcome, BoardCharge}
+use Rattle.crash_rules.specs.machine_effects.World.{World, EachStore}
+use Rattle.crash_rules.specs.machine_effects.Machine.{fram_of}
+use Rattle.crash_rules.specs.machine_effects.View.{machine_of}
+use Rattle.crash_rules.specs.machine_effects.Runs.{last_board}
 use Rattle.crash_rules.specs.Model.{Model, IsWord, bound}
 use Rattle.crash_rules.specs.History.{History, first_history}
 use Rattle.crash_rules.specs.Runs.{Program}

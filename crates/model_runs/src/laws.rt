@@ -1,6 +1,24 @@
 //! Laws of a board's run and a model. The functions do nothing: their contracts are the laws.
 
 ghost use Rattle.model_runs.specs.Laws.{DonesAreFew, FrontsAreLawful, MakesProgress, SpansAreInOrder, StopsWhereShort, TakesWhatIsThere, WordsStayWithin};
+ghost use Rattle.model_runs.specs.EventLaws.{FirstHistoriesAreTheSame, HistoriesStayTheSame, LinesAreOfDones, ReportIsOfDones, FewWordsHaveLines};
+
+/// What a report's history and a history by effects say as a run begins is the same.
+pub fn first_histories_are_the_same()
+    ensures { FirstHistoriesAreTheSame }
+{}
+
+/// And stays the same over any moments of a run.
+pub fn histories_stay_the_same()
+    ensures { HistoriesStayTheSame }
+{}
+
+/// The lines of a run are those of its dones, by their numbers, spans and worlds alone; so is its report, but for how it ended.
+pub fn lines_are_of_dones()
+    ensures lines { LinesAreOfDones }
+    ensures report { ReportIsOfDones }
+    ensures words { FewWordsHaveLines }
+{}
 
 use crash_rules::Compiled;
 

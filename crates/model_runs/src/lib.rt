@@ -5,6 +5,6 @@
 mod laws;
 
 pub use laws::{
-    dones_are_few, fronts_are_lawful, runs_make_progress, runs_stop_where_the_source_is_short,
-    words_stay_within,
+    dones_are_few, first_histories_are_the_same, fronts_are_lawful, histories_stay_the_same,
+    lines_are_of_dones, runs_make_progress, runs_stop_where_the_source_is_short, words_stay_within,
 };

@@ -5,7 +5,7 @@ use Rattle.std.proofs.lemmas.Slice.Eq.{bytes_eq-Decides}
 use Rattle.std.specs.Prelude.{is_some}
 use Rattle.std.specs.Str.{bytes_eq}
 use Rattle.std.specs.Option.{option_or}
-use Rattle.image_text.proofs.Placing.{or_none}
+use Rattle.image_text.proofs.Interface.{or_none}
 use Rattle.asm_line.specs.Pieces.{Located}
 use Rattle.asm_line.specs.Lines.{LineMeaning, line_of}
 use Rattle.msp_asm.specs.declared.labels.Place.{Place}

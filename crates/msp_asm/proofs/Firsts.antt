@@ -2,7 +2,7 @@
 use Rattle.std.proofs.Common.{◌≡◌, List, [], ◌∷◌, ◌++◌, refl, ap, sym, ◌∙◌, ◌||◌, Option, Some, None, option_map}
 use Rattle.std.proofs.Math.Bool.{or_assoc as any_assoc}
 use Rattle.std.specs.Option.{option_or}
-use Rattle.image_text.proofs.Meanings.{or_assoc}
+use Rattle.image_text.proofs.Interface.{or_assoc}
 use Rattle.asm_line.specs.Pieces.{Located}
 use Rattle.asm_line.specs.Values.{ValueMeaning}
 use Rattle.msp_asm.specs.Labels.{Table}

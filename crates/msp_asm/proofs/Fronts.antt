@@ -2,8 +2,7 @@
 use Rattle.std.proofs.Common.{◌≡◌, ◌≢◌, ◌≤◌, ◌<◌, ℕ, List, [], ◌∷◌, length, get_or, arith, ap, sym, subst, ◌∙◌, Result, Ok, Err, Some}
 use Rattle.msp_isa.specs.Encoding.{encoding, IsPrefix, IsInstruction}
 use Rattle.msp_isa.specs.declared.instructions.Instr.{Instr}
-use Rattle.msp_decode.proofs.Fields.{length_below}
-use Rattle.msp_decode.proofs.Unique.{is_unique}
+use Rattle.msp_decode.proofs.Interface.{length_below, is_unique}
 use Rattle.msp_decode.specs.declared.Illegal.{Illegal}
 use Rattle.msp_asm.specs.Written.{instr_text}
 use Rattle.msp_asm.specs.Alone.{line_alone}

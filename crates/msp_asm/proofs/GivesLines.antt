@@ -8,12 +8,11 @@ use Rattle.std.proofs.lemmas.List.{map-append}
 use Rattle.msp_isa.specs.Encoding.{encoding, IsPrefix}
 use Rattle.msp_isa.specs.declared.instructions.Instr.{Instr}
 use Rattle.msp_isa.specs.declared.instructions.Instr.TheVariants as instr
-use Rattle.image_text.proofs.Places.{nones, put_seam}
-use Rattle.image_text.proofs.Back.{AreWords16}
+use Rattle.image_text.proofs.Interface.{nones, put_seam, AreWords16}
 use Rattle.asm_line.specs.Pieces.{Located, split, onto_first, place_all, bare, lines_left}
 use Rattle.asm_line.specs.Values.{number}
 use Rattle.asm_line.specs.Lines.{StatementMeaning, org, words, LineMeaning, line_of}
-use Rattle.asm_line.proofs.Directives.{word_line_says, org_line_says}
+use Rattle.asm_line.proofs.Interface.{word_line_says, org_line_says}
 use Rattle.msp_asm.specs.declared.labels.Place.{Place}
 use Rattle.msp_isa.specs.declared.instructions.OneOp.TheVariants.{Rrc, Swpb, Rra, Sxt, Push, Call}
 use Rattle.msp_asm.specs.Labels.{Table}

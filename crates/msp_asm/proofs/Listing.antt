@@ -4,11 +4,11 @@ use Rattle.std.proofs.Common.{append_assoc, length-drop, Result, Ok, Err, OnErr,
 use Rattle.std.proofs.lemmas.List.{take_rest}
 use Rattle.std.specs.Io.KnownBytes.{Appends}
 use Rattle.std.proofs.KnownBytes.{Appends-trans, Appends-nil}
-use Rattle.text_parts.proofs.Pieces.{behind}
+use Rattle.text_parts.proofs.Interface.{behind}
 use Rattle.alp_io.specs.Sink.{AppendsProperPrefix}
-use Rattle.alp_io.proofs.Appends.{part_of_first, part_of_second}
+use Rattle.alp_io.proofs.Interface.{part_of_first, part_of_second}
 use Rattle.msp_isa.specs.Encoding.{encoding}
-use Rattle.msp_decode.proofs.Unique.{is_unique}
+use Rattle.msp_decode.proofs.Interface.{is_unique}
 use Rattle.msp_asm.specs.Disassembly.{IsNext, AreLinesOf, IsSectionOf, AreSectionsOf, instr_line, org_line, IsTextOf}
 use Rattle.image_text.specs.Text.{Section, sections}
 use Rattle.msp_asm.specs.Writing.{IsWritten, IsCut}

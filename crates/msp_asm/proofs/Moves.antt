@@ -10,7 +10,7 @@ use Rattle.asm_line.specs.Values.{ValueMeaning, number, out_of_range, label, her
 use Rattle.asm_line.specs.Lines.{StatementMeaning, nothing, org, words, jump, instruction, LineMeaning, line_of}
 use Rattle.asm_line.specs.Filling.{fill, offset_to}
 use Rattle.asm_line.specs.Places.{Same, ValueSame, StatementSame, LineSame}
-use Rattle.asm_line.proofs.Moved.{line_same}
+use Rattle.asm_line.proofs.Interface.{line_same}
 use Rattle.msp_asm.specs.Alone.{plain_value, plain_operand, statement_alone, without_label, meaning_alone, line_alone}
 
 value_alike : (v w : ValueMeaning) → ValueSame v w → plain_value v ≡ plain_value w

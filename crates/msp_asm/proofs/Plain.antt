@@ -5,7 +5,7 @@ use Rattle.std.specs.Prelude.{codes}
 use Rattle.std.proofs.lemmas.Bool.Decides.{nat_tests}
 use Rattle.text_parts.specs.Lines.{without_return}
 use Rattle.text_parts.specs.Hex.{upper_digit, upper_hex}
-use Rattle.text_parts.proofs.Printing.{not_blank, upper_inked, digit_upper}
+use Rattle.text_parts.proofs.Interface.{not_blank, upper_inked, digit_upper}
 use Rattle.alp_words.specs.declared.Width.{Width}
 use Rattle.alp_words.specs.declared.Width.TheVariants.{Word, Byte}
 use Rattle.msp_isa.specs.Constant.{constant_value}
@@ -35,7 +35,7 @@ use Rattle.msp_isa.specs.declared.instructions.Instr.TheVariants as instr
 use Rattle.image_text.specs.Text.{upper_hex4}
 use Rattle.asm_line.specs.Numbers.{digit}
 use Rattle.asm_line.specs.Filling.{words_on, jump_target}
-use Rattle.asm_line.proofs.Directives.{IsHex, IsHex4, hex}
+use Rattle.asm_line.proofs.Interface.{IsHex, IsHex4, hex}
 use Rattle.msp_asm.specs.Written.{number_text, index_text, readable_text, pointer_text, register_text, indexed_text, operand_text, source_text}
 use Rattle.msp_asm.specs.Written.{destination_text, two_text, condition_text, width_text, one_text, instr_text}
 

@@ -5,11 +5,7 @@ use Rattle.std.specs.Prelude.{unwrap_or, codes}
 use Rattle.std.proofs.lemmas.Bool.Decides.{nat_tests}
 use Rattle.image_text.specs.Reading.{empty}
 use Rattle.image_text.specs.Text.{Section, sections, is_shown, AreShown, AreSections}
-use Rattle.image_text.proofs.Places.{nones, put_none}
-use Rattle.image_text.proofs.Apart.{sections_made}
-use Rattle.image_text.proofs.Sections.{nones_append, length_nones}
-use Rattle.image_text.proofs.Spread.{empty_is, words16}
-use Rattle.image_text.proofs.Back.{AreWords16}
+use Rattle.image_text.proofs.Interface.{nones, put_none, sections_made, nones_append, length_nones, empty_is, words16, AreWords16}
 use Rattle.asm_line.specs.Pieces.{Located, split}
 use Rattle.asm_line.specs.Values.{number}
 use Rattle.asm_line.specs.Lines.{nothing, org, LineMeaning, line_of, statement_of}

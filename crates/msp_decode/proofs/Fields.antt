@@ -17,7 +17,7 @@ use Rattle.msp_isa.specs.declared.operands.Src.{Src}
 use Rattle.msp_isa.specs.declared.operands.Dst.{Dst}
 use Rattle.msp_isa.specs.Encoding.{Row, one_encoding, two_encoding, operand_row, source_row, destination_row, opcode, condition_number, byte_bit, encoding}
 use Rattle.msp_isa.specs.Encoding.{HasFields, IsPrefix, IsInstruction, first_word}
-use Rattle.msp_isa.proofs.Numbers.{index_below}
+use Rattle.msp_isa.proofs.Interface.{index_below}
 
 operand_below : (p : Operand) → ((operand_row p).mode < 4) × ((operand_row p).register < 16)
 operand_below p = grind (arith, index_below)

@@ -4,8 +4,7 @@ use Rattle.msp_isa.specs.declared.instructions.Instr.{Instr}
 use Rattle.msp_isa.specs.declared.instructions.Instr.TheVariants as instr
 use Rattle.msp_isa.specs.declared.instructions.OneOp.TheVariants as one
 use Rattle.msp_isa.specs.Encoding.{IsPrefix, IsInstruction, IsIllegal, encoding, first_word}
-use Rattle.msp_decode.proofs.Fields.{length_below}
-use Rattle.msp_decode.proofs.Unique.{same_instruction}
+use Rattle.msp_decode.proofs.Interface.{length_below, same_instruction}
 use Rattle.msp_step.specs.declared.machine.Stop.{Stop}
 use Rattle.msp_step.specs.declared.machine.Stop.TheVariants as stop
 use Rattle.msp_step.specs.declared.machine.Stepped.{Stepped}

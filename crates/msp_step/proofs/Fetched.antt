@@ -2,7 +2,7 @@
 use Rattle.std.proofs.Common.{◌≡◌, ℕ, ◌<◌, List, [], ◌∷◌, length, refl, sym, ◌∙◌, ap, arith, Some, None, Result, Ok, Err, subst}
 use Rattle.msp_isa.specs.declared.instructions.Instr.{Instr}
 use Rattle.msp_isa.specs.Encoding.{IsPrefix, IsInstruction, encoding, first_word}
-use Rattle.msp_decode.proofs.Fields.{blank_of}
+use Rattle.msp_decode.proofs.Interface.{blank_of}
 use Rattle.msp_step.specs.declared.machine.Stop.{Stop}
 use Rattle.msp_step.specs.declared.machine.Stop.TheVariants as stop
 use Rattle.msp_step.specs.Access.{BusModel}

@@ -1,3 +1,5 @@
-pub mod Fetched
-pub mod Accesses
-pub mod Determined
+mod Fetched
+mod Accesses
+mod Determined
+pub mod Interface
+pub use Rattle.msp_decode.proofs as msp_decode

@@ -4,9 +4,7 @@ use Rattle.std.proofs.Math.Bool.{or_assoc, and-true, or_self, and_assoc, or_comm
 use Rattle.alp_text.specs.declared.lines.Span.{Span}
 use Rattle.task_ast.specs.Paths.{Access, read, write, unset, End, goes_on, goes_to}
 use Rattle.path_sums.specs.Sums.{Algebra}
-use Rattle.path_sums.proofs.Joins.{path_sum, Lawful}
-use Rattle.path_sums.proofs.Taut.{agree}
-use Rattle.path_sums.proofs.Tests.{late, late_none, late_assoc, and_or, late_or, or_and, or_late, and_cube, late_cube}
+use Rattle.path_sums.proofs.Interface.{path_sum, Lawful, agree, late, late_none, late_assoc, and_or, late_or, or_and, or_late, and_cube, late_cube}
 use Rattle.path_checks.specs.Loops.{is_local}
 
 -- whether the places are the same

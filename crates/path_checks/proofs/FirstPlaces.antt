@@ -7,7 +7,7 @@ use Rattle.task_ast.specs.declared.names.VariableName.{VariableName}
 use Rattle.task_ast.specs.declared.names.TaskName.{TaskName}
 use Rattle.task_ast.specs.declared.TaskDeclaration.{TaskDeclaration}
 use Rattle.task_ast.specs.View.{task_of}
-use Rattle.task_ast.proofs.Backwards.{drop_back}
+use Rattle.task_ast.proofs.Interface.{drop_back}
 use Rattle.path_checks.specs.Firsts.{CheckedTask, IsFirst, SomeTask, first_of}
 
 pub first_same : (o : Option Span) (P Q : Span → Type 0) → ((s : Span) → P s → Q s) → ((s : Span) → Q s → P s) → IsFirst o P → IsFirst o Q

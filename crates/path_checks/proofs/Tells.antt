@@ -9,7 +9,7 @@ use Rattle.task_ast.specs.declared.names.Variable.{Variable}
 use Rattle.task_ast.specs.declared.names.Variable.TheVariants.{Shared, Local}
 use Rattle.task_ast.specs.declared.names.VariableName.{VariableName}
 use Rattle.task_ast.specs.Paths.{read, write, unset}
-use Rattle.path_sums.proofs.Taut.{agree}
+use Rattle.path_sums.proofs.Interface.{agree}
 use Rattle.path_checks.specs.Firsts.{IsFirst, first_of}
 use Rattle.path_checks.specs.Loops.{is_local}
 use Rattle.path_checks.specs.declared.unassigned.Reached.{Reached}

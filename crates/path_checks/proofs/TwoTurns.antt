@@ -4,8 +4,7 @@ use Rattle.std.proofs.lemmas.Bool.{and_parts}
 use Rattle.alp_text.specs.declared.lines.Span.{Span}
 use Rattle.task_ast.specs.Paths.{CheckedBlock, Access, read, write, unset}
 use Rattle.path_sums.specs.Sums.{block_sum}
-use Rattle.path_sums.proofs.Taut.{agree}
-use Rattle.path_sums.proofs.Every.{Kept, every_block}
+use Rattle.path_sums.proofs.Interface.{agree, Kept, every_block}
 use Rattle.path_checks.specs.Loops.{is_local}
 use Rattle.path_checks.proofs.Assignments.{Assignment, assignment, assignment_eq, assignment_unit, assignment_write, assignment_unset, assignment_one}
 use Rattle.path_checks.proofs.Assignments.{assignment_seq}

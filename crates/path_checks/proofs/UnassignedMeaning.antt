@@ -9,9 +9,7 @@ use Rattle.task_ast.specs.declared.names.Variable.TheVariants.{Shared, Local}
 use Rattle.task_ast.specs.declared.names.VariableName.{VariableName}
 use Rattle.task_ast.specs.Paths.{CheckedBlock, Access, read, write, unset, End, BlockPath}
 use Rattle.path_sums.specs.Sums.{block_sum}
-use Rattle.path_sums.proofs.Taut.{agree}
-use Rattle.path_sums.proofs.Joins.{joins_block}
-use Rattle.path_sums.proofs.Bits.{found, holds}
+use Rattle.path_sums.proofs.Interface.{agree, joins_block, found, holds}
 use Rattle.path_checks.specs.Firsts.{IsFirst, first_of}
 use Rattle.path_checks.specs.Loops.{is_local}
 use Rattle.path_checks.specs.Unassigned.{is_unassigned, ReadsUnassigned}

@@ -5,7 +5,7 @@ use Rattle.alp_text.specs.declared.lines.Span.{Span}
 use Rattle.task_ast.specs.Tree as t
 use Rattle.task_ast.specs.Paths.{CheckedExpression, CheckedStatement, CheckedChoice, CheckedBlock, read, write}
 use Rattle.path_sums.specs.Sums.{expression_sum, turns_sum, statement_sum, choice_sum, block_sum}
-use Rattle.path_sums.proofs.Joins.{Lawful}
+use Rattle.path_sums.proofs.Interface.{Lawful}
 use Rattle.path_checks.specs.declared.unassigned.Reached.{Reached}
 use Rattle.path_checks.specs.Walk.{written, nowhere, fresh, after, settled, turned, walk_expression, walk_statement, walk_choice, walk_block}
 use Rattle.path_checks.proofs.MaskBits.{bit, InGroup}

@@ -4,3 +4,4 @@ pub mod Unassigned
 pub mod Transitions
 pub mod FirstLoops
 pub mod Walk
+pub use Rattle.path_sums.specs as path_sums

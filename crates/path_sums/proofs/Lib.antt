@@ -1,8 +1,9 @@
-pub mod Taut
-pub mod Tests
-pub mod Joins
-pub mod Bits
+mod Taut
+mod Tests
+mod Joins
+mod Bits
 mod FlowMeaning
-pub mod Every
+mod Every
 mod AccessLaws
 mod AccessMeaning
+pub mod Interface

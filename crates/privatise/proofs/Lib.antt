@@ -4,3 +4,4 @@ mod TasksPlaced
 mod Whole
 mod Tight
 mod Unique
+pub use Rattle.war_analysis.proofs as war_analysis

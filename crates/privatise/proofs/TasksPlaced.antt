@@ -21,7 +21,7 @@ use Rattle.memory_map.specs.Places.{AreInOrder, HasItsPlace}
 use Rattle.privatise.specs.Sizes.{body_words}
 use Rattle.privatise.specs.Layouts.{IsTaskLayout}
 use Rattle.privatise.specs.Placing.{is_scalar_place, IsScalarPlaceAt, ArePrivates, IsPlacedTask, ArePlacedTasks}
-use Rattle.memory_map.proofs.InOrder.{in_order_push, in_order_higher}
+use Rattle.memory_map.proofs.Interface.{in_order_push, in_order_higher}
 use Rattle.privatise.proofs.Sums.{total_step, total_part}
 use Rattle.privatise.proofs.VariablesPlaced.{each_push, even_behind}
 

@@ -19,7 +19,7 @@ use Rattle.memory_map.specs.Places.{end_of, list_entry_room, AreInOrder, HasItsP
 use Rattle.privatise.specs.Sizes.{home_words, copy_words, body_words, boot_words, commit_words}
 use Rattle.privatise.specs.Layouts.{IsPlaceOf, IsTaskLayout, IsLayout}
 use Rattle.privatise.specs.Laws.{OneLayout}
-use Rattle.memory_map.proofs.Parts.{apart_of}
+use Rattle.memory_map.proofs.Interface.{apart_of}
 use Rattle.privatise.proofs.Sums.{words_split}
 use Rattle.privatise.proofs.Whole.{add_up}
 use Rattle.privatise.proofs.Tight.{IsChain, bytes, same_chain, kinds_from, same_variables}

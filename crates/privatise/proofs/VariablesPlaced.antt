@@ -17,7 +17,7 @@ use Rattle.memory_map.specs.Places.{home_region, copy_regions, version_regions, 
 use Rattle.privatise.specs.Sizes.{home_part, home_words, copy_part}
 use Rattle.privatise.specs.Layouts.{IsPlaceOf}
 use Rattle.privatise.specs.Placing.{place_at, copy_sum, version_sum, IsRoom, ArePlaced}
-use Rattle.memory_map.proofs.InOrder.{in_order_append, in_order_push, in_order_higher}
+use Rattle.memory_map.proofs.Interface.{in_order_append, in_order_push, in_order_higher}
 use Rattle.privatise.proofs.Sums.{sum_step}
 
 -- what holds of each element, and of one more

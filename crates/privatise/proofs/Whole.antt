@@ -14,10 +14,10 @@ use Rattle.task_ast.specs.declared.SharedDeclaration.{SharedDeclaration}
 use Rattle.cost_bound.specs.declared.allowance.Allow.{Allow}
 use Rattle.cost_bound.specs.Counts.{Code, emits_of}
 use Rattle.cost_bound.specs.Allowance.{CheckedProgram, version_part, is_written, total, greatest, list_of, words_of, versions_of, IsAllowed}
-use Rattle.cost_bound.proofs.Sums.{written_sum}
+use Rattle.cost_bound.proofs.Interface.{written_sum}
 use Rattle.war_analysis.specs.PlanValue.{TaskPlanValue}
 use Rattle.war_analysis.specs.Plans.{is_scalar, IsPrivateIn, IsPlan}
-use Rattle.war_analysis.proofs.Steps.{element}
+use Rattle.war_analysis.proofs.Interface.{element}
 use Rattle.address_space.specs.Limits.{fram_first, reset_vector}
 use Rattle.memory_map.specs.declared.place.VariablePlace.{VariablePlace}
 use Rattle.memory_map.specs.declared.place.VariablePlace.TheVariants.{Scalar, Array}

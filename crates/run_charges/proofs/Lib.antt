@@ -1,3 +1,5 @@
-pub mod Moments
-pub mod Charges
-pub mod Programs
+mod Moments
+mod Charges
+mod Programs
+pub mod Interface
+pub use Rattle.code_forms.proofs as code_forms

@@ -1,2 +1,3 @@
 pub mod Charges
 pub mod Laws
+pub use Rattle.code_forms.specs as code_forms

@@ -1,12 +1,12 @@
 -- Stretches of code one after another.
 use Rattle.std.proofs.Common.{◌≡◌, ℕ, ◌+◌, List, [], ◌++◌, length, Some, sym, ap, ◌∙◌, subst}
-use Rattle.fram_board.specs.Effects.{Effect}
-use Rattle.machine_effects.specs.Going.{Goes, At, stretch}
-use Rattle.machine_effects.specs.Machine.{Code, exec}
-use Rattle.machine_effects.proofs.Going.{stay, one_step, join}
+use Rattle.runtime_effects.specs.fram_board.Effects.{Effect}
+use Rattle.runtime_effects.specs.machine_effects.Going.{Goes, At, stretch}
+use Rattle.runtime_effects.specs.machine_effects.Machine.{Code, exec}
+use Rattle.runtime_effects.proofs.machine_effects.Interface.{stay, one_step, join}
 use Rattle.code_forms.specs.Forms.{Core, board_of, outcome_of_core, Form, instruction_of, form_step, FormNeeds}
 use Rattle.code_forms.specs.Code.{Stands, AreStraight, forms_run, FormsNeed, IsTidy}
-use Rattle.code_forms.proofs.Blocks.{does, block}
+use Rattle.code_forms.proofs.Interface.{does, block}
 use Rattle.runtime_code.specs.Comes.{Comes, IsAt}
 
 module _ (code : Code) (tidy : IsTidy code) where

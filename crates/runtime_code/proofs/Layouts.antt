@@ -3,17 +3,15 @@ use Rattle.std.proofs.Common.{◌≡◌, ℕ, ◌+◌, ◌*◌, ◌%◌, ◌<◌
 use Rattle.std.specs.Prelude.{Contains}
 use Rattle.std.specs.List.{All}
 use Rattle.std.proofs.lemmas.List.Elements.{All-weaker, All-map}
-use Rattle.address_space.specs.Limits.{IsFramWord, reset_vector}
-use Rattle.machine_effects.specs.Machine.{IsFram}
-use Rattle.memory_map.specs.declared.place.Region.{Region}
-use Rattle.memory_map.specs.declared.place.PrivateScalar.{PrivateScalar}
-use Rattle.memory_map.specs.declared.place.VariablePlace.TheVariants.{Scalar}
-use Rattle.memory_map.specs.declared.words.RuntimeWord.TheVariants.{NextTask, EmitCount, SentBase}
-use Rattle.memory_map.specs.MemoryMap.{MemoryMap, word_place}
-use Rattle.memory_map.specs.Places.{end_of, home_region, copy_regions, HasItsPlace, IsLaidOut}
-use Rattle.memory_map.proofs.InOrder.{in_order_within}
-use Rattle.memory_map.proofs.Apart.{among, mapped}
-use Rattle.memory_map.proofs.Parts.{apart_of, parts_in_fram, words_stand}
+use Rattle.runtime_effects.specs.address_space.Limits.{IsFramWord, reset_vector}
+use Rattle.runtime_effects.specs.machine_effects.Machine.{IsFram}
+use Rattle.runtime_effects.specs.memory_map.declared.place.Region.{Region}
+use Rattle.runtime_effects.specs.memory_map.declared.place.PrivateScalar.{PrivateScalar}
+use Rattle.runtime_effects.specs.memory_map.declared.place.VariablePlace.TheVariants.{Scalar}
+use Rattle.runtime_effects.specs.memory_map.declared.words.RuntimeWord.TheVariants.{NextTask, EmitCount, SentBase}
+use Rattle.runtime_effects.specs.memory_map.MemoryMap.{MemoryMap, word_place}
+use Rattle.runtime_effects.specs.memory_map.Places.{end_of, home_region, copy_regions, HasItsPlace, IsLaidOut}
+use Rattle.runtime_effects.proofs.memory_map.Interface.{in_order_within, among, mapped, apart_of, parts_in_fram, words_stand}
 use Rattle.runtime_effects.specs.Needs.{IsRegion, ArePairWords}
 use Rattle.runtime_code.specs.LayoutPlaces.{pair_of, pairs_of}
 use Rattle.runtime_code.specs.Laws.{PlacesAreInFram, OpeningKeepsTask, HomesLeaveCommit, PrivatesAreWords}

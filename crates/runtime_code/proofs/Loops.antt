@@ -3,13 +3,13 @@ use Rattle.std.proofs.Common.{◌≡◌, ℕ, ◌+◌, ◌%◌, ◌<◌, ◌==�
 use Rattle.msp_isa.specs.declared.instructions.TwoOp.TheVariants.{Cmp}
 use Rattle.msp_isa.specs.declared.operands.Konst.TheVariants.{Zero}
 use Rattle.msp_isa.specs.declared.instructions.Condition.TheVariants.{Equal, Always}
-use Rattle.msp_step.specs.Effect.{sum16, distance}
-use Rattle.machine_effects.specs.Going.{Goes}
-use Rattle.machine_effects.specs.Machine.{Code}
-use Rattle.machine_effects.proofs.Values.{zero_flag}
+use Rattle.runtime_effects.specs.msp_step.Effect.{sum16, distance}
+use Rattle.runtime_effects.specs.machine_effects.Going.{Goes}
+use Rattle.runtime_effects.specs.machine_effects.Machine.{Code}
+use Rattle.runtime_effects.proofs.machine_effects.Interface.{zero_flag}
 use Rattle.code_forms.specs.Forms.{Core, Calculate, Jump, Constant, R4, instruction_of}
 use Rattle.code_forms.specs.Code.{IsTidy, forms_run}
-use Rattle.code_forms.proofs.Blocks.{end_of}
+use Rattle.code_forms.proofs.Interface.{end_of}
 use Rattle.runtime_code.specs.Comes.{Comes}
 use Rattle.runtime_code.proofs.Chains.{straight, one_form, then_on}
 

@@ -4,7 +4,7 @@ use Rattle.msp_isa.specs.Encoding.{encoding}
 use Rattle.code_forms.specs.Forms.{Form, instruction_of}
 use Rattle.code_forms.specs.Code.{forms_bytes}
 use Rattle.code_forms.specs.Placed.{instructions, words_of, AreInstructions}
-use Rattle.code_forms.proofs.Placed.{bytes_are}
+use Rattle.code_forms.proofs.Interface.{bytes_are}
 
 -- code is as long as its forms
 pub code_bytes : (ms : List Form) → 2 * length (words_of (instructions ms)) ≡ forms_bytes ms

@@ -1,8 +1,8 @@
 -- Code whose steps and cycles are known exactly, and where it leads.
 use Rattle.std.specs.Prelude.{◌≡◌, ℕ, List}
-use Rattle.fram_board.specs.Effects.{Effect}
-use Rattle.machine_effects.specs.Going.{Leads}
-use Rattle.machine_effects.specs.Machine.{Code, exec}
+use Rattle.runtime_effects.specs.fram_board.Effects.{Effect}
+use Rattle.runtime_effects.specs.machine_effects.Going.{Leads}
+use Rattle.runtime_effects.specs.machine_effects.Machine.{Code, exec}
 use Rattle.code_forms.specs.Forms.{Core, board_of}
 
 -- from u, the code makes exactly these effects in so many steps and cycles, and comes to a state with P

@@ -1,7 +1,7 @@
 -- What the rules of layouts say of the runtime.
 use Rattle.std.specs.Prelude.{ℕ, ◌<◌, ◌≤◌, All}
-use Rattle.memory_map.specs.MemoryMap.{MemoryMap}
-use Rattle.memory_map.specs.Places.{end_of, IsLaidOut}
+use Rattle.runtime_effects.specs.memory_map.MemoryMap.{MemoryMap}
+use Rattle.runtime_effects.specs.memory_map.Places.{end_of, IsLaidOut}
 use Rattle.runtime_effects.specs.Needs.{AreInFram, LeavesCommit, KeepsTask, ArePairWords}
 use Rattle.runtime_code.specs.LayoutPlaces.{pairs_of}
 

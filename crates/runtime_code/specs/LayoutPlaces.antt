@@ -1,7 +1,7 @@
 -- The private scalars of a memory map, as the runtime copies them.
 use Rattle.std.specs.Prelude.{List, map}
-use Rattle.memory_map.specs.declared.place.PrivateScalar.{PrivateScalar}
-use Rattle.memory_map.specs.MemoryMap.{TaskPlace}
+use Rattle.runtime_effects.specs.memory_map.declared.place.PrivateScalar.{PrivateScalar}
+use Rattle.runtime_effects.specs.memory_map.MemoryMap.{TaskPlace}
 use Rattle.runtime_effects.specs.Places.{CopyPair}
 
 -- a private scalar's word and its copy

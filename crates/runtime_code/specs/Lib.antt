@@ -3,3 +3,12 @@ pub mod Counted
 pub mod Addresses
 pub mod LayoutPlaces
 pub mod Laws
+pub use Rattle.runtime_effects.specs.text_parts as text_parts
+pub use Rattle.alp_words.specs as alp_words
+pub use Rattle.runtime_effects.specs.msp_cycles as msp_cycles
+pub use Rattle.runtime_effects.specs.msp_step as msp_step
+pub use Rattle.runtime_effects.specs.image_map as image_map
+pub use Rattle.runtime_effects.specs.fram_board as fram_board
+pub use Rattle.runtime_effects.specs.machine_effects as machine_effects
+pub use Rattle.code_forms.specs as code_forms
+pub use Rattle.runtime_effects.specs as runtime_effects

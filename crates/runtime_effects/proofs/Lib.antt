@@ -1,1 +1,5 @@
-pub mod Sends
+mod Sends
+pub mod Interface
+pub use Rattle.memory_map.proofs as memory_map
+pub use Rattle.machine_effects.proofs.fram_board as fram_board
+pub use Rattle.machine_effects.proofs as machine_effects

@@ -1,6 +1,6 @@
 -- What commit, attempt start and boot do to FRAM and to the receiver, in the order of their stores, from what FRAM holds.
 use Rattle.std.specs.Prelude.{ℕ, zero, suc, ◌+◌, ◌%◌, ◌==◌, if◌then◌else◌, List, [], ◌∷◌, ◌++◌}
-use Rattle.fram_board.specs.Effects.{Effect, Store, Send}
+use Rattle.machine_effects.specs.fram_board.Effects.{Effect, Store, Send}
 use Rattle.machine_effects.specs.World.{put, fram_after}
 use Rattle.memory_map.specs.declared.words.RuntimeWord.TheVariants.{CurrentTask, NextTask, Gate, ListLength, EmitCount, Base, SentBase, Version}
 use Rattle.memory_map.specs.MemoryMap.{MemoryMap, word_place}

@@ -1,5 +1,6 @@
-pub mod Lengths
-pub mod Limits
-pub mod Pieces
-pub mod Rows
-pub mod Steps
+mod Lengths
+mod Limits
+mod Pieces
+mod Rows
+mod Steps
+pub mod Interface

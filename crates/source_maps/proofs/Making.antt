@@ -13,7 +13,7 @@ use Rattle.image_map.specs.declared.parts.Place.{Place}
 use Rattle.image_map.specs.MapValue.{MapValue}
 use Rattle.cost_bound.specs.declared.allowance.Allow.{Allow}
 use Rattle.cost_bound.specs.Allowance.{CheckedTask}
-use Rattle.source_values.specs.Runs.{CheckedProgram}
+use Rattle.source_report.specs.source_values.Runs.{CheckedProgram}
 use Rattle.memory_map.specs.declared.place.VariablePlace.{VariablePlace}
 use Rattle.memory_map.specs.MemoryMap.{MemoryMap, TaskPlace}
 use Rattle.source_maps.specs.Maps.{map_words, map_list, map_buffer, variables_of, tasks_of, map_of}

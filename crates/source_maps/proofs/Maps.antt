@@ -6,17 +6,17 @@ use Rattle.std.proofs.lemmas.List.Elements.{All-nil, All-cons, All-weaker}
 use Rattle.task_ast.specs.declared.SharedDeclaration.{SharedDeclaration}
 use Rattle.image_map.specs.MapValue.{IsMap, IsFramWord, AreFramWords, IsPlace, are_different, are_scalars, task_names}
 use Rattle.cost_bound.specs.Allowance.{CheckedTask, is_written}
-use Rattle.war_analysis.specs.PlanValue.{TaskPlanValue}
-use Rattle.war_analysis.specs.Plans.{IsScalarAt, IsPrivateIn, IsTaskPlan}
+use Rattle.privatise.specs.war_analysis.PlanValue.{TaskPlanValue}
+use Rattle.privatise.specs.war_analysis.Plans.{IsScalarAt, IsPrivateIn, IsTaskPlan}
 use Rattle.source_report.specs.SourceReport.{spelled}
-use Rattle.address_space.specs.Limits.{fram_first, fram_end, reset_vector}
+use Rattle.memory_map.specs.address_space.Limits.{fram_first, fram_end, reset_vector}
 use Rattle.memory_map.specs.declared.words.RuntimeWord.{RuntimeWord}
 use Rattle.memory_map.specs.declared.words.RuntimeWord.TheVariants.{CurrentTask, NextTask, Gate, ListLength, EmitCount, Base, SentBase, Version}
 use Rattle.memory_map.specs.declared.place.VariablePlace.{VariablePlace}
 use Rattle.memory_map.specs.declared.place.PrivateScalar.{PrivateScalar}
 use Rattle.memory_map.specs.MemoryMap.{MemoryMap, TaskPlace, word_place}
 use Rattle.memory_map.specs.Places.{end_of, list_entry_room, HasItsPlace, IsLaidOut}
-use Rattle.memory_map.proofs.Parts.{parts_in_fram, words_stand}
+use Rattle.memory_map.proofs.Interface.{parts_in_fram, words_stand}
 use Rattle.privatise.specs.Layouts.{IsTaskLayout}
 use Rattle.source_maps.specs.Maps.{map_words, map_list, map_buffer, variables_of, private_names, shared_name, tasks_of, map_of}
 use Rattle.source_maps.specs.Adding.{TakesTasks}

@@ -7,14 +7,14 @@ use Rattle.task_ast.specs.declared.Extent.{Extent}
 use Rattle.task_ast.specs.declared.Extent.TheVariants as extent
 use Rattle.task_ast.specs.declared.SharedDeclaration.{SharedDeclaration}
 use Rattle.image_map.specs.MapValue.{IsFramWord, IsVariable, fits, variable_names}
-use Rattle.source_events.specs.Naming.{length_of, AreVariablesOf}
+use Rattle.source_runs.specs.Naming.{length_of, AreVariablesOf}
 use Rattle.source_report.specs.SourceReport.{spelled}
-use Rattle.address_space.specs.Limits.{fram_first, reset_vector}
+use Rattle.memory_map.specs.address_space.Limits.{fram_first, reset_vector}
 use Rattle.memory_map.specs.declared.place.VariablePlace.{VariablePlace}
 use Rattle.memory_map.specs.declared.place.VariablePlace.TheVariants.{Scalar, Array}
 use Rattle.memory_map.specs.Places.{end_of, home_region, AreInOrder}
 use Rattle.privatise.specs.Layouts.{IsPlaceOf}
-use Rattle.source_names.specs.Names.{HasWords}
+use Rattle.source_maps.specs.Names.{HasWords}
 use Rattle.source_maps.specs.Maps.{variable_of, variables_of}
 use Rattle.source_maps.specs.Placing.{IsOfKind, ArePlacesOf}
 

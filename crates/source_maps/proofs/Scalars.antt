@@ -9,9 +9,9 @@ use Rattle.task_ast.specs.declared.Extent.{Extent}
 use Rattle.task_ast.specs.declared.Extent.TheVariants as extent
 use Rattle.task_ast.specs.declared.SharedDeclaration.{SharedDeclaration}
 use Rattle.image_map.specs.MapValue.{are_scalars, is_scalar_of}
-use Rattle.source_events.specs.Naming.{length_of}
+use Rattle.source_runs.specs.Naming.{length_of}
 use Rattle.source_report.specs.SourceReport.{spelled}
-use Rattle.war_analysis.specs.Plans.{IsScalarAt, is_scalar}
+use Rattle.privatise.specs.war_analysis.Plans.{IsScalarAt, is_scalar}
 use Rattle.memory_map.specs.declared.place.VariablePlace.{VariablePlace}
 use Rattle.source_maps.specs.Maps.{variable_of, variables_of, shared_name, name_in}
 use Rattle.source_maps.specs.Placing.{ArePlacesOf}

@@ -3,7 +3,7 @@ use Rattle.std.proofs.Common.{◌≡◌, ◌∙◌, ℕ, true, List, [], ◌∷�
 use Rattle.std.specs.Prelude.{All}
 use Rattle.image_map.specs.declared.parts.Variable.{Variable}
 use Rattle.image_map.specs.MapValue.{MapValue, TaskValue, IsMap, are_scalars, with_private}
-use Rattle.image_map.proofs.Taking.{variables_alone, tasks_alone, task_with, middle, takes_next_variable, takes_next_task, takes_next_private, onto_of}
+use Rattle.image_map.proofs.Interface.{variables_alone, tasks_alone, task_with, middle, takes_next_variable, takes_next_task, takes_next_private, onto_of}
 use Rattle.source_maps.specs.Adding.{with_variables, TakesVariables, with_privates, TakesPrivates, with_whole_task, with_tasks, TakesTasks}
 
 -- ---- variables

@@ -3,7 +3,7 @@ use Rattle.std.specs.Prelude.{◌≡◌, ℕ, true, List, [], ◌∷◌}
 use Rattle.image_map.specs.declared.parts.Variable.{Variable}
 use Rattle.image_map.specs.MapValue.{MapValue, TaskValue, takes_variable, with_variable, takes_task, with_task, takes_private, with_private}
 use Rattle.cost_bound.specs.declared.allowance.Allow.{Allow}
-use Rattle.source_values.specs.Runs.{CheckedProgram}
+use Rattle.source_report.specs.source_values.Runs.{CheckedProgram}
 use Rattle.memory_map.specs.MemoryMap.{MemoryMap}
 use Rattle.source_maps.specs.Maps.{map_words, map_list, map_buffer, variables_of, tasks_of}
 

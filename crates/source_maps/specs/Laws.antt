@@ -2,13 +2,13 @@
 use Rattle.std.specs.Prelude.{◌<◌, ◌≤◌, ℕ, List, length, All}
 use Rattle.cost_bound.specs.declared.allowance.Allow.{Allow}
 use Rattle.cost_bound.specs.Allowance.{CheckedProgram, IsAllowed}
-use Rattle.war_analysis.specs.PlanValue.{TaskPlanValue}
-use Rattle.war_analysis.specs.Plans.{IsPlan}
+use Rattle.privatise.specs.war_analysis.PlanValue.{TaskPlanValue}
+use Rattle.privatise.specs.war_analysis.Plans.{IsPlan}
 use Rattle.memory_map.specs.MemoryMap.{MemoryMap}
 use Rattle.privatise.specs.Layouts.{IsLayout}
 use Rattle.image_map.specs.MapValue.{IsMap}
-use Rattle.source_events.specs.Naming.{IsMapOf}
-use Rattle.source_names.specs.Names.{HasNames}
+use Rattle.source_runs.specs.Naming.{IsMapOf}
+use Rattle.source_maps.specs.Names.{HasNames}
 use Rattle.source_maps.specs.Maps.{map_of}
 use Rattle.source_maps.specs.Adding.{TakesSource}
 use Rattle.source_maps.specs.Placing.{ArePlacesOf}

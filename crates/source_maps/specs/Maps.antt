@@ -11,9 +11,9 @@ use Rattle.image_map.specs.declared.parts.Variable.{Variable}
 use Rattle.image_map.specs.MapValue.{MapValue, TaskValue}
 use Rattle.cost_bound.specs.declared.allowance.Allow.{Allow}
 use Rattle.cost_bound.specs.Allowance.{CheckedTask}
-use Rattle.source_values.specs.Runs.{CheckedProgram}
+use Rattle.source_report.specs.source_values.Runs.{CheckedProgram}
 use Rattle.source_report.specs.SourceReport.{spelled}
-use Rattle.source_events.specs.Naming.{length_of}
+use Rattle.source_runs.specs.Naming.{length_of}
 use Rattle.memory_map.specs.declared.place.VariablePlace.{VariablePlace}
 use Rattle.memory_map.specs.declared.place.PrivateScalar.{PrivateScalar}
 use Rattle.memory_map.specs.declared.place.Region.{Region}

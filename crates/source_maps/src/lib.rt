@@ -4,5 +4,5 @@
 mod laws;
 mod map;
 
-pub use laws::maps_are_of_sources;
+pub use laws::{maps_are_of_sources, names_are_names};
 pub use map::map_of;

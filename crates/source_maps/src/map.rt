@@ -3,12 +3,12 @@ ghost use Rattle.std.specs.Prelude.{◌≡◌, ◌<◌, ◌≤◌, ◌∷◌, []
 ghost use Rattle.task_ast.specs.View as tree;
 ghost use Rattle.image_map.specs.Names.{is_name};
 ghost use Rattle.image_map.specs.MapValue.{takes_task, with_task};
-ghost use Rattle.source_events.specs.Naming.{length_of};
+ghost use Rattle.source_runs.specs.Naming.{length_of};
 ghost use Rattle.source_report.specs.SourceReport.{spelled};
 ghost use Rattle.memory_map.specs.Places.{home_region};
 ghost use Rattle.source_maps.specs.Maps as maps;
 ghost use Rattle.source_maps.specs.Maps.{variables_of, private_names, task_value_of, tasks_of};
-ghost use Rattle.source_names.specs.Names.{HasNames};
+ghost use Rattle.source_maps.specs.Names.{HasNames};
 ghost use Rattle.source_maps.specs.Adding.{bare_map, map_with_variables, with_variables, TakesVariables, with_privates, TakesPrivates, with_whole_task, with_tasks, TakesTasks, TakesSource};
 
 use alp_text::Span;

@@ -1,8 +1,9 @@
-pub mod Emits
-pub mod Paths
-pub mod Targets
-pub mod Runnable
-pub mod Lines
-pub mod Refusals
-pub mod Unique
+mod Emits
+mod Paths
+mod Targets
+mod Runnable
+mod Lines
+mod Refusals
+mod Unique
 mod OneAnswer
+pub mod Interface

@@ -1,6 +1,6 @@
 -- Refusals that aren't want of memory.
 use Rattle.std.proofs.Common.{◌≡◌, ℕ, List, inl, inr}
-use Rattle.alp_text.specs.declared.lines.Span.{Span}
+use Rattle.source_values.specs.alp_text.declared.lines.Span.{Span}
 use Rattle.task_ast.specs.Tree.{Program}
 use Rattle.task_check.specs.declared.fault.CheckFault.{CheckFault}
 use Rattle.task_check.specs.declared.fault.CheckFault.TheVariants.{Memory}

@@ -6,17 +6,17 @@ use Rattle.std.proofs.lemmas.Bool.{and_parts}
 use Rattle.task_ast.specs.View.{program_of, task_of}
 use Rattle.task_check.specs.declared.checked.Checked.{Checked}
 use Rattle.std.proofs.lemmas.List.Elements.{All-nil, All-cons, All-head, All-tail}
-use Rattle.alp_text.specs.declared.lines.Span.{Span}
+use Rattle.source_values.specs.alp_text.declared.lines.Span.{Span}
 use Rattle.task_ast.specs.Tree.{Task, Program}
 use Rattle.task_ast.specs.Paths.{Access, BlockPath}
 use Rattle.task_ast.specs.Paths as path
 use Rattle.task_ast.specs.declared.names.VariableName.{VariableName}
 use Rattle.task_ast.specs.declared.names.TaskName.{TaskName}
-use Rattle.path_checks.specs.Firsts.{IsFirst, SomeTask}
-use Rattle.path_checks.specs.Transitions.{OpenAt, NoTransitionAt}
+use Rattle.cost_bound.specs.path_checks.Firsts.{IsFirst, SomeTask}
+use Rattle.cost_bound.specs.path_checks.Transitions.{OpenAt, NoTransitionAt}
 use Rattle.task_check.specs.Limits.{is_numbered}
 use Rattle.task_check.specs.LookedUp.{task_variables, task_targets}
-use Rattle.task_check.proofs.Ranges.{few_shared, few_tasks, targets_numbered}
+use Rattle.task_check.proofs.Interface.{few_shared, few_tasks, targets_numbered}
 use Rattle.cost_bound.specs.Allowance.{FewEmits}
 use Rattle.source_values.specs.Statements.{Outcome, goes_on, to_task, short, run_block}
 use Rattle.source_values.specs.Runs.{EndsWell, TransitionComes, EmitsFit, IsRunnable}

@@ -1,6 +1,6 @@
 -- An accepted text is one program with one allowance.
 use Rattle.std.proofs.Common.{◌≡◌, ℕ, List, [], sym, subst, ◌∙◌}
-use Rattle.alp_text.specs.declared.lines.Span.{Span}
+use Rattle.source_values.specs.alp_text.declared.lines.Span.{Span}
 use Rattle.task_ast.specs.Tree.{Program}
 use Rattle.task_ast.specs.declared.names.VariableName.{VariableName}
 use Rattle.task_ast.specs.declared.names.TaskName.{TaskName}
@@ -8,7 +8,7 @@ use Rattle.task_lex.specs.declared.token.Token.{Token}
 use Rattle.task_lex.specs.Lex.{lexed, tokens}
 use Rattle.task_parse.specs.Grammar.{IsProgram}
 use Rattle.task_check.specs.Answers.{IsNamed, IsAccepted}
-use Rattle.task_check.proofs.Fill.{one_program as one_source}
+use Rattle.task_check.proofs.Interface.{one_program as one_source}
 use Rattle.cost_bound.specs.declared.allowance.Allow.{Allow}
 use Rattle.cost_bound.specs.Allowance.{IsAllowed}
 use Rattle.cost_bound.specs.Laws.{OneAnswer}

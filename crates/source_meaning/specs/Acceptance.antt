@@ -2,7 +2,7 @@
 -- names and paths, allowance.
 use Rattle.std.specs.Prelude.{◌≡◌, ℕ, List, map, Result, Err}
 use Rattle.std.specs.Global.{Vec}
-use Rattle.alp_text.specs.declared.lines.Span.{Span}
+use Rattle.source_values.specs.alp_text.declared.lines.Span.{Span}
 use Rattle.task_ast.specs.Tree.{Program}
 use Rattle.task_ast.specs.declared.names.VariableName.{VariableName}
 use Rattle.task_ast.specs.declared.names.TaskName.{TaskName}

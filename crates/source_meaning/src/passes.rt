@@ -1,7 +1,7 @@
 //! Texts that are accepted.
 
 ghost use Rattle.std.specs.Prelude.{◌≡◌, ◌<◌, ◌^◌, ◌-◌, length, map, All, IfOk, IfErr};
-ghost use Rattle.alp_text.specs.declared.lines.Span.{Span};
+ghost use Rattle.source_values.specs.alp_text.declared.lines.Span.{Span};
 ghost use Rattle.task_ast.specs.Tree.{Program};
 ghost use Rattle.task_ast.specs.View.{program_of};
 ghost use Rattle.task_ast.specs.declared.names.VariableName.{VariableName};

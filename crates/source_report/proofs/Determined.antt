@@ -15,7 +15,7 @@ use Rattle.source_values.specs.Values.{◌>>?◌}
 use Rattle.source_values.specs.Statements.{Outcome, goes_on, to_task, short, run_block}
 use Rattle.source_values.specs.Runs.{CheckedProgram, IsRunnable, EndsWell, TransitionComes, fresh_attempt, body_of, attempt_of, Completion, completion_of}
 use Rattle.source_values.specs.Runs.{State, Transition, exactly, transition_of, source_run, state_after, state_behind, first_state}
-use Rattle.source_values.proofs.Completions.{readings_left_over_lem}
+use Rattle.source_values.proofs.Interface.{readings_left_over_lem}
 use Rattle.source_report.specs.SourceReport.{Committed, transition_lines, source_report, readings_of, IsConsecutive, position_after, IsEnding, IsMeanReport}
 use Rattle.source_report.specs.MeanReport.{report_from, mean_report}
 use Rattle.source_report.proofs.ReportSteps.{report_at_limit, report_short, report_more}
@@ -123,7 +123,7 @@ from_here (suc n) text program trace k accepted at s left r i h e =
         let rest = ih (accepted + length c.emitted) takes.to (state_after s t) c.left inside takes.inside takes.rest in
         let from_is : length trace - length left ≡ at = omega (arith, length-drop at trace, ap length e) in
         let whole : completion_of (attempt_of program s.task s.shared (readings_of trace span)) ≡ Some
-            (record { next = next; shared = c.shared; emitted = c.emitted; left = [] })
+        (record { next = next; shared = c.shared; emitted = c.emitted; left = [] })
         = ap (λ x. completion_of (attempt_of program s.task s.shared x)) takes.taken ∙ law.2 [] in
         let one : transition_of program s (readings_of trace span) ≡ Some t = ap (λ x. x >>? exactly s) whole in
         let run : source_run program s (readings_of trace span ∷ map (readings_of trace) rest.spans) ≡ Some (t ∷ rest.transitions)

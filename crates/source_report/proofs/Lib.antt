@@ -1,3 +1,4 @@
 pub mod Determined
 pub mod ReportLines
 pub mod ReportSteps
+pub use Rattle.source_values.proofs as source_values

@@ -1,4 +1,7 @@
-pub mod Transitions
-pub mod Spans
-pub mod Told
-pub mod Traces
+mod Transitions
+mod Spans
+mod Told
+mod Traces
+mod Lines
+pub mod Interface
+pub use Rattle.model_runs.proofs as model_runs

@@ -1,19 +1,19 @@
 -- A model of the crash theorem that is a source's, and a board that begins with it.
 use Rattle.std.specs.Prelude.{◌≡◌, ℕ, ◌<◌, List, [], All, Some}
-use Rattle.image_map.specs.MapValue.{MapValue, IsMap}
-use Rattle.fram_board.specs.Board.{BoardValue}
-use Rattle.fram_board.specs.Run.{RunOutcome}
-use Rattle.source_values.specs.Statements.{short}
-use Rattle.source_values.specs.Runs.{CheckedProgram, State, Transition, EmitsFit, first_state, state_after, transition_of, attempt_of}
-use Rattle.machine_effects.specs.World.{World}
-use Rattle.crash_rules.specs.Model.{Model, Ends, Short, bound}
-use Rattle.crash_rules.specs.History.{History, first_history}
-use Rattle.crash_rules.specs.Runs.{Program}
-use Rattle.crash_rules.specs.Laws.{Resting}
-use Rattle.run_charges.specs.Charges.{observed}
-use Rattle.run_events.specs.Laws.{StartsWith}
-use Rattle.source_events.specs.Naming.{IsMapOf}
-use Rattle.source_events.specs.Transitions.{HasWordsOf}
+use Rattle.model_runs.specs.image_map.MapValue.{MapValue, IsMap}
+use Rattle.model_runs.specs.fram_board.Board.{BoardValue}
+use Rattle.model_runs.specs.fram_board.Run.{RunOutcome}
+use Rattle.source_report.specs.source_values.Statements.{short}
+use Rattle.source_report.specs.source_values.Runs.{CheckedProgram, State, Transition, EmitsFit, first_state, state_after, transition_of, attempt_of}
+use Rattle.model_runs.specs.machine_effects.World.{World}
+use Rattle.model_runs.specs.crash_rules.Model.{Model, Ends, Short, bound}
+use Rattle.model_runs.specs.crash_rules.History.{History, first_history}
+use Rattle.model_runs.specs.crash_rules.Runs.{Program}
+use Rattle.model_runs.specs.crash_rules.Laws.{Resting}
+use Rattle.model_runs.specs.run_charges.Charges.{observed}
+use Rattle.model_runs.specs.EventLaws.{StartsWith}
+use Rattle.source_runs.specs.Naming.{IsMapOf}
+use Rattle.source_runs.specs.Transitions.{HasWordsOf}
 use Rattle.model_runs.specs.Runs.{BearsModel}
 
 -- a model whose tasks are a source's, and where GATE and the words of each state are as a map says

@@ -1,9 +1,16 @@
 //! Laws of a board's run and its source. The functions do nothing: their contracts are the laws.
 
-ghost use Rattle.source_values.specs.Runs.{State};
-ghost use Rattle.crash_rules.specs.Model.{Model};
-ghost use Rattle.crash_rules.specs.Runs.{Program};
+ghost use Rattle.source_report.specs.source_values.Runs.{State};
+ghost use Rattle.model_runs.specs.crash_rules.Model.{Model};
+ghost use Rattle.model_runs.specs.crash_rules.Runs.{Program};
 ghost use Rattle.source_runs.specs.Laws.{RunsAreTold, TracesAreFew};
+ghost use Rattle.source_runs.specs.EventLaws.{DonesAreTransitions};
+
+/// The lines of dones that stand for transitions are those that the source's report has for these transitions, on the
+/// committed readings of the dones.
+pub fn dones_are_transitions()
+    ensures { DonesAreTransitions }
+{}
 
 /// A compiled source as the law sees it.
 pub trait Told {

@@ -4,4 +4,4 @@
 
 mod laws;
 
-pub use laws::{run_is_told_by_its_source, traces_are_few};
+pub use laws::{dones_are_transitions, run_is_told_by_its_source, traces_are_few};

@@ -28,8 +28,7 @@ fn allows_a_small_source(rt: HostRuntime) {
         emits: 1,
         versions: 0,
     };
-    let source =
-        "shared unsigned x; task t { x = sense(); emit(x); transition_to(t); } entry t;";
+    let source = "shared unsigned x; task t { x = sense(); emit(x); transition_to(t); } entry t;";
     assert!(rt; allowed(rt.alloc(), source) == Some(Ok(want)));
 }
 
@@ -40,7 +39,8 @@ fn stands_at_the_end_of_64_bits(rt: HostRuntime) {
         name: Span { from: 25, to: 26 },
         count: 18446744073709551615,
     };
-    let source = "shared unsigned x;\n\ntask t { unsigned a; unsigned b; unsigned c; unsigned d; unsigned e;
+    let source =
+        "shared unsigned x;\n\ntask t { unsigned a; unsigned b; unsigned c; unsigned d; unsigned e;
 for (a = 0; a < 65535; a++) { for (b = 0; b < 65535; b++) { for (c = 0; c < 65535; c++) { for (d = 0; d < 65535; d++) {
 for (e = 0; e < 65535; e++) { emit(x); } } } } } transition_to(t); } entry t;";
     assert!(rt; allowed(rt.alloc(), source) == Some(Err(want)));

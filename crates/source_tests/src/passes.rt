@@ -1,8 +1,8 @@
 //! Texts that are refused, by each pass, and runs of accepted ones.
 
-use source_meaning::{Accepted, Done, Meaning, Short, SourceFault, accept};
 use alp_text::Span;
 use cost_bound::Over;
+use source_meaning::{Accepted, Done, Meaning, Short, SourceFault, accept};
 use std::alloc::Global;
 use task_check::CheckFault;
 use task_lex::LexFault;

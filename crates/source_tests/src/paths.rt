@@ -1,7 +1,7 @@
 ghost use Rattle.std.specs.Prelude.{◌<◌};
 
-use path_checks::{first_bad_loop, first_open_task, first_unassigned};
 use alp_text::Span;
+use path_checks::{first_bad_loop, first_open_task, first_unassigned};
 use std::alloc::{AllocError, Global};
 use std::test::Fail;
 use task_ast::{

@@ -1,5 +1,5 @@
-use path_sums::{access_summary, is_private, is_written, reaches_end};
 use alp_text::Span;
+use path_sums::{access_summary, is_private, is_written, reaches_end};
 use std::test::Fail;
 use task_ast::{Arm, Expr, Stmt, TaskName, Variable, VariableName, WordType};
 

@@ -1,8 +1,8 @@
 //! Texts and the tokens or the fault that they come to.
 
-use task_lex::{Kind, LexFault, Token, lex, line_at};
 use alp_text::Span;
 use std::alloc::{AllocError, Global};
+use task_lex::{Kind, LexFault, Token, lex, line_at};
 
 fn lexed(alloc: Global, source: &[u8]) -> Result<Vec<Token>, LexFault> {
     if source.len() < 4294967295 {

@@ -1,6 +1,5 @@
 //! Sources and the tree or the line that they come to.
 
-use task_parse::{ParseFault, parse};
 use alp_text::Span;
 use std::alloc::{AllocError, Global};
 use task_ast::{
@@ -8,6 +7,7 @@ use task_ast::{
     WordType,
 };
 use task_lex::lex;
+use task_parse::{ParseFault, parse};
 
 fn parsed(alloc: Global, source: &[u8]) -> Result<Tree, ParseFault> {
     if source.len() >= 4294967295 {

@@ -1,9 +1,10 @@
-pub mod Choices
-pub mod Completions
-pub mod Emitted
-pub mod Rows
-pub mod Takes
-pub mod Tasks
-pub mod Turns
-pub mod Uses
-pub mod Views
+mod Choices
+mod Completions
+mod Emitted
+mod Rows
+mod Takes
+mod Tasks
+mod Turns
+mod Uses
+mod Views
+pub mod Interface

@@ -4,3 +4,4 @@ pub mod Statements
 pub mod Runs
 pub mod View
 pub mod WorkedRows
+pub use Rattle.task_ast.specs.alp_text as alp_text

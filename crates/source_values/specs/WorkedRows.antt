@@ -1,6 +1,6 @@
 -- Worked examples of values, types and statements, as the definitions give them.
 use Rattle.std.specs.Prelude.{◌≡◌, ℕ, List, [], ◌∷◌, Some, None}
-use Rattle.alp_text.specs.declared.lines.Span.{Span}
+use Rattle.task_ast.specs.alp_text.declared.lines.Span.{Span}
 use Rattle.task_ast.specs.Tree.{number, name, element, sense, unary, binary, shift, short_circuit, store, loop, emit, transition, end, step}
 use Rattle.task_ast.specs.declared.WordType.TheVariants.{Unsigned, Int}
 use Rattle.task_ast.specs.declared.UnaryOperator.TheVariants.{Negate, Not}

@@ -1,16 +1,16 @@
 -- A start in front of a task that keeps its contract is an attempt that keeps its own.
 use Rattle.std.proofs.Common.{◌≡◌, ℕ, List, [], ◌∷◌, ◌++◌, sym, ap, ◌∙◌, subst, true, append_assoc, All}
-use Rattle.fram_board.specs.Effects.{Effect, Store}
-use Rattle.machine_effects.specs.World.{World, world_after_one, world_after, fram_after, readings_taken, EachStore}
-use Rattle.machine_effects.proofs.Worlds.{readings_taken-append, world_after-append, each_store-append}
+use Rattle.runtime_effects.specs.fram_board.Effects.{Effect, Store}
+use Rattle.runtime_effects.specs.machine_effects.World.{World, world_after_one, world_after, fram_after, readings_taken, EachStore}
+use Rattle.runtime_effects.proofs.machine_effects.Interface.{readings_taken-append, world_after-append, each_store-append}
 use Rattle.runtime_effects.specs.Places.{CopyPair}
 use Rattle.crash_rules.specs.Model.{Outcome, Ends, Short, ProgramEffects, program_effects, HoldsThroughout, IsWord, IsElsewhere, Model, AttemptContract}
-use Rattle.crash_rules.proofs.Lists.{world_fram, holds-append}
+use Rattle.crash_rules.proofs.Interface.{world_fram, holds-append}
 use Rattle.stands_for.specs.Layout.{ProgramPlaces, StateView}
 use Rattle.stands_for.specs.StandsFor.{UndecidedAt}
 use Rattle.stands_for.specs.Program.{behind_start, ProgramParts, attempt_effects, program_model, StartContract, TasksContract}
 use Rattle.stands_for.proofs.Starts.{start_off_gate}
-use Rattle.memory_map.specs.Laws.{AreApart}
+use Rattle.runtime_effects.specs.memory_map.Laws.{AreApart}
 
 module _ {St : Type 0} (m : Model St) where
   -- effects in front, which store nothing to GATE, take no reading and keep the world undecided

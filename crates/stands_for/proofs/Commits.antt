@@ -2,22 +2,22 @@
 use Rattle.std.proofs.Common.{◌≡◌, ℕ, zero, suc, ◌+◌, ◌*◌, ◌%◌, ◌<◌, List, [], ◌∷◌, ◌++◌, refl, sym, ap, ap₂, ◌∙◌, subst, ⊎_elim, inl, inr, ◌⊎◌, arith, length, take, take_all, length-append, append_assoc, zero-le, All}
 use Rattle.std.proofs.lemmas.Bool.{cases_eq}
 use Rattle.std.specs.List.{slice_index}
-use Rattle.fram_board.specs.Effects.{Effect, Store, Send}
-use Rattle.machine_effects.specs.World.{World, put, world_after_one, world_after, readings_taken, EachStore}
-use Rattle.machine_effects.proofs.Worlds.{readings_taken-append, world_after-append, each_store-append, put_same, put_other}
+use Rattle.runtime_effects.specs.fram_board.Effects.{Effect, Store, Send}
+use Rattle.runtime_effects.specs.machine_effects.World.{World, put, world_after_one, world_after, readings_taken, EachStore}
+use Rattle.runtime_effects.proofs.machine_effects.Interface.{readings_taken-append, world_after-append, each_store-append, put_same, put_other}
 use Rattle.runtime_effects.specs.Places.{CopyPair, listed}
 use Rattle.runtime_effects.specs.Stages.{copied_home, sends, emits_sent, commit_effects}
 use Rattle.runtime_effects.specs.Needs.{IsCopied, CanCommit}
-use Rattle.runtime_effects.proofs.Sends.{sends_store}
+use Rattle.runtime_effects.proofs.Interface.{sends_store}
 use Rattle.crash_rules.specs.Model.{HoldsThroughout, IsElsewhere}
-use Rattle.crash_rules.proofs.Lists.{holds-append}
+use Rattle.crash_rules.proofs.Interface.{holds-append}
 use Rattle.stands_for.specs.Layout.{ProgramPlaces, StateView, IsSharedWord, IsAmong, HaveRoom}
 use Rattle.stands_for.specs.StandsFor.{HoldsWords, RestsAt, DecidedWith, DecidedFrom}
 use Rattle.stands_for.specs.Program.{IsCommitStore}
 use Rattle.stands_for.proofs.Keeps.{put_either, put_words, With, few, few_emits, copy_keeps, cur_keeps, base_keeps, weaken, send_keeps}
-use Rattle.memory_map.specs.MemoryMap.{word_place}
-use Rattle.memory_map.specs.declared.words.RuntimeWord.TheVariants.{CurrentTask, NextTask, Gate, EmitCount, Base, SentBase, Version}
-use Rattle.memory_map.specs.Laws.{AreApart}
+use Rattle.runtime_effects.specs.memory_map.MemoryMap.{word_place}
+use Rattle.runtime_effects.specs.memory_map.declared.words.RuntimeWord.TheVariants.{CurrentTask, NextTask, Gate, EmitCount, Base, SentBase, Version}
+use Rattle.runtime_effects.specs.memory_map.Laws.{AreApart}
 
 any_among : (ps : List CopyPair) (a : ℕ) → ((p : CopyPair) × IsAmong ps p × (p.home ≡ a)) ⊎ ((p : CopyPair) → IsAmong ps p → p.home ≡ a → ⊥)
 any_among [] a = inr (λ p h e. elim h [ ])

@@ -2,15 +2,15 @@
 use Rattle.std.proofs.Common.{◌≡◌, ℕ, zero, suc, ◌+◌, ◌*◌, ◌%◌, ◌<◌, ◌≤◌, List, [], ◌∷◌, ◌++◌, refl, sym, ap, ap₂, ◌∙◌, subst, ⊎_elim, inl, inr, ◌⊎◌, arith, ne_eqb, eq-eqb, cond, length, take, length-append, length-take-le, append_assoc, take-suc}
 use Rattle.std.proofs.lemmas.Bool.{cases_eq}
 use Rattle.std.specs.List.{slice_index}
-use Rattle.fram_board.specs.Effects.{Store, Send}
-use Rattle.machine_effects.specs.World.{World, put, world_after_one}
-use Rattle.machine_effects.proofs.Worlds.{put_same, put_other}
+use Rattle.runtime_effects.specs.fram_board.Effects.{Store, Send}
+use Rattle.runtime_effects.specs.machine_effects.World.{World, put, world_after_one}
+use Rattle.runtime_effects.proofs.machine_effects.Interface.{put_same, put_other}
 use Rattle.runtime_effects.specs.Places.{CopyPair, entry_bytes, entries_from}
 use Rattle.stands_for.specs.Layout.{ProgramPlaces, StateView, IsSharedWord, IsAmong, HaveRoom}
 use Rattle.stands_for.specs.StandsFor.{HoldsWords, AcceptedFrom, DecidedWith}
-use Rattle.memory_map.specs.MemoryMap.{word_place}
-use Rattle.memory_map.specs.declared.words.RuntimeWord.TheVariants.{CurrentTask, NextTask, Gate, ListLength, EmitCount, Base, SentBase, Version}
-use Rattle.memory_map.specs.Laws.{AreApart}
+use Rattle.runtime_effects.specs.memory_map.MemoryMap.{word_place}
+use Rattle.runtime_effects.specs.memory_map.declared.words.RuntimeWord.TheVariants.{CurrentTask, NextTask, Gate, ListLength, EmitCount, Base, SentBase, Version}
+use Rattle.runtime_effects.specs.memory_map.Laws.{AreApart}
 
 -- what was put, or what was there
 pub put_either : (f : ℕ → ℕ) (a w x : ℕ) → ((x ≡ a) × (put f a w x ≡ w)) ⊎ ((x ≡ a → ⊥) × (put f a w x ≡ f x))

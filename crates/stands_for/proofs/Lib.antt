@@ -1,5 +1,7 @@
-pub mod Keeps
-pub mod Commits
-pub mod Starts
-pub mod Attempts
-pub mod Theorems
+mod Keeps
+mod Commits
+mod Starts
+mod Attempts
+mod Theorems
+pub mod Interface
+pub use Rattle.crash_rules.proofs as crash_rules

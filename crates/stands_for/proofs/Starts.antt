@@ -1,20 +1,20 @@
 -- An attempt's start keeps a world undecided, and leaves an attempt that has started.
 use Rattle.std.proofs.Common.{◌≡◌, ℕ, zero, suc, ◌+◌, ◌*◌, ◌<◌, ◌≤◌, List, [], ◌∷◌, ◌++◌, refl, sym, ap, ◌∙◌, subst, ⊎_elim, inl, inr, arith}
 use Rattle.std.proofs.lemmas.Bool.{cases_eq}
-use Rattle.fram_board.specs.Effects.{Effect, Store, Take, Send}
-use Rattle.machine_effects.specs.World.{World, put, world_after_one, world_after, fram_after, readings_taken, EachStore}
-use Rattle.machine_effects.proofs.Worlds.{readings_taken-append, world_after-append, each_store-append, put_same, put_other}
+use Rattle.runtime_effects.specs.fram_board.Effects.{Effect, Store, Take, Send}
+use Rattle.runtime_effects.specs.machine_effects.World.{World, put, world_after_one, world_after, fram_after, readings_taken, EachStore}
+use Rattle.runtime_effects.proofs.machine_effects.Interface.{readings_taken-append, world_after-append, each_store-append, put_same, put_other}
 use Rattle.runtime_effects.specs.Places.{CopyPair}
 use Rattle.runtime_effects.specs.Stages.{cleared, opening_effects, copied_in, start_effects}
 use Rattle.crash_rules.specs.Model.{HoldsThroughout, IsElsewhere}
-use Rattle.crash_rules.proofs.Lists.{world_fram, holds-append}
+use Rattle.crash_rules.proofs.Interface.{world_fram, holds-append}
 use Rattle.stands_for.specs.Layout.{ProgramPlaces, StateView, IsSharedWord, IsCopyWord, IsAmong, ArePrivate}
 use Rattle.stands_for.specs.StandsFor.{VersionsWithin, UndecidedAt, StartedAt}
 use Rattle.stands_for.specs.Program.{IsStartStore, StartContract}
 use Rattle.stands_for.proofs.Keeps.{put_either, put_words}
-use Rattle.memory_map.specs.MemoryMap.{word_place}
-use Rattle.memory_map.specs.declared.words.RuntimeWord.TheVariants.{CurrentTask, Gate, ListLength, EmitCount, Base, Version}
-use Rattle.memory_map.specs.Laws.{AreApart}
+use Rattle.runtime_effects.specs.memory_map.MemoryMap.{word_place}
+use Rattle.runtime_effects.specs.memory_map.declared.words.RuntimeWord.TheVariants.{CurrentTask, Gate, ListLength, EmitCount, Base, Version}
+use Rattle.runtime_effects.specs.memory_map.Laws.{AreApart}
 
 -- a weaker fact of each store
 pub each_weaker : (P Q : ℕ → ℕ → Type 0) → ((a w : ℕ) → P a w → Q a w) → (es : List Effect) → EachStore P es → EachStore Q es

@@ -1,8 +1,8 @@
 -- What FRAM and the accepted words stand for: they rest at a state of the source, are undecided at it, or decided from one to another.
 use Rattle.std.specs.Prelude.{◌≡◌, ℕ, ◌+◌, ◌*◌, ◌%◌, ◌<◌, ◌≤◌, ◌⊎◌, true, List, ◌++◌, length, take, slice_index}
-use Rattle.memory_map.specs.MemoryMap.{word_place}
-use Rattle.memory_map.specs.declared.words.RuntimeWord.TheVariants.{CurrentTask, NextTask, Gate, ListLength, EmitCount, Base, SentBase, Version}
-use Rattle.machine_effects.specs.World.{World}
+use Rattle.runtime_effects.specs.memory_map.MemoryMap.{word_place}
+use Rattle.runtime_effects.specs.memory_map.declared.words.RuntimeWord.TheVariants.{CurrentTask, NextTask, Gate, ListLength, EmitCount, Base, SentBase, Version}
+use Rattle.runtime_effects.specs.machine_effects.World.{World}
 use Rattle.runtime_effects.specs.Places.{CopyPair, listed}
 use Rattle.stands_for.specs.Layout.{ProgramPlaces, StateView, IsSharedWord, IsCopyWord, IsAmong}
 

@@ -1,18 +1,18 @@
 -- Two buses that answer alike carry any instruction alike.
 use Rattle.std.proofs.Common.{◌≡◌, ℕ, Option, Some, None, refl, subst, Bool, true, false}
 use Rattle.std.specs.Prelude.{Result, Ok, Err}
-use Rattle.alp_words.specs.declared.Width.{Width}
-use Rattle.alp_words.specs.declared.Width.TheVariants.{Word}
-use Rattle.alp_words.specs.declared.Flags.{Flags}
-use Rattle.msp_isa.specs.declared.operands.Operand.{Operand}
-use Rattle.msp_isa.specs.declared.operands.Src.{Src}
-use Rattle.msp_isa.specs.declared.operands.Src.TheVariants as src
-use Rattle.msp_isa.specs.declared.operands.Dst.{Dst}
-use Rattle.msp_isa.specs.declared.instructions.TwoOp.{TwoOp}
-use Rattle.msp_isa.specs.declared.instructions.OneOp.{OneOp}
-use Rattle.msp_isa.specs.declared.instructions.OneOp.TheVariants as one
-use Rattle.msp_isa.specs.declared.instructions.Instr.{Instr}
-use Rattle.msp_isa.specs.declared.instructions.Instr.TheVariants as instr
+use Rattle.msp_step.specs.alp_words.declared.Width.{Width}
+use Rattle.msp_step.specs.alp_words.declared.Width.TheVariants.{Word}
+use Rattle.msp_step.specs.alp_words.declared.Flags.{Flags}
+use Rattle.msp_step.specs.msp_isa.declared.operands.Operand.{Operand}
+use Rattle.msp_step.specs.msp_isa.declared.operands.Src.{Src}
+use Rattle.msp_step.specs.msp_isa.declared.operands.Src.TheVariants as src
+use Rattle.msp_step.specs.msp_isa.declared.operands.Dst.{Dst}
+use Rattle.msp_step.specs.msp_isa.declared.instructions.TwoOp.{TwoOp}
+use Rattle.msp_step.specs.msp_isa.declared.instructions.OneOp.{OneOp}
+use Rattle.msp_step.specs.msp_isa.declared.instructions.OneOp.TheVariants as one
+use Rattle.msp_step.specs.msp_isa.declared.instructions.Instr.{Instr}
+use Rattle.msp_step.specs.msp_isa.declared.instructions.Instr.TheVariants as instr
 use Rattle.msp_step.specs.declared.bus.Refused.{Refused}
 use Rattle.msp_step.specs.declared.operand.Location.{Location}
 use Rattle.msp_step.specs.declared.operand.Location.TheVariants.{Register, Memory}

@@ -1,15 +1,15 @@
 -- What an instruction gives where it is served, along the accesses that it makes.
 use Rattle.std.proofs.Common.{◌≡◌, ℕ, ◌*◌, length, Option, Some, None, refl}
-use Rattle.alp_words.specs.declared.Width.{Width}
-use Rattle.alp_words.specs.declared.Width.TheVariants.{Word}
-use Rattle.msp_isa.specs.declared.registers.IndexRegister.{IndexRegister}
-use Rattle.msp_isa.specs.declared.registers.IndexRegister.TheVariants as index
-use Rattle.msp_isa.specs.declared.operands.Operand.{Operand}
-use Rattle.msp_isa.specs.declared.operands.Operand.TheVariants as mode
-use Rattle.msp_isa.specs.declared.operands.Src.{Src}
-use Rattle.msp_isa.specs.declared.operands.Src.TheVariants as src
-use Rattle.msp_isa.specs.declared.instructions.TwoOp.TheVariants.{Mov, Add, Addc, Subc, Sub, Cmp, Dadd, Bit, Bic, Bis, Xor, And}
-use Rattle.msp_isa.specs.Encoding.{index_number, source_row, destination_row}
+use Rattle.msp_step.specs.alp_words.declared.Width.{Width}
+use Rattle.msp_step.specs.alp_words.declared.Width.TheVariants.{Word}
+use Rattle.msp_step.specs.msp_isa.declared.registers.IndexRegister.{IndexRegister}
+use Rattle.msp_step.specs.msp_isa.declared.registers.IndexRegister.TheVariants as index
+use Rattle.msp_step.specs.msp_isa.declared.operands.Operand.{Operand}
+use Rattle.msp_step.specs.msp_isa.declared.operands.Operand.TheVariants as mode
+use Rattle.msp_step.specs.msp_isa.declared.operands.Src.{Src}
+use Rattle.msp_step.specs.msp_isa.declared.operands.Src.TheVariants as src
+use Rattle.msp_step.specs.msp_isa.declared.instructions.TwoOp.TheVariants.{Mov, Add, Addc, Subc, Sub, Cmp, Dadd, Bit, Bic, Bis, Xor, And}
+use Rattle.msp_step.specs.msp_isa.Encoding.{index_number, source_row, destination_row}
 use Rattle.msp_step.specs.Registers.{Registers, with_register}
 use Rattle.msp_step.specs.Access.{BusModel, Access, Completed, Faulted, then_do, write_answer}
 use Rattle.msp_step.specs.Effect.{sum16, step_of, source, load, operand_location, incremented, destination_location, push_effect, call_effect}

@@ -1,24 +1,24 @@
 -- What an instruction keeps: SR, where the operation gives no flags, and PC but for its length.
 use Rattle.std.proofs.Common.{◌≡◌, ◌≢◌, ℕ, suc, ◌+◌, ◌*◌, ◌/◌, ◌%◌, arith, length, Option, Some, None, refl, ◌∙◌, Bool, true, false}
-use Rattle.msp_isa.specs.declared.operands.Operand.{Operand}
-use Rattle.msp_isa.specs.declared.operands.Operand.TheVariants as mode
-use Rattle.msp_isa.specs.declared.operands.Src.{Src}
-use Rattle.msp_isa.specs.declared.registers.SourceRegister.TheVariants as source_register
+use Rattle.msp_step.specs.msp_isa.declared.operands.Operand.{Operand}
+use Rattle.msp_step.specs.msp_isa.declared.operands.Operand.TheVariants as mode
+use Rattle.msp_step.specs.msp_isa.declared.operands.Src.{Src}
+use Rattle.msp_step.specs.msp_isa.declared.registers.SourceRegister.TheVariants as source_register
 use Rattle.std.proofs.lemmas.List.{length-append}
-use Rattle.alp_words.specs.declared.Width.{Width}
-use Rattle.alp_words.specs.declared.Width.TheVariants.{Word}
-use Rattle.alp_words.specs.declared.Flags.{Flags}
-use Rattle.msp_isa.specs.declared.registers.IndexRegister.{IndexRegister}
-use Rattle.msp_isa.specs.declared.registers.IndexRegister.TheVariants as index
-use Rattle.msp_isa.specs.declared.registers.Reg.{Reg}
-use Rattle.msp_isa.specs.declared.registers.Reg.TheVariants as reg
-use Rattle.msp_isa.specs.declared.operands.Dst.{Dst}
-use Rattle.msp_isa.specs.declared.operands.Dst.TheVariants as dst
-use Rattle.msp_isa.specs.declared.instructions.TwoOp.{TwoOp}
-use Rattle.msp_isa.specs.declared.instructions.TwoOp.TheVariants.{Mov, Bic, Bis}
-use Rattle.msp_isa.specs.declared.instructions.OneOp.TheVariants as one
-use Rattle.msp_isa.specs.declared.instructions.Instr.TheVariants as instr
-use Rattle.msp_isa.specs.Encoding.{encoding, index_number, register_number, operand_row, source_row, destination_row}
+use Rattle.msp_step.specs.alp_words.declared.Width.{Width}
+use Rattle.msp_step.specs.alp_words.declared.Width.TheVariants.{Word}
+use Rattle.msp_step.specs.alp_words.declared.Flags.{Flags}
+use Rattle.msp_step.specs.msp_isa.declared.registers.IndexRegister.{IndexRegister}
+use Rattle.msp_step.specs.msp_isa.declared.registers.IndexRegister.TheVariants as index
+use Rattle.msp_step.specs.msp_isa.declared.registers.Reg.{Reg}
+use Rattle.msp_step.specs.msp_isa.declared.registers.Reg.TheVariants as reg
+use Rattle.msp_step.specs.msp_isa.declared.operands.Dst.{Dst}
+use Rattle.msp_step.specs.msp_isa.declared.operands.Dst.TheVariants as dst
+use Rattle.msp_step.specs.msp_isa.declared.instructions.TwoOp.{TwoOp}
+use Rattle.msp_step.specs.msp_isa.declared.instructions.TwoOp.TheVariants.{Mov, Bic, Bis}
+use Rattle.msp_step.specs.msp_isa.declared.instructions.OneOp.TheVariants as one
+use Rattle.msp_step.specs.msp_isa.declared.instructions.Instr.TheVariants as instr
+use Rattle.msp_step.specs.msp_isa.Encoding.{encoding, index_number, register_number, operand_row, source_row, destination_row}
 use Rattle.msp_step.specs.Registers.{Registers, with_register}
 use Rattle.msp_step.specs.Access.{BusModel, Access, Completed, Faulted}
 use Rattle.msp_step.specs.Effect.{Written, Operated, sum16, source, operand_location, incremented, written_back, read_modify_write, exchanged, rotated, shifted, sign_extended, pushed, load, store, finish, destination_operand, destination_location, after_source, operated, flags_of, with_flags, reads_destination, writes_destination}

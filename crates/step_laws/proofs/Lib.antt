@@ -1,5 +1,6 @@
-pub mod EffectAlike
-pub mod Gives
-pub mod Valid
-pub mod Keeps
-pub mod Others
+mod EffectAlike
+mod Gives
+mod Valid
+mod Keeps
+mod Others
+pub mod Interface

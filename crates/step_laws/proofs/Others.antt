@@ -1,15 +1,15 @@
 -- A two-operand instruction keeps each register but PC, SR, the one that it raises and the one that it writes.
 use Rattle.std.proofs.Common.{◌≡◌, ◌≢◌, ℕ, ◌*◌, length, Option, Some, None, refl, ◌∙◌, Bool, true, false}
 use Rattle.std.proofs.lemmas.Bool.{ne_eqb}
-use Rattle.alp_words.specs.declared.Width.{Width}
-use Rattle.alp_words.specs.declared.Flags.{Flags}
-use Rattle.msp_isa.specs.declared.operands.Operand.{Operand}
-use Rattle.msp_isa.specs.declared.operands.Operand.TheVariants as mode
-use Rattle.msp_isa.specs.declared.operands.Src.{Src}
-use Rattle.msp_isa.specs.declared.operands.Src.TheVariants as src
-use Rattle.msp_isa.specs.declared.operands.Dst.{Dst}
-use Rattle.msp_isa.specs.declared.operands.Dst.TheVariants as dst
-use Rattle.msp_isa.specs.Encoding.{index_number, register_number, source_row, destination_row}
+use Rattle.msp_step.specs.alp_words.declared.Width.{Width}
+use Rattle.msp_step.specs.alp_words.declared.Flags.{Flags}
+use Rattle.msp_step.specs.msp_isa.declared.operands.Operand.{Operand}
+use Rattle.msp_step.specs.msp_isa.declared.operands.Operand.TheVariants as mode
+use Rattle.msp_step.specs.msp_isa.declared.operands.Src.{Src}
+use Rattle.msp_step.specs.msp_isa.declared.operands.Src.TheVariants as src
+use Rattle.msp_step.specs.msp_isa.declared.operands.Dst.{Dst}
+use Rattle.msp_step.specs.msp_isa.declared.operands.Dst.TheVariants as dst
+use Rattle.msp_step.specs.msp_isa.Encoding.{index_number, register_number, source_row, destination_row}
 use Rattle.msp_step.specs.Registers.{Registers, with_register}
 use Rattle.msp_step.specs.Access.{BusModel}
 use Rattle.msp_step.specs.Effect.{Written, sum16, step_of, source, load, store, finish, operand_location, incremented, destination_operand, destination_location, after_source, operated, flags_of, with_flags, status_with, reads_destination, writes_destination}

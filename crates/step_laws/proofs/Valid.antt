@@ -1,22 +1,22 @@
 -- Valid registers stay valid.
 use Rattle.std.proofs.Common.{◌≡◌, ℕ, ◌*◌, ◌/◌, ◌%◌, ◌<◌, arith, length, Option, Some, None, refl, Bool, true, false}
-use Rattle.alp_words.specs.declared.Width.{Width}
-use Rattle.alp_words.specs.declared.Width.TheVariants.{Word}
-use Rattle.alp_words.specs.declared.Flags.{Flags}
-use Rattle.msp_isa.specs.declared.registers.IndexRegister.{IndexRegister}
-use Rattle.msp_isa.specs.declared.registers.IndexRegister.TheVariants as index
-use Rattle.msp_isa.specs.declared.registers.Reg.{Reg}
-use Rattle.msp_isa.specs.declared.registers.Reg.TheVariants as reg
-use Rattle.msp_isa.specs.declared.operands.Operand.{Operand}
-use Rattle.msp_isa.specs.declared.operands.Operand.TheVariants as mode
-use Rattle.msp_isa.specs.declared.operands.Src.{Src}
-use Rattle.msp_isa.specs.declared.operands.Src.TheVariants as src
-use Rattle.msp_isa.specs.declared.operands.Dst.{Dst}
-use Rattle.msp_isa.specs.declared.instructions.TwoOp.{TwoOp}
-use Rattle.msp_isa.specs.declared.instructions.OneOp.{OneOp}
-use Rattle.msp_isa.specs.declared.instructions.OneOp.TheVariants as one
-use Rattle.msp_isa.specs.declared.instructions.Instr.TheVariants as instr
-use Rattle.msp_isa.specs.Encoding.{index_number, register_number, operand_row}
+use Rattle.msp_step.specs.alp_words.declared.Width.{Width}
+use Rattle.msp_step.specs.alp_words.declared.Width.TheVariants.{Word}
+use Rattle.msp_step.specs.alp_words.declared.Flags.{Flags}
+use Rattle.msp_step.specs.msp_isa.declared.registers.IndexRegister.{IndexRegister}
+use Rattle.msp_step.specs.msp_isa.declared.registers.IndexRegister.TheVariants as index
+use Rattle.msp_step.specs.msp_isa.declared.registers.Reg.{Reg}
+use Rattle.msp_step.specs.msp_isa.declared.registers.Reg.TheVariants as reg
+use Rattle.msp_step.specs.msp_isa.declared.operands.Operand.{Operand}
+use Rattle.msp_step.specs.msp_isa.declared.operands.Operand.TheVariants as mode
+use Rattle.msp_step.specs.msp_isa.declared.operands.Src.{Src}
+use Rattle.msp_step.specs.msp_isa.declared.operands.Src.TheVariants as src
+use Rattle.msp_step.specs.msp_isa.declared.operands.Dst.{Dst}
+use Rattle.msp_step.specs.msp_isa.declared.instructions.TwoOp.{TwoOp}
+use Rattle.msp_step.specs.msp_isa.declared.instructions.OneOp.{OneOp}
+use Rattle.msp_step.specs.msp_isa.declared.instructions.OneOp.TheVariants as one
+use Rattle.msp_step.specs.msp_isa.declared.instructions.Instr.TheVariants as instr
+use Rattle.msp_step.specs.msp_isa.Encoding.{index_number, register_number, operand_row}
 use Rattle.msp_step.specs.declared.operand.Location.{Location}
 use Rattle.msp_step.specs.declared.operand.Location.TheVariants.{Register, Memory}
 use Rattle.msp_step.specs.Registers.{Registers, with_register}

@@ -1,7 +1,7 @@
 -- Two buses that answer alike carry any instruction alike.
 use Rattle.std.specs.Prelude.{◌≡◌, ℕ, Ok, Option, Some, None}
-use Rattle.alp_words.specs.declared.Width.{Width}
-use Rattle.msp_isa.specs.declared.instructions.Instr.{Instr}
+use Rattle.msp_step.specs.alp_words.declared.Width.{Width}
+use Rattle.msp_step.specs.msp_isa.declared.instructions.Instr.{Instr}
 use Rattle.msp_step.specs.Registers.{Registers}
 use Rattle.msp_step.specs.Access.{BusModel, Access, Completed, Faulted}
 use Rattle.msp_step.specs.Step.{effect}

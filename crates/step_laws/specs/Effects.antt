@@ -1,23 +1,23 @@
 -- Laws of the effects of instructions (SLAU049 and SLAU144, CPU chapter, "Instruction Set").
 use Rattle.std.specs.Prelude.{◌≡◌, ◌≢◌, ℕ, ◌+◌, ◌*◌, ◌%◌, ◌<◌, true, length, None}
-use Rattle.alp_words.specs.declared.Width.{Width}
-use Rattle.alp_words.specs.Words.{operand}
-use Rattle.msp_isa.specs.declared.operands.Operand.{Operand}
-use Rattle.msp_isa.specs.declared.operands.Operand.TheVariants as mode
-use Rattle.msp_isa.specs.declared.operands.Src.{Src}
-use Rattle.msp_isa.specs.declared.operands.Src.TheVariants as src
-use Rattle.msp_isa.specs.declared.registers.SourceRegister.TheVariants as source_register
-use Rattle.msp_isa.specs.declared.operands.Dst.{Dst}
-use Rattle.msp_isa.specs.declared.operands.Dst.TheVariants as dst
-use Rattle.msp_isa.specs.declared.registers.Reg.{Reg}
-use Rattle.msp_isa.specs.declared.registers.Reg.TheVariants as reg
-use Rattle.msp_isa.specs.declared.instructions.TwoOp.{TwoOp}
-use Rattle.msp_isa.specs.declared.instructions.TwoOp.TheVariants.{Mov}
-use Rattle.msp_isa.specs.declared.instructions.OneOp.TheVariants as one
-use Rattle.msp_isa.specs.declared.instructions.Condition.{Condition}
-use Rattle.msp_isa.specs.declared.instructions.Instr.{Instr}
-use Rattle.msp_isa.specs.declared.instructions.Instr.TheVariants as instr
-use Rattle.msp_isa.specs.Encoding.{encoding, index_number, register_number, source_row, destination_row}
+use Rattle.msp_step.specs.alp_words.declared.Width.{Width}
+use Rattle.msp_step.specs.alp_words.Words.{operand}
+use Rattle.msp_step.specs.msp_isa.declared.operands.Operand.{Operand}
+use Rattle.msp_step.specs.msp_isa.declared.operands.Operand.TheVariants as mode
+use Rattle.msp_step.specs.msp_isa.declared.operands.Src.{Src}
+use Rattle.msp_step.specs.msp_isa.declared.operands.Src.TheVariants as src
+use Rattle.msp_step.specs.msp_isa.declared.registers.SourceRegister.TheVariants as source_register
+use Rattle.msp_step.specs.msp_isa.declared.operands.Dst.{Dst}
+use Rattle.msp_step.specs.msp_isa.declared.operands.Dst.TheVariants as dst
+use Rattle.msp_step.specs.msp_isa.declared.registers.Reg.{Reg}
+use Rattle.msp_step.specs.msp_isa.declared.registers.Reg.TheVariants as reg
+use Rattle.msp_step.specs.msp_isa.declared.instructions.TwoOp.{TwoOp}
+use Rattle.msp_step.specs.msp_isa.declared.instructions.TwoOp.TheVariants.{Mov}
+use Rattle.msp_step.specs.msp_isa.declared.instructions.OneOp.TheVariants as one
+use Rattle.msp_step.specs.msp_isa.declared.instructions.Condition.{Condition}
+use Rattle.msp_step.specs.msp_isa.declared.instructions.Instr.{Instr}
+use Rattle.msp_step.specs.msp_isa.declared.instructions.Instr.TheVariants as instr
+use Rattle.msp_step.specs.msp_isa.Encoding.{encoding, index_number, register_number, source_row, destination_row}
 use Rattle.msp_step.specs.declared.operand.Location.TheVariants.{Register}
 use Rattle.msp_step.specs.Registers.{Registers, with_register}
 use Rattle.msp_step.specs.Access.{BusModel, Access, Completed, Faulted, then_do}

@@ -2,7 +2,7 @@
 //! the laws.
 #![tactic(auto)]
 
-ghost use Rattle.msp_isa.specs.declared.instructions.TwoOp.TheVariants.{Cmp, Bit, Mov, Bic, Bis};
+ghost use Rattle.msp_step.specs.msp_isa.declared.instructions.TwoOp.TheVariants.{Cmp, Bit, Mov, Bic, Bis};
 ghost use Rattle.step_laws.specs.Alike.{CarriesAlike};
 ghost use Rattle.step_laws.specs.Effects.{ComparesOnly, CopiesKeepStatus, MovesByLength, MovesOnly, RegistersStay, SwapKeepsStatus, StatusIsTheResult, StatusStays, StaysValid};
 

@@ -1,1 +1,2 @@
-pub mod Backwards
+mod Backwards
+pub mod Interface

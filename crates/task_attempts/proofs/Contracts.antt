@@ -3,43 +3,42 @@ use Rattle.std.proofs.Common.{◌≡◌, ℕ, suc, ◌<◌, ◌≤◌, List, [],
 use Rattle.std.specs.List.{AllByRecursion}
 use Rattle.std.proofs.lemmas.List.{append_cancel_right}
 use Rattle.std.proofs.lemmas.Option.{get_or_from_slice_get}
-use Rattle.fram_board.specs.Effects.{Effect, Store}
-use Rattle.machine_effects.specs.World.{World, readings_taken, EachStore}
-use Rattle.machine_effects.proofs.Worlds.{readings_taken-append, each_store-append}
-use Rattle.cost_bound.specs.Counts.{emits_of, block_assigns, stores_of, Code}
-use Rattle.source_values.specs.Statements.{Attempt, Outcome, goes_on, to_task, short, run_block, block_emits}
-use Rattle.source_values.specs.Runs.{CheckedProgram, State, Completion, completion_of, attempt_of, fresh_attempt, EndsWell, TransitionComes}
-use Rattle.source_values.proofs.Completions.{readings_left_over_lem}
-use Rattle.array_versions.specs.Program.{Program}
-use Rattle.array_versions.specs.Behaviour.{WordState, End, GoesOn, Jumps, Short as Starves, Strays, Broken, behaviour, started}
-use Rattle.array_versions.specs.Laws.{EndsByEffects, IsSound}
-use Rattle.array_versions.proofs.ByEffects.{behaves_by_effects}
-use Rattle.array_versions.proofs.Ways.{whole_ends_soundly}
-use Rattle.boot_runtime.specs.Entries.{task_entries}
-use Rattle.boot_runtime.specs.Listing.{privates_in}
-use Rattle.crash_rules.specs.Model.{Ends, program_effects, IsWord, IsElsewhere, Model, AttemptContract, Decides, RunsShort}
-use Rattle.stands_for.specs.StandsFor.{StartedAt}
-use Rattle.lower.specs.Agreement.{TakesAndStores, EndsAs, BlocksAgree}
-use Rattle.lower.specs.Lowered.{lowered_block}
-use Rattle.compiled_model.specs.Places.{program_places}
-use Rattle.compiled_model.specs.View.{state_view}
-use Rattle.compiled_model.specs.Parts.{task_program, outcome_of, whole_task, has_jumped, effects_of, program_parts, compiled_model}
+use Rattle.layout_facts.specs.fram_board.Effects.{Effect, Store}
+use Rattle.layout_facts.specs.machine_effects.World.{World, readings_taken, EachStore}
+use Rattle.layout_facts.proofs.machine_effects.Interface.{readings_taken-append, each_store-append}
+use Rattle.layout_facts.specs.cost_bound.Counts.{emits_of, block_assigns, stores_of, Code}
+use Rattle.layout_facts.specs.source_values.Statements.{Attempt, Outcome, goes_on, to_task, short, run_block, block_emits}
+use Rattle.layout_facts.specs.source_values.Runs.{CheckedProgram, State, Completion, completion_of, attempt_of, fresh_attempt, EndsWell, TransitionComes}
+use Rattle.layout_facts.proofs.source_values.Interface.{readings_left_over_lem}
+use Rattle.layout_facts.specs.array_versions.Program.{Program}
+use Rattle.layout_facts.specs.array_versions.Behaviour.{WordState, End, GoesOn, Jumps, Short as Starves, Strays, Broken, behaviour, started}
+use Rattle.layout_facts.specs.array_versions.Laws.{EndsByEffects, IsSound}
+use Rattle.layout_facts.proofs.array_versions.Interface.{behaves_by_effects, whole_ends_soundly}
+use Rattle.layout_facts.specs.boot_runtime.Entries.{task_entries}
+use Rattle.layout_facts.specs.boot_runtime.Listing.{privates_in}
+use Rattle.layout_facts.specs.crash_rules.Model.{Ends, program_effects, IsWord, IsElsewhere, Model, AttemptContract, Decides, RunsShort}
+use Rattle.layout_facts.specs.stands_for.StandsFor.{StartedAt}
+use Rattle.layout_facts.specs.lower.Agreement.{TakesAndStores, EndsAs, BlocksAgree}
+use Rattle.layout_facts.specs.lower.Lowered.{lowered_block}
+use Rattle.layout_facts.specs.compiled_model.Places.{program_places}
+use Rattle.layout_facts.specs.compiled_model.View.{state_view}
+use Rattle.layout_facts.specs.compiled_model.Parts.{task_program, outcome_of, whole_task, has_jumped, effects_of, program_parts, compiled_model}
 use Rattle.task_attempts.proofs.Given.{IsGiven}
-use Rattle.compiled_model.specs.Needs.{LeavesFor}
+use Rattle.layout_facts.specs.compiled_model.Needs.{LeavesFor}
 use Rattle.task_attempts.specs.Laws.{IsBelowCode}
 use Rattle.task_attempts.proofs.Rows.{HasRows, block_rows}
-use Rattle.source_meaning.proofs.Emits.{emits_same}
+use Rattle.layout_facts.proofs.source_meaning.Interface.{emits_same}
 use Rattle.task_attempts.proofs.StoredWords.{StoresWords, stores}
 use Rattle.task_attempts.proofs.Quiet.{stores_each, stores_as, quiet_through}
 use Rattle.task_attempts.proofs.Tasks.{IsAt, places, body, room, task_given, body_is, program_is}
 use Rattle.task_attempts.proofs.Stores.{Safe, StoresOf, task_safe, emits_fit}
 use Rattle.task_attempts.proofs.Starts.{attempt_stands}
 use Rattle.task_attempts.proofs.Decided.{ver, bounds, before, effects_are, safe_before, quiet_before, quiet_start, quiet_of, next, decided}
-use Rattle.lower.specs.Spots.{Room}
-use Rattle.stands_for.specs.Layout.{ProgramPlaces, StateView}
-use Rattle.memory_map.specs.declared.words.RuntimeWord.TheVariants.{Gate}
-use Rattle.memory_map.specs.MemoryMap.{MemoryMap, word_place}
-use Rattle.memory_map.specs.Spots.{Places}
+use Rattle.layout_facts.specs.lower.Spots.{Room}
+use Rattle.layout_facts.specs.stands_for.Layout.{ProgramPlaces, StateView}
+use Rattle.layout_facts.specs.memory_map.declared.words.RuntimeWord.TheVariants.{Gate}
+use Rattle.layout_facts.specs.memory_map.MemoryMap.{MemoryMap, word_place}
+use Rattle.layout_facts.specs.memory_map.Spots.{Places}
 
 -- the readings are words
 words_of : (rs : List ℕ) → All IsWord rs → AllByRecursion (λ v. v < 0x10000) rs

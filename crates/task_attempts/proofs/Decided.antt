@@ -4,32 +4,32 @@ use Rattle.std.specs.Prelude.{Contains, slice_get}
 use Rattle.std.proofs.lemmas.Bool.{cases_lt}
 use Rattle.std.proofs.lemmas.List.{get_or_past}
 use Rattle.std.proofs.lemmas.Option.{slice_get_cases, slice_get-get_or, slice_get_within}
-use Rattle.fram_board.specs.Effects.{Effect, Store}
-use Rattle.machine_effects.specs.World.{World, world_after_one, world_after, fram_after}
-use Rattle.machine_effects.proofs.Worlds.{fram_after-append, world_after-append, each_store-front, put_same, put_other, each_store-back}
-use Rattle.crash_rules.proofs.Lists.{world_fram}
-use Rattle.task_ast.specs.declared.SharedDeclaration.{SharedDeclaration}
-use Rattle.task_ast.specs.declared.names.Variable.TheVariants.{Shared}
-use Rattle.cost_bound.specs.Counts.{emits_of, block_assigns, Code}
-use Rattle.cost_bound.specs.Allowance.{is_written, list_of}
-use Rattle.war_analysis.proofs.Steps.{element as item_at}
-use Rattle.source_values.specs.Values.{word_at}
-use Rattle.source_values.specs.Statements.{Attempt}
-use Rattle.source_values.specs.Runs.{CheckedProgram, State, initial_words}
-use Rattle.array_versions.specs.Behaviour.{WordState, started}
-use Rattle.runtime_effects.specs.Places.{CopyPair, listed}
-use Rattle.lower.proofs.Values.{takes_append}
-use Rattle.boot_runtime.specs.Entries.{task_entries}
-use Rattle.boot_runtime.specs.Listing.{privates_in}
-use Rattle.stands_for.specs.Layout.{IsAmong, IsSharedWord, IsCopyWord, ProgramPlaces, StateView}
-use Rattle.stands_for.specs.StandsFor.{StartedAt, DecidedWith, DecidedFrom}
-use Rattle.stands_for.proofs.Keeps.{put_words}
-use Rattle.lower.specs.Spots.{Room}
-use Rattle.lower.specs.Agreement.{TakesAndStores, transition_effects, Bounds, bounds_of, Left, place_length}
-use Rattle.compiled_model.specs.Places.{program_places}
-use Rattle.compiled_model.specs.View.{state_view, are_rows}
-use Rattle.memory_map.proofs.Addresses.{scalar_home}
-use Rattle.layout_facts.proofs.Lists.{contains_at}
+use Rattle.layout_facts.specs.fram_board.Effects.{Effect, Store}
+use Rattle.layout_facts.specs.machine_effects.World.{World, world_after_one, world_after, fram_after}
+use Rattle.layout_facts.proofs.machine_effects.Interface.{fram_after-append, world_after-append, each_store-front, put_same, put_other, each_store-back}
+use Rattle.layout_facts.proofs.crash_rules.Interface.{world_fram}
+use Rattle.layout_facts.specs.task_ast.declared.SharedDeclaration.{SharedDeclaration}
+use Rattle.layout_facts.specs.task_ast.declared.names.Variable.TheVariants.{Shared}
+use Rattle.layout_facts.specs.cost_bound.Counts.{emits_of, block_assigns, Code}
+use Rattle.layout_facts.specs.cost_bound.Allowance.{is_written, list_of}
+use Rattle.layout_facts.proofs.war_analysis.Interface.{element as item_at}
+use Rattle.layout_facts.specs.source_values.Values.{word_at}
+use Rattle.layout_facts.specs.source_values.Statements.{Attempt}
+use Rattle.layout_facts.specs.source_values.Runs.{CheckedProgram, State, initial_words}
+use Rattle.layout_facts.specs.array_versions.Behaviour.{WordState, started}
+use Rattle.layout_facts.specs.runtime_effects.Places.{CopyPair, listed}
+use Rattle.layout_facts.proofs.lower.Interface.{takes_append}
+use Rattle.layout_facts.specs.boot_runtime.Entries.{task_entries}
+use Rattle.layout_facts.specs.boot_runtime.Listing.{privates_in}
+use Rattle.layout_facts.specs.stands_for.Layout.{IsAmong, IsSharedWord, IsCopyWord, ProgramPlaces, StateView}
+use Rattle.layout_facts.specs.stands_for.StandsFor.{StartedAt, DecidedWith, DecidedFrom}
+use Rattle.layout_facts.proofs.stands_for.Interface.{put_words}
+use Rattle.layout_facts.specs.lower.Spots.{Room}
+use Rattle.layout_facts.specs.lower.Agreement.{TakesAndStores, transition_effects, Bounds, bounds_of, Left, place_length}
+use Rattle.layout_facts.specs.compiled_model.Places.{program_places}
+use Rattle.layout_facts.specs.compiled_model.View.{state_view, are_rows}
+use Rattle.layout_facts.proofs.memory_map.Interface.{scalar_home}
+use Rattle.layout_facts.proofs.Interface.{contains_at}
 use Rattle.task_attempts.proofs.Given.{IsGiven, IsTaskGiven}
 use Rattle.task_attempts.proofs.Rows.{rows_are, rows_count, declared_length}
 use Rattle.task_attempts.proofs.StoredWords.{StoresWords}
@@ -39,12 +39,12 @@ use Rattle.task_attempts.proofs.Listed.{entry_at, entry_among, among_entries}
 use Rattle.task_attempts.proofs.Tasks.{IsAt, places, body, room, task_given, body_is, private_copy}
 use Rattle.task_attempts.proofs.Stores.{Safe, StoresOf, task_safe, transition_safe}
 use Rattle.task_attempts.proofs.Words.{OwnWord, marked, unmarked, own_word_of, IsTaskWord, left_there, private, element as an_element, task_word, element_word}
-use Rattle.memory_map.specs.declared.words.RuntimeWord.TheVariants.{CurrentTask, NextTask, Gate, ListLength, EmitCount, Base, SentBase, Version}
-use Rattle.memory_map.specs.declared.place.VariablePlace.{VariablePlace}
-use Rattle.memory_map.specs.declared.place.VariablePlace.TheVariants.{Scalar, Array}
-use Rattle.memory_map.specs.declared.place.PrivateScalar.{PrivateScalar}
-use Rattle.memory_map.specs.MemoryMap.{MemoryMap, word_place}
-use Rattle.memory_map.specs.Spots.{address_of, Places, IsScalarPlace, IsScalarAt, Element, IsElement, IsCopied, Spot, IsSpot, scalar, element, copy, spot_address, element_address, copy_address, IsWordOf}
+use Rattle.layout_facts.specs.memory_map.declared.words.RuntimeWord.TheVariants.{CurrentTask, NextTask, Gate, ListLength, EmitCount, Base, SentBase, Version}
+use Rattle.layout_facts.specs.memory_map.declared.place.VariablePlace.{VariablePlace}
+use Rattle.layout_facts.specs.memory_map.declared.place.VariablePlace.TheVariants.{Scalar, Array}
+use Rattle.layout_facts.specs.memory_map.declared.place.PrivateScalar.{PrivateScalar}
+use Rattle.layout_facts.specs.memory_map.MemoryMap.{MemoryMap, word_place}
+use Rattle.layout_facts.specs.memory_map.Spots.{address_of, Places, IsScalarPlace, IsScalarAt, Element, IsElement, IsCopied, Spot, IsSpot, scalar, element, copy, spot_address, element_address, copy_address, IsWordOf}
 
 module _ (p : CheckedProgram) (l : MemoryMap) (given : IsGiven p l) (s : State) (is_task : s.task < length p.tasks) (i : IsAt p l s.task) (x : World)
     (readings : List ℕ)

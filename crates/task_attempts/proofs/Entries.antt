@@ -1,16 +1,16 @@
 -- What FRAM holds behind a transition's stores.
 use Rattle.std.proofs.Common.{◌≡◌, ℕ, zero, suc, ◌+◌, ◌*◌, ◌%◌, ◌<◌, ◌≤◌, List, [], ◌∷◌, ◌++◌, length, Some, refl, ap, ◌∙◌, arith}
 use Rattle.std.specs.Prelude.{slice_get}
-use Rattle.fram_board.specs.Effects.{Effect, Store}
-use Rattle.machine_effects.specs.World.{put, fram_after}
-use Rattle.machine_effects.proofs.Worlds.{fram_after-append, put_same, put_other, put_at}
-use Rattle.lower.specs.Spots.{Room, AreApart}
-use Rattle.lower.specs.Agreement.{TakesAndStores, entry_effects, transition_effects}
-use Rattle.lower.proofs.Values.{takes_append}
-use Rattle.memory_map.specs.MemoryMap.{word_place}
-use Rattle.memory_map.specs.declared.words.RuntimeWord.TheVariants.{NextTask, Gate, ListLength, SentBase}
-use Rattle.memory_map.specs.declared.place.PrivateScalar.{PrivateScalar}
-use Rattle.memory_map.specs.Spots.{Places}
+use Rattle.layout_facts.specs.fram_board.Effects.{Effect, Store}
+use Rattle.layout_facts.specs.machine_effects.World.{put, fram_after}
+use Rattle.layout_facts.proofs.machine_effects.Interface.{fram_after-append, put_same, put_other, put_at}
+use Rattle.layout_facts.specs.lower.Spots.{Room, AreApart}
+use Rattle.layout_facts.specs.lower.Agreement.{TakesAndStores, entry_effects, transition_effects}
+use Rattle.layout_facts.proofs.lower.Interface.{takes_append}
+use Rattle.layout_facts.specs.memory_map.MemoryMap.{word_place}
+use Rattle.layout_facts.specs.memory_map.declared.words.RuntimeWord.TheVariants.{NextTask, Gate, ListLength, SentBase}
+use Rattle.layout_facts.specs.memory_map.declared.place.PrivateScalar.{PrivateScalar}
+use Rattle.layout_facts.specs.memory_map.Spots.{Places}
 
 module _ (count list : ℕ) where
   -- FRAM behind an entry, the i-th

@@ -1,40 +1,32 @@
 -- What the proofs take of a source with its layout.
 use Rattle.std.specs.Prelude.{◌≡◌, ℕ, ◌+◌, ◌*◌, ◌<◌, ◌≤◌, true, false, List, [], Contains, length, Some, slice_get, slice_index, slice_index_or}
-use Rattle.cost_bound.specs.declared.allowance.Allow.{Allow}
-use Rattle.cost_bound.specs.Counts.{Code, stores_of, block_assigns}
-use Rattle.cost_bound.specs.Allowance.{CheckedTask}
-use Rattle.war_analysis.specs.PlanValue.{TaskPlanValue}
-use Rattle.source_values.specs.Runs.{CheckedProgram, IsRunnable}
-use Rattle.array_versions.specs.Form.{IsWhole, OfWords}
-use Rattle.memory_map.specs.declared.place.VariablePlace.{VariablePlace}
-use Rattle.memory_map.specs.declared.place.VariablePlace.TheVariants.{Scalar}
-use Rattle.memory_map.specs.declared.place.PrivateScalar.{PrivateScalar}
-use Rattle.memory_map.specs.MemoryMap.{MemoryMap, TaskPlace}
-use Rattle.memory_map.specs.Places.{end_of, HasItsPlace}
-use Rattle.privatise.specs.Layouts.{AreVariables}
-use Rattle.boot_runtime.specs.Entries.{task_entries}
-use Rattle.boot_runtime.specs.Listing.{privates_in}
-use Rattle.memory_map.specs.Laws as memory
-use Rattle.memory_map.proofs.Parts.{apart_of}
-use Rattle.stands_for.specs.Layout.{IsSharedWord, IsCopyWord, HaveRoom, ArePrivate}
-use Rattle.memory_map.specs.Spots.{places_of, address_of, Element, IsCopied, copy_address, version_address, IsWordOf}
-use Rattle.lower.specs.Spots.{AreApart, AreEven, HasRoom}
-use Rattle.lower.specs.Lowered.{lowered_block}
-use Rattle.lower.specs.Agreement.{place_length, BlockFits}
-use Rattle.compiled_model.specs.Places.{program_places}
-use Rattle.compiled_model.specs.View.{shared_word, are_rows}
+use Rattle.layout_facts.specs.cost_bound.declared.allowance.Allow.{Allow}
+use Rattle.layout_facts.specs.cost_bound.Counts.{Code, stores_of, block_assigns}
+use Rattle.layout_facts.specs.cost_bound.Allowance.{CheckedTask}
+use Rattle.layout_facts.specs.war_analysis.PlanValue.{TaskPlanValue}
+use Rattle.layout_facts.specs.source_values.Runs.{CheckedProgram, IsRunnable}
+use Rattle.layout_facts.specs.array_versions.Form.{IsWhole, OfWords}
+use Rattle.layout_facts.specs.memory_map.declared.place.VariablePlace.{VariablePlace}
+use Rattle.layout_facts.specs.memory_map.declared.place.VariablePlace.TheVariants.{Scalar}
+use Rattle.layout_facts.specs.memory_map.declared.place.PrivateScalar.{PrivateScalar}
+use Rattle.layout_facts.specs.memory_map.MemoryMap.{MemoryMap, TaskPlace}
+use Rattle.layout_facts.specs.memory_map.Places.{end_of, HasItsPlace}
+use Rattle.layout_facts.specs.privatise.Layouts.{AreVariables}
+use Rattle.layout_facts.specs.boot_runtime.Entries.{task_entries}
+use Rattle.layout_facts.specs.boot_runtime.Listing.{privates_in}
+use Rattle.layout_facts.specs.memory_map.Laws as memory
+use Rattle.layout_facts.proofs.memory_map.Interface.{apart_of}
+use Rattle.layout_facts.specs.stands_for.Layout.{IsSharedWord, IsCopyWord, HaveRoom, ArePrivate}
+use Rattle.layout_facts.specs.memory_map.Spots.{places_of, address_of, Element, IsCopied, copy_address, version_address, IsWordOf}
+use Rattle.layout_facts.specs.lower.Spots.{AreApart, AreEven, HasRoom}
+use Rattle.layout_facts.specs.lower.Lowered.{lowered_block}
+use Rattle.layout_facts.specs.lower.Agreement.{place_length, BlockFits}
+use Rattle.layout_facts.specs.compiled_model.Places.{program_places}
+use Rattle.layout_facts.specs.compiled_model.View.{shared_word, are_rows}
 use Rattle.layout_facts.specs.Facts.{HasLayout, IsTaskAt, task_room}
-use Rattle.layout_facts.proofs.Assigned.{addresses_are, tasks_match}
-use Rattle.layout_facts.proofs.Chains.{places_are_apart, tasks_have_room}
-use Rattle.whole_programs.specs.Laws.{IsLaidOutText}
-use Rattle.whole_programs.proofs.Checked.{task_checked}
-use Rattle.whole_programs.proofs.Whole.{tasks_are_whole}
-use Rattle.layout_facts.proofs.Fits.{names_fit}
-use Rattle.layout_facts.proofs.Homes.{shared_words_are_of_variables, words_of_variables_are_shared}
-use Rattle.layout_facts.proofs.Listed.{lists_have_room}
-use Rattle.layout_facts.proofs.Privates.{privates_are_theirs}
-use Rattle.layout_facts.proofs.Spots.{elements_stand, task_places_are_apart, task_places_are_even}
-use Rattle.layout_facts.proofs.Views.{view_has_their_words, rows_fit_places}
+use Rattle.layout_facts.proofs.Interface.{addresses_are, tasks_match, places_are_apart, tasks_have_room, names_fit, shared_words_are_of_variables, words_of_variables_are_shared, lists_have_room, privates_are_theirs, elements_stand, task_places_are_apart, task_places_are_even, view_has_their_words, rows_fit_places}
+use Rattle.layout_facts.specs.whole_programs.Laws.{IsLaidOutText}
+use Rattle.layout_facts.proofs.whole_programs.Interface.{task_checked, tasks_are_whole}
 
 -- rows have the places' lengths
 abbrev pub FitPlaces : MemoryMap → List (List ℕ) → Type 0

@@ -1,13 +1,21 @@
-pub mod Given
-pub mod Rows
-pub mod StoredWords
-pub mod Quiet
-pub mod Entries
-pub mod Listed
-pub mod Tasks
-pub mod Stores
-pub mod Words
-pub mod Starts
-pub mod Decided
-pub mod Contracts
-pub mod Theorems
+mod Given
+mod Rows
+mod StoredWords
+mod Quiet
+mod Entries
+mod Listed
+mod Tasks
+mod Stores
+mod Words
+mod Starts
+mod Decided
+mod Contracts
+mod Theorems
+pub mod Interface
+pub use Rattle.layout_facts.proofs.crash_rules as crash_rules
+pub use Rattle.layout_facts.proofs.stands_for as stands_for
+pub use Rattle.layout_facts.proofs.war_analysis as war_analysis
+pub use Rattle.layout_facts.proofs.source_meaning as source_meaning
+pub use Rattle.layout_facts.proofs.lower as lower
+pub use Rattle.layout_facts.proofs.whole_programs as whole_programs
+pub use Rattle.layout_facts.proofs as layout_facts

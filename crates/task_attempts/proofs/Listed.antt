@@ -1,10 +1,10 @@
 -- The pairs that a commit list names.
 use Rattle.std.proofs.Common.{◌≡◌, ℕ, zero, suc, ◌+◌, ◌*◌, ◌<◌, List, [], ◌∷◌, length, map, get_or, sym, ap, ap₂, ◌∙◌, subst, ⊎_elim, inl, inr, arith}
 use Rattle.std.specs.Prelude.{Contains}
-use Rattle.runtime_effects.specs.Places.{CopyPair, entries_from}
-use Rattle.runtime_code.specs.LayoutPlaces.{pair_of}
-use Rattle.stands_for.specs.Layout.{IsAmong}
-use Rattle.memory_map.specs.declared.place.PrivateScalar.{PrivateScalar}
+use Rattle.layout_facts.specs.runtime_effects.Places.{CopyPair, entries_from}
+use Rattle.layout_facts.specs.runtime_code.LayoutPlaces.{pair_of}
+use Rattle.layout_facts.specs.stands_for.Layout.{IsAmong}
+use Rattle.layout_facts.specs.memory_map.declared.place.PrivateScalar.{PrivateScalar}
 
 -- what entry i names
 abbrev pub entry_at : ℕ → (ℕ → ℕ) → ℕ → CopyPair

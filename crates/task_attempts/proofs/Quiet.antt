@@ -1,15 +1,15 @@
 -- Stores that an undecided world bears.
 use Rattle.std.proofs.Common.{◌≡◌, ℕ, ◌+◌, ◌*◌, ◌<◌, ◌≤◌, List, [], ◌∷◌, refl, sym, ◌∙◌, subst, ⊎_elim, inl, inr, arith}
-use Rattle.fram_board.specs.Effects.{Effect, Store, Take, Send}
-use Rattle.machine_effects.specs.World.{World, put, world_after_one, world_after, fram_after, EachStore}
-use Rattle.machine_effects.proofs.Worlds.{put_other}
-use Rattle.crash_rules.specs.Model.{HoldsThroughout}
-use Rattle.stands_for.specs.Layout.{ProgramPlaces, StateView, IsSharedWord}
-use Rattle.stands_for.specs.StandsFor.{VersionsWithin, UndecidedAt}
-use Rattle.stands_for.proofs.Keeps.{put_either, put_words}
-use Rattle.lower.specs.Agreement.{TakesAndStores}
-use Rattle.memory_map.specs.MemoryMap.{word_place}
-use Rattle.memory_map.specs.declared.words.RuntimeWord.TheVariants.{CurrentTask, Gate, Base, Version}
+use Rattle.layout_facts.specs.fram_board.Effects.{Effect, Store, Take, Send}
+use Rattle.layout_facts.specs.machine_effects.World.{World, put, world_after_one, world_after, fram_after, EachStore}
+use Rattle.layout_facts.proofs.machine_effects.Interface.{put_other}
+use Rattle.layout_facts.specs.crash_rules.Model.{HoldsThroughout}
+use Rattle.layout_facts.specs.stands_for.Layout.{ProgramPlaces, StateView, IsSharedWord}
+use Rattle.layout_facts.specs.stands_for.StandsFor.{VersionsWithin, UndecidedAt}
+use Rattle.layout_facts.proofs.stands_for.Interface.{put_either, put_words}
+use Rattle.layout_facts.specs.lower.Agreement.{TakesAndStores}
+use Rattle.layout_facts.specs.memory_map.MemoryMap.{word_place}
+use Rattle.layout_facts.specs.memory_map.declared.words.RuntimeWord.TheVariants.{CurrentTask, Gate, Base, Version}
 
 -- a store of a word to none of the words that an undecided world speaks of, and to a version word of no more than VER, which is this number
 pub record IsQuiet (l : ProgramPlaces) (ver a w : ℕ) : Type 0 where

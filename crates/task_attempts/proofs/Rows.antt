@@ -4,21 +4,21 @@ use Rattle.std.specs.Prelude.{◌&&◌, ◌==◌, nat_lt, slice_get}
 use Rattle.std.proofs.Math.ListN.{length-set}
 use Rattle.std.proofs.lemmas.Bool.{lt-ltb, and_from, and_parts}
 use Rattle.std.proofs.lemmas.List.{length-replicate}
-use Rattle.task_ast.specs.Tree as t
-use Rattle.task_ast.specs.Paths.{CheckedStatement, CheckedChoice, CheckedBlock}
-use Rattle.task_ast.specs.declared.Extent.{Extent}
-use Rattle.task_ast.specs.declared.Extent.TheVariants as extent
-use Rattle.task_ast.specs.declared.SharedDeclaration.{SharedDeclaration}
-use Rattle.task_ast.specs.declared.names.Variable.{Variable}
-use Rattle.task_ast.specs.declared.names.Variable.TheVariants.{Shared, Local}
-use Rattle.source_values.specs.Values.{value_of, holds}
-use Rattle.source_values.specs.Statements.{Attempt, Outcome, goes_on, to_task, short, and_then, if_value, assigned, turns, run_statement, run_choice, run_block}
-use Rattle.source_values.specs.Runs.{initial_words}
-use Rattle.memory_map.specs.declared.place.VariablePlace.{VariablePlace}
-use Rattle.memory_map.specs.declared.place.VariablePlace.TheVariants.{Scalar, Array}
-use Rattle.privatise.specs.Layouts.{IsPlaceOf}
-use Rattle.lower.specs.Agreement.{place_length}
-use Rattle.compiled_model.specs.View.{are_words, are_rows}
+use Rattle.layout_facts.specs.task_ast.Tree as t
+use Rattle.layout_facts.specs.task_ast.Paths.{CheckedStatement, CheckedChoice, CheckedBlock}
+use Rattle.layout_facts.specs.task_ast.declared.Extent.{Extent}
+use Rattle.layout_facts.specs.task_ast.declared.Extent.TheVariants as extent
+use Rattle.layout_facts.specs.task_ast.declared.SharedDeclaration.{SharedDeclaration}
+use Rattle.layout_facts.specs.task_ast.declared.names.Variable.{Variable}
+use Rattle.layout_facts.specs.task_ast.declared.names.Variable.TheVariants.{Shared, Local}
+use Rattle.layout_facts.specs.source_values.Values.{value_of, holds}
+use Rattle.layout_facts.specs.source_values.Statements.{Attempt, Outcome, goes_on, to_task, short, and_then, if_value, assigned, turns, run_statement, run_choice, run_block}
+use Rattle.layout_facts.specs.source_values.Runs.{initial_words}
+use Rattle.layout_facts.specs.memory_map.declared.place.VariablePlace.{VariablePlace}
+use Rattle.layout_facts.specs.memory_map.declared.place.VariablePlace.TheVariants.{Scalar, Array}
+use Rattle.layout_facts.specs.privatise.Layouts.{IsPlaceOf}
+use Rattle.layout_facts.specs.lower.Agreement.{place_length}
+use Rattle.layout_facts.specs.compiled_model.View.{are_words, are_rows}
 
 -- where an outcome has variables, there are so many shared ones
 abbrev pub HasRows : ℕ → Outcome → Type 0

@@ -1,27 +1,27 @@
 -- A started attempt stands for the source's attempt of the task.
 use Rattle.std.proofs.Common.{◌≡◌, ℕ, ◌+◌, ◌*◌, List, [], Some, Bool, true, false, refl, ap, ◌∙◌, ⊎_elim, arith}
 use Rattle.std.specs.Prelude.{Contains, slice_get}
-use Rattle.machine_effects.specs.World.{World}
-use Rattle.cost_bound.specs.Counts.{block_assigns, Code}
-use Rattle.source_values.specs.Values.{word_at}
-use Rattle.source_values.specs.Runs.{CheckedProgram, State, fresh_attempt}
-use Rattle.task_ast.specs.declared.names.Variable.TheVariants.{Shared}
-use Rattle.array_versions.specs.Behaviour.{started}
-use Rattle.boot_runtime.specs.Entries.{task_entries}
-use Rattle.boot_runtime.specs.Listing.{privates_in}
-use Rattle.stands_for.specs.StandsFor.{StartedAt}
-use Rattle.lower.specs.Agreement.{own_word, StandsFor}
-use Rattle.compiled_model.specs.Places.{program_places}
-use Rattle.compiled_model.specs.View.{state_view}
-use Rattle.memory_map.proofs.Addresses.{scalar_home}
+use Rattle.layout_facts.specs.machine_effects.World.{World}
+use Rattle.layout_facts.specs.cost_bound.Counts.{block_assigns, Code}
+use Rattle.layout_facts.specs.source_values.Values.{word_at}
+use Rattle.layout_facts.specs.source_values.Runs.{CheckedProgram, State, fresh_attempt}
+use Rattle.layout_facts.specs.task_ast.declared.names.Variable.TheVariants.{Shared}
+use Rattle.layout_facts.specs.array_versions.Behaviour.{started}
+use Rattle.layout_facts.specs.boot_runtime.Entries.{task_entries}
+use Rattle.layout_facts.specs.boot_runtime.Listing.{privates_in}
+use Rattle.layout_facts.specs.stands_for.StandsFor.{StartedAt}
+use Rattle.layout_facts.specs.lower.Agreement.{own_word, StandsFor}
+use Rattle.layout_facts.specs.compiled_model.Places.{program_places}
+use Rattle.layout_facts.specs.compiled_model.View.{state_view}
+use Rattle.layout_facts.proofs.memory_map.Interface.{scalar_home}
 use Rattle.task_attempts.proofs.Given.{IsGiven, IsTaskGiven}
 use Rattle.task_attempts.proofs.Tasks.{IsAt, places, body, task_given, among_privates}
 use Rattle.task_attempts.proofs.Stores.{scalar_place}
 use Rattle.task_attempts.proofs.Words.{OwnWord, marked, unmarked, own_word_of, element_word}
-use Rattle.memory_map.specs.declared.words.RuntimeWord.TheVariants.{Version}
-use Rattle.memory_map.specs.declared.place.VariablePlace.TheVariants.{Scalar}
-use Rattle.memory_map.specs.MemoryMap.{MemoryMap, word_place}
-use Rattle.memory_map.specs.Spots.{address_of, Places, Element, IsElement, IsCopied, version_address, element_address, IsWordOf}
+use Rattle.layout_facts.specs.memory_map.declared.words.RuntimeWord.TheVariants.{Version}
+use Rattle.layout_facts.specs.memory_map.declared.place.VariablePlace.TheVariants.{Scalar}
+use Rattle.layout_facts.specs.memory_map.MemoryMap.{MemoryMap, word_place}
+use Rattle.layout_facts.specs.memory_map.Spots.{address_of, Places, Element, IsElement, IsCopied, version_address, element_address, IsWordOf}
 
 module _ (p : CheckedProgram) (l : MemoryMap) (given : IsGiven p l) (s : State) (i : IsAt p l s.task) (x : World) (readings : List ℕ)
     (st : StartedAt (program_places p l) (state_view p l) s (privates_in (task_entries l) s.task) x) where

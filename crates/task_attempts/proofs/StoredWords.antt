@@ -2,19 +2,19 @@
 use Rattle.std.proofs.Common.{◌≡◌, ℕ, zero, suc, ◌+◌, ◌-◌, ◌*◌, ◌%◌, ◌==◌, ◌<◌, List, [], ◌∷◌, Option, Some, None, Bool, true, false, nat_lt, refl, arith}
 use Rattle.std.proofs.Common.{if◌then◌else◌}
 use Rattle.std.specs.List.{AllByRecursion}
-use Rattle.fram_board.specs.Effects.{Effect, Store}
-use Rattle.machine_effects.specs.World.{EachStore}
-use Rattle.machine_effects.proofs.Worlds.{each_store-append}
-use Rattle.array_versions.specs.declared.program.ArrayPlace.{ArrayPlace}
-use Rattle.array_versions.specs.declared.program.ListPlace.{ListPlace}
-use Rattle.array_versions.specs.Program.{Step, Program, number, load, keep, local, set_local, unary, binary, shift, element, emit_word, list_entry}
-use Rattle.array_versions.specs.Program.{versioned_read, versioned_write, sense, choose, repeat, store_number, move_word, jump, nothing, step}
-use Rattle.array_versions.specs.Behaviour.{WordState, End, GoesOn, Jumps, Short, Strays, Broken, Behaviour, behaves, goes_on, strays, broken, on_end, then_on}
-use Rattle.array_versions.specs.Behaviour.{is_place, at_place, with_top, with_stack, pushed, stored, with_local, local_pushed, reading_pushed, entry_stored}
-use Rattle.array_versions.specs.Behaviour.{behind_effects, own_element, first_stored, own_stored, chosen, turns, step_behaviour, behaviour}
-use Rattle.array_versions.specs.Form.{StepOfWords, OfWords}
-use Rattle.array_versions.specs.Laws.{IsStateOfWords, EndsInWords}
-use Rattle.array_versions.proofs.Words.{put_words, local_words, place_high, step_words, words, stack_words}
+use Rattle.layout_facts.specs.fram_board.Effects.{Effect, Store}
+use Rattle.layout_facts.specs.machine_effects.World.{EachStore}
+use Rattle.layout_facts.proofs.machine_effects.Interface.{each_store-append}
+use Rattle.layout_facts.specs.array_versions.declared.program.ArrayPlace.{ArrayPlace}
+use Rattle.layout_facts.specs.array_versions.declared.program.ListPlace.{ListPlace}
+use Rattle.layout_facts.specs.array_versions.Program.{Step, Program, number, load, keep, local, set_local, unary, binary, shift, element, emit_word, list_entry}
+use Rattle.layout_facts.specs.array_versions.Program.{versioned_read, versioned_write, sense, choose, repeat, store_number, move_word, jump, nothing, step}
+use Rattle.layout_facts.specs.array_versions.Behaviour.{WordState, End, GoesOn, Jumps, Short, Strays, Broken, Behaviour, behaves, goes_on, strays, broken, on_end, then_on}
+use Rattle.layout_facts.specs.array_versions.Behaviour.{is_place, at_place, with_top, with_stack, pushed, stored, with_local, local_pushed, reading_pushed, entry_stored}
+use Rattle.layout_facts.specs.array_versions.Behaviour.{behind_effects, own_element, first_stored, own_stored, chosen, turns, step_behaviour, behaviour}
+use Rattle.layout_facts.specs.array_versions.Form.{StepOfWords, OfWords}
+use Rattle.layout_facts.specs.array_versions.Laws.{IsStateOfWords, EndsInWords}
+use Rattle.layout_facts.proofs.array_versions.Interface.{put_words, local_words, place_high, step_words, words, stack_words}
 
 -- the word of each store is a word
 abbrev pub StoresWords : List Effect → Type 0

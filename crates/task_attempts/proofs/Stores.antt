@@ -1,19 +1,19 @@
 -- Where a task's program stores: at words that an undecided world doesn't speak of, before the code.
 use Rattle.std.proofs.Common.{◌≡◌, ℕ, ◌<◌, ◌≤◌, length, Option, Some, None, refl, sym, subst, ⊎_elim, arith}
 use Rattle.std.specs.Prelude.{true, slice_get}
-use Rattle.cost_bound.specs.Counts.{emits_of, block_assigns, Code}
-use Rattle.cost_bound.specs.Allowance.{list_of}
-use Rattle.source_values.specs.Runs.{CheckedProgram}
-use Rattle.memory_map.specs.declared.words.RuntimeWord.TheVariants.{CurrentTask, Gate, ListLength, EmitCount, Base, Version}
-use Rattle.memory_map.specs.declared.place.VariablePlace.{VariablePlace}
-use Rattle.memory_map.specs.declared.place.VariablePlace.TheVariants.{Scalar, Array}
-use Rattle.memory_map.specs.MemoryMap.{MemoryMap, word_place}
-use Rattle.stands_for.specs.Layout.{IsCopyWord, ProgramPlaces}
-use Rattle.memory_map.specs.Spots.{address_of, Places, IsScalarPlace, IsScalarAt}
-use Rattle.memory_map.specs.Places.{end_of}
-use Rattle.lower.specs.Spots.{Room}
-use Rattle.lower.specs.Agreement.{IsTaskStore, at_variable, at_copy, at_version, in_list, at_list_length, at_emit_count, in_buffer}
-use Rattle.compiled_model.specs.Places.{program_places}
+use Rattle.layout_facts.specs.cost_bound.Counts.{emits_of, block_assigns, Code}
+use Rattle.layout_facts.specs.cost_bound.Allowance.{list_of}
+use Rattle.layout_facts.specs.source_values.Runs.{CheckedProgram}
+use Rattle.layout_facts.specs.memory_map.declared.words.RuntimeWord.TheVariants.{CurrentTask, Gate, ListLength, EmitCount, Base, Version}
+use Rattle.layout_facts.specs.memory_map.declared.place.VariablePlace.{VariablePlace}
+use Rattle.layout_facts.specs.memory_map.declared.place.VariablePlace.TheVariants.{Scalar, Array}
+use Rattle.layout_facts.specs.memory_map.MemoryMap.{MemoryMap, word_place}
+use Rattle.layout_facts.specs.stands_for.Layout.{IsCopyWord, ProgramPlaces}
+use Rattle.layout_facts.specs.memory_map.Spots.{address_of, Places, IsScalarPlace, IsScalarAt}
+use Rattle.layout_facts.specs.memory_map.Places.{end_of}
+use Rattle.layout_facts.specs.lower.Spots.{Room}
+use Rattle.layout_facts.specs.lower.Agreement.{IsTaskStore, at_variable, at_copy, at_version, in_list, at_list_length, at_emit_count, in_buffer}
+use Rattle.layout_facts.specs.compiled_model.Places.{program_places}
 use Rattle.task_attempts.proofs.Given.{IsGiven, IsVersionWord, IsTaskGiven}
 use Rattle.task_attempts.proofs.Quiet.{IsQuiet}
 use Rattle.task_attempts.proofs.Entries as transition

@@ -2,26 +2,26 @@
 use Rattle.std.proofs.Common.{◌≡◌, ℕ, ◌<◌, List, [], ◌∷◌, length, map, Some, sym, ap, ◌∙◌, subst, ⊎_elim, arith}
 use Rattle.std.specs.Prelude.{Contains, slice_get, option_map}
 use Rattle.std.proofs.lemmas.Option.{slice_get-map, get_or_from_slice_get}
-use Rattle.cost_bound.specs.Counts.{Code}
-use Rattle.cost_bound.specs.Allowance.{CheckedTask}
-use Rattle.war_analysis.proofs.Steps.{element}
-use Rattle.source_values.specs.Runs.{CheckedProgram, body_of, task_body}
-use Rattle.runtime_effects.specs.Places.{CopyPair}
-use Rattle.lower.proofs.Blocks.{program_at}
-use Rattle.runtime_code.specs.LayoutPlaces.{pair_of, pairs_of}
-use Rattle.boot_runtime.specs.Listing.{privates_in}
-use Rattle.boot_runtime.specs.Entries.{entry_of, task_entries}
-use Rattle.stands_for.specs.Layout.{IsAmong, IsCopyWord, ArePrivate}
-use Rattle.lower.specs.Spots.{Room}
-use Rattle.lower.specs.Lowered.{lowered_block}
-use Rattle.compiled_model.specs.Places.{program_places}
-use Rattle.compiled_model.specs.Parts.{task_program}
+use Rattle.layout_facts.specs.cost_bound.Counts.{Code}
+use Rattle.layout_facts.specs.cost_bound.Allowance.{CheckedTask}
+use Rattle.layout_facts.proofs.war_analysis.Interface.{element}
+use Rattle.layout_facts.specs.source_values.Runs.{CheckedProgram, body_of, task_body}
+use Rattle.layout_facts.specs.runtime_effects.Places.{CopyPair}
+use Rattle.layout_facts.proofs.lower.Interface.{program_at}
+use Rattle.layout_facts.specs.runtime_code.LayoutPlaces.{pair_of, pairs_of}
+use Rattle.layout_facts.specs.boot_runtime.Listing.{privates_in}
+use Rattle.layout_facts.specs.boot_runtime.Entries.{entry_of, task_entries}
+use Rattle.layout_facts.specs.stands_for.Layout.{IsAmong, IsCopyWord, ArePrivate}
+use Rattle.layout_facts.specs.lower.Spots.{Room}
+use Rattle.layout_facts.specs.lower.Lowered.{lowered_block}
+use Rattle.layout_facts.specs.compiled_model.Places.{program_places}
+use Rattle.layout_facts.specs.compiled_model.Parts.{task_program}
 use Rattle.layout_facts.specs.Facts.{task_room}
 use Rattle.task_attempts.proofs.Given.{IsGiven, IsTaskGiven}
 use Rattle.task_attempts.proofs.Listed.{private_among}
-use Rattle.memory_map.specs.declared.place.PrivateScalar.{PrivateScalar}
-use Rattle.memory_map.specs.MemoryMap.{MemoryMap, TaskPlace}
-use Rattle.memory_map.specs.Spots.{Places, places_of}
+use Rattle.layout_facts.specs.memory_map.declared.place.PrivateScalar.{PrivateScalar}
+use Rattle.layout_facts.specs.memory_map.MemoryMap.{MemoryMap, TaskPlace}
+use Rattle.layout_facts.specs.memory_map.Spots.{Places, places_of}
 
 -- a task of a source by its number, with its layout
 pub record IsAt (p : CheckedProgram) (l : MemoryMap) (k : ℕ) : Type 0 where

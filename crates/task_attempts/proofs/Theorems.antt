@@ -1,23 +1,22 @@
 -- The laws of compiled tasks.
 use Rattle.std.proofs.Common.{◌≤◌, ◌<◌, sym, subst, arith}
-use Rattle.machine_effects.specs.World.{world_after, fram_after, EachStore}
-use Rattle.machine_effects.proofs.Worlds.{each_store-append}
-use Rattle.source_values.specs.Runs.{State}
-use Rattle.boot_runtime.specs.Entries.{task_entries}
-use Rattle.boot_runtime.specs.Listing.{privates_in}
-use Rattle.crash_rules.proofs.Lists.{world_fram}
-use Rattle.stands_for.proofs.Starts.{start_stores_so}
-use Rattle.stands_for.proofs.Theorems.{keeps_the_laws, clearing_starts}
-use Rattle.lower.proofs.Blocks.{blocks_agree}
-use Rattle.compiled_model.specs.Places.{program_places}
-use Rattle.compiled_model.specs.View.{state_view}
-use Rattle.compiled_model.specs.Parts.{program_parts}
+use Rattle.layout_facts.specs.machine_effects.World.{world_after, fram_after, EachStore}
+use Rattle.layout_facts.proofs.machine_effects.Interface.{each_store-append}
+use Rattle.layout_facts.specs.source_values.Runs.{State}
+use Rattle.layout_facts.specs.boot_runtime.Entries.{task_entries}
+use Rattle.layout_facts.specs.boot_runtime.Listing.{privates_in}
+use Rattle.layout_facts.proofs.crash_rules.Interface.{world_fram}
+use Rattle.layout_facts.proofs.stands_for.Interface.{start_stores_so, keeps_the_laws, clearing_starts}
+use Rattle.layout_facts.proofs.lower.Interface.{blocks_agree}
+use Rattle.layout_facts.specs.compiled_model.Places.{program_places}
+use Rattle.layout_facts.specs.compiled_model.View.{state_view}
+use Rattle.layout_facts.specs.compiled_model.Parts.{program_parts}
 use Rattle.task_attempts.specs.Laws.{TasksKeepTheirContract, CompiledSourcesKeepTheLaws, IsBelowCode, AttemptsStoreBelowCode, TasksLeaveForTheCommit}
 use Rattle.task_attempts.proofs.Given.{given}
 use Rattle.task_attempts.proofs.Tasks.{task_at}
 use Rattle.task_attempts.proofs.Contracts.{program_keeps, program_stores, program_leaves}
-use Rattle.memory_map.specs.MemoryMap.{word_place}
-use Rattle.memory_map.specs.declared.words.RuntimeWord.TheVariants.{CurrentTask}
+use Rattle.layout_facts.specs.memory_map.MemoryMap.{word_place}
+use Rattle.layout_facts.specs.memory_map.declared.words.RuntimeWord.TheVariants.{CurrentTask}
 
 pub tasks_contract : TasksKeepTheirContract
 tasks_contract text p allow plans l laid runnable s x readings small st =

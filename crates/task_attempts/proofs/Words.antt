@@ -2,17 +2,17 @@
 use Rattle.std.proofs.Common.{◌≡◌, ℕ, ◌+◌, ◌*◌, ◌==◌, ◌<◌, length, Option, Some, None, Bool, true, false, refl, sym, ap, ◌∙◌, subst, ⊎_elim, arith, eq-eqb, ne_eqb, if◌then◌else◌}
 use Rattle.std.proofs.lemmas.Bool.{cases_eq}
 use Rattle.std.specs.Prelude.{Contains, slice_get}
-use Rattle.cost_bound.specs.Counts.{Code, block_assigns}
-use Rattle.lower.specs.Agreement.{own_word}
+use Rattle.layout_facts.specs.cost_bound.Counts.{Code, block_assigns}
+use Rattle.layout_facts.specs.lower.Agreement.{own_word}
 use Rattle.task_attempts.proofs.Given.{ArePrivates}
-use Rattle.memory_map.specs.declared.words.RuntimeWord.TheVariants.{Version}
-use Rattle.memory_map.specs.declared.place.ArrayCopies.{ArrayCopies}
-use Rattle.memory_map.specs.declared.place.VariablePlace.{VariablePlace}
-use Rattle.memory_map.specs.declared.place.VariablePlace.TheVariants.{Scalar, Array}
-use Rattle.memory_map.specs.declared.place.PrivateScalar.{PrivateScalar}
-use Rattle.memory_map.specs.MemoryMap.{MemoryMap, TaskPlace, word_place}
-use Rattle.memory_map.specs.Places.{home_region}
-use Rattle.memory_map.specs.Spots.{Places, places_of, address_of, IsScalarPlace, IsScalarAt, Element, IsElement, IsCopied, element_in, copy_in, version_in, element_address, copy_address, version_address, IsWordOf}
+use Rattle.layout_facts.specs.memory_map.declared.words.RuntimeWord.TheVariants.{Version}
+use Rattle.layout_facts.specs.memory_map.declared.place.ArrayCopies.{ArrayCopies}
+use Rattle.layout_facts.specs.memory_map.declared.place.VariablePlace.{VariablePlace}
+use Rattle.layout_facts.specs.memory_map.declared.place.VariablePlace.TheVariants.{Scalar, Array}
+use Rattle.layout_facts.specs.memory_map.declared.place.PrivateScalar.{PrivateScalar}
+use Rattle.layout_facts.specs.memory_map.MemoryMap.{MemoryMap, TaskPlace, word_place}
+use Rattle.layout_facts.specs.memory_map.Places.{home_region}
+use Rattle.layout_facts.specs.memory_map.Spots.{Places, places_of, address_of, IsScalarPlace, IsScalarAt, Element, IsElement, IsCopied, element_in, copy_in, version_in, element_address, copy_address, version_address, IsWordOf}
 
 -- an element as an attempt has it: its copy where its version word is VER, else the element itself
 pub data OwnWord (p : Places) (f : ℕ → ℕ) (x : Element) : Type 0 where

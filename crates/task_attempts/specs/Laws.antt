@@ -1,22 +1,22 @@
 -- What the word programs of a source's tasks owe the crash theorem.
 use Rattle.std.specs.Prelude.{◌≡◌, ℕ, ◌<◌, ◌≤◌, List, All}
-use Rattle.machine_effects.specs.World.{World, EachStore}
-use Rattle.cost_bound.specs.declared.allowance.Allow.{Allow}
-use Rattle.source_values.specs.Runs.{CheckedProgram, State, IsRunnable}
-use Rattle.war_analysis.specs.PlanValue.{TaskPlanValue}
-use Rattle.memory_map.specs.declared.words.RuntimeWord.TheVariants.{ListLength, EmitCount}
-use Rattle.memory_map.specs.MemoryMap.{MemoryMap, word_place}
-use Rattle.array_versions.specs.Behaviour.{behaviour, started}
-use Rattle.boot_runtime.specs.Entries.{task_entries}
-use Rattle.boot_runtime.specs.Listing.{privates_in}
-use Rattle.crash_rules.specs.Model.{IsWord, ModelLaws}
-use Rattle.stands_for.specs.StandsFor.{UndecidedAt, StartedAt}
-use Rattle.stands_for.specs.Program.{TasksContract}
-use Rattle.compiled_model.specs.Places.{program_places}
-use Rattle.compiled_model.specs.View.{state_view}
-use Rattle.compiled_model.specs.Parts.{program_parts, compiled_model, task_program}
-use Rattle.compiled_model.specs.Needs.{LeavesFor}
-use Rattle.whole_programs.specs.Laws.{IsLaidOutText}
+use Rattle.layout_facts.specs.machine_effects.World.{World, EachStore}
+use Rattle.layout_facts.specs.cost_bound.declared.allowance.Allow.{Allow}
+use Rattle.layout_facts.specs.source_values.Runs.{CheckedProgram, State, IsRunnable}
+use Rattle.layout_facts.specs.war_analysis.PlanValue.{TaskPlanValue}
+use Rattle.layout_facts.specs.memory_map.declared.words.RuntimeWord.TheVariants.{ListLength, EmitCount}
+use Rattle.layout_facts.specs.memory_map.MemoryMap.{MemoryMap, word_place}
+use Rattle.layout_facts.specs.array_versions.Behaviour.{behaviour, started}
+use Rattle.layout_facts.specs.boot_runtime.Entries.{task_entries}
+use Rattle.layout_facts.specs.boot_runtime.Listing.{privates_in}
+use Rattle.layout_facts.specs.crash_rules.Model.{IsWord, ModelLaws}
+use Rattle.layout_facts.specs.stands_for.StandsFor.{UndecidedAt, StartedAt}
+use Rattle.layout_facts.specs.stands_for.Program.{TasksContract}
+use Rattle.layout_facts.specs.compiled_model.Places.{program_places}
+use Rattle.layout_facts.specs.compiled_model.View.{state_view}
+use Rattle.layout_facts.specs.compiled_model.Parts.{program_parts, compiled_model, task_program}
+use Rattle.layout_facts.specs.compiled_model.Needs.{LeavesFor}
+use Rattle.layout_facts.specs.whole_programs.Laws.{IsLaidOutText}
 
 -- what holds of each accepted text with a plan and a layout, whose runs go on
 abbrev OfTexts : (CheckedProgram → MemoryMap → Type 0) → Type 0

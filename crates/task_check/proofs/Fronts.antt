@@ -6,7 +6,7 @@ use Rattle.std.proofs.lemmas.List.{length-drop}
 use denote.Ref.{Bor}
 use Rattle.std.specs.BTreeMap.{BTreeMap}
 use Rattle.std.specs.Option.{option_or}
-use Rattle.task_ast.proofs.Backwards.{drop_back}
+use Rattle.task_ast.proofs.Interface.{drop_back}
 use Rattle.task_check.specs.declared.occurrence.Occurrence.{Occurrence}
 use Rattle.task_check.specs.declared.occurrence.Role.{Role}
 use Rattle.task_check.specs.declared.symbol.Global.{Global}

@@ -1,9 +1,11 @@
 mod Tables
 mod Walks
 mod Fronts
-pub mod Parts
+mod Parts
 mod Finish
-pub mod Fill
+mod Fill
 mod Counted
-pub mod Ranges
+mod Ranges
 mod OneAnswer
+pub mod Interface
+pub use Rattle.task_lex.proofs as task_lex

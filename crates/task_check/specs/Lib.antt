@@ -9,3 +9,6 @@ pub mod Parts
 pub mod Counted
 pub mod Walks
 pub mod Laws
+pub use Rattle.task_lex.specs as task_lex
+pub use Rattle.path_checks.specs.path_sums as path_sums
+pub use Rattle.path_checks.specs as path_checks

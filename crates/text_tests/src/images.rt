@@ -1,8 +1,8 @@
 //! Texts and values from the description of the format.
 ghost use Rattle.std.specs.Prelude.{◌<◌, length};
 
-use image_text::{Image, ImageFault, parse_image, print_image};
 use image_map::{Map, Name, Place, RuntimeWords};
+use image_text::{Image, ImageFault, parse_image, print_image};
 use std::test::Fail;
 
 fn fault_of(rt: &HostRuntime, text: &[u8]) -> Option<ImageFault>

@@ -1,7 +1,9 @@
 //! Texts and values from the description of the format.
 ghost use Rattle.std.specs.Prelude.{◌<◌, ◌≤◌, length};
 
-use image_map::{Map, MapFault, Name, Place, RuntimeWords, ValueType, Variable, push_map, read_map};
+use image_map::{
+    Map, MapFault, Name, Place, RuntimeWords, ValueType, Variable, push_map, read_map,
+};
 use std::alloc::Global;
 use std::process::Abort;
 use std::test::Fail;

@@ -1,5 +1,7 @@
 //! Each call once.
-use text_parts::{cut_group, cut_line, hex_digit, is_blank_line, next_field, uncommented, upper_hex};
+use text_parts::{
+    cut_group, cut_line, hex_digit, is_blank_line, next_field, uncommented, upper_hex,
+};
 
 #[test]
 fn cuts(rt: HostRuntime) {

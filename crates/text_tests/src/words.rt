@@ -1,6 +1,7 @@
 //! Each operation on words, with its flags.
 use alp_words::{
-    Flags, Width, add, and, dadd, div16, from_bytes, less_signed, mul16, rem16, rra, rrc, sar16, shl16, shr16, sub, swpb, sxt, to_bytes, xor,
+    Flags, Width, add, and, dadd, div16, from_bytes, less_signed, mul16, rem16, rra, rrc, sar16,
+    shl16, shr16, sub, swpb, sxt, to_bytes, xor,
 };
 
 fn flags(n: bool, z: bool, c: bool, v: bool) -> Flags {

@@ -1,5 +1,6 @@
-pub mod Numbers
-pub mod Steps
-pub mod Counted
+mod Numbers
+mod Steps
+mod Counted
 mod Owed
-pub mod Unique
+mod Unique
+pub mod Interface

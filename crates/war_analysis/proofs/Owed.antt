@@ -3,16 +3,16 @@ use Rattle.std.proofs.Common.{◌≡◌, ℕ, zero, suc, Bool, true, false, ◌&
 use Rattle.std.proofs.Common.{None}
 use Rattle.std.specs.Prelude.{slice_get}
 use Rattle.std.proofs.lemmas.Bool.{and_parts, or_cases, or_left, or_right, true_from_ne_false, both_ways}
-use Rattle.alp_text.specs.declared.lines.Span.{Span}
+use Rattle.cost_bound.specs.alp_text.declared.lines.Span.{Span}
 use Rattle.task_ast.specs.declared.names.Variable.{Variable}
 use Rattle.task_ast.specs.declared.names.Variable.TheVariants.{Shared, Local}
 use Rattle.task_ast.specs.declared.names.VariableName.{VariableName}
 use Rattle.task_ast.specs.Paths.{CheckedExpression, CheckedStatement, CheckedChoice, CheckedBlock, Access, read, write, unset, End, ExpressionPath}
 use Rattle.task_ast.specs.Paths.{StatementPath, ChoicePath, TurnsPath, BlockPath}
 use Rattle.task_ast.specs.Paths as p
-use Rattle.path_sums.specs.Access.{is_same, writes}
-use Rattle.path_checks.specs.Firsts.{SomeTask}
-use Rattle.path_checks.specs.Loops.{is_same_local, is_good_loop, BadLoopInStatement, BadLoopInChoice, BadLoopIn}
+use Rattle.cost_bound.specs.path_sums.Access.{is_same, writes}
+use Rattle.cost_bound.specs.path_checks.Firsts.{SomeTask}
+use Rattle.cost_bound.specs.path_checks.Loops.{is_same_local, is_good_loop, BadLoopInStatement, BadLoopInChoice, BadLoopIn}
 use Rattle.cost_bound.specs.Counts.{is_shared, statement_assigns, choice_assigns, block_assigns}
 use Rattle.cost_bound.specs.Allowance.{CheckedTask}
 use Rattle.war_analysis.specs.Laws.{is_local, statement_declares_locals, choice_declares_locals, declares_locals}

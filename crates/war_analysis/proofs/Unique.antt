@@ -1,8 +1,8 @@
 -- The laws of plans.
 use Rattle.std.proofs.Common.{◌≡◌, zero, suc, List, [], ◌∷◌, refl, ap, ◌∙◌, arith, None}
 use Rattle.task_ast.specs.declared.SharedDeclaration.{SharedDeclaration}
-use Rattle.path_checks.specs.Firsts.{IsFirst}
-use Rattle.path_checks.specs.Loops.{BadLoopAt}
+use Rattle.cost_bound.specs.path_checks.Firsts.{IsFirst}
+use Rattle.cost_bound.specs.path_checks.Loops.{BadLoopAt}
 use Rattle.cost_bound.specs.Allowance.{CheckedTask, CheckedProgram}
 use Rattle.war_analysis.specs.PlanValue.{TaskPlanValue}
 use Rattle.war_analysis.specs.Plans.{IsPrivateIn, IsVersionedIn, IsTaskPlan, ArePlans, IsPlan}

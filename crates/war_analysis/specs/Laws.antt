@@ -4,7 +4,7 @@ use Rattle.task_ast.specs.declared.names.Variable.{Variable}
 use Rattle.task_ast.specs.declared.names.Variable.TheVariants.{Shared, Local}
 use Rattle.task_ast.specs.Tree as t
 use Rattle.task_ast.specs.Paths.{CheckedStatement, CheckedChoice, CheckedBlock}
-use Rattle.path_sums.specs.Access.{IsPrivate}
+use Rattle.cost_bound.specs.path_sums.Access.{IsPrivate}
 use Rattle.cost_bound.specs.Allowance.{CheckedTask, CheckedProgram, scalars_of}
 use Rattle.war_analysis.specs.PlanValue.{TaskPlanValue}
 use Rattle.war_analysis.specs.Plans.{IsScalarAt, IsPrivateIn, IsTaskPlan, IsPlan}

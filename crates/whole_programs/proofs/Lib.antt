@@ -1,7 +1,16 @@
-pub mod Paths
-pub mod Ways
-pub mod Steps
-pub mod Spared
-pub mod Placed
-pub mod Checked
-pub mod Whole
+mod Paths
+mod Ways
+mod Steps
+mod Spared
+mod Placed
+mod Checked
+mod Whole
+mod Declared
+mod Symbols
+mod Walk
+mod Tasks
+mod Tokens
+mod Grammar
+mod Sources
+pub mod Interface
+pub use Rattle.source_meaning.proofs as source_meaning

@@ -3,29 +3,29 @@ use Rattle.std.proofs.Common.{◌≡◌, ℕ, ◌%◌, ◌==◌, ◌<◌, Bool, 
 use Rattle.std.specs.Prelude.{◌≢◌}
 use Rattle.std.proofs.lemmas.Bool.Decides.{nat_tests}
 use Rattle.std.proofs.lemmas.Bool.{or_parts}
-use Rattle.alp_text.specs.declared.lines.Span.{Span}
-use Rattle.task_ast.specs.Tree as t
-use Rattle.task_ast.specs.Paths.{CheckedExpression, CheckedStatement, CheckedChoice, CheckedBlock}
-use Rattle.task_ast.specs.declared.SharedDeclaration.{SharedDeclaration}
-use Rattle.task_ast.specs.declared.ShortCircuitOperator.{ShortCircuitOperator}
-use Rattle.task_ast.specs.declared.ShortCircuitOperator.TheVariants.{And as BothHold, Or as OneHolds}
-use Rattle.task_ast.specs.declared.names.Variable.{Variable}
-use Rattle.task_ast.specs.declared.names.Variable.TheVariants.{Shared, Local}
-use Rattle.task_ast.specs.declared.names.VariableName.{VariableName}
-use Rattle.path_checks.specs.Loops.{is_local, is_same_local, statement_assigns, choice_assigns, block_assigns, is_good_loop, BadLoopInStatement, BadLoopInChoice, BadLoopIn}
-use Rattle.source_values.specs.Values.{joined_type, type_of}
-use Rattle.array_versions.specs.declared.operations.UnaryOperation.TheVariants.{Truth}
-use Rattle.array_versions.specs.Program.{Program, unary, binary, shift, emit_word, choose, store_number, move_word, jump, nothing, step, joined}
-use Rattle.array_versions.specs.Form.{StepSpares, Spares}
-use Rattle.memory_map.specs.MemoryMap.{word_place}
-use Rattle.memory_map.specs.declared.words.RuntimeWord.TheVariants.{Gate, ListLength, EmitCount, Base, SentBase}
-use Rattle.memory_map.specs.declared.place.VariablePlace.{VariablePlace}
-use Rattle.memory_map.specs.declared.place.VariablePlace.TheVariants.{Scalar, Array}
-use Rattle.memory_map.specs.declared.place.PrivateScalar.{PrivateScalar}
-use Rattle.memory_map.specs.Spots.{Places}
+use Rattle.lower.specs.alp_text.declared.lines.Span.{Span}
+use Rattle.lower.specs.task_ast.Tree as t
+use Rattle.lower.specs.task_ast.Paths.{CheckedExpression, CheckedStatement, CheckedChoice, CheckedBlock}
+use Rattle.lower.specs.task_ast.declared.SharedDeclaration.{SharedDeclaration}
+use Rattle.lower.specs.task_ast.declared.ShortCircuitOperator.{ShortCircuitOperator}
+use Rattle.lower.specs.task_ast.declared.ShortCircuitOperator.TheVariants.{And as BothHold, Or as OneHolds}
+use Rattle.lower.specs.task_ast.declared.names.Variable.{Variable}
+use Rattle.lower.specs.task_ast.declared.names.Variable.TheVariants.{Shared, Local}
+use Rattle.lower.specs.task_ast.declared.names.VariableName.{VariableName}
+use Rattle.lower.specs.path_checks.Loops.{is_local, is_same_local, statement_assigns, choice_assigns, block_assigns, is_good_loop, BadLoopInStatement, BadLoopInChoice, BadLoopIn}
+use Rattle.lower.specs.source_values.Values.{joined_type, type_of}
+use Rattle.lower.specs.array_versions.declared.operations.UnaryOperation.TheVariants.{Truth}
+use Rattle.lower.specs.array_versions.Program.{Program, unary, binary, shift, emit_word, choose, store_number, move_word, jump, nothing, step, joined}
+use Rattle.lower.specs.array_versions.Form.{StepSpares, Spares}
+use Rattle.lower.specs.memory_map.MemoryMap.{word_place}
+use Rattle.lower.specs.memory_map.declared.words.RuntimeWord.TheVariants.{Gate, ListLength, EmitCount, Base, SentBase}
+use Rattle.lower.specs.memory_map.declared.place.VariablePlace.{VariablePlace}
+use Rattle.lower.specs.memory_map.declared.place.VariablePlace.TheVariants.{Scalar, Array}
+use Rattle.lower.specs.memory_map.declared.place.PrivateScalar.{PrivateScalar}
+use Rattle.lower.specs.memory_map.Spots.{Places}
 use Rattle.lower.specs.Operations.{unary_operation, binary_operation, shift_operation}
 use Rattle.lower.specs.Lowered.{one, read_step, write_step, element_read, element_step, store_step, evaluated_side, lowered_choice_of_sides, lowered_expression, assignment, loop_local, entries, lowered_transition, lowered_statement, lowered_choice, lowered_block}
-use Rattle.checked_uses.specs.Uses.{IsWordName, IsLocalName, StatementUses, ChoiceUses, BlockUses}
+use Rattle.whole_programs.specs.Uses.{IsWordName, IsLocalName, StatementUses, ChoiceUses, BlockUses}
 
 -- ---- loops
 

@@ -1,32 +1,32 @@
 -- Each step of a task's program: its locals are below 256, its loops count, and its numbers are words.
 use Rattle.std.proofs.Common.{◌≡◌, false, ℕ, ◌%◌, ◌<◌, List, [], ◌∷◌, Option, Some, None, sym, ap, subst, arith, inl, inr, slice_get}
 use Rattle.std.specs.List.{AllByRecursion}
-use Rattle.alp_words.specs.Words.{IsWord}
-use Rattle.task_ast.specs.Tree as t
-use Rattle.task_ast.specs.Paths.{CheckedExpression, CheckedStatement, CheckedChoice, CheckedBlock}
-use Rattle.task_ast.specs.declared.SharedDeclaration.{SharedDeclaration}
-use Rattle.task_ast.specs.declared.ShortCircuitOperator.{ShortCircuitOperator}
-use Rattle.task_ast.specs.declared.ShortCircuitOperator.TheVariants.{And as BothHold, Or as OneHolds}
-use Rattle.task_ast.specs.declared.names.Variable.{Variable}
-use Rattle.task_ast.specs.declared.names.Variable.TheVariants.{Shared, Local}
-use Rattle.task_ast.specs.declared.names.VariableName.{VariableName}
-use Rattle.path_checks.specs.Loops.{block_assigns}
-use Rattle.source_values.specs.Values.{joined_type, type_of}
-use Rattle.array_versions.specs.declared.operations.UnaryOperation.TheVariants.{Truth}
-use Rattle.array_versions.specs.Program.{Step, Program, number, unary, binary, shift, emit_word, list_entry, sense, choose, repeat, store_number, move_word, jump, nothing, step, joined}
-use Rattle.array_versions.specs.Form.{StepLocalsBelow, LocalsBelow, StepLoopsCount, LoopsCount, StepOfWords, OfWords, ArrayOfWords, ListOfWords}
-use Rattle.memory_map.specs.MemoryMap.{word_place}
-use Rattle.memory_map.specs.declared.words.RuntimeWord.{RuntimeWord}
-use Rattle.memory_map.specs.declared.words.RuntimeWord.TheVariants.{NextTask, Gate, ListLength, EmitCount, Base, SentBase, Version}
-use Rattle.memory_map.specs.declared.place.ArrayCopies.{ArrayCopies}
-use Rattle.memory_map.specs.declared.place.VariablePlace.{VariablePlace}
-use Rattle.memory_map.specs.declared.place.VariablePlace.TheVariants.{Scalar, Array}
-use Rattle.memory_map.specs.declared.place.PrivateScalar.{PrivateScalar}
-use Rattle.memory_map.specs.Spots.{Places, address_of}
+use Rattle.lower.specs.alp_words.Words.{IsWord}
+use Rattle.lower.specs.task_ast.Tree as t
+use Rattle.lower.specs.task_ast.Paths.{CheckedExpression, CheckedStatement, CheckedChoice, CheckedBlock}
+use Rattle.lower.specs.task_ast.declared.SharedDeclaration.{SharedDeclaration}
+use Rattle.lower.specs.task_ast.declared.ShortCircuitOperator.{ShortCircuitOperator}
+use Rattle.lower.specs.task_ast.declared.ShortCircuitOperator.TheVariants.{And as BothHold, Or as OneHolds}
+use Rattle.lower.specs.task_ast.declared.names.Variable.{Variable}
+use Rattle.lower.specs.task_ast.declared.names.Variable.TheVariants.{Shared, Local}
+use Rattle.lower.specs.task_ast.declared.names.VariableName.{VariableName}
+use Rattle.lower.specs.path_checks.Loops.{block_assigns}
+use Rattle.lower.specs.source_values.Values.{joined_type, type_of}
+use Rattle.lower.specs.array_versions.declared.operations.UnaryOperation.TheVariants.{Truth}
+use Rattle.lower.specs.array_versions.Program.{Step, Program, number, unary, binary, shift, emit_word, list_entry, sense, choose, repeat, store_number, move_word, jump, nothing, step, joined}
+use Rattle.lower.specs.array_versions.Form.{StepLocalsBelow, LocalsBelow, StepLoopsCount, LoopsCount, StepOfWords, OfWords, ArrayOfWords, ListOfWords}
+use Rattle.lower.specs.memory_map.MemoryMap.{word_place}
+use Rattle.lower.specs.memory_map.declared.words.RuntimeWord.{RuntimeWord}
+use Rattle.lower.specs.memory_map.declared.words.RuntimeWord.TheVariants.{NextTask, Gate, ListLength, EmitCount, Base, SentBase, Version}
+use Rattle.lower.specs.memory_map.declared.place.ArrayCopies.{ArrayCopies}
+use Rattle.lower.specs.memory_map.declared.place.VariablePlace.{VariablePlace}
+use Rattle.lower.specs.memory_map.declared.place.VariablePlace.TheVariants.{Scalar, Array}
+use Rattle.lower.specs.memory_map.declared.place.PrivateScalar.{PrivateScalar}
+use Rattle.lower.specs.memory_map.Spots.{Places, address_of}
 use Rattle.lower.specs.Operations.{unary_operation, binary_operation, shift_operation}
 use Rattle.lower.specs.Lowered.{one, read_step, write_step, list_place, written_array, element_read, element_step, store_step, settled_program, evaluated_side, lowered_choice_of_sides, lowered_expression, assignment, loop_local, entries, lowered_transition, lowered_statement, lowered_choice, lowered_block}
-use Rattle.stack_needs.specs.Needs.{ExpressionFits, StatementFits, ChoiceFits, BlockFits}
-use Rattle.checked_uses.specs.Uses.{IsWordName, IsLocalName, ExpressionUses, StatementUses, ChoiceUses, BlockUses}
+use Rattle.whole_programs.specs.Needs.{ExpressionFits, StatementFits, ChoiceFits, BlockFits}
+use Rattle.whole_programs.specs.Uses.{IsWordName, IsLocalName, ExpressionUses, StatementUses, ChoiceUses, BlockUses}
 use Rattle.whole_programs.proofs.Spared.{IsGood, GoodStatement, GoodChoice, GoodBlock, is_good, local_word, block_spares}
 
 -- ---- places

@@ -2,31 +2,31 @@
 -- paths of the task do.
 use Rattle.std.proofs.Common.{◌≡◌, ℕ, zero, suc, ◌+◌, ◌-◌, ◌%◌, ◌==◌, ◌<◌, ◌≤◌, ◌||◌, Bool, true, false, nat_eq, List, [], ◌∷◌, ◌++◌, Option, Some, None, refl, sym, ap, subst, ◌∙◌, arith, if◌then◌else◌, slice_get}
 use Rattle.std.proofs.lemmas.Bool.Decides.{nat_tests}
-use Rattle.task_ast.specs.Tree as t
-use Rattle.task_ast.specs.Paths.{CheckedExpression, CheckedStatement, CheckedChoice, CheckedBlock, Access, read, write, unset, End, goes_on, goes_to, StatementPath, ChoicePath, TurnsPath, BlockPath}
-use Rattle.task_ast.specs.Paths as path
-use Rattle.task_ast.specs.declared.SharedDeclaration.{SharedDeclaration}
-use Rattle.task_ast.specs.declared.ShortCircuitOperator.{ShortCircuitOperator}
-use Rattle.task_ast.specs.declared.ShortCircuitOperator.TheVariants.{And as BothHold, Or as OneHolds}
-use Rattle.task_ast.specs.declared.names.Variable.{Variable}
-use Rattle.task_ast.specs.declared.names.Variable.TheVariants.{Shared, Local}
-use Rattle.task_ast.specs.declared.names.VariableName.{VariableName}
-use Rattle.path_checks.specs.Loops.{is_local}
-use Rattle.source_values.specs.Values.{joined_type, type_of}
-use Rattle.array_versions.specs.declared.operations.UnaryOperation.TheVariants.{Truth}
-use Rattle.array_versions.specs.Program.{Program, unary, binary, shift, emit_word, choose, store_number, move_word, jump, nothing, step, joined}
-use Rattle.array_versions.specs.Form.{Place, start, assigning, Moves, EachTurn, EachStepWay, EachWay}
-use Rattle.memory_map.specs.MemoryMap.{word_place}
-use Rattle.memory_map.specs.declared.words.RuntimeWord.TheVariants.{Gate, ListLength, EmitCount, Base, SentBase}
-use Rattle.memory_map.specs.declared.place.VariablePlace.{VariablePlace}
-use Rattle.memory_map.specs.declared.place.VariablePlace.TheVariants.{Scalar, Array}
-use Rattle.memory_map.specs.declared.place.PrivateScalar.{PrivateScalar}
-use Rattle.memory_map.specs.Spots.{Places}
+use Rattle.lower.specs.task_ast.Tree as t
+use Rattle.lower.specs.task_ast.Paths.{CheckedExpression, CheckedStatement, CheckedChoice, CheckedBlock, Access, read, write, unset, End, goes_on, goes_to, StatementPath, ChoicePath, TurnsPath, BlockPath}
+use Rattle.lower.specs.task_ast.Paths as path
+use Rattle.lower.specs.task_ast.declared.SharedDeclaration.{SharedDeclaration}
+use Rattle.lower.specs.task_ast.declared.ShortCircuitOperator.{ShortCircuitOperator}
+use Rattle.lower.specs.task_ast.declared.ShortCircuitOperator.TheVariants.{And as BothHold, Or as OneHolds}
+use Rattle.lower.specs.task_ast.declared.names.Variable.{Variable}
+use Rattle.lower.specs.task_ast.declared.names.Variable.TheVariants.{Shared, Local}
+use Rattle.lower.specs.task_ast.declared.names.VariableName.{VariableName}
+use Rattle.lower.specs.path_checks.Loops.{is_local}
+use Rattle.lower.specs.source_values.Values.{joined_type, type_of}
+use Rattle.lower.specs.array_versions.declared.operations.UnaryOperation.TheVariants.{Truth}
+use Rattle.lower.specs.array_versions.Program.{Program, unary, binary, shift, emit_word, choose, store_number, move_word, jump, nothing, step, joined}
+use Rattle.lower.specs.array_versions.Form.{Place, start, assigning, Moves, EachTurn, EachStepWay, EachWay}
+use Rattle.lower.specs.memory_map.MemoryMap.{word_place}
+use Rattle.lower.specs.memory_map.declared.words.RuntimeWord.TheVariants.{Gate, ListLength, EmitCount, Base, SentBase}
+use Rattle.lower.specs.memory_map.declared.place.VariablePlace.{VariablePlace}
+use Rattle.lower.specs.memory_map.declared.place.VariablePlace.TheVariants.{Scalar, Array}
+use Rattle.lower.specs.memory_map.declared.place.PrivateScalar.{PrivateScalar}
+use Rattle.lower.specs.memory_map.Spots.{Places}
 use Rattle.lower.specs.Operations.{unary_operation, binary_operation, shift_operation}
 use Rattle.lower.specs.Lowered.{one, read_step, write_step, element_read, element_step, store_step, settled_program, evaluated_side, lowered_choice_of_sides, lowered_expression, assignment, element_assignment, loop_local, entries, lowered_transition, lowered_statement, lowered_choice, lowered_block}
-use Rattle.stack_needs.specs.Needs.{ExpressionFits, StatementFits, ChoiceFits, BlockFits}
-use Rattle.checked_uses.specs.Uses.{IsWordName, IsArrayName, ExpressionUses, StatementUses, ChoiceUses, BlockUses}
-use Rattle.lower.proofs.Values.{small_modulo}
+use Rattle.whole_programs.specs.Needs.{ExpressionFits, StatementFits, ChoiceFits, BlockFits}
+use Rattle.whole_programs.specs.Uses.{IsWordName, IsArrayName, ExpressionUses, StatementUses, ChoiceUses, BlockUses}
+use Rattle.lower.proofs.Interface.{small_modulo}
 use Rattle.whole_programs.proofs.Paths.{names_read, is_path, some_turns, some_block, written, forgotten, behind, behind_both, behind_names, behind_expression, IsAssigned, Safe, safe_both, safe_expression}
 
 -- ---- ways

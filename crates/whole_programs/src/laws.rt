@@ -1,6 +1,20 @@
 //! Laws of the word programs of accepted sources. The functions do nothing: their contracts are the laws.
 
 ghost use Rattle.whole_programs.specs.Laws.{TasksAreWhole, ProgramsAreWhole};
+ghost use Rattle.whole_programs.specs.UseLaws.{NamesAreUsedAsDeclared};
+ghost use Rattle.whole_programs.specs.StackLaws.{SourcesFit};
+
+/// The expressions of a source that no check refuses have room on a stack of 652 words, and its numbers are words.
+pub fn expressions_have_room()
+    ensures { SourcesFit }
+{}
+
+/// In a source that no check refuses scalars stand without an index and arrays with one; each shared variable is one that is
+/// declared, each local one of at most 256, and loops count in locals.
+#[tactic(auto, using(crate::proofs::Tasks::names_are_used_as_declared))]
+pub fn names_are_used_as_declared()
+    ensures { NamesAreUsedAsDeclared }
+{}
 
 /// The word program of each task of an accepted source is whole, and its numbers are words: whatever its layout, there is
 /// room for its locals and its stack, it reads no local before it has assigned it, and each way through it ends in the jump

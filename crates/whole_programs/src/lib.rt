@@ -3,4 +3,6 @@
 
 mod laws;
 
-pub use laws::{programs_are_whole, tasks_are_whole};
+pub use laws::{
+    expressions_have_room, names_are_used_as_declared, programs_are_whole, tasks_are_whole,
+};

@@ -1,6 +1,6 @@
 use Rattle.std.proofs.Common.{refl}
-use Rattle.task_ast.specs.View.{program_of}
-use Rattle.source_maps.specs.Maps.{map_of}
+use Rattle.image_reports.specs.task_ast.View.{program_of}
+use Rattle.image_reports.specs.source_maps.Maps.{map_of}
 use Rattle.alpaca_cli.proofs.built.built_of.Goals as goal
 
 pub returns-in-Ok-print_image-clause-built : goal.returns-in-Ok-print_image-clause-built

@@ -1,5 +1,5 @@
 use Rattle.std.proofs.Common.{◌%◌}
-use Rattle.alp_io.proofs.Appends.{writes_err}
+use Rattle.alp_io.proofs.Interface.{writes_err}
 use Rattle.board_run.specs.History.{total}
 use Rattle.alpaca_cli.specs.Generated.{ended_line, sum_line}
 use Rattle.alpaca_cli.proofs.GenLines.{in_second, in_third, all_four}

@@ -1,5 +1,5 @@
 use Rattle.std.proofs.Common.{arith, ◌∙◌, refl}
-use Rattle.alp_io.proofs.Progress.{progress_step, progress_err}
+use Rattle.alp_io.proofs.Interface.{progress_step, progress_err}
 use Rattle.board_run.proofs.Changes.{next_lines, lines_of_next, read_old, kept_next, start_lines, start_kept, start_variables}
 use Rattle.board_run.proofs.state.write_changes.Goals as goal
 

@@ -1,5 +1,5 @@
 use Rattle.std.proofs.Common.{arith, ◌∙◌}
-use Rattle.alp_io.proofs.Progress.{progress_step, progress_err}
+use Rattle.alp_io.proofs.Interface.{progress_step, progress_err}
 use Rattle.board_run.proofs.Changes.{words_next, next_lines}
 use Rattle.board_run.proofs.state.write_words.Goals as goal
 

@@ -1,6 +1,6 @@
 use Rattle.std.proofs.Common.{◌≡◌, ◌≤◌, drop, flat_map}
 use Rattle.alp_io.specs.Report.{accepted_line}
-use Rattle.alp_io.proofs.Progress.{Progress}
+use Rattle.alp_io.proofs.Interface.{Progress}
 use Rattle.board_run.proofs.state.write_words.Given as goal
 
 abbrev pub invariant-loop-w : goal.invariant-loop-w

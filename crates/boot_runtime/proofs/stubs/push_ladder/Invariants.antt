@@ -1,5 +1,5 @@
 use Rattle.std.proofs.Common.{◌≡◌, ◌+◌, ◌<◌, ◌++◌, drop, map}
-use Rattle.code_forms.specs.Placed.{instructions}
+use Rattle.runtime_code.specs.code_forms.Placed.{instructions}
 use Rattle.boot_runtime.specs.Entries.{entry_of}
 use Rattle.boot_runtime.specs.Listing.{ladder_to, stubs_bytes}
 use Rattle.boot_runtime.proofs.stubs.push_ladder.Given as goal

@@ -1,6 +1,6 @@
 use Rattle.std.proofs.Common.{◌++◌, ◌∷◌, [], ap, ◌∙◌, map}
-use Rattle.code_forms.specs.Forms.{Branch, instruction_of}
-use Rattle.code_forms.specs.Placed.{instructions}
+use Rattle.runtime_code.specs.code_forms.Forms.{Branch, instruction_of}
+use Rattle.runtime_code.specs.code_forms.Placed.{instructions}
 use Rattle.runtime_code.specs.LayoutPlaces.{pair_of}
 use Rattle.boot_runtime.specs.Listing.{copies_in}
 use Rattle.boot_runtime.proofs.Writing.{next_written}

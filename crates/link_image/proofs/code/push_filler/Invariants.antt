@@ -1,5 +1,5 @@
 use Rattle.std.proofs.Common.{◌≡◌, ◌++◌, ◌-◌}
-use Rattle.code_forms.specs.Placed.{instructions, words_of}
+use Rattle.linked_code.specs.code_forms.Placed.{instructions, words_of}
 use Rattle.codegen.specs.Code.{repeated}
 use Rattle.linked_code.specs.Parts.{filler}
 use Rattle.link_image.proofs.code.push_filler.Given as goal

@@ -1,6 +1,6 @@
 use Rattle.std.proofs.Common.{◌≡◌, ap, arith}
 use Rattle.array_versions.specs.View.{program_of}
-use Rattle.codegen.proofs.Lengths.{code_length}
+use Rattle.codegen.proofs.Interface.{code_length}
 use Rattle.link_image.proofs.code.push_task.Goals as goal
 
 pub emit-requires-clause-room : goal.emit-requires-clause-room

@@ -1,7 +1,7 @@
 use Rattle.std.proofs.Common.{◌≡◌, ◌++◌, ◌+◌, ◌*◌, drop, map, length}
 use Rattle.std.specs.Prelude.{All}
 use Rattle.address_space.specs.Limits.{reset_vector}
-use Rattle.code_forms.specs.Placed.{instructions, words_of}
+use Rattle.linked_code.specs.code_forms.Placed.{instructions, words_of}
 use Rattle.array_versions.specs.View.{program_of}
 use Rattle.array_versions.specs.Form.{IsWhole}
 use Rattle.linked_code.specs.Parts.{chained, PartsInOrder}

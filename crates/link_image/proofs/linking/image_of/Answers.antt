@@ -3,14 +3,14 @@ use Rattle.address_space.specs.Limits.{reset_vector}
 use Rattle.task_ast.specs.View as tree
 use Rattle.task_ast.specs.declared.SharedDeclaration.{SharedDeclaration}
 use Rattle.array_versions.specs.View.{program_of}
-use Rattle.code_forms.specs.Placed.{words_of}
-use Rattle.source_values.specs.Runs.{initial_words}
+use Rattle.linked_code.specs.code_forms.Placed.{words_of}
+use Rattle.whole_programs.specs.source_values.Runs.{initial_words}
 use Rattle.memory_map.specs.declared.words.RuntimeWord.TheVariants.{CurrentTask}
 use Rattle.memory_map.specs.MemoryMap.{MemoryMap, word_place}
-use Rattle.memory_map.proofs.Parts.{apart_of}
+use Rattle.memory_map.proofs.Interface.{apart_of}
 use Rattle.lower.specs.Lowered.{lowered}
 use Rattle.linked_code.specs.Linked.{linked}
-use Rattle.compiled_model.specs.View.{is_within, shared_word}
+use Rattle.compiled_runs.specs.compiled_model.View.{is_within, shared_word}
 use Rattle.link_image.specs.Words.{code_words, AreWords}
 use Rattle.link_image.proofs.Placing.{zeros_are_words}
 use Rattle.link_image.proofs.linking.image_of.Goals as goal

@@ -1,7 +1,7 @@
 use Rattle.std.proofs.Common.{◌≡◌, ℕ, drop, map}
-use Rattle.machine_effects.specs.Machine.{IsFram, fram_of}
-use Rattle.source_values.specs.Runs.{initial_words}
-use Rattle.compiled_model.specs.View.{shared_word}
+use Rattle.linked_code.specs.machine_effects.Machine.{IsFram, fram_of}
+use Rattle.whole_programs.specs.source_values.Runs.{initial_words}
+use Rattle.compiled_runs.specs.compiled_model.View.{shared_word}
 use Rattle.link_image.specs.Words.{AreWords}
 use Rattle.link_image.proofs.words.put_scalars.Given as goal
 

@@ -1,5 +1,5 @@
 use Rattle.std.proofs.Common.{◌∙◌, ◌<◌, ap, sym, subst, length, arith}
-use Rattle.machine_effects.specs.Machine.{fram_of}
+use Rattle.linked_code.specs.machine_effects.Machine.{fram_of}
 use Rattle.std.proofs.lemmas.List.Elements.{All-set}
 use Rattle.image_text.specs.ImageValue.{place_of}
 use Rattle.link_image.specs.Words.{AreWords}

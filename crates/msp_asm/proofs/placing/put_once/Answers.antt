@@ -1,5 +1,5 @@
 use Rattle.std.proofs.Common.{arith, ◌∙◌, sym, length-set}
-use Rattle.image_text.proofs.Puts.{put_stop, put_more, put_end}
+use Rattle.image_text.proofs.Interface.{put_stop, put_more, put_end}
 use Rattle.msp_asm.proofs.placing.put_once.Goals as goal
 
 pub returns-then-is_some-clause-fine : goal.returns-then-is_some-clause-fine

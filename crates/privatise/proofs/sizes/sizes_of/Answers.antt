@@ -1,7 +1,7 @@
 use Rattle.std.proofs.Common.{◌∙◌, ap, map}
 use Rattle.task_ast.specs.View.{task_of, program_of}
 use Rattle.cost_bound.specs.Allowance.{is_written, total}
-use Rattle.cost_bound.proofs.Sums.{written_sum}
+use Rattle.cost_bound.proofs.Interface.{written_sum}
 use Rattle.privatise.specs.Sizes.{home_words, copy_part, body_words, boot_words}
 use Rattle.privatise.proofs.Sums.{bodies_small}
 use Rattle.privatise.proofs.sizes.sizes_of.Goals as goal

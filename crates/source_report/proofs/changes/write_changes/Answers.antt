@@ -1,5 +1,5 @@
 use Rattle.std.proofs.Common.{arith, rules}
-use Rattle.alp_io.proofs.Progress.{progress_step, progress_err}
+use Rattle.alp_io.proofs.Interface.{progress_step, progress_err}
 use Rattle.source_report.proofs.ReportLines.{shaped_row, rest_of_changes}
 use Rattle.source_report.proofs.changes.write_changes.Goals as goal
 

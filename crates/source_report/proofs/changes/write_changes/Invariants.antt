@@ -1,5 +1,5 @@
 use Rattle.std.proofs.Common.{◌≡◌, ◌≤◌, drop}
-use Rattle.alp_io.proofs.Progress.{Progress}
+use Rattle.alp_io.proofs.Interface.{Progress}
 use Rattle.source_report.specs.SourceReport.{change_lines}
 use Rattle.source_report.proofs.changes.write_changes.Given as goal
 

@@ -1,5 +1,5 @@
 use Rattle.std.proofs.Common.{arith, rules, [], get_or}
-use Rattle.alp_io.proofs.Progress.{progress_step, progress_err}
+use Rattle.alp_io.proofs.Interface.{progress_step, progress_err}
 use Rattle.source_report.proofs.ReportLines.{rest_of_elements}
 use Rattle.source_report.proofs.changes.write_elements.Goals as goal
 

@@ -1,5 +1,5 @@
 use Rattle.std.proofs.Common.{◌≡◌, ◌≤◌, [], drop, get_or}
-use Rattle.alp_io.proofs.Progress.{Progress}
+use Rattle.alp_io.proofs.Interface.{Progress}
 use Rattle.source_report.specs.SourceReport.{element_lines}
 use Rattle.source_report.proofs.changes.write_elements.Given as goal
 

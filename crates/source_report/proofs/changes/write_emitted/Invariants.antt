@@ -1,5 +1,5 @@
 use Rattle.std.proofs.Common.{◌≡◌, ◌≤◌, drop}
-use Rattle.alp_io.proofs.Progress.{Progress}
+use Rattle.alp_io.proofs.Interface.{Progress}
 use Rattle.source_report.specs.SourceReport.{emitted_lines}
 use Rattle.source_report.proofs.changes.write_emitted.Given as goal
 

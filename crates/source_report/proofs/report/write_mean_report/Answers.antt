@@ -1,5 +1,5 @@
 use Rattle.std.proofs.Common.{arith, rules, ◌≡◌, ◌+◌, ◌-◌, ◌∙◌, ap, length, length-drop}
-use Rattle.alp_io.proofs.Progress.{progress_step, progress_err, progress_last}
+use Rattle.alp_io.proofs.Interface.{progress_step, progress_err, progress_last}
 use Rattle.task_ast.specs.View.{program_of}
 use Rattle.source_values.specs.Runs.{completion_of}
 use Rattle.source_report.proofs.ReportSteps.{report_at_limit, report_short, report_more}

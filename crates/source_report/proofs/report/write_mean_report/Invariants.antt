@@ -1,5 +1,5 @@
 use Rattle.std.proofs.Common.{◌≡◌, ◌≤◌, ◌<◌, ◌*◌, ◌-◌, length}
-use Rattle.alp_io.proofs.Progress.{Progress}
+use Rattle.alp_io.proofs.Interface.{Progress}
 use Rattle.task_ast.specs.View.{program_of}
 use Rattle.source_values.specs.Runs.{IsShaped}
 use Rattle.source_report.specs.MeanReport.{report_from, mean_report}

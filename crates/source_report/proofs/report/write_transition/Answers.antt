@@ -1,4 +1,4 @@
-use Rattle.alp_io.proofs.Appends.{writes_then, writes_err, part_of_first, part_of_second}
+use Rattle.alp_io.proofs.Interface.{writes_then, writes_err, part_of_first, part_of_second}
 use Rattle.source_report.specs.SourceReport.{transition_lines}
 use Rattle.source_report.proofs.report.write_transition.Goals as goal
 

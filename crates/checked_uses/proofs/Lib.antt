@@ -1,4 +1,0 @@
-pub mod Declared
-pub mod Symbols
-pub mod Walk
-pub mod Tasks

@@ -1,0 +1,61 @@
+-- An accepted source with its layout is ready to run.
+use Rattle.std.proofs.Common.{ℕ, ◌<◌, sym, subst, arith, List, length}
+use Rattle.task_attempts.specs.cost_bound.declared.allowance.Allow.{Allow}
+use Rattle.task_attempts.proofs.war_analysis.Interface.{element}
+use Rattle.task_attempts.specs.source_values.Runs.{CheckedProgram, IsRunnable}
+use Rattle.task_attempts.proofs.source_meaning.Interface.{accepted_texts_run}
+use Rattle.task_attempts.specs.war_analysis.PlanValue.{TaskPlanValue}
+use Rattle.task_attempts.specs.array_versions.Program.{Program}
+use Rattle.task_attempts.specs.array_versions.Form.{IsWhole, OfWords}
+use Rattle.task_attempts.specs.memory_map.MemoryMap.{MemoryMap}
+use Rattle.task_attempts.proofs.stands_for.Interface.{each_weaker}
+use Rattle.task_attempts.proofs.lower.Interface.{program_at}
+use Rattle.task_attempts.specs.layout_facts.Facts.{HasLayout}
+use Rattle.task_attempts.proofs.layout_facts.Interface.{places_are_apart, tasks_have_room, privates_are_theirs, tasks_match}
+use Rattle.task_attempts.specs.whole_programs.Laws.{IsLaidOutText}
+use Rattle.task_attempts.proofs.whole_programs.Interface.{tasks_are_whole}
+use Rattle.task_attempts.proofs.Interface.{compiled_laws, stores_below_code, tasks_leave}
+use Rattle.task_attempts.specs.compiled_model.Parts.{task_program}
+use Rattle.compiled_bounds.proofs.Interface.{tasks_keep_to_the_bound}
+use Rattle.compiled_runs.specs.Laws.{CanRun}
+use Rattle.compiled_runs.proofs.Interface.{sources_have_room}
+use Rattle.compiled_laws.specs.Ready.{SourcesAreReady}
+
+module _ (text : List ℕ) (p : CheckedProgram) (allow : Allow) (plans : List TaskPlanValue) (l : MemoryMap) (t : IsLaidOutText text p allow plans l) where
+  run : IsRunnable p
+  run = accepted_texts_run text p allow t.accepted
+
+  laid : HasLayout p allow plans l
+  laid = record { allowed = t.accepted.allowed; plan = t.plan; layout = t.layout }
+
+  -- the program of a task is whole, and of words
+  one_whole : (k : ℕ) → k < length p.tasks → IsWhole (task_program p l k) × OfWords (task_program p l k)
+  one_whole k below =
+      let task = element p.tasks k below in
+      let count = t.layout.tasks.count in
+      let own = element l.tasks k (omega (arith, below, count)) in
+      let P : Program → Type 0 = λ q. IsWhole q × OfWords q in
+      subst P (sym (program_at l p.tasks l.tasks k task.0 own.0 task.1 own.1)) (tasks_are_whole text p allow plans l t k task.0 own.0 task.1 own.1)
+
+  code : CanRun p l
+  code = record {
+    fits = sources_have_room p allow plans l t.accepted.allowed t.layout t.plan.count
+        (λ k task own at own_at. (tasks_match p allow plans l laid k task own (record { is_task = at; is_layout = own_at })).count);
+    count = t.layout.tasks.count;
+    apart = places_are_apart p allow plans l laid;
+    room = tasks_have_room p allow plans l laid;
+    privates = privates_are_theirs p allow plans l laid;
+    programs = record { whole = λ k below. (one_whole k below).0; of_words = λ k below. (one_whole k below).1 };
+    leave = record { leave = λ s x readings words started. tasks_leave text p allow plans l t run s x readings words started };
+    costs = tasks_keep_to_the_bound p allow plans l t.accepted.allowed t.plan t.layout;
+  }
+
+pub sources_are_ready : SourcesAreReady
+sources_are_ready text p allow plans l t = record {
+  model = compiled_laws text p allow plans l t (run text p allow plans l t);
+  code = code text p allow plans l t;
+  stores = record {
+    below = λ s x readings words undecided. each_weaker _ (λ a w. a < l.boot.address) (λ a w h. h.below) _
+        (stores_below_code text p allow plans l t (run text p allow plans l t) s x readings words undecided);
+  };
+}

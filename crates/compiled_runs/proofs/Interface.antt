@@ -1,0 +1,8 @@
+-- What the proofs of other crates cite.
+
+-- The code makes each attempt and each commit within the task's bound.
+pub use Rattle.compiled_runs.proofs.Program.{code_keeps_the_laws}
+-- A run leaves the code as it is, and stays in it.
+pub use Rattle.compiled_runs.proofs.Leaves.{code_is_placed, runs_leave_the_code}
+-- The layout of a source has room for the code of its programs.
+pub use Rattle.compiled_runs.proofs.Fits.{sources_have_room}

@@ -1,0 +1,4 @@
+-- What the proofs of other crates cite.
+
+-- What is printed of a trace reads back as that trace.
+pub use Rattle.energy_trace.proofs.Back.{count_cons}

@@ -1,0 +1,25 @@
+-- A run of a compiled source is told by the source.
+use Rattle.std.proofs.Common.{◌∙◌, sym, ap}
+use Rattle.link_image.specs.crash_rules.Runs.{Program}
+use Rattle.link_image.specs.compiled_model.Parts.{compiled_model}
+use Rattle.compiled_laws.proofs.compiled_bounds.Interface.{bound_is_the_sources}
+use Rattle.link_image.proofs.source_runs.Interface.{runs_are_told}
+use Rattle.image_reports.specs.CompiledLaws.{ModelsAreOfSources, CompiledRunsAreTold}
+use Rattle.image_reports.proofs.Tasks.{transits, is_short}
+
+pub models_are_of_sources : ModelsAreOfSources
+models_are_of_sources text p l m is = record {
+  is_map = is.is_map;
+  of_source = is.of_source;
+  emits_fit = is.runnable.emits_fit;
+  gate = ap (λ w. w.gate) (sym is.words);
+  bound = bound_is_the_sources p l ∙ sym is.bound;
+  transits = λ s u readings e. transits p s u readings e;
+  is_short = λ s readings below e. is_short p is.runnable s readings below e;
+  rests = is.rests;
+}
+
+-- the report of each run of a compiled source is told by the source
+pub compiled_runs_are_told : (c : Program) → CompiledRunsAreTold c
+compiled_runs_are_told c text p l m x cs b r is begins run few =
+    runs_are_told (compiled_model p l) c text p m x cs b r (models_are_of_sources text p l m is) begins run few

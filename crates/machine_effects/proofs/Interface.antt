@@ -1,0 +1,22 @@
+-- What the proofs of other crates cite.
+
+-- Stretches of any machine, one after another.
+pub use Rattle.machine_effects.proofs.Going.{after_after, after_nothing, stay, one_step, join, join_stall, stall}
+-- The world after effects, by its parts and one stretch after another.
+pub use Rattle.machine_effects.proofs.Worlds.{fram_after-append, world_after-append, readings_taken-append, each_store-append, each_store-front, each_store-back, fram_untouched, taking_takes, world_by_its_parts, put_same, put_other, put_at}
+-- What the machine's bus logs of an instruction: the readings that it takes, and then its one store or its one send.
+pub use Rattle.machine_effects.proofs.Logs.{takes, written_effects, LoggedBy, effect_logged, step_changes, code_changes_by_effects, machine_changes_by_effects}
+-- The board's bus and the machine's answer alike.
+pub use Rattle.machine_effects.proofs.Alike.{is_fram_address}
+-- Each step of a board is a step of the machine that it is, and each step of that is one of the board.
+pub use Rattle.machine_effects.proofs.Steps.{executed_same, current_to_machine}
+-- What the operations of the CPU make of words are words.
+pub use Rattle.machine_effects.proofs.Values.{bit_low, zero_flag}
+-- Words stay words, on the machine and on the board.
+pub use Rattle.machine_effects.proofs.Words.{index_small, words_stay_words, step_leaves_it_whole, machine_is_of_words, power_up_keeps_words, fresh_is_whole}
+-- The views of a powered and of a fresh board.
+pub use Rattle.machine_effects.proofs.Views.{power_up_is_the_machines, zeros_at}
+-- A charge of the board is one of the machine.
+pub use Rattle.machine_effects.proofs.Runs.{charges_alike, charge_leaves_it_whole, charge_keeps_words, reaches_none, charge_boards_alike}
+-- The words that a charge's moments tell are those that its effects make the receiver accept.
+pub use Rattle.machine_effects.proofs.Accepted.{charge_accepts_by_sends}

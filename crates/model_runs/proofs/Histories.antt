@@ -1,0 +1,269 @@
+-- The two histories over the moments of a run.
+use Rattle.std.proofs.Common.{◌≡◌, ℕ, suc, ◌+◌, refl, sym, ap, ap₂, ◌∙◌, subst, arith, List, [], ◌∷◌, ◌++◌, length, append_assoc, length-append, append-nil, Some, Ok}
+use Rattle.crash_rules.specs.msp_isa.declared.instructions.Instr.{Instr}
+use Rattle.crash_rules.specs.image_map.MapValue.{MapValue, IsMap}
+use Rattle.crash_rules.specs.fram_board.declared.board.Stepped.{Stepped}
+use Rattle.crash_rules.specs.fram_board.Board.{BoardValue, PowerState, IsPowerState, powered, executed, IsNextInstruction}
+use Rattle.crash_rules.specs.fram_board.Effects.{Effect}
+use Rattle.crash_rules.specs.fram_board.Run.{PowerUp, Execute, Moment, moment_of, power_up_of, word_list}
+use Rattle.board_run.specs.History.{moment_lines, noted, word_in, with_words, behind_power_up, behind_instruction, instruction_lines, start_with, shared_words}
+use Rattle.board_run.specs.History as board
+use Rattle.board_run.specs.Report.{lines_from, after_all}
+use Rattle.crash_rules.specs.machine_effects.World.{World, fram_after, world_after}
+use Rattle.crash_rules.specs.machine_effects.Machine.{fram_of}
+use Rattle.crash_rules.specs.machine_effects.View.{IsWhole, IsOfWords}
+use Rattle.crash_rules.specs.machine_effects.Runs.{action_effects, last_board}
+use Rattle.crash_rules.proofs.machine_effects.Interface.{world_by_its_parts, power_up_keeps_words}
+use Rattle.crash_rules.specs.History.{Done, History, behind_boot, behind_gate, first_history, observe}
+use Rattle.crash_rules.proofs.Interface.{with_effects, observed_world, observed_taken}
+use Rattle.run_charges.specs.Charges.{behind_action, observed}
+use Rattle.model_runs.specs.Events.{TellsOf, last_world, counted, SaysAlike, SaysTheSame, done_lines, dones_lines}
+use Rattle.model_runs.specs.EventLaws.{HistoriesStayTheSame, FirstHistoriesAreTheSame}
+use Rattle.run_charges.proofs.Interface.{IsMomentFrom, PowersUp, Instructs, AreMoments, front_moments, whole_after, words_after, fram_changed, one_write, words_accepted, words_counted, readings_counted}
+use Rattle.model_runs.proofs.Places.{world_word, shared_in, values_same}
+use Rattle.model_runs.proofs.Events.{seen, last-append, words_keep_gate, gated_from, gate_lines, Told, event_alike, event_told, words_told}
+
+-- the board and the two histories, as they stand together
+pub record Together (m : MapValue) (x : World) (b : BoardValue) (h : board.History) (k : History) : Type 0 where
+  pub whole : IsWhole b
+  pub words : IsOfWords b
+  pub same : SaysTheSame m x h k
+  pub tells : TellsOf b k
+
+-- what moments lead to, with the lines of the dones among them
+pub record Leads (m : MapValue) (x : World) (b : BoardValue) (h : board.History) (k j : History) (lines : List ℕ) : Type 0 where
+  pub together : Together m x b h j
+  pub told : Told m x k j lines
+
+module _ (m : MapValue) (x : World) (ok : IsMap m) where
+  abbrev gate : ℕ
+  gate = m.words.gate
+
+  -- a power-up
+  module _ (b : BoardValue) (h : board.History) (k : History) (t : Together m x b h k) (p : PowerState) (start : IsPowerState p) where
+    abbrev booted : board.History
+    booted = record h { since = b.taken }
+
+    booted_same : SaysTheSame m x booted (behind_boot k)
+    booted_same =
+        let a = t.same.alike in
+        record {
+          alike = record {
+            mapped = a.mapped;
+            completed = a.completed;
+            task = a.task;
+            shared = a.shared;
+            words = a.words;
+            words_are = a.words_are;
+            accepted = a.accepted;
+            more = a.more;
+            since = sym t.tells.taken;
+            span_from = a.span_from;
+            span_to = a.span_to;
+          };
+          gate = t.same.gate;
+        }
+
+    noted_boot : noted h (power_up_of b p) ≡ booted
+    unfolding noted
+    noted_boot = ap (λ o. behind_power_up o h (powered b p)) t.same.alike.mapped
+
+    no_lines : moment_lines h (power_up_of b p) ≡ []
+    unfolding moment_lines
+    no_lines = refl
+
+    boot_leads : Leads m x (powered b p) (noted h (power_up_of b p)) k (behind_action gate PowerUp b (powered b p) k) (moment_lines h (power_up_of b p))
+    boot_leads =
+        let up = power_up_keeps_words b p t.whole t.words start in
+        let P : board.History → Type 0 = λ y. SaysTheSame m x y (behind_boot k) in
+        let Q : List ℕ → Type 0 = λ l. Told m x k (behind_boot k) l in
+        let none : Told m x k (behind_boot k) [] = record { dones = []; completed = sym (append-nil k.completed); told = refl } in
+        record {
+          together = record {
+            whole = up.0;
+            words = up.1;
+            same = subst P (sym noted_boot) booted_same;
+            tells = record { fram = t.tells.fram; accepted = t.tells.accepted; taken = t.tells.taken };
+          };
+          told = subst Q (sym no_lines) none;
+        }
+
+  -- an instruction
+  module _ (b : BoardValue) (h : board.History) (k : History) (t : Together m x b h k) (i : Instr) (done : Stepped) (current : IsNextInstruction b i)
+      (answer : (executed b i).answer ≡ Ok done) where
+    abbrev after : BoardValue
+    after = (executed b i).board
+
+    abbrev es : List Effect
+    es = action_effects (Execute done (executed b i).offered) b after
+
+    abbrev ws : List ℕ
+    ws = word_list done.accepted
+
+    abbrev spoken : board.History
+    spoken = with_words h ws
+
+    abbrev moved : History
+    moved = with_effects es k
+
+    abbrev before : ℕ
+    before = k.world.fram gate
+
+    abbrev now : ℕ
+    now = word_in after.fram gate
+
+    fram_now : (world_after es k.world).fram ≡ fram_of after.fram
+    fram_now =
+        ap (λ y. y.fram) (world_by_its_parts es k.world)
+        ∙ ap (fram_after es) t.tells.fram
+        ∙ sym (fram_changed b t.whole i done current answer)
+
+    accepted_now : (world_after es k.world).accepted ≡ k.world.accepted ++ ws
+    accepted_now = ap (λ y. y.accepted) (world_by_its_parts es k.world) ∙ words_accepted b t.whole i done current answer k.world.accepted t.tells.accepted
+
+    taken_now : moved.taken ≡ after.taken
+    taken_now = readings_counted b t.whole i done current answer k t.tells.taken
+
+    count_now : length (world_after es k.world).accepted ≡ after.receiver.accepted
+    count_now = ap (λ y. length y.accepted) (world_by_its_parts es k.world) ∙ words_counted b t.whole i done current answer k.world.accepted t.tells.accepted
+
+    moved_tells : TellsOf after moved
+    moved_tells = record { fram = fram_now; accepted = count_now; taken = taken_now }
+
+    gate_now : now ≡ (world_after es k.world).fram gate
+    gate_now = world_word after.fram (world_after es k.world) gate fram_now ok.words.gate
+
+    alike_moved : SaysAlike m x spoken moved
+    alike_moved = words_told m x h k es done.accepted t.same.alike accepted_now
+
+    -- what is observed of this instruction
+    pub observed_so : observe gate es k ≡ behind_gate before now moved
+    observed_so = seen gate es k (one_write b t.whole i done current answer) ∙ ap (λ n. behind_gate before n moved) (sym gate_now)
+
+    gate_before : spoken.gate ≡ before
+    gate_before = words_keep_gate h done.accepted ∙ t.same.gate
+
+    noted_so : noted h (moment_of b i done) ≡ gated_from m spoken after before now
+    unfolding noted
+    noted_so =
+        ap (λ o. behind_instruction o h ws after) t.same.alike.mapped
+        ∙ ap (λ n. gated_from m spoken after n now) gate_before
+
+    lines_so : moment_lines h (moment_of b i done) ≡ gate_lines m spoken after before now
+    unfolding moment_lines
+    lines_so =
+        ap (λ o. instruction_lines o h ws after) t.same.alike.mapped
+        ∙ ap (λ n. gate_lines m spoken after n now) t.same.gate
+
+    behind_same : SaysTheSame m x (gated_from m spoken after before now) (observe gate es k)
+    behind_same =
+        let P : History → Type 0 = λ y. SaysAlike m x (gated_from m spoken after before now) y in
+        let world = observed_world gate es k in
+        record {
+          alike = subst P (sym observed_so) (event_alike m x ok spoken moved after alike_moved moved_tells now before);
+          gate = gate_now ∙ ap (λ y. y.fram gate) (sym world);
+        }
+
+    behind_tells : TellsOf after (observe gate es k)
+    behind_tells =
+        let world = observed_world gate es k in
+        record {
+          fram = ap (λ y. y.fram) world ∙ fram_now;
+          accepted = ap (λ y. length y.accepted) world ∙ count_now;
+          taken = observed_taken gate es k ∙ taken_now;
+        }
+
+    behind_told : Told m x k (observe gate es k) (moment_lines h (moment_of b i done))
+    behind_told =
+        let P : History → Type 0 = λ y. Told m x k y (gate_lines m spoken after before now) in
+        let Q : List ℕ → Type 0 = λ l. Told m x k (observe gate es k) l in
+        let event : Told m x moved (behind_gate before now moved) (gate_lines m spoken after before now) =
+        event_told m x ok spoken moved after alike_moved moved_tells now before in
+        let same : Told m x k (behind_gate before now moved) (gate_lines m spoken after before now) =
+        record { dones = event.dones; completed = event.completed; told = event.told } in
+        subst Q (sym lines_so) (subst P (sym observed_so) same)
+
+    instruction_leads : Leads m x after (noted h (moment_of b i done)) k (observe gate es k) (moment_lines h (moment_of b i done))
+    instruction_leads =
+        let P : board.History → Type 0 = λ y. SaysTheSame m x y (observe gate es k) in
+        record {
+          together = record {
+            whole = whole_after b t.whole i done current answer;
+            words = words_after b t.whole i done current answer t.words;
+            same = subst P (sym noted_so) behind_same;
+            tells = behind_tells;
+          };
+          told = behind_told;
+        }
+
+  -- one moment
+  abbrev MomentLeads : BoardValue → board.History → History → Moment → Type 0
+  MomentLeads b h k o = Leads m x o.after (noted h o) k (behind_action gate o.action o.before o.after k) (moment_lines h o)
+
+  -- a moment leads both histories on
+  pub moment_leads : (b : BoardValue) (h : board.History) (k : History) → Together m x b h k → (o : Moment) → IsMomentFrom b o → MomentLeads b h k o
+  moment_leads b h k t o (PowersUp p start e) = let P : Moment → Type 0 = λ y. MomentLeads b h k y in subst P (sym e) (boot_leads b h k t p start)
+  moment_leads b h k t o (Instructs i done c a e) =
+      let P : Moment → Type 0 = λ y. MomentLeads b h k y in subst P (sym e) (instruction_leads b h k t i done c a)
+
+  -- dones behind dones
+  lines-append : (j : ℕ) (w : World) (ds es : List Done) → dones_lines m (counted j) w (ds ++ es)
+      ≡ dones_lines m (counted j) w ds ++ dones_lines m (counted (j + length ds)) (last_world w ds) es
+  lines-append j w [] es = ap (λ n. dones_lines m (counted n) w es) (let e : j ≡ j + length {A = Done} [] = omega arith in e)
+  lines-append j w (d ∷ ds) es =
+      let e : suc j + length ds ≡ j + length (d ∷ ds) = omega arith in
+      let ih = lines-append (suc j) d.world ds es in
+      let one = done_lines m (counted (suc j)) w d in
+      let more = dones_lines m (counted (suc j)) d.world ds in
+      ap (λ l. one ++ l) ih
+      ∙ sym (append_assoc one more (dones_lines m (counted (suc j + length ds)) (last_world d.world ds) es))
+      ∙ ap (λ n. (one ++ more) ++ dones_lines m (counted n) (last_world d.world ds) es) e
+
+  told_join : (k j l : History) (a c : List ℕ) → Told m x k j a → Told m x j l c → Told m x k l (a ++ c)
+  told_join k j l a c s r =
+      let len : length j.completed ≡ length k.completed + length s.dones = ap length s.completed ∙ length-append k.completed s.dones in
+      let w = last_world x k.completed in
+      let end : last_world x j.completed ≡ last_world w s.dones = ap (last_world x) s.completed ∙ last-append x k.completed s.dones in
+      record {
+        dones = s.dones ++ r.dones;
+        completed = r.completed ∙ ap (λ q. q ++ r.dones) s.completed ∙ append_assoc k.completed s.dones r.dones;
+        told = ap₂ (λ p q. p ++ q) s.told (r.told ∙ ap₂ (λ n y. dones_lines m (counted n) y r.dones) len end)
+            ∙ sym (lines-append (length k.completed) w s.dones r.dones);
+      }
+
+  -- all moments
+  pub moments_lead : (b : BoardValue) (h : board.History) (k : History) (ms : List Moment) → Together m x b h k → AreMoments b ms
+      → Leads m x (last_board b ms) (after_all h ms) k (observed gate ms k) (lines_from h ms)
+  moments_lead b h k [] t are = record { together = t; told = record { dones = []; completed = sym (append-nil k.completed); told = refl } }
+  moments_lead b h k (o ∷ ms) t are =
+      let one = moment_leads b h k t o are.0 in
+      let j = behind_action gate o.action o.before o.after k in
+      let rest = moments_lead o.after (noted h o) j ms one.together are.1 in
+      record { together = rest.together; told = told_join k j (observed gate ms j) (moment_lines h o) (lines_from (noted h o) ms) one.told rest.told }
+
+pub histories_stay_the_same : HistoriesStayTheSame
+histories_stay_the_same cs b r ms rest run e m x h k ok same tells =
+    let t : Together m x b h k = record { whole = run.whole; words = run.words; same = same; tells = tells } in
+    let all = moments_lead m x ok b h k ms t (front_moments cs b r ms rest run.starts run.run e) in
+    (all.together.same, all.together.tells)
+
+-- the two histories begin the same
+pub first_histories_are_the_same : FirstHistoriesAreTheSame
+first_histories_are_the_same b m x ok s =
+    let alike : SaysAlike m x (start_with b.fram (Some m)) (first_history m.words.gate x) =
+    record {
+      mapped = refl;
+      completed = refl;
+      task = world_word b.fram x m.words.current_task s.fram ok.words.current_task;
+      shared = values_same b.fram x (shared_words m.variables) s.fram (shared_in m.variables ok.variables);
+      words = [];
+      words_are = sym (append-nil x.accepted);
+      accepted = refl;
+      more = refl;
+      since = refl;
+      span_from = refl;
+      span_to = refl;
+    } in (
+      record { alike = alike; gate = world_word b.fram x m.words.gate s.fram ok.words.gate },
+      record { fram = s.fram; accepted = s.accepted; taken = sym s.taken },
+    )

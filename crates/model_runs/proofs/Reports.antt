@@ -1,0 +1,64 @@
+-- The report of a run, by its dones.
+use Rattle.std.proofs.Common.{◌≡◌, ◌-◌, refl, sym, ap, ap₂, ◌∙◌, arith, List, [], ◌++◌, length, append-nil, Some}
+use Rattle.std.proofs.lemmas.List.{take_all}
+use Rattle.std.specs.Prelude.{flat_map}
+use Rattle.crash_rules.specs.msp_step.declared.machine.Stop.TheVariants as stop
+use Rattle.board_run.specs.alp_io.Report.{accepted_line, bound_line, end_line}
+use Rattle.board_run.specs.alp_io.declared.report.Reason.TheVariants as reason
+use Rattle.crash_rules.specs.image_map.MapValue.{MapValue, IsMap}
+use Rattle.crash_rules.specs.fram_board.Board.{BoardValue}
+use Rattle.crash_rules.specs.fram_board.Run.{End, Charges, Stopped, BoardCharge, Moment, RunOutcome}
+use Rattle.board_run.specs.History.{start_with, more_lines}
+use Rattle.board_run.specs.History as board
+use Rattle.board_run.specs.Report.{after_all, lines_from, last_line}
+use Rattle.crash_rules.specs.machine_effects.World.{World}
+use Rattle.crash_rules.specs.machine_effects.Runs.{last_board}
+use Rattle.crash_rules.specs.History.{first_history}
+use Rattle.run_charges.specs.Charges.{observed}
+use Rattle.run_charges.specs.Laws.{IsRunOfWords}
+use Rattle.model_runs.specs.Events.{counted, dones_lines}
+use Rattle.model_runs.specs.EventLaws.{StartsWith, LinesAreOfDones, ReportIsOfDones, FewWordsHaveLines}
+use Rattle.run_charges.proofs.Interface.{front_moments}
+use Rattle.model_runs.proofs.Histories.{Together, Leads, moments_lead, first_histories_are_the_same}
+
+-- a front of a run from its first histories on
+first_lead : (cs : List BoardCharge) (b : BoardValue) (r : RunOutcome) (ms rest : List Moment) → IsRunOfWords cs b r → r.moments ≡ ms ++ rest
+    → (m : MapValue) (x : World) → IsMap m → StartsWith b x → (end : BoardValue)
+    × Leads m x end (after_all (start_with b.fram (Some m)) ms) (first_history m.words.gate x) (observed m.words.gate ms (first_history m.words.gate x))
+    (lines_from (start_with b.fram (Some m)) ms)
+first_lead cs b r ms rest run e m x ok s =
+    let begun = first_histories_are_the_same b m x ok s in
+    let t : Together m x b (start_with b.fram (Some m)) (first_history m.words.gate x) =
+    record { whole = run.whole; words = run.words; same = begun.0; tells = begun.1 } in (
+      last_board b ms,
+      moments_lead m x ok b (start_with b.fram (Some m)) (first_history m.words.gate x) ms t
+          (front_moments cs b r ms rest run.starts run.run e),
+    )
+
+pub lines_are_of_dones : LinesAreOfDones
+lines_are_of_dones cs b r ms rest run e m x ok s =
+    let all = (first_lead cs b r ms rest run e m x ok s).1 in
+    all.told.told ∙ ap (dones_lines m 0 x) (sym all.told.completed)
+
+-- the last line reads of the history how many transitions were completed
+same_last : (h k : board.History) (e : End) (b : BoardValue) → h.completed ≡ k.completed → last_line h e b ≡ last_line k e b
+same_last h k Charges b e = ap (λ n. end_line reason.Charges n b.receiver.accepted b.receiver.repeats) e
+same_last h k (Stopped stop.Off) b e = ap (λ n. end_line reason.Off n b.receiver.accepted b.receiver.repeats) e
+same_last h k (Stopped stop.NoReading) b e = ap (λ n. end_line reason.Readings n b.receiver.accepted b.receiver.repeats) e
+same_last h k (Stopped (stop.Illegal pc word)) b e = refl
+same_last h k (Stopped (stop.Bus pc address)) b e = refl
+
+-- the report is the bound, the lines of the dones, and how the run ended
+pub report_is_of_dones : ReportIsOfDones
+report_is_of_dones cs b r run m x ok s h e =
+    let whole : r.moments ≡ r.moments ++ [] = sym (append-nil r.moments) in
+    let all = (first_lead cs b r r.moments [] run whole m x ok s).1 in
+    let lines = lines_are_of_dones cs b r r.moments [] run whole m x ok s in
+    let last = same_last (after_all (start_with b.fram (Some m)) r.moments) h r.ending r.board (all.together.same.alike.completed ∙ sym e) in
+    ap₂ (λ p q. bound_line m.bound ++ (p ++ q)) lines last
+
+-- where at most 256 words are accepted, each has its line
+pub few_words_have_lines : FewWordsHaveLines
+few_words_have_lines ws few =
+    let none : length ws - 256 ≡ 0 = omega arith in
+    ap₂ (λ p n. flat_map accepted_line p ++ more_lines (counted n)) (take_all 256 ws few) none ∙ append-nil (flat_map accepted_line ws)

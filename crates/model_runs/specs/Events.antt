@@ -1,0 +1,77 @@
+-- The events of a board's run, read off its effects; what is known of the run so far by them; and the lines of its report as a
+-- function of its dones.
+use Rattle.std.specs.Prelude.{◌≡◌, ℕ, zero, suc, ◌-◌, List, [], ◌∷◌, ◌++◌, length, map, flat_map, take, drop, Some}
+use Rattle.board_run.specs.alp_io.Count.{risen}
+use Rattle.board_run.specs.alp_io.Report.{accepted_line, step_line}
+use Rattle.crash_rules.specs.image_map.MapValue.{MapValue}
+use Rattle.crash_rules.specs.fram_board.Board.{BoardValue}
+use Rattle.board_run.specs.History.{SharedWord, shared_words, task_name, changed_line, more_lines}
+use Rattle.board_run.specs.History as board
+use Rattle.crash_rules.specs.machine_effects.Machine.{fram_of}
+use Rattle.crash_rules.specs.machine_effects.World.{World}
+use Rattle.crash_rules.specs.History.{Done, History}
+
+-- a history tells of this board: its FRAM, how many words its receiver accepted, how many readings were taken
+pub record TellsOf (b : BoardValue) (k : History) : Type 0 where
+  pub fram : k.world.fram ≡ fram_of b.fram
+  pub accepted : length k.world.accepted ≡ b.receiver.accepted
+  pub taken : k.taken ≡ b.taken
+
+-- the world behind the last done, or at first
+abbrev pub last_world : World → List Done → World
+last_world x [] = x
+last_world x (d ∷ ds) = last_world d.world ds
+
+-- a count that was raised so often
+abbrev pub counted : ℕ → ℕ
+counted zero = 0
+counted (suc n) = risen (counted n)
+
+-- what shared words hold in a world
+abbrev pub world_values : World → List SharedWord → List ℕ
+world_values x ps = map (λ p. x.fram p.address) ps
+
+-- the words accepted from one world to another
+abbrev pub words_between : World → World → List ℕ
+words_between x y = drop (length x.accepted) y.accepted
+
+-- what a report's history and one by effects say alike, where the run began with world x: how many transitions were completed;
+-- the task and the shared words at the last done; the words accepted since; the readings taken at the last boot or done; and the
+-- span of the last decide
+pub record SaysAlike (m : MapValue) (x : World) (h : board.History) (k : History) : Type 0 where
+  pub mapped : h.map ≡ Some m
+  pub completed : h.completed ≡ counted (length k.completed)
+  pub task : h.task ≡ (last_world x k.completed).fram m.words.current_task
+  pub shared : h.shared ≡ world_values (last_world x k.completed) (shared_words m.variables)
+  pub words : List ℕ
+  pub words_are : k.world.accepted ≡ (last_world x k.completed).accepted ++ words
+  pub accepted : h.accepted ≡ take 256 words
+  pub more : h.more ≡ counted (length words - 256)
+  pub since : h.since ≡ k.since
+  pub span_from : h.span_from ≡ k.span_from
+  pub span_to : h.span_to ≡ k.span_to
+
+-- and GATE
+pub record SaysTheSame (m : MapValue) (x : World) (h : board.History) (k : History) : Type 0 where
+  pub alike : SaysAlike m x h k
+  pub gate : h.gate ≡ k.world.fram m.words.gate
+
+-- the lines of accepted words: the first 256 of them, and how many came behind these
+abbrev pub word_lines : List ℕ → List ℕ
+word_lines ws = flat_map accepted_line (take 256 ws) ++ more_lines (counted (length ws - 256))
+
+-- the lines of the shared words that hold another word in the second world
+abbrev pub change_lines : List SharedWord → World → World → List ℕ
+change_lines ps x y = flat_map (λ p. changed_line p (x.fram p.address) (y.fram p.address)) ps
+
+-- the lines of a done by its number and the world behind the done before it: the transition, the words accepted in between, and
+-- the shared words that changed
+abbrev pub done_lines : MapValue → ℕ → World → Done → List ℕ
+done_lines m number x d =
+    step_line number (task_name m.tasks (x.fram m.words.current_task)) (task_name m.tasks (d.world.fram m.words.current_task)) d.span_from d.span_to
+    ++ (word_lines (words_between x d.world) ++ change_lines (shared_words m.variables) x d.world)
+
+-- the lines of dones behind so many, the first of which follows this world
+abbrev pub dones_lines : MapValue → ℕ → World → List Done → List ℕ
+dones_lines m n x [] = []
+dones_lines m n x (d ∷ ds) = done_lines m (risen n) x d ++ dones_lines m (risen n) d.world ds

@@ -1,5 +1,0 @@
-use Rattle.run_events.proofs.Histories.{first_histories_are_the_same}
-use Rattle.run_events.proofs.laws.first_histories_are_the_same.Goals as goal
-
-pub returns : goal.returns
-returns c = first_histories_are_the_same

@@ -1,5 +1,0 @@
-use Rattle.run_events.proofs.Histories.{histories_stay_the_same}
-use Rattle.run_events.proofs.laws.histories_stay_the_same.Goals as goal
-
-pub returns : goal.returns
-returns c = histories_stay_the_same

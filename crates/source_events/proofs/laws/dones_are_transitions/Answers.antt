@@ -1,5 +1,0 @@
-use Rattle.source_events.proofs.Lines.{dones_are_transitions}
-use Rattle.source_events.proofs.laws.dones_are_transitions.Goals as goal
-
-pub returns : goal.returns
-returns c = dones_are_transitions

@@ -1,4 +1,0 @@
-pub mod Spelling
-pub mod Declared
-pub mod Different
-pub mod Accepted

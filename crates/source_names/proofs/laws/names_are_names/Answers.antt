@@ -1,5 +1,0 @@
-use Rattle.source_names.proofs.Accepted.{names_are_names}
-use Rattle.source_names.proofs.laws.names_are_names.Goals as goal
-
-pub returns : goal.returns
-returns c = names_are_names

@@ -1,0 +1,139 @@
+-- The lines of a done and of the transition that it stands for.
+use Rattle.std.proofs.Common.{◌≡◌, ℕ, zero, suc, ◌+◌, ◌-◌, ◌^◌, ◌<◌, ◌==◌, min, refl, sym, ap, ap₂, ◌∙◌, subst, arith, if◌then◌else◌, List, [], ◌∷◌, ◌++◌, length, drop, append_assoc, append-nil, Option, Some, None}
+use Rattle.std.proofs.Math.Seq.{drop-append_seam}
+use Rattle.std.proofs.lemmas.Bool.Decides.{nat_tests}
+use Rattle.std.proofs.lemmas.Option.{slice_get-map}
+use Rattle.std.specs.Prelude.{slice_get}
+use Rattle.model_runs.specs.alp_io.Report.{step_line, value_line}
+use Rattle.source_report.specs.task_ast.declared.SharedDeclaration.{SharedDeclaration}
+use Rattle.source_report.specs.task_ast.declared.Extent.{Extent}
+use Rattle.source_report.specs.task_ast.declared.Extent.TheVariants.{Scalar, Array}
+use Rattle.model_runs.specs.image_map.declared.parts.Variable.{Variable}
+use Rattle.model_runs.specs.image_map.MapValue.{MapValue}
+use Rattle.model_runs.specs.board_run.History.{SharedWord, array_words, variable_words, shared_words, changed_line}
+use Rattle.model_runs.specs.board_run.History as board
+use Rattle.source_report.specs.source_values.Runs.{CheckedProgram, State, Transition, state_after}
+use Rattle.source_report.specs.SourceReport.{spelled, Committed, emitted_lines, change_line, element_lines, variable_lines, transition_lines, source_report}
+use Rattle.source_report.specs.SourceReport as source
+use Rattle.model_runs.specs.machine_effects.World.{World}
+use Rattle.model_runs.specs.crash_rules.History.{Done}
+use Rattle.model_runs.specs.Events.{counted, world_values, words_between, word_lines, change_lines, done_lines, dones_lines}
+use Rattle.model_runs.proofs.Interface.{few_words_have_lines}
+use Rattle.source_runs.specs.Naming.{length_of, AreVariablesOf, IsMapOf}
+use Rattle.source_runs.specs.Transitions.{rows_in, HasWordsOf, StandsForTransition, StandForTransitions, committed_by}
+use Rattle.source_runs.specs.EventLaws.{DonesAreTransitions}
+
+-- counts
+one_higher : (c n top : ℕ) → c ≡ n → n < top → min (c + 1) top ≡ suc n
+one_higher c n top e h = omega arith
+
+below : (k top : ℕ) → suc k < top + 1 → k < top
+below k top h = omega arith
+
+-- a count below 2^64 is the number
+pub counted_below : (k top : ℕ) → top ≡ 2 ^ 64 - 1 → k < top + 1 → counted k ≡ k
+counted_below zero top e h = refl
+counted_below (suc k) top e h =
+    let less = below k top h in
+    let ih = counted_below k top e (omega arith) in
+    ap (min (counted k + 1)) (sym e) ∙ one_higher (counted k) k top ih less
+
+-- one shared word
+same_test : (a b : ℕ) → (a == b) ≡ (b == a)
+same_test a b = grind (arith, nat_tests)
+
+one_line : (p : SharedWord) (before now : ℕ) → changed_line p before now ≡ change_line p.name p.index before now
+one_line p before now = ap (λ b. if b then [] else value_line p.name p.index now) (same_test now before)
+
+-- the lines of an array's words
+array_lines : (name : List ℕ) (a i n : ℕ) (x y : World) → change_lines (array_words name a i n) x y
+    ≡ element_lines name i (world_values x (array_words name a i n)) (world_values y (array_words name a i n))
+array_lines name a i zero x y = refl
+array_lines name a i (suc n) x y =
+    ap₂ (λ p q. p ++ q) (one_line (record { name = name; index = Some i; address = a }) (x.fram a) (y.fram a)) (array_lines name (a + 2) (i + 1) n x y)
+
+-- the lines of a variable's words
+words_lines : (name : List ℕ) (a : ℕ) (e : Extent) (x y : World) → change_lines (variable_words name a (length_of e)) x y
+    ≡ variable_lines name e (world_values x (variable_words name a (length_of e))) (world_values y (variable_words name a (length_of e)))
+words_lines name a (Scalar w) x y =
+    append-nil (changed_line (record { name = name; index = None; address = a }) (x.fram a) (y.fram a))
+    ∙ one_line (record { name = name; index = None; address = a }) (x.fram a) (y.fram a)
+words_lines name a (Array n) x y = array_lines name a 0 n x y
+
+lines_both : (ps qs : List SharedWord) (x y : World) → change_lines (ps ++ qs) x y ≡ change_lines ps x y ++ change_lines qs x y
+lines_both [] qs x y = refl
+lines_both (p ∷ ps) qs x y =
+    let one = changed_line p (x.fram p.address) (y.fram p.address) in
+    ap (λ l. one ++ l) (lines_both ps qs x y) ∙ sym (append_assoc one (change_lines ps x y) (change_lines qs x y))
+
+variable_same : (text : List ℕ) (v : Variable) (d : SharedDeclaration) (x y : World) → v.name ≡ spelled text d.name → v.length ≡ length_of d.extent
+    → change_lines (variable_words v.name v.address v.length) x y ≡ variable_lines (spelled text d.name) d.extent
+    (world_values x (variable_words v.name v.address v.length)) (world_values y (variable_words v.name v.address v.length))
+variable_same text v d x y e l =
+    let P : Option ℕ → Type 0 = λ o. change_lines (variable_words v.name v.address o) x y ≡ variable_lines (spelled text d.name) d.extent
+    (world_values x (variable_words v.name v.address o)) (world_values y (variable_words v.name v.address o)) in
+    let Q : List ℕ → Type 0 = λ name. change_lines (variable_words v.name v.address (length_of d.extent)) x y ≡ variable_lines name d.extent
+    (world_values x (variable_words v.name v.address (length_of d.extent))) (world_values y (variable_words v.name v.address (length_of d.extent))) in
+    subst P (sym l) (subst Q e (words_lines v.name v.address d.extent x y))
+
+all_changes : (text : List ℕ) (vs : List Variable) (ds : List SharedDeclaration) (x y : World) → AreVariablesOf text vs ds
+    → change_lines (shared_words vs) x y ≡ source.change_lines text ds (rows_in x vs) (rows_in y vs)
+all_changes text [] [] x y h = refl
+all_changes text [] (d ∷ ds) x y h = absurd h
+all_changes text (v ∷ vs) [] x y h = absurd h
+all_changes text (v ∷ vs) (d ∷ ds) x y h =
+    lines_both (variable_words v.name v.address v.length) (shared_words vs) x y
+    ∙ ap₂ (λ p q. p ++ q) (variable_same text v d x y h.0 h.1) (all_changes text vs ds x y h.2)
+
+module _ (text : List ℕ) (program : CheckedProgram) (m : MapValue) (of_source : IsMapOf text program m) where
+  name_same : (i : ℕ) → board.task_name m.tasks i ≡ source.task_name text program i
+  name_same i = ap (λ l. slice_get l i) of_source.tasks ∙ slice_get-map (λ t. spelled text t.name) program.tasks i
+
+  module _ (k : ℕ) (x : World) (s : State) (d : Done) (t : Transition) (here : HasWordsOf m x s) (h : StandsForTransition m s d t)
+      (few : counted (suc k) ≡ suc k) where
+    abbrev span : Committed
+    span = record { from = d.span_from; to = d.span_to }
+
+    from_same : board.task_name m.tasks (x.fram m.words.current_task) ≡ source.task_name text program t.from
+    from_same = name_same (x.fram m.words.current_task) ∙ ap (source.task_name text program) (here.task ∙ sym h.from)
+
+    next_same : board.task_name m.tasks (d.world.fram m.words.current_task) ≡ source.task_name text program t.next
+    next_same = name_same (d.world.fram m.words.current_task) ∙ ap (source.task_name text program) h.behind.task
+
+    number : counted (suc k) ≡ k + 1
+    number = few ∙ omega arith
+
+    words_same : words_between x d.world ≡ t.emitted
+    words_same =
+        ap₂ (λ p q. drop (length p) q) here.accepted h.behind.accepted
+        ∙ drop-append_seam s.emitted t.emitted
+
+    changes_same : change_lines (shared_words m.variables) x d.world ≡ source.change_lines text program.shared t.before t.after
+    changes_same =
+        all_changes text m.variables program.shared x d.world of_source.variables
+        ∙ ap₂ (source.change_lines text program.shared) (here.shared ∙ sym h.before) h.behind.shared
+
+    one_same : done_lines m (counted (suc k)) x d ≡ transition_lines text program (k + 1) span t
+    unfolding transition_lines
+    one_same =
+        ap₂ (λ p q. p ++ q)
+        (ap (λ n. step_line n (board.task_name m.tasks (x.fram m.words.current_task)) (board.task_name m.tasks (d.world.fram m.words.current_task))
+        d.span_from d.span_to) number
+        ∙ ap₂ (λ p q. step_line (k + 1) p q d.span_from d.span_to) from_same next_same)
+        (ap₂ (λ p q. p ++ q) (ap word_lines words_same ∙ few_words_have_lines t.emitted h.few) changes_same)
+
+  dones_same : (k : ℕ) (x : World) (s : State) (ds : List Done) (ts : List Transition) → HasWordsOf m x s → StandForTransitions m s ds ts
+      → k + length ds < 2 ^ 64 → dones_lines m (counted k) x ds ≡ source_report text program (k + 1) (committed_by ds) ts
+  unfolding source_report
+  dones_same k x s [] [] here h few = refl
+  dones_same k x s [] (t ∷ ts) here h few = absurd h
+  dones_same k x s (d ∷ ds) [] here h few = absurd h
+  dones_same k x s (d ∷ ds) (t ∷ ts) here h few =
+      let this : counted (suc k) ≡ suc k = counted_below (suc k) (2 ^ 64 - 1) refl (omega arith) in
+      let next : suc k + 1 ≡ k + 1 + 1 = omega arith in
+      ap₂ (λ p q. p ++ q) (one_same k x s d t here h.0 this)
+      (dones_same (suc k) d.world (state_after s t) ds ts h.0.behind h.1 (omega arith)
+      ∙ ap (λ n. source_report text program n (committed_by ds) ts) next)
+
+pub dones_are_transitions : DonesAreTransitions
+dones_are_transitions text program m of_source k x s ds ts here h few = dones_same text program m of_source k x s ds ts here h few

@@ -1,0 +1,17 @@
+-- The join of a run's lines and a source's.
+use Rattle.std.specs.Prelude.{◌≡◌, ℕ, ◌+◌, ◌^◌, ◌<◌, List, length}
+use Rattle.model_runs.specs.image_map.MapValue.{MapValue}
+use Rattle.source_report.specs.source_values.Runs.{CheckedProgram, State, Transition}
+use Rattle.source_report.specs.SourceReport.{source_report}
+use Rattle.model_runs.specs.machine_effects.World.{World}
+use Rattle.model_runs.specs.crash_rules.History.{Done}
+use Rattle.model_runs.specs.Events.{counted, dones_lines}
+use Rattle.source_runs.specs.Naming.{IsMapOf}
+use Rattle.source_runs.specs.Transitions.{HasWordsOf, StandForTransitions, committed_by}
+
+-- the lines of dones that stand for transitions are the source's lines of these on the dones' own committed readings
+abbrev pub DonesAreTransitions : Type 0
+DonesAreTransitions = (text : List ℕ) (program : CheckedProgram) (m : MapValue) → IsMapOf text program m
+    → (k : ℕ) (x : World) (s : State) (ds : List Done) (ts : List Transition) → HasWordsOf m x s → StandForTransitions m s ds ts
+    → k + length ds < 2 ^ 64
+    → dones_lines m (counted k) x ds ≡ source_report text program (k + 1) (committed_by ds) ts

@@ -1,0 +1,38 @@
+-- A source's transitions and the dones of a run that stand for them.
+use Rattle.std.specs.Prelude.{◌≡◌, ◌≤◌, ℕ, List, [], ◌∷◌, map, length}
+use Rattle.model_runs.specs.image_map.declared.parts.Variable.{Variable}
+use Rattle.model_runs.specs.image_map.MapValue.{MapValue}
+use Rattle.model_runs.specs.board_run.History.{variable_words}
+use Rattle.source_report.specs.source_values.Runs.{State, Transition, state_after}
+use Rattle.source_report.specs.SourceReport.{Committed}
+use Rattle.model_runs.specs.machine_effects.World.{World}
+use Rattle.model_runs.specs.crash_rules.History.{Done}
+use Rattle.model_runs.specs.Events.{world_values}
+
+-- the words of variables in a world
+abbrev pub rows_in : World → List Variable → List (List ℕ)
+rows_in x vs = map (λ v. world_values x (variable_words v.name v.address v.length)) vs
+
+-- a world has the words of a state: its current task, its shared words, and the words emitted so far
+pub record HasWordsOf (m : MapValue) (x : World) (s : State) : Type 0 where
+  pub task : x.fram m.words.current_task ≡ s.task
+  pub shared : rows_in x m.variables ≡ s.shared
+  pub accepted : x.accepted ≡ s.emitted
+
+-- a done stands for a transition from a state: its world has the words of the state behind it
+pub record StandsForTransition (m : MapValue) (s : State) (d : Done) (t : Transition) : Type 0 where
+  pub from : t.from ≡ s.task
+  pub before : t.before ≡ s.shared
+  pub few : length t.emitted ≤ 256
+  pub behind : HasWordsOf m d.world (state_after s t)
+
+-- dones stand for transitions one behind the other
+abbrev pub StandForTransitions : MapValue → State → List Done → List Transition → Type 0
+StandForTransitions m s [] [] = Unit {0}
+StandForTransitions m s [] (t ∷ ts) = ⊥
+StandForTransitions m s (d ∷ ds) [] = ⊥
+StandForTransitions m s (d ∷ ds) (t ∷ ts) = StandsForTransition m s d t × StandForTransitions m (state_after s t) ds ts
+
+-- the committed readings of dones, by their positions
+abbrev pub committed_by : List Done → List Committed
+committed_by ds = map (λ d. record { from = d.span_from; to = d.span_to }) ds

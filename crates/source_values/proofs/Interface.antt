@@ -1,0 +1,6 @@
+-- What the proofs of other crates cite.
+
+-- Whole tasks and the readings that they take.
+pub use Rattle.source_values.proofs.Completions.{readings_left_over_lem}
+-- An attempt emits no more words than its block counts, however it ends.
+pub use Rattle.source_values.proofs.Emitted.{EmitsUpTo, more_turns, statement_up_to, block_up_to}

@@ -1,0 +1,4 @@
+-- What the proofs of other crates cite.
+
+-- No more than 64 brackets are open at once, and no more than 256 tokens stand in a row.
+pub use Rattle.task_lex.proofs.Bounds.{deep}

@@ -1,0 +1,138 @@
+-- Which shared variables the names of a source declare.
+use Rattle.std.proofs.Common.{◌≡◌, ℕ, ◌+◌, List, [], ◌∷◌, ◌++◌, length, Option, Some, None, slice_get, refl, sym, ap, ◌∙◌, subst, arith, append_assoc}
+use Rattle.lower.specs.alp_text.declared.lines.Span.{Span}
+use Rattle.lower.specs.task_ast.declared.SharedDeclaration.{SharedDeclaration}
+use Rattle.lower.specs.task_ast.Tree as t
+use Rattle.lower.specs.task_ast.Tree.{Expression, Statement, Choice, Block, Task, Program}
+use Rattle.lower.specs.task_check.declared.occurrence.Role.{Role}
+use Rattle.lower.specs.task_check.declared.occurrence.Role.TheVariants as role
+use Rattle.lower.specs.task_check.declared.occurrence.Occurrence.{Occurrence}
+use Rattle.lower.specs.task_check.Occurrences.{and_front, expression_names, value_names, statement_names, choice_names, names_up_to, task_names, shared_names, program_names}
+use Rattle.lower.specs.task_check.Scope.{shared_in}
+
+-- a name that declares a shared variable has the extent of the declaration of its number
+abbrev pub DeclaresOf : List SharedDeclaration → ℕ → Role → Type 0
+DeclaresOf shared n (role.Shared of e) = (d : SharedDeclaration) × (slice_get shared n ≡ Some d) × (d.extent ≡ e)
+DeclaresOf shared n role.Task = Unit {0}
+DeclaresOf shared n (role.Local of begin end) = Unit {0}
+DeclaresOf shared n role.Scalar = Unit {0}
+DeclaresOf shared n role.Element = Unit {0}
+DeclaresOf shared n role.Counter = Unit {0}
+DeclaresOf shared n role.Target = Unit {0}
+DeclaresOf shared n (role.Count k) = Unit {0}
+
+-- so does each of these names
+abbrev pub Declared : List SharedDeclaration → List Occurrence → Type 0
+Declared shared [] = Unit {0}
+Declared shared (o ∷ front) = DeclaresOf shared (shared_in front) o.role × Declared shared front
+
+-- a name that declares no shared variable
+abbrev DeclaresNone : Role → Type 0
+DeclaresNone (role.Shared of e) = ⊥
+DeclaresNone role.Task = Unit {0}
+DeclaresNone (role.Local of begin end) = Unit {0}
+DeclaresNone role.Scalar = Unit {0}
+DeclaresNone role.Element = Unit {0}
+DeclaresNone role.Counter = Unit {0}
+DeclaresNone role.Target = Unit {0}
+DeclaresNone (role.Count k) = Unit {0}
+
+abbrev DeclareNone : List Occurrence → Type 0
+DeclareNone [] = Unit {0}
+DeclareNone (o ∷ front) = DeclaresNone o.role × DeclareNone front
+
+none_declares : (shared : List SharedDeclaration) (n : ℕ) (r : Role) → DeclaresNone r → DeclaresOf shared n r
+none_declares shared n (role.Shared of e) h = absurd h
+none_declares shared n role.Task h = tt
+none_declares shared n (role.Local of begin end) h = tt
+none_declares shared n role.Scalar h = tt
+none_declares shared n role.Element h = tt
+none_declares shared n role.Counter h = tt
+none_declares shared n role.Target h = tt
+none_declares shared n (role.Count k) h = tt
+
+in_front : (behind : List Occurrence) (s : Span) (r : Role) → DeclareNone behind → DeclaresNone r → DeclareNone (and_front behind s r)
+in_front [] s r h k = (k, tt)
+in_front (o ∷ more) s r h k = (h.0, in_front more s r h.1 k)
+
+expression_none : (e : Expression Span) (behind : List Occurrence) → DeclareNone behind → DeclareNone (expression_names e behind)
+expression_none (t.number n) behind h = h
+expression_none (t.name s) behind h = in_front behind s role.Scalar h tt
+expression_none (t.element s index) behind h = in_front (expression_names index behind) s role.Element (expression_none index behind h) tt
+expression_none t.sense behind h = h
+expression_none (t.unary op a) behind h = expression_none a behind h
+expression_none (t.binary op a b) behind h = expression_none a (expression_names b behind) (expression_none b behind h)
+expression_none (t.shift op a count) behind h = expression_none a _ (in_front behind count.span (role.Count count.value) h tt)
+expression_none (t.short_circuit op a b) behind h = expression_none a (expression_names b behind) (expression_none b behind h)
+
+value_none : (e : Option (Expression Span)) (behind : List Occurrence) → DeclareNone behind → DeclareNone (value_names e behind)
+value_none None behind h = h
+value_none (Some e) behind h = expression_none e behind h
+
+mutual
+  statement_none : (end : ℕ) (x : Statement Span Span) (behind : List Occurrence) → DeclareNone behind → DeclareNone (statement_names end x behind)
+  statement_none end (t.declare of s value) behind h = in_front (value_names value behind) s (role.Local of (length behind) end) (value_none value behind h) tt
+  statement_none end (t.assign s e) behind h = in_front (expression_names e behind) s role.Scalar (expression_none e behind h) tt
+  statement_none end (t.store s index e) behind h =
+      in_front (expression_names index (expression_names e behind)) s role.Element
+      (expression_none index (expression_names e behind) (expression_none e behind h)) tt
+  statement_none end (t.choose c) behind h = choice_none c behind h
+  statement_none end (t.loop v from w below u body) behind h =
+      in_front _ v role.Counter (in_front _ w role.Counter (in_front _ u role.Counter (block_none (length behind) body behind h) tt) tt) tt
+  statement_none end (t.emit e) behind h = expression_none e behind h
+  statement_none end (t.transition s) behind h = in_front behind s role.Target h tt
+
+  choice_none : (c : Choice Span Span) (behind : List Occurrence) → DeclareNone behind → DeclareNone (choice_names c behind)
+  choice_none t.nothing behind h = h
+  choice_none (t.otherwise b) behind h = block_none (length behind) b behind h
+  choice_none (t.test e b more) behind h =
+      let rest = choice_names more behind in
+      expression_none e (names_up_to (length rest) b rest) (block_none (length rest) b rest (choice_none more behind h))
+
+  block_none : (end : ℕ) (b : Block Span Span) (behind : List Occurrence) → DeclareNone behind → DeclareNone (names_up_to end b behind)
+  block_none end t.end behind h = h
+  block_none end (t.step s more) behind h = statement_none end s (names_up_to end more behind) (block_none end more behind h)
+
+tasks_none : (ts : List (Task Span Span)) (behind : List Occurrence) → DeclareNone behind → DeclareNone (task_names ts behind)
+tasks_none [] behind h = h
+tasks_none (k ∷ more) behind h =
+    let rest = task_names more behind in
+    in_front (names_up_to (length rest) k.body rest) k.name role.Task (block_none (length rest) k.body rest (tasks_none more behind h)) tt
+
+-- names that declare none, in front of which stand such
+behind_declared : (shared : List SharedDeclaration) (xs front : List Occurrence) → DeclareNone xs → Declared shared front → Declared shared (xs ++ front)
+behind_declared shared [] front h k = k
+behind_declared shared (o ∷ more) front h k = (none_declares shared _ o.role h.0, behind_declared shared more front h.1 k)
+
+get_middle : (before : List SharedDeclaration) (d : SharedDeclaration) (more : List SharedDeclaration) → slice_get (before ++ d ∷ more) (length before) ≡ Some d
+get_middle [] d more = refl
+get_middle (x ∷ before) d more = get_middle before d more
+
+-- the declarations, in front of which so many stand
+shared_declared : (before ds : List SharedDeclaration) (behind front : List Occurrence) → DeclareNone behind → Declared (before ++ ds) front
+    → shared_in front ≡ length before
+    → Declared (before ++ ds) (shared_names ds behind ++ front)
+shared_declared before [] behind front h k e = behind_declared (before ++ []) behind front h k
+shared_declared before (d ∷ more) behind front h k e =
+    let o : Occurrence = record { span = d.name; role = role.Shared d.word_type d.extent } in
+    let here : DeclaresOf (before ++ d ∷ more) (shared_in front) o.role = (d, ap (slice_get (before ++ d ∷ more)) e ∙ get_middle before d more, refl) in
+    let count : shared_in (o ∷ front) ≡ length (before ++ d ∷ []) = omega (arith, e, length_behind before d) in
+    let again : Declared ((before ++ d ∷ []) ++ more) (o ∷ front) = subst (λ ds. Declared ds (o ∷ front)) (sym (append_assoc before (d ∷ []) more)) (here, k) in
+    let rest = shared_declared (before ++ d ∷ []) more behind (o ∷ front) h again count in
+    subst (λ ds. Declared ds (shared_names (d ∷ more) behind ++ front)) (append_assoc before (d ∷ []) more)
+    (subst (Declared ((before ++ d ∷ []) ++ more)) (sym (append_assoc (shared_names more behind) (o ∷ []) front)) rest)
+  where
+    length_behind : (xs : List SharedDeclaration) (d : SharedDeclaration) → length (xs ++ d ∷ []) ≡ length xs + 1
+    length_behind [] d = refl
+    length_behind (x ∷ xs) d = let l = length_behind xs d in omega (arith, l)
+
+append_none : (xs : List Occurrence) → xs ++ [] ≡ xs
+append_none [] = refl
+append_none (x ∷ xs) = ap (λ l. x ∷ l) (append_none xs)
+
+pub program_declared : (p : Program Span Span) → Declared p.shared (program_names p)
+unfolding program_names
+program_declared p =
+    let behind = task_names p.tasks (and_front [] p.entry role.Target) in
+    let none = tasks_none p.tasks (and_front [] p.entry role.Target) (tt, tt) in
+    subst (Declared p.shared) (append_none (shared_names p.shared behind)) (shared_declared [] p.shared behind [] none tt refl)

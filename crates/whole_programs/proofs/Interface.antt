@@ -1,0 +1,8 @@
+-- What the proofs of other crates cite.
+
+-- What the checks of a source give of each of its tasks.
+pub use Rattle.whole_programs.proofs.Checked.{task_checked}
+-- The word programs of an accepted source are whole.
+pub use Rattle.whole_programs.proofs.Whole.{tasks_are_whole}
+-- The tokens of a text: no more than 64 brackets are open behind any of them, and each number is a word.
+pub use Rattle.whole_programs.proofs.Tokens.{AreSound, are_sound}

@@ -1,0 +1,177 @@
+-- What the names of a source stand for, where no check finds a fault.
+use Rattle.std.proofs.Common.{◌≡◌, ℕ, ◌<◌, ◌≤◌, ◌==◌, ◌&&◌, nat_le, nat_lt, Bool, true, false, cond, List, [], ◌∷◌, length, Option, Some, None, slice_get, refl}
+use Rattle.std.proofs.Common.{arith}
+use Rattle.std.specs.Option.{option_or}
+use Rattle.std.specs.Str.{bytes_eq}
+use Rattle.std.proofs.lemmas.Bool.Decides.{nat_tests}
+use Rattle.lower.specs.task_ast.declared.Extent.TheVariants as extent
+use Rattle.lower.specs.task_ast.declared.SharedDeclaration.{SharedDeclaration}
+use Rattle.lower.specs.task_check.declared.fault.CheckFault.TheVariants as fault
+use Rattle.lower.specs.task_check.declared.occurrence.Role.TheVariants as role
+use Rattle.lower.specs.task_check.declared.symbol.Symbol.TheVariants as symbol
+use Rattle.lower.proofs.task_check.Interface.{no_fault, both_none, IfLocal}
+use Rattle.privatise.specs.war_analysis.Plans.{IsScalarAt, IsArrayAt}
+use Rattle.lower.specs.task_check.declared.fault.CheckFault.{CheckFault}
+use Rattle.lower.specs.task_check.declared.occurrence.Role.{Role}
+use Rattle.lower.specs.task_check.declared.occurrence.Occurrence.{Occurrence}
+use Rattle.lower.specs.task_check.declared.symbol.Symbol.{Symbol}
+use Rattle.lower.specs.task_check.declared.symbol.Global.{Global}
+use Rattle.lower.specs.task_check.declared.symbol.Local.{Local}
+use Rattle.lower.specs.task_check.Scope.{text_of, shared_in, tasks_in, locals_in, locals_after, global_with, local_with, if_named, global_in, local_in, or_global}
+use Rattle.lower.specs.task_check.Scope.{meaning}
+use Rattle.lower.specs.task_check.LookedUp.{symbol_by, behind, symbol_at}
+use Rattle.lower.specs.task_check.Faults.{line_at, first_fault, limit_fault, is_too_many}
+use Rattle.whole_programs.proofs.Declared.{DeclaresOf, Declared}
+
+-- a symbol is of a shared variable as it was declared, or of one of 256 locals
+abbrev pub IsSound : List SharedDeclaration → Symbol → Type 0
+IsSound shared (symbol.Scalar n of) = IsScalarAt shared n
+IsSound shared (symbol.Array n of) = IsArrayAt shared n
+IsSound shared (symbol.Local n of) = n < 256
+IsSound shared (symbol.Task n) = Unit {0}
+
+abbrev pub AreSound : List SharedDeclaration → Option Symbol → Type 0
+AreSound shared None = Unit {0}
+AreSound shared (Some s) = IsSound shared s
+
+abbrev GlobalSound : List SharedDeclaration → Option Global → Type 0
+GlobalSound shared None = Unit {0}
+GlobalSound shared (Some g) = IsSound shared g.symbol
+
+-- of two there may be
+global_or : (shared : List SharedDeclaration) (a b : Option Global) → GlobalSound shared a → GlobalSound shared b → GlobalSound shared (option_or a b)
+global_or shared None b h k = k
+global_or shared (Some g) b h k = h
+
+local_or : (a b : Option Local) → IfLocal a → IfLocal b → IfLocal (option_or a b)
+local_or None b h k = k
+local_or (Some l) b h k = h
+
+global_if : (shared : List SharedDeclaration) (c : Bool) (g : Option Global) → GlobalSound shared g → GlobalSound shared (if_named c g)
+global_if shared true g h = h
+global_if shared false g h = tt
+
+local_if : (c : Bool) (l : Option Local) → IfLocal l → IfLocal (if_named c l)
+local_if true l h = h
+local_if false l h = tt
+
+-- the declaration of a number, by what stands there
+scalar_there : (shared : List SharedDeclaration) (n w : ℕ) (d : SharedDeclaration) → slice_get shared n ≡ Some d → d.extent ≡ extent.Scalar w
+    → IsScalarAt shared n
+scalar_there shared n w d e f = rw (e, f) refl
+
+array_there : (shared : List SharedDeclaration) (n w : ℕ) (d : SharedDeclaration) → slice_get shared n ≡ Some d → d.extent ≡ extent.Array w → IsArrayAt shared n
+array_there shared n w d e f = rw (e, f) refl
+
+global_declared : (shared : List SharedDeclaration) (r : Role) (front n tasks : ℕ) → DeclaresOf shared n r → GlobalSound shared (global_with r front n tasks)
+global_declared shared (role.Shared of (extent.Scalar w)) front n tasks h = scalar_there shared n w h.0 h.1 h.2
+global_declared shared (role.Shared of (extent.Array w)) front n tasks h = array_there shared n w h.0 h.1 h.2
+global_declared shared role.Task front n tasks h = tt
+global_declared shared (role.Local of begin end) front n tasks h = tt
+global_declared shared role.Scalar front n tasks h = tt
+global_declared shared role.Element front n tasks h = tt
+global_declared shared role.Counter front n tasks h = tt
+global_declared shared role.Target front n tasks h = tt
+global_declared shared (role.Count k) front n tasks h = tt
+
+global_sound : (source name : List ℕ) (shared : List SharedDeclaration) (all : List Occurrence) → Declared shared all
+    → GlobalSound shared (global_in source name all)
+global_sound source name shared [] h = tt
+global_sound source name shared (o ∷ front) h =
+    global_or shared (global_in source name front) _ (global_sound source name shared front h.1)
+    (global_if shared (bytes_eq (text_of source o.span) name) _ (global_declared shared o.role (length front) (shared_in front) (tasks_in front) h.0))
+
+-- ---- locals
+
+-- no name is one too many
+abbrev pub Few : List ℕ → List Occurrence → Type 0
+Few source front = first_fault (limit_fault source) front ≡ None
+
+pub front_clean : (check : Occurrence → List Occurrence → Option CheckFault) (o : Occurrence) (front : List Occurrence) → first_fault check (o ∷ front) ≡ None
+    → first_fault check front ≡ None
+front_clean check o front e = (both_none (first_fault check front) (check o front) e).0
+
+pub here_clean : (check : Occurrence → List Occurrence → Option CheckFault) (o : Occurrence) (front : List Occurrence) → first_fault check (o ∷ front) ≡ None
+    → check o front ≡ None
+here_clean check o front e = (both_none (first_fault check front) (check o front) e).1
+
+not_all : (n : ℕ) → n ≤ 256 → (n == 256) ≡ false → n < 256
+not_all n h e = grind (arith, nat_tests)
+
+one_more : (r : Role) (shared tasks n : ℕ) → n ≤ 256 → is_too_many r shared tasks n ≡ false → locals_after n r ≤ 256
+one_more (role.Local of begin end) shared tasks n h e = let l = not_all n h e in omega (arith, l)
+one_more (role.Shared of x) shared tasks n h e = h
+one_more role.Task shared tasks n h e = omega arith
+one_more role.Scalar shared tasks n h e = h
+one_more role.Element shared tasks n h e = h
+one_more role.Counter shared tasks n h e = h
+one_more role.Target shared tasks n h e = h
+one_more (role.Count k) shared tasks n h e = h
+
+not_too_many : (source : List ℕ) (o : Occurrence) (front : List Occurrence) → Few source (o ∷ front)
+    → is_too_many o.role (shared_in front) (tasks_in front) (locals_in front) ≡ false
+unfolding limit_fault
+not_too_many source o front e =
+    no_fault (is_too_many o.role (shared_in front) (tasks_in front) (locals_in front)) (fault.TooMany (line_at source o))
+    (here_clean (limit_fault source) o front e)
+
+few_locals : (source : List ℕ) (front : List Occurrence) → Few source front → locals_in front ≤ 256
+few_locals source [] e = omega arith
+few_locals source (o ∷ front) e =
+    one_more o.role (shared_in front) (tasks_in front) (locals_in front) (few_locals source front (front_clean (limit_fault source) o front e))
+    (not_too_many source o front e)
+
+local_declared : (r : Role) (shared tasks n : ℕ) → n ≤ 256 → is_too_many r shared tasks n ≡ false → IfLocal (local_with r tasks n)
+local_declared (role.Local of begin end) shared tasks n h e = not_all n h e
+local_declared (role.Shared of x) shared tasks n h e = tt
+local_declared role.Task shared tasks n h e = tt
+local_declared role.Scalar shared tasks n h e = tt
+local_declared role.Element shared tasks n h e = tt
+local_declared role.Counter shared tasks n h e = tt
+local_declared role.Target shared tasks n h e = tt
+local_declared (role.Count k) shared tasks n h e = tt
+
+local_sound : (source name : List ℕ) (front : List Occurrence) → Few source front → IfLocal (local_in source name front)
+local_sound source name [] e = tt
+local_sound source name (o ∷ front) e =
+    let few = front_clean (limit_fault source) o front e in
+    local_or _ (local_in source name front)
+    (local_if (bytes_eq (text_of source o.span) name) _
+    (local_declared o.role (shared_in front) (tasks_in front) (locals_in front) (few_locals source front few) (not_too_many source o front e)))
+    (local_sound source name front few)
+
+-- ---- what a name means
+
+meaning_sound : (shared : List SharedDeclaration) (n : ℕ) (l : Option Local) (g : Option Global) → IfLocal l → GlobalSound shared g
+    → AreSound shared (meaning n l g)
+meaning_sound shared n None None h k = tt
+meaning_sound shared n None (Some g) h k = k
+meaning_sound shared n (Some l) g h k = by (nat_le l.end n && nat_lt n l.begin) g k
+  where
+    by : (b : Bool) (g : Option Global) → GlobalSound shared g → AreSound shared (or_global (cond b (Some (symbol.Local l.number l.word_type)) None) g)
+    by true g k = h
+    by false None k = tt
+    by false (Some g) k = k
+
+-- by its role
+by_role : (shared : List SharedDeclaration) (r : Role) (all tasks n : ℕ) (found : Option Symbol) → n ≤ 256 → is_too_many r all tasks n ≡ false
+    → AreSound shared found → AreSound shared (symbol_by r n found)
+by_role shared (role.Local of begin end) all tasks n found h e k = not_all n h e
+by_role shared (role.Shared of x) all tasks n found h e k = tt
+by_role shared role.Task all tasks n found h e k = tt
+by_role shared role.Scalar all tasks n found h e k = k
+by_role shared role.Element all tasks n found h e k = k
+by_role shared role.Counter all tasks n found h e k = k
+by_role shared role.Target all tasks n found h e k = k
+by_role shared (role.Count c) all tasks n found h e k = tt
+
+-- each name stands for what was declared
+pub symbol_sound : (source : List ℕ) (shared : List SharedDeclaration) (all : List Occurrence) (o : Occurrence) (front : List Occurrence) → Declared shared all
+    → Few source (o ∷ front)
+    → AreSound shared (symbol_at source all o front)
+unfolding symbol_at
+symbol_sound source shared all o front d e =
+    let few = front_clean (limit_fault source) o front e in
+    by_role shared o.role (shared_in front) (tasks_in front) (locals_in front) _ (few_locals source front few) (not_too_many source o front e)
+    (meaning_sound shared (behind all front) (local_in source (text_of source o.span) front) (global_in source (text_of source o.span) all)
+    (local_sound source (text_of source o.span) front few) (global_sound source (text_of source o.span) shared all d))

@@ -1,0 +1,118 @@
+-- The tokens of a text: no more than 64 brackets are open behind any of them, and each number is a word.
+use Rattle.std.proofs.Common.{◌≡◌, ℕ, zero, suc, ◌+◌, ◌-◌, ◌≤◌, Bool, true, false, cond, ◌&&◌, ◌==◌, not, nat_lt, nat_le, List, [], ◌∷◌, length, drop, take}
+use Rattle.std.proofs.Common.{refl, subst, arith, Option, Some, None, Result, Ok, Err}
+use Rattle.lower.specs.alp_words.Words.{IsWord}
+use Rattle.lower.specs.alp_text.Numbers.{number_of}
+use Rattle.lower.specs.alp_text.declared.numbers.NumberFault.{NumberFault}
+use Rattle.lower.specs.task_lex.declared.token.Token.{Token}
+use Rattle.lower.specs.task_lex.declared.token.Kind.{Kind}
+use Rattle.lower.specs.task_lex.declared.token.Kind.TheVariants as k
+use Rattle.lower.specs.task_lex.declared.piece.Piece.{Piece}
+use Rattle.lower.specs.task_lex.declared.piece.Piece.TheVariants as piece
+use Rattle.lower.specs.task_lex.declared.step.Place.{Place}
+use Rattle.lower.specs.task_lex.declared.step.Step.{Step}
+use Rattle.lower.specs.task_lex.declared.step.Step.TheVariants.{Skip, Take, Fails}
+use Rattle.lower.specs.task_lex.declared.fault.Flaw.TheVariants as flaw
+use Rattle.lower.specs.task_lex.Pieces.{is_zero_led, to_65535, piece_of, number, word_kind}
+use Rattle.lower.specs.task_lex.Lex.{Lexed, tokens, fault, with_front, after, step, step_by, counted, numbered, is_opening, is_closing, is_end, depth_after}
+use Rattle.lower.specs.task_lex.Lex.{width_after, lex_within, lex_from, lexed}
+use Rattle.lower.proofs.task_lex.Interface.{deep}
+
+-- behind so many open brackets, tokens with no more than 64 open brackets behind any of them, and with words for numbers
+abbrev pub AreSound : ℕ → List Token → Type 0
+AreSound depth [] = Unit {0}
+AreSound depth (t ∷ ts) = (depth_after t.kind depth ≤ 64) × IsWord t.value × AreSound (depth_after t.kind depth) ts
+
+-- ---- numerals are worth words
+
+to_word : (r : Result ℕ NumberFault) (value : ℕ) → to_65535 r ≡ Some value → IsWord value
+to_word (Ok n) value h = go (nat_le n 65535) refl h
+  where
+    go : (b : Bool) → nat_le n 65535 ≡ b → cond b (Some n) None ≡ Some value → IsWord value
+    go true e h = let same : n ≡ value = cc in grind arith
+    go false e h = absurd (cc)
+to_word (Err e) value h = absurd (cc)
+
+number_is_word : (w : List ℕ) (value : ℕ) → number w ≡ Some value → IsWord value
+unfolding number
+number_is_word w value h = go (is_zero_led w) h
+  where
+    go : (b : Bool) → cond b None (to_65535 (number_of w)) ≡ Some value → IsWord value
+    go true h = absurd (cc)
+    go false h = to_word (number_of w) value h
+
+-- ---- steps
+
+-- what a step takes is sound, and counts the brackets on
+abbrev StepSound : Place → Step → Type 0
+StepSound p (Skip q) = q.depth ≡ p.depth
+StepSound p (Take t q) = (q.depth ≡ depth_after t.kind p.depth) × (q.depth ≤ 64) × IsWord t.value
+StepSound p (Fails f) = Unit {0}
+
+counted_sound : (p : Place) (n : ℕ) (kind : Kind) (value : ℕ) → p.depth ≤ 64 → IsWord value → StepSound p (counted p n kind value)
+unfolding counted
+counted_sound p n kind value depth word = go (is_opening kind && p.depth == 64) (not (is_end kind) && p.width == 256) refl
+  where
+    taken : Token
+    taken = record { kind = kind; span = record { from = p.at; to = p.at + n }; value = value }
+
+    next : Place
+    next = record { at = p.at + n; depth = depth_after kind (p.depth); width = width_after kind (p.width) }
+
+    go : (a b : Bool) → (is_opening kind && p.depth == 64) ≡ a → StepSound p (cond a (Fails flaw.TooDeep) (cond b (Fails flaw.TooWide) (Take taken next)))
+    go true b e = tt
+    go false true e = tt
+    go false false e = (refl, deep (is_opening kind) (is_closing kind) p.depth depth e, word)
+
+sound_by : (text : List ℕ) (p : Place) (found : Piece) (n : ℕ) → p.depth ≤ 64 → StepSound p (step_by text p found n)
+sound_by text p piece.Blank n depth = refl
+sound_by text p piece.Word n depth = go (nat_lt 31 n)
+  where
+    go : (b : Bool) → StepSound p (cond b (Fails flaw.BadName) (counted p n (word_kind (take n text)) 0))
+    go true = tt
+    go false = counted_sound p n (word_kind (take n text)) 0 depth (omega arith)
+sound_by text p piece.Numeral n depth = go (number (take n text)) refl
+  where
+    go : (o : Option ℕ) → number (take n text) ≡ o → StepSound p (numbered p n o)
+    go None e = tt
+    go (Some value) e = counted_sound p n k.Number value depth (number_is_word (take n text) value e)
+sound_by text p (piece.Mark kind) n depth = counted_sound p n kind 0 depth (omega arith)
+sound_by text p piece.Bad n depth = tt
+
+step_sound : (source : List ℕ) (p : Place) → p.depth ≤ 64 → StepSound p (step source p)
+unfolding step
+step_sound source p depth = let text = drop (p.at) source in let found = piece_of text in sound_by text p found.0 found.1 depth
+
+-- ---- the whole text
+
+abbrev Sound : ℕ → Lexed → Type 0
+Sound depth (tokens ts) = AreSound depth ts
+Sound depth (fault f at) = Unit {0}
+
+sound_front : (depth : ℕ) (t : Token) (rest : Lexed) → depth_after t.kind depth ≤ 64 → IsWord t.value → Sound (depth_after t.kind depth) rest
+    → Sound depth (with_front (t ∷ []) rest)
+sound_front depth t (tokens ts) a b h = (a, b, h)
+sound_front depth t (fault f at) a b h = tt
+
+sound_after : (go : Place → Lexed) (p : Place) (s : Step) → p.depth ≤ 64 → StepSound p s → ((q : Place) → q.depth ≤ 64 → Sound (q.depth) (go q))
+    → Sound (p.depth) (after go (p.at) s)
+sound_after go p (Skip q) depth h next = subst (λ d. Sound d (go q)) h (next q (omega arith))
+sound_after go p (Take t q) depth h next = sound_front (p.depth) t (go q) (omega arith) h.2 (subst (λ d. Sound d (go q)) h.0 (next q h.1))
+sound_after go p (Fails f) depth h next = tt
+
+module _ (source : List ℕ) where
+  sound_if : (depth : ℕ) (b : Bool) (x : Lexed) → Sound depth x → Sound depth (cond b x (tokens []))
+  sound_if depth true x h = h
+  sound_if depth false x h = tt
+
+  sound : (n : ℕ) (p : Place) → p.depth ≤ 64 → Sound (p.depth) (lex_within source n p)
+  unfolding lex_within
+  sound zero p depth = tt
+  sound (suc n) p depth =
+      sound_if (p.depth) (nat_lt (p.at) (length source)) _
+      (sound_after (lex_within source n) p (step source p) depth (step_sound source p depth) (λ q d. sound n q d))
+
+  -- lexed tokens have sound brackets
+  pub are_sound : (ts : List Token) → lexed source ≡ tokens ts → AreSound 0 ts
+  unfolding lex_from
+  are_sound ts h = subst (Sound 0) h (sound (suc (length source - 0)) (record { at = 0; depth = 0; width = 0 }) (omega arith))

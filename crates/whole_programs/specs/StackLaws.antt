@@ -1,0 +1,16 @@
+-- What holds of the needs of accepted sources.
+use Rattle.std.specs.Prelude.{ℕ, List, All}
+use Rattle.lower.specs.task_ast.Tree.{Program}
+use Rattle.lower.specs.task_ast.declared.names.VariableName.{VariableName}
+use Rattle.lower.specs.task_ast.declared.names.TaskName.{TaskName}
+use Rattle.source_meaning.specs.Acceptance.{Checks}
+use Rattle.whole_programs.specs.Needs.{BlockFits}
+
+-- the room that is enough for each expression: ten operators, one weaker than the other, between any two of the brackets, of which no
+-- more than 64 are open; one word for the expression within, and one for an index.
+abbrev pub enough : ℕ
+enough = 652
+
+-- the expressions of a source that no check refuses have room, and its numbers are words
+abbrev pub SourcesFit : Type 0
+SourcesFit = (text : List ℕ) (program : Program VariableName TaskName) → Checks text program → All (λ task. BlockFits enough task.body) program.tasks

@@ -1,0 +1,57 @@
+-- That the names of a task are used as they were declared.
+use Rattle.std.specs.Prelude.{◌<◌, List, Some, None}
+use Rattle.lower.specs.task_ast.declared.SharedDeclaration.{SharedDeclaration}
+use Rattle.lower.specs.task_ast.declared.names.Variable.{Variable}
+use Rattle.lower.specs.task_ast.declared.names.Variable.TheVariants.{Shared, Local}
+use Rattle.lower.specs.task_ast.Tree as t
+use Rattle.lower.specs.task_ast.Paths.{CheckedExpression, CheckedStatement, CheckedChoice, CheckedBlock}
+use Rattle.privatise.specs.war_analysis.Plans.{IsScalarAt, IsArrayAt}
+
+-- a name without an index: a shared scalar, or a local of at most 256
+abbrev pub IsWordName : List SharedDeclaration → Variable → Type 0
+IsWordName shared (Shared v) = IsScalarAt shared v
+IsWordName shared (Local n) = n < 256
+
+-- a name with an index: a shared array
+abbrev pub IsArrayName : List SharedDeclaration → Variable → Type 0
+IsArrayName shared (Shared v) = IsArrayAt shared v
+IsArrayName shared (Local n) = ⊥
+
+-- a local of at most 256
+abbrev pub IsLocalName : Variable → Type 0
+IsLocalName (Shared v) = ⊥
+IsLocalName (Local n) = n < 256
+
+-- each name in an expression is used so: an array's where there is an index, a word's elsewhere
+abbrev pub ExpressionUses : List SharedDeclaration → CheckedExpression → Type 0
+ExpressionUses shared (t.number w) = Unit {0}
+ExpressionUses shared (t.name x) = IsWordName shared x.variable
+ExpressionUses shared (t.element x index) = IsArrayName shared x.variable × ExpressionUses shared index
+ExpressionUses shared t.sense = Unit {0}
+ExpressionUses shared (t.unary op e) = ExpressionUses shared e
+ExpressionUses shared (t.binary op a b) = ExpressionUses shared a × ExpressionUses shared b
+ExpressionUses shared (t.shift op e count) = ExpressionUses shared e
+ExpressionUses shared (t.short_circuit op a b) = ExpressionUses shared a × ExpressionUses shared b
+
+abbrev mutual
+  -- the same of a statement; what it declares, and what it counts in, is a local
+  pub StatementUses : List SharedDeclaration → CheckedStatement → Type 0
+  StatementUses shared (t.declare of x None) = IsLocalName x.variable
+  StatementUses shared (t.declare of x (Some e)) = IsLocalName x.variable × ExpressionUses shared e
+  StatementUses shared (t.assign x e) = IsWordName shared x.variable × ExpressionUses shared e
+  StatementUses shared (t.store x index e) = IsArrayName shared x.variable × ExpressionUses shared index × ExpressionUses shared e
+  StatementUses shared (t.choose choice) = ChoiceUses shared choice
+  StatementUses shared (t.loop x from tested below stepped body) = IsLocalName x.variable × BlockUses shared body
+  StatementUses shared (t.emit e) = ExpressionUses shared e
+  StatementUses shared (t.transition task) = Unit {0}
+
+  -- the same of each test and block of an `if`
+  pub ChoiceUses : List SharedDeclaration → CheckedChoice → Type 0
+  ChoiceUses shared t.nothing = Unit {0}
+  ChoiceUses shared (t.otherwise block) = BlockUses shared block
+  ChoiceUses shared (t.test e block more) = ExpressionUses shared e × BlockUses shared block × ChoiceUses shared more
+
+  -- the same of each statement of a block
+  pub BlockUses : List SharedDeclaration → CheckedBlock → Type 0
+  BlockUses shared t.end = Unit {0}
+  BlockUses shared (t.step s more) = StatementUses shared s × BlockUses shared more
