@@ -16,7 +16,7 @@ use Rattle.runtime_code.specs.runtime_effects.Stages.{opening_effects, copied_in
 use Rattle.runtime_code.specs.runtime_effects.Needs.{AreInFram}
 use Rattle.runtime_code.specs.Comes.{Comes, IsAt, Enters}
 use Rattle.runtime_code.proofs.Interface.{straight, one_form, comes_on, recounted, then_on, chain}
-use Rattle.boot_runtime.specs.Listing.{TaskEntry, entry_at, privates_in, head, opening, dispatch, ladder_to, stubs}
+use Rattle.boot_runtime.specs.Listing.{TaskEntry, entry_at, privates_in, head, opening, dispatch, ladder_to, ladder_address, stubs_address, stubs}
 use Rattle.boot_runtime.specs.Laws.{IsEntered, IsBoot, PendingCommitIsFound, AttemptIsFound, StartIsMade}
 use Rattle.boot_runtime.proofs.Opening.{task_stays, opens}
 use Rattle.boot_runtime.proofs.Entering.{ladder_bytes, stub_at, stub_stands, dispatched, copied}
@@ -69,8 +69,8 @@ module _ (code : Code) (tidy : IsTidy code) where
       let j = length t.privates in
       let room = boot.room in
       let even = boot.even in
-      let ladder = at + 66 in
-      let q = at + 66 + 4 * length tasks in
+      let ladder = ladder_address at in
+      let q = stubs_address tasks at in
       let os = opening_effects m f in
       let g = fram_after os f in
       let cs = copied_in t.privates g in
@@ -111,7 +111,7 @@ pub pending_commit_is_found : PendingCommitIsFound
 pending_commit_is_found code m commit tasks at u boot e gate =
     let room = boot.room in
     let tidy = boot.tidy in
-    let h = stands_front code at (head m commit) (opening m ++ (dispatch m (at + 66) ++ (ladder_to (at + 66 + 4 * length tasks) tasks ++ stubs tasks))) boot.stands in
+    let h = stands_front code at (head m commit) (opening m ++ (dispatch m (ladder_address at) ++ (ladder_to (stubs_address tasks at) tasks ++ stubs tasks))) boot.stands in
     let rs = u.readings_left in
     let a = looked code tidy m commit at true u boot.places (omega (arith, room)) e h (gate_is_one (u.fram (word_place m Gate)) gate) in
     let there : at + 4 + 4 + 2 ≡ at + 10 = omega arith in
@@ -122,7 +122,7 @@ pending_commit_is_found code m commit tasks at u boot e gate =
 pub attempt_is_found : AttemptIsFound
 attempt_is_found code m commit tasks at u boot e word gate =
     let room = boot.room in
-    let h = stands_front code at (head m commit) (opening m ++ (dispatch m (at + 66) ++ (ladder_to (at + 66 + 4 * length tasks) tasks ++ stubs tasks))) boot.stands in
+    let h = stands_front code at (head m commit) (opening m ++ (dispatch m (ladder_address at) ++ (ladder_to (stubs_address tasks at) tasks ++ stubs tasks))) boot.stands in
     looked code boot.tidy m commit at false u boot.places (omega (arith, room)) e h (gate_is_not_one (u.fram (word_place m Gate)) word gate)
 
 pub start_is_made : StartIsMade

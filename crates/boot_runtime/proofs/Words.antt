@@ -6,7 +6,8 @@ use Rattle.runtime_code.specs.code_forms.Placed.{instructions, AreInstructions}
 use Rattle.runtime_code.proofs.code_forms.Interface.{forms_bytes-append}
 use Rattle.runtime_code.specs.runtime_effects.Places.{CopyPair}
 use Rattle.runtime_code.proofs.Interface.{code_bytes, are_instructions-append}
-use Rattle.boot_runtime.specs.Listing.{TaskEntry, head, opening, dispatch, copies_in, stub, stub_bytes, ladder_to, stubs, stubs_bytes, boot_forms}
+use Rattle.boot_runtime.specs.Listing.{TaskEntry, head, opening, dispatch, copies_in, stub, stub_bytes, ladder_to, ladder_offset, ladder_address, stubs_address}
+use Rattle.boot_runtime.specs.Listing.{stubs, stubs_bytes, boot_forms}
 use Rattle.boot_runtime.specs.Laws.{BootIsShort, BootIsCode, BootFits, entry_room}
 use Rattle.boot_runtime.proofs.Entering.{stub_size, ladder_bytes}
 use Rattle.memory_map.specs.MemoryMap.{MemoryMap}
@@ -17,9 +18,9 @@ stubs_size (t ∷ ts) = let e = stubs_size ts in let d = stub_size t in forms_by
 
 pub boot_is_short : BootIsShort
 boot_is_short m commit tasks at =
-    let q = at + 66 + 4 * length tasks in
+    let q = stubs_address tasks at in
     let l = ladder_to q tasks in
-    let a : forms_bytes (boot_forms m commit tasks at) ≡ 66 + forms_bytes (l ++ stubs tasks) = omega arith in
+    let a : forms_bytes (boot_forms m commit tasks at) ≡ ladder_offset + forms_bytes (l ++ stubs tasks) = omega arith in
     let b = forms_bytes-append l (stubs tasks) in
     let c = ladder_bytes q tasks in
     let d = stubs_size tasks in
@@ -48,12 +49,12 @@ dispatch_are m ladder = search arith
 
 pub boot_is_code : BootIsCode
 boot_is_code m commit tasks at =
-    let q = at + 66 + 4 * length tasks in
+    let q = stubs_address tasks at in
     let l = ladder_to q tasks in
-    let d = dispatch m (at + 66) in
+    let d = dispatch m (ladder_address at) in
     are_instructions-append (head m commit) (opening m ++ (d ++ (l ++ stubs tasks))) (head_are m commit)
     (are_instructions-append (opening m) (d ++ (l ++ stubs tasks)) (opening_are m)
-    (are_instructions-append d (l ++ stubs tasks) (dispatch_are m (at + 66)) (are_instructions-append l (stubs tasks) (ladder_are q tasks) (stubs_are tasks))))
+    (are_instructions-append d (l ++ stubs tasks) (dispatch_are m (ladder_address at)) (are_instructions-append l (stubs tasks) (ladder_are q tasks) (stubs_are tasks))))
 
 entries_fit : (ts : List TaskEntry) → 4 * length ts + stubs_bytes ts ≤ 2 * entry_room ts
 entries_fit [] = omega arith

@@ -7,7 +7,7 @@ use Rattle.runtime_code.specs.code_forms.Placed.{instructions}
 use Rattle.runtime_code.proofs.code_forms.Interface.{instructions-append}
 use Rattle.runtime_code.specs.LayoutPlaces.{pairs_of}
 use Rattle.boot_runtime.specs.Entries.{entry_of}
-use Rattle.boot_runtime.specs.Listing.{TaskEntry, copies_in, stub, stubs, ladder_to, fixed_forms, boot_forms}
+use Rattle.boot_runtime.specs.Listing.{TaskEntry, copies_in, stub, stubs, ladder_to, ladder_address, stubs_address, fixed_forms, boot_forms}
 use Rattle.memory_map.specs.MemoryMap.{TaskPlace, MemoryMap}
 
 -- one more stub
@@ -27,20 +27,20 @@ stub_written is js ks all t ts copied branched rest =
     ∙ rest
 
 -- what stands before the ladder, the ladder, and the stubs
-pub boot_written : (m : MemoryMap) (commit at q : ℕ) (tasks us : List TaskEntry) (u v w : List Instr) → us ≡ tasks → q ≡ at + 66 + 4 * length us
-    → u ≡ instructions (fixed_forms m commit (at + 66)) → v ≡ u ++ instructions (ladder_to q us) → w ≡ v ++ instructions (stubs us)
+pub boot_written : (m : MemoryMap) (commit at q : ℕ) (tasks us : List TaskEntry) (u v w : List Instr) → us ≡ tasks → q ≡ stubs_address us at
+    → u ≡ instructions (fixed_forms m commit (ladder_address at)) → v ≡ u ++ instructions (ladder_to q us) → w ≡ v ++ instructions (stubs us)
     → w ≡ instructions (boot_forms m commit tasks at)
 boot_written m commit at q tasks us u v w e there fixed ladder rest =
-    let p = instructions (fixed_forms m commit (at + 66)) in
-    let l = ladder_to (at + 66 + 4 * length tasks) tasks in
+    let p = instructions (fixed_forms m commit (ladder_address at)) in
+    let l = ladder_to (stubs_address tasks at) tasks in
     rest
     ∙ ap (λ x. x ++ instructions (stubs us)) ladder
     ∙ ap (λ x. (x ++ instructions (ladder_to q us)) ++ instructions (stubs us)) fixed
     ∙ ap (λ x. (p ++ instructions (ladder_to x us)) ++ instructions (stubs us)) there
-    ∙ ap (λ x. (p ++ instructions (ladder_to (at + 66 + 4 * length x) x)) ++ instructions (stubs x)) e
+    ∙ ap (λ x. (p ++ instructions (ladder_to (stubs_address x at) x)) ++ instructions (stubs x)) e
     ∙ append_assoc p (instructions l) (instructions (stubs tasks))
     ∙ ap (λ x. p ++ x) (sym (instructions-append l (stubs tasks)))
-    ∙ sym (instructions-append (fixed_forms m commit (at + 66)) (l ++ stubs tasks))
+    ∙ sym (instructions-append (fixed_forms m commit (ladder_address at)) (l ++ stubs tasks))
 
 -- the stub of the next task
 pub next_written : (is js ks all : List Instr) (xs : List TaskPlace) (x : TaskPlace) (i : ℕ) → x ≡ get_or xs i x → i < length xs

@@ -238,7 +238,7 @@ module _ {St : Type 0} (l : ProgramPlaces) (apart : AreApart l.map) (v : StateVi
         (version, (list_length, (emit_count, tt)))
 
     -- each store of a start is of this kind
-    pub start_stores_so : (privates : ℕ → List CopyPair) → ((t : ℕ) → ArePrivate l t (privates t)) → (f : ℕ → ℕ)
+    start_stores_so : (privates : ℕ → List CopyPair) → ((t : ℕ) → ArePrivate l t (privates t)) → (f : ℕ → ℕ)
         → EachStore P (start_effects l.map privates f)
     start_stores_so privates laid f =
         each_store-append P (opening_effects l.map f) _ (opening_so f)
@@ -254,9 +254,27 @@ module _ {St : Type 0} (l : ProgramPlaces) (apart : AreApart l.map) (v : StateVi
   module _ (privates : ℕ → List CopyPair) (laid : (t : ℕ) → ArePrivate l t (privates t)) where
     start_stores : (f : ℕ → ℕ) → EachStore (IsStartStore l) (start_effects l.map privates f)
     start_stores f =
-        start_stores_so (IsStartStore l) (λ i h. record { from = omega (arith, apart); below = omega (arith, apart, h) })
-        (record { from = omega (arith, apart); below = omega (arith, apart) }) (record { from = omega (arith, apart); below = omega (arith, apart) })
-        (record { from = omega (arith, apart); below = omega (arith, apart) }) (λ a w c. record { from = omega (arith, apart, c); below = omega (arith, c) })
+        start_stores_so (IsStartStore l)
+        (λ i h. record {
+          from = omega (arith, apart);
+          below = omega (arith, apart, h);
+          list_length = λ e. refl;
+          emit_count = λ e. refl;
+        })
+        (record {
+          from = omega (arith, apart);
+          below = omega (arith, apart);
+          list_length = λ e. omega (arith, e);
+          emit_count = λ e. omega (arith, e);
+        })
+        (record { from = omega (arith, apart); below = omega (arith, apart); list_length = λ e. refl; emit_count = λ e. refl })
+        (record { from = omega (arith, apart); below = omega (arith, apart); list_length = λ e. refl; emit_count = λ e. refl })
+        (λ a w c. record {
+          from = omega (arith, apart, c);
+          below = omega (arith, c);
+          list_length = λ e. omega (arith, apart, c, e);
+          emit_count = λ e. omega (arith, apart, c, e);
+        })
         privates laid f
 
     start_takes : (f : ℕ → ℕ) → readings_taken (start_effects l.map privates f) ≡ []

@@ -2,7 +2,7 @@
 use Rattle.std.specs.Prelude.{◌≡◌, ℕ, ◌<◌, ◌≤◌, List, [], ◌++◌, All}
 use Rattle.runtime_effects.specs.memory_map.MemoryMap.{word_place}
 use Rattle.runtime_effects.specs.memory_map.Places.{end_of}
-use Rattle.runtime_effects.specs.memory_map.declared.words.RuntimeWord.TheVariants.{CurrentTask, Gate}
+use Rattle.runtime_effects.specs.memory_map.declared.words.RuntimeWord.TheVariants.{CurrentTask, Gate, ListLength, EmitCount}
 use Rattle.runtime_effects.specs.fram_board.Effects.{Effect}
 use Rattle.runtime_effects.specs.machine_effects.World.{World, world_after, fram_after, readings_taken, EachStore}
 use Rattle.runtime_effects.specs.Places.{CopyPair}
@@ -44,10 +44,12 @@ program_model l v p = record {
   Decided = DecidedFrom l v;
 }
 
--- a store of a start: to VER, CLN or EN, to a version word or to a copy
+-- a store of a start: to a word of the runtime behind GATE, where CLN and EN become 0, to a version word or to a copy
 pub record IsStartStore (l : ProgramPlaces) (a w : ℕ) : Type 0 where
   pub from : word_place l.map Gate < a
   pub below : a < end_of l.map.copies
+  pub list_length : a ≡ word_place l.map ListLength → w ≡ 0
+  pub emit_count : a ≡ word_place l.map EmitCount → w ≡ 0
 
 -- what the start owes, where these are the private scalars of each task: it takes no reading, stores to the runtime's places and the
 -- copies alone, keeps CUR, keeps the world undecided throughout, and leaves an attempt that has started

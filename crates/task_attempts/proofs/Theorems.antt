@@ -6,8 +6,9 @@ use Rattle.layout_facts.specs.source_values.Runs.{State}
 use Rattle.layout_facts.specs.boot_runtime.Entries.{task_entries}
 use Rattle.layout_facts.specs.boot_runtime.Listing.{privates_in}
 use Rattle.layout_facts.proofs.crash_rules.Interface.{world_fram}
-use Rattle.layout_facts.proofs.stands_for.Interface.{start_stores_so, keeps_the_laws, clearing_starts}
+use Rattle.layout_facts.proofs.stands_for.Interface.{each_weaker, keeps_the_laws, clearing_starts}
 use Rattle.layout_facts.proofs.lower.Interface.{blocks_agree}
+use Rattle.layout_facts.specs.stands_for.Program.{IsStartStore}
 use Rattle.layout_facts.specs.compiled_model.Places.{program_places}
 use Rattle.layout_facts.specs.compiled_model.View.{state_view}
 use Rattle.layout_facts.specs.compiled_model.Parts.{program_parts}
@@ -42,22 +43,12 @@ stores_below_code text p allow plans l laid runnable s x readings small u =
     let code = g.code in
     let task = program_stores p l g s is_task (task_at p l g.count s.task is_task) y readings (start.started s x u) blocks_agree small in
     each_store-append (IsBelowCode l) es ((program_parts p l).body (x.fram (word_place l CurrentTask)) (fram_after es x.fram) readings).effects
-    (start_stores_so (program_places p l) apart (state_view p l) (IsBelowCode l)
-    (λ i h. record { from = omega (arith, apart); below = omega (arith, apart, h, code); list = λ e. omega arith; emits = λ e. omega arith })
-    (record {
-      from = omega (arith, apart);
-      below = omega (arith, apart, code);
-      list = λ e. absurd (omega (arith, apart, e));
-      emits = λ e. absurd (omega (arith, apart, e));
-    })
-    (record { from = omega (arith, apart); below = omega (arith, apart, code); list = λ e. omega arith; emits = λ e. omega arith })
-    (record { from = omega (arith, apart); below = omega (arith, apart, code); list = λ e. omega arith; emits = λ e. omega arith })
-    (λ a w c. record {
-      from = omega (arith, apart, c);
-      below = omega (arith, c, code);
-      list = λ e. absurd (omega (arith, apart, c, e));
-      emits = λ e. absurd (omega (arith, apart, c, e));
-    }) (privates_in (task_entries l)) g.privates x.fram)
+    (each_weaker (IsStartStore (program_places p l)) (IsBelowCode l) (λ a w k. record {
+      from = omega (arith, apart, k);
+      below = omega (arith, apart, k, code);
+      list = λ e. let none = k.list_length e in omega (arith, none);
+      emits = λ e. let none = k.emit_count e in omega (arith, none);
+    }) es (start.stores x.fram))
     (subst (λ k. EachStore (IsBelowCode l) ((program_parts p l).body k (fram_after es x.fram) readings).effects) (sym u.is_open.current_task)
     (subst (λ f. EachStore (IsBelowCode l) ((program_parts p l).body s.task f readings).effects) (world_fram es x) task))
 

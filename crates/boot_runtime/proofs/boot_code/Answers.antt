@@ -1,13 +1,14 @@
 use Rattle.std.proofs.Common.{◌+◌, ◌*◌, ap, sym, map, length}
 use Rattle.std.proofs.lemmas.List.{length-map}
 use Rattle.boot_runtime.specs.Entries.{entry_of, task_entries}
+use Rattle.boot_runtime.specs.Listing.{ladder_address}
 use Rattle.boot_runtime.proofs.Writing.{boot_written}
 use Rattle.boot_runtime.proofs.boot_code.Goals as goal
 
 pub returns : goal.returns
 returns c =
     let xs = c.tasks-tasks.result.now in
-    boot_written c.args.layout.now c.args.layout.now.commit.address c.args.at (c.args.at + 66 + 4 * length xs) (task_entries c.args.layout.now)
+    boot_written c.args.layout.now c.args.layout.now.commit.address c.args.at (ladder_address c.args.at + 4 * length xs) (task_entries c.args.layout.now)
     (map entry_of xs)
     c.in_ok-code.code.items c.push_ladder.new.code.items c.push_stubs.new.code.items (ap (map entry_of) c.tasks-tasks.ensures)
-    (ap (λ n. c.args.at + 66 + 4 * n) (sym (length-map xs entry_of))) c.in_ok-code.ensures c.in_ok-push_ladder.ensures c.in_ok-push_stubs.ensures
+    (ap (λ n. ladder_address c.args.at + 4 * n) (sym (length-map xs entry_of))) c.in_ok-code.ensures c.in_ok-push_ladder.ensures c.in_ok-push_stubs.ensures
