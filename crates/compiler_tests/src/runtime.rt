@@ -46,23 +46,26 @@ fn layout_of(alloc: Global, source: &[u8]) -> Option<Layout> {
     }
 }
 
+// What stands behind the words of an instruction, where these stand first.
+fn behind_its_words<'a>(instruction: &Instr, words: &'a [u16]) -> Option<&'a [u16]> {
+    let encoded = encode(instruction);
+    let first = words.get(..encoded.len())?;
+    if *first != *encoded.as_slice() {
+        return None;
+    }
+    words.get(encoded.len()..)
+}
+
 // Whether the instructions have exactly these words.
 fn has_words(code: &[Instr], words: &[u16]) -> bool {
-    let mut at = 0;
+    let mut rest = words;
     for instruction in code {
-        for word in encode(instruction).as_slice() {
-            match words.get(at) {
-                Some(expected) => {
-                    if *expected != *word {
-                        return false;
-                    }
-                }
-                None => return false,
-            }
-            at += 1;
+        match behind_its_words(instruction, rest) {
+            Some(behind) => rest = behind,
+            None => return false,
         }
     }
-    at == words.len()
+    rest.is_empty()
 }
 
 // Whether there is one task, with one private scalar.
