@@ -70,66 +70,71 @@ module _ (z : Setting) where
   le_of_lt i size true e = grind (arith, nat_tests)
   le_of_lt i size false e = grind (arith, nat_tests)
 
-  -- by whether the index is below the length
-  element_by : (b : Bool) (base size pc i : ℕ) (rest : List ℕ) (w : WordState) (u : Core) → nat_lt i size ≡ b → i < 0x10000 → size < 0x10000
-      → w.stack ≡ i ∷ rest → Stands z.code pc (element_code base size) → StandsFor z pc w u →
-      Follows z (pc + 20) 15 u (if b then at_place (2 * i + base) (goes_on [] (with_stack (w.fram (2 * i + base) ∷ rest) w)) else goes_on []
-      (with_stack (0 ∷ rest) w))
-  element_by false base size pc i rest w u lt r l e h k =
-      let popped = with_stack rest w in
-      let m = memory_as z pc w u (i ∷ rest) e k in
-      let at14 = form_at z.code pc 5 (element_code base size) (Jump condition.Always 1) h refl in
-      let high = (z.tidy (pc + 14) _ at14).high in
-      let to : sum16 (pc + 6 + 2) (distance 4) ≡ pc + 16 = omega arith in
-      let zeroed = Move (Constant konst.Zero) (ToRegister R4) ∷ [] in
-      let at16 : Stands z.code (pc + 16) zeroed = forms_at z.code pc 6 1 (element_code base size) h in
-      let at18 = form_at z.code pc 7 (element_code base size) (push_from R4) h refl in
-      let e20 : pc + 18 + 2 ≡ pc + 20 = omega arith in
-      subst (λ n. Runs z.code [] 15 u (StandsFor z n (with_stack (0 ∷ rest) w))) e20
-      (dearer z [] 10 15 u _ (omega arith)
-      (runs_on z 2 8 u _ _ [] [] (pop_part z pc i rest w u e h.0 k) (λ t j.
-      runs_on z 2 6 t _ _ [] [] (compare_part (pc + 2) i size popped t r l h.1.0 j) (λ t j.
-      runs_on z 2 4 t _ _ [] [] (jump_has z condition.Carry 4 (pc + 6) (pc + 16) true R4 i popped t
-      (form_at z.code pc 2 (element_code base size) (Jump condition.Carry 4) h refl) (j.flag ∙ le_of_lt i size false lt) to
-      (record { is = stands_elsewhere z (pc + 2 + 4) (pc + 6) popped t t j.has.is (omega (arith, j.has.is.at)) refl refl refl refl; value = j.has.value }))
-      (λ t j.
-      runs_on z 1 3 t _ _ [] [] (middle z zeroed 1 (pc + 16) (pc + 18) 0 R4 popped t (end_of t (forms_run zeroed t).status) j.is (tt, tt) at16
-      ((tt, tt), tt) refl (omega (arith, j.is.at)) refl refl refl refl refl) (λ t j.
-      push_result z R4 (pc + 18) 0 popped t (omega (arith, m.fits)) at18 j))))))
-  element_by true base size pc i rest w u lt r l e h k =
-      let popped = with_stack rest w in
-      let m = memory_as z pc w u (i ∷ rest) e k in
-      let a = 2 * i + base in
-      guarded z (is_place a) (pc + 20) 15 u (goes_on [] (with_stack (w.fram a ∷ rest) w)) (λ g.
-      let f = place_is a g in
-      let fh = f.high in
-      let small : (i + i + 0) % 0x10000 ≡ 2 * i = omega arith in
-      let at14 = form_at z.code pc 5 (element_code base size) (Jump condition.Always 1) h refl in
-      let high = (z.tidy (pc + 14) _ at14).high in
-      let to : sum16 (pc + 14 + 2) (distance 1) ≡ pc + 18 = omega arith in
-      let at18 = form_at z.code pc 7 (element_code base size) (push_from R4) h refl in
-      let ms = Calculate op.Add (Register R4) R4 ∷ Move (Indexed R4 base) (ToRegister R4) ∷ [] in
-      let at8 : Stands z.code (pc + 8) ms = forms_at z.code pc 3 2 (element_code base size) h in
-      let e20 : pc + 18 + 2 ≡ pc + 20 = omega arith in
-      subst (λ n. Runs z.code [] 15 u (StandsFor z n (with_stack (w.fram a ∷ rest) w))) e20
-      (runs_on z 2 13 u _ _ [] [] (pop_part z pc i rest w u e h.0 k) (λ t j.
-      runs_on z 2 11 t _ _ [] [] (compare_part (pc + 2) i size popped t r l h.1.0 j) (λ t j.
-      runs_on z 2 9 t _ _ [] [] (jump_has z condition.Carry 4 (pc + 6) (pc + 8) false R4 i popped t
-      (form_at z.code pc 2 (element_code base size) (Jump condition.Carry 4) h refl) (j.flag ∙ le_of_lt i size true lt) (omega arith)
-      (record { is = stands_elsewhere z (pc + 2 + 4) (pc + 6) popped t t j.has.is (omega (arith, j.has.is.at)) refl refl refl refl; value = j.has.value }))
-      (λ t j.
-      let q : (t.work 4 + t.work 4 + 0) % 0x10000 ≡ 2 * i = ap (λ v. (v + v + 0) % 0x10000) j.value ∙ small in
-      runs_on z 4 5 t _ _ [] [] (middle z ms 4 (pc + 8) (pc + 14) (w.fram a) R4 popped t (end_of t (forms_run ms t).status) j.is (tt, (tt, tt)) at8
-      ((tt, tt), ((subst (λ v. IsFram (v + base)) (sym q) f, tt), tt)) refl (omega (arith, j.is.at)) refl refl refl refl
-      (ap (λ v. t.fram (v + base)) q ∙ ap (λ y. y a) j.is.fram)) (λ t j.
-      runs_on z 2 3 t _ _ [] [] (jump_has z condition.Always 1 (pc + 14) (pc + 18) true R4 (w.fram a) popped t at14 refl to j) (λ t j.
-      push_result z R4 (pc + 18) (w.fram a) popped t (omega (arith, m.fits)) at18 j)))))))
+  -- an element, where its code stands
+  module _ (base size pc : ℕ) (l : size < 0x10000) (h : Stands z.code pc (element_code base size)) where
+    at6 : z.code (pc + 6) ≡ Some (instruction_of (Jump condition.Carry 4))
+    at6 = form_at z.code pc 2 (element_code base size) (Jump condition.Carry 4) h refl
 
-  pub element_part : (base size pc : ℕ) (vs : List ℕ) (w : WordState) (u : Core) → size < 0x10000 → w.stack ≡ vs → AllByRecursion (λ v. v < 0x10000) vs
-      → Stands z.code pc (element_code base size) → StandsFor z pc w u
-      → Follows z (pc + 20) 15 u (with_top vs (λ i rest. element_pushed base size i (with_stack rest w)))
-  element_part base size pc [] w u l e s h k = tt
-  element_part base size pc (i ∷ rest) w u l e s h k = element_by (nat_lt i size) base size pc i rest w u refl s.0 l e h k
+    at14 : z.code (pc + 14) ≡ Some (instruction_of (Jump condition.Always 1))
+    at14 = form_at z.code pc 5 (element_code base size) (Jump condition.Always 1) h refl
+
+    at18 : z.code (pc + 18) ≡ Some (instruction_of (push_from R4))
+    at18 = form_at z.code pc 7 (element_code base size) (push_from R4) h refl
+
+    -- by whether the index is below the length
+    element_by : (b : Bool) (i : ℕ) (rest : List ℕ) (w : WordState) (u : Core) → nat_lt i size ≡ b → i < 0x10000
+        → w.stack ≡ i ∷ rest → StandsFor z pc w u
+        → Follows z (pc + 20) 15 u (if b then at_place (2 * i + base) (goes_on [] (with_stack (w.fram (2 * i + base) ∷ rest) w)) else goes_on []
+        (with_stack (0 ∷ rest) w))
+    element_by false i rest w u lt r e k =
+        let popped = with_stack rest w in
+        let m = memory_as z pc w u (i ∷ rest) e k in
+        let high = (z.tidy (pc + 14) _ at14).high in
+        let to : sum16 (pc + 6 + 2) (distance 4) ≡ pc + 16 = omega arith in
+        let zeroed = Move (Constant konst.Zero) (ToRegister R4) ∷ [] in
+        let at16 : Stands z.code (pc + 16) zeroed = forms_at z.code pc 6 1 (element_code base size) h in
+        let e20 : pc + 18 + 2 ≡ pc + 20 = omega arith in
+        subst (λ n. Runs z.code [] 15 u (StandsFor z n (with_stack (0 ∷ rest) w))) e20
+        (dearer z [] 10 15 u _ (omega arith)
+        (runs_on z 2 8 u _ _ [] [] (pop_part z pc i rest w u e h.0 k) (λ t j.
+        runs_on z 2 6 t _ _ [] [] (compare_part (pc + 2) i size popped t r l h.1.0 j) (λ t j.
+        runs_on z 2 4 t _ _ [] [] (jump_has z condition.Carry 4 (pc + 6) (pc + 16) true R4 i popped t at6 (j.flag ∙ le_of_lt i size false lt) to
+        (record { is = stands_elsewhere z (pc + 2 + 4) (pc + 6) popped t t j.has.is (omega (arith, j.has.is.at)) refl refl refl refl; value = j.has.value }))
+        (λ t j.
+        runs_on z 1 3 t _ _ [] [] (middle z zeroed 1 (pc + 16) (pc + 18) 0 R4 popped t (end_of t (forms_run zeroed t).status) j.is (tt, tt) at16
+        ((tt, tt), tt) refl (omega (arith, j.is.at)) refl refl refl refl refl) (λ t j.
+        push_result z R4 (pc + 18) 0 popped t (omega (arith, m.fits)) at18 j))))))
+    element_by true i rest w u lt r e k =
+        let popped = with_stack rest w in
+        let m = memory_as z pc w u (i ∷ rest) e k in
+        let a = 2 * i + base in
+        guarded z (is_place a) (pc + 20) 15 u (goes_on [] (with_stack (w.fram a ∷ rest) w)) (λ g.
+        let f = place_is a g in
+        let fh = f.high in
+        let small : (i + i + 0) % 0x10000 ≡ 2 * i = omega arith in
+        let high = (z.tidy (pc + 14) _ at14).high in
+        let to : sum16 (pc + 14 + 2) (distance 1) ≡ pc + 18 = omega arith in
+        let ms = Calculate op.Add (Register R4) R4 ∷ Move (Indexed R4 base) (ToRegister R4) ∷ [] in
+        let at8 : Stands z.code (pc + 8) ms = forms_at z.code pc 3 2 (element_code base size) h in
+        let e20 : pc + 18 + 2 ≡ pc + 20 = omega arith in
+        subst (λ n. Runs z.code [] 15 u (StandsFor z n (with_stack (w.fram a ∷ rest) w))) e20
+        (runs_on z 2 13 u _ _ [] [] (pop_part z pc i rest w u e h.0 k) (λ t j.
+        runs_on z 2 11 t _ _ [] [] (compare_part (pc + 2) i size popped t r l h.1.0 j) (λ t j.
+        runs_on z 2 9 t _ _ [] [] (jump_has z condition.Carry 4 (pc + 6) (pc + 8) false R4 i popped t at6 (j.flag ∙ le_of_lt i size true lt) (omega arith)
+        (record { is = stands_elsewhere z (pc + 2 + 4) (pc + 6) popped t t j.has.is (omega (arith, j.has.is.at)) refl refl refl refl; value = j.has.value }))
+        (λ t j.
+        let q : (t.work 4 + t.work 4 + 0) % 0x10000 ≡ 2 * i = ap (λ v. (v + v + 0) % 0x10000) j.value ∙ small in
+        runs_on z 4 5 t _ _ [] [] (middle z ms 4 (pc + 8) (pc + 14) (w.fram a) R4 popped t (end_of t (forms_run ms t).status) j.is (tt, (tt, tt)) at8
+        ((tt, tt), ((subst (λ v. IsFram (v + base)) (sym q) f, tt), tt)) refl (omega (arith, j.is.at)) refl refl refl refl
+        (ap (λ v. t.fram (v + base)) q ∙ ap (λ y. y a) j.is.fram)) (λ t j.
+        runs_on z 2 3 t _ _ [] [] (jump_has z condition.Always 1 (pc + 14) (pc + 18) true R4 (w.fram a) popped t at14 refl to j) (λ t j.
+        push_result z R4 (pc + 18) (w.fram a) popped t (omega (arith, m.fits)) at18 j)))))))
+
+    -- the element at an index, if that is below the length
+    pub element_part : (vs : List ℕ) (w : WordState) (u : Core) → w.stack ≡ vs → AllByRecursion (λ v. v < 0x10000) vs → StandsFor z pc w u
+        → Follows z (pc + 20) 15 u (with_top vs (λ i rest. element_pushed base size i (with_stack rest w)))
+    element_part [] w u e s k = tt
+    element_part (i ∷ rest) w u e s k = element_by (nat_lt i size) i rest w u refl s.0 e k
 
   pub emit_part : (count buffer pc : ℕ) (vs : List ℕ) (w : WordState) (u : Core) → w.stack ≡ vs → Stands z.code pc (emit_code count buffer) → StandsFor z pc w u
       → Follows z (pc + 20) 16 u (with_top vs (λ v rest. word_emitted count buffer v (with_stack rest w)))

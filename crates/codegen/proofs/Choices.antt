@@ -39,40 +39,49 @@ module _ (z : Setting) where
         flag = ap (λ x. not ((x + 65535 + 1) % 65536 == 0)) k.value ∙ ap not f;
       }))
 
-  -- both ways: up to the program that is taken, and through it
-  pub choice_part : (a b : List Form) (pc : ℕ) (pa pb : List ℕ → ℕ) (w : WordState) (u : Core) (vs : List ℕ) (ra rb : WordState → Behaviour) → w.stack ≡ vs
-      → AllByRecursion (λ v. v < 0x10000) vs
-      → Stands z.code pc (choice_code (pc + 14 + forms_bytes a) (pc + 14 + forms_bytes a + forms_bytes b) a b) → StandsFor z pc w u
-      → ((v : ℕ) (us : List ℕ) (t : Core) → w.stack ≡ v ∷ us → StandsFor z (pc + 10) (with_stack us w) t
-      → Follows z (pc + 10 + forms_bytes a) (pa us) t (ra (with_stack us w)))
-      → ((v : ℕ) (us : List ℕ) (t : Core) → w.stack ≡ v ∷ us → StandsFor z (pc + 14 + forms_bytes a) (with_stack us w) t
-      → Follows z (pc + 14 + forms_bytes a + forms_bytes b) (pb us) t (rb (with_stack us w)))
-      → Follows z (pc + 14 + forms_bytes a + forms_bytes b) (8 + way_spent vs pa pb) u
-      (with_top vs (λ v us. chosen v (ra (with_stack us w)) (rb (with_stack us w))))
-  choice_part a b pc pa pb w u [] ra rb e l h i fa fb = tt
-  choice_part a b pc pa pb w u (zero ∷ vs) ra rb e l h i fa fb =
-      let x = with_stack vs w in
-      let code = choice_code (pc + 14 + forms_bytes a) (pc + 14 + forms_bytes a + forms_bytes b) a b in
-      let ev = (z.tidy pc _ h.0).even in
-      let ea = bytes_even a in
-      let tested = runs_on z 3 2 u _ (StandsFor z (pc + 6) x) [] [] (test_top pc 0 true vs w u e refl (h.0, (h.1.0, tt)) i) (λ t k.
-      jump_to z condition.NotEqual 2 (pc + 4) (pc + 6) false x t (form_at z.code pc 2 code (Jump condition.NotEqual 2) h refl) k.flag (omega arith) k.is) in
-      let gone = runs_on z 5 3 u (StandsFor z (pc + 6) x) (StandsFor z (pc + 14 + forms_bytes a) x) [] [] tested (λ t k.
-      branch_to z (pc + 14 + forms_bytes a) (pc + 6) x t (form_at z.code pc 3 code (Branch (pc + 14 + forms_bytes a)) h refl) (omega arith) k) in
-      more_cycles z _ (8 + pb vs) _ u _ (rb x).end (omega arith) (then_end z _ 8 (pb vs) u _ [] (rb x).effects (rb x).end gone (λ t k. fb zero vs t e k))
-  choice_part a b pc pa pb w u (suc v ∷ vs) ra rb e l h i fa fb =
-      let x = with_stack vs w in
-      let code = choice_code (pc + 14 + forms_bytes a) (pc + 14 + forms_bytes a + forms_bytes b) a b in
-      let ev = (z.tidy pc _ h.0).even in
-      let ea = bytes_even a in let eb = bytes_even b in
-      let at6 = form_at z.code pc 3 code (Branch (pc + 14 + forms_bytes a)) h refl in
-      let high = (z.tidy (pc + 6) _ at6).high in
-      let tested =
-      runs_on z 3 2 u _ (StandsFor z (pc + 10) x) [] [] (test_top pc (suc v) false vs w u e (zero_flag (suc v) l.0 (omega arith)) (h.0, (h.1.0, tt)) i)
-      (λ t k.
-      jump_to z condition.NotEqual 2 (pc + 4) (pc + 10) true x t (form_at z.code pc 2 code (Jump condition.NotEqual 2) h refl) k.flag (omega arith) k.is) in
-      let at = (stands_back z.code (pc + 10) a (Branch (pc + 14 + forms_bytes a + forms_bytes b) ∷ b) (forms_behind z.code pc 4 code h)).0 in
-      let whole = then_hop z (pc + 10 + forms_bytes a) (pc + 14 + forms_bytes a + forms_bytes b) (5 + pa vs) 3 u _ (ra x).end
-      (then_end z _ 5 (pa vs) u _ [] (ra x).effects (ra x).end tested (λ t k. fa (suc v) vs t e k))
-      (λ t y k. branch_to z (pc + 14 + forms_bytes a + forms_bytes b) (pc + 10 + forms_bytes a) y t at (omega arith) k) in
-      more_cycles z _ (5 + pa vs + 3) _ u _ (ra x).end (omega arith) whole
+  -- a choice, where its code stands
+  module _ (a b : List Form) (pc : ℕ) (h : Stands z.code pc (choice_code (pc + 14 + forms_bytes a) (pc + 14 + forms_bytes a + forms_bytes b) a b)) where
+    abbrev code : List Form
+    code = choice_code (pc + 14 + forms_bytes a) (pc + 14 + forms_bytes a + forms_bytes b) a b
+
+    at4 : z.code (pc + 4) ≡ Some (instruction_of (Jump condition.NotEqual 2))
+    at4 = form_at z.code pc 2 code (Jump condition.NotEqual 2) h refl
+
+    at6 : z.code (pc + 6) ≡ Some (instruction_of (Branch (pc + 14 + forms_bytes a)))
+    at6 = form_at z.code pc 3 code (Branch (pc + 14 + forms_bytes a)) h refl
+
+    at_end : z.code (pc + 10 + forms_bytes a) ≡ Some (instruction_of (Branch (pc + 14 + forms_bytes a + forms_bytes b)))
+    at_end = (stands_back z.code (pc + 10) a (Branch (pc + 14 + forms_bytes a + forms_bytes b) ∷ b) (forms_behind z.code pc 4 code h)).0
+
+    -- both ways: up to the program that is taken, and through it
+    pub choice_part : (pa pb : List ℕ → ℕ) (w : WordState) (u : Core) (vs : List ℕ) (ra rb : WordState → Behaviour) → w.stack ≡ vs
+        → AllByRecursion (λ v. v < 0x10000) vs → StandsFor z pc w u
+        → ((v : ℕ) (us : List ℕ) (t : Core) → w.stack ≡ v ∷ us → StandsFor z (pc + 10) (with_stack us w) t
+        → Follows z (pc + 10 + forms_bytes a) (pa us) t (ra (with_stack us w)))
+        → ((v : ℕ) (us : List ℕ) (t : Core) → w.stack ≡ v ∷ us → StandsFor z (pc + 14 + forms_bytes a) (with_stack us w) t
+        → Follows z (pc + 14 + forms_bytes a + forms_bytes b) (pb us) t (rb (with_stack us w)))
+        → Follows z (pc + 14 + forms_bytes a + forms_bytes b) (8 + way_spent vs pa pb) u
+        (with_top vs (λ v us. chosen v (ra (with_stack us w)) (rb (with_stack us w))))
+    choice_part pa pb w u [] ra rb e l i fa fb = tt
+    choice_part pa pb w u (zero ∷ vs) ra rb e l i fa fb =
+        let x = with_stack vs w in
+        let ev = (z.tidy pc _ h.0).even in
+        let ea = bytes_even a in
+        let tested = runs_on z 3 2 u _ (StandsFor z (pc + 6) x) [] [] (test_top pc 0 true vs w u e refl (h.0, (h.1.0, tt)) i) (λ t k.
+        jump_to z condition.NotEqual 2 (pc + 4) (pc + 6) false x t at4 k.flag (omega arith) k.is) in
+        let gone = runs_on z 5 3 u (StandsFor z (pc + 6) x) (StandsFor z (pc + 14 + forms_bytes a) x) [] [] tested (λ t k.
+        branch_to z (pc + 14 + forms_bytes a) (pc + 6) x t at6 (omega arith) k) in
+        more_cycles z _ (8 + pb vs) _ u _ (rb x).end (omega arith) (then_end z _ 8 (pb vs) u _ [] (rb x).effects (rb x).end gone (λ t k. fb zero vs t e k))
+    choice_part pa pb w u (suc v ∷ vs) ra rb e l i fa fb =
+        let x = with_stack vs w in
+        let ev = (z.tidy pc _ h.0).even in
+        let ea = bytes_even a in let eb = bytes_even b in
+        let high = (z.tidy (pc + 6) _ at6).high in
+        let tested =
+        runs_on z 3 2 u _ (StandsFor z (pc + 10) x) [] [] (test_top pc (suc v) false vs w u e (zero_flag (suc v) l.0 (omega arith)) (h.0, (h.1.0, tt)) i)
+        (λ t k.
+        jump_to z condition.NotEqual 2 (pc + 4) (pc + 10) true x t at4 k.flag (omega arith) k.is) in
+        let whole = then_hop z (pc + 10 + forms_bytes a) (pc + 14 + forms_bytes a + forms_bytes b) (5 + pa vs) 3 u _ (ra x).end
+        (then_end z _ 5 (pa vs) u _ [] (ra x).effects (ra x).end tested (λ t k. fa (suc v) vs t e k))
+        (λ t y k. branch_to z (pc + 14 + forms_bytes a + forms_bytes b) (pc + 10 + forms_bytes a) y t at_end (omega arith) k) in
+        more_cycles z _ (5 + pa vs + 3) _ u _ (ra x).end (omega arith) whole

@@ -126,31 +126,34 @@ module _ (z : Setting) where
         more_cycles z _ (7 + cost w + spent_on (run w).end (λ v. 11 + (10 + turns_spent m n (k + 1) run cost v))) _ u _ (turns (suc m) n k run s).end
         (omega (arith, turn_and_rest (run w).end (turns_spent m n (k + 1) run cost))) all
 
-  pub loop_part : (body : List Form) (pc n from below : ℕ) (cost : WordState → ℕ) (run : WordState → Behaviour) (fit : ℕ → WordState → Type 0) (s : WordState)
-      (u : Core) → n < z.locals → from < 0x10000 → below < 0x10000
-      → Stands z.code pc (loop_code (pc + 6) (pc + 34 + forms_bytes body) n from below body) → StandsFor z pc s u → fit (below - from) s
-      → ((m k : ℕ) (s : WordState) (t : Core) → fit (suc m) s → k < below → StandsFor z (pc + 20) (with_local n k s) t
-      → Follows z (pc + 20 + forms_bytes body) (cost (with_local n k s)) t (run (with_local n k s)))
-      → ((m k : ℕ) (s : WordState) → fit (suc m) s → k < below → OnGoesOn (λ v. fit m v × (v.locals n ≡ Some k)) (run (with_local n k s)).end)
-      → Follows z (pc + 34 + forms_bytes body) (15 + turns_spent (below - from) n from run cost s) u (turns (below - from) n from run s)
-  loop_part body pc n from below cost run fit s u lt la lb h i g f keeps =
-      let b = turns (below - from) n from run s in
-      let e28 : pc + 6 + 28 + forms_bytes body ≡ pc + 34 + forms_bytes body = omega arith in
-      let e14 : pc + 6 + 14 ≡ pc + 20 = omega arith in
-      let rest = h.1 in
-      let test : Stands z.code (pc + 6) (loop_test n below (pc + 6 + 28 + forms_bytes body)) =
-      subst (λ k. Stands z.code (pc + 6) (loop_test n below k)) (sym e28)
-      (stands_front z.code (pc + 6) (loop_test n below (pc + 34 + forms_bytes body)) (body ++ loop_step n (pc + 6)) rest) in
-      let tail : Stands z.code (pc + 6 + 14 + forms_bytes body) (loop_step n (pc + 6)) =
-      stands_back z.code (pc + 6 + 14) body (loop_step n (pc + 6))
-      (stands_back z.code (pc + 6) (loop_test n below (pc + 34 + forms_bytes body)) (body ++ loop_step n (pc + 6)) rest) in
-      let doing : (m k : ℕ) (s : WordState) (t : Core) → fit (suc m) s → k < below → StandsFor z (pc + 6 + 14) (with_local n k s) t
-      → Follows z (pc + 6 + 14 + forms_bytes body) (cost (with_local n k s)) t (run (with_local n k s))
-      = λ m k s t p l j. ends_at z (pc + 20 + forms_bytes body) _ (cost (with_local n k s)) t (run (with_local n k s)) (omega arith)
-      (f m k s t p l (subst (λ x. StandsFor z x (with_local n k s) t) e14 j)) in
-      let loop =
-      then_end z (pc + 6 + 28 + forms_bytes body) 5 (10 + turns_spent (below - from) n from run cost s) u _ [] b.effects b.end
-      (start_part pc n from s u lt h.0 i)
-      (λ t j. turns_part body (pc + 6) n below cost run fit lt lb test tail doing keeps (below - from) from s t g la refl j) in
-      ends_at z (pc + 6 + 28 + forms_bytes body) _ _ u b e28
-      (more_cycles z _ (5 + (10 + turns_spent (below - from) n from run cost s)) _ u _ b.end (omega arith) loop)
+  -- a loop, where its code stands
+  module _ (body : List Form) (pc n from below : ℕ) (lt : n < z.locals) (la : from < 0x10000) (lb : below < 0x10000)
+      (h : Stands z.code pc (loop_code (pc + 6) (pc + 34 + forms_bytes body) n from below body)) where
+    pub loop_part : (cost : WordState → ℕ) (run : WordState → Behaviour) (fit : ℕ → WordState → Type 0) (s : WordState)
+        (u : Core)
+        → StandsFor z pc s u → fit (below - from) s
+        → ((m k : ℕ) (s : WordState) (t : Core) → fit (suc m) s → k < below → StandsFor z (pc + 20) (with_local n k s) t
+        → Follows z (pc + 20 + forms_bytes body) (cost (with_local n k s)) t (run (with_local n k s)))
+        → ((m k : ℕ) (s : WordState) → fit (suc m) s → k < below → OnGoesOn (λ v. fit m v × (v.locals n ≡ Some k)) (run (with_local n k s)).end)
+        → Follows z (pc + 34 + forms_bytes body) (15 + turns_spent (below - from) n from run cost s) u (turns (below - from) n from run s)
+    loop_part cost run fit s u i g f keeps =
+        let b = turns (below - from) n from run s in
+        let e28 : pc + 6 + 28 + forms_bytes body ≡ pc + 34 + forms_bytes body = omega arith in
+        let e14 : pc + 6 + 14 ≡ pc + 20 = omega arith in
+        let rest = h.1 in
+        let test : Stands z.code (pc + 6) (loop_test n below (pc + 6 + 28 + forms_bytes body)) =
+        subst (λ k. Stands z.code (pc + 6) (loop_test n below k)) (sym e28)
+        (stands_front z.code (pc + 6) (loop_test n below (pc + 34 + forms_bytes body)) (body ++ loop_step n (pc + 6)) rest) in
+        let tail : Stands z.code (pc + 6 + 14 + forms_bytes body) (loop_step n (pc + 6)) =
+        stands_back z.code (pc + 6 + 14) body (loop_step n (pc + 6))
+        (stands_back z.code (pc + 6) (loop_test n below (pc + 34 + forms_bytes body)) (body ++ loop_step n (pc + 6)) rest) in
+        let doing : (m k : ℕ) (s : WordState) (t : Core) → fit (suc m) s → k < below → StandsFor z (pc + 6 + 14) (with_local n k s) t
+        → Follows z (pc + 6 + 14 + forms_bytes body) (cost (with_local n k s)) t (run (with_local n k s))
+        = λ m k s t p l j. ends_at z (pc + 20 + forms_bytes body) _ (cost (with_local n k s)) t (run (with_local n k s)) (omega arith)
+        (f m k s t p l (subst (λ x. StandsFor z x (with_local n k s) t) e14 j)) in
+        let loop =
+        then_end z (pc + 6 + 28 + forms_bytes body) 5 (10 + turns_spent (below - from) n from run cost s) u _ [] b.effects b.end
+        (start_part pc n from s u lt h.0 i)
+        (λ t j. turns_part body (pc + 6) n below cost run fit lt lb test tail doing keeps (below - from) from s t g la refl j) in
+        ends_at z (pc + 6 + 28 + forms_bytes body) _ _ u b e28
+        (more_cycles z _ (5 + (10 + turns_spent (below - from) n from run cost s)) _ u _ b.end (omega arith) loop)

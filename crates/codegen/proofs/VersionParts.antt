@@ -67,102 +67,105 @@ module _ (z : Setting) where
             ∙ equal_flag (w.fram list.ver) (w.fram (2 * i + place.versions)) (l list.ver) (l (2 * i + place.versions));
       })
 
-  -- the word is read from the copies or the elements, and pushed
-  fetch_part : (base from pc o : ℕ) (i : ℕ) (w : WordState) (t : Core) → length w.stack < z.room → IsFram (2 * i + base)
-      → sum16 (from + 4 + 2) (distance o) ≡ pc + 34
-      → z.code from ≡ Some (instruction_of (Move (Indexed R4 base) (ToRegister R4))) → z.code (from + 4) ≡ Some (instruction_of (Jump condition.Always o))
-      → z.code (pc + 34) ≡ Some (instruction_of (push_from R4))
-      → Has z R4 from w (2 * i) t → Runs z.code [] 8 t (StandsFor z (pc + 36) (pushed (w.fram (2 * i + base)) w))
-  fetch_part base from pc o i w t s f d a b c k =
-      let ms = Move (Indexed R4 base) (ToRegister R4) ∷ [] in
-      let e : pc + 34 + 2 ≡ pc + 36 = omega arith in
-      subst (λ n. Runs z.code [] 8 t (StandsFor z n (pushed (w.fram (2 * i + base)) w))) e
-      (runs_on z 3 5 t _ _ [] [] (middle z ms 3 from (from + 4) (w.fram (2 * i + base)) R4 w t (end_of t (forms_run ms t).status) k.is (tt, tt) (a, tt)
-      ((subst (λ v. IsFram (v + base)) (sym k.value) f, tt), tt) refl (omega (arith, k.is.at)) refl refl refl refl
-      (ap (λ v. t.fram (v + base)) k.value ∙ ap (λ q. q (2 * i + base)) k.is.fram)) (λ u j.
-      runs_on z 2 3 u _ _ [] [] (jump_has z condition.Always o (from + 4) (pc + 34) true R4 (w.fram (2 * i + base)) w u b refl d j) (λ u j.
-      push_result z R4 (pc + 34) (w.fram (2 * i + base)) w u s c j)))
+  -- a read, where its code stands
+  module _ (place : ArrayPlace) (list : ListPlace) (pc : ℕ) (l : place.length < 0x10000) (h : Stands z.code pc (read_code place list)) where
+    at6 : z.code (pc + 6) ≡ Some (instruction_of (Jump condition.Carry 12))
+    at6 = form_at z.code pc 2 (read_code place list) (Jump condition.Carry 12) h refl
 
-  -- below the length: the copy where the version words are equal, else the element
-  own_part : (b : Bool) (place : ArrayPlace) (list : ListPlace) (pc i : ℕ) (w : WordState) (t : Core) → length w.stack < z.room
-      → (w.fram list.ver == w.fram (2 * i + place.versions)) ≡ b → pc + 40 < 0x10000 → Stands z.code pc (read_code place list)
-      → Marked (pc + 18) w i b t → Follows z (pc + 36) 10 t
-      (if b then at_place (2 * i + place.copies) (goes_on [] (pushed (w.fram (2 * i + place.copies)) w)) else at_place (2 * i + place.elements)
-      (goes_on [] (pushed (w.fram (2 * i + place.elements)) w)))
-  own_part true place list pc i w t s e high h m =
-      let to : sum16 (pc + 20 + 4 + 2) (distance 4) ≡ pc + 34 = omega arith in
-      let leaves = Jump condition.Always 4 in
-      let at24 : z.code (pc + 24) ≡ Some (instruction_of leaves) = form_at z.code pc 8 (read_code place list) leaves h refl in
-      let e24 : pc + 24 ≡ pc + 20 + 4 = omega arith in
-      guarded z (is_place (2 * i + place.copies)) (pc + 36) 10 t (goes_on [] (pushed (w.fram (2 * i + place.copies)) w)) (λ g.
-      runs_on z 2 8 t _ _ [] [] (jump_has z condition.NotEqual 3 (pc + 18) (pc + 20) false R4 (2 * i) w t
-      (form_at z.code pc 6 (read_code place list) (Jump condition.NotEqual 3) h refl) (ap not m.flag) (omega arith) m.has) (λ u j.
-      fetch_part place.copies (pc + 20) pc 4 i w u s (place_is (2 * i + place.copies) g) to
-      (form_at z.code pc 7 (read_code place list) (Move (Indexed R4 place.copies) (ToRegister R4)) h refl)
-      (subst (λ n. z.code n ≡ Some (instruction_of leaves)) e24 at24)
-      (form_at z.code pc 12 (read_code place list) (push_from R4) h refl) j))
-  own_part false place list pc i w t s e high h m =
-      let to : sum16 (pc + 18 + 2) (distance 3) ≡ pc + 26 = omega arith in
-      let back : sum16 (pc + 26 + 4 + 2) (distance 1) ≡ pc + 34 = omega arith in
-      let leaves = Jump condition.Always 1 in
-      let at30 : z.code (pc + 30) ≡ Some (instruction_of leaves) = form_at z.code pc 10 (read_code place list) leaves h refl in
-      let e30 : pc + 30 ≡ pc + 26 + 4 = omega arith in
-      guarded z (is_place (2 * i + place.elements)) (pc + 36) 10 t (goes_on [] (pushed (w.fram (2 * i + place.elements)) w)) (λ g.
-      runs_on z 2 8 t _ _ [] [] (jump_has z condition.NotEqual 3 (pc + 18) (pc + 26) true R4 (2 * i) w t
-      (form_at z.code pc 6 (read_code place list) (Jump condition.NotEqual 3) h refl) (ap not m.flag) to m.has) (λ u j.
-      fetch_part place.elements (pc + 26) pc 1 i w u s (place_is (2 * i + place.elements) g) back
-      (form_at z.code pc 9 (read_code place list) (Move (Indexed R4 place.elements) (ToRegister R4)) h refl)
-      (subst (λ n. z.code n ≡ Some (instruction_of leaves)) e30 at30)
-      (form_at z.code pc 12 (read_code place list) (push_from R4) h refl) j))
+    at18 : z.code (pc + 18) ≡ Some (instruction_of (Jump condition.NotEqual 3))
+    at18 = form_at z.code pc 6 (read_code place list) (Jump condition.NotEqual 3) h refl
 
-  read_by : (b : Bool) (place : ArrayPlace) (list : ListPlace) (pc i : ℕ) (rest : List ℕ) (w : WordState) (u : Core) → ((a : ℕ) → w.fram a < 0x10000)
-      → nat_lt i place.length ≡ b → i < 0x10000 → place.length < 0x10000 → w.stack ≡ i ∷ rest → Stands z.code pc (read_code place list) → StandsFor z pc w u
-      → Follows z (pc + 36) 23 u (if b then own_element place list i (with_stack rest w) else goes_on [] (pushed 0 (with_stack rest w)))
-  read_by false place list pc i rest w u wl lt r l e h k =
-      let x = with_stack rest w in
-      let m = memory_as z pc w u (i ∷ rest) e k in
-      let at34 = form_at z.code pc 12 (read_code place list) (push_from R4) h refl in
-      let high = (z.tidy (pc + 34) _ at34).high in
-      let to : sum16 (pc + 6 + 2) (distance 12) ≡ pc + 32 = omega arith in
-      let zeroed = Move (Constant konst.Zero) (ToRegister R4) ∷ [] in
-      let at32 : Stands z.code (pc + 32) zeroed = forms_at z.code pc 11 1 (read_code place list) h in
-      let e36 : pc + 34 + 2 ≡ pc + 36 = omega arith in
-      subst (λ n. Runs z.code [] 23 u (StandsFor z n (pushed 0 x))) e36
-      (dearer z [] 10 23 u _ (omega arith)
-      (runs_on z 2 8 u _ _ [] [] (pop_part z pc i rest w u e h.0 k) (λ t j.
-      runs_on z 2 6 t _ _ [] [] (compare_part z (pc + 2) i place.length x t r l h.1.0 j) (λ t j.
-      runs_on z 2 4 t _ _ [] [] (jump_has z condition.Carry 12 (pc + 6) (pc + 32) true R4 i x t
-      (form_at z.code pc 2 (read_code place list) (Jump condition.Carry 12) h refl) (j.flag ∙ le_of_lt z i place.length false lt) to
-      (record { is = stands_elsewhere z (pc + 2 + 4) (pc + 6) x t t j.has.is (omega (arith, j.has.is.at)) refl refl refl refl; value = j.has.value }))
-      (λ t j.
-      runs_on z 1 3 t _ _ [] [] (middle z zeroed 1 (pc + 32) (pc + 34) 0 R4 x t (end_of t (forms_run zeroed t).status) j.is (tt, tt) at32 ((tt, tt), tt) refl
-      (omega (arith, j.is.at)) refl refl refl refl refl) (λ t j.
-      push_result z R4 (pc + 34) 0 x t (omega (arith, m.fits)) at34 j))))))
-  read_by true place list pc i rest w u wl lt r l e h k =
-      let x = with_stack rest w in
-      let m = memory_as z pc w u (i ∷ rest) e k in
-      let at34 = form_at z.code pc 12 (read_code place list) (push_from R4) h refl in
-      let high = (z.tidy (pc + 34) _ at34).high in
-      let marks : Stands z.code (pc + 8) (marking place list) = forms_at z.code pc 3 3 (read_code place list) h in
-      let e18 : pc + 8 + 10 ≡ pc + 18 = omega arith in
-      let same = w.fram list.ver == w.fram (2 * i + place.versions) in
-      guarded z (is_place list.ver) (pc + 36) 23 u _ (λ g1. guarded z (is_place (2 * i + place.versions)) (pc + 36) 23 u _ (λ g2.
-      let head = runs_on z 6 7 u (Has z R4 (pc + 8) x i) (Marked (pc + 18) x i same) [] []
-      (runs_on z 2 4 u _ _ [] [] (pop_part z pc i rest w u e h.0 k) (λ t j.
-      runs_on z 2 2 t _ _ [] [] (compare_part z (pc + 2) i place.length x t r l h.1.0 j) (λ t j.
-      jump_has z condition.Carry 12 (pc + 6) (pc + 8) false R4 i x t (form_at z.code pc 2 (read_code place list) (Jump condition.Carry 12) h refl)
-      (j.flag ∙ le_of_lt z i place.length true lt) (omega arith)
-      (record { is = stands_elsewhere z (pc + 2 + 4) (pc + 6) x t t j.has.is (omega (arith, j.has.is.at)) refl refl refl refl; value = j.has.value }))))
-      (λ t j. subst (λ n. Runs z.code [] 7 t (Marked n x i same)) e18
-      (mark_part place list (pc + 8) i x t wl (place_is list.ver g1) (place_is (2 * i + place.versions) g2) marks j)) in
-      then_end z (pc + 36) 13 10 u (Marked (pc + 18) x i same) [] _ _ head
-      (λ t j. own_part same place list pc i x t (omega (arith, m.fits)) refl (omega arith) h j)))
+    at34 : z.code (pc + 34) ≡ Some (instruction_of (push_from R4))
+    at34 = form_at z.code pc 12 (read_code place list) (push_from R4) h refl
 
-  pub read_part : (place : ArrayPlace) (list : ListPlace) (pc : ℕ) (vs : List ℕ) (w : WordState) (u : Core) → ((a : ℕ) → w.fram a < 0x10000)
-      → place.length < 0x10000 → w.stack ≡ vs → AllByRecursion (λ v. v < 0x10000) vs → Stands z.code pc (read_code place list) → StandsFor z pc w u
-      → Follows z (pc + 36) 23 u (with_top vs (λ i us. versioned_pushed place list i (with_stack us w)))
-  read_part place list pc [] w u wl l e s h k = tt
-  read_part place list pc (i ∷ rest) w u wl l e s h k = read_by (nat_lt i place.length) place list pc i rest w u wl refl s.0 l e h k
+    -- the word is read from the copies or the elements, and pushed
+    fetch_part : (base from o i : ℕ) (w : WordState) (t : Core) → length w.stack < z.room → IsFram (2 * i + base)
+        → sum16 (from + 4 + 2) (distance o) ≡ pc + 34
+        → z.code from ≡ Some (instruction_of (Move (Indexed R4 base) (ToRegister R4))) → z.code (from + 4) ≡ Some (instruction_of (Jump condition.Always o))
+        → Has z R4 from w (2 * i) t → Runs z.code [] 8 t (StandsFor z (pc + 36) (pushed (w.fram (2 * i + base)) w))
+    fetch_part base from o i w t s f d a b k =
+        let ms = Move (Indexed R4 base) (ToRegister R4) ∷ [] in
+        let e : pc + 34 + 2 ≡ pc + 36 = omega arith in
+        subst (λ n. Runs z.code [] 8 t (StandsFor z n (pushed (w.fram (2 * i + base)) w))) e
+        (runs_on z 3 5 t _ _ [] [] (middle z ms 3 from (from + 4) (w.fram (2 * i + base)) R4 w t (end_of t (forms_run ms t).status) k.is (tt, tt) (a, tt)
+        ((subst (λ v. IsFram (v + base)) (sym k.value) f, tt), tt) refl (omega (arith, k.is.at)) refl refl refl refl
+        (ap (λ v. t.fram (v + base)) k.value ∙ ap (λ q. q (2 * i + base)) k.is.fram)) (λ u j.
+        runs_on z 2 3 u _ _ [] [] (jump_has z condition.Always o (from + 4) (pc + 34) true R4 (w.fram (2 * i + base)) w u b refl d j) (λ u j.
+        push_result z R4 (pc + 34) (w.fram (2 * i + base)) w u s at34 j)))
+
+    -- below the length: the copy where the version words are equal, else the element
+    own_part : (b : Bool) (i : ℕ) (w : WordState) (t : Core) → length w.stack < z.room
+        → (w.fram list.ver == w.fram (2 * i + place.versions)) ≡ b → pc + 40 < 0x10000
+        → Marked (pc + 18) w i b t → Follows z (pc + 36) 10 t
+        (if b then at_place (2 * i + place.copies) (goes_on [] (pushed (w.fram (2 * i + place.copies)) w)) else at_place (2 * i + place.elements)
+        (goes_on [] (pushed (w.fram (2 * i + place.elements)) w)))
+    own_part true i w t s e high m =
+        let to : sum16 (pc + 20 + 4 + 2) (distance 4) ≡ pc + 34 = omega arith in
+        let leaves = Jump condition.Always 4 in
+        let at24 : z.code (pc + 24) ≡ Some (instruction_of leaves) = form_at z.code pc 8 (read_code place list) leaves h refl in
+        let e24 : pc + 24 ≡ pc + 20 + 4 = omega arith in
+        guarded z (is_place (2 * i + place.copies)) (pc + 36) 10 t (goes_on [] (pushed (w.fram (2 * i + place.copies)) w)) (λ g.
+        runs_on z 2 8 t _ _ [] [] (jump_has z condition.NotEqual 3 (pc + 18) (pc + 20) false R4 (2 * i) w t at18 (ap not m.flag) (omega arith) m.has) (λ u j.
+        fetch_part place.copies (pc + 20) 4 i w u s (place_is (2 * i + place.copies) g) to
+        (form_at z.code pc 7 (read_code place list) (Move (Indexed R4 place.copies) (ToRegister R4)) h refl)
+        (subst (λ n. z.code n ≡ Some (instruction_of leaves)) e24 at24) j))
+    own_part false i w t s e high m =
+        let to : sum16 (pc + 18 + 2) (distance 3) ≡ pc + 26 = omega arith in
+        let back : sum16 (pc + 26 + 4 + 2) (distance 1) ≡ pc + 34 = omega arith in
+        let leaves = Jump condition.Always 1 in
+        let at30 : z.code (pc + 30) ≡ Some (instruction_of leaves) = form_at z.code pc 10 (read_code place list) leaves h refl in
+        let e30 : pc + 30 ≡ pc + 26 + 4 = omega arith in
+        guarded z (is_place (2 * i + place.elements)) (pc + 36) 10 t (goes_on [] (pushed (w.fram (2 * i + place.elements)) w)) (λ g.
+        runs_on z 2 8 t _ _ [] [] (jump_has z condition.NotEqual 3 (pc + 18) (pc + 26) true R4 (2 * i) w t at18 (ap not m.flag) to m.has) (λ u j.
+        fetch_part place.elements (pc + 26) 1 i w u s (place_is (2 * i + place.elements) g) back
+        (form_at z.code pc 9 (read_code place list) (Move (Indexed R4 place.elements) (ToRegister R4)) h refl)
+        (subst (λ n. z.code n ≡ Some (instruction_of leaves)) e30 at30) j))
+
+    read_by : (b : Bool) (i : ℕ) (rest : List ℕ) (w : WordState) (u : Core) → ((a : ℕ) → w.fram a < 0x10000)
+        → nat_lt i place.length ≡ b → i < 0x10000 → w.stack ≡ i ∷ rest → StandsFor z pc w u
+        → Follows z (pc + 36) 23 u (if b then own_element place list i (with_stack rest w) else goes_on [] (pushed 0 (with_stack rest w)))
+    read_by false i rest w u wl lt r e k =
+        let x = with_stack rest w in
+        let m = memory_as z pc w u (i ∷ rest) e k in
+        let high = (z.tidy (pc + 34) _ at34).high in
+        let to : sum16 (pc + 6 + 2) (distance 12) ≡ pc + 32 = omega arith in
+        let zeroed = Move (Constant konst.Zero) (ToRegister R4) ∷ [] in
+        let at32 : Stands z.code (pc + 32) zeroed = forms_at z.code pc 11 1 (read_code place list) h in
+        let e36 : pc + 34 + 2 ≡ pc + 36 = omega arith in
+        subst (λ n. Runs z.code [] 23 u (StandsFor z n (pushed 0 x))) e36
+        (dearer z [] 10 23 u _ (omega arith)
+        (runs_on z 2 8 u _ _ [] [] (pop_part z pc i rest w u e h.0 k) (λ t j.
+        runs_on z 2 6 t _ _ [] [] (compare_part z (pc + 2) i place.length x t r l h.1.0 j) (λ t j.
+        runs_on z 2 4 t _ _ [] [] (jump_has z condition.Carry 12 (pc + 6) (pc + 32) true R4 i x t at6 (j.flag ∙ le_of_lt z i place.length false lt) to
+        (record { is = stands_elsewhere z (pc + 2 + 4) (pc + 6) x t t j.has.is (omega (arith, j.has.is.at)) refl refl refl refl; value = j.has.value }))
+        (λ t j.
+        runs_on z 1 3 t _ _ [] [] (middle z zeroed 1 (pc + 32) (pc + 34) 0 R4 x t (end_of t (forms_run zeroed t).status) j.is (tt, tt) at32 ((tt, tt), tt) refl
+        (omega (arith, j.is.at)) refl refl refl refl refl) (λ t j.
+        push_result z R4 (pc + 34) 0 x t (omega (arith, m.fits)) at34 j))))))
+    read_by true i rest w u wl lt r e k =
+        let x = with_stack rest w in
+        let m = memory_as z pc w u (i ∷ rest) e k in
+        let high = (z.tidy (pc + 34) _ at34).high in
+        let marks : Stands z.code (pc + 8) (marking place list) = forms_at z.code pc 3 3 (read_code place list) h in
+        let e18 : pc + 8 + 10 ≡ pc + 18 = omega arith in
+        let same = w.fram list.ver == w.fram (2 * i + place.versions) in
+        guarded z (is_place list.ver) (pc + 36) 23 u _ (λ g1. guarded z (is_place (2 * i + place.versions)) (pc + 36) 23 u _ (λ g2.
+        let head = runs_on z 6 7 u (Has z R4 (pc + 8) x i) (Marked (pc + 18) x i same) [] []
+        (runs_on z 2 4 u _ _ [] [] (pop_part z pc i rest w u e h.0 k) (λ t j.
+        runs_on z 2 2 t _ _ [] [] (compare_part z (pc + 2) i place.length x t r l h.1.0 j) (λ t j.
+        jump_has z condition.Carry 12 (pc + 6) (pc + 8) false R4 i x t at6 (j.flag ∙ le_of_lt z i place.length true lt) (omega arith)
+        (record { is = stands_elsewhere z (pc + 2 + 4) (pc + 6) x t t j.has.is (omega (arith, j.has.is.at)) refl refl refl refl; value = j.has.value }))))
+        (λ t j. subst (λ n. Runs z.code [] 7 t (Marked n x i same)) e18
+        (mark_part place list (pc + 8) i x t wl (place_is list.ver g1) (place_is (2 * i + place.versions) g2) marks j)) in
+        then_end z (pc + 36) 13 10 u (Marked (pc + 18) x i same) [] _ _ head
+        (λ t j. own_part same i x t (omega (arith, m.fits)) refl (omega arith) j)))
+
+    -- the word at an index, if that is below the length
+    pub read_part : (vs : List ℕ) (w : WordState) (u : Core) → ((a : ℕ) → w.fram a < 0x10000)
+        → w.stack ≡ vs → AllByRecursion (λ v. v < 0x10000) vs → StandsFor z pc w u
+        → Follows z (pc + 36) 23 u (with_top vs (λ i us. versioned_pushed place list i (with_stack us w)))
+    read_part [] w u wl e s k = tt
+    read_part (i ∷ rest) w u wl e s k = read_by (nat_lt i place.length) i rest w u wl refl s.0 e k
 
   -- nothing is promised of what strays, behind effects too
   guarded_behind : (c : Bool) (pc most : ℕ) (u : Core) (es : List Effect) (b : Behaviour) → (c ≡ true → Follows z pc most u (behind_effects es b))
@@ -182,33 +185,35 @@ module _ (z : Setting) where
       Calculate op.Add (Register R4) R4 ∷ Move (Register R5) (ToIndexed R4 place.copies) ∷ Move (Fram list.ver) (ToRegister R6) ∷ Calculate op.Cmp
       (Indexed R4 place.versions) R6 ∷ []
 
-  -- the word is stored in the copy
-  copy_part : (place : ArrayPlace) (list : ListPlace) (pc i v : ℕ) (w : WordState) (t : Core) → ((a : ℕ) → w.fram a < 0x10000) → v < 0x10000
-      → IsFram (2 * i + place.copies) → IsFram list.ver → IsFram (2 * i + place.versions) → Stands z.code pc (copying place list) → HasTwo z pc w i v t
-      → (let y = stored (2 * i + place.copies) v w in
-      Runs z.code (Store (2 * i + place.copies) v ∷ []) 11 t (Copied (pc + 14) y i (y.fram list.ver) (y.fram list.ver == y.fram (2 * i + place.versions))))
-  copy_part place list pc i v w t l lv f g k h j =
-      let ms = copying place list in
-      let c = 2 * i + place.copies in
-      let m = 2 * i + place.versions in
-      let y = stored c v w in
-      let fh = f.high in
-      let d : (t.work 4 + t.work 4 + 0) % 0x10000 ≡ 2 * i = ap (λ q. (q + q + 0) % 0x10000) j.four ∙ twice i place.copies fh in
-      let a : (t.work 4 + t.work 4 + 0) % 0x10000 + place.copies ≡ c = ap (λ q. q + place.copies) d in
-      let fr : put t.fram ((t.work 4 + t.work 4 + 0) % 0x10000 + place.copies) (t.work 5) ≡ y.fram = ap (λ q. put t.fram q (t.work 5)) a
-      ∙ ap (put t.fram c) j.five ∙ ap (λ q. put q c v) j.is.fram in
-      let yl = put_words w.fram c v l lv in
-      subst (λ es. Runs z.code es 11 t (Copied (pc + 14) y i (y.fram list.ver) (y.fram list.ver == y.fram m))) (ap₂ (λ p q. Store p q ∷ []) a j.five)
-      (straight z ms 11 t (end_of t (forms_run ms t).status) (Store ((t.work 4 + t.work 4 + 0) % 0x10000 + place.copies) (t.work 5) ∷ []) 11 _
-      (tt, (tt, (tt, (tt, tt)))) (stands_at z.code pc ms t h j.is.at)
-      ((tt, tt), ((tt, subst IsFram (sym a) f), ((g, tt), ((tt, subst (λ q. IsFram (q + place.versions)) (sym d) k), tt)))) refl (omega arith)
-      (record {
-        is = record { at = omega (arith, j.is.at); memory = j.is.memory; fram = fr; readings = j.is.readings };
-        four = d;
-        six = ap (λ q. q list.ver) fr;
-        flag = ap₂ (λ p q. (p + (0xFFFF - q) + 1) % 0x10000 == 0) (ap (λ q. q list.ver) fr) (ap₂ (λ q r. q (r + place.versions)) fr d)
-            ∙ equal_flag (y.fram list.ver) (y.fram m) (yl list.ver) (yl m);
-      }))
+  -- a store to the copy
+  module _ (place : ArrayPlace) (list : ListPlace) where
+    -- the word is stored
+    copy_part : (pc i v : ℕ) (w : WordState) (t : Core) → ((a : ℕ) → w.fram a < 0x10000) → v < 0x10000
+        → IsFram (2 * i + place.copies) → IsFram list.ver → IsFram (2 * i + place.versions) → Stands z.code pc (copying place list) → HasTwo z pc w i v t
+        → (let y = stored (2 * i + place.copies) v w in
+        Runs z.code (Store (2 * i + place.copies) v ∷ []) 11 t (Copied (pc + 14) y i (y.fram list.ver) (y.fram list.ver == y.fram (2 * i + place.versions))))
+    copy_part pc i v w t l lv f g k h j =
+        let ms = copying place list in
+        let c = 2 * i + place.copies in
+        let m = 2 * i + place.versions in
+        let y = stored c v w in
+        let fh = f.high in
+        let d : (t.work 4 + t.work 4 + 0) % 0x10000 ≡ 2 * i = ap (λ q. (q + q + 0) % 0x10000) j.four ∙ twice i place.copies fh in
+        let a : (t.work 4 + t.work 4 + 0) % 0x10000 + place.copies ≡ c = ap (λ q. q + place.copies) d in
+        let fr : put t.fram ((t.work 4 + t.work 4 + 0) % 0x10000 + place.copies) (t.work 5) ≡ y.fram = ap (λ q. put t.fram q (t.work 5)) a
+        ∙ ap (put t.fram c) j.five ∙ ap (λ q. put q c v) j.is.fram in
+        let yl = put_words w.fram c v l lv in
+        subst (λ es. Runs z.code es 11 t (Copied (pc + 14) y i (y.fram list.ver) (y.fram list.ver == y.fram m))) (ap₂ (λ p q. Store p q ∷ []) a j.five)
+        (straight z ms 11 t (end_of t (forms_run ms t).status) (Store ((t.work 4 + t.work 4 + 0) % 0x10000 + place.copies) (t.work 5) ∷ []) 11 _
+        (tt, (tt, (tt, (tt, tt)))) (stands_at z.code pc ms t h j.is.at)
+        ((tt, tt), ((tt, subst IsFram (sym a) f), ((g, tt), ((tt, subst (λ q. IsFram (q + place.versions)) (sym d) k), tt)))) refl (omega arith)
+        (record {
+          is = record { at = omega (arith, j.is.at); memory = j.is.memory; fram = fr; readings = j.is.readings };
+          four = d;
+          six = ap (λ q. q list.ver) fr;
+          flag = ap₂ (λ p q. (p + (0xFFFF - q) + 1) % 0x10000 == 0) (ap (λ q. q list.ver) fr) (ap₂ (λ q r. q (r + place.versions)) fr d)
+              ∙ equal_flag (y.fram list.ver) (y.fram m) (yl list.ver) (yl m);
+        }))
 
   -- the first store to it: the version word, the entry, the count
   first_part : (place : ArrayPlace) (list : ListPlace) (pc i : ℕ) (b : Bool) (w : WordState) (t : Core) → IsFram (2 * i + place.copies)
@@ -269,44 +274,6 @@ module _ (z : Setting) where
         readings = j.is.readings;
       }))))))
 
-  -- by whether the version word is the attempt's number
-  own_stored_part : (b : Bool) (place : ArrayPlace) (list : ListPlace) (pc i v : ℕ) (w : WordState) (t : Core) → ((a : ℕ) → w.fram a < 0x10000) → v < 0x10000
-      → IsFram (2 * i + place.copies) → IsFram list.ver → IsFram (2 * i + place.versions)
-      → (let y = stored (2 * i + place.copies) v w in
-      (y.fram list.ver == y.fram (2 * i + place.versions)) ≡ b → Stands z.code pc (write_code place list) → HasTwo z (pc + 10) w i v t
-      → Follows z (pc + 64) 41 t (if b then goes_on (Store (2 * i + place.copies) v ∷ []) y else behind_effects (Store (2 * i + place.copies) v ∷ [])
-      (first_stored place list i y)))
-  own_stored_part true place list pc i v w t l lv fc fv fm e h j =
-      let c = 2 * i + place.copies in
-      let y = stored c v w in
-      let copies : Stands z.code (pc + 10) (copying place list) = forms_at z.code pc 4 4 (write_code place list) h in
-      let at24 = form_at z.code pc 8 (write_code place list) (Jump condition.Equal 19) h refl in
-      let at60 : z.code (pc + 60) ≡ Some (instruction_of (Move (Register R6) (ToFram list.cln))) =
-      form_at z.code pc 20 (write_code place list) (Move (Register R6) (ToFram list.cln)) h refl in
-      let high = (z.tidy (pc + 60) _ at60).high in
-      let to : sum16 (pc + 24 + 2) (distance 19) ≡ pc + 64 = omega arith in
-      let e24 : pc + 10 + 14 ≡ pc + 24 = omega arith in
-      runs_on z 11 30 t _ _ (Store c v ∷ []) [] (copy_part place list (pc + 10) i v w t l lv fc fv fm copies j) (λ u k.
-      let k24 = subst (λ n. StandsFor z n y u) e24 k.is in
-      dearer z [] 2 30 u _ (omega arith) (jump_to z condition.Equal 19 (pc + 24) (pc + 64) true y u at24 (k.flag ∙ e) to k24))
-  own_stored_part false place list pc i v w t l lv fc fv fm e h j =
-      let c = 2 * i + place.copies in
-      let y = stored c v w in
-      let copies : Stands z.code (pc + 10) (copying place list) = forms_at z.code pc 4 4 (write_code place list) h in
-      let at24 : z.code (pc + 24) ≡ Some (instruction_of (Jump condition.Equal 19)) =
-      form_at z.code pc 8 (write_code place list) (Jump condition.Equal 19) h refl in
-      let rest : Stands z.code (pc + 26) (first_code place list) = forms_behind z.code pc 9 (write_code place list) h in
-      let e24 : pc + 10 + 14 ≡ pc + 24 = omega arith in
-      let e64 : pc + 26 + 38 ≡ pc + 64 = omega arith in
-      subst (λ n. Follows z n 41 t (behind_effects (Store c v ∷ []) (first_stored place list i y))) e64
-      (then_end z (pc + 26 + 38) 11 30 t _ (Store c v ∷ []) (first_stored place list i y).effects (first_stored place list i y).end
-      (copy_part place list (pc + 10) i v w t l lv fc fv fm copies j) (λ u k.
-      let p24 : u.pc ≡ pc + 24 = k.is.at ∙ e24 in
-      then_end z (pc + 26 + 38) 2 28 u (Copied (pc + 26) y i (y.fram list.ver) false) [] (first_stored place list i y).effects (first_stored place list i y).end
-      (jump_exact z condition.Equal 19 (pc + 26) false u _ (ap z.code p24 ∙ at24) (k.flag ∙ e) (omega (arith, p24))
-      (record { is = stands_elsewhere z (pc + 10 + 14) (pc + 26) y u _ k.is refl refl refl refl refl; four = k.four; six = k.six; flag = k.flag ∙ e }))
-      (λ u' k'. first_part place list (pc + 26) i false y u' fc fm rest k')))
-
   record ComparedTwo (pc : ℕ) (w : WordState) (i v : ℕ) (b : Bool) (t : Core) : Type 0 where
     two : HasTwo z pc w i v t
     flag : t.flags.c ≡ b
@@ -322,47 +289,90 @@ module _ (z : Setting) where
         flag = ap (λ q. nat_le 0x10000 (q + (0xFFFF - size) + 1)) k.four ∙ no_borrow i size a b;
       })
 
-  write_by : (b : Bool) (place : ArrayPlace) (list : ListPlace) (pc i v : ℕ) (rest : List ℕ) (w : WordState) (u : Core) → ((a : ℕ) → w.fram a < 0x10000)
-      → nat_lt i place.length ≡ b → i < 0x10000 → v < 0x10000 → place.length < 0x10000 → w.stack ≡ v ∷ (i ∷ rest) → Stands z.code pc (write_code place list)
-      → StandsFor z pc w u
-      → Follows z (pc + 64) 49 u (if b then own_stored place list i v (with_stack rest w) else goes_on [] (with_stack rest w))
-  write_by false place list pc i v rest w u wl lt r s l e h k =
-      let x = with_stack rest w in
-      let at8 : z.code (pc + 8) ≡ Some (instruction_of (Jump condition.Carry 27)) =
-      form_at z.code pc 3 (write_code place list) (Jump condition.Carry 27) h refl in
-      let at60 : z.code (pc + 60) ≡ Some (instruction_of (Move (Register R6) (ToFram list.cln))) =
-      form_at z.code pc 20 (write_code place list) (Move (Register R6) (ToFram list.cln)) h refl in
-      let high = (z.tidy (pc + 60) _ at60).high in
-      let to : sum16 (pc + 8 + 2) (distance 27) ≡ pc + 64 = omega arith in
-      let e8 : pc + 4 + 4 ≡ pc + 8 = omega arith in
-      dearer z [] 8 49 u _ (omega arith)
-      (runs_on z 4 4 u _ _ [] [] (pop_two z pc i v rest w u e (h.0, (h.1.0, tt)) k) (λ t j.
-      runs_on z 2 2 t _ _ [] [] (compare_two (pc + 4) i v place.length x t r l
-      (form_at z.code pc 2 (write_code place list) (Calculate op.Cmp (Number place.length) R4) h refl) j) (λ t q.
-      jump_to z condition.Carry 27 (pc + 8) (pc + 64) true x t at8 (q.flag ∙ le_of_lt z i place.length false lt) to
-      (subst (λ n. StandsFor z n x t) e8 q.two.is))))
-  write_by true place list pc i v rest w u wl lt r s l e h k =
-      let x = with_stack rest w in
-      let c = 2 * i + place.copies in
-      let y = stored c v x in
-      let at8 : z.code (pc + 8) ≡ Some (instruction_of (Jump condition.Carry 27)) =
-      form_at z.code pc 3 (write_code place list) (Jump condition.Carry 27) h refl in
-      let e8 : pc + 4 + 4 ≡ pc + 8 = omega arith in
-      guarded z (is_place c) (pc + 64) 49 u _ (λ g1. guarded z (is_place list.ver) (pc + 64) 49 u _
-      (λ g2. guarded z (is_place (2 * i + place.versions)) (pc + 64) 49 u _ (λ g3.
-      then_end z (pc + 64) 8 41 u (HasTwo z (pc + 10) x i v) [] _ _
-      (runs_on z 4 4 u _ _ [] [] (pop_two z pc i v rest w u e (h.0, (h.1.0, tt)) k) (λ t j.
-      runs_on z 2 2 t _ _ [] [] (compare_two (pc + 4) i v place.length x t r l
-      (form_at z.code pc 2 (write_code place list) (Calculate op.Cmp (Number place.length) R4) h refl) j) (λ t q.
-      let p8 : t.pc ≡ pc + 8 = q.two.is.at ∙ e8 in
-      jump_exact z condition.Carry 27 (pc + 10) false t _ (ap z.code p8 ∙ at8) (q.flag ∙ le_of_lt z i place.length true lt) (omega (arith, p8))
-      (record { is = stands_elsewhere z (pc + 4 + 4) (pc + 10) x t _ q.two.is refl refl refl refl refl; four = q.two.four; five = q.two.five }))))
-      (λ t j. own_stored_part (y.fram list.ver == y.fram (2 * i + place.versions)) place list pc i v x t wl s (place_is c g1) (place_is list.ver g2)
-      (place_is (2 * i + place.versions) g3) refl h j))))
+  -- a write, where its code stands
+  module _ (place : ArrayPlace) (list : ListPlace) (pc : ℕ) (l : place.length < 0x10000) (h : Stands z.code pc (write_code place list)) where
+    at4 : z.code (pc + 4) ≡ Some (instruction_of (Calculate op.Cmp (Number place.length) R4))
+    at4 = form_at z.code pc 2 (write_code place list) (Calculate op.Cmp (Number place.length) R4) h refl
 
-  pub write_part : (place : ArrayPlace) (list : ListPlace) (pc : ℕ) (vs : List ℕ) (w : WordState) (u : Core) → ((a : ℕ) → w.fram a < 0x10000)
-      → place.length < 0x10000 → w.stack ≡ vs → AllByRecursion (λ v. v < 0x10000) vs → Stands z.code pc (write_code place list) → StandsFor z pc w u
-      → Follows z (pc + 64) 49 u (with_two vs (λ i v us. versioned_stored place list i v (with_stack us w)))
-  write_part place list pc [] w u wl l e s h k = tt
-  write_part place list pc (v ∷ []) w u wl l e s h k = tt
-  write_part place list pc (v ∷ (i ∷ rest)) w u wl l e s h k = write_by (nat_lt i place.length) place list pc i v rest w u wl refl s.1.0 s.0 l e h k
+    at8 : z.code (pc + 8) ≡ Some (instruction_of (Jump condition.Carry 27))
+    at8 = form_at z.code pc 3 (write_code place list) (Jump condition.Carry 27) h refl
+
+    copies : Stands z.code (pc + 10) (copying place list)
+    copies = forms_at z.code pc 4 4 (write_code place list) h
+
+    at24 : z.code (pc + 24) ≡ Some (instruction_of (Jump condition.Equal 19))
+    at24 = form_at z.code pc 8 (write_code place list) (Jump condition.Equal 19) h refl
+
+    behind : Stands z.code (pc + 26) (first_code place list)
+    behind = forms_behind z.code pc 9 (write_code place list) h
+
+    at60 : z.code (pc + 60) ≡ Some (instruction_of (Move (Register R6) (ToFram list.cln)))
+    at60 = form_at z.code pc 20 (write_code place list) (Move (Register R6) (ToFram list.cln)) h refl
+
+    -- by whether the version word is the attempt's number
+    own_stored_part : (b : Bool) (i v : ℕ) (w : WordState) (t : Core) → ((a : ℕ) → w.fram a < 0x10000) → v < 0x10000
+        → IsFram (2 * i + place.copies) → IsFram list.ver → IsFram (2 * i + place.versions)
+        → (let y = stored (2 * i + place.copies) v w in
+        (y.fram list.ver == y.fram (2 * i + place.versions)) ≡ b → HasTwo z (pc + 10) w i v t
+        → Follows z (pc + 64) 41 t (if b then goes_on (Store (2 * i + place.copies) v ∷ []) y else behind_effects (Store (2 * i + place.copies) v ∷ [])
+        (first_stored place list i y)))
+    own_stored_part true i v w t wl lv fc fv fm e j =
+        let c = 2 * i + place.copies in
+        let y = stored c v w in
+        let high = (z.tidy (pc + 60) _ at60).high in
+        let to : sum16 (pc + 24 + 2) (distance 19) ≡ pc + 64 = omega arith in
+        let e24 : pc + 10 + 14 ≡ pc + 24 = omega arith in
+        runs_on z 11 30 t _ _ (Store c v ∷ []) [] (copy_part place list (pc + 10) i v w t wl lv fc fv fm copies j) (λ u k.
+        let k24 = subst (λ n. StandsFor z n y u) e24 k.is in
+        dearer z [] 2 30 u _ (omega arith) (jump_to z condition.Equal 19 (pc + 24) (pc + 64) true y u at24 (k.flag ∙ e) to k24))
+    own_stored_part false i v w t wl lv fc fv fm e j =
+        let c = 2 * i + place.copies in
+        let y = stored c v w in
+        let e24 : pc + 10 + 14 ≡ pc + 24 = omega arith in
+        let e64 : pc + 26 + 38 ≡ pc + 64 = omega arith in
+        subst (λ n. Follows z n 41 t (behind_effects (Store c v ∷ []) (first_stored place list i y))) e64
+        (then_end z (pc + 26 + 38) 11 30 t _ (Store c v ∷ []) (first_stored place list i y).effects (first_stored place list i y).end
+        (copy_part place list (pc + 10) i v w t wl lv fc fv fm copies j) (λ u k.
+        let p24 : u.pc ≡ pc + 24 = k.is.at ∙ e24 in
+        then_end z (pc + 26 + 38) 2 28 u (Copied (pc + 26) y i (y.fram list.ver) false) [] (first_stored place list i y).effects
+        (first_stored place list i y).end
+        (jump_exact z condition.Equal 19 (pc + 26) false u _ (ap z.code p24 ∙ at24) (k.flag ∙ e) (omega (arith, p24))
+        (record { is = stands_elsewhere z (pc + 10 + 14) (pc + 26) y u _ k.is refl refl refl refl refl; four = k.four; six = k.six; flag = k.flag ∙ e }))
+        (λ u' k'. first_part place list (pc + 26) i false y u' fc fm behind k')))
+
+    write_by : (b : Bool) (i v : ℕ) (rest : List ℕ) (w : WordState) (u : Core) → ((a : ℕ) → w.fram a < 0x10000)
+        → nat_lt i place.length ≡ b → i < 0x10000 → v < 0x10000 → w.stack ≡ v ∷ (i ∷ rest) → StandsFor z pc w u
+        → Follows z (pc + 64) 49 u (if b then own_stored place list i v (with_stack rest w) else goes_on [] (with_stack rest w))
+    write_by false i v rest w u wl lt r s e k =
+        let x = with_stack rest w in
+        let high = (z.tidy (pc + 60) _ at60).high in
+        let to : sum16 (pc + 8 + 2) (distance 27) ≡ pc + 64 = omega arith in
+        let e8 : pc + 4 + 4 ≡ pc + 8 = omega arith in
+        dearer z [] 8 49 u _ (omega arith)
+        (runs_on z 4 4 u _ _ [] [] (pop_two z pc i v rest w u e (h.0, (h.1.0, tt)) k) (λ t j.
+        runs_on z 2 2 t _ _ [] [] (compare_two (pc + 4) i v place.length x t r l at4 j) (λ t q.
+        jump_to z condition.Carry 27 (pc + 8) (pc + 64) true x t at8 (q.flag ∙ le_of_lt z i place.length false lt) to
+        (subst (λ n. StandsFor z n x t) e8 q.two.is))))
+    write_by true i v rest w u wl lt r s e k =
+        let x = with_stack rest w in
+        let c = 2 * i + place.copies in
+        let y = stored c v x in
+        let e8 : pc + 4 + 4 ≡ pc + 8 = omega arith in
+        guarded z (is_place c) (pc + 64) 49 u _ (λ g1. guarded z (is_place list.ver) (pc + 64) 49 u _
+        (λ g2. guarded z (is_place (2 * i + place.versions)) (pc + 64) 49 u _ (λ g3.
+        then_end z (pc + 64) 8 41 u (HasTwo z (pc + 10) x i v) [] _ _
+        (runs_on z 4 4 u _ _ [] [] (pop_two z pc i v rest w u e (h.0, (h.1.0, tt)) k) (λ t j.
+        runs_on z 2 2 t _ _ [] [] (compare_two (pc + 4) i v place.length x t r l at4 j) (λ t q.
+        let p8 : t.pc ≡ pc + 8 = q.two.is.at ∙ e8 in
+        jump_exact z condition.Carry 27 (pc + 10) false t _ (ap z.code p8 ∙ at8) (q.flag ∙ le_of_lt z i place.length true lt) (omega (arith, p8))
+        (record { is = stands_elsewhere z (pc + 4 + 4) (pc + 10) x t _ q.two.is refl refl refl refl refl; four = q.two.four; five = q.two.five }))))
+        (λ t j. own_stored_part (y.fram list.ver == y.fram (2 * i + place.versions)) i v x t wl s (place_is c g1) (place_is list.ver g2)
+        (place_is (2 * i + place.versions) g3) refl j))))
+
+    -- a word is written at an index, if that is below the length
+    pub write_part : (vs : List ℕ) (w : WordState) (u : Core) → ((a : ℕ) → w.fram a < 0x10000)
+        → w.stack ≡ vs → AllByRecursion (λ v. v < 0x10000) vs → StandsFor z pc w u
+        → Follows z (pc + 64) 49 u (with_two vs (λ i v us. versioned_stored place list i v (with_stack us w)))
+    write_part [] w u wl e s k = tt
+    write_part (v ∷ []) w u wl e s k = tt
+    write_part (v ∷ (i ∷ rest)) w u wl e s k = write_by (nat_lt i place.length) i v rest w u wl refl s.1.0 s.0 e k

@@ -150,11 +150,11 @@ module _ (z : Setting) where
     step_follows (shift op k) next pc w u r o l c h i =
         ends_at z _ (pc + 2 * step_words (shift op k)) 15 u (step_behaviour (shift op k) w) (omega (arith, shift_length op k))
         (shift_part z op k pc w u w.stack refl r.words_in.stack h i)
-    step_follows (element base size) next pc w u r o l c h i = element_part z base size pc w.stack w u o.1 refl r.words_in.stack h i
+    step_follows (element base size) next pc w u r o l c h i = element_part z base size pc o.1 h w.stack w u refl r.words_in.stack i
     step_follows (emit_word count buffer) next pc w u r o l c h i = emit_part z count buffer pc w.stack w u refl h i
     step_follows (list_entry count list home copy) next pc w u r o l c h i = entry_part z count list home copy pc w u h i
-    step_follows (versioned_read place list) next pc w u r o l c h i = read_part z place list pc w.stack w u r.words_in.fram o.0.3 refl r.words_in.stack h i
-    step_follows (versioned_write place list) next pc w u r o l c h i = write_part z place list pc w.stack w u r.words_in.fram o.0.3 refl r.words_in.stack h i
+    step_follows (versioned_read place list) next pc w u r o l c h i = read_part z place list pc o.0.3 h w.stack w u r.words_in.fram refl r.words_in.stack i
+    step_follows (versioned_write place list) next pc w u r o l c h i = write_part z place list pc o.0.3 h w.stack w u r.words_in.fram refl r.words_in.stack i
     step_follows sense next pc w u r o l c h i = sense_part z pc w u w.readings (omega (arith, r.fit.1, r.matches.depth)) refl h i
     step_follows (choose taken otherwise) next pc w u r o l c h i =
         let other = pc + 14 + 2 * words_of taken in
@@ -169,8 +169,8 @@ module _ (z : Setting) where
         subst (λ n. Stands z.code n b) (omega (arith, code_length (pc + 10) taken)) (stands_back z.code (pc + 10) a tail ha).1 in
         ends_at z (pc + 14 + forms_bytes a + forms_bytes b) (pc + 2 * step_words (choose taken otherwise)) (step_spent (choose taken otherwise) w) u
         (step_behaviour (choose taken otherwise) w) (omega (arith, code_length (pc + 10) taken, code_length other otherwise))
-        (choice_part z a b pc (λ us. spent taken (with_stack us w)) (λ us. spent otherwise (with_stack us w)) w u w.stack (behaviour taken)
-        (behaviour otherwise) refl r.words_in.stack g i
+        (choice_part z a b pc g (λ us. spent taken (with_stack us w)) (λ us. spent otherwise (with_stack us w)) w u w.stack (behaviour taken)
+        (behaviour otherwise) refl r.words_in.stack i
         (λ v us t q j. ends_at z (pc + 10 + 2 * words_of taken) _ (spent taken (with_stack us w)) t (behaviour taken (with_stack us w))
         (omega (arith, code_length (pc + 10) taken))
         (program_follows taken next (pc + 10) (with_stack us w) t
@@ -192,7 +192,7 @@ module _ (z : Setting) where
         let turn : ℕ → Place → Type 0 = λ m. EachTurn m n (EachWay z.room body) next in
         ends_at z (pc + 34 + forms_bytes code) (pc + 2 * step_words (repeat n from below body)) (step_spent (repeat n from below body) w) u
         (step_behaviour (repeat n from below body) w) (omega (arith, code_length (pc + 20) body))
-        (loop_part z code pc n from below (spent body) (behaviour body) (λ m s. Ready (turn m) s) w u l.0 o.1 o.2 g i r
+        (loop_part z code pc n from below l.0 o.1 o.2 g (spent body) (behaviour body) (λ m s. Ready (turn m) s) w u i r
         (λ m k s t p less j. ends_at z (pc + 20 + 2 * words_of body) _ (spent body (with_local n k s)) t (behaviour body (with_local n k s))
         (omega (arith, code_length (pc + 20) body))
         (program_follows body (turn m) (pc + 20) (with_local n k s) t
