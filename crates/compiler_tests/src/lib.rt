@@ -7,5 +7,3 @@ mod code;
 mod layouts;
 #[cfg(test)]
 mod programs;
-#[cfg(test)]
-mod runtime;

@@ -1,8 +1,6 @@
-//! Tests of codec, board, run and assembler against words and reports that were worked out outside.
+//! Tests of codec, board, run and assembler, as far as no run of the program shows them, against words and counts from outside.
 #![tactic(auto)]
 
-#[cfg(test)]
-mod assembler;
 #[cfg(test)]
 mod boards;
 #[cfg(test)]

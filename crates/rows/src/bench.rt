@@ -1,6 +1,7 @@
 //! Files in memory, a call of the program over them, and what of its answer no part has said yet.
-use crate::calls::{is_compiled, is_first_word, is_kept, is_printed};
+use crate::calls::{is_compiled, is_first_word, is_image_printed, is_kept, is_printed};
 use crate::parts::Part;
+use crate::series::Series;
 use crate::turns::{ROOM, Turns};
 use alp_io::{MemShelf, MemSink, Shelf};
 use alpaca_cli::alpaca;
@@ -13,6 +14,7 @@ pub struct Bench {
     rt: HostRuntime,
     alloc: Global,
     failing: Failing,
+    series: Series,
     shelf: MemShelf,
     /// The names of the row's files.
     names: Vec<String>,
@@ -72,6 +74,10 @@ impl Failing {
     }
 }
 
+// What the program tells of words that are no line.
+const USAGE: &[u8] =
+    b"usage: alpaca mean SRC TRACE | try SRC TRACE IMAGE | build SRC IMAGE | run IMAGE TRACE | asm ASM IMAGE | dis IMAGE | gen N IMAGE\n";
+
 // Whether an output is this text; it is said then.
 fn is_said(found: &mut Vec<u8>, text: &[u8]) -> bool {
     let met = found.as_slice() == text;
@@ -105,6 +111,7 @@ impl Bench {
             rt,
             alloc,
             failing: Failing::none(alloc),
+            series: Series::none(alloc),
             shelf: MemShelf::new(Vec::new(alloc), Vec::new(alloc), Vec::new(alloc)),
             names: Vec::new(alloc),
             failed: String::new(alloc),
@@ -124,6 +131,9 @@ impl Bench {
             b"file" => self.put(said, &part.text)?,
             b"call" => return self.call(said, &part.text),
             b"each" => return self.call_in_turns(said, &part.text),
+            b"with" => self.begin_series(said, &part.text)?,
+            b"accepted" | b"refused" | b"fault" | b"end" => return self.call_over(kind, part),
+            b"usage" => return self.call_for_usage(said, &part.text),
             b"failed" => self.says_failed(said),
             b"status" => self.says_status(said),
             b"out" => is_said(&mut self.out, &part.text),
@@ -133,7 +143,9 @@ impl Bench {
             b"has" => self.shelf.file(said).is_some(),
             b"lacks" => self.shelf.file(said).is_none(),
             b"like" => self.are_like(said),
+            b"begins" => self.says_begin(&part.text),
             b"ends" => self.says_end(said, &part.text),
+            b"shows" => self.is_shown(said, &part.text),
             b"size" => self.has_size(said),
             b"prints" | b"compiles" | b"word" | b"real" => self.calls_below(
                 kind, said, &part.text,
@@ -157,6 +169,15 @@ impl Bench {
         )?)
     }
 
+    // Whether the output begins so; it is said then.
+    fn says_begin(&mut self, front: &[u8]) -> bool {
+        let met = self.out.starts_with(front);
+        if met {
+            self.out.clear();
+        }
+        met
+    }
+
     // Whether the output has so many lines, and ends so; it is said then.
     fn says_end(&mut self, lines: &str, end: &[u8]) -> bool {
         let count = self.out.iter().filter(|byte| **byte == b'\n').count();
@@ -178,11 +199,18 @@ impl Bench {
         }
     }
 
+    // Whether this text stands somewhere in the one under a name.
+    fn is_shown(&self, name: &str, text: &[u8]) -> bool {
+        let bytes = self.shelf.file(name).unwrap_or(b"");
+        (0..bytes.len()).any(|from| bytes[from..].starts_with(text))
+    }
+
     // Whether a call that the program doesn't make answers so.
     fn calls_below(&self, kind: &str, said: &str, text: &[u8]) -> Result<bool> {
         let (front, name) = said.rsplit_once(" ").unwrap_or(("", said));
         let file = self.shelf.file(name).unwrap_or(b"");
         match kind.as_bytes() {
+            b"prints" if front == "image" => is_image_printed(self.alloc, file, text),
             b"prints" => is_printed(self.alloc, file, text),
             b"compiles" => {
                 let source = self.shelf.file(front).unwrap_or(b"");
@@ -263,6 +291,61 @@ impl Bench {
         self.err = err.bytes().to_vec(self.alloc)?;
         self.calls = self.calls.saturating_add(1);
         Ok(unsaid)
+    }
+
+    // A series begins: `NAME WORD ..`, and what stands in front of each of its texts.
+    fn begin_series(&mut self, said: &str, front: &[u8]) -> Result<bool> {
+        self.series = Series::of(self.alloc, said, front)?;
+        Ok(true)
+    }
+
+    // Calls the program over a text of the series, which it answers so.
+    fn call_over(&mut self, kind: &str, part: &Part<'_>) -> Result<Option<String>> {
+        let text = self.series.text(self.alloc, &part.text)?;
+        self.shelf.put(self.alloc, &self.series.name, &text)?;
+        let words = String::from_str(self.alloc, &self.series.words)?;
+        let unsaid = self.call(&words, b"")?;
+        self.is_answered(kind, part.head, unsaid)
+    }
+
+    // Calls the program with words that are no line.
+    fn call_for_usage(&mut self, said: &str, text: &[u8]) -> Result<Option<String>> {
+        let unsaid = self.call(said, text)?;
+        self.is_answered("usage", "", unsaid)
+    }
+
+    // What isn't said yet of an earlier answer, or what the last one is where it isn't as its part says.
+    fn is_answered(
+        &mut self,
+        kind: &str,
+        head: &str,
+        unsaid: Option<String>,
+    ) -> Result<Option<String>> {
+        if unsaid.is_some() || self.says_answer(kind, head)? {
+            return Ok(unsaid);
+        }
+        Ok(Some(self.found()?))
+    }
+
+    // Whether the answer is the one of such a part, whose head is the line that is told; it is said then.
+    fn says_answer(&mut self, kind: &str, head: &str) -> Result<bool> {
+        let line = format!(in self.alloc; "{head}\n")?;
+        let met = match kind.as_bytes() {
+            b"refused" => self.says_status("1") && is_said(&mut self.err, line.as_bytes()),
+            b"usage" => self.says_status("2") && is_said(&mut self.err, USAGE),
+            b"fault" => self.says_status("6")
+                && is_said(&mut self.out, line.as_bytes())
+                && is_said(&mut self.err, b"machine fault\n"),
+            b"end" => is_said(&mut self.out, line.as_bytes()),
+            _ => self.says_no_fault(),
+        };
+        Ok(met)
+    }
+
+    // Whether the call was answered well; what it wrote is said then.
+    fn says_no_fault(&mut self) -> bool {
+        self.out.clear();
+        self.status == 0 && self.err.is_empty()
     }
 
     // The file under the last word is one of the row's from now on.

@@ -2,7 +2,7 @@
 use alp_io::{DirShelf, Shelf};
 use anyhow::Result;
 use energy_trace::{parse_trace, print_trace};
-use image_text::print_image;
+use image_text::{parse_image, print_image};
 use link_image::compile;
 use source_meaning::{Meaning, accept};
 use std::alloc::Global;
@@ -18,6 +18,16 @@ pub fn is_printed(alloc: Global, text: &[u8], printed: &[u8]) -> Result<bool> {
     }
     let trace = parse_trace(alloc, text)?;
     let found = print_trace(alloc, &trace)?;
+    Ok(found.as_slice() == printed)
+}
+
+/// Whether an image is printed so.
+pub fn is_image_printed(alloc: Global, text: &[u8], printed: &[u8]) -> Result<bool> {
+    if text.len() > LIMIT {
+        return Ok(false);
+    }
+    let image = parse_image(alloc, text)?;
+    let found = print_image(alloc, &image)?;
     Ok(found.as_slice() == printed)
 }
 

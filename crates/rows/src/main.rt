@@ -11,14 +11,22 @@
 //! - `each WORD ..`: the same, and before that again and again over the same files, where each read, put and write fails in turn,
 //!   by itself and with each write to standard error, as `turns` says.
 //! - `failed READS PUTS WRITES TELLS`: so many calls failed by themselves, and each was answered as it has to be.
+//! - `with NAME WORD ..`: a series of calls with these words, each over another text under this name, behind the text that follows.
+//! - `refused NAME LINE FAULT ..`, `fault KIND ..`, `end KIND ..`, `accepted`: a call of the series over the text that follows. It
+//!   tells this line, and nothing else: of a text that is refused with status 1, of a fault of the machine with status 6, of the
+//!   end of a run with status 0; or it ends well, and what it writes isn't said.
+//! - `usage WORD ..`: the program is called with these words, which are no line: it tells how it is called, with status 2.
 //! - `status N`: what it answers; 0 where none is said.
 //! - `out` and `err`: what it writes, the text that follows; nothing where none is said.
+//! - `begins`: what it writes to the output begins with the text that follows.
 //! - `ends N`: what it writes to the output has N lines, and ends with the text that follows.
 //! - `keep NAME`: what it writes to the output is put under a name.
 //! - `holds NAME`, `has NAME`, `lacks NAME`, `like NAME NAME`: the text that follows stands under a name, some text, none, and the
 //!   same under both.
+//! - `shows NAME`: the text that follows stands somewhere in the one under a name.
 //! - `size NAME N`: a text of N bytes stands under a name.
-//! - `prints NAME`, `compiles NAME NAME`, `word V I NAME`, `real NAME`: calls that the program doesn't make, as `calls` says.
+//! - `prints NAME`, `prints image NAME`, `compiles NAME NAME`, `word V I NAME`, `real NAME`: calls that the program doesn't make,
+//!   as `calls` says.
 //!
 //! A text is made of lines `| TEXT`, which end with a line feed, and of `- TEXT` and `N * TEXT`, which don't; the last comes N
 //! times. In it `\HH` is the byte of two hexadecimal digits, `\#` the number of the turn, from 1, and `\@` the same from 0;
@@ -28,6 +36,7 @@
 mod bench;
 mod calls;
 mod parts;
+mod series;
 mod turns;
 
 use anyhow::Result;

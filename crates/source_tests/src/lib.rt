@@ -1,10 +1,7 @@
-//! Tests of the passes over sources: tokens, trees, checks, the allowance, runs, and generated sources.
+//! Tests of the passes over sources, as far as no call of the program shows them: tokens, trees that no source has, steps of the
+//! meaning, and generated sources.
 #![tactic(auto)]
 
-#[cfg(test)]
-mod allowances;
-#[cfg(test)]
-mod checks;
 #[cfg(test)]
 mod drawn;
 #[cfg(test)]
@@ -17,5 +14,3 @@ mod paths;
 mod sums;
 #[cfg(test)]
 mod tokens;
-#[cfg(test)]
-mod trees;

@@ -28,22 +28,6 @@ fn made(cycles: u32, wrote: Option<u16>) -> Result<Stepped, Stop> {
     Ok(Stepped { cycles, wrote })
 }
 
-/// Steps once from this fill and compares cycles, R4 and SR.
-fn gives(
-    rt: &impl Abort,
-    alloc: Global,
-    words: &[u16],
-    fill: u16,
-    wanted: (u32, u16, u16),
-) -> Result<(), AllocError> {
-    let mut board = loaded(alloc, words, &[5, 7])?;
-    let mut cpu = Cpu::new(PC, fill);
-    assert_eq!(rt; cost(&cpu, &board), Ok(wanted.0));
-    assert_eq!(rt; step(&mut cpu, &mut board), made(wanted.0, None));
-    assert_eq!(rt; (cpu.reg(R4), cpu.reg(Reg::Sr)), (wanted.1, wanted.2));
-    Ok(())
-}
-
 /// Stops so, with PC and the readings as before.
 fn stops(rt: &impl Abort, alloc: Global, words: &[u16], stop: Stop) -> Result<(), AllocError> {
     let mut board = loaded(alloc, words, &[1])?;
@@ -53,24 +37,32 @@ fn stops(rt: &impl Abort, alloc: Global, words: &[u16], stop: Stop) -> Result<()
     Ok(())
 }
 
+// One step from a fill of R4: its cycles, R4 and SR.
 #[test]
 fn results_and_flags(rt: HostRuntime) -> Result<(), Fail> {
-    let alloc = rt.alloc();
-    // sub #1,r4 on 8000: C 1, V 1
-    gives(&rt, alloc, &[0x8314], 0x8000, (1, 0x7fff, 0x101))?;
-    // add.b #1,r4 on 12ff: Z 1, C 1, the high byte cleared
-    gives(&rt, alloc, &[0x5354], 0x12ff, (1, 0, 3))?;
-    // xor #0x8000,r4 on 8001: V 1, C 1
-    gives(&rt, alloc, &[0xe034, 0x8000], 0x8001, (2, 1, 0x101))?;
-    // dadd #1,r4 on 0999, and dadd #-1,r4 on ffff: decimal, C the last carry
-    gives(&rt, alloc, &[0xa314], 0x0999, (1, 0x1000, 0))?;
-    gives(&rt, alloc, &[0xa334], 0xffff, (1, 0x5554, 1))?;
-    // mov #5,r4; mov #1,r4; rra.b r4 on 1200
-    gives(&rt, alloc, &[0x4034, 5], 0, (2, 5, 0))?;
-    gives(&rt, alloc, &[0x4314], 0, (1, 1, 0))?;
-    gives(&rt, alloc, &[0x1144], 0x1200, (1, 0, 2))?;
-    // mov 2(pc),r4: symbolic, from the address of its extension word
-    gives(&rt, alloc, &[0x4014, 2, 0x1234], 0, (3, 0x1234, 0))?;
+    for (words, fill, (cycles, r4, sr)) in [
+        // sub #1,r4: C 1, V 1
+        ([0x8314, 0, 0], 0x8000, (1, 0x7fff, 0x101)),
+        // add.b #1,r4: Z 1, C 1, the high byte cleared
+        ([0x5354, 0, 0], 0x12ff, (1, 0, 3)),
+        // xor #0x8000,r4: V 1, C 1
+        ([0xe034, 0x8000, 0], 0x8001, (2, 1, 0x101)),
+        // dadd #1,r4 and dadd #-1,r4: decimal, C the last carry
+        ([0xa314, 0, 0], 0x0999, (1, 0x1000, 0)),
+        ([0xa334, 0, 0], 0xffff, (1, 0x5554, 1)),
+        // mov #5,r4; mov #1,r4; rra.b r4
+        ([0x4034, 5, 0], 0, (2, 5, 0)),
+        ([0x4314, 0, 0], 0, (1, 1, 0)),
+        ([0x1144, 0, 0], 0x1200, (1, 0, 2)),
+        // mov 2(pc),r4: symbolic, from the address of its extension word
+        ([0x4014, 2, 0x1234], 0, (3, 0x1234, 0)),
+    ] {
+        let mut board = loaded(rt.alloc(), &words, &[5, 7])?;
+        let mut cpu = Cpu::new(PC, fill);
+        assert_eq!(rt; cost(&cpu, &board), Ok(cycles));
+        assert_eq!(rt; step(&mut cpu, &mut board), made(cycles, None));
+        assert_eq!(rt; (cpu.reg(R4), cpu.reg(Reg::Sr)), (r4, sr));
+    }
     Ok(())
 }
 
@@ -136,15 +128,18 @@ fn readings_are_taken_and_stay_taken(rt: HostRuntime) -> Result<(), Fail> {
 #[test]
 fn illegal_words_and_bus_faults(rt: HostRuntime) -> Result<(), Fail> {
     let alloc = rt.alloc();
-    let illegal = |word| Stop::Illegal { pc: PC, word };
-    let fault = |address| Stop::Bus { pc: PC, address };
-    stops(&rt, alloc, &[0x1800], illegal(0x1800))?;
-    stops(&rt, alloc, &[0x0000], illegal(0))?;
+    for word in [0x1800, 0x0000] {
+        stops(&rt, alloc, &[word], Stop::Illegal { pc: PC, word })?;
+    }
     // mov &0x4401,r4; mov &0x0202,r4; mov.b &0x0200,r4; mov r4,&0x0000
-    stops(&rt, alloc, &[0x4214, 0x4401], fault(0x4401))?;
-    stops(&rt, alloc, &[0x4214, 0x0202], fault(0x0202))?;
-    stops(&rt, alloc, &[0x4254, 0x0200], fault(0x0200))?;
-    stops(&rt, alloc, &[0x4482, 0x0000], fault(0))?;
+    for (word, address) in [
+        (0x4214, 0x4401),
+        (0x4214, 0x0202),
+        (0x4254, 0x0200),
+        (0x4482, 0x0000),
+    ] {
+        stops(&rt, alloc, &[word, address], Stop::Bus { pc: PC, address })?;
+    }
     Ok(())
 }
 

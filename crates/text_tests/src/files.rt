@@ -1,31 +1,11 @@
 //! What no clause says: that calls succeed with ample memory, and what files and writers of the system give.
 use alp_io::{
-    DirShelf, MemShelf, MemSink, NullSink, PutFault, ReadFault, Reason, Report, Shelf, Sink,
-    StdSink, read_within, write_all,
+    DirShelf, MemShelf, MemSink, NullSink, PutFault, ReadFault, Shelf, Sink, StdSink, read_within,
+    write_all,
 };
 use std::io::Read;
 use std::test::Fail;
 use std::{fs, io};
-
-#[test]
-fn writes_the_lines_of_a_report(rt: HostRuntime) -> Result<(), Fail> {
-    let mut sink = MemSink::new(rt.alloc(), 256, Vec::new(rt.alloc()))?;
-    let mut report = Report::new(&mut sink);
-    report.bound(300)?;
-    report.step(1, Some(b"a"), Some(b"a"), 0, 1)?;
-    report.accepted(5)?;
-    report.value(b"n", None, 5)?;
-    report.value(b"list", Some(2), 65535)?;
-    report.step(2, None, Some(b"b"), 1, 1)?;
-    report.more(7)?;
-    report.illegal(0x4400, 0xff0a)?;
-    report.bus(0x4402, 0x0201)?;
-    report.end(Reason::Readings, 2, 2, 0)?;
-    let lines =
-        "bound 300\nt 1 a a 0 1\no 5\nv n 5\nv list 2 65535\nt 2 ? b 1 1\nmore 7\nfault illegal 4400 ff0a\nfault bus 4402 0201\nend readings 2 2 0\n";
-    assert_eq!(rt; sink.bytes(), lines.as_bytes());
-    Ok(())
-}
 
 #[test]
 fn fails_at_listed_writes_and_without_room(rt: HostRuntime) -> Result<(), Fail> {

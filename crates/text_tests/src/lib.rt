@@ -1,4 +1,4 @@
-//! Tests of words, texts, files and the command line: each call with ample memory, and texts printed and read.
+//! Tests of words, numbers and files, and of what no call of the program shows of texts and its own words.
 #![tactic(auto)]
 
 #[cfg(test)]
@@ -8,12 +8,8 @@ mod files;
 #[cfg(test)]
 mod images;
 #[cfg(test)]
-mod maps;
-#[cfg(test)]
 mod numbers;
 #[cfg(test)]
 mod parts;
-#[cfg(test)]
-mod traces;
 #[cfg(test)]
 mod words;

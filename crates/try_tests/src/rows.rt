@@ -1,6 +1,5 @@
-//! Rows worked by hand from the rules. Each is run with both fills.
-use crate::meaning::transitions;
-use crate::program::{Answer, run, tries};
+//! Cuts whose reports are worked by hand from the rules. Each is run with both fills.
+use crate::program::tries;
 use crate::sources::{SUM, TWO};
 use std::alloc::Global;
 use std::process::Abort;
@@ -20,91 +19,6 @@ fn prints(
         assert_eq!(rt; answer.out.as_slice(), report.as_bytes());
     }
     Ok(())
-}
-
-#[test]
-fn one_private_scalar(rt: HostRuntime) -> Result<(), Fail> {
-    let source = "shared unsigned n = 0; task a { n = n + sense(); transition_to(a); } entry a;";
-    let report = "bound 772\nt 1 a a 0 1\nv n 5\nt 2 a a 1 2\nv n 12\nend readings 2 0 0\n";
-    prints(&rt, rt.alloc(), source, "c 1000000 F\nr 5 7\n", report)
-}
-
-#[test]
-fn bounds_are_printed(rt: HostRuntime) -> Result<(), Fail> {
-    let alloc = rt.alloc();
-    prints(&rt, alloc, SUM, "", "bound 912\nend charges 0 0 0\n")?;
-    let built = run(alloc, &["build", "s", "i"], &[("s", SUM.as_bytes())])?;
-    assert_eq!(rt; built.status.code(), 0);
-    assert_eq!(rt; built.out.as_slice(), b"bound 912\n".as_slice());
-    prints(
-        &rt,
-        alloc,
-        SUM,
-        "c 0 F\nr 5\n",
-        "bound 912\nend charges 0 0 0\n",
-    )
-}
-
-// The first lines of what `try` prints are these.
-fn begins(
-    rt: &impl Abort,
-    alloc: Global,
-    source: &str,
-    trace: &str,
-    lines: &str,
-) -> Result<(), Fail> {
-    let answer = tries(alloc, source, trace)?;
-    assert_eq!(rt; answer.status.code(), 0);
-    assert!(rt; answer.out.starts_with(lines.as_bytes()));
-    Ok(())
-}
-
-#[test]
-fn one_bound_pays_for_a_transition_and_three_for_three(rt: HostRuntime) -> Result<(), Fail> {
-    let alloc = rt.alloc();
-    begins(
-        &rt,
-        alloc,
-        SUM,
-        "c 912 0\nr 5\n",
-        "bound 912\nt 1 a a 0 1\no 5\nv n 5\n",
-    )?;
-    let readings = "r 1 2 3 4 5 6 7 8 9 10 11 12 13 14 15 16 17 18 19 20\n";
-    let answer = tries(alloc, SUM, &format!(in alloc; "c 2736 0\n{readings}")?)?;
-    assert!(rt; transitions(alloc, &answer.out)? >= 3);
-    Ok(())
-}
-
-#[test]
-fn values_of_words(rt: HostRuntime) -> Result<(), Fail> {
-    let alloc = rt.alloc();
-    let unsigned =
-        "shared unsigned a[8]; shared unsigned x; shared unsigned y; shared unsigned z = 9; \
-         task t { a[8] = 1; x = a[8] + 7 / 0; y = 7 % 0; z = 65535 + 1; transition_to(u); } \
-         task u { x = sense(); transition_to(u); } entry t;";
-    let answer = tries(alloc, unsigned, "c 100000 0\n")?;
-    assert!(rt;
-        ends_with(
-            &answer,
-            "t 1 t u 0 0\nv x 65535\nv y 7\nv z 0\nend readings 1 0 0\n"
-        )
-    );
-    let signed =
-        "shared int p = -3; shared unsigned a; shared unsigned b; shared unsigned c; shared unsigned d = 5; \
-         task t { a = p >> 1; b = p < 2; c = p / 2; d = p < 40000; transition_to(u); } \
-         task u { a = sense(); transition_to(u); } entry t;";
-    let answer = tries(alloc, signed, "c 100000 0\n")?;
-    assert!(rt;
-        ends_with(
-            &answer,
-            "t 1 t u 0 0\nv a 65534\nv b 1\nv c 32766\nv d 0\nend readings 1 0 0\n"
-        )
-    );
-    Ok(())
-}
-
-fn ends_with(answer: &Answer, lines: &str) -> bool {
-    answer.out.ends_with(lines.as_bytes())
 }
 
 // How many steps a charge has, so many at least, so that a run of this trace behind it begins with these lines; at most 400.
@@ -178,20 +92,5 @@ fn a_private_scalar_of_a_cut_attempt_is_gone(rt: HostRuntime) -> Result<(), Fail
         source,
         &trace,
         "bound 1044\nt 1 t u 1 2\nv v 3\nend readings 1 0 0\n",
-    )
-}
-
-// A bound that pays for one transition, behind 65540 charges that are cut while version words are cleared.
-#[test]
-fn many_charges_cut_in_the_clearing(rt: HostRuntime) -> Result<(), Fail> {
-    let source =
-        "shared unsigned a[64]; task t { unsigned i; for (i = 0; i < 64; i++) { a[0] = a[0] + 1; } transition_to(t); } entry t;";
-    let trace = "s 40 0 * 65540\nc 28188 0\n";
-    begins(
-        &rt,
-        rt.alloc(),
-        source,
-        trace,
-        "bound 28188\nt 1 t t 0 0\nv a 0 64\n",
     )
 }
