@@ -1,4 +1,4 @@
-//! Steps and power-ups on small images, from the description of the board.
+//! Single steps and power-ups on small images, from the description of the board; what a run shows of them are rows.
 ghost use Rattle.std.specs.Prelude.{◌≤◌, length};
 
 use fram_board::{Board, Stepped};
@@ -32,6 +32,17 @@ fn step(rt: &impl Abort, board: &mut Board) -> Result<Stepped, Stop> {
     board.step()
 }
 
+/// How many words were accepted and repeated, and how many readings were taken.
+type Counts = (u64, u64, u32);
+
+/// The board makes these steps or stops, and has these counts behind each.
+fn makes(rt: &impl Abort, board: &mut Board, wanted: &[(Result<Stepped, Stop>, Counts)]) {
+    for (made, counts) in wanted {
+        assert_eq!(rt; step(rt, board), *made);
+        assert_eq!(rt; (board.accepted(), board.repeats(), board.taken()), *counts);
+    }
+}
+
 fn plain(cycles: u32, wrote: Option<u16>) -> Result<Stepped, Stop> {
     Ok(Stepped {
         cycles,
@@ -41,19 +52,23 @@ fn plain(cycles: u32, wrote: Option<u16>) -> Result<Stepped, Stop> {
     })
 }
 
-/// The first step is a bus fault at this address, and nothing is taken.
-fn faults(rt: &impl Abort, alloc: Global, words: &[u16], address: u16) -> Result<(), AllocError>
-    requires { length words.now ≤ 64 }
-{
-    let mut board = board_of(alloc, words, &[5, 7])?;
-    let fault = Err(Stop::Bus {
-        pc: 0x4400,
-        address,
-    });
-    assert_eq!(rt; step(rt, &mut board), fault, "at {address:x}");
-    assert_eq!(rt; (board.taken(), board.cpu().reg(Reg::Pc)), (0, 0x4400));
-    assert!(rt; board.accepted() == 0 && board.repeats() == 0);
-    Ok(())
+fn took(cycles: u32, took: u32) -> Result<Stepped, Stop> {
+    Ok(Stepped {
+        cycles,
+        wrote: None,
+        took,
+        accepted: None,
+    })
+}
+
+/// A word is sent, and accepted or not.
+fn sent(accepted: Option<u16>) -> Result<Stepped, Stop> {
+    Ok(Stepped {
+        cycles: 5,
+        wrote: Some(0x0204),
+        took: 0,
+        accepted,
+    })
 }
 
 #[test]
@@ -64,99 +79,107 @@ fn words_are_accepted_once(rt: HostRuntime) -> Result<(), Fail> {
     ];
     let mut board = board_of(rt.alloc(), &code, &[])?;
     assert_eq!(rt; board.cost(), Ok(4));
-    assert_eq!(rt; step(&rt, &mut board), plain(4, Some(0x0202)));
-    let sent = Stepped {
-        cycles: 5,
-        wrote: Some(0x0204),
-        took: 0,
-        accepted: Some(77),
-    };
-    assert_eq!(rt; step(&rt, &mut board), Ok(sent));
-    assert_eq!(rt; (board.accepted(), board.repeats()), (1, 0));
-    assert_eq!(rt; step(&rt, &mut board), plain(5, Some(0x0204)));
-    assert_eq!(rt; (board.accepted(), board.repeats()), (1, 1));
-    assert_eq!(rt; step(&rt, &mut board), plain(2, None));
-    assert_eq!(rt; step(&rt, &mut board), Err(Stop::Off));
+    makes(
+        &rt,
+        &mut board,
+        &[
+            (plain(4, Some(0x0202)), (0, 0, 0)),
+            (sent(Some(77)), (1, 0, 0)),
+            (sent(None), (1, 1, 0)),
+            (plain(2, None), (1, 1, 0)),
+            (Err(Stop::Off), (1, 1, 0)),
+        ],
+    );
     assert_eq!(rt; board.cost(), Err(Stop::Off));
     // both counts outlive power loss
     board.power_up(0);
-    assert_eq!(rt; (board.accepted(), board.repeats()), (1, 1));
-    assert_eq!(rt; board.cost(), Ok(4));
+    makes(&rt, &mut board, &[(plain(4, Some(0x0202)), (1, 1, 0))]);
     Ok(())
 }
 
 #[test]
 fn readings_are_taken_in_order(rt: HostRuntime) -> Result<(), Fail> {
-    // mov &0x0200,r4; cmp &0x0200,&0x0200, twice
+    // mov &0x0200,r4; cmp &0x0200,&0x0200, twice: the last reading is taken, and stays taken though the instruction stops
     let code = [
         0x4214, 0x0200, 0x9292, 0x0200, 0x0200, 0x9292, 0x0200, 0x0200,
     ];
     let mut board = board_of(rt.alloc(), &code, &[5, 7, 9, 11])?;
-    let took = |cycles, took| {
-        Ok(Stepped {
-            cycles,
-            wrote: None,
-            took,
-            accepted: None,
-        })
-    };
-    assert_eq!(rt; step(&rt, &mut board), took(3, 1));
-    assert_eq!(rt; (board.cpu().reg(R4), board.taken()), (5, 1));
-    assert_eq!(rt; step(&rt, &mut board), took(6, 2));
-    assert_eq!(rt; board.taken(), 3);
-    // the last one is taken, and stays taken though the instruction stops
-    assert_eq!(rt; step(&rt, &mut board), Err(Stop::NoReading));
-    assert_eq!(rt; (board.taken(), board.cpu().reg(Reg::Pc)), (4, 0x440a));
+    makes(
+        &rt,
+        &mut board,
+        &[
+            (took(3, 1), (0, 0, 1)),
+            (took(6, 2), (0, 0, 3)),
+            (Err(Stop::NoReading), (0, 0, 4)),
+        ],
+    );
+    let cpu = board.cpu();
+    assert_eq!(rt; (cpu.reg(R4), cpu.reg(Reg::Pc)), (5, 0x440a));
     assert_eq!(rt; board.cost(), Ok(6));
     board.power_up(0);
-    assert_eq!(rt; step(&rt, &mut board), Err(Stop::NoReading));
-    assert_eq!(rt; board.taken(), 4);
+    makes(&rt, &mut board, &[(Err(Stop::NoReading), (0, 0, 4))]);
     Ok(())
 }
 
-// Of a word and a byte that are read, and a word and a byte that are written; the addresses are rows of `run`.
+// Nothing is taken at a fault: of a word and a byte that are read, of a word and a byte that are written.
 #[test]
 fn nothing_is_taken_at_a_fault(rt: HostRuntime) -> Result<(), Fail> {
-    let alloc = rt.alloc();
     for (word, address) in [
         (0x4214, 0x0202),
         (0x4254, 0x0200),
         (0x4392, 0x0200),
         (0x43d2, 0x0204),
     ] {
-        faults(&rt, alloc, &[word, address], address)?;
+        let mut board = board_of(rt.alloc(), &[word, address], &[5, 7])?;
+        let pc = 0x4400;
+        makes(
+            &rt,
+            &mut board,
+            &[(Err(Stop::Bus { pc, address }), (0, 0, 0))],
+        );
+        assert_eq!(rt; board.cpu().reg(Reg::Pc), pc);
     }
-    // push.b r4 at the ports: SP stays where it was
-    let mut board = board_of(alloc, &[0x4031, 0x0206, 0x1244], &[])?;
-    assert_eq!(rt; step(&rt, &mut board), plain(2, None));
+    // mov #0x0206,sp; push.b r4 at the ports: SP stays where it was
+    let mut board = board_of(rt.alloc(), &[0x4031, 0x0206, 0x1244], &[])?;
     let fault = Stop::Bus {
         pc: 0x4404,
         address: 0x0204,
     };
-    assert_eq!(rt; step(&rt, &mut board), Err(fault));
+    makes(
+        &rt,
+        &mut board,
+        &[(plain(2, None), (0, 0, 0)), (Err(fault), (0, 0, 0))],
+    );
     assert_eq!(rt; board.cpu().reg(SP), 0x0206);
     Ok(())
 }
 
-// mov.b #1,&0x5001: a byte is told, the other one stays, and words stand at even addresses of FRAM alone
 #[test]
-fn bytes_of_memory(rt: HostRuntime) -> Result<(), Fail> {
+fn bytes_and_words_of_memory(rt: HostRuntime) -> Result<(), Fail> {
+    // mov #0x1234,&0x5000; mov.b #1,&0x5001
     let code = [0x40b2, 0x1234, 0x5000, 0x43d2, 0x5001];
     let mut board = board_of(rt.alloc(), &code, &[])?;
-    assert_eq!(rt; step(&rt, &mut board), plain(5, Some(0x5000)));
-    assert_eq!(rt; step(&rt, &mut board), plain(4, Some(0x5001)));
-    assert_eq!(rt; board.word(0x5000), Some(0x0134));
-    assert_eq!(rt; (board.word(0x5001), board.word(0x23fe)), (None, None));
+    makes(
+        &rt,
+        &mut board,
+        &[
+            (plain(5, Some(0x5000)), (0, 0, 0)),
+            (plain(4, Some(0x5001)), (0, 0, 0)),
+        ],
+    );
+    for (address, word) in [(0x5000, Some(0x0134)), (0x5001, None), (0x23fe, None)] {
+        assert_eq!(rt; board.word(address), word);
+    }
     Ok(())
 }
 
 #[test]
-fn illegal_words(rt: HostRuntime) -> Result<(), Fail> {
+fn words_that_are_no_instruction(rt: HostRuntime) -> Result<(), Fail> {
     for word in [0x1800, 0x0000] {
         let mut board = board_of(rt.alloc(), &[word], &[])?;
         let illegal = Stop::Illegal { pc: 0x4400, word };
         assert_eq!(rt; board.cost(), Err(illegal));
-        assert_eq!(rt; step(&rt, &mut board), Err(illegal));
+        makes(&rt, &mut board, &[(Err(illegal), (0, 0, 0))]);
     }
     Ok(())
 }
@@ -176,13 +199,7 @@ fn a_power_up_keeps_fram_alone(rt: HostRuntime) -> Result<(), Fail> {
         assert_eq!(rt; step(&rt, &mut board), plain(3, None));
         // RAM holds the fill word, and so does OUTNUM: that decides whether the word is accepted
         assert_eq!(rt; board.cpu().reg(R4), fill);
-        let sent = Stepped {
-            cycles: 5,
-            wrote: Some(0x0204),
-            took: 0,
-            accepted,
-        };
-        assert_eq!(rt; step(&rt, &mut board), Ok(sent));
+        assert_eq!(rt; step(&rt, &mut board), sent(accepted));
         assert_eq!(rt; step(&rt, &mut board), plain(5, Some(0x1c00)));
         assert_eq!(rt; step(&rt, &mut board), plain(5, Some(0x5000)));
         assert_eq!(rt; board.word(0x5000), Some(3));
