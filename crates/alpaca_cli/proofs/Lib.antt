@@ -9,6 +9,7 @@ mod NotRefused
 mod OneEnding
 mod PutLaws
 mod Refused
+mod Reports
 mod RunLaws
 mod ShelfLaws
 mod SourceLaws

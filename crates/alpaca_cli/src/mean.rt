@@ -20,11 +20,13 @@ use crate::sources::source_of;
 use crate::status::Status;
 use crate::traces::trace_of;
 use alp_io::{Failed, Report, Shelf, Sink};
+use buffered_sink::{BufferedSink, Origin};
 use energy_trace::Trace;
 use source_meaning::Accepted;
 use source_report::{mean_report_is_determined, write_mean_report};
 use source_values::SourceRun;
 use std::alloc::{AllocError, Global};
+use std::marker::Brand;
 
 const MOST_TRANSITIONS: u64 = 10_000;
 
@@ -34,6 +36,34 @@ fn report_is_the_meaning(source: &Accepted, trace: &Trace)
         (mean_report 10000 source.now.text.items (program_of source.now.checked.source) trace.now.readings) }
 {
     mean_report_is_determined();
+}
+
+// Writes the report of a run that has made no transition through a buffer before the output, which is given back.
+fn write_through<'a, O: Sink, P: Origin>(
+    out: &'a mut O,
+    source: &Accepted,
+    run: &mut SourceRun,
+    trace: &Trace,
+) -> (&'a mut O, Result<(), Failed>)
+    requires place { out.ghost_name ≡ P.place }
+    requires contents { O.contents out.old ≡ P.contents }
+    requires fresh { run.old ≡ fresh_run (program_of source.now.checked.source) }
+    ensures same_sink { result.0.ghost_name ≡ out.entry.ghost_name }
+    ensures bytes { Writes (O.contents out.old) (O.contents result.0.now) result.1
+        (mean_report 10000 source.now.text.items (program_of source.now.checked.source) trace.now.readings) }
+    ensures cause { HasCause (O.faults out.old) (O.faults result.0.now) result.1 }
+{
+    let mut lines = BufferedSink::<O, P>::new(out);
+    let mut report = Report::new(&mut lines);
+    let written = write_mean_report(
+        &mut report,
+        source.source(),
+        source.checked().source(),
+        run,
+        trace.readings(),
+        MOST_TRANSITIONS,
+    );
+    lines.finish(written)
 }
 
 // Writes the report of a run that has made no transition. Takes no memory.
@@ -48,15 +78,8 @@ fn write_report<O: Sink>(
         (mean_report 10000 source.now.text.items (program_of source.now.checked.source) trace.now.readings) }
     ensures cause { HasCause (O.faults out.old) (O.faults out.new) result }
 {
-    let mut report = Report::new(out);
-    write_mean_report(
-        &mut report,
-        source.source(),
-        source.checked().source(),
-        run,
-        trace.readings(),
-        MOST_TRANSITIONS,
-    )
+    let (_, result) = write_through::<O, Brand>(out, source, run, trace);
+    result
 }
 
 /// Writes the whole report, once all memory is taken.

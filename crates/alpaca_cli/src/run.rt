@@ -21,10 +21,12 @@ use crate::status::Status;
 use crate::traces::trace_of;
 use alp_io::{Failed, Report, Shelf, Sink};
 use board_run::{RunFault, Watch, run};
+use buffered_sink::{BufferedSink, Origin};
 use energy_trace::Trace;
 use fram_board::Board;
 use image_text::Image;
 use std::alloc::Global;
+use std::marker::Brand;
 
 /// How a run ended whose report is whole.
 #[derive(Clone, Copy, Debug, PartialEq, Eq)]
@@ -57,6 +59,28 @@ fn write_lines<S: Sink>(
     }
 }
 
+// Writes the report of a run of a board that is new from the image through a buffer before the output, which is given back.
+fn write_through<'a, O: Sink, P: Origin>(
+    out: &'a mut O,
+    image: &Image,
+    trace: &Trace,
+    board: &mut Board,
+    watch: &mut Watch<'_>,
+) -> (&'a mut O, Result<RunEnding, Failed>)
+    requires place { out.ghost_name ≡ P.place }
+    requires contents { O.contents out.old ≡ P.contents }
+    requires board { board.old ≡ fresh image.now.words trace.now.readings }
+    requires watch { watch.old ≡ start_of image.now }
+    ensures same_sink { result.0.ghost_name ≡ out.entry.ghost_name }
+    ensures bytes { WritesRun image.now trace.now (O.contents out.old) (O.contents result.0.now) result.1 }
+    ensures cause { HasCause (O.faults out.old) (O.faults result.0.now) result.1 }
+{
+    let mut lines = BufferedSink::<O, P>::new(out);
+    let mut report = Report::new(&mut lines);
+    let written = write_lines(&mut report, image, trace, board, watch);
+    lines.finish(written)
+}
+
 /// Writes the report of a run of a board that is new from the image. Takes no memory.
 pub fn write_report<O: Sink>(
     out: &mut O,
@@ -70,8 +94,8 @@ pub fn write_report<O: Sink>(
     ensures bytes { WritesRun image.now trace.now (O.contents out.old) (O.contents out.new) result }
     ensures cause { HasCause (O.faults out.old) (O.faults out.new) result }
 {
-    let mut report = Report::new(out);
-    write_lines(&mut report, image, trace, board, watch)
+    let (_, result) = write_through::<O, Brand>(out, image, trace, board, watch);
+    result
 }
 
 /// Writes the whole report, once all memory is taken.

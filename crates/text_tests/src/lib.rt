@@ -6,6 +6,8 @@ mod command_lines;
 #[cfg(test)]
 mod files;
 #[cfg(test)]
+mod gathered;
+#[cfg(test)]
 mod images;
 #[cfg(test)]
 mod numbers;
