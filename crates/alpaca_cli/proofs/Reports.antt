@@ -3,6 +3,7 @@ use Rattle.std.proofs.Common.{◌≡◌, ℕ, zero, suc, ◌+◌, ◌<◌, List,
 use Rattle.alp_io.specs.declared.report.Reason.{Reason}
 use Rattle.alp_io.specs.declared.sink.Failed.{Failed}
 use Rattle.alp_io.specs.Report.{end_line, illegal_line, bus_line}
+use Rattle.alp_io.specs.Sink.{Writes}
 use Rattle.buffered_sink.specs.Front.{Settles}
 use Rattle.energy_trace.specs.TraceValue.{TraceValue}
 use Rattle.image_text.specs.ImageValue.{ImageValue}
@@ -12,7 +13,7 @@ use Rattle.fram_board.specs.Run.{End, Charges, Stopped, RunOutcome}
 use Rattle.board_run.specs.History.{History, bound_lines, start_of}
 use Rattle.board_run.specs.Report.{last_line, after_all, lines_from}
 use Rattle.source_values.specs.Runs.{CheckedProgram, Completion, completion_of, attempt_of}
-use Rattle.source_report.specs.MeanReport.{report_from, if_whole}
+use Rattle.source_report.specs.MeanReport.{report_from, if_whole, mean_report}
 use Rattle.alpaca_cli.specs.declared.run.RunEnding.{RunEnding}
 use Rattle.alpaca_cli.specs.Ending.{Ending}
 use Rattle.alpaca_cli.specs.Ends.{ending_of, WritesRun}
@@ -42,13 +43,19 @@ whole_nonempty : (c : Option Completion) (short : List ℕ) (whole : Completion 
 whole_nonempty None short whole some all = some
 whole_nonempty (Some d) short whole some all = all d
 
-pub mean_nonempty : (n : ℕ) (text : List ℕ) (program : CheckedProgram) (total k accepted task : ℕ) (shared : List (List ℕ)) (readings : List ℕ)
+mean_nonempty : (n : ℕ) (text : List ℕ) (program : CheckedProgram) (total k accepted task : ℕ) (shared : List (List ℕ)) (readings : List ℕ)
     → 0 < length (report_from n text program total k accepted task shared readings)
 unfolding report_from
 mean_nonempty zero text program total k accepted task shared readings = end_nonempty _ k accepted 0
 mean_nonempty (suc n) text program total k accepted task shared readings =
     whole_nonempty (completion_of (attempt_of program task shared readings)) _ _ (end_nonempty _ k accepted 0)
     (λ c. behind_nonempty _ _ (mean_nonempty n text program total (k + 1) (accepted + length c.emitted) c.next c.shared c.left))
+
+-- the report of a source that a buffer took, as the output has it in the end
+pub mean_settles : {T E : Type 0} (text : List ℕ) (program : CheckedProgram) (readings : List ℕ) (first taken held : Option (List ℕ)) (written result : Result T E)
+    → Settles first taken held written result → Writes first taken written (mean_report 10000 text program readings)
+    → Writes first held result (mean_report 10000 text program readings)
+mean_settles text program readings first taken held written result settles whole = settles _ (mean_nonempty 10000 text program _ 0 0 _ _ readings) whole
 
 -- ---- the report of a run
 

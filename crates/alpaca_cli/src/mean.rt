@@ -38,6 +38,29 @@ fn report_is_the_meaning(source: &Accepted, trace: &Trace)
     mean_report_is_determined();
 }
 
+// Writes the report of a run that has made no transition, each line by a write of its own.
+fn write_by_line<S: Sink>(
+    out: &mut S,
+    source: &Accepted,
+    run: &mut SourceRun,
+    trace: &Trace,
+) -> Result<(), Failed>
+    requires fresh { run.old ≡ fresh_run (program_of source.now.checked.source) }
+    ensures bytes { Writes (S.contents out.old) (S.contents out.new) result
+        (mean_report 10000 source.now.text.items (program_of source.now.checked.source) trace.now.readings) }
+    ensures cause { HasCause (S.faults out.old) (S.faults out.new) result }
+{
+    let mut report = Report::new(out);
+    write_mean_report(
+        &mut report,
+        source.source(),
+        source.checked().source(),
+        run,
+        trace.readings(),
+        MOST_TRANSITIONS,
+    )
+}
+
 // Writes the report of a run that has made no transition through a buffer before the output, which is given back.
 fn write_through<'a, O: Sink, P: Origin>(
     out: &'a mut O,
@@ -54,15 +77,7 @@ fn write_through<'a, O: Sink, P: Origin>(
     ensures cause { HasCause (O.faults out.old) (O.faults result.0.now) result.1 }
 {
     let mut lines = BufferedSink::<O, P>::new(out);
-    let mut report = Report::new(&mut lines);
-    let written = write_mean_report(
-        &mut report,
-        source.source(),
-        source.checked().source(),
-        run,
-        trace.readings(),
-        MOST_TRANSITIONS,
-    );
+    let written = write_by_line(&mut lines, source, run, trace);
     lines.finish(written)
 }
 

@@ -59,6 +59,23 @@ fn write_lines<S: Sink>(
     }
 }
 
+// Writes the report of a run of a board that is new from the image, each line by a write of its own.
+fn write_by_line<S: Sink>(
+    out: &mut S,
+    image: &Image,
+    trace: &Trace,
+    board: &mut Board,
+    watch: &mut Watch<'_>,
+) -> Result<RunEnding, Failed>
+    requires board { board.old ≡ fresh image.now.words trace.now.readings }
+    requires watch { watch.old ≡ start_of image.now }
+    ensures bytes { WritesRun image.now trace.now (S.contents out.old) (S.contents out.new) result }
+    ensures cause { HasCause (S.faults out.old) (S.faults out.new) result }
+{
+    let mut report = Report::new(out);
+    write_lines(&mut report, image, trace, board, watch)
+}
+
 // Writes the report of a run of a board that is new from the image through a buffer before the output, which is given back.
 fn write_through<'a, O: Sink, P: Origin>(
     out: &'a mut O,
@@ -76,8 +93,7 @@ fn write_through<'a, O: Sink, P: Origin>(
     ensures cause { HasCause (O.faults out.old) (O.faults result.0.now) result.1 }
 {
     let mut lines = BufferedSink::<O, P>::new(out);
-    let mut report = Report::new(&mut lines);
-    let written = write_lines(&mut report, image, trace, board, watch);
+    let written = write_by_line(&mut lines, image, trace, board, watch);
     lines.finish(written)
 }
 

@@ -1,9 +1,9 @@
--- What a sink has behind what it had at first.
+-- What a sink has of a text that a buffer before it took.
 use Rattle.std.specs.Prelude.{ℕ, ◌<◌, List, length, take, Option, Some, None, Result}
 use Rattle.std.specs.Option.{option_map}
 use Rattle.alp_io.specs.Sink.{Writes}
 
--- the first bytes of those now, as many as there were at first, as far as both are told
+-- as many bytes of those now as there were at first, as far as both are told
 abbrev pub front_of : Option (List ℕ) → Option (List ℕ) → Option (List ℕ)
 front_of None now = None
 front_of (Some first) now = option_map (take (length first)) now
