@@ -1,5 +1,5 @@
 #!/usr/bin/env bash
-# Of ten task bodies: the cycles from a power-up to the end of the first commit, beside the bound; and the words of the code, beside
+# Of eleven task bodies: the cycles from a power-up to the end of the first commit, beside the bound; and the words of the code, beside
 # those that the allowance gives it (the image fills these up with `jmp $`).
 #
 # ALPACA names another build of the program. Nothing depends on these figures.
@@ -50,3 +50,4 @@ measure 'a quotient and a rest' 'shared unsigned q = 60000; task t { q = q / 7 +
 measure 'comparisons' 'shared int s = -2; shared unsigned m; task t { int r = sense(); m = 0; if (s < r && r <= 9) { m = 1; } else if (s > r || r == 4) { m = 2; } transition_to(t); } entry t;'
 measure 'nested loops' 'shared unsigned k; task t { unsigned i; unsigned j; for (i = 0; i < 8; i++) { for (j = 0; j < 8; j++) { k = k + i * j; } } transition_to(t); } entry t;'
 measure 'words that are sent' 'shared unsigned c; task t { unsigned i; for (i = 0; i < 16; i++) { emit(c + i); } c = c + 16; transition_to(t); } entry t;'
+measure 'one element of 512' 'shared unsigned a[512]; task t { a[9] = sense(); transition_to(t); } entry t;'

@@ -5,22 +5,24 @@ use Rattle.std.proofs.lemmas.List.Elements.{All-get_or}
 use Rattle.msp_isa.specs.declared.instructions.Condition.TheVariants.{NotEqual}
 use Rattle.msp_isa.specs.declared.operands.Konst.TheVariants.{One}
 use Rattle.runtime_code.specs.msp_step.Effect.{sum16, distance}
-use Rattle.runtime_code.specs.machine_effects.World.{fram_after}
+use Rattle.runtime_code.specs.fram_board.Effects.{Effect, Store}
+use Rattle.runtime_code.specs.machine_effects.World.{put, fram_after}
 use Rattle.runtime_code.specs.machine_effects.Going.{Goes}
 use Rattle.runtime_code.specs.machine_effects.Machine.{Code}
 use Rattle.runtime_code.proofs.machine_effects.Interface.{fram_after-append}
 use Rattle.runtime_code.specs.code_forms.Forms.{Core, Form, Compare, SetStack, Jump, Branch, Constant}
 use Rattle.runtime_code.specs.code_forms.Code.{Stands, IsTidy, forms_run}
 use Rattle.runtime_code.proofs.code_forms.Interface.{stands_at, stands_front, stands_back, end_of}
-use Rattle.runtime_code.specs.runtime_effects.Stages.{opening_effects, copied_in, start_effects}
+use Rattle.runtime_code.specs.runtime_effects.Stages.{is_at_end, opening_effects, copied_in, start_effects}
 use Rattle.runtime_code.specs.runtime_effects.Needs.{AreInFram}
+use Rattle.runtime_code.specs.Addresses.{start_address}
 use Rattle.runtime_code.specs.Comes.{Comes, IsAt, Enters}
 use Rattle.runtime_code.proofs.Interface.{straight, one_form, comes_on, recounted, then_on, chain}
-use Rattle.boot_runtime.specs.Listing.{TaskEntry, entry_at, privates_in, head, opening, dispatch, ladder_to, ladder_address, stubs_address, stubs}
-use Rattle.boot_runtime.specs.Laws.{IsEntered, IsBoot, PendingCommitIsFound, AttemptIsFound, StartIsMade}
-use Rattle.boot_runtime.proofs.Opening.{task_stays, opens}
+use Rattle.boot_runtime.specs.Listing.{TaskEntry, entry_at, privates_in, head, end_tested, clearing, counts_set, opening, dispatch, ladder_to, stubs, start_steps, start_cycles, ladder_address, stubs_address}
+use Rattle.boot_runtime.specs.Laws.{IsEntered, IsBoot, PendingCommitIsFound, AttemptIsFound, StartIsMade, VersionIsRaised}
+use Rattle.boot_runtime.proofs.Opening.{task_stays, looks_at_version, raises, opens}
 use Rattle.boot_runtime.proofs.Entering.{ladder_bytes, stub_at, stub_stands, dispatched, copied}
-use Rattle.memory_map.specs.declared.words.RuntimeWord.TheVariants.{CurrentTask, Gate}
+use Rattle.memory_map.specs.declared.words.RuntimeWord.TheVariants.{CurrentTask, Gate, Version}
 use Rattle.memory_map.specs.MemoryMap.{MemoryMap, word_place}
 use Rattle.address_space.specs.Limits.{stack_top}
 
@@ -30,6 +32,10 @@ gate_is_one n e = ap (λ x. (x + 65534 + 1) % 65536 == 0) e
 
 gate_is_not_one : (n : ℕ) → n < 0x10000 → n ≢ 1 → ((n + 65534 + 1) % 65536 == 0) ≡ false
 gate_is_not_one n l h = grind (arith, nat_tests, l, h)
+
+-- a number below the end isn't the end
+not_at_end : (n : ℕ) → n < 0xFFFF → (n == 0xFFFF) ≡ false
+not_at_end n l = grind (arith, nat_tests, l)
 
 module _ (code : Code) (tidy : IsTidy code) where
   -- SP, and the look at GATE
@@ -55,17 +61,20 @@ module _ (code : Code) (tidy : IsTidy code) where
 
   -- the start: the opening, the dispatch and the stub
   starts : (m : MemoryMap) (commit : ℕ) (tasks : List TaskEntry) (at : ℕ) (u : Core) → IsBoot code m commit tasks at → u.pc ≡ at + 14
-      → u.fram (word_place m CurrentTask) < length tasks
+      → u.fram (word_place m CurrentTask) < length tasks → u.fram (word_place m Version) < 0x10000
       → let t = entry_at tasks (u.fram (word_place m CurrentTask)) in
+      let b = is_at_end m u.fram in
       let es = start_effects m (privates_in tasks) u.fram in
-      Comes code es (15 + 6 * m.versions.words + length t.privates) (36 + 11 * m.versions.words + 6 * length t.privates) u
+      Comes code es (start_steps b m.versions.words (length t.privates)) (start_cycles b m.versions.words (length t.privates)) u
       (Enters t.code stack_top (fram_after es u.fram) u.readings_left)
-  starts m commit tasks at u boot e named =
+  starts m commit tasks at u boot e named word =
       let f = u.fram in
       let rs = u.readings_left in
       let k = f (word_place m CurrentTask) in
       let t = entry_at tasks k in
-      let n = m.versions.words in
+      let clears = is_at_end m f in
+      let clear_steps = if clears then 5 + 6 * m.versions.words else 0 in
+      let clear_cycles = if clears then 11 + 11 * m.versions.words else 0 in
       let j = length t.privates in
       let room = boot.room in
       let even = boot.even in
@@ -79,33 +88,33 @@ module _ (code : Code) (tidy : IsTidy code) where
       let h1 = stands_back code at (head m commit) (opening m ++ (d1 ++ (r1 ++ stubs tasks))) boot.stands in
       let o1 : Stands code (at + 14) (opening m) = subst (λ x. Stands code x (opening m)) (omega arith) (stands_front code _ (opening m) (d1 ++ (r1 ++ stubs tasks)) h1) in
       let h2 = stands_back code _ (opening m) (d1 ++ (r1 ++ stubs tasks)) h1 in
-      let o2 : Stands code (at + 48) d1 = subst (λ x. Stands code x d1) (omega arith) (stands_front code _ d1 (r1 ++ stubs tasks) h2) in
+      let o2 : Stands code (at + 58) d1 = subst (λ x. Stands code x d1) (omega arith) (stands_front code _ d1 (r1 ++ stubs tasks) h2) in
       let h3 = stands_back code _ d1 (r1 ++ stubs tasks) h2 in
       let l3 : Stands code ladder (r1 ++ stubs tasks) = subst (λ x. Stands code x (r1 ++ stubs tasks)) (omega arith) h3 in
       let o3 : Stands code ladder r1 = stands_front code ladder r1 (stubs tasks) l3 in
       let o4 : Stands code q (stubs tasks) = subst (λ x. Stands code (ladder + x) (stubs tasks)) (ladder_bytes q tasks) (stands_back code ladder r1 (stubs tasks) l3) in
       let entered = All-get_or IsEntered tasks k (record { privates = []; code = 0 }) named boot.entered in
       let stays : g (word_place m CurrentTask) ≡ k = task_stays m f boot.task in
-      let there : at + 14 + 34 ≡ at + 48 = omega arith in
-      let a = subst (λ x. Comes code os (7 + n * 6) (19 + n * 11) u (IsAt x g rs)) there (opens code tidy m boot.places (at + 14) u (omega (arith, room)) e o1) in
-      let b : (v : Core) → v.pc ≡ at + 48 → v.fram ≡ g → v.readings_left ≡ rs → Comes code [] 7 14 v (Enters (stub_at q tasks k) stack_top g rs) =
+      let there : at + 14 + 44 ≡ at + 58 = omega arith in
+      let a = subst (λ x. Comes code os (5 + clear_steps) (18 + clear_cycles) u (IsAt x g rs)) there (opens code tidy m boot.places (at + 14) u (omega (arith, room)) e word o1) in
+      let b : (v : Core) → v.pc ≡ at + 58 → v.fram ≡ g → v.readings_left ≡ rs → Comes code [] 7 14 v (Enters (stub_at q tasks k) stack_top g rs) =
       λ v pc is left.
       subst (λ l. Comes code [] 7 14 v (Enters (stub_at q tasks k) stack_top g l)) left
       (subst (λ x. Comes code [] 7 14 v (Enters (stub_at q tasks k) stack_top x v.readings_left)) is
-      (dispatched code tidy m (at + 48) ladder q k tasks v boot.places pc o2 o3 (omega (arith, even)) (omega (arith, room)) (omega (arith, even))
+      (dispatched code tidy m (at + 58) ladder q k tasks v boot.places pc o2 o3 (omega (arith, even)) (omega (arith, room)) (omega (arith, even))
       (ap (λ x. x (word_place m CurrentTask)) is ∙ stays) named)) in
-      let ab = chain code (7 + n * 6) 7 (19 + n * 11) 14 (at + 48) u os [] g rs (Enters (stub_at q tasks k) stack_top g rs) a b in
+      let ab = chain code (5 + clear_steps) 7 (18 + clear_cycles) 14 (at + 58) u os [] g rs (Enters (stub_at q tasks k) stack_top g rs) a b in
       let d : (v : Core) → Enters (stub_at q tasks k) stack_top g rs v → Comes code cs (1 + j) (3 + 6 * j) v (Enters t.code stack_top (fram_after cs g) rs) =
       λ v h.
       subst (λ l. Comes code cs (1 + j) (3 + 6 * j) v (Enters t.code stack_top (fram_after cs g) l)) h.readings_left
       (subst (λ x. Comes code (copied_in t.privates x) (1 + j) (3 + 6 * j) v (Enters t.code stack_top (fram_after (copied_in t.privates x) x) v.readings_left)) h.fram
       (copied code tidy t.privates (stub_at q tasks k) t.code v h.pc h.sp (stub_stands code tasks q k o4 named) entered.privates entered.even)) in
-      let abd = comes_on code (7 + n * 6 + 7) (1 + j) (19 + n * 11 + 14) (3 + 6 * j) u (Enters (stub_at q tasks k) stack_top g rs) (Enters t.code stack_top (fram_after cs g) rs) (os ++ []) cs ab d in
+      let abd = comes_on code (5 + clear_steps + 7) (1 + j) (18 + clear_cycles + 14) (3 + 6 * j) u (Enters (stub_at q tasks k) stack_top g rs) (Enters t.code stack_top (fram_after cs g) rs) (os ++ []) cs ab d in
       let es : (os ++ []) ++ cs ≡ os ++ cs = ap (λ x. x ++ cs) (append-nil os) in
       let fs : fram_after cs g ≡ fram_after (os ++ cs) f = sym (fram_after-append os cs f) in
-      recounted code (os ++ cs) (7 + n * 6 + 7 + (1 + j)) (15 + 6 * n + j) (19 + n * 11 + 14 + (3 + 6 * j)) (36 + 11 * n + 6 * j) u _ (omega arith) (omega arith)
-      (subst (λ x. Comes code (os ++ cs) (7 + n * 6 + 7 + (1 + j)) (19 + n * 11 + 14 + (3 + 6 * j)) u (Enters t.code stack_top x rs)) fs
-      (subst (λ x. Comes code x (7 + n * 6 + 7 + (1 + j)) (19 + n * 11 + 14 + (3 + 6 * j)) u (Enters t.code stack_top (fram_after cs g) rs)) es abd))
+      recounted code (os ++ cs) (5 + clear_steps + 7 + (1 + j)) (13 + clear_steps + j) (18 + clear_cycles + 14 + (3 + 6 * j)) (35 + clear_cycles + 6 * j) u _ (omega arith) (omega arith)
+      (subst (λ x. Comes code (os ++ cs) (5 + clear_steps + 7 + (1 + j)) (18 + clear_cycles + 14 + (3 + 6 * j)) u (Enters t.code stack_top x rs)) fs
+      (subst (λ x. Comes code x (5 + clear_steps + 7 + (1 + j)) (18 + clear_cycles + 14 + (3 + 6 * j)) u (Enters t.code stack_top (fram_after cs g) rs)) es abd))
 
 pub pending_commit_is_found : PendingCommitIsFound
 pending_commit_is_found code m commit tasks at u boot e gate =
@@ -126,4 +135,42 @@ attempt_is_found code m commit tasks at u boot e word gate =
     looked code boot.tidy m commit at false u boot.places (omega (arith, room)) e h (gate_is_not_one (u.fram (word_place m Gate)) word gate)
 
 pub start_is_made : StartIsMade
-start_is_made code m commit tasks at u boot e named = starts code boot.tidy m commit tasks at u boot e named
+start_is_made code m commit tasks at u boot e named word = starts code boot.tidy m commit tasks at u boot e named word
+
+-- GATE, VER against its end, and the store to VER
+pub version_is_raised : VersionIsRaised
+version_is_raised code m commit tasks at u boot e small gate below =
+    let room = boot.room in
+    let f = u.fram in let rs = u.readings_left in
+    let n = f (word_place m Version) in
+    let rest = dispatch m (ladder_address at) ++ (ladder_to (stubs_address tasks at) tasks ++ stubs tasks) in
+    let h = stands_front code at (head m commit) (opening m ++ rest) boot.stands in
+    let h1 = stands_back code at (head m commit) (opening m ++ rest) boot.stands in
+    let o1 : Stands code (at + 14) (opening m) = subst (λ x. Stands code x (opening m)) (omega arith) (stands_front code _ (opening m) rest h1) in
+    let tests = stands_front code (at + 14) (end_tested m) (clearing m ++ counts_set m) o1 in
+    let behind = stands_back code (at + 14) (end_tested m) (clearing m ++ counts_set m) o1 in
+    let sets : Stands code (at + 46) (counts_set m) =
+    subst (λ x. Stands code x (counts_set m)) (omega arith) (stands_back code _ (clearing m) (counts_set m) behind) in
+    let set : List Effect = Store (word_place m Version) (n + 1) ∷ [] in
+    let Raised : Core → Type 0 = IsAt (at + 50) (put f (word_place m Version) (n + 1)) rs in
+    let a = looked code boot.tidy m commit at false u boot.places (omega (arith, room)) e h (gate_is_not_one (f (word_place m Gate)) small gate) in
+    let there : at + 14 + 32 ≡ at + 46 = omega arith in
+    let Q : ℕ → (ℕ → ℕ) → List ℕ → Core → Type 0 = λ q g l v. Comes code [] 2 6 v (IsAt q g l) in
+    let looks : (v : Core) → Enters (at + 14) stack_top f rs v → Q (at + 46) f rs v =
+    λ v k.
+    let w : v.fram (word_place m Version) < 0xFFFF = subst (λ g. g (word_place m Version) < 0xFFFF) (sym k.fram) below in
+    subst (λ q. Q q f rs v) there (subst (λ l. Q (at + 14 + 32) f l v) k.readings_left (subst (λ g. Q (at + 14 + 32) g v.readings_left v) k.fram
+    (looks_at_version code boot.tidy m boot.places (at + 14) false v (omega (arith, room)) k.pc tests (omega (arith, w)) (not_at_end _ w)))) in
+    let R : ℕ → (ℕ → ℕ) → List ℕ → Core → Type 0 =
+    λ q g l v. Comes code (Store (word_place m Version) (g (word_place m Version) + 1) ∷ []) 1 4 v
+    (IsAt q (put g (word_place m Version) (g (word_place m Version) + 1)) l) in
+    let to : at + 46 + 4 ≡ at + 50 = omega arith in
+    let stores : (v : Core) → IsAt (at + 46) f rs v → R (at + 50) f rs v =
+    λ v k.
+    let w : v.fram (word_place m Version) < 0xFFFF = subst (λ g. g (word_place m Version) < 0xFFFF) (sym k.fram) below in
+    subst (λ q. R q f rs v) to (subst (λ l. R (at + 46 + 4) f l v) k.readings_left (subst (λ g. R (at + 46 + 4) g v.readings_left v) k.fram
+    (raises code boot.tidy m boot.places (at + 46) v k.pc sets w))) in
+    let all = comes_on code 5 1 14 4 u (IsAt (at + 46) f rs) Raised [] set
+    (comes_on code 3 2 8 6 u (Enters (at + 14) stack_top f rs) (IsAt (at + 46) f rs) [] [] a looks) stores in
+    let at_last : at + 50 ≡ start_address at + 36 = omega arith in
+    subst (λ q. Comes code set 6 18 u (IsAt q (put f (word_place m Version) (n + 1)) rs)) at_last all

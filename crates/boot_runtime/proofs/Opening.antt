@@ -1,19 +1,24 @@
--- An attempt's opening: the version words, VER, CLN and EN.
-use Rattle.std.proofs.Common.{◌≡◌, ◌≢◌, ℕ, zero, suc, ◌+◌, ◌-◌, ◌*◌, ◌%◌, ◌<◌, ◌≤◌, ◌⊎◌, inl, inr, List, [], ◌∷◌, ◌++◌, Some, refl, sym, ap, ◌∙◌, subst, arith}
-use Rattle.msp_isa.specs.declared.instructions.Condition.TheVariants.{Always}
+-- An attempt's opening: the clearing where VER is at its end; then VER, CLN and EN.
+use Rattle.std.proofs.Common.{◌≡◌, ◌≢◌, ℕ, zero, suc, ◌+◌, ◌-◌, ◌*◌, ◌%◌, ◌<◌, ◌≤◌, ◌==◌, ◌⊎◌, not, inl, inr, List, [], ◌∷◌, ◌++◌, Some, refl, sym, ap, ◌∙◌, subst, arith}
+use Rattle.std.proofs.Common.{Bool, true, false, if◌then◌else◌}
+use Rattle.std.proofs.lemmas.Bool.Decides.{nat_tests}
+use Rattle.msp_isa.specs.declared.instructions.Condition.TheVariants.{Always, NotEqual}
+use Rattle.msp_isa.specs.declared.instructions.TwoOp.TheVariants.{Add}
+use Rattle.msp_isa.specs.declared.operands.Konst.TheVariants.{One, MinusOne}
 use Rattle.runtime_code.specs.msp_step.Effect.{sum16, distance}
 use Rattle.runtime_code.specs.fram_board.Effects.{Effect, Store}
 use Rattle.runtime_code.specs.machine_effects.World.{put, fram_after}
+use Rattle.runtime_code.specs.machine_effects.Going.{Goes}
 use Rattle.runtime_code.specs.machine_effects.Machine.{Code, IsFram}
 use Rattle.runtime_code.proofs.machine_effects.Interface.{fram_after-append, put_other}
-use Rattle.runtime_code.specs.code_forms.Forms.{Core, Jump, instruction_of}
+use Rattle.runtime_code.specs.code_forms.Forms.{Core, Form, Compare, Update, Jump, Constant, instruction_of}
 use Rattle.runtime_code.specs.code_forms.Code.{Stands, IsTidy, forms_run}
 use Rattle.runtime_code.proofs.code_forms.Interface.{stands_at, stands_front, stands_back, end_of}
-use Rattle.runtime_code.specs.runtime_effects.Stages.{cleared, opening_effects}
+use Rattle.runtime_code.specs.runtime_effects.Stages.{is_at_end, clearing_if, cleared, counting_effects, opening_effects}
 use Rattle.runtime_code.specs.runtime_effects.Needs.{AreInFram, KeepsTask}
 use Rattle.runtime_code.specs.Comes.{Comes, IsAt}
-use Rattle.runtime_code.proofs.Interface.{straight, recounted, nothing, then_on, moved_to, chain, tested, goes_in, leaves, jumps_back}
-use Rattle.boot_runtime.specs.Listing.{clearing_begins, clear_turn, clear_loop, counts_set, opening}
+use Rattle.runtime_code.proofs.Interface.{straight, one_form, recounted, nothing, then_on, moved_to, chain, tested, goes_in, leaves, jumps_back}
+use Rattle.boot_runtime.specs.Listing.{end_tested, clearing_begins, clear_turn, clear_loop, version_cleared, clearing, counts_set, opening}
 use Rattle.memory_map.specs.declared.words.RuntimeWord.TheVariants.{CurrentTask, ListLength, EmitCount, Version}
 use Rattle.memory_map.specs.MemoryMap.{MemoryMap, word_place}
 
@@ -32,20 +37,41 @@ cleared_leave zero p a f h = refl
 cleared_leave (suc n) p a f h =
     cleared_leave n (p + 2) a (put f p 0) (out_of_rest p n a h) ∙ (put_other f p 0 a (λ i. (out_of p n a h) (sym i)))
 
+-- the clearing leaves CUR
+clearing_leaves_task : (m : MemoryMap) (b : Bool) (f : ℕ → ℕ) → KeepsTask m → fram_after (clearing_if m b) f (word_place m CurrentTask) ≡ f (word_place m CurrentTask)
+clearing_leaves_task m true f keeps =
+    let a = word_place m CurrentTask in
+    let es = cleared m.versions.words m.versions.address in
+    ap (λ h. h a) (fram_after-append es (Store (word_place m Version) 0 ∷ []) f)
+    ∙ put_other (fram_after es f) (word_place m Version) 0 a (λ i. let differ : word_place m CurrentTask ≡ word_place m Version = i in omega (arith, differ))
+    ∙ cleared_leave m.versions.words m.versions.address a f keeps.versions
+clearing_leaves_task m false f keeps = refl
+
 -- the opening leaves CUR
 pub task_stays : (m : MemoryMap) (f : ℕ → ℕ) → KeepsTask m → fram_after (opening_effects m f) f (word_place m CurrentTask) ≡ f (word_place m CurrentTask)
 task_stays m f keeps =
     let a = word_place m CurrentTask in
-    let es = cleared m.versions.words m.versions.address in
-    let last : List Effect = Store (word_place m Version) 1 ∷ Store (word_place m ListLength) 0 ∷ Store (word_place m EmitCount) 0 ∷ [] in
+    let es = clearing_if m (is_at_end m f) in
     let g = fram_after es f in
-    let g1 = put g (word_place m Version) 1 in
+    let w = (g (word_place m Version) + 1) % 0x10000 in
+    let g1 = put g (word_place m Version) w in
     let g2 = put g1 (word_place m ListLength) 0 in
-    ap (λ h. h a) (fram_after-append es last f)
+    ap (λ h. h a) (fram_after-append es (counting_effects m g) f)
     ∙ put_other g2 (word_place m EmitCount) 0 a (λ i. let differ : word_place m CurrentTask ≡ word_place m EmitCount = i in omega (arith, differ))
     ∙ put_other g1 (word_place m ListLength) 0 a (λ i. let differ : word_place m CurrentTask ≡ word_place m ListLength = i in omega (arith, differ))
-    ∙ put_other g (word_place m Version) 1 a (λ i. let differ : word_place m CurrentTask ≡ word_place m Version = i in omega (arith, differ))
-    ∙ cleared_leave m.versions.words m.versions.address a f keeps.versions
+    ∙ put_other g (word_place m Version) w a (λ i. let differ : word_place m CurrentTask ≡ word_place m Version = i in omega (arith, differ))
+    ∙ clearing_leaves_task m (is_at_end m f) f keeps
+
+-- whether VER is at its end, by the flag behind its comparison with 65535
+end_flag : (n : ℕ) → n < 0x10000 → ((n + 0 + 1) % 0x10000 == 0) ≡ (n == 0xFFFF)
+end_flag n l = grind (arith, nat_tests, l)
+
+-- the sum that ADD makes
+one_more : (n : ℕ) → (n + 1 + 0) % 0x10000 ≡ (n + 1) % 0x10000
+one_more n = let e : n + 1 + 0 ≡ n + 1 = omega arith in ap (λ k. k % 0x10000) e
+
+raised_by_one : (n : ℕ) → n < 0xFFFF → (n + 1 + 0) % 0x10000 ≡ n + 1
+raised_by_one n l = omega (arith, l)
 
 module _ (code : Code) (tidy : IsTidy code) (m : MemoryMap) (places : AreInFram m) where
   -- where the version words from p on stand
@@ -69,12 +95,12 @@ module _ (code : Code) (tidy : IsTidy code) (m : MemoryMap) (places : AreInFram 
     clear_back : sum16 (p + 2 + 2 + 4 + 2 + 2 + 2) (distance (0x400 - 7)) ≡ p
     clear_back = omega arith
 
-    clearing : (n : ℕ) (u : Core) → u.pc ≡ p → u.work 4 ≡ n → n < 0x10000 → InVersions (u.work 5) n
+    turns : (n : ℕ) (u : Core) → u.pc ≡ p → u.work 4 ≡ n → n < 0x10000 → InVersions (u.work 5) n
         → let es = cleared n (u.work 5) in Comes code es (2 + n * 6) (3 + n * 11) u (IsAt done (fram_after es u.fram) u.readings_left)
-    clearing zero u e c l i =
+    turns zero u e c l i =
         let t : Core = record (tested code tidy p 5 done stands.0 stands.1.0 clear_there u) { pc = done } in
         then_on code 2 0 3 0 u t _ [] [] (leaves code tidy p 5 done stands.0 stands.1.0 clear_there u e c) (nothing code t _ (record { pc = refl; fram = refl; readings_left = refl }))
-    clearing (suc n) u e c l i =
+    turns (suc n) u e c l i =
         let even = i.even in let low = i.low in let top = i.high in let end = places.versions.high in
         let q = u.work 5 in
         let u1 : Core = record (tested code tidy p 5 done stands.0 stands.1.0 clear_there u) { pc = p + 2 + 2 } in
@@ -92,16 +118,36 @@ module _ (code : Code) (tidy : IsTidy code) (m : MemoryMap) (places : AreInFram 
         let i' : InVersions (q + 2) n = record { even = omega (arith, even); low = omega (arith, low); high = omega (arith, top) } in
         let r : Comes code (cleared n (q + 2)) (2 + n * 6) (3 + n * 11) u3 (IsAt done (fram_after (cleared n (q + 2)) (put u.fram q 0)) u.readings_left) =
         subst (λ k. Comes code (cleared n k) (2 + n * 6) (3 + n * 11) u3 (IsAt done (fram_after (cleared n k) (put u.fram q 0)) u.readings_left)) next
-        (clearing n u3 refl (omega (arith, c)) (omega (arith, l)) (subst (λ k. InVersions k n) (sym next) i')) in
+        (turns n u3 refl (omega (arith, c)) (omega (arith, l)) (subst (λ k. InVersions k n) (sym next) i')) in
         recounted code _ (2 + (3 + (1 + (2 + n * 6)))) (2 + suc n * 6) (3 + (6 + (2 + (3 + n * 11)))) (3 + suc n * 11) u _ (omega arith) (omega arith)
         (then_on code 2 (3 + (1 + (2 + n * 6))) 3 (6 + (2 + (3 + n * 11))) u u1 _ [] _ a
         (then_on code 3 (1 + (2 + n * 6)) 6 (2 + (3 + n * 11)) u1 u2 _ es _ b (then_on code 1 (2 + n * 6) 2 (3 + n * 11) u2 u3 _ [] _ d r)))
 
-  -- 34 bytes
-  pub opens : (p : ℕ) (u : Core) → p + 34 < 0x10000 → u.pc ≡ p → Stands code p (opening m)
-      → let n = m.versions.words in let es = opening_effects m u.fram in Comes code es (7 + n * 6) (19 + n * 11) u
-      (IsAt (p + 34) (fram_after es u.fram) u.readings_left)
-  opens p u high e h =
+  -- VER is compared with its end: on to the clearing, or over it
+  pub looks_at_version : (p : ℕ) (b : Bool) (u : Core) → p + 32 < 0x10000 → u.pc ≡ p → Stands code p (end_tested m) → u.fram (word_place m Version) < 0x10000
+      → is_at_end m u.fram ≡ b → Comes code [] 2 6 u (IsAt (if not b then p + 32 else p + 6) u.fram u.readings_left)
+  looks_at_version p b u high e h word z =
+      let hd : List Form = Compare (Constant MinusOne) (word_place m Version) ∷ [] in
+      let u1 = end_of u (forms_run hd u).status in
+      let t : Core = record u1 { pc = if not b then p + 32 else p + 6 } in
+      let flag : ((u.fram (word_place m Version) + 0 + 1) % 65536 == 0) ≡ b = end_flag (u.fram (word_place m Version)) word ∙ z in
+      let over : sum16 (p + 4 + 2) (distance 13) ≡ p + 32 = omega (arith, high) in
+      let behind : p + 4 + 2 ≡ p + 6 = omega arith in
+      let a : Comes code [] 1 4 u (λ v. v ≡ u1) =
+      straight code tidy hd 1 u u1 [] 4 (λ v. v ≡ u1) (tt, tt) (stands_at code p hd u (h.0, tt) e) ((tt, places.words Version), tt) refl refl refl in
+      then_on code 1 1 4 2 u u1 _ [] [] a
+      (one_form code tidy (Jump NotEqual 13) u1 t [] 2 _ (ap (λ x. code (x + 4)) e ∙ h.1.0) tt
+      (ap (λ x. Goes [] 2 (record u1 { pc = if not x then sum16 (u.pc + 4 + 2) (distance 13) else u.pc + 4 + 2 })) flag
+      ∙ ap (λ x. Goes [] 2 (record u1 { pc = if not b then sum16 (x + 4 + 2) (distance 13) else x + 4 + 2 })) e
+      ∙ ap (λ x. Goes [] 2 (record u1 { pc = if not b then x else p + 4 + 2 })) over
+      ∙ ap (λ x. Goes [] 2 (record u1 { pc = if not b then p + 32 else x })) behind)
+      (record { pc = refl; fram = refl; readings_left = refl }))
+
+  -- the clearing, of 26 bytes
+  clears : (p : ℕ) (u : Core) → p + 34 < 0x10000 → u.pc ≡ p → Stands code p (clearing m)
+      → let n = m.versions.words in let es = clearing_if m true in Comes code es (5 + 6 * n) (11 + 11 * n) u
+      (IsAt (p + 26) (fram_after es u.fram) u.readings_left)
+  clears p u high e h =
       let hd = clearing_begins m in
       let n = m.versions.words in
       let f = u.fram in
@@ -109,21 +155,106 @@ module _ (code : Code) (tidy : IsTidy code) (m : MemoryMap) (places : AreInFram 
       let end = places.versions.high in
       let cs = cleared n m.versions.address in
       let g = fram_after cs f in
-      let last : List Effect = Store (word_place m Version) 1 ∷ Store (word_place m ListLength) 0 ∷ Store (word_place m EmitCount) 0 ∷ [] in
+      let last : List Effect = Store (word_place m Version) 0 ∷ [] in
       let u1 = end_of u (forms_run hd u).status in
-      let h1 = stands_back code p hd (clear_loop ++ counts_set m) h in
-      let l1 : Stands code (p + 4 + 4) clear_loop = subst (λ x. Stands code x clear_loop) (omega arith) (stands_front code _ clear_loop (counts_set m) h1) in
-      let t2 : Stands code (p + 22) (counts_set m) = subst (λ x. Stands code x (counts_set m)) (omega arith) (stands_back code _ clear_loop (counts_set m) h1) in
-      let a : Comes code [] 2 4 u (λ v. v ≡ u1) = straight code tidy hd 2 u u1 [] 4 (λ v. v ≡ u1) (tt, (tt, tt)) (stands_at code p hd u (stands_front code p hd (clear_loop ++ counts_set m) h) e)
+      let h1 = stands_back code p hd (clear_loop ++ version_cleared m) h in
+      let l1 : Stands code (p + 4 + 4) clear_loop = subst (λ x. Stands code x clear_loop) (omega arith) (stands_front code _ clear_loop (version_cleared m) h1) in
+      let t2 : Stands code (p + 22) (version_cleared m) =
+      subst (λ x. Stands code x (version_cleared m)) (omega arith) (stands_back code _ clear_loop (version_cleared m) h1) in
+      let a : Comes code [] 2 4 u (λ v. v ≡ u1) =
+      straight code tidy hd 2 u u1 [] 4 (λ v. v ≡ u1) (tt, (tt, tt)) (stands_at code p hd u (stands_front code p hd (clear_loop ++ version_cleared m) h) e)
       ((tt, tt), ((tt, tt), tt)) refl refl refl in
-      let b = clearing (p + 4 + 4) (omega (arith, high)) l1 n u1 (omega (arith, e)) refl (omega (arith, end)) (record { even = places.versions.even; low = omega arith; high = omega arith }) in
+      let b = turns (p + 4 + 4) (omega (arith, high)) l1 n u1 (omega (arith, e)) refl (omega (arith, end))
+      (record { even = places.versions.even; low = omega arith; high = omega arith }) in
       let ab = moved_to code _ (p + 22) _ _ u cs g rs (omega arith) (then_on code 2 (2 + n * 6) 4 (3 + n * 11) u u1 _ [] cs a b) in
-      let d : (v : Core) → v.pc ≡ p + 22 → v.fram ≡ g → v.readings_left ≡ rs → Comes code last 3 12 v (IsAt (p + 34) (fram_after last g) rs) =
+      let d : (v : Core) → v.pc ≡ p + 22 → v.fram ≡ g → v.readings_left ≡ rs → Comes code last 1 4 v (IsAt (p + 26) (fram_after last g) rs) =
       λ v at is left.
-      subst (λ x. Comes code last 3 12 v (IsAt (p + 34) (fram_after last x) rs)) is
-      (straight code tidy (counts_set m) 3 v (end_of v (forms_run (counts_set m) v).status) last 12 _ (tt, (tt, (tt, tt))) (stands_at code (p + 22) (counts_set m) v t2 at)
-      ((tt, places.words Version), ((tt, places.words ListLength), ((tt, places.words EmitCount), tt))) refl refl
+      subst (λ x. Comes code last 1 4 v (IsAt (p + 26) (fram_after last x) rs)) is
+      (straight code tidy (version_cleared m) 1 v (end_of v (forms_run (version_cleared m) v).status) last 4 _ (tt, tt)
+      (stands_at code (p + 22) (version_cleared m) v t2 at) ((tt, places.words Version), tt) refl refl
       (record { pc = omega (arith, at); fram = refl; readings_left = left })) in
-      recounted code (cs ++ last) (2 + (2 + n * 6) + 3) (7 + n * 6) (4 + (3 + n * 11) + 12) (19 + n * 11) u _ (omega arith) (omega arith)
-      (subst (λ x. Comes code (cs ++ last) (2 + (2 + n * 6) + 3) (4 + (3 + n * 11) + 12) u (IsAt (p + 34) x rs)) (sym (fram_after-append cs last f))
-      (chain code (2 + (2 + n * 6)) 3 (4 + (3 + n * 11)) 12 (p + 22) u cs last g rs (IsAt (p + 34) (fram_after last g) rs) ab d))
+      recounted code (cs ++ last) (2 + (2 + n * 6) + 1) (5 + 6 * n) (4 + (3 + n * 11) + 4) (11 + 11 * n) u _ (omega arith) (omega arith)
+      (subst (λ x. Comes code (cs ++ last) (2 + (2 + n * 6) + 1) (4 + (3 + n * 11) + 4) u (IsAt (p + 26) x rs)) (sym (fram_after-append cs last f))
+      (chain code (2 + (2 + n * 6)) 1 (4 + (3 + n * 11)) 4 (p + 22) u cs last g rs (IsAt (p + 26) (fram_after last g) rs) ab d))
+
+  -- VER goes up by one
+  pub raises : (p : ℕ) (u : Core) → u.pc ≡ p → Stands code p (counts_set m) → u.fram (word_place m Version) < 0xFFFF
+      → let w = u.fram (word_place m Version) + 1 in
+      Comes code (Store (word_place m Version) w ∷ []) 1 4 u (IsAt (p + 4) (put u.fram (word_place m Version) w) u.readings_left)
+  raises p u e h low =
+      let a = word_place m Version in
+      let ms : List Form = Update Add (Constant One) a ∷ [] in
+      subst (λ w. Comes code (Store a w ∷ []) 1 4 u (IsAt (p + 4) (put u.fram a w) u.readings_left)) (raised_by_one (u.fram a) low)
+      (straight code tidy ms 1 u (end_of u (forms_run ms u).status) (Store a ((u.fram a + 1 + 0) % 0x10000) ∷ []) 4 _ (tt, tt)
+      (stands_at code p ms u (h.0, tt) e) ((tt, refl, tt, places.words Version), tt) refl refl
+      (record { pc = omega (arith, e); fram = refl; readings_left = refl }))
+
+  -- VER, CLN and EN, of 12 bytes
+  counts : (p : ℕ) (u : Core) → u.pc ≡ p → Stands code p (counts_set m)
+      → let es = counting_effects m u.fram in Comes code es 3 12 u (IsAt (p + 12) (fram_after es u.fram) u.readings_left)
+  counts p u e h =
+      let f = u.fram in
+      let a = word_place m Version in
+      let set : ℕ → List Effect = λ w. Store a w ∷ Store (word_place m ListLength) 0 ∷ Store (word_place m EmitCount) 0 ∷ [] in
+      let n = f a in
+      subst (λ w. Comes code (set w) 3 12 u (IsAt (p + 12) (fram_after (set w) f) u.readings_left)) (one_more n)
+      (straight code tidy (counts_set m) 3 u (end_of u (forms_run (counts_set m) u).status) (set ((n + 1 + 0) % 0x10000)) 12 _ (tt, (tt, (tt, tt)))
+      (stands_at code p (counts_set m) u h e)
+      ((tt, refl, tt, places.words Version), ((tt, places.words ListLength), ((tt, places.words EmitCount), tt))) refl refl
+      (record { pc = omega (arith, e); fram = refl; readings_left = refl }))
+
+  -- the steps and cycles of the clearing, by whether it comes
+  abbrev pub clearing_steps : Bool → ℕ
+  clearing_steps b = if b then 5 + 6 * m.versions.words else 0
+
+  abbrev pub clearing_cycles : Bool → ℕ
+  clearing_cycles b = if b then 11 + 11 * m.versions.words else 0
+
+  -- the clearing, where it comes
+  clears_if : (b : Bool) (p : ℕ) (u : Core) → p + 44 < 0x10000 → u.pc ≡ p → u.fram (word_place m Version) < 0x10000 → Stands code p (end_tested m)
+      → Stands code (p + 6) (clearing m) → is_at_end m u.fram ≡ b
+      → let es = clearing_if m b in Comes code es (2 + clearing_steps b) (6 + clearing_cycles b) u (IsAt (p + 32) (fram_after es u.fram) u.readings_left)
+  clears_if true p u high e word h k z =
+      let f = u.fram in let rs = u.readings_left in
+      let n = m.versions.words in
+      let es = clearing_if m true in
+      let Q : ℕ → (ℕ → ℕ) → List ℕ → Core → Type 0 = λ q g l v. Comes code es (5 + 6 * n) (11 + 11 * n) v (IsAt q (fram_after es g) l) in
+      let there : p + 6 + 26 ≡ p + 32 = omega arith in
+      let d : (v : Core) → v.pc ≡ p + 6 → v.fram ≡ f → v.readings_left ≡ rs → Q (p + 32) f rs v =
+      λ v at is left. subst (λ q. Q q f rs v) there (subst (λ l. Q (p + 6 + 26) f l v) left
+      (subst (λ g. Q (p + 6 + 26) g v.readings_left v) is (clears (p + 6) v (omega (arith, high)) at k))) in
+      chain code 2 (5 + 6 * n) 6 (11 + 11 * n) (p + 6) u [] es f rs (IsAt (p + 32) (fram_after es f) rs)
+      (looks_at_version p true u (omega (arith, high)) e h word z) d
+  clears_if false p u high e word h k z = looks_at_version p false u (omega (arith, high)) e h word z
+
+  -- the opening, of 44 bytes
+  opens_by : (b : Bool) (p : ℕ) (u : Core) → p + 44 < 0x10000 → u.pc ≡ p → u.fram (word_place m Version) < 0x10000 → Stands code p (opening m)
+      → is_at_end m u.fram ≡ b
+      → let cs = clearing_if m b in let es = cs ++ counting_effects m (fram_after cs u.fram) in
+      Comes code es (5 + clearing_steps b) (18 + clearing_cycles b) u (IsAt (p + 44) (fram_after es u.fram) u.readings_left)
+  opens_by b p u high e word h z =
+      let f = u.fram in let rs = u.readings_left in
+      let cs = clearing_if m b in
+      let g = fram_after cs f in
+      let last = counting_effects m g in
+      let x = clearing_steps b in let y = clearing_cycles b in
+      let h1 = stands_back code p (end_tested m) (clearing m ++ counts_set m) h in
+      let k : Stands code (p + 6) (clearing m) =
+      subst (λ q. Stands code q (clearing m)) (omega arith) (stands_front code _ (clearing m) (counts_set m) h1) in
+      let t : Stands code (p + 32) (counts_set m) =
+      subst (λ q. Stands code q (counts_set m)) (omega arith) (stands_back code _ (clearing m) (counts_set m) h1) in
+      let a = clears_if b p u high e word (stands_front code p (end_tested m) (clearing m ++ counts_set m) h) k z in
+      let Q : ℕ → (ℕ → ℕ) → List ℕ → Core → Type 0 =
+      λ q i l v. Comes code (counting_effects m i) 3 12 v (IsAt q (fram_after (counting_effects m i) i) l) in
+      let there : p + 32 + 12 ≡ p + 44 = omega arith in
+      let d : (v : Core) → v.pc ≡ p + 32 → v.fram ≡ g → v.readings_left ≡ rs → Q (p + 44) g rs v =
+      λ v at is left. subst (λ q. Q q g rs v) there (subst (λ l. Q (p + 32 + 12) g l v) left
+      (subst (λ i. Q (p + 32 + 12) i v.readings_left v) is (counts (p + 32) v at t))) in
+      recounted code (cs ++ last) (2 + x + 3) (5 + x) (6 + y + 12) (18 + y) u _ (omega arith) (omega arith)
+      (subst (λ i. Comes code (cs ++ last) (2 + x + 3) (6 + y + 12) u (IsAt (p + 44) i rs)) (sym (fram_after-append cs last f))
+      (chain code (2 + x) 3 (6 + y) 12 (p + 32) u cs last g rs (IsAt (p + 44) (fram_after last g) rs) a d))
+
+  pub opens : (p : ℕ) (u : Core) → p + 44 < 0x10000 → u.pc ≡ p → u.fram (word_place m Version) < 0x10000 → Stands code p (opening m)
+      → let es = opening_effects m u.fram in let b = is_at_end m u.fram in
+      Comes code es (5 + clearing_steps b) (18 + clearing_cycles b) u (IsAt (p + 44) (fram_after es u.fram) u.readings_left)
+  opens p u high e word h = opens_by (is_at_end m u.fram) p u high e word h refl

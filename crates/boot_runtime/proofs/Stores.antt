@@ -1,14 +1,15 @@
 -- Where the start of an attempt stores.
-use Rattle.std.proofs.Common.{ℕ, zero, suc, ◌+◌, ◌*◌, ◌<◌, List, [], ◌∷◌, arith, subst}
+use Rattle.std.proofs.Common.{ℕ, zero, suc, ◌+◌, ◌*◌, ◌<◌, List, [], ◌∷◌, arith, subst, Bool, true, false}
 use Rattle.std.specs.List.{All}
 use Rattle.std.proofs.lemmas.List.Elements.{All-head, All-tail, All-weaker}
+use Rattle.runtime_code.specs.fram_board.Effects.{Store}
 use Rattle.runtime_code.specs.machine_effects.World.{put, fram_after, EachStore}
 use Rattle.runtime_code.specs.machine_effects.Machine.{IsFram}
 use Rattle.runtime_code.proofs.machine_effects.Interface.{each_store-append}
 use Rattle.memory_map.specs.declared.words.RuntimeWord.TheVariants.{CurrentTask, ListLength, EmitCount, Version}
 use Rattle.memory_map.specs.MemoryMap.{MemoryMap, word_place}
 use Rattle.runtime_code.specs.runtime_effects.Places.{CopyPair}
-use Rattle.runtime_code.specs.runtime_effects.Stages.{cleared, copied_in, opening_effects, start_effects}
+use Rattle.runtime_code.specs.runtime_effects.Stages.{is_at_end, clearing_if, cleared, counting_effects, copied_in, opening_effects, start_effects}
 use Rattle.runtime_code.specs.runtime_effects.Needs.{IsRegion, ArePairWords}
 use Rattle.boot_runtime.specs.Laws.{StartStoresInFram}
 
@@ -21,17 +22,31 @@ copies_stored : (P : ℕ → ℕ → Type 0) (xs : List CopyPair) (f : ℕ → �
 copies_stored P [] f h = tt
 copies_stored P (x ∷ xs) f h = (All-head (λ x. (w : ℕ) → P x.copy w) x xs h (f x.home), copies_stored P xs (put f x.copy (f x.home)) (All-tail (λ x. (w : ℕ) → P x.copy w) x xs h))
 
--- what holds at each version word, at VER, CLN and EN, and at the copies of the task's private scalars holds of each store of a start
+-- what holds at each version word, at VER with any word, at CLN and EN holds of each store of an opening
+opening_stores : (P : ℕ → ℕ → Type 0) (m : MemoryMap) (f : ℕ → ℕ)
+    → ((i : ℕ) → i < m.versions.words → P (m.versions.address + 2 * i) 0)
+    → ((w : ℕ) → P (word_place m Version) w) → P (word_place m ListLength) 0 → P (word_place m EmitCount) 0
+    → EachStore P (opening_effects m f)
+opening_stores P m f versions version length count =
+    let es = clearing_if m (is_at_end m f) in
+    each_store-append P es (counting_effects m (fram_after es f)) (clearing_stores (is_at_end m f)) (version _, (length, (count, tt)))
+  where
+    clearing_stores : (b : Bool) → EachStore P (clearing_if m b)
+    clearing_stores true =
+        each_store-append P (cleared m.versions.words m.versions.address) (Store (word_place m Version) 0 ∷ [])
+        (words_cleared P m.versions.words m.versions.address versions) (version 0, tt)
+    clearing_stores false = tt
+
+-- and of each store of a start, where it holds at the copies of the task's private scalars
 pub start_stores : (P : ℕ → ℕ → Type 0) (m : MemoryMap) (privates : ℕ → List CopyPair) (f : ℕ → ℕ)
     → ((i : ℕ) → i < m.versions.words → P (m.versions.address + 2 * i) 0)
-    → P (word_place m Version) 1 → P (word_place m ListLength) 0 → P (word_place m EmitCount) 0
+    → ((w : ℕ) → P (word_place m Version) w) → P (word_place m ListLength) 0 → P (word_place m EmitCount) 0
     → All (λ x. (w : ℕ) → P x.copy w) (privates (f (word_place m CurrentTask)))
     → EachStore P (start_effects m privates f)
 start_stores P m privates f versions version length count copies =
     let g = fram_after (opening_effects m f) f in
     each_store-append P (opening_effects m f) (copied_in (privates (f (word_place m CurrentTask))) g)
-    (each_store-append P (cleared m.versions.words m.versions.address) _ (words_cleared P m.versions.words m.versions.address versions)
-    (version, (length, (count, tt))))
+    (opening_stores P m f versions version length count)
     (copies_stored P (privates (f (word_place m CurrentTask))) g copies)
 
 in_fram : (p n i : ℕ) → IsRegion p (2 * n) → i < n → IsFram (p + 2 * i)
@@ -39,6 +54,6 @@ in_fram p n i r l = let even = r.even in let low = r.low in let high = r.high in
 
 pub start_stores_in_fram : StartStoresInFram
 start_stores_in_fram m privates f places words =
-    start_stores (λ a w. IsFram a) m privates f (λ i l. in_fram m.versions.address m.versions.words i places.versions l) (places.words Version)
+    start_stores (λ a w. IsFram a) m privates f (λ i l. in_fram m.versions.address m.versions.words i places.versions l) (λ w. places.words Version)
     (places.words ListLength) (places.words EmitCount)
     (All-weaker ArePairWords (λ x. (w : ℕ) → IsFram x.copy) (λ x h w. h.copy) (privates (f (word_place m CurrentTask))) words)

@@ -1,14 +1,13 @@
--- The length of the boot's code.
-use Rattle.std.proofs.Common.{◌≡◌, ℕ, ◌+◌, ◌*◌, ◌≤◌, List, [], ◌∷◌, ◌++◌, length, refl, ◌∙◌, arith}
+-- The length of the boot's code, and what a start costs at most.
+use Rattle.std.proofs.Common.{◌≡◌, ℕ, ◌+◌, ◌*◌, ◌≤◌, List, [], ◌∷◌, ◌++◌, length, refl, ◌∙◌, arith, true, false}
 use Rattle.runtime_code.specs.code_forms.Forms.{Branch}
 use Rattle.runtime_code.specs.code_forms.Code.{forms_bytes}
 use Rattle.runtime_code.specs.code_forms.Placed.{instructions, AreInstructions}
 use Rattle.runtime_code.proofs.code_forms.Interface.{forms_bytes-append}
 use Rattle.runtime_code.specs.runtime_effects.Places.{CopyPair}
 use Rattle.runtime_code.proofs.Interface.{code_bytes, are_instructions-append}
-use Rattle.boot_runtime.specs.Listing.{TaskEntry, head, opening, dispatch, copies_in, stub, stub_bytes, ladder_to, ladder_offset, ladder_address, stubs_address}
-use Rattle.boot_runtime.specs.Listing.{stubs, stubs_bytes, boot_forms}
-use Rattle.boot_runtime.specs.Laws.{BootIsShort, BootIsCode, BootFits, entry_room}
+use Rattle.boot_runtime.specs.Listing.{TaskEntry, head, opening, dispatch, copies_in, stub, stub_bytes, ladder_to, stubs, stubs_bytes, boot_forms, ladder_offset, ladder_address, stubs_address}
+use Rattle.boot_runtime.specs.Laws.{StartsAreShort, ClearingIsDearest, BootIsShort, BootIsCode, BootFits, entry_room}
 use Rattle.boot_runtime.proofs.Entering.{stub_size, ladder_bytes}
 use Rattle.memory_map.specs.MemoryMap.{MemoryMap}
 
@@ -62,3 +61,10 @@ entries_fit (t ∷ ts) = let e = entries_fit ts in omega (arith, e)
 
 pub boot_fits : BootFits
 boot_fits tasks = let e = entries_fit tasks in omega (arith, e)
+
+pub starts_are_short : StartsAreShort
+starts_are_short versions privates = omega arith
+
+pub clearing_is_dearest : ClearingIsDearest
+clearing_is_dearest true versions privates = omega arith
+clearing_is_dearest false versions privates = omega arith

@@ -7,7 +7,7 @@ use Rattle.runtime_code.specs.code_forms.Placed.{instructions}
 use Rattle.runtime_code.proofs.code_forms.Interface.{instructions-append}
 use Rattle.runtime_code.specs.LayoutPlaces.{pairs_of}
 use Rattle.boot_runtime.specs.Entries.{entry_of}
-use Rattle.boot_runtime.specs.Listing.{TaskEntry, copies_in, stub, stubs, ladder_to, ladder_address, stubs_address, fixed_forms, boot_forms}
+use Rattle.boot_runtime.specs.Listing.{TaskEntry, copies_in, stub, stubs, ladder_to, fixed_forms, boot_forms, ladder_address, stubs_address}
 use Rattle.memory_map.specs.MemoryMap.{TaskPlace, MemoryMap}
 
 -- one more stub

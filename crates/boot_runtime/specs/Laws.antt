@@ -1,18 +1,19 @@
 -- What the boot's code does.
-use Rattle.std.specs.Prelude.{◌≡◌, ◌≢◌, ℕ, ◌+◌, ◌*◌, ◌%◌, ◌<◌, List, [], length, All, ◌≤◌, ◌∷◌}
-use Rattle.runtime_code.specs.machine_effects.World.{fram_after, EachStore}
+use Rattle.std.specs.Prelude.{◌≡◌, ◌≢◌, ℕ, ◌+◌, ◌*◌, ◌%◌, ◌<◌, Bool, true, false, List, [], length, All, ◌≤◌, ◌∷◌}
+use Rattle.runtime_code.specs.fram_board.Effects.{Store}
+use Rattle.runtime_code.specs.machine_effects.World.{put, fram_after, EachStore}
 use Rattle.runtime_code.specs.machine_effects.Machine.{Code, IsFram}
 use Rattle.runtime_code.specs.code_forms.Forms.{Core}
 use Rattle.runtime_code.specs.code_forms.Code.{Stands, IsTidy}
 use Rattle.runtime_code.specs.code_forms.Placed.{instructions, words_of, AreInstructions}
-use Rattle.memory_map.specs.declared.words.RuntimeWord.TheVariants.{CurrentTask, Gate}
+use Rattle.memory_map.specs.declared.words.RuntimeWord.TheVariants.{CurrentTask, Gate, Version}
 use Rattle.memory_map.specs.MemoryMap.{MemoryMap, word_place}
 use Rattle.runtime_code.specs.runtime_effects.Places.{CopyPair}
-use Rattle.runtime_code.specs.runtime_effects.Stages.{start_effects}
+use Rattle.runtime_code.specs.runtime_effects.Stages.{is_at_end, start_effects}
 use Rattle.runtime_code.specs.runtime_effects.Needs.{AreInFram, KeepsTask, ArePairWords}
 use Rattle.address_space.specs.Limits.{stack_top}
 use Rattle.runtime_code.specs.Addresses.{start_address}
-use Rattle.runtime_code.specs.Comes.{Comes, Enters}
+use Rattle.runtime_code.specs.Comes.{Comes, IsAt, Enters}
 use Rattle.memory_map.specs.Places.{IsLaidOut}
 use Rattle.privatise.specs.Sizes.{own_boot_words}
 use Rattle.boot_runtime.specs.Entries.{task_entries}
@@ -46,14 +47,33 @@ AttemptIsFound = (code : Code) (m : MemoryMap) (commit : ℕ) (tasks : List Task
     → Comes code [] 3 8 u (Enters (start_address at) stack_top u.fram u.readings_left)
 
 -- from the attempt's start on, whatever the registers: where CUR names a task it makes exactly the start, and comes to the task's
--- code with nothing on the stack, in a number of steps and of cycles that depends on its private scalars alone
+-- code with nothing on the stack, in a number of steps and of cycles that depends on its private scalars alone, and on the version
+-- words where VER is at its end
 abbrev pub StartIsMade : Type 0
 StartIsMade = (code : Code) (m : MemoryMap) (commit : ℕ) (tasks : List TaskEntry) (at : ℕ) (u : Core) → IsBoot code m commit tasks at
-    → u.pc ≡ start_address at → u.fram (word_place m CurrentTask) < length tasks
+    → u.pc ≡ start_address at → u.fram (word_place m CurrentTask) < length tasks → u.fram (word_place m Version) < 0x10000
     → let t = entry_at tasks (u.fram (word_place m CurrentTask)) in
+    let clears = is_at_end m u.fram in
     let es = start_effects m (privates_in tasks) u.fram in
-    Comes code es (start_steps m.versions.words (length t.privates)) (start_cycles m.versions.words (length t.privates)) u
+    Comes code es (start_steps clears m.versions.words (length t.privates)) (start_cycles clears m.versions.words (length t.privates)) u
     (Enters t.code stack_top (fram_after es u.fram) u.readings_left)
+
+-- from the boot's address on, whatever the registers: where GATE isn't 1 and VER isn't at its end, the sixth instruction raises VER, and
+-- is the first that stores
+abbrev pub VersionIsRaised : Type 0
+VersionIsRaised = (code : Code) (m : MemoryMap) (commit : ℕ) (tasks : List TaskEntry) (at : ℕ) (u : Core) → IsBoot code m commit tasks at
+    → u.pc ≡ at → u.fram (word_place m Gate) < 0x10000 → u.fram (word_place m Gate) ≢ 1 → u.fram (word_place m Version) < 0xFFFF
+    → let raised = u.fram (word_place m Version) + 1 in
+    Comes code (Store (word_place m Version) raised ∷ []) 6 18 u
+    (IsAt (start_address at + 36) (put u.fram (word_place m Version) raised) u.readings_left)
+
+-- a start without clearing takes 40 cycles at most, and 6 for each private scalar, whatever the arrays
+abbrev pub StartsAreShort : Type 0
+StartsAreShort = (versions privates : ℕ) → start_cycles false versions privates ≤ 40 + 6 * privates
+
+-- and never more than one with it
+abbrev pub ClearingIsDearest : Type 0
+ClearingIsDearest = (clears : Bool) (versions privates : ℕ) → start_cycles clears versions privates ≤ start_cycles true versions privates
 
 -- the code's length
 abbrev pub BootIsShort : Type 0

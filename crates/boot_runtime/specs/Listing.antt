@@ -1,9 +1,9 @@
 -- The boot's code: its listing.
-use Rattle.std.specs.Prelude.{ℕ, ◌+◌, ◌-◌, ◌*◌, List, [], ◌∷◌, ◌++◌, length, get_or}
+use Rattle.std.specs.Prelude.{ℕ, ◌+◌, ◌-◌, ◌*◌, Bool, if◌then◌else◌, List, [], ◌∷◌, ◌++◌, length, get_or}
 use Rattle.msp_isa.specs.declared.instructions.TwoOp.TheVariants.{Add, Sub}
 use Rattle.msp_isa.specs.declared.instructions.Condition.TheVariants.{NotEqual}
-use Rattle.msp_isa.specs.declared.operands.Konst.TheVariants.{Zero, One, Two}
-use Rattle.runtime_code.specs.code_forms.Forms.{Form, Move, Calculate, Compare, SetStack, Jump, Branch, BranchRegister, R4, R5}
+use Rattle.msp_isa.specs.declared.operands.Konst.TheVariants.{Zero, One, Two, MinusOne}
+use Rattle.runtime_code.specs.code_forms.Forms.{Form, Move, Calculate, Compare, Update, SetStack, Jump, Branch, BranchRegister, R4, R5}
 use Rattle.runtime_code.specs.code_forms.Forms.{Register, Number, Constant, Fram, ToRegister, ToFram, ToPointed}
 use Rattle.memory_map.specs.declared.words.RuntimeWord.TheVariants.{CurrentTask, Gate, ListLength, EmitCount, Version}
 use Rattle.memory_map.specs.MemoryMap.{MemoryMap, word_place}
@@ -28,6 +28,10 @@ privates_in tasks k = (entry_at tasks k).privates
 abbrev pub head : MemoryMap → ℕ → List Form
 head m commit = SetStack stack_top ∷ Compare (Constant One) (word_place m Gate) ∷ Jump NotEqual 2 ∷ Branch commit ∷ []
 
+-- where VER isn't at its end, over the clearing
+abbrev pub end_tested : MemoryMap → List Form
+end_tested m = Compare (Constant MinusOne) (word_place m Version) ∷ Jump NotEqual 13 ∷ []
+
 -- R4 := the number of version words, R5 := their place
 abbrev pub clearing_begins : MemoryMap → List Form
 clearing_begins m = Move (Number m.versions.words) (ToRegister R4) ∷ Move (Number m.versions.address) (ToRegister R5) ∷ []
@@ -40,15 +44,23 @@ clear_turn = Move (Constant Zero) (ToPointed R5) ∷ Calculate Add (Constant Two
 abbrev pub clear_loop : List Form
 clear_loop = counted clear_turn 5 (0x400 - 7)
 
--- VER := 1, CLN := 0, EN := 0
+-- VER := 0
+abbrev pub version_cleared : MemoryMap → List Form
+version_cleared m = Move (Constant Zero) (ToFram (word_place m Version)) ∷ []
+
+-- the clearing: each version word becomes 0, and then VER
+abbrev pub clearing : MemoryMap → List Form
+clearing m = clearing_begins m ++ (clear_loop ++ version_cleared m)
+
+-- VER := VER + 1, CLN := 0, EN := 0
 abbrev pub counts_set : MemoryMap → List Form
 counts_set m =
-    Move (Constant One) (ToFram (word_place m Version)) ∷ Move (Constant Zero) (ToFram (word_place m ListLength))
+    Update Add (Constant One) (word_place m Version) ∷ Move (Constant Zero) (ToFram (word_place m ListLength))
     ∷ Move (Constant Zero) (ToFram (word_place m EmitCount)) ∷ []
 
 -- an attempt's opening
 abbrev pub opening : MemoryMap → List Form
-opening m = clearing_begins m ++ (clear_loop ++ counts_set m)
+opening m = end_tested m ++ (clearing m ++ counts_set m)
 
 -- SP := its top, R4 := the place in a ladder of four bytes a task
 abbrev pub task_found : MemoryMap → ℕ → List Form
@@ -85,7 +97,7 @@ stubs (t ∷ ts) = stub t ++ stubs ts
 
 -- the bytes before the ladder
 abbrev pub ladder_offset : ℕ
-ladder_offset = 66
+ladder_offset = 76
 
 -- the ladder's place, by the place of the boot
 abbrev pub ladder_address : ℕ → ℕ
@@ -108,14 +120,14 @@ abbrev pub stubs_bytes : List TaskEntry → ℕ
 stubs_bytes [] = 0
 stubs_bytes (t ∷ ts) = stub_bytes t + stubs_bytes ts
 
--- the length of it all: 33 words, and for each task 4 and 3 for each private scalar
+-- the length of it all: 38 words, and for each task 4 and 3 for each private scalar
 abbrev pub boot_bytes : List TaskEntry → ℕ
 boot_bytes tasks = ladder_offset + 4 * length tasks + stubs_bytes tasks
 
--- the steps of an attempt's start, by the version words and the private scalars
-abbrev pub start_steps : ℕ → ℕ → ℕ
-start_steps versions privates = 15 + 6 * versions + privates
+-- the steps of an attempt's start, by whether the clearing comes first, by the version words and by the private scalars
+abbrev pub start_steps : Bool → ℕ → ℕ → ℕ
+start_steps clears versions privates = 13 + (if clears then 5 + 6 * versions else 0) + privates
 
--- its cycles
-abbrev pub start_cycles : ℕ → ℕ → ℕ
-start_cycles versions privates = 36 + 11 * versions + 6 * privates
+-- its cycles: the version words cost an attempt nothing but once in 65535
+abbrev pub start_cycles : Bool → ℕ → ℕ → ℕ
+start_cycles clears versions privates = 35 + (if clears then 11 + 11 * versions else 0) + 6 * privates

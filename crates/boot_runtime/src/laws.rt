@@ -1,6 +1,6 @@
 //! Laws of the boot's code. The functions do nothing: their contracts are the laws.
 
-ghost use Rattle.boot_runtime.specs.Laws.{PendingCommitIsFound, AttemptIsFound, StartIsMade, BootIsShort, BootIsCode, BootFits, StartStoresInFram, TasksAreEntered};
+ghost use Rattle.boot_runtime.specs.Laws.{PendingCommitIsFound, AttemptIsFound, StartIsMade, VersionIsRaised, StartsAreShort, ClearingIsDearest, BootIsShort, BootIsCode, BootFits, StartStoresInFram, TasksAreEntered};
 
 /// From its first instruction on, the boot comes to the commit where GATE is 1, and else to the start of an attempt, whatever the
 /// registers hold.
@@ -16,7 +16,22 @@ pub fn start_is_made()
     ensures { StartIsMade }
 {}
 
-/// The code is 33 words long, and for each task 4 and 3 for each of its private scalars, which is within the allowance; each of its
+/// In a charge that begins with GATE not 1 and VER not 65535 the sixth instruction raises VER, and is the first that stores: however soon
+/// the next cut comes behind it, the next attempt has another number.
+#[tactic(auto, using(crate::proofs::Boot::version_is_raised))]
+pub fn version_is_raised()
+    ensures { VersionIsRaised }
+{}
+
+/// The start of an attempt takes 40 cycles at most and 6 for each private scalar, whatever the arrays; but for the clearing, which comes
+/// once in 65535 attempts.
+#[tactic(auto, using(crate::proofs::Words::starts_are_short, crate::proofs::Words::clearing_is_dearest))]
+pub fn starts_are_short()
+    ensures short { StartsAreShort }
+    ensures dearest { ClearingIsDearest }
+{}
+
+/// The code is 38 words long, and for each task 4 and 3 for each of its private scalars, which is within the allowance; each of its
 /// instructions has its words.
 pub fn boot_is_short()
     ensures short { BootIsShort }

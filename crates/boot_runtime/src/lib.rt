@@ -8,11 +8,12 @@ mod stubs;
 ghost use Rattle.std.specs.Prelude.{◌≡◌, ◌+◌, ◌<◌, ℕ, IfOk};
 ghost use Rattle.runtime_code.specs.code_forms.Placed.{instructions};
 ghost use Rattle.boot_runtime.specs.Entries.{task_entries};
-ghost use Rattle.boot_runtime.specs.Listing.{head, clearing_begins, clear_loop, counts_set, dispatch, fixed_forms, boot_forms, boot_bytes};
+ghost use Rattle.boot_runtime.specs.Listing.{head, end_tested, clearing_begins, clear_loop, version_cleared, counts_set, dispatch, fixed_forms, boot_forms, boot_bytes};
 
 use address_space::STACK_TOP;
 pub use laws::{
-    boot_is_short, boot_obeys_the_gate, start_is_made, start_stores_in_fram, tasks_are_entered,
+    boot_is_short, boot_obeys_the_gate, start_is_made, start_stores_in_fram, starts_are_short,
+    tasks_are_entered, version_is_raised,
 };
 use memory_map::{Layout, RuntimeWord};
 use msp_isa::{Condition, Dst, IndexRegister, Instr, Konst, Reg, Src};
@@ -21,7 +22,7 @@ use std::alloc::{AllocError, Global};
 use stubs::{push_ladder, push_stubs};
 
 /// The bytes of the code before the ladder.
-const LADDER: u16 = 66;
+const LADDER: u16 = 76;
 
 // SP := its top; where GATE is 1 a branch to the commit, else over it.
 fn head(layout: &Layout) -> [Instr; 4]
@@ -33,6 +34,17 @@ fn head(layout: &Layout) -> [Instr; 4]
         cmp(Src::Constant(Konst::One), gate),
         jump(Condition::NotEqual, 2),
         branch(layout.commit().address),
+    ]
+}
+
+// Where VER isn't at its end, over the clearing.
+fn end_tested(layout: &Layout) -> [Instr; 2]
+    ensures { result ≡ instructions (end_tested layout.now) }
+{
+    let version = Dst::Absolute(layout.word_place(RuntimeWord::Version));
+    [
+        cmp(Src::Constant(Konst::MinusOne), version),
+        jump(Condition::NotEqual, 13),
     ]
 }
 
@@ -68,7 +80,15 @@ fn clear_loop() -> [Instr; 6]
     ]
 }
 
-// VER := 1, CLN := 0, EN := 0.
+// VER := 0.
+fn version_cleared(layout: &Layout) -> [Instr; 1]
+    ensures { result ≡ instructions (version_cleared layout.now) }
+{
+    let version = Dst::Absolute(layout.word_place(RuntimeWord::Version));
+    [mov(Src::Constant(Konst::Zero), version)]
+}
+
+// VER := VER + 1, CLN := 0, EN := 0.
 fn counts_set(layout: &Layout) -> [Instr; 3]
     ensures { result ≡ instructions (counts_set layout.now) }
 {
@@ -76,7 +96,7 @@ fn counts_set(layout: &Layout) -> [Instr; 3]
     let list_length = Dst::Absolute(layout.word_place(RuntimeWord::ListLength));
     let emit_count = Dst::Absolute(layout.word_place(RuntimeWord::EmitCount));
     [
-        mov(Src::Constant(Konst::One), version),
+        add(Src::Constant(Konst::One), version),
         mov(Src::Constant(Konst::Zero), list_length),
         mov(Src::Constant(Konst::Zero), emit_count),
     ]
@@ -104,8 +124,10 @@ fn fixed_code(alloc: Global, layout: &Layout, ladder: u16) -> Result<Vec<Instr>,
 {
     let mut code = Vec::new(alloc);
     code.extend_from_slice(&head(layout))?;
+    code.extend_from_slice(&end_tested(layout))?;
     code.extend_from_slice(&clearing_begins(layout))?;
     code.extend_from_slice(&clear_loop())?;
+    code.extend_from_slice(&version_cleared(layout))?;
     code.extend_from_slice(&counts_set(layout))?;
     code.extend_from_slice(&dispatch(layout, ladder))?;
     Ok(code)
@@ -114,8 +136,9 @@ fn fixed_code(alloc: Global, layout: &Layout, ladder: u16) -> Result<Vec<Instr>,
 /// The instructions of the boot for a layout, to stand at an address; or no memory is left.
 ///
 /// First SP is set and GATE looked at: where it is 1 a branch leads to the commit. Else, and after a commit from 14 bytes behind
-/// the address on, an attempt starts: every version word := 0, VER := 1, CLN := 0, EN := 0; then, by CUR, the private scalars of the
-/// task are copied, and a branch leads to its code. They take 33 words, and for each task 4 and 3 for each of its private scalars.
+/// the address on, an attempt starts. Where VER is 65535, every version word := 0, then VER := 0. Then VER := VER + 1, CLN := 0,
+/// EN := 0; and, by CUR, the private scalars of the task are copied, and a branch leads to its code. They take 38 words, and for each
+/// task 4 and 3 for each of its private scalars.
 pub fn boot_code(alloc: Global, layout: &Layout, at: u16) -> Result<Vec<Instr>, AllocError>
     requires { at + boot_bytes (task_entries layout.now) < 65536 }
     ensures { IfOk result (λ code. code.items ≡ instructions (boot_forms layout.now layout.now.commit.address (task_entries layout.now) at)) }

@@ -36,9 +36,9 @@ entries_cost l layout Short = omega arith
 entries_cost l layout Strays = omega arith
 entries_cost l layout Broken = omega arith
 
--- a boot, the clearing of versions, the copies of private scalars, the body, the entries, and the commit
+-- a boot, a start with the clearing of versions and the copies of private scalars, the body, the entries, and the commit
 all_within : (v1 v2 privates scalars body price list emits : ℕ) → v1 ≡ v2 → privates ≡ scalars → body ≤ price + 21 * privates
-    → 11 + (36 + 11 * v1 + 6 * privates) + body + (42 + 15 * list + 16 * emits)
+    → 11 + (35 + (11 + 11 * v1) + 6 * privates) + body + (42 + 15 * list + 16 * emits)
     ≤ 400 + 12 * v2 + 72 * scalars + price + 40 * list + 40 * emits
 all_within v1 v2 privates scalars body price list emits v e b = omega (arith, v, e, b)
 

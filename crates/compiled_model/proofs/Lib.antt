@@ -8,4 +8,5 @@ pub use Rattle.lower.proofs.source_values as source_values
 pub use Rattle.linked_code.proofs.array_versions as array_versions
 pub use Rattle.lower.proofs as lower
 pub use Rattle.linked_code.proofs.runtime_code as runtime_code
+pub use Rattle.linked_code.proofs.boot_runtime as boot_runtime
 pub use Rattle.linked_code.proofs as linked_code

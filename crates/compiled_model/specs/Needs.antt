@@ -1,5 +1,5 @@
 -- What the code of a compiled source needs of its tasks, beyond the laws of the model: their cycles, and where they leave for.
-use Rattle.std.specs.Prelude.{◌≡◌, ℕ, ◌+◌, ◌<◌, ◌≤◌, List, length, All}
+use Rattle.std.specs.Prelude.{◌≡◌, ℕ, ◌+◌, ◌<◌, ◌≤◌, true, List, length, All}
 use Rattle.linked_code.specs.machine_effects.World.{World, EachStore}
 use Rattle.linked_code.specs.cost_bound.Allowance.{task_bound, versions_of, list_of}
 use Rattle.linked_code.specs.cost_bound.Counts.{emits_of}
@@ -17,10 +17,11 @@ use Rattle.compiled_model.specs.Places.{program_places}
 use Rattle.compiled_model.specs.View.{state_view}
 use Rattle.compiled_model.specs.Parts.{task_program, compiled_model}
 
--- a task, from a power-up up to the end of its commit: a boot, which takes 11 cycles at most, a start, the body and the commit
+-- a task, from a power-up up to the end of its commit: a boot, which takes 11 cycles at most, a start with the clearing of the version
+-- words, the body and the commit
 abbrev pub whole_cycles : CheckedProgram → MemoryMap → ℕ → (ℕ → ℕ) → List ℕ → ℕ
 whole_cycles p l t fram readings =
-    11 + start_cycles l.versions.words (length (privates_in (task_entries l) t)) + spent (task_program p l t) (started fram readings)
+    11 + start_cycles true l.versions.words (length (privates_in (task_entries l) t)) + spent (task_program p l t) (started fram readings)
     + commit_cycles (list_of p.shared (task_body p t)) (emits_of (task_body p t))
 
 -- each task keeps to its bound, whatever FRAM holds and whatever the readings are

@@ -2,6 +2,8 @@
 
 -- The code makes each attempt and each commit within the task's bound.
 pub use Rattle.compiled_runs.proofs.Program.{code_keeps_the_laws}
+-- A power-up with GATE 0 raises VER.
+pub use Rattle.compiled_runs.proofs.Raises.{power_ups_raise_version}
 -- A run leaves the code as it is, and stays in it.
 pub use Rattle.compiled_runs.proofs.Leaves.{code_is_placed, runs_leave_the_code}
 -- The layout of a source has room for the code of its programs.

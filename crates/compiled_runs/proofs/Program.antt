@@ -1,5 +1,5 @@
 -- The code makes each attempt and each commit within the task's bound.
-use Rattle.std.proofs.Common.{◌≡◌, ◌<◌, ◌≤◌, ◌+◌, ℕ, true, List, [], ◌∷◌, ◌++◌, length, refl, sym, ap, ◌∙◌, subst, inl, inr, All, arith, append-nil}
+use Rattle.std.proofs.Common.{◌≡◌, ◌<◌, ◌≤◌, ◌+◌, ℕ, Bool, true, List, [], ◌∷◌, ◌++◌, length, refl, sym, ap, ◌∙◌, subst, inl, inr, All, arith, append-nil}
 use Rattle.compiled_model.specs.msp_step.declared.machine.Stop.TheVariants as stop
 use Rattle.compiled_model.specs.fram_board.Effects.{Effect, Store}
 use Rattle.compiled_model.specs.machine_effects.World.{World, put, fram_after, world_after, world_after_one}
@@ -15,10 +15,10 @@ use Rattle.compiled_model.specs.array_versions.Cost.{spent}
 use Rattle.compiled_model.specs.array_versions.Laws.{EndsByEffects}
 use Rattle.compiled_model.proofs.array_versions.Interface.{behaves_by_effects}
 use Rattle.compiled_model.specs.codegen.Laws.{HasJumped, ComesTo}
-use Rattle.compiled_model.specs.memory_map.declared.words.RuntimeWord.TheVariants.{CurrentTask, Gate, ListLength, EmitCount}
+use Rattle.compiled_model.specs.memory_map.declared.words.RuntimeWord.TheVariants.{CurrentTask, Gate, ListLength, EmitCount, Version}
 use Rattle.compiled_model.specs.memory_map.MemoryMap.{MemoryMap, word_place}
 use Rattle.compiled_model.specs.runtime_effects.Places.{CopyPair}
-use Rattle.compiled_model.specs.runtime_effects.Stages.{start_effects, commit_effects}
+use Rattle.compiled_model.specs.runtime_effects.Stages.{is_at_end, start_effects, commit_effects}
 use Rattle.compiled_model.specs.runtime_effects.Needs.{CanCommit}
 use Rattle.compiled_model.specs.address_space.Limits.{stack_top}
 use Rattle.compiled_model.specs.runtime_code.Addresses.{start_address}
@@ -26,13 +26,14 @@ use Rattle.compiled_model.specs.runtime_code.Comes.{Comes, IsAt, Enters}
 use Rattle.compiled_model.proofs.runtime_code.Interface.{nothing as no_steps}
 use Rattle.compiled_model.specs.boot_runtime.Entries.{task_entries}
 use Rattle.compiled_model.specs.boot_runtime.Listing.{TaskEntry, entry_at, privates_in, start_steps, start_cycles}
+use Rattle.compiled_model.proofs.boot_runtime.Interface.{clearing_is_dearest}
 use Rattle.compiled_model.specs.commit_runtime.Listing.{commit_steps, commit_cycles}
 use Rattle.compiled_model.specs.lower.Lowered.{lowered}
 use Rattle.compiled_model.specs.crash_rules.Model.{Model, Outcome, Ends, Short, ProgramEffects, program_effects, IsWord, ModelLaws, AttemptContract, CommitContract, with_commit}
 use Rattle.compiled_model.specs.crash_rules.Runs.{Program, Makes}
 use Rattle.compiled_model.specs.stands_for.Program.{StartContract}
 use Rattle.compiled_model.specs.stands_for.StandsFor.{HoldsWords, StartedAt}
-use Rattle.compiled_model.proofs.stands_for.Interface.{clearing_starts, decided_can_commit}
+use Rattle.compiled_model.proofs.stands_for.Interface.{numbered_starts, decided_can_commit}
 use Rattle.compiled_model.specs.Places.{program_places}
 use Rattle.compiled_model.specs.View.{state_view}
 use Rattle.compiled_model.specs.Parts.{has_jumped, task_program, compiled_model}
@@ -97,7 +98,7 @@ module _ (p : CheckedProgram) (l : MemoryMap) (r : CanRun p l) (laws : ModelLaws
 
   -- what the start of an attempt keeps
   start_keeps : StartContract (program_places p l) (state_view p l) privates (start_effects l privates)
-  start_keeps = clearing_starts State (program_places p l) (state_view p l) privates r.apart r.privates
+  start_keeps = numbered_starts State (program_places p l) (state_view p l) privates r.apart r.privates
 
   -- behind a commit the code is at the start of an attempt, where GATE is 0
   behind_commit : (s next : State) (x : World) → m.Decided s next x → (v : Core) (rs : List ℕ)
@@ -230,14 +231,21 @@ module _ (p : CheckedProgram) (l : MemoryMap) (r : CanRun p l) (laws : ModelLaws
     script_by e = with_commit m u.fram (program_effects (es ++ b.effects) (has_jumped e))
 
     module _ (steps cycles : ℕ) (few : cycles ≤ 8) (a : Comes code [] steps cycles u (IsAt start_at u.fram u.readings_left)) where
+      abbrev clears : Bool
+      clears = is_at_end l u.fram
+
       abbrev to_steps : ℕ
-      to_steps = steps + start_steps l.versions.words (length (privates k))
+      to_steps = steps + start_steps clears l.versions.words (length (privates k))
 
       abbrev to_cycles : ℕ
-      to_cycles = cycles + start_cycles l.versions.words (length (privates k))
+      to_cycles = cycles + start_cycles clears l.versions.words (length (privates k))
+
+      -- the bound has room for the clearing in each attempt
+      at_most : start_cycles clears l.versions.words (length (privates k)) ≤ start_cycles true l.versions.words (length (privates k))
+      at_most = clearing_is_dearest clears l.versions.words (length (privates k))
 
       there : Comes code es to_steps to_cycles u (Enters (entry_at tasks k).code stack_top g u.readings_left)
-      there = to_task l (lowered l p) r.fits are_whole u steps cycles a program_named
+      there = to_task l (lowered l p) r.fits are_whole u steps cycles a program_named (und.is_open.words (word_place l Version))
 
       body : DoesBody l (lowered l p) r.fits are_whole there.end k g u.readings_left
       body = body_there l (lowered l p) r.fits are_whole there.end k g u.readings_left there.holds program_named start_words words
@@ -260,12 +268,12 @@ module _ (p : CheckedProgram) (l : MemoryMap) (r : CanRun p l) (laws : ModelLaws
           (to_cycles + q.cycles) (commit_cycles n o) (board_of u) (board_of v) (board_of h.end) one h.leads in
           let list : n ≤ (program_places p l).list_capacity k = subst (λ j. n ≤ (program_places p l).list_capacity j) (sym is_current) fits.list in
           let emits : o ≤ (program_places p l).emit_capacity k = subst (λ j. o ≤ (program_places p l).emit_capacity j) (sym is_current) fits.emits in
-          let most = within in let body_most = q.within in
+          let most = within in let start_most = at_most in let body_most = q.within in
           let entry = behind_commit s d.next d.world d.decided h.end v.readings_left at in
           record {
             steps = to_steps + q.steps + commit_steps n o;
             cycles = to_cycles + q.cycles + commit_cycles n o;
-            ends = λ z. (omega (arith, few, most, body_most, list, emits), (board_of h.end, all, entry));
+            ends = λ z. (omega (arith, few, most, start_most, body_most, list, emits), (board_of h.end, all, entry));
             lacks = λ z. absurd (cc (z));
           }
 
@@ -274,7 +282,7 @@ module _ (p : CheckedProgram) (l : MemoryMap) (r : CanRun p l) (laws : ModelLaws
       lacks_on q =
           let all = join_stall (exec code) to_steps q.steps es b.effects to_cycles q.cycles (board_of u) (board_of there.end) q.price stop.NoReading
           there.leads q.stalls in
-          let most = within in let body_most = q.within in
+          let most = within in let start_most = at_most in let body_most = q.within in
           let all' : Stalls (exec code) (to_steps + q.steps) ((es ++ b.effects) ++ []) (to_cycles + q.cycles) (board_of u) q.price stop.NoReading =
           subst (λ y. Stalls (exec code) (to_steps + q.steps) y (to_cycles + q.cycles) (board_of u) q.price stop.NoReading)
           (sym (append-nil (es ++ b.effects))) all in
@@ -282,7 +290,7 @@ module _ (p : CheckedProgram) (l : MemoryMap) (r : CanRun p l) (laws : ModelLaws
             steps = to_steps + q.steps;
             cycles = to_cycles + q.cycles;
             ends = λ z. absurd (cc (z));
-            lacks = λ z. (q.price, omega (arith, few, most, body_most), all');
+            lacks = λ z. (q.price, omega (arith, few, most, start_most, body_most), all');
           }
 
       by_end : (e : End) → b.end ≡ e → LeavesFor l.commit.address e

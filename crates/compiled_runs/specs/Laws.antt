@@ -1,13 +1,14 @@
 -- What the code of a compiled source owes the crash theorem, and the board's runs.
-use Rattle.std.specs.Prelude.{◌≡◌, ℕ, List, length}
+use Rattle.std.specs.Prelude.{◌≡◌, ◌<◌, ◌+◌, ℕ, List, length}
 use Rattle.compiled_model.specs.machine_effects.World.{World}
+use Rattle.compiled_model.specs.machine_effects.Going.{At, going}
 use Rattle.compiled_model.specs.machine_effects.Machine.{MachineBoard}
 use Rattle.compiled_model.specs.code_forms.Placed.{words_of}
 use Rattle.compiled_model.specs.cost_bound.declared.allowance.Allow.{Allow}
 use Rattle.compiled_model.specs.cost_bound.Allowance.{IsAllowed}
 use Rattle.compiled_model.specs.war_analysis.PlanValue.{TaskPlanValue}
 use Rattle.compiled_model.specs.source_values.Runs.{CheckedProgram, State}
-use Rattle.compiled_model.specs.memory_map.declared.words.RuntimeWord.TheVariants.{Gate}
+use Rattle.compiled_model.specs.memory_map.declared.words.RuntimeWord.TheVariants.{Gate, Version}
 use Rattle.compiled_model.specs.memory_map.MemoryMap.{MemoryMap, word_place}
 use Rattle.compiled_model.specs.privatise.Layouts.{IsLayout}
 use Rattle.compiled_model.specs.boot_runtime.Entries.{task_entries}
@@ -25,7 +26,7 @@ use Rattle.compiled_model.specs.linked_code.Rooms.{PrivatesAreCounted}
 use Rattle.compiled_model.specs.Places.{program_places}
 use Rattle.compiled_model.specs.Parts.{compiled_model}
 use Rattle.compiled_model.specs.Needs.{CostsAreWithin, TasksLeave, ProgramsAreWhole, AttemptsStoreBelow}
-use Rattle.compiled_runs.specs.Program.{source_code, compiled_program}
+use Rattle.compiled_runs.specs.Program.{source_code, IsBooting, compiled_program}
 
 -- what is asked of a source and its layout
 pub record CanRun (p : CheckedProgram) (l : MemoryMap) : Type 0 where
@@ -47,6 +48,12 @@ CodeKeepsTheLaws = (p : CheckedProgram) (l : MemoryMap) → CanRun p l → Model
 abbrev pub CodeIsPlaced : Type 0
 CodeIsPlaced = (p : CheckedProgram) (l : MemoryMap) → CodeFits l (lowered l p)
     → IsPlacedProgram (compiled_program p l) l.boot.address (source_code p l) l.boot.address
+
+-- from a power-up with GATE 0 and VER not at its end, the sixth instruction raises VER
+abbrev pub PowerUpsRaiseVersion : Type 0
+PowerUpsRaiseVersion = (p : CheckedProgram) (l : MemoryMap) → CanRun p l → (b : MachineBoard) → IsBooting l b → b.fram (word_place l Gate) ≡ 0
+    → b.fram (word_place l Version) < 0xFFFF → (t : MachineBoard) → (going (compiled_program p l).step 6 b).status ≡ At t
+    → t.fram (word_place l Version) ≡ b.fram (word_place l Version) + 1
 
 -- a run stores nowhere on the code, nor on the reset vector, and never comes to where no instruction stands
 abbrev pub RunsLeaveTheCode : Type 0

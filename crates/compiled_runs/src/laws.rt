@@ -1,6 +1,6 @@
 //! Laws of compiled code that runs. The functions do nothing: their contracts are the laws.
 
-ghost use Rattle.compiled_runs.specs.Laws.{CodeKeepsTheLaws, CodeIsPlaced, RunsLeaveTheCode, SourcesHaveRoom};
+ghost use Rattle.compiled_runs.specs.Laws.{CodeKeepsTheLaws, CodeIsPlaced, PowerUpsRaiseVersion, RunsLeaveTheCode, SourcesHaveRoom};
 
 /// From a power-up on, and from the end of a commit on, the code makes the attempt or the commit that is due, within the bound of
 /// the state's task.
@@ -13,6 +13,12 @@ pub fn code_keeps_the_laws()
 #[tactic(auto, using(crate::proofs::Leaves::code_is_placed))]
 pub fn code_is_placed()
     ensures { CodeIsPlaced }
+{}
+
+/// From a power-up with GATE 0 and VER not 65535 on, the sixth instruction raises VER.
+#[tactic(auto, using(crate::proofs::Raises::power_ups_raise_version))]
+pub fn power_ups_raise_version()
+    ensures { PowerUpsRaiseVersion }
 {}
 
 /// A run stores nowhere on the code, nor on the reset vector, and never comes to where no instruction stands.

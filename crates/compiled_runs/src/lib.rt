@@ -3,4 +3,7 @@
 
 mod laws;
 
-pub use laws::{code_is_placed, code_keeps_the_laws, runs_leave_the_code, sources_have_room};
+pub use laws::{
+    code_is_placed, code_keeps_the_laws, power_ups_raise_version, runs_leave_the_code,
+    sources_have_room,
+};

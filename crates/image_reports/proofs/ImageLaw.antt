@@ -1,11 +1,13 @@
 -- Each run of an image of an accepted text keeps the laws.
-use Rattle.std.proofs.Common.{◌≡◌, ℕ, zero, ◌+◌, ◌<◌, ◌≤◌, ◌==◌, Bool, true, false, if◌then◌else◌, refl, sym, ap, ◌∙◌, subst, arith, List, [], ◌++◌, length, drop, All}
+use Rattle.std.proofs.Common.{◌≡◌, ◌≢◌, ℕ, zero, ◌+◌, ◌*◌, ◌<◌, ◌≤◌, ◌==◌, Bool, true, false, if◌then◌else◌, refl, sym, ap, ◌∙◌, subst, arith}
+use Rattle.std.proofs.Common.{List, [], ◌∷◌, ◌++◌, length, take, drop, All, append_assoc, length-take-le}
+use Rattle.std.proofs.lemmas.List.{take-append-drop}
 use Rattle.link_image.specs.msp_isa.Encoding.{encoding}
 use Rattle.link_image.specs.msp_step.Registers.{registers_of}
 use Rattle.link_image.specs.image_text.ImageValue.{ImageValue}
-use Rattle.link_image.specs.fram_board.Board.{BoardValue, fresh, filled}
+use Rattle.link_image.specs.fram_board.Board.{BoardValue, PowerState, IsPowerState, powered, fresh, filled}
 use Rattle.link_image.specs.fram_board.Effects.{Effect}
-use Rattle.link_image.specs.fram_board.Run.{BoardCharge, Moment, RunOutcome, Run}
+use Rattle.link_image.specs.fram_board.Run.{BoardCharge, PowerUp, Moment, RunOutcome, Run}
 use Rattle.link_image.proofs.fram_board.Interface.{fill_is_a_power_state}
 use Rattle.link_image.specs.machine_effects.World.{World, fram_after, IsPrefix}
 use Rattle.link_image.specs.machine_effects.Going.{going, continued}
@@ -18,7 +20,7 @@ use Rattle.link_image.specs.source_values.Runs.{CheckedProgram, State, first_sta
 use Rattle.link_image.specs.source_meaning.Acceptance.{IsAcceptedText}
 use Rattle.link_image.specs.source_maps.Maps.{map_of}
 use Rattle.link_image.proofs.source_runs.Interface.{read_off}
-use Rattle.link_image.specs.memory_map.declared.words.RuntimeWord.TheVariants.{Gate}
+use Rattle.link_image.specs.memory_map.declared.words.RuntimeWord.TheVariants.{Gate, Version}
 use Rattle.link_image.specs.memory_map.MemoryMap.{MemoryMap, word_place}
 use Rattle.link_image.specs.runtime_effects.Stages.{commit_effects}
 use Rattle.link_image.specs.boot_runtime.Entries.{task_entries}
@@ -26,23 +28,25 @@ use Rattle.link_image.specs.boot_runtime.Listing.{privates_in}
 use Rattle.link_image.specs.crash_rules.Model.{Model, program_effects, with_commit, script}
 use Rattle.link_image.specs.crash_rules.History.{History, first_history}
 use Rattle.link_image.specs.crash_rules.Runs.{Program}
-use Rattle.link_image.specs.crash_rules.Laws.{Origin, Resting}
+use Rattle.link_image.specs.crash_rules.Laws.{Origin, Resting, Phase, UndecidedPhase, DecidedPhase}
 use Rattle.link_image.proofs.crash_rules.Interface.{world_fram, never_lost, sent_once, stops_short}
-use Rattle.link_image.specs.run_charges.Charges.{ArePowerStates}
+use Rattle.link_image.specs.run_charges.Charges.{ArePowerStates, AreInstructionMoments}
 use Rattle.link_image.specs.run_charges.Laws.{IsRunOfWords}
+use Rattle.link_image.proofs.run_charges.Interface.{IsMomentFrom, PowersUp, Instructs, AreMoments, are_behind, front_moments}
 use Rattle.link_image.specs.model_runs.Runs.{BearsModel, Progresses}
-use Rattle.link_image.proofs.model_runs.Interface.{AtFront, at_front, is_powered, fronts_are_lawful, stops_where_short, makes_progress}
+use Rattle.link_image.proofs.model_runs.Interface.{AtFront, at_front, is_powered, program_leads, starts_hold, fronts_are_lawful, stops_where_short, makes_progress}
+use Rattle.link_image.specs.stands_for.StandsFor.{HoldsWords}
 use Rattle.link_image.specs.compiled_model.Places.{program_places}
 use Rattle.link_image.specs.compiled_model.Parts.{compiled_model}
 use Rattle.compiled_laws.proofs.compiled_bounds.Interface.{bound_is_the_sources}
 use Rattle.link_image.specs.compiled_runs.Program.{source_code, placed_code, compiled_program}
-use Rattle.link_image.proofs.compiled_runs.Interface.{code_is_placed}
+use Rattle.link_image.proofs.compiled_runs.Interface.{code_is_placed, power_ups_raise_version}
 use Rattle.compiled_laws.specs.Ready.{IsReadyToRun}
 use Rattle.compiled_laws.proofs.Interface.{sources_are_ready}
 use Rattle.link_image.specs.Compiled.{IsCompiled}
 use Rattle.link_image.specs.Laws.{fresh_world, IsFreshImage}
 use Rattle.link_image.proofs.Interface.{images_are_fresh}
-use Rattle.image_reports.specs.ImageLaw.{known_behind, start_due, attempt_due, all_due, VersionsBelow, KeepsCode, FetchesCode, HoldsAt, ImagesKeepTheLaws}
+use Rattle.image_reports.specs.ImageLaw.{known_behind, start_due, attempt_due, all_due, VersionsBelow, KeepsCode, FetchesCode, HoldsAt, IsRaisedSoon, RaisesVersion, ImagesKeepTheLaws}
 use Rattle.image_reports.proofs.Begins.{bears, begins_with_source, run_of_states}
 use Rattle.image_reports.proofs.Capacities.{capacities_stay}
 use Rattle.image_reports.proofs.Told.{made, runs_are_told}
@@ -64,6 +68,26 @@ due_is_script p l f readings = by (f (word_place l Gate) == 1)
         f readings)
     by true = refl
     by false = refl
+
+-- a word that isn't 65535 is below it
+below_end : (n : ℕ) → n < 0x10000 → n ≢ 0xFFFF → n < 0xFFFF
+below_end n l h = omega (arith, l, h)
+
+-- the first ones of instructions are instructions
+front_are : (ms rest : List Moment) → AreInstructionMoments (ms ++ rest) → AreInstructionMoments ms
+front_are [] rest are = tt
+front_are (m ∷ ms) rest are = (are.0, front_are ms rest are.1)
+
+-- FRAM whose words are words, with no version word above VER
+record KeepsVersions (l : MemoryMap) (f : ℕ → ℕ) : Type 0 where
+  pub words : HoldsWords f
+  pub versions : (i : ℕ) → i < l.versions.words → f (l.versions.address + 2 * i) ≤ f (word_place l Version)
+
+-- what a run stands for is so
+phase_keeps_versions : (p : CheckedProgram) (l : MemoryMap) (readings : List ℕ) (origin : Origin State) (s : State) (h : History)
+    → Phase (compiled_model p l) readings origin s h → KeepsVersions l h.world.fram
+phase_keeps_versions p l readings origin s h (UndecidedPhase u settled w) = record { words = w.is_open.words; versions = w.is_open.versions }
+phase_keeps_versions p l readings origin s h (DecidedPhase next d t w) = record { words = w.decided.words; versions = w.decided.versions }
 
 module _ (text : List ℕ) (p : CheckedProgram) (allow : Allow) (image : ImageValue) (ok : IsAcceptedText text p allow) (c : IsCompiled text p allow image)
     (cs : List BoardCharge) (starts : ArePowerStates cs) (readings : List ℕ) (words : All (λ w. w < 0x10000) readings) (few : length readings ≤ 262144)
@@ -111,6 +135,19 @@ module _ (text : List ℕ) (p : CheckedProgram) (allow : Allow) (image : ImageVa
       let up = is_powered model program readings origin x cs b r run bearing b (first_history (word_place l Gate) x) at (filled 0) zero_fill in
       stops_at_readings [] (machine_of b) (first_history (word_place l Gate) x) (refl, refl) (machine_of b) up refl refl 1 price e
       (ap (λ o. (continued o (going program.step zero)).status) stops)
+
+  -- at each front
+  keeps_versions : (ms rest : List Moment) → r.moments ≡ ms ++ rest → KeepsVersions l (known_behind l image ms).world.fram
+  keeps_versions ms rest e =
+      let lawful = (fronts_are_lawful model program readings origin x cs b r run bearing ms rest e).0 in
+      phase_keeps_versions p l readings origin lawful.stands.state (known_behind l image ms) lawful.stands.phase
+
+  -- and so at the last boot or done
+  began : (ms rest : List Moment) → r.moments ≡ ms ++ rest → KeepsVersions l (known_behind l image ms).start.fram
+  began ms rest e =
+      starts_hold (λ w. KeepsVersions l w.fram) (word_place l Gate) b (first_history (word_place l Gate) x) ms run.whole run.words
+      (front_moments cs b r ms rest run.starts run.run e) (keeps_versions [] r.moments refl)
+      (λ ns more d. keeps_versions ns (more ++ rest) (e ∙ ap (λ q. q ++ rest) d ∙ append_assoc ns more rest))
 
   module _ (ms rest : List Moment) (e : r.moments ≡ ms ++ rest) where
     abbrev t : BoardValue
@@ -176,10 +213,66 @@ module _ (text : List ℕ) (p : CheckedProgram) (allow : Allow) (image : ImageVa
               let P : (ℕ → ℕ) → Type 0 = λ f. VersionsBelow l f in
               let f : fram_of t.fram ≡ fram_after (start_due l h.start.fram) h.start.fram =
               same ∙ ap (λ w. w.fram) lawful.world ∙ world_fram h.effects h.start ∙ ap (λ es. fram_after es h.start.fram) made in
-              subst P (sym f) (versions_below (program_places p l) ready.code.apart (privates_in (task_entries l)) ready.code.privates h.start.fram);
+              let kept = began ms rest e in
+              subst P (sym f) (versions_below (program_places p l) ready.code.apart (privates_in (task_entries l)) ready.code.privates h.start.fram
+              kept.versions (kept.words (word_place l Version)));
           code = keeps_code;
           fetches = fetches;
         }
+
+  -- VER is raised by the sixth instruction of a charge
+  module _ (ms : List Moment) (power : PowerState) (powers : IsPowerState power) (at : AtFront model program readings origin x cs b r run bearing
+      (last_board b ms) (known_behind l image ms)) where
+    abbrev on : BoardValue
+    on = powered (last_board b ms) power
+
+    raised_by_six : (first : List Moment) → AreMoments on first → AreInstructionMoments first → length first ≡ 6
+        → fram_of on.fram (word_place l Gate) ≡ 0 → fram_of on.fram (word_place l Version) < 0xFFFF
+        → fram_of (last_board on first).fram (word_place l Version) ≡ fram_of on.fram (word_place l Version) + 1
+    raised_by_six first are is six gate low =
+        let t = last_board b ms in let h = known_behind l image ms in
+        let up = is_powered model program readings origin x cs b r run bearing t h at power powers in
+        let leads = program_leads model program readings origin x cs b r run bearing t h at power powers first are is in
+        power_ups_raise_version p l ready.code (machine_of on) up gate low (machine_of (last_board on first))
+        (ap (λ n. (going program.step n (machine_of on)).status) (sym six) ∙ leads)
+
+  -- what a charge that begins so owes
+  abbrev RaisesFrom : List Moment → Moment → Type 0
+  RaisesFrom steps boot = fram_of boot.after.fram (word_place l Gate) ≡ 0 → fram_of boot.after.fram (word_place l Version) ≢ 0xFFFF
+      → IsRaisedSoon l boot.after steps
+
+  raises_from : (ms rest steps first more : List Moment) → r.moments ≡ ms ++ rest → steps ≡ first ++ more → length first ≡ 6
+      → AreInstructionMoments first → (boot : Moment) → boot.action ≡ PowerUp → IsMomentFrom (last_board b ms) boot → AreMoments boot.after first
+      → RaisesFrom steps boot
+  raises_from ms rest steps first more e cut six are boot up (Instructs i done current answer is) moments =
+      absurd (let other = sym up ∙ ap (λ y. y.action) is in cc (other))
+  raises_from ms rest steps first more e cut six are boot up (PowersUp power powers is) moments =
+      let P : Moment → Type 0 = λ y. AreMoments y.after first → RaisesFrom steps y in
+      let Q : (ℕ → ℕ) → Type 0 = λ f. f (word_place l Version) < 0x10000 in
+      let at = at_front model program readings origin x cs b r run bearing ms rest e in
+      let same = (fronts_are_lawful model program readings origin x cs b r run bearing ms rest e).1.fram in
+      let word = subst Q (sym same) ((keeps_versions ms rest e).words (word_place l Version)) in
+      subst P (sym is)
+      (λ own gate end. record {
+        first = first;
+        rest = more;
+        are = cut;
+        soon = omega (arith, six);
+        raised = raised_by_six ms power powers at first own are six gate (below_end _ word end);
+      }) moments
+
+  raises : RaisesVersion l r.moments
+  raises ms steps rest boot e up are many =
+      let first = take 6 steps in
+      let more = drop 6 steps in
+      let cut : steps ≡ first ++ more = sym (take-append-drop 6 steps) in
+      let behind : r.moments ≡ ms ++ (boot ∷ (first ++ (more ++ rest))) =
+      e ∙ ap (λ q. ms ++ (boot ∷ (q ++ rest))) cut ∙ ap (λ q. ms ++ (boot ∷ q)) (append_assoc first more rest) in
+      let front : r.moments ≡ (ms ++ (boot ∷ first)) ++ (more ++ rest) = behind ∙ sym (append_assoc ms (boot ∷ first) (more ++ rest)) in
+      let moments = are_behind b ms (boot ∷ first) (front_moments cs b r (ms ++ (boot ∷ first)) (more ++ rest) run.starts run.run front) in
+      let six : length first ≡ 6 = length-take-le 6 steps (omega (arith, many)) in
+      raises_from ms (boot ∷ (steps ++ rest)) steps first more e cut six (front_are first more (subst AreInstructionMoments cut are)) boot up
+      moments.0 moments.1
 
 pub images_keep_the_laws : ImagesKeepTheLaws
 images_keep_the_laws text p allow image ok c cs starts readings words few r go =
@@ -203,6 +296,7 @@ images_keep_the_laws text p allow image ok c cs starts readings words few r go =
       commits = own.model.commits;
       fronts = front text p allow image ok c cs starts readings words few r go;
       stops = stops_where_short model program readings (Resting (first_state p)) x cs b r same begun;
+      raises = raises text p allow image ok c cs starts readings words few r go;
       progress = off.pays x paid begins.starts;
       told = runs_are_told text p allow image ok c cs readings words r same;
     }

@@ -1,12 +1,14 @@
--- Behind an attempt's start each version word is below VER, whatever FRAM held before.
-use Rattle.std.proofs.Common.{◌≡◌, ℕ, zero, suc, ◌+◌, ◌*◌, ◌<◌, ◌≤◌, List, [], ◌∷◌, ap, ◌∙◌, arith}
+-- Behind an attempt's start each version word is below VER, where none was above it.
+use Rattle.std.proofs.Common.{◌≡◌, ℕ, zero, suc, ◌+◌, ◌*◌, ◌%◌, ◌<◌, ◌≤◌, ◌==◌, Bool, true, false, List, [], ◌∷◌, refl, ap, ◌∙◌, arith}
+use Rattle.std.proofs.lemmas.Bool.Decides.{nat_tests}
 use Rattle.link_image.specs.fram_board.Effects.{Effect, Store}
 use Rattle.link_image.specs.machine_effects.World.{put, fram_after, EachStore}
 use Rattle.link_image.proofs.machine_effects.Interface.{fram_after-append, put_same, put_other}
 use Rattle.link_image.specs.runtime_effects.Places.{CopyPair}
-use Rattle.link_image.specs.runtime_effects.Stages.{cleared, opening_effects, copied_in, start_effects}
+use Rattle.link_image.specs.runtime_effects.Stages.{is_at_end, clearing_if, cleared, counting_effects, opening_effects, copied_in, start_effects}
 use Rattle.link_image.specs.crash_rules.Model.{IsElsewhere}
 use Rattle.link_image.specs.stands_for.Layout.{ProgramPlaces, ArePrivate}
+use Rattle.link_image.specs.stands_for.StandsFor.{VersionsWithin}
 use Rattle.link_image.proofs.stands_for.Interface.{elsewhere_same}
 use Rattle.link_image.specs.memory_map.MemoryMap.{word_place}
 use Rattle.link_image.specs.memory_map.declared.words.RuntimeWord.TheVariants.{CurrentTask, ListLength, EmitCount, Version}
@@ -36,45 +38,79 @@ module _ (l : ProgramPlaces) (apart : AreApart l.map) where
   copied_elsewhere a t (p ∷ ps) f low laid =
       ((λ e. let from = laid.2.from in omega (arith, from, e)), copied_elsewhere a t ps (put f p.copy (f p.home)) low laid.4)
 
-  abbrev three : List Effect
-  three = Store (word_place l.map Version) 1 ∷ Store (word_place l.map ListLength) 0 ∷ Store (word_place l.map EmitCount) 0 ∷ []
-
-  -- VER, CLN and EN are stored
-  version_then : (f : ℕ → ℕ) → fram_after three f (word_place l.map Version) ≡ 1
-  version_then f =
-      put_other (put (put f (word_place l.map Version) 1) (word_place l.map ListLength) 0) (word_place l.map EmitCount) 0 (word_place l.map Version)
+  -- VER goes up by one
+  version_then : (g : ℕ → ℕ) → g (word_place l.map Version) < 0xFFFF
+      → fram_after (counting_effects l.map g) g (word_place l.map Version) ≡ g (word_place l.map Version) + 1
+  version_then g number =
+      let w = (g (word_place l.map Version) + 1) % 0x10000 in
+      let stored = put_other (put (put g (word_place l.map Version) w) (word_place l.map ListLength) 0) (word_place l.map EmitCount) 0 (word_place l.map Version)
       (λ q. omega (arith, apart, q))
-      ∙ put_other (put f (word_place l.map Version) 1) (word_place l.map ListLength) 0 (word_place l.map Version) (λ q. omega (arith, apart, q))
-      ∙ put_same f (word_place l.map Version) 1
+      ∙ put_other (put g (word_place l.map Version) w) (word_place l.map ListLength) 0 (word_place l.map Version) (λ q. omega (arith, apart, q))
+      ∙ put_same g (word_place l.map Version) w in
+      omega (arith, stored, number)
 
-  others_then : (f : ℕ → ℕ) (a : ℕ) → l.map.versions.address ≤ a → fram_after three f a ≡ f a
-  others_then f a low =
-      put_other (put (put f (word_place l.map Version) 1) (word_place l.map ListLength) 0) (word_place l.map EmitCount) 0 a (λ q. omega (arith, apart, q, low))
-      ∙ put_other (put f (word_place l.map Version) 1) (word_place l.map ListLength) 0 a (λ q. omega (arith, apart, q, low))
-      ∙ put_other f (word_place l.map Version) 1 a (λ q. omega (arith, apart, q, low))
+  -- the version words stay
+  others_then : (g : ℕ → ℕ) (a : ℕ) → l.map.versions.address ≤ a → fram_after (counting_effects l.map g) g a ≡ g a
+  others_then g a low =
+      let w = (g (word_place l.map Version) + 1) % 0x10000 in
+      put_other (put (put g (word_place l.map Version) w) (word_place l.map ListLength) 0) (word_place l.map EmitCount) 0 a (λ q. omega (arith, apart, q, low))
+      ∙ put_other (put g (word_place l.map Version) w) (word_place l.map ListLength) 0 a (λ q. omega (arith, apart, q, low))
+      ∙ put_other g (word_place l.map Version) w a (λ q. omega (arith, apart, q, low))
 
-  module _ (privates : ℕ → List CopyPair) (laid : (t : ℕ) → ArePrivate l t (privates t)) (f : ℕ → ℕ) where
+  -- a number is left, and no version word is above VER
+  record IsNumbered (g : ℕ → ℕ) : Type 0 where
+    pub number : g (word_place l.map Version) < 0xFFFF
+    pub versions : VersionsWithin l g
+
+  cleared_so : (b : Bool) (f : ℕ → ℕ) → is_at_end l.map f ≡ b → VersionsWithin l f → f (word_place l.map Version) < 0x10000
+      → IsNumbered (fram_after (clearing_if l.map b) f)
+  cleared_so true f e within word =
+      let clear = cleared l.map.versions.words l.map.versions.address in
+      let last : List Effect = Store (word_place l.map Version) 0 ∷ [] in
+      let both = fram_after-append clear last f in
+      let version = ap (λ g. g (word_place l.map Version)) both ∙ put_same (fram_after clear f) (word_place l.map Version) 0 in
+      record {
+        number = omega (arith, version);
+        versions = λ i below.
+            let a = l.map.versions.address + 2 * i in
+            let zero_then = ap (λ g. g a) both ∙ put_other (fram_after clear f) (word_place l.map Version) 0 a (λ q. omega (arith, apart, q))
+            ∙ cleared_zero l.map.versions.words l.map.versions.address i f below in
+            omega (arith, zero_then);
+      }
+  cleared_so false f e within word =
+      let other : (f (word_place l.map Version) == 0xFFFF) ≡ false = e in
+      record { number = grind (arith, nat_tests, other, word); versions = within }
+
+  module _ (privates : ℕ → List CopyPair) (laid : (t : ℕ) → ArePrivate l t (privates t)) (f : ℕ → ℕ) (within : VersionsWithin l f)
+      (word : f (word_place l.map Version) < 0x10000) where
     abbrev opened : ℕ → ℕ
     opened = fram_after (opening_effects l.map f) f
 
     abbrev clear : List Effect
-    clear = cleared l.map.versions.words l.map.versions.address
+    clear = clearing_if l.map (is_at_end l.map f)
+
+    abbrev numbered : ℕ → ℕ
+    numbered = fram_after clear f
+
+    is_numbered : IsNumbered numbered
+    is_numbered = cleared_so (is_at_end l.map f) f refl within word
 
     -- a word below the copies is as the opening leaves it
-    as_opened : (a : ℕ) → a < l.map.copies.address → fram_after (start_effects l.map privates f) f a ≡ fram_after three (fram_after clear f) a
+    as_opened : (a : ℕ) → a < l.map.copies.address
+        → fram_after (start_effects l.map privates f) f a ≡ fram_after (counting_effects l.map numbered) numbered a
     as_opened a low =
         let copies = copied_in (privates (f (word_place l.map CurrentTask))) opened in
         ap (λ g. g a) (fram_after-append (opening_effects l.map f) copies f)
         ∙ elsewhere_same a copies opened
         (copied_elsewhere a (f (word_place l.map CurrentTask)) (privates (f (word_place l.map CurrentTask))) opened low
         (laid (f (word_place l.map CurrentTask))))
-        ∙ ap (λ g. g a) (fram_after-append clear three f)
+        ∙ ap (λ g. g a) (fram_after-append clear (counting_effects l.map numbered) f)
 
     pub versions_below : (i : ℕ) → i < l.map.versions.words → fram_after (start_effects l.map privates f) f (l.map.versions.address + 2 * i)
         < fram_after (start_effects l.map privates f) f (word_place l.map Version)
     versions_below i below =
         let a = l.map.versions.address + 2 * i in
-        let word = as_opened a (omega (arith, apart, below)) ∙ others_then (fram_after clear f) a (omega arith)
-        ∙ cleared_zero l.map.versions.words l.map.versions.address i f below in
-        let version = as_opened (word_place l.map Version) (omega (arith, apart)) ∙ version_then (fram_after clear f) in
-        omega (arith, word, version)
+        let word_then = as_opened a (omega (arith, apart, below)) ∙ others_then numbered a (omega arith) in
+        let version = as_opened (word_place l.map Version) (omega (arith, apart)) ∙ version_then numbered is_numbered.number in
+        let most = is_numbered.versions i below in
+        omega (arith, word_then, version, most)

@@ -1,6 +1,6 @@
 -- What holds of each run of the image of an accepted source, on the board itself, cut wherever power fails: the effects since the last
 -- boot or done, what the board stands for, the words accepted, the counts, the code that is fetched, how it ends, and its report.
-use Rattle.std.specs.Prelude.{◌≡◌, ℕ, ◌+◌, ◌*◌, ◌^◌, ◌%◌, ◌<◌, ◌≤◌, ◌==◌, true, if◌then◌else◌, List, [], ◌++◌, length, drop, All}
+use Rattle.std.specs.Prelude.{◌≡◌, ◌≢◌, ℕ, ◌+◌, ◌*◌, ◌^◌, ◌%◌, ◌<◌, ◌≤◌, ◌==◌, true, if◌then◌else◌, List, [], ◌∷◌, ◌++◌, length, drop, All}
 use Rattle.link_image.specs.msp_isa.declared.instructions.Instr.{Instr}
 use Rattle.link_image.specs.msp_isa.Encoding.{encoding}
 use Rattle.link_image.specs.msp_step.Registers.{registers_of}
@@ -9,7 +9,7 @@ use Rattle.link_image.specs.msp_step.declared.machine.Stop.TheVariants as stop
 use Rattle.link_image.specs.image_text.ImageValue.{ImageValue}
 use Rattle.link_image.specs.fram_board.Board.{BoardValue, fresh, IsNextInstruction}
 use Rattle.link_image.specs.fram_board.Effects.{Effect}
-use Rattle.link_image.specs.fram_board.Run.{BoardCharge, Moment, Stopped, RunOutcome, Run, accepted_words}
+use Rattle.link_image.specs.fram_board.Run.{BoardCharge, PowerUp, Moment, Stopped, RunOutcome, Run, accepted_words}
 use Rattle.link_image.specs.board_run.History.{start_of}
 use Rattle.link_image.specs.board_run.Report.{report_of}
 use Rattle.link_image.specs.machine_effects.World.{World, fram_after, IsPrefix}
@@ -30,7 +30,7 @@ use Rattle.link_image.specs.boot_runtime.Listing.{privates_in}
 use Rattle.link_image.specs.crash_rules.Model.{CommitContract}
 use Rattle.link_image.specs.crash_rules.History.{History, first_history}
 use Rattle.link_image.specs.crash_rules.Laws.{Resting, StandsFor, AcceptedWords}
-use Rattle.link_image.specs.run_charges.Charges.{ArePowerStates, observed}
+use Rattle.link_image.specs.run_charges.Charges.{ArePowerStates, AreInstructionMoments, observed}
 use Rattle.link_image.specs.memory_map.Laws.{AreApart}
 use Rattle.link_image.specs.stands_for.StandsFor.{RestsAt, UndecidedAt, DecidedFrom}
 use Rattle.link_image.specs.compiled_model.Places.{program_places}
@@ -117,6 +117,20 @@ pub record HoldsAt (p : CheckedProgram) (l : MemoryMap) (image : ImageValue) (re
   -- every word that is fetched is the fresh image's
   pub fetches : FetchesCode p l image b
 
+-- VER is raised within the first 40 of these instructions: behind some of them it is one more than on the board on which they began
+pub record IsRaisedSoon (l : MemoryMap) (b : BoardValue) (steps : List Moment) : Type 0 where
+  pub first : List Moment
+  pub rest : List Moment
+  pub are : steps ≡ first ++ rest
+  pub soon : length first ≤ 40
+  pub raised : fram_of (last_board b first).fram (word_place l Version) ≡ fram_of b.fram (word_place l Version) + 1
+
+-- in a charge that begins with GATE 0 and VER not 65535, if the charge has 40 instructions
+abbrev pub RaisesVersion : MemoryMap → List Moment → Type 0
+RaisesVersion l moments = (ms steps rest : List Moment) (boot : Moment) → moments ≡ ms ++ (boot ∷ (steps ++ rest)) → boot.action ≡ PowerUp
+    → AreInstructionMoments steps → 40 ≤ length steps → fram_of boot.after.fram (word_place l Gate) ≡ 0
+    → fram_of boot.after.fram (word_place l Version) ≢ 0xFFFF → IsRaisedSoon l boot.after steps
+
 -- What holds of a run of an image under charges, on readings.
 pub record IsLawfulRun (text : List ℕ) (p : CheckedProgram) (allow : Allow) (l : MemoryMap) (image : ImageValue) (cs : List BoardCharge) (readings : List ℕ)
     (r : RunOutcome) : Type 0 where
@@ -133,6 +147,8 @@ pub record IsLawfulRun (text : List ℕ) (p : CheckedProgram) (allow : Allow) (l
   -- of the last done on the readings from the last boot or done on
   pub stops : (e : Stop) → r.ending ≡ Stopped e
       → (e ≡ stop.NoReading) × IsShort (compiled_model p l) readings (Resting (first_state p)) (known_behind l image r.moments)
+  -- in a charge that begins with GATE 0 and VER not 65535, VER is raised within the first 40 instructions, if the charge has them
+  pub raises : RaisesVersion l r.moments
   -- a charge of n bounds that is spent has n transitions
   pub progress : let m = map_of text p l allow in EachChargePays m cs (fresh image.words readings) (at_first m (fresh image.words readings)) r
   -- its report is told by the source, where the charges have fewer than 2^64 cycles and instructions in all

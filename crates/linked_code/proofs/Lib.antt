@@ -10,3 +10,4 @@ pub use Rattle.boot_runtime.proofs.code_forms as code_forms
 pub use Rattle.boot_runtime.proofs.war_analysis as war_analysis
 pub use Rattle.codegen.proofs.array_versions as array_versions
 pub use Rattle.boot_runtime.proofs.runtime_code as runtime_code
+pub use Rattle.boot_runtime.proofs as boot_runtime

@@ -1,7 +1,8 @@
 -- The stretches of linked code: from the boot to the start of an attempt and to the commit, from there to a task, the task's body, the commit.
 use Rattle.std.proofs.Common.{◌≡◌, ◌<◌, ◌+◌, ℕ, zero, suc, List, [], ◌∷◌, length, map, get_or, refl, sym, ap, subst, All, arith}
 use Rattle.std.proofs.lemmas.Option.{slice_get-get_or}
-use Rattle.boot_runtime.specs.machine_effects.World.{fram_after}
+use Rattle.boot_runtime.specs.fram_board.Effects.{Effect, Store}
+use Rattle.boot_runtime.specs.machine_effects.World.{put, fram_after}
 use Rattle.boot_runtime.specs.machine_effects.Machine.{Code}
 use Rattle.boot_runtime.specs.code_forms.Forms.{Core}
 use Rattle.boot_runtime.specs.code_forms.Code.{Stands}
@@ -12,7 +13,7 @@ use Rattle.codegen.specs.array_versions.Cost.{spent}
 use Rattle.codegen.specs.Code.{code_of}
 use Rattle.codegen.specs.Laws.{IsEntry, ComesTo}
 use Rattle.codegen.proofs.Interface.{code_does_as_program}
-use Rattle.boot_runtime.specs.runtime_effects.Stages.{start_effects, commit_effects}
+use Rattle.boot_runtime.specs.runtime_effects.Stages.{is_at_end, start_effects, commit_effects}
 use Rattle.boot_runtime.specs.runtime_effects.Needs.{CanCommit}
 use Rattle.boot_runtime.specs.runtime_code.Addresses.{start_address}
 use Rattle.boot_runtime.specs.runtime_code.Comes.{Comes, IsAt, Enters}
@@ -20,13 +21,13 @@ use Rattle.boot_runtime.proofs.runtime_code.Interface.{comes_on, places_are_in_f
 use Rattle.boot_runtime.specs.Entries.{entry_of, task_entries}
 use Rattle.boot_runtime.specs.Listing.{TaskEntry, entry_at, privates_in, start_steps, start_cycles}
 use Rattle.boot_runtime.specs.Laws.{IsBoot}
-use Rattle.boot_runtime.proofs.Interface.{pending_commit_is_found, attempt_is_found, start_is_made, tasks_are_entered}
+use Rattle.boot_runtime.proofs.Interface.{pending_commit_is_found, attempt_is_found, start_is_made, version_is_raised, tasks_are_entered}
 use Rattle.commit_runtime.specs.Listing.{commit_steps, commit_cycles}
 use Rattle.commit_runtime.proofs.Interface.{commit_is_made}
 use Rattle.linked_code.specs.Linked.{linked, ProgramsFit, CodeFits, ProgramsAreWhole}
 use Rattle.linked_code.specs.Laws.{IsLinkedCode, PartsStand}
 use Rattle.linked_code.proofs.Linked.{linked_is_code, linked_stands}
-use Rattle.boot_runtime.specs.memory_map.declared.words.RuntimeWord.TheVariants.{CurrentTask, Gate, ListLength, EmitCount}
+use Rattle.boot_runtime.specs.memory_map.declared.words.RuntimeWord.TheVariants.{CurrentTask, Gate, ListLength, EmitCount, Version}
 use Rattle.boot_runtime.specs.memory_map.MemoryMap.{MemoryMap, TaskPlace, word_place}
 use Rattle.boot_runtime.proofs.memory_map.Interface.{apart_of, even_of}
 use Rattle.boot_runtime.specs.address_space.Limits.{stack_top}
@@ -90,35 +91,47 @@ module _ (l : MemoryMap) (programs : List Program) (fits : CodeFits l programs) 
       let a = attempt_is_found code l l.commit.address tasks l.boot.address u is_boot e (omega (arith, z)) (λ q. omega (arith, z, q)) in
       record { end = a.end; leads = a.leads; holds = record { pc = a.holds.pc; fram = a.holds.fram; readings_left = a.holds.readings_left } }
 
+  -- from the boot to the store to VER, where it isn't at its end
+  pub to_raised : (u : Core) → u.pc ≡ l.boot.address → u.fram (word_place l Gate) ≡ 0 → u.fram (word_place l Version) < 0xFFFF
+      → let raised = u.fram (word_place l Version) + 1 in
+      Comes code (Store (word_place l Version) raised ∷ []) 6 18 u (IsAt (start_at + 36) (put u.fram (word_place l Version) raised) u.readings_left)
+  to_raised u e z below =
+      version_is_raised code l l.commit.address tasks l.boot.address u is_boot e (omega (arith, z)) (λ q. omega (arith, z, q)) below
+
   -- from the start of an attempt on FRAM and readings to the code of a task
   abbrev pub FromStart : Core → (ℕ → ℕ) → List ℕ → Type 0
   FromStart v f rs =
       let t = entry_at tasks (f (word_place l CurrentTask)) in
+      let clears = is_at_end l f in
       let es = start_effects l (privates_in tasks) f in
-      Comes code es (start_steps l.versions.words (length t.privates)) (start_cycles l.versions.words (length t.privates)) v
+      Comes code es (start_steps clears l.versions.words (length t.privates)) (start_cycles clears l.versions.words (length t.privates)) v
       (Enters t.code stack_top (fram_after es f) rs)
 
-  start_there : (v : Core) (f : ℕ → ℕ) (rs : List ℕ) → IsAt start_at f rs v → f (word_place l CurrentTask) < length tasks → FromStart v f rs
-  start_there v f rs h named =
+  start_there : (v : Core) (f : ℕ → ℕ) (rs : List ℕ) → IsAt start_at f rs v → f (word_place l CurrentTask) < length tasks
+      → f (word_place l Version) < 0x10000 → FromStart v f rs
+  start_there v f rs h named word =
       let k : v.fram (word_place l CurrentTask) < length tasks = subst (λ g. g (word_place l CurrentTask) < length tasks) (sym h.fram) named in
-      let a : FromStart v v.fram v.readings_left = start_is_made code l l.commit.address tasks l.boot.address v is_boot h.pc k in
+      let a : FromStart v v.fram v.readings_left = start_is_made code l l.commit.address tasks l.boot.address v is_boot h.pc k
+      (subst (λ g. g (word_place l Version) < 0x10000) (sym h.fram) word) in
       subst (λ q. FromStart v f q) h.readings_left (subst (λ g. FromStart v g v.readings_left) h.fram a)
 
   -- from where a board enters to the code of the task that CUR names
   pub to_task : (u : Core) (steps cycles : ℕ) → Comes code [] steps cycles u (IsAt start_at u.fram u.readings_left)
-      → u.fram (word_place l CurrentTask) < length programs
+      → u.fram (word_place l CurrentTask) < length programs → u.fram (word_place l Version) < 0x10000
       → let t = entry_at tasks (u.fram (word_place l CurrentTask)) in
+      let clears = is_at_end l u.fram in
       let es = start_effects l (privates_in tasks) u.fram in
-      Comes code es (steps + start_steps l.versions.words (length t.privates)) (cycles + start_cycles l.versions.words (length t.privates)) u
+      Comes code es (steps + start_steps clears l.versions.words (length t.privates)) (cycles + start_cycles clears l.versions.words (length t.privates)) u
       (Enters t.code stack_top (fram_after es u.fram) u.readings_left)
-  to_task u steps cycles a named =
+  to_task u steps cycles a named word =
       let count = programs_count l.tasks programs fits.tasks in
       let e = entries_count l.tasks in
       let t = entry_at tasks (u.fram (word_place l CurrentTask)) in
+      let clears = is_at_end l u.fram in
       let es = start_effects l (privates_in tasks) u.fram in
-      comes_on code steps (start_steps l.versions.words (length t.privates)) cycles (start_cycles l.versions.words (length t.privates)) u
+      comes_on code steps (start_steps clears l.versions.words (length t.privates)) cycles (start_cycles clears l.versions.words (length t.privates)) u
       (IsAt start_at u.fram u.readings_left) (Enters t.code stack_top (fram_after es u.fram) u.readings_left) [] es a
-      (λ v h. start_there v u.fram u.readings_left h (omega (arith, named, count, e)))
+      (λ v h. start_there v u.fram u.readings_left h (omega (arith, named, count, e)) word)
 
   -- the code of a task stands where the boot comes to it
   task_stands : (k : ℕ) → k < length programs → Stands code (entry_at tasks k).code (code_of (entry_at tasks k).code (program k))

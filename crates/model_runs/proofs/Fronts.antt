@@ -3,11 +3,11 @@ use Rattle.std.proofs.Common.{◌≡◌, ℕ, refl, sym, ap, ◌∙◌, subst, L
 use Rattle.crash_rules.specs.fram_board.Board.{BoardValue, PowerState, IsPowerState, powered}
 use Rattle.crash_rules.specs.fram_board.Run.{Moment, RunOutcome, BoardCharge}
 use Rattle.crash_rules.specs.machine_effects.World.{World}
-use Rattle.crash_rules.specs.machine_effects.Going.{going}
+use Rattle.crash_rules.specs.machine_effects.Going.{At, going}
 use Rattle.crash_rules.specs.machine_effects.Machine.{MachineBoard, MachineOutcome, MachineStretch, MachineRun, fram_of}
 use Rattle.crash_rules.specs.machine_effects.View.{machine_of}
 use Rattle.crash_rules.specs.machine_effects.Runs.{last_board}
-use Rattle.crash_rules.proofs.machine_effects.Interface.{machine_is_of_words, power_up_is_the_machines}
+use Rattle.crash_rules.proofs.machine_effects.Interface.{machine_is_of_words, power_up_is_the_machines, power_up_keeps_words}
 use Rattle.run_charges.specs.code_forms.Placed.{words_of, LeavesCode}
 use Rattle.run_charges.proofs.code_forms.Interface.{code_in_fram_runs}
 use Rattle.crash_rules.specs.Model.{Model}
@@ -15,9 +15,9 @@ use Rattle.crash_rules.specs.History.{History, first_history}
 use Rattle.crash_rules.specs.Runs.{Program, Charge, Charged}
 use Rattle.crash_rules.specs.Laws.{Origin}
 use Rattle.crash_rules.proofs.Interface.{crash_theorem}
-use Rattle.run_charges.specs.Charges.{ChargeFront, board_behind, board_behind_all, moments_of, charges_of, observed, LeavesProgram}
+use Rattle.run_charges.specs.Charges.{ChargeFront, AreInstructionMoments, board_behind, board_behind_all, moments_of, charges_of, observed, LeavesProgram}
 use Rattle.run_charges.specs.Laws.{IsRunOfWords, IsChargedBy}
-use Rattle.run_charges.proofs.Interface.{Ready, ready_behind_all, fronts_are_charged}
+use Rattle.run_charges.proofs.Interface.{AreMoments, instructions_reach, Ready, ready_behind_all, fronts_are_charged}
 use Rattle.model_runs.specs.Runs.{BearsModel, history_behind}
 use Rattle.model_runs.specs.Laws.{FrontsAreLawful}
 
@@ -88,6 +88,14 @@ module _ {St : Type 0} (m : Model St) (c : Program) (readings : List ℕ) (origi
         let P : (MachineBoard → MachineOutcome) → Type 0 = λ f. LeavesCode st.place (length (words_of st.instructions)) (going f n begun) in
         code_in_fram_runs st.place st.instructions n begun q pl.instructions pl.even pl.low pl.high go at.ready.holds (subst P pl.steps (leaves_code n).code)
         ∙ ap (λ f. going f n begun) (sym pl.steps)
+
+    -- so the moments of its instructions lead where the program's steps lead
+    pub program_leads : (ms : List Moment) → AreMoments (powered t start) ms → AreInstructionMoments ms
+        → (going c.step (length ms) begun).status ≡ At (machine_of (last_board (powered t start) ms))
+    program_leads ms are is =
+        let whole = (power_up_keeps_words t start at.ready.whole at.ready.words ok).0 in
+        let reach = instructions_reach (powered t start) ms whole are is in
+        sym (ap (λ z. z.status) (program_runs (length ms) _ reach.run))
 
 -- what a model says holds at each front
 pub fronts_are_lawful : {St : Type 0} (m : Model St) (c : Program) → FrontsAreLawful m c

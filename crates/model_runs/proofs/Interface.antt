@@ -1,7 +1,9 @@
 -- What the proofs of other crates cite.
 
 -- Fronts of a run whose code is a program of a model.
-pub use Rattle.model_runs.proofs.Fronts.{AtFront, at_front, is_powered, fronts_are_lawful}
+pub use Rattle.model_runs.proofs.Fronts.{AtFront, at_front, is_powered, program_leads, fronts_are_lawful}
+-- The world at the last boot or done is the world of a front.
+pub use Rattle.model_runs.proofs.Starts.{starts_hold}
 -- A run that stops stops where the source is short.
 pub use Rattle.model_runs.proofs.Ends.{stops_where_short}
 -- Each charge that is spent has as many dones as it has bounds.

@@ -7,6 +7,7 @@ mod Spans
 mod Words
 mod Places
 mod Events
+mod Starts
 mod Histories
 mod Reports
 pub mod Interface

@@ -17,15 +17,15 @@ use Rattle.crash_rules.specs.fram_board.Run.{Spent, NoInstruction, TooDear, Refu
 use Rattle.crash_rules.specs.fram_board.Run as run
 use Rattle.crash_rules.proofs.fram_board.Interface.{step_makes_its_effects, data_not_fram}
 use Rattle.crash_rules.specs.machine_effects.World.{fram_after, received, accepted_after, readings_taken}
-use Rattle.crash_rules.specs.machine_effects.Going.{Goes}
-use Rattle.crash_rules.specs.machine_effects.Machine.{MachineBus, MachineBoard, MachineOutcome, word_address, IsMachineStep, machine_bus, machine_opened, machine_outcome}
+use Rattle.crash_rules.specs.machine_effects.Going.{Goes, At, stretch}
+use Rattle.crash_rules.specs.machine_effects.Machine.{MachineBus, MachineBoard, MachineOutcome, MachineRun, Stays, Steps, word_address, IsMachineStep, machine_bus, machine_opened, machine_outcome}
 use Rattle.crash_rules.specs.machine_effects.Machine.{machine_executed, fram_of}
 use Rattle.crash_rules.specs.machine_effects.View.{machine_of, IsWhole, IsOfWords, outcome_of_answer}
-use Rattle.crash_rules.specs.machine_effects.Runs.{action_effects, last_board}
+use Rattle.crash_rules.specs.machine_effects.Runs.{action_effects, moments_effects, moments_cycles, last_board, ReachesAs}
 use Rattle.crash_rules.proofs.machine_effects.Interface.{takes, written_effects, LoggedBy, effect_logged, machine_changes_by_effects, executed_same, current_to_machine, step_leaves_it_whole, words_stay_words, charge_accepts_by_sends}
 use Rattle.crash_rules.specs.History.{History}
 use Rattle.crash_rules.proofs.Interface.{observed_taken, events_of_instructions}
-use Rattle.run_charges.specs.Charges.{ArePowerStates}
+use Rattle.run_charges.specs.Charges.{ArePowerStates, IsInstruction, AreInstructionMoments}
 
 -- a moment that may follow this board
 pub data IsMomentFrom (b : BoardValue) (m : Moment) : Type 0 where
@@ -59,6 +59,11 @@ charge_last m left b r (run.Executed _ _ i done rest pos c paid a h) e = charge_
 are-append : (b : BoardValue) (ms ns : List Moment) → AreMoments b ms → AreMoments (last_board b ms) ns → AreMoments b (ms ++ ns)
 are-append b [] ns h k = k
 are-append b (m ∷ ms) ns h k = (h.0, are-append m.after ms ns h.1 k)
+
+-- the moments behind others
+pub are_behind : (b : BoardValue) (ms rest : List Moment) → AreMoments b (ms ++ rest) → AreMoments (last_board b ms) rest
+are_behind b [] rest h = h
+are_behind b (m ∷ ms) rest h = are_behind m.after ms rest h.1
 
 are_front : (b : BoardValue) (ms rest : List Moment) → AreMoments b (ms ++ rest) → AreMoments b ms
 are_front b [] rest h = tt
@@ -221,3 +226,24 @@ module _ (b : BoardValue) (whole : IsWhole b) (i : Instr) (done : Stepped) (curr
       let event = events_of_instructions 0 b (executed b i) k e made.from room in
       let count = observed_taken 0 (effects_of b (executed b i)) k in
       ap (λ es. k.taken + length (readings_taken es)) told_same ∙ sym count ∙ event.taken
+
+  -- more instructions behind it are as many more steps of the machine
+  more_reached : (ms : List Moment) → ReachesAs after ms → ReachesAs b (moment_of b i done ∷ ms)
+  more_reached ms rest = record {
+    run = Steps (length ms) (machine_of b) (machine_of after) told done.cycles
+        (stretch (moments_effects ms) (moments_cycles ms) (At (machine_of (last_board after ms)))) step rest.run;
+    whole = rest.whole;
+    words = λ w. rest.words (words_after w);
+  }
+
+one_reached : (b : BoardValue) (m : Moment) (ms : List Moment) → IsWhole b → IsMomentFrom b m → IsInstruction m.action
+    → (IsWhole m.after → ReachesAs m.after ms) → ReachesAs b (m ∷ ms)
+one_reached b m ms whole (PowersUp p ok e) is more = let P : Moment → Type 0 = λ y. IsInstruction y.action in absurd (subst P e is)
+one_reached b m ms whole (Instructs i done c a e) is more =
+    let P : Moment → Type 0 = λ y. (IsWhole y.after → ReachesAs y.after ms) → ReachesAs b (y ∷ ms) in
+    subst P (sym e) (λ go. more_reached b whole i done c a ms (go (whole_after b whole i done c a))) more
+
+-- moments that are instructions are as many steps of the machine
+pub instructions_reach : (b : BoardValue) (ms : List Moment) → IsWhole b → AreMoments b ms → AreInstructionMoments ms → ReachesAs b ms
+instructions_reach b [] whole are is = record { run = Stays (machine_of b); whole = whole; words = λ w. w }
+instructions_reach b (m ∷ ms) whole are is = one_reached b m ms whole are.0 is.0 (λ w. instructions_reach m.after ms w are.1 is.1)

@@ -1,5 +1,5 @@
 -- What commit, attempt start and boot do to FRAM and to the receiver, in the order of their stores, from what FRAM holds.
-use Rattle.std.specs.Prelude.{ℕ, zero, suc, ◌+◌, ◌%◌, ◌==◌, if◌then◌else◌, List, [], ◌∷◌, ◌++◌}
+use Rattle.std.specs.Prelude.{ℕ, zero, suc, ◌+◌, ◌%◌, ◌==◌, if◌then◌else◌, Bool, List, [], ◌∷◌, ◌++◌}
 use Rattle.machine_effects.specs.fram_board.Effects.{Effect, Store, Send}
 use Rattle.machine_effects.specs.World.{put, fram_after}
 use Rattle.memory_map.specs.declared.words.RuntimeWord.TheVariants.{CurrentTask, NextTask, Gate, ListLength, EmitCount, Base, SentBase, Version}
@@ -35,10 +35,22 @@ abbrev pub cleared : ℕ → ℕ → List Effect
 cleared zero p = []
 cleared (suc n) p = Store p 0 ∷ cleared n (p + 2)
 
--- an attempt's opening: every version word := 0, VER := 1, CLN := 0, EN := 0
+-- VER is at its end, and no greater number is left for an attempt
+abbrev pub is_at_end : MemoryMap → (ℕ → ℕ) → Bool
+is_at_end m f = f (word_place m Version) == 0xFFFF
+
+-- the clearing, where it comes: every version word := 0, then VER := 0
+abbrev pub clearing_if : MemoryMap → Bool → List Effect
+clearing_if m comes = if comes then cleared m.versions.words m.versions.address ++ (Store (word_place m Version) 0 ∷ []) else []
+
+-- VER := VER + 1, CLN := 0, EN := 0
+abbrev pub counting_effects : MemoryMap → (ℕ → ℕ) → List Effect
+counting_effects m f =
+    Store (word_place m Version) ((f (word_place m Version) + 1) % 0x10000) ∷ Store (word_place m ListLength) 0 ∷ Store (word_place m EmitCount) 0 ∷ []
+
+-- an attempt's opening: the clearing where VER is at its end; then the attempt has its own number, and nothing listed or emitted
 abbrev pub opening_effects : MemoryMap → (ℕ → ℕ) → List Effect
-opening_effects m f = cleared m.versions.words m.versions.address
-    ++ (Store (word_place m Version) 1 ∷ Store (word_place m ListLength) 0 ∷ Store (word_place m EmitCount) 0 ∷ [])
+opening_effects m f = let es = clearing_if m (is_at_end m f) in es ++ counting_effects m (fram_after es f)
 
 -- homes are copied, the first one first, each as FRAM then is
 abbrev pub copied_in : List CopyPair → (ℕ → ℕ) → List Effect

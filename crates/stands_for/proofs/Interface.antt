@@ -7,4 +7,4 @@ pub use Rattle.stands_for.proofs.Commits.{commit_stores_all}
 -- An attempt's start keeps a world undecided, and leaves an attempt that has started.
 pub use Rattle.stands_for.proofs.Starts.{each_weaker, elsewhere_same}
 -- The laws of what a world stands for.
-pub use Rattle.stands_for.proofs.Theorems.{keeps_the_laws, clearing_starts, decided_can_commit, commit_stores_there}
+pub use Rattle.stands_for.proofs.Theorems.{keeps_the_laws, numbered_starts, decided_can_commit, commit_stores_there}

@@ -1,18 +1,19 @@
 -- An attempt's start keeps a world undecided, and leaves an attempt that has started.
-use Rattle.std.proofs.Common.{◌≡◌, ℕ, zero, suc, ◌+◌, ◌*◌, ◌<◌, ◌≤◌, List, [], ◌∷◌, ◌++◌, refl, sym, ap, ◌∙◌, subst, ⊎_elim, inl, inr, arith}
+use Rattle.std.proofs.Common.{◌≡◌, ℕ, zero, suc, ◌+◌, ◌*◌, ◌<◌, ◌≤◌, List, [], ◌∷◌, ◌++◌, refl, sym, ap, ◌∙◌, subst, ⊎_elim, inl, inr, arith, ◌==◌, ◌%◌, Bool, true, false}
 use Rattle.std.proofs.lemmas.Bool.{cases_eq}
+use Rattle.std.proofs.lemmas.Bool.Decides.{nat_tests}
 use Rattle.runtime_effects.specs.fram_board.Effects.{Effect, Store, Take, Send}
 use Rattle.runtime_effects.specs.machine_effects.World.{World, put, world_after_one, world_after, fram_after, readings_taken, EachStore}
 use Rattle.runtime_effects.proofs.machine_effects.Interface.{readings_taken-append, world_after-append, each_store-append, put_same, put_other}
 use Rattle.runtime_effects.specs.Places.{CopyPair}
-use Rattle.runtime_effects.specs.Stages.{cleared, opening_effects, copied_in, start_effects}
+use Rattle.runtime_effects.specs.Stages.{is_at_end, clearing_if, cleared, counting_effects, opening_effects, copied_in, start_effects}
 use Rattle.crash_rules.specs.Model.{HoldsThroughout, IsElsewhere}
 use Rattle.crash_rules.proofs.Interface.{world_fram, holds-append}
 use Rattle.stands_for.specs.Layout.{ProgramPlaces, StateView, IsSharedWord, IsCopyWord, IsAmong, ArePrivate}
 use Rattle.stands_for.specs.StandsFor.{VersionsWithin, UndecidedAt, StartedAt}
 use Rattle.stands_for.specs.Program.{IsStartStore, StartContract}
 use Rattle.stands_for.proofs.Keeps.{put_either, put_words}
-use Rattle.runtime_effects.specs.memory_map.MemoryMap.{word_place}
+use Rattle.runtime_effects.specs.memory_map.MemoryMap.{MemoryMap, word_place}
 use Rattle.runtime_effects.specs.memory_map.declared.words.RuntimeWord.TheVariants.{CurrentTask, Gate, ListLength, EmitCount, Base, Version}
 use Rattle.runtime_effects.specs.memory_map.Laws.{AreApart}
 
@@ -34,9 +35,19 @@ cleared_takes : (n p : ℕ) → readings_taken (cleared n p) ≡ []
 cleared_takes zero p = refl
 cleared_takes (suc n) p = cleared_takes n (p + 2)
 
+clearing_takes : (m : MemoryMap) (b : Bool) → readings_taken (clearing_if m b) ≡ []
+clearing_takes m true =
+    let c = cleared m.versions.words m.versions.address in
+    readings_taken-append c (Store (word_place m Version) 0 ∷ []) ∙ ap (λ z. z ++ []) (cleared_takes m.versions.words m.versions.address)
+clearing_takes m false = refl
+
 copied_in_takes : (ps : List CopyPair) (f : ℕ → ℕ) → readings_taken (copied_in ps f) ≡ []
 copied_in_takes [] f = refl
 copied_in_takes (p ∷ ps) f = copied_in_takes ps (put f p.copy (f p.home))
+
+-- a word that isn't the end is below it
+below_end : (n : ℕ) → n < 0x10000 → (n == 0xFFFF) ≡ false → n < 0xFFFF
+below_end n l e = grind (arith, nat_tests, l, e)
 
 module _ {St : Type 0} (l : ProgramPlaces) (apart : AreApart l.map) (v : StateView St) where
   module _ (s : St) where
@@ -97,27 +108,59 @@ module _ {St : Type 0} (l : ProgramPlaces) (apart : AreApart l.map) (v : StateVi
         × AreZero l.map.versions.words (world_after (cleared n p) y)) n2 r in
         ((u, r2.0), r2.1, r2.2)
 
-    -- VER, CLN and EN, once the version words are cleared
+    -- what VER, CLN and EN say once the attempt has its number
     record Opened (x : World) : Type 0 where
       undecided : UndecidedAt l v s x
       list_length : x.fram (word_place l.map ListLength) ≡ 0
       emit_count : x.fram (word_place l.map EmitCount) ≡ 0
       versions : (i : ℕ) → i < l.map.versions.words → x.fram (l.map.versions.address + 2 * i) < x.fram (word_place l.map Version)
 
-    abbrev three : List Effect
-    three = Store (word_place l.map Version) 1 ∷ Store (word_place l.map ListLength) 0 ∷ Store (word_place l.map EmitCount) 0 ∷ []
-
-    three_through : (x : World) → UndecidedAt l v s x → AreZero l.map.versions.words x
-        → HoldsThroughout (UndecidedAt l v s) three x × Opened (world_after three x)
-    three_through x u z =
+    -- VER := 0, once the version words are cleared
+    reset_keeps : (x : World) → UndecidedAt l v s x → AreZero l.map.versions.words x → UndecidedAt l v s (world_after_one (Store (word_place l.map Version) 0) x)
+    reset_keeps x u z =
         let m = l.map in
-        let x1 = world_after_one (Store (word_place m Version) 1) x in let x2 = world_after_one (Store (word_place m ListLength) 0) x1 in
+        store_keeps x (word_place m Version) 0 (omega arith) (λ h. omega (arith, apart, h)) (λ q. omega (arith, apart, q)) (λ q. omega (arith, apart, q))
+        (λ q. omega (arith, apart, q))
+        (λ i h. let k = put_other x.fram (word_place m Version) 0 (m.versions.address + 2 * i) (λ q. omega (arith, apart, q)) in
+        let e = z i h in omega (arith, k, e)) u
+
+    -- a number is left for the attempt
+    abbrev HasNumber : World → Type 0
+    HasNumber x = x.fram (word_place l.map Version) < 0xFFFF
+
+    -- the clearing, where it comes: from any of its stores on a cut attempt finds VER at its end again, until all version words are 0
+    cleared_through : (b : Bool) (x : World) → is_at_end l.map x.fram ≡ b → UndecidedAt l v s x
+        → HoldsThroughout (UndecidedAt l v s) (clearing_if l.map b) x × UndecidedAt l v s (world_after (clearing_if l.map b) x) × HasNumber (world_after (clearing_if l.map b) x)
+    cleared_through true x e u =
+        let m = l.map in
+        let c = cleared m.versions.words m.versions.address in
+        let last : List Effect = Store (word_place m Version) 0 ∷ [] in
+        let from : m.versions.address + 2 * 0 ≡ m.versions.address = omega arith in
+        let a0 = clear_through m.versions.words 0 x (omega arith) u (λ i h. absurd (omega (arith, h))) in
+        let a = subst (λ p. HoldsThroughout (UndecidedAt l v s) (cleared m.versions.words p) x
+        × UndecidedAt l v s (world_after (cleared m.versions.words p) x) × AreZero m.versions.words (world_after (cleared m.versions.words p) x)) from a0 in
+        let y = world_after c x in
+        let k = reset_keeps y a.1 a.2 in
+        let zero : (world_after last y).fram (word_place m Version) ≡ 0 = put_same y.fram (word_place m Version) 0 in
+        let same : world_after (c ++ last) x ≡ world_after last y = world_after-append c last x in
+        (holds-append (UndecidedAt l v s) c last x a.0 (a.1, k), subst (UndecidedAt l v s) (sym same) k, subst HasNumber (sym same) (omega (arith, zero)))
+    cleared_through false x e u = (u, u, below_end (x.fram (word_place l.map Version)) (u.is_open.words (word_place l.map Version)) e)
+
+    -- VER goes up by one, above all version words
+    counted_through : (x : World) → UndecidedAt l v s x → HasNumber x
+        → HoldsThroughout (UndecidedAt l v s) (counting_effects l.map x.fram) x × Opened (world_after (counting_effects l.map x.fram) x)
+    counted_through x u number =
+        let m = l.map in
+        let n = x.fram (word_place m Version) in
+        let w = (n + 1) % 0x10000 in
+        let x1 = world_after_one (Store (word_place m Version) w) x in let x2 = world_after_one (Store (word_place m ListLength) 0) x1 in
         let x3 = world_after_one (Store (word_place m EmitCount) 0) x2 in
-        let v1 : x1.fram (word_place m Version) ≡ 1 = put_same x.fram (word_place m Version) 1 in
-        let z1 : (i : ℕ) → i < m.versions.words → x1.fram (m.versions.address + 2 * i) ≡ 0 =
-        λ i h. put_other x.fram (word_place m Version) 1 (m.versions.address + 2 * i)
-        (λ q. omega (arith, apart, q)) ∙ z i h in
-        let u1 = store_keeps x (word_place m Version) 1 (omega arith) (λ h. omega (arith, apart, h)) (λ q. omega (arith, apart, q))
+        let stored : x1.fram (word_place m Version) ≡ w = put_same x.fram (word_place m Version) w in
+        let v1 : x1.fram (word_place m Version) ≡ n + 1 = omega (arith, stored, number) in
+        let z1 : (i : ℕ) → i < m.versions.words → x1.fram (m.versions.address + 2 * i) ≤ n =
+        λ i h. let same = put_other x.fram (word_place m Version) w (m.versions.address + 2 * i) (λ q. omega (arith, apart, q)) in
+        let most = u.is_open.versions i h in omega (arith, same, most) in
+        let u1 = store_keeps x (word_place m Version) w (omega arith) (λ h. omega (arith, apart, h)) (λ q. omega (arith, apart, q))
         (λ q. omega (arith, apart, q))
         (λ q. omega (arith, apart, q)) (λ i h. let k = z1 i h in omega (arith, k, v1)) u in
         let u2 = scratch x1 (word_place m ListLength) 0 (omega arith) (λ h. omega (arith, apart, h)) (λ q. omega (arith, apart, q))
@@ -129,17 +172,37 @@ module _ {St : Type 0} (l : ProgramPlaces) (apart : AreApart l.map) (v : StateVi
         let same : (a : ℕ) → (a ≡ word_place m ListLength → ⊥) → (a ≡ word_place m EmitCount → ⊥) → x3.fram a ≡ x1.fram a =
         λ a p q. put_other x2.fram (word_place m EmitCount) 0 a q
         ∙ put_other x1.fram (word_place m ListLength) 0 a p in
-        let v3 : x3.fram (word_place m Version) ≡ 1 = same (word_place m Version) (λ q. omega (arith, apart, q)) (λ q. omega (arith, apart, q)) ∙ v1 in (
+        let v3 : x3.fram (word_place m Version) ≡ n + 1 = same (word_place m Version) (λ q. omega (arith, apart, q)) (λ q. omega (arith, apart, q)) ∙ v1 in (
           (u, (u1, (u2, u3))),
           record {
             undecided = u3;
             list_length = put_other x2.fram (word_place m EmitCount) 0 (word_place m ListLength) (λ q. omega (arith, apart, q))
                 ∙ put_same x1.fram (word_place m ListLength) 0;
             emit_count = put_same x2.fram (word_place m EmitCount) 0;
-            versions = λ i h. let k = same (m.versions.address + 2 * i) (λ q. omega (arith, apart, q)) (λ q. omega (arith, apart, q))
-                ∙ z1 i h in omega (arith, k, v3);
+            versions = λ i h. let k = same (m.versions.address + 2 * i) (λ q. omega (arith, apart, q)) (λ q. omega (arith, apart, q)) in
+                let most = z1 i h in omega (arith, k, most, v3);
           },
         )
+
+    -- the opening
+    record Opens (x : World) : Type 0 where
+      through : HoldsThroughout (UndecidedAt l v s) (opening_effects l.map x.fram) x
+      opened : Opened (world_after (opening_effects l.map x.fram) x)
+
+    opens : (x : World) → UndecidedAt l v s x → Opens x
+    opens x u =
+        let b = is_at_end l.map x.fram in
+        let c = clearing_if l.map b in
+        let y = world_after c x in
+        let there : y.fram ≡ fram_after c x.fram = world_fram c x in
+        let a = cleared_through b x refl u in
+        let k = counted_through y a.1 a.2 in
+        let more = counting_effects l.map (fram_after c x.fram) in
+        let k2 = subst (λ f. HoldsThroughout (UndecidedAt l v s) (counting_effects l.map f) y × Opened (world_after (counting_effects l.map f) y)) there k in
+        record {
+          through = holds-append (UndecidedAt l v s) c more x a.0 k2.0;
+          opened = subst Opened (sym (world_after-append c more x)) k2.1;
+        }
 
     -- a copy that no later one overwrites
     copied_through : (ps : List CopyPair) (x : World) → ArePrivate l (v.task s) ps → Opened x
@@ -189,25 +252,16 @@ module _ {St : Type 0} (l : ProgramPlaces) (apart : AreApart l.map) (v : StateVi
     starts ps x laid u =
         let m = l.map in
         let op = opening_effects m x.fram in
-        let c = cleared m.versions.words m.versions.address in
-        let e0 : m.versions.address + 2 * 0 ≡ m.versions.address = omega arith in
-        let a0 = clear_through m.versions.words 0 x (omega arith) u (λ i h. absurd (omega (arith, h))) in
-        let a = subst (λ p. HoldsThroughout (UndecidedAt l v s) (cleared m.versions.words p) x
-        × UndecidedAt l v s (world_after (cleared m.versions.words p) x) × AreZero m.versions.words (world_after (cleared m.versions.words p) x)) e0 a0 in
-        let x1 = world_after c x in
-        let b = three_through x1 a.1 a.2 in
-        let x2 = world_after three x1 in
-        let same : world_after op x ≡ x2 = world_after-append c three x in
-        let d = copied_through ps x2 laid b.1 in
-        let fr : x2.fram ≡ fram_after op x.fram = ap (λ z. z.fram) (sym same) ∙ world_fram op x in
-        let ends : world_after (copied_in ps x2.fram) x2 ≡ world_after (start_with ps x.fram) x = ap (λ f. world_after (copied_in ps f) x2) fr
-        ∙ ap (world_after (copied_in ps (fram_after op x.fram))) (sym same) ∙ sym (world_after-append op (copied_in ps (fram_after op x.fram)) x) in
-        let th : HoldsThroughout (UndecidedAt l v s) (copied_in ps (fram_after op x.fram))
-        (world_after op x) = subst (λ z. HoldsThroughout (UndecidedAt l v s) (copied_in ps (fram_after op x.fram)) z) (sym same)
-        (subst (λ f. HoldsThroughout (UndecidedAt l v s) (copied_in ps f) x2) fr d.0) in
+        let o = opens x u in
+        let y = world_after op x in
+        let there : y.fram ≡ fram_after op x.fram = world_fram op x in
+        let copies = copied_in ps (fram_after op x.fram) in
+        let d = copied_through ps y laid o.opened in
+        let all : world_after (copied_in ps y.fram) y ≡ world_after (start_with ps x.fram) x =
+        ap (λ f. world_after (copied_in ps f) y) there ∙ sym (world_after-append op copies x) in
         record {
-          through = holds-append (UndecidedAt l v s) op (copied_in ps (fram_after op x.fram)) x (holds-append (UndecidedAt l v s) c three x a.0 b.0) th;
-          started = subst (StartedAt l v s ps) ends (record {
+          through = holds-append (UndecidedAt l v s) op copies x o.through (subst (λ f. HoldsThroughout (UndecidedAt l v s) (copied_in ps f) y) there d.0);
+          started = subst (StartedAt l v s ps) all (record {
             undecided = d.1.undecided;
             list_length = d.1.list_length;
             emit_count = d.1.emit_count;
@@ -216,9 +270,9 @@ module _ {St : Type 0} (l : ProgramPlaces) (apart : AreApart l.map) (v : StateVi
           });
         }
 
-  -- where a start stores: 0 to the version words, 1 to VER, 0 to CLN and EN, and to copies
+  -- where a start stores: 0 to the version words, to VER, 0 to CLN and EN, and to copies
   module _ (P : ℕ → ℕ → Type 0) (version_words : (i : ℕ) → i < l.map.versions.words → P (l.map.versions.address + 2 * i) 0)
-      (version : P (word_place l.map Version) 1) (list_length : P (word_place l.map ListLength) 0) (emit_count : P (word_place l.map EmitCount) 0)
+      (version : (w : ℕ) → w < 0x10000 → P (word_place l.map Version) w) (list_length : P (word_place l.map ListLength) 0) (emit_count : P (word_place l.map EmitCount) 0)
       (copies : (a w : ℕ) → IsCopyWord l a → P a w) where
     cleared_so : (n j : ℕ) → j + n ≡ l.map.versions.words → EachStore P (cleared n (l.map.versions.address + 2 * j))
     cleared_so zero j e = tt
@@ -230,12 +284,19 @@ module _ {St : Type 0} (l : ProgramPlaces) (apart : AreApart l.map) (v : StateVi
     copied_in_so t [] f h = tt
     copied_in_so t (p ∷ ps) f h = (copies p.copy (f p.home) h.2, copied_in_so t ps (put f p.copy (f p.home)) h.4)
 
+    clearing_so : (b : Bool) → EachStore P (clearing_if l.map b)
+    clearing_so true =
+        let first : l.map.versions.address + 2 * 0 ≡ l.map.versions.address = omega arith in
+        each_store-append P (cleared l.map.versions.words l.map.versions.address) (Store (word_place l.map Version) 0 ∷ [])
+        (subst (λ p. EachStore P (cleared l.map.versions.words p)) first (cleared_so l.map.versions.words 0 (omega arith))) (version 0 (omega arith), tt)
+    clearing_so false = tt
+
     opening_so : (f : ℕ → ℕ) → EachStore P (opening_effects l.map f)
     opening_so f =
-        let first : l.map.versions.address + 2 * 0 ≡ l.map.versions.address = omega arith in
-        each_store-append P (cleared l.map.versions.words l.map.versions.address) _
-        (subst (λ p. EachStore P (cleared l.map.versions.words p)) first (cleared_so l.map.versions.words 0 (omega arith)))
-        (version, (list_length, (emit_count, tt)))
+        let b = is_at_end l.map f in
+        let g = fram_after (clearing_if l.map b) f in
+        let raised = version ((g (word_place l.map Version) + 1) % 0x10000) (omega arith) in
+        each_store-append P (clearing_if l.map b) (counting_effects l.map g) (clearing_so b) (raised, (list_length, (emit_count, tt)))
 
     -- each store of a start is of this kind
     start_stores_so : (privates : ℕ → List CopyPair) → ((t : ℕ) → ArePrivate l t (privates t)) → (f : ℕ → ℕ)
@@ -261,7 +322,7 @@ module _ {St : Type 0} (l : ProgramPlaces) (apart : AreApart l.map) (v : StateVi
           list_length = λ e. refl;
           emit_count = λ e. refl;
         })
-        (record {
+        (λ w small. record {
           from = omega (arith, apart);
           below = omega (arith, apart);
           list_length = λ e. omega (arith, e);
@@ -281,9 +342,11 @@ module _ {St : Type 0} (l : ProgramPlaces) (apart : AreApart l.map) (v : StateVi
     start_takes f =
         let op = opening_effects l.map f in
         let rest = copied_in (privates (f (word_place l.map CurrentTask))) (fram_after op f) in
-        let c = cleared l.map.versions.words l.map.versions.address in
+        let b = is_at_end l.map f in
+        let c = clearing_if l.map b in
+        let more = counting_effects l.map (fram_after c f) in
         readings_taken-append op rest ∙ ap (λ z. z ++ readings_taken rest)
-        (readings_taken-append c _ ∙ ap (λ z. z ++ []) (cleared_takes l.map.versions.words l.map.versions.address))
+        (readings_taken-append c more ∙ ap (λ z. z ++ []) (clearing_takes l.map b))
         ∙ copied_in_takes (privates (f (word_place l.map CurrentTask))) (fram_after op f)
 
     -- the start of the state's task is the one that CUR names
@@ -291,8 +354,8 @@ module _ {St : Type 0} (l : ProgramPlaces) (apart : AreApart l.map) (v : StateVi
     there s x u = starts s (privates (x.fram (word_place l.map CurrentTask))) x
         (subst (λ t. ArePrivate l t (privates (x.fram (word_place l.map CurrentTask)))) u.is_open.current_task (laid (x.fram (word_place l.map CurrentTask)))) u
 
-    pub clearing_start : StartContract l v privates (start_effects l.map privates)
-    clearing_start = record {
+    pub numbered_start : StartContract l v privates (start_effects l.map privates)
+    numbered_start = record {
       takes_none = start_takes;
       stores = start_stores;
       keeps_task = λ f. elsewhere_same (word_place l.map CurrentTask) (start_effects l.map privates f) f (start_elsewhere _ (start_stores f));

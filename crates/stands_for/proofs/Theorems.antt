@@ -1,9 +1,9 @@
 -- The laws of what a world stands for.
 use Rattle.std.proofs.Common.{◌++◌, take, drop, sym, ap, ◌∙◌, inr}
 use Rattle.std.proofs.lemmas.List.{take-append-drop}
-use Rattle.stands_for.specs.Program.{KeepsTheLaws, ClearingStarts, DecidedCanCommit, CommitStores}
+use Rattle.stands_for.specs.Program.{KeepsTheLaws, NumberedStarts, DecidedCanCommit, CommitStores}
 use Rattle.stands_for.proofs.Commits.{commit_before, commit_is, commit_takes, commit_elsewhere, commit_stores, committed, can_commit}
-use Rattle.stands_for.proofs.Starts.{clearing_start}
+use Rattle.stands_for.proofs.Starts.{numbered_start}
 use Rattle.stands_for.proofs.Attempts.{attempts}
 
 -- from a start and tasks that keep their contracts, all that the crash theorem asks of a source
@@ -34,9 +34,9 @@ keeps_the_laws St l v privates p apart room start tasks =
       attempts = attempts l v privates p apart start tasks;
     }
 
--- the start that clears version words keeps its contract
-pub clearing_starts : (St : Type 0) → ClearingStarts St
-clearing_starts St l v privates apart laid = clearing_start l apart v privates laid
+-- the start that numbers attempts keeps its contract
+pub numbered_starts : (St : Type 0) → NumberedStarts St
+numbered_starts St l v privates apart laid = numbered_start l apart v privates laid
 
 -- a decided world has what its commit needs
 pub decided_can_commit : (St : Type 0) → DecidedCanCommit St

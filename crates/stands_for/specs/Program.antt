@@ -70,9 +70,10 @@ abbrev pub KeepsTheLaws : (St : Type 0) → Type 0
 KeepsTheLaws St = (l : ProgramPlaces) (v : StateView St) (privates : ℕ → List CopyPair) (p : ProgramParts St)
     → AreApart l.map → HaveRoom l → StartContract l v privates p.start → TasksContract l v privates p → ModelLaws (program_model l v p)
 
--- the runtime's start, whose version words are cleared at each attempt, keeps the start's contract
-abbrev pub ClearingStarts : (St : Type 0) → Type 0
-ClearingStarts St = (l : ProgramPlaces) (v : StateView St) (privates : ℕ → List CopyPair)
+-- the runtime's start, which gives each attempt a number above all version words and clears these once no number is left, keeps the
+-- start's contract
+abbrev pub NumberedStarts : (St : Type 0) → Type 0
+NumberedStarts St = (l : ProgramPlaces) (v : StateView St) (privates : ℕ → List CopyPair)
     → AreApart l.map → ((t : ℕ) → ArePrivate l t (privates t)) → StartContract l v privates (start_effects l.map privates)
 
 -- where a world is decided the commit finds what it needs

@@ -1,7 +1,7 @@
 //! Laws of what a board stands for. The functions do nothing: their contracts are the laws. The type is what a state of the
 //! source is.
 
-ghost use Rattle.stands_for.specs.Program.{ClearingStarts, CommitStores, DecidedCanCommit, KeepsTheLaws};
+ghost use Rattle.stands_for.specs.Program.{NumberedStarts, CommitStores, DecidedCanCommit, KeepsTheLaws};
 
 /// From a start and from tasks that keep their contracts follows all that the crash theorem needs: a commit keeps a decided
 /// world decided and brings it to rest, and an attempt is undecided until it decides.
@@ -9,9 +9,9 @@ pub fn start_and_tasks_give_the_laws<S>()
     ensures { KeepsTheLaws S }
 {}
 
-/// The start that clears the version words keeps the start's contract.
-pub fn clearing_start_keeps_its_contract<S>()
-    ensures { ClearingStarts S }
+/// The start that gives each attempt a number, and clears the version words once none is left, keeps the start's contract.
+pub fn numbered_start_keeps_its_contract<S>()
+    ensures { NumberedStarts S }
 {}
 
 /// Where a world is decided, the commit finds what it needs.

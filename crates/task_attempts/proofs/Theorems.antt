@@ -6,7 +6,7 @@ use Rattle.layout_facts.specs.source_values.Runs.{State}
 use Rattle.layout_facts.specs.boot_runtime.Entries.{task_entries}
 use Rattle.layout_facts.specs.boot_runtime.Listing.{privates_in}
 use Rattle.layout_facts.proofs.crash_rules.Interface.{world_fram}
-use Rattle.layout_facts.proofs.stands_for.Interface.{each_weaker, keeps_the_laws, clearing_starts}
+use Rattle.layout_facts.proofs.stands_for.Interface.{each_weaker, keeps_the_laws, numbered_starts}
 use Rattle.layout_facts.proofs.lower.Interface.{blocks_agree}
 use Rattle.layout_facts.specs.stands_for.Program.{IsStartStore}
 use Rattle.layout_facts.specs.compiled_model.Places.{program_places}
@@ -28,14 +28,14 @@ tasks_contract text p allow plans l laid runnable s x readings small st =
 pub compiled_laws : CompiledSourcesKeepTheLaws
 compiled_laws text p allow plans l laid runnable =
     let g = given text p allow plans l laid runnable in
-    let start = clearing_starts State (program_places p l) (state_view p l) (privates_in (task_entries l)) g.apart g.privates in
+    let start = numbered_starts State (program_places p l) (state_view p l) (privates_in (task_entries l)) g.apart g.privates in
     keeps_the_laws State (program_places p l) (state_view p l) (privates_in (task_entries l)) (program_parts p l) g.apart g.room start
     (tasks_contract text p allow plans l laid runnable)
 
 pub stores_below_code : AttemptsStoreBelowCode
 stores_below_code text p allow plans l laid runnable s x readings small u =
     let g = given text p allow plans l laid runnable in
-    let start = clearing_starts State (program_places p l) (state_view p l) (privates_in (task_entries l)) g.apart g.privates in
+    let start = numbered_starts State (program_places p l) (state_view p l) (privates_in (task_entries l)) g.apart g.privates in
     let es = (program_parts p l).start x.fram in
     let y = world_after es x in
     let is_task = u.is_open.is_task in

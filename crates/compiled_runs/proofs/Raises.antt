@@ -1,0 +1,35 @@
+-- A power-up with GATE 0 raises VER.
+use Rattle.std.proofs.Common.{◌≡◌, ◌<◌, ◌+◌, ℕ, sym, ap, ◌∙◌, subst, [], ◌∷◌, length, arith}
+use Rattle.compiled_model.specs.machine_effects.World.{put}
+use Rattle.compiled_model.specs.machine_effects.Going.{Status, At, going}
+use Rattle.compiled_model.specs.machine_effects.Machine.{MachineBoard}
+use Rattle.compiled_model.proofs.machine_effects.Interface.{put_same}
+use Rattle.compiled_model.specs.code_forms.Forms.{board_of}
+use Rattle.compiled_model.specs.source_values.Runs.{CheckedProgram}
+use Rattle.compiled_model.specs.memory_map.declared.words.RuntimeWord.TheVariants.{Gate, Version}
+use Rattle.compiled_model.specs.memory_map.MemoryMap.{MemoryMap, word_place}
+use Rattle.compiled_model.specs.lower.Lowered.{lowered}
+use Rattle.compiled_model.specs.linked_code.Linked.{ProgramsAreWhole}
+use Rattle.compiled_model.proofs.linked_code.Interface.{programs_count, to_raised}
+use Rattle.compiled_runs.specs.Program.{IsBooting, compiled_program}
+use Rattle.compiled_runs.specs.Laws.{CanRun, PowerUpsRaiseVersion}
+
+pub power_ups_raise_version : PowerUpsRaiseVersion
+power_ups_raise_version p l r b boots gate below t leads =
+    let step = (compiled_program p l).step in
+    let count = programs_count l.tasks (lowered l p) r.fits.tasks ∙ r.count in
+    let whole : ProgramsAreWhole (lowered l p) = record {
+      whole = λ k h. r.programs.whole k (omega (arith, h, count));
+      of_words = λ k h. r.programs.of_words k (omega (arith, h, count));
+    } in
+    let u = boots.core in
+    let a = word_place l Version in
+    let zero : u.fram (word_place l Gate) ≡ 0 = ap (λ s. s.fram (word_place l Gate)) (sym boots.is) ∙ gate in
+    let version : u.fram a ≡ b.fram a = ap (λ s. s.fram a) (sym boots.is) in
+    let low : u.fram a < 0xFFFF = omega (arith, version, below) in
+    let raised = to_raised l (lowered l p) r.fits whole u boots.pc zero low in
+    let made : (going step 6 (board_of u)).status ≡ At (board_of raised.end) = ap (λ q. q.status) (raised.leads.by 0) in
+    let there : At t ≡ At (board_of raised.end) = sym leads ∙ ap (λ s. (going step 6 s).status) boots.is ∙ made in
+    let same : t ≡ board_of raised.end = cc there in
+    let stored : raised.end.fram a ≡ u.fram a + 1 = ap (λ f. f a) raised.holds.fram ∙ put_same u.fram a (u.fram a + 1) in
+    ap (λ s. s.fram a) same ∙ stored ∙ ap (λ n. n + 1) version
