@@ -5,12 +5,12 @@ use Rattle.alp_io.specs.Count.{Rose}
 use Rattle.alp_io.specs.Shelf.{Files, Counts}
 use Rattle.fram_board.specs.Laws.{HasOneRun}
 use Rattle.alpaca_cli.specs.declared.status.Status.{Status}
-use Rattle.alpaca_cli.specs.declared.status.Status.TheVariants.{Done, Refused, Usage, Unreadable, Unwritable, OutOfMemory, MachineFault, TooLong}
+use Rattle.alpaca_cli.specs.declared.status.Status.TheVariants.{Done, Refused, Usage, Unreadable, Unwritable, OutOfMemory, MachineFault, TooLong, Differs}
 use Rattle.alpaca_cli.specs.Answers.{Answers, CommandAnswers, IsCarriedOut, IsWhole, status_of}
 use Rattle.alpaca_cli.specs.Calls.{Call, OnLine, Says, line_text, reads}
 use Rattle.alpaca_cli.specs.InputFiles.{AreHeld, IsFirstUnfit, here, behind, IsOverlong}
 use Rattle.alpaca_cli.specs.Outside.{Shelved, Written, IsSilent, WhereSilent}
-use Rattle.alpaca_cli.specs.Ending.{Ending, well, at_fault}
+use Rattle.alpaca_cli.specs.Ending.{Ending, well, at_fault, differs}
 use Rattle.alpaca_cli.specs.Products.{IsProduct, AreAccepted}
 use Rattle.alpaca_cli.proofs.LineLaws.{same_call}
 use Rattle.alpaca_cli.proofs.NotRefused.{SourcesExclude, not_refused}
@@ -27,6 +27,7 @@ on_line Unwritable call words shelf out err says a = (call, says, a)
 on_line OutOfMemory call words shelf out err says a = a
 on_line MachineFault call words shelf out err says a = (call, says, a)
 on_line TooLong call words shelf out err says a = (call, says, a)
+on_line Differs call words shelf out err says a = (call, says, a)
 
 -- the same of a command that has no output
 pub on_silent_line : (status : Status) (call : Call) (words : List (List ℕ)) (shelf : Shelved) (out err : Written)
@@ -89,6 +90,8 @@ command_complete law sources Done call texts f now old new out err held is fine 
     inl (carried_out law call texts a.0 Done well _ out (same_files f (reads call) texts a.0 held a.1) refl a.2.0)
 command_complete law sources MachineFault call texts f now old new out err held is fine a =
     inl (carried_out law call texts a.0 MachineFault at_fault _ out (same_files f (reads call) texts a.0 held a.1) refl a.2.0)
+command_complete law sources Differs call texts f now old new out err held is fine a =
+    inl (carried_out law call texts a.0 Differs differs _ out (same_files f (reads call) texts a.0 held a.1) refl a.2.0)
 command_complete law sources Refused call texts f now old new out err held is fine a =
     let same = same_files f (reads call) texts a.0 held a.1 in
     absurd (not_refused sources call a.0 _ _ (subst (AreAccepted call) same is) a.2.2.refused)
@@ -136,6 +139,8 @@ complete law sources MachineFault words call texts f now old new out err a says 
     line_complete law sources MachineFault words call texts f now old new out err a says held is fine
 complete law sources TooLong words call texts f now old new out err a says held is fine =
     line_complete law sources TooLong words call texts f now old new out err a says held is fine
+complete law sources Differs words call texts f now old new out err a says held is fine =
+    line_complete law sources Differs words call texts f now old new out err a says held is fine
 
 -- the same where the files may be untold
 pub complete_told : HasOneRun → SourcesExclude → (status : Status) (words : List (List ℕ)) (told now : Option Files) (old new : Counts) (out err : Written)

@@ -11,7 +11,12 @@ use Rattle.alpaca_cli.specs.declared.failure.Failure.{Failure}
 use Rattle.alpaca_cli.specs.declared.failure.Failure.TheVariants.{Refused, Put, Write, Memory}
 use Rattle.alpaca_cli.specs.declared.run.RunEnding.{RunEnding}
 use Rattle.alpaca_cli.specs.Answers.{IsWhole}
-use Rattle.alpaca_cli.specs.Calls.{Call, mean, run, dis, puts, judges}
+use Rattle.cost_bound.specs.declared.allowance.Allow.{Allow}
+use Rattle.source_meaning.specs.Acceptance.{IsAcceptedText}
+use Rattle.report_audit.specs.declared.verdict.Verdict.{Verdict}
+use Rattle.report_audit.specs.Good.{IsVerdict}
+use Rattle.alpaca_cli.specs.Verdicts.{verdict_line, verdict_ending}
+use Rattle.alpaca_cli.specs.Calls.{Call, mean, run, dis, audit, puts, judges}
 use Rattle.alpaca_cli.specs.Ending.{Ending, well}
 use Rattle.alpaca_cli.specs.Ends.{ending_of}
 use Rattle.alpaca_cli.specs.Outcomes.{FailsBy, FailsWriting, Gains}
@@ -141,3 +146,26 @@ pub dis_fails : {A : Type 0} (result : Result A Failure) (a image : List ℕ) (i
     → IfErr result (λ e. WhereStands (λ shelf. FailsBy e (dis a) (image ∷ []) shelf out))
 dis_fails result a image i out said fails =
     fails_by result (IsListing i.words) (dis a) (image ∷ []) well out refl (λ output is. (record { value = i; said = said; listing = is }, refl, refl)) fails
+
+-- ---- `audit`, whose source keeps its text
+
+pub audit_product : (a b c source report trace text : List ℕ) (p : CheckedProgram) (w : Allow) (t : TraceValue) (v : Verdict) → text ≡ source
+    → IsAcceptedText source p w → ((other : CheckedProgram) (price : Allow) → IsAcceptedText source other price → (other ≡ p) × (price ≡ w))
+    → trace_of trace ≡ Ok t → IsVerdict text p w.cycles t.readings report v
+    → IsProduct (audit a b c) (source ∷ report ∷ trace ∷ []) (output_alone (verdict_line v) (verdict_ending v))
+audit_product a b c source report trace text p w t v kept accepted only trace_said says =
+    let P : List ℕ → Type 0 = λ x. IsVerdict x p w.cycles t.readings report v in (
+      record {
+        program = p;
+        allow = w;
+        value = t;
+        verdict = v;
+        accepted = accepted;
+        only = only;
+        trace_said = trace_said;
+        says = subst P kept says;
+        ends = refl;
+        line = refl;
+      },
+      refl,
+    )

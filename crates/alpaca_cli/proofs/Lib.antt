@@ -1,5 +1,6 @@
 mod Answered
 mod AssemblyLaws
+mod AuditLaws
 mod FailureLaws
 mod FaultLaws
 mod GenLaws

@@ -5,12 +5,12 @@ use Rattle.image_text.specs.Reading.{image_of}
 use Rattle.msp_asm.specs.Assembled.{assembled}
 use Rattle.source_values.specs.Runs.{CheckedProgram}
 use Rattle.alpaca_cli.specs.Assemblies.{RefusesAssembly}
-use Rattle.alpaca_cli.specs.Calls.{Call, mean, try_, build, run, asm, dis, gen}
+use Rattle.alpaca_cli.specs.Calls.{Call, mean, try_, build, run, asm, dis, gen, audit}
 use Rattle.alpaca_cli.specs.Refusals.{Refusal}
 use Rattle.alpaca_cli.specs.Sources.{IsSourceText, RefusesSource}
 use Rattle.alpaca_cli.specs.Texts.{RefusesTrace, RefusesImage, outside_fram, twice, no_reset, bad_map}
 use Rattle.alpaca_cli.specs.Texts as texts
-use Rattle.alpaca_cli.specs.Products.{SaysSource, SaysTrace, SaysImage, SaysAssembly, AreAccepted, MeanRefuses, the_source, its_trace, RunRefuses, the_image, the_trace, IsRefused}
+use Rattle.alpaca_cli.specs.Products.{SaysSource, SaysTrace, SaysImage, SaysAssembly, AreAccepted, MeanRefuses, the_source, its_trace, RunRefuses, the_image, the_trace, AuditRefuses, the_audits_source, the_audits_trace, IsRefused}
 
 -- no text is a source and refused as one
 abbrev pub SourcesExclude : Type 0
@@ -42,6 +42,11 @@ no_run : (image trace : List ℕ) (place : ℕ) (r : Refusal) → SaysImage imag
 no_run image trace place r said (the_image x fails) = no_image image r said.0 fails
 no_run image trace place r said (the_trace i x other fails) = no_trace trace r said.1 fails
 
+no_audit : SourcesExclude → (source trace : List ℕ) (place : ℕ) (r : Refusal) → SaysSource source × SaysTrace trace
+    → AuditRefuses source trace place r → ⊥
+no_audit law source trace place r said (the_audits_source x fails) = law source said.0.0 r said.0.1 fails
+no_audit law source trace place r said (the_audits_trace p x other fails) = no_trace trace r said.1 fails
+
 pub not_refused : SourcesExclude → (call : Call) (texts : List (List ℕ)) (place : ℕ) (r : Refusal)
     → AreAccepted call texts → IsRefused call texts place r → ⊥
 not_refused law (mean c d) [] place r a b = a
@@ -67,3 +72,8 @@ not_refused law (dis c) (x ∷ []) place r a b = no_image x r a b.0
 not_refused law (dis c) (x ∷ y ∷ more) place r a b = a
 not_refused law (gen n i) [] place r a b = law _ a.0 r a.1 b.0
 not_refused law (gen n i) (x ∷ more) place r a b = a
+not_refused law (audit c d e) [] place r a b = a
+not_refused law (audit c d e) (x ∷ []) place r a b = a
+not_refused law (audit c d e) (x ∷ y ∷ []) place r a b = a
+not_refused law (audit c d e) (x ∷ y ∷ z ∷ []) place r a b = no_audit law x z place r a b
+not_refused law (audit c d e) (x ∷ y ∷ z ∷ u ∷ more) place r a b = a

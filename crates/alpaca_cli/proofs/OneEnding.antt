@@ -1,14 +1,20 @@
 -- Whatever a command makes of its texts has one ending.
-use Rattle.std.proofs.Common.{◌≡◌, ◌∙◌, ℕ, List, [], ◌∷◌, Ok, Result, sym, ap, subst}
+use Rattle.std.proofs.Common.{◌≡◌, ◌∙◌, ℕ, List, [], ◌∷◌, Ok, Result, refl, sym, ap, subst}
 use Rattle.energy_trace.specs.TraceValue.{TraceValue}
 use Rattle.energy_trace.specs.Reading.{trace_of}
 use Rattle.image_text.specs.ImageValue.{ImageValue}
 use Rattle.image_text.specs.Reading.{image_of}
 use Rattle.fram_board.specs.Laws.{HasOneRun}
-use Rattle.alpaca_cli.specs.Calls.{Call, mean, try_, build, run, asm, dis, gen}
+use Rattle.alpaca_cli.specs.Calls.{Call, mean, try_, build, run, asm, dis, gen, audit}
 use Rattle.alpaca_cli.specs.Ending.{Ending}
+use Rattle.alpaca_cli.specs.Verdicts.{verdict_ending}
+use Rattle.cost_bound.specs.declared.allowance.Allow.{Allow}
+use Rattle.source_values.specs.Runs.{CheckedProgram}
+use Rattle.report_audit.specs.declared.verdict.Verdict.{Verdict}
+use Rattle.report_audit.specs.declared.verdict.Verdict.TheVariants.{Yes, No}
+use Rattle.report_audit.specs.Good.{IsVerdict}
 use Rattle.alpaca_cli.specs.RunReport.{IsRunReport, ending_of}
-use Rattle.alpaca_cli.specs.Products.{Product, Runs, IsProduct}
+use Rattle.alpaca_cli.specs.Products.{Product, Runs, Audits, IsProduct}
 
 same_value : {A E : Type 0} (x : Result A E) (a b : A) → x ≡ Ok a → x ≡ Ok b → a ≡ b
 same_value x a b e f = let g : Ok a ≡ Ok b = sym e ∙ f in cc
@@ -23,6 +29,24 @@ run_ending law x y e e' o o' a b =
     let report : IsRunReport a.value a.charges e' o' =
     subst (λ t. IsRunReport a.value t e' o') trace (subst (λ i. IsRunReport i b.charges e' o') image b.report) in
     one_run law a.value a.charges e e' o o' a.report report
+
+-- a report has verdicts of one kind
+one_kind : (source : List ℕ) (p : CheckedProgram) (n : ℕ) (readings report : List ℕ) (v w : Verdict)
+    → IsVerdict source p n readings report v → IsVerdict source p n readings report w → verdict_ending v ≡ verdict_ending w
+one_kind source p n readings report (Yes t) (Yes u) a b = refl
+one_kind source p n readings report (Yes t) (No line) a b = absurd (b.not_good t a)
+one_kind source p n readings report (No line) (Yes t) a b = absurd (a.not_good t b)
+one_kind source p n readings report (No line) (No other) a b = refl
+
+audit_ending : (x y z : List ℕ) (e e' : Ending) (o o' : List ℕ) → Audits x y z e o → Audits x y z e' o' → e ≡ e'
+audit_ending x y z e e' o o' a b =
+    let same = a.only b.program b.allow b.accepted in
+    let trace : b.value ≡ a.value = same_value (trace_of z) b.value a.value b.trace_said a.trace_said in
+    let P : CheckedProgram → Type 0 = λ p. IsVerdict x p b.allow.cycles b.value.readings y b.verdict in
+    let Q : Allow → Type 0 = λ w. IsVerdict x a.program w.cycles b.value.readings y b.verdict in
+    let R : TraceValue → Type 0 = λ t. IsVerdict x a.program a.allow.cycles t.readings y b.verdict in
+    let says = subst R trace (subst Q same.1 (subst P same.0 b.says)) in
+    a.ends ∙ one_kind x a.program a.allow.cycles a.value.readings y a.verdict b.verdict a.says says ∙ sym b.ends
 
 pub one_ending : HasOneRun → (call : Call) (texts : List (List ℕ)) (p q : Product) → IsProduct call texts p → IsProduct call texts q → p.ending ≡ q.ending
 one_ending law (mean c d) [] p q a b = absurd a
@@ -48,3 +72,8 @@ one_ending law (dis c) (x ∷ []) p q a b = a.2 ∙ sym b.2
 one_ending law (dis c) (x ∷ y ∷ more) p q a b = absurd a
 one_ending law (gen n i) [] p q a b = a.1 ∙ sym b.1
 one_ending law (gen n i) (x ∷ more) p q a b = absurd a
+one_ending law (audit c d e) [] p q a b = absurd a
+one_ending law (audit c d e) (x ∷ []) p q a b = absurd a
+one_ending law (audit c d e) (x ∷ y ∷ []) p q a b = absurd a
+one_ending law (audit c d e) (x ∷ y ∷ z ∷ []) p q a b = audit_ending x y z p.ending q.ending p.output q.output a.0 b.0
+one_ending law (audit c d e) (x ∷ y ∷ z ∷ u ∷ more) p q a b = absurd a

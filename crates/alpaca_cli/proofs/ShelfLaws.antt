@@ -3,7 +3,7 @@ use Rattle.std.proofs.Common.{◌≡◌, ◌∙◌, inl, inr, ℕ, List, Option,
 use Rattle.std.specs.Prelude.{IsSomeAnd}
 use Rattle.alp_io.specs.Shelf.{Files, Counts, NeverFall, Told}
 use Rattle.alpaca_cli.specs.declared.status.Status.{Status}
-use Rattle.alpaca_cli.specs.declared.status.Status.TheVariants.{Done, Refused, Usage, Unreadable, Unwritable, OutOfMemory, MachineFault, TooLong}
+use Rattle.alpaca_cli.specs.declared.status.Status.TheVariants.{Done, Refused, Usage, Unreadable, Unwritable, OutOfMemory, MachineFault, TooLong, Differs}
 use Rattle.alpaca_cli.specs.Answers.{Answers, CommandAnswers, OthersStand, TextAnswers}
 use Rattle.alpaca_cli.specs.Calls.{Call, puts}
 use Rattle.alpaca_cli.specs.Outside.{Shelved, Written, IsPut}
@@ -43,6 +43,7 @@ text_same OutOfMemory call texts name shelf out err unnamed a = all_same shelf.o
 text_same Usage call texts name shelf out err unnamed a = absurd a
 text_same Unreadable call texts name shelf out err unnamed a = absurd a
 text_same TooLong call texts name shelf out err unnamed a = absurd a
+text_same Differs call texts name shelf out err unnamed a = put_same (puts call) a.0.product.file name shelf.old shelf.new unnamed a.0.put
 
 command_same : (status : Status) (call : Call) (name : List ℕ) (shelf : Shelved) (out err : Written)
     → (puts call ≡ Some name → ⊥) → CommandAnswers status call shelf out err → Told shelf.old shelf.new (IsSame name)
@@ -53,6 +54,7 @@ command_same Unwritable call name shelf out err unnamed a = text_same Unwritable
 command_same OutOfMemory call name shelf out err unnamed a = all_same shelf.old shelf.new name a.stands
 command_same Usage call name shelf out err unnamed a = absurd a.2
 command_same Unreadable call name shelf out err unnamed a = all_same shelf.old shelf.new name a.2.stands
+command_same Differs call name shelf out err unnamed a = text_same Differs call a.0 name shelf out err unnamed a.2
 command_same TooLong call name shelf out err unnamed a = all_same shelf.old shelf.new name a.2.stands
 
 pub others_stand : (status : Status) (words : List (List ℕ)) (shelf : Shelved) (out err : Written) → Answers status words shelf out err → OthersStand words shelf.old shelf.new
@@ -63,6 +65,7 @@ others_stand Refused words shelf out err a = λ name unnamed. command_same Refus
 others_stand Unreadable words shelf out err a = λ name unnamed. command_same Unreadable a.0 name shelf out err (λ named. unnamed (a.0, a.1, named)) a.2
 others_stand Unwritable words shelf out err a = λ name unnamed. command_same Unwritable a.0 name shelf out err (λ named. unnamed (a.0, a.1, named)) a.2
 others_stand MachineFault words shelf out err a = λ name unnamed. command_same MachineFault a.0 name shelf out err (λ named. unnamed (a.0, a.1, named)) a.2
+others_stand Differs words shelf out err a = λ name unnamed. command_same Differs a.0 name shelf out err (λ named. unnamed (a.0, a.1, named)) a.2
 others_stand TooLong words shelf out err a = λ name unnamed. command_same TooLong a.0 name shelf out err (λ named. unnamed (a.0, a.1, named)) a.2
 
 -- ---- behind reads, which change unnamed file
@@ -96,3 +99,5 @@ earlier OutOfMemory call texts files now before mid after out err falls a = reco
 earlier Usage call texts files now before mid after out err falls a = a
 earlier Unreadable call texts files now before mid after out err falls a = a
 earlier TooLong call texts files now before mid after out err falls a = a
+earlier Differs call texts files now before mid after out err falls a =
+    (record { product = a.0.product; is = a.0.is; ends = a.0.ends; put = a.0.put; written = a.0.written }, a.1)

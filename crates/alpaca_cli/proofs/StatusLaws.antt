@@ -2,7 +2,7 @@
 use Rattle.std.proofs.Common.{◌≡◌, ◌≤◌, inl, inr, ℕ, List, [], ◌∷◌, length, Option, Some, None, IfSome, sym, subst}
 use Rattle.alp_io.specs.Shelf.{Files, Counts, NeverFall}
 use Rattle.alpaca_cli.specs.declared.status.Status.{Status}
-use Rattle.alpaca_cli.specs.declared.status.Status.TheVariants.{Done, Refused, Usage, Unreadable, Unwritable, OutOfMemory, MachineFault, TooLong}
+use Rattle.alpaca_cli.specs.declared.status.Status.TheVariants.{Done, Refused, Usage, Unreadable, Unwritable, OutOfMemory, MachineFault, TooLong, Differs}
 use Rattle.alpaca_cli.specs.declared.failure.Failure.{Failure}
 use Rattle.alpaca_cli.specs.declared.failure.Failure.TheVariants as failure
 use Rattle.alpaca_cli.specs.declared.inputs.Unread.{Unread}
@@ -10,6 +10,7 @@ use Rattle.alpaca_cli.specs.declared.inputs.Unread.TheVariants as unread
 use Rattle.alpaca_cli.specs.Answers.{CommandAnswers, IsWhole, TextAnswers}
 use Rattle.alpaca_cli.specs.Calls.{Call, reads}
 use Rattle.alpaca_cli.specs.declared.run.RunEnding.{RunEnding}
+use Rattle.alpaca_cli.specs.Ending.{Ending}
 use Rattle.alpaca_cli.specs.Ends.{ending_of}
 use Rattle.alpaca_cli.specs.InputFiles.{AreHeld, IsUnread}
 use Rattle.alpaca_cli.specs.Outcomes.{FailsBy}
@@ -50,6 +51,7 @@ of_texts Unwritable call texts shelf out err held a = (texts, held, a)
 of_texts OutOfMemory call texts shelf out err held a = a
 of_texts MachineFault call texts shelf out err held a = (texts, held, a)
 of_texts TooLong call texts shelf out err held a = absurd a
+of_texts Differs call texts shelf out err held a = (texts, held, a)
 
 -- no file is read
 pub none_held : (files : Option Files) → IfSome files (λ f. AreHeld f [] [])
@@ -102,6 +104,11 @@ pub of_two_read : (status : Status) (call : Call) (first second a b : List ℕ) 
 of_two_read status call first second a b files mid now before between after out err is_a is_b same falls held answer =
     of_two status call first second a b _ out err is_a is_b held
     (earlier_read status call (a ∷ b ∷ []) files mid now before between after out err same falls answer)
+
+-- a whole command, by how it ends
+pub whole_ending : (call : Call) (texts : List (List ℕ)) (shelf : Shelved) (out : Written) (e f : Ending) → e ≡ f
+    → IsWhole call texts e shelf out → IsWhole call texts f shelf out
+whole_ending call texts shelf out e f same whole = subst (λ x. IsWhole call texts x shelf out) same whole
 
 -- ---- `run`, by what its call answered
 

@@ -22,7 +22,7 @@ pub alone_too_long : (files : Option Files) (name : List ℕ) (old new : Counts)
 alone_too_long files name old new rose long =
     record { one = first []; cause = rose; overlong = IfSome_then files long (λ f is. here name [] is) }
 
--- ---- the first of two
+-- ---- the first of several
 
 -- a list of names with more behind it has the same first unfit file
 unfit_before : (f : Files) (P : Option (List ℕ) → Type 0) (names more : List (List ℕ)) (name : List ℕ) → IsFirstUnfit f P names name → IsFirstUnfit f P (names ++ more) name
@@ -33,21 +33,22 @@ one_before : (name : List ℕ) (names more : List (List ℕ)) → IsOneOf name n
 one_before name names more (first rest) = first (rest ++ more)
 one_before name names more (later other rest one) = later other (rest ++ more) (one_before name rest more one)
 
-pub first_unread : (e : Unread) (files : Option Files) (a b : List ℕ) (old new : Counts) → IsUnread e files (a ∷ []) old new → IsUnread e files (a ∷ b ∷ []) old new
-first_unread (Unreadable name) files a b old new u = record { one = one_before name.now (a ∷ []) (b ∷ []) u.one; cause = causes u.cause }
+pub front_unread : (e : Unread) (files : Option Files) (names more : List (List ℕ)) (old new : Counts) → IsUnread e files names old new
+    → IsUnread e files (names ++ more) old new
+front_unread (Unreadable name) files names more old new u = record { one = one_before name.now names more u.one; cause = causes u.cause }
   where
-    causes : Rose old.failed_reads new.failed_reads ⊎ (Rose old.missing_reads new.missing_reads × IfSome files (λ f. IsFirstUnfit f (λ file. file ≡ None) (a ∷ []) name.now))
-        → Rose old.failed_reads new.failed_reads ⊎ (Rose old.missing_reads new.missing_reads × IfSome files (λ f. IsFirstUnfit f (λ file. file ≡ None) (a ∷ b ∷ []) name.now))
+    causes : Rose old.failed_reads new.failed_reads ⊎ (Rose old.missing_reads new.missing_reads × IfSome files (λ f. IsFirstUnfit f (λ file. file ≡ None) names name.now))
+        → Rose old.failed_reads new.failed_reads ⊎ (Rose old.missing_reads new.missing_reads × IfSome files (λ f. IsFirstUnfit f (λ file. file ≡ None) (names ++ more) name.now))
     causes (inl rose) = inl rose
-    causes (inr (rose, none)) = inr (rose, IfSome_then files none (λ f is. unfit_before f _ (a ∷ []) (b ∷ []) name.now is))
-first_unread (TooLong name) files a b old new u = record {
-  one = one_before name.now (a ∷ []) (b ∷ []) u.one;
+    causes (inr (rose, none)) = inr (rose, IfSome_then files none (λ f is. unfit_before f _ names more name.now is))
+front_unread (TooLong name) files names more old new u = record {
+  one = one_before name.now names more u.one;
   cause = u.cause;
-  overlong = IfSome_then files u.overlong (λ f is. unfit_before f _ (a ∷ []) (b ∷ []) name.now is);
+  overlong = IfSome_then files u.overlong (λ f is. unfit_before f _ names more name.now is);
 }
-first_unread Memory files a b old new u = tt
+front_unread Memory files names more old new u = tt
 
--- ---- the second, behind one that fits
+-- ---- those behind one that fits
 
 pub rose_later : (old mid new : ℕ) → old ≤ mid → Rose mid new → Rose old new
 rose_later old mid new le (inl lt) = inl (omega arith)
@@ -61,30 +62,30 @@ both_some (Some x) a bytes P Q held p f = f x held p
 held_fits : (o : Option (List ℕ)) (bytes : List ℕ) → o ≡ Some bytes → length bytes ≤ 1048576 → Fits o
 held_fits o bytes is le = subst Fits (sym is) le
 
-fitting_before : (e : Unread) (files : Option Files) (a b bytes : List ℕ) (old mid new : Counts)
+fitting_before : (e : Unread) (files : Option Files) (a : List ℕ) (names : List (List ℕ)) (bytes : List ℕ) (old mid new : Counts)
     → IfSome files (λ f. f a ≡ Some bytes) → length bytes ≤ 1048576 → NeverFall old mid
-    → IsUnread e files (b ∷ []) mid new → IsUnread e files (a ∷ b ∷ []) old new
-fitting_before (Unreadable name) files a b bytes old mid new held le falls u = record { one = later a (b ∷ []) u.one; cause = causes u.cause }
+    → IsUnread e files names mid new → IsUnread e files (a ∷ names) old new
+fitting_before (Unreadable name) files a names bytes old mid new held le falls u = record { one = later a names u.one; cause = causes u.cause }
   where
-    causes : Rose mid.failed_reads new.failed_reads ⊎ (Rose mid.missing_reads new.missing_reads × IfSome files (λ f. IsFirstUnfit f (λ file. file ≡ None) (b ∷ []) name.now))
-        → Rose old.failed_reads new.failed_reads ⊎ (Rose old.missing_reads new.missing_reads × IfSome files (λ f. IsFirstUnfit f (λ file. file ≡ None) (a ∷ b ∷ []) name.now))
+    causes : Rose mid.failed_reads new.failed_reads ⊎ (Rose mid.missing_reads new.missing_reads × IfSome files (λ f. IsFirstUnfit f (λ file. file ≡ None) names name.now))
+        → Rose old.failed_reads new.failed_reads ⊎ (Rose old.missing_reads new.missing_reads × IfSome files (λ f. IsFirstUnfit f (λ file. file ≡ None) (a ∷ names) name.now))
     causes (inl rose) = inl (rose_later _ _ _ falls.failed_reads rose)
     causes (inr (rose, none)) = inr (
       rose_later _ _ _ falls.missing_reads rose,
-      both_some files a bytes _ _ held none (λ f is p. behind name.now a (b ∷ []) (held_fits (f a) bytes is le) p),
+      both_some files a bytes _ _ held none (λ f is p. behind name.now a names (held_fits (f a) bytes is le) p),
     )
-fitting_before (TooLong name) files a b bytes old mid new held le falls u = record {
-  one = later a (b ∷ []) u.one;
+fitting_before (TooLong name) files a names bytes old mid new held le falls u = record {
+  one = later a names u.one;
   cause = rose_later _ _ _ falls.overlong_reads u.cause;
-  overlong = both_some files a bytes _ _ held u.overlong (λ f is p. behind name.now a (b ∷ []) (held_fits (f a) bytes is le) p);
+  overlong = both_some files a bytes _ _ held u.overlong (λ f is p. behind name.now a names (held_fits (f a) bytes is le) p);
 }
-fitting_before Memory files a b bytes old mid new held le falls u = tt
+fitting_before Memory files a names bytes old mid new held le falls u = tt
 
-pub second_unread : (e : Unread) (files now : Option Files) (a b bytes : List ℕ) (old mid new : Counts)
+pub behind_unread : (e : Unread) (files now : Option Files) (a : List ℕ) (names : List (List ℕ)) (bytes : List ℕ) (old mid new : Counts)
     → IfSome files (λ f. f a ≡ Some bytes) → length bytes ≤ 1048576 → NeverFall old mid → now ≡ files
-    → IsUnread e now (b ∷ []) mid new → IsUnread e files (a ∷ b ∷ []) old new
-second_unread e files now a b bytes old mid new held le falls same u =
-    fitting_before e files a b bytes old mid new held le falls (subst (λ fs. IsUnread e fs (b ∷ []) mid new) same u)
+    → IsUnread e now names mid new → IsUnread e files (a ∷ names) old new
+behind_unread e files now a names bytes old mid new held le falls same u =
+    fitting_before e files a names bytes old mid new held le falls (subst (λ fs. IsUnread e fs names mid new) same u)
 
 -- ---- an error that `?` hands on
 

@@ -6,12 +6,12 @@ use Rattle.alp_io.specs.Shelf.{Files, Told}
 use Rattle.alp_io.specs.Sink.{AppendsProperPrefix}
 use Rattle.command_line.specs.CommandLine.{IsLine}
 use Rattle.alpaca_cli.specs.declared.status.Status.{Status}
-use Rattle.alpaca_cli.specs.declared.status.Status.TheVariants.{Done, Refused, Usage, Unreadable, Unwritable, OutOfMemory, MachineFault, TooLong}
+use Rattle.alpaca_cli.specs.declared.status.Status.TheVariants.{Done, Refused, Usage, Unreadable, Unwritable, OutOfMemory, MachineFault, TooLong, Differs}
 use Rattle.alpaca_cli.specs.InputFiles.{AreHeld, IsUnreadable, IsTooLong}
 use Rattle.alpaca_cli.specs.Refusals.{Refusal, refused_line}
-use Rattle.alpaca_cli.specs.Messages.{Tells, unreadable_line, too_long_line, unput_line, unwritable_line, memory_line, machine_fault_line, usage_line}
+use Rattle.alpaca_cli.specs.Messages.{Tells, unreadable_line, too_long_line, unput_line, unwritable_line, memory_line, machine_fault_line, differs_line, usage_line}
 use Rattle.alpaca_cli.specs.Calls.{Call, OnLine, reads, judges, puts}
-use Rattle.alpaca_cli.specs.Ending.{Ending, well, at_fault}
+use Rattle.alpaca_cli.specs.Ending.{Ending, well, at_fault, differs}
 use Rattle.alpaca_cli.specs.Outside.{Shelved, Written, Stands, IsSilent, IsPut, IsUnput}
 use Rattle.alpaca_cli.specs.Products.{Product, IsProduct, IsRefused}
 
@@ -61,6 +61,8 @@ abbrev pub TextAnswers : Status → Call → List (List ℕ) → Shelved → Wri
 TextAnswers Done call texts shelf out err = IsWhole call texts well shelf out × IsSilent err
 -- the output is whole, and its last line says the fault
 TextAnswers MachineFault call texts shelf out err = IsWhole call texts at_fault shelf out × IsLineOf machine_fault_line err
+-- the output is whole, and tells the line at which the report stops being one that the source could have told
+TextAnswers Differs call texts shelf out err = IsWhole call texts differs shelf out × IsLineOf differs_line err
 -- the named text is the first that is refused
 TextAnswers Refused call texts shelf out err = (name : List ℕ) × (r : Refusal) × IsFirstRefused call texts name r
     × OnlyTold shelf out err (refused_line name r)
@@ -103,6 +105,7 @@ OthersStand words old new = (name : List ℕ) → (OnLine words (λ call. puts c
 abbrev pub status_of : Ending → Status
 status_of well = Done
 status_of at_fault = MachineFault
+status_of differs = Differs
 
 -- the command is carried out: whatever it makes of these texts ends so, and the status says it
 pub record IsCarriedOut (call : Call) (texts : List (List ℕ)) (status : Status) : Type 0 where

@@ -11,6 +11,7 @@ pub data Call : Type 0 where
   asm : (assembly image : List ℕ) → Call
   dis : (image : List ℕ) → Call
   gen : (number : ℕ) (image : List ℕ) → Call
+  audit : (source report trace : List ℕ) → Call
 
 -- its line: its first word, and then the names, and the number in its decimal digits
 abbrev pub line_text : Call → List (List ℕ)
@@ -21,6 +22,7 @@ line_text (run image trace) = codes "run" ∷ image ∷ trace ∷ []
 line_text (asm assembly image) = codes "asm" ∷ assembly ∷ image ∷ []
 line_text (dis image) = codes "dis" ∷ image ∷ []
 line_text (gen number image) = codes "gen" ∷ decimal number ∷ image ∷ []
+line_text (audit source report trace) = codes "audit" ∷ source ∷ report ∷ trace ∷ []
 
 -- the names of the files that it reads, in order
 abbrev pub reads : Call → List (List ℕ)
@@ -31,6 +33,7 @@ reads (run image trace) = image ∷ trace ∷ []
 reads (asm assembly image) = assembly ∷ []
 reads (dis image) = image ∷ []
 reads (gen number image) = []
+reads (audit source report trace) = source ∷ report ∷ trace ∷ []
 
 -- the names of the texts that it may refuse, in order: those of its files, and of the generated source, which stands in none
 abbrev pub judges : Call → List (List ℕ)
@@ -46,6 +49,12 @@ puts (run image trace) = None
 puts (asm assembly image) = Some image
 puts (dis image) = None
 puts (gen number image) = Some image
+puts (audit source report trace) = None
+
+-- it audits a report
+abbrev pub IsAudit : Call → Type 0
+IsAudit (audit source report trace) = Unit {0}
+IsAudit call = ⊥
 
 -- it runs an image that it reads
 abbrev pub IsRun : Call → Type 0

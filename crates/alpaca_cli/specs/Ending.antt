@@ -4,3 +4,5 @@ pub data Ending : Type 0 where
   well : Ending
   -- the run met a word that is no instruction, or a bus fault
   at_fault : Ending
+  -- the report that was audited isn't one that the source could have told
+  differs : Ending

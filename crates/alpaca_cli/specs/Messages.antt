@@ -33,6 +33,10 @@ memory_line = texts (codes "out of memory\n" ∷ [])
 unfoldable pub machine_fault_line : List ℕ
 machine_fault_line = texts (codes "machine fault\n" ∷ [])
 
+-- the line where a report isn't one that its source could have told
+unfoldable pub differs_line : List ℕ
+differs_line = texts (codes "report differs\n" ∷ [])
+
 -- the line where the words are no command line: all commands, also those to come
 unfoldable pub usage_line : List ℕ
-usage_line = texts (codes "usage: alpaca mean SRC TRACE | try SRC TRACE IMAGE | build SRC IMAGE | run IMAGE TRACE | asm ASM IMAGE | dis IMAGE | gen N IMAGE\n" ∷ [])
+usage_line = texts (codes "usage: alpaca mean SRC TRACE | try SRC TRACE IMAGE | build SRC IMAGE | run IMAGE TRACE | asm ASM IMAGE | dis IMAGE | gen N IMAGE | audit SRC REPORT TRACE\n" ∷ [])

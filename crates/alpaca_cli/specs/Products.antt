@@ -27,13 +27,16 @@ use Rattle.source_runs.specs.Tells.{IsToldBySource}
 use Rattle.source_generator.specs.Source.{generated_text}
 use Rattle.source_generator.specs.Trace.{generated_trace}
 use Rattle.alpaca_cli.specs.Assemblies.{RefusesAssembly}
-use Rattle.alpaca_cli.specs.Calls.{Call, mean, try_, build, run, asm, dis, gen}
+use Rattle.report_audit.specs.declared.verdict.Verdict.{Verdict}
+use Rattle.report_audit.specs.Good.{IsVerdict}
+use Rattle.alpaca_cli.specs.Calls.{Call, mean, try_, build, run, asm, dis, gen, audit}
 use Rattle.alpaca_cli.specs.Ending.{Ending, well}
 use Rattle.alpaca_cli.specs.Generated.{generated_lines}
 use Rattle.alpaca_cli.specs.Refusals.{Refusal}
 use Rattle.alpaca_cli.specs.RunReport.{IsRunReport, IsTold}
 use Rattle.alpaca_cli.specs.Sources.{IsSourceText, RefusesSource}
 use Rattle.alpaca_cli.specs.Texts.{RefusesTrace, RefusesImage}
+use Rattle.alpaca_cli.specs.Verdicts.{verdict_line, verdict_ending}
 
 -- the bytes of the file that a command puts, if it puts one; what it writes; and how it ends
 pub record Product : Type 0 where
@@ -125,6 +128,19 @@ pub record Lists (image output : List ℕ) : Type 0 where
   pub said : image_of image ≡ Ok value
   pub listing : IsListing value.words output
 
+-- the texts are a source, accepted as this program alone, and a trace; this is what an audit of the report by them says, and its line
+pub record Audits (source report trace : List ℕ) (ending : Ending) (output : List ℕ) : Type 0 where
+  pub program : CheckedProgram
+  pub allow : Allow
+  pub value : TraceValue
+  pub verdict : Verdict
+  pub accepted : IsAcceptedText source program allow
+  pub only : (other : CheckedProgram) (price : Allow) → IsAcceptedText source other price → (other ≡ program) × (price ≡ allow)
+  pub trace_said : trace_of trace ≡ Ok value
+  pub says : IsVerdict source program allow.cycles value.readings report verdict
+  pub ends : ending ≡ verdict_ending verdict
+  pub line : output ≡ verdict_line verdict
+
 -- the texts are accepted, and this is what the command makes of them
 abbrev pub IsProduct : Call → List (List ℕ) → Product → Type 0
 IsProduct (mean _ _) (source ∷ trace ∷ []) p = Means source trace p.output × (p.file ≡ None) × (p.ending ≡ well)
@@ -134,6 +150,7 @@ IsProduct (run _ _) (image ∷ trace ∷ []) p = Runs image trace p.ending p.out
 IsProduct (asm _ _) (assembly ∷ []) p = IsSomeAnd p.file (Assembles assembly) × (p.output ≡ []) × (p.ending ≡ well)
 IsProduct (dis _) (image ∷ []) p = Lists image p.output × (p.file ≡ None) × (p.ending ≡ well)
 IsProduct (gen number _) [] p = IsSomeAnd p.file (λ file. Generates number file p.output) × (p.ending ≡ well)
+IsProduct (audit _ _ _) (source ∷ report ∷ trace ∷ []) p = Audits source report trace p.ending p.output × (p.file ≡ None)
 IsProduct call texts p = ⊥
 
 -- this is a text of a source; of a trace; of an image; of an assembler text
@@ -158,6 +175,7 @@ AreAccepted (run _ _) (image ∷ trace ∷ []) = SaysImage image × SaysTrace tr
 AreAccepted (asm _ _) (assembly ∷ []) = SaysAssembly assembly
 AreAccepted (dis _) (image ∷ []) = SaysImage image
 AreAccepted (gen number _) [] = SaysSource (generated_text number)
+AreAccepted (audit _ _ _) (source ∷ report ∷ trace ∷ []) = SaysSource source × SaysTrace trace
 AreAccepted call texts = ⊥
 
 -- the text of `mean` or `try` at this place, from 0, is the first that is refused, and so
@@ -170,6 +188,11 @@ pub data RunRefuses (image trace : List ℕ) : ℕ → Refusal → Type 0 where
   the_image : (r : Refusal) → RefusesImage image r → RunRefuses image trace 0 r
   the_trace : (value : ImageValue) (r : Refusal) → image_of image ≡ Ok value → RefusesTrace trace r → RunRefuses image trace 1 r
 
+-- the same of `audit`, which refuses no report
+pub data AuditRefuses (source trace : List ℕ) : ℕ → Refusal → Type 0 where
+  the_audits_source : (r : Refusal) → RefusesSource source r → AuditRefuses source trace 0 r
+  the_audits_trace : (program : CheckedProgram) (r : Refusal) → IsSourceText source program → RefusesTrace trace r → AuditRefuses source trace 2 r
+
 -- the text at this place, from 0, is the first that is refused, and so
 abbrev pub IsRefused : Call → List (List ℕ) → ℕ → Refusal → Type 0
 IsRefused (mean _ _) (source ∷ trace ∷ []) place r = MeanRefuses source trace place r
@@ -179,4 +202,5 @@ IsRefused (run _ _) (image ∷ trace ∷ []) place r = RunRefuses image trace pl
 IsRefused (asm _ _) (assembly ∷ []) place r = RefusesAssembly assembly r × (place ≡ 0)
 IsRefused (dis _) (image ∷ []) place r = RefusesImage image r × (place ≡ 0)
 IsRefused (gen number _) [] place r = RefusesSource (generated_text number) r × (place ≡ 0)
+IsRefused (audit _ _ _) (source ∷ report ∷ trace ∷ []) place r = AuditRefuses source trace place r
 IsRefused call texts place r = ⊥

@@ -1,7 +1,7 @@
 -- The exit code of each status.
 use Rattle.std.specs.Prelude.{ℕ}
 use Rattle.alpaca_cli.specs.declared.status.Status.{Status}
-use Rattle.alpaca_cli.specs.declared.status.Status.TheVariants.{Done, Refused, Usage, Unreadable, Unwritable, OutOfMemory, MachineFault, TooLong}
+use Rattle.alpaca_cli.specs.declared.status.Status.TheVariants.{Done, Refused, Usage, Unreadable, Unwritable, OutOfMemory, MachineFault, TooLong, Differs}
 
 -- 0 where the output is whole, and a number of its own for each cause
 abbrev pub exit_code : Status → ℕ
@@ -13,3 +13,4 @@ exit_code Unwritable = 4
 exit_code OutOfMemory = 5
 exit_code MachineFault = 6
 exit_code TooLong = 7
+exit_code Differs = 8

@@ -3,11 +3,12 @@ ghost use Rattle.std.specs.Prelude.{◌≡◌, ℕ, List, ◌≤◌, ◌⊎◌, 
 ghost use Rattle.alp_io.specs.Count.{Rose};
 ghost use Rattle.alp_io.specs.Shelf.{NeverFall};
 ghost use Rattle.alpaca_cli.specs.InputFiles.{AreHeld};
-ghost use Rattle.alpaca_cli.specs.Calls.{Call, IsRun, OnLine, Says, reads};
+ghost use Rattle.alpaca_cli.specs.Calls.{Call, IsAudit, IsRun, OnLine, Says, reads};
 ghost use Rattle.alpaca_cli.specs.Products.{AreAccepted};
 ghost use Rattle.alpaca_cli.specs.Answers.{Answers, IsCarriedOut, OthersStand};
 
 use crate::asm::answer_asm;
+use crate::audits::{AuditNames, answer_audit};
 use crate::build::answer_build;
 use crate::dis::answer_dis;
 use crate::generate::answer_gen;
@@ -52,6 +53,23 @@ fn answer<H: Shelf, O: Sink, E: Sink>(
         Ok(Command::Asm { assembly, image }) => answer_asm(alloc, assembly, image, shelf, err),
         Ok(Command::Dis { image }) => answer_dis(alloc, image, shelf, out, err),
         Ok(Command::Gen { number, image }) => answer_gen(alloc, number, image, shelf, out, err),
+        Ok(
+            Command::Audit {
+                source,
+                report,
+                trace,
+            },
+        ) => answer_audit(
+            alloc,
+            AuditNames {
+                source,
+                report,
+                trace,
+            },
+            shelf,
+            out,
+            err,
+        ),
         Err(WordsFault::Usage) => {
             messages::tell_usage(err);
             Status::Usage
@@ -69,7 +87,8 @@ fn answer<H: Shelf, O: Sink, E: Sink>(
 /// image's run on the board under the trace's charges, and `dis IMAGE` the assembler text of the image. `asm ASM IMAGE` puts the
 /// image of the assembler text under the name IMAGE, and `build SRC IMAGE` that of the source, whose bound it writes; `try SRC TRACE
 /// IMAGE` puts it too, and writes the report of its run. `gen N IMAGE` puts the image of the source that is generated from N, and writes
-/// four lines of its run. Every other answer than `Done` writes its one line to `err`.
+/// four lines of its run. `audit SRC REPORT TRACE` writes whether the source could have told the report on the trace's readings.
+/// Every other answer than `Done` writes its one line to `err`.
 pub fn alpaca<H: Shelf, O: Sink, E: Sink>(
     alloc: Global,
     words: &[String],
@@ -95,6 +114,9 @@ pub fn alpaca<H: Shelf, O: Sink, E: Sink>(
 
     // Only the run of an image that was read may meet a machine fault: `try` and `gen` never answer so.
     ensures only_runs_fault { result ≡ Status.MachineFault → OnLine (map string_bytes words.entry.now) IsRun }
+
+    // Only an audit may answer that a report differs.
+    ensures only_audits_differ { result ≡ Status.Differs → OnLine (map string_bytes words.entry.now) IsAudit }
 
     // Where the words are a line, the files are told and fit, their texts are accepted, and no read, no put and no write fails,
     // the command is carried out and ends as its status says, or memory ran out.

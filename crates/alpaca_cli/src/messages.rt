@@ -1,7 +1,7 @@
 //! The one line to standard error that goes with a status. A write that fails leaves the status as it is.
 ghost use Rattle.std.specs.Prelude.{◌≤◌, flat_map, ◌∷◌, [], codes};
 ghost use Rattle.alp_io.specs.Report.{texts};
-ghost use Rattle.alpaca_cli.specs.Messages.{Tells, unreadable_line, too_long_line, unput_line, unwritable_line, memory_line, machine_fault_line, usage_line};
+ghost use Rattle.alpaca_cli.specs.Messages.{Tells, unreadable_line, too_long_line, unput_line, unwritable_line, memory_line, machine_fault_line, differs_line, usage_line};
 ghost use Rattle.alpaca_cli.specs.Refusals.{detail_text, refused_line};
 ghost use Rattle.alpaca_cli.specs.Views.{detail_of, refusal_of};
 
@@ -114,6 +114,15 @@ pub fn tell_machine_fault<E: Sink>(err: &mut E)
     tell(err, &[b"machine fault\n"]);
 }
 
+/// The line for a report that isn't one that its source could have told.
+#[tactic(auto, unfolding(crate::specs::Messages::differs_line))]
+pub fn tell_differs<E: Sink>(err: &mut E)
+    ensures line { Tells (E.contents err.old) (E.contents err.new) (E.faults err.old) (E.faults err.new) differs_line }
+    ensures faults { E.faults err.old ≤ E.faults err.new }
+{
+    tell(err, &[b"report differs\n"]);
+}
+
 /// The line for words that are no command line.
 #[tactic(auto, unfolding(crate::specs::Messages::usage_line))]
 pub fn tell_usage<E: Sink>(err: &mut E)
@@ -123,7 +132,7 @@ pub fn tell_usage<E: Sink>(err: &mut E)
     tell(
         err,
         &[
-            b"usage: alpaca mean SRC TRACE | try SRC TRACE IMAGE | build SRC IMAGE | run IMAGE TRACE | asm ASM IMAGE | dis IMAGE | gen N IMAGE\n",
+            b"usage: alpaca mean SRC TRACE | try SRC TRACE IMAGE | build SRC IMAGE | run IMAGE TRACE | asm ASM IMAGE | dis IMAGE | gen N IMAGE | audit SRC REPORT TRACE\n",
         ],
     );
 }

@@ -1,6 +1,8 @@
 //! A source text, read for a command.
 ghost use Rattle.std.specs.Prelude.{◌≡◌, ◌<◌, ◌≤◌, IfOk, IfErr, Ok, length, codes, option_map, Some};
 ghost use Rattle.image_reports.specs.task_ast.View.{program_of};
+ghost use Rattle.cost_bound.specs.declared.allowance.Allow.{Allow};
+ghost use Rattle.source_values.specs.Runs.{CheckedProgram};
 ghost use Rattle.source_meaning.specs.Acceptance.{IsAcceptedText};
 ghost use Rattle.alpaca_cli.specs.Sources as told;
 ghost use Rattle.alpaca_cli.specs.Sources.{IsSourceText, RefusesSource};
@@ -106,6 +108,8 @@ pub fn source_of<'t>(alloc: Global, file: &'t str, text: &'t [u8]) -> Result<Acc
     requires { length text.now ≤ 1048576 }
     ensures text { IfOk result (λ a. a.text.items ≡ text.now) }
     ensures accepted { IfOk result (λ a. IsAcceptedText text.now (program_of a.checked.source) a.allow) }
+    ensures only { IfOk result (λ a. (program : CheckedProgram) (allow : Allow)
+        → IsAcceptedText text.now program allow → (program ≡ program_of a.checked.source) × (allow ≡ a.allow)) }
     ensures said { IfOk result (λ a. IsSourceText text.now (program_of a.checked.source)) }
     ensures refused { IfErr result (FailsRefused file.now (RefusesSource text.now)) }
 {

@@ -21,10 +21,12 @@ pub enum Status {
     MachineFault,
     /// A file has more than 1,048,576 bytes.
     TooLong,
+    /// A report isn't one that its source could have told.
+    Differs,
 }
 
 impl Status {
-    /// The exit code of the program, 0 to 7.
+    /// The exit code of the program, 0 to 8.
     pub fn code(self) -> u8
         ensures { result ≡ exit_code self }
     {
@@ -37,6 +39,7 @@ impl Status {
             Status::OutOfMemory => 5,
             Status::MachineFault => 6,
             Status::TooLong => 7,
+            Status::Differs => 8,
         }
     }
 }

@@ -21,7 +21,7 @@ use Rattle.command_line.specs.CommandLine.{AreTexts, IsLine, Subcommand, all_sai
 use Rattle.command_line.specs.CommandLine.{plain_line_of, said_behind, subcommand_named, subcommands}
 use Rattle.command_line.specs.Commands.{IsPlainLine, NamesCommand, line_found, plain_line, values_of}
 use Rattle.command_line.specs.declared.Command.{Command}
-use Rattle.command_line.specs.declared.Command.TheVariants.{Mean, Try, Build, Run, Asm, Dis, Gen}
+use Rattle.command_line.specs.declared.Command.TheVariants.{Mean, Try, Build, Run, Asm, Dis, Gen, Audit}
 use Rattle.command_line.proofs.Files.{files_said, said_length, IsGiven, IsInOrder, built_subcommand, file_row, given_row, more_given, rows_for}
 use Rattle.command_line.proofs.Lines.{Line, all_in_order, has_name, in_order, line_reads, line_says, line_there, named}
 
@@ -107,6 +107,9 @@ subcommand_of_line (Dis image) name files e =
 subcommand_of_line (Gen number image) name files e =
     let named : name ≡ codes "gen" = ap (λ l. unwrap_or (slice_get l 0) []) (sym e) in
     (record { name = codes "gen"; files = codes "N" ∷ codes "IMAGE" ∷ [] }, ap subcommand_named named, let all = ap length (sym e) in omega arith)
+subcommand_of_line (Audit source report trace) name files e =
+    let named : name ≡ codes "audit" = ap (λ l. unwrap_or (slice_get l 0) []) (sym e) in
+    (record { name = codes "audit"; files = codes "SRC" ∷ codes "REPORT" ∷ codes "TRACE" ∷ [] }, ap subcommand_named named, let all = ap length (sym e) in omega arith)
 
 -- the first step, where the second gives something
 some_before : (f : List Text → Option (List Text)) (o : Option (List Text)) (all : List Text) → option_and_then f o ≡ Some all
@@ -200,7 +203,13 @@ all_have_lines = (
         of_files (of_names (codes "run") (codes "IMAGE" ∷ codes "TRACE" ∷ [])) refl (two (codes "run") Run (λ a b. refl)),
         (
           of_files (of_names (codes "asm") (codes "ASM" ∷ codes "IMAGE" ∷ [])) refl (two (codes "asm") Asm (λ a b. refl)),
-          (of_files (of_names (codes "dis") (codes "IMAGE" ∷ [])) refl (one (codes "dis") Dis (λ a. refl)), (number_and_file, tt)),
+          (
+            of_files (of_names (codes "dis") (codes "IMAGE" ∷ [])) refl (one (codes "dis") Dis (λ a. refl)),
+            (
+              number_and_file,
+              (of_files (of_names (codes "audit") (codes "SRC" ∷ codes "REPORT" ∷ codes "TRACE" ∷ [])) refl (three (codes "audit") Audit (λ a b d. refl)), tt),
+            ),
+          ),
         ),
       ),
     ),

@@ -106,7 +106,13 @@ all_in_order = (
         (refl, refl, refl, refl, refl, (refl, refl, refl, refl, refl, (refl, refl))),
         (
           (refl, refl, refl, refl, refl, (refl, refl, refl, refl, refl, (refl, refl))),
-          ((refl, refl, refl, refl, refl, (refl, refl)), ((refl, refl, refl, refl, refl, (refl, refl, refl, refl, refl, (refl, refl))), tt)),
+          (
+            (refl, refl, refl, refl, refl, (refl, refl)),
+            (
+              (refl, refl, refl, refl, refl, (refl, refl, refl, refl, refl, (refl, refl))),
+              ((refl, refl, refl, refl, refl, (refl, refl, refl, refl, refl, (refl, refl, refl, refl, refl, (refl, refl)))), tt),
+            ),
+          ),
         ),
       ),
     ),

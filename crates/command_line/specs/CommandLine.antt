@@ -25,7 +25,8 @@ subcommands = record { name = codes "mean"; files = codes "SRC" ∷ codes "TRACE
     ∷ record { name = codes "run"; files = codes "IMAGE" ∷ codes "TRACE" ∷ [] }
     ∷ record { name = codes "asm"; files = codes "ASM" ∷ codes "IMAGE" ∷ [] }
     ∷ record { name = codes "dis"; files = codes "IMAGE" ∷ [] }
-    ∷ record { name = codes "gen"; files = codes "N" ∷ codes "IMAGE" ∷ [] } ∷ []
+    ∷ record { name = codes "gen"; files = codes "N" ∷ codes "IMAGE" ∷ [] }
+    ∷ record { name = codes "audit"; files = codes "SRC" ∷ codes "REPORT" ∷ codes "TRACE" ∷ [] } ∷ []
 
 -- N is a number, and each other one is a file
 abbrev pub is_number_name : Text → Bool

@@ -77,6 +77,15 @@ pub enum Command<'a> {
         /// The file that is to hold the image.
         image: &'a str,
     },
+    /// `audit SRC REPORT TRACE`: whether the source could have told the report on the trace's readings.
+    Audit {
+        /// The file of the source.
+        source: &'a str,
+        /// The file of the report.
+        report: &'a str,
+        /// The file of the trace.
+        trace: &'a str,
+    },
 }
 
 /// Why the words were not read.
@@ -155,6 +164,14 @@ fn command_named<'a>(name: &str, files: &ArgMatches<'a>) -> Option<Command<'a>>
             let (number, image) = two_files(files, "N", "IMAGE")?;
             let number = number_of(number)?;
             Some(Command::Gen { number, image })
+        }
+        "audit" => {
+            let (source, report, trace) = three_files(files, "SRC", "REPORT", "TRACE")?;
+            Some(Command::Audit {
+                source,
+                report,
+                trace,
+            })
         }
         _ => None,
     }
@@ -340,5 +357,6 @@ fn alpaca_command<'a>(alloc: Global) -> Result<clap::Command<'a>, AllocError>
     let command = with_two_files(alloc, command, "run", "IMAGE", "TRACE")?;
     let command = with_two_files(alloc, command, "asm", "ASM", "IMAGE")?;
     let command = with_one_file(alloc, command, "dis", "IMAGE")?;
-    with_two_files(alloc, command, "gen", "N", "IMAGE")
+    let command = with_two_files(alloc, command, "gen", "N", "IMAGE")?;
+    with_three_files(alloc, command, "audit", "SRC", "REPORT", "TRACE")
 }

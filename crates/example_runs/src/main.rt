@@ -1,6 +1,7 @@
-//! Runs programs under their traces, and says which print the report that stands beside them.
+//! Runs programs under their traces, and says which print the report that stands beside them, of which an audit says yes.
 //!
-//! Of each NAME in its words it runs `alpaca try NAME.alp NAME.trace NAME.img`, and compares what that prints with NAME.report.
+//! Of each NAME in its words it runs `alpaca try NAME.alp NAME.trace NAME.img`, and compares what that prints with NAME.report;
+//! and it runs `alpaca audit NAME.alp NAME.report NAME.trace`.
 #![tactic(auto)]
 
 use alp_io::{DirShelf, Failed, MemSink, NoMemory, ReadFault, Shelf, Sink, StdSink, write_pieces};
@@ -48,14 +49,28 @@ impl From<Failed> for Fault {
     }
 }
 
-// The words of the command that runs an example.
-fn words_of(alloc: Global, name: &str) -> Result<Vec<String>, AllocError> {
+// The words of a command on the files of an example.
+fn words_of(
+    alloc: Global,
+    command: &str,
+    name: &str,
+    endings: [&str; 3],
+) -> Result<Vec<String>, AllocError> {
     let mut words = Vec::new(alloc);
-    words.push(String::from_str(alloc, "try")?)?;
-    for ending in [".alp", ".trace", ".img"] {
+    words.push(String::from_str(alloc, command)?)?;
+    for ending in endings {
         words.push(format!(in alloc; "{name}{ending}")?)?;
     }
     Ok(words)
+}
+
+// Whether an audit of its report says yes.
+fn is_told<H: Shelf>(alloc: Global, shelf: &mut H, name: &str) -> Result<bool, Fault> {
+    let mut out = MemSink::new(alloc, ROOM, Vec::new(alloc))?;
+    let mut err = MemSink::new(alloc, ROOM, Vec::new(alloc))?;
+    let words = words_of(alloc, "audit", name, [".alp", ".report", ".trace"])?;
+    let status = alpaca(alloc, &words, shelf, &mut out, &mut err);
+    Ok(status == Status::Done && out.bytes().starts_with(b"yes ") && err.bytes().is_empty())
 }
 
 // Whether an example ends with status 0, and prints its report and nothing else.
@@ -65,12 +80,12 @@ fn agrees<H: Shelf>(alloc: Global, shelf: &mut H, name: &str) -> Result<bool, Fa
     shelf.read(alloc, &report_name, ROOM, &mut report)?;
     let mut out = MemSink::new(alloc, ROOM, Vec::new(alloc))?;
     let mut err = MemSink::new(alloc, ROOM, Vec::new(alloc))?;
-    let words = words_of(alloc, name)?;
+    let words = words_of(alloc, "try", name, [".alp", ".trace", ".img"])?;
     let status = alpaca(alloc, &words, shelf, &mut out, &mut err);
     Ok(status == Status::Done && out.bytes() == report.as_slice() && err.bytes().is_empty())
 }
 
-// Tells of each example whether it agrees, and answers whether all do.
+// Tells of each example whether it agrees and an audit says yes, and answers whether all do.
 fn tell_all<H: Shelf, O: Sink>(
     alloc: Global,
     names: &[String],
@@ -79,7 +94,7 @@ fn tell_all<H: Shelf, O: Sink>(
 ) -> Result<bool, Fault> {
     let mut all = true;
     for name in names {
-        let same = agrees(alloc, shelf, name)?;
+        let same = agrees(alloc, shelf, name)? && is_told(alloc, shelf, name)?;
         let told: &[u8] = if same { b" agrees\n" } else { b" differs\n" };
         write_pieces(out, &[name.as_bytes(), told])?;
         all = all && same;

@@ -6,3 +6,5 @@ pub use Rattle.source_runs.proofs.Spans.{read_off}
 pub use Rattle.source_runs.proofs.Told.{runs_are_told}
 -- The charges of a trace are few, and power-ups leave words.
 pub use Rattle.source_runs.proofs.Traces.{traces_are_few}
+-- A transition is made by the task of its state, and emits at most 256 words.
+pub use Rattle.source_runs.proofs.Transitions.{IsMadeBy, made}

@@ -1,3 +1,5 @@
+mod Apart
+mod Received
 mod Transitions
 mod Spans
 mod Told

@@ -29,6 +29,8 @@ use Rattle.model_runs.specs.Runs.{history_behind, IsShort, Progresses, all_amoun
 use Rattle.source_runs.specs.Tells.{IsEndOf, IsUninterrupted, IsToldBySource, spans_of, at_first}
 use Rattle.source_runs.specs.Sources.{IsOfSource, BeginsWithSource, events_of}
 use Rattle.source_runs.specs.Laws.{RunsAreTold}
+use Rattle.source_runs.proofs.Apart.{spans_are_apart}
+use Rattle.source_runs.proofs.Received.{words_are_received, run_hears}
 use Rattle.source_runs.proofs.Transitions.{Tells, tells}
 use Rattle.source_runs.proofs.Spans.{IsReadOff, read_off}
 
@@ -160,6 +162,9 @@ runs_are_told model c text program m x cs b r is begins run few =
       lines = lines text program m model c x cs b r is begins run few;
       ending = subst Ends off.since es.ending;
       progress = off.pays x (progress text program m model c x cs b r is begins run few) begins.starts;
+      apart = spans_are_apart m.words.gate x r.moments (length b.readings) (in_readings text program m model c x cs b r is begins run few);
+      heard = let all = run_hears cs b r run.run in omega (arith, all, few);
+      words = words_are_received m x cs b r (first_state program) ts.transitions is.is_map begins.starts run begins.words ts.stand;
       uninterrupted = subst Alone off.since
           (one_charge text program m model c x b r is begins cs run (in_readings text program m model c x cs b r is begins run few));
     }

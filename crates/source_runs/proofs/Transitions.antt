@@ -1,5 +1,5 @@
 -- Dones of a run as the source's transitions on their committed readings.
-use Rattle.std.proofs.Common.{◌≡◌, ℕ, ◌≤◌, refl, ap, ◌∙◌, subst, arith, List, [], ◌∷◌, length, map, Option, Some, None}
+use Rattle.std.proofs.Common.{◌≡◌, ℕ, ◌≤◌, refl, ap, ◌∙◌, subst, arith, All, List, [], ◌∷◌, length, map, Option, Some, None}
 use Rattle.std.proofs.lemmas.List.Elements.{All-get_or}
 use Rattle.std.proofs.lemmas.Option.{slice_get_within, get_or_from_slice_get}
 use Rattle.std.specs.Prelude.{slice_get}
@@ -20,7 +20,7 @@ use Rattle.source_runs.specs.Transitions.{StandForTransitions, committed_by}
 use Rattle.source_runs.specs.Sources.{IsOfSource}
 
 -- what holds of a transition by the task that makes it
-record IsMadeBy (s : State) (t : Transition) : Type 0 where
+pub record IsMadeBy (s : State) (t : Transition) : Type 0 where
   pub from : t.from ≡ s.task
   pub before : t.before ≡ s.shared
   pub few : length t.emitted ≤ 256
@@ -50,16 +50,18 @@ body_fits : (o : Option (Task VariableName TaskName)) → ((task : Task Variable
 body_fits None h = omega arith
 body_fits (Some task) h = h task refl
 
-module _ (text : List ℕ) (program : CheckedProgram) (m : MapValue) (model : Model State) (is : IsOfSource text program m model) where
+-- in a source whose tasks emit at most 256 words
+module _ (program : CheckedProgram) (fit : All EmitsFit program.tasks) where
   fits : (task : ℕ) → block_emits (task_body program task) ≤ 256
   fits task = body_fits (slice_get program.tasks task) (λ t e. subst EmitsFit (get_or_from_slice_get program.tasks task t t e)
-      (All-get_or EmitsFit program.tasks task t (slice_get_within program.tasks task t e) is.emits_fit))
+      (All-get_or EmitsFit program.tasks task t (slice_get_within program.tasks task t e) fit))
 
-  made : (s : State) (readings : List ℕ) (t : Transition) → transition_of program s readings ≡ Some t → IsMadeBy s t
+  pub made : (s : State) (readings : List ℕ) (t : Transition) → transition_of program s readings ≡ Some t → IsMadeBy s t
   made s readings t e =
       outcome_made s (attempt_of program s.task s.shared readings) t
       (block_up_to (task_body program s.task) (fresh_attempt s.shared readings) 256 (let f = fits s.task in omega (arith, f))) e
 
+module _ (text : List ℕ) (program : CheckedProgram) (m : MapValue) (model : Model State) (is : IsOfSource text program m model) where
   -- dones of a run from a state to a state, as transitions
   pub record Tells (readings : List ℕ) (s : State) (ds : List Done) (u : State) : Type 0 where
     pub transitions : List Transition
@@ -76,7 +78,7 @@ module _ (text : List ℕ) (program : CheckedProgram) (m : MapValue) (model : Mo
       let P : State → Type 0 = λ y. SourceRun model readings y ds u in
       let Q : State → Type 0 = λ y. model.Rests y d.world in
       let more = tells readings (state_after s t) u ds (subst P k.2 run.3) in
-      let by = made s (done_readings readings d) t k.1 in
+      let by = made program is.emits_fit s (done_readings readings d) t k.1 in
       record {
         transitions = t ∷ more.transitions;
         source = ap (λ p. p >>? λ y. source_run program (state_after s y) (map (readings_of readings) (committed_by ds)) >>? λ ys. Some (y ∷ ys)) k.1

@@ -1,5 +1,5 @@
 -- A run of the board as its source tells it.
-use Rattle.std.specs.Prelude.{◌≡◌, ℕ, ◌*◌, ◌≤◌, if◌then◌else◌, List, [], ◌∷◌, ◌++◌, length, map, drop, Some}
+use Rattle.std.specs.Prelude.{◌≡◌, ℕ, ◌+◌, ◌*◌, ◌^◌, ◌≤◌, ◌<◌, if◌then◌else◌, List, [], ◌∷◌, ◌++◌, length, map, drop, sum_by, Some}
 use Rattle.model_runs.specs.alp_io.declared.report.Reason.{Reason}
 use Rattle.model_runs.specs.alp_io.declared.report.Reason.TheVariants as reason
 use Rattle.model_runs.specs.alp_io.Report.{bound_line, end_line}
@@ -12,6 +12,7 @@ use Rattle.model_runs.specs.board_run.History.{History, start_with, is_done, wor
 use Rattle.model_runs.specs.board_run.Report.{after_all}
 use Rattle.source_report.specs.source_values.Statements.{Outcome, short}
 use Rattle.source_report.specs.source_values.Runs.{CheckedProgram, Transition, first_state, state_behind, source_run, attempt_of}
+use Rattle.source_report.specs.Apart.{AreApart}
 use Rattle.source_report.specs.SourceReport.{Committed, IsConsecutive, position_after, readings_of, source_report}
 
 -- the committed readings of the transition that an action completed, where it left this board and GATE tells of one: its span, or none
@@ -59,7 +60,8 @@ pub record IsUninterrupted (readings : List ℕ) (since : ℕ) (spans : List Com
   pub at_last : position_after 0 spans ≡ since
 
 -- the report of a run, as the source tells it: behind the bound the source's report of the transitions on the spans of the dones,
--- each of which one task takes exactly; and how it ended, with the number of transitions
+-- each of which one task takes exactly; and how it ended, with the number of transitions. The spans are in order and apart, whatever
+-- was cut off between them; the receiver accepted the words that the transitions emitted, at least, and heard fewer than 2^64
 pub record IsToldBySource (text : List ℕ) (program : CheckedProgram) (m : MapValue) (cs : List BoardCharge) (b : BoardValue) (r : RunOutcome)
     (report : List ℕ) : Type 0 where
   pub spans : List Committed
@@ -72,4 +74,7 @@ pub record IsToldBySource (text : List ℕ) (program : CheckedProgram) (m : MapV
   pub ending : let s = state_behind (first_state program) transitions in
       IsEndOf r.ending (attempt_of program s.task s.shared (drop (after_all (at_first m b) r.moments).since b.readings)) why
   pub progress : EachChargePays m cs b (at_first m b) r
+  pub apart : AreApart 0 (length b.readings) spans
+  pub words : sum_by (λ t. length t.emitted) transitions ≤ r.board.receiver.accepted
+  pub heard : r.board.receiver.accepted + r.board.receiver.repeats < b.receiver.accepted + b.receiver.repeats + 2 ^ 64
   pub uninterrupted : length cs ≡ 1 → IsUninterrupted b.readings (after_all (at_first m b) r.moments).since spans

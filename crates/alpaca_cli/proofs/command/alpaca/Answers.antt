@@ -1,5 +1,5 @@
 use Rattle.alpaca_cli.proofs.Answered.{complete_told}
-use Rattle.alpaca_cli.proofs.FaultLaws.{only_runs_fault}
+use Rattle.alpaca_cli.proofs.FaultLaws.{only_runs_fault, only_audits_differ}
 use Rattle.alpaca_cli.proofs.ShelfLaws.{others_stand}
 use Rattle.alpaca_cli.proofs.SourceLaws.{sources_exclude}
 use Rattle.alpaca_cli.proofs.command.alpaca.Goals as goal
@@ -9,6 +9,9 @@ returns-clause-files g c = others_stand _ _ _ _ _ c.answer.ensures.answers
 
 pub returns-clause-only_runs_fault : goal.returns-clause-only_runs_fault
 returns-clause-only_runs_fault g c = only_runs_fault _ _ _ _ _ c.answer.ensures.answers
+
+pub returns-clause-only_audits_differ : goal.returns-clause-only_audits_differ
+returns-clause-only_audits_differ g c = only_audits_differ _ _ _ _ _ c.answer.ensures.answers
 
 pub returns-clause-complete : goal.returns-clause-complete
 returns-clause-complete g c =

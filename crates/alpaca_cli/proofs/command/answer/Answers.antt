@@ -35,6 +35,10 @@ returns-in-Ok-Gen-clause-answers g c =
     (record { number = c.answer_gen.ensures.number; line = c.in-Ok-Gen.ensures.command ∙ ap (λ x. Some (plain_line x)) c.in-Ok-Gen.field-0-is })
     c.answer_gen.ensures.answers
 
+pub returns-in-Ok-Audit-clause-answers : goal.returns-in-Ok-Audit-clause-answers
+returns-in-Ok-Audit-clause-answers g c =
+    on_line _ (call.audit _ _ _) _ _ _ _ (record { number = tt; line = c.in-Ok-Audit.ensures.command ∙ ap (λ x. Some (plain_line x)) c.in-Ok-Audit.field-0-is }) c.answer_audit.ensures.answers
+
 pub returns-in-Err-Usage-clause-answers : goal.returns-in-Err-Usage-clause-answers
 returns-in-Err-Usage-clause-answers g c = (
   c.in-Err-Usage.ensures.usage (ap Err c.in-Err-Usage.field-0-is),

@@ -1,0 +1,4 @@
+pub mod Entry
+pub mod Fronts
+pub mod Good
+pub mod Stops

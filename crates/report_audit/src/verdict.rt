@@ -1,0 +1,32 @@
+//! What an audit answers.
+use std::alloc::AllocError;
+use thiserror::Error;
+
+/// What an audit says of a report.
+#[derive(Clone, Copy, Debug, PartialEq, Eq)]
+pub enum Verdict {
+    /// The source could have told the report, which has `t` transitions.
+    Yes { t: u64 },
+    /// It couldn't: the lines up to and with `line`, counted from 1, begin no report that it could have told; or the report
+    /// ends too soon, and `line` is one past its last.
+    No { line: u32 },
+}
+
+/// Why there is no verdict.
+#[derive(Clone, Copy, Debug, PartialEq, Eq, Error)]
+pub enum AuditFault {
+    /// Memory was refused.
+    #[error("out of memory")]
+    Memory,
+}
+
+impl From<AllocError> for AuditFault {
+    ghost use Rattle.std.specs.Prelude.{◌≡◌};
+    ghost use Rattle.report_audit.specs.declared.verdict.AuditFault.TheVariants.{Memory};
+
+    ghost from_gives = { λ _ e. e ≡ Memory };
+
+    fn from(_error: AllocError) -> Self {
+        AuditFault::Memory
+    }
+}

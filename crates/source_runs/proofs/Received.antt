@@ -1,0 +1,132 @@
+-- The receiver of a run accepted the words that its transitions emitted, and has heard no more than its charges pay for.
+use Rattle.std.proofs.Common.{◌≡◌, ◌≤◌, ℕ, ◌+◌, ◌-◌, refl, sym, ap, subst, arith, Bool, true, false, if◌then◌else◌, List, [], ◌∷◌, ◌++◌, length, sum_by, length-append, append-nil, Option, Some, None}
+use Rattle.std.proofs.lemmas.List.Sums.{sum_by-cons}
+use Rattle.model_runs.specs.msp_isa.declared.instructions.Instr.{Instr}
+use Rattle.model_runs.specs.msp_step.Registers.{registers_of}
+use Rattle.model_runs.specs.msp_step.Step.{execution}
+use Rattle.model_runs.specs.image_map.MapValue.{MapValue, IsMap}
+use Rattle.model_runs.specs.fram_board.declared.receiver.Receiver.{Receiver}
+use Rattle.model_runs.specs.fram_board.Bus.{board_bus}
+use Rattle.model_runs.specs.fram_board.Board.{BoardValue, opened, executed, powered, is_accepted, receiver_after}
+use Rattle.model_runs.specs.fram_board.Run.{Measure, Moment, Charges, Stopped, RunOutcome, run_outcome, BoardCharge, price, ChargeRun, Spent, NoInstruction, TooDear, Refused, Executed, Run, Over, Next, Last}
+use Rattle.model_runs.proofs.fram_board.Interface.{price_low}
+use Rattle.source_report.specs.source_values.Runs.{State, Transition, state_after}
+use Rattle.model_runs.specs.machine_effects.World.{World}
+use Rattle.model_runs.specs.machine_effects.Runs.{last_board}
+use Rattle.model_runs.specs.crash_rules.History.{Done, first_history}
+use Rattle.model_runs.specs.run_charges.Charges.{observed}
+use Rattle.model_runs.specs.run_charges.Laws.{IsRunOfWords}
+use Rattle.model_runs.proofs.run_charges.Interface.{charge_last, front_moments}
+use Rattle.model_runs.specs.Events.{last_world}
+use Rattle.model_runs.specs.EventLaws.{StartsWith}
+use Rattle.model_runs.proofs.Interface.{Together, moments_lead, first_histories_are_the_same}
+use Rattle.model_runs.specs.board_run.History.{start_with}
+use Rattle.source_runs.specs.Transitions.{HasWordsOf, StandForTransitions}
+use Rattle.model_runs.specs.Runs.{all_amounts}
+
+-- the words that transitions emitted
+abbrev words_in : List Transition → ℕ
+words_in ts = sum_by (λ t. length t.emitted) ts
+
+-- the words accepted at the last done are those of the transitions up to it
+words_at_last : (m : MapValue) (x : World) (s : State) (ds : List Done) (ts : List Transition) → HasWordsOf m x s → StandForTransitions m s ds ts
+    → length (last_world x ds).accepted ≡ length s.emitted + words_in ts
+words_at_last m x s [] [] here h = let words = ap length here.accepted in omega (arith, words)
+words_at_last m x s [] (t ∷ ts) here h = absurd h
+words_at_last m x s (d ∷ ds) [] here h = absurd h
+words_at_last m x s (d ∷ ds) (t ∷ ts) here h =
+    let more = words_at_last m d.world (state_after s t) ds ts h.0.behind h.1 in
+    let both = length-append s.emitted t.emitted in
+    let sum = sum_by-cons (λ t. length t.emitted) t ts in
+    omega (arith, more, both, sum)
+
+-- a receiver forgets no word that it accepted
+one_kept : (b : Bool) (r : Receiver)
+    → r.accepted ≤ (if b then record r { accepted = r.accepted + 1 } else record r { repeats = r.repeats + 1 }).accepted
+one_kept true r = omega arith
+one_kept false r = omega arith
+
+kept : (number : ℕ) (o : Option ℕ) (r : Receiver) → r.accepted ≤ (receiver_after number o r).accepted
+kept number None r = omega arith
+kept number (Some w) r = one_kept (is_accepted number r) r
+
+executed_keeps : (b : BoardValue) (i : Instr) → b.receiver.accepted ≤ (executed b i).board.receiver.accepted
+executed_keeps b i = let o = execution board_bus i (registers_of b.cpu) (opened b) in kept o.bus.outnum o.bus.offered b.receiver
+
+charge_keeps : (m : Measure) (left : ℕ) (b : BoardValue) (r : RunOutcome) → ChargeRun m left b r
+    → (last_board b r.moments).receiver.accepted ≤ r.board.receiver.accepted
+charge_keeps m left b r (Spent _ _ none) = omega arith
+charge_keeps m left b r (NoInstruction _ _ e pos h) = omega arith
+charge_keeps m left b r (TooDear _ _ i pos c dear) = omega arith
+charge_keeps m left b r (Refused _ _ i e pos c paid a) = executed_keeps b i
+charge_keeps m left b r (Executed _ _ i done rest pos c paid a h) = charge_keeps m (left - price m i) (executed b i).board rest h
+
+-- what holds behind moments and others, holds behind all of them
+behind_both : (b : BoardValue) (ms ns : List Moment) (n : ℕ) → (last_board (last_board b ms) ns).receiver.accepted ≤ n
+    → (last_board b (ms ++ ns)).receiver.accepted ≤ n
+behind_both b [] ns n h = h
+behind_both b (m ∷ ms) ns n h = behind_both m.after ms ns n h
+
+run_keeps : (cs : List BoardCharge) (b : BoardValue) (r : RunOutcome) → Run cs b r → (last_board b r.moments).receiver.accepted ≤ r.board.receiver.accepted
+run_keeps cs b r (Over _) = omega arith
+run_keeps cs b r (Next c ds _ ms end rest one more) =
+    let there : last_board (powered b c.start) ms ≡ end = charge_last c.measure c.amount (powered b c.start) (run_outcome ms Charges end) one refl in
+    let P : BoardValue → Type 0 = λ y. (last_board y rest.moments).receiver.accepted ≤ rest.board.receiver.accepted in
+    behind_both (powered b c.start) ms rest.moments rest.board.receiver.accepted (subst P (sym there) (run_keeps ds end rest more))
+run_keeps cs b r (Last c ds _ ms stop end one) = charge_keeps c.measure c.amount (powered b c.start) (run_outcome ms (Stopped stop) end) one
+
+-- so it accepted what the transitions emitted
+pub words_are_received : (m : MapValue) (x : World) (cs : List BoardCharge) (b : BoardValue) (r : RunOutcome) (s : State) (ts : List Transition)
+    → IsMap m → StartsWith b x → IsRunOfWords cs b r → HasWordsOf m x s
+    → StandForTransitions m s (observed m.words.gate r.moments (first_history m.words.gate x)).completed ts → words_in ts ≤ r.board.receiver.accepted
+words_are_received m x cs b r s ts ok starts run here stand =
+    let begun = first_histories_are_the_same b m x ok starts in
+    let k = first_history m.words.gate x in
+    let t : Together m x b (start_with b.fram (Some m)) k = record { whole = run.whole; words = run.words; same = begun.0; tells = begun.1 } in
+    let moments = front_moments cs b r r.moments [] run.starts run.run (sym (append-nil r.moments)) in
+    let end = (moments_lead m x ok b (start_with b.fram (Some m)) k r.moments t moments).together in
+    let done = (observed m.words.gate r.moments k).completed in
+    let words = words_at_last m x s done ts here stand in
+    let all = ap length end.same.alike.words_are in
+    let both = length-append (last_world x done).accepted end.same.alike.words in
+    let told = end.tells.accepted in
+    let last = run_keeps cs b r run.run in
+    omega (arith, words, all, both, told, last)
+
+-- what a receiver has heard
+abbrev heard : Receiver → ℕ
+heard r = r.accepted + r.repeats
+
+one_heard : (b : Bool) (r : Receiver) → heard (if b then record r { accepted = r.accepted + 1 } else record r { repeats = r.repeats + 1 }) ≤ heard r + 1
+one_heard true r = omega arith
+one_heard false r = omega arith
+
+after_one : (number : ℕ) (o : Option ℕ) (r : Receiver) → heard (receiver_after number o r) ≤ heard r + 1
+after_one number None r = omega arith
+after_one number (Some w) r = one_heard (is_accepted number r) r
+
+executed_hears : (b : BoardValue) (i : Instr) → heard (executed b i).board.receiver ≤ heard b.receiver + 1
+executed_hears b i = let o = execution board_bus i (registers_of b.cpu) (opened b) in after_one o.bus.outnum o.bus.offered b.receiver
+
+charge_hears : (m : Measure) (left : ℕ) (b : BoardValue) (r : RunOutcome) → ChargeRun m left b r → heard r.board.receiver ≤ heard b.receiver + left
+charge_hears m left b r (Spent _ _ none) = omega arith
+charge_hears m left b r (NoInstruction _ _ e pos h) = omega arith
+charge_hears m left b r (TooDear _ _ i pos c dear) = omega arith
+charge_hears m left b r (Refused _ _ i e pos c paid a) = let one = executed_hears b i in omega (arith, one, pos)
+charge_hears m left b r (Executed _ _ i done rest pos c paid a h) =
+    let one = executed_hears b i in
+    let more = charge_hears m (left - price m i) (executed b i).board rest h in
+    let low = price_low m i in
+    omega (arith, one, more, low, paid)
+
+-- no more than its charges pay for
+pub run_hears : (cs : List BoardCharge) (b : BoardValue) (r : RunOutcome) → Run cs b r
+    → r.board.receiver.accepted + r.board.receiver.repeats ≤ b.receiver.accepted + b.receiver.repeats + all_amounts cs
+run_hears cs b r (Over _) = omega arith
+run_hears cs b r (Next c ds _ ms end rest one more) =
+    let own = charge_hears c.measure c.amount (powered b c.start) (run_outcome ms Charges end) one in
+    let others = run_hears ds end rest more in
+    omega (arith, own, others)
+run_hears cs b r (Last c ds _ ms stop end one) =
+    let own = charge_hears c.measure c.amount (powered b c.start) (run_outcome ms (Stopped stop) end) one in
+    omega (arith, own)
