@@ -25,17 +25,19 @@ verdict_of-requires-clause-accepted g c = rw c.in_ok-source.ensures.text c.in_ok
 pub returns-in-Ok-clause-whole : goal.returns-in-Ok-clause-whole
 returns-in-Ok-clause-whole g c = λ shelf stands. record {
   product = _;
-  is = audit_product _ _ _ _ _ _ _ _ _ _ _ c.in_ok-source.ensures.text c.in_ok-source.ensures.accepted c.in_ok-source.ensures.only
+  is = audit_product c.args.names.source.now c.args.names.report.now c.args.names.trace.now _ _ _ _ _ _ _ _
+      c.in_ok-source.ensures.text c.in_ok-source.ensures.accepted c.in_ok-source.ensures.only
       c.in_ok-trace.ensures.said c.in_ok-verdict.ensures.says;
   ends = refl;
   put = stands;
   written = c.in-Ok.ensures.bytes.whole;
 }
 
-pub returns-in-Err-clause-failure : goal.returns-in-Err-clause-failure
-returns-in-Err-clause-failure g c = λ shelf stands. record {
+pub returns-clause-failure : goal.returns-clause-failure
+returns-clause-failure g c = λ shelf stands. record {
   product = _;
-  is = audit_product _ _ _ _ _ _ _ _ _ _ _ c.in_ok-source.ensures.text c.in_ok-source.ensures.accepted c.in_ok-source.ensures.only
+  is = audit_product c.args.names.source.now c.args.names.report.now c.args.names.trace.now _ _ _ _ _ _ _ _
+      c.in_ok-source.ensures.text c.in_ok-source.ensures.accepted c.in_ok-source.ensures.only
       c.in_ok-trace.ensures.said c.in_ok-verdict.ensures.says;
   put = stands;
   written = c.in-Err.ensures.bytes.part;
