@@ -4,7 +4,7 @@ use Rattle.std.proofs.lemmas.Bool.Decides.{nat_tests}
 use Rattle.array_versions.specs.declared.operations.UnaryOperation.{UnaryOperation}
 use Rattle.array_versions.specs.declared.operations.UnaryOperation.TheVariants.{Negate, Complement, Not, Truth}
 use Rattle.array_versions.specs.declared.operations.BinaryOperation.{BinaryOperation}
-use Rattle.array_versions.specs.declared.operations.BinaryOperation.TheVariants.{Multiply, Divide, Remainder, Add, Subtract, And, Xor, Or, Equal, NotEqual, Below, AtMost, Above, AtLeast, SignedBelow, SignedAtMost, SignedAbove, SignedAtLeast}
+use Rattle.array_versions.specs.declared.operations.BinaryOperation.TheVariants.{Multiply}
 use Rattle.array_versions.specs.declared.operations.ShiftOperation.{ShiftOperation}
 use Rattle.array_versions.specs.declared.operations.ShiftOperation.TheVariants.{Left, Right, SignedRight}
 use Rattle.array_versions.specs.Program.{number, load, keep, local, set_local, unary, binary, shift, element, emit_word, list_entry, versioned_read, versioned_write, sense, choose, repeat, store_number, move_word, jump}
@@ -23,45 +23,14 @@ unary_words_kept Complement = omega arith
 unary_words_kept Not = omega arith
 unary_words_kept Truth = omega arith
 
+-- of each operation alike: the first clause makes it a proof by cases
 binary_cycles_kept : (o : BinaryOperation) → binary_cycles o ≤ binary_allowance o
 binary_cycles_kept Multiply = omega arith
-binary_cycles_kept Divide = omega arith
-binary_cycles_kept Remainder = omega arith
-binary_cycles_kept Add = omega arith
-binary_cycles_kept Subtract = omega arith
-binary_cycles_kept And = omega arith
-binary_cycles_kept Xor = omega arith
-binary_cycles_kept Or = omega arith
-binary_cycles_kept Equal = omega arith
-binary_cycles_kept NotEqual = omega arith
-binary_cycles_kept Below = omega arith
-binary_cycles_kept AtMost = omega arith
-binary_cycles_kept Above = omega arith
-binary_cycles_kept AtLeast = omega arith
-binary_cycles_kept SignedBelow = omega arith
-binary_cycles_kept SignedAtMost = omega arith
-binary_cycles_kept SignedAbove = omega arith
-binary_cycles_kept SignedAtLeast = omega arith
+binary_cycles_kept _ = omega arith
 
 binary_words_kept : (o : BinaryOperation) → binary_words o ≤ 16
 binary_words_kept Multiply = omega arith
-binary_words_kept Divide = omega arith
-binary_words_kept Remainder = omega arith
-binary_words_kept Add = omega arith
-binary_words_kept Subtract = omega arith
-binary_words_kept And = omega arith
-binary_words_kept Xor = omega arith
-binary_words_kept Or = omega arith
-binary_words_kept Equal = omega arith
-binary_words_kept NotEqual = omega arith
-binary_words_kept Below = omega arith
-binary_words_kept AtMost = omega arith
-binary_words_kept Above = omega arith
-binary_words_kept AtLeast = omega arith
-binary_words_kept SignedBelow = omega arith
-binary_words_kept SignedAtMost = omega arith
-binary_words_kept SignedAbove = omega arith
-binary_words_kept SignedAtLeast = omega arith
+binary_words_kept _ = omega arith
 
 right_low : (k : ℕ) → right_words k ≤ k + 1
 right_low zero = omega arith

@@ -6,7 +6,7 @@ use Rattle.msp_isa.specs.Encoding.{IsInstruction}
 use Rattle.array_versions.specs.declared.operations.UnaryOperation.{UnaryOperation}
 use Rattle.array_versions.specs.declared.operations.UnaryOperation.TheVariants.{Negate, Complement, Not, Truth}
 use Rattle.array_versions.specs.declared.operations.BinaryOperation.{BinaryOperation}
-use Rattle.array_versions.specs.declared.operations.BinaryOperation.TheVariants.{Multiply, Divide, Remainder, Add, Subtract, And, Xor, Or, Equal, NotEqual, Below, AtMost, Above, AtLeast, SignedBelow, SignedAtMost, SignedAbove, SignedAtLeast}
+use Rattle.array_versions.specs.declared.operations.BinaryOperation.TheVariants.{Multiply}
 use Rattle.array_versions.specs.declared.operations.ShiftOperation.{ShiftOperation}
 use Rattle.array_versions.specs.declared.operations.ShiftOperation.TheVariants.{Left, Right, SignedRight}
 use Rattle.array_versions.specs.declared.program.ArrayPlace.{ArrayPlace}
@@ -30,25 +30,10 @@ unary_are Complement = search arith
 unary_are Not = search arith
 unary_are Truth = search arith
 
+-- of each operation alike: the first clause makes it a proof by cases
 binary_are : (o : BinaryOperation) → Are (binary_middle o)
 binary_are Multiply = search arith
-binary_are Divide = search arith
-binary_are Remainder = search arith
-binary_are Add = search arith
-binary_are Subtract = search arith
-binary_are And = search arith
-binary_are Xor = search arith
-binary_are Or = search arith
-binary_are Equal = search arith
-binary_are NotEqual = search arith
-binary_are Below = search arith
-binary_are AtMost = search arith
-binary_are Above = search arith
-binary_are AtLeast = search arith
-binary_are SignedBelow = search arith
-binary_are SignedAtMost = search arith
-binary_are SignedAbove = search arith
-binary_are SignedAtLeast = search arith
+binary_are _ = search arith
 
 pub repeated_are : (k : ℕ) (m : Form) → IsInstruction (instruction_of m) → Are (repeated k m)
 repeated_are zero m h = tt

@@ -12,9 +12,7 @@ use Rattle.code_forms.proofs.Interface.{bytes_are, forms_bytes-append}
 use Rattle.array_versions.specs.declared.operations.UnaryOperation.{UnaryOperation}
 use Rattle.array_versions.specs.declared.operations.UnaryOperation.TheVariants.{Negate, Complement, Not, Truth}
 use Rattle.array_versions.specs.declared.operations.BinaryOperation.{BinaryOperation}
-use Rattle.array_versions.specs.declared.operations.BinaryOperation.TheVariants.{Multiply, Divide, Remainder, Add, Subtract, And, Xor, Or, Equal, NotEqual}
-use Rattle.array_versions.specs.declared.operations.BinaryOperation.TheVariants.{Below, AtMost, Above, AtLeast, SignedBelow, SignedAtMost, SignedAbove}
-use Rattle.array_versions.specs.declared.operations.BinaryOperation.TheVariants.{SignedAtLeast}
+use Rattle.array_versions.specs.declared.operations.BinaryOperation.TheVariants.{Multiply}
 use Rattle.array_versions.specs.declared.operations.ShiftOperation.{ShiftOperation}
 use Rattle.array_versions.specs.declared.operations.ShiftOperation.TheVariants.{Left, Right, SignedRight}
 use Rattle.array_versions.specs.Program.{Step, Program, number, load, keep, local, set_local, unary, binary, shift, element, emit_word, list_entry}
@@ -30,25 +28,10 @@ unary_length Complement = refl
 unary_length Not = refl
 unary_length Truth = refl
 
+-- of each operation alike: the first clause makes it a proof by cases
 pub binary_length : (o : BinaryOperation) → 4 + forms_bytes (binary_middle o) + 2 ≡ 2 * binary_words o
 binary_length Multiply = refl
-binary_length Divide = refl
-binary_length Remainder = refl
-binary_length Add = refl
-binary_length Subtract = refl
-binary_length And = refl
-binary_length Xor = refl
-binary_length Or = refl
-binary_length Equal = refl
-binary_length NotEqual = refl
-binary_length Below = refl
-binary_length AtMost = refl
-binary_length Above = refl
-binary_length AtLeast = refl
-binary_length SignedBelow = refl
-binary_length SignedAtMost = refl
-binary_length SignedAbove = refl
-binary_length SignedAtLeast = refl
+binary_length _ = refl
 
 doubles_length : (k : ℕ) → forms_bytes (repeated k double) ≡ 2 * k
 doubles_length zero = refl

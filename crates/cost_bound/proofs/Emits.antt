@@ -2,7 +2,7 @@
 use Rattle.std.proofs.Common.{◌≡◌, ◌-◌, ◌*◌, true, false, Some, None, ap, refl, arith}
 use Rattle.task_ast.specs.Tree.{Expression, number, name, element, sense, unary, binary, shift, short_circuit, Statement, declare, assign, store, choose, loop, emit, transition, Choice, nothing, otherwise, test, Block, end, step}
 use Rattle.task_ast.specs.declared.BinaryOperator.{BinaryOperator}
-use Rattle.task_ast.specs.declared.BinaryOperator.TheVariants.{Multiply, Divide, Remainder, Add, Subtract, Less, LessEqual, Greater, GreaterEqual, Equal, NotEqual, And, Xor, Or}
+use Rattle.task_ast.specs.declared.BinaryOperator.TheVariants.{Multiply}
 use Rattle.cost_bound.specs.Table.{expression_price, operator_price, statement_price, conditions_price, blocks_price, block_price}
 use Rattle.cost_bound.specs.Counts.{is_emit, statement_count, choice_count, block_count, emits_of}
 use Rattle.cost_bound.specs.declared.prices.Column.{Column}
@@ -27,21 +27,10 @@ emits_column = record {
   each_turn = true;
 }
 
+-- of each operator alike: the first clause makes it a proof by cases
 free_operator : (op : BinaryOperator) → operator_price emits_column op ≡ 0
 free_operator Multiply = refl
-free_operator Divide = refl
-free_operator Remainder = refl
-free_operator Add = refl
-free_operator Subtract = refl
-free_operator Less = refl
-free_operator LessEqual = refl
-free_operator Greater = refl
-free_operator GreaterEqual = refl
-free_operator Equal = refl
-free_operator NotEqual = refl
-free_operator And = refl
-free_operator Xor = refl
-free_operator Or = refl
+free_operator _ = refl
 
 free : {V : Type 0} (e : Expression V) → expression_price emits_column e ≡ 0
 free (number _) = refl

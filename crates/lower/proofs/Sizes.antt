@@ -52,21 +52,10 @@ sides_words : (op : ShortCircuitOperator) (right : Program) → step_words (lowe
 sides_words BothHold right = omega arith
 sides_words OneHolds right = omega arith
 
+-- of each operator alike: the first clause makes it a proof by cases
 operator_words : (s : ℕ) (op : BinaryOperator) → operator_price (words_column s) op ≡ 16
 operator_words s operator.Multiply = refl
-operator_words s operator.Divide = refl
-operator_words s operator.Remainder = refl
-operator_words s operator.Add = refl
-operator_words s operator.Subtract = refl
-operator_words s operator.Less = refl
-operator_words s operator.LessEqual = refl
-operator_words s operator.Greater = refl
-operator_words s operator.GreaterEqual = refl
-operator_words s operator.Equal = refl
-operator_words s operator.NotEqual = refl
-operator_words s operator.And = refl
-operator_words s operator.Xor = refl
-operator_words s operator.Or = refl
+operator_words s _ = refl
 
 pub expression_words : (p : Places) (s : ℕ) (e : CheckedExpression) → words_of (lowered_expression p e) ≤ expression_price (words_column s) e
 expression_words p s (t.number n) = omega arith
@@ -180,12 +169,8 @@ unary_most unary_operator.Negate = omega arith
 unary_most unary_operator.Complement = omega arith
 unary_most unary_operator.Not = omega arith
 
+-- an order looks at signs, and all others are alike
 binary_most : (op : BinaryOperator) (of : WordType) → binary_cycles (binary_operation op of) ≤ operator_price cycles_column op
-binary_most operator.Multiply of = omega arith
-binary_most operator.Divide of = omega arith
-binary_most operator.Remainder of = omega arith
-binary_most operator.Add of = omega arith
-binary_most operator.Subtract of = omega arith
 binary_most operator.Less Int = omega arith
 binary_most operator.Less Unsigned = omega arith
 binary_most operator.LessEqual Int = omega arith
@@ -194,11 +179,7 @@ binary_most operator.Greater Int = omega arith
 binary_most operator.Greater Unsigned = omega arith
 binary_most operator.GreaterEqual Int = omega arith
 binary_most operator.GreaterEqual Unsigned = omega arith
-binary_most operator.Equal of = omega arith
-binary_most operator.NotEqual of = omega arith
-binary_most operator.And of = omega arith
-binary_most operator.Xor of = omega arith
-binary_most operator.Or of = omega arith
+binary_most _ of = omega arith
 
 sides_cycles : (op : ShortCircuitOperator) (right : Program) → step_cycles (lowered_choice_of_sides op right) ≤ 12 + cycles_of right
 sides_cycles BothHold right = omega arith

@@ -202,12 +202,8 @@ unary_same unary_operator.Negate v = refl
 unary_same unary_operator.Complement v = refl
 unary_same unary_operator.Not v = refl
 
+-- an order looks at signs, and all others are alike
 pub binary_same : (op : BinaryOperator) (of : WordType) (u v : ℕ) → binary_word (binary_operation op of) u v ≡ binary_value op of u v
-binary_same operator.Multiply of u v = refl
-binary_same operator.Divide of u v = refl
-binary_same operator.Remainder of u v = refl
-binary_same operator.Add of u v = refl
-binary_same operator.Subtract of u v = refl
 binary_same operator.Less Int u v = refl
 binary_same operator.Less Unsigned u v = refl
 binary_same operator.LessEqual Int u v = refl
@@ -216,11 +212,7 @@ binary_same operator.Greater Int u v = refl
 binary_same operator.Greater Unsigned u v = refl
 binary_same operator.GreaterEqual Int u v = refl
 binary_same operator.GreaterEqual Unsigned u v = refl
-binary_same operator.Equal of u v = refl
-binary_same operator.NotEqual of u v = refl
-binary_same operator.And of u v = refl
-binary_same operator.Xor of u v = refl
-binary_same operator.Or of u v = refl
+binary_same _ of u v = refl
 
 shifted_same : (op : ShiftOperator) (of : WordType) (v k : ℕ) → shifted_word (shift_operation op of) v k ≡ shifted_value op of v k
 shifted_same shift_operator.Left of v k = refl
