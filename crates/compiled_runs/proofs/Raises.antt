@@ -1,18 +1,15 @@
 -- A power-up with GATE 0 raises VER.
-use Rattle.std.proofs.Common.{◌≡◌, ◌<◌, ◌+◌, ℕ, sym, ap, ◌∙◌, subst, [], ◌∷◌, length, arith}
-use Rattle.compiled_model.specs.machine_effects.World.{put}
-use Rattle.compiled_model.specs.machine_effects.Going.{Status, At, going}
-use Rattle.compiled_model.specs.machine_effects.Machine.{MachineBoard}
+use Rattle.std.proofs.Common.{◌≡◌, ◌<◌, ◌+◌, sym, ap, ◌∙◌, arith}
+use Rattle.compiled_model.specs.machine_effects.Going.{At, going}
 use Rattle.compiled_model.proofs.machine_effects.Interface.{put_same}
 use Rattle.compiled_model.specs.code_forms.Forms.{board_of}
-use Rattle.compiled_model.specs.source_values.Runs.{CheckedProgram}
 use Rattle.compiled_model.specs.memory_map.declared.words.RuntimeWord.TheVariants.{Gate, Version}
-use Rattle.compiled_model.specs.memory_map.MemoryMap.{MemoryMap, word_place}
+use Rattle.compiled_model.specs.memory_map.MemoryMap.{word_place}
 use Rattle.compiled_model.specs.lower.Lowered.{lowered}
 use Rattle.compiled_model.specs.linked_code.Linked.{ProgramsAreWhole}
 use Rattle.compiled_model.proofs.linked_code.Interface.{programs_count, to_raised}
-use Rattle.compiled_runs.specs.Program.{IsBooting, compiled_program}
-use Rattle.compiled_runs.specs.Laws.{CanRun, PowerUpsRaiseVersion}
+use Rattle.compiled_runs.specs.Program.{compiled_program}
+use Rattle.compiled_runs.specs.Laws.{PowerUpsRaiseVersion}
 
 pub power_ups_raise_version : PowerUpsRaiseVersion
 power_ups_raise_version p l r b boots gate below t leads =

@@ -1,14 +1,14 @@
 -- The world at the last boot or done is the world of a front.
-use Rattle.std.proofs.Common.{◌≡◌, ℕ, refl, sym, ap, ◌∙◌, subst, true, false, cond, List, [], ◌∷◌, ◌++◌, Ok}
+use Rattle.std.proofs.Common.{◌≡◌, ℕ, refl, sym, ap, subst, true, false, cond, List, [], ◌∷◌, ◌++◌, Ok}
 use Rattle.crash_rules.specs.msp_isa.declared.instructions.Instr.{Instr}
 use Rattle.crash_rules.specs.fram_board.declared.board.Stepped.{Stepped}
 use Rattle.crash_rules.specs.fram_board.Board.{BoardValue, executed, IsNextInstruction}
 use Rattle.crash_rules.specs.fram_board.Effects.{Effect}
-use Rattle.crash_rules.specs.fram_board.Run.{Moment, moment_of, power_up_of}
+use Rattle.crash_rules.specs.fram_board.Run.{Moment, moment_of}
 use Rattle.crash_rules.specs.machine_effects.World.{World, world_after}
 use Rattle.crash_rules.specs.machine_effects.View.{IsWhole, IsOfWords}
 use Rattle.crash_rules.proofs.machine_effects.Interface.{power_up_keeps_words}
-use Rattle.crash_rules.specs.History.{History, is_done, is_decide, behind_done, behind_decide, behind_gate, behind_boot}
+use Rattle.crash_rules.specs.History.{History, is_done, is_decide, behind_done, behind_decide, behind_gate}
 use Rattle.crash_rules.proofs.Interface.{with_effects, observed_world}
 use Rattle.run_charges.specs.Charges.{behind_action, observed}
 use Rattle.run_charges.proofs.Interface.{IsMomentFrom, PowersUp, Instructs, AreMoments, told, whole_after, words_after, one_write}

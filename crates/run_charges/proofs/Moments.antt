@@ -18,7 +18,7 @@ use Rattle.crash_rules.specs.fram_board.Run as run
 use Rattle.crash_rules.proofs.fram_board.Interface.{step_makes_its_effects, data_not_fram}
 use Rattle.crash_rules.specs.machine_effects.World.{fram_after, received, accepted_after, readings_taken}
 use Rattle.crash_rules.specs.machine_effects.Going.{Goes, At, stretch}
-use Rattle.crash_rules.specs.machine_effects.Machine.{MachineBus, MachineBoard, MachineOutcome, MachineRun, Stays, Steps, word_address, IsMachineStep, machine_bus, machine_opened, machine_outcome}
+use Rattle.crash_rules.specs.machine_effects.Machine.{MachineBus, MachineBoard, MachineOutcome, Stays, Steps, word_address, IsMachineStep, machine_bus, machine_opened, machine_outcome}
 use Rattle.crash_rules.specs.machine_effects.Machine.{machine_executed, fram_of}
 use Rattle.crash_rules.specs.machine_effects.View.{machine_of, IsWhole, IsOfWords, outcome_of_answer}
 use Rattle.crash_rules.specs.machine_effects.Runs.{action_effects, moments_effects, moments_cycles, last_board, ReachesAs}
