@@ -18,6 +18,7 @@ fn logic_flags(width: Width, r: u16, v: bool) -> Flags
 }
 
 /// The bits that d and s share, as AND and BIT give it; C is not Z, V is clear.
+#[inline(always)]
 pub fn and(width: Width, d: u16, s: u16) -> (u16, Flags)
     ensures { result ≡ and_of width d s }
 {
@@ -26,6 +27,7 @@ pub fn and(width: Width, d: u16, s: u16) -> (u16, Flags)
 }
 
 /// The bits in which d and s differ, as XOR gives it; C is not Z, V says that both are negative.
+#[inline(always)]
 pub fn xor(width: Width, d: u16, s: u16) -> (u16, Flags)
     ensures { result ≡ xor_of width d s }
 {

@@ -6,6 +6,7 @@ ghost use Rattle.alp_words.specs.Words.{sum_of, difference_of, decimal_digit, de
 use crate::{Flags, Width};
 
 /// The sum d + s + carry in this width, as ADD (carry false) and ADDC give it, with all four flags.
+#[inline(always)]
 pub fn add(width: Width, d: u16, s: u16, carry: bool) -> (u16, Flags)
     ensures { result ≡ sum_of width d s carry }
 {
@@ -24,6 +25,7 @@ pub fn add(width: Width, d: u16, s: u16, carry: bool) -> (u16, Flags)
 }
 
 /// The difference d + not s + carry in this width, as SUB and CMP (carry true) and SUBC give it, with all four flags.
+#[inline(always)]
 pub fn sub(width: Width, d: u16, s: u16, carry: bool) -> (u16, Flags)
     ensures { result ≡ difference_of width d s carry }
 {

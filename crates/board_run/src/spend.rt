@@ -25,6 +25,7 @@ pub enum Turn {
 }
 
 // What an instruction takes off a charge.
+#[inline(always)]
 fn price(kind: ChargeKind, instruction: &Instr) -> u32
     ensures { result ≡ price (measure_of kind) instruction.now }
 {
@@ -35,6 +36,7 @@ fn price(kind: ChargeKind, instruction: &Instr) -> u32
 }
 
 // The board's next instruction is executed, if what is left of the charge pays for it.
+#[inline(always)]
 fn execute<S: Sink>(
     board: &mut Board,
     instruction: &Instr,
@@ -65,6 +67,7 @@ fn execute<S: Sink>(
 }
 
 // One turn of a charge of which so much is left.
+#[inline(always)]
 fn take_turn<S: Sink>(
     board: &mut Board,
     kind: ChargeKind,

@@ -81,6 +81,7 @@ impl<'a> Watch<'a> {
     }
 
     /// An instruction was executed, which left this board: its lines are written.
+    #[inline(always)]
     pub fn note<S: Sink>(
         &mut self,
         done: &Stepped,
@@ -111,6 +112,7 @@ fn sum_of(words: &[u16]) -> u16
 }
 
 // The line of the word that an instruction made the receiver accept, if it did.
+#[inline(always)]
 fn write_accepted<S: Sink>(done: &Stepped, report: &mut Report<'_, S>) -> Result<(), Failed>
     ensures same_sink { report.new.sink.ghost_name ≡ report.old.sink.ghost_name }
     ensures bytes { Writes (S.contents report.old.sink.now) (S.contents report.new.sink.now) result (flat_map accepted_line (word_list done.now.accepted)) }

@@ -55,6 +55,7 @@ impl Model for Board {
 }
 
 /// The receiver hears the word that an instruction offered. Answers the word if it is accepted.
+#[inline(always)]
 fn receive(devices: &mut Devices, receiver: &mut Receiver) -> Option<u16>
     requires accepted { receiver.old.accepted < 2 ^ 64 - 1 }
     requires repeats { receiver.old.repeats < 2 ^ 64 - 1 }
@@ -117,6 +118,7 @@ impl Board {
 
     /// Executes an instruction as the one at PC. Stops with a `Bus` fault or `NoReading` at its first access that isn't
     /// served: then all is as before, but for the readings that it had taken, which stay taken.
+    #[inline(always)]
     pub fn execute(&mut self, instruction: &Instr) -> Result<Stepped, Stop>
         requires accepted { self.old.receiver.accepted < 2 ^ 64 - 1 }
         requires repeats { self.old.receiver.repeats < 2 ^ 64 - 1 }

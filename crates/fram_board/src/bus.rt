@@ -241,6 +241,7 @@ impl Bus for Devices {
 
     ghost reads_keep_memory = { λ s a. elim [ Word ↦ refl | Byte ↦ refl ] };
 
+    #[inline(always)]
     fn fetch(&self, address: u16) -> Result<u16, Refused> {
         if is_word(address) {
             Ok(self.word(address))
@@ -249,6 +250,7 @@ impl Bus for Devices {
         }
     }
 
+    #[inline(always)]
     fn read(&mut self, address: u16, width: Width) -> Result<u16, Refused> {
         match width {
             Width::Word => {
@@ -270,6 +272,7 @@ impl Bus for Devices {
         }
     }
 
+    #[inline(always)]
     fn write(&mut self, address: u16, width: Width, value: u16) -> Result<(), Refused> {
         match width {
             Width::Word => {

@@ -83,6 +83,7 @@ const CALL: CycleRow = CycleRow {
 };
 
 impl CycleRow {
+    #[inline(always)]
     fn at_operand(self, operand: Operand) -> u32
         ensures { result ≡ operand_cycles (cycle_row self.register self.indirect self.increment self.immediate self.indexed self.symbolic self.absolute) operand }
     {
@@ -96,6 +97,7 @@ impl CycleRow {
         }
     }
 
+    #[inline(always)]
     fn at_source(self, src: Src) -> u32
         ensures { result ≡ source_cycles (cycle_row self.register self.indirect self.increment self.immediate self.indexed self.symbolic self.absolute) src }
     {
@@ -108,6 +110,7 @@ impl CycleRow {
 }
 
 /// The cycles of an instruction, 1 to 6, by its form and addressing modes. A jump takes 2, taken or not.
+#[inline(always)]
 pub fn cycles(instruction: &Instr) -> u32
     ensures value { result ≡ cycles_of instruction.now }
     ensures low { 1 ≤ result }

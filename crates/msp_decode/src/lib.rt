@@ -24,6 +24,7 @@ fn width_at(w0: u16) -> Width
     }
 }
 
+#[inline(always)]
 fn jump_at(w0: u16) -> Instr
     requires low { 0x2000 ≤ w0 }
     requires below { w0 < 0x4000 }
@@ -44,6 +45,7 @@ fn word_after(src: Src, w1: u16, w2: u16) -> u16
     if src.words() == 0 { w1 } else { w2 }
 }
 
+#[inline(always)]
 fn two_at(w0: u16, w1: u16, w2: u16) -> Option<Instr>
     requires { 0x4000 ≤ w0 }
     ensures fits { IfSome result IsInstruction }
@@ -67,6 +69,7 @@ fn two_at(w0: u16, w1: u16, w2: u16) -> Option<Instr>
 }
 
 /// An instruction of one operand, or RETI.
+#[inline(always)]
 #[tactic(auto, using(crate::proofs::Fields::one_fields, crate::proofs::Fields::same_width))]
 fn one_at(w0: u16, w1: u16) -> Option<Instr>
     requires low { 0x1000 ≤ w0 }
@@ -112,6 +115,7 @@ fn one_at(w0: u16, w1: u16) -> Option<Instr>
     }
 }
 
+#[inline(always)]
 #[tactic(auto, using(crate::proofs::Fields::first_low, crate::proofs::Fields::prefix_first))]
 fn instruction_at(w0: u16, w1: u16, w2: u16) -> Option<Instr>
     ensures fits { IfSome result IsInstruction }
@@ -153,6 +157,7 @@ pub fn decode(w0: u16, w1: u16, w2: u16) -> Result<(Instr, usize), Illegal>
 
 /// How many words the instructions have that begin with this word: 1 to 3. `Illegal` has the word, and comes exactly where
 /// it begins no instruction.
+#[inline(always)]
 pub fn words_of(w0: u16) -> Result<usize, Illegal>
     ensures short { IfOk result (λ n. (1 ≤ n) × (n < 4)) }
     ensures found { IfOk result (λ n. (i : Instr) × IsInstruction i × (first_word i ≡ w0) × (length (encoding i) ≡ n)) }

@@ -6,6 +6,7 @@ ghost use Rattle.msp_isa.specs.Encoding.{operand_row, source_row, destination_ro
 use msp_isa::{Dst, IndexRegister, IndirectRegister, Konst, Operand, Reg, SourceRegister, Src};
 
 /// The source operand of As and a register's number; `word` is its extension word, if it takes one.
+#[inline(always)]
 pub fn source_at(mode: u16, register: u16, word: u16) -> Src
     requires mode { mode < 4 }
     requires register { register < 16 }
@@ -44,6 +45,7 @@ pub fn source_at(mode: u16, register: u16, word: u16) -> Src
 }
 
 /// The same for an operation that takes no immediate and no constant.
+#[inline(always)]
 pub fn operand_at(mode: u16, register: u16, word: u16) -> Option<Operand>
     requires mode { mode < 4 }
     requires register { register < 16 }
@@ -58,6 +60,7 @@ pub fn operand_at(mode: u16, register: u16, word: u16) -> Option<Operand>
 }
 
 /// The destination operand of Ad and a register's number; none for R3 in memory.
+#[inline(always)]
 pub fn destination_at(mode: u16, register: u16, word: u16) -> Option<Dst>
     requires mode { mode < 2 }
     requires register { register < 16 }

@@ -99,6 +99,7 @@ impl TwoOp {
     }
 
     /// The operation of this opcode.
+    #[inline(always)]
     pub fn from_opcode(n: u16) -> TwoOp
         requires low { 4 ≤ n }
         requires below { n < 16 }
@@ -141,6 +142,7 @@ impl Condition {
     }
 
     /// The condition of this number.
+    #[inline(always)]
     pub fn from_number(n: u16) -> Condition
         requires { n < 8 }
         ensures found { condition_number result ≡ n }
@@ -161,6 +163,7 @@ impl Condition {
 
 impl Instr {
     /// How many words the instruction has: 1 to 3.
+    #[inline(always)]
     pub fn words(&self) -> usize
         ensures value { result ≡ length (encoding self.now) }
         ensures low { 1 ≤ result }

@@ -71,6 +71,7 @@ impl Konst {
 
 impl Operand {
     /// How many extension words the operand takes: 0 or 1.
+    #[inline(always)]
     pub fn words(self) -> usize
         ensures value { result ≡ length (operand_row self).extension }
         ensures below { result < 2 }
@@ -84,6 +85,7 @@ impl Operand {
 
 impl Src {
     /// How many extension words the operand takes: 0 or 1.
+    #[inline(always)]
     pub fn words(self) -> usize
         ensures value { result ≡ length (source_row self).extension }
         ensures below { result < 2 }
@@ -98,6 +100,7 @@ impl Src {
 
 impl Dst {
     /// How many extension words the operand takes: 0 or 1.
+    #[inline(always)]
     pub fn words(self) -> usize
         ensures value { result ≡ length (destination_row self).extension }
         ensures below { result < 2 }

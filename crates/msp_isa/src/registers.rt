@@ -47,6 +47,7 @@ pub enum Reg {
 
 impl IndexRegister {
     /// The register's number: 1, or 4 to 15.
+    #[inline(always)]
     pub fn number(self) -> u16
         ensures value { result ≡ index_number self }
         ensures below { result < 16 }
@@ -69,6 +70,7 @@ impl IndexRegister {
     }
 
     /// The register of this number.
+    #[inline(always)]
     pub fn from_number(n: u16) -> IndexRegister
         requires below { n < 16 }
         requires not_pc { n ≢ 0 }
@@ -97,6 +99,7 @@ impl IndexRegister {
 
 impl SourceRegister {
     /// The register's number, 0 to 15 and not 3.
+    #[inline(always)]
     pub fn number(self) -> u16
         ensures value { result ≡ source_number self }
         ensures below { result < 16 }
@@ -111,6 +114,7 @@ impl SourceRegister {
 
 impl IndirectRegister {
     /// The register's number: 0, 1, or 4 to 15.
+    #[inline(always)]
     pub fn number(self) -> u16
         ensures value { result ≡ indirect_number self }
         ensures below { result < 16 }
@@ -124,6 +128,7 @@ impl IndirectRegister {
 
 impl Reg {
     /// The register's number, 0 to 15.
+    #[inline(always)]
     pub fn number(self) -> u16
         ensures value { result ≡ register_number self }
         ensures below { result < 16 }
@@ -137,6 +142,7 @@ impl Reg {
     }
 
     /// The register of this number.
+    #[inline(always)]
     pub fn from_number(n: u16) -> Reg
         requires { n < 16 }
         ensures found { register_number result ≡ n }

@@ -44,6 +44,7 @@ fn flagged(p: (u16, Flags)) -> (u16, Option<Flags>)
     (p.0, Some(p.1))
 }
 
+#[inline(always)]
 fn operated(op: TwoOp, width: Width, d: u16, s: u16, f: Flags) -> (u16, Option<Flags>)
     ensures value { result.0 ≡ (operated op width d s f).value }
     ensures flags { result.1 ≡ (operated op width d s f).flags }
@@ -64,6 +65,7 @@ fn operated(op: TwoOp, width: Width, d: u16, s: u16, f: Flags) -> (u16, Option<F
     }
 }
 
+#[inline(always)]
 fn destination_operand<B: Bus>(
     op: TwoOp,
     cpu: &Cpu,
@@ -88,6 +90,7 @@ fn set_flags(cpu: &mut Cpu, flags: Option<Flags>)
     }
 }
 
+#[inline(always)]
 fn finish<B: Bus>(
     op: TwoOp,
     cpu: &mut Cpu,
@@ -105,6 +108,7 @@ fn finish<B: Bus>(
 }
 
 /// What follows the source operand.
+#[inline(always)]
 fn after_source<B: Bus>(
     cpu: &mut Cpu,
     bus: &mut B,
@@ -122,6 +126,7 @@ fn after_source<B: Bus>(
 }
 
 /// An instruction of two operands.
+#[inline(always)]
 pub fn two_operand_effect<B: Bus>(
     cpu: &mut Cpu,
     bus: &mut B,
@@ -159,6 +164,7 @@ fn is_met(condition: Condition, f: Flags) -> bool
 }
 
 /// A jump.
+#[inline(always)]
 pub fn jump_effect(cpu: &mut Cpu, condition: Condition, offset: Offset)
     ensures { registers_of cpu.new ≡ jump_effect condition offset (registers_of cpu.old) }
 {

@@ -43,6 +43,7 @@ pub struct Stepped {
 }
 
 /// The word at an address, which belongs to the instruction at PC.
+#[inline(always)]
 fn fetch<B: Bus>(bus: &B, pc: u16, address: u16) -> Result<u16, Stop>
     ensures found { IfOk result (λ w. B.model.fetches bus.now address ≡ Some w) }
     ensures none { IfErr result (λ e. (e ≡ Stop.Bus pc address) × (B.model.fetches bus.now address ≡ None)) }
@@ -116,6 +117,7 @@ fn perform_one_operand<B: Bus>(
 }
 
 /// The effect of an instruction.
+#[inline(always)]
 #[tactic(auto, unfolding(crate::specs::Step::effect))]
 fn perform<B: Bus>(cpu: &mut Cpu, bus: &mut B, i: &Instr) -> Result<Option<(u16, u16)>, Fault>
     ensures { answer (λ a. (registers_of cpu.new, a)) result bus.new ≡ effect B.model i.now (registers_of cpu.old) bus.old }
@@ -161,6 +163,7 @@ fn stop_of(pc: u16, fault: Fault) -> Stop
 /// Executes an instruction as the one at PC. It answers the instruction's cycles and the address of its write; or, at
 /// the first access that the bus refuses, `Bus` with that address or `NoReading`: then the registers and the memory are
 /// as before, and readings that the instruction had taken stay taken.
+#[inline(always)]
 pub fn execute<B: Bus>(cpu: &mut Cpu, bus: &mut B, instruction: &Instr) -> Result<Stepped, Stop>
     ensures executes { (record { answer = result; registers = registers_of cpu.new; bus = bus.new }) ≡ execution B.model instruction.now (registers_of cpu.old) bus.old }
     ensures cpu { OnErr result (cpu.new ≡ cpu.old) }

@@ -52,6 +52,7 @@ fn index_word(cpu: &Cpu, b: IndexRegister) -> u16
     cpu.word(usize::from(b.number()))
 }
 
+#[inline(always)]
 pub fn operand_location(cpu: &Cpu, ext: u16, p: Operand) -> Location
     ensures { result ≡ operand_location (registers_of cpu.now) ext p }
 {
@@ -66,6 +67,7 @@ pub fn operand_location(cpu: &Cpu, ext: u16, p: Operand) -> Location
     }
 }
 
+#[inline(always)]
 pub fn destination_location(cpu: &Cpu, ext: u16, d: Dst) -> Location
     ensures { result ≡ destination_location (registers_of cpu.now) ext d }
 {
@@ -77,6 +79,7 @@ pub fn destination_location(cpu: &Cpu, ext: u16, d: Dst) -> Location
     }
 }
 
+#[inline(always)]
 pub fn read_at<B: Bus>(bus: &mut B, address: u16, width: Width) -> Result<u16, Fault>
     ensures { answer (λ v. v) result bus.new ≡ read_at B.model address width bus.old }
 {
@@ -87,6 +90,7 @@ pub fn read_at<B: Bus>(bus: &mut B, address: u16, width: Width) -> Result<u16, F
 }
 
 /// The operand at a location.
+#[inline(always)]
 pub fn load<B: Bus>(cpu: &Cpu, bus: &mut B, width: Width, at: Location) -> Result<u16, Fault>
     ensures { answer (λ v. v) result bus.new ≡ load B.model (registers_of cpu.now) width at bus.old }
 {
@@ -97,6 +101,7 @@ pub fn load<B: Bus>(cpu: &Cpu, bus: &mut B, width: Width, at: Location) -> Resul
 }
 
 /// The one write; the address, if it goes to memory.
+#[inline(always)]
 pub fn store<B: Bus>(
     cpu: &mut Cpu,
     bus: &mut B,
@@ -122,6 +127,7 @@ pub fn store<B: Bus>(
 }
 
 /// Raises the register of an operand with increment.
+#[inline(always)]
 pub fn increment(cpu: &mut Cpu, width: Width, p: Operand)
     ensures { registers_of cpu.new ≡ incremented (registers_of cpu.old) width p }
 {
@@ -137,6 +143,7 @@ pub fn increment(cpu: &mut Cpu, width: Width, p: Operand)
 }
 
 /// A source operand, with its increment. PC stands behind the operation word.
+#[inline(always)]
 pub fn source<B: Bus>(cpu: &mut Cpu, bus: &mut B, width: Width, s: Src) -> Result<u16, Fault>
     ensures { answer (λ v. (v, registers_of cpu.new)) result bus.new ≡ source B.model (registers_of cpu.old) width s bus.old }
 {
