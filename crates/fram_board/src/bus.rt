@@ -1,6 +1,6 @@
 //! Memory and ports.
 
-ghost use Rattle.std.specs.Prelude.{◌≡◌, ◌∷◌, ℕ, ◌<◌, ◌≤◌, ◌+◌, ◌-◌, length, IsTrue, OnOk, OnErr, IfOk, IfErr, Some, None};
+ghost use Rattle.std.specs.Prelude.{◌≡◌, ◌==◌, ◌%◌, if◌then◌else◌, ◌∷◌, ℕ, ◌<◌, ◌≤◌, ◌+◌, ◌-◌, length, IsTrue, OnOk, OnErr, IfOk, IfErr, IfSome, IfNone, Some, None, false};
 ghost use Rattle.std.proofs.Common.{refl};
 ghost use Rattle.alp_words.specs.declared.Width.TheVariants.{Word, Byte};
 ghost use Rattle.image_text.specs.ImageValue.{word_at};
@@ -65,10 +65,10 @@ fn is_memory(address: u16) -> bool
     0x4400 <= address || is_ram(address)
 }
 
-fn is_word(address: u16) -> bool
-    ensures { result ≡ is_word address }
+fn is_even(address: u16) -> bool
+    ensures { result ≡ ((address % 2) == 0) }
 {
-    address % 2 == 0 && is_memory(address)
+    address % 2 == 0
 }
 
 /// The byte of a word that stands at an address.
@@ -150,6 +150,42 @@ impl Devices {
         }
     }
 
+    /// The word at an even address of memory; nothing at another address. The FRAM, where the code is, comes first.
+    #[inline(always)]
+    fn whole_word(&self, address: u16) -> Option<u16>
+        ensures found { IfSome result (λ word. IsTrue (is_word address) × (word ≡ memory_word self.now address)) }
+        ensures none { IfNone result (is_word address ≡ false) }
+    {
+        if !is_even(address) {
+            None
+        } else if 0x4400 <= address {
+            Some(self.fram[usize::from((address - 0x4400) / 2)])
+        } else if is_ram(address) {
+            Some(self.ram[usize::from((address - 0x1c00) / 2)])
+        } else {
+            None
+        }
+    }
+
+    /// Sets the word at an even address of memory, and answers whether there is one.
+    #[inline(always)]
+    fn set_whole_word(&mut self, address: u16, word: u16) -> bool
+        ensures set { result ≡ is_word address }
+        ensures state { self.new ≡ if is_word address then with_word self.old address word else self.old }
+    {
+        if !is_even(address) {
+            false
+        } else if 0x4400 <= address {
+            self.fram[usize::from((address - 0x4400) / 2)] = word;
+            true
+        } else if is_ram(address) {
+            self.ram[usize::from((address - 0x1c00) / 2)] = word;
+            true
+        } else {
+            false
+        }
+    }
+
     /// Sets that word.
     fn set_word(&mut self, address: u16, word: u16)
         requires { IsTrue (is_memory address) }
@@ -166,7 +202,7 @@ impl Devices {
     pub fn fram_word(&self, address: u16) -> Option<u16>
         ensures { result ≡ word_at self.now.fram address }
     {
-        if address >= 0x4400 && address % 2 == 0 {
+        if address >= 0x4400 && is_even(address) {
             Some(self.fram[usize::from((address - 0x4400) / 2)])
         } else {
             None
@@ -243,10 +279,9 @@ impl Bus for Devices {
 
     #[inline(always)]
     fn fetch(&self, address: u16) -> Result<u16, Refused> {
-        if is_word(address) {
-            Ok(self.word(address))
-        } else {
-            Err(Refused::Bus)
+        match self.whole_word(address) {
+            Some(word) => Ok(word),
+            None => Err(Refused::Bus),
         }
     }
 
@@ -254,12 +289,10 @@ impl Bus for Devices {
     fn read(&mut self, address: u16, width: Width) -> Result<u16, Refused> {
         match width {
             Width::Word => {
-                if is_word(address) {
-                    Ok(self.word(address))
-                } else if address == SENSOR {
-                    self.take_reading()
-                } else {
-                    Err(Refused::Bus)
+                match self.whole_word(address) {
+                    Some(word) => Ok(word),
+                    None if address == SENSOR => self.take_reading(),
+                    None => Err(Refused::Bus),
                 }
             }
             Width::Byte => {
@@ -276,8 +309,7 @@ impl Bus for Devices {
     fn write(&mut self, address: u16, width: Width, value: u16) -> Result<(), Refused> {
         match width {
             Width::Word => {
-                if is_word(address) {
-                    self.set_word(address, value);
+                if self.set_whole_word(address, value) {
                     Ok(())
                 } else {
                     self.write_port(address, value)
