@@ -1,7 +1,7 @@
 //! One charge of a run.
 ghost use Rattle.std.specs.Prelude.{◌≡◌, ◌+◌, ◌-◌, ◌^◌, ◌<◌, ◌≤◌};
 ghost use Rattle.alp_io.specs.Count.{HasCause};
-ghost use Rattle.fram_board.specs.Board.{IsNextInstruction};
+ghost use Rattle.fram_board.specs.Board.{IsNextInstruction, AreNextWords};
 ghost use Rattle.fram_board.specs.Run.{price};
 ghost use Rattle.board_run.specs.Charges.{measure_of};
 ghost use Rattle.board_run.specs.Parts.{IsTurn, IsSpent};
@@ -11,8 +11,9 @@ use alp_io::{Failed, Report, Sink};
 use energy_trace::ChargeKind;
 use fram_board::Board;
 use msp_cycles::cycles;
+use msp_decode::{jump_instruction, one_operand_instruction, two_operand_instruction};
 use msp_isa::Instr;
-use msp_step::Stop;
+use msp_step::{Stop, Words};
 
 /// What a turn of a charge came to.
 pub enum Turn {
@@ -66,6 +67,42 @@ fn execute<S: Sink>(
     Ok(Turn::Left(left - price))
 }
 
+// The same of the instruction that these words are. The compiler makes each call's code for its form alone.
+#[inline(always)]
+fn execute_words<S: Sink>(
+    board: &mut Board,
+    words: Words,
+    kind: ChargeKind,
+    left: u32,
+    watch: &mut Watch<'_>,
+    report: &mut Report<'_, S>,
+) -> Result<Turn, Failed>
+    requires next { AreNextWords board.old words }
+    requires some { 0 < left }
+    requires accepted { board.old.receiver.accepted < 2 ^ 64 - 1 }
+    requires repeats { board.old.receiver.repeats < 2 ^ 64 - 1 }
+    ensures same_sink { report.new.sink.ghost_name ≡ report.old.sink.ghost_name }
+    ensures turn { IsTurn watch.old (measure_of kind) left board.old
+        (S.contents report.old.sink.now) (S.contents report.new.sink.now) result board.new watch.new }
+    ensures cause { HasCause (S.faults report.old.sink.now) (S.faults report.new.sink.now) result }
+{
+    let Words {
+        first,
+        second,
+        third,
+    } = words;
+    if first >= 0x4000 {
+        let instruction = two_operand_instruction(first, second, third);
+        execute(board, &instruction, kind, left, watch, report)
+    } else if first >= 0x2000 {
+        let jump = jump_instruction(first);
+        execute(board, &jump, kind, left, watch, report)
+    } else {
+        let instruction = one_operand_instruction(first, second);
+        execute(board, &instruction, kind, left, watch, report)
+    }
+}
+
 // One turn of a charge of which so much is left.
 #[inline(always)]
 fn take_turn<S: Sink>(
@@ -85,8 +122,8 @@ fn take_turn<S: Sink>(
     if left == 0 {
         return Ok(Turn::Spent);
     }
-    match board.current_instruction() {
-        Ok(instruction) => execute(board, &instruction, kind, left, watch, report),
+    match board.current_words() {
+        Ok(words) => execute_words(board, words, kind, left, watch, report),
         Err(stop) => Ok(Turn::Stopped(stop)),
     }
 }

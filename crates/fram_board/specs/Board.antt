@@ -3,8 +3,9 @@ use Rattle.std.specs.Prelude.{ℕ, ◌+◌, ◌-◌, ◌%◌, ◌≡◌, ◌<◌
 use Rattle.msp_isa.specs.declared.instructions.Instr.{Instr}
 use Rattle.msp_step.specs.declared.machine.Stop.{Stop}
 use Rattle.msp_step.specs.declared.machine.Stepped as cpu
+use Rattle.msp_step.specs.declared.machine.Words.{Words}
 use Rattle.msp_step.specs.Registers.{Registers, registers_of, kept, powered_up}
-use Rattle.msp_step.specs.Step.{Outcome, IsCurrentInstruction, IsStopped, StepResult, Costs, execution}
+use Rattle.msp_step.specs.Step.{Outcome, AreCurrentWords, IsCurrentInstruction, IsStopped, StepResult, Costs, execution}
 use Rattle.image_text.specs.ImageValue.{place_of}
 use Rattle.fram_board.specs.declared.board.Stepped.{Stepped}
 use Rattle.fram_board.specs.declared.receiver.Receiver.{Receiver}
@@ -149,6 +150,10 @@ board_outcome b o = record {
 -- this instruction is the one at PC, and CPUOFF is clear
 abbrev pub IsNextInstruction : BoardValue → Instr → Type 0
 IsNextInstruction b i = IsCurrentInstruction board_bus (registers_of b.cpu) (opened b) i
+
+-- these words stand at PC, and CPUOFF is clear
+abbrev pub AreNextWords : BoardValue → Words → Type 0
+AreNextWords b words = AreCurrentWords board_bus (registers_of b.cpu) (opened b) words
 
 -- CPUOFF is set, or no instruction can be had at PC
 abbrev pub IsStoppedBy : BoardValue → Stop → Type 0

@@ -2,14 +2,14 @@
 
 ghost use Rattle.std.specs.Prelude.{◌≡◌, ℕ, ◌+◌, ◌-◌, ◌^◌, ◌<◌, ◌≤◌, length, None, IfOk, IfErr, OnErr};
 ghost use Rattle.image_text.specs.ImageValue.{word_at};
-ghost use Rattle.fram_board.specs.Board.{accepted_word, receiver_after, fresh, powered, filled, executed, IsNextInstruction, IsStoppedBy, BoardCosts, IsStepOf, KeepsAllButTaken, OffersOneAtMost, IsBoard};
+ghost use Rattle.fram_board.specs.Board.{accepted_word, receiver_after, fresh, powered, filled, executed, IsNextInstruction, AreNextWords, IsStoppedBy, BoardCosts, IsStepOf, KeepsAllButTaken, OffersOneAtMost, IsBoard};
 
 use crate::bus::Devices;
 use crate::receiver::Receiver;
 use image_text::Image;
 use msp_cycles::cycles;
 use msp_isa::{Instr, Reg};
-use msp_step::{Cpu, Stop, current_instruction, execute};
+use msp_step::{Cpu, Stop, Words, current_instruction, current_words, execute};
 use std::alloc::{AllocError, Global};
 use std::marker::Model;
 
@@ -95,6 +95,15 @@ impl Board {
     {
         self.devices.power_up(fill);
         self.cpu = Cpu::new(self.devices.vector(), fill);
+    }
+
+    /// The words of the instruction at PC, or why none is executed. Stops with the causes of `current_instruction`.
+    #[inline(always)]
+    pub fn current_words(&self) -> Result<Words, Stop>
+        ensures found { IfOk result (λ words. AreNextWords self.now words) }
+        ensures none { IfErr result (λ stop. IsStoppedBy self.now stop) }
+    {
+        current_words(&self.cpu, &self.devices)
     }
 
     /// The instruction at PC, or why none is executed: `Off` where CPUOFF is set, a `Bus` fault of a fetch, or

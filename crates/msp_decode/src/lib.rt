@@ -155,6 +155,46 @@ pub fn decode(w0: u16, w1: u16, w2: u16) -> Result<(Instr, usize), Illegal>
     }
 }
 
+/// The instruction of two operands that these three words begin with.
+#[inline(always)]
+pub fn two_operand_instruction(w0: u16, w1: u16, w2: u16) -> Instr
+    requires form { 0x4000 ≤ w0 }
+    requires legal { (i : Instr) × IsInstruction i × (first_word i ≡ w0) }
+    ensures fits { IsInstruction result }
+    ensures found { IsPrefix (encoding result) (w0 ∷ w1 ∷ w2 ∷ []) }
+{
+    match two_at(w0, w1, w2) {
+        Some(instruction) => instruction,
+        None => unreachable!(),
+    }
+}
+
+/// The instruction of one operand, or RETI, that these two words begin with.
+#[inline(always)]
+pub fn one_operand_instruction(w0: u16, w1: u16) -> Instr
+    requires low { 0x1000 ≤ w0 }
+    requires below { w0 < 0x2000 }
+    requires legal { (i : Instr) × IsInstruction i × (first_word i ≡ w0) }
+    ensures fits { IsInstruction result }
+    ensures found { (w2 : ℕ) → IsPrefix (encoding result) (w0 ∷ w1 ∷ w2 ∷ []) }
+{
+    match one_at(w0, w1) {
+        Some(instruction) => instruction,
+        None => unreachable!(),
+    }
+}
+
+/// The jump that this word is.
+#[inline(always)]
+pub fn jump_instruction(w0: u16) -> Instr
+    requires low { 0x2000 ≤ w0 }
+    requires below { w0 < 0x4000 }
+    ensures fits { IsInstruction result }
+    ensures found { (w1 w2 : ℕ) → IsPrefix (encoding result) (w0 ∷ w1 ∷ w2 ∷ []) }
+{
+    jump_at(w0)
+}
+
 /// How many words the instructions have that begin with this word: 1 to 3. `Illegal` has the word, and comes exactly where
 /// it begins no instruction.
 #[inline(always)]

@@ -6,13 +6,14 @@ use Rattle.msp_isa.specs.declared.instructions.Instr.TheVariants as instr
 use Rattle.alp_words.specs.declared.Width.TheVariants.{Word}
 use Rattle.msp_isa.specs.declared.instructions.OneOp.{OneOp}
 use Rattle.msp_isa.specs.declared.instructions.OneOp.TheVariants as one
-use Rattle.msp_isa.specs.Encoding.{encoding, IsInstruction, IsIllegal, first_word}
+use Rattle.msp_isa.specs.Encoding.{encoding, IsInstruction, IsIllegal, IsPrefix, first_word}
 use Rattle.msp_cycles.specs.Cycles.{cycles_of}
 use Rattle.msp_step.specs.declared.bus.Refused.{Refused}
 use Rattle.msp_step.specs.declared.bus.Refused.TheVariants as refused
 use Rattle.msp_step.specs.declared.machine.Stop.{Stop}
 use Rattle.msp_step.specs.declared.machine.Stop.TheVariants as stop
 use Rattle.msp_step.specs.declared.machine.Stepped.{Stepped}
+use Rattle.msp_step.specs.declared.machine.Words.{Words}
 use Rattle.msp_step.specs.Registers.{Registers}
 use Rattle.msp_step.specs.Access.{BusModel, Access, Completed, Faulted}
 use Rattle.msp_step.specs.Effect.{Written, sum16, two_operand_effect, jump_effect, read_modify_write, rotated, shifted, exchanged, sign_extended, push_effect, call_effect, reti_effect}
@@ -47,6 +48,15 @@ pub record IsCurrentInstruction {S : Type 0} (bus : BusModel S) (r : Registers) 
   pub on : off_bit r ≡ 0
   pub is : IsInstruction i
   pub fetched : FetchedAt bus s (r 0) (encoding i)
+
+-- an instruction begins with the first of these words, and whichever they begin with stands at an address
+pub record AreWordsAt {S : Type 0} (bus : BusModel S) (s : S) (pc : ℕ) (ws : Words) : Type 0 where
+  pub begun : (i : Instr) × IsInstruction i × (first_word i ≡ ws.first)
+  pub stand : (i : Instr) → IsInstruction i → IsPrefix (encoding i) (ws.first ∷ ws.second ∷ ws.third ∷ []) → FetchedAt bus s pc (encoding i)
+
+-- the words at PC, while CPUOFF is clear
+abbrev pub AreCurrentWords : {S : Type 0} → BusModel S → Registers → S → Words → Type 0
+AreCurrentWords bus r s ws = (off_bit r ≡ 0) × AreWordsAt bus s (r 0) ws
 
 -- there is an instruction that begins with this word, and each that does has more than n words
 pub record IsLongerThan (n w : ℕ) : Type 0 where

@@ -13,4 +13,4 @@ pub use cpu::Cpu;
 pub use laws::{
     effect_writes_once, jumps_by_signed_words, step_is_determined, step_takes_its_cost,
 };
-pub use machine::{Stepped, Stop, cost, current_instruction, execute, step};
+pub use machine::{Stepped, Stop, Words, cost, current_instruction, current_words, execute, step};

@@ -5,8 +5,7 @@ ghost use Rattle.std.specs.Option.{option_map};
 ghost use Rattle.msp_step.specs.Access.{Completed, OnlyReads};
 ghost use Rattle.msp_step.specs.Answer.{answer};
 ghost use Rattle.msp_step.specs.Registers.{registers_of};
-ghost use Rattle.msp_step.specs.Step.{FetchedAt, one_operand_effect, effect, IsCurrentInstruction, IsNoInstruction, IsStopped, stop_of, execution, StepResult, Costs};
-ghost use Rattle.msp_isa.specs.Encoding.{encoding, IsIllegal, IsInstruction};
+ghost use Rattle.msp_step.specs.Step.{AreWordsAt, AreCurrentWords, one_operand_effect, effect, IsCurrentInstruction, IsNoInstruction, IsStopped, stop_of, execution, StepResult, Costs};
 
 use crate::bus::{Bus, Refused};
 use crate::cpu::Cpu;
@@ -17,7 +16,7 @@ use crate::effect::{
 use crate::operand::Fault;
 use alp_words::Width;
 use msp_cycles::cycles;
-use msp_decode::decode;
+use msp_decode::{decode, words_of};
 use msp_isa::{Instr, OneOp};
 
 /// Why no step was made.
@@ -54,8 +53,9 @@ fn fetch<B: Bus>(bus: &B, pc: u16, address: u16) -> Result<u16, Stop>
     }
 }
 
-/// The third word of an instruction, or 0 where it has none.
-fn third_word<B: Bus>(bus: &B, pc: u16, address: u16, is_there: bool) -> Result<u16, Stop>
+/// A later word of an instruction, or 0 where it has none.
+#[inline(always)]
+fn later_word<B: Bus>(bus: &B, pc: u16, address: u16, is_there: bool) -> Result<u16, Stop>
     ensures found { IfOk result (λ w. IsTrue is_there → B.model.fetches bus.now address ≡ Some w) }
     ensures none { IfErr result (λ e. IsTrue is_there × (e ≡ Stop.Bus pc address) × (B.model.fetches bus.now address ≡ None)) }
 {
@@ -66,24 +66,45 @@ fn third_word<B: Bus>(bus: &B, pc: u16, address: u16, is_there: bool) -> Result<
     }
 }
 
-/// The instruction at an address, or why there is none.
-fn instruction_at<B: Bus>(bus: &B, pc: u16) -> Result<Instr, Stop>
-    ensures found { IfOk result (λ i. IsInstruction i × FetchedAt B.model bus.now pc (encoding i)) }
+/// The words of an instruction, in order; one that it hasn't is 0.
+#[derive(Clone, Copy, PartialEq, Eq, Debug)]
+pub struct Words {
+    pub first: u16,
+    pub second: u16,
+    pub third: u16,
+}
+
+/// The words of the instruction at an address, or why there is none.
+#[inline(always)]
+fn words_at<B: Bus>(bus: &B, pc: u16) -> Result<Words, Stop>
+    ensures found { IfOk result (λ words. AreWordsAt B.model bus.now pc words) }
     ensures none { IfErr result (λ e. IsNoInstruction B.model bus.now pc e) }
 {
     let first = fetch(bus, pc, pc)?;
-    let words = match decode(first, 0, 0) {
-        Ok((instruction, 1)) => return Ok(instruction),
-        Ok((_, words)) => words,
+    let count = match words_of(first) {
+        Ok(count) => count,
         Err(_) => return Err(Stop::Illegal { pc, word: first }),
     };
     let behind = pc.wrapping_add(2);
-    let second = fetch(bus, pc, behind)?;
-    let third = third_word(bus, pc, behind.wrapping_add(2), words > 2)?;
-    match decode(first, second, third) {
-        Ok((instruction, _)) => Ok(instruction),
-        Err(_) => Err(Stop::Illegal { pc, word: first }),
+    let second = later_word(bus, pc, behind, count > 1)?;
+    let third = later_word(bus, pc, behind.wrapping_add(2), count > 2)?;
+    Ok(Words {
+        first,
+        second,
+        third,
+    })
+}
+
+/// The words of the instruction at PC, or why none is executed. Stops with the causes of `current_instruction`.
+#[inline(always)]
+pub fn current_words<B: Bus>(cpu: &Cpu, bus: &B) -> Result<Words, Stop>
+    ensures found { IfOk result (λ words. AreCurrentWords B.model (registers_of cpu.now) bus.now words) }
+    ensures none { IfErr result (λ e. IsStopped B.model (registers_of cpu.now) bus.now e) }
+{
+    if cpu.word(2) / 0x10 % 2 == 1 {
+        return Err(Stop::Off);
     }
+    words_at(bus, cpu.word(0))
 }
 
 /// The instruction at PC, or why none is executed: `Off` where CPUOFF is set; else a `Bus` fault of the fetch of its
@@ -92,10 +113,11 @@ pub fn current_instruction<B: Bus>(cpu: &Cpu, bus: &B) -> Result<Instr, Stop>
     ensures found { IfOk result (λ i. IsCurrentInstruction B.model (registers_of cpu.now) bus.now i) }
     ensures none { IfErr result (λ e. IsStopped B.model (registers_of cpu.now) bus.now e) }
 {
-    if cpu.word(2) / 0x10 % 2 == 1 {
-        return Err(Stop::Off);
+    let words = current_words(cpu, bus)?;
+    match decode(words.first, words.second, words.third) {
+        Ok((instruction, _)) => Ok(instruction),
+        Err(_) => unreachable!(),
     }
-    instruction_at(bus, cpu.word(0))
 }
 
 /// The effect of an instruction of one operand.
