@@ -37,6 +37,7 @@ pub struct State {
 }
 
 // The word of the FRAM at an address.
+#[inline(always)]
 pub fn word(board: &Board, address: u16) -> u16
     requires { IsFramWord address }
     ensures { result ≡ word_in board.now.fram address }
@@ -154,6 +155,7 @@ impl State {
     }
 
     // A done at this board: the lines of its transition are written.
+    #[inline(never)]
     fn complete<S: Sink>(
         &mut self,
         map: &Map,
@@ -189,6 +191,7 @@ impl State {
     }
 
     // GATE went from one word to another.
+    #[inline(always)]
     fn note_gate<S: Sink>(
         &mut self,
         map: &Map,
@@ -217,6 +220,7 @@ impl State {
     }
 
     /// An instruction was executed, which left this board: its lines are written.
+    #[inline(always)]
     pub fn note<S: Sink>(
         &mut self,
         map: &Map,
@@ -240,6 +244,7 @@ impl State {
     }
 
     // The word that an instruction made the receiver accept, if it did.
+    #[inline(always)]
     fn keep_accepted(&mut self, done: &Stepped)
         ensures history { (m : Option MapValue) → history_of m self.new ≡ with_words (history_of m self.old) (word_list done.now.accepted) }
         ensures shadow { self.new.shared ≡ self.old.shared }

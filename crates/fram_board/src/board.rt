@@ -172,6 +172,7 @@ impl Board {
     }
 
     /// The word at an even address of the FRAM; nothing at another address.
+    #[inline(always)]
     pub fn word(&self, address: u16) -> Option<u16>
         ensures { result ≡ word_at self.now.fram address }
     {

@@ -199,6 +199,7 @@ impl Devices {
     }
 
     /// The word at an even address of the FRAM; nothing at another address.
+    #[inline(always)]
     pub fn fram_word(&self, address: u16) -> Option<u16>
         ensures { result ≡ word_at self.now.fram address }
     {
