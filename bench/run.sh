@@ -1,5 +1,5 @@
 #!/usr/bin/env bash
-# Prints the seconds that `alpaca run` and another emulator take for the same images and traces, side by side, and their ratio.
+# Prints the seconds of processor time that `alpaca run` and another emulator take for the same images and traces, side by side, and their ratio.
 # Arguments: the other emulator, called as `EMULATOR run IMAGE TRACE`, and a folder with the TI-TXT images count.txt, copy.txt
 # and mixed.txt and the traces speed.tr (one long charge) and cuts.tr (a power-up every few instructions).
 # ALPACA names another build of the program. Nothing depends on these figures.
@@ -8,7 +8,7 @@ top=$(cd "$(dirname "$(readlink -f "$0")")/.." && pwd)
 alpaca=${ALPACA:-$top/bin/alpaca}
 emulator=$1
 images=$2
-TIMEFORMAT=%R
+TIMEFORMAT=%U
 
 # the least time of five runs
 least() {
