@@ -37,6 +37,7 @@ pub fn xor(width: Width, d: u16, s: u16) -> (u16, Flags)
 }
 
 /// The operand shifted right by one, with this bit at the top; C is the bit that falls out, V is clear.
+#[inline(always)]
 fn shift(width: Width, d: u16, top: bool) -> (u16, Flags)
     ensures { result ≡ shifted width d top }
 {
@@ -52,6 +53,7 @@ fn shift(width: Width, d: u16, top: bool) -> (u16, Flags)
 }
 
 /// The operand shifted right by one with its top bit kept, as RRA gives it; C is the bit that falls out, V is clear.
+#[inline(always)]
 pub fn rra(width: Width, d: u16) -> (u16, Flags)
     ensures { result ≡ rra_of width d }
 {
@@ -59,6 +61,7 @@ pub fn rra(width: Width, d: u16) -> (u16, Flags)
 }
 
 /// The operand shifted right by one with the carry at the top, as RRC gives it; C is the bit that falls out, V is clear.
+#[inline(always)]
 pub fn rrc(width: Width, d: u16, carry: bool) -> (u16, Flags)
     ensures { result ≡ rrc_of width d carry }
 {

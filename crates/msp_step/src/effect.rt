@@ -192,6 +192,7 @@ pub enum Modification {
     Sxt,
 }
 
+#[inline(always)]
 fn modified(change: Modification, width: Width, v: u16, f: Flags) -> (u16, Option<Flags>)
     ensures value { result.0 ≡ (modification_of change width v f).value }
     ensures flags { result.1 ≡ (modification_of change width v f).flags }
@@ -205,6 +206,7 @@ fn modified(change: Modification, width: Width, v: u16, f: Flags) -> (u16, Optio
 }
 
 /// What follows the load of a place.
+#[inline(always)]
 fn write_back<B: Bus>(
     cpu: &mut Cpu,
     bus: &mut B,
@@ -221,6 +223,7 @@ fn write_back<B: Bus>(
 }
 
 /// An operation on one place.
+#[inline(always)]
 pub fn read_modify_write<B: Bus>(
     cpu: &mut Cpu,
     bus: &mut B,
@@ -247,6 +250,7 @@ fn below_stack(cpu: &Cpu) -> u16
 }
 
 /// Writes to the place below SP.
+#[inline(always)]
 fn write_below<B: Bus>(cpu: &Cpu, bus: &mut B, width: Width, v: u16) -> Result<u16, Fault>
     ensures { answer (λ a. a) result bus.new ≡ write_at B.model (below_stack (registers_of cpu.now)) width v (below_stack (registers_of cpu.now)) bus.old }
 {
@@ -261,6 +265,7 @@ fn write_below<B: Bus>(cpu: &Cpu, bus: &mut B, width: Width, v: u16) -> Result<u
 }
 
 /// What follows the operand of PUSH.
+#[inline(always)]
 fn push_word<B: Bus>(
     cpu: &mut Cpu,
     bus: &mut B,
@@ -275,6 +280,7 @@ fn push_word<B: Bus>(
 }
 
 /// PUSH.
+#[inline(always)]
 pub fn push_effect<B: Bus>(
     cpu: &mut Cpu,
     bus: &mut B,
@@ -291,6 +297,7 @@ pub fn push_effect<B: Bus>(
 }
 
 /// What follows the operand of CALL.
+#[inline(always)]
 fn call_to<B: Bus>(cpu: &mut Cpu, bus: &mut B, to: u16) -> Result<Option<(u16, u16)>, Fault>
     ensures { answer (λ a. (registers_of cpu.new, a)) result bus.new ≡ called B.model to (registers_of cpu.old) bus.old }
 {
@@ -302,6 +309,7 @@ fn call_to<B: Bus>(cpu: &mut Cpu, bus: &mut B, to: u16) -> Result<Option<(u16, u
 }
 
 /// CALL.
+#[inline(always)]
 pub fn call_effect<B: Bus>(cpu: &mut Cpu, bus: &mut B, s: Src) -> Result<Option<(u16, u16)>, Fault>
     ensures { answer (λ a. (registers_of cpu.new, a)) result bus.new ≡ call_effect B.model s (registers_of cpu.old) bus.old }
 {
