@@ -62,6 +62,7 @@ fn summed(
     requires { length trace.now < 100 }
 {
     let text = READS_AND_COMMITS.as_bytes();
+    assert!(rt; text.len() < 10000);
     let image = parse_image(rt.alloc(), text)?;
     let trace = parse_trace(rt.alloc(), trace)?;
     let mut sink = MemSink::new(rt.alloc(), 1000, Vec::new(rt.alloc()))?;
