@@ -57,14 +57,14 @@ const READS_AND_COMMITS: &'static str =
 // The answer of a run, the word that it stores to, the sum of the shared words, and how many transitions were completed.
 fn summed(
     rt: &HostRuntime,
-    trace: &[u8],
+    image: &'static str,
+    trace: &'static str,
 ) -> Result<(Result<RunEnd, RunFault>, Option<u16>, u16, u64), Fail>
-    requires { length trace.now < 100 }
+    requires image { length image.now < 4000000 }
+    requires trace { length trace.now < 4000000 }
 {
-    let text = READS_AND_COMMITS.as_bytes();
-    assert!(rt; text.len() < 10000);
-    let image = parse_image(rt.alloc(), text)?;
-    let trace = parse_trace(rt.alloc(), trace)?;
+    let image = parse_image(rt.alloc(), image.as_bytes())?;
+    let trace = parse_trace(rt.alloc(), trace.as_bytes())?;
     let mut sink = MemSink::new(rt.alloc(), 1000, Vec::new(rt.alloc()))?;
     let mut board = Board::new(rt.alloc(), &image, trace.readings())?;
     let mut watch = Watch::new(rt.alloc(), &image)?;
@@ -75,9 +75,9 @@ fn summed(
 // Words of an attempt that was cut are not in the sum.
 #[test]
 fn the_watch_sums_the_shared_words(rt: HostRuntime) -> Result<(), Fail> {
-    let whole = summed(&rt, b"s 20 0\nr 65535 3\n")?;
+    let whole = summed(&rt, READS_AND_COMMITS, "s 20 0\nr 65535 3\n")?;
     assert_eq!(rt; whole, (Ok(RunEnd::Readings), Some(3), 3, 2));
-    let cut = summed(&rt, b"s 3 0\nr 5\n")?;
+    let cut = summed(&rt, READS_AND_COMMITS, "s 3 0\nr 5\n")?;
     assert_eq!(rt; cut, (Ok(RunEnd::Charges), Some(5), 0, 0));
     Ok(())
 }
