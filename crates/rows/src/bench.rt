@@ -202,7 +202,9 @@ impl Bench {
     // Whether this text stands somewhere in the one under a name.
     fn is_shown(&self, name: &str, text: &[u8]) -> bool {
         let bytes = self.shelf.file(name).unwrap_or(b"");
-        (0..bytes.len()).any(|from| bytes[from..].starts_with(text))
+        (0..bytes.len()).any(|from| {
+            bytes.get(from..).is_some_and(|rest| rest.starts_with(text))
+        })
     }
 
     // Whether a call that the program doesn't make answers so.
