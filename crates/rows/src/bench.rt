@@ -145,7 +145,7 @@ impl Bench {
             b"like" => self.are_like(said),
             b"begins" => self.says_begin(&part.text),
             b"ends" => self.says_end(said, &part.text),
-            b"shows" => self.is_shown(said, &part.text),
+            b"shows" => self.is_shown(said, &part.text)?,
             b"size" => self.has_size(said),
             b"prints" | b"compiles" | b"word" | b"real" => self.calls_below(
                 kind, said, &part.text,
@@ -200,11 +200,11 @@ impl Bench {
     }
 
     // Whether this text stands somewhere in the one under a name.
-    fn is_shown(&self, name: &str, text: &[u8]) -> bool {
+    fn is_shown(&self, name: &str, text: &[u8]) -> Result<bool> {
         let bytes = self.shelf.file(name).unwrap_or(b"");
-        (0..bytes.len()).any(|from| {
-            bytes.get(from..).is_some_and(|rest| rest.starts_with(text))
-        })
+        let whole = String::from_utf8_lossy(self.alloc, bytes)?;
+        let part = String::from_utf8_lossy(self.alloc, text)?;
+        Ok(whole.split_once(part.as_str()).is_some())
     }
 
     // Whether a call that the program doesn't make answers so.
