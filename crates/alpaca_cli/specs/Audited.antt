@@ -21,8 +21,10 @@ abbrev pub IsAnsweredYes : List ℕ → List ℕ → List ℕ → Type 0
 IsAnsweredYes source trace report = (ending : Ending) (line : List ℕ) → Audits source report trace ending line
     → (n : ℕ) × (ending ≡ well) × (line ≡ verdict_line (Yes n))
 
+-- the report of `try` on a source and a trace
 abbrev pub TriedReportsAreAnsweredYes : Type 0
 TriedReportsAreAnsweredYes = (source trace file output : List ℕ) → Tries source trace file output → IsAnsweredYes source trace output
 
+-- that of `mean`
 abbrev pub MeanReportsAreAnsweredYes : Type 0
 MeanReportsAreAnsweredYes = (source trace output : List ℕ) → Means source trace output → IsAnsweredYes source trace output

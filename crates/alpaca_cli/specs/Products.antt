@@ -157,9 +157,11 @@ IsProduct call texts p = ⊥
 abbrev pub SaysSource : List ℕ → Type 0
 SaysSource text = (program : CheckedProgram) × IsSourceText text program
 
+-- a text is a trace
 abbrev pub SaysTrace : List ℕ → Type 0
 SaysTrace text = (value : TraceValue) × (trace_of text ≡ Ok value)
 
+-- a text is an image
 abbrev pub SaysImage : List ℕ → Type 0
 SaysImage text = (value : ImageValue) × (image_of text ≡ Ok value)
 

@@ -10,6 +10,7 @@ unfoldable pub verdict_line : Verdict → List ℕ
 verdict_line (Yes t) = texts (codes "yes " ∷ decimal t ∷ codes "\n" ∷ [])
 verdict_line (No line) = texts (codes "no " ∷ decimal line ∷ codes "\n" ∷ [])
 
+-- how `audit` ends with a verdict
 abbrev pub verdict_ending : Verdict → Ending
 verdict_ending (Yes t) = well
 verdict_ending (No line) = differs

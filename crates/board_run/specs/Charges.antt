@@ -6,6 +6,7 @@ use Rattle.energy_trace.specs.declared.charge.ChargeKind.TheVariants as kind
 use Rattle.fram_board.specs.Board.{filled}
 use Rattle.fram_board.specs.Run.{Measure, Cycles, Instructions, BoardCharge}
 
+-- what a charge of a trace is counted in
 abbrev pub measure_of : ChargeKind → Measure
 measure_of kind.Cycles = Cycles
 measure_of kind.Steps = Instructions

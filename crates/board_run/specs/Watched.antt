@@ -6,6 +6,7 @@ use Rattle.board_run.specs.declared.watch.Watch.TheInside.{Inside}
 use Rattle.board_run.specs.History.{History, shared_words}
 use Rattle.board_run.specs.State.{history_of}
 
+-- what a watch has seen, as it stands in memory
 abbrev pub watched : Inside → History
 watched w = history_of (option_map (λ m. m.now) w.map) w.state
 
@@ -14,5 +15,6 @@ abbrev pub IsShadow : Option MapValue → State → Type 0
 IsShadow None s = Unit {0}
 IsShadow (Some m) s = length s.shared.items ≡ length (shared_words m.variables)
 
+-- the same of a watch
 abbrev pub HasShadow : Inside → Type 0
 HasShadow w = IsShadow (option_map (λ m. m.now) w.map) w.state

@@ -106,6 +106,7 @@ pub record Positions : Type 0 where
   pub span_to : ℕ
   pub spans : List Span
 
+-- the positions of a history
 abbrev pub positions_of : History → Positions
 positions_of h = record {
   since = h.since;
@@ -128,6 +129,7 @@ pub record IsOneEvent (gate : ℕ) (b : BoardValue) (x : BoardOutcome) (h : Hist
       ((world_after (effects_of b x) h.world).fram gate) x.board.taken (positions_of h)
   pub taken : (observe gate (effects_of b x) h).taken ≡ x.board.taken
 
+-- so of each instruction that takes no more readings than there are
 abbrev pub EventsOfInstructions : Type 0
 EventsOfInstructions = (gate : ℕ) (b : BoardValue) (x : BoardOutcome) (h : History) → h.taken ≡ b.taken → b.taken ≤ x.board.taken
     → x.board.taken ≤ length b.readings → IsOneEvent gate b x h

@@ -31,12 +31,15 @@ abbrev pub fits : ℕ → Option ℕ → Bool
 fits a None = true
 fits a (Some n) = nat_lt 0 n && nat_le (a + 2 * n) 65536
 
+-- whether a name is one of these
 abbrev pub is_among : List ℕ → List (List ℕ) → Bool
 is_among name names = list_any (λ other. bytes_eq other name) names
 
+-- the names of a map's variables
 abbrev pub variable_names : List Variable → List (List ℕ)
 variable_names vs = map (λ v. v.name) vs
 
+-- the names of its tasks
 abbrev pub task_names : List TaskValue → List (List ℕ)
 task_names ts = map (λ t. t.name) ts
 
@@ -73,6 +76,7 @@ last_privates [] = None
 last_privates (t ∷ []) = Some t.privates
 last_privates (t ∷ u ∷ ts) = last_privates (u ∷ ts)
 
+-- whether a name may stand behind these, if there are any: they are scalars, in order of declaration
 abbrev pub follow : Option (List (List ℕ)) → List ℕ → List Variable → Bool
 follow None name vs = false
 follow (Some ns) name vs = are_scalars (ns ++ name ∷ []) vs

@@ -22,6 +22,7 @@ runtime_fields w = codes "words" ∷ address_text w.current_task ∷ address_tex
 abbrev pub place_fields : List ℕ → Place → List (List ℕ)
 place_fields word p = word ∷ address_text p.address ∷ decimal p.capacity ∷ []
 
+-- how a type is spelled
 abbrev pub type_text : ValueType → List ℕ
 type_text value_type.Unsigned = codes "unsigned"
 type_text value_type.Int = codes "int"

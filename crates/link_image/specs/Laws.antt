@@ -32,6 +32,7 @@ pub record IsFreshImage (text : List ℕ) (p : CheckedProgram) (allow : Allow) (
   pub rests : RestsAt (program_places p l) (state_view p l) (first_state p) (fresh_world image)
   pub has_words : HasWordsOf (map_of text p l allow) (fresh_world image) (first_state p)
 
+-- the image of an accepted source rests at the source's first state, before any run
 abbrev pub ImagesAreFresh : Type 0
 ImagesAreFresh = (text : List ℕ) (p : CheckedProgram) (allow : Allow) (image : ImageValue) → IsAcceptedText text p allow
     → (c : IsCompiled text p allow image) → IsFreshImage text p allow c.layout image

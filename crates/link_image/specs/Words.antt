@@ -29,6 +29,7 @@ image_word p l a = if a == reset_vector then l.boot.address
     else if is_within (code_region p l) a then slice_index (code_words p l) ((a - l.boot.address) / 2)
     else data_word p l a
 
+-- all are words
 abbrev pub AreWords : List ℕ → Type 0
 AreWords = All (λ w. w < 0x10000)
 

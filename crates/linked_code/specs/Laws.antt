@@ -15,6 +15,7 @@ pub record IsLinkedCode (l : MemoryMap) (programs : List Program) : Type 0 where
   pub end : l.boot.address + 2 * length (words_of (linked l programs)) ≤ end_of l.code
   pub tidy : IsTidy (placed l.boot.address (linked l programs))
 
+-- code that fits its places is code of its size, each instruction one that there is
 abbrev pub LinkedIsCode : Type 0
 LinkedIsCode = (l : MemoryMap) (programs : List Program) → CodeFits l programs → IsLinkedCode l programs
 
@@ -28,5 +29,6 @@ pub record PartsStand (l : MemoryMap) (programs : List Program) (code : Code) : 
   pub commit : PartStands code (commit_part l)
   pub tasks : (k : ℕ) (t : TaskPlace) (p : Program) → slice_get l.tasks k ≡ Some t → slice_get programs k ≡ Some p → PartStands code (task_part t p)
 
+-- each of its parts stands where the memory map has it
 abbrev pub LinkedStands : Type 0
 LinkedStands = (l : MemoryMap) (programs : List Program) → CodeFits l programs → PartsStand l programs (placed l.boot.address (linked l programs))

@@ -48,6 +48,7 @@ abbrev pub IsLocal : Variable → Type 0
 IsLocal (Shared v) = ⊥
 IsLocal (Local n) = n < 256
 
+-- each variable of an expression is one that the task has, and an array where it is indexed
 abbrev pub ExpressionFits : Places → CheckedExpression → Type 0
 ExpressionFits p (t.number w) = Unit {0}
 ExpressionFits p (t.name x) = IsKnown p x.variable
@@ -178,6 +179,7 @@ EndsWithValue w (Jumps to s) o = ⊥
 EndsWithValue w Strays o = ⊥
 EndsWithValue w Broken o = Unit {0}
 
+-- a program takes readings alone, and ends as an expression does: with its value pushed, or short of readings
 abbrev pub AgreesWithValue : WordState → Behaviour → Option (ℕ × List ℕ) → Type 0
 AgreesWithValue w b o = OnlyTakes b.effects × EndsWithValue w b.end o
 
@@ -198,6 +200,7 @@ pub record Bounds : Type 0 where
   pub ver : ℕ
   pub most : ℕ → ℕ
 
+-- the stores that statements may make within these bounds
 abbrev pub IsStore : Places → Bounds → ℕ → ℕ → Type 0
 IsStore p b = IsTaskStore p b.written b.room b.ver
 
@@ -236,6 +239,7 @@ EndsAs p b stack es Short short = TakesAndStores (IsStore p b) es
 EndsAs p b stack es Strays o = ⊥
 EndsAs p b stack es Broken o = Unit {0}
 
+-- a program does and ends as the source's statements do
 abbrev pub Agrees : Places → Bounds → List ℕ → Behaviour → Outcome → Type 0
 Agrees p b stack r o = EndsAs p b stack r.effects r.end o
 

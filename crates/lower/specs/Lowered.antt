@@ -57,6 +57,7 @@ element_read p (Some (Array elements length None)) = element elements length
 element_read p (Some (Scalar home copy)) = element 0 0
 element_read p None = element 0 0
 
+-- the same of a variable
 abbrev pub element_step : Places → Variable → Step
 element_step p (Shared v) = element_read p (slice_get p.map.variables v)
 element_step p (Local n) = element 0 0

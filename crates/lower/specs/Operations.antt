@@ -14,6 +14,7 @@ use Rattle.array_versions.specs.declared.operations.BinaryOperation.TheVariants.
 use Rattle.array_versions.specs.declared.operations.ShiftOperation.{ShiftOperation}
 use Rattle.array_versions.specs.declared.operations.ShiftOperation.TheVariants.{Left, Right, SignedRight}
 
+-- the operation of an operator in front
 abbrev pub unary_operation : UnaryOperator → UnaryOperation
 unary_operation unary_operator.Negate = Negate
 unary_operation unary_operator.Complement = Complement

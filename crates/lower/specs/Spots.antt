@@ -20,6 +20,7 @@ pub record AreApart (p : Places) (room : Room) : Type 0 where
   pub below : (s : Spot) → IsSpot p s → spot_address p s < fram_end
   pub distinct : (s t : Spot) → IsSpot p s → IsSpot p t → spot_address p s ≡ spot_address p t → s ≡ t
 
+-- all places are at even addresses, as the CPU takes words
 pub record AreEven (p : Places) : Type 0 where
   pub row : p.map.row % 2 ≡ 0
   pub list : p.map.list.address % 2 ≡ 0
@@ -34,6 +35,7 @@ abbrev pub listed_of : ℕ → List Element → ℕ
 listed_of v [] = 0
 listed_of v (x ∷ xs) = (if x.array == v then 1 else 0) + listed_of v xs
 
+-- two elements, not one
 abbrev pub AreDifferent : Element → Element → Type 0
 AreDifferent x y = x ≡ y → ⊥
 

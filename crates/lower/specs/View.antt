@@ -2,5 +2,6 @@
 use Rattle.memory_map.specs.Spots.{Places}
 use Rattle.lower.specs.declared.places.TaskPlaces.{TaskPlaces}
 
+-- what a task has of a memory map, as it stands in memory
 abbrev pub places_in : TaskPlaces → Places
 places_in p = record { map = p.layout.now; privates = p.privates.now }

@@ -40,6 +40,7 @@ pub record IsInFram (r : Region) : Type 0 where
   pub from : fram_first ≤ r.address
   pub end : end_of r ≤ reset_vector
 
+-- all regions
 pub record PartsInFram (m : MemoryMap) : Type 0 where
   pub list : IsInFram m.list
   pub emits : IsInFram m.emits
@@ -58,6 +59,7 @@ pub record WordStands (m : MemoryMap) (word : RuntimeWord) : Type 0 where
   pub from : m.row ≤ word_place m word
   pub below : word_place m word + 2 ≤ m.list.address
 
+-- of each memory map that is laid out
 abbrev pub WordsStand : Type 0
 WordsStand = (m : MemoryMap) (word : RuntimeWord) → IsLaidOut m → WordStands m word
 

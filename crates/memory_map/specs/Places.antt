@@ -33,10 +33,12 @@ abbrev pub regions_of : ℕ → Option ℕ → List Region
 regions_of words None = []
 regions_of words (Some address) = record { address = address; words = words } ∷ []
 
+-- where an array's copies begin, if it has any
 abbrev pub copies_at : Option ArrayCopies → Option ℕ
 copies_at None = None
 copies_at (Some c) = Some c.copies
 
+-- where its version words begin
 abbrev pub versions_at : Option ArrayCopies → Option ℕ
 versions_at None = None
 versions_at (Some c) = Some c.versions

@@ -30,6 +30,7 @@ home_in (Some (Scalar home copy)) = home
 home_in (Some (Array elements length copies)) = elements
 home_in None = 0
 
+-- that of the variable of a number
 abbrev pub home_of : List VariablePlace → ℕ → ℕ
 home_of variables number = home_in (slice_get variables number)
 
@@ -101,27 +102,33 @@ element_in (Some (Array elements length copies)) i = 2 * i + elements
 element_in (Some (Scalar home private)) i = 0
 element_in None i = 0
 
+-- of its copy, 0 where it has none
 abbrev pub copy_in : Option VariablePlace → ℕ → ℕ
 copy_in (Some (Array elements length (Some c))) i = 2 * i + c.copies
 copy_in (Some (Array elements length None)) i = 0
 copy_in (Some (Scalar home private)) i = 0
 copy_in None i = 0
 
+-- of its version word, 0 where it has none
 abbrev pub version_in : Option VariablePlace → ℕ → ℕ
 version_in (Some (Array elements length (Some c))) i = 2 * i + c.versions
 version_in (Some (Array elements length None)) i = 0
 version_in (Some (Scalar home private)) i = 0
 version_in None i = 0
 
+-- the address of an element
 abbrev pub element_address : Places → Element → ℕ
 element_address p x = element_in (slice_get p.map.variables x.array) x.index
 
+-- the address of its copy
 abbrev pub copy_address : Places → Element → ℕ
 copy_address p x = copy_in (slice_get p.map.variables x.array) x.index
 
+-- the address of its version word
 abbrev pub version_address : Places → Element → ℕ
 version_address p x = version_in (slice_get p.map.variables x.array) x.index
 
+-- the address of a word that a task works on
 abbrev pub spot_address : Places → Spot → ℕ
 spot_address p (scalar v) = address_of p v
 spot_address p (element x) = element_address p x
@@ -148,5 +155,6 @@ pub record SpotsStand (p : Places) : Type 0 where
   pub each : (s : Spot) → IsSpot p s → SpotStands p s
   pub distinct : (s t : Spot) → IsSpot p s → IsSpot p t → spot_address p s ≡ spot_address p t → s ≡ t
 
+-- of each task whose private scalars have their places
 abbrev pub SpotsAreApart : Type 0
 SpotsAreApart = (m : MemoryMap) (t : TaskPlace) → IsLaidOut m → All (HasItsPlace m.variables) t.privates → SpotsStand (places_of m t)

@@ -22,5 +22,6 @@ map_with r variables tasks = record {
   tasks = tasks;
 }
 
+-- a memory map as it stands in memory
 abbrev pub map_of : Inside → MemoryMap
 map_of l = map_with l.regions l.variables.items l.tasks.items

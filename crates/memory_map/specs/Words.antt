@@ -3,6 +3,7 @@ use Rattle.std.specs.Prelude.{ℕ}
 use Rattle.memory_map.specs.declared.words.RuntimeWord.{RuntimeWord}
 use Rattle.memory_map.specs.declared.words.RuntimeWord.TheVariants.{CurrentTask, NextTask, Gate, ListLength, EmitCount, Base, SentBase, Version}
 
+-- the number of a word in the row
 abbrev pub index_of : RuntimeWord → ℕ
 index_of CurrentTask = 0
 index_of NextTask = 1

@@ -34,6 +34,7 @@ place_at written (extent.Array n) free = Array free.home n (copies_where written
 abbrev pub copy_sum : List Bool → List SharedDeclaration → ℕ
 copy_sum written shared = shared_sum (λ i extent. copy_part (slice_index_or written i false) extent) shared
 
+-- the version words of all arrays that are written
 abbrev pub version_sum : List Bool → List SharedDeclaration → ℕ
 version_sum written shared = shared_sum (λ i extent. version_part (slice_index_or written i false) extent) shared
 
@@ -55,6 +56,7 @@ pub record ArePlaced (shared : List SharedDeclaration) (written : List Bool) (fr
   pub copies : AreInOrder free.copy (flat_map copy_regions places) (free.copy + 2 * copy_sum written shared)
   pub versions : AreInOrder free.version (flat_map version_regions places) (free.version + 2 * version_sum written shared)
 
+-- whether it is the place of a scalar
 abbrev pub is_scalar_place : VariablePlace → Bool
 is_scalar_place (Scalar _ _) = true
 is_scalar_place (Array _ _ _) = false

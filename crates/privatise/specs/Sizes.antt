@@ -13,6 +13,7 @@ abbrev pub home_part : Extent → ℕ
 home_part (Scalar _) = 1
 home_part (Array length) = length
 
+-- the words of all variables
 abbrev pub home_words : List SharedDeclaration → ℕ
 home_words shared = shared_sum (λ i extent. home_part extent) shared
 
@@ -21,6 +22,7 @@ abbrev pub copy_part : Bool → Extent → ℕ
 copy_part written (Scalar _) = 1
 copy_part written (Array length) = if written then length else 0
 
+-- the words of all copies
 abbrev pub copy_words : CheckedProgram → ℕ
 copy_words p = shared_sum (λ i extent. copy_part (is_written p.tasks i) extent) p.shared
 
@@ -37,8 +39,10 @@ commit_words = 200
 abbrev pub own_boot_words : ℕ
 own_boot_words = 599 - row_words - commit_words
 
+-- of the start of a task, with the copies of its scalars
 abbrev pub entry_words : List SharedDeclaration → Code → ℕ
 entry_words shared code = 200 + 16 * scalars_of shared code
 
+-- of boot and all starts
 abbrev pub boot_words : List SharedDeclaration → List CheckedTask → ℕ
 boot_words shared tasks = own_boot_words + total (entry_words shared) tasks

@@ -19,6 +19,7 @@ pub record Inputs : Type 0 where
   pub readings : List ℕ
   pub report : List ℕ
 
+-- what `audit` is given
 abbrev pub inputs_of : Accepted → List ℕ → List ℕ → Inputs
 inputs_of source readings report = record {
   source = source.text.items;

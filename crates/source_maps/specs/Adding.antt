@@ -19,6 +19,7 @@ bare_map l allow = record {
   tasks = [];
 }
 
+-- a map with these variables behind its own
 abbrev pub with_variables : MapValue → List Variable → MapValue
 with_variables m [] = m
 with_variables m (v ∷ vs) = with_variables (with_variable m v) vs
@@ -28,10 +29,12 @@ abbrev pub TakesVariables : MapValue → List Variable → Type 0
 TakesVariables m [] = Unit {0}
 TakesVariables m (v ∷ vs) = (takes_variable m v ≡ true) × TakesVariables (with_variable m v) vs
 
+-- its last task with these private scalars behind its own
 abbrev pub with_privates : MapValue → List (List ℕ) → MapValue
 with_privates m [] = m
 with_privates m (n ∷ ns) = with_privates (with_private m n) ns
 
+-- each of them may be the next one
 abbrev pub TakesPrivates : MapValue → List (List ℕ) → Type 0
 TakesPrivates m [] = Unit {0}
 TakesPrivates m (n ∷ ns) = (takes_private m n ≡ true) × TakesPrivates (with_private m n) ns
@@ -40,10 +43,12 @@ TakesPrivates m (n ∷ ns) = (takes_private m n ≡ true) × TakesPrivates (with
 abbrev pub with_whole_task : MapValue → TaskValue → MapValue
 with_whole_task m t = with_privates (with_task m t.name) t.privates
 
+-- a map with these tasks behind its own
 abbrev pub with_tasks : MapValue → List TaskValue → MapValue
 with_tasks m [] = m
 with_tasks m (t ∷ ts) = with_tasks (with_whole_task m t) ts
 
+-- each of them may be the next one, with its private scalars
 abbrev pub TakesTasks : MapValue → List TaskValue → Type 0
 TakesTasks m [] = Unit {0}
 TakesTasks m (t ∷ ts) = (takes_task m t.name ≡ true) × TakesPrivates (with_task m t.name) t.privates × TakesTasks (with_whole_task m t) ts

@@ -31,6 +31,7 @@ pub record IsSourceMap (text : List ℕ) (p : CheckedProgram) (allow : Allow) (l
   pub places : ArePlacesOf p.shared l.variables
   pub declared : All (λ t. All (λ s. s.number < length p.shared) t.privates) l.tasks
 
+-- the names of an accepted source with its layout make a map
 abbrev pub MapsAreOfSources : Type 0
 MapsAreOfSources = (text : List ℕ) (p : CheckedProgram) (allow : Allow) (plans : List TaskPlanValue) (l : MemoryMap)
     → IsLaidOutSource text p allow plans l → IsSourceMap text p allow l

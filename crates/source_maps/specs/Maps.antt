@@ -45,6 +45,7 @@ abbrev pub name_in : List ℕ → Option SharedDeclaration → List ℕ
 name_in text None = []
 name_in text (Some d) = spelled text d.name
 
+-- the name of the shared variable of a number
 abbrev pub shared_name : List ℕ → List SharedDeclaration → ℕ → List ℕ
 shared_name text shared number = name_in text (slice_get shared number)
 
@@ -78,6 +79,7 @@ map_words m = record {
 abbrev pub map_list : MemoryMap → Place
 map_list m = record { address = m.list.address; capacity = m.entries }
 
+-- a region as a map has it: its words are its capacity
 abbrev pub map_buffer : Region → Place
 map_buffer r = record { address = r.address; capacity = r.words }
 

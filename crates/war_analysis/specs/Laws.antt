@@ -13,6 +13,7 @@ use Rattle.war_analysis.specs.Plans.{IsScalarAt, IsPrivateIn, IsTaskPlan, IsPlan
 abbrev pub OnePlan : CheckedProgram → Type 0
 OnePlan p = (a b : List TaskPlanValue) → IsPlan p a → IsPlan p b → a ≡ b
 
+-- whether it is a local
 abbrev pub is_local : Variable → Bool
 is_local (Shared _) = false
 is_local (Local _) = true

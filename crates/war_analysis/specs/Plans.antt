@@ -7,6 +7,7 @@ use Rattle.cost_bound.specs.Counts.{Code, block_assigns}
 use Rattle.cost_bound.specs.Allowance.{CheckedTask, CheckedProgram}
 use Rattle.war_analysis.specs.PlanValue.{TaskPlanValue}
 
+-- whether it is a scalar
 abbrev pub is_scalar : Extent → Bool
 is_scalar (Scalar _) = true
 is_scalar (Array _) = false
