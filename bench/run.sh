@@ -1,5 +1,6 @@
 #!/usr/bin/env bash
-# Prints the seconds of processor time that `alpaca run` and another emulator take for the same images and traces, side by side, and their ratio.
+# Prints the seconds of processor time that `alpaca run` and another emulator take for the same images and traces, side by side, and their ratio;
+# and what mspdebug's simulator takes for the images, where it is on the PATH.
 # Arguments: the other emulator, called as `EMULATOR run IMAGE TRACE`, and a folder with the TI-TXT images count.txt, copy.txt
 # and mixed.txt and the traces speed.tr (one long charge) and cuts.tr (a power-up every few instructions).
 # ALPACA names another build of the program. Nothing depends on these figures.
@@ -8,6 +9,8 @@ top=$(cd "$(dirname "$(readlink -f "$0")")/.." && pwd)
 alpaca=${ALPACA:-$top/bin/alpaca}
 emulator=$1
 images=$2
+commands=$(mktemp)
+trap 'rm "$commands"' EXIT
 TIMEFORMAT=%U
 
 # the least time of five runs
@@ -17,11 +20,21 @@ least() {
     done | sort -n | head -n 1
 }
 
+# the address of the `bis #16, sr` that ends an image: there a simulator without CPUOFF has to stop
+stop_of() {
+    awk '/^@/ { at = 0; for (i = 2; i <= length($1); i++) at = 16 * at + index("0123456789ABCDEF", substr($1, i, 1)) - 1; next }
+        /^[0-9A-F][0-9A-F] / { for (i = 1; i <= NF; i++) { seen = seen $i; if (seen ~ /32D01000$/) { printf "0x%x\n", at - 3; exit } at++ } }' "$1"
+}
+
 row() {
-    local other ours
+    local other ours theirs=
     other=$(least "$emulator" run "$images/$2" "$images/$3")
     ours=$(least "$alpaca" run "$images/$2" "$images/$3")
-    awk "BEGIN { printf \"$1: other $other s, alpaca $ours s (%.2f)\n\", $other / $ours }"
+    if [ "$3" = speed.tr ] && command -v mspdebug >/dev/null; then
+        printf 'opt quiet 1\nprog %s\nreset\nsetbreak %s\nrun\n' "$images/$2" "$(stop_of "$images/$2")" >"$commands"
+        theirs=", mspdebug $(least mspdebug -q sim "read $commands") s"
+    fi
+    awk "BEGIN { printf \"$1: other $other s, alpaca $ours s (%.2f)$theirs\n\", $other / $ours }"
 }
 
 row count count.txt speed.tr
