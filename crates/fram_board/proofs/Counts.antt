@@ -24,6 +24,15 @@ counted_one : (b : Bool) (w : ℕ) (r : Receiver)
 counted_one true w r = omega arith
 counted_one false w r = omega arith
 
+first_kept_by : (b : Bool) (r : Receiver) → (if b then record r { accepted = r.accepted + 1 } else record r { repeats = r.repeats + 1 }).first ≡ r.first
+first_kept_by true r = refl
+first_kept_by false r = refl
+
+-- a receiver stays where it started
+pub first_kept : (number : ℕ) (o : Option ℕ) (r : Receiver) → (receiver_after number o r).first ≡ r.first
+first_kept number None r = refl
+first_kept number (Some w) r = first_kept_by (is_accepted number r) r
+
 -- the receiver counts each word that it accepts
 pub counted : (number : ℕ) (o : Option ℕ) (r : Receiver) → (receiver_after number o r).accepted ≡ r.accepted + length (word_list (accepted_word number o r))
 counted number None r = omega arith

@@ -6,7 +6,7 @@ pub use Rattle.fram_board.proofs.Takes.{only_takes, execution_takes}
 pub use Rattle.fram_board.proofs.Effects.{ram_not_fram, other_is_fram, fram_low, data_not_fram, step_makes_its_effects}
 -- A board steps in one way, and has one run under any charges.
 pub use Rattle.fram_board.proofs.Runs.{price_low, charge_run, has_run}
--- The receiver's count is the number of the words that a run accepted.
-pub use Rattle.fram_board.proofs.Counts.{counted}
+-- The receiver's count is the number of the words that a run accepted, and it stays where it started.
+pub use Rattle.fram_board.proofs.Counts.{counted, first_kept}
 -- A power-up leaves a whole board.
 pub use Rattle.fram_board.proofs.Powers.{power_up_leaves_a_board, fill_is_a_power_state}

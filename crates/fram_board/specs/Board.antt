@@ -6,7 +6,9 @@ use Rattle.msp_step.specs.declared.machine.Stepped as cpu
 use Rattle.msp_step.specs.declared.machine.Words.{Words}
 use Rattle.msp_step.specs.Registers.{Registers, registers_of, kept, powered_up}
 use Rattle.msp_step.specs.Step.{Outcome, AreCurrentWords, IsCurrentInstruction, IsStopped, StepResult, Costs, execution}
+use Rattle.image_text.specs.image_map.MapValue.{MapValue}
 use Rattle.image_text.specs.ImageValue.{place_of}
+use Rattle.state_text.specs.declared.state.State.{State}
 use Rattle.fram_board.specs.declared.board.Stepped.{Stepped}
 use Rattle.fram_board.specs.declared.receiver.Receiver.{Receiver}
 use Rattle.fram_board.specs.Bus.{BusState, IsBusState, board_bus}
@@ -19,7 +21,7 @@ pub record BoardValue : Type 0 where
   pub outnum : ℕ  -- the word last written to OUTNUM
   pub readings : List ℕ  -- all readings of the sensor
   pub taken : ℕ  -- how many of them were taken
-  pub receiver : Receiver  -- its two counts
+  pub receiver : Receiver  -- where it started, and its two counts
 
 -- so many equal words
 unfoldable pub filled_words : ℕ → ℕ → List ℕ
@@ -29,17 +31,21 @@ filled_words n w = replicate n w
 abbrev pub vector_of : List ℕ → ℕ
 vector_of fram = slice_index fram (place_of 0xFFFE)
 
--- the board with this FRAM and these readings, before anything was done
-abbrev pub fresh : List ℕ → List ℕ → BoardValue
-fresh fram readings = record {
+-- the board with this FRAM and these readings, before anything was done, whose receiver takes this number next
+abbrev pub started : List ℕ → ℕ → List ℕ → BoardValue
+started fram number readings = record {
   cpu = powered_up (vector_of fram) 0;
   fram = fram;
   ram = filled_words 1024 0;
   outnum = 0;
   readings = readings;
   taken = 0;
-  receiver = record { accepted = 0; repeats = 0 };
+  receiver = record { first = number; accepted = 0; repeats = 0 };
 }
+
+-- the same of a board that is loaded with an image
+abbrev pub fresh : List ℕ → List ℕ → BoardValue
+fresh fram readings = started fram 0 readings
 
 -- the words that a power-up leaves in what doesn't last
 pub record PowerState : Type 0 where
@@ -74,9 +80,17 @@ powered b p = record b {
   outnum = p.outnum;
 }
 
--- the receiver accepts a word exactly where its number is the count of accepted words, modulo 65536
+-- the number of the word that the receiver takes next: as many behind its first as it has accepted, modulo 65536
+abbrev pub next_number : Receiver → ℕ
+next_number r = (r.first + r.accepted) % 0x10000
+
+-- what it takes next is the word behind these: their count is its number, modulo 65536
+abbrev pub TakesNextBehind : List ℕ → Receiver → Type 0
+TakesNextBehind ws r = length ws % 0x10000 ≡ next_number r
+
+-- it accepts a word exactly where this is its number
 abbrev pub is_accepted : ℕ → Receiver → Bool
-is_accepted number r = number == (r.accepted % 0x10000)
+is_accepted number r = number == next_number r
 
 -- the receiver after a word with this number; a word that isn't accepted counts as a repeat
 abbrev pub offered_to : ℕ → Receiver → Receiver
@@ -180,6 +194,10 @@ pub record KeepsAllButTaken (b after : BoardValue) : Type 0 where
   pub same : after ≡ record b { taken = after.taken }
   pub from : b.taken ≤ after.taken
   pub to : after.taken ≤ b.taken + 2
+
+-- what is saved of a board, with what its image says of it: FRAM and the number of the word that the receiver takes next
+abbrev pub saved : BoardValue → Option MapValue → State
+saved b map = record { image = record { words = b.fram; map = map }; receiver = next_number b.receiver }
 
 -- at most one word more was accepted or repeated
 abbrev pub OffersOneAtMost : Receiver → Receiver → Type 0

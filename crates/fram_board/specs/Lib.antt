@@ -11,3 +11,4 @@ pub use Rattle.msp_cycles.specs as msp_cycles
 pub use Rattle.msp_step.specs as msp_step
 pub use Rattle.image_text.specs.image_map as image_map
 pub use Rattle.image_text.specs as image_text
+pub use Rattle.state_text.specs as state_text

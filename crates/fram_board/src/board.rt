@@ -2,7 +2,7 @@
 
 ghost use Rattle.std.specs.Prelude.{◌≡◌, ℕ, ◌+◌, ◌-◌, ◌^◌, ◌<◌, ◌≤◌, length, None, IfOk, IfErr, OnErr};
 ghost use Rattle.image_text.specs.ImageValue.{word_at};
-ghost use Rattle.fram_board.specs.Board.{accepted_word, receiver_after, fresh, powered, filled, executed, IsNextInstruction, AreNextWords, IsStoppedBy, BoardCosts, IsStepOf, KeepsAllButTaken, OffersOneAtMost, IsBoard};
+ghost use Rattle.fram_board.specs.Board.{accepted_word, receiver_after, started, fresh, next_number, saved, powered, filled, executed, IsNextInstruction, AreNextWords, IsStoppedBy, BoardCosts, IsStepOf, KeepsAllButTaken, OffersOneAtMost, IsBoard};
 
 use crate::bus::Devices;
 use crate::receiver::Receiver;
@@ -10,6 +10,7 @@ use image_text::Image;
 use msp_cycles::cycles;
 use msp_isa::{Instr, Reg};
 use msp_step::{Cpu, Stop, Words, current_instruction, current_words, execute};
+use state_text::State;
 use std::alloc::{AllocError, Global};
 use std::marker::Model;
 
@@ -70,6 +71,23 @@ fn receive(devices: &mut Devices, receiver: &mut Receiver) -> Option<u16>
     }
 }
 
+// A board with this image in its FRAM and these readings, whose receiver takes this number next.
+fn started(alloc: Global, image: &Image, number: u16, readings: &[u16]) -> Result<Board, AllocError>
+    requires { length readings.now ≤ 262144 }
+    ensures { IfOk result (λ b. b ≡ started image.now.words number readings.now) }
+{
+    let devices = Devices::new(alloc, image.words(), readings)?;
+    Ok(Board {
+        cpu: Cpu::new(devices.vector(), 0),
+        devices,
+        receiver: Receiver {
+            first: number,
+            accepted: 0,
+            repeats: 0,
+        },
+    })
+}
+
 impl Board {
     /// A board with this image in its FRAM and these readings to take, as a power-up with fill word 0 leaves it. Fails
     /// where memory is refused.
@@ -77,15 +95,17 @@ impl Board {
         requires { length readings.now ≤ 262144 }
         ensures { IfOk result (λ b. b ≡ fresh image.now.words readings.now) }
     {
-        let devices = Devices::new(alloc, image.words(), readings)?;
-        Ok(Board {
-            cpu: Cpu::new(devices.vector(), 0),
-            devices,
-            receiver: Receiver {
-                accepted: 0,
-                repeats: 0,
-            },
-        })
+        started(alloc, image, 0, readings)
+    }
+
+    /// A board that goes on from a saved state: its FRAM and the number that its receiver takes next are the state's. Readings,
+    /// accepted words and repeats count from 0, and all else is as a power-up with fill word 0 leaves it. Fails where memory is
+    /// refused.
+    pub fn from_state(alloc: Global, state: &State, readings: &[u16]) -> Result<Board, AllocError>
+        requires { length readings.now ≤ 262144 }
+        ensures { IfOk result (λ b. b ≡ started state.now.image.words state.now.receiver readings.now) }
+    {
+        started(alloc, &state.image, state.receiver, readings)
     }
 
     /// Power comes back after a loss. FRAM, readings and receiver are as before; PC is the word at 0xFFFE with bit 0
@@ -184,6 +204,14 @@ impl Board {
         ensures { result ≡ self.now.receiver.accepted }
     {
         self.receiver.accepted
+    }
+
+    /// Puts what is saved of the board into a state, whose map stays. Takes no memory.
+    pub fn save_into(&self, state: &mut State)
+        ensures { state.new ≡ saved self.now state.old.image.map }
+    {
+        state.image.set_words(self.devices.fram());
+        state.receiver = self.receiver.next_number();
     }
 
     /// How many repeats it counted.

@@ -210,6 +210,14 @@ impl Devices {
         }
     }
 
+    /// All words of the FRAM, the first at 0x4400.
+    pub fn fram(&self) -> &[u16]
+        ensures value { result.now ≡ self.now.fram }
+        ensures len { length result.now ≡ 24064 }
+    {
+        self.fram.as_slice()
+    }
+
     /// The reset vector.
     pub fn vector(&self) -> u16
         ensures { result ≡ vector_of self.now.fram }

@@ -1,31 +1,33 @@
 //! The receiver of offered words.
 
 ghost use Rattle.std.specs.Prelude.{◌≡◌, ◌+◌, ◌-◌, ◌^◌, ◌<◌, Some};
-ghost use Rattle.fram_board.specs.Board.{is_accepted, offered_to, accepted_word};
+ghost use Rattle.fram_board.specs.Board.{next_number, offered_to, accepted_word};
 
-/// How many words it accepted, and how many repeats it counted. Both outlive power loss.
+/// The number that it took first, how many words it accepted, and how many repeats it counted. All of them outlive power loss.
 #[derive(Clone, Copy, PartialEq, Eq, Debug)]
 pub struct Receiver {
+    pub first: u16,
     pub accepted: u64,
     pub repeats: u64,
 }
 
 impl Receiver {
-    fn is_next(self, number: u16) -> bool
-        ensures { result ≡ is_accepted number self }
+    /// The number of the word that it takes next.
+    pub fn next_number(self) -> u16
+        ensures { result ≡ next_number self }
     {
-        u64::from(number) == self.accepted % 0x10000
+        ((u64::from(self.first) + self.accepted % 0x10000) % 0x10000) as u16
     }
 
-    /// Offers a word with its number. It is accepted, and answered, where the number is the count of accepted words
-    /// modulo 65536; else it counts as a repeat.
+    /// Offers a word with its number. It is accepted, and answered, where the number is the one that the receiver takes
+    /// next; else it counts as a repeat.
     pub fn offer(&mut self, number: u16, word: u16) -> Option<u16>
         requires accepted { self.old.accepted < 2 ^ 64 - 1 }
         requires repeats { self.old.repeats < 2 ^ 64 - 1 }
         ensures counts { self.new ≡ offered_to number self.old }
         ensures word { result ≡ accepted_word number (Some word) self.old }
     {
-        if self.is_next(number) {
+        if number == self.next_number() {
             self.accepted += 1;
             Some(word)
         } else {

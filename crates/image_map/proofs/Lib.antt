@@ -4,4 +4,5 @@ mod Bodies
 mod Taking
 mod ReadBack
 mod Printed
+mod Ahead
 pub mod Interface

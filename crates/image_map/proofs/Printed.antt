@@ -6,7 +6,7 @@ use Rattle.std.proofs.lemmas.List.{get_or_default}
 use Rattle.text_parts.specs.Printed.{spaced, printed}
 use Rattle.text_parts.proofs.Interface.{printed_append}
 use Rattle.image_map.specs.MapValue.{MapValue, TaskValue}
-use Rattle.image_map.specs.Text.{tail_text, task_fields, tasks_fields, head_fields, variable_fields, map_fields, map_text}
+use Rattle.image_map.specs.Text.{tail_text, task_fields, tasks_fields, head_fields, copies_fields, variable_fields, map_fields, map_text}
 
 spaced_tail : (v : List ℕ) (ws : List (List ℕ)) → spaced (v ∷ ws) ≡ v ++ tail_text ws
 unfolding tail_text
@@ -37,20 +37,24 @@ unfolding printed
 last_line l = append-nil (spaced l ++ 10 ∷ [])
 
 -- all lines are written
-pub map_written : (m : MapValue) (a b c d e : List ℕ) → b ≡ a ++ printed (head_fields m) → c ≡ b ++ printed (map variable_fields m.variables)
+pub map_written : (m : MapValue) (a h b c d e : List ℕ) → h ≡ a ++ printed (head_fields m) → b ≡ h ++ printed (copies_fields m.copies)
+    → c ≡ b ++ printed (map variable_fields m.variables)
     → d ≡ c ++ printed (tasks_fields m.tasks)
     → e ≡ d ++ (spaced (codes "end" ∷ []) ++ 10 ∷ []) → e ≡ a ++ map_text m
 unfolding map_fields
-map_written m a b c d e f g h k =
+map_written m a h b c d e f o g t k =
     let end : List (List (List ℕ)) = (codes "end" ∷ []) ∷ [] in
     let tasks : List (List (List ℕ)) = tasks_fields m.tasks in
     let variables : List (List (List ℕ)) = map variable_fields m.variables in
+    let rest : List (List (List ℕ)) = variables ++ (tasks ++ end) in
+    let copies : List (List (List ℕ)) = copies_fields m.copies in
     k ∙ ap (λ x. d ++ x) (sym (last_line (codes "end" ∷ [])))
-    ∙ ap (λ x. x ++ printed end) h ∙ append_assoc c (printed tasks) (printed end) ∙ ap (λ x. c ++ x) (sym (printed_append tasks end))
+    ∙ ap (λ x. x ++ printed end) t ∙ append_assoc c (printed tasks) (printed end) ∙ ap (λ x. c ++ x) (sym (printed_append tasks end))
     ∙ ap (λ x. x ++ printed (tasks ++ end)) g ∙ append_assoc b (printed variables) (printed (tasks ++ end))
     ∙ ap (λ x. b ++ x) (sym (printed_append variables (tasks ++ end)))
-    ∙ ap (λ x. x ++ printed (variables ++ (tasks ++ end))) f ∙ append_assoc a (printed (head_fields m)) (printed (variables ++ (tasks ++ end)))
-    ∙ ap (λ x. a ++ x) (sym (printed_append (head_fields m) (variables ++ (tasks ++ end))))
+    ∙ ap (λ x. x ++ printed rest) o ∙ append_assoc h (printed copies) (printed rest) ∙ ap (λ x. h ++ x) (sym (printed_append copies rest))
+    ∙ ap (λ x. x ++ printed (copies ++ rest)) f ∙ append_assoc a (printed (head_fields m)) (printed (copies ++ rest))
+    ∙ ap (λ x. a ++ x) (sym (printed_append (head_fields m) (copies ++ rest)))
 
 -- what holds of the items before one, and of that one
 pub one_more : {X : Type 0} (P : X → Type 0) (xs : List X) (x : X) (i : ℕ) → i < length xs → x ≡ get_or xs i x → P x

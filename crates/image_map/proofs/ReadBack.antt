@@ -1,8 +1,9 @@
 -- What is printed of a map reads back as that map.
-use Rattle.std.proofs.Common.{◌≡◌, ◌≤◌, ◌<◌, ◌^◌, ℕ, suc, ◌+◌, ◌*◌, ◌/◌, ◌%◌, ◌==◌, ◌&&◌, ◌||◌, List, [], ◌∷◌, ◌++◌, length, map, arith, refl, ap, sym, subst}
-use Rattle.std.proofs.Common.{◌∙◌, if◌then◌else◌, nat_lt, nat_le, not, Bool, true, false, Option, Some, None, Result, Ok, Err, append_assoc, length-append, All}
+use Rattle.std.proofs.Common.{◌≡◌, ◌≤◌, ◌<◌, ◌^◌, ℕ, suc, ◌+◌, ◌*◌, ◌/◌, ◌%◌, ◌&&◌, List, [], ◌∷◌, ◌++◌, length, map, arith, refl, ap, sym, subst}
+use Rattle.std.proofs.Common.{◌∙◌, if◌then◌else◌, nat_lt, nat_le, Bool, true, false, Option, Some, None, Result, Ok, Err, append_assoc, All}
 use Rattle.std.proofs.Common.{codes, append-nil}
 use Rattle.std.specs.Fmt.{decimal}
+use Rattle.std.specs.Prelude.{IfSome}
 use Rattle.std.specs.List.{list_all}
 use Rattle.std.specs.Str.{bytes_eq}
 use Rattle.std.proofs.lemmas.Bool.Decides.{nat_tests}
@@ -22,17 +23,17 @@ use Rattle.image_map.specs.declared.parts.ValueType.{ValueType}
 use Rattle.image_map.specs.declared.parts.ValueType.TheVariants as value_type
 use Rattle.image_map.specs.declared.parts.Variable.{Variable}
 use Rattle.image_map.specs.Names.{is_name, is_letter, is_name_byte, name_of}
-use Rattle.image_map.specs.MapValue.{MapValue, TaskValue, IsMap, IsFramWord, AreFramWords, IsPlace, IsVariable, is_fram_word, fits, are_scalars, takes_variable}
+use Rattle.image_map.specs.MapValue.{MapValue, TaskValue, IsMap, IsFramWord, AreFramWords, IsPlace, IsVariable, fits, are_scalars, takes_variable}
 use Rattle.image_map.specs.MapValue.{takes_task, takes_private, with_private}
 use Rattle.image_map.specs.Line.{single_from, line_fields, address_digit, address_of, fram_word, decimal_below, type_of, bound_of, words_of, place_of, start_of}
-use Rattle.image_map.specs.Reading.{◌>>=◌, take_line, head, step, body, put_variable, put_task, put_private}
+use Rattle.image_map.specs.Reading.{◌>>=◌, take_line, take_copies, with_copies, rest_lines, head, step, body, put_variable, put_task, put_private}
 use Rattle.image_map.specs.Named.{AreTaskNames}
 use Rattle.image_map.specs.ReadsBack.{ReadsBack}
 use Rattle.image_map.specs.Text.{address_text, runtime_fields, place_fields, type_text, sized_fields, variable_fields, private_fields, tasks_fields}
-use Rattle.image_map.specs.Text.{head_fields, map_fields}
+use Rattle.image_map.specs.Text.{copies_fields, head_fields, map_fields}
 use Rattle.image_map.proofs.Bodies.{body_next, body_done}
 use Rattle.image_map.proofs.Taking.{fram_test, variables_alone, tasks_alone, task_with, middle, takes_next_variable, takes_next_task, takes_next_private}
-use Rattle.image_map.proofs.Taking.{last_of, onto_of}
+use Rattle.image_map.proofs.Taking.{onto_of}
 
 -- fields as words of a line
 
@@ -79,7 +80,7 @@ single_spaced [] ws h = absurd h
 single_spaced (b ∷ bs) [] h = ap (λ r. single_from true (b ∷ r)) (sym (append-nil bs)) ∙ single_word true b bs [] h.0 h.1
 single_spaced (b ∷ bs) (v ∷ vs) h = single_word true b bs (32 ∷ spaced (v ∷ vs)) h.0 h.1 ∙ single_space (spaced (v ∷ vs)) ∙ single_spaced v vs h.2
 
-line_back : (w : List ℕ) (ws : List (List ℕ)) → AreWords (w ∷ ws) → line_fields (spaced (w ∷ ws)) ≡ w ∷ ws
+pub line_back : (w : List ℕ) (ws : List (List ℕ)) → AreWords (w ∷ ws) → line_fields (spaced (w ∷ ws)) ≡ w ∷ ws
 unfolding line_fields
 line_back w ws h = rw (single_spaced w ws h) (fields_spaced (w ∷ ws) h)
 
@@ -104,7 +105,7 @@ address_back a h =
     )
     (fram_back a (4096 * (a / 256 / 16) + 256 * (a / 256 % 16) + 16 * (a % 256 / 16) + a % 256 % 16) (omega arith) h)
 
-decimal_back : (limit n : ℕ) → n < limit → limit ≤ 2 ^ 64 → decimal_below limit (decimal n) ≡ Some n
+pub decimal_back : (limit n : ℕ) → n < limit → limit ≤ 2 ^ 64 → decimal_below limit (decimal n) ≡ Some n
 decimal_back limit n h k =
     let small : nat_lt n limit ≡ true = grind (arith, nat_tests) in
     let s = decimal_spells n (omega arith) in
@@ -167,9 +168,12 @@ emits_back p h = rw (address_back p.address h.address, decimal_back (2 ^ 32) p.c
 versions_back : (p : Place) → IsPlace p → place_of (codes "versions") (place_fields (codes "versions") p) ≡ Some p
 versions_back p h = rw (address_back p.address h.address, decimal_back (2 ^ 32) p.capacity h.capacity (omega arith)) refl
 
--- a map without its variables and tasks
+copies_back : (p : Place) → IsPlace p → place_of (codes "copies") (place_fields (codes "copies") p) ≡ Some p
+copies_back p h = rw (address_back p.address h.address, decimal_back (2 ^ 32) p.capacity h.capacity (omega arith)) refl
+
+-- a map without its copies, its variables and tasks
 abbrev bare : MapValue → MapValue
-bare m = record m { variables = []; tasks = [] }
+bare m = record m { copies = None; variables = []; tasks = [] }
 
 head_back : (m : MapValue) (n : ℕ) (more : List (List (List ℕ))) → IsMap m
     → head n (lines (printed (head_fields m ++ more))) ≡ Ok (bare m, lines (printed more))
@@ -192,7 +196,24 @@ head_back m n more h =
           (versions_back m.versions h.versions),
     ) refl
 
--- which lines the rules allow
+-- the place of the copies
+
+-- lines from the k-th on that begin with another line than that of the copies
+abbrev BeginsOtherwise : ℕ → List (List ℕ) → Type 0
+BeginsOtherwise k ls = take_copies k ls ≡ record { place = None; rest = ls; line = k }
+
+other_line : (k : ℕ) (w : List ℕ) (ws : List (List ℕ)) (more : List (List (List ℕ))) → AreWords (w ∷ ws) → bytes_eq w (codes "copies") ≡ false
+    → BeginsOtherwise k (lines (printed ((w ∷ ws) ∷ more)))
+other_line k w ws more h e = rw (lines_printed (w ∷ ws) more h, line_back w ws h, e) refl
+
+-- the place of the copies reads back, where other lines stand behind
+copies_read : (m : MapValue) (o : Option Place) (k : ℕ) (more : List (List (List ℕ))) → IfSome o IsPlace → BeginsOtherwise k (lines (printed more))
+    → (j : ℕ) × (with_copies m (take_copies k (lines (printed (copies_fields o ++ more))))
+    ≡ record { value = record m { copies = o }; rest = lines (printed more); line = j })
+copies_read m None k more h e = (k, ap (with_copies m) e)
+copies_read m (Some p) k more h e =
+    let words : AreWords (place_fields (codes "copies") p) = (omega arith, omega arith, place_words p h) in
+    (k + 1, rw (lines_printed (place_fields (codes "copies") p) more words, line_back (codes "copies") _ words, copies_back p h) refl)
 
 -- the lines of variables and tasks
 
@@ -299,6 +320,22 @@ read_end m i h =
     let said : step i m (codes "end" ∷ []) ≡ Ok (false, m) = rw some refl in
     body_done i m m _ _ _ false (lines_printed (codes "end" ∷ []) [] words) (ap (step i m) (line_back (codes "end") [] words) ∙ said) refl
 
+-- variables, tasks and the end begin otherwise than with the copies
+
+variable_otherwise : (k : ℕ) (o : Option ℕ) (name : List ℕ) (t : ValueType) (a : ℕ) (more : List (List (List ℕ))) → IsFramWord a → is_name name ≡ true
+    → fits a o ≡ true → BeginsOtherwise k (lines (printed (sized_fields o name t a ∷ more)))
+variable_otherwise k None name t a more h n f = other_line k (codes "scalar") _ more (sized_words None name t a h n f) refl
+variable_otherwise k (Some l) name t a more h n f = other_line k (codes "array") _ more (sized_words (Some l) name t a h n f) refl
+
+body_otherwise : (k : ℕ) (vs : List Variable) (ts : List TaskValue) → All IsVariable vs → All (λ v. is_name v.name ≡ true) vs → All AreTaskNames ts
+    → BeginsOtherwise k (lines (printed (map variable_fields vs ++ (tasks_fields ts ++ (codes "end" ∷ []) ∷ []))))
+body_otherwise k [] [] are names tasks = other_line k (codes "end") [] [] (omega arith, omega arith, tt) refl
+body_otherwise k [] (t ∷ ts) are names tasks =
+    other_line k (codes "task") (t.name ∷ []) _ (omega arith, omega arith, name_word t.name [] (tasks 0 t (omega arith)).name tt) refl
+body_otherwise k (v ∷ vs) ts are names tasks =
+    let is : IsVariable v = are 0 v (omega arith) in
+    variable_otherwise k v.length v.name v.value_type v.address _ is.address (names 0 v (omega arith)) is.fits
+
 no_lines : lines (printed []) ≡ []
 unfolding printed pieces
 no_lines = refl
@@ -308,11 +345,13 @@ pub reads_back : (m : MapValue) → IsMap m → All (λ v. is_name v.name ≡ tr
 unfolding map_fields
 reads_back m h names tasks some n =
     let end : List (List (List ℕ)) = (codes "end" ∷ []) ∷ [] in
-    let first = head_back m n (map variable_fields m.variables ++ (tasks_fields m.tasks ++ end)) h in
-    let second = read_variables m h names (n + 6) [] m.variables (tasks_fields m.tasks ++ end) refl in
+    let behind : List (List (List ℕ)) = map variable_fields m.variables ++ (tasks_fields m.tasks ++ end) in
+    let first = head_back m n (copies_fields m.copies ++ behind) h in
+    let copies = copies_read (bare m) m.copies (n + 6) behind h.copies (body_otherwise (n + 6) m.variables m.tasks h.variables names tasks) in
+    let second = read_variables m h names copies.0 [] m.variables (tasks_fields m.tasks ++ end) refl in
     let third = read_tasks m h tasks second.0 [] m.tasks end refl in
     let last = read_end m third.0 some in (
       third.0 + 1,
-      ap (λ r. r >>= λ h. body (n + 6) h.0 h.1) first ∙ second.1 ∙ third.1 ∙ last
+      ap (λ r. r >>= λ h. rest_lines (with_copies h.0 (take_copies (n + 6) h.1))) first ∙ ap rest_lines copies.1 ∙ second.1 ∙ third.1 ∙ last
           ∙ ap (λ r. Ok (record { value = m; rest = r; line = third.0 + 1 })) no_lines,
     )

@@ -1,10 +1,9 @@
 -- What the lines of a map say. One blank parts the fields of a line.
-use Rattle.std.specs.Prelude.{ℕ, ◌+◌, ◌-◌, ◌*◌, ◌^◌, ◌==◌, ◌&&◌, ◌||◌, Bool, true, false, not, nat_le, nat_lt, nat_eq, if◌then◌else◌, List, [], ◌∷◌, Option}
-use Rattle.std.specs.Prelude.{Some, None, Ok, Err, Result, codes}
+use Rattle.std.specs.Prelude.{ℕ, ◌+◌, ◌-◌, ◌*◌, ◌^◌, ◌==◌, ◌&&◌, ◌||◌, Bool, true, false, not, nat_le, nat_eq, if◌then◌else◌, List, [], ◌∷◌, Option}
+use Rattle.std.specs.Prelude.{Some, None, codes}
 use Rattle.std.specs.Str.{bytes_eq}
 use Rattle.std.specs.List.{starts_with}
 use Rattle.alp_text.specs.Numbers.{number_of, limited}
-use Rattle.alp_text.specs.declared.numbers.NumberFault.{NumberFault}
 pub use Rattle.alp_text.specs.Sequence.{◌>>?◌}
 use Rattle.text_parts.specs.Fields.{fields, is_blank, no_fields}
 use Rattle.image_map.specs.declared.parts.RuntimeWords.{RuntimeWords}
@@ -110,7 +109,7 @@ words_of fs = behind (codes "words") fs >>? λ fs. next_address fs >>? λ cur. n
       version = ver.0;
     })
 
--- `list ADDRESS N`, `emits ADDRESS N` or `versions ADDRESS N`, by the first word
+-- `list ADDRESS N`, `emits ADDRESS N`, `versions ADDRESS N` or `copies ADDRESS N`, by the first word
 abbrev pub place_of : List ℕ → List (List ℕ) → Option Place
 place_of word fs = behind word fs >>? λ fs. next_address fs >>? λ a. next_number a.1 >>? λ n. alone n.1 (record { address = a.0; capacity = n.0 })
 
@@ -127,3 +126,7 @@ array_of fs = next_name fs >>? λ n. next_type n.1 >>? λ t. next_address t.1 >>
 -- `NAME`
 abbrev pub lone_name : List (List ℕ) → Option (List ℕ)
 lone_name fs = next_name fs >>? λ n. alone n.1 n.0
+
+-- a word and a number below 65536
+abbrev pub number_behind : List ℕ → List (List ℕ) → Option ℕ
+number_behind word fs = behind word fs >>? λ fs. next_length fs >>? λ n. alone n.1 n.0

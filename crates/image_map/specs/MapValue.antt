@@ -1,5 +1,5 @@
 -- What a map is, its rules, and what a line may add to it.
-use Rattle.std.specs.Prelude.{◌≡◌, ℕ, ◌+◌, ◌*◌, ◌%◌, ◌^◌, ◌==◌, ◌<◌, ◌≤◌, ◌&&◌, ◌||◌, Bool, true, false, nat_lt, nat_le, not, if◌then◌else◌, List, [], ◌∷◌, ◌++◌, length, map, Option, Some, None, is_none, All}
+use Rattle.std.specs.Prelude.{◌≡◌, ℕ, ◌+◌, ◌*◌, ◌%◌, ◌^◌, ◌==◌, ◌<◌, ◌≤◌, ◌&&◌, ◌||◌, Bool, true, false, nat_lt, nat_le, not, if◌then◌else◌, List, [], ◌∷◌, ◌++◌, length, map, Option, Some, None, is_none, IfSome, All}
 use Rattle.std.specs.List.{list_any}
 use Rattle.std.specs.Str.{bytes_eq}
 use Rattle.image_map.specs.declared.parts.RuntimeWords.{RuntimeWords}
@@ -11,14 +11,15 @@ pub record TaskValue : Type 0 where
   pub name : List ℕ
   pub privates : List (List ℕ)
 
--- a map: the bound of a transition in cycles, the addresses of the runtime's words, the places of commit list, emits and
--- versions, then variables and tasks in order of declaration
+-- a map: the bound of a transition in cycles, the addresses of the runtime's words, the places of commit list, emits, versions and
+-- private copies, then variables and tasks in order of declaration. A map may not say where the copies are: then there are none
 pub record MapValue : Type 0 where
   pub bound : ℕ
   pub words : RuntimeWords
   pub list : Place
   pub emits : Place
   pub versions : Place
+  pub copies : Option Place
   pub variables : List Variable
   pub tasks : List TaskValue
 
@@ -142,6 +143,7 @@ pub record IsMap (m : MapValue) : Type 0 where
   pub list : IsPlace m.list
   pub emits : IsPlace m.emits
   pub versions : IsPlace m.versions
+  pub copies : IfSome m.copies IsPlace
   pub variables : All IsVariable m.variables
   pub few_variables : length m.variables ≤ 256
   pub few_tasks : length m.tasks ≤ 64

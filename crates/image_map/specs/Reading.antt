@@ -5,6 +5,7 @@ pub use Rattle.alp_text.specs.Sequence.{◌>>=◌}
 use Rattle.text_parts.specs.Fields.{no_fields}
 use Rattle.image_map.specs.declared.fault.MapFault.{MapFault}
 use Rattle.image_map.specs.declared.fault.MapFault.TheVariants.{BadMap, Memory}
+use Rattle.image_map.specs.declared.parts.Place.{Place}
 use Rattle.image_map.specs.declared.parts.Variable.{Variable}
 use Rattle.image_map.specs.MapValue.{MapValue, takes_variable, with_variable, takes_task, with_task, takes_private, with_private}
 use Rattle.image_map.specs.Line.{line_fields, start_of, bound_of, words_of, place_of, scalar_of, array_of, lone_name}
@@ -19,12 +20,50 @@ abbrev pub take_line : {A : Type 0} → (List (List ℕ) → Option A) → ℕ �
 take_line says n [] = Err (BadMap n)
 take_line says n (l ∷ ls) = said n (says (line_fields l)) ls
 
--- the six lines before the variables, of which the first is the n-th, and the lines behind them
+-- a map, the lines behind it, and the number of the first of them
+pub record MapLines : Type 0 where
+  pub value : MapValue
+  pub rest : List (List ℕ)
+  pub line : ℕ
+
+-- the place of the copies, if a line says it, and the lines behind it, with the number of the first of them
+pub record CopiesLines : Type 0 where
+  pub place : Option Place
+  pub rest : List (List ℕ)
+  pub line : ℕ
+
+-- what the n-th line says of the copies: a line that doesn't say their place is one of those behind
+abbrev pub copies_by : ℕ → List ℕ → List (List ℕ) → Option Place → CopiesLines
+copies_by n l ls None = record { place = None; rest = l ∷ ls; line = n }
+copies_by n l ls (Some p) = record { place = Some p; rest = ls; line = n + 1 }
+
+-- what lines from the n-th on say of the copies
+abbrev pub take_copies : ℕ → List (List ℕ) → CopiesLines
+take_copies n [] = record { place = None; rest = []; line = n }
+take_copies n (l ∷ ls) = copies_by n l ls (place_of (codes "copies") (line_fields l))
+
+-- a map with what is said of its copies, and the lines behind
+abbrev pub with_copies : MapValue → CopiesLines → MapLines
+with_copies m c = record { value = record m { copies = c.place }; rest = c.rest; line = c.line }
+
+-- the first six lines, of which the first is the n-th, and the lines behind them
 abbrev pub head : ℕ → List (List ℕ) → Result (MapValue × List (List ℕ)) MapFault
 head n ls = take_line start_of n ls >>= λ start. take_line bound_of (n + 1) start.1 >>= λ bound. take_line words_of (n + 2) bound.1 >>= λ words.
     take_line (place_of (codes "list")) (n + 3) words.1 >>= λ list. take_line (place_of (codes "emits")) (n + 4) list.1 >>= λ emits.
     take_line (place_of (codes "versions")) (n + 5) emits.1 >>= λ versions.
-    Ok (record { bound = bound.0; words = words.0; list = list.0; emits = emits.0; versions = versions.0; variables = []; tasks = [] }, versions.1)
+    Ok (
+      record {
+        bound = bound.0;
+        words = words.0;
+        list = list.0;
+        emits = emits.0;
+        versions = versions.0;
+        copies = None;
+        variables = [];
+        tasks = [];
+      },
+      versions.1,
+    )
 
 -- the map with a variable of the n-th line
 abbrev pub put_variable : ℕ → MapValue → Option Variable → Result (Bool × MapValue) MapFault
@@ -52,12 +91,6 @@ step n m (word ∷ fs) =
     else (if bytes_eq word (codes "end") && (no_fields fs && nat_lt 0 (length m.tasks)) then Ok (false, m)
     else Err (BadMap n)))))
 
--- a map, the lines behind it, and the number of the first of them
-pub record MapLines : Type 0 where
-  pub value : MapValue
-  pub rest : List (List ℕ)
-  pub line : ℕ
-
 -- what comes later, or the end
 abbrev pub goes_on : {A : Type 0} → Bool → A → A → A
 goes_on true later end = later
@@ -68,9 +101,13 @@ unfoldable pub body : ℕ → MapValue → List (List ℕ) → Result MapLines M
 body n m [] = Err (BadMap n)
 body n m (l ∷ ls) = step n m (line_fields l) >>= λ o. goes_on o.0 (body (n + 1) o.1 ls) (Ok (record { value = o.1; rest = ls; line = n + 1 }))
 
+-- the lines behind those before the variables
+abbrev pub rest_lines : MapLines → Result MapLines MapFault
+rest_lines t = body t.line t.value t.rest
+
 -- the map that lines from the n-th on begin with
 abbrev pub map_lines : ℕ → List (List ℕ) → Result MapLines MapFault
-map_lines n ls = head n ls >>= λ h. body (n + 6) h.0 h.1
+map_lines n ls = head n ls >>= λ h. rest_lines (with_copies h.0 (take_copies (n + 6) h.1))
 
 -- the fault of a call is that of the lines, unless memory was refused
 abbrev pub Fails : {A : Type 0} → MapFault → Result A MapFault → Type 0

@@ -48,14 +48,19 @@ abbrev pub tasks_fields : List TaskValue → List (List (List ℕ))
 tasks_fields [] = []
 tasks_fields (t ∷ ts) = task_fields t ++ tasks_fields ts
 
--- the lines before the variables
+-- the line of the copies, if a map says where they are
+abbrev pub copies_fields : Option Place → List (List (List ℕ))
+copies_fields None = []
+copies_fields (Some p) = place_fields (codes "copies") p ∷ []
+
+-- the first six lines
 abbrev pub head_fields : MapValue → List (List (List ℕ))
 head_fields m = (codes "map" ∷ []) ∷ (codes "bound" ∷ decimal m.bound ∷ []) ∷ runtime_fields m.words ∷
     place_fields (codes "list") m.list ∷ place_fields (codes "emits") m.emits ∷ place_fields (codes "versions") m.versions ∷ []
 
 -- the lines of a map
 unfoldable pub map_fields : MapValue → List (List (List ℕ))
-map_fields m = head_fields m ++ (map variable_fields m.variables ++ (tasks_fields m.tasks ++ (codes "end" ∷ []) ∷ []))
+map_fields m = head_fields m ++ (copies_fields m.copies ++ (map variable_fields m.variables ++ (tasks_fields m.tasks ++ (codes "end" ∷ []) ∷ [])))
 
 -- the text of a map
 abbrev pub map_text : MapValue → List ℕ

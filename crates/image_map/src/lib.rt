@@ -10,6 +10,7 @@ mod parts;
 mod print;
 
 pub use fault::MapFault;
+pub use line::number_behind;
 pub use map::{Map, is_fram_word};
 pub use name::Name;
 pub use parse::{MapText, read_map};

@@ -2,7 +2,7 @@
 ghost use Rattle.std.specs.Prelude.{◌≡◌, ◌≤◌, ◌<◌, ◌^◌, ◌∷◌, [], Some, None, IfSome, MatchOption, option_map, is_some, length, true};
 ghost use Rattle.text_parts.specs.Fields.{fields, no_fields};
 ghost use Rattle.image_map.specs.MapValue.{IsFramWord, AreFramWords};
-ghost use Rattle.image_map.specs.Line.{single_from, line_fields, address_digit, fram_word, address_of, decimal_below, type_of, next_address, next_number, next_length, next_name, next_type, behind, start_of, bound_of, words_of, place_of, scalar_of, array_of, lone_name};
+ghost use Rattle.image_map.specs.Line.{single_from, line_fields, address_digit, fram_word, address_of, decimal_below, type_of, next_address, next_number, next_length, next_name, next_type, behind, start_of, bound_of, words_of, place_of, scalar_of, array_of, lone_name, number_behind};
 
 use crate::map::is_fram_word;
 use crate::name::Name;
@@ -262,6 +262,19 @@ pub fn lone_name(line: &[u8]) -> Option<Name>
     let (name, rest) = next_name(line)?;
     if is_blank_line(rest) {
         Some(name)
+    } else {
+        None
+    }
+}
+
+/// The number below 65536 of a line that is a word and a number, with one space between; nothing of another line.
+pub fn number_behind(word: &[u8], line: &[u8]) -> Option<u16>
+    ensures { result ≡ number_behind word.now (line_fields line.now) }
+{
+    let rest = behind(word, line)?;
+    let (number, rest) = next_length(rest)?;
+    if is_blank_line(rest) {
+        Some(number)
     } else {
         None
     }

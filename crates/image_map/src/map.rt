@@ -20,6 +20,7 @@ pub struct Map {
     list: Place,
     emits: Place,
     versions: Place,
+    copies: Option<Place>,
     variables: Vec<Variable>,
     tasks: Vec<Task>,
 }
@@ -105,12 +106,12 @@ fn are_scalars(names: &[Name], last: &[u8], variables: &[Variable]) -> bool
 }
 
 impl Map {
-    ghost use Rattle.std.specs.Prelude.{◌≡◌, ◌<◌, ◌≤◌, [], OnOk, OnErr, true};
+    ghost use Rattle.std.specs.Prelude.{◌≡◌, ◌<◌, ◌≤◌, [], OnOk, OnErr, Some, None, true};
     ghost use Rattle.image_map.specs.declared.parts.RuntimeWords.{RuntimeWords};
     ghost use Rattle.image_map.specs.declared.parts.Place.{Place};
     ghost use Rattle.image_map.specs.MapValue.{AreFramWords, IsFramWord, IsMap, takes_variable, with_variable, takes_task, with_task, takes_private, with_private, is_used};
 
-    /// A map without variables and tasks, from its first lines.
+    /// A map without copies, variables and tasks, from its first lines.
     pub fn new(
         alloc: Global,
         bound: u32,
@@ -123,7 +124,7 @@ impl Map {
         requires list { IsFramWord list.address }
         requires emits { IsFramWord emits.address }
         requires versions { IsFramWord versions.address }
-        ensures { result ≡ record { bound = bound; words = words; list = list; emits = emits; versions = versions; variables = []; tasks = [] } }
+        ensures { result ≡ record { bound = bound; words = words; list = list; emits = emits; versions = versions; copies = None; variables = []; tasks = [] } }
     {
         Map {
             bound,
@@ -131,6 +132,7 @@ impl Map {
             list,
             emits,
             versions,
+            copies: None,
             variables: Vec::new(alloc),
             tasks: Vec::new(alloc),
         }
@@ -176,6 +178,21 @@ impl Map {
         ensures { result ≡ self.now.versions }
     {
         self.versions
+    }
+
+    /// The private copies of the shared variables; nothing where the map doesn't say where they are.
+    pub fn copies(&self) -> Option<Place>
+        ensures { result ≡ self.now.copies }
+    {
+        self.copies
+    }
+
+    /// Says where the private copies are.
+    pub fn set_copies(&mut self, copies: Place)
+        requires { IsFramWord copies.address }
+        ensures { self.new ≡ record self.old { copies = Some copies } }
+    {
+        self.copies = Some(copies);
     }
 
     /// The shared variables, in order of declaration.

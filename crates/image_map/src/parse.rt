@@ -1,10 +1,11 @@
 //! Lines read as a map.
-ghost use Rattle.std.specs.Prelude.{◌≡◌, ◌<◌, ◌≤◌, ◌+◌, Some, OnOk, IfOk, length, codes, true, false};
+ghost use Rattle.std.specs.Prelude.{◌≡◌, ◌<◌, ◌≤◌, ◌+◌, Some, None, OnOk, IfOk, length, codes, true, false};
 ghost use Rattle.text_parts.specs.Fields.{fields};
 ghost use Rattle.text_parts.specs.Lines.{lines};
 ghost use Rattle.image_map.specs.MapValue.{IsFramWord, AreFramWords};
 ghost use Rattle.image_map.specs.Line.{line_fields, start_of, bound_of, words_of, place_of, scalar_of, array_of, lone_name};
-ghost use Rattle.image_map.specs.Reading.{Gives, take_line, head, put_variable, put_task, put_private, step, body, map_lines};
+ghost use Rattle.image_map.specs.Reading as reading;
+ghost use Rattle.image_map.specs.Reading.{Gives, take_line, head, with_copies, put_variable, put_task, put_private, step, body, map_lines};
 ghost use Rattle.image_map.specs.Read.{read_text};
 
 use crate::fault::MapFault;
@@ -82,10 +83,11 @@ fn take_place<'a>(word: &[u8], text: &'a [u8], n: u32) -> Result<(Place, &'a [u8
     }
 }
 
-// The map of the six lines before the variables, and what stands behind them.
+// The map of the first six lines, and what stands behind them.
 fn read_head(alloc: Global, text: &[u8], n: u32) -> Result<(Map, &[u8]), MapFault>
     requires { n + length text.now < 4294967296 }
     ensures value { Gives (λ p. (p.0, lines p.1.now)) result (head n (lines text.now)) }
+    ensures bare { IfOk result (λ p. p.0.copies ≡ None) }
     ensures shorter { IfOk result (λ p. length p.1.now + 6 ≤ length text.now) }
 {
     let rest = take_start(text, n)?;
@@ -95,6 +97,25 @@ fn read_head(alloc: Global, text: &[u8], n: u32) -> Result<(Map, &[u8]), MapFaul
     let (emits, rest) = take_place(b"emits", rest, n + 4)?;
     let (versions, rest) = take_place(b"versions", rest, n + 5)?;
     Ok((Map::new(alloc, bound, words, list, emits, versions), rest))
+}
+
+// Adds the place of the copies, if the first line says it, which is line `n`; and what stands behind it, with the number of its first line.
+fn take_copies<'a>(map: &mut Map, text: &'a [u8], n: u32) -> (&'a [u8], u32)
+    requires room { n + length text.now < 4294967296 }
+    requires bare { map.old.copies ≡ None }
+    ensures value { record { value = map.new; rest = lines result.0.now; line = result.1 } ≡ with_copies map.old (reading.take_copies n (lines text.now)) }
+    ensures shorter { result.1 + length result.0.now ≤ n + length text.now }
+{
+    let Some((line, rest)) = cut_line(text) else {
+        return (text, n);
+    };
+    match place_of(b"copies", line) {
+        Some(copies) => {
+            map.set_copies(copies);
+            (rest, n + 1)
+        }
+        None => (text, n),
+    }
 }
 
 fn put_variable(map: &mut Map, v: Option<Variable>, n: u32) -> Result<bool, MapFault>
@@ -188,7 +209,7 @@ fn read_body<'a>(alloc: Global, map: Map, text: &'a [u8], n: u32) -> Result<MapT
 /// the first line that breaks the form or a rule, which is the line behind the last where the text ends too soon.
 ///
 /// One blank parts the fields of a line. The lines are `map`, `bound B`, `words CUR NEXT GATE CLN EN BASE SB VER`, then `list`,
-/// `emits` and `versions`, each with an address and a capacity, then `scalar NAME TYPE ADDRESS` and `array NAME TYPE ADDRESS N`,
+/// `emits`, `versions` and perhaps `copies`, each with an address and a capacity, then `scalar NAME TYPE ADDRESS` and `array NAME TYPE ADDRESS N`,
 /// then `task NAME`, each followed by `private NAME` lines, and `end`. An address is four upper-case hexadecimal digits, a number
 /// decimal and below 2^32, and TYPE is `unsigned` or `int`. `Memory` is the answer where memory was refused, and only then.
 pub fn read_map(alloc: Global, text: &[u8], n: u32) -> Result<MapText<'_>, MapFault>
@@ -197,6 +218,7 @@ pub fn read_map(alloc: Global, text: &[u8], n: u32) -> Result<MapText<'_>, MapFa
     ensures task { IfOk result (λ t. 0 < length t.map.tasks) }
     ensures shorter { IfOk result (λ t. t.line + length t.rest.now ≤ n + length text.now) }
 {
-    let (map, rest) = read_head(alloc, text, n)?;
-    read_body(alloc, map, rest, n + 6)
+    let (mut map, rest) = read_head(alloc, text, n)?;
+    let (rest, line) = take_copies(&mut map, rest, n + 6);
+    read_body(alloc, map, rest, line)
 }

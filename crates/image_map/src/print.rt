@@ -3,7 +3,7 @@ ghost use Rattle.std.specs.Prelude.{◌≡◌, ◌<◌, ◌≤◌, ◌++◌, ◌
 ghost use Rattle.text_parts.specs.Printed.{spaced, printed};
 ghost use Rattle.image_map.specs.Names.{is_name};
 ghost use Rattle.image_map.specs.MapValue.{IsMap};
-ghost use Rattle.image_map.specs.Text.{address_text, runtime_fields, place_fields, type_text, sized_fields, variable_fields, private_fields, task_fields, tasks_fields, head_fields, map_text, tail_text};
+ghost use Rattle.image_map.specs.Text.{address_text, runtime_fields, place_fields, copies_fields, type_text, sized_fields, variable_fields, private_fields, task_fields, tasks_fields, head_fields, map_text, tail_text};
 ghost use Rattle.image_map.specs.Named.{AreTaskNames};
 ghost use Rattle.image_map.specs.ReadsBack.{ReadsBack};
 
@@ -84,6 +84,16 @@ fn push_place(out: &mut Vec<u8>, word: &[u8], place: Place) -> Result<(), AllocE
     let address = address_text(place.address);
     let capacity = print_u64(place.capacity as u64);
     push_line(out, word, &[&address, capacity.as_bytes()])
+}
+
+#[tactic(auto, unfolding(text_parts::specs::Printed::printed))]
+fn push_copies(out: &mut Vec<u8>, copies: Option<Place>) -> Result<(), AllocError>
+    ensures { OnOk result (out.new.items ≡ out.old.items ++ printed (copies_fields copies)) }
+{
+    match copies {
+        None => Ok(()),
+        Some(place) => push_place(out, b"copies", place),
+    }
 }
 
 #[tactic(auto, unfolding(text_parts::specs::Printed::printed))]
@@ -207,6 +217,7 @@ pub fn push_map(out: &mut Vec<u8>, map: &Map) -> Result<(), AllocError>
 {
     map.rules();
     push_head(out, map)?;
+    push_copies(out, map.copies())?;
     push_variables(out, map.variables())?;
     push_tasks(out, map.tasks())?;
     push_line(out, b"end", &[])?;

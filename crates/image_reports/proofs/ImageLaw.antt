@@ -32,7 +32,7 @@ use Rattle.link_image.specs.crash_rules.Laws.{Origin, Resting, Phase, UndecidedP
 use Rattle.link_image.proofs.crash_rules.Interface.{world_fram, never_lost, sent_once, stops_short}
 use Rattle.link_image.specs.run_charges.Charges.{ArePowerStates, AreInstructionMoments}
 use Rattle.link_image.specs.run_charges.Laws.{IsRunOfWords}
-use Rattle.link_image.proofs.run_charges.Interface.{IsMomentFrom, PowersUp, Instructs, AreMoments, are_behind, front_moments}
+use Rattle.link_image.proofs.run_charges.Interface.{IsMomentFrom, PowersUp, Instructs, AreMoments, are_behind, front_moments, front_counts}
 use Rattle.link_image.specs.model_runs.Runs.{BearsModel, Progresses}
 use Rattle.link_image.proofs.model_runs.Interface.{AtFront, at_front, is_powered, program_leads, starts_hold, fronts_are_lawful, stops_where_short, makes_progress}
 use Rattle.link_image.specs.stands_for.StandsFor.{HoldsWords}
@@ -50,7 +50,6 @@ use Rattle.image_reports.specs.ImageLaw.{known_behind, start_due, attempt_due, a
 use Rattle.image_reports.proofs.Begins.{bears, begins_with_source, run_of_states}
 use Rattle.image_reports.proofs.Capacities.{capacities_stay}
 use Rattle.image_reports.proofs.Told.{made, runs_are_told}
-use Rattle.image_reports.proofs.ImageBoards.{front_counts}
 use Rattle.image_reports.proofs.ImageStart.{versions_below}
 use Rattle.image_reports.proofs.ImageCode.{GoesOn, StopsAtReadings, goes_on, StandsOn, stands_on, placed_within, same_words, words_fetched}
 

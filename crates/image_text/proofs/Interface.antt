@@ -15,4 +15,6 @@ pub use Rattle.image_text.proofs.Apart.{sections_made}
 -- What is placed where bytes are put, and where they can't be.
 pub use Rattle.image_text.proofs.Placing.{or_none}
 -- What reading gives is the meaning of the lines.
-pub use Rattle.image_text.proofs.Meanings.{or_assoc}
+pub use Rattle.image_text.proofs.Meanings.{or_assoc, front_meaning}
+-- An image is read off the lines up to its `q`, whatever stands behind.
+pub use Rattle.image_text.proofs.Ahead.{FrontAhead, front_ahead}

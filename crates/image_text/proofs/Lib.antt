@@ -10,4 +10,5 @@ mod Printed
 mod Apart
 mod Placing
 mod Meanings
+mod Ahead
 pub mod Interface

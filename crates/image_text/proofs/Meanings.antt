@@ -15,9 +15,11 @@ use Rattle.image_map.specs.Reading.{MapLines, map_lines, goes_on}
 use Rattle.image_text.specs.ImageValue.{ImageValue}
 use Rattle.image_text.specs.Line.{LineMeaning, nothing, address, bytes, quit, line_says}
 use Rattle.image_text.specs.Memory.{Placed, put_once, put_at, place, step}
-use Rattle.image_text.specs.Reading.{read, finish, are_blank, whole_map, image_behind, empty, words_of, Gives, ◌>>=◌}
+use Rattle.image_text.specs.Reading.{Front, read, finish, front_of, image_lines, are_blank, whole_map, image_behind, empty, words_of, Gives, ◌>>=◌}
+use Rattle.image_text.specs.declared.parse.ImageFront.{ImageFront}
+use Rattle.image_text.specs.Read.{read_front, IsFrontRead}
 use Rattle.image_text.specs.Meaning.{moved, next_address, byte_from, byte_at, given, Fits, GoesOn, AllGoOn, AreLines, IsBadLine, IsOutside, IsTwice, FaultAt}
-use Rattle.image_text.specs.Meaning.{EndsAt, IsImageOf, HasReset, AreBlank, NotBlank, IsMeaningOf}
+use Rattle.image_text.specs.Meaning.{EndsAt, IsImageOf, AreBlank, NotBlank, IsFrontOf, IsMeaningOf}
 use Rattle.image_text.proofs.Placing.{or_none, not_given, Puts, puts, Taken, taken}
 use Rattle.image_text.specs.declared.fault.ImageFault.TheVariants as fault
 
@@ -62,16 +64,16 @@ more_lines done l ms m h e g = record {
 -- whatever lines come behind those that are read
 abbrev ImageContinues : List (List ℕ) → Type 0
 ImageContinues ls = (done : List (List ℕ)) (ms : List LineMeaning) (p : Placed) → AreLines done ms → State ms p
-    → IsMeaningOf (done ++ ls) (read (length done + 1) p ls)
+    → IsFrontOf (done ++ ls) (read (length done + 1) p ls)
 
 later : (done ls : List (List ℕ)) (l : List ℕ) (ms : List LineMeaning) (m : LineMeaning) (q : Placed) → ImageContinues ls → AreLines done ms
     → line_says l ≡ Some m → GoesOn ms m
-    → State (ms ++ m ∷ []) q → IsMeaningOf (done ++ l ∷ ls) (read (length done + 1 + 1) q ls)
+    → State (ms ++ m ∷ []) q → IsFrontOf (done ++ l ∷ ls) (read (length done + 1 + 1) q ls)
 later done ls l ms m q next h e g s =
     let rest = next (done ++ l ∷ []) (ms ++ m ∷ []) q (more_lines done l ms m h e g) s in
     let len : length (done ++ l ∷ []) + 1 ≡ length done + 1 + 1 = ap (λ k. k + 1) (length-append done (l ∷ [])) in
-    let P : List (List ℕ) → Type 0 = λ ls'. IsMeaningOf ls' (read (length (done ++ l ∷ []) + 1) q ls) in
-    let Q : ℕ → Type 0 = λ k. IsMeaningOf (done ++ l ∷ ls) (read k q ls) in
+    let P : List (List ℕ) → Type 0 = λ ls'. IsFrontOf ls' (read (length (done ++ l ∷ []) + 1) q ls) in
+    let Q : ℕ → Type 0 = λ k. IsFrontOf (done ++ l ∷ ls) (read k q ls) in
     subst Q len (subst P (append_assoc done (l ∷ []) ls) rest)
 
 fault_at : (done ls : List (List ℕ)) (l : List ℕ) (ms : List LineMeaning) (IsFault : List LineMeaning → Option LineMeaning → Type 0) → AreLines done ms
@@ -142,7 +144,7 @@ fitting ms bs p a n low high e put s = record {
 put_meaning : (o : Option (List (Option ℕ))) (done ls : List (List ℕ)) (l : List ℕ) (ms : List LineMeaning) (bs : List ℕ) (p : Placed) (a : ℕ)
     → ImageContinues ls → AreLines done ms → State ms p
     → line_says l ≡ Some (bytes bs) → next_address None ms ≡ Some a → 17408 ≤ a → a + length bs ≤ 65536 → put_once (a - 17408) bs p.memory ≡ o
-    → IsMeaningOf (done ++ l ∷ ls) (put_at (length done + 1) a (length bs) o >>= λ o. goes_on o.0 (read (length done + 1 + 1) o.1 ls)
+    → IsFrontOf (done ++ l ∷ ls) (put_at (length done + 1) a (length bs) o >>= λ o. goes_on o.0 (read (length done + 1 + 1) o.1 ls)
     (finish (length done + 1 + 1) o.1.memory ls))
 put_meaning (Some n) done ls l ms bs p a next h s e f low high put =
     let len : length p.memory ≡ 48128 = s.len in
@@ -158,7 +160,7 @@ put_meaning None done ls l ms bs p a next h s e f low high put = twice (taken (a
 bytes_by : (t u : Bool) (done ls : List (List ℕ)) (l : List ℕ) (ms : List LineMeaning) (bs : List ℕ) (p : Placed) (a : ℕ) → ImageContinues ls → AreLines done ms
     → State ms p
     → line_says l ≡ Some (bytes bs) → next_address None ms ≡ Some a → nat_lt a 17408 ≡ t → nat_lt 65536 (a + length bs) ≡ u
-    → IsMeaningOf (done ++ l ∷ ls) ((if t || u then Err (fault.OutsideFram (length done + 1)) else put_at (length done + 1) a (length bs)
+    → IsFrontOf (done ++ l ∷ ls) ((if t || u then Err (fault.OutsideFram (length done + 1)) else put_at (length done + 1) a (length bs)
     (put_once (a - 17408) bs p.memory))
     >>= λ o. goes_on o.0 (read (length done + 1 + 1) o.1 ls) (finish (length done + 1 + 1) o.1.memory ls))
 bytes_by true u done ls l ms bs p a next h s e f t k = fault_at done ls l ms IsOutside h (bs, a, e, f, inl (grind (arith, nat_tests, t)))
@@ -169,7 +171,7 @@ bytes_by false false done ls l ms bs p a next h s e f t k =
 bytes_meaning : (o : Option ℕ) (done ls : List (List ℕ)) (l : List ℕ) (ms : List LineMeaning) (bs : List ℕ) (p : Placed) → ImageContinues ls → AreLines done ms
     → State ms p
     → line_says l ≡ Some (bytes bs) → p.next ≡ o
-    → IsMeaningOf (done ++ l ∷ ls) (place (length done + 1) p bs o >>= λ o. goes_on o.0 (read (length done + 1 + 1) o.1 ls)
+    → IsFrontOf (done ++ l ∷ ls) (place (length done + 1) p bs o >>= λ o. goes_on o.0 (read (length done + 1 + 1) o.1 ls)
     (finish (length done + 1 + 1) o.1.memory ls))
 bytes_meaning None done ls l ms bs p next h s e f = inl (fault_at done ls l ms IsBadLine h (inr (bs, e, sym s.next ∙ f)))
 bytes_meaning (Some a) done ls l ms bs p next h s e f =
@@ -229,35 +231,15 @@ is_image ms p s =
           (at_place ms p (2 * k + 1) s (omega arith) ∙ ap (given ms) (let z : 17408 + (2 * k + 1) ≡ 17408 + 2 * k + 1 = omega arith in z));
     }
 
-rest_by : (v : MapValue) (more : List (List ℕ)) (k : ℕ) (ls rest : List (List ℕ)) (ms : List LineMeaning) (n : ℕ) (p : Placed) → State ms p
-    → EndsAt ls ms rest n → HasReset ms → NotBlank rest
-    → map_lines n rest ≡ Ok (record { value = v; rest = more; line = k })
-    → IsMeaningOf ls ((whole_map (Ok (record { value = v; rest = more; line = k })) >>= λ m. Ok (Some m)) >>= λ o. Ok
-    (record { words = words_of p.memory; map = o }))
-rest_by v [] k ls rest ms n p s end reset b e = (ms, rest, n, end, reset, (k, e), is_image ms p s)
-rest_by v (l ∷ more) k ls rest ms n p s end reset b e = (ms, rest, n, end, reset, (b, inr (v, l, more, e)))
-
-whole_by : (r : Result MapLines MapFault) (ls rest : List (List ℕ)) (ms : List LineMeaning) (n : ℕ) (p : Placed) → State ms p → EndsAt ls ms rest n
-    → HasReset ms → NotBlank rest → map_lines n rest ≡ r
-    → IsMeaningOf ls ((whole_map r >>= λ m. Ok (Some m)) >>= λ o. Ok (record { words = words_of p.memory; map = o }))
-whole_by (Ok t) ls rest ms n p s end reset b e = rest_by t.value t.rest t.line ls rest ms n p s end reset b e
-whole_by (Err (map_fault.BadMap m)) ls rest ms n p s end reset b e = (ms, rest, n, end, reset, (b, inl e))
-whole_by (Err map_fault.Memory) ls rest ms n p s end reset b e = tt
-
-map_by : (t : Bool) (ls rest : List (List ℕ)) (ms : List LineMeaning) (n : ℕ) (p : Placed) → State ms p → EndsAt ls ms rest n → HasReset ms → are_blank rest ≡ t
-    → IsMeaningOf ls ((if t then Ok None else whole_map (map_lines n rest) >>= λ m. Ok (Some m)) >>= λ o. Ok (record { words = words_of p.memory; map = o }))
-map_by true ls rest ms n p s end reset e = (ms, rest, n, end, reset, all_blank rest e, is_image ms p s)
-map_by false ls rest ms n p s end reset e = whole_by (map_lines n rest) ls rest ms n p s end reset (not_blank rest e) refl
-
 end_by : (t u : Bool) (ls rest : List (List ℕ)) (ms : List LineMeaning) (n : ℕ) (p : Placed) → State ms p → EndsAt ls ms rest n
     → is_some (given ms 65534) ≡ t → is_some (given ms 65535) ≡ u
-    → IsMeaningOf ls (if t && u then image_behind n (words_of p.memory) rest else Err fault.NoReset)
-end_by true true ls rest ms n p s end e f = map_by (are_blank rest) ls rest ms n p s end (e, f) refl
+    → IsFrontOf ls (if t && u then Ok (record { words = words_of p.memory; rest = rest; line = n }) else Err fault.NoReset)
+end_by true true ls rest ms n p s end e f = (ms, end, (e, f), is_image ms p s)
 end_by true false ls rest ms n p s end e f = (ms, rest, n, end, inr (not_given (given ms 65535) f))
 end_by false u ls rest ms n p s end e f = (ms, rest, n, end, inl (not_given (given ms 65534) e))
 
 end_meaning : (ls rest : List (List ℕ)) (ms : List LineMeaning) (n : ℕ) (p : Placed) → State ms p → EndsAt ls ms rest n
-    → IsMeaningOf ls (finish n p.memory rest)
+    → IsFrontOf ls (finish n p.memory rest)
 end_meaning ls rest ms n p s end =
     let low : get_or p.memory 48126 None ≡ given ms 65534 = at_place ms p 48126 s (omega arith) in
     let high : get_or p.memory 48127 None ≡ given ms 65535 = at_place ms p 48127 s (omega arith) in
@@ -271,7 +253,7 @@ no_byte_at b a x = refl
 
 says_by : (said : Option LineMeaning) (done ls : List (List ℕ)) (l : List ℕ) (ms : List LineMeaning) (p : Placed) → ImageContinues ls → AreLines done ms
     → State ms p → line_says l ≡ said
-    → IsMeaningOf (done ++ l ∷ ls) (step (length done + 1) p said >>= λ o. goes_on o.0 (read (length done + 1 + 1) o.1 ls)
+    → IsFrontOf (done ++ l ∷ ls) (step (length done + 1) p said >>= λ o. goes_on o.0 (read (length done + 1 + 1) o.1 ls)
     (finish (length done + 1 + 1) o.1.memory ls))
 says_by None done ls l ms p next h s e = inl (fault_at done ls l ms IsBadLine h (inl e))
 says_by (Some nothing) done ls l ms p next h s e = later done ls l ms nothing p next h e tt (quiet ms nothing p p.next no_byte s.next s)
@@ -305,13 +287,56 @@ start n e = record { len = length_empty n ∙ e; next = refl; each = λ k. inl (
 no_lines : AreLines [] []
 no_lines = record { says = refl; go_on = tt }
 
--- what a call gives is the meaning of the lines
-pub meaning_is : (r : Result ImageValue ImageFault) (ls : List (List ℕ)) → Gives (λ v. v) r (read 1 (record { next = None; memory = empty 48128 }) ls)
-    → IsMeaningOf ls r
-meaning_is r ls h = by_result r h (continues ls [] [] (record { next = None; memory = empty 48128 }) no_lines (start 48128 refl))
+-- up to `q` lines come to what reading gives
+pub front_meaning : (ls : List (List ℕ)) → IsFrontOf ls (front_of ls)
+front_meaning ls = continues ls [] [] (record { next = None; memory = empty 48128 }) no_lines (start 48128 refl)
+
+-- so does what a call gives
+pub front_is : (r : Result ImageFront ImageFault) (ls : List (List ℕ)) → Gives read_front r (front_of ls) → IsFrontRead ls r
+front_is (Ok f) ls h = let P : Result Front ImageFault → Type 0 = λ r. IsFrontOf ls r in subst P h (front_meaning ls)
+front_is (Err (fault.BadLine n)) ls h = let P : Result Front ImageFault → Type 0 = λ r. IsFrontOf ls r in subst P h (front_meaning ls)
+front_is (Err (fault.OutsideFram n)) ls h = let P : Result Front ImageFault → Type 0 = λ r. IsFrontOf ls r in subst P h (front_meaning ls)
+front_is (Err (fault.Twice n)) ls h = let P : Result Front ImageFault → Type 0 = λ r. IsFrontOf ls r in subst P h (front_meaning ls)
+front_is (Err (fault.BadMap n)) ls h = let P : Result Front ImageFault → Type 0 = λ r. IsFrontOf ls r in subst P h (front_meaning ls)
+front_is (Err fault.NoReset) ls h = let P : Result Front ImageFault → Type 0 = λ r. IsFrontOf ls r in subst P h (front_meaning ls)
+front_is (Err fault.Memory) ls h = tt
+
+-- the lines behind `q`
+rest_by : (v : MapValue) (more : List (List ℕ)) (k : ℕ) (ls : List (List ℕ)) (f : Front) → IsFrontOf ls (Ok f) → NotBlank f.rest
+    → map_lines f.line f.rest ≡ Ok (record { value = v; rest = more; line = k })
+    → IsMeaningOf ls ((whole_map (Ok (record { value = v; rest = more; line = k })) >>= λ m. Ok (Some m)) >>= λ o. Ok (record { words = f.words; map = o }))
+rest_by v [] k ls f (ms, end, reset, image) b e = (ms, f.rest, f.line, end, reset, (k, e), image)
+rest_by v (l ∷ more) k ls f (ms, end, reset, image) b e = (ms, f.rest, f.line, end, reset, (b, inr (v, l, more, e)))
+
+whole_by : (r : Result MapLines MapFault) (ls : List (List ℕ)) (f : Front) → IsFrontOf ls (Ok f) → NotBlank f.rest → map_lines f.line f.rest ≡ r
+    → IsMeaningOf ls ((whole_map r >>= λ m. Ok (Some m)) >>= λ o. Ok (record { words = f.words; map = o }))
+whole_by (Ok t) ls f h b e = rest_by t.value t.rest t.line ls f h b e
+whole_by (Err (map_fault.BadMap m)) ls f (ms, end, reset, image) b e = (ms, f.rest, f.line, end, reset, (b, inl e))
+whole_by (Err map_fault.Memory) ls f h b e = tt
+
+map_by : (t : Bool) (ls : List (List ℕ)) (f : Front) → IsFrontOf ls (Ok f) → are_blank f.rest ≡ t
+    → IsMeaningOf ls ((if t then Ok None else whole_map (map_lines f.line f.rest) >>= λ m. Ok (Some m)) >>= λ o. Ok (record { words = f.words; map = o }))
+map_by true ls f (ms, end, reset, image) e = (ms, f.rest, f.line, end, reset, all_blank f.rest e, image)
+map_by false ls f h e = whole_by (map_lines f.line f.rest) ls f h (not_blank f.rest e) refl
+
+-- lines come to what reading gives
+image_meaning : (ls : List (List ℕ)) → IsMeaningOf ls (image_lines ls)
+image_meaning ls = by_front (front_of ls) (front_meaning ls)
   where
-    by_result : (r : Result ImageValue ImageFault) → Gives (λ v. v) r (read 1 (record { next = None; memory = empty 48128 }) ls)
-        → IsMeaningOf ls (read 1 (record { next = None; memory = empty 48128 }) ls) → IsMeaningOf ls r
+    by_front : (r : Result Front ImageFault) → IsFrontOf ls r → IsMeaningOf ls (r >>= λ f. image_behind f.line f.words f.rest)
+    by_front (Ok f) h = map_by (are_blank f.rest) ls f h refl
+    by_front (Err (fault.BadLine n)) h = h
+    by_front (Err (fault.OutsideFram n)) h = h
+    by_front (Err (fault.Twice n)) h = h
+    by_front (Err (fault.BadMap n)) h = absurd h
+    by_front (Err fault.NoReset) h = h
+    by_front (Err fault.Memory) h = tt
+
+-- what a call gives is the meaning of the lines
+pub meaning_is : (r : Result ImageValue ImageFault) (ls : List (List ℕ)) → Gives (λ v. v) r (image_lines ls) → IsMeaningOf ls r
+meaning_is r ls h = by_result r h (image_meaning ls)
+  where
+    by_result : (r : Result ImageValue ImageFault) → Gives (λ v. v) r (image_lines ls) → IsMeaningOf ls (image_lines ls) → IsMeaningOf ls r
     by_result (Ok v) h m = let P : Result ImageValue ImageFault → Type 0 = λ r. IsMeaningOf ls r in subst P h m
     by_result (Err (fault.BadLine n)) h m = let P : Result ImageValue ImageFault → Type 0 = λ r. IsMeaningOf ls r in subst P h m
     by_result (Err (fault.OutsideFram n)) h m = let P : Result ImageValue ImageFault → Type 0 = λ r. IsMeaningOf ls r in subst P h m

@@ -3,7 +3,7 @@ use Rattle.std.proofs.Common.{◌≡◌, ◌<◌, ℕ, suc, zero, ◌+◌, ◌*�
 use Rattle.std.proofs.Common.{◌∙◌, if◌then◌else◌, not, Bool, true, false, Option, Some, None, Ok, append_assoc, length-append, All, ◌^◌, codes, append-nil}
 use Rattle.std.proofs.lemmas.Bool.Decides.{nat_tests}
 use Rattle.std.specs.Prelude.{is_some, unwrap_or}
-use Rattle.image_text.specs.Reading.{read, finish, words_of, empty, image_of, are_blank, map_behind}
+use Rattle.image_text.specs.Reading.{◌>>=◌, read, finish, words_of, empty, image_of, image_behind, are_blank, map_behind}
 use Rattle.image_text.specs.Text.{is_shown, begins_shown, onto_section, sections, bytes_in, Section, lines_of_sections, text_of, map_part, IsReadBack}
 use Rattle.text_parts.specs.Lines.{lines, pieces}
 use Rattle.text_parts.specs.Fields.{fields, no_fields}
@@ -209,12 +209,12 @@ behind_back : (o : Option MapValue) (n : ℕ) → IsReadBack o → map_behind n 
 behind_back None n h = rw (no_lines, none_blank) refl
 behind_back (Some m) n h = rw (map_lines_there m, (h n).1) refl
 
-finished : (m : ℕ) (ws : List ℕ) (o : Option MapValue) → length ws ≡ 24064 → IsReadBack o
-    → finish m (spread 0 ws) (lines (printed (map_part o))) ≡ Ok (record { words = ws; map = o })
-finished m ws o e h =
+finished : (m : ℕ) (ws : List ℕ) (rest : List (List ℕ)) → length ws ≡ 24064
+    → finish m (spread 0 ws) rest ≡ Ok (record { words = ws; rest = rest; line = m })
+finished m ws rest e =
     let last : is_shown (0 + 24063) (get_or ws 24063 0) ≡ true = last_shown (get_or ws 24063 0) in
     let given = shown_given 0 24063 ws (omega arith) last in
-    rw (given.0, given.1, behind_back o m h) (ap (λ ws. Ok (record { words = ws; map = o })) (words_back 0 ws))
+    rw (given.0, given.1) (ap (λ ws. Ok (record { words = ws; rest = rest; line = m })) (words_back 0 ws))
   where
     last_by : (t : Bool) → (t || true) ≡ true
     last_by true = refl
@@ -223,22 +223,28 @@ finished m ws o e h =
     last_shown : (w : ℕ) → is_shown (0 + 24063) w ≡ true
     last_shown w = last_by (not (w == 0))
 
-back : (k : ℕ) (ws : List ℕ) (o : Option MapValue) → AreWords16 ws → length ws ≡ 24064 → IsReadBack o → k ≡ 2 * length ws
-    → read 1 (record { next = None; memory = empty k }) (lines (text_of ws ++ printed (map_part o))) ≡ Ok (record { words = ws; map = o })
+-- what is printed of words reads back up to `q`
+front_back : (k : ℕ) (ws : List ℕ) (more : List (List (List ℕ))) → AreWords16 ws → length ws ≡ 24064 → k ≡ 2 * length ws
+    → (m : ℕ) × (read 1 (record { next = None; memory = empty k }) (lines (text_of ws ++ printed more))
+    ≡ Ok (record { words = ws; rest = lines (printed more); line = m }))
 unfolding text_of
-back k ws o h e b f =
+front_back k ws more h e f =
     let P : ℕ → Type 0 = λ k. Holds [] (sections 0 ws) k (spread 0 ws) in
-    let run = read_runs 1 None [] (sections 0 ws) k (spread 0 ws) (map_part o) (subst P (sym f) (runs_hold [] 0 ws h refl)) (omega arith) in
-    ap (λ t. read 1 (record { next = None; memory = empty k }) (lines t)) (sym (printed_append (lines_of_sections (sections 0 ws)) (map_part o)))
-    ∙ ap (λ m. read 1 (record { next = None; memory = m }) (lines (printed (lines_of_sections (sections 0 ws) ++ map_part o)))) (empty_is k) ∙ run.1
-    ∙ finished run.0 ws o e b
+    let run = read_runs 1 None [] (sections 0 ws) k (spread 0 ws) more (subst P (sym f) (runs_hold [] 0 ws h refl)) (omega arith) in (
+      run.0,
+      ap (λ t. read 1 (record { next = None; memory = empty k }) (lines t)) (sym (printed_append (lines_of_sections (sections 0 ws)) more))
+          ∙ ap (λ m. read 1 (record { next = None; memory = m }) (lines (printed (lines_of_sections (sections 0 ws) ++ more)))) (empty_is k) ∙ run.1
+          ∙ finished run.0 ws (lines (printed more)) e,
+    )
 
 -- what is printed of an image is read as that image
 pub image_back : (ws : List ℕ) (o : Option MapValue) → AreWords16 ws → length ws ≡ 24064 → IsReadBack o
     → image_of (text_of ws ++ printed (map_part o)) ≡ Ok (record { words = ws; map = o })
 image_back ws o h e b =
     let k : 48128 ≡ 2 * length ws = omega arith in
-    back 48128 ws o h e b k
+    let front = front_back 48128 ws (map_part o) h e k in
+    ap (λ r. r >>= λ f. image_behind f.line f.words f.rest) front.1
+    ∙ ap (λ r. r >>= λ o. Ok (record { words = ws; map = o })) (behind_back o front.0 b)
 
 -- words below 2^16, one after another
 pub words16 : (ws : List ℕ) → All (λ w. w < 2 ^ 16) ws → AreWords16 ws

@@ -6,6 +6,7 @@ pub mod Reading
 pub mod Builder
 pub mod Text
 pub mod Meaning
+pub mod Read
 pub use Rattle.image_map.specs.alp_text as alp_text
 pub use Rattle.text_parts.specs as text_parts
 pub use Rattle.image_map.specs as image_map

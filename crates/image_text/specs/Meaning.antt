@@ -9,6 +9,7 @@ use Rattle.image_map.specs.MapValue.{MapValue}
 use Rattle.image_map.specs.Reading.{map_lines}
 use Rattle.image_text.specs.ImageValue.{ImageValue}
 use Rattle.image_text.specs.Line.{LineMeaning, nothing, address, bytes, quit, line_says}
+use Rattle.image_text.specs.Reading.{Front}
 use Rattle.image_text.specs.declared.fault.ImageFault.TheVariants as fault
 
 -- so many bytes behind an address
@@ -127,14 +128,24 @@ abbrev pub IsBadMap : List (List ℕ) → ℕ → ℕ → Type 0
 IsBadMap ls n m = NotBlank ls × ((map_lines n ls ≡ Err (map_fault.BadMap m))
     ⊎ ((v : MapValue) × (l : List ℕ) × (rest : List (List ℕ)) × (map_lines n ls ≡ Ok (record { value = v; rest = l ∷ rest; line = m }))))
 
+-- what lines come to up to `q`: the words that they give, with the lines behind, or the first fault; nothing is said where memory was refused
+abbrev pub IsFrontOf : List (List ℕ) → Result Front ImageFault → Type 0
+IsFrontOf ls (Ok f) = (ms : List LineMeaning) × EndsAt ls ms f.rest f.line × HasReset ms × IsImageOf ms f.words
+IsFrontOf ls (Err (fault.BadLine n)) = FaultAt ls n IsBadLine ⊎ ((ms : List LineMeaning) × AreLines ls ms × (n ≡ length ls + 1))
+IsFrontOf ls (Err (fault.OutsideFram n)) = FaultAt ls n IsOutside
+IsFrontOf ls (Err (fault.Twice n)) = FaultAt ls n IsTwice
+IsFrontOf ls (Err fault.NoReset) =
+    (ms : List LineMeaning) × (rest : List (List ℕ)) × (n : ℕ) × EndsAt ls ms rest n × ((given ms 65534 ≡ None) ⊎ (given ms 65535 ≡ None))
+IsFrontOf ls (Err (fault.BadMap n)) = ⊥
+IsFrontOf ls (Err fault.Memory) = Unit {0}
+
 -- what lines come to: an image that they are, or the first fault; nothing is said where memory was refused
 abbrev pub IsMeaningOf : List (List ℕ) → Result ImageValue ImageFault → Type 0
 IsMeaningOf ls (Ok v) =
     (ms : List LineMeaning) × (rest : List (List ℕ)) × (n : ℕ) × EndsAt ls ms rest n × HasReset ms × IsMapOf rest n v.map × IsImageOf ms v.words
-IsMeaningOf ls (Err (fault.BadLine n)) = FaultAt ls n IsBadLine ⊎ ((ms : List LineMeaning) × AreLines ls ms × (n ≡ length ls + 1))
-IsMeaningOf ls (Err (fault.OutsideFram n)) = FaultAt ls n IsOutside
-IsMeaningOf ls (Err (fault.Twice n)) = FaultAt ls n IsTwice
-IsMeaningOf ls (Err fault.NoReset) =
-    (ms : List LineMeaning) × (rest : List (List ℕ)) × (n : ℕ) × EndsAt ls ms rest n × ((given ms 65534 ≡ None) ⊎ (given ms 65535 ≡ None))
+IsMeaningOf ls (Err (fault.BadLine n)) = IsFrontOf ls (Err (fault.BadLine n))
+IsMeaningOf ls (Err (fault.OutsideFram n)) = IsFrontOf ls (Err (fault.OutsideFram n))
+IsMeaningOf ls (Err (fault.Twice n)) = IsFrontOf ls (Err (fault.Twice n))
+IsMeaningOf ls (Err fault.NoReset) = IsFrontOf ls (Err fault.NoReset)
 IsMeaningOf ls (Err (fault.BadMap m)) = (ms : List LineMeaning) × (rest : List (List ℕ)) × (n : ℕ) × EndsAt ls ms rest n × HasReset ms × IsBadMap rest n m
 IsMeaningOf ls (Err fault.Memory) = Unit {0}

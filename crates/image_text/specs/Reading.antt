@@ -1,5 +1,5 @@
 -- What a text says as an image: line by line, what is placed so far, or the first fault.
-use Rattle.std.specs.Prelude.{◌≡◌, ℕ, ◌+◌, ◌*◌, ◌&&◌, Bool, true, false, if◌then◌else◌, List, [], ◌∷◌, Option, Some, None, Result, Ok, Err, slice_index_or}
+use Rattle.std.specs.Prelude.{◌≡◌, ℕ, ◌+◌, ◌*◌, ◌&&◌, Bool, true, if◌then◌else◌, List, [], ◌∷◌, Option, Some, None, Result, Ok, Err, slice_index_or}
 use Rattle.std.specs.Prelude.{is_some, unwrap_or, replicate}
 use Rattle.text_parts.specs.Fields.{fields, no_fields}
 use Rattle.text_parts.specs.Lines.{lines}
@@ -42,18 +42,34 @@ map_behind n ls = if are_blank ls then Ok None else whole_map (map_lines n ls) >
 abbrev pub image_behind : ℕ → List ℕ → List (List ℕ) → Result ImageValue ImageFault
 image_behind n words ls = map_behind n ls >>= λ o. Ok (record { words = words; map = o })
 
--- the image of what is placed, with the lines from the n-th on behind it; places 48126 and 48127 are FFFE and FFFF
-abbrev pub finish : ℕ → List (Option ℕ) → List (List ℕ) → Result ImageValue ImageFault
-finish n m ls = if is_some (slice_index_or m 48126 None) && is_some (slice_index_or m 48127 None) then image_behind n (words_of m) ls else Err fault.NoReset
+-- the words of an image, the lines behind its `q`, and the number of the first of them
+pub record Front : Type 0 where
+  pub words : List ℕ
+  pub rest : List (List ℕ)
+  pub line : ℕ
 
--- the lines from the n-th on, behind what is placed
-unfoldable pub read : ℕ → Placed → List (List ℕ) → Result ImageValue ImageFault
+-- the words of what is placed, with the lines from the n-th on behind; places 48126 and 48127 are FFFE and FFFF
+abbrev pub finish : ℕ → List (Option ℕ) → List (List ℕ) → Result Front ImageFault
+finish n m ls = if is_some (slice_index_or m 48126 None) && is_some (slice_index_or m 48127 None)
+    then Ok (record { words = words_of m; rest = ls; line = n })
+    else Err fault.NoReset
+
+-- the lines from the n-th on up to `q`, behind what is placed
+unfoldable pub read : ℕ → Placed → List (List ℕ) → Result Front ImageFault
 read n p [] = Err (fault.BadLine n)
 read n p (l ∷ ls) = step n p (line_says l) >>= λ o. goes_on o.0 (read (n + 1) o.1 ls) (finish (n + 1) o.1.memory ls)
 
+-- what lines say up to `q`, or their first fault there
+abbrev pub front_of : List (List ℕ) → Result Front ImageFault
+front_of ls = read 1 (record { next = None; memory = empty 48128 }) ls
+
+-- what lines say as an image, or their first fault
+abbrev pub image_lines : List (List ℕ) → Result ImageValue ImageFault
+image_lines ls = front_of ls >>= λ f. image_behind f.line f.words f.rest
+
 -- what a text says as an image, or its first fault
 abbrev pub image_of : List ℕ → Result ImageValue ImageFault
-image_of text = read 1 (record { next = None; memory = empty 48128 }) (lines text)
+image_of text = image_lines (lines text)
 
 -- the fault of a call is that of the text, unless memory was refused
 abbrev pub Fails : {A : Type 0} → ImageFault → Result A ImageFault → Type 0

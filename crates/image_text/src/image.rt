@@ -78,6 +78,14 @@ impl Image {
         self.words[(address as usize - 0x4400) / 2] = w;
     }
 
+    /// Puts all words, the first at 0x4400.
+    pub fn set_words(&mut self, words: &[u16])
+        requires { length words.now ≡ 24064 }
+        ensures { self.new ≡ record self.old { words = words.now } }
+    {
+        self.words.copy_from_slice(words);
+    }
+
     /// The map, if the image has one.
     pub fn map(&self) -> Option<&Map>
         ensures value { option_map (λ m. m.now) result ≡ self.now.map }

@@ -10,5 +10,5 @@ mod print;
 
 pub use fault::ImageFault;
 pub use image::Image;
-pub use parse::parse_image;
+pub use parse::{ImageFront, parse_image, read_front};
 pub use print::{cut_section, print_image};

@@ -2,7 +2,9 @@
 ghost use Rattle.std.specs.Prelude.{◌≡◌, ◌<◌, ◌+◌, ◌*◌, length, IfOk, unwrap_or, Some, None, Ok};
 ghost use Rattle.image_map.specs.Reading.{map_lines};
 ghost use Rattle.text_parts.specs.Lines.{lines};
-ghost use Rattle.image_text.specs.Reading.{Gives, words_of, are_blank, whole_map, image_behind, finish, image_of};
+ghost use Rattle.image_text.specs.Read as read;
+ghost use Rattle.image_text.specs.Read.{IsFrontRead};
+ghost use Rattle.image_text.specs.Reading.{Gives, words_of, are_blank, whole_map, image_behind, finish, front_of, image_of};
 ghost use Rattle.image_text.specs.Meaning.{IsMeaningOf};
 
 use crate::builder::ImageBuilder;
@@ -12,6 +14,17 @@ use alp_words::from_bytes;
 use image_map::{Map, MapText, read_map};
 use std::alloc::{AllocError, Global};
 use text_parts::{cut_line, is_blank_line};
+
+/// An image that a text begins with, up to its `q`.
+#[derive(Drop)]
+pub struct ImageFront<'a> {
+    /// Its words, without a map.
+    pub image: Image,
+    /// What stands behind the line with `q`.
+    pub rest: &'a [u8],
+    /// The number of the line behind it.
+    pub line: u32,
+}
 
 // The word of two bytes, those that aren't given 0.
 fn word_from(low: Option<u8>, high: Option<u8>) -> u16
@@ -72,30 +85,41 @@ fn with_lines(alloc: Global, image: Image, text: &[u8], n: u32) -> Result<Image,
     Ok(image.with_map(whole_map(alloc, text, n)?))
 }
 
-// The image of the bytes, where `rest` stands behind its `q`, from line `n` on.
-fn finish(alloc: Global, memory: &[Option<u8>], rest: &[u8], n: u32) -> Result<Image, ImageFault>
+// The image of the bytes, without a map, where `rest` stands behind its `q`, from line `n` on.
+fn finish<'a>(
+    alloc: Global,
+    memory: &[Option<u8>],
+    rest: &'a [u8],
+    n: u32,
+) -> Result<ImageFront<'a>, ImageFault>
     requires room { n + length rest.now < 4294967296 }
     requires len { length memory.now ≡ 48128 }
-    ensures { Gives (λ image. image) result (finish n memory.now (lines rest.now)) }
+    ensures value { Gives read.read_front result (finish n memory.now (lines rest.now)) }
+    ensures no_map { IfOk result (λ f. f.image.map ≡ None) }
+    ensures room { IfOk result (λ f. f.line + length f.rest.now < 4294967296) }
 {
     if memory[48126].is_none() || memory[48127].is_none() {
         return Err(ImageFault::NoReset);
     }
-    let image = Image::of(words_of(alloc, memory)?);
-    with_lines(alloc, image, rest, n)
+    Ok(ImageFront {
+        image: Image::of(words_of(alloc, memory)?),
+        rest,
+        line: n,
+    })
 }
 
-/// The image that a TI-TXT text is, or its first fault: the one of the least line, and within a line `BadLine`, then
-/// `OutsideFram`, then `Twice`; behind all of these `NoReset`, then `BadMap`.
+/// The image, without a map, that a TI-TXT text says up to its `q`, and what stands behind; or the first fault there: the one of the
+/// least line, and within a line `BadLine`, then `OutsideFram`, then `Twice`; behind all of these `NoReset`.
 ///
 /// LF and CRLF end a line. A line is blank, or `@` and 1 to 8 hexadecimal digits, the address of the next byte, or bytes of
-/// two hexadecimal digits with blanks between, or `q` in either case, behind which all lines are blank or the lines of a map
-/// stand at once (see `read_map`), and nothing behind them. Bytes that aren't given are 0.
+/// two hexadecimal digits with blanks between, or `q` in either case. Bytes that aren't given are 0.
 /// `Memory` is the answer where memory was refused, and only then.
-pub fn parse_image(alloc: Global, text: &[u8]) -> Result<Image, ImageFault>
+pub fn read_front(alloc: Global, text: &[u8]) -> Result<ImageFront<'_>, ImageFault>
     requires { length text.now < 4294967295 }
-    ensures value { Gives (λ image. image) result (image_of text.now) }
-    ensures meaning { IsMeaningOf (lines text.now) result }
+    ensures value { Gives read.read_front result (front_of (lines text.now)) }
+    ensures meaning { IsFrontRead (lines text.now) result }
+    ensures no_map { IfOk result (λ f. f.image.map ≡ None) }
+    ensures room { IfOk result (λ f. f.line + length f.rest.now < 4294967296) }
 {
     let mut builder = ImageBuilder::new(alloc)?;
     let mut n = 1;
@@ -109,4 +133,25 @@ pub fn parse_image(alloc: Global, text: &[u8]) -> Result<Image, ImageFault>
         rest = behind;
     }
     Err(ImageFault::BadLine { line: n })
+}
+
+// What a text says as an image.
+fn read_image(alloc: Global, text: &[u8]) -> Result<Image, ImageFault>
+    requires { length text.now < 4294967295 }
+    ensures { Gives (λ image. image) result (image_of text.now) }
+{
+    let ImageFront { image, rest, line } = read_front(alloc, text)?;
+    with_lines(alloc, image, rest, line)
+}
+
+/// The image that a TI-TXT text is, or its first fault: that of what stands up to its `q` (see `read_front`), then `BadMap`.
+///
+/// Behind `q` all lines are blank, or the lines of a map stand at once (see `read_map`), and nothing behind them.
+/// `Memory` is the answer where memory was refused, and only then.
+pub fn parse_image(alloc: Global, text: &[u8]) -> Result<Image, ImageFault>
+    requires { length text.now < 4294967295 }
+    ensures value { Gives (λ image. image) result (image_of text.now) }
+    ensures meaning { IsMeaningOf (lines text.now) result }
+{
+    read_image(alloc, text)
 }

@@ -17,10 +17,10 @@ use Rattle.fram_board.specs.declared.board.Stepped.{Stepped}
 use Rattle.fram_board.specs.declared.receiver.Receiver.{Receiver}
 use Rattle.fram_board.specs.Bus.{BusState, board_bus, is_ram, is_fram, is_memory, is_word, memory_word, with_word, with_byte, written, port_written}
 use Rattle.fram_board.specs.Bus.{number_port, data_port}
-use Rattle.fram_board.specs.Board.{BoardValue, opened, answer_of, executed, is_accepted, accepted_word}
+use Rattle.fram_board.specs.Board.{BoardValue, opened, answer_of, executed, is_accepted, accepted_word, TakesNextBehind}
 use Rattle.fram_board.specs.Effects.{Effect, Store, Take, store_at, sends_of}
 use Rattle.fram_board.specs.Run.{Measure, price, moment_of, RunOutcome, ChargeRun, Spent, NoInstruction, TooDear, Refused, Executed, word_list, accepted_words}
-use Rattle.fram_board.proofs.Interface.{only_takes, counted}
+use Rattle.fram_board.proofs.Interface.{only_takes, counted, first_kept}
 use Rattle.machine_effects.specs.World.{accepted_after}
 use Rattle.machine_effects.specs.Runs.{action_effects, moments_effects}
 use Rattle.machine_effects.specs.Laws.{ChargeAcceptsBySends}
@@ -89,11 +89,11 @@ kept_word : (b : Bool) (w : ℕ) (ws : List ℕ) → (if b then ws ++ w ∷ [] e
 kept_word true w ws = refl
 kept_word false w ws = sym (append-nil ws)
 
-sending_accepts : (n k : ℕ) (o : Option ℕ) (r : Receiver) (ws : List ℕ) → length ws ≡ r.accepted → (n ≡ k) ⊎ (o ≡ None)
+sending_accepts : (n k : ℕ) (o : Option ℕ) (r : Receiver) (ws : List ℕ) → TakesNextBehind ws r → (n ≡ k) ⊎ (o ≡ None)
     → accepted_after (sends_of k o) ws ≡ ws ++ word_list (accepted_word n o r)
 sending_accepts n k None r ws len h = sym (append-nil ws)
 sending_accepts n k (Some w) r ws len (inl e) =
-    let test : (k == (length ws % 0x10000)) ≡ is_accepted n r = ap₂ (λ x y. x == (y % 0x10000)) (sym e) len in
+    let test : (k == (length ws % 0x10000)) ≡ is_accepted n r = ap₂ (λ x y. x == y) (sym e) len in
     ap (λ b. if b then ws ++ w ∷ [] else ws) test ∙ kept_word (is_accepted n r) w ws
 sending_accepts n k (Some w) r ws len (inr e) = cc
 
@@ -102,7 +102,7 @@ told : (b : BoardValue) (s : BusState) (a : Result cpu.Stepped Stop) (done : Ste
 told b s (Ok d) done e = cc
 told b s (Err x) done e = cc
 
-module _ (b : BoardValue) (i : Instr) (done : Stepped) (answer : (executed b i).answer ≡ Ok done) (ws : List ℕ) (len : length ws ≡ b.receiver.accepted) where
+module _ (b : BoardValue) (i : Instr) (done : Stepped) (answer : (executed b i).answer ≡ Ok done) (ws : List ℕ) (len : TakesNextBehind ws b.receiver) where
   abbrev after : BusState
   after = (execution board_bus i (registers_of b.cpu) (opened b)).bus
 
@@ -117,15 +117,16 @@ module _ (b : BoardValue) (i : Instr) (done : Stepped) (answer : (executed b i).
       ∙ sending_accepts after.outnum b.outnum after.offered b.receiver ws len (number_stays b i)
       ∙ ap (λ o. ws ++ word_list o) (sym word)
 
-  count_after : length (ws ++ word_list done.accepted) ≡ (executed b i).board.receiver.accepted
+  count_after : TakesNextBehind (ws ++ word_list done.accepted) (executed b i).board.receiver
   count_after =
       let parts = length-append ws (word_list done.accepted) in
       let count = counted after.outnum after.offered b.receiver in
+      let first = first_kept after.outnum after.offered b.receiver in
       let same : length (word_list done.accepted) ≡ length (word_list (accepted_word after.outnum after.offered b.receiver)) =
       ap (λ o. length (word_list o)) word in
       omega arith
 
-charge_accepts : (m : Measure) (amount : ℕ) (b : BoardValue) (r : RunOutcome) (ws : List ℕ) → length ws ≡ b.receiver.accepted → ChargeRun m amount b r
+charge_accepts : (m : Measure) (amount : ℕ) (b : BoardValue) (r : RunOutcome) (ws : List ℕ) → TakesNextBehind ws b.receiver → ChargeRun m amount b r
     → accepted_after (moments_effects r.moments) ws ≡ ws ++ accepted_words r.moments
 charge_accepts m amount b r ws len (Spent _ _ none) = sym (append-nil ws)
 charge_accepts m amount b r ws len (NoInstruction _ _ e pos h) = sym (append-nil ws)

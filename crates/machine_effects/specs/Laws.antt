@@ -3,7 +3,7 @@ use Rattle.std.specs.Prelude.{ℕ, ◌≡◌, ◌<◌, ◌≤◌, List, All, ◌
 use Rattle.fram_board.specs.msp_isa.declared.instructions.Instr.{Instr}
 use Rattle.fram_board.specs.msp_isa.Encoding.{encoding}
 use Rattle.fram_board.specs.msp_step.Registers.{registers_of, powered_up}
-use Rattle.fram_board.specs.Board.{BoardValue, BoardOutcome, IsStep, PowerState, IsPowerState, powered, fresh, vector_of}
+use Rattle.fram_board.specs.Board.{BoardValue, BoardOutcome, TakesNextBehind, IsStep, PowerState, IsPowerState, powered, fresh, vector_of}
 use Rattle.fram_board.specs.Effects.{Effect}
 use Rattle.fram_board.specs.Run.{Measure, Moment, RunOutcome, ChargeRun, accepted_words}
 use Rattle.machine_effects.specs.World.{World, fram_after, accepted_after, world_after, readings_taken}
@@ -112,7 +112,7 @@ ChargeKeepsWords = (m : Measure) (amount : ℕ) (b : BoardValue) (r : RunOutcome
 
 -- the words that a charge's moments tell are those that its effects make the receiver accept
 abbrev pub ChargeAcceptsBySends : Type 0
-ChargeAcceptsBySends = (m : Measure) (amount : ℕ) (b : BoardValue) (r : RunOutcome) (ws : List ℕ) → length ws ≡ b.receiver.accepted → ChargeRun m amount b r
+ChargeAcceptsBySends = (m : Measure) (amount : ℕ) (b : BoardValue) (r : RunOutcome) (ws : List ℕ) → TakesNextBehind ws b.receiver → ChargeRun m amount b r
     → accepted_after (moments_effects r.moments) ws ≡ ws ++ accepted_words r.moments
 
 -- the world after effects is FRAM and the accepted words after them

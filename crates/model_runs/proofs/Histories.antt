@@ -1,9 +1,9 @@
 -- The two histories over the moments of a run.
-use Rattle.std.proofs.Common.{◌≡◌, ℕ, suc, ◌+◌, refl, sym, ap, ap₂, ◌∙◌, subst, arith, List, [], ◌∷◌, ◌++◌, length, append_assoc, length-append, append-nil, Some, Ok}
+use Rattle.std.proofs.Common.{◌≡◌, ℕ, suc, ◌+◌, ◌%◌, refl, sym, ap, ap₂, ◌∙◌, subst, arith, List, [], ◌∷◌, ◌++◌, length, append_assoc, length-append, append-nil, Some, Ok}
 use Rattle.crash_rules.specs.msp_isa.declared.instructions.Instr.{Instr}
 use Rattle.crash_rules.specs.image_map.MapValue.{MapValue, IsMap}
 use Rattle.crash_rules.specs.fram_board.declared.board.Stepped.{Stepped}
-use Rattle.crash_rules.specs.fram_board.Board.{BoardValue, PowerState, IsPowerState, powered, executed, IsNextInstruction}
+use Rattle.crash_rules.specs.fram_board.Board.{BoardValue, TakesNextBehind, PowerState, IsPowerState, powered, executed, IsNextInstruction}
 use Rattle.crash_rules.specs.fram_board.Effects.{Effect}
 use Rattle.crash_rules.specs.fram_board.Run.{PowerUp, Execute, Moment, moment_of, power_up_of, word_list}
 use Rattle.board_run.specs.History.{moment_lines, noted, word_in, with_words, behind_power_up, behind_instruction, instruction_lines, start_with, shared_words}
@@ -124,8 +124,8 @@ module _ (m : MapValue) (x : World) (ok : IsMap m) where
     taken_now : moved.taken ≡ after.taken
     taken_now = readings_counted b t.whole i done current answer k t.tells.taken
 
-    count_now : length (world_after es k.world).accepted ≡ after.receiver.accepted
-    count_now = ap (λ y. length y.accepted) (world_by_its_parts es k.world) ∙ words_counted b t.whole i done current answer k.world.accepted t.tells.accepted
+    count_now : TakesNextBehind (world_after es k.world).accepted after.receiver
+    count_now = ap (λ y. length y.accepted % 0x10000) (world_by_its_parts es k.world) ∙ words_counted b t.whole i done current answer k.world.accepted t.tells.accepted
 
     moved_tells : TellsOf after moved
     moved_tells = record { fram = fram_now; accepted = count_now; taken = taken_now }
@@ -169,7 +169,7 @@ module _ (m : MapValue) (x : World) (ok : IsMap m) where
         let world = observed_world gate es k in
         record {
           fram = ap (λ y. y.fram) world ∙ fram_now;
-          accepted = ap (λ y. length y.accepted) world ∙ count_now;
+          accepted = ap (λ y. length y.accepted % 0x10000) world ∙ count_now;
           taken = observed_taken gate es k ∙ taken_now;
         }
 

@@ -2,7 +2,7 @@
 use Rattle.std.specs.Prelude.{◌≡◌, ℕ, ◌≤◌, List, ◌++◌, length, flat_map, Some}
 use Rattle.board_run.specs.alp_io.Report.{accepted_line, bound_line}
 use Rattle.crash_rules.specs.image_map.MapValue.{MapValue, IsMap}
-use Rattle.crash_rules.specs.fram_board.Board.{BoardValue}
+use Rattle.crash_rules.specs.fram_board.Board.{BoardValue, TakesNextBehind}
 use Rattle.crash_rules.specs.fram_board.Run.{BoardCharge, Moment, RunOutcome}
 use Rattle.board_run.specs.History.{start_with}
 use Rattle.board_run.specs.History as board
@@ -25,7 +25,7 @@ HistoriesStayTheSame = (cs : List BoardCharge) (b : BoardValue) (r : RunOutcome)
 -- a board from which a run begins, and the world then: no reading is taken yet
 pub record StartsWith (b : BoardValue) (x : World) : Type 0 where
   pub fram : x.fram ≡ fram_of b.fram
-  pub accepted : length x.accepted ≡ b.receiver.accepted
+  pub accepted : TakesNextBehind x.accepted b.receiver
   pub taken : b.taken ≡ 0
 
 -- the first histories say the same

@@ -4,17 +4,17 @@ use Rattle.std.specs.Prelude.{◌≡◌, ℕ, zero, suc, ◌-◌, List, [], ◌�
 use Rattle.board_run.specs.alp_io.Count.{risen}
 use Rattle.board_run.specs.alp_io.Report.{accepted_line, step_line}
 use Rattle.crash_rules.specs.image_map.MapValue.{MapValue}
-use Rattle.crash_rules.specs.fram_board.Board.{BoardValue}
+use Rattle.crash_rules.specs.fram_board.Board.{BoardValue, TakesNextBehind}
 use Rattle.board_run.specs.History.{SharedWord, shared_words, task_name, changed_line, more_lines}
 use Rattle.board_run.specs.History as board
 use Rattle.crash_rules.specs.machine_effects.Machine.{fram_of}
 use Rattle.crash_rules.specs.machine_effects.World.{World}
 use Rattle.crash_rules.specs.History.{Done, History}
 
--- a history tells of this board: its FRAM, how many words its receiver accepted, how many readings were taken
+-- a history tells of this board: its FRAM, the word that its receiver takes next, how many readings were taken
 pub record TellsOf (b : BoardValue) (k : History) : Type 0 where
   pub fram : k.world.fram ≡ fram_of b.fram
-  pub accepted : length k.world.accepted ≡ b.receiver.accepted
+  pub accepted : TakesNextBehind k.world.accepted b.receiver
   pub taken : k.taken ≡ b.taken
 
 -- the world behind the last done, or at first

@@ -1,4 +1,5 @@
 mod Moments
+mod Counted
 mod Charges
 mod Programs
 pub mod Interface

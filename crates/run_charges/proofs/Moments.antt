@@ -10,7 +10,7 @@ use Rattle.crash_rules.specs.msp_step.Step.{effect, execution, Executed}
 use Rattle.crash_rules.specs.fram_board.declared.board.Stepped.{Stepped}
 use Rattle.crash_rules.specs.fram_board.declared.receiver.Receiver.{Receiver}
 use Rattle.crash_rules.specs.fram_board.Bus.{board_bus, is_fram, data_port}
-use Rattle.crash_rules.specs.fram_board.Board.{BoardValue, PowerState, IsPowerState, powered, opened, executed, IsNextInstruction, IsStep, is_accepted, offered_to}
+use Rattle.crash_rules.specs.fram_board.Board.{BoardValue, PowerState, IsPowerState, powered, opened, executed, IsNextInstruction, IsStep, is_accepted, next_number, TakesNextBehind, offered_to}
 use Rattle.crash_rules.specs.fram_board.Effects.{Effect, Store, Take, Send, sends_of, effects_of, heard}
 use Rattle.crash_rules.specs.fram_board.Run.{Measure, Instructions, price, Moment, moment_of, power_up_of, Charges, RunOutcome, run_outcome, after_moments, ChargeRun}
 use Rattle.crash_rules.specs.fram_board.Run.{Spent, NoInstruction, TooDear, Refused, BoardCharge, Run, Over, Next, Last, word_list}
@@ -135,20 +135,20 @@ one_logged s pc c d (Completed x t) es next e h g =
     }
 one_logged s pc c d (Faulted f a t) es next e h g = absurd cc
 
-heard_one : (c : Bool) (w : ℕ) (r : Receiver) (ws : List ℕ) → length ws ≡ r.accepted
-    → length (if c then ws ++ w ∷ [] else ws) ≡ (if c then record r { accepted = r.accepted + 1 } else record r { repeats = r.repeats + 1 }).accepted
+heard_one : (c : Bool) (w : ℕ) (r : Receiver) (ws : List ℕ) → TakesNextBehind ws r
+    → TakesNextBehind (if c then ws ++ w ∷ [] else ws) (if c then record r { accepted = r.accepted + 1 } else record r { repeats = r.repeats + 1 })
 heard_one true w r ws e = omega (arith, length-append ws (w ∷ []))
 heard_one false w r ws e = e
 
--- the receiver counts the words that effects make it accept
-heard_count : (es : List Effect) (r : Receiver) (ws : List ℕ) → length ws ≡ r.accepted → length (accepted_after es ws) ≡ (heard es r).accepted
+-- the receiver takes next what is behind the words that effects make it accept
+heard_count : (es : List Effect) (r : Receiver) (ws : List ℕ) → TakesNextBehind ws r → TakesNextBehind (accepted_after es ws) (heard es r)
 heard_count [] r ws e = e
 heard_count (Store a w ∷ es) r ws e = heard_count es r ws e
 heard_count (Take w ∷ es) r ws e = heard_count es r ws e
 heard_count (Send n w ∷ es) r ws e =
-    let test : (n == (length ws % 0x10000)) ≡ is_accepted n r = ap (λ c. n == (c % 0x10000)) e in
+    let test : (n == (length ws % 0x10000)) ≡ is_accepted n r = ap (λ c. n == c) e in
     heard_count es (offered_to n r) (received n w ws)
-    (ap (λ c. length (if c then ws ++ w ∷ [] else ws)) test ∙ heard_one (is_accepted n r) w r ws e)
+    (ap (λ c. length (if c then ws ++ w ∷ [] else ws) % 0x10000) test ∙ heard_one (is_accepted n r) w r ws e)
 
 at_most : (t n k : ℕ) → t ≤ n → n ≡ k → t ≤ k
 at_most t n k h e = omega arith
@@ -200,19 +200,19 @@ module _ (b : BoardValue) (whole : IsWhole b) (i : Instr) (done : Stepped) (curr
   alone = run.Executed 1 b i done (run_outcome [] Charges after) (omega arith) current (omega arith) answer (Spent (1 - 1) after refl)
 
   -- the word that is accepted
-  pub words_accepted : (ws : List ℕ) → length ws ≡ b.receiver.accepted → accepted_after told ws ≡ ws ++ word_list done.accepted
+  pub words_accepted : (ws : List ℕ) → TakesNextBehind ws b.receiver → accepted_after told ws ≡ ws ++ word_list done.accepted
   words_accepted ws len =
       ap (λ es. accepted_after es ws) (sym (append-nil told))
       ∙ charge_accepts_by_sends Instructions 1 b (after_moments (moment_of b i done ∷ []) (run_outcome [] Charges after)) ws len alone
       ∙ ap (λ l. ws ++ l) (append-nil (word_list done.accepted))
 
   -- the accepted words are counted
-  pub words_counted : (ws : List ℕ) → length ws ≡ b.receiver.accepted → length (accepted_after told ws) ≡ after.receiver.accepted
+  pub words_counted : (ws : List ℕ) → TakesNextBehind ws b.receiver → TakesNextBehind (accepted_after told ws) after.receiver
   words_counted ws len =
       let made = step_makes_its_effects b (executed b i) whole.board is_step in
-      ap (λ es. length (accepted_after es ws)) told_same
+      ap (λ es. length (accepted_after es ws) % 0x10000) told_same
       ∙ heard_count (effects_of b (executed b i)) b.receiver ws len
-      ∙ ap (λ y. y.accepted) (sym made.receiver)
+      ∙ ap next_number (sym made.receiver)
 
   -- the readings are those of the board
   pub readings_stay : after.readings ≡ b.readings

@@ -1,5 +1,5 @@
 -- A map that is made call by call is the source's.
-use Rattle.std.proofs.Common.{◌≡◌, ◌∙◌, ℕ, List, [], ◌∷◌, map, ap, ap₂}
+use Rattle.std.proofs.Common.{◌≡◌, ◌∙◌, ℕ, List, [], ◌∷◌, map, ap, ap₂, Some, None}
 use Rattle.std.specs.Prelude.{All}
 use Rattle.std.proofs.lemmas.List.Elements.{All-nil, All-cons, All-head, All-tail}
 use Rattle.alp_text.specs.declared.lines.Span.{Span}
@@ -26,15 +26,20 @@ names_back P (t ∷ ts) h =
     All-cons (λ t. P t.name) t ts (All-head (λ t. P t.name) (task_of t) (map task_of ts) h) (names_back P ts (All-tail (λ t. P t.name) (task_of t) (map task_of ts) h))
 
 abbrev bare : ℕ → RuntimeWords → Place → Place → Place → MapValue
-bare bound words list emits versions = record { bound = bound; words = words; list = list; emits = emits; versions = versions; variables = []; tasks = [] }
+bare bound words list emits versions = record { bound = bound; words = words; list = list; emits = emits; versions = versions; copies = None; variables = []; tasks = [] }
 
 pub bare_is : (l : MemoryMap) (allow : Allow) (m : MapValue) (w : RuntimeWords) (a b d : Place) → m ≡ bare allow.cycles w a b d → w ≡ map_words l → a
     ≡ map_list l
-    → b ≡ map_buffer l.emits → d ≡ map_buffer l.versions → m ≡ bare_map l allow
+    → b ≡ map_buffer l.emits → d ≡ map_buffer l.versions → m ≡ record (bare_map l allow) { copies = None }
 bare_is l allow m w a b d e i j k n =
     let bound = allow.cycles in
     e ∙ ap (λ x. bare bound x a b d) i ∙ ap (λ x. bare bound (map_words l) x b d) j ∙ ap (λ x. bare bound (map_words l) (map_list l) x d) k
     ∙ ap (bare bound (map_words l) (map_list l) (map_buffer l.emits)) n
+
+-- the same with the place of the copies
+pub copies_are : (l : MemoryMap) (allow : Allow) (m n : MapValue) (c : Place) → m ≡ record (bare_map l allow) { copies = None } → n ≡ record m { copies = Some c }
+    → c ≡ map_buffer l.copies → n ≡ bare_map l allow
+copies_are l allow m n c e f g = f ∙ ap (λ (m : MapValue). record m { copies = Some c }) e ∙ ap (λ c. record (bare_map l allow) { copies = Some c }) g
 
 -- from the map without variables and tasks, with those that the calls were given
 pub made : (text : List ℕ) (p : CheckedProgram) (l : MemoryMap) (allow : Allow) (first second third : MapValue) (ds es : List SharedDeclaration)

@@ -56,6 +56,7 @@ pub record ArePlaced (l : MemoryMap) : Type 0 where
   pub list : IsPlace (map_list l)
   pub emits : IsPlace (map_buffer l.emits)
   pub versions : IsPlace (map_buffer l.versions)
+  pub copies : IsPlace (map_buffer l.copies)
   pub low : fram_first ≤ l.homes.address
   pub high : end_of l.homes ≤ reset_vector
 
@@ -63,6 +64,7 @@ pub are_placed : (l : MemoryMap) → IsLaidOut l → ArePlaced l
 are_placed l h =
     let r = parts_in_fram l h in
     let list = r.list.end in let emits = r.emits.end in let versions = r.versions.end in
+    let copies = r.copies.end in
     let entries : l.list.words ≡ list_entry_room * l.entries = h.list in
     record {
       list = record { address = fram_word l.list.address r.list.from (omega (arith, list)) r.list.even; capacity = omega (arith, list, entries) };
@@ -71,6 +73,7 @@ are_placed l h =
         address = fram_word l.versions.address r.versions.from (omega (arith, versions)) r.versions.even;
         capacity = omega (arith, versions);
       };
+      copies = record { address = fram_word l.copies.address r.copies.from (omega (arith, copies)) r.copies.even; capacity = omega (arith, copies) };
       low = r.homes.from;
       high = r.homes.end;
     }
@@ -162,6 +165,7 @@ maps_are_of_sources text p allow plans l h =
       list = placed.list;
       emits = placed.emits;
       versions = placed.versions;
+      copies = placed.copies;
       variables = variables_are text l.homes.address (end_of l.homes) p.shared l.variables places rules.homes placed.low placed.high h.names.words;
       few_variables = omega (arith, few_shared, shared_length);
       few_tasks = omega (arith, few_tasks, task_length);

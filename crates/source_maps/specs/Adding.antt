@@ -1,5 +1,5 @@
 -- Variables, tasks and private scalars that are added to a map one behind the other.
-use Rattle.std.specs.Prelude.{◌≡◌, ℕ, true, List, [], ◌∷◌}
+use Rattle.std.specs.Prelude.{◌≡◌, ℕ, true, List, [], ◌∷◌, Some}
 use Rattle.image_map.specs.declared.parts.Variable.{Variable}
 use Rattle.image_map.specs.MapValue.{MapValue, TaskValue, takes_variable, with_variable, takes_task, with_task, takes_private, with_private}
 use Rattle.cost_bound.specs.declared.allowance.Allow.{Allow}
@@ -15,6 +15,7 @@ bare_map l allow = record {
   list = map_list l;
   emits = map_buffer l.emits;
   versions = map_buffer l.versions;
+  copies = Some (map_buffer l.copies);
   variables = [];
   tasks = [];
 }

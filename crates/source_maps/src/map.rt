@@ -215,7 +215,9 @@ pub fn map_of(
     let list = map_list(layout);
     let emits = map_buffer(layout.emits());
     let versions = map_buffer(layout.versions());
+    let copies = map_buffer(layout.copies());
     let mut map = Map::new(alloc, allow.cycles, words, list, emits, versions);
+    map.set_copies(copies);
     add_variables(&mut map, text, source.shared.as_slice(), layout.variables())?;
     add_tasks(
         alloc,

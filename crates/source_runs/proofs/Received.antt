@@ -1,22 +1,25 @@
 -- The receiver of a run accepted the words that its transitions emitted, and has heard no more than its charges pay for.
-use Rattle.std.proofs.Common.{◌≡◌, ◌≤◌, ℕ, ◌+◌, ◌-◌, refl, sym, ap, subst, arith, Bool, true, false, if◌then◌else◌, List, [], ◌∷◌, ◌++◌, length, sum_by, length-append, append-nil, Option, Some, None}
+use Rattle.std.proofs.Common.{◌≡◌, ◌≤◌, ℕ, ◌+◌, ◌-◌, refl, sym, ap, subst, arith, Bool, true, false, if◌then◌else◌, List, [], ◌∷◌, ◌++◌, length, sum_by, length-append, append-nil, Option, Some, None, Result, Ok, Err, ◌∙◌}
 use Rattle.std.proofs.lemmas.List.Sums.{sum_by-cons}
 use Rattle.model_runs.specs.msp_isa.declared.instructions.Instr.{Instr}
+use Rattle.model_runs.specs.msp_step.declared.machine.Stop.{Stop}
+use Rattle.model_runs.specs.msp_step.declared.machine.Stepped as cpu
 use Rattle.model_runs.specs.msp_step.Registers.{registers_of}
 use Rattle.model_runs.specs.msp_step.Step.{execution}
 use Rattle.model_runs.specs.image_map.MapValue.{MapValue, IsMap}
 use Rattle.model_runs.specs.fram_board.declared.receiver.Receiver.{Receiver}
-use Rattle.model_runs.specs.fram_board.Bus.{board_bus}
-use Rattle.model_runs.specs.fram_board.Board.{BoardValue, opened, executed, powered, is_accepted, receiver_after}
-use Rattle.model_runs.specs.fram_board.Run.{Measure, Moment, Charges, Stopped, RunOutcome, run_outcome, BoardCharge, price, ChargeRun, Spent, NoInstruction, TooDear, Refused, Executed, Run, Over, Next, Last}
-use Rattle.model_runs.proofs.fram_board.Interface.{price_low}
+use Rattle.model_runs.specs.fram_board.declared.board.Stepped.{Stepped}
+use Rattle.model_runs.specs.fram_board.Bus.{BusState, board_bus}
+use Rattle.model_runs.specs.fram_board.Board.{BoardValue, opened, answer_of, executed, powered, is_accepted, accepted_word, receiver_after}
+use Rattle.model_runs.specs.fram_board.Run.{Measure, Moment, Charges, Stopped, RunOutcome, run_outcome, BoardCharge, price, ChargeRun, Spent, NoInstruction, TooDear, Refused, Executed, Run, Over, Next, Last, word_list, accepted_by, accepted_words}
+use Rattle.model_runs.proofs.fram_board.Interface.{price_low, counted}
 use Rattle.source_report.specs.source_values.Runs.{State, Transition, state_after}
 use Rattle.model_runs.specs.machine_effects.World.{World}
 use Rattle.model_runs.specs.machine_effects.Runs.{last_board}
 use Rattle.model_runs.specs.crash_rules.History.{Done, first_history}
 use Rattle.model_runs.specs.run_charges.Charges.{observed}
 use Rattle.model_runs.specs.run_charges.Laws.{IsRunOfWords}
-use Rattle.model_runs.proofs.run_charges.Interface.{charge_last, front_moments}
+use Rattle.model_runs.proofs.run_charges.Interface.{IsMomentFrom, PowersUp, Instructs, AreMoments, charge_last, front_moments, Counts, moments_count}
 use Rattle.model_runs.specs.Events.{last_world}
 use Rattle.model_runs.specs.EventLaws.{StartsWith}
 use Rattle.model_runs.proofs.Interface.{Together, moments_lead, first_histories_are_the_same}
@@ -75,6 +78,31 @@ run_keeps cs b r (Next c ds _ ms end rest one more) =
     behind_both (powered b c.start) ms rest.moments rest.board.receiver.accepted (subst P (sym there) (run_keeps ds end rest more))
 run_keeps cs b r (Last c ds _ ms stop end one) = charge_keeps c.measure c.amount (powered b c.start) (run_outcome ms (Stopped stop) end) one
 
+-- the receiver counts the words that moments tell
+told_counted : (b : BoardValue) (s : BusState) (a : Result cpu.Stepped Stop) (done : Stepped) → answer_of b s a ≡ Ok done
+    → (receiver_after s.outnum s.offered b.receiver).accepted ≡ b.receiver.accepted + length (word_list done.accepted)
+told_counted b s (Ok d) done e =
+    let same : done.accepted ≡ accepted_word s.outnum s.offered b.receiver = cc in
+    counted s.outnum s.offered b.receiver ∙ ap (λ o. b.receiver.accepted + length (word_list o)) (sym same)
+told_counted b s (Err x) done e = cc
+
+moment_counted : (b : BoardValue) (m : Moment) → IsMomentFrom b m → m.after.receiver.accepted ≡ b.receiver.accepted + length (accepted_by m.action)
+moment_counted b m (PowersUp p ok e) =
+    let P : Moment → Type 0 = λ y. y.after.receiver.accepted ≡ b.receiver.accepted + length (accepted_by y.action) in subst P (sym e) (omega arith)
+moment_counted b m (Instructs i done c a e) =
+    let P : Moment → Type 0 = λ y. y.after.receiver.accepted ≡ b.receiver.accepted + length (accepted_by y.action) in
+    let o = execution board_bus i (registers_of b.cpu) (opened b) in
+    subst P (sym e) (told_counted b o.bus o.answer done a)
+
+words_counted : (b : BoardValue) (ms : List Moment) → AreMoments b ms
+    → (last_board b ms).receiver.accepted ≡ b.receiver.accepted + length (accepted_words ms)
+words_counted b [] all = omega arith
+words_counted b (m ∷ ms) all =
+    let one = moment_counted b m all.0 in
+    let more = words_counted m.after ms all.1 in
+    let both = length-append (accepted_by m.action) (accepted_words ms) in
+    omega (arith, one, more, both)
+
 -- so it accepted what the transitions emitted
 pub words_are_received : (m : MapValue) (x : World) (cs : List BoardCharge) (b : BoardValue) (r : RunOutcome) (s : State) (ts : List Transition)
     → IsMap m → StartsWith b x → IsRunOfWords cs b r → HasWordsOf m x s
@@ -89,9 +117,14 @@ words_are_received m x cs b r s ts ok starts run here stand =
     let words = words_at_last m x s done ts here stand in
     let all = ap length end.same.alike.words_are in
     let both = length-append (last_world x done).accepted end.same.alike.words in
-    let told = end.tells.accepted in
+    let first : Counts b k x.accepted =
+    record { whole = run.whole; words = run.words; accepted = refl; count = starts.accepted; taken = sym starts.taken } in
+    let heard = ap length (moments_count m.words.gate b k x.accepted r.moments first moments).accepted in
+    let begin = ap length here.accepted in
+    let told = length-append x.accepted (accepted_words r.moments) in
+    let count = words_counted b r.moments moments in
     let last = run_keeps cs b r run.run in
-    omega (arith, words, all, both, told, last)
+    omega (arith, words, all, both, heard, begin, told, count, last)
 
 -- what a receiver has heard
 abbrev heard : Receiver → ℕ

@@ -1,26 +1,26 @@
--- What is known of a run tells of the board behind each front of it.
-use Rattle.std.proofs.Common.{◌≡◌, ℕ, sym, ap, ◌∙◌, subst, List, [], ◌∷◌, ◌++◌, length, append_assoc, append-nil, Ok}
-use Rattle.link_image.specs.msp_isa.declared.instructions.Instr.{Instr}
-use Rattle.link_image.specs.fram_board.declared.board.Stepped.{Stepped}
-use Rattle.link_image.specs.fram_board.Board.{BoardValue, PowerState, IsPowerState, powered, executed, IsNextInstruction}
-use Rattle.link_image.specs.fram_board.Effects.{Effect}
-use Rattle.link_image.specs.fram_board.Run.{Moment, moment_of, word_list, accepted_by, accepted_words, BoardCharge, RunOutcome}
-use Rattle.link_image.specs.machine_effects.World.{accepted_after}
-use Rattle.link_image.specs.machine_effects.View.{IsWhole, IsOfWords}
-use Rattle.link_image.specs.machine_effects.Runs.{last_board}
-use Rattle.link_image.proofs.machine_effects.Interface.{world_by_its_parts, power_up_keeps_words}
-use Rattle.link_image.specs.crash_rules.History.{History, behind_boot}
-use Rattle.link_image.proofs.crash_rules.Interface.{observed_world, observed_taken}
-use Rattle.link_image.specs.run_charges.Charges.{behind_action, observed}
-use Rattle.link_image.specs.run_charges.Laws.{IsRunOfWords}
-use Rattle.link_image.proofs.run_charges.Interface.{IsMomentFrom, PowersUp, Instructs, AreMoments, front_moments, told, whole_after, words_after, words_accepted, words_counted, readings_counted}
+-- What is observed of the moments of a run tells of the board behind them: the words accepted, and how many readings were taken.
+use Rattle.std.proofs.Common.{◌≡◌, ℕ, ◌%◌, sym, ap, ◌∙◌, subst, List, [], ◌∷◌, ◌++◌, length, append_assoc, append-nil, Ok}
+use Rattle.crash_rules.specs.msp_isa.declared.instructions.Instr.{Instr}
+use Rattle.crash_rules.specs.fram_board.declared.board.Stepped.{Stepped}
+use Rattle.crash_rules.specs.fram_board.Board.{BoardValue, TakesNextBehind, next_number, PowerState, IsPowerState, powered, executed, IsNextInstruction}
+use Rattle.crash_rules.specs.fram_board.Effects.{Effect}
+use Rattle.crash_rules.specs.fram_board.Run.{Moment, moment_of, word_list, accepted_by, accepted_words, BoardCharge, RunOutcome}
+use Rattle.crash_rules.specs.machine_effects.World.{accepted_after}
+use Rattle.crash_rules.specs.machine_effects.View.{IsWhole, IsOfWords}
+use Rattle.crash_rules.specs.machine_effects.Runs.{last_board}
+use Rattle.crash_rules.proofs.machine_effects.Interface.{world_by_its_parts, power_up_keeps_words}
+use Rattle.crash_rules.specs.History.{History, behind_boot}
+use Rattle.crash_rules.proofs.Interface.{observed_world, observed_taken}
+use Rattle.run_charges.specs.Charges.{behind_action, observed}
+use Rattle.run_charges.specs.Laws.{IsRunOfWords}
+use Rattle.run_charges.proofs.Moments.{IsMomentFrom, PowersUp, Instructs, AreMoments, front_moments, told, whole_after, words_after, words_accepted, words_counted, readings_counted}
 
 -- the words accepted and the readings taken are a board's
 pub record Counts (b : BoardValue) (h : History) (ws : List ℕ) : Type 0 where
   pub whole : IsWhole b
   pub words : IsOfWords b
   pub accepted : h.world.accepted ≡ ws
-  pub count : length ws ≡ b.receiver.accepted
+  pub count : TakesNextBehind ws b.receiver
   pub taken : h.taken ≡ b.taken
 
 module _ (gate : ℕ) where
@@ -41,7 +41,7 @@ module _ (gate : ℕ) where
         whole = whole_after b k.whole i done c a;
         words = words_after b k.whole i done c a k.words;
         accepted = ap (λ w. w.accepted) (observed_world gate es h ∙ world_by_its_parts es h.world) ∙ ap (accepted_after es) k.accepted ∙ heard;
-        count = sym (ap length heard) ∙ words_counted b k.whole i done c a ws k.count;
+        count = sym (ap (λ (ws : List ℕ). length ws % 0x10000) heard) ∙ words_counted b k.whole i done c a ws k.count;
         taken = observed_taken gate es h ∙ readings_counted b k.whole i done c a h k.taken;
       }
 
@@ -54,7 +54,7 @@ module _ (gate : ℕ) where
       let P : Moment → Type 0 = λ y. Counts y.after (behind_action gate y.action y.before y.after h) (ws ++ accepted_by y.action) in
       subst P (sym e) (instruction_counts b h ws i done k c a)
 
-  moments_count : (b : BoardValue) (h : History) (ws : List ℕ) (ms : List Moment) → Counts b h ws → AreMoments b ms
+  pub moments_count : (b : BoardValue) (h : History) (ws : List ℕ) (ms : List Moment) → Counts b h ws → AreMoments b ms
       → Counts (last_board b ms) (observed gate ms h) (ws ++ accepted_words ms)
   moments_count b h ws [] k all = let P : List ℕ → Type 0 = λ l. Counts b h l in subst P (sym (append-nil ws)) k
   moments_count b h ws (m ∷ ms) k all =
@@ -63,9 +63,9 @@ module _ (gate : ℕ) where
       let P : List ℕ → Type 0 = λ l. Counts (last_board m.after ms) (observed gate ms j) l in
       subst P (append_assoc ws (accepted_by m.action) (accepted_words ms)) (moments_count m.after j (ws ++ accepted_by m.action) ms one all.1)
 
-  -- from a board whose receiver accepted nothing
+  -- from a board whose receiver takes its first word next
   pub front_counts : (cs : List BoardCharge) (b : BoardValue) (r : RunOutcome) (h : History) → IsRunOfWords cs b r → h.world.accepted ≡ []
-      → b.receiver.accepted ≡ 0 → h.taken ≡ b.taken → (ms rest : List Moment) → r.moments ≡ ms ++ rest
+      → next_number b.receiver ≡ 0 → h.taken ≡ b.taken → (ms rest : List Moment) → r.moments ≡ ms ++ rest
       → Counts (last_board b ms) (observed gate ms h) (accepted_words ms)
   front_counts cs b r h run none count taken ms rest e =
       moments_count b h [] ms (record { whole = run.whole; words = run.words; accepted = none; count = sym count; taken = taken })

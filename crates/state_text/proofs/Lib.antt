@@ -1,0 +1,6 @@
+mod Feeds
+mod Blanks
+mod Receivers
+mod Tails
+mod Texts
+pub mod Interface

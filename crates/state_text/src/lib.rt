@@ -1,0 +1,10 @@
+//! Saved states of a board, as texts and as values.
+#![tactic(auto)]
+
+mod parse;
+mod print;
+mod state;
+
+pub use parse::parse_state;
+pub use print::print_state;
+pub use state::State;
