@@ -72,4 +72,6 @@ measure "labels, $(wc -c <labels) bytes" asm labels image
 measure "words, $(wc -c <words) bytes" asm words image
 measure "an image of all FRAM" dis image
 measure "an image of all FRAM with 256 arrays of all FRAM" run arrays none
+measure "the same" save arrays none state
+measure "1,000,000 charges and 262,144 readings, of an image" save image charges state
 measure "number 0" gen 0 image

@@ -33,13 +33,13 @@ BESIDE = {"s": SUM, "t": TRACE, "i": MAP}
 COMMANDS = {
     "source": [("mean m t", None), ("build m p", "p"), ("try m t p", "p")],
     "trace": [("mean s m", None), ("run i m", None), ("try s m p", "p")],
-    "image": [("run m t", None), ("dis m", None)],
-    "map": [("run m t", None)],
+    "image": [("run m t", None), ("dis m", None), ("save m t p", "p")],
+    "map": [("run m t", None), ("save m t p", "p")],
     "assembler": [("asm m p", "p")],
 }
 SUFFIXES = {".alp": "source", ".trace": "trace", ".tr": "trace", ".asm": "assembler"}
 NUMBERS = b"0 1 -1 2 7 15 16 255 256 257 511 512 4095 32767 32768 65534 65535 65536 4294967295 4294967296 0x 0xFFFF 0x10000 007 1000000 1000001".split()
-TOKENS = [b"(", b"((", b"{", b"a", b"a ", b"9", b"+1", b"\n", b" ", b"//", b"#", b"@", b"@4400\n", b"00 ", b"q\n", b"r 1\n", b"1 ", b"c 1 0\n", b"x:", b"x: nop\n", b".word 0\n", b"nop;", b"\0", b"\xff", b"task t\n", b"-", b"if(1){", b"emit(1);"]
+TOKENS = [b"(", b"((", b"{", b"a", b"a ", b"9", b"+1", b"\n", b" ", b"//", b"#", b"@", b"@4400\n", b"00 ", b"q\n", b"r 1\n", b"1 ", b"c 1 0\n", b"x:", b"x: nop\n", b".word 0\n", b"nop;", b"\0", b"\xff", b"task t\n", b"receiver 1\n", b"-", b"if(1){", b"emit(1);"]
 
 
 def kind_of(name, text):
@@ -149,7 +149,7 @@ class Runner:
 
     def may_be_long(self, words):
         """Whether the texts ask for more work than a short run does."""
-        if words[0] in ("run", "try"):
+        if words[0] in ("run", "try", "save"):
             trace = pathlib.Path(words[2]).read_bytes()
             if charged(trace) > SHORT_WORK:
                 return True
@@ -184,6 +184,8 @@ def wrong(status, out, err, puts):
         return f"status {status}, and tells {err[:200]!r}"
     if status in (1, 2, 3, 7) and (out or put):
         return f"status {status}, and writes or puts"
+    if status == 6 and put:
+        return "status 6, and puts"
     if status == 0 and puts is not None and not put:
         return "status 0, and puts nothing"
     return None

@@ -1,5 +1,5 @@
 #!/usr/bin/env bash
-# Refuses each allocation of the program in turn: of `mean`, `try`, `build`, `run`, `asm` and `dis` on worked texts and of
+# Refuses each allocation of the program in turn: of `mean`, `try`, `build`, `run`, `asm`, `dis` and `save` on worked texts and of
 # `gen 0`. Each such run must end with status 5, write nothing to the output, put nothing, and tell `out of memory`; the
 # first run that has no allocation to refuse must be whole. Std's `collect` asks for all of a list's room first and, where that is
 # refused, for the room of one: the program never sees such a refusal, and its run must be whole to the byte. Prints how many
@@ -77,6 +77,8 @@ printf 'c 100000 0\n' >long.trace
 printf 's 100 0\n' >steps.trace
 printf 'start: mov #0,&0x0202\n mov #77,&0x0204\n mov #77,&0x0204\n bis #16,sr\n .org 0xFFFE\n .word start\n' >send.asm
 printf '@4400\n82 43 02 02 B2 40 4D 00 04 02 B2 40 4D 00 04 02\n32 D0 10 00\n@FFFE\n00 44\nq\n' >send.txt
+"$alpaca" build sum.alp sum.txt >out
+"$alpaca" save sum.txt two.trace sum.state >out
 failed=0
 all=0
 made_up=0
@@ -127,6 +129,8 @@ refuse build sum.alp put
 refuse asm send.asm put
 refuse run send.txt steps.trace
 refuse dis send.txt
+refuse save send.txt steps.trace put
+refuse save sum.state cut.trace put
 refuse gen 0 put
 echo "$all allocations refused, $made_up of them made up for by the library"
 exit $failed

@@ -1,6 +1,6 @@
 #!/usr/bin/env python3
 """Shows that the first part of docs/DEFINITIONS.md names exactly the files of definitions below the program's clauses on `try`: the closure
-of imports from alpaca_cli/specs/Answers.antt, without what the compiler exactly builds, the law of images, the assembler, the generator and the audit.
+of imports from alpaca_cli/specs/Answers.antt, without what the compiler exactly builds, the law of images, the assembler, the generator, saved states and the audit.
 usage: docs/check_definitions.py"""
 import os
 import re
@@ -9,7 +9,7 @@ import sys
 ROOT = os.path.join(os.path.dirname(os.path.abspath(__file__)), "..")
 CRATES = os.path.join(ROOT, "crates")
 START = "alpaca_cli/specs/Answers.antt"
-APART = ("link_image/", "image_reports/", "asm_line/", "msp_asm/", "source_generator/", "report_audit/")
+APART = ("link_image/", "image_reports/", "asm_line/", "msp_asm/", "source_generator/", "state_text/", "alpaca_cli/specs/Saved.antt", "report_audit/")
 
 
 def imports(text):

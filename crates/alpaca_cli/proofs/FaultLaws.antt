@@ -1,4 +1,4 @@
--- Only the run of an image that was read may meet a machine fault.
+-- Only the run of an image or a state that was read may meet a machine fault.
 use Rattle.std.proofs.Common.{◌≡◌, ◌∙◌, ℕ, List, [], ◌∷◌, sym}
 use Rattle.image_reports.specs.msp_step.declared.machine.Stop.TheVariants as stop
 use Rattle.fram_board.specs.Run.{End, Charges, Stopped}
@@ -7,7 +7,7 @@ use Rattle.report_audit.specs.declared.verdict.Verdict.TheVariants.{Yes, No}
 use Rattle.alpaca_cli.specs.declared.status.Status.{Status}
 use Rattle.alpaca_cli.specs.declared.status.Status.TheVariants.{Done, Refused, Usage, Unreadable, Unwritable, OutOfMemory, MachineFault, TooLong, Differs}
 use Rattle.alpaca_cli.specs.Answers.{Answers}
-use Rattle.alpaca_cli.specs.Calls.{Call, mean, try_, build, run, asm, dis, gen, audit, OnLine, IsRun, IsAudit}
+use Rattle.alpaca_cli.specs.Calls.{Call, mean, try_, build, run, asm, dis, gen, save, audit, OnLine, IsRun, IsAudit}
 use Rattle.alpaca_cli.specs.Ending.{Ending, well, at_fault, differs}
 use Rattle.alpaca_cli.specs.RunReport.{ending_of}
 use Rattle.alpaca_cli.specs.Verdicts.{verdict_ending}
@@ -23,6 +23,7 @@ no_fault (No line) e = cc
 
 pub faults_alone : (call : Call) (texts : List (List ℕ)) (p : Product) → IsProduct call texts p → p.ending ≡ at_fault → IsRun call
 faults_alone (run image trace) texts p is e = tt
+faults_alone (save image trace state) texts p is e = tt
 faults_alone (mean a b) [] p is e = is
 faults_alone (mean a b) (x ∷ []) p is e = is
 faults_alone (mean a b) (x ∷ y ∷ []) p is e = not_both p.ending is.2 e
@@ -99,6 +100,10 @@ differs_alone (dis a) (x ∷ []) p is e = well_alone p.ending is.2 e
 differs_alone (dis a) (x ∷ y ∷ more) p is e = is
 differs_alone (gen n i) [] p is e = well_alone p.ending is.1 e
 differs_alone (gen n i) (x ∷ more) p is e = is
+differs_alone (save a b i) [] p is e = is
+differs_alone (save a b i) (x ∷ []) p is e = is
+differs_alone (save a b i) (x ∷ y ∷ []) p is e = no_difference is.outcome.ending (sym is.ends ∙ e)
+differs_alone (save a b i) (x ∷ y ∷ z ∷ more) p is e = is
 
 pub only_audits_differ : (status : Status) (words : List (List ℕ)) (shelf : Shelved) (out err : Written) → Answers status words shelf out err
     → status ≡ Differs → OnLine words IsAudit

@@ -12,6 +12,7 @@ mod PutLaws
 mod Refused
 mod Reports
 mod RunLaws
+mod SaveLaws
 mod ShelfLaws
 mod SourceLaws
 mod StatusLaws

@@ -2,15 +2,17 @@
 use Rattle.std.proofs.Common.{◌≡◌, ◌∙◌, ℕ, List, [], ◌∷◌, Ok, Err, Result, sym}
 use Rattle.energy_trace.specs.Reading.{trace_of}
 use Rattle.image_text.specs.Reading.{image_of}
+use Rattle.state_text.specs.Reading.{state_of}
 use Rattle.msp_asm.specs.Assembled.{assembled}
 use Rattle.source_values.specs.Runs.{CheckedProgram}
 use Rattle.alpaca_cli.specs.Assemblies.{RefusesAssembly}
-use Rattle.alpaca_cli.specs.Calls.{Call, mean, try_, build, run, asm, dis, gen, audit}
+use Rattle.alpaca_cli.specs.Calls.{Call, mean, try_, build, run, asm, dis, gen, save, audit}
 use Rattle.alpaca_cli.specs.Refusals.{Refusal}
 use Rattle.alpaca_cli.specs.Sources.{IsSourceText, RefusesSource}
 use Rattle.alpaca_cli.specs.Texts.{RefusesTrace, RefusesImage, outside_fram, twice, no_reset, bad_map}
+use Rattle.alpaca_cli.specs.Texts.{RefusesState, bad_state_line, outside_of_state, twice_in_state, no_reset_in_state, bad_map_of_state}
 use Rattle.alpaca_cli.specs.Texts as texts
-use Rattle.alpaca_cli.specs.Products.{SaysSource, SaysTrace, SaysImage, SaysAssembly, AreAccepted, MeanRefuses, the_source, its_trace, RunRefuses, the_image, the_trace, AuditRefuses, the_audits_source, the_audits_trace, IsRefused}
+use Rattle.alpaca_cli.specs.Products.{SaysSource, SaysTrace, SaysImage, SaysState, SaysAssembly, AreAccepted, MeanRefuses, the_source, its_trace, RunRefuses, the_image, the_trace, SaveRefuses, the_state, the_states_trace, AuditRefuses, the_audits_source, the_audits_trace, IsRefused}
 
 -- no text is a source and refused as one
 abbrev pub SourcesExclude : Type 0
@@ -30,6 +32,13 @@ no_image text r said (twice n fails) = not_both (image_of text) said.0 _ said.1 
 no_image text r said (no_reset fails) = not_both (image_of text) said.0 _ said.1 fails
 no_image text r said (bad_map n fails) = not_both (image_of text) said.0 _ said.1 fails
 
+no_state : (text : List ℕ) (r : Refusal) → SaysState text → RefusesState text r → ⊥
+no_state text r said (bad_state_line n fails) = not_both (state_of text) said.0 _ said.1 fails
+no_state text r said (outside_of_state n fails) = not_both (state_of text) said.0 _ said.1 fails
+no_state text r said (twice_in_state n fails) = not_both (state_of text) said.0 _ said.1 fails
+no_state text r said (no_reset_in_state fails) = not_both (state_of text) said.0 _ said.1 fails
+no_state text r said (bad_map_of_state n fails) = not_both (state_of text) said.0 _ said.1 fails
+
 no_assembly : (text : List ℕ) (r : Refusal) → SaysAssembly text → RefusesAssembly text r → ⊥
 no_assembly text r said refuses = not_both (assembled text) said.0 refuses.cause said.1 refuses.refused
 
@@ -41,6 +50,10 @@ no_mean law source trace place r said (its_trace p x other fails) = no_trace tra
 no_run : (image trace : List ℕ) (place : ℕ) (r : Refusal) → SaysImage image × SaysTrace trace → RunRefuses image trace place r → ⊥
 no_run image trace place r said (the_image x fails) = no_image image r said.0 fails
 no_run image trace place r said (the_trace i x other fails) = no_trace trace r said.1 fails
+
+no_save : (image trace : List ℕ) (place : ℕ) (r : Refusal) → SaysState image × SaysTrace trace → SaveRefuses image trace place r → ⊥
+no_save image trace place r said (the_state x fails) = no_state image r said.0 fails
+no_save image trace place r said (the_states_trace i x other fails) = no_trace trace r said.1 fails
 
 no_audit : SourcesExclude → (source trace : List ℕ) (place : ℕ) (r : Refusal) → SaysSource source × SaysTrace trace
     → AuditRefuses source trace place r → ⊥
@@ -72,6 +85,10 @@ not_refused law (dis c) (x ∷ []) place r a b = no_image x r a b.0
 not_refused law (dis c) (x ∷ y ∷ more) place r a b = a
 not_refused law (gen n i) [] place r a b = law _ a.0 r a.1 b.0
 not_refused law (gen n i) (x ∷ more) place r a b = a
+not_refused law (save c d i) [] place r a b = a
+not_refused law (save c d i) (x ∷ []) place r a b = a
+not_refused law (save c d i) (x ∷ y ∷ []) place r a b = no_save x y place r a b
+not_refused law (save c d i) (x ∷ y ∷ z ∷ more) place r a b = a
 not_refused law (audit c d e) [] place r a b = a
 not_refused law (audit c d e) (x ∷ []) place r a b = a
 not_refused law (audit c d e) (x ∷ y ∷ []) place r a b = a

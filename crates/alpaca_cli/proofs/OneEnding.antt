@@ -1,11 +1,15 @@
 -- Whatever a command makes of its texts has one ending.
-use Rattle.std.proofs.Common.{◌≡◌, ◌∙◌, ℕ, List, [], ◌∷◌, Ok, Result, refl, sym, ap, subst}
+use Rattle.std.proofs.Common.{◌≡◌, ◌∙◌, ℕ, List, [], ◌∷◌, Ok, Option, Result, refl, sym, ap, subst}
 use Rattle.energy_trace.specs.TraceValue.{TraceValue}
 use Rattle.energy_trace.specs.Reading.{trace_of}
 use Rattle.image_text.specs.ImageValue.{ImageValue}
 use Rattle.image_text.specs.Reading.{image_of}
+use Rattle.state_text.specs.declared.state.State.{State}
+use Rattle.state_text.specs.Reading.{state_of}
 use Rattle.fram_board.specs.Laws.{HasOneRun}
-use Rattle.alpaca_cli.specs.Calls.{Call, mean, try_, build, run, asm, dis, gen, audit}
+use Rattle.fram_board.specs.Run.{Run}
+use Rattle.board_run.specs.Charges.{charges_of}
+use Rattle.alpaca_cli.specs.Calls.{Call, mean, try_, build, run, asm, dis, gen, save, audit}
 use Rattle.alpaca_cli.specs.Ending.{Ending}
 use Rattle.alpaca_cli.specs.Verdicts.{verdict_ending}
 use Rattle.cost_bound.specs.declared.allowance.Allow.{Allow}
@@ -14,6 +18,7 @@ use Rattle.report_audit.specs.declared.verdict.Verdict.{Verdict}
 use Rattle.report_audit.specs.declared.verdict.Verdict.TheVariants.{Yes, No}
 use Rattle.report_audit.specs.Good.{IsVerdict}
 use Rattle.alpaca_cli.specs.RunReport.{IsRunReport, ending_of}
+use Rattle.alpaca_cli.specs.Saved.{Saves, from_state}
 use Rattle.alpaca_cli.specs.Products.{Product, Runs, Audits, IsProduct}
 
 same_value : {A E : Type 0} (x : Result A E) (a b : A) → x ≡ Ok a → x ≡ Ok b → a ≡ b
@@ -29,6 +34,15 @@ run_ending law x y e e' o o' a b =
     let report : IsRunReport a.value a.charges e' o' =
     subst (λ t. IsRunReport a.value t e' o') trace (subst (λ i. IsRunReport i b.charges e' o') image b.report) in
     one_run law a.value a.charges e e' o o' a.report report
+
+save_ending : HasOneRun → (x y : List ℕ) (f f' : Option (List ℕ)) (e e' : Ending) (o o' : List ℕ) → Saves x y f e o → Saves x y f' e' o' → e ≡ e'
+save_ending law x y f f' e e' o o' a b =
+    let state : b.state ≡ a.state = same_value (state_of x) b.state a.state b.state_said a.state_said in
+    let trace : b.charges ≡ a.charges = same_value (trace_of y) b.charges a.charges b.trace_said a.trace_said in
+    let OfState : State → Type 0 = λ s. Run (charges_of b.charges.charges) (from_state s b.charges) b.outcome in
+    let OfTrace : TraceValue → Type 0 = λ t. Run (charges_of t.charges) (from_state a.state t) b.outcome in
+    let run = subst OfTrace trace (subst OfState state b.run) in
+    a.ends ∙ ap (λ r. ending_of r.ending) (law _ _ a.outcome b.outcome a.run run) ∙ sym b.ends
 
 -- a report has verdicts of one kind
 one_kind : (source : List ℕ) (p : CheckedProgram) (n : ℕ) (readings report : List ℕ) (v w : Verdict)
@@ -72,6 +86,10 @@ one_ending law (dis c) (x ∷ []) p q a b = a.2 ∙ sym b.2
 one_ending law (dis c) (x ∷ y ∷ more) p q a b = absurd a
 one_ending law (gen n i) [] p q a b = a.1 ∙ sym b.1
 one_ending law (gen n i) (x ∷ more) p q a b = absurd a
+one_ending law (save c d i) [] p q a b = absurd a
+one_ending law (save c d i) (x ∷ []) p q a b = absurd a
+one_ending law (save c d i) (x ∷ y ∷ []) p q a b = save_ending law x y p.file q.file p.ending q.ending p.output q.output a b
+one_ending law (save c d i) (x ∷ y ∷ z ∷ more) p q a b = absurd a
 one_ending law (audit c d e) [] p q a b = absurd a
 one_ending law (audit c d e) (x ∷ []) p q a b = absurd a
 one_ending law (audit c d e) (x ∷ y ∷ []) p q a b = absurd a

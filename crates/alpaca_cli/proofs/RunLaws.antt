@@ -16,14 +16,14 @@ use Rattle.board_run.specs.declared.trace_run.RunFault.TheVariants as fault
 use Rattle.alpaca_cli.specs.Ending.{Ending, well, at_fault}
 use Rattle.alpaca_cli.specs.RunReport.{IsRunReport, ending_of}
 
-ends_well : (e : End) (x : RunEnd) → Ok x ≡ answer_of e → well ≡ ending_of e
+pub ends_well : (e : End) (x : RunEnd) → Ok x ≡ answer_of e → well ≡ ending_of e
 ends_well Charges x is = refl
 ends_well (Stopped stop.Off) x is = refl
 ends_well (Stopped stop.NoReading) x is = refl
 ends_well (Stopped (stop.Illegal pc word)) x is = cc
 ends_well (Stopped (stop.Bus pc address)) x is = cc
 
-ends_at_fault : (e : End) (x : RunFault) → Err x ≡ answer_of e → at_fault ≡ ending_of e
+pub ends_at_fault : (e : End) (x : RunFault) → Err x ≡ answer_of e → at_fault ≡ ending_of e
 ends_at_fault Charges x is = cc
 ends_at_fault (Stopped stop.Off) x is = cc
 ends_at_fault (Stopped stop.NoReading) x is = cc

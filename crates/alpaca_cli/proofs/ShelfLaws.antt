@@ -27,7 +27,7 @@ other_name a b unnamed same = unnamed (ap Some (sym same))
 
 put_same : (p file : Option (List ℕ)) (name : List ℕ) (old new : Option Files) → (p ≡ Some name → ⊥) → IsPut p file old new → Told old new (IsSame name)
 put_same (Some n) (Some bytes) name old new unnamed put = told_as old new _ _ (λ f g s. s.others name (other_name n name unnamed)) put
-put_same (Some n) None name old new unnamed put = absurd put
+put_same (Some n) None name old new unnamed put = all_same old new name put
 put_same None (Some bytes) name old new unnamed put = absurd put
 put_same None None name old new unnamed put = all_same old new name put
 

@@ -11,6 +11,7 @@ pub data Call : Type 0 where
   asm : (assembly image : List ℕ) → Call
   dis : (image : List ℕ) → Call
   gen : (number : ℕ) (image : List ℕ) → Call
+  save : (image trace state : List ℕ) → Call
   audit : (source report trace : List ℕ) → Call
 
 -- its line: its first word, and then the names, and the number in its decimal digits
@@ -22,6 +23,7 @@ line_text (run image trace) = codes "run" ∷ image ∷ trace ∷ []
 line_text (asm assembly image) = codes "asm" ∷ assembly ∷ image ∷ []
 line_text (dis image) = codes "dis" ∷ image ∷ []
 line_text (gen number image) = codes "gen" ∷ decimal number ∷ image ∷ []
+line_text (save image trace state) = codes "save" ∷ image ∷ trace ∷ state ∷ []
 line_text (audit source report trace) = codes "audit" ∷ source ∷ report ∷ trace ∷ []
 
 -- the names of the files that it reads, in order
@@ -33,6 +35,7 @@ reads (run image trace) = image ∷ trace ∷ []
 reads (asm assembly image) = assembly ∷ []
 reads (dis image) = image ∷ []
 reads (gen number image) = []
+reads (save image trace state) = image ∷ trace ∷ []
 reads (audit source report trace) = source ∷ report ∷ trace ∷ []
 
 -- the names of the texts that it may refuse, in order: those of its files, and of the generated source, which stands in none
@@ -40,7 +43,7 @@ abbrev pub judges : Call → List (List ℕ)
 judges (gen number image) = codes "gen" ∷ []
 judges call = reads call
 
--- the name of the file that it puts, if it puts one
+-- the name of the file that it puts, if it puts one; `save` puts none where its run ends at a machine fault
 abbrev pub puts : Call → Option (List ℕ)
 puts (mean source trace) = None
 puts (try_ source trace image) = Some image
@@ -49,6 +52,7 @@ puts (run image trace) = None
 puts (asm assembly image) = Some image
 puts (dis image) = None
 puts (gen number image) = Some image
+puts (save image trace state) = Some state
 puts (audit source report trace) = None
 
 -- it audits a report
@@ -59,6 +63,7 @@ IsAudit call = ⊥
 -- it runs an image that it reads
 abbrev pub IsRun : Call → Type 0
 IsRun (run image trace) = Unit {0}
+IsRun (save image trace state) = Unit {0}
 IsRun call = ⊥
 
 -- its number, if it has one, is of 32 bits

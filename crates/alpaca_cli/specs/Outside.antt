@@ -33,10 +33,10 @@ WhereStands P = (shelf : Shelved) → Stands shelf → P shelf
 abbrev pub WhereSilent : (Written → Type 0) → Type 0
 WhereSilent P = (out : Written) → IsSilent out → P out
 
--- the file stands under the name, and all others as before; where a command puts none, all stand as before
+-- the file stands under the name, and all others as before; where nothing is put, all stand as before
 abbrev pub IsPut : Option (List ℕ) → Option (List ℕ) → Option Files → Option Files → Type 0
 IsPut (Some name) (Some bytes) old new = Told old new (Sets name bytes)
-IsPut (Some name) None old new = ⊥
+IsPut (Some name) None old new = new ≡ old
 IsPut None (Some bytes) old new = ⊥
 IsPut None None old new = new ≡ old
 

@@ -5,6 +5,8 @@ use Rattle.energy_trace.specs.Reading.{trace_of}
 use Rattle.image_reports.specs.image_map.MapValue.{MapValue}
 use Rattle.image_text.specs.ImageValue.{ImageValue}
 use Rattle.image_text.specs.Reading.{image_of}
+use Rattle.state_text.specs.declared.state.State.{State}
+use Rattle.state_text.specs.Reading.{state_of}
 use Rattle.image_text.specs.Text.{map_part, text_of}
 use Rattle.image_reports.specs.text_parts.Printed.{printed}
 use Rattle.alp_io.specs.Report.{bound_line}
@@ -29,13 +31,14 @@ use Rattle.source_generator.specs.Trace.{generated_trace}
 use Rattle.alpaca_cli.specs.Assemblies.{RefusesAssembly}
 use Rattle.report_audit.specs.declared.verdict.Verdict.{Verdict}
 use Rattle.report_audit.specs.Good.{IsVerdict}
-use Rattle.alpaca_cli.specs.Calls.{Call, mean, try_, build, run, asm, dis, gen, audit}
+use Rattle.alpaca_cli.specs.Calls.{Call, mean, try_, build, run, asm, dis, gen, save, audit}
 use Rattle.alpaca_cli.specs.Ending.{Ending, well}
 use Rattle.alpaca_cli.specs.Generated.{generated_lines}
 use Rattle.alpaca_cli.specs.Refusals.{Refusal}
 use Rattle.alpaca_cli.specs.RunReport.{IsRunReport, IsTold}
 use Rattle.alpaca_cli.specs.Sources.{IsSourceText, RefusesSource}
-use Rattle.alpaca_cli.specs.Texts.{RefusesTrace, RefusesImage}
+use Rattle.alpaca_cli.specs.Saved.{Saves}
+use Rattle.alpaca_cli.specs.Texts.{RefusesTrace, RefusesImage, RefusesState}
 use Rattle.alpaca_cli.specs.Verdicts.{verdict_line, verdict_ending}
 
 -- the bytes of the file that a command puts, if it puts one; what it writes; and how it ends
@@ -150,10 +153,11 @@ IsProduct (run _ _) (image ∷ trace ∷ []) p = Runs image trace p.ending p.out
 IsProduct (asm _ _) (assembly ∷ []) p = IsSomeAnd p.file (Assembles assembly) × (p.output ≡ []) × (p.ending ≡ well)
 IsProduct (dis _) (image ∷ []) p = Lists image p.output × (p.file ≡ None) × (p.ending ≡ well)
 IsProduct (gen number _) [] p = IsSomeAnd p.file (λ file. Generates number file p.output) × (p.ending ≡ well)
+IsProduct (save _ _ _) (image ∷ trace ∷ []) p = Saves image trace p.file p.ending p.output
 IsProduct (audit _ _ _) (source ∷ report ∷ trace ∷ []) p = Audits source report trace p.ending p.output × (p.file ≡ None)
 IsProduct call texts p = ⊥
 
--- this is a text of a source; of a trace; of an image; of an assembler text
+-- this is a text of a source; of a trace; of an image; of a state; of an assembler text
 abbrev pub SaysSource : List ℕ → Type 0
 SaysSource text = (program : CheckedProgram) × IsSourceText text program
 
@@ -164,6 +168,9 @@ SaysTrace text = (value : TraceValue) × (trace_of text ≡ Ok value)
 -- a text is an image
 abbrev pub SaysImage : List ℕ → Type 0
 SaysImage text = (value : ImageValue) × (image_of text ≡ Ok value)
+
+abbrev pub SaysState : List ℕ → Type 0
+SaysState text = (value : State) × (state_of text ≡ Ok value)
 
 abbrev pub SaysAssembly : List ℕ → Type 0
 SaysAssembly text = (words : List ℕ) × (assembled text ≡ Ok words)
@@ -177,6 +184,7 @@ AreAccepted (run _ _) (image ∷ trace ∷ []) = SaysImage image × SaysTrace tr
 AreAccepted (asm _ _) (assembly ∷ []) = SaysAssembly assembly
 AreAccepted (dis _) (image ∷ []) = SaysImage image
 AreAccepted (gen number _) [] = SaysSource (generated_text number)
+AreAccepted (save _ _ _) (image ∷ trace ∷ []) = SaysState image × SaysTrace trace
 AreAccepted (audit _ _ _) (source ∷ report ∷ trace ∷ []) = SaysSource source × SaysTrace trace
 AreAccepted call texts = ⊥
 
@@ -189,6 +197,11 @@ pub data MeanRefuses (source trace : List ℕ) : ℕ → Refusal → Type 0 wher
 pub data RunRefuses (image trace : List ℕ) : ℕ → Refusal → Type 0 where
   the_image : (r : Refusal) → RefusesImage image r → RunRefuses image trace 0 r
   the_trace : (value : ImageValue) (r : Refusal) → image_of image ≡ Ok value → RefusesTrace trace r → RunRefuses image trace 1 r
+
+-- the same of `save`, whose image may be a state
+pub data SaveRefuses (image trace : List ℕ) : ℕ → Refusal → Type 0 where
+  the_state : (r : Refusal) → RefusesState image r → SaveRefuses image trace 0 r
+  the_states_trace : (value : State) (r : Refusal) → state_of image ≡ Ok value → RefusesTrace trace r → SaveRefuses image trace 1 r
 
 -- the same of `audit`, which refuses no report
 pub data AuditRefuses (source trace : List ℕ) : ℕ → Refusal → Type 0 where
@@ -204,5 +217,6 @@ IsRefused (run _ _) (image ∷ trace ∷ []) place r = RunRefuses image trace pl
 IsRefused (asm _ _) (assembly ∷ []) place r = RefusesAssembly assembly r × (place ≡ 0)
 IsRefused (dis _) (image ∷ []) place r = RefusesImage image r × (place ≡ 0)
 IsRefused (gen number _) [] place r = RefusesSource (generated_text number) r × (place ≡ 0)
+IsRefused (save _ _ _) (image ∷ trace ∷ []) place r = SaveRefuses image trace place r
 IsRefused (audit _ _ _) (source ∷ report ∷ trace ∷ []) place r = AuditRefuses source trace place r
 IsRefused call texts place r = ⊥

@@ -4,6 +4,7 @@ use Rattle.energy_trace.specs.declared.fault.TraceFault.TheVariants as trace_fau
 use Rattle.energy_trace.specs.Reading.{trace_of}
 use Rattle.image_text.specs.declared.fault.ImageFault.TheVariants as image_fault
 use Rattle.image_text.specs.Reading.{image_of}
+use Rattle.state_text.specs.Reading.{state_of}
 use Rattle.alpaca_cli.specs.declared.failure.Failure.{Failure}
 use Rattle.alpaca_cli.specs.declared.failure.Failure.TheVariants.{Refused, Put, Write, Memory}
 use Rattle.alpaca_cli.specs.Refusals.{Refusal, plain}
@@ -21,6 +22,14 @@ pub data RefusesImage (text : List ℕ) : Refusal → Type 0 where
   twice : (n : ℕ) → image_of text ≡ Err (image_fault.Twice n) → RefusesImage text (plain n (codes "Twice"))
   no_reset : image_of text ≡ Err image_fault.NoReset → RefusesImage text (plain 0 (codes "NoReset"))
   bad_map : (n : ℕ) → image_of text ≡ Err (image_fault.BadMap n) → RefusesImage text (plain n (codes "BadMap"))
+
+-- the text's first fault as a state
+pub data RefusesState (text : List ℕ) : Refusal → Type 0 where
+  bad_state_line : (n : ℕ) → state_of text ≡ Err (image_fault.BadLine n) → RefusesState text (plain n (codes "BadLine"))
+  outside_of_state : (n : ℕ) → state_of text ≡ Err (image_fault.OutsideFram n) → RefusesState text (plain n (codes "OutsideFram"))
+  twice_in_state : (n : ℕ) → state_of text ≡ Err (image_fault.Twice n) → RefusesState text (plain n (codes "Twice"))
+  no_reset_in_state : state_of text ≡ Err image_fault.NoReset → RefusesState text (plain 0 (codes "NoReset"))
+  bad_map_of_state : (n : ℕ) → state_of text ≡ Err (image_fault.BadMap n) → RefusesState text (plain n (codes "BadMap"))
 
 -- the text of this file is refused in this way, or memory was
 abbrev pub FailsRefused : List ℕ → (Refusal → Type 0) → Failure → Type 0

@@ -15,6 +15,7 @@ use crate::generate::answer_gen;
 use crate::mean::answer_mean;
 use crate::messages;
 use crate::run::answer_run;
+use crate::save::answer_save;
 use crate::status::Status;
 use crate::try_::answer_try;
 use alp_io::{Shelf, Sink};
@@ -54,6 +55,13 @@ fn answer<H: Shelf, O: Sink, E: Sink>(
         Ok(Command::Dis { image }) => answer_dis(alloc, image, shelf, out, err),
         Ok(Command::Gen { number, image }) => answer_gen(alloc, number, image, shelf, out, err),
         Ok(
+            Command::Save {
+                image,
+                trace,
+                state,
+            },
+        ) => answer_save(alloc, (image, trace, state), shelf, out, err),
+        Ok(
             Command::Audit {
                 source,
                 report,
@@ -87,7 +95,8 @@ fn answer<H: Shelf, O: Sink, E: Sink>(
 /// image's run on the board under the trace's charges, and `dis IMAGE` the assembler text of the image. `asm ASM IMAGE` puts the
 /// image of the assembler text under the name IMAGE, and `build SRC IMAGE` that of the source, whose bound it writes; `try SRC TRACE
 /// IMAGE` puts it too, and writes the report of its run. `gen N IMAGE` puts the image of the source that is generated from N, and writes
-/// four lines of its run. `audit SRC REPORT TRACE` writes whether the source could have told the report on the trace's readings.
+/// four lines of its run. `save IMAGE TRACE STATE` runs the image, or the state that it is, puts the state at the run's end and writes
+/// the last line of its report. `audit SRC REPORT TRACE` writes whether the source could have told the report on the trace's readings.
 /// Every other answer than `Done` writes its one line to `err`.
 pub fn alpaca<H: Shelf, O: Sink, E: Sink>(
     alloc: Global,
@@ -112,7 +121,7 @@ pub fn alpaca<H: Shelf, O: Sink, E: Sink>(
     ensures no_line { (OnLine (map string_bytes words.entry.now) (λ call. Unit {0}) → ⊥)
         → (result ≡ Status.Usage) ⊎ (result ≡ Status.OutOfMemory) }
 
-    // Only the run of an image that was read may meet a machine fault: `try` and `gen` never answer so.
+    // Only the run of an image or a state that was read may meet a machine fault: `try` and `gen` never answer so.
     ensures only_runs_fault { result ≡ Status.MachineFault → OnLine (map string_bytes words.entry.now) IsRun }
 
     // Only an audit may answer that a report differs.

@@ -11,7 +11,8 @@ use alp_text::print_u64;
 use board_run::{RunEnd, Watch};
 use fram_board::Board;
 
-fn reason_of(end: RunEnd) -> Reason
+/// The word of the last line for how a run ended well.
+pub fn reason_of(end: RunEnd) -> Reason
     ensures { result ≡ lines.reason_of end }
 {
     match end {

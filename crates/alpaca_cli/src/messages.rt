@@ -132,7 +132,7 @@ pub fn tell_usage<E: Sink>(err: &mut E)
     tell(
         err,
         &[
-            b"usage: alpaca mean SRC TRACE | try SRC TRACE IMAGE | build SRC IMAGE | run IMAGE TRACE | asm ASM IMAGE | dis IMAGE | gen N IMAGE | audit SRC REPORT TRACE\n",
+            b"usage: alpaca mean SRC TRACE | try SRC TRACE IMAGE | build SRC IMAGE | run IMAGE TRACE | asm ASM IMAGE | dis IMAGE | gen N IMAGE | save IMAGE TRACE STATE | audit SRC REPORT TRACE\n",
         ],
     );
 }

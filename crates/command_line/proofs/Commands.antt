@@ -21,7 +21,7 @@ use Rattle.command_line.specs.CommandLine.{AreTexts, IsLine, Subcommand, all_sai
 use Rattle.command_line.specs.CommandLine.{plain_line_of, said_behind, subcommand_named, subcommands}
 use Rattle.command_line.specs.Commands.{IsPlainLine, NamesCommand, line_found, plain_line, values_of}
 use Rattle.command_line.specs.declared.Command.{Command}
-use Rattle.command_line.specs.declared.Command.TheVariants.{Mean, Try, Build, Run, Asm, Dis, Gen, Audit}
+use Rattle.command_line.specs.declared.Command.TheVariants.{Mean, Try, Build, Run, Asm, Dis, Gen, Save, Audit}
 use Rattle.command_line.proofs.Files.{files_said, said_length, IsGiven, IsInOrder, built_subcommand, file_row, given_row, more_given, rows_for}
 use Rattle.command_line.proofs.Lines.{Line, all_in_order, has_name, in_order, line_reads, line_says, line_there, named}
 
@@ -107,6 +107,9 @@ subcommand_of_line (Dis image) name files e =
 subcommand_of_line (Gen number image) name files e =
     let named : name ≡ codes "gen" = ap (λ l. unwrap_or (slice_get l 0) []) (sym e) in
     (record { name = codes "gen"; files = codes "N" ∷ codes "IMAGE" ∷ [] }, ap subcommand_named named, let all = ap length (sym e) in omega arith)
+subcommand_of_line (Save image trace state) name files e =
+    let named : name ≡ codes "save" = ap (λ l. unwrap_or (slice_get l 0) []) (sym e) in
+    (record { name = codes "save"; files = codes "IMAGE" ∷ codes "TRACE" ∷ codes "STATE" ∷ [] }, ap subcommand_named named, let all = ap length (sym e) in omega arith)
 subcommand_of_line (Audit source report trace) name files e =
     let named : name ≡ codes "audit" = ap (λ l. unwrap_or (slice_get l 0) []) (sym e) in
     (record { name = codes "audit"; files = codes "SRC" ∷ codes "REPORT" ∷ codes "TRACE" ∷ [] }, ap subcommand_named named, let all = ap length (sym e) in omega arith)
@@ -207,7 +210,10 @@ all_have_lines = (
             of_files (of_names (codes "dis") (codes "IMAGE" ∷ [])) refl (one (codes "dis") Dis (λ a. refl)),
             (
               number_and_file,
-              (of_files (of_names (codes "audit") (codes "SRC" ∷ codes "REPORT" ∷ codes "TRACE" ∷ [])) refl (three (codes "audit") Audit (λ a b d. refl)), tt),
+              (
+                of_files (of_names (codes "save") (codes "IMAGE" ∷ codes "TRACE" ∷ codes "STATE" ∷ [])) refl (three (codes "save") Save (λ a b d. refl)),
+                (of_files (of_names (codes "audit") (codes "SRC" ∷ codes "REPORT" ∷ codes "TRACE" ∷ [])) refl (three (codes "audit") Audit (λ a b d. refl)), tt),
+              ),
             ),
           ),
         ),
@@ -231,6 +237,26 @@ has_command : (name : Text) (files texts : List Text) (s : Subcommand) → subco
 has_command name files texts s is count all =
     let c = have_lines subcommands name s all_have_lines is files texts count all in
     (c.0, c.1 ∙ ap (λ n. n ∷ texts) (has_name subcommands name s is))
+
+-- a name that is none of these
+abbrev pub AreOthers : List Subcommand → Text → Type 0
+AreOthers [] name = Unit {0}
+AreOthers (s ∷ rest) name = (name ≡ s.name → ⊥) × AreOthers rest name
+
+none_named : (xs : List Subcommand) (name : Text) → AreOthers xs name → named xs name ≡ None
+none_named [] name others = refl
+none_named (x ∷ xs) name others = go (bytes_eq x.name name) refl (none_named xs name others.1)
+  where
+    go : (b : Bool) → bytes_eq x.name name ≡ b → named xs name ≡ None → cond b (Some x) (named xs name) ≡ None
+    go true is rest = absurd (others.0 (sym ((bytes_eq-Decides x.name name).0 is)))
+    go false is rest = rest
+
+-- no command has it
+pub none_found : (name : Text) (rows : List Row) → AreOthers subcommands name → None ≡ line_found name rows
+none_found name rows others =
+    let P : Option Subcommand → Option (List Text) =
+    option_and_then (λ s. option_map (λ texts. name ∷ texts) (option_and_then (all_said s.files) (values_of s.files rows))) in
+    ap P (sym (none_named subcommands name others))
 
 pub line_is_command : (words : List Text) → AreTexts words → IsLine words → NamesCommand words
 line_is_command words texts line =

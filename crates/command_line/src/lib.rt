@@ -77,6 +77,15 @@ pub enum Command<'a> {
         /// The file that is to hold the image.
         image: &'a str,
     },
+    /// `save IMAGE TRACE STATE`: the state of the board at the end of an image's run.
+    Save {
+        /// The file of the image, which may be a state.
+        image: &'a str,
+        /// The file of the trace.
+        trace: &'a str,
+        /// The file that is to hold the state.
+        state: &'a str,
+    },
     /// `audit SRC REPORT TRACE`: whether the source could have told the report on the trace's readings.
     Audit {
         /// The file of the source.
@@ -164,6 +173,14 @@ fn command_named<'a>(name: &str, files: &ArgMatches<'a>) -> Option<Command<'a>>
             let (number, image) = two_files(files, "N", "IMAGE")?;
             let number = number_of(number)?;
             Some(Command::Gen { number, image })
+        }
+        "save" => {
+            let (image, trace, state) = three_files(files, "IMAGE", "TRACE", "STATE")?;
+            Some(Command::Save {
+                image,
+                trace,
+                state,
+            })
         }
         "audit" => {
             let (source, report, trace) = three_files(files, "SRC", "REPORT", "TRACE")?;
@@ -358,5 +375,6 @@ fn alpaca_command<'a>(alloc: Global) -> Result<clap::Command<'a>, AllocError>
     let command = with_two_files(alloc, command, "asm", "ASM", "IMAGE")?;
     let command = with_one_file(alloc, command, "dis", "IMAGE")?;
     let command = with_two_files(alloc, command, "gen", "N", "IMAGE")?;
+    let command = with_three_files(alloc, command, "save", "IMAGE", "TRACE", "STATE")?;
     with_three_files(alloc, command, "audit", "SRC", "REPORT", "TRACE")
 }
