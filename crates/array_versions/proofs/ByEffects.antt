@@ -10,7 +10,7 @@ use Rattle.array_versions.specs.Program.{Step, Program, number, load, keep, loca
 use Rattle.array_versions.specs.Program.{versioned_read, versioned_write, sense, choose, repeat, store_number, move_word, jump, nothing, step}
 use Rattle.array_versions.specs.Behaviour.{WordState, End, GoesOn, Jumps, Short, Strays, Broken, Behaviour, behaves, goes_on, strays, broken, behind_effects}
 use Rattle.array_versions.specs.Behaviour.{then_on, is_place, at_place, with_top, with_two, with_stack, pushed, stored, with_local, local_pushed}
-use Rattle.array_versions.specs.Behaviour.{reading_pushed, word_stored, element_pushed, word_emitted, entry_stored, own_element, versioned_pushed, first_stored}
+use Rattle.array_versions.specs.Behaviour.{reading_pushed, word_stored, element_pushed, word_emitted, entry_stored, ends_before, raised, listed_behind, word_listed, own_element, versioned_pushed, first_stored}
 use Rattle.array_versions.specs.Behaviour.{own_stored, versioned_stored, chosen, turns, step_behaviour, behaviour}
 use Rattle.array_versions.specs.Laws.{EndsByEffects, BehavesByEffects}
 
@@ -111,12 +111,30 @@ emitted_by count buffer v s =
     let b = goes_on (Store a v ∷ Store count (n + 1) ∷ []) (stored count (n + 1) (stored a v s)) in
     guarded (is_place count) s (at_place a b) (guarded (is_place a) s b (refl, refl))
 
-entry_by : (count list home copy : ℕ) (s : WordState) → Good s (entry_stored count list home copy s)
-entry_by count list home copy s =
-    let n = s.fram count in
-    let a = 4 * n + list in
-    let b = goes_on (Store a home ∷ Store (a + 2) copy ∷ Store count (n + 1) ∷ []) (stored count (n + 1) (stored (a + 2) copy (stored a home s))) in
-    guarded (is_place count) s (at_place a (at_place (a + 2) b)) (guarded (is_place a) s (at_place (a + 2) b) (guarded (is_place (a + 2)) s b (refl, refl)))
+entry_by : (count list home copy words : ℕ) (s : WordState) → Good s (entry_stored count list home copy words s)
+entry_by count list home copy words s =
+    let a = 6 * s.fram count + list in
+    let b = behind_effects (Store a home ∷ Store (a + 2) copy ∷ Store (a + 4) words ∷ [])
+    (raised count (stored (a + 4) words (stored (a + 2) copy (stored a home s)))) in
+    guarded (is_place count) s (at_place a (at_place (a + 2) (at_place (a + 4) b)))
+    (guarded (is_place a) s (at_place (a + 2) (at_place (a + 4) b)) (guarded (is_place (a + 2)) s (at_place (a + 4) b) (guarded (is_place (a + 4)) s b (refl, refl))))
+
+-- the last entry gets longer, or there is one more
+longer_by : (b : Bool) (list : ListPlace) (a home copy : ℕ) (s : WordState)
+    → Good s (if b then raised (a + 4) s else entry_stored list.cln list.list home copy 1 s)
+longer_by true list a home copy s = (refl, refl)
+longer_by false list a home copy s = entry_by list.cln list.list home copy 1 s
+
+listed_by : (n : ℕ) (list : ListPlace) (home copy : ℕ) (s : WordState) → Good s (listed_behind n list home copy s)
+listed_by zero list home copy s = entry_by list.cln list.list home copy 1 s
+listed_by (suc n) list home copy s =
+    let a = 6 * n + list.list in
+    let b = if ends_before s.fram a home copy then raised (a + 4) s else entry_stored list.cln list.list home copy 1 s in
+    guarded (is_place a) s (at_place (a + 2) (at_place (a + 4) b))
+    (guarded (is_place (a + 2)) s (at_place (a + 4) b) (guarded (is_place (a + 4)) s b (longer_by (ends_before s.fram a home copy) list a home copy s)))
+
+word_by : (list : ListPlace) (home copy : ℕ) (s : WordState) → Good s (word_listed list home copy s)
+word_by list home copy s = guarded (is_place list.cln) s (listed_behind (s.fram list.cln) list home copy s) (listed_by (s.fram list.cln) list home copy s)
 
 own_element_by : (b : Bool) (place : ArrayPlace) (i : ℕ) (s : WordState)
     → Good s (if b then at_place (2 * i + place.copies) (goes_on [] (pushed (s.fram (2 * i + place.copies)) s)) else at_place (2 * i + place.elements)
@@ -140,8 +158,9 @@ first_stored_by place list i s =
     let m = 2 * i + place.versions in
     let e = 2 * i + place.elements in
     let t = stored m (s.fram list.ver) s in
-    guarded (is_place e) s (behind_effects (Store m (s.fram list.ver) ∷ []) (entry_stored list.cln list.list e (2 * i + place.copies) t))
-    (behind_store m (s.fram list.ver) s (entry_stored list.cln list.list e (2 * i + place.copies) t) (entry_by list.cln list.list e (2 * i + place.copies) t))
+    let b = word_listed list e (2 * i + place.copies) t in
+    guarded (is_place e) s (behind_effects (Store m (s.fram list.ver) ∷ []) b)
+    (behind_store m (s.fram list.ver) s b (word_by list e (2 * i + place.copies) t))
 
 own_stored_by : (b : Bool) (place : ArrayPlace) (list : ListPlace) (i c v : ℕ) (s : WordState)
     → Good s (if b then goes_on (Store c v ∷ []) (stored c v s) else behind_effects (Store c v ∷ []) (first_stored place list i (stored c v s)))
@@ -171,7 +190,7 @@ mutual
       top_by s.stack s _ (λ i vs. unstacked vs s (element_pushed base length i (with_stack vs s)) (element_by (nat_lt i length) base i (with_stack vs s)))
   step_by (emit_word count buffer) s =
       top_by s.stack s _ (λ v vs. unstacked vs s (word_emitted count buffer v (with_stack vs s)) (emitted_by count buffer v (with_stack vs s)))
-  step_by (list_entry count list home copy) s = entry_by count list home copy s
+  step_by (list_entry count list home copy words) s = entry_by count list home copy words s
   step_by (versioned_read place list) s =
       top_by s.stack s _ (λ i vs. unstacked vs s (versioned_pushed place list i (with_stack vs s))
       (versioned_pushed_by (nat_lt i place.length) place list i (with_stack vs s)))

@@ -1,5 +1,5 @@
 -- Each step keeps to the allowance.
-use Rattle.std.proofs.Common.{◌≡◌, ℕ, zero, suc, ◌+◌, ◌-◌, ◌<◌, ◌≤◌, refl, arith, Bool, true, false, nat_le, nat_lt, ltb-true, if◌then◌else◌}
+use Rattle.std.proofs.Common.{◌≡◌, ℕ, zero, suc, ◌+◌, ◌-◌, ◌<◌, ◌≤◌, ◌==◌, refl, arith, Bool, true, false, nat_le, nat_lt, ltb-true, if◌then◌else◌}
 use Rattle.std.proofs.lemmas.Bool.Decides.{nat_tests}
 use Rattle.array_versions.specs.declared.operations.UnaryOperation.{UnaryOperation}
 use Rattle.array_versions.specs.declared.operations.UnaryOperation.TheVariants.{Negate, Complement, Not, Truth}
@@ -60,7 +60,7 @@ steps_keep_to_cycles (binary o) = binary_cycles_kept o
 steps_keep_to_cycles (shift o k) = omega arith
 steps_keep_to_cycles (element base length) = omega arith
 steps_keep_to_cycles (emit_word count buffer) = omega arith
-steps_keep_to_cycles (list_entry count list home copy) = omega arith
+steps_keep_to_cycles (list_entry count list home copy words) = omega arith
 steps_keep_to_cycles (versioned_read place list) = omega arith
 steps_keep_to_cycles (versioned_write place list) = omega arith
 steps_keep_to_cycles sense = omega arith
@@ -69,6 +69,11 @@ steps_keep_to_cycles (repeat n from below body) = let turns = below - from in le
 steps_keep_to_cycles (store_number a w) = omega arith
 steps_keep_to_cycles (move_word from to) = omega arith
 steps_keep_to_cycles (jump to) = omega arith
+
+-- an entry's words
+entry_kept : (b : Bool) → (if b then 16 else 17) ≤ (if b then 16 else 32)
+entry_kept true = omega arith
+entry_kept false = omega arith
 
 -- each step keeps to its words
 pub steps_keep_to_words : StepsKeepToWords
@@ -82,7 +87,7 @@ steps_keep_to_words (binary o) = binary_words_kept o
 steps_keep_to_words (shift o k) = shift_kept (nat_le k 15) o k refl
 steps_keep_to_words (element base length) = omega arith
 steps_keep_to_words (emit_word count buffer) = omega arith
-steps_keep_to_words (list_entry count list home copy) = omega arith
+steps_keep_to_words (list_entry count list home copy words) = entry_kept (words == 1)
 steps_keep_to_words (versioned_read place list) = omega arith
 steps_keep_to_words (versioned_write place list) = omega arith
 steps_keep_to_words sense = omega arith

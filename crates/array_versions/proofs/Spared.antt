@@ -4,7 +4,7 @@ use Rattle.machine_effects.specs.fram_board.Effects.{Store}
 use Rattle.array_versions.specs.declared.program.ArrayPlace.{ArrayPlace}
 use Rattle.array_versions.specs.declared.program.ListPlace.{ListPlace}
 use Rattle.array_versions.specs.Program.{Step, Program, number, load, keep, local, set_local, unary, binary, shift, element, emit_word, list_entry, versioned_read, versioned_write, sense, choose, repeat, store_number, move_word, jump, nothing, step}
-use Rattle.array_versions.specs.Behaviour.{stored, behind_effects, WordState, assigned, End, GoesOn, Jumps, Short, Strays, Broken, Behaviour, behaves, goes_on, strays, broken, on_end, is_place, at_place, with_top, with_stack, pushed, with_local, local_pushed, reading_pushed, own_element, first_stored, own_stored, chosen, turns, step_behaviour, behaviour}
+use Rattle.array_versions.specs.Behaviour.{stored, behind_effects, WordState, assigned, End, GoesOn, Jumps, Short, Strays, Broken, Behaviour, behaves, goes_on, strays, broken, on_end, is_place, at_place, with_top, with_stack, pushed, with_local, local_pushed, reading_pushed, entry_stored, ends_before, raised, listed_behind, own_element, first_stored, own_stored, chosen, turns, step_behaviour, behaviour}
 use Rattle.array_versions.specs.Form.{StepSpares, Spares}
 
 -- where it goes on, the local has this word, or none
@@ -52,12 +52,31 @@ versioned_pushed_leaves n o true place list i s e =
     guarded n o (is_place list.ver) _ (guarded n o (is_place (2 * i + place.versions)) _ (own_element_leaves n o (s.fram list.ver == s.fram (2 * i + place.versions)) place i s e))
 versioned_pushed_leaves n o false place list i s e = e
 
+entry_leaves : (n : ℕ) (o : Option ℕ) (count list home copy words : ℕ) (s : WordState) → s.locals n ≡ o → Leaves n o (entry_stored count list home copy words s).end
+entry_leaves n o count list home copy words s e =
+    let a = 6 * s.fram count + list in
+    guarded n o (is_place count) _ (guarded n o (is_place a) _ (guarded n o (is_place (a + 2)) _ (guarded n o (is_place (a + 4)) _ e)))
+
+longer_leaves : (n : ℕ) (o : Option ℕ) (b : Bool) (list : ListPlace) (a home copy : ℕ) (s : WordState) → s.locals n ≡ o
+    → Leaves n o (if b then raised (a + 4) s else entry_stored list.cln list.list home copy 1 s).end
+longer_leaves n o true list a home copy s e = e
+longer_leaves n o false list a home copy s e = entry_leaves n o list.cln list.list home copy 1 s e
+
+listed_leaves : (n : ℕ) (o : Option ℕ) (k : ℕ) (list : ListPlace) (home copy : ℕ) (s : WordState) → s.locals n ≡ o
+    → Leaves n o (listed_behind k list home copy s).end
+listed_leaves n o zero list home copy s e = entry_leaves n o list.cln list.list home copy 1 s e
+listed_leaves n o (suc k) list home copy s e =
+    let a = 6 * k + list.list in
+    guarded n o (is_place a) _ (guarded n o (is_place (a + 2)) _ (guarded n o (is_place (a + 4)) _
+    (longer_leaves n o (ends_before s.fram a home copy) list a home copy s e)))
+
 own_stored_leaves : (n : ℕ) (o : Option ℕ) (b : Bool) (place : ArrayPlace) (list : ListPlace) (i c v : ℕ) (s : WordState) → s.locals n ≡ o
     → Leaves n o (if b then goes_on (Store c v ∷ []) (stored c v s) else behind_effects (Store c v ∷ []) (first_stored place list i (stored c v s))).end
 own_stored_leaves n o true place list i c v s e = e
 own_stored_leaves n o false place list i c v s e =
     let t = stored (2 * i + place.versions) ((stored c v s).fram list.ver) (stored c v s) in
-    guarded n o (is_place (2 * i + place.elements)) _ (guarded n o (is_place list.cln) _ (guarded n o (is_place (4 * t.fram list.cln + list.list)) _ (guarded n o (is_place (4 * t.fram list.cln + list.list + 2)) _ e)))
+    guarded n o (is_place (2 * i + place.elements)) _ (guarded n o (is_place list.cln) _
+    (listed_leaves n o (t.fram list.cln) list (2 * i + place.elements) (2 * i + place.copies) t e))
 
 versioned_stored_leaves : (n : ℕ) (o : Option ℕ) (b : Bool) (place : ArrayPlace) (list : ListPlace) (i v : ℕ) (s : WordState) → s.locals n ≡ o → Leaves n o (if b then own_stored place list i v s else goes_on [] s).end
 versioned_stored_leaves n o true place list i v s e =
@@ -95,7 +114,7 @@ mutual
   step_leaves n o (shift op k) s h e = top_leaves n o s.stack _ (λ v vs. e)
   step_leaves n o (element base length) s h e = top_leaves n o s.stack _ (λ i vs. element_leaves n o (nat_lt i length) base i (with_stack vs s) e)
   step_leaves n o (emit_word count buffer) s h e = top_leaves n o s.stack _ (λ v vs. guarded n o (is_place count) _ (guarded n o (is_place (2 * s.fram count + buffer)) _ e))
-  step_leaves n o (list_entry count list home copy) s h e = guarded n o (is_place count) _ (guarded n o (is_place (4 * s.fram count + list)) _ (guarded n o (is_place (4 * s.fram count + list + 2)) _ e))
+  step_leaves n o (list_entry count list home copy words) s h e = entry_leaves n o count list home copy words s e
   step_leaves n o (versioned_read place list) s h e = top_leaves n o s.stack _ (λ i vs. versioned_pushed_leaves n o (nat_lt i place.length) place list i (with_stack vs s) e)
   step_leaves n o (versioned_write place list) s h e =
       top_leaves n o s.stack _ (λ v us. top_leaves n o us _ (λ i vs. versioned_stored_leaves n o (nat_lt i place.length) place list i v (with_stack vs s) e))

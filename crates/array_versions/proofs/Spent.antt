@@ -1,7 +1,7 @@
 -- What ways spend, against the cycles of programs.
-use Rattle.std.proofs.Common.{◌≡◌, ℕ, zero, suc, ◌+◌, ◌-◌, ◌*◌, ◌≤◌, max, List, [], ◌∷◌, refl, sym, ap, subst, arith}
-use Rattle.array_versions.specs.Program.{Step, Program, number, load, keep, local, set_local, unary, binary, shift, element, emit_word, list_entry, versioned_read, versioned_write, sense, choose, repeat, store_number, move_word, jump, nothing, step, joined}
-use Rattle.array_versions.specs.Behaviour.{WordState, End, GoesOn, Jumps, Short, Strays, Broken, Behaviour, behind_effects, on_end, then_on, with_stack, with_local, step_behaviour, behaviour}
+use Rattle.std.proofs.Common.{◌≡◌, ℕ, zero, suc, ◌+◌, ◌-◌, ◌*◌, ◌≤◌, max, List, [], ◌∷◌, refl, arith}
+use Rattle.array_versions.specs.Program.{Step, number, load, keep, local, set_local, unary, binary, shift, element, emit_word, list_entry, versioned_read, versioned_write, sense, choose, repeat, store_number, move_word, jump, nothing, step, joined}
+use Rattle.array_versions.specs.Behaviour.{WordState, End, GoesOn, Jumps, Short, Strays, Broken, Behaviour, on_end, with_stack, with_local, step_behaviour, behaviour}
 use Rattle.array_versions.specs.Cost.{step_cycles, cycles_of, spent_on, way_spent, turns_spent, step_spent, spent}
 use Rattle.array_versions.specs.Laws.{JoinedSpend, WaysKeepToCycles}
 
@@ -44,7 +44,7 @@ mutual
   step_most (shift op k) s = omega arith
   step_most (element base length) s = omega arith
   step_most (emit_word count buffer) s = omega arith
-  step_most (list_entry count list home copy) s = omega arith
+  step_most (list_entry count list home copy words) s = omega arith
   step_most (versioned_read place list) s = omega arith
   step_most (versioned_write place list) s = omega arith
   step_most sense s = omega arith

@@ -4,7 +4,7 @@ use Rattle.machine_effects.specs.fram_board.Effects.{Store}
 use Rattle.array_versions.specs.declared.program.ArrayPlace.{ArrayPlace}
 use Rattle.array_versions.specs.declared.program.ListPlace.{ListPlace}
 use Rattle.array_versions.specs.Program.{Step, Program, number, load, keep, local, set_local, unary, binary, shift, element, emit_word, list_entry, versioned_read, versioned_write, sense, choose, repeat, store_number, move_word, jump, nothing, step}
-use Rattle.array_versions.specs.Behaviour.{stored, behind_effects, WordState, started, End, GoesOn, Jumps, Short, Strays, Broken, Behaviour, behaves, goes_on, strays, broken, on_end, then_on, is_place, at_place, with_top, with_two, with_stack, pushed, with_local, local_pushed, reading_pushed, entry_stored, own_element, first_stored, own_stored, chosen, turns, step_behaviour, behaviour}
+use Rattle.array_versions.specs.Behaviour.{stored, behind_effects, WordState, started, End, GoesOn, Jumps, Short, Strays, Broken, Behaviour, behaves, goes_on, strays, broken, on_end, then_on, is_place, at_place, with_top, with_two, with_stack, pushed, with_local, local_pushed, reading_pushed, entry_stored, raised, ends_before, listed_behind, own_element, first_stored, own_stored, chosen, turns, step_behaviour, behaviour}
 use Rattle.array_versions.specs.Form.{Place, start, assigning, Moves, EachTurn, EachStepWay, EachWay}
 use Rattle.array_versions.specs.Laws.{IsSound, WholeEndsSoundly}
 
@@ -115,15 +115,34 @@ versioned_pushed_well true place list i next t h =
 versioned_pushed_well false place list i next t h = h 0
 
 -- an entry leaves the stack and the locals
-entry_well : (count list home copy : ℕ) (next : Place → Type 0) (t : WordState) → ((f : ℕ → ℕ) → GoesWell next (GoesOn (record t { fram = f }))) → GoesWell next (entry_stored count list home copy t).end
-entry_well count list home copy next t h =
-    guarded next (is_place count) _ (guarded next (is_place (4 * t.fram count + list)) _ (guarded next (is_place (4 * t.fram count + list + 2)) _ (h _)))
+entry_well : (count list home copy words : ℕ) (next : Place → Type 0) (t : WordState) → ((f : ℕ → ℕ) → GoesWell next (GoesOn (record t { fram = f })))
+    → GoesWell next (entry_stored count list home copy words t).end
+entry_well count list home copy words next t h =
+    let a = 6 * t.fram count + list in
+    guarded next (is_place count) _ (guarded next (is_place a) _ (guarded next (is_place (a + 2)) _ (guarded next (is_place (a + 4)) _ (h _))))
+
+longer_well : (b : Bool) (list : ListPlace) (a home copy : ℕ) (next : Place → Type 0) (t : WordState)
+    → ((f : ℕ → ℕ) → GoesWell next (GoesOn (record t { fram = f })))
+    → GoesWell next (if b then raised (a + 4) t else entry_stored list.cln list.list home copy 1 t).end
+longer_well true list a home copy next t h = h _
+longer_well false list a home copy next t h = entry_well list.cln list.list home copy 1 next t h
+
+-- so does a word that is listed
+listed_well : (n : ℕ) (list : ListPlace) (home copy : ℕ) (next : Place → Type 0) (t : WordState) → ((f : ℕ → ℕ) → GoesWell next (GoesOn (record t { fram = f })))
+    → GoesWell next (listed_behind n list home copy t).end
+listed_well zero list home copy next t h = entry_well list.cln list.list home copy 1 next t h
+listed_well (suc n) list home copy next t h =
+    let a = 6 * n + list.list in
+    guarded next (is_place a) _ (guarded next (is_place (a + 2)) _ (guarded next (is_place (a + 4)) _
+    (longer_well (ends_before t.fram a home copy) list a home copy next t h)))
 
 own_stored_well : (b : Bool) (place : ArrayPlace) (list : ListPlace) (i c v : ℕ) (next : Place → Type 0) (t : WordState) → ((f : ℕ → ℕ) → GoesWell next (GoesOn (record t { fram = f })))
     → GoesWell next (if b then goes_on (Store c v ∷ []) (stored c v t) else behind_effects (Store c v ∷ []) (first_stored place list i (stored c v t))).end
 own_stored_well true place list i c v next t h = h _
 own_stored_well false place list i c v next t h =
-    guarded next (is_place (2 * i + place.elements)) _ (entry_well list.cln list.list (2 * i + place.elements) (2 * i + place.copies) next (stored (2 * i + place.versions) ((stored c v t).fram list.ver) (stored c v t)) h)
+    let u = stored (2 * i + place.versions) ((stored c v t).fram list.ver) (stored c v t) in
+    guarded next (is_place (2 * i + place.elements)) _ (guarded next (is_place list.cln) _
+    (listed_well (u.fram list.cln) list (2 * i + place.elements) (2 * i + place.copies) next u h))
 
 versioned_stored_well : (b : Bool) (place : ArrayPlace) (list : ListPlace) (i v : ℕ) (next : Place → Type 0) (t : WordState) → ((f : ℕ → ℕ) → GoesWell next (GoesOn (record t { fram = f })))
     → GoesWell next (if b then own_stored place list i v t else goes_on [] t).end
@@ -175,8 +194,8 @@ mutual
       top_well next s.stack _ (omega (arith, h.0, m.depth)) (λ i vs e. element_well (nat_lt i size) base i next (with_stack vs s) (λ v. turn_well room 1 next q s _ h m (omega arith) refl))
   step_well room (emit_word count buffer) next q s h m =
       top_well next s.stack _ (omega (arith, h.0, m.depth)) (λ v vs e. guarded next (is_place count) _ (guarded next (is_place (2 * s.fram count + buffer)) _ (pop_well room next q s _ h m e refl)))
-  step_well room (list_entry count list home copy) next q s h m =
-      guarded next (is_place count) _ (guarded next (is_place (4 * s.fram count + list)) _ (guarded next (is_place (4 * s.fram count + list + 2)) _ (same_well next q s _ h m refl refl)))
+  step_well room (list_entry count list home copy words) next q s h m =
+      entry_well count list home copy words next s (λ f. same_well next q s _ h m refl refl)
   step_well room (versioned_read place list) next q s h m =
       top_well next s.stack _ (omega (arith, h.0, m.depth)) (λ i vs e. versioned_pushed_well (nat_lt i place.length) place list i next (with_stack vs s) (λ v. turn_well room 1 next q s _ h m (omega arith) refl))
   step_well room (versioned_write place list) next q s h m =

@@ -23,7 +23,7 @@ use Rattle.array_versions.specs.declared.program.ListPlace.{ListPlace}
 use Rattle.array_versions.specs.Program.{Step, Program, number, load, keep, local, set_local, unary, binary, shift, element, emit_word, list_entry}
 use Rattle.array_versions.specs.Program.{versioned_read, versioned_write, sense, choose, repeat, store_number, move_word, jump, nothing, step}
 use Rattle.array_versions.specs.Behaviour.{WordState, End, GoesOn, Jumps, Short, Strays, Broken, Behaviour, behaves, goes_on, strays, broken, on_end, is_place}
-use Rattle.array_versions.specs.Behaviour.{at_place, with_top, with_stack, pushed, stored, with_local, local_pushed, reading_pushed, entry_stored}
+use Rattle.array_versions.specs.Behaviour.{at_place, with_top, with_stack, pushed, stored, with_local, local_pushed, reading_pushed, entry_stored, ends_before, raised, listed_behind}
 use Rattle.array_versions.specs.Behaviour.{behind_effects, own_element, first_stored, own_stored, chosen, turns, step_behaviour, behaviour}
 use Rattle.array_versions.specs.Form.{StepOfWords, OfWords}
 use Rattle.array_versions.specs.Laws.{IsStateOfWords, EndsInWords, WordsStayWords}
@@ -162,15 +162,30 @@ versioned_pushed_words true place list i s w =
     (λ f. own_element_words (s.fram list.ver == s.fram (2 * i + place.versions)) place i s w))
 versioned_pushed_words false place list i s w = pushed_words s 0 w (omega arith)
 
-entry_words : (count list home copy : ℕ) (s : WordState) → home < 0x10000 → copy < 0x10000 → IsStateOfWords s
-    → EndsInWords (entry_stored count list home copy s).end
-entry_words count list home copy s h k w =
-    let n = s.fram count in
-    let a = 4 * n + list in
-    guarded (is_place count) _ (λ e. guarded (is_place a) _ (λ f. guarded (is_place (a + 2)) _ (λ g.
-    let x = place_high a f in
-    stored_words (stored (a + 2) copy (stored a home s)) count (n + 1) (stored_words (stored a home s) (a + 2) copy (stored_words s a home w h) k)
-    (omega arith))))
+raised_words : (a : ℕ) (s : WordState) → IsStateOfWords s → EndsInWords (raised a s).end
+raised_words a s w = let v = s.fram a + 1 in stored_words s a (v % 0x10000) w (omega arith)
+
+entry_words : (count list home copy words : ℕ) (s : WordState) → home < 0x10000 → copy < 0x10000 → words < 0x10000 → IsStateOfWords s
+    → EndsInWords (entry_stored count list home copy words s).end
+entry_words count list home copy words s h k l w =
+    let a = 6 * s.fram count + list in
+    let t = stored (a + 4) words (stored (a + 2) copy (stored a home s)) in
+    guarded (is_place count) _ (λ e. guarded (is_place a) _ (λ f. guarded (is_place (a + 2)) _ (λ g. guarded (is_place (a + 4)) _ (λ i.
+    let two = stored_words (stored a home s) (a + 2) copy (stored_words s a home w h) k in
+    raised_words count t (stored_words (stored (a + 2) copy (stored a home s)) (a + 4) words two l)))))
+
+longer_words : (b : Bool) (list : ListPlace) (a home copy : ℕ) (s : WordState) → home < 0x10000 → copy < 0x10000 → IsStateOfWords s
+    → EndsInWords (if b then raised (a + 4) s else entry_stored list.cln list.list home copy 1 s).end
+longer_words true list a home copy s h k w = raised_words (a + 4) s w
+longer_words false list a home copy s h k w = entry_words list.cln list.list home copy 1 s h k (omega arith) w
+
+listed_words : (n : ℕ) (list : ListPlace) (home copy : ℕ) (s : WordState) → home < 0x10000 → copy < 0x10000 → IsStateOfWords s
+    → EndsInWords (listed_behind n list home copy s).end
+listed_words zero list home copy s h k w = entry_words list.cln list.list home copy 1 s h k (omega arith) w
+listed_words (suc n) list home copy s h k w =
+    let a = 6 * n + list.list in
+    guarded (is_place a) _ (λ e. guarded (is_place (a + 2)) _ (λ f. guarded (is_place (a + 4)) _ (λ g.
+    longer_words (ends_before s.fram a home copy) list a home copy s h k w)))
 
 own_stored_words : (b : Bool) (place : ArrayPlace) (list : ListPlace) (i v : ℕ) (s : WordState) → v < 0x10000 → 2 * i + place.copies < 0x10000
     → IsStateOfWords s
@@ -181,9 +196,10 @@ own_stored_words false place list i v s l h w =
     let c = 2 * i + place.copies in
     let t = stored c v s in
     let tw = stored_words s c v w l in
-    guarded (is_place (2 * i + place.elements)) _ (λ e.
-    entry_words list.cln list.list (2 * i + place.elements) c (stored (2 * i + place.versions) (t.fram list.ver) t) (place_high (2 * i + place.elements) e) h
-    (stored_words t (2 * i + place.versions) (t.fram list.ver) tw (tw.fram list.ver)))
+    let u = stored (2 * i + place.versions) (t.fram list.ver) t in
+    guarded (is_place (2 * i + place.elements)) _ (λ e. guarded (is_place list.cln) _ (λ f.
+    listed_words (u.fram list.cln) list (2 * i + place.elements) c u (place_high (2 * i + place.elements) e) h
+    (stored_words t (2 * i + place.versions) (t.fram list.ver) tw (tw.fram list.ver))))
 
 versioned_stored_words : (b : Bool) (place : ArrayPlace) (list : ListPlace) (i v : ℕ) (s : WordState) → v < 0x10000 → IsStateOfWords s
     → EndsInWords (if b then own_stored place list i v s else goes_on [] s).end
@@ -230,13 +246,7 @@ mutual
       let x = place_high (2 * n + buffer) f in
       stored_words (stored (2 * n + buffer) v (with_stack vs s)) count (n + 1) (stored_words (with_stack vs s) (2 * n + buffer) v (stack_words s vs w m) l)
       (omega arith))))
-  step_words (list_entry count list home copy) s h w =
-      let n = s.fram count in
-      let a = 4 * n + list in
-      guarded (is_place count) _ (λ e. guarded (is_place a) _ (λ f. guarded (is_place (a + 2)) _ (λ g.
-      let x = place_high a f in
-      stored_words (stored (a + 2) copy (stored a home s)) count (n + 1) (stored_words (stored a home s) (a + 2) copy (stored_words s a home w h.2) h.3)
-      (omega arith))))
+  step_words (list_entry count list home copy n) s h w = entry_words count list home copy n s h.2 h.3 h.4 w
   step_words (versioned_read place list) s h w =
       top_words s.stack _ w.stack (λ i vs l m. versioned_pushed_words (nat_lt i place.length) place list i (with_stack vs s) (stack_words s vs w m))
   step_words (versioned_write place list) s h w =

@@ -1,5 +1,5 @@
 -- What the statements and expressions of a source allow their code, in cycles and words, parts aside; and that each step keeps to it.
-use Rattle.std.specs.Prelude.{ℕ, ◌+◌, ◌-◌, ◌*◌, ◌≤◌, max}
+use Rattle.std.specs.Prelude.{ℕ, ◌+◌, ◌-◌, ◌*◌, ◌≤◌, ◌==◌, if◌then◌else◌, max}
 use Rattle.array_versions.specs.declared.operations.BinaryOperation.{BinaryOperation}
 use Rattle.array_versions.specs.declared.operations.BinaryOperation.TheVariants.{Multiply, Divide, Remainder}
 use Rattle.array_versions.specs.Program.{Step, number, load, keep, local, set_local, unary, binary, shift, element, emit_word, list_entry, versioned_read, versioned_write, sense, choose, repeat, store_number, move_word, jump}
@@ -25,7 +25,7 @@ allowed_cycles (binary op) = binary_allowance op
 allowed_cycles (shift op k) = 100
 allowed_cycles (element base length) = 60
 allowed_cycles (emit_word count buffer) = 60
-allowed_cycles (list_entry count list home copy) = 40
+allowed_cycles (list_entry count list home copy words) = 40
 allowed_cycles (versioned_read place list) = 60
 allowed_cycles (versioned_write place list) = 120
 allowed_cycles sense = 40
@@ -34,6 +34,10 @@ allowed_cycles (repeat n from below body) = 40 + (below - from) * (40 + cycles_o
 allowed_cycles (store_number a w) = 30
 allowed_cycles (move_word from to) = 30
 allowed_cycles (jump to) = 10
+
+-- the words of an entry: those of one scalar, and of two or more where it has more words
+abbrev pub entry_allowance : ℕ → ℕ
+entry_allowance words = if words == 1 then 16 else 32
 
 -- its words. The stores and the jump of a transition have 40 together
 abbrev pub allowed_words : Step → ℕ
@@ -47,7 +51,7 @@ allowed_words (binary op) = 16
 allowed_words (shift op k) = 16
 allowed_words (element base length) = 24
 allowed_words (emit_word count buffer) = 24
-allowed_words (list_entry count list home copy) = 16
+allowed_words (list_entry count list home copy words) = entry_allowance words
 allowed_words (versioned_read place list) = 24
 allowed_words (versioned_write place list) = 60
 allowed_words sense = 16

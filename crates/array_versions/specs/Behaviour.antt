@@ -129,13 +129,36 @@ word_emitted count buffer v s =
     let a = 2 * n + buffer in
     at_place count (at_place a (goes_on (Store a v ∷ Store count (n + 1) ∷ []) (stored count (n + 1) (stored a v s))))
 
--- stores the home and its copy behind the entries that are counted, then raises the count
-abbrev pub entry_stored : ℕ → ℕ → ℕ → ℕ → WordState → Behaviour
-entry_stored count list home copy s =
-    let n = s.fram count in
-    let a = 4 * n + list in
-    at_place count (at_place a (at_place (a + 2) (
-    goes_on (Store a home ∷ Store (a + 2) copy ∷ Store count (n + 1) ∷ []) (stored count (n + 1) (stored (a + 2) copy (stored a home s))))))
+-- a word goes up by one, modulo 65536
+abbrev pub raised : ℕ → WordState → Behaviour
+raised a s = let v = (s.fram a + 1) % 65536 in goes_on (Store a v ∷ []) (stored a v s)
+
+-- stores an entry behind those that are counted, a run's first home, its first copy and its words, then raises the count
+abbrev pub entry_stored : ℕ → ℕ → ℕ → ℕ → ℕ → WordState → Behaviour
+entry_stored count list home copy words s =
+    let a = 6 * s.fram count + list in
+    at_place count (at_place a (at_place (a + 2) (at_place (a + 4) (
+    behind_effects (Store a home ∷ Store (a + 2) copy ∷ Store (a + 4) words ∷ [])
+    (raised count (stored (a + 4) words (stored (a + 2) copy (stored a home s))))))))
+
+-- the run of the entry at an address, its homes and its copies, ends right before these two
+abbrev pub ends_before : (ℕ → ℕ) → ℕ → ℕ → ℕ → Bool
+ends_before fram a home copy =
+    let bytes = 2 * fram (a + 4) in
+    ((bytes + fram a) % 65536 == home) && ((bytes + fram (a + 2)) % 65536 == copy)
+
+-- lists a home and its copy behind so many entries: the last one gets longer where its run ends right before both, else they are an
+-- entry of one word
+abbrev pub listed_behind : ℕ → ListPlace → ℕ → ℕ → WordState → Behaviour
+listed_behind zero list home copy s = entry_stored list.cln list.list home copy 1 s
+listed_behind (suc n) list home copy s =
+    let a = 6 * n + list.list in
+    at_place a (at_place (a + 2) (at_place (a + 4) (
+    if ends_before s.fram a home copy then raised (a + 4) s else entry_stored list.cln list.list home copy 1 s)))
+
+-- lists a home and its copy behind the entries that are counted
+abbrev pub word_listed : ListPlace → ℕ → ℕ → WordState → Behaviour
+word_listed list home copy s = at_place list.cln (listed_behind (s.fram list.cln) list home copy s)
 
 -- an element as this attempt has it: its copy where its version word is the attempt's number, else the element
 abbrev pub own_element : ArrayPlace → ListPlace → ℕ → WordState → Behaviour
@@ -150,12 +173,12 @@ own_element place list i s =
 abbrev pub versioned_pushed : ArrayPlace → ListPlace → ℕ → WordState → Behaviour
 versioned_pushed place list i s = if nat_lt i place.length then own_element place list i s else goes_on [] (pushed 0 s)
 
--- behind the first store to an element's copy: the version word, then the entry, the element being its home
+-- behind the first store to an element's copy: the version word, then it is listed, the element being its home
 abbrev pub first_stored : ArrayPlace → ListPlace → ℕ → WordState → Behaviour
 first_stored place list i s =
     let m = 2 * i + place.versions in
     let e = 2 * i + place.elements in
-    at_place e (behind_effects (Store m (s.fram list.ver) ∷ []) (entry_stored list.cln list.list e (2 * i + place.copies) (stored m (s.fram list.ver) s)))
+    at_place e (behind_effects (Store m (s.fram list.ver) ∷ []) (word_listed list e (2 * i + place.copies) (stored m (s.fram list.ver) s)))
 
 -- stores a word in an element's copy; where the version word isn't the attempt's number, it is the first store
 abbrev pub own_stored : ArrayPlace → ListPlace → ℕ → ℕ → WordState → Behaviour
@@ -197,7 +220,7 @@ abbrev mutual
   step_behaviour (shift op k) s = with_top s.stack (λ v vs. goes_on [] (with_stack (shift_word op v k ∷ vs) s))
   step_behaviour (element base length) s = with_top s.stack (λ i vs. element_pushed base length i (with_stack vs s))
   step_behaviour (emit_word count buffer) s = with_top s.stack (λ v vs. word_emitted count buffer v (with_stack vs s))
-  step_behaviour (list_entry count list home copy) s = entry_stored count list home copy s
+  step_behaviour (list_entry count list home copy words) s = entry_stored count list home copy words s
   step_behaviour (versioned_read place list) s = with_top s.stack (λ i vs. versioned_pushed place list i (with_stack vs s))
   step_behaviour (versioned_write place list) s = with_two s.stack (λ i v vs. versioned_stored place list i v (with_stack vs s))
   step_behaviour sense s = reading_pushed s.readings s

@@ -1,5 +1,5 @@
 -- What the code of a word program costs at most, in cycles and in words.
-use Rattle.std.specs.Prelude.{ℕ, zero, suc, ◌+◌, ◌-◌, ◌*◌, max, nat_le, nat_lt, if◌then◌else◌, List, [], ◌∷◌}
+use Rattle.std.specs.Prelude.{ℕ, zero, suc, ◌+◌, ◌-◌, ◌*◌, max, nat_le, nat_lt, ◌==◌, if◌then◌else◌, List, [], ◌∷◌}
 use Rattle.array_versions.specs.declared.operations.UnaryOperation.{UnaryOperation}
 use Rattle.array_versions.specs.declared.operations.UnaryOperation.TheVariants.{Negate, Complement, Not, Truth}
 use Rattle.array_versions.specs.declared.operations.BinaryOperation.{BinaryOperation}
@@ -76,6 +76,10 @@ shift_words Left k = if nat_lt k 8 then k else 3 + (k - 8)
 shift_words Right k = if nat_lt k 8 then right_words k else 3 + (k - 8)
 shift_words SignedRight k = if nat_lt k 8 then k else 2 + (k - 8)
 
+-- the words that store an entry of so many words: 1 takes no word of its own
+abbrev pub entry_words : ℕ → ℕ
+entry_words words = if words == 1 then 16 else 17
+
 abbrev mutual
   -- the cycles of a step, at most: of two ways the greater, of a loop its turns
   pub step_cycles : Step → ℕ
@@ -89,9 +93,9 @@ abbrev mutual
   step_cycles (shift op k) = 15
   step_cycles (element base length) = 15
   step_cycles (emit_word count buffer) = 16
-  step_cycles (list_entry count list home copy) = 21
+  step_cycles (list_entry count list home copy words) = 26
   step_cycles (versioned_read place list) = 23
-  step_cycles (versioned_write place list) = 49
+  step_cycles (versioned_write place list) = 79
   step_cycles sense = 6
   step_cycles (choose taken otherwise) = 8 + max (cycles_of taken) (cycles_of otherwise)
   step_cycles (repeat n from below body) = 15 + (below - from) * (18 + cycles_of body)
@@ -117,9 +121,9 @@ abbrev mutual
   step_words (shift op k) = 2 + (if nat_le k 15 then shift_words op k else 1)
   step_words (element base length) = 10
   step_words (emit_word count buffer) = 10
-  step_words (list_entry count list home copy) = 14
+  step_words (list_entry count list home copy words) = entry_words words
   step_words (versioned_read place list) = 18
-  step_words (versioned_write place list) = 32
+  step_words (versioned_write place list) = 59
   step_words sense = 3
   step_words (choose taken otherwise) = 7 + words_of taken + words_of otherwise
   step_words (repeat n from below body) = 17 + words_of body
@@ -166,7 +170,7 @@ abbrev mutual
   step_spent (shift op k) s = step_cycles (shift op k)
   step_spent (element base length) s = step_cycles (element base length)
   step_spent (emit_word count buffer) s = step_cycles (emit_word count buffer)
-  step_spent (list_entry count list home copy) s = step_cycles (list_entry count list home copy)
+  step_spent (list_entry count list home copy words) s = step_cycles (list_entry count list home copy words)
   step_spent (versioned_read place list) s = step_cycles (versioned_read place list)
   step_spent (versioned_write place list) s = step_cycles (versioned_write place list)
   step_spent sense s = step_cycles sense

@@ -42,7 +42,7 @@ abbrev mutual
   EachStepWay room (shift op k) next p = Moves room 1 1 next p
   EachStepWay room (element base length) next p = Moves room 1 1 next p
   EachStepWay room (emit_word count buffer) next p = Moves room 1 0 next p
-  EachStepWay room (list_entry count list home copy) next p = next p
+  EachStepWay room (list_entry count list home copy words) next p = next p
   EachStepWay room (versioned_read place list) next p = Moves room 1 1 next p
   EachStepWay room (versioned_write place list) next p = Moves room 2 0 next p
   EachStepWay room sense next p = Moves room 0 1 next p
@@ -118,7 +118,7 @@ abbrev mutual
   StepOfWords (shift op k) = IsWord k
   StepOfWords (element base length) = IsWord base × IsWord length
   StepOfWords (emit_word count buffer) = IsWord count × IsWord buffer
-  StepOfWords (list_entry count list home copy) = IsWord count × IsWord list × IsWord home × IsWord copy
+  StepOfWords (list_entry count list home copy words) = IsWord count × IsWord list × IsWord home × IsWord copy × IsWord words
   StepOfWords (versioned_read place list) = ArrayOfWords place × ListOfWords list
   StepOfWords (versioned_write place list) = ArrayOfWords place × ListOfWords list
   StepOfWords sense = Unit {0}

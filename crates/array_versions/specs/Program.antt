@@ -19,7 +19,7 @@ mutual
     shift : (operation : ShiftOperation) → (count : ℕ) → Step
     element : (base length : ℕ) → Step
     emit_word : (count buffer : ℕ) → Step
-    list_entry : (count list home copy : ℕ) → Step
+    list_entry : (count list home copy words : ℕ) → Step
     versioned_read : (place : ArrayPlace) → (list : ListPlace) → Step
     versioned_write : (place : ArrayPlace) → (list : ListPlace) → Step
     sense : Step

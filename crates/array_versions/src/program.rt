@@ -53,19 +53,22 @@ pub enum WordStep {
         count: u16,
         buffer: u16,
     },
-    /// Stores an entry of the commit list behind those that are counted, the home and then its copy, and raises the count.
+    /// Stores an entry of the commit list behind those that are counted, a run's first home, its first copy and its words,
+    /// and raises the count.
     ListEntry {
         count: u16,
         list: u16,
         home: u16,
         copy: u16,
+        words: u16,
     },
     /// Pops an index and pushes the element of a versioned array as this attempt has it: its copy where its version word is
     /// the attempt's number. 0 where the index isn't below the length.
     VersionedRead(ArrayPlace, ListPlace),
     /// Pops a word and the index below it, and stores the word in the element's copy. The first time in the attempt it then
-    /// stores the attempt's number as the version word, and an entry of the commit list. Nothing is stored where the index
-    /// isn't below the length.
+    /// stores the attempt's number as the version word, and lists the element: where both runs of the commit list's last
+    /// entry end right before the element and its copy, the entry's words go up by one; else there is an entry of one word
+    /// more. Nothing is stored where the index isn't below the length.
     VersionedWrite(ArrayPlace, ListPlace),
     /// Takes the next reading and pushes it.
     Sense,
@@ -200,17 +203,18 @@ impl WordProgram {
         self.push(WordStep::EmitWord { count, buffer })
     }
 
-    /// Stores the addresses `home` and `copy` in the list at an address, behind as many pairs as the word at `count` says;
-    /// then raises that word by one.
+    /// Stores the addresses `home` and `copy` and the number `words` in the list at an address, behind as many entries as the
+    /// word at `count` says; then raises that word by one.
     pub fn list_entry(
         &mut self,
         count: u16,
         list: u16,
         home: u16,
         copy: u16,
+        words: u16,
     ) -> Result<(), AllocError>
         ensures ok { OnOk result
-            (program_of self.new ≡ behind (program_of self.old) (value.list_entry count list home copy)) }
+            (program_of self.new ≡ behind (program_of self.old) (value.list_entry count list home copy words)) }
         ensures err { OnErr result (program_of self.new ≡ program_of self.old) }
     {
         self.push(WordStep::ListEntry {
@@ -218,6 +222,7 @@ impl WordProgram {
             list,
             home,
             copy,
+            words,
         })
     }
 
@@ -232,8 +237,9 @@ impl WordProgram {
     }
 
     /// Pops a word and the index below it, and stores the word in the element's copy; where its version word isn't the word
-    /// at `list.ver`, then stores that word there, and the addresses of the element and its copy in the list. Nothing is
-    /// stored where the index isn't below the length.
+    /// at `list.ver`, then stores that word there, and lists the element: the last entry of the list gets a word more where its
+    /// runs end right before the element and its copy, else there is an entry more. Nothing is stored where the index isn't
+    /// below the length.
     pub fn versioned_write(
         &mut self,
         place: &ArrayPlace,

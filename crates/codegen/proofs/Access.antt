@@ -1,5 +1,5 @@
 -- Elements of arrays, emits, and entries of the commit list.
-use Rattle.std.proofs.Common.{◌≡◌, ℕ, ◌+◌, ◌-◌, ◌*◌, ◌%◌, ◌<◌, not, List, [], ◌∷◌, Some, refl, sym, ap, ◌∙◌, subst, arith, Bool, true, false, nat_lt, nat_le}
+use Rattle.std.proofs.Common.{◌≡◌, ℕ, ◌+◌, ◌-◌, ◌*◌, ◌%◌, ◌<◌, ◌==◌, not, List, [], ◌∷◌, ◌++◌, Some, refl, sym, ap, ◌∙◌, subst, arith, Bool, true, false, nat_lt, nat_le}
 use Rattle.std.proofs.Common.{if◌then◌else◌}
 use Rattle.std.specs.List.{AllByRecursion}
 use Rattle.std.proofs.lemmas.Bool.Decides.{nat_tests}
@@ -8,45 +8,28 @@ use Rattle.msp_isa.specs.declared.instructions.Condition.TheVariants as conditio
 use Rattle.msp_isa.specs.declared.instructions.TwoOp.TheVariants as op
 use Rattle.msp_isa.specs.declared.operands.Konst.TheVariants as konst
 use Rattle.array_versions.specs.msp_step.Effect.{sum16, distance}
-use Rattle.array_versions.specs.fram_board.Effects.{Store}
+use Rattle.array_versions.specs.fram_board.Effects.{Effect, Store}
 use Rattle.array_versions.specs.machine_effects.World.{put}
 use Rattle.array_versions.specs.machine_effects.Going.{At, stretch}
 use Rattle.array_versions.specs.machine_effects.Machine.{IsFram}
-use Rattle.code_forms.specs.Forms.{WorkRegister, R4, Core, CoreStretch, Register, Number, Constant, Indexed, ToRegister, Move, Calculate, Jump, instruction_of}
+use Rattle.code_forms.specs.Forms.{WorkRegister, R4, Core, CoreStretch, Register, Number, Constant, Indexed, ToRegister, ToIndexed, Move, Calculate, Update}
+use Rattle.code_forms.specs.Forms.{Jump, instruction_of, form_bytes}
 use Rattle.code_forms.specs.Code.{Stands, forms_run, Runs}
-use Rattle.code_forms.proofs.Interface.{stands_at, form_at, forms_at, end_of}
-use Rattle.array_versions.specs.Behaviour.{WordState, goes_on, with_stack, with_top, is_place, at_place, element_pushed, word_emitted, entry_stored}
-use Rattle.codegen.specs.Code.{push_from, element_code, emit_code, entry_code}
+use Rattle.code_forms.proofs.Interface.{stands_at, stands_front, stands_back, form_at, forms_at, end_of}
+use Rattle.array_versions.specs.Behaviour.{WordState, goes_on, with_stack, with_top, is_place, at_place, stored, element_pushed, word_emitted, entry_stored}
+use Rattle.array_versions.specs.Cost.{entry_words}
+use Rattle.codegen.specs.Code.{push_from, element_code, emit_code, pair_code, entry_code}
 use Rattle.codegen.proofs.Stretches.{Setting, straight, runs_on, dearer}
 use Rattle.codegen.proofs.Memory.{pop_memory, pop_needs, place_is}
-use Rattle.codegen.proofs.Follows.{StandsFor, Follows, guarded, stands_elsewhere, memory_as}
+use Rattle.codegen.proofs.Follows.{StandsFor, Follows, ends_at, guarded, stands_elsewhere, memory_as}
+use Rattle.codegen.proofs.ListParts.{sixfold, six_times, at_offset, plus_none}
 use Rattle.codegen.proofs.Registers.{Has, pop_part, push_result, middle, jump_has, no_borrow}
 
 twice : (n : ℕ) → n + n < 0x10000 → (n + n + 0) % 0x10000 ≡ n + n
 twice n h = omega arith
 
-pub quad : (n list : ℕ) → 4 * n + list < 0x10000 → ((n + n + 0) % 0x10000 + (n + n + 0) % 0x10000 + 0) % 0x10000 ≡ 4 * n
-quad n list h =
-    let l : n + n < 0x10000 = omega arith in
-    let m : n + n + (n + n) < 0x10000 = omega arith in
-    let q : n + n + (n + n) ≡ 4 * n = omega arith in
-    ap (λ x. (x + x + 0) % 0x10000) (twice n l) ∙ twice (n + n) m ∙ q
-
-pub next_small : (n list : ℕ) → 4 * n + list < 0x10000 → n + 1 < 0x10000
-next_small n list h = omega arith
-
-pub next_is : (n : ℕ) → n + 1 < 0x10000 → (n + 1 + 0) % 0x10000 ≡ n + 1
-next_is n h = omega arith
-
-entry_pc : (p q : ℕ) → p ≡ q → p + (2 + 2 + 0) + (2 + 0 + 0) + (2 + 0) + (2 + 0) + (2 + 2 + 2) + (2 + 2 + 2) + (2 + 0) + (2 + 0 + 2) ≡ q + 28
-entry_pc p q e = omega (arith, e)
-
--- the second word of an entry
-pub second : (list n : ℕ) → n + list + 2 < 0x10000 → word_sum list 2 ≡ list + 2
-second list n h = omega arith
-
-pub plus_two : (a list b : ℕ) → a + list ≡ b → a + (list + 2) ≡ b + 2
-plus_two a list b e = omega arith
+is_one : (n : ℕ) → (n == 1) ≡ true → 1 ≡ n
+is_one n e = grind (arith, nat_tests)
 
 module _ (z : Setting) where
   abbrev pub HasIn : WorkRegister → ℕ → WordState → ℕ → Core → Type 0
@@ -167,38 +150,106 @@ module _ (z : Setting) where
         readings = i.readings;
       })))
 
-  pub entry_part : (count list home copy pc : ℕ) (w : WordState) (u : Core) → Stands z.code pc (entry_code count list home copy) → StandsFor z pc w u
-      → Follows z (pc + 28) 21 u (entry_stored count list home copy w)
-  entry_part count list home copy pc w u h i =
-      let n = w.fram count in
-      let d = 4 * n + list in
-      let ms = entry_code count list home copy in
-      guarded z (is_place count) (pc + 28) 21 u _ (λ g3.
-      guarded z (is_place d) (pc + 28) 21 u _ (λ g4.
-      guarded z (is_place (d + 2)) (pc + 28) 21 u _ (λ g5.
-      let f3 = place_is count g3 in
-      let f4 = place_is d g4 in
-      let f5 = place_is (d + 2) g5 in
-      let fh = f4.high in
-      let un : u.fram count ≡ n = ap (λ f. f count) i.fram in
-      let four : ℕ → ℕ = λ k. ((k + k + 0) % 0x10000 + (k + k + 0) % 0x10000 + 0) % 0x10000 in
-      let at : four (u.fram count) + list ≡ d = ap (λ k. four k + list) un ∙ ap (λ k. k + list) (quad n list fh) in
-      let at2 : four (u.fram count) + word_sum list 2 ≡ d + 2 = ap (λ k. four (u.fram count) + k) (second list (4 * n) f5.high)
-      ∙ plus_two (four (u.fram count)) list d at in
-      let small : n + 1 < 0x10000 = next_small n list fh in
-      let up : (u.fram count + 1 + 0) % 0x10000 ≡ n + 1 = ap (λ k. (k + 1 + 0) % 0x10000) un ∙ next_is n small in
-      let t0 = end_of u (forms_run ms u).status in
-      let shape : ℕ → ℕ → ℕ → CoreStretch =
-      λ a b k. stretch (Store a home ∷ Store b copy ∷ Store count k ∷ []) 21 (At (record t0 { fram = put (put (put u.fram a home) b copy) count k })) in
-      straight z ms 21 u (record t0 { fram = put (put (put u.fram d home) (d + 2) copy) count (n + 1) })
-      (Store d home ∷ Store (d + 2) copy ∷ Store count (n + 1) ∷ []) 21 _ (tt, (tt, (tt, (tt, (tt, (tt, (tt, (tt, tt))))))))
-      (stands_at z.code pc ms u h i.at)
-      ((f3, tt), ((tt, tt), ((tt, tt), ((tt, tt), ((tt, subst IsFram (sym at) f4), ((tt, subst IsFram (sym at2) f5), ((tt, tt), ((tt, f3), tt))))))))
-      (ap (λ a. shape a (four (u.fram count) + word_sum list 2) ((u.fram count + 1 + 0) % 0x10000)) at
-      ∙ ap (λ b. shape d b ((u.fram count + 1 + 0) % 0x10000)) at2 ∙ ap (λ k. shape d (d + 2) k) up) (omega arith)
-      (record {
-        at = entry_pc u.pc pc i.at;
-        memory = i.memory;
-        fram = ap (λ f. put (put (put f d home) (d + 2) copy) count (n + 1)) i.fram;
-        readings = i.readings;
-      }))))
+  -- R4 holds an offset in the list, in front of the words of an entry and the count
+  module _ (count list home copy words : ℕ) (w : WordState) where
+    abbrev at : ℕ
+    at = 6 * w.fram count + list
+
+    abbrev both : WordState
+    both = stored (at + 2) copy (stored at home w)
+
+    abbrev three : WordState
+    three = stored (at + 4) words both
+
+    abbrev counted : ℕ
+    counted = (three.fram count + 1) % 0x10000
+
+    -- home and copy
+    pair_part : (pc : ℕ) (u : Core) → IsFram count → IsFram at → IsFram (at + 2) → Stands z.code pc (pair_code count list home copy) → StandsFor z pc w u
+        → Runs z.code (Store at home ∷ Store (at + 2) copy ∷ []) 17 u (Has z R4 (pc + 24) both (6 * w.fram count))
+    pair_part pc u fc f1 f2 h i =
+        let n = w.fram count in
+        let ms = pair_code count list home copy in
+        let small = f1.high in
+        let four : sixfold (u.fram count) ≡ 6 * n = ap (λ f. sixfold (f count)) i.fram ∙ six_times n (omega (arith, small)) in
+        let first : sixfold (u.fram count) + list ≡ at = ap (λ k. k + list) four in
+        let second : sixfold (u.fram count) + word_sum list 2 ≡ at + 2 = ap (λ k. k + word_sum list 2) four ∙ at_offset (6 * n) list 2 f2.high in
+        let done : ℕ → ℕ → List Effect = λ a b. Store a home ∷ Store b copy ∷ [] in
+        let t = end_of u (forms_run ms u).status in
+        subst (λ es. Runs z.code es 17 u (Has z R4 (pc + 24) both (6 * n))) (λ k. done (first k) (second k))
+        (straight z ms 17 u t (done (sixfold (u.fram count) + list) (sixfold (u.fram count) + word_sum list 2)) 17 _
+        (tt, (tt, (tt, (tt, (tt, (tt, (tt, tt))))))) (stands_at z.code pc ms u h i.at)
+        ((fc, tt), ((tt, tt), ((tt, tt), ((tt, tt), ((tt, tt), ((tt, subst IsFram (sym first) f1), ((tt, subst IsFram (sym second) f2), tt))))))) refl
+        (omega arith)
+        (record {
+          is =
+              record {
+                at = omega (arith, i.at);
+                memory = i.memory;
+                fram = λ k. put (put (i.fram k) (first k) home) (second k) copy;
+                readings = i.readings;
+              };
+          value = four;
+        }))
+
+    -- the words
+    words_part : (b : Bool) (pc : ℕ) (t : Core) → (words == 1) ≡ b → IsFram (at + 4)
+        → (let m = Move (if b then Constant konst.One else Number words) (ToIndexed R4 (word_sum list 4)) in
+        Stands z.code pc (m ∷ []) → Has z R4 pc both (6 * w.fram count) t
+        → Runs z.code (Store (at + 4) words ∷ []) 5 t (StandsFor z (pc + form_bytes m) three))
+    words_part true pc t e f h j =
+        let one : 1 ≡ words = is_one words e in
+        let ms = Move (Constant konst.One) (ToIndexed R4 (word_sum list 4)) ∷ [] in
+        let there : t.work 4 + word_sum list 4 ≡ at + 4 = ap (λ k. k + word_sum list 4) j.value ∙ at_offset (6 * w.fram count) list 4 f.high in
+        subst (λ es. Runs z.code es 5 t (StandsFor z (pc + 4) three)) (λ k. Store (there k) (one k) ∷ [])
+        (straight z ms 5 t (end_of t (forms_run ms t).status) (Store (t.work 4 + word_sum list 4) 1 ∷ []) 4 _ (tt, tt) (stands_at z.code pc ms t h j.is.at)
+        ((tt, subst IsFram (sym there) f), tt) refl (omega arith)
+        (record { at = omega (arith, j.is.at); memory = j.is.memory; fram = λ k. put (j.is.fram k) (there k) (one k); readings = j.is.readings }))
+    words_part false pc t e f h j =
+        let ms = Move (Number words) (ToIndexed R4 (word_sum list 4)) ∷ [] in
+        let there : t.work 4 + word_sum list 4 ≡ at + 4 = ap (λ k. k + word_sum list 4) j.value ∙ at_offset (6 * w.fram count) list 4 f.high in
+        subst (λ es. Runs z.code es 5 t (StandsFor z (pc + 6) three)) (λ k. Store (there k) words ∷ [])
+        (straight z ms 5 t (end_of t (forms_run ms t).status) (Store (t.work 4 + word_sum list 4) words ∷ []) 5 _ (tt, tt) (stands_at z.code pc ms t h j.is.at)
+        ((tt, subst IsFram (sym there) f), tt) refl (omega arith)
+        (record { at = omega (arith, j.is.at); memory = j.is.memory; fram = λ k. put (j.is.fram k) (there k) words; readings = j.is.readings }))
+
+    -- the count
+    count_part : (pc : ℕ) (t : Core) → IsFram count → Stands z.code pc (Update op.Add (Constant konst.One) count ∷ []) → StandsFor z pc three t
+        → Runs z.code (Store count counted ∷ []) 4 t (StandsFor z (pc + 4) (stored count counted three))
+    count_part pc t f h i =
+        let ms = Update op.Add (Constant konst.One) count ∷ [] in
+        let up : (t.fram count + 1 + 0) % 0x10000 ≡ counted = ap (λ g. (g count + 1 + 0) % 0x10000) i.fram ∙ plus_none (three.fram count) 1 in
+        subst (λ es. Runs z.code es 4 t (StandsFor z (pc + 4) (stored count counted three))) (λ k. Store count (up k) ∷ [])
+        (straight z ms 4 t (end_of t (forms_run ms t).status) (Store count ((t.fram count + 1 + 0) % 0x10000) ∷ []) 4 _ (tt, tt)
+        (stands_at z.code pc ms t h i.at) ((tt, refl, tt, f), tt) refl (omega arith)
+        (record { at = omega (arith, i.at); memory = i.memory; fram = λ k. put (i.fram k) count (up k); readings = i.readings }))
+
+    -- by whether the entry has one word
+    entry_by : (b : Bool) (pc : ℕ) (u : Core) → (words == 1) ≡ b
+        → (let m = Move (if b then Constant konst.One else Number words) (ToIndexed R4 (word_sum list 4)) in
+        Stands z.code pc (pair_code count list home copy ++ (m ∷ Update op.Add (Constant konst.One) count ∷ [])) → StandsFor z pc w u
+        → Follows z (pc + 24 + form_bytes m + 4) 26 u (entry_stored count list home copy words w))
+    entry_by b pc u e h i =
+        let m = Move (if b then Constant konst.One else Number words) (ToIndexed R4 (word_sum list 4)) in
+        let end = pc + 24 + form_bytes m + 4 in
+        let last = Update op.Add (Constant konst.One) count ∷ [] in
+        let front = stands_front z.code pc (pair_code count list home copy) (m ∷ last) h in
+        let back : Stands z.code (pc + 24) (m ∷ last) = stands_back z.code pc (pair_code count list home copy) (m ∷ last) h in
+        guarded z (is_place count) end 26 u _ (λ g1. guarded z (is_place at) end 26 u _ (λ g2. guarded z (is_place (at + 2)) end 26 u _ (λ g3.
+        guarded z (is_place (at + 4)) end 26 u _ (λ g4.
+        let fc = place_is count g1 in
+        runs_on z 17 9 u _ _ (Store at home ∷ Store (at + 2) copy ∷ []) (Store (at + 4) words ∷ Store count counted ∷ [])
+        (pair_part pc u fc (place_is at g2) (place_is (at + 2) g3) front i) (λ t j.
+        runs_on z 5 4 t _ _ (Store (at + 4) words ∷ []) (Store count counted ∷ []) (words_part b (pc + 24) t e (place_is (at + 4) g4) (back.0, tt) j) (λ t j.
+        count_part (pc + 24 + form_bytes m) t fc back.1 j))))))
+
+  pub entry_part : (count list home copy words pc : ℕ) (w : WordState) (u : Core) → Stands z.code pc (entry_code count list home copy words)
+      → StandsFor z pc w u → Follows z (pc + 2 * entry_words words) 26 u (entry_stored count list home copy words w)
+  entry_part count list home copy words pc w u h i =
+      ends_at z _ (pc + 2 * entry_words words) 26 u (entry_stored count list home copy words w) (by (words == 1))
+      (entry_by count list home copy words w (words == 1) pc u refl h i)
+    where
+      by : (b : Bool) → pc + 24 + form_bytes (Move (if b then Constant konst.One else Number words) (ToIndexed R4 (word_sum list 4))) + 4
+          ≡ pc + 2 * (if b then 16 else 17)
+      by true = omega arith
+      by false = omega arith

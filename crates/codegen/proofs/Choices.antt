@@ -1,5 +1,5 @@
 -- Choices.
-use Rattle.std.proofs.Common.{◌≡◌, ℕ, zero, suc, ◌+◌, ◌%◌, ◌<◌, ◌==◌, max, not, List, [], ◌∷◌, Some, refl, ap, ◌∙◌, subst, arith, Bool, true, false}
+use Rattle.std.proofs.Common.{◌≡◌, ℕ, zero, suc, ◌+◌, ◌%◌, ◌<◌, ◌==◌, not, List, [], ◌∷◌, Some, refl, ap, ◌∙◌, arith, Bool, true, false}
 use Rattle.std.specs.List.{AllByRecursion}
 use Rattle.msp_isa.specs.declared.instructions.Condition.{Condition}
 use Rattle.msp_isa.specs.declared.instructions.Condition.TheVariants as condition

@@ -55,6 +55,12 @@ cons i j l m e f = ap (λ x. x ∷ l) e ∙ ap (λ x. j ∷ x) f
 pub from_source : (i : Instr) (o : TwoOp) (s t : Src) (d : Dst) → i ≡ Two o Word s d → s ≡ t → i ≡ Two o Word t d
 from_source i o s t d e f = e ∙ ap (λ x. Two o Word x d) f
 
+-- six pieces, each behind what is there
+pub six_behind : (l a b c d e f : List Instr) → (((((l ++ a) ++ b) ++ c) ++ d) ++ e) ++ f ≡ l ++ (a ++ (b ++ (c ++ (d ++ (e ++ f)))))
+six_behind l a b c d e f =
+    append_assoc ((((l ++ a) ++ b) ++ c) ++ d) e f ∙ append_assoc (((l ++ a) ++ b) ++ c) d (e ++ f) ∙ append_assoc ((l ++ a) ++ b) c (d ++ (e ++ f))
+    ∙ append_assoc (l ++ a) b (c ++ (d ++ (e ++ f))) ∙ append_assoc l a (b ++ (c ++ (d ++ (e ++ f))))
+
 -- a choice from its pieces
 pub choice_emitted : (at middle end : ℕ) (p q : Program) (first second code new : List Instr) → first ≡ instructions (code_of (at + 10) p)
     → second ≡ instructions (code_of (middle + 4) q) → middle ≡ at + 10 + 2 * words_of p → end ≡ middle + 4 + 2 * words_of q
@@ -116,7 +122,7 @@ mutual
   step_locals_up a b (shift o k) l h = tt
   step_locals_up a b (element w n) l h = tt
   step_locals_up a b (emit_word c w) l h = tt
-  step_locals_up a b (list_entry c w x y) l h = tt
+  step_locals_up a b (list_entry c w x y k) l h = tt
   step_locals_up a b (versioned_read p q) l h = tt
   step_locals_up a b (versioned_write p q) l h = tt
   step_locals_up a b sense l h = tt

@@ -1,6 +1,9 @@
 -- The forms of a program's code are instructions: their jumps reach no further than ten bits say.
-use Rattle.std.proofs.Common.{ℕ, zero, suc, ◌+◌, ◌-◌, ◌*◌, List, [], ◌∷◌, ◌++◌, arith, Bool, true, false, nat_le, nat_lt, if◌then◌else◌}
-use Rattle.code_forms.specs.Forms.{R4, Form, Branch, instruction_of}
+use Rattle.std.proofs.Common.{ℕ, zero, suc, ◌+◌, ◌-◌, ◌*◌, ◌==◌, List, [], ◌∷◌, ◌++◌, arith, Bool, true, false, nat_le, nat_lt, if◌then◌else◌}
+use Rattle.code_forms.specs.Forms.{R4, Constant, Number, ToIndexed, Form, Move, Update, Branch, instruction_of}
+use Rattle.alp_words.specs.Words.{word_sum}
+use Rattle.msp_isa.specs.declared.instructions.TwoOp.TheVariants as op
+use Rattle.msp_isa.specs.declared.operands.Konst.TheVariants as konst
 use Rattle.code_forms.specs.Placed.{instructions, AreInstructions}
 use Rattle.msp_isa.specs.Encoding.{IsInstruction}
 use Rattle.array_versions.specs.declared.operations.UnaryOperation.{UnaryOperation}
@@ -13,7 +16,7 @@ use Rattle.array_versions.specs.declared.program.ArrayPlace.{ArrayPlace}
 use Rattle.array_versions.specs.declared.program.ListPlace.{ListPlace}
 use Rattle.array_versions.specs.Program.{Step, Program, number, load, keep, local, set_local, unary, binary, shift, element, emit_word, list_entry, versioned_read, versioned_write, sense, choose, repeat, store_number, move_word, jump, nothing, step}
 use Rattle.array_versions.specs.Cost.{step_words, words_of}
-use Rattle.codegen.specs.Code.{push_from, unary_middle, unary_result, binary_middle, binary_result, repeated, double, halve, right_code, shift_by, shift_middle, element_code, emit_code, entry_code, read_code, write_code, choice_head, loop_head, loop_step, step_code, code_of}
+use Rattle.codegen.specs.Code.{push_from, unary_middle, unary_result, binary_middle, binary_result, repeated, double, halve, right_code, shift_by, shift_middle, element_code, emit_code, pair_code, read_code, write_code, choice_head, loop_head, loop_step, step_code, code_of}
 use Rattle.codegen.specs.Laws.{CodeIsInstructions}
 
 -- the forms are instructions
@@ -61,8 +64,12 @@ element_are base length = search arith
 emit_are : (count buffer : ℕ) → Are (emit_code count buffer)
 emit_are count buffer = search arith
 
-entry_are : (count list home copy : ℕ) → Are (entry_code count list home copy)
-entry_are count list home copy = search arith
+-- by whether the entry has one word
+entry_are : (count list home copy words : ℕ) (b : Bool)
+    → Are (pair_code count list home copy
+    ++ (Move (if b then Constant konst.One else Number words) (ToIndexed R4 (word_sum list 4)) ∷ Update op.Add (Constant konst.One) count ∷ []))
+entry_are count list home copy words true = search arith
+entry_are count list home copy words false = search arith
 
 read_are : (place : ArrayPlace) (list : ListPlace) → Are (read_code place list)
 read_are place list = search arith
@@ -88,7 +95,7 @@ mutual
   step_are at (shift o k) = (tt, are-append (shift_middle o k) (push_from R4 ∷ []) (shift_are o k) (tt, tt))
   step_are at (element base size) = element_are base size
   step_are at (emit_word count buffer) = emit_are count buffer
-  step_are at (list_entry count list home copy) = entry_are count list home copy
+  step_are at (list_entry count list home copy words) = entry_are count list home copy words (words == 1)
   step_are at (versioned_read place list) = read_are place list
   step_are at (versioned_write place list) = write_are place list
   step_are at sense = (tt, (tt, tt))

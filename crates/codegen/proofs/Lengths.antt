@@ -1,11 +1,11 @@
 -- The code of a program is as long as its words say, wherever it stands.
-use Rattle.std.proofs.Common.{◌≡◌, ℕ, zero, suc, ◌+◌, ◌-◌, ◌*◌, List, [], ◌∷◌, ◌++◌, length, refl, arith, length-append, Bool, true, false, nat_le, nat_lt}
+use Rattle.std.proofs.Common.{◌≡◌, ℕ, zero, suc, ◌+◌, ◌-◌, ◌*◌, ◌==◌, List, [], ◌∷◌, ◌++◌, length, refl, arith, length-append, Bool, true, false, nat_le, nat_lt}
 use Rattle.std.proofs.Common.{if◌then◌else◌}
+use Rattle.alp_words.specs.Words.{word_sum}
+use Rattle.msp_isa.specs.declared.instructions.TwoOp.TheVariants as op
 use Rattle.msp_isa.specs.declared.operands.Konst.TheVariants as konst
 use Rattle.msp_isa.specs.Encoding.{encoding}
-use Rattle.array_versions.specs.msp_step.declared.effect.Modification.TheVariants as change
-use Rattle.code_forms.specs.Forms as forms
-use Rattle.code_forms.specs.Forms.{R4, Form, Branch, instruction_of}
+use Rattle.code_forms.specs.Forms.{R4, Constant, Number, ToIndexed, Form, Move, Update, Branch, instruction_of}
 use Rattle.code_forms.specs.Code.{forms_bytes}
 use Rattle.code_forms.specs.Placed.{words_of as instruction_words, instructions}
 use Rattle.code_forms.proofs.Interface.{bytes_are, forms_bytes-append}
@@ -18,7 +18,7 @@ use Rattle.array_versions.specs.declared.operations.ShiftOperation.TheVariants.{
 use Rattle.array_versions.specs.Program.{Step, Program, number, load, keep, local, set_local, unary, binary, shift, element, emit_word, list_entry}
 use Rattle.array_versions.specs.Program.{versioned_read, versioned_write, sense, choose, repeat, store_number, move_word, jump, nothing, step}
 use Rattle.array_versions.specs.Cost.{unary_words, binary_words, right_words, shift_words, step_words, words_of}
-use Rattle.codegen.specs.Code.{push_from, unary_middle, unary_result, binary_middle, binary_result, repeated, double, halve, right_code, shift_by, shift_middle}
+use Rattle.codegen.specs.Code.{push_from, unary_middle, unary_result, binary_middle, binary_result, repeated, double, halve, right_code, shift_by, shift_middle, pair_code}
 use Rattle.codegen.specs.Code.{loop_test, loop_step, step_code, code_of}
 use Rattle.codegen.specs.Laws.{CodeHasItsBytes, CodeHasItsWords}
 
@@ -58,6 +58,13 @@ shift_by_length SignedRight k = either_length (nat_lt k 8) _ _ k (2 + (k - 8)) (
 pub shift_length : (o : ShiftOperation) (k : ℕ) → forms_bytes (shift_middle o k) ≡ 2 * (if nat_le k 15 then shift_words o k else 1)
 shift_length o k = either_length (nat_le k 15) (shift_by o k) _ (shift_words o k) 1 (shift_by_length o k) refl
 
+-- by whether the entry has one word
+entry_length : (count list home copy words : ℕ) (b : Bool) → forms_bytes (pair_code count list home copy
+    ++ (Move (if b then Constant konst.One else Number words) (ToIndexed R4 (word_sum list 4)) ∷ Update op.Add (Constant konst.One) count ∷ []))
+    ≡ 2 * (if b then 16 else 17)
+entry_length count list home copy words true = refl
+entry_length count list home copy words false = refl
+
 mutual
   pub step_length : (at : ℕ) (s : Step) → forms_bytes (step_code at s) ≡ 2 * step_words s
   step_length at (number w) = refl
@@ -70,7 +77,7 @@ mutual
   step_length at (shift o k) = omega (arith, forms_bytes-append (shift_middle o k) (push_from R4 ∷ []), shift_length o k)
   step_length at (element base size) = refl
   step_length at (emit_word count buffer) = refl
-  step_length at (list_entry count list home copy) = refl
+  step_length at (list_entry count list home copy words) = entry_length count list home copy words (words == 1)
   step_length at (versioned_read place list) = refl
   step_length at (versioned_write place list) = refl
   step_length at sense = refl

@@ -8,6 +8,7 @@ mod Loops
 mod Values
 mod Middles
 mod Access
+mod ListParts
 mod VersionParts
 mod ShiftParts
 mod Products

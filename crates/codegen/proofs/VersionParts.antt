@@ -2,22 +2,20 @@
 use Rattle.std.proofs.Common.{◌≡◌, ℕ, ◌+◌, ◌-◌, ◌*◌, ◌%◌, ◌<◌, ◌==◌, not, List, [], ◌∷◌, length, Some, refl, sym, ap, ap₂, ◌∙◌, subst, arith, Bool, true, false}
 use Rattle.std.proofs.Common.{nat_lt, nat_le, if◌then◌else◌}
 use Rattle.std.specs.List.{AllByRecursion}
-use Rattle.std.proofs.lemmas.Bool.Decides.{nat_tests}
-use Rattle.alp_words.specs.Words.{word_sum}
 use Rattle.msp_isa.specs.declared.instructions.Condition.TheVariants as condition
 use Rattle.msp_isa.specs.declared.instructions.TwoOp.TheVariants as op
 use Rattle.msp_isa.specs.declared.operands.Konst.TheVariants as konst
 use Rattle.array_versions.specs.msp_step.Effect.{sum16, distance}
-use Rattle.array_versions.specs.fram_board.Effects.{Effect, Store}
+use Rattle.array_versions.specs.fram_board.Effects.{Store}
 use Rattle.array_versions.specs.machine_effects.World.{put}
 use Rattle.array_versions.specs.machine_effects.Machine.{IsFram}
-use Rattle.code_forms.specs.Forms.{R4, R5, R6, Core, Register, Number, Constant, Fram, Indexed, ToRegister, ToFram, ToIndexed, Form, Move, Calculate, Jump}
+use Rattle.code_forms.specs.Forms.{R4, R5, R6, Core, Register, Number, Constant, Fram, Indexed, ToRegister, ToIndexed, Form, Move, Calculate, Update, Jump}
 use Rattle.code_forms.specs.Forms.{instruction_of}
 use Rattle.code_forms.specs.Code.{Stands, forms_run, Runs}
 use Rattle.code_forms.proofs.Interface.{stands_at, form_at, forms_at, forms_behind, end_of}
 use Rattle.array_versions.specs.declared.program.ArrayPlace.{ArrayPlace}
 use Rattle.array_versions.specs.declared.program.ListPlace.{ListPlace}
-use Rattle.array_versions.specs.Behaviour.{WordState, Behaviour, goes_on, strays, behind_effects, with_stack, with_top, with_two, is_place, at_place, pushed}
+use Rattle.array_versions.specs.Behaviour.{WordState, goes_on, behind_effects, with_stack, with_top, with_two, is_place, at_place, pushed}
 use Rattle.array_versions.specs.Behaviour.{stored, own_element, versioned_pushed, first_stored, own_stored, versioned_stored}
 use Rattle.array_versions.proofs.Interface.{put_words}
 use Rattle.codegen.specs.Code.{push_from, read_code, first_code, write_code}
@@ -26,18 +24,8 @@ use Rattle.codegen.proofs.Memory.{place_is}
 use Rattle.codegen.proofs.Follows.{StandsFor, Follows, then_end, guarded, stands_elsewhere, memory_as}
 use Rattle.codegen.proofs.Registers.{Has, HasTwo, pop_part, pop_two, push_result, middle, jump_to, jump_has, no_borrow}
 use Rattle.codegen.proofs.Products.{jump_exact}
-use Rattle.codegen.proofs.Access.{compare_part, le_of_lt, quad, next_small, next_is, second, plus_two}
-
--- Z behind a comparison
-equal_flag : (x y : ℕ) → x < 0x10000 → y < 0x10000 → ((x + (0xFFFF - y) + 1) % 0x10000 == 0) ≡ (x == y)
-equal_flag x y h k = grind (arith, nat_tests)
-
-plus_small : (n base : ℕ) → 2 * n + base < 0x10000 → (2 * n + base + 0) % 0x10000 ≡ 2 * n + base
-plus_small n base h = omega arith
-
-first_pc : (p q : ℕ) → p ≡ q → p + (2 + 0 + 2) + (2 + 2 + 0) + (2 + 0 + 0) + (2 + 0) + (2 + 0) + (2 + 0 + 0) + (2 + 2) + (2 + 0 + 2) + (2 + 2) + (2 + 0 + 2) +
-    (2 + 0) + (2 + 0 + 2) ≡ q + 38
-first_pc p q e = omega (arith, e)
+use Rattle.codegen.proofs.Access.{compare_part, le_of_lt}
+use Rattle.codegen.proofs.ListParts.{equal_flag, first_follows}
 
 twice : (n base : ℕ) → 2 * n + base < 0x10000 → (n + n + 0) % 0x10000 ≡ 2 * n
 twice n base h = omega arith
@@ -167,12 +155,6 @@ module _ (z : Setting) where
     read_part [] w u wl e s k = tt
     read_part (i ∷ rest) w u wl e s k = read_by (nat_lt i place.length) i rest w u wl refl s.0 e k
 
-  -- nothing is promised of what strays, behind effects too
-  guarded_behind : (c : Bool) (pc most : ℕ) (u : Core) (es : List Effect) (b : Behaviour) → (c ≡ true → Follows z pc most u (behind_effects es b))
-      → Follows z pc most u (behind_effects es (if c then b else strays))
-  guarded_behind true pc most u es b h = h refl
-  guarded_behind false pc most u es b h = tt
-
   -- R4 holds twice the index, R6 the attempt's number, and a flag says whether the version word is that
   record Copied (pc : ℕ) (w : WordState) (i n : ℕ) (b : Bool) (t : Core) : Type 0 where
     is : StandsFor z pc w t
@@ -215,65 +197,6 @@ module _ (z : Setting) where
               ∙ equal_flag (y.fram list.ver) (y.fram m) (yl list.ver) (yl m);
         }))
 
-  -- the first store to it: the version word, the entry, the count
-  first_part : (place : ArrayPlace) (list : ListPlace) (pc i : ℕ) (b : Bool) (w : WordState) (t : Core) → IsFram (2 * i + place.copies)
-      → IsFram (2 * i + place.versions) → Stands z.code pc (first_code place list) → Copied pc w i (w.fram list.ver) b t
-      → Follows z (pc + 38) 28 t (first_stored place list i w)
-  first_part place list pc i b w t fc fm h j =
-      let ms = first_code place list in
-      let m = 2 * i + place.versions in
-      let e = 2 * i + place.elements in
-      let c = 2 * i + place.copies in
-      let x = w.fram list.ver in
-      let y = stored m x w in
-      let n = y.fram list.cln in
-      let a = 4 * n + list.list in
-      guarded z (is_place e) (pc + 38) 28 t _ (λ g1. guarded_behind (is_place list.cln) (pc + 38) 28 t (Store m x ∷ []) _
-      (λ g2. guarded_behind (is_place a) (pc + 38) 28 t (Store m x ∷ []) _ (λ g3. guarded_behind (is_place (a + 2)) (pc + 38) 28 t (Store m x ∷ []) _ (λ g4.
-      let f2 = place_is list.cln g2 in
-      let f3 = place_is a g3 in
-      let f4 = place_is (a + 2) g4 in
-      let eh = (place_is e g1).high in
-      let ch = fc.high in
-      let ah = f3.high in
-      let four : ℕ → ℕ = λ k. ((k + k + 0) % 0x10000 + (k + k + 0) % 0x10000 + 0) % 0x10000 in
-      let F : ℕ → ℕ = put t.fram (t.work 4 + place.versions) (t.work 6) in
-      let versions_at = t.work 4 + place.versions in
-      let element_at = (t.work 4 + place.elements + 0) % 0x10000 in
-      let copy_at = (t.work 4 + place.copies + 0) % 0x10000 in
-      let entry_at = four (F list.cln) + list.list in
-      let next_at = four (F list.cln) + word_sum list.list 2 in
-      let counted = (F list.cln + 1 + 0) % 0x10000 in
-      let pm : versions_at ≡ m = ap (λ q. q + place.versions) j.four in
-      let fr : F ≡ y.fram = ap (λ q. put t.fram q (t.work 6)) pm ∙ ap (put t.fram m) j.six ∙ ap (λ q. put q m x) j.is.fram in
-      let un : F list.cln ≡ n = ap (λ q. q list.cln) fr in
-      let at : entry_at ≡ a = ap (λ k. four k + list.list) un ∙ ap (λ k. k + list.list) (quad n list.list ah) in
-      let at2 : next_at ≡ a + 2 = ap (λ k. four (F list.cln) + k) (second list.list (4 * n) f4.high)
-      ∙ plus_two (four (F list.cln)) list.list a at in
-      let up : counted ≡ n + 1 = ap (λ k. (k + 1 + 0) % 0x10000) un ∙ next_is n (next_small n list.list ah) in
-      let ph : element_at ≡ e = ap (λ q. (q + place.elements + 0) % 0x10000) j.four ∙ plus_small i place.elements eh in
-      let pc2 : copy_at ≡ c = ap (λ q. (q + place.copies + 0) % 0x10000) j.four ∙ plus_small i place.copies ch in
-      let effects : ℕ → ℕ → ℕ → ℕ → ℕ → ℕ → ℕ → List Effect = λ p q r s u v k. Store p q ∷ Store r s ∷ Store u v ∷ Store list.cln k ∷ [] in
-      let memory : ℕ → ℕ → ℕ → ℕ → ℕ → ℕ → ℕ → (ℕ → ℕ) = λ p q r s u v k. put (put (put (put t.fram p q) r s) u v) list.cln k in
-      let fv : IsFram versions_at = subst IsFram (sym pm) fm in
-      let fe : IsFram entry_at = subst IsFram (sym at) f3 in
-      let fn : IsFram next_at = subst IsFram (sym at2) f4 in
-      let done : List Effect = effects versions_at (t.work 6) entry_at element_at next_at copy_at counted in
-      let es : done ≡ effects m x a e (a + 2) c (n + 1) = λ i. effects (pm i) (j.six i) (at i) (ph i) (at2 i) (pc2 i) (up i) in
-      let fs : memory versions_at (t.work 6) entry_at element_at next_at copy_at counted ≡ memory m x a e (a + 2) c (n + 1) =
-      λ i. memory (pm i) (j.six i) (at i) (ph i) (at2 i) (pc2 i) (up i) in
-      subst (λ l. Runs z.code l 28 t (StandsFor z (pc + 38) (stored list.cln (n + 1) (stored (a + 2) c (stored a e y))))) es
-      (straight z ms 28 t (end_of t (forms_run ms t).status) done 28 _ (tt, (tt, (tt, (tt, (tt, (tt, (tt, (tt, (tt, (tt, (tt, (tt, tt))))))))))))
-      (stands_at z.code pc ms t h j.is.at)
-      ((tt, fv), ((f2, tt), ((tt, tt), ((tt, tt), ((tt, tt), ((tt, tt), ((tt, tt), ((tt, fe), ((tt, tt), ((tt, fn), ((tt, tt), ((tt, f2), tt))))))))))))
-      refl (omega arith)
-      (record {
-        at = first_pc t.pc pc j.is.at;
-        memory = j.is.memory;
-        fram = fs ∙ ap (λ q. put (put (put (put q m x) a e) (a + 2) c) list.cln (n + 1)) j.is.fram;
-        readings = j.is.readings;
-      }))))))
-
   record ComparedTwo (pc : ℕ) (w : WordState) (i v : ℕ) (b : Bool) (t : Core) : Type 0 where
     two : HasTwo z pc w i v t
     flag : t.flags.c ≡ b
@@ -294,77 +217,78 @@ module _ (z : Setting) where
     at4 : z.code (pc + 4) ≡ Some (instruction_of (Calculate op.Cmp (Number place.length) R4))
     at4 = form_at z.code pc 2 (write_code place list) (Calculate op.Cmp (Number place.length) R4) h refl
 
-    at8 : z.code (pc + 8) ≡ Some (instruction_of (Jump condition.Carry 27))
-    at8 = form_at z.code pc 3 (write_code place list) (Jump condition.Carry 27) h refl
+    at8 : z.code (pc + 8) ≡ Some (instruction_of (Jump condition.Carry 54))
+    at8 = form_at z.code pc 3 (write_code place list) (Jump condition.Carry 54) h refl
 
     copies : Stands z.code (pc + 10) (copying place list)
     copies = forms_at z.code pc 4 4 (write_code place list) h
 
-    at24 : z.code (pc + 24) ≡ Some (instruction_of (Jump condition.Equal 19))
-    at24 = form_at z.code pc 8 (write_code place list) (Jump condition.Equal 19) h refl
+    at24 : z.code (pc + 24) ≡ Some (instruction_of (Jump condition.Equal 46))
+    at24 = form_at z.code pc 8 (write_code place list) (Jump condition.Equal 46) h refl
 
     behind : Stands z.code (pc + 26) (first_code place list)
     behind = forms_behind z.code pc 9 (write_code place list) h
 
-    at60 : z.code (pc + 60) ≡ Some (instruction_of (Move (Register R6) (ToFram list.cln)))
-    at60 = form_at z.code pc 20 (write_code place list) (Move (Register R6) (ToFram list.cln)) h refl
+    at114 : z.code (pc + 114) ≡ Some (instruction_of (Update op.Add (Constant konst.One) list.cln))
+    at114 = form_at z.code pc 39 (write_code place list) (Update op.Add (Constant konst.One) list.cln) h refl
 
     -- by whether the version word is the attempt's number
     own_stored_part : (b : Bool) (i v : ℕ) (w : WordState) (t : Core) → ((a : ℕ) → w.fram a < 0x10000) → v < 0x10000
         → IsFram (2 * i + place.copies) → IsFram list.ver → IsFram (2 * i + place.versions)
         → (let y = stored (2 * i + place.copies) v w in
         (y.fram list.ver == y.fram (2 * i + place.versions)) ≡ b → HasTwo z (pc + 10) w i v t
-        → Follows z (pc + 64) 41 t (if b then goes_on (Store (2 * i + place.copies) v ∷ []) y else behind_effects (Store (2 * i + place.copies) v ∷ [])
+        → Follows z (pc + 118) 71 t (if b then goes_on (Store (2 * i + place.copies) v ∷ []) y else behind_effects (Store (2 * i + place.copies) v ∷ [])
         (first_stored place list i y)))
     own_stored_part true i v w t wl lv fc fv fm e j =
         let c = 2 * i + place.copies in
         let y = stored c v w in
-        let high = (z.tidy (pc + 60) _ at60).high in
-        let to : sum16 (pc + 24 + 2) (distance 19) ≡ pc + 64 = omega arith in
+        let high = (z.tidy (pc + 114) _ at114).high in
+        let to : sum16 (pc + 24 + 2) (distance 46) ≡ pc + 118 = omega arith in
         let e24 : pc + 10 + 14 ≡ pc + 24 = omega arith in
-        runs_on z 11 30 t _ _ (Store c v ∷ []) [] (copy_part place list (pc + 10) i v w t wl lv fc fv fm copies j) (λ u k.
+        runs_on z 11 60 t _ _ (Store c v ∷ []) [] (copy_part place list (pc + 10) i v w t wl lv fc fv fm copies j) (λ u k.
         let k24 = subst (λ n. StandsFor z n y u) e24 k.is in
-        dearer z [] 2 30 u _ (omega arith) (jump_to z condition.Equal 19 (pc + 24) (pc + 64) true y u at24 (k.flag ∙ e) to k24))
+        dearer z [] 2 60 u _ (omega arith) (jump_to z condition.Equal 46 (pc + 24) (pc + 118) true y u at24 (k.flag ∙ e) to k24))
     own_stored_part false i v w t wl lv fc fv fm e j =
         let c = 2 * i + place.copies in
         let y = stored c v w in
+        let yl = put_words w.fram c v wl lv in
         let e24 : pc + 10 + 14 ≡ pc + 24 = omega arith in
-        let e64 : pc + 26 + 38 ≡ pc + 64 = omega arith in
-        subst (λ n. Follows z n 41 t (behind_effects (Store c v ∷ []) (first_stored place list i y))) e64
-        (then_end z (pc + 26 + 38) 11 30 t _ (Store c v ∷ []) (first_stored place list i y).effects (first_stored place list i y).end
+        let e118 : pc + 26 + 92 ≡ pc + 118 = omega arith in
+        subst (λ n. Follows z n 71 t (behind_effects (Store c v ∷ []) (first_stored place list i y))) e118
+        (then_end z (pc + 26 + 92) 11 60 t _ (Store c v ∷ []) (first_stored place list i y).effects (first_stored place list i y).end
         (copy_part place list (pc + 10) i v w t wl lv fc fv fm copies j) (λ u k.
         let p24 : u.pc ≡ pc + 24 = k.is.at ∙ e24 in
-        then_end z (pc + 26 + 38) 2 28 u (Copied (pc + 26) y i (y.fram list.ver) false) [] (first_stored place list i y).effects
+        then_end z (pc + 26 + 92) 2 58 u (Copied (pc + 26) y i (y.fram list.ver) false) [] (first_stored place list i y).effects
         (first_stored place list i y).end
-        (jump_exact z condition.Equal 19 (pc + 26) false u _ (ap z.code p24 ∙ at24) (k.flag ∙ e) (omega (arith, p24))
+        (jump_exact z condition.Equal 46 (pc + 26) false u _ (ap z.code p24 ∙ at24) (k.flag ∙ e) (omega (arith, p24))
         (record { is = stands_elsewhere z (pc + 10 + 14) (pc + 26) y u _ k.is refl refl refl refl refl; four = k.four; six = k.six; flag = k.flag ∙ e }))
-        (λ u' k'. first_part place list (pc + 26) i false y u' fc fm behind k')))
+        (λ u' k'. first_follows z place list (pc + 26) behind i y u' yl fc fm k'.is k'.four k'.six)))
 
     write_by : (b : Bool) (i v : ℕ) (rest : List ℕ) (w : WordState) (u : Core) → ((a : ℕ) → w.fram a < 0x10000)
         → nat_lt i place.length ≡ b → i < 0x10000 → v < 0x10000 → w.stack ≡ v ∷ (i ∷ rest) → StandsFor z pc w u
-        → Follows z (pc + 64) 49 u (if b then own_stored place list i v (with_stack rest w) else goes_on [] (with_stack rest w))
+        → Follows z (pc + 118) 79 u (if b then own_stored place list i v (with_stack rest w) else goes_on [] (with_stack rest w))
     write_by false i v rest w u wl lt r s e k =
         let x = with_stack rest w in
-        let high = (z.tidy (pc + 60) _ at60).high in
-        let to : sum16 (pc + 8 + 2) (distance 27) ≡ pc + 64 = omega arith in
+        let high = (z.tidy (pc + 114) _ at114).high in
+        let to : sum16 (pc + 8 + 2) (distance 54) ≡ pc + 118 = omega arith in
         let e8 : pc + 4 + 4 ≡ pc + 8 = omega arith in
-        dearer z [] 8 49 u _ (omega arith)
+        dearer z [] 8 79 u _ (omega arith)
         (runs_on z 4 4 u _ _ [] [] (pop_two z pc i v rest w u e (h.0, (h.1.0, tt)) k) (λ t j.
         runs_on z 2 2 t _ _ [] [] (compare_two (pc + 4) i v place.length x t r l at4 j) (λ t q.
-        jump_to z condition.Carry 27 (pc + 8) (pc + 64) true x t at8 (q.flag ∙ le_of_lt z i place.length false lt) to
+        jump_to z condition.Carry 54 (pc + 8) (pc + 118) true x t at8 (q.flag ∙ le_of_lt z i place.length false lt) to
         (subst (λ n. StandsFor z n x t) e8 q.two.is))))
     write_by true i v rest w u wl lt r s e k =
         let x = with_stack rest w in
         let c = 2 * i + place.copies in
         let y = stored c v x in
         let e8 : pc + 4 + 4 ≡ pc + 8 = omega arith in
-        guarded z (is_place c) (pc + 64) 49 u _ (λ g1. guarded z (is_place list.ver) (pc + 64) 49 u _
-        (λ g2. guarded z (is_place (2 * i + place.versions)) (pc + 64) 49 u _ (λ g3.
-        then_end z (pc + 64) 8 41 u (HasTwo z (pc + 10) x i v) [] _ _
+        guarded z (is_place c) (pc + 118) 79 u _ (λ g1. guarded z (is_place list.ver) (pc + 118) 79 u _
+        (λ g2. guarded z (is_place (2 * i + place.versions)) (pc + 118) 79 u _ (λ g3.
+        then_end z (pc + 118) 8 71 u (HasTwo z (pc + 10) x i v) [] _ _
         (runs_on z 4 4 u _ _ [] [] (pop_two z pc i v rest w u e (h.0, (h.1.0, tt)) k) (λ t j.
         runs_on z 2 2 t _ _ [] [] (compare_two (pc + 4) i v place.length x t r l at4 j) (λ t q.
         let p8 : t.pc ≡ pc + 8 = q.two.is.at ∙ e8 in
-        jump_exact z condition.Carry 27 (pc + 10) false t _ (ap z.code p8 ∙ at8) (q.flag ∙ le_of_lt z i place.length true lt) (omega (arith, p8))
+        jump_exact z condition.Carry 54 (pc + 10) false t _ (ap z.code p8 ∙ at8) (q.flag ∙ le_of_lt z i place.length true lt) (omega (arith, p8))
         (record { is = stands_elsewhere z (pc + 4 + 4) (pc + 10) x t _ q.two.is refl refl refl refl refl; four = q.two.four; five = q.two.five }))))
         (λ t j. own_stored_part (y.fram list.ver == y.fram (2 * i + place.versions)) i v x t wl s (place_is c g1) (place_is list.ver g2)
         (place_is (2 * i + place.versions) g3) refl j))))
@@ -372,7 +296,7 @@ module _ (z : Setting) where
     -- a word is written at an index, if that is below the length
     pub write_part : (vs : List ℕ) (w : WordState) (u : Core) → ((a : ℕ) → w.fram a < 0x10000)
         → w.stack ≡ vs → AllByRecursion (λ v. v < 0x10000) vs → StandsFor z pc w u
-        → Follows z (pc + 64) 49 u (with_two vs (λ i v us. versioned_stored place list i v (with_stack us w)))
+        → Follows z (pc + 118) 79 u (with_two vs (λ i v us. versioned_stored place list i v (with_stack us w)))
     write_part [] w u wl e s k = tt
     write_part (v ∷ []) w u wl e s k = tt
     write_part (v ∷ (i ∷ rest)) w u wl e s k = write_by (nat_lt i place.length) i v rest w u wl refl s.1.0 s.0 e k

@@ -152,7 +152,7 @@ module _ (z : Setting) where
         (shift_part z op k pc w u w.stack refl r.words_in.stack h i)
     step_follows (element base size) next pc w u r o l c h i = element_part z base size pc o.1 h w.stack w u refl r.words_in.stack i
     step_follows (emit_word count buffer) next pc w u r o l c h i = emit_part z count buffer pc w.stack w u refl h i
-    step_follows (list_entry count list home copy) next pc w u r o l c h i = entry_part z count list home copy pc w u h i
+    step_follows (list_entry count list home copy n) next pc w u r o l c h i = entry_part z count list home copy n pc w u h i
     step_follows (versioned_read place list) next pc w u r o l c h i = read_part z place list pc o.0.3 h w.stack w u r.words_in.fram refl r.words_in.stack i
     step_follows (versioned_write place list) next pc w u r o l c h i = write_part z place list pc o.0.3 h w.stack w u r.words_in.fram refl r.words_in.stack i
     step_follows sense next pc w u r o l c h i = sense_part z pc w u w.readings (omega (arith, r.fit.1, r.matches.depth)) refl h i

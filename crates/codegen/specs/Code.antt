@@ -1,5 +1,5 @@
 -- The code of a word program: the stack is at SP, its top first; a local stands in RAM; R4 to R7 are for work.
-use Rattle.std.specs.Prelude.{ℕ, zero, suc, ◌+◌, ◌-◌, ◌*◌, List, [], ◌∷◌, ◌++◌, if◌then◌else◌, nat_le, nat_lt}
+use Rattle.std.specs.Prelude.{ℕ, zero, suc, ◌+◌, ◌-◌, ◌*◌, List, [], ◌∷◌, ◌++◌, ◌==◌, if◌then◌else◌, nat_le, nat_lt}
 use Rattle.msp_isa.specs.declared.instructions.TwoOp.TheVariants as op
 use Rattle.msp_isa.specs.declared.registers.SourceRegister.TheVariants as source_register
 use Rattle.msp_isa.specs.declared.operands.Operand.{Operand}
@@ -9,7 +9,7 @@ use Rattle.msp_isa.specs.declared.instructions.Condition.TheVariants as conditio
 use Rattle.array_versions.specs.msp_step.declared.effect.Modification.TheVariants as change
 use Rattle.alp_words.specs.Words.{word_sum}
 use Rattle.code_forms.specs.Forms as forms
-use Rattle.code_forms.specs.Forms.{WorkRegister, R4, R5, R6, R7, Register, Number, Constant, Fram, Ram, Indexed, Popped, ToRegister, ToFram, ToRam, ToIndexed, Form, Move, Calculate, Push, Modify, Jump, Branch}
+use Rattle.code_forms.specs.Forms.{WorkRegister, R4, R5, R6, R7, Register, Number, Constant, Fram, Ram, Indexed, Popped, ToRegister, ToFram, ToRam, ToIndexed, Source, Form, Move, Calculate, Update, Push, Modify, Jump, Branch}
 use Rattle.array_versions.specs.declared.operations.UnaryOperation.{UnaryOperation}
 use Rattle.array_versions.specs.declared.operations.UnaryOperation.TheVariants.{Negate, Complement, Not, Truth}
 use Rattle.array_versions.specs.declared.operations.BinaryOperation.{BinaryOperation}
@@ -170,12 +170,21 @@ emit_code count buffer =
     pop_to R5 ∷ Move (Fram count) (ToRegister R6) ∷ Move (Register R6) (ToRegister R4) ∷ Calculate op.Add (Register R6) R4
     ∷ Move (Register R5) (ToIndexed R4 buffer) ∷ Calculate op.Add (Constant konst.One) R6 ∷ Move (Register R6) (ToFram count) ∷ []
 
--- the home, its copy, then the count
-abbrev pub entry_code : ℕ → ℕ → ℕ → ℕ → List Form
-entry_code count list home copy =
-    Move (Fram count) (ToRegister R6) ∷ Move (Register R6) (ToRegister R4) ∷ Calculate op.Add (Register R4) R4 ∷ Calculate op.Add (Register R4) R4
-    ∷ Move (Number home) (ToIndexed R4 list) ∷ Move (Number copy) (ToIndexed R4 (word_sum list 2)) ∷ Calculate op.Add (Constant konst.One) R6
-    ∷ Move (Register R6) (ToFram count) ∷ []
+-- how many words a run has, as a source: 1 takes no word of its own
+abbrev pub words_source : ℕ → Source
+words_source words = if words == 1 then Constant konst.One else Number words
+
+-- the first home and the first copy of a run, R4 being six times the count
+abbrev pub pair_code : ℕ → ℕ → ℕ → ℕ → List Form
+pair_code count list home copy =
+    Move (Fram count) (ToRegister R6) ∷ Move (Register R6) (ToRegister R4) ∷ Calculate op.Add (Register R4) R4 ∷ Calculate op.Add (Register R6) R4
+    ∷ Calculate op.Add (Register R4) R4 ∷ Move (Number home) (ToIndexed R4 list) ∷ Move (Number copy) (ToIndexed R4 (word_sum list 2)) ∷ []
+
+-- an entry: both of them, its words, then the count
+abbrev pub entry_code : ℕ → ℕ → ℕ → ℕ → ℕ → List Form
+entry_code count list home copy words =
+    pair_code count list home copy
+    ++ (Move (words_source words) (ToIndexed R4 (word_sum list 4)) ∷ Update op.Add (Constant konst.One) count ∷ [])
 
 -- a versioned read: below the length, the version word is compared with the attempt's number; then the copy or the element
 abbrev pub read_code : ArrayPlace → ListPlace → List Form
@@ -185,19 +194,54 @@ read_code place list =
     ∷ Jump condition.Always 4 ∷ Move (Indexed R4 place.elements) (ToRegister R4) ∷ Jump condition.Always 1 ∷ Move (Constant konst.Zero) (ToRegister R4)
     ∷ push_from R4 ∷ []
 
--- behind the first store to a copy: the version word; then the home, the copy and the count of the list
+-- R6 is where the run of the last entry ends, the words of its entry being at one address from R5 on and where it begins at another;
+-- where that isn't what this register holds, a jump
+abbrev pub end_test : ℕ → ℕ → WorkRegister → ℕ → List Form
+end_test words begin b offset =
+    Move (Indexed R5 words) (ToRegister R6) ∷ Calculate op.Add (Register R6) R6 ∷ Calculate op.Add (Indexed R5 begin) R6
+    ∷ Calculate op.Cmp (Register b) R6 ∷ Jump condition.NotEqual offset ∷ []
+
+-- the version word; then R7 is the home, R4 the copy, and R5 the count of entries, which is compared with 0
+abbrev pub mark_code : ArrayPlace → ListPlace → List Form
+mark_code place list =
+    Move (Register R6) (ToIndexed R4 place.versions) ∷ Move (Register R4) (ToRegister R7) ∷ Calculate op.Add (Number place.elements) R7
+    ∷ Calculate op.Add (Number place.copies) R4 ∷ Move (Fram list.cln) (ToRegister R5) ∷ Calculate op.Cmp (Constant konst.Zero) R5 ∷ []
+
+-- without entries a jump; else R5 becomes where the last entry stands from the list on
+abbrev pub last_code : List Form
+last_code =
+    Jump condition.Equal 27 ∷ Calculate op.Sub (Constant konst.One) R5 ∷ Move (Register R5) (ToRegister R6) ∷ Calculate op.Add (Register R5) R5
+    ∷ Calculate op.Add (Register R6) R5 ∷ Calculate op.Add (Register R5) R5 ∷ []
+
+-- the last entry has a word more, and all is done
+abbrev pub longer_code : ℕ → List Form
+longer_code words =
+    Move (Indexed R5 words) (ToRegister R6) ∷ Calculate op.Add (Constant konst.One) R6 ∷ Move (Register R6) (ToIndexed R5 words)
+    ∷ Jump condition.Always 10 ∷ []
+
+-- the entry behind it
+abbrev pub next_code : List Form
+next_code = Calculate op.Add (Number 6) R5 ∷ []
+
+-- an entry of one word where R5 says, then the count
+abbrev pub word_code : ListPlace → List Form
+word_code list =
+    Move (Register R7) (ToIndexed R5 list.list) ∷ Move (Register R4) (ToIndexed R5 (word_sum list.list 2))
+    ∷ Move (Constant konst.One) (ToIndexed R5 (word_sum list.list 4)) ∷ Update op.Add (Constant konst.One) list.cln ∷ []
+
+-- behind the first store to a copy: the version word; then the last entry gets longer where both of its runs end right before the
+-- home and the copy, else there is an entry more
 abbrev pub first_code : ArrayPlace → ListPlace → List Form
 first_code place list =
-    Move (Register R6) (ToIndexed R4 place.versions) ∷ Move (Fram list.cln) (ToRegister R6) ∷ Move (Register R6) (ToRegister R5)
-    ∷ Calculate op.Add (Register R5) R5 ∷ Calculate op.Add (Register R5) R5 ∷ Move (Register R4) (ToRegister R7) ∷ Calculate op.Add (Number place.elements) R7
-    ∷ Move (Register R7) (ToIndexed R5 list.list) ∷ Calculate op.Add (Number place.copies) R4 ∷ Move (Register R4) (ToIndexed R5 (word_sum list.list 2))
-    ∷ Calculate op.Add (Constant konst.One) R6 ∷ Move (Register R6) (ToFram list.cln) ∷ []
+    let words = word_sum list.list 4 in
+    mark_code place list ++ (last_code ++ (end_test words list.list R7 13 ++ (end_test words (word_sum list.list 2) R4 6
+    ++ (longer_code words ++ (next_code ++ word_code list)))))
 
 -- the store to the copy; where the version word is the attempt's number, all that follows it is passed over
 abbrev pub copy_code : ArrayPlace → ListPlace → List Form
 copy_code place list =
-    pop_to R5 ∷ pop_to R4 ∷ Calculate op.Cmp (Number place.length) R4 ∷ Jump condition.Carry 27 ∷ double ∷ Move (Register R5) (ToIndexed R4 place.copies)
-    ∷ Move (Fram list.ver) (ToRegister R6) ∷ Calculate op.Cmp (Indexed R4 place.versions) R6 ∷ Jump condition.Equal 19 ∷ []
+    pop_to R5 ∷ pop_to R4 ∷ Calculate op.Cmp (Number place.length) R4 ∷ Jump condition.Carry 54 ∷ double ∷ Move (Register R5) (ToIndexed R4 place.copies)
+    ∷ Move (Fram list.ver) (ToRegister R6) ∷ Calculate op.Cmp (Indexed R4 place.versions) R6 ∷ Jump condition.Equal 46 ∷ []
 
 -- a versioned write
 abbrev pub write_code : ArrayPlace → ListPlace → List Form
@@ -243,7 +287,7 @@ abbrev mutual
   step_code at (shift operation k) = shift_code (shift_middle operation k)
   step_code at (element base length) = element_code base length
   step_code at (emit_word count buffer) = emit_code count buffer
-  step_code at (list_entry count list home copy) = entry_code count list home copy
+  step_code at (list_entry count list home copy words) = entry_code count list home copy words
   step_code at (versioned_read place list) = read_code place list
   step_code at (versioned_write place list) = write_code place list
   step_code at sense = forms.Sense R4 ∷ push_from R4 ∷ []

@@ -6,8 +6,8 @@ ghost use Rattle.code_forms.specs.Placed.{instructions};
 ghost use Rattle.array_versions.specs.Program as value;
 ghost use Rattle.array_versions.specs.View.{program_of, steps_of, step_of};
 ghost use Rattle.array_versions.specs.Form.{IsWhole, LocalsBelow, StepLocalsBelow, OfWords, StepOfWords};
-ghost use Rattle.array_versions.specs.Cost.{words_of, step_words};
-ghost use Rattle.codegen.specs.Code.{code_of, step_code, element_code, emit_code, entry_code, choice_head, loop_head, loop_step};
+ghost use Rattle.array_versions.specs.Cost.{words_of, step_words, entry_words};
+ghost use Rattle.codegen.specs.Code.{code_of, step_code, element_code, emit_code, words_source, entry_code, choice_head, loop_head, loop_step};
 
 use crate::forms::{
     POPPED, R4, R5, R6, TO_R4, TO_R5, TO_R6, absolute, branch, constant, jump, local_address, push,
@@ -53,20 +53,33 @@ fn emit_emit(count: u16, buffer: u16, code: &mut Vec<Instr>) -> Result<(), Alloc
     ])
 }
 
+// How many words a run has, as a source: 1 takes no word of its own.
+fn words_source(words: u16) -> Src
+    ensures { result ≡ form.source_operand (words_source words) }
+{
+    match words {
+        1 => constant(Konst::One),
+        words => Src::Immediate(words),
+    }
+}
+
 fn emit_entry(
     count: u16,
     list: u16,
     home: u16,
     copy: u16,
+    words: u16,
     code: &mut Vec<Instr>,
 ) -> Result<(), AllocError>
-    ensures { OnOk result (code.new.items ≡ code.old.items ++ instructions (entry_code count list home copy)) }
+    ensures { OnOk result (code.new.items ≡ code.old.items ++ instructions (entry_code count list home copy words)) }
 {
     let second = list.wrapping_add(2);
+    let third = list.wrapping_add(4);
     code.extend_from_slice(&[
         two(TwoOp::Mov, absolute(count), TO_R6),
         two(TwoOp::Mov, R6, TO_R4),
         two(TwoOp::Add, R4, TO_R4),
+        two(TwoOp::Add, R6, TO_R4),
         two(TwoOp::Add, R4, TO_R4),
         two(
             TwoOp::Mov,
@@ -78,9 +91,23 @@ fn emit_entry(
             Src::Immediate(copy),
             Dst::Indexed(IndexRegister::R4, second),
         ),
-        two(TwoOp::Add, constant(Konst::One), TO_R6),
-        two(TwoOp::Mov, R6, Dst::Absolute(count)),
+        two(
+            TwoOp::Mov,
+            words_source(words),
+            Dst::Indexed(IndexRegister::R4, third),
+        ),
+        two(TwoOp::Add, constant(Konst::One), Dst::Absolute(count)),
     ])
+}
+
+// The bytes of that code.
+fn entry_bytes(words: u16) -> u16
+    ensures { result ≡ 2 * entry_words words }
+{
+    match words {
+        1 => 32,
+        _ => 34,
+    }
 }
 
 // The head of a choice, with the address of its second program.
@@ -244,9 +271,10 @@ fn emit_step(
             list,
             home,
             copy,
+            words,
         } => {
-            emit_entry(*count, *list, *home, *copy, code)?;
-            Ok(at + 28)
+            emit_entry(*count, *list, *home, *copy, *words, code)?;
+            Ok(at + entry_bytes(*words))
         }
         WordStep::VersionedRead(place, list) => {
             emit_versioned_read(*place, *list, code)?;
@@ -254,7 +282,7 @@ fn emit_step(
         }
         WordStep::VersionedWrite(place, list) => {
             emit_versioned_write(*place, *list, code)?;
-            Ok(at + 64)
+            Ok(at + 118)
         }
         WordStep::Sense => emit_all(
             &[two(TwoOp::Mov, absolute(0x200), TO_R4), push(R4)],

@@ -6,7 +6,9 @@ ghost use Rattle.msp_isa.specs.declared.operands.Operand.TheVariants as Operands
 ghost use Rattle.msp_isa.specs.declared.registers.IndexRegister.TheVariants as index;
 ghost use Rattle.array_versions.specs.Form.{ArrayOfWords, ListOfWords};
 ghost use Rattle.code_forms.specs.Placed.{instructions};
-ghost use Rattle.codegen.specs.Code.{read_code, first_code, copy_code, write_code};
+ghost use Rattle.alp_words.specs.Words.{word_sum};
+ghost use Rattle.code_forms.specs.Forms as form;
+ghost use Rattle.codegen.specs.Code.{read_code, mark_code, last_code, end_test, longer_code, next_code, word_code, first_code, copy_code, write_code};
 
 use crate::forms::{
     POPPED, R4, R5, R6, R7, TO_R4, TO_R5, TO_R6, TO_R7, absolute, constant, jump, push, two,
@@ -20,6 +22,13 @@ fn at_r4(base: u16) -> Src
     ensures { result ≡ Srcs.Operand (Operands.Indexed index.R4 base) }
 {
     Src::Operand(Operand::Indexed(IndexRegister::R4, base))
+}
+
+// The word at R5's address plus an address.
+fn at_r5(base: u16) -> Src
+    ensures { result ≡ Srcs.Operand (Operands.Indexed index.R5 base) }
+{
+    Src::Operand(Operand::Indexed(IndexRegister::R5, base))
 }
 
 /// Appends the code of a versioned read.
@@ -49,29 +58,113 @@ pub fn emit_versioned_read(
     Ok(())
 }
 
-// What follows the first store to a copy.
-fn emit_first(place: ArrayPlace, list: ListPlace, code: &mut Vec<Instr>) -> Result<(), AllocError>
-    ensures { OnOk result (code.new.items ≡ code.old.items ++ instructions (first_code place list)) }
+// The version word; then the home is in R7, its copy in R4, and the count of entries in R5.
+fn emit_mark(place: ArrayPlace, list: ListPlace, code: &mut Vec<Instr>) -> Result<(), AllocError>
+    ensures { OnOk result (code.new.items ≡ code.old.items ++ instructions (mark_code place list)) }
 {
-    let second = list.list.wrapping_add(2);
     code.extend_from_slice(&[
         two(
             TwoOp::Mov,
             R6,
             Dst::Indexed(IndexRegister::R4, place.versions),
         ),
-        two(TwoOp::Mov, absolute(list.cln), TO_R6),
-        two(TwoOp::Mov, R6, TO_R5),
-        two(TwoOp::Add, R5, TO_R5),
-        two(TwoOp::Add, R5, TO_R5),
         two(TwoOp::Mov, R4, TO_R7),
         two(TwoOp::Add, Src::Immediate(place.elements), TO_R7),
-        two(TwoOp::Mov, R7, Dst::Indexed(IndexRegister::R5, list.list)),
         two(TwoOp::Add, Src::Immediate(place.copies), TO_R4),
-        two(TwoOp::Mov, R4, Dst::Indexed(IndexRegister::R5, second)),
-        two(TwoOp::Add, constant(Konst::One), TO_R6),
-        two(TwoOp::Mov, R6, Dst::Absolute(list.cln)),
+        two(TwoOp::Mov, absolute(list.cln), TO_R5),
+        two(TwoOp::Cmp, constant(Konst::Zero), TO_R5),
     ])?;
+    Ok(())
+}
+
+// Without entries a jump; else in R5 where the last entry stands from the list on.
+fn emit_last(code: &mut Vec<Instr>) -> Result<(), AllocError>
+    ensures { OnOk result (code.new.items ≡ code.old.items ++ instructions last_code) }
+{
+    code.extend_from_slice(&[
+        jump(Condition::Equal, 27),
+        two(TwoOp::Sub, constant(Konst::One), TO_R5),
+        two(TwoOp::Mov, R5, TO_R6),
+        two(TwoOp::Add, R5, TO_R5),
+        two(TwoOp::Add, R6, TO_R5),
+        two(TwoOp::Add, R5, TO_R5),
+    ])?;
+    Ok(())
+}
+
+// Where the last entry's run doesn't end at the home in R7, a jump.
+fn emit_home_test(list: u16, code: &mut Vec<Instr>) -> Result<(), AllocError>
+    ensures { OnOk result (code.new.items ≡ code.old.items ++ instructions (end_test (word_sum list 4) list form.R7 13)) }
+{
+    let words = list.wrapping_add(4);
+    code.extend_from_slice(&[
+        two(TwoOp::Mov, at_r5(words), TO_R6),
+        two(TwoOp::Add, R6, TO_R6),
+        two(TwoOp::Add, at_r5(list), TO_R6),
+        two(TwoOp::Cmp, R7, TO_R6),
+        jump(Condition::NotEqual, 13),
+    ])?;
+    Ok(())
+}
+
+// The same of its copies and the copy in R4.
+fn emit_copy_test(list: u16, code: &mut Vec<Instr>) -> Result<(), AllocError>
+    ensures { OnOk result (code.new.items
+        ≡ code.old.items ++ instructions (end_test (word_sum list 4) (word_sum list 2) form.R4 6)) }
+{
+    let copies = list.wrapping_add(2);
+    let words = list.wrapping_add(4);
+    code.extend_from_slice(&[
+        two(TwoOp::Mov, at_r5(words), TO_R6),
+        two(TwoOp::Add, R6, TO_R6),
+        two(TwoOp::Add, at_r5(copies), TO_R6),
+        two(TwoOp::Cmp, R4, TO_R6),
+        jump(Condition::NotEqual, 6),
+    ])?;
+    Ok(())
+}
+
+// The last entry has a word more.
+fn emit_longer(list: u16, code: &mut Vec<Instr>) -> Result<(), AllocError>
+    ensures { OnOk result (code.new.items ≡ code.old.items ++ instructions (longer_code (word_sum list 4))) }
+{
+    let words = list.wrapping_add(4);
+    code.extend_from_slice(&[
+        two(TwoOp::Mov, at_r5(words), TO_R6),
+        two(TwoOp::Add, constant(Konst::One), TO_R6),
+        two(TwoOp::Mov, R6, Dst::Indexed(IndexRegister::R5, words)),
+        jump(Condition::Always, 10),
+    ])?;
+    Ok(())
+}
+
+// An entry of one word behind the last, then the count.
+fn emit_word(list: ListPlace, code: &mut Vec<Instr>) -> Result<(), AllocError>
+    ensures { OnOk result (code.new.items ≡ code.old.items ++ instructions (next_code ++ word_code list)) }
+{
+    let copies = list.list.wrapping_add(2);
+    let words = list.list.wrapping_add(4);
+    let one = constant(Konst::One);
+    code.extend_from_slice(&[
+        two(TwoOp::Add, Src::Immediate(6), TO_R5),
+        two(TwoOp::Mov, R7, Dst::Indexed(IndexRegister::R5, list.list)),
+        two(TwoOp::Mov, R4, Dst::Indexed(IndexRegister::R5, copies)),
+        two(TwoOp::Mov, one, Dst::Indexed(IndexRegister::R5, words)),
+        two(TwoOp::Add, one, Dst::Absolute(list.cln)),
+    ])?;
+    Ok(())
+}
+
+// What follows the first store to a copy.
+fn emit_first(place: ArrayPlace, list: ListPlace, code: &mut Vec<Instr>) -> Result<(), AllocError>
+    ensures { OnOk result (code.new.items ≡ code.old.items ++ instructions (first_code place list)) }
+{
+    emit_mark(place, list, code)?;
+    emit_last(code)?;
+    emit_home_test(list.list, code)?;
+    emit_copy_test(list.list, code)?;
+    emit_longer(list.list, code)?;
+    emit_word(list, code)?;
     Ok(())
 }
 
@@ -83,7 +176,7 @@ fn emit_copy(place: ArrayPlace, list: ListPlace, code: &mut Vec<Instr>) -> Resul
         two(TwoOp::Mov, POPPED, TO_R5),
         two(TwoOp::Mov, POPPED, TO_R4),
         two(TwoOp::Cmp, Src::Immediate(place.length), TO_R4),
-        jump(Condition::Carry, 27),
+        jump(Condition::Carry, 54),
         two(TwoOp::Add, R4, TO_R4),
         two(
             TwoOp::Mov,
@@ -92,7 +185,7 @@ fn emit_copy(place: ArrayPlace, list: ListPlace, code: &mut Vec<Instr>) -> Resul
         ),
         two(TwoOp::Mov, absolute(list.ver), TO_R6),
         two(TwoOp::Cmp, at_r4(place.versions), TO_R6),
-        jump(Condition::Equal, 19),
+        jump(Condition::Equal, 46),
     ])?;
     Ok(())
 }

@@ -1,11 +1,11 @@
 -- What copies to shared words leave as it is.
-use Rattle.std.proofs.Common.{◌≡◌, ◌≢◌, ℕ, zero, suc, ◌+◌, ◌*◌, ◌%◌, ◌<◌, ◌≤◌, ◌⊎◌, inl, inr, List, [], ◌∷◌, refl, sym, ap, ◌∙◌, arith}
+use Rattle.std.proofs.Common.{◌≡◌, ◌≢◌, ℕ, zero, suc, ◌+◌, ◌*◌, ◌%◌, ◌<◌, ◌≤◌, ◌⊎◌, inl, inr, List, [], ◌∷◌, ◌++◌, refl, sym, ap, ◌∙◌, arith}
 use Rattle.std.specs.List.{All}
-use Rattle.std.proofs.lemmas.List.Elements.{All-head, All-tail, All-weaker}
-use Rattle.runtime_code.specs.fram_board.Effects.{Send}
+use Rattle.std.proofs.lemmas.List.Elements.{All-nil, All-cons, All-head, All-tail, All-weaker}
+use Rattle.runtime_code.specs.fram_board.Effects.{Store, Send}
 use Rattle.runtime_code.specs.machine_effects.World.{put, fram_after}
 use Rattle.runtime_code.proofs.machine_effects.Interface.{put_other}
-use Rattle.runtime_code.specs.runtime_effects.Places.{CopyPair, entries_from}
+use Rattle.runtime_code.specs.runtime_effects.Places.{CopyPair}
 use Rattle.runtime_code.specs.runtime_effects.Stages.{copied_home, sends}
 use Rattle.runtime_code.specs.runtime_effects.Needs.{IsCopied}
 use Rattle.memory_map.specs.declared.words.RuntimeWord.TheVariants.{NextTask, EmitCount, SentBase}
@@ -16,31 +16,30 @@ out_of : (p n a x : ℕ) → (a < p) ⊎ (p + n ≤ a) → p ≤ x → x < p + n
 out_of p n a x (inl l) low high e = omega (arith, l, low, e)
 out_of p n a x (inr g) low high e = omega (arith, g, high, e)
 
-out_of_rest : (p n a : ℕ) → (a < p) ⊎ (p + 4 * suc n ≤ a) → (a < p + 4) ⊎ (p + 4 + 4 * n ≤ a)
-out_of_rest p n a (inl l) = inl (omega (arith, l))
-out_of_rest p n a (inr g) = inr (omega (arith, g))
-
--- a store outside the entries leaves what they name
-pub entries_stay : (n p a w : ℕ) (f : ℕ → ℕ) → (a < p) ⊎ (p + 4 * n ≤ a) → entries_from n p (put f a w) ≡ entries_from n p f
-entries_stay zero p a w f h = refl
-entries_stay (suc n) p a w f h =
-    let e : put f a w p ≡ f p = (put_other f a w p (λ i. (out_of p (4 * suc n) a p h (omega arith) (omega arith)) (sym i))) in
-    let d : put f a w (p + 2) ≡ f (p + 2) = (put_other f a w (p + 2) (λ i. (out_of p (4 * suc n) a (p + 2) h (omega arith) (omega arith)) (sym i))) in
-    let k = out_of_rest p n a h in
-    let x : CopyPair = record { home = f p; copy = f (p + 2) } in
-    ap (λ v. record { home = v; copy = put f a w (p + 2) } ∷ entries_from n (p + 4) (put f a w)) e
-    ∙ ap (λ v. record { home = f p; copy = v } ∷ entries_from n (p + 4) (put f a w)) d
-    ∙ ap (λ l. x ∷ l) (entries_stay n (p + 4) a w f k)
-
--- within the list
-pub out_of_entries : (p n a from bytes : ℕ) → (a < from) ⊎ (from + bytes ≤ a) → from ≤ p → p + 4 * n ≤ from + bytes → (a < p) ⊎ (p + 4 * n ≤ a)
-out_of_entries p n a from bytes (inl l) low high = inl (omega (arith, l, low))
-out_of_entries p n a from bytes (inr g) low high = inr (omega (arith, g, high))
-
 -- copies leave a word that is none of their homes
 pub copies_leave : (xs : List CopyPair) (f : ℕ → ℕ) (a : ℕ) → All (λ x. x.home ≢ a) xs → fram_after (copied_home xs f) f a ≡ f a
 copies_leave [] f a h = refl
 copies_leave (x ∷ xs) f a h = copies_leave xs (put f x.home (f x.copy)) a (All-tail (λ x. x.home ≢ a) x xs h) ∙ (put_other f x.home (f x.copy) a (λ i. (All-head (λ x. x.home ≢ a) x xs h) (sym i)))
+
+-- what holds of each of two lists behind one another
+pub all_front : {X : Type 0} (P : X → Type 0) (xs ys : List X) → All P (xs ++ ys) → All P xs
+all_front P [] ys h = All-nil P
+all_front P (x ∷ xs) ys h = All-cons P x xs (All-head P x (xs ++ ys) h) (all_front P xs ys (All-tail P x (xs ++ ys) h))
+
+pub all_back : {X : Type 0} (P : X → Type 0) (xs ys : List X) → All P (xs ++ ys) → All P ys
+all_back P [] ys h = h
+all_back P (x ∷ xs) ys h = all_back P xs ys (All-tail P x (xs ++ ys) h)
+
+-- copies behind copies
+pub copied_behind : (xs ys : List CopyPair) (f : ℕ → ℕ) → copied_home (xs ++ ys) f ≡ copied_home xs f ++ copied_home ys (fram_after (copied_home xs f) f)
+copied_behind [] ys f = refl
+copied_behind (x ∷ xs) ys f = ap (λ l. Store x.home (f x.copy) ∷ l) (copied_behind xs ys (put f x.home (f x.copy)))
+
+-- the words of a region, where none of the homes stands in it
+pub region_stays : (xs : List CopyPair) (f : ℕ → ℕ) (p bytes a : ℕ) → All (λ x. (x.home < p) ⊎ (p + bytes ≤ x.home)) xs → p ≤ a → a < p + bytes
+    → fram_after (copied_home xs f) f a ≡ f a
+region_stays xs f p bytes a out low high =
+    copies_leave xs f a (All-weaker (λ x. (x.home < p) ⊎ (p + bytes ≤ x.home)) (λ x. x.home ≢ a) (λ x h. out_of p bytes x.home a h low high) xs out)
 
 -- the same words are sent
 pub sends_alike : (n k p : ℕ) (f g : ℕ → ℕ) → ((a : ℕ) → p ≤ a → a < p + 2 * n → g a ≡ f a) → sends n k p g ≡ sends n k p f

@@ -1,4 +1,5 @@
 mod Copies
+mod WordLoop
 mod Commit
 mod Words
 mod Stores

@@ -4,14 +4,14 @@
 
 mod laws;
 
-ghost use Rattle.std.specs.Prelude.{◌≡◌, ◌+◌, ◌<◌, ℕ, IfOk};
+ghost use Rattle.std.specs.Prelude.{◌≡◌, ◌+◌, ◌<◌, ◌++◌, ℕ, IfOk, OnOk};
 ghost use Rattle.runtime_code.specs.code_forms.Placed.{instructions};
 ghost use Rattle.runtime_code.specs.Addresses.{start_address};
-ghost use Rattle.commit_runtime.specs.Listing.{copies_begin, copy_loop, sends_begin, send_loop, closing, commit_forms};
+ghost use Rattle.commit_runtime.specs.Listing.{copies_begin, entry_test, entry_begin, word_loop, entry_end, copy_loop, sends_begin, send_loop, closing, commit_forms};
 
 pub use laws::{commit_is_made, commit_is_short, commit_stores_in_fram};
 use memory_map::{Layout, RuntimeWord};
-use msp_isa::{Condition, Dst, IndexRegister, IndirectRegister, Instr, Konst, Operand, Src};
+use msp_isa::{Condition, Dst, IndexRegister, Instr, Konst, Operand, Src};
 use runtime_code::{add, branch, cmp, jump, load, mov, read, set, start_address, sub};
 use std::alloc::{AllocError, Global};
 
@@ -35,22 +35,63 @@ fn copies_begin(layout: &Layout) -> [Instr; 2]
     ]
 }
 
-// For each entry: its home to R6 and its copy's address to R7, then the copy goes home.
-fn copy_loop() -> [Instr; 7]
-    ensures { result ≡ instructions copy_loop }
+// An entry is read: its home to R6, its copy's address to R7, its words to R8.
+fn entry_begin() -> [Instr; 3]
+    ensures { result ≡ instructions entry_begin }
 {
-    let entries = set(IndexRegister::R4);
     let next = Src::Operand(Operand::Increment(IndexRegister::R5));
-    let copy = Src::Operand(Operand::Indirect(IndirectRegister::Index(IndexRegister::R7)));
     [
-        cmp(Src::Constant(Konst::Zero), entries),
-        jump(Condition::Equal, 6),
         mov(next, set(IndexRegister::R6)),
         mov(next, set(IndexRegister::R7)),
-        mov(copy, Dst::Indexed(IndexRegister::R6, 0)),
-        sub(Src::Constant(Konst::One), entries),
-        jump(Condition::Always, 0x400 - 8),
+        mov(next, set(IndexRegister::R8)),
     ]
+}
+
+// One word after another goes home. R8 is counted down before each; where nothing was left of it there is no carry.
+fn word_loop() -> [Instr; 5]
+    ensures { result ≡ instructions word_loop }
+{
+    let next = Src::Operand(Operand::Increment(IndexRegister::R7));
+    [
+        jump(Condition::Always, 3),
+        mov(next, Dst::Indexed(IndexRegister::R6, 0)),
+        add(Src::Constant(Konst::Two), set(IndexRegister::R6)),
+        sub(Src::Constant(Konst::One), set(IndexRegister::R8)),
+        jump(Condition::Carry, 0x400 - 5),
+    ]
+}
+
+// The test of the loop over the entries.
+fn entry_test() -> [Instr; 2]
+    ensures { result ≡ instructions entry_test }
+{
+    let entries = set(IndexRegister::R4);
+    [
+        cmp(Src::Constant(Konst::Zero), entries),
+        jump(Condition::Equal, 11),
+    ]
+}
+
+// The end of its turn.
+fn entry_end() -> [Instr; 2]
+    ensures { result ≡ instructions entry_end }
+{
+    let entries = set(IndexRegister::R4);
+    [
+        sub(Src::Constant(Konst::One), entries),
+        jump(Condition::Always, 0x400 - 13),
+    ]
+}
+
+// For each entry its words go home.
+fn push_copies(code: &mut Vec<Instr>) -> Result<(), AllocError>
+    ensures { OnOk result (code.new.items ≡ code.old.items ++ instructions copy_loop) }
+{
+    code.extend_from_slice(&entry_test())?;
+    code.extend_from_slice(&entry_begin())?;
+    code.extend_from_slice(&word_loop())?;
+    code.extend_from_slice(&entry_end())?;
+    Ok(())
 }
 
 // R7 := SB, R4 := EN, R5 := the emitted words.
@@ -107,16 +148,16 @@ fn closing(layout: &Layout) -> [Instr; 5]
 
 /// The instructions of the commit for a layout; or no memory is left.
 ///
-/// They copy the entries of the commit list, from the first on, send the emitted words, numbered from SB on, and store CUR, BASE and
+/// They copy the words of the entries of the commit list, from the first on, send the emitted words, numbered from SB on, and store CUR, BASE and
 /// GATE, in this order; the last one is a branch to the start of an attempt. GATE is 1 until all else is done, so that a boot in
-/// between finds it and begins the commit anew. They take 40 words, and may stand anywhere.
+/// between finds it and begins the commit anew. They take 45 words, and may stand anywhere.
 pub fn commit_code(alloc: Global, layout: &Layout) -> Result<Vec<Instr>, AllocError>
     requires { layout.now.boot.address + 14 < 65536 }
     ensures { IfOk result (λ code. code.items ≡ instructions (commit_forms layout.now (start_address layout.now.boot.address))) }
 {
     let mut code = Vec::new(alloc);
     code.extend_from_slice(&copies_begin(layout))?;
-    code.extend_from_slice(&copy_loop())?;
+    push_copies(&mut code)?;
     code.extend_from_slice(&sends_begin(layout))?;
     code.extend_from_slice(&send_loop())?;
     code.extend_from_slice(&closing(layout))?;

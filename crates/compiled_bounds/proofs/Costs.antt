@@ -29,7 +29,7 @@ use Rattle.compiled_model.specs.memory_map.MemoryMap.{MemoryMap, TaskPlace}
 use Rattle.compiled_model.specs.memory_map.Spots.{places_of}
 
 -- what the entries cost at most
-entries_cost : (l : MemoryMap) (layout : TaskPlace) (e : End) → entry_cycles (places_of l layout) e ≤ 21 * length layout.privates
+entries_cost : (l : MemoryMap) (layout : TaskPlace) (e : End) → entry_cycles (places_of l layout) e ≤ 26 * length layout.privates
 entries_cost l layout (GoesOn s) = omega arith
 entries_cost l layout (Jumps to s) = omega arith
 entries_cost l layout Short = omega arith
@@ -37,8 +37,8 @@ entries_cost l layout Strays = omega arith
 entries_cost l layout Broken = omega arith
 
 -- a boot, a start with the clearing of versions and the copies of private scalars, the body, the entries, and the commit
-all_within : (v1 v2 privates scalars body price list emits : ℕ) → v1 ≡ v2 → privates ≡ scalars → body ≤ price + 21 * privates
-    → 11 + (35 + (11 + 11 * v1) + 6 * privates) + body + (42 + 15 * list + 16 * emits)
+all_within : (v1 v2 privates scalars body price list emits : ℕ) → v1 ≡ v2 → privates ≡ scalars → body ≤ price + 26 * privates
+    → 11 + (35 + (11 + 11 * v1) + 6 * privates) + body + (42 + 17 * list + 9 * list + 16 * emits)
     ≤ 400 + 12 * v2 + 72 * scalars + price + 40 * list + 40 * emits
 all_within v1 v2 privates scalars body price list emits v e b = omega (arith, v, e, b)
 
@@ -69,7 +69,7 @@ module _ (p : CheckedProgram) (allow : Allow) (plans : List TaskPlanValue) (l : 
       ∙ ap (scalars_of p.shared) (sym body_is)
 
   body_costs : spent (task_program p l t) (started fram readings)
-      ≤ block_price cycles_column (task_body p t) + 21 * length (privates_in (task_entries l) t)
+      ≤ block_price cycles_column (task_body p t) + 26 * length (privates_in (task_entries l) t)
   body_costs =
       let w : WordState = started fram readings in
       let q : Program = lowered_block (places_of l own) task.body in

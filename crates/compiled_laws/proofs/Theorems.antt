@@ -1,5 +1,5 @@
 -- The crash theorem on compiled sources.
-use Rattle.std.proofs.Common.{◌≡◌, ℕ, ◌+◌, ◌*◌, ◌<◌, ◌≤◌, List, refl, sym, ap, ◌∙◌, subst, arith}
+use Rattle.std.proofs.Common.{◌*◌, ◌≤◌, sym, subst}
 use Rattle.task_attempts.proofs.crash_rules.Interface.{crash_theorem, stops_short, sent_once, spans_follow, progress_law}
 use Rattle.task_attempts.specs.compiled_model.Parts.{compiled_model}
 use Rattle.compiled_bounds.proofs.Interface.{bound_is_the_sources}

@@ -1,8 +1,5 @@
 -- What holds of each accepted source that is compiled, whatever its runs.
-use Rattle.std.specs.Prelude.{◌≡◌, ℕ, ◌+◌, ◌*◌, ◌≤◌, ◌<◌, true, List, [], ◌∷◌, length, drop, All}
-use Rattle.task_attempts.specs.task_ast.Tree.{Program}
-use Rattle.task_attempts.specs.task_ast.declared.names.VariableName.{VariableName}
-use Rattle.task_attempts.specs.task_ast.declared.names.TaskName.{TaskName}
+use Rattle.std.specs.Prelude.{◌≡◌, ℕ, ◌+◌, ◌*◌, ◌≤◌, List, [], ◌∷◌, length, drop}
 use Rattle.task_attempts.specs.msp_step.declared.machine.Stop.{Stop}
 use Rattle.task_attempts.specs.msp_step.declared.machine.Stop.TheVariants as stop
 use Rattle.task_attempts.specs.machine_effects.World.{World}

@@ -18,11 +18,11 @@ use Rattle.compiled_model.specs.View.{state_view}
 use Rattle.compiled_model.specs.Parts.{task_program, compiled_model}
 
 -- a task, from a power-up up to the end of its commit: a boot, which takes 11 cycles at most, a start with the clearing of the version
--- words, the body and the commit
+-- words, the body and the commit, of as many entries as words: each may be a run of its own
 abbrev pub whole_cycles : CheckedProgram → MemoryMap → ℕ → (ℕ → ℕ) → List ℕ → ℕ
 whole_cycles p l t fram readings =
     11 + start_cycles true l.versions.words (length (privates_in (task_entries l) t)) + spent (task_program p l t) (started fram readings)
-    + commit_cycles (list_of p.shared (task_body p t)) (emits_of (task_body p t))
+    + commit_cycles (list_of p.shared (task_body p t)) (list_of p.shared (task_body p t)) (emits_of (task_body p t))
 
 -- each task keeps to its bound, whatever FRAM holds and whatever the readings are
 pub record CostsAreWithin (p : CheckedProgram) (l : MemoryMap) : Type 0 where

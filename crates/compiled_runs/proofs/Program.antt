@@ -17,7 +17,7 @@ use Rattle.compiled_model.proofs.array_versions.Interface.{behaves_by_effects}
 use Rattle.compiled_model.specs.codegen.Laws.{HasJumped, ComesTo}
 use Rattle.compiled_model.specs.memory_map.declared.words.RuntimeWord.TheVariants.{CurrentTask, Gate, ListLength, EmitCount, Version}
 use Rattle.compiled_model.specs.memory_map.MemoryMap.{MemoryMap, word_place}
-use Rattle.compiled_model.specs.runtime_effects.Places.{CopyPair}
+use Rattle.compiled_model.specs.runtime_effects.Places.{CopyPair, listed}
 use Rattle.compiled_model.specs.runtime_effects.Stages.{is_at_end, start_effects, commit_effects}
 use Rattle.compiled_model.specs.runtime_effects.Needs.{CanCommit}
 use Rattle.compiled_model.specs.address_space.Limits.{stack_top}
@@ -113,6 +113,7 @@ module _ (p : CheckedProgram) (l : MemoryMap) (r : CanRun p l) (laws : ModelLaws
   record FitsCommit (k : ℕ) (f : ℕ → ℕ) : Type 0 where
     pub can : CanCommit l f
     pub list : f (word_place l ListLength) ≤ (program_places p l).list_capacity k
+    pub words : length (listed l f) ≤ (program_places p l).list_capacity k
     pub emits : f (word_place l EmitCount) ≤ (program_places p l).emit_capacity k
 
   fits_commit : (s next : State) (x : World) → m.Decided s next x → FitsCommit s.task x.fram
@@ -121,6 +122,7 @@ module _ (p : CheckedProgram) (l : MemoryMap) (r : CanRun p l) (laws : ModelLaws
       record {
         can = decided_can_commit State (program_places p l) (state_view p l) s next x r.apart r.room d;
         list = d.decided.within_list;
+        words = d.decided.within_words;
         emits = omega (arith, e, k);
       }
 
@@ -131,13 +133,13 @@ module _ (p : CheckedProgram) (l : MemoryMap) (r : CanRun p l) (laws : ModelLaws
       let x : World = record { fram = u.fram; accepted = accepted } in
       let f = fits_commit s next x d in
       let a = to_commit l (lowered l p) r.fits are_whole u e (laws.decided_gate s next x d) f.can in
-      let n = u.fram (word_place l ListLength) in let k = u.fram (word_place l EmitCount) in
-      let list = f.list in let emits = f.emits in
+      let n = u.fram (word_place l ListLength) in let ws = length (listed l u.fram) in let k = u.fram (word_place l EmitCount) in
+      let list = f.list in let words = f.words in let emits = f.emits in
       let w = r.costs.within s.task (λ y. 0) [] (d.decided.is_task) (λ y. omega arith) (λ y q h. absurd (omega (arith, h))) in
       record {
-        steps = 4 + commit_steps n k;
-        cycles = 11 + commit_cycles n k;
-        ends = λ t. (omega (arith, list, emits, w), (board_of a.end, a.leads, behind_commit s next x d a.end u.readings_left a.holds));
+        steps = 4 + commit_steps n ws k;
+        cycles = 11 + commit_cycles n ws k;
+        ends = λ t. (omega (arith, list, words, emits, w), (board_of a.end, a.leads, behind_commit s next x d a.end u.readings_left a.holds));
         lacks = λ t. absurd (cc (t));
       }
 
@@ -260,20 +262,21 @@ module _ (p : CheckedProgram) (l : MemoryMap) (r : CanRun p l) (laws : ModelLaws
           let fits : FitsCommit s.task f = subst (FitsCommit s.task) d.fram (fits_commit s d.next d.world d.decided) in
           let arrived : IsAt l.commit.address f v.readings_left v = record { pc = q.holds.pc ∙ t; fram = q.holds.fram ∙ same; readings_left = refl } in
           let h = commit_there l (lowered l p) r.fits are_whole v f v.readings_left arrived fits.can in
-          let n = f (word_place l ListLength) in let o = f (word_place l EmitCount) in
+          let n = f (word_place l ListLength) in let ws = length (listed l f) in let o = f (word_place l EmitCount) in
           let at : IsAt start_at (fram_after (commit_effects l d.world.fram) d.world.fram) v.readings_left h.end =
           subst (λ y. IsAt start_at (fram_after (commit_effects l y) y) v.readings_left h.end) (sym d.fram) h.holds in
           let one = join (exec code) to_steps q.steps es b.effects to_cycles q.cycles (board_of u) (board_of there.end) (board_of v) there.leads q.leads in
-          let all = join (exec code) (to_steps + q.steps) (commit_steps n o) (es ++ b.effects) (commit_effects l f)
-          (to_cycles + q.cycles) (commit_cycles n o) (board_of u) (board_of v) (board_of h.end) one h.leads in
+          let all = join (exec code) (to_steps + q.steps) (commit_steps n ws o) (es ++ b.effects) (commit_effects l f)
+          (to_cycles + q.cycles) (commit_cycles n ws o) (board_of u) (board_of v) (board_of h.end) one h.leads in
           let list : n ≤ (program_places p l).list_capacity k = subst (λ j. n ≤ (program_places p l).list_capacity j) (sym is_current) fits.list in
+          let words : ws ≤ (program_places p l).list_capacity k = subst (λ j. ws ≤ (program_places p l).list_capacity j) (sym is_current) fits.words in
           let emits : o ≤ (program_places p l).emit_capacity k = subst (λ j. o ≤ (program_places p l).emit_capacity j) (sym is_current) fits.emits in
           let most = within in let start_most = at_most in let body_most = q.within in
           let entry = behind_commit s d.next d.world d.decided h.end v.readings_left at in
           record {
-            steps = to_steps + q.steps + commit_steps n o;
-            cycles = to_cycles + q.cycles + commit_cycles n o;
-            ends = λ z. (omega (arith, few, most, start_most, body_most, list, emits), (board_of h.end, all, entry));
+            steps = to_steps + q.steps + commit_steps n ws o;
+            cycles = to_cycles + q.cycles + commit_cycles n ws o;
+            ends = λ z. (omega (arith, few, most, start_most, body_most, list, words, emits), (board_of h.end, all, entry));
             lacks = λ z. absurd (cc (z));
           }
 

@@ -18,7 +18,7 @@ use Rattle.compiled_model.specs.boot_runtime.Entries.{task_entries}
 use Rattle.compiled_model.specs.boot_runtime.Listing.{privates_in}
 use Rattle.compiled_model.specs.memory_map.Laws.{AreApart}
 use Rattle.compiled_model.specs.stands_for.Layout.{HaveRoom, ArePrivate, IsSharedWord, IsCopyWord}
-use Rattle.compiled_model.specs.memory_map.Spots.{places_of, address_of, Element, IsElement, IsCopied, IsScalarAt, element_address, copy_address, version_address, IsWordOf}
+use Rattle.compiled_model.specs.memory_map.Spots.{places_of, address_of, Element, IsElement, IsCopied, element_address, copy_address, version_address, IsWordOf}
 use Rattle.compiled_model.specs.lower.Spots.{HasRoom}
 use Rattle.compiled_model.specs.lower.Spots as spots
 use Rattle.compiled_model.specs.lower.Agreement.{place_length, BlockFits}

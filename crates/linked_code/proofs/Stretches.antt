@@ -13,6 +13,7 @@ use Rattle.codegen.specs.array_versions.Cost.{spent}
 use Rattle.codegen.specs.Code.{code_of}
 use Rattle.codegen.specs.Laws.{IsEntry, ComesTo}
 use Rattle.codegen.proofs.Interface.{code_does_as_program}
+use Rattle.boot_runtime.specs.runtime_effects.Places.{listed}
 use Rattle.boot_runtime.specs.runtime_effects.Stages.{is_at_end, start_effects, commit_effects}
 use Rattle.boot_runtime.specs.runtime_effects.Needs.{CanCommit}
 use Rattle.boot_runtime.specs.runtime_code.Addresses.{start_address}
@@ -167,8 +168,8 @@ module _ (l : MemoryMap) (programs : List Program) (fits : CodeFits l programs) 
   abbrev pub DoesCommit : Core → (ℕ → ℕ) → List ℕ → Type 0
   DoesCommit v f rs =
       let es = commit_effects l f in
-      Comes code es (commit_steps (f (word_place l ListLength)) (f (word_place l EmitCount)))
-      (commit_cycles (f (word_place l ListLength)) (f (word_place l EmitCount))) v
+      let n = f (word_place l ListLength) in let ws = length (listed l f) in let k = f (word_place l EmitCount) in
+      Comes code es (commit_steps n ws k) (commit_cycles n ws k) v
       (IsAt start_at (fram_after es f) rs)
 
   -- where the commit is entered and can be made, its code makes it
@@ -183,12 +184,12 @@ module _ (l : MemoryMap) (programs : List Program) (fits : CodeFits l programs) 
   -- from the boot to the commit, where GATE is 1
   pub to_commit : (u : Core) → u.pc ≡ l.boot.address → u.fram (word_place l Gate) ≡ 1 → CanCommit l u.fram
       → let es = commit_effects l u.fram in
-      let n = u.fram (word_place l ListLength) in let k = u.fram (word_place l EmitCount) in
-      Comes code es (4 + commit_steps n k) (11 + commit_cycles n k) u (IsAt start_at (fram_after es u.fram) u.readings_left)
+      let n = u.fram (word_place l ListLength) in let ws = length (listed l u.fram) in let k = u.fram (word_place l EmitCount) in
+      Comes code es (4 + commit_steps n ws k) (11 + commit_cycles n ws k) u (IsAt start_at (fram_after es u.fram) u.readings_left)
   to_commit u e one can =
       let es = commit_effects l u.fram in
-      let n = u.fram (word_place l ListLength) in let k = u.fram (word_place l EmitCount) in
-      comes_on code 4 (commit_steps n k) 11 (commit_cycles n k) u (Enters l.commit.address stack_top u.fram u.readings_left)
+      let n = u.fram (word_place l ListLength) in let ws = length (listed l u.fram) in let k = u.fram (word_place l EmitCount) in
+      comes_on code 4 (commit_steps n ws k) 11 (commit_cycles n ws k) u (Enters l.commit.address stack_top u.fram u.readings_left)
       (IsAt start_at (fram_after es u.fram) u.readings_left) [] es
       (pending_commit_is_found code l l.commit.address tasks l.boot.address u is_boot e one)
       (λ v h. commit_there v u.fram u.readings_left (record { pc = h.pc; fram = h.fram; readings_left = h.readings_left }) can)

@@ -19,7 +19,8 @@ placed a b e = ap (λ c. if c then b else strays) e
 pub spot_place : (p : Places) (room : Room) (s : Spot) → AreApart p room → AreEven p → IsSpot p s → is_place (spot_address p s) ≡ true
 spot_place p room s apart even k =
     let low = apart.spots s k in
-    fram_place (spot_address p s) (even.spots s k) (omega (arith, low, apart)) (apart.below s k)
+    let below = apart.below s k in
+    fram_place (spot_address p s) (even.spots s k) (omega (arith, low, apart)) (omega (arith, below))
 
 -- ---- words that are stored
 

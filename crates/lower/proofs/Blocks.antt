@@ -23,12 +23,13 @@ use Rattle.lower.specs.Agreement.{IsTarget, IsWrittenArray, IsLocal, ExpressionF
 use Rattle.lower.proofs.Addresses.{fram_place, placed, spot_place}
 use Rattle.lower.proofs.Values.{suc_holds, expressions_agree}
 use Rattle.lower.proofs.Emitted.{EmitsAtMost, statement_emitted, block_emitted}
-use Rattle.lower.proofs.Stored.{same_variables, same_list, same_emits, spot_list, spot_emits, scalar_set, local_holds, after_emit, emit_spots, emit_list, emitted_emits}
+use Rattle.lower.proofs.Stored.{same_variables, same_list, same_emits, spot_list, spot_emits, scalar_set, local_holds, after_emit, emit_spots, emit_list, emitted_emits, few_entries}
+use Rattle.lower.proofs.Neighbours.{runs_are_few}
 use Rattle.lower.proofs.Transitions.{transition_behaves}
 use Rattle.lower.proofs.Ends.{Scene, Does, does_then, does_alone, does_value}
 use Rattle.lower.proofs.Elements.{Begins, few_listed, list_fits, few_emitted, store_does}
 use Rattle.memory_map.specs.MemoryMap.{MemoryMap, TaskPlace, word_place}
-use Rattle.memory_map.specs.declared.words.RuntimeWord.TheVariants.{EmitCount, Version}
+use Rattle.memory_map.specs.declared.words.RuntimeWord.TheVariants.{ListLength, EmitCount, Version}
 use Rattle.memory_map.specs.declared.place.VariablePlace.{VariablePlace}
 use Rattle.memory_map.proofs.Interface.{word_even}
 use Rattle.memory_map.specs.Spots.{address_of, Element, scalar}
@@ -172,7 +173,10 @@ module _ (z : Scene) where
   transition_does : (task : ℕ) (m : Attempt) (listed : List Element) (w : WordState) (n : ℕ) (count most : ℕ → ℕ) → Begins z m listed w n count most
       → Does z w.fram most w.stack (behaviour (lowered_transition z.p task) w) (to_task task m)
   transition_does task m listed w n count most h =
-      let b = transition_behaves z.p z.room task (length listed) w z.apart z.even h.stands.list.list_length (list_fits z m listed w n count most h) in
+      let entries = few_entries z.p listed w.fram h.stands.list in
+      let runs = runs_are_few z.p.privates in
+      let fits = list_fits z m listed w n count most h in
+      let b = transition_behaves z.p z.room task (w.fram (word_place z.p.map ListLength)) w z.apart z.even refl (omega (arith, entries, runs, fits)) in
       let P : Behaviour → Type 0 = λ b. Does z w.fram most w.stack b (to_task task m) in
       subst P (sym b.1) (record {
         body = [];

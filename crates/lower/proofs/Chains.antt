@@ -1,5 +1,5 @@
 -- Programs one behind another, and those of lists from one item on.
-use Rattle.std.proofs.Common.{◌≡◌, ℕ, suc, ◌+◌, ◌<◌, ◌≤◌, List, [], ◌∷◌, ◌++◌, length, get_or, drop, refl, sym, ap, ◌∙◌, drop-cons, add-one}
+use Rattle.std.proofs.Common.{◌≡◌, ℕ, suc, ◌+◌, ◌<◌, ◌≤◌, List, [], ◌∷◌, ◌++◌, length, get_or, drop, true, false, refl, sym, ap, ◌∙◌, drop-cons, add-one, if◌then◌else◌}
 use Rattle.std.proofs.lemmas.List.{drop_all}
 use Rattle.task_ast.specs.View.{statement_of, block_view}
 use Rattle.task_ast.specs.declared.Stmt.{Stmt}
@@ -9,6 +9,8 @@ use Rattle.array_versions.specs.declared.program.WordStep.{WordStep}
 use Rattle.array_versions.specs.Program.{Program, list_entry, step, nothing, joined, behind}
 use Rattle.array_versions.specs.View.{step_of, steps_of}
 use Rattle.array_versions.proofs.Interface.{joined_assoc, joined_nothing}
+use Rattle.lower.specs.declared.runs.Run.{Run}
+use Rattle.lower.specs.Runs.{run_at, is_followed_by, runs_from}
 use Rattle.lower.specs.Lowered.{entries, lowered_statement, lowered_block}
 use Rattle.memory_map.specs.declared.place.PrivateScalar.{PrivateScalar}
 use Rattle.memory_map.specs.Spots.{Places}
@@ -17,18 +19,37 @@ pub steps_of_joined : (a b : List WordStep) → steps_of (a ++ b) ≡ joined (st
 steps_of_joined [] b = refl
 steps_of_joined (w ∷ a) b = ap (step (step_of w)) (steps_of_joined a b)
 
--- the entries from one scalar on, as its own and those behind it
-pub entries_step : (count list : ℕ) (privates : List PrivateScalar) (i : ℕ) (d : PrivateScalar) (p : Program) → i < length privates
-    → joined (behind p (list_entry count list (get_or privates i d).home (get_or privates i d).copy)) (entries count list (drop (i + 1) privates)) ≡ joined p (entries count list (drop i privates))
-entries_step count list privates i d p h =
+-- a scalar that follows a run belongs to it
+pub entries_joined : (count list : ℕ) (r : Run) (privates : List PrivateScalar) (i : ℕ) (d : PrivateScalar) → i < length privates
+    → is_followed_by r (get_or privates i d) ≡ true
+    → entries count list (runs_from (record r { words = r.words + 1 }) (drop (i + 1) privates)) ≡ entries count list (runs_from r (drop i privates))
+entries_joined count list r privates i d h e =
     let s = get_or privates i d in
-    joined_assoc p (step (list_entry count list s.home s.copy) nothing) (entries count list (drop (i + 1) privates))
-    ∙ ap (λ j. joined p (step (list_entry count list s.home s.copy) (entries count list (drop j privates)))) (add-one i)
-    ∙ sym (ap (λ l. joined p (entries count list l)) (drop-cons privates i d h))
+    let longer : Run = record r { words = r.words + 1 } in
+    let rest = drop (suc i) privates in
+    ap (λ j. entries count list (runs_from longer (drop j privates))) (add-one i)
+    ∙ ap (λ b. entries count list (if b then runs_from longer rest else r ∷ runs_from (run_at s) rest)) (sym e)
+    ∙ sym (ap (λ l. entries count list (runs_from r l)) (drop-cons privates i d h))
 
--- none are left
-pub entries_end : (count list : ℕ) (privates : List PrivateScalar) (i : ℕ) (p : Program) → length privates ≤ i → joined p (entries count list (drop i privates)) ≡ p
-entries_end count list privates i p h = ap (λ l. joined p (entries count list l)) (drop_all i privates h) ∙ joined_nothing p
+-- another one begins a run
+pub entries_apart : (count list : ℕ) (r : Run) (privates : List PrivateScalar) (i : ℕ) (d : PrivateScalar) (p : Program) → i < length privates
+    → is_followed_by r (get_or privates i d) ≡ false
+    → joined (behind p (list_entry count list r.home r.copy r.words)) (entries count list (runs_from (run_at (get_or privates i d)) (drop (i + 1) privates)))
+    ≡ joined p (entries count list (runs_from r (drop i privates)))
+entries_apart count list r privates i d p h e =
+    let s = get_or privates i d in
+    let longer : Run = record r { words = r.words + 1 } in
+    let one = list_entry count list r.home r.copy r.words in
+    let rest = drop (suc i) privates in
+    joined_assoc p (step one nothing) (entries count list (runs_from (run_at s) (drop (i + 1) privates)))
+    ∙ ap (λ j. joined p (step one (entries count list (runs_from (run_at s) (drop j privates))))) (add-one i)
+    ∙ ap (λ b. joined p (entries count list (if b then runs_from longer rest else r ∷ runs_from (run_at s) rest))) (sym e)
+    ∙ sym (ap (λ l. joined p (entries count list (runs_from r l))) (drop-cons privates i d h))
+
+-- behind the last one
+pub entries_end : (count list : ℕ) (r : Run) (privates : List PrivateScalar) (i : ℕ) (p : Program) → length privates ≤ i
+    → behind p (list_entry count list r.home r.copy r.words) ≡ joined p (entries count list (runs_from r (drop i privates)))
+entries_end count list r privates i p h = sym (ap (λ l. joined p (entries count list (runs_from r l))) (drop_all i privates h))
 
 -- the statements from one on, as its own program and that of those behind it
 pub block_step : (p : Places) (body : List (Stmt VariableName TaskName)) (i : ℕ) (s : Stmt VariableName TaskName) (q : Program) → i < length body → s ≡ get_or body i s

@@ -8,7 +8,9 @@ use Rattle.task_ast.specs.declared.names.Variable.TheVariants.{Shared, Local}
 use Rattle.cost_bound.specs.Table.{cycles_column, expression_price, statement_price, conditions_price, blocks_price, block_price}
 use Rattle.memory_map.specs.MemoryMap.{word_place}
 use Rattle.memory_map.specs.declared.words.RuntimeWord.TheVariants.{NextTask, Gate, ListLength, EmitCount, Base, SentBase}
-use Rattle.memory_map.specs.declared.place.PrivateScalar.{PrivateScalar}
+use Rattle.lower.specs.declared.runs.Run.{Run}
+use Rattle.lower.specs.Runs.{runs_of}
+use Rattle.lower.proofs.Neighbours.{runs_are_few}
 use Rattle.array_versions.specs.Program.{Step, Program, choose, repeat, emit_word, store_number, move_word, jump, nothing, step, joined}
 use Rattle.array_versions.specs.Behaviour.{WordState, End, GoesOn, Jumps, Short, Strays, Broken, Behaviour, behaves, broken, on_end, then_on, is_place, goes_on, strays, with_stack, with_top, chosen, with_local, turns, step_behaviour, behaviour}
 use Rattle.array_versions.specs.Cost.{step_cycles, cycles_of, spent_on, way_spent, turns_spent, step_spent, spent}
@@ -32,7 +34,7 @@ Leaves Short = ⊥
 Leaves Strays = Unit {0}
 Leaves Broken = Unit {0}
 
-leaves_pay : (p : Places) (e : End) (n most : ℕ) → Leaves e → n ≤ most + 21 * length p.privates → Within p most e n
+leaves_pay : (p : Places) (e : End) (n most : ℕ) → Leaves e → n ≤ most + 26 * length p.privates → Within p most e n
 leaves_pay p (GoesOn s) n most l h = absurd l
 leaves_pay p (Jumps to s) n most l h = h
 leaves_pay p Short n most l h = absurd l
@@ -44,14 +46,15 @@ placed_leaves : (c : Bool) (b : Behaviour) (next : WordState → Behaviour) → 
 placed_leaves true b next h = h
 placed_leaves false b next h = tt
 
-entries_leave : (count list : ℕ) (privates : List PrivateScalar) (q : Program) → ((s : WordState) → Leaves (behaviour q s).end) → (s : WordState) → Leaves (behaviour (joined (entries count list privates) q) s).end
+entries_leave : (count list : ℕ) (runs : List Run) (q : Program) → ((s : WordState) → Leaves (behaviour q s).end) → (s : WordState)
+    → Leaves (behaviour (joined (entries count list runs) q) s).end
 entries_leave count list [] q h s = h s
 entries_leave count list (x ∷ more) q h s =
-    let n = s.fram count in
-    let a = 4 * n + list in
+    let a = 6 * s.fram count + list in
     let next = behaviour (joined (entries count list more) q) in
     let b = goes_on _ _ in
-    placed_leaves (is_place count) _ next (placed_leaves (is_place a) _ next (placed_leaves (is_place (a + 2)) b next (entries_leave count list more q h _)))
+    placed_leaves (is_place count) _ next (placed_leaves (is_place a) _ next (placed_leaves (is_place (a + 2)) _ next
+    (placed_leaves (is_place (a + 4)) b next (entries_leave count list more q h _))))
 
 jumped_leaves : (even : Bool) (to : ℕ) (s : WordState) → Leaves (then_on (if even then behaves [] (Jumps to s) else broken) (behaviour nothing)).end
 jumped_leaves true to s = tt
@@ -74,21 +77,24 @@ closing p = step (move_word (word_place p.map Base) (word_place p.map SentBase))
 transition_leaves : (p : Places) (task : ℕ) (s : WordState) → Leaves (behaviour (lowered_transition p task) s).end
 transition_leaves p task s =
     let gated = step (store_number (word_place p.map Gate) 1) (one (jump p.map.commit.address)) in
-    let tail = joined (entries (word_place p.map ListLength) p.map.list.address p.privates) (closing p) in
-    stored_leaves (word_place p.map NextTask) (task % 65536) tail (entries_leave (word_place p.map ListLength) p.map.list.address p.privates (closing p)
+    let tail = joined (entries (word_place p.map ListLength) p.map.list.address (runs_of p.privates)) (closing p) in
+    stored_leaves (word_place p.map NextTask) (task % 65536) tail
+    (entries_leave (word_place p.map ListLength) p.map.list.address (runs_of p.privates) (closing p)
     (moved_leaves (word_place p.map Base) (word_place p.map SentBase) gated
     (stored_leaves (word_place p.map Gate) 1 (one (jump p.map.commit.address)) (jump_leaves p.map.commit.address)))) s
 
-entries_cycles : (count list : ℕ) (privates : List PrivateScalar) → cycles_of (entries count list privates) ≡ 21 * length privates
+entries_cycles : (count list : ℕ) (runs : List Run) → cycles_of (entries count list runs) ≡ 26 * length runs
 entries_cycles count list [] = refl
 entries_cycles count list (x ∷ more) = let l = entries_cycles count list more in omega (arith, l)
 
 transition_spends : (p : Places) (task : ℕ) (s : WordState) → Within p 100 (behaviour (lowered_transition p task) s).end (spent (lowered_transition p task) s)
 transition_spends p task s =
-    let a = entries_cycles (word_place p.map ListLength) p.map.list.address p.privates in
-    let l = joined_cycles (entries (word_place p.map ListLength) p.map.list.address p.privates) (closing p) in
+    let a = entries_cycles (word_place p.map ListLength) p.map.list.address (runs_of p.privates) in
+    let few = runs_are_few p.privates in
+    let l = joined_cycles (entries (word_place p.map ListLength) p.map.list.address (runs_of p.privates)) (closing p) in
     let k = ways_keep_to_cycles (lowered_transition p task) s in
-    leaves_pay p (behaviour (lowered_transition p task) s).end (spent (lowered_transition p task) s) 100 (transition_leaves p task s) (omega (arith, a, l, k))
+    leaves_pay p (behaviour (lowered_transition p task) s).end (spent (lowered_transition p task) s) 100 (transition_leaves p task s)
+    (omega (arith, a, few, l, k))
 
 -- ---- parts one behind the other
 
@@ -156,7 +162,7 @@ store_cycles p x index e =
     let m = joined_cycles (joined (lowered_expression p index) (lowered_expression p e)) (one (store_step p x)) in
     omega (arith, l, m, step_price x, expression_cycles p index, expression_cycles p e)
   where
-    step_price : (x : Variable) → step_cycles (store_step p x) ≤ 49
+    step_price : (x : Variable) → step_cycles (store_step p x) ≤ 79
     step_price (Shared v) = omega arith
     step_price (Local n) = omega arith
 

@@ -1,28 +1,32 @@
 -- A store to an element, as the step of a task.
-use Rattle.std.proofs.Common.{◌≡◌, ℕ, ◌+◌, ◌*◌, ◌==◌, ◌<◌, ◌≤◌, List, [], ◌∷◌, ◌++◌, length, get_or, Option, Some, Contains, true, refl, sym, ap, ◌∙◌, subst, arith, inl, inr, ⊎_elim, length-append, if◌then◌else◌}
+use Rattle.std.proofs.Common.{◌≡◌, ℕ, ◌+◌, ◌*◌, ◌==◌, ◌<◌, ◌≤◌, List, [], ◌∷◌, ◌++◌, length, map, get_or, Option, Some, Contains, true, refl, sym, ap, ◌∙◌, subst, arith, ⊎_elim, length-append, append-nil, if◌then◌else◌}
 use Rattle.std.proofs.lemmas.Bool.{cases_eq, cases_lt}
-use Rattle.array_versions.specs.fram_board.Effects.{Store}
+use Rattle.std.proofs.lemmas.List.{length-map}
+use Rattle.std.proofs.lemmas.List.Elements.{All-same}
+use Rattle.array_versions.specs.fram_board.Effects.{Effect, Store}
 use Rattle.array_versions.specs.machine_effects.World.{put}
 use Rattle.array_versions.proofs.machine_effects.Interface.{put_other}
 use Rattle.task_ast.specs.declared.names.Variable.TheVariants.{Shared}
 use Rattle.source_values.specs.Values.{Variables, with_word}
 use Rattle.source_values.specs.Statements.{Attempt, goes_on}
-use Rattle.array_versions.specs.Behaviour.{WordState, Behaviour, then_on, is_place, versioned_stored, behaviour}
+use Rattle.array_versions.specs.Behaviour.{WordState, Behaviour, goes_on as going_on, then_on, is_place, word_listed, versioned_stored, behaviour}
 use Rattle.array_versions.specs.Program.{nothing}
 use Rattle.array_versions.specs.declared.program.ArrayPlace.{ArrayPlace}
 use Rattle.memory_map.specs.MemoryMap.{word_place}
-use Rattle.memory_map.specs.declared.words.RuntimeWord.TheVariants.{ListLength, Version}
+use Rattle.memory_map.specs.declared.words.RuntimeWord.TheVariants.{Version}
 use Rattle.memory_map.specs.declared.place.ArrayCopies.{ArrayCopies}
 use Rattle.memory_map.specs.declared.place.VariablePlace.TheVariants.{Array}
 use Rattle.memory_map.proofs.Interface.{word_even}
 use Rattle.memory_map.specs.Spots.{Places, IsArrayAt, Element, IsCopied, element, copy, version, element_address, copy_address, version_address}
 use Rattle.lower.specs.Lowered.{array_place, list_place}
 use Rattle.lower.specs.Spots.{listed_of}
-use Rattle.lower.specs.Agreement.{at_copy, at_version, in_list, at_list_length, HoldVariables, StandsFor, WentOn}
+use Rattle.lower.specs.Agreement.{element_pair, at_copy, at_version, HoldVariables, StandsFor, WentOn}
 use Rattle.lower.proofs.Addresses.{fram_place, spot_place, element_is, copy_is, version_is, has_element}
 use Rattle.lower.proofs.Stored.{word_past, set_holds, same_list, same_emits, spot_emits}
-use Rattle.lower.proofs.Transitions.{even_at, even_behind}
-use Rattle.lower.proofs.Versioned.{stores_again, stores_first, stores_nothing, after_first, first_effects, element_set, again_stored, again_list, first_stored_at, first_emits, first_list, pushed_of, push_listed}
+use Rattle.lower.proofs.Lists.{HasNext, lists_word}
+use Rattle.runtime_effects.specs.Places.{CopyPair}
+use Rattle.lower.proofs.Versioned.{stores_again, stores_first, stores_nothing, element_set, again_stored, again_list, after_mark, mark_keeps_pairs}
+use Rattle.lower.proofs.Versioned.{mark_keeps_words, elements_have_next, first_stored_at, first_emits, first_list, pushed_of, push_listed}
 use Rattle.lower.proofs.Ends.{Scene, bounds, Does}
 
 -- what is asked where statements begin that emit and list so much: the state stands for the attempt, and there is room
@@ -147,7 +151,6 @@ module _ (z : Scene) (n i v elements len : ℕ) (c : ArrayCopies) (w : WordState
       let f = w.fram in
       let apart = z.apart in
       let list = list_place p in
-      let k = length listed in
       let is = is_copied l in
       let fresh : Contains listed x → ⊥ = λ d. unmarked (sym (h.stands.list.marked x d)) in
       let fits = one_more is fresh in
@@ -156,42 +159,46 @@ module _ (z : Scene) (n i v elements len : ℕ) (c : ArrayCopies) (w : WordState
       let at_e = element_is p x elements len (Some c) at in
       let Behind : ℕ → Type 0 = λ a. p.map.emits.address + 2 * z.room.emits ≤ a in
       let far_c = subst Behind at_c (apart.spots (copy x) is) in
-      let far_n = subst Behind at_n (apart.spots (version x) is) in
       let kept : put f (2 * i + c.copies) v (word_place p.map Version) ≡ f (word_place p.map Version) =
       put_other f (2 * i + c.copies) v (word_place p.map Version) (λ e. omega (arith, e, far_c, apart)) in
       let mark : put f (2 * i + c.copies) v (2 * i + c.versions) ≡ f (version_address p x) =
       sym (ap (put f (2 * i + c.copies) v) at_n) ∙ sym (ap (λ a. put f a v (version_address p x)) at_c)
       ∙ put_other f (copy_address p x) v (version_address p x) (λ e. let d = apart.distinct (version x) (copy x) is is e in cc) in
-      let counted : put (put f (2 * i + c.copies) v) (2 * i + c.versions) (f (word_place p.map Version)) (word_place p.map ListLength) ≡ k =
-      put_other (put f (2 * i + c.copies) v) (2 * i + c.versions) (f (word_place p.map Version)) (word_place p.map ListLength)
-      (λ e. omega (arith, e, far_n, apart))
-      ∙ put_other f (2 * i + c.copies) v (word_place p.map ListLength) (λ e. omega (arith, e, far_c, apart)) ∙ h.stands.list.list_length in
-      let here_length = fram_place (word_place p.map ListLength) (word_even z.p.map ListLength z.even.row) (omega (arith, apart)) (omega (arith, apart)) in
-      let here_home = fram_place (4 * k + p.map.list.address) (even_at k p.map.list.address z.even.list) (omega (arith, apart)) (omega (arith, apart, fits)) in
-      let here_entry = fram_place (4 * k + p.map.list.address + 2) (even_behind k p.map.list.address z.even.list) (omega (arith, apart))
-      (omega (arith, apart, fits)) in
-      let P : ℕ → ℕ → ℕ → Type 0 = λ a b d. WentOn p (bounds z f most) w.stack (first_effects list k a b d v f)
-      (record w { fram = after_first list k a b d v f; readings = left }) after in
-      let went : P (copy_address p x) (version_address p x) (element_address p x) = record {
-        stores = (
-          at_copy x is refl,
-          (at_version x is refl h.number, (in_list k fits (inl refl), (in_list k fits (inr refl), (at_list_length refl (omega (arith, fits)), tt)))),
-        );
+      let w2 : WordState = record from { fram = after_mark p x v f } in
+      let shorter : length listed ≤ z.room.list = omega (arith, fits) in
+      let pairs = mark_keeps_pairs p z.room listed x v f apart is shorter h.stands.list in
+      let names = ap (length {A = CopyPair}) pairs in
+      let mapped = length-map listed (element_pair p) in
+      let lists = lists_word p z.written z.room z.ver (element_address p x) (copy_address p x) w2 apart z.even (omega (arith, names, mapped, fits))
+      (mark_keeps_words p z.room listed x v f apart is shorter h.stands.list)
+      (All-same HasNext _ (map (element_pair p) listed) pairs (elements_have_next p z.room listed apart h.stands.list.are_listed.copied)) in
+      let g = lists.memory in
+      let now = first_stored_at p z.room x v f g apart is lists.elsewhere in
+      let here : ℕ → ℕ → ℕ → Type 0 = λ a b d.
+      word_listed list d a (record from { fram = put (put f a v) b (f (word_place p.map Version)) }) ≡ going_on lists.effects (record from { fram = g }) in
+      let does : here (2 * i + c.copies) (2 * i + c.versions) (2 * i + elements) =
+      subst (λ d. here (2 * i + c.copies) (2 * i + c.versions) d) at_e
+      (subst (λ b. here (2 * i + c.copies) b (element_address p x)) at_n (subst (λ a. here a (version_address p x) (element_address p x)) at_c lists.does)) in
+      let P : List Effect → ℕ → ℕ → Type 0 = λ es a b. WentOn p (bounds z f most) w.stack (Store a v ∷ Store b (f (word_place p.map Version)) ∷ es)
+      (record w { fram = g; readings = left }) after in
+      let went : P lists.effects (copy_address p x) (version_address p x) = record {
+        stores = (at_copy x is refl, (at_version x is refl h.number, lists.stores));
         stack_kept = refl;
         listed = listed ++ x ∷ [];
         stands = record {
-          variables = element_set p z.room x v m.variables f _ w.locals is (first_stored_at p z.room k x v f apart is fits) h.stands.variables;
-          emitted = same_emits p z.room m.emitted f _ (few_emitted z m listed w 0 (λ u. if n == u then 1 else 0) most h)
-              (first_emits p z.room k x v f apart is fits) h.stands.emitted;
-          list = first_list p z.room listed x v f apart is fits unmarked h.stands.list;
+          variables = element_set p z.room x v m.variables f g w.locals is now h.stands.variables;
+          emitted = same_emits p z.room m.emitted f g (few_emitted z m listed w 0 (λ u. if n == u then 1 else 0) most h)
+              (first_emits p z.room x v f g apart is lists.elsewhere) h.stands.emitted;
+          list = first_list p z.room listed x v f g apart is fits unmarked h.stands.list now
+              (lists.pairs ∙ ap (λ l. l ++ element_pair p x ∷ []) pairs) lists.have;
           readings = refl;
         };
         few = λ u. subst (λ a. a ≤ most u) (sym (pushed_of u listed x)) (h.lists u);
       } in
-      subst Result (sym (stores_first place list i v k from l (here_copy l) here_number (here_version l) (here_element l) here_length here_home here_entry
-      (λ e. unmarked (sym kept ∙ e ∙ mark)) kept counted))
-      (subst (λ a. P (2 * i + c.copies) (2 * i + c.versions) a) at_e (subst (λ a. P (2 * i + c.copies) a (element_address p x)) at_n
-      (subst (λ a. P a (version_address p x) (element_address p x)) at_c went)))
+      subst Result (sym (stores_first place list i v from lists.effects g l (here_copy l) here_number (here_version l) (here_element l)
+      (λ e. unmarked (sym kept ∙ e ∙ mark)) kept does))
+      (subst (λ b. P (lists.effects ++ []) (2 * i + c.copies) b) at_n (subst (λ a. P (lists.effects ++ []) a (version_address p x)) at_c
+      (subst (λ es. P es (copy_address p x) (version_address p x)) (sym (append-nil lists.effects)) went)))
 
   pub store_does : Result (versioned_stored place (list_place z.p) i v from)
   store_does = ⊎_elim (λ l. ⊎_elim (again l) (first l) (cases_eq (w.fram (word_place z.p.map Version)) (w.fram (version_address z.p x)))) past (cases_lt i len)

@@ -1,5 +1,5 @@
 -- Statements emit no more words than they count.
-use Rattle.std.proofs.Common.{ℕ, ◌+◌, ◌≤◌, List, length}
+use Rattle.std.proofs.Common.{ℕ, ◌+◌, ◌≤◌, length}
 use Rattle.task_ast.specs.Paths.{CheckedStatement, CheckedBlock}
 use Rattle.source_values.specs.Statements.{Attempt, Outcome, goes_on, to_task, short, run_statement, run_block, statement_emits, block_emits}
 use Rattle.source_values.proofs.Interface.{EmitsUpTo, statement_up_to, block_up_to}

@@ -1,5 +1,5 @@
 -- Programs and statements one behind another: the ends of both agree where each step's do.
-use Rattle.std.proofs.Common.{◌≡◌, ℕ, ◌<◌, ◌≤◌, List, [], ◌∷◌, ◌++◌, length, Option, Some, None, Bool, refl, sym, ap, ◌∙◌, subst, arith, append_assoc, append-nil, ⊎_elim}
+use Rattle.std.proofs.Common.{◌≡◌, ℕ, ◌<◌, ◌≤◌, List, [], ◌∷◌, ◌++◌, length, Option, Some, None, Bool, refl, sym, ap, ◌∙◌, subst, arith, append_assoc, append-nil}
 use Rattle.memory_map.specs.MemoryMap.{word_place}
 use Rattle.memory_map.specs.declared.words.RuntimeWord.TheVariants.{ListLength, EmitCount, Base, Version}
 use Rattle.array_versions.specs.fram_board.Effects.{Effect, Store, Take, Send}
@@ -53,8 +53,7 @@ store_elsewhere : (p : Places) (written : ℕ → Bool) (room : Room) (ver a b w
 store_elsewhere p written room ver a b w apart kept (at_variable v is ok e) d = let low = apart.spots (scalar v) is in omega (arith, d, e, low, kept, apart)
 store_elsewhere p written room ver a b w apart kept (at_copy x is e) d = let low = apart.spots (copy x) is in omega (arith, d, e, low, kept, apart)
 store_elsewhere p written room ver a b w apart kept (at_version x is e f) d = let low = apart.spots (version x) is in omega (arith, d, e, low, kept, apart)
-store_elsewhere p written room ver a b w apart kept (in_list i few e) d =
-    ⊎_elim (λ f. omega (arith, d, f, kept)) (λ f. omega (arith, d, f, kept)) e
+store_elsewhere p written room ver a b w apart kept (in_list from to) d = omega (arith, d, from, kept)
 store_elsewhere p written room ver a b w apart kept (at_list_length e few) d = kept.not_length (d ∙ e)
 store_elsewhere p written room ver a b w apart kept (at_emit_count e few) d = kept.not_count (d ∙ e)
 store_elsewhere p written room ver a b w apart kept (in_buffer i few e) d = omega (arith, d, e, kept, apart)

@@ -2,9 +2,15 @@
 
 -- The program of an expression leaves its value.
 pub use Rattle.lower.proofs.Values.{takes_append, small_modulo}
+-- What an entry more of the commit list leaves, and that no run is without a word.
+pub use Rattle.lower.proofs.Transitions.{after_entry}
+pub use Rattle.lower.proofs.Lists.{entered_pairs}
+pub use Rattle.lower.proofs.Stored.{few_entries}
 -- The program of statements does what they do.
 pub use Rattle.lower.proofs.Blocks.{blocks_agree, program_at}
 -- The words of a task's code, and the cycles of its expressions, are within the allowance of a source.
 pub use Rattle.lower.proofs.Sizes.{blocks_keep_to_words}
+-- Private scalars as runs: no more runs than scalars, the same words.
+pub use Rattle.lower.proofs.Neighbours.{RunOfWords, runs_of_words, pairs_of_run, pairs_of_runs, scalar_pair, runs_pairs, runs_have_words, runs_are_few}
 -- What tasks spend along the way that they take, against the allowance of a source: the entries of the private scalars are paid for once, at
 pub use Rattle.lower.proofs.Costs.{blocks_keep_to_cycles}

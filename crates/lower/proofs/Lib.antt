@@ -1,8 +1,10 @@
+mod Neighbours
 mod Addresses
 mod Values
 mod Emitted
 mod Stored
 mod Transitions
+mod Lists
 mod Versioned
 mod Ends
 mod Elements

@@ -1,5 +1,6 @@
 -- The words of a task's code, and the cycles of its expressions, are within the allowance of a source.
-use Rattle.std.proofs.Common.{◌≡◌, ℕ, ◌+◌, ◌*◌, ◌≤◌, List, [], ◌∷◌, length, Option, Some, None, slice_get, refl, arith}
+use Rattle.std.proofs.Common.{◌≡◌, ℕ, suc, ◌+◌, ◌*◌, ◌<◌, ◌≤◌, ◌==◌, Bool, true, false, List, [], ◌∷◌, length, Option, Some, None, slice_get, refl, arith, if◌then◌else◌}
+use Rattle.std.proofs.lemmas.Bool.Decides.{nat_tests}
 use Rattle.task_ast.specs.Tree as t
 use Rattle.task_ast.specs.Paths.{CheckedExpression, CheckedStatement, CheckedChoice, CheckedBlock}
 use Rattle.task_ast.specs.declared.WordType.{WordType}
@@ -16,7 +17,7 @@ use Rattle.source_values.specs.Values.{joined_type, type_of}
 use Rattle.cost_bound.specs.Table.{cycles_column, words_column, operator_price, expression_price, statement_price, conditions_price, blocks_price, block_price}
 use Rattle.array_versions.specs.declared.operations.UnaryOperation.TheVariants.{Truth}
 use Rattle.array_versions.specs.Program.{Program, unary, binary, shift, choose, emit_word, store_number, move_word, jump, step, joined}
-use Rattle.array_versions.specs.Cost.{unary_cycles, binary_cycles, step_cycles, cycles_of, step_words, words_of}
+use Rattle.array_versions.specs.Cost.{unary_cycles, binary_cycles, step_cycles, cycles_of, entry_words, step_words, words_of}
 use Rattle.array_versions.proofs.Interface.{joined_cycles, joined_words, steps_keep_to_words}
 use Rattle.memory_map.specs.MemoryMap.{word_place}
 use Rattle.memory_map.specs.declared.words.RuntimeWord.TheVariants.{Gate, ListLength, EmitCount, Base, SentBase}
@@ -24,6 +25,8 @@ use Rattle.memory_map.specs.declared.place.VariablePlace.{VariablePlace}
 use Rattle.memory_map.specs.declared.place.VariablePlace.TheVariants.{Scalar, Array}
 use Rattle.memory_map.specs.declared.place.PrivateScalar.{PrivateScalar}
 use Rattle.memory_map.specs.Spots.{Places}
+use Rattle.lower.specs.declared.runs.Run.{Run}
+use Rattle.lower.specs.Runs.{run_at, is_followed_by, runs_from, runs_of}
 use Rattle.lower.specs.Operations.{unary_operation, binary_operation, shift_operation}
 use Rattle.lower.specs.Sizes.{BlocksKeepToWords}
 use Rattle.lower.specs.Lowered.{one, read_step, write_step, element_read, element_step, store_step, lowered_choice_of_sides, evaluated_side, assignment, element_assignment, entries, lowered_transition, lowered_expression, lowered_statement, lowered_choice, lowered_block}
@@ -88,16 +91,41 @@ expression_words p s (t.short_circuit op a b) =
     let l = joined_words (lowered_expression p a) (one (lowered_choice_of_sides op right)) in
     omega (arith, k, r, l, expression_words p s a, expression_words p s b)
 
-entries_words : (count list : ℕ) (privates : List PrivateScalar) → words_of (entries count list privates) ≡ 14 * length privates
-entries_words count list [] = refl
-entries_words count list (x ∷ more) = let l = entries_words count list more in omega (arith, l)
+-- an entry has no more than the words of its scalars
+one_entry : (words : ℕ) → 0 < words → entry_words words ≤ 16 * words
+one_entry words some = by (words == 1) refl
+  where
+    by : (b : Bool) → (words == 1) ≡ b → (if b then 16 else 17) ≤ 16 * words
+    by true e = omega (arith, some)
+    by false e = let more : 2 ≤ words = grind (arith, nat_tests) in omega (arith, more)
+
+-- the entries of a run and of those behind it
+abbrev FromRun : ℕ → ℕ → Run → List PrivateScalar → Type 0
+FromRun count list r privates = words_of (entries count list (runs_from r privates)) ≤ 16 * (r.words + length privates)
+
+either_entry : (count list : ℕ) (b : Bool) (r : Run) (s : PrivateScalar) (more : List PrivateScalar) → 0 < r.words
+    → FromRun count list (record r { words = r.words + 1 }) more → FromRun count list (run_at s) more
+    → words_of (entries count list (if b then runs_from (record r { words = r.words + 1 }) more else r ∷ runs_from (run_at s) more))
+    ≤ 16 * (r.words + suc (length more))
+either_entry count list true r s more some joined apart = omega (arith, joined)
+either_entry count list false r s more some joined apart = let one = one_entry r.words some in omega (arith, one, apart)
+
+entries_from_run : (count list : ℕ) (r : Run) (privates : List PrivateScalar) → 0 < r.words → FromRun count list r privates
+entries_from_run count list r [] some = let one = one_entry r.words some in omega (arith, one)
+entries_from_run count list r (s ∷ more) some =
+    either_entry count list (is_followed_by r s) r s more some (entries_from_run count list (record r { words = r.words + 1 }) more (omega arith))
+    (entries_from_run count list (run_at s) more (omega arith))
+
+entries_words : (count list : ℕ) (privates : List PrivateScalar) → words_of (entries count list (runs_of privates)) ≤ 16 * length privates
+entries_words count list [] = omega arith
+entries_words count list (s ∷ more) = let rest = entries_from_run count list (run_at s) more (omega arith) in omega (arith, rest)
 
 transition_words : (p : Places) (s task : ℕ) → length p.privates ≤ s → words_of (lowered_transition p task) ≤ 40 + 16 * s
 transition_words p s task few =
     let a = entries_words (word_place p.map ListLength) p.map.list.address p.privates in
     let close : Program = step (move_word (word_place p.map Base) (word_place p.map SentBase))
     (step (store_number (word_place p.map Gate) 1) (one (jump p.map.commit.address))) in
-    let l = joined_words (entries (word_place p.map ListLength) p.map.list.address p.privates) close in
+    let l = joined_words (entries (word_place p.map ListLength) p.map.list.address (runs_of p.privates)) close in
     omega (arith, a, l, few)
 
 assignment_words : (p : Places) (s : ℕ) (x : Variable) (e : CheckedExpression) → words_of (assignment p x e) ≤ 24 + expression_price (words_column s) e
@@ -106,7 +134,7 @@ assignment_words p s x e =
     let l = joined_words (lowered_expression p e) (one (write_step p x)) in
     omega (arith, a, l, expression_words p s e)
 
-store_words : (p : Places) (x : Variable) → step_words (store_step p x) ≡ 32
+store_words : (p : Places) (x : Variable) → step_words (store_step p x) ≡ 59
 store_words p (Shared v) = refl
 store_words p (Local n) = refl
 

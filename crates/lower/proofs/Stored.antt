@@ -2,7 +2,9 @@
 use Rattle.std.proofs.Common.{◌≡◌, ℕ, ◌+◌, ◌*◌, ◌%◌, ◌==◌, ◌<◌, ◌≤◌, List, [], ◌∷◌, ◌++◌, length, get_or, slice_set, slice_get, Option, Some, None, Contains, All, refl, sym, ap, ◌∙◌, subst, arith, eq-eqb, ne_eqb, ⊎_elim, length-append, if◌then◌else◌}
 use Rattle.std.proofs.lemmas.Bool.{cases_eq}
 use Rattle.std.proofs.lemmas.List.{get_or-set_same, get_or-set_other, length-set, get_or_append_left, get_or_past}
-use Rattle.std.proofs.lemmas.Option.{slice_get_within}
+use Rattle.std.proofs.lemmas.List.{length-map}
+use Rattle.runtime_effects.specs.Places.{CopyPair, entries_from}
+use Rattle.runtime_effects.proofs.Interface.{entries_alike, entries_are_few}
 use Rattle.std.proofs.Math.Seq.{get_or-append_seam}
 use Rattle.array_versions.specs.machine_effects.World.{put}
 use Rattle.array_versions.proofs.machine_effects.Interface.{put_at, put_other}
@@ -10,7 +12,7 @@ use Rattle.task_ast.specs.declared.names.Variable.TheVariants.{Shared, Local}
 use Rattle.source_values.specs.Values.{Variables, word_at, with_word}
 use Rattle.array_versions.specs.Behaviour.{assigned}
 use Rattle.lower.specs.Spots.{Room, AreApart}
-use Rattle.lower.specs.Agreement.{own_word, HoldVariables, HoldEmits, HoldList}
+use Rattle.lower.specs.Agreement.{own_word, HoldVariables, HoldEmits, element_pair, HoldList}
 use Rattle.lower.proofs.Addresses.{element_is, copy_is, version_is, no_scalar}
 use Rattle.lower.proofs.Values.{small_modulo}
 use Rattle.memory_map.specs.MemoryMap.{word_place}
@@ -126,22 +128,36 @@ same_variables p m f g locals k h = record {
 pub record ListStays (p : Places) (room : Room) (f g : ℕ → ℕ) : Type 0 where
   pub version : g (word_place p.map Version) ≡ f (word_place p.map Version)
   pub list_length : g (word_place p.map ListLength) ≡ f (word_place p.map ListLength)
-  pub entries : (a : ℕ) → p.map.list.address ≤ a → a + 2 ≤ p.map.list.address + 4 * room.list → g a ≡ f a
+  pub entries : (a : ℕ) → p.map.list.address ≤ a → a < p.map.list.address + 6 * room.list → g a ≡ f a
   pub marks : (x : Element) → IsCopied p x → g (version_address p x) ≡ f (version_address p x)
 
 pub all_of : (P : Element → Type 0) (xs : List Element) (x : Element) → All P xs → Contains xs x → P x
 all_of P xs x h k = subst P k.2 (h k.0 x k.1)
 
+-- there are no more entries than words that they name
+pub few_entries : (p : Places) (listed : List Element) (f : ℕ → ℕ) → HoldList p listed f → f (word_place p.map ListLength) ≤ length listed
+few_entries p listed f h =
+    let few = entries_are_few (f (word_place p.map ListLength)) p.map.list.address f h.runs in
+    let same = ap (length {A = CopyPair}) h.pairs in
+    let mapped = length-map listed (element_pair p) in
+    omega (arith, few, same, mapped)
+
 pub same_list : (p : Places) (room : Room) (listed : List Element) (f g : ℕ → ℕ) → length listed ≤ room.list → ListStays p room f g → HoldList p listed f
     → HoldList p listed g
-same_list p room listed f g few k h = record {
-  are_listed = h.are_listed;
-  list_length = k.list_length ∙ h.list_length;
-  homes = λ i x e. let l = slice_get_within listed i x e in k.entries (4 * i + p.map.list.address) (omega arith) (omega (arith, l, few)) ∙ h.homes i x e;
-  copies = λ i x e. let l = slice_get_within listed i x e in k.entries (4 * i + p.map.list.address + 2) (omega arith) (omega (arith, l, few)) ∙ h.copies i x e;
-  marked = λ x c. k.marks x (all_of (IsCopied p) listed x h.are_listed.copied c) ∙ h.marked x c ∙ sym k.version;
-  only_marked = λ x is e. h.only_marked x is (sym (k.marks x is) ∙ e ∙ k.version);
-}
+same_list p room listed f g few k h =
+    let n = f (word_place p.map ListLength) in
+    let list = p.map.list.address in
+    let entries = few_entries p listed f h in
+    record {
+      are_listed = h.are_listed;
+      pairs = ap (λ j. entries_from j list g) k.list_length
+          ∙ entries_alike n list f g (λ a from to. k.entries a from (omega (arith, to, entries, few))) ∙ h.pairs;
+      runs = λ i l.
+          let before : i < n = subst (λ j. i < j) k.list_length l in
+          subst (λ x. 0 < x) (sym (k.entries (list + 6 * i + 4) (omega arith) (omega (arith, before, entries, few)))) (h.runs i before);
+      marked = λ x c. k.marks x (all_of (IsCopied p) listed x h.are_listed.copied c) ∙ h.marked x c ∙ sym k.version;
+      only_marked = λ x is e. h.only_marked x is (sym (k.marks x is) ∙ e ∙ k.version);
+    }
 
 -- the emitted words stay
 pub record EmitsStay (p : Places) (room : Room) (f g : ℕ → ℕ) : Type 0 where

@@ -1,7 +1,7 @@
 -- A store to an element: to its copy, and the first time in an attempt to its version word and to the commit list.
-use Rattle.std.proofs.Common.{◌≡◌, ℕ, zero, suc, ◌+◌, ◌*◌, ◌==◌, ◌<◌, ◌≤◌, List, [], ◌∷◌, ◌++◌, length, slice_get, Option, Some, Contains, All, true, refl, sym, ap, ◌∙◌, subst, arith, eq-eqb, ne_eqb, lt-ltb, le-ltb, ◌⊎◌, inl, inr, ⊎_elim, length-append, if◌then◌else◌}
-use Rattle.std.proofs.lemmas.Option.{none-some}
-use Rattle.std.proofs.lemmas.List.Elements.{All-append, Contains-append_left, Contains-append_right, Contains-append_cases, Contains-get_or}
+use Rattle.std.proofs.Common.{◌≡◌, ℕ, zero, suc, ◌+◌, ◌*◌, ◌==◌, ◌<◌, ◌≤◌, List, [], ◌∷◌, ◌++◌, length, map, slice_get, Option, Some, Contains, All, true, refl, sym, ap, ◌∙◌, subst, arith, eq-eqb, ne_eqb, lt-ltb, le-ltb, ⊎_elim, if◌then◌else◌}
+use Rattle.std.proofs.lemmas.List.{map-append}
+use Rattle.std.proofs.lemmas.List.Elements.{All-append, All-map, All-weaker, Contains-append_left, Contains-append_right, Contains-append_cases, Contains-get_or}
 use Rattle.std.proofs.lemmas.List.Quantifiers.{all_pairs_push}
 use Rattle.array_versions.specs.fram_board.Effects.{Effect, Store}
 use Rattle.array_versions.specs.machine_effects.World.{put}
@@ -10,17 +10,18 @@ use Rattle.task_ast.specs.declared.names.Variable.TheVariants.{Shared}
 use Rattle.source_values.specs.Values.{Variables, word_at, with_word}
 use Rattle.array_versions.specs.declared.program.ArrayPlace.{ArrayPlace}
 use Rattle.array_versions.specs.declared.program.ListPlace.{ListPlace}
-use Rattle.array_versions.specs.Behaviour.{WordState, Behaviour, goes_on, behind_effects, is_place, at_place, stored, entry_stored, first_stored, own_stored, versioned_stored}
-use Rattle.lower.specs.Lowered.{list_place}
+use Rattle.array_versions.specs.Behaviour.{WordState, Behaviour, goes_on, behind_effects, is_place, at_place, stored, word_listed, first_stored, own_stored, versioned_stored}
 use Rattle.lower.specs.Spots.{Room, AreApart, AreDifferent, AreListed, listed_of}
-use Rattle.lower.specs.Agreement.{own_word, HoldVariables, HoldList}
-use Rattle.lower.proofs.Addresses.{placed, copy_is, version_is, no_scalar, same_element, same_or_not}
-use Rattle.lower.proofs.Stored.{word_same, word_other, set_holds, own_same, ListStays, EmitsStay, spot_list}
-use Rattle.lower.proofs.Transitions.{after_entry, entry_behaves}
+use Rattle.lower.specs.Agreement.{own_word, HoldVariables, element_pair, HoldList}
+use Rattle.lower.proofs.Addresses.{placed, has_element, copy_is, version_is, no_scalar, same_element, same_or_not}
+use Rattle.lower.proofs.Stored.{word_same, word_other, set_holds, own_same, ListStays, EmitsStay, few_entries, spot_list}
+use Rattle.runtime_effects.specs.Places.{entries_from}
+use Rattle.runtime_effects.proofs.Interface.{entries_alike}
+use Rattle.lower.proofs.Lists.{HaveWords, HasNext, IsElse}
 use Rattle.memory_map.specs.MemoryMap.{word_place}
 use Rattle.memory_map.specs.declared.words.RuntimeWord.TheVariants.{ListLength, EmitCount, Version}
 use Rattle.memory_map.specs.declared.place.VariablePlace.TheVariants.{Array}
-use Rattle.memory_map.specs.Spots.{Places, address_of, IsScalarAt, Element, IsElement, IsCopied, Spot, scalar, element, copy, version, IsSpot, element_address, copy_address, version_address, spot_address}
+use Rattle.memory_map.specs.Spots.{Places, address_of, IsScalarAt, Element, IsElement, IsCopied, Spot, scalar, element, copy, version, IsSpot, copy_address, version_address, spot_address}
 
 -- ---- what the step does
 
@@ -39,23 +40,14 @@ stores_again place list i v s below is_c is_ver is_n same =
     ∙ placed c (at_place list.ver (at_place n last)) is_c ∙ placed list.ver (at_place n last) is_ver ∙ placed n last is_n
     ∙ ap (λ z. if z then a else b) (eq-eqb (t.fram list.ver) (t.fram n) same)
 
--- FRAM behind the first store to an element with this copy, version word and home, entry k being its entry
-abbrev pub after_first : ListPlace → ℕ → ℕ → ℕ → ℕ → ℕ → (ℕ → ℕ) → ℕ → ℕ
-after_first list k c n e v f = after_entry list.cln list.list k e c (put (put f c v) n (f list.ver))
-
--- its effects
-abbrev pub first_effects : ListPlace → ℕ → ℕ → ℕ → ℕ → ℕ → (ℕ → ℕ) → List Effect
-first_effects list k c n e v f =
-    Store c v ∷ Store n (f list.ver) ∷ Store (4 * k + list.list) e ∷ Store (4 * k + list.list + 2) c ∷ Store list.cln (k + 1) ∷ []
-
--- where the version word isn't VER
-pub stores_first : (place : ArrayPlace) (list : ListPlace) (i v k : ℕ) (s : WordState)
+-- where the version word isn't VER, behind what lists the word
+pub stores_first : (place : ArrayPlace) (list : ListPlace) (i v : ℕ) (s : WordState) (es : List Effect) (g : ℕ → ℕ)
     → let c = 2 * i + place.copies in let n = 2 * i + place.versions in let e = 2 * i + place.elements in
     i < place.length → is_place c ≡ true → is_place list.ver ≡ true → is_place n ≡ true → is_place e ≡ true
-    → is_place list.cln ≡ true → is_place (4 * k + list.list) ≡ true → is_place (4 * k + list.list + 2) ≡ true
-    → (put s.fram c v list.ver ≡ put s.fram c v n → ⊥) → put s.fram c v list.ver ≡ s.fram list.ver → put (put s.fram c v) n (s.fram list.ver) list.cln ≡ k
-    → versioned_stored place list i v s ≡ goes_on (first_effects list k c n e v s.fram) (record s { fram = after_first list k c n e v s.fram })
-stores_first place list i v k s below is_c is_ver is_n is_e is_cln is_home is_copy differ kept counted =
+    → (put s.fram c v list.ver ≡ put s.fram c v n → ⊥) → put s.fram c v list.ver ≡ s.fram list.ver
+    → word_listed list e c (record s { fram = put (put s.fram c v) n (s.fram list.ver) }) ≡ goes_on es (record s { fram = g })
+    → versioned_stored place list i v s ≡ goes_on (Store c v ∷ Store n (s.fram list.ver) ∷ es) (record s { fram = g })
+stores_first place list i v s es g below is_c is_ver is_n is_e differ kept lists =
     let c = 2 * i + place.copies in
     let n = 2 * i + place.versions in
     let e = 2 * i + place.elements in
@@ -64,14 +56,13 @@ stores_first place list i v k s below is_c is_ver is_n is_e is_cln is_home is_co
     let a : Behaviour = goes_on (Store c v ∷ []) t in
     let b : Behaviour = behind_effects (Store c v ∷ []) (first_stored place list i t) in
     let last : Behaviour = if t.fram list.ver == t.fram n then a else b in
-    let marked : ℕ → Behaviour = λ z. behind_effects (Store n z ∷ []) (entry_stored list.cln list.list e c (stored n z t)) in
+    let marked : ℕ → Behaviour = λ z. behind_effects (Store n z ∷ []) (word_listed list e c (stored n z t)) in
     ap (λ z. if z then own_stored place list i v s else goes_on [] s) (lt-ltb i place.length below)
     ∙ placed c (at_place list.ver (at_place n last)) is_c ∙ placed list.ver (at_place n last) is_ver ∙ placed n last is_n
     ∙ ap (λ z. if z then a else b) (ne_eqb (t.fram list.ver) (t.fram n) differ)
     ∙ ap (λ z. behind_effects (Store c v ∷ []) (at_place e (marked z))) kept
     ∙ ap (behind_effects (Store c v ∷ [])) (placed e (marked u) is_e)
-    ∙ ap (λ z. behind_effects (Store c v ∷ []) (behind_effects (Store n u ∷ []) z))
-    (entry_behaves list.cln list.list k e c (stored n u t) counted is_cln is_home is_copy)
+    ∙ ap (λ z. behind_effects (Store c v ∷ []) (behind_effects (Store n u ∷ []) z)) lists
 
 -- past the end nothing is stored
 pub stores_nothing : (place : ArrayPlace) (list : ListPlace) (i v : ℕ) (s : WordState) → place.length ≤ i → versioned_stored place list i v s ≡ goes_on [] s
@@ -149,82 +140,64 @@ again_list p room x v f apart is = spot_list p room (copy x) v f apart is (λ y 
 
 -- ---- the first store
 
--- FRAM behind it
-abbrev pub after_store : Places → ℕ → Element → ℕ → (ℕ → ℕ) → ℕ → ℕ
-after_store p k x v f = after_first (list_place p) k (copy_address p x) (version_address p x) (element_address p x) v f
+-- FRAM behind the copy and the version word
+abbrev pub after_mark : Places → Element → ℕ → (ℕ → ℕ) → ℕ → ℕ
+after_mark p x v f = put (put f (copy_address p x) v) (version_address p x) (f (word_place p.map Version))
 
-store_keeps : (p : Places) (k : ℕ) (x : Element) (v a : ℕ) (f : ℕ → ℕ) → (a ≡ copy_address p x → ⊥) → (a ≡ version_address p x → ⊥)
-    → (a ≡ 4 * k + p.map.list.address → ⊥) → (a ≡ 4 * k + p.map.list.address + 2 → ⊥) → (a ≡ word_place p.map ListLength → ⊥) → after_store p k x v f a ≡ f a
-store_keeps p k x v a f c n l m d =
-    let f1 : ℕ → ℕ = put f (copy_address p x) v in
-    let f2 : ℕ → ℕ = put f1 (version_address p x) (f (word_place p.map Version)) in
-    let f3 : ℕ → ℕ = put f2 (4 * k + p.map.list.address) (element_address p x) in
-    let f4 : ℕ → ℕ = put f3 (4 * k + p.map.list.address + 2) (copy_address p x) in
-    put_other f4 (word_place p.map ListLength) (k + 1) a d ∙ put_other f3 (4 * k + p.map.list.address + 2) (copy_address p x) a m
-    ∙ put_other f2 (4 * k + p.map.list.address) (element_address p x) a l ∙ put_other f1 (version_address p x) (f (word_place p.map Version)) a n
-    ∙ put_other f (copy_address p x) v a c
+mark_keeps : (p : Places) (x : Element) (v a : ℕ) (f : ℕ → ℕ) → (a ≡ copy_address p x → ⊥) → (a ≡ version_address p x → ⊥) → after_mark p x v f a ≡ f a
+mark_keeps p x v a f c n =
+    put_other (put f (copy_address p x) v) (version_address p x) (f (word_place p.map Version)) a n ∙ put_other f (copy_address p x) v a c
 
--- a spot is behind the lists
-spot_keeps : (p : Places) (room : Room) (k : ℕ) (x : Element) (v : ℕ) (f : ℕ → ℕ) (s : Spot) → AreApart p room → IsCopied p x → k < room.list → IsSpot p s
-    → (s ≡ copy x → ⊥) → (s ≡ version x → ⊥) → after_store p k x v f (spot_address p s) ≡ f (spot_address p s)
-spot_keeps p room k x v f s apart is few of c n =
-    let low = apart.spots s of in
-    store_keeps p k x v (spot_address p s) f (λ e. c (apart.distinct s (copy x) of is e)) (λ e. n (apart.distinct s (version x) of is e))
-    (λ e. omega (arith, e, low, apart, few)) (λ e. omega (arith, e, low, apart, few)) (λ e. omega (arith, e, low, apart))
-
--- a word in front of the list
-low_keeps : (p : Places) (room : Room) (k : ℕ) (x : Element) (v a : ℕ) (f : ℕ → ℕ) → AreApart p room → IsCopied p x → a < p.map.list.address
-    → (a ≡ word_place p.map ListLength → ⊥)
-    → after_store p k x v f a ≡ f a
-low_keeps p room k x v a f apart is low d =
+-- a word in front of the emitted ones' end
+pub mark_keeps_low : (p : Places) (room : Room) (x : Element) (v a : ℕ) (f : ℕ → ℕ) → AreApart p room → IsCopied p x
+    → a < p.map.emits.address + 2 * room.emits → after_mark p x v f a ≡ f a
+mark_keeps_low p room x v a f apart is low =
     let c = apart.spots (copy x) is in
     let n = apart.spots (version x) is in
-    store_keeps p k x v a f (λ e. omega (arith, e, low, apart, c)) (λ e. omega (arith, e, low, apart, n)) (λ e. omega (arith, e, low))
-    (λ e. omega (arith, e, low)) d
+    mark_keeps p x v a f (λ e. omega (arith, e, low, c)) (λ e. omega (arith, e, low, n))
 
-pub first_stored_at : (p : Places) (room : Room) (k : ℕ) (x : Element) (v : ℕ) (f : ℕ → ℕ) → AreApart p room → IsCopied p x → k < room.list
-    → IsStored p x v f (after_store p k x v f)
-first_stored_at p room k x v f apart is few =
-    let c = copy_address p x in
-    let n = version_address p x in
-    let ver = f (word_place p.map Version) in
-    let f1 : ℕ → ℕ = put f c v in
-    let f2 : ℕ → ℕ = put f1 n ver in
-    let f3 : ℕ → ℕ = put f2 (4 * k + p.map.list.address) (element_address p x) in
-    let f4 : ℕ → ℕ = put f3 (4 * k + p.map.list.address + 2) c in
-    let at_c = apart.spots (copy x) is in
-    let at_n = apart.spots (version x) is in
-    let behind : (a : ℕ) → p.map.emits.address + 2 * room.emits ≤ a → after_store p k x v f a ≡ f2 a = λ a low.
-    put_other f4 (word_place p.map ListLength) (k + 1) a (λ e. omega (arith, e, low, apart))
-    ∙ put_other f3 (4 * k + p.map.list.address + 2) c a (λ e. omega (arith, e, low, apart, few))
-    ∙ put_other f2 (4 * k + p.map.list.address) (element_address p x) a (λ e. omega (arith, e, low, apart, few)) in
-    record {
-      number = low_keeps p room k x v (word_place p.map Version) f apart is (omega (arith, apart)) (λ e. omega (arith, e, apart));
-      mark = behind n at_n ∙ put_at f1 n ver n refl;
-      copied = behind c at_c ∙ put_other f1 n ver c (λ e. let d = (apart.distinct (copy x) (version x) is is e) in cc) ∙ put_at f c v c refl;
-      spots = λ s of d e. spot_keeps p room k x v f s apart is few of d e;
-    }
+-- FRAM behind them and the commit list
+module _ (p : Places) (room : Room) (x : Element) (v : ℕ) (f g : ℕ → ℕ) (apart : AreApart p room) (is : IsCopied p x)
+    (elsewhere : (a : ℕ) → IsElse (word_place p.map ListLength) p.map.list.address room.list a → g a ≡ after_mark p x v f a) where
+  -- behind the list
+  behind : (a : ℕ) → p.map.emits.address ≤ a → g a ≡ after_mark p x v f a
+  behind a low = elsewhere a (record { not_count = λ e. omega (arith, e, low, apart); outside = λ from to. omega (arith, low, to, apart) })
 
-pub first_emits : (p : Places) (room : Room) (k : ℕ) (x : Element) (v : ℕ) (f : ℕ → ℕ) → AreApart p room → IsCopied p x → k < room.list
-    → EmitsStay p room f (after_store p k x v f)
-first_emits p room k x v f apart is few =
-    let c = apart.spots (copy x) is in
-    let n = apart.spots (version x) is in
-    record {
-      emit_count = low_keeps p room k x v (word_place p.map EmitCount) f apart is (omega (arith, apart)) (λ e. omega (arith, e, apart));
-      buffer = λ i l. store_keeps p k x v (2 * i + p.map.emits.address) f (λ e. omega (arith, e, c, l)) (λ e. omega (arith, e, n, l))
-          (λ e. omega (arith, e, apart, few)) (λ e. omega (arith, e, apart, few)) (λ e. omega (arith, e, apart));
-    }
+  -- in front of it
+  low_keeps : (a : ℕ) → a < p.map.list.address → (a ≡ word_place p.map ListLength → ⊥) → g a ≡ f a
+  low_keeps a low d =
+      elsewhere a (record { not_count = d; outside = λ from to. omega (arith, low, from) })
+      ∙ mark_keeps_low p room x v a f apart is (omega (arith, low, apart))
+
+  spot_keeps : (s : Spot) → IsSpot p s → (s ≡ copy x → ⊥) → (s ≡ version x → ⊥) → g (spot_address p s) ≡ f (spot_address p s)
+  spot_keeps s of c n =
+      let low = apart.spots s of in
+      behind (spot_address p s) (omega (arith, low))
+      ∙ mark_keeps p x v (spot_address p s) f (λ e. c (apart.distinct s (copy x) of is e)) (λ e. n (apart.distinct s (version x) of is e))
+
+  pub first_stored_at : IsStored p x v f g
+  first_stored_at =
+      let c = copy_address p x in
+      let n = version_address p x in
+      let f1 : ℕ → ℕ = put f c v in
+      let at_c = apart.spots (copy x) is in
+      let at_n = apart.spots (version x) is in
+      record {
+        number = low_keeps (word_place p.map Version) (omega (arith, apart)) (λ e. omega (arith, e, apart));
+        mark = behind n (omega (arith, at_n)) ∙ put_at f1 n (f (word_place p.map Version)) n refl;
+        copied = behind c (omega (arith, at_c))
+            ∙ put_other f1 n (f (word_place p.map Version)) c (λ e. let d = (apart.distinct (copy x) (version x) is is e) in cc) ∙ put_at f c v c refl;
+        spots = spot_keeps;
+      }
+
+  pub first_emits : EmitsStay p room f g
+  first_emits = record {
+    emit_count = low_keeps (word_place p.map EmitCount) (omega (arith, apart)) (λ e. omega (arith, e, apart));
+    buffer = λ i l. behind (2 * i + p.map.emits.address) (omega arith)
+        ∙ mark_keeps_low p room x v (2 * i + p.map.emits.address) f apart is (omega (arith, l));
+  }
 
 -- ---- one more in the list
-
-pub pushed_at : (xs : List Element) (x y : Element) (i : ℕ) → slice_get (xs ++ x ∷ []) i ≡ Some y
-    → ((i < length xs) × (slice_get xs i ≡ Some y)) ⊎ ((i ≡ length xs) × (x ≡ y))
-pushed_at [] x y zero e = let d : x ≡ y = cc in inr (refl, d)
-pushed_at [] x y (suc i) e = absurd (none-some y e)
-pushed_at (z ∷ xs) x y zero e = inl (omega arith, e)
-pushed_at (z ∷ xs) x y (suc i) e = ⊎_elim (λ h. let l = h.0 in inl (omega (arith, l), h.1)) (λ h. let l = h.0 in inr (omega (arith, l), h.1))
-    (pushed_at xs x y i e)
 
 pub pushed_of : (v : ℕ) (xs : List Element) (x : Element) → listed_of v (xs ++ x ∷ []) ≡ listed_of v xs + (if x.array == v then 1 else 0)
 pushed_of v [] x = omega arith
@@ -244,79 +217,61 @@ push_listed p xs x h is fresh = record {
   different = all_pairs_push AreDifferent xs x h.different (λ k d l e. fresh (subst (Contains xs) e (Contains-get_or xs k d l)));
 }
 
--- FRAM before the count is raised, and before that
-abbrev with_home : Places → ℕ → Element → ℕ → (ℕ → ℕ) → ℕ → ℕ
-with_home p k x v f = put (put (put f (copy_address p x) v) (version_address p x) (f (word_place p.map Version))) (4 * k + p.map.list.address)
-    (element_address p x)
+-- the list is in front of all that a task works on
+pub mark_keeps_pairs : (p : Places) (room : Room) (xs : List Element) (x : Element) (v : ℕ) (f : ℕ → ℕ) → AreApart p room → IsCopied p x
+    → length xs ≤ room.list → HoldList p xs f
+    → entries_from (after_mark p x v f (word_place p.map ListLength)) p.map.list.address (after_mark p x v f) ≡ map (element_pair p) xs
+mark_keeps_pairs p room xs x v f apart is few h =
+    let n = f (word_place p.map ListLength) in
+    let list = p.map.list.address in
+    let entries = few_entries p xs f h in
+    ap (λ j. entries_from j list (after_mark p x v f)) (mark_keeps_low p room x v (word_place p.map ListLength) f apart is (omega (arith, apart)))
+    ∙ entries_alike n list f (after_mark p x v f) (λ a from to. mark_keeps_low p room x v a f apart is (omega (arith, to, entries, few, apart)))
+    ∙ h.pairs
 
-abbrev with_copy : Places → ℕ → Element → ℕ → (ℕ → ℕ) → ℕ → ℕ
-with_copy p k x v f = put (with_home p k x v f) (4 * k + p.map.list.address + 2) (copy_address p x)
+pub mark_keeps_words : (p : Places) (room : Room) (xs : List Element) (x : Element) (v : ℕ) (f : ℕ → ℕ) → AreApart p room → IsCopied p x
+    → length xs ≤ room.list → HoldList p xs f
+    → HaveWords p.map.list.address (after_mark p x v f (word_place p.map ListLength)) (after_mark p x v f)
+mark_keeps_words p room xs x v f apart is few h i l =
+    let list = p.map.list.address in
+    let entries = few_entries p xs f h in
+    let before : i < f (word_place p.map ListLength) =
+    subst (λ j. i < j) (mark_keeps_low p room x v (word_place p.map ListLength) f apart is (omega (arith, apart))) l in
+    subst (λ y. 0 < y) (sym (mark_keeps_low p room x v (list + 6 * i + 4) f apart is (omega (arith, before, entries, few, apart)))) (h.runs i before)
 
-pub first_list : (p : Places) (room : Room) (xs : List Element) (x : Element) (v : ℕ) (f : ℕ → ℕ) → AreApart p room → IsCopied p x → length xs < room.list
-    → (f (word_place p.map Version) ≡ f (version_address p x) → ⊥) → HoldList p xs f → HoldList p (xs ++ x ∷ []) (after_store p (length xs) x v f)
-first_list p room xs x v f apart is few unmarked h = record {
+-- each listed element has a word behind it, and so has its copy
+pub elements_have_next : (p : Places) (room : Room) (xs : List Element) → AreApart p room → All (IsCopied p) xs → All HasNext (map (element_pair p) xs)
+elements_have_next p room xs apart copied =
+    All-map HasNext (element_pair p) xs (All-weaker (IsCopied p) (λ x. HasNext (element_pair p x)) (λ x is.
+    let home = apart.below (element x) (has_element p x is) in
+    let copied_to = apart.below (copy x) is in
+    record { home = omega (arith, home); copy = omega (arith, copied_to) }) xs copied)
+
+pub first_list : (p : Places) (room : Room) (xs : List Element) (x : Element) (v : ℕ) (f g : ℕ → ℕ) → AreApart p room → IsCopied p x → length xs < room.list
+    → (f (word_place p.map Version) ≡ f (version_address p x) → ⊥) → HoldList p xs f → IsStored p x v f g
+    → entries_from (g (word_place p.map ListLength)) p.map.list.address g ≡ map (element_pair p) xs ++ element_pair p x ∷ []
+    → HaveWords p.map.list.address (g (word_place p.map ListLength)) g → HoldList p (xs ++ x ∷ []) g
+first_list p room xs x v f g apart is few unmarked h now pairs have = record {
   are_listed = push_listed p xs x h.are_listed is fresh;
-  list_length = put_at (with_copy p (length xs) x v f) (word_place p.map ListLength) (length xs + 1) (word_place p.map ListLength) refl
-      ∙ sym (length-append xs (x ∷ []));
-  homes = λ i y e. ⊎_elim (old_home i y) (new_home i y) (pushed_at xs x y i e);
-  copies = λ i y e. ⊎_elim (old_copy i y) (new_copy i y) (pushed_at xs x y i e);
-  marked = λ y c. ⊎_elim
-      (λ e. subst (λ z. (after_store p (length xs) x v f) (version_address p z) ≡ (after_store p (length xs) x v f) (word_place p.map Version)) e
-      (now.mark ∙ sym now.number)) (λ ne. still y ne (old y ne c)) (same_or_not x y);
+  pairs = pairs ∙ sym (map-append (element_pair p) xs (x ∷ []));
+  runs = have;
+  marked = λ y c. ⊎_elim (λ e. subst (λ z. g (version_address p z) ≡ g (word_place p.map Version)) e (now.mark ∙ sym now.number))
+      (λ ne. still y ne (old y ne c)) (same_or_not x y);
   only_marked = λ y of e. ⊎_elim (λ d. subst (Contains (xs ++ x ∷ [])) d last)
-      (λ ne. Contains-append_left xs (x ∷ []) y (h.only_marked y of (sym (mark_keeps y of ne) ∙ e ∙ now.number))) (same_or_not x y);
+      (λ ne. Contains-append_left xs (x ∷ []) y (h.only_marked y of (sym (mark_stays y of ne) ∙ e ∙ now.number))) (same_or_not x y);
 }
   where
     fresh : Contains xs x → ⊥
     fresh c = unmarked (sym (h.marked x c))
 
-    now : IsStored p x v f (after_store p (length xs) x v f)
-    now = first_stored_at p room (length xs) x v f apart is few
-
-    entry_keeps : (a : ℕ) → p.map.list.address ≤ a → a < 4 * length xs + p.map.list.address → (after_store p (length xs) x v f) a ≡ f a
-    entry_keeps a from to =
-        let c = apart.spots (copy x) is in
-        let n = apart.spots (version x) is in
-        store_keeps p (length xs) x v a f (λ e. omega (arith, e, to, few, apart, c)) (λ e. omega (arith, e, to, few, apart, n))
-        (λ e. omega (arith, e, to)) (λ e. omega (arith, e, to)) (λ e. omega (arith, e, from, apart))
-
-    old_home : (i : ℕ) (y : Element) → (i < length xs) × (slice_get xs i ≡ Some y) → (after_store p (length xs) x v f) (4 * i + p.map.list.address)
-        ≡ element_address p y
-    old_home i y e = let l = e.0 in entry_keeps (4 * i + p.map.list.address) (omega arith) (omega (arith, l)) ∙ h.homes i y e.1
-
-    old_copy : (i : ℕ) (y : Element) → (i < length xs) × (slice_get xs i ≡ Some y) → (after_store p (length xs) x v f) (4 * i + p.map.list.address + 2)
-        ≡ copy_address p y
-    old_copy i y e = let l = e.0 in entry_keeps (4 * i + p.map.list.address + 2) (omega arith) (omega (arith, l)) ∙ h.copies i y e.1
-
-    new_home : (i : ℕ) (y : Element) → (i ≡ length xs) × (x ≡ y) → (after_store p (length xs) x v f) (4 * i + p.map.list.address) ≡ element_address p y
-    new_home i y e =
-        ap (λ j. (after_store p (length xs) x v f) (4 * j + p.map.list.address)) e.0
-        ∙ put_other (with_copy p (length xs) x v f) (word_place p.map ListLength) (length xs + 1) (4 * length xs + p.map.list.address)
-        (λ d. omega (arith, d, apart))
-        ∙ put_other (with_home p (length xs) x v f) (4 * length xs + p.map.list.address + 2) (copy_address p x) (4 * length xs + p.map.list.address)
-        (λ d. omega (arith, d))
-        ∙ put_at (put (put f (copy_address p x) v) (version_address p x) (f (word_place p.map Version))) (4 * length xs + p.map.list.address)
-        (element_address p x)
-        (4 * length xs + p.map.list.address) refl
-        ∙ ap (element_address p) e.1
-
-    new_copy : (i : ℕ) (y : Element) → (i ≡ length xs) × (x ≡ y) → (after_store p (length xs) x v f) (4 * i + p.map.list.address + 2) ≡ copy_address p y
-    new_copy i y e =
-        ap (λ j. (after_store p (length xs) x v f) (4 * j + p.map.list.address + 2)) e.0
-        ∙ put_other (with_copy p (length xs) x v f) (word_place p.map ListLength) (length xs + 1) (4 * length xs + p.map.list.address + 2)
-        (λ d. omega (arith, d, apart))
-        ∙ put_at (with_home p (length xs) x v f) (4 * length xs + p.map.list.address + 2) (copy_address p x) (4 * length xs + p.map.list.address + 2) refl
-        ∙ ap (copy_address p) e.1
-
-    mark_keeps : (y : Element) → IsCopied p y → AreDifferent x y → (after_store p (length xs) x v f) (version_address p y) ≡ f (version_address p y)
-    mark_keeps y of ne = now.spots (version y) of (λ e. cc) (λ e. let d : x ≡ y = cc in ne d)
+    mark_stays : (y : Element) → IsCopied p y → AreDifferent x y → g (version_address p y) ≡ f (version_address p y)
+    mark_stays y of ne = now.spots (version y) of (λ e. cc) (λ e. let d : x ≡ y = cc in ne d)
 
     old : (y : Element) → AreDifferent x y → Contains (xs ++ x ∷ []) y → Contains xs y
     old y ne c = ⊎_elim (λ a. a) (λ b. absurd (ne (single x y b))) (Contains-append_cases xs (x ∷ []) y c)
 
-    still : (y : Element) → AreDifferent x y → Contains xs y
-        → (after_store p (length xs) x v f) (version_address p y) ≡ (after_store p (length xs) x v f) (word_place p.map Version)
-    still y ne c = mark_keeps y (subst (IsCopied p) c.2 (h.are_listed.copied c.0 y c.1)) ne ∙ h.marked y c ∙ sym now.number
+    still : (y : Element) → AreDifferent x y → Contains xs y → g (version_address p y) ≡ g (word_place p.map Version)
+    still y ne c = mark_stays y (subst (IsCopied p) c.2 (h.are_listed.copied c.0 y c.1)) ne ∙ h.marked y c ∙ sym now.number
 
     last : Contains (xs ++ x ∷ []) x
     last = Contains-append_right xs (x ∷ []) x (0, omega arith, refl)

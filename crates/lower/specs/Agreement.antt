@@ -1,6 +1,6 @@
 -- What it is that a word program does what the source does: the state that it works on stands for an attempt of the task, and its end
 -- for the outcome.
-use Rattle.std.specs.Prelude.{◌≡◌, ℕ, ◌+◌, ◌*◌, ◌%◌, ◌<◌, ◌≤◌, ◌==◌, ◌⊎◌, Bool, true, if◌then◌else◌, Contains, List, [], ◌∷◌, ◌++◌, length, Option, Some, None, slice_get, slice_index, slice_index_or}
+use Rattle.std.specs.Prelude.{◌≡◌, ℕ, ◌+◌, ◌*◌, ◌%◌, ◌<◌, ◌≤◌, ◌==◌, Bool, true, if◌then◌else◌, Contains, List, [], ◌∷◌, ◌++◌, length, map, Option, Some, None, slice_get, slice_index, slice_index_or}
 use Rattle.array_versions.specs.fram_board.Effects.{Effect, Store, Take, Send}
 use Rattle.array_versions.specs.machine_effects.World.{fram_after}
 use Rattle.task_ast.specs.Tree as t
@@ -16,9 +16,11 @@ use Rattle.memory_map.specs.declared.words.RuntimeWord.TheVariants.{NextTask, Ga
 use Rattle.memory_map.specs.declared.place.ArrayCopies.{ArrayCopies}
 use Rattle.memory_map.specs.declared.place.VariablePlace.{VariablePlace}
 use Rattle.memory_map.specs.declared.place.VariablePlace.TheVariants.{Scalar, Array}
-use Rattle.memory_map.specs.declared.place.PrivateScalar.{PrivateScalar}
 use Rattle.memory_map.specs.Spots.{Places, address_of, IsScalarAt, IsArrayAt, Element, IsElement, IsCopied, element_address, copy_address, version_address}
 use Rattle.lower.specs.Spots.{Room, AreApart, AreEven, listed_of, AreListed, HasRoom}
+use Rattle.runtime_effects.specs.Places.{CopyPair, entries_from}
+use Rattle.lower.specs.declared.runs.Run.{Run}
+use Rattle.lower.specs.Runs.{runs_of}
 use Rattle.lower.specs.Lowered.{lowered_expression, lowered_block}
 
 -- ---- what is asked of a tree: each name is used as it was declared
@@ -109,13 +111,16 @@ pub record HoldEmits (p : Places) (emitted : List ℕ) (fram : ℕ → ℕ) : Ty
   pub emit_count : fram (word_place p.map EmitCount) ≡ length emitted
   pub emits : (i : ℕ) → i < length emitted → fram (2 * i + p.map.emits.address) ≡ slice_index emitted i
 
--- these elements have entries in the commit list, as many as are counted, each a home and its copy; they are those whose version word
+-- an element and its copy
+abbrev pub element_pair : Places → Element → CopyPair
+element_pair p x = record { home = element_address p x; copy = copy_address p x }
+
+-- the runs of the commit list, none of them without a word, name these elements, one behind another; they are those whose version word
 -- is VER
 pub record HoldList (p : Places) (listed : List Element) (fram : ℕ → ℕ) : Type 0 where
   pub are_listed : AreListed p listed
-  pub list_length : fram (word_place p.map ListLength) ≡ length listed
-  pub homes : (i : ℕ) (x : Element) → slice_get listed i ≡ Some x → fram (4 * i + p.map.list.address) ≡ element_address p x
-  pub copies : (i : ℕ) (x : Element) → slice_get listed i ≡ Some x → fram (4 * i + p.map.list.address + 2) ≡ copy_address p x
+  pub pairs : entries_from (fram (word_place p.map ListLength)) p.map.list.address fram ≡ map (element_pair p) listed
+  pub runs : (i : ℕ) → i < fram (word_place p.map ListLength) → 0 < fram (p.map.list.address + 6 * i + 4)
   pub marked : (x : Element) → Contains listed x → fram (version_address p x) ≡ fram (word_place p.map Version)
   pub only_marked : (x : Element) → IsCopied p x → fram (version_address p x) ≡ fram (word_place p.map Version) → Contains listed x
 
@@ -145,21 +150,22 @@ pub data IsTaskStore (p : Places) (written : ℕ → Bool) (room : Room) (ver : 
   at_variable : (v : ℕ) → IsScalarAt p v → written v ≡ true → a ≡ address_of p v → IsTaskStore p written room ver a w
   at_copy : (x : Element) → IsCopied p x → a ≡ copy_address p x → IsTaskStore p written room ver a w
   at_version : (x : Element) → IsCopied p x → a ≡ version_address p x → w ≡ ver → IsTaskStore p written room ver a w
-  in_list : (i : ℕ) → i < room.list → (a ≡ 4 * i + p.map.list.address) ⊎ (a ≡ 4 * i + p.map.list.address + 2) → IsTaskStore p written room ver a w
+  in_list : p.map.list.address ≤ a → a < p.map.list.address + 6 * room.list → IsTaskStore p written room ver a w
   at_list_length : a ≡ word_place p.map ListLength → w ≤ room.list → IsTaskStore p written room ver a w
   at_emit_count : a ≡ word_place p.map EmitCount → w ≤ room.emits → IsTaskStore p written room ver a w
   in_buffer : (i : ℕ) → i < room.emits → a ≡ 2 * i + p.map.emits.address → IsTaskStore p written room ver a w
 
--- entries of the commit list from number i on, each a home and its copy, with the count raised behind each
-abbrev pub entry_effects : ℕ → ℕ → ℕ → List PrivateScalar → List Effect
+-- entries of the commit list from number i on, each a home, its copy and the words of the run, with the count raised behind each
+abbrev pub entry_effects : ℕ → ℕ → ℕ → List Run → List Effect
 entry_effects count list i [] = []
-entry_effects count list i (s ∷ more) =
-    Store (4 * i + list) s.home ∷ Store (4 * i + list + 2) s.copy ∷ Store count (i + 1) ∷ entry_effects count list (i + 1) more
+entry_effects count list i (r ∷ more) =
+    Store (6 * i + list) r.home ∷ Store (6 * i + list + 2) r.copy ∷ Store (6 * i + list + 4) r.words ∷ Store count (i + 1)
+    ∷ entry_effects count list (i + 1) more
 
--- a transition up to the gate, with so many entries in the list: NEXT, an entry for each private scalar, SB := BASE
+-- a transition up to the gate, with so many entries in the list: NEXT, an entry for each run of private scalars, SB := BASE
 abbrev pub transition_effects : Places → ℕ → ℕ → ℕ → List Effect
 transition_effects p task entries base =
-    Store (word_place p.map NextTask) (task % 65536) ∷ entry_effects (word_place p.map ListLength) p.map.list.address entries p.privates
+    Store (word_place p.map NextTask) (task % 65536) ∷ entry_effects (word_place p.map ListLength) p.map.list.address entries (runs_of p.privates)
     ++ Store (word_place p.map SentBase) base ∷ []
 
 -- ---- an expression
@@ -217,7 +223,8 @@ pub record Left (p : Places) (b : Bounds) (es : List Effect) (to : ℕ) (s : Wor
   pub body : List Effect
   pub there : WordState
   pub listed : List Element
-  pub effects : es ≡ body ++ (transition_effects p task (length listed) (there.fram (word_place p.map Base)) ++ Store (word_place p.map Gate) 1 ∷ [])
+  pub effects : es ≡ body ++ (transition_effects p task (there.fram (word_place p.map ListLength)) (there.fram (word_place p.map Base))
+      ++ Store (word_place p.map Gate) 1 ∷ [])
   pub stores : TakesAndStores (IsStore p b) body
   pub arrived : there.fram ≡ fram_after body b.start
   pub stands : StandsFor p m listed there

@@ -1,5 +1,6 @@
 pub mod View
 pub mod Operations
+pub mod Runs
 pub mod Lowered
 pub mod Spots
 pub mod Agreement

@@ -19,9 +19,10 @@ use Rattle.memory_map.specs.declared.words.RuntimeWord.TheVariants.{NextTask, Ga
 use Rattle.memory_map.specs.declared.place.ArrayCopies.{ArrayCopies}
 use Rattle.memory_map.specs.declared.place.VariablePlace.{VariablePlace}
 use Rattle.memory_map.specs.declared.place.VariablePlace.TheVariants.{Scalar, Array}
-use Rattle.memory_map.specs.declared.place.PrivateScalar.{PrivateScalar}
 use Rattle.memory_map.specs.MemoryMap.{MemoryMap, TaskPlace, word_place}
 use Rattle.memory_map.specs.Spots.{Places, places_of, address_of}
+use Rattle.lower.specs.declared.runs.Run.{Run}
+use Rattle.lower.specs.Runs.{runs_of}
 use Rattle.lower.specs.Operations.{unary_operation, binary_operation, shift_operation}
 
 -- a program of one step
@@ -123,16 +124,16 @@ abbrev pub loop_local : Variable → ℕ
 loop_local (Local n) = n % 65536
 loop_local (Shared v) = 0
 
--- an entry of the commit list for each private scalar
-abbrev pub entries : ℕ → ℕ → List PrivateScalar → Program
+-- an entry of the commit list for each run
+abbrev pub entries : ℕ → ℕ → List Run → Program
 entries count list [] = nothing
-entries count list (s ∷ more) = step (list_entry count list s.home s.copy) (entries count list more)
+entries count list (r ∷ more) = step (list_entry count list r.home r.copy r.words) (entries count list more)
 
--- NEXT, the entries of the commit list, SB := BASE, GATE := 1; then on to the commit
+-- NEXT, an entry of the commit list for each run of private scalars, SB := BASE, GATE := 1; then on to the commit
 abbrev pub lowered_transition : Places → ℕ → Program
 lowered_transition p task =
     step (store_number (word_place p.map NextTask) (task % 65536))
-    (joined (entries (word_place p.map ListLength) p.map.list.address p.privates)
+    (joined (entries (word_place p.map ListLength) p.map.list.address (runs_of p.privates))
     (step (move_word (word_place p.map Base) (word_place p.map SentBase))
     (step (store_number (word_place p.map Gate) 1)
     (one (jump p.map.commit.address)))))

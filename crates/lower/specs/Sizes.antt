@@ -15,13 +15,13 @@ BlocksKeepToWords = (p : Places) (scalars : ℕ) (block : CheckedBlock) → leng
 abbrev pub ExpressionsKeepToCycles : Type 0
 ExpressionsKeepToCycles = (p : Places) (e : CheckedExpression) → cycles_of (lowered_expression p e) + 8 ≤ expression_price cycles_column e
 
--- what the entries of the private scalars take where a task leaves, each 21 cycles
+-- what the entries of the private scalars take at most where a task leaves, 26 cycles for each
 abbrev pub entry_cycles : Places → End → ℕ
 entry_cycles p (GoesOn s) = 0
-entry_cycles p (Jumps to s) = 21 * length p.privates
+entry_cycles p (Jumps to s) = 26 * length p.privates
 entry_cycles p Short = 0
-entry_cycles p Strays = 21 * length p.privates
-entry_cycles p Broken = 21 * length p.privates
+entry_cycles p Strays = 26 * length p.privates
+entry_cycles p Broken = 26 * length p.privates
 
 -- the cycles of statements from any state on, along the way that they take: those of the allowance, and behind a transition those of the
 -- entries

@@ -1,11 +1,11 @@
 -- Where the words that a task works on stand apart from the runtime's, and for how much there is room.
-use Rattle.std.specs.Prelude.{◌≡◌, ℕ, ◌+◌, ◌*◌, ◌%◌, ◌<◌, ◌≤◌, ◌==◌, if◌then◌else◌, List, [], ◌∷◌, length, All, AllPairs}
-use Rattle.memory_map.specs.address_space.Limits.{fram_first, fram_end}
+use Rattle.std.specs.Prelude.{◌≡◌, ℕ, ◌+◌, ◌*◌, ◌%◌, ◌≤◌, ◌==◌, if◌then◌else◌, List, [], ◌∷◌, length, All, AllPairs}
+use Rattle.memory_map.specs.address_space.Limits.{fram_first, fram_end, reset_vector}
 use Rattle.memory_map.specs.MemoryMap.{row_region}
 use Rattle.memory_map.specs.Places.{end_of}
 use Rattle.memory_map.specs.Spots.{Places, Element, IsCopied, Spot, IsSpot, spot_address}
 
--- for how many words an attempt has room: words that it emits, and entries of the commit list
+-- for how many words an attempt has room: words that it emits, and words that the commit list names
 pub record Room : Type 0 where
   pub emits : ℕ
   pub list : ℕ
@@ -14,10 +14,10 @@ pub record Room : Type 0 where
 pub record AreApart (p : Places) (room : Room) : Type 0 where
   pub row : fram_first ≤ p.map.row
   pub list : end_of (row_region p.map) ≤ p.map.list.address
-  pub emits : p.map.list.address + 4 * room.list ≤ p.map.emits.address
+  pub emits : p.map.list.address + 6 * room.list ≤ p.map.emits.address
   pub high : p.map.emits.address + 2 * room.emits ≤ fram_end
   pub spots : (s : Spot) → IsSpot p s → p.map.emits.address + 2 * room.emits ≤ spot_address p s
-  pub below : (s : Spot) → IsSpot p s → spot_address p s < fram_end
+  pub below : (s : Spot) → IsSpot p s → spot_address p s + 2 ≤ reset_vector
   pub distinct : (s t : Spot) → IsSpot p s → IsSpot p t → spot_address p s ≡ spot_address p t → s ≡ t
 
 -- all places are at even addresses, as the CPU takes words

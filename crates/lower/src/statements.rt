@@ -8,12 +8,13 @@ ghost use Rattle.task_ast.specs.View.{expression_of, statement_of, tested_of, bl
 ghost use Rattle.task_ast.specs.declared.names.VariableName.{VariableName};
 ghost use Rattle.task_ast.specs.declared.names.TaskName.{TaskName};
 ghost use Rattle.lower.specs.View.{places_in};
-ghost use Rattle.lower.specs.Lowered.{write_step, loop_local, lowered_expression, store_step, assignment, element_assignment, declaration, emission, entries, lowered_transition, lowered_statement, lowered_choice, lowered_block};
+ghost use Rattle.lower.specs.Lowered.{write_step, loop_local, lowered_expression, store_step, assignment, element_assignment, declaration, emission, lowered_transition, lowered_statement, lowered_choice, lowered_block};
 
 use crate::expressions::lower_expression;
 use crate::places::{TaskPlaces, local_number, no_array, written_array};
+use crate::runs::list_entries;
 use array_versions::WordProgram;
-use memory_map::{PrivateScalar, RuntimeWord};
+use memory_map::RuntimeWord;
 use std::alloc::{AllocError, Global};
 use task_ast::{Arm, Expr, Stmt, TaskName, Variable, VariableName};
 
@@ -123,22 +124,6 @@ fn loop_local(variable: Variable) -> u16
         Variable::Local(number) => local_number(number),
         Variable::Shared(_) => 0,
     }
-}
-
-// An entry of the commit list for each private scalar.
-#[tactic(auto, using(crate::proofs::Chains::entries_step, crate::proofs::Chains::entries_end))]
-fn list_entries(
-    privates: &[PrivateScalar],
-    count: u16,
-    list: u16,
-    program: &mut WordProgram,
-) -> Result<(), AllocError>
-    ensures { OnOk result (program_of program.new ≡ joined (program_of program.old) (entries count list privates.now)) }
-{
-    for scalar in privates {
-        program.list_entry(count, list, scalar.home, scalar.copy)?;
-    }
-    Ok(())
 }
 
 // The gate is raised last: from then on the transition stands, whatever happens to the power.

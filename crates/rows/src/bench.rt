@@ -1,5 +1,7 @@
 //! Files in memory, a call of the program over them, and what of its answer no part has said yet.
-use crate::calls::{is_compiled, is_first_word, is_image_printed, is_kept, is_printed};
+use crate::calls::{
+    is_compiled, is_first_word, is_image_printed, is_kept, is_printed, is_word_decided,
+};
 use crate::parts::Part;
 use crate::series::Series;
 use crate::turns::{ROOM, Turns};
@@ -147,7 +149,7 @@ impl Bench {
             b"ends" => self.says_end(said, &part.text),
             b"shows" => self.is_shown(said, &part.text)?,
             b"size" => self.has_size(said),
-            b"prints" | b"compiles" | b"word" | b"real" => self.calls_below(
+            b"prints" | b"compiles" | b"word" | b"decides" | b"real" => self.calls_below(
                 kind, said, &part.text,
             )?,
             _ => false,
@@ -219,6 +221,7 @@ impl Bench {
                 is_compiled(self.alloc, source, file)
             }
             b"word" => is_first_word(self.alloc, file, front, text),
+            b"decides" => is_word_decided(self.alloc, file, front, text),
             _ => is_kept(self.rt, name, file),
         }
     }

@@ -2,6 +2,7 @@
 use alp_io::{DirShelf, Shelf};
 use anyhow::Result;
 use energy_trace::{parse_trace, print_trace};
+use fram_board::Board;
 use image_text::{parse_image, print_image};
 use link_image::compile;
 use source_meaning::{Meaning, accept};
@@ -59,6 +60,42 @@ pub fn is_first_word(alloc: Global, source: &[u8], place: &str, word: &[u8]) -> 
             let found = first_word(alloc, source, v, i)?;
             Ok(format!(in alloc; "{found}\n")?.as_bytes() == word)
         }
+        _ => Ok(false),
+    }
+}
+
+// Where each compiled image has GATE, and the first word of its FRAM.
+const GATE: u16 = 0x4404;
+
+const FRAM: u16 = 0x4400;
+
+// A word of FRAM right behind the first decide of a source's image, in one charge without readings; nothing where none comes within
+// a million steps.
+fn word_decided(alloc: Global, source: &[u8], address: u16) -> Result<Option<u16>> {
+    if source.len() > LIMIT {
+        return Ok(None);
+    }
+    let image = compile(alloc, source)?;
+    let mut board = Board::new(alloc, &image, &[])?;
+    for _ in 0..1_000_000u32 {
+        if board.word(GATE) == Some(1) {
+            return Ok(board.word(address));
+        }
+        let is_full = board.accepted() == u64::MAX || board.repeats() == u64::MAX;
+        if is_full || board.step().is_err() {
+            return Ok(None);
+        }
+    }
+    Ok(None)
+}
+
+/// Whether a word of FRAM, by its number from 0, is printed so right behind the first decide of a source's image.
+pub fn is_word_decided(alloc: Global, source: &[u8], number: &str, word: &[u8]) -> Result<bool> {
+    match number.parse::<u16>() {
+        Ok(n) if n < 0x5e00 => match word_decided(alloc, source, FRAM + 2 * n)? {
+            Some(found) => Ok(format!(in alloc; "{found}\n")?.as_bytes() == word),
+            None => Ok(false),
+        },
         _ => Ok(false),
     }
 }

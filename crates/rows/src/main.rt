@@ -25,8 +25,8 @@
 //!   same under both.
 //! - `shows NAME`: the text that follows stands somewhere in the one under a name.
 //! - `size NAME N`: a text of N bytes stands under a name.
-//! - `prints NAME`, `prints image NAME`, `compiles NAME NAME`, `word V I NAME`, `real NAME`: calls that the program doesn't make,
-//!   as `calls` says.
+//! - `prints NAME`, `prints image NAME`, `compiles NAME NAME`, `word V I NAME`, `decides N NAME`, `real NAME`: calls that the
+//!   program doesn't make, as `calls` says.
 //!
 //! A text is made of lines `| TEXT`, which end with a line feed, and of `- TEXT` and `N * TEXT`, which don't; the last comes N
 //! times. In it `\HH` is the byte of two hexadecimal digits, `\#` the number of the turn, from 1, and `\@` the same from 0;

@@ -34,7 +34,7 @@ places_are_in_fram l h =
     let emits = r.emits.end in
     record {
       words = λ w. fram_word (word_place l w) (words_stand l w h).is_fram;
-      list = region l.list.address (4 * l.entries) r.list.even r.list.from (omega (arith, list, emits));
+      list = region l.list.address (6 * l.entries) r.list.even r.list.from (omega (arith, list, emits));
       emits = region l.emits.address (2 * l.emits.words) r.emits.even r.emits.from emits;
       versions = region l.versions.address (2 * l.versions.words) r.versions.even r.versions.from r.versions.end;
     }
@@ -53,7 +53,7 @@ homes_leave_commit l a h low high =
     let row = k.list in let list = k.emits in let emits = k.versions in let versions = k.homes in
     let v : l.versions.address ≤ a = omega (arith, versions, low) in
     let e : end_of l.emits ≤ a = omega (arith, emits, v) in
-    let i : l.list.address + 4 * l.entries ≤ a = omega (arith, list, e) in
+    let i : l.list.address + 6 * l.entries ≤ a = omega (arith, list, e) in
     record {
       next_task = λ q. let same : a ≡ word_place l NextTask = q in omega (arith, same, row, i);
       emit_count = λ q. let same : a ≡ word_place l EmitCount = q in omega (arith, same, row, i);

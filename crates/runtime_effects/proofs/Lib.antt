@@ -1,4 +1,5 @@
 mod Sends
+mod Entries
 pub mod Interface
 pub use Rattle.memory_map.proofs as memory_map
 pub use Rattle.machine_effects.proofs.fram_board as fram_board

@@ -1,5 +1,5 @@
 -- What commit and attempt start need of FRAM, and where the runtime's places stand.
-use Rattle.std.specs.Prelude.{◌≡◌, ◌≢◌, ℕ, ◌+◌, ◌*◌, ◌%◌, ◌<◌, ◌≤◌, ◌⊎◌, All}
+use Rattle.std.specs.Prelude.{◌≡◌, ◌≢◌, ℕ, ◌+◌, ◌*◌, ◌%◌, ◌<◌, ◌≤◌, ◌⊎◌, length, All}
 use Rattle.memory_map.specs.declared.words.RuntimeWord.{RuntimeWord}
 use Rattle.machine_effects.specs.Machine.{IsFram}
 use Rattle.memory_map.specs.declared.words.RuntimeWord.TheVariants.{CurrentTask, NextTask, ListLength, EmitCount, SentBase}
@@ -31,16 +31,18 @@ pub record LeavesCommit (m : MemoryMap) (a : ℕ) : Type 0 where
   pub list : IsOutOf m.list.address (entry_bytes * m.entries) a
   pub emits : IsOutOf m.emits.address (2 * m.emits.words) a
 
--- a word to copy home: both are words of FRAM, and the home is none that the commit reads
+-- a word to copy home: both are words of FRAM, the copy in front of the last one, and the home is none that the commit reads
 pub record IsCopied (m : MemoryMap) (x : CopyPair) : Type 0 where
   pub home : IsFram x.home
   pub copy : IsFram x.copy
+  pub before_last : x.copy + 2 < 0x10000
   pub leaves : LeavesCommit m x.home
 
--- FRAM on which a commit can be made: its list and its emits are within their capacities, and it copies words of FRAM to words that
--- it doesn't read
+-- FRAM on which a commit can be made: its entries, the words that they name and its emits are within their capacities, and it copies
+-- words of FRAM to words that it doesn't read
 pub record CanCommit (m : MemoryMap) (f : ℕ → ℕ) : Type 0 where
   pub list_length : f (word_place m ListLength) ≤ m.entries
+  pub words : length (listed m f) ≤ m.entries
   pub emit_count : f (word_place m EmitCount) ≤ m.emits.words
   pub copies : All (IsCopied m) (listed m f)
 

@@ -14,7 +14,7 @@ use Rattle.crash_rules.proofs.Interface.{holds-append}
 use Rattle.stands_for.specs.Layout.{ProgramPlaces, StateView, IsSharedWord, IsAmong, HaveRoom}
 use Rattle.stands_for.specs.StandsFor.{HoldsWords, RestsAt, DecidedWith, DecidedFrom}
 use Rattle.stands_for.specs.Program.{IsCommitStore}
-use Rattle.stands_for.proofs.Keeps.{put_either, put_words, With, few, few_emits, copy_keeps, cur_keeps, base_keeps, weaken, send_keeps}
+use Rattle.stands_for.proofs.Keeps.{put_either, put_words, With, few, few_words, few_emits, copy_keeps, cur_keeps, base_keeps, weaken, send_keeps}
 use Rattle.runtime_effects.specs.memory_map.MemoryMap.{word_place}
 use Rattle.runtime_effects.specs.memory_map.declared.words.RuntimeWord.TheVariants.{CurrentTask, NextTask, Gate, EmitCount, Base, SentBase, Version}
 use Rattle.runtime_effects.specs.memory_map.Laws.{AreApart}
@@ -266,6 +266,7 @@ module _ {St : Type 0} (l : ProgramPlaces) (apart : AreApart l.map) (room : Have
       let most = few_emits l apart room v s next (listed l.map x.fram) dd.emits 0 x d in
       record {
         list_length = few l apart room v s next (listed l.map x.fram) dd.emits 0 x d;
+        words = few_words l apart room v s next (listed l.map x.fram) dd.emits 0 x d;
         emit_count = omega (arith, count, most);
         copies = all_among (IsCopied l.map) (listed l.map x.fram) (λ p h.
             let home = d.homes p h in let copy = d.copies p h in
@@ -273,6 +274,7 @@ module _ {St : Type 0} (l : ProgramPlaces) (apart : AreApart l.map) (room : Have
             record {
               home = record { even = even_home; low = omega (arith, apart, home); high = omega (arith, apart, home) };
               copy = record { even = even_copy; low = omega (arith, apart, copy); high = omega (arith, apart, copy) };
+              before_last = omega (arith, apart, copy);
               leaves = record {
                 next_task = λ e. omega (arith, apart, home, e);
                 emit_count = λ e. omega (arith, apart, home, e);

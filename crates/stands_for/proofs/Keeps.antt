@@ -6,6 +6,7 @@ use Rattle.runtime_effects.specs.fram_board.Effects.{Store, Send}
 use Rattle.runtime_effects.specs.machine_effects.World.{World, put, world_after_one}
 use Rattle.runtime_effects.proofs.machine_effects.Interface.{put_same, put_other}
 use Rattle.runtime_effects.specs.Places.{CopyPair, entry_bytes, entries_from}
+use Rattle.runtime_effects.proofs.Interface.{entries_alike}
 use Rattle.stands_for.specs.Layout.{ProgramPlaces, StateView, IsSharedWord, IsAmong, HaveRoom}
 use Rattle.stands_for.specs.StandsFor.{HoldsWords, AcceptedFrom, DecidedWith}
 use Rattle.runtime_effects.specs.memory_map.MemoryMap.{word_place}
@@ -22,15 +23,6 @@ pub put_words : (f : ℕ → ℕ) (a w : ℕ) → HoldsWords f → w < 0x10000 �
 put_words f a w h k b =
     ⊎_elim {C = put f a w b < 0x10000} (λ q. subst (λ z. z < 0x10000) (sym q.1) k) (λ q. subst (λ z. z < 0x10000) (sym q.1) (h b)) (put_either f a w b)
 
--- entries that stand the same name the same words
-pub entries_same : (n p : ℕ) (f g : ℕ → ℕ) → ((a : ℕ) → p ≤ a → a < p + entry_bytes * n → g a ≡ f a) → entries_from n p g ≡ entries_from n p f
-entries_same zero p f g h = refl
-entries_same (suc n) p f g h =
-    let e0 = h p (omega arith) (omega arith) in
-    let e1 = h (p + 2) (omega arith) (omega arith) in
-    let r = entries_same n (p + entry_bytes) f g (λ a l u. h a (omega (arith, l)) (omega (arith, u))) in
-    ap₂ (λ x y. x ∷ y) (ap₂ (λ a b. record { home = a; copy = b }) e0 e1) r
-
 same_number : (a j i : ℕ) → j ≤ 256 → i ≤ 256 → (a + i) % 0x10000 ≡ (a + j) % 0x10000 → i ≡ j
 same_number a j i hj hi e = omega arith
 
@@ -42,6 +34,9 @@ module _ {St : Type 0} (l : ProgramPlaces) (apart : AreApart l.map) (room : Have
   -- the list and the emitted words have room
   pub few : (k : ℕ) (x : World) → With k x → x.fram (word_place l.map ListLength) ≤ l.map.entries
   few k x d = let a = d.within_list in let b = room.list (v.task s) d.is_task in omega (arith, a, b)
+
+  pub few_words : (k : ℕ) (x : World) → With k x → length ps ≤ l.map.entries
+  few_words k x d = let a = d.within_words in let b = room.list (v.task s) d.is_task in omega (arith, a, b)
 
   pub few_emits : (k : ℕ) (x : World) → With k x → length es ≤ l.map.emits.words
   few_emits k x d = let a = d.within_emits in let b = room.emits (v.task s) d.is_task in omega (arith, a, b)
@@ -81,9 +76,10 @@ module _ {St : Type 0} (l : ProgramPlaces) (apart : AreApart l.map) (room : Have
         words = ws;
         gate = same (word_place m Gate) (λ h. omega (arith, apart, h)) (λ e. omega (arith, apart, e)) (λ e. omega (arith, apart, e)) ∙ d.gate;
         next_task = same (word_place m NextTask) (λ h. omega (arith, apart, h)) (λ e. omega (arith, apart, e)) (λ e. omega (arith, apart, e)) ∙ d.next_task;
-        pairs_listed = ap (λ n. entries_from n m.list.address y.fram) cln ∙ entries_same (x.fram (word_place m ListLength)) m.list.address x.fram y.fram list
+        pairs_listed = ap (λ n. entries_from n m.list.address y.fram) cln ∙ entries_alike (x.fram (word_place m ListLength)) m.list.address x.fram y.fram list
             ∙ d.pairs_listed;
         within_list = subst (λ n. n ≤ l.list_capacity (v.task s)) (sym cln) d.within_list;
+        within_words = d.within_words;
         homes = d.homes;
         copies = d.copies;
         copied = λ p h. let c = d.copies p h in same p.copy (λ q. omega (arith, apart, q, c)) (λ e. omega (arith, apart, e, c))

@@ -55,6 +55,7 @@ pub record DecidedWith {St : Type 0} (l : ProgramPlaces) (v : StateView St) (s n
   pub next_task : x.fram (word_place l.map NextTask) ≡ v.task next
   pub pairs_listed : listed l.map x.fram ≡ pairs
   pub within_list : x.fram (word_place l.map ListLength) ≤ l.list_capacity (v.task s)
+  pub within_words : length pairs ≤ l.list_capacity (v.task s)
   pub homes : (p : CopyPair) → IsAmong pairs p → IsSharedWord l p.home
   pub copies : (p : CopyPair) → IsAmong pairs p → IsCopyWord l p.copy
   pub copied : (p : CopyPair) → IsAmong pairs p → x.fram p.copy ≡ v.word next p.home

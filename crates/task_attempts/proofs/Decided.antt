@@ -1,9 +1,10 @@
 -- Behind the last store of a transition the world is decided to the state that the source comes to.
-use Rattle.std.proofs.Common.{◌≡◌, ℕ, ◌+◌, ◌-◌, ◌*◌, ◌%◌, ◌<◌, ◌≤◌, List, [], ◌∷◌, ◌++◌, length, get_or, Some, true, refl, sym, ap, ◌∙◌, subst, ⊎_elim, inl, arith, append_assoc, append-nil}
+use Rattle.std.proofs.Common.{◌≡◌, ℕ, ◌+◌, ◌-◌, ◌*◌, ◌%◌, ◌<◌, ◌≤◌, List, [], ◌∷◌, ◌++◌, length, length-append, map, get_or, Some, true, refl, sym, ap, ◌∙◌, subst, ⊎_elim, inl, arith, append_assoc, append-nil}
 use Rattle.std.specs.Prelude.{Contains, slice_get}
-use Rattle.std.proofs.lemmas.Bool.{cases_lt}
 use Rattle.std.proofs.lemmas.List.{get_or_past}
-use Rattle.std.proofs.lemmas.Option.{slice_get_cases, slice_get-get_or, slice_get_within}
+use Rattle.std.proofs.lemmas.Bool.{cases_lt}
+use Rattle.std.proofs.lemmas.List.{length-map}
+use Rattle.std.proofs.lemmas.Option.{slice_get_cases, slice_get_within}
 use Rattle.layout_facts.specs.fram_board.Effects.{Effect, Store}
 use Rattle.layout_facts.specs.machine_effects.World.{World, world_after_one, world_after, fram_after}
 use Rattle.layout_facts.proofs.machine_effects.Interface.{fram_after-append, world_after-append, each_store-front, put_same, put_other, each_store-back}
@@ -17,25 +18,25 @@ use Rattle.layout_facts.specs.source_values.Values.{word_at}
 use Rattle.layout_facts.specs.source_values.Statements.{Attempt}
 use Rattle.layout_facts.specs.source_values.Runs.{CheckedProgram, State, initial_words}
 use Rattle.layout_facts.specs.array_versions.Behaviour.{WordState, started}
-use Rattle.layout_facts.specs.runtime_effects.Places.{CopyPair, listed}
-use Rattle.layout_facts.proofs.lower.Interface.{takes_append}
+use Rattle.layout_facts.specs.runtime_effects.Places.{CopyPair, entries_from, listed}
+use Rattle.layout_facts.proofs.lower.Interface.{takes_append, few_entries, scalar_pair, runs_are_few}
+use Rattle.layout_facts.specs.lower.Runs.{runs_of}
 use Rattle.layout_facts.specs.boot_runtime.Entries.{task_entries}
 use Rattle.layout_facts.specs.boot_runtime.Listing.{privates_in}
 use Rattle.layout_facts.specs.stands_for.Layout.{IsAmong, IsSharedWord, IsCopyWord, ProgramPlaces, StateView}
 use Rattle.layout_facts.specs.stands_for.StandsFor.{StartedAt, DecidedWith, DecidedFrom}
 use Rattle.layout_facts.proofs.stands_for.Interface.{put_words}
 use Rattle.layout_facts.specs.lower.Spots.{Room}
-use Rattle.layout_facts.specs.lower.Agreement.{TakesAndStores, transition_effects, Bounds, bounds_of, Left, place_length}
+use Rattle.layout_facts.specs.lower.Agreement.{TakesAndStores, transition_effects, element_pair, Bounds, bounds_of, Left, place_length}
 use Rattle.layout_facts.specs.compiled_model.Places.{program_places}
 use Rattle.layout_facts.specs.compiled_model.View.{state_view, are_rows}
 use Rattle.layout_facts.proofs.memory_map.Interface.{scalar_home}
-use Rattle.layout_facts.proofs.Interface.{contains_at}
 use Rattle.task_attempts.proofs.Given.{IsGiven, IsTaskGiven}
 use Rattle.task_attempts.proofs.Rows.{rows_are, rows_count, declared_length}
 use Rattle.task_attempts.proofs.StoredWords.{StoresWords}
 use Rattle.task_attempts.proofs.Quiet.{IsQuiet, IsQuietAt, quiet_behind, stores_as, stays_within}
-use Rattle.task_attempts.proofs.Entries.{IsTransitionStore, transition_stores, closing, closed, closed_sent, closed_next, closed_count, closed_home, closed_copy, IsLeft, closed_left}
-use Rattle.task_attempts.proofs.Listed.{entry_at, entry_among, among_entries}
+use Rattle.task_attempts.proofs.Entries.{IsTransitionStore, transition_stores, closing, closed, closed_sent, closed_next, closed_count, closed_pairs, IsLeft, closed_left}
+use Rattle.task_attempts.proofs.Listed.{among_either, among_front, among_back, among_map, map_among}
 use Rattle.task_attempts.proofs.Tasks.{IsAt, places, body, room, task_given, body_is, private_copy}
 use Rattle.task_attempts.proofs.Stores.{Safe, StoresOf, task_safe, transition_safe}
 use Rattle.task_attempts.proofs.Words.{OwnWord, marked, unmarked, own_word_of, IsTaskWord, left_there, private, element as an_element, task_word, element_word}
@@ -93,8 +94,9 @@ module _ (p : CheckedProgram) (l : MemoryMap) (given : IsGiven p l) (s : State) 
   module _ (es : List Effect) (to : ℕ) (end : WordState) (task : ℕ) (m : Attempt)
       (left : Left here bounds es to end task m) (stored : StoresWords es)
       (next_task : task < length p.tasks) (rows : length m.variables.shared ≡ length s.shared) where
+    -- the entries in front of the transition's
     abbrev count : ℕ
-    count = length left.listed
+    count = left.there.fram (word_place l ListLength)
 
     abbrev base : ℕ
     base = left.there.fram (word_place l Base)
@@ -109,8 +111,15 @@ module _ (p : CheckedProgram) (l : MemoryMap) (given : IsGiven p l) (s : State) 
     pub effects_are : es ≡ before ++ Store (word_place l Gate) 1 ∷ []
     effects_are = left.effects ∙ sym (append_assoc left.body transition (Store (word_place l Gate) 1 ∷ []))
 
-    few : count + length i.layout.privates ≤ list_of p.shared code
-    few = facts.has_room left.listed left.stands.list.are_listed (λ v. let k = left.few v in omega (arith, k))
+    few_words : length left.listed + length i.layout.privates ≤ list_of p.shared code
+    few_words = facts.has_room left.listed left.stands.list.are_listed (λ v. let k = left.few v in omega (arith, k))
+
+    few : count + length (runs_of i.layout.privates) ≤ list_of p.shared code
+    few =
+        let words = few_words in
+        let entries = few_entries here left.listed left.there.fram left.stands.list in
+        let runs = runs_are_few i.layout.privates in
+        omega (arith, words, entries, runs)
 
     words_before : StoresWords before
     words_before = each_store-front (λ a w. w < 0x10000) before (Store (word_place l Gate) 1 ∷ []) (subst StoresWords effects_are stored)
@@ -137,28 +146,26 @@ module _ (p : CheckedProgram) (l : MemoryMap) (given : IsGiven p l) (s : State) 
     u = quiet_behind sites view s ver before x quiet_before quiet_start
 
     abbrev g : ℕ → ℕ
-    g = closed here space facts.apart task count base left.there.fram left.stands.list.list_length
+    g = closed here space facts.apart task count base left.there.fram refl
 
     z_is : z.fram ≡ g
     z_is =
         ap (λ w. w.fram) (sym (world_after-append before (Store (word_place l Gate) 1 ∷ []) x))
         ∙ world_fram (before ++ Store (word_place l Gate) 1 ∷ []) x
         ∙ ap (λ e. fram_after e x.fram) (append_assoc left.body transition (Store (word_place l Gate) 1 ∷ []))
-        ∙ fram_after-append left.body (closing here space facts.apart task count base left.there.fram
-        left.stands.list.list_length) x.fram
-        ∙ ap (fram_after (closing here space facts.apart task count base left.there.fram
-        left.stands.list.list_length)) (sym left.arrived)
+        ∙ fram_after-append left.body (closing here space facts.apart task count base left.there.fram refl) x.fram
+        ∙ ap (fram_after (closing here space facts.apart task count base left.there.fram refl)) (sym left.arrived)
 
     z_before : (a : ℕ) → (a ≡ word_place l Gate → ⊥) → z.fram a ≡ y.fram a
     z_before a ne = put_other y.fram (word_place l Gate) 1 a ne
 
     abbrev Stays : ℕ → Type 0
-    Stays a = IsLeft here space facts.apart task count base left.there.fram left.stands.list.list_length a
+    Stays a = IsLeft here space facts.apart task count base left.there.fram refl a
 
     z_there : (a : ℕ) → Stays a → z.fram a ≡ left.there.fram a
     z_there a h =
         ap (λ f. f a) z_is
-        ∙ closed_left here space facts.apart task count base left.there.fram left.stands.list.list_length a h
+        ∙ closed_left here space facts.apart task count base left.there.fram refl a h
 
     high_stays : (a : ℕ) → l.emits.address ≤ a → Stays a
     high_stays a h =
@@ -222,86 +229,59 @@ module _ (p : CheckedProgram) (l : MemoryMap) (given : IsGiven p l) (s : State) 
 
     -- ---- the commit list
 
-    z_count : z.fram (word_place l ListLength) ≡ count + length i.layout.privates
+    z_count : z.fram (word_place l ListLength) ≡ count + length (runs_of i.layout.privates)
     z_count =
         ap (λ f. f (word_place l ListLength)) z_is
-        ∙ closed_count here space facts.apart task count base left.there.fram left.stands.list.list_length
-
-    old_stays : (a j : ℕ) → j < count → l.list.address ≤ a → a < 4 * (j + 1) + l.list.address → Stays a
-    old_stays a j h lo hi =
-        let apart = facts.apart in
-        record {
-          next_task = λ e. omega (arith, apart, e, lo);
-          gate = λ e. omega (arith, apart, e, lo);
-          list_length = λ e. omega (arith, apart, e, lo);
-          sent_base = λ e. omega (arith, apart, e, lo);
-          entries = λ from below. omega (arith, from, hi, h);
-        }
+        ∙ closed_count here space facts.apart task count base left.there.fram refl
 
     -- a pair of the list is an element with its copy, or a private scalar with its copy
     data IsPair (q : CopyPair) : Type 0 where
       of_element : (e : Element) → Contains left.listed e → q.home ≡ element_address here e → q.copy ≡ copy_address here e → IsPair q
       of_private : (r : PrivateScalar) → Contains i.layout.privates r → q.home ≡ r.home → q.copy ≡ r.copy → IsPair q
 
-    old_home : (j : ℕ) (e : Element) → slice_get left.listed j ≡ Some e → z.fram (4 * j + l.list.address) ≡ element_address here e
-    old_home j e h =
-        let below = slice_get_within left.listed j e h in
-        z_there (4 * j + l.list.address) (old_stays (4 * j + l.list.address) j below (omega arith) (omega arith)) ∙ left.stands.list.homes j e h
-
-    old_copy : (j : ℕ) (e : Element) → slice_get left.listed j ≡ Some e → z.fram (4 * j + l.list.address + 2) ≡ copy_address here e
-    old_copy j e h =
-        let below = slice_get_within left.listed j e h in
-        z_there (4 * j + l.list.address + 2) (old_stays (4 * j + l.list.address + 2) j below (omega arith) (omega arith)) ∙ left.stands.list.copies j e h
-
-    new_home : (j : ℕ) (r : PrivateScalar) → slice_get i.layout.privates j ≡ Some r → z.fram (4 * (count + j) + l.list.address) ≡ r.home
-    new_home j r h =
-        ap (λ f. f (4 * (count + j) + l.list.address)) z_is
-        ∙ closed_home here space facts.apart task count base left.there.fram left.stands.list.list_length j r h
-
-    new_copy : (j : ℕ) (r : PrivateScalar) → slice_get i.layout.privates j ≡ Some r → z.fram (4 * (count + j) + l.list.address + 2) ≡ r.copy
-    new_copy j r h =
-        ap (λ f. f (4 * (count + j) + l.list.address + 2)) z_is
-        ∙ closed_copy here space facts.apart task count base left.there.fram left.stands.list.list_length j r h
-
-    entry_pair : (j : ℕ) → j < count + length i.layout.privates → (q : CopyPair) → q ≡ entry_at l.list.address z.fram j → IsPair q
-    entry_pair j h q is =
-        ⊎_elim {C = IsPair q}
-        (λ c. of_element c.0 (contains_at left.listed j c.0 c.2) (ap (λ r. r.home) is ∙ old_home j c.0 c.2) (ap (λ r. r.copy) is ∙ old_copy j c.0 c.2))
-        (λ c.
-        let past = c.0 in
-        let n = j - count in
-        let same : count + n ≡ j = omega (arith, past) in
-        let r = item_at i.layout.privates n (omega (arith, past, h)) in
-        of_private r.0 (contains_at i.layout.privates n r.0 r.1)
-        (ap (λ r. r.home) is ∙ ap (λ k. z.fram (4 * k + l.list.address)) (sym same) ∙ new_home n r.0 r.1)
-        (ap (λ r. r.copy) is ∙ ap (λ k. z.fram (4 * k + l.list.address + 2)) (sym same) ∙ new_copy n r.0 r.1))
-        (slice_get_cases left.listed j).1
+    -- what the list names: the elements, and the private scalars behind them
+    z_pairs : listed sites.map z.fram ≡ map (element_pair here) left.listed ++ map scalar_pair i.layout.privates
+    z_pairs =
+        ap (λ f. entries_from (f (word_place l ListLength)) l.list.address f) z_is
+        ∙ closed_pairs here space facts.apart task count base left.there.fram refl
+        ∙ ap (λ ps. ps ++ map scalar_pair i.layout.privates) left.stands.list.pairs
 
     abbrev Listed : CopyPair → Type 0
     Listed q = IsAmong (listed sites.map z.fram) q
 
     pair_of_list : (q : CopyPair) → Listed q → IsPair q
     pair_of_list q h =
-        let r = among_entries (z.fram (word_place l ListLength)) l.list.address z.fram q h in
-        let below = r.1 in
-        let counted = z_count in
-        entry_pair r.0 (omega (arith, below, counted)) q r.2
-
-    list_has : (j : ℕ) → j < count + length i.layout.privates → Listed (entry_at l.list.address z.fram j)
-    list_has j h = let counted = z_count in entry_among (z.fram (word_place l ListLength)) l.list.address j z.fram (omega (arith, h, counted))
-
-    at_of : {X : Type 0} (xs : List X) (e : X) (h : Contains xs e) → slice_get xs h.0 ≡ Some e
-    at_of xs e h = slice_get-get_or xs h.0 e h.1 ∙ ap Some h.2
+        ⊎_elim {C = IsPair q}
+        (λ c. let e = among_map (element_pair here) left.listed q c in of_element e.0 e.1 (ap (λ r. r.home) e.2) (ap (λ r. r.copy) e.2))
+        (λ c. let r = among_map scalar_pair i.layout.privates q c in of_private r.0 r.1 (ap (λ k. k.home) r.2) (ap (λ k. k.copy) r.2))
+        (among_either (map (element_pair here) left.listed) (map scalar_pair i.layout.privates) q (subst (λ ps. IsAmong ps q) z_pairs h))
 
     element_listed : (e : Element) → Contains left.listed e → (q : CopyPair) × Listed q × (q.home ≡ element_address here e)
-    element_listed e h =
-        let below = h.1 in
-        (entry_at l.list.address z.fram h.0, list_has h.0 (omega (arith, below)), old_home h.0 e (at_of left.listed e h))
+    element_listed e h = (
+      element_pair here e,
+      subst (λ ps. IsAmong ps (element_pair here e)) (sym z_pairs)
+          (among_front (map (element_pair here) left.listed) (map scalar_pair i.layout.privates) (element_pair here e)
+          (map_among (element_pair here) left.listed e h)),
+      refl,
+    )
 
     private_listed : (r : PrivateScalar) → Contains i.layout.privates r → (q : CopyPair) × Listed q × (q.home ≡ r.home)
-    private_listed r h =
-        let below = h.1 in
-        (entry_at l.list.address z.fram (count + h.0), list_has (count + h.0) (omega (arith, below)), new_home h.0 r (at_of i.layout.privates r h))
+    private_listed r h = (
+      scalar_pair r,
+      subst (λ ps. IsAmong ps (scalar_pair r)) (sym z_pairs)
+          (among_back (map (element_pair here) left.listed) (map scalar_pair i.layout.privates) (scalar_pair r)
+          (map_among scalar_pair i.layout.privates r h)),
+      refl,
+    )
+
+    -- as many words as elements and private scalars
+    list_words : length (listed sites.map z.fram) ≡ length left.listed + length i.layout.privates
+    list_words =
+        let same = ap (length {A = CopyPair}) z_pairs in
+        let both = length-append (map (element_pair here) left.listed) (map scalar_pair i.layout.privates) in
+        let elements = length-map left.listed (element_pair here) in
+        let scalars = length-map i.layout.privates scalar_pair in
+        omega (arith, same, both, elements, scalars)
 
     -- ---- the next state
 
@@ -426,12 +406,12 @@ module _ (p : CheckedProgram) (l : MemoryMap) (given : IsGiven p l) (s : State) 
     sent_is : z.fram (word_place l SentBase) ≡ base
     sent_is =
         ap (λ f. f (word_place l SentBase)) z_is
-        ∙ closed_sent here space facts.apart task count base left.there.fram left.stands.list.list_length
+        ∙ closed_sent here space facts.apart task count base left.there.fram refl
 
     next_is : z.fram (word_place l NextTask) ≡ task % 65536
     next_is =
         ap (λ f. f (word_place l NextTask)) z_is
-        ∙ closed_next here space facts.apart task count base left.there.fram left.stands.list.list_length
+        ∙ closed_next here space facts.apart task count base left.there.fram refl
 
     emit_count_is : z.fram (word_place l EmitCount) ≡ length m.emitted
     emit_count_is =
@@ -475,6 +455,8 @@ module _ (p : CheckedProgram) (l : MemoryMap) (given : IsGiven p l) (s : State) 
           pairs_listed = refl;
           within_list = subst (λ b. z.fram (word_place l ListLength) ≤ list_of p.shared b) (sym (body_is p l given s.task i))
               (let e = z_count in let f = few in omega (arith, e, f));
+          within_words = subst (λ b. length (listed sites.map z.fram) ≤ list_of p.shared b) (sym (body_is p l given s.task i))
+              (let e = list_words in let f = few_words in omega (arith, e, f));
           homes = λ q h. is_home q (pair_of_list q h);
           copies = λ q h. is_copy q (pair_of_list q h);
           copied = λ q h. is_copied q (pair_of_list q h);

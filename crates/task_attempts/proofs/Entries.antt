@@ -1,96 +1,87 @@
 -- What FRAM holds behind a transition's stores.
-use Rattle.std.proofs.Common.{◌≡◌, ℕ, zero, suc, ◌+◌, ◌*◌, ◌%◌, ◌<◌, ◌≤◌, List, [], ◌∷◌, ◌++◌, length, Some, refl, ap, ◌∙◌, arith}
-use Rattle.std.specs.Prelude.{slice_get}
+use Rattle.std.proofs.Common.{◌≡◌, ℕ, zero, suc, ◌+◌, ◌*◌, ◌%◌, ◌<◌, ◌≤◌, List, [], ◌∷◌, ◌++◌, length, map, refl, sym, ap, ◌∙◌, arith, append_assoc, append-nil}
 use Rattle.layout_facts.specs.fram_board.Effects.{Effect, Store}
 use Rattle.layout_facts.specs.machine_effects.World.{put, fram_after}
-use Rattle.layout_facts.proofs.machine_effects.Interface.{fram_after-append, put_same, put_other, put_at}
+use Rattle.layout_facts.proofs.machine_effects.Interface.{fram_after-append, put_same, put_other}
 use Rattle.layout_facts.specs.lower.Spots.{Room, AreApart}
 use Rattle.layout_facts.specs.lower.Agreement.{TakesAndStores, entry_effects, transition_effects}
-use Rattle.layout_facts.proofs.lower.Interface.{takes_append}
+use Rattle.layout_facts.proofs.lower.Interface.{takes_append, after_entry, entered_pairs, pairs_of_runs, scalar_pair, runs_pairs}
 use Rattle.layout_facts.specs.memory_map.MemoryMap.{word_place}
 use Rattle.layout_facts.specs.memory_map.declared.words.RuntimeWord.TheVariants.{NextTask, Gate, ListLength, SentBase}
-use Rattle.layout_facts.specs.memory_map.declared.place.PrivateScalar.{PrivateScalar}
+use Rattle.layout_facts.specs.runtime_effects.Places.{run_pairs, entries_from}
+use Rattle.runtime_effects.proofs.Interface.{entries_alike}
+use Rattle.layout_facts.specs.lower.declared.runs.Run.{Run}
+use Rattle.layout_facts.specs.lower.Runs.{runs_of}
 use Rattle.layout_facts.specs.memory_map.Spots.{Places}
 
 module _ (count list : ℕ) where
-  -- FRAM behind an entry, the i-th
-  abbrev behind_entry : ℕ → PrivateScalar → (ℕ → ℕ) → (ℕ → ℕ)
-  behind_entry i s f = put (put (put f (4 * i + list) s.home) (4 * i + list + 2) s.copy) count (i + 1)
-
   -- words before the entries and behind them stay
-  pub entries_elsewhere : (ps : List PrivateScalar) (i x : ℕ) (f : ℕ → ℕ) → (x ≡ count → ⊥) → (4 * i + list ≤ x → x < 4 * (i + length ps) + list → ⊥)
-      → fram_after (entry_effects count list i ps) f x ≡ f x
+  pub entries_elsewhere : (rs : List Run) (i x : ℕ) (f : ℕ → ℕ) → (x ≡ count → ⊥) → (6 * i + list ≤ x → x < 6 * (i + length rs) + list → ⊥)
+      → fram_after (entry_effects count list i rs) f x ≡ f x
   entries_elsewhere [] i x f ne out = refl
-  entries_elsewhere (s ∷ more) i x f ne out =
-      let g = put f (4 * i + list) s.home in
-      let h = put g (4 * i + list + 2) s.copy in
-      entries_elsewhere more (i + 1) x (behind_entry i s f) ne (λ lo hi. out (omega (arith, lo)) (omega (arith, hi)))
-      ∙ put_other h count (i + 1) x ne
-      ∙ put_other g (4 * i + list + 2) s.copy x (λ e. out (omega (arith, e)) (omega (arith, e)))
-      ∙ put_other f (4 * i + list) s.home x (λ e. out (omega (arith, e)) (omega (arith, e)))
+  entries_elsewhere (r ∷ more) i x f ne out =
+      let a = 6 * i + list in
+      let g = put f a r.home in
+      let h = put g (a + 2) r.copy in
+      let k = put h (a + 4) r.words in
+      entries_elsewhere more (i + 1) x (after_entry count list i r.home r.copy r.words f) ne (λ lo hi. out (omega (arith, lo)) (omega (arith, hi)))
+      ∙ put_other k count (i + 1) x ne
+      ∙ put_other h (a + 4) r.words x (λ e. out (omega (arith, e)) (omega (arith, e)))
+      ∙ put_other g (a + 2) r.copy x (λ e. out (omega (arith, e)) (omega (arith, e)))
+      ∙ put_other f a r.home x (λ e. out (omega (arith, e)) (omega (arith, e)))
 
-  -- an entry's home
-  pub home_there : (ps : List PrivateScalar) (i j x : ℕ) (f : ℕ → ℕ) (s : PrivateScalar) → slice_get ps j ≡ Some s → count + 2 ≤ list → x ≡ 4 * (i + j) + list
-      → fram_after (entry_effects count list i ps) f x ≡ s.home
-  home_there [] i j x f s e low at = cc e
-  home_there (u ∷ more) i zero x f s e low at =
-      let g = put f (4 * i + list) u.home in
-      let h = put g (4 * i + list + 2) u.copy in
-      let same : u ≡ s = cc in
-      entries_elsewhere more (i + 1) x (behind_entry i u f) (λ k. omega (arith, k, at, low)) (λ lo hi. omega (arith, lo, at))
-      ∙ put_other h count (i + 1) x (λ k. omega (arith, k, at, low))
-      ∙ put_other g (4 * i + list + 2) u.copy x (λ k. omega (arith, k, at))
-      ∙ put_at f (4 * i + list) u.home x (omega (arith, at))
-      ∙ ap (λ z. z.home) same
-  home_there (u ∷ more) i (suc j) x f s e low at = home_there more (i + 1) j x (behind_entry i u f) s e low (omega (arith, at))
-
-  -- an entry's copy
-  pub copy_there : (ps : List PrivateScalar) (i j x : ℕ) (f : ℕ → ℕ) (s : PrivateScalar) → slice_get ps j ≡ Some s → count + 2 ≤ list → x ≡ 4 *
-      (i + j) + list + 2
-      → fram_after (entry_effects count list i ps) f x ≡ s.copy
-  copy_there [] i j x f s e low at = cc e
-  copy_there (u ∷ more) i zero x f s e low at =
-      let g = put f (4 * i + list) u.home in
-      let h = put g (4 * i + list + 2) u.copy in
-      let same : u ≡ s = cc in
-      entries_elsewhere more (i + 1) x (behind_entry i u f) (λ k. omega (arith, k, at, low)) (λ lo hi. omega (arith, lo, at))
-      ∙ put_other h count (i + 1) x (λ k. omega (arith, k, at, low))
-      ∙ put_at g (4 * i + list + 2) u.copy x (omega (arith, at))
-      ∙ ap (λ z. z.copy) same
-  copy_there (u ∷ more) i (suc j) x f s e low at = copy_there more (i + 1) j x (behind_entry i u f) s e low (omega (arith, at))
+  -- what the entries name, behind what those before them name
+  pub entries_name : (rs : List Run) (i : ℕ) (f : ℕ → ℕ) → count + 2 ≤ list
+      → entries_from (i + length rs) list (fram_after (entry_effects count list i rs) f) ≡ entries_from i list f ++ pairs_of_runs rs
+  entries_name [] i f low =
+      let none : i + 0 ≡ i = omega arith in
+      ap (λ n. entries_from n list f) none ∙ sym (append-nil (entries_from i list f))
+  entries_name (r ∷ more) i f low =
+      let g = after_entry count list i r.home r.copy r.words f in
+      let next : i + suc (length more) ≡ i + 1 + length more = omega arith in
+      let last = fram_after (entry_effects count list (i + 1) more) g in
+      ap (λ n. entries_from n list last) next ∙ entries_name more (i + 1) g low
+      ∙ ap (λ l. l ++ pairs_of_runs more) (entered_pairs count list i r.home r.copy r.words f low)
+      ∙ append_assoc (entries_from i list f) (run_pairs r.words r.home r.copy) (pairs_of_runs more)
 
   -- how many there are
-  pub count_there : (ps : List PrivateScalar) (i : ℕ) (f : ℕ → ℕ) → f count ≡ i → fram_after (entry_effects count list i ps) f count ≡ i + length ps
+  pub count_there : (rs : List Run) (i : ℕ) (f : ℕ → ℕ) → f count ≡ i → fram_after (entry_effects count list i rs) f count ≡ i + length rs
   count_there [] i f e = omega (arith, e)
-  count_there (s ∷ more) i f e =
-      let k = count_there more (i + 1) (behind_entry i s f) (put_same (put (put f (4 * i + list) s.home) (4 * i + list + 2) s.copy) count (i + 1)) in omega
-      (arith, k)
+  count_there (r ∷ more) i f e =
+      let a = 6 * i + list in
+      let k = count_there more (i + 1) (after_entry count list i r.home r.copy r.words f)
+      (put_same (put (put (put f a r.home) (a + 2) r.copy) (a + 4) r.words) count (i + 1)) in
+      omega (arith, k)
 
 -- where a transition stores, up to the gate
 pub data IsTransitionStore (p : Places) (room : Room) (a w : ℕ) : Type 0 where
   at_next_task : a ≡ word_place p.map NextTask → IsTransitionStore p room a w
   at_list_length : a ≡ word_place p.map ListLength → w ≤ room.list → IsTransitionStore p room a w
   at_sent_base : a ≡ word_place p.map SentBase → IsTransitionStore p room a w
-  in_entries : p.map.list.address ≤ a → a < p.map.list.address + 4 * room.list → IsTransitionStore p room a w
+  in_entries : p.map.list.address ≤ a → a < p.map.list.address + 6 * room.list → IsTransitionStore p room a w
 
 module _ (p : Places) (room : Room) where
-  entries_store : (ps : List PrivateScalar) (i : ℕ) → i + length ps ≤ room.list → TakesAndStores (IsTransitionStore p room)
-      (entry_effects (word_place p.map ListLength) p.map.list.address i ps)
+  entries_store : (rs : List Run) (i : ℕ) → i + length rs ≤ room.list → TakesAndStores (IsTransitionStore p room)
+      (entry_effects (word_place p.map ListLength) p.map.list.address i rs)
   entries_store [] i few = tt
-  entries_store (s ∷ more) i few = (
+  entries_store (r ∷ more) i few = (
     in_entries (omega arith) (omega (arith, few)),
     (
       in_entries (omega arith) (omega (arith, few)),
-      (at_list_length refl (omega (arith, few)), entries_store more (i + 1) (omega (arith, few))),
+      (
+        in_entries (omega arith) (omega (arith, few)),
+        (at_list_length refl (omega (arith, few)), entries_store more (i + 1) (omega (arith, few))),
+      ),
     ),
   )
 
-  pub transition_stores : (task n base : ℕ) → n + length p.privates ≤ room.list → TakesAndStores (IsTransitionStore p room) (transition_effects p task n base)
+  pub transition_stores : (task n base : ℕ) → n + length (runs_of p.privates) ≤ room.list
+      → TakesAndStores (IsTransitionStore p room) (transition_effects p task n base)
   transition_stores task n base few = (
     at_next_task refl,
-    takes_append (IsTransitionStore p room) (entry_effects (word_place p.map ListLength) p.map.list.address n p.privates)
+    takes_append (IsTransitionStore p room) (entry_effects (word_place p.map ListLength) p.map.list.address n (runs_of p.privates))
         (Store (word_place p.map SentBase) base ∷ [])
-        (entries_store p.privates n few)
+        (entries_store (runs_of p.privates) n few)
         (at_sent_base refl, tt),
   )
 
@@ -107,11 +98,11 @@ module _ (p : Places) (room : Room) (apart : AreApart p room) (task n base : ℕ
   told = put f (word_place p.map NextTask) (task % 65536)
 
   abbrev with_entries : ℕ → ℕ
-  with_entries = fram_after (entry_effects (word_place p.map ListLength) p.map.list.address n p.privates) told
+  with_entries = fram_after (entry_effects (word_place p.map ListLength) p.map.list.address n (runs_of p.privates)) told
 
   closed_is : closed ≡ put (put with_entries (word_place p.map SentBase) base) (word_place p.map Gate) 1
   closed_is =
-      let es = entry_effects (word_place p.map ListLength) p.map.list.address n p.privates in
+      let es = entry_effects (word_place p.map ListLength) p.map.list.address n (runs_of p.privates) in
       fram_after-append (es ++ Store (word_place p.map SentBase) base ∷ []) (Store (word_place p.map Gate) 1 ∷ []) told
       ∙ ap (λ g. put g (word_place p.map Gate) 1) (fram_after-append es (Store (word_place p.map SentBase) base ∷ []) told)
 
@@ -133,25 +124,30 @@ module _ (p : Places) (room : Room) (apart : AreApart p room) (task n base : ℕ
   pub closed_next : closed (word_place p.map NextTask) ≡ task % 65536
   closed_next =
       at_close (word_place p.map NextTask) (λ e. omega (arith, e, apart)) (λ e. omega (arith, e, apart))
-      ∙ entries_elsewhere (word_place p.map ListLength) p.map.list.address p.privates n (word_place p.map NextTask) told (λ e. omega (arith, e, apart))
+      ∙ entries_elsewhere (word_place p.map ListLength) p.map.list.address (runs_of p.privates) n (word_place p.map NextTask) told
+      (λ e. omega (arith, e, apart))
       (λ lo hi. omega (arith, lo, apart))
       ∙ put_same f (word_place p.map NextTask) (task % 65536)
 
-  pub closed_count : closed (word_place p.map ListLength) ≡ n + length p.privates
+  pub closed_count : closed (word_place p.map ListLength) ≡ n + length (runs_of p.privates)
   closed_count =
       at_close (word_place p.map ListLength) (λ e. omega (arith, e, apart)) (λ e. omega (arith, e, apart))
-      ∙ count_there (word_place p.map ListLength) p.map.list.address p.privates n told
+      ∙ count_there (word_place p.map ListLength) p.map.list.address (runs_of p.privates) n told
       (put_other f (word_place p.map NextTask) (task % 65536) (word_place p.map ListLength) (λ e. omega (arith, e, apart)) ∙ counted)
 
-  pub closed_home : (j : ℕ) (s : PrivateScalar) → slice_get p.privates j ≡ Some s → closed (4 * (n + j) + p.map.list.address) ≡ s.home
-  closed_home j s e =
-      at_close (4 * (n + j) + p.map.list.address) (λ k. omega (arith, k, apart)) (λ k. omega (arith, k, apart))
-      ∙ home_there (word_place p.map ListLength) p.map.list.address p.privates n j (4 * (n + j) + p.map.list.address) told s e (omega (arith, apart)) refl
-
-  pub closed_copy : (j : ℕ) (s : PrivateScalar) → slice_get p.privates j ≡ Some s → closed (4 * (n + j) + p.map.list.address + 2) ≡ s.copy
-  closed_copy j s e =
-      at_close (4 * (n + j) + p.map.list.address + 2) (λ k. omega (arith, k, apart)) (λ k. omega (arith, k, apart))
-      ∙ copy_there (word_place p.map ListLength) p.map.list.address p.privates n j (4 * (n + j) + p.map.list.address + 2) told s e (omega (arith, apart)) refl
+  -- what the list names: what it named, and the private scalars
+  pub closed_pairs : entries_from (closed (word_place p.map ListLength)) p.map.list.address closed
+      ≡ entries_from n p.map.list.address f ++ map scalar_pair p.privates
+  closed_pairs =
+      let list = p.map.list.address in
+      let rs = runs_of p.privates in
+      ap (λ k. entries_from k list closed) closed_count
+      ∙ entries_alike (n + length rs) list with_entries closed (λ a from to.
+      at_close a (λ e. omega (arith, e, from, apart)) (λ e. omega (arith, e, from, apart)))
+      ∙ entries_name (word_place p.map ListLength) list rs n told (omega (arith, apart))
+      ∙ ap (λ l. l ++ pairs_of_runs rs)
+      (entries_alike n list f told (λ a from to. put_other f (word_place p.map NextTask) (task % 65536) a (λ e. omega (arith, e, from, apart))))
+      ∙ ap (λ l. entries_from n list f ++ l) (runs_pairs p.privates)
 
   -- a word at which a transition doesn't store
   pub record IsLeft (a : ℕ) : Type 0 where
@@ -159,10 +155,10 @@ module _ (p : Places) (room : Room) (apart : AreApart p room) (task n base : ℕ
     pub gate : a ≡ word_place p.map Gate → ⊥
     pub list_length : a ≡ word_place p.map ListLength → ⊥
     pub sent_base : a ≡ word_place p.map SentBase → ⊥
-    pub entries : 4 * n + p.map.list.address ≤ a → a < 4 * (n + length p.privates) + p.map.list.address → ⊥
+    pub entries : 6 * n + p.map.list.address ≤ a → a < 6 * (n + length (runs_of p.privates)) + p.map.list.address → ⊥
 
   pub closed_left : (a : ℕ) → IsLeft a → closed a ≡ f a
   closed_left a h =
       at_close a h.gate h.sent_base
-      ∙ entries_elsewhere (word_place p.map ListLength) p.map.list.address p.privates n a told h.list_length h.entries
+      ∙ entries_elsewhere (word_place p.map ListLength) p.map.list.address (runs_of p.privates) n a told h.list_length h.entries
       ∙ put_other f (word_place p.map NextTask) (task % 65536) a h.next_task

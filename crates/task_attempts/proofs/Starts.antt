@@ -2,6 +2,7 @@
 use Rattle.std.proofs.Common.{◌≡◌, ℕ, ◌+◌, ◌*◌, List, [], Some, Bool, true, false, refl, ap, ◌∙◌, ⊎_elim, arith}
 use Rattle.std.specs.Prelude.{Contains, slice_get}
 use Rattle.layout_facts.specs.machine_effects.World.{World}
+use Rattle.layout_facts.specs.runtime_effects.Places.{entries_from}
 use Rattle.layout_facts.specs.cost_bound.Counts.{block_assigns, Code}
 use Rattle.layout_facts.specs.source_values.Values.{word_at}
 use Rattle.layout_facts.specs.source_values.Runs.{CheckedProgram, State, fresh_attempt}
@@ -86,9 +87,8 @@ module _ (p : CheckedProgram) (l : MemoryMap) (given : IsGiven p l) (s : State) 
     emitted = record { emit_count = st.emit_count; emits = λ n h. absurd (omega (arith, h)) };
     list = record {
       are_listed = record { copied = λ n d h. absurd (omega (arith, h)); different = λ n m d a b. absurd (omega (arith, b)) };
-      list_length = st.list_length;
-      homes = λ n e h. cc h;
-      copies = λ n e h. cc h;
+      pairs = ap (λ n. entries_from n l.list.address x.fram) st.list_length;
+      runs = λ n h. let none = st.list_length in absurd (omega (arith, h, none));
       marked = λ e h. let k = h.1 in absurd (omega (arith, k));
       only_marked = λ e c h. absurd (none_marked e c h);
     };

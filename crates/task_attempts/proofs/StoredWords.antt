@@ -10,8 +10,8 @@ use Rattle.layout_facts.specs.array_versions.declared.program.ListPlace.{ListPla
 use Rattle.layout_facts.specs.array_versions.Program.{Step, Program, number, load, keep, local, set_local, unary, binary, shift, element, emit_word, list_entry}
 use Rattle.layout_facts.specs.array_versions.Program.{versioned_read, versioned_write, sense, choose, repeat, store_number, move_word, jump, nothing, step}
 use Rattle.layout_facts.specs.array_versions.Behaviour.{WordState, End, GoesOn, Jumps, Short, Strays, Broken, Behaviour, behaves, goes_on, strays, broken, on_end, then_on}
-use Rattle.layout_facts.specs.array_versions.Behaviour.{is_place, at_place, with_top, with_stack, pushed, stored, with_local, local_pushed, reading_pushed, entry_stored}
-use Rattle.layout_facts.specs.array_versions.Behaviour.{behind_effects, own_element, first_stored, own_stored, chosen, turns, step_behaviour, behaviour}
+use Rattle.layout_facts.specs.array_versions.Behaviour.{is_place, at_place, with_top, with_stack, pushed, stored, with_local, local_pushed, reading_pushed, raised, entry_stored, ends_before}
+use Rattle.layout_facts.specs.array_versions.Behaviour.{listed_behind, behind_effects, own_element, first_stored, own_stored, chosen, turns, step_behaviour, behaviour}
 use Rattle.layout_facts.specs.array_versions.Form.{StepOfWords, OfWords}
 use Rattle.layout_facts.specs.array_versions.Laws.{IsStateOfWords, EndsInWords}
 use Rattle.layout_facts.proofs.array_versions.Interface.{put_words, local_words, place_high, step_words, words, stack_words}
@@ -71,11 +71,28 @@ versioned_pushed_stores true place list i s =
     (λ f. own_element_stores (s.fram list.ver == s.fram (2 * i + place.versions)) place i s))
 versioned_pushed_stores false place list i s = tt
 
-entry_stores : (count list home copy : ℕ) (s : WordState) → home < 0x10000 → copy < 0x10000 → StoresWords (entry_stored count list home copy s).effects
-entry_stores count list home copy s h k =
-    let n = s.fram count in
-    let a = 4 * n + list in
-    guarded (is_place count) _ (λ e. guarded (is_place a) _ (λ f. guarded (is_place (a + 2)) _ (λ g. let x = place_high a f in (h, (k, (omega arith, tt))))))
+entry_stores : (count list home copy words : ℕ) (s : WordState) → home < 0x10000 → copy < 0x10000 → words < 0x10000
+    → StoresWords (entry_stored count list home copy words s).effects
+entry_stores count list home copy words s h k l =
+    let a = 6 * s.fram count + list in
+    let t = stored (a + 4) words (stored (a + 2) copy (stored a home s)) in
+    let v = t.fram count + 1 in
+    let up : v % 0x10000 < 0x10000 = omega arith in
+    guarded (is_place count) _ (λ e. guarded (is_place a) _ (λ f. guarded (is_place (a + 2)) _ (λ g. guarded (is_place (a + 4)) _ (λ i.
+    (h, (k, (l, (up, tt))))))))
+
+longer_stores : (b : Bool) (list : ListPlace) (a home copy : ℕ) (s : WordState) → home < 0x10000 → copy < 0x10000
+    → StoresWords (if b then raised (a + 4) s else entry_stored list.cln list.list home copy 1 s).effects
+longer_stores true list a home copy s h k = let v = s.fram (a + 4) + 1 in let up : v % 0x10000 < 0x10000 = omega arith in (up, tt)
+longer_stores false list a home copy s h k = entry_stores list.cln list.list home copy 1 s h k (omega arith)
+
+listed_stores : (n : ℕ) (list : ListPlace) (home copy : ℕ) (s : WordState) → home < 0x10000 → copy < 0x10000
+    → StoresWords (listed_behind n list home copy s).effects
+listed_stores zero list home copy s h k = entry_stores list.cln list.list home copy 1 s h k (omega arith)
+listed_stores (suc n) list home copy s h k =
+    let a = 6 * n + list.list in
+    guarded (is_place a) _ (λ e. guarded (is_place (a + 2)) _ (λ f. guarded (is_place (a + 4)) _ (λ g.
+    longer_stores (ends_before s.fram a home copy) list a home copy s h k)))
 
 own_stored_stores : (b : Bool) (place : ArrayPlace) (list : ListPlace) (i v : ℕ) (s : WordState) → v < 0x10000 → 2 * i + place.copies < 0x10000
     → IsStateOfWords s
@@ -84,12 +101,13 @@ own_stored_stores : (b : Bool) (place : ArrayPlace) (list : ListPlace) (i v : �
 own_stored_stores true place list i v s l h w = (l, tt)
 own_stored_stores false place list i v s l h w =
     let c = 2 * i + place.copies in
-    let t = stored c v s in (
+    let t = stored c v s in
+    let u = stored (2 * i + place.versions) (t.fram list.ver) t in (
       l,
       guarded (is_place (2 * i + place.elements)) _ (λ e. (
         put_words s.fram c v w.fram l list.ver,
-        entry_stores list.cln list.list (2 * i + place.elements) c (stored (2 * i + place.versions) (t.fram list.ver) t)
-            (place_high (2 * i + place.elements) e) h,
+        guarded (is_place list.cln) _ (λ f.
+            listed_stores (u.fram list.cln) list (2 * i + place.elements) c u (place_high (2 * i + place.elements) e) h),
       )),
     )
 
@@ -134,7 +152,7 @@ mutual
       let n = s.fram count in
       top_stores s.stack _ w.stack (λ v vs l m. guarded (is_place count) _ (λ e. guarded (is_place (2 * n + buffer)) _ (λ f.
       let x = place_high (2 * n + buffer) f in (l, (omega arith, tt)))))
-  step_stores (list_entry count list home copy) s h w = entry_stores count list home copy s h.2 h.3
+  step_stores (list_entry count list home copy n) s h w = entry_stores count list home copy n s h.2 h.3 h.4
   step_stores (versioned_read place list) s h w = top_stores s.stack _ w.stack
       (λ i vs l m. versioned_pushed_stores (nat_lt i place.length) place list i (with_stack vs s))
   step_stores (versioned_write place list) s h w =

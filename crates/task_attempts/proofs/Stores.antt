@@ -143,17 +143,12 @@ module _ (p : CheckedProgram) (l : MemoryMap) (given : IsGiven p l) (k : ℕ) (i
         subst (λ z. Safe z w) (sym is) (safe_copy p l given ver _ (address_of here v) w small (assigned_copy v h e))
     task_safe a w (at_copy x h is) small = subst (λ z. Safe z w) (sym is) (safe_copy p l given ver _ _ w small (facts.copies x h))
     task_safe a w (at_version x h is e) small = subst (λ z. Safe z w) (sym is) (safe_version p l given ver _ _ w small e (facts.versions x h))
-    task_safe a w (in_list j h is) small =
+    task_safe a w (in_list lo hi) small =
         let apart = given.apart in
         let fits = list_fits in
-        ⊎_elim {C = Safe a w}
-        (λ e. safe_low p l given ver _ a w small (omega (arith, apart, e)) (omega (arith, apart, e, h, fits)) (λ q. omega (arith, apart, e, q))
-        (λ q. omega (arith, apart, e, q))
-        (λ q. omega (arith, apart, e, q)) (λ q. absurd (omega (arith, apart, e, q))) (λ q. absurd (omega (arith, apart, e, q))))
-        (λ e. safe_low p l given ver _ a w small (omega (arith, apart, e)) (omega (arith, apart, e, h, fits)) (λ q. omega (arith, apart, e, q))
-        (λ q. omega (arith, apart, e, q))
-        (λ q. omega (arith, apart, e, q)) (λ q. absurd (omega (arith, apart, e, q))) (λ q. absurd (omega (arith, apart, e, q))))
-        is
+        safe_low p l given ver _ a w small (omega (arith, apart, lo)) (omega (arith, apart, hi, fits)) (λ q. omega (arith, apart, lo, q))
+        (λ q. omega (arith, apart, lo, q))
+        (λ q. omega (arith, apart, lo, q)) (λ q. absurd (omega (arith, apart, lo, q))) (λ q. absurd (omega (arith, apart, lo, q)))
     task_safe a w (at_list_length is h) small =
         let apart = given.apart in
         let fits = list_fits in

@@ -18,7 +18,7 @@ use Rattle.layout_facts.specs.compiled_model.Places.{program_places}
 use Rattle.layout_facts.specs.compiled_model.Parts.{task_program}
 use Rattle.layout_facts.specs.Facts.{task_room}
 use Rattle.task_attempts.proofs.Given.{IsGiven, IsTaskGiven}
-use Rattle.task_attempts.proofs.Listed.{private_among}
+use Rattle.task_attempts.proofs.Listed.{map_among}
 use Rattle.layout_facts.specs.memory_map.declared.place.PrivateScalar.{PrivateScalar}
 use Rattle.layout_facts.specs.memory_map.MemoryMap.{MemoryMap, TaskPlace}
 use Rattle.layout_facts.specs.memory_map.Spots.{Places, places_of}
@@ -61,7 +61,7 @@ module _ (p : CheckedProgram) (l : MemoryMap) (given : IsGiven p l) (k : ℕ) (i
       (slice_get-map entry_of l.tasks k ∙ ap (λ o. option_map entry_of o) i.layout_is))
 
   pub among_privates : (s : PrivateScalar) → Contains i.layout.privates s → IsAmong (privates_in (task_entries l) k) (pair_of s)
-  among_privates s h = subst (λ ps. IsAmong ps (pair_of s)) (sym privates_are) (private_among i.layout.privates s h)
+  among_privates s h = subst (λ ps. IsAmong ps (pair_of s)) (sym privates_are) (map_among pair_of i.layout.privates s h)
 
   copies_of : (ps : List CopyPair) → ArePrivate (program_places p l) k ps → (q : CopyPair) → IsAmong ps q → IsCopyWord (program_places p l) q.copy
   copies_of [] a q h = absurd h

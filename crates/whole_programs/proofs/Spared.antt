@@ -21,7 +21,8 @@ use Rattle.lower.specs.memory_map.MemoryMap.{word_place}
 use Rattle.lower.specs.memory_map.declared.words.RuntimeWord.TheVariants.{Gate, ListLength, EmitCount, Base, SentBase}
 use Rattle.lower.specs.memory_map.declared.place.VariablePlace.{VariablePlace}
 use Rattle.lower.specs.memory_map.declared.place.VariablePlace.TheVariants.{Scalar, Array}
-use Rattle.lower.specs.memory_map.declared.place.PrivateScalar.{PrivateScalar}
+use Rattle.lower.specs.declared.runs.Run.{Run}
+use Rattle.lower.specs.Runs.{runs_of}
 use Rattle.lower.specs.memory_map.Spots.{Places}
 use Rattle.lower.specs.Operations.{unary_operation, binary_operation, shift_operation}
 use Rattle.lower.specs.Lowered.{one, read_step, write_step, element_read, element_step, store_step, evaluated_side, lowered_choice_of_sides, lowered_expression, assignment, loop_local, entries, lowered_transition, lowered_statement, lowered_choice, lowered_block}
@@ -107,7 +108,7 @@ module _ (p : Places) (n : ℕ) where
       spares_joined n (lowered_expression p a) (one (lowered_choice_of_sides op right)) (expression_spares a)
       (sides_spare op right (spares_joined n (lowered_expression p b) (one (unary Truth)) (expression_spares b) (tt, tt)), tt)
 
-  entries_spare : (count list : ℕ) (privates : List PrivateScalar) → Spares n (entries count list privates)
+  entries_spare : (count list : ℕ) (runs : List Run) → Spares n (entries count list runs)
   entries_spare count list [] = tt
   entries_spare count list (s ∷ more) = (tt, entries_spare count list more)
 
@@ -116,8 +117,8 @@ module _ (p : Places) (n : ℕ) where
       let close : Program = step (move_word (word_place p.map Base) (word_place p.map SentBase))
       (step (store_number (word_place p.map Gate) 1) (one (jump p.map.commit.address))) in (
         tt,
-        spares_joined n (entries (word_place p.map ListLength) p.map.list.address p.privates) close
-            (entries_spare (word_place p.map ListLength) p.map.list.address p.privates) (tt, (tt, (tt, tt))),
+        spares_joined n (entries (word_place p.map ListLength) p.map.list.address (runs_of p.privates)) close
+            (entries_spare (word_place p.map ListLength) p.map.list.address (runs_of p.privates)) (tt, (tt, (tt, tt))),
       )
 
 -- two locals of a task have two numbers

@@ -22,6 +22,9 @@ use Rattle.lower.specs.memory_map.declared.place.ArrayCopies.{ArrayCopies}
 use Rattle.lower.specs.memory_map.declared.place.VariablePlace.{VariablePlace}
 use Rattle.lower.specs.memory_map.declared.place.VariablePlace.TheVariants.{Scalar, Array}
 use Rattle.lower.specs.memory_map.declared.place.PrivateScalar.{PrivateScalar}
+use Rattle.lower.specs.declared.runs.Run.{Run}
+use Rattle.lower.specs.Runs.{runs_of}
+use Rattle.lower.proofs.Interface.{RunOfWords, runs_of_words}
 use Rattle.lower.specs.memory_map.Spots.{Places, address_of}
 use Rattle.lower.specs.Operations.{unary_operation, binary_operation, shift_operation}
 use Rattle.lower.specs.Lowered.{one, read_step, write_step, list_place, written_array, element_read, element_step, store_step, settled_program, evaluated_side, lowered_choice_of_sides, lowered_expression, assignment, loop_local, entries, lowered_transition, lowered_statement, lowered_choice, lowered_block}
@@ -147,12 +150,12 @@ module _ (p : Places) (words : PlacesOfWords p) where
         sound_behind (lowered_expression p a) (lowered_choice_of_sides op right) (expression_sound room beneath a f.0 n.0)
         (sides_sound op right (sound_behind (lowered_expression p b) (unary Truth) (expression_sound room beneath b f.1 n.1) (tt, tt, tt)))
 
-    entries_sound : (privates : List PrivateScalar) → AllByRecursion PrivateOfWords privates
-        → Sound (entries (word_place p.map ListLength) p.map.list.address privates)
+    entries_sound : (runs : List Run) → AllByRecursion RunOfWords runs → Sound (entries (word_place p.map ListLength) p.map.list.address runs)
     entries_sound [] h = (tt, tt, tt)
-    entries_sound (s ∷ more) h =
-        sound_step (list_entry (word_place p.map ListLength) p.map.list.address s.home s.copy) (entries (word_place p.map ListLength) p.map.list.address more)
-        (tt, tt, (words.words ListLength, words.list, h.0.0, h.0.1)) (entries_sound more h.1)
+    entries_sound (r ∷ more) h =
+        sound_step (list_entry (word_place p.map ListLength) p.map.list.address r.home r.copy r.words)
+        (entries (word_place p.map ListLength) p.map.list.address more)
+        (tt, tt, (words.words ListLength, words.list, h.0.home, h.0.copy, h.0.words)) (entries_sound more h.1)
 
     transition_sound : (task : ℕ) → Sound (lowered_transition p task)
     transition_sound task =
@@ -160,9 +163,10 @@ module _ (p : Places) (words : PlacesOfWords p) where
         let raises = step (store_number (word_place p.map Gate) 1) leaves in
         let closes = step (move_word (word_place p.map Base) (word_place p.map SentBase)) raises in
         sound_step (store_number (word_place p.map NextTask) (task % 65536))
-        (joined (entries (word_place p.map ListLength) p.map.list.address p.privates) closes)
+        (joined (entries (word_place p.map ListLength) p.map.list.address (runs_of p.privates)) closes)
         (tt, tt, (words.words NextTask, omega arith))
-        (sound_joined (entries (word_place p.map ListLength) p.map.list.address p.privates) closes (entries_sound p.privates words.privates)
+        (sound_joined (entries (word_place p.map ListLength) p.map.list.address (runs_of p.privates)) closes
+        (entries_sound (runs_of p.privates) (runs_of_words p.privates words.privates))
         (sound_step (move_word (word_place p.map Base) (word_place p.map SentBase)) raises (tt, tt, (words.words Base, words.words SentBase))
         (sound_step (store_number (word_place p.map Gate) 1) leaves (tt, tt, (words.words Gate, one_is_word))
         (sound_one (jump p.map.commit.address) (tt, tt, words.commit)))))

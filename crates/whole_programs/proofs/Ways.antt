@@ -20,7 +20,8 @@ use Rattle.lower.specs.memory_map.MemoryMap.{word_place}
 use Rattle.lower.specs.memory_map.declared.words.RuntimeWord.TheVariants.{Gate, ListLength, EmitCount, Base, SentBase}
 use Rattle.lower.specs.memory_map.declared.place.VariablePlace.{VariablePlace}
 use Rattle.lower.specs.memory_map.declared.place.VariablePlace.TheVariants.{Scalar, Array}
-use Rattle.lower.specs.memory_map.declared.place.PrivateScalar.{PrivateScalar}
+use Rattle.lower.specs.declared.runs.Run.{Run}
+use Rattle.lower.specs.Runs.{runs_of}
 use Rattle.lower.specs.memory_map.Spots.{Places}
 use Rattle.lower.specs.Operations.{unary_operation, binary_operation, shift_operation}
 use Rattle.lower.specs.Lowered.{one, read_step, write_step, element_read, element_step, store_step, settled_program, evaluated_side, lowered_choice_of_sides, lowered_expression, assignment, element_assignment, loop_local, entries, lowered_transition, lowered_statement, lowered_choice, lowered_block}
@@ -258,8 +259,8 @@ module _ (room : ℕ) (p : Places) (shared : List SharedDeclaration) (even : p.m
       (expression_way room p 0 a e _ f (reads_assigned shared u a e c n (safe_expression u e (write x ∷ []) s).0)
       (write_way u a x next c (λ b d. h b (subst (λ v. Covers v b) (sym (behind_expression u e (write x ∷ []))) d))))
 
-  entries_way : (count list : ℕ) (privates : List PrivateScalar) (next : Place → Type 0) (o : Place) → next o
-      → EachWay room (entries count list privates) next o
+  entries_way : (count list : ℕ) (runs : List Run) (next : Place → Type 0) (o : Place) → next o
+      → EachWay room (entries count list runs) next o
   entries_way count list [] next o h = h
   entries_way count list (s ∷ more) next o h = entries_way count list more next o h
 
@@ -267,8 +268,8 @@ module _ (room : ℕ) (p : Places) (shared : List SharedDeclaration) (even : p.m
   transition_way task next o =
       let close : Program = step (move_word (word_place p.map Base) (word_place p.map SentBase))
       (step (store_number (word_place p.map Gate) 1) (one (jump p.map.commit.address))) in
-      joined_way room (entries (word_place p.map ListLength) p.map.list.address p.privates) close next o
-      (entries_way (word_place p.map ListLength) p.map.list.address p.privates (EachWay room close next) o even)
+      joined_way room (entries (word_place p.map ListLength) p.map.list.address (runs_of p.privates)) close next o
+      (entries_way (word_place p.map ListLength) p.map.list.address (runs_of p.privates) (EachWay room close next) o even)
 
   -- of an index and a value
   element_assigned_way : (u a : ℕ → Bool) (x : VariableName) (index e : CheckedExpression) (next : Place → Type 0) → ExpressionFits room 0 index

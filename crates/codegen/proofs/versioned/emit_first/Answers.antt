@@ -1,8 +1,20 @@
-use Rattle.std.proofs.Common.{◌++◌, refl, ap, ◌∙◌}
-use Rattle.codegen.proofs.Emitted.{cons, from_source}
+use Rattle.std.proofs.Common.{◌++◌, ap, ◌∙◌}
+use Rattle.alp_words.specs.Words.{word_sum}
+use Rattle.code_forms.specs.Forms.{R4, R7}
+use Rattle.code_forms.specs.Placed.{instructions}
+use Rattle.codegen.specs.Code.{mark_code, last_code, end_test, longer_code, next_code, word_code}
+use Rattle.codegen.proofs.Emitted.{six_behind}
 use Rattle.codegen.proofs.versioned.emit_first.Goals as goal
 
 pub returns : goal.returns
 returns c =
-    c.in_ok-extend_from_slice.ensures.items ∙ ap (λ l. c.args.code.now.items ++ l)
-    (cons _ _ _ _ c.two.ensures (cons _ _ _ _ (from_source _ _ _ _ _ c.two-2.ensures c.absolute.ensures) (cons _ _ _ _ c.two-3.ensures (cons _ _ _ _ c.two-4.ensures (cons _ _ _ _ c.two-5.ensures (cons _ _ _ _ c.two-6.ensures (cons _ _ _ _ c.two-7.ensures (cons _ _ _ _ c.two-8.ensures (cons _ _ _ _ c.two-9.ensures (cons _ _ _ _ c.two-10.ensures (cons _ _ _ _ (from_source _ _ _ _ _ c.two-11.ensures c.constant.ensures) (cons _ _ _ _ c.two-12.ensures refl))))))))))))
+    let list = c.args.list.list in
+    let marks = instructions (mark_code c.args.place c.args.list) in
+    let last = instructions last_code in
+    let homes = instructions (end_test (word_sum list 4) list R7 13) in
+    let copies = instructions (end_test (word_sum list 4) (word_sum list 2) R4 6) in
+    let longer = instructions (longer_code (word_sum list 4)) in
+    let word = instructions (next_code ++ word_code c.args.list) in
+    c.in_ok-emit_word.ensures ∙ ap (λ l. l ++ word) (c.in_ok-emit_longer.ensures ∙ ap (λ l. l ++ longer)
+    (c.in_ok-emit_copy_test.ensures ∙ ap (λ l. l ++ copies) (c.in_ok-emit_home_test.ensures ∙ ap (λ l. l ++ homes)
+    (c.in_ok-emit_last.ensures ∙ ap (λ l. l ++ last) c.in_ok-emit_mark.ensures)))) ∙ six_behind c.args.code.now.items marks last homes copies longer word
