@@ -8,10 +8,10 @@ use Rattle.compiled_model.specs.cost_bound.Table.{cycles_column, block_price}
 use Rattle.compiled_model.specs.cost_bound.Counts.{emits_of}
 use Rattle.compiled_model.specs.cost_bound.Allowance.{CheckedProgram, CheckedTask, IsAllowed, list_of, scalars_of, task_bound, versions_of}
 use Rattle.compiled_model.specs.cost_bound.declared.allowance.Allow.{Allow}
-use Rattle.compiled_model.proofs.war_analysis.Interface.{element, privates_counted}
+use Rattle.compiled_model.proofs.war_analysis.Interface.{element}
 use Rattle.compiled_model.specs.source_values.Runs.{body_of, task_body}
 use Rattle.compiled_model.specs.war_analysis.PlanValue.{TaskPlanValue}
-use Rattle.compiled_model.specs.war_analysis.Plans.{IsPlan}
+use Rattle.compiled_model.specs.linked_code.Rooms.{PrivatesAreCounted}
 use Rattle.compiled_model.specs.array_versions.Program.{Program}
 use Rattle.compiled_model.specs.array_versions.Behaviour.{WordState, End, GoesOn, Jumps, Short, Strays, Broken, behaviour, started}
 use Rattle.compiled_model.specs.array_versions.Cost.{spent}
@@ -20,7 +20,8 @@ use Rattle.compiled_model.proofs.lower.Interface.{program_at, blocks_keep_to_cyc
 use Rattle.compiled_model.specs.runtime_code.LayoutPlaces.{pair_of}
 use Rattle.compiled_model.specs.boot_runtime.Entries.{entry_of, task_entries}
 use Rattle.compiled_model.specs.boot_runtime.Listing.{privates_in, entry_at}
-use Rattle.compiled_model.specs.lower.Lowered.{lowered_block}
+use Rattle.compiled_model.specs.lower.Seen.{map_seen}
+use Rattle.compiled_model.specs.lower.Lowered.{lowered_task}
 use Rattle.compiled_model.specs.lower.Sizes.{entry_cycles}
 use Rattle.compiled_model.specs.Parts.{task_program}
 use Rattle.compiled_model.specs.Needs.{whole_cycles}
@@ -37,18 +38,18 @@ entries_cost l layout Strays = omega arith
 entries_cost l layout Broken = omega arith
 
 -- a boot, a start with the clearing of versions and the copies of private scalars, the body, the entries, and the commit
-all_within : (v1 v2 privates scalars body price list emits : ℕ) → v1 ≡ v2 → privates ≡ scalars → body ≤ price + 26 * privates
+all_within : (v1 v2 privates scalars body price list emits : ℕ) → v1 ≡ v2 → privates ≤ scalars → body ≤ price + 26 * privates
     → 11 + (35 + (11 + 11 * v1) + 6 * privates) + body + (42 + 17 * list + 9 * list + 16 * emits)
     ≤ 400 + 12 * v2 + 72 * scalars + price + 40 * list + 40 * emits
 all_within v1 v2 privates scalars body price list emits v e b = omega (arith, v, e, b)
 
-module _ (p : CheckedProgram) (allow : Allow) (plans : List TaskPlanValue) (l : MemoryMap) (allowed : IsAllowed p allow) (plan : IsPlan p plans)
-    (layout : IsLayout p allow plans l) (t : ℕ) (fram : ℕ → ℕ) (readings : List ℕ) (task : CheckedTask) (own : TaskPlace) (kind : TaskPlanValue)
-    (at_task : slice_get p.tasks t ≡ Some task) (at_own : slice_get l.tasks t ≡ Some own) (at_kind : slice_get plans t ≡ Some kind) where
+module _ (p : CheckedProgram) (allow : Allow) (plans : List TaskPlanValue) (l : MemoryMap) (allowed : IsAllowed p allow) (few : PrivatesAreCounted p l)
+    (layout : IsLayout p allow plans l) (t : ℕ) (fram : ℕ → ℕ) (readings : List ℕ) (task : CheckedTask) (own : TaskPlace)
+    (at_task : slice_get p.tasks t ≡ Some task) (at_own : slice_get l.tasks t ≡ Some own) where
   body_is : task_body p t ≡ task.body
   body_is = ap body_of at_task
 
-  program_is : task_program p l t ≡ lowered_block (places_of l own) task.body
+  program_is : task_program p l t ≡ lowered_task l own task.body
   program_is = program_at l p.tasks l.tasks t task own at_task at_own
 
   mine : entry_at (task_entries l) t ≡ entry_of own
@@ -59,22 +60,20 @@ module _ (p : CheckedProgram) (allow : Allow) (plans : List TaskPlanValue) (l : 
   own_privates : length (privates_in (task_entries l) t) ≡ length own.privates
   own_privates = ap (λ e. length e.privates) mine ∙ length-map own.privates pair_of
 
-  privates_are : length (privates_in (task_entries l) t) ≡ scalars_of p.shared (task_body p t)
+  privates_are : length (privates_in (task_entries l) t) ≤ scalars_of p.shared (task_body p t)
   privates_are =
-      let of : IsTaskLayout p.shared task.body kind own = layout.tasks.each t task kind own at_task at_kind at_own in
-      own_privates
-      ∙ sym (length-map own.privates (λ s. s.number))
-      ∙ ap length of.privates
-      ∙ privates_counted p.shared task.body kind.private_scalars (plan.each t task kind at_task at_kind).private_scalars
-      ∙ ap (scalars_of p.shared) (sym body_is)
+      let counted = few t task own at_task at_own in
+      let mine = own_privates in
+      let same = ap (scalars_of p.shared) body_is in
+      omega (arith, counted, mine, same)
 
   body_costs : spent (task_program p l t) (started fram readings)
       ≤ block_price cycles_column (task_body p t) + 26 * length (privates_in (task_entries l) t)
   body_costs =
       let w : WordState = started fram readings in
-      let q : Program = lowered_block (places_of l own) task.body in
-      let a = blocks_keep_to_cycles (places_of l own) task.body w in
-      let b = entries_cost l own (behaviour q w).end in
+      let q : Program = lowered_task l own task.body in
+      let a = blocks_keep_to_cycles (places_of (map_seen task.body l) own) task.body w in
+      let b = entries_cost (map_seen task.body l) own (behaviour q w).end in
       let c : spent (task_program p l t) w ≡ spent q w = ap (λ y. spent y w) program_is in
       let d : block_price cycles_column (task_body p t) ≡ block_price cycles_column task.body = ap (block_price cycles_column) body_is in
       let e : length (privates_in (task_entries l) t) ≡ length own.privates = own_privates in
@@ -87,12 +86,10 @@ module _ (p : CheckedProgram) (allow : Allow) (plans : List TaskPlanValue) (l : 
       (list_of p.shared (task_body p t)) (emits_of (task_body p t)) (layout.versions ∙ allowed.versions) privates_are body_costs
 
 pub tasks_keep_to_the_bound : TasksKeepToTheBound
-tasks_keep_to_the_bound p allow plans l allowed plan layout = record {
+tasks_keep_to_the_bound p allow plans l allowed few layout = record {
   within = λ t fram readings below words are_words.
       let task = element p.tasks t below in
       let count = layout.tasks.count in
-      let plans_count = plan.count in
       let own = element l.tasks t (omega (arith, below, count)) in
-      let kind = element plans t (omega (arith, below, plans_count)) in
-      within p allow plans l allowed plan layout t fram readings task.0 own.0 kind.0 task.1 own.1 kind.1;
+      within p allow plans l allowed few layout t fram readings task.0 own.0 task.1 own.1;
 }

@@ -9,7 +9,7 @@ use Rattle.compiled_model.specs.cost_bound.declared.allowance.Allow.{Allow}
 use Rattle.compiled_model.specs.cost_bound.Allowance.{CheckedProgram, IsAllowed, bound_of}
 use Rattle.compiled_model.specs.source_values.Runs.{State}
 use Rattle.compiled_model.specs.war_analysis.PlanValue.{TaskPlanValue}
-use Rattle.compiled_model.specs.war_analysis.Plans.{IsPlan}
+use Rattle.compiled_model.specs.linked_code.Rooms.{PrivatesAreCounted}
 use Rattle.compiled_model.specs.memory_map.declared.words.RuntimeWord.TheVariants.{ListLength, EmitCount, Version}
 use Rattle.compiled_model.specs.memory_map.MemoryMap.{MemoryMap, word_place}
 use Rattle.compiled_model.specs.privatise.Layouts.{IsLayout}
@@ -30,9 +30,10 @@ use Rattle.model_runs.specs.Runs.{BearsModel}
 abbrev pub BoundIsTheSources : Type 0
 BoundIsTheSources = (p : CheckedProgram) (l : MemoryMap) → bound (compiled_model p l) ≡ bound_of p
 
--- each task of a source that costs no more than it may keeps to its part of the bound, from a boot up to the end of its commit
+-- each task of a source that costs no more than it may keeps to its part of the bound, from a boot up to the end of its commit: where no
+-- task has more private scalars than its allowance counts
 abbrev pub TasksKeepToTheBound : Type 0
-TasksKeepToTheBound = (p : CheckedProgram) (allow : Allow) (plans : List TaskPlanValue) (l : MemoryMap) → IsAllowed p allow → IsPlan p plans
+TasksKeepToTheBound = (p : CheckedProgram) (allow : Allow) (plans : List TaskPlanValue) (l : MemoryMap) → IsAllowed p allow → PrivatesAreCounted p l
     → IsLayout p allow plans l → CostsAreWithin p l
 
 -- CLN and EN are within the capacities of the list and of the buffer, and no version word is above VER

@@ -13,7 +13,7 @@ use Rattle.task_attempts.proofs.lower.Interface.{program_at}
 use Rattle.task_attempts.specs.layout_facts.Facts.{HasLayout}
 use Rattle.task_attempts.proofs.layout_facts.Interface.{places_are_apart, tasks_have_room, privates_are_theirs, tasks_match}
 use Rattle.task_attempts.specs.whole_programs.Laws.{IsLaidOutText}
-use Rattle.task_attempts.proofs.whole_programs.Interface.{tasks_are_whole}
+use Rattle.task_attempts.proofs.whole_programs.Interface.{tasks_are_whole, privates_are_few}
 use Rattle.task_attempts.proofs.Interface.{compiled_laws, stores_below_code, tasks_leave}
 use Rattle.task_attempts.specs.compiled_model.Parts.{task_program}
 use Rattle.compiled_bounds.proofs.Interface.{tasks_keep_to_the_bound}
@@ -26,7 +26,7 @@ module _ (text : List ℕ) (p : CheckedProgram) (allow : Allow) (plans : List Ta
   run = accepted_texts_run text p allow t.accepted
 
   laid : HasLayout p allow plans l
-  laid = record { allowed = t.accepted.allowed; plan = t.plan; layout = t.layout }
+  laid = record { allowed = t.accepted.allowed; plan = t.plan; layout = t.layout; few = privates_are_few text p allow plans l t }
 
   -- the program of a task is whole, and of words
   one_whole : (k : ℕ) → k < length p.tasks → IsWhole (task_program p l k) × OfWords (task_program p l k)
@@ -47,7 +47,7 @@ module _ (text : List ℕ) (p : CheckedProgram) (allow : Allow) (plans : List Ta
     privates = privates_are_theirs p allow plans l laid;
     programs = record { whole = λ k below. (one_whole k below).0; of_words = λ k below. (one_whole k below).1 };
     leave = record { leave = λ s x readings words started. tasks_leave text p allow plans l t run s x readings words started };
-    costs = tasks_keep_to_the_bound p allow plans l t.accepted.allowed t.plan t.layout;
+    costs = tasks_keep_to_the_bound p allow plans l t.accepted.allowed (privates_are_few text p allow plans l t) t.layout;
   }
 
 pub sources_are_ready : SourcesAreReady

@@ -16,6 +16,7 @@ pub use Rattle.linked_code.specs.runtime_effects as runtime_effects
 pub use Rattle.stands_for.specs.crash_rules as crash_rules
 pub use Rattle.stands_for.specs as stands_for
 pub use Rattle.linked_code.specs.task_ast as task_ast
+pub use Rattle.lower.specs.path_sums as path_sums
 pub use Rattle.linked_code.specs.cost_bound as cost_bound
 pub use Rattle.linked_code.specs.war_analysis as war_analysis
 pub use Rattle.linked_code.specs.privatise as privatise

@@ -1,18 +1,38 @@
 -- The places of a compiled source, by its layout, as the crash theorem takes them.
-use Rattle.std.specs.Prelude.{false, length}
+use Rattle.std.specs.Prelude.{ℕ, ◌+◌, ◌==◌, ◌&&◌, ◌||◌, not, Bool, false, List, [], ◌∷◌, length}
+use Rattle.linked_code.specs.task_ast.Paths.{CheckedBlock}
+use Rattle.linked_code.specs.task_ast.declared.names.Variable.TheVariants.{Shared}
+use Rattle.lower.specs.path_sums.Sums.{block_sum}
+use Rattle.lower.specs.path_sums.Access.{summary, private_of}
 use Rattle.linked_code.specs.cost_bound.Allowance.{list_of}
 use Rattle.linked_code.specs.cost_bound.Counts.{emits_of}
 use Rattle.lower.specs.source_values.Runs.{CheckedProgram, task_body}
+use Rattle.lower.specs.Seen.{some_path_writes}
+use Rattle.linked_code.specs.memory_map.declared.place.VariablePlace.{VariablePlace}
+use Rattle.linked_code.specs.memory_map.declared.place.VariablePlace.TheVariants.{Scalar, Array}
 use Rattle.linked_code.specs.memory_map.MemoryMap.{MemoryMap}
 use Rattle.stands_for.specs.Layout.{ProgramPlaces}
 
--- the memory map, and for how much each task has room. Each shared scalar that a task writes is private in it, so none is written in
--- place
+-- whether a shared variable is private in a task with these statements, and whether the task writes it and it isn't private
+abbrev pub is_private_in : CheckedBlock → ℕ → Bool
+is_private_in body v = private_of (block_sum (summary (Shared v)) body)
+
+abbrev pub stays_in_place : CheckedBlock → ℕ → Bool
+stays_in_place body v = some_path_writes body v && not (is_private_in body v)
+
+-- whether one of the scalars from a number on that are so has its word at an address
+abbrev pub some_scalar_at : (ℕ → Bool) → ℕ → List VariablePlace → ℕ → Bool
+some_scalar_at holds v [] a = false
+some_scalar_at holds v (Scalar home copy ∷ places) a = (home == a && holds v) || some_scalar_at holds (v + 1) places a
+some_scalar_at holds v (Array elements length copies ∷ places) a = some_scalar_at holds (v + 1) places a
+
+-- The memory map, and for how much each task has room. A task writes a scalar in place where some path of it does, and the scalar isn't
+-- private in it
 abbrev pub program_places : CheckedProgram → MemoryMap → ProgramPlaces
 program_places p l = record {
   map = l;
   tasks = length p.tasks;
   list_capacity = λ t. list_of p.shared (task_body p t);
   emit_capacity = λ t. emits_of (task_body p t);
-  written_in_place = λ t a. false;
+  written_in_place = λ t a. some_scalar_at (stays_in_place (task_body p t)) 0 l.variables a;
 }

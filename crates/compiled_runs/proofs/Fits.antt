@@ -1,9 +1,10 @@
 -- The layout of a source has room for the code of its programs.
-use Rattle.std.proofs.Common.{◌≡◌, ℕ, suc, List, [], ◌∷◌, length, Some, slice_get, refl, arith}
+use Rattle.std.proofs.Common.{◌≡◌, ◌≤◌, ℕ, suc, List, [], ◌∷◌, length, Some, slice_get, refl, arith}
 use Rattle.compiled_model.specs.task_ast.declared.SharedDeclaration.{SharedDeclaration}
 use Rattle.compiled_model.specs.cost_bound.Allowance.{CheckedTask, scalars_of}
 use Rattle.compiled_model.specs.memory_map.MemoryMap.{MemoryMap, TaskPlace}
 use Rattle.compiled_model.specs.memory_map.Spots.{places_of}
+use Rattle.compiled_model.specs.lower.Seen.{map_seen}
 use Rattle.compiled_model.specs.lower.Lowered.{lowered_tasks}
 use Rattle.compiled_model.proofs.lower.Interface.{blocks_keep_to_words}
 use Rattle.compiled_model.specs.linked_code.Rooms.{ProgramsKeep}
@@ -12,12 +13,12 @@ use Rattle.compiled_runs.specs.Laws.{SourcesHaveRoom}
 
 programs_keep : (l : MemoryMap) (shared : List SharedDeclaration) (tasks : List CheckedTask) (ts : List TaskPlace) → length ts ≡ length tasks
     → ((k : ℕ) (task : CheckedTask) (t : TaskPlace) → slice_get tasks k ≡ Some task → slice_get ts k ≡ Some t
-    → length t.privates ≡ scalars_of shared task.body) → ProgramsKeep shared tasks (lowered_tasks l tasks ts)
+    → length t.privates ≤ scalars_of shared task.body) → ProgramsKeep shared tasks (lowered_tasks l tasks ts)
 programs_keep l shared [] ts n f = tt
 programs_keep l shared (task ∷ tasks) [] n f = absurd (omega (arith, n))
 programs_keep l shared (task ∷ tasks) (t ∷ ts) n f =
     let e = f 0 task t refl refl in (
-      blocks_keep_to_words (places_of l t) (scalars_of shared task.body) task.body (omega (arith, e)),
+      blocks_keep_to_words (places_of (map_seen task.body l) t) (scalars_of shared task.body) task.body (omega (arith, e)),
       programs_keep l shared tasks ts (omega (arith, n)) (λ k u v a b. f (suc k) u v a b),
     )
 

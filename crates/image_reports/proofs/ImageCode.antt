@@ -10,7 +10,7 @@ use Rattle.link_image.specs.msp_step.Effect.{sum16}
 use Rattle.link_image.specs.msp_step.Step.{off_bit, FetchedAt}
 use Rattle.link_image.specs.image_text.ImageValue.{place_of}
 use Rattle.link_image.specs.fram_board.Bus.{board_bus, memory_word, ram_place}
-use Rattle.link_image.specs.fram_board.Board.{BoardValue, opened}
+use Rattle.link_image.specs.fram_board.Board.{BoardValue, powered, opened}
 use Rattle.link_image.specs.fram_board.Effects.{Effect}
 use Rattle.link_image.specs.machine_effects.Going.{StepOutcome, Goes, Stops, At, Halted, going, continued}
 use Rattle.link_image.specs.machine_effects.Machine.{MachineBoard, Code, standing, exec, fram_of}

@@ -9,9 +9,14 @@ use Rattle.compiled_model.specs.cost_bound.declared.allowance.Allow.{Allow}
 use Rattle.compiled_model.specs.cost_bound.Counts.{block_assigns}
 use Rattle.compiled_model.specs.cost_bound.Allowance.{CheckedProgram, CheckedTask, is_written}
 use Rattle.compiled_model.specs.war_analysis.PlanValue.{TaskPlanValue}
-use Rattle.compiled_model.specs.war_analysis.Plans.{IsPrivateIn, IsVersionedIn}
-use Rattle.compiled_model.proofs.war_analysis.Interface.{privates_counted, element}
-use Rattle.layout_facts.specs.Facts.{HasLayout, IsTaskAt}
+use Rattle.compiled_model.specs.war_analysis.Plans.{IsPrivateIn, IsArrayAt}
+use Rattle.compiled_model.proofs.war_analysis.Interface.{element}
+use Rattle.path_sums.proofs.Interface.{private_is, is_private_of}
+use Rattle.compiled_model.specs.task_ast.declared.names.Variable.TheVariants.{Shared}
+use Rattle.compiled_model.specs.lower.Seen.{some_path_writes, places_seen, map_seen}
+use Rattle.compiled_model.proofs.lower.Interface.{scalar_seen}
+use Rattle.compiled_model.specs.Places.{is_private_in}
+use Rattle.layout_facts.specs.Facts.{HasLayout, IsTaskAt, task_places}
 use Rattle.layout_facts.specs.Laws.{TasksMatch, TaskMatches, AddressesAre, AddressIs}
 use Rattle.layout_facts.proofs.Lists.{place_of, contains_at}
 use Rattle.layout_facts.proofs.Privates.{Privates, privates_of, ascending_numbers}
@@ -21,7 +26,7 @@ use Rattle.compiled_model.specs.memory_map.declared.place.VariablePlace.TheVaria
 use Rattle.compiled_model.specs.memory_map.declared.place.PrivateScalar.{PrivateScalar}
 use Rattle.compiled_model.specs.memory_map.MemoryMap.{MemoryMap, TaskPlace}
 use Rattle.compiled_model.specs.memory_map.Places.{HasItsPlace}
-use Rattle.compiled_model.specs.memory_map.Spots.{places_of, copy_among, home_of, home_in, copy_else, address_of}
+use Rattle.compiled_model.specs.memory_map.Spots.{copy_among, home_of, home_in, copy_else, address_of}
 use Rattle.compiled_model.proofs.memory_map.Interface.{among_is}
 
 -- what a task assigns is written by some task
@@ -77,9 +82,9 @@ module _ (p : CheckedProgram) (allow : Allow) (plans : List TaskPlanValue) (l : 
   mine : Privates p l task layout
   mine = privates_of p allow plans l h t task layout k
 
-  -- a private scalar is one that the task assigns
-  private_is : (i : ℕ) (s : PrivateScalar) → slice_get layout.privates i ≡ Some s → IsPrivateIn p.shared task.body s.number
-  private_is i s e =
+  -- a private scalar is one that the paths make private
+  private_is_one : (i : ℕ) (s : PrivateScalar) → slice_get layout.privates i ≡ Some s → IsPrivateIn p.shared task.body s.number
+  private_is_one i s e =
       let numbers = mine.numbers in
       let lt : i < length mine.plan.private_scalars =
       omega (arith, slice_get_within layout.privates i s e, length-map layout.privates (λ (s : PrivateScalar). s.number), ap length numbers) in
@@ -100,33 +105,41 @@ module _ (p : CheckedProgram) (allow : Allow) (plans : List TaskPlanValue) (l : 
       (c.0, s.0, s.1, sym (number_at layout.privates c.0 s.0 v s.1) ∙ same)
 
   -- an array that the task stores to has copies
-  pub stored_has_copies : (v : ℕ) → IsVersionedIn p.shared task.body v
+  pub stored_has_copies : (v : ℕ) → IsArrayAt p.shared v → block_assigns v task.body ≡ true
       → (elements n : ℕ) × (copies : ArrayCopies) × (slice_get l.variables v ≡ Some (Array elements n (Some copies)))
-  stored_has_copies v a =
-      let d = array_declared p.shared v a.array in
+  stored_has_copies v a assigned =
+      let d = array_declared p.shared v a in
       let n = array_extent d.0.extent d.2 in
       let x = array_has_place p allow plans l h v n.0 d.0 d.1 n.1 in
-      let c = some_copies x.1 (x.3 ∙ written_by p.tasks t task v k.is_task a.assigned) in
+      let c = some_copies x.1 (x.3 ∙ written_by p.tasks t task v k.is_task assigned) in
       (x.0, n.0, c.0, x.2 ∙ ap (λ y. Some (Array x.0 n.0 y)) c.1)
 
   pub task_matches : TaskMatches p l task layout
   task_matches = record {
     ascending = ascending_numbers p l task layout mine;
-    only = λ s c. let i = place_of layout.privates s c in (private_is i.0 s i.1, place_is i.0 s i.1);
+    only = λ s c. let i = place_of layout.privates s c in (private_is_one i.0 s i.1, place_is i.0 s i.1);
     each = λ v a. let i = assigned_is v a in (i.1, contains_at layout.privates i.0 i.1 i.2, i.3);
-    count =
-        sym (length-map layout.privates (λ (s : PrivateScalar). s.number)) ∙ ap length mine.numbers
-        ∙ privates_counted p.shared task.body mine.plan.private_scalars mine.is_plan.private_scalars;
+    count = h.few t task layout k.is_task k.is_layout;
     stored = stored_has_copies;
   }
 
+  -- a scalar that is private by the sums has an entry
+  entry_of_private : (v home copy : ℕ) → slice_get l.variables v ≡ Some (Scalar home copy) → is_private_in task.body v ≡ true
+      → (i : ℕ) × (s : PrivateScalar) × (slice_get layout.privates i ≡ Some s) × (s.number ≡ v)
+  entry_of_private v home copy e a =
+      assigned_is v (record { scalar = (places_match p allow plans l h).is_scalar v home copy e; owed = private_is (Shared v) task.body a })
+
   address_is : AddressIs p l task layout
-  address_is = record { assigned = assigned; left = left; each = each }
+  address_is = record { private = private; left = left; each = each }
     where
-      each : (v home copy : ℕ) → slice_get l.variables v ≡ Some (Scalar home copy) → block_assigns v task.body ≡ true
+      seen : (v home copy : ℕ) → slice_get l.variables v ≡ Some (Scalar home copy)
+          → slice_get (places_seen (some_path_writes task.body) 0 l.variables) v ≡ Some (Scalar home copy)
+      seen v home copy e = scalar_seen (some_path_writes task.body) l.variables v home copy e
+
+      each : (v home copy : ℕ) → slice_get l.variables v ≡ Some (Scalar home copy) → is_private_in task.body v ≡ true
           → Contains layout.privates (record { number = v; home = home; copy = copy })
       each v home copy e a =
-          let i = assigned_is v (record { scalar = (places_match p allow plans l h).is_scalar v home copy e; assigned = a }) in
+          let i = entry_of_private v home copy e a in
           let s = i.1 in
           let number : s.number ≡ v = i.3 in
           let both : Some (Scalar s.home s.copy) ≡ Some (Scalar home copy) = sym (place_is i.0 s i.2).place ∙ ap (slice_get l.variables) number ∙ e in
@@ -135,26 +148,27 @@ module _ (p : CheckedProgram) (allow : Allow) (plans : List TaskPlanValue) (l : 
           let same : s ≡ record { number = v; home = home; copy = copy } = λ j. record { number = number j; home = its_home j; copy = its_copy j } in
           contains_at layout.privates i.0 _ (i.2 ∙ ap (λ (x : PrivateScalar). Some x) same)
 
-      assigned : (v home copy : ℕ) → slice_get l.variables v ≡ Some (Scalar home copy) → block_assigns v task.body ≡ true
-          → address_of (places_of l layout) v ≡ copy
-      assigned v home copy e a =
-          let i = assigned_is v (record { scalar = (places_match p allow plans l h).is_scalar v home copy e; assigned = a }) in
+      private : (v home copy : ℕ) → slice_get l.variables v ≡ Some (Scalar home copy) → is_private_in task.body v ≡ true
+          → address_of (task_places l task layout) v ≡ copy
+      private v home copy e a =
+          let i = entry_of_private v home copy e a in
           let c = among_found layout.privates i.0 i.1 v i.2 i.3 in
           let its = among_is l.variables layout.privates v c.0 mine.places c.1 in
           let both : Some (Scalar its.0 c.0) ≡ Some (Scalar home copy) = sym its.1 ∙ e in
           let same : c.0 ≡ copy = cc in
-          ap (λ o. copy_else o (home_of l.variables v)) c.1 ∙ same
+          ap (λ o. copy_else o (home_of (map_seen task.body l).variables v)) c.1 ∙ same
 
-      left : (v home copy : ℕ) → slice_get l.variables v ≡ Some (Scalar home copy) → block_assigns v task.body ≡ false
-          → address_of (places_of l layout) v ≡ home
+      left : (v home copy : ℕ) → slice_get l.variables v ≡ Some (Scalar home copy) → is_private_in task.body v ≡ false
+          → address_of (task_places l task layout) v ≡ home
       left v home copy e a = by (copy_among layout.privates v) refl
         where
-          by : (o : Option ℕ) → copy_among layout.privates v ≡ o → copy_else o (home_of l.variables v) ≡ home
+          by : (o : Option ℕ) → copy_among layout.privates v ≡ o → copy_else o (home_of (map_seen task.body l).variables v) ≡ home
           by (Some c) f =
               let i = among_member layout.privates v c f in
-              let no : block_assigns v task.body ≡ true = subst (λ x. block_assigns x task.body ≡ true) i.3 (private_is i.0 i.1 i.2).assigned in
+              let no : is_private_in task.body v ≡ true =
+              subst (λ x. is_private_in task.body x ≡ true) i.3 (is_private_of (Shared i.1.number) task.body (private_is_one i.0 i.1 i.2).owed) in
               let clash : true ≡ false = sym no ∙ a in cc
-          by None f = ap home_in e
+          by None f = ap home_in (seen v home copy e)
 
 pub tasks_match : TasksMatch
 tasks_match p allow plans l h t task layout k = task_matches p allow plans l h t task layout k

@@ -1,19 +1,25 @@
 -- Names that are used as they were declared fit a task's places.
-use Rattle.std.proofs.Common.{◌≡◌, ℕ, Bool, true, List, subst, sym, Some, None, refl}
-use Rattle.std.proofs.lemmas.Bool.{eq-eqb, or_left, or_right}
+use Rattle.std.proofs.Common.{◌≡◌, ℕ, Bool, true, List, subst, sym, Some, None, refl, ⊎_elim}
+use Rattle.std.proofs.lemmas.Bool.{eq-eqb, cases_Bool}
 use Rattle.compiled_model.specs.task_ast.declared.SharedDeclaration.{SharedDeclaration}
 use Rattle.compiled_model.specs.task_ast.declared.names.Variable.{Variable}
 use Rattle.compiled_model.specs.task_ast.declared.names.Variable.TheVariants.{Shared, Local}
 use Rattle.compiled_model.specs.task_ast.Tree as t
 use Rattle.compiled_model.specs.task_ast.Paths.{CheckedExpression, CheckedStatement, CheckedChoice, CheckedBlock}
-use Rattle.compiled_model.specs.cost_bound.Counts.{is_shared, statement_assigns, choice_assigns, block_assigns}
+use Rattle.compiled_model.specs.path_sums.Sums.{statement_sum, choice_sum, block_sum}
+use Rattle.compiled_model.specs.path_sums.Access.{summary}
+use Rattle.compiled_model.specs.cost_bound.Counts.{is_shared}
 use Rattle.compiled_model.specs.war_analysis.Plans.{IsScalarAt, IsArrayAt}
 use Rattle.compiled_model.specs.lower.Agreement.{IsKnown, IsTarget, IsArray, IsWrittenArray, IsLocal, ExpressionFits, StatementFits, ChoiceFits, BlockFits}
 use Rattle.whole_programs.specs.Uses.{IsWordName, IsArrayName, IsLocalName, ExpressionUses, StatementUses, ChoiceUses, BlockUses}
+use Rattle.whole_programs.proofs.Interface.{assignment_writes, store_writes, loop_writes, taken_writes, passed_writes, first_writes, others_write, block_assigned}
+use Rattle.layout_facts.specs.Facts.{task_places}
 use Rattle.layout_facts.specs.Laws.{NamesFit}
+use Rattle.compiled_model.specs.lower.Seen.{some_path_writes}
+use Rattle.compiled_model.proofs.lower.Interface.{scalar_seen, array_seen, array_read}
 use Rattle.layout_facts.proofs.Planned.{scalar_has_place, array_has_place, array_declared, array_extent}
 use Rattle.layout_facts.proofs.Assigned.{stored_has_copies}
-use Rattle.compiled_model.specs.memory_map.Spots.{Places, places_of}
+use Rattle.compiled_model.specs.memory_map.Spots.{Places}
 use Rattle.compiled_model.specs.memory_map.Spots as spots
 
 -- what the places have: declared scalars and arrays, and copies of the arrays that are written
@@ -57,46 +63,57 @@ module _ (shared : List SharedDeclaration) (p : Places) (written : ℕ → Bool)
   expression_fits (t.shift op e count) h = expression_fits e h
   expression_fits (t.short_circuit op a b) h = (expression_fits a h.0, expression_fits b h.1)
 
+  -- the sums say what some path writes; what is written there may be written
+  abbrev Writes : (ℕ → Bool) → Type 0
+  Writes writes = (v : ℕ) → writes v ≡ true → written v ≡ true
+
   mutual
-    statement_fits : (s : CheckedStatement) → StatementUses shared s → ((v : ℕ) → statement_assigns v s ≡ true → written v ≡ true) → StatementFits p written s
+    statement_fits : (s : CheckedStatement) → StatementUses shared s → Writes (λ v. (statement_sum (summary (Shared v)) s).writes) → StatementFits p written s
     statement_fits (t.declare of x None) h w = tt
     statement_fits (t.declare of x (Some e)) h w = (expression_fits e h.1, local_target x.variable h.0)
-    statement_fits (t.assign x e) h w = (expression_fits e h.1, target x.variable h.0 w)
-    statement_fits (t.store x index e) h w = (written_array x.variable h.0 w, expression_fits index h.1, expression_fits e h.2)
+    statement_fits (t.assign x e) h w = (expression_fits e h.1, target x.variable h.0 (λ v k. w v (assignment_writes v x e k)))
+    statement_fits (t.store x index e) h w =
+        (written_array x.variable h.0 (λ v k. w v (store_writes v x index e k)), expression_fits index h.1, expression_fits e h.2)
     statement_fits (t.choose choice) h w = choice_fits choice h w
-    statement_fits (t.loop x from tested below stepped body) h w = (is_local x.variable h.0, block_fits body h.1 w)
+    statement_fits (t.loop x from tested below stepped body) h w =
+        (is_local x.variable h.0, λ some. block_fits body h.1 (λ v k. w v (loop_writes v x from tested below stepped body some k)))
     statement_fits (t.emit e) h w = expression_fits e h
     statement_fits (t.transition task) h w = tt
 
-    choice_fits : (c : CheckedChoice) → ChoiceUses shared c → ((v : ℕ) → choice_assigns v c ≡ true → written v ≡ true) → ChoiceFits p written c
+    choice_fits : (c : CheckedChoice) → ChoiceUses shared c → Writes (λ v. (choice_sum (summary (Shared v)) c).writes) → ChoiceFits p written c
     choice_fits t.nothing h w = tt
     choice_fits (t.otherwise block) h w = block_fits block h w
     choice_fits (t.test e block more) h w = (
       expression_fits e h.0,
-      block_fits block h.1 (λ v k. w v (or_left (block_assigns v block) (choice_assigns v more) k)),
-      choice_fits more h.2 (λ v k. w v (or_right (block_assigns v block) (choice_assigns v more) k)),
+      block_fits block h.1 (λ v k. w v (taken_writes v e block more k)),
+      choice_fits more h.2 (λ v k. w v (passed_writes v e block more k)),
     )
 
-    block_fits : (b : CheckedBlock) → BlockUses shared b → ((v : ℕ) → block_assigns v b ≡ true → written v ≡ true) → BlockFits p written b
+    block_fits : (b : CheckedBlock) → BlockUses shared b → Writes (λ v. (block_sum (summary (Shared v)) b).writes) → BlockFits p written b
     block_fits t.end h w = tt
     block_fits (t.step s more) h w = (
-      statement_fits s h.0 (λ v k. w v (or_left (statement_assigns v s) (block_assigns v more) k)),
-      block_fits more h.1 (λ v k. w v (or_right (statement_assigns v s) (block_assigns v more) k)),
+      statement_fits s h.0 (λ v k. w v (first_writes v s more k)),
+      λ on. block_fits more h.1 (λ v k. w v (others_write v s more on k)),
     )
 
 pub names_fit : NamesFit
 names_fit p allow plans l h t task layout k uses =
-    block_fits p.shared (places_of l layout) (λ v. block_assigns v task.body) have task.body uses (λ v a. a)
+    block_fits p.shared (task_places l task layout) (some_path_writes task.body) have task.body uses (λ v a. a)
   where
-    have : Have p.shared (places_of l layout) (λ v. block_assigns v task.body)
+    have : Have p.shared (task_places l task layout) (some_path_writes task.body)
     have = record {
-      scalars = λ v s. let place = scalar_has_place p allow plans l h v s in subst spots.IsScalarPlace (sym place.2) tt;
+      scalars = λ v s.
+          let place = scalar_has_place p allow plans l h v s in
+          subst spots.IsScalarPlace (sym (scalar_seen (some_path_writes task.body) l.variables v place.0 place.1 place.2)) tt;
       arrays = λ v a.
           let d = array_declared p.shared v a in
           let n = array_extent d.0.extent d.2 in
           let x = array_has_place p allow plans l h v n.0 d.0 d.1 n.1 in
-          (x.0, n.0, x.1, record { place = x.2 });
+          ⊎_elim {C = IsArray (task_places l task layout) (Shared v)}
+          (λ w. (x.0, n.0, x.1, record { place = array_seen (some_path_writes task.body) l.variables v x.0 n.0 x.1 x.2 w }))
+          (λ w. (x.0, n.0, None, record { place = array_read (some_path_writes task.body) l.variables v x.0 n.0 x.1 x.2 w }))
+          (cases_Bool (some_path_writes task.body v));
       copied = λ v a w.
-          let x = stored_has_copies p allow plans l h t task layout k v (record { array = a; assigned = w }) in
-          (x.0, x.1, x.2, record { place = x.3 });
+          let x = stored_has_copies p allow plans l h t task layout k v a (block_assigned v p.shared task.body uses w) in
+          (x.0, x.1, x.2, record { place = array_seen (some_path_writes task.body) l.variables v x.0 x.1 (Some x.2) x.3 w });
     }

@@ -3,7 +3,7 @@
 -- Elements of lists by their places.
 pub use Rattle.layout_facts.proofs.Lists.{contains_at}
 -- The words of the variables fill their region.
-pub use Rattle.layout_facts.proofs.Homes.{words_of_variables_are_shared, shared_words_are_of_variables}
+pub use Rattle.layout_facts.proofs.Homes.{words_of_variables_are_shared, shared_words_are_of_variables, each_is_one_word}
 -- States by addresses.
 pub use Rattle.layout_facts.proofs.Views.{view_has_their_words, rows_fit_places}
 -- The places of the crash theorem, and the room of its buffers.
@@ -12,9 +12,15 @@ pub use Rattle.layout_facts.proofs.Chains.{places_are_apart, tasks_have_room}
 pub use Rattle.layout_facts.proofs.Privates.{privates_are_theirs}
 -- The words that a task works on stand apart, behind what it lists and emits.
 pub use Rattle.layout_facts.proofs.Spots.{task_places_are_apart, task_places_are_even, elements_stand}
+-- Places are of the kinds that the source declares.
+pub use Rattle.layout_facts.proofs.Planned.{places_are_declared}
 -- What a task assigns, and where it has that.
 pub use Rattle.layout_facts.proofs.Assigned.{tasks_match, addresses_are}
 -- The commit list has room for all that a task may list.
 pub use Rattle.layout_facts.proofs.Listed.{lists_have_room}
 -- Names that are used as they were declared fit a task's places.
 pub use Rattle.layout_facts.proofs.Fits.{names_fit}
+-- What a task sees of a memory map stands in the whole map.
+pub use Rattle.layout_facts.proofs.Seen.{word_of_seen, scalar_of_seen}
+-- The scalars that a task writes in place, by their addresses.
+pub use Rattle.layout_facts.proofs.InPlace.{ScalarAt, scalar_found, scalar_is, in_place_written, in_place_not_private}

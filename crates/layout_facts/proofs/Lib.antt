@@ -2,6 +2,8 @@ mod Lists
 mod Homes
 mod Views
 mod Chains
+mod Seen
+mod InPlace
 mod Privates
 mod Spots
 mod Room

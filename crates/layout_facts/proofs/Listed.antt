@@ -14,10 +14,11 @@ use Rattle.compiled_model.specs.memory_map.declared.place.VariablePlace.TheVaria
 use Rattle.compiled_model.specs.memory_map.MemoryMap.{MemoryMap, TaskPlace}
 use Rattle.compiled_model.specs.memory_map.Spots.{places_of, Element, IsCopied}
 use Rattle.compiled_model.specs.lower.Spots.{AreListed, listed_of}
-use Rattle.layout_facts.specs.Facts.{HasLayout}
+use Rattle.layout_facts.specs.Facts.{HasLayout, task_room}
 use Rattle.layout_facts.specs.Laws.{ListsHaveRoom}
 use Rattle.layout_facts.proofs.Planned.{array_has_place, scalar_has_place, scalar_at}
 use Rattle.layout_facts.proofs.Room.{all_counted, sum_at_most, part_at_most, listed_none, listed_most}
+use Rattle.layout_facts.proofs.Seen.{room_seen}
 use Rattle.layout_facts.proofs.Assigned.{task_matches}
 
 module _ (p : CheckedProgram) (allow : Allow) (plans : List TaskPlanValue) (l : MemoryMap) (h : HasLayout p allow plans l) (layout : TaskPlace) where
@@ -60,7 +61,7 @@ module _ (p : CheckedProgram) (allow : Allow) (plans : List TaskPlanValue) (l : 
       found = ap (slice_get p.shared) same ∙ e
 
 pub lists_have_room : ListsHaveRoom
-lists_have_room p allow plans l h t task layout k xs listed few =
+lists_have_room p allow plans l h t task layout k = room_seen task.body l layout (λ v. stores_of v task.body) (task_room p task) (λ xs listed few.
     let sum =
     all_counted p.shared xs
     (All-weaker (IsCopied (places_of l layout)) (λ x. x.array < length p.shared) (within p allow plans l h layout) xs listed.copied) in
@@ -68,4 +69,4 @@ lists_have_room p allow plans l h t task layout k xs listed few =
     sum_at_most (λ i e. listed_of i xs) (λ i e. list_part (stores_of i task.body) e) 0 p.shared
     (part p allow plans l h layout (λ v. stores_of v task.body) xs listed few) in
     let count = (task_matches p allow plans l h t task layout k).count in
-    omega (arith, sum, most, count)
+    omega (arith, sum, most, count))

@@ -4,14 +4,19 @@ use Rattle.compiled_model.specs.cost_bound.Counts.{emits_of}
 use Rattle.compiled_model.specs.cost_bound.Allowance.{list_of}
 use Rattle.compiled_model.proofs.memory_map.Interface.{apart_of, even_of, parts_in_fram, element_is, copy_is, version_is, version_between, spots_are_apart}
 use Rattle.layout_facts.specs.Laws.{TaskPlacesAreApart, TaskPlacesAreEven, ElementsStand}
+use Rattle.compiled_model.specs.memory_map.Spots.{places_of, element_address, copy_address, version_address}
+use Rattle.compiled_model.specs.lower.Seen.{some_path_writes, map_seen}
+use Rattle.compiled_model.proofs.lower.Interface.{privates_seen, seen_laid_out}
 use Rattle.layout_facts.proofs.Chains.{at_most_greatest}
+use Rattle.layout_facts.proofs.Seen.{word_of_seen}
 use Rattle.layout_facts.proofs.Privates.{privates_of}
 use Rattle.layout_facts.proofs.Privates as privates
 
 pub task_places_are_apart : TaskPlacesAreApart
 task_places_are_apart p allow plans l h t task layout k =
     let mine = privates_of p allow plans l h t task layout k in
-    let stand = spots_are_apart l layout h.layout.rules mine.places in
+    let w = some_path_writes task.body in
+    let stand = spots_are_apart (map_seen task.body l) layout (seen_laid_out w l h.layout.rules) (privates_seen w l.variables layout.privates mine.places) in
     let a = apart_of l h.layout.rules in
     let emits = a.emits in let versions = a.versions in
     let most_list = at_most_greatest (list_of p.shared) p.tasks t task k.is_task in
@@ -34,12 +39,14 @@ pub task_places_are_even : TaskPlacesAreEven
 task_places_are_even p allow plans l h t task layout k =
     let mine = privates_of p allow plans l h t task layout k in
     let e = even_of l h.layout.rules in
+    let w = some_path_writes task.body in
+    let stand = spots_are_apart (map_seen task.body l) layout (seen_laid_out w l h.layout.rules) (privates_seen w l.variables layout.privates mine.places) in
     record {
       row = e.row;
       list = e.list;
       emits = e.emits;
       commit = e.commit;
-      spots = λ s m. ((spots_are_apart l layout h.layout.rules mine.places).each s m).even;
+      spots = λ s m. (stand.each s m).even;
     }
 
 -- a word of a list, by its number
@@ -47,10 +54,15 @@ counted : (from a capacity : ℕ) → from % 2 ≡ 0 → a % 2 ≡ 0 → from �
 counted from a capacity e f l k = ((a - from) / 2, omega arith, omega arith)
 
 pub elements_stand : ElementsStand
-elements_stand p allow plans l h layout = record {
-  word = element_is l layout;
-  copy = λ x m. privates.copy_is p l h.layout.rules x.array x.index _ (copy_is l layout x m);
-  version = λ x m.
-      let b = version_between l h.layout.rules x.array x.index _ (version_is l layout x m) in
-      counted l.versions.address _ l.versions.words (even_of l h.layout.rules).versions b.even b.from b.end;
-}
+elements_stand p allow plans l h t task layout k =
+    let m = map_seen task.body l in
+    let rules = seen_laid_out (some_path_writes task.body) l h.layout.rules in
+    record {
+      word = λ x e. word_of_seen task.body l x.array x.index (element_address (places_of m layout) x) (element_is m layout x e);
+      copy = λ x c.
+          let at = privates.copy_is p m rules x.array x.index (copy_address (places_of m layout) x) (copy_is m layout x c) in
+          record { even = at.even; from = at.from; below = at.below };
+      version = λ x c.
+          let b = version_between m rules x.array x.index (version_address (places_of m layout) x) (version_is m layout x c) in
+          counted l.versions.address (version_address (places_of m layout) x) l.versions.words (even_of l h.layout.rules).versions b.even b.from b.end;
+    }

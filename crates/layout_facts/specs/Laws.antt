@@ -1,12 +1,12 @@
 -- What the layout of a source gives to the layers above.
-use Rattle.std.specs.Prelude.{◌≡◌, ℕ, ◌+◌, ◌*◌, ◌<◌, true, false, Option, Some, is_some, List, [], length, map, AllPairs, Contains, slice_get, slice_index, slice_index_or}
+use Rattle.std.specs.Prelude.{◌≡◌, ◌↔◌, ℕ, ◌+◌, ◌*◌, ◌<◌, ◌≤◌, true, false, Option, Some, is_some, List, [], length, map, AllPairs, Contains, slice_get, slice_index, slice_index_or}
 use Rattle.compiled_model.specs.task_ast.declared.Extent.TheVariants as extent
 use Rattle.compiled_model.specs.task_ast.declared.SharedDeclaration.{SharedDeclaration}
 use Rattle.compiled_model.specs.cost_bound.declared.allowance.Allow.{Allow}
 use Rattle.compiled_model.specs.cost_bound.Counts.{stores_of, block_assigns}
 use Rattle.compiled_model.specs.cost_bound.Allowance.{CheckedProgram, CheckedTask, is_written, scalars_of}
 use Rattle.compiled_model.specs.war_analysis.PlanValue.{TaskPlanValue}
-use Rattle.compiled_model.specs.war_analysis.Plans.{IsPrivateIn, IsVersionedIn}
+use Rattle.compiled_model.specs.war_analysis.Plans.{IsPrivateIn}
 use Rattle.compiled_model.specs.war_analysis.Plans as plan
 use Rattle.compiled_model.specs.memory_map.declared.place.ArrayCopies.{ArrayCopies}
 use Rattle.compiled_model.specs.memory_map.declared.place.VariablePlace.{VariablePlace}
@@ -18,14 +18,18 @@ use Rattle.compiled_model.specs.boot_runtime.Entries.{task_entries}
 use Rattle.compiled_model.specs.boot_runtime.Listing.{privates_in}
 use Rattle.compiled_model.specs.memory_map.Laws.{AreApart}
 use Rattle.compiled_model.specs.stands_for.Layout.{HaveRoom, ArePrivate, IsSharedWord, IsCopyWord}
-use Rattle.compiled_model.specs.memory_map.Spots.{places_of, address_of, Element, IsElement, IsCopied, element_address, copy_address, version_address, IsWordOf}
+use Rattle.compiled_model.specs.memory_map.Spots.{Places, places_of, address_of, Element, IsElement, IsCopied, IsScalarAt, element_address, copy_address, version_address, IsWordOf}
 use Rattle.compiled_model.specs.lower.Spots.{HasRoom}
 use Rattle.compiled_model.specs.lower.Spots as spots
 use Rattle.compiled_model.specs.lower.Agreement.{place_length, BlockFits}
 use Rattle.whole_programs.specs.Uses.{BlockUses}
-use Rattle.compiled_model.specs.Places.{program_places}
+use Rattle.compiled_model.specs.path_sums.Access.{writes, SomePath, IsPrivate}
+use Rattle.compiled_model.specs.task_ast.declared.names.Variable.TheVariants.{Shared}
+use Rattle.compiled_model.specs.source_values.Runs.{task_body}
+use Rattle.compiled_model.specs.lower.Seen.{some_path_writes}
+use Rattle.compiled_model.specs.Places.{is_private_in, program_places}
 use Rattle.compiled_model.specs.View.{shared_word, are_rows}
-use Rattle.layout_facts.specs.Facts.{HasLayout, IsTaskAt, task_room}
+use Rattle.layout_facts.specs.Facts.{HasLayout, IsTaskAt, task_room, task_places}
 
 -- what holds of each source and its layout
 abbrev OfLayouts : (CheckedProgram → MemoryMap → Type 0) → Type 0
@@ -53,15 +57,15 @@ PrivatesAreTheirs = OfLayouts (λ p l. (t : ℕ) → ArePrivate (program_places 
 
 -- the words that a task works on stand apart, and behind what it lists and emits
 abbrev pub TaskPlacesAreApart : Type 0
-TaskPlacesAreApart = OfTasks (λ p l task layout. spots.AreApart (places_of l layout) (task_room p task))
+TaskPlacesAreApart = OfTasks (λ p l task layout. spots.AreApart (task_places l task layout) (task_room p task))
 
 -- all at even addresses
 abbrev pub TaskPlacesAreEven : Type 0
-TaskPlacesAreEven = OfTasks (λ p l task layout. spots.AreEven (places_of l layout))
+TaskPlacesAreEven = OfTasks (λ p l task layout. spots.AreEven (task_places l task layout))
 
 -- the list has room for the private scalars and for as many different elements of each array as there are stores to it
 abbrev pub ListsHaveRoom : Type 0
-ListsHaveRoom = OfTasks (λ p l task layout. HasRoom (places_of l layout) (λ v. stores_of v task.body) (task_room p task))
+ListsHaveRoom = OfTasks (λ p l task layout. HasRoom (task_places l task layout) (λ v. stores_of v task.body) (task_room p task))
 
 -- ---- addresses and variables
 
@@ -88,15 +92,15 @@ RowsFitPlaces = OfLayouts (λ p l. (rows : List (List ℕ)) (v : ℕ) (place : V
     → slice_get l.variables v ≡ Some place → (v < length rows) × (length (slice_index_or rows v []) ≡ place_length place))
 
 -- an element's address is that of its word; its copy is a copy, its version word one of those that are counted
-pub record ElementStands (p : CheckedProgram) (l : MemoryMap) (layout : TaskPlace) : Type 0 where
-  pub word : (x : Element) → IsElement (places_of l layout) x → IsWordOf l x.array x.index (element_address (places_of l layout) x)
-  pub copy : (x : Element) → IsCopied (places_of l layout) x → IsCopyWord (program_places p l) (copy_address (places_of l layout) x)
-  pub version : (x : Element) → IsCopied (places_of l layout) x
-      → (j : ℕ) × (j < l.versions.words) × (version_address (places_of l layout) x ≡ l.versions.address + 2 * j)
+pub record ElementStands (p : CheckedProgram) (l : MemoryMap) (places : Places) : Type 0 where
+  pub word : (x : Element) → IsElement places x → IsWordOf l x.array x.index (element_address places x)
+  pub copy : (x : Element) → IsCopied places x → IsCopyWord (program_places p l) (copy_address places x)
+  pub version : (x : Element) → IsCopied places x
+      → (j : ℕ) × (j < l.versions.words) × (version_address places x ≡ l.versions.address + 2 * j)
 
--- so with each element, whatever the task
+-- so with each element that a task works on
 abbrev pub ElementsStand : Type 0
-ElementsStand = OfLayouts (λ p l. (layout : TaskPlace) → ElementStands p l layout)
+ElementsStand = OfTasks (λ p l task layout. ElementStands p l (task_places l task layout))
 
 -- a scalar's word is a word of the variable, its copy a copy
 pub record ScalarStands (p : CheckedProgram) (l : MemoryMap) (v home copy : ℕ) : Type 0 where
@@ -124,32 +128,39 @@ pub record PlacesMatch (p : CheckedProgram) (l : MemoryMap) : Type 0 where
 abbrev pub PlacesAreDeclared : Type 0
 PlacesAreDeclared = OfLayouts PlacesMatch
 
--- a task's private scalars are those that it assigns, each once and with its place; it has the copies of the arrays that it stores to
+-- a task's private scalars are exactly those that its paths make private, each once and with its place, and no more than the allowance
+-- counts; the layout has copies of the arrays that stand on the left of an assignment in it
 pub record TaskMatches (p : CheckedProgram) (l : MemoryMap) (task : CheckedTask) (layout : TaskPlace) : Type 0 where
   pub ascending : AllPairs ◌<◌ (map (λ s. s.number) layout.privates)
   pub only : (s : PrivateScalar) → Contains layout.privates s → IsPrivateIn p.shared task.body s.number × HasItsPlace l.variables s
   pub each : (v : ℕ) → IsPrivateIn p.shared task.body v → (s : PrivateScalar) × Contains layout.privates s × (s.number ≡ v)
-  pub count : length layout.privates ≡ scalars_of p.shared task.body
-  pub stored : (v : ℕ) → IsVersionedIn p.shared task.body v
+  pub count : length layout.privates ≤ scalars_of p.shared task.body
+  pub stored : (v : ℕ) → plan.IsArrayAt p.shared v → block_assigns v task.body ≡ true
       → (elements n : ℕ) × (copies : ArrayCopies) × (slice_get l.variables v ≡ Some (Array elements n (Some copies)))
 
 -- so with each task
 abbrev pub TasksMatch : Type 0
 TasksMatch = OfTasks TaskMatches
 
--- a scalar's address in a task is that of its copy where the task assigns it, else that of its word
+-- a scalar's address in a task is that of its copy where it is private there, else that of its word
 pub record AddressIs (p : CheckedProgram) (l : MemoryMap) (task : CheckedTask) (layout : TaskPlace) : Type 0 where
-  pub assigned : (v home copy : ℕ) → slice_get l.variables v ≡ Some (Scalar home copy) → block_assigns v task.body ≡ true
-      → address_of (places_of l layout) v ≡ copy
-  pub left : (v home copy : ℕ) → slice_get l.variables v ≡ Some (Scalar home copy) → block_assigns v task.body ≡ false
-      → address_of (places_of l layout) v ≡ home
-  pub each : (v home copy : ℕ) → slice_get l.variables v ≡ Some (Scalar home copy) → block_assigns v task.body ≡ true
+  pub private : (v home copy : ℕ) → slice_get l.variables v ≡ Some (Scalar home copy) → is_private_in task.body v ≡ true
+      → address_of (task_places l task layout) v ≡ copy
+  pub left : (v home copy : ℕ) → slice_get l.variables v ≡ Some (Scalar home copy) → is_private_in task.body v ≡ false
+      → address_of (task_places l task layout) v ≡ home
+  pub each : (v home copy : ℕ) → slice_get l.variables v ≡ Some (Scalar home copy) → is_private_in task.body v ≡ true
       → Contains layout.privates (record { number = v; home = home; copy = copy })
 
 -- so in each task
 abbrev pub AddressesAre : Type 0
 AddressesAre = OfTasks AddressIs
 
--- names that are used as they were declared fit the task's places
+-- names that are used as they were declared fit the task's places, of which it may write what some path writes
 abbrev pub NamesFit : Type 0
-NamesFit = OfTasks (λ p l task layout. BlockUses p.shared task.body → BlockFits (places_of l layout) (λ v. block_assigns v task.body) task.body)
+NamesFit = OfTasks (λ p l task layout. BlockUses p.shared task.body → BlockFits (task_places l task layout) (some_path_writes task.body) task.body)
+
+-- a task writes a scalar in place exactly where some path of it writes it, and it isn't private there
+abbrev pub InPlaceByPaths : Type 0
+InPlaceByPaths = OfLayouts (λ p l. (t v home copy : ℕ) → slice_get l.variables v ≡ Some (Scalar home copy)
+    → ((program_places p l).written_in_place t home ≡ true)
+    ↔ (SomePath (task_body p t) (writes (Shared v)) × (IsPrivate (task_body p t) (Shared v) → ⊥)))

@@ -1,5 +1,5 @@
 //! What holds of the layout of a source, as contracts of functions that do nothing.
-ghost use Rattle.layout_facts.specs.Laws.{AddressesAre, EachIsOneWord, ElementsStand, ListsHaveRoom, NamesFit, PlacesAreApart};
+ghost use Rattle.layout_facts.specs.Laws.{AddressesAre, EachIsOneWord, ElementsStand, InPlaceByPaths, ListsHaveRoom, NamesFit, PlacesAreApart};
 ghost use Rattle.layout_facts.specs.Laws.{PlacesAreDeclared, PrivatesAreTheirs, RowsFitPlaces, ScalarsStand};
 ghost use Rattle.layout_facts.specs.Laws.{SharedWordsAreOfVariables, TaskPlacesAreApart, TaskPlacesAreEven, TasksHaveRoom};
 ghost use Rattle.layout_facts.specs.Laws.{TasksMatch, ViewHasTheirWords, WordsOfVariablesAreShared};
@@ -74,12 +74,12 @@ pub fn places_are_declared()
     ensures { PlacesAreDeclared }
 {}
 
-/// A task's private scalars are those that it assigns, and the arrays that it stores to have copies.
+/// A task's private scalars are those that its paths make private, and the arrays on the left of its assignments have copies.
 pub fn tasks_match()
     ensures { TasksMatch }
 {}
 
-/// A scalar's address in a task is that of its copy where the task assigns it, else that of its word.
+/// A scalar's address in a task is that of its copy where it is private there, else that of its word.
 pub fn addresses_are_copies_or_words()
     ensures { AddressesAre }
 {}
@@ -87,4 +87,9 @@ pub fn addresses_are_copies_or_words()
 /// Names that are used as they were declared fit a task's places.
 pub fn names_fit()
     ensures { NamesFit }
+{}
+
+/// A task writes a scalar in place exactly where some path of it does, and the scalar isn't private there.
+pub fn in_place_by_paths()
+    ensures { InPlaceByPaths }
 {}

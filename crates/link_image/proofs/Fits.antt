@@ -1,5 +1,5 @@
 -- The code has its room.
-use Rattle.std.proofs.Common.{◌≡◌, ◌∙◌, ℕ, suc, List, [], ◌∷◌, length, refl, sym, ap, arith, Some, get_or}
+use Rattle.std.proofs.Common.{◌≡◌, ◌≤◌, ◌∙◌, ℕ, suc, List, [], ◌∷◌, length, refl, sym, ap, arith, Some, get_or}
 use Rattle.std.specs.Prelude.{slice_get}
 use Rattle.std.proofs.lemmas.Option.{slice_get_within, slice_get-get_or}
 use Rattle.std.proofs.lemmas.List.{length-map}
@@ -8,42 +8,28 @@ use Rattle.linked_code.specs.cost_bound.declared.allowance.Allow.{Allow}
 use Rattle.linked_code.specs.cost_bound.Allowance.{CheckedTask, CheckedProgram, IsAllowed, scalars_of}
 use Rattle.war_analysis.specs.PlanValue.{TaskPlanValue}
 use Rattle.war_analysis.specs.Plans.{IsPlan}
-use Rattle.war_analysis.specs.Laws.{ScalarsAreCounted}
 use Rattle.memory_map.specs.MemoryMap.{MemoryMap, TaskPlace}
 use Rattle.privatise.specs.Layouts.{IsLayout}
 use Rattle.memory_map.specs.Spots.{places_of}
+use Rattle.lower.specs.Seen.{map_seen}
 use Rattle.lower.specs.Lowered.{lowered_tasks, lowered}
 use Rattle.lower.specs.Sizes.{BlocksKeepToWords}
 use Rattle.linked_code.specs.Linked.{CodeFits}
 use Rattle.linked_code.specs.Rooms.{ProgramsKeep, PrivatesAreCounted, LayoutsHaveRoom}
 
-no_plan : TaskPlanValue
-no_plan = record { private_scalars = []; versioned_arrays = [] }
-
 keep_all : BlocksKeepToWords → (l : MemoryMap) (shared : List SharedDeclaration) (tasks : List CheckedTask) (ts : List TaskPlace) → length ts ≡ length tasks
-    → ((k : ℕ) (task : CheckedTask) (t : TaskPlace) → slice_get tasks k ≡ Some task → slice_get ts k ≡ Some t → length t.privates ≡ scalars_of shared task.body)
+    → ((k : ℕ) (task : CheckedTask) (t : TaskPlace) → slice_get tasks k ≡ Some task → slice_get ts k ≡ Some t → length t.privates ≤ scalars_of shared task.body)
     → ProgramsKeep shared tasks (lowered_tasks l tasks ts)
 keep_all keep l shared [] [] n f = tt
 keep_all keep l shared [] (t ∷ ts) n f = absurd (omega (arith, n))
 keep_all keep l shared (task ∷ tasks) [] n f = absurd (omega (arith, n))
 keep_all keep l shared (task ∷ tasks) (t ∷ ts) n f =
     let few = f 0 task t refl refl in
-    (keep (places_of l t) (scalars_of shared task.body) task.body (omega (arith, few)), keep_all keep l shared tasks ts (omega (arith, n)) (λ k u v a b. f (suc k) u v a b))
+    (keep (places_of (map_seen task.body l) t) (scalars_of shared task.body) task.body (omega (arith, few)), keep_all keep l shared tasks ts (omega (arith, n)) (λ k u v a b. f (suc k) u v a b))
 
-privates_counted : ((p : CheckedProgram) → ScalarsAreCounted p) → (p : CheckedProgram) (allow : Allow) (plans : List TaskPlanValue) (l : MemoryMap)
-    → IsPlan p plans → IsLayout p allow plans l
-    → PrivatesAreCounted p l
-privates_counted counted p allow plans l planned laid k task t a b =
-    let inside = slice_get_within p.tasks k task a in
-    let count = planned.count in
-    let plan = get_or plans k no_plan in
-    let there = slice_get-get_or plans k no_plan (omega (arith, inside, count)) in
-    let numbers = (laid.tasks.each k task plan t a there b).privates in
-    sym (length-map t.privates (λ s. s.number)) ∙ ap length numbers ∙ counted p task plan (planned.each k task plan a there)
-
-pub code_fits : LayoutsHaveRoom → BlocksKeepToWords → ((p : CheckedProgram) → ScalarsAreCounted p)
+pub code_fits : LayoutsHaveRoom → BlocksKeepToWords
     → (p : CheckedProgram) (allow : Allow) (plans : List TaskPlanValue) (l : MemoryMap) → IsAllowed p allow → IsPlan p plans → IsLayout p allow plans l
+    → PrivatesAreCounted p l
     → CodeFits l (lowered l p)
-code_fits rooms keep counted p allow plans l allowed planned laid =
-    let are = privates_counted counted p allow plans l planned laid in
-    rooms p allow plans l (lowered l p) allowed laid planned.count are (keep_all keep l p.shared p.tasks l.tasks laid.tasks.count are)
+code_fits rooms keep p allow plans l allowed planned laid few =
+    rooms p allow plans l (lowered l p) allowed laid planned.count few (keep_all keep l p.shared p.tasks l.tasks laid.tasks.count few)

@@ -5,27 +5,27 @@ use Rattle.whole_programs.specs.source_values.Runs.{CheckedProgram, IsRunnable}
 use Rattle.source_meaning.specs.Acceptance.{IsAcceptedText}
 use Rattle.war_analysis.specs.PlanValue.{TaskPlanValue}
 use Rattle.war_analysis.specs.Plans.{IsPlan}
-use Rattle.war_analysis.specs.Laws.{ScalarsAreCounted}
 use Rattle.memory_map.specs.MemoryMap.{MemoryMap}
 use Rattle.privatise.specs.Layouts.{IsLayout}
 use Rattle.lower.specs.Sizes.{BlocksKeepToWords}
 use Rattle.linked_code.specs.Rooms.{LayoutsHaveRoom}
-use Rattle.whole_programs.specs.Laws.{ProgramsAreWhole}
+use Rattle.whole_programs.specs.Laws.{IsLaidOutText, PrivatesAreFew, ProgramsAreWhole}
 use Rattle.source_maps.specs.Names.{NamesAreNames}
 use Rattle.source_maps.specs.Laws.{MapsAreOfSources}
 use Rattle.link_image.specs.Needs.{IsReadyToLink}
 use Rattle.link_image.proofs.Fits.{code_fits}
 
-pub ready : LayoutsHaveRoom → BlocksKeepToWords → ((p : CheckedProgram) → ScalarsAreCounted p) → ProgramsAreWhole → NamesAreNames → MapsAreOfSources
+pub ready : LayoutsHaveRoom → BlocksKeepToWords → PrivatesAreFew → ProgramsAreWhole → NamesAreNames → MapsAreOfSources
     → (text : List ℕ) (p : CheckedProgram) (allow : Allow) (plans : List TaskPlanValue) (l : MemoryMap) → IsAcceptedText text p allow → IsRunnable p
     → IsPlan p plans → IsLayout p allow plans l
     → IsReadyToLink text p allow l
-ready rooms keep counted whole named mapped text p allow plans l accepted runnable planned laid =
-    let programs = whole text p allow plans l (record { accepted = accepted; plan = planned; layout = laid }) in
+ready rooms keep few whole named mapped text p allow plans l accepted runnable planned laid =
+    let text_is : IsLaidOutText text p allow plans l = record { accepted = accepted; plan = planned; layout = laid } in
+    let programs = whole text p allow plans l text_is in
     let names = named text p accepted.checks in
     let entry = runnable.entry in
     record {
-      fits = code_fits rooms keep counted p allow plans l accepted.allowed planned laid;
+      fits = code_fits rooms keep p allow plans l accepted.allowed planned laid (few text p allow plans l text_is);
       whole = programs.0;
       of_words = programs.1;
       same_tasks = laid.tasks.count;

@@ -1,11 +1,11 @@
 -- A world that rests at a state has its words where the map says.
-use Rattle.std.proofs.Common.{◌≡◌, ℕ, zero, suc, ◌+◌, ◌*◌, ◌<◌, ◌==◌, ◌&&◌, refl, ap, ap₂, ◌∙◌, arith, true, eqb-true, List, [], ◌∷◌, length, Some}
+use Rattle.std.proofs.Common.{◌≡◌, ℕ, zero, suc, ◌+◌, ◌*◌, ◌<◌, ◌≤◌, ◌==◌, ◌&&◌, refl, sym, ap, ap₂, ◌∙◌, subst, arith, true, eqb-true, List, [], ◌∷◌, length, map, get_or, Option, Some, None}
 use Rattle.std.proofs.lemmas.List.{length-replicate}
 use Rattle.std.specs.Prelude.{slice_get, slice_index, slice_index_or}
 use Rattle.std.proofs.lemmas.Bool.{and_parts}
 use Rattle.task_ast.specs.declared.SharedDeclaration.{SharedDeclaration}
 use Rattle.task_ast.specs.declared.Extent.{Extent}
-use Rattle.source_maps.specs.board_run.History.{array_words, variable_words}
+use Rattle.source_maps.specs.board_run.History.{SharedWord, array_words, variable_words}
 use Rattle.task_ast.specs.declared.Extent.TheVariants as extent
 use Rattle.whole_programs.specs.source_values.Runs.{initial_words}
 use Rattle.linked_code.specs.machine_effects.World.{World}

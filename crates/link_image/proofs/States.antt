@@ -1,11 +1,14 @@
 -- Where the world rests at a state of the source, the map finds the state's words in it.
-use Rattle.std.proofs.Common.{◌≡◌, ℕ, ◌+◌, ◌*◌, refl, ◌∙◌, List, [], Some}
+use Rattle.std.proofs.Common.{◌≡◌, ℕ, ◌+◌, ◌*◌, ◌<◌, refl, ◌∙◌, List, [], Bool, Some}
 use Rattle.std.specs.Prelude.{slice_get, slice_index_or}
+use Rattle.task_ast.specs.declared.SharedDeclaration.{SharedDeclaration}
+use Rattle.task_ast.specs.declared.Extent.{Extent}
 use Rattle.linked_code.specs.cost_bound.declared.allowance.Allow.{Allow}
 use Rattle.linked_code.specs.cost_bound.Allowance.{is_written}
 use Rattle.whole_programs.specs.source_values.Runs.{CheckedProgram, State}
 use Rattle.war_analysis.specs.PlanValue.{TaskPlanValue}
 use Rattle.memory_map.specs.declared.place.VariablePlace.{VariablePlace}
+use Rattle.memory_map.specs.declared.place.VariablePlace.TheVariants.{Scalar, Array}
 use Rattle.memory_map.specs.MemoryMap.{MemoryMap}
 use Rattle.memory_map.specs.Places.{home_region}
 use Rattle.linked_code.specs.machine_effects.World.{World}
@@ -14,6 +17,7 @@ use Rattle.source_maps.specs.source_runs.Transitions.{HasWordsOf}
 use Rattle.compiled_runs.specs.compiled_model.Places.{program_places}
 use Rattle.compiled_runs.specs.compiled_model.View.{state_view}
 use Rattle.memory_map.specs.Spots.{IsWordOf}
+use Rattle.whole_programs.proofs.Interface.{privates_are_few}
 use Rattle.layout_facts.specs.Facts.{HasLayout}
 use Rattle.layout_facts.proofs.Interface.{words_of_variables_are_shared, view_has_their_words}
 use Rattle.source_maps.specs.Maps.{map_of}
@@ -39,4 +43,9 @@ module _ (text : List ℕ) (p : CheckedProgram) (allow : Allow) (plans : List Ta
 
 pub maps_find_states : MapsFindStates
 maps_find_states text p allow image ok c s x rests =
-    finds_state text p allow c.plans c.layout (record { allowed = ok.allowed; plan = c.is_plan; layout = c.is_layout }) s x rests
+    finds_state text p allow c.plans c.layout (record {
+      allowed = ok.allowed;
+      plan = c.is_plan;
+      layout = c.is_layout;
+      few = privates_are_few text p allow c.plans c.layout (record { accepted = ok; plan = c.is_plan; layout = c.is_layout });
+    }) s x rests

@@ -4,7 +4,6 @@ ghost use Rattle.link_image.specs.Laws.{ImagesAreFresh, MapsFindStates};
 
 use linked_code::{layouts_have_room, linked_is_code};
 use lower::laws::statements_keep_to_words;
-use war_analysis::scalars_are_counted;
 
 /// Of an accepted source's image the code stands from the boot's address on, which is the reset vector, and has room there; before
 /// anything was done its world rests at the source's first state.
@@ -14,7 +13,6 @@ pub fn images_are_fresh()
     layouts_have_room();
     linked_is_code();
     statements_keep_to_words();
-    scalars_are_counted();
 }
 
 /// Where a world rests at a state of the source, the image's map finds the state's words in it.

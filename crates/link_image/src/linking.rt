@@ -19,8 +19,8 @@ use privatise::layout;
 use source_maps::{map_of, maps_are_of_sources, names_are_names};
 use source_meaning::{Accepted, SourceFault, accept};
 use std::alloc::{AllocError, Global};
-use war_analysis::{Plan, analyse, scalars_are_counted};
-use whole_programs::programs_are_whole;
+use war_analysis::{Plan, analyse};
+use whole_programs::{privates_are_few, programs_are_whole};
 
 // A source with its plan and its layout is ready to be linked: its code has room, and its names can be those of a map.
 fn is_ready(accepted: &Accepted, plan: &Plan, layout: &Layout)
@@ -31,7 +31,7 @@ fn is_ready(accepted: &Accepted, plan: &Plan, layout: &Layout)
 {
     layouts_have_room();
     statements_keep_to_words();
-    scalars_are_counted();
+    privates_are_few();
     programs_are_whole();
     names_are_names();
     maps_are_of_sources();

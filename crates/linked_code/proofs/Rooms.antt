@@ -1,5 +1,5 @@
 -- The layout of a source has room for its code.
-use Rattle.std.proofs.Common.{◌≡◌, ℕ, suc, List, [], ◌∷◌, length, map, Some, slice_get, get_or, refl, arith}
+use Rattle.std.proofs.Common.{◌≡◌, ◌≤◌, ℕ, suc, List, [], ◌∷◌, length, map, Some, slice_get, get_or, refl, arith}
 use Rattle.std.proofs.lemmas.Option.{slice_get_within, slice_get-get_or}
 use Rattle.boot_runtime.specs.task_ast.declared.SharedDeclaration.{SharedDeclaration}
 use Rattle.boot_runtime.specs.cost_bound.Allowance.{CheckedTask, scalars_of, total}
@@ -15,9 +15,9 @@ use Rattle.boot_runtime.proofs.Interface.{boot_fits}
 use Rattle.linked_code.specs.Linked.{ProgramsFit}
 use Rattle.linked_code.specs.Rooms.{ProgramsKeep, LayoutsHaveRoom}
 
--- a task has the words and the private scalars that the allowance counts
+-- a task has the words, and at most the private scalars, that the allowance counts
 record IsCounted (shared : List SharedDeclaration) (task : CheckedTask) (t : TaskPlace) : Type 0 where
-  pub privates : length t.privates ≡ scalars_of shared task.body
+  pub privates : length t.privates ≤ scalars_of shared task.body
   pub words : t.code.words ≡ body_words shared task.body
 
 -- each task has
@@ -41,8 +41,8 @@ pairs_count [] = refl
 pairs_count (x ∷ xs) = let e = pairs_count xs in omega (arith, e)
 
 entries_room : (shared : List SharedDeclaration) (tasks : List CheckedTask) (ts : List TaskPlace) → AreCounted shared tasks ts
-    → entry_room (map entry_of ts) ≡ total (entry_words shared) tasks
-entries_room shared [] [] h = refl
+    → entry_room (map entry_of ts) ≤ total (entry_words shared) tasks
+entries_room shared [] [] h = omega arith
 entries_room shared [] (t ∷ ts) h = absurd h
 entries_room shared (task ∷ tasks) [] h = absurd h
 entries_room shared (task ∷ tasks) (t ∷ ts) h =

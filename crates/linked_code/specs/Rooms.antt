@@ -18,10 +18,10 @@ ProgramsKeep shared [] (q ∷ qs) = ⊥
 ProgramsKeep shared (t ∷ ts) [] = ⊥
 ProgramsKeep shared (t ∷ ts) (q ∷ qs) = (words_of q ≤ body_words shared t.body) × ProgramsKeep shared ts qs
 
--- each task has as many private scalars as the allowance counts
+-- each task has at most as many private scalars as the allowance counts
 abbrev pub PrivatesAreCounted : CheckedProgram → MemoryMap → Type 0
 PrivatesAreCounted p l = (k : ℕ) (task : CheckedTask) (t : TaskPlace) → slice_get p.tasks k ≡ Some task → slice_get l.tasks k ≡ Some t
-    → length t.privates ≡ scalars_of p.shared task.body
+    → length t.privates ≤ scalars_of p.shared task.body
 
 -- the layout of a source that costs no more than it may has room for the code
 abbrev pub LayoutsHaveRoom : Type 0

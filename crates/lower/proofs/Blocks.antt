@@ -1,6 +1,7 @@
 -- The program of statements does what they do.
-use Rattle.std.proofs.Common.{◌≡◌, ℕ, zero, suc, ◌+◌, ◌-◌, ◌*◌, ◌%◌, ◌<◌, ◌≤◌, List, [], ◌∷◌, ◌++◌, length, Option, Some, None, Bool, true, refl, sym, ap, ◌∙◌, subst, arith, if◌then◌else◌, le_refl}
+use Rattle.std.proofs.Common.{◌≡◌, ℕ, zero, suc, ◌+◌, ◌-◌, ◌*◌, ◌%◌, ◌<◌, ◌≤◌, List, [], ◌∷◌, ◌++◌, length, Option, Some, None, Bool, true, refl, sym, ap, ◌∙◌, subst, arith, if◌then◌else◌, le_refl, ⊎_elim}
 use Rattle.std.specs.Prelude.{slice_get, get_or}
+use Rattle.std.proofs.lemmas.Bool.{cases_lt}
 use Rattle.array_versions.specs.fram_board.Effects.{Store}
 use Rattle.task_ast.specs.Tree as t
 use Rattle.task_ast.specs.Paths.{CheckedExpression, CheckedStatement, CheckedChoice, CheckedBlock}
@@ -12,12 +13,12 @@ use Rattle.source_values.specs.Statements as source
 use Rattle.source_values.specs.Statements.{Attempt, Outcome, goes_on, to_task, short, and_then, if_value, run_statement, run_choice, run_block, statement_emits, choice_emits, block_emits}
 use Rattle.cost_bound.specs.Counts.{statement_count, choice_count, block_count, is_shared, is_store_to, stores_of}
 use Rattle.source_values.proofs.Interface.{more_turns}
+use Rattle.path_runs.proofs.Interface.{runs_go_on_along_paths}
 use Rattle.array_versions.specs.Program.{Program, emit_word, versioned_write, choose, repeat, nothing, joined}
 use Rattle.array_versions.specs.Behaviour as words
 use Rattle.array_versions.specs.Behaviour.{WordState, End, GoesOn, Jumps, Short, Strays, Broken, Behaviour, behaves, behind_effects, on_end, then_on, is_place, at_place, stored, with_local, word_stored, word_emitted, chosen, step_behaviour, behaviour}
 use Rattle.array_versions.proofs.Interface.{joined_go_on, joined_assoc}
-use Rattle.memory_map.specs.Spots.{places_of}
-use Rattle.lower.specs.Lowered.{one, write_step, written_array, list_place, store_step, loop_local, assignment, element_assignment, lowered_transition, lowered_expression, lowered_statement, lowered_choice, lowered_block, lowered_tasks}
+use Rattle.lower.specs.Lowered.{one, write_step, written_array, list_place, store_step, loop_local, assignment, element_assignment, lowered_transition, lowered_expression, lowered_statement, lowered_choice, lowered_block, lowered_task, lowered_tasks}
 use Rattle.lower.specs.Spots.{listed_of}
 use Rattle.lower.specs.Agreement.{IsTarget, IsWrittenArray, IsLocal, ExpressionFits, StatementFits, ChoiceFits, BlockFits, StandsFor, at_variable, at_emit_count, in_buffer, valued, AgreesWithValue, BlocksAgree}
 use Rattle.lower.proofs.Addresses.{fram_place, placed, spot_place}
@@ -193,6 +194,23 @@ module _ (z : Scene) where
 
   -- ---- loops
 
+  -- no turn
+  no_turns : (i : ℕ) → i < 256 → (q : Program) (run : Attempt → Outcome) (k : ℕ) (stack : List ℕ) (m : Attempt) (listed : List Element) (w : WordState)
+      (n : ℕ) (count most : ℕ → ℕ) → w.stack ≡ stack → Begins z m listed w n count most
+      → Does z w.fram most stack (words.turns 0 (i % 65536) k (behaviour q) w) (source.turns 0 k (Local i) run m)
+  no_turns i few q run k stack m listed w n count most st h = record {
+    stores = tt;
+    stack_kept = st;
+    listed = listed;
+    stands = record {
+      variables = local_holds z.p i k m.variables w.fram w.locals few h.stands.variables;
+      emitted = h.stands.emitted;
+      list = h.stands.list;
+      readings = h.stands.readings;
+    };
+    few = few_listed z m listed w n count most h;
+  }
+
   turns_do : (i : ℕ) (few : i < 256) (q : Program) (run : Attempt → Outcome) (e : ℕ) (c : ℕ → ℕ)
       → ((m : Attempt) (listed : List Element) (w : WordState) (most : ℕ → ℕ) → Begins z m listed w e c most
       → Does z w.fram most w.stack (behaviour q w) (run m))
@@ -200,13 +218,7 @@ module _ (z : Scene) where
       → (j k : ℕ) (stack : List ℕ) (m : Attempt) (listed : List Element) (w : WordState) (most : ℕ → ℕ) → w.stack ≡ stack
       → Begins z m listed w (j * e) (λ v. j * c v) most
       → Does z w.fram most stack (words.turns j (i % 65536) k (behaviour q) w) (source.turns j k (Local i) run m)
-  turns_do i few q run e c f g zero k stack m listed w most st h = record {
-    stores = tt;
-    stack_kept = st;
-    listed = listed;
-    stands = record { variables = local_holds z.p i k m.variables w.fram w.locals few h.stands.variables; emitted = h.stands.emitted; list = h.stands.list; readings = h.stands.readings };
-    few = few_listed z m listed w _ _ most h;
-  }
+  turns_do i few q run e c f g zero k stack m listed w most st h = no_turns i few q run k stack m listed w _ _ most st h
   turns_do i few q run e c f g (suc j) k stack m listed w most st h =
       let l = more_turns j e (length m.emitted) z.room.emits h.emits in
       let lists : (v : ℕ) → listed_of v listed + c v + j * c v ≤ most v = λ v. more_turns j (c v) (listed_of v listed) (most v) (h.lists v) in
@@ -226,7 +238,7 @@ module _ (z : Scene) where
       (source.turns j (k + 1) (Local i) run) h.number fewer
       (subst P st (f m1 listed w1 once begins))
       (g m1 (length m.emitted + e) (omega arith))
-      (λ s u listing there. let below = there.few_emitted in turns_do i few q run e c f g j (k + 1) stack u listing s most there.stack_kept (record {
+      (λ s u listing is there. let below = there.few_emitted in turns_do i few q run e c f g j (k + 1) stack u listing s most there.stack_kept (record {
         stands = there.stands;
         number = there.number;
         emits = omega (arith, l, below);
@@ -235,7 +247,7 @@ module _ (z : Scene) where
       }))
 
   loop_does : (x : Variable) (from below : ℕ) (body : Program) (run : Attempt → Outcome) (e : ℕ) (c : ℕ → ℕ) → IsLocal x
-      → ((m : Attempt) (listed : List Element) (w : WordState) (most : ℕ → ℕ) → Begins z m listed w e c most
+      → (from < below → (m : Attempt) (listed : List Element) (w : WordState) (most : ℕ → ℕ) → Begins z m listed w e c most
       → Does z w.fram most w.stack (behaviour body w) (run m))
       → ((m : Attempt) (k : ℕ) → length m.emitted + e ≤ k → EmitsAtMost k (run m))
       → (m : Attempt) (listed : List Element) (w : WordState) (most : ℕ → ℕ) → Begins z m listed w ((below - from) * e) (λ v. (below - from) * c v) most
@@ -243,7 +255,13 @@ module _ (z : Scene) where
   loop_does (Shared v) from below body run e c k f g m listed w most h = absurd k
   loop_does (Local i) from below body run e c k f g m listed w most h =
       does_alone z w.fram most w.stack (words.turns (below - from) (i % 65536) from (behaviour body) w) (source.turns (below - from) from (Local i) run m)
-      (turns_do i k body run e c f g (below - from) from w.stack m listed w most refl h)
+      (⊎_elim
+      (λ some. turns_do i k body run e c (f some) g (below - from) from w.stack m listed w most refl h)
+      (λ none.
+      let zero_turns : below - from ≡ 0 = omega (arith, none) in
+      let P : ℕ → Type 0 = λ j. Does z w.fram most w.stack (words.turns j (i % 65536) from (behaviour body) w) (source.turns j from (Local i) run m) in
+      subst P (sym zero_turns) (no_turns i k body run from w.stack m listed w _ _ most refl h))
+      (cases_lt from below))
 
   -- ---- conditions
 
@@ -283,7 +301,7 @@ module _ (z : Scene) where
     statement_does (t.choose choice) m listed w most fits h = choice_does choice m listed w most fits h
     statement_does (t.loop x from tested below stepped body) m listed w most fits h =
         loop_does x.variable from below (lowered_block z.p body) (run_block body) (block_emits body) (λ v. block_count (is_store_to v) body) fits.0
-        (λ u listing s few k. block_does body u listing s few fits.1 k) (block_emitted body) m listed w most h
+        (λ some u listing s few k. block_does body u listing s few (fits.1 some) k) (block_emitted body) m listed w most h
     statement_does (t.emit e) m listed w most fits h =
         let last = one (emit_word (word_place z.p.map EmitCount) z.p.map.emits.address) in
         let P : Behaviour → Type 0 = λ b. Does z w.fram most w.stack b (run_statement (t.emit e) m) in
@@ -339,10 +357,10 @@ module _ (z : Scene) where
         (does_then z (lowered_statement z.p s) w once most w.stack (length m.emitted + statement_emits s) (run_statement s m)
         (behaviour (lowered_block z.p more)) (run_block more) h.number fewer
         (statement_does s m listed w once fits.0 begins) (statement_emitted s m (length m.emitted + statement_emits s) (omega arith))
-        (λ u n listing there.
+        (λ u n listing is there.
         let below = there.few_emitted in
         let Q : List ℕ → Type 0 = λ l. Does z u.fram most l (behaviour (lowered_block z.p more) u) (run_block more n) in
-        subst Q there.stack_kept (block_does more n listing u most fits.1 (record {
+        subst Q there.stack_kept (block_does more n listing u most (fits.1 (runs_go_on_along_paths s m n is)) (record {
           stands = there.stands;
           number = there.number;
           emits = omega (arith, room, below);
@@ -361,11 +379,11 @@ blocks_agree p written room stores block m listed w apart even has_room fits sta
 -- the program of a task, by its number
 pub program_at : (l : MemoryMap) (tasks : List CheckedTask) (layouts : List TaskPlace) (k : ℕ) (task : CheckedTask) (t : TaskPlace)
     → slice_get tasks k ≡ Some task
-    → slice_get layouts k ≡ Some t → get_or (lowered_tasks l tasks layouts) k nothing ≡ lowered_block (places_of l t) task.body
+    → slice_get layouts k ≡ Some t → get_or (lowered_tasks l tasks layouts) k nothing ≡ lowered_task l t task.body
 program_at l [] layouts k task t e h = cc e
 program_at l (u ∷ tasks) [] k task t e h = cc h
 program_at l (u ∷ tasks) (v ∷ layouts) zero task t e h =
     let a : u ≡ task = cc in
     let b : v ≡ t = cc in
-    ap (λ z. lowered_block (places_of l v) z.body) a ∙ ap (λ z. lowered_block (places_of l z) task.body) b
+    ap (λ z. lowered_task l v z.body) a ∙ ap (λ z. lowered_task l z task.body) b
 program_at l (u ∷ tasks) (v ∷ layouts) (suc k) task t e h = program_at l tasks layouts k task t e h

@@ -152,29 +152,30 @@ pub record IsThere (z : Scene) (few : ℕ → ℕ) (stack : List ℕ) (n : ℕ) 
 pub does_then : (z : Scene) (q : Program) (w : WordState) (few most : ℕ → ℕ) (stack : List ℕ) (n : ℕ) (o : Outcome) (next : WordState → Behaviour)
     (more : Attempt → Outcome)
     → w.fram (word_place z.p.map Version) ≡ z.ver → ((v : ℕ) → few v ≤ most v) → Does z w.fram few stack (behaviour q w) o → EmitsAtMost n o
-    → ((s : WordState) (m : Attempt) (listed : List Element) → IsThere z few stack n s m listed → Does z s.fram most stack (next s) (more m))
+    → ((s : WordState) (m : Attempt) (listed : List Element) → o ≡ goes_on m → IsThere z few stack n s m listed → Does z s.fram most stack (next s) (more m))
     → Does z w.fram most stack (then_on (behaviour q w) next) (and_then o more)
-does_then z q w few most stack n o next more ver less h emits k = go (behaviour q w).effects (behaviour q w).end o (behaves_by_effects q w) h emits
+does_then z q w few most stack n o next more ver less h emits k = go (behaviour q w).effects (behaviour q w).end o (behaves_by_effects q w) h emits k
   where
     go : (es : List Effect) (e : End) (o : Outcome) → EndsByEffects w es e → Ends z w.fram few stack es e o → EmitsAtMost n o
+        → ((s : WordState) (m : Attempt) (listed : List Element) → o ≡ goes_on m → IsThere z few stack n s m listed → Does z s.fram most stack (next s) (more m))
         → Does z w.fram most stack (behind_effects es (on_end e next)) (and_then o more)
-    go es (GoesOn s) (goes_on m) by h emits =
+    go es (GoesOn s) (goes_on m) by h emits k =
         let kept : s.fram (word_place z.p.map Version) ≡ z.ver =
         ap (λ f. f (word_place z.p.map Version)) by.0
         ∙ stores_keep z.p z.written z.room z.ver (word_place z.p.map Version) es w.fram z.apart (keeps_version z.p z.room z.apart) h.stores ∙ ver in
         ends_behind z w.fram s.fram most stack es (next s).effects (next s).end (more m) by.0 h.stores
-        (k s m h.listed (record { stack_kept = h.stack_kept; stands = h.stands; number = kept; few_emitted = emits; few_listed = h.few }))
-    go es (GoesOn s) (to_task task m) by h emits = absurd h
-    go es (GoesOn s) short by h emits = absurd h
-    go es (Jumps to s) (goes_on m) by h emits = absurd h
-    go es (Jumps to s) (to_task task m) by h emits = ends_alone z w.fram most stack es (Jumps to s) (to_task task m)
+        (k s m h.listed refl (record { stack_kept = h.stack_kept; stands = h.stands; number = kept; few_emitted = emits; few_listed = h.few }))
+    go es (GoesOn s) (to_task task m) by h emits k = absurd h
+    go es (GoesOn s) short by h emits k = absurd h
+    go es (Jumps to s) (goes_on m) by h emits k = absurd h
+    go es (Jumps to s) (to_task task m) by h emits k = ends_alone z w.fram most stack es (Jumps to s) (to_task task m)
         (left_with_fewer z w.fram most few es to s task m less h)
-    go es (Jumps to s) short by h emits = absurd h
-    go es Short (goes_on m) by h emits = absurd h
-    go es Short (to_task task m) by h emits = absurd h
-    go es Short short by h emits = ends_alone z w.fram most stack es Short short h
-    go es Strays o by h emits = absurd h
-    go es Broken o by h emits = tt
+    go es (Jumps to s) short by h emits k = absurd h
+    go es Short (goes_on m) by h emits k = absurd h
+    go es Short (to_task task m) by h emits k = absurd h
+    go es Short short by h emits k = ends_alone z w.fram most stack es Short short h
+    go es Strays o by h emits k = absurd h
+    go es Broken o by h emits k = tt
 
 -- nothing behind
 pub does_alone : (z : Scene) (start most : ℕ → ℕ) (stack : List ℕ) (b : Behaviour) (o : Outcome) → Does z start most stack b o

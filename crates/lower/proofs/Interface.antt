@@ -8,6 +8,8 @@ pub use Rattle.lower.proofs.Lists.{entered_pairs}
 pub use Rattle.lower.proofs.Stored.{few_entries}
 -- The program of statements does what they do.
 pub use Rattle.lower.proofs.Blocks.{blocks_agree, program_at}
+-- A memory map as a task sees it.
+pub use Rattle.lower.proofs.Seen.{places_count, scalar_seen, array_seen, array_read, SeenFrom, scalar, array, read, seen_from, privates_seen, seen_laid_out}
 -- The words of a task's code, and the cycles of its expressions, are within the allowance of a source.
 pub use Rattle.lower.proofs.Sizes.{blocks_keep_to_words}
 -- Private scalars as runs: no more runs than scalars, the same words.

@@ -7,6 +7,7 @@ mod Transitions
 mod Lists
 mod Versioned
 mod Ends
+mod Seen
 mod Elements
 mod Blocks
 mod Chains

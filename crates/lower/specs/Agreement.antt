@@ -7,6 +7,7 @@ use Rattle.task_ast.specs.Tree as t
 use Rattle.task_ast.specs.Paths.{CheckedExpression, CheckedStatement, CheckedChoice, CheckedBlock}
 use Rattle.task_ast.specs.declared.names.Variable.{Variable}
 use Rattle.task_ast.specs.declared.names.Variable.TheVariants.{Shared, Local}
+use Rattle.path_sums.specs.Reaches.{statement_falls_through}
 use Rattle.source_values.specs.Values.{Variables, word_at, value_of}
 use Rattle.source_values.specs.Statements.{Attempt, Outcome, goes_on, to_task, short, run_block, block_emits}
 use Rattle.array_versions.specs.Behaviour.{WordState, End, GoesOn, Jumps, Short, Strays, Broken, Behaviour, behaviour}
@@ -62,13 +63,14 @@ ExpressionFits p (t.shift op e count) = ExpressionFits p e
 ExpressionFits p (t.short_circuit op a b) = ExpressionFits p a × ExpressionFits p b
 
 abbrev mutual
+  -- Of what no path comes to, in a loop of no turns or behind a transition, nothing is asked
   pub StatementFits : Places → (ℕ → Bool) → CheckedStatement → Type 0
   StatementFits p written (t.declare of x None) = Unit {0}
   StatementFits p written (t.declare of x (Some e)) = ExpressionFits p e × IsTarget p written x.variable
   StatementFits p written (t.assign x e) = ExpressionFits p e × IsTarget p written x.variable
   StatementFits p written (t.store x index e) = IsWrittenArray p x.variable × ExpressionFits p index × ExpressionFits p e
   StatementFits p written (t.choose choice) = ChoiceFits p written choice
-  StatementFits p written (t.loop x from tested below stepped body) = IsLocal x.variable × BlockFits p written body
+  StatementFits p written (t.loop x from tested below stepped body) = IsLocal x.variable × (from < below → BlockFits p written body)
   StatementFits p written (t.emit e) = ExpressionFits p e
   StatementFits p written (t.transition task) = Unit {0}
 
@@ -79,7 +81,7 @@ abbrev mutual
 
   pub BlockFits : Places → (ℕ → Bool) → CheckedBlock → Type 0
   BlockFits p written t.end = Unit {0}
-  BlockFits p written (t.step s more) = StatementFits p written s × BlockFits p written more
+  BlockFits p written (t.step s more) = StatementFits p written s × (statement_falls_through s ≡ true → BlockFits p written more)
 
 -- ---- what a state of words stands for
 

@@ -1,6 +1,7 @@
 pub mod View
 pub mod Operations
 pub mod Runs
+pub mod Seen
 pub mod Lowered
 pub mod Spots
 pub mod Agreement
@@ -11,6 +12,7 @@ pub use Rattle.memory_map.specs as memory_map
 pub use Rattle.array_versions.specs.alp_words as alp_words
 pub use Rattle.task_ast.specs as task_ast
 pub use Rattle.cost_bound.specs.task_lex as task_lex
+pub use Rattle.path_sums.specs as path_sums
 pub use Rattle.cost_bound.specs.path_checks as path_checks
 pub use Rattle.task_check.specs as task_check
 pub use Rattle.cost_bound.specs as cost_bound

@@ -23,6 +23,7 @@ use Rattle.memory_map.specs.MemoryMap.{MemoryMap, TaskPlace, word_place}
 use Rattle.memory_map.specs.Spots.{Places, places_of, address_of}
 use Rattle.lower.specs.declared.runs.Run.{Run}
 use Rattle.lower.specs.Runs.{runs_of}
+use Rattle.lower.specs.Seen.{map_seen}
 use Rattle.lower.specs.Operations.{unary_operation, binary_operation, shift_operation}
 
 -- a program of one step
@@ -51,7 +52,8 @@ no_array = record { elements = 0; copies = 0; versions = 0; length = 0 }
 abbrev pub list_place : Places → ListPlace
 list_place p = record { ver = word_place p.map Version; cln = word_place p.map ListLength; list = p.map.list.address }
 
--- pops an index and pushes an element of the array at a place: where some task writes the array, as this attempt has the element
+-- pops an index and pushes an element of the array at a place: as this attempt has the element where the task writes the array, else
+-- where it stands
 abbrev pub element_read : Places → Option VariablePlace → Step
 element_read p (Some (Array elements length (Some c))) = versioned_read (array_place elements length c) (list_place p)
 element_read p (Some (Array elements length None)) = element elements length
@@ -160,9 +162,9 @@ abbrev mutual
   lowered_block p t.end = nothing
   lowered_block p (t.step s more) = joined (lowered_statement p s) (lowered_block p more)
 
--- a task's program
+-- a task's program, over the memory map as the task sees it
 abbrev pub lowered_task : MemoryMap → TaskPlace → CheckedBlock → Program
-lowered_task l task body = lowered_block (places_of l task) body
+lowered_task l task body = lowered_block (places_of (map_seen body l) task) body
 
 -- the programs of tasks, each with its layout
 abbrev pub lowered_tasks : MemoryMap → List (Task VariableName TaskName) → List TaskPlace → List Program

@@ -30,7 +30,7 @@ fn read(
     }
 }
 
-// Pops an index and pushes an element of the array of a number: where some task writes the array, as this attempt has the
+// Pops an index and pushes an element of the array of a number: where the task writes the array, as this attempt has the
 // element.
 fn read_array(
     number: u32,
@@ -40,7 +40,7 @@ fn read_array(
     ensures { OnOk result (program_of program.new
         ≡ behind (program_of program.old) (element_step (places_in places.now) (Shared number))) }
 {
-    match places.layout.variables().get(number as usize) {
+    match places.variables.get(number as usize) {
         Some(
             VariablePlace::Array {
                 elements,

@@ -6,10 +6,13 @@ ghost use Rattle.lower.specs.Lowered.{array_place, no_array, written_array};
 use array_versions::{ArrayPlace, ListPlace};
 use memory_map::{ArrayCopies, Layout, PrivateScalar, RuntimeWord, VariablePlace};
 
-/// The places that a task's program works on: those of the layout, and the scalars that are private in the task.
+/// The places that a task's program works on: those of the layout, the variables as the task sees them, and the scalars that
+/// are private in the task.
 #[derive(Clone, Copy)]
 pub struct TaskPlaces<'l> {
     pub layout: &'l Layout,
+    /// An array that the task doesn't write has no copies here.
+    pub variables: &'l [VariablePlace],
     /// In order of declaration.
     pub privates: &'l [PrivateScalar],
 }
@@ -89,7 +92,7 @@ impl<'l> TaskPlaces<'l> {
     {
         match copy_among(self.privates, number) {
             Some(copy) => copy,
-            None => home_of(self.layout.variables(), number),
+            None => home_of(self.variables, number),
         }
     }
 

@@ -58,7 +58,7 @@ fn store_element(
         ≡ behind (program_of program.old) (store_step (places_in places.now) variable)) }
 {
     let array = match variable {
-        Variable::Shared(number) => written_array(places.layout.variables(), number),
+        Variable::Shared(number) => written_array(places.variables, number),
         Variable::Local(_) => no_array(),
     };
     program.versioned_write(&array, &places.list_place())

@@ -10,3 +10,5 @@ pub use Rattle.path_sums.proofs.Joins.{Lawful, path_sum, joins_block}
 pub use Rattle.path_sums.proofs.Bits.{found, holds}
 -- What holds of each part of a sum, and of parts put together, holds of the sum.
 pub use Rattle.path_sums.proofs.Every.{Kept, every_block}
+-- What the sum over one variable's accesses says of the paths.
+pub use Rattle.path_sums.proofs.AccessMeaning.{some_writes, writes_some, private_is, is_private_of}

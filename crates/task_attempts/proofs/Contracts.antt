@@ -6,7 +6,8 @@ use Rattle.std.proofs.lemmas.Option.{get_or_from_slice_get}
 use Rattle.layout_facts.specs.fram_board.Effects.{Effect, Store}
 use Rattle.layout_facts.specs.machine_effects.World.{World, readings_taken, EachStore}
 use Rattle.layout_facts.proofs.machine_effects.Interface.{readings_taken-append, each_store-append}
-use Rattle.layout_facts.specs.cost_bound.Counts.{emits_of, block_assigns, stores_of, Code}
+use Rattle.layout_facts.specs.cost_bound.Counts.{emits_of, stores_of, Code}
+use Rattle.layout_facts.specs.lower.Seen.{some_path_writes}
 use Rattle.layout_facts.specs.source_values.Statements.{Attempt, Outcome, goes_on, to_task, short, run_block, block_emits}
 use Rattle.layout_facts.specs.source_values.Runs.{CheckedProgram, State, Completion, completion_of, attempt_of, fresh_attempt, EndsWell, TransitionComes}
 use Rattle.layout_facts.proofs.source_values.Interface.{readings_left_over_lem}
@@ -32,7 +33,7 @@ use Rattle.task_attempts.proofs.StoredWords.{StoresWords, stores}
 use Rattle.task_attempts.proofs.Quiet.{stores_each, stores_as, quiet_through}
 use Rattle.task_attempts.proofs.Tasks.{IsAt, places, body, room, task_given, body_is, program_is}
 use Rattle.task_attempts.proofs.Stores.{Safe, StoresOf, task_safe, emits_fit}
-use Rattle.task_attempts.proofs.Starts.{attempt_stands}
+use Rattle.task_attempts.proofs.Starts.{held_attempt, held_runs, attempt_stands}
 use Rattle.task_attempts.proofs.Decided.{ver, bounds, before, effects_are, safe_before, quiet_before, quiet_start, quiet_of, next, decided}
 use Rattle.layout_facts.specs.lower.Spots.{Room}
 use Rattle.layout_facts.specs.stands_for.Layout.{ProgramPlaces, StateView}
@@ -227,10 +228,13 @@ module _ (p : CheckedProgram) (l : MemoryMap) (given : IsGiven p l) (s : State) 
   meets agree small =
       let r = task_given p l given s.task i in
       let w = started x.fram readings in
+      let b = behaviour program w in
       record {
-        agrees = agree here (λ v. block_assigns v code) space (λ v. stores_of v code)
-            code attempt [] w r.apart r.even r.has_room r.fits (attempt_stands p l given s i x readings st)
-            (let f = few_emits in omega (arith, f)) (λ v. omega arith);
+        -- the program agrees with the attempt from what FRAM has, which comes to what the source's attempt comes to
+        agrees = subst (EndsAs here (bounds p l given s is_task i x readings st) [] b.effects b.end) (held_runs p l given s i x readings st)
+            (agree here (some_path_writes code) space (λ v. stores_of v code) code (held_attempt p l given s i x readings st) [] w
+            r.apart r.even r.has_room r.fits (attempt_stands p l given s i x readings st)
+            (let f = few_emits in omega (arith, f)) (λ v. omega arith));
         by_effects = behaves_by_effects program w;
         sound = whole_ends_soundly program x.fram readings r.whole;
         of_words = stores program w r.of_words

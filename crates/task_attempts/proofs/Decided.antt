@@ -1,8 +1,8 @@
 -- Behind the last store of a transition the world is decided to the state that the source comes to.
-use Rattle.std.proofs.Common.{◌≡◌, ℕ, ◌+◌, ◌-◌, ◌*◌, ◌%◌, ◌<◌, ◌≤◌, List, [], ◌∷◌, ◌++◌, length, length-append, map, get_or, Some, true, refl, sym, ap, ◌∙◌, subst, ⊎_elim, inl, arith, append_assoc, append-nil}
+use Rattle.std.proofs.Common.{◌≡◌, ℕ, ◌+◌, ◌-◌, ◌*◌, ◌%◌, ◌<◌, ◌≤◌, List, [], ◌∷◌, ◌++◌, length, length-append, map, get_or, Some, None, true, false, refl, sym, ap, ◌∙◌, subst, ⊎_elim, inl, arith, append_assoc, append-nil}
 use Rattle.std.specs.Prelude.{Contains, slice_get}
 use Rattle.std.proofs.lemmas.List.{get_or_past}
-use Rattle.std.proofs.lemmas.Bool.{cases_lt}
+use Rattle.std.proofs.lemmas.Bool.{cases_lt, cases_Bool}
 use Rattle.std.proofs.lemmas.List.{length-map}
 use Rattle.std.proofs.lemmas.Option.{slice_get_cases, slice_get_within}
 use Rattle.layout_facts.specs.fram_board.Effects.{Effect, Store}
@@ -11,15 +11,16 @@ use Rattle.layout_facts.proofs.machine_effects.Interface.{fram_after-append, wor
 use Rattle.layout_facts.proofs.crash_rules.Interface.{world_fram}
 use Rattle.layout_facts.specs.task_ast.declared.SharedDeclaration.{SharedDeclaration}
 use Rattle.layout_facts.specs.task_ast.declared.names.Variable.TheVariants.{Shared}
-use Rattle.layout_facts.specs.cost_bound.Counts.{emits_of, block_assigns, Code}
+use Rattle.layout_facts.specs.cost_bound.Counts.{emits_of, Code}
 use Rattle.layout_facts.specs.cost_bound.Allowance.{is_written, list_of}
 use Rattle.layout_facts.proofs.war_analysis.Interface.{element as item_at}
 use Rattle.layout_facts.specs.source_values.Values.{word_at}
 use Rattle.layout_facts.specs.source_values.Statements.{Attempt}
-use Rattle.layout_facts.specs.source_values.Runs.{CheckedProgram, State, initial_words}
+use Rattle.layout_facts.specs.source_values.Runs.{CheckedProgram, State, initial_words, task_body}
 use Rattle.layout_facts.specs.array_versions.Behaviour.{WordState, started}
 use Rattle.layout_facts.specs.runtime_effects.Places.{CopyPair, entries_from, listed}
-use Rattle.layout_facts.proofs.lower.Interface.{takes_append, few_entries, scalar_pair, runs_are_few}
+use Rattle.layout_facts.specs.lower.Seen.{some_path_writes}
+use Rattle.layout_facts.proofs.lower.Interface.{takes_append, few_entries, scalar_pair, runs_are_few, scalar_seen, array_seen, array_read}
 use Rattle.layout_facts.specs.lower.Runs.{runs_of}
 use Rattle.layout_facts.specs.boot_runtime.Entries.{task_entries}
 use Rattle.layout_facts.specs.boot_runtime.Listing.{privates_in}
@@ -28,18 +29,19 @@ use Rattle.layout_facts.specs.stands_for.StandsFor.{StartedAt, DecidedWith, Deci
 use Rattle.layout_facts.proofs.stands_for.Interface.{put_words}
 use Rattle.layout_facts.specs.lower.Spots.{Room}
 use Rattle.layout_facts.specs.lower.Agreement.{TakesAndStores, transition_effects, element_pair, Bounds, bounds_of, Left, place_length}
-use Rattle.layout_facts.specs.compiled_model.Places.{program_places}
+use Rattle.layout_facts.specs.compiled_model.Places.{stays_in_place, program_places}
 use Rattle.layout_facts.specs.compiled_model.View.{state_view, are_rows}
 use Rattle.layout_facts.proofs.memory_map.Interface.{scalar_home}
+use Rattle.layout_facts.proofs.Interface.{contains_at, scalar_found}
 use Rattle.task_attempts.proofs.Given.{IsGiven, IsTaskGiven}
 use Rattle.task_attempts.proofs.Rows.{rows_are, rows_count, declared_length}
 use Rattle.task_attempts.proofs.StoredWords.{StoresWords}
 use Rattle.task_attempts.proofs.Quiet.{IsQuiet, IsQuietAt, quiet_behind, stores_as, stays_within}
 use Rattle.task_attempts.proofs.Entries.{IsTransitionStore, transition_stores, closing, closed, closed_sent, closed_next, closed_count, closed_pairs, IsLeft, closed_left}
 use Rattle.task_attempts.proofs.Listed.{among_either, among_front, among_back, among_map, map_among}
-use Rattle.task_attempts.proofs.Tasks.{IsAt, places, body, room, task_given, body_is, private_copy}
+use Rattle.task_attempts.proofs.Tasks.{IsAt, places, body, room, task_given, body_is, private_copy, private_not_in_place}
 use Rattle.task_attempts.proofs.Stores.{Safe, StoresOf, task_safe, transition_safe}
-use Rattle.task_attempts.proofs.Words.{OwnWord, marked, unmarked, own_word_of, IsTaskWord, left_there, private, element as an_element, task_word, element_word}
+use Rattle.task_attempts.proofs.Words.{OwnWord, marked, unmarked, own_word_of, IsTaskWord, left_there, private, element as an_element, task_word, scalar_there, element_there, element_word}
 use Rattle.layout_facts.specs.memory_map.declared.words.RuntimeWord.TheVariants.{CurrentTask, NextTask, Gate, ListLength, EmitCount, Base, SentBase, Version}
 use Rattle.layout_facts.specs.memory_map.declared.place.VariablePlace.{VariablePlace}
 use Rattle.layout_facts.specs.memory_map.declared.place.VariablePlace.TheVariants.{Scalar, Array}
@@ -79,7 +81,7 @@ module _ (p : CheckedProgram) (l : MemoryMap) (given : IsGiven p l) (s : State) 
 
   -- the bounds of the task's statements
   abbrev pub bounds : Bounds
-  bounds = bounds_of here (λ v. block_assigns v code) space code [] (started x.fram readings)
+  bounds = bounds_of here (some_path_writes code) space code [] (started x.fram readings)
 
   abbrev SafeStore : ℕ → ℕ → Type 0
   SafeStore = Safe p l given s.task is_task i ver
@@ -87,8 +89,8 @@ module _ (p : CheckedProgram) (l : MemoryMap) (given : IsGiven p l) (s : State) 
   pub quiet_start : IsQuietAt sites view s ver x
   quiet_start = record { undecided = st.undecided; version = refl }
 
-  pub quiet_of : (es : List Effect) → TakesAndStores SafeStore es → StoresWords es → TakesAndStores (IsQuiet sites ver) es
-  quiet_of es h k = stores_as SafeStore (IsQuiet sites ver) (λ a w q small. q.quiet) es h k
+  pub quiet_of : (es : List Effect) → TakesAndStores SafeStore es → StoresWords es → TakesAndStores (IsQuiet sites s.task ver) es
+  quiet_of es h k = stores_as SafeStore (IsQuiet sites s.task ver) (λ a w q small. q.quiet) es h k
 
   -- statements came to a transition
   module _ (es : List Effect) (to : ℕ) (end : WordState) (task : ℕ) (m : Attempt)
@@ -132,7 +134,7 @@ module _ (p : CheckedProgram) (l : MemoryMap) (given : IsGiven p l) (s : State) 
         (stores_as (IsTransitionStore here space) SafeStore (transition_safe p l given s.task is_task i ver) transition
         (transition_stores here space task count base few) (each_store-back (λ a w. w < 0x10000) left.body transition words_before))
 
-    pub quiet_before : TakesAndStores (IsQuiet sites ver) before
+    pub quiet_before : TakesAndStores (IsQuiet sites s.task ver) before
     quiet_before = quiet_of before safe_before words_before
 
     -- the world before the last store, and behind it
@@ -200,8 +202,8 @@ module _ (p : CheckedProgram) (l : MemoryMap) (given : IsGiven p l) (s : State) 
         let c = facts.privates in
         let o = c.only r h in
         let at : slice_get l.variables r.number ≡ Some (Scalar r.home r.copy) = o.1.place in
-        ap z.fram (sym (c.assigned r.number r.home r.copy at o.0))
-        ∙ scalar_next r.number (subst IsScalarPlace (sym at) tt)
+        ap z.fram (sym (c.private r.number r.home r.copy at o.0))
+        ∙ scalar_next r.number (scalar_there l code i.layout facts.privates r.number r.home r.copy at)
         ∙ sym (next_word r.number 0 r.home (scalar_home l r.number r.home r.copy at))
 
     of_copied : (e : Element) → IsCopied here e → IsElement here e
@@ -303,11 +305,21 @@ module _ (p : CheckedProgram) (l : MemoryMap) (given : IsGiven p l) (s : State) 
         let words = put_words y.fram (word_place l Gate) 1 u.undecided.is_open.words (omega arith) in
         let first : n ≡ 0 = omega (arith, h) in
         subst (λ k. get_or (get_or m.variables.shared v []) k 0 < 0x10000) (sym first)
-        (subst (λ w. w < 0x10000) (scalar_next v (subst IsScalarPlace (sym e) tt)) (words (address_of here v)))
+        (subst (λ w. w < 0x10000) (scalar_next v (scalar_there l code i.layout facts.privates v home copied e)) (words (address_of here v)))
     row_of v n (Array elements len copies) e h =
         let x : Element = record { array = v; index = n } in
-        let is : IsElement here x = record { elements = elements; length = len; copies = copies; is_array = record { place = e }; below = h } in
+        let is : IsElement here x = (element_there l code i.layout facts.privates v n elements len copies e h).0 in
         word_of_own x is (own_word_of here left.there.fram x is)
+
+    -- the lengths of the rows
+    row_fits : (v : ℕ) (place : VariablePlace) → slice_get l.variables v ≡ Some place → length (get_or m.variables.shared v []) ≡ place_length place
+    row_fits v (Scalar home copied) e =
+        left.stands.variables.lengths v (Scalar home copied) (scalar_seen (some_path_writes code) l.variables v home copied e)
+    row_fits v (Array elements len copies) e =
+        ⊎_elim {C = length (get_or m.variables.shared v []) ≡ len}
+        (λ w. left.stands.variables.lengths v (Array elements len copies) (array_seen (some_path_writes code) l.variables v elements len copies e w))
+        (λ w. left.stands.variables.lengths v (Array elements len None) (array_read (some_path_writes code) l.variables v elements len copies e w))
+        (cases_Bool (some_path_writes code v))
 
     same_count : length m.variables.shared ≡ length l.variables
     same_count = rows ∙ rows_count p.shared s.shared st.undecided.is_open.is_state ∙ sym given.variables.count
@@ -317,7 +329,7 @@ module _ (p : CheckedProgram) (l : MemoryMap) (given : IsGiven p l) (s : State) 
         ⊎_elim {C = get_or (get_or m.variables.shared v []) n 0 < 0x10000}
         (λ c.
         let at : slice_get l.variables v ≡ Some c.0 = c.2 in
-        let len = left.stands.variables.lengths v c.0 at in
+        let len = row_fits v c.0 at in
         ⊎_elim {C = get_or (get_or m.variables.shared v []) n 0 < 0x10000}
         (λ below. row_of v n c.0 at below)
         (λ above. past_small (get_or m.variables.shared v []) n (omega (arith, len, above)))
@@ -333,7 +345,7 @@ module _ (p : CheckedProgram) (l : MemoryMap) (given : IsGiven p l) (s : State) 
         let below = slice_get_within p.shared v d e in
         let count = given.variables.count in
         let place = item_at l.variables v (omega (arith, below, count)) in
-        left.stands.variables.lengths v place.0 place.1 ∙ declared_length (is_written p.tasks v) d.extent place.0 (given.variables.each v d place.0 e place.1)
+        row_fits v place.0 place.1 ∙ declared_length (is_written p.tasks v) d.extent place.0 (given.variables.each v d place.0 e place.1)
 
     next_is_state : are_rows p.shared m.variables.shared ≡ true
     next_is_state = rows_are p.shared m.variables.shared (same_count ∙ given.variables.count) row_length row_small
@@ -343,10 +355,30 @@ module _ (p : CheckedProgram) (l : MemoryMap) (given : IsGiven p l) (s : State) 
     shared_off_gate : (a : ℕ) → IsSharedWord sites a → a ≡ word_place l Gate → ⊥
     shared_off_gate a h e = let apart = given.apart in omega (arith, apart, h, e)
 
-    home_is : (a : ℕ) → IsSharedWord sites a → z.fram a ≡ view.word s a
-    home_is a h =
+    -- a word that isn't written in place is still the state's
+    home_is : (a : ℕ) → IsSharedWord sites a → sites.written_in_place s.task a ≡ false → z.fram a ≡ view.word s a
+    home_is a h kept =
         z_before a (shared_off_gate a h)
-        ∙ ⊎_elim {C = y.fram a ≡ view.word s a} (λ e. absurd (cc e)) (λ e. e) (u.undecided.shared a h)
+        ∙ ⊎_elim {C = y.fram a ≡ view.word s a} (λ e. let clash : true ≡ false = sym e ∙ kept in absurd (cc)) (λ e. e) (u.undecided.shared a h)
+
+    -- an element isn't written in place, since no scalar stands there
+    element_not_in_place : (e : Element) → IsElement here e → sites.written_in_place s.task (element_address here e) ≡ false
+    element_not_in_place e h =
+        ⊎_elim {C = sites.written_in_place s.task (element_address here e) ≡ false} (λ w.
+        let at = scalar_found (stays_in_place (task_body p s.task)) 0 l.variables (element_address here e) w in
+        let word = element_word l code i.layout facts.privates e h in
+        let same = (given.words.one at.behind e.array 0 e.index (element_address here e)
+        (scalar_home l at.behind (element_address here e) at.copy at.place) word).0 in
+        let scalar = scalar_seen (some_path_writes code) l.variables e.array (element_address here e) at.copy
+        (sym (ap (slice_get l.variables) same) ∙ at.place) in
+        let both : Some (Array h.elements h.length h.copies) ≡ Some (Scalar (element_address here e) at.copy) = sym h.is_array.place ∙ scalar in
+        absurd (cc))
+        (λ k. k) (cases_Bool (sites.written_in_place s.task (element_address here e)))
+
+    -- what is listed isn't written in place
+    pair_not_in_place : (q : CopyPair) → IsPair q → sites.written_in_place s.task q.home ≡ false
+    pair_not_in_place q (of_element e h home copied) = ap (sites.written_in_place s.task) home ∙ element_not_in_place e (of_copied e (listed_copied e h))
+    pair_not_in_place q (of_private r h home copied) = ap (sites.written_in_place s.task) home ∙ private_not_in_place p l given s.task i r h
 
     is_home : (q : CopyPair) → IsPair q → IsSharedWord sites q.home
     is_home q (of_element e h home copied) =
@@ -460,7 +492,7 @@ module _ (p : CheckedProgram) (l : MemoryMap) (given : IsGiven p l) (s : State) 
           homes = λ q h. is_home q (pair_of_list q h);
           copies = λ q h. is_copy q (pair_of_list q h);
           copied = λ q h. is_copied q (pair_of_list q h);
-          either = λ q h. inl (home_is q.home (is_home q (pair_of_list q h)));
+          either = λ q h. inl (home_is q.home (is_home q (pair_of_list q h)) (pair_not_in_place q (pair_of_list q h)));
           others = others_kept;
           current_task = inl (z_before (word_place l CurrentTask) (λ e. omega (arith, apart, e)) ∙ o.current_task);
           emitted = refl;

@@ -1,7 +1,10 @@
 -- What the proofs take of a source with its layout.
 use Rattle.std.specs.Prelude.{◌≡◌, ℕ, ◌+◌, ◌*◌, ◌<◌, ◌≤◌, true, false, List, [], Contains, length, Some, slice_get, slice_index, slice_index_or}
 use Rattle.layout_facts.specs.cost_bound.declared.allowance.Allow.{Allow}
-use Rattle.layout_facts.specs.cost_bound.Counts.{Code, stores_of, block_assigns}
+use Rattle.path_sums.proofs.Interface.{is_private_of}
+use Rattle.layout_facts.specs.task_ast.declared.names.Variable.TheVariants.{Shared}
+use Rattle.path_runs.specs.Laws.{NoStoreIn}
+use Rattle.layout_facts.specs.cost_bound.Counts.{Code, stores_of}
 use Rattle.layout_facts.specs.cost_bound.Allowance.{CheckedTask}
 use Rattle.layout_facts.specs.war_analysis.PlanValue.{TaskPlanValue}
 use Rattle.layout_facts.specs.source_values.Runs.{CheckedProgram, IsRunnable}
@@ -19,14 +22,16 @@ use Rattle.layout_facts.proofs.memory_map.Interface.{apart_of}
 use Rattle.layout_facts.specs.stands_for.Layout.{IsSharedWord, IsCopyWord, HaveRoom, ArePrivate}
 use Rattle.layout_facts.specs.memory_map.Spots.{places_of, address_of, Element, IsCopied, copy_address, version_address, IsWordOf}
 use Rattle.layout_facts.specs.lower.Spots.{AreApart, AreEven, HasRoom}
-use Rattle.layout_facts.specs.lower.Lowered.{lowered_block}
+use Rattle.layout_facts.specs.lower.Seen.{some_path_writes, map_seen}
+use Rattle.layout_facts.specs.lower.Lowered.{lowered_task}
 use Rattle.layout_facts.specs.lower.Agreement.{place_length, BlockFits}
-use Rattle.layout_facts.specs.compiled_model.Places.{program_places}
+use Rattle.layout_facts.specs.compiled_model.Places.{is_private_in, program_places}
 use Rattle.layout_facts.specs.compiled_model.View.{shared_word, are_rows}
-use Rattle.layout_facts.specs.Facts.{HasLayout, IsTaskAt, task_room}
-use Rattle.layout_facts.proofs.Interface.{addresses_are, tasks_match, places_are_apart, tasks_have_room, names_fit, shared_words_are_of_variables, words_of_variables_are_shared, lists_have_room, privates_are_theirs, elements_stand, task_places_are_apart, task_places_are_even, view_has_their_words, rows_fit_places}
+use Rattle.layout_facts.specs.Facts.{HasLayout, IsTaskAt, task_room, task_places}
+use Rattle.task_attempts.proofs.Held.{plain_block}
+use Rattle.layout_facts.proofs.Interface.{each_is_one_word, places_are_declared, addresses_are, tasks_match, places_are_apart, tasks_have_room, names_fit, shared_words_are_of_variables, words_of_variables_are_shared, lists_have_room, privates_are_theirs, elements_stand, task_places_are_apart, task_places_are_even, view_has_their_words, rows_fit_places}
 use Rattle.layout_facts.specs.whole_programs.Laws.{IsLaidOutText}
-use Rattle.layout_facts.proofs.whole_programs.Interface.{task_checked, tasks_are_whole}
+use Rattle.layout_facts.proofs.whole_programs.Interface.{task_checked, tasks_are_whole, privates_are_few}
 
 -- rows have the places' lengths
 abbrev pub FitPlaces : MemoryMap → List (List ℕ) → Type 0
@@ -37,6 +42,7 @@ FitPlaces l rows = (v : ℕ) (place : VariablePlace) → slice_get l.variables v
 pub record AreSharedWords (p : CheckedProgram) (l : MemoryMap) : Type 0 where
   pub each : (a : ℕ) → IsSharedWord (program_places p l) a → (v : ℕ) × (i : ℕ) × IsWordOf l v i a
   pub is_shared : (v i a : ℕ) → IsWordOf l v i a → IsSharedWord (program_places p l) a
+  pub one : (v w i j a : ℕ) → IsWordOf l v i a → IsWordOf l w j a → (v ≡ w) × (i ≡ j)
   pub is_word : (rows : List (List ℕ)) (v i a : ℕ) → IsWordOf l v i a → shared_word l.variables rows a ≡ slice_index (slice_index_or rows v []) i
   pub fit : (rows : List (List ℕ)) → are_rows p.shared rows ≡ true → FitPlaces l rows
 
@@ -46,26 +52,29 @@ pub record IsVersionWord (l : MemoryMap) (a : ℕ) : Type 0 where
   pub below : number < l.versions.words
   pub is : a ≡ l.versions.address + 2 * number
 
--- the private scalars of a task are those that it assigns: there it has the copy, and of each other scalar the word itself
+-- of a scalar that is private in it a task has the copy, of each other scalar the word itself
 pub record ArePrivates (l : MemoryMap) (body : Code) (t : TaskPlace) : Type 0 where
-  pub assigned : (v home copy : ℕ) → slice_get l.variables v ≡ Some (Scalar home copy) → block_assigns v body ≡ true → address_of (places_of l t) v ≡ copy
-  pub left : (v home copy : ℕ) → slice_get l.variables v ≡ Some (Scalar home copy) → block_assigns v body ≡ false → address_of (places_of l t) v ≡ home
-  pub each : (v home copy : ℕ) → slice_get l.variables v ≡ Some (Scalar home copy) → block_assigns v body ≡ true
+  pub private : (v home copy : ℕ) → slice_get l.variables v ≡ Some (Scalar home copy) → is_private_in body v ≡ true
+      → address_of (places_of (map_seen body l) t) v ≡ copy
+  pub left : (v home copy : ℕ) → slice_get l.variables v ≡ Some (Scalar home copy) → is_private_in body v ≡ false
+      → address_of (places_of (map_seen body l) t) v ≡ home
+  pub each : (v home copy : ℕ) → slice_get l.variables v ≡ Some (Scalar home copy) → is_private_in body v ≡ true
       → Contains t.privates (record { number = v; home = home; copy = copy })
-  pub only : (s : PrivateScalar) → Contains t.privates s → (block_assigns s.number body ≡ true) × HasItsPlace l.variables s
+  pub only : (s : PrivateScalar) → Contains t.privates s → (is_private_in body s.number ≡ true) × HasItsPlace l.variables s
 
--- what is asked of a task with its layout: its places are apart, even, with room; its names are used as they were declared; and its word
--- program is whole, and of words
+-- what is asked of a task with its layout: its places are apart, even, with room; its names are used as they were declared, scalars not as
+-- arrays; and its word program is whole, and of words
 pub record IsTaskGiven (p : CheckedProgram) (l : MemoryMap) (task : CheckedTask) (t : TaskPlace) : Type 0 where
-  pub apart : AreApart (places_of l t) (task_room p task)
-  pub even : AreEven (places_of l t)
-  pub has_room : HasRoom (places_of l t) (λ v. stores_of v task.body) (task_room p task)
+  pub apart : AreApart (task_places l task t) (task_room p task)
+  pub even : AreEven (task_places l task t)
+  pub has_room : HasRoom (task_places l task t) (λ v. stores_of v task.body) (task_room p task)
   pub privates : ArePrivates l task.body t
-  pub copies : (x : Element) → IsCopied (places_of l t) x → IsCopyWord (program_places p l) (copy_address (places_of l t) x)
-  pub versions : (x : Element) → IsCopied (places_of l t) x → IsVersionWord l (version_address (places_of l t) x)
-  pub fits : BlockFits (places_of l t) (λ v. block_assigns v task.body) task.body
-  pub whole : IsWhole (lowered_block (places_of l t) task.body)
-  pub of_words : OfWords (lowered_block (places_of l t) task.body)
+  pub copies : (x : Element) → IsCopied (task_places l task t) x → IsCopyWord (program_places p l) (copy_address (task_places l task t) x)
+  pub versions : (x : Element) → IsCopied (task_places l task t) x → IsVersionWord l (version_address (task_places l task t) x)
+  pub fits : BlockFits (task_places l task t) (some_path_writes task.body) task.body
+  pub plain : (v home copy : ℕ) → slice_get l.variables v ≡ Some (Scalar home copy) → NoStoreIn v task.body
+  pub whole : IsWhole (lowered_task l t task.body)
+  pub of_words : OfWords (lowered_task l t task.body)
 
 -- what is asked of a source with its layout
 pub record IsGiven (p : CheckedProgram) (l : MemoryMap) : Type 0 where
@@ -82,23 +91,24 @@ pub record IsGiven (p : CheckedProgram) (l : MemoryMap) : Type 0 where
 
 module _ (text : List ℕ) (p : CheckedProgram) (allow : Allow) (plans : List TaskPlanValue) (l : MemoryMap) (laid : IsLaidOutText text p allow plans l) where
   has : HasLayout p allow plans l
-  has = record { allowed = laid.accepted.allowed; plan = laid.plan; layout = laid.layout }
+  has = record { allowed = laid.accepted.allowed; plan = laid.plan; layout = laid.layout; few = privates_are_few text p allow plans l laid }
 
   privates_of : (k : ℕ) (task : CheckedTask) (t : TaskPlace) → IsTaskAt p l k task t → ArePrivates l task.body t
   privates_of k task t at =
       let a = addresses_are p allow plans l has k task t at in
       let m = tasks_match p allow plans l has k task t at in
       record {
-        assigned = a.assigned;
+        private = a.private;
         left = a.left;
         each = a.each;
-        only = λ s c. let o = m.only s c in (o.0.assigned, o.1);
+        only = λ s c. let o = m.only s c in (is_private_of (Shared s.number) task.body o.0.owed, o.1);
       }
 
   task_given : (k : ℕ) (task : CheckedTask) (t : TaskPlace) → slice_get p.tasks k ≡ Some task → slice_get l.tasks k ≡ Some t → IsTaskGiven p l task t
   task_given k task t is_task is_layout =
       let at : IsTaskAt p l k task t = record { is_task = is_task; is_layout = is_layout } in
-      let e = elements_stand p allow plans l has t in
+      let e = elements_stand p allow plans l has k task t at in
+      let uses = (task_checked text p laid.accepted.checks k task is_task).uses in
       let w = tasks_are_whole text p allow plans l laid k task t is_task is_layout in
       record {
         apart = task_places_are_apart p allow plans l has k task t at;
@@ -107,7 +117,8 @@ module _ (text : List ℕ) (p : CheckedProgram) (allow : Allow) (plans : List Ta
         privates = privates_of k task t at;
         copies = e.copy;
         versions = λ x c. let v = e.version x c in record { number = v.0; below = v.1; is = v.2 };
-        fits = names_fit p allow plans l has k task t at (task_checked text p laid.accepted.checks k task is_task).uses;
+        fits = names_fit p allow plans l has k task t at uses;
+        plain = λ v home copy is. plain_block p.shared v ((places_are_declared p allow plans l has).is_scalar v home copy is) task.body uses;
         whole = w.0;
         of_words = w.1;
       }
@@ -120,6 +131,7 @@ module _ (text : List ℕ) (p : CheckedProgram) (allow : Allow) (plans : List Ta
         words = record {
           each = shared_words_are_of_variables p allow plans l has;
           is_shared = words_of_variables_are_shared p allow plans l has;
+          one = each_is_one_word p allow plans l has;
           is_word = view_has_their_words p allow plans l has;
           fit = λ rows h v place e. rows_fit_places p allow plans l has rows v place h e;
         };

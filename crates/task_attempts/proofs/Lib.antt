@@ -1,3 +1,4 @@
+mod Held
 mod Given
 mod Rows
 mod StoredWords

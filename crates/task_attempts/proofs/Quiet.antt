@@ -1,5 +1,6 @@
 -- Stores that an undecided world bears.
-use Rattle.std.proofs.Common.{◌≡◌, ℕ, ◌+◌, ◌*◌, ◌<◌, ◌≤◌, List, [], ◌∷◌, refl, sym, ◌∙◌, subst, ⊎_elim, inl, inr, arith}
+use Rattle.std.proofs.Common.{◌≡◌, ℕ, ◌+◌, ◌*◌, ◌<◌, ◌≤◌, List, [], ◌∷◌, ◌⊎◌, true, refl, sym, ◌∙◌, subst, ⊎_elim, inl, inr, arith}
+use Rattle.std.proofs.lemmas.Bool.{cases_eq}
 use Rattle.layout_facts.specs.fram_board.Effects.{Effect, Store, Take, Send}
 use Rattle.layout_facts.specs.machine_effects.World.{World, put, world_after_one, world_after, fram_after, EachStore}
 use Rattle.layout_facts.proofs.machine_effects.Interface.{put_other}
@@ -11,10 +12,11 @@ use Rattle.layout_facts.specs.lower.Agreement.{TakesAndStores}
 use Rattle.layout_facts.specs.memory_map.MemoryMap.{word_place}
 use Rattle.layout_facts.specs.memory_map.declared.words.RuntimeWord.TheVariants.{CurrentTask, Gate, Base, Version}
 
--- a store of a word to none of the words that an undecided world speaks of, and to a version word of no more than VER, which is this number
-pub record IsQuiet (l : ProgramPlaces) (ver a w : ℕ) : Type 0 where
+-- a store of a word to none of the words that an undecided world at this task speaks of, and to a version word of no more than VER, which
+-- is this number
+pub record IsQuiet (l : ProgramPlaces) (task ver a w : ℕ) : Type 0 where
   pub is_word : w < 0x10000
-  pub not_shared : IsSharedWord l a → ⊥
+  pub in_place : IsSharedWord l a → l.written_in_place task a ≡ true
   pub current_task : a ≡ word_place l.map CurrentTask → ⊥
   pub gate : a ≡ word_place l.map Gate → ⊥
   pub base : a ≡ word_place l.map Base → ⊥
@@ -27,7 +29,7 @@ module _ {St : Type 0} (l : ProgramPlaces) (v : StateView St) (s : St) (ver : �
     pub undecided : UndecidedAt l v s x
     pub version : x.fram (word_place l.map Version) ≡ ver
 
-  versions_keep : (x : World) (a w : ℕ) → IsQuiet l ver a w → IsQuietAt x → VersionsWithin l (put x.fram a w)
+  versions_keep : (x : World) (a w : ℕ) → IsQuiet l (v.task s) ver a w → IsQuietAt x → VersionsWithin l (put x.fram a w)
   versions_keep x a w q u i h =
       let m = l.map.versions.address + 2 * i in
       let top : put x.fram a w (word_place l.map Version) ≡ ver = put_other x.fram a w (word_place l.map Version) (λ e. q.version (sym e)) ∙ u.version in
@@ -38,8 +40,17 @@ module _ {St : Type 0} (l : ProgramPlaces) (v : StateView St) (s : St) (ver : �
       (λ k. let e = k.1 in omega (arith, e, was, same, top))
       (put_either x.fram a w m)
 
+  shared_keep : (x : World) (a w : ℕ) → IsQuiet l (v.task s) ver a w → IsQuietAt x → (y : ℕ) → IsSharedWord l y
+      → (l.written_in_place (v.task s) y ≡ true) ⊎ (put x.fram a w y ≡ v.word s y)
+  shared_keep x a w q u y h =
+      ⊎_elim {C = (l.written_in_place (v.task s) y ≡ true) ⊎ (put x.fram a w y ≡ v.word s y)}
+      (λ same. inl (subst (λ z. l.written_in_place (v.task s) z ≡ true) (sym same) (q.in_place (subst (IsSharedWord l) same h))))
+      (λ other. ⊎_elim {C = (l.written_in_place (v.task s) y ≡ true) ⊎ (put x.fram a w y ≡ v.word s y)}
+      (λ f. inl f) (λ e. inr (put_other x.fram a w y other ∙ e)) (u.undecided.shared y h))
+      (cases_eq y a)
+
   -- a quiet store keeps it so
-  pub quiet_keeps : (x : World) (a w : ℕ) → IsQuiet l ver a w → IsQuietAt x → IsQuietAt (world_after_one (Store a w) x)
+  pub quiet_keeps : (x : World) (a w : ℕ) → IsQuiet l (v.task s) ver a w → IsQuietAt x → IsQuietAt (world_after_one (Store a w) x)
   quiet_keeps x a w q u =
       let o = u.undecided.is_open in
       record {
@@ -54,19 +65,19 @@ module _ {St : Type 0} (l : ProgramPlaces) (v : StateView St) (s : St) (ver : �
             base = put_other x.fram a w (word_place l.map Base) (λ e. q.base (sym e)) ∙ o.base;
             versions = versions_keep x a w q u;
           };
-          shared = λ y h. ⊎_elim (λ f. inl f) (λ e. inr (put_other x.fram a w y (λ k. q.not_shared (subst (IsSharedWord l) k h)) ∙ e)) (u.undecided.shared y h);
+          shared = shared_keep x a w q u;
         };
         version = put_other x.fram a w (word_place l.map Version) (λ e. q.version (sym e)) ∙ u.version;
       }
 
   -- quiet effects keep it so throughout
-  pub quiet_through : (es : List Effect) (x : World) → TakesAndStores (IsQuiet l ver) es → IsQuietAt x → HoldsThroughout (UndecidedAt l v s) es x
+  pub quiet_through : (es : List Effect) (x : World) → TakesAndStores (IsQuiet l (v.task s) ver) es → IsQuietAt x → HoldsThroughout (UndecidedAt l v s) es x
   quiet_through [] x h u = u.undecided
   quiet_through (Store a w ∷ es) x h u = (u.undecided, quiet_through es (world_after_one (Store a w) x) h.1 (quiet_keeps x a w h.0 u))
   quiet_through (Take r ∷ es) x h u = (u.undecided, quiet_through es x h u)
   quiet_through (Send n w ∷ es) x h u = absurd h
 
-  pub quiet_behind : (es : List Effect) (x : World) → TakesAndStores (IsQuiet l ver) es → IsQuietAt x → IsQuietAt (world_after es x)
+  pub quiet_behind : (es : List Effect) (x : World) → TakesAndStores (IsQuiet l (v.task s) ver) es → IsQuietAt x → IsQuietAt (world_after es x)
   quiet_behind [] x h u = u
   quiet_behind (Store a w ∷ es) x h u = quiet_behind es (world_after_one (Store a w) x) h.1 (quiet_keeps x a w h.0 u)
   quiet_behind (Take r ∷ es) x h u = quiet_behind es x h u

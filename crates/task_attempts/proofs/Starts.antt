@@ -1,28 +1,57 @@
 -- A started attempt stands for the source's attempt of the task.
-use Rattle.std.proofs.Common.{◌≡◌, ℕ, ◌+◌, ◌*◌, List, [], Some, Bool, true, false, refl, ap, ◌∙◌, ⊎_elim, arith}
-use Rattle.std.specs.Prelude.{Contains, slice_get}
+use Rattle.std.proofs.Common.{◌≡◌, ℕ, ◌+◌, ◌*◌, ◌<◌, List, [], length, Option, Some, None, Bool, true, false, ◌&&◌, not, refl, sym, ap, ◌∙◌, ⊎_elim, arith}
+use Rattle.std.proofs.lemmas.Bool.{cases_Bool, and_parts, and_from}
+use Rattle.std.proofs.lemmas.Option.{slice_get_within}
+use Rattle.std.specs.Prelude.{Contains, slice_get, slice_index_or}
 use Rattle.layout_facts.specs.machine_effects.World.{World}
 use Rattle.layout_facts.specs.runtime_effects.Places.{entries_from}
-use Rattle.layout_facts.specs.cost_bound.Counts.{block_assigns, Code}
-use Rattle.layout_facts.specs.source_values.Values.{word_at}
-use Rattle.layout_facts.specs.source_values.Runs.{CheckedProgram, State, fresh_attempt}
+use Rattle.path_sums.proofs.Interface.{is_private_of}
+use Rattle.layout_facts.specs.cost_bound.Counts.{Code}
+use Rattle.layout_facts.specs.source_values.Values.{Variables, word_at}
+use Rattle.layout_facts.specs.source_values.Statements.{Attempt, run_block}
+use Rattle.layout_facts.specs.source_values.Runs.{CheckedProgram, State, fresh_attempt, task_body}
 use Rattle.layout_facts.specs.task_ast.declared.names.Variable.TheVariants.{Shared}
 use Rattle.layout_facts.specs.array_versions.Behaviour.{started}
 use Rattle.layout_facts.specs.boot_runtime.Entries.{task_entries}
 use Rattle.layout_facts.specs.boot_runtime.Listing.{privates_in}
 use Rattle.layout_facts.specs.stands_for.StandsFor.{StartedAt}
-use Rattle.layout_facts.specs.lower.Agreement.{own_word, StandsFor}
-use Rattle.layout_facts.specs.compiled_model.Places.{program_places}
+use Rattle.layout_facts.specs.lower.Agreement.{own_word, place_length, StandsFor}
+use Rattle.layout_facts.specs.lower.Seen.{some_path_writes, map_seen}
+use Rattle.layout_facts.proofs.lower.Interface.{SeenFrom, seen_from}
+use Rattle.layout_facts.proofs.lower.Interface.{scalar as seen_scalar, array as seen_array, read as seen_read}
+use Rattle.layout_facts.proofs.Interface.{scalar_of_seen, scalar_found, in_place_written, in_place_not_private}
+use Rattle.layout_facts.specs.compiled_model.Places.{is_private_in, stays_in_place, program_places}
 use Rattle.layout_facts.specs.compiled_model.View.{state_view}
 use Rattle.layout_facts.proofs.memory_map.Interface.{scalar_home}
 use Rattle.task_attempts.proofs.Given.{IsGiven, IsTaskGiven}
-use Rattle.task_attempts.proofs.Tasks.{IsAt, places, body, task_given, among_privates}
+use Rattle.task_attempts.proofs.Tasks.{IsAt, places, body, task_given, body_is, among_privates}
+use Rattle.task_attempts.proofs.Held.{refreshed, refreshed_count, refreshed_locals, refreshed_rows, refreshed_other, refreshed_held, refreshed_runs}
+use Rattle.task_attempts.proofs.Rows.{rows_count}
 use Rattle.task_attempts.proofs.Stores.{scalar_place}
 use Rattle.task_attempts.proofs.Words.{OwnWord, marked, unmarked, own_word_of, element_word}
 use Rattle.layout_facts.specs.memory_map.declared.words.RuntimeWord.TheVariants.{Version}
-use Rattle.layout_facts.specs.memory_map.declared.place.VariablePlace.TheVariants.{Scalar}
+use Rattle.layout_facts.specs.memory_map.declared.place.VariablePlace.{VariablePlace}
+use Rattle.layout_facts.specs.memory_map.declared.place.VariablePlace.TheVariants.{Scalar, Array}
+use Rattle.layout_facts.specs.memory_map.Places.{home_region}
 use Rattle.layout_facts.specs.memory_map.MemoryMap.{MemoryMap, word_place}
-use Rattle.layout_facts.specs.memory_map.Spots.{address_of, Places, Element, IsElement, IsCopied, version_address, element_address, IsWordOf}
+use Rattle.layout_facts.specs.memory_map.Spots.{address_of, home_in, IsScalarAt, Places, Element, IsElement, IsCopied, version_address, element_address, IsWordOf}
+
+-- whether a place is one of a scalar
+abbrev is_scalar_at : Option VariablePlace → Bool
+is_scalar_at (Some (Scalar home copy)) = true
+is_scalar_at (Some (Array elements length copies)) = false
+is_scalar_at None = false
+
+scalar_at_is : (o : Option VariablePlace) → is_scalar_at o ≡ true → (home : ℕ) × (copied : ℕ) × (o ≡ Some (Scalar home copied))
+scalar_at_is (Some (Scalar home copy)) h = (home, copy, refl)
+scalar_at_is (Some (Array elements length copies)) h = absurd (let none : false ≡ true = h in cc)
+scalar_at_is None h = absurd (let none : false ≡ true = h in cc)
+
+unheld_of : (a b c : Bool) → c ≡ true → (a && (b && not c)) ≡ false
+unheld_of true true true h = refl
+unheld_of true true false h = absurd (let none : false ≡ true = h in cc)
+unheld_of true false c h = refl
+unheld_of false b c h = refl
 
 module _ (p : CheckedProgram) (l : MemoryMap) (given : IsGiven p l) (s : State) (i : IsAt p l s.task) (x : World) (readings : List ℕ)
     (st : StartedAt (program_places p l) (state_view p l) s (privates_in (task_entries l) s.task) x) where
@@ -38,25 +67,107 @@ module _ (p : CheckedProgram) (l : MemoryMap) (given : IsGiven p l) (s : State) 
   abbrev facts : IsTaskGiven p l i.task i.layout
   facts = task_given p l given s.task i
 
-  -- a shared word is the state's
-  pub home_stands : (v n a : ℕ) → IsWordOf l v n a → x.fram a ≡ word_at (fresh_attempt s.shared readings).variables (Shared v) n
-  home_stands v n a h =
-      ⊎_elim {C = x.fram a ≡ word_at (fresh_attempt s.shared readings).variables (Shared v) n}
-      (λ e. absurd (cc e))
+  -- the scalars that the task writes in place, and their words in FRAM
+  abbrev is_held : ℕ → Bool
+  is_held v = is_scalar_at (slice_get l.variables v) && stays_in_place code v
+
+  abbrev held_word : ℕ → ℕ
+  held_word v = x.fram (home_in (slice_get l.variables v))
+
+  abbrev own : Variables
+  own = (fresh_attempt s.shared readings).variables
+
+  -- the variables as FRAM has them: the state's words, but for the scalars that the task writes in place
+  abbrev held : Variables
+  held = refreshed is_held held_word (length l.variables) own
+
+  abbrev pub held_attempt : Attempt
+  held_attempt = record (fresh_attempt s.shared readings) { variables = held }
+
+  count_is : length s.shared ≡ length l.variables
+  count_is = rows_count p.shared s.shared st.undecided.is_open.is_state ∙ sym given.variables.count
+
+  held_scalar : (v : ℕ) → is_held v ≡ true → (home : ℕ) × (copied : ℕ) × (slice_get l.variables v ≡ Some (Scalar home copied)) × (stays_in_place code v ≡ true)
+  held_scalar v h =
+      let parts = and_parts (is_scalar_at (slice_get l.variables v)) (stays_in_place code v) h in
+      let place = scalar_at_is (slice_get l.variables v) parts.0 in
+      (place.0, place.1, place.2, parts.1)
+
+  -- the task comes to the same from what FRAM has as from the state
+  pub held_runs : run_block code held_attempt ≡ run_block code (fresh_attempt s.shared readings)
+  held_runs =
+      refreshed_runs is_held held_word code (λ v h.
+      let at = held_scalar v h in (
+        facts.plain v at.0 at.1 at.2,
+        in_place_written code v at.3,
+        λ private.
+            let clash : true ≡ false = sym (is_private_of (Shared v) code private) ∙ in_place_not_private code v at.3 in absurd (cc),
+      ))
+      (length l.variables) (fresh_attempt s.shared readings)
+
+  -- a word that is written in place is one of a held scalar
+  in_place_held : (v n a : ℕ) → IsWordOf l v n a → (program_places p l).written_in_place s.task a ≡ true → is_held v ≡ true
+  in_place_held v n a h w =
+      let at = scalar_found (stays_in_place (task_body p s.task)) 0 l.variables a w in
+      let same : at.behind ≡ v = (given.words.one at.behind v 0 n a (scalar_home l at.behind a at.copy at.place) h).0 in
+      let number : 0 + at.behind ≡ v = omega (arith, same) in
+      let stays : stays_in_place code v ≡ true =
+      sym (ap (λ b. stays_in_place b v) (body_is p l given s.task i)) ∙ sym (ap (stays_in_place (task_body p s.task)) number) ∙ at.is_so in
+      and_from (is_scalar_at (slice_get l.variables v)) (stays_in_place code v)
+      (ap (λ o. is_scalar_at o) (sym (ap (slice_get l.variables) same) ∙ at.place)) stays
+
+  -- a word that isn't held is the state's
+  word_stays : (v n a : ℕ) → IsWordOf l v n a → is_held v ≡ false → x.fram a ≡ word_at own (Shared v) n
+  word_stays v n a h none =
+      ⊎_elim {C = x.fram a ≡ word_at own (Shared v) n}
+      (λ w. let clash : true ≡ false = sym (in_place_held v n a h w) ∙ none in absurd (cc))
       (λ e. e ∙ given.words.is_word s.shared v n a h)
       (st.undecided.shared a (given.words.is_shared v n a h))
 
-  scalar_stands : (v home copy : ℕ) (b : Bool) → slice_get l.variables v ≡ Some (Scalar home copy) → block_assigns v code ≡ b
-      → x.fram (address_of here v) ≡ word_at (fresh_attempt s.shared readings).variables (Shared v) 0
-  scalar_stands v home copy true e assigned =
+  held_place : (v n a : ℕ) (place : VariablePlace) → slice_get l.variables v ≡ Some place → n < (home_region place).words
+      → a ≡ 2 * n + (home_region place).address
+      → is_held v ≡ true → x.fram a ≡ word_at held (Shared v) n
+  held_place v n a (Scalar home copy) at below is h =
+      let first : n ≡ 0 = omega (arith, below) in
+      let there : a ≡ home = omega (arith, is, first) in
+      let inside = slice_get_within l.variables v (Scalar home copy) at in
+      let row = (given.words.fit s.shared st.undecided.is_open.is_state v (Scalar home copy) at).1 in
+      let count = count_is in
+      ap x.fram there ∙ sym (ap (λ o. x.fram (home_in o)) at)
+      ∙ sym (refreshed_held is_held held_word (length l.variables) own v h inside (omega (arith, count)) (omega (arith, row)))
+      ∙ sym (ap (word_at held (Shared v)) first)
+  held_place v n a (Array elements len copies) at below is h =
+      let scalar = held_scalar v h in
+      let both : Some (Array elements len copies) ≡ Some (Scalar scalar.0 scalar.1) = sym at ∙ scalar.2 in absurd (cc)
+
+  -- a shared word is that of the variables
+  pub home_stands : (v n a : ℕ) → IsWordOf l v n a → x.fram a ≡ word_at held (Shared v) n
+  home_stands v n a h =
+      ⊎_elim {C = x.fram a ≡ word_at held (Shared v) n}
+      (λ e. held_place v n a h.place h.at h.below h.address e)
+      (λ e. word_stays v n a h e ∙ sym (refreshed_other is_held held_word (length l.variables) own v n e))
+      (cases_Bool (is_held v))
+
+  private_unheld : (v : ℕ) → is_private_in code v ≡ true → is_held v ≡ false
+  private_unheld v h = unheld_of (is_scalar_at (slice_get l.variables v)) (some_path_writes code v) (is_private_in code v) h
+
+  scalar_stands : (v home copy : ℕ) (b : Bool) → slice_get l.variables v ≡ Some (Scalar home copy) → is_private_in code v ≡ b
+      → x.fram (address_of here v) ≡ word_at held (Shared v) 0
+  scalar_stands v home copy true e private =
       let r = facts.privates in
-      let c : Contains i.layout.privates (record { number = v; home = home; copy = copy }) = r.each v home copy e assigned in
-      ap x.fram (r.assigned v home copy e assigned)
+      let c : Contains i.layout.privates (record { number = v; home = home; copy = copy }) = r.each v home copy e private in
+      ap x.fram (r.private v home copy e private)
       ∙ st.copies (record { home = home; copy = copy }) (among_privates p l given s.task i (record { number = v; home = home; copy = copy }) c)
       ∙ given.words.is_word s.shared v 0 home (scalar_home l v home copy e)
+      ∙ sym (refreshed_other is_held held_word (length l.variables) own v 0 (private_unheld v private))
   scalar_stands v home copy false e left =
       let r = facts.privates in
       ap x.fram (r.left v home copy e left) ∙ home_stands v 0 home (scalar_home l v home copy e)
+
+  scalar_by : (v : ℕ) → IsScalarAt here v → x.fram (address_of here v) ≡ word_at held (Shared v) 0
+  scalar_by v h =
+      let place = scalar_place (slice_get (map_seen code l).variables v) h in
+      scalar_stands v place.0 place.1 (is_private_in code v) (scalar_of_seen code l v place.0 place.1 place.2) refl
 
   -- no element has a version word of this attempt
   none_marked : (e : Element) → IsCopied here e
@@ -68,29 +179,45 @@ module _ (p : CheckedProgram) (l : MemoryMap) (given : IsGiven p l) (s : State) 
       omega (arith, h, below, at)
 
   element_stands : (e : Element) → IsElement here e → OwnWord here x.fram e
-      → own_word here x.fram (slice_get l.variables e.array) e.index ≡ word_at (fresh_attempt s.shared readings).variables (Shared e.array) e.index
+      → own_word here x.fram (slice_get (map_seen code l).variables e.array) e.index ≡ word_at held (Shared e.array) e.index
   element_stands e h (marked c m is) = absurd (none_marked e c m)
   element_stands e h (unmarked n is) =
       is ∙ home_stands e.array e.index (element_address here e)
       (element_word l code i.layout facts.privates e h)
 
-  pub attempt_stands : StandsFor here (fresh_attempt s.shared readings) [] (started x.fram readings)
-  attempt_stands = record {
-    variables = record {
-      words = λ v h. let q = scalar_place (slice_get l.variables v) h in scalar_stands v q.0 q.1 (block_assigns v code) q.2 refl;
-      elements = λ e h. element_stands e h (own_word_of here x.fram e h);
-      rows = λ v place e. (given.words.fit s.shared st.undecided.is_open.is_state v place e).0;
-      lengths = λ v place e. (given.words.fit s.shared st.undecided.is_open.is_state v place e).1;
-      locals = λ n v e. cc e;
-      local_count = refl;
-    };
-    emitted = record { emit_count = st.emit_count; emits = λ n h. absurd (omega (arith, h)) };
-    list = record {
-      are_listed = record { copied = λ n d h. absurd (omega (arith, h)); different = λ n m d a b. absurd (omega (arith, b)) };
-      pairs = ap (λ n. entries_from n l.list.address x.fram) st.list_length;
-      runs = λ n h. let none = st.list_length in absurd (omega (arith, h, none));
-      marked = λ e h. let k = h.1 in absurd (omega (arith, k));
-      only_marked = λ e c h. absurd (none_marked e c h);
-    };
-    readings = refl;
-  }
+  -- the lengths of the variables' rows
+  length_seen : (v : ℕ) (place : VariablePlace) → SeenFrom l.variables v (some_path_writes code v) place
+      → (v < length s.shared) × (length (slice_index_or s.shared v []) ≡ place_length place)
+  length_seen v _ (seen_scalar home copy at) = given.words.fit s.shared st.undecided.is_open.is_state v (Scalar home copy) at
+  length_seen v _ (seen_array elements n copies at written) = given.words.fit s.shared st.undecided.is_open.is_state v (Array elements n copies) at
+  length_seen v _ (seen_read elements n copies at unwritten) = given.words.fit s.shared st.undecided.is_open.is_state v (Array elements n copies) at
+
+  lengths_are : (v : ℕ) (place : VariablePlace) → slice_get (map_seen code l).variables v ≡ Some place
+      → (v < length s.shared) × (length (slice_index_or s.shared v []) ≡ place_length place)
+  lengths_are v place e = length_seen v place (seen_from (some_path_writes code) l.variables v place e)
+
+  pub attempt_stands : StandsFor here held_attempt [] (started x.fram readings)
+  attempt_stands =
+      let count = count_is in
+      record {
+        variables = record {
+          words = scalar_by;
+          elements = λ e h. element_stands e h (own_word_of here x.fram e h);
+          rows = λ v place e.
+              let inside = (lengths_are v place e).0 in
+              let rows = refreshed_count is_held held_word (length l.variables) own in omega (arith, inside, rows);
+          lengths = λ v place e.
+              refreshed_rows is_held held_word (length l.variables) own v (omega (arith, count)) ∙ (lengths_are v place e).1;
+          locals = λ n v e. cc e;
+          local_count = ap length (refreshed_locals is_held held_word (length l.variables) own);
+        };
+        emitted = record { emit_count = st.emit_count; emits = λ n h. absurd (omega (arith, h)) };
+        list = record {
+          are_listed = record { copied = λ n d h. absurd (omega (arith, h)); different = λ n m d a b. absurd (omega (arith, b)) };
+          pairs = ap (λ n. entries_from n l.list.address x.fram) st.list_length;
+          runs = λ n h. let none = st.list_length in absurd (omega (arith, h, none));
+          marked = λ e h. let k = h.1 in absurd (omega (arith, k));
+          only_marked = λ e c h. absurd (none_marked e c h);
+        };
+        readings = refl;
+      }

@@ -1,19 +1,23 @@
 -- Where a task's program stores: at words that an undecided world doesn't speak of, before the code.
-use Rattle.std.proofs.Common.{◌≡◌, ℕ, ◌<◌, ◌≤◌, length, Option, Some, None, refl, sym, subst, ⊎_elim, arith}
+use Rattle.std.proofs.Common.{◌≡◌, ℕ, ◌+◌, ◌<◌, ◌≤◌, ◌∙◌, length, Option, Some, None, false, not, refl, sym, ap, subst, ⊎_elim, arith}
+use Rattle.std.proofs.lemmas.Bool.{cases_Bool, and_from}
 use Rattle.std.specs.Prelude.{true, slice_get}
-use Rattle.layout_facts.specs.cost_bound.Counts.{emits_of, block_assigns, Code}
+use Rattle.layout_facts.specs.cost_bound.Counts.{emits_of, Code}
 use Rattle.layout_facts.specs.cost_bound.Allowance.{list_of}
-use Rattle.layout_facts.specs.source_values.Runs.{CheckedProgram}
+use Rattle.layout_facts.specs.source_values.Runs.{CheckedProgram, task_body}
 use Rattle.layout_facts.specs.memory_map.declared.words.RuntimeWord.TheVariants.{CurrentTask, Gate, ListLength, EmitCount, Base, Version}
 use Rattle.layout_facts.specs.memory_map.declared.place.VariablePlace.{VariablePlace}
 use Rattle.layout_facts.specs.memory_map.declared.place.VariablePlace.TheVariants.{Scalar, Array}
 use Rattle.layout_facts.specs.memory_map.MemoryMap.{MemoryMap, word_place}
-use Rattle.layout_facts.specs.stands_for.Layout.{IsCopyWord, ProgramPlaces}
+use Rattle.layout_facts.specs.stands_for.Layout.{IsSharedWord, IsCopyWord, ProgramPlaces}
+use Rattle.layout_facts.proofs.memory_map.Interface.{scalar_home}
+use Rattle.layout_facts.specs.lower.Seen.{some_path_writes, map_seen}
+use Rattle.layout_facts.proofs.Interface.{scalar_of_seen, scalar_is}
 use Rattle.layout_facts.specs.memory_map.Spots.{address_of, Places, IsScalarPlace, IsScalarAt}
 use Rattle.layout_facts.specs.memory_map.Places.{end_of}
 use Rattle.layout_facts.specs.lower.Spots.{Room}
 use Rattle.layout_facts.specs.lower.Agreement.{IsTaskStore, at_variable, at_copy, at_version, in_list, at_list_length, at_emit_count, in_buffer}
-use Rattle.layout_facts.specs.compiled_model.Places.{program_places}
+use Rattle.layout_facts.specs.compiled_model.Places.{is_private_in, stays_in_place, program_places}
 use Rattle.task_attempts.proofs.Given.{IsGiven, IsVersionWord, IsTaskGiven}
 use Rattle.task_attempts.proofs.Quiet.{IsQuiet}
 use Rattle.task_attempts.proofs.Entries as transition
@@ -26,10 +30,10 @@ scalar_place (Some (Scalar home copied)) h = (home, copied, refl)
 scalar_place (Some (Array elements length copies)) h = absurd h
 scalar_place None h = absurd h
 
-module _ (p : CheckedProgram) (l : MemoryMap) (given : IsGiven p l) (ver most : ℕ) where
+module _ (p : CheckedProgram) (l : MemoryMap) (given : IsGiven p l) (k ver most : ℕ) where
   -- a store that an undecided world bears, of no more than so many emitted words, to data
   pub record IsSafe (a w : ℕ) : Type 0 where
-    pub quiet : IsQuiet (program_places p l) ver a w
+    pub quiet : IsQuiet (program_places p l) k ver a w
     pub list_length : a ≡ word_place l ListLength → w ≤ l.entries
     pub emit_count : a ≡ word_place l EmitCount → w ≤ most
     pub from : 0x4400 ≤ a
@@ -44,7 +48,7 @@ module _ (p : CheckedProgram) (l : MemoryMap) (given : IsGiven p l) (ver most : 
       record {
         quiet = record {
           is_word = small;
-          not_shared = λ h. omega (arith, apart, h, hi);
+          in_place = λ h. absurd (omega (arith, apart, h, hi));
           current_task = λ e. omega (arith, e, lo);
           gate = gate;
           base = base;
@@ -63,7 +67,7 @@ module _ (p : CheckedProgram) (l : MemoryMap) (given : IsGiven p l) (ver most : 
       record {
         quiet = record {
           is_word = small;
-          not_shared = λ h. omega (arith, apart, h, c);
+          in_place = λ h. absurd (omega (arith, apart, h, c));
           current_task = λ e. omega (arith, apart, e, c);
           gate = λ e. omega (arith, apart, e, c);
           base = λ e. omega (arith, apart, e, c);
@@ -82,12 +86,32 @@ module _ (p : CheckedProgram) (l : MemoryMap) (given : IsGiven p l) (ver most : 
       record {
         quiet = record {
           is_word = small;
-          not_shared = λ h. omega (arith, apart, h, c);
+          in_place = λ h. absurd (omega (arith, apart, h, c));
           current_task = λ e. omega (arith, apart, e, c);
           gate = λ e. omega (arith, apart, e, c);
           base = λ e. omega (arith, apart, e, c);
           version = λ e. omega (arith, apart, e, c);
           versions = λ i h e. omega (arith, is);
+        };
+        list_length = λ e. absurd (omega (arith, apart, e, c));
+        emit_count = λ e. absurd (omega (arith, apart, e, c));
+        from = omega (arith, apart, c);
+        below = omega (arith, apart, c);
+      }
+
+  -- the word of a scalar that the task writes in place
+  safe_home : (a w : ℕ) → w < 0x10000 → IsSharedWord (program_places p l) a → (program_places p l).written_in_place k a ≡ true → IsSafe a w
+  safe_home a w small c is =
+      let apart = given.apart in
+      record {
+        quiet = record {
+          is_word = small;
+          in_place = λ h. is;
+          current_task = λ e. omega (arith, apart, e, c);
+          gate = λ e. omega (arith, apart, e, c);
+          base = λ e. omega (arith, apart, e, c);
+          version = λ e. omega (arith, apart, e, c);
+          versions = λ i h e. absurd (omega (arith, apart, e, h, c));
         };
         list_length = λ e. absurd (omega (arith, apart, e, c));
         emit_count = λ e. absurd (omega (arith, apart, e, c));
@@ -124,69 +148,87 @@ module _ (p : CheckedProgram) (l : MemoryMap) (given : IsGiven p l) (k : ℕ) (i
 
   module _ (ver : ℕ) where
     abbrev pub Safe : ℕ → ℕ → Type 0
-    Safe = IsSafe p l given ver (emits_of code)
+    Safe = IsSafe p l given k ver (emits_of code)
 
     abbrev pub StoresOf : ℕ → ℕ → Type 0
-    StoresOf = IsTaskStore here (λ v. block_assigns v code) space ver
+    StoresOf = IsTaskStore here (some_path_writes code) space ver
 
-    -- the copy of a scalar that the task assigns
-    assigned_copy : (v : ℕ) → IsScalarAt here v → block_assigns v code ≡ true
-        → IsCopyWord sites (address_of here v)
-    assigned_copy v h e =
-        let r = facts.privates in
-        let s = scalar_place (slice_get l.variables v) h in
-        subst (IsCopyWord sites) (sym (r.assigned v s.0 s.1 s.2 e))
-        (private_copy p l given k i (record { number = v; home = s.0; copy = s.1 }) (r.each v s.0 s.1 s.2 e))
+    -- a scalar that the task writes is private, and then the task has its copy, or is written in place
+    written_safe : (v w : ℕ) → IsScalarAt here v → some_path_writes code v ≡ true → w < 0x10000 → Safe (address_of here v) w
+    written_safe v w h e small = ⊎_elim copied in_place (cases_Bool (is_private_in code v))
+      where
+        place : (home : ℕ) × (copied : ℕ) × (slice_get (map_seen code l).variables v ≡ Some (Scalar home copied))
+        place = scalar_place (slice_get (map_seen code l).variables v) h
+
+        at : slice_get l.variables v ≡ Some (Scalar place.0 place.1)
+        at = scalar_of_seen code l v place.0 place.1 place.2
+
+        copied : is_private_in code v ≡ true → Safe (address_of here v) w
+        copied is =
+            let r = facts.privates in
+            safe_copy p l given k ver (emits_of code) (address_of here v) w small
+            (subst (IsCopyWord sites) (sym (r.private v place.0 place.1 at is))
+            (private_copy p l given k i (record { number = v; home = place.0; copy = place.1 }) (r.each v place.0 place.1 at is)))
+
+        in_place : is_private_in code v ≡ false → Safe (address_of here v) w
+        in_place not_private =
+            let stays : stays_in_place code v ≡ true = and_from (some_path_writes code v) (not (is_private_in code v)) e (ap not not_private) in
+            let number : v ≡ 0 + v = omega arith in
+            let is : sites.written_in_place k place.0 ≡ true =
+            scalar_is (stays_in_place (task_body p k)) 0 l.variables v place.0 place.1 at
+            (sym (ap (stays_in_place (task_body p k)) number) ∙ ap (λ b. stays_in_place b v) (body_is p l given k i) ∙ stays) in
+            subst (λ z. Safe z w) (sym (facts.privates.left v place.0 place.1 at not_private))
+            (safe_home p l given k ver (emits_of code) place.0 w small
+            (given.words.is_shared v 0 place.0 (scalar_home l v place.0 place.1 at)) is)
 
     pub task_safe : (a w : ℕ) → StoresOf a w → w < 0x10000 → Safe a w
-    task_safe a w (at_variable v h e is) small =
-        subst (λ z. Safe z w) (sym is) (safe_copy p l given ver _ (address_of here v) w small (assigned_copy v h e))
-    task_safe a w (at_copy x h is) small = subst (λ z. Safe z w) (sym is) (safe_copy p l given ver _ _ w small (facts.copies x h))
-    task_safe a w (at_version x h is e) small = subst (λ z. Safe z w) (sym is) (safe_version p l given ver _ _ w small e (facts.versions x h))
+    task_safe a w (at_variable v h e is) small = subst (λ z. Safe z w) (sym is) (written_safe v w h e small)
+    task_safe a w (at_copy x h is) small = subst (λ z. Safe z w) (sym is) (safe_copy p l given k ver _ _ w small (facts.copies x h))
+    task_safe a w (at_version x h is e) small = subst (λ z. Safe z w) (sym is) (safe_version p l given k ver _ _ w small e (facts.versions x h))
     task_safe a w (in_list lo hi) small =
         let apart = given.apart in
         let fits = list_fits in
-        safe_low p l given ver _ a w small (omega (arith, apart, lo)) (omega (arith, apart, hi, fits)) (λ q. omega (arith, apart, lo, q))
+        safe_low p l given k ver _ a w small (omega (arith, apart, lo)) (omega (arith, apart, hi, fits)) (λ q. omega (arith, apart, lo, q))
         (λ q. omega (arith, apart, lo, q))
         (λ q. omega (arith, apart, lo, q)) (λ q. absurd (omega (arith, apart, lo, q))) (λ q. absurd (omega (arith, apart, lo, q)))
     task_safe a w (at_list_length is h) small =
         let apart = given.apart in
         let fits = list_fits in
-        safe_low p l given ver _ a w small (omega (arith, apart, is)) (omega (arith, apart, is)) (λ q. omega (arith, apart, is, q))
+        safe_low p l given k ver _ a w small (omega (arith, apart, is)) (omega (arith, apart, is)) (λ q. omega (arith, apart, is, q))
         (λ q. omega (arith, apart, is, q))
         (λ q. omega (arith, apart, is, q)) (λ q. omega (arith, h, fits)) (λ q. absurd (omega (arith, apart, is, q)))
     task_safe a w (at_emit_count is h) small =
         let apart = given.apart in
-        safe_low p l given ver _ a w small (omega (arith, apart, is)) (omega (arith, apart, is)) (λ q. omega (arith, apart, is, q))
+        safe_low p l given k ver _ a w small (omega (arith, apart, is)) (omega (arith, apart, is)) (λ q. omega (arith, apart, is, q))
         (λ q. omega (arith, apart, is, q))
         (λ q. omega (arith, apart, is, q)) (λ q. absurd (omega (arith, apart, is, q))) (λ q. h)
     task_safe a w (in_buffer j h is) small =
         let apart = given.apart in
         let fits = emits_fit in
-        safe_low p l given ver _ a w small (omega (arith, apart, is)) (omega (arith, apart, is, h, fits)) (λ q. omega (arith, apart, is, q))
+        safe_low p l given k ver _ a w small (omega (arith, apart, is)) (omega (arith, apart, is, h, fits)) (λ q. omega (arith, apart, is, q))
         (λ q. omega (arith, apart, is, q))
         (λ q. omega (arith, apart, is, q)) (λ q. absurd (omega (arith, apart, is, q))) (λ q. absurd (omega (arith, apart, is, q)))
 
     pub transition_safe : (a w : ℕ) → IsTransitionStore here space a w → w < 0x10000 → Safe a w
     transition_safe a w (at_next_task is) small =
         let apart = given.apart in
-        safe_low p l given ver _ a w small (omega (arith, apart, is)) (omega (arith, apart, is)) (λ q. omega (arith, apart, is, q))
+        safe_low p l given k ver _ a w small (omega (arith, apart, is)) (omega (arith, apart, is)) (λ q. omega (arith, apart, is, q))
         (λ q. omega (arith, apart, is, q))
         (λ q. omega (arith, apart, is, q)) (λ q. absurd (omega (arith, apart, is, q))) (λ q. absurd (omega (arith, apart, is, q)))
     transition_safe a w (transition.at_list_length is h) small =
         let apart = given.apart in
         let fits = list_fits in
-        safe_low p l given ver _ a w small (omega (arith, apart, is)) (omega (arith, apart, is)) (λ q. omega (arith, apart, is, q))
+        safe_low p l given k ver _ a w small (omega (arith, apart, is)) (omega (arith, apart, is)) (λ q. omega (arith, apart, is, q))
         (λ q. omega (arith, apart, is, q))
         (λ q. omega (arith, apart, is, q)) (λ q. omega (arith, h, fits)) (λ q. absurd (omega (arith, apart, is, q)))
     transition_safe a w (at_sent_base is) small =
         let apart = given.apart in
-        safe_low p l given ver _ a w small (omega (arith, apart, is)) (omega (arith, apart, is)) (λ q. omega (arith, apart, is, q))
+        safe_low p l given k ver _ a w small (omega (arith, apart, is)) (omega (arith, apart, is)) (λ q. omega (arith, apart, is, q))
         (λ q. omega (arith, apart, is, q))
         (λ q. omega (arith, apart, is, q)) (λ q. absurd (omega (arith, apart, is, q))) (λ q. absurd (omega (arith, apart, is, q)))
     transition_safe a w (in_entries lo hi) small =
         let apart = given.apart in
         let fits = list_fits in
-        safe_low p l given ver _ a w small (omega (arith, apart, lo)) (omega (arith, apart, hi, fits)) (λ q. omega (arith, apart, lo, q))
+        safe_low p l given k ver _ a w small (omega (arith, apart, lo)) (omega (arith, apart, hi, fits)) (λ q. omega (arith, apart, lo, q))
         (λ q. omega (arith, apart, lo, q))
         (λ q. omega (arith, apart, lo, q)) (λ q. absurd (omega (arith, apart, lo, q))) (λ q. absurd (omega (arith, apart, lo, q)))

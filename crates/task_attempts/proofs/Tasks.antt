@@ -1,5 +1,5 @@
 -- A task of a source by its number, and where its program stores.
-use Rattle.std.proofs.Common.{◌≡◌, ℕ, ◌<◌, List, [], ◌∷◌, length, map, Some, sym, ap, ◌∙◌, subst, ⊎_elim, arith}
+use Rattle.std.proofs.Common.{◌≡◌, ℕ, ◌<◌, List, [], ◌∷◌, false, length, map, Some, sym, ap, ◌∙◌, subst, ⊎_elim, arith}
 use Rattle.std.specs.Prelude.{Contains, slice_get, option_map}
 use Rattle.std.proofs.lemmas.Option.{slice_get-map, get_or_from_slice_get}
 use Rattle.layout_facts.specs.cost_bound.Counts.{Code}
@@ -16,12 +16,12 @@ use Rattle.layout_facts.specs.lower.Spots.{Room}
 use Rattle.layout_facts.specs.lower.Lowered.{lowered_block}
 use Rattle.layout_facts.specs.compiled_model.Places.{program_places}
 use Rattle.layout_facts.specs.compiled_model.Parts.{task_program}
-use Rattle.layout_facts.specs.Facts.{task_room}
+use Rattle.layout_facts.specs.Facts.{task_room, task_places}
 use Rattle.task_attempts.proofs.Given.{IsGiven, IsTaskGiven}
 use Rattle.task_attempts.proofs.Listed.{map_among}
 use Rattle.layout_facts.specs.memory_map.declared.place.PrivateScalar.{PrivateScalar}
 use Rattle.layout_facts.specs.memory_map.MemoryMap.{MemoryMap, TaskPlace}
-use Rattle.layout_facts.specs.memory_map.Spots.{Places, places_of}
+use Rattle.layout_facts.specs.memory_map.Spots.{Places}
 
 -- a task of a source by its number, with its layout
 pub record IsAt (p : CheckedProgram) (l : MemoryMap) (k : ℕ) : Type 0 where
@@ -41,7 +41,7 @@ module _ (p : CheckedProgram) (l : MemoryMap) (given : IsGiven p l) (k : ℕ) (i
   body = i.task.body
 
   abbrev pub places : Places
-  places = places_of l i.layout
+  places = task_places l i.task i.layout
 
   abbrev pub room : Room
   room = task_room p i.task
@@ -70,3 +70,13 @@ module _ (p : CheckedProgram) (l : MemoryMap) (given : IsGiven p l) (k : ℕ) (i
   -- the copy of a private scalar
   pub private_copy : (s : PrivateScalar) → Contains i.layout.privates s → IsCopyWord (program_places p l) s.copy
   private_copy s h = copies_of (privates_in (task_entries l) k) (given.privates k) (pair_of s) (among_privates s h)
+
+  not_in_place_of : (ps : List CopyPair) → ArePrivate (program_places p l) k ps → (q : CopyPair) → IsAmong ps q
+      → (program_places p l).written_in_place k q.home ≡ false
+  not_in_place_of [] a q h = absurd h
+  not_in_place_of (u ∷ ps) a q h =
+      ⊎_elim (λ e. subst (λ z. (program_places p l).written_in_place k z.home ≡ false) (sym e) a.1) (λ r. not_in_place_of ps a.4 q r) h
+
+  -- a private scalar isn't written in place
+  pub private_not_in_place : (s : PrivateScalar) → Contains i.layout.privates s → (program_places p l).written_in_place k s.home ≡ false
+  private_not_in_place s h = not_in_place_of (privates_in (task_entries l) k) (given.privates k) (pair_of s) (among_privates s h)

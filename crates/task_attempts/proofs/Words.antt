@@ -1,8 +1,12 @@
 -- The words of the variables as a task has them.
 use Rattle.std.proofs.Common.{◌≡◌, ℕ, ◌+◌, ◌*◌, ◌==◌, ◌<◌, length, Option, Some, None, Bool, true, false, refl, sym, ap, ◌∙◌, subst, ⊎_elim, arith, eq-eqb, ne_eqb, if◌then◌else◌}
-use Rattle.std.proofs.lemmas.Bool.{cases_eq}
+use Rattle.std.proofs.lemmas.Bool.{cases_eq, cases_Bool}
 use Rattle.std.specs.Prelude.{Contains, slice_get}
-use Rattle.layout_facts.specs.cost_bound.Counts.{Code, block_assigns}
+use Rattle.layout_facts.specs.cost_bound.Counts.{Code}
+use Rattle.layout_facts.specs.lower.Seen.{some_path_writes, map_seen}
+use Rattle.layout_facts.proofs.lower.Interface.{scalar_seen, array_seen, array_read}
+use Rattle.layout_facts.specs.compiled_model.Places.{is_private_in}
+use Rattle.layout_facts.proofs.Interface.{word_of_seen}
 use Rattle.layout_facts.specs.lower.Agreement.{own_word}
 use Rattle.task_attempts.proofs.Given.{ArePrivates}
 use Rattle.layout_facts.specs.memory_map.declared.words.RuntimeWord.TheVariants.{Version}
@@ -49,36 +53,59 @@ pub own_word_of : (p : Places) (f : ℕ → ℕ) (x : Element) → IsElement p x
 own_word_of p f x h = own_by p f x h.elements h.length h.below h.copies h.is_array.place
 
 module _ (l : MemoryMap) (body : Code) (t : TaskPlace) (privates : ArePrivates l body t) where
+  -- the places that the task works on
+  abbrev seen : Places
+  seen = places_of (map_seen body l) t
+
   -- word i of variable v, at an address: a scalar that the task has there, one that it has in a copy, or an element
   pub data IsTaskWord (v i a : ℕ) : Type 0 where
-    left_there : IsScalarAt (places_of l t) v → i ≡ 0 → address_of (places_of l t) v ≡ a → IsTaskWord v i a
+    left_there : IsScalarAt seen v → i ≡ 0 → address_of seen v ≡ a → IsTaskWord v i a
     private : (s : PrivateScalar) → Contains t.privates s → a ≡ s.home → IsTaskWord v i a
-    element : (x : Element) → IsElement (places_of l t) x → v ≡ x.array → i ≡ x.index → a ≡ element_address (places_of l t) x → IsTaskWord v i a
+    element : (x : Element) → IsElement seen x → v ≡ x.array → i ≡ x.index → a ≡ element_address seen x → IsTaskWord v i a
 
-  scalar_word : (v i a home copy : ℕ) (b : Bool) → slice_get l.variables v ≡ Some (Scalar home copy) → i < 1 → a ≡ 2 * i + home → block_assigns v body ≡ b
+  pub scalar_there : (v home copy : ℕ) → slice_get l.variables v ≡ Some (Scalar home copy) → IsScalarAt seen v
+  scalar_there v home copy e = subst IsScalarPlace (sym (scalar_seen (some_path_writes body) l.variables v home copy e)) tt
+
+  -- an element of an array is one for the task
+  pub element_there : (v i elements n : ℕ) (copies : Option ArrayCopies) → slice_get l.variables v ≡ Some (Array elements n copies) → i < n
+      → IsElement seen (record { array = v; index = i }) × (element_address seen (record { array = v; index = i }) ≡ 2 * i + elements)
+  element_there v i elements n copies e h = ⊎_elim written unwritten (cases_Bool (some_path_writes body v))
+    where
+      written : some_path_writes body v ≡ true
+          → IsElement seen (record { array = v; index = i }) × (element_address seen (record { array = v; index = i }) ≡ 2 * i + elements)
+      written w =
+          let at = array_seen (some_path_writes body) l.variables v elements n copies e w in
+          (record { elements = elements; length = n; copies = copies; is_array = record { place = at }; below = h }, ap (λ o. element_in o i) at)
+
+      unwritten : some_path_writes body v ≡ false
+          → IsElement seen (record { array = v; index = i }) × (element_address seen (record { array = v; index = i }) ≡ 2 * i + elements)
+      unwritten w =
+          let at = array_read (some_path_writes body) l.variables v elements n copies e w in
+          (record { elements = elements; length = n; copies = None; is_array = record { place = at }; below = h }, ap (λ o. element_in o i) at)
+
+  scalar_word : (v i a home copy : ℕ) (b : Bool) → slice_get l.variables v ≡ Some (Scalar home copy) → i < 1 → a ≡ 2 * i + home → is_private_in body v ≡ b
       → IsTaskWord v i a
-  scalar_word v i a home copy true e h at assigned =
-      private (record { number = v; home = home; copy = copy }) (privates.each v home copy e assigned) (omega (arith, h, at))
+  scalar_word v i a home copy true e h at is =
+      private (record { number = v; home = home; copy = copy }) (privates.each v home copy e is) (omega (arith, h, at))
   scalar_word v i a home copy false e h at left =
       let here : home ≡ a = omega (arith, h, at) in
-      left_there (subst IsScalarPlace (sym e) tt) (omega (arith, h)) (privates.left v home copy e left ∙ here)
+      left_there (scalar_there v home copy e) (omega (arith, h)) (privates.left v home copy e left ∙ here)
 
   word_by : (v i a : ℕ) (place : VariablePlace) → slice_get l.variables v ≡ Some place → i < (home_region place).words → a ≡ 2 * i +
       (home_region place).address → IsTaskWord v i a
-  word_by v i a (Scalar home copy) e h at = scalar_word v i a home copy (block_assigns v body) e h at refl
+  word_by v i a (Scalar home copy) e h at = scalar_word v i a home copy (is_private_in body v) e h at refl
   word_by v i a (Array elements length copies) e h at =
-      let x : Element = record { array = v; index = i } in
-      element x (record { elements = elements; length = length; copies = copies; is_array = record { place = e }; below = h }) refl refl
-      (at ∙ sym (ap (λ o. element_in o i) e))
+      let x = element_there v i elements length copies e h in
+      element (record { array = v; index = i }) x.0 refl refl (at ∙ sym x.1)
 
   pub task_word : (v i a : ℕ) → IsWordOf l v i a → IsTaskWord v i a
   task_word v i a h = word_by v i a h.place h.at h.below h.address
 
   -- an element's address is that of its word
-  pub element_word : (x : Element) → IsElement (places_of l t) x → IsWordOf l x.array x.index (element_address (places_of l t) x)
-  element_word x h = record {
+  pub element_word : (x : Element) → IsElement seen x → IsWordOf l x.array x.index (element_address seen x)
+  element_word x h = word_of_seen body l x.array x.index (element_address seen x) (record {
     place = Array h.elements h.length h.copies;
     at = h.is_array.place;
     below = h.below;
     address = ap (λ o. element_in o x.index) h.is_array.place;
-  }
+  })

@@ -2,5 +2,5 @@
 
 -- What one turn of the loops of the analysis finds.
 pub use Rattle.war_analysis.proofs.Steps.{element}
--- A task's private scalars are as many as are counted.
-pub use Rattle.war_analysis.proofs.Counted.{privates_counted}
+-- Scalars that are marked are at most as many as are counted.
+pub use Rattle.war_analysis.proofs.Counted.{marked_are_counted}

@@ -1,7 +1,7 @@
 -- What one turn of the loops of the analysis finds.
 use Rattle.std.proofs.Common.{◌≡◌, ℕ, zero, suc, ◌+◌, ◌<◌, Bool, true, false, ◌&&◌, not, if◌then◌else◌, List, [], ◌∷◌, ◌++◌, length, map, get_or, refl, ap, sym}
 use Rattle.std.proofs.Common.{◌∙◌, subst, inl, inr, arith, Option, Some, None}
-use Rattle.std.specs.Prelude.{slice_get, IsSomeAnd}
+use Rattle.std.specs.Prelude.{slice_get, IsSomeAnd, IsTrue, ◌↔◌}
 use Rattle.std.specs.Option.{option_map}
 use Rattle.std.proofs.lemmas.Option.{slice_get_read, slice_get_past, get_or_from_slice_get, slice_get-map, same_Some}
 use Rattle.std.proofs.lemmas.List.{length_push, length-map}
@@ -13,7 +13,9 @@ use Rattle.task_ast.specs.declared.Stmt.{Stmt}
 use Rattle.task_ast.specs.declared.names.VariableName.{VariableName}
 use Rattle.task_ast.specs.declared.names.TaskName.{TaskName}
 use Rattle.task_ast.specs.View.{block_view, task_of}
-use Rattle.cost_bound.specs.Counts.{Code, block_assigns}
+use Rattle.task_ast.specs.declared.names.Variable.TheVariants.{Shared}
+use Rattle.cost_bound.specs.path_sums.Access.{writes, SomePath, IsPrivate}
+use Rattle.cost_bound.specs.Counts.{Code}
 use Rattle.cost_bound.specs.Allowance.{CheckedTask}
 use Rattle.war_analysis.specs.PlanValue.{TaskPlanValue}
 use Rattle.war_analysis.specs.Plans.{is_scalar, IsPrivateIn, IsVersionedIn, IsTaskPlan, ArePlans}
@@ -37,41 +39,48 @@ private_within shared code i h = within shared i (λ d. is_scalar d.extent ≡ t
 pub versioned_within : (shared : List SharedDeclaration) (code : Code) (i : ℕ) → IsVersionedIn shared code i → i < length shared
 versioned_within shared code i h = within shared i (λ d. is_scalar d.extent ≡ false) h.array
 
--- one variable, its mark and whether it is found
+-- one variable, what the paths say of it, and whether it is found
 module _ (shared : List SharedDeclaration) (code : Code) (i : ℕ) (extent : Extent) (mark r : Bool)
-    (at : (d : SharedDeclaration) → slice_get shared i ≡ Some d → extent ≡ d.extent) (marked : mark ≡ block_assigns i code) where
-  pub is_private : (d : SharedDeclaration) → slice_get shared i ≡ Some d → r ≡ (mark && is_scalar extent) → r ≡ true → IsPrivateIn shared code i
-  is_private d there e h =
+    (at : (d : SharedDeclaration) → slice_get shared i ≡ Some d → extent ≡ d.extent) where
+  pub private_found : IsTrue mark ↔ IsPrivate code (Shared i) → (d : SharedDeclaration) → slice_get shared i ≡ Some d → r ≡ (mark && is_scalar extent)
+      → r ≡ true
+      → IsPrivateIn shared code i
+  private_found marked d there e h =
       let found : (mark && is_scalar extent) ≡ true = sym e ∙ h in
       record {
         scalar =
             some_and (slice_get shared i) (λ d. is_scalar d.extent ≡ true) d there
             (ap is_scalar (sym (at d there)) ∙ (and_parts mark (is_scalar extent) found).1);
-        assigned = sym marked ∙ (and_parts mark (is_scalar extent) found).0;
+        owed = marked.0 (and_parts mark (is_scalar extent) found).0;
       }
 
-  pub not_private : (d : SharedDeclaration) → slice_get shared i ≡ Some d → r ≡ (mark && is_scalar extent) → r ≡ false → IsPrivateIn shared code i → ⊥
-  not_private d there e h p =
+  pub private_missed : IsTrue mark ↔ IsPrivate code (Shared i) → (d : SharedDeclaration) → slice_get shared i ≡ Some d → r ≡ (mark && is_scalar extent)
+      → r ≡ false
+      → IsPrivateIn shared code i → ⊥
+  private_missed marked d there e h p =
       let found =
-      and_from mark (is_scalar extent) (marked ∙ p.assigned)
+      and_from mark (is_scalar extent) (marked.1 p.owed)
       (ap is_scalar (at d there) ∙ and_some (slice_get shared i) (λ d. is_scalar d.extent ≡ true) d there p.scalar) in
       let clash : true ≡ false = sym found ∙ sym e ∙ h in cc
 
-  pub is_versioned : (d : SharedDeclaration) → slice_get shared i ≡ Some d → r ≡ (mark && not (is_scalar extent)) → r ≡ true → IsVersionedIn shared code i
-  is_versioned d there e h =
+  pub versioned_found : IsTrue mark ↔ SomePath code (writes (Shared i)) → (d : SharedDeclaration) → slice_get shared i ≡ Some d
+      → r ≡ (mark && not (is_scalar extent))
+      → r ≡ true → IsVersionedIn shared code i
+  versioned_found marked d there e h =
       let found : (mark && not (is_scalar extent)) ≡ true = sym e ∙ h in
       record {
         array =
             some_and (slice_get shared i) (λ d. is_scalar d.extent ≡ false) d there
             (ap is_scalar (sym (at d there)) ∙ not-true (is_scalar extent) (and_parts mark (not (is_scalar extent)) found).1);
-        assigned = sym marked
-            ∙ (and_parts mark (not (is_scalar extent)) found).0;
+        written = marked.0 (and_parts mark (not (is_scalar extent)) found).0;
       }
 
-  pub not_versioned : (d : SharedDeclaration) → slice_get shared i ≡ Some d → r ≡ (mark && not (is_scalar extent)) → r ≡ false → IsVersionedIn shared code i → ⊥
-  not_versioned d there e h p =
+  pub versioned_missed : IsTrue mark ↔ SomePath code (writes (Shared i)) → (d : SharedDeclaration) → slice_get shared i ≡ Some d
+      → r ≡ (mark && not (is_scalar extent))
+      → r ≡ false → IsVersionedIn shared code i → ⊥
+  versioned_missed marked d there e h p =
       let found =
-      and_from mark (not (is_scalar extent)) (marked ∙ p.assigned)
+      and_from mark (not (is_scalar extent)) (marked.1 p.written)
       (ap not (ap is_scalar (at d there) ∙ and_some (slice_get shared i) (λ d. is_scalar d.extent ≡ false) d there p.array)) in
       let clash : true ≡ false = sym found ∙ sym e ∙ h in cc
 
@@ -92,22 +101,23 @@ extent_at : (shared : List SharedDeclaration) (i : ℕ) (extent : Extent) → ((
 extent_at shared i extent h d e = h d ∙ ap (λ x. x.extent) (get_or_from_slice_get shared i d d e)
 
 module _ (shared : List SharedDeclaration) (code : Code) (n : ℕ) (extent : Extent) (mark r : Bool) (xs ys : List ℕ)
-    (lt : n < length shared) (at : (d : SharedDeclaration) → extent ≡ (get_or shared n d).extent) (marked : mark ≡ block_assigns n code)
-    (e : ys ≡ (if r then xs ++ n ∷ [] else xs)) where
-  pub next_private : r ≡ (mark && is_scalar extent) → AreNumbersBelow (IsPrivateIn shared code) n xs → AreNumbersBelow (IsPrivateIn shared code) (n + 1) ys
-  next_private is h =
+    (lt : n < length shared) (at : (d : SharedDeclaration) → extent ≡ (get_or shared n d).extent) (e : ys ≡ (if r then xs ++ n ∷ [] else xs)) where
+  pub next_private : IsTrue mark ↔ IsPrivate code (Shared n) → r ≡ (mark && is_scalar extent) → AreNumbersBelow (IsPrivateIn shared code) n xs
+      → AreNumbersBelow (IsPrivateIn shared code) (n + 1) ys
+  next_private marked is h =
       let d = element shared n lt in
       let here = extent_at shared n extent at in
-      next (IsPrivateIn shared code) n xs ys r (is_private shared code n extent mark r here marked d.0 d.1 is)
-      (not_private shared code n extent mark r here marked d.0 d.1 is) e h
+      next (IsPrivateIn shared code) n xs ys r (private_found shared code n extent mark r here marked d.0 d.1 is)
+      (private_missed shared code n extent mark r here marked d.0 d.1 is) e h
 
-  pub next_versioned : r ≡ (mark && not (is_scalar extent)) → AreNumbersBelow (IsVersionedIn shared code) n xs
+  pub next_versioned : IsTrue mark ↔ SomePath code (writes (Shared n)) → r ≡ (mark && not (is_scalar extent))
+      → AreNumbersBelow (IsVersionedIn shared code) n xs
       → AreNumbersBelow (IsVersionedIn shared code) (n + 1) ys
-  next_versioned is h =
+  next_versioned marked is h =
       let d = element shared n lt in
       let here = extent_at shared n extent at in
-      next (IsVersionedIn shared code) n xs ys r (is_versioned shared code n extent mark r here marked d.0 d.1 is)
-      (not_versioned shared code n extent mark r here marked d.0 d.1 is) e h
+      next (IsVersionedIn shared code) n xs ys r (versioned_found shared code n extent mark r here marked d.0 d.1 is)
+      (versioned_missed shared code n extent mark r here marked d.0 d.1 is) e h
 
 -- ---- one more plan
 

@@ -1,14 +1,10 @@
 -- The laws of plans.
-use Rattle.std.proofs.Common.{◌≡◌, zero, suc, List, [], ◌∷◌, refl, ap, ◌∙◌, arith, None}
+use Rattle.std.proofs.Common.{◌≡◌, zero, suc, List, [], ◌∷◌, refl, ap, ◌∙◌, arith}
 use Rattle.task_ast.specs.declared.SharedDeclaration.{SharedDeclaration}
-use Rattle.cost_bound.specs.path_checks.Firsts.{IsFirst}
-use Rattle.cost_bound.specs.path_checks.Loops.{BadLoopAt}
 use Rattle.cost_bound.specs.Allowance.{CheckedTask, CheckedProgram}
 use Rattle.war_analysis.specs.PlanValue.{TaskPlanValue}
 use Rattle.war_analysis.specs.Plans.{IsPrivateIn, IsVersionedIn, IsTaskPlan, ArePlans, IsPlan}
-use Rattle.war_analysis.specs.Laws.{CopiesAreOwed}
 use Rattle.war_analysis.proofs.Numbers.{one_list}
-use Rattle.war_analysis.proofs.Owed.{path_assigns, some_task}
 
 same_plan : (shared : List SharedDeclaration) (task : CheckedTask) (a b : TaskPlanValue) → IsTaskPlan shared task.body a → IsTaskPlan shared task.body b → a ≡ b
 same_plan shared task a b x y =
@@ -32,8 +28,3 @@ same_plans shared (t ∷ ts) (a ∷ as') (b ∷ bs) x y =
 
 pub one_plan : (p : CheckedProgram) (a b : List TaskPlanValue) → IsPlan p a → IsPlan p b → a ≡ b
 one_plan p a b x y = same_plans p.shared p.tasks a b x y
-
-pub copies_owed : (p : CheckedProgram) → IsFirst None (BadLoopAt p) → CopiesAreOwed p
-copies_owed p good k task i at locals scalar private =
-    let path = private.0 in
-    record { scalar = scalar; assigned = path_assigns i task.body path.0 path.1 path.2 locals (λ q bad. good q (some_task p.tasks k task q at bad)) path.3 }

@@ -3,7 +3,9 @@ use Rattle.std.specs.Prelude.{◌≡◌, ◌<◌, ℕ, Bool, true, false, List, 
 use Rattle.task_ast.specs.declared.Extent.{Extent}
 use Rattle.task_ast.specs.declared.Extent.TheVariants.{Scalar, Array}
 use Rattle.task_ast.specs.declared.SharedDeclaration.{SharedDeclaration}
-use Rattle.cost_bound.specs.Counts.{Code, block_assigns}
+use Rattle.task_ast.specs.declared.names.Variable.TheVariants.{Shared}
+use Rattle.cost_bound.specs.path_sums.Access.{writes, SomePath, IsPrivate}
+use Rattle.cost_bound.specs.Counts.{Code}
 use Rattle.cost_bound.specs.Allowance.{CheckedTask, CheckedProgram}
 use Rattle.war_analysis.specs.PlanValue.{TaskPlanValue}
 
@@ -20,15 +22,16 @@ IsScalarAt shared i = IsSomeAnd (slice_get shared i) (λ d. is_scalar d.extent �
 abbrev pub IsArrayAt : List SharedDeclaration → ℕ → Type 0
 IsArrayAt shared i = IsSomeAnd (slice_get shared i) (λ d. is_scalar d.extent ≡ false)
 
--- A shared scalar is private in a task where it stands on the left of an assignment there. Every scalar that has to be is among these.
+-- A shared scalar is private in a task exactly where some path of the task writes it, and not every path writes it before it reads it
+-- and before its transition. A scalar that the task writes and that isn't private in it stays in place.
 pub record IsPrivateIn (shared : List SharedDeclaration) (code : Code) (i : ℕ) : Type 0 where
   pub scalar : IsScalarAt shared i
-  pub assigned : block_assigns i code ≡ true
+  pub owed : IsPrivate code (Shared i)
 
--- a shared array is versioned in a task where one of its elements stands on the left of an assignment there
+-- a shared array is versioned in a task exactly where some path of the task writes one of its elements
 pub record IsVersionedIn (shared : List SharedDeclaration) (code : Code) (i : ℕ) : Type 0 where
   pub array : IsArrayAt shared i
-  pub assigned : block_assigns i code ≡ true
+  pub written : SomePath code (writes (Shared i))
 
 -- exactly the numbers that are so, in ascending order
 pub record AreNumbers (P : ℕ → Type 0) (xs : List ℕ) : Type 0 where

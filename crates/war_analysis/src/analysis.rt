@@ -4,10 +4,11 @@ ghost use Rattle.task_ast.specs.View.{block_view, task_of, program_of};
 ghost use Rattle.war_analysis.specs.Plans.{is_scalar, IsPrivateIn, IsVersionedIn, AreNumbers, IsTaskPlan, ArePlans, IsPlan};
 
 use crate::plan::{Plan, TaskPlan};
-use cost_bound::assigned_variables;
+use path_sums::{is_private, is_written};
 use std::alloc::{AllocError, Global};
 use task_ast::{
-    CheckedSource, Extent, SharedDeclaration, Stmt, TaskDeclaration, TaskName, VariableName,
+    CheckedSource, Extent, SharedDeclaration, Stmt, TaskDeclaration, TaskName, Variable,
+    VariableName,
 };
 use task_check::Checked;
 
@@ -20,18 +21,18 @@ fn is_scalar(extent: Extent) -> bool
     }
 }
 
-// Whether a variable is private in a task, by whether it stands on the left of an assignment there.
-fn is_private(assigned: bool, extent: Extent) -> bool
-    ensures { result ≡ (assigned && is_scalar extent) }
+// Whether a variable is a private scalar, by whether the paths of the task make it private.
+fn is_private_scalar(private: bool, extent: Extent) -> bool
+    ensures { result ≡ (private && is_scalar extent) }
 {
-    assigned && is_scalar(extent)
+    private && is_scalar(extent)
 }
 
-// Whether a variable is versioned in a task.
-fn is_versioned(assigned: bool, extent: Extent) -> bool
-    ensures { result ≡ (assigned && not (is_scalar extent)) }
+// Whether a variable is a versioned array, by whether some path of the task writes it.
+fn is_versioned_array(written: bool, extent: Extent) -> bool
+    ensures { result ≡ (written && not (is_scalar extent)) }
 {
-    assigned && !is_scalar(extent)
+    written && !is_scalar(extent)
 }
 
 // Adds a number that was found behind the others.
@@ -53,10 +54,10 @@ fn private_scalars(
     requires { length shared.now ≤ 256 }
     ensures { IfOk result (λ v. AreNumbers (IsPrivateIn shared.now (block_view body.now)) v.items) }
 {
-    let assigned = assigned_variables(body);
     let mut numbers = Vec::new(alloc);
     for i in 0..shared.len() {
-        let found = is_private(assigned[i], shared[i].extent);
+        let private = is_private(Variable::Shared(i as u32), body);
+        let found = is_private_scalar(private, shared[i].extent);
         push_if(&mut numbers, i as u32, found)?;
     }
     Ok(numbers)
@@ -70,11 +71,11 @@ fn versioned_arrays(
     requires { length shared.now ≤ 256 }
     ensures { IfOk result (λ v. AreNumbers (IsVersionedIn shared.now (block_view body.now)) v.items) }
 {
-    let assigned = assigned_variables(body);
     let mut numbers = Vec::new(alloc);
     for i in 0..shared.len() {
-        let versioned = is_versioned(assigned[i], shared[i].extent);
-        push_if(&mut numbers, i as u32, versioned)?;
+        let written = is_written(Variable::Shared(i as u32), body);
+        let found = is_versioned_array(written, shared[i].extent);
+        push_if(&mut numbers, i as u32, found)?;
     }
     Ok(numbers)
 }
@@ -120,9 +121,8 @@ fn plan_of(alloc: Global, source: &CheckedSource) -> Result<Plan, AllocError>
 
 /// What each task of the source works on in copies; or no memory is left.
 ///
-/// A task's private scalars are the shared scalars that stand on the left of an assignment in it, its versioned arrays those
-/// of which an element stands there. These are more than has to be copied: a scalar that each path of the task writes before it
-/// reads it, and one that no path comes to write, are copied all the same.
+/// A task's private scalars are exactly the shared scalars that some path of it writes, and that not every path writes before it
+/// reads them and before its transition; its versioned arrays are exactly those that some path writes.
 pub fn analyse(alloc: Global, checked: &Checked) -> Result<Plan, AllocError>
     ensures { IfOk result (IsPlan (program_of checked.now.source)) }
 {

@@ -6,5 +6,5 @@ mod laws;
 mod plan;
 
 pub use analysis::analyse;
-pub use laws::{copies_where_owed, one_plan, scalars_are_counted};
+pub use laws::one_plan;
 pub use plan::{Plan, TaskPlan};

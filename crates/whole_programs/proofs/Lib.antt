@@ -9,6 +9,8 @@ mod Declared
 mod Symbols
 mod Walk
 mod Tasks
+mod Written
+mod Few
 mod Tokens
 mod Grammar
 mod Sources

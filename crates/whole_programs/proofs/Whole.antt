@@ -13,7 +13,9 @@ use Rattle.lower.proofs.memory_map.Interface.{even_of}
 use Rattle.lower.specs.array_versions.Program as word
 use Rattle.lower.specs.array_versions.Form.{IsWhole, OfWords}
 use Rattle.lower.specs.memory_map.Spots.{Places, places_of}
-use Rattle.lower.specs.Lowered.{lowered_block, lowered_tasks}
+use Rattle.lower.specs.Seen.{some_path_writes, map_seen}
+use Rattle.lower.specs.Lowered.{lowered_block, lowered_task, lowered_tasks}
+use Rattle.lower.proofs.Interface.{privates_seen, seen_laid_out}
 use Rattle.whole_programs.specs.StackLaws.{enough}
 use Rattle.whole_programs.specs.Laws.{TasksAreWhole, ProgramsAreWhole}
 use Rattle.whole_programs.proofs.Ways.{task_way}
@@ -40,18 +42,20 @@ block_whole p shared b words even checked =
 pub tasks_are_whole : TasksAreWhole
 tasks_are_whole text program allow plans l laid k task t e f =
     let rules = laid.layout.rules in
-    block_whole (places_of l t) program.shared task.body
-    (task_places l rules t (all_at (λ t. All (HasItsPlace l.variables) t.privates) l.tasks k t rules.privates f)) (even_of l rules).commit
+    let seen = seen_laid_out (some_path_writes task.body) l rules in
+    let privates = all_at (λ t. All (HasItsPlace l.variables) t.privates) l.tasks k t rules.privates f in
+    block_whole (places_of (map_seen task.body l) t) program.shared task.body
+    (task_places (map_seen task.body l) seen t (privates_seen (some_path_writes task.body) l.variables t.privates privates)) (even_of l rules).commit
     (task_checked text program laid.accepted.checks k task e)
 
 -- what holds of each task's program by number holds of all
 all_lowered : (P : word.Program → Type 0) (l : MemoryMap) (tasks : List (Task VariableName TaskName)) (layouts : List TaskPlace)
     → ((k : ℕ) (task : Task VariableName TaskName) (t : TaskPlace) → slice_get tasks k ≡ Some task → slice_get layouts k ≡ Some t
-    → P (lowered_block (places_of l t) task.body)) → All P (lowered_tasks l tasks layouts)
+    → P (lowered_task l t task.body)) → All P (lowered_tasks l tasks layouts)
 all_lowered P l [] layouts h = All-nil P
 all_lowered P l (task ∷ tasks) [] h = All-nil P
 all_lowered P l (task ∷ tasks) (t ∷ layouts) h =
-    All-cons P (lowered_block (places_of l t) task.body) (lowered_tasks l tasks layouts) (h 0 task t refl refl)
+    All-cons P (lowered_task l t task.body) (lowered_tasks l tasks layouts) (h 0 task t refl refl)
     (all_lowered P l tasks layouts (λ k x y e f. h (suc k) x y e f))
 
 pub programs_are_whole : ProgramsAreWhole

@@ -1,17 +1,17 @@
 -- What holds of the word programs of accepted sources.
-use Rattle.std.specs.Prelude.{◌≡◌, ℕ, List, All, Some, slice_get}
+use Rattle.std.specs.Prelude.{◌≡◌, ◌≤◌, ℕ, List, All, Some, slice_get, length}
 use Rattle.lower.specs.task_ast.Tree.{Program, Task}
 use Rattle.lower.specs.task_ast.declared.names.VariableName.{VariableName}
 use Rattle.lower.specs.task_ast.declared.names.TaskName.{TaskName}
 use Rattle.lower.specs.cost_bound.declared.allowance.Allow.{Allow}
+use Rattle.lower.specs.cost_bound.Allowance.{scalars_of}
 use Rattle.source_meaning.specs.Acceptance.{IsAcceptedText}
 use Rattle.privatise.specs.war_analysis.PlanValue.{TaskPlanValue}
 use Rattle.privatise.specs.war_analysis.Plans.{IsPlan}
 use Rattle.lower.specs.memory_map.MemoryMap.{MemoryMap, TaskPlace}
 use Rattle.privatise.specs.Layouts.{IsLayout}
 use Rattle.lower.specs.array_versions.Form.{IsWhole, OfWords}
-use Rattle.lower.specs.memory_map.Spots.{places_of}
-use Rattle.lower.specs.Lowered.{lowered_block, lowered}
+use Rattle.lower.specs.Lowered.{lowered_task, lowered}
 
 -- an accepted text, with a plan and a layout of its source
 pub record IsLaidOutText (text : List ℕ) (program : Program VariableName TaskName) (allow : Allow) (plans : List TaskPlanValue) (l : MemoryMap) : Type 0 where
@@ -31,8 +31,13 @@ OfTasks F = OfTexts (λ program l. (k : ℕ) (task : Task VariableName TaskName)
 
 -- the word program of each task is whole, and of words
 abbrev pub TasksAreWhole : Type 0
-TasksAreWhole = OfTasks (λ task l t. IsWhole (lowered_block (places_of l t) task.body) × OfWords (lowered_block (places_of l t) task.body))
+TasksAreWhole = OfTasks (λ task l t. IsWhole (lowered_task l t task.body) × OfWords (lowered_task l t task.body))
 
 -- the same of all of them
 abbrev pub ProgramsAreWhole : Type 0
 ProgramsAreWhole = OfTexts (λ program l. All IsWhole (lowered l program) × All OfWords (lowered l program))
+
+-- the private scalars of each task are at most as many as its allowance counts, which counts those on the left of an assignment
+abbrev pub PrivatesAreFew : Type 0
+PrivatesAreFew = OfTexts (λ program l. (k : ℕ) (task : Task VariableName TaskName) (t : TaskPlace)
+    → slice_get program.tasks k ≡ Some task → slice_get l.tasks k ≡ Some t → length t.privates ≤ scalars_of program.shared task.body)

@@ -1,6 +1,6 @@
 //! Laws of the word programs of accepted sources. The functions do nothing: their contracts are the laws.
 
-ghost use Rattle.whole_programs.specs.Laws.{TasksAreWhole, ProgramsAreWhole};
+ghost use Rattle.whole_programs.specs.Laws.{TasksAreWhole, ProgramsAreWhole, PrivatesAreFew};
 ghost use Rattle.whole_programs.specs.UseLaws.{NamesAreUsedAsDeclared};
 ghost use Rattle.whole_programs.specs.StackLaws.{SourcesFit};
 
@@ -26,4 +26,9 @@ pub fn tasks_are_whole()
 /// The same of the programs of all tasks.
 pub fn programs_are_whole()
     ensures { ProgramsAreWhole }
+{}
+
+/// The private scalars of each task are at most as many as its allowance counts.
+pub fn privates_are_few()
+    ensures { PrivatesAreFew }
 {}

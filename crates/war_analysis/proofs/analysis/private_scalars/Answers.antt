@@ -13,10 +13,10 @@ loop-i-init c =
 
 pub loop-i-preserved : goal.loop-i-preserved
 loop-i-preserved c =
-    next_private c.args.shared.now (block_view c.args.body.now) c.loop-i.i _ _ c.is_private-found.result c.loop-i.numbers.items c.push_if.new.numbers.items
+    next_private c.args.shared.now (block_view c.args.body.now) c.loop-i.i _ c.is_private-private.result c.is_private_scalar-found.result
+    c.loop-i.numbers.items c.push_if.new.numbers.items
     c.loop-i-test.true (λ d. ap (λ x. x.extent) (get_or_default c.args.shared.now c.loop-i.i _ d c.loop-i-test.true))
-    (c.assigned_variables-assigned.ensures c.loop-i.i (omega arith))
-    c.in_ok-push_if.ensures c.is_private-found.ensures c.loop-i.invariant
+    c.in_ok-push_if.ensures c.is_private-private.ensures c.is_private_scalar-found.ensures c.loop-i.invariant
 
 pub returns : goal.returns
 returns c =

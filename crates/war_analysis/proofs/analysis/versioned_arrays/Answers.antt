@@ -13,11 +13,10 @@ loop-i-init c =
 
 pub loop-i-preserved : goal.loop-i-preserved
 loop-i-preserved c =
-    next_versioned c.args.shared.now (block_view c.args.body.now) c.loop-i.i _ _ c.is_versioned-versioned.result c.loop-i.numbers.items
-    c.push_if.new.numbers.items
+    next_versioned c.args.shared.now (block_view c.args.body.now) c.loop-i.i _ c.is_written-written.result c.is_versioned_array-found.result
+    c.loop-i.numbers.items c.push_if.new.numbers.items
     c.loop-i-test.true (λ d. ap (λ x. x.extent) (get_or_default c.args.shared.now c.loop-i.i _ d c.loop-i-test.true))
-    (c.assigned_variables-assigned.ensures c.loop-i.i (omega arith))
-    c.in_ok-push_if.ensures c.is_versioned-versioned.ensures c.loop-i.invariant
+    c.in_ok-push_if.ensures c.is_written-written.ensures c.is_versioned_array-found.ensures c.loop-i.invariant
 
 pub returns : goal.returns
 returns c =

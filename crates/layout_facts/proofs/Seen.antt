@@ -1,0 +1,64 @@
+-- What a task sees of a memory map stands in the whole map.
+use Rattle.std.proofs.Common.{◌≡◌, ℕ, ◌+◌, ◌*◌, ◌<◌, true, false, List, Option, Some, None, refl, sym, ap, ◌∙◌, All}
+use Rattle.std.specs.Prelude.{slice_get}
+use Rattle.std.proofs.lemmas.List.Elements.{All-weaker}
+use Rattle.compiled_model.specs.lower.Seen.{some_path_writes, places_seen, map_seen}
+use Rattle.compiled_model.specs.lower.Spots.{Room, HasRoom, AreListed}
+use Rattle.compiled_model.proofs.lower.Interface.{scalar_seen, array_seen, array_read, SeenFrom, scalar, array, read, seen_from}
+use Rattle.compiled_model.specs.cost_bound.Counts.{Code}
+use Rattle.compiled_model.specs.memory_map.declared.place.ArrayCopies.{ArrayCopies}
+use Rattle.compiled_model.specs.memory_map.declared.place.VariablePlace.{VariablePlace}
+use Rattle.compiled_model.specs.memory_map.declared.place.VariablePlace.TheVariants.{Scalar, Array}
+use Rattle.compiled_model.specs.memory_map.MemoryMap.{MemoryMap, TaskPlace}
+use Rattle.compiled_model.specs.memory_map.Places.{home_region}
+use Rattle.compiled_model.specs.memory_map.Spots.{places_of, Element, IsCopied, IsWordOf}
+
+module _ (body : Code) (l : MemoryMap) where
+  -- a word of a variable is the same word
+  pub word_of_seen : (v i a : ℕ) → IsWordOf (map_seen body l) v i a → IsWordOf l v i a
+  word_of_seen v i a w = by w.place (seen_from (some_path_writes body) l.variables v w.place w.at) w.below w.address
+    where
+      by : (place : VariablePlace) → SeenFrom l.variables v (some_path_writes body v) place → i < (home_region place).words
+          → a ≡ 2 * i + (home_region place).address → IsWordOf l v i a
+      by _ (scalar home copy at) b e = record { place = Scalar home copy; at = at; below = b; address = e }
+      by _ (array elements n copies at written) b e = record { place = Array elements n copies; at = at; below = b; address = e }
+      by _ (read elements n copies at unwritten) b e = record { place = Array elements n copies; at = at; below = b; address = e }
+
+  -- what has copies there is an array that the task writes
+  pub copied_seen : (v elements n : ℕ) (c : ArrayCopies) → slice_get (places_seen (some_path_writes body) 0 l.variables) v ≡ Some (Array elements n (Some c))
+      → slice_get l.variables v ≡ Some (Array elements n (Some c))
+  copied_seen v elements n c e = by (Array elements n (Some c)) refl (seen_from (some_path_writes body) l.variables v (Array elements n (Some c)) e)
+    where
+      by : (place : VariablePlace) → place ≡ Array elements n (Some c) → SeenFrom l.variables v (some_path_writes body v) place
+          → slice_get l.variables v ≡ Some (Array elements n (Some c))
+      by _ is (scalar home copy at) = absurd (cc is)
+      by _ is (array a m copies at written) = at ∙ ap (λ x. Some x) is
+      by _ is (read a m copies at unwritten) = absurd (cc is)
+
+  -- a scalar there is one in the whole map
+  pub scalar_of_seen : (v home copy : ℕ) → slice_get (places_seen (some_path_writes body) 0 l.variables) v ≡ Some (Scalar home copy)
+      → slice_get l.variables v ≡ Some (Scalar home copy)
+  scalar_of_seen v home copy e = by (Scalar home copy) refl (seen_from (some_path_writes body) l.variables v (Scalar home copy) e)
+    where
+      by : (place : VariablePlace) → place ≡ Scalar home copy → SeenFrom l.variables v (some_path_writes body v) place
+          → slice_get l.variables v ≡ Some (Scalar home copy)
+      by _ is (scalar h c at) = at ∙ ap (λ x. Some x) is
+      by _ is (array a m copies at written) = absurd (cc is)
+      by _ is (read a m copies at unwritten) = absurd (cc is)
+
+  pub is_copied : (layout : TaskPlace) (x : Element) → IsCopied (places_of (map_seen body l) layout) x → IsCopied (places_of l layout) x
+  is_copied layout x m = record {
+    elements = m.elements;
+    length = m.length;
+    copies = m.copies;
+    is_array = record { place = copied_seen x.array m.elements m.length m.copies m.is_array.place };
+    below = m.below;
+  }
+
+  pub room_seen : (layout : TaskPlace) (stores : ℕ → ℕ) (room : Room) → HasRoom (places_of l layout) stores room
+      → HasRoom (places_of (map_seen body l) layout) stores room
+  room_seen layout stores room h xs listed few =
+      h xs (record {
+        copied = All-weaker (IsCopied (places_of (map_seen body l) layout)) (IsCopied (places_of l layout)) (is_copied layout) xs listed.copied;
+        different = listed.different;
+      }) few

@@ -1,0 +1,28 @@
+-- A memory map as a task sees it: an array that no path of the task writes is read where it stands, so there it has no copies.
+use Rattle.std.specs.Prelude.{ℕ, ◌+◌, Bool, true, false, List, [], ◌∷◌, None}
+use Rattle.task_ast.specs.Paths.{CheckedBlock}
+use Rattle.task_ast.specs.declared.names.Variable.TheVariants.{Shared}
+use Rattle.path_sums.specs.Sums.{block_sum}
+use Rattle.path_sums.specs.Access.{summary}
+use Rattle.memory_map.specs.declared.place.VariablePlace.{VariablePlace}
+use Rattle.memory_map.specs.declared.place.VariablePlace.TheVariants.{Scalar, Array}
+use Rattle.memory_map.specs.MemoryMap.{MemoryMap}
+
+-- whether some path of a task writes a shared variable
+abbrev pub some_path_writes : CheckedBlock → ℕ → Bool
+some_path_writes body v = (block_sum (summary (Shared v)) body).writes
+
+-- the place of a variable in a task that writes it, and in one that doesn't
+abbrev pub place_seen : Bool → VariablePlace → VariablePlace
+place_seen written (Scalar home copy) = Scalar home copy
+place_seen true (Array elements length copies) = Array elements length copies
+place_seen false (Array elements length copies) = Array elements length None
+
+-- the places of the variables from a number on
+abbrev pub places_seen : (ℕ → Bool) → ℕ → List VariablePlace → List VariablePlace
+places_seen written v [] = []
+places_seen written v (x ∷ xs) = place_seen (written v) x ∷ places_seen written (v + 1) xs
+
+-- the memory map as a task with these statements sees it
+abbrev pub map_seen : CheckedBlock → MemoryMap → MemoryMap
+map_seen body m = record m { variables = places_seen (some_path_writes body) 0 m.variables }

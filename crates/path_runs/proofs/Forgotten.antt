@@ -1,0 +1,430 @@
+-- Where each path of a block writes a scalar before it reads it and before the transition, it makes no difference which word the scalar
+-- held: two runs from attempts that differ in this word alone read none of it while they differ, and don't end before they are one.
+use Rattle.std.proofs.Common.{◌≡◌, ℕ, zero, suc, ◌+◌, ◌-◌, ◌==◌, ◌<◌, ◌≤◌, List, [], ◌∷◌, ◌++◌, length, get_or, slice_set, Bool, true, false, ◌&&◌, ◌||◌, Option, Some, None, refl, sym, ap, ◌∙◌, subst, ⊎_elim, eq-eqb, arith, if◌then◌else◌}
+use Rattle.std.proofs.lemmas.Bool.{cases_Bool, cases_lt, eqb-true}
+use Rattle.std.proofs.lemmas.List.{set-set, get_or-set_same, get_or-set_other}
+use Rattle.task_ast.specs.Tree as t
+use Rattle.task_ast.specs.declared.names.Variable.{Variable}
+use Rattle.task_ast.specs.declared.names.Variable.TheVariants.{Shared, Local}
+use Rattle.task_ast.specs.Paths.{CheckedExpression, CheckedStatement, CheckedChoice, CheckedBlock}
+use Rattle.path_sums.specs.Sums.{expression_sum, statement_sum, choice_sum, block_sum}
+use Rattle.path_sums.specs.Access.{is_same, writes, SomePath, IsPrivate, summary, summary_unit, summary_read, summary_write, summary_seq, summary_join, private_of}
+use Rattle.path_sums.specs.declared.access.AccessSummary.{AccessSummary}
+use Rattle.path_sums.proofs.Interface.{writes_some, private_is}
+use Rattle.alp_words.specs.Words.{bit}
+use Rattle.source_values.specs.Values.{Variables, word_at, with_word, value_of, holds, is_settled, unary_value, binary_value, shift_value, joined_type, type_of, ◌>>?◌}
+use Rattle.source_values.specs.Statements.{Attempt, Outcome, goes_on, to_task, short, and_then, if_value, assigned, turns, run_statement, run_choice, run_block}
+use Rattle.path_runs.specs.Laws.{NoStoreInStatement, NoStoreInChoice, NoStoreIn, FirstWritesForget}
+
+-- ---- tests
+
+or_none : (a b : Bool) → (a || b) ≡ false → (a ≡ false) × (b ≡ false)
+or_none true b h = absurd (let no : true ≡ false = h in cc)
+or_none false b h = (refl, h)
+
+second_none : (a b : Bool) → (a && b) ≡ false → a ≡ true → b ≡ false
+second_none true b h e = h
+second_none false b h e = absurd (let no : false ≡ true = e in cc)
+
+both_hold : (a b : Bool) → a ≡ true → b ≡ true → (a && b) ≡ true
+both_hold true b e f = f
+both_hold false b e f = e
+
+first_holds : (a b : Bool) → (a && b) ≡ true → a ≡ true
+first_holds true b h = refl
+first_holds false b h = h
+
+second_holds : (a b : Bool) → (a && b) ≡ true → b ≡ true
+second_holds true b h = h
+second_holds false b h = absurd (let no : false ≡ true = h in cc)
+
+left_holds : (a b : Bool) → a ≡ true → (a || b) ≡ true
+left_holds true b h = refl
+left_holds false b h = absurd (let no : false ≡ true = h in cc)
+
+right_holds : (a b : Bool) → b ≡ true → (a || b) ≡ true
+right_holds true b h = refl
+right_holds false b h = h
+
+differs : (b : Bool) → b ≡ true → b ≡ false → ⊥
+differs true h k = let no : true ≡ false = k in cc
+differs false h k = let no : false ≡ true = h in cc
+
+-- ---- rows
+
+set_past : {A : Type 0} (xs : List A) (i : ℕ) (a : A) → length xs ≤ i → slice_set xs i a ≡ xs
+set_past [] i a h = refl
+set_past (x ∷ xs) zero a h = absurd (omega arith)
+set_past (x ∷ xs) (suc i) a h = ap (λ ys. x ∷ ys) (set_past xs i a (omega arith))
+
+set_swap : {A : Type 0} (xs : List A) (i j : ℕ) (a b : A) → (i ≡ j → ⊥) → slice_set (slice_set xs i a) j b ≡ slice_set (slice_set xs j b) i a
+set_swap [] i j a b h = refl
+set_swap (x ∷ xs) zero zero a b h = absurd (h refl)
+set_swap (x ∷ xs) zero (suc j) a b h = refl
+set_swap (x ∷ xs) (suc i) zero a b h = refl
+set_swap (x ∷ xs) (suc i) (suc j) a b h = ap (λ ys. x ∷ ys) (set_swap xs i j a b (λ e. h (ap suc e)))
+
+-- ---- what sums say
+
+-- nothing is read before it is written, and no transition comes before it is touched
+record IsClean (s : AccessSummary) : Type 0 where
+  exposed : s.exposed ≡ false
+  transitions : s.transitions_untouched ≡ false
+
+clean_first : (s u : AccessSummary) → IsClean (summary_seq s u) → IsClean s
+clean_first s u h = record { exposed = (or_none s.exposed _ h.exposed).0; transitions = (or_none s.transitions_untouched _ h.transitions).0 }
+
+clean_second : (s u : AccessSummary) → IsClean (summary_seq s u) → s.untouched ≡ true → IsClean u
+clean_second s u h e = record {
+  exposed = second_none s.untouched u.exposed (or_none s.exposed _ h.exposed).1 e;
+  transitions = second_none s.untouched u.transitions_untouched (or_none s.transitions_untouched _ h.transitions).1 e;
+}
+
+clean_left : (s u : AccessSummary) → IsClean (summary_join s u) → IsClean s
+clean_left s u h = record { exposed = (or_none s.exposed _ h.exposed).0; transitions = (or_none s.transitions_untouched _ h.transitions).0 }
+
+clean_right : (s u : AccessSummary) → IsClean (summary_join s u) → IsClean u
+clean_right s u h = record { exposed = (or_none s.exposed _ h.exposed).1; transitions = (or_none s.transitions_untouched _ h.transitions).1 }
+
+clean_turn : (a b : Bool) (s : AccessSummary) → (a ≡ true → ⊥) → IsClean (if a then summary_unit else (if b then s else summary_seq s s)) → IsClean s
+clean_turn true b s turns h = absurd (turns refl)
+clean_turn false true s turns h = h
+clean_turn false false s turns h = clean_first s s h
+
+turns_untouched : (a b : Bool) (s : AccessSummary) → s.untouched ≡ true → (if a then summary_unit else (if b then s else summary_seq s s)).untouched ≡ true
+turns_untouched true b s h = refl
+turns_untouched false true s h = h
+turns_untouched false false s h = both_hold s.untouched s.untouched h h
+
+bind_same : {A B : Type 0} (o : Option A) (f g : A → Option B) → ((x : A) → f x ≡ g x) → (o >>? f) ≡ (o >>? g)
+bind_same None f g h = refl
+bind_same (Some x) f g h = h x
+
+module _ (v word : ℕ) where
+  abbrev of_expression : CheckedExpression → AccessSummary
+  of_expression e = expression_sum (summary (Shared v)) e
+
+  abbrev of_statement : CheckedStatement → AccessSummary
+  of_statement s = statement_sum (summary (Shared v)) s
+
+  abbrev of_choice : CheckedChoice → AccessSummary
+  of_choice c = choice_sum (summary (Shared v)) c
+
+  abbrev of_block : CheckedBlock → AccessSummary
+  of_block b = block_sum (summary (Shared v)) b
+
+  abbrev of_write : Variable → AccessSummary
+  of_write x = if is_same (Shared v) x then summary_write else summary_unit
+
+  -- with the other word
+  abbrev other : Variables → Variables
+  other m = with_word m (Shared v) 0 word
+
+  abbrev other_in : Attempt → Attempt
+  other_in s = assigned s (Shared v) 0 word
+
+  -- ---- another variable's words
+
+  is_apart : (u : ℕ) → is_same (Shared v) (Shared u) ≡ false → u ≡ v → ⊥
+  is_apart u h e = differs (u == v) (eq-eqb u v e) h
+
+  word_same : (m : Variables) (x : Variable) (i : ℕ) → is_same (Shared v) x ≡ false → word_at (other m) x i ≡ word_at m x i
+  word_same m (Shared u) i h = ap (λ r. get_or r i 0) (get_or-set_other m.shared v u (slice_set (get_or m.shared v []) 0 word) [] (is_apart u h))
+  word_same m (Local n) i h = refl
+
+  set_later : (m : Variables) (x : Variable) (i w : ℕ) → is_same (Shared v) x ≡ false → with_word (other m) x i w ≡ other (with_word m x i w)
+  set_later m (Local n) i w h = refl
+  set_later m (Shared u) i w h =
+      let apart = is_apart u h in
+      let mine = slice_set (get_or m.shared v []) 0 word in
+      let its = slice_set (get_or m.shared u []) i w in
+      let read_its : get_or (slice_set m.shared v mine) u [] ≡ get_or m.shared u [] = get_or-set_other m.shared v u mine [] apart in
+      let read_mine : get_or (slice_set m.shared u its) v [] ≡ get_or m.shared v [] = get_or-set_other m.shared u v its [] (λ e. apart (sym e)) in
+      ap (λ xs. record m { shared = xs })
+      (ap (λ r. slice_set (slice_set m.shared v mine) u (slice_set r i w)) read_its
+      ∙ set_swap m.shared v u mine its (λ e. apart (sym e))
+      ∙ sym (ap (λ r. slice_set (slice_set m.shared u its) v (slice_set r 0 word)) read_mine))
+
+  -- ---- the scalar's own word
+
+  set_row : (rows : List (List ℕ)) (w : ℕ) (row : List ℕ) → get_or rows v [] ≡ row
+      → slice_set (slice_set rows v (slice_set row 0 word)) v (slice_set (get_or (slice_set rows v (slice_set row 0 word)) v []) 0 w)
+      ≡ slice_set rows v (slice_set row 0 w)
+  set_row rows w row is = ⊎_elim inside past (cases_lt v (length rows))
+    where
+      inside : v < length rows → slice_set (slice_set rows v (slice_set row 0 word)) v (slice_set (get_or (slice_set rows v (slice_set row 0 word)) v []) 0 w)
+          ≡ slice_set rows v (slice_set row 0 w)
+      inside l =
+          set-set rows v (slice_set row 0 word) (slice_set (get_or (slice_set rows v (slice_set row 0 word)) v []) 0 w)
+          ∙ ap (λ r. slice_set rows v (slice_set r 0 w)) (get_or-set_same rows v (slice_set row 0 word) [] l)
+          ∙ ap (λ r. slice_set rows v r) (set-set row 0 word w)
+
+      past : length rows ≤ v → slice_set (slice_set rows v (slice_set row 0 word)) v (slice_set (get_or (slice_set rows v (slice_set row 0 word)) v []) 0 w)
+          ≡ slice_set rows v (slice_set row 0 w)
+      past l =
+          set-set rows v (slice_set row 0 word) (slice_set (get_or (slice_set rows v (slice_set row 0 word)) v []) 0 w)
+          ∙ set_past rows v (slice_set (get_or (slice_set rows v (slice_set row 0 word)) v []) 0 w) l
+          ∙ sym (set_past rows v (slice_set row 0 w) l)
+
+  set_shared : (m : Variables) (w : ℕ) → with_word (other m) (Shared v) 0 w ≡ with_word m (Shared v) 0 w
+  set_shared m w = ap (λ xs. record m { shared = xs }) (set_row m.shared w (get_or m.shared v []) refl)
+
+  set_again : (m : Variables) (x : Variable) (w : ℕ) → is_same (Shared v) x ≡ true → with_word (other m) x 0 w ≡ with_word m x 0 w
+  set_again m (Shared u) w h = subst (λ z. with_word (other m) (Shared z) 0 w ≡ with_word m (Shared z) 0 w) (sym (eqb-true u v h)) (set_shared m w)
+  set_again m (Local n) w h = absurd (let no : false ≡ true = h in cc)
+
+  -- ---- an expression that doesn't read it
+
+  read_untouched : (b : Bool) → (if b then summary_read else summary_unit).exposed ≡ false → (if b then summary_read else summary_unit).untouched ≡ true
+  read_untouched true h = absurd (let no : true ≡ false = h in cc)
+  read_untouched false h = refl
+
+  unread : (b : Bool) → (if b then summary_read else summary_unit).exposed ≡ false → b ≡ false
+  unread true h = h
+  unread false h = refl
+
+  expression_untouched : (e : CheckedExpression) → (of_expression e).exposed ≡ false → (of_expression e).untouched ≡ true
+  unfolding summary
+  expression_untouched (t.number _) h = refl
+  expression_untouched (t.name n) h = read_untouched (is_same (Shared v) n.variable) h
+  expression_untouched (t.element n index) h =
+      let i = of_expression index in
+      let parts = or_none i.exposed _ h in
+      let first = expression_untouched index parts.0 in
+      both_hold i.untouched _ first (read_untouched (is_same (Shared v) n.variable) (second_none i.untouched _ parts.1 first))
+  expression_untouched t.sense h = refl
+  expression_untouched (t.unary _ a) h = expression_untouched a h
+  expression_untouched (t.binary _ a b) h =
+      let parts = or_none (of_expression a).exposed _ h in
+      let first = expression_untouched a parts.0 in
+      both_hold (of_expression a).untouched _ first (expression_untouched b (second_none (of_expression a).untouched _ parts.1 first))
+  expression_untouched (t.shift _ a _) h = expression_untouched a h
+  expression_untouched (t.short_circuit _ a b) h =
+      left_holds (of_expression a).untouched _ (expression_untouched a (or_none (of_expression a).exposed _ h).0)
+
+  value_same : (e : CheckedExpression) (m : Variables) (rs : List ℕ) → (of_expression e).exposed ≡ false → value_of e (other m) rs ≡ value_of e m rs
+  unfolding summary
+  value_same (t.number _) m rs h = refl
+  value_same (t.name n) m rs h = ap (λ w. Some (w, rs)) (word_same m n.variable 0 (unread (is_same (Shared v) n.variable) h))
+  value_same (t.element n index) m rs h =
+      let i = of_expression index in
+      let parts = or_none i.exposed _ h in
+      let first = expression_untouched index parts.0 in
+      let apart = unread (is_same (Shared v) n.variable) (second_none i.untouched _ parts.1 first) in
+      ap (λ o. o >>? λ i. Some (word_at (other m) n.variable i.0, i.1)) (value_same index m rs parts.0)
+      ∙ bind_same (value_of index m rs) (λ i. Some (word_at (other m) n.variable i.0, i.1)) (λ i. Some (word_at m n.variable i.0, i.1))
+      (λ i. ap (λ w. Some (w, i.1)) (word_same m n.variable i.0 apart))
+  value_same t.sense m rs h = refl
+  value_same (t.unary op a) m rs h = ap (λ o. o >>? λ x. Some (unary_value op x.0, x.1)) (value_same a m rs h)
+  value_same (t.binary op a b) m rs h =
+      let parts = or_none (of_expression a).exposed _ h in
+      let second = second_none (of_expression a).untouched _ parts.1 (expression_untouched a parts.0) in
+      let f : ℕ × List ℕ → ℕ × List ℕ → Option (ℕ × List ℕ) = λ x y. Some (binary_value op (joined_type (type_of a) (type_of b)) x.0 y.0, y.1) in
+      ap (λ o. o >>? λ x. value_of b (other m) x.1 >>? f x) (value_same a m rs parts.0)
+      ∙ bind_same (value_of a m rs) (λ x. value_of b (other m) x.1 >>? f x) (λ x. value_of b m x.1 >>? f x)
+      (λ x. ap (λ o. o >>? f x) (value_same b m x.1 second))
+  value_same (t.shift op a count) m rs h = ap (λ o. o >>? λ x. Some (shift_value op (type_of a) x.0 count.value, x.1)) (value_same a m rs h)
+  value_same (t.short_circuit op a b) m rs h =
+      let sides = or_none (of_expression a).exposed _ h in
+      let parts = or_none (of_expression a).exposed _ sides.1 in
+      let second = second_none (of_expression a).untouched _ parts.1 (expression_untouched a sides.0) in
+      let f : ℕ × List ℕ → Option (ℕ × List ℕ) → Option (ℕ × List ℕ) =
+      λ x o. if is_settled op x.0 then Some (bit (holds x.0), x.1) else (o >>? λ y. Some (bit (holds y.0), y.1)) in
+      ap (λ o. o >>? λ x. f x (value_of b (other m) x.1)) (value_same a m rs sides.0)
+      ∙ bind_same (value_of a m rs) (λ x. f x (value_of b (other m) x.1)) (λ x. f x (value_of b m x.1))
+      (λ x. ap (f x) (value_same b m x.1 second))
+
+  -- ---- outcomes
+
+  -- the same outcome, or both go on, and differ in the scalar's word alone, which none of the two has touched
+  data Alike (untouched : Bool) (o q : Outcome) : Type 0 where
+    same : o ≡ q → Alike untouched o q
+    apart : (a : Attempt) → untouched ≡ true → o ≡ goes_on a → q ≡ goes_on (other_in a) → Alike untouched o q
+
+  alike_if : (b c : Bool) (o q : Outcome) → (b ≡ true → c ≡ true) → Alike b o q → Alike c o q
+  alike_if b c o q f (same e) = same e
+  alike_if b c o q f (apart a e g h) = apart a (f e) g h
+
+  then_alike : (b c : Bool) (o q : Outcome) (next : Attempt → Outcome) → Alike b o q → ((a : Attempt) → b ≡ true → Alike c (next a) (next (other_in a)))
+      → Alike (b && c) (and_then o next) (and_then q next)
+  then_alike b c o q next (same e) k = same (ap (λ z. and_then z next) e)
+  then_alike b c o q next (apart a e f g) k = by (k a e)
+    where
+      by : Alike c (next a) (next (other_in a)) → Alike (b && c) (and_then o next) (and_then q next)
+      by (same d) = same (ap (λ z. and_then z next) f ∙ d ∙ sym (ap (λ z. and_then z next) g))
+      by (apart u d h i) = apart u (both_hold b c e d) (ap (λ z. and_then z next) f ∙ h) (ap (λ z. and_then z next) g ∙ i)
+
+  value_alike : (b : Bool) (e : CheckedExpression) (s : Attempt) (next : ℕ → Attempt → Outcome) → (of_expression e).exposed ≡ false
+      → ((w : ℕ) (s : Attempt) → Alike b (next w s) (next w (other_in s)))
+      → Alike b (if_value (value_of e s.variables s.left) s next) (if_value (value_of e (other s.variables) s.left) (other_in s) next)
+  value_alike b e s next h k =
+      subst (λ o. Alike b (if_value (value_of e s.variables s.left) s next) (if_value o (other_in s) next)) (sym (value_same e s.variables s.left h))
+      (by (value_of e s.variables s.left))
+    where
+      by : (o : Option (ℕ × List ℕ)) → Alike b (if_value o s next) (if_value o (other_in s) next)
+      by None = same refl
+      by (Some x) = k x.0 (record s { left = x.1 })
+
+  write_alike : (x : Variable) (w : ℕ) (s : Attempt) → Alike (of_write x).untouched (goes_on (assigned s x 0 w)) (goes_on (assigned (other_in s) x 0 w))
+  write_alike x w s = by (is_same (Shared v) x) refl
+    where
+      by : (b : Bool) → is_same (Shared v) x ≡ b
+          → Alike (if b then summary_write else summary_unit).untouched (goes_on (assigned s x 0 w)) (goes_on (assigned (other_in s) x 0 w))
+      by true e = same (ap (λ m. goes_on (record s { variables = m })) (sym (set_again s.variables x w e)))
+      by false e = apart (assigned s x 0 w) refl refl (ap (λ m. goes_on (record s { variables = m })) (set_later s.variables x 0 w e))
+
+  -- ---- turns
+
+  module _ (x : Variable) (body : Attempt → Outcome) (b : AccessSummary)
+      (k : IsClean b → (s : Attempt) → Alike b.untouched (body s) (body (other_in s))) where
+    abbrev turn : AccessSummary
+    turn = summary_seq b (of_write x)
+
+    abbrev all_turns : ℕ → AccessSummary
+    all_turns n = if n == 0 then summary_unit else (if n == 1 then turn else summary_seq turn turn)
+
+    -- a turn and those behind it
+    abbrev from_turn : ℕ → ℕ → Attempt → Outcome
+    from_turn n i u = and_then (body u) (turns n (i + 1) x body)
+
+    abbrev kept : ℕ → Bool
+    kept n = (of_write x).untouched && (all_turns n).untouched
+
+    still_kept : (n : ℕ) → (b.untouched && kept n) ≡ true → kept (suc n) ≡ true
+    still_kept n e =
+        let wrote = first_holds (of_write x).untouched (all_turns n).untouched (second_holds b.untouched (kept n) e) in
+        both_hold (of_write x).untouched (all_turns (suc n)).untouched wrote
+        (turns_untouched (suc n == 0) (suc n == 1) turn (both_hold b.untouched (of_write x).untouched (first_holds b.untouched (kept n) e) wrote))
+
+    body_alike : (n i : ℕ) → IsClean turn → ((a : Attempt) → Alike (kept n) (turns n (i + 1) x body a) (turns n (i + 1) x body (other_in a))) → (u : Attempt)
+        → Alike (kept (suc n)) (from_turn n i u) (from_turn n i (other_in u))
+    body_alike n i clean more u =
+        alike_if (b.untouched && kept n) (kept (suc n)) (from_turn n i u) (from_turn n i (other_in u)) (still_kept n)
+        (then_alike b.untouched (kept n) (body u) (body (other_in u)) (turns n (i + 1) x body) (k (clean_first b (of_write x) clean) u)
+        (λ a untouched. more a))
+
+    -- the attempt that an outcome goes on from
+    abbrev gone_on : Attempt → Outcome → Attempt
+    gone_on d (goes_on a) = a
+    gone_on d (to_task j a) = d
+    gone_on d short = d
+
+    turn_alike : (n i : ℕ) (s u : Attempt)
+        → ((of_write x).untouched ≡ true → (a : Attempt) → Alike (kept (suc n)) (from_turn n i a) (from_turn n i (other_in a)))
+        → Alike (of_write x).untouched (goes_on s) (goes_on u) → Alike (kept (suc n)) (from_turn n i s) (from_turn n i u)
+    turn_alike n i s u f (same e) = same (ap (λ o. from_turn n i (gone_on s o)) e)
+    turn_alike n i s u f (apart a e g h) =
+        let first : a ≡ s = sym (ap (gone_on s) g) in
+        let second : other_in a ≡ u = sym (ap (gone_on s) h) in
+        subst (λ z. Alike (kept (suc n)) (from_turn n i z) (from_turn n i u)) first
+        (subst (λ z. Alike (kept (suc n)) (from_turn n i a) (from_turn n i z)) second (f e a))
+
+    turns_alike : (n i : ℕ) (s : Attempt) → ((of_write x).untouched ≡ true → (j : ℕ) → n ≡ suc j → IsClean turn)
+        → Alike (kept n) (turns n i x body s) (turns n i x body (other_in s))
+    turns_alike zero i s clean =
+        alike_if (of_write x).untouched (kept zero) (goes_on (assigned s x 0 i)) (goes_on (assigned (other_in s) x 0 i))
+        (λ e. both_hold (of_write x).untouched true e refl) (write_alike x i s)
+    turns_alike (suc n) i s clean =
+        turn_alike n i (assigned s x 0 i) (assigned (other_in s) x 0 i)
+        (λ e a. body_alike n i (clean e n refl) (λ a. turns_alike n (i + 1) a (λ f j g. clean f n refl)) a) (write_alike x i s)
+
+  -- ---- statements
+
+  set_alike : (x : Variable) (e : CheckedExpression) → IsClean (summary_seq (of_expression e) (of_write x)) → (a : Attempt)
+      → Alike ((of_expression e).untouched && (of_write x).untouched)
+      (if_value (value_of e a.variables a.left) a (λ w s. goes_on (assigned s x 0 w)))
+      (if_value (value_of e (other a.variables) a.left) (other_in a) (λ w s. goes_on (assigned s x 0 w)))
+  set_alike x e clean a =
+      let unread = (clean_first (of_expression e) (of_write x) clean).exposed in
+      value_alike ((of_expression e).untouched && (of_write x).untouched) e a (λ w s. goes_on (assigned s x 0 w)) unread
+      (λ w s. alike_if (of_write x).untouched ((of_expression e).untouched && (of_write x).untouched) (goes_on (assigned s x 0 w))
+      (goes_on (assigned (other_in s) x 0 w))
+      (λ h. both_hold (of_expression e).untouched (of_write x).untouched (expression_untouched e unread) h) (write_alike x w s))
+
+  either_alike : (b c d : Bool) → b ≡ true → (o p q r : Outcome) (test : Bool) → Alike c o p → Alike d q r
+      → Alike (b && (c || d)) (if test then o else q) (if test then p else r)
+  either_alike b c d h o p q r true k l = alike_if c (b && (c || d)) o p (λ e. both_hold b (c || d) h (left_holds c d e)) k
+  either_alike b c d h o p q r false k l = alike_if d (b && (c || d)) q r (λ e. both_hold b (c || d) h (right_holds c d e)) l
+
+  mutual
+    unfolding summary
+
+    statement_alike : (s : CheckedStatement) → NoStoreInStatement v s → IsClean (of_statement s) → (a : Attempt)
+        → Alike (of_statement s).untouched (run_statement s a) (run_statement s (other_in a))
+    statement_alike (t.declare of x None) plain clean a = apart a refl refl refl
+    statement_alike (t.declare of x (Some e)) plain clean a = set_alike x.variable e clean a
+    statement_alike (t.assign x e) plain clean a = set_alike x.variable e clean a
+    statement_alike (t.store x index e) plain clean a =
+        let i = of_expression index in
+        let j = of_expression e in
+        let first = (clean_first i _ clean).exposed in
+        let behind = clean_second i _ clean (expression_untouched index first) in
+        let second = (clean_first j _ behind).exposed in
+        let unwritten : (of_write x.variable).untouched ≡ true = ap (λ b. (if b then summary_write else summary_unit).untouched) plain in
+        let touched = i.untouched && (j.untouched && (of_write x.variable).untouched) in
+        let all = both_hold i.untouched _ (expression_untouched index first) (both_hold j.untouched _ (expression_untouched e second) unwritten) in
+        value_alike touched index a (λ i s. if_value (value_of e s.variables s.left) s (λ w s. goes_on (assigned s x.variable i w))) first
+        (λ i s. value_alike touched e s (λ w s. goes_on (assigned s x.variable i w)) second
+        (λ w s. apart (assigned s x.variable i w) all refl (ap (λ m. goes_on (record s { variables = m })) (set_later s.variables x.variable i w plain))))
+    statement_alike (t.choose c) plain clean a = choice_alike c plain clean a
+    statement_alike (t.loop x from tested below stepped body) plain clean a =
+        let n = below - from in
+        turns_alike x.variable (run_block body) (of_block body) (λ h s. block_alike body plain h s) n from a
+        (λ wrote j e. clean_turn (n == 0) (n == 1) (summary_seq (of_block body) (of_write x.variable))
+        (λ none. let zero_turns = eqb-true n 0 none in omega (arith, zero_turns, e)) (clean_second (of_write x.variable) _ clean wrote))
+    statement_alike (t.emit e) plain clean a =
+        value_alike (of_expression e).untouched e a (λ w s. goes_on (record s { emitted = s.emitted ++ w ∷ [] })) clean.exposed
+        (λ w s. apart (record s { emitted = s.emitted ++ w ∷ [] }) (expression_untouched e clean.exposed) refl refl)
+    statement_alike (t.transition n) plain clean a = absurd (let none : true ≡ false = clean.transitions in cc)
+
+    choice_alike : (c : CheckedChoice) → NoStoreInChoice v c → IsClean (of_choice c) → (a : Attempt)
+        → Alike (of_choice c).untouched (run_choice c a) (run_choice c (other_in a))
+    choice_alike t.nothing plain clean a = apart a refl refl refl
+    choice_alike (t.otherwise b) plain clean a = block_alike b plain clean a
+    choice_alike (t.test e b more) plain clean a =
+        let i = of_expression e in
+        let first = (clean_first i _ clean).exposed in
+        let untouched = expression_untouched e first in
+        let behind = clean_second i _ clean untouched in
+        value_alike (i.untouched && ((of_block b).untouched || (of_choice more).untouched)) e a
+        (λ w s. if holds w then run_block b s else run_choice more s) first
+        (λ w s. either_alike i.untouched (of_block b).untouched (of_choice more).untouched untouched (run_block b s) (run_block b (other_in s))
+        (run_choice more s) (run_choice more (other_in s)) (holds w) (block_alike b plain.0 (clean_left (of_block b) (of_choice more) behind) s)
+        (choice_alike more plain.1 (clean_right (of_block b) (of_choice more) behind) s))
+
+    block_alike : (b : CheckedBlock) → NoStoreIn v b → IsClean (of_block b) → (a : Attempt)
+        → Alike (of_block b).untouched (run_block b a) (run_block b (other_in a))
+    block_alike t.end plain clean a = apart a refl refl refl
+    block_alike (t.step s more) plain clean a =
+        then_alike (of_statement s).untouched (of_block more).untouched (run_statement s a) (run_statement s (other_in a)) (run_block more)
+        (statement_alike s plain.0 (clean_first (of_statement s) _ clean) a)
+        (λ u e. block_alike more plain.1 (clean_second (of_statement s) (of_block more) clean e) u)
+
+-- where the scalar isn't private and some path writes it, no run reads it first, and none ends before it is written
+module _ (b : CheckedBlock) (v : ℕ) (written : SomePath b (writes (Shared v))) (in_place : IsPrivate b (Shared v) → ⊥) where
+  abbrev sum : AccessSummary
+  sum = block_sum (summary (Shared v)) b
+
+  not_private : private_of sum ≡ false
+  not_private = ⊎_elim (λ e. absurd (in_place (private_is (Shared v) b e))) (λ e. e) (cases_Bool (private_of sum))
+
+  none_amiss : (sum.exposed || (sum.transitions_untouched || sum.untouched)) ≡ false
+  none_amiss = second_none sum.writes _ not_private (writes_some (Shared v) b written)
+
+  clean : IsClean sum
+  clean =
+      let e = or_none sum.exposed (sum.transitions_untouched || sum.untouched) none_amiss in
+      record { exposed = e.0; transitions = (or_none sum.transitions_untouched sum.untouched e.1).0 }
+
+  touched : sum.untouched ≡ false
+  touched = (or_none sum.transitions_untouched sum.untouched (or_none sum.exposed (sum.transitions_untouched || sum.untouched) none_amiss).1).1
+
+  forgotten : (w : ℕ) (s : Attempt) → NoStoreIn v b → run_block b (assigned s (Shared v) 0 w) ≡ run_block b s
+  forgotten w s plain = by (block_alike v w b plain clean s)
+    where
+      by : Alike v w sum.untouched (run_block b s) (run_block b (assigned s (Shared v) 0 w)) → run_block b (assigned s (Shared v) 0 w) ≡ run_block b s
+      by (same e) = sym e
+      by (apart a e f g) = absurd (differs sum.untouched e touched)
+
+pub first_writes_forget : FirstWritesForget
+first_writes_forget b v w s plain written in_place = forgotten b v written in_place w s plain

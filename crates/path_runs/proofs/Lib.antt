@@ -1,0 +1,3 @@
+mod GoesOn
+mod Forgotten
+pub mod Interface
