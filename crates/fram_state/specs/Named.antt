@@ -1,0 +1,47 @@
+-- The words that a map names: those that runs of a compiled image store to. All others are code, constants and the vector.
+use Rattle.std.specs.Prelude.{ℕ, ◌*◌, ◌||◌, Bool, List, [], ◌∷◌, Option, Some, None, unwrap_or, option_map, find}
+use Rattle.std.specs.List.{list_any}
+use Rattle.image_map.specs.declared.parts.RuntimeWords.{RuntimeWords}
+use Rattle.image_map.specs.declared.parts.Place.{Place}
+use Rattle.image_map.specs.declared.parts.Variable.{Variable}
+use Rattle.image_map.specs.MapValue.{MapValue}
+use Rattle.fram_state.specs.declared.stretch.Stretch.{Stretch}
+use Rattle.fram_state.specs.Stretch.{words_at, holds, is_held}
+
+-- the words of a place that has a word for an item
+abbrev pub place_words : Place → Stretch
+place_words p = words_at p.address p.capacity
+
+-- the words of the commit list, three for an entry
+abbrev pub list_words : Place → Stretch
+list_words p = words_at p.address (3 * p.capacity)
+
+-- the words of the private copies; none where the map doesn't say where they are
+abbrev pub copies_words : Option Place → Stretch
+copies_words None = words_at 0 0
+copies_words (Some p) = place_words p
+
+-- list, emits, versions and copies
+abbrev pub buffers : MapValue → List Stretch
+buffers m = list_words m.list ∷ place_words m.emits ∷ place_words m.versions ∷ copies_words m.copies ∷ []
+
+-- the eight words of the runtime
+abbrev pub runtime_words : RuntimeWords → List Stretch
+runtime_words w = words_at w.current_task 1 ∷ words_at w.next_task 1 ∷ words_at w.gate 1 ∷ words_at w.list_length 1 ∷
+    words_at w.emit_count 1 ∷ words_at w.base 1 ∷ words_at w.sent_base 1 ∷ words_at w.version 1 ∷ []
+
+-- the word of a scalar, or those of an array
+abbrev pub variable_words : Variable → Stretch
+variable_words v = words_at v.address (unwrap_or v.length 1)
+
+-- whether one of these variables has the word at an address
+abbrev pub is_shared : List Variable → ℕ → Bool
+is_shared vs a = list_any (λ v. holds (variable_words v) a) vs
+
+-- the end of the first variable that has the word at an address
+abbrev pub shared_until : List Variable → ℕ → Option ℕ
+shared_until vs a = option_map (λ v. (variable_words v).to) (find (λ v. holds (variable_words v) a) vs)
+
+-- whether a map names the word at an address
+abbrev pub is_named : MapValue → ℕ → Bool
+is_named m a = is_held (runtime_words m.words) a || (is_held (buffers m) a || is_shared m.variables a)

@@ -1,0 +1,26 @@
+-- What the words of a FRAM hold.
+use Rattle.std.specs.Prelude.{ℕ, List, take, drop, slice_index}
+use Rattle.image_map.specs.declared.parts.RuntimeWords.{RuntimeWords}
+use Rattle.image_text.specs.ImageValue.{place_of}
+use Rattle.fram_state.specs.declared.runtime.Runtime.{Runtime}
+
+-- the word at an address
+abbrev pub word_in : List ℕ → ℕ → ℕ
+word_in words a = slice_index words (place_of a)
+
+-- so many words from an address on, as far as the FRAM goes
+abbrev pub words_from : List ℕ → ℕ → ℕ → List ℕ
+words_from words a n = take n (drop (place_of a) words)
+
+-- what the words of the runtime hold
+abbrev pub runtime_of : RuntimeWords → List ℕ → Runtime
+runtime_of w words = record {
+  current_task = word_in words w.current_task;
+  next_task = word_in words w.next_task;
+  gate = word_in words w.gate;
+  list_length = word_in words w.list_length;
+  emit_count = word_in words w.emit_count;
+  base = word_in words w.base;
+  sent_base = word_in words w.sent_base;
+  version = word_in words w.version;
+}

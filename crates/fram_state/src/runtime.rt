@@ -1,0 +1,57 @@
+//! What the words of a FRAM hold.
+ghost use Rattle.std.specs.Prelude.{◌≡◌, ◌≤◌, ◌*◌, ◌/◌, ◌-◌, length};
+ghost use Rattle.image_map.specs.MapValue.{IsFramWord, AreFramWords};
+ghost use Rattle.fram_state.specs.Runtime.{word_in, words_from, runtime_of};
+
+use image_map::RuntimeWords;
+
+/// What the words of the runtime hold.
+#[derive(Clone, Copy)]
+pub struct Runtime {
+    pub current_task: u16,
+    pub next_task: u16,
+    pub gate: u16,
+    pub list_length: u16,
+    pub emit_count: u16,
+    pub base: u16,
+    pub sent_base: u16,
+    pub version: u16,
+}
+
+// The word at an address.
+fn word_in(words: &[u16], address: u16) -> u16
+    requires all { length words.now ≡ 24064 }
+    requires address { IsFramWord address }
+    ensures { result ≡ word_in words.now address }
+{
+    words[(address as usize - 0x4400) / 2]
+}
+
+/// So many words from an address on, as far as the FRAM goes.
+#[tactic(auto, using(crate::proofs::Parts::take_min, crate::proofs::Parts::drop_min))]
+pub fn words_from(words: &[u16], address: u16, count: usize) -> &[u16]
+    requires { IsFramWord address }
+    ensures { result.now ≡ words_from words.now address count }
+{
+    let first = ((address as usize - 0x4400) / 2).min(words.len());
+    let rest = &words[first..];
+    &rest[..count.min(rest.len())]
+}
+
+/// What the words of the runtime hold.
+pub fn runtime_of(places: RuntimeWords, words: &[u16]) -> Runtime
+    requires all { length words.now ≡ 24064 }
+    requires places { AreFramWords places }
+    ensures { result ≡ runtime_of places words.now }
+{
+    Runtime {
+        current_task: word_in(words, places.current_task),
+        next_task: word_in(words, places.next_task),
+        gate: word_in(words, places.gate),
+        list_length: word_in(words, places.list_length),
+        emit_count: word_in(words, places.emit_count),
+        base: word_in(words, places.base),
+        sent_base: word_in(words, places.sent_base),
+        version: word_in(words, places.version),
+    }
+}
