@@ -41,7 +41,10 @@ entry_more m e es room h s = sym (
     ∙ ap (λ b. list_all (is_entry m) es && b) (by_sum (words_of (e ∷ es)) (sum_by-cons (λ e. e.words) e es)))
   where
     by_room : (k n r : ℕ) → n ≤ r → nat_le (n + k) r ≡ nat_le k (r - n)
-    by_room k n r h = elim (cases_lt r (n + k)) [ inl more ↦ lt-leb (n + k) r more ∙ sym (lt-leb k (r - n) (omega arith)) | inr less ↦ le-leb (n + k) r less ∙ sym (le-leb k (r - n) (omega arith)) ]
+    by_room k n r h = elim (cases_lt r (n + k)) [
+      | inl more ↦ lt-leb (n + k) r more ∙ sym (lt-leb k (r - n) (omega arith))
+      | inr less ↦ le-leb (n + k) r less ∙ sym (le-leb k (r - n) (omega arith))
+    ]
 
     by_sum : (all : ℕ) → all ≡ e.words + words_of es → nat_le all room ≡ nat_le (words_of es) (room - e.words)
     by_sum all is = ap (λ k. nat_le k room) is ∙ by_room (words_of es) e.words room h

@@ -23,7 +23,8 @@ first_entry words a n all word fits =
     let cut : drop p words ≡ get_or words p 0 ∷ get_or words (suc p) 0 ∷ get_or words (suc (suc p)) 0 ∷ drop (suc (suc (suc p))) words
     = drop-cons words p 0 h ∙ ap (λ ws. get_or words p 0 ∷ ws) (drop-cons words (suc p) 0 i
     ∙ ap (λ ws. get_or words (suc p) 0 ∷ ws) (drop-cons words (suc (suc p)) 0 j)) in
-    let entry : ℕ → ℕ → List ℕ → List Entry = λ b c ws. record { home = get_or words p 0; copy = get_or words b 0; words = get_or words c 0 } ∷ entries_of (take (3 * n) ws) in
+    let entry : ℕ → ℕ → List ℕ → List Entry
+    = λ b c ws. record { home = get_or words p 0; copy = get_or words b 0; words = get_or words c 0 } ∷ entries_of (take (3 * n) ws) in
     ap (λ k. entries_of (take k (drop p words))) count ∙ ap (λ ws. entries_of (take (suc (suc (suc (3 * n)))) ws)) cut
     ∙ ap (λ b. entry b (suc (suc p)) (drop (suc (suc (suc p))) words)) (sym second)
     ∙ ap (λ c. entry (place_of (a + 2)) c (drop (suc (suc (suc p))) words)) (sym third)

@@ -58,7 +58,8 @@ none_other m [] (v ∷ vs) a i e h n = absurd (omega arith)
 none_other m (w ∷ ws) [] a i e h n = absurd (omega arith)
 none_other m (w ∷ ws) (v ∷ vs) a i e h n = by_first (λ j. none_other m ws vs (a + 2) j (omega arith)) i (is_named m a) refl (w == v) refl h n
   where
-    by_first : ((j : ℕ) → first_other m ws vs (a + 2) ≡ None → is_named m ((a + 2) + 2 * j) ≡ false → get_or vs j 0 ≡ get_or ws j 0) → (i : ℕ) (b : Bool) → is_named m a ≡ b → (c : Bool) → (w == v) ≡ c → cond (b || c) (first_other m ws vs (a + 2)) (Some a) ≡ None
+    by_first : ((j : ℕ) → first_other m ws vs (a + 2) ≡ None → is_named m ((a + 2) + 2 * j) ≡ false → get_or vs j 0 ≡ get_or ws j 0)
+        → (i : ℕ) (b : Bool) → is_named m a ≡ b → (c : Bool) → (w == v) ≡ c → cond (b || c) (first_other m ws vs (a + 2)) (Some a) ≡ None
         → is_named m (a + 2 * i) ≡ false → get_or (v ∷ vs) i 0 ≡ get_or (w ∷ ws) i 0
     by_first more i false s false t h n = cc
     by_first more zero b s true t h n = sym (eqb-true w v t)

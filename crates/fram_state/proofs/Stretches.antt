@@ -34,7 +34,8 @@ module _ {X : Type 0} (stretch : X → Stretch) where
   held_some [] a end h = cc
   held_some (x ∷ xs) a end h = by_first (held_some xs a end) (holds (stretch x) a) refl h
     where
-      by_first : (option_map (λ x. (stretch x).to) (find (λ x. holds (stretch x) a) xs) ≡ Some end → AllUpTo (λ b. list_any (λ x. holds (stretch x) b) xs) a end)
+      by_first : (option_map (λ x. (stretch x).to) (find (λ x. holds (stretch x) a) xs) ≡ Some end
+          → AllUpTo (λ b. list_any (λ x. holds (stretch x) b) xs) a end)
           → (b : Bool) → holds (stretch x) a ≡ b → option_map (λ x. (stretch x).to) (cond b (Some x) (find (λ x. holds (stretch x) a) xs)) ≡ Some end
           → AllUpTo (λ b. holds (stretch x) b || list_any (λ x. holds (stretch x) b) xs) a end
       by_first more true e g =

@@ -22,4 +22,5 @@ BelongingStatesAreTaken = (image : ImageValue) (s : State) → AreImages image.w
 
 -- the word that is told is the first one, by its address
 abbrev pub OtherWordsAreFirst : Type 0
-OtherWordsAreFirst = (m : MapValue) (image words : List ℕ) (a : ℕ) → AreImages image words → first_other m image words 0x4400 ≡ Some a → IsFirstOther m image words a
+OtherWordsAreFirst = (m : MapValue) (image words : List ℕ) (a : ℕ) → AreImages image words → first_other m image words 0x4400 ≡ Some a
+    → IsFirstOther m image words a

@@ -15,7 +15,8 @@ loop-i-preserved c =
     ≡ first_other c.args.map.now (drop (i + 1) c.args.image.now) (drop (i + 1) c.args.state.now) (here + 2)
     → first_other c.args.map.now (drop (i + 1) c.args.image.now) (drop (i + 1) c.args.state.now) (17408 + 2 * (i + 1))
     ≡ first_other c.args.map.now c.args.image.now c.args.state.now 17408
-    = λ passed. ap (first_other c.args.map.now (drop (i + 1) c.args.image.now) (drop (i + 1) c.args.state.now)) (sym next) ∙ sym passed ∙ c.loop-i.invariant.rest in
+    = λ passed. ap (first_other c.args.map.now (drop (i + 1) c.args.image.now) (drop (i + 1) c.args.state.now)) (sym next)
+    ∙ sym passed ∙ c.loop-i.invariant.rest in
     elim c.if-address-named.branch [
       | then-address-named+then-image-i+in-Some w ↦ record {
         rest = rest (named_passed c.args.map.now c.args.image.now c.args.state.now i here in_image in_state
