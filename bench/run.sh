@@ -10,14 +10,18 @@ alpaca=${ALPACA:-$top/bin/alpaca}
 emulator=$1
 images=$2
 commands=$(mktemp)
-trap 'rm "$commands"' EXIT
+times=$(mktemp)
+trap 'rm "$commands" "$times"' EXIT
 TIMEFORMAT=%U
 
-# the least time of five runs
+# the seconds of one run
+seconds() {
+    { time "$@" >/dev/null 2>&1; } 2>&1
+}
+
+# of the lines `WHO SECONDS`, the least of one
 least() {
-    for _ in 1 2 3 4 5; do
-        { time "$@" >/dev/null 2>&1; } 2>&1
-    done | sort -n | head -n 1
+    awk -v who="$1" '$1 == who { print $2 }' "$times" | sort -n | head -n 1
 }
 
 # the address of the `bis #16, sr` that ends an image: there a simulator without CPUOFF has to stop
@@ -26,14 +30,21 @@ stop_of() {
         /^[0-9A-F][0-9A-F] / { for (i = 1; i <= NF; i++) { seen = seen $i; if (seen ~ /32D01000$/) { printf "0x%x\n", at - 3; exit } at++ } }' "$1"
 }
 
+# the least of five times each, taken in turn
 row() {
-    local other ours theirs=
-    other=$(least "$emulator" run "$images/$2" "$images/$3")
-    ours=$(least "$alpaca" run "$images/$2" "$images/$3")
+    local other ours theirs= simulates=
     if [ "$3" = speed.tr ] && command -v mspdebug >/dev/null; then
+        simulates=1
         printf 'opt quiet 1\nprog %s\nreset\nsetbreak %s\nrun\n' "$images/$2" "$(stop_of "$images/$2")" >"$commands"
-        theirs=", mspdebug $(least mspdebug -q sim "read $commands") s"
     fi
+    for _ in 1 2 3 4 5; do
+        echo "other $(seconds "$emulator" run "$images/$2" "$images/$3")"
+        echo "alpaca $(seconds "$alpaca" run "$images/$2" "$images/$3")"
+        [ -z "$simulates" ] || echo "mspdebug $(seconds mspdebug -q sim "read $commands")"
+    done >"$times"
+    other=$(least other)
+    ours=$(least alpaca)
+    [ -z "$simulates" ] || theirs=", mspdebug $(least mspdebug) s"
     awk "BEGIN { printf \"$1: other $other s, alpaca $ours s (%.2f)$theirs\n\", $other / $ours }"
 }
 
