@@ -6,11 +6,11 @@ use Rattle.machine_effects.specs.fram_board.Effects.{Effect, Store}
 use Rattle.machine_effects.specs.World.{World, world_after, fram_after, readings_taken, IsPrefix, EachStore}
 use Rattle.machine_effects.proofs.Interface.{world_after-append}
 use Rattle.crash_rules.specs.Model.{Model, ModelLaws, Outcome, Ends, Short, ProgramEffects, program_effects, readings_left, IsWord, IsElsewhere, with_commit}
-use Rattle.crash_rules.specs.Model.{script, Decides, RunsShort, AttemptContract, CommitContract}
+use Rattle.crash_rules.specs.Model.{script, Decides, RunsShort, AttemptContract, CommitKeeps}
 use Rattle.crash_rules.specs.History.{Done, History, with_effect, behind_decide, behind_done, observe_one, observe, behind_boot, decided_readings}
 use Rattle.crash_rules.specs.History.{done_readings}
-use Rattle.crash_rules.specs.Laws.{Origin, Resting, Pending, SourceRun, Reaches, IsSettled, Transits, Phase, UndecidedPhase, DecidedPhase, StandsFor, IsLawful}
-use Rattle.crash_rules.specs.Laws.{AreConsecutive}
+use Rattle.crash_rules.specs.Laws.{Origin, Resting, Pending, SourceRun, HasNoSpan, Reaches, IsPending, IsSettled, Transits, Phase, UndecidedPhase, DecidedPhase}
+use Rattle.crash_rules.specs.Laws.{CommittingPhase, StandsFor, IsLawful, AreConsecutive}
 use Rattle.crash_rules.proofs.Lists.{world_fram, each_prefix, holds_prefix, holds_end, prefix_cases, prefix_one, nothing_first, range_of}
 use Rattle.crash_rules.proofs.Observed.{observe-append, with_effects, observe_quiet, observe_done, observe_decide}
 
@@ -31,19 +31,26 @@ module _ {St : Type 0} (m : Model St) (laws : ModelLaws m) (readings : List ℕ)
   reaches_more : (o : Origin St) (ds : List Done) (s next : St) (d : Done) → Reaches m readings o ds s → Transits m o ds (done_readings readings d) s next
       → m.Rests next d.world → Reaches m readings o (ds ++ d ∷ []) next
   reaches_more (Resting a) ds s next d h t r = run_more a s next ds d h t r
-  reaches_more (Pending a b) [] s next d h t r = (subst (λ u. m.Rests u d.world) t.1 r, t.1)
-  reaches_more (Pending a b) (c ∷ ds) s next d h t r = (h.0, run_more b s next ds d h.1 t r)
+  reaches_more (Pending a) [] s next d h t r = absurd t
+  reaches_more (Pending a) (c ∷ ds) s next d h t r = (h.0, h.1, run_more a s next ds d h.2 t r)
+
+  -- the first one, of the commit that was pending at the start
+  reaches_first : (o : Origin St) (ds : List Done) (s : St) (d : Done) → Reaches m readings o ds s → IsPending o ds → HasNoSpan d.span_from d.span_to
+      → m.Rests s d.world → Reaches m readings o (ds ++ d ∷ []) s
+  reaches_first (Resting a) ds s d h p n r = absurd p
+  reaches_first (Pending a) [] s d h p n r = (n, subst (λ u. m.Rests u d.world) h r, h)
+  reaches_first (Pending a) (c ∷ ds) s d h p n r = absurd p
 
   settled_more : (o : Origin St) (ds : List Done) (d : Done) → IsSettled o (ds ++ d ∷ [])
   settled_more (Resting a) ds d = tt
-  settled_more (Pending a b) [] d = tt
-  settled_more (Pending a b) (c ∷ ds) d = tt
+  settled_more (Pending a) [] d = tt
+  settled_more (Pending a) (c ∷ ds) d = tt
 
   -- where nothing is pending, transitions are the task's
   transits_task : (o : Origin St) (ds : List Done) (rs : List ℕ) (s next : St) → IsSettled o ds → m.task s rs ≡ Ends next [] → Transits m o ds rs s next
   transits_task (Resting a) ds rs s next k e = e
-  transits_task (Pending a b) [] rs s next k e = absurd k
-  transits_task (Pending a b) (c ∷ ds) rs s next k e = e
+  transits_task (Pending a) [] rs s next k e = absurd k
+  transits_task (Pending a) (c ∷ ds) rs s next k e = e
 
   module _ (origin : Origin St) where
     -- a history that follows its script would also with these effects more
@@ -101,24 +108,65 @@ module _ {St : Type 0} (m : Model St) (laws : ModelLaws m) (readings : List ℕ)
           grows = Stayed refl refl;
         })
 
-    module _ (s next : St) (v : History) (reached : Reaches m readings origin v.completed s) (g : v.decided ≡ true)
-        (t : Transits m origin v.completed (decided_readings readings v) s next) where
+    -- a commit that is due: what its effects keep, and what its done comes to
+    pub record IsDue (v : History) (s next : St) (Kept : World → Type 0) : Type 0 where
+      pub decided : v.decided ≡ true
+      pub reached : Reaches m readings origin v.completed s
+      pub holds : Kept v.world
+      pub committing : (y : World) → Kept y → m.Committing next y
+      pub contract : CommitKeeps m Kept next v.world
+      pub phase : (es : List Effect) → Kept (world_after es v.world) → Phase m readings origin s (with_effects es v)
+      pub done : (y : World) → m.Rests next y → Reaches m readings origin (v.completed ++ done_of v y ∷ []) next
+
+    -- behind a decide
+    due_decided : (v : History) (s next : St) → Reaches m readings origin v.completed s → v.decided ≡ true
+        → Transits m origin v.completed (decided_readings readings v) s next → m.Decided s next v.world → IsDue v s next (m.Decided s next)
+    due_decided v s next reached g t d =
+        record {
+          decided = g;
+          reached = reached;
+          holds = d;
+          committing = laws.decided_committing s next;
+          contract = laws.decided_commits s next v.world d;
+          phase = λ es h. DecidedPhase next g t h;
+          done = λ y r. reaches_more origin v.completed s next (done_of v y) reached t r;
+        }
+
+    -- at the start of the run
+    due_first : (v : History) (to : St) → Reaches m readings origin v.completed to → v.decided ≡ true → IsPending origin v.completed
+        → HasNoSpan v.span_from v.span_to → m.Committing to v.world → IsDue v to to (m.Committing to)
+    due_first v to reached g p n d =
+        record {
+          decided = g;
+          reached = reached;
+          holds = d;
+          committing = λ y h. h;
+          contract = laws.commits to v.world d;
+          phase = λ es h. CommittingPhase g p n h;
+          done = λ y r. reaches_first origin v.completed to (done_of v y) reached p n r;
+        }
+
+    module _ (s next : St) (Kept : World → Type 0) (v : History) (due : IsDue v s next Kept) where
+      abbrev before : List Effect
+      before = due.contract.before
+
       -- a commit, whole
-      commit_end : (p : CommitContract m s next v.world) → Whole v (observe m.gate (p.before ++ Store m.gate 0 ∷ []) v)
-      commit_end p =
-          let u = with_effects p.before v in
+      commit_end : Whole v (observe m.gate (before ++ Store m.gate 0 ∷ []) v)
+      commit_end =
+          let p = due.contract in
+          let u = with_effects before v in
           let k = behind_done (with_effect (Store m.gate 0) u) in
-          let one : u.world.fram m.gate ≡ 1 = laws.decided_gate s next (world_after p.before v.world)
-          (holds_end (m.Decided s next) p.before v.world p.decided) in
-          let is : observe m.gate (p.before ++ Store m.gate 0 ∷ []) v ≡ k = observe-append m.gate p.before (Store m.gate 0 ∷ []) v
-          ∙ ap (observe_one m.gate (Store m.gate 0)) (observe_quiet m.gate p.before v p.elsewhere) ∙ observe_done m.gate u one in
-          let none : length (readings_taken p.before) ≡ 0 = ap length p.takes_none in
+          let y = world_after before v.world in
+          let one : u.world.fram m.gate ≡ 1 = laws.committing_gate next y (due.committing y (holds_end Kept before v.world p.kept)) in
+          let is : observe m.gate (before ++ Store m.gate 0 ∷ []) v ≡ k = observe-append m.gate before (Store m.gate 0 ∷ []) v
+          ∙ ap (observe_one m.gate (Store m.gate 0)) (observe_quiet m.gate before v p.elsewhere) ∙ observe_done m.gate u one in
+          let none : length (readings_taken before) ≡ 0 = ap length p.takes_none in
           subst (Whole v) (sym is)
           (record {
             point = record {
               stands = record {
                 state = next;
-                reached = reaches_more origin v.completed s next (done_of v k.world) reached t p.rests;
+                reached = due.done k.world p.rests;
                 phase = UndecidedPhase refl (settled_more origin v.completed (done_of v k.world)) (laws.rests_undecided next k.world p.rests);
               };
               since = refl;
@@ -130,28 +178,27 @@ module _ {St : Type 0} (m : Model St) (laws : ModelLaws m) (readings : List ℕ)
             undecided = refl;
           })
 
-      commit_whole : m.Decided s next v.world → Whole v (observe m.gate (m.commit v.world.fram) v)
-      commit_whole d = let p = laws.commits s next v.world d in subst (λ l. Whole v (observe m.gate l v)) (sym p.is) (commit_end p)
+      commit_whole : Whole v (observe m.gate (m.commit v.world.fram) v)
+      commit_whole = subst (λ l. Whole v (observe m.gate l v)) (sym due.contract.is) commit_end
 
-      commit_quiet : (p : CommitContract m s next v.world) (es : List Effect) → IsPrefix es p.before → IsTold v → MayGoOn v es → Part v (observe m.gate es v)
-      commit_quiet p es h told go =
-          quiet_part s v es (each_prefix (IsElsewhere m.gate) es p.before h p.elsewhere) told go reached
-          (DecidedPhase next g t (holds_prefix (m.Decided s next) es p.before v.world h p.decided))
+      commit_quiet : (es : List Effect) → IsPrefix es before → IsTold v → MayGoOn v es → Part v (observe m.gate es v)
+      commit_quiet es h told go =
+          quiet_part s v es (each_prefix (IsElsewhere m.gate) es before h due.contract.elsewhere) told go due.reached
+          (due.phase es (holds_prefix Kept es before v.world h due.contract.kept))
 
       whole_part : (k : History) → Whole v k → Part v k
       whole_part k w = record { lawful = point_lawful k w.point; grows = Finished w.completed (w.point.since ∙ w.taken) }
 
       -- a commit, cut anywhere
-      commit_part : (es : List Effect) → m.Decided s next v.world → IsPrefix es (m.commit v.world.fram) → IsTold v → MayGoOn v es → Part v (observe m.gate es v)
-      commit_part es d pre told go =
-          let p = laws.commits s next v.world d in
+      commit_part : (es : List Effect) → IsPrefix es (m.commit v.world.fram) → IsTold v → MayGoOn v es → Part v (observe m.gate es v)
+      commit_part es pre told go =
           ⊎_elim
-          (λ h. commit_quiet p es h told go)
+          (λ h. commit_quiet es h told go)
           (λ h. ⊎_elim
-          (λ e. commit_quiet p es (record { rest = []; joins = append-nil es ∙ h.1 ∙ ap (λ l. p.before ++ l) e ∙ append-nil p.before }) told go)
-          (λ e. subst (λ l. Part v (observe m.gate l v)) (sym (h.1 ∙ ap (λ l. p.before ++ l) e)) (whole_part _ (commit_end p)))
+          (λ e. commit_quiet es (record { rest = []; joins = append-nil es ∙ h.1 ∙ ap (λ l. before ++ l) e ∙ append-nil before }) told go)
+          (λ e. subst (λ l. Part v (observe m.gate l v)) (sym (h.1 ∙ ap (λ l. before ++ l) e)) (whole_part _ commit_end))
           (prefix_one h.0 (Store m.gate 0) h.2))
-          (prefix_cases es p.before (Store m.gate 0 ∷ []) (subst (λ l. IsPrefix es l) p.is pre))
+          (prefix_cases es before (Store m.gate 0 ∷ []) (subst (λ l. IsPrefix es l) due.contract.is pre))
 
     -- a done behind a decide
     pub record Next (h k : History) : Type 0 where
@@ -219,6 +266,9 @@ module _ {St : Type 0} (m : Model St) (laws : ModelLaws m) (readings : List ℕ)
           transits_task origin h.completed _ s next settled (ap (m.task s) (range_of readings (readings_taken c.before) left h.since at_gate.taken reads to)
           ∙ c.exact)
 
+      gate_due : IsDue at_gate s next (m.Decided s next)
+      gate_due = due_decided at_gate s next reached refl transits c.decided
+
       gate_effects : at_gate.effects ≡ h.effects ++ to_gate
       gate_effects = append_assoc h.effects c.before (Store m.gate 1 ∷ [])
 
@@ -236,7 +286,7 @@ module _ {St : Type 0} (m : Model St) (laws : ModelLaws m) (readings : List ℕ)
       past_gate : (es fs : List Effect) → es ≡ to_gate ++ fs → IsPrefix fs (m.commit (fram_after to_gate h.world.fram)) → MayGoOn h es
           → Cut h (observe m.gate es h)
       past_gate es fs e p go =
-          let k = commit_part s next at_gate reached refl transits fs c.decided (subst (IsPrefix fs) commit_there p) gate_told
+          let k = commit_part s next (m.Decided s next) at_gate gate_due fs (subst (IsPrefix fs) commit_there p) gate_told
           (gate_goes fs (subst (MayGoOn h) e go)) in
           let is : observe m.gate es h ≡ observe m.gate fs at_gate = ap (λ l. observe m.gate l h) e ∙ observe-append m.gate to_gate fs h
           ∙ ap (observe m.gate fs) chose in
@@ -280,7 +330,7 @@ module _ {St : Type 0} (m : Model St) (laws : ModelLaws m) (readings : List ℕ)
       decides_whole : Next h (observe m.gate (with_commit m h.world.fram r).effects h)
       decides_whole =
           let cm = m.commit (fram_after to_gate h.world.fram) in
-          let w0 = commit_whole s next at_gate reached refl transits c.decided in
+          let w0 = commit_whole s next (m.Decided s next) at_gate gate_due in
           let k = observe m.gate cm at_gate in
           let w : Whole at_gate k = subst (λ l. Whole at_gate (observe m.gate l at_gate)) (sym commit_there) w0 in
           let is : observe m.gate (to_gate ++ cm) h ≡ k = observe-append m.gate to_gate cm h ∙ ap (observe m.gate cm) chose in
@@ -328,7 +378,7 @@ module _ {St : Type 0} (m : Model St) (laws : ModelLaws m) (readings : List ℕ)
     attempt_whole s h (Ends next left) r reached settled nd pt c e = decides_whole s next left h r reached settled nd pt c
     attempt_whole s h Short r reached settled nd pt c e = absurd (cc (c.is, e))
 
-    -- a point where all is undecided, and one where it is decided
+    -- a point where all is undecided
     pub record AtUndecided (h : History) : Type 0 where
       pub state : St
       pub reached : Reaches m readings origin h.completed state
@@ -336,20 +386,31 @@ module _ {St : Type 0} (m : Model St) (laws : ModelLaws m) (readings : List ℕ)
       pub settled : IsSettled origin h.completed
       pub holds : m.Undecided state h.world
 
-    pub record AtDecided (h : History) : Type 0 where
-      pub state : St
-      pub next : St
-      pub reached : Reaches m readings origin h.completed state
+    -- one where a commit is due, with the state that it leaves
+    pub record AtCommit (h : History) : Type 0 where
+      pub to : St
       pub decided : h.decided ≡ true
-      pub transits : Transits m origin h.completed (decided_readings readings h) state next
-      pub holds : m.Decided state next h.world
+      pub holds : m.Committing to h.world
+      pub whole : Whole h (observe m.gate (m.commit h.world.fram) h)
+      pub part : (es : List Effect) → IsPrefix es (m.commit h.world.fram) → IsTold h → MayGoOn h es → Part h (observe m.gate es h)
 
-    pub phase_of : (h : History) → StandsFor m readings origin h → (AtUndecided h) ⊎ (AtDecided h)
+    at_commit : (h : History) (s next : St) (Kept : World → Type 0) → IsDue h s next Kept → AtCommit h
+    at_commit h s next Kept due =
+        record {
+          to = next;
+          decided = due.decided;
+          holds = due.committing h.world due.holds;
+          whole = commit_whole s next Kept h due;
+          part = commit_part s next Kept h due;
+        }
+
+    pub phase_of : (h : History) → StandsFor m readings origin h → (AtUndecided h) ⊎ (AtCommit h)
     phase_of h st = by_phase st.state st.reached st.phase
       where
-        by_phase : (s : St) → Reaches m readings origin h.completed s → Phase m readings origin s h → (AtUndecided h) ⊎ (AtDecided h)
+        by_phase : (s : St) → Reaches m readings origin h.completed s → Phase m readings origin s h → (AtUndecided h) ⊎ (AtCommit h)
         by_phase s r (UndecidedPhase d k u) = inl (record { state = s; reached = r; undecided = d; settled = k; holds = u })
-        by_phase s r (DecidedPhase next d t u) = inr (record { state = s; next = next; reached = r; decided = d; transits = t; holds = u })
+        by_phase s r (DecidedPhase next d t u) = inr (at_commit h s next (m.Decided s next) (due_decided h s next r d t u))
+        by_phase s r (CommittingPhase d p n u) = inr (at_commit h s s (m.Committing s) (due_first h s r d p n u))
 
     -- what the script is, by GATE
     pub script_decided : (f : ℕ → ℕ) (rs : List ℕ) → f m.gate ≡ 1 → script m f rs ≡ program_effects (m.commit f) true
@@ -372,8 +433,8 @@ module _ {St : Type 0} (m : Model St) (laws : ModelLaws m) (readings : List ℕ)
     script_u : (h : History) (u : AtUndecided h) → script_at h ≡ with_commit m h.world.fram (m.attempt h.world.fram (drop h.taken readings))
     script_u h u = script_undecided h.world.fram (drop h.taken readings) (laws.undecided_gate u.state h.world u.holds)
 
-    script_d : (h : History) (d : AtDecided h) → script_at h ≡ program_effects (m.commit h.world.fram) true
-    script_d h d = script_decided h.world.fram (drop h.taken readings) (laws.decided_gate d.state d.next h.world d.holds)
+    script_d : (h : History) (d : AtCommit h) → script_at h ≡ program_effects (m.commit h.world.fram) true
+    script_d h d = script_decided h.world.fram (drop h.taken readings) (laws.committing_gate d.to h.world d.holds)
 
     may_go_on : (h : History) (es : List Effect) → Point h → IsPrefix es (script_at h).effects → MayGoOn h es
     may_go_on h es p pre =
@@ -388,8 +449,7 @@ module _ {St : Type 0} (m : Model St) (laws : ModelLaws m) (readings : List ℕ)
         ⊎_elim
         (λ u. attempt_part u.state h es _ _ u.reached u.settled u.undecided p (owed h u) (subst (λ q. IsPrefix es q.effects) (script_u h u) pre) go)
         (λ d.
-        let k = commit_part d.state d.next h d.reached d.decided d.transits es d.holds (subst (λ q. IsPrefix es q.effects) (script_d h d) pre)
-        (point_lawful h p).world go in
+        let k = d.part es (subst (λ q. IsPrefix es q.effects) (script_d h d) pre) (point_lawful h p).world go in
         record { lawful = k.lawful; spans = stayed_spans h _ k d.decided })
         (phase_of h p.stands)
 
@@ -402,7 +462,7 @@ module _ {St : Type 0} (m : Model St) (laws : ModelLaws m) (readings : List ℕ)
         subst (λ q. Next h (observe m.gate q.effects h)) (sym is) (attempt_whole u.state h _ _ u.reached u.settled u.undecided p (owed h u)
         (subst (λ q. q.ends ≡ true) is e)))
         (λ d.
-        let w = commit_whole d.state d.next h d.reached d.decided d.transits d.holds in
+        let w = d.whole in
         let n : Next h (observe m.gate (m.commit h.world.fram) h) = record {
           point = w.point;
           done = done_of h _;
@@ -467,3 +527,4 @@ module _ {St : Type 0} (m : Model St) (laws : ModelLaws m) (readings : List ℕ)
         same : Phase m readings origin st.state h → Phase m readings origin st.state (behind_boot h)
         same (UndecidedPhase d k u) = UndecidedPhase d k u
         same (DecidedPhase next d t u) = DecidedPhase next d t u
+        same (CommittingPhase d p n u) = CommittingPhase d p n u

@@ -1,9 +1,9 @@
 -- What effects make of a history.
 use Rattle.std.proofs.Common.{◌≡◌, ℕ, zero, suc, ◌+◌, ◌≤◌, List, [], ◌∷◌, ◌++◌, length, refl, sym, ap, ap₂, ◌∙◌, arith, true, false, cond, ne_eqb, append_assoc}
 use Rattle.std.proofs.Common.{append-nil, length-append}
-use Rattle.std.specs.Prelude.{◌&&◌, not}
+use Rattle.std.specs.Prelude.{◌&&◌, ◌%◌, ◌==◌, not}
 use Rattle.machine_effects.specs.fram_board.Effects.{Effect, Store, Take, Send}
-use Rattle.machine_effects.specs.World.{World, world_after_one, world_after, readings_taken, OfStore, EachStore}
+use Rattle.machine_effects.specs.World.{World, received, world_after_one, world_after, readings_taken, OfStore, EachStore}
 use Rattle.machine_effects.proofs.Interface.{put_same, put_other}
 use Rattle.crash_rules.specs.Model.{IsElsewhere}
 use Rattle.crash_rules.specs.History.{History, is_decide, is_done, with_effect, behind_decide, behind_done, behind_gate, observe_one, observe}
@@ -107,8 +107,29 @@ observed_taken gate (e ∷ es) h =
     let b = taken_gate (h.world.fram gate) ((world_after_one e h.world).fram gate) (with_effect e h) in
     let c = count_more e es h.taken in a ∙ ap (λ n. n + length (readings_taken es)) b ∙ c
 
+received_more : (n w : ℕ) (ws : List ℕ) → (more : List ℕ) × (received n w ws ≡ ws ++ more)
+received_more n w ws =
+    elim (n == length ws % 0x10000) as (λ b. (more : List ℕ) × (cond b (ws ++ w ∷ []) ws ≡ ws ++ more)) [
+      | true ↦ (w ∷ [], refl)
+      | false ↦ ([], sym (append-nil ws))
+    ]
+
+-- words that are accepted stay so
+world_more : (es : List Effect) (x : World) → (more : List ℕ) × ((world_after es x).accepted ≡ x.accepted ++ more)
+world_more [] x = ([], sym (append-nil x.accepted))
+world_more (Store a w ∷ es) x = world_more es (world_after_one (Store a w) x)
+world_more (Take w ∷ es) x = world_more es x
+world_more (Send n w ∷ es) x =
+    let one = received_more n w x.accepted in
+    let rest = world_more es (world_after_one (Send n w) x) in
+    (one.0 ++ rest.0, rest.1 ∙ ap (λ l. l ++ rest.0) one.1 ∙ append_assoc x.accepted one.0 rest.0)
+
 -- the world is what the effects make of it
 pub observed_world : (gate : ℕ) (es : List Effect) (h : History) → (observe gate es h).world ≡ world_after es h.world
 observed_world gate [] h = refl
 observed_world gate (e ∷ es) h = observed_world gate es (observe_one gate e h)
     ∙ ap (world_after es) (world_gate (h.world.fram gate) ((world_after_one e h.world).fram gate) (with_effect e h))
+
+-- so that accepted words stay so
+pub accepted_more : (gate : ℕ) (es : List Effect) (h : History) → (more : List ℕ) × ((observe gate es h).world.accepted ≡ h.world.accepted ++ more)
+accepted_more gate es h = let m = world_more es h.world in (m.0, ap (λ x. x.accepted) (observed_world gate es h) ∙ m.1)

@@ -70,10 +70,9 @@ module _ {St : Type 0} (m : Model St) (laws : ModelLaws m) (c : Program) (code :
       subst (λ q. Makes c (bound m) q b) (sym (script_undecided m laws readings words origin b.fram b.readings_left zero_there))
       (widen c _ _ _ b (below_greatest m.task_cost m.tasks (m.task_number u.state) (laws.undecided_task u.state h.world u.holds)) mk))
       (λ d.
-      let one_there : b.fram m.gate ≡ 1 = ap (λ f. f m.gate) k.fram ∙ laws.decided_gate d.state d.next h.world d.holds in
-      let mk = code.makes_commit d.state d.next h.world b en k.fram d.holds in
+      let one_there : b.fram m.gate ≡ 1 = ap (λ f. f m.gate) k.fram ∙ laws.committing_gate d.to h.world d.holds in
       subst (λ q. Makes c (bound m) q b) (sym (script_decided m laws readings words origin b.fram b.readings_left one_there))
-      (widen c _ _ _ b (below_greatest m.task_cost m.tasks (m.task_number d.state) (laws.decided_task d.state d.next h.world d.holds)) mk))
+      (code.makes_commit d.to h.world b en k.fram d.holds))
       (phase_of m laws readings words origin h p.stands)
 
   -- a board behind effects holds what the history behind them says
@@ -305,7 +304,7 @@ module _ {St : Type 0} (m : Model St) (laws : ModelLaws m) (c : Program) (code :
   -- where each attempt and each commit stores only so, any number of steps does
   module _ (P : ℕ → ℕ → Type 0)
       (attempts : (s : St) (x : World) (rs : List ℕ) → All IsWord rs → m.Undecided s x → EachStore P (m.attempt x.fram rs).effects)
-      (commits : (s next : St) (x : World) → m.Decided s next x → EachStore P (m.commit x.fram)) where
+      (commits : (to : St) (x : World) → m.Committing to x → EachStore P (m.commit x.fram)) where
     -- an attempt with its commit stores so
     attempt_stores : (s : St) (x : World) (rs : List ℕ) (a : Outcome St) (r : ProgramEffects) → AttemptContract m s rs x a r → EachStore P r.effects
         → EachStore P (with_commit m x.fram r).effects
@@ -315,7 +314,7 @@ module _ {St : Type 0} (m : Model St) (laws : ModelLaws m) (c : Program) (code :
         let fr : fram_after es x.fram ≡ y.fram = sym (world_fram es x) ∙ ap (λ z. z.fram) (world_after-append k.before (Store m.gate 1 ∷ []) x) in
         let q2 : EachStore P es = subst (λ p. EachStore P p.effects) k.is q in
         let both : EachStore P (with_commit m x.fram (program_effects es true)).effects = each_store-append P es (m.commit (fram_after es x.fram)) q2
-        (subst (λ f. EachStore P (m.commit f)) (sym fr) (commits s next y k.decided)) in
+        (subst (λ f. EachStore P (m.commit f)) (sym fr) (commits next y (laws.decided_committing s next y k.decided))) in
         subst (λ p. EachStore P (with_commit m x.fram p).effects) (sym k.is) both
     attempt_stores s x rs Short r k q = subst (EachStore P) (sym (ap (λ b. r.effects ++ cond b (m.commit (fram_after r.effects x.fram)) []) k.is
         ∙ append-nil r.effects)) q
@@ -330,8 +329,8 @@ module _ {St : Type 0} (m : Model St) (laws : ModelLaws m) (c : Program) (code :
         (attempt_stores u.state h.world rs (m.task u.state rs) (m.attempt h.world.fram rs) (laws.attempts u.state h.world rs ws u.holds)
         (attempts u.state h.world rs ws u.holds)))
         (λ d. subst (λ q. EachStore P q.effects)
-        (sym (script_decided m laws readings words origin h.world.fram rs (laws.decided_gate d.state d.next h.world d.holds)))
-        (commits d.state d.next h.world d.holds))
+        (sym (script_decided m laws readings words origin h.world.fram rs (laws.committing_gate d.to h.world d.holds)))
+        (commits d.to h.world d.holds))
         (phase_of m laws readings words origin h p.stands)
 
     pub charge_stores : (f : ℕ → ℕ) (rs : List ℕ) (es : List Effect) → ChargeEffects m f rs es → (h : History) → f ≡ h.world.fram

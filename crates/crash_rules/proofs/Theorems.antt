@@ -1,13 +1,16 @@
 -- The laws of runs that are cut anywhere.
-use Rattle.std.proofs.Common.{◌≡◌, ℕ, suc, List, [], ◌∷◌, refl, sym, ap, ◌==◌, ◌∙◌, subst, arith, false, All}
+use Rattle.std.proofs.Common.{◌≡◌, ℕ, suc, List, [], ◌∷◌, ◌++◌, refl, sym, ap, ◌==◌, ◌∙◌, subst, arith, false, All, append_assoc, append-nil}
 use Rattle.machine_effects.specs.World.{World}
 use Rattle.machine_effects.specs.Going.{going}
 use Rattle.machine_effects.specs.Machine.{MachineBoard}
-use Rattle.crash_rules.specs.Model.{Model, ModelLaws, IsWord}
-use Rattle.crash_rules.specs.History.{History, observe, behind_boot, first_history}
+use Rattle.crash_rules.specs.Model.{Model, ModelLaws, IsWord, IsBetween}
+use Rattle.crash_rules.specs.History.{Done, History, observe, behind_boot, first_history, decided_readings}
 use Rattle.crash_rules.specs.Runs.{Program, ProgramLaws, Charge, Charged}
-use Rattle.crash_rules.specs.Laws.{Origin, Resting, Phase, UndecidedPhase, DecidedPhase, StandsFor, IsLawful, Matches, Begins, AcceptedWords, AreConsecutive, CrashTheorem, StopsShort, NeverLost, SentOnce, SpansFollow, ProgressLaw, StoresOnly, RunsMayBegin}
+use Rattle.crash_rules.specs.Laws.{Origin, Resting, Pending, Reaches, IsPending, IsSettled, Transits, Phase, UndecidedPhase, DecidedPhase, CommittingPhase, StandsFor}
+use Rattle.crash_rules.specs.Laws.{IsLawful, Matches, Begins, AcceptedDecided, AcceptedWords, AreConsecutive, CrashTheorem, StopsShort, NeverLost, SentOnce, PendingSends}
+use Rattle.crash_rules.specs.Laws.{SpansFollow, ProgressLaw, StoresOnly, RunsMayBegin}
 use Rattle.crash_rules.proofs.Lists.{nothing_first}
+use Rattle.crash_rules.proofs.Observed.{accepted_more}
 use Rattle.crash_rules.proofs.Cuts.{booted}
 use Rattle.crash_rules.proofs.Plays.{AtPoint, plays_from, lawful_from, matches_more, charge_spans, charge_stores, halted_from}
 use Rattle.crash_rules.proofs.Progress.{counts_from}
@@ -73,15 +76,31 @@ stops_short m c laws code readings origin x s b charges t h run p up f l n price
     let k = halted_from m laws c code readings b.words origin (suc n) n (behind_boot h) p price e (omega arith) r.entry r.matches r.point halted in
     (k.reading, (k.short.stands, k.short.undecided, k.short.short))
 
--- where a decide came and no done since, the world is decided
+-- where a decide came and no done since, or the first commit is pending, GATE is 1
 pub never_lost : {St : Type 0} (m : Model St) → NeverLost m
 never_lost {St} m laws readings origin h l d = by_phase l.stands.state l.stands.phase
   where
+    gate_is_set : h.world.fram m.gate ≡ 1 → (h.world.fram m.gate ≡ 1) × ((s : St) → m.Undecided s h.world → ⊥)
+    gate_is_set one = (one, λ z u. let none = laws.undecided_gate z h.world u in omega (arith, one, none))
+
     by_phase : (s : St) → Phase m readings origin s h → (h.world.fram m.gate ≡ 1) × ((s : St) → m.Undecided s h.world → ⊥)
     by_phase s (UndecidedPhase u k w) = absurd (cc (u, d))
     by_phase s (DecidedPhase next e t w) =
-        let one = laws.decided_gate s next h.world w in
-        (one, λ z u. let none = laws.undecided_gate z h.world u in omega (arith, one, none))
+        gate_is_set (laws.committing_gate next h.world (laws.decided_committing s next h.world w))
+    by_phase s (CommittingPhase e p n w) = gate_is_set (laws.committing_gate s h.world w)
+
+-- the words accepted in a commit, behind a decide and at the start of a run
+accepted_decided : {St : Type 0} (m : Model St) (readings : List ℕ) (h : History) (s next : St) (o : Origin St) (ds : List Done)
+    → Transits m o ds (decided_readings readings h) s next → IsBetween (m.emitted s) (m.emitted next) h.world.accepted → AcceptedDecided m readings o ds h s
+accepted_decided m readings h s next (Resting a) ds t b = (next, t, b)
+accepted_decided m readings h s next (Pending a) [] t b = absurd t
+accepted_decided m readings h s next (Pending a) (d ∷ ds) t b = (next, t, b)
+
+accepted_first : {St : Type 0} (m : Model St) (readings : List ℕ) (h : History) (s : St) (o : Origin St) (ds : List Done) → IsPending o ds
+    → IsBetween [] (m.emitted s) h.world.accepted → AcceptedDecided m readings o ds h s
+accepted_first m readings h s (Resting a) ds p b = absurd p
+accepted_first m readings h s (Pending a) [] p b = b
+accepted_first m readings h s (Pending a) (d ∷ ds) p b = absurd p
 
 -- words are accepted only between a decide and its done, each once
 pub sent_once : {St : Type 0} (m : Model St) → SentOnce m
@@ -89,7 +108,44 @@ sent_once {St} m laws readings origin h stands = by_phase stands.state stands.ph
   where
     by_phase : (s : St) → Phase m readings origin s h → AcceptedWords m readings origin h s h.decided
     by_phase s (UndecidedPhase u k w) = subst (AcceptedWords m readings origin h s) (sym u) (laws.undecided_words s h.world w)
-    by_phase s (DecidedPhase next e t w) = subst (AcceptedWords m readings origin h s) (sym e) (next, t, laws.decided_words s next h.world w)
+    by_phase s (DecidedPhase next e t w) = subst (AcceptedWords m readings origin h s) (sym e)
+        (accepted_decided m readings h s next origin h.completed t (laws.decided_words s next h.world w))
+    by_phase s (CommittingPhase e p n w) = subst (AcceptedWords m readings origin h s) (sym e)
+        (accepted_first m readings h s origin h.completed p (laws.committing_words s h.world w))
+
+-- words that are accepted stay so
+charged_more : (c : Program) (gate : ℕ) (charges : List Charge) (s t : MachineBoard) (h k : History) → Charged c gate s h charges t k
+    → (more : List ℕ) × (k.world.accepted ≡ h.world.accepted ++ more)
+charged_more c gate [] s t h k run = ([], ap (λ z. z.world.accepted) run.1 ∙ sym (append-nil h.world.accepted))
+charged_more c gate (e ∷ es) s t h k run =
+    let made = (going c.step e.steps e.powered).effects in
+    let one = accepted_more gate made (behind_boot h) in
+    let rest = charged_more c gate es run.3.0 t (observe gate made (behind_boot h)) k run.3.2 in
+    (one.0 ++ rest.0, rest.1 ∙ ap (λ l. l ++ rest.0) one.1 ∙ append_assoc h.world.accepted one.0 rest.0)
+
+-- while the first commit is pending, words are accepted that its state has beyond those of the start
+pub pending_sends : {St : Type 0} (m : Model St) (c : Program) → PendingSends m c
+pending_sends {St} m c laws code readings to x s b charges t h run none =
+    let l = crash_theorem m c laws code readings (Pending to) x s b charges t h run in
+    by_phase l.0.stands.state (subst (λ ds. Reaches m readings (Pending to) ds l.0.stands.state) none l.0.stands.reached) l.0.stands.phase
+  where
+    grown : (more : List ℕ) × (h.world.accepted ≡ x.accepted ++ more)
+    grown = charged_more c m.gate charges s t (first_history m.gate x) h run
+
+    between : IsBetween [] (m.emitted to) h.world.accepted → IsBetween x.accepted (m.emitted to) h.world.accepted
+    between w =
+        record {
+          sent = grown.0;
+          unsent = w.unsent;
+          accepted_is = grown.1;
+          to_is = w.to_is ∙ ap (λ l. l ++ w.unsent) (sym w.accepted_is ∙ grown.1) ∙ append_assoc x.accepted grown.0 w.unsent;
+        }
+
+    by_phase : (z : St) → z ≡ to → Phase m readings (Pending to) z h → IsBetween x.accepted (m.emitted to) h.world.accepted
+    by_phase z e (UndecidedPhase u k w) = absurd (subst (IsSettled (Pending to)) none k)
+    by_phase z e (DecidedPhase next u q w) =
+        absurd (subst (λ ds. Transits m (Pending to) ds (decided_readings readings h) z next) none q)
+    by_phase z e (CommittingPhase u p n w) = between (laws.committing_words to h.world (subst (λ y. m.Committing y h.world) e w))
 
 first_undecided : {St : Type 0} (m : Model St) → ModelLaws m → (readings : List ℕ) (s0 : St) (x : World)
     → StandsFor m readings (Resting s0) (first_history m.gate x) → m.Undecided s0 x → (first_history m.gate x).decided ≡ false
@@ -98,8 +154,9 @@ first_undecided {St} m laws readings s0 x st u = by_phase st.state st.phase
     by_phase : (s : St) → Phase m readings (Resting s0) s (first_history m.gate x) → (first_history m.gate x).decided ≡ false
     by_phase s (UndecidedPhase d k w) = d
     by_phase s (DecidedPhase next e t w) =
-        let one = laws.decided_gate s next x w in
+        let one = laws.committing_gate next x (laws.decided_committing s next x w) in
         let none = laws.undecided_gate s0 x u in absurd (omega (arith, one, none))
+    by_phase s (CommittingPhase e p n w) = absurd p
 
 -- in one charge the spans follow one another
 pub spans_follow : {St : Type 0} (m : Model St) (c : Program) → SpansFollow m c
@@ -134,5 +191,9 @@ stores_only m c P laws code attempts commits readings origin x s b charges t h r
 pub runs_may_begin : {St : Type 0} (m : Model St) → RunsMayBegin m
 runs_may_begin m laws readings = record {
   resting = λ s x u. record { state = s; reached = refl; phase = UndecidedPhase (ap (λ n. n == 1) (laws.undecided_gate s x u)) tt u };
-  pending = λ s next x d. record { state = s; reached = refl; phase = DecidedPhase next (ap (λ n. n == 1) (laws.decided_gate s next x d)) (refl, refl) d };
+  pending = λ to x d. record {
+    state = to;
+    reached = refl;
+    phase = CommittingPhase (ap (λ n. n == 1) (laws.committing_gate to x d)) tt (refl, refl) d;
+  };
 }

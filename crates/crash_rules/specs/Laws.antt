@@ -9,10 +9,10 @@ use Rattle.crash_rules.specs.Model.{Model, ModelLaws, Ends, Short, IsWord, IsBet
 use Rattle.crash_rules.specs.History.{Done, History, observe, behind_boot, first_history, decided_readings, done_readings}
 use Rattle.crash_rules.specs.Runs.{Program, ProgramLaws, Charge, Charged, Spends}
 
--- how a run begins: at a state, or with a transition that is still to be committed
+-- how a run begins: at a state, or with a commit that is pending, and the state that it leaves
 pub data Origin (St : Type 0) : Type 0 where
   Resting : (state : St) → Origin St
-  Pending : (from to : St) → Origin St
+  Pending : (to : St) → Origin St
 
 -- the source's run on these dones, from a state to a state: a whole task for each, which takes exactly the done's committed
 -- readings; behind the done the world rests at the task's state
@@ -20,33 +20,47 @@ abbrev pub SourceRun : {St : Type 0} → Model St → List ℕ → St → List D
 SourceRun m readings s [] t = t ≡ s
 SourceRun {St} m readings s (d ∷ ds) t = (u : St) × (m.task s (done_readings readings d) ≡ Ends u []) × m.Rests u d.world × SourceRun m readings u ds t
 
--- the state of the last done: that of the source's run; behind a pending transition, the run goes on from its state
+-- a commit that was pending at the start has no readings of its own
+abbrev pub HasNoSpan : ℕ → ℕ → Type 0
+HasNoSpan from to = (from ≡ 0) × (to ≡ 0)
+
+-- the state of the last done: that of the source's run. Behind a pending commit the run goes on from the state that this leaves, which
+-- is the state before its done too
 abbrev pub Reaches : {St : Type 0} → Model St → List ℕ → Origin St → List Done → St → Type 0
 Reaches m readings (Resting s) ds t = SourceRun m readings s ds t
-Reaches m readings (Pending s next) [] t = t ≡ s
-Reaches m readings (Pending s next) (d ∷ ds) t = m.Rests next d.world × SourceRun m readings next ds t
+Reaches m readings (Pending to) [] t = t ≡ to
+Reaches m readings (Pending to) (d ∷ ds) t = HasNoSpan d.span_from d.span_to × m.Rests to d.world × SourceRun m readings to ds t
+
+-- the commit that was pending at the start isn't done yet
+abbrev pub IsPending : {St : Type 0} → Origin St → List Done → Type 0
+IsPending (Resting s) ds = ⊥
+IsPending (Pending to) [] = Unit {0}
+IsPending (Pending to) (d ∷ ds) = ⊥
 
 -- nothing is pending any more
 abbrev pub IsSettled : {St : Type 0} → Origin St → List Done → Type 0
 IsSettled (Resting s) ds = Unit {0}
-IsSettled (Pending s next) [] = ⊥
-IsSettled (Pending s next) (d ∷ ds) = Unit {0}
+IsSettled (Pending to) [] = ⊥
+IsSettled (Pending to) (d ∷ ds) = Unit {0}
 
--- the transition to come leads from s to this next state: by the task on these readings, or because it is pending
+-- the transition to come leads from s to this next state by the task on these readings, once nothing is pending
 abbrev pub Transits : {St : Type 0} → Model St → Origin St → List Done → List ℕ → St → St → Type 0
 Transits m (Resting o) ds readings s next = m.task s readings ≡ Ends next []
-Transits m (Pending from to) [] readings s next = (s ≡ from) × (next ≡ to)
-Transits m (Pending from to) (d ∷ ds) readings s next = m.task s readings ≡ Ends next []
+Transits m (Pending to) [] readings s next = ⊥
+Transits m (Pending to) (d ∷ ds) readings s next = m.task s readings ≡ Ends next []
 
--- the world is undecided at the state of the last done, or decided from it to what the task gives on the readings of the decide
+-- the world is undecided at the state of the last done, or decided from it to what the task gives on the readings of the decide; or the
+-- commit that was pending at the start isn't done, and leaves the state
 pub data Phase {St : Type 0} (m : Model St) (readings : List ℕ) (origin : Origin St) (s : St) (h : History) : Type 0 where
   UndecidedPhase : h.decided ≡ false → IsSettled origin h.completed → m.Undecided s h.world → Phase m readings origin s h
   DecidedPhase : (next : St) → h.decided ≡ true → Transits m origin h.completed (decided_readings readings h) s next → m.Decided s next h.world
       → Phase m readings origin s h
+  CommittingPhase : h.decided ≡ true → IsPending origin h.completed → HasNoSpan h.span_from h.span_to → m.Committing s h.world
+      → Phase m readings origin s h
 
 -- a history stands for a run of the source
 pub record StandsFor {St : Type 0} (m : Model St) (readings : List ℕ) (origin : Origin St) (h : History) : Type 0 where
-  pub state : St  -- the state of the last done
+  pub state : St  -- the state of the last done; while the commit that was pending at the start isn't done, the one that it leaves
   pub reached : Reaches m readings origin h.completed state
   pub phase : Phase m readings origin state h
 
@@ -73,10 +87,10 @@ pub record Begins {St : Type 0} (m : Model St) (readings : List ℕ) (origin : O
   pub words : All IsWord readings
   pub stands : StandsFor m readings origin (first_history m.gate x)
 
--- a run may begin with a world that is undecided at a state, and with one that is decided, whose transition is pending then
+-- a run may begin with a world that is undecided at a state, and with one whose commit is pending
 pub record RunsBegin {St : Type 0} (m : Model St) (readings : List ℕ) : Type 0 where
   pub resting : (s : St) (x : World) → m.Undecided s x → StandsFor m readings (Resting s) (first_history m.gate x)
-  pub pending : (s next : St) (x : World) → m.Decided s next x → StandsFor m readings (Pending s next) (first_history m.gate x)
+  pub pending : (to : St) (x : World) → m.Committing to x → StandsFor m readings (Pending to) (first_history m.gate x)
 
 -- so it is with any readings
 abbrev pub RunsMayBegin : {St : Type 0} → Model St → Type 0
@@ -102,22 +116,36 @@ StopsShort {St} m c = ModelLaws m → ProgramLaws m c → (readings : List ℕ) 
     → let k = observe m.gate (going c.step n p).effects (behind_boot h) in
     (e ≡ stop.NoReading) × ((st : StandsFor m readings origin k) × (k.decided ≡ false) × (m.task st.state (drop k.since readings) ≡ Short))
 
--- where a decide came and no done since, the world is decided, and undecided at no state, whatever boots stand between
+-- where a decide came and no done since, or the first commit is still pending, GATE is 1, and the world is undecided at no state, whatever
+-- boots stand between
 abbrev pub NeverLost : {St : Type 0} → Model St → Type 0
 NeverLost {St} m = ModelLaws m → (readings : List ℕ) (origin : Origin St) (h : History) → IsLawful m readings origin h → h.decided ≡ true
     → (h.world.fram m.gate ≡ 1) × ((s : St) → m.Undecided s h.world → ⊥)
+
+-- the words accepted between a decide and its done: those of the state of the last done, with some of the task's words behind them. While
+-- the commit that was pending at the start isn't done: some of the first words of the state that it leaves
+abbrev pub AcceptedDecided : {St : Type 0} → Model St → List ℕ → Origin St → List Done → History → St → Type 0
+AcceptedDecided m readings (Pending to) [] h s = IsBetween [] (m.emitted s) h.world.accepted
+AcceptedDecided {St} m readings origin ds h s =
+    (next : St) × Transits m origin ds (decided_readings readings h) s next × IsBetween (m.emitted s) (m.emitted next) h.world.accepted
 
 -- the accepted words are those of the state of the last done; between a decide and its done, these with some of the task's words
 -- behind them
 abbrev pub AcceptedWords : {St : Type 0} → Model St → List ℕ → Origin St → History → St → Bool → Type 0
 AcceptedWords m readings origin h s false = h.world.accepted ≡ m.emitted s
-AcceptedWords {St} m readings origin h s true =
-    (next : St) × Transits m origin h.completed (decided_readings readings h) s next × IsBetween (m.emitted s) (m.emitted next) h.world.accepted
+AcceptedWords m readings origin h s true = AcceptedDecided m readings origin h.completed h s
 
 -- words are accepted only between a decide and its done, each once
 abbrev pub SentOnce : {St : Type 0} → Model St → Type 0
 SentOnce {St} m = ModelLaws m → (readings : List ℕ) (origin : Origin St) (h : History) → (stands : StandsFor m readings origin h)
     → AcceptedWords m readings origin h stands.state h.decided
+
+-- while a commit that was pending at the start isn't done, the accepted words are those of the start, with some of those behind them that
+-- the state has beyond these which the commit leaves
+abbrev pub PendingSends : {St : Type 0} → Model St → Program → Type 0
+PendingSends {St} m c = ModelLaws m → ProgramLaws m c → (readings : List ℕ) (to : St) (x : World) (s : MachineBoard) → Begins m readings (Pending to) x s
+    → (charges : List Charge) (t : MachineBoard) (h : History) → RunsTo m c x s charges t h → h.completed ≡ []
+    → IsBetween x.accepted (m.emitted to) h.world.accepted
 
 -- dones whose spans follow one another, from a position to another
 abbrev pub AreConsecutive : ℕ → List Done → ℕ → Type 0
@@ -142,7 +170,7 @@ ProgressLaw {St} m c = ModelLaws m → ProgramLaws m c → (readings : List ℕ)
 abbrev pub StoresOnly : {St : Type 0} → Model St → Program → (ℕ → ℕ → Type 0) → Type 0
 StoresOnly {St} m c P = ModelLaws m → ProgramLaws m c
     → ((s : St) (x : World) (readings : List ℕ) → All IsWord readings → m.Undecided s x → EachStore P (m.attempt x.fram readings).effects)
-    → ((s next : St) (x : World) → m.Decided s next x → EachStore P (m.commit x.fram))
+    → ((to : St) (x : World) → m.Committing to x → EachStore P (m.commit x.fram))
     → (readings : List ℕ) (origin : Origin St) (x : World) (s : MachineBoard) → Begins m readings origin x s
     → (charges : List Charge) (t : MachineBoard) (h : History) → RunsTo m c x s charges t h
     → (p : MachineBoard) → c.IsPoweredUp p → p.fram ≡ t.fram → p.readings_left ≡ t.readings_left

@@ -44,6 +44,7 @@ pub record Model (St : Type 0) : Type 1 where
   pub Rests : St → World → Type 0  -- what a world that rests at a state is
   pub Undecided : St → World → Type 0  -- one that is undecided at it
   pub Decided : St → St → World → Type 0  -- one that is decided from a state to another
+  pub Committing : St → World → Type 0  -- one whose pending commit leaves a state, whatever was committed
 
 -- the greatest of the costs of the first so many tasks
 abbrev pub greatest : (ℕ → ℕ) → ℕ → ℕ
@@ -88,15 +89,19 @@ abbrev pub AttemptContract : {St : Type 0} → Model St → St → List ℕ → 
 AttemptContract m s readings x (Ends next left) p = Decides m s next left readings x p
 AttemptContract m s readings x Short p = RunsShort m s x p
 
--- what a commit owes: its last effect stores 0 to GATE; up to there the world stays decided, and behind it rests at the new state.
+-- what a commit owes: its last effect stores 0 to GATE; up to there the world stays as it is said to be, and behind it rests at a state.
 -- It takes no reading
-pub record CommitContract {St : Type 0} (m : Model St) (s next : St) (x : World) : Type 0 where
+pub record CommitKeeps {St : Type 0} (m : Model St) (Kept : World → Type 0) (to : St) (x : World) : Type 0 where
   pub before : List Effect
   pub is : m.commit x.fram ≡ before ++ Store m.gate 0 ∷ []
   pub elsewhere : EachStore (IsElsewhere m.gate) before
   pub takes_none : readings_taken before ≡ []
-  pub decided : HoldsThroughout (m.Decided s next) before x
-  pub rests : m.Rests next (world_after_one (Store m.gate 0) (world_after before x))
+  pub kept : HoldsThroughout Kept before x
+  pub rests : m.Rests to (world_after_one (Store m.gate 0) (world_after before x))
+
+-- the commit of a decided world: up to its last effect the world stays decided, and behind it rests at the new state
+abbrev pub CommitContract : {St : Type 0} → Model St → St → St → World → Type 0
+CommitContract m s next x = CommitKeeps m (m.Decided s next) next x
 
 -- accepted words between two lists: the first with more behind it, which the second has too
 pub record IsBetween (from to accepted : List ℕ) : Type 0 where
@@ -112,9 +117,11 @@ pub record ModelLaws {St : Type 0} (m : Model St) : Type 0 where
   pub undecided_gate : (s : St) (x : World) → m.Undecided s x → x.fram m.gate ≡ 0
   pub undecided_task : (s : St) (x : World) → m.Undecided s x → m.task_number s < m.tasks
   pub undecided_words : (s : St) (x : World) → m.Undecided s x → x.accepted ≡ m.emitted s
-  pub decided_gate : (s next : St) (x : World) → m.Decided s next x → x.fram m.gate ≡ 1
-  pub decided_task : (s next : St) (x : World) → m.Decided s next x → m.task_number s < m.tasks
   pub decided_words : (s next : St) (x : World) → m.Decided s next x → IsBetween (m.emitted s) (m.emitted next) x.accepted
-  pub commits : (s next : St) (x : World) → m.Decided s next x → CommitContract m s next x
+  pub decided_commits : (s next : St) (x : World) → m.Decided s next x → CommitContract m s next x
+  pub decided_committing : (s next : St) (x : World) → m.Decided s next x → m.Committing next x
+  pub committing_gate : (to : St) (x : World) → m.Committing to x → x.fram m.gate ≡ 1
+  pub committing_words : (to : St) (x : World) → m.Committing to x → IsBetween [] (m.emitted to) x.accepted
+  pub commits : (to : St) (x : World) → m.Committing to x → CommitKeeps m (m.Committing to) to x
   pub attempts : (s : St) (x : World) (readings : List ℕ) → All IsWord readings → m.Undecided s x
       → AttemptContract m s readings x (m.task s readings) (m.attempt x.fram readings)

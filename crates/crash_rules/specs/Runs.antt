@@ -5,7 +5,7 @@ use Rattle.machine_effects.specs.World.{World}
 use Rattle.machine_effects.specs.Going.{Goes, Stops, At, going, Leads, Stalls}
 use Rattle.machine_effects.specs.Machine.{MachineBoard, MachineOutcome}
 use Rattle.machine_effects.specs.Laws.{ChangesByEffects}
-use Rattle.crash_rules.specs.Model.{Model, ProgramEffects, program_effects, IsWord, with_commit}
+use Rattle.crash_rules.specs.Model.{Model, ProgramEffects, program_effects, IsWord, bound, with_commit}
 use Rattle.crash_rules.specs.History.{History, observe, behind_boot}
 
 -- code that runs on the machine
@@ -34,8 +34,8 @@ pub record ProgramLaws {St : Type 0} (m : Model St) (c : Program) : Type 0 where
   pub enters : (s : MachineBoard) → c.IsPoweredUp s → c.AtEntry s
   pub makes_attempt : (s : St) (x : World) (b : MachineBoard) → c.AtEntry b → b.fram ≡ x.fram → All IsWord b.readings_left → m.Undecided s x
       → Makes c (m.task_cost (m.task_number s)) (with_commit m b.fram (m.attempt b.fram b.readings_left)) b
-  pub makes_commit : (s next : St) (x : World) (b : MachineBoard) → c.AtEntry b → b.fram ≡ x.fram → m.Decided s next x
-      → Makes c (m.task_cost (m.task_number s)) (program_effects (m.commit b.fram) true) b
+  pub makes_commit : (to : St) (x : World) (b : MachineBoard) → c.AtEntry b → b.fram ≡ x.fram → m.Committing to x
+      → Makes c (bound m) (program_effects (m.commit b.fram) true) b
 
 -- a charge: the board that its power-up left, and how many steps were made
 pub record Charge : Type 0 where

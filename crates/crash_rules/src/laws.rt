@@ -4,7 +4,7 @@ ghost use Rattle.std.specs.Prelude.{ℕ};
 ghost use Rattle.crash_rules.specs.Model.{Model};
 ghost use Rattle.crash_rules.specs.History.{EventsOfInstructions};
 ghost use Rattle.crash_rules.specs.Runs.{Program};
-ghost use Rattle.crash_rules.specs.Laws.{CrashTheorem, NeverLost, ProgressLaw, RunsMayBegin, SentOnce, SpansFollow, StopsShort, StoresOnly};
+ghost use Rattle.crash_rules.specs.Laws.{CrashTheorem, NeverLost, PendingSends, ProgressLaw, RunsMayBegin, SentOnce, SpansFollow, StopsShort, StoresOnly};
 
 /// A compiled program as the laws see it. The type is what a state of its source is.
 pub trait Compiled {
@@ -18,7 +18,7 @@ pub trait Compiled {
     ghost may_store: { ℕ → ℕ → Type 0 };
 }
 
-/// A run may begin with a world that is undecided at a state of the source, or decided.
+/// A run may begin with a world that is undecided at a state of the source, or whose commit is pending.
 pub fn runs_may_begin<S: Compiled>()
     ensures { RunsMayBegin S.model }
 {}
@@ -42,6 +42,11 @@ pub fn nothing_is_lost<S: Compiled>()
 /// Words are accepted only between a decide and its done, each once.
 pub fn words_are_sent_once<S: Compiled>()
     ensures { SentOnce S.model }
+{}
+
+/// While a commit that was pending at the start isn't done, words are accepted that its state has beyond those of the start.
+pub fn pending_words_are_sent_once<S: Compiled>()
+    ensures { PendingSends S.model S.program }
 {}
 
 /// In one charge the committed readings of the transitions follow one another, from the first on.
