@@ -207,6 +207,7 @@ module _ {St : Type 0} (m : Model St) (laws : ModelLaws m) (readings : List ℕ)
       pub completed : k.completed ≡ h.completed ++ done ∷ []
       pub undecided : k.decided ≡ false
       pub span : h.decided ≡ false → (done.span_from ≡ h.since) × (done.span_to ≡ k.since)
+      pub since : h.decided ≡ true → k.since ≡ h.taken
 
     -- from h no done came, or the dones follow one another
     pub record Spans (h k : History) : Type 0 where
@@ -341,6 +342,7 @@ module _ {St : Type 0} (m : Model St) (laws : ModelLaws m) (readings : List ℕ)
             completed = w.completed;
             undecided = w.undecided;
             span = λ z. (refl, sym w.taken ∙ sym w.point.since);
+            since = λ z. absurd (cc (nd, z));
           }) in
           subst (λ q. Next h (observe m.gate (with_commit m h.world.fram q).effects h)) (sym c.is) all
 
@@ -453,6 +455,14 @@ module _ {St : Type 0} (m : Model St) (laws : ModelLaws m) (readings : List ℕ)
         record { lawful = k.lawful; spans = stayed_spans h _ k d.decided })
         (phase_of h p.stands)
 
+    -- from a pending commit on no done comes, or one, at which no reading more was taken
+    pub point_grows : (h : History) (es : List Effect) → Point h → h.decided ≡ true → IsPrefix es (script_at h).effects → Grows h (observe m.gate es h)
+    point_grows h es p decided pre =
+        ⊎_elim {C = Grows h (observe m.gate es h)}
+        (λ u. absurd (cc (u.undecided, decided)))
+        (λ d. (d.part es (subst (λ q. IsPrefix es q.effects) (script_d h d) pre) (point_lawful h p).world (may_go_on h es p pre)).grows)
+        (phase_of h p.stands)
+
     -- and the whole script
     pub point_whole : (h : History) → Point h → (script_at h).ends ≡ true → Next h (observe m.gate (script_at h).effects h)
     point_whole h p e =
@@ -469,6 +479,7 @@ module _ {St : Type 0} (m : Model St) (laws : ModelLaws m) (readings : List ℕ)
           completed = w.completed;
           undecided = w.undecided;
           span = λ z. absurd (cc (d.decided, z));
+          since = λ z. w.point.since ∙ w.taken;
         } in
         subst (λ q. Next h (observe m.gate q.effects h)) (sym (script_d h d)) n)
         (phase_of h p.stands)

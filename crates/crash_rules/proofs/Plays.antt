@@ -17,7 +17,8 @@ use Rattle.crash_rules.specs.Runs.{Program, Makes, ProgramLaws}
 use Rattle.crash_rules.specs.Laws.{Origin, IsLawful, Matches, AreConsecutive}
 use Rattle.crash_rules.proofs.Lists.{world_fram, each_prefix}
 use Rattle.crash_rules.proofs.Observed.{observe-append, observed_taken, observed_world}
-use Rattle.crash_rules.proofs.Cuts.{ChargeEffects, partial, complete, Point, Next, Spans, EndsShort, point_part, point_whole, point_some, point_short, phase_of}
+use Rattle.crash_rules.proofs.Cuts.{ChargeEffects, partial, complete, Point, Next, Grows, Stayed, Finished, Spans, EndsShort, done_of, point_part, point_grows, point_whole}
+use Rattle.crash_rules.proofs.Cuts.{point_some, point_short, phase_of}
 use Rattle.crash_rules.proofs.Cuts.{script_at, script_decided, script_undecided, words_left}
 use Rattle.crash_rules.proofs.Steps.{halts, fewer, leads_end, stalls_end, no_steps, Changed, changed, left_behind}
 
@@ -237,6 +238,29 @@ module _ {St : Type 0} (m : Model St) (laws : ModelLaws m) (c : Program) (code :
         follow = λ z. spans_join h.since (n.done ∷ []) r.dones k.history.since _ one (r.follow n.undecided);
       } in
       subst (Spans m laws readings words origin h) (ap (observe m.gate more) k.is ∙ sym (observe-append m.gate (script m f rs).effects more h)) s
+
+  -- from a pending commit on no done comes, or one, behind which the dones follow one another
+  pub data SpansPast (h k : History) : Type 0 where
+    NoDone : k.completed ≡ h.completed → SpansPast h k
+    PastDone : (d : Done) (ds : List Done) → k.completed ≡ h.completed ++ (d ∷ ds) → AreConsecutive h.taken ds k.since → SpansPast h k
+
+  pub charge_past : (f : ℕ → ℕ) (rs : List ℕ) (es : List Effect) → ChargeEffects m f rs es → (h : History) → f ≡ h.world.fram → rs ≡ drop h.taken readings
+      → AtPoint h → h.decided ≡ true → SpansPast h (observe m.gate es h)
+  charge_past f rs es (partial pre) h ef er p u =
+      past (point_grows m laws readings words origin h es p u (subst (λ q. IsPrefix es q.effects) (ap₂ (script m) ef er) pre))
+    where
+      past : Grows m laws readings words origin h (observe m.gate es h) → SpansPast h (observe m.gate es h)
+      past (Stayed a b) = NoDone a
+      past (Finished a b) = PastDone (done_of m laws readings words origin h (observe m.gate es h).world) [] a (sym b)
+  charge_past f rs es (complete {es = more} e ce) h ef er p u =
+      let k = behind f rs h ef er p e in
+      let n = k.next in
+      let r = charge_spans _ _ more ce k.history k.fram k.readings_there n.point n.undecided in
+      let end = observe m.gate more k.history in
+      let s : SpansPast h end = PastDone n.done r.dones
+      (r.completed ∙ ap (λ l. l ++ r.dones) n.completed ∙ append_assoc h.completed (n.done ∷ []) r.dones)
+      (subst (λ j. AreConsecutive j r.dones end.since) (n.since u) (r.follow n.undecided)) in
+      subst (SpansPast h) (ap (observe m.gate more) k.is ∙ sym (observe-append m.gate (script m f rs).effects more h)) s
 
   -- a machine that halts does so for want of a reading, where the source is short
   pub record HaltsShort (k : History) (e : Stop) : Type 0 where

@@ -1,5 +1,5 @@
 -- The laws of runs that are cut anywhere.
-use Rattle.std.proofs.Common.{◌≡◌, ℕ, suc, List, [], ◌∷◌, ◌++◌, refl, sym, ap, ◌==◌, ◌∙◌, subst, arith, false, All, append_assoc, append-nil}
+use Rattle.std.proofs.Common.{◌≡◌, ℕ, suc, List, [], ◌∷◌, ◌++◌, refl, sym, ap, ◌==◌, ◌∙◌, subst, arith, true, false, All, append_assoc, append-nil}
 use Rattle.machine_effects.specs.World.{World}
 use Rattle.machine_effects.specs.Going.{going}
 use Rattle.machine_effects.specs.Machine.{MachineBoard}
@@ -8,11 +8,11 @@ use Rattle.crash_rules.specs.History.{Done, History, observe, behind_boot, first
 use Rattle.crash_rules.specs.Runs.{Program, ProgramLaws, Charge, Charged}
 use Rattle.crash_rules.specs.Laws.{Origin, Resting, Pending, Reaches, IsPending, IsSettled, Transits, Phase, UndecidedPhase, DecidedPhase, CommittingPhase, StandsFor}
 use Rattle.crash_rules.specs.Laws.{IsLawful, Matches, Begins, AcceptedDecided, AcceptedWords, AreConsecutive, CrashTheorem, StopsShort, NeverLost, SentOnce, PendingSends}
-use Rattle.crash_rules.specs.Laws.{SpansFollow, ProgressLaw, StoresOnly, RunsMayBegin}
+use Rattle.crash_rules.specs.Laws.{SpansFollow, FollowFirst, PendingSpansFollow, ProgressLaw, StoresOnly, RunsMayBegin}
 use Rattle.crash_rules.proofs.Lists.{nothing_first}
 use Rattle.crash_rules.proofs.Observed.{accepted_more}
 use Rattle.crash_rules.proofs.Cuts.{booted}
-use Rattle.crash_rules.proofs.Plays.{AtPoint, plays_from, lawful_from, matches_more, charge_spans, charge_stores, halted_from}
+use Rattle.crash_rules.proofs.Plays.{AtPoint, plays_from, lawful_from, matches_more, charge_spans, SpansPast, NoDone, PastDone, charge_past, charge_stores, halted_from}
 use Rattle.crash_rules.proofs.Progress.{counts_from}
 use Rattle.crash_rules.proofs.Steps.{changed}
 
@@ -172,6 +172,29 @@ spans_follow m c laws code readings s0 x s b u e t h run =
     let is : h ≡ observe m.gate (going c.step e.steps p).effects (behind_boot h0) = run.3.2.1 in
     subst (λ k. AreConsecutive 0 k.completed k.since) (sym is)
     (subst (λ ds. AreConsecutive 0 ds (observe m.gate (going c.step e.steps p).effects (behind_boot h0)).since) (sym sp.completed) (sp.follow d))
+
+-- so do those behind a pending commit
+pub pending_spans_follow : {St : Type 0} (m : Model St) (c : Program) → PendingSpansFollow m c
+pending_spans_follow {St} m c laws code readings to x s b e t h run =
+    let h0 = first_history m.gate x in
+    let start = begun m c laws code readings b.words (Pending to) x s b in
+    let p = e.powered in
+    let mt = powered_matches m c laws code readings b.words (Pending to) s p h0 start.1 run.1 run.2 in
+    let pt = boot_point m c laws code readings b.words (Pending to) h0 start.0 in
+    let ce = plays_from m laws c code readings b.words (Pending to) (suc e.steps) e.steps (behind_boot h0) p (omega arith) (code.enters p run.0) mt pt in
+    let past = charge_past m laws c code readings b.words (Pending to) p.fram p.readings_left _ ce (behind_boot h0) mt.fram mt.readings_left pt
+    (first_decided b.stands.state b.stands.phase) in
+    let is : h ≡ observe m.gate (going c.step e.steps p).effects (behind_boot h0) = run.3.2.1 in
+    subst (λ k. FollowFirst k.completed k.since) (sym is) (follow _ past)
+  where
+    first_decided : (z : St) → Phase m readings (Pending to) z (first_history m.gate x) → (first_history m.gate x).decided ≡ true
+    first_decided z (UndecidedPhase d k w) = absurd k
+    first_decided z (DecidedPhase next d q w) = d
+    first_decided z (CommittingPhase d p n w) = d
+
+    follow : (k : History) → SpansPast m laws c code readings b.words (Pending to) (behind_boot (first_history m.gate x)) k → FollowFirst k.completed k.since
+    follow k (NoDone a) = subst (λ ds. FollowFirst ds k.since) (sym a) tt
+    follow k (PastDone d ds a f) = subst (λ l. FollowFirst l k.since) (sym a) f
 
 -- a charge of at least n bounds that is spent has at least n dones
 pub progress_law : {St : Type 0} (m : Model St) (c : Program) → ProgressLaw m c

@@ -158,6 +158,17 @@ SpansFollow {St} m c = ModelLaws m → ProgramLaws m c → (readings : List ℕ)
     → m.Undecided s0 x
     → (e : Charge) (t : MachineBoard) (h : History) → RunsTo m c x s (e ∷ []) t h → AreConsecutive 0 h.completed h.since
 
+-- dones of which all but the first follow one another, from the first reading on up to a position
+abbrev pub FollowFirst : List Done → ℕ → Type 0
+FollowFirst [] to = Unit {0}
+FollowFirst (d ∷ ds) to = AreConsecutive 0 ds to
+
+-- in one charge that begins with a pending commit the spans behind its done follow one another, from the first reading on
+abbrev pub PendingSpansFollow : {St : Type 0} → Model St → Program → Type 0
+PendingSpansFollow {St} m c = ModelLaws m → ProgramLaws m c → (readings : List ℕ) (to : St) (x : World) (s : MachineBoard)
+    → Begins m readings (Pending to) x s
+    → (e : Charge) (t : MachineBoard) (h : History) → RunsTo m c x s (e ∷ []) t h → FollowFirst h.completed h.since
+
 -- a charge of at least n bounds that is spent has at least n dones
 abbrev pub ProgressLaw : {St : Type 0} → Model St → Program → Type 0
 ProgressLaw {St} m c = ModelLaws m → ProgramLaws m c → (readings : List ℕ) (origin : Origin St) (x : World) (s : MachineBoard) → Begins m readings origin x s

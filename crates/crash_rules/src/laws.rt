@@ -4,7 +4,7 @@ ghost use Rattle.std.specs.Prelude.{ℕ};
 ghost use Rattle.crash_rules.specs.Model.{Model};
 ghost use Rattle.crash_rules.specs.History.{EventsOfInstructions};
 ghost use Rattle.crash_rules.specs.Runs.{Program};
-ghost use Rattle.crash_rules.specs.Laws.{CrashTheorem, NeverLost, PendingSends, ProgressLaw, RunsMayBegin, SentOnce, SpansFollow, StopsShort, StoresOnly};
+ghost use Rattle.crash_rules.specs.Laws.{CrashTheorem, NeverLost, PendingSends, PendingSpansFollow, ProgressLaw, RunsMayBegin, SentOnce, SpansFollow, StopsShort, StoresOnly};
 
 /// A compiled program as the laws see it. The type is what a state of its source is.
 pub trait Compiled {
@@ -52,6 +52,11 @@ pub fn pending_words_are_sent_once<S: Compiled>()
 /// In one charge the committed readings of the transitions follow one another, from the first on.
 pub fn one_charge_takes_readings_in_order<S: Compiled>()
     ensures { SpansFollow S.model S.program }
+{}
+
+/// In one charge that begins with a pending commit so do those of the transitions behind it.
+pub fn one_charge_takes_readings_behind_a_commit<S: Compiled>()
+    ensures { PendingSpansFollow S.model S.program }
 {}
 
 /// A charge of at least n bounds that is spent has at least n dones.
