@@ -2,9 +2,11 @@
 
 -- Each effect of a commit keeps a decided world decided.
 pub use Rattle.stands_for.proofs.Keeps.{put_either, put_words}
--- A commit keeps a decided world decided at each of its effects, and brings it to rest at the new state.
-pub use Rattle.stands_for.proofs.Commits.{commit_stores_all}
+-- Words of FRAM as a list.
+pub use Rattle.stands_for.proofs.Behind.{words_length}
+-- A pending commit: where it stores, what it still sends, and that none is pending behind it.
+pub use Rattle.stands_for.proofs.Pending.{commit_stores_all, unsent_are_few, commit_rests}
 -- An attempt's start keeps a world undecided, and leaves an attempt that has started.
 pub use Rattle.stands_for.proofs.Starts.{each_weaker, elsewhere_same}
 -- The laws of what a world stands for.
-pub use Rattle.stands_for.proofs.Theorems.{keeps_the_laws, numbered_starts, decided_can_commit, commit_stores_there}
+pub use Rattle.stands_for.proofs.Theorems.{keeps_the_laws, numbered_starts, pending_can_commit, commit_stores_there}

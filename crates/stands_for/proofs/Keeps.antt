@@ -1,5 +1,5 @@
 -- Each effect of a commit keeps a decided world decided.
-use Rattle.std.proofs.Common.{◌≡◌, ℕ, zero, suc, ◌+◌, ◌*◌, ◌%◌, ◌<◌, ◌≤◌, List, [], ◌∷◌, ◌++◌, refl, sym, ap, ap₂, ◌∙◌, subst, ⊎_elim, inl, inr, ◌⊎◌, arith, ne_eqb, eq-eqb, cond, length, take, length-append, length-take-le, append_assoc, take-suc}
+use Rattle.std.proofs.Common.{◌≡◌, ℕ, suc, ◌+◌, ◌*◌, ◌%◌, ◌<◌, ◌≤◌, List, [], ◌∷◌, ◌++◌, refl, sym, ap, ap₂, ◌∙◌, subst, ⊎_elim, inl, inr, ◌⊎◌, arith, ne_eqb, eq-eqb, cond, length, take, length-append, length-take-le, append_assoc, take-suc}
 use Rattle.std.proofs.lemmas.Bool.{cases_eq}
 use Rattle.std.specs.List.{slice_index}
 use Rattle.runtime_effects.specs.fram_board.Effects.{Store, Send}
@@ -23,7 +23,7 @@ pub put_words : (f : ℕ → ℕ) (a w : ℕ) → HoldsWords f → w < 0x10000 �
 put_words f a w h k b =
     ⊎_elim {C = put f a w b < 0x10000} (λ q. subst (λ z. z < 0x10000) (sym q.1) k) (λ q. subst (λ z. z < 0x10000) (sym q.1) (h b)) (put_either f a w b)
 
-same_number : (a j i : ℕ) → j ≤ 256 → i ≤ 256 → (a + i) % 0x10000 ≡ (a + j) % 0x10000 → i ≡ j
+pub same_number : (a j i : ℕ) → j ≤ 256 → i ≤ 256 → (a + i) % 0x10000 ≡ (a + j) % 0x10000 → i ≡ j
 same_number a j i hj hi e = omega arith
 
 module _ {St : Type 0} (l : ProgramPlaces) (apart : AreApart l.map) (room : HaveRoom l) (v : StateView St) (s next : St) (ps : List CopyPair)

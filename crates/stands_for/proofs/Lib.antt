@@ -1,4 +1,8 @@
 mod Keeps
+mod Walks
+mod Behind
+mod Pending
+mod Again
 mod Commits
 mod Starts
 mod Attempts

@@ -1,8 +1,12 @@
 -- The laws of what a world stands for.
-use Rattle.std.proofs.Common.{◌++◌, take, drop, sym, ap, ◌∙◌, inr}
+use Rattle.std.proofs.Common.{[], ◌++◌, take, drop, sym, ap, ◌∙◌, subst, inr}
 use Rattle.std.proofs.lemmas.List.{take-append-drop}
-use Rattle.stands_for.specs.Program.{KeepsTheLaws, NumberedStarts, DecidedCanCommit, CommitStores}
-use Rattle.stands_for.proofs.Commits.{commit_before, commit_is, commit_takes, commit_elsewhere, commit_stores, committed, can_commit}
+use Rattle.crash_rules.specs.Model.{IsBetween}
+use Rattle.stands_for.specs.Program.{KeepsTheLaws, NumberedStarts, PendingCanCommit, CommitStores}
+use Rattle.stands_for.proofs.Pending.{sent_first, commit_keeps, commit_stores, can_commit}
+use Rattle.stands_for.proofs.Behind.{behind_commit}
+use Rattle.stands_for.proofs.Again.{committing}
+use Rattle.stands_for.proofs.Commits.{stays_decided, decided_committing}
 use Rattle.stands_for.proofs.Starts.{numbered_start}
 use Rattle.stands_for.proofs.Attempts.{attempts}
 
@@ -15,22 +19,19 @@ keeps_the_laws St l v privates p apart room start tasks =
       undecided_gate = λ s x u. u.is_open.gate;
       undecided_task = λ s x u. u.is_open.is_task;
       undecided_words = λ s x u. u.is_open.accepted;
-      decided_gate = λ s next x d. d.decided.gate;
-      decided_task = λ s next x d. d.decided.is_task;
       decided_words = λ s next x d. record {
         sent = take d.decided.accepted.count d.emits;
         unsent = drop d.decided.accepted.count d.emits;
         accepted_is = d.decided.accepted.is;
         to_is = d.decided.emitted ∙ ap (λ l. v.emitted s ++ l) (sym (take-append-drop d.decided.accepted.count d.emits));
       };
-      commits = λ s next x d. let k = committed l apart room v s next x d in record {
-        before = commit_before l apart room v s next x.fram;
-        is = commit_is l apart room v s next x.fram;
-        elsewhere = commit_elsewhere l apart room v s next x d;
-        takes_none = commit_takes l apart room v s next x.fram;
-        decided = k.through;
-        rests = k.rests;
-      };
+      decided_commits = λ s next x d. commit_keeps l v p apart _ next x (decided_committing l apart room v s next x d)
+          (stays_decided l apart room v s next x d);
+      decided_committing = decided_committing l apart room v;
+      committing_gate = λ to x d. d.pending.gate;
+      committing_words = λ to x d. subst (λ ws. IsBetween [] ws x.accepted)
+          (sym (ap (λ y. y.accepted) (behind_commit l.map x)) ∙ d.rests.is_open.accepted) (sent_first l apart x d.pending room);
+      commits = λ to x d. commit_keeps l v p apart _ to x d (committing l v apart room to x d);
       attempts = attempts l v privates p apart start tasks;
     }
 
@@ -38,10 +39,10 @@ keeps_the_laws St l v privates p apart room start tasks =
 pub numbered_starts : (St : Type 0) → NumberedStarts St
 numbered_starts St l v privates apart laid = numbered_start l apart v privates laid
 
--- a decided world has what its commit needs
-pub decided_can_commit : (St : Type 0) → DecidedCanCommit St
-decided_can_commit St l v s next x apart room d = can_commit l apart room v s next x d
+-- a pending commit has what it needs
+pub pending_can_commit : PendingCanCommit
+pending_can_commit l x apart p = can_commit l apart x p
 
--- a commit stores to shared words, CUR, BASE and GATE alone
-pub commit_stores_there : (St : Type 0) → CommitStores St
-commit_stores_there St l v s next x apart room d = commit_stores l apart room v s next x d
+-- it stores to shared words, CUR, BASE and GATE alone
+pub commit_stores_there : CommitStores
+commit_stores_there l x apart p = commit_stores l apart x p

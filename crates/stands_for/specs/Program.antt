@@ -11,7 +11,7 @@ use Rattle.runtime_effects.specs.Needs.{CanCommit}
 use Rattle.crash_rules.specs.Model.{Outcome, ProgramEffects, program_effects, HoldsThroughout, IsWord, Model, ModelLaws, AttemptContract}
 use Rattle.runtime_effects.specs.memory_map.Laws.{AreApart}
 use Rattle.stands_for.specs.Layout.{ProgramPlaces, StateView, HaveRoom, ArePrivate}
-use Rattle.stands_for.specs.StandsFor.{RestsAt, UndecidedAt, DecidedFrom, StartedAt}
+use Rattle.stands_for.specs.StandsFor.{RestsAt, UndecidedAt, DecidedFrom, IsPendingCommit, CommittingTo, StartedAt}
 
 -- effects in front of a program's
 abbrev pub behind_start : List Effect → ProgramEffects → ProgramEffects
@@ -42,6 +42,7 @@ program_model l v p = record {
   Rests = RestsAt l v;
   Undecided = UndecidedAt l v;
   Decided = DecidedFrom l v;
+  Committing = CommittingTo l v;
 }
 
 -- a store of a start: to a word of the runtime behind GATE, where CLN and EN become 0, to a version word or to a copy
@@ -76,17 +77,15 @@ abbrev pub NumberedStarts : (St : Type 0) → Type 0
 NumberedStarts St = (l : ProgramPlaces) (v : StateView St) (privates : ℕ → List CopyPair)
     → AreApart l.map → ((t : ℕ) → ArePrivate l t (privates t)) → StartContract l v privates (start_effects l.map privates)
 
--- where a world is decided the commit finds what it needs
-abbrev pub DecidedCanCommit : (St : Type 0) → Type 0
-DecidedCanCommit St = (l : ProgramPlaces) (v : StateView St) (s next : St) (x : World) → AreApart l.map → HaveRoom l → DecidedFrom l v s next x
-    → CanCommit l.map x.fram
+-- where a commit is pending it finds what it needs
+abbrev pub PendingCanCommit : Type 0
+PendingCanCommit = (l : ProgramPlaces) (x : World) → AreApart l.map → IsPendingCommit l x → CanCommit l.map x.fram
 
 -- the stores of a commit: to shared words, CUR, BASE and GATE
 pub record IsCommitStore (l : ProgramPlaces) (a w : ℕ) : Type 0 where
   pub from : word_place l.map CurrentTask ≤ a
   pub below : a < end_of l.map.homes
 
--- a decided world's commit stores nowhere else
-abbrev pub CommitStores : (St : Type 0) → Type 0
-CommitStores St = (l : ProgramPlaces) (v : StateView St) (s next : St) (x : World) → AreApart l.map → HaveRoom l → DecidedFrom l v s next x
-    → EachStore (IsCommitStore l) (commit_effects l.map x.fram)
+-- a pending commit stores nowhere else
+abbrev pub CommitStores : Type 0
+CommitStores = (l : ProgramPlaces) (x : World) → AreApart l.map → IsPendingCommit l x → EachStore (IsCommitStore l) (commit_effects l.map x.fram)

@@ -1,14 +1,21 @@
--- What FRAM and the accepted words stand for: they rest at a state of the source, are undecided at it, or decided from one to another.
-use Rattle.std.specs.Prelude.{◌≡◌, ℕ, ◌+◌, ◌*◌, ◌%◌, ◌<◌, ◌≤◌, ◌⊎◌, true, List, ◌++◌, length, take, slice_index}
+-- What FRAM and the accepted words stand for: they rest at a state of the source, are undecided at it, or decided from one to another; or a
+-- commit is pending that leaves one.
+use Rattle.std.specs.Prelude.{◌≡◌, ℕ, zero, suc, ◌+◌, ◌*◌, ◌%◌, ◌<◌, ◌≤◌, ◌⊎◌, true, List, [], ◌∷◌, ◌++◌, length, take, slice_index}
 use Rattle.runtime_effects.specs.memory_map.MemoryMap.{word_place}
 use Rattle.runtime_effects.specs.memory_map.declared.words.RuntimeWord.TheVariants.{CurrentTask, NextTask, Gate, ListLength, EmitCount, Base, SentBase, Version}
-use Rattle.runtime_effects.specs.machine_effects.World.{World}
+use Rattle.runtime_effects.specs.machine_effects.World.{World, world_after}
 use Rattle.runtime_effects.specs.Places.{CopyPair, listed}
+use Rattle.runtime_effects.specs.Stages.{commit_effects}
 use Rattle.stands_for.specs.Layout.{ProgramPlaces, StateView, IsSharedWord, IsCopyWord, IsAmong}
 
 -- every word of FRAM is a word
 abbrev pub HoldsWords : (ℕ → ℕ) → Type 0
 HoldsWords f = (a : ℕ) → f a < 0x10000
+
+-- so many words from an address on
+abbrev pub words_at : ℕ → ℕ → (ℕ → ℕ) → List ℕ
+words_at zero p f = []
+words_at (suc n) p f = f p ∷ words_at n (p + 2) f
 
 -- every version word is at most VER
 abbrev pub VersionsWithin : ProgramPlaces → (ℕ → ℕ) → Type 0
@@ -76,6 +83,45 @@ pub record DecidedWith {St : Type 0} (l : ProgramPlaces) (v : StateView St) (s n
 pub record DecidedFrom {St : Type 0} (l : ProgramPlaces) (v : StateView St) (s next : St) (x : World) : Type 0 where
   pub emits : List ℕ
   pub decided : DecidedWith l v s next (listed l.map x.fram) emits 0 x
+
+-- no commit is pending, whatever the shared words are: CUR names a task, BASE is the number of the accepted words, and every version word is
+-- at most VER
+pub record IsAtRest (l : ProgramPlaces) (x : World) : Type 0 where
+  pub words : HoldsWords x.fram
+  pub current_task : x.fram (word_place l.map CurrentTask) < l.tasks
+  pub gate : x.fram (word_place l.map Gate) ≡ 0
+  pub base : x.fram (word_place l.map Base) ≡ length x.accepted % 0x10000
+  pub versions : VersionsWithin l x.fram
+
+-- a commit is pending and can be made, whatever was committed: CUR and NEXT name tasks; the list, the words that it names and the words to
+-- send are within their capacities; the list goes from copies to shared words; the receiver accepted the first so many of the words to
+-- send, which are numbered from SB on; and BASE is SB, or SB + EN
+pub record IsPendingCommit (l : ProgramPlaces) (x : World) : Type 0 where
+  pub words : HoldsWords x.fram
+  pub gate : x.fram (word_place l.map Gate) ≡ 1
+  pub current_task : x.fram (word_place l.map CurrentTask) < l.tasks
+  pub next_task : x.fram (word_place l.map NextTask) < l.tasks
+  pub list_length : x.fram (word_place l.map ListLength) ≤ l.map.entries
+  pub list_words : length (listed l.map x.fram) ≤ l.map.entries
+  pub homes : (p : CopyPair) → IsAmong (listed l.map x.fram) p → IsSharedWord l p.home
+  pub copies : (p : CopyPair) → IsAmong (listed l.map x.fram) p → IsCopyWord l p.copy
+  pub emit_count : x.fram (word_place l.map EmitCount) ≤ l.map.emits.words
+  pub sent : ℕ
+  pub sent_some : sent ≤ x.fram (word_place l.map EmitCount)
+  pub number : length x.accepted % 0x10000 ≡ (x.fram (word_place l.map SentBase) + sent) % 0x10000
+  pub base : (x.fram (word_place l.map Base) ≡ x.fram (word_place l.map SentBase))
+      ⊎ (x.fram (word_place l.map Base) ≡ (x.fram (word_place l.map SentBase) + x.fram (word_place l.map EmitCount)) % 0x10000)
+  pub versions : VersionsWithin l x.fram
+
+-- a sound world: one from which a run can go on
+pub data IsSound (l : ProgramPlaces) (x : World) : Type 0 where
+  SoundAtRest : IsAtRest l x → IsSound l x
+  SoundPending : IsPendingCommit l x → IsSound l x
+
+-- a pending commit leaves a state: behind the commit the world rests there
+pub record CommittingTo {St : Type 0} (l : ProgramPlaces) (v : StateView St) (to : St) (x : World) : Type 0 where
+  pub pending : IsPendingCommit l x
+  pub rests : RestsAt l v to (world_after (commit_effects l.map x.fram) x)
 
 -- an attempt has started: nothing is listed and nothing emitted, every version word is below VER, and the copies of these scalars are made
 pub record StartedAt {St : Type 0} (l : ProgramPlaces) (v : StateView St) (s : St) (privates : List CopyPair) (x : World) : Type 0 where

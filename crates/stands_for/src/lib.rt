@@ -4,6 +4,6 @@
 mod laws;
 
 pub use laws::{
-    a_decided_world_can_be_committed, commit_stores_to_shared_words,
-    numbered_start_keeps_its_contract, start_and_tasks_give_the_laws,
+    a_pending_commit_can_be_made, commit_stores_to_shared_words, numbered_start_keeps_its_contract,
+    start_and_tasks_give_the_laws,
 };

@@ -1,5 +1,5 @@
-use Rattle.stands_for.proofs.Theorems.{decided_can_commit}
-use Rattle.stands_for.proofs.laws.a_decided_world_can_be_committed.Goals as goal
+use Rattle.stands_for.proofs.Theorems.{pending_can_commit}
+use Rattle.stands_for.proofs.laws.a_pending_commit_can_be_made.Goals as goal
 
 pub returns : goal.returns
-returns g c = decided_can_commit g.row.S.Denot
+returns c = pending_can_commit

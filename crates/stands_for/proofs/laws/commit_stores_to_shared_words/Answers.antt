@@ -2,4 +2,4 @@ use Rattle.stands_for.proofs.Theorems.{commit_stores_there}
 use Rattle.stands_for.proofs.laws.commit_stores_to_shared_words.Goals as goal
 
 pub returns : goal.returns
-returns g c = commit_stores_there g.row.S.Denot
+returns c = commit_stores_there

@@ -1,0 +1,226 @@
+-- Behind each effect of a pending commit the commit is pending, and leaves what it left before.
+use Rattle.std.proofs.Common.{◌≡◌, ℕ, suc, ◌+◌, ◌*◌, ◌%◌, ◌<◌, ◌≤◌, List, ◌++◌, refl, sym, ap, ap₂, ◌∙◌, subst, ⊎_elim, inl, inr, ◌⊎◌, arith, length}
+use Rattle.std.proofs.Math.Path.{fun_ext}
+use Rattle.std.proofs.lemmas.Bool.{cases_eq}
+use Rattle.runtime_effects.specs.fram_board.Effects.{Store, Send}
+use Rattle.runtime_effects.specs.machine_effects.World.{World, put, accepted_after, world_after_one, world_after}
+use Rattle.runtime_effects.proofs.machine_effects.Interface.{put_same, put_other}
+use Rattle.runtime_effects.specs.Places.{CopyPair, entries_from, listed}
+use Rattle.runtime_effects.proofs.Interface.{entries_alike}
+use Rattle.runtime_effects.specs.Stages.{emits_sent, commit_effects}
+use Rattle.crash_rules.specs.Model.{HoldsThroughout}
+use Rattle.stands_for.specs.Layout.{ProgramPlaces, StateView, IsSharedWord, IsAmong, HaveRoom}
+use Rattle.stands_for.specs.StandsFor.{HoldsWords, words_at, RestsAt, IsPendingCommit, CommittingTo}
+use Rattle.stands_for.proofs.Keeps.{put_either, put_words}
+use Rattle.stands_for.proofs.Walks.{next_base, commit_before, through}
+use Rattle.stands_for.proofs.Behind.{IsHome, copies_behind, copies_related, closed, behind_commit, IsSent, one_sent, emits_received, words_alike}
+use Rattle.stands_for.proofs.Pending.{few, copies_apart, still_to_send}
+use Rattle.runtime_effects.specs.memory_map.MemoryMap.{MemoryMap, word_place}
+use Rattle.runtime_effects.specs.memory_map.declared.words.RuntimeWord.TheVariants.{CurrentTask, NextTask, Gate, ListLength, EmitCount, Base, SentBase, Version}
+use Rattle.runtime_effects.specs.memory_map.Laws.{AreApart}
+
+-- two functions that are the same but at an address, with a word put there
+put_alike : (f g : ℕ → ℕ) (a w b : ℕ) → ((b ≡ a → ⊥) → f b ≡ g b) → put f a w b ≡ put g a w b
+put_alike f g a w b h =
+    ⊎_elim
+    (λ e. subst (λ c. put f a w c ≡ put g a w c) (sym e) (put_same f a w ∙ sym (put_same g a w)))
+    (λ ne. put_other f a w b ne ∙ h ne ∙ sym (put_other g a w b ne))
+    (cases_eq b a)
+
+-- the last stores make of such functions the same
+closed_alike : (m : MemoryMap) (f g h : ℕ → ℕ) → ((a : ℕ) → (a ≡ word_place m CurrentTask → ⊥) → (a ≡ word_place m Base → ⊥) → g a ≡ h a)
+    → closed m f g ≡ closed m f h
+closed_alike m f g h same =
+    let cur = word_place m CurrentTask in let next = f (word_place m NextTask) in
+    let base = word_place m Base in let w = next_base m f in
+    fun_ext (λ a. put_alike (put (put g cur next) base w) (put (put h cur next) base w) (word_place m Gate) 0 a
+    (λ z. put_alike (put g cur next) (put h cur next) base w a (λ b. put_alike g h cur next a (λ c. same a c b))))
+
+module _ (l : ProgramPlaces) (apart : AreApart l.map) (room : HaveRoom l) (x : World) (p : IsPendingCommit l x) where
+  abbrev m : MemoryMap
+  m = l.map
+
+  abbrev f : ℕ → ℕ
+  f = x.fram
+
+  abbrev ps : List CopyPair
+  ps = listed m f
+
+  -- the accepted words behind the commit
+  abbrev all : List ℕ
+  all = accepted_after (emits_sent m f) x.accepted
+
+  -- Within the commit: but for CUR, BASE and the listed homes every word is as it was at the start, and of the words to send at least so
+  -- many are accepted
+  record IsWithin (k : ℕ) (y : World) : Type 0 where
+    same : (a : ℕ) → (a ≡ word_place m CurrentTask → ⊥) → (a ≡ word_place m Base → ⊥) → (y.fram a ≡ f a) ⊎ IsHome ps a
+    words : HoldsWords y.fram
+    current_task : y.fram (word_place m CurrentTask) < l.tasks
+    base : (y.fram (word_place m Base) ≡ f (word_place m SentBase)) ⊎ (y.fram (word_place m Base) ≡ next_base m f)
+    sent : IsSent m f all k y.accepted
+
+  home_shared : (a : ℕ) → IsHome ps a → IsSharedWord l a
+  home_shared a h = subst (IsSharedWord l) h.2 (p.homes h.0 h.1)
+
+  -- a word that is no shared one
+  unchanged : (k : ℕ) (y : World) → IsWithin k y → (a : ℕ) → (IsSharedWord l a → ⊥) → (a ≡ word_place m CurrentTask → ⊥)
+      → (a ≡ word_place m Base → ⊥) → y.fram a ≡ f a
+  unchanged k y w a off c b = ⊎_elim (λ e. e) (λ h. absurd (off (home_shared a h))) (w.same a c b)
+
+  -- what the commit reads
+  record ReadsAlike (y : World) : Type 0 where
+    gate : y.fram (word_place m Gate) ≡ f (word_place m Gate)
+    next_task : y.fram (word_place m NextTask) ≡ f (word_place m NextTask)
+    list_length : y.fram (word_place m ListLength) ≡ f (word_place m ListLength)
+    emit_count : y.fram (word_place m EmitCount) ≡ f (word_place m EmitCount)
+    sent_base : y.fram (word_place m SentBase) ≡ f (word_place m SentBase)
+    version : y.fram (word_place m Version) ≡ f (word_place m Version)
+    list : listed m y.fram ≡ ps
+    emits : (a : ℕ) → m.emits.address ≤ a → a < m.emits.address + 2 * f (word_place m EmitCount) → y.fram a ≡ f a
+    copies : (q : CopyPair) → IsAmong ps q → y.fram q.copy ≡ f q.copy
+    versions : (i : ℕ) → i < m.versions.words → y.fram (m.versions.address + 2 * i) ≡ f (m.versions.address + 2 * i)
+
+  reads_alike : (k : ℕ) (y : World) → IsWithin k y → ReadsAlike y
+  reads_alike k y w =
+      let same = unchanged k y w in
+      let small = p.list_length in let small_emits = p.emit_count in
+      let cln : y.fram (word_place m ListLength) ≡ f (word_place m ListLength) =
+      same (word_place m ListLength) (λ h. omega (arith, apart, h)) (λ e. omega (arith, apart, e)) (λ e. omega (arith, apart, e)) in
+      record {
+        gate = same (word_place m Gate) (λ h. omega (arith, apart, h)) (λ e. omega (arith, apart, e)) (λ e. omega (arith, apart, e));
+        next_task = same (word_place m NextTask) (λ h. omega (arith, apart, h)) (λ e. omega (arith, apart, e)) (λ e. omega (arith, apart, e));
+        list_length = cln;
+        emit_count = same (word_place m EmitCount) (λ h. omega (arith, apart, h)) (λ e. omega (arith, apart, e)) (λ e. omega (arith, apart, e));
+        sent_base = same (word_place m SentBase) (λ h. omega (arith, apart, h)) (λ e. omega (arith, apart, e)) (λ e. omega (arith, apart, e));
+        version = same (word_place m Version) (λ h. omega (arith, apart, h)) (λ e. omega (arith, apart, e)) (λ e. omega (arith, apart, e));
+        list = ap (λ n. entries_from n m.list.address y.fram) cln
+            ∙ entries_alike (f (word_place m ListLength)) m.list.address f y.fram (λ a lo hi.
+            same a (λ h. omega (arith, apart, h, small, hi)) (λ e. omega (arith, apart, e, lo)) (λ e. omega (arith, apart, e, lo)));
+        emits = λ a lo hi. same a (λ h. omega (arith, apart, h, small_emits, hi)) (λ e. omega (arith, apart, e, lo)) (λ e. omega (arith, apart, e, lo));
+        copies = λ q h. let c = p.copies q h in
+            same q.copy (λ s. omega (arith, apart, s, c)) (λ e. omega (arith, apart, e, c)) (λ e. omega (arith, apart, e, c));
+        versions = λ i h. same (m.versions.address + 2 * i) (λ s. omega (arith, apart, s, h)) (λ e. omega (arith, apart, e)) (λ e. omega (arith, apart, e));
+      }
+
+  -- within the commit it is pending
+  within_pending : (k : ℕ) (y : World) → IsWithin k y → IsPendingCommit l y
+  within_pending k y w =
+      let r = reads_alike k y w in
+      let list = p.list_length in let emits = p.emit_count in let joins = w.sent.joins in
+      let next = r.next_task in let is_next = p.next_task in let cln = r.list_length in let en = r.emit_count in let ver = r.version in
+      record {
+        words = w.words;
+        gate = r.gate ∙ p.gate;
+        current_task = w.current_task;
+        next_task = omega (arith, next, is_next);
+        list_length = omega (arith, cln, list);
+        list_words = subst (λ qs. length qs ≤ m.entries) (sym r.list) p.list_words;
+        homes = λ q h. p.homes q (subst (λ qs. IsAmong qs q) r.list h);
+        copies = λ q h. p.copies q (subst (λ qs. IsAmong qs q) r.list h);
+        emit_count = omega (arith, en, emits);
+        sent = w.sent.count;
+        sent_some = omega (arith, en, joins);
+        number = w.sent.number ∙ ap (λ n. (n + w.sent.count) % 0x10000) (sym r.sent_base);
+        base = ⊎_elim (λ e. inl (e ∙ sym r.sent_base)) (λ e. inr (e ∙ ap₂ (λ a b. (a + b) % 0x10000) (sym r.sent_base) (sym en))) w.base;
+        versions = λ i h. let a = p.versions i h in let b = r.versions i h in omega (arith, a, b, ver);
+      }
+
+  -- and leaves the same world
+  same_fram : (k : ℕ) (y : World) → IsWithin k y → closed m y.fram (copies_behind (listed m y.fram) y.fram) ≡ closed m f (copies_behind ps f)
+  same_fram k y w =
+      let r = reads_alike k y w in
+      let g = copies_behind (listed m y.fram) y.fram in
+      let cur = word_place m CurrentTask in
+      ap₂ (λ n b. put (put (put g cur n) (word_place m Base) b) (word_place m Gate) 0) r.next_task
+      (ap₂ (λ a b. (a + b) % 0x10000) r.sent_base r.emit_count)
+      ∙ ap (λ qs. closed m f (copies_behind qs y.fram)) r.list
+      ∙ closed_alike m f (copies_behind ps y.fram) (copies_behind ps f)
+      (λ a c b. copies_related (λ z v u. v ≡ u) ps y.fram f a (copies_apart l apart x p) r.copies (w.same a c b))
+
+  same_accepted : (k : ℕ) (y : World) → IsWithin k y → accepted_after (emits_sent m y.fram) y.accepted ≡ all
+  same_accepted k y w =
+      let r = reads_alike k y w in
+      let s = w.sent in
+      let en = r.emit_count in let most = few l apart x p room in let joins = s.joins in
+      let rest : words_at s.left (m.emits.address + 2 * s.count) y.fram ≡ words_at s.left (m.emits.address + 2 * s.count) f =
+      words_alike s.left (m.emits.address + 2 * s.count) f y.fram (λ a lo hi. r.emits a (omega (arith, lo)) (omega (arith, hi, joins))) in
+      emits_received m y.fram (omega (arith, en, most)) all y.accepted (w.words (word_place m SentBase))
+      (record {
+        count = s.count;
+        left = s.left;
+        at_least = omega arith;
+        joins = s.joins ∙ sym en;
+        number = s.number ∙ ap (λ b. (b + s.count) % 0x10000) (sym r.sent_base);
+        rest = ap (λ ws. y.accepted ++ ws) rest ∙ s.rest;
+      })
+
+  within_end : (k : ℕ) (y : World) → IsWithin k y → world_after (commit_effects m y.fram) y ≡ world_after (commit_effects m f) x
+  within_end k y w =
+      behind_commit m y ∙ ap₂ (λ g ws. record { fram = g; accepted = ws }) (same_fram k y w) (same_accepted k y w) ∙ sym (behind_commit m x)
+
+  -- the start of the commit
+  at_start : IsWithin 0 x
+  at_start = record { same = λ a c b. inl refl; words = p.words; current_task = p.current_task; base = p.base; sent = still_to_send l apart x p room }
+
+  -- a word goes home
+  copy_within : (y : World) (q : CopyPair) → IsAmong ps q → IsWithin 0 y → IsWithin 0 (world_after_one (Store q.home (y.fram q.copy)) y)
+  copy_within y q h w =
+      let a = q.home in let v = y.fram q.copy in
+      let s = p.homes q h in
+      record {
+        same = λ b c e. ⊎_elim (λ k. inr (q, h, sym k.0)) (λ k. ⊎_elim (λ o. inl (k.1 ∙ o)) (λ o. inr o) (w.same b c e)) (put_either y.fram a v b);
+        words = put_words y.fram a v w.words (w.words q.copy);
+        current_task = subst (λ n. n < l.tasks) (sym (put_other y.fram a v (word_place m CurrentTask) (λ e. omega (arith, apart, s, e)))) w.current_task;
+        base = subst (λ n. (n ≡ f (word_place m SentBase)) ⊎ (n ≡ next_base m f))
+            (sym (put_other y.fram a v (word_place m Base) (λ e. omega (arith, apart, s, e)))) w.base;
+        sent = w.sent;
+      }
+
+  -- a word is sent
+  send_within : (i n v : ℕ) (y : World) → i < f (word_place m EmitCount) → n ≡ (f (word_place m SentBase) + i) % 0x10000
+      → v ≡ f (m.emits.address + 2 * i) → IsWithin i y → IsWithin (suc i) (world_after_one (Send n v) y)
+  send_within i n v y lt num ev w =
+      record {
+        same = w.same;
+        words = w.words;
+        current_task = w.current_task;
+        base = w.base;
+        sent = one_sent m f (few l apart x p room) all i n v y.accepted lt num ev w.sent;
+      }
+
+  -- CUR and BASE become those of the next state
+  cur_within : (k : ℕ) (y : World) → IsWithin k y → IsWithin k (world_after_one (Store (word_place m CurrentTask) (f (word_place m NextTask))) y)
+  cur_within k y w =
+      let a = word_place m CurrentTask in let v = f (word_place m NextTask) in
+      record {
+        same = λ b c e. ⊎_elim (λ o. inl (put_other y.fram a v b c ∙ o)) (λ o. inr o) (w.same b c e);
+        words = put_words y.fram a v w.words (p.words (word_place m NextTask));
+        current_task = subst (λ n. n < l.tasks) (sym (put_same y.fram a v)) p.next_task;
+        base = subst (λ n. (n ≡ f (word_place m SentBase)) ⊎ (n ≡ next_base m f))
+            (sym (put_other y.fram a v (word_place m Base) (λ e. omega (arith, apart, e)))) w.base;
+        sent = w.sent;
+      }
+
+  base_within : (k : ℕ) (y : World) → IsWithin k y → IsWithin k (world_after_one (Store (word_place m Base) (next_base m f)) y)
+  base_within k y w =
+      let a = word_place m Base in let v = next_base m f in
+      record {
+        same = λ b c e. ⊎_elim (λ o. inl (put_other y.fram a v b e ∙ o)) (λ o. inr o) (w.same b c e);
+        words = put_words y.fram a v w.words (omega arith);
+        current_task = subst (λ n. n < l.tasks) (sym (put_other y.fram a v (word_place m CurrentTask) (λ e. omega (arith, apart, e)))) w.current_task;
+        base = inr (put_same y.fram a v);
+        sent = w.sent;
+      }
+
+-- a commit that leaves a state does so behind each of its effects but the last
+pub committing : {St : Type 0} (l : ProgramPlaces) (v : StateView St) → AreApart l.map → HaveRoom l → (to : St) (x : World) → CommittingTo l v to x
+    → HoldsThroughout (CommittingTo l v to) (commit_before l.map x.fram) x
+committing l v apart room to x d =
+    let p = d.pending in
+    through l.map x (p.words (word_place l.map SentBase)) (CommittingTo l v to) (IsWithin l apart room x p)
+    (λ k y w. record {
+      pending = within_pending l apart room x p k y w;
+      rests = subst (RestsAt l v to) (sym (within_end l apart room x p k y w)) d.rests;
+    })
+    (copy_within l apart room x p) (send_within l apart room x p) (cur_within l apart room x p) (base_within l apart room x p)
+    (at_start l apart room x p)

@@ -1,0 +1,100 @@
+-- The effects of a commit one by one: what each of them keeps, the commit keeps up to its last.
+use Rattle.std.proofs.Common.{◌≡◌, ℕ, zero, suc, ◌+◌, ◌*◌, ◌%◌, ◌<◌, List, [], ◌∷◌, ◌++◌, refl, sym, ap, ◌∙◌, subst, inl, inr, arith, append_assoc}
+use Rattle.runtime_effects.specs.fram_board.Effects.{Effect, Store, Send}
+use Rattle.runtime_effects.specs.machine_effects.World.{World, put, world_after_one, world_after, readings_taken, EachStore}
+use Rattle.runtime_effects.proofs.machine_effects.Interface.{readings_taken-append, each_store-append}
+use Rattle.runtime_effects.specs.Places.{CopyPair, listed}
+use Rattle.runtime_effects.specs.Stages.{copied_home, sends, emits_sent, commit_effects}
+use Rattle.runtime_effects.proofs.Interface.{sends_store}
+use Rattle.crash_rules.specs.Model.{HoldsThroughout}
+use Rattle.crash_rules.proofs.Interface.{holds-append}
+use Rattle.stands_for.specs.Layout.{IsAmong}
+use Rattle.runtime_effects.specs.memory_map.MemoryMap.{MemoryMap, word_place}
+use Rattle.runtime_effects.specs.memory_map.declared.words.RuntimeWord.TheVariants.{CurrentTask, NextTask, Gate, EmitCount, Base, SentBase}
+
+-- the number behind the last word of a commit
+abbrev pub next_base : MemoryMap → (ℕ → ℕ) → ℕ
+next_base m f = (f (word_place m SentBase) + f (word_place m EmitCount)) % 0x10000
+
+-- the last stores but GATE's
+abbrev pub closed_before : MemoryMap → (ℕ → ℕ) → List Effect
+closed_before m f = Store (word_place m CurrentTask) (f (word_place m NextTask)) ∷ Store (word_place m Base) (next_base m f) ∷ []
+
+-- a commit's effects but the last
+abbrev pub commit_before : MemoryMap → (ℕ → ℕ) → List Effect
+commit_before m f = copied_home (listed m f) f ++ (emits_sent m f ++ closed_before m f)
+
+pub commit_is : (m : MemoryMap) (f : ℕ → ℕ) → commit_effects m f ≡ commit_before m f ++ Store (word_place m Gate) 0 ∷ []
+commit_is m f =
+    let a = copied_home (listed m f) f in let b = emits_sent m f in let c = closed_before m f in
+    let g : List Effect = Store (word_place m Gate) 0 ∷ [] in
+    sym (append_assoc a (b ++ c) g ∙ ap (λ z. a ++ z) (append_assoc b c g))
+
+-- copies and sends take no reading
+copied_takes : (qs : List CopyPair) (f : ℕ → ℕ) → readings_taken (copied_home qs f) ≡ []
+copied_takes [] f = refl
+copied_takes (q ∷ qs) f = copied_takes qs (put f q.home (f q.copy))
+
+sends_take : (n k p : ℕ) (f : ℕ → ℕ) → readings_taken (sends n k p f) ≡ []
+sends_take zero k p f = refl
+sends_take (suc n) k p f = sends_take n ((k + 1) % 0x10000) (p + 2) f
+
+pub commit_takes : (m : MemoryMap) (f : ℕ → ℕ) → readings_taken (commit_before m f) ≡ []
+commit_takes m f =
+    let a = copied_home (listed m f) f in let b = emits_sent m f in let c = closed_before m f in
+    readings_taken-append a (b ++ c) ∙ ap (λ z. z ++ readings_taken (b ++ c)) (copied_takes (listed m f) f) ∙ readings_taken-append b c
+    ∙ ap (λ z. z ++ readings_taken c) (sends_take (f (word_place m EmitCount)) (f (word_place m SentBase)) m.emits.address f)
+
+-- where a commit stores
+copied_store : (P : ℕ → ℕ → Type 0) (qs : List CopyPair) (f : ℕ → ℕ) → ((q : CopyPair) (w : ℕ) → IsAmong qs q → P q.home w) → EachStore P (copied_home qs f)
+copied_store P [] f h = tt
+copied_store P (q ∷ qs) f h = (h q (f q.copy) (inl refl), copied_store P qs (put f q.home (f q.copy)) (λ r w k. h r w (inr k)))
+
+pub commit_stores_so : (m : MemoryMap) (P : ℕ → ℕ → Type 0) (f : ℕ → ℕ) → ((q : CopyPair) (w : ℕ) → IsAmong (listed m f) q → P q.home w)
+    → ((w : ℕ) → P (word_place m CurrentTask) w) → ((w : ℕ) → P (word_place m Base) w) → EachStore P (commit_before m f)
+commit_stores_so m P f homes cur base =
+    each_store-append P (copied_home (listed m f) f) _ (copied_store P (listed m f) f homes)
+    (each_store-append P (emits_sent m f) _ (sends_store P (f (word_place m EmitCount)) (f (word_place m SentBase)) m.emits.address f)
+    (cur _, (base _, tt)))
+
+-- What each effect keeps. Q says it behind so many words that were sent
+module _ (m : MemoryMap) (x : World) (small : x.fram (word_place m SentBase) < 0x10000) (P : World → Type 0) (Q : ℕ → World → Type 0)
+    (so : (k : ℕ) (y : World) → Q k y → P y)
+    (copies : (y : World) (p : CopyPair) → IsAmong (listed m x.fram) p → Q 0 y → Q 0 (world_after_one (Store p.home (y.fram p.copy)) y))
+    (sent : (i n w : ℕ) (y : World) → i < x.fram (word_place m EmitCount) → n ≡ (x.fram (word_place m SentBase) + i) % 0x10000
+    → w ≡ x.fram (m.emits.address + 2 * i) → Q i y → Q (suc i) (world_after_one (Send n w) y))
+    (current : (k : ℕ) (y : World) → Q k y → Q k (world_after_one (Store (word_place m CurrentTask) (x.fram (word_place m NextTask))) y))
+    (based : (k : ℕ) (y : World) → Q k y → Q k (world_after_one (Store (word_place m Base) (next_base m x.fram)) y)) where
+  copies_through : (qs : List CopyPair) (y : World) → ((q : CopyPair) → IsAmong qs q → IsAmong (listed m x.fram) q) → Q 0 y
+      → HoldsThroughout P (copied_home qs y.fram) y × Q 0 (world_after (copied_home qs y.fram) y)
+  copies_through [] y h d = (so 0 y d, d)
+  copies_through (q ∷ qs) y h d =
+      let r = copies_through qs (world_after_one (Store q.home (y.fram q.copy)) y) (λ p a. h p (inr a)) (copies y q (h q (inl refl)) d) in
+      ((so 0 y d, r.0), r.1)
+
+  sends_through : (n i k p : ℕ) (y : World) → i + n ≡ x.fram (word_place m EmitCount) → k ≡ (x.fram (word_place m SentBase) + i) % 0x10000
+      → p ≡ m.emits.address + 2 * i → Q i y
+      → HoldsThroughout P (sends n k p x.fram) y × Q (x.fram (word_place m EmitCount)) (world_after (sends n k p x.fram) y)
+  sends_through zero i k p y e ek ep d = (so i y d, subst (λ j. Q j y) (omega (arith, e)) d)
+  sends_through (suc n) i k p y e ek ep d =
+      let w = x.fram p in
+      let d2 = sent i k w y (omega (arith, e)) ek (ap x.fram ep) d in
+      let r = sends_through n (suc i) ((k + 1) % 0x10000) (p + 2) (world_after_one (Send k w) y) (omega (arith, e)) (omega (arith, ek)) (omega (arith, ep)) d2 in
+      ((so i y d, r.0), r.1)
+
+  pub through : Q 0 x → HoldsThroughout P (commit_before m x.fram) x
+  through d =
+      let f = x.fram in
+      let n = f (word_place m EmitCount) in
+      let a = copied_home (listed m f) f in let b = emits_sent m f in
+      let y1 = world_after a x in
+      let one = copies_through (listed m f) x (λ q h. h) d in
+      let number : f (word_place m SentBase) ≡ (f (word_place m SentBase) + 0) % 0x10000 = omega (arith, small) in
+      let place : m.emits.address ≡ m.emits.address + 2 * 0 = omega arith in
+      let two = sends_through n 0 (f (word_place m SentBase)) m.emits.address y1 (omega arith) number place one.1 in
+      let y2 = world_after b y1 in
+      let y3 = world_after_one (Store (word_place m CurrentTask) (f (word_place m NextTask))) y2 in
+      let d3 = current n y2 two.1 in
+      let d4 = based n y3 d3 in
+      holds-append P a (b ++ closed_before m f) x one.0
+      (holds-append P b (closed_before m f) y1 two.0 (so n y2 two.1, (so n y3 d3, so n (world_after_one (Store (word_place m Base) (next_base m f)) y3) d4)))
