@@ -11,7 +11,7 @@ use Rattle.linked_code.specs.memory_map.MemoryMap.{MemoryMap}
 use Rattle.linked_code.specs.boot_runtime.Entries.{task_entries}
 use Rattle.linked_code.specs.boot_runtime.Listing.{privates_in, start_cycles}
 use Rattle.linked_code.specs.commit_runtime.Listing.{commit_cycles}
-use Rattle.stands_for.specs.crash_rules.Model.{IsWord}
+use Rattle.stands_for.specs.crash_rules.Model.{IsWord, bound}
 use Rattle.stands_for.specs.StandsFor.{HoldsWords, UndecidedAt, StartedAt}
 use Rattle.compiled_model.specs.Places.{program_places}
 use Rattle.compiled_model.specs.View.{state_view}
@@ -24,10 +24,12 @@ whole_cycles p l t fram readings =
     11 + start_cycles true l.versions.words (length (privates_in (task_entries l) t)) + spent (task_program p l t) (started fram readings)
     + commit_cycles (list_of p.shared (task_body p t)) (list_of p.shared (task_body p t)) (emits_of (task_body p t))
 
--- each task keeps to its bound, whatever FRAM holds and whatever the readings are
+-- each task keeps to its bound, whatever FRAM holds and whatever the readings are; and where there is a task, a boot with the commit of a
+-- full list and full buffer keeps to the greatest
 pub record CostsAreWithin (p : CheckedProgram) (l : MemoryMap) : Type 0 where
   pub within : (t : ℕ) (fram : ℕ → ℕ) (readings : List ℕ) → t < length p.tasks → HoldsWords fram → All IsWord readings
       → whole_cycles p l t fram readings ≤ task_bound (versions_of p) p.shared (task_body p t)
+  pub commits : (t : ℕ) → t < length p.tasks → 11 + commit_cycles l.entries l.entries l.emits.words ≤ bound (compiled_model p l)
 
 -- a program's end: it leaves for an address, or is short of readings
 abbrev pub LeavesFor : ℕ → End → Type 0

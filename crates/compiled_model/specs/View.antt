@@ -1,12 +1,16 @@
--- A state of a source by the addresses of its shared words.
-use Rattle.std.specs.Prelude.{ℕ, ◌-◌, ◌/◌, ◌==◌, ◌&&◌, Bool, true, false, nat_le, nat_lt, if◌then◌else◌, List, [], ◌∷◌, length, slice_index}
+-- A state of a source by the addresses of its shared words, and the state that a world has.
+use Rattle.std.specs.Prelude.{ℕ, ◌-◌, ◌/◌, ◌==◌, ◌&&◌, Bool, true, false, nat_le, nat_lt, if◌then◌else◌, List, [], ◌∷◌, length, map, slice_index}
 use Rattle.linked_code.specs.task_ast.declared.SharedDeclaration.{SharedDeclaration}
 use Rattle.lower.specs.source_values.Runs.{CheckedProgram, State, initial_words}
 use Rattle.linked_code.specs.memory_map.declared.place.Region.{Region}
 use Rattle.linked_code.specs.memory_map.declared.place.VariablePlace.{VariablePlace}
-use Rattle.linked_code.specs.memory_map.MemoryMap.{MemoryMap}
+use Rattle.linked_code.specs.memory_map.MemoryMap.{MemoryMap, word_place}
 use Rattle.linked_code.specs.memory_map.Places.{end_of, home_region}
+use Rattle.linked_code.specs.memory_map.declared.words.RuntimeWord.TheVariants.{CurrentTask}
+use Rattle.linked_code.specs.machine_effects.World.{World, world_after}
+use Rattle.linked_code.specs.runtime_effects.Stages.{commit_effects}
 use Rattle.stands_for.specs.Layout.{StateView}
+use Rattle.stands_for.specs.StandsFor.{words_at}
 
 -- whether an address is within a region
 abbrev pub is_within : Region → ℕ → Bool
@@ -42,3 +46,19 @@ state_view p l = record {
   emitted = λ s. s.emitted;
   is_state = λ s. are_rows p.shared s.shared;
 }
+
+-- the words of a region in FRAM
+abbrev pub row_in : (ℕ → ℕ) → Region → List ℕ
+row_in f r = words_at r.words r.address f
+
+-- the state that a world has: each variable's words, the task that CUR names, and the accepted words
+abbrev pub state_in : MemoryMap → World → State
+state_in l x = record {
+  shared = map (λ v. row_in x.fram (home_region v)) l.variables;
+  task = x.fram (word_place l CurrentTask);
+  emitted = x.accepted;
+}
+
+-- the state that the pending commit of a world leaves
+abbrev pub state_left : MemoryMap → World → State
+state_left l x = state_in l (world_after (commit_effects l x.fram) x)

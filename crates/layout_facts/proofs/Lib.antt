@@ -2,6 +2,7 @@ mod Lists
 mod Homes
 mod Views
 mod Chains
+mod States
 mod Seen
 mod InPlace
 mod Privates

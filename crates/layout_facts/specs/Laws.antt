@@ -28,7 +28,9 @@ use Rattle.compiled_model.specs.task_ast.declared.names.Variable.TheVariants.{Sh
 use Rattle.compiled_model.specs.source_values.Runs.{task_body}
 use Rattle.compiled_model.specs.lower.Seen.{some_path_writes}
 use Rattle.compiled_model.specs.Places.{is_private_in, program_places}
-use Rattle.compiled_model.specs.View.{shared_word, are_rows}
+use Rattle.compiled_model.specs.View.{shared_word, are_rows, state_view, state_in, state_left}
+use Rattle.compiled_model.specs.machine_effects.World.{World}
+use Rattle.compiled_model.specs.stands_for.StandsFor.{HoldsWords, RestsAt, IsAtRest, IsPendingCommit, CommittingTo}
 use Rattle.layout_facts.specs.Facts.{HasLayout, IsTaskAt, task_room, task_places}
 
 -- what holds of each source and its layout
@@ -90,6 +92,18 @@ ViewHasTheirWords = OfLayouts (λ p l. (rows : List (List ℕ)) (v i a : ℕ) �
 abbrev pub RowsFitPlaces : Type 0
 RowsFitPlaces = OfLayouts (λ p l. (rows : List (List ℕ)) (v : ℕ) (place : VariablePlace) → are_rows p.shared rows ≡ true
     → slice_get l.variables v ≡ Some place → (v < length rows) × (length (slice_index_or rows v []) ≡ place_length place))
+
+-- A world of words has a state, whose shared words are the world's. Where no commit is pending the world rests at it, and a pending commit
+-- leaves the state that the world has behind it
+pub record WorldsStand (p : CheckedProgram) (l : MemoryMap) : Type 0 where
+  pub is_state : (x : World) → HoldsWords x.fram → (state_view p l).is_state (state_in l x) ≡ true
+  pub shared : (x : World) (a : ℕ) → IsSharedWord (program_places p l) a → x.fram a ≡ (state_view p l).word (state_in l x) a
+  pub rest : (x : World) → IsAtRest (program_places p l) x → RestsAt (program_places p l) (state_view p l) (state_in l x) x
+  pub commit : (x : World) → IsPendingCommit (program_places p l) x → CommittingTo (program_places p l) (state_view p l) (state_left l x) x
+
+-- so with each source and its layout
+abbrev pub WorldsHaveStates : Type 0
+WorldsHaveStates = OfLayouts WorldsStand
 
 -- an element's address is that of its word; its copy is a copy, its version word one of those that are counted
 pub record ElementStands (p : CheckedProgram) (l : MemoryMap) (places : Places) : Type 0 where

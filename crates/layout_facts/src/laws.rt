@@ -2,7 +2,7 @@
 ghost use Rattle.layout_facts.specs.Laws.{AddressesAre, EachIsOneWord, ElementsStand, InPlaceByPaths, ListsHaveRoom, NamesFit, PlacesAreApart};
 ghost use Rattle.layout_facts.specs.Laws.{PlacesAreDeclared, PrivatesAreTheirs, RowsFitPlaces, ScalarsStand};
 ghost use Rattle.layout_facts.specs.Laws.{SharedWordsAreOfVariables, TaskPlacesAreApart, TaskPlacesAreEven, TasksHaveRoom};
-ghost use Rattle.layout_facts.specs.Laws.{TasksMatch, ViewHasTheirWords, WordsOfVariablesAreShared};
+ghost use Rattle.layout_facts.specs.Laws.{TasksMatch, ViewHasTheirWords, WordsOfVariablesAreShared, WorldsHaveStates};
 
 /// The places that the crash theorem takes stand apart.
 pub fn places_are_apart()
@@ -57,6 +57,11 @@ pub fn view_has_their_words()
 /// Rows of the declared lengths have those of the places.
 pub fn rows_fit_places()
     ensures { RowsFitPlaces }
+{}
+
+/// Where no commit is pending a world rests at the state that it has, and a pending commit leaves the state that the world has behind it.
+pub fn worlds_have_states()
+    ensures { WorldsHaveStates }
 {}
 
 /// Where elements, their copies and their version words stand.

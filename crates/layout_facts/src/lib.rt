@@ -9,5 +9,5 @@ pub use laws::{
     lists_have_room, names_fit, places_are_apart, places_are_declared, privates_are_theirs,
     rows_fit_places, scalars_stand, shared_words_are_of_variables, task_places_are_apart,
     task_places_are_even, tasks_have_room, tasks_match, view_has_their_words,
-    words_of_variables_are_shared,
+    words_of_variables_are_shared, worlds_have_states,
 };

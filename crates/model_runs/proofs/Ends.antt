@@ -14,7 +14,7 @@ use Rattle.crash_rules.proofs.machine_effects.Interface.{power_up_keeps_words, c
 use Rattle.crash_rules.specs.Model.{Model, IsElsewhere}
 use Rattle.crash_rules.specs.History.{History, observe, behind_boot}
 use Rattle.crash_rules.specs.Runs.{Program}
-use Rattle.crash_rules.specs.Laws.{Origin, Reaches, Phase, UndecidedPhase, DecidedPhase}
+use Rattle.crash_rules.specs.Laws.{Origin, IsSettled, Reaches, Phase, UndecidedPhase, DecidedPhase, CommittingPhase}
 use Rattle.crash_rules.proofs.Interface.{observe-append, observe_quiet, with_effects, stops_short}
 use Rattle.run_charges.specs.Charges.{ArePowerStates, AreInstructionMoments}
 use Rattle.run_charges.specs.Laws.{IsRunOfWords}
@@ -131,22 +131,25 @@ module _ {St : Type 0} (m : Model St) (c : Program) (readings : List ℕ) (origi
       let Q : List Effect → Type 0 = λ fs. SameDones (observe m.gate es (behind_boot before)) (observe m.gate fs (behind_boot before)) in
       subst P (sym now) (subst Q (ap (λ q. q.effects) made) (taken_more m.gate es stops_as.last_taken (behind_boot before)))
 
-  -- the state of the last done is that of a task
-  phase_task : (k : History) (z : St) → k.decided ≡ false → Phase m readings origin z k → m.task_number z < m.tasks
-  phase_task k z d (UndecidedPhase u settled w) = bears.model.undecided_task z k.world w
+  -- the state of the last done is that of a task, and nothing is pending
+  phase_task : (k : History) (z : St) → k.decided ≡ false → Phase m readings origin z k → (m.task_number z < m.tasks) × IsSettled origin k.completed
+  phase_task k z d (UndecidedPhase u settled w) = (bears.model.undecided_task z k.world w, settled)
   phase_task k z d (DecidedPhase next u t w) = absurd (cc (u, d))
+  phase_task k z d (CommittingPhase u p n w) = absurd (cc (u, d))
 
   stopped : (e ≡ stop.NoReading) × IsShort m readings origin (history_behind m x r.moments)
   stopped =
       let s = stops_short m c bears.model bears.program readings origin x (machine_of b) bears.begins at.charges (machine_of l.there) before at.charged
       p (is_powered m c readings origin x cs b r run bears l.there before at l.charge.start l.start) refl refl
       steps stops_as.price e (sym (ap (λ q. q.status) made)) in
-      let st = s.1.0 in (
+      let st = s.1.0 in
+      let task = phase_task behind st.state s.1.1 st.phase in (
         s.0,
         record {
           state = st.state;
+          settled = subst (IsSettled origin) same.completed task.1;
           reached = subst (λ ds. Reaches m readings origin ds st.state) same.completed st.reached;
-          is_task = phase_task behind st.state s.1.1 st.phase;
+          is_task = task.0;
           short = ap (λ n. m.task st.state (drop n readings)) (sym same.since) ∙ s.1.2;
         },
       )

@@ -11,7 +11,7 @@ pub use Rattle.model_runs.proofs.Progress.{makes_progress}
 -- How many dones a run has at most, and how many readings it takes.
 pub use Rattle.model_runs.proofs.Counts.{dones_are_few, takes_what_is_there}
 -- In one charge the spans follow one another.
-pub use Rattle.model_runs.proofs.Spans.{spans_are_in_order}
+pub use Rattle.model_runs.proofs.Spans.{spans_are_in_order, spans_past_are_in_order}
 -- What a word of FRAM holds at most, by what is stored there.
 pub use Rattle.model_runs.proofs.Words.{words_stay_within}
 -- The two histories over the moments of a run.

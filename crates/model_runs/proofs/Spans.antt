@@ -5,19 +5,20 @@ use Rattle.crash_rules.specs.fram_board.Effects.{Effect}
 use Rattle.crash_rules.specs.fram_board.Run.{Measure, Moment, RunOutcome, BoardCharge, ChargeRun, Run, Over, Next, Last, power_up_of, Charges, Stopped, run_outcome}
 use Rattle.crash_rules.specs.machine_effects.World.{World, world_after_one}
 use Rattle.crash_rules.specs.machine_effects.Going.{going}
+use Rattle.crash_rules.specs.machine_effects.Machine.{MachineBoard}
 use Rattle.crash_rules.specs.machine_effects.View.{machine_of}
 use Rattle.crash_rules.specs.machine_effects.Runs.{last_board, ReachesAs}
 use Rattle.crash_rules.proofs.machine_effects.Interface.{power_up_keeps_words, charge_boards_alike}
 use Rattle.crash_rules.specs.Model.{Model}
 use Rattle.crash_rules.specs.History.{Done, History, is_done, is_decide, with_effect, behind_boot, behind_done, behind_decide, behind_gate, observe_one, observe, first_history}
 use Rattle.crash_rules.specs.Runs.{Program, Charge, Charged}
-use Rattle.crash_rules.specs.Laws.{Resting, AreConsecutive}
-use Rattle.crash_rules.proofs.Interface.{spans_follow}
+use Rattle.crash_rules.specs.Laws.{Origin, Resting, Pending, AreConsecutive, FollowFirst}
+use Rattle.crash_rules.proofs.Interface.{spans_follow, pending_spans_follow}
 use Rattle.run_charges.specs.Charges.{AreInstructionMoments, observed}
 use Rattle.run_charges.specs.Laws.{IsRunOfWords}
 use Rattle.run_charges.proofs.Interface.{first_start, instructions_observed}
-use Rattle.model_runs.specs.Runs.{BearsModel, history_behind, AreInOrder}
-use Rattle.model_runs.specs.Laws.{SpansAreInOrder}
+use Rattle.model_runs.specs.Runs.{BearsModel, history_behind, AreInOrder, AreInOrderPast}
+use Rattle.model_runs.specs.Laws.{SpansAreInOrder, SpansPastAreInOrder}
 use Rattle.model_runs.proofs.Fronts.{AtFront, at_front, begun, is_powered, program_runs}
 use Rattle.model_runs.proofs.Ends.{charge_instructs}
 
@@ -64,16 +65,24 @@ in_order from to (d ∷ ds) h f =
     let b = f.0 in
     (a, omega (arith, a, b), in_order d.span_to to ds h.1 f.1)
 
-module _ {St : Type 0} (m : Model St) (c : Program) (readings : List ℕ) (s : St) (x : World) (d : BoardCharge) (b : BoardValue)
-    (r : RunOutcome) (run : IsRunOfWords (d ∷ []) b r) (bears : BearsModel m c readings (Resting s) x b) (here : m.Undecided s x) where
+-- all dones but the first
+in_order_past : (to : ℕ) (ds : List Done) → FollowFirst ds to → GoForwards ds → AreInOrderPast to ds
+in_order_past to [] h f = tt
+in_order_past to (d ∷ ds) h f = in_order 0 to ds h f.1
+
+-- what holds behind one charge of the machine, of a history whose dones go forwards, holds behind one of the board
+module _ {St : Type 0} (m : Model St) (c : Program) (readings : List ℕ) (origin : Origin St) (x : World) (d : BoardCharge) (b : BoardValue)
+    (r : RunOutcome) (run : IsRunOfWords (d ∷ []) b r) (bears : BearsModel m c readings origin x b) (Holds : History → Type 0)
+    (law : (e : Charge) (t : MachineBoard) (k : History) → Charged c m.gate (machine_of b) (first_history m.gate x) (e ∷ []) t k
+    → GoForwards k.completed → Holds k) where
   abbrev first : History
   first = first_history m.gate x
 
   abbrev InOrder : List Moment → Type 0
-  InOrder ms = AreInOrder 0 (history_behind m x ms).since (history_behind m x ms).completed
+  InOrder ms = Holds (history_behind m x ms)
 
-  at : AtFront m c readings (Resting s) x (d ∷ []) b r run bears b first
-  at = at_front m c readings (Resting s) x (d ∷ []) b r run bears [] r.moments refl
+  at : AtFront m c readings origin x (d ∷ []) b r run bears b first
+  at = at_front m c readings origin x (d ∷ []) b r run bears [] r.moments refl
 
   ok : IsPowerState d.start
   ok = first_start d [] run.starts
@@ -81,20 +90,18 @@ module _ {St : Type 0} (m : Model St) (c : Program) (readings : List ℕ) (s : S
   -- the moments of one charge
   one_in_order : (ms : List Moment) → AreInstructionMoments ms → ReachesAs (powered b d.start) ms → InOrder (power_up_of b d.start ∷ ms)
   one_in_order ms are reach =
-      let p = begun m c readings (Resting s) x (d ∷ []) b r run bears b first at d.start ok in
+      let p = begun m c readings origin x (d ∷ []) b r run bears b first at d.start ok in
       let n = length ms in
       let q = machine_of (last_board (powered b d.start) ms) in
-      let made = program_runs m c readings (Resting s) x (d ∷ []) b r run bears b first at d.start ok n _ reach.run in
+      let made = program_runs m c readings origin x (d ∷ []) b r run bears b first at d.start ok n _ reach.run in
       let k : History = observe m.gate (going c.step n p).effects (behind_boot first) in
       let e : Charge = record { powered = p; steps = n } in
       let go : Charged c m.gate (machine_of b) first (e ∷ []) q k =
-      (is_powered m c readings (Resting s) x (d ∷ []) b r run bears b first at d.start ok, refl, refl, (q, sym (ap (λ z. z.status) made), (refl, refl))) in
-      let follow = spans_follow m c bears.model bears.program readings s x (machine_of b) bears.begins here e q k go in
+      (is_powered m c readings origin x (d ∷ []) b r run bears b first at d.start ok, refl, refl, (q, sym (ap (λ z. z.status) made), (refl, refl))) in
       let forth = forwards m.gate (going c.step n p).effects (behind_boot first) (first_forwards m.gate x) in
       let seen : k ≡ observed m.gate ms (behind_boot first) =
       ap (λ z. observe m.gate z.effects (behind_boot first)) (sym made) ∙ sym (instructions_observed m.gate ms (behind_boot first) are) in
-      let P : History → Type 0 = λ z. AreInOrder 0 z.since z.completed in
-      subst P seen (in_order 0 k.since k.completed follow forth.dones)
+      subst Holds seen (law e q k go forth.dones)
 
   charge_in_order : (m2 : Measure) (amount : ℕ) (o : RunOutcome) → ChargeRun m2 amount (powered b d.start) o → InOrder (power_up_of b d.start ∷ o.moments)
   charge_in_order m2 amount o one =
@@ -130,4 +137,14 @@ module _ {St : Type 0} (m : Model St) (c : Program) (readings : List ℕ) (s : S
 
 -- the spans of a run are in order
 pub spans_are_in_order : {St : Type 0} (m : Model St) (c : Program) → SpansAreInOrder m c
-spans_are_in_order m c readings s x d b r run bears here = run_in_order m c readings s x d b r run bears here (d ∷ []) b r run.run refl refl
+spans_are_in_order m c readings s x d b r run bears here =
+    run_in_order m c readings (Resting s) x d b r run bears (λ h. AreInOrder 0 h.since h.completed)
+    (λ e t k go f. in_order 0 k.since k.completed (spans_follow m c bears.model bears.program readings s x (machine_of b) bears.begins here e t k go) f)
+    (d ∷ []) b r run.run refl refl
+
+-- so are those behind a commit that was pending at the start
+pub spans_past_are_in_order : {St : Type 0} (m : Model St) (c : Program) → SpansPastAreInOrder m c
+spans_past_are_in_order m c readings to x d b r run bears =
+    run_in_order m c readings (Pending to) x d b r run bears (λ h. AreInOrderPast h.since h.completed)
+    (λ e t k go f. in_order_past k.since k.completed (pending_spans_follow m c bears.model bears.program readings to x (machine_of b) bears.begins e t k go) f)
+    (d ∷ []) b r run.run refl refl

@@ -11,10 +11,10 @@ use Rattle.crash_rules.specs.machine_effects.Runs.{last_board}
 use Rattle.crash_rules.specs.Model.{Model, IsWord, bound}
 use Rattle.crash_rules.specs.History.{History, first_history}
 use Rattle.crash_rules.specs.Runs.{Program}
-use Rattle.crash_rules.specs.Laws.{Origin, Resting, IsLawful, Matches}
+use Rattle.crash_rules.specs.Laws.{Origin, Resting, Pending, IsLawful, Matches}
 use Rattle.run_charges.specs.Charges.{observed}
 use Rattle.run_charges.specs.Laws.{IsRunOfWords}
-use Rattle.model_runs.specs.Runs.{BearsModel, history_behind, IsShort, Progresses, all_amounts, AreInOrder}
+use Rattle.model_runs.specs.Runs.{BearsModel, history_behind, IsShort, Progresses, all_amounts, AreInOrder, AreInOrderPast}
 
 -- what is known behind each front of a run stands for a run of the source, and the board is so
 abbrev pub FrontsAreLawful : {St : Type 0} → Model St → Program → Type 0
@@ -40,12 +40,18 @@ SpansAreInOrder {St} m c = (readings : List ℕ) (s : St) (x : World) (charge : 
     → IsRunOfWords (charge ∷ []) b r → BearsModel m c readings (Resting s) x b → m.Undecided s x
     → AreInOrder 0 (history_behind m x r.moments).since (history_behind m x r.moments).completed
 
+-- and in one charge from a pending commit on those behind its done
+abbrev pub SpansPastAreInOrder : {St : Type 0} → Model St → Program → Type 0
+SpansPastAreInOrder {St} m c = (readings : List ℕ) (to : St) (x : World) (charge : BoardCharge) (b : BoardValue) (r : RunOutcome)
+    → IsRunOfWords (charge ∷ []) b r → BearsModel m c readings (Pending to) x b
+    → AreInOrderPast (history_behind m x r.moments).since (history_behind m x r.moments).completed
+
 -- where attempts and commits store at an address only words up to a most, it never holds more
 abbrev pub WordsStayWithin : {St : Type 0} → Model St → Program → (ℕ → ℕ → Type 0) → Type 0
 WordsStayWithin {St} m c P = (readings : List ℕ) (origin : Origin St) (x : World) (cs : List BoardCharge) (b : BoardValue) (r : RunOutcome)
     → IsRunOfWords cs b r → BearsModel m c readings origin x b
     → ((s : St) (y : World) (more : List ℕ) → All IsWord more → m.Undecided s y → EachStore P (m.attempt y.fram more).effects)
-    → ((s next : St) (y : World) → m.Decided s next y → EachStore P (m.commit y.fram))
+    → ((to : St) (y : World) → m.Committing to y → EachStore P (m.commit y.fram))
     → (a most : ℕ) → ((w : ℕ) → P a w → w ≤ most) → x.fram a ≤ most
     → (ms rest : List Moment) → r.moments ≡ ms ++ rest → fram_of (last_board b ms).fram a ≤ most
 

@@ -11,7 +11,7 @@ use Rattle.run_charges.specs.code_forms.Placed.{words_of, Holds}
 use Rattle.crash_rules.specs.Model.{Model, ModelLaws, Short}
 use Rattle.crash_rules.specs.History.{Done, History, first_history}
 use Rattle.crash_rules.specs.Runs.{Program, ProgramLaws}
-use Rattle.crash_rules.specs.Laws.{Origin, Begins, Reaches}
+use Rattle.crash_rules.specs.Laws.{Origin, Begins, IsSettled, Reaches}
 use Rattle.run_charges.specs.Charges.{observed, IsPlacedProgram, AlwaysLeaves}
 
 -- where a program stands in the FRAM of a board, which enters it by its reset vector, and that its charges never change it
@@ -33,9 +33,10 @@ pub record BearsModel {St : Type 0} (m : Model St) (c : Program) (readings : Lis
 abbrev pub history_behind : {St : Type 0} → Model St → World → List Moment → History
 history_behind m x ms = observed m.gate ms (first_history m.gate x)
 
--- the source is short on the readings from the last boot or done on, at the state of the last done
+-- the source is short on the readings from the last boot or done on, at the state of the last done; nothing is pending
 pub record IsShort {St : Type 0} (m : Model St) (readings : List ℕ) (origin : Origin St) (h : History) : Type 0 where
   pub state : St
+  pub settled : IsSettled origin h.completed
   pub reached : Reaches m readings origin h.completed state
   pub is_task : m.task_number state < m.tasks
   pub short : m.task state (drop h.since readings) ≡ Short
@@ -65,3 +66,8 @@ all_amounts (c ∷ cs) = 1 + c.amount + all_amounts cs
 abbrev pub AreInOrder : ℕ → ℕ → List Done → Type 0
 AreInOrder from end [] = from ≡ end
 AreInOrder from end (d ∷ ds) = (d.span_from ≡ from) × (from ≤ d.span_to) × AreInOrder d.span_to end ds
+
+-- so those of all dones but the first
+abbrev pub AreInOrderPast : ℕ → List Done → Type 0
+AreInOrderPast end [] = Unit {0}
+AreInOrderPast end (d ∷ ds) = AreInOrder 0 end ds

@@ -1,6 +1,6 @@
 //! Laws of a board's run and a model. The functions do nothing: their contracts are the laws.
 
-ghost use Rattle.model_runs.specs.Laws.{DonesAreFew, FrontsAreLawful, MakesProgress, SpansAreInOrder, StopsWhereShort, TakesWhatIsThere, WordsStayWithin};
+ghost use Rattle.model_runs.specs.Laws.{DonesAreFew, FrontsAreLawful, MakesProgress, SpansAreInOrder, SpansPastAreInOrder, StopsWhereShort, TakesWhatIsThere, WordsStayWithin};
 ghost use Rattle.model_runs.specs.EventLaws.{FirstHistoriesAreTheSame, HistoriesStayTheSame, LinesAreOfDones, ReportIsOfDones, FewWordsHaveLines};
 
 /// What a report's history and a history by effects say as a run begins is the same.
@@ -27,6 +27,7 @@ use crash_rules::Compiled;
 pub fn fronts_are_lawful<S: Compiled>()
     ensures lawful { FrontsAreLawful S.model S.program }
     ensures spans { SpansAreInOrder S.model S.program }
+    ensures past { SpansPastAreInOrder S.model S.program }
 {}
 
 /// A run stops for want of a reading alone, and only where the source is short.

@@ -5,7 +5,7 @@ use Rattle.std.proofs.lemmas.Bool.{cases_eq}
 use Rattle.runtime_effects.specs.fram_board.Effects.{Store, Send}
 use Rattle.runtime_effects.specs.machine_effects.World.{World, put, accepted_after, world_after_one, world_after}
 use Rattle.runtime_effects.proofs.machine_effects.Interface.{put_same, put_other}
-use Rattle.runtime_effects.specs.Places.{CopyPair, entries_from, listed}
+use Rattle.runtime_effects.specs.Places.{CopyPair, entry_bytes, entries_from, listed}
 use Rattle.runtime_effects.proofs.Interface.{entries_alike}
 use Rattle.runtime_effects.specs.Stages.{emits_sent, commit_effects}
 use Rattle.crash_rules.specs.Model.{HoldsThroughout}
@@ -75,6 +75,7 @@ module _ (l : ProgramPlaces) (apart : AreApart l.map) (room : HaveRoom l) (x : W
     emit_count : y.fram (word_place m EmitCount) ≡ f (word_place m EmitCount)
     sent_base : y.fram (word_place m SentBase) ≡ f (word_place m SentBase)
     version : y.fram (word_place m Version) ≡ f (word_place m Version)
+    entries : (a : ℕ) → m.list.address ≤ a → a < m.list.address + entry_bytes * f (word_place m ListLength) → y.fram a ≡ f a
     list : listed m y.fram ≡ ps
     emits : (a : ℕ) → m.emits.address ≤ a → a < m.emits.address + 2 * f (word_place m EmitCount) → y.fram a ≡ f a
     copies : (q : CopyPair) → IsAmong ps q → y.fram q.copy ≡ f q.copy
@@ -86,6 +87,8 @@ module _ (l : ProgramPlaces) (apart : AreApart l.map) (room : HaveRoom l) (x : W
       let small = p.list_length in let small_emits = p.emit_count in
       let cln : y.fram (word_place m ListLength) ≡ f (word_place m ListLength) =
       same (word_place m ListLength) (λ h. omega (arith, apart, h)) (λ e. omega (arith, apart, e)) (λ e. omega (arith, apart, e)) in
+      let entries : (a : ℕ) → m.list.address ≤ a → a < m.list.address + entry_bytes * f (word_place m ListLength) → y.fram a ≡ f a = λ a lo hi.
+      same a (λ h. omega (arith, apart, h, small, hi)) (λ e. omega (arith, apart, e, lo)) (λ e. omega (arith, apart, e, lo)) in
       record {
         gate = same (word_place m Gate) (λ h. omega (arith, apart, h)) (λ e. omega (arith, apart, e)) (λ e. omega (arith, apart, e));
         next_task = same (word_place m NextTask) (λ h. omega (arith, apart, h)) (λ e. omega (arith, apart, e)) (λ e. omega (arith, apart, e));
@@ -93,9 +96,9 @@ module _ (l : ProgramPlaces) (apart : AreApart l.map) (room : HaveRoom l) (x : W
         emit_count = same (word_place m EmitCount) (λ h. omega (arith, apart, h)) (λ e. omega (arith, apart, e)) (λ e. omega (arith, apart, e));
         sent_base = same (word_place m SentBase) (λ h. omega (arith, apart, h)) (λ e. omega (arith, apart, e)) (λ e. omega (arith, apart, e));
         version = same (word_place m Version) (λ h. omega (arith, apart, h)) (λ e. omega (arith, apart, e)) (λ e. omega (arith, apart, e));
+        entries = entries;
         list = ap (λ n. entries_from n m.list.address y.fram) cln
-            ∙ entries_alike (f (word_place m ListLength)) m.list.address f y.fram (λ a lo hi.
-            same a (λ h. omega (arith, apart, h, small, hi)) (λ e. omega (arith, apart, e, lo)) (λ e. omega (arith, apart, e, lo)));
+            ∙ entries_alike (f (word_place m ListLength)) m.list.address f y.fram entries;
         emits = λ a lo hi. same a (λ h. omega (arith, apart, h, small_emits, hi)) (λ e. omega (arith, apart, e, lo)) (λ e. omega (arith, apart, e, lo));
         copies = λ q h. let c = p.copies q h in
             same q.copy (λ s. omega (arith, apart, s, c)) (λ e. omega (arith, apart, e, c)) (λ e. omega (arith, apart, e, c));
@@ -114,6 +117,9 @@ module _ (l : ProgramPlaces) (apart : AreApart l.map) (room : HaveRoom l) (x : W
         current_task = w.current_task;
         next_task = omega (arith, next, is_next);
         list_length = omega (arith, cln, list);
+        entries = λ i h.
+            let below : i < f (word_place m ListLength) = subst (λ n. i < n) cln h in
+            subst (λ n. 0 < n) (sym (r.entries (m.list.address + entry_bytes * i + 4) (omega arith) (omega (arith, below)))) (p.entries i below);
         list_words = subst (λ qs. length qs ≤ m.entries) (sym r.list) p.list_words;
         homes = λ q h. p.homes q (subst (λ qs. IsAmong qs q) r.list h);
         copies = λ q h. p.copies q (subst (λ qs. IsAmong qs q) r.list h);

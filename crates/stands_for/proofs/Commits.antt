@@ -79,6 +79,7 @@ module _ {St : Type 0} (l : ProgramPlaces) (apart : AreApart l.map) (room : Have
             d.current_task;
         next_task = omega (arith, next_task, next_is);
         list_length = few l apart room v s next ps es 0 x d;
+        entries = d.entries;
         list_words = few_words l apart room v s next ps es 0 x d;
         homes = d.homes;
         copies = d.copies;

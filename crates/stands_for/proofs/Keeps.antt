@@ -78,6 +78,9 @@ module _ {St : Type 0} (l : ProgramPlaces) (apart : AreApart l.map) (room : Have
         next_task = same (word_place m NextTask) (λ h. omega (arith, apart, h)) (λ e. omega (arith, apart, e)) (λ e. omega (arith, apart, e)) ∙ d.next_task;
         pairs_listed = ap (λ n. entries_from n m.list.address y.fram) cln ∙ entries_alike (x.fram (word_place m ListLength)) m.list.address x.fram y.fram list
             ∙ d.pairs_listed;
+        entries = λ i h.
+            let below : i < x.fram (word_place m ListLength) = subst (λ n. i < n) cln h in
+            subst (λ n. 0 < n) (sym (list (m.list.address + entry_bytes * i + 4) (omega arith) (omega (arith, below)))) (d.entries i below);
         within_list = subst (λ n. n ≤ l.list_capacity (v.task s)) (sym cln) d.within_list;
         within_words = d.within_words;
         homes = d.homes;

@@ -4,7 +4,7 @@ use Rattle.std.specs.Prelude.{◌≡◌, ℕ, zero, suc, ◌+◌, ◌*◌, ◌%�
 use Rattle.runtime_effects.specs.memory_map.MemoryMap.{word_place}
 use Rattle.runtime_effects.specs.memory_map.declared.words.RuntimeWord.TheVariants.{CurrentTask, NextTask, Gate, ListLength, EmitCount, Base, SentBase, Version}
 use Rattle.runtime_effects.specs.machine_effects.World.{World, world_after}
-use Rattle.runtime_effects.specs.Places.{CopyPair, listed}
+use Rattle.runtime_effects.specs.Places.{CopyPair, entry_bytes, listed}
 use Rattle.runtime_effects.specs.Stages.{commit_effects}
 use Rattle.stands_for.specs.Layout.{ProgramPlaces, StateView, IsSharedWord, IsCopyWord, IsAmong}
 
@@ -16,6 +16,10 @@ HoldsWords f = (a : ℕ) → f a < 0x10000
 abbrev pub words_at : ℕ → ℕ → (ℕ → ℕ) → List ℕ
 words_at zero p f = []
 words_at (suc n) p f = f p ∷ words_at n (p + 2) f
+
+-- each entry of the commit list has a word at least
+abbrev pub EntriesHaveWords : ProgramPlaces → (ℕ → ℕ) → Type 0
+EntriesHaveWords l f = (i : ℕ) → i < f (word_place l.map ListLength) → 0 < f (l.map.list.address + entry_bytes * i + 4)
 
 -- every version word is at most VER
 abbrev pub VersionsWithin : ProgramPlaces → (ℕ → ℕ) → Type 0
@@ -61,6 +65,7 @@ pub record DecidedWith {St : Type 0} (l : ProgramPlaces) (v : StateView St) (s n
   pub gate : x.fram (word_place l.map Gate) ≡ 1
   pub next_task : x.fram (word_place l.map NextTask) ≡ v.task next
   pub pairs_listed : listed l.map x.fram ≡ pairs
+  pub entries : EntriesHaveWords l x.fram
   pub within_list : x.fram (word_place l.map ListLength) ≤ l.list_capacity (v.task s)
   pub within_words : length pairs ≤ l.list_capacity (v.task s)
   pub homes : (p : CopyPair) → IsAmong pairs p → IsSharedWord l p.home
@@ -94,14 +99,15 @@ pub record IsAtRest (l : ProgramPlaces) (x : World) : Type 0 where
   pub versions : VersionsWithin l x.fram
 
 -- a commit is pending and can be made, whatever was committed: CUR and NEXT name tasks; the list, the words that it names and the words to
--- send are within their capacities; the list goes from copies to shared words; the receiver accepted the first so many of the words to
--- send, which are numbered from SB on; and BASE is SB, or SB + EN
+-- send are within their capacities; each entry has a word and goes from copies to shared words; the receiver accepted the first so many of
+-- the words to send, which are numbered from SB on; and BASE is SB, or SB + EN
 pub record IsPendingCommit (l : ProgramPlaces) (x : World) : Type 0 where
   pub words : HoldsWords x.fram
   pub gate : x.fram (word_place l.map Gate) ≡ 1
   pub current_task : x.fram (word_place l.map CurrentTask) < l.tasks
   pub next_task : x.fram (word_place l.map NextTask) < l.tasks
   pub list_length : x.fram (word_place l.map ListLength) ≤ l.map.entries
+  pub entries : EntriesHaveWords l x.fram
   pub list_words : length (listed l.map x.fram) ≤ l.map.entries
   pub homes : (p : CopyPair) → IsAmong (listed l.map x.fram) p → IsSharedWord l p.home
   pub copies : (p : CopyPair) → IsAmong (listed l.map x.fram) p → IsCopyWord l p.copy
