@@ -7,10 +7,9 @@ use Rattle.compiled_model.specs.memory_map.declared.words.RuntimeWord.TheVariant
 use Rattle.compiled_model.specs.memory_map.MemoryMap.{MemoryMap, word_place}
 use Rattle.compiled_model.specs.crash_rules.History.{History}
 use Rattle.compiled_model.specs.crash_rules.Runs.{Program}
-use Rattle.compiled_model.specs.crash_rules.Laws.{Origin, Phase, UndecidedPhase, DecidedPhase}
+use Rattle.compiled_model.specs.crash_rules.Laws.{Origin, Phase, UndecidedPhase, DecidedPhase, CommittingPhase}
 use Rattle.compiled_model.specs.memory_map.Laws.{AreApart}
-use Rattle.compiled_model.specs.stands_for.Layout.{HaveRoom}
-use Rattle.compiled_model.specs.stands_for.StandsFor.{DecidedFrom, VersionsWithin}
+use Rattle.compiled_model.specs.stands_for.StandsFor.{CommittingTo, VersionsWithin}
 use Rattle.compiled_model.proofs.stands_for.Interface.{commit_stores_all}
 use Rattle.compiled_model.specs.Places.{program_places}
 use Rattle.compiled_model.specs.View.{state_view}
@@ -19,12 +18,12 @@ use Rattle.model_runs.specs.Runs.{history_behind}
 use Rattle.model_runs.proofs.Interface.{fronts_are_lawful, words_stay_within}
 use Rattle.compiled_bounds.specs.Laws.{CountsFit, CapacitiesAreKept}
 
-module _ (p : CheckedProgram) (l : MemoryMap) (apart : AreApart l) (room : HaveRoom (program_places p l)) where
+module _ (p : CheckedProgram) (l : MemoryMap) (apart : AreApart l) where
   -- a commit stores neither to CLN nor to EN
-  commits_fit : (s next : State) (x : World) → DecidedFrom (program_places p l) (state_view p l) s next x
+  commits_fit : (to : State) (x : World) → CommittingTo (program_places p l) (state_view p l) to x
       → EachStore (CountsFit l) ((compiled_model p l).commit x.fram)
-  commits_fit s next x d =
-      commit_stores_all (program_places p l) apart room (state_view p l) s next (CountsFit l) x d
+  commits_fit to x d =
+      commit_stores_all (program_places p l) apart x d.pending (CountsFit l)
       (λ a w h. record { list = λ e. absurd (omega (arith, apart, h, e)); emits = λ e. absurd (omega (arith, apart, h, e)) })
       (λ w. record { list = λ e. absurd (omega (arith, apart, e)); emits = λ e. absurd (omega (arith, apart, e)) })
       (λ w. record { list = λ e. absurd (omega (arith, apart, e)); emits = λ e. absurd (omega (arith, apart, e)) })
@@ -35,17 +34,18 @@ module _ (p : CheckedProgram) (l : MemoryMap) (apart : AreApart l) (room : HaveR
       → VersionsWithin (program_places p l) h.world.fram
   phase_versions readings origin s h (UndecidedPhase u settled w) = w.is_open.versions
   phase_versions readings origin s h (DecidedPhase next u t w) = w.decided.versions
+  phase_versions readings origin s h (CommittingPhase u k n w) = w.pending.versions
 
 -- the counts of a compiled source keep to the capacities of its layout at each board of a run
 pub capacities_are_kept : (c : Program) → CapacitiesAreKept c
-capacities_are_kept c p l apart room fit readings origin x cs b r run bears first ms rest e =
+capacities_are_kept c p l apart fit readings origin x cs b r run bears first ms rest e =
     let model = compiled_model p l in
-    let stays = words_stay_within model c (CountsFit l) readings origin x cs b r run bears fit (commits_fit p l apart room) in
+    let stays = words_stay_within model c (CountsFit l) readings origin x cs b r run bears fit (commits_fit p l apart) in
     let k = fronts_are_lawful model c readings origin x cs b r run bears ms rest e in
     let h = history_behind model x ms in
     let P : (ℕ → ℕ) → Type 0 = λ f. VersionsWithin (program_places p l) f in
     record {
       list = stays (word_place l ListLength) l.entries (λ w s. s.list refl) first.list ms rest e;
       emits = stays (word_place l EmitCount) l.emits.words (λ w s. s.emits refl) first.emits ms rest e;
-      versions = subst P (sym k.1.fram) (phase_versions p l apart room readings origin k.0.stands.state h k.0.stands.phase);
+      versions = subst P (sym k.1.fram) (phase_versions p l apart readings origin k.0.stands.state h k.0.stands.phase);
     }

@@ -1,5 +1,5 @@
 -- Each task keeps to its part of the bound.
-use Rattle.std.proofs.Common.{◌≡◌, ℕ, ◌+◌, ◌*◌, ◌≤◌, sym, ap, ◌∙◌, arith, List, [], length, Some}
+use Rattle.std.proofs.Common.{◌≡◌, ℕ, ◌+◌, ◌*◌, ◌≤◌, sym, ap, ◌∙◌, subst, arith, List, [], length, Some}
 use Rattle.std.proofs.lemmas.List.{length-map}
 use Rattle.std.proofs.lemmas.Option.{slice_get-map, get_or_from_slice_get}
 use Rattle.std.specs.Option.{option_map}
@@ -23,9 +23,12 @@ use Rattle.compiled_model.specs.boot_runtime.Listing.{privates_in, entry_at}
 use Rattle.compiled_model.specs.lower.Seen.{map_seen}
 use Rattle.compiled_model.specs.lower.Lowered.{lowered_task}
 use Rattle.compiled_model.specs.lower.Sizes.{entry_cycles}
+use Rattle.compiled_model.specs.commit_runtime.Listing.{commit_cycles}
 use Rattle.compiled_model.specs.Parts.{task_program}
 use Rattle.compiled_model.specs.Needs.{whole_cycles}
 use Rattle.compiled_bounds.specs.Laws.{TasksKeepToTheBound}
+use Rattle.compiled_bounds.proofs.Bounds.{bound_is_the_sources}
+use Rattle.compiled_bounds.proofs.Commits.{commit_within_bound}
 use Rattle.compiled_model.specs.memory_map.MemoryMap.{MemoryMap, TaskPlace}
 use Rattle.compiled_model.specs.memory_map.Spots.{places_of}
 
@@ -92,4 +95,6 @@ tasks_keep_to_the_bound p allow plans l allowed few layout = record {
       let count = layout.tasks.count in
       let own = element l.tasks t (omega (arith, below, count)) in
       within p allow plans l allowed few layout t fram readings task.0 own.0 task.1 own.1;
+  commits = λ t below. subst (λ n. 11 + commit_cycles l.entries l.entries l.emits.words ≤ n) (sym (bound_is_the_sources p l))
+      (commit_within_bound p l.entries l.emits.words (omega (arith, below)) (layout.list ∙ allowed.list) (layout.emits ∙ allowed.emits));
 }

@@ -1,4 +1,5 @@
 mod Bounds
+mod Commits
 mod Costs
 mod Capacities
 pub mod Interface

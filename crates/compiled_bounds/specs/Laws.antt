@@ -18,7 +18,6 @@ use Rattle.compiled_model.specs.crash_rules.Runs.{Program}
 use Rattle.compiled_model.specs.crash_rules.Laws.{Origin}
 use Rattle.model_runs.specs.run_charges.Laws.{IsRunOfWords}
 use Rattle.compiled_model.specs.memory_map.Laws.{AreApart}
-use Rattle.compiled_model.specs.stands_for.Layout.{HaveRoom}
 use Rattle.compiled_model.specs.stands_for.StandsFor.{UndecidedAt}
 use Rattle.compiled_model.specs.Places.{program_places}
 use Rattle.compiled_model.specs.View.{state_view}
@@ -31,7 +30,7 @@ abbrev pub BoundIsTheSources : Type 0
 BoundIsTheSources = (p : CheckedProgram) (l : MemoryMap) → bound (compiled_model p l) ≡ bound_of p
 
 -- each task of a source that costs no more than it may keeps to its part of the bound, from a boot up to the end of its commit: where no
--- task has more private scalars than its allowance counts
+-- task has more private scalars than its allowance counts. Each pending commit keeps to the bound, whichever task it's of
 abbrev pub TasksKeepToTheBound : Type 0
 TasksKeepToTheBound = (p : CheckedProgram) (allow : Allow) (plans : List TaskPlanValue) (l : MemoryMap) → IsAllowed p allow → PrivatesAreCounted p l
     → IsLayout p allow plans l → CostsAreWithin p l
@@ -54,7 +53,7 @@ AttemptsFit p l = (s : State) (x : World) (readings : List ℕ) → All IsWord r
 
 -- at each board of a run the capacities are kept, where they are at first
 abbrev pub CapacitiesAreKept : Program → Type 0
-CapacitiesAreKept c = (p : CheckedProgram) (l : MemoryMap) → AreApart l → HaveRoom (program_places p l) → AttemptsFit p l
+CapacitiesAreKept c = (p : CheckedProgram) (l : MemoryMap) → AreApart l → AttemptsFit p l
     → (readings : List ℕ) (origin : Origin State) (x : World) (cs : List BoardCharge) (b : BoardValue) (r : RunOutcome)
     → IsRunOfWords cs b r → BearsModel (compiled_model p l) c readings origin x b → KeepsCapacities l x.fram
     → (ms rest : List Moment) → r.moments ≡ ms ++ rest → KeepsCapacities l (fram_of (last_board b ms).fram)

@@ -15,7 +15,8 @@ pub fn bound_is_the_sources()
     ensures { BoundIsTheSources }
 {}
 
-/// The bound pays for a boot, the clearing of the versions, a whole attempt of any task and its commit.
+/// The bound pays for a boot, the clearing of the versions, a whole attempt of any task and its commit; and for a boot and any commit that
+/// the list and the buffer have room for.
 pub fn tasks_keep_to_the_bound()
     ensures { TasksKeepToTheBound }
 {}

@@ -6,7 +6,6 @@ use Rattle.compiled_model.specs.machine_effects.Machine.{machine_powered}
 use Rattle.compiled_model.specs.code_forms.Forms.{core_of}
 use Rattle.compiled_model.specs.code_forms.Placed.{words_of, IsOutside}
 use Rattle.compiled_model.proofs.code_forms.Interface.{powered_has_a_core}
-use Rattle.compiled_model.specs.source_values.Runs.{State}
 use Rattle.compiled_model.specs.lower.Lowered.{lowered}
 use Rattle.compiled_model.specs.crash_rules.Model.{IsElsewhere}
 use Rattle.compiled_model.specs.crash_rules.Runs.{ProgramLaws}
@@ -14,7 +13,6 @@ use Rattle.compiled_model.proofs.crash_rules.Interface.{stops_short, stores_only
 use Rattle.compiled_model.proofs.stands_for.Interface.{each_weaker, commit_stores_there}
 use Rattle.compiled_model.proofs.linked_code.Interface.{linked_is_code}
 use Rattle.compiled_model.specs.Places.{program_places}
-use Rattle.compiled_model.specs.View.{state_view}
 use Rattle.compiled_model.specs.Parts.{compiled_model}
 use Rattle.compiled_runs.specs.Program.{source_code, compiled_program}
 use Rattle.compiled_runs.specs.Laws.{CodeIsPlaced, RunsLeaveTheCode}
@@ -46,14 +44,13 @@ runs_leave_the_code p l r laws below readings origin x s begins charges t k char
     let c = compiled_program p l in
     let own : ProgramLaws m c = code_keeps_the_laws p l r laws in
     let P : ℕ → ℕ → Type 0 = λ a w. a < l.boot.address in
-    let places = program_places p l in let view = state_view p l in
+    let places = program_places p l in
     let copies = (apart_of l r.fits.rules).copies in
     let boot = (apart_of l r.fits.rules).boot in
     let end = (linked_is_code l (lowered l p) r.fits).end in
     let high = r.fits.high in
     let stores = stores_only m c P laws own (λ st y rs w u. below.below st y rs w u)
-    (λ st next y d. each_weaker _ P (λ a w h. let b = h.below in omega (arith, b, copies, boot)) _
-    (commit_stores_there State places view st next y r.apart r.room d))
+    (λ to y d. each_weaker _ P (λ a w h. let b = h.below in omega (arith, b, copies, boot)) _ (commit_stores_there places y r.apart d.pending))
     readings origin x s begins charges t k charged q powered fram left n in
     record {
       code = record {

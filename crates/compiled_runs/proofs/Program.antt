@@ -29,11 +29,11 @@ use Rattle.compiled_model.specs.boot_runtime.Listing.{TaskEntry, entry_at, priva
 use Rattle.compiled_model.proofs.boot_runtime.Interface.{clearing_is_dearest}
 use Rattle.compiled_model.specs.commit_runtime.Listing.{commit_steps, commit_cycles}
 use Rattle.compiled_model.specs.lower.Lowered.{lowered}
-use Rattle.compiled_model.specs.crash_rules.Model.{Model, Outcome, Ends, Short, ProgramEffects, program_effects, IsWord, ModelLaws, AttemptContract, CommitContract, with_commit}
+use Rattle.compiled_model.specs.crash_rules.Model.{Model, Outcome, Ends, Short, ProgramEffects, program_effects, IsWord, bound, ModelLaws, AttemptContract, CommitKeeps, with_commit}
 use Rattle.compiled_model.specs.crash_rules.Runs.{Program, Makes}
 use Rattle.compiled_model.specs.stands_for.Program.{StartContract}
 use Rattle.compiled_model.specs.stands_for.StandsFor.{HoldsWords, StartedAt}
-use Rattle.compiled_model.proofs.stands_for.Interface.{numbered_starts, decided_can_commit}
+use Rattle.compiled_model.proofs.stands_for.Interface.{numbered_starts, pending_can_commit}
 use Rattle.compiled_model.specs.Places.{program_places}
 use Rattle.compiled_model.specs.View.{state_view}
 use Rattle.compiled_model.specs.Parts.{has_jumped, task_program, compiled_model}
@@ -101,10 +101,10 @@ module _ (p : CheckedProgram) (l : MemoryMap) (r : CanRun p l) (laws : ModelLaws
   start_keeps = numbered_starts State (program_places p l) (state_view p l) privates r.apart r.privates
 
   -- behind a commit the code is at the start of an attempt, where GATE is 0
-  behind_commit : (s next : State) (x : World) → m.Decided s next x → (v : Core) (rs : List ℕ)
+  behind_commit : (to : State) (x : World) → m.Committing to x → (v : Core) (rs : List ℕ)
       → IsAt start_at (fram_after (commit_effects l x.fram) x.fram) rs v → IsAtEntry l (board_of v)
-  behind_commit s next x d v rs h =
-      let k : CommitContract m s next x = laws.commits s next x d in
+  behind_commit to x d v rs h =
+      let k : CommitKeeps m (m.Committing to) to x = laws.commits to x d in
       let gate : v.fram (word_place l Gate) ≡ 0 =
       ap (λ f. f (word_place l Gate)) h.fram ∙ ap (λ es. fram_after es x.fram (word_place l Gate)) k.is ∙ behind_last k.before (word_place l Gate) 0 x.fram in
       inr (record { core = v; is = refl; pc = h.pc; gate = λ e. omega (arith, gate, e) })
@@ -120,39 +120,40 @@ module _ (p : CheckedProgram) (l : MemoryMap) (r : CanRun p l) (laws : ModelLaws
   fits_commit s next x d =
       let e = d.decided.emit_count in let k = d.decided.within_emits in
       record {
-        can = decided_can_commit State (program_places p l) (state_view p l) s next x r.apart r.room d;
+        can = pending_can_commit (program_places p l) x r.apart (laws.decided_committing s next x d).pending;
         list = d.decided.within_list;
         words = d.decided.within_words;
         emits = omega (arith, e, k);
       }
 
-  commit_from_boot : (s next : State) (accepted : List ℕ) (u : Core) → u.pc ≡ l.boot.address
-      → (d : m.Decided s next (record { fram = u.fram; accepted = accepted }))
-      → Makes c (cost s.task) (program_effects (m.commit u.fram) true) (board_of u)
-  commit_from_boot s next accepted u e d =
+  -- a pending commit, from a boot on: the list and the words to send have room, and the bound has the cycles for all that has
+  commit_from_boot : (to : State) (accepted : List ℕ) (u : Core) → u.pc ≡ l.boot.address
+      → (d : m.Committing to (record { fram = u.fram; accepted = accepted }))
+      → Makes c (bound m) (program_effects (m.commit u.fram) true) (board_of u)
+  commit_from_boot to accepted u e d =
       let x : World = record { fram = u.fram; accepted = accepted } in
-      let f = fits_commit s next x d in
-      let a = to_commit l (lowered l p) r.fits are_whole u e (laws.decided_gate s next x d) f.can in
+      let q = d.pending in
+      let a = to_commit l (lowered l p) r.fits are_whole u e q.gate (pending_can_commit (program_places p l) x r.apart q) in
       let n = u.fram (word_place l ListLength) in let ws = length (listed l u.fram) in let k = u.fram (word_place l EmitCount) in
-      let list = f.list in let words = f.words in let emits = f.emits in
-      let w = r.costs.within s.task (λ y. 0) [] (d.decided.is_task) (λ y. omega arith) (λ y q h. absurd (omega (arith, h))) in
+      let list = q.list_length in let words = q.list_words in let emits = q.emit_count in
+      let most = r.costs.commits to.task d.rests.is_open.is_task in
       record {
         steps = 4 + commit_steps n ws k;
         cycles = 11 + commit_cycles n ws k;
-        ends = λ t. (omega (arith, list, words, emits, w), (board_of a.end, a.leads, behind_commit s next x d a.end u.readings_left a.holds));
+        ends = λ t. (omega (arith, list, words, emits, most), (board_of a.end, a.leads, behind_commit to x d a.end u.readings_left a.holds));
         lacks = λ t. absurd (cc (t));
       }
 
-  makes_commit : (s next : State) (x : World) (b : MachineBoard) → IsAtEntry l b → b.fram ≡ x.fram → m.Decided s next x
-      → Makes c (cost s.task) (program_effects (m.commit b.fram) true) b
-  makes_commit s next x b (inl k) e d =
+  makes_commit : (to : State) (x : World) (b : MachineBoard) → IsAtEntry l b → b.fram ≡ x.fram → m.Committing to x
+      → Makes c (bound m) (program_effects (m.commit b.fram) true) b
+  makes_commit to x b (inl k) e d =
       let u = k.core in
       let f : x.fram ≡ u.fram = sym e ∙ ap (λ q. q.fram) k.is in
-      let d' : m.Decided s next (record { fram = u.fram; accepted = x.accepted }) =
-      subst (λ g. m.Decided s next (record { fram = g; accepted = x.accepted })) f d in
-      subst (λ q. Makes c (cost s.task) (program_effects (m.commit q.fram) true) q) (sym k.is) (commit_from_boot s next x.accepted u k.pc d')
-  makes_commit s next x b (inr k) e d =
-      let one : x.fram (word_place l Gate) ≡ 1 = laws.decided_gate s next x d in
+      let d' : m.Committing to (record { fram = u.fram; accepted = x.accepted }) =
+      subst (λ g. m.Committing to (record { fram = g; accepted = x.accepted })) f d in
+      subst (λ q. Makes c (bound m) (program_effects (m.commit q.fram) true) q) (sym k.is) (commit_from_boot to x.accepted u k.pc d')
+  makes_commit to x b (inr k) e d =
+      let one : x.fram (word_place l Gate) ≡ 1 = d.pending.gate in
       let f : k.core.fram (word_place l Gate) ≡ 1 = ap (λ q. q.fram (word_place l Gate)) (sym k.is) ∙ ap (λ g. g (word_place l Gate)) e ∙ one in
       absurd (k.gate f)
 
@@ -272,7 +273,7 @@ module _ (p : CheckedProgram) (l : MemoryMap) (r : CanRun p l) (laws : ModelLaws
           let words : ws ≤ (program_places p l).list_capacity k = subst (λ j. ws ≤ (program_places p l).list_capacity j) (sym is_current) fits.words in
           let emits : o ≤ (program_places p l).emit_capacity k = subst (λ j. o ≤ (program_places p l).emit_capacity j) (sym is_current) fits.emits in
           let most = within in let start_most = at_most in let body_most = q.within in
-          let entry = behind_commit s d.next d.world d.decided h.end v.readings_left at in
+          let entry = behind_commit d.next d.world (laws.decided_committing s d.next d.world d.decided) h.end v.readings_left at in
           record {
             steps = to_steps + q.steps + commit_steps n ws o;
             cycles = to_cycles + q.cycles + commit_cycles n ws o;

@@ -1,0 +1,66 @@
+-- A boot and the commit of a full list and a full buffer keep to the bound: it has 40 cycles for each entry of the greatest list, and 100
+-- for each word of the most that are emitted.
+use Rattle.std.proofs.Common.{◌≡◌, ℕ, zero, suc, ◌+◌, ◌-◌, ◌*◌, ◌<◌, ◌≤◌, ⊎_elim, arith, List, [], ◌∷◌, length, Some, None}
+use Rattle.std.proofs.lemmas.Bool.{cases_lt}
+use Rattle.compiled_model.specs.task_ast.Tree.{Statement, declare, assign, store, choose, loop, emit, transition, Choice, nothing, otherwise, test, Block, end, step}
+use Rattle.compiled_model.specs.cost_bound.Table.{cycles_column, statement_price, blocks_price, block_price}
+use Rattle.compiled_model.specs.cost_bound.Counts.{Code, is_emit, statement_count, choice_count, block_count, emits_of}
+use Rattle.compiled_model.specs.cost_bound.Allowance.{CheckedProgram, CheckedTask, bound_of, list_of, task_bound, versions_of, greatest}
+use Rattle.compiled_model.specs.commit_runtime.Listing.{commit_cycles}
+
+turns_pay : (n count price : ℕ) → 60 * count ≤ price → 60 * (n * count) ≤ n * (40 + price)
+turns_pay zero count price h = omega arith
+turns_pay (suc n) count price h = let rest = turns_pay n count price h in omega (arith, rest, h)
+
+-- 60 cycles for each emit of a block
+mutual
+  statement_pays : {V T : Type 0} (s : Statement V T) → 60 * statement_count is_emit s ≤ statement_price cycles_column s
+  statement_pays (declare _ _ None) = omega arith
+  statement_pays (declare _ _ (Some e)) = omega arith
+  statement_pays (assign _ e) = omega arith
+  statement_pays (store _ i e) = omega arith
+  statement_pays (emit e) = omega arith
+  statement_pays (transition _) = omega arith
+  statement_pays (choose c) = let a = blocks_pay c in omega (arith, a)
+  statement_pays (loop _ from _ below _ body) =
+      let a = turns_pay (below - from) (block_count is_emit body) (block_price cycles_column body) (block_pays body) in omega (arith, a)
+
+  blocks_pay : {V T : Type 0} (c : Choice V T) → 60 * choice_count is_emit c ≤ blocks_price cycles_column c
+  blocks_pay nothing = omega arith
+  blocks_pay (otherwise b) = block_pays b
+  blocks_pay (test _ b more) = let x = block_pays b in let y = blocks_pay more in omega (arith, x, y)
+
+  block_pays : {V T : Type 0} (b : Block V T) → 60 * block_count is_emit b ≤ block_price cycles_column b
+  block_pays end = omega arith
+  block_pays (step s more) = let a = statement_pays s in let b = block_pays more in omega (arith, a, b)
+
+emits_pay : {V T : Type 0} (b : Block V T) → 60 * emits_of b ≤ block_price cycles_column b
+unfolding emits_of
+emits_pay b = block_pays b
+
+-- a task has the greatest of one count, and its other count is within the greatest
+record HasGreatest (f g : Code → ℕ) (ts : List CheckedTask) : Type 0 where
+  code : Code
+  is : greatest f ts ≡ f code
+  within : g code ≤ greatest g ts
+
+has_greatest : (f g : Code → ℕ) (ts : List CheckedTask) → 0 < length ts → HasGreatest f g ts
+has_greatest f g [] h = absurd (omega (arith, h))
+has_greatest f g (t ∷ []) h = record { code = t.body; is = omega arith; within = omega arith }
+has_greatest f g (t ∷ u ∷ ts) h =
+    let k = has_greatest f g (u ∷ ts) (omega arith) in
+    let is = k.is in let within = k.within in
+    ⊎_elim {C = HasGreatest f g (t ∷ u ∷ ts)}
+    (λ more. record { code = k.code; is = omega (arith, is, more); within = omega (arith, within) })
+    (λ less. record { code = t.body; is = omega (arith, less); within = omega arith })
+    (cases_lt (f t.body) (greatest f (u ∷ ts)))
+
+pub commit_within_bound : (p : CheckedProgram) (entries emits : ℕ) → 0 < length p.tasks → entries ≡ greatest (list_of p.shared) p.tasks
+    → emits ≡ greatest emits_of p.tasks → 11 + commit_cycles entries entries emits ≤ bound_of p
+commit_within_bound p entries emits some list_is emits_are =
+    let price = task_bound (versions_of p) p.shared in
+    let a = has_greatest (list_of p.shared) price p.tasks some in
+    let b = has_greatest emits_of price p.tasks some in
+    let a_is = a.is in let a_within = a.within in let b_is = b.is in let b_within = b.within in
+    let paid = emits_pay b.code in
+    omega (arith, list_is, emits_are, a_is, a_within, b_is, b_within, paid)
