@@ -1,34 +1,39 @@
 -- The report of a run is the source's, on the committed readings of its dones.
-use Rattle.std.proofs.Common.{◌≡◌, ℕ, ◌-◌, ◌<◌, ◌≤◌, ◌^◌, refl, sym, ap, ap₂, ◌∙◌, subst, arith, List, [], ◌∷◌, ◌++◌, length, drop, append-nil, Some}
-use Rattle.std.proofs.lemmas.List.{length-map}
+use Rattle.std.proofs.Common.{◌≡◌, ℕ, ◌+◌, ◌-◌, ◌<◌, ◌≤◌, ◌^◌, refl, sym, ap, ap₂, ◌∙◌, subst, arith, List, [], ◌∷◌, ◌++◌, length, drop, append-nil, length-append, Some}
+use Rattle.std.proofs.lemmas.List.{length-map, map-append}
 use Rattle.model_runs.specs.alp_io.declared.report.Reason.{Reason}
 use Rattle.model_runs.specs.alp_io.declared.report.Reason.TheVariants as reason
 use Rattle.model_runs.specs.alp_io.Report.{bound_line, end_line}
 use Rattle.model_runs.specs.image_map.MapValue.{MapValue}
 use Rattle.model_runs.specs.msp_step.declared.machine.Stop.{Stop}
+use Rattle.model_runs.specs.msp_step.declared.machine.Stop.TheVariants.{NoReading}
 use Rattle.model_runs.specs.fram_board.Board.{BoardValue}
 use Rattle.model_runs.specs.fram_board.Run.{End, Charges, Stopped, BoardCharge, RunOutcome}
 use Rattle.model_runs.specs.board_run.History.{start_with}
 use Rattle.model_runs.specs.board_run.History as board
 use Rattle.model_runs.specs.board_run.Report.{report_of, last_line}
 use Rattle.source_report.specs.source_values.Statements.{Outcome, short}
-use Rattle.source_report.specs.source_values.Runs.{CheckedProgram, State, first_state, state_behind, attempt_of}
+use Rattle.source_report.specs.source_values.Runs.{CheckedProgram, State, Transition, first_state, state_after, state_behind, attempt_of}
+use Rattle.source_report.specs.Apart.{AreApart}
 use Rattle.source_report.specs.SourceReport.{IsConsecutive, position_after, source_report}
 use Rattle.model_runs.specs.machine_effects.World.{World}
 use Rattle.model_runs.specs.crash_rules.Model.{Model, bound}
 use Rattle.model_runs.specs.crash_rules.History.{Done, History, first_history}
 use Rattle.model_runs.specs.crash_rules.Runs.{Program}
-use Rattle.model_runs.specs.crash_rules.Laws.{Resting, IsLawful, SourceRun}
+use Rattle.model_runs.specs.crash_rules.Laws.{Origin, Resting, Pending, IsSettled, Reaches, IsLawful, SourceRun}
 use Rattle.model_runs.specs.run_charges.Charges.{observed}
 use Rattle.model_runs.specs.run_charges.Laws.{IsRunOfWords}
 use Rattle.model_runs.specs.Events.{counted, dones_lines}
-use Rattle.model_runs.proofs.Interface.{report_is_of_dones, fronts_are_lawful, stops_where_short, makes_progress, dones_are_few, takes_what_is_there, spans_are_in_order}
-use Rattle.source_runs.specs.Transitions.{committed_by}
+use Rattle.model_runs.specs.EventLaws.{StartsWith}
+use Rattle.model_runs.proofs.Interface.{report_is_of_dones, fronts_are_lawful, stops_where_short, makes_progress, dones_are_few, takes_what_is_there}
+use Rattle.model_runs.proofs.Interface.{spans_are_in_order, spans_past_are_in_order}
+use Rattle.source_runs.specs.Transitions.{HasWordsOf, StandForTransitions, committed_by}
 use Rattle.source_runs.proofs.Lines.{dones_are_transitions, counted_below}
-use Rattle.model_runs.specs.Runs.{history_behind, IsShort, Progresses, all_amounts, AreInOrder}
-use Rattle.source_runs.specs.Tells.{IsEndOf, IsUninterrupted, IsToldBySource, spans_of, at_first}
-use Rattle.source_runs.specs.Sources.{IsOfSource, BeginsWithSource, events_of}
-use Rattle.source_runs.specs.Laws.{RunsAreTold}
+use Rattle.model_runs.specs.Runs.{BearsModel, history_behind, IsShort, Progresses, all_amounts, AreInOrder, AreInOrderPast}
+use Rattle.source_runs.specs.Tells.{EachChargePays, IsEndOf, IsUninterrupted, at_first}
+use Rattle.source_runs.specs.Resumed.{unread, IsToldFrom, IsToldUndone, IsToldBehind, CommitUndone, CommitDone, HasTransition}
+use Rattle.source_runs.specs.Sources.{IsOfSource, events_of}
+use Rattle.source_runs.specs.Laws.{RunsAreTold, ResumedRunsAreTold}
 use Rattle.source_runs.proofs.Apart.{spans_are_apart}
 use Rattle.source_runs.proofs.Received.{words_are_received, run_hears}
 use Rattle.source_runs.proofs.Transitions.{Tells, tells}
@@ -40,12 +45,17 @@ consecutive : (from to end : ℕ) (ds : List Done) → AreInOrder from to ds →
 consecutive from to end [] h l = (omega (arith, h, l), h)
 consecutive from to end (d ∷ ds) h l = let k = consecutive d.span_to to end ds h.2 l in ((h.0, h.1, k.0), k.1)
 
-module _ (text : List ℕ) (program : CheckedProgram) (m : MapValue) (model : Model State) (c : Program) (x : World) (cs : List BoardCharge) (b : BoardValue)
-    (r : RunOutcome) (is : IsOfSource text program m model) (begins : BeginsWithSource program m model c x b) (run : IsRunOfWords cs b r)
-    (few : all_amounts cs < 2 ^ 64) where
-  abbrev first : State
-  first = first_state program
+-- transitions behind transitions
+stand_both : (m : MapValue) (s : State) (ds es : List Done) (ts us : List Transition) → StandForTransitions m s ds ts
+    → StandForTransitions m (state_behind s ts) es us → StandForTransitions m s (ds ++ es) (ts ++ us)
+stand_both m s [] es [] us h k = k
+stand_both m s [] es (t ∷ ts) us h k = absurd h
+stand_both m s (d ∷ ds) es [] us h k = absurd h
+stand_both m s (d ∷ ds) es (t ∷ ts) us h k = (h.0, stand_both m (state_after s t) ds es ts us h.1 k)
 
+module _ (text : List ℕ) (program : CheckedProgram) (m : MapValue) (model : Model State) (c : Program) (x : World) (cs : List BoardCharge) (b : BoardValue)
+    (r : RunOutcome) (is : IsOfSource text program m model) (origin : Origin State) (bears : BearsModel model c b.readings origin x b)
+    (starts : StartsWith b x) (run : IsRunOfWords cs b r) (few : all_amounts cs < 2 ^ 64) where
   abbrev h : History
   h = events_of m x r
 
@@ -53,118 +63,236 @@ module _ (text : List ℕ) (program : CheckedProgram) (m : MapValue) (model : Mo
   same : history_behind model x r.moments ≡ h
   same = ap (λ g. observed g r.moments (first_history g x)) is.gate
 
-  lawful : IsLawful model b.readings (Resting first) h
-  lawful = subst (IsLawful model b.readings (Resting first)) same
-      (fronts_are_lawful model c b.readings (Resting first) x cs b r run begins.bears r.moments [] (sym (append-nil r.moments))).0
-
-  all : Tells text program m model is b.readings first h.completed lawful.stands.state
-  all = tells text program m model is b.readings first lawful.stands.state h.completed lawful.stands.reached
+  lawful : IsLawful model b.readings origin h
+  lawful = subst (IsLawful model b.readings origin) same
+      (fronts_are_lawful model c b.readings origin x cs b r run bears r.moments [] (sym (append-nil r.moments))).0
 
   few_dones : length h.completed < 2 ^ 64
   few_dones = let l = dones_are_few cs b r run m.words.gate (first_history m.words.gate x) in omega (arith, l, few)
 
-  number : counted (length h.completed) ≡ length (committed_by h.completed)
-  number = counted_below (length h.completed) (2 ^ 64 - 1) refl (omega (arith, few_dones)) ∙ sym (length-map h.completed _)
+  off : IsReadOff m cs b r h
+  off = read_off m x cs b r is.is_map starts run
 
-  -- the end
-  abbrev next : List ℕ → State → Outcome
-  next left s = attempt_of program s.task s.shared left
+  progress : EachChargePays m cs b (at_first m b) r
+  progress =
+      let P : ℕ → Type 0 = λ g. Progresses g (bound model) cs b (first_history g x) r in
+      let Q : ℕ → Type 0 = λ n. Progresses m.words.gate n cs b (first_history m.words.gate x) r in
+      off.pays x (subst Q is.bound (subst P is.gate (makes_progress model c b.readings origin x cs b r run bears))) starts
+
+  in_readings : h.since ≤ length b.readings
+  in_readings = takes_what_is_there cs b r run m.words.gate (first_history m.words.gate x) (sym starts.taken) (omega arith)
+
+  heard : r.board.receiver.accepted + r.board.receiver.repeats < b.receiver.accepted + b.receiver.repeats + 2 ^ 64
+  heard = let all = run_hears cs b r run.run in omega (arith, all, few)
+
+  -- a stop is for want of a reading, where the source is short
+  short_there : (stop : Stop) → r.ending ≡ Stopped stop → (stop ≡ NoReading) × IsShort model b.readings origin h
+  short_there stop e =
+      let k = stops_where_short model c b.readings origin x cs b r run bears stop e in (k.0, subst (IsShort model b.readings origin) same k.1)
 
   -- a history of which the last line tells how many transitions were completed
   abbrev last : board.History
   last = record (start_with b.fram (Some m)) { completed = counted (length h.completed) }
 
-  -- how it ended, by its end
-  record EndsSo (end : End) : Type 0 where
-    pub why : Reason
-    pub line : last_line last end r.board ≡ end_line why (length (committed_by h.completed)) r.board.receiver.accepted r.board.receiver.repeats
-    pub ending : IsEndOf end (next (drop h.since b.readings) (state_behind first all.transitions)) why
+  report_is : report_of (start_with b.fram (Some m)) r ≡ bound_line m.bound ++ (dones_lines m 0 x h.completed ++ last_line last r.ending r.board)
+  report_is = report_is_of_dones cs b r run m x is.is_map starts last refl
 
-  counts : (why : Reason) → end_line why (counted (length h.completed)) r.board.receiver.accepted r.board.receiver.repeats
-      ≡ end_line why (length (committed_by h.completed)) r.board.receiver.accepted r.board.receiver.repeats
-  counts why = ap (λ n. end_line why n r.board.receiver.accepted r.board.receiver.repeats) number
+  -- The world has a state's words; the first dones stand for some transitions from it; and from there on the source runs
+  module _ (s0 s : State) (here : HasWordsOf m x s0) (done : List Done) (first : List Transition) (stand : StandForTransitions m s0 done first)
+      (at : s ≡ state_behind s0 first) (spans : committed_by done ≡ unread first) (ds : List Done) (split : h.completed ≡ done ++ ds)
+      (onward : (z : State) → Reaches model b.readings origin h.completed z → SourceRun model b.readings s ds z)
+      (alone : length cs ≡ 1 → AreInOrder 0 h.since ds) where
+    all : Tells text program m model is b.readings s ds lawful.stands.state
+    all = tells text program m model is b.readings s lawful.stands.state ds (onward lawful.stands.state lawful.stands.reached)
 
-  -- the state at which the source is short is that behind the transitions
-  same_end : (z : State) → SourceRun model b.readings first h.completed z → z ≡ state_behind first all.transitions
-  same_end z reached =
-      let other = tells text program m model is b.readings first z h.completed reached in
-      let one : Some other.transitions ≡ Some all.transitions = sym other.source ∙ all.source in
-      let same_list : other.transitions ≡ all.transitions = cc one in
-      other.end ∙ ap (state_behind first) same_list
+    -- all transitions stand for all dones
+    stand_all : StandForTransitions m s0 h.completed (first ++ all.transitions)
+    stand_all =
+        let P : State → Type 0 = λ y. StandForTransitions m y ds all.transitions in
+        subst (λ es. StandForTransitions m s0 es (first ++ all.transitions)) (sym split)
+        (stand_both m s0 done ds first all.transitions stand (subst P at all.stand))
 
-  short_there : IsShort model b.readings (Resting first) h → next (drop h.since b.readings) (state_behind first all.transitions) ≡ short
-  short_there s =
-      ap (next (drop h.since b.readings)) (sym (same_end s.state s.reached))
-      ∙ is.is_short s.state (drop h.since b.readings) s.is_task s.short
+    spans_are : committed_by h.completed ≡ unread first ++ committed_by ds
+    spans_are =
+        let both : committed_by (done ++ ds) ≡ committed_by done ++ committed_by ds = map-append _ done ds in
+        ap committed_by split ∙ both ∙ ap (λ l. l ++ committed_by ds) spans
 
-  by_end : (end : End) → r.ending ≡ end → EndsSo end
-  by_end Charges e = record { why = reason.Charges; line = counts reason.Charges; ending = refl }
-  by_end (Stopped stop) e =
-      let k = stops_where_short model c b.readings (Resting first) x cs b r run begins.bears stop e in
-      let P : Stop → Type 0 = λ y. EndsSo (Stopped y) in
-      subst P (sym k.0) (record {
-        why = reason.Readings;
-        line = counts reason.Readings;
-        ending = (refl, short_there (subst (IsShort model b.readings (Resting first)) same k.1));
-      })
+    number : counted (length h.completed) ≡ length first + length (committed_by ds)
+    number =
+        let a = ap length spans_are in
+        let n : length (committed_by h.completed) ≡ length h.completed = length-map h.completed _ in
+        let k : length (unread first) ≡ length first = length-map first _ in
+        let both = length-append (unread first) (committed_by ds) in
+        counted_below (length h.completed) (2 ^ 64 - 1) refl (omega (arith, few_dones)) ∙ omega (arith, a, n, k, both)
 
-  ends_so : EndsSo r.ending
-  ends_so = by_end r.ending refl
+    -- the end
+    abbrev next : List ℕ → State → Outcome
+    next left s = attempt_of program s.task s.shared left
 
-  lines : report_of (start_with b.fram (Some m)) r ≡ bound_line m.bound ++ (source_report text program 1 (committed_by h.completed) all.transitions
-      ++ end_line ends_so.why (length (committed_by h.completed)) r.board.receiver.accepted r.board.receiver.repeats)
-  lines =
-      let shown : dones_lines m 0 x h.completed ≡ source_report text program 1 (committed_by h.completed) all.transitions =
-      dones_are_transitions text program m is.of_source 0 x first h.completed all.transitions begins.words all.stand (omega (arith, few_dones)) in
-      report_is_of_dones cs b r run m x is.is_map begins.starts last refl
-      ∙ ap₂ (λ p q. bound_line m.bound ++ (p ++ q)) shown ends_so.line
+    -- how it ended, by its end
+    record EndsSo (end : End) : Type 0 where
+      pub why : Reason
+      pub line : last_line last end r.board ≡ end_line why (length first + length (committed_by ds)) r.board.receiver.accepted r.board.receiver.repeats
+      pub ending : IsEndOf end (next (drop h.since b.readings) (state_behind s all.transitions)) why
 
-  progress : Progresses m.words.gate m.bound cs b (first_history m.words.gate x) r
-  progress =
-      let P : ℕ → Type 0 = λ g. Progresses g (bound model) cs b (first_history g x) r in
-      let Q : ℕ → Type 0 = λ n. Progresses m.words.gate n cs b (first_history m.words.gate x) r in
-      subst Q is.bound (subst P is.gate (makes_progress model c b.readings (Resting first) x cs b r run begins.bears))
+    counts : (why : Reason) → end_line why (counted (length h.completed)) r.board.receiver.accepted r.board.receiver.repeats
+        ≡ end_line why (length first + length (committed_by ds)) r.board.receiver.accepted r.board.receiver.repeats
+    counts why = ap (λ n. end_line why n r.board.receiver.accepted r.board.receiver.repeats) number
 
-  in_readings : h.since ≤ length b.readings
-  in_readings = takes_what_is_there cs b r run m.words.gate (first_history m.words.gate x) (sym begins.starts.taken) (omega arith)
+    -- the state at which the source is short is that behind the transitions
+    same_end : (z : State) → SourceRun model b.readings s ds z → z ≡ state_behind s all.transitions
+    same_end z reached =
+        let other = tells text program m model is b.readings s z ds reached in
+        let one : Some other.transitions ≡ Some all.transitions = sym other.source ∙ all.source in
+        let same_list : other.transitions ≡ all.transitions = cc one in
+        other.end ∙ ap (state_behind s) same_list
 
--- in one charge
+    short_next : IsShort model b.readings origin h → next (drop h.since b.readings) (state_behind s all.transitions) ≡ short
+    short_next q =
+        ap (next (drop h.since b.readings)) (sym (same_end q.state (onward q.state q.reached)))
+        ∙ is.is_short q.state (drop h.since b.readings) q.is_task q.short
+
+    by_end : (end : End) → r.ending ≡ end → EndsSo end
+    by_end Charges e = record { why = reason.Charges; line = counts reason.Charges; ending = refl }
+    by_end (Stopped stop) e =
+        let k = short_there stop e in
+        let P : Stop → Type 0 = λ y. EndsSo (Stopped y) in
+        subst P (sym k.0) (record { why = reason.Readings; line = counts reason.Readings; ending = (refl, short_next k.1) })
+
+    ends_so : EndsSo r.ending
+    ends_so = by_end r.ending refl
+
+    lines : report_of (start_with b.fram (Some m)) r
+        ≡ bound_line m.bound ++ (source_report text program 1 (unread first ++ committed_by ds) (first ++ all.transitions)
+        ++ end_line ends_so.why (length first + length (committed_by ds)) r.board.receiver.accepted r.board.receiver.repeats)
+    lines =
+        let shown : dones_lines m 0 x h.completed ≡ source_report text program 1 (committed_by h.completed) (first ++ all.transitions) =
+        dones_are_transitions text program m is.of_source 0 x s0 h.completed (first ++ all.transitions) here stand_all (omega (arith, few_dones)) in
+        report_is
+        ∙ ap₂ (λ p q. bound_line m.bound ++ (p ++ q))
+        (shown ∙ ap (λ l. source_report text program 1 l (first ++ all.transitions)) spans_are) ends_so.line
+
+    pub told_from : IsToldFrom text program m first s cs b r (report_of (start_with b.fram (Some m)) r)
+    told_from =
+        let es = ends_so in
+        let end = state_behind s all.transitions in
+        let Ends : ℕ → Type 0 = λ n. IsEndOf r.ending (attempt_of program end.task end.shared (drop n b.readings)) es.why in
+        let Alone : ℕ → Type 0 = λ n. length cs ≡ 1 → IsUninterrupted b.readings n (committed_by ds) in
+        record {
+          spans = committed_by ds;
+          transitions = all.transitions;
+          why = es.why;
+          spans_are = sym spans_are ∙ off.spans;
+          source = all.source;
+          lines = lines;
+          ending = subst Ends off.since es.ending;
+          progress = progress;
+          apart = subst (AreApart 0 (length b.readings)) spans_are (spans_are_apart m.words.gate x r.moments (length b.readings) in_readings);
+          words = words_are_received m x cs b r s0 (first ++ all.transitions) is.is_map starts run here stand_all;
+          heard = heard;
+          uninterrupted = subst Alone off.since (λ one. let k = consecutive 0 h.since (length b.readings) ds (alone one) in_readings in
+              record { consecutive = k.0; at_last = k.1 });
+        }
+
 module _ (text : List ℕ) (program : CheckedProgram) (m : MapValue) (model : Model State) (c : Program) (x : World) (b : BoardValue)
-    (r : RunOutcome) (is : IsOfSource text program m model) (begins : BeginsWithSource program m model c x b) where
-  one_charge : (cs : List BoardCharge) → IsRunOfWords cs b r → (events_of m x r).since ≤ length b.readings → length cs ≡ 1
-      → IsUninterrupted b.readings (events_of m x r).since (committed_by (events_of m x r).completed)
-  one_charge [] run there e = absurd (cc e)
-  one_charge (d ∷ []) run there e =
-      let first = first_state program in
-      let same : history_behind model x r.moments ≡ events_of m x r = ap (λ g. observed g r.moments (first_history g x)) is.gate in
-      let P : History → Type 0 = λ k. AreInOrder 0 k.since k.completed in
-      let order = subst P same (spans_are_in_order model c b.readings first x d b r run begins.bears begins.undecided) in
-      let k = consecutive 0 (events_of m x r).since (length b.readings) (events_of m x r).completed order there in
-      record { consecutive = k.0; at_last = k.1 }
-  one_charge (d ∷ f ∷ cs) run there e = absurd (omega (arith, e))
+    (r : RunOutcome) (is : IsOfSource text program m model) where
+  -- in one charge
+  by_map : (P : History → Type 0) → P (history_behind model x r.moments) → P (events_of m x r)
+  by_map P h = subst P (ap (λ g. observed g r.moments (first_history g x)) is.gate) h
 
--- the same by the events that are read off the moments, as the report reads them
+  one_charge : (s : State) → BearsModel model c b.readings (Resting s) x b → model.Undecided s x → (cs : List BoardCharge) → IsRunOfWords cs b r
+      → length cs ≡ 1 → AreInOrder 0 (events_of m x r).since (events_of m x r).completed
+  one_charge s bears here [] run e = absurd (cc e)
+  one_charge s bears here (d ∷ []) run e =
+      by_map (λ k. AreInOrder 0 k.since k.completed) (spans_are_in_order model c b.readings s x d b r run bears here)
+  one_charge s bears here (d ∷ f ∷ cs) run e = absurd (omega (arith, e))
+
+  one_charge_past : (to : State) → BearsModel model c b.readings (Pending to) x b → (cs : List BoardCharge) → IsRunOfWords cs b r
+      → length cs ≡ 1 → AreInOrderPast (events_of m x r).since (events_of m x r).completed
+  one_charge_past to bears [] run e = absurd (cc e)
+  one_charge_past to bears (d ∷ []) run e =
+      by_map (λ k. AreInOrderPast k.since k.completed) (spans_past_are_in_order model c b.readings to x d b r run bears)
+  one_charge_past to bears (d ∷ f ∷ cs) run e = absurd (omega (arith, e))
+
+  module _ (cs : List BoardCharge) (starts : StartsWith b x) (run : IsRunOfWords cs b r) (few : all_amounts cs < 2 ^ 64) where
+    -- from a state on
+    pub told_resting : (s : State) → BearsModel model c b.readings (Resting s) x b → model.Undecided s x → HasWordsOf m x s
+        → IsToldFrom text program m [] s cs b r (report_of (start_with b.fram (Some m)) r)
+    told_resting s bears undecided here =
+        told_from text program m model c x cs b r is (Resting s) bears starts run few s s here [] [] tt refl refl (events_of m x r).completed refl
+        (λ z reached. reached) (one_charge s bears undecided cs run)
+
+    -- a commit that isn't done
+    told_undone : (to : State) → BearsModel model c b.readings (Pending to) x b → (events_of m x r).completed ≡ []
+        → IsToldUndone m cs b r (report_of (start_with b.fram (Some m)) r)
+    told_undone to bears none =
+        record {
+          spans_are = ap committed_by (sym none) ∙ (off text program m model c x cs b r is (Pending to) bears starts run few).spans;
+          lines = report_is text program m model c x cs b r is (Pending to) bears starts run few
+              ∙ ap₂ (λ ds q. bound_line m.bound ++ (dones_lines m 0 x ds ++ q)) none (last_is r.ending (by_charges r.ending refl));
+          ending = by_charges r.ending refl;
+          progress = progress text program m model c x cs b r is (Pending to) bears starts run few;
+          heard = heard text program m model c x cs b r is (Pending to) bears starts run few;
+        }
+      where
+        by_charges : (end : End) → r.ending ≡ end → r.ending ≡ Charges
+        by_charges Charges e = e
+        by_charges (Stopped stop) e =
+            let q = short_there text program m model c x cs b r is (Pending to) bears starts run few stop e in
+            absurd (subst (IsSettled (Pending to)) none q.1.settled)
+
+        last_is : (end : End) → end ≡ Charges → last_line (last text program m model c x cs b r is (Pending to) bears starts run few) end r.board
+            ≡ end_line reason.Charges 0 r.board.receiver.accepted r.board.receiver.repeats
+        last_is end e =
+            ap (λ z. last_line (last text program m model c x cs b r is (Pending to) bears starts run few) z r.board) e
+            ∙ ap (λ ds. end_line reason.Charges (counted (length ds)) r.board.receiver.accepted r.board.receiver.repeats) none
+
+    -- one that is done, and what the run comes to behind it
+    told_done : (s to : State) (t : Transition) → BearsModel model c b.readings (Pending to) x b → HasTransition m x s to t → (d : Done) (ds : List Done)
+        → (events_of m x r).completed ≡ d ∷ ds → IsToldFrom text program m (t ∷ []) to cs b r (report_of (start_with b.fram (Some m)) r)
+    told_done s to t bears has d ds e =
+        let law = lawful text program m model c x cs b r is (Pending to) bears starts run few in
+        let reached = subst (λ l. Reaches model b.readings (Pending to) l law.stands.state) e law.stands.reached in
+        let behind : HasWordsOf m d.world (state_after s t) = subst (HasWordsOf m d.world) (sym has.leaves) (is.rests to d.world reached.1) in
+        let stand : StandForTransitions m s (d ∷ []) (t ∷ []) = (record { from = has.from; before = has.before; few = has.few; behind = behind }, tt) in
+        let unread_span : committed_by (d ∷ []) ≡ unread (t ∷ []) = ap₂ (λ p q. record { from = p; to = q } ∷ []) reached.0.0 reached.0.1 in
+        told_from text program m model c x cs b r is (Pending to) bears starts run few s to has.words (d ∷ []) (t ∷ []) stand (sym has.leaves)
+        unread_span ds e (λ z q. (subst (λ l. Reaches model b.readings (Pending to) l z) e q).2)
+        (λ one. subst (λ l. AreInOrderPast (events_of m x r).since l) e (one_charge_past to bears cs run one))
+
+    -- behind a pending commit
+    told_pending : (s to : State) (t : Transition) → BearsModel model c b.readings (Pending to) x b → HasTransition m x s to t
+        → IsToldBehind text program m t to cs b r (report_of (start_with b.fram (Some m)) r)
+    told_pending s to t bears has = by_dones (events_of m x r).completed refl
+      where
+        by_dones : (ds : List Done) → (events_of m x r).completed ≡ ds → IsToldBehind text program m t to cs b r (report_of (start_with b.fram (Some m)) r)
+        by_dones [] e = CommitUndone (told_undone to bears e)
+        by_dones (d ∷ ds) e = CommitDone (told_done s to t bears has d ds e)
+
+-- the report of a run that goes on
+pub resumed_runs_are_told : (model : Model State) (c : Program) → ResumedRunsAreTold model c
+resumed_runs_are_told model c text program m x cs b r is starts run few = record {
+  resting = told_resting text program m model c x b r is cs starts run few;
+  pending = told_pending text program m model c x b r is cs starts run few;
+}
+
+-- and of one that begins with the source
 pub runs_are_told : (model : Model State) (c : Program) → RunsAreTold model c
 runs_are_told model c text program m x cs b r is begins run few =
-    let es = ends_so text program m model c x cs b r is begins run few in
-    let ts = all text program m model c x cs b r is begins run few in
-    let h = events_of m x r in
-    let off : IsReadOff m cs b r h = read_off m x cs b r is.is_map begins.starts run in
-    let s = state_behind (first_state program) ts.transitions in
-    let Ends : ℕ → Type 0 = λ n. IsEndOf r.ending (attempt_of program s.task s.shared (drop n b.readings)) es.why in
-    let Alone : ℕ → Type 0 = λ n. length cs ≡ 1 → IsUninterrupted b.readings n (committed_by h.completed) in
+    let t = told_resting text program m model c x b r is cs begins.starts run few (first_state program) begins.bears begins.undecided begins.words in
+    let count : 0 + length t.spans ≡ length t.spans = omega arith in
     record {
-      spans = committed_by h.completed;
-      transitions = ts.transitions;
-      why = es.why;
-      spans_are = off.spans;
-      source = ts.source;
-      lines = lines text program m model c x cs b r is begins run few;
-      ending = subst Ends off.since es.ending;
-      progress = off.pays x (progress text program m model c x cs b r is begins run few) begins.starts;
-      apart = spans_are_apart m.words.gate x r.moments (length b.readings) (in_readings text program m model c x cs b r is begins run few);
-      heard = let all = run_hears cs b r run.run in omega (arith, all, few);
-      words = words_are_received m x cs b r (first_state program) ts.transitions is.is_map begins.starts run begins.words ts.stand;
-      uninterrupted = subst Alone off.since
-          (one_charge text program m model c x b r is begins cs run (in_readings text program m model c x cs b r is begins run few));
+      spans = t.spans;
+      transitions = t.transitions;
+      why = t.why;
+      spans_are = t.spans_are;
+      source = t.source;
+      lines = t.lines ∙ ap (λ n. bound_line m.bound ++ (source_report text program 1 t.spans t.transitions
+          ++ end_line t.why n r.board.receiver.accepted r.board.receiver.repeats)) count;
+      ending = t.ending;
+      progress = t.progress;
+      apart = t.apart;
+      heard = t.heard;
+      words = t.words;
+      uninterrupted = t.uninterrupted;
     }

@@ -1,5 +1,5 @@
 -- A run of a compiled source is told by the source.
-use Rattle.std.specs.Prelude.{ℕ, ◌<◌, ◌^◌, List, Some}
+use Rattle.std.specs.Prelude.{ℕ, ◌<◌, ◌^◌, List, [], Some}
 use Rattle.model_runs.specs.image_map.MapValue.{MapValue}
 use Rattle.energy_trace.specs.TraceValue.{TraceValue}
 use Rattle.model_runs.specs.fram_board.Board.{BoardValue}
@@ -7,15 +7,19 @@ use Rattle.model_runs.specs.fram_board.Run.{BoardCharge, RunOutcome}
 use Rattle.model_runs.specs.board_run.Charges.{charges_of}
 use Rattle.model_runs.specs.board_run.History.{start_with}
 use Rattle.model_runs.specs.board_run.Report.{report_of}
-use Rattle.source_report.specs.source_values.Runs.{CheckedProgram, State}
+use Rattle.source_report.specs.source_values.Runs.{CheckedProgram, State, Transition}
 use Rattle.model_runs.specs.machine_effects.World.{World}
 use Rattle.model_runs.specs.crash_rules.Model.{Model}
 use Rattle.model_runs.specs.crash_rules.Runs.{Program}
+use Rattle.model_runs.specs.crash_rules.Laws.{Resting, Pending}
 use Rattle.model_runs.specs.run_charges.Charges.{ArePowerStates}
 use Rattle.model_runs.specs.run_charges.Laws.{IsRunOfWords}
-use Rattle.model_runs.specs.Runs.{all_amounts}
+use Rattle.model_runs.specs.EventLaws.{StartsWith}
+use Rattle.model_runs.specs.Runs.{BearsModel, all_amounts}
 use Rattle.source_runs.specs.Traces.{IsTraceOfWords}
 use Rattle.source_runs.specs.Tells.{IsToldBySource}
+use Rattle.source_runs.specs.Transitions.{HasWordsOf}
+use Rattle.source_runs.specs.Resumed.{IsToldFrom, IsToldBehind, HasTransition}
 use Rattle.source_runs.specs.Sources.{IsOfSource, BeginsWithSource}
 
 -- the report of each run of words under charges that have fewer than 2^64 cycles and instructions in all
@@ -23,6 +27,19 @@ abbrev pub RunsAreTold : Model State → Program → Type 0
 RunsAreTold model c = (text : List ℕ) (program : CheckedProgram) (m : MapValue) (x : World) (cs : List BoardCharge) (b : BoardValue) (r : RunOutcome)
     → IsOfSource text program m model → BeginsWithSource program m model c x b → IsRunOfWords cs b r → all_amounts cs < 2 ^ 64
     → IsToldBySource text program m cs b r (report_of (start_with b.fram (Some m)) r)
+
+-- and so is each from a state that the world has, and each that begins with a pending commit, told behind this
+pub record ResumedRunIsTold (model : Model State) (c : Program) (text : List ℕ) (program : CheckedProgram) (m : MapValue) (x : World)
+    (cs : List BoardCharge) (b : BoardValue) (r : RunOutcome) : Type 0 where
+  pub resting : (s : State) → BearsModel model c b.readings (Resting s) x b → model.Undecided s x → HasWordsOf m x s
+      → IsToldFrom text program m [] s cs b r (report_of (start_with b.fram (Some m)) r)
+  pub pending : (s to : State) (t : Transition) → BearsModel model c b.readings (Pending to) x b → HasTransition m x s to t
+      → IsToldBehind text program m t to cs b r (report_of (start_with b.fram (Some m)) r)
+
+abbrev pub ResumedRunsAreTold : Model State → Program → Type 0
+ResumedRunsAreTold model c = (text : List ℕ) (program : CheckedProgram) (m : MapValue) (x : World) (cs : List BoardCharge) (b : BoardValue)
+    (r : RunOutcome) → IsOfSource text program m model → StartsWith b x → IsRunOfWords cs b r → all_amounts cs < 2 ^ 64
+    → ResumedRunIsTold model c text program m x cs b r
 
 -- the charges of a trace leave words at each power-up, and have fewer than 2^64 cycles and instructions in all
 abbrev pub TracesAreFew : Type 0

@@ -1,5 +1,6 @@
 pub mod Traces
 pub mod Tells
+pub mod Resumed
 pub mod Sources
 pub mod Laws
 pub mod Naming

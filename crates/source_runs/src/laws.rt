@@ -3,7 +3,7 @@
 ghost use Rattle.source_report.specs.source_values.Runs.{State};
 ghost use Rattle.model_runs.specs.crash_rules.Model.{Model};
 ghost use Rattle.model_runs.specs.crash_rules.Runs.{Program};
-ghost use Rattle.source_runs.specs.Laws.{RunsAreTold, TracesAreFew};
+ghost use Rattle.source_runs.specs.Laws.{ResumedRunsAreTold, RunsAreTold, TracesAreFew};
 ghost use Rattle.source_runs.specs.EventLaws.{DonesAreTransitions};
 
 /// The lines of dones that stand for transitions are those that the source's report has for these transitions, on the
@@ -26,6 +26,12 @@ pub trait Told {
 /// bounds that is spent has n transitions.
 pub fn run_is_told_by_its_source<S: Told>()
     ensures { RunsAreTold S.model S.program }
+{}
+
+/// So is the report of a run that goes on from a state that the board has, from that state on; and of one that begins with a pending commit,
+/// from the state on that this leaves, behind the commit's own transition, once it's done.
+pub fn resumed_run_is_told_by_its_source<S: Told>()
+    ensures { ResumedRunsAreTold S.model S.program }
 {}
 
 /// The charges of a trace leave words at each power-up, and are so few that no count of a run's transitions comes to its end.

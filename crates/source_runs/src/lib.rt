@@ -4,4 +4,7 @@
 
 mod laws;
 
-pub use laws::{dones_are_transitions, run_is_told_by_its_source, traces_are_few};
+pub use laws::{
+    dones_are_transitions, resumed_run_is_told_by_its_source, run_is_told_by_its_source,
+    traces_are_few,
+};

@@ -25,7 +25,7 @@ use Rattle.layout_facts.specs.lower.Runs.{runs_of}
 use Rattle.layout_facts.specs.boot_runtime.Entries.{task_entries}
 use Rattle.layout_facts.specs.boot_runtime.Listing.{privates_in}
 use Rattle.layout_facts.specs.stands_for.Layout.{IsAmong, IsSharedWord, IsCopyWord, ProgramPlaces, StateView}
-use Rattle.layout_facts.specs.stands_for.StandsFor.{StartedAt, DecidedWith, DecidedFrom}
+use Rattle.layout_facts.specs.stands_for.StandsFor.{EntriesHaveWords, StartedAt, DecidedWith, DecidedFrom}
 use Rattle.layout_facts.proofs.stands_for.Interface.{put_words}
 use Rattle.layout_facts.specs.lower.Spots.{Room}
 use Rattle.layout_facts.specs.lower.Agreement.{TakesAndStores, transition_effects, element_pair, Bounds, bounds_of, Left, place_length}
@@ -37,7 +37,7 @@ use Rattle.task_attempts.proofs.Given.{IsGiven, IsTaskGiven}
 use Rattle.task_attempts.proofs.Rows.{rows_are, rows_count, declared_length}
 use Rattle.task_attempts.proofs.StoredWords.{StoresWords}
 use Rattle.task_attempts.proofs.Quiet.{IsQuiet, IsQuietAt, quiet_behind, stores_as, stays_within}
-use Rattle.task_attempts.proofs.Entries.{IsTransitionStore, transition_stores, closing, closed, closed_sent, closed_next, closed_count, closed_pairs, IsLeft, closed_left}
+use Rattle.task_attempts.proofs.Entries.{IsTransitionStore, transition_stores, closing, closed, closed_sent, closed_next, closed_count, closed_pairs, closed_entries, IsLeft, closed_left}
 use Rattle.task_attempts.proofs.Listed.{among_either, among_front, among_back, among_map, map_among}
 use Rattle.task_attempts.proofs.Tasks.{IsAt, places, body, room, task_given, body_is, private_copy, private_not_in_place}
 use Rattle.task_attempts.proofs.Stores.{Safe, StoresOf, task_safe, transition_safe}
@@ -285,6 +285,11 @@ module _ (p : CheckedProgram) (l : MemoryMap) (given : IsGiven p l) (s : State) 
         let scalars = length-map i.layout.privates scalar_pair in
         omega (arith, same, both, elements, scalars)
 
+    -- each entry has a word
+    entries_have_words : EntriesHaveWords sites z.fram
+    entries_have_words = subst (EntriesHaveWords sites) (sym z_is)
+        (closed_entries here space facts.apart task count base left.there.fram refl left.stands.list.runs)
+
     -- ---- the next state
 
     word_of_own : (e : Element) → (h : IsElement here e) → OwnWord here left.there.fram e
@@ -485,6 +490,7 @@ module _ (p : CheckedProgram) (l : MemoryMap) (given : IsGiven p l) (s : State) 
           gate = put_same y.fram (word_place l Gate) 1;
           next_task = let e = next_is in omega (arith, e, next_task, few_tasks);
           pairs_listed = refl;
+          entries = entries_have_words;
           within_list = subst (λ b. z.fram (word_place l ListLength) ≤ list_of p.shared b) (sym (body_is p l given s.task i))
               (let e = z_count in let f = few in omega (arith, e, f));
           within_words = subst (λ b. length (listed sites.map z.fram) ≤ list_of p.shared b) (sym (body_is p l given s.task i))

@@ -1,11 +1,13 @@
 -- What FRAM holds behind a transition's stores.
-use Rattle.std.proofs.Common.{◌≡◌, ℕ, zero, suc, ◌+◌, ◌*◌, ◌%◌, ◌<◌, ◌≤◌, List, [], ◌∷◌, ◌++◌, length, map, refl, sym, ap, ◌∙◌, arith, append_assoc, append-nil}
+use Rattle.std.proofs.Common.{◌≡◌, ℕ, zero, suc, ◌+◌, ◌*◌, ◌%◌, ◌<◌, ◌≤◌, List, [], ◌∷◌, ◌++◌, length, map, refl, sym, ap, ◌∙◌, subst, ⊎_elim, arith, append_assoc, append-nil}
+use Rattle.std.proofs.lemmas.Bool.{cases_lt}
+use Rattle.std.specs.List.{AllByRecursion}
 use Rattle.layout_facts.specs.fram_board.Effects.{Effect, Store}
 use Rattle.layout_facts.specs.machine_effects.World.{put, fram_after}
-use Rattle.layout_facts.proofs.machine_effects.Interface.{fram_after-append, put_same, put_other}
+use Rattle.layout_facts.proofs.machine_effects.Interface.{fram_after-append, put_same, put_other, put_at}
 use Rattle.layout_facts.specs.lower.Spots.{Room, AreApart}
 use Rattle.layout_facts.specs.lower.Agreement.{TakesAndStores, entry_effects, transition_effects}
-use Rattle.layout_facts.proofs.lower.Interface.{takes_append, after_entry, entered_pairs, pairs_of_runs, scalar_pair, runs_pairs}
+use Rattle.layout_facts.proofs.lower.Interface.{takes_append, after_entry, entered_pairs, pairs_of_runs, scalar_pair, runs_pairs, runs_have_words}
 use Rattle.layout_facts.specs.memory_map.MemoryMap.{word_place}
 use Rattle.layout_facts.specs.memory_map.declared.words.RuntimeWord.TheVariants.{NextTask, Gate, ListLength, SentBase}
 use Rattle.layout_facts.specs.runtime_effects.Places.{run_pairs, entries_from}
@@ -52,6 +54,29 @@ module _ (count list : ℕ) where
       let k = count_there more (i + 1) (after_entry count list i r.home r.copy r.words f)
       (put_same (put (put (put f a r.home) (a + 2) r.copy) (a + 4) r.words) count (i + 1)) in
       omega (arith, k)
+
+  -- each of them has a word, where those before them have
+  pub entries_have_words : (rs : List Run) (i : ℕ) (f : ℕ → ℕ) → count + 2 ≤ list → AllByRecursion (λ r. 0 < r.words) rs
+      → ((j : ℕ) → j < i → 0 < f (list + 6 * j + 4)) → (j : ℕ) → j < i + length rs
+      → 0 < fram_after (entry_effects count list i rs) f (list + 6 * j + 4)
+  entries_have_words [] i f low some before j h = before j (omega (arith, h))
+  entries_have_words (r ∷ more) i f low some before j h =
+      let a = 6 * i + list in
+      let g1 = put f a r.home in
+      let g2 = put g1 (a + 2) r.copy in
+      let g3 = put g2 (a + 4) r.words in
+      let g = after_entry count list i r.home r.copy r.words f in
+      entries_have_words more (i + 1) g low some.1
+      (λ k lt.
+      let x = list + 6 * k + 4 in
+      let same : g x ≡ g3 x = put_other g3 count (i + 1) x (λ e. omega (arith, e, low)) in
+      ⊎_elim {C = 0 < g x}
+      (λ old. subst (λ n. 0 < n)
+      (sym (same ∙ put_other g2 (a + 4) r.words x (λ e. omega (arith, e, old)) ∙ put_other g1 (a + 2) r.copy x (λ e. omega (arith, e, old))
+      ∙ put_other f a r.home x (λ e. omega (arith, e, old)))) (before k old))
+      (λ new. subst (λ n. 0 < n) (sym (same ∙ put_at g2 (a + 4) r.words x (omega (arith, lt, new)))) some.0)
+      (cases_lt k i))
+      j (omega (arith, h))
 
 -- where a transition stores, up to the gate
 pub data IsTransitionStore (p : Places) (room : Room) (a w : ℕ) : Type 0 where
@@ -148,6 +173,18 @@ module _ (p : Places) (room : Room) (apart : AreApart p room) (task n base : ℕ
       ∙ ap (λ l. l ++ pairs_of_runs rs)
       (entries_alike n list f told (λ a from to. put_other f (word_place p.map NextTask) (task % 65536) a (λ e. omega (arith, e, from, apart))))
       ∙ ap (λ l. entries_from n list f ++ l) (runs_pairs p.privates)
+
+  -- each entry has a word, where each had one
+  pub closed_entries : ((j : ℕ) → j < n → 0 < f (p.map.list.address + 6 * j + 4)) → (j : ℕ) → j < closed (word_place p.map ListLength)
+      → 0 < closed (p.map.list.address + 6 * j + 4)
+  closed_entries before j h =
+      let list = p.map.list.address in
+      let count = closed_count in
+      let there = entries_have_words (word_place p.map ListLength) list (runs_of p.privates) n told (omega (arith, apart)) (runs_have_words p.privates)
+      (λ k lt. subst (λ w. 0 < w)
+      (sym (put_other f (word_place p.map NextTask) (task % 65536) (list + 6 * k + 4) (λ e. omega (arith, e, apart)))) (before k lt))
+      j (omega (arith, h, count)) in
+      subst (λ w. 0 < w) (sym (at_close (list + 6 * j + 4) (λ e. omega (arith, e, apart)) (λ e. omega (arith, e, apart)))) there
 
   -- a word at which a transition doesn't store
   pub record IsLeft (a : ℕ) : Type 0 where

@@ -1,0 +1,61 @@
+-- A run of the board that goes on from a saved state, as its source tells it.
+use Rattle.std.specs.Prelude.{◌≡◌, ℕ, ◌+◌, ◌^◌, ◌≤◌, ◌<◌, List, [], ◌∷◌, ◌++◌, length, map, drop, sum_by, Some}
+use Rattle.model_runs.specs.alp_io.declared.report.Reason.{Reason}
+use Rattle.model_runs.specs.alp_io.declared.report.Reason.TheVariants as reason
+use Rattle.model_runs.specs.alp_io.Report.{bound_line, end_line}
+use Rattle.model_runs.specs.image_map.MapValue.{MapValue}
+use Rattle.model_runs.specs.fram_board.Board.{BoardValue}
+use Rattle.model_runs.specs.fram_board.Run.{Charges, RunOutcome, BoardCharge}
+use Rattle.model_runs.specs.board_run.Report.{after_all}
+use Rattle.source_report.specs.source_values.Runs.{CheckedProgram, State, Transition, state_after, state_behind, source_run, attempt_of}
+use Rattle.source_report.specs.Apart.{AreApart}
+use Rattle.source_report.specs.SourceReport.{Committed, readings_of, source_report}
+use Rattle.model_runs.specs.machine_effects.World.{World}
+use Rattle.source_runs.specs.Tells.{spans_of, at_first, EachChargePays, IsEndOf, IsUninterrupted}
+use Rattle.source_runs.specs.Transitions.{HasWordsOf}
+
+-- the spans of transitions whose commit was pending at the start: these have no readings of their own
+abbrev pub unread : List Transition → List Committed
+unread ts = map (λ t. record { from = 0; to = 0 }) ts
+
+-- the report of a run, as the source tells it from a state on, behind the transitions whose commit was pending at the start: none or one.
+-- It is the source's report of these and of the source's transitions from there on, on the spans of the dones, each of which one task takes
+-- exactly; and how it ended, with the number of all. All else is as of a run from the first state
+pub record IsToldFrom (text : List ℕ) (program : CheckedProgram) (m : MapValue) (first : List Transition) (s : State) (cs : List BoardCharge)
+    (b : BoardValue) (r : RunOutcome) (report : List ℕ) : Type 0 where
+  pub spans : List Committed
+  pub transitions : List Transition
+  pub why : Reason
+  pub spans_are : unread first ++ spans ≡ spans_of m (at_first m b) r.moments
+  pub source : source_run program s (map (readings_of b.readings) spans) ≡ Some transitions
+  pub lines : report ≡ bound_line m.bound ++ (source_report text program 1 (unread first ++ spans) (first ++ transitions)
+      ++ end_line why (length first + length spans) r.board.receiver.accepted r.board.receiver.repeats)
+  pub ending : let t = state_behind s transitions in
+      IsEndOf r.ending (attempt_of program t.task t.shared (drop (after_all (at_first m b) r.moments).since b.readings)) why
+  pub progress : EachChargePays m cs b (at_first m b) r
+  pub apart : AreApart 0 (length b.readings) (unread first ++ spans)
+  pub words : sum_by (λ t. length t.emitted) (first ++ transitions) ≤ r.board.receiver.accepted
+  pub heard : r.board.receiver.accepted + r.board.receiver.repeats < b.receiver.accepted + b.receiver.repeats + 2 ^ 64
+  pub uninterrupted : length cs ≡ 1 → IsUninterrupted b.readings (after_all (at_first m b) r.moments).since spans
+
+-- a run in which the commit that was pending at the start isn't done: it ended with its charges, and its report has no transition
+pub record IsToldUndone (m : MapValue) (cs : List BoardCharge) (b : BoardValue) (r : RunOutcome) (report : List ℕ) : Type 0 where
+  pub spans_are : [] ≡ spans_of m (at_first m b) r.moments
+  pub lines : report ≡ bound_line m.bound ++ end_line reason.Charges 0 r.board.receiver.accepted r.board.receiver.repeats
+  pub ending : r.ending ≡ Charges
+  pub progress : EachChargePays m cs b (at_first m b) r
+  pub heard : r.board.receiver.accepted + r.board.receiver.repeats < b.receiver.accepted + b.receiver.repeats + 2 ^ 64
+
+-- a run that began with a pending commit, which makes a transition to a state: it isn't done, or the run is told from there on
+pub data IsToldBehind (text : List ℕ) (program : CheckedProgram) (m : MapValue) (pending : Transition) (to : State) (cs : List BoardCharge)
+    (b : BoardValue) (r : RunOutcome) (report : List ℕ) : Type 0 where
+  CommitUndone : IsToldUndone m cs b r report → IsToldBehind text program m pending to cs b r report
+  CommitDone : IsToldFrom text program m (pending ∷ []) to cs b r report → IsToldBehind text program m pending to cs b r report
+
+-- a world has the words of a state, from which a transition leads to another
+pub record HasTransition (m : MapValue) (x : World) (s to : State) (t : Transition) : Type 0 where
+  pub words : HasWordsOf m x s
+  pub from : t.from ≡ s.task
+  pub before : t.before ≡ s.shared
+  pub few : length t.emitted ≤ 256
+  pub leaves : state_after s t ≡ to
