@@ -41,7 +41,7 @@ module _ (text : List ℕ) (p : CheckedProgram) (allow : Allow) (image : ImageVa
   laid : IsLaidOutText text p allow c.plans l
   laid = record { accepted = ok; plan = c.is_plan; layout = c.is_layout }
 
-  attempts_fit : AttemptsFit p l
+  pub attempts_fit : AttemptsFit p l
   attempts_fit s x readings words undecided =
       each_weaker (IsBelowCode l) (CountsFit l) (λ a w h. record { list = h.list; emits = h.emits }) _
       (stores_below_code text p allow c.plans l laid runs s x readings words undecided)
@@ -52,7 +52,7 @@ module _ (text : List ℕ) (p : CheckedProgram) (allow : Allow) (image : ImageVa
       let apart = apart_of l c.is_layout.rules in
       zero_at text p allow image ok runs c a is (λ e. omega (arith, apart, low, e)) (omega (arith, apart, high))
 
-  at_first : KeepsCapacities l (fram_of image.words)
+  pub at_first : KeepsCapacities l (fram_of image.words)
   at_first =
       let words = (places_are_in_fram l c.is_layout.rules).words in
       let list = nothing_at (word_place l ListLength) (words ListLength) (omega arith) (omega arith) in
@@ -71,7 +71,7 @@ module _ (text : List ℕ) (p : CheckedProgram) (allow : Allow) (image : ImageVa
       let ready = sources_are_ready text p allow c.plans l laid in
       let new = images_are_fresh text p allow image ok c in
       let begins = begins_with_source text p allow image c readings words ready new in
-      capacities_are_kept (compiled_program p l) p l ready.code.apart ready.code.room attempts_fit readings (Resting (first_state p))
+      capacities_are_kept (compiled_program p l) p l ready.code.apart attempts_fit readings (Resting (first_state p))
       (fresh_world image) cs (fresh image.words readings) r run begins.bears at_first ms rest e
 
 pub images_keep_capacities : ImagesKeepCapacities

@@ -1,92 +1,47 @@
 -- Each run of an image of an accepted text keeps the laws.
-use Rattle.std.proofs.Common.{◌≡◌, ◌≢◌, ℕ, zero, ◌+◌, ◌*◌, ◌<◌, ◌≤◌, ◌==◌, Bool, true, false, if◌then◌else◌, refl, sym, ap, ◌∙◌, subst, arith}
-use Rattle.std.proofs.Common.{List, [], ◌∷◌, ◌++◌, length, take, drop, All, append_assoc, length-take-le}
-use Rattle.std.proofs.lemmas.List.{take-append-drop}
-use Rattle.link_image.specs.msp_isa.Encoding.{encoding}
-use Rattle.link_image.specs.msp_step.Registers.{registers_of}
+use Rattle.std.proofs.Common.{◌≡◌, ◌<◌, ◌≤◌, ℕ, refl, subst, arith, List, [], ◌++◌, length, All}
 use Rattle.link_image.specs.image_text.ImageValue.{ImageValue}
-use Rattle.link_image.specs.fram_board.Board.{BoardValue, PowerState, IsPowerState, powered, fresh, filled}
-use Rattle.link_image.specs.fram_board.Effects.{Effect}
-use Rattle.link_image.specs.fram_board.Run.{BoardCharge, PowerUp, Moment, RunOutcome, Run}
-use Rattle.link_image.proofs.fram_board.Interface.{fill_is_a_power_state}
-use Rattle.link_image.specs.machine_effects.World.{World, fram_after, IsPrefix}
-use Rattle.link_image.specs.machine_effects.Going.{going, continued}
-use Rattle.link_image.specs.machine_effects.Machine.{fram_of}
-use Rattle.link_image.specs.machine_effects.View.{machine_of}
+use Rattle.link_image.specs.fram_board.Board.{fresh}
+use Rattle.link_image.specs.fram_board.Run.{BoardCharge, Moment, RunOutcome, Run}
+use Rattle.link_image.specs.machine_effects.World.{World}
 use Rattle.link_image.specs.machine_effects.Runs.{last_board}
-use Rattle.link_image.specs.code_forms.Placed.{words_of}
 use Rattle.link_image.specs.cost_bound.declared.allowance.Allow.{Allow}
 use Rattle.link_image.specs.source_values.Runs.{CheckedProgram, State, first_state}
 use Rattle.link_image.specs.source_meaning.Acceptance.{IsAcceptedText}
-use Rattle.link_image.specs.source_maps.Maps.{map_of}
-use Rattle.link_image.proofs.source_runs.Interface.{read_off}
-use Rattle.link_image.specs.memory_map.declared.words.RuntimeWord.TheVariants.{Gate, Version}
+use Rattle.link_image.specs.memory_map.declared.words.RuntimeWord.TheVariants.{Gate}
 use Rattle.link_image.specs.memory_map.MemoryMap.{MemoryMap, word_place}
-use Rattle.link_image.specs.runtime_effects.Stages.{commit_effects}
-use Rattle.link_image.specs.boot_runtime.Entries.{task_entries}
-use Rattle.link_image.specs.boot_runtime.Listing.{privates_in}
-use Rattle.link_image.specs.crash_rules.Model.{Model, program_effects, with_commit, script}
-use Rattle.link_image.specs.crash_rules.History.{History, first_history}
-use Rattle.link_image.specs.crash_rules.Runs.{Program}
-use Rattle.link_image.specs.crash_rules.Laws.{Origin, Resting, Phase, UndecidedPhase, DecidedPhase}
-use Rattle.link_image.proofs.crash_rules.Interface.{world_fram, never_lost, sent_once, stops_short}
-use Rattle.link_image.specs.run_charges.Charges.{ArePowerStates, AreInstructionMoments}
+use Rattle.link_image.specs.crash_rules.History.{first_history}
+use Rattle.link_image.specs.crash_rules.Laws.{Origin, Resting, StandsFor}
+use Rattle.link_image.proofs.crash_rules.Interface.{runs_may_begin}
+use Rattle.link_image.specs.run_charges.Charges.{ArePowerStates}
 use Rattle.link_image.specs.run_charges.Laws.{IsRunOfWords}
-use Rattle.link_image.proofs.run_charges.Interface.{IsMomentFrom, PowersUp, Instructs, AreMoments, are_behind, front_moments, front_counts}
-use Rattle.link_image.specs.model_runs.Runs.{BearsModel, Progresses}
-use Rattle.link_image.proofs.model_runs.Interface.{AtFront, at_front, is_powered, program_leads, starts_hold, fronts_are_lawful, stops_where_short, makes_progress}
-use Rattle.link_image.specs.stands_for.StandsFor.{HoldsWords}
-use Rattle.link_image.specs.compiled_model.Places.{program_places}
+use Rattle.link_image.proofs.model_runs.Interface.{stops_where_short}
+use Rattle.link_image.specs.stands_for.StandsFor.{SoundAtRest}
 use Rattle.link_image.specs.compiled_model.Parts.{compiled_model}
-use Rattle.compiled_laws.proofs.compiled_bounds.Interface.{bound_is_the_sources}
-use Rattle.link_image.specs.compiled_runs.Program.{source_code, placed_code, compiled_program}
-use Rattle.link_image.proofs.compiled_runs.Interface.{code_is_placed, power_ups_raise_version}
+use Rattle.compiled_laws.specs.compiled_bounds.Laws.{KeepsCapacities}
+use Rattle.link_image.specs.compiled_runs.Program.{compiled_program}
 use Rattle.compiled_laws.specs.Ready.{IsReadyToRun}
 use Rattle.compiled_laws.proofs.Interface.{sources_are_ready}
 use Rattle.link_image.specs.Compiled.{IsCompiled}
 use Rattle.link_image.specs.Laws.{fresh_world, IsFreshImage}
 use Rattle.link_image.proofs.Interface.{images_are_fresh}
-use Rattle.image_reports.specs.ImageLaw.{known_behind, start_due, attempt_due, all_due, VersionsBelow, KeepsCode, FetchesCode, HoldsAt, IsRaisedSoon, RaisesVersion, ImagesKeepTheLaws}
-use Rattle.image_reports.proofs.Begins.{bears, begins_with_source, run_of_states}
-use Rattle.image_reports.proofs.Capacities.{capacities_stay}
-use Rattle.image_reports.proofs.Told.{made, runs_are_told}
-use Rattle.image_reports.proofs.ImageStart.{versions_below}
-use Rattle.image_reports.proofs.ImageCode.{GoesOn, StopsAtReadings, goes_on, StandsOn, stands_on, placed_within, same_words, words_fetched}
+use Rattle.image_reports.specs.ImageLaw.{known_behind, KeepsCode, HoldsAt, ImagesKeepTheLaws}
+use Rattle.image_reports.specs.Resumed.{BelongsTo, HoldsFrom, ImagesBelong}
+use Rattle.image_reports.proofs.Begins.{run_of_states}
+use Rattle.image_reports.proofs.Capacities.{at_first}
+use Rattle.image_reports.proofs.Told.{runs_are_told}
+use Rattle.image_reports.proofs.Onward.{bearing, front, raises, pays}
 
--- what is due is the crash theorem's script
-due_is_script : (p : CheckedProgram) (l : MemoryMap) (f : ℕ → ℕ) (readings : List ℕ)
-    → (script (compiled_model p l) f readings).effects ≡ all_due p l f readings
-due_is_script p l f readings = by (f (word_place l Gate) == 1)
-  where
-    by : (b : Bool) → ◌≡◌ {A = List Effect}
-        (if b then program_effects (commit_effects l f) true
-        else with_commit (compiled_model p l) f ((compiled_model p l).attempt f readings)).effects
-        (if b then (if b then commit_effects l f else [])
-        else attempt_due p l
-        (let es = (if b then commit_effects l f else []) in es ++ start_due l (fram_after es f))
-        f readings)
-    by true = refl
-    by false = refl
-
--- a word that isn't 65535 is below it
-below_end : (n : ℕ) → n < 0x10000 → n ≢ 0xFFFF → n < 0xFFFF
-below_end n l h = omega (arith, l, h)
-
--- the first ones of instructions are instructions
-front_are : (ms rest : List Moment) → AreInstructionMoments (ms ++ rest) → AreInstructionMoments ms
-front_are [] rest are = tt
-front_are (m ∷ ms) rest are = (are.0, front_are ms rest are.1)
-
--- FRAM whose words are words, with no version word above VER
-record KeepsVersions (l : MemoryMap) (f : ℕ → ℕ) : Type 0 where
-  pub words : HoldsWords f
-  pub versions : (i : ℕ) → i < l.versions.words → f (l.versions.address + 2 * i) ≤ f (word_place l Version)
-
--- what a run stands for is so
-phase_keeps_versions : (p : CheckedProgram) (l : MemoryMap) (readings : List ℕ) (origin : Origin State) (s : State) (h : History)
-    → Phase (compiled_model p l) readings origin s h → KeepsVersions l h.world.fram
-phase_keeps_versions p l readings origin s h (UndecidedPhase u settled w) = record { words = w.is_open.words; versions = w.is_open.versions }
-phase_keeps_versions p l readings origin s h (DecidedPhase next d t w) = record { words = w.decided.words; versions = w.decided.versions }
+-- the fresh image belongs to itself
+pub images_belong : ImagesBelong
+images_belong text p allow image ok c =
+    let o = (images_are_fresh text p allow image ok c).rests.is_open in
+    let cur = o.current_task in let task = o.is_task in
+    record {
+      code = record { code = λ a even from to. refl; vector = refl };
+      capacities = at_first text p allow image ok c;
+      sound = SoundAtRest (record { words = o.words; current_task = omega (arith, cur, task); gate = o.gate; base = o.base; versions = o.versions });
+    }
 
 module _ (text : List ℕ) (p : CheckedProgram) (allow : Allow) (image : ImageValue) (ok : IsAcceptedText text p allow) (c : IsCompiled text p allow image)
     (cs : List BoardCharge) (starts : ArePowerStates cs) (readings : List ℕ) (words : All (λ w. w < 0x10000) readings) (few : length readings ≤ 262144)
@@ -94,20 +49,11 @@ module _ (text : List ℕ) (p : CheckedProgram) (allow : Allow) (image : ImageVa
   abbrev l : MemoryMap
   l = c.layout
 
-  abbrev model : Model State
-  model = compiled_model p l
-
-  abbrev program : Program
-  program = compiled_program p l
-
   abbrev origin : Origin State
   origin = Resting (first_state p)
 
   abbrev x : World
   x = fresh_world image
-
-  abbrev b : BoardValue
-  b = fresh image.words readings
 
   ready : IsReadyToRun p l
   ready = sources_are_ready text p allow c.plans l (record { accepted = ok; plan = c.is_plan; layout = c.is_layout })
@@ -115,187 +61,51 @@ module _ (text : List ℕ) (p : CheckedProgram) (allow : Allow) (image : ImageVa
   new : IsFreshImage text p allow l image
   new = images_are_fresh text p allow image ok c
 
-  abbrev bearing : BearsModel model program readings origin x b
-  bearing = bears text p allow image c readings words ready new
-
-  run : IsRunOfWords cs b r
+  run : IsRunOfWords cs (fresh image.words readings) r
   run = run_of_states text p allow image c cs starts readings words few r go
 
-  -- a charge stops for want of a reading alone, wherever charges lead
-  stops_at_readings : StopsAtReadings program (word_place l Gate) (machine_of b) (first_history (word_place l Gate) x)
-  stops_at_readings es t k charged q up fram left n price e halted =
-      (stops_short model program ready.model bearing.program readings origin x (machine_of b) bearing.begins es t k charged q up fram left n price e halted).0
+  belongs : BelongsTo p l image x
+  belongs = images_belong text p allow image ok c
 
-  -- the fresh board is one that a power-up left
-  begins_on : GoesOn program (machine_of b)
-  begins_on es price e stops =
-      let at = at_front model program readings origin x cs b r run bearing [] r.moments refl in
-      let zero_fill = fill_is_a_power_state 0 (omega arith) in
-      let up = is_powered model program readings origin x cs b r run bearing b (first_history (word_place l Gate) x) at (filled 0) zero_fill in
-      stops_at_readings [] (machine_of b) (first_history (word_place l Gate) x) (refl, refl) (machine_of b) up refl refl 1 price e
-      (ap (λ o. (continued o (going program.step zero)).status) stops)
+  begun : StandsFor (compiled_model p l) readings origin (first_history (word_place l Gate) x)
+  begun = (runs_may_begin (compiled_model p l) ready.model readings).resting (first_state p) x (ready.model.rests_undecided (first_state p) x new.rests)
 
-  -- at each front
-  keeps_versions : (ms rest : List Moment) → r.moments ≡ ms ++ rest → KeepsVersions l (known_behind l image ms).world.fram
-  keeps_versions ms rest e =
-      let lawful = (fronts_are_lawful model program readings origin x cs b r run bearing ms rest e).0 in
-      phase_keeps_versions p l readings origin lawful.stands.state (known_behind l image ms) lawful.stands.phase
-
-  -- and so at the last boot or done
-  began : (ms rest : List Moment) → r.moments ≡ ms ++ rest → KeepsVersions l (known_behind l image ms).start.fram
-  began ms rest e =
-      starts_hold (λ w. KeepsVersions l w.fram) (word_place l Gate) b (first_history (word_place l Gate) x) ms run.whole run.words
-      (front_moments cs b r ms rest run.starts run.run e) (keeps_versions [] r.moments refl)
-      (λ ns more d. keeps_versions ns (more ++ rest) (e ∙ ap (λ q. q ++ rest) d ∙ append_assoc ns more rest))
-
-  module _ (ms rest : List Moment) (e : r.moments ≡ ms ++ rest) where
-    abbrev t : BoardValue
-    t = last_board b ms
-
-    abbrev h : History
-    h = known_behind l image ms
-
-    at : AtFront model program readings origin x cs b r run bearing t h
-    at = at_front model program readings origin x cs b r run bearing ms rest e
-
-    stands : StandsOn (placed_code p l) (machine_of t)
-    stands = stands_on (placed_code p l) (machine_of t)
-        (goes_on program (word_place l Gate) at.charges (machine_of b) (machine_of t)
-        (first_history (word_place l Gate) x) h stops_at_readings begins_on at.charged)
-
-    fetches : FetchesCode p l image t
-    fetches =
-        let placed = code_is_placed p l new.fits in
-        let low = placed.low in
-        let high = placed.high in
-        let pc = registers_of t.cpu 0 in
-        let i = stands.instruction in
-        let is = source_code p l in
-        let here = placed_within (fram_of t.fram) is l.boot.address pc i placed.instructions placed.even at.ready.holds stands.there in
-        let there = placed_within (fram_of image.words) is l.boot.address pc i placed.instructions placed.even new.code stands.there in
-        let from = here.from in
-        let to = here.to in
-        record {
-          instruction = i;
-          next = record {
-            on = stands.on;
-            is = here.is;
-            fetched = words_fetched t pc (encoding i) here.even (omega (arith, low, from)) (omega (arith, high, to)) here.holds;
-          };
-          from = from;
-          to = to;
-          same = there.holds;
-        }
-
-    keeps_code : KeepsCode p l image (fram_of t.fram)
-    keeps_code = record {
-      code = λ a even from to. same_words (fram_of t.fram) (fram_of image.words) (words_of (source_code p l)) l.boot.address a at.ready.holds new.code
-          (code_is_placed p l new.fits).even even from to;
-      vector = at.ready.vector;
-    }
-
-    front : HoldsAt p l image readings t ms h
-    front =
-        let known = fronts_are_lawful model program readings origin x cs b r run bearing ms rest e in
-        let lawful = known.0 in
-        let same = known.1.fram in
-        let counts = front_counts (word_place l Gate) cs b r (first_history (word_place l Gate) x) run refl refl refl ms rest e in
-        record {
-          tells = record { fram = sym same; accepted = counts.accepted; taken = counts.taken };
-          effects = subst (IsPrefix h.effects) (due_is_script p l h.start.fram (drop h.since readings)) lawful.follows;
-          stands = lawful.stands;
-          never_lost = λ decided. let kept = never_lost model ready.model readings origin h lawful decided in
-              (ap (λ f. f (word_place l Gate)) same ∙ kept.0, kept.1);
-          accepted = sent_once model ready.model readings origin h lawful.stands;
-          capacities = capacities_stay text p allow image ok c cs readings words r run ms rest e;
-          versions = λ made.
-              let P : (ℕ → ℕ) → Type 0 = λ f. VersionsBelow l f in
-              let f : fram_of t.fram ≡ fram_after (start_due l h.start.fram) h.start.fram =
-              same ∙ ap (λ w. w.fram) lawful.world ∙ world_fram h.effects h.start ∙ ap (λ es. fram_after es h.start.fram) made in
-              let kept = began ms rest e in
-              subst P (sym f) (versions_below (program_places p l) ready.code.apart (privates_in (task_entries l)) ready.code.privates h.start.fram
-              kept.versions (kept.words (word_place l Version)));
-          code = keeps_code;
-          fetches = fetches;
-        }
-
-  -- VER is raised by the sixth instruction of a charge
-  module _ (ms : List Moment) (power : PowerState) (powers : IsPowerState power) (at : AtFront model program readings origin x cs b r run bearing
-      (last_board b ms) (known_behind l image ms)) where
-    abbrev on : BoardValue
-    on = powered (last_board b ms) power
-
-    raised_by_six : (first : List Moment) → AreMoments on first → AreInstructionMoments first → length first ≡ 6
-        → fram_of on.fram (word_place l Gate) ≡ 0 → fram_of on.fram (word_place l Version) < 0xFFFF
-        → fram_of (last_board on first).fram (word_place l Version) ≡ fram_of on.fram (word_place l Version) + 1
-    raised_by_six first are is six gate low =
-        let t = last_board b ms in let h = known_behind l image ms in
-        let up = is_powered model program readings origin x cs b r run bearing t h at power powers in
-        let leads = program_leads model program readings origin x cs b r run bearing t h at power powers first are is in
-        power_ups_raise_version p l ready.code (machine_of on) up gate low (machine_of (last_board on first))
-        (ap (λ n. (going program.step n (machine_of on)).status) (sym six) ∙ leads)
-
-  -- what a charge that begins so owes
-  abbrev RaisesFrom : List Moment → Moment → Type 0
-  RaisesFrom steps boot = fram_of boot.after.fram (word_place l Gate) ≡ 0 → fram_of boot.after.fram (word_place l Version) ≢ 0xFFFF
-      → IsRaisedSoon l boot.after steps
-
-  raises_from : (ms rest steps first more : List Moment) → r.moments ≡ ms ++ rest → steps ≡ first ++ more → length first ≡ 6
-      → AreInstructionMoments first → (boot : Moment) → boot.action ≡ PowerUp → IsMomentFrom (last_board b ms) boot → AreMoments boot.after first
-      → RaisesFrom steps boot
-  raises_from ms rest steps first more e cut six are boot up (Instructs i done current answer is) moments =
-      absurd (let other = sym up ∙ ap (λ y. y.action) is in cc (other))
-  raises_from ms rest steps first more e cut six are boot up (PowersUp power powers is) moments =
-      let P : Moment → Type 0 = λ y. AreMoments y.after first → RaisesFrom steps y in
-      let Q : (ℕ → ℕ) → Type 0 = λ f. f (word_place l Version) < 0x10000 in
-      let at = at_front model program readings origin x cs b r run bearing ms rest e in
-      let same = (fronts_are_lawful model program readings origin x cs b r run bearing ms rest e).1.fram in
-      let word = subst Q (sym same) ((keeps_versions ms rest e).words (word_place l Version)) in
-      subst P (sym is)
-      (λ own gate end. record {
-        first = first;
-        rest = more;
-        are = cut;
-        soon = omega (arith, six);
-        raised = raised_by_six ms power powers at first own are six gate (below_end _ word end);
-      }) moments
-
-  raises : RaisesVersion l r.moments
-  raises ms steps rest boot e up are many =
-      let first = take 6 steps in
-      let more = drop 6 steps in
-      let cut : steps ≡ first ++ more = sym (take-append-drop 6 steps) in
-      let behind : r.moments ≡ ms ++ (boot ∷ (first ++ (more ++ rest))) =
-      e ∙ ap (λ q. ms ++ (boot ∷ (q ++ rest))) cut ∙ ap (λ q. ms ++ (boot ∷ q)) (append_assoc first more rest) in
-      let front : r.moments ≡ (ms ++ (boot ∷ first)) ++ (more ++ rest) = behind ∙ sym (append_assoc ms (boot ∷ first) (more ++ rest)) in
-      let moments = are_behind b ms (boot ∷ first) (front_moments cs b r (ms ++ (boot ∷ first)) (more ++ rest) run.starts run.run front) in
-      let six : length first ≡ 6 = length-take-le 6 steps (omega (arith, many)) in
-      raises_from ms (boot ∷ (steps ++ rest)) steps first more e cut six (front_are first more (subst AreInstructionMoments cut are)) boot up
-      moments.0 moments.1
+  held : (ms rest : List Moment) → r.moments ≡ ms ++ rest
+      → HoldsAt p l image readings (last_board (fresh image.words readings) ms) ms (known_behind l image ms)
+  held ms rest e =
+      let k : HoldsFrom p l image x origin readings (last_board (fresh image.words readings) ms) ms (known_behind l image ms) =
+      front text p allow image ok c image.words 0 [] refl belongs origin cs readings words begun r run ms rest e in
+      let Code : (ℕ → ℕ) → Type 0 = λ f. KeepsCode p l image f in
+      let Capacities : (ℕ → ℕ) → Type 0 = λ f. KeepsCapacities l f in
+      record {
+        tells = record { fram = k.fram; accepted = k.words; taken = k.taken };
+        effects = k.effects;
+        stands = k.stands;
+        never_lost = k.never_lost;
+        accepted = k.accepted;
+        capacities = subst Capacities k.fram k.belongs.capacities;
+        versions = k.versions;
+        code = subst Code k.fram k.belongs.code;
+        fetches = k.fetches;
+      }
 
 pub images_keep_the_laws : ImagesKeepTheLaws
 images_keep_the_laws text p allow image ok c cs starts readings words few r go =
-    let l = c.layout in
     let own = ready text p allow image ok c cs starts readings words few r go in
-    let begun = bearing text p allow image ok c cs starts readings words few r go in
+    let first = new text p allow image ok c cs starts readings words few r go in
     let same = run text p allow image ok c cs starts readings words few r go in
-    let model = compiled_model p l in
-    let program = compiled_program p l in
-    let x = fresh_world image in
-    let b = fresh image.words readings in
-    let m = map_of text p l allow in
-    let begins = begins_with_source text p allow image c readings words own (new text p allow image ok c cs starts readings words few r go) in
-    let P : ℕ → Type 0 = λ n. Progresses (word_place l Gate) n cs b (first_history (word_place l Gate) x) r in
-    let paid : Progresses (word_place l Gate) m.bound cs b (first_history (word_place l Gate) x) r =
-    subst P (bound_is_the_sources p l ∙ sym ok.allowed.cycles) (makes_progress model program readings (Resting (first_state p)) x cs b r same begun) in
-    let off = read_off m x cs b r (made text p allow image ok c).is_map begins.starts same in
+    let mine = belongs text p allow image ok c cs starts readings words few r go in
+    let at = begun text p allow image ok c cs starts readings words few r go in
+    let state : Origin State = Resting (first_state p) in
+    let bears = bearing text p allow image ok c image.words 0 [] refl mine state cs readings words at r same in
     record {
-      rests = (new text p allow image ok c cs starts readings words few r go).rests;
+      rests = first.rests;
       apart = own.code.apart;
-      commits = own.model.commits;
-      fronts = front text p allow image ok c cs starts readings words few r go;
-      stops = stops_where_short model program readings (Resting (first_state p)) x cs b r same begun;
-      raises = raises text p allow image ok c cs starts readings words few r go;
-      progress = off.pays x paid begins.starts;
+      commits = own.model.decided_commits;
+      fronts = held text p allow image ok c cs starts readings words few r go;
+      stops = stops_where_short (compiled_model p c.layout) (compiled_program p c.layout) readings state (fresh_world image) cs
+          (fresh image.words readings) r same bears;
+      raises = raises text p allow image ok c image.words 0 [] refl mine state cs readings words at r same;
+      progress = pays text p allow image ok c image.words 0 [] refl mine state cs readings words at r same;
       told = runs_are_told text p allow image ok c cs readings words r same;
     }

@@ -3,6 +3,8 @@ pub mod Told
 pub mod Capacities
 pub mod ImageStart
 pub mod ImageCode
+pub mod Onward
 pub mod ImageLaw
+pub mod Resumed
 pub mod Tasks
 pub mod CompiledTold

@@ -1,5 +1,6 @@
 pub mod Laws
 pub mod ImageLaw
+pub mod Resumed
 pub mod Sources
 pub mod CompiledLaws
 pub use Rattle.link_image.specs.text_parts as text_parts

@@ -1,6 +1,7 @@
-//! The law of images. The function does nothing: its contract is the law.
+//! The law of images, and that of images that go on from saved states. The functions do nothing: their contracts are the laws.
 
 ghost use Rattle.image_reports.specs.ImageLaw.{ImagesKeepTheLaws};
+ghost use Rattle.image_reports.specs.Resumed.{ImagesBelong, ImagesResume};
 
 /// Every run of the image of an accepted text, under any charges, from any words that the power-ups leave, on any readings, keeps the
 /// laws at each boundary between two instructions: its effects are a prefix of boot, start, task and commit; its board is undecided at
@@ -9,4 +10,16 @@ ghost use Rattle.image_reports.specs.ImageLaw.{ImagesKeepTheLaws};
 /// spent has n transitions, and the report is told by the source.
 pub fn images_keep_the_laws()
     ensures { ImagesKeepTheLaws }
+{}
+
+/// From an image's fresh board such a run may begin: so each of the boards of its runs is one from which a run may go on.
+pub fn images_belong()
+    ensures { ImagesBelong }
+{}
+
+/// Every run that goes on from a saved state of such an image, with any sound words in the FRAM, keeps the same laws, and from each of its
+/// boards a run may go on. Where no commit is pending, its report is told from the state that the words are; else the first transition of
+/// the report is what that commit leaves, and the source tells the rest from there on.
+pub fn images_resume()
+    ensures { ImagesResume }
 {}

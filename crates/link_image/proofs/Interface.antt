@@ -1,6 +1,6 @@
 -- What the proofs of other crates cite.
 
--- Where the world rests at a state of the source, the map finds the state's words in it.
-pub use Rattle.link_image.proofs.States.{maps_find_states}
+-- Where the world rests at a state of the source, the map finds the state's words in it; and the state that each world has.
+pub use Rattle.link_image.proofs.States.{maps_find_states, worlds_stand}
 -- The world of an image before anything was done.
 pub use Rattle.link_image.proofs.Fresh.{zero_at, version, images_are_fresh}

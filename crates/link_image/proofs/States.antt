@@ -1,5 +1,5 @@
 -- Where the world rests at a state of the source, the map finds the state's words in it.
-use Rattle.std.proofs.Common.{◌≡◌, ℕ, ◌+◌, ◌*◌, ◌<◌, refl, ◌∙◌, List, [], Bool, Some}
+use Rattle.std.proofs.Common.{◌≡◌, ℕ, ◌+◌, ◌*◌, ◌<◌, refl, ◌∙◌, List, [], Bool, true, Some}
 use Rattle.std.specs.Prelude.{slice_get, slice_index_or}
 use Rattle.task_ast.specs.declared.SharedDeclaration.{SharedDeclaration}
 use Rattle.task_ast.specs.declared.Extent.{Extent}
@@ -9,43 +9,68 @@ use Rattle.whole_programs.specs.source_values.Runs.{CheckedProgram, State}
 use Rattle.war_analysis.specs.PlanValue.{TaskPlanValue}
 use Rattle.memory_map.specs.declared.place.VariablePlace.{VariablePlace}
 use Rattle.memory_map.specs.declared.place.VariablePlace.TheVariants.{Scalar, Array}
-use Rattle.memory_map.specs.MemoryMap.{MemoryMap}
+use Rattle.memory_map.specs.declared.words.RuntimeWord.TheVariants.{CurrentTask}
+use Rattle.memory_map.specs.MemoryMap.{MemoryMap, word_place}
 use Rattle.memory_map.specs.Places.{home_region}
 use Rattle.linked_code.specs.machine_effects.World.{World}
+use Rattle.compiled_runs.specs.stands_for.Layout.{IsSharedWord}
 use Rattle.compiled_runs.specs.stands_for.StandsFor.{RestsAt}
 use Rattle.source_maps.specs.source_runs.Transitions.{HasWordsOf}
 use Rattle.compiled_runs.specs.compiled_model.Places.{program_places}
-use Rattle.compiled_runs.specs.compiled_model.View.{state_view}
+use Rattle.compiled_runs.specs.compiled_model.View.{state_view, state_in}
 use Rattle.memory_map.specs.Spots.{IsWordOf}
 use Rattle.whole_programs.proofs.Interface.{privates_are_few}
 use Rattle.layout_facts.specs.Facts.{HasLayout}
-use Rattle.layout_facts.proofs.Interface.{words_of_variables_are_shared, view_has_their_words}
+use Rattle.layout_facts.proofs.Interface.{words_of_variables_are_shared, view_has_their_words, worlds_have_states}
 use Rattle.source_maps.specs.Maps.{map_of}
 use Rattle.source_maps.proofs.Interface.{of_kind}
-use Rattle.link_image.specs.Laws.{MapsFindStates}
+use Rattle.image_text.specs.ImageValue.{ImageValue}
+use Rattle.source_meaning.specs.Acceptance.{IsAcceptedText}
+use Rattle.link_image.specs.Compiled.{IsCompiled}
+use Rattle.link_image.specs.Laws.{MapsFindStates, ImagesHaveStates}
 use Rattle.link_image.proofs.Rows.{RowStands, all_rows}
 
 module _ (text : List ℕ) (p : CheckedProgram) (allow : Allow) (plans : List TaskPlanValue) (l : MemoryMap) (laid : HasLayout p allow plans l)
-    (s : State) (x : World) (rests : RestsAt (program_places p l) (state_view p l) s x) where
+    (s : State) (x : World) (is_state : (state_view p l).is_state s ≡ true)
+    (shared : (a : ℕ) → IsSharedWord (program_places p l) a → x.fram a ≡ (state_view p l).word s a) where
   row_stands : (v : ℕ) (place : VariablePlace) → slice_get l.variables v ≡ Some place → RowStands x (slice_index_or s.shared v []) place
   row_stands v place at i below =
       let a = 2 * i + (home_region place).address in
       let word : IsWordOf l v i a = record { place = place; at = at; below = below; address = refl } in
-      rests.shared a (words_of_variables_are_shared p allow plans l laid v i a word) ∙ view_has_their_words p allow plans l laid s.shared v i a word
+      shared a (words_of_variables_are_shared p allow plans l laid v i a word) ∙ view_has_their_words p allow plans l laid s.shared v i a word
 
-  pub finds_state : HasWordsOf (map_of text p l allow) x s
-  finds_state = record {
-    task = rests.is_open.current_task;
-    shared = all_rows x text p.shared l.variables s.shared laid.layout.variables.count rests.is_open.is_state
+  finds_words : x.fram (word_place l CurrentTask) ≡ s.task → x.accepted ≡ s.emitted → HasWordsOf (map_of text p l allow) x s
+  finds_words task accepted = record {
+    task = task;
+    shared = all_rows x text p.shared l.variables s.shared laid.layout.variables.count is_state
         (λ v d place at at_place. of_kind (is_written p.tasks v) d.extent place (laid.layout.variables.each v d place at at_place)) row_stands;
-    accepted = rests.is_open.accepted;
+    accepted = accepted;
   }
 
+pub finds_state : (text : List ℕ) (p : CheckedProgram) (allow : Allow) (plans : List TaskPlanValue) (l : MemoryMap) → HasLayout p allow plans l
+    → (s : State) (x : World) → RestsAt (program_places p l) (state_view p l) s x → HasWordsOf (map_of text p l allow) x s
+finds_state text p allow plans l laid s x rests =
+    finds_words text p allow plans l laid s x rests.is_open.is_state rests.shared rests.is_open.current_task rests.is_open.accepted
+
+layout_of : (text : List ℕ) (p : CheckedProgram) (allow : Allow) (image : ImageValue) → IsAcceptedText text p allow → (c : IsCompiled text p allow image)
+    → HasLayout p allow c.plans c.layout
+layout_of text p allow image ok c = record {
+  allowed = ok.allowed;
+  plan = c.is_plan;
+  layout = c.is_layout;
+  few = privates_are_few text p allow c.plans c.layout (record { accepted = ok; plan = c.is_plan; layout = c.is_layout });
+}
+
 pub maps_find_states : MapsFindStates
-maps_find_states text p allow image ok c s x rests =
-    finds_state text p allow c.plans c.layout (record {
-      allowed = ok.allowed;
-      plan = c.is_plan;
-      layout = c.is_layout;
-      few = privates_are_few text p allow c.plans c.layout (record { accepted = ok; plan = c.is_plan; layout = c.is_layout });
-    }) s x rests
+maps_find_states text p allow image ok c s x rests = finds_state text p allow c.plans c.layout (layout_of text p allow image ok c) s x rests
+
+-- what stands in each world is a state, and the map finds it
+pub worlds_stand : ImagesHaveStates
+worlds_stand text p allow image ok c =
+    let laid = layout_of text p allow image ok c in
+    let w = worlds_have_states p allow c.plans c.layout laid in
+    record {
+      words = λ x words. finds_words text p allow c.plans c.layout laid (state_in c.layout x) x (w.is_state x words) (w.shared x) refl refl;
+      rest = w.rest;
+      commit = w.commit;
+    }

@@ -9,12 +9,12 @@ use Rattle.linked_code.specs.machine_effects.World.{World}
 use Rattle.linked_code.specs.machine_effects.Machine.{fram_of}
 use Rattle.linked_code.specs.code_forms.Placed.{Holds}
 use Rattle.memory_map.specs.MemoryMap.{MemoryMap}
-use Rattle.compiled_runs.specs.stands_for.StandsFor.{RestsAt}
+use Rattle.compiled_runs.specs.stands_for.StandsFor.{HoldsWords, RestsAt, IsAtRest, IsPendingCommit, CommittingTo}
 use Rattle.source_maps.specs.source_runs.Transitions.{HasWordsOf}
 use Rattle.lower.specs.Lowered.{lowered}
 use Rattle.linked_code.specs.Linked.{CodeFits}
 use Rattle.compiled_runs.specs.compiled_model.Places.{program_places}
-use Rattle.compiled_runs.specs.compiled_model.View.{state_view}
+use Rattle.compiled_runs.specs.compiled_model.View.{state_view, state_in, state_left}
 use Rattle.link_image.specs.Words.{code_words}
 use Rattle.source_maps.specs.Maps.{map_of}
 use Rattle.link_image.specs.Compiled.{IsCompiled}
@@ -42,3 +42,15 @@ abbrev pub MapsFindStates : Type 0
 MapsFindStates = (text : List ℕ) (p : CheckedProgram) (allow : Allow) (image : ImageValue) → IsAcceptedText text p allow
     → (c : IsCompiled text p allow image) → (s : State) (x : World) → RestsAt (program_places p c.layout) (state_view p c.layout) s x
     → HasWordsOf (map_of text p c.layout allow) x s
+
+-- Each world of words has a state, which the map finds. Where no commit is pending the world rests at it, and a pending commit leaves the
+-- state that the world has behind it
+pub record HasStates (text : List ℕ) (p : CheckedProgram) (allow : Allow) (l : MemoryMap) : Type 0 where
+  pub words : (x : World) → HoldsWords x.fram → HasWordsOf (map_of text p l allow) x (state_in l x)
+  pub rest : (x : World) → IsAtRest (program_places p l) x → RestsAt (program_places p l) (state_view p l) (state_in l x) x
+  pub commit : (x : World) → IsPendingCommit (program_places p l) x → CommittingTo (program_places p l) (state_view p l) (state_left l x) x
+
+-- so with the image of each accepted source
+abbrev pub ImagesHaveStates : Type 0
+ImagesHaveStates = (text : List ℕ) (p : CheckedProgram) (allow : Allow) (image : ImageValue) → IsAcceptedText text p allow
+    → (c : IsCompiled text p allow image) → HasStates text p allow c.layout

@@ -1,6 +1,6 @@
 //! Laws of the images of accepted sources. The functions do nothing: their contracts are the laws.
 
-ghost use Rattle.link_image.specs.Laws.{ImagesAreFresh, MapsFindStates};
+ghost use Rattle.link_image.specs.Laws.{ImagesAreFresh, ImagesHaveStates, MapsFindStates};
 
 use linked_code::{layouts_have_room, linked_is_code};
 use lower::laws::statements_keep_to_words;
@@ -18,4 +18,9 @@ pub fn images_are_fresh()
 /// Where a world rests at a state of the source, the image's map finds the state's words in it.
 pub fn maps_find_states()
     ensures { MapsFindStates }
+{}
+
+/// Each world of words has a state, which the map finds; the world rests at it, or its pending commit leaves the one that it has then.
+pub fn images_have_states()
+    ensures { ImagesHaveStates }
 {}

@@ -1,0 +1,353 @@
+-- At each front of a run of an accepted text's image, from any world that belongs to the image.
+use Rattle.std.proofs.Common.{◌≡◌, ◌≢◌, ℕ, zero, ◌+◌, ◌*◌, ◌%◌, ◌<◌, ◌≤◌, ◌==◌, Bool, true, false, if◌then◌else◌, refl, sym, ap, ◌∙◌, subst, arith}
+use Rattle.std.proofs.Common.{List, [], ◌∷◌, ◌++◌, length, take, drop, All, append_assoc, length-take-le}
+use Rattle.std.proofs.lemmas.List.{take-append-drop}
+use Rattle.link_image.specs.msp_isa.Encoding.{encoding}
+use Rattle.link_image.specs.msp_step.Registers.{registers_of}
+use Rattle.link_image.specs.image_text.ImageValue.{ImageValue}
+use Rattle.link_image.specs.fram_board.Board.{BoardValue, TakesNextBehind, PowerState, IsPowerState, powered, started, filled}
+use Rattle.link_image.specs.fram_board.Effects.{Effect}
+use Rattle.link_image.specs.fram_board.Run.{BoardCharge, PowerUp, Moment, RunOutcome}
+use Rattle.link_image.proofs.fram_board.Interface.{fill_is_a_power_state}
+use Rattle.link_image.specs.machine_effects.World.{World, fram_after, IsPrefix}
+use Rattle.link_image.specs.machine_effects.Going.{going, continued}
+use Rattle.link_image.specs.machine_effects.Machine.{fram_of}
+use Rattle.link_image.specs.machine_effects.View.{machine_of}
+use Rattle.link_image.specs.machine_effects.Runs.{last_board}
+use Rattle.link_image.specs.code_forms.Placed.{words_of, Holds}
+use Rattle.link_image.specs.cost_bound.declared.allowance.Allow.{Allow}
+use Rattle.link_image.specs.source_values.Runs.{CheckedProgram, State}
+use Rattle.link_image.specs.source_meaning.Acceptance.{IsAcceptedText}
+use Rattle.link_image.specs.source_maps.Maps.{map_of}
+use Rattle.link_image.proofs.source_runs.Interface.{read_off}
+use Rattle.link_image.specs.memory_map.declared.words.RuntimeWord.TheVariants.{Gate, Version}
+use Rattle.link_image.specs.memory_map.MemoryMap.{MemoryMap, word_place}
+use Rattle.link_image.specs.runtime_effects.Stages.{commit_effects}
+use Rattle.link_image.specs.boot_runtime.Entries.{task_entries}
+use Rattle.link_image.specs.boot_runtime.Listing.{privates_in}
+use Rattle.link_image.specs.crash_rules.Model.{Model, ModelLaws, program_effects, with_commit, script}
+use Rattle.link_image.specs.crash_rules.History.{History, first_history}
+use Rattle.link_image.specs.crash_rules.Runs.{Program}
+use Rattle.link_image.specs.crash_rules.Laws.{Origin, Phase, UndecidedPhase, DecidedPhase, CommittingPhase, StandsFor, Begins}
+use Rattle.link_image.proofs.crash_rules.Interface.{world_fram, never_lost, sent_once, pending_sends, stops_short}
+use Rattle.link_image.specs.run_charges.Charges.{AreInstructionMoments, IsPlacedProgram}
+use Rattle.link_image.specs.run_charges.Laws.{IsRunOfWords}
+use Rattle.link_image.proofs.run_charges.Interface.{IsMomentFrom, PowersUp, Instructs, AreMoments, are_behind, front_moments, Counts, moments_count}
+use Rattle.link_image.specs.model_runs.Runs.{BearsModel, Progresses}
+use Rattle.link_image.specs.model_runs.EventLaws.{StartsWith}
+use Rattle.link_image.proofs.model_runs.Interface.{AtFront, at_front, is_powered, program_leads, starts_hold, fronts_are_lawful, makes_progress}
+use Rattle.link_image.specs.stands_for.StandsFor.{HoldsWords, IsSound, SoundAtRest, SoundPending}
+use Rattle.link_image.specs.compiled_model.Places.{program_places}
+use Rattle.link_image.specs.compiled_model.Parts.{compiled_model}
+use Rattle.compiled_laws.specs.compiled_bounds.Laws.{KeepsCapacities}
+use Rattle.compiled_laws.proofs.compiled_bounds.Interface.{bound_is_the_sources, capacities_are_kept}
+use Rattle.link_image.specs.compiled_runs.Program.{source_code, placed_code, compiled_program}
+use Rattle.link_image.proofs.compiled_runs.Interface.{code_keeps_the_laws, code_is_placed, power_ups_raise_version, runs_leave_the_code}
+use Rattle.compiled_laws.specs.Ready.{IsReadyToRun}
+use Rattle.compiled_laws.proofs.Interface.{sources_are_ready}
+use Rattle.link_image.specs.Compiled.{IsCompiled}
+use Rattle.link_image.specs.Laws.{IsFreshImage}
+use Rattle.link_image.specs.source_runs.Tells.{at_first, EachChargePays}
+use Rattle.link_image.proofs.Interface.{images_are_fresh}
+use Rattle.image_reports.specs.ImageLaw.{start_due, attempt_due, all_due, VersionsBelow, KeepsCode, FetchesCode, IsRaisedSoon, RaisesVersion}
+use Rattle.image_reports.specs.Resumed.{BelongsTo, known_from, HoldsFrom}
+use Rattle.image_reports.proofs.Capacities.{attempts_fit}
+use Rattle.image_reports.proofs.Told.{made}
+use Rattle.image_reports.proofs.ImageStart.{versions_below}
+use Rattle.image_reports.proofs.ImageCode.{GoesOn, StopsAtReadings, goes_on, StandsOn, stands_on, placed_within, same_words, words_fetched}
+
+-- what is due is the crash theorem's script
+due_is_script : (p : CheckedProgram) (l : MemoryMap) (f : ℕ → ℕ) (readings : List ℕ)
+    → (script (compiled_model p l) f readings).effects ≡ all_due p l f readings
+due_is_script p l f readings = by (f (word_place l Gate) == 1)
+  where
+    by : (b : Bool) → ◌≡◌ {A = List Effect}
+        (if b then program_effects (commit_effects l f) true
+        else with_commit (compiled_model p l) f ((compiled_model p l).attempt f readings)).effects
+        (if b then (if b then commit_effects l f else [])
+        else attempt_due p l
+        (let es = (if b then commit_effects l f else []) in es ++ start_due l (fram_after es f))
+        f readings)
+    by true = refl
+    by false = refl
+
+-- a word that isn't 65535 is below it
+below_end : (n : ℕ) → n < 0x10000 → n ≢ 0xFFFF → n < 0xFFFF
+below_end n l h = omega (arith, l, h)
+
+-- the first ones of instructions are instructions
+front_are : (ms rest : List Moment) → AreInstructionMoments (ms ++ rest) → AreInstructionMoments ms
+front_are [] rest are = tt
+front_are (m ∷ ms) rest are = (are.0, front_are ms rest are.1)
+
+-- FRAM whose words are words, with no version word above VER
+record KeepsVersions (l : MemoryMap) (f : ℕ → ℕ) : Type 0 where
+  pub words : HoldsWords f
+  pub versions : (i : ℕ) → i < l.versions.words → f (l.versions.address + 2 * i) ≤ f (word_place l Version)
+
+-- what a run stands for is so
+phase_keeps_versions : (p : CheckedProgram) (l : MemoryMap) (readings : List ℕ) (origin : Origin State) (s : State) (h : History)
+    → Phase (compiled_model p l) readings origin s h → KeepsVersions l h.world.fram
+phase_keeps_versions p l readings origin s h (UndecidedPhase u settled w) = record { words = w.is_open.words; versions = w.is_open.versions }
+phase_keeps_versions p l readings origin s h (DecidedPhase next d t w) = record { words = w.decided.words; versions = w.decided.versions }
+phase_keeps_versions p l readings origin s h (CommittingPhase d k n w) = record { words = w.pending.words; versions = w.pending.versions }
+
+-- what a run stands for is sound
+phase_sound : (p : CheckedProgram) (l : MemoryMap) → ModelLaws (compiled_model p l) → (readings : List ℕ) (origin : Origin State) (s : State) (h : History)
+    → Phase (compiled_model p l) readings origin s h → IsSound (program_places p l) h.world
+phase_sound p l laws readings origin s h (UndecidedPhase d settled w) =
+    let o = w.is_open in
+    let cur = o.current_task in let task = o.is_task in
+    SoundAtRest (record {
+      words = o.words;
+      current_task = omega (arith, cur, task);
+      gate = o.gate;
+      base = o.base ∙ ap (λ (ws : List ℕ). length ws % 0x10000) (sym o.accepted);
+      versions = o.versions;
+    })
+phase_sound p l laws readings origin s h (DecidedPhase next d t w) = SoundPending (laws.decided_committing s next h.world w).pending
+phase_sound p l laws readings origin s h (CommittingPhase d k n w) = SoundPending w.pending
+
+-- words that stand in a FRAM stand in each that has the same there
+holds_as : (f g : ℕ → ℕ) (ws : List ℕ) (a : ℕ) → a % 2 ≡ 0 → ((b : ℕ) → b % 2 ≡ 0 → a ≤ b → b < a + 2 * length ws → f b ≡ g b) → Holds g a ws → Holds f a ws
+holds_as f g [] a e h k = tt
+holds_as f g (w ∷ ws) a e h k = (
+  h a e (omega arith) (omega arith) ∙ k.0,
+  holds_as f g ws (a + 2) (omega (arith, e)) (λ b even from to. h b even (omega (arith, from)) (omega (arith, to))) k.1,
+)
+
+-- a run of an image from a world that belongs to it, with this origin
+module _ (text : List ℕ) (p : CheckedProgram) (allow : Allow) (image : ImageValue) (ok : IsAcceptedText text p allow) (c : IsCompiled text p allow image)
+    (fram : List ℕ) (number : ℕ) (accepted_before : List ℕ) (count : length accepted_before % 0x10000 ≡ number)
+    (belongs : BelongsTo p c.layout image (record { fram = fram_of fram; accepted = accepted_before }))
+    (origin : Origin State)
+    (cs : List BoardCharge) (readings : List ℕ) (words : All (λ w. w < 0x10000) readings)
+    (begun : StandsFor (compiled_model p c.layout) readings origin
+    (first_history (word_place c.layout Gate) (record { fram = fram_of fram; accepted = accepted_before })))
+    (r : RunOutcome) (run : IsRunOfWords cs (started fram number readings) r) where
+  abbrev l : MemoryMap
+  l = c.layout
+
+  abbrev model : Model State
+  model = compiled_model p l
+
+  abbrev program : Program
+  program = compiled_program p l
+
+  abbrev x : World
+  x = record { fram = fram_of fram; accepted = accepted_before }
+
+  abbrev b : BoardValue
+  b = started fram number readings
+
+  pub ready : IsReadyToRun p l
+  ready = sources_are_ready text p allow c.plans l (record { accepted = ok; plan = c.is_plan; layout = c.is_layout })
+
+  pub new : IsFreshImage text p allow l image
+  new = images_are_fresh text p allow image ok c
+
+  -- the code stands in FRAM
+  pub stands_there : Holds (fram_of fram) l.boot.address (words_of (source_code p l))
+  stands_there = holds_as (fram_of fram) (fram_of image.words) (words_of (source_code p l)) l.boot.address (code_is_placed p l new.fits).even
+      belongs.code.code new.code
+
+  abbrev pub begins : Begins model readings origin x (machine_of b)
+  begins = record { fram = refl; readings_left = refl; words = words; stands = begun }
+
+  abbrev pub bearing : BearsModel model program readings origin x b
+  bearing =
+      let P : ℕ → Type 0 = λ entry. IsPlacedProgram program l.boot.address (source_code p l) entry in
+      record {
+        model = ready.model;
+        program = code_keeps_the_laws p l ready.code ready.model;
+        begins = begins;
+        stands = record {
+          place = l.boot.address;
+          instructions = source_code p l;
+          placed = subst P (sym (belongs.code.vector ∙ new.vector)) (code_is_placed p l new.fits);
+          holds = stands_there;
+          leaves = runs_leave_the_code p l ready.code ready.model ready.stores readings origin x (machine_of b) begins;
+        };
+      }
+
+  pub starts_with : StartsWith b x
+  starts_with = record { fram = refl; accepted = omega (arith, count); taken = refl }
+
+  -- a charge stops for want of a reading alone, wherever charges lead
+  stops_at_readings : StopsAtReadings program (word_place l Gate) (machine_of b) (first_history (word_place l Gate) x)
+  stops_at_readings es t k charged q up fram left n price e halted =
+      (stops_short model program ready.model bearing.program readings origin x (machine_of b) bearing.begins es t k charged q up fram left n price e halted).0
+
+  -- the board is one that a power-up left
+  begins_on : GoesOn program (machine_of b)
+  begins_on es price e stops =
+      let at = at_front model program readings origin x cs b r run bearing [] r.moments refl in
+      let zero_fill = fill_is_a_power_state 0 (omega arith) in
+      let up = is_powered model program readings origin x cs b r run bearing b (first_history (word_place l Gate) x) at (filled 0) zero_fill in
+      stops_at_readings [] (machine_of b) (first_history (word_place l Gate) x) (refl, refl) (machine_of b) up refl refl 1 price e
+      (ap (λ o. (continued o (going program.step zero)).status) stops)
+
+  -- at each front
+  keeps_versions : (ms rest : List Moment) → r.moments ≡ ms ++ rest → KeepsVersions l (known_from l x ms).world.fram
+  keeps_versions ms rest e =
+      let lawful = (fronts_are_lawful model program readings origin x cs b r run bearing ms rest e).0 in
+      phase_keeps_versions p l readings origin lawful.stands.state (known_from l x ms) lawful.stands.phase
+
+  -- and so at the last boot or done
+  began : (ms rest : List Moment) → r.moments ≡ ms ++ rest → KeepsVersions l (known_from l x ms).start.fram
+  began ms rest e =
+      starts_hold (λ w. KeepsVersions l w.fram) (word_place l Gate) b (first_history (word_place l Gate) x) ms run.whole run.words
+      (front_moments cs b r ms rest run.starts run.run e) (keeps_versions [] r.moments refl)
+      (λ ns more d. keeps_versions ns (more ++ rest) (e ∙ ap (λ q. q ++ rest) d ∙ append_assoc ns more rest))
+
+  module _ (ms rest : List Moment) (e : r.moments ≡ ms ++ rest) where
+    abbrev t : BoardValue
+    t = last_board b ms
+
+    abbrev h : History
+    h = known_from l x ms
+
+    at : AtFront model program readings origin x cs b r run bearing t h
+    at = at_front model program readings origin x cs b r run bearing ms rest e
+
+    stands : StandsOn (placed_code p l) (machine_of t)
+    stands = stands_on (placed_code p l) (machine_of t)
+        (goes_on program (word_place l Gate) at.charges (machine_of b) (machine_of t)
+        (first_history (word_place l Gate) x) h stops_at_readings begins_on at.charged)
+
+    fetches : FetchesCode p l image t
+    fetches =
+        let placed = code_is_placed p l new.fits in
+        let low = placed.low in
+        let high = placed.high in
+        let pc = registers_of t.cpu 0 in
+        let i = stands.instruction in
+        let is = source_code p l in
+        let here = placed_within (fram_of t.fram) is l.boot.address pc i placed.instructions placed.even at.ready.holds stands.there in
+        let there = placed_within (fram_of image.words) is l.boot.address pc i placed.instructions placed.even new.code stands.there in
+        let from = here.from in
+        let to = here.to in
+        record {
+          instruction = i;
+          next = record {
+            on = stands.on;
+            is = here.is;
+            fetched = words_fetched t pc (encoding i) here.even (omega (arith, low, from)) (omega (arith, high, to)) here.holds;
+          };
+          from = from;
+          to = to;
+          same = there.holds;
+        }
+
+    keeps_code : KeepsCode p l image (fram_of t.fram)
+    keeps_code = record {
+      code = λ a even from to. same_words (fram_of t.fram) (fram_of image.words) (words_of (source_code p l)) l.boot.address a at.ready.holds new.code
+          (code_is_placed p l new.fits).even even from to;
+      vector = at.ready.vector ∙ belongs.code.vector;
+    }
+
+    keeps_capacities : KeepsCapacities l (fram_of t.fram)
+    keeps_capacities =
+        capacities_are_kept program p l ready.code.apart (attempts_fit text p allow image ok c) readings origin x cs b r run bearing belongs.capacities
+        ms rest e
+
+    pub front : HoldsFrom p l image x origin readings t ms h
+    front =
+        let known = fronts_are_lawful model program readings origin x cs b r run bearing ms rest e in
+        let lawful = known.0 in
+        let same = known.1.fram in
+        let first : Counts b (first_history (word_place l Gate) x) accepted_before =
+        record { whole = run.whole; words = run.words; accepted = refl; count = starts_with.accepted; taken = refl } in
+        let counts = moments_count (word_place l Gate) b (first_history (word_place l Gate) x) accepted_before ms first
+        (front_moments cs b r ms rest run.starts run.run e) in
+        let Code : (ℕ → ℕ) → Type 0 = λ f. KeepsCode p l image f in
+        let Capacities : (ℕ → ℕ) → Type 0 = λ f. KeepsCapacities l f in
+        record {
+          fram = sym same;
+          words = counts.accepted;
+          number = subst (λ ws. TakesNextBehind ws t.receiver) (sym counts.accepted) counts.count;
+          taken = counts.taken;
+          effects = subst (IsPrefix h.effects) (due_is_script p l h.start.fram (drop h.since readings)) lawful.follows;
+          stands = lawful.stands;
+          never_lost = λ decided. let kept = never_lost model ready.model readings origin h lawful decided in
+              (ap (λ f. f (word_place l Gate)) same ∙ kept.0, kept.1);
+          accepted = sent_once model ready.model readings origin h lawful.stands;
+          sent = λ to is none. pending_sends model program ready.model bearing.program readings to x (machine_of b)
+              (subst (λ o. Begins model readings o x (machine_of b)) is begins) at.charges (machine_of t) h at.charged none;
+          versions = λ made.
+              let P : (ℕ → ℕ) → Type 0 = λ f. VersionsBelow l f in
+              let f : fram_of t.fram ≡ fram_after (start_due l h.start.fram) h.start.fram =
+              same ∙ ap (λ w. w.fram) lawful.world ∙ world_fram h.effects h.start ∙ ap (λ es. fram_after es h.start.fram) made in
+              let kept = began ms rest e in
+              subst P (sym f) (versions_below (program_places p l) ready.code.apart (privates_in (task_entries l)) ready.code.privates h.start.fram
+              kept.versions (kept.words (word_place l Version)));
+          belongs = record {
+            code = subst Code same keeps_code;
+            capacities = subst Capacities same keeps_capacities;
+            sound = phase_sound p l ready.model readings origin lawful.stands.state h lawful.stands.phase;
+          };
+          fetches = fetches;
+        }
+
+  -- VER is raised by the sixth instruction of a charge
+  module _ (ms : List Moment) (power : PowerState) (powers : IsPowerState power) (at : AtFront model program readings origin x cs b r run bearing
+      (last_board b ms) (known_from l x ms)) where
+    abbrev on : BoardValue
+    on = powered (last_board b ms) power
+
+    raised_by_six : (first : List Moment) → AreMoments on first → AreInstructionMoments first → length first ≡ 6
+        → fram_of on.fram (word_place l Gate) ≡ 0 → fram_of on.fram (word_place l Version) < 0xFFFF
+        → fram_of (last_board on first).fram (word_place l Version) ≡ fram_of on.fram (word_place l Version) + 1
+    raised_by_six first are is six gate low =
+        let t = last_board b ms in let h = known_from l x ms in
+        let up = is_powered model program readings origin x cs b r run bearing t h at power powers in
+        let leads = program_leads model program readings origin x cs b r run bearing t h at power powers first are is in
+        power_ups_raise_version p l ready.code (machine_of on) up gate low (machine_of (last_board on first))
+        (ap (λ n. (going program.step n (machine_of on)).status) (sym six) ∙ leads)
+
+  -- what a charge that begins so owes
+  abbrev RaisesFrom : List Moment → Moment → Type 0
+  RaisesFrom steps boot = fram_of boot.after.fram (word_place l Gate) ≡ 0 → fram_of boot.after.fram (word_place l Version) ≢ 0xFFFF
+      → IsRaisedSoon l boot.after steps
+
+  raises_from : (ms rest steps first more : List Moment) → r.moments ≡ ms ++ rest → steps ≡ first ++ more → length first ≡ 6
+      → AreInstructionMoments first → (boot : Moment) → boot.action ≡ PowerUp → IsMomentFrom (last_board b ms) boot → AreMoments boot.after first
+      → RaisesFrom steps boot
+  raises_from ms rest steps first more e cut six are boot up (Instructs i done current answer is) moments =
+      absurd (let other = sym up ∙ ap (λ y. y.action) is in cc (other))
+  raises_from ms rest steps first more e cut six are boot up (PowersUp power powers is) moments =
+      let P : Moment → Type 0 = λ y. AreMoments y.after first → RaisesFrom steps y in
+      let Q : (ℕ → ℕ) → Type 0 = λ f. f (word_place l Version) < 0x10000 in
+      let at = at_front model program readings origin x cs b r run bearing ms rest e in
+      let same = (fronts_are_lawful model program readings origin x cs b r run bearing ms rest e).1.fram in
+      let word = subst Q (sym same) ((keeps_versions ms rest e).words (word_place l Version)) in
+      subst P (sym is)
+      (λ own gate end. record {
+        first = first;
+        rest = more;
+        are = cut;
+        soon = omega (arith, six);
+        raised = raised_by_six ms power powers at first own are six gate (below_end _ word end);
+      }) moments
+
+  pub raises : RaisesVersion l r.moments
+  raises ms steps rest boot e up are many =
+      let first = take 6 steps in
+      let more = drop 6 steps in
+      let cut : steps ≡ first ++ more = sym (take-append-drop 6 steps) in
+      let behind : r.moments ≡ ms ++ (boot ∷ (first ++ (more ++ rest))) =
+      e ∙ ap (λ q. ms ++ (boot ∷ (q ++ rest))) cut ∙ ap (λ q. ms ++ (boot ∷ q)) (append_assoc first more rest) in
+      let front : r.moments ≡ (ms ++ (boot ∷ first)) ++ (more ++ rest) = behind ∙ sym (append_assoc ms (boot ∷ first) (more ++ rest)) in
+      let moments = are_behind b ms (boot ∷ first) (front_moments cs b r (ms ++ (boot ∷ first)) (more ++ rest) run.starts run.run front) in
+      let six : length first ≡ 6 = length-take-le 6 steps (omega (arith, many)) in
+      raises_from ms (boot ∷ (steps ++ rest)) steps first more e cut six (front_are first more (subst AreInstructionMoments cut are)) boot up
+      moments.0 moments.1
+
+  -- each charge that is spent pays for its transitions
+  pub pays : let m = map_of text p l allow in EachChargePays m cs b (at_first m b) r
+  pays =
+      let m = map_of text p l allow in
+      let P : ℕ → Type 0 = λ n. Progresses (word_place l Gate) n cs b (first_history (word_place l Gate) x) r in
+      let paid : Progresses (word_place l Gate) m.bound cs b (first_history (word_place l Gate) x) r =
+      subst P (bound_is_the_sources p l ∙ sym ok.allowed.cycles) (makes_progress model program readings origin x cs b r run bearing) in
+      (read_off m x cs b r (made text p allow image ok c).is_map starts_with run).pays x paid starts_with

@@ -1,0 +1,183 @@
+-- Each run of a state that belongs to the image of an accepted text keeps the laws.
+use Rattle.std.proofs.Common.{◌≡◌, ◌<◌, ◌≤◌, ◌%◌, ◌^◌, ◌==◌, if◌then◌else◌, ℕ, refl, sym, ap, ◌∙◌, subst, arith, Option, Some, List, ◌++◌, length, drop, All}
+use Rattle.std.proofs.Math.Seq.{drop-append_seam}
+use Rattle.link_image.specs.image_map.MapValue.{MapValue}
+use Rattle.link_image.specs.image_text.ImageValue.{ImageValue}
+use Rattle.link_image.specs.fram_board.Board.{BoardValue, started}
+use Rattle.link_image.specs.fram_board.Run.{BoardCharge, RunOutcome, Run}
+use Rattle.link_image.specs.board_run.History.{start_with, start_of}
+use Rattle.link_image.specs.board_run.Report.{report_of}
+use Rattle.link_image.specs.machine_effects.World.{World, world_after}
+use Rattle.link_image.specs.machine_effects.Machine.{fram_of}
+use Rattle.link_image.proofs.machine_effects.Interface.{fresh_is_whole}
+use Rattle.link_image.specs.cost_bound.declared.allowance.Allow.{Allow}
+use Rattle.link_image.specs.source_values.Runs.{CheckedProgram, State}
+use Rattle.link_image.specs.source_meaning.Acceptance.{IsAcceptedText}
+use Rattle.link_image.proofs.source_meaning.Interface.{accepted_texts_run}
+use Rattle.link_image.specs.source_maps.Maps.{map_of}
+use Rattle.link_image.specs.source_runs.Resumed.{HasTransition}
+use Rattle.link_image.specs.source_runs.Laws.{ResumedRunIsTold}
+use Rattle.link_image.proofs.source_runs.Interface.{resumed_runs_are_told}
+use Rattle.link_image.specs.memory_map.declared.words.RuntimeWord.TheVariants.{Gate}
+use Rattle.link_image.specs.memory_map.MemoryMap.{MemoryMap, word_place}
+use Rattle.link_image.specs.runtime_effects.Stages.{commit_effects}
+use Rattle.link_image.specs.crash_rules.Model.{Model}
+use Rattle.link_image.specs.crash_rules.History.{first_history}
+use Rattle.link_image.specs.crash_rules.Runs.{Program}
+use Rattle.link_image.specs.crash_rules.Laws.{Origin, Resting, Pending, StandsFor}
+use Rattle.link_image.proofs.crash_rules.Interface.{runs_may_begin}
+use Rattle.link_image.specs.run_charges.Charges.{ArePowerStates}
+use Rattle.link_image.specs.run_charges.Laws.{IsRunOfWords}
+use Rattle.link_image.specs.model_runs.Runs.{BearsModel, all_amounts}
+use Rattle.link_image.proofs.model_runs.Interface.{stops_where_short}
+use Rattle.link_image.specs.stands_for.StandsFor.{IsSound, SoundAtRest, SoundPending, IsPendingCommit}
+use Rattle.link_image.proofs.stands_for.Interface.{unsent_are_few}
+use Rattle.link_image.specs.compiled_model.Places.{program_places}
+use Rattle.link_image.specs.compiled_model.View.{state_in, state_left}
+use Rattle.link_image.specs.compiled_model.Parts.{compiled_model}
+use Rattle.link_image.specs.compiled_runs.Program.{compiled_program}
+use Rattle.compiled_laws.specs.Ready.{IsReadyToRun}
+use Rattle.compiled_laws.proofs.Interface.{sources_are_ready}
+use Rattle.link_image.specs.Compiled.{IsCompiled}
+use Rattle.link_image.specs.Laws.{HasStates}
+use Rattle.link_image.proofs.Interface.{maps_find_states, worlds_stand}
+use Rattle.image_reports.specs.Sources.{IsSourcesMap}
+use Rattle.image_reports.specs.Resumed.{BelongsTo, origin_of, pending_transition, IsToldOnward, ToldAtRest, ToldPending, ImagesResume}
+use Rattle.image_reports.proofs.CompiledTold.{models_are_of_sources}
+use Rattle.image_reports.proofs.Told.{made}
+use Rattle.image_reports.proofs.Onward.{bearing, starts_with, front, raises, pays}
+
+module _ (text : List ℕ) (p : CheckedProgram) (allow : Allow) (image : ImageValue) (ok : IsAcceptedText text p allow) (c : IsCompiled text p allow image)
+    (fram : List ℕ) (long : length fram ≡ 24064) (are_words : All (λ w. w < 0x10000) fram) (number : ℕ) (accepted : List ℕ)
+    (count : length accepted % 0x10000 ≡ number) (belongs : BelongsTo p c.layout image (record { fram = fram_of fram; accepted = accepted }))
+    (cs : List BoardCharge) (starts : ArePowerStates cs) (readings : List ℕ) (words : All (λ w. w < 0x10000) readings) (few : length readings ≤ 262144)
+    (r : RunOutcome) (go : Run cs (started fram number readings) r) where
+  abbrev l : MemoryMap
+  l = c.layout
+
+  abbrev model : Model State
+  model = compiled_model p l
+
+  abbrev program : Program
+  program = compiled_program p l
+
+  abbrev m : MapValue
+  m = map_of text p l allow
+
+  abbrev x : World
+  x = record { fram = fram_of fram; accepted = accepted }
+
+  abbrev b : BoardValue
+  b = started fram number readings
+
+  abbrev origin : Origin State
+  origin = origin_of l x
+
+  ready : IsReadyToRun p l
+  ready = sources_are_ready text p allow c.plans l (record { accepted = ok; plan = c.is_plan; layout = c.is_layout })
+
+  states : HasStates text p allow l
+  states = worlds_stand text p allow image ok c
+
+  -- a board that goes on is as whole as a fresh one
+  run : IsRunOfWords cs b r
+  run =
+      let w = fresh_is_whole fram readings long few are_words words in
+      let whole = w.0 in let of_words = w.1 in
+      record {
+        whole = record {
+          board = record { fram = whole.board.fram; ram = whole.board.ram; taken = whole.board.taken; few = whole.board.few };
+          registers = whole.registers;
+        };
+        words = record {
+          registers = of_words.registers;
+          fram = of_words.fram;
+          ram = of_words.ram;
+          readings = of_words.readings;
+          outnum = of_words.outnum;
+        };
+        starts = starts;
+        run = go;
+      }
+
+  -- how it goes on, by GATE
+  at_rest : x.fram (word_place l Gate) ≡ 0 → Resting (state_in l x) ≡ origin
+  at_rest e = sym (ap (λ n. if n == 1 then Pending (state_left l x) else Resting (state_in l x)) e)
+
+  in_commit : x.fram (word_place l Gate) ≡ 1 → Pending (state_left l x) ≡ origin
+  in_commit e = sym (ap (λ n. if n == 1 then Pending (state_left l x) else Resting (state_in l x)) e)
+
+  begun_by : IsSound (program_places p l) x → StandsFor model readings origin (first_history (word_place l Gate) x)
+  begun_by (SoundAtRest q) =
+      subst (λ o. StandsFor model readings o (first_history (word_place l Gate) x)) (at_rest q.gate)
+      ((runs_may_begin model ready.model readings).resting (state_in l x) x (ready.model.rests_undecided (state_in l x) x (states.rest x q)))
+  begun_by (SoundPending q) =
+      subst (λ o. StandsFor model readings o (first_history (word_place l Gate) x)) (in_commit q.gate)
+      ((runs_may_begin model ready.model readings).pending (state_left l x) x (states.commit x q))
+
+  begun : StandsFor model readings origin (first_history (word_place l Gate) x)
+  begun = begun_by belongs.sound
+
+  abbrev bears : BearsModel model program readings origin x b
+  bears = bearing text p allow image ok c fram number accepted count belongs origin cs readings words begun r run
+
+  source : IsSourcesMap text p l m
+  source = record {
+    runnable = accepted_texts_run text p allow ok;
+    is_map = (made text p allow image ok c).is_map;
+    of_source = (made text p allow image ok c).of_source;
+    bound = ok.allowed.cycles;
+    words = refl;
+    rests = maps_find_states text p allow image ok c;
+  }
+
+  -- the pending commit makes its transition from the state that the world has
+  transition : IsPendingCommit (program_places p l) x → HasTransition m x (state_in l x) (state_left l x) (pending_transition l x)
+  transition q =
+      let y = world_after (commit_effects l x.fram) x in
+      let s = unsent_are_few (program_places p l) ready.code.apart x q ready.code.room in
+      let unsent : drop (length accepted) y.accepted ≡ s.0 = ap (drop (length accepted)) s.1 ∙ drop-append_seam accepted s.0 in
+      let same : accepted ++ drop (length accepted) y.accepted ≡ y.accepted = ap (λ ws. accepted ++ ws) unsent ∙ sym s.1 in
+      let most = s.2 in
+      let len = ap length unsent in
+      record {
+        words = states.words x q.words;
+        from = refl;
+        before = refl;
+        few = omega (arith, most, len);
+        leaves = ap (λ ws. record (state_left l x) { emitted = ws }) same;
+      }
+
+  module _ (few_in_all : all_amounts cs < 2 ^ 64) where
+    told : ResumedRunIsTold model program text p m x cs b r
+    told = resumed_runs_are_told model program text p m x cs b r (models_are_of_sources text p l m source)
+        (starts_with text p allow image ok c fram number accepted count belongs origin cs readings words begun r run) run few_in_all
+
+    onward_by : IsSound (program_places p l) x → IsToldOnward text p m l x cs b r (report_of (start_with fram (Some m)) r)
+    onward_by (SoundAtRest q) =
+        ToldAtRest q.gate (told.resting (state_in l x) (subst (λ o. BearsModel model program readings o x b) (sym (at_rest q.gate)) bears)
+        (ready.model.rests_undecided (state_in l x) x (states.rest x q)) (states.words x q.words))
+    onward_by (SoundPending q) =
+        ToldPending q.gate (told.pending (state_in l x) (state_left l x) (pending_transition l x)
+        (subst (λ o. BearsModel model program readings o x b) (sym (in_commit q.gate)) bears) (transition q))
+
+    onward : IsToldOnward text p m l x cs b r (report_of (start_of (record image { words = fram })) r)
+    onward =
+        let P : Option MapValue → Type 0 = λ o. IsToldOnward text p m l x cs b r (report_of (start_with fram o) r) in
+        subst P (sym c.map) (onward_by belongs.sound)
+
+pub images_resume : ImagesResume
+images_resume text p allow image ok c fram long are_words number accepted count belongs cs starts readings words few r go =
+    let l = c.layout in
+    let x : World = record { fram = fram_of fram; accepted = accepted } in
+    let same = run text p allow image ok c fram long are_words number accepted count belongs cs starts readings words few r go in
+    let at = begun text p allow image ok c fram long are_words number accepted count belongs cs starts readings words few r go in
+    let o = origin_of l x in
+    let bear = bearing text p allow image ok c fram number accepted count belongs o cs readings words at r same in
+    record {
+      fronts = front text p allow image ok c fram number accepted count belongs o cs readings words at r same;
+      stops = stops_where_short (compiled_model p l) (compiled_program p l) readings o x cs (started fram number readings) r same bear;
+      raises = raises text p allow image ok c fram number accepted count belongs o cs readings words at r same;
+      progress = pays text p allow image ok c fram number accepted count belongs o cs readings words at r same;
+      told = onward text p allow image ok c fram long are_words number accepted count belongs cs starts readings words few r go;
+    }

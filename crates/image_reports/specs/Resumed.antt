@@ -1,0 +1,124 @@
+-- What holds of each run of an accepted source's image that goes on from a saved state, on the board itself, beside what holds from its
+-- fresh board.
+use Rattle.std.specs.Prelude.{◌≡◌, ℕ, ◌^◌, ◌%◌, ◌<◌, ◌≤◌, ◌==◌, true, if◌then◌else◌, List, [], ◌++◌, length, drop, All}
+use Rattle.link_image.specs.msp_step.declared.machine.Stop.{Stop}
+use Rattle.link_image.specs.msp_step.declared.machine.Stop.TheVariants as stop
+use Rattle.link_image.specs.image_map.MapValue.{MapValue}
+use Rattle.link_image.specs.image_text.ImageValue.{ImageValue}
+use Rattle.link_image.specs.fram_board.Board.{BoardValue, TakesNextBehind, started}
+use Rattle.link_image.specs.fram_board.Run.{BoardCharge, Moment, Stopped, RunOutcome, Run, accepted_words}
+use Rattle.link_image.specs.board_run.History.{start_of}
+use Rattle.link_image.specs.board_run.Report.{report_of}
+use Rattle.link_image.specs.machine_effects.World.{World, world_after, IsPrefix}
+use Rattle.link_image.specs.machine_effects.Machine.{fram_of}
+use Rattle.link_image.specs.machine_effects.Runs.{last_board}
+use Rattle.link_image.specs.cost_bound.declared.allowance.Allow.{Allow}
+use Rattle.link_image.specs.source_values.Runs.{CheckedProgram, State, Transition}
+use Rattle.link_image.specs.source_meaning.Acceptance.{IsAcceptedText}
+use Rattle.link_image.specs.source_runs.Tells.{at_first, EachChargePays}
+use Rattle.link_image.specs.source_runs.Resumed.{IsToldFrom, IsToldBehind}
+use Rattle.link_image.specs.source_maps.Maps.{map_of}
+use Rattle.link_image.specs.memory_map.declared.words.RuntimeWord.TheVariants.{CurrentTask, Gate}
+use Rattle.link_image.specs.memory_map.MemoryMap.{MemoryMap, word_place}
+use Rattle.link_image.specs.runtime_effects.Stages.{commit_effects}
+use Rattle.link_image.specs.crash_rules.Model.{IsBetween}
+use Rattle.link_image.specs.crash_rules.History.{History, first_history}
+use Rattle.link_image.specs.crash_rules.Laws.{Origin, Resting, Pending, StandsFor, AcceptedWords}
+use Rattle.link_image.specs.run_charges.Charges.{ArePowerStates, observed}
+use Rattle.link_image.specs.stands_for.StandsFor.{UndecidedAt, IsSound}
+use Rattle.link_image.specs.compiled_model.Places.{program_places}
+use Rattle.link_image.specs.compiled_model.View.{state_view, state_in, state_left}
+use Rattle.link_image.specs.compiled_model.Parts.{compiled_model}
+use Rattle.compiled_laws.specs.compiled_bounds.Laws.{KeepsCapacities}
+use Rattle.link_image.specs.model_runs.Events.{words_between}
+use Rattle.link_image.specs.model_runs.Runs.{IsShort, all_amounts}
+use Rattle.link_image.specs.Compiled.{IsCompiled}
+use Rattle.link_image.specs.Laws.{fresh_world}
+use Rattle.image_reports.specs.ImageLaw.{start_due, all_due, VersionsBelow, KeepsCode, FetchesCode, RaisesVersion}
+
+-- a world from which a run of an image may go on: the code and the reset vector are the image's, the runtime's counts keep to their
+-- capacities, and it is sound
+pub record BelongsTo (p : CheckedProgram) (l : MemoryMap) (image : ImageValue) (x : World) : Type 0 where
+  pub code : KeepsCode p l image x.fram
+  pub capacities : KeepsCapacities l x.fram
+  pub sound : IsSound (program_places p l) x
+
+-- how a run goes on from a world: at the state that it has; or with its commit pending, and the state that this leaves
+abbrev pub origin_of : MemoryMap → World → Origin State
+origin_of l x = if x.fram (word_place l Gate) == 1 then Pending (state_left l x) else Resting (state_in l x)
+
+-- the transition that the pending commit of a world makes: from the task of CUR to that of NEXT, with the shared words before and behind
+-- it, and the words that weren't accepted yet
+abbrev pub pending_transition : MemoryMap → World → Transition
+pending_transition l x =
+    let y = world_after (commit_effects l x.fram) x in
+    record {
+      from = x.fram (word_place l CurrentTask);
+      next = y.fram (word_place l CurrentTask);
+      before = (state_in l x).shared;
+      after = (state_in l y).shared;
+      emitted = words_between x y;
+    }
+
+-- a report of a run from a world is told by the source: from the state that the world has; or behind the transition of its pending commit
+pub data IsToldOnward (text : List ℕ) (p : CheckedProgram) (m : MapValue) (l : MemoryMap) (x : World) (cs : List BoardCharge) (b : BoardValue)
+    (r : RunOutcome) (report : List ℕ) : Type 0 where
+  ToldAtRest : x.fram (word_place l Gate) ≡ 0 → IsToldFrom text p m [] (state_in l x) cs b r report → IsToldOnward text p m l x cs b r report
+  ToldPending : x.fram (word_place l Gate) ≡ 1 → IsToldBehind text p m (pending_transition l x) (state_left l x) cs b r report
+      → IsToldOnward text p m l x cs b r report
+
+-- what is read off the effects of a run's moments, behind them, where this world began it
+abbrev pub known_from : MemoryMap → World → List Moment → History
+known_from l x ms = observed (word_place l Gate) ms (first_history (word_place l Gate) x)
+
+-- What holds at each boundary between two instructions of a run that goes on so: `b` is the board behind these moments, and `h` what is
+-- known of the run so far. All is as from a fresh board (`HoldsAt`), and a run may go on from this board too. While the commit that was
+-- pending at the start isn't done, the words accepted since are some of those that the state has beyond the start's which it leaves
+pub record HoldsFrom (p : CheckedProgram) (l : MemoryMap) (image : ImageValue) (x : World) (origin : Origin State) (readings : List ℕ) (b : BoardValue)
+    (ms : List Moment) (h : History) : Type 0 where
+  pub fram : h.world.fram ≡ fram_of b.fram
+  pub words : h.world.accepted ≡ x.accepted ++ accepted_words ms
+  pub number : TakesNextBehind h.world.accepted b.receiver
+  pub taken : h.taken ≡ b.taken
+  pub effects : IsPrefix h.effects (all_due p l h.start.fram (drop h.since readings))
+  pub stands : StandsFor (compiled_model p l) readings origin h
+  pub never_lost : h.decided ≡ true → (fram_of b.fram (word_place l Gate) ≡ 1) × ((s : State) → UndecidedAt (program_places p l) (state_view p l) s h.world → ⊥)
+  pub accepted : AcceptedWords (compiled_model p l) readings origin h stands.state h.decided
+  pub sent : (to : State) → origin ≡ Pending to → h.completed ≡ [] → IsBetween x.accepted to.emitted h.world.accepted
+  pub versions : h.effects ≡ start_due l h.start.fram → VersionsBelow l (fram_of b.fram)
+  pub belongs : BelongsTo p l image h.world
+  pub fetches : FetchesCode p l image b
+
+-- What holds of a run of an image from a saved state, with these words in FRAM and this number for the next word; the words accepted before
+-- are any that have it.
+pub record IsResumedRun (text : List ℕ) (p : CheckedProgram) (allow : Allow) (l : MemoryMap) (image : ImageValue) (x : World) (cs : List BoardCharge)
+    (b : BoardValue) (r : RunOutcome) : Type 0 where
+  -- at each board, behind any number of instructions
+  pub fronts : (ms rest : List Moment) → r.moments ≡ ms ++ rest
+      → HoldsFrom p l image x (origin_of l x) b.readings (last_board b ms) ms (known_from l x ms)
+  -- it stops for want of a reading alone, and only where the source is short, at the state of the last done
+  pub stops : (e : Stop) → r.ending ≡ Stopped e
+      → (e ≡ stop.NoReading) × IsShort (compiled_model p l) b.readings (origin_of l x) (known_from l x r.moments)
+  -- in a charge that begins with GATE 0 and VER not 65535, VER is raised within the first 40 instructions, if the charge has them
+  pub raises : RaisesVersion l r.moments
+  -- a charge of n bounds that is spent has n transitions
+  pub progress : let m = map_of text p l allow in EachChargePays m cs b (at_first m b) r
+  -- its report is told by the source, where the charges have fewer than 2^64 cycles and instructions in all
+  pub told : all_amounts cs < 2 ^ 64 → IsToldOnward text p (map_of text p l allow) l x cs b r (report_of (start_of (record image { words = b.fram })) r)
+
+-- the fresh world of an accepted text's image belongs to it
+abbrev pub ImagesBelong : Type 0
+ImagesBelong = (text : List ℕ) (p : CheckedProgram) (allow : Allow) (image : ImageValue) → IsAcceptedText text p allow
+    → (c : IsCompiled text p allow image) → BelongsTo p c.layout image (fresh_world image)
+
+-- the run of each state that belongs to the image of an accepted text is such, under every list of charges, from every state that each
+-- power-up may leave, and on all readings that a board may hold
+abbrev pub ImagesResume : Type 0
+ImagesResume = (text : List ℕ) (p : CheckedProgram) (allow : Allow) (image : ImageValue) → IsAcceptedText text p allow
+    → (c : IsCompiled text p allow image)
+    → (words : List ℕ) → length words ≡ 24064 → All (λ w. w < 0x10000) words
+    → (number : ℕ) (accepted : List ℕ) → length accepted % 0x10000 ≡ number
+    → let x : World = record { fram = fram_of words; accepted = accepted } in BelongsTo p c.layout image x
+    → (cs : List BoardCharge) → ArePowerStates cs → (readings : List ℕ) → All (λ w. w < 0x10000) readings → length readings ≤ 262144
+    → (r : RunOutcome) → Run cs (started words number readings) r
+    → IsResumedRun text p allow c.layout image x cs (started words number readings) r
