@@ -73,5 +73,7 @@ measure "words, $(wc -c <words) bytes" asm words image
 measure "an image of all FRAM" dis image
 measure "an image of all FRAM with 256 arrays of all FRAM" run arrays none
 measure "the same" save arrays none state
+measure "the same, of that state" resume arrays state none
 measure "1,000,000 charges and 262,144 readings, of an image" save image charges state
+measure "the same, of that state" resume image state charges
 measure "number 0" gen 0 image

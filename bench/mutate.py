@@ -34,7 +34,7 @@ COMMANDS = {
     "source": [("mean m t", None), ("build m p", "p"), ("try m t p", "p")],
     "trace": [("mean s m", None), ("run i m", None), ("try s m p", "p")],
     "image": [("run m t", None), ("dis m", None), ("save m t p", "p")],
-    "map": [("run m t", None), ("save m t p", "p")],
+    "map": [("run m t", None), ("save m t p", "p"), ("resume m m t", None), ("resume i m t", None)],
     "assembler": [("asm m p", "p")],
 }
 SUFFIXES = {".alp": "source", ".trace": "trace", ".tr": "trace", ".asm": "assembler"}
@@ -149,8 +149,8 @@ class Runner:
 
     def may_be_long(self, words):
         """Whether the texts ask for more work than a short run does."""
-        if words[0] in ("run", "try", "save"):
-            trace = pathlib.Path(words[2]).read_bytes()
+        if words[0] in ("run", "try", "save", "resume"):
+            trace = pathlib.Path(words[3 if words[0] == "resume" else 2]).read_bytes()
             if charged(trace) > SHORT_WORK:
                 return True
         if words[0] == "mean":

@@ -1,5 +1,5 @@
 #!/usr/bin/env bash
-# Refuses each allocation of the program in turn: of `mean`, `try`, `build`, `run`, `asm`, `dis` and `save` on worked texts and of
+# Refuses each allocation of the program in turn: of `mean`, `try`, `build`, `run`, `asm`, `dis`, `save` and `resume` on worked texts and of
 # `gen 0`. Each such run must end with status 5, write nothing to the output, put nothing, and tell `out of memory`; the
 # first run that has no allocation to refuse must be whole. Std's `collect` asks for all of a list's room first and, where that is
 # refused, for the room of one: the program never sees such a refusal, and its run must be whole to the byte. Prints how many
@@ -131,6 +131,7 @@ refuse run send.txt steps.trace
 refuse dis send.txt
 refuse save send.txt steps.trace put
 refuse save sum.state cut.trace put
+refuse resume sum.txt sum.state cut.trace
 refuse gen 0 put
 echo "$all allocations refused, $made_up of them made up for by the library"
 exit $failed

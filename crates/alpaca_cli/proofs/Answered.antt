@@ -13,7 +13,7 @@ use Rattle.alpaca_cli.specs.Outside.{Shelved, Written, IsSilent, WhereSilent}
 use Rattle.alpaca_cli.specs.Ending.{Ending, well, at_fault, differs}
 use Rattle.alpaca_cli.specs.Products.{IsProduct, AreAccepted}
 use Rattle.alpaca_cli.proofs.LineLaws.{same_call}
-use Rattle.alpaca_cli.proofs.NotRefused.{SourcesExclude, not_refused}
+use Rattle.alpaca_cli.proofs.NotRefused.{TextsExclude, not_refused}
 use Rattle.alpaca_cli.proofs.OneEnding.{one_ending}
 
 -- the words are a line, and this is said of its command
@@ -83,29 +83,29 @@ carried_out law call texts made status ending shelf out same said whole =
     }
 
 -- what is said of a command whose files are held, accepted and read, put and written without a failure
-command_complete : HasOneRun → SourcesExclude → (status : Status) (call : Call) (texts : List (List ℕ)) (f : Files)
+command_complete : HasOneRun → TextsExclude → (status : Status) (call : Call) (texts : List (List ℕ)) (f : Files)
     (now : Option Files) (old new : Counts) (out err : Written) → AreHeld f (reads call) texts → AreAccepted call texts → NothingFailed old new out
     → CommandAnswers status call (before f now old new) out err → IsCarriedOut call texts status ⊎ (status ≡ OutOfMemory)
-command_complete law sources Done call texts f now old new out err held is fine a =
+command_complete law exclude Done call texts f now old new out err held is fine a =
     inl (carried_out law call texts a.0 Done well _ out (same_files f (reads call) texts a.0 held a.1) refl a.2.0)
-command_complete law sources MachineFault call texts f now old new out err held is fine a =
+command_complete law exclude MachineFault call texts f now old new out err held is fine a =
     inl (carried_out law call texts a.0 MachineFault at_fault _ out (same_files f (reads call) texts a.0 held a.1) refl a.2.0)
-command_complete law sources Differs call texts f now old new out err held is fine a =
+command_complete law exclude Differs call texts f now old new out err held is fine a =
     inl (carried_out law call texts a.0 Differs differs _ out (same_files f (reads call) texts a.0 held a.1) refl a.2.0)
-command_complete law sources Refused call texts f now old new out err held is fine a =
+command_complete law exclude Refused call texts f now old new out err held is fine a =
     let same = same_files f (reads call) texts a.0 held a.1 in
-    absurd (not_refused sources call a.0 _ _ (subst (AreAccepted call) same is) a.2.2.refused)
-command_complete law sources Unreadable call texts f now old new out err held is fine a = absurd (cause a.1.cause)
+    absurd (not_refused exclude call a.0 _ _ (subst (AreAccepted call) same is) a.2.2.refused)
+command_complete law exclude Unreadable call texts f now old new out err held is fine a = absurd (cause a.1.cause)
   where
     cause : Rose old.failed_reads new.failed_reads ⊎ (Rose old.missing_reads new.missing_reads × IsFirstUnfit f (λ file. file ≡ None) (reads call) a.0) → ⊥
     cause (inl rose) = fine.no_read rose
     cause (inr (rose, none)) = none_unfit f _ a.0 (reads call) texts is_there held none
-command_complete law sources TooLong call texts f now old new out err held is fine a =
+command_complete law exclude TooLong call texts f now old new out err held is fine a =
     absurd (none_unfit f _ a.0 (reads call) texts is_short held a.1.overlong)
-command_complete law sources Unwritable call texts f now old new out err held is fine (ts, theirs, inl broken) = absurd (fine.no_write broken.0.failed)
-command_complete law sources Unwritable call texts f now old new out err held is fine (ts, theirs, inr unput) = absurd (fine.no_put unput.1.unput.failed)
-command_complete law sources OutOfMemory call texts f now old new out err held is fine a = inr refl
-command_complete law sources Usage call texts f now old new out err held is fine a = absurd a.2
+command_complete law exclude Unwritable call texts f now old new out err held is fine (ts, theirs, inl broken) = absurd (fine.no_write broken.0.failed)
+command_complete law exclude Unwritable call texts f now old new out err held is fine (ts, theirs, inr unput) = absurd (fine.no_put unput.1.unput.failed)
+command_complete law exclude OutOfMemory call texts f now old new out err held is fine a = inr refl
+command_complete law exclude Usage call texts f now old new out err held is fine a = absurd a.2
 
 -- the same of the words
 of_line : (status : Status) (words : List (List ℕ)) (call : Call) (shelf : Shelved) (out err : Written)
@@ -114,41 +114,41 @@ of_line status words call shelf out err says a =
     let same : line_text a.0 ≡ line_text call = ap (λ o. unwrap_or o []) (sym a.1.line ∙ says.line) in
     subst (λ c. CommandAnswers status c shelf out err) (same_call a.0 call a.1.number says.number same) a.2
 
-line_complete : HasOneRun → SourcesExclude → (status : Status) (words : List (List ℕ)) (call : Call) (texts : List (List ℕ)) (f : Files)
+line_complete : HasOneRun → TextsExclude → (status : Status) (words : List (List ℕ)) (call : Call) (texts : List (List ℕ)) (f : Files)
     (now : Option Files) (old new : Counts) (out err : Written) → OnLine words (λ c. CommandAnswers status c (before f now old new) out err)
     → Says words call → AreHeld f (reads call) texts → AreAccepted call texts → NothingFailed old new out
     → IsCarriedOut call texts status ⊎ (status ≡ OutOfMemory)
-line_complete law sources status words call texts f now old new out err a says held is fine =
-    command_complete law sources status call texts f now old new out err held is fine (of_line status words call (before f now old new) out err says a)
+line_complete law exclude status words call texts f now old new out err a says held is fine =
+    command_complete law exclude status call texts f now old new out err held is fine (of_line status words call (before f now old new) out err says a)
 
-complete : HasOneRun → SourcesExclude → (status : Status) (words : List (List ℕ)) (call : Call) (texts : List (List ℕ)) (f : Files)
+complete : HasOneRun → TextsExclude → (status : Status) (words : List (List ℕ)) (call : Call) (texts : List (List ℕ)) (f : Files)
     (now : Option Files) (old new : Counts) (out err : Written) → Answers status words (before f now old new) out err
     → Says words call → AreHeld f (reads call) texts → AreAccepted call texts → NothingFailed old new out
     → IsCarriedOut call texts status ⊎ (status ≡ OutOfMemory)
-complete law sources Usage words call texts f now old new out err a says held is fine = absurd (a.1 (call, says, tt))
-complete law sources OutOfMemory words call texts f now old new out err a says held is fine = inr refl
-complete law sources Done words call texts f now old new out err a says held is fine =
-    line_complete law sources Done words call texts f now old new out err a says held is fine
-complete law sources Refused words call texts f now old new out err a says held is fine =
-    line_complete law sources Refused words call texts f now old new out err a says held is fine
-complete law sources Unreadable words call texts f now old new out err a says held is fine =
-    line_complete law sources Unreadable words call texts f now old new out err a says held is fine
-complete law sources Unwritable words call texts f now old new out err a says held is fine =
-    line_complete law sources Unwritable words call texts f now old new out err a says held is fine
-complete law sources MachineFault words call texts f now old new out err a says held is fine =
-    line_complete law sources MachineFault words call texts f now old new out err a says held is fine
-complete law sources TooLong words call texts f now old new out err a says held is fine =
-    line_complete law sources TooLong words call texts f now old new out err a says held is fine
-complete law sources Differs words call texts f now old new out err a says held is fine =
-    line_complete law sources Differs words call texts f now old new out err a says held is fine
+complete law exclude Usage words call texts f now old new out err a says held is fine = absurd (a.1 (call, says, tt))
+complete law exclude OutOfMemory words call texts f now old new out err a says held is fine = inr refl
+complete law exclude Done words call texts f now old new out err a says held is fine =
+    line_complete law exclude Done words call texts f now old new out err a says held is fine
+complete law exclude Refused words call texts f now old new out err a says held is fine =
+    line_complete law exclude Refused words call texts f now old new out err a says held is fine
+complete law exclude Unreadable words call texts f now old new out err a says held is fine =
+    line_complete law exclude Unreadable words call texts f now old new out err a says held is fine
+complete law exclude Unwritable words call texts f now old new out err a says held is fine =
+    line_complete law exclude Unwritable words call texts f now old new out err a says held is fine
+complete law exclude MachineFault words call texts f now old new out err a says held is fine =
+    line_complete law exclude MachineFault words call texts f now old new out err a says held is fine
+complete law exclude TooLong words call texts f now old new out err a says held is fine =
+    line_complete law exclude TooLong words call texts f now old new out err a says held is fine
+complete law exclude Differs words call texts f now old new out err a says held is fine =
+    line_complete law exclude Differs words call texts f now old new out err a says held is fine
 
 -- the same where the files may be untold
-pub complete_told : HasOneRun → SourcesExclude → (status : Status) (words : List (List ℕ)) (told now : Option Files) (old new : Counts) (out err : Written)
+pub complete_told : HasOneRun → TextsExclude → (status : Status) (words : List (List ℕ)) (told now : Option Files) (old new : Counts) (out err : Written)
     → Answers status words (record { old = told; new = now; counts_old = old; counts_new = new }) out err
     → IfSome told (λ f. (call : Call) (texts : List (List ℕ))
     → Says words call → AreHeld f (reads call) texts → AreAccepted call texts
     → (Rose old.failed_reads new.failed_reads → ⊥) → (Rose old.failed_puts new.failed_puts → ⊥) → (Rose out.faults_old out.faults_new → ⊥)
     → IsCarriedOut call texts status ⊎ (status ≡ OutOfMemory))
-complete_told law sources status words None now old new out err a = tt
-complete_told law sources status words (Some f) now old new out err a = λ call texts says held is no_read no_put no_write.
-    complete law sources status words call texts f now old new out err a says held is (record { no_read = no_read; no_put = no_put; no_write = no_write })
+complete_told law exclude status words None now old new out err a = tt
+complete_told law exclude status words (Some f) now old new out err a = λ call texts says held is no_read no_put no_write.
+    complete law exclude status words call texts f now old new out err a says held is (record { no_read = no_read; no_put = no_put; no_write = no_write })

@@ -5,6 +5,11 @@ use Rattle.energy_trace.specs.TraceValue.{TraceValue}
 use Rattle.energy_trace.specs.Reading.{trace_of}
 use Rattle.image_text.specs.ImageValue.{ImageValue}
 use Rattle.image_text.specs.Reading.{image_of}
+use Rattle.state_text.specs.declared.state.State.{State}
+use Rattle.state_text.specs.Reading.{state_of}
+use Rattle.fram_state.specs.Belongs.{Belongs}
+use Rattle.fram_board.specs.Board.{BoardValue, fresh}
+use Rattle.board_run.specs.History.{History, start_of}
 use Rattle.source_values.specs.Runs.{CheckedProgram}
 use Rattle.source_report.specs.SourceReport.{IsMeanReport}
 use Rattle.alpaca_cli.specs.declared.failure.Failure.{Failure}
@@ -16,17 +21,19 @@ use Rattle.source_meaning.specs.Acceptance.{IsAcceptedText}
 use Rattle.report_audit.specs.declared.verdict.Verdict.{Verdict}
 use Rattle.report_audit.specs.Good.{IsVerdict}
 use Rattle.alpaca_cli.specs.Verdicts.{verdict_line, verdict_ending}
-use Rattle.alpaca_cli.specs.Calls.{Call, mean, run, dis, audit, puts, judges}
+use Rattle.alpaca_cli.specs.Calls.{Call, mean, run, dis, resume, audit, puts, judges}
 use Rattle.alpaca_cli.specs.Ending.{Ending, well}
 use Rattle.alpaca_cli.specs.Ends.{ending_of}
 use Rattle.alpaca_cli.specs.Outcomes.{FailsBy, FailsWriting, Gains}
 use Rattle.alpaca_cli.specs.Outside.{Shelved, Written, Stands, IsSilent, WhereStands, IsPut}
 use Rattle.alpaca_cli.specs.Products.{Product, IsProduct, IsRefused, IsListing}
 use Rattle.alpaca_cli.specs.Refusals.{Refusal}
-use Rattle.alpaca_cli.specs.RunReport.{IsRunReport}
+use Rattle.alpaca_cli.specs.RunReport.{IsReportFrom}
+use Rattle.alpaca_cli.specs.Saved.{from_state}
 use Rattle.alpaca_cli.specs.Sources.{IsSourceText}
 use Rattle.alpaca_cli.specs.Texts.{FailsRefused}
 use Rattle.alpaca_cli.specs.Views.{refusal_of}
+use Rattle.alpaca_cli.proofs.RunLaws.{told_from}
 
 pub refusal_fails : (e : Failure) (name : List ℕ) (P : Refusal → Type 0) (call : Call) (texts : List (List ℕ)) (place : ℕ) (shelf : Shelved) (out : Written)
     → slice_get (judges call) place ≡ Some name → ((r : Refusal) → P r → IsRefused call texts place r) → Stands shelf → IsSilent out
@@ -81,35 +88,68 @@ fails_by (Err Write) P call texts ending out none is fails = λ shelf stands. re
 }
 fails_by (Err Memory) P call texts ending out none is fails = λ shelf stands. (stands, fails)
 
--- ---- `run`
+-- ---- a command that writes the report of a run
 
-pub run_whole : (result : Result RunEnding Failure) (a b image trace : List ℕ) (i : ImageValue) (t : TraceValue) (out : Written)
-    → image_of image ≡ Ok i → trace_of trace ≡ Ok t → IfOk result (λ ending. Gains out (IsRunReport i t (ending_of ending)))
-    → IfOk result (λ ending. WhereStands (λ shelf. IsWhole (run a b) (image ∷ trace ∷ []) (ending_of ending) shelf out))
-run_whole (Ok ending) a b image trace i t out image_said trace_said gains = λ shelf stands. record {
+pub report_whole : (result : Result RunEnding Failure) (b : BoardValue) (h : History) (t : TraceValue) (call : Call) (texts : List (List ℕ)) (out : Written)
+    → puts call ≡ None
+    → ((ending : Ending) (output : List ℕ) → IsReportFrom b h t ending output → IsProduct call texts (output_alone output ending))
+    → IfOk result (λ ending. Gains out (IsReportFrom b h t (ending_of ending)))
+    → IfOk result (λ ending. WhereStands (λ shelf. IsWhole call texts (ending_of ending) shelf out))
+report_whole (Ok ending) b h t call texts out none is gains = λ shelf stands. record {
   product = output_alone gains.0 (ending_of ending);
-  is = (record { value = i; charges = t; image_said = image_said; trace_said = trace_said; report = gains.1 }, refl);
+  is = is (ending_of ending) gains.0 gains.1;
   ends = refl;
-  put = stands;
+  put = none_put call shelf none stands;
   written = gains.2;
 }
-run_whole (Err e) a b image trace i t out image_said trace_said gains = tt
+report_whole (Err e) b h t call texts out none is gains = tt
 
-pub run_fails : (result : Result RunEnding Failure) (a b image trace : List ℕ) (i : ImageValue) (t : TraceValue) (out : Written)
-    → image_of image ≡ Ok i → trace_of trace ≡ Ok t
-    → IfErr result (λ e. FailsWriting e out (λ output. (ending : Ending) × IsRunReport i t ending output))
-    → IfErr result (λ e. WhereStands (λ shelf. FailsBy e (run a b) (image ∷ trace ∷ []) shelf out))
-run_fails (Ok ending) a b image trace i t out image_said trace_said fails = tt
-run_fails (Err (Refused file r)) a b image trace i t out image_said trace_said fails = absurd fails
-run_fails (Err (Put name)) a b image trace i t out image_said trace_said fails = absurd fails
-run_fails (Err Write) a b image trace i t out image_said trace_said fails = λ shelf stands. record {
+pub report_fails : (result : Result RunEnding Failure) (b : BoardValue) (h : History) (t : TraceValue) (call : Call) (texts : List (List ℕ)) (out : Written)
+    → puts call ≡ None
+    → ((ending : Ending) (output : List ℕ) → IsReportFrom b h t ending output → IsProduct call texts (output_alone output ending))
+    → IfErr result (λ e. FailsWriting e out (λ output. (ending : Ending) × IsReportFrom b h t ending output))
+    → IfErr result (λ e. WhereStands (λ shelf. FailsBy e call texts shelf out))
+report_fails (Ok ending) b h t call texts out none is fails = tt
+report_fails (Err (Refused file r)) b h t call texts out none is fails = absurd fails
+report_fails (Err (Put name)) b h t call texts out none is fails = absurd fails
+report_fails (Err Write) b h t call texts out none is fails = λ shelf stands. record {
   product = output_alone fails.0 fails.1.0;
-  is = (record { value = i; charges = t; image_said = image_said; trace_said = trace_said; report = fails.1.1 }, refl);
-  put = stands;
+  is = is fails.1.0 fails.0 fails.1.1;
+  put = none_put call shelf none stands;
   written = fails.2;
   failed = fails.3;
 }
-run_fails (Err Memory) a b image trace i t out image_said trace_said fails = λ shelf stands. (stands, fails)
+report_fails (Err Memory) b h t call texts out none is fails = λ shelf stands. (stands, fails)
+
+-- ---- `run`
+
+pub run_product : (a b image trace : List ℕ) (i : ImageValue) (t : TraceValue) (board : BoardValue)
+    → image_of image ≡ Ok i → trace_of trace ≡ Ok t → board ≡ fresh i.words t.readings
+    → (ending : Ending) (output : List ℕ) → IsReportFrom board (start_of i) t ending output
+    → IsProduct (run a b) (image ∷ trace ∷ []) (output_alone output ending)
+run_product a b image trace i t board image_said trace_said is_board ending output r =
+    let report = told_from board (fresh i.words t.readings) (start_of i) (start_of i) t is_board refl ending output r in
+    (record { value = i; charges = t; image_said = image_said; trace_said = trace_said; report = report }, refl)
+
+-- ---- `resume`
+
+pub resume_product : (a b c image state trace : List ℕ) (i : ImageValue) (s : State) (t : TraceValue) (board : BoardValue)
+    → image_of image ≡ Ok i → state_of state ≡ Ok s → trace_of trace ≡ Ok t → Belongs i s → board ≡ from_state s t
+    → (ending : Ending) (output : List ℕ) → IsReportFrom board (start_of s.image) t ending output
+    → IsProduct (resume a b c) (image ∷ state ∷ trace ∷ []) (output_alone output ending)
+resume_product a b c image state trace i s t board image_said state_said trace_said belongs is_board ending output r = (
+  record {
+    value = i;
+    saved = s;
+    charges = t;
+    image_said = image_said;
+    state_said = state_said;
+    trace_said = trace_said;
+    belongs = belongs;
+    report = told_from board (from_state s t) (start_of s.image) (start_of s.image) t is_board refl ending output r;
+  },
+  refl,
+)
 
 -- ---- `mean`, whose source keeps its text
 

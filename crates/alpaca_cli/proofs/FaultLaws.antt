@@ -7,7 +7,7 @@ use Rattle.report_audit.specs.declared.verdict.Verdict.TheVariants.{Yes, No}
 use Rattle.alpaca_cli.specs.declared.status.Status.{Status}
 use Rattle.alpaca_cli.specs.declared.status.Status.TheVariants.{Done, Refused, Usage, Unreadable, Unwritable, OutOfMemory, MachineFault, TooLong, Differs}
 use Rattle.alpaca_cli.specs.Answers.{Answers}
-use Rattle.alpaca_cli.specs.Calls.{Call, mean, try_, build, run, asm, dis, gen, save, audit, OnLine, IsRun, IsAudit}
+use Rattle.alpaca_cli.specs.Calls.{Call, mean, try_, build, run, asm, dis, gen, save, resume, audit, OnLine, IsRun, IsAudit}
 use Rattle.alpaca_cli.specs.Ending.{Ending, well, at_fault, differs}
 use Rattle.alpaca_cli.specs.RunReport.{ending_of}
 use Rattle.alpaca_cli.specs.Verdicts.{verdict_ending}
@@ -24,6 +24,7 @@ no_fault (No line) e = cc
 pub faults_alone : (call : Call) (texts : List (List ℕ)) (p : Product) → IsProduct call texts p → p.ending ≡ at_fault → IsRun call
 faults_alone (run image trace) texts p is e = tt
 faults_alone (save image trace state) texts p is e = tt
+faults_alone (resume image state trace) texts p is e = tt
 faults_alone (mean a b) [] p is e = is
 faults_alone (mean a b) (x ∷ []) p is e = is
 faults_alone (mean a b) (x ∷ y ∷ []) p is e = not_both p.ending is.2 e
@@ -104,6 +105,11 @@ differs_alone (save a b i) [] p is e = is
 differs_alone (save a b i) (x ∷ []) p is e = is
 differs_alone (save a b i) (x ∷ y ∷ []) p is e = no_difference is.outcome.ending (sym is.ends ∙ e)
 differs_alone (save a b i) (x ∷ y ∷ z ∷ more) p is e = is
+differs_alone (resume a b c) [] p is e = is
+differs_alone (resume a b c) (x ∷ []) p is e = is
+differs_alone (resume a b c) (x ∷ y ∷ []) p is e = is
+differs_alone (resume a b c) (x ∷ y ∷ z ∷ []) p is e = no_difference is.0.report.outcome.ending (sym is.0.report.ends ∙ e)
+differs_alone (resume a b c) (x ∷ y ∷ z ∷ u ∷ more) p is e = is
 
 pub only_audits_differ : (status : Status) (words : List (List ℕ)) (shelf : Shelved) (out err : Written) → Answers status words shelf out err
     → status ≡ Differs → OnLine words IsAudit

@@ -27,7 +27,7 @@ use Rattle.alpaca_cli.specs.Ending.{Ending, well, at_fault}
 use Rattle.alpaca_cli.specs.Generated.{RanSo, ended_line, four_lines, generated_lines}
 use Rattle.alpaca_cli.specs.Products.{IsBuilt, Generates}
 use Rattle.alpaca_cli.specs.RunReport.{ending_of, IsRunReport, IsTold, IsToldOnTraces}
-use Rattle.alpaca_cli.proofs.RunLaws.{run_illegal, run_bus}
+use Rattle.alpaca_cli.proofs.RunLaws.{is_written}
 
 -- ---- the trace is of words
 
@@ -80,8 +80,8 @@ no_fault image trace old new x board after watch now is_board is_watch ends r ca
 
     go : (y : RunFault) → IsRunOf (start_of image) (charges_of trace.charges) (fresh image.words trace.readings) old new (Err y) after now
         → HasWriteCause 0 0 (Err y) → ⊥
-    go (fault.Illegal pc word) q w = let f = run_illegal image trace old new pc word after now q in faulty (ends at_fault f.0 f.1)
-    go (fault.Bus pc address) q w = let f = run_bus image trace old new pc address after now q in faulty (ends at_fault f.0 f.1)
+    go (fault.Illegal pc word) q w = let f = is_written _ _ trace old new (Err (fault.Illegal pc word)) after now q in faulty (ends at_fault f.0 f.1)
+    go (fault.Bus pc address) q w = let f = is_written _ _ trace old new (Err (fault.Bus pc address)) after now q in faulty (ends at_fault f.0 f.1)
     go fault.Write q w = never (w.failed refl)
 
 pub ran_so : (image : ImageValue) (trace : TraceValue) (old new : Option (List ℕ)) (end : RunEnd) (board after : BoardValue) (watch now : History)

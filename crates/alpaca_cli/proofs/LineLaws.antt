@@ -7,7 +7,7 @@ use Rattle.std.specs.Str.{bytes_eq}
 use Rattle.std.specs.Str.Parse.{digits_value}
 use Rattle.command_line.specs.Commands.{NamesCommand}
 use Rattle.command_line.specs.declared.Command.TheVariants as command
-use Rattle.alpaca_cli.specs.Calls.{Call, mean, try_, build, run, asm, dis, gen, save, audit, line_text, HasNumber, OnLine}
+use Rattle.alpaca_cli.specs.Calls.{Call, mean, try_, build, run, asm, dis, gen, save, resume, audit, line_text, HasNumber, OnLine}
 
 -- the command of a line
 abbrev call_of : List (List ℕ) → Option Call
@@ -18,7 +18,7 @@ call_of (name ∷ a ∷ b ∷ []) = cond (bytes_eq name (codes "mean")) (Some (m
     (cond (bytes_eq name (codes "run")) (Some (run a b)) (cond (bytes_eq name (codes "asm")) (Some (asm a b))
     (cond (bytes_eq name (codes "gen")) (Some (gen (digits_value 10 a) b)) None))))
 call_of (name ∷ a ∷ b ∷ c ∷ []) = cond (bytes_eq name (codes "try")) (Some (try_ a b c)) (cond (bytes_eq name (codes "save")) (Some (save a b c))
-    (cond (bytes_eq name (codes "audit")) (Some (audit a b c)) None))
+    (cond (bytes_eq name (codes "resume")) (Some (resume a b c)) (cond (bytes_eq name (codes "audit")) (Some (audit a b c)) None)))
 call_of (name ∷ a ∷ b ∷ c ∷ d ∷ more) = None
 
 is_call : (c : Call) → HasNumber c → call_of (line_text c) ≡ Some c
@@ -29,6 +29,7 @@ is_call (run a b) h = refl
 is_call (asm a b) h = refl
 is_call (dis a) h = refl
 is_call (save a b c) h = refl
+is_call (resume a b c) h = refl
 is_call (audit a b c) h = refl
 is_call (gen n a) h = ap (λ k. Some (gen k a)) (decimal_is_IsNumeral n (omega (arith, h))).1
 
@@ -48,4 +49,5 @@ names_command words (asm a b, says, u) = (command.Asm (lent a) (lent b), says.li
 names_command words (dis a, says, u) = (command.Dis (lent a), says.line)
 names_command words (gen n a, says, u) = (command.Gen n (lent a), says.line)
 names_command words (save a b c, says, u) = (command.Save (lent a) (lent b) (lent c), says.line)
+names_command words (resume a b c, says, u) = (command.Resume (lent a) (lent b) (lent c), says.line)
 names_command words (audit a b c, says, u) = (command.Audit (lent a) (lent b) (lent c), says.line)

@@ -7,9 +7,11 @@ use Rattle.image_text.specs.Reading.{image_of}
 use Rattle.state_text.specs.declared.state.State.{State}
 use Rattle.state_text.specs.Reading.{state_of}
 use Rattle.fram_board.specs.Laws.{HasOneRun}
+use Rattle.fram_board.specs.Board.{BoardValue}
 use Rattle.fram_board.specs.Run.{Run}
 use Rattle.board_run.specs.Charges.{charges_of}
-use Rattle.alpaca_cli.specs.Calls.{Call, mean, try_, build, run, asm, dis, gen, save, audit}
+use Rattle.board_run.specs.History.{History, start_of}
+use Rattle.alpaca_cli.specs.Calls.{Call, mean, try_, build, run, asm, dis, gen, save, resume, audit}
 use Rattle.alpaca_cli.specs.Ending.{Ending}
 use Rattle.alpaca_cli.specs.Verdicts.{verdict_ending}
 use Rattle.cost_bound.specs.declared.allowance.Allow.{Allow}
@@ -17,15 +19,17 @@ use Rattle.source_values.specs.Runs.{CheckedProgram}
 use Rattle.report_audit.specs.declared.verdict.Verdict.{Verdict}
 use Rattle.report_audit.specs.declared.verdict.Verdict.TheVariants.{Yes, No}
 use Rattle.report_audit.specs.Good.{IsVerdict}
-use Rattle.alpaca_cli.specs.RunReport.{IsRunReport, ending_of}
+use Rattle.alpaca_cli.specs.Resumed.{Resumes}
+use Rattle.alpaca_cli.specs.RunReport.{IsReportFrom, IsRunReport, ending_of}
 use Rattle.alpaca_cli.specs.Saved.{Saves, from_state}
 use Rattle.alpaca_cli.specs.Products.{Product, Runs, Audits, IsProduct}
 
-same_value : {A E : Type 0} (x : Result A E) (a b : A) → x ≡ Ok a → x ≡ Ok b → a ≡ b
+pub same_value : {A E : Type 0} (x : Result A E) (a b : A) → x ≡ Ok a → x ≡ Ok b → a ≡ b
 same_value x a b e f = let g : Ok a ≡ Ok b = sym e ∙ f in cc
 
-one_run : HasOneRun → (i : ImageValue) (t : TraceValue) (e e' : Ending) (o o' : List ℕ) → IsRunReport i t e o → IsRunReport i t e' o' → e ≡ e'
-one_run law i t e e' o o' a b = a.ends ∙ ap (λ r. ending_of r.ending) (law _ _ a.outcome b.outcome a.run b.run) ∙ sym b.ends
+one_run : HasOneRun → (s : BoardValue) (h : History) (t : TraceValue) (e e' : Ending) (o o' : List ℕ)
+    → IsReportFrom s h t e o → IsReportFrom s h t e' o' → e ≡ e'
+one_run law s h t e e' o o' a b = a.ends ∙ ap (λ r. ending_of r.ending) (law _ _ a.outcome b.outcome a.run b.run) ∙ sym b.ends
 
 run_ending : HasOneRun → (x y : List ℕ) (e e' : Ending) (o o' : List ℕ) → Runs x y e o → Runs x y e' o' → e ≡ e'
 run_ending law x y e e' o o' a b =
@@ -33,7 +37,15 @@ run_ending law x y e e' o o' a b =
     let trace : b.charges ≡ a.charges = same_value (trace_of y) b.charges a.charges b.trace_said a.trace_said in
     let report : IsRunReport a.value a.charges e' o' =
     subst (λ t. IsRunReport a.value t e' o') trace (subst (λ i. IsRunReport i b.charges e' o') image b.report) in
-    one_run law a.value a.charges e e' o o' a.report report
+    one_run law _ _ a.charges e e' o o' a.report report
+
+resume_ending : HasOneRun → (x y z : List ℕ) (e e' : Ending) (o o' : List ℕ) → Resumes x y z e o → Resumes x y z e' o' → e ≡ e'
+resume_ending law x y z e e' o o' a b =
+    let state : b.saved ≡ a.saved = same_value (state_of y) b.saved a.saved b.state_said a.state_said in
+    let trace : b.charges ≡ a.charges = same_value (trace_of z) b.charges a.charges b.trace_said a.trace_said in
+    let OfState : State → Type 0 = λ s. IsReportFrom (from_state s b.charges) (start_of s.image) b.charges e' o' in
+    let OfTrace : TraceValue → Type 0 = λ t. IsReportFrom (from_state a.saved t) (start_of a.saved.image) t e' o' in
+    one_run law _ _ a.charges e e' o o' a.report (subst OfTrace trace (subst OfState state b.report))
 
 save_ending : HasOneRun → (x y : List ℕ) (f f' : Option (List ℕ)) (e e' : Ending) (o o' : List ℕ) → Saves x y f e o → Saves x y f' e' o' → e ≡ e'
 save_ending law x y f f' e e' o o' a b =
@@ -90,6 +102,11 @@ one_ending law (save c d i) [] p q a b = absurd a
 one_ending law (save c d i) (x ∷ []) p q a b = absurd a
 one_ending law (save c d i) (x ∷ y ∷ []) p q a b = save_ending law x y p.file q.file p.ending q.ending p.output q.output a b
 one_ending law (save c d i) (x ∷ y ∷ z ∷ more) p q a b = absurd a
+one_ending law (resume c d e) [] p q a b = absurd a
+one_ending law (resume c d e) (x ∷ []) p q a b = absurd a
+one_ending law (resume c d e) (x ∷ y ∷ []) p q a b = absurd a
+one_ending law (resume c d e) (x ∷ y ∷ z ∷ []) p q a b = resume_ending law x y z p.ending q.ending p.output q.output a.0 b.0
+one_ending law (resume c d e) (x ∷ y ∷ z ∷ u ∷ more) p q a b = absurd a
 one_ending law (audit c d e) [] p q a b = absurd a
 one_ending law (audit c d e) (x ∷ []) p q a b = absurd a
 one_ending law (audit c d e) (x ∷ y ∷ []) p q a b = absurd a

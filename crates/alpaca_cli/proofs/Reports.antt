@@ -6,18 +6,17 @@ use Rattle.alp_io.specs.Report.{end_line, illegal_line, bus_line}
 use Rattle.alp_io.specs.Sink.{Writes}
 use Rattle.buffered_sink.specs.Front.{Settles}
 use Rattle.energy_trace.specs.TraceValue.{TraceValue}
-use Rattle.image_text.specs.ImageValue.{ImageValue}
 use Rattle.image_reports.specs.msp_step.declared.machine.Stop.TheVariants as stop
 use Rattle.fram_board.specs.Board.{BoardValue}
 use Rattle.fram_board.specs.Run.{End, Charges, Stopped, RunOutcome}
-use Rattle.board_run.specs.History.{History, bound_lines, start_of}
+use Rattle.board_run.specs.History.{History, bound_lines}
 use Rattle.board_run.specs.Report.{last_line, after_all, lines_from}
 use Rattle.source_values.specs.Runs.{CheckedProgram, Completion, completion_of, attempt_of}
 use Rattle.source_report.specs.MeanReport.{report_from, if_whole, mean_report}
 use Rattle.alpaca_cli.specs.declared.run.RunEnding.{RunEnding}
 use Rattle.alpaca_cli.specs.Ending.{Ending}
 use Rattle.alpaca_cli.specs.Ends.{ending_of, WritesRun}
-use Rattle.alpaca_cli.specs.RunReport.{IsRunReport}
+use Rattle.alpaca_cli.specs.RunReport.{IsReportFrom}
 
 -- ---- the lines at the end
 
@@ -66,26 +65,25 @@ last_nonempty h (Stopped stop.NoReading) b = end_nonempty _ _ _ _
 last_nonempty h (Stopped (stop.Illegal pc word)) b = illegal_nonempty pc word
 last_nonempty h (Stopped (stop.Bus pc address)) b = bus_nonempty pc address
 
-run_nonempty : (image : ImageValue) (trace : TraceValue) (ending : Ending) (output : List ℕ) → IsRunReport image trace ending output → 0 < length output
-run_nonempty image trace ending output report =
-    let h : History = start_of image in
+run_nonempty : (b : BoardValue) (h : History) (trace : TraceValue) (ending : Ending) (output : List ℕ) → IsReportFrom b h trace ending output → 0 < length output
+run_nonempty b h trace ending output report =
     let r : RunOutcome = report.outcome in
     let last = last_nonempty (after_all h r.moments) r.ending r.board in
     let P : List ℕ → Type 0 = λ t. 0 < length t in
     subst P (sym report.lines) (behind_nonempty (bound_lines h.map) _ (behind_nonempty (lines_from h r.moments) _ last))
 
 -- the report of a run that a buffer took, as the output has it in the end
-pub run_settles : (image : ImageValue) (trace : TraceValue) (first taken held : Option (List ℕ)) (written result : Result RunEnding Failed)
+pub run_settles : (b : BoardValue) (h : History) (trace : TraceValue) (first taken held : Option (List ℕ)) (written result : Result RunEnding Failed)
     → Settles first taken held written result → IfOk result (λ x. written ≡ Ok x)
-    → WritesRun image trace first taken written → WritesRun image trace first held result
-run_settles image trace first taken held (Ok e) (Ok x) settles same (output, is, whole) =
+    → WritesRun b h trace first taken written → WritesRun b h trace first held result
+run_settles b h trace first taken held (Ok e) (Ok x) settles same (output, is, whole) =
     let ends : e ≡ x = cc in
-    let held = settles output (run_nonempty image trace _ output is) (record { whole = whole; part = tt }) in
-    (output, subst (λ y. IsRunReport image trace (ending_of y) output) ends is, held.whole)
-run_settles image trace first taken held (Ok e) (Err f) settles same (output, is, whole) =
-    let held = settles output (run_nonempty image trace _ output is) (record { whole = whole; part = tt }) in
+    let held = settles output (run_nonempty b h trace _ output is) (record { whole = whole; part = tt }) in
+    (output, subst (λ y. IsReportFrom b h trace (ending_of y) output) ends is, held.whole)
+run_settles b h trace first taken held (Ok e) (Err f) settles same (output, is, whole) =
+    let held = settles output (run_nonempty b h trace _ output is) (record { whole = whole; part = tt }) in
     (ending_of e, output, is, held.part)
-run_settles image trace first taken held (Err f) (Ok x) settles same run = absurd (cc)
-run_settles image trace first taken held (Err f) (Err h) settles same (ending, output, is, part) =
-    let held = settles output (run_nonempty image trace ending output is) (record { whole = tt; part = part }) in
+run_settles b h trace first taken held (Err f) (Ok x) settles same run = absurd (cc)
+run_settles b h trace first taken held (Err f) (Err other) settles same (ending, output, is, part) =
+    let held = settles output (run_nonempty b h trace ending output is) (record { whole = tt; part = part }) in
     (ending, output, is, held.part)

@@ -8,11 +8,11 @@ use Rattle.cost_bound.specs.declared.allowance.Allow.{Allow}
 use Rattle.energy_trace.specs.TraceValue.{TraceValue}
 use Rattle.image_text.specs.ImageValue.{ImageValue}
 use Rattle.image_reports.specs.msp_step.declared.machine.Stop.TheVariants as stop
-use Rattle.fram_board.specs.Board.{fresh}
+use Rattle.fram_board.specs.Board.{BoardValue, fresh}
 use Rattle.fram_board.specs.Laws.{HasRun}
 use Rattle.fram_board.specs.Run.{End, Charges, Stopped, RunOutcome}
 use Rattle.board_run.specs.Charges.{charges_of}
-use Rattle.board_run.specs.History.{start_of}
+use Rattle.board_run.specs.History.{History, start_of}
 use Rattle.board_run.specs.Report.{report_of}
 use Rattle.source_values.specs.Statements.{Outcome}
 use Rattle.source_values.specs.Runs.{CheckedProgram}
@@ -28,7 +28,7 @@ use Rattle.alpaca_cli.specs.Ending.{Ending, well, at_fault}
 use Rattle.alpaca_cli.specs.Ends.{WritesRun}
 use Rattle.alpaca_cli.specs.Outcomes.{Breaks}
 use Rattle.alpaca_cli.specs.Outside.{Written}
-use Rattle.alpaca_cli.specs.RunReport.{ending_of, IsRunReport, IsTold, IsToldOnTraces}
+use Rattle.alpaca_cli.specs.RunReport.{ending_of, IsReportFrom, IsTold, IsToldOnTraces}
 
 -- a run that its source tells ends well
 ends_well : (e : End) (next : Outcome) (why : Reason) → IsEndOf e next why → well ≡ ending_of e
@@ -62,20 +62,20 @@ module _ (law : ImagesAreTold) (runs : HasRun) (text : List ℕ) (p : CheckedPro
 
 -- ---- what is written of a run that ends well
 
-pub trial_whole : (image : ImageValue) (trace : TraceValue) (old new : Option (List ℕ)) (e : RunEnding) → e ≡ Well → WritesRun image trace old new (Ok e)
-    → (output : List ℕ) × IsRunReport image trace well output × Appends old new output
-trial_whole image trace old new e same writes = subst (λ x. WritesRun image trace old new (Ok x)) same writes
+pub trial_whole : (b : BoardValue) (h : History) (trace : TraceValue) (old new : Option (List ℕ)) (e : RunEnding) → e ≡ Well
+    → WritesRun b h trace old new (Ok e) → (output : List ℕ) × IsReportFrom b h trace well output × Appends old new output
+trial_whole b h trace old new e same writes = subst (λ x. WritesRun b h trace old new (Ok x)) same writes
 
-pub trial_breaks : (image : ImageValue) (trace : TraceValue) (out : Written) (f : Failed)
-    → ((ending : Ending) (output : List ℕ) → IsRunReport image trace ending output → ending ≡ well)
-    → WritesRun image trace out.old out.new (Err f) → Rose out.faults_old out.faults_new → Breaks out (IsRunReport image trace well)
-trial_breaks image trace out f ends writes rose =
-    (writes.1, subst (λ e. IsRunReport image trace e writes.1) (ends writes.0 writes.1 writes.2) writes.2, writes.3, rose)
+pub trial_breaks : (b : BoardValue) (h : History) (trace : TraceValue) (out : Written) (f : Failed)
+    → ((ending : Ending) (output : List ℕ) → IsReportFrom b h trace ending output → ending ≡ well)
+    → WritesRun b h trace out.old out.new (Err f) → Rose out.faults_old out.faults_new → Breaks out (IsReportFrom b h trace well)
+trial_breaks b h trace out f ends writes rose =
+    (writes.1, subst (λ e. IsReportFrom b h trace e writes.1) (ends writes.0 writes.1 writes.2) writes.2, writes.3, rose)
 
-pub no_fault : (image : ImageValue) (trace : TraceValue) (old new : Option (List ℕ)) (e : RunEnding)
-    → ((ending : Ending) (output : List ℕ) → IsRunReport image trace ending output → ending ≡ well)
-    → e ≡ AtFault → WritesRun image trace old new (Ok e) → ⊥
-no_fault image trace old new e ends same writes =
-    let at : WritesRun image trace old new (Ok AtFault) = subst (λ x. WritesRun image trace old new (Ok x)) same writes in
+pub no_fault : (b : BoardValue) (h : History) (trace : TraceValue) (old new : Option (List ℕ)) (e : RunEnding)
+    → ((ending : Ending) (output : List ℕ) → IsReportFrom b h trace ending output → ending ≡ well)
+    → e ≡ AtFault → WritesRun b h trace old new (Ok e) → ⊥
+no_fault b h trace old new e ends same writes =
+    let at : WritesRun b h trace old new (Ok AtFault) = subst (λ x. WritesRun b h trace old new (Ok x)) same writes in
     let is : at_fault ≡ well = ends at_fault at.0 at.1 in
     cc

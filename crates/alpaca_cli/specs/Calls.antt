@@ -12,6 +12,7 @@ pub data Call : Type 0 where
   dis : (image : List ℕ) → Call
   gen : (number : ℕ) (image : List ℕ) → Call
   save : (image trace state : List ℕ) → Call
+  resume : (image state trace : List ℕ) → Call
   audit : (source report trace : List ℕ) → Call
 
 -- its line: its first word, and then the names, and the number in its decimal digits
@@ -24,6 +25,7 @@ line_text (asm assembly image) = codes "asm" ∷ assembly ∷ image ∷ []
 line_text (dis image) = codes "dis" ∷ image ∷ []
 line_text (gen number image) = codes "gen" ∷ decimal number ∷ image ∷ []
 line_text (save image trace state) = codes "save" ∷ image ∷ trace ∷ state ∷ []
+line_text (resume image state trace) = codes "resume" ∷ image ∷ state ∷ trace ∷ []
 line_text (audit source report trace) = codes "audit" ∷ source ∷ report ∷ trace ∷ []
 
 -- the names of the files that it reads, in order
@@ -36,6 +38,7 @@ reads (asm assembly image) = assembly ∷ []
 reads (dis image) = image ∷ []
 reads (gen number image) = []
 reads (save image trace state) = image ∷ trace ∷ []
+reads (resume image state trace) = image ∷ state ∷ trace ∷ []
 reads (audit source report trace) = source ∷ report ∷ trace ∷ []
 
 -- the names of the texts that it may refuse, in order: those of its files, and of the generated source, which stands in none
@@ -53,6 +56,7 @@ puts (asm assembly image) = Some image
 puts (dis image) = None
 puts (gen number image) = Some image
 puts (save image trace state) = Some state
+puts (resume image state trace) = None
 puts (audit source report trace) = None
 
 -- it audits a report
@@ -60,10 +64,11 @@ abbrev pub IsAudit : Call → Type 0
 IsAudit (audit source report trace) = Unit {0}
 IsAudit call = ⊥
 
--- it runs an image that it reads
+-- it runs an image or a state that it reads
 abbrev pub IsRun : Call → Type 0
 IsRun (run image trace) = Unit {0}
 IsRun (save image trace state) = Unit {0}
+IsRun (resume image state trace) = Unit {0}
 IsRun call = ⊥
 
 -- its number, if it has one, is of 32 bits

@@ -7,6 +7,7 @@ use Rattle.image_text.specs.ImageValue.{ImageValue}
 use Rattle.image_text.specs.Reading.{image_of}
 use Rattle.state_text.specs.declared.state.State.{State}
 use Rattle.state_text.specs.Reading.{state_of}
+use Rattle.fram_state.specs.Belongs.{IsAnswer}
 use Rattle.image_text.specs.Text.{map_part, text_of}
 use Rattle.image_reports.specs.text_parts.Printed.{printed}
 use Rattle.alp_io.specs.Report.{bound_line}
@@ -31,10 +32,11 @@ use Rattle.source_generator.specs.Trace.{generated_trace}
 use Rattle.alpaca_cli.specs.Assemblies.{RefusesAssembly}
 use Rattle.report_audit.specs.declared.verdict.Verdict.{Verdict}
 use Rattle.report_audit.specs.Good.{IsVerdict}
-use Rattle.alpaca_cli.specs.Calls.{Call, mean, try_, build, run, asm, dis, gen, save, audit}
+use Rattle.alpaca_cli.specs.Calls.{Call, mean, try_, build, run, asm, dis, gen, save, resume, audit}
 use Rattle.alpaca_cli.specs.Ending.{Ending, well}
 use Rattle.alpaca_cli.specs.Generated.{generated_lines}
 use Rattle.alpaca_cli.specs.Refusals.{Refusal}
+use Rattle.alpaca_cli.specs.Resumed.{RefusesOther, Resumes}
 use Rattle.alpaca_cli.specs.RunReport.{IsRunReport, IsTold}
 use Rattle.alpaca_cli.specs.Sources.{IsSourceText, RefusesSource}
 use Rattle.alpaca_cli.specs.Saved.{Saves}
@@ -154,6 +156,7 @@ IsProduct (asm _ _) (assembly ∷ []) p = IsSomeAnd p.file (Assembles assembly) 
 IsProduct (dis _) (image ∷ []) p = Lists image p.output × (p.file ≡ None) × (p.ending ≡ well)
 IsProduct (gen number _) [] p = IsSomeAnd p.file (λ file. Generates number file p.output) × (p.ending ≡ well)
 IsProduct (save _ _ _) (image ∷ trace ∷ []) p = Saves image trace p.file p.ending p.output
+IsProduct (resume _ _ _) (image ∷ state ∷ trace ∷ []) p = Resumes image state trace p.ending p.output × (p.file ≡ None)
 IsProduct (audit _ _ _) (source ∷ report ∷ trace ∷ []) p = Audits source report trace p.ending p.output × (p.file ≡ None)
 IsProduct call texts p = ⊥
 
@@ -172,6 +175,14 @@ SaysImage text = (value : ImageValue) × (image_of text ≡ Ok value)
 abbrev pub SaysState : List ℕ → Type 0
 SaysState text = (value : State) × (state_of text ≡ Ok value)
 
+-- the texts are an image and a state that is taken with it
+pub record SaysItsState (image state : List ℕ) : Type 0 where
+  pub value : ImageValue
+  pub saved : State
+  pub image_said : image_of image ≡ Ok value
+  pub state_said : state_of state ≡ Ok saved
+  pub taken : IsAnswer value saved (Ok tt)
+
 abbrev pub SaysAssembly : List ℕ → Type 0
 SaysAssembly text = (words : List ℕ) × (assembled text ≡ Ok words)
 
@@ -185,6 +196,7 @@ AreAccepted (asm _ _) (assembly ∷ []) = SaysAssembly assembly
 AreAccepted (dis _) (image ∷ []) = SaysImage image
 AreAccepted (gen number _) [] = SaysSource (generated_text number)
 AreAccepted (save _ _ _) (image ∷ trace ∷ []) = SaysState image × SaysTrace trace
+AreAccepted (resume _ _ _) (image ∷ state ∷ trace ∷ []) = SaysItsState image state × SaysTrace trace
 AreAccepted (audit _ _ _) (source ∷ report ∷ trace ∷ []) = SaysSource source × SaysTrace trace
 AreAccepted call texts = ⊥
 
@@ -203,6 +215,15 @@ pub data SaveRefuses (image trace : List ℕ) : ℕ → Refusal → Type 0 where
   the_state : (r : Refusal) → RefusesState image r → SaveRefuses image trace 0 r
   the_states_trace : (value : State) (r : Refusal) → state_of image ≡ Ok value → RefusesTrace trace r → SaveRefuses image trace 1 r
 
+-- the same of `resume`, which behind all faults of the texts refuses a state that doesn't belong to the image
+pub data ResumeRefuses (image state trace : List ℕ) : ℕ → Refusal → Type 0 where
+  the_states_image : (r : Refusal) → RefusesImage image r → ResumeRefuses image state trace 0 r
+  the_resumed_state : (value : ImageValue) (r : Refusal) → image_of image ≡ Ok value → RefusesState state r → ResumeRefuses image state trace 1 r
+  the_resumed_trace : (value : ImageValue) (saved : State) (r : Refusal) → image_of image ≡ Ok value → state_of state ≡ Ok saved
+      → RefusesTrace trace r → ResumeRefuses image state trace 2 r
+  the_other_state : (value : ImageValue) (saved : State) (charges : TraceValue) (r : Refusal) → image_of image ≡ Ok value → state_of state ≡ Ok saved
+      → trace_of trace ≡ Ok charges → RefusesOther value saved r → ResumeRefuses image state trace 1 r
+
 -- the same of `audit`, which refuses no report
 pub data AuditRefuses (source trace : List ℕ) : ℕ → Refusal → Type 0 where
   the_audits_source : (r : Refusal) → RefusesSource source r → AuditRefuses source trace 0 r
@@ -218,5 +239,6 @@ IsRefused (asm _ _) (assembly ∷ []) place r = RefusesAssembly assembly r × (p
 IsRefused (dis _) (image ∷ []) place r = RefusesImage image r × (place ≡ 0)
 IsRefused (gen number _) [] place r = RefusesSource (generated_text number) r × (place ≡ 0)
 IsRefused (save _ _ _) (image ∷ trace ∷ []) place r = SaveRefuses image trace place r
+IsRefused (resume _ _ _) (image ∷ state ∷ trace ∷ []) place r = ResumeRefuses image state trace place r
 IsRefused (audit _ _ _) (source ∷ report ∷ trace ∷ []) place r = AuditRefuses source trace place r
 IsRefused call texts place r = ⊥

@@ -1,14 +1,14 @@
--- The report of an image's run on a trace, and what the source of an image tells of it.
+-- The report of a run on a trace; and of the run of an image what its source tells.
 use Rattle.std.specs.Prelude.{◌≡◌, ℕ, List, Some}
 use Rattle.energy_trace.specs.TraceValue.{TraceValue}
 use Rattle.source_values.specs.Runs.{CheckedProgram}
 use Rattle.image_reports.specs.image_map.MapValue.{MapValue}
 use Rattle.image_text.specs.ImageValue.{ImageValue}
 use Rattle.image_reports.specs.msp_step.declared.machine.Stop.TheVariants as stop
-use Rattle.fram_board.specs.Board.{fresh}
+use Rattle.fram_board.specs.Board.{BoardValue, fresh}
 use Rattle.fram_board.specs.Run.{End, Charges, Stopped, RunOutcome, Run}
 use Rattle.board_run.specs.Charges.{charges_of}
-use Rattle.board_run.specs.History.{start_of}
+use Rattle.board_run.specs.History.{History, start_of}
 use Rattle.board_run.specs.Report.{report_of}
 use Rattle.source_runs.specs.Traces.{IsTraceOfWords}
 use Rattle.source_runs.specs.Tells.{IsToldBySource}
@@ -22,12 +22,16 @@ ending_of (Stopped stop.NoReading) = well
 ending_of (Stopped (stop.Illegal pc word)) = at_fault
 ending_of (Stopped (stop.Bus pc address)) = at_fault
 
--- The report of the one run of the image's fresh board under the trace's charges, on its readings, and how that run ended.
-pub record IsRunReport (image : ImageValue) (trace : TraceValue) (ending : Ending) (output : List ℕ) : Type 0 where
+-- The report of the one run of a board under the trace's charges, told from what is known before it, and how that run ended.
+pub record IsReportFrom (board : BoardValue) (known : History) (trace : TraceValue) (ending : Ending) (output : List ℕ) : Type 0 where
   pub outcome : RunOutcome
-  pub run : Run (charges_of trace.charges) (fresh image.words trace.readings) outcome
+  pub run : Run (charges_of trace.charges) board outcome
   pub ends : ending ≡ ending_of outcome.ending
-  pub lines : output ≡ report_of (start_of image) outcome
+  pub lines : output ≡ report_of known outcome
+
+-- the same of the image's fresh board, on the trace's readings
+abbrev pub IsRunReport : ImageValue → TraceValue → Ending → List ℕ → Type 0
+IsRunReport image trace = IsReportFrom (fresh image.words trace.readings) (start_of image) trace
 
 -- An image with this map has a report of its run on a trace; and each such report ends well, and is what the source tells of that run.
 pub record IsTold (source : List ℕ) (program : CheckedProgram) (m : MapValue) (image : ImageValue) (trace : TraceValue) : Type 0 where

@@ -1,6 +1,6 @@
 -- What the program's refusals stand for.
 use Rattle.alpaca_cli.specs.declared.refusal.Detail.{Detail}
-use Rattle.alpaca_cli.specs.declared.refusal.Detail.TheVariants.{Nothing, Name, Number}
+use Rattle.alpaca_cli.specs.declared.refusal.Detail.TheVariants.{Nothing, Name, Number, Address}
 use Rattle.alpaca_cli.specs.declared.refusal.Refusal.{Refusal}
 use Rattle.alpaca_cli.specs.Refusals as view
 
@@ -9,6 +9,7 @@ abbrev pub detail_of : Detail → view.Detail
 detail_of Nothing = view.nothing
 detail_of (Name bytes) = view.name bytes.now
 detail_of (Number n) = view.number n
+detail_of (Address a) = view.address a
 
 -- a refusal
 abbrev pub refusal_of : Refusal → view.Refusal

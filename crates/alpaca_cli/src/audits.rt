@@ -15,7 +15,7 @@ ghost use Rattle.alpaca_cli.specs.Outcomes.{FailsBy};
 
 use crate::answers::{answer_failure, answer_unread};
 use crate::failure::Failure;
-use crate::inputs::{AuditTexts, read_audit_texts};
+use crate::inputs::{ThreeTexts, read_three_texts};
 use crate::messages;
 use crate::sources::source_of;
 use crate::status::Status;
@@ -107,27 +107,27 @@ pub fn audit_texts<'t, O: Sink>(
 fn audit_of<O: Sink, E: Sink>(
     alloc: Global,
     names: AuditNames<'_>,
-    texts: &AuditTexts,
+    texts: &ThreeTexts,
     out: &mut O,
     err: &mut E,
 ) -> Status
-    requires source { length texts.now.source.items ≤ 1048576 }
-    requires report { length texts.now.report.items ≤ 1048576 }
-    requires trace { length texts.now.trace.items ≤ 1048576 }
+    requires source { length texts.now.first.items ≤ 1048576 }
+    requires report { length texts.now.second.items ≤ 1048576 }
+    requires trace { length texts.now.third.items ≤ 1048576 }
     ensures out_faults { O.faults out.old ≤ O.faults out.new }
     ensures err_faults { E.faults err.old ≤ E.faults err.new }
     ensures answers { WhereStands (λ shelf. TextAnswers result
         (call.audit names.entry.source.now names.entry.report.now names.entry.trace.now)
-        (texts.now.source.items ∷ texts.now.report.items ∷ texts.now.trace.items ∷ []) shelf
+        (texts.now.first.items ∷ texts.now.second.items ∷ texts.now.third.items ∷ []) shelf
         (record { old = O.contents out.old; new = O.contents out.new; faults_old = O.faults out.old; faults_new = O.faults out.new })
         (record { old = E.contents err.old; new = E.contents err.new; faults_old = E.faults err.old; faults_new = E.faults err.new })) }
 {
     match audit_texts(
         alloc,
         names,
-        &texts.source,
-        &texts.report,
-        &texts.trace,
+        &texts.first,
+        &texts.second,
+        &texts.third,
         out,
     ) {
         Ok(Verdict::Yes { .. }) => Status::Done,
@@ -155,7 +155,7 @@ pub fn answer_audit<H: Shelf, O: Sink, E: Sink>(
         (record { old = O.contents out.old; new = O.contents out.new; faults_old = O.faults out.old; faults_new = O.faults out.new })
         (record { old = E.contents err.old; new = E.contents err.new; faults_old = E.faults err.old; faults_new = E.faults err.new }) }
 {
-    match read_audit_texts(alloc, shelf, names.source, names.report, names.trace) {
+    match read_three_texts(alloc, shelf, names.source, names.report, names.trace) {
         Ok(texts) => audit_of(alloc, names, &texts, out, err),
         Err(unread) => answer_unread(err, unread),
     }

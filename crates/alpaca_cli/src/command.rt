@@ -14,6 +14,7 @@ use crate::dis::answer_dis;
 use crate::generate::answer_gen;
 use crate::mean::answer_mean;
 use crate::messages;
+use crate::resume::answer_resume;
 use crate::run::answer_run;
 use crate::save::answer_save;
 use crate::status::Status;
@@ -21,6 +22,7 @@ use crate::try_::answer_try;
 use alp_io::{Shelf, Sink};
 use command_line::{Command, WordsFault, command_of};
 use fram_board::board_has_one_run;
+use fram_state::answers_are_one;
 use source_meaning::one_answer;
 use std::alloc::Global;
 
@@ -62,6 +64,13 @@ fn answer<H: Shelf, O: Sink, E: Sink>(
             },
         ) => answer_save(alloc, (image, trace, state), shelf, out, err),
         Ok(
+            Command::Resume {
+                image,
+                state,
+                trace,
+            },
+        ) => answer_resume(alloc, (image, state, trace), shelf, out, err),
+        Ok(
             Command::Audit {
                 source,
                 report,
@@ -96,8 +105,9 @@ fn answer<H: Shelf, O: Sink, E: Sink>(
 /// image of the assembler text under the name IMAGE, and `build SRC IMAGE` that of the source, whose bound it writes; `try SRC TRACE
 /// IMAGE` puts it too, and writes the report of its run. `gen N IMAGE` puts the image of the source that is generated from N, and writes
 /// four lines of its run. `save IMAGE TRACE STATE` runs the image, or the state that it is, puts the state at the run's end and writes
-/// the last line of its report. `audit SRC REPORT TRACE` writes whether the source could have told the report on the trace's readings.
-/// Every other answer than `Done` writes its one line to `err`.
+/// the last line of its report; `resume IMAGE STATE TRACE` writes the report of the run that goes on from a state of the image.
+/// `audit SRC REPORT TRACE` writes whether the source could have told the report on the trace's readings. Every other answer than `Done`
+/// writes its one line to `err`.
 pub fn alpaca<H: Shelf, O: Sink, E: Sink>(
     alloc: Global,
     words: &[String],
@@ -137,5 +147,6 @@ pub fn alpaca<H: Shelf, O: Sink, E: Sink>(
 {
     board_has_one_run();
     one_answer();
+    answers_are_one();
     answer(alloc, words, shelf, out, err)
 }

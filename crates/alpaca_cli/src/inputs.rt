@@ -26,12 +26,12 @@ pub struct Texts {
     pub second: Vec<u8>,
 }
 
-/// The bytes of the three files of an audit, in the order of its words.
+/// The bytes of a command's three files, in the order of its words.
 #[derive(Drop)]
-pub struct AuditTexts {
-    pub source: Vec<u8>,
-    pub report: Vec<u8>,
-    pub trace: Vec<u8>,
+pub struct ThreeTexts {
+    pub first: Vec<u8>,
+    pub second: Vec<u8>,
+    pub third: Vec<u8>,
 }
 
 /// Reads a file of at most 1,048,576 bytes.
@@ -83,33 +83,33 @@ pub fn read_texts<'n, H: Shelf>(
     Ok(Texts { first, second })
 }
 
-/// Reads the three files of an audit, in order, of at most 1,048,576 bytes each.
+/// Reads all three files, in order, of at most 1,048,576 bytes each.
 ///
 /// # Errors
 /// `Unreadable` or `TooLong` with the name of the first that gave no bytes; `Memory` where memory was refused.
-pub fn read_audit_texts<'n, H: Shelf>(
+pub fn read_three_texts<'n, H: Shelf>(
     alloc: Global,
     shelf: &mut H,
-    source: &'n str,
-    report: &'n str,
-    trace: &'n str,
-) -> Result<AuditTexts, Unread<'n>>
+    first: &'n str,
+    second: &'n str,
+    third: &'n str,
+) -> Result<ThreeTexts, Unread<'n>>
     ensures same { H.files shelf.new ≡ H.files shelf.old }
     ensures counts { NeverFall (H.counts shelf.old) (H.counts shelf.new) }
     ensures held { IfOk result (λ t. IfSome (H.files shelf.old) (λ f.
-        AreHeld f (source.now ∷ report.now ∷ trace.now ∷ []) (t.source.items ∷ t.report.items ∷ t.trace.items ∷ []))) }
-    ensures source_fits { IfOk result (λ t. length t.source.items ≤ 1048576) }
-    ensures report_fits { IfOk result (λ t. length t.report.items ≤ 1048576) }
-    ensures trace_fits { IfOk result (λ t. length t.trace.items ≤ 1048576) }
-    ensures unread { IfErr result (λ e. IsUnread e (H.files shelf.old) (source.now ∷ report.now ∷ trace.now ∷ [])
+        AreHeld f (first.now ∷ second.now ∷ third.now ∷ []) (t.first.items ∷ t.second.items ∷ t.third.items ∷ []))) }
+    ensures first_fits { IfOk result (λ t. length t.first.items ≤ 1048576) }
+    ensures second_fits { IfOk result (λ t. length t.second.items ≤ 1048576) }
+    ensures third_fits { IfOk result (λ t. length t.third.items ≤ 1048576) }
+    ensures unread { IfErr result (λ e. IsUnread e (H.files shelf.old) (first.now ∷ second.now ∷ third.now ∷ [])
         (H.counts shelf.old) (H.counts shelf.new)) }
 {
-    let source = read_file(alloc, shelf, source)?;
-    let report = read_file(alloc, shelf, report)?;
-    let trace = read_file(alloc, shelf, trace)?;
-    Ok(AuditTexts {
-        source,
-        report,
-        trace,
+    let first = read_file(alloc, shelf, first)?;
+    let second = read_file(alloc, shelf, second)?;
+    let third = read_file(alloc, shelf, third)?;
+    Ok(ThreeTexts {
+        first,
+        second,
+        third,
     })
 }

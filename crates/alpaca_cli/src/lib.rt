@@ -20,6 +20,7 @@ mod mean;
 mod messages;
 mod puts;
 mod refusal;
+mod resume;
 mod run;
 mod save;
 mod sources;

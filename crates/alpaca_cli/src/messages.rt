@@ -7,7 +7,7 @@ ghost use Rattle.alpaca_cli.specs.Views.{detail_of, refusal_of};
 
 use crate::refusal::{Detail, Refusal};
 use alp_io::{Sink, write_pieces};
-use alp_text::print_u64;
+use alp_text::{print_hex4, print_u64};
 
 fn tell<E: Sink>(err: &mut E, pieces: &[&[u8]])
     ensures line { Tells (E.contents err.old) (E.contents err.new) (E.faults err.old) (E.faults err.new)
@@ -60,6 +60,10 @@ pub fn tell_refused<E: Sink>(err: &mut E, name: &str, refusal: &Refusal<'_>)
         Detail::Name(bytes) => tell_parts(err, name, line.as_bytes(), kind, b" ", bytes),
         Detail::Number(n) => {
             let digits = print_u64(n);
+            tell_parts(err, name, line.as_bytes(), kind, b" ", digits.as_bytes())
+        }
+        Detail::Address(address) => {
+            let digits = print_hex4(address);
             tell_parts(err, name, line.as_bytes(), kind, b" ", digits.as_bytes())
         }
     }
@@ -132,7 +136,7 @@ pub fn tell_usage<E: Sink>(err: &mut E)
     tell(
         err,
         &[
-            b"usage: alpaca mean SRC TRACE | try SRC TRACE IMAGE | build SRC IMAGE | run IMAGE TRACE | asm ASM IMAGE | dis IMAGE | gen N IMAGE | save IMAGE TRACE STATE | audit SRC REPORT TRACE\n",
+            b"usage: alpaca mean SRC TRACE | try SRC TRACE IMAGE | build SRC IMAGE | run IMAGE TRACE | asm ASM IMAGE | dis IMAGE | gen N IMAGE | save IMAGE TRACE STATE | resume IMAGE STATE TRACE | audit SRC REPORT TRACE\n",
         ],
     );
 }

@@ -10,10 +10,12 @@ use source_report::spelled;
 #[derive(Clone, Copy, Debug, PartialEq, Eq)]
 pub enum Detail<'t> {
     Nothing,
-    /// A name of the text.
+    /// A name of the text, or one that the program gives.
     Name(&'t [u8]),
     /// A count or a number.
     Number(u64),
+    /// An address.
+    Address(u16),
 }
 
 /// Why a text is refused: the line, from 1, or 0 where the fault is of the whole text; the kind; and what is kept.

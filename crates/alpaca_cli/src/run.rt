@@ -1,9 +1,8 @@
 //! `run IMAGE TRACE`: the report of an image's run.
-ghost use Rattle.std.specs.Prelude.{◌≡◌, ◌≤◌, ◌∷◌, [], IfOk, IfErr, length};
+ghost use Rattle.std.specs.Prelude.{◌≡◌, ◌<◌, ◌≤◌, ◌^◌, ◌∷◌, [], IfOk, IfErr, length};
 ghost use Rattle.alp_io.specs.Count.{HasCause};
-ghost use Rattle.fram_board.specs.Board.{fresh};
 ghost use Rattle.board_run.specs.History.{start_of};
-ghost use Rattle.alpaca_cli.specs.RunReport.{IsRunReport};
+ghost use Rattle.alpaca_cli.specs.RunReport.{IsReportFrom};
 ghost use Rattle.alp_io.specs.Shelf.{NeverFall};
 ghost use Rattle.alpaca_cli.specs.Calls as call;
 ghost use Rattle.alpaca_cli.specs.Ends.{ending_of, WritesRun};
@@ -37,18 +36,17 @@ pub enum RunEnding {
     AtFault,
 }
 
-// Writes the lines of a run of a board that is new from the image.
+// Writes the lines of a board's run.
 fn write_lines<S: Sink>(
     report: &mut Report<'_, S>,
-    image: &Image,
     trace: &Trace,
     board: &mut Board,
     watch: &mut Watch<'_>,
 ) -> Result<RunEnding, Failed>
-    requires board { board.old ≡ fresh image.now.words trace.now.readings }
-    requires watch { watch.old ≡ start_of image.now }
+    requires accepted { board.old.receiver.accepted < 2 ^ 63 }
+    requires repeats { board.old.receiver.repeats < 2 ^ 63 }
     ensures same_sink { report.new.sink.ghost_name ≡ report.old.sink.ghost_name }
-    ensures bytes { WritesRun image.now trace.now (S.contents report.old.sink.now) (S.contents report.new.sink.now) result }
+    ensures bytes { WritesRun board.old watch.old trace.now (S.contents report.old.sink.now) (S.contents report.new.sink.now) result }
     ensures cause { HasCause (S.faults report.old.sink.now) (S.faults report.new.sink.now) result }
 {
     match run(board, trace, watch, report) {
@@ -59,83 +57,84 @@ fn write_lines<S: Sink>(
     }
 }
 
-// Writes the report of a run of a board that is new from the image, each line by a write of its own.
+// Writes the report of a board's run, each line by a write of its own.
 fn write_by_line<S: Sink>(
     out: &mut S,
-    image: &Image,
     trace: &Trace,
     board: &mut Board,
     watch: &mut Watch<'_>,
 ) -> Result<RunEnding, Failed>
-    requires board { board.old ≡ fresh image.now.words trace.now.readings }
-    requires watch { watch.old ≡ start_of image.now }
-    ensures bytes { WritesRun image.now trace.now (S.contents out.old) (S.contents out.new) result }
+    requires accepted { board.old.receiver.accepted < 2 ^ 63 }
+    requires repeats { board.old.receiver.repeats < 2 ^ 63 }
+    ensures bytes { WritesRun board.old watch.old trace.now (S.contents out.old) (S.contents out.new) result }
     ensures cause { HasCause (S.faults out.old) (S.faults out.new) result }
 {
     let mut report = Report::new(out);
-    write_lines(&mut report, image, trace, board, watch)
+    write_lines(&mut report, trace, board, watch)
 }
 
-// Writes the report of a run of a board that is new from the image through a buffer before the output, which is given back.
+// Writes the report of a board's run through a buffer before the output, which is given back.
 fn write_through<'a, O: Sink, P: Origin>(
     out: &'a mut O,
-    image: &Image,
     trace: &Trace,
     board: &mut Board,
     watch: &mut Watch<'_>,
 ) -> (&'a mut O, Result<RunEnding, Failed>)
     requires place { out.ghost_name ≡ P.place }
     requires contents { O.contents out.old ≡ P.contents }
-    requires board { board.old ≡ fresh image.now.words trace.now.readings }
-    requires watch { watch.old ≡ start_of image.now }
+    requires accepted { board.old.receiver.accepted < 2 ^ 63 }
+    requires repeats { board.old.receiver.repeats < 2 ^ 63 }
     ensures same_sink { result.0.ghost_name ≡ out.entry.ghost_name }
-    ensures bytes { WritesRun image.now trace.now (O.contents out.old) (O.contents result.0.now) result.1 }
+    ensures bytes { WritesRun board.old watch.old trace.now (O.contents out.old) (O.contents result.0.now) result.1 }
     ensures cause { HasCause (O.faults out.old) (O.faults result.0.now) result.1 }
 {
     let mut lines = BufferedSink::<O, P>::new(out);
-    let written = write_by_line(&mut lines, image, trace, board, watch);
+    let written = write_by_line(&mut lines, trace, board, watch);
     lines.finish(written)
 }
 
-/// Writes the report of a run of a board that is new from the image. Takes no memory.
+/// Writes the report of a board's run, told from what its watch knows. Takes no memory.
 pub fn write_report<O: Sink>(
     out: &mut O,
-    image: &Image,
     trace: &Trace,
     board: &mut Board,
     watch: &mut Watch<'_>,
 ) -> Result<RunEnding, Failed>
-    requires board { board.old ≡ fresh image.now.words trace.now.readings }
-    requires watch { watch.old ≡ start_of image.now }
-    ensures bytes { WritesRun image.now trace.now (O.contents out.old) (O.contents out.new) result }
+    requires accepted { board.old.receiver.accepted < 2 ^ 63 }
+    requires repeats { board.old.receiver.repeats < 2 ^ 63 }
+    ensures bytes { WritesRun board.old watch.old trace.now (O.contents out.old) (O.contents out.new) result }
     ensures cause { HasCause (O.faults out.old) (O.faults out.new) result }
 {
-    let (_, result) = write_through::<O, Brand>(out, image, trace, board, watch);
+    let (_, result) = write_through::<O, Brand>(out, trace, board, watch);
     result
 }
 
-/// Writes the whole report, once all memory is taken.
-fn write_run<'t, O: Sink>(
+/// Writes the whole report of a board's run, told from the image that the board has, once all memory is taken.
+///
+/// # Errors
+/// `Memory` where memory was refused; nothing is written then. `Write` where a write failed, and the output gained a proper prefix of the
+/// report.
+pub fn write_run<'t, O: Sink>(
     alloc: Global,
     out: &mut O,
+    board: &mut Board,
     image: &Image,
     trace: &Trace,
 ) -> Result<RunEnding, Failure<'t>>
+    requires accepted { board.old.receiver.accepted < 2 ^ 63 }
+    requires repeats { board.old.receiver.repeats < 2 ^ 63 }
     ensures faults { O.faults out.old ≤ O.faults out.new }
     ensures whole { IfOk result (λ ending. Gains
         (record { old = O.contents out.old; new = O.contents out.new; faults_old = O.faults out.old; faults_new = O.faults out.new })
-        (IsRunReport image.now trace.now (ending_of ending))) }
+        (IsReportFrom board.old (start_of image.now) trace.now (ending_of ending))) }
     ensures failure { IfErr result (λ e. FailsWriting e
         (record { old = O.contents out.old; new = O.contents out.new; faults_old = O.faults out.old; faults_new = O.faults out.new })
-        (λ output. (ending : Ending) × IsRunReport image.now trace.now ending output)) }
+        (λ output. (ending : Ending) × IsReportFrom board.old (start_of image.now) trace.now ending output)) }
 {
-    let Ok(mut board) = Board::new(alloc, image, trace.readings()) else {
-        return Err(Failure::Memory);
-    };
     let Ok(mut watch) = Watch::new(alloc, image) else {
         return Err(Failure::Memory);
     };
-    match write_report(out, image, trace, &mut board, &mut watch) {
+    match write_report(out, trace, board, &mut watch) {
         Ok(ending) => Ok(ending),
         Err(Failed) => Err(Failure::Write),
     }
@@ -164,7 +163,10 @@ pub fn run_texts<'t, O: Sink>(
 {
     let image = image_of(alloc, names.0, image)?;
     let trace = trace_of(alloc, names.1, trace)?;
-    write_run(alloc, out, &image, &trace)
+    let Ok(mut board) = Board::new(alloc, &image, trace.readings()) else {
+        return Err(Failure::Memory);
+    };
+    write_run(alloc, out, &mut board, &image, &trace)
 }
 
 fn run_of<O: Sink, E: Sink>(

@@ -1,11 +1,9 @@
 //! `try SRC TRACE IMAGE`: the image of a source, put as an image text, and the report of its run on the trace.
-ghost use Rattle.std.specs.Prelude.{◌≡◌, ◌≤◌, ◌∷◌, [], ℕ, List, IfOk, IfErr, length};
-ghost use Rattle.fram_board.specs.Board.{fresh};
-ghost use Rattle.board_run.specs.History.{start_of};
+ghost use Rattle.std.specs.Prelude.{◌≡◌, ◌<◌, ◌≤◌, ◌^◌, ◌∷◌, [], ℕ, List, IfOk, IfErr, length};
 ghost use Rattle.alp_io.specs.Shelf.{NeverFall};
 ghost use Rattle.alpaca_cli.specs.Calls as call;
 ghost use Rattle.alpaca_cli.specs.Ending.{Ending, well};
-ghost use Rattle.alpaca_cli.specs.RunReport.{IsRunReport};
+ghost use Rattle.alpaca_cli.specs.RunReport.{IsReportFrom};
 ghost use Rattle.alpaca_cli.specs.Answers.{CommandAnswers, IsWhole, TextAnswers};
 ghost use Rattle.alpaca_cli.specs.Outcomes.{Breaks, FailsBy, Gains};
 
@@ -22,29 +20,27 @@ use alp_io::{Failed, Shelf, Sink};
 use board_run::Watch;
 use energy_trace::Trace;
 use fram_board::Board;
-use image_text::Image;
 use std::alloc::Global;
 
-// Writes the report of a run that ends well. Takes no memory.
+// Writes the report of a board's run that ends well. Takes no memory.
 fn write_trial<O: Sink>(
     out: &mut O,
-    image: &Image,
     trace: &Trace,
     board: &mut Board,
     watch: &mut Watch<'_>,
 ) -> Result<(), Failed>
-    requires board { board.old ≡ fresh image.now.words trace.now.readings }
-    requires watch { watch.old ≡ start_of image.now }
-    requires ends_well { (ending : Ending) (output : List ℕ) → IsRunReport image.now trace.now ending output → ending ≡ well }
+    requires accepted { board.old.receiver.accepted < 2 ^ 63 }
+    requires repeats { board.old.receiver.repeats < 2 ^ 63 }
+    requires ends_well { (ending : Ending) (output : List ℕ) → IsReportFrom board.old watch.old trace.now ending output → ending ≡ well }
     ensures faults { O.faults out.old ≤ O.faults out.new }
     ensures whole { IfOk result (λ _. Gains
         (record { old = O.contents out.old; new = O.contents out.new; faults_old = O.faults out.old; faults_new = O.faults out.new })
-        (IsRunReport image.now trace.now well)) }
+        (IsReportFrom board.old watch.old trace.now well)) }
     ensures failure { IfErr result (λ _. Breaks
         (record { old = O.contents out.old; new = O.contents out.new; faults_old = O.faults out.old; faults_new = O.faults out.new })
-        (IsRunReport image.now trace.now well)) }
+        (IsReportFrom board.old watch.old trace.now well)) }
 {
-    match write_report(out, image, trace, board, watch)? {
+    match write_report(out, trace, board, watch)? {
         RunEnding::Well => Ok(()),
         RunEnding::AtFault => unreachable!(),
     }
@@ -84,7 +80,7 @@ pub fn try_texts<'t, H: Shelf, O: Sink>(
         return Err(Failure::Memory);
     };
     put_file(alloc, shelf, names.2, built.text.as_slice())?;
-    match write_trial(out, &built.image, &trace, &mut board, &mut watch) {
+    match write_trial(out, &trace, &mut board, &mut watch) {
         Ok(()) => Ok(()),
         Err(Failed) => Err(Failure::Write),
     }

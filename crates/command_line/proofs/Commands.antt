@@ -21,7 +21,7 @@ use Rattle.command_line.specs.CommandLine.{AreTexts, IsLine, Subcommand, all_sai
 use Rattle.command_line.specs.CommandLine.{plain_line_of, said_behind, subcommand_named, subcommands}
 use Rattle.command_line.specs.Commands.{IsPlainLine, NamesCommand, line_found, plain_line, values_of}
 use Rattle.command_line.specs.declared.Command.{Command}
-use Rattle.command_line.specs.declared.Command.TheVariants.{Mean, Try, Build, Run, Asm, Dis, Gen, Save, Audit}
+use Rattle.command_line.specs.declared.Command.TheVariants.{Mean, Try, Build, Run, Asm, Dis, Gen, Save, Resume, Audit}
 use Rattle.command_line.proofs.Files.{files_said, said_length, IsGiven, IsInOrder, built_subcommand, file_row, given_row, more_given, rows_for}
 use Rattle.command_line.proofs.Lines.{Line, all_in_order, has_name, in_order, line_reads, line_says, line_there, named}
 
@@ -110,6 +110,9 @@ subcommand_of_line (Gen number image) name files e =
 subcommand_of_line (Save image trace state) name files e =
     let named : name ≡ codes "save" = ap (λ l. unwrap_or (slice_get l 0) []) (sym e) in
     (record { name = codes "save"; files = codes "IMAGE" ∷ codes "TRACE" ∷ codes "STATE" ∷ [] }, ap subcommand_named named, let all = ap length (sym e) in omega arith)
+subcommand_of_line (Resume image state trace) name files e =
+    let named : name ≡ codes "resume" = ap (λ l. unwrap_or (slice_get l 0) []) (sym e) in
+    (record { name = codes "resume"; files = codes "IMAGE" ∷ codes "STATE" ∷ codes "TRACE" ∷ [] }, ap subcommand_named named, let all = ap length (sym e) in omega arith)
 subcommand_of_line (Audit source report trace) name files e =
     let named : name ≡ codes "audit" = ap (λ l. unwrap_or (slice_get l 0) []) (sym e) in
     (record { name = codes "audit"; files = codes "SRC" ∷ codes "REPORT" ∷ codes "TRACE" ∷ [] }, ap subcommand_named named, let all = ap length (sym e) in omega arith)
@@ -212,7 +215,10 @@ all_have_lines = (
               number_and_file,
               (
                 of_files (of_names (codes "save") (codes "IMAGE" ∷ codes "TRACE" ∷ codes "STATE" ∷ [])) refl (three (codes "save") Save (λ a b d. refl)),
-                (of_files (of_names (codes "audit") (codes "SRC" ∷ codes "REPORT" ∷ codes "TRACE" ∷ [])) refl (three (codes "audit") Audit (λ a b d. refl)), tt),
+                (
+                  of_files (of_names (codes "resume") (codes "IMAGE" ∷ codes "STATE" ∷ codes "TRACE" ∷ [])) refl (three (codes "resume") Resume (λ a b d. refl)),
+                  (of_files (of_names (codes "audit") (codes "SRC" ∷ codes "REPORT" ∷ codes "TRACE" ∷ [])) refl (three (codes "audit") Audit (λ a b d. refl)), tt),
+                ),
               ),
             ),
           ),

@@ -86,6 +86,15 @@ pub enum Command<'a> {
         /// The file that is to hold the state.
         state: &'a str,
     },
+    /// `resume IMAGE STATE TRACE`: a run of the board that goes on from a saved state of the image.
+    Resume {
+        /// The file of the image.
+        image: &'a str,
+        /// The file of the state.
+        state: &'a str,
+        /// The file of the trace.
+        trace: &'a str,
+    },
     /// `audit SRC REPORT TRACE`: whether the source could have told the report on the trace's readings.
     Audit {
         /// The file of the source.
@@ -180,6 +189,14 @@ fn command_named<'a>(name: &str, files: &ArgMatches<'a>) -> Option<Command<'a>>
                 image,
                 trace,
                 state,
+            })
+        }
+        "resume" => {
+            let (image, state, trace) = three_files(files, "IMAGE", "STATE", "TRACE")?;
+            Some(Command::Resume {
+                image,
+                state,
+                trace,
             })
         }
         "audit" => {
@@ -376,5 +393,6 @@ fn alpaca_command<'a>(alloc: Global) -> Result<clap::Command<'a>, AllocError>
     let command = with_one_file(alloc, command, "dis", "IMAGE")?;
     let command = with_two_files(alloc, command, "gen", "N", "IMAGE")?;
     let command = with_three_files(alloc, command, "save", "IMAGE", "TRACE", "STATE")?;
+    let command = with_three_files(alloc, command, "resume", "IMAGE", "STATE", "TRACE")?;
     with_three_files(alloc, command, "audit", "SRC", "REPORT", "TRACE")
 }

@@ -18,6 +18,7 @@ returns c =
     let e6 = c.in_ok-command-6.ensures.app ∙ ap (added (codes "dis") (codes "IMAGE" ∷ [])) e5 in
     let e7 = c.in_ok-command-7.ensures.app ∙ ap (added (codes "gen") (codes "N" ∷ codes "IMAGE" ∷ [])) e6 in
     let e8 = c.in_ok-command-8.ensures.app ∙ ap (added (codes "save") (codes "IMAGE" ∷ codes "TRACE" ∷ codes "STATE" ∷ [])) e7 in
-    let whole : added (codes "audit") (codes "SRC" ∷ codes "REPORT" ∷ codes "TRACE" ∷ []) (app_of c.in_ok-command-8.command) ≡ alpaca_app =
-    ap (added (codes "audit") (codes "SRC" ∷ codes "REPORT" ∷ codes "TRACE" ∷ [])) e8 in
-    subst (λ (a : App). IfOk c.with_three_files-3.result (IsCommand a)) whole c.with_three_files-3.ensures
+    let e9 = c.in_ok-command-9.ensures.app ∙ ap (added (codes "resume") (codes "IMAGE" ∷ codes "STATE" ∷ codes "TRACE" ∷ [])) e8 in
+    let whole : added (codes "audit") (codes "SRC" ∷ codes "REPORT" ∷ codes "TRACE" ∷ []) (app_of c.in_ok-command-9.command) ≡ alpaca_app =
+    ap (added (codes "audit") (codes "SRC" ∷ codes "REPORT" ∷ codes "TRACE" ∷ [])) e9 in
+    subst (λ (a : App). IfOk c.with_three_files-4.result (IsCommand a)) whole c.with_three_files-4.ensures

@@ -1,5 +1,6 @@
 use Rattle.alpaca_cli.proofs.Answered.{complete_told}
 use Rattle.alpaca_cli.proofs.FaultLaws.{only_runs_fault, only_audits_differ}
+use Rattle.alpaca_cli.proofs.NotRefused.{TextsExclude}
 use Rattle.alpaca_cli.proofs.ShelfLaws.{others_stand}
 use Rattle.alpaca_cli.proofs.SourceLaws.{sources_exclude}
 use Rattle.alpaca_cli.proofs.command.alpaca.Goals as goal
@@ -15,4 +16,5 @@ returns-clause-only_audits_differ g c = only_audits_differ _ _ _ _ _ c.answer.en
 
 pub returns-clause-complete : goal.returns-clause-complete
 returns-clause-complete g c =
-    complete_told c.board_has_one_run.ensures.unique (sources_exclude c.one_answer.ensures) _ _ _ _ _ _ _ _ c.answer.ensures.answers
+    let exclude : TextsExclude = record { sources = sources_exclude c.one_answer.ensures; states = c.answers_are_one.ensures } in
+    complete_told c.board_has_one_run.ensures.unique exclude _ _ _ _ _ _ _ _ c.answer.ensures.answers

@@ -39,6 +39,10 @@ pub returns-in-Ok-Save-clause-answers : goal.returns-in-Ok-Save-clause-answers
 returns-in-Ok-Save-clause-answers g c =
     on_line _ (call.save _ _ _) _ _ _ _ (record { number = tt; line = c.in-Ok-Save.ensures.command ∙ ap (λ x. Some (plain_line x)) c.in-Ok-Save.field-0-is }) c.answer_save.ensures.answers
 
+pub returns-in-Ok-Resume-clause-answers : goal.returns-in-Ok-Resume-clause-answers
+returns-in-Ok-Resume-clause-answers g c =
+    on_line _ (call.resume _ _ _) _ _ _ _ (record { number = tt; line = c.in-Ok-Resume.ensures.command ∙ ap (λ x. Some (plain_line x)) c.in-Ok-Resume.field-0-is }) c.answer_resume.ensures.answers
+
 pub returns-in-Ok-Audit-clause-answers : goal.returns-in-Ok-Audit-clause-answers
 returns-in-Ok-Audit-clause-answers g c =
     on_line _ (call.audit _ _ _) _ _ _ _ (record { number = tt; line = c.in-Ok-Audit.ensures.command ∙ ap (λ x. Some (plain_line x)) c.in-Ok-Audit.field-0-is }) c.answer_audit.ensures.answers

@@ -1,7 +1,8 @@
-use Rattle.std.proofs.Common.{refl}
+use Rattle.std.proofs.Common.{◌∙◌, ap, refl}
+use Rattle.fram_board.specs.Board.{fresh}
 use Rattle.alpaca_cli.specs.Products.{the_image, the_trace}
 use Rattle.alpaca_cli.proofs.UnreadFiles.{handed_on}
-use Rattle.alpaca_cli.proofs.FailureLaws.{refusal_fails, run_whole, run_fails}
+use Rattle.alpaca_cli.proofs.FailureLaws.{refusal_fails, report_whole, report_fails, run_product}
 use Rattle.alpaca_cli.proofs.run.run_texts.Goals as goal
 
 pub returns-in_err-image-clause-failure : goal.returns-in_err-image-clause-failure
@@ -15,7 +16,11 @@ returns-in_err-trace-clause-failure g c =
     (λ shelf stands. refusal_fails _ _ _ _ _ 1 _ _ refl (λ r no. the_trace _ r c.in_ok-image.ensures.said no) stands refl c.in_err-trace.ensures.refused)
 
 pub returns-clause-whole : goal.returns-clause-whole
-returns-clause-whole g c = run_whole _ _ _ _ _ _ _ _ c.in_ok-image.ensures.said c.in_ok-trace.ensures.said c.write_run.ensures.whole
+returns-clause-whole g c =
+    let is_board = c.in-Ok.ensures ∙ ap (fresh c.in_ok-image.image.words) c.readings.ensures.value in
+    report_whole _ _ _ _ _ _ _ refl (run_product _ _ _ _ _ _ _ c.in_ok-image.ensures.said c.in_ok-trace.ensures.said is_board) c.write_run.ensures.whole
 
 pub returns-clause-failure : goal.returns-clause-failure
-returns-clause-failure g c = run_fails _ _ _ _ _ _ _ _ c.in_ok-image.ensures.said c.in_ok-trace.ensures.said c.write_run.ensures.failure
+returns-clause-failure g c =
+    let is_board = c.in-Ok.ensures ∙ ap (fresh c.in_ok-image.image.words) c.readings.ensures.value in
+    report_fails _ _ _ _ _ _ _ refl (run_product _ _ _ _ _ _ _ c.in_ok-image.ensures.said c.in_ok-trace.ensures.said is_board) c.write_run.ensures.failure

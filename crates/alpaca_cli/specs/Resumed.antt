@@ -1,0 +1,45 @@
+-- What `resume` makes of its texts: the report of the run that goes on from a state; and why a state is refused.
+use Rattle.std.specs.Prelude.{◌≡◌, ℕ, List, codes, Ok, Err}
+use Rattle.energy_trace.specs.TraceValue.{TraceValue}
+use Rattle.energy_trace.specs.Reading.{trace_of}
+use Rattle.image_text.specs.ImageValue.{ImageValue}
+use Rattle.image_text.specs.Reading.{image_of}
+use Rattle.state_text.specs.declared.state.State.{State}
+use Rattle.state_text.specs.Reading.{state_of}
+use Rattle.fram_state.specs.declared.fault.StateFault.{StateFault}
+use Rattle.fram_state.specs.declared.fault.StateFault.TheVariants.{OtherMap, OtherWord, Unsound}
+use Rattle.fram_state.specs.Belongs.{Belongs, IsAnswer}
+use Rattle.fram_state.specs.Rules.{rule_name}
+use Rattle.board_run.specs.History.{start_of}
+use Rattle.alpaca_cli.specs.Ending.{Ending}
+use Rattle.alpaca_cli.specs.Refusals.{Detail, Refusal, name, address}
+use Rattle.alpaca_cli.specs.RunReport.{IsReportFrom}
+use Rattle.alpaca_cli.specs.Saved.{from_state}
+
+-- The texts are an image, a state that belongs to it, and a trace. This is the report of the run of the board that goes on from the
+-- state, on the trace, and that run ends so.
+pub record Resumes (image state trace : List ℕ) (ending : Ending) (output : List ℕ) : Type 0 where
+  pub value : ImageValue
+  pub saved : State
+  pub charges : TraceValue
+  pub image_said : image_of image ≡ Ok value
+  pub state_said : state_of state ≡ Ok saved
+  pub trace_said : trace_of trace ≡ Ok charges
+  pub belongs : Belongs value saved
+  pub report : IsReportFrom (from_state saved charges) (start_of saved.image) charges ending output
+
+-- ---- a state that is refused
+
+-- a refusal of a whole state, which keeps this
+abbrev pub of_state : List ℕ → Detail → Refusal
+of_state kind detail = record { line = 0; kind = kind; detail = detail }
+
+-- what is told of a state that a board may not go on from
+abbrev pub state_refusal : StateFault → Refusal
+state_refusal OtherMap = of_state (codes "OtherImage") (name (codes "map"))
+state_refusal (OtherWord a) = of_state (codes "OtherImage") (address a)
+state_refusal (Unsound rule) = of_state (codes "Unsound") (name (rule_name rule))
+
+-- a state doesn't belong to an image, and is refused so
+abbrev pub RefusesOther : ImageValue → State → Refusal → Type 0
+RefusesOther image s r = (fault : StateFault) × IsAnswer image s (Err fault) × (r ≡ state_refusal fault)
