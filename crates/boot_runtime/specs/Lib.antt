@@ -19,3 +19,4 @@ pub use Rattle.privatise.specs.cost_bound as cost_bound
 pub use Rattle.privatise.specs.war_analysis as war_analysis
 pub use Rattle.privatise.specs as privatise
 pub use Rattle.runtime_code.specs as runtime_code
+pub use Rattle.privatise.specs.path_sums as path_sums

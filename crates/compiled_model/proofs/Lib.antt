@@ -10,3 +10,6 @@ pub use Rattle.lower.proofs as lower
 pub use Rattle.linked_code.proofs.runtime_code as runtime_code
 pub use Rattle.linked_code.proofs.boot_runtime as boot_runtime
 pub use Rattle.linked_code.proofs as linked_code
+pub use Rattle.linked_code.proofs.runtime_effects as runtime_effects
+pub use Rattle.linked_code.proofs.path_sums as path_sums
+pub use Rattle.lower.proofs.path_runs as path_runs

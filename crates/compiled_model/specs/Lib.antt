@@ -28,3 +28,5 @@ pub use Rattle.linked_code.specs.runtime_code as runtime_code
 pub use Rattle.linked_code.specs.commit_runtime as commit_runtime
 pub use Rattle.linked_code.specs.boot_runtime as boot_runtime
 pub use Rattle.linked_code.specs as linked_code
+pub use Rattle.linked_code.specs.path_sums as path_sums
+pub use Rattle.lower.specs.path_runs as path_runs

@@ -11,7 +11,7 @@ use Rattle.compiled_model.specs.cost_bound.Allowance.{CheckedProgram, CheckedTas
 use Rattle.compiled_model.specs.war_analysis.PlanValue.{TaskPlanValue}
 use Rattle.compiled_model.specs.war_analysis.Plans.{IsPrivateIn, IsArrayAt}
 use Rattle.compiled_model.proofs.war_analysis.Interface.{element}
-use Rattle.path_sums.proofs.Interface.{private_is, is_private_of}
+use Rattle.compiled_model.proofs.path_sums.Interface.{private_is, is_private_of}
 use Rattle.compiled_model.specs.task_ast.declared.names.Variable.TheVariants.{Shared}
 use Rattle.compiled_model.specs.lower.Seen.{some_path_writes, places_seen, map_seen}
 use Rattle.compiled_model.proofs.lower.Interface.{scalar_seen}

@@ -2,7 +2,7 @@
 use Rattle.std.proofs.Common.{◌≡◌, ℕ, zero, suc, ◌+◌, ◌==◌, Bool, true, false, ◌&&◌, ◌||◌, not, List, [], ◌∷◌, Option, Some, None, refl, sym, ap, ◌∙◌, subst, ⊎_elim, ◌⊎◌, arith, eq-eqb}
 use Rattle.std.specs.Prelude.{slice_get, ◌↔◌}
 use Rattle.std.proofs.lemmas.Bool.{or_cases, or_left, or_right, and_parts, and_from, eqb-true, not-true, cases_Bool}
-use Rattle.path_sums.proofs.Interface.{some_writes, writes_some, private_is, is_private_of}
+use Rattle.compiled_model.proofs.path_sums.Interface.{some_writes, writes_some, private_is, is_private_of}
 use Rattle.compiled_model.specs.path_sums.Access.{writes, SomePath, IsPrivate}
 use Rattle.compiled_model.specs.task_ast.declared.names.Variable.TheVariants.{Shared}
 use Rattle.compiled_model.specs.cost_bound.Counts.{Code}

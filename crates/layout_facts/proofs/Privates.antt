@@ -18,7 +18,7 @@ use Rattle.compiled_model.specs.boot_runtime.Listing.{TaskEntry, privates_in}
 use Rattle.compiled_model.specs.stands_for.Layout.{IsSharedWord, IsCopyWord, IsAmong, ArePrivate}
 use Rattle.compiled_model.specs.task_ast.declared.names.Variable.TheVariants.{Shared}
 use Rattle.compiled_model.specs.source_values.Runs.{body_of, task_body}
-use Rattle.path_sums.proofs.Interface.{is_private_of}
+use Rattle.compiled_model.proofs.path_sums.Interface.{is_private_of}
 use Rattle.compiled_model.specs.Places.{is_private_in, stays_in_place, program_places}
 use Rattle.layout_facts.specs.Facts.{HasLayout, IsTaskAt}
 use Rattle.layout_facts.specs.Laws.{PrivatesAreTheirs, ScalarsStand}

@@ -19,3 +19,5 @@ pub use Rattle.whole_programs.specs as whole_programs
 pub use Rattle.compiled_model.specs.runtime_code as runtime_code
 pub use Rattle.compiled_model.specs.boot_runtime as boot_runtime
 pub use Rattle.compiled_model.specs as compiled_model
+pub use Rattle.compiled_model.specs.path_sums as path_sums
+pub use Rattle.compiled_model.specs.path_runs as path_runs

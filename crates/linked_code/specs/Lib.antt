@@ -24,3 +24,4 @@ pub use Rattle.codegen.specs as codegen
 pub use Rattle.boot_runtime.specs.runtime_code as runtime_code
 pub use Rattle.commit_runtime.specs as commit_runtime
 pub use Rattle.boot_runtime.specs as boot_runtime
+pub use Rattle.boot_runtime.specs.path_sums as path_sums

@@ -18,3 +18,5 @@ pub use Rattle.memory_map.proofs as memory_map
 pub use Rattle.cost_bound.proofs.task_lex as task_lex
 pub use Rattle.task_check.proofs as task_check
 pub use Rattle.source_values.proofs as source_values
+pub use Rattle.path_sums.proofs as path_sums
+pub use Rattle.path_runs.proofs as path_runs

@@ -1,9 +1,9 @@
 -- A run that goes on shows that some path goes on.
 use Rattle.std.proofs.Common.{◌≡◌, ℕ, zero, suc, ◌+◌, ◌-◌, ◌==◌, List, [], ◌∷◌, ◌++◌, Bool, true, false, ◌&&◌, ◌||◌, Option, Some, None, refl, subst, if◌then◌else◌}
 use Rattle.std.proofs.lemmas.Bool.{or_left, or_right}
-use Rattle.task_ast.specs.Tree as t
-use Rattle.task_ast.specs.declared.names.Variable.{Variable}
-use Rattle.task_ast.specs.Paths.{CheckedStatement, CheckedChoice, CheckedBlock}
+use Rattle.source_values.specs.task_ast.Tree as t
+use Rattle.source_values.specs.task_ast.declared.names.Variable.{Variable}
+use Rattle.source_values.specs.task_ast.Paths.{CheckedStatement, CheckedChoice, CheckedBlock}
 use Rattle.source_values.specs.Values.{value_of, holds}
 use Rattle.source_values.specs.Statements.{Attempt, Outcome, goes_on, to_task, short, and_then, if_value, assigned, turns, run_statement, run_choice, run_block}
 use Rattle.path_sums.specs.Reaches.{statement_falls_through, choice_falls_through, block_falls_through}

@@ -1,8 +1,8 @@
 -- What the paths of a block tell of its runs.
 use Rattle.std.specs.Prelude.{◌≡◌, ℕ, true, false}
-use Rattle.task_ast.specs.Tree as t
-use Rattle.task_ast.specs.Paths.{CheckedStatement, CheckedChoice, CheckedBlock}
-use Rattle.task_ast.specs.declared.names.Variable.TheVariants.{Shared}
+use Rattle.source_values.specs.task_ast.Tree as t
+use Rattle.source_values.specs.task_ast.Paths.{CheckedStatement, CheckedChoice, CheckedBlock}
+use Rattle.source_values.specs.task_ast.declared.names.Variable.TheVariants.{Shared}
 use Rattle.path_sums.specs.Access.{is_same, writes, SomePath, IsPrivate}
 use Rattle.path_sums.specs.Reaches.{statement_falls_through}
 use Rattle.source_values.specs.Statements.{Attempt, goes_on, assigned, run_statement, run_block}

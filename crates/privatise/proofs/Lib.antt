@@ -5,3 +5,4 @@ mod Whole
 mod Tight
 mod Unique
 pub use Rattle.war_analysis.proofs as war_analysis
+pub use Rattle.war_analysis.proofs.path_sums as path_sums

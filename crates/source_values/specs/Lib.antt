@@ -5,3 +5,5 @@ pub mod Runs
 pub mod View
 pub mod WorkedRows
 pub use Rattle.task_ast.specs.alp_text as alp_text
+pub use Rattle.alp_words.specs as alp_words
+pub use Rattle.task_ast.specs as task_ast

@@ -11,7 +11,7 @@ use Rattle.layout_facts.proofs.lower.Interface.{takes_append, after_entry, enter
 use Rattle.layout_facts.specs.memory_map.MemoryMap.{word_place}
 use Rattle.layout_facts.specs.memory_map.declared.words.RuntimeWord.TheVariants.{NextTask, Gate, ListLength, SentBase}
 use Rattle.layout_facts.specs.runtime_effects.Places.{run_pairs, entries_from}
-use Rattle.runtime_effects.proofs.Interface.{entries_alike}
+use Rattle.layout_facts.proofs.runtime_effects.Interface.{entries_alike}
 use Rattle.layout_facts.specs.lower.declared.runs.Run.{Run}
 use Rattle.layout_facts.specs.lower.Runs.{runs_of}
 use Rattle.layout_facts.specs.memory_map.Spots.{Places}

@@ -1,9 +1,9 @@
 -- What the proofs take of a source with its layout.
 use Rattle.std.specs.Prelude.{◌≡◌, ℕ, ◌+◌, ◌*◌, ◌<◌, ◌≤◌, true, false, List, [], Contains, length, Some, slice_get, slice_index, slice_index_or}
 use Rattle.layout_facts.specs.cost_bound.declared.allowance.Allow.{Allow}
-use Rattle.path_sums.proofs.Interface.{is_private_of}
+use Rattle.layout_facts.proofs.path_sums.Interface.{is_private_of}
 use Rattle.layout_facts.specs.task_ast.declared.names.Variable.TheVariants.{Shared}
-use Rattle.path_runs.specs.Laws.{NoStoreIn}
+use Rattle.layout_facts.specs.path_runs.Laws.{NoStoreIn}
 use Rattle.layout_facts.specs.cost_bound.Counts.{Code, stores_of}
 use Rattle.layout_facts.specs.cost_bound.Allowance.{CheckedTask}
 use Rattle.layout_facts.specs.war_analysis.PlanValue.{TaskPlanValue}

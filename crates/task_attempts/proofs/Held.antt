@@ -10,13 +10,13 @@ use Rattle.layout_facts.specs.task_ast.Paths.{CheckedStatement, CheckedChoice, C
 use Rattle.layout_facts.specs.task_ast.declared.SharedDeclaration.{SharedDeclaration}
 use Rattle.layout_facts.specs.task_ast.declared.names.Variable.{Variable}
 use Rattle.layout_facts.specs.task_ast.declared.names.Variable.TheVariants.{Shared, Local}
-use Rattle.path_sums.specs.Access.{is_same, writes, SomePath, IsPrivate}
+use Rattle.layout_facts.specs.path_sums.Access.{is_same, writes, SomePath, IsPrivate}
 use Rattle.layout_facts.specs.source_values.Values.{Variables, word_at, with_word}
 use Rattle.layout_facts.specs.source_values.Statements.{Attempt, run_block}
 use Rattle.layout_facts.specs.war_analysis.Plans.{is_scalar, IsScalarAt, IsArrayAt}
 use Rattle.layout_facts.specs.whole_programs.Uses.{IsArrayName, StatementUses, ChoiceUses, BlockUses}
-use Rattle.path_runs.specs.Laws.{NoStoreInStatement, NoStoreInChoice, NoStoreIn}
-use Rattle.path_runs.proofs.Interface.{first_writes_forget}
+use Rattle.layout_facts.specs.path_runs.Laws.{NoStoreInStatement, NoStoreInChoice, NoStoreIn}
+use Rattle.layout_facts.proofs.path_runs.Interface.{first_writes_forget}
 
 -- ---- no element of a scalar is stored to
 

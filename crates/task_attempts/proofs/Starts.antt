@@ -5,7 +5,7 @@ use Rattle.std.proofs.lemmas.Option.{slice_get_within}
 use Rattle.std.specs.Prelude.{Contains, slice_get, slice_index_or}
 use Rattle.layout_facts.specs.machine_effects.World.{World}
 use Rattle.layout_facts.specs.runtime_effects.Places.{entries_from}
-use Rattle.path_sums.proofs.Interface.{is_private_of}
+use Rattle.layout_facts.proofs.path_sums.Interface.{is_private_of}
 use Rattle.layout_facts.specs.cost_bound.Counts.{Code}
 use Rattle.layout_facts.specs.source_values.Values.{Variables, word_at}
 use Rattle.layout_facts.specs.source_values.Statements.{Attempt, run_block}

@@ -3,3 +3,4 @@ mod Steps
 mod Counted
 mod Unique
 pub mod Interface
+pub use Rattle.path_sums.proofs as path_sums

@@ -3,7 +3,7 @@ use Rattle.std.proofs.Common.{◌≡◌, length, ap, arith, true}
 use Rattle.std.proofs.lemmas.List.{length-map}
 use Rattle.std.proofs.lemmas.List.Elements.{All-weaker}
 use Rattle.std.proofs.lemmas.Option.{slice_get_within}
-use Rattle.path_sums.proofs.Interface.{writes_some}
+use Rattle.lower.proofs.path_sums.Interface.{writes_some}
 use Rattle.lower.specs.task_ast.declared.names.Variable.TheVariants.{Shared}
 use Rattle.lower.specs.cost_bound.Counts.{block_assigns}
 use Rattle.privatise.specs.war_analysis.Plans.{IsScalarAt, IsPrivateIn}
