@@ -1,8 +1,7 @@
 //! The program `alpaca`: real files, standard output and standard error.
 #![tactic(auto)]
 
-use alp_io::StdSink;
-use alpaca_cli::answer_arguments;
+use alpaca_cli::{StdSink, answer_arguments};
 use std::process::ExitCode;
 
 fn main(rt: HostRuntime) -> ExitCode {

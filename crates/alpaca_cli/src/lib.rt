@@ -29,6 +29,7 @@ mod status;
 mod traces;
 mod try_;
 
+pub use alp_io::StdSink;
 pub use arguments::answer_arguments;
 pub use command::alpaca;
 pub use laws::printed_reports_are_good;

@@ -1,8 +1,7 @@
 //! The program `alpaca` on a source that is refused: what it tells goes to standard output, where a stored run holds it.
 #![tactic(auto)]
 
-use alp_io::StdSink;
-use alpaca_cli::answer_arguments;
+use alpaca_cli::{StdSink, answer_arguments};
 use std::process::ExitCode;
 
 fn main(rt: HostRuntime) -> ExitCode {

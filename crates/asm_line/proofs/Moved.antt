@@ -4,7 +4,7 @@ use Rattle.std.specs.Prelude.{is_some}
 use Rattle.std.specs.Prelude.{codes}
 use Rattle.std.specs.Str.{str_eq_ignore_ascii_case}
 use Rattle.text_parts.specs.Fields.{fields, no_fields}
-use Rattle.alp_words.specs.declared.Width.{Width}
+use Rattle.msp_isa.specs.alp_words.declared.Width.{Width}
 use Rattle.msp_isa.specs.declared.registers.Reg.{Reg}
 use Rattle.msp_isa.specs.declared.operands.Src.{Src}
 use Rattle.msp_isa.specs.declared.instructions.TwoOp.{TwoOp}

@@ -2,8 +2,8 @@
 use Rattle.std.specs.Prelude.{ℕ, ◌-◌, ◌==◌, ◌&&◌, ◌||◌, Bool, true, false, nat_le, if◌then◌else◌, List, [], ◌∷◌, length, take, slice_index, Option, Some, None, is_some, codes}
 use Rattle.std.specs.Str.{str_eq_ignore_ascii_case}
 use Rattle.text_parts.specs.Fields.{fields, no_fields}
-use Rattle.alp_words.specs.declared.Width.{Width}
-use Rattle.alp_words.specs.declared.Width.TheVariants.{Word, Byte}
+use Rattle.msp_isa.specs.alp_words.declared.Width.{Width}
+use Rattle.msp_isa.specs.alp_words.declared.Width.TheVariants.{Word, Byte}
 use Rattle.msp_isa.specs.declared.operands.Operand.{Operand}
 use Rattle.msp_isa.specs.declared.operands.Src.{Src}
 use Rattle.msp_isa.specs.declared.operands.Src.TheVariants as src

@@ -17,8 +17,7 @@ use crate::tables::{
     CoreText, OneName, OperandText, condition_named, emulated_named, one_named, two_named,
 };
 use crate::values::{Value, is_label};
-use alp_words::Width;
-use msp_isa::{Instr, OneOp, Operand, Src, TwoOp};
+use msp_isa::{Instr, OneOp, Operand, Src, TwoOp, Width};
 use text_parts::is_blank_line;
 
 fn suffix_width(b: u8) -> Option<Width>

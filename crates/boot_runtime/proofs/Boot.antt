@@ -24,7 +24,7 @@ use Rattle.boot_runtime.proofs.Opening.{task_stays, looks_at_version, raises, op
 use Rattle.boot_runtime.proofs.Entering.{ladder_bytes, stub_at, stub_stands, dispatched, copied}
 use Rattle.memory_map.specs.declared.words.RuntimeWord.TheVariants.{CurrentTask, Gate, Version}
 use Rattle.memory_map.specs.MemoryMap.{MemoryMap, word_place}
-use Rattle.address_space.specs.Limits.{stack_top}
+use Rattle.memory_map.specs.address_space.Limits.{stack_top}
 
 -- GATE is 1, or it isn't
 gate_is_one : (n : ℕ) → n ≡ 1 → ((n + 65534 + 1) % 65536 == 0) ≡ true

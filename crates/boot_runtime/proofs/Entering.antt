@@ -17,7 +17,7 @@ use Rattle.runtime_code.proofs.Interface.{straight, one_form, recounted, then_on
 use Rattle.boot_runtime.specs.Listing.{TaskEntry, entry_at, task_found, dispatch, copies_in, stub, stub_bytes, ladder_to, stubs}
 use Rattle.memory_map.specs.declared.words.RuntimeWord.TheVariants.{CurrentTask}
 use Rattle.memory_map.specs.MemoryMap.{MemoryMap, word_place}
-use Rattle.address_space.specs.Limits.{stack_top}
+use Rattle.memory_map.specs.address_space.Limits.{stack_top}
 
 -- where the stub of a task stands
 abbrev pub stub_at : ℕ → List TaskEntry → ℕ → ℕ

@@ -11,7 +11,7 @@ use Rattle.memory_map.specs.MemoryMap.{MemoryMap, word_place}
 use Rattle.runtime_code.specs.runtime_effects.Places.{CopyPair}
 use Rattle.runtime_code.specs.runtime_effects.Stages.{is_at_end, start_effects}
 use Rattle.runtime_code.specs.runtime_effects.Needs.{AreInFram, KeepsTask, ArePairWords}
-use Rattle.address_space.specs.Limits.{stack_top}
+use Rattle.memory_map.specs.address_space.Limits.{stack_top}
 use Rattle.runtime_code.specs.Addresses.{start_address}
 use Rattle.runtime_code.specs.Comes.{Comes, IsAt, Enters}
 use Rattle.memory_map.specs.Places.{IsLaidOut}

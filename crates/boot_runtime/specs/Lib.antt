@@ -2,7 +2,7 @@ pub mod Listing
 pub mod Entries
 pub mod Laws
 pub use Rattle.runtime_code.specs.text_parts as text_parts
-pub use Rattle.address_space.specs as address_space
+pub use Rattle.memory_map.specs.address_space as address_space
 pub use Rattle.memory_map.specs as memory_map
 pub use Rattle.runtime_code.specs.alp_words as alp_words
 pub use Rattle.msp_isa.specs as msp_isa

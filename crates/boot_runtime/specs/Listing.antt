@@ -8,7 +8,7 @@ use Rattle.runtime_code.specs.code_forms.Forms.{Register, Number, Constant, Fram
 use Rattle.memory_map.specs.declared.words.RuntimeWord.TheVariants.{CurrentTask, Gate, ListLength, EmitCount, Version}
 use Rattle.memory_map.specs.MemoryMap.{MemoryMap, word_place}
 use Rattle.runtime_code.specs.runtime_effects.Places.{CopyPair}
-use Rattle.address_space.specs.Limits.{stack_top}
+use Rattle.memory_map.specs.address_space.Limits.{stack_top}
 use Rattle.runtime_code.specs.Counted.{counted}
 
 -- a task as the boot comes to it: its private scalars, and where its code stands

@@ -10,12 +10,11 @@ ghost use Rattle.runtime_code.specs.code_forms.Placed.{instructions};
 ghost use Rattle.boot_runtime.specs.Entries.{task_entries};
 ghost use Rattle.boot_runtime.specs.Listing.{head, end_tested, clearing_begins, clear_loop, version_cleared, counts_set, dispatch, fixed_forms, boot_forms, boot_bytes};
 
-use address_space::STACK_TOP;
 pub use laws::{
     boot_is_short, boot_obeys_the_gate, start_is_made, start_stores_in_fram, starts_are_short,
     tasks_are_entered, version_is_raised,
 };
-use memory_map::{Layout, RuntimeWord};
+use memory_map::{Layout, RuntimeWord, STACK_TOP};
 use msp_isa::{Condition, Dst, IndexRegister, Instr, Konst, Reg, Src};
 use runtime_code::{add, branch, cmp, jump, load, mov, read, set, sub};
 use std::alloc::{AllocError, Global};

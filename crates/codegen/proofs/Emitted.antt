@@ -1,7 +1,7 @@
 -- Code that is appended piece by piece.
 use Rattle.std.proofs.Common.{◌≡◌, ℕ, suc, ◌+◌, ◌-◌, ◌*◌, ◌<◌, ◌≤◌, List, [], ◌∷◌, ◌++◌, length, drop, get_or, sym, ap, ◌∙◌, arith, append_assoc, drop-cons}
 use Rattle.std.proofs.Common.{add-one, rules}
-use Rattle.alp_words.specs.declared.Width.TheVariants.{Word}
+use Rattle.msp_isa.specs.alp_words.declared.Width.TheVariants.{Word}
 use Rattle.msp_isa.specs.declared.instructions.Instr.{Instr}
 use Rattle.msp_isa.specs.declared.instructions.Instr.TheVariants.{Two}
 use Rattle.msp_isa.specs.declared.instructions.TwoOp.{TwoOp}

@@ -1,7 +1,7 @@
 -- The forms of a program's code are instructions: their jumps reach no further than ten bits say.
 use Rattle.std.proofs.Common.{ℕ, zero, suc, ◌+◌, ◌-◌, ◌*◌, ◌==◌, List, [], ◌∷◌, ◌++◌, arith, Bool, true, false, nat_le, nat_lt, if◌then◌else◌}
 use Rattle.code_forms.specs.Forms.{R4, Constant, Number, ToIndexed, Form, Move, Update, Branch, instruction_of}
-use Rattle.alp_words.specs.Words.{word_sum}
+use Rattle.msp_isa.specs.alp_words.Words.{word_sum}
 use Rattle.msp_isa.specs.declared.instructions.TwoOp.TheVariants as op
 use Rattle.msp_isa.specs.declared.operands.Konst.TheVariants as konst
 use Rattle.code_forms.specs.Placed.{instructions, AreInstructions}

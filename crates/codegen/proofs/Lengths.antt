@@ -1,7 +1,7 @@
 -- The code of a program is as long as its words say, wherever it stands.
 use Rattle.std.proofs.Common.{◌≡◌, ℕ, zero, suc, ◌+◌, ◌-◌, ◌*◌, ◌==◌, List, [], ◌∷◌, ◌++◌, length, refl, arith, length-append, Bool, true, false, nat_le, nat_lt}
 use Rattle.std.proofs.Common.{if◌then◌else◌}
-use Rattle.alp_words.specs.Words.{word_sum}
+use Rattle.msp_isa.specs.alp_words.Words.{word_sum}
 use Rattle.msp_isa.specs.declared.instructions.TwoOp.TheVariants as op
 use Rattle.msp_isa.specs.declared.operands.Konst.TheVariants as konst
 use Rattle.msp_isa.specs.Encoding.{encoding}

@@ -3,7 +3,7 @@ use Rattle.std.proofs.Common.{◌≡◌, ℕ, zero, suc, ◌+◌, ◌*◌, ◌/�
 use Rattle.std.proofs.Common.{true, false, eqb-true, if◌then◌else◌, bit_and}
 use Rattle.std.proofs.lemmas.Bool.Decides.{nat_tests}
 use Rattle.std.proofs.lemmas.Nat.{and_mask, and_le_r, mul-mod_first}
-use Rattle.alp_words.specs.Words.{bit}
+use Rattle.msp_isa.specs.alp_words.Words.{bit}
 use Rattle.msp_isa.specs.declared.instructions.Condition.{Condition}
 use Rattle.msp_isa.specs.declared.instructions.Condition.TheVariants as condition
 use Rattle.msp_isa.specs.declared.instructions.TwoOp.TheVariants as op

@@ -4,8 +4,8 @@ use Rattle.std.proofs.Common.{ap₂, ◌∙◌, subst, arith, Bool, true, false,
 use Rattle.std.proofs.lemmas.Bool.Decides.{nat_tests}
 use Rattle.std.proofs.lemmas.Nat.{div-mul-add, mod-mul-add}
 use Rattle.std.proofs.lemmas.Bool.{cases_eq}
-use Rattle.alp_words.specs.Words.{bit, quotient, remainder}
-use Rattle.alp_words.proofs.Interface.{bit_below}
+use Rattle.msp_isa.specs.alp_words.Words.{bit, quotient, remainder}
+use Rattle.msp_isa.proofs.alp_words.Interface.{bit_below}
 use Rattle.msp_isa.specs.declared.instructions.Condition.TheVariants as condition
 use Rattle.msp_isa.specs.declared.instructions.TwoOp.TheVariants as op
 use Rattle.msp_isa.specs.declared.operands.Konst.TheVariants as konst

@@ -1,7 +1,7 @@
 -- What the carry of a comparison says, and the numbers 0 and 1 that are made of it.
 use Rattle.std.proofs.Common.{◌≡◌, ℕ, ◌+◌, ◌-◌, ◌%◌, ◌<◌, ◌==◌, not, refl, ap, arith, Bool, true, false, nat_lt, nat_le, bit_and}
 use Rattle.std.proofs.lemmas.Bool.Decides.{nat_tests}
-use Rattle.alp_words.specs.Words.{bit, biased}
+use Rattle.msp_isa.specs.alp_words.Words.{bit, biased}
 
 pub carry_value : (b : Bool) → (0 + 0 + bit b) % 0x10000 ≡ bit b
 carry_value true = refl

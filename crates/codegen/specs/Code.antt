@@ -7,7 +7,7 @@ use Rattle.msp_isa.specs.declared.operands.Operand.TheVariants as operand
 use Rattle.msp_isa.specs.declared.operands.Konst.TheVariants as konst
 use Rattle.msp_isa.specs.declared.instructions.Condition.TheVariants as condition
 use Rattle.array_versions.specs.msp_step.declared.effect.Modification.TheVariants as change
-use Rattle.alp_words.specs.Words.{word_sum}
+use Rattle.msp_isa.specs.alp_words.Words.{word_sum}
 use Rattle.code_forms.specs.Forms as forms
 use Rattle.code_forms.specs.Forms.{WorkRegister, R4, R5, R6, R7, Register, Number, Constant, Fram, Ram, Indexed, Popped, ToRegister, ToFram, ToRam, ToIndexed, Source, Form, Move, Calculate, Update, Push, Modify, Jump, Branch}
 use Rattle.array_versions.specs.declared.operations.UnaryOperation.{UnaryOperation}

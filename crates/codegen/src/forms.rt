@@ -1,7 +1,7 @@
 //! The instructions that the code is made of.
 
 ghost use Rattle.std.specs.Prelude.{◌≡◌, ℕ, ◌+◌, ◌*◌, ◌<◌};
-ghost use Rattle.alp_words.specs.declared.Width.TheVariants.{Word};
+ghost use Rattle.msp_isa.specs.alp_words.declared.Width.TheVariants.{Word};
 ghost use Rattle.msp_isa.specs.declared.instructions.OneOp.TheVariants as OneOps;
 ghost use Rattle.msp_isa.specs.declared.operands.Src.TheVariants as Srcs;
 ghost use Rattle.msp_isa.specs.declared.operands.Operand.TheVariants as Operands;
@@ -9,11 +9,7 @@ ghost use Rattle.code_forms.specs.Forms.{instruction_of};
 ghost use Rattle.code_forms.specs.Forms as form;
 ghost use Rattle.codegen.specs.Code.{local_address as address_of};
 
-use alp_words::Width;
-use msp_isa::{
-    Condition, Dst, IndexRegister, Instr, Konst, Offset, OneOp, Operand, Reg, SourceRegister, Src,
-    TwoOp,
-};
+use msp_isa::{Condition, Dst, IndexRegister, Instr, Konst, Offset, OneOp, Operand, Reg, SourceRegister, Src, TwoOp, Width};
 
 pub const R4: Src = Src::Operand(Operand::Reg(SourceRegister::Index(IndexRegister::R4)));
 

@@ -7,16 +7,13 @@ ghost use Rattle.array_versions.specs.declared.operations.BinaryOperation.TheVar
 ghost use Rattle.array_versions.specs.Cost.{unary_words, binary_words};
 ghost use Rattle.codegen.specs.Code.{unary_code, unary_middle, unary_result, binary_code, binary_middle, binary_result, carry};
 ghost use Rattle.codegen.specs.Code.{no_carry, differing, bias, divide_middle, push_from, pop_to};
-ghost use Rattle.alp_words.specs.declared.Width.TheVariants.{Word};
+ghost use Rattle.msp_isa.specs.alp_words.declared.Width.TheVariants.{Word};
 ghost use Rattle.msp_isa.specs.declared.instructions.TwoOp.TheVariants as two_op;
 ghost use Rattle.msp_isa.specs.declared.instructions.OneOp.TheVariants as one_op;
 
 use crate::forms::{POPPED, R4, R5, R6, TO_R4, TO_R5, TO_R6, TO_R7, constant, jump, push, two};
-use alp_words::Width;
 use array_versions::{BinaryOperation, UnaryOperation};
-use msp_isa::{
-    Condition, Dst, IndexRegister, Instr, Konst, OneOp, Operand, SourceRegister, Src, TwoOp,
-};
+use msp_isa::{Condition, Dst, IndexRegister, Instr, Konst, OneOp, Operand, SourceRegister, Src, TwoOp, Width};
 use std::alloc::AllocError;
 
 /// Appends the code of an operation on the top of the stack.

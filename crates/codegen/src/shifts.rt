@@ -9,9 +9,8 @@ ghost use Rattle.array_versions.specs.Cost.{shift_words, step_words};
 ghost use Rattle.codegen.specs.Code.{in_r4, repeated, double, halve, right_code, shift_by, shift_middle, shift_code};
 
 use crate::forms::{POPPED, R4, TO_R4, constant, push, two};
-use alp_words::Width;
 use array_versions::ShiftOperation;
-use msp_isa::{IndexRegister, Instr, Konst, OneOp, Operand, SourceRegister, Src, TwoOp};
+use msp_isa::{IndexRegister, Instr, Konst, OneOp, Operand, SourceRegister, Src, TwoOp, Width};
 use std::alloc::AllocError;
 
 const IN_R4: Operand = Operand::Reg(SourceRegister::Index(IndexRegister::R4));

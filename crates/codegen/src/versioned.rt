@@ -6,7 +6,7 @@ ghost use Rattle.msp_isa.specs.declared.operands.Operand.TheVariants as Operands
 ghost use Rattle.msp_isa.specs.declared.registers.IndexRegister.TheVariants as index;
 ghost use Rattle.array_versions.specs.Form.{ArrayOfWords, ListOfWords};
 ghost use Rattle.code_forms.specs.Placed.{instructions};
-ghost use Rattle.alp_words.specs.Words.{word_sum};
+ghost use Rattle.msp_isa.specs.alp_words.Words.{word_sum};
 ghost use Rattle.code_forms.specs.Forms as form;
 ghost use Rattle.codegen.specs.Code.{read_code, mark_code, last_code, end_test, longer_code, next_code, word_code, first_code, copy_code, write_code};
 

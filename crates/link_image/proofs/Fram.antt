@@ -2,7 +2,7 @@
 use Rattle.std.proofs.Common.{◌≡◌, ◌≢◌, ◌∙◌, ◌+◌, ◌*◌, ◌%◌, ◌<◌, ◌≤◌, ◌==◌, ◌&&◌, ℕ, zero, suc, Bool, true, false, cond, if◌then◌else◌, nat_lt, nat_le, List, [], ◌∷◌, map, length, refl, sym, ap, arith, eqb-true, slice_index, slice_set, get_or-set_same, get_or-set_other}
 use Rattle.std.specs.Prelude.{All}
 use Rattle.std.proofs.lemmas.Bool.Decides.{nat_tests}
-use Rattle.address_space.specs.Limits.{fram_first}
+use Rattle.memory_map.specs.address_space.Limits.{fram_first}
 use Rattle.image_text.specs.ImageValue.{place_of}
 use Rattle.linked_code.specs.fram_board.Bus.{is_fram}
 use Rattle.linked_code.specs.machine_effects.Machine.{IsFram, fram_of}

@@ -29,7 +29,7 @@ use Rattle.link_image.specs.Compiled.{IsCompiled}
 use Rattle.link_image.specs.Laws.{fresh_world, IsFreshImage, ImagesAreFresh}
 use Rattle.link_image.proofs.Initial.{initial_rows_are}
 use Rattle.link_image.proofs.States.{finds_state}
-use Rattle.address_space.specs.Limits.{reset_vector}
+use Rattle.memory_map.specs.address_space.Limits.{reset_vector}
 use Rattle.memory_map.specs.declared.words.RuntimeWord.{RuntimeWord}
 use Rattle.memory_map.specs.declared.words.RuntimeWord.TheVariants.{CurrentTask, Gate, Base}
 use Rattle.memory_map.specs.declared.place.Region.{Region}

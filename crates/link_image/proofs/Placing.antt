@@ -10,7 +10,7 @@ use Rattle.linked_code.specs.fram_board.Bus.{is_fram}
 use Rattle.linked_code.specs.machine_effects.Machine.{fram_of}
 use Rattle.task_ast.specs.declared.Extent.TheVariants as extent
 use Rattle.whole_programs.specs.source_values.Runs.{initial_words}
-use Rattle.address_space.specs.Limits.{fram_first, reset_vector}
+use Rattle.memory_map.specs.address_space.Limits.{fram_first, reset_vector}
 use Rattle.memory_map.specs.declared.place.Region.{Region}
 use Rattle.memory_map.specs.declared.place.VariablePlace.{VariablePlace}
 use Rattle.memory_map.specs.declared.place.VariablePlace.TheVariants.{Scalar, Array}

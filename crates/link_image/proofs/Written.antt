@@ -12,7 +12,7 @@ use Rattle.array_versions.specs.Program.{Program}
 use Rattle.array_versions.specs.View.{program_of}
 use Rattle.array_versions.specs.Form.{IsWhole}
 use Rattle.std.proofs.lemmas.List.Elements.{All-head, All-tail}
-use Rattle.address_space.specs.Limits.{reset_vector}
+use Rattle.memory_map.specs.address_space.Limits.{reset_vector}
 use Rattle.array_versions.specs.declared.program.WordProgram.{WordProgram}
 use Rattle.codegen.specs.Code.{repeated}
 use Rattle.memory_map.specs.MemoryMap.{MemoryMap, TaskPlace}

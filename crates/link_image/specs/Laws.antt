@@ -1,6 +1,6 @@
 -- What holds of the image of an accepted source.
 use Rattle.std.specs.Prelude.{◌≡◌, ℕ, List, []}
-use Rattle.address_space.specs.Limits.{reset_vector}
+use Rattle.memory_map.specs.address_space.Limits.{reset_vector}
 use Rattle.linked_code.specs.cost_bound.declared.allowance.Allow.{Allow}
 use Rattle.whole_programs.specs.source_values.Runs.{CheckedProgram, State, first_state}
 use Rattle.source_meaning.specs.Acceptance.{IsAcceptedText}

@@ -1,6 +1,6 @@
 -- The words of a compiled image.
 use Rattle.std.specs.Prelude.{◌≡◌, ◌<◌, ℕ, ◌-◌, ◌/◌, ◌==◌, if◌then◌else◌, List, length, All, slice_index}
-use Rattle.address_space.specs.Limits.{reset_vector}
+use Rattle.memory_map.specs.address_space.Limits.{reset_vector}
 use Rattle.whole_programs.specs.source_values.Runs.{CheckedProgram, initial_rows}
 use Rattle.linked_code.specs.machine_effects.Machine.{IsFram, fram_of}
 use Rattle.linked_code.specs.code_forms.Placed.{words_of}

@@ -1,6 +1,6 @@
 //! The words of the code.
 ghost use Rattle.std.specs.Prelude.{◌≡◌, ◌+◌, ◌-◌, ◌*◌, ◌/◌, ◌%◌, ◌≤◌, ◌++◌, ◌∷◌, [], ℕ, All, IfOk, OnOk, length, map};
-ghost use Rattle.address_space.specs.Limits.{fram_first, reset_vector};
+ghost use Rattle.memory_map.specs.address_space.Limits.{fram_first, reset_vector};
 ghost use Rattle.linked_code.specs.code_forms.Placed.{instructions, words_of};
 ghost use Rattle.array_versions.specs.View.{program_of};
 ghost use Rattle.array_versions.specs.Form.{IsWhole};

@@ -1,6 +1,6 @@
 //! The words of the FRAM.
 ghost use Rattle.std.specs.Prelude.{◌≡◌, ◌+◌, ◌-◌, ◌*◌, ◌/◌, ◌%◌, ◌==◌, ◌≤◌, ℕ, All, length, map, if◌then◌else◌, slice_index};
-ghost use Rattle.address_space.specs.Limits.{fram_first, reset_vector};
+ghost use Rattle.memory_map.specs.address_space.Limits.{fram_first, reset_vector};
 ghost use Rattle.image_text.specs.ImageValue.{zeros};
 ghost use Rattle.linked_code.specs.machine_effects.Machine.{IsFram, fram_of};
 ghost use Rattle.whole_programs.specs.source_values.Runs.{initial_words};
@@ -12,9 +12,8 @@ ghost use Rattle.source_maps.specs.Placing.{ArePlacesOf};
 ghost use Rattle.link_image.specs.Initial.{initial_put};
 ghost use Rattle.link_image.specs.Words.{AreWords};
 
-use address_space::RESET_VECTOR;
 use image_text::Image;
-use memory_map::{Layout, RuntimeWord, VariablePlace};
+use memory_map::{Layout, RESET_VECTOR, RuntimeWord, VariablePlace};
 use task_ast::{Extent, SharedDeclaration};
 
 // Puts a word at an even address of the FRAM.

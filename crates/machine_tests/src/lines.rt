@@ -1,7 +1,6 @@
 //! Each call once.
-use alp_words::Width;
 use asm_line::{fill, offset_to};
-use msp_isa::{Dst, IndexRegister, Instr, Konst, Reg, Src, TwoOp};
+use msp_isa::{Dst, IndexRegister, Instr, Konst, Reg, Src, TwoOp, Width};
 
 #[test]
 fn values_and_offsets(rt: HostRuntime) {

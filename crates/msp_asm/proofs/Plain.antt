@@ -6,8 +6,8 @@ use Rattle.std.proofs.lemmas.Bool.Decides.{nat_tests}
 use Rattle.text_parts.specs.Lines.{without_return}
 use Rattle.text_parts.specs.Hex.{upper_digit, upper_hex}
 use Rattle.text_parts.proofs.Interface.{not_blank, upper_inked, digit_upper}
-use Rattle.alp_words.specs.declared.Width.{Width}
-use Rattle.alp_words.specs.declared.Width.TheVariants.{Word, Byte}
+use Rattle.msp_isa.specs.alp_words.declared.Width.{Width}
+use Rattle.msp_isa.specs.alp_words.declared.Width.TheVariants.{Word, Byte}
 use Rattle.msp_isa.specs.Constant.{constant_value}
 use Rattle.msp_isa.specs.Encoding.{source_row}
 use Rattle.msp_isa.specs.declared.registers.IndexRegister.{IndexRegister}

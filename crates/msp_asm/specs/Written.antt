@@ -1,7 +1,7 @@
 -- The text of an instruction: its core form, with targets and symbolic operands as addresses.
 use Rattle.std.specs.Prelude.{ℕ, ◌+◌, ◌%◌, List, [], ◌++◌, length, codes}
-use Rattle.alp_words.specs.declared.Width.{Width}
-use Rattle.alp_words.specs.declared.Width.TheVariants.{Word, Byte}
+use Rattle.msp_isa.specs.alp_words.declared.Width.{Width}
+use Rattle.msp_isa.specs.alp_words.declared.Width.TheVariants.{Word, Byte}
 use Rattle.msp_isa.specs.Constant.{constant_value}
 use Rattle.msp_isa.specs.Encoding.{source_row}
 use Rattle.msp_isa.specs.declared.registers.IndexRegister.{IndexRegister}

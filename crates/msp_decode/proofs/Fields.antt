@@ -1,8 +1,8 @@
 -- What a first word says of the fields of its instruction.
 use Rattle.std.proofs.Common.{◌≡◌, length-append, ◌⊎◌, inl, inr, ℕ, length, subst, slice_index, ◌+◌, ◌*◌, ◌/◌, ◌%◌, ◌<◌, ◌≤◌, List, [], ◌∷◌, ◌++◌, refl, sym}
 use Rattle.std.proofs.Common.{◌∙◌, ap, arith}
-use Rattle.alp_words.specs.declared.Width.{Width}
-use Rattle.alp_words.specs.declared.Width.TheVariants.{Word, Byte}
+use Rattle.msp_isa.specs.alp_words.declared.Width.{Width}
+use Rattle.msp_isa.specs.alp_words.declared.Width.TheVariants.{Word, Byte}
 use Rattle.msp_isa.specs.declared.instructions.Instr.{Instr}
 use Rattle.msp_isa.specs.declared.instructions.Instr.TheVariants.{Two, One, Jump, Reti}
 use Rattle.msp_isa.specs.declared.instructions.OneOp.TheVariants as one

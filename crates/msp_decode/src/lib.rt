@@ -6,8 +6,7 @@ ghost use Rattle.msp_isa.specs.Encoding.{source_row, byte_bit, encoding, first_w
 
 mod operands;
 
-use alp_words::Width;
-use msp_isa::{Condition, Instr, Offset, OneOp, Src, TwoOp};
+use msp_isa::{Condition, Instr, Offset, OneOp, Src, TwoOp, Width};
 use operands::{destination_at, operand_at, source_at};
 
 /// A word that begins no instruction.

@@ -9,10 +9,9 @@ ghost use Rattle.msp_encode.specs.Fields.{row_of};
 
 mod fields;
 
-use alp_words::Width;
 use arrayvec::ArrayVec;
 use fields::Fields;
-use msp_isa::{Dst, Instr, Konst, OneOp, Operand, Src};
+use msp_isa::{Dst, Instr, Konst, OneOp, Operand, Src, Width};
 
 fn operand_fields(operand: Operand) -> Fields
     ensures { row_of result ≡ operand_row operand }

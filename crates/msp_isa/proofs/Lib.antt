@@ -1,2 +1,3 @@
 mod Numbers
 pub mod Interface
+pub use Rattle.alp_words.proofs as alp_words

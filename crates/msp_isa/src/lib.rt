@@ -6,6 +6,7 @@ mod offset;
 mod operands;
 mod registers;
 
+pub use alp_words::Width;
 pub use instructions::{Condition, Instr, OneOp, TwoOp};
 pub use offset::Offset;
 pub use operands::{Dst, Konst, Operand, Src};

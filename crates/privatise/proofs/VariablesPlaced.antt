@@ -10,7 +10,7 @@ use Rattle.task_ast.specs.declared.Extent.{Extent}
 use Rattle.task_ast.specs.declared.Extent.TheVariants as extent
 use Rattle.task_ast.specs.declared.SharedDeclaration.{SharedDeclaration}
 use Rattle.cost_bound.specs.Allowance.{shared_sum_from, version_part}
-use Rattle.address_space.specs.Limits.{reset_vector}
+use Rattle.memory_map.specs.address_space.Limits.{reset_vector}
 use Rattle.memory_map.specs.declared.place.VariablePlace.{VariablePlace}
 use Rattle.privatise.specs.declared.variables.Free.{Free}
 use Rattle.memory_map.specs.Places.{home_region, copy_regions, version_regions, AreInOrder}

@@ -18,7 +18,7 @@ use Rattle.cost_bound.proofs.Interface.{written_sum}
 use Rattle.war_analysis.specs.PlanValue.{TaskPlanValue}
 use Rattle.war_analysis.specs.Plans.{is_scalar, IsPrivateIn, IsPlan}
 use Rattle.war_analysis.proofs.Interface.{element}
-use Rattle.address_space.specs.Limits.{fram_first, reset_vector}
+use Rattle.memory_map.specs.address_space.Limits.{fram_first, reset_vector}
 use Rattle.memory_map.specs.declared.place.VariablePlace.{VariablePlace}
 use Rattle.memory_map.specs.declared.place.VariablePlace.TheVariants.{Scalar, Array}
 use Rattle.privatise.specs.declared.variables.Free.{Free}

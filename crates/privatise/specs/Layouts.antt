@@ -7,7 +7,7 @@ use Rattle.cost_bound.specs.declared.allowance.Allow.{Allow}
 use Rattle.cost_bound.specs.Counts.{Code}
 use Rattle.cost_bound.specs.Allowance.{CheckedProgram, CheckedTask, is_written, total, words_of}
 use Rattle.war_analysis.specs.PlanValue.{TaskPlanValue}
-use Rattle.address_space.specs.Limits.{fram_first}
+use Rattle.memory_map.specs.address_space.Limits.{fram_first}
 use Rattle.memory_map.specs.declared.place.VariablePlace.{VariablePlace}
 use Rattle.memory_map.specs.declared.place.VariablePlace.TheVariants.{Scalar, Array}
 use Rattle.memory_map.specs.MemoryMap.{MemoryMap, TaskPlace}

@@ -3,7 +3,7 @@ ghost use Rattle.std.specs.Prelude.{◌≡◌, ◌+◌, ◌*◌, ◌%◌, ◌≤
 ghost use Rattle.task_ast.specs.View.{task_of};
 ghost use Rattle.cost_bound.specs.Allowance.{total};
 ghost use Rattle.war_analysis.specs.PlanValue.{TaskPlanValue};
-ghost use Rattle.address_space.specs.Limits.{reset_vector};
+ghost use Rattle.memory_map.specs.address_space.Limits.{reset_vector};
 ghost use Rattle.memory_map.specs.Places.{HasItsPlace};
 ghost use Rattle.privatise.specs.Sizes.{body_words};
 ghost use Rattle.privatise.specs.Placing.{IsScalarPlaceAt, ArePrivates, IsPlacedTask, ArePlacedTasks};

@@ -4,7 +4,7 @@ pub mod Addresses
 pub mod LayoutPlaces
 pub mod Laws
 pub use Rattle.runtime_effects.specs.text_parts as text_parts
-pub use Rattle.alp_words.specs as alp_words
+pub use Rattle.msp_isa.specs.alp_words as alp_words
 pub use Rattle.runtime_effects.specs.msp_cycles as msp_cycles
 pub use Rattle.runtime_effects.specs.msp_step as msp_step
 pub use Rattle.runtime_effects.specs.image_map as image_map

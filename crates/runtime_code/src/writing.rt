@@ -1,7 +1,7 @@
 //! The instructions of the runtime, as its listings write them.
 
 ghost use Rattle.std.specs.Prelude.{◌≡◌, ◌<◌, ℕ};
-ghost use Rattle.alp_words.specs.declared.Width.TheVariants.{Word};
+ghost use Rattle.msp_isa.specs.alp_words.declared.Width.TheVariants.{Word};
 ghost use Rattle.msp_isa.specs.declared.instructions.Instr.TheVariants as instr;
 ghost use Rattle.msp_isa.specs.declared.instructions.TwoOp.TheVariants.{Mov, Add, Sub, Cmp};
 ghost use Rattle.msp_isa.specs.declared.operands.Src.TheVariants as src;
@@ -10,10 +10,7 @@ ghost use Rattle.msp_isa.specs.declared.operands.Operand.TheVariants as mode;
 ghost use Rattle.msp_isa.specs.declared.registers.SourceRegister.TheVariants as source_register;
 ghost use Rattle.msp_isa.specs.declared.registers.Reg.TheVariants as reg;
 
-use alp_words::Width;
-use msp_isa::{
-    Condition, Dst, IndexRegister, Instr, Offset, Operand, Reg, SourceRegister, Src, TwoOp,
-};
+use msp_isa::{Condition, Dst, IndexRegister, Instr, Offset, Operand, Reg, SourceRegister, Src, TwoOp, Width};
 
 fn word_instr(op: TwoOp, source: Src, destination: Dst) -> Instr
     ensures { result ≡ instr.Two op Word source destination }

@@ -4,7 +4,7 @@ ghost use Rattle.std.specs.Prelude.{◌≡◌, ◌≤◌, ◌<◌, ℕ, List, le
 ghost use Rattle.std.proofs.Common.{refl};
 ghost use Rattle.step_bench.specs.Memory.{is_memory, is_word, word_at, byte_at, with_word, with_byte, memory_bus};
 
-use alp_words::Width;
+use msp_isa::Width;
 use msp_step::{Bus, Refused};
 use std::alloc::{AllocError, Global};
 use std::marker::Model;

@@ -2,10 +2,10 @@
 
 ghost use Rattle.std.specs.Prelude.{◌≡◌, ◌∷◌, ℕ, ◌<◌, ◌≤◌, ◌+◌, ◌-◌, ◌^◌, length, IsTrue, OnOk, OnErr, IfOk};
 ghost use Rattle.std.proofs.Common.{refl};
-ghost use Rattle.alp_words.specs.declared.Width.TheVariants.{Word, Byte};
+ghost use Rattle.msp_isa.specs.alp_words.declared.Width.TheVariants.{Word, Byte};
 ghost use Rattle.test_board.specs.Board.{Contents, is_memory, is_word, word_of, byte_of, with_word, merged, next_reading, board_model};
 
-use alp_words::Width;
+use msp_isa::Width;
 use msp_step::{Bus, Refused};
 use std::alloc::{AllocError, Global};
 use std::marker::Model;

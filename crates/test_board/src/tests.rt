@@ -1,8 +1,7 @@
 //! Single instructions on the board: results, flags, cycles and stops, from the public tables.
 
 use crate::TestBoard;
-use alp_words::Width;
-use msp_isa::{IndexRegister, Reg};
+use msp_isa::{IndexRegister, Reg, Width};
 use msp_step::{Bus, Cpu, Refused, Stepped, Stop, cost, step};
 use std::alloc::{AllocError, Global};
 use std::process::Abort;

@@ -1,5 +1,5 @@
 use Rattle.std.proofs.Common.{◌++◌, ap, ◌∙◌}
-use Rattle.alp_words.specs.Words.{word_sum}
+use Rattle.msp_isa.specs.alp_words.Words.{word_sum}
 use Rattle.code_forms.specs.Forms.{R4, R7}
 use Rattle.code_forms.specs.Placed.{instructions}
 use Rattle.codegen.specs.Code.{mark_code, last_code, end_test, longer_code, next_code, word_code}

@@ -1,6 +1,6 @@
 use Rattle.std.proofs.Common.{◌≡◌, ◌∙◌, ◌+◌, ◌*◌, ◌++◌, ap, sym, subst, length, map, arith}
 use Rattle.std.proofs.lemmas.List.{length-map}
-use Rattle.address_space.specs.Limits.{reset_vector}
+use Rattle.memory_map.specs.address_space.Limits.{reset_vector}
 use Rattle.linked_code.specs.code_forms.Placed.{instructions}
 use Rattle.boot_runtime.specs.Entries.{task_entries}
 use Rattle.boot_runtime.specs.Listing.{boot_forms}

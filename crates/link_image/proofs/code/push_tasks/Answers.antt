@@ -1,5 +1,5 @@
 use Rattle.std.proofs.Common.{◌∙◌, ◌+◌, ◌*◌, ◌++◌, ap, sym, subst, length, drop, map, arith}
-use Rattle.address_space.specs.Limits.{reset_vector}
+use Rattle.memory_map.specs.address_space.Limits.{reset_vector}
 use Rattle.array_versions.specs.View.{program_of}
 use Rattle.linked_code.specs.Parts.{chained, PartsInOrder}
 use Rattle.linked_code.specs.Linked.{task_part, task_parts}

@@ -1,6 +1,6 @@
 use Rattle.std.proofs.Common.{◌≡◌, ◌++◌, ◌+◌, ◌*◌, drop, map, length}
 use Rattle.std.specs.Prelude.{All}
-use Rattle.address_space.specs.Limits.{reset_vector}
+use Rattle.memory_map.specs.address_space.Limits.{reset_vector}
 use Rattle.linked_code.specs.code_forms.Placed.{instructions, words_of}
 use Rattle.array_versions.specs.View.{program_of}
 use Rattle.array_versions.specs.Form.{IsWhole}

@@ -1,5 +1,5 @@
 use Rattle.std.proofs.Common.{◌≡◌, ◌∙◌, ◌-◌, ◌/◌, ◌==◌, ℕ, List, if◌then◌else◌, ap, sym, subst, length, map, arith, slice_index}
-use Rattle.address_space.specs.Limits.{reset_vector}
+use Rattle.memory_map.specs.address_space.Limits.{reset_vector}
 use Rattle.task_ast.specs.View as tree
 use Rattle.task_ast.specs.declared.SharedDeclaration.{SharedDeclaration}
 use Rattle.array_versions.specs.View.{program_of}

@@ -4,7 +4,7 @@ use Rattle.linked_code.specs.machine_effects.Machine.{fram_of}
 use Rattle.compiled_runs.specs.compiled_model.View.{shared_word}
 use Rattle.link_image.proofs.Placing.{rows_of, blank_at, same_length, region_at, next_put}
 use Rattle.link_image.proofs.words.put_scalars.Goals as goal
-use Rattle.address_space.specs.Limits.{fram_first, reset_vector}
+use Rattle.memory_map.specs.address_space.Limits.{fram_first, reset_vector}
 use Rattle.memory_map.specs.declared.place.VariablePlace.TheVariants.{Scalar}
 
 pub loop-i-init : goal.loop-i-init
