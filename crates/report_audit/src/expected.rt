@@ -14,7 +14,8 @@ pub struct Expected {
 impl Expected {
     /// An empty one, which takes no memory yet.
     pub fn new(alloc: Global) -> Expected
-        ensures { result.bytes.items ≡ [] }
+        ensures bytes { result.bytes.items ≡ [] }
+        ensures faults { result.faults ≡ 0 }
     {
         Expected {
             bytes: Vec::new(alloc),
