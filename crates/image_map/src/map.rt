@@ -159,7 +159,7 @@ impl Map {
         self.words
     }
 
-    /// The commit list; its items are entries of two words.
+    /// The commit list; its items are entries of three words: a home, a copy and how many words.
     pub fn list(&self) -> Place
         ensures { result ≡ self.now.list }
     {
