@@ -5,8 +5,8 @@ use Rattle.std.proofs.lemmas.List.{get_or_default, length-drop}
 use Rattle.alp_io.specs.Report.{accepted_line}
 use Rattle.alp_io.proofs.Interface.{Progress, progress_start}
 use Rattle.board_run.proofs.Placed.{begins}
-use Rattle.image_map.specs.declared.parts.Variable.{Variable}
-use Rattle.image_map.specs.MapValue.{IsVariable}
+use Rattle.image_text.specs.image_map.declared.parts.Variable.{Variable}
+use Rattle.image_text.specs.image_map.MapValue.{IsVariable}
 use Rattle.board_run.specs.History.{SharedWord, array_words, variable_words, changed_line, changed_lines, values_in, word_in, shared_words}
 use Rattle.board_run.specs.State.{words_from, words_left, HasIndex}
 

@@ -4,8 +4,8 @@ use Rattle.std.proofs.Common.{true, Option, Some, None, All}
 use Rattle.std.proofs.Math.Seq.{take-length}
 use Rattle.std.proofs.lemmas.Bool.Decides.{nat_tests}
 use Rattle.std.proofs.lemmas.Bool.{and_parts}
-use Rattle.image_map.specs.declared.parts.Variable.{Variable}
-use Rattle.image_map.specs.MapValue.{IsFramWord, IsVariable, fits}
+use Rattle.image_text.specs.image_map.declared.parts.Variable.{Variable}
+use Rattle.image_text.specs.image_map.MapValue.{IsFramWord, IsVariable, fits}
 use Rattle.board_run.specs.History.{SharedWord, array_words, shared_words}
 use Rattle.board_run.specs.State.{word_count, words_from, words_left, HasIndex}
 

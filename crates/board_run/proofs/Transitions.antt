@@ -5,7 +5,7 @@ use Rattle.alp_io.specs.Count.{risen}
 use Rattle.alp_io.specs.Sink.{AppendsProperPrefix, Writes}
 use Rattle.alp_io.specs.Report.{accepted_line, step_line}
 use Rattle.alp_io.proofs.Interface.{Progress, progress_start, progress_step, progress_err}
-use Rattle.image_map.specs.MapValue.{MapValue}
+use Rattle.image_text.specs.image_map.MapValue.{MapValue}
 use Rattle.fram_board.specs.Board.{BoardValue}
 use Rattle.board_run.specs.History.{History, task_name, word_in, more_lines, changed_lines, shared_words, transition_lines, is_done, is_decide, decided}
 use Rattle.board_run.specs.History.{completed, gated}

@@ -4,8 +4,8 @@
 use Rattle.std.specs.Prelude.{ℕ, zero, suc, ◌+◌, ◌==◌, ◌&&◌, Bool, not, nat_lt, if◌then◌else◌, List, [], ◌∷◌, ◌++◌, length, map, flat_map, sum_by, slice_get, slice_index, Option, Some, None}
 use Rattle.alp_io.specs.Count.{risen}
 use Rattle.alp_io.specs.Report.{accepted_line, more_line, step_line, value_line, bound_line}
-use Rattle.image_map.specs.declared.parts.Variable.{Variable}
-use Rattle.image_map.specs.MapValue.{MapValue, TaskValue}
+use Rattle.image_text.specs.image_map.declared.parts.Variable.{Variable}
+use Rattle.image_text.specs.image_map.MapValue.{MapValue, TaskValue}
 use Rattle.image_text.specs.ImageValue.{ImageValue, place_of}
 use Rattle.fram_board.specs.Board.{BoardValue}
 use Rattle.fram_board.specs.Run.{Moment, Action, PowerUp, Execute, word_list}

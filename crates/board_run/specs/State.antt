@@ -1,7 +1,7 @@
 -- What a watch keeps.
 use Rattle.std.specs.Prelude.{ℕ, ◌+◌, ◌*◌, ◌-◌, ◌<◌, List, [], ◌∷◌, ◌++◌, Option, Some, None}
-use Rattle.image_map.specs.declared.parts.Variable.{Variable}
-use Rattle.image_map.specs.MapValue.{MapValue}
+use Rattle.image_text.specs.image_map.declared.parts.Variable.{Variable}
+use Rattle.image_text.specs.image_map.MapValue.{MapValue}
 use Rattle.board_run.specs.declared.state.State.{State}
 use Rattle.board_run.specs.declared.words.PlacedWord.{PlacedWord}
 use Rattle.board_run.specs.History.{History, SharedWord, array_words, shared_words}

@@ -1,6 +1,6 @@
 -- A watch as a history.
 use Rattle.std.specs.Prelude.{◌≡◌, length, Option, Some, None, option_map}
-use Rattle.image_map.specs.MapValue.{MapValue}
+use Rattle.image_text.specs.image_map.MapValue.{MapValue}
 use Rattle.board_run.specs.declared.state.State.{State}
 use Rattle.board_run.specs.declared.watch.Watch.TheInside.{Inside}
 use Rattle.board_run.specs.History.{History, shared_words}

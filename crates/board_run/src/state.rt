@@ -3,7 +3,7 @@ ghost use Rattle.std.specs.Prelude.{◌≡◌, ◌+◌, ◌<◌, ◌≤◌, ◌+
 ghost use Rattle.alp_io.specs.Count.{HasCause};
 ghost use Rattle.alp_io.specs.Sink.{Writes};
 ghost use Rattle.alp_io.specs.Report.{accepted_line};
-ghost use Rattle.image_map.specs.MapValue.{MapValue, IsFramWord};
+ghost use Rattle.image_text.specs.image_map.MapValue.{MapValue, IsFramWord};
 ghost use Rattle.board_run.specs.History.{word_in, task_name, more_lines, changed_line, changed_lines, values_in, shared_words, is_decide, is_done};
 ghost use Rattle.board_run.specs.State.{word_of};
 
@@ -11,8 +11,7 @@ use crate::words::{PlacedWord, cut_word};
 use alp_io::{Failed, Report, Sink};
 use arrayvec::ArrayVec;
 use fram_board::{Board, Stepped};
-use image_map::Map;
-use image_text::Image;
+use image_text::{Image, Map};
 use std::alloc::{AllocError, Global};
 
 /// What is known of a run, beside the map.
@@ -126,7 +125,7 @@ impl State {
     ghost use Rattle.std.specs.Prelude.{◌≡◌, ◌<◌, Option, Some, None, OnOk, IfOk, option_map, length, vec_len};
     ghost use Rattle.alp_io.specs.Count.{HasCause};
     ghost use Rattle.alp_io.specs.Sink.{Writes};
-    ghost use Rattle.image_map.specs.MapValue.{MapValue};
+    ghost use Rattle.image_text.specs.image_map.MapValue.{MapValue};
     ghost use Rattle.std.specs.Prelude.{[], if◌then◌else◌};
     ghost use Rattle.fram_board.specs.Run.{word_list};
     ghost use Rattle.board_run.specs.History.{shared_words, with_word, with_words, transition_lines, completed, decided, gated, is_done, behind_instruction, instruction_lines, start_with, start_of};

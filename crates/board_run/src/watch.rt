@@ -9,8 +9,7 @@ ghost use Rattle.board_run.specs.History.{start_of, bound_lines, total, instruct
 use crate::state::State;
 use alp_io::{Failed, Report, Sink};
 use fram_board::{Board, Stepped};
-use image_map::Map;
-use image_text::Image;
+use image_text::{Image, Map};
 use std::alloc::{AllocError, Global};
 use std::marker::Model;
 

@@ -1,9 +1,9 @@
 //! The shared words of a map, one after another.
 ghost use Rattle.std.specs.Prelude.{◌≡◌, ◌+◌, ◌*◌, ◌<◌, ◌∷◌, [], All, MatchOption, length};
-ghost use Rattle.image_map.specs.MapValue.{IsFramWord, IsVariable};
+ghost use Rattle.image_text.specs.image_map.MapValue.{IsFramWord, IsVariable};
 ghost use Rattle.board_run.specs.State.{word_of, words_left, HasIndex};
 
-use image_map::Variable;
+use image_text::Variable;
 
 /// A shared word: the name of its variable, its index in an array, and its address.
 #[derive(Clone, Copy)]

@@ -16,7 +16,7 @@ use Rattle.msp_step.specs.Effect.{Written}
 use Rattle.msp_step.specs.Step.{Outcome, outcome_of, effect, StepResult, Stopped, Executed}
 use Rattle.msp_step.specs.Laws.{AfterWrite}
 use Rattle.msp_step.proofs.Interface.{Ends, effect_ends}
-use Rattle.image_text.specs.ImageValue.{place_of}
+use Rattle.state_text.specs.image_text.ImageValue.{place_of}
 use Rattle.fram_board.specs.declared.receiver.Receiver.{Receiver}
 use Rattle.fram_board.specs.Bus.{BusState, board_bus, is_ram, is_fram, is_memory, is_word, written, port_written, with_word, with_byte, memory_word, ram_place}
 use Rattle.fram_board.specs.Bus.{number_port, data_port}

@@ -6,8 +6,8 @@ use Rattle.msp_step.specs.declared.machine.Stepped as cpu
 use Rattle.msp_step.specs.declared.machine.Words.{Words}
 use Rattle.msp_step.specs.Registers.{Registers, registers_of, kept, powered_up}
 use Rattle.msp_step.specs.Step.{Outcome, AreCurrentWords, IsCurrentInstruction, IsStopped, StepResult, Costs, execution}
-use Rattle.image_text.specs.image_map.MapValue.{MapValue}
-use Rattle.image_text.specs.ImageValue.{place_of}
+use Rattle.state_text.specs.image_text.image_map.MapValue.{MapValue}
+use Rattle.state_text.specs.image_text.ImageValue.{place_of}
 use Rattle.state_text.specs.declared.state.State.{State}
 use Rattle.fram_board.specs.declared.board.Stepped.{Stepped}
 use Rattle.fram_board.specs.declared.receiver.Receiver.{Receiver}

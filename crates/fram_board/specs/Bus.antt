@@ -7,7 +7,7 @@ use Rattle.alp_words.specs.Words.{word_bytes, word_of_bytes}
 use Rattle.msp_step.specs.declared.bus.Refused.{Refused}
 use Rattle.msp_step.specs.declared.bus.Refused.TheVariants as refused
 use Rattle.msp_step.specs.Access.{BusModel}
-use Rattle.image_text.specs.ImageValue.{place_of}
+use Rattle.state_text.specs.image_text.ImageValue.{place_of}
 
 -- memory and ports during one instruction
 pub record BusState : Type 0 where

@@ -1,7 +1,7 @@
 -- What a step does that is seen from outside the CPU and RAM.
 use Rattle.std.specs.Prelude.{ℕ, ◌+◌, ◌-◌, ◌%◌, ◌≡◌, ◌≤◌, if◌then◌else◌, List, [], ◌∷◌, ◌++◌, map, slice_index, slice_range, slice_set, Result, Ok, Err, Option, Some, None}
 use Rattle.msp_step.specs.declared.machine.Stop.{Stop}
-use Rattle.image_text.specs.ImageValue.{place_of}
+use Rattle.state_text.specs.image_text.ImageValue.{place_of}
 use Rattle.fram_board.specs.declared.board.Stepped.{Stepped}
 use Rattle.fram_board.specs.declared.receiver.Receiver.{Receiver}
 use Rattle.fram_board.specs.Bus.{is_fram}

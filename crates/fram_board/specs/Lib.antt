@@ -3,12 +3,12 @@ pub mod Board
 pub mod Effects
 pub mod Run
 pub mod Laws
-pub use Rattle.image_text.specs.alp_text as alp_text
-pub use Rattle.image_text.specs.text_parts as text_parts
+pub use Rattle.state_text.specs.image_text.alp_text as alp_text
+pub use Rattle.state_text.specs.image_text.text_parts as text_parts
 pub use Rattle.alp_words.specs as alp_words
 pub use Rattle.msp_isa.specs as msp_isa
 pub use Rattle.msp_cycles.specs as msp_cycles
 pub use Rattle.msp_step.specs as msp_step
-pub use Rattle.image_text.specs.image_map as image_map
-pub use Rattle.image_text.specs as image_text
+pub use Rattle.state_text.specs.image_text.image_map as image_map
+pub use Rattle.state_text.specs.image_text as image_text
 pub use Rattle.state_text.specs as state_text

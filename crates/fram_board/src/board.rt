@@ -1,16 +1,15 @@
 //! The board.
 
 ghost use Rattle.std.specs.Prelude.{◌≡◌, ℕ, ◌+◌, ◌-◌, ◌^◌, ◌<◌, ◌≤◌, length, None, IfOk, IfErr, OnErr};
-ghost use Rattle.image_text.specs.ImageValue.{word_at};
+ghost use Rattle.state_text.specs.image_text.ImageValue.{word_at};
 ghost use Rattle.fram_board.specs.Board.{accepted_word, receiver_after, started, fresh, next_number, saved, powered, filled, executed, IsNextInstruction, AreNextWords, IsStoppedBy, BoardCosts, IsStepOf, KeepsAllButTaken, OffersOneAtMost, IsBoard};
 
 use crate::bus::Devices;
 use crate::receiver::Receiver;
-use image_text::Image;
 use msp_cycles::cycles;
 use msp_isa::{Instr, Reg};
 use msp_step::{Cpu, Stop, Words, current_instruction, current_words, execute};
-use state_text::State;
+use state_text::{Image, State};
 use std::alloc::{AllocError, Global};
 use std::marker::Model;
 

@@ -5,8 +5,8 @@ use Rattle.std.specs.List.{list_all}
 use Rattle.std.proofs.lemmas.Bool.{le-leb, lt-leb, cases_lt}
 use Rattle.std.proofs.lemmas.List.Sums.{sum_by-cons}
 use Rattle.std.proofs.Math.Bool.{and-false}
-use Rattle.image_map.specs.MapValue.{MapValue}
-use Rattle.image_map.specs.declared.parts.Variable.{Variable}
+use Rattle.image_text.specs.image_map.MapValue.{MapValue}
+use Rattle.image_text.specs.image_map.declared.parts.Variable.{Variable}
 use Rattle.fram_state.specs.declared.entry.Entry.{Entry}
 use Rattle.fram_state.specs.Named.{is_shared}
 use Rattle.fram_state.specs.Sound.{entries_of, are_shared, is_entry, words_of, are_entries}

@@ -1,7 +1,7 @@
 -- What the words of a place are, one by one.
 use Rattle.std.proofs.Common.{◌≡◌, ◌<◌, ◌≤◌, ℕ, suc, ◌+◌, ◌*◌, List, ◌∷◌, length, get_or, take, drop, sym, ap, ◌∙◌, arith}
 use Rattle.std.proofs.Math.Seq.{drop-cons}
-use Rattle.image_map.specs.MapValue.{IsFramWord}
+use Rattle.image_text.specs.image_map.MapValue.{IsFramWord}
 use Rattle.image_text.specs.ImageValue.{place_of}
 use Rattle.fram_state.specs.declared.entry.Entry.{Entry}
 use Rattle.fram_state.specs.Runtime.{word_in, words_from}

@@ -4,7 +4,7 @@ use Rattle.std.specs.Prelude.{◌==◌, ◌||◌, ◌-◌, ◌/◌}
 use Rattle.std.proofs.Math.Seq.{drop-cons}
 use Rattle.std.proofs.Math.Bool.{or-true}
 use Rattle.std.proofs.lemmas.Bool.{eq-eqb, eqb-true, eqb-false, ne_eqb}
-use Rattle.image_map.specs.MapValue.{MapValue, IsFramWord}
+use Rattle.image_text.specs.image_map.MapValue.{MapValue, IsFramWord}
 use Rattle.fram_state.specs.Named.{is_named}
 use Rattle.fram_state.specs.OtherImage.{first_other, SameBut, IsFirstOther}
 use Rattle.fram_state.specs.Laws.{AreImages}

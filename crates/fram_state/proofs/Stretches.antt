@@ -4,7 +4,7 @@ use Rattle.std.specs.Prelude.{find, option_map, nat_le, nat_lt, IfSome, IfNone}
 use Rattle.std.proofs.lemmas.Bool.{ltb-true, lt-ltb, leb-true, le-leb, and_parts, and_from}
 use Rattle.std.proofs.Math.Bool.{or-true}
 use Rattle.std.specs.List.{list_any}
-use Rattle.image_map.specs.MapValue.{MapValue}
+use Rattle.image_text.specs.image_map.MapValue.{MapValue}
 use Rattle.fram_state.specs.declared.stretch.Stretch.{Stretch}
 use Rattle.fram_state.specs.Stretch.{holds, is_held, held_until, AllUpTo}
 use Rattle.fram_state.specs.Named.{variable_words, runtime_words, buffers, is_shared, shared_until, is_named}

@@ -1,6 +1,6 @@
 -- Which states a board may go on from with an image, and what is answered about one.
 use Rattle.std.specs.Prelude.{◌≡◌, ℕ, ◌⊎◌, List, Option, Some, None, Result, Ok, Err}
-use Rattle.image_map.specs.MapValue.{MapValue}
+use Rattle.image_text.specs.image_map.MapValue.{MapValue}
 use Rattle.image_text.specs.ImageValue.{ImageValue}
 use Rattle.state_text.specs.declared.state.State.{State}
 use Rattle.fram_state.specs.declared.fault.Rule.{Rule}

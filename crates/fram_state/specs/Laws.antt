@@ -1,6 +1,6 @@
 -- What holds of the answers about states.
 use Rattle.std.specs.Prelude.{◌≡◌, ℕ, List, length, Some, Result, Ok}
-use Rattle.image_map.specs.MapValue.{MapValue}
+use Rattle.image_text.specs.image_map.MapValue.{MapValue}
 use Rattle.image_text.specs.ImageValue.{ImageValue}
 use Rattle.state_text.specs.declared.state.State.{State}
 use Rattle.fram_state.specs.declared.fault.StateFault.{StateFault}

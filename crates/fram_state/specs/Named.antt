@@ -1,10 +1,10 @@
 -- The words that a map names: those that runs of a compiled image store to. All others are code, constants and the vector.
 use Rattle.std.specs.Prelude.{ℕ, ◌*◌, ◌||◌, Bool, List, [], ◌∷◌, Option, Some, None, unwrap_or, option_map, find}
 use Rattle.std.specs.List.{list_any}
-use Rattle.image_map.specs.declared.parts.RuntimeWords.{RuntimeWords}
-use Rattle.image_map.specs.declared.parts.Place.{Place}
-use Rattle.image_map.specs.declared.parts.Variable.{Variable}
-use Rattle.image_map.specs.MapValue.{MapValue}
+use Rattle.image_text.specs.image_map.declared.parts.RuntimeWords.{RuntimeWords}
+use Rattle.image_text.specs.image_map.declared.parts.Place.{Place}
+use Rattle.image_text.specs.image_map.declared.parts.Variable.{Variable}
+use Rattle.image_text.specs.image_map.MapValue.{MapValue}
 use Rattle.fram_state.specs.declared.stretch.Stretch.{Stretch}
 use Rattle.fram_state.specs.Stretch.{words_at, holds, is_held}
 

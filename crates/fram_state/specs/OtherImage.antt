@@ -1,6 +1,6 @@
 -- Whether a state is one of an image: it has the image's map and, where the map names nothing, its words.
 use Rattle.std.specs.Prelude.{◌≡◌, ℕ, ◌+◌, ◌<◌, ◌==◌, ◌||◌, false, if◌then◌else◌, List, [], ◌∷◌, Option, Some, None}
-use Rattle.image_map.specs.MapValue.{MapValue, IsFramWord}
+use Rattle.image_text.specs.image_map.MapValue.{MapValue, IsFramWord}
 use Rattle.image_text.specs.ImageValue.{ImageValue}
 use Rattle.state_text.specs.declared.state.State.{State}
 use Rattle.fram_state.specs.Named.{is_named}

@@ -1,6 +1,6 @@
 -- What the words of a FRAM hold.
 use Rattle.std.specs.Prelude.{ℕ, List, take, drop, slice_index}
-use Rattle.image_map.specs.declared.parts.RuntimeWords.{RuntimeWords}
+use Rattle.image_text.specs.image_map.declared.parts.RuntimeWords.{RuntimeWords}
 use Rattle.image_text.specs.ImageValue.{place_of}
 use Rattle.fram_state.specs.declared.runtime.Runtime.{Runtime}
 

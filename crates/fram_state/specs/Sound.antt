@@ -1,8 +1,8 @@
 -- When a state is sound: rule by rule, what a board that goes on from it has to find in the FRAM.
 use Rattle.std.specs.Prelude.{◌≡◌, ℕ, zero, suc, ◌+◌, ◌-◌, ◌*◌, ◌%◌, ◌==◌, ◌&&◌, ◌||◌, Bool, true, not, nat_le, nat_lt, if◌then◌else◌, List, [], ◌∷◌, length, Option, sum_by, find}
 use Rattle.std.specs.List.{list_all}
-use Rattle.image_map.specs.MapValue.{MapValue}
-use Rattle.image_map.specs.declared.parts.Variable.{Variable}
+use Rattle.image_text.specs.image_map.MapValue.{MapValue}
+use Rattle.image_text.specs.image_map.declared.parts.Variable.{Variable}
 use Rattle.fram_state.specs.declared.entry.Entry.{Entry}
 use Rattle.fram_state.specs.declared.fault.Rule.{Rule}
 use Rattle.fram_state.specs.declared.fault.Rule.TheVariants as rule

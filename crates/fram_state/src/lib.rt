@@ -17,8 +17,7 @@ mod sound;
 mod stretch;
 
 pub use fault::{Rule, StateFault};
-use image_map::Map;
-use image_text::Image;
+use image_text::{Image, Map};
 pub use laws::{answers_are_one, belonging_states_are_taken, other_words_are_first};
 use maps::are_same_maps;
 use other::first_other;

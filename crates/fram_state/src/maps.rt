@@ -1,7 +1,7 @@
 //! Whether two maps are the same.
 ghost use Rattle.std.specs.Prelude.{◌≡◌, ◌↔◌, IsTrue, length, take};
 
-use image_map::{Map, Name, Task, Variable};
+use image_text::{Map, Name, Task, Variable};
 
 /// What can be told apart from another of its kind.
 trait Same {

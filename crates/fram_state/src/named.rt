@@ -4,7 +4,7 @@ ghost use Rattle.fram_state.specs.Stretch.{held_until, AllUpTo};
 ghost use Rattle.fram_state.specs.Named.{list_words, place_words, copies_words, variable_words, runtime_words, buffers, is_shared, shared_until, is_named};
 
 use crate::stretch::Stretch;
-use image_map::{Map, Place, RuntimeWords, Variable};
+use image_text::{Map, Place, RuntimeWords, Variable};
 
 /// The words of the commit list, three for an entry.
 pub fn list_words(place: Place) -> Stretch

@@ -3,7 +3,7 @@ ghost use Rattle.std.specs.Prelude.{◌≡◌, length};
 ghost use Rattle.fram_state.specs.OtherImage.{first_other};
 
 use crate::named::named_until;
-use image_map::Map;
+use image_text::Map;
 
 /// The first address that the map doesn't name and at which the words of an image and of a state differ, if there is one.
 #[tactic(auto, using(crate::proofs::Others::same_passed, crate::proofs::Others::named_passed, crate::proofs::Others::other_found, crate::proofs::Others::none_behind))]

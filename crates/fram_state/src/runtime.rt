@@ -1,9 +1,9 @@
 //! What the words of a FRAM hold.
 ghost use Rattle.std.specs.Prelude.{◌≡◌, ◌≤◌, ◌*◌, ◌/◌, ◌-◌, length};
-ghost use Rattle.image_map.specs.MapValue.{IsFramWord, AreFramWords};
+ghost use Rattle.image_text.specs.image_map.MapValue.{IsFramWord, AreFramWords};
 ghost use Rattle.fram_state.specs.Runtime.{word_in, words_from, runtime_of};
 
-use image_map::RuntimeWords;
+use image_text::RuntimeWords;
 
 /// What the words of the runtime hold.
 #[derive(Clone, Copy)]

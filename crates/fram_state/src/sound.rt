@@ -8,7 +8,7 @@ use crate::fault::Rule;
 use crate::named::{copies_words, is_shared, list_words, place_words};
 use crate::runtime::{Runtime, runtime_of, words_from};
 use crate::stretch::Stretch;
-use image_map::{Map, Variable};
+use image_text::{Map, Variable};
 
 /// The rules, in the order in which they are looked at.
 const RULES: [Rule; 9] = [

@@ -1,6 +1,6 @@
 //! Which states belong to an image: each rule broken alone, and which of two faults comes first.
 use fram_state::{Rule, StateFault, belongs};
-use image_map::is_fram_word;
+use image_text::is_fram_word;
 use state_text::{State, parse_state};
 use std::test::Fail;
 

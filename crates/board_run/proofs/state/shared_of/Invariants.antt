@@ -1,5 +1,5 @@
 use Rattle.std.proofs.Common.{◌≡◌, ◌++◌, length, All}
-use Rattle.image_map.specs.MapValue.{IsVariable}
+use Rattle.image_text.specs.image_map.MapValue.{IsVariable}
 use Rattle.board_run.specs.History.{values_in, shared_words}
 use Rattle.board_run.specs.State.{words_left, HasIndex}
 use Rattle.board_run.proofs.state.shared_of.Given as goal

@@ -1,6 +1,6 @@
 use Rattle.std.proofs.Common.{◌≡◌, ◌≤◌, drop, length, vec_len, All}
 use Rattle.alp_io.proofs.Interface.{Progress}
-use Rattle.image_map.specs.MapValue.{IsVariable}
+use Rattle.image_text.specs.image_map.MapValue.{IsVariable}
 use Rattle.board_run.specs.History.{changed_lines, shared_words}
 use Rattle.board_run.specs.State.{words_left, HasIndex}
 use Rattle.board_run.proofs.Changes.{Kept}

@@ -1,5 +1,5 @@
 use Rattle.std.proofs.Common.{◌∙◌, ap, Some}
-use Rattle.image_map.specs.declared.parts.RuntimeWords.{RuntimeWords}
+use Rattle.image_text.specs.image_map.declared.parts.RuntimeWords.{RuntimeWords}
 use Rattle.board_run.specs.History.{task_name, word_in}
 use Rattle.board_run.specs.State.{history_of}
 use Rattle.board_run.proofs.Transitions.{parts_are, cut_second, cut_third, cut_fourth}
