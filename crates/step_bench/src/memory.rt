@@ -4,8 +4,7 @@ ghost use Rattle.std.specs.Prelude.{◌≡◌, ◌≤◌, ◌<◌, ℕ, List, le
 ghost use Rattle.std.proofs.Common.{refl};
 ghost use Rattle.step_bench.specs.Memory.{is_memory, is_word, word_at, byte_at, with_word, with_byte, memory_bus};
 
-use msp_isa::Width;
-use msp_step::{Bus, Refused};
+use msp_step::{Bus, Refused, Width};
 use std::alloc::{AllocError, Global};
 use std::marker::Model;
 
