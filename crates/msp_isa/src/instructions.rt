@@ -75,6 +75,34 @@ pub enum Instr {
     Reti,
 }
 
+/// The operations of two operands, by their opcodes from 4 on.
+const OPERATIONS: [TwoOp; 12] = [
+    TwoOp::Mov,
+    TwoOp::Add,
+    TwoOp::Addc,
+    TwoOp::Subc,
+    TwoOp::Sub,
+    TwoOp::Cmp,
+    TwoOp::Dadd,
+    TwoOp::Bit,
+    TwoOp::Bic,
+    TwoOp::Bis,
+    TwoOp::Xor,
+    TwoOp::And,
+];
+
+/// The conditions, by number.
+const CONDITIONS: [Condition; 8] = [
+    Condition::NotEqual,
+    Condition::Equal,
+    Condition::NoCarry,
+    Condition::Carry,
+    Condition::Negative,
+    Condition::GreaterOrEqual,
+    Condition::Less,
+    Condition::Always,
+];
+
 impl TwoOp {
     /// Bits 15 to 12 of the first word, 4 to 15.
     pub fn opcode(self) -> u16
@@ -106,20 +134,7 @@ impl TwoOp {
         ensures found { opcode result ≡ n }
         ensures only { (op : TwoOp) → opcode op ≡ n → result ≡ op }
     {
-        match n {
-            4 => TwoOp::Mov,
-            5 => TwoOp::Add,
-            6 => TwoOp::Addc,
-            7 => TwoOp::Subc,
-            8 => TwoOp::Sub,
-            9 => TwoOp::Cmp,
-            10 => TwoOp::Dadd,
-            11 => TwoOp::Bit,
-            12 => TwoOp::Bic,
-            13 => TwoOp::Bis,
-            14 => TwoOp::Xor,
-            _ => TwoOp::And,
-        }
+        OPERATIONS[usize::from(n - 4)]
     }
 }
 
@@ -148,16 +163,7 @@ impl Condition {
         ensures found { condition_number result ≡ n }
         ensures only { (c : Condition) → condition_number c ≡ n → result ≡ c }
     {
-        match n {
-            0 => Condition::NotEqual,
-            1 => Condition::Equal,
-            2 => Condition::NoCarry,
-            3 => Condition::Carry,
-            4 => Condition::Negative,
-            5 => Condition::GreaterOrEqual,
-            6 => Condition::Less,
-            _ => Condition::Always,
-        }
+        CONDITIONS[usize::from(n)]
     }
 }
 

@@ -45,6 +45,46 @@ pub enum Reg {
     Index(IndexRegister),
 }
 
+/// The registers that can be an index, by number; 0, 2 and 3 number none.
+const INDEX_REGISTERS: [IndexRegister; 16] = [
+    IndexRegister::Sp,
+    IndexRegister::Sp,
+    IndexRegister::Sp,
+    IndexRegister::Sp,
+    IndexRegister::R4,
+    IndexRegister::R5,
+    IndexRegister::R6,
+    IndexRegister::R7,
+    IndexRegister::R8,
+    IndexRegister::R9,
+    IndexRegister::R10,
+    IndexRegister::R11,
+    IndexRegister::R12,
+    IndexRegister::R13,
+    IndexRegister::R14,
+    IndexRegister::R15,
+];
+
+/// All registers, by number.
+const REGISTERS: [Reg; 16] = [
+    Reg::Pc,
+    Reg::Index(IndexRegister::Sp),
+    Reg::Sr,
+    Reg::R3,
+    Reg::Index(IndexRegister::R4),
+    Reg::Index(IndexRegister::R5),
+    Reg::Index(IndexRegister::R6),
+    Reg::Index(IndexRegister::R7),
+    Reg::Index(IndexRegister::R8),
+    Reg::Index(IndexRegister::R9),
+    Reg::Index(IndexRegister::R10),
+    Reg::Index(IndexRegister::R11),
+    Reg::Index(IndexRegister::R12),
+    Reg::Index(IndexRegister::R13),
+    Reg::Index(IndexRegister::R14),
+    Reg::Index(IndexRegister::R15),
+];
+
 impl IndexRegister {
     /// The register's number: 1, or 4 to 15.
     #[inline(always)]
@@ -79,21 +119,7 @@ impl IndexRegister {
         ensures found { index_number result ≡ n }
         ensures only { (r : IndexRegister) → index_number r ≡ n → result ≡ r }
     {
-        match n {
-            1 => IndexRegister::Sp,
-            4 => IndexRegister::R4,
-            5 => IndexRegister::R5,
-            6 => IndexRegister::R6,
-            7 => IndexRegister::R7,
-            8 => IndexRegister::R8,
-            9 => IndexRegister::R9,
-            10 => IndexRegister::R10,
-            11 => IndexRegister::R11,
-            12 => IndexRegister::R12,
-            13 => IndexRegister::R13,
-            14 => IndexRegister::R14,
-            _ => IndexRegister::R15,
-        }
+        INDEX_REGISTERS[usize::from(n)]
     }
 }
 
@@ -148,11 +174,6 @@ impl Reg {
         ensures found { register_number result ≡ n }
         ensures only { (r : Reg) → register_number r ≡ n → result ≡ r }
     {
-        match n {
-            0 => Reg::Pc,
-            2 => Reg::Sr,
-            3 => Reg::R3,
-            _ => Reg::Index(IndexRegister::from_number(n)),
-        }
+        REGISTERS[usize::from(n)]
     }
 }
