@@ -76,7 +76,7 @@ pub enum Instr {
 }
 
 /// The operations of two operands, by their opcodes from 4 on.
-const OPERATIONS: [TwoOp; 12] = [
+static OPERATIONS: [TwoOp; 12] = [
     TwoOp::Mov,
     TwoOp::Add,
     TwoOp::Addc,
@@ -92,7 +92,7 @@ const OPERATIONS: [TwoOp; 12] = [
 ];
 
 /// The conditions, by number.
-const CONDITIONS: [Condition; 8] = [
+static CONDITIONS: [Condition; 8] = [
     Condition::NotEqual,
     Condition::Equal,
     Condition::NoCarry,

@@ -46,7 +46,7 @@ pub enum Reg {
 }
 
 /// The registers that can be an index, by number; 0, 2 and 3 number none.
-const INDEX_REGISTERS: [IndexRegister; 16] = [
+static INDEX_REGISTERS: [IndexRegister; 16] = [
     IndexRegister::Sp,
     IndexRegister::Sp,
     IndexRegister::Sp,
@@ -66,7 +66,7 @@ const INDEX_REGISTERS: [IndexRegister; 16] = [
 ];
 
 /// All registers, by number.
-const REGISTERS: [Reg; 16] = [
+static REGISTERS: [Reg; 16] = [
     Reg::Pc,
     Reg::Index(IndexRegister::Sp),
     Reg::Sr,
