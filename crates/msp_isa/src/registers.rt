@@ -92,21 +92,9 @@ impl IndexRegister {
         ensures value { result ≡ index_number self }
         ensures below { result < 16 }
     {
-        match self {
-            IndexRegister::Sp => 1,
-            IndexRegister::R4 => 4,
-            IndexRegister::R5 => 5,
-            IndexRegister::R6 => 6,
-            IndexRegister::R7 => 7,
-            IndexRegister::R8 => 8,
-            IndexRegister::R9 => 9,
-            IndexRegister::R10 => 10,
-            IndexRegister::R11 => 11,
-            IndexRegister::R12 => 12,
-            IndexRegister::R13 => 13,
-            IndexRegister::R14 => 14,
-            IndexRegister::R15 => 15,
-        }
+        // SP comes first, then the others from R4 on.
+        let place = self as u8;
+        if place == 0 { 1 } else { u16::from(place) + 3 }
     }
 
     /// The register of this number.
@@ -159,11 +147,14 @@ impl Reg {
         ensures value { result ≡ register_number self }
         ensures below { result < 16 }
     {
-        match self {
-            Reg::Pc => 0,
+        let own = match self {
             Reg::Sr => 2,
             Reg::R3 => 3,
+            _ => 0,
+        };
+        match self {
             Reg::Index(r) => r.number(),
+            _ => own,
         }
     }
 
