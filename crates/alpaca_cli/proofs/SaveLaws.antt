@@ -8,7 +8,8 @@ use Rattle.energy_trace.specs.Reading.{trace_of}
 use Rattle.image_reports.specs.msp_step.declared.machine.Stop.TheVariants as stop
 use Rattle.state_text.specs.declared.state.State.{State}
 use Rattle.state_text.specs.Reading.{state_of}
-use Rattle.fram_board.specs.Board.{BoardValue, saved}
+use Rattle.fram_board.specs.Board.{BoardValue}
+use Rattle.fram_board.specs.Saved.{saved}
 use Rattle.fram_board.specs.Run.{End, Charges, Stopped}
 use Rattle.board_run.specs.declared.trace_run.RunEnd.{RunEnd}
 use Rattle.board_run.specs.declared.trace_run.RunEnd.TheVariants as run_end

@@ -6,7 +6,8 @@ use Rattle.energy_trace.specs.Reading.{trace_of}
 use Rattle.state_text.specs.declared.state.State.{State}
 use Rattle.state_text.specs.Reading.{state_of}
 use Rattle.state_text.specs.Text.{state_text}
-use Rattle.fram_board.specs.Board.{BoardValue, started, saved}
+use Rattle.fram_board.specs.Board.{BoardValue, started}
+use Rattle.fram_board.specs.Saved.{saved}
 use Rattle.fram_board.specs.Run.{End, RunOutcome, Run}
 use Rattle.board_run.specs.declared.trace_run.RunEnd.{RunEnd}
 use Rattle.board_run.specs.declared.trace_run.RunFault.{RunFault}

@@ -3,7 +3,7 @@ ghost use Rattle.std.specs.Prelude.{◌≡◌, ◌≤◌, ◌∷◌, [], IfOk, I
 ghost use Rattle.alp_io.specs.Count.{HasCause};
 ghost use Rattle.alp_io.specs.Sink.{Writes};
 ghost use Rattle.image_reports.specs.task_ast.View.{program_of};
-ghost use Rattle.source_values.specs.Runs.{fresh_run};
+ghost use Rattle.source_values.specs.Running.{fresh_run};
 ghost use Rattle.source_report.specs.MeanReport.{mean_report};
 ghost use Rattle.source_report.specs.SourceReport.{IsMeanReport};
 ghost use Rattle.alp_io.specs.Shelf.{NeverFall};

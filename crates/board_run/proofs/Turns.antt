@@ -9,7 +9,8 @@ use Rattle.msp_isa.specs.declared.instructions.Instr.{Instr}
 use Rattle.msp_step.specs.declared.machine.Stop.{Stop}
 use Rattle.fram_board.specs.declared.board.Stepped.{Stepped}
 use Rattle.fram_board.specs.declared.receiver.Receiver.{Receiver}
-use Rattle.fram_board.specs.Board.{BoardValue, executed, IsNextInstruction, IsStoppedBy, KeepsAllButTaken, receiver_after, is_accepted}
+use Rattle.fram_board.specs.Board.{BoardValue, executed, IsNextInstruction, IsStoppedBy, receiver_after, is_accepted}
+use Rattle.fram_board.specs.Steps.{KeepsAllButTaken}
 use Rattle.fram_board.specs.Run.{Measure, price, word_list, Charges, Stopped, RunOutcome, run_outcome, ChargeRun, Spent, NoInstruction, TooDear, Refused}
 use Rattle.fram_board.specs.Run.{Executed, moment_of}
 use Rattle.fram_board.proofs.Interface.{price_low}

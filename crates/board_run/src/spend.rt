@@ -1,7 +1,8 @@
 //! One charge of a run.
 ghost use Rattle.std.specs.Prelude.{◌≡◌, ◌+◌, ◌-◌, ◌^◌, ◌<◌, ◌≤◌};
 ghost use Rattle.alp_io.specs.Count.{HasCause};
-ghost use Rattle.fram_board.specs.Board.{IsNextInstruction, AreNextWords};
+ghost use Rattle.fram_board.specs.Board.{IsNextInstruction};
+ghost use Rattle.fram_board.specs.Steps.{AreNextWords};
 ghost use Rattle.fram_board.specs.Run.{price};
 ghost use Rattle.board_run.specs.Charges.{measure_of};
 ghost use Rattle.board_run.specs.Parts.{IsTurn, IsSpent};

@@ -2,7 +2,8 @@
 use Rattle.std.proofs.Common.{ℕ, ◌<◌, sym, subst, arith, List, length}
 use Rattle.task_attempts.specs.cost_bound.declared.allowance.Allow.{Allow}
 use Rattle.task_attempts.proofs.war_analysis.Interface.{element}
-use Rattle.task_attempts.specs.source_values.Runs.{CheckedProgram, IsRunnable}
+use Rattle.task_attempts.specs.source_values.Runs.{CheckedProgram}
+use Rattle.task_attempts.specs.source_values.Running.{IsRunnable}
 use Rattle.task_attempts.proofs.source_meaning.Interface.{accepted_texts_run}
 use Rattle.task_attempts.specs.war_analysis.PlanValue.{TaskPlanValue}
 use Rattle.task_attempts.specs.array_versions.Program.{Program}

@@ -2,8 +2,9 @@
 use Rattle.std.proofs.Common.{◌≡◌, ◌<◌, arith, ℕ, refl, All, length}
 use Rattle.std.proofs.lemmas.List.{length-replicate}
 use Rattle.std.proofs.lemmas.List.Elements.{All-replicate}
-use Rattle.msp_step.specs.Registers.{IsRegisters}
-use Rattle.fram_board.specs.Board.{BoardValue, PowerState, IsPowerState, IsBoard, filled, filled_words, powered}
+use Rattle.msp_step.specs.Kept.{IsRegisters}
+use Rattle.fram_board.specs.Board.{BoardValue, PowerState, filled, filled_words, powered}
+use Rattle.fram_board.specs.Steps.{IsPowerState, IsBoard}
 use Rattle.fram_board.specs.Laws.{PowerUpLeavesABoard, FillIsAPowerState}
 
 power_board : (b : BoardValue) (p : PowerState) → IsBoard b → IsPowerState p → IsBoard (powered b p)

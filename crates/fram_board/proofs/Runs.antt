@@ -11,7 +11,8 @@ use Rattle.msp_step.specs.Step.{off_bit}
 use Rattle.msp_step.proofs.Interface.{determined, takes_its_cost, same_current, same_stop, not_stopped}
 use Rattle.fram_board.specs.declared.board.Stepped.{Stepped}
 use Rattle.fram_board.specs.Bus.{BusState, board_bus}
-use Rattle.fram_board.specs.Board.{BoardValue, opened, answer_of, board_outcome, executed, powered, IsNextInstruction, IsStoppedBy, BoardCosts}
+use Rattle.fram_board.specs.Board.{BoardValue, opened, answer_of, board_outcome, executed, powered, IsNextInstruction, IsStoppedBy}
+use Rattle.fram_board.specs.Steps.{BoardCosts}
 use Rattle.fram_board.specs.Run.{Measure, Cycles, Instructions, BoardCharge, price, Moment, End, Charges, Stopped, RunOutcome, run_outcome, after_moments}
 use Rattle.fram_board.specs.Run.{ChargeRun, Spent, NoInstruction, TooDear, Refused, Executed, power_up_of, moment_of, Run, Over, Next, Last}
 use Rattle.fram_board.specs.Laws.{IsDeterminedStep, StepTakesItsCost, HasRun, HasOneRun}

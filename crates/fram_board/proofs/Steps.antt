@@ -4,12 +4,13 @@ use Rattle.msp_isa.specs.declared.instructions.Instr.{Instr}
 use Rattle.msp_step.specs.declared.machine.Stop.{Stop}
 use Rattle.msp_step.specs.declared.machine.Stepped as machine
 use Rattle.msp_step.specs.Registers.{registers_of}
-use Rattle.msp_step.specs.Access.{OnlyReads}
+use Rattle.msp_step.specs.Reads.{OnlyReads}
 use Rattle.msp_step.specs.Step.{Outcome, execution}
 use Rattle.fram_board.specs.declared.board.Stepped.{Stepped}
 use Rattle.fram_board.specs.declared.receiver.Receiver.{Receiver}
 use Rattle.fram_board.specs.Bus.{BusState, board_bus}
-use Rattle.fram_board.specs.Board.{BoardValue, BoardOutcome, opened, board_outcome, executed, register_list, is_accepted, receiver_after, OffersOneAtMost, KeepsAllButTaken}
+use Rattle.fram_board.specs.Board.{BoardValue, BoardOutcome, opened, board_outcome, executed, register_list, is_accepted, receiver_after}
+use Rattle.fram_board.specs.Steps.{OffersOneAtMost, KeepsAllButTaken}
 use Rattle.fram_board.proofs.Takes.{TakesUpTo, execution_takes, only_takes}
 
 -- the board of these parts

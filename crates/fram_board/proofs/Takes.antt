@@ -4,7 +4,8 @@ use Rattle.alp_words.specs.declared.Width.{Width}
 use Rattle.alp_words.specs.declared.Width.TheVariants.{Word, Byte}
 use Rattle.msp_isa.specs.declared.instructions.Instr.{Instr}
 use Rattle.msp_step.specs.Registers.{Registers}
-use Rattle.msp_step.specs.Access.{Access, Completed, Faulted, HasRead, Nothing, Once, OnlyReads}
+use Rattle.msp_step.specs.Access.{Access, Completed, Faulted}
+use Rattle.msp_step.specs.Reads.{HasRead, Nothing, Once, OnlyReads}
 use Rattle.msp_step.specs.Effect.{Written}
 use Rattle.msp_step.specs.Step.{effect, execution, outcome_of}
 use Rattle.msp_step.specs.Laws.{AfterWrite}

@@ -1,17 +1,14 @@
 -- The board: CPU, memory, ports, readings and receiver; power-up; one step.
-use Rattle.std.specs.Prelude.{ℕ, ◌+◌, ◌-◌, ◌%◌, ◌≡◌, ◌<◌, ◌≤◌, ◌==◌, Bool, if◌then◌else◌, List, [], ◌∷◌, All, length, replicate, slice_index, Result, Ok, Err, Option, Some, None}
+use Rattle.std.specs.Prelude.{ℕ, ◌+◌, ◌-◌, ◌%◌, ◌≡◌, ◌==◌, Bool, if◌then◌else◌, List, [], ◌∷◌, replicate, slice_index, Result, Ok, Err, Option, Some, None}
 use Rattle.msp_isa.specs.declared.instructions.Instr.{Instr}
 use Rattle.msp_step.specs.declared.machine.Stop.{Stop}
 use Rattle.msp_step.specs.declared.machine.Stepped as cpu
-use Rattle.msp_step.specs.declared.machine.Words.{Words}
 use Rattle.msp_step.specs.Registers.{Registers, registers_of, kept, powered_up}
-use Rattle.msp_step.specs.Step.{Outcome, AreCurrentWords, IsCurrentInstruction, IsStopped, StepResult, Costs, execution}
-use Rattle.state_text.specs.image_text.image_map.MapValue.{MapValue}
+use Rattle.msp_step.specs.Step.{Outcome, IsCurrentInstruction, IsStopped, StepResult, execution}
 use Rattle.state_text.specs.image_text.ImageValue.{place_of}
-use Rattle.state_text.specs.declared.state.State.{State}
 use Rattle.fram_board.specs.declared.board.Stepped.{Stepped}
 use Rattle.fram_board.specs.declared.receiver.Receiver.{Receiver}
-use Rattle.fram_board.specs.Bus.{BusState, IsBusState, board_bus}
+use Rattle.fram_board.specs.Bus.{BusState, board_bus}
 
 -- the board between two instructions
 pub record BoardValue : Type 0 where
@@ -54,15 +51,6 @@ pub record PowerState : Type 0 where
   pub ram : List ℕ
   pub outnum : ℕ
 
--- these may be any words
-pub record IsPowerState (p : PowerState) : Type 0 where
-  pub sp : p.sp < 0x10000
-  pub work : All (λ w. w < 0x10000) p.work
-  pub work_len : length p.work ≡ 12
-  pub ram : All (λ w. w < 0x10000) p.ram
-  pub ram_len : length p.ram ≡ 1024
-  pub outnum : p.outnum < 0x10000
-
 -- all of them are the fill word
 abbrev pub filled : ℕ → PowerState
 filled f = record {
@@ -83,10 +71,6 @@ powered b p = record b {
 -- the number of the word that the receiver takes next: as many behind its first as it has accepted, modulo 65536
 abbrev pub next_number : Receiver → ℕ
 next_number r = (r.first + r.accepted) % 0x10000
-
--- what it takes next is the word behind these: their count is its number, modulo 65536
-abbrev pub TakesNextBehind : List ℕ → Receiver → Type 0
-TakesNextBehind ws r = length ws % 0x10000 ≡ next_number r
 
 -- it accepts a word exactly where this is its number
 abbrev pub is_accepted : ℕ → Receiver → Bool
@@ -165,17 +149,9 @@ board_outcome b o = record {
 abbrev pub IsNextInstruction : BoardValue → Instr → Type 0
 IsNextInstruction b i = IsCurrentInstruction board_bus (registers_of b.cpu) (opened b) i
 
--- these words stand at PC, and CPUOFF is clear
-abbrev pub AreNextWords : BoardValue → Words → Type 0
-AreNextWords b words = AreCurrentWords board_bus (registers_of b.cpu) (opened b) words
-
 -- CPUOFF is set, or no instruction can be had at PC
 abbrev pub IsStoppedBy : BoardValue → Stop → Type 0
 IsStoppedBy b stop = IsStopped board_bus (registers_of b.cpu) (opened b) stop
-
--- the next instruction's cycles, or why there is none
-abbrev pub BoardCosts : BoardValue → Result ℕ Stop → Type 0
-BoardCosts b answer = Costs board_bus (registers_of b.cpu) (opened b) answer
 
 -- an instruction, executed as the one at PC
 abbrev pub executed : BoardValue → Instr → BoardOutcome
@@ -184,25 +160,3 @@ executed b i = board_outcome b (execution board_bus i (registers_of b.cpu) (open
 -- one step of the board is one step of its CPU on its bus
 abbrev pub IsStep : BoardValue → BoardOutcome → Type 0
 IsStep b x = (o : Outcome BusState) × StepResult board_bus (registers_of b.cpu) (opened b) o × (x ≡ board_outcome b o)
-
--- the same of what is answered and the board after it; what was offered is left out
-abbrev pub IsStepOf : BoardValue → Result Stepped Stop → BoardValue → Type 0
-IsStepOf b answer after = (offered : Option ℕ) × IsStep b (record { answer = answer; offered = offered; board = after })
-
--- a stop changes nothing, but that up to two readings were taken
-pub record KeepsAllButTaken (b after : BoardValue) : Type 0 where
-  pub same : after ≡ record b { taken = after.taken }
-  pub from : b.taken ≤ after.taken
-  pub to : after.taken ≤ b.taken + 2
-
--- what is saved of a board, with what its image says of it: FRAM and the number of the word that the receiver takes next
-abbrev pub saved : BoardValue → Option MapValue → State
-saved b map = record { image = record { words = b.fram; map = map }; receiver = next_number b.receiver }
-
--- at most one word more was accepted or repeated
-abbrev pub OffersOneAtMost : Receiver → Receiver → Type 0
-OffersOneAtMost r after = after.accepted + after.repeats ≤ r.accepted + r.repeats + 1
-
--- the lists are as long as the memory map says, and no more readings are taken than there are
-abbrev pub IsBoard : BoardValue → Type 0
-IsBoard b = IsBusState (opened b)

@@ -1,8 +1,9 @@
 -- Laws of the board's step and of its run.
 use Rattle.std.specs.Prelude.{ℕ, ◌≡◌, ◌<◌, ◌+◌, List, length, Ok}
-use Rattle.msp_step.specs.Registers.{IsRegisters}
+use Rattle.msp_step.specs.Kept.{IsRegisters}
 use Rattle.fram_board.specs.declared.board.Stepped.{Stepped}
-use Rattle.fram_board.specs.Board.{BoardValue, BoardOutcome, IsBoard, IsStep, BoardCosts, PowerState, IsPowerState, filled, powered}
+use Rattle.fram_board.specs.Board.{BoardValue, BoardOutcome, IsStep, PowerState, filled, powered}
+use Rattle.fram_board.specs.Steps.{IsBoard, BoardCosts, IsPowerState}
 use Rattle.fram_board.specs.Effects.{MakesItsEffects}
 use Rattle.fram_board.specs.Run.{BoardCharge, RunOutcome, Run, accepted_words}
 

@@ -1,5 +1,7 @@
 pub mod Bus
 pub mod Board
+pub mod Saved
+pub mod Steps
 pub mod Effects
 pub mod Run
 pub mod Laws

@@ -2,7 +2,9 @@
 
 ghost use Rattle.std.specs.Prelude.{◌≡◌, ℕ, ◌+◌, ◌-◌, ◌^◌, ◌<◌, ◌≤◌, length, None, IfOk, IfErr, OnErr};
 ghost use Rattle.state_text.specs.image_text.ImageValue.{word_at};
-ghost use Rattle.fram_board.specs.Board.{accepted_word, receiver_after, started, fresh, next_number, saved, powered, filled, executed, IsNextInstruction, AreNextWords, IsStoppedBy, BoardCosts, IsStepOf, KeepsAllButTaken, OffersOneAtMost, IsBoard};
+ghost use Rattle.fram_board.specs.Board.{accepted_word, receiver_after, started, fresh, next_number, powered, filled, executed, IsNextInstruction, IsStoppedBy};
+ghost use Rattle.fram_board.specs.Saved.{saved};
+ghost use Rattle.fram_board.specs.Steps.{AreNextWords, BoardCosts, IsStepOf, KeepsAllButTaken, OffersOneAtMost, IsBoard};
 
 use crate::bus::Devices;
 use crate::receiver::Receiver;

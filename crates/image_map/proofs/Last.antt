@@ -2,7 +2,8 @@
 use Rattle.std.proofs.Common.{◌≡◌, ◌≤◌, ℕ, suc, zero, ◌-◌, List, [], ◌∷◌, ◌++◌, length, get_or, slice_set, arith, refl, ap, sym, subst, ◌∙◌, true, false, Some, drop}
 use Rattle.std.proofs.Math.ListN.{drop_of_length-le}
 use Rattle.image_map.specs.declared.parts.Variable.{Variable}
-use Rattle.image_map.specs.MapValue.{MapValue, TaskValue, IsMap, are_scalars, takes_private, last_privates, follow, onto_last}
+use Rattle.image_map.specs.MapValue.{MapValue, TaskValue, are_scalars, takes_private, last_privates, follow, onto_last}
+use Rattle.image_map.specs.Kept.{IsMap}
 use Rattle.image_map.proofs.Rules.{private_more}
 
 pub no_scalars : (ns : List (List ℕ)) (name : List ℕ) → are_scalars (ns ++ name ∷ []) [] ≡ false

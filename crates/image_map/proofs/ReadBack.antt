@@ -23,7 +23,8 @@ use Rattle.image_map.specs.declared.parts.ValueType.{ValueType}
 use Rattle.image_map.specs.declared.parts.ValueType.TheVariants as value_type
 use Rattle.image_map.specs.declared.parts.Variable.{Variable}
 use Rattle.image_map.specs.Names.{is_name, is_letter, is_name_byte, name_of}
-use Rattle.image_map.specs.MapValue.{MapValue, TaskValue, IsMap, IsFramWord, AreFramWords, IsPlace, IsVariable, fits, are_scalars, takes_variable}
+use Rattle.image_map.specs.MapValue.{MapValue, TaskValue, IsFramWord, AreFramWords, IsPlace, IsVariable, fits, are_scalars, takes_variable}
+use Rattle.image_map.specs.Kept.{IsMap}
 use Rattle.image_map.specs.MapValue.{takes_task, takes_private, with_private}
 use Rattle.image_map.specs.Line.{single_from, line_fields, address_digit, address_of, fram_word, decimal_below, type_of, bound_of, words_of, place_of, start_of}
 use Rattle.image_map.specs.Reading.{◌>>=◌, take_line, take_copies, with_copies, rest_lines, head, step, body, put_variable, put_task, put_private}

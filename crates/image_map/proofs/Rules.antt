@@ -6,7 +6,8 @@ use Rattle.std.proofs.lemmas.List.Elements.{All-nil, All-cons, All-push}
 use Rattle.std.specs.Str.{bytes_eq}
 use Rattle.std.proofs.lemmas.Bool.{and_parts, and_from}
 use Rattle.image_map.specs.declared.parts.Variable.{Variable}
-use Rattle.image_map.specs.MapValue.{MapValue, TaskValue, IsMap, IsFramWord, IsVariable, are_different, are_scalars, is_among, is_used, is_fram_word, fits}
+use Rattle.image_map.specs.MapValue.{MapValue, TaskValue, IsFramWord, IsVariable, are_different, are_scalars, is_among, is_used, is_fram_word, fits}
+use Rattle.image_map.specs.Kept.{IsMap}
 use Rattle.image_map.specs.MapValue.{variable_names, task_names, takes_variable, with_variable, takes_task, with_task, takes_private, with_private}
 use Rattle.image_map.specs.MapValue.{last_privates, follow, onto_last}
 

@@ -7,7 +7,8 @@ use Rattle.std.proofs.lemmas.Bool.Decides.{nat_tests}
 use Rattle.std.proofs.lemmas.Bool.{and_parts}
 use Rattle.std.proofs.lemmas.List.{map-append}
 use Rattle.image_map.specs.declared.parts.Variable.{Variable}
-use Rattle.image_map.specs.MapValue.{MapValue, TaskValue, IsMap, IsFramWord, IsVariable, is_fram_word, is_among, variable_names, task_names, are_different}
+use Rattle.image_map.specs.MapValue.{MapValue, TaskValue, IsFramWord, IsVariable, is_fram_word, is_among, variable_names, task_names, are_different}
+use Rattle.image_map.specs.Kept.{IsMap}
 use Rattle.image_map.specs.MapValue.{are_scalars, is_scalar_of, last_privates, follow, onto_last, takes_variable, takes_task, takes_private}
 
 neither : (a b : Bool) → not (a || b) ≡ true → (not a ≡ true) × (not b ≡ true)

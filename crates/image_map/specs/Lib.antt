@@ -1,5 +1,6 @@
 pub mod Names
 pub mod MapValue
+pub mod Kept
 pub mod MapView
 pub mod Line
 pub mod Reading

@@ -1,5 +1,5 @@
 -- What a map is, its rules, and what a line may add to it.
-use Rattle.std.specs.Prelude.{◌≡◌, ℕ, ◌+◌, ◌*◌, ◌%◌, ◌^◌, ◌==◌, ◌<◌, ◌≤◌, ◌&&◌, ◌||◌, Bool, true, false, nat_lt, nat_le, not, if◌then◌else◌, List, [], ◌∷◌, ◌++◌, length, map, Option, Some, None, is_none, IfSome, All}
+use Rattle.std.specs.Prelude.{◌≡◌, ℕ, ◌+◌, ◌*◌, ◌%◌, ◌^◌, ◌==◌, ◌<◌, ◌≤◌, ◌&&◌, ◌||◌, Bool, true, false, nat_lt, nat_le, not, if◌then◌else◌, List, [], ◌∷◌, ◌++◌, length, map, Option, Some, None, is_none}
 use Rattle.std.specs.List.{list_any}
 use Rattle.std.specs.Str.{bytes_eq}
 use Rattle.image_map.specs.declared.parts.RuntimeWords.{RuntimeWords}
@@ -135,17 +135,3 @@ pub record IsVariable (v : Variable) : Type 0 where
 abbrev pub are_different : List (List ℕ) → List (List ℕ) → Bool
 are_different before [] = true
 are_different before (n ∷ ns) = not (is_among n before) && are_different (before ++ n ∷ []) ns
-
--- the rules of a map
-pub record IsMap (m : MapValue) : Type 0 where
-  pub bound : m.bound < 2 ^ 32
-  pub words : AreFramWords m.words
-  pub list : IsPlace m.list
-  pub emits : IsPlace m.emits
-  pub versions : IsPlace m.versions
-  pub copies : IfSome m.copies IsPlace
-  pub variables : All IsVariable m.variables
-  pub few_variables : length m.variables ≤ 256
-  pub few_tasks : length m.tasks ≤ 64
-  pub different : are_different [] (variable_names m.variables ++ task_names m.tasks) ≡ true
-  pub privates : All (λ t. are_scalars t.privates m.variables ≡ true) m.tasks

@@ -7,7 +7,8 @@ use Rattle.link_image.specs.fram_board.Run.{BoardCharge, Moment, RunOutcome}
 use Rattle.link_image.specs.board_run.Charges.{charges_of}
 use Rattle.link_image.specs.machine_effects.Machine.{IsFram, fram_of}
 use Rattle.link_image.specs.machine_effects.Runs.{last_board}
-use Rattle.link_image.specs.source_values.Runs.{CheckedProgram, IsRunnable, first_state}
+use Rattle.link_image.specs.source_values.Runs.{CheckedProgram, first_state}
+use Rattle.link_image.specs.source_values.Running.{IsRunnable}
 use Rattle.link_image.specs.source_meaning.Acceptance.{IsAcceptedText}
 use Rattle.link_image.proofs.source_meaning.Interface.{accepted_texts_run}
 use Rattle.link_image.specs.crash_rules.Laws.{Resting}

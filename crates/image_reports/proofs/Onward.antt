@@ -5,7 +5,9 @@ use Rattle.std.proofs.lemmas.List.{take-append-drop}
 use Rattle.link_image.specs.msp_isa.Encoding.{encoding}
 use Rattle.link_image.specs.msp_step.Registers.{registers_of}
 use Rattle.link_image.specs.image_text.ImageValue.{ImageValue}
-use Rattle.link_image.specs.fram_board.Board.{BoardValue, TakesNextBehind, PowerState, IsPowerState, powered, started, filled}
+use Rattle.link_image.specs.fram_board.Board.{BoardValue, PowerState, powered, started, filled}
+use Rattle.link_image.specs.fram_board.Saved.{TakesNextBehind}
+use Rattle.link_image.specs.fram_board.Steps.{IsPowerState}
 use Rattle.link_image.specs.fram_board.Effects.{Effect}
 use Rattle.link_image.specs.fram_board.Run.{BoardCharge, PowerUp, Moment, RunOutcome}
 use Rattle.link_image.proofs.fram_board.Interface.{fill_is_a_power_state}

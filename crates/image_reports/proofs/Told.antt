@@ -8,7 +8,8 @@ use Rattle.link_image.specs.fram_board.Run.{BoardCharge, RunOutcome}
 use Rattle.link_image.specs.board_run.Charges.{charges_of}
 use Rattle.link_image.specs.board_run.History.{start_with, start_of}
 use Rattle.link_image.specs.board_run.Report.{report_of}
-use Rattle.link_image.specs.source_values.Runs.{CheckedProgram, IsRunnable}
+use Rattle.link_image.specs.source_values.Runs.{CheckedProgram}
+use Rattle.link_image.specs.source_values.Running.{IsRunnable}
 use Rattle.link_image.specs.source_meaning.Acceptance.{IsAcceptedText}
 use Rattle.link_image.proofs.source_meaning.Interface.{accepted_texts_run}
 use Rattle.link_image.specs.run_charges.Laws.{IsRunOfWords}

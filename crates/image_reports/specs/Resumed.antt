@@ -5,7 +5,8 @@ use Rattle.link_image.specs.msp_step.declared.machine.Stop.{Stop}
 use Rattle.link_image.specs.msp_step.declared.machine.Stop.TheVariants as stop
 use Rattle.link_image.specs.image_map.MapValue.{MapValue}
 use Rattle.link_image.specs.image_text.ImageValue.{ImageValue}
-use Rattle.link_image.specs.fram_board.Board.{BoardValue, TakesNextBehind, started}
+use Rattle.link_image.specs.fram_board.Board.{BoardValue, started}
+use Rattle.link_image.specs.fram_board.Saved.{TakesNextBehind}
 use Rattle.link_image.specs.fram_board.Run.{BoardCharge, Moment, Stopped, RunOutcome, Run, accepted_words}
 use Rattle.link_image.specs.board_run.History.{start_of}
 use Rattle.link_image.specs.board_run.Report.{report_of}

@@ -1,8 +1,10 @@
 -- A compiled source with its map.
 use Rattle.std.specs.Prelude.{◌≡◌, ℕ, List}
-use Rattle.link_image.specs.image_map.MapValue.{MapValue, IsMap}
+use Rattle.link_image.specs.image_map.MapValue.{MapValue}
+use Rattle.link_image.specs.image_map.Kept.{IsMap}
 use Rattle.link_image.specs.cost_bound.Allowance.{bound_of}
-use Rattle.link_image.specs.source_values.Runs.{CheckedProgram, State, IsRunnable}
+use Rattle.link_image.specs.source_values.Runs.{CheckedProgram, State}
+use Rattle.link_image.specs.source_values.Running.{IsRunnable}
 use Rattle.link_image.specs.memory_map.MemoryMap.{MemoryMap}
 use Rattle.link_image.specs.machine_effects.World.{World}
 use Rattle.link_image.specs.stands_for.StandsFor.{RestsAt}

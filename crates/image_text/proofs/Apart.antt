@@ -1,7 +1,8 @@
 -- The sections of words are rising, apart and as long as can be.
 use Rattle.std.proofs.Common.{◌≡◌, ℕ, suc, ◌+◌, List, [], ◌∷◌, ◌++◌, length, arith, refl, ap, sym, subst, ◌∙◌, if◌then◌else◌, Bool, true, false, append_assoc}
 use Rattle.std.proofs.Common.{true≢false}
-use Rattle.image_text.specs.Text.{is_shown, begins_shown, onto_section, sections, Section, AreShown, AreSections}
+use Rattle.image_text.specs.Text.{is_shown, begins_shown, onto_section, sections, Section, AreShown}
+use Rattle.image_text.specs.Sections.{AreSections}
 
 -- a word more that isn't shown
 hidden_more : (j w : ℕ) (ws : List ℕ) (ss : List Section) → is_shown j w ≡ false → AreSections (j + 1) ws ss → AreSections j (w ∷ ws) ss

@@ -2,7 +2,8 @@
 use Rattle.std.proofs.Common.{◌≡◌, ◌≢◌, ◌≤◌, ◌<◌, ℕ, suc, zero, ◌+◌, List, [], ◌∷◌, length, drop, take, arith, refl, ap, sym, ◌∙◌, if◌then◌else◌, Bool, true}
 use Rattle.std.proofs.Common.{false, length-drop}
 use Rattle.text_parts.proofs.Interface.{behind, behind_is}
-use Rattle.image_text.specs.Text.{is_shown, begins_shown, onto_section, sections, Section, hidden_len, shown_len}
+use Rattle.image_text.specs.Text.{is_shown, begins_shown, onto_section, sections, Section}
+use Rattle.image_text.specs.Sections.{hidden_len, shown_len}
 
 no_sections : (j : ℕ) → sections j [] ≡ []
 unfolding sections

@@ -4,7 +4,8 @@ use Rattle.std.proofs.Common.{◌∙◌, if◌then◌else◌, not, Bool, true, f
 use Rattle.std.proofs.lemmas.Bool.Decides.{nat_tests}
 use Rattle.std.specs.Prelude.{is_some, unwrap_or}
 use Rattle.image_text.specs.Reading.{◌>>=◌, read, finish, words_of, empty, image_of, image_behind, are_blank, map_behind}
-use Rattle.image_text.specs.Text.{is_shown, begins_shown, onto_section, sections, bytes_in, Section, lines_of_sections, text_of, map_part, IsReadBack}
+use Rattle.image_text.specs.Text.{is_shown, begins_shown, onto_section, sections, bytes_in, Section, lines_of_sections, text_of, map_part}
+use Rattle.image_text.specs.Sections.{IsReadBack}
 use Rattle.text_parts.specs.Lines.{lines, pieces}
 use Rattle.text_parts.specs.Fields.{fields, no_fields}
 use Rattle.text_parts.specs.Printed.{printed}

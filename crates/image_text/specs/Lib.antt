@@ -5,6 +5,7 @@ pub mod Memory
 pub mod Reading
 pub mod Builder
 pub mod Text
+pub mod Sections
 pub mod Meaning
 pub mod Read
 pub use Rattle.image_map.specs.alp_text as alp_text

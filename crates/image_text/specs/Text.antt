@@ -1,8 +1,7 @@
 -- An image as a TI-TXT text: its sections of words that are shown, then its map.
-use Rattle.std.specs.Prelude.{◌≡◌, ◌<◌, ℕ, suc, ◌+◌, ◌*◌, ◌/◌, ◌%◌, ◌==◌, ◌||◌, Bool, true, false, not, if◌then◌else◌, List, [], ◌∷◌, ◌++◌, length, map, Option, Some, None}
+use Rattle.std.specs.Prelude.{◌≡◌, ◌<◌, ℕ, ◌+◌, ◌*◌, ◌/◌, ◌%◌, ◌==◌, ◌||◌, Bool, true, false, not, if◌then◌else◌, List, [], ◌∷◌, ◌++◌, length, map, Option, Some, None}
 use Rattle.alp_words.specs.Words.{word_bytes}
 use Rattle.image_map.specs.MapValue.{MapValue}
-use Rattle.image_map.specs.ReadsBack.{ReadsBack}
 use Rattle.image_map.specs.Text.{map_fields}
 use Rattle.text_parts.specs.Groups.{groups}
 use Rattle.text_parts.specs.Hex.{upper_hex}
@@ -60,11 +59,6 @@ abbrev pub map_part : Option MapValue → List (List (List ℕ))
 map_part None = []
 map_part (Some m) = map_fields m
 
--- what is printed of a map, if there is one, reads back
-abbrev pub IsReadBack : Option MapValue → Type 0
-IsReadBack None = Unit {0}
-IsReadBack (Some m) = ReadsBack m
-
 -- the two bytes of a word
 abbrev pub pair_text : ℕ → List ℕ
 pair_text w = upper_hex (w % 256) ++ 32 ∷ upper_hex (w / 256)
@@ -73,16 +67,6 @@ pair_text w = upper_hex (w % 256) ++ 32 ∷ upper_hex (w / 256)
 unfoldable pub tail_text : List ℕ → List ℕ
 tail_text [] = []
 tail_text (w ∷ ws) = 32 ∷ pair_text w ++ tail_text ws
-
--- how many words at the front are not shown, where the first stands at a place
-abbrev pub hidden_len : ℕ → List ℕ → ℕ
-hidden_len j [] = 0
-hidden_len j (w ∷ ws) = if is_shown j w then 0 else suc (hidden_len (j + 1) ws)
-
--- how many words at the front are shown
-abbrev pub shown_len : ℕ → List ℕ → ℕ
-shown_len j [] = 0
-shown_len j (w ∷ ws) = if is_shown j w then suc (shown_len (j + 1) ws) else 0
 
 -- each word in a row is shown, or none is
 abbrev pub AreShown : Bool → ℕ → List ℕ → Type 0
@@ -98,8 +82,3 @@ pub record BeginsWithSection (j : ℕ) (ws : List ℕ) (s : Section) (rest : Lis
   pub some : 0 < length s.words
   pub shown : AreShown true s.place s.words
   pub longest : begins_shown (s.place + length s.words) rest ≡ false
-
--- the sections of words from a place on: rising, apart, each as long as can be, and no other word is shown
-abbrev pub AreSections : ℕ → List ℕ → List Section → Type 0
-AreSections j ws [] = AreShown false j ws
-AreSections j ws (s ∷ ss) = (rest : List ℕ) × BeginsWithSection j ws s rest × AreSections (s.place + length s.words) rest ss

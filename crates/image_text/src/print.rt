@@ -3,7 +3,8 @@ ghost use Rattle.std.specs.Prelude.{◌≡◌, ◌≤◌, ◌<◌, ◌+◌, ◌*
 ghost use Rattle.text_parts.specs.Groups.{groups};
 ghost use Rattle.text_parts.specs.Hex.{upper_hex};
 ghost use Rattle.text_parts.specs.Printed.{spaced, printed};
-ghost use Rattle.image_text.specs.Text.{is_shown, sections, section_lines, lines_of_sections, text_of, upper_hex4, bytes_in, pair_text, tail_text, hidden_len, shown_len, map_part, IsReadBack, AreSections};
+ghost use Rattle.image_text.specs.Text.{is_shown, sections, section_lines, lines_of_sections, text_of, upper_hex4, bytes_in, pair_text, tail_text, map_part};
+ghost use Rattle.image_text.specs.Sections.{hidden_len, shown_len, IsReadBack, AreSections};
 ghost use Rattle.image_text.specs.ImageValue.{HasTask};
 ghost use Rattle.image_text.specs.Reading.{image_of};
 

@@ -3,7 +3,8 @@ use Rattle.std.proofs.Common.{◌≡◌, ◌≢◌, ℕ, zero, suc, ◌+◌, ◌
 use Rattle.std.proofs.lemmas.Bool.Decides.{nat_tests}
 use Rattle.std.specs.Prelude.{slice_index}
 use Rattle.linked_code.specs.cost_bound.declared.allowance.Allow.{Allow}
-use Rattle.whole_programs.specs.source_values.Runs.{CheckedProgram, IsRunnable, first_state, initial_rows}
+use Rattle.whole_programs.specs.source_values.Runs.{CheckedProgram, first_state, initial_rows}
+use Rattle.whole_programs.specs.source_values.Running.{IsRunnable}
 use Rattle.source_meaning.specs.Acceptance.{IsAcceptedText}
 use Rattle.source_meaning.proofs.Interface.{accepted_texts_run}
 use Rattle.image_text.specs.ImageValue.{ImageValue, place_of}

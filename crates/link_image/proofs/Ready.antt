@@ -1,7 +1,8 @@
 -- A source with its plan and its layout is ready to be linked.
 use Rattle.std.proofs.Common.{ℕ, List, arith}
 use Rattle.linked_code.specs.cost_bound.declared.allowance.Allow.{Allow}
-use Rattle.whole_programs.specs.source_values.Runs.{CheckedProgram, IsRunnable}
+use Rattle.whole_programs.specs.source_values.Runs.{CheckedProgram}
+use Rattle.whole_programs.specs.source_values.Running.{IsRunnable}
 use Rattle.source_meaning.specs.Acceptance.{IsAcceptedText}
 use Rattle.war_analysis.specs.PlanValue.{TaskPlanValue}
 use Rattle.war_analysis.specs.Plans.{IsPlan}

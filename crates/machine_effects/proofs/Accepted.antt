@@ -17,7 +17,8 @@ use Rattle.fram_board.specs.declared.board.Stepped.{Stepped}
 use Rattle.fram_board.specs.declared.receiver.Receiver.{Receiver}
 use Rattle.fram_board.specs.Bus.{BusState, board_bus, is_ram, is_fram, is_memory, is_word, memory_word, with_word, with_byte, written, port_written}
 use Rattle.fram_board.specs.Bus.{number_port, data_port}
-use Rattle.fram_board.specs.Board.{BoardValue, opened, answer_of, executed, is_accepted, accepted_word, TakesNextBehind}
+use Rattle.fram_board.specs.Board.{BoardValue, opened, answer_of, executed, is_accepted, accepted_word}
+use Rattle.fram_board.specs.Saved.{TakesNextBehind}
 use Rattle.fram_board.specs.Effects.{Effect, Store, Take, store_at, sends_of}
 use Rattle.fram_board.specs.Run.{Measure, price, moment_of, RunOutcome, ChargeRun, Spent, NoInstruction, TooDear, Refused, Executed, word_list, accepted_words}
 use Rattle.fram_board.proofs.Interface.{only_takes, counted, first_kept}

@@ -8,7 +8,8 @@ use Rattle.fram_board.specs.alp_words.declared.Width.{Width}
 use Rattle.fram_board.specs.alp_words.declared.Width.TheVariants.{Word, Byte}
 use Rattle.fram_board.specs.msp_isa.declared.instructions.Instr.{Instr}
 use Rattle.fram_board.specs.msp_step.Registers.{Registers}
-use Rattle.fram_board.specs.msp_step.Access.{Access, Completed, Faulted, HasRead, Nothing, Once, OnlyReads}
+use Rattle.fram_board.specs.msp_step.Access.{Access, Completed, Faulted}
+use Rattle.fram_board.specs.msp_step.Reads.{HasRead, Nothing, Once, OnlyReads}
 use Rattle.fram_board.specs.msp_step.Effect.{Written}
 use Rattle.fram_board.specs.msp_step.Step.{effect, off_bit}
 use Rattle.fram_board.specs.msp_step.Laws.{AfterWrite}

@@ -3,7 +3,9 @@ use Rattle.std.specs.Prelude.{ℕ, ◌≡◌, ◌<◌, ◌≤◌, List, All, ◌
 use Rattle.fram_board.specs.msp_isa.declared.instructions.Instr.{Instr}
 use Rattle.fram_board.specs.msp_isa.Encoding.{encoding}
 use Rattle.fram_board.specs.msp_step.Registers.{registers_of, powered_up}
-use Rattle.fram_board.specs.Board.{BoardValue, BoardOutcome, TakesNextBehind, IsStep, PowerState, IsPowerState, powered, fresh, vector_of}
+use Rattle.fram_board.specs.Board.{BoardValue, BoardOutcome, IsStep, PowerState, powered, fresh, vector_of}
+use Rattle.fram_board.specs.Saved.{TakesNextBehind}
+use Rattle.fram_board.specs.Steps.{IsPowerState}
 use Rattle.fram_board.specs.Effects.{Effect}
 use Rattle.fram_board.specs.Run.{Measure, Moment, RunOutcome, ChargeRun, accepted_words}
 use Rattle.machine_effects.specs.World.{World, fram_after, accepted_after, world_after, readings_taken}

@@ -1,9 +1,11 @@
 -- The board of the running program as the machine.
 use Rattle.std.specs.Prelude.{ℕ, ◌≡◌, ◌<◌, ◌⊎◌, List, All, drop, Result, Ok, Err}
 use Rattle.fram_board.specs.msp_step.declared.machine.Stop.{Stop}
-use Rattle.fram_board.specs.msp_step.Registers.{IsRegisters, registers_of}
+use Rattle.fram_board.specs.msp_step.Registers.{registers_of}
+use Rattle.fram_board.specs.msp_step.Kept.{IsRegisters}
 use Rattle.fram_board.specs.declared.board.Stepped.{Stepped}
-use Rattle.fram_board.specs.Board.{BoardValue, BoardOutcome, BoardCosts, IsBoard}
+use Rattle.fram_board.specs.Board.{BoardValue, BoardOutcome}
+use Rattle.fram_board.specs.Steps.{BoardCosts, IsBoard}
 use Rattle.fram_board.specs.Effects.{Effect, effects_of}
 use Rattle.machine_effects.specs.Going.{Goes, Stops}
 use Rattle.machine_effects.specs.Machine.{MachineBoard, MachineOutcome, fram_of, ram_of}

@@ -2,7 +2,8 @@
 use Rattle.std.proofs.Common.{◌≡◌, ℕ, ◌+◌, ◌-◌, ◌≤◌, refl, sym, ap, ◌∙◌, subst, arith, true, false, cond, List, [], ◌∷◌, length, length-append, append-nil, Ok}
 use Rattle.crash_rules.specs.msp_isa.declared.instructions.Instr.{Instr}
 use Rattle.crash_rules.specs.fram_board.declared.board.Stepped.{Stepped}
-use Rattle.crash_rules.specs.fram_board.Board.{BoardValue, PowerState, IsPowerState, powered, executed, IsNextInstruction}
+use Rattle.crash_rules.specs.fram_board.Board.{BoardValue, PowerState, powered, executed, IsNextInstruction}
+use Rattle.crash_rules.specs.fram_board.Steps.{IsPowerState}
 use Rattle.crash_rules.specs.fram_board.Effects.{Effect}
 use Rattle.crash_rules.specs.fram_board.Run.{Measure, price, Moment, moment_of, Charges, Stopped, RunOutcome, run_outcome, BoardCharge, ChargeRun, Spent, NoInstruction}
 use Rattle.crash_rules.specs.fram_board.Run.{TooDear, Refused, Executed, Run, Over, Next, Last}

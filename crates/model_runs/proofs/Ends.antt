@@ -2,7 +2,8 @@
 use Rattle.std.proofs.Common.{◌≡◌, ℕ, suc, ◌-◌, ◌<◌, false, refl, sym, ap, ◌∙◌, subst, List, [], ◌∷◌, ◌++◌, length, drop, map, append_assoc}
 use Rattle.crash_rules.specs.msp_step.declared.machine.Stop.{Stop}
 use Rattle.crash_rules.specs.msp_step.declared.machine.Stop.TheVariants as stop
-use Rattle.crash_rules.specs.fram_board.Board.{BoardValue, IsPowerState, powered, executed}
+use Rattle.crash_rules.specs.fram_board.Board.{BoardValue, powered, executed}
+use Rattle.crash_rules.specs.fram_board.Steps.{IsPowerState}
 use Rattle.crash_rules.specs.fram_board.Effects.{Effect, Take}
 use Rattle.crash_rules.specs.fram_board.Run.{Measure, price, Moment, Charges, Stopped, RunOutcome, run_outcome, BoardCharge, ChargeRun, Spent, NoInstruction, TooDear, Refused, Executed, Run, Over, Next, Last, power_up_of}
 use Rattle.crash_rules.specs.machine_effects.World.{World, EachStore}

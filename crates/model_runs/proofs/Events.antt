@@ -8,7 +8,8 @@ use Rattle.std.proofs.lemmas.Bool.Decides.{nat_tests}
 use Rattle.std.specs.Prelude.{flat_map}
 use Rattle.board_run.specs.alp_io.Count.{risen}
 use Rattle.board_run.specs.alp_io.Report.{accepted_line, step_line}
-use Rattle.crash_rules.specs.image_map.MapValue.{MapValue, IsMap}
+use Rattle.crash_rules.specs.image_map.MapValue.{MapValue}
+use Rattle.crash_rules.specs.image_map.Kept.{IsMap}
 use Rattle.crash_rules.specs.fram_board.Board.{BoardValue}
 use Rattle.crash_rules.specs.fram_board.Effects.{Effect, Send}
 use Rattle.crash_rules.specs.fram_board.Run.{word_list}

@@ -1,6 +1,7 @@
 -- Fronts of a run whose code is a program of a model.
 use Rattle.std.proofs.Common.{◌≡◌, ℕ, refl, sym, ap, ◌∙◌, subst, List, [], ◌∷◌, ◌++◌, length}
-use Rattle.crash_rules.specs.fram_board.Board.{BoardValue, PowerState, IsPowerState, powered}
+use Rattle.crash_rules.specs.fram_board.Board.{BoardValue, PowerState, powered}
+use Rattle.crash_rules.specs.fram_board.Steps.{IsPowerState}
 use Rattle.crash_rules.specs.fram_board.Run.{Moment, RunOutcome, BoardCharge}
 use Rattle.crash_rules.specs.machine_effects.World.{World}
 use Rattle.crash_rules.specs.machine_effects.Going.{At, going}

@@ -1,9 +1,12 @@
 -- The two histories over the moments of a run.
 use Rattle.std.proofs.Common.{◌≡◌, ℕ, suc, ◌+◌, ◌%◌, refl, sym, ap, ap₂, ◌∙◌, subst, arith, List, [], ◌∷◌, ◌++◌, length, append_assoc, length-append, append-nil, Some, Ok}
 use Rattle.crash_rules.specs.msp_isa.declared.instructions.Instr.{Instr}
-use Rattle.crash_rules.specs.image_map.MapValue.{MapValue, IsMap}
+use Rattle.crash_rules.specs.image_map.MapValue.{MapValue}
+use Rattle.crash_rules.specs.image_map.Kept.{IsMap}
 use Rattle.crash_rules.specs.fram_board.declared.board.Stepped.{Stepped}
-use Rattle.crash_rules.specs.fram_board.Board.{BoardValue, TakesNextBehind, PowerState, IsPowerState, powered, executed, IsNextInstruction}
+use Rattle.crash_rules.specs.fram_board.Board.{BoardValue, PowerState, powered, executed, IsNextInstruction}
+use Rattle.crash_rules.specs.fram_board.Saved.{TakesNextBehind}
+use Rattle.crash_rules.specs.fram_board.Steps.{IsPowerState}
 use Rattle.crash_rules.specs.fram_board.Effects.{Effect}
 use Rattle.crash_rules.specs.fram_board.Run.{PowerUp, Execute, Moment, moment_of, power_up_of, word_list}
 use Rattle.board_run.specs.History.{moment_lines, noted, word_in, with_words, behind_power_up, behind_instruction, instruction_lines, start_with, shared_words}

@@ -2,7 +2,8 @@
 use Rattle.std.proofs.Common.{◌≡◌, ℕ, ◌+◌, ◌-◌, ◌≤◌, refl, sym, ap, ◌∙◌, subst, arith, inl, inr, List, [], ◌∷◌, ◌++◌, length, append_assoc}
 use Rattle.crash_rules.specs.msp_isa.declared.instructions.Instr.{Instr}
 use Rattle.crash_rules.specs.msp_cycles.Cycles.{cycles_of}
-use Rattle.crash_rules.specs.fram_board.Board.{BoardValue, IsPowerState, powered, IsNextInstruction}
+use Rattle.crash_rules.specs.fram_board.Board.{BoardValue, powered, IsNextInstruction}
+use Rattle.crash_rules.specs.fram_board.Steps.{IsPowerState}
 use Rattle.crash_rules.specs.fram_board.Run.{Measure, Cycles, Moment, Charges, RunOutcome, run_outcome, BoardCharge, ChargeRun, Run, Over, Next, Last, power_up_of}
 use Rattle.crash_rules.specs.machine_effects.World.{World}
 use Rattle.crash_rules.specs.machine_effects.Going.{At, stretch, after_effects, going}

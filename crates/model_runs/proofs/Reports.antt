@@ -5,7 +5,8 @@ use Rattle.std.specs.Prelude.{flat_map}
 use Rattle.crash_rules.specs.msp_step.declared.machine.Stop.TheVariants as stop
 use Rattle.board_run.specs.alp_io.Report.{accepted_line, bound_line, end_line}
 use Rattle.board_run.specs.alp_io.declared.report.Reason.TheVariants as reason
-use Rattle.crash_rules.specs.image_map.MapValue.{MapValue, IsMap}
+use Rattle.crash_rules.specs.image_map.MapValue.{MapValue}
+use Rattle.crash_rules.specs.image_map.Kept.{IsMap}
 use Rattle.crash_rules.specs.fram_board.Board.{BoardValue}
 use Rattle.crash_rules.specs.fram_board.Run.{End, Charges, Stopped, BoardCharge, Moment, RunOutcome}
 use Rattle.board_run.specs.History.{start_with, more_lines}

@@ -1,6 +1,7 @@
 -- In one charge the spans follow one another.
 use Rattle.std.proofs.Common.{◌≡◌, ℕ, ◌≤◌, refl, sym, ap, ◌∙◌, subst, arith, true, false, cond, List, [], ◌∷◌, ◌++◌, length, append-nil}
-use Rattle.crash_rules.specs.fram_board.Board.{BoardValue, IsPowerState, powered}
+use Rattle.crash_rules.specs.fram_board.Board.{BoardValue, powered}
+use Rattle.crash_rules.specs.fram_board.Steps.{IsPowerState}
 use Rattle.crash_rules.specs.fram_board.Effects.{Effect}
 use Rattle.crash_rules.specs.fram_board.Run.{Measure, Moment, RunOutcome, BoardCharge, ChargeRun, Run, Over, Next, Last, power_up_of, Charges, Stopped, run_outcome}
 use Rattle.crash_rules.specs.machine_effects.World.{World, world_after_one}

@@ -1,8 +1,10 @@
 -- Laws that join a run's report and the history that is read off its effects.
 use Rattle.std.specs.Prelude.{◌≡◌, ℕ, ◌≤◌, List, ◌++◌, length, flat_map, Some}
 use Rattle.board_run.specs.alp_io.Report.{accepted_line, bound_line}
-use Rattle.crash_rules.specs.image_map.MapValue.{MapValue, IsMap}
-use Rattle.crash_rules.specs.fram_board.Board.{BoardValue, TakesNextBehind}
+use Rattle.crash_rules.specs.image_map.MapValue.{MapValue}
+use Rattle.crash_rules.specs.image_map.Kept.{IsMap}
+use Rattle.crash_rules.specs.fram_board.Board.{BoardValue}
+use Rattle.crash_rules.specs.fram_board.Saved.{TakesNextBehind}
 use Rattle.crash_rules.specs.fram_board.Run.{BoardCharge, Moment, RunOutcome}
 use Rattle.board_run.specs.History.{start_with}
 use Rattle.board_run.specs.History as board

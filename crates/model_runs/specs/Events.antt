@@ -4,7 +4,8 @@ use Rattle.std.specs.Prelude.{◌≡◌, ℕ, zero, suc, ◌-◌, List, [], ◌�
 use Rattle.board_run.specs.alp_io.Count.{risen}
 use Rattle.board_run.specs.alp_io.Report.{accepted_line, step_line}
 use Rattle.crash_rules.specs.image_map.MapValue.{MapValue}
-use Rattle.crash_rules.specs.fram_board.Board.{BoardValue, TakesNextBehind}
+use Rattle.crash_rules.specs.fram_board.Board.{BoardValue}
+use Rattle.crash_rules.specs.fram_board.Saved.{TakesNextBehind}
 use Rattle.board_run.specs.History.{SharedWord, shared_words, task_name, changed_line, more_lines}
 use Rattle.board_run.specs.History as board
 use Rattle.crash_rules.specs.machine_effects.Machine.{fram_of}

@@ -4,7 +4,8 @@ use Rattle.std.proofs.Common.{◌∙◌, if◌then◌else◌, nat_lt, Bool, true
 use Rattle.std.specs.Prelude.{unwrap_or, codes}
 use Rattle.std.proofs.lemmas.Bool.Decides.{nat_tests}
 use Rattle.image_text.specs.Reading.{empty}
-use Rattle.image_text.specs.Text.{Section, sections, is_shown, AreShown, AreSections}
+use Rattle.image_text.specs.Text.{Section, sections, is_shown, AreShown}
+use Rattle.image_text.specs.Sections.{AreSections}
 use Rattle.image_text.proofs.Interface.{nones, put_none, sections_made, nones_append, length_nones, empty_is, words16, AreWords16}
 use Rattle.asm_line.specs.Pieces.{Located, split}
 use Rattle.asm_line.specs.Values.{number}

@@ -18,7 +18,8 @@ use Rattle.msp_step.specs.declared.bus.Refused.{Refused}
 use Rattle.msp_step.specs.declared.operand.Location.{Location}
 use Rattle.msp_step.specs.declared.operand.Location.TheVariants.{Register, Memory}
 use Rattle.msp_step.specs.Registers.{Registers, with_register}
-use Rattle.msp_step.specs.Access.{BusModel, Access, Completed, Faulted, then_do, read_answer, write_answer, read_at, write_at, HasRead, Nothing, Once, OnlyReads}
+use Rattle.msp_step.specs.Access.{BusModel, Access, Completed, Faulted, then_do, read_answer, write_answer, read_at, write_at}
+use Rattle.msp_step.specs.Reads.{HasRead, Nothing, Once, OnlyReads}
 use Rattle.msp_step.specs.Effect.{Written, Operated, load, store, source, destination_operand, finish, after_source, two_operand_effect, reads_destination, writes_destination, operand_location, incremented, operated, flags_of, with_flags, destination_location, sum16, read_modify_write, written_back, rotated, shifted, exchanged, sign_extended, pushed, push_effect, called, call_effect, reti_effect, below_stack}
 use Rattle.msp_step.specs.Step.{effect, one_operand_effect}
 use Rattle.msp_step.specs.Laws.{AfterWrite}

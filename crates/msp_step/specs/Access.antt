@@ -1,5 +1,5 @@
 -- A bus as what it answers, and a computation that goes over it.
-use Rattle.std.specs.Prelude.{◌≡◌, ◌≤◌, ℕ, suc, Result, Ok, Err, Option, Some, None}
+use Rattle.std.specs.Prelude.{ℕ, Result, Ok, Err, Option, Some, None}
 use Rattle.alp_words.specs.declared.Width.{Width}
 use Rattle.msp_step.specs.declared.bus.Refused.{Refused}
 use Rattle.msp_step.specs.declared.bus.Refused.TheVariants as refused
@@ -39,19 +39,3 @@ read_at bus a w s = read_answer (bus.reads s a w) a s (bus.after_read s a w)
 -- a write at an address; it gives x on
 abbrev pub write_at : {S A : Type 0} → BusModel S → ℕ → Width → ℕ → A → S → Access S A
 write_at bus a w v x s = write_answer (bus.writes s a w v) a s x
-
--- the answer of a fetch
-abbrev pub fetch_answer : Option ℕ → Result ℕ Refused
-fetch_answer (Some w) = Ok w
-fetch_answer None = Err refused.Bus
-
--- what a bus holds after so many reads, each of which it served
-pub data HasRead {S : Type 0} (bus : BusModel S) (s : S) : ℕ → S → Type 0 where
-  Nothing : HasRead bus s 0 s
-  Once : (n : ℕ) (t : S) (a : ℕ) (w : Width) (v : ℕ) → HasRead bus s n t → bus.reads t a w ≡ Ok v → HasRead bus s (suc n) (bus.after_read t a w)
-
--- nothing but reads, so many at most
-pub record OnlyReads {S : Type 0} (bus : BusModel S) (most : ℕ) (s t : S) : Type 0 where
-  pub count : ℕ
-  pub few : count ≤ most
-  pub reads : HasRead bus s count t

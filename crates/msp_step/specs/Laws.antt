@@ -4,7 +4,8 @@ use Rattle.alp_words.specs.declared.Width.{Width}
 use Rattle.msp_isa.specs.declared.instructions.Instr.{Instr}
 use Rattle.msp_step.specs.declared.machine.Stepped.{Stepped}
 use Rattle.msp_step.specs.Registers.{Registers}
-use Rattle.msp_step.specs.Access.{BusModel, Access, Completed, Faulted, OnlyReads}
+use Rattle.msp_step.specs.Access.{BusModel, Access, Completed, Faulted}
+use Rattle.msp_step.specs.Reads.{OnlyReads}
 use Rattle.msp_step.specs.Effect.{Written, distance}
 use Rattle.msp_step.specs.Step.{effect, StepResult, Outcome, Costs}
 

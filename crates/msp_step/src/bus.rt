@@ -2,7 +2,8 @@
 
 ghost use Rattle.std.specs.Prelude.{◌≡◌, ℕ, ◌<◌, OnOk, OnErr, IfOk, IfErr, Some, None};
 ghost use Rattle.alp_words.specs.declared.Width.{Width};
-ghost use Rattle.msp_step.specs.Access.{BusModel, fetch_answer};
+ghost use Rattle.msp_step.specs.Access.{BusModel};
+ghost use Rattle.msp_step.specs.Reads.{fetch_answer};
 
 use alp_words::Width;
 

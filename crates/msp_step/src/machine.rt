@@ -2,7 +2,8 @@
 
 ghost use Rattle.std.specs.Prelude.{◌≡◌, ℕ, ◌+◌, ◌*◌, ◌/◌, ◌%◌, ◌<◌, ◌≤◌, length, Some, None, IfOk, IfErr, OnErr, IsTrue};
 ghost use Rattle.std.specs.Option.{option_map};
-ghost use Rattle.msp_step.specs.Access.{Completed, OnlyReads};
+ghost use Rattle.msp_step.specs.Access.{Completed};
+ghost use Rattle.msp_step.specs.Reads.{OnlyReads};
 ghost use Rattle.msp_step.specs.Answer.{answer};
 ghost use Rattle.msp_step.specs.Registers.{registers_of};
 ghost use Rattle.msp_step.specs.Step.{AreWordsAt, AreCurrentWords, one_operand_effect, effect, IsCurrentInstruction, IsNoInstruction, IsStopped, stop_of, execution, StepResult, Costs};

@@ -2,7 +2,8 @@
 ghost use Rattle.std.specs.Prelude.{◌≡◌, ◌≤◌, ◌<◌, ◌^◌, ◌+◌, ◌*◌, ◌++◌, ℕ, List, [], All, length, take, drop, true, Some, None, IfSome, IfNone, IfOk, IfErr, OnOk};
 ghost use Rattle.alp_io.specs.Report.{bound_line, end_line};
 ghost use Rattle.source_report.specs.task_ast.View.{program_of};
-ghost use Rattle.source_values.specs.Runs.{IsShaped, Transition, first_state};
+ghost use Rattle.source_values.specs.Runs.{Transition, first_state};
+ghost use Rattle.source_values.specs.Running.{IsShaped};
 ghost use Rattle.source_report.specs.SourceReport.{Committed, transition_lines};
 ghost use Rattle.source_maps.specs.Names.{HasNames};
 ghost use Rattle.text_parts.specs.Fields.{fields};

@@ -1,7 +1,7 @@
 //! A report checked by its source alone.
 ghost use Rattle.std.specs.Prelude.{◌≡◌, ◌<◌, ◌^◌, length, IfOk, IfErr};
 ghost use Rattle.source_report.specs.task_ast.View.{program_of};
-ghost use Rattle.source_values.specs.Runs.{fresh_run};
+ghost use Rattle.source_values.specs.Running.{fresh_run};
 ghost use Rattle.source_maps.specs.Names.{HasNames};
 ghost use Rattle.source_meaning.specs.Acceptance.{IsAcceptedText};
 ghost use Rattle.report_audit.specs.Good.{IsVerdict};

@@ -2,7 +2,9 @@
 use Rattle.std.proofs.Common.{◌≡◌, ℕ, ◌%◌, sym, ap, ◌∙◌, subst, List, [], ◌∷◌, ◌++◌, length, append_assoc, append-nil, Ok}
 use Rattle.crash_rules.specs.msp_isa.declared.instructions.Instr.{Instr}
 use Rattle.crash_rules.specs.fram_board.declared.board.Stepped.{Stepped}
-use Rattle.crash_rules.specs.fram_board.Board.{BoardValue, TakesNextBehind, next_number, PowerState, IsPowerState, powered, executed, IsNextInstruction}
+use Rattle.crash_rules.specs.fram_board.Board.{BoardValue, next_number, PowerState, powered, executed, IsNextInstruction}
+use Rattle.crash_rules.specs.fram_board.Saved.{TakesNextBehind}
+use Rattle.crash_rules.specs.fram_board.Steps.{IsPowerState}
 use Rattle.crash_rules.specs.fram_board.Effects.{Effect}
 use Rattle.crash_rules.specs.fram_board.Run.{Moment, moment_of, word_list, accepted_by, accepted_words, BoardCharge, RunOutcome}
 use Rattle.crash_rules.specs.machine_effects.World.{accepted_after}

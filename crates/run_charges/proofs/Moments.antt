@@ -10,7 +10,9 @@ use Rattle.crash_rules.specs.msp_step.Step.{effect, execution, Executed}
 use Rattle.crash_rules.specs.fram_board.declared.board.Stepped.{Stepped}
 use Rattle.crash_rules.specs.fram_board.declared.receiver.Receiver.{Receiver}
 use Rattle.crash_rules.specs.fram_board.Bus.{board_bus, is_fram, data_port}
-use Rattle.crash_rules.specs.fram_board.Board.{BoardValue, PowerState, IsPowerState, powered, opened, executed, IsNextInstruction, IsStep, is_accepted, next_number, TakesNextBehind, offered_to}
+use Rattle.crash_rules.specs.fram_board.Board.{BoardValue, PowerState, powered, opened, executed, IsNextInstruction, IsStep, is_accepted, next_number, offered_to}
+use Rattle.crash_rules.specs.fram_board.Saved.{TakesNextBehind}
+use Rattle.crash_rules.specs.fram_board.Steps.{IsPowerState}
 use Rattle.crash_rules.specs.fram_board.Effects.{Effect, Store, Take, Send, sends_of, effects_of, heard}
 use Rattle.crash_rules.specs.fram_board.Run.{Measure, Instructions, price, Moment, moment_of, power_up_of, Charges, RunOutcome, run_outcome, after_moments, ChargeRun}
 use Rattle.crash_rules.specs.fram_board.Run.{Spent, NoInstruction, TooDear, Refused, BoardCharge, Run, Over, Next, Last, word_list}

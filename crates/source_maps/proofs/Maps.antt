@@ -4,7 +4,8 @@ use Rattle.std.specs.Prelude.{All, slice_get}
 use Rattle.std.proofs.lemmas.Option.{slice_get_within, slice_get-get_or}
 use Rattle.std.proofs.lemmas.List.Elements.{All-nil, All-cons, All-weaker}
 use Rattle.task_ast.specs.declared.SharedDeclaration.{SharedDeclaration}
-use Rattle.image_map.specs.MapValue.{IsMap, IsFramWord, AreFramWords, IsPlace, are_different, are_scalars, task_names}
+use Rattle.image_map.specs.MapValue.{IsFramWord, AreFramWords, IsPlace, are_different, are_scalars, task_names}
+use Rattle.image_map.specs.Kept.{IsMap}
 use Rattle.cost_bound.specs.Allowance.{CheckedTask, is_written}
 use Rattle.privatise.specs.war_analysis.PlanValue.{TaskPlanValue}
 use Rattle.privatise.specs.war_analysis.Plans.{IsScalarAt, IsPrivateIn, IsTaskPlan}

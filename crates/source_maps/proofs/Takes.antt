@@ -2,7 +2,8 @@
 use Rattle.std.proofs.Common.{◌≡◌, ◌∙◌, ℕ, true, List, [], ◌∷◌, ◌++◌, sym, ap, subst, append_assoc, append-nil}
 use Rattle.std.specs.Prelude.{All}
 use Rattle.image_map.specs.declared.parts.Variable.{Variable}
-use Rattle.image_map.specs.MapValue.{MapValue, TaskValue, IsMap, are_scalars, with_private}
+use Rattle.image_map.specs.MapValue.{MapValue, TaskValue, are_scalars, with_private}
+use Rattle.image_map.specs.Kept.{IsMap}
 use Rattle.image_map.proofs.Interface.{variables_alone, tasks_alone, task_with, middle, takes_next_variable, takes_next_task, takes_next_private, onto_of}
 use Rattle.source_maps.specs.Adding.{with_variables, TakesVariables, with_privates, TakesPrivates, with_whole_task, with_tasks, TakesTasks}
 

@@ -6,7 +6,7 @@ use Rattle.privatise.specs.war_analysis.PlanValue.{TaskPlanValue}
 use Rattle.privatise.specs.war_analysis.Plans.{IsPlan}
 use Rattle.memory_map.specs.MemoryMap.{MemoryMap}
 use Rattle.privatise.specs.Layouts.{IsLayout}
-use Rattle.image_map.specs.MapValue.{IsMap}
+use Rattle.image_map.specs.Kept.{IsMap}
 use Rattle.source_runs.specs.Naming.{IsMapOf}
 use Rattle.source_maps.specs.Names.{HasNames}
 use Rattle.source_maps.specs.Maps.{map_of}

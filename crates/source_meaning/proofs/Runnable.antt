@@ -19,7 +19,8 @@ use Rattle.task_check.specs.LookedUp.{task_variables, task_targets}
 use Rattle.task_check.proofs.Interface.{few_shared, few_tasks, targets_numbered}
 use Rattle.cost_bound.specs.Allowance.{FewEmits}
 use Rattle.source_values.specs.Statements.{Outcome, goes_on, to_task, short, run_block}
-use Rattle.source_values.specs.Runs.{EndsWell, TransitionComes, EmitsFit, IsRunnable}
+use Rattle.source_values.specs.Runs.{EndsWell, TransitionComes, EmitsFit}
+use Rattle.source_values.specs.Running.{IsRunnable}
 use Rattle.source_meaning.specs.Laws.{AcceptedTextsRun}
 use Rattle.source_meaning.proofs.Emits.{few_emits}
 use Rattle.source_meaning.proofs.Paths.{OnPath, block_path}

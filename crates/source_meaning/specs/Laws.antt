@@ -6,7 +6,7 @@ use Rattle.task_ast.specs.declared.names.TaskName.{TaskName}
 use Rattle.cost_bound.specs.declared.allowance.Allow.{Allow}
 use Rattle.source_meaning.specs.declared.fault.SourceFault.{SourceFault}
 use Rattle.source_meaning.specs.declared.fault.SourceFault.TheVariants as source_fault
-use Rattle.source_values.specs.Runs.{IsRunnable}
+use Rattle.source_values.specs.Running.{IsRunnable}
 use Rattle.source_meaning.specs.Acceptance.{IsAcceptedText, IsRefusedText}
 
 -- of an accepted text no other fault is told than want of memory

@@ -2,7 +2,8 @@
 use Rattle.std.specs.Prelude.{ℕ}
 use denote.Struct.Props as logic
 use Rattle.source_values.specs.Statements.{Outcome, goes_on, to_task, short}
-use Rattle.source_values.specs.Runs.{CheckedProgram, EndsWell, IsRunnable}
+use Rattle.source_values.specs.Runs.{CheckedProgram, EndsWell}
+use Rattle.source_values.specs.Running.{IsRunnable}
 
 -- an outcome ends well in one way at most
 EndsWell-prop : (tasks : ℕ) (o : Outcome) → IsProp (EndsWell tasks o)

@@ -12,7 +12,7 @@ ghost use Rattle.task_lex.specs.Faults.{line_of};
 ghost use Rattle.task_lex.specs.Spans.{InOrder, IsBounded};
 ghost use Rattle.task_parse.specs.Grammar.{IsProgram};
 ghost use Rattle.task_check.specs.Answers.{IsAccepted};
-ghost use Rattle.source_values.specs.Runs.{IsRunnable};
+ghost use Rattle.source_values.specs.Running.{IsRunnable};
 ghost use Rattle.source_meaning.specs.Props.{IsRunnable-prop};
 ghost use Rattle.source_meaning.specs.Acceptance.{Parses, Checks, task_lines, IsAcceptedText, IsRefusedText};
 

@@ -3,7 +3,8 @@
 ghost use Rattle.std.specs.Prelude.{◌≡◌, ◌≤◌, ◌<◌, ◌^◌, [], length, map, drop, IfOk, OnOk, OnErr, Some, slice_index, slice_index_or};
 ghost use Rattle.task_ast.specs.View.{program_of};
 ghost use Rattle.source_values.specs.Statements.{short};
-ghost use Rattle.source_values.specs.Runs.{attempt_of, completion_of, fresh_run};
+ghost use Rattle.source_values.specs.Runs.{attempt_of, completion_of};
+ghost use Rattle.source_values.specs.Running.{fresh_run};
 
 use crate::passes::Accepted;
 use source_values::{Done, Short, SourceRun};

@@ -13,7 +13,8 @@ use Rattle.task_ast.specs.declared.names.VariableName.{VariableName}
 use Rattle.task_ast.specs.declared.names.TaskName.{TaskName}
 use Rattle.source_values.specs.Values.{◌>>?◌}
 use Rattle.source_values.specs.Statements.{Outcome, goes_on, to_task, short, run_block}
-use Rattle.source_values.specs.Runs.{CheckedProgram, IsRunnable, EndsWell, TransitionComes, fresh_attempt, body_of, attempt_of, Completion, completion_of}
+use Rattle.source_values.specs.Runs.{CheckedProgram, EndsWell, TransitionComes, fresh_attempt, body_of, attempt_of, Completion, completion_of}
+use Rattle.source_values.specs.Running.{IsRunnable}
 use Rattle.source_values.specs.Runs.{State, Transition, exactly, transition_of, source_run, state_after, state_behind, first_state}
 use Rattle.source_values.proofs.Interface.{readings_left_over_lem}
 use Rattle.source_report.specs.SourceReport.{Committed, transition_lines, source_report, readings_of, IsConsecutive, position_after, IsEnding, IsMeanReport}

@@ -1,6 +1,7 @@
 -- What holds of the definitions.
 use Rattle.std.specs.Prelude.{ℕ, List}
-use Rattle.source_values.specs.Runs.{CheckedProgram, IsRunnable}
+use Rattle.source_values.specs.Runs.{CheckedProgram}
+use Rattle.source_values.specs.Running.{IsRunnable}
 use Rattle.source_report.specs.SourceReport.{IsMeanReport}
 use Rattle.source_report.specs.MeanReport.{mean_report}
 

@@ -5,7 +5,8 @@ ghost use Rattle.std.specs.Option.{option_map};
 ghost use Rattle.alp_io.specs.Count.{HasCause};
 ghost use Rattle.alp_io.specs.Sink.{Writes};
 ghost use Rattle.task_ast.specs.View.{program_of};
-ghost use Rattle.source_values.specs.Runs.{IsRunnable, IsShaped, initial_rows};
+ghost use Rattle.source_values.specs.Runs.{initial_rows};
+ghost use Rattle.source_values.specs.Running.{IsRunnable, IsShaped};
 ghost use Rattle.source_report.specs.SourceReport.{task_name, transition_lines};
 ghost use Rattle.source_report.specs.MeanReport.{mean_report};
 

@@ -6,7 +6,8 @@ use Rattle.model_runs.specs.msp_step.declared.machine.Stop.{Stop}
 use Rattle.model_runs.specs.msp_step.declared.machine.Stepped as cpu
 use Rattle.model_runs.specs.msp_step.Registers.{registers_of}
 use Rattle.model_runs.specs.msp_step.Step.{execution}
-use Rattle.model_runs.specs.image_map.MapValue.{MapValue, IsMap}
+use Rattle.model_runs.specs.image_map.MapValue.{MapValue}
+use Rattle.model_runs.specs.image_map.Kept.{IsMap}
 use Rattle.model_runs.specs.fram_board.declared.receiver.Receiver.{Receiver}
 use Rattle.model_runs.specs.fram_board.declared.board.Stepped.{Stepped}
 use Rattle.model_runs.specs.fram_board.Bus.{BusState, board_bus}

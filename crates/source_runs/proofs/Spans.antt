@@ -3,7 +3,8 @@
 use Rattle.std.proofs.Common.{◌≡◌, ℕ, ◌+◌, ◌*◌, ◌≤◌, refl, sym, ap, ap₂, ◌∙◌, subst, arith, Bool, true, false, cond, if◌then◌else◌, List, [], ◌∷◌, ◌++◌, length, map, append_assoc, append-nil, length-append, Some, Ok}
 use Rattle.std.proofs.lemmas.List.{length-map, map-append}
 use Rattle.model_runs.specs.msp_isa.declared.instructions.Instr.{Instr}
-use Rattle.model_runs.specs.image_map.MapValue.{MapValue, IsMap}
+use Rattle.model_runs.specs.image_map.MapValue.{MapValue}
+use Rattle.model_runs.specs.image_map.Kept.{IsMap}
 use Rattle.model_runs.specs.fram_board.declared.board.Stepped.{Stepped}
 use Rattle.model_runs.specs.fram_board.Board.{BoardValue, PowerState, powered, executed, IsNextInstruction}
 use Rattle.model_runs.specs.fram_board.Run.{Execute, Moment, moment_of, power_up_of, Charges, RunOutcome, run_outcome, after_moments, BoardCharge}

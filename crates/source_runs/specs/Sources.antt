@@ -1,6 +1,7 @@
 -- A model of the crash theorem that is a source's, and a board that begins with it.
 use Rattle.std.specs.Prelude.{◌≡◌, ℕ, ◌<◌, List, [], All, Some}
-use Rattle.model_runs.specs.image_map.MapValue.{MapValue, IsMap}
+use Rattle.model_runs.specs.image_map.MapValue.{MapValue}
+use Rattle.model_runs.specs.image_map.Kept.{IsMap}
 use Rattle.model_runs.specs.fram_board.Board.{BoardValue}
 use Rattle.model_runs.specs.fram_board.Run.{RunOutcome}
 use Rattle.source_report.specs.source_values.Statements.{short}

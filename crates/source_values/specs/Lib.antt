@@ -2,6 +2,7 @@ pub mod Laws
 pub mod Values
 pub mod Statements
 pub mod Runs
+pub mod Running
 pub mod View
 pub mod WorkedRows
 pub use Rattle.task_ast.specs.alp_text as alp_text

@@ -1,5 +1,5 @@
 -- The run of a source: whole tasks, one after another, each on its own list of readings.
-use Rattle.std.specs.Prelude.{◌≡◌, ℕ, ◌<◌, ◌≤◌, List, [], ◌∷◌, ◌++◌, map, length, replicate, All, Option, Some, None, slice_get}
+use Rattle.std.specs.Prelude.{ℕ, ◌<◌, ◌≤◌, List, [], ◌∷◌, ◌++◌, map, replicate, Option, Some, None, slice_get}
 use Rattle.task_ast.specs.Tree.{Program, Task, Block, end}
 use Rattle.task_ast.specs.declared.Extent.{Extent}
 use Rattle.task_ast.specs.declared.Extent.TheVariants.{Scalar, Array}
@@ -20,10 +20,6 @@ initial_words (Array n) = replicate n 0
 -- of each shared variable the words that it starts with
 abbrev pub initial_rows : CheckedProgram → List (List ℕ)
 initial_rows program = map (λ d. initial_words d.extent) program.shared
-
--- each shared variable has as many words as it starts with
-abbrev pub IsShaped : CheckedProgram → List (List ℕ) → Type 0
-IsShaped program rows = map (length {A = ℕ}) rows ≡ map (length {A = ℕ}) (initial_rows program)
 
 -- the locals at the start of an attempt. A task has at most 256, and reads none before it has assigned it
 abbrev pub new_locals : List ℕ
@@ -117,15 +113,6 @@ TransitionComes tasks task = (s : Attempt) → EndsWell tasks (run_block task.bo
 abbrev pub EmitsFit : Task VariableName TaskName → Type 0
 EmitsFit task = block_emits task.body ≤ 256
 
--- what a run needs of a source: at most 256 shared variables, at most 64 tasks, among them the entry, whose emitted words
--- have room and whose transitions come. Each accepted source has it
-pub record IsRunnable (program : CheckedProgram) : Type 0 where
-  pub few_shared : length program.shared ≤ 256
-  pub few_tasks : length program.tasks ≤ 64
-  pub entry : program.entry.task < length program.tasks
-  pub emits_fit : All EmitsFit program.tasks
-  pub transition_comes : All (TransitionComes (length program.tasks)) program.tasks
-
 -- what is kept of a run: the shared words at the last transition and at the one before, the words emitted between them, and
 -- the current task
 pub record RunState : Type 0 where
@@ -133,7 +120,3 @@ pub record RunState : Type 0 where
   pub shared : List (List ℕ)
   pub emitted : List ℕ
   pub task : ℕ
-
--- a run of which no transition was made
-abbrev pub fresh_run : CheckedProgram → RunState
-fresh_run program = record { before = initial_rows program; shared = initial_rows program; emitted = []; task = program.entry.task }

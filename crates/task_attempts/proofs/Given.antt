@@ -7,7 +7,8 @@ use Rattle.layout_facts.specs.path_runs.Laws.{NoStoreIn}
 use Rattle.layout_facts.specs.cost_bound.Counts.{Code, stores_of}
 use Rattle.layout_facts.specs.cost_bound.Allowance.{CheckedTask}
 use Rattle.layout_facts.specs.war_analysis.PlanValue.{TaskPlanValue}
-use Rattle.layout_facts.specs.source_values.Runs.{CheckedProgram, IsRunnable}
+use Rattle.layout_facts.specs.source_values.Runs.{CheckedProgram}
+use Rattle.layout_facts.specs.source_values.Running.{IsRunnable}
 use Rattle.layout_facts.specs.array_versions.Form.{IsWhole, OfWords}
 use Rattle.layout_facts.specs.memory_map.declared.place.VariablePlace.{VariablePlace}
 use Rattle.layout_facts.specs.memory_map.declared.place.VariablePlace.TheVariants.{Scalar}

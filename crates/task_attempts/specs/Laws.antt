@@ -2,7 +2,8 @@
 use Rattle.std.specs.Prelude.{◌≡◌, ℕ, ◌<◌, ◌≤◌, List, All}
 use Rattle.layout_facts.specs.machine_effects.World.{World, EachStore}
 use Rattle.layout_facts.specs.cost_bound.declared.allowance.Allow.{Allow}
-use Rattle.layout_facts.specs.source_values.Runs.{CheckedProgram, State, IsRunnable}
+use Rattle.layout_facts.specs.source_values.Runs.{CheckedProgram, State}
+use Rattle.layout_facts.specs.source_values.Running.{IsRunnable}
 use Rattle.layout_facts.specs.war_analysis.PlanValue.{TaskPlanValue}
 use Rattle.layout_facts.specs.memory_map.declared.words.RuntimeWord.TheVariants.{ListLength, EmitCount}
 use Rattle.layout_facts.specs.memory_map.MemoryMap.{MemoryMap, word_place}

@@ -1,5 +1,5 @@
 use Rattle.std.proofs.Common.{◌≡◌, ◌+◌, drop}
-use Rattle.image_text.specs.Text.{hidden_len}
+use Rattle.image_text.specs.Sections.{hidden_len}
 use Rattle.image_text.proofs.print.hidden_len.Given as goal
 
 abbrev pub invariant-loop-i : goal.invariant-loop-i

@@ -1,7 +1,8 @@
 use Rattle.std.proofs.Common.{◌∙◌, ap, ◌++◌, subst, Option, option_map}
 use Rattle.text_parts.specs.Printed.{printed}
 use Rattle.image_map.specs.MapValue.{MapValue}
-use Rattle.image_text.specs.Text.{text_of, map_part, IsReadBack}
+use Rattle.image_text.specs.Text.{text_of, map_part}
+use Rattle.image_text.specs.Sections.{IsReadBack}
 use Rattle.image_text.proofs.Apart.{sections_made}
 use Rattle.image_text.proofs.Spread.{printed_back}
 use Rattle.image_text.proofs.print.print_image.Goals as goal

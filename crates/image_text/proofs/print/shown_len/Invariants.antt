@@ -1,5 +1,5 @@
 use Rattle.std.proofs.Common.{◌≡◌, ◌+◌, drop}
-use Rattle.image_text.specs.Text.{shown_len}
+use Rattle.image_text.specs.Sections.{shown_len}
 use Rattle.image_text.proofs.print.shown_len.Given as goal
 
 abbrev pub invariant-loop-i : goal.invariant-loop-i

@@ -1,5 +1,5 @@
 use Rattle.std.proofs.Common.{sym, subst, arith}
-use Rattle.msp_step.specs.Access.{Nothing}
+use Rattle.msp_step.specs.Reads.{Nothing}
 use Rattle.msp_step.specs.Step.{StepResult, Stopped, Executed}
 use Rattle.msp_step.specs.Registers.{registers_of}
 use Rattle.msp_step.proofs.machine.step.Goals as goal

@@ -1,6 +1,6 @@
 use Rattle.std.proofs.Common.{◌<◌, ◌-◌, length}
 use Rattle.source_report.specs.task_ast.View.{program_of}
-use Rattle.source_values.specs.Runs.{IsShaped}
+use Rattle.source_values.specs.Running.{IsShaped}
 use Rattle.report_audit.specs.Fronts.{inputs_of, IsFront}
 use Rattle.report_audit.proofs.report.read_report.Given as goal
 

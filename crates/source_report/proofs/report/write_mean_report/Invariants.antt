@@ -1,7 +1,7 @@
 use Rattle.std.proofs.Common.{◌≡◌, ◌≤◌, ◌<◌, ◌*◌, ◌-◌, length}
 use Rattle.alp_io.proofs.Interface.{Progress}
 use Rattle.task_ast.specs.View.{program_of}
-use Rattle.source_values.specs.Runs.{IsShaped}
+use Rattle.source_values.specs.Running.{IsShaped}
 use Rattle.source_report.specs.MeanReport.{report_from, mean_report}
 use Rattle.source_report.proofs.report.write_mean_report.Given as goal
 

@@ -1,0 +1,20 @@
+-- What a run of a program needs, and begins with.
+use Rattle.std.specs.Prelude.{◌≡◌, ℕ, ◌<◌, ◌≤◌, List, [], map, length, All}
+use Rattle.source_values.specs.Runs.{CheckedProgram, EmitsFit, RunState, TransitionComes, initial_rows}
+
+-- each shared variable has as many words as it starts with
+abbrev pub IsShaped : CheckedProgram → List (List ℕ) → Type 0
+IsShaped program rows = map (length {A = ℕ}) rows ≡ map (length {A = ℕ}) (initial_rows program)
+
+-- what a run needs of a source: at most 256 shared variables, at most 64 tasks, among them the entry, whose emitted words
+-- have room and whose transitions come. Each accepted source has it
+pub record IsRunnable (program : CheckedProgram) : Type 0 where
+  pub few_shared : length program.shared ≤ 256
+  pub few_tasks : length program.tasks ≤ 64
+  pub entry : program.entry.task < length program.tasks
+  pub emits_fit : All EmitsFit program.tasks
+  pub transition_comes : All (TransitionComes (length program.tasks)) program.tasks
+
+-- a run of which no transition was made
+abbrev pub fresh_run : CheckedProgram → RunState
+fresh_run program = record { before = initial_rows program; shared = initial_rows program; emitted = []; task = program.entry.task }
