@@ -1,5 +1,6 @@
 -- Files in memory after one of them was set or added.
-use Rattle.std.proofs.Common.{◌≡◌, ◌≢◌, ◌<◌, ℕ, ◌+◌, suc, List, [], ◌∷◌, ◌++◌, length, set, get_or, arith, refl, Option, Some, None, IsSome, Bool, true, false, cond, string_bytes, ap, sym, ◌∙◌, subst}
+use Rattle.std.proofs.Common.{◌≡◌, ◌≢◌, ◌<◌, ℕ, ◌+◌, suc, List, [], ◌∷◌, ◌++◌, length, set, get_or, arith, refl, Option, Some, None, IsSome, Bool, true}
+use Rattle.std.proofs.Common.{false, cond, string_bytes, ap, sym, ◌∙◌, subst}
 use Rattle.std.specs.List.{position_from, AllPairs, IsDistinct, list_any, insert}
 use Rattle.std.specs.Map.{lookup, set_value, keys_of}
 use Rattle.std.specs.Str.{bytes_eq}
@@ -82,7 +83,8 @@ place_first name f fs e = record {
   changed = λ file old is same. rw (e, same, is) refl;
 }
 
-place_later : (name : List ℕ) (f : File) (fs : List File) (i : ℕ) → bytes_eq name (string_bytes f.name) ≡ false → IsPlace name fs i → IsPlace name (f ∷ fs) (suc i)
+place_later : (name : List ℕ) (f : File) (fs : List File) (i : ℕ) → bytes_eq name (string_bytes f.name) ≡ false → IsPlace name fs i
+    → IsPlace name (f ∷ fs) (suc i)
 place_later name f fs i e p = record {
   inside = (let h = p.inside in omega arith);
   there = rw e p.there;

@@ -1,5 +1,6 @@
 -- Lines lose nothing of their text.
-use Rattle.std.proofs.Common.{◌≡◌, ◌≤◌, ◌<◌, ◌==◌, ℕ, ◌+◌, ◌-◌, List, [], ◌∷◌, ◌++◌, length, length-drop, take, drop, arith, refl, ◌⊎◌, Bool, true, false, if◌then◌else◌, ap, ◌∙◌}
+use Rattle.std.proofs.Common.{◌≡◌, ◌≤◌, ◌<◌, ◌==◌, ℕ, ◌+◌, ◌-◌, List, [], ◌∷◌, ◌++◌, length, length-drop, take, drop, arith, refl, ◌⊎◌, Bool, true, false}
+use Rattle.std.proofs.Common.{if◌then◌else◌, ap, ◌∙◌}
 use Rattle.std.proofs.lemmas.Bool.Decides.{nat_tests}
 use Rattle.std.proofs.lemmas.List.{take_rest, drop-drop}
 use mathlib.Core.Logic.{inl, inr}
@@ -17,11 +18,13 @@ onto_line : (t : Bool) (b : ℕ) (bs : List ℕ) (n : ℕ) (rest : List (List �
 onto_line true b bs n rest e = refl
 onto_line false b bs n rest e = rw (e, take_front n b bs) refl
 
-rest_of : (t : Bool) (b : ℕ) (bs : List ℕ) (n : ℕ) → (if t then lines_of bs else lines_of (drop (n + 1) bs)) ≡ lines_of (drop ((if t then 0 else n + 1) + 1) (b ∷ bs))
+rest_of : (t : Bool) (b : ℕ) (bs : List ℕ) (n : ℕ) → (if t then lines_of bs else lines_of (drop (n + 1) bs))
+    ≡ lines_of (drop ((if t then 0 else n + 1) + 1) (b ∷ bs))
 rest_of true b bs n = refl
 rest_of false b bs n = rw (drop_front (n + 1) b bs) refl
 
-one_line : (t : Bool) (b : ℕ) → (if t then [] ∷ [] else (b ∷ []) ∷ []) ≡ take (if t then 0 else 1) (b ∷ []) ∷ lines_of (drop ((if t then 0 else 1) + 1) (b ∷ []))
+one_line : (t : Bool) (b : ℕ) → (if t then [] ∷ [] else (b ∷ []) ∷ []) ≡ take (if t then 0 else 1) (b ∷ []) ∷ lines_of
+    (drop ((if t then 0 else 1) + 1) (b ∷ []))
 one_line true b = refl
 one_line false b = refl
 
@@ -32,7 +35,8 @@ first_line (b ∷ []) h = one_line (b == 10) b
 first_line (b ∷ c ∷ bs) h =
     let tail : List ℕ = c ∷ bs in
     let e : lines_of tail ≡ take (line_len tail) tail ∷ lines_of (drop (line_len tail + 1) tail) = first_line (c ∷ bs) (omega arith) in
-    onto_line (b == 10) b tail (line_len tail) _ e ∙ ap (λ rest. take (if b == 10 then 0 else line_len tail + 1) (b ∷ tail) ∷ rest) (rest_of (b == 10) b tail (line_len tail))
+    onto_line (b == 10) b tail (line_len tail) _ e ∙ ap (λ rest. take (if b == 10 then 0 else line_len tail + 1) (b ∷ tail) ∷ rest)
+    (rest_of (b == 10) b tail (line_len tail))
 
 -- one byte in front of lines that make up a text
 joins_byte : (b : ℕ) (bs : List ℕ) (lines : List (List ℕ)) → (with_line_feeds lines ≡ bs) ⊎ (with_line_feeds lines ≡ bs ++ 10 ∷ [])
@@ -46,7 +50,8 @@ joins_byte b (c ∷ bs) [] (inr p) = absurd (cc)
 
 -- the same by whether the byte is a line feed
 joins_more : (t : Bool) (b : ℕ) (bs : List ℕ) → (b ≡ 10) ⊎ (t ≡ false) → LinesMakeUp bs
-    → (with_line_feeds (if t then [] ∷ lines_of bs else onto_first b (lines_of bs)) ≡ b ∷ bs) ⊎ (with_line_feeds (if t then [] ∷ lines_of bs else onto_first b (lines_of bs)) ≡ (b ∷ bs) ++ 10 ∷ [])
+    → (with_line_feeds (if t then [] ∷ lines_of bs else onto_first b (lines_of bs)) ≡ b ∷ bs)
+    ⊎ (with_line_feeds (if t then [] ∷ lines_of bs else onto_first b (lines_of bs)) ≡ (b ∷ bs) ++ 10 ∷ [])
 joins_more true b bs (inl e) (inl p) = inl (rw e (ap (λ t. 10 ∷ t) p))
 joins_more true b bs (inl e) (inr p) = inr (rw e (ap (λ t. 10 ∷ t) p))
 joins_more true b bs (inr e) p = absurd (cc)

@@ -6,7 +6,8 @@ use Rattle.std.proofs.lemmas.Bool.Decides.{nat_tests}
 use Rattle.std.specs.Prelude.{ℤ, pos, ◌+ℤ◌, ◌≤ℤ◌, IsTrue, ◌↔◌, nat_le, ◌==◌, if◌then◌else◌}
 use Rattle.alp_words.specs.declared.Width.TheVariants.{Word, Byte}
 use Rattle.alp_words.specs.Words.{is_negative, same, bit, complement, difference_of, rra_of, extended}
-use Rattle.alp_words.specs.Laws.{SumWithCarry, DifferenceWithBorrow, UnsignedOrder, SignedOrder, HalfOfSigned, RotationThroughCarry, SignExtension, SwappedTwice, ByteResults, Division, SumUndone}
+use Rattle.alp_words.specs.Laws.{SumWithCarry, DifferenceWithBorrow, UnsignedOrder, SignedOrder, HalfOfSigned, RotationThroughCarry, SignExtension}
+use Rattle.alp_words.specs.Laws.{SwappedTwice, ByteResults, Division, SumUndone}
 use Rattle.alp_words.proofs.Decimal.{bcd_below}
 use Rattle.alp_words.proofs.Signed.{Sign, Plus, Minus, sign_of, bit_below, cut_by_word, cut_by_byte}
 
@@ -51,7 +52,8 @@ is_unsigned_order Byte d s hd hs =
     compared 0x100 r.0 (d % 0x100) (s % 0x100) r.1.c r.1.z (omega arith) refl (omega arith) (omega arith) (omega arith)
 
 -- the difference of two signed values with weight h is 0 or more where N equals V
-signed_order : (h d s r : ℕ) (nd ns nr : Bool) (zd zs zr : ℤ) → Sign h d nd zd → Sign h s ns zs → Sign h r nr zr → (r ≡ d + (2 * h - 1 - s) + 1) ⊎ (r + 2 * h ≡ d + (2 * h - 1 - s) + 1) → IsTrue (same nr (not (same nd ns) && same nr ns)) ↔ (zs ≤ℤ zd)
+signed_order : (h d s r : ℕ) (nd ns nr : Bool) (zd zs zr : ℤ) → Sign h d nd zd → Sign h s ns zs → Sign h r nr zr → (r ≡ d + (2 * h - 1 - s) + 1)
+    ⊎ (r + 2 * h ≡ d + (2 * h - 1 - s) + 1) → IsTrue (same nr (not (same nd ns) && same nr ns)) ↔ (zs ≤ℤ zd)
 signed_order h d s r nd ns nr zd zs zr (Plus p) (Plus q) (Plus t) c = grind (arith, ints)
 signed_order h d s r nd ns nr zd zs zr (Plus p) (Plus q) (Minus t u) c = grind (arith, ints)
 signed_order h d s r nd ns nr zd zs zr (Plus p) (Minus q v) (Plus t) c = grind (arith, ints)
@@ -64,10 +66,12 @@ signed_order h d s r nd ns nr zd zs zr (Minus p a) (Minus q v) (Minus t u) c = g
 pub is_signed_order : SignedOrder
 is_signed_order Word d s hd hs =
     let r = difference_of Word d s true in
-    signed_order 0x8000 d s r.0 _ _ _ _ _ _ (sign_of Word d hd) (sign_of Word s hs) (sign_of Word r.0 (omega arith)) (cut_by_word (d + complement Word s + 1) (omega arith))
+    signed_order 0x8000 d s r.0 _ _ _ _ _ _ (sign_of Word d hd) (sign_of Word s hs) (sign_of Word r.0 (omega arith))
+    (cut_by_word (d + complement Word s + 1) (omega arith))
 is_signed_order Byte d s hd hs =
     let r = difference_of Byte d s true in
-    signed_order 0x80 (d % 0x100) (s % 0x100) (r.0 % 0x100) _ _ _ _ _ _ (sign_of Byte d hd) (sign_of Byte s hs) (sign_of Byte r.0 (omega arith)) (cut_by_byte (d % 0x100 + complement Byte s + 1) (omega arith))
+    signed_order 0x80 (d % 0x100) (s % 0x100) (r.0 % 0x100) _ _ _ _ _ _ (sign_of Byte d hd) (sign_of Byte s hs) (sign_of Byte r.0 (omega arith))
+    (cut_by_byte (d % 0x100 + complement Byte s + 1) (omega arith))
 
 -- the last bit, as a carry
 last_bit : (x : ℕ) → bit ((x % 2) == 1) ≡ x % 2
@@ -122,5 +126,12 @@ half_below m x true h = omega arith
 half_below m x false h = omega arith
 
 pub is_byte_results : ByteResults
-is_byte_results d s carry before =
-    (omega arith, omega arith, bcd_below 2 d s before.c, omega arith, omega arith, half_below 0x80 (d % 0x100) (is_negative Byte d) (omega arith), half_below 0x80 (d % 0x100) carry (omega arith))
+is_byte_results d s carry before = (
+  omega arith,
+  omega arith,
+  bcd_below 2 d s before.c,
+  omega arith,
+  omega arith,
+  half_below 0x80 (d % 0x100) (is_negative Byte d) (omega arith),
+  half_below 0x80 (d % 0x100) carry (omega arith),
+)

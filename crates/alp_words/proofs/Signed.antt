@@ -34,7 +34,8 @@ sign_of Byte x h = sign_by_test 0x80 (x % 0x100) (nat_le 0x80 (x % 0x100)) refl 
 pub bit_below : (b : Bool) → bit b ≤ 1
 bit_below b = grind arith
 
-overflow_of_sum : (h d s r b : ℕ) (nd ns nr : Bool) (zd zs zr : ℤ) → Sign h d nd zd → Sign h s ns zs → Sign h r nr zr → b ≤ 1 → Cut h (d + s + b) r → MatchBool (same nd ns && not (same nr nd)) (Outside h ((zd +ℤ zs) +ℤ pos b)) (zr ≡ (zd +ℤ zs) +ℤ pos b)
+overflow_of_sum : (h d s r b : ℕ) (nd ns nr : Bool) (zd zs zr : ℤ) → Sign h d nd zd → Sign h s ns zs → Sign h r nr zr → b ≤ 1 → Cut h (d + s + b) r
+    → MatchBool (same nd ns && not (same nr nd)) (Outside h ((zd +ℤ zs) +ℤ pos b)) (zr ≡ (zd +ℤ zs) +ℤ pos b)
 overflow_of_sum h d s r b nd ns nr zd zs zr (Plus p) (Plus q) (Plus t) l c = grind (arith, ints)
 overflow_of_sum h d s r b nd ns nr zd zs zr (Plus p) (Plus q) (Minus t u) l c = inr (grind (arith, ints))
 overflow_of_sum h d s r b nd ns nr zd zs zr (Plus p) (Minus q v) (Plus t) l c = grind (arith, ints)
@@ -45,7 +46,8 @@ overflow_of_sum h d s r b nd ns nr zd zs zr (Minus p a) (Minus q v) (Plus t) l c
 overflow_of_sum h d s r b nd ns nr zd zs zr (Minus p a) (Minus q v) (Minus t u) l c = grind (arith, ints)
 
 -- b is 1 where nothing is borrowed; t is d + not s + b
-overflow_of_difference : (h d s r b : ℕ) (nd ns nr : Bool) (zd zs zr : ℤ) → Sign h d nd zd → Sign h s ns zs → Sign h r nr zr → b ≤ 1 → Cut h (d + (2 * h - 1 - s) + b) r → MatchBool (not (same nd ns) && same nr ns) (Outside h ((zd -ℤ zs) -ℤ pos (1 - b))) (zr ≡ (zd -ℤ zs) -ℤ pos (1 - b))
+overflow_of_difference : (h d s r b : ℕ) (nd ns nr : Bool) (zd zs zr : ℤ) → Sign h d nd zd → Sign h s ns zs → Sign h r nr zr → b ≤ 1
+    → Cut h (d + (2 * h - 1 - s) + b) r → MatchBool (not (same nd ns) && same nr ns) (Outside h ((zd -ℤ zs) -ℤ pos (1 - b))) (zr ≡ (zd -ℤ zs) -ℤ pos (1 - b))
 overflow_of_difference h d s r b nd ns nr zd zs zr (Plus p) (Plus q) (Plus t) l c = grind (arith, ints)
 overflow_of_difference h d s r b nd ns nr zd zs zr (Plus p) (Plus q) (Minus t u) l c = grind (arith, ints)
 overflow_of_difference h d s r b nd ns nr zd zs zr (Plus p) (Minus q v) (Plus t) l c = grind (arith, ints)
@@ -65,21 +67,25 @@ pub is_overflow_of_sum : OverflowOfSum
 is_overflow_of_sum Word d s carry hd hs =
     let b = bit_below carry in
     let r = sum_of Word d s carry in
-    overflow_of_sum 0x8000 d s r.0 (bit carry) _ _ _ _ _ _ (sign_of Word d hd) (sign_of Word s hs) (sign_of Word r.0 (omega arith)) b (cut_by_word (d + s + bit carry) (omega arith))
+    overflow_of_sum 0x8000 d s r.0 (bit carry) _ _ _ _ _ _ (sign_of Word d hd) (sign_of Word s hs) (sign_of Word r.0 (omega arith)) b
+    (cut_by_word (d + s + bit carry) (omega arith))
 is_overflow_of_sum Byte d s carry hd hs =
     let b = bit_below carry in
     let r = sum_of Byte d s carry in
-    overflow_of_sum 0x80 (d % 0x100) (s % 0x100) (r.0 % 0x100) (bit carry) _ _ _ _ _ _ (sign_of Byte d hd) (sign_of Byte s hs) (sign_of Byte r.0 (omega arith)) b (cut_by_byte (d % 0x100 + s % 0x100 + bit carry) (omega arith))
+    overflow_of_sum 0x80 (d % 0x100) (s % 0x100) (r.0 % 0x100) (bit carry) _ _ _ _ _ _ (sign_of Byte d hd) (sign_of Byte s hs)
+    (sign_of Byte r.0 (omega arith)) b (cut_by_byte (d % 0x100 + s % 0x100 + bit carry) (omega arith))
 
 pub is_overflow_of_difference : OverflowOfDifference
 is_overflow_of_difference Word d s carry hd hs =
     let b = bit_below carry in
     let r = difference_of Word d s carry in
-    overflow_of_difference 0x8000 d s r.0 (bit carry) _ _ _ _ _ _ (sign_of Word d hd) (sign_of Word s hs) (sign_of Word r.0 (omega arith)) b (cut_by_word (d + complement Word s + bit carry) (omega arith))
+    overflow_of_difference 0x8000 d s r.0 (bit carry) _ _ _ _ _ _ (sign_of Word d hd) (sign_of Word s hs) (sign_of Word r.0 (omega arith)) b
+    (cut_by_word (d + complement Word s + bit carry) (omega arith))
 is_overflow_of_difference Byte d s carry hd hs =
     let b = bit_below carry in
     let r = difference_of Byte d s carry in
-    overflow_of_difference 0x80 (d % 0x100) (s % 0x100) (r.0 % 0x100) (bit carry) _ _ _ _ _ _ (sign_of Byte d hd) (sign_of Byte s hs) (sign_of Byte r.0 (omega arith)) b (cut_by_byte (d % 0x100 + complement Byte s + bit carry) (omega arith))
+    overflow_of_difference 0x80 (d % 0x100) (s % 0x100) (r.0 % 0x100) (bit carry) _ _ _ _ _ _ (sign_of Byte d hd) (sign_of Byte s hs)
+    (sign_of Byte r.0 (omega arith)) b (cut_by_byte (d % 0x100 + complement Byte s + bit carry) (omega arith))
 
 sign_below : (h x : ℕ) (n : Bool) (z : ℤ) → Sign h x n z → IsTrue n ↔ (z <ℤ pos 0)
 sign_below h x n z (Plus p) = grind (arith, ints)

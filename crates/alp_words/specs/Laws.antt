@@ -1,9 +1,11 @@
 -- What the operations mean as arithmetic on signed values, on decimal digits and on bytes.
-use Rattle.std.specs.Prelude.{ℕ, zero, suc, ◌≡◌, ◌+◌, ◌-◌, ◌*◌, ◌/◌, ◌%◌, ◌^◌, ◌<◌, ◌≤◌, ◌↔◌, ◌⊎◌, Bool, true, not, IsTrue, MatchBool, ℤ, pos, ◌+ℤ◌, ◌-ℤ◌, ◌≤ℤ◌, ◌<ℤ◌}
+use Rattle.std.specs.Prelude.{ℕ, zero, suc, ◌≡◌, ◌+◌, ◌-◌, ◌*◌, ◌/◌, ◌%◌, ◌^◌, ◌<◌, ◌≤◌, ◌↔◌, ◌⊎◌, Bool, true, not, IsTrue, MatchBool, ℤ, pos, ◌+ℤ◌, ◌-ℤ◌}
+use Rattle.std.specs.Prelude.{◌≤ℤ◌, ◌<ℤ◌}
 use Rattle.alp_words.specs.declared.Width.{Width}
 use Rattle.alp_words.specs.declared.Width.TheVariants.{Word, Byte}
 use Rattle.alp_words.specs.declared.Flags.{Flags}
-use Rattle.alp_words.specs.Words.{IsWord, IsByte, word_sum, word_difference, modulus, sign_weight, operand, is_negative, signed_value, same, bit, sum_of, difference_of, and_of, xor_of, rra_of, rrc_of, swapped, extended, digit_count, decimal_of, quotient, remainder}
+use Rattle.alp_words.specs.Words.{IsWord, IsByte, word_sum, word_difference, modulus, sign_weight, operand, is_negative, signed_value, same, bit, sum_of}
+use Rattle.alp_words.specs.Words.{difference_of, and_of, xor_of, rra_of, rrc_of, swapped, extended, digit_count, decimal_of, quotient, remainder}
 
 -- a number that the width can't hold in two's complement
 abbrev pub IsOutside : Width → ℤ → Type 0

@@ -1,5 +1,6 @@
 -- Words and bytes as numbers, and what each operation of the CPU gives with its flags (TI SLAU049 and SLAU144, CPU chapter).
-use Rattle.std.specs.Prelude.{ℕ, zero, suc, ◌^◌, ◌+◌, ◌-◌, ◌*◌, ◌/◌, ◌%◌, ◌<◌, Bool, true, false, not, ◌&&◌, ◌==◌, nat_le, if◌then◌else◌, bit_and, bit_xor, List, [], ◌∷◌, slice_index, ℤ, pos, ◌-ℤ◌}
+use Rattle.std.specs.Prelude.{ℕ, zero, suc, ◌^◌, ◌+◌, ◌-◌, ◌*◌, ◌/◌, ◌%◌, ◌<◌, Bool, true, false, not, ◌&&◌, ◌==◌, nat_le, if◌then◌else◌, bit_and, bit_xor}
+use Rattle.std.specs.Prelude.{List, [], ◌∷◌, slice_index, ℤ, pos, ◌-ℤ◌}
 use Rattle.alp_words.specs.declared.Width.{Width}
 use Rattle.alp_words.specs.declared.Width.TheVariants.{Word, Byte}
 use Rattle.alp_words.specs.declared.Flags.{Flags}

@@ -1,6 +1,7 @@
 //! Laws of the operations: each function's contract is the law.
 
-ghost use Rattle.alp_words.specs.Laws.{TopBitIsSign, SumWithCarry, OverflowOfSum, DifferenceWithBorrow, OverflowOfDifference, UnsignedOrder, SignedOrder, HalfOfSigned, RotationThroughCarry, SignExtension, SwappedTwice, DecimalSum, ByteResults, Division, SumUndone};
+ghost use Rattle.alp_words.specs.Laws.{TopBitIsSign, SumWithCarry, OverflowOfSum, DifferenceWithBorrow, OverflowOfDifference, UnsignedOrder, SignedOrder};
+ghost use Rattle.alp_words.specs.Laws.{HalfOfSigned, RotationThroughCarry, SignExtension, SwappedTwice, DecimalSum, ByteResults, Division, SumUndone};
 
 /// The top bit of an operand is the sign of its signed value.
 #[tactic(auto, using(crate::proofs::Signed::is_sign))]

@@ -165,13 +165,15 @@ pub mean_whole : {A : Type 0} (result : Result A Failure) (a b source trace text
     → text ≡ source → IsSourceText source p → trace_of trace ≡ Ok t → IfOk result (λ x. Gains out (IsMeanReport text p t.readings))
     → IfOk result (λ x. WhereStands (λ shelf. IsWhole (mean a b) (source ∷ trace ∷ []) well shelf out))
 mean_whole result a b source trace text p t out kept source_said trace_said gains =
-    whole_by result (IsMeanReport text p t.readings) (mean a b) (source ∷ trace ∷ []) well out refl (mean_product a b source trace text p t kept source_said trace_said) gains
+    whole_by result (IsMeanReport text p t.readings) (mean a b) (source ∷ trace ∷ []) well out refl
+    (mean_product a b source trace text p t kept source_said trace_said) gains
 
 pub mean_fails : {A : Type 0} (result : Result A Failure) (a b source trace text : List ℕ) (p : CheckedProgram) (t : TraceValue) (out : Written)
     → text ≡ source → IsSourceText source p → trace_of trace ≡ Ok t → IfErr result (λ e. FailsWriting e out (IsMeanReport text p t.readings))
     → IfErr result (λ e. WhereStands (λ shelf. FailsBy e (mean a b) (source ∷ trace ∷ []) shelf out))
 mean_fails result a b source trace text p t out kept source_said trace_said fails =
-    fails_by result (IsMeanReport text p t.readings) (mean a b) (source ∷ trace ∷ []) well out refl (mean_product a b source trace text p t kept source_said trace_said) fails
+    fails_by result (IsMeanReport text p t.readings) (mean a b) (source ∷ trace ∷ []) well out refl
+    (mean_product a b source trace text p t kept source_said trace_said) fails
 
 -- ---- `dis`
 

@@ -116,7 +116,8 @@ lines_of_run number bound image trace end board now r =
 generates_run : (number : ℕ) (file output : List ℕ) (p : CheckedProgram) (allow : Allow) (image : ImageValue)
     → IsAcceptedText (generated_text number) p allow → (built : IsBuilt (generated_text number) p allow image file)
     → IsTold (generated_text number) p built.map image (generated_trace number allow.cycles)
-    → (r : (o : RunOutcome) × Run (charges_of (generated_trace number allow.cycles).charges) (fresh image.words (generated_trace number allow.cycles).readings) o)
+    → (r : (o : RunOutcome) × Run (charges_of (generated_trace number allow.cycles).charges)
+    (fresh image.words (generated_trace number allow.cycles).readings) o)
     → output ≡ generated_lines number allow.cycles (start_of image) r.0 → Generates number file output
 generates_run number file output p allow image accepted built told r lines =
     let text = report_of (start_of image) r.0 in

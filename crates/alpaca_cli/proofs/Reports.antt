@@ -51,7 +51,8 @@ mean_nonempty (suc n) text program total k accepted task shared readings =
     (λ c. behind_nonempty _ _ (mean_nonempty n text program total (k + 1) (accepted + length c.emitted) c.next c.shared c.left))
 
 -- the report of a source that a buffer took, as the output has it in the end
-pub mean_settles : {T E : Type 0} (text : List ℕ) (program : CheckedProgram) (readings : List ℕ) (first taken held : Option (List ℕ)) (written result : Result T E)
+pub mean_settles : {T E : Type 0} (text : List ℕ) (program : CheckedProgram) (readings : List ℕ) (first taken held : Option (List ℕ))
+    (written result : Result T E)
     → Settles first taken held written result → Writes first taken written (mean_report 10000 text program readings)
     → Writes first held result (mean_report 10000 text program readings)
 mean_settles text program readings first taken held written result settles whole = settles _ (mean_nonempty 10000 text program _ 0 0 _ _ readings) whole
@@ -65,7 +66,8 @@ last_nonempty h (Stopped stop.NoReading) b = end_nonempty _ _ _ _
 last_nonempty h (Stopped (stop.Illegal pc word)) b = illegal_nonempty pc word
 last_nonempty h (Stopped (stop.Bus pc address)) b = bus_nonempty pc address
 
-run_nonempty : (b : BoardValue) (h : History) (trace : TraceValue) (ending : Ending) (output : List ℕ) → IsReportFrom b h trace ending output → 0 < length output
+run_nonempty : (b : BoardValue) (h : History) (trace : TraceValue) (ending : Ending) (output : List ℕ) → IsReportFrom b h trace ending output
+    → 0 < length output
 run_nonempty b h trace ending output report =
     let r : RunOutcome = report.outcome in
     let last = last_nonempty (after_all h r.moments) r.ending r.board in

@@ -38,7 +38,8 @@ IsWrittenOf b h t old new (Err (fault.Bus pc address)) = WritesRun b h t old new
 IsWrittenOf b h t old new (Err fault.Write) =
     (ending : Ending) × (output : List ℕ) × IsReportFrom b h t ending output × AppendsProperPrefix old new output
 
-pub is_written : (b : BoardValue) (h : History) (t : TraceValue) (old new : Option (List ℕ)) (result : Result RunEnd RunFault) (after : BoardValue) (now : History)
+pub is_written : (b : BoardValue) (h : History) (t : TraceValue) (old new : Option (List ℕ)) (result : Result RunEnd RunFault) (after : BoardValue)
+    (now : History)
     → IsRunOf h (charges_of t.charges) b old new result after now → IsWrittenOf b h t old new result
 is_written b h t old new (Ok x) after now r =
     (report_of h r.0, record { outcome = r.0; run = r.1; ends = ends_well r.0.ending x r.2.answer; lines = refl }, r.2.written)

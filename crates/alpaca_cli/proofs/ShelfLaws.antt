@@ -57,7 +57,8 @@ command_same Unreadable call name shelf out err unnamed a = all_same shelf.old s
 command_same Differs call name shelf out err unnamed a = text_same Differs call a.0 name shelf out err unnamed a.2
 command_same TooLong call name shelf out err unnamed a = all_same shelf.old shelf.new name a.2.stands
 
-pub others_stand : (status : Status) (words : List (List ℕ)) (shelf : Shelved) (out err : Written) → Answers status words shelf out err → OthersStand words shelf.old shelf.new
+pub others_stand : (status : Status) (words : List (List ℕ)) (shelf : Shelved) (out err : Written) → Answers status words shelf out err
+    → OthersStand words shelf.old shelf.new
 others_stand Usage words shelf out err a = λ name unnamed. all_same shelf.old shelf.new name a.2.stands
 others_stand OutOfMemory words shelf out err a = λ name unnamed. all_same shelf.old shelf.new name a.stands
 others_stand Done words shelf out err a = λ name unnamed. command_same Done a.0 name shelf out err (λ named. unnamed (a.0, a.1, named)) a.2

@@ -1,5 +1,6 @@
 -- Why one file of a list wasn't read is why the list wasn't.
-use Rattle.std.proofs.Common.{◌≡◌, ◌≤◌, ◌⊎◌, inl, inr, ℕ, List, [], ◌∷◌, ◌++◌, length, Option, Some, None, IfSome, Result, Ok, Err, IsErr, IsErrAnd, IfErr, arith, subst, sym}
+use Rattle.std.proofs.Common.{◌≡◌, ◌≤◌, ◌⊎◌, inl, inr, ℕ, List, [], ◌∷◌, ◌++◌, length, Option, Some, None, IfSome, Result, Ok, Err, IsErr, IsErrAnd, IfErr}
+use Rattle.std.proofs.Common.{arith, subst, sym}
 use Rattle.std.proofs.lemmas.Option.{IfSome_then}
 use Rattle.alp_io.specs.Count.{Rose}
 use Rattle.alp_io.specs.Shelf.{Files, Counts, NeverFall}
@@ -9,7 +10,8 @@ use Rattle.alpaca_cli.specs.InputFiles.{Fits, IsFirstUnfit, here, behind, IsOneO
 
 -- ---- one file
 
-pub alone_failed : (files : Option Files) (name : List ℕ) (old new : Counts) → Rose old.failed_reads new.failed_reads → IsUnreadable files (name ∷ []) name old new
+pub alone_failed : (files : Option Files) (name : List ℕ) (old new : Counts) → Rose old.failed_reads new.failed_reads
+    → IsUnreadable files (name ∷ []) name old new
 alone_failed files name old new rose = record { one = first []; cause = inl rose }
 
 pub alone_missing : (files : Option Files) (name : List ℕ) (old new : Counts) → Rose old.missing_reads new.missing_reads → IfSome files (λ f. f name ≡ None)
@@ -17,7 +19,8 @@ pub alone_missing : (files : Option Files) (name : List ℕ) (old new : Counts) 
 alone_missing files name old new rose none =
     record { one = first []; cause = inr (rose, IfSome_then files none (λ f is. here name [] is)) }
 
-pub alone_too_long : (files : Option Files) (name : List ℕ) (old new : Counts) → Rose old.overlong_reads new.overlong_reads → IfSome files (λ f. IsOverlong (f name))
+pub alone_too_long : (files : Option Files) (name : List ℕ) (old new : Counts) → Rose old.overlong_reads new.overlong_reads
+    → IfSome files (λ f. IsOverlong (f name))
     → IsTooLong files (name ∷ []) name old new
 alone_too_long files name old new rose long =
     record { one = first []; cause = rose; overlong = IfSome_then files long (λ f is. here name [] is) }
@@ -25,7 +28,8 @@ alone_too_long files name old new rose long =
 -- ---- the first of several
 
 -- a list of names with more behind it has the same first unfit file
-unfit_before : (f : Files) (P : Option (List ℕ) → Type 0) (names more : List (List ℕ)) (name : List ℕ) → IsFirstUnfit f P names name → IsFirstUnfit f P (names ++ more) name
+unfit_before : (f : Files) (P : Option (List ℕ) → Type 0) (names more : List (List ℕ)) (name : List ℕ) → IsFirstUnfit f P names name
+    → IsFirstUnfit f P (names ++ more) name
 unfit_before f P names more name (here a rest p) = here a (rest ++ more) p
 unfit_before f P names more name (behind n other rest fits p) = behind n other (rest ++ more) fits (unfit_before f P rest more n p)
 
@@ -37,8 +41,10 @@ pub front_unread : (e : Unread) (files : Option Files) (names more : List (List 
     → IsUnread e files (names ++ more) old new
 front_unread (Unreadable name) files names more old new u = record { one = one_before name.now names more u.one; cause = causes u.cause }
   where
-    causes : Rose old.failed_reads new.failed_reads ⊎ (Rose old.missing_reads new.missing_reads × IfSome files (λ f. IsFirstUnfit f (λ file. file ≡ None) names name.now))
-        → Rose old.failed_reads new.failed_reads ⊎ (Rose old.missing_reads new.missing_reads × IfSome files (λ f. IsFirstUnfit f (λ file. file ≡ None) (names ++ more) name.now))
+    causes : Rose old.failed_reads new.failed_reads
+        ⊎ (Rose old.missing_reads new.missing_reads × IfSome files (λ f. IsFirstUnfit f (λ file. file ≡ None) names name.now))
+        → Rose old.failed_reads new.failed_reads ⊎ (Rose old.missing_reads new.missing_reads
+        × IfSome files (λ f. IsFirstUnfit f (λ file. file ≡ None) (names ++ more) name.now))
     causes (inl rose) = inl rose
     causes (inr (rose, none)) = inr (rose, IfSome_then files none (λ f is. unfit_before f _ names more name.now is))
 front_unread (TooLong name) files names more old new u = record {
@@ -67,8 +73,10 @@ fitting_before : (e : Unread) (files : Option Files) (a : List ℕ) (names : Lis
     → IsUnread e files names mid new → IsUnread e files (a ∷ names) old new
 fitting_before (Unreadable name) files a names bytes old mid new held le falls u = record { one = later a names u.one; cause = causes u.cause }
   where
-    causes : Rose mid.failed_reads new.failed_reads ⊎ (Rose mid.missing_reads new.missing_reads × IfSome files (λ f. IsFirstUnfit f (λ file. file ≡ None) names name.now))
-        → Rose old.failed_reads new.failed_reads ⊎ (Rose old.missing_reads new.missing_reads × IfSome files (λ f. IsFirstUnfit f (λ file. file ≡ None) (a ∷ names) name.now))
+    causes : Rose mid.failed_reads new.failed_reads
+        ⊎ (Rose mid.missing_reads new.missing_reads × IfSome files (λ f. IsFirstUnfit f (λ file. file ≡ None) names name.now))
+        → Rose old.failed_reads new.failed_reads ⊎ (Rose old.missing_reads new.missing_reads
+        × IfSome files (λ f. IsFirstUnfit f (λ file. file ≡ None) (a ∷ names) name.now))
     causes (inl rose) = inl (rose_later _ _ _ falls.failed_reads rose)
     causes (inr (rose, none)) = inr (
       rose_later _ _ _ falls.missing_reads rose,

@@ -9,7 +9,8 @@ use Rattle.alpaca_cli.specs.declared.status.Status.{Status}
 use Rattle.alpaca_cli.specs.declared.status.Status.TheVariants.{Done, Refused, Usage, Unreadable, Unwritable, OutOfMemory, MachineFault, TooLong, Differs}
 use Rattle.alpaca_cli.specs.InputFiles.{AreHeld, IsUnreadable, IsTooLong}
 use Rattle.alpaca_cli.specs.Refusals.{Refusal, refused_line}
-use Rattle.alpaca_cli.specs.Messages.{Tells, unreadable_line, too_long_line, unput_line, unwritable_line, memory_line, machine_fault_line, differs_line, usage_line}
+use Rattle.alpaca_cli.specs.Messages.{Tells, unreadable_line, too_long_line, unput_line, unwritable_line, memory_line, machine_fault_line, differs_line}
+use Rattle.alpaca_cli.specs.Messages.{usage_line}
 use Rattle.alpaca_cli.specs.Calls.{Call, OnLine, reads, judges, puts}
 use Rattle.alpaca_cli.specs.Ending.{Ending, well, at_fault, differs}
 use Rattle.alpaca_cli.specs.Outside.{Shelved, Written, Stands, IsSilent, IsPut, IsUnput}

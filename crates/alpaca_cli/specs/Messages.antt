@@ -39,4 +39,7 @@ differs_line = texts (codes "report differs\n" ∷ [])
 
 -- the line where the words are no command line: all commands, also those to come
 unfoldable pub usage_line : List ℕ
-usage_line = texts (codes "usage: alpaca mean SRC TRACE | try SRC TRACE IMAGE | build SRC IMAGE | run IMAGE TRACE | asm ASM IMAGE | dis IMAGE | gen N IMAGE | save IMAGE TRACE STATE | resume IMAGE STATE TRACE | audit SRC REPORT TRACE\n" ∷ [])
+usage_line =
+    texts
+    (codes
+    "usage: alpaca mean SRC TRACE | try SRC TRACE IMAGE | build SRC IMAGE | run IMAGE TRACE | asm ASM IMAGE | dis IMAGE | gen N IMAGE | save IMAGE TRACE STATE | resume IMAGE STATE TRACE | audit SRC REPORT TRACE\n" ∷ [])

@@ -122,14 +122,7 @@ fn audit_of<O: Sink, E: Sink>(
         (record { old = O.contents out.old; new = O.contents out.new; faults_old = O.faults out.old; faults_new = O.faults out.new })
         (record { old = E.contents err.old; new = E.contents err.new; faults_old = E.faults err.old; faults_new = E.faults err.new })) }
 {
-    match audit_texts(
-        alloc,
-        names,
-        &texts.first,
-        &texts.second,
-        &texts.third,
-        out,
-    ) {
+    match audit_texts(alloc, names, &texts.first, &texts.second, &texts.third, out) {
         Ok(Verdict::Yes { .. }) => Status::Done,
         Ok(Verdict::No { .. }) => {
             messages::tell_differs(err);

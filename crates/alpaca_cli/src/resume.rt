@@ -120,14 +120,7 @@ fn resume_of<O: Sink, E: Sink>(
         (record { old = O.contents out.old; new = O.contents out.new; faults_old = O.faults out.old; faults_new = O.faults out.new })
         (record { old = E.contents err.old; new = E.contents err.new; faults_old = E.faults err.old; faults_new = E.faults err.new })) }
 {
-    match resume_texts(
-        alloc,
-        names,
-        &texts.first,
-        &texts.second,
-        &texts.third,
-        out,
-    ) {
+    match resume_texts(alloc, names, &texts.first, &texts.second, &texts.third, out) {
         Ok(RunEnding::Well) => Status::Done,
         Ok(RunEnding::AtFault) => {
             messages::tell_machine_fault(err);

@@ -63,10 +63,12 @@ pub fn try_texts<'t, H: Shelf, O: Sink>(
     requires trace { length texts.1.now ≤ 1048576 }
     ensures counts { NeverFall (H.counts shelf.old) (H.counts shelf.new) }
     ensures faults { O.faults out.old ≤ O.faults out.new }
-    ensures whole { IfOk result (λ _. IsWhole (call.try_ names.entry.0.now names.entry.1.now names.entry.2.now) (texts.entry.0.now ∷ texts.entry.1.now ∷ []) well
+    ensures whole { IfOk result (λ _. IsWhole (call.try_ names.entry.0.now names.entry.1.now names.entry.2.now) (texts.entry.0.now ∷ texts.entry.1.now ∷ [])
+        well
         (record { old = H.files shelf.old; new = H.files shelf.new; counts_old = H.counts shelf.old; counts_new = H.counts shelf.new })
         (record { old = O.contents out.old; new = O.contents out.new; faults_old = O.faults out.old; faults_new = O.faults out.new })) }
-    ensures failure { IfErr result (λ e. FailsBy e (call.try_ names.entry.0.now names.entry.1.now names.entry.2.now) (texts.entry.0.now ∷ texts.entry.1.now ∷ [])
+    ensures failure { IfErr result (λ e. FailsBy e (call.try_ names.entry.0.now names.entry.1.now names.entry.2.now)
+        (texts.entry.0.now ∷ texts.entry.1.now ∷ [])
         (record { old = H.files shelf.old; new = H.files shelf.new; counts_old = H.counts shelf.old; counts_new = H.counts shelf.new })
         (record { old = O.contents out.old; new = O.contents out.new; faults_old = O.faults out.old; faults_new = O.faults out.new })) }
 {

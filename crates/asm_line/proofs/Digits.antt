@@ -34,12 +34,16 @@ large_by false n base v e h =
     let same : n % 65536 ≡ n = omega arith in
     ap (λ r. nat_le 65536 (r * base + v)) same
 
-pub digit_more : (n base v : ℕ) → 1 ≤ base → record { residue = (n % 65536 * base + v) % 65536; large = nat_le 65536 n || nat_le 65536 (n % 65536 * base + v) } ≡ reduced (n * base + v)
+pub digit_more : (n base v : ℕ) → 1 ≤ base → record {
+  residue = (n % 65536 * base + v) % 65536;
+  large = nat_le 65536 n || nat_le 65536 (n % 65536 * base + v);
+} ≡ reduced (n * base + v)
 unfolding reduced
 digit_more n base v h = rw (large_by (nat_le 65536 n) n base v refl h, same_residue (n / 65536 * base) (n % 65536 * base + v), ← split_number n base v) refl
 
 opened : (n base v : ℕ) → 1 ≤ base
-    → record { residue = ((reduced n).residue * base + v) % 65536; large = (reduced n).large || nat_le 65536 ((reduced n).residue * base + v) } ≡ reduced (n * base + v)
+    → record { residue = ((reduced n).residue * base + v) % 65536; large = (reduced n).large || nat_le 65536 ((reduced n).residue * base + v) }
+    ≡ reduced (n * base + v)
 unfolding reduced
 opened n base v h = digit_more n base v h
 
@@ -55,8 +59,10 @@ or_false : (a b : Bool) → a ≡ false → b ≡ (a || b)
 or_false true b e = cc
 or_false false b e = refl
 
-pub with_large : (m : Numeral) (n base v : ℕ) → m.large ≡ true → 1 ≤ base → m ≡ reduced n → record { residue = (m.residue * base + v) % 65536; large = m.large } ≡ reduced (n * base + v)
+pub with_large : (m : Numeral) (n base v : ℕ) → m.large ≡ true → 1 ≤ base → m ≡ reduced n
+    → record { residue = (m.residue * base + v) % 65536; large = m.large } ≡ reduced (n * base + v)
 with_large m n base v t h e = with_more m m.large n base v e h (or_true m.large _ t)
 
-pub with_small : (m : Numeral) (n base v : ℕ) → m.large ≡ false → 1 ≤ base → m ≡ reduced n → record { residue = (m.residue * base + v) % 65536; large = nat_le 65536 (m.residue * base + v) } ≡ reduced (n * base + v)
+pub with_small : (m : Numeral) (n base v : ℕ) → m.large ≡ false → 1 ≤ base → m ≡ reduced n
+    → record { residue = (m.residue * base + v) % 65536; large = nat_le 65536 (m.residue * base + v) } ≡ reduced (n * base + v)
 with_small m n base v t h e = with_more m (nat_le 65536 (m.residue * base + v)) n base v e h (or_false m.large _ t)

@@ -72,11 +72,13 @@ org_named : (p : Located) → operation_of (codes ".org") None p ≡ plain_of (c
 unfolding operation_of two_named one_named emulated_named condition_named
 org_named p = refl
 
-word_statement : (at : ℕ) (x : List ℕ) → statement_of (record { at = at; text = codes ".word" ++ 32 ∷ x }) ≡ plain_of (codes ".word") (record { at = at + 5; text = 32 ∷ x })
+word_statement : (at : ℕ) (x : List ℕ) → statement_of (record { at = at; text = codes ".word" ++ 32 ∷ x })
+    ≡ plain_of (codes ".word") (record { at = at + 5; text = 32 ∷ x })
 unfolding statement_of word behind_word base_name suffix_of is_blank
 word_statement at x = word_named (record { at = at + 5; text = 32 ∷ x })
 
-org_statement : (at : ℕ) (x : List ℕ) → statement_of (record { at = at; text = codes ".org" ++ 32 ∷ x }) ≡ plain_of (codes ".org") (record { at = at + 4; text = 32 ∷ x })
+org_statement : (at : ℕ) (x : List ℕ) → statement_of (record { at = at; text = codes ".org" ++ 32 ∷ x })
+    ≡ plain_of (codes ".org") (record { at = at + 4; text = 32 ∷ x })
 unfolding statement_of word behind_word base_name suffix_of is_blank
 org_statement at x = org_named (record { at = at + 4; text = 32 ∷ x })
 
@@ -85,7 +87,8 @@ plain_line : (p : Located) → before_mark 59 p ≡ p → without_blanks p ≡ p
 unfolding line_of
 plain_line p e f g = rw (e, f, g) refl
 
-word_front : (at a b c d w : ℕ) → IsHex4 a b c d w → before_mark 59 (record { at = at; text = codes ".word" ++ 32 ∷ hex a b c d }) ≡ record { at = at; text = codes ".word" ++ 32 ∷ hex a b c d }
+word_front : (at a b c d w : ℕ) → IsHex4 a b c d w → before_mark 59 (record { at = at; text = codes ".word" ++ 32 ∷ hex a b c d })
+    ≡ record { at = at; text = codes ".word" ++ 32 ∷ hex a b c d }
 unfolding before_mark
 word_front at a b c d w h = rw (h.first.comment, h.second.comment, h.third.comment, h.fourth.comment) refl
 
@@ -97,7 +100,8 @@ word_unlabelled : (at a b c d w : ℕ) → IsHex4 a b c d w → behind_mark 58 (
 unfolding behind_mark
 word_unlabelled at a b c d w h = rw (h.first.colon, h.second.colon, h.third.colon, h.fourth.colon) refl
 
-org_front : (at a b c d w : ℕ) → IsHex4 a b c d w → before_mark 59 (record { at = at; text = codes ".org" ++ 32 ∷ hex a b c d }) ≡ record { at = at; text = codes ".org" ++ 32 ∷ hex a b c d }
+org_front : (at a b c d w : ℕ) → IsHex4 a b c d w → before_mark 59 (record { at = at; text = codes ".org" ++ 32 ∷ hex a b c d })
+    ≡ record { at = at; text = codes ".org" ++ 32 ∷ hex a b c d }
 unfolding before_mark
 org_front at a b c d w h = rw (h.first.comment, h.second.comment, h.third.comment, h.fourth.comment) refl
 
@@ -110,14 +114,17 @@ unfolding behind_mark
 org_unlabelled at a b c d w h = rw (h.first.colon, h.second.colon, h.third.colon, h.fourth.colon) refl
 
 -- a line with `.word` and one number
-pub word_line_says : (at a b c d w : ℕ) → IsHex4 a b c d w → line_of (record { at = at; text = codes ".word" ++ 32 ∷ hex a b c d }) ≡ Some (record { label = None; statement = words (number w ∷ []) })
+pub word_line_says : (at a b c d w : ℕ) → IsHex4 a b c d w → line_of (record { at = at; text = codes ".word" ++ 32 ∷ hex a b c d })
+    ≡ Some (record { label = None; statement = words (number w ∷ []) })
 word_line_says at a b c d w h =
     let p : Located = record { at = at; text = codes ".word" ++ 32 ∷ hex a b c d } in
     plain_line p (word_front at a b c d w h) (word_bare at (32 ∷ hex a b c d)) (word_unlabelled at a b c d w h)
-    ∙ ap (with_label None) (word_statement at (hex a b c d) ∙ word_says (record { at = at + 5; text = 32 ∷ hex a b c d }) w (one_part (at + 5) a b c d w h) (hex_word_value (at + 5) a b c d w h))
+    ∙ ap (with_label None) (word_statement at (hex a b c d) ∙ word_says (record { at = at + 5; text = 32 ∷ hex a b c d }) w (one_part (at + 5) a b c d w h)
+    (hex_word_value (at + 5) a b c d w h))
 
 -- a line with `.org` and one number
-pub org_line_says : (at a b c d w : ℕ) → IsHex4 a b c d w → line_of (record { at = at; text = codes ".org" ++ 32 ∷ hex a b c d }) ≡ Some (record { label = None; statement = org (number w) })
+pub org_line_says : (at a b c d w : ℕ) → IsHex4 a b c d w → line_of (record { at = at; text = codes ".org" ++ 32 ∷ hex a b c d })
+    ≡ Some (record { label = None; statement = org (number w) })
 org_line_says at a b c d w h =
     let p : Located = record { at = at; text = codes ".org" ++ 32 ∷ hex a b c d } in
     plain_line p (org_front at a b c d w h) (org_bare at (32 ∷ hex a b c d)) (org_unlabelled at a b c d w h)

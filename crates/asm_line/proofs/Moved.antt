@@ -1,5 +1,6 @@
 -- What a piece says doesn't depend on where it stands, but for the places of its labels.
-use Rattle.std.proofs.Common.{◌≡◌, ℕ, ◌+◌, ◌==◌, ◌&&◌, ◌||◌, nat_le, nat_lt, List, [], ◌∷◌, length, take, drop, refl, ap, ◌∙◌, subst, if◌then◌else◌, Bool, true, false, Option, Some, None}
+use Rattle.std.proofs.Common.{◌≡◌, ℕ, ◌+◌, ◌==◌, ◌&&◌, ◌||◌, nat_le, nat_lt, List, [], ◌∷◌, length, take, drop, refl, ap, ◌∙◌, subst, if◌then◌else◌, Bool}
+use Rattle.std.proofs.Common.{true, false, Option, Some, None}
 use Rattle.std.specs.Prelude.{is_some}
 use Rattle.std.specs.Prelude.{codes}
 use Rattle.std.specs.Str.{str_eq_ignore_ascii_case}
@@ -12,14 +13,21 @@ use Rattle.msp_isa.specs.declared.instructions.Condition.{Condition}
 use Rattle.msp_isa.specs.declared.instructions.Instr.TheVariants as instr
 use Rattle.asm_line.specs.declared.tables.OneName.{OneName}
 use Rattle.asm_line.specs.Numbers.{◌>>?◌, number_of}
-use Rattle.asm_line.specs.Pieces.{Located, mark_at, blank_len, word_len, behind, before_mark, behind_mark, without_blanks, word, behind_word, word_alone, only_word, split, place_all, parts}
+use Rattle.asm_line.specs.Pieces.{Located, mark_at, blank_len, word_len, behind, before_mark, behind_mark, without_blanks, word, behind_word, word_alone}
+use Rattle.asm_line.specs.Pieces.{only_word, split, place_all, parts}
 use Rattle.asm_line.specs.Values.{ValueMeaning, number, out_of_range, label, here, is_digit, is_label, unsigned, negative, value_at, value_of, register_named}
-use Rattle.asm_line.specs.Operands.{OperandMeaning, register, immediate, indexed, symbolic, absolute, indirect, increment, without_last, pointed, with_index, in_memory, named, operand_from, operand_of, source_register, index_register, indirect_register, immediate_source, Open, source, destination, source_of, destination_of}
+use Rattle.asm_line.specs.Operands.{OperandMeaning, register, immediate, indexed, symbolic, absolute, indirect, increment, without_last, pointed, with_index}
+use Rattle.asm_line.specs.Operands.{in_memory, named, operand_from, operand_of, source_register, index_register, indirect_register, immediate_source, Open}
+use Rattle.asm_line.specs.Operands.{source, destination, source_of, destination_of}
 use Rattle.asm_line.specs.Tables.{OperandText, written, fixed, CoreText, two_named, one_named, condition_named, emulated_named}
 use Rattle.asm_line.specs.Places.{Same, ValueSame, StatementSame, LineSame}
-use Rattle.asm_line.specs.Lines.{StatementMeaning, words, instruction, suffix_of, base_name, width_of, two_of, one_op_of, one_of, two_words, place, is_written, takes_suffix, emulated_of, emulated, word_value, are_values, values_of, org_of, plain_of, without_suffix, if_no_suffix, or_emulated, or_one, or_two, operation_of, statement_from, statement_of, with_label, labelled, uncommented, line_of}
+use Rattle.asm_line.specs.Lines.{StatementMeaning, words, instruction, suffix_of, base_name, width_of, two_of, one_op_of, one_of, two_words, place}
+use Rattle.asm_line.specs.Lines.{is_written, takes_suffix, emulated_of, emulated, word_value, are_values, values_of, org_of, plain_of, without_suffix}
+use Rattle.asm_line.specs.Lines.{if_no_suffix, or_emulated, or_one, or_two, operation_of, statement_from, statement_of, with_label, labelled, uncommented}
+use Rattle.asm_line.specs.Lines.{line_of}
 
-bind_same : {A B : Type 0} (R : A → A → Type 0) (S : B → B → Type 0) (o p : Option A) (f g : A → Option B) → Same R o p → ((x y : A) → R x y → Same S (f x) (g y)) → Same S (o >>? f) (p >>? g)
+bind_same : {A B : Type 0} (R : A → A → Type 0) (S : B → B → Type 0) (o p : Option A) (f g : A → Option B) → Same R o p
+    → ((x y : A) → R x y → Same S (f x) (g y)) → Same S (o >>? f) (p >>? g)
 bind_same R S None None f g h k = tt
 bind_same R S None (Some y) f g h k = absurd h
 bind_same R S (Some x) None f g h k = absurd h
@@ -61,7 +69,8 @@ before_same m p q e = ap (λ t. take (mark_at m t) t) e
 
 behind_same : (m : ℕ) (p q : Located) → Alike p q → Same Alike (behind_mark m p) (behind_mark m q)
 unfolding behind_mark
-behind_same m p q e = let P : List ℕ → Type 0 = λ t. Same Alike (if nat_lt (mark_at m p.text) (length p.text) then Some (behind (mark_at m p.text + 1) p) else None)
+behind_same m p q e = let P : List ℕ → Type 0 = λ t. Same Alike (if nat_lt (mark_at m p.text) (length p.text) then Some (behind (mark_at m p.text + 1) p)
+    else None)
     (if nat_lt (mark_at m t) (length t) then Some (record { at = q.at + (mark_at m t + 1); text = drop (mark_at m t + 1) t }) else None) in
     subst P e (if_same Alike (nat_lt (mark_at m p.text) (length p.text)) _ _ _ _ refl tt)
 
@@ -109,7 +118,8 @@ memory_same : (p q : Located) (o u : Option Located) → Alike p q → Same Alik
 memory_same p q None None e h = bind_same ValueSame OperandSame (value_of p) (value_of q) _ _ (value_same p q e) (λ v w h. h)
 memory_same p q None (Some u) e h = absurd h
 memory_same p q (Some o) None e h = absurd h
-memory_same p q (Some o) (Some u) e h = let P : List ℕ → Type 0 = λ t. Same OperandSame (with_index (before_mark 40 p) (without_last 41 o.text)) (with_index (before_mark 40 q) (without_last 41 t)) in
+memory_same p q (Some o) (Some u) e h = let P : List ℕ → Type 0 =
+    λ t. Same OperandSame (with_index (before_mark 40 p) (without_last 41 o.text)) (with_index (before_mark 40 q) (without_last 41 t)) in
     subst P h (index_same (before_mark 40 p) (before_mark 40 q) (without_last 41 o.text) (before_same 40 p q e))
 
 named_same : (p q : Located) (r : Option Reg) → Alike p q → Same OperandSame (named p r) (named q r)
@@ -155,7 +165,8 @@ source_says (increment r) (increment s) h = let P : Reg → Type 0 = λ s. Same 
 source_says o p h = absurd h
 
 destination_says : (o p : OperandMeaning) → OperandSame o p → Same OpenSame (destination o) (destination p)
-destination_says (register r) (register s) h = let P : Reg → Type 0 = λ s. Same OpenSame (destination (register r)) (destination (register s)) in subst P h (refl, tt)
+destination_says (register r) (register s) h = let P : Reg → Type 0 = λ s. Same OpenSame (destination (register r)) (destination (register s)) in
+    subst P h (refl, tt)
 destination_says (immediate v) (immediate w) h = tt
 destination_says (indexed v r) (indexed w s) h = let P : Reg → Type 0 = λ s. Same OpenSame (destination (indexed v r)) (destination (indexed w s)) in
     subst P h.1 (then_same OpenSame (index_register r) _ _ (λ r. (refl, h.0)))
@@ -192,7 +203,8 @@ one_same name w p q e = bind_same OpenSame StatementSame (source_of p) (source_o
         (one_op_of name w s >>? λ op. Some (instruction (record { instr = instr.One op; source = y.1; destination = None }))) in
         subst P h.0 (then_same StatementSame (one_op_of name w x.0) _ _ (λ op. (refl, h.1, tt)))
 
-words_same : (op : TwoOp) (w : Option Width) (p q : Located) (o u : Option Located) → Alike p q → Same Alike o u → Same StatementSame (two_words op w p o) (two_words op w q u)
+words_same : (op : TwoOp) (w : Option Width) (p q : Located) (o u : Option Located) → Alike p q → Same Alike o u
+    → Same StatementSame (two_words op w p o) (two_words op w q u)
 words_same op w p q None None e h = tt
 words_same op w p q None (Some u) e h = absurd h
 words_same op w p q (Some o) None e h = absurd h
@@ -205,13 +217,15 @@ place_same (fixed t) p q e = refl
 
 emulated_of_same : (c : CoreText) (w : Option Width) (p q : Located) → Alike p q → Same StatementSame (emulated_of c w p) (emulated_of c w q)
 emulated_of_same c w p q e = if_same StatementSame (takes_suffix c w) _ _ _ _
-    (two_same c.op w (place c.source p) (place c.destination p) (place c.source q) (place c.destination q) (place_same c.source p q e) (place_same c.destination p q e)) tt
+    (two_same c.op w (place c.source p) (place c.destination p) (place c.source q) (place c.destination q) (place_same c.source p q e)
+    (place_same c.destination p q e)) tt
 
 emulated_same : (c : CoreText) (w : Option Width) (p q : Located) → Alike p q → Same StatementSame (emulated c w p) (emulated c w q)
 unfolding emulated
 emulated_same c w p q e = if_same StatementSame (is_written c.source || is_written c.destination) _ _ _ _
     (bind_same Alike StatementSame (only_word p) (only_word q) (emulated_of c w) (emulated_of c w) (only_same p q e) (λ x y h. emulated_of_same c w x y h))
-    (let P : List ℕ → Type 0 = λ t. Same StatementSame (if no_fields (fields p.text) then emulated_of c w p else None) (if no_fields (fields t) then emulated_of c w q else None) in
+    (let P : List ℕ → Type 0 = λ t. Same StatementSame (if no_fields (fields p.text) then emulated_of c w p else None)
+    (if no_fields (fields t) then emulated_of c w q else None) in
     subst P e (if_same StatementSame (no_fields (fields p.text)) _ _ _ _ (emulated_of_same c w p q e) tt))
 
 word_value_same : (p q : Located) → Alike p q → Same ValueSame (word_value p) (word_value q)
@@ -225,7 +239,8 @@ some_same (Some x) (Some y) h = refl
 
 all_same : (a b : ℕ) (ts : List (List ℕ)) → are_values (place_all a ts) ≡ are_values (place_all b ts)
 all_same a b [] = refl
-all_same a b (t ∷ ts) = ap (λ s. s && are_values (place_all (a + length t + 1) ts)) (some_same (word_value (record { at = a; text = t })) (word_value (record { at = b; text = t }))
+all_same a b (t ∷ ts) = ap (λ s. s && are_values (place_all (a + length t + 1) ts))
+    (some_same (word_value (record { at = a; text = t })) (word_value (record { at = b; text = t }))
     (word_value_same (record { at = a; text = t }) (record { at = b; text = t }) refl))
     ∙ ap (λ s. is_some (word_value (record { at = b; text = t })) && s) (all_same (a + length t + 1) (b + length t + 1) ts)
 
@@ -242,16 +257,20 @@ org_same v w h = absurd h
 plain_same : (name : List ℕ) (p q : Located) → Alike p q → Same StatementSame (plain_of name p) (plain_of name q)
 unfolding plain_of
 plain_same name p q e = if_same StatementSame (str_eq_ignore_ascii_case name (codes "reti")) _ _ _ _ (reti e)
-    (if_same StatementSame (str_eq_ignore_ascii_case name (codes ".org")) _ _ _ _ (bind_same ValueSame StatementSame (word_value p) (word_value q) org_of org_of (word_value_same p q e) org_same)
+    (if_same StatementSame (str_eq_ignore_ascii_case name (codes ".org")) _ _ _ _
+    (bind_same ValueSame StatementSame (word_value p) (word_value q) org_of org_of (word_value_same p q e) org_same)
     (if_same StatementSame (str_eq_ignore_ascii_case name (codes ".word")) _ _ _ _ (list (lists_same p q e)) tt))
   where
-    reti : Alike p q → Same StatementSame (if no_fields (fields p.text) then Some (instruction (record { instr = instr.Reti; source = None; destination = None })) else None)
+    reti : Alike p q → Same StatementSame (if no_fields (fields p.text)
+        then Some (instruction (record { instr = instr.Reti; source = None; destination = None })) else None)
         (if no_fields (fields q.text) then Some (instruction (record { instr = instr.Reti; source = None; destination = None })) else None)
-    reti e = let P : List ℕ → Type 0 = λ t. Same StatementSame (if no_fields (fields p.text) then Some (instruction (record { instr = instr.Reti; source = None; destination = None })) else None)
+    reti e = let P : List ℕ → Type 0 = λ t. Same StatementSame (if no_fields (fields p.text)
+        then Some (instruction (record { instr = instr.Reti; source = None; destination = None })) else None)
         (if no_fields (fields t) then Some (instruction (record { instr = instr.Reti; source = None; destination = None })) else None) in
         subst P e (if_same StatementSame (no_fields (fields p.text)) _ _ _ _ (refl, tt, tt) tt)
 
-    list : are_values (parts 44 p) ≡ are_values (parts 44 q) → Same StatementSame (if are_values (parts 44 p) then Some (words (values_of (parts 44 p))) else None)
+    list : are_values (parts 44 p) ≡ are_values (parts 44 q)
+        → Same StatementSame (if are_values (parts 44 p) then Some (words (values_of (parts 44 p))) else None)
         (if are_values (parts 44 q) then Some (words (values_of (parts 44 q))) else None)
     list e = let P : Bool → Type 0 = λ t. Same StatementSame (if are_values (parts 44 p) then Some (words (values_of (parts 44 p))) else None)
         (if t then Some (words (values_of (parts 44 q))) else None) in
@@ -265,16 +284,19 @@ no_suffix_same : (name : List ℕ) (w : Option Width) (p q : Located) → Alike 
 no_suffix_same name None p q e = suffixless_same (condition_named name) name p q e
 no_suffix_same name (Some w) p q e = tt
 
-or_emulated_same : (c : Option CoreText) (name : List ℕ) (w : Option Width) (p q : Located) → Alike p q → Same StatementSame (or_emulated c name w p) (or_emulated c name w q)
+or_emulated_same : (c : Option CoreText) (name : List ℕ) (w : Option Width) (p q : Located) → Alike p q
+    → Same StatementSame (or_emulated c name w p) (or_emulated c name w q)
 or_emulated_same (Some c) name w p q e = emulated_same c w p q e
 or_emulated_same None name w p q e = no_suffix_same name w p q e
 
 or_one_same : (o : Option OneName) (name : List ℕ) (w : Option Width) (p q : Located) → Alike p q → Same StatementSame (or_one o name w p) (or_one o name w q)
-or_one_same (Some o) name w p q e = bind_same Alike StatementSame (only_word p) (only_word q) (one_of o w) (one_of o w) (only_same p q e) (λ x y h. one_same o w x y h)
+or_one_same (Some o) name w p q e = bind_same Alike StatementSame (only_word p) (only_word q) (one_of o w) (one_of o w) (only_same p q e)
+    (λ x y h. one_same o w x y h)
 or_one_same None name w p q e = or_emulated_same (emulated_named name) name w p q e
 
 or_two_same : (o : Option TwoOp) (name : List ℕ) (w : Option Width) (p q : Located) → Alike p q → Same StatementSame (or_two o name w p) (or_two o name w q)
-or_two_same (Some op) name w p q e = words_same op w (before_mark 44 p) (before_mark 44 q) (behind_mark 44 p) (behind_mark 44 q) (before_same 44 p q e) (behind_same 44 p q e)
+or_two_same (Some op) name w p q e = words_same op w (before_mark 44 p) (before_mark 44 q) (behind_mark 44 p) (behind_mark 44 q) (before_same 44 p q e)
+    (behind_same 44 p q e)
 or_two_same None name w p q e = or_one_same (one_named name) name w p q e
 
 operation_same : (name : List ℕ) (w : Option Width) (p q : Located) → Alike p q → Same StatementSame (operation_of name w p) (operation_of name w q)
@@ -283,14 +305,17 @@ operation_same name w p q e = or_two_same (two_named name) name w p q e
 
 from_same : (p q : Located) (t : List ℕ) → Alike p q → Same StatementSame (statement_from p t) (statement_from q t)
 from_same p q [] e = tt
-from_same p q (b ∷ bs) e = let P : List ℕ → Type 0 = λ t. Same StatementSame (operation_of (base_name (word p).text) (suffix_of (word p).text) (behind_word p)) (operation_of (base_name t) (suffix_of t) (behind_word q)) in
+from_same p q (b ∷ bs) e = let P : List ℕ → Type 0 =
+    λ t. Same StatementSame (operation_of (base_name (word p).text) (suffix_of (word p).text) (behind_word p))
+    (operation_of (base_name t) (suffix_of t) (behind_word q)) in
     subst P (word_same p q e) (operation_same (base_name (word p).text) (suffix_of (word p).text) (behind_word p) (behind_word q) (behind_word_same p q e))
 
 statement_same : (p q : Located) → Alike p q → Same StatementSame (statement_of p) (statement_of q)
 unfolding statement_of
 statement_same p q e = let P : List ℕ → Type 0 = λ t. Same StatementSame (statement_from p p.text) (statement_from q t) in subst P e (from_same p q p.text e)
 
-with_same : (l m : Option Located) (s t : Option StatementMeaning) → Same (λ _ _. Unit {0}) l m → Same StatementSame s t → Same LineSame (with_label l s) (with_label m t)
+with_same : (l m : Option Located) (s t : Option StatementMeaning) → Same (λ _ _. Unit {0}) l m → Same StatementSame s t
+    → Same LineSame (with_label l s) (with_label m t)
 with_same l m None None h k = tt
 with_same l m None (Some t) h k = absurd k
 with_same l m (Some s) None h k = absurd k
@@ -303,10 +328,12 @@ labelled_same p q (Some o) None e h = absurd h
 labelled_same p q (Some o) (Some u) e h = let P : List ℕ → Type 0 = λ t. Same LineSame (labelled p (Some o))
     (if is_label t then with_label (Some (before_mark 58 q)) (statement_of (without_blanks u)) else None) in
     subst P (before_same 58 p q e) (if_same LineSame (is_label (before_mark 58 p).text) _ _ _ _
-    (with_same (Some (before_mark 58 p)) (Some (before_mark 58 q)) (statement_of (without_blanks o)) (statement_of (without_blanks u)) tt (statement_same (without_blanks o) (without_blanks u) (blanks_same o u h))) tt)
+    (with_same (Some (before_mark 58 p)) (Some (before_mark 58 q)) (statement_of (without_blanks o)) (statement_of (without_blanks u)) tt
+    (statement_same (without_blanks o) (without_blanks u) (blanks_same o u h))) tt)
 
 -- a line says the same wherever it stands
 pub line_same : (p q : Located) → Alike p q → Same LineSame (line_of p) (line_of q)
 unfolding line_of
 line_same p q e = let f : Alike (uncommented p) (uncommented q) = blanks_same (before_mark 59 p) (before_mark 59 q) (before_same 59 p q e) in
-    labelled_same (uncommented p) (uncommented q) (behind_mark 58 (uncommented p)) (behind_mark 58 (uncommented q)) f (behind_same 58 (uncommented p) (uncommented q) f)
+    labelled_same (uncommented p) (uncommented q) (behind_mark 58 (uncommented p)) (behind_mark 58 (uncommented q)) f
+    (behind_same 58 (uncommented p) (uncommented q) f)

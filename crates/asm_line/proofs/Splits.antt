@@ -1,5 +1,6 @@
 -- A piece cut at its first mark.
-use Rattle.std.proofs.Common.{◌≡◌, ◌≤◌, ◌<◌, ℕ, suc, zero, ◌+◌, ◌==◌, List, [], ◌∷◌, length, take, drop, arith, refl, ap, sym, ◌∙◌, if◌then◌else◌, nat_lt, ◌&&◌, Bool, true, false, Option, Some, None, length-drop, add-one}
+use Rattle.std.proofs.Common.{◌≡◌, ◌≤◌, ◌<◌, ℕ, suc, zero, ◌+◌, ◌==◌, List, [], ◌∷◌, length, take, drop, arith, refl, ap, sym, ◌∙◌, if◌then◌else◌, nat_lt}
+use Rattle.std.proofs.Common.{◌&&◌, Bool, true, false, Option, Some, None, length-drop, add-one}
 use Rattle.std.proofs.lemmas.Bool.Decides.{nat_tests}
 use Rattle.std.specs.Prelude.{is_some}
 use Rattle.asm_line.specs.Pieces.{Located, mark_at, split, onto_first, place_all, parts, rest_parts, before_mark, behind_mark, left_len}
@@ -46,7 +47,8 @@ parts_by true mark p e =
     let short : n < length p.text = grind (arith, nat_tests, e) in
     ap (place_all p.at) (split_cut mark p.text short)
     ∙ ap (λ k. record { at = p.at; text = take n p.text } ∷ place_all (p.at + k + 1) (split mark (drop (suc n) p.text))) (take_length n p.text (omega arith))
-    ∙ ap (λ k. record { at = p.at; text = take n p.text } ∷ place_all k (split mark (drop (suc n) p.text))) (let z : p.at + n + 1 ≡ p.at + (n + 1) = omega arith in z)
+    ∙ ap (λ k. record { at = p.at; text = take n p.text } ∷ place_all k (split mark (drop (suc n) p.text)))
+    (let z : p.at + n + 1 ≡ p.at + (n + 1) = omega arith in z)
     ∙ ap (λ k. record { at = p.at; text = take n p.text } ∷ place_all (p.at + (n + 1)) (split mark (drop k p.text))) (sym (add-one n))
 parts_by false mark p e =
     let long : length p.text ≤ mark_at mark p.text = grind (arith, nat_tests, e) in
@@ -88,11 +90,14 @@ pub record ListLeft (count : ℕ) (left : Option Located) (list : Located) : Typ
 pub list_start : (list : Located) → ListLeft 0 (Some list) list
 list_start list = record { all = refl; counted = omega arith; short = omega arith }
 
-pub list_next : (count : ℕ) (p q list : Located) (behind : Option Located) (v : ValueMeaning) → ListLeft count (Some p) list → q ≡ before_mark 44 p → behind ≡ behind_mark 44 p
+pub list_next : (count : ℕ) (p q list : Located) (behind : Option Located) (v : ValueMeaning) → ListLeft count (Some p) list → q ≡ before_mark 44 p
+    → behind ≡ behind_mark 44 p
     → Some v ≡ word_value q → ListLeft (count + 1) behind list
 list_next count p q list behind v l first rest e =
-    let cut : parts 44 p ≡ q ∷ rest_parts 44 behind = parts_cut 44 p ∙ ap (λ q. q ∷ rest_parts 44 (behind_mark 44 p)) (sym first) ∙ ap (λ r. q ∷ rest_parts 44 r) (sym rest) in
-    let len : length (values_of (parts 44 p)) ≡ length (values_of (rest_parts 44 behind)) + 1 = ap (λ ps. length (values_of ps)) cut ∙ values_by v (word_value q) (values_of (rest_parts 44 behind)) e in
+    let cut : parts 44 p ≡ q ∷ rest_parts 44 behind = parts_cut 44 p ∙ ap (λ q. q ∷ rest_parts 44 (behind_mark 44 p)) (sym first)
+    ∙ ap (λ r. q ∷ rest_parts 44 r) (sym rest) in
+    let len : length (values_of (parts 44 p)) ≡ length (values_of (rest_parts 44 behind)) + 1 =
+    ap (λ ps. length (values_of ps)) cut ∙ values_by v (word_value q) (values_of (rest_parts 44 behind)) e in
     let shorter : left_len behind + 1 ≤ length p.text + 1 = rw rest (left_shorter 44 p) in
     record {
       all = all_by v (word_value q) (are_values (rest_parts 44 behind)) e ∙ sym (ap are_values cut) ∙ l.all;
@@ -100,7 +105,8 @@ list_next count p q list behind v l first rest e =
       short = omega (arith, shorter, l.short);
     }
 
-pub list_stops : (count : ℕ) (p q list : Located) → ListLeft count (Some p) list → q ≡ before_mark 44 p → None ≡ word_value q → None ≡ (if are_values (parts 44 list) then Some list else None)
+pub list_stops : (count : ℕ) (p q list : Located) → ListLeft count (Some p) list → q ≡ before_mark 44 p → None ≡ word_value q
+    → None ≡ (if are_values (parts 44 list) then Some list else None)
 list_stops count p q list l first e =
     ap (λ t. if t then Some list else None) (sym (sym l.all ∙ ap are_values (parts_cut 44 p)
     ∙ ap (λ q. is_some (word_value q) && are_values (rest_parts 44 (behind_mark 44 p))) (sym first)
@@ -110,7 +116,8 @@ pub list_shorter : (p : Located) (behind : Option Located) → behind ≡ behind
 list_shorter p behind e = let shorter : left_len behind + 1 ≤ length p.text + 1 = rw e (left_shorter 44 p) in omega arith
 
 -- what a call cut
-pub cut_parts : (mark : ℕ) (p first : Located) (rest : Option Located) → first ≡ before_mark mark p → rest ≡ behind_mark mark p → parts mark p ≡ first ∷ rest_parts mark rest
+pub cut_parts : (mark : ℕ) (p first : Located) (rest : Option Located) → first ≡ before_mark mark p → rest ≡ behind_mark mark p
+    → parts mark p ≡ first ∷ rest_parts mark rest
 cut_parts mark p first rest e f = parts_cut mark p ∙ ap (λ q. q ∷ rest_parts mark (behind_mark mark p)) (sym e) ∙ ap (λ r. first ∷ rest_parts mark r) (sym f)
 
 pub cut_shorter : (mark : ℕ) (p : Located) (rest : Option Located) → rest ≡ behind_mark mark p → left_len rest < left_len (Some p)

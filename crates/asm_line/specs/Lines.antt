@@ -1,5 +1,6 @@
 -- What one line of an assembler text says: `[label:] [operation operands] [; comment]`.
-use Rattle.std.specs.Prelude.{ℕ, ◌-◌, ◌==◌, ◌&&◌, ◌||◌, Bool, true, false, nat_le, if◌then◌else◌, List, [], ◌∷◌, length, take, slice_index, Option, Some, None, is_some, codes}
+use Rattle.std.specs.Prelude.{ℕ, ◌-◌, ◌==◌, ◌&&◌, ◌||◌, Bool, true, false, nat_le, if◌then◌else◌, List, [], ◌∷◌, length, take, slice_index, Option, Some}
+use Rattle.std.specs.Prelude.{None, is_some, codes}
 use Rattle.std.specs.Str.{str_eq_ignore_ascii_case}
 use Rattle.text_parts.specs.Fields.{fields, no_fields}
 use Rattle.msp_isa.specs.alp_words.declared.Width.{Width}

@@ -2,7 +2,8 @@
 ghost use Rattle.std.specs.Prelude.{◌≡◌, ◌≤◌, ◌<◌, ◌+◌, ◌^◌, ◌==◌, not, length, option_map, Some, ◌∷◌};
 ghost use Rattle.text_parts.specs.Lengths.{len_before};
 ghost use Rattle.text_parts.specs.Fields.{is_blank};
-ghost use Rattle.asm_line.specs.Pieces.{mark_at, behind, front, before_mark, behind_mark, without_blanks, word, behind_word, word_alone, only_word, parts, rest_parts, left_len, bare, lines_left};
+ghost use Rattle.asm_line.specs.Pieces.{mark_at, behind, front, before_mark, behind_mark, without_blanks, word, behind_word, word_alone, only_word, parts};
+ghost use Rattle.asm_line.specs.Pieces.{rest_parts, left_len, bare, lines_left};
 ghost use Rattle.asm_line.specs.Views.{located};
 
 use crate::piece::Piece;

@@ -1,6 +1,7 @@
 //! The operands of an instruction.
 ghost use Rattle.std.specs.Prelude.{◌≡◌, ◌≤◌, length, option_map};
-ghost use Rattle.asm_line.specs.Operands.{without_last, pointed, in_memory, operand_of, source_register, index_register, indirect_register, constant_of, immediate_source, source, destination, source_of, destination_of};
+ghost use Rattle.asm_line.specs.Operands.{without_last, pointed, in_memory, operand_of, source_register, index_register, indirect_register, constant_of};
+ghost use Rattle.asm_line.specs.Operands.{immediate_source, source, destination, source_of, destination_of};
 ghost use Rattle.asm_line.specs.Pieces.{behind_mark};
 ghost use Rattle.asm_line.specs.Views.{located};
 ghost use Rattle.asm_line.specs.ValueViews.{meaning_of};

@@ -1,7 +1,8 @@
 -- What is known of a run so far, and the lines of its moments.
 -- With a map, events are read off the moments: a boot is a power-up; a decide is an instruction after which GATE is 1 and before
 -- which it wasn't; a done is one after which GATE is 0 and before which it was 1. A transition is completed at its done.
-use Rattle.std.specs.Prelude.{ℕ, zero, suc, ◌+◌, ◌==◌, ◌&&◌, Bool, not, nat_lt, if◌then◌else◌, List, [], ◌∷◌, ◌++◌, length, map, flat_map, sum_by, slice_get, slice_index, Option, Some, None}
+use Rattle.std.specs.Prelude.{ℕ, zero, suc, ◌+◌, ◌==◌, ◌&&◌, Bool, not, nat_lt, if◌then◌else◌, List, [], ◌∷◌, ◌++◌, length, map, flat_map, sum_by, slice_get}
+use Rattle.std.specs.Prelude.{slice_index, Option, Some, None}
 use Rattle.alp_io.specs.Count.{risen}
 use Rattle.alp_io.specs.Report.{accepted_line, more_line, step_line, value_line, bound_line}
 use Rattle.image_text.specs.image_map.declared.parts.Variable.{Variable}
@@ -81,7 +82,8 @@ with_words h (w ∷ ws) = with_words (with_word h w) ws
 
 -- the lines of a transition that is completed at this board
 abbrev pub transition_lines : MapValue → History → BoardValue → List ℕ
-transition_lines m h b = step_line (risen h.completed) (task_name m.tasks h.task) (task_name m.tasks (word_in b.fram m.words.current_task)) h.span_from h.span_to
+transition_lines m h b = step_line (risen h.completed) (task_name m.tasks h.task) (task_name m.tasks (word_in b.fram m.words.current_task)) h.span_from
+    h.span_to
     ++ (flat_map accepted_line h.accepted ++ (more_lines h.more ++ changed_lines (shared_words m.variables) h.shared b.fram))
 
 -- GATE is 1 now and wasn't before

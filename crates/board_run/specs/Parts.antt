@@ -23,7 +23,8 @@ pub record ComesFirst (m : Measure) (left : ℕ) (b : BoardValue) (moment : Mome
   pub few : FewMore b after 1
 
 -- an instruction was executed, and its lines written
-pub record Turned (h : History) (m : Measure) (left : ℕ) (b : BoardValue) (old new : Option (List ℕ)) (rest : ℕ) (after : BoardValue) (now : History) : Type 0 where
+pub record Turned (h : History) (m : Measure) (left : ℕ) (b : BoardValue) (old new : Option (List ℕ)) (rest : ℕ) (after : BoardValue) (now : History) : Type
+    0 where
   pub moment : Moment
   pub first : ComesFirst m left b moment rest after
   pub less : rest < left
@@ -41,7 +42,8 @@ pub record TurnedPartly (h : History) (m : Measure) (left : ℕ) (b : BoardValue
 abbrev pub IsTurn : History → Measure → ℕ → BoardValue → Option (List ℕ) → Option (List ℕ) → Result Turn Failed → BoardValue → History → Type 0
 IsTurn h m left b old new (Ok (turn.Left rest)) after now = Turned h m left b old new rest after now
 IsTurn h m left b old new (Ok turn.Spent) after now = ChargeRun m left b (run_outcome [] Charges after) × FewMore b after 0 × Appends old new [] × (now ≡ h)
-IsTurn h m left b old new (Ok (turn.Stopped stop)) after now = ChargeRun m left b (run_outcome [] (Stopped stop) after) × FewMore b after 0 × Appends old new [] × (now ≡ h)
+IsTurn h m left b old new (Ok (turn.Stopped stop)) after now = ChargeRun m left b (run_outcome [] (Stopped stop) after) × FewMore b after 0
+    × Appends old new [] × (now ≡ h)
 IsTurn h m left b old new (Err e) after now = TurnedPartly h m left b old new after
 
 -- the history and the bytes behind moments
@@ -55,7 +57,8 @@ ended None = Charges
 ended (Some stop) = Stopped stop
 
 -- the rest of a charge, to its end
-pub record SpentCharge (h : History) (m : Measure) (left : ℕ) (b : BoardValue) (old new : Option (List ℕ)) (stop : Option Stop) (after : BoardValue) (now : History) : Type 0 where
+pub record SpentCharge (h : History) (m : Measure) (left : ℕ) (b : BoardValue) (old new : Option (List ℕ)) (stop : Option Stop) (after : BoardValue)
+    (now : History) : Type 0 where
   pub moments : List Moment
   pub run : ChargeRun m left b (run_outcome moments (ended stop) after)
   pub wrote : Wrote h moments old new now
@@ -79,13 +82,15 @@ abbrev pub Went : List BoardCharge → BoardValue → List Moment → Option Sto
 Went cs b ms None after = WentThrough cs b ms after
 Went cs b ms (Some stop) after = StoppedIn cs b ms stop after
 
-pub record SpentCharges (h : History) (cs : List BoardCharge) (b : BoardValue) (old new : Option (List ℕ)) (stop : Option Stop) (after : BoardValue) (now : History) (n : ℕ) : Type 0 where
+pub record SpentCharges (h : History) (cs : List BoardCharge) (b : BoardValue) (old new : Option (List ℕ)) (stop : Option Stop) (after : BoardValue)
+    (now : History) (n : ℕ) : Type 0 where
   pub moments : List Moment
   pub went : Went cs b moments stop after
   pub wrote : Wrote h moments old new now
   pub few : FewMore b after n
 
 -- charges that come first, with at most so many instructions
-abbrev pub AreSpent : History → List BoardCharge → BoardValue → Option (List ℕ) → Option (List ℕ) → Result (Option Stop) Failed → BoardValue → History → ℕ → Type 0
+abbrev pub AreSpent : History → List BoardCharge → BoardValue → Option (List ℕ) → Option (List ℕ) → Result (Option Stop) Failed → BoardValue → History → ℕ
+    → Type 0
 AreSpent h cs b old new (Ok stop) after now n = SpentCharges h cs b old new stop after now n
 AreSpent h cs b old new (Err e) after now n = (more : List BoardCharge) → (r : RunOutcome) × Run (cs ++ more) b r × IsCutInMoment h [] r.moments old new after

@@ -49,7 +49,8 @@ answer_of (Stopped (stop.Illegal pc word)) = Err (fault.Illegal pc word)
 answer_of (Stopped (stop.Bus pc address)) = Err (fault.Bus pc address)
 
 -- a text of a run is written whole, and the answer, the board and the history are those at its end
-pub record IsWhole (h : History) (r : RunOutcome) (text : List ℕ) (old new : Option (List ℕ)) (result : Result RunEnd RunFault) (after : BoardValue) (now : History) : Type 0 where
+pub record IsWhole (h : History) (r : RunOutcome) (text : List ℕ) (old new : Option (List ℕ)) (result : Result RunEnd RunFault) (after : BoardValue)
+    (now : History) : Type 0 where
   pub answer : result ≡ answer_of r.ending
   pub board : after ≡ r.board
   pub history : now ≡ after_all h r.moments
@@ -87,10 +88,13 @@ pub record IsCut (h : History) (text : List ℕ) (b : BoardValue) (r : RunOutcom
   pub place : IsCutAt h text b r old new after
 
 -- what is answered of the run of a board under charges, of which a text and then the report but for the bound are written
-abbrev pub IsTold : List ℕ → History → List BoardCharge → BoardValue → Option (List ℕ) → Option (List ℕ) → Result RunEnd RunFault → BoardValue → History → Type 0
+abbrev pub IsTold : List ℕ → History → List BoardCharge → BoardValue → Option (List ℕ) → Option (List ℕ) → Result RunEnd RunFault → BoardValue → History
+    → Type 0
 IsTold text h cs b old new (Ok end) after now = (r : RunOutcome) × Run cs b r × IsWhole h r (text ++ rest_of h r) old new (Ok end) after now
-IsTold text h cs b old new (Err (fault.Illegal pc word)) after now = (r : RunOutcome) × Run cs b r × IsWhole h r (text ++ rest_of h r) old new (Err (fault.Illegal pc word)) after now
-IsTold text h cs b old new (Err (fault.Bus pc address)) after now = (r : RunOutcome) × Run cs b r × IsWhole h r (text ++ rest_of h r) old new (Err (fault.Bus pc address)) after now
+IsTold text h cs b old new (Err (fault.Illegal pc word)) after now = (r : RunOutcome) × Run cs b r
+    × IsWhole h r (text ++ rest_of h r) old new (Err (fault.Illegal pc word)) after now
+IsTold text h cs b old new (Err (fault.Bus pc address)) after now = (r : RunOutcome) × Run cs b r
+    × IsWhole h r (text ++ rest_of h r) old new (Err (fault.Bus pc address)) after now
 IsTold text h cs b old new (Err fault.Write) after now = (r : RunOutcome) × Run cs b r × IsCut h text b r old new after
 
 -- the same of the report

@@ -128,7 +128,8 @@ impl State {
     ghost use Rattle.image_text.specs.image_map.MapValue.{MapValue};
     ghost use Rattle.std.specs.Prelude.{[], if◌then◌else◌};
     ghost use Rattle.fram_board.specs.Run.{word_list};
-    ghost use Rattle.board_run.specs.History.{shared_words, with_word, with_words, transition_lines, completed, decided, gated, is_done, behind_instruction, instruction_lines, start_with, start_of};
+    ghost use Rattle.board_run.specs.History.{shared_words, with_word, with_words, transition_lines, completed, decided, gated, is_done, behind_instruction};
+    ghost use Rattle.board_run.specs.History.{instruction_lines, start_with, start_of};
     ghost use Rattle.board_run.specs.State.{history_of};
 
     // A word more was accepted.

@@ -1,5 +1,6 @@
 -- The boot and the start of an attempt.
-use Rattle.std.proofs.Common.{◌≡◌, ◌≢◌, ℕ, ◌+◌, ◌*◌, ◌%◌, ◌<◌, ◌==◌, not, List, [], ◌∷◌, ◌++◌, length, refl, sym, ap, ◌∙◌, subst, arith, append-nil, Bool, true, false, if◌then◌else◌}
+use Rattle.std.proofs.Common.{◌≡◌, ◌≢◌, ℕ, ◌+◌, ◌*◌, ◌%◌, ◌<◌, ◌==◌, not, List, [], ◌∷◌, ◌++◌, length, refl, sym, ap, ◌∙◌, subst, arith, append-nil, Bool}
+use Rattle.std.proofs.Common.{true, false, if◌then◌else◌}
 use Rattle.std.proofs.lemmas.Bool.Decides.{nat_tests}
 use Rattle.std.proofs.lemmas.List.Elements.{All-get_or}
 use Rattle.msp_isa.specs.declared.instructions.Condition.TheVariants.{NotEqual}
@@ -18,7 +19,8 @@ use Rattle.runtime_code.specs.runtime_effects.Needs.{AreInFram}
 use Rattle.runtime_code.specs.Addresses.{start_address}
 use Rattle.runtime_code.specs.Comes.{Comes, IsAt, Enters}
 use Rattle.runtime_code.proofs.Interface.{straight, one_form, comes_on, recounted, then_on, chain}
-use Rattle.boot_runtime.specs.Listing.{TaskEntry, entry_at, privates_in, head, end_tested, clearing, counts_set, opening, dispatch, ladder_to, stubs, start_steps, start_cycles, ladder_address, stubs_address}
+use Rattle.boot_runtime.specs.Listing.{TaskEntry, entry_at, privates_in, head, end_tested, clearing, counts_set, opening, dispatch, ladder_to, stubs}
+use Rattle.boot_runtime.specs.Listing.{start_steps, start_cycles, ladder_address, stubs_address}
 use Rattle.boot_runtime.specs.Laws.{IsEntered, IsBoot, PendingCommitIsFound, AttemptIsFound, StartIsMade, VersionIsRaised}
 use Rattle.boot_runtime.proofs.Opening.{task_stays, looks_at_version, raises, opens}
 use Rattle.boot_runtime.proofs.Entering.{ladder_bytes, stub_at, stub_stands, dispatched, copied}
@@ -86,17 +88,20 @@ module _ (code : Code) (tidy : IsTidy code) where
       let d1 = dispatch m ladder in
       let r1 = ladder_to q tasks in
       let h1 = stands_back code at (head m commit) (opening m ++ (d1 ++ (r1 ++ stubs tasks))) boot.stands in
-      let o1 : Stands code (at + 14) (opening m) = subst (λ x. Stands code x (opening m)) (omega arith) (stands_front code _ (opening m) (d1 ++ (r1 ++ stubs tasks)) h1) in
+      let o1 : Stands code (at + 14) (opening m) = subst (λ x. Stands code x (opening m)) (omega arith)
+      (stands_front code _ (opening m) (d1 ++ (r1 ++ stubs tasks)) h1) in
       let h2 = stands_back code _ (opening m) (d1 ++ (r1 ++ stubs tasks)) h1 in
       let o2 : Stands code (at + 58) d1 = subst (λ x. Stands code x d1) (omega arith) (stands_front code _ d1 (r1 ++ stubs tasks) h2) in
       let h3 = stands_back code _ d1 (r1 ++ stubs tasks) h2 in
       let l3 : Stands code ladder (r1 ++ stubs tasks) = subst (λ x. Stands code x (r1 ++ stubs tasks)) (omega arith) h3 in
       let o3 : Stands code ladder r1 = stands_front code ladder r1 (stubs tasks) l3 in
-      let o4 : Stands code q (stubs tasks) = subst (λ x. Stands code (ladder + x) (stubs tasks)) (ladder_bytes q tasks) (stands_back code ladder r1 (stubs tasks) l3) in
+      let o4 : Stands code q (stubs tasks) = subst (λ x. Stands code (ladder + x) (stubs tasks)) (ladder_bytes q tasks)
+      (stands_back code ladder r1 (stubs tasks) l3) in
       let entered = All-get_or IsEntered tasks k (record { privates = []; code = 0 }) named boot.entered in
       let stays : g (word_place m CurrentTask) ≡ k = task_stays m f boot.task in
       let there : at + 14 + 44 ≡ at + 58 = omega arith in
-      let a = subst (λ x. Comes code os (5 + clear_steps) (18 + clear_cycles) u (IsAt x g rs)) there (opens code tidy m boot.places (at + 14) u (omega (arith, room)) e word o1) in
+      let a = subst (λ x. Comes code os (5 + clear_steps) (18 + clear_cycles) u (IsAt x g rs)) there
+      (opens code tidy m boot.places (at + 14) u (omega (arith, room)) e word o1) in
       let b : (v : Core) → v.pc ≡ at + 58 → v.fram ≡ g → v.readings_left ≡ rs → Comes code [] 7 14 v (Enters (stub_at q tasks k) stack_top g rs) =
       λ v pc is left.
       subst (λ l. Comes code [] 7 14 v (Enters (stub_at q tasks k) stack_top g l)) left
@@ -107,20 +112,25 @@ module _ (code : Code) (tidy : IsTidy code) where
       let d : (v : Core) → Enters (stub_at q tasks k) stack_top g rs v → Comes code cs (1 + j) (3 + 6 * j) v (Enters t.code stack_top (fram_after cs g) rs) =
       λ v h.
       subst (λ l. Comes code cs (1 + j) (3 + 6 * j) v (Enters t.code stack_top (fram_after cs g) l)) h.readings_left
-      (subst (λ x. Comes code (copied_in t.privates x) (1 + j) (3 + 6 * j) v (Enters t.code stack_top (fram_after (copied_in t.privates x) x) v.readings_left)) h.fram
+      (subst (λ x. Comes code (copied_in t.privates x) (1 + j) (3 + 6 * j) v
+      (Enters t.code stack_top (fram_after (copied_in t.privates x) x) v.readings_left)) h.fram
       (copied code tidy t.privates (stub_at q tasks k) t.code v h.pc h.sp (stub_stands code tasks q k o4 named) entered.privates entered.even)) in
-      let abd = comes_on code (5 + clear_steps + 7) (1 + j) (18 + clear_cycles + 14) (3 + 6 * j) u (Enters (stub_at q tasks k) stack_top g rs) (Enters t.code stack_top (fram_after cs g) rs) (os ++ []) cs ab d in
+      let abd = comes_on code (5 + clear_steps + 7) (1 + j) (18 + clear_cycles + 14) (3 + 6 * j) u (Enters (stub_at q tasks k) stack_top g rs)
+      (Enters t.code stack_top (fram_after cs g) rs) (os ++ []) cs ab d in
       let es : (os ++ []) ++ cs ≡ os ++ cs = ap (λ x. x ++ cs) (append-nil os) in
       let fs : fram_after cs g ≡ fram_after (os ++ cs) f = sym (fram_after-append os cs f) in
-      recounted code (os ++ cs) (5 + clear_steps + 7 + (1 + j)) (13 + clear_steps + j) (18 + clear_cycles + 14 + (3 + 6 * j)) (35 + clear_cycles + 6 * j) u _ (omega arith) (omega arith)
+      recounted code (os ++ cs) (5 + clear_steps + 7 + (1 + j)) (13 + clear_steps + j) (18 + clear_cycles + 14 + (3 + 6 * j)) (35 + clear_cycles + 6 * j) u _
+      (omega arith) (omega arith)
       (subst (λ x. Comes code (os ++ cs) (5 + clear_steps + 7 + (1 + j)) (18 + clear_cycles + 14 + (3 + 6 * j)) u (Enters t.code stack_top x rs)) fs
-      (subst (λ x. Comes code x (5 + clear_steps + 7 + (1 + j)) (18 + clear_cycles + 14 + (3 + 6 * j)) u (Enters t.code stack_top (fram_after cs g) rs)) es abd))
+      (subst (λ x. Comes code x (5 + clear_steps + 7 + (1 + j)) (18 + clear_cycles + 14 + (3 + 6 * j)) u (Enters t.code stack_top (fram_after cs g) rs)) es
+      abd))
 
 pub pending_commit_is_found : PendingCommitIsFound
 pending_commit_is_found code m commit tasks at u boot e gate =
     let room = boot.room in
     let tidy = boot.tidy in
-    let h = stands_front code at (head m commit) (opening m ++ (dispatch m (ladder_address at) ++ (ladder_to (stubs_address tasks at) tasks ++ stubs tasks))) boot.stands in
+    let h = stands_front code at (head m commit) (opening m ++ (dispatch m (ladder_address at) ++ (ladder_to (stubs_address tasks at) tasks ++ stubs tasks)))
+    boot.stands in
     let rs = u.readings_left in
     let a = looked code tidy m commit at true u boot.places (omega (arith, room)) e h (gate_is_one (u.fram (word_place m Gate)) gate) in
     let there : at + 4 + 4 + 2 ≡ at + 10 = omega arith in
@@ -131,7 +141,8 @@ pending_commit_is_found code m commit tasks at u boot e gate =
 pub attempt_is_found : AttemptIsFound
 attempt_is_found code m commit tasks at u boot e word gate =
     let room = boot.room in
-    let h = stands_front code at (head m commit) (opening m ++ (dispatch m (ladder_address at) ++ (ladder_to (stubs_address tasks at) tasks ++ stubs tasks))) boot.stands in
+    let h = stands_front code at (head m commit) (opening m ++ (dispatch m (ladder_address at) ++ (ladder_to (stubs_address tasks at) tasks ++ stubs tasks)))
+    boot.stands in
     looked code boot.tidy m commit at false u boot.places (omega (arith, room)) e h (gate_is_not_one (u.fram (word_place m Gate)) word gate)
 
 pub start_is_made : StartIsMade

@@ -31,11 +31,13 @@ stub_is_even p (t ∷ ts) zero e = e
 stub_is_even p (t ∷ ts) (suc k) e = stub_is_even (p + stub_bytes t) ts k (omega (arith, e))
 
 -- the ladder's branch to a stub
-pub rung_at : (code : Code) (ts : List TaskEntry) (p q k : ℕ) → Stands code p (ladder_to q ts) → k < length ts → code (p + 4 * k) ≡ Some (instruction_of (Branch (stub_at q ts k)))
+pub rung_at : (code : Code) (ts : List TaskEntry) (p q k : ℕ) → Stands code p (ladder_to q ts) → k < length ts
+    → code (p + 4 * k) ≡ Some (instruction_of (Branch (stub_at q ts k)))
 rung_at code [] p q k h l = absurd (omega (arith, l))
 rung_at code (t ∷ ts) p q zero h l = subst (λ x. code x ≡ Some (instruction_of (Branch q))) (omega arith) h.0
 rung_at code (t ∷ ts) p q (suc k) h l =
-    subst (λ x. code x ≡ Some (instruction_of (Branch (stub_at (q + stub_bytes t) ts k)))) (omega arith) (rung_at code ts (p + 4) (q + stub_bytes t) k h.1 (omega (arith, l)))
+    subst (λ x. code x ≡ Some (instruction_of (Branch (stub_at (q + stub_bytes t) ts k)))) (omega arith)
+    (rung_at code ts (p + 4) (q + stub_bytes t) k h.1 (omega (arith, l)))
 
 pub ladder_bytes : (q : ℕ) (ts : List TaskEntry) → forms_bytes (ladder_to q ts) ≡ 4 * length ts
 ladder_bytes q [] = refl
@@ -53,7 +55,8 @@ pub stub_stands : (code : Code) (ts : List TaskEntry) (p k : ℕ) → Stands cod
 stub_stands code [] p k h l = absurd (omega (arith, l))
 stub_stands code (t ∷ ts) p zero h l = stands_front code p (stub t) (stubs ts) h
 stub_stands code (t ∷ ts) p (suc k) h l =
-    stub_stands code ts (p + stub_bytes t) k (subst (λ n. Stands code (p + n) (stubs ts)) (stub_size t) (stands_back code p (stub t) (stubs ts) h)) (omega (arith, l))
+    stub_stands code ts (p + stub_bytes t) k (subst (λ n. Stands code (p + n) (stubs ts)) (stub_size t) (stands_back code p (stub t) (stubs ts) h))
+    (omega (arith, l))
 
 module _ (code : Code) (tidy : IsTidy code) where
   -- to the stub of the task that CUR names
@@ -68,17 +71,21 @@ module _ (code : Code) (tidy : IsTidy code) where
       let at4 : u1.work 4 ≡ ladder + 4 * k = omega (arith, c, l, few) in
       let u2 : Core = record u1 { pc = ladder + 4 * k } in
       let u3 : Core = record u2 { pc = to } in
-      let a : Comes code [] 5 9 u (λ v. v ≡ u1) = straight code tidy hd 5 u u1 [] 9 (λ v. v ≡ u1) (tt, (tt, (tt, (tt, (tt, tt))))) (stands_at code p hd u (stands_front code p hd (BranchRegister R4 ∷ []) h) e)
+      let a : Comes code [] 5 9 u (λ v. v ≡ u1) = straight code tidy hd 5 u u1 [] 9 (λ v. v ≡ u1) (tt, (tt, (tt, (tt, (tt, tt)))))
+      (stands_at code p hd u (stands_front code p hd (BranchRegister R4 ∷ []) h) e)
       (refl, ((places.words CurrentTask, tt), ((tt, tt), ((tt, tt), ((tt, tt), tt))))) refl refl refl in
       let there : u1.pc ≡ p + forms_bytes hd = omega (arith, e) in
-      let b : Comes code [] 1 2 u1 (λ v. v ≡ u2) = one_form code tidy (BranchRegister R4) u1 u2 [] 2 (λ v. v ≡ u2) (ap code there ∙ (stands_back code p hd (BranchRegister R4 ∷ []) h).0)
+      let b : Comes code [] 1 2 u1 (λ v. v ≡ u2) = one_form code tidy (BranchRegister R4) u1 u2 [] 2 (λ v. v ≡ u2)
+      (ap code there ∙ (stands_back code p hd (BranchRegister R4 ∷ []) h).0)
       (let w : u1.work 4 % 2 ≡ 0 = omega (arith, at4, level) in w) (ap (λ x. Goes [] 2 (record u1 { pc = x })) at4) refl in
-      let d : Comes code [] 1 3 u2 (Enters to stack_top u.fram u.readings_left) = one_form code tidy (Branch to) u2 u3 [] 3 _ (rung_at code ts ladder q k r l) (stub_is_even q ts k even) refl
+      let d : Comes code [] 1 3 u2 (Enters to stack_top u.fram u.readings_left) =
+      one_form code tidy (Branch to) u2 u3 [] 3 _ (rung_at code ts ladder q k r l) (stub_is_even q ts k even) refl
       (record { pc = refl; sp = refl; fram = refl; readings_left = refl }) in
       then_on code 5 2 9 5 u u1 _ [] [] a (then_on code 1 1 2 3 u1 u2 _ [] [] b d)
 
   -- a stub: the private scalars are copied, and to the task's code
-  pub copied : (xs : List CopyPair) (p to : ℕ) (u : Core) → u.pc ≡ p → u.sp ≡ stack_top → Stands code p (copies_in xs ++ (Branch to ∷ [])) → All ArePairWords xs → to % 2 ≡ 0
+  pub copied : (xs : List CopyPair) (p to : ℕ) (u : Core) → u.pc ≡ p → u.sp ≡ stack_top → Stands code p (copies_in xs ++ (Branch to ∷ []))
+      → All ArePairWords xs → to % 2 ≡ 0
       → let es = copied_in xs u.fram in Comes code es (1 + length xs) (3 + 6 * length xs) u (Enters to stack_top (fram_after es u.fram) u.readings_left)
   copied [] p to u e s h ok even =
       let t : Core = record u { pc = to } in
@@ -90,7 +97,9 @@ module _ (code : Code) (tidy : IsTidy code) where
       let u1 : Core = record u { pc = p + 6; fram = g } in
       let es : List Effect = Store x.copy (f x.home) ∷ [] in
       let n = length xs in
-      let a : Comes code es 1 6 u (λ v. v ≡ u1) = one_form code tidy (Move (Fram x.home) (ToFram x.copy)) u u1 es 6 (λ v. v ≡ u1) (ap code e ∙ h.0) (words.home, words.copy)
+      let a : Comes code es 1 6 u (λ v. v ≡ u1) = one_form code tidy (Move (Fram x.home) (ToFram x.copy)) u u1 es 6 (λ v. v ≡ u1) (ap code e ∙ h.0)
+      (words.home, words.copy)
       (ap (λ y. Goes es 6 (record u1 { pc = y + 6 })) e) refl in
       let b = copied xs (p + 6) to u1 refl s h.1 (All-tail ArePairWords x xs ok) even in
-      recounted code (es ++ copied_in xs g) (1 + (1 + n)) (1 + suc n) (6 + (3 + 6 * n)) (3 + 6 * suc n) u _ (omega arith) (omega arith) (then_on code 1 (1 + n) 6 (3 + 6 * n) u u1 _ es _ a b)
+      recounted code (es ++ copied_in xs g) (1 + (1 + n)) (1 + suc n) (6 + (3 + 6 * n)) (3 + 6 * suc n) u _ (omega arith) (omega arith)
+      (then_on code 1 (1 + n) 6 (3 + 6 * n) u u1 _ es _ a b)

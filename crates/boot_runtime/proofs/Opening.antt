@@ -1,5 +1,6 @@
 -- An attempt's opening: the clearing where VER is at its end; then VER, CLN and EN.
-use Rattle.std.proofs.Common.{◌≡◌, ◌≢◌, ℕ, zero, suc, ◌+◌, ◌-◌, ◌*◌, ◌%◌, ◌<◌, ◌≤◌, ◌==◌, ◌⊎◌, not, inl, inr, List, [], ◌∷◌, ◌++◌, Some, refl, sym, ap, ◌∙◌, subst, arith}
+use Rattle.std.proofs.Common.{◌≡◌, ◌≢◌, ℕ, zero, suc, ◌+◌, ◌-◌, ◌*◌, ◌%◌, ◌<◌, ◌≤◌, ◌==◌, ◌⊎◌, not, inl, inr, List, [], ◌∷◌, ◌++◌, Some, refl, sym, ap, ◌∙◌}
+use Rattle.std.proofs.Common.{subst, arith}
 use Rattle.std.proofs.Common.{Bool, true, false, if◌then◌else◌}
 use Rattle.std.proofs.lemmas.Bool.Decides.{nat_tests}
 use Rattle.msp_isa.specs.declared.instructions.Condition.TheVariants.{Always, NotEqual}
@@ -38,7 +39,8 @@ cleared_leave (suc n) p a f h =
     cleared_leave n (p + 2) a (put f p 0) (out_of_rest p n a h) ∙ (put_other f p 0 a (λ i. (out_of p n a h) (sym i)))
 
 -- the clearing leaves CUR
-clearing_leaves_task : (m : MemoryMap) (b : Bool) (f : ℕ → ℕ) → KeepsTask m → fram_after (clearing_if m b) f (word_place m CurrentTask) ≡ f (word_place m CurrentTask)
+clearing_leaves_task : (m : MemoryMap) (b : Bool) (f : ℕ → ℕ) → KeepsTask m → fram_after (clearing_if m b) f (word_place m CurrentTask)
+    ≡ f (word_place m CurrentTask)
 clearing_leaves_task m true f keeps =
     let a = word_place m CurrentTask in
     let es = cleared m.versions.words m.versions.address in
@@ -99,7 +101,8 @@ module _ (code : Code) (tidy : IsTidy code) (m : MemoryMap) (places : AreInFram 
         → let es = cleared n (u.work 5) in Comes code es (2 + n * 6) (3 + n * 11) u (IsAt done (fram_after es u.fram) u.readings_left)
     turns zero u e c l i =
         let t : Core = record (tested code tidy p 5 done stands.0 stands.1.0 clear_there u) { pc = done } in
-        then_on code 2 0 3 0 u t _ [] [] (leaves code tidy p 5 done stands.0 stands.1.0 clear_there u e c) (nothing code t _ (record { pc = refl; fram = refl; readings_left = refl }))
+        then_on code 2 0 3 0 u t _ [] [] (leaves code tidy p 5 done stands.0 stands.1.0 clear_there u e c)
+        (nothing code t _ (record { pc = refl; fram = refl; readings_left = refl }))
     turns (suc n) u e c l i =
         let even = i.even in let low = i.low in let top = i.high in let end = places.versions.high in
         let q = u.work 5 in
@@ -109,10 +112,12 @@ module _ (code : Code) (tidy : IsTidy code) (m : MemoryMap) (places : AreInFram 
         let es : List Effect = Store q 0 ∷ [] in
         let a = goes_in code tidy p 5 done stands.0 stands.1.0 clear_there u e (omega (arith, c, l)) (omega (arith, c)) in
         let b : Comes code es 3 6 u1 (λ v. v ≡ u2) =
-        straight code tidy clear_turn 3 u1 u2 es 6 (λ v. v ≡ u2) (tt, (tt, (tt, tt))) (stands_front code (p + 2 + 2) clear_turn (Jump Always (0x400 - 7) ∷ []) stands.1.1)
+        straight code tidy clear_turn 3 u1 u2 es 6 (λ v. v ≡ u2) (tt, (tt, (tt, tt)))
+        (stands_front code (p + 2 + 2) clear_turn (Jump Always (0x400 - 7) ∷ []) stands.1.1)
         ((tt, in_fram q n i), ((tt, tt), ((tt, tt), tt))) refl refl refl in
         let at : code (p + 2 + 2 + 4 + 2 + 2) ≡ Some (instruction_of (Jump Always (0x400 - 7))) =
-        subst (λ y. code y ≡ Some (instruction_of (Jump Always (0x400 - 7)))) (omega arith) (stands_back code (p + 2 + 2) clear_turn (Jump Always (0x400 - 7) ∷ []) stands.1.1).0 in
+        subst (λ y. code y ≡ Some (instruction_of (Jump Always (0x400 - 7)))) (omega arith)
+        (stands_back code (p + 2 + 2) clear_turn (Jump Always (0x400 - 7) ∷ []) stands.1.1).0 in
         let d = jumps_back code tidy (p + 2 + 2 + 4 + 2 + 2) p (0x400 - 7) u2 at refl clear_back in
         let next : (q + 2 + 0) % 0x10000 ≡ q + 2 = omega (arith, top, end) in
         let i' : InVersions (q + 2) n = record { even = omega (arith, even); low = omega (arith, low); high = omega (arith, top) } in
@@ -158,7 +163,8 @@ module _ (code : Code) (tidy : IsTidy code) (m : MemoryMap) (places : AreInFram 
       let last : List Effect = Store (word_place m Version) 0 ∷ [] in
       let u1 = end_of u (forms_run hd u).status in
       let h1 = stands_back code p hd (clear_loop ++ version_cleared m) h in
-      let l1 : Stands code (p + 4 + 4) clear_loop = subst (λ x. Stands code x clear_loop) (omega arith) (stands_front code _ clear_loop (version_cleared m) h1) in
+      let l1 : Stands code (p + 4 + 4) clear_loop =
+      subst (λ x. Stands code x clear_loop) (omega arith) (stands_front code _ clear_loop (version_cleared m) h1) in
       let t2 : Stands code (p + 22) (version_cleared m) =
       subst (λ x. Stands code x (version_cleared m)) (omega arith) (stands_back code _ clear_loop (version_cleared m) h1) in
       let a : Comes code [] 2 4 u (λ v. v ≡ u1) =

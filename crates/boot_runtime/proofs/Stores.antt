@@ -20,7 +20,10 @@ words_cleared P (suc n) p h =
 
 copies_stored : (P : ℕ → ℕ → Type 0) (xs : List CopyPair) (f : ℕ → ℕ) → All (λ x. (w : ℕ) → P x.copy w) xs → EachStore P (copied_in xs f)
 copies_stored P [] f h = tt
-copies_stored P (x ∷ xs) f h = (All-head (λ x. (w : ℕ) → P x.copy w) x xs h (f x.home), copies_stored P xs (put f x.copy (f x.home)) (All-tail (λ x. (w : ℕ) → P x.copy w) x xs h))
+copies_stored P (x ∷ xs) f h = (
+  All-head (λ x. (w : ℕ) → P x.copy w) x xs h (f x.home),
+  copies_stored P xs (put f x.copy (f x.home)) (All-tail (λ x. (w : ℕ) → P x.copy w) x xs h),
+)
 
 -- what holds at each version word, at VER with any word, at CLN and EN holds of each store of an opening
 opening_stores : (P : ℕ → ℕ → Type 0) (m : MemoryMap) (f : ℕ → ℕ)
@@ -50,7 +53,8 @@ start_stores P m privates f versions version length count copies =
     (copies_stored P (privates (f (word_place m CurrentTask))) g copies)
 
 in_fram : (p n i : ℕ) → IsRegion p (2 * n) → i < n → IsFram (p + 2 * i)
-in_fram p n i r l = let even = r.even in let low = r.low in let high = r.high in record { even = omega (arith, even); low = omega (arith, low); high = omega (arith, high, l) }
+in_fram p n i r l = let even = r.even in let low = r.low in let high = r.high in
+    record { even = omega (arith, even); low = omega (arith, low); high = omega (arith, high, l) }
 
 pub start_stores_in_fram : StartStoresInFram
 start_stores_in_fram m privates f places words =

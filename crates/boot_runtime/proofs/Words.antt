@@ -6,7 +6,8 @@ use Rattle.runtime_code.specs.code_forms.Placed.{instructions, AreInstructions}
 use Rattle.runtime_code.proofs.code_forms.Interface.{forms_bytes-append}
 use Rattle.runtime_code.specs.runtime_effects.Places.{CopyPair}
 use Rattle.runtime_code.proofs.Interface.{code_bytes, are_instructions-append}
-use Rattle.boot_runtime.specs.Listing.{TaskEntry, head, opening, dispatch, copies_in, stub, stub_bytes, ladder_to, stubs, stubs_bytes, boot_forms, ladder_offset, ladder_address, stubs_address}
+use Rattle.boot_runtime.specs.Listing.{TaskEntry, head, opening, dispatch, copies_in, stub, stub_bytes, ladder_to, stubs, stubs_bytes, boot_forms}
+use Rattle.boot_runtime.specs.Listing.{ladder_offset, ladder_address, stubs_address}
 use Rattle.boot_runtime.specs.Laws.{StartsAreShort, ClearingIsDearest, BootIsShort, BootIsCode, BootFits, entry_room}
 use Rattle.boot_runtime.proofs.Entering.{stub_size, ladder_bytes}
 use Rattle.memory_map.specs.MemoryMap.{MemoryMap}
@@ -31,7 +32,8 @@ copies_are (x ∷ xs) = (tt, copies_are xs)
 
 stubs_are : (ts : List TaskEntry) → AreInstructions (instructions (stubs ts))
 stubs_are [] = tt
-stubs_are (t ∷ ts) = are_instructions-append (stub t) (stubs ts) (are_instructions-append (copies_in t.privates) (Branch t.code ∷ []) (copies_are t.privates) (tt, tt)) (stubs_are ts)
+stubs_are (t ∷ ts) = are_instructions-append (stub t) (stubs ts)
+    (are_instructions-append (copies_in t.privates) (Branch t.code ∷ []) (copies_are t.privates) (tt, tt)) (stubs_are ts)
 
 ladder_are : (q : ℕ) (ts : List TaskEntry) → AreInstructions (instructions (ladder_to q ts))
 ladder_are q [] = tt
@@ -53,7 +55,8 @@ boot_is_code m commit tasks at =
     let d = dispatch m (ladder_address at) in
     are_instructions-append (head m commit) (opening m ++ (d ++ (l ++ stubs tasks))) (head_are m commit)
     (are_instructions-append (opening m) (d ++ (l ++ stubs tasks)) (opening_are m)
-    (are_instructions-append d (l ++ stubs tasks) (dispatch_are m (ladder_address at)) (are_instructions-append l (stubs tasks) (ladder_are q tasks) (stubs_are tasks))))
+    (are_instructions-append d (l ++ stubs tasks) (dispatch_are m (ladder_address at))
+    (are_instructions-append l (stubs tasks) (ladder_are q tasks) (stubs_are tasks))))
 
 entries_fit : (ts : List TaskEntry) → 4 * length ts + stubs_bytes ts ≤ 2 * entry_room ts
 entries_fit [] = omega arith

@@ -11,7 +11,8 @@ use Rattle.boot_runtime.specs.Listing.{TaskEntry, copies_in, stub, stubs, ladder
 use Rattle.memory_map.specs.MemoryMap.{TaskPlace, MemoryMap}
 
 -- one more stub
-pub stub_written : (is js ks all : List Instr) (t : TaskEntry) (ts : List TaskEntry) → js ≡ is ++ instructions (copies_in t.privates) → ks ≡ js ++ (instruction_of (Branch t.code) ∷ [])
+pub stub_written : (is js ks all : List Instr) (t : TaskEntry) (ts : List TaskEntry) → js ≡ is ++ instructions (copies_in t.privates)
+    → ks ≡ js ++ (instruction_of (Branch t.code) ∷ [])
     → is ++ instructions (stubs (t ∷ ts)) ≡ all → ks ++ instructions (stubs ts) ≡ all
 stub_written is js ks all t ts copied branched rest =
     let c = instructions (copies_in t.privates) in
@@ -44,7 +45,8 @@ boot_written m commit at q tasks us u v w e there fixed ladder rest =
 
 -- the stub of the next task
 pub next_written : (is js ks all : List Instr) (xs : List TaskPlace) (x : TaskPlace) (i : ℕ) → x ≡ get_or xs i x → i < length xs
-    → js ≡ is ++ instructions (copies_in (pairs_of x)) → ks ≡ js ++ (instruction_of (Branch x.code.address) ∷ []) → is ++ instructions (stubs (map entry_of (drop i xs))) ≡ all
+    → js ≡ is ++ instructions (copies_in (pairs_of x)) → ks ≡ js ++ (instruction_of (Branch x.code.address) ∷ [])
+    → is ++ instructions (stubs (map entry_of (drop i xs))) ≡ all
     → ks ++ instructions (stubs (map entry_of (drop (i + 1) xs))) ≡ all
 next_written is js ks all xs x i it l copied branched rest =
     let f : List TaskPlace → List Instr = λ ys. is ++ instructions (stubs (map entry_of ys)) in

@@ -1,6 +1,7 @@
 //! Laws of the boot's code. The functions do nothing: their contracts are the laws.
 
-ghost use Rattle.boot_runtime.specs.Laws.{PendingCommitIsFound, AttemptIsFound, StartIsMade, VersionIsRaised, StartsAreShort, ClearingIsDearest, BootIsShort, BootIsCode, BootFits, StartStoresInFram, TasksAreEntered};
+ghost use Rattle.boot_runtime.specs.Laws.{PendingCommitIsFound, AttemptIsFound, StartIsMade, VersionIsRaised, StartsAreShort, ClearingIsDearest, BootIsShort};
+ghost use Rattle.boot_runtime.specs.Laws.{BootIsCode, BootFits, StartStoresInFram, TasksAreEntered};
 
 /// From its first instruction on, the boot comes to the commit where GATE is 1, and else to the start of an attempt, whatever the
 /// registers hold.

@@ -8,7 +8,8 @@ mod stubs;
 ghost use Rattle.std.specs.Prelude.{◌≡◌, ◌+◌, ◌<◌, ℕ, IfOk};
 ghost use Rattle.runtime_code.specs.code_forms.Placed.{instructions};
 ghost use Rattle.boot_runtime.specs.Entries.{task_entries};
-ghost use Rattle.boot_runtime.specs.Listing.{head, end_tested, clearing_begins, clear_loop, version_cleared, counts_set, dispatch, fixed_forms, boot_forms, boot_bytes};
+ghost use Rattle.boot_runtime.specs.Listing.{head, end_tested, clearing_begins, clear_loop, version_cleared, counts_set, dispatch, fixed_forms, boot_forms};
+ghost use Rattle.boot_runtime.specs.Listing.{boot_bytes};
 
 pub use laws::{
     boot_is_short, boot_obeys_the_gate, start_is_made, start_stores_in_fram, starts_are_short,

@@ -1,5 +1,6 @@
 -- What a sink has of a text that a buffer before it took.
-use Rattle.std.proofs.Common.{◌≡◌, ◌≤◌, ◌<◌, ℕ, ◌+◌, ◌-◌, List, ◌++◌, length, take, arith, Option, Some, None, ◌∙◌, ap, sym, length-append, length-take, Result, Ok, Err, IsOk, IsErr}
+use Rattle.std.proofs.Common.{◌≡◌, ◌≤◌, ◌<◌, ℕ, ◌+◌, ◌-◌, List, ◌++◌, length, take, arith, Option, Some, None, ◌∙◌, ap, sym, length-append, length-take}
+use Rattle.std.proofs.Common.{Result, Ok, Err, IsOk, IsErr}
 use Rattle.std.proofs.lemmas.List.{take-take, length-take-le}
 use Rattle.std.proofs.Math.Seq.{take-append-add}
 use Rattle.std.proofs.lemmas.Grind.{common_steps}
@@ -69,7 +70,8 @@ pub settles_broken : {T E : Type 0} (first held : Option (List ℕ)) (waiting : 
     → IsErr written → IsErr result → Settles first (append_known held waiting) held written result
 settles_broken first held waiting (Ok x) result begun failed fails text more w = absurd (cc)
 settles_broken first held waiting (Err x) (Ok y) begun failed fails text more w = absurd (cc)
-settles_broken first held waiting (Err x) (Err y) begun failed fails text more w = record { whole = tt; part = broken_part first held waiting text begun w.part }
+settles_broken first held waiting (Err x) (Err y) begun failed fails text more w =
+    record { whole = tt; part = broken_part first held waiting text begun w.part }
 
 -- the text was taken whole, and not all that waited could be handed on
 pub settles_part : {T E : Type 0} (first mid held : Option (List ℕ)) (before waiting : List ℕ) (written result : Result T E) → front_of first held ≡ first

@@ -1,5 +1,6 @@
 -- Each form does what its instruction does.
-use Rattle.std.proofs.Common.{◌≡◌, ◌/◌, ◌==◌, if◌then◌else◌, ◌+◌, ◌-◌, ◌*◌, ◌%◌, ◌≤◌, ℕ, refl, sym, ◌∙◌, ap, Bool, true, false, arith, List, [], ◌∷◌, Option, Some, None, length}
+use Rattle.std.proofs.Common.{◌≡◌, ◌/◌, ◌==◌, if◌then◌else◌, ◌+◌, ◌-◌, ◌*◌, ◌%◌, ◌≤◌, ℕ, refl, sym, ◌∙◌, ap, Bool, true, false, arith, List, [], ◌∷◌, Option}
+use Rattle.std.proofs.Common.{Some, None, length}
 use Rattle.std.proofs.lemmas.Bool.Decides.{nat_tests}
 use Rattle.machine_effects.specs.alp_words.declared.Flags.{Flags}
 use Rattle.machine_effects.specs.alp_words.declared.Width.{Width}
@@ -23,14 +24,20 @@ use Rattle.machine_effects.specs.msp_step.declared.effect.Modification.TheVarian
 use Rattle.machine_effects.specs.msp_step.declared.operand.Location.TheVariants as location
 use Rattle.machine_effects.specs.msp_step.Registers.{Registers, with_register}
 use Rattle.machine_effects.specs.msp_step.Access.{Access, Completed, then_do, read_at}
-use Rattle.machine_effects.specs.msp_step.Effect.{written_back, store, read_modify_write, shifted, rotated, exchanged, sign_extended, modification_of, push_effect, pushed, reads_destination, writes_destination, with_flags, Operated, finish, sum16, source, after_source, two_operand_effect, destination_location, Written, distance, is_met, operated}
+use Rattle.machine_effects.specs.msp_step.Effect.{written_back, store, read_modify_write, shifted, rotated, exchanged, sign_extended, modification_of}
+use Rattle.machine_effects.specs.msp_step.Effect.{push_effect, pushed, reads_destination, writes_destination, with_flags, Operated, finish, sum16, source}
+use Rattle.machine_effects.specs.msp_step.Effect.{after_source, two_operand_effect, destination_location, Written, distance, is_met, operated}
 use Rattle.machine_effects.specs.msp_step.Step.{effect}
 use Rattle.machine_effects.specs.fram_board.Bus.{is_word, is_ram}
 use Rattle.machine_effects.specs.fram_board.Effects.{Store}
 use Rattle.machine_effects.specs.World.{put}
 use Rattle.machine_effects.specs.Going.{Goes}
 use Rattle.machine_effects.specs.Machine.{MachineOutcome, MachineBus, machine_bus, machine_outcome, step_with, word_address, IsFram, IsRam}
-use Rattle.code_forms.specs.Forms.{WorkRegister, work_number, index_of, Core, register_file, board_of, outcome_of_core, Source, Register, Number, Constant, Fram, Ram, Pointed, PointedNext, Indexed, Popped, source_operand, source_bytes, source_value, source_read, SourceNeeds, Target, ToRegister, ToFram, ToRam, ToIndexed, ToPointed, ToOutnum, ToOutdata, target_operand, target_bytes, target_written, TargetNeeds, Move, Calculate, Compare, Update, Push, Modify, SetStack, Sense, Jump, Branch, BranchIndexed, BranchRegister, instruction_of, flags_after, calculated, sensed, form_step, FormNeeds, IsNotMov, HasPushRoom, IsCodeAddress}
+use Rattle.code_forms.specs.Forms.{WorkRegister, work_number, index_of, Core, register_file, board_of, outcome_of_core, Source, Register, Number, Constant}
+use Rattle.code_forms.specs.Forms.{Fram, Ram, Pointed, PointedNext, Indexed, Popped, source_operand, source_bytes, source_value, source_read, SourceNeeds}
+use Rattle.code_forms.specs.Forms.{Target, ToRegister, ToFram, ToRam, ToIndexed, ToPointed, ToOutnum, ToOutdata, target_operand, target_bytes, target_written}
+use Rattle.code_forms.specs.Forms.{TargetNeeds, Move, Calculate, Compare, Update, Push, Modify, SetStack, Sense, Jump, Branch, BranchIndexed, BranchRegister}
+use Rattle.code_forms.specs.Forms.{instruction_of, flags_after, calculated, sensed, form_step, FormNeeds, IsNotMov, HasPushRoom, IsCodeAddress}
 use Rattle.code_forms.specs.Laws.{FormsDoAsInstructions}
 use Rattle.code_forms.proofs.Registers.{set_pc, set_sp, set_work, get_work, high, number, set_flags, flags_back, is_on, no_port}
 

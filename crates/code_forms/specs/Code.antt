@@ -5,7 +5,8 @@ use Rattle.machine_effects.specs.msp_step.declared.machine.Stop.TheVariants as s
 use Rattle.machine_effects.specs.fram_board.Effects.{Effect}
 use Rattle.machine_effects.specs.Going.{Goes, Stops, At, stretch, continued, Leads, Stalls}
 use Rattle.machine_effects.specs.Machine.{Code, exec}
-use Rattle.code_forms.specs.Forms.{Core, CoreOutcome, CoreStretch, board_of, Form, Move, Calculate, Compare, Update, Push, Modify, SetStack, Sense, Jump, Branch, BranchIndexed, BranchRegister, instruction_of, form_bytes, form_step, FormNeeds, IsCodeAddress}
+use Rattle.code_forms.specs.Forms.{Core, CoreOutcome, CoreStretch, board_of, Form, Move, Calculate, Compare, Update, Push, Modify, SetStack, Sense, Jump}
+use Rattle.code_forms.specs.Forms.{Branch, BranchIndexed, BranchRegister, instruction_of, form_bytes, form_step, FormNeeds, IsCodeAddress}
 
 -- the forms stand in the code from this address on
 abbrev pub Stands : Code → ℕ → List Form → Type 0

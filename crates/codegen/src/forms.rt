@@ -9,7 +9,10 @@ ghost use Rattle.code_forms.specs.Forms.{instruction_of};
 ghost use Rattle.code_forms.specs.Forms as form;
 ghost use Rattle.codegen.specs.Code.{local_address as address_of};
 
-use msp_isa::{Condition, Dst, IndexRegister, Instr, Konst, Offset, OneOp, Operand, Reg, SourceRegister, Src, TwoOp, Width};
+use msp_isa::{
+    Condition, Dst, IndexRegister, Instr, Konst, Offset, OneOp, Operand, Reg, SourceRegister, Src,
+    TwoOp, Width,
+};
 
 pub const R4: Src = Src::Operand(Operand::Reg(SourceRegister::Index(IndexRegister::R4)));
 

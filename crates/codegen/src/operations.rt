@@ -13,7 +13,9 @@ ghost use Rattle.msp_isa.specs.declared.instructions.OneOp.TheVariants as one_op
 
 use crate::forms::{POPPED, R4, R5, R6, TO_R4, TO_R5, TO_R6, TO_R7, constant, jump, push, two};
 use array_versions::{BinaryOperation, UnaryOperation};
-use msp_isa::{Condition, Dst, IndexRegister, Instr, Konst, OneOp, Operand, SourceRegister, Src, TwoOp, Width};
+use msp_isa::{
+    Condition, Dst, IndexRegister, Instr, Konst, OneOp, Operand, SourceRegister, Src, TwoOp, Width,
+};
 use std::alloc::AllocError;
 
 /// Appends the code of an operation on the top of the stack.

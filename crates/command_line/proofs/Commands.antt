@@ -108,14 +108,26 @@ subcommand_of_line (Gen number image) name files e =
     let named : name ≡ codes "gen" = ap (λ l. unwrap_or (slice_get l 0) []) (sym e) in
     (record { name = codes "gen"; files = codes "N" ∷ codes "IMAGE" ∷ [] }, ap subcommand_named named, let all = ap length (sym e) in omega arith)
 subcommand_of_line (Save image trace state) name files e =
-    let named : name ≡ codes "save" = ap (λ l. unwrap_or (slice_get l 0) []) (sym e) in
-    (record { name = codes "save"; files = codes "IMAGE" ∷ codes "TRACE" ∷ codes "STATE" ∷ [] }, ap subcommand_named named, let all = ap length (sym e) in omega arith)
+    let named : name ≡ codes "save" = ap (λ l. unwrap_or (slice_get l 0) []) (sym e) in (
+      record { name = codes "save"; files = codes "IMAGE" ∷ codes "TRACE" ∷ codes "STATE" ∷ [] },
+      ap subcommand_named named,
+      let all = ap length (sym e) in
+          omega arith,
+    )
 subcommand_of_line (Resume image state trace) name files e =
-    let named : name ≡ codes "resume" = ap (λ l. unwrap_or (slice_get l 0) []) (sym e) in
-    (record { name = codes "resume"; files = codes "IMAGE" ∷ codes "STATE" ∷ codes "TRACE" ∷ [] }, ap subcommand_named named, let all = ap length (sym e) in omega arith)
+    let named : name ≡ codes "resume" = ap (λ l. unwrap_or (slice_get l 0) []) (sym e) in (
+      record { name = codes "resume"; files = codes "IMAGE" ∷ codes "STATE" ∷ codes "TRACE" ∷ [] },
+      ap subcommand_named named,
+      let all = ap length (sym e) in
+          omega arith,
+    )
 subcommand_of_line (Audit source report trace) name files e =
-    let named : name ≡ codes "audit" = ap (λ l. unwrap_or (slice_get l 0) []) (sym e) in
-    (record { name = codes "audit"; files = codes "SRC" ∷ codes "REPORT" ∷ codes "TRACE" ∷ [] }, ap subcommand_named named, let all = ap length (sym e) in omega arith)
+    let named : name ≡ codes "audit" = ap (λ l. unwrap_or (slice_get l 0) []) (sym e) in (
+      record { name = codes "audit"; files = codes "SRC" ∷ codes "REPORT" ∷ codes "TRACE" ∷ [] },
+      ap subcommand_named named,
+      let all = ap length (sym e) in
+          omega arith,
+    )
 
 -- the first step, where the second gives something
 some_before : (f : List Text → Option (List Text)) (o : Option (List Text)) (all : List Text) → option_and_then f o ≡ Some all
@@ -216,8 +228,13 @@ all_have_lines = (
               (
                 of_files (of_names (codes "save") (codes "IMAGE" ∷ codes "TRACE" ∷ codes "STATE" ∷ [])) refl (three (codes "save") Save (λ a b d. refl)),
                 (
-                  of_files (of_names (codes "resume") (codes "IMAGE" ∷ codes "STATE" ∷ codes "TRACE" ∷ [])) refl (three (codes "resume") Resume (λ a b d. refl)),
-                  (of_files (of_names (codes "audit") (codes "SRC" ∷ codes "REPORT" ∷ codes "TRACE" ∷ [])) refl (three (codes "audit") Audit (λ a b d. refl)), tt),
+                  of_files (of_names (codes "resume") (codes "IMAGE" ∷ codes "STATE" ∷ codes "TRACE" ∷ [])) refl
+                      (three (codes "resume") Resume (λ a b d. refl)),
+                  (
+                    of_files (of_names (codes "audit") (codes "SRC" ∷ codes "REPORT" ∷ codes "TRACE" ∷ [])) refl
+                        (three (codes "audit") Audit (λ a b d. refl)),
+                    tt,
+                  ),
                 ),
               ),
             ),

@@ -43,7 +43,8 @@ outside word e =
     bits (negsuc n) low high = omega (arith, ints, low)
 
 -- a number that was read
-pub number_there : (word : List ℕ) (z : ℤ) → IsRead word → z ≡ signed_digits_value 10 word → FitsUnsignedBits 32 z → number_said word ≡ Some (decimal (unsigned_abs z))
+pub number_there : (word : List ℕ) (z : ℤ) → IsRead word → z ≡ signed_digits_value 10 word → FitsUnsignedBits 32 z
+    → number_said word ≡ Some (decimal (unsigned_abs z))
 number_there word z read is fits =
     ap (λ b. cond b (Some (decimal (number_in word))) None) (within word read (subst (FitsUnsignedBits 32) is fits))
     ∙ ap (λ n. Some (decimal n)) (sym (without_sign (starts_with_minus word) (number_in word)) ∙ ap unsigned_abs (sym is))

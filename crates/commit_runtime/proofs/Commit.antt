@@ -1,5 +1,6 @@
 -- The commit's code makes the commit.
-use Rattle.std.proofs.Common.{◌≡◌, ℕ, zero, suc, ◌+◌, ◌-◌, ◌*◌, ◌%◌, ◌<◌, ◌≤◌, List, [], ◌∷◌, ◌++◌, length, length-append, Some, refl, sym, ap, ◌∙◌, subst, arith, append_assoc}
+use Rattle.std.proofs.Common.{◌≡◌, ℕ, zero, suc, ◌+◌, ◌-◌, ◌*◌, ◌%◌, ◌<◌, ◌≤◌, List, [], ◌∷◌, ◌++◌, length, length-append, Some, refl, sym, ap, ◌∙◌, subst}
+use Rattle.std.proofs.Common.{arith, append_assoc}
 use Rattle.std.specs.List.{All}
 use Rattle.std.proofs.lemmas.List.Elements.{All-same, All-weaker}
 use Rattle.msp_isa.specs.declared.instructions.TwoOp.TheVariants.{Sub}
@@ -22,7 +23,8 @@ use Rattle.runtime_code.proofs.Interface.{straight, one_form, recounted, nothing
 use Rattle.commit_runtime.specs.Listing.{copies_begin, entry_begin, word_loop, copy_loop, sends_begin, send_turn, send_loop, closing, commit_forms}
 use Rattle.commit_runtime.specs.Laws.{CommitIsMade}
 use Rattle.commit_runtime.proofs.WordLoop.{BehindWords, words_home}
-use Rattle.commit_runtime.proofs.Copies.{all_front, all_back, copied_behind, region_stays, sends_alike, sends_keep, sent_base_stays, emit_count_stays, next_task_stays, emits_stay}
+use Rattle.commit_runtime.proofs.Copies.{all_front, all_back, copied_behind, region_stays, sends_alike, sends_keep, sent_base_stays, emit_count_stays}
+use Rattle.commit_runtime.proofs.Copies.{next_task_stays, emits_stay}
 use Rattle.memory_map.specs.declared.words.RuntimeWord.TheVariants.{CurrentTask, NextTask, Gate, ListLength, EmitCount, Base, SentBase}
 use Rattle.memory_map.specs.MemoryMap.{MemoryMap, word_place}
 
@@ -169,7 +171,8 @@ module _ (code : Code) (tidy : IsTidy code) (m : MemoryMap) (places : AreInFram 
         comes_on code 2 x 3 y t (BehindWords p n (q + 6) g rs) (IsAt copied (fram_after fs g) rs) [] fs
         (ends_turn n (q + 6) g rs t (omega (arith, l)) (record { at = h.at; entries_left = h.entries_left ∙ c; next_entry = h.next_entry })) next in
         let whole = then_on code 2 (6 + k * 4 + (2 + x)) 3 (11 + k * 9 + (3 + y)) u u1 (IsAt copied (fram_after fs g) rs) [] (es ++ fs) a
-        (comes_on code (6 + k * 4) (2 + x) (11 + k * 9) (3 + y) u1 (BehindWords (p + 22) (u.work 4) (q + 6) g rs) (IsAt copied (fram_after fs g) rs) es fs b turned) in
+        (comes_on code (6 + k * 4) (2 + x) (11 + k * 9) (3 + y) u1 (BehindWords (p + 22) (u.work 4) (q + 6) g rs) (IsAt copied (fram_after fs g) rs) es fs b
+        turned) in
         let all = copied_home (run ++ rest) f in
         let effects : es ++ fs ≡ all = sym (copied_behind run rest f) in
         let memory : fram_after fs g ≡ fram_after all f = sym (fram_after-append es fs f) ∙ ap (λ l. fram_after l f) effects in
@@ -192,7 +195,8 @@ module _ (code : Code) (tidy : IsTidy code) (m : MemoryMap) (places : AreInFram 
         → Comes code (sends n (u.work 7) (u.work 5) u.fram) (2 + n * 7) (3 + n * 16) u (IsAt sent u.fram u.readings_left)
     sending zero u e c l i =
         let t : Core = record (tested code tidy p 7 sent stands.0 stands.1.0 send_there u) { pc = sent } in
-        then_on code 2 0 3 0 u t _ [] [] (leaves code tidy p 7 sent stands.0 stands.1.0 send_there u e c) (nothing code t _ (record { pc = refl; fram = refl; readings_left = refl }))
+        then_on code 2 0 3 0 u t _ [] [] (leaves code tidy p 7 sent stands.0 stands.1.0 send_there u e c)
+        (nothing code t _ (record { pc = refl; fram = refl; readings_left = refl }))
     sending (suc n) u e c l i =
         let even = i.even in let low = i.low in let top = i.high in let end = places.emits.high in
         let u1 : Core = record (tested code tidy p 7 sent stands.0 stands.1.0 send_there u) { pc = p + 2 + 2 } in
@@ -202,15 +206,18 @@ module _ (code : Code) (tidy : IsTidy code) (m : MemoryMap) (places : AreInFram 
         let a = goes_in code tidy p 7 sent stands.0 stands.1.0 send_there u e (omega (arith, c, l)) (omega (arith, c)) in
         let w = in_region m.emits.address (2 * m.emits.words) (u.work 5) places.emits low (omega (arith, top)) even in
         let b : Comes code es 4 11 u1 (λ v. v ≡ u2) =
-        straight code tidy send_turn 4 u1 u2 es 11 (λ v. v ≡ u2) (tt, (tt, (tt, (tt, tt)))) (stands_front code (p + 2 + 2) send_turn (Jump Always (0x400 - 9) ∷ []) stands.1.1)
+        straight code tidy send_turn 4 u1 u2 es 11 (λ v. v ≡ u2) (tt, (tt, (tt, (tt, tt))))
+        (stands_front code (p + 2 + 2) send_turn (Jump Always (0x400 - 9) ∷ []) stands.1.1)
         ((tt, tt), (((w, omega (arith, top, end)), tt), ((tt, tt), ((tt, tt), tt)))) refl refl refl in
         let at : code (p + 2 + 2 + 4 + 4 + 2 + 2) ≡ Some (instruction_of (Jump Always (0x400 - 9))) =
-        subst (λ y. code y ≡ Some (instruction_of (Jump Always (0x400 - 9)))) (omega arith) (stands_back code (p + 2 + 2) send_turn (Jump Always (0x400 - 9) ∷ []) stands.1.1).0 in
+        subst (λ y. code y ≡ Some (instruction_of (Jump Always (0x400 - 9)))) (omega arith)
+        (stands_back code (p + 2 + 2) send_turn (Jump Always (0x400 - 9) ∷ []) stands.1.1).0 in
         let d = jumps_back code tidy (p + 2 + 2 + 4 + 4 + 2 + 2) p (0x400 - 9) u2 at refl send_back in
         let number : (u.work 7 + 1 + 0) % 0x10000 ≡ (u.work 7 + 1) % 0x10000 = omega arith in
         let r : Comes code (sends n ((u.work 7 + 1) % 0x10000) (u.work 5 + 2) u.fram) (2 + n * 7) (3 + n * 16) u3 (IsAt sent u.fram u.readings_left) =
         subst (λ k. Comes code (sends n k (u.work 5 + 2) u.fram) (2 + n * 7) (3 + n * 16) u3 (IsAt sent u.fram u.readings_left)) number
-        (sending n u3 refl (omega (arith, c)) (omega (arith, l)) (record { even = omega (arith, even); low = omega (arith, low); high = omega (arith, top) })) in
+        (sending n u3 refl (omega (arith, c)) (omega (arith, l))
+        (record { even = omega (arith, even); low = omega (arith, low); high = omega (arith, top) })) in
         recounted code _ (2 + (4 + (1 + (2 + n * 7)))) (2 + suc n * 7) (3 + (11 + (2 + (3 + n * 16)))) (3 + suc n * 16) u _ (omega arith) (omega arith)
         (then_on code 2 (4 + (1 + (2 + n * 7))) 3 (11 + (2 + (3 + n * 16))) u u1 _ [] _ a
         (then_on code 4 (1 + (2 + n * 7)) 11 (2 + (3 + n * 16)) u1 u2 _ es _ b (then_on code 1 (2 + n * 7) 2 (3 + n * 16) u2 u3 _ [] _ d r)))
@@ -243,9 +250,11 @@ module _ (code : Code) (tidy : IsTidy code) (m : MemoryMap) (places : AreInFram 
       let n = u.fram (word_place m EmitCount) in
       let es = emits_sent m u.fram in
       let end = places.emits.high in
-      let a : Comes code [] 3 8 u (λ v. v ≡ u1) = straight code tidy (sends_begin m) 3 u u1 [] 8 (λ v. v ≡ u1) (tt, (tt, (tt, tt))) (stands_at code p (sends_begin m) u h e)
+      let a : Comes code [] 3 8 u (λ v. v ≡ u1) = straight code tidy (sends_begin m) 3 u u1 [] 8 (λ v. v ≡ u1) (tt, (tt, (tt, tt)))
+      (stands_at code p (sends_begin m) u h e)
       ((places.words SentBase, tt), ((places.words EmitCount, tt), ((tt, tt), tt))) refl refl refl in
-      let b = sending (p + 4 + 4 + 4) (omega (arith, high)) l n u1 (omega (arith, e)) refl (omega (arith, few, end)) (record { even = places.emits.even; low = omega arith; high = omega (arith, few) }) in
+      let b = sending (p + 4 + 4 + 4) (omega (arith, high)) l n u1 (omega (arith, e)) refl (omega (arith, few, end))
+      (record { even = places.emits.even; low = omega arith; high = omega (arith, few) }) in
       recounted code es (3 + (2 + n * 7)) (5 + n * 7) (8 + (3 + n * 16)) (11 + n * 16) u _ (omega arith) (omega arith)
       (moved_to code _ (p + 30) _ _ u es u.fram u.readings_left (omega arith) (then_on code 3 (2 + n * 7) 8 (3 + n * 16) u u1 _ [] es a b))
 
@@ -262,7 +271,8 @@ module _ (code : Code) (tidy : IsTidy code) (m : MemoryMap) (places : AreInFram 
       let sum = (f (word_place m SentBase) + f (word_place m EmitCount) + 0) % 0x10000 in
       let t : Core = record u1 { pc = start } in
       let there : u1.pc ≡ p + 22 = omega (arith, e) in
-      let at : code (p + 22) ≡ Some (instruction_of (Branch start)) = subst (λ x. code x ≡ Some (instruction_of (Branch start))) (omega arith) (stands_back code p (closing m) (Branch start ∷ []) h).0 in
+      let at : code (p + 22) ≡ Some (instruction_of (Branch start)) =
+      subst (λ x. code x ≡ Some (instruction_of (Branch start))) (omega arith) (stands_back code p (closing m) (Branch start ∷ []) h).0 in
       let a : Comes code (es sum) 5 20 u (λ v. v ≡ u1) = straight code tidy (closing m) 5 u u1 (es sum) 20 (λ v. v ≡ u1) (tt, (tt, (tt, (tt, (tt, tt)))))
       (stands_at code p (closing m) u (stands_front code p (closing m) (Branch start ∷ []) h) e) (
         (places.words SentBase, tt),
@@ -271,12 +281,14 @@ module _ (code : Code) (tidy : IsTidy code) (m : MemoryMap) (places : AreInFram 
           ((places.words NextTask, places.words CurrentTask), ((tt, places.words Base), ((tt, places.words Gate), tt))),
         ),
       ) refl refl refl in
-      let b : Comes code [] 1 3 u1 (IsAt start (fram_after (es sum) f) u.readings_left) = one_form code tidy (Branch start) u1 t [] 3 _ (ap code there ∙ at) even refl (record { pc = refl; fram = refl; readings_left = refl }) in
+      let b : Comes code [] 1 3 u1 (IsAt start (fram_after (es sum) f) u.readings_left) =
+      one_form code tidy (Branch start) u1 t [] 3 _ (ap code there ∙ at) even refl (record { pc = refl; fram = refl; readings_left = refl }) in
       let ab = then_on code 5 1 20 3 u u1 _ (es sum) [] a b in
       subst (λ k. Comes code (es k) 6 23 u (IsAt start (fram_after (es k) f) u.readings_left)) n ab
 
   commit_runs : (p start : ℕ) (u : Core) → p + 90 < 0x10000 → start % 2 ≡ 0 → Stands code p (commit_forms m start) → u.pc ≡ p → CanCommit m u.fram
-      → let n = u.fram (word_place m ListLength) in let ws = length (listed m u.fram) in let k = u.fram (word_place m EmitCount) in let es = commit_effects m u.fram in
+      → let n = u.fram (word_place m ListLength) in let ws = length (listed m u.fram) in let k = u.fram (word_place m EmitCount) in let es =
+      commit_effects m u.fram in
       Comes code es (15 + 10 * n + 4 * ws + 7 * k) (42 + 17 * n + 9 * ws + 16 * k) u (IsAt start (fram_after es u.fram) u.readings_left)
   commit_runs p start u high even h e can =
       let f = u.fram in
@@ -289,9 +301,11 @@ module _ (code : Code) (tidy : IsTidy code) (m : MemoryMap) (places : AreInFram 
       let rs = u.readings_left in
       let closes = closing m ++ (Branch start ∷ []) in
       let h1 = stands_back code p (copies_begin m) (copy_loop ++ (sends_begin m ++ (send_loop ++ closes))) h in
-      let l1 : Stands code (p + 4 + 4) copy_loop = subst (λ x. Stands code x copy_loop) (omega arith) (stands_front code _ copy_loop (sends_begin m ++ (send_loop ++ closes)) h1) in
+      let l1 : Stands code (p + 4 + 4) copy_loop = subst (λ x. Stands code x copy_loop) (omega arith)
+      (stands_front code _ copy_loop (sends_begin m ++ (send_loop ++ closes)) h1) in
       let h2 = stands_back code _ copy_loop (sends_begin m ++ (send_loop ++ closes)) h1 in
-      let s2 : Stands code (p + 34) (sends_begin m) = subst (λ x. Stands code x (sends_begin m)) (omega arith) (stands_front code _ (sends_begin m) (send_loop ++ closes) h2) in
+      let s2 : Stands code (p + 34) (sends_begin m) =
+      subst (λ x. Stands code x (sends_begin m)) (omega arith) (stands_front code _ (sends_begin m) (send_loop ++ closes) h2) in
       let h3 = stands_back code _ (sends_begin m) (send_loop ++ closes) h2 in
       let l3 : Stands code (p + 34 + 4 + 4 + 4) send_loop = subst (λ x. Stands code x send_loop) (omega arith) (stands_front code _ send_loop closes h3) in
       let c4 : Stands code (p + 64) closes = subst (λ x. Stands code x closes) (omega arith) (stands_back code _ send_loop closes h3) in
@@ -331,11 +345,13 @@ module _ (code : Code) (tidy : IsTidy code) (m : MemoryMap) (places : AreInFram 
       subst (λ l. Comes code (commit_closed m g) 6 23 v (IsAt start (fram_after (commit_closed m g) g) l)) left
       (subst (λ x. Comes code (commit_closed m x) 6 23 v (IsAt start (fram_after (commit_closed m x) x) v.readings_left)) is r) in
       subst (λ es. Comes code es 6 23 v (IsAt start (fram_after es g) rs)) close_same r1 in
-      let abd = chain code (4 + n * 10 + ws * 4 + (5 + k * 7)) 6 (8 + n * 17 + ws * 9 + (11 + k * 16)) 23 (p + 64) u (cs ++ ss) ls g rs (IsAt start (fram_after ls g) rs) ab d in
+      let abd = chain code (4 + n * 10 + ws * 4 + (5 + k * 7)) 6 (8 + n * 17 + ws * 9 + (11 + k * 16)) 23 (p + 64) u (cs ++ ss) ls g rs
+      (IsAt start (fram_after ls g) rs) ab d in
       let es : (cs ++ ss) ++ ls ≡ commit_effects m f = append_assoc cs ss ls in
       let fs : fram_after ls g ≡ fram_after (commit_effects m f) f =
       sym (fram_after-append cs (ss ++ ls) f ∙ fram_after-append ss ls g ∙ ap (fram_after ls) (sends_keep k (f (word_place m SentBase)) m.emits.address f g)) in
-      recounted code (commit_effects m f) (4 + n * 10 + ws * 4 + (5 + k * 7) + 6) (15 + 10 * n + 4 * ws + 7 * k) (8 + n * 17 + ws * 9 + (11 + k * 16) + 23) (42 + 17 * n + 9 * ws + 16 * k) u _ (omega arith) (omega arith)
+      recounted code (commit_effects m f) (4 + n * 10 + ws * 4 + (5 + k * 7) + 6) (15 + 10 * n + 4 * ws + 7 * k) (8 + n * 17 + ws * 9 + (11 + k * 16) + 23)
+      (42 + 17 * n + 9 * ws + 16 * k) u _ (omega arith) (omega arith)
       (subst (λ x. Comes code (commit_effects m f) (4 + n * 10 + ws * 4 + (5 + k * 7) + 6) (8 + n * 17 + ws * 9 + (11 + k * 16) + 23) u (IsAt start x rs)) fs
       (subst (λ x. Comes code x (4 + n * 10 + ws * 4 + (5 + k * 7) + 6) (8 + n * 17 + ws * 9 + (11 + k * 16) + 23) u (IsAt start (fram_after ls g) rs)) es abd))
 

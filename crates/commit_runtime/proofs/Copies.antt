@@ -19,7 +19,8 @@ out_of p n a x (inr g) low high e = omega (arith, g, high, e)
 -- copies leave a word that is none of their homes
 pub copies_leave : (xs : List CopyPair) (f : ℕ → ℕ) (a : ℕ) → All (λ x. x.home ≢ a) xs → fram_after (copied_home xs f) f a ≡ f a
 copies_leave [] f a h = refl
-copies_leave (x ∷ xs) f a h = copies_leave xs (put f x.home (f x.copy)) a (All-tail (λ x. x.home ≢ a) x xs h) ∙ (put_other f x.home (f x.copy) a (λ i. (All-head (λ x. x.home ≢ a) x xs h) (sym i)))
+copies_leave (x ∷ xs) f a h = copies_leave xs (put f x.home (f x.copy)) a (All-tail (λ x. x.home ≢ a) x xs h)
+    ∙ (put_other f x.home (f x.copy) a (λ i. (All-head (λ x. x.home ≢ a) x xs h) (sym i)))
 
 -- what holds of each of two lists behind one another
 pub all_front : {X : Type 0} (P : X → Type 0) (xs ys : List X) → All P (xs ++ ys) → All P xs

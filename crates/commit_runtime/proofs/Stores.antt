@@ -15,7 +15,10 @@ use Rattle.memory_map.specs.MemoryMap.{MemoryMap, word_place}
 
 homes_stored : (P : ℕ → ℕ → Type 0) (xs : List CopyPair) (f : ℕ → ℕ) → All (λ x. (w : ℕ) → P x.home w) xs → EachStore P (copied_home xs f)
 homes_stored P [] f h = tt
-homes_stored P (x ∷ xs) f h = (All-head (λ x. (w : ℕ) → P x.home w) x xs h (f x.copy), homes_stored P xs (put f x.home (f x.copy)) (All-tail (λ x. (w : ℕ) → P x.home w) x xs h))
+homes_stored P (x ∷ xs) f h = (
+  All-head (λ x. (w : ℕ) → P x.home w) x xs h (f x.copy),
+  homes_stored P xs (put f x.home (f x.copy)) (All-tail (λ x. (w : ℕ) → P x.home w) x xs h),
+)
 
 -- what holds at each listed home, at CUR, at BASE and at GATE holds of each store of a commit
 pub commit_stores : (P : ℕ → ℕ → Type 0) (m : MemoryMap) (f : ℕ → ℕ) → All (λ x. (w : ℕ) → P x.home w) (listed m f)

@@ -7,7 +7,8 @@ mod laws;
 ghost use Rattle.std.specs.Prelude.{◌≡◌, ◌+◌, ◌<◌, ◌++◌, ℕ, IfOk, OnOk};
 ghost use Rattle.runtime_code.specs.code_forms.Placed.{instructions};
 ghost use Rattle.runtime_code.specs.Addresses.{start_address};
-ghost use Rattle.commit_runtime.specs.Listing.{copies_begin, entry_test, entry_begin, word_loop, entry_end, copy_loop, sends_begin, send_loop, closing, commit_forms};
+ghost use Rattle.commit_runtime.specs.Listing.{copies_begin, entry_test, entry_begin, word_loop, entry_end, copy_loop, sends_begin, send_loop, closing};
+ghost use Rattle.commit_runtime.specs.Listing.{commit_forms};
 
 pub use laws::{commit_is_made, commit_is_short, commit_stores_in_fram};
 use memory_map::{Layout, RuntimeWord};

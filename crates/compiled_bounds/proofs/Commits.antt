@@ -2,7 +2,8 @@
 -- for each word of the most that are emitted.
 use Rattle.std.proofs.Common.{◌≡◌, ℕ, zero, suc, ◌+◌, ◌-◌, ◌*◌, ◌<◌, ◌≤◌, ⊎_elim, arith, List, [], ◌∷◌, length, Some, None}
 use Rattle.std.proofs.lemmas.Bool.{cases_lt}
-use Rattle.compiled_model.specs.task_ast.Tree.{Statement, declare, assign, store, choose, loop, emit, transition, Choice, nothing, otherwise, test, Block, end, step}
+use Rattle.compiled_model.specs.task_ast.Tree.{Statement, declare, assign, store, choose, loop, emit, transition, Choice, nothing, otherwise, test, Block}
+use Rattle.compiled_model.specs.task_ast.Tree.{end, step}
 use Rattle.compiled_model.specs.cost_bound.Table.{cycles_column, statement_price, blocks_price, block_price}
 use Rattle.compiled_model.specs.cost_bound.Counts.{Code, is_emit, statement_count, choice_count, block_count, emits_of}
 use Rattle.compiled_model.specs.cost_bound.Allowance.{CheckedProgram, CheckedTask, bound_of, list_of, task_bound, versions_of, greatest}

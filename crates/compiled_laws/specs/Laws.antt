@@ -42,7 +42,8 @@ CodeStays = OfSources (λ p l. (readings : List ℕ) (origin : Origin State) (x 
 -- After any charges, each cut behind any number of instructions, from any boards that power-ups leave: the board stands for a run of
 -- the source, and the effects since the last boot or done are a prefix of the start, the task and the commit there
 abbrev pub RunsStandForTheSource : Type 0
-RunsStandForTheSource = OfSources (λ p l. (readings : List ℕ) (origin : Origin State) (x : World) (s : MachineBoard) → Begins (compiled_model p l) readings origin x s
+RunsStandForTheSource = OfSources (λ p l. (readings : List ℕ) (origin : Origin State) (x : World) (s : MachineBoard)
+    → Begins (compiled_model p l) readings origin x s
     → (charges : List Charge) (t : MachineBoard) (h : History) → RunsTo (compiled_model p l) (compiled_program p l) x s charges t h
     → IsLawful (compiled_model p l) readings origin h × Matches readings t h)
 
@@ -63,13 +64,16 @@ WordsAreSentOnce = OfSources (λ p l. (readings : List ℕ) (origin : Origin Sta
 
 -- in one charge the committed readings of the transitions follow one another, from the first reading on
 abbrev pub OneChargeReadsInOrder : Type 0
-OneChargeReadsInOrder = OfSources (λ p l. (readings : List ℕ) (s0 : State) (x : World) (s : MachineBoard) → Begins (compiled_model p l) readings (Resting s0) x s
+OneChargeReadsInOrder = OfSources (λ p l. (readings : List ℕ) (s0 : State) (x : World) (s : MachineBoard)
+    → Begins (compiled_model p l) readings (Resting s0) x s
     → (compiled_model p l).Undecided s0 x
-    → (e : Charge) (t : MachineBoard) (h : History) → RunsTo (compiled_model p l) (compiled_program p l) x s (e ∷ []) t h → AreConsecutive 0 h.completed h.since)
+    → (e : Charge) (t : MachineBoard) (h : History) → RunsTo (compiled_model p l) (compiled_program p l) x s (e ∷ []) t h
+    → AreConsecutive 0 h.completed h.since)
 
 -- a charge of at least n bounds that is spent has at least n dones
 abbrev pub BoundsPayForTransitions : Type 0
-BoundsPayForTransitions = OfSources (λ p l. (readings : List ℕ) (origin : Origin State) (x : World) (s : MachineBoard) → Begins (compiled_model p l) readings origin x s
+BoundsPayForTransitions = OfSources (λ p l. (readings : List ℕ) (origin : Origin State) (x : World) (s : MachineBoard)
+    → Begins (compiled_model p l) readings origin x s
     → (charges : List Charge) (t : MachineBoard) (h : History) → RunsTo (compiled_model p l) (compiled_program p l) x s charges t h
     → (b q : MachineBoard) → (compiled_program p l).IsPoweredUp b → b.fram ≡ t.fram → b.readings_left ≡ t.readings_left
     → (n amount steps : ℕ) → n * bound_of p ≤ amount → Spends (compiled_program p l).step amount steps b q

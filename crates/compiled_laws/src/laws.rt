@@ -1,6 +1,7 @@
 //! Laws of compiled sources. The functions do nothing: their contracts are the laws.
 
-ghost use Rattle.compiled_laws.specs.Laws.{BoundsPayForTransitions, CodeKeepsTheLaws, CodeStays, OneChargeReadsInOrder, RunsStandForTheSource, RunsStopWhereTheSourceIsShort, SourcesKeepTheLaws, WordsAreSentOnce};
+ghost use Rattle.compiled_laws.specs.Laws.{BoundsPayForTransitions, CodeKeepsTheLaws, CodeStays, OneChargeReadsInOrder, RunsStandForTheSource};
+ghost use Rattle.compiled_laws.specs.Laws.{RunsStopWhereTheSourceIsShort, SourcesKeepTheLaws, WordsAreSentOnce};
 ghost use Rattle.compiled_laws.specs.Ready.{SourcesAreReady};
 
 /// Each accepted source with its layout keeps what the crash theorem asks for, and its code can run.

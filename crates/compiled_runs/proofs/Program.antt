@@ -29,7 +29,8 @@ use Rattle.compiled_model.specs.boot_runtime.Listing.{TaskEntry, entry_at, priva
 use Rattle.compiled_model.proofs.boot_runtime.Interface.{clearing_is_dearest}
 use Rattle.compiled_model.specs.commit_runtime.Listing.{commit_steps, commit_cycles}
 use Rattle.compiled_model.specs.lower.Lowered.{lowered}
-use Rattle.compiled_model.specs.crash_rules.Model.{Model, Outcome, Ends, Short, ProgramEffects, program_effects, IsWord, bound, ModelLaws, AttemptContract, CommitKeeps, with_commit}
+use Rattle.compiled_model.specs.crash_rules.Model.{Model, Outcome, Ends, Short, ProgramEffects, program_effects, IsWord, bound, ModelLaws, AttemptContract}
+use Rattle.compiled_model.specs.crash_rules.Model.{CommitKeeps, with_commit}
 use Rattle.compiled_model.specs.crash_rules.Runs.{Program, Makes}
 use Rattle.compiled_model.specs.stands_for.Program.{StartContract}
 use Rattle.compiled_model.specs.stands_for.StandsFor.{HoldsWords, StartedAt}

@@ -17,7 +17,8 @@ use Rattle.compiled_model.specs.msp_step.Access.{Access, Completed, Faulted}
 use Rattle.compiled_model.specs.msp_step.Effect.{Written}
 use Rattle.compiled_model.specs.msp_step.Step.{effect, off_bit}
 use Rattle.compiled_model.specs.machine_effects.Going.{Stops}
-use Rattle.compiled_model.specs.machine_effects.Machine.{Code, MachineBus, MachineBoard, MachineOutcome, machine_bus, machine_opened, machine_outcome, standing, exec}
+use Rattle.compiled_model.specs.machine_effects.Machine.{Code, MachineBus, MachineBoard, MachineOutcome, machine_bus, machine_opened, machine_outcome}
+use Rattle.compiled_model.specs.machine_effects.Machine.{standing, exec}
 use Rattle.compiled_model.specs.crash_rules.Runs.{TakesCycles}
 
 -- each column for an operand has a cycle at least

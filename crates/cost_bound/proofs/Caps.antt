@@ -31,7 +31,8 @@ capped_turns : (b : Bool) (n a c : ℕ) → c ≡ capped a → capped (if b then
 capped_turns true n a c e = ap (λ t. capped (n * t)) e ∙ capped_times n a
 capped_turns false n a c e = omega arith
 
-pub loop_price : (c : Column) (n body cut turn turns all : ℕ) → cut ≡ capped body → turn ≡ capped (c.turn + cut) → turns ≡ capped (turns_together c n turn) → all ≡ capped (c.repeat + turns)
+pub loop_price : (c : Column) (n body cut turn turns all : ℕ) → cut ≡ capped body → turn ≡ capped (c.turn + cut) → turns ≡ capped (turns_together c n turn)
+    → all ≡ capped (c.repeat + turns)
     → all ≡ capped (c.repeat + turns_together c n (c.turn + body))
 loop_price p n body cut turn turns all a b c d =
     let e : turn ≡ capped (p.turn + body) = omega arith in

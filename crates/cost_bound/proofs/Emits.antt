@@ -1,6 +1,7 @@
 -- The column that counts emits.
 use Rattle.std.proofs.Common.{◌≡◌, ◌-◌, ◌*◌, true, false, Some, None, ap, refl, arith}
-use Rattle.task_ast.specs.Tree.{Expression, number, name, element, sense, unary, binary, shift, short_circuit, Statement, declare, assign, store, choose, loop, emit, transition, Choice, nothing, otherwise, test, Block, end, step}
+use Rattle.task_ast.specs.Tree.{Expression, number, name, element, sense, unary, binary, shift, short_circuit, Statement, declare, assign, store, choose}
+use Rattle.task_ast.specs.Tree.{loop, emit, transition, Choice, nothing, otherwise, test, Block, end, step}
 use Rattle.task_ast.specs.declared.BinaryOperator.{BinaryOperator}
 use Rattle.task_ast.specs.declared.BinaryOperator.TheVariants.{Multiply}
 use Rattle.cost_bound.specs.Table.{expression_price, operator_price, statement_price, conditions_price, blocks_price, block_price}

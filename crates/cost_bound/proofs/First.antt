@@ -18,7 +18,8 @@ use Rattle.cost_bound.specs.Allowance.{FewEmits, IsFirstOver}
 abbrev Declared : Type 0
 Declared = TaskDeclaration VariableName TaskName
 
-pub few_more : (ts : List Declared) (i count : ℕ) (t : Declared) (items : List (Stmt VariableName TaskName)) → i < length ts → items ≡ (get_or ts i t).body.items
+pub few_more : (ts : List Declared) (i count : ℕ) (t : Declared) (items : List (Stmt VariableName TaskName)) → i < length ts
+    → items ≡ (get_or ts i t).body.items
     → All FewEmits (take i (map task_of ts)) → count ≡ capped (emits_of (block_view items)) → count ≤ 256 → All FewEmits (take (i + 1) (map task_of ts))
 few_more ts i count t items lt e all is low =
     let few : emits_of (block_view items) ≤ 256 = omega arith in
@@ -37,7 +38,9 @@ over_at ts i count t items lt e all is high = record {
   first = all;
 }
 
-pub refused_at : (ts : List Declared) (number count : ℕ) (t : Declared) (first : IsFirstOver (map task_of ts) number) → t ≡ get_or ts number t → (t.name ≡ first.task.name) × (block_view t.body.items ≡ first.task.body)
+pub refused_at : (ts : List Declared) (number count : ℕ) (t : Declared) (first : IsFirstOver (map task_of ts) number) → t ≡ get_or ts number t
+    → (t.name ≡ first.task.name) × (block_view t.body.items ≡ first.task.body)
 refused_at ts number count t first is =
-    let a : task_of t ≡ first.task = ap task_of is ∙ sym (get_or-map task_of ts number t) ∙ get_or_from_slice_get (map task_of ts) number first.task (task_of t) first.at in
+    let a : task_of t ≡ first.task = ap task_of is ∙ sym (get_or-map task_of ts number t) ∙ get_or_from_slice_get (map task_of ts) number first.task
+    (task_of t) first.at in
     (ap (λ u. u.name) a, ap (λ u. u.body) a)

@@ -17,7 +17,8 @@ same_from f g i (d ∷ ds) h e =
     let a : f i d.extent ≡ g i d.extent = e i d.extent l in
     let b : shared_sum_from f (i + 1) ds ≡ shared_sum_from g (i + 1) ds = same_from f g (i + 1) ds (omega arith) e in omega arith
 
-capped_from : (f g : ℕ → Extent → ℕ) (i : ℕ) (ds : List SharedDeclaration) → i + length ds ≤ 256 → ((k : ℕ) (e : Extent) → k < 256 → capped (f k e) ≡ capped (g k e))
+capped_from : (f g : ℕ → Extent → ℕ) (i : ℕ) (ds : List SharedDeclaration) → i + length ds ≤ 256
+    → ((k : ℕ) (e : Extent) → k < 256 → capped (f k e) ≡ capped (g k e))
     → capped (shared_sum_from f i ds) ≡ capped (shared_sum_from g i ds)
 capped_from f g i [] h e = refl
 capped_from f g i (d ∷ ds) h e =
@@ -33,17 +34,20 @@ capped_list_part : (stores of : ℕ) (e : Extent) → capped stores ≡ capped o
 capped_list_part stores of (Scalar _) h = refl
 capped_list_part stores of (Array n) h = omega arith
 
-pub list_is : (shared : List SharedDeclaration) (stores : List ℕ) (code : Code) (scalars entries result : ℕ) → length shared ≤ 256 → AreCapped stores (λ i. block_count (is_store_to i) code)
+pub list_is : (shared : List SharedDeclaration) (stores : List ℕ) (code : Code) (scalars entries result : ℕ) → length shared ≤ 256
+    → AreCapped stores (λ i. block_count (is_store_to i) code)
     → scalars ≡ scalars_of shared code → entries ≡ shared_sum (λ i e. list_part (slice_index stores i) e) shared → result ≡ capped (scalars + entries)
     → result ≡ capped (list_of shared code)
 unfolding stores_of
 list_is shared stores code scalars entries result h m a b c =
     let d : capped (shared_sum (λ i e. list_part (slice_index stores i) e) shared) ≡ capped (shared_sum (λ i e. list_part (stores_of i code) e) shared)
-    = capped_from (λ i e. list_part (slice_index stores i) e) (λ i e. list_part (stores_of i code) e) 0 shared (omega arith) (λ k e l. capped_list_part (slice_index stores k) (stores_of k code) e (m k l)) in
+    = capped_from (λ i e. list_part (slice_index stores i) e) (λ i e. list_part (stores_of i code) e) 0 shared (omega arith)
+    (λ k e l. capped_list_part (slice_index stores k) (stores_of k code) e (m k l)) in
     omega (arith, a, b, c, d)
 
 -- a sum by marks that are known
-pub written_sum : (part : Bool → Extent → ℕ) (shared items : List SharedDeclaration) (marks : List Bool) (of : ℕ → Bool) (result : ℕ) → length shared ≤ 256 → items ≡ shared
+pub written_sum : (part : Bool → Extent → ℕ) (shared items : List SharedDeclaration) (marks : List Bool) (of : ℕ → Bool) (result : ℕ) → length shared ≤ 256
+    → items ≡ shared
     → ((k : ℕ) → k < 256 → slice_index_or marks k false ≡ of k)
     → result ≡ shared_sum (λ k e. part (slice_index_or marks k false) e) items → result ≡ shared_sum (λ k e. part (of k) e) shared
 written_sum part shared items marks of result h e m is =

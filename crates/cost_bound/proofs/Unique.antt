@@ -12,7 +12,8 @@ use Rattle.cost_bound.specs.declared.fault.Over.{Over}
 use Rattle.cost_bound.specs.declared.fault.Over.TheVariants.{TooManyEmits, BoundTooLarge, TooLarge}
 use Rattle.cost_bound.specs.Table.{capped}
 use Rattle.cost_bound.specs.Counts.{emits_of}
-use Rattle.cost_bound.specs.Allowance.{CheckedProgram, CheckedTask, FewEmits, IsFirstOver, IsAllowed, IsOver, greatest, shared_sum_from, version_part, place_part, is_written, versions_of, places_of}
+use Rattle.cost_bound.specs.Allowance.{CheckedProgram, CheckedTask, FewEmits, IsFirstOver, IsAllowed, IsOver, greatest, shared_sum_from, version_part}
+use Rattle.cost_bound.specs.Allowance.{place_part, is_written, versions_of, places_of}
 use Rattle.cost_bound.specs.Laws.{OneAnswer, IsSmall}
 
 pub small_emits : (ts : List CheckedTask) → All FewEmits ts → greatest emits_of ts ≤ 256
@@ -31,7 +32,8 @@ versions_small : (written : ℕ → Bool) (i : ℕ) (ds : List SharedDeclaration
 versions_small written i [] = omega arith
 versions_small written i (d ∷ ds) =
     let a : 3 * version_part (written i) d.extent ≤ place_part (written i) d.extent = part_small (written i) d.extent in
-    let b : 3 * shared_sum_from (λ k e. version_part (written k) e) (i + 1) ds ≤ shared_sum_from (λ k e. place_part (written k) e) (i + 1) ds = versions_small written (i + 1) ds in
+    let b : 3 * shared_sum_from (λ k e. version_part (written k) e) (i + 1) ds ≤ shared_sum_from (λ k e. place_part (written k) e) (i + 1) ds =
+    versions_small written (i + 1) ds in
     omega arith
 
 pub is_small : (p : CheckedProgram) (allow : Allow) → IsAllowed p allow → IsSmall allow
@@ -56,7 +58,8 @@ not_before : (ts : List CheckedTask) (m n : ℕ) → IsFirstOver ts m → IsFirs
 not_before ts m n f g lt =
     let inside : m < length ts = slice_get_within ts m f.task f.at in
     let front : m < length (take n ts) = omega (arith, length-take n ts) in
-    too_many f.task (get_or (take n ts) m f.task) (sym (get_or-take n ts m f.task lt ∙ get_or_from_slice_get ts m f.task f.task f.at)) f.over (g.first m f.task front)
+    too_many f.task (get_or (take n ts) m f.task) (sym (get_or-take n ts m f.task lt ∙ get_or_from_slice_get ts m f.task f.task f.at)) f.over
+    (g.first m f.task front)
 
 one_first : (ts : List CheckedTask) (m n : ℕ) → IsFirstOver ts m → IsFirstOver ts n → m ≡ n
 one_first ts m n f g = elim (cases_lt m n) [

@@ -1,6 +1,7 @@
 -- The allowance of a source with its names looked up: the bound of a charge in cycles, the size of its image in words, and the room
 -- that its tasks need at most. All are numbers without an end.
-use Rattle.std.specs.Prelude.{◌≡◌, ℕ, ◌+◌, ◌*◌, ◌^◌, ◌<◌, ◌≤◌, ◌||◌, Bool, false, min, max, if◌then◌else◌, List, [], ◌∷◌, Some, slice_get, slice_index, take, All}
+use Rattle.std.specs.Prelude.{◌≡◌, ℕ, ◌+◌, ◌*◌, ◌^◌, ◌<◌, ◌≤◌, ◌||◌, Bool, false, min, max, if◌then◌else◌, List, [], ◌∷◌, Some, slice_get, slice_index, take}
+use Rattle.std.specs.Prelude.{All}
 use Rattle.alp_text.specs.declared.lines.Span.{Span}
 use Rattle.task_ast.specs.Tree.{Task, Program}
 use Rattle.task_ast.specs.declared.Extent.{Extent}
@@ -75,7 +76,8 @@ total f (t ∷ ts) = f t.body + total f ts
 
 -- the cycles of a boot, the clearing of the versions, an attempt of a task and its commit
 abbrev pub task_bound : ℕ → List SharedDeclaration → Code → ℕ
-task_bound versions shared code = 400 + 12 * versions + 72 * scalars_of shared code + block_price cycles_column code + 40 * list_of shared code + 40 * emits_of code
+task_bound versions shared code = 400 + 12 * versions + 72 * scalars_of shared code + block_price cycles_column code + 40 * list_of shared code + 40 *
+    emits_of code
 
 -- the bound, in cycles
 abbrev pub bound_of : CheckedProgram → ℕ

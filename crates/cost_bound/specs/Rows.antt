@@ -139,7 +139,8 @@ pub record PriceRows : Type 0 where
 abbrev pub several : CheckedProgram
 several = source (declared (Scalar 0) ∷ declared (Array 4) ∷ declared (Array 8) ∷ declared (Array 16) ∷ [])
     (t.step (t.loop i 0 i 10 i (t.step (t.store y (t.number 0) (t.element w (t.number 1))) t.end))
-    (t.step (t.store z (t.number 0) (t.number 1)) (t.step (t.store z (t.number 1) (t.number 1)) (t.step (t.assign x (t.number 1)) (t.step (t.assign x (t.number 2)) (goes_to 1)))))
+    (t.step (t.store z (t.number 0) (t.number 1)) (t.step (t.store z (t.number 1) (t.number 1))
+    (t.step (t.assign x (t.number 1)) (t.step (t.assign x (t.number 2)) (goes_to 1)))))
     ∷ t.step (t.assign x (t.number 3)) (t.step (t.loop i 5 i 5 i (t.step (t.store z (t.number 0) (t.number 1)) t.end)) (goes_to 0)) ∷ [])
 
 pub record AllowanceRows : Type 0 where

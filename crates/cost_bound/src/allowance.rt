@@ -3,7 +3,8 @@ ghost use Rattle.std.specs.Prelude.{◌≡◌, ◌≤◌, ◌+◌, ◌*◌, ◌<
 ghost use Rattle.task_ast.specs.View.{block_view, task_of, program_of};
 ghost use Rattle.cost_bound.specs.Table.{capped, words_column, cycles_column, block_price};
 ghost use Rattle.cost_bound.specs.Counts.{block_assigns, emits_of};
-ghost use Rattle.cost_bound.specs.Allowance.{scalars_of, list_of, task_bound, task_words, greatest, is_written, versions_of, places_of, bound_of, words_of, FewEmits, IsFirstOver, IsAllowed, IsOver};
+ghost use Rattle.cost_bound.specs.Allowance.{scalars_of, list_of, task_bound, task_words, greatest, is_written, versions_of, places_of, bound_of, words_of};
+ghost use Rattle.cost_bound.specs.Allowance.{FewEmits, IsFirstOver, IsAllowed, IsOver};
 ghost use Rattle.cost_bound.specs.Needs.{AreNeeds};
 
 use crate::SHARED;

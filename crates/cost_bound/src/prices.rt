@@ -4,7 +4,8 @@ ghost use Rattle.task_ast.specs.Tree.{Block, choice_of, choose};
 ghost use Rattle.task_ast.specs.declared.names.VariableName.{VariableName};
 ghost use Rattle.task_ast.specs.declared.names.TaskName.{TaskName};
 ghost use Rattle.task_ast.specs.View.{expression_of, statement_of, tested_of, block_view};
-ghost use Rattle.cost_bound.specs.Table.{capped, operator_price, expression_price, statement_price, block_price, conditions_price, blocks_price, blocks_together, turns_together, words_column};
+ghost use Rattle.cost_bound.specs.Table.{capped, operator_price, expression_price, statement_price, block_price, conditions_price, blocks_price};
+ghost use Rattle.cost_bound.specs.Table.{blocks_together, turns_together, words_column};
 
 use task_ast::{Arm, BinaryOperator, Expr, Stmt, TaskName, VariableName};
 

@@ -9,4 +9,5 @@ pub use Rattle.crash_rules.proofs.Events.{events_of_instructions}
 -- Steps of any machine, one after another.
 pub use Rattle.crash_rules.proofs.Steps.{goes_on, changed}
 -- The laws of runs that are cut anywhere.
-pub use Rattle.crash_rules.proofs.Theorems.{crash_theorem, stops_short, never_lost, sent_once, pending_sends, spans_follow, pending_spans_follow, progress_law, stores_only, runs_may_begin}
+pub use Rattle.crash_rules.proofs.Theorems.{crash_theorem, stops_short, never_lost, sent_once, pending_sends, spans_follow, pending_spans_follow}
+pub use Rattle.crash_rules.proofs.Theorems.{progress_law, stores_only, runs_may_begin}

@@ -17,7 +17,8 @@ use Rattle.crash_rules.specs.Runs.{Program, Makes, ProgramLaws}
 use Rattle.crash_rules.specs.Laws.{Origin, IsLawful, Matches, AreConsecutive}
 use Rattle.crash_rules.proofs.Lists.{world_fram, each_prefix}
 use Rattle.crash_rules.proofs.Observed.{observe-append, observed_taken, observed_world}
-use Rattle.crash_rules.proofs.Cuts.{ChargeEffects, partial, complete, Point, Next, Grows, Stayed, Finished, Spans, EndsShort, done_of, point_part, point_grows, point_whole}
+use Rattle.crash_rules.proofs.Cuts.{ChargeEffects, partial, complete, Point, Next, Grows, Stayed, Finished, Spans, EndsShort, done_of, point_part}
+use Rattle.crash_rules.proofs.Cuts.{point_grows, point_whole}
 use Rattle.crash_rules.proofs.Cuts.{point_some, point_short, phase_of}
 use Rattle.crash_rules.proofs.Cuts.{script_at, script_decided, script_undecided, words_left}
 use Rattle.crash_rules.proofs.Steps.{halts, fewer, leads_end, stalls_end, no_steps, Changed, changed, left_behind}

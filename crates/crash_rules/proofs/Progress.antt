@@ -1,5 +1,6 @@
 -- A charge that can pay for n bounds has n dones.
-use Rattle.std.proofs.Common.{◌≡◌, ℕ, zero, suc, ◌+◌, ◌-◌, ◌*◌, ◌<◌, ◌≤◌, List, [], ◌∷◌, length, refl, sym, ap, ◌∙◌, subst, ⊎_elim, ◌⊎◌, arith, Bool, true, false, All, length-append}
+use Rattle.std.proofs.Common.{◌≡◌, ℕ, zero, suc, ◌+◌, ◌-◌, ◌*◌, ◌<◌, ◌≤◌, List, [], ◌∷◌, length, refl, sym, ap, ◌∙◌, subst, ⊎_elim, ◌⊎◌, arith, Bool, true}
+use Rattle.std.proofs.Common.{false, All, length-append}
 use Rattle.std.proofs.lemmas.Bool.{cases_lt}
 use Rattle.machine_effects.specs.msp_step.declared.machine.Stop.TheVariants as stop
 use Rattle.machine_effects.specs.fram_board.Effects.{Effect}

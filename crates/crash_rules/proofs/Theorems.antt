@@ -6,13 +6,16 @@ use Rattle.machine_effects.specs.Machine.{MachineBoard}
 use Rattle.crash_rules.specs.Model.{Model, ModelLaws, IsWord, IsBetween}
 use Rattle.crash_rules.specs.History.{Done, History, observe, behind_boot, first_history, decided_readings}
 use Rattle.crash_rules.specs.Runs.{Program, ProgramLaws, Charge, Charged}
-use Rattle.crash_rules.specs.Laws.{Origin, Resting, Pending, Reaches, IsPending, IsSettled, Transits, Phase, UndecidedPhase, DecidedPhase, CommittingPhase, StandsFor}
-use Rattle.crash_rules.specs.Laws.{IsLawful, Matches, Begins, AcceptedDecided, AcceptedWords, AreConsecutive, CrashTheorem, StopsShort, NeverLost, SentOnce, PendingSends}
+use Rattle.crash_rules.specs.Laws.{Origin, Resting, Pending, Reaches, IsPending, IsSettled, Transits, Phase, UndecidedPhase, DecidedPhase, CommittingPhase}
+use Rattle.crash_rules.specs.Laws.{StandsFor}
+use Rattle.crash_rules.specs.Laws.{IsLawful, Matches, Begins, AcceptedDecided, AcceptedWords, AreConsecutive, CrashTheorem, StopsShort, NeverLost, SentOnce}
+use Rattle.crash_rules.specs.Laws.{PendingSends}
 use Rattle.crash_rules.specs.Laws.{SpansFollow, FollowFirst, PendingSpansFollow, ProgressLaw, StoresOnly, RunsMayBegin}
 use Rattle.crash_rules.proofs.Lists.{nothing_first}
 use Rattle.crash_rules.proofs.Observed.{accepted_more}
 use Rattle.crash_rules.proofs.Cuts.{booted}
-use Rattle.crash_rules.proofs.Plays.{AtPoint, plays_from, lawful_from, matches_more, charge_spans, SpansPast, NoDone, PastDone, charge_past, charge_stores, halted_from}
+use Rattle.crash_rules.proofs.Plays.{AtPoint, plays_from, lawful_from, matches_more, charge_spans, SpansPast, NoDone, PastDone, charge_past, charge_stores}
+use Rattle.crash_rules.proofs.Plays.{halted_from}
 use Rattle.crash_rules.proofs.Progress.{counts_from}
 use Rattle.crash_rules.proofs.Steps.{changed}
 

@@ -4,7 +4,8 @@ ghost use Rattle.std.specs.Prelude.{ℕ};
 ghost use Rattle.crash_rules.specs.Model.{Model};
 ghost use Rattle.crash_rules.specs.History.{EventsOfInstructions};
 ghost use Rattle.crash_rules.specs.Runs.{Program};
-ghost use Rattle.crash_rules.specs.Laws.{CrashTheorem, NeverLost, PendingSends, PendingSpansFollow, ProgressLaw, RunsMayBegin, SentOnce, SpansFollow, StopsShort, StoresOnly};
+ghost use Rattle.crash_rules.specs.Laws.{CrashTheorem, NeverLost, PendingSends, PendingSpansFollow, ProgressLaw, RunsMayBegin, SentOnce, SpansFollow};
+ghost use Rattle.crash_rules.specs.Laws.{StopsShort, StoresOnly};
 
 /// A compiled program as the laws see it. The type is what a state of its source is.
 pub trait Compiled {

@@ -1,5 +1,6 @@
 -- From a state of any bus there is an instruction at an address, or a reason why there is none.
-use Rattle.std.proofs.Common.{◌≡◌, ◌≤◌, ◌<◌, arith, ℕ, refl, sym, ◌∙◌, ap, subst, ◌⊎◌, inl, inr, List, [], ◌∷◌, ◌++◌, length, length-append, Option, Some, None, slice_index}
+use Rattle.std.proofs.Common.{◌≡◌, ◌≤◌, ◌<◌, arith, ℕ, refl, sym, ◌∙◌, ap, subst, ◌⊎◌, inl, inr, List, [], ◌∷◌, ◌++◌, length, length-append, Option, Some}
+use Rattle.std.proofs.Common.{None, slice_index}
 use Rattle.std.proofs.lemmas.Bool.{cases_lt}
 use Rattle.alp_words.specs.declared.Width.{Width}
 use Rattle.alp_words.specs.declared.Width.TheVariants.{Word}
@@ -15,7 +16,8 @@ use Rattle.msp_isa.specs.declared.instructions.OneOp.{OneOp}
 use Rattle.msp_isa.specs.declared.instructions.OneOp.TheVariants.{Rrc, Swpb, Rra, Sxt, Push, Call}
 use Rattle.msp_isa.specs.declared.instructions.Instr.{Instr}
 use Rattle.msp_isa.specs.declared.instructions.Instr.TheVariants as instr
-use Rattle.msp_isa.specs.Encoding.{Row, operand_row, source_row, destination_row, opcode, two_encoding, one_encoding, encoding, first_word, IsInstruction, IsIllegal, IsPrefix}
+use Rattle.msp_isa.specs.Encoding.{Row, operand_row, source_row, destination_row, opcode, two_encoding, one_encoding, encoding, first_word, IsInstruction}
+use Rattle.msp_isa.specs.Encoding.{IsIllegal, IsPrefix}
 use Rattle.msp_step.proofs.msp_decode.Interface.{blank_of, same_instruction}
 use Rattle.msp_step.specs.declared.machine.Stop.{Stop}
 use Rattle.msp_step.specs.declared.machine.Stop.TheVariants as stop
@@ -66,7 +68,8 @@ short_front : (xs : List ℕ) (u v : ℕ) → (xs ≡ []) ⊎ (xs ≡ u ∷ []) 
 short_front xs u v (inl e) = let P : List ℕ → Type 0 = λ l. IsPrefix l (u ∷ v ∷ []) in subst P (sym e) tt
 short_front xs u v (inr e) = let P : List ℕ → Type 0 = λ l. IsPrefix l (u ∷ v ∷ []) in subst P (sym e) (refl, tt)
 
-one_refit : (f : ℕ) (w : Width) (r q : Row) (u v : ℕ) → IsRefit r q u → IsPrefix (one_encoding f w q) (slice_index (one_encoding f w r) 0 ∷ u ∷ v ∷ []) × (length (one_encoding f w q) ≡ length (one_encoding f w r))
+one_refit : (f : ℕ) (w : Width) (r q : Row) (u v : ℕ) → IsRefit r q u → IsPrefix (one_encoding f w q) (slice_index (one_encoding f w r) 0 ∷ u ∷ v ∷ [])
+    × (length (one_encoding f w q) ≡ length (one_encoding f w r))
 one_refit f w r q u v h = let m = h.mode in let n = h.register in let l = h.len in ((cc, short_front q.extension u v h.word), cc)
 
 -- the destination's word stands behind the source's, if there is one
@@ -98,12 +101,18 @@ fit_two op w s d u v =
     (instr.Two op w q.0 e.0, record { is = tt; front = t.0; len = t.1 })
 
 fit_one : (o : OneOp) (u v : ℕ) → (i : Instr) × IsRefitOf i (instr.One o) u v
-fit_one (Rrc w p) u v = let q = refit_operand p u in let t = one_refit 0x1000 w _ _ u v q.1 in (instr.One (Rrc w q.0), record { is = tt; front = t.0; len = t.1 })
-fit_one (Swpb p) u v = let q = refit_operand p u in let t = one_refit 0x1080 Word _ _ u v q.1 in (instr.One (Swpb q.0), record { is = tt; front = t.0; len = t.1 })
-fit_one (Rra w p) u v = let q = refit_operand p u in let t = one_refit 0x1100 w _ _ u v q.1 in (instr.One (Rra w q.0), record { is = tt; front = t.0; len = t.1 })
-fit_one (Sxt p) u v = let q = refit_operand p u in let t = one_refit 0x1180 Word _ _ u v q.1 in (instr.One (Sxt q.0), record { is = tt; front = t.0; len = t.1 })
-fit_one (Push w s) u v = let q = refit_source s u in let t = one_refit 0x1200 w _ _ u v q.1 in (instr.One (Push w q.0), record { is = tt; front = t.0; len = t.1 })
-fit_one (Call s) u v = let q = refit_source s u in let t = one_refit 0x1280 Word _ _ u v q.1 in (instr.One (Call q.0), record { is = tt; front = t.0; len = t.1 })
+fit_one (Rrc w p) u v = let q = refit_operand p u in let t = one_refit 0x1000 w _ _ u v q.1 in
+    (instr.One (Rrc w q.0), record { is = tt; front = t.0; len = t.1 })
+fit_one (Swpb p) u v = let q = refit_operand p u in let t = one_refit 0x1080 Word _ _ u v q.1 in
+    (instr.One (Swpb q.0), record { is = tt; front = t.0; len = t.1 })
+fit_one (Rra w p) u v = let q = refit_operand p u in let t = one_refit 0x1100 w _ _ u v q.1 in
+    (instr.One (Rra w q.0), record { is = tt; front = t.0; len = t.1 })
+fit_one (Sxt p) u v = let q = refit_operand p u in let t = one_refit 0x1180 Word _ _ u v q.1 in
+    (instr.One (Sxt q.0), record { is = tt; front = t.0; len = t.1 })
+fit_one (Push w s) u v = let q = refit_source s u in let t = one_refit 0x1200 w _ _ u v q.1 in
+    (instr.One (Push w q.0), record { is = tt; front = t.0; len = t.1 })
+fit_one (Call s) u v = let q = refit_source s u in let t = one_refit 0x1280 Word _ _ u v q.1 in
+    (instr.One (Call q.0), record { is = tt; front = t.0; len = t.1 })
 
 -- an instruction that begins like j, with these words behind
 fit : (j : Instr) (u v : ℕ) → IsInstruction j → (i : Instr) × IsRefitOf i j u v
@@ -134,7 +143,8 @@ abbrev pub InstructionOrStop : {S : Type 0} → BusModel S → S → ℕ → Typ
 InstructionOrStop bus s pc = ((i : Instr) × IsInstruction i × FetchedAt bus s pc (encoding i)) ⊎ ((e : Stop) × IsNoInstruction bus s pc e)
 
 fitted : {S : Type 0} (bus : BusModel S) (s : S) (pc v u w : ℕ) (j : Instr) → BeginsAt v j → bus.fetches s pc ≡ Some v
-    → (1 < length (encoding j) → bus.fetches s (sum16 pc 2) ≡ Some u) → (2 < length (encoding j) → bus.fetches s (sum16 (sum16 pc 2) 2) ≡ Some w) → InstructionOrStop bus s pc
+    → (1 < length (encoding j) → bus.fetches s (sum16 pc 2) ≡ Some u) → (2 < length (encoding j) → bus.fetches s (sum16 (sum16 pc 2) 2) ≡ Some w)
+    → InstructionOrStop bus s pc
 fitted bus s pc v u w j h first second third =
     let i = fit j u w h.is in
     let P : ℕ → Type 0 = λ x. IsPrefix (encoding i.0) (x ∷ u ∷ w ∷ []) in
@@ -161,7 +171,8 @@ has_second : {S : Type 0} (bus : BusModel S) (s : S) (pc v : ℕ) (j : Instr) �
 has_second bus s pc v j h first (inl long) = at_second bus s pc v j h first long (bus.fetches s (sum16 pc 2)) refl
 has_second bus s pc v j h first (inr short) = fitted bus s pc v 0 0 j h first (λ l. absurd (omega arith)) (λ l. absurd (omega arith))
 
-begins_or_not : {S : Type 0} (bus : BusModel S) (s : S) (pc v : ℕ) → bus.fetches s pc ≡ Some v → ((j : Instr) × BeginsAt v j) ⊎ IsIllegal v → InstructionOrStop bus s pc
+begins_or_not : {S : Type 0} (bus : BusModel S) (s : S) (pc v : ℕ) → bus.fetches s pc ≡ Some v → ((j : Instr) × BeginsAt v j) ⊎ IsIllegal v
+    → InstructionOrStop bus s pc
 begins_or_not bus s pc v first (inl j) = has_second bus s pc v j.0 j.1 first (cases_lt 1 (length (encoding j.0)))
 begins_or_not bus s pc v first (inr bad) = inr (stop.Illegal pc v, (refl, first, bad))
 

@@ -1,5 +1,6 @@
 -- The board's step in the code's own terms.
-use Rattle.std.proofs.Common.{◌≡◌, ◌+◌, arith, ℕ, refl, sym, ◌∙◌, ap, subst, length, Option, Some, None, List, [], ◌∷◌, Result, Err, Bool, true, false, if◌then◌else◌}
+use Rattle.std.proofs.Common.{◌≡◌, ◌+◌, arith, ℕ, refl, sym, ◌∙◌, ap, subst, length, Option, Some, None, List, [], ◌∷◌, Result, Err, Bool, true, false}
+use Rattle.std.proofs.Common.{if◌then◌else◌}
 use Rattle.msp_isa.specs.declared.instructions.Instr.{Instr}
 use Rattle.msp_step.specs.declared.machine.Stop.{Stop}
 use Rattle.msp_step.specs.declared.machine.Stepped as machine
@@ -28,7 +29,8 @@ register_list-registers_of _ len = absurd (omega arith)
 opened_is : (b : BoardValue) (d : BusState) (cpu : List ℕ) (r : Receiver) → b ≡ board_of cpu d r → d.offered ≡ None → opened b ≡ d
 opened_is b d cpu r is off = ap opened is ∙ ap (λ o. record d { offered = o }) (sym off)
 
-pub outcome_is : (b : BoardValue) (cpu : List ℕ) (d : BusState) (r : Receiver) (i : Instr) (answer : Result machine.Stepped Stop) (cpu' : List ℕ) (d' : BusState)
+pub outcome_is : (b : BoardValue) (cpu : List ℕ) (d : BusState) (r : Receiver) (i : Instr) (answer : Result machine.Stepped Stop) (cpu' : List ℕ)
+    (d' : BusState)
     → b ≡ board_of cpu d r → d.offered ≡ None → cpu_outcome answer cpu' d' ≡ execution board_bus i (registers_of cpu) d
     → executed b i ≡ board_outcome (board_of cpu d r) (cpu_outcome answer cpu' d')
 outcome_is b cpu d r i answer cpu' d' is off ran =
@@ -36,7 +38,8 @@ outcome_is b cpu d r i answer cpu' d' is off ran =
     ∙ ap (λ s. board_outcome (board_of cpu d r) (execution board_bus i (registers_of cpu) s)) (opened_is (board_of cpu d r) d cpu r refl off)
     ∙ ap (λ o. board_outcome (board_of cpu d r) o) (sym ran)
 
-pub closed_is : (b : BoardValue) (cpu : List ℕ) (d : BusState) (r : Receiver) (i : Instr) (answer : Result machine.Stepped Stop) (cpu' : List ℕ) (d' e : BusState) (q : Receiver)
+pub closed_is : (b : BoardValue) (cpu : List ℕ) (d : BusState) (r : Receiver) (i : Instr) (answer : Result machine.Stepped Stop) (cpu' : List ℕ)
+    (d' e : BusState) (q : Receiver)
     → board_of cpu d r ≡ b → d.offered ≡ None → cpu_outcome answer cpu' d' ≡ execution board_bus i (registers_of cpu) d → length cpu' ≡ 16
     → e ≡ record d' { offered = None } → q ≡ receiver_after d'.outnum d'.offered r
     → board_of cpu' e q ≡ (executed b i).board
@@ -84,8 +87,10 @@ outcome_of_parts x answer after a b =
 
 -- the board of a step that isn't made is as before
 pub stopped_outcome : (b : BoardValue) (stop : Stop) → length b.cpu ≡ 16
-    → ◌≡◌ {A = BoardOutcome} (record { answer = Err stop; offered = None; board = b }) (board_outcome b (record { answer = Err stop; registers = registers_of b.cpu; bus = opened b }))
-stopped_outcome b stop len = ap {B = BoardOutcome} (λ c. record { answer = Err stop; offered = None; board = record b { cpu = c } }) (sym (register_list-registers_of b.cpu len))
+    → ◌≡◌ {A = BoardOutcome} (record { answer = Err stop; offered = None; board = b })
+    (board_outcome b (record { answer = Err stop; registers = registers_of b.cpu; bus = opened b }))
+stopped_outcome b stop len = ap {B = BoardOutcome} (λ c. record { answer = Err stop; offered = None; board = record b { cpu = c } })
+    (sym (register_list-registers_of b.cpu len))
 
 counted_few : (b : Bool) (r : Receiver) → OffersOneAtMost r (if b then record r { accepted = r.accepted + 1 } else record r { repeats = r.repeats + 1 })
 counted_few true r = omega arith

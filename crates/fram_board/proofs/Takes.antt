@@ -10,7 +10,8 @@ use Rattle.msp_step.specs.Effect.{Written}
 use Rattle.msp_step.specs.Step.{effect, execution, outcome_of}
 use Rattle.msp_step.specs.Laws.{AfterWrite}
 use Rattle.msp_step.proofs.Interface.{Ends, effect_ends}
-use Rattle.fram_board.specs.Bus.{BusState, board_bus, after_read, written, port_written, with_word, is_ram, is_word, is_memory, with_byte, memory_word, sensor_port, number_port, data_port}
+use Rattle.fram_board.specs.Bus.{BusState, board_bus, after_read, written, port_written, with_word, is_ram, is_word, is_memory, with_byte, memory_word}
+use Rattle.fram_board.specs.Bus.{sensor_port, number_port, data_port}
 
 -- so many readings more at most
 pub record TakesUpTo (n : ℕ) (s t : BusState) : Type 0 where
@@ -59,7 +60,8 @@ word_taken : (s : BusState) (b : Bool) (r f : List ℕ) → (if b then record s 
 word_taken s true r f = refl
 word_taken s false r f = refl
 
-port_taken : (s : BusState) (b c : Bool) (v : ℕ) → SameTaken s (if b then Some (record s { outnum = v }) else if c then Some (record s { offered = Some v }) else None)
+port_taken : (s : BusState) (b c : Bool) (v : ℕ) → SameTaken s (if b then Some (record s { outnum = v }) else if c then Some (record s { offered = Some v })
+    else None)
 port_taken s true c v = refl
 port_taken s false true v = refl
 port_taken s false false v = tt
@@ -69,14 +71,16 @@ either_taken s true x y g h = g
 either_taken s false x y g h = h
 
 write_taken : (s : BusState) (a : ℕ) (w : Width) (v : ℕ) → SameTaken s (written s a w v)
-write_taken s a Word v = either_taken s (is_word a) (Some (with_word s a v)) (port_written s a v) (word_taken s (is_ram a) _ _) (port_taken s (a == number_port) (a == data_port) v)
+write_taken s a Word v = either_taken s (is_word a) (Some (with_word s a v)) (port_written s a v) (word_taken s (is_ram a) _ _)
+    (port_taken s (a == number_port) (a == data_port) v)
 write_taken s a Byte v = either_taken s (is_memory a) (Some (with_word s a (with_byte (memory_word s a) a v))) None (word_taken s (is_ram a) _ _) tt
 
 after_write_taken : (s t : BusState) (w : Option Written) → AfterWrite board_bus w s t → t.taken ≡ s.taken
 after_write_taken s t None h = ap (λ x. x.taken) h
 after_write_taken s t (Some w) h = let P : Option BusState → Type 0 = λ x. SameTaken s x in subst P h.1 (write_taken s w.0 h.0 w.1)
 
-outcome_takes : (i : Instr) (r : Registers) (s : BusState) (m : Access BusState (Registers × Option Written)) → Ends board_bus 2 s m → TakesUpTo 2 s (outcome_of i r m).bus
+outcome_takes : (i : Instr) (r : Registers) (s : BusState) (m : Access BusState (Registers × Option Written)) → Ends board_bus 2 s m
+    → TakesUpTo 2 s (outcome_of i r m).bus
 outcome_takes i r s (Completed x t) h =
     let g = only_takes 2 s h.0 h.1 in
     let a = g.takes.from in

@@ -1,10 +1,12 @@
 //! Memory and ports.
 
-ghost use Rattle.std.specs.Prelude.{◌≡◌, ◌==◌, ◌%◌, if◌then◌else◌, ◌∷◌, ℕ, ◌<◌, ◌≤◌, ◌+◌, ◌-◌, length, IsTrue, OnOk, OnErr, IfOk, IfErr, IfSome, IfNone, Some, None, false};
+ghost use Rattle.std.specs.Prelude.{◌≡◌, ◌==◌, ◌%◌, if◌then◌else◌, ◌∷◌, ℕ, ◌<◌, ◌≤◌, ◌+◌, ◌-◌, length, IsTrue, OnOk, OnErr, IfOk, IfErr, IfSome, IfNone};
+ghost use Rattle.std.specs.Prelude.{Some, None, false};
 ghost use Rattle.std.proofs.Common.{refl};
 ghost use Rattle.alp_words.specs.declared.Width.TheVariants.{Word, Byte};
 ghost use Rattle.state_text.specs.image_text.ImageValue.{word_at};
-ghost use Rattle.fram_board.specs.Bus.{IsBusState, is_ram, is_memory, is_word, memory_word, with_word, byte_of, with_byte, next_reading, port_written, board_bus};
+ghost use Rattle.fram_board.specs.Bus.{IsBusState, is_ram, is_memory, is_word, memory_word, with_word, byte_of, with_byte, next_reading, port_written};
+ghost use Rattle.fram_board.specs.Bus.{board_bus};
 ghost use Rattle.fram_board.specs.Board.{filled_words, vector_of};
 
 use alp_words::{Width, from_bytes, to_bytes};

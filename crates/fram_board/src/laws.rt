@@ -1,6 +1,7 @@
 //! Laws of the board. The functions do nothing: their contracts are the laws.
 
-ghost use Rattle.fram_board.specs.Laws.{IsDeterminedStep, StepTakesItsCost, StepMakesItsEffects, HasRun, HasOneRun, AcceptedAreCounted, PowerUpLeavesABoard, FillIsAPowerState};
+ghost use Rattle.fram_board.specs.Laws.{IsDeterminedStep, StepTakesItsCost, StepMakesItsEffects, HasRun, HasOneRun, AcceptedAreCounted, PowerUpLeavesABoard};
+ghost use Rattle.fram_board.specs.Laws.{FillIsAPowerState};
 
 /// A board steps in one way.
 #[tactic(auto, using(crate::proofs::Runs::determined_step))]

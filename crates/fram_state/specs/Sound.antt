@@ -1,5 +1,6 @@
 -- When a state is sound: rule by rule, what a board that goes on from it has to find in the FRAM.
-use Rattle.std.specs.Prelude.{◌≡◌, ℕ, zero, suc, ◌+◌, ◌-◌, ◌*◌, ◌%◌, ◌==◌, ◌&&◌, ◌||◌, Bool, true, not, nat_le, nat_lt, if◌then◌else◌, List, [], ◌∷◌, length, Option, sum_by, find}
+use Rattle.std.specs.Prelude.{◌≡◌, ℕ, zero, suc, ◌+◌, ◌-◌, ◌*◌, ◌%◌, ◌==◌, ◌&&◌, ◌||◌, Bool, true, not, nat_le, nat_lt, if◌then◌else◌, List, [], ◌∷◌, length}
+use Rattle.std.specs.Prelude.{Option, sum_by, find}
 use Rattle.std.specs.List.{list_all}
 use Rattle.image_text.specs.image_map.MapValue.{MapValue}
 use Rattle.image_text.specs.image_map.declared.parts.Variable.{Variable}

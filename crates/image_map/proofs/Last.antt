@@ -1,5 +1,6 @@
 -- The last task of a map.
-use Rattle.std.proofs.Common.{◌≡◌, ◌≤◌, ℕ, suc, zero, ◌-◌, List, [], ◌∷◌, ◌++◌, length, get_or, slice_set, arith, refl, ap, sym, subst, ◌∙◌, true, false, Some, drop}
+use Rattle.std.proofs.Common.{◌≡◌, ◌≤◌, ℕ, suc, zero, ◌-◌, List, [], ◌∷◌, ◌++◌, length, get_or, slice_set, arith, refl, ap, sym, subst, ◌∙◌, true, false}
+use Rattle.std.proofs.Common.{Some, drop}
 use Rattle.std.proofs.Math.ListN.{drop_of_length-le}
 use Rattle.image_map.specs.declared.parts.Variable.{Variable}
 use Rattle.image_map.specs.MapValue.{MapValue, TaskValue, are_scalars, takes_private, last_privates, follow, onto_last}
@@ -44,13 +45,15 @@ unfolding takes_private
 some_task m n name e h = one_task m.tasks name m.variables (ap (λ m. takes_private m name) e ∙ h)
 
 -- the tasks where the last of them gained a name
-pub tasks_set : (ts : List TaskValue) (t w : TaskValue) (name : List ℕ) (i : ℕ) → i ≡ length ts → 1 ≤ length ts → t ≡ get_or ts (i - 1) t → w ≡ record t { privates = t.privates ++ name ∷ [] }
+pub tasks_set : (ts : List TaskValue) (t w : TaskValue) (name : List ℕ) (i : ℕ) → i ≡ length ts → 1 ≤ length ts → t ≡ get_or ts (i - 1) t
+    → w ≡ record t { privates = t.privates ++ name ∷ [] }
     → slice_set ts (i - 1) w ≡ onto_last name ts
 tasks_set ts t w name i len h e is =
     let some : length ts ≡ suc (i - 1) = omega arith in
     ap (slice_set ts (i - 1)) is ∙ set_at ts t name (i - 1) some e
 
-pub private_set : (m n : MapValue) (ts : List TaskValue) (name : List ℕ) → ts ≡ onto_last name m.tasks → m ≡ n → takes_private n name ≡ true → IsMap m → IsMap (record m { tasks = ts })
+pub private_set : (m n : MapValue) (ts : List TaskValue) (name : List ℕ) → ts ≡ onto_last name m.tasks → m ≡ n → takes_private n name ≡ true → IsMap m
+    → IsMap (record m { tasks = ts })
 private_set m n ts name e is h k =
     let P : List TaskValue → Type 0 = λ ts. IsMap (record m { tasks = ts }) in
     subst P (sym e) (private_more m name k (ap (λ m. takes_private m name) is ∙ h))

@@ -1,5 +1,6 @@
 -- What a map is, its rules, and what a line may add to it.
-use Rattle.std.specs.Prelude.{◌≡◌, ℕ, ◌+◌, ◌*◌, ◌%◌, ◌^◌, ◌==◌, ◌<◌, ◌≤◌, ◌&&◌, ◌||◌, Bool, true, false, nat_lt, nat_le, not, if◌then◌else◌, List, [], ◌∷◌, ◌++◌, length, map, Option, Some, None, is_none}
+use Rattle.std.specs.Prelude.{◌≡◌, ℕ, ◌+◌, ◌*◌, ◌%◌, ◌^◌, ◌==◌, ◌<◌, ◌≤◌, ◌&&◌, ◌||◌, Bool, true, false, nat_lt, nat_le, not, if◌then◌else◌, List, [], ◌∷◌}
+use Rattle.std.specs.Prelude.{◌++◌, length, map, Option, Some, None, is_none}
 use Rattle.std.specs.List.{list_any}
 use Rattle.std.specs.Str.{bytes_eq}
 use Rattle.image_map.specs.declared.parts.RuntimeWords.{RuntimeWords}
@@ -50,7 +51,8 @@ is_used m name = is_among name (variable_names m.variables) || is_among name (ta
 
 -- whether a variable may be the next one: no task stands yet, and there is room for one more
 unfoldable pub takes_variable : MapValue → Variable → Bool
-takes_variable m v = nat_le (length m.tasks) 0 && (nat_lt (length m.variables) 256 && (is_fram_word v.address && (fits v.address v.length && not (is_used m v.name))))
+takes_variable m v = nat_le (length m.tasks) 0 && (nat_lt (length m.variables) 256 &&
+    (is_fram_word v.address && (fits v.address v.length && not (is_used m v.name))))
 
 -- whether a name may be the next task's
 unfoldable pub takes_task : MapValue → List ℕ → Bool

@@ -2,7 +2,9 @@
 ghost use Rattle.std.specs.Prelude.{◌≡◌, ◌≤◌, ◌<◌, ◌^◌, ◌∷◌, [], Some, None, IfSome, MatchOption, option_map, is_some, length, true};
 ghost use Rattle.text_parts.specs.Fields.{fields, no_fields};
 ghost use Rattle.image_map.specs.MapValue.{IsFramWord, AreFramWords};
-ghost use Rattle.image_map.specs.Line.{single_from, line_fields, address_digit, fram_word, address_of, decimal_below, type_of, next_address, next_number, next_length, next_name, next_type, behind, start_of, bound_of, words_of, place_of, scalar_of, array_of, lone_name, number_behind};
+ghost use Rattle.image_map.specs.Line.{single_from, line_fields, address_digit, fram_word, address_of, decimal_below, type_of, next_address, next_number};
+ghost use Rattle.image_map.specs.Line.{next_length, next_name, next_type, behind, start_of, bound_of, words_of, place_of, scalar_of, array_of, lone_name};
+ghost use Rattle.image_map.specs.Line.{number_behind};
 
 use crate::map::is_fram_word;
 use crate::name::Name;

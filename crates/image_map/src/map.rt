@@ -110,7 +110,8 @@ impl Map {
     ghost use Rattle.std.specs.Prelude.{◌≡◌, ◌<◌, ◌≤◌, [], OnOk, OnErr, Some, None, true};
     ghost use Rattle.image_map.specs.declared.parts.RuntimeWords.{RuntimeWords};
     ghost use Rattle.image_map.specs.declared.parts.Place.{Place};
-    ghost use Rattle.image_map.specs.MapValue.{AreFramWords, IsFramWord, takes_variable, with_variable, takes_task, with_task, takes_private, with_private, is_used};
+    ghost use Rattle.image_map.specs.MapValue.{AreFramWords, IsFramWord, takes_variable, with_variable, takes_task, with_task, takes_private, with_private};
+    ghost use Rattle.image_map.specs.MapValue.{is_used};
     ghost use Rattle.image_map.specs.Kept.{IsMap};
 
     /// A map without copies, variables and tasks, from its first lines.

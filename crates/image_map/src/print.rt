@@ -3,7 +3,8 @@ ghost use Rattle.std.specs.Prelude.{◌≡◌, ◌<◌, ◌≤◌, ◌++◌, ◌
 ghost use Rattle.text_parts.specs.Printed.{spaced, printed};
 ghost use Rattle.image_map.specs.Names.{is_name};
 ghost use Rattle.image_map.specs.Kept.{IsMap};
-ghost use Rattle.image_map.specs.Text.{address_text, runtime_fields, place_fields, copies_fields, type_text, sized_fields, variable_fields, private_fields, task_fields, tasks_fields, head_fields, map_text, tail_text};
+ghost use Rattle.image_map.specs.Text.{address_text, runtime_fields, place_fields, copies_fields, type_text, sized_fields, variable_fields, private_fields};
+ghost use Rattle.image_map.specs.Text.{task_fields, tasks_fields, head_fields, map_text, tail_text};
 ghost use Rattle.image_map.specs.Named.{AreTaskNames};
 ghost use Rattle.image_map.specs.ReadsBack.{ReadsBack};
 

@@ -43,7 +43,8 @@ module _ (l : ProgramPlaces) (apart : AreApart l.map) where
       → fram_after (counting_effects l.map g) g (word_place l.map Version) ≡ g (word_place l.map Version) + 1
   version_then g number =
       let w = (g (word_place l.map Version) + 1) % 0x10000 in
-      let stored = put_other (put (put g (word_place l.map Version) w) (word_place l.map ListLength) 0) (word_place l.map EmitCount) 0 (word_place l.map Version)
+      let stored = put_other (put (put g (word_place l.map Version) w) (word_place l.map ListLength) 0) (word_place l.map EmitCount) 0
+      (word_place l.map Version)
       (λ q. omega (arith, apart, q))
       ∙ put_other (put g (word_place l.map Version) w) (word_place l.map ListLength) 0 (word_place l.map Version) (λ q. omega (arith, apart, q))
       ∙ put_same g (word_place l.map Version) w in

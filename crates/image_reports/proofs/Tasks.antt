@@ -8,7 +8,8 @@ use Rattle.link_image.specs.task_ast.declared.names.VariableName.{VariableName}
 use Rattle.link_image.specs.task_ast.declared.names.TaskName.{TaskName}
 use Rattle.link_image.specs.source_values.Values.{◌>>?◌}
 use Rattle.link_image.specs.source_values.Statements.{Outcome, goes_on, to_task, short, run_block}
-use Rattle.link_image.specs.source_values.Runs.{CheckedProgram, State, Transition, Completion, TransitionComes, EndsWell, body_of, fresh_attempt, attempt_of, completion_of, exactly, transition_of, state_after}
+use Rattle.link_image.specs.source_values.Runs.{CheckedProgram, State, Transition, Completion, TransitionComes, EndsWell, body_of, fresh_attempt, attempt_of}
+use Rattle.link_image.specs.source_values.Runs.{completion_of, exactly, transition_of, state_after}
 use Rattle.link_image.specs.source_values.Running.{IsRunnable}
 use Rattle.link_image.specs.crash_rules.Model.{Ends, Short}
 use Rattle.link_image.specs.compiled_model.Parts.{outcome_of, whole_task}

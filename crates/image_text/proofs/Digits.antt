@@ -16,5 +16,7 @@ digit_more (suc (suc (suc (suc (suc (suc (suc zero))))))) v d h l m = (omega ari
 digit_more (suc (suc (suc (suc (suc (suc (suc (suc k)))))))) v d h l m = absurd (omega arith)
 
 -- the value goes on behind a digit
-pub value_more : (v i x : ℕ) (ds : List ℕ) → i < length ds → hex_digit (get_or ds i 0) ≡ Some x → hex_value (16 * v + x) (drop (i + 1) ds) ≡ hex_value v (drop i ds)
-value_more v i x ds h e = sym (ap (hex_value v) (drop-cons ds i 0 h) ∙ ap (λ o. o >>? λ x. hex_value (16 * v + x) (drop (suc i) ds)) e ∙ ap (λ j. hex_value (16 * v + x) (drop j ds)) (sym (add-one i)))
+pub value_more : (v i x : ℕ) (ds : List ℕ) → i < length ds → hex_digit (get_or ds i 0) ≡ Some x
+    → hex_value (16 * v + x) (drop (i + 1) ds) ≡ hex_value v (drop i ds)
+value_more v i x ds h e = sym (ap (hex_value v) (drop-cons ds i 0 h) ∙ ap (λ o. o >>? λ x. hex_value (16 * v + x) (drop (suc i) ds)) e
+    ∙ ap (λ j. hex_value (16 * v + x) (drop j ds)) (sym (add-one i)))

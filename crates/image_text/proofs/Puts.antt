@@ -1,5 +1,6 @@
 -- Bytes at places that are free, or taken.
-use Rattle.std.proofs.Common.{◌≡◌, ◌≤◌, ◌<◌, ℕ, suc, zero, ◌+◌, List, [], ◌∷◌, length, drop, get_or, drop-cons, add-one, arith, refl, ap, sym, ◌∙◌, if◌then◌else◌, Bool, true, false, Option, Some, None}
+use Rattle.std.proofs.Common.{◌≡◌, ◌≤◌, ◌<◌, ℕ, suc, zero, ◌+◌, List, [], ◌∷◌, length, drop, get_or, drop-cons, add-one, arith, refl, ap, sym, ◌∙◌}
+use Rattle.std.proofs.Common.{if◌then◌else◌, Bool, true, false, Option, Some, None}
 use Rattle.std.specs.Option.{is_some}
 use Rattle.std.specs.Prelude.{slice_set}
 use Rattle.image_text.specs.Memory.{put_once}

@@ -12,7 +12,8 @@ use Rattle.compiled_model.specs.cost_bound.Counts.{is_shared}
 use Rattle.compiled_model.specs.war_analysis.Plans.{IsScalarAt, IsArrayAt}
 use Rattle.compiled_model.specs.lower.Agreement.{IsKnown, IsTarget, IsArray, IsWrittenArray, IsLocal, ExpressionFits, StatementFits, ChoiceFits, BlockFits}
 use Rattle.whole_programs.specs.Uses.{IsWordName, IsArrayName, IsLocalName, ExpressionUses, StatementUses, ChoiceUses, BlockUses}
-use Rattle.whole_programs.proofs.Interface.{assignment_writes, store_writes, loop_writes, taken_writes, passed_writes, first_writes, others_write, block_assigned}
+use Rattle.whole_programs.proofs.Interface.{assignment_writes, store_writes, loop_writes, taken_writes, passed_writes, first_writes, others_write}
+use Rattle.whole_programs.proofs.Interface.{block_assigned}
 use Rattle.layout_facts.specs.Facts.{task_places}
 use Rattle.layout_facts.specs.Laws.{NamesFit}
 use Rattle.compiled_model.specs.lower.Seen.{some_path_writes}

@@ -1,5 +1,6 @@
 -- Lists of different elements: how many there can be.
-use Rattle.std.proofs.Common.{◌≡◌, ℕ, zero, suc, ◌+◌, ◌<◌, ◌≤◌, ◌⊎◌, inl, inr, Bool, true, false, ◌&&◌, ltb, List, [], ◌∷◌, length, arith, ap, subst, sym, Some, refl}
+use Rattle.std.proofs.Common.{◌≡◌, ℕ, zero, suc, ◌+◌, ◌<◌, ◌≤◌, ◌⊎◌, inl, inr, Bool, true, false, ◌&&◌, ltb, List, [], ◌∷◌, length, arith, ap, subst, sym}
+use Rattle.std.proofs.Common.{Some, refl}
 use Rattle.std.specs.Prelude.{slice_get, All, AllPairs, ◌==◌, if◌then◌else◌}
 use Rattle.std.proofs.lemmas.Bool.{cases_Bool, eqb-true, eq-eqb, ne_eqb, lt-ltb, le-ltb, cases_lt, cases_eq, cases_order, and_right}
 use Rattle.std.proofs.lemmas.List.Elements.{All-head, All-tail}

@@ -1,5 +1,6 @@
 -- States by addresses.
-use Rattle.std.proofs.Common.{◌≡◌, ℕ, zero, suc, ◌+◌, ◌*◌, ◌/◌, ◌-◌, ◌<◌, ◌≤◌, Bool, true, false, List, [], ◌∷◌, length, map, sym, ◌∙◌, ap, subst, arith, Some, None, refl}
+use Rattle.std.proofs.Common.{◌≡◌, ℕ, zero, suc, ◌+◌, ◌*◌, ◌/◌, ◌-◌, ◌<◌, ◌≤◌, Bool, true, false, List, [], ◌∷◌, length, map, sym, ◌∙◌, ap, subst, arith}
+use Rattle.std.proofs.Common.{Some, None, refl}
 use Rattle.std.specs.Prelude.{slice_get, slice_index, slice_index_or}
 use Rattle.std.proofs.lemmas.Bool.{lt-ltb, le-ltb, le-leb, and_parts, and_from, and_right, eqb-true}
 use Rattle.std.proofs.lemmas.List.{length-replicate}

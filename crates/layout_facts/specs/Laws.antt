@@ -1,5 +1,6 @@
 -- What the layout of a source gives to the layers above.
-use Rattle.std.specs.Prelude.{◌≡◌, ◌↔◌, ℕ, ◌+◌, ◌*◌, ◌<◌, ◌≤◌, true, false, Option, Some, is_some, List, [], length, map, AllPairs, Contains, slice_get, slice_index, slice_index_or}
+use Rattle.std.specs.Prelude.{◌≡◌, ◌↔◌, ℕ, ◌+◌, ◌*◌, ◌<◌, ◌≤◌, true, false, Option, Some, is_some, List, [], length, map, AllPairs, Contains, slice_get}
+use Rattle.std.specs.Prelude.{slice_index, slice_index_or}
 use Rattle.compiled_model.specs.task_ast.declared.Extent.TheVariants as extent
 use Rattle.compiled_model.specs.task_ast.declared.SharedDeclaration.{SharedDeclaration}
 use Rattle.compiled_model.specs.cost_bound.declared.allowance.Allow.{Allow}
@@ -18,7 +19,8 @@ use Rattle.compiled_model.specs.boot_runtime.Entries.{task_entries}
 use Rattle.compiled_model.specs.boot_runtime.Listing.{privates_in}
 use Rattle.compiled_model.specs.memory_map.Laws.{AreApart}
 use Rattle.compiled_model.specs.stands_for.Layout.{HaveRoom, ArePrivate, IsSharedWord, IsCopyWord}
-use Rattle.compiled_model.specs.memory_map.Spots.{Places, places_of, address_of, Element, IsElement, IsCopied, IsScalarAt, element_address, copy_address, version_address, IsWordOf}
+use Rattle.compiled_model.specs.memory_map.Spots.{Places, places_of, address_of, Element, IsElement, IsCopied, IsScalarAt, element_address, copy_address}
+use Rattle.compiled_model.specs.memory_map.Spots.{version_address, IsWordOf}
 use Rattle.compiled_model.specs.lower.Spots.{HasRoom}
 use Rattle.compiled_model.specs.lower.Spots as spots
 use Rattle.compiled_model.specs.lower.Agreement.{place_length, BlockFits}

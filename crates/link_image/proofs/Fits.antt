@@ -24,8 +24,10 @@ keep_all keep l shared [] [] n f = tt
 keep_all keep l shared [] (t ∷ ts) n f = absurd (omega (arith, n))
 keep_all keep l shared (task ∷ tasks) [] n f = absurd (omega (arith, n))
 keep_all keep l shared (task ∷ tasks) (t ∷ ts) n f =
-    let few = f 0 task t refl refl in
-    (keep (places_of (map_seen task.body l) t) (scalars_of shared task.body) task.body (omega (arith, few)), keep_all keep l shared tasks ts (omega (arith, n)) (λ k u v a b. f (suc k) u v a b))
+    let few = f 0 task t refl refl in (
+      keep (places_of (map_seen task.body l) t) (scalars_of shared task.body) task.body (omega (arith, few)),
+      keep_all keep l shared tasks ts (omega (arith, n)) (λ k u v a b. f (suc k) u v a b),
+    )
 
 pub code_fits : LayoutsHaveRoom → BlocksKeepToWords
     → (p : CheckedProgram) (allow : Allow) (plans : List TaskPlanValue) (l : MemoryMap) → IsAllowed p allow → IsPlan p plans → IsLayout p allow plans l

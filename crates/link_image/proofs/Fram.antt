@@ -1,5 +1,6 @@
 -- The words of an image by their addresses.
-use Rattle.std.proofs.Common.{◌≡◌, ◌≢◌, ◌∙◌, ◌+◌, ◌*◌, ◌%◌, ◌<◌, ◌≤◌, ◌==◌, ◌&&◌, ℕ, zero, suc, Bool, true, false, cond, if◌then◌else◌, nat_lt, nat_le, List, [], ◌∷◌, map, length, refl, sym, ap, arith, eqb-true, slice_index, slice_set, get_or-set_same, get_or-set_other}
+use Rattle.std.proofs.Common.{◌≡◌, ◌≢◌, ◌∙◌, ◌+◌, ◌*◌, ◌%◌, ◌<◌, ◌≤◌, ◌==◌, ◌&&◌, ℕ, zero, suc, Bool, true, false, cond, if◌then◌else◌, nat_lt, nat_le, List}
+use Rattle.std.proofs.Common.{[], ◌∷◌, map, length, refl, sym, ap, arith, eqb-true, slice_index, slice_set, get_or-set_same, get_or-set_other}
 use Rattle.std.specs.Prelude.{All}
 use Rattle.std.proofs.lemmas.Bool.Decides.{nat_tests}
 use Rattle.memory_map.specs.address_space.Limits.{fram_first}
@@ -28,7 +29,8 @@ pub fram_at : (ws : List ℕ) (a : ℕ) → IsFram a → fram_of ws a ≡ slice_
 fram_at ws a h = ap (λ b. cond b (slice_index ws (place_of a)) 0) (in_fram a h)
 
 -- a word that is set
-pub fram_set : (ws : List ℕ) (at w a : ℕ) → length ws ≡ 24064 → IsFram at → IsFram a → fram_of (slice_set ws (place_of at) w) a ≡ (if a == at then w else fram_of ws a)
+pub fram_set : (ws : List ℕ) (at w a : ℕ) → length ws ≡ 24064 → IsFram at → IsFram a → fram_of (slice_set ws (place_of at) w) a
+    ≡ (if a == at then w else fram_of ws a)
 fram_set ws at w a count there here = go (a == at) refl
   where
     place : (x : ℕ) → IsFram x → place_of x < length ws
@@ -59,7 +61,8 @@ holds_by f p (w ∷ ws) h =
     (ap f (omega arith) ∙ h 0 (omega arith), holds_by f (p + 2) ws (λ i l. ap f (omega arith) ∙ h (suc i) (omega (arith, l))))
 
 -- no variable stands before the first
-pub none_before : (from end a : ℕ) (vs : List VariablePlace) (rows : List (List ℕ)) → AreInOrder from (map home_region vs) end → a < from → shared_word vs rows a ≡ 0
+pub none_before : (from end a : ℕ) (vs : List VariablePlace) (rows : List (List ℕ)) → AreInOrder from (map home_region vs) end → a < from
+    → shared_word vs rows a ≡ 0
 none_before from end a [] rows order l = refl
 none_before from end a (v ∷ vs) [] order l = refl
 none_before from end a (v ∷ vs) (row ∷ rows) order l =

@@ -1,5 +1,6 @@
 -- The world of an image before anything was done.
-use Rattle.std.proofs.Common.{◌≡◌, ◌≢◌, ℕ, zero, suc, ◌+◌, ◌-◌, ◌*◌, ◌/◌, ◌%◌, ◌<◌, ◌≤◌, ◌==◌, ◌&&◌, nat_le, nat_lt, if◌then◌else◌, cond, ne_eqb, refl, sym, ap, ap₂, ◌∙◌, subst, arith, true, false, List, [], ◌∷◌, length, map, All}
+use Rattle.std.proofs.Common.{◌≡◌, ◌≢◌, ℕ, zero, suc, ◌+◌, ◌-◌, ◌*◌, ◌/◌, ◌%◌, ◌<◌, ◌≤◌, ◌==◌, ◌&&◌, nat_le, nat_lt, if◌then◌else◌, cond, ne_eqb, refl, sym}
+use Rattle.std.proofs.Common.{ap, ap₂, ◌∙◌, subst, arith, true, false, List, [], ◌∷◌, length, map, All}
 use Rattle.std.proofs.lemmas.Bool.Decides.{nat_tests}
 use Rattle.std.specs.Prelude.{slice_index}
 use Rattle.linked_code.specs.cost_bound.declared.allowance.Allow.{Allow}
@@ -114,7 +115,8 @@ module _ (text : List ℕ) (p : CheckedProgram) (allow : Allow) (image : ImageVa
       let other : (a == reset_vector) ≡ false = ne_eqb a reset_vector (λ e. omega (arith, low, high, end, e)) in
       let out : is_within (code_region p l) a ≡ false = before (code_region p l) a low in
       c.words.each a is
-      ∙ ap (λ b. cond b l.boot.address (if is_within (code_region p l) a then slice_index (code_words p l) ((a - l.boot.address) / 2) else data_word p l a)) other
+      ∙ ap (λ b. cond b l.boot.address (if is_within (code_region p l) a then slice_index (code_words p l) ((a - l.boot.address) / 2) else data_word p l a))
+      other
       ∙ ap (λ b. cond b (slice_index (code_words p l) ((a - l.boot.address) / 2)) (data_word p l a)) out
 
   -- a word of the code
@@ -129,7 +131,8 @@ module _ (text : List ℕ) (p : CheckedProgram) (allow : Allow) (image : ImageVa
       let other : (a == reset_vector) ≡ false = ne_eqb a reset_vector (λ e. omega (arith, high, end, below, e)) in
       let there : is_within (code_region p l) a ≡ true = inside (code_region p l) a (omega arith) (omega (arith, below)) in
       c.words.each a is
-      ∙ ap (λ b. cond b l.boot.address (if is_within (code_region p l) a then slice_index (code_words p l) ((a - l.boot.address) / 2) else data_word p l a)) other
+      ∙ ap (λ b. cond b l.boot.address (if is_within (code_region p l) a then slice_index (code_words p l) ((a - l.boot.address) / 2) else data_word p l a))
+      other
       ∙ ap (λ b. cond b (slice_index (code_words p l) ((a - l.boot.address) / 2)) (data_word p l a)) there
       ∙ ap (slice_index (code_words p l)) (half l.boot.address k)
 

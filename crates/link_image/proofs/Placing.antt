@@ -1,5 +1,6 @@
 -- Words that are put into an image.
-use Rattle.std.proofs.Common.{◌≡◌, ◌∙◌, ◌+◌, ◌-◌, ◌*◌, ◌/◌, ◌%◌, ◌<◌, ◌≤◌, ◌==◌, ◌&&◌, ℕ, zero, suc, Bool, true, false, cond, if◌then◌else◌, List, [], ◌∷◌, map, drop, length, replicate, refl, sym, ap, subst, arith, eqb-true, slice_index, get_or}
+use Rattle.std.proofs.Common.{◌≡◌, ◌∙◌, ◌+◌, ◌-◌, ◌*◌, ◌/◌, ◌%◌, ◌<◌, ◌≤◌, ◌==◌, ◌&&◌, ℕ, zero, suc, Bool, true, false, cond, if◌then◌else◌, List, [], ◌∷◌}
+use Rattle.std.proofs.Common.{map, drop, length, replicate, refl, sym, ap, subst, arith, eqb-true, slice_index, get_or}
 use Rattle.std.proofs.lemmas.Bool.Decides.{nat_tests}
 use Rattle.std.proofs.lemmas.List.{at_drop_more}
 use Rattle.linked_code.proofs.machine_effects.Interface.{zeros_at}
@@ -56,7 +57,8 @@ scalar_word home copy w a old vs rows even_home even same = go (a == home) refl
         same ∙ sym (ap (λ b. cond b (word_of_row r (w ∷ []) a) (shared_word vs rows a)) outside)
 
 -- an array has no words yet, behind it neither
-array_word : (elements n a end : ℕ) (place : VariablePlace) (vs : List VariablePlace) (rows : List (List ℕ)) (old : ℕ) → AreInOrder (end_of (home_region place)) (map home_region vs) end
+array_word : (elements n a end : ℕ) (place : VariablePlace) (vs : List VariablePlace) (rows : List (List ℕ)) (old : ℕ)
+    → AreInOrder (end_of (home_region place)) (map home_region vs) end
     → old ≡ shared_word vs rows a → old ≡ shared_word (place ∷ vs) (replicate n 0 ∷ rows) a
 array_word elements n a end place vs rows old order same = go (is_within (home_region place) a) refl
   where
@@ -99,7 +101,8 @@ from_number (d ∷ ds) (v ∷ vs) low end (suc i) h =
 pub record IsNext (d : SharedDeclaration) (v : VariablePlace) (ds : List SharedDeclaration) (vs : List VariablePlace) (low end : ℕ) : Type 0 where
   pub here : FromHere (d ∷ ds) (v ∷ vs) low end
 
-pub next_of : (ds : List SharedDeclaration) (vs : List VariablePlace) (low end i : ℕ) (d : SharedDeclaration) (v : VariablePlace) → ArePlacesOf ds vs → AreInOrder low (map home_region vs) end
+pub next_of : (ds : List SharedDeclaration) (vs : List VariablePlace) (low end i : ℕ) (d : SharedDeclaration) (v : VariablePlace) → ArePlacesOf ds vs
+    → AreInOrder low (map home_region vs) end
     → i < length ds → i < length vs → d ≡ get_or ds i d → v ≡ get_or vs i v → IsNext d v (drop (i + 1) ds) (drop (i + 1) vs) low end
 next_of ds vs low end i d v places order l m a b =
     let all : FromHere ds vs low end = record { places = places; from = low; above = omega arith; order = order } in
@@ -113,14 +116,17 @@ same_length [] (v ∷ vs) h = absurd h
 same_length (d ∷ ds) [] h = absurd h
 same_length (d ∷ ds) (v ∷ vs) h = let r = same_length ds vs h.1 in omega (arith, r)
 
-pub next_put : (ds : List SharedDeclaration) (vs : List VariablePlace) (low end i : ℕ) (d : SharedDeclaration) (v : VariablePlace) → ArePlacesOf ds vs → AreInOrder low (map home_region vs) end
-    → i < length ds → i < length vs → d ≡ get_or ds i d → v ≡ get_or vs i v → (a old new : ℕ) → a % 2 ≡ 0 → old ≡ shared_word (drop (i + 1) vs) (rows_of (drop (i + 1) ds)) a
+pub next_put : (ds : List SharedDeclaration) (vs : List VariablePlace) (low end i : ℕ) (d : SharedDeclaration) (v : VariablePlace) → ArePlacesOf ds vs
+    → AreInOrder low (map home_region vs) end
+    → i < length ds → i < length vs → d ≡ get_or ds i d → v ≡ get_or vs i v → (a old new : ℕ) → a % 2 ≡ 0
+    → old ≡ shared_word (drop (i + 1) vs) (rows_of (drop (i + 1) ds)) a
     → new ≡ initial_put d.extent v a old → new ≡ shared_word (drop i vs) (rows_of (drop i ds)) a
 next_put ds vs low end i d v places order l m e f a old new even same put =
     let n = (next_of ds vs low end i d v places order l m e f).here in
     put ∙ variable_put d.extent v (drop (i + 1) vs) (rows_of (drop (i + 1) ds)) n.from end a old n.places.0 n.order even same
     ∙ sym (at_drop_more (λ xs. shared_word (drop i vs) (rows_of xs) a) ds i d l ∙ ap (λ x. shared_word (drop i vs) (rows_of (x ∷ drop (i + 1) ds)) a) (sym e)
-    ∙ at_drop_more (λ xs. shared_word xs (rows_of (d ∷ drop (i + 1) ds)) a) vs i v m ∙ ap (λ x. shared_word (x ∷ drop (i + 1) vs) (rows_of (d ∷ drop (i + 1) ds)) a) (sym f))
+    ∙ at_drop_more (λ xs. shared_word xs (rows_of (d ∷ drop (i + 1) ds)) a) vs i v m
+    ∙ ap (λ x. shared_word (x ∷ drop (i + 1) vs) (rows_of (d ∷ drop (i + 1) ds)) a) (sym f))
 
 -- one more word behind others
 pub word_put : (at k w a old new : ℕ) (ws : List ℕ) → at % 2 ≡ 0 → a % 2 ≡ 0 → w ≡ slice_index ws k → k < length ws
@@ -147,7 +153,8 @@ word_put at k w a old new ws even_at even word less put = put ∙ go (a == at + 
 
 -- ---- the places of a layout
 
-wider : (from low end high : ℕ) (vs : List VariablePlace) → low ≤ from → end ≤ high → AreInOrder from (map home_region vs) end → AreInOrder low (map home_region vs) high
+wider : (from low end high : ℕ) (vs : List VariablePlace) → low ≤ from → end ≤ high → AreInOrder from (map home_region vs) end
+    → AreInOrder low (map home_region vs) high
 wider from low end high [] l h o = omega (arith, l, h, o)
 wider from low end high (v ∷ vs) l h o =
     let start = o.0.from in

@@ -1,5 +1,6 @@
 -- The words of the code, written part by part.
-use Rattle.std.proofs.Common.{◌≡◌, ◌∙◌, ℕ, zero, suc, ◌+◌, ◌-◌, ◌*◌, ◌/◌, ◌%◌, ◌<◌, ◌≤◌, List, [], ◌∷◌, ◌++◌, map, length, drop, refl, sym, ap, ap₂, subst, arith, append_assoc, length-append, get_or}
+use Rattle.std.proofs.Common.{◌≡◌, ◌∙◌, ℕ, zero, suc, ◌+◌, ◌-◌, ◌*◌, ◌/◌, ◌%◌, ◌<◌, ◌≤◌, List, [], ◌∷◌, ◌++◌, map, length, drop, refl, sym, ap, ap₂, subst}
+use Rattle.std.proofs.Common.{arith, append_assoc, length-append, get_or}
 use Rattle.std.specs.Prelude.{All}
 use Rattle.std.proofs.lemmas.List.{at_drop_more}
 use Rattle.msp_isa.specs.declared.instructions.Instr.{Instr}
@@ -42,7 +43,8 @@ filler_length zero = refl
 filler_length (suc k) = let r = filler_length k in omega (arith, r)
 
 -- a part behind others
-pub part_words : (start : ℕ) (old new all : List ℕ) (part : CodePart) (parts : List CodePart) → start % 2 ≡ 0 → part.address % 2 ≡ 0 → start + 2 * length old ≤ part.address
+pub part_words : (start : ℕ) (old new all : List ℕ) (part : CodePart) (parts : List CodePart) → start % 2 ≡ 0 → part.address % 2 ≡ 0
+    → start + 2 * length old ≤ part.address
     → new ≡ old ++ (words_in (repeated ((part.address - (start + 2 * length old)) / 2) filler) ++ words_in part.forms)
     → old ++ words_in (chained (start + 2 * length old) (part ∷ parts)) ≡ all
     → (start + 2 * length new ≡ part_end part) × (new ++ words_in (chained (start + 2 * length new) parts) ≡ all)
@@ -58,7 +60,8 @@ part_words start old new all part parts even_start even from is rest =
       end,
       ap₂ (λ n e. n ++ words_in (chained e parts)) is end
           ∙ append_assoc old (words_in f ++ words_in part.forms) (words_in more)
-          ∙ ap (λ l. old ++ l) (append_assoc (words_in f) (words_in part.forms) (words_in more) ∙ ap (λ l. words_in f ++ l) (sym (joined part.forms more)) ∙ sym (joined f (part.forms ++ more)))
+          ∙ ap (λ l. old ++ l) (append_assoc (words_in f) (words_in part.forms) (words_in more) ∙ ap (λ l. words_in f ++ l) (sym (joined part.forms more))
+          ∙ sym (joined f (part.forms ++ more)))
           ∙ rest,
     )
 
@@ -116,7 +119,8 @@ module _ (l : MemoryMap) (programs : List Program) (fits : CodeFits l programs) 
   abbrev written : ℕ → ℕ → List ℕ → List Instr → List ℕ
   written start at words code = words ++ (words_in (repeated ((at - (start + 2 * length words)) / 2) filler) ++ words_of code)
 
-  pub after_boot : (start : ℕ) (old new : List ℕ) (code : List Instr) → start ≡ l.boot.address → old ≡ [] → code ≡ instructions (boot_part l).forms → new ≡ written start start old code
+  pub after_boot : (start : ℕ) (old new : List ℕ) (code : List Instr) → start ≡ l.boot.address → old ≡ [] → code ≡ instructions (boot_part l).forms
+      → new ≡ written start start old code
       → WrittenTo start new (part_end (boot_part l)) others
   after_boot start old new code s o k is =
       let same : new ≡ written l.boot.address l.boot.address [] (instructions (boot_part l).forms) =
@@ -130,8 +134,10 @@ module _ (l : MemoryMap) (programs : List Program) (fits : CodeFits l programs) 
   pub commit_behind : (start : ℕ) (words : List ℕ) → WrittenTo start words (part_end (boot_part l)) others → start + 2 * length words ≤ l.commit.address
   commit_behind start words h = let there = h.there in let from = (in_order l programs fits).1.0.from in omega (arith, there, from)
 
-  pub after_commit : (start at : ℕ) (old new : List ℕ) (code : List Instr) → start ≡ l.boot.address → at ≡ l.commit.address → code ≡ instructions (commit_part l).forms
-      → WrittenTo start old (part_end (boot_part l)) others → new ≡ written start at old code → WrittenTo start new (part_end (commit_part l)) (task_parts l.tasks programs)
+  pub after_commit : (start at : ℕ) (old new : List ℕ) (code : List Instr) → start ≡ l.boot.address → at ≡ l.commit.address
+      → code ≡ instructions (commit_part l).forms
+      → WrittenTo start old (part_end (boot_part l)) others → new ≡ written start at old code
+      → WrittenTo start new (part_end (commit_part l)) (task_parts l.tasks programs)
   after_commit start at old new code s a k before is =
       let same : new ≡ written start l.commit.address old (instructions (commit_part l).forms) =
       is ∙ ap (λ x. written start x old code) a ∙ ap (written start l.commit.address old) k in

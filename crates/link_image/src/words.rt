@@ -84,7 +84,8 @@ pub fn put_image(
     requires places { ArePlacesOf shared.now layout.now.variables }
     requires room { layout.now.boot.address + 2 * length code.now ≤ reset_vector }
     ensures each { (a : ℕ) → IsFram a → fram_of image.new.words a ≡ (if a == reset_vector then layout.now.boot.address
-        else if is_within (record { address = layout.now.boot.address; words = length code.now }) a then slice_index code.now ((a - layout.now.boot.address) / 2)
+        else if is_within (record { address = layout.now.boot.address; words = length code.now }) a
+        then slice_index code.now ((a - layout.now.boot.address) / 2)
         else if a == word_place layout.now CurrentTask then entry
         else shared_word layout.now.variables (map (λ d. initial_words d.extent) shared.now) a) }
     ensures are_words { AreWords image.old.words → AreWords image.new.words }

@@ -27,7 +27,8 @@ use Rattle.fram_board.specs.msp_step.Registers.{Registers, with_register}
 use Rattle.fram_board.specs.msp_step.Access.{BusModel, Access, Completed, Faulted, then_do, read_answer, write_answer, read_at, write_at}
 use Rattle.fram_board.specs.msp_step.Effect.{Operated, sum16, step_of, status_with, Written, source, load, store, finish, operand_location, incremented}
 use Rattle.fram_board.specs.msp_step.Effect.{destination_operand, after_source, operated, flags_of, with_flags, reads_destination, writes_destination}
-use Rattle.fram_board.specs.msp_step.Effect.{destination_location, two_operand_effect, is_met, distance, read_modify_write, rotated, shifted, exchanged, sign_extended}
+use Rattle.fram_board.specs.msp_step.Effect.{destination_location, two_operand_effect, is_met, distance, read_modify_write, rotated, shifted, exchanged}
+use Rattle.fram_board.specs.msp_step.Effect.{sign_extended}
 use Rattle.fram_board.specs.msp_step.Effect.{below_stack, push_effect, call_effect, reti_effect}
 use Rattle.fram_board.specs.msp_step.Step.{effect, one_operand_effect}
 

@@ -21,7 +21,8 @@ use Rattle.fram_board.specs.msp_step.declared.machine.Stop.TheVariants as stop
 use Rattle.fram_board.specs.msp_step.Registers.{Registers, with_register, kept, registers_of}
 use Rattle.fram_board.specs.msp_step.Access.{BusModel, Access, Completed, Faulted}
 use Rattle.fram_board.specs.msp_step.Effect.{Written, sum16}
-use Rattle.fram_board.specs.msp_step.Step.{FetchedAt, NotFetched, First, Second, Third, IsStopped, IsCurrentInstruction, effect, stop_of, Outcome, outcome_of, StepResult}
+use Rattle.fram_board.specs.msp_step.Step.{FetchedAt, NotFetched, First, Second, Third, IsStopped, IsCurrentInstruction, effect, stop_of, Outcome, outcome_of}
+use Rattle.fram_board.specs.msp_step.Step.{StepResult}
 use Rattle.fram_board.specs.msp_step.Step.{Stopped, Executed}
 use Rattle.fram_board.specs.msp_step.Laws.{AfterWrite}
 use Rattle.fram_board.proofs.msp_step.Interface.{Ends, effect_ends, same_current, same_stop, not_stopped}

@@ -1,5 +1,6 @@
 -- What the operations of the CPU make of words are words.
-use Rattle.std.proofs.Common.{◌==◌, ◌<◌, ◌+◌, ◌-◌, ◌*◌, ◌/◌, ◌%◌, arith, ℕ, zero, suc, Bool, true, false, if◌then◌else◌, bit_and, bit_or, bit_xor, slice_index, ◌≡◌}
+use Rattle.std.proofs.Common.{◌==◌, ◌<◌, ◌+◌, ◌-◌, ◌*◌, ◌/◌, ◌%◌, arith, ℕ, zero, suc, Bool, true, false, if◌then◌else◌, bit_and, bit_or, bit_xor}
+use Rattle.std.proofs.Common.{slice_index, ◌≡◌}
 use Rattle.std.proofs.Common.{slice_set}
 use Rattle.std.proofs.lemmas.Nat.{and_le_l, or_of_16, xor_of_16}
 use Rattle.std.proofs.lemmas.Bool.Decides.{nat_tests}
@@ -7,7 +8,8 @@ use Rattle.fram_board.specs.alp_words.declared.Width.{Width}
 use Rattle.fram_board.specs.alp_words.declared.Width.TheVariants.{Word, Byte}
 use Rattle.fram_board.specs.alp_words.declared.Flags.{Flags}
 use Rattle.fram_board.specs.alp_words.Words as words
-use Rattle.fram_board.specs.alp_words.Words.{bit, operand, modulus, sign_weight, bcd_sum, decimal_digit, digit_count, word_bytes, word_of_bytes, extended, is_negative}
+use Rattle.fram_board.specs.alp_words.Words.{bit, operand, modulus, sign_weight, bcd_sum, decimal_digit, digit_count, word_bytes, word_of_bytes, extended}
+use Rattle.fram_board.specs.alp_words.Words.{is_negative}
 use Rattle.fram_board.specs.alp_words.Words.{swapped}
 use Rattle.fram_board.proofs.alp_words.Interface.{digit_below}
 use Rattle.fram_board.specs.msp_isa.declared.operands.Konst.{Konst}

@@ -1,5 +1,6 @@
 -- Words stay words, on the machine and on the board.
-use Rattle.std.proofs.Common.{◌≡◌, ◌==◌, ◌&&◌, ◌≤◌, ◌<◌, ◌%◌, arith, ℕ, zero, suc, refl, sym, subst, Bool, true, false, if◌then◌else◌, nat_lt, List, [], ◌∷◌, ◌++◌, All, length, drop, slice_index, slice_set, inl, inr, ◌⊎◌, Option, Some, None, Result, Ok, Err}
+use Rattle.std.proofs.Common.{◌≡◌, ◌==◌, ◌&&◌, ◌≤◌, ◌<◌, ◌%◌, arith, ℕ, zero, suc, refl, sym, subst, Bool, true, false, if◌then◌else◌, nat_lt, List, [], ◌∷◌}
+use Rattle.std.proofs.Common.{◌++◌, All, length, drop, slice_index, slice_set, inl, inr, ◌⊎◌, Option, Some, None, Result, Ok, Err}
 use Rattle.std.proofs.lemmas.Bool.{cases_lt}
 use Rattle.std.proofs.lemmas.List.{length-replicate}
 use Rattle.std.proofs.lemmas.List.Elements.{All-set, All-replicate}
@@ -23,19 +24,24 @@ use Rattle.step_laws.specs.Effects.{IsValid}
 use Rattle.step_laws.specs.Effects as laws
 use Rattle.step_laws.proofs.Interface.{stays_valid, effect_alike}
 use Rattle.fram_board.specs.image_text.ImageValue.{place_of}
-use Rattle.fram_board.specs.Bus.{BusState, IsBusState, board_bus, is_ram, is_fram, is_memory, is_word, ram_place, memory_word, with_word, with_byte, byte_of, next_reading, read_of, after_read, written, port_written, sensor_port, number_port, data_port}
+use Rattle.fram_board.specs.Bus.{BusState, IsBusState, board_bus, is_ram, is_fram, is_memory, is_word, ram_place, memory_word, with_word, with_byte, byte_of}
+use Rattle.fram_board.specs.Bus.{next_reading, read_of, after_read, written, port_written, sensor_port, number_port, data_port}
 use Rattle.fram_board.specs.Board.{BoardValue, opened, closed, board_outcome, register_list, filled_words, vector_of}
 use Rattle.fram_board.specs.Effects.{Effect, Store}
 use Rattle.fram_board.proofs.Interface.{power_up_leaves_a_board}
 use Rattle.machine_effects.specs.World.{put}
 use Rattle.machine_effects.specs.Going.{Stops}
-use Rattle.machine_effects.specs.Machine.{MachineBus, MachineBoard, MachineOutcome, machine_bus, machine_word, word_address, first_reading, machine_read, reading_taken, machine_after_read, machine_stored, machine_port_written, machine_written, machine_opened, machine_outcome, machine_executed, NoInstruction, Executes, standing}
+use Rattle.machine_effects.specs.Machine.{MachineBus, MachineBoard, MachineOutcome, machine_bus, machine_word, word_address, first_reading, machine_read}
+use Rattle.machine_effects.specs.Machine.{reading_taken, machine_after_read, machine_stored, machine_port_written, machine_written, machine_opened}
+use Rattle.machine_effects.specs.Machine.{machine_outcome, machine_executed, NoInstruction, Executes, standing}
 use Rattle.machine_effects.specs.View.{machine_of, IsWhole, IsOfWords, IsMachineOfWords}
-use Rattle.machine_effects.specs.Laws.{LeavesWords, MachineWordsStayWords, CodeWordsStayWords, WordsStayWords, StepLeavesItWhole, MachineIsOfWords, PowerUpKeepsWords, FreshIsWhole}
+use Rattle.machine_effects.specs.Laws.{LeavesWords, MachineWordsStayWords, CodeWordsStayWords, WordsStayWords, StepLeavesItWhole, MachineIsOfWords}
+use Rattle.machine_effects.specs.Laws.{PowerUpKeepsWords, FreshIsWhole}
 use Rattle.machine_effects.proofs.Alike.{SameBus, buses_alike}
 use Rattle.machine_effects.proofs.Along.{IsClosed, InstructionHas, Gives, effect_gives}
 use Rattle.machine_effects.proofs.Steps.{begins}
-use Rattle.machine_effects.proofs.Values.{IsSmall, AreSmall, narrow_small, sum_small, constant_small, status_small, two_small, rotate_small, shift_small, exchange_small, extend_small, byte_small, bytes_small, kept_small, with_small}
+use Rattle.machine_effects.proofs.Values.{IsSmall, AreSmall, narrow_small, sum_small, constant_small, status_small, two_small, rotate_small, shift_small}
+use Rattle.machine_effects.proofs.Values.{exchange_small, extend_small, byte_small, bytes_small, kept_small, with_small}
 
 -- what the machine's bus holds are words
 record OfWords (t : MachineBus) : Type 0 where

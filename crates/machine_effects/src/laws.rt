@@ -1,6 +1,9 @@
 //! Laws of the machine. The functions do nothing: their contracts are the laws.
 
-ghost use Rattle.machine_effects.specs.Laws.{BoardStepsAsMachine, MachineStepsAsBoard, MachineStepsInOneWay, MachineRunsInOneWay, CodeChangesByEffects, MachineChangesByEffects, MachineWordsStayWords, CodeWordsStayWords, WordsStayWords, StepLeavesItWhole, MachineIsOfWords, PowerUpIsTheMachines, PowerUpKeepsWords, FreshMachine, FreshIsWhole, ChargesAlike, ChargeBoardsAlike, ChargeLeavesItWhole, ChargeKeepsWords, ChargeAcceptsBySends, WorldByItsParts};
+ghost use Rattle.machine_effects.specs.Laws.{BoardStepsAsMachine, MachineStepsAsBoard, MachineStepsInOneWay, MachineRunsInOneWay, CodeChangesByEffects};
+ghost use Rattle.machine_effects.specs.Laws.{MachineChangesByEffects, MachineWordsStayWords, CodeWordsStayWords, WordsStayWords, StepLeavesItWhole};
+ghost use Rattle.machine_effects.specs.Laws.{MachineIsOfWords, PowerUpIsTheMachines, PowerUpKeepsWords, FreshMachine, FreshIsWhole, ChargesAlike};
+ghost use Rattle.machine_effects.specs.Laws.{ChargeBoardsAlike, ChargeLeavesItWhole, ChargeKeepsWords, ChargeAcceptsBySends, WorldByItsParts};
 
 /// Each step of a whole board is the machine's step, with the same effects and cycles, or the same stop with the readings
 /// that were taken before it; and each step of the machine that a board is, is a step of the board.

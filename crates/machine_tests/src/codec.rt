@@ -2,7 +2,10 @@
 use msp_cycles::cycles;
 use msp_decode::{Illegal, decode, words_of};
 use msp_encode::encode;
-use msp_isa::{Condition, Dst, IndexRegister, Instr, Konst, Offset, OneOp, Operand, Reg, SourceRegister, Src, TwoOp, Width};
+use msp_isa::{
+    Condition, Dst, IndexRegister, Instr, Konst, Offset, OneOp, Operand, Reg, SourceRegister, Src,
+    TwoOp, Width,
+};
 use std::process::Abort;
 
 /// The instruction has these words and cycles, and the words decode to it.

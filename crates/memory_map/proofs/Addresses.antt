@@ -9,7 +9,8 @@ use Rattle.memory_map.specs.declared.place.VariablePlace.TheVariants.{Scalar, Ar
 use Rattle.memory_map.specs.declared.place.PrivateScalar.{PrivateScalar}
 use Rattle.memory_map.specs.MemoryMap.{MemoryMap, TaskPlace}
 use Rattle.memory_map.specs.Places.{HasItsPlace, copy_regions, version_regions}
-use Rattle.memory_map.specs.Spots.{places_of, copy_among, home_of, home_in, copy_else, address_of, Element, IsElement, IsCopied, IsScalarAt, IsScalarPlace, element_in, copy_in, version_in, element_address, copy_address, version_address, IsWordOf}
+use Rattle.memory_map.specs.Spots.{places_of, copy_among, home_of, home_in, copy_else, address_of, Element, IsElement, IsCopied, IsScalarAt, IsScalarPlace}
+use Rattle.memory_map.specs.Spots.{element_in, copy_in, version_in, element_address, copy_address, version_address, IsWordOf}
 use Rattle.memory_map.proofs.InRegions.{IsIn, IsSingle, alone, alone_is}
 
 -- ---- one region of a kind for each variable

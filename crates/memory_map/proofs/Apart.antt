@@ -17,14 +17,16 @@ pub mapped : {A B : Type 0} (f : A → B) (xs : List A) (i : ℕ) (a : A) → sl
 mapped f xs i a e = slice_get-map f xs i ∙ ap (option_map f) e
 
 pub homes_apart : (l : MemoryMap) → IsLaidOut l → HomesAreApart l
-homes_apart l h i j a b lt e f = in_order_apart l.homes.address (map home_region l.variables) (end_of l.homes) i j (home_region a) (home_region b) h.homes lt (mapped home_region l.variables i a e) (mapped home_region l.variables j b f)
+homes_apart l h i j a b lt e f = in_order_apart l.homes.address (map home_region l.variables) (end_of l.homes) i j (home_region a) (home_region b) h.homes lt
+    (mapped home_region l.variables i a e) (mapped home_region l.variables j b f)
 
 -- one region among others
 pub contained : (from : ℕ) (rs : List Region) (end : ℕ) (r : Region) → AreInOrder from rs end → Contains rs r → Within from r end
 contained from rs end r h (k, l, e) = in_order_within from rs end k r h (slice_get-get_or rs k r l ∙ ap Some e)
 
 -- the regions of one variable among those of all
-pub among : (f : VariablePlace → List Region) (from : ℕ) (vs : List VariablePlace) (end : ℕ) (i : ℕ) (a : VariablePlace) (r : Region) → AreInOrder from (flat_map f vs) end → slice_get vs i ≡ Some a → Contains (f a) r → Within from r end
+pub among : (f : VariablePlace → List Region) (from : ℕ) (vs : List VariablePlace) (end : ℕ) (i : ℕ) (a : VariablePlace) (r : Region)
+    → AreInOrder from (flat_map f vs) end → slice_get vs i ≡ Some a → Contains (f a) r → Within from r end
 among f from [] end i a r h e c = let no : None ≡ Some a = e in cc
 among f from (v ∷ vs) end zero a r h e c =
     let same : v ≡ a = cc in
@@ -39,7 +41,8 @@ among f from (v ∷ vs) end (suc i) a r h e c =
     record { from = let x = w.from in omega (arith, x, front); even = w.even; end = w.end }
 
 -- the regions of a later variable stand behind those of an earlier one
-pub later : (f : VariablePlace → List Region) (from : ℕ) (vs : List VariablePlace) (end : ℕ) (i j : ℕ) (a b : VariablePlace) (r q : Region) → AreInOrder from (flat_map f vs) end → i < j → slice_get vs i ≡ Some a → slice_get vs j ≡ Some b
+pub later : (f : VariablePlace → List Region) (from : ℕ) (vs : List VariablePlace) (end : ℕ) (i j : ℕ) (a b : VariablePlace) (r q : Region)
+    → AreInOrder from (flat_map f vs) end → i < j → slice_get vs i ≡ Some a → slice_get vs j ≡ Some b
     → Contains (f a) r → Contains (f b) q → end_of r ≤ q.address
 later f from [] end i j a b r q h l e g c d = let no : None ≡ Some a = e in cc
 later f from (v ∷ vs) end zero zero a b r q h l e g c d = absurd (omega arith)
@@ -60,7 +63,8 @@ pub copies_apart : (l : MemoryMap) → IsLaidOut l → CopiesAreApart l
 copies_apart l h = record {
   from_each_other = λ i j a b r q lt e f c d. later copy_regions l.copies.address l.variables (end_of l.copies) i j a b r q h.copies lt e f c d;
   from_homes = λ i j a b q e f d.
-      let home = (in_order_within l.homes.address (map home_region l.variables) (end_of l.homes) i (home_region a) h.homes (mapped home_region l.variables i a e)).end in
+      let home = (in_order_within l.homes.address (map home_region l.variables) (end_of l.homes) i (home_region a) h.homes
+      (mapped home_region l.variables i a e)).end in
       let copy = (among copy_regions l.copies.address l.variables (end_of l.copies) j b q h.copies f d).from in
       let between = (apart_of l h).copies in
       omega (arith, home, copy, between);

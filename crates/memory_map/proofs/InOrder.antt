@@ -14,12 +14,14 @@ pub in_order_higher : (from : ℕ) (rs : List Region) (end high : ℕ) → end �
 in_order_higher from [] end high l h = omega (arith, h)
 in_order_higher from (r ∷ rs) end high l (here, rest) = (here, in_order_higher (end_of r) rs end high l rest)
 
-pub in_order_append : (from : ℕ) (rs : List Region) (mid : ℕ) (qs : List Region) (end : ℕ) → AreInOrder from rs mid → AreInOrder mid qs end → AreInOrder from (rs ++ qs) end
+pub in_order_append : (from : ℕ) (rs : List Region) (mid : ℕ) (qs : List Region) (end : ℕ) → AreInOrder from rs mid → AreInOrder mid qs end
+    → AreInOrder from (rs ++ qs) end
 in_order_append from [] mid qs end h k = in_order_lower from mid qs end h k
 in_order_append from (r ∷ rs) mid qs end (here, rest) k = (here, in_order_append (end_of r) rs mid qs end rest k)
 
 -- one region more, right behind the others
-pub in_order_push : (from : ℕ) (rs : List Region) (mid end : ℕ) (r : Region) → r.address ≡ mid → mid % 2 ≡ 0 → end ≡ mid + 2 * r.words → AreInOrder from rs mid → AreInOrder from (rs ++ r ∷ []) end
+pub in_order_push : (from : ℕ) (rs : List Region) (mid end : ℕ) (r : Region) → r.address ≡ mid → mid % 2 ≡ 0 → end ≡ mid + 2 * r.words
+    → AreInOrder from rs mid → AreInOrder from (rs ++ r ∷ []) end
 in_order_push from rs mid end r at even e h =
     in_order_append from rs mid (r ∷ []) end h
     (record { from = omega (arith, at); even = subst (λ a. a % 2 ≡ 0) (sym at) even }, omega (arith, at, e))
@@ -45,7 +47,8 @@ in_order_within from (q ∷ rs) end (suc i) r (here, rest) e =
     record { from = let a = here.from in let b = w.from in omega (arith, a, b); even = w.even; end = w.end }
 
 -- a later region stands behind an earlier one
-pub in_order_apart : (from : ℕ) (rs : List Region) (end : ℕ) (i j : ℕ) (r q : Region) → AreInOrder from rs end → i < j → slice_get rs i ≡ Some r → slice_get rs j ≡ Some q → end_of r ≤ q.address
+pub in_order_apart : (from : ℕ) (rs : List Region) (end : ℕ) (i j : ℕ) (r q : Region) → AreInOrder from rs end → i < j → slice_get rs i ≡ Some r
+    → slice_get rs j ≡ Some q → end_of r ≤ q.address
 in_order_apart from [] end i j r q h l e f = let no : None ≡ Some r = e in cc
 in_order_apart from (x ∷ rs) end zero zero r q h l e f = absurd (omega arith)
 in_order_apart from (x ∷ rs) end zero (suc j) r q (here, rest) l e f =

@@ -6,7 +6,8 @@ use Rattle.memory_map.specs.declared.place.ArrayCopies.{ArrayCopies}
 use Rattle.memory_map.specs.declared.place.VariablePlace.TheVariants.{Scalar, Array}
 use Rattle.memory_map.specs.MemoryMap.{MemoryMap, TaskPlace}
 use Rattle.memory_map.specs.Places.{end_of, HasItsPlace, copy_regions, version_regions, IsLaidOut}
-use Rattle.memory_map.specs.Spots.{places_of, Element, IsElement, IsCopied, IsScalarAt, IsArrayAt, Spot, scalar, element, copy, version, IsSpot, spot_address, IsWordOf, SpotsAreApart}
+use Rattle.memory_map.specs.Spots.{places_of, Element, IsElement, IsCopied, IsScalarAt, IsArrayAt, Spot, scalar, element, copy, version, IsSpot, spot_address}
+use Rattle.memory_map.specs.Spots.{IsWordOf, SpotsAreApart}
 use Rattle.memory_map.proofs.Parts.{apart_of, parts_in_fram}
 use Rattle.memory_map.proofs.InRegions.{IsIn, IsBetween, within, one_word}
 use Rattle.memory_map.proofs.Homes.{home_between, one_home}
@@ -151,7 +152,8 @@ module _ (l : MemoryMap) (h : IsLaidOut l) where
     distinct (scalar v) (copy x) k m e = absurd (scalar_copy v x _ k m (word_of v _ k e) (copy_at x _ m refl))
     distinct (scalar v) (version x) k m e = absurd (scalar_version v x _ (word_of v _ k e) (version_at x _ m refl))
     distinct (element x) (scalar w) k m e = absurd (scalar_element w x _ m k (word_of w _ m refl) (home_at x _ k e))
-    distinct (element x) (element y) k m e = ap element (same_element x y (one_home l h x.array x.index y.array y.index _ (home_at x _ k e) (home_at y _ m refl)))
+    distinct (element x) (element y) k m e = ap element
+        (same_element x y (one_home l h x.array x.index y.array y.index _ (home_at x _ k e) (home_at y _ m refl)))
     distinct (element x) (copy y) k m e = absurd (home_not_copy x.array x.index y.array y.index _ (home_at x _ k e) (copy_at y _ m refl))
     distinct (element x) (version y) k m e = absurd (version_not_home y.array y.index x.array x.index _ (version_at y _ m refl) (home_at x _ k e))
     distinct (copy x) (scalar w) k m e = absurd (scalar_copy w x _ m k (word_of w _ m refl) (copy_at x _ k e))

@@ -5,7 +5,8 @@ use Rattle.crash_rules.specs.fram_board.declared.board.Stepped.{Stepped}
 use Rattle.crash_rules.specs.fram_board.Board.{BoardValue, PowerState, powered, executed, IsNextInstruction}
 use Rattle.crash_rules.specs.fram_board.Steps.{IsPowerState}
 use Rattle.crash_rules.specs.fram_board.Effects.{Effect}
-use Rattle.crash_rules.specs.fram_board.Run.{Measure, price, Moment, moment_of, Charges, Stopped, RunOutcome, run_outcome, BoardCharge, ChargeRun, Spent, NoInstruction}
+use Rattle.crash_rules.specs.fram_board.Run.{Measure, price, Moment, moment_of, Charges, Stopped, RunOutcome, run_outcome, BoardCharge, ChargeRun, Spent}
+use Rattle.crash_rules.specs.fram_board.Run.{NoInstruction}
 use Rattle.crash_rules.specs.fram_board.Run.{TooDear, Refused, Executed, Run, Over, Next, Last}
 use Rattle.crash_rules.proofs.fram_board.Interface.{price_low}
 use Rattle.crash_rules.specs.machine_effects.World.{world_after}
@@ -15,7 +16,8 @@ use Rattle.crash_rules.proofs.machine_effects.Interface.{power_up_keeps_words}
 use Rattle.crash_rules.specs.History.{History, is_done, is_decide, behind_boot, behind_done, behind_decide, behind_gate, observe}
 use Rattle.crash_rules.proofs.Interface.{observed_taken, with_effects}
 use Rattle.run_charges.specs.Charges.{behind_action, observed}
-use Rattle.run_charges.proofs.Interface.{IsMomentFrom, PowersUp, Instructs, AreMoments, front_moments, told, whole_after, words_after, one_write, readings_counted, readings_stay}
+use Rattle.run_charges.proofs.Interface.{IsMomentFrom, PowersUp, Instructs, AreMoments, front_moments, told, whole_after, words_after, one_write}
+use Rattle.run_charges.proofs.Interface.{readings_counted, readings_stay}
 use Rattle.model_runs.proofs.Events.{seen}
 use Rattle.run_charges.specs.Laws.{IsRunOfWords}
 use Rattle.model_runs.specs.Runs.{all_amounts}

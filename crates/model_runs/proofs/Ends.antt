@@ -5,7 +5,8 @@ use Rattle.crash_rules.specs.msp_step.declared.machine.Stop.TheVariants as stop
 use Rattle.crash_rules.specs.fram_board.Board.{BoardValue, powered, executed}
 use Rattle.crash_rules.specs.fram_board.Steps.{IsPowerState}
 use Rattle.crash_rules.specs.fram_board.Effects.{Effect, Take}
-use Rattle.crash_rules.specs.fram_board.Run.{Measure, price, Moment, Charges, Stopped, RunOutcome, run_outcome, BoardCharge, ChargeRun, Spent, NoInstruction, TooDear, Refused, Executed, Run, Over, Next, Last, power_up_of}
+use Rattle.crash_rules.specs.fram_board.Run.{Measure, price, Moment, Charges, Stopped, RunOutcome, run_outcome, BoardCharge, ChargeRun, Spent, NoInstruction}
+use Rattle.crash_rules.specs.fram_board.Run.{TooDear, Refused, Executed, Run, Over, Next, Last, power_up_of}
 use Rattle.crash_rules.specs.machine_effects.World.{World, EachStore}
 use Rattle.crash_rules.specs.machine_effects.Going.{Halted, stretch, going}
 use Rattle.crash_rules.specs.machine_effects.Machine.{MachineBoard}

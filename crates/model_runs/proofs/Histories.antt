@@ -1,5 +1,6 @@
 -- The two histories over the moments of a run.
-use Rattle.std.proofs.Common.{◌≡◌, ℕ, suc, ◌+◌, ◌%◌, refl, sym, ap, ap₂, ◌∙◌, subst, arith, List, [], ◌∷◌, ◌++◌, length, append_assoc, length-append, append-nil, Some, Ok}
+use Rattle.std.proofs.Common.{◌≡◌, ℕ, suc, ◌+◌, ◌%◌, refl, sym, ap, ap₂, ◌∙◌, subst, arith, List, [], ◌∷◌, ◌++◌, length, append_assoc, length-append}
+use Rattle.std.proofs.Common.{append-nil, Some, Ok}
 use Rattle.crash_rules.specs.msp_isa.declared.instructions.Instr.{Instr}
 use Rattle.crash_rules.specs.image_map.MapValue.{MapValue}
 use Rattle.crash_rules.specs.image_map.Kept.{IsMap}
@@ -22,7 +23,8 @@ use Rattle.crash_rules.proofs.Interface.{with_effects, observed_world, observed_
 use Rattle.run_charges.specs.Charges.{behind_action, observed}
 use Rattle.model_runs.specs.Events.{TellsOf, last_world, counted, SaysAlike, SaysTheSame, done_lines, dones_lines}
 use Rattle.model_runs.specs.EventLaws.{HistoriesStayTheSame, FirstHistoriesAreTheSame}
-use Rattle.run_charges.proofs.Interface.{IsMomentFrom, PowersUp, Instructs, AreMoments, front_moments, whole_after, words_after, fram_changed, one_write, words_accepted, words_counted, readings_counted}
+use Rattle.run_charges.proofs.Interface.{IsMomentFrom, PowersUp, Instructs, AreMoments, front_moments, whole_after, words_after, fram_changed, one_write}
+use Rattle.run_charges.proofs.Interface.{words_accepted, words_counted, readings_counted}
 use Rattle.model_runs.proofs.Places.{world_word, shared_in, values_same}
 use Rattle.model_runs.proofs.Events.{seen, last-append, words_keep_gate, gated_from, gate_lines, Told, event_alike, event_told, words_told}
 
@@ -128,7 +130,8 @@ module _ (m : MapValue) (x : World) (ok : IsMap m) where
     taken_now = readings_counted b t.whole i done current answer k t.tells.taken
 
     count_now : TakesNextBehind (world_after es k.world).accepted after.receiver
-    count_now = ap (λ y. length y.accepted % 0x10000) (world_by_its_parts es k.world) ∙ words_counted b t.whole i done current answer k.world.accepted t.tells.accepted
+    count_now = ap (λ y. length y.accepted % 0x10000) (world_by_its_parts es k.world) ∙ words_counted b t.whole i done current answer k.world.accepted
+        t.tells.accepted
 
     moved_tells : TellsOf after moved
     moved_tells = record { fram = fram_now; accepted = count_now; taken = taken_now }

@@ -4,7 +4,8 @@ use Rattle.crash_rules.specs.msp_isa.declared.instructions.Instr.{Instr}
 use Rattle.crash_rules.specs.msp_cycles.Cycles.{cycles_of}
 use Rattle.crash_rules.specs.fram_board.Board.{BoardValue, powered, IsNextInstruction}
 use Rattle.crash_rules.specs.fram_board.Steps.{IsPowerState}
-use Rattle.crash_rules.specs.fram_board.Run.{Measure, Cycles, Moment, Charges, RunOutcome, run_outcome, BoardCharge, ChargeRun, Run, Over, Next, Last, power_up_of}
+use Rattle.crash_rules.specs.fram_board.Run.{Measure, Cycles, Moment, Charges, RunOutcome, run_outcome, BoardCharge, ChargeRun, Run, Over, Next, Last}
+use Rattle.crash_rules.specs.fram_board.Run.{power_up_of}
 use Rattle.crash_rules.specs.machine_effects.World.{World}
 use Rattle.crash_rules.specs.machine_effects.Going.{At, stretch, after_effects, going}
 use Rattle.crash_rules.specs.machine_effects.Machine.{MachineBoard, MachineOutcome, MachineStretch, machine_executed}

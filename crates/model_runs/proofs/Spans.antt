@@ -3,7 +3,8 @@ use Rattle.std.proofs.Common.{◌≡◌, ℕ, ◌≤◌, refl, sym, ap, ◌∙�
 use Rattle.crash_rules.specs.fram_board.Board.{BoardValue, powered}
 use Rattle.crash_rules.specs.fram_board.Steps.{IsPowerState}
 use Rattle.crash_rules.specs.fram_board.Effects.{Effect}
-use Rattle.crash_rules.specs.fram_board.Run.{Measure, Moment, RunOutcome, BoardCharge, ChargeRun, Run, Over, Next, Last, power_up_of, Charges, Stopped, run_outcome}
+use Rattle.crash_rules.specs.fram_board.Run.{Measure, Moment, RunOutcome, BoardCharge, ChargeRun, Run, Over, Next, Last, power_up_of, Charges, Stopped}
+use Rattle.crash_rules.specs.fram_board.Run.{run_outcome}
 use Rattle.crash_rules.specs.machine_effects.World.{World, world_after_one}
 use Rattle.crash_rules.specs.machine_effects.Going.{going}
 use Rattle.crash_rules.specs.machine_effects.Machine.{MachineBoard}
@@ -11,7 +12,8 @@ use Rattle.crash_rules.specs.machine_effects.View.{machine_of}
 use Rattle.crash_rules.specs.machine_effects.Runs.{last_board, ReachesAs}
 use Rattle.crash_rules.proofs.machine_effects.Interface.{power_up_keeps_words, charge_boards_alike}
 use Rattle.crash_rules.specs.Model.{Model}
-use Rattle.crash_rules.specs.History.{Done, History, is_done, is_decide, with_effect, behind_boot, behind_done, behind_decide, behind_gate, observe_one, observe, first_history}
+use Rattle.crash_rules.specs.History.{Done, History, is_done, is_decide, with_effect, behind_boot, behind_done, behind_decide, behind_gate, observe_one}
+use Rattle.crash_rules.specs.History.{observe, first_history}
 use Rattle.crash_rules.specs.Runs.{Program, Charge, Charged}
 use Rattle.crash_rules.specs.Laws.{Origin, Resting, Pending, AreConsecutive, FollowFirst}
 use Rattle.crash_rules.proofs.Interface.{spans_follow, pending_spans_follow}

@@ -56,7 +56,8 @@ module _ (P : World → Type 0) (gate : ℕ) where
       let up = power_up_keeps_words b p h.whole h.words ok in
       subst Q (sym e) (record { whole = up.0; words = up.1; start = h.world; world = h.world })
   behind_moment b k h m (Instructs i done c a e) now =
-      let Q : Moment → Type 0 = λ y. P (behind_action gate y.action y.before y.after k).world → Begun y.after (behind_action gate y.action y.before y.after k) in
+      let Q : Moment → Type 0 = λ y. P (behind_action gate y.action y.before y.after k).world
+      → Begun y.after (behind_action gate y.action y.before y.after k) in
       subst Q (sym e) (behind_instruction b k h i done c a) now
 
   -- what holds of the world at each front, and at first of the last boot or done, holds of the last boot or done behind all moments

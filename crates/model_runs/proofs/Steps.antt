@@ -7,7 +7,8 @@ use Rattle.crash_rules.specs.msp_step.Access.{Access, Completed, Faulted}
 use Rattle.crash_rules.specs.msp_step.Effect.{Written}
 use Rattle.crash_rules.specs.msp_step.Step.{effect}
 use Rattle.crash_rules.specs.machine_effects.Going.{Goes, Stops, At, Halted, stretch, continued}
-use Rattle.crash_rules.specs.machine_effects.Machine.{MachineBus, MachineBoard, MachineOutcome, MachineStretch, MachineRun, Stays, Halts, Steps, IsMachineStep, machine_bus, machine_opened, machine_outcome, machine_executed}
+use Rattle.crash_rules.specs.machine_effects.Machine.{MachineBus, MachineBoard, MachineOutcome, MachineStretch, MachineRun, Stays, Halts, Steps}
+use Rattle.crash_rules.specs.machine_effects.Machine.{IsMachineStep, machine_bus, machine_opened, machine_outcome, machine_executed}
 use Rattle.crash_rules.specs.Runs.{IsSpent}
 
 -- a step that takes, or would take, so many cycles

@@ -1,6 +1,7 @@
 //! Laws of a board's run and a model. The functions do nothing: their contracts are the laws.
 
-ghost use Rattle.model_runs.specs.Laws.{DonesAreFew, FrontsAreLawful, MakesProgress, SpansAreInOrder, SpansPastAreInOrder, StopsWhereShort, TakesWhatIsThere, WordsStayWithin};
+ghost use Rattle.model_runs.specs.Laws.{DonesAreFew, FrontsAreLawful, MakesProgress, SpansAreInOrder, SpansPastAreInOrder, StopsWhereShort, TakesWhatIsThere};
+ghost use Rattle.model_runs.specs.Laws.{WordsStayWithin};
 ghost use Rattle.model_runs.specs.EventLaws.{FirstHistoriesAreTheSame, HistoriesStayTheSame, LinesAreOfDones, ReportIsOfDones, FewWordsHaveLines};
 
 /// What a report's history and a history by effects say as a run begins is the same.

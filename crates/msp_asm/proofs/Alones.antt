@@ -68,22 +68,26 @@ one_len a v (Call s) = ap suc (source_len a v s)
 
 -- values change no length
 fill_len : (a x y : ℕ) (i : Instr) → length (encoding (fill a x y i)) ≡ length (encoding i)
-fill_len a x y (instr.Two op w s d) = ap suc (append_len _ _ _ _ (source_len (words_on 1 a) x s) (destination_len (words_on (1 + length (source_row s).extension) a) y d))
+fill_len a x y (instr.Two op w s d) = ap suc (append_len _ _ _ _ (source_len (words_on 1 a) x s)
+    (destination_len (words_on (1 + length (source_row s).extension) a) y d))
 fill_len a x y (instr.One op) = one_len (words_on 1 a) x op
 fill_len a x y (instr.Jump c o) = refl
 fill_len a x y instr.Reti = refl
 
-moved_on : (a x y : ℕ) (i : Instr) (ws : List ℕ) → Some (encoding (fill a x y i)) ≡ Some ws → (a + 2 * length (encoding i)) % 65536 ≡ (a + 2 * length ws) % 65536
+moved_on : (a x y : ℕ) (i : Instr) (ws : List ℕ) → Some (encoding (fill a x y i)) ≡ Some ws
+    → (a + 2 * length (encoding i)) % 65536 ≡ (a + 2 * length ws) % 65536
 moved_on a x y i ws h = ap (λ n. (a + 2 * n) % 65536) (sym (fill_len a x y i) ∙ ap length (ap (some_of []) h))
 
 -- an instruction of which both values, where there are any, are numbers in range
-instr_gives : (a : ℕ) (i : Instr) (ws : List ℕ) (s d : Option ValueMeaning) → statement_alone a (instruction (record { instr = i; source = s; destination = d })) ≡ Some ws
+instr_gives : (a : ℕ) (i : Instr) (ws : List ℕ) (s d : Option ValueMeaning)
+    → statement_alone a (instruction (record { instr = i; source = s; destination = d })) ≡ Some ws
     → GivesWords a (record { label = None; statement = instruction (record { instr = i; source = s; destination = d }) }) ws
 unfolding line_fault line_words
 instr_gives a i ws None None h = record { fine = λ f k. refl; no_org = refl; words = λ f. ap (some_of []) h; next = moved_on a 0 0 i ws h }
 instr_gives a i ws None (Some (number y)) h = record { fine = λ f k. refl; no_org = refl; words = λ f. ap (some_of []) h; next = moved_on a 0 y i ws h }
 instr_gives a i ws (Some (number x)) None h = record { fine = λ f k. refl; no_org = refl; words = λ f. ap (some_of []) h; next = moved_on a x 0 i ws h }
-instr_gives a i ws (Some (number x)) (Some (number y)) h = record { fine = λ f k. refl; no_org = refl; words = λ f. ap (some_of []) h; next = moved_on a x y i ws h }
+instr_gives a i ws (Some (number x)) (Some (number y)) h =
+    record { fine = λ f k. refl; no_org = refl; words = λ f. ap (some_of []) h; next = moved_on a x y i ws h }
 instr_gives a i ws None (Some (out_of_range y)) h = cc
 instr_gives a i ws None (Some (label y)) h = cc
 instr_gives a i ws None (Some here) h = cc
@@ -104,7 +108,8 @@ statement_gives a (jump c (label p)) ws h = cc
 statement_gives a (jump c here) ws h = cc
 statement_gives a (instruction t) ws h = instr_gives a t.instr ws t.source t.destination h
 
-meaning_by : (a : ℕ) (name : Option Located) (s : StatementMeaning) (ws : List ℕ) → meaning_alone a (record { label = name; statement = s }) ≡ Some ws → GivesWords a (record { label = name; statement = s }) ws
+meaning_by : (a : ℕ) (name : Option Located) (s : StatementMeaning) (ws : List ℕ) → meaning_alone a (record { label = name; statement = s }) ≡ Some ws
+    → GivesWords a (record { label = name; statement = s }) ws
 meaning_by a None s ws h = statement_gives a s ws h
 meaning_by a (Some name) s ws h = cc
 

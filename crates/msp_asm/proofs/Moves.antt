@@ -49,7 +49,8 @@ label_alike (Some p) None ws vs h e = absurd h
 label_alike (Some p) (Some q) ws vs h e = refl
 
 meaning_alike : (a : ℕ) (l m : LineMeaning) → LineSame l m → meaning_alone a l ≡ meaning_alone a m
-meaning_alike a l m h = label_alike l.label m.label (statement_alone a l.statement) (statement_alone a m.statement) h.0 (statement_alike a l.statement m.statement h.1)
+meaning_alike a l m h = label_alike l.label m.label (statement_alone a l.statement) (statement_alone a m.statement) h.0
+    (statement_alike a l.statement m.statement h.1)
 
 -- there is a meaning that gives these words
 abbrev pub Says : ℕ → Option LineMeaning → List ℕ → Type 0

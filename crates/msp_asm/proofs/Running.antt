@@ -44,7 +44,8 @@ placed_more : (f : Table) (n a : ℕ) (m : List (Option ℕ)) (ls rest : List Lo
 unfolding placed
 placed_more f n a m ls rest l e = rw e refl
 
-pub placed_bad : (f : Table) (n a : ℕ) (m : List (Option ℕ)) (ls rest : List Located) (l : Located) → ls ≡ l ∷ rest → None ≡ line_of l → placed f n a m ls ≡ Err (fault.BadLine n)
+pub placed_bad : (f : Table) (n a : ℕ) (m : List (Option ℕ)) (ls rest : List Located) (l : Located) → ls ≡ l ∷ rest → None ≡ line_of l
+    → placed f n a m ls ≡ Err (fault.BadLine n)
 placed_bad f n a m ls rest l e h = placed_more f n a m ls rest l e
     ∙ ap (λ o. said n o >>= λ s. line_into f n a s m >>= λ m. placed f (n + 1) (after a s.statement) m rest) (sym h)
 
@@ -54,9 +55,11 @@ placed_line : (f : Table) (n a : ℕ) (m : List (Option ℕ)) (ls rest : List Lo
 placed_line f n a m ls rest l s e h = placed_more f n a m ls rest l e
     ∙ ap (λ o. said n o >>= λ s. line_into f n a s m >>= λ m. placed f (n + 1) (after a s.statement) m rest) (sym h)
 
-pub placed_fault : (f : Table) (n a : ℕ) (m : List (Option ℕ)) (ls rest : List Located) (l : Located) (s : LineMeaning) (e : AsmFault) → ls ≡ l ∷ rest → Some s ≡ line_of l
+pub placed_fault : (f : Table) (n a : ℕ) (m : List (Option ℕ)) (ls rest : List Located) (l : Located) (s : LineMeaning) (e : AsmFault) → ls ≡ l ∷ rest
+    → Some s ≡ line_of l
     → Fails e (line_into f n a s m) → Fails e (placed f n a m ls)
-placed_fault f n a m ls rest l s e i h fails = rw (placed_line f n a m ls rest l s i h) (fails_bind e _ (λ m. placed f (n + 1) (after a s.statement) m rest) fails)
+placed_fault f n a m ls rest l s e i h fails = rw (placed_line f n a m ls rest l s i h)
+    (fails_bind e _ (λ m. placed f (n + 1) (after a s.statement) m rest) fails)
 
 pub placed_next : (f : Table) (n a b : ℕ) (m k : List (Option ℕ)) (ls rest : List Located) (l : Located) (s : LineMeaning) → ls ≡ l ∷ rest → Some s ≡ line_of l
     → line_into f n a s m ≡ Ok k → b ≡ after a s.statement → placed f (n + 1) b k rest ≡ placed f n a m ls
@@ -70,7 +73,8 @@ placed_end f n a m ls e = rw e refl
 abbrev whole : List ℕ → Located
 whole text = record { at = 0; text = text }
 
-pub assembled_bad : (e : AsmFault) (text : List ℕ) (p : Located) → p ≡ whole text → Fails e (labels_of no_labels 1 0x4400 (lines_left (Some p))) → Fails e (assembled text)
+pub assembled_bad : (e : AsmFault) (text : List ℕ) (p : Located) → p ≡ whole text → Fails e (labels_of no_labels 1 0x4400 (lines_left (Some p)))
+    → Fails e (assembled text)
 unfolding assembled
 assembled_bad e text p i h = let P : Located → Type 0 = λ p. Fails e (labels_of no_labels 1 0x4400 (lines_left (Some p))) in
     fails_bind e (labels_of no_labels 1 0x4400 (lines_in text)) (λ f. placed f 1 0x4400 (empty 24064) (lines_in text) >>= λ m. Ok (all_words m)) (subst P i h)
@@ -78,13 +82,15 @@ assembled_bad e text p i h = let P : Located → Type 0 = λ p. Fails e (labels_
 second_pass : (f : Table) (text : List ℕ) (p : Located) → p ≡ whole text → labels_of no_labels 1 0x4400 (lines_left (Some p)) ≡ Ok f
     → assembled text ≡ (placed f 1 0x4400 (empty 24064) (lines_left (Some p)) >>= λ m. Ok (all_words m))
 unfolding assembled
-second_pass f text p i h = ap (λ r. r >>= λ f. placed f 1 0x4400 (empty 24064) (lines_in text) >>= λ m. Ok (all_words m)) (ap (λ p. labels_of no_labels 1 0x4400 (lines_left (Some p))) (sym i) ∙ h)
+second_pass f text p i h = ap (λ r. r >>= λ f. placed f 1 0x4400 (empty 24064) (lines_in text) >>= λ m. Ok (all_words m))
+    (ap (λ p. labels_of no_labels 1 0x4400 (lines_left (Some p))) (sym i) ∙ h)
     ∙ ap (λ p. placed f 1 0x4400 (empty 24064) (lines_left (Some p)) >>= λ m. Ok (all_words m)) (sym i)
 
 pub assembled_fault : (e : AsmFault) (f : Table) (text : List ℕ) (p : Located) → p ≡ whole text → labels_of no_labels 1 0x4400 (lines_left (Some p)) ≡ Ok f
     → Fails e (placed f 1 0x4400 (empty 24064) (lines_left (Some p))) → Fails e (assembled text)
 assembled_fault e f text p i h fails = rw (second_pass f text p i h) (fails_bind e _ (λ m. Ok (all_words m)) fails)
 
-pub assembled_done : (f : Table) (m : List (Option ℕ)) (text : List ℕ) (p : Located) → p ≡ whole text → labels_of no_labels 1 0x4400 (lines_left (Some p)) ≡ Ok f
+pub assembled_done : (f : Table) (m : List (Option ℕ)) (text : List ℕ) (p : Located) → p ≡ whole text
+    → labels_of no_labels 1 0x4400 (lines_left (Some p)) ≡ Ok f
     → placed f 1 0x4400 (empty 24064) (lines_left (Some p)) ≡ Ok m → assembled text ≡ Ok (all_words m)
 assembled_done f m text p i h k = second_pass f text p i h ∙ ap (λ r. r >>= λ m. Ok (all_words m)) k

@@ -33,7 +33,8 @@ IsNext a ws line n = ((i : Instr) × Stands a ws i × (line ≡ instr_line a i) 
 abbrev pub AreLinesOf : ℕ → ℕ → List ℕ → List ℕ → Type 0
 AreLinesOf a skip [] text = text ≡ []
 AreLinesOf a (suc skip) (w ∷ ws) text = AreLinesOf (a + 2) skip ws text
-AreLinesOf a zero (w ∷ ws) text = (line : List ℕ) × (n : ℕ) × (rest : List ℕ) × IsNext a (w ∷ ws) line n × (text ≡ line ++ rest) × AreLinesOf (a + 2) (n - 1) ws rest
+AreLinesOf a zero (w ∷ ws) text = (line : List ℕ) × (n : ℕ) × (rest : List ℕ) × IsNext a (w ∷ ws) line n × (text ≡ line ++ rest)
+    × AreLinesOf (a + 2) (n - 1) ws rest
 
 -- a section's `.org` and its lines
 abbrev pub IsSectionOf : ℕ → List ℕ → List ℕ → Type 0

@@ -1,5 +1,6 @@
 //! Images written as assembler texts.
-ghost use Rattle.std.specs.Prelude.{◌≡◌, ◌≢◌, ◌<◌, ◌≤◌, ◌+◌, ◌*◌, ◌^◌, ◌++◌, [], List, ℕ, All, zero, length, true, false, Some, Ok, IfSome, IfNone, OnOk, OnErr, slice_index, slice_index_or};
+ghost use Rattle.std.specs.Prelude.{◌≡◌, ◌≢◌, ◌<◌, ◌≤◌, ◌+◌, ◌*◌, ◌^◌, ◌++◌, [], List, ℕ, All, zero, length, true, false, Some, Ok, IfSome, IfNone, OnOk};
+ghost use Rattle.std.specs.Prelude.{OnErr, slice_index, slice_index_or};
 ghost use Rattle.msp_isa.specs.declared.instructions.Instr.{Instr};
 ghost use Rattle.msp_isa.specs.Encoding.{encoding, IsInstruction, IsPrefix};
 ghost use Rattle.msp_asm.specs.Written.{instr_text};

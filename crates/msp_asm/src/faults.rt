@@ -7,7 +7,8 @@ ghost use Rattle.asm_line.specs.ValueViews.{meaning_of};
 ghost use Rattle.asm_line.specs.LineViews.{statement_meaning, template_meaning, line_meaning};
 ghost use Rattle.std.specs.Option.{option_to_list};
 ghost use Rattle.msp_asm.specs.Labels.{label_at};
-ghost use Rattle.msp_asm.specs.Program.{unknown_in, first_unknown, is_out_of_range, any_out_of_range, is_far, is_elsewhere, span_of, repeated_fault, unknown_fault, fault_if, line_fault, values_in};
+ghost use Rattle.msp_asm.specs.Program.{unknown_in, first_unknown, is_out_of_range, any_out_of_range, is_far, is_elsewhere, span_of, repeated_fault};
+ghost use Rattle.msp_asm.specs.Program.{unknown_fault, fault_if, line_fault, values_in};
 
 use crate::fault::AsmFault;
 use crate::labels::{Labels, Place, place_of};

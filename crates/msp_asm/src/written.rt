@@ -3,10 +3,14 @@ ghost use Rattle.std.specs.Prelude.{◌≡◌, ◌≤◌, ◌<◌, ◌+◌, ◌%
 ghost use Rattle.arrayvec.specs.ArrayVec.{array_vec_len};
 ghost use Rattle.asm_line.specs.Filling.{words_on, jump_target};
 ghost use Rattle.msp_isa.specs.Encoding.{source_row};
-ghost use Rattle.msp_asm.specs.Written.{number_text, index_text, readable_text, pointer_text, register_text, indexed_text, operand_text, source_text, destination_text, two_text, condition_text, width_text, one_text, instr_text};
+ghost use Rattle.msp_asm.specs.Written.{number_text, index_text, readable_text, pointer_text, register_text, indexed_text, operand_text, source_text};
+ghost use Rattle.msp_asm.specs.Written.{destination_text, two_text, condition_text, width_text, one_text, instr_text};
 
 use arrayvec::ArrayVec;
-use msp_isa::{Condition, Dst, IndexRegister, IndirectRegister, Instr, Offset, OneOp, Operand, Reg, SourceRegister, Src, TwoOp, Width};
+use msp_isa::{
+    Condition, Dst, IndexRegister, IndirectRegister, Instr, Offset, OneOp, Operand, Reg,
+    SourceRegister, Src, TwoOp, Width,
+};
 use text_parts::upper_hex;
 
 /// A line that is being written.

@@ -85,7 +85,8 @@ const CALL: CycleRow = CycleRow {
 impl CycleRow {
     #[inline(always)]
     fn at_operand(self, operand: Operand) -> u32
-        ensures { result ≡ operand_cycles (cycle_row self.register self.indirect self.increment self.immediate self.indexed self.symbolic self.absolute) operand }
+        ensures { result ≡ operand_cycles (cycle_row self.register self.indirect self.increment self.immediate self.indexed self.symbolic self.absolute)
+            operand }
     {
         match operand {
             Operand::Reg(_) => self.register,

@@ -12,7 +12,8 @@ use Rattle.msp_step.specs.Registers.{Registers}
 use Rattle.msp_cycles.specs.Cycles.{cycles_of}
 use Rattle.msp_step.specs.Access.{BusModel, Access, Completed, Faulted}
 use Rattle.msp_step.specs.Effect.{Written, sum16}
-use Rattle.msp_step.specs.Step.{FetchedAt, IsCurrentInstruction, NotFetched, First, Second, Third, IsStopped, Outcome, outcome_of, effect, execution, StepResult, Stopped, Executed, Costs, off_bit}
+use Rattle.msp_step.specs.Step.{FetchedAt, IsCurrentInstruction, NotFetched, First, Second, Third, IsStopped, Outcome, outcome_of, effect, execution}
+use Rattle.msp_step.specs.Step.{StepResult, Stopped, Executed, Costs, off_bit}
 
 -- an instruction begins with its first word
 begins : {S : Type 0} (bus : BusModel S) (s : S) (pc : ℕ) (i : Instr) → FetchedAt bus s pc (encoding i) → bus.fetches s pc ≡ Some (first_word i)
@@ -38,9 +39,11 @@ in_front bus s pc (x ∷ y ∷ z ∷ []) few f = (sym (ap word_at f.0), (sym (ap
 in_front bus s pc (x ∷ y ∷ z ∷ v ∷ ws) few f = absurd (omega arith)
 
 -- there is one current instruction
-pub same_current : {S : Type 0} (bus : BusModel S) (r : Registers) (s : S) (i j : Instr) → IsCurrentInstruction bus r s i → IsCurrentInstruction bus r s j → i ≡ j
+pub same_current : {S : Type 0} (bus : BusModel S) (r : Registers) (s : S) (i j : Instr) → IsCurrentInstruction bus r s i → IsCurrentInstruction bus r s j
+    → i ≡ j
 same_current bus r s i j a b =
-    same_instruction i j _ _ _ a.is b.is (in_front bus s (r 0) (encoding i) (length_below i) a.fetched) (in_front bus s (r 0) (encoding j) (length_below j) b.fetched)
+    same_instruction i j _ _ _ a.is b.is (in_front bus s (r 0) (encoding i) (length_below i) a.fetched)
+    (in_front bus s (r 0) (encoding j) (length_below j) b.fetched)
 
 some_none : {w : ℕ} {o : Option ℕ} → o ≡ Some w → o ≡ None → ⊥
 some_none a b = let e = sym a ∙ b in cc
@@ -48,12 +51,14 @@ some_none a b = let e = sym a ∙ b in cc
 some_same : {w v : ℕ} {o : Option ℕ} → o ≡ Some w → o ≡ Some v → w ≡ v
 some_same a b = let e = sym a ∙ b in cc
 
-second_there : {S : Type 0} (bus : BusModel S) (s : S) (pc : ℕ) (ws : List ℕ) → 1 < length ws → FetchedAt bus s pc ws → (w : ℕ) × (bus.fetches s (sum16 pc 2) ≡ Some w)
+second_there : {S : Type 0} (bus : BusModel S) (s : S) (pc : ℕ) (ws : List ℕ) → 1 < length ws → FetchedAt bus s pc ws → (w : ℕ)
+    × (bus.fetches s (sum16 pc 2) ≡ Some w)
 second_there bus s pc [] l f = absurd (omega arith)
 second_there bus s pc (x ∷ []) l f = absurd (omega arith)
 second_there bus s pc (x ∷ y ∷ ws) l f = (y, f.1.0)
 
-third_there : {S : Type 0} (bus : BusModel S) (s : S) (pc : ℕ) (ws : List ℕ) → 2 < length ws → FetchedAt bus s pc ws → (w : ℕ) × (bus.fetches s (sum16 (sum16 pc 2) 2) ≡ Some w)
+third_there : {S : Type 0} (bus : BusModel S) (s : S) (pc : ℕ) (ws : List ℕ) → 2 < length ws → FetchedAt bus s pc ws → (w : ℕ)
+    × (bus.fetches s (sum16 (sum16 pc 2) 2) ≡ Some w)
 third_there bus s pc [] l f = absurd (omega arith)
 third_there bus s pc (x ∷ []) l f = absurd (omega arith)
 third_there bus s pc (x ∷ y ∷ []) l f = absurd (omega arith)
@@ -117,11 +122,13 @@ determined bus r s o p (Stopped e h) (Executed i c) = absurd (not_stopped bus r 
 determined bus r s o p (Executed i c) (Stopped e h) = absurd (not_stopped bus r s e i h c)
 determined bus r s o p (Executed i c) (Executed j d) = ap (λ x. execution bus x r s) (same_current bus r s i j c d)
 
-took : {S : Type 0} (i : Instr) (r : Registers) (m : Access S (Registers × Option Written)) (done : Stepped) → (outcome_of i r m).answer ≡ Ok done → done.cycles ≡ cycles_of i
+took : {S : Type 0} (i : Instr) (r : Registers) (m : Access S (Registers × Option Written)) (done : Stepped) → (outcome_of i r m).answer ≡ Ok done
+    → done.cycles ≡ cycles_of i
 took i r (Completed x s) done e = cc
 took i r (Faulted f a s) done e = cc
 
 -- a step takes its cost
-pub takes_its_cost : {S : Type 0} (bus : BusModel S) (r : Registers) (s : S) (o : Outcome S) (done : Stepped) → StepResult bus r s o → o.answer ≡ Ok done → Costs bus r s (Ok done.cycles)
+pub takes_its_cost : {S : Type 0} (bus : BusModel S) (r : Registers) (s : S) (o : Outcome S) (done : Stepped) → StepResult bus r s o → o.answer ≡ Ok done
+    → Costs bus r s (Ok done.cycles)
 takes_its_cost bus r s o done (Stopped e h) is = cc
 takes_its_cost bus r s o done (Executed i c) is = (i, c, took i r (effect bus i r s) done is)

@@ -188,13 +188,15 @@ jump_effect c o r =
     with_register r 0 (if is_met c (flags_of (r 2)) then sum16 next (distance o) else next)
 
 -- what follows the load of a place
-abbrev pub written_back : {S : Type 0} → BusModel S → (Width → ℕ → Flags → Operated) → Width → Location → ℕ → Registers → S → Access S (Registers × Option Written)
+abbrev pub written_back : {S : Type 0} → BusModel S → (Width → ℕ → Flags → Operated) → Width → Location → ℕ → Registers → S
+    → Access S (Registers × Option Written)
 written_back bus f w l v r t =
     let o = f w v (flags_of (r 2)) in
     store bus (with_flags r o.flags) w l o.value t
 
 -- an operation on one place, which is written where it was read
-abbrev pub read_modify_write : {S : Type 0} → BusModel S → (Width → ℕ → Flags → Operated) → Width → Operand → Registers → S → Access S (Registers × Option Written)
+abbrev pub read_modify_write : {S : Type 0} → BusModel S → (Width → ℕ → Flags → Operated) → Width → Operand → Registers → S
+    → Access S (Registers × Option Written)
 read_modify_write bus f w p r s =
     let first = sum16 (r 0) 2 in
     let moved = with_register r 0 first in

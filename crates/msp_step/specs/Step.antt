@@ -16,7 +16,8 @@ use Rattle.msp_step.specs.declared.machine.Stepped.{Stepped}
 use Rattle.msp_step.specs.declared.machine.Words.{Words}
 use Rattle.msp_step.specs.Registers.{Registers}
 use Rattle.msp_step.specs.Access.{BusModel, Access, Completed, Faulted}
-use Rattle.msp_step.specs.Effect.{Written, sum16, two_operand_effect, jump_effect, read_modify_write, rotated, shifted, exchanged, sign_extended, push_effect, call_effect, reti_effect}
+use Rattle.msp_step.specs.Effect.{Written, sum16, two_operand_effect, jump_effect, read_modify_write, rotated, shifted, exchanged, sign_extended, push_effect}
+use Rattle.msp_step.specs.Effect.{call_effect, reti_effect}
 
 -- these words stand at an address, as instructions are fetched
 abbrev pub FetchedAt : {S : Type 0} → BusModel S → S → ℕ → List ℕ → Type 0

@@ -4,7 +4,9 @@ ghost use Rattle.std.specs.Prelude.{◌≡◌, ℕ, ◌+◌, ◌*◌, ◌/◌, �
 ghost use Rattle.msp_step.specs.Access.{Completed, write_at};
 ghost use Rattle.msp_step.specs.Answer.{answer};
 ghost use Rattle.msp_step.specs.Registers.{registers_of, with_register};
-ghost use Rattle.msp_step.specs.Effect.{load, store, source, destination_location, sum16, flags_of, status_with, operated, with_flags, reads_destination, writes_destination, destination_operand, finish, after_source, two_operand_effect, read_modify_write, written_back, modification_of, below_stack, pushed, push_effect, called, call_effect, reti_effect, is_met, distance, jump_effect};
+ghost use Rattle.msp_step.specs.Effect.{load, store, source, destination_location, sum16, flags_of, status_with, operated, with_flags, reads_destination};
+ghost use Rattle.msp_step.specs.Effect.{writes_destination, destination_operand, finish, after_source, two_operand_effect, read_modify_write, written_back};
+ghost use Rattle.msp_step.specs.Effect.{modification_of, below_stack, pushed, push_effect, called, call_effect, reti_effect, is_met, distance, jump_effect};
 ghost use Rattle.msp_isa.specs.Encoding.{source_row, destination_row};
 
 use crate::bus::Bus;
@@ -231,7 +233,8 @@ pub fn read_modify_write<B: Bus>(
     width: Width,
     p: Operand,
 ) -> Result<Option<(u16, u16)>, Fault>
-    ensures { answer (λ a. (registers_of cpu.new, a)) result bus.new ≡ read_modify_write B.model (modification_of change) width p (registers_of cpu.old) bus.old }
+    ensures { answer (λ a. (registers_of cpu.new, a)) result bus.new ≡ read_modify_write B.model (modification_of change) width p (registers_of cpu.old)
+        bus.old }
 {
     let first = cpu.word(0).wrapping_add(2);
     cpu.set(0, first);

@@ -13,5 +13,5 @@ pub use cpu::Cpu;
 pub use laws::{
     effect_writes_once, jumps_by_signed_words, step_is_determined, step_takes_its_cost,
 };
-pub use msp_isa::Width;
 pub use machine::{Stepped, Stop, Words, cost, current_instruction, current_words, execute, step};
+pub use msp_isa::Width;

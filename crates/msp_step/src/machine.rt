@@ -6,7 +6,8 @@ ghost use Rattle.msp_step.specs.Access.{Completed};
 ghost use Rattle.msp_step.specs.Reads.{OnlyReads};
 ghost use Rattle.msp_step.specs.Answer.{answer};
 ghost use Rattle.msp_step.specs.Registers.{registers_of};
-ghost use Rattle.msp_step.specs.Step.{AreWordsAt, AreCurrentWords, one_operand_effect, effect, IsCurrentInstruction, IsNoInstruction, IsStopped, stop_of, execution, StepResult, Costs};
+ghost use Rattle.msp_step.specs.Step.{AreWordsAt, AreCurrentWords, one_operand_effect, effect, IsCurrentInstruction, IsNoInstruction, IsStopped, stop_of};
+ghost use Rattle.msp_step.specs.Step.{execution, StepResult, Costs};
 
 use crate::bus::{Bus, Refused};
 use crate::cpu::Cpu;
@@ -188,7 +189,8 @@ fn stop_of(pc: u16, fault: Fault) -> Stop
 /// as before, and readings that the instruction had taken stay taken.
 #[inline(always)]
 pub fn execute<B: Bus>(cpu: &mut Cpu, bus: &mut B, instruction: &Instr) -> Result<Stepped, Stop>
-    ensures executes { (record { answer = result; registers = registers_of cpu.new; bus = bus.new }) ≡ execution B.model instruction.now (registers_of cpu.old) bus.old }
+    ensures executes { (record { answer = result; registers = registers_of cpu.new; bus = bus.new })
+        ≡ execution B.model instruction.now (registers_of cpu.old) bus.old }
     ensures cpu { OnErr result (cpu.new ≡ cpu.old) }
     ensures reads { OnErr result (OnlyReads B.model 2 bus.old bus.new) }
     ensures memory { OnErr result (B.model.memory bus.new ≡ B.model.memory bus.old) }

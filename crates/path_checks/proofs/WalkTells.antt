@@ -12,7 +12,8 @@ use Rattle.path_checks.proofs.MaskBits.{bit, InGroup}
 use Rattle.path_checks.proofs.Assignments.{Assignment, assignment, assignment_law, assignment_gone, assignment_one, assignment_seq, assignment_join}
 use Rattle.path_checks.proofs.TwoTurns.{IsWell, well_turn, second_turn, second_falls, second_exposed, second_fault}
 use Rattle.path_checks.proofs.WalkLaws.{turned_none, turned_one, turned_settled, turned_more}
-use Rattle.path_checks.proofs.Tells.{Tells, IsBelow, below_both, tells_read, tells_written, tells_unset, tells_gone, tells_joined, tells_nowhere, tells_fresh, tells_after, tells_like, settled_bits, assignment_fresh}
+use Rattle.path_checks.proofs.Tells.{Tells, IsBelow, below_both, tells_read, tells_written, tells_unset, tells_gone, tells_joined, tells_nowhere, tells_fresh}
+use Rattle.path_checks.proofs.Tells.{tells_after, tells_like, settled_bits, assignment_fresh}
 
 -- an assignment for each local and each place
 abbrev Family : Type 0
@@ -25,24 +26,29 @@ law : (x : ℕ) (p : Span) → Lawful (assignment x p)
 law x p = assignment_law x p
 
 -- one more part
-behind : (base : ℕ) (s : Reached) (f g h : Family) → Tells base s (λ x p. assignment_seq (assignment_seq (f x p) (g x p)) (h x p)) → Tells base s (λ x p. assignment_seq (f x p) (assignment_seq (g x p) (h x p)))
+behind : (base : ℕ) (s : Reached) (f g h : Family) → Tells base s (λ x p. assignment_seq (assignment_seq (f x p) (g x p)) (h x p))
+    → Tells base s (λ x p. assignment_seq (f x p) (assignment_seq (g x p) (h x p)))
 behind base s f g h = tells_as base s _ _ (λ x p. (law x p).assoc (f x p) (g x p) (h x p))
 
-split : (base : ℕ) (s : Reached) (f g h : Family) → Tells base s (λ x p. assignment_join (assignment_seq (f x p) (g x p)) (assignment_seq (f x p) (h x p))) → Tells base s (λ x p. assignment_seq (f x p) (assignment_join (g x p) (h x p)))
+split : (base : ℕ) (s : Reached) (f g h : Family) → Tells base s (λ x p. assignment_join (assignment_seq (f x p) (g x p)) (assignment_seq (f x p) (h x p)))
+    → Tells base s (λ x p. assignment_seq (f x p) (assignment_join (g x p) (h x p)))
 split base s f g h = tells_as base s _ _ (λ x p. sym ((law x p).distr_l (f x p) (g x p) (h x p)))
 
 nothing : (base : ℕ) (s : Reached) (f : Family) → Tells base s f → Tells base s (λ x p. assignment_seq (f x p) (assignment x p).unit)
 nothing base s f = tells_as base s _ _ (λ x p. sym ((law x p).unit_r (f x p)))
 
-expression_tells : (base : ℕ) (e : CheckedExpression) (s : Reached) (f : Family) → Tells base s f → Tells base (walk_expression base s e) (λ x p. assignment_seq (f x p) (expression_sum (assignment x p) e))
+expression_tells : (base : ℕ) (e : CheckedExpression) (s : Reached) (f : Family) → Tells base s f
+    → Tells base (walk_expression base s e) (λ x p. assignment_seq (f x p) (expression_sum (assignment x p) e))
 expression_tells base (t.number _) s f h = nothing base s f h
 expression_tells base (t.name n) s f h = tells_read base s n f h
 expression_tells base (t.element n index) s f h =
-    behind base _ f (λ x p. expression_sum (assignment x p) index) (λ x p. assignment_one x p (read n)) (tells_read base _ n _ (expression_tells base index s f h))
+    behind base _ f (λ x p. expression_sum (assignment x p) index) (λ x p. assignment_one x p (read n))
+    (tells_read base _ n _ (expression_tells base index s f h))
 expression_tells base t.sense s f h = nothing base s f h
 expression_tells base (t.unary _ a) s f h = expression_tells base a s f h
 expression_tells base (t.binary _ a b) s f h =
-    behind base _ f (λ x p. expression_sum (assignment x p) a) (λ x p. expression_sum (assignment x p) b) (expression_tells base b _ _ (expression_tells base a s f h))
+    behind base _ f (λ x p. expression_sum (assignment x p) a) (λ x p. expression_sum (assignment x p) b)
+    (expression_tells base b _ _ (expression_tells base a s f h))
 expression_tells base (t.shift _ a _) s f h = expression_tells base a s f h
 expression_tells base (t.short_circuit _ a b) s f h =
     let left = expression_tells base a s f h in
@@ -58,24 +64,32 @@ turned_tells : (base n : ℕ) (s turn again : Reached) (f T : Family) → Tells 
     → (settled s turn ≡ true → Tells base (after s turn) (λ x p. assignment_seq (assignment_seq (f x p) (T x p)) (T x p)))
     → Tells base (after (after s turn) again) (λ x p. assignment_seq (assignment_seq (f x p) (T x p)) (T x p))
     → Tells base (turned n s turn again) (λ x p. assignment_seq (f x p) (turns_sum (assignment x p) n (T x p)))
-turned_tells base zero s turn again f T h one two more = subst (λ r. Tells base r (λ x p. assignment_seq (f x p) (assignment x p).unit)) (sym (turned_none zero s turn again refl)) (nothing base s f h)
-turned_tells base (suc zero) s turn again f T h one two more = subst (λ r. Tells base r (λ x p. assignment_seq (f x p) (T x p))) (sym (turned_one (suc zero) s turn again refl)) one
+turned_tells base zero s turn again f T h one two more =
+    subst (λ r. Tells base r (λ x p. assignment_seq (f x p) (assignment x p).unit)) (sym (turned_none zero s turn again refl)) (nothing base s f h)
+turned_tells base (suc zero) s turn again f T h one two more =
+    subst (λ r. Tells base r (λ x p. assignment_seq (f x p) (T x p))) (sym (turned_one (suc zero) s turn again refl)) one
 turned_tells base (suc (suc n)) s turn again f T h one two more = by_test (settled s turn) refl
   where
     many : Family
     many x p = assignment_seq (f x p) (turns_sum (assignment x p) (suc (suc n)) (T x p))
 
-    twice : (r : Reached) → Tells base r (λ x p. assignment_seq (assignment_seq (f x p) (T x p)) (T x p)) → Tells base r (λ x p. assignment_seq (f x p) (turns_sum (assignment x p) (suc (suc n)) (T x p)))
+    twice : (r : Reached) → Tells base r (λ x p. assignment_seq (assignment_seq (f x p) (T x p)) (T x p))
+        → Tells base r (λ x p. assignment_seq (f x p) (turns_sum (assignment x p) (suc (suc n)) (T x p)))
     twice r = tells_as base r _ _ (λ x p. (law x p).assoc (f x p) (T x p) (T x p)
         ∙ ap (λ a. assignment_seq (f x p) a) (sym (turns_many (suc (suc n)) (assignment x p).unit (T x p) (assignment_seq (T x p) (T x p)) (omega arith))))
 
-    by_test : (b : Bool) → settled s turn ≡ b → Tells base (turned (suc (suc n)) s turn again) (λ x p. assignment_seq (f x p) (turns_sum (assignment x p) (suc (suc n)) (T x p)))
-    by_test true e = subst (λ r. Tells base r (λ x p. assignment_seq (f x p) (turns_sum (assignment x p) (suc (suc n)) (T x p)))) (sym (turned_settled (suc (suc n)) s turn again (omega arith) e)) (twice _ (two e))
-    by_test false e = subst (λ r. Tells base r (λ x p. assignment_seq (f x p) (turns_sum (assignment x p) (suc (suc n)) (T x p)))) (sym (turned_more (suc (suc n)) s turn again (omega arith) (omega arith) e)) (twice _ more)
+    by_test : (b : Bool) → settled s turn ≡ b → Tells base (turned (suc (suc n)) s turn again)
+        (λ x p. assignment_seq (f x p) (turns_sum (assignment x p) (suc (suc n)) (T x p)))
+    by_test true e = subst (λ r. Tells base r (λ x p. assignment_seq (f x p) (turns_sum (assignment x p) (suc (suc n)) (T x p))))
+        (sym (turned_settled (suc (suc n)) s turn again (omega arith) e)) (twice _ (two e))
+    by_test false e = subst (λ r. Tells base r (λ x p. assignment_seq (f x p) (turns_sum (assignment x p) (suc (suc n)) (T x p))))
+        (sym (turned_more (suc (suc n)) s turn again (omega arith) (omega arith) e)) (twice _ more)
 
 -- where the test says so, a second turn tells no more
-settled_tells : (base : ℕ) (s turn : Reached) (f T : Family) → ((x : ℕ) (p : Span) → IsWell (T x p)) → Tells base s f → Tells base turn (λ x p. assignment_seq (assignment_fresh (f x p)) (T x p))
-    → settled s turn ≡ true → Tells base (after s turn) (λ x p. assignment_seq (f x p) (T x p)) → Tells base (after s turn) (λ x p. assignment_seq (assignment_seq (f x p) (T x p)) (T x p))
+settled_tells : (base : ℕ) (s turn : Reached) (f T : Family) → ((x : ℕ) (p : Span) → IsWell (T x p)) → Tells base s f
+    → Tells base turn (λ x p. assignment_seq (assignment_fresh (f x p)) (T x p))
+    → settled s turn ≡ true → Tells base (after s turn) (λ x p. assignment_seq (f x p) (T x p))
+    → Tells base (after s turn) (λ x p. assignment_seq (assignment_seq (f x p) (T x p)) (T x p))
 unfolding after
 settled_tells base s turn f T well h k e one = tells_like base (after s turn) _ _ one
     (λ x p g. second_turn (f x p) (T x p) (well x p) (in_state x p g)) (λ x p. second_falls (f x p) (T x p)) beyond
@@ -98,25 +112,30 @@ settled_tells base s turn f T well h k e one = tells_like base (after s turn) _ 
         sym (h.unassigned x p g) ∙ settled_bits base x s turn e (both _ _ u d)
 
     beyond : (x : ℕ) (p : Span) → base + 128 ≤ x → IsBelow x (after s turn).next
-        → ((assignment_seq (assignment_seq (f x p) (T x p)) (T x p)).exposed ≡ false) × ((assignment_seq (assignment_seq (f x p) (T x p)) (T x p)).fault ≡ false)
+        → ((assignment_seq (assignment_seq (f x p) (T x p)) (T x p)).exposed ≡ false)
+        × ((assignment_seq (assignment_seq (f x p) (T x p)) (T x p)).fault ≡ false)
     beyond x p l b =
         let parts = below_both x s.next turn.next b in
         let quiet : (T x p).exposed ≡ false = (k.beyond x p l parts.1).0 in
         (second_exposed (f x p) (T x p) (h.beyond x p l parts.0).0 quiet, second_fault (f x p) (T x p) quiet (one.beyond x p l b).1)
 
 mutual
-  statement_tells : (base : ℕ) (a : CheckedStatement) (s : Reached) (f : Family) → Tells base s f → Tells base (walk_statement base s a) (λ x p. assignment_seq (f x p) (statement_sum (assignment x p) a))
+  statement_tells : (base : ℕ) (a : CheckedStatement) (s : Reached) (f : Family) → Tells base s f
+      → Tells base (walk_statement base s a) (λ x p. assignment_seq (f x p) (statement_sum (assignment x p) a))
   statement_tells base (t.declare _ n None) s f h = tells_unset base s n f h
   statement_tells base (t.declare _ n (Some value)) s f h =
-      behind base _ f (λ x p. expression_sum (assignment x p) value) (λ x p. assignment_one x p (write n)) (tells_written base _ n _ (expression_tells base value s f h))
+      behind base _ f (λ x p. expression_sum (assignment x p) value) (λ x p. assignment_one x p (write n))
+      (tells_written base _ n _ (expression_tells base value s f h))
   statement_tells base (t.assign n value) s f h =
-      behind base _ f (λ x p. expression_sum (assignment x p) value) (λ x p. assignment_one x p (write n)) (tells_written base _ n _ (expression_tells base value s f h))
+      behind base _ f (λ x p. expression_sum (assignment x p) value) (λ x p. assignment_one x p (write n))
+      (tells_written base _ n _ (expression_tells base value s f h))
   statement_tells base (t.store n index value) s f h =
       let I : Family = λ x p. expression_sum (assignment x p) index in
       let V : Family = λ x p. expression_sum (assignment x p) value in
       let W : Family = λ x p. assignment_one x p (write n) in
       behind base _ f I (λ x p. assignment_seq (V x p) (W x p))
-      (behind base _ (λ x p. assignment_seq (f x p) (I x p)) V W (tells_written base _ n _ (expression_tells base value _ _ (expression_tells base index s f h))))
+      (behind base _ (λ x p. assignment_seq (f x p) (I x p)) V W
+      (tells_written base _ n _ (expression_tells base value _ _ (expression_tells base index s f h))))
   statement_tells base (t.choose c) s f h = choice_tells base c nowhere s (λ x p. assignment_gone) f (tells_nowhere base) h
   statement_tells base (t.loop n from _ below _ body) s f h =
       let W : Family = λ x p. assignment_one x p (write n) in
@@ -150,11 +169,15 @@ mutual
       let M : Family = λ x p. choice_sum (assignment x p) more in
       let passed = expression_tells base e s f h in
       let blocks = tells_joined base taken _ g _ k (block_tells base b _ _ passed) in
-      tells_as base _ _ _ (λ x p. (law x p).join_assoc (g x p) (assignment_seq (assignment_seq (f x p) (E x p)) (B x p)) (assignment_seq (assignment_seq (f x p) (E x p)) (M x p))
-      ∙ ap (λ a. assignment_join (g x p) a) (sym ((law x p).distr_l (assignment_seq (f x p) (E x p)) (B x p) (M x p)) ∙ (law x p).assoc (f x p) (E x p) (assignment_join (B x p) (M x p))))
+      tells_as base _ _ _ (λ x p. (law x p).join_assoc (g x p) (assignment_seq (assignment_seq (f x p) (E x p)) (B x p))
+      (assignment_seq (assignment_seq (f x p) (E x p)) (M x p))
+      ∙ ap (λ a. assignment_join (g x p) a) (sym ((law x p).distr_l (assignment_seq (f x p) (E x p)) (B x p) (M x p))
+      ∙ (law x p).assoc (f x p) (E x p) (assignment_join (B x p) (M x p))))
       (choice_tells base more _ _ _ _ blocks passed)
 
-  pub block_tells : (base : ℕ) (b : CheckedBlock) (s : Reached) (f : Family) → Tells base s f → Tells base (walk_block base s b) (λ x p. assignment_seq (f x p) (block_sum (assignment x p) b))
+  pub block_tells : (base : ℕ) (b : CheckedBlock) (s : Reached) (f : Family) → Tells base s f
+      → Tells base (walk_block base s b) (λ x p. assignment_seq (f x p) (block_sum (assignment x p) b))
   block_tells base t.end s f h = nothing base s f h
   block_tells base (t.step a more) s f h =
-      behind base _ f (λ x p. statement_sum (assignment x p) a) (λ x p. block_sum (assignment x p) more) (block_tells base more _ _ (statement_tells base a s f h))
+      behind base _ f (λ x p. statement_sum (assignment x p) a) (λ x p. block_sum (assignment x p) more)
+      (block_tells base more _ _ (statement_tells base a s f h))

@@ -4,7 +4,8 @@ ghost use Rattle.std.specs.Prelude.{◌≡◌, ◌<◌, ◌^◌, Option, [], map
 ghost use Rattle.task_ast.specs.Tree.{choice_of};
 ghost use Rattle.task_ast.specs.View.{expression_of, statement_of, tested_of, block_view, task_of, program_of};
 ghost use Rattle.task_ast.specs.Paths.{CheckedBlock};
-ghost use Rattle.path_checks.specs.Walk.{mask_of, beyond_of, least, read_at, written, unset_at, gone, joined, nowhere, fresh, after, settled, walk_expression, walk_statement, walk_choice, walk_block, start, walk_turns, turned};
+ghost use Rattle.path_checks.specs.Walk.{mask_of, beyond_of, least, read_at, written, unset_at, gone, joined, nowhere, fresh, after, settled};
+ghost use Rattle.path_checks.specs.Walk.{walk_expression, walk_statement, walk_choice, walk_block, start, walk_turns, turned};
 ghost use Rattle.path_checks.specs.Firsts.{IsFirst};
 ghost use Rattle.path_checks.specs.Unassigned.{ReadsUnassigned, UnassignedAt};
 

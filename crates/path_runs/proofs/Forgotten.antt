@@ -1,6 +1,7 @@
 -- Where each path of a block writes a scalar before it reads it and before the transition, it makes no difference which word the scalar
 -- held: two runs from attempts that differ in this word alone read none of it while they differ, and don't end before they are one.
-use Rattle.std.proofs.Common.{◌≡◌, ℕ, zero, suc, ◌+◌, ◌-◌, ◌==◌, ◌<◌, ◌≤◌, List, [], ◌∷◌, ◌++◌, length, get_or, slice_set, Bool, true, false, ◌&&◌, ◌||◌, Option, Some, None, refl, sym, ap, ◌∙◌, subst, ⊎_elim, eq-eqb, arith, if◌then◌else◌}
+use Rattle.std.proofs.Common.{◌≡◌, ℕ, zero, suc, ◌+◌, ◌-◌, ◌==◌, ◌<◌, ◌≤◌, List, [], ◌∷◌, ◌++◌, length, get_or, slice_set, Bool, true, false, ◌&&◌, ◌||◌}
+use Rattle.std.proofs.Common.{Option, Some, None, refl, sym, ap, ◌∙◌, subst, ⊎_elim, eq-eqb, arith, if◌then◌else◌}
 use Rattle.std.proofs.lemmas.Bool.{cases_Bool, cases_lt, eqb-true}
 use Rattle.std.proofs.lemmas.List.{set-set, get_or-set_same, get_or-set_other}
 use Rattle.source_values.specs.task_ast.Tree as t
@@ -8,11 +9,13 @@ use Rattle.source_values.specs.task_ast.declared.names.Variable.{Variable}
 use Rattle.source_values.specs.task_ast.declared.names.Variable.TheVariants.{Shared, Local}
 use Rattle.source_values.specs.task_ast.Paths.{CheckedExpression, CheckedStatement, CheckedChoice, CheckedBlock}
 use Rattle.path_sums.specs.Sums.{expression_sum, statement_sum, choice_sum, block_sum}
-use Rattle.path_sums.specs.Access.{is_same, writes, SomePath, IsPrivate, summary, summary_unit, summary_read, summary_write, summary_seq, summary_join, private_of}
+use Rattle.path_sums.specs.Access.{is_same, writes, SomePath, IsPrivate, summary, summary_unit, summary_read, summary_write, summary_seq, summary_join}
+use Rattle.path_sums.specs.Access.{private_of}
 use Rattle.path_sums.specs.declared.access.AccessSummary.{AccessSummary}
 use Rattle.path_sums.proofs.Interface.{writes_some, private_is}
 use Rattle.source_values.specs.alp_words.Words.{bit}
-use Rattle.source_values.specs.Values.{Variables, word_at, with_word, value_of, holds, is_settled, unary_value, binary_value, shift_value, joined_type, type_of, ◌>>?◌}
+use Rattle.source_values.specs.Values.{Variables, word_at, with_word, value_of, holds, is_settled, unary_value, binary_value, shift_value, joined_type}
+use Rattle.source_values.specs.Values.{type_of, ◌>>?◌}
 use Rattle.source_values.specs.Statements.{Attempt, Outcome, goes_on, to_task, short, and_then, if_value, assigned, turns, run_statement, run_choice, run_block}
 use Rattle.path_runs.specs.Laws.{NoStoreInStatement, NoStoreInChoice, NoStoreIn, FirstWritesForget}
 

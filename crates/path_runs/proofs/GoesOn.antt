@@ -1,5 +1,6 @@
 -- A run that goes on shows that some path goes on.
-use Rattle.std.proofs.Common.{◌≡◌, ℕ, zero, suc, ◌+◌, ◌-◌, ◌==◌, List, [], ◌∷◌, ◌++◌, Bool, true, false, ◌&&◌, ◌||◌, Option, Some, None, refl, subst, if◌then◌else◌}
+use Rattle.std.proofs.Common.{◌≡◌, ℕ, zero, suc, ◌+◌, ◌-◌, ◌==◌, List, [], ◌∷◌, ◌++◌, Bool, true, false, ◌&&◌, ◌||◌, Option, Some, None, refl, subst}
+use Rattle.std.proofs.Common.{if◌then◌else◌}
 use Rattle.std.proofs.lemmas.Bool.{or_left, or_right}
 use Rattle.source_values.specs.task_ast.Tree as t
 use Rattle.source_values.specs.task_ast.declared.names.Variable.{Variable}
@@ -71,7 +72,8 @@ mutual
   choice_goes t.nothing a = refl
   choice_goes (t.otherwise b) a = block_goes b a
   choice_goes (t.test e b more) a =
-      with_any (block_falls_through b || choice_falls_through more) (value_of e a.variables a.left) a (λ w s. if holds w then run_block b s else run_choice more s)
+      with_any (block_falls_through b || choice_falls_through more) (value_of e a.variables a.left) a
+      (λ w s. if holds w then run_block b s else run_choice more s)
       (λ w s. either (block_falls_through b) (choice_falls_through more) (holds w) (run_block b s) (run_choice more s) (block_goes b s) (choice_goes more s))
 
   block_goes : (b : CheckedBlock) (a : Attempt) → GoesOnIf (block_falls_through b) (run_block b a)

@@ -37,7 +37,8 @@ module _ {S : Type 0} (A : Algebra S) (P : S → Type 0) (kept : Kept A P) where
     statement_is (t.assign n value) = kept.seq _ _ (expression_is value) (kept.one (write n))
     statement_is (t.store n index value) = kept.seq _ _ (expression_is index) (kept.seq _ _ (expression_is value) (kept.one (write n)))
     statement_is (t.choose c) = choice_is c
-    statement_is (t.loop n from _ below _ body) = kept.seq _ _ (kept.one (write n)) (turns_are (below - from) _ (kept.seq _ _ (every_block body) (kept.one (write n))))
+    statement_is (t.loop n from _ below _ body) = kept.seq _ _ (kept.one (write n))
+        (turns_are (below - from) _ (kept.seq _ _ (every_block body) (kept.one (write n))))
     statement_is (t.emit value) = expression_is value
     statement_is (t.transition _) = kept.gone
 

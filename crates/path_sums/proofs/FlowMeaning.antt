@@ -39,7 +39,8 @@ expression_goes (t.shift _ a _) = expression_goes a
 expression_goes (t.short_circuit _ a b) = ap₂ (λ a b. a || (a && b)) (expression_goes a) (expression_goes b)
 
 turns_go : (none one body : Bool) → (if none then true else (if one then (body && true) else ((body && true) && (body && true)))) ≡ (none || body)
-turns_go = agree 3 (λ none one body. if none then true else (if one then (body && true) else ((body && true) && (body && true)))) (λ none one body. none || body) refl
+turns_go = agree 3 (λ none one body. if none then true else (if one then (body && true) else ((body && true) && (body && true))))
+    (λ none one body. none || body) refl
 
 mutual
   statement_is : (s : CheckedStatement) → statement_sum flow s ≡ statement_falls_through s

@@ -1,5 +1,6 @@
 -- The words of a source, by their kinds.
-use Rattle.std.proofs.Common.{◌≡◌, ℕ, zero, suc, ◌+◌, ◌*◌, ◌<◌, ◌≤◌, Bool, true, false, List, [], ◌∷◌, length, drop, map, get_or, refl, sym, ◌∙◌, ap, arith, drop-cons, add-one}
+use Rattle.std.proofs.Common.{◌≡◌, ℕ, zero, suc, ◌+◌, ◌*◌, ◌<◌, ◌≤◌, Bool, true, false, List, [], ◌∷◌, length, drop, map, get_or, refl, sym, ◌∙◌, ap, arith}
+use Rattle.std.proofs.Common.{drop-cons, add-one}
 use Rattle.task_ast.specs.View.{task_of}
 use Rattle.task_ast.specs.declared.Extent.{Extent}
 use Rattle.task_ast.specs.declared.Extent.TheVariants.{Scalar, Array}
@@ -8,7 +9,8 @@ use Rattle.task_ast.specs.declared.TaskDeclaration.{TaskDeclaration}
 use Rattle.task_ast.specs.declared.names.VariableName.{VariableName}
 use Rattle.task_ast.specs.declared.names.TaskName.{TaskName}
 use Rattle.cost_bound.specs.Counts.{Code, emits_of}
-use Rattle.cost_bound.specs.Allowance.{CheckedTask, CheckedProgram, shared_sum_from, version_part, place_part, is_written, total, greatest, task_words, list_of, words_of, versions_of}
+use Rattle.cost_bound.specs.Allowance.{CheckedTask, CheckedProgram, shared_sum_from, version_part, place_part, is_written, total, greatest, task_words}
+use Rattle.cost_bound.specs.Allowance.{list_of, words_of, versions_of}
 use Rattle.memory_map.specs.Words.{row_words}
 use Rattle.privatise.specs.Sizes.{home_part, home_words, copy_part, copy_words, body_words, entry_words, boot_words, commit_words, own_boot_words}
 
@@ -18,12 +20,15 @@ part_split true (Array n) = omega arith
 part_split false (Array n) = omega arith
 
 places_split : (written : ℕ → Bool) (i : ℕ) (ds : List SharedDeclaration) → shared_sum_from (λ k e. place_part (written k) e) i ds
-    ≡ shared_sum_from (λ k e. home_part e) i ds + shared_sum_from (λ k e. copy_part (written k) e) i ds + shared_sum_from (λ k e. version_part (written k) e) i ds
+    ≡ shared_sum_from (λ k e. home_part e) i ds + shared_sum_from (λ k e. copy_part (written k) e) i ds + shared_sum_from (λ k e. version_part (written k) e)
+    i ds
 places_split written i [] = refl
 places_split written i (d ∷ ds) =
-    let here : place_part (written i) d.extent ≡ home_part d.extent + copy_part (written i) d.extent + version_part (written i) d.extent = part_split (written i) d.extent in
+    let here : place_part (written i) d.extent ≡ home_part d.extent + copy_part (written i) d.extent + version_part (written i) d.extent =
+    part_split (written i) d.extent in
     let rest : shared_sum_from (λ k e. place_part (written k) e) (i + 1) ds
-    ≡ shared_sum_from (λ k e. home_part e) (i + 1) ds + shared_sum_from (λ k e. copy_part (written k) e) (i + 1) ds + shared_sum_from (λ k e. version_part (written k) e) (i + 1) ds
+    ≡ shared_sum_from (λ k e. home_part e) (i + 1) ds + shared_sum_from (λ k e. copy_part (written k) e) (i + 1) ds + shared_sum_from
+    (λ k e. version_part (written k) e) (i + 1) ds
     = places_split written (i + 1) ds in
     omega (arith, here, rest)
 
@@ -43,7 +48,8 @@ pub words_split : (p : CheckedProgram) → row_words + commit_words + 3 * greate
     (list_of p.shared) p.tasks + greatest emits_of p.tasks + versions_of p + home_words p.shared + copy_words p + boot_words p.shared p.tasks + total
     (body_words p.shared) p.tasks + 1
     ≡ words_of p
-words_split p = together (total (task_words p.shared) p.tasks) (total (entry_words p.shared) p.tasks) (total (body_words p.shared) p.tasks) _ (home_words p.shared) (copy_words p) (versions_of p) (greatest (list_of p.shared) p.tasks) (greatest emits_of p.tasks) (words_of p)
+words_split p = together (total (task_words p.shared) p.tasks) (total (entry_words p.shared) p.tasks) (total (body_words p.shared) p.tasks) _
+    (home_words p.shared) (copy_words p) (versions_of p) (greatest (list_of p.shared) p.tasks) (greatest emits_of p.tasks) (words_of p)
     (total_split (task_words p.shared) (entry_words p.shared) (body_words p.shared) p.tasks (λ c. refl)) (places_split (is_written p.tasks) 0 p.shared) refl
 
 part_small : (rest t w : ℕ) → rest + t + 1 ≡ w → w ≤ 22000 → t ≤ 22000
@@ -54,7 +60,8 @@ pub bodies_small : (p : CheckedProgram) → words_of p ≤ 22000 → total (body
 bodies_small p h = part_small _ (total (body_words p.shared) p.tasks) (words_of p) (words_split p) h
 
 -- the first of the variables that are left, and those behind it
-pub sum_step : (part : ℕ → Extent → ℕ) (shared : List SharedDeclaration) (i : ℕ) (extent : Extent) → i < length shared → ((d : SharedDeclaration) → extent ≡ (get_or shared i d).extent)
+pub sum_step : (part : ℕ → Extent → ℕ) (shared : List SharedDeclaration) (i : ℕ) (extent : Extent) → i < length shared
+    → ((d : SharedDeclaration) → extent ≡ (get_or shared i d).extent)
     → shared_sum_from part i (drop i shared) ≡ part i extent + shared_sum_from part (i + 1) (drop (i + 1) shared)
 sum_step part [] i extent l at = absurd (omega arith)
 sum_step part (x ∷ xs) i extent l at =
@@ -62,18 +69,21 @@ sum_step part (x ∷ xs) i extent l at =
     ∙ ap (λ k. part i extent + shared_sum_from part (i + 1) (drop k (x ∷ xs))) (sym (add-one i))
 
 -- a task of those that are left, and those behind it
-pub total_step : (f : Code → ℕ) (tasks : List (TaskDeclaration VariableName TaskName)) (i : ℕ) (task : TaskDeclaration VariableName TaskName) → i < length tasks → task ≡ get_or tasks i task
+pub total_step : (f : Code → ℕ) (tasks : List (TaskDeclaration VariableName TaskName)) (i : ℕ) (task : TaskDeclaration VariableName TaskName)
+    → i < length tasks → task ≡ get_or tasks i task
     → total f (map task_of (drop i tasks)) ≡ f (task_of task).body + total f (map task_of (drop (i + 1) tasks))
 total_step f tasks i task l at =
     ap (λ ds. total f (map task_of ds)) (drop-cons tasks i task l) ∙ ap (λ t. f (task_of t).body + total f (map task_of (drop (suc i) tasks))) (sym at)
     ∙ ap (λ k. f (task_of task).body + total f (map task_of (drop k tasks))) (sym (add-one i))
 
 -- no more than all of them
-pub total_left : (f : Code → ℕ) (tasks : List (TaskDeclaration VariableName TaskName)) (i : ℕ) → total f (map task_of (drop i tasks)) ≤ total f (map task_of tasks)
+pub total_left : (f : Code → ℕ) (tasks : List (TaskDeclaration VariableName TaskName)) (i : ℕ)
+    → total f (map task_of (drop i tasks)) ≤ total f (map task_of tasks)
 total_left f tasks zero = omega arith
 total_left f [] (suc i) = omega arith
 total_left f (t ∷ ts) (suc i) = let rest = total_left f ts i in omega (arith, rest)
 
-pub total_part : (f : Code → ℕ) (tasks : List (TaskDeclaration VariableName TaskName)) (i : ℕ) (task : TaskDeclaration VariableName TaskName) → i < length tasks → task ≡ get_or tasks i task
+pub total_part : (f : Code → ℕ) (tasks : List (TaskDeclaration VariableName TaskName)) (i : ℕ) (task : TaskDeclaration VariableName TaskName)
+    → i < length tasks → task ≡ get_or tasks i task
     → f (task_of task).body ≤ total f (map task_of tasks)
 total_part f tasks i task l at = let a = total_step f tasks i task l at in let b = total_left f tasks i in omega (arith, a, b)

@@ -1,5 +1,6 @@
 -- One more task gets its layout.
-use Rattle.std.proofs.Common.{◌≡◌, ℕ, ◌+◌, ◌*◌, ◌%◌, ◌<◌, ◌≤◌, true, false, List, [], ◌∷◌, ◌++◌, length, take, drop, map, get_or, refl, sym, ◌∙◌, ap, subst, arith, Option, Some, None}
+use Rattle.std.proofs.Common.{◌≡◌, ℕ, ◌+◌, ◌*◌, ◌%◌, ◌<◌, ◌≤◌, true, false, List, [], ◌∷◌, ◌++◌, length, take, drop, map, get_or, refl, sym, ◌∙◌, ap, subst}
+use Rattle.std.proofs.Common.{arith, Option, Some, None}
 use Rattle.std.proofs.Math.Seq.{drop-length}
 use Rattle.std.specs.Prelude.{slice_get, All, IsSomeAnd}
 use Rattle.std.specs.Option.{option_map}
@@ -33,7 +34,8 @@ pub record IsScalarWith (places : List VariablePlace) (i : ℕ) : Type 0 where
   pub at : slice_get places i ≡ Some place
   pub scalar : is_scalar_place place ≡ true
 
-some_with : (o : Option VariablePlace) → IsSomeAnd o (λ place. is_scalar_place place ≡ true) → (place : VariablePlace) × (o ≡ Some place) × (is_scalar_place place ≡ true)
+some_with : (o : Option VariablePlace) → IsSomeAnd o (λ place. is_scalar_place place ≡ true) → (place : VariablePlace) × (o ≡ Some place)
+    × (is_scalar_place place ≡ true)
 some_with (Some place) h = (place, refl, h)
 some_with None h = absurd h
 
@@ -43,7 +45,8 @@ scalar_with places i h = let w = some_with (slice_get places i) h in record { pl
 pub scalar_within : (places : List VariablePlace) (i : ℕ) → IsScalarPlaceAt places i → i < length places
 scalar_within places i h = let w = scalar_with places i h in slice_get_within places i w.place w.at
 
-pub no_array : (places : List VariablePlace) (i : ℕ) (place : VariablePlace) → IsScalarPlaceAt places i → slice_get places i ≡ Some place → is_scalar_place place ≡ false → ⊥
+pub no_array : (places : List VariablePlace) (i : ℕ) (place : VariablePlace) → IsScalarPlaceAt places i → slice_get places i ≡ Some place
+    → is_scalar_place place ≡ false → ⊥
 no_array places i place h at other =
     let w = scalar_with places i h in
     let same : place ≡ w.place = same_Some place w.place (sym at ∙ w.at) in
@@ -52,14 +55,17 @@ no_array places i place h at other =
 pub no_privates : (places : List VariablePlace) (numbers : List ℕ) → ArePrivates places (take 0 numbers) []
 no_privates places numbers = record { numbers = refl; places = All-nil (HasItsPlace places) }
 
-pub next_private : (places : List VariablePlace) (numbers : List ℕ) (i : ℕ) (number : ℕ) (s : PrivateScalar) (xs ys : List PrivateScalar) → i < length numbers → number ≡ get_or numbers i number → s.number ≡ number → HasItsPlace places s
+pub next_private : (places : List VariablePlace) (numbers : List ℕ) (i : ℕ) (number : ℕ) (s : PrivateScalar) (xs ys : List PrivateScalar)
+    → i < length numbers → number ≡ get_or numbers i number → s.number ≡ number → HasItsPlace places s
     → ys ≡ xs ++ s ∷ [] → ArePrivates places (take i numbers) xs → ArePrivates places (take (i + 1) numbers) ys
 next_private places numbers i number s xs ys l at is has e h = subst (λ zs. ArePrivates places (take (i + 1) numbers) zs) (sym e) (record {
-  numbers = map-append (λ s. s.number) xs (s ∷ []) ∙ ap (λ ns. ns ++ s.number ∷ []) h.numbers ∙ ap (λ n. take i numbers ++ n ∷ []) (is ∙ at) ∙ sym (take_more numbers i number l);
+  numbers = map-append (λ s. s.number) xs (s ∷ []) ∙ ap (λ ns. ns ++ s.number ∷ []) h.numbers ∙ ap (λ n. take i numbers ++ n ∷ []) (is ∙ at)
+      ∙ sym (take_more numbers i number l);
   places = All-push (HasItsPlace places) xs s h.places has;
 })
 
-pub all_privates : (places : List VariablePlace) (numbers : List ℕ) (i : ℕ) (privates : List PrivateScalar) → length numbers ≤ i → ArePrivates places (take i numbers) privates → ArePrivates places numbers privates
+pub all_privates : (places : List VariablePlace) (numbers : List ℕ) (i : ℕ) (privates : List PrivateScalar) → length numbers ≤ i
+    → ArePrivates places (take i numbers) privates → ArePrivates places numbers privates
 all_privates places numbers i privates l h = subst (λ ns. ArePrivates places ns privates) (take_all i numbers l) h
 
 -- ---- tasks
@@ -75,7 +81,8 @@ pub record TasksBelow (shared : List SharedDeclaration) (places : List VariableP
   pub room : at + 2 * total (body_words shared) (map task_of (drop i tasks)) ≡ address + 2 * total (body_words shared) (map task_of tasks)
   pub even : at % 2 ≡ 0
 
-pub no_tasks : (shared : List SharedDeclaration) (places : List VariablePlace) (tasks : List (TaskDeclaration VariableName TaskName)) (plans : List TaskPlanValue) (address : ℕ) → address % 2 ≡ 0 → TasksBelow shared places tasks plans address 0 address []
+pub no_tasks : (shared : List SharedDeclaration) (places : List VariablePlace) (tasks : List (TaskDeclaration VariableName TaskName))
+    (plans : List TaskPlanValue) (address : ℕ) → address % 2 ≡ 0 → TasksBelow shared places tasks plans address 0 address []
 no_tasks shared places tasks plans address even = record {
   count = refl;
   each = λ k t e. let no : None ≡ Some t = e in cc;
@@ -85,7 +92,8 @@ no_tasks shared places tasks plans address even = record {
   even = even;
 }
 
-module _ (shared : List SharedDeclaration) (places : List VariablePlace) (tasks : List (TaskDeclaration VariableName TaskName)) (plans : List TaskPlanValue) (address : ℕ) (i at : ℕ)
+module _ (shared : List SharedDeclaration) (places : List VariablePlace) (tasks : List (TaskDeclaration VariableName TaskName)) (plans : List TaskPlanValue)
+    (address : ℕ) (i at : ℕ)
     (task : TaskDeclaration VariableName TaskName) (l : i < length tasks) (is : task ≡ get_or tasks i task) where
   pub small_task : total (body_words shared) (map task_of tasks) ≤ 22000 → body_words shared (task_of task).body ≤ 22000
   small_task small = let part = total_part (body_words shared) tasks i task l is in omega (arith, part, small)
@@ -93,13 +101,15 @@ module _ (shared : List SharedDeclaration) (places : List VariablePlace) (tasks 
   fits : (at part rest all : ℕ) → at + 2 * (part + rest) ≡ all → all ≤ reset_vector → at + 2 * part < 65536
   fits at part rest all h k = omega (arith, h, k)
 
-  step : total (body_words shared) (map task_of (drop i tasks)) ≡ body_words shared (task_of task).body + total (body_words shared) (map task_of (drop (i + 1) tasks))
+  step : total (body_words shared) (map task_of (drop i tasks)) ≡ body_words shared (task_of task).body + total (body_words shared)
+      (map task_of (drop (i + 1) tasks))
   step = total_step (body_words shared) tasks i task l is
 
   pub task_fits : (layouts : List TaskPlace) (words : ℕ) → address + 2 * total (body_words shared) (map task_of tasks) ≤ reset_vector → words
       ≡ body_words shared (task_of task).body → TasksBelow shared places tasks plans address i at layouts → at + 2 * words < 65536
   task_fits layouts words room e h =
-      let f : at + 2 * body_words shared (task_of task).body < 65536 = fits at (body_words shared (task_of task).body) _ _ (ap (λ s. at + 2 * s) (sym step) ∙ h.room) room in
+      let f : at + 2 * body_words shared (task_of task).body < 65536 =
+      fits at (body_words shared (task_of task).body) _ _ (ap (λ s. at + 2 * s) (sym step) ∙ h.room) room in
       subst (λ w. at + 2 * w < 65536) (sym e) f
 
   on : (at later part rest all : ℕ) → later ≡ at + 2 * part → at + 2 * (part + rest) ≡ all → later + 2 * rest ≡ all
@@ -110,17 +120,21 @@ module _ (shared : List SharedDeclaration) (places : List VariablePlace) (tasks 
       → ys ≡ xs ++ t ∷ [] → TasksBelow shared places tasks plans address i at xs → TasksBelow shared places tasks plans address (i + 1) later ys
   one_task plan t later xs ys planned placed behind e h = subst (λ zs. TasksBelow shared places tasks plans address (i + 1) later zs) (sym e) (record {
     count = length_push xs t ∙ ap (λ k. k + 1) h.count;
-    each = each_push (λ k x. (task : CheckedTask) (plan : TaskPlanValue) → slice_get (map task_of tasks) k ≡ Some task → slice_get plans k ≡ Some plan → IsTaskLayout shared task.body plan x) xs t h.each here;
+    each = each_push (λ k x. (task : CheckedTask) (plan : TaskPlanValue) → slice_get (map task_of tasks) k ≡ Some task → slice_get plans k ≡ Some plan
+        → IsTaskLayout shared task.body plan x) xs t h.each here;
     privates = All-push (λ t. All (HasItsPlace places) t.privates) xs t h.privates placed.privates;
-    code = subst (λ rs. AreInOrder address rs later) (sym (map-append (λ t. t.code) xs (t ∷ []))) (in_order_push address (map (λ t. t.code) xs) at later t.code placed.address h.even behind h.code);
-    room = on at later t.code.words _ _ behind (ap (λ w. at + 2 * (w + total (body_words shared) (map task_of (drop (i + 1) tasks)))) placed.layout.words ∙ ap (λ s. at + 2 * s) (sym step) ∙ h.room);
+    code = subst (λ rs. AreInOrder address rs later) (sym (map-append (λ t. t.code) xs (t ∷ [])))
+        (in_order_push address (map (λ t. t.code) xs) at later t.code placed.address h.even behind h.code);
+    room = on at later t.code.words _ _ behind (ap (λ w. at + 2 * (w + total (body_words shared) (map task_of (drop (i + 1) tasks)))) placed.layout.words
+        ∙ ap (λ s. at + 2 * s) (sym step) ∙ h.room);
     even = even_behind at t.code.words later h.even behind;
   })
     where
       there : slice_get (map task_of tasks) i ≡ Some (task_of task)
       there = slice_get-map task_of tasks i ∙ ap (option_map task_of) (slice_get_read tasks (length tasks) i task refl l is)
 
-      here : (k : CheckedTask) (q : TaskPlanValue) → slice_get (map task_of tasks) (length xs) ≡ Some k → slice_get plans (length xs) ≡ Some q → IsTaskLayout shared k.body q t
+      here : (k : CheckedTask) (q : TaskPlanValue) → slice_get (map task_of tasks) (length xs) ≡ Some k → slice_get plans (length xs) ≡ Some q
+          → IsTaskLayout shared k.body q t
       here k q f g =
           let same : task_of task ≡ k = same_Some (task_of task) k (sym there ∙ ap (λ n. slice_get (map task_of tasks) n) (sym h.count) ∙ f) in
           let planned_so : plan ≡ q = same_Some plan q (sym planned ∙ ap (λ n. slice_get plans n) (sym h.count) ∙ g) in
@@ -140,4 +154,5 @@ all_tasks shared places tasks plans address i at layouts e h = record {
 }
   where
     none_left : total (body_words shared) (map task_of (drop i tasks)) ≡ 0
-    none_left = subst (λ k. total (body_words shared) (map task_of (drop k tasks)) ≡ 0) (sym e) (ap (λ ds. total (body_words shared) (map task_of ds)) (drop-length tasks))
+    none_left = subst (λ k. total (body_words shared) (map task_of (drop k tasks)) ≡ 0) (sym e)
+        (ap (λ ds. total (body_words shared) (map task_of ds)) (drop-length tasks))

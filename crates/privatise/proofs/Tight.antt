@@ -46,7 +46,8 @@ same_chain from (x ∷ xs) (y ∷ ys) [] end t a b = absurd a
 same_chain from (x ∷ xs) (y ∷ ys) (n ∷ ns) end t (l, a) (m, b) =
     let ex : x ≡ from = first_is from x n (bytes ns) end l (chain_end (x + n) xs ns end a) t in
     let ey : y ≡ from = first_is from y n (bytes ns) end m (chain_end (y + n) ys ns end b) t in
-    let rest = same_chain (from + n) xs ys ns end (omega (arith, t)) (subst (λ z. IsChain (z + n) xs ns end) ex a) (subst (λ z. IsChain (z + n) ys ns end) ey b) in
+    let rest = same_chain (from + n) xs ys ns end (omega (arith, t)) (subst (λ z. IsChain (z + n) xs ns end) ex a)
+    (subst (λ z. IsChain (z + n) ys ns end) ey b) in
     ap (λ z. z ∷ xs) (ex ∙ sym ey) ∙ ap (λ zs. y ∷ zs) rest
 
 -- ---- variables
@@ -59,14 +60,16 @@ AreOfKinds written i [] (_ ∷ _) = ⊥
 AreOfKinds written i (_ ∷ _) [] = ⊥
 
 pub kinds_from : (written : ℕ → Bool) (i : ℕ) (ds : List SharedDeclaration) (vs : List VariablePlace) → length vs ≡ length ds
-    → ((k : ℕ) (d : SharedDeclaration) (v : VariablePlace) → slice_get ds k ≡ Some d → slice_get vs k ≡ Some v → IsPlaceOf (written (i + k)) d.extent v) → AreOfKinds written i ds vs
+    → ((k : ℕ) (d : SharedDeclaration) (v : VariablePlace) → slice_get ds k ≡ Some d → slice_get vs k ≡ Some v → IsPlaceOf (written (i + k)) d.extent v)
+    → AreOfKinds written i ds vs
 kinds_from written i [] [] e h = tt
 kinds_from written i [] (v ∷ vs) e h = absurd (omega (arith, e))
 kinds_from written i (d ∷ ds) [] e h = absurd (omega (arith, e))
 kinds_from written i (d ∷ ds) (v ∷ vs) e h =
     let zeroth : i + 0 ≡ i = omega arith in (
       subst (λ k. IsPlaceOf (written k) d.extent v) zeroth (h zero d v refl refl),
-      kinds_from written (i + 1) ds vs (omega (arith, e)) (λ k x y f g. let next : i + suc k ≡ (i + 1) + k = omega arith in subst (λ n. IsPlaceOf (written n) x.extent y) next (h (suc k) x y f g)),
+      kinds_from written (i + 1) ds vs (omega (arith, e)) (λ k x y f g. let next : i + suc k ≡ (i + 1) + k = omega arith in
+          subst (λ n. IsPlaceOf (written n) x.extent y) next (h (suc k) x y f g)),
     )
 
 -- the ends of three chains of regions
@@ -89,7 +92,11 @@ pub record AreTight (written : ℕ → Bool) (i : ℕ) (ds : List SharedDeclarat
 
 -- the free addresses behind a variable
 abbrev pub free_after : Bool → Extent → Free → Free
-free_after written e free = record { home = free.home + 2 * home_part e; copy = free.copy + 2 * copy_part written e; version = free.version + 2 * version_part written e }
+free_after written e free = record {
+  home = free.home + 2 * home_part e;
+  copy = free.copy + 2 * copy_part written e;
+  version = free.version + 2 * version_part written e;
+}
 
 -- the least room that the regions take
 pub record TakeRoom (written : ℕ → Bool) (i : ℕ) (ds : List SharedDeclaration) (free : Free) (ends : Ends) : Type 0 where
@@ -106,14 +113,20 @@ pub record Split (written : Bool) (e : Extent) (free : Free) (v : VariablePlace)
   pub version : free.version ≤ at.version
   pub behind : Stand (free_after written e at) vs ends
 
-split : (written : Bool) (e : Extent) (free : Free) (v : VariablePlace) (vs : List VariablePlace) (ends : Ends) → IsPlaceOf written e v → Stand free (v ∷ vs) ends → Split written e free v vs ends
+split : (written : Bool) (e : Extent) (free : Free) (v : VariablePlace) (vs : List VariablePlace) (ends : Ends) → IsPlaceOf written e v
+    → Stand free (v ∷ vs) ends → Split written e free v vs ends
 split written (extent.Scalar _) free (Scalar home copy) vs ends k h = record {
   at = record { home = home; copy = copy; version = free.version };
   place = refl;
   home = h.home.0.from;
   copy = h.copy.0.from;
   version = omega arith;
-  behind = record { home = h.home.1; copy = h.copy.1; version = subst (λ a. AreInOrder a (flat_map version_regions vs) ends.version) (let e : free.version ≡ free.version + 2 * 0 = omega arith in e) h.version };
+  behind = record {
+    home = h.home.1;
+    copy = h.copy.1;
+    version = subst (λ a. AreInOrder a (flat_map version_regions vs) ends.version) (let e : free.version ≡ free.version + 2 * 0 = omega arith in e)
+        h.version;
+  };
 }
 split written (extent.Scalar _) free (Array elements n copies) vs ends k h = absurd k
 split written (extent.Array n) free (Scalar home copy) vs ends k h = absurd k
@@ -147,8 +160,13 @@ split true (extent.Array n) free (Array elements m (Some c)) vs ends k h = recor
 more_room : (free at part rest end : ℕ) → free ≤ at → (at + 2 * part) + 2 * rest ≤ end → free + 2 * (part + rest) ≤ end
 more_room free at part rest end l h = omega (arith, l, h)
 
-take_room : (written : ℕ → Bool) (i : ℕ) (ds : List SharedDeclaration) (free : Free) (vs : List VariablePlace) (ends : Ends) → AreOfKinds written i ds vs → Stand free vs ends → TakeRoom written i ds free ends
-take_room written i [] free [] ends k h = record { home = let x = h.home in omega (arith, x); copy = let x = h.copy in omega (arith, x); version = let x = h.version in omega (arith, x) }
+take_room : (written : ℕ → Bool) (i : ℕ) (ds : List SharedDeclaration) (free : Free) (vs : List VariablePlace) (ends : Ends) → AreOfKinds written i ds vs
+    → Stand free vs ends → TakeRoom written i ds free ends
+take_room written i [] free [] ends k h = record {
+  home = let x = h.home in omega (arith, x);
+  copy = let x = h.copy in omega (arith, x);
+  version = let x = h.version in omega (arith, x);
+}
 take_room written i [] free (v ∷ vs) ends k h = absurd k
 take_room written i (d ∷ ds) free [] ends k h = absurd k
 take_room written i (d ∷ ds) free (v ∷ vs) ends (here, others) h =
@@ -156,8 +174,10 @@ take_room written i (d ∷ ds) free (v ∷ vs) ends (here, others) h =
     let r = take_room written (i + 1) ds (free_after (written i) d.extent s.at) vs ends others s.behind in
     record {
       home = more_room free.home s.at.home (home_part d.extent) (shared_sum_from (λ k e. home_part e) (i + 1) ds) ends.home s.home r.home;
-      copy = more_room free.copy s.at.copy (copy_part (written i) d.extent) (shared_sum_from (λ k e. copy_part (written k) e) (i + 1) ds) ends.copy s.copy r.copy;
-      version = more_room free.version s.at.version (version_part (written i) d.extent) (shared_sum_from (λ k e. version_part (written k) e) (i + 1) ds) ends.version s.version r.version;
+      copy = more_room free.copy s.at.copy (copy_part (written i) d.extent) (shared_sum_from (λ k e. copy_part (written k) e) (i + 1) ds) ends.copy s.copy
+          r.copy;
+      version = more_room free.version s.at.version (version_part (written i) d.extent) (shared_sum_from (λ k e. version_part (written k) e) (i + 1) ds)
+          ends.version s.version r.version;
     }
 
 exactly : (free at part rest end : ℕ) → free ≤ at → (at + 2 * part) + 2 * rest ≤ end → end ≤ free + 2 * (part + rest) → at ≡ free
@@ -167,28 +187,38 @@ pub record Exact (written : Bool) (e : Extent) (free : Free) (v : VariablePlace)
   pub place : v ≡ place_at written e free
   pub behind : Stand (free_after written e free) vs ends
 
-exact : (written : ℕ → Bool) (i : ℕ) (d : SharedDeclaration) (ds : List SharedDeclaration) (free : Free) (v : VariablePlace) (vs : List VariablePlace) (ends : Ends) → AreTight written i (d ∷ ds) free ends
+exact : (written : ℕ → Bool) (i : ℕ) (d : SharedDeclaration) (ds : List SharedDeclaration) (free : Free) (v : VariablePlace) (vs : List VariablePlace)
+    (ends : Ends) → AreTight written i (d ∷ ds) free ends
     → AreOfKinds written i (d ∷ ds) (v ∷ vs) → Stand free (v ∷ vs) ends → Exact (written i) d.extent free v vs ends
 exact written i d ds free v vs ends t (here, others) h =
     let s = split (written i) d.extent free v vs ends here h in
     let r = take_room written (i + 1) ds (free_after (written i) d.extent s.at) vs ends others s.behind in
-    let home : s.at.home ≡ free.home = exactly free.home s.at.home (home_part d.extent) (shared_sum_from (λ k e. home_part e) (i + 1) ds) ends.home s.home r.home t.home in
-    let copy : s.at.copy ≡ free.copy = exactly free.copy s.at.copy (copy_part (written i) d.extent) (shared_sum_from (λ k e. copy_part (written k) e) (i + 1) ds) ends.copy s.copy r.copy t.copy in
-    let version : s.at.version ≡ free.version = exactly free.version s.at.version (version_part (written i) d.extent) (shared_sum_from (λ k e. version_part (written k) e) (i + 1) ds) ends.version s.version r.version t.version in
+    let home : s.at.home ≡ free.home = exactly free.home s.at.home (home_part d.extent) (shared_sum_from (λ k e. home_part e) (i + 1) ds) ends.home s.home
+    r.home t.home in
+    let copy : s.at.copy ≡ free.copy = exactly free.copy s.at.copy (copy_part (written i) d.extent)
+    (shared_sum_from (λ k e. copy_part (written k) e) (i + 1) ds) ends.copy s.copy r.copy t.copy in
+    let version : s.at.version ≡ free.version = exactly free.version s.at.version (version_part (written i) d.extent)
+    (shared_sum_from (λ k e. version_part (written k) e) (i + 1) ds) ends.version s.version r.version t.version in
     let same : s.at ≡ free = λ j. record { home = home j; copy = copy j; version = version j } in
-    record { place = s.place ∙ ap (λ f. place_at (written i) d.extent f) same; behind = subst (λ f. Stand (free_after (written i) d.extent f) vs ends) same s.behind }
+    record {
+      place = s.place ∙ ap (λ f. place_at (written i) d.extent f) same;
+      behind = subst (λ f. Stand (free_after (written i) d.extent f) vs ends) same s.behind;
+    }
 
-tight_behind : (written : ℕ → Bool) (i : ℕ) (d : SharedDeclaration) (ds : List SharedDeclaration) (free : Free) (ends : Ends) → AreTight written i (d ∷ ds) free ends → AreTight written (i + 1) ds (free_after (written i) d.extent free) ends
+tight_behind : (written : ℕ → Bool) (i : ℕ) (d : SharedDeclaration) (ds : List SharedDeclaration) (free : Free) (ends : Ends)
+    → AreTight written i (d ∷ ds) free ends → AreTight written (i + 1) ds (free_after (written i) d.extent free) ends
 tight_behind written i d ds free ends t = record {
   home = let x = t.home in moved free.home (home_part d.extent) (shared_sum_from (λ k e. home_part e) (i + 1) ds) ends.home x;
   copy = let x = t.copy in moved free.copy (copy_part (written i) d.extent) (shared_sum_from (λ k e. copy_part (written k) e) (i + 1) ds) ends.copy x;
-  version = let x = t.version in moved free.version (version_part (written i) d.extent) (shared_sum_from (λ k e. version_part (written k) e) (i + 1) ds) ends.version x;
+  version = let x = t.version in moved free.version (version_part (written i) d.extent) (shared_sum_from (λ k e. version_part (written k) e) (i + 1) ds)
+      ends.version x;
 }
   where
     moved : (free part rest end : ℕ) → end ≤ free + 2 * (part + rest) → end ≤ (free + 2 * part) + 2 * rest
     moved free part rest end h = omega (arith, h)
 
-pub same_variables : (written : ℕ → Bool) (i : ℕ) (ds : List SharedDeclaration) (xs ys : List VariablePlace) (free : Free) (ends : Ends) → AreTight written i ds free ends → AreOfKinds written i ds xs → AreOfKinds written i ds ys
+pub same_variables : (written : ℕ → Bool) (i : ℕ) (ds : List SharedDeclaration) (xs ys : List VariablePlace) (free : Free) (ends : Ends)
+    → AreTight written i ds free ends → AreOfKinds written i ds xs → AreOfKinds written i ds ys
     → Stand free xs ends → Stand free ys ends → xs ≡ ys
 same_variables written i [] [] [] free ends t j k a b = refl
 same_variables written i [] (x ∷ xs) ys free ends t j k a b = absurd j
@@ -198,5 +228,6 @@ same_variables written i (d ∷ ds) (x ∷ xs) [] free ends t j k a b = absurd k
 same_variables written i (d ∷ ds) (x ∷ xs) (y ∷ ys) free ends t j k a b =
     let e = exact written i d ds free x xs ends t j a in
     let f = exact written i d ds free y ys ends t k b in
-    let rest = same_variables written (i + 1) ds xs ys (free_after (written i) d.extent free) ends (tight_behind written i d ds free ends t) j.1 k.1 e.behind f.behind in
+    let rest = same_variables written (i + 1) ds xs ys (free_after (written i) d.extent free) ends (tight_behind written i d ds free ends t) j.1 k.1 e.behind
+    f.behind in
     ap (λ v. v ∷ xs) (e.place ∙ sym f.place) ∙ ap (λ vs. y ∷ vs) rest

@@ -26,7 +26,8 @@ use Rattle.privatise.proofs.Tight.{IsChain, bytes, same_chain, kinds_from, same_
 
 -- ---- tasks
 
-same_privates : (places : List VariablePlace) (xs ys : List PrivateScalar) → map (λ s. s.number) xs ≡ map (λ s. s.number) ys → All (HasItsPlace places) xs → All (HasItsPlace places) ys → xs ≡ ys
+same_privates : (places : List VariablePlace) (xs ys : List PrivateScalar) → map (λ s. s.number) xs ≡ map (λ s. s.number) ys → All (HasItsPlace places) xs
+    → All (HasItsPlace places) ys → xs ≡ ys
 same_privates places [] [] e a b = refl
 same_privates places [] (y ∷ ys) e a b = absurd (let n = ap length e in omega (arith, n))
 same_privates places (x ∷ xs) [] e a b = absurd (let n = ap length e in omega (arith, n))
@@ -56,7 +57,10 @@ of_tasks shared [] (p ∷ ps) ls e f h = absurd (omega (arith, e))
 of_tasks shared [] [] (l ∷ ls) e f h = absurd (omega (arith, f))
 of_tasks shared (t ∷ ts) [] ls e f h = absurd (omega (arith, e))
 of_tasks shared (t ∷ ts) (p ∷ ps) [] e f h = absurd (omega (arith, f))
-of_tasks shared (t ∷ ts) (p ∷ ps) (l ∷ ls) e f h = (h zero t p l refl refl refl, of_tasks shared ts ps ls (omega (arith, e)) (omega (arith, f)) (λ k t p l a b c. h (suc k) t p l a b c))
+of_tasks shared (t ∷ ts) (p ∷ ps) (l ∷ ls) e f h = (
+  h zero t p l refl refl refl,
+  of_tasks shared ts ps ls (omega (arith, e)) (omega (arith, f)) (λ k t p l a b c. h (suc k) t p l a b c),
+)
 
 task_room : (shared : List SharedDeclaration) (ts : List CheckedTask) (ps : List TaskPlanValue) (ls : List TaskPlace) (from end : ℕ)
     → AreOfTasks shared ts ps ls → AreInOrder from (map (λ t. t.code) ls) end
@@ -78,7 +82,8 @@ begins from a w n rest end x y z t = omega (arith, x, y, z, t)
 
 same_tasks : (shared : List SharedDeclaration) (places : List VariablePlace) (ts : List CheckedTask) (ps : List TaskPlanValue) (xs ys : List TaskPlace)
     (from end : ℕ) → end ≤ from + 2 * total (body_words shared) ts
-    → AreOfTasks shared ts ps xs → AreOfTasks shared ts ps ys → All (λ t. All (HasItsPlace places) t.privates) xs → All (λ t. All (HasItsPlace places) t.privates) ys
+    → AreOfTasks shared ts ps xs → AreOfTasks shared ts ps ys → All (λ t. All (HasItsPlace places) t.privates) xs
+    → All (λ t. All (HasItsPlace places) t.privates) ys
     → AreInOrder from (map (λ t. t.code) xs) end → AreInOrder from (map (λ t. t.code) ys) end → xs ≡ ys
 same_tasks shared places [] [] [] [] from end t j k a b x y = refl
 same_tasks shared places [] [] [] (_ ∷ _) from end t j k a b x y = absurd k
@@ -91,8 +96,10 @@ same_tasks shared places (task ∷ ts) (p ∷ ps) (l ∷ ls) (m ∷ ms) from end
     let P = λ (t : TaskPlace). All (HasItsPlace places) t.privates in
     let n = body_words shared task.body in
     let rest = total (body_words shared) ts in
-    let lat : l.code.address ≡ from = begins from l.code.address l.code.words n rest end x.from here.words (task_room shared ts ps ls (end_of l.code) end others xs) t in
-    let mat : m.code.address ≡ from = begins from m.code.address m.code.words n rest end y.from here'.words (task_room shared ts ps ms (end_of m.code) end others' ys) t in
+    let lat : l.code.address ≡ from = begins from l.code.address l.code.words n rest end x.from here.words
+    (task_room shared ts ps ls (end_of l.code) end others xs) t in
+    let mat : m.code.address ≡ from = begins from m.code.address m.code.words n rest end y.from here'.words
+    (task_room shared ts ps ms (end_of m.code) end others' ys) t in
     let address : l.code.address ≡ m.code.address = lat ∙ sym mat in
     let words : l.code.words ≡ m.code.words = here.words ∙ sym here'.words in
     let privates = same_privates places l.privates m.privates (here.privates ∙ sym here'.privates) (All-head P l ls a) (All-head P m ms b) in
@@ -145,9 +152,12 @@ full : (l m v h c b t w : ℕ) → (row_words + commit_words + 3 * l + m + v + h
 full l m v h c b t w e = omega (arith, e)
 
 all_full : (p : CheckedProgram) (allow : Allow) → IsAllowed p allow → fram_first - 2 + 2 * words_of p ≤ fram_first + bytes (sizes p allow)
-all_full p allow a = full allow.list allow.emits allow.versions (home_words p.shared) (copy_words p) (boot_words p.shared p.tasks) (total (body_words p.shared) p.tasks) (words_of p)
-    (add_up (greatest (list_of p.shared) p.tasks) (greatest emits_of p.tasks) (versions_of p) (home_words p.shared) (copy_words p) (boot_words p.shared p.tasks) (total (body_words p.shared) p.tasks) (words_of p)
-    allow.list allow.emits allow.versions (home_words p.shared) (copy_words p) (boot_words p.shared p.tasks) (total (body_words p.shared) p.tasks) (words_split p) a.list a.emits a.versions refl refl refl refl)
+all_full p allow a = full allow.list allow.emits allow.versions (home_words p.shared) (copy_words p) (boot_words p.shared p.tasks)
+    (total (body_words p.shared) p.tasks) (words_of p)
+    (add_up (greatest (list_of p.shared) p.tasks) (greatest emits_of p.tasks) (versions_of p) (home_words p.shared) (copy_words p)
+    (boot_words p.shared p.tasks) (total (body_words p.shared) p.tasks) (words_of p)
+    allow.list allow.emits allow.versions (home_words p.shared) (copy_words p) (boot_words p.shared p.tasks) (total (body_words p.shared) p.tasks)
+    (words_split p) a.list a.emits a.versions refl refl refl refl)
 
 same_addresses : (p : CheckedProgram) (allow : Allow) (plans : List TaskPlanValue) (a b : MemoryMap) → IsAllowed p allow → IsLayout p allow plans a
     → IsLayout p allow plans b → addresses a ≡ addresses b
@@ -207,14 +217,16 @@ one_layout p allow h plans a b planned x y = λ j. record {
     code = same_region a.code b.code (at 8) (x.code ∙ sym y.code)
 
     variables : a.variables ≡ b.variables
-    variables = same_variables (is_written p.tasks) 0 p.shared a.variables b.variables (record { home = a.homes.address; copy = a.copies.address; version = a.versions.address })
+    variables = same_variables (is_written p.tasks) 0 p.shared a.variables b.variables
+        (record { home = a.homes.address; copy = a.copies.address; version = a.versions.address })
         (record { home = end_of a.homes; copy = end_of a.copies; version = end_of a.versions })
         (record {
           home = behind a.homes.address a.homes.words (home_words p.shared) x.homes;
           copy = behind a.copies.address a.copies.words (copy_words p) x.copies;
           version = behind a.versions.address a.versions.words (versions_of p) (x.versions ∙ h.versions);
         })
-        (kinds_from (is_written p.tasks) 0 p.shared a.variables x.variables.count (λ k d v e f. kind a x k d v e f)) (kinds_from (is_written p.tasks) 0 p.shared b.variables y.variables.count (λ k d v e f. kind b y k d v e f))
+        (kinds_from (is_written p.tasks) 0 p.shared a.variables x.variables.count (λ k d v e f. kind a x k d v e f))
+        (kinds_from (is_written p.tasks) 0 p.shared b.variables y.variables.count (λ k d v e f. kind b y k d v e f))
         (record { home = x.rules.homes; copy = x.rules.copies; version = x.rules.versions })
         (record {
           home = subst (λ r. AreInOrder r.address (map home_region b.variables) (end_of r)) (sym homes) y.rules.homes;
@@ -227,7 +239,9 @@ one_layout p allow h plans a b planned x y = λ j. record {
         kind l z k d v e f = let same : k ≡ 0 + k = omega arith in subst (λ n. IsPlaceOf (is_written p.tasks n) d.extent v) same (z.variables.each k d v e f)
 
     tasks : a.tasks ≡ b.tasks
-    tasks = same_tasks p.shared a.variables p.tasks plans a.tasks b.tasks a.code.address (end_of a.code) (behind a.code.address a.code.words (total (body_words p.shared) p.tasks) x.code)
-        (of_tasks p.shared p.tasks plans a.tasks planned.count x.tasks.count x.tasks.each) (of_tasks p.shared p.tasks plans b.tasks planned.count y.tasks.count y.tasks.each)
+    tasks = same_tasks p.shared a.variables p.tasks plans a.tasks b.tasks a.code.address (end_of a.code)
+        (behind a.code.address a.code.words (total (body_words p.shared) p.tasks) x.code)
+        (of_tasks p.shared p.tasks plans a.tasks planned.count x.tasks.count x.tasks.each)
+        (of_tasks p.shared p.tasks plans b.tasks planned.count y.tasks.count y.tasks.each)
         x.rules.privates (subst (λ vs. All (λ t. All (HasItsPlace vs) t.privates) b.tasks) (sym variables) y.rules.privates)
         x.rules.code (subst (λ r. AreInOrder r.address (map (λ t. t.code) b.tasks) (end_of r)) (sym code) y.rules.code)

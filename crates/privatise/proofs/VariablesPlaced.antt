@@ -1,5 +1,6 @@
 -- One more variable gets its place.
-use Rattle.std.proofs.Common.{◌≡◌, ℕ, zero, suc, ◌+◌, ◌*◌, ◌%◌, ◌<◌, ◌≤◌, Bool, true, false, List, [], ◌∷◌, ◌++◌, length, drop, map, get_or, refl, sym, ◌∙◌, ap, subst, arith, Some, None}
+use Rattle.std.proofs.Common.{◌≡◌, ℕ, zero, suc, ◌+◌, ◌*◌, ◌%◌, ◌<◌, ◌≤◌, Bool, true, false, List, [], ◌∷◌, ◌++◌, length, drop, map, get_or, refl, sym, ◌∙◌}
+use Rattle.std.proofs.Common.{ap, subst, arith, Some, None}
 use Rattle.std.proofs.Math.Seq.{drop-length}
 use Rattle.std.specs.Prelude.{slice_get, slice_index_or}
 use Rattle.std.specs.List.{flat_map}
@@ -37,12 +38,14 @@ home_at : (written : Bool) (e : Extent) (free : Free) → home_region (place_at 
 home_at written (extent.Scalar _) free = refl
 home_at written (extent.Array n) free = refl
 
-copies_placed : (written : Bool) (e : Extent) (free : Free) (end : ℕ) → free.copy % 2 ≡ 0 → end ≡ free.copy + 2 * copy_part written e → AreInOrder free.copy (copy_regions (place_at written e free)) end
+copies_placed : (written : Bool) (e : Extent) (free : Free) (end : ℕ) → free.copy % 2 ≡ 0 → end ≡ free.copy + 2 * copy_part written e
+    → AreInOrder free.copy (copy_regions (place_at written e free)) end
 copies_placed written (extent.Scalar _) free end even h = (record { from = omega arith; even = even }, omega (arith, h))
 copies_placed true (extent.Array n) free end even h = (record { from = omega arith; even = even }, omega (arith, h))
 copies_placed false (extent.Array n) free end even h = omega (arith, h)
 
-versions_placed : (written : Bool) (e : Extent) (free : Free) (end : ℕ) → free.version % 2 ≡ 0 → end ≡ free.version + 2 * version_part written e → AreInOrder free.version (version_regions (place_at written e free)) end
+versions_placed : (written : Bool) (e : Extent) (free : Free) (end : ℕ) → free.version % 2 ≡ 0 → end ≡ free.version + 2 * version_part written e
+    → AreInOrder free.version (version_regions (place_at written e free)) end
 versions_placed written (extent.Scalar _) free end even h = omega (arith, h)
 versions_placed true (extent.Array n) free end even h = (record { from = omega arith; even = even }, omega (arith, h))
 versions_placed false (extent.Array n) free end even h = omega (arith, h)
@@ -53,13 +56,15 @@ even_behind a n b e h = omega (arith, e, h)
 -- the places of the first variables, and the addresses for the next
 pub record PlacedBelow (shared : List SharedDeclaration) (written : List Bool) (free : Free) (i : ℕ) (next : Free) (places : List VariablePlace) : Type 0 where
   pub count : length places ≡ i
-  pub each : (k : ℕ) (place : VariablePlace) → slice_get places k ≡ Some place → (d : SharedDeclaration) → slice_get shared k ≡ Some d → IsPlaceOf (slice_index_or written k false) d.extent place
+  pub each : (k : ℕ) (place : VariablePlace) → slice_get places k ≡ Some place → (d : SharedDeclaration) → slice_get shared k ≡ Some d
+      → IsPlaceOf (slice_index_or written k false) d.extent place
   pub homes : AreInOrder free.home (map home_region places) next.home
   pub copies : AreInOrder free.copy (flat_map copy_regions places) next.copy
   pub versions : AreInOrder free.version (flat_map version_regions places) next.version
   pub home : next.home + 2 * shared_sum_from (λ k e. home_part e) i (drop i shared) ≡ free.home + 2 * home_words shared
   pub copy : next.copy + 2 * shared_sum_from (λ k e. copy_part (slice_index_or written k false) e) i (drop i shared) ≡ free.copy + 2 * copy_sum written shared
-  pub version : next.version + 2 * shared_sum_from (λ k e. version_part (slice_index_or written k false) e) i (drop i shared) ≡ free.version + 2 * version_sum written shared
+  pub version : next.version + 2 * shared_sum_from (λ k e. version_part (slice_index_or written k false) e) i (drop i shared)
+      ≡ free.version + 2 * version_sum written shared
   pub even_home : next.home % 2 ≡ 0
   pub even_copy : next.copy % 2 ≡ 0
   pub even_version : next.version % 2 ≡ 0
@@ -103,7 +108,8 @@ module _ (shared : List SharedDeclaration) (written : List Bool) (free : Free) (
   fits : (next part rest all : ℕ) → next + 2 * (part + rest) ≡ all → all ≤ reset_vector → next + 2 * part < 65536
   fits next part rest all h k = omega (arith, h, k)
 
-  pub room_for : (place : VariablePlace) → place ≡ place_at mark extent next → (places : List VariablePlace) → IsRoom shared written free → PlacedBelow shared written free i next places → HasRoom extent mark next
+  pub room_for : (place : VariablePlace) → place ≡ place_at mark extent next → (places : List VariablePlace) → IsRoom shared written free
+      → PlacedBelow shared written free i next places → HasRoom extent mark next
   room_for place is places room h = record {
     home = fits next.home (home_part extent) _ _ (ap (λ s. next.home + 2 * s) (sym home_step) ∙ h.home) room.home;
     copy = fits next.copy (copy_part mark extent) _ _ (ap (λ s. next.copy + 2 * s) (sym copy_step) ∙ h.copy) room.copy;
@@ -113,19 +119,26 @@ module _ (shared : List SharedDeclaration) (written : List Bool) (free : Free) (
   on : (next later part rest all : ℕ) → later ≡ next + 2 * part → next + 2 * (part + rest) ≡ all → later + 2 * rest ≡ all
   on next later part rest all e h = omega (arith, e, h)
 
-  pub one_placed : (later : Free) (place : VariablePlace) (xs ys : List VariablePlace) → place ≡ place_at mark extent next → later.home ≡ next.home + 2 * home_part extent → later.copy ≡ next.copy + 2 * copy_part mark extent
-      → later.version ≡ next.version + 2 * version_part mark extent → ys ≡ xs ++ place ∷ [] → PlacedBelow shared written free i next xs → PlacedBelow shared written free (i + 1) later ys
+  pub one_placed : (later : Free) (place : VariablePlace) (xs ys : List VariablePlace) → place ≡ place_at mark extent next
+      → later.home ≡ next.home + 2 * home_part extent → later.copy ≡ next.copy + 2 * copy_part mark extent
+      → later.version ≡ next.version + 2 * version_part mark extent → ys ≡ xs ++ place ∷ [] → PlacedBelow shared written free i next xs
+      → PlacedBelow shared written free (i + 1) later ys
   one_placed later place xs ys is home copy version e h = subst (λ zs. PlacedBelow shared written free (i + 1) later zs) (sym e) (record {
     count = length_push xs place ∙ ap (λ k. k + 1) h.count;
-    each = each_push (λ k x. (d : SharedDeclaration) → slice_get shared k ≡ Some d → IsPlaceOf (slice_index_or written k false) d.extent x) xs place h.each (λ d found. kind d found);
+    each = each_push (λ k x. (d : SharedDeclaration) → slice_get shared k ≡ Some d → IsPlaceOf (slice_index_or written k false) d.extent x) xs place h.each
+        (λ d found. kind d found);
     homes = subst (λ rs. AreInOrder free.home rs later.home) (sym (map-append home_region xs (place ∷ [])))
-        (in_order_push free.home (map home_region xs) next.home later.home (home_region place) (ap (λ r. r.address) home_is) h.even_home (home ∙ ap (λ w. next.home + 2 * w) (sym (ap (λ r. r.words) home_is))) h.homes);
+        (in_order_push free.home (map home_region xs) next.home later.home (home_region place) (ap (λ r. r.address) home_is) h.even_home
+        (home ∙ ap (λ w. next.home + 2 * w) (sym (ap (λ r. r.words) home_is))) h.homes);
     copies = subst (λ rs. AreInOrder free.copy rs later.copy) (sym (flat_map-append copy_regions xs (place ∷ [])))
         (in_order_append free.copy (flat_map copy_regions xs) next.copy (copy_regions place ++ []) later.copy h.copies
-        (in_order_append next.copy (copy_regions place) later.copy [] later.copy (subst (λ p. AreInOrder next.copy (copy_regions p) later.copy) (sym is) (copies_placed mark extent next later.copy h.even_copy copy)) (omega arith)));
+        (in_order_append next.copy (copy_regions place) later.copy [] later.copy
+        (subst (λ p. AreInOrder next.copy (copy_regions p) later.copy) (sym is) (copies_placed mark extent next later.copy h.even_copy copy)) (omega arith)));
     versions = subst (λ rs. AreInOrder free.version rs later.version) (sym (flat_map-append version_regions xs (place ∷ [])))
         (in_order_append free.version (flat_map version_regions xs) next.version (version_regions place ++ []) later.version h.versions
-        (in_order_append next.version (version_regions place) later.version [] later.version (subst (λ p. AreInOrder next.version (version_regions p) later.version) (sym is) (versions_placed mark extent next later.version h.even_version version)) (omega arith)));
+        (in_order_append next.version (version_regions place) later.version [] later.version
+        (subst (λ p. AreInOrder next.version (version_regions p) later.version) (sym is)
+        (versions_placed mark extent next later.version h.even_version version)) (omega arith)));
     home = on next.home later.home (home_part extent) _ _ home (ap (λ s. next.home + 2 * s) (sym home_step) ∙ h.home);
     copy = on next.copy later.copy (copy_part mark extent) _ _ copy (ap (λ s. next.copy + 2 * s) (sym copy_step) ∙ h.copy);
     version = on next.version later.version (version_part mark extent) _ _ version (ap (λ s. next.version + 2 * s) (sym version_step) ∙ h.version);
@@ -143,7 +156,8 @@ module _ (shared : List SharedDeclaration) (written : List Bool) (free : Free) (
           let same : extent ≡ d.extent = at d ∙ ap (λ x. x.extent) (get_or_from_slice_get shared i d d there) in
           subst (λ x. IsPlaceOf (slice_index_or written (length xs) false) d.extent x) (sym is)
           (subst (λ x. IsPlaceOf (slice_index_or written (length xs) false) x (place_at mark extent next)) same
-          (subst (λ m. IsPlaceOf m extent (place_at mark extent next)) (marked ∙ ap (λ k. slice_index_or written k false) (sym h.count)) (kind_at mark extent next)))
+          (subst (λ m. IsPlaceOf m extent (place_at mark extent next)) (marked ∙ ap (λ k. slice_index_or written k false) (sym h.count))
+          (kind_at mark extent next)))
 
 over : (next rest all : ℕ) → rest ≡ 0 → next + 2 * rest ≡ all → next ≤ all
 over next rest all e h = omega (arith, e, h)
@@ -157,6 +171,8 @@ all_placed shared written free i next places e h = record {
   count = h.count ∙ e;
   each = λ k d place f g. h.each k place g d f;
   homes = in_order_higher free.home (map home_region places) next.home _ (over next.home _ _ (none_left (λ k e. home_part e) shared i e) h.home) h.homes;
-  copies = in_order_higher free.copy (flat_map copy_regions places) next.copy _ (over next.copy _ _ (none_left (λ k e. copy_part (slice_index_or written k false) e) shared i e) h.copy) h.copies;
-  versions = in_order_higher free.version (flat_map version_regions places) next.version _ (over next.version _ _ (none_left (λ k e. version_part (slice_index_or written k false) e) shared i e) h.version) h.versions;
+  copies = in_order_higher free.copy (flat_map copy_regions places) next.copy _
+      (over next.copy _ _ (none_left (λ k e. copy_part (slice_index_or written k false) e) shared i e) h.copy) h.copies;
+  versions = in_order_higher free.version (flat_map version_regions places) next.version _
+      (over next.version _ _ (none_left (λ k e. version_part (slice_index_or written k false) e) shared i e) h.version) h.versions;
 }

@@ -49,7 +49,8 @@ add_up l m v h c b t w al am av sh sc sb st sum x y z p q r s = omega (arith, su
 pub sizes_add : (p : CheckedProgram) (allow : Allow) (s : Sizes) → IsAllowed p allow → AreSizes p s
     → (row_words + commit_words + 3 * allow.list + allow.emits + allow.versions + s.homes + s.copies + s.boot + s.code) + 1 ≡ words_of p
 sizes_add p allow s a k =
-    add_up (greatest (list_of p.shared) p.tasks) (greatest emits_of p.tasks) (versions_of p) (home_words p.shared) (copy_words p) (boot_words p.shared p.tasks) (total (body_words p.shared) p.tasks) (words_of p)
+    add_up (greatest (list_of p.shared) p.tasks) (greatest emits_of p.tasks) (versions_of p) (home_words p.shared) (copy_words p)
+    (boot_words p.shared p.tasks) (total (body_words p.shared) p.tasks) (words_of p)
     allow.list allow.emits allow.versions s.homes s.copies s.boot s.code (words_split p) a.list a.emits a.versions k.homes k.copies k.boot k.code
 
 below_top : (n w : ℕ) → n + 1 ≡ w → w ≤ 22000 → fram_first + 2 * n ≤ reset_vector
@@ -112,7 +113,8 @@ starts allow s r k = record {
     boot = behind r.boot.address r.copies.address (3 * allow.list + allow.emits + allow.versions + s.homes) s.copies r.copies.words k.boot copies k.copies_words
 
     commit : r.commit.address ≡ row_end + 2 * (3 * allow.list + allow.emits + allow.versions + s.homes + s.copies + s.boot)
-    commit = behind r.commit.address r.boot.address (3 * allow.list + allow.emits + allow.versions + s.homes + s.copies) s.boot r.boot.words k.commit boot k.boot_words
+    commit = behind r.commit.address r.boot.address (3 * allow.list + allow.emits + allow.versions + s.homes + s.copies) s.boot r.boot.words k.commit boot
+        k.boot_words
 
     code : r.code.address ≡ row_end + 2 * (3 * allow.list + allow.emits + allow.versions + s.homes + s.copies + s.boot + commit_words)
     code = behind r.code.address r.commit.address
@@ -176,7 +178,8 @@ versions_are p written few h = written_sum version_part p.shared p.shared writte
 fits_in : (a w n m total : ℕ) → a ≡ row_end + 2 * n → w ≡ m → fram_first + 2 * total ≤ reset_vector → n + m + row_words ≤ total → a + 2 * w ≤ reset_vector
 fits_in a w n m total e f h k = omega (arith, e, f, h, k)
 
-pub room : (p : CheckedProgram) (allow : Allow) (s : Sizes) (r : Regions) (written : List Bool) → length p.shared ≤ 256 → AreWritten p written → IsAllowed p allow → AreSizes p s → AreRegions allow s r
+pub room : (p : CheckedProgram) (allow : Allow) (s : Sizes) (r : Regions) (written : List Bool) → length p.shared ≤ 256 → AreWritten p written
+    → IsAllowed p allow → AreSizes p s → AreRegions allow s r
     → IsRoom p.shared written (record { home = r.homes.address; copy = r.copies.address; version = r.versions.address })
 room p allow s r written few h a k g =
     let b = starts allow s r g in
@@ -184,14 +187,17 @@ room p allow s r written few h a k g =
     let e = even_starts allow s r g in
     record {
       home = fits_in r.homes.address (home_words p.shared) (3 * allow.list + allow.emits + allow.versions) s.homes _ b.homes (sym k.homes) fits (omega arith);
-      copy = fits_in r.copies.address (copy_sum written p.shared) (3 * allow.list + allow.emits + allow.versions + s.homes) s.copies _ b.copies (copies_are p written few h ∙ sym k.copies) fits (omega arith);
-      version = fits_in r.versions.address (version_sum written p.shared) (3 * allow.list + allow.emits) allow.versions _ b.versions (versions_are p written few h ∙ sym a.versions) fits (omega arith);
+      copy = fits_in r.copies.address (copy_sum written p.shared) (3 * allow.list + allow.emits + allow.versions + s.homes) s.copies _ b.copies
+          (copies_are p written few h ∙ sym k.copies) fits (omega arith);
+      version = fits_in r.versions.address (version_sum written p.shared) (3 * allow.list + allow.emits) allow.versions _ b.versions
+          (versions_are p written few h ∙ sym a.versions) fits (omega arith);
       even_home = e.homes;
       even_copy = e.copies;
       even_version = e.versions;
     }
 
-pub variables_are : (p : CheckedProgram) (written : List Bool) (free : Free) (places : List VariablePlace) → length p.shared ≤ 256 → AreWritten p written → ArePlaced p.shared written free places → AreVariables p places
+pub variables_are : (p : CheckedProgram) (written : List Bool) (free : Free) (places : List VariablePlace) → length p.shared ≤ 256 → AreWritten p written
+    → ArePlaced p.shared written free places → AreVariables p places
 variables_are p written free places few h k = record {
   count = k.count;
   each = λ i d place f g.
@@ -206,14 +212,17 @@ scalar_kind w (extent.Scalar _) (Scalar _ _) h s = refl
 scalar_kind w (extent.Scalar _) (Array _ _ _) h s = absurd h
 scalar_kind w (extent.Array n) place h s = cc
 
-some_scalar : (o : Option SharedDeclaration) → IsSomeAnd o (λ d. is_scalar d.extent ≡ true) → (d : SharedDeclaration) × (o ≡ Some d) × (is_scalar d.extent ≡ true)
+some_scalar : (o : Option SharedDeclaration) → IsSomeAnd o (λ d. is_scalar d.extent ≡ true) → (d : SharedDeclaration) × (o ≡ Some d)
+    × (is_scalar d.extent ≡ true)
 some_scalar (Some d) h = (d, refl, h)
 some_scalar None h = absurd h
 
-some_and : (o : Option VariablePlace) (place : VariablePlace) → o ≡ Some place → is_scalar_place place ≡ true → IsSomeAnd o (λ place. is_scalar_place place ≡ true)
+some_and : (o : Option VariablePlace) (place : VariablePlace) → o ≡ Some place → is_scalar_place place ≡ true
+    → IsSomeAnd o (λ place. is_scalar_place place ≡ true)
 some_and o place e h = subst (λ o. IsSomeAnd o (λ place. is_scalar_place place ≡ true)) (sym e) h
 
-private_place : (shared : List SharedDeclaration) (code : Code) (written : List Bool) (free : Free) (places : List VariablePlace) → ArePlaced shared written free places → (i : ℕ) → IsPrivateIn shared code i → IsScalarPlaceAt places i
+private_place : (shared : List SharedDeclaration) (code : Code) (written : List Bool) (free : Free) (places : List VariablePlace)
+    → ArePlaced shared written free places → (i : ℕ) → IsPrivateIn shared code i → IsScalarPlaceAt places i
 private_place shared code written free places k i h =
     let d = some_scalar (slice_get shared i) h.scalar in
     let l = slice_get_within shared i d.0 d.1 in
@@ -221,7 +230,8 @@ private_place shared code written free places k i h =
     let place = element places i (omega (arith, l, count)) in
     some_and (slice_get places i) place.0 place.1 (scalar_kind _ d.0.extent place.0 (k.each i d.0 place.0 d.1 place.1) d.2)
 
-pub scalars_placed : (p : CheckedProgram) (plans : List TaskPlanValue) (written : List Bool) (free : Free) (places : List VariablePlace) → IsPlan p plans → ArePlaced p.shared written free places
+pub scalars_placed : (p : CheckedProgram) (plans : List TaskPlanValue) (written : List Bool) (free : Free) (places : List VariablePlace) → IsPlan p plans
+    → ArePlaced p.shared written free places
     → (k : ℕ) (plan : TaskPlanValue) → slice_get plans k ≡ Some plan → All (IsScalarPlaceAt places) plan.private_scalars
 scalars_placed p plans written free places h placed k plan e =
     let l = slice_get_within plans k plan e in
@@ -246,7 +256,8 @@ code_room p allow s r a k g = code_room_by r.code.address _ s.code _ (starts all
 -- the same of equal lists
 pub tasks_moved : (shared shared' : List SharedDeclaration) (places places' : List VariablePlace)
     (tasks tasks' : List (TaskDeclaration VariableName TaskName)) (plans plans' : List TaskPlanValue) (address : ℕ) (layouts : List TaskPlace)
-    → shared ≡ shared' → places ≡ places' → tasks ≡ tasks' → plans ≡ plans' → ArePlacedTasks shared places (map task_of tasks) plans address layouts → ArePlacedTasks shared' places' (map task_of tasks') plans' address layouts
+    → shared ≡ shared' → places ≡ places' → tasks ≡ tasks' → plans ≡ plans' → ArePlacedTasks shared places (map task_of tasks) plans address layouts
+    → ArePlacedTasks shared' places' (map task_of tasks') plans' address layouts
 tasks_moved shared shared' places places' tasks tasks' plans plans' address layouts a b c d h =
     subst (λ x. ArePlacedTasks x places' (map task_of tasks') plans' address layouts) a
     (subst (λ x. ArePlacedTasks shared x (map task_of tasks') plans' address layouts) b
@@ -261,18 +272,21 @@ words_end a w n m e f = omega (arith, e, f)
 pub laid_out : (p : CheckedProgram) (allow : Allow) (plans : List TaskPlanValue) (s : Sizes) (r : Regions) (written : List Bool) (places : List VariablePlace)
     (layouts : List TaskPlace)
     → length p.shared ≤ 256 → AreWritten p written → IsAllowed p allow → AreSizes p s → AreRegions allow s r
-    → ArePlaced p.shared written (record { home = r.homes.address; copy = r.copies.address; version = r.versions.address }) places → ArePlacedTasks p.shared places p.tasks plans r.code.address layouts
+    → ArePlaced p.shared written (record { home = r.homes.address; copy = r.copies.address; version = r.versions.address }) places
+    → ArePlacedTasks p.shared places p.tasks plans r.code.address layouts
     → IsLaidOut (map_with r places layouts)
 laid_out p allow plans s r written places layouts few h a k g v t = record {
   chain = chain allow s r places layouts g (sizes_fit p allow s a k);
   list = g.list_words ∙ ap (λ n. list_entry_room * n) (sym g.entries);
-  homes = subst (λ end. AreInOrder r.homes.address (map home_region places) end) (words_end r.homes.address r.homes.words s.homes (home_words p.shared) g.homes_words k.homes) v.homes;
+  homes = subst (λ end. AreInOrder r.homes.address (map home_region places) end)
+      (words_end r.homes.address r.homes.words s.homes (home_words p.shared) g.homes_words k.homes) v.homes;
   copies = subst (λ end. AreInOrder r.copies.address (flat_map copy_regions places) end)
       (words_end r.copies.address r.copies.words s.copies (copy_sum written p.shared) g.copies_words (k.copies ∙ sym (copies_are p written few h))) v.copies;
   versions = subst (λ end. AreInOrder r.versions.address (flat_map version_regions places) end)
       (words_end r.versions.address r.versions.words allow.versions (version_sum written p.shared) g.versions_words
       (a.versions ∙ sym (versions_are p written few h))) v.versions;
-  code = subst (λ end. AreInOrder r.code.address (map (λ t. t.code) layouts) end) (words_end r.code.address r.code.words s.code (total (body_words p.shared) p.tasks) g.code_words k.code) t.code;
+  code = subst (λ end. AreInOrder r.code.address (map (λ t. t.code) layouts) end)
+      (words_end r.code.address r.code.words s.code (total (body_words p.shared) p.tasks) g.code_words k.code) t.code;
   privates = t.privates;
 }
 
@@ -282,7 +296,8 @@ size_is e n w h k = omega (arith, h, k)
 pub whole : (p : CheckedProgram) (allow : Allow) (plans : List TaskPlanValue) (s : Sizes) (r : Regions) (written : List Bool) (places : List VariablePlace)
     (layouts : List TaskPlace)
     → length p.shared ≤ 256 → AreWritten p written → IsAllowed p allow → AreSizes p s → AreRegions allow s r
-    → ArePlaced p.shared written (record { home = r.homes.address; copy = r.copies.address; version = r.versions.address }) places → ArePlacedTasks p.shared places p.tasks plans r.code.address layouts
+    → ArePlaced p.shared written (record { home = r.homes.address; copy = r.copies.address; version = r.versions.address }) places
+    → ArePlacedTasks p.shared places p.tasks plans r.code.address layouts
     → IsLayout p allow plans (map_with r places layouts)
 whole p allow plans s r written places layouts few h a k g v t = record {
   rules = laid_out p allow plans s r written places layouts few h a k g v t;

@@ -1,5 +1,6 @@
 -- The places that variables and tasks are given.
-use Rattle.std.specs.Prelude.{◌≡◌, ℕ, ◌+◌, ◌*◌, ◌%◌, ◌≤◌, Bool, true, false, if◌then◌else◌, List, length, map, Option, Some, None, All, slice_get, slice_index_or, IsSomeAnd}
+use Rattle.std.specs.Prelude.{◌≡◌, ℕ, ◌+◌, ◌*◌, ◌%◌, ◌≤◌, Bool, true, false, if◌then◌else◌, List, length, map, Option, Some, None, All, slice_get}
+use Rattle.std.specs.Prelude.{slice_index_or, IsSomeAnd}
 use Rattle.std.specs.List.{flat_map}
 use Rattle.task_ast.specs.declared.Extent.{Extent}
 use Rattle.task_ast.specs.declared.Extent.TheVariants as extent

@@ -36,7 +36,8 @@ fn region_behind(region: Region, words: u32) -> Region
 
 // The runtime's words stand at the start of the FRAM, and behind them the regions, one right behind another.
 fn regions_of(allow: &Allow, sizes: Sizes) -> Regions
-    requires { fram_first + 2 * (row_words + commit_words + 3 * allow.now.list + allow.now.emits + allow.now.versions + sizes.homes + sizes.copies + sizes.boot + sizes.code) ≤ reset_vector }
+    requires { fram_first + 2 * (row_words + commit_words + 3 * allow.now.list + allow.now.emits + allow.now.versions + sizes.homes + sizes.copies +
+        sizes.boot + sizes.code) ≤ reset_vector }
     ensures { AreRegions allow.now sizes result }
 {
     let row = Region {

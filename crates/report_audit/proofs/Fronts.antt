@@ -1,5 +1,6 @@
 -- Where a report begins, how it goes on, and where it stops being good.
-use Rattle.std.proofs.Common.{◌≡◌, ◌≤◌, ◌<◌, ◌^◌, ℕ, ◌+◌, ◌-◌, ◌⊎◌, List, [], ◌∷◌, ◌++◌, length, take, drop, arith, refl, ap, sym, ◌∙◌, subst, append_assoc, append-nil, codes, decimal, inl, inr, Some, None, slice_get, length-drop}
+use Rattle.std.proofs.Common.{◌≡◌, ◌≤◌, ◌<◌, ◌^◌, ℕ, ◌+◌, ◌-◌, ◌⊎◌, List, [], ◌∷◌, ◌++◌, length, take, drop, arith, refl, ap, sym, ◌∙◌, subst, append_assoc}
+use Rattle.std.proofs.Common.{append-nil, codes, decimal, inl, inr, Some, None, slice_get, length-drop}
 use Rattle.std.proofs.lemmas.List.{take-append-drop, take-take}
 use Rattle.std.proofs.Math.Seq.{take-append_seam}
 use Rattle.alp_io.specs.declared.report.Reason.{Reason}
@@ -14,7 +15,8 @@ use Rattle.source_maps.specs.Names.{HasNames}
 use Rattle.report_audit.specs.declared.front.Front.{Front}
 use Rattle.report_audit.specs.declared.entry.Entry.TheVariants as entry
 use Rattle.report_audit.specs.Entry.{entry_of}
-use Rattle.report_audit.specs.Fronts.{Inputs, IsGood, first_line, IsMadeOn, GoesOn, IsRest, Ended, More, Shares, first_front, IsFront, IsStop, StandsUpTo, DiffersAt}
+use Rattle.report_audit.specs.Fronts.{Inputs, IsGood, first_line, IsMadeOn, GoesOn, IsRest, Ended, More, Shares, first_front, IsFront, IsStop, StandsUpTo}
+use Rattle.report_audit.specs.Fronts.{DiffersAt}
 use Rattle.report_audit.proofs.Lists.{cancel, shares_first_line, split_first, byte_behind}
 use Rattle.report_audit.proofs.Printed.{fed, words_of, bound_is, fields_are, first_line_is, transition_is}
 use Rattle.report_audit.proofs.Rests.{HasEnd, good_behind, IsHeaded, headed}

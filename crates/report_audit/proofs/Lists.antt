@@ -1,5 +1,6 @@
 -- First lines that two texts share, and the byte behind a front.
-use Rattle.std.proofs.Common.{◌≡◌, ℕ, zero, suc, ◌+◌, ◌==◌, if◌then◌else◌, Bool, List, [], ◌∷◌, ◌++◌, take, drop, arith, refl, ap, sym, ◌∙◌, true, false, cond, inl, inr, Some, slice_get, add-one}
+use Rattle.std.proofs.Common.{◌≡◌, ℕ, zero, suc, ◌+◌, ◌==◌, if◌then◌else◌, Bool, List, [], ◌∷◌, ◌++◌, take, drop, arith, refl, ap, sym, ◌∙◌, true, false}
+use Rattle.std.proofs.Common.{cond, inl, inr, Some, slice_get, add-one}
 use Rattle.std.proofs.lemmas.Bool.Decides.{nat_tests}
 use Rattle.alp_text.specs.Lines.{line_len}
 use Rattle.report_audit.specs.Fronts.{Shares, first_line}

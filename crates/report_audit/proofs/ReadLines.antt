@@ -1,5 +1,6 @@
 -- The line that is read at a front is the first of what is left; and where none is read, nothing is left.
-use Rattle.std.proofs.Common.{◌≡◌, ◌≤◌, ℕ, ◌+◌, ◌-◌, Bool, true, false, if◌then◌else◌, nat_lt, List, length, take, drop, arith, refl, ap, subst, Option, Some, None}
+use Rattle.std.proofs.Common.{◌≡◌, ◌≤◌, ℕ, ◌+◌, ◌-◌, Bool, true, false, if◌then◌else◌, nat_lt, List, length, take, drop, arith, refl, ap, subst, Option, Some}
+use Rattle.std.proofs.Common.{None}
 use Rattle.std.proofs.lemmas.List.{drop_all}
 use Rattle.std.proofs.lemmas.Bool.Decides.{nat_tests}
 use Rattle.alp_text.specs.declared.lines.Span.{Span}

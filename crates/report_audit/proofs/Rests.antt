@@ -1,11 +1,13 @@
 -- A good report is one that its first state may be followed by, behind the bound or without it.
-use Rattle.std.proofs.Common.{◌≡◌, ◌≤◌, ◌<◌, ◌^◌, ℕ, ◌+◌, ◌⊎◌, List, [], ◌∷◌, ◌++◌, length, map, sum_by, arith, refl, ap, ap₂, sym, ◌∙◌, subst, append_assoc, Option, Some, None}
+use Rattle.std.proofs.Common.{◌≡◌, ◌≤◌, ◌<◌, ◌^◌, ℕ, ◌+◌, ◌⊎◌, List, [], ◌∷◌, ◌++◌, length, map, sum_by, arith, refl, ap, ap₂, sym, ◌∙◌, subst, append_assoc}
+use Rattle.std.proofs.Common.{Option, Some, None}
 use Rattle.std.proofs.lemmas.List.Sums.{sum_by-cons}
 use Rattle.alp_io.specs.declared.report.Reason.{Reason}
 use Rattle.alp_io.specs.declared.report.Reason.TheVariants.{Off}
 use Rattle.alp_io.specs.Report.{bound_line, end_line}
 use Rattle.source_values.specs.Values.{◌>>?◌}
-use Rattle.source_values.specs.Runs.{CheckedProgram, Completion, State, Transition, first_state, state_after, exactly, attempt_of, completion_of, transition_of, source_run}
+use Rattle.source_values.specs.Runs.{CheckedProgram, Completion, State, Transition, first_state, state_after, exactly, attempt_of, completion_of}
+use Rattle.source_values.specs.Runs.{transition_of, source_run}
 use Rattle.source_report.specs.SourceReport.{Committed, readings_of, transition_lines, source_report}
 use Rattle.source_report.specs.Apart.{AreApart}
 use Rattle.report_audit.specs.Good.{IsGoodReport}

@@ -1,5 +1,6 @@
 //! A report read entry by entry: how far it is good, or where it stops being so.
-ghost use Rattle.std.specs.Prelude.{◌≡◌, ◌≤◌, ◌<◌, ◌^◌, ◌+◌, ◌*◌, ◌++◌, ℕ, List, [], All, length, take, drop, true, Some, None, IfSome, IfNone, IfOk, IfErr, OnOk};
+ghost use Rattle.std.specs.Prelude.{◌≡◌, ◌≤◌, ◌<◌, ◌^◌, ◌+◌, ◌*◌, ◌++◌, ℕ, List, [], All, length, take, drop, true, Some, None, IfSome, IfNone, IfOk, IfErr};
+ghost use Rattle.std.specs.Prelude.{OnOk};
 ghost use Rattle.alp_io.specs.Report.{bound_line, end_line};
 ghost use Rattle.source_report.specs.task_ast.View.{program_of};
 ghost use Rattle.source_values.specs.Runs.{Transition, first_state};

@@ -4,7 +4,8 @@ use Rattle.crash_rules.specs.msp_isa.declared.instructions.Instr.{Instr}
 use Rattle.crash_rules.specs.fram_board.declared.board.Stepped.{Stepped}
 use Rattle.crash_rules.specs.fram_board.Board.{BoardValue, PowerState, powered, executed, IsNextInstruction}
 use Rattle.crash_rules.specs.fram_board.Steps.{IsPowerState}
-use Rattle.crash_rules.specs.fram_board.Run.{Action, PowerUp, Execute, Moment, moment_of, power_up_of, Charges, Stopped, RunOutcome, run_outcome, BoardCharge, Run, Over}
+use Rattle.crash_rules.specs.fram_board.Run.{Action, PowerUp, Execute, Moment, moment_of, power_up_of, Charges, Stopped, RunOutcome, run_outcome, BoardCharge}
+use Rattle.crash_rules.specs.fram_board.Run.{Run, Over}
 use Rattle.crash_rules.specs.fram_board.Run.{Next, Last}
 use Rattle.crash_rules.specs.machine_effects.Machine.{Steps}
 use Rattle.crash_rules.specs.machine_effects.View.{machine_of, IsWhole, IsOfWords}

@@ -15,7 +15,8 @@ use Rattle.crash_rules.specs.History.{History, behind_boot}
 use Rattle.crash_rules.proofs.Interface.{observed_world, observed_taken}
 use Rattle.run_charges.specs.Charges.{behind_action, observed}
 use Rattle.run_charges.specs.Laws.{IsRunOfWords}
-use Rattle.run_charges.proofs.Moments.{IsMomentFrom, PowersUp, Instructs, AreMoments, front_moments, told, whole_after, words_after, words_accepted, words_counted, readings_counted}
+use Rattle.run_charges.proofs.Moments.{IsMomentFrom, PowersUp, Instructs, AreMoments, front_moments, told, whole_after, words_after, words_accepted}
+use Rattle.run_charges.proofs.Moments.{words_counted, readings_counted}
 
 -- the words accepted and the readings taken are a board's
 pub record Counts (b : BoardValue) (h : History) (ws : List ℕ) : Type 0 where

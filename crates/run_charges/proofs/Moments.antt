@@ -10,21 +10,25 @@ use Rattle.crash_rules.specs.msp_step.Step.{effect, execution, Executed}
 use Rattle.crash_rules.specs.fram_board.declared.board.Stepped.{Stepped}
 use Rattle.crash_rules.specs.fram_board.declared.receiver.Receiver.{Receiver}
 use Rattle.crash_rules.specs.fram_board.Bus.{board_bus, is_fram, data_port}
-use Rattle.crash_rules.specs.fram_board.Board.{BoardValue, PowerState, powered, opened, executed, IsNextInstruction, IsStep, is_accepted, next_number, offered_to}
+use Rattle.crash_rules.specs.fram_board.Board.{BoardValue, PowerState, powered, opened, executed, IsNextInstruction, IsStep, is_accepted, next_number}
+use Rattle.crash_rules.specs.fram_board.Board.{offered_to}
 use Rattle.crash_rules.specs.fram_board.Saved.{TakesNextBehind}
 use Rattle.crash_rules.specs.fram_board.Steps.{IsPowerState}
 use Rattle.crash_rules.specs.fram_board.Effects.{Effect, Store, Take, Send, sends_of, effects_of, heard}
-use Rattle.crash_rules.specs.fram_board.Run.{Measure, Instructions, price, Moment, moment_of, power_up_of, Charges, RunOutcome, run_outcome, after_moments, ChargeRun}
+use Rattle.crash_rules.specs.fram_board.Run.{Measure, Instructions, price, Moment, moment_of, power_up_of, Charges, RunOutcome, run_outcome, after_moments}
+use Rattle.crash_rules.specs.fram_board.Run.{ChargeRun}
 use Rattle.crash_rules.specs.fram_board.Run.{Spent, NoInstruction, TooDear, Refused, BoardCharge, Run, Over, Next, Last, word_list}
 use Rattle.crash_rules.specs.fram_board.Run as run
 use Rattle.crash_rules.proofs.fram_board.Interface.{step_makes_its_effects, data_not_fram}
 use Rattle.crash_rules.specs.machine_effects.World.{fram_after, received, accepted_after, readings_taken}
 use Rattle.crash_rules.specs.machine_effects.Going.{Goes, At, stretch}
-use Rattle.crash_rules.specs.machine_effects.Machine.{MachineBus, MachineBoard, MachineOutcome, Stays, Steps, word_address, IsMachineStep, machine_bus, machine_opened, machine_outcome}
+use Rattle.crash_rules.specs.machine_effects.Machine.{MachineBus, MachineBoard, MachineOutcome, Stays, Steps, word_address, IsMachineStep, machine_bus}
+use Rattle.crash_rules.specs.machine_effects.Machine.{machine_opened, machine_outcome}
 use Rattle.crash_rules.specs.machine_effects.Machine.{machine_executed, fram_of}
 use Rattle.crash_rules.specs.machine_effects.View.{machine_of, IsWhole, IsOfWords, outcome_of_answer}
 use Rattle.crash_rules.specs.machine_effects.Runs.{action_effects, moments_effects, moments_cycles, last_board, ReachesAs}
-use Rattle.crash_rules.proofs.machine_effects.Interface.{takes, written_effects, LoggedBy, effect_logged, machine_changes_by_effects, executed_same, current_to_machine, step_leaves_it_whole, words_stay_words, charge_accepts_by_sends}
+use Rattle.crash_rules.proofs.machine_effects.Interface.{takes, written_effects, LoggedBy, effect_logged, machine_changes_by_effects, executed_same}
+use Rattle.crash_rules.proofs.machine_effects.Interface.{current_to_machine, step_leaves_it_whole, words_stay_words, charge_accepts_by_sends}
 use Rattle.crash_rules.specs.History.{History}
 use Rattle.crash_rules.proofs.Interface.{observed_taken, events_of_instructions}
 use Rattle.run_charges.specs.Charges.{ArePowerStates, IsInstruction, AreInstructionMoments}

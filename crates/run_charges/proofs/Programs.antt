@@ -10,14 +10,16 @@ use Rattle.crash_rules.specs.machine_effects.Going.{Goes, Status, At, Halted, st
 use Rattle.crash_rules.specs.machine_effects.Machine.{MachineBoard, MachineOutcome, MachineStretch, MachineRun, Stays, Halts, Steps, fram_of}
 use Rattle.crash_rules.specs.machine_effects.View.{machine_of, IsWhole, IsOfWords}
 use Rattle.crash_rules.specs.machine_effects.Runs.{action_effects, moments_effects, moments_cycles}
-use Rattle.crash_rules.proofs.machine_effects.Interface.{fram_after-append, fram_untouched, machine_changes_by_effects, power_up_keeps_words, machine_is_of_words, power_up_is_the_machines}
+use Rattle.crash_rules.proofs.machine_effects.Interface.{fram_after-append, fram_untouched, machine_changes_by_effects, power_up_keeps_words}
+use Rattle.crash_rules.proofs.machine_effects.Interface.{machine_is_of_words, power_up_is_the_machines}
 use Rattle.code_forms.specs.Placed.{words_of, Holds, LeavesCode, IsOutside}
 use Rattle.code_forms.proofs.Interface.{holds_stores, code_in_fram_runs}
 use Rattle.crash_rules.specs.Model.{IsElsewhere}
 use Rattle.crash_rules.specs.History.{History, observe, behind_boot}
 use Rattle.crash_rules.specs.Runs.{Program, Charged}
 use Rattle.crash_rules.proofs.Interface.{observe-append}
-use Rattle.run_charges.specs.Charges.{ChargeFront, board_behind, board_behind_all, moments_of, IsInstruction, AreInstructionMoments, IsMachineCharge, AreMachineCharges, behind_action, observed, charges_of, IsPlacedProgram, LeavesProgram, AlwaysLeaves}
+use Rattle.run_charges.specs.Charges.{ChargeFront, board_behind, board_behind_all, moments_of, IsInstruction, AreInstructionMoments, IsMachineCharge}
+use Rattle.run_charges.specs.Charges.{AreMachineCharges, behind_action, observed, charges_of, IsPlacedProgram, LeavesProgram, AlwaysLeaves}
 use Rattle.run_charges.specs.Laws.{FrontsAreCharged}
 use Rattle.run_charges.proofs.Charges.{fronts_are_the_machines}
 

@@ -4,7 +4,8 @@ use Rattle.crash_rules.specs.msp_isa.declared.instructions.Instr.{Instr}
 use Rattle.crash_rules.specs.msp_step.declared.machine.Stop.{Stop}
 use Rattle.crash_rules.specs.fram_board.Board.{BoardValue, PowerState, powered}
 use Rattle.crash_rules.specs.fram_board.Steps.{IsPowerState}
-use Rattle.crash_rules.specs.fram_board.Run.{Action, PowerUp, Execute, Moment, Charges, Stopped, RunOutcome, run_outcome, after_moments, BoardCharge, power_up_of}
+use Rattle.crash_rules.specs.fram_board.Run.{Action, PowerUp, Execute, Moment, Charges, Stopped, RunOutcome, run_outcome, after_moments, BoardCharge}
+use Rattle.crash_rules.specs.fram_board.Run.{power_up_of}
 use Rattle.crash_rules.specs.machine_effects.World.{EachStore}
 use Rattle.crash_rules.specs.machine_effects.Going.{going}
 use Rattle.crash_rules.specs.machine_effects.Machine.{MachineBoard, MachineStretch, exec, machine_powered}

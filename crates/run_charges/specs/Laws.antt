@@ -8,7 +8,8 @@ use Rattle.crash_rules.specs.machine_effects.View.{machine_of, IsWhole, IsOfWord
 use Rattle.code_forms.specs.Placed.{words_of, Holds}
 use Rattle.crash_rules.specs.History.{History}
 use Rattle.crash_rules.specs.Runs.{Program, Charged}
-use Rattle.run_charges.specs.Charges.{ArePowerStates, ChargeFront, board_behind_all, moments_of, AreMachineCharges, RunsAsMachine, observed, charges_of, IsPlacedProgram, AlwaysLeaves}
+use Rattle.run_charges.specs.Charges.{ArePowerStates, ChargeFront, board_behind_all, moments_of, AreMachineCharges, RunsAsMachine, observed, charges_of}
+use Rattle.run_charges.specs.Charges.{IsPlacedProgram, AlwaysLeaves}
 
 -- a run of a whole board of words under charges with any power-ups
 pub record IsRunOfWords (cs : List BoardCharge) (b : BoardValue) (r : RunOutcome) : Type 0 where

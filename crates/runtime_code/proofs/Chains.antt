@@ -13,10 +13,12 @@ module _ (code : Code) (tidy : IsTidy code) where
   -- straight code
   pub straight : (ms : List Form) (n : ℕ) (u t : Core) (es : List Effect) (c : ℕ) (P : Core → Type 0) → AreStraight ms → Stands code u.pc ms → FormsNeed ms u
       → forms_run ms u ≡ stretch es c (At t) → n ≡ length ms → P t → Comes code es n c u P
-  straight ms n u t es c P st h w e l p = subst (λ k. Comes code es k c u P) (sym l) (record { end = t; leads = block code tidy ms u t es c st h w e; holds = p })
+  straight ms n u t es c P st h w e l p = subst (λ k. Comes code es k c u P) (sym l)
+      (record { end = t; leads = block code tidy ms u t es c st h w e; holds = p })
 
   -- one form, a jump too
-  pub one_form : (m : Form) (u t : Core) (es : List Effect) (c : ℕ) (P : Core → Type 0) → code u.pc ≡ Some (instruction_of m) → FormNeeds m u → form_step m u ≡ Goes es c t
+  pub one_form : (m : Form) (u t : Core) (es : List Effect) (c : ℕ) (P : Core → Type 0) → code u.pc ≡ Some (instruction_of m) → FormNeeds m u
+      → form_step m u ≡ Goes es c t
       → P t → Comes code es 1 c u P
   one_form m u t es c P h w e p = record {
     end = t;
@@ -25,13 +27,15 @@ module _ (code : Code) (tidy : IsTidy code) where
   }
 
 -- a stretch of code, and another from each state that it may come to
-pub comes_on : (code : Code) (n n' c c' : ℕ) (u : Core) (P Q : Core → Type 0) (es fs : List Effect) → Comes code es n c u P → ((t : Core) → P t → Comes code fs n' c' t Q) → Comes code (es ++ fs) (n + n') (c + c') u Q
+pub comes_on : (code : Code) (n n' c c' : ℕ) (u : Core) (P Q : Core → Type 0) (es fs : List Effect) → Comes code es n c u P
+    → ((t : Core) → P t → Comes code fs n' c' t Q) → Comes code (es ++ fs) (n + n') (c + c') u Q
 comes_on code n n' c c' u P Q es fs a f =
     let b = f a.end a.holds in
     record { end = b.end; leads = join (exec code) n n' es fs c c' (board_of u) (board_of a.end) (board_of b.end) a.leads b.leads; holds = b.holds }
 
 -- the same stretch with its steps and cycles added up
-pub recounted : (code : Code) (es : List Effect) (n n' c c' : ℕ) (u : Core) (P : Core → Type 0) → n ≡ n' → c ≡ c' → Comes code es n c u P → Comes code es n' c' u P
+pub recounted : (code : Code) (es : List Effect) (n n' c c' : ℕ) (u : Core) (P : Core → Type 0) → n ≡ n' → c ≡ c' → Comes code es n c u P
+    → Comes code es n' c' u P
 recounted code es n n' c c' u P e d a = subst (λ k. Comes code es k c' u P) e (subst (λ k. Comes code es n k u P) d a)
 
 -- no step at all
@@ -39,11 +43,13 @@ pub nothing : (code : Code) (u : Core) (P : Core → Type 0) → P u → Comes c
 nothing code u P p = record { end = u; leads = stay (exec code) (board_of u); holds = p }
 
 -- a stretch to a state that is known, and another from there
-pub then_on : (code : Code) (n n' c c' : ℕ) (u t : Core) (Q : Core → Type 0) (es fs : List Effect) → Comes code es n c u (λ v. v ≡ t) → Comes code fs n' c' t Q → Comes code (es ++ fs) (n + n') (c + c') u Q
+pub then_on : (code : Code) (n n' c c' : ℕ) (u t : Core) (Q : Core → Type 0) (es fs : List Effect) → Comes code es n c u (λ v. v ≡ t)
+    → Comes code fs n' c' t Q → Comes code (es ++ fs) (n + n') (c + c') u Q
 then_on code n n' c c' u t Q es fs a b = comes_on code n n' c c' u (λ v. v ≡ t) Q es fs a (λ v e. subst (λ x. Comes code fs n' c' x Q) (sym e) b)
 
 -- the same address by another sum
-pub moved_to : (code : Code) (q q' n c : ℕ) (u : Core) (es : List Effect) (f : ℕ → ℕ) (rs : List ℕ) → q ≡ q' → Comes code es n c u (IsAt q f rs) → Comes code es n c u (IsAt q' f rs)
+pub moved_to : (code : Code) (q q' n c : ℕ) (u : Core) (es : List Effect) (f : ℕ → ℕ) (rs : List ℕ) → q ≡ q' → Comes code es n c u (IsAt q f rs)
+    → Comes code es n c u (IsAt q' f rs)
 moved_to code q q' n c u es f rs e a = subst (λ x. Comes code es n c u (IsAt x f rs)) e a
 
 -- a stretch, and one from where it leads, whose effects and end depend on FRAM as it then is

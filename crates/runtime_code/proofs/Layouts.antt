@@ -84,4 +84,5 @@ pair_words l h s p =
 pub privates_are_words : PrivatesAreWords
 privates_are_words l h =
     All-weaker (λ t. All (HasItsPlace l.variables) t.privates) (λ t. All ArePairWords (pairs_of t))
-    (λ t p. All-map ArePairWords pair_of t.privates (All-weaker (HasItsPlace l.variables) (λ s. ArePairWords (pair_of s)) (pair_words l h) t.privates p)) l.tasks h.privates
+    (λ t p. All-map ArePairWords pair_of t.privates (All-weaker (HasItsPlace l.variables) (λ s. ArePairWords (pair_of s)) (pair_words l h) t.privates p))
+    l.tasks h.privates

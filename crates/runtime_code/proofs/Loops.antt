@@ -14,16 +14,19 @@ use Rattle.runtime_code.specs.Comes.{Comes}
 use Rattle.runtime_code.proofs.Chains.{straight, one_form, then_on}
 
 module _ (code : Code) (tidy : IsTidy code) where
-  module _ (p over q : ℕ) (test : code p ≡ Some (instruction_of (Calculate Cmp (Constant Zero) R4))) (jump : code (p + 2) ≡ Some (instruction_of (Jump Equal over)))
+  module _ (p over q : ℕ) (test : code p ≡ Some (instruction_of (Calculate Cmp (Constant Zero) R4)))
+      (jump : code (p + 2) ≡ Some (instruction_of (Jump Equal over)))
       (there : sum16 (p + 2 + 2) (distance over) ≡ q) where
     -- the state behind the comparison of R4 with 0
     abbrev pub tested : Core → Core
     tested u = end_of u (forms_run (Calculate Cmp (Constant Zero) R4 ∷ []) u).status
 
     check : (u : Core) → u.pc ≡ p → Comes code [] 1 1 u (λ v. v ≡ tested u)
-    check u e = straight code tidy (Calculate Cmp (Constant Zero) R4 ∷ []) 1 u (tested u) [] 1 (λ v. v ≡ tested u) (tt, tt) (ap code e ∙ test, tt) ((tt, tt), tt) refl refl refl
+    check u e = straight code tidy (Calculate Cmp (Constant Zero) R4 ∷ []) 1 u (tested u) [] 1 (λ v. v ≡ tested u) (tt, tt) (ap code e ∙ test, tt)
+        ((tt, tt), tt) refl refl refl
 
-    jumped : (b : Bool) (u : Core) → u.pc ≡ p → ((u.work 4 + 65535 + 1) % 65536 == 0) ≡ b → Comes code [] 2 3 u (λ v. v ≡ record (tested u) { pc = if b then q else p + 2 + 2 })
+    jumped : (b : Bool) (u : Core) → u.pc ≡ p → ((u.work 4 + 65535 + 1) % 65536 == 0) ≡ b
+        → Comes code [] 2 3 u (λ v. v ≡ record (tested u) { pc = if b then q else p + 2 + 2 })
     jumped b u e z =
         let t : Core = record (tested u) { pc = if b then q else p + 2 + 2 } in
         then_on code 1 1 1 2 u (tested u) (λ v. v ≡ t) [] [] (check u e)
@@ -42,7 +45,8 @@ module _ (code : Code) (tidy : IsTidy code) where
     leaves u e h = jumped true u e (ap (λ n. (n + 65535 + 1) % 65536 == 0) h)
 
   -- the jump back
-  pub jumps_back : (p q o : ℕ) (u : Core) → code p ≡ Some (instruction_of (Jump Always o)) → u.pc ≡ p → sum16 (p + 2) (distance o) ≡ q → Comes code [] 1 2 u (λ v. v ≡ record u { pc = q })
+  pub jumps_back : (p q o : ℕ) (u : Core) → code p ≡ Some (instruction_of (Jump Always o)) → u.pc ≡ p → sum16 (p + 2) (distance o) ≡ q
+      → Comes code [] 1 2 u (λ v. v ≡ record u { pc = q })
   jumps_back p q o u h e there =
       one_form code tidy (Jump Always o) u (record u { pc = q }) [] 2 (λ v. v ≡ record u { pc = q }) (ap code e ∙ h) tt
       (ap (λ x. Goes [] 2 (record u { pc = sum16 (x + 2) (distance o) })) e ∙ ap (λ x. Goes [] 2 (record u { pc = x })) there) refl

@@ -10,7 +10,9 @@ ghost use Rattle.msp_isa.specs.declared.operands.Operand.TheVariants as mode;
 ghost use Rattle.msp_isa.specs.declared.registers.SourceRegister.TheVariants as source_register;
 ghost use Rattle.msp_isa.specs.declared.registers.Reg.TheVariants as reg;
 
-use msp_isa::{Condition, Dst, IndexRegister, Instr, Offset, Operand, Reg, SourceRegister, Src, TwoOp, Width};
+use msp_isa::{
+    Condition, Dst, IndexRegister, Instr, Offset, Operand, Reg, SourceRegister, Src, TwoOp, Width,
+};
 
 fn word_instr(op: TwoOp, source: Src, destination: Dst) -> Instr
     ensures { result ≡ instr.Two op Word source destination }

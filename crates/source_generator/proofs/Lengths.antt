@@ -1,12 +1,14 @@
 -- How long a generated text is at most.
-use Rattle.std.proofs.Common.{◌≡◌, ℕ, zero, suc, ◌+◌, ◌*◌, ◌/◌, ◌%◌, ◌<◌, ◌≤◌, Bool, true, false, if◌then◌else◌, List, [], ◌∷◌, ◌++◌, length, codes, ap, arith, length-append}
+use Rattle.std.proofs.Common.{◌≡◌, ℕ, zero, suc, ◌+◌, ◌*◌, ◌/◌, ◌%◌, ◌<◌, ◌≤◌, Bool, true, false, if◌then◌else◌, List, [], ◌∷◌, ◌++◌, length, codes, ap}
+use Rattle.std.proofs.Common.{arith, length-append}
 use Rattle.std.specs.Fmt.{decimal}
 use Rattle.std.specs.Prelude.{flat_map, sum_by, ◌==◌}
 use Rattle.std.proofs.lemmas.Fmt.{length-decimal-le}
 use Rattle.std.proofs.lemmas.List.Concat.{length-flat_map}
 use Rattle.std.proofs.lemmas.List.Sums.{sum_by-le}
 use Rattle.source_generator.specs.Draws.{next, drawn, draws, behind}
-use Rattle.source_generator.specs.Source.{texts, template, letter_text, filled, statement_text, scalar_text, scalar_texts, task_head, task_end, task_text, task_texts, generated_text}
+use Rattle.source_generator.specs.Source.{texts, template, letter_text, filled, statement_text, scalar_text, scalar_texts, task_head, task_end, task_text}
+use Rattle.source_generator.specs.Source.{task_texts, generated_text}
 
 -- the longer of two texts
 either_le : (c : Bool) (n : ℕ) (xs ys : List ℕ) → length xs ≤ n → length ys ≤ n → length (if c then xs else ys) ≤ n
@@ -43,7 +45,8 @@ filled_le d text h =
 
 -- a text in pieces
 pieces_le : (m n : ℕ) (text : List ℕ) (more : List (List ℕ)) → length text ≤ m → length (texts more) ≤ n → length (texts (text ∷ more)) ≤ m + n
-pieces_le m n text more h k = let sum : length (text ++ texts more) ≡ length text + length (texts more) = length-append text (texts more) in omega (arith, sum, h, k)
+pieces_le m n text more h k = let sum : length (text ++ texts more) ≡ length text + length (texts more) = length-append text (texts more) in
+    omega (arith, sum, h, k)
 
 both_le : (m n : ℕ) (xs ys : List ℕ) → length xs ≤ m → length ys ≤ n → length (xs ++ ys) ≤ m + n
 both_le m n xs ys h k = let sum : length (xs ++ ys) ≡ length xs + length ys = length-append xs ys in omega (arith, sum, h, k)

@@ -22,7 +22,8 @@ tasks_there P (t ∷ ts) h =
     All-cons (λ t. P t.name) t ts (All-head (λ t. P t.name) (task_back t) (map task_back ts) h)
     (tasks_there P ts (All-tail (λ t. P t.name) (task_back t) (map task_back ts) h))
 
-names_there : (text : List ℕ) (tasks : List (Task VariableName TaskName)) → map (λ t. spelled text t.name) (map task_back tasks) ≡ map (λ t. spelled text t.name) tasks
+names_there : (text : List ℕ) (tasks : List (Task VariableName TaskName)) → map (λ t. spelled text t.name) (map task_back tasks)
+    ≡ map (λ t. spelled text t.name) tasks
 names_there text [] = refl
 names_there text (t ∷ ts) = ap (λ l. spelled text t.name ∷ l) (names_there text ts)
 

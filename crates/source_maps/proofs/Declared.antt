@@ -8,7 +8,8 @@ use Rattle.cost_bound.specs.task_check.declared.occurrence.Role.{Role}
 use Rattle.cost_bound.specs.task_check.declared.occurrence.Role.TheVariants as role
 use Rattle.cost_bound.specs.task_check.declared.occurrence.Occurrence.{Occurrence}
 use Rattle.cost_bound.specs.task_check.Scope.{text_of}
-use Rattle.cost_bound.specs.task_check.Occurrences.{and_front, expression_names, value_names, statement_names, choice_names, names_up_to, task_names, shared_names}
+use Rattle.cost_bound.specs.task_check.Occurrences.{and_front, expression_names, value_names, statement_names, choice_names, names_up_to, task_names}
+use Rattle.cost_bound.specs.task_check.Occurrences.{shared_names}
 use Rattle.cost_bound.specs.task_check.Occurrences.{program_names}
 
 -- the name that is declared, if a shared variable or a task is

@@ -23,10 +23,20 @@ use Rattle.source_maps.proofs.Takes.{all_variables, all_tasks}
 pub names_back : (P : Span → Type 0) (ts : List (TaskDeclaration VariableName TaskName)) → All (λ t. P t.name) (map task_of ts) → All (λ t. P t.name) ts
 names_back P [] h = All-nil (λ t. P t.name)
 names_back P (t ∷ ts) h =
-    All-cons (λ t. P t.name) t ts (All-head (λ t. P t.name) (task_of t) (map task_of ts) h) (names_back P ts (All-tail (λ t. P t.name) (task_of t) (map task_of ts) h))
+    All-cons (λ t. P t.name) t ts (All-head (λ t. P t.name) (task_of t) (map task_of ts) h)
+    (names_back P ts (All-tail (λ t. P t.name) (task_of t) (map task_of ts) h))
 
 abbrev bare : ℕ → RuntimeWords → Place → Place → Place → MapValue
-bare bound words list emits versions = record { bound = bound; words = words; list = list; emits = emits; versions = versions; copies = None; variables = []; tasks = [] }
+bare bound words list emits versions = record {
+  bound = bound;
+  words = words;
+  list = list;
+  emits = emits;
+  versions = versions;
+  copies = None;
+  variables = [];
+  tasks = [];
+}
 
 pub bare_is : (l : MemoryMap) (allow : Allow) (m : MapValue) (w : RuntimeWords) (a b d : Place) → m ≡ bare allow.cycles w a b d → w ≡ map_words l → a
     ≡ map_list l
@@ -37,7 +47,8 @@ bare_is l allow m w a b d e i j k n =
     ∙ ap (bare bound (map_words l) (map_list l) (map_buffer l.emits)) n
 
 -- the same with the place of the copies
-pub copies_are : (l : MemoryMap) (allow : Allow) (m n : MapValue) (c : Place) → m ≡ record (bare_map l allow) { copies = None } → n ≡ record m { copies = Some c }
+pub copies_are : (l : MemoryMap) (allow : Allow) (m n : MapValue) (c : Place) → m ≡ record (bare_map l allow) { copies = None }
+    → n ≡ record m { copies = Some c }
     → c ≡ map_buffer l.copies → n ≡ bare_map l allow
 copies_are l allow m n c e f g = f ∙ ap (λ (m : MapValue). record m { copies = Some c }) e ∙ ap (λ c. record (bare_map l allow) { copies = Some c }) g
 

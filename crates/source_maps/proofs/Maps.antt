@@ -90,7 +90,8 @@ scalars_of_plan : (shared : List SharedDeclaration) (task : CheckedTask) (plan :
     → IsTaskLayout shared task.body plan t → HasScalars shared t
 scalars_of_plan shared task plan t is has = record {
   from = subst (AreFrom 0) (sym has.privates) (from_pairs 0 plan.private_scalars is.private_scalars.ascending (starts_anywhere plan.private_scalars));
-  scalars = subst (All (IsScalarAt shared)) (sym has.privates) (All-weaker (IsPrivateIn shared task.body) (IsScalarAt shared) (λ n h. h.scalar) plan.private_scalars is.private_scalars.only);
+  scalars = subst (All (IsScalarAt shared)) (sym has.privates)
+      (All-weaker (IsPrivateIn shared task.body) (IsScalarAt shared) (λ n h. h.scalar) plan.private_scalars is.private_scalars.only);
 }
 
 -- the same of each task
@@ -120,7 +121,8 @@ module _ (text : List ℕ) (shared : List SharedDeclaration) (places : List Vari
   all_privates_are [] (t ∷ ts) h = absurd h
   all_privates_are (task ∷ tasks) [] h = absurd h
   all_privates_are (task ∷ tasks) (t ∷ ts) h =
-      All-cons (λ t. are_scalars t.privates (variables_of text shared places) ≡ true) _ (tasks_of text shared tasks ts) (privates_are t h.0) (all_privates_are tasks ts h.1)
+      All-cons (λ t. are_scalars t.privates (variables_of text shared places) ≡ true) _ (tasks_of text shared tasks ts) (privates_are t h.0)
+      (all_privates_are tasks ts h.1)
 
 tasks_count : (text : List ℕ) (shared : List SharedDeclaration) (tasks : List CheckedTask) (ts : List TaskPlace) → length ts ≡ length tasks
     → length (tasks_of text shared tasks ts) ≡ length tasks
@@ -153,7 +155,8 @@ maps_are_of_sources text p allow plans l h =
     let within = slice_get_within p.tasks k task a in
     let planned = h.plan.count in
     let plan = slice_get-get_or plans k no_plan (omega (arith, within, planned)) in
-    scalars_of_plan p.shared task (get_or plans k no_plan) t (h.plan.each k task (get_or plans k no_plan) a plan) (h.layout.tasks.each k task (get_or plans k no_plan) t a plan b)) in
+    scalars_of_plan p.shared task (get_or plans k no_plan) t (h.plan.each k task (get_or plans k no_plan) a plan)
+    (h.layout.tasks.each k task (get_or plans k no_plan) t a plan b)) in
     let few_shared = h.few_shared in
     let few_tasks = h.few_tasks in
     let bound = h.allowed.within_bound in
@@ -182,5 +185,6 @@ maps_are_of_sources text p allow plans l h =
       };
       places = places;
       declared = All-weaker (λ t. All (HasItsPlace l.variables) t.privates) (λ t. All (λ s. s.number < length p.shared) t.privates)
-          (λ t k. All-weaker (HasItsPlace l.variables) (λ s. s.number < length p.shared) (declared_there (length p.shared) l.variables h.layout.variables.count) t.privates k) l.tasks rules.privates;
+          (λ t k. All-weaker (HasItsPlace l.variables) (λ s. s.number < length p.shared)
+          (declared_there (length p.shared) l.variables h.layout.variables.count) t.privates k) l.tasks rules.privates;
     }

@@ -26,14 +26,16 @@ of_kind b (extent.Array n) (Scalar home copy) h = h
 of_kind b (extent.Array n) (Array elements m copies) h = h.0
 
 pub places_of : (shared : List SharedDeclaration) (places : List VariablePlace) → length places ≡ length shared
-    → ((i : ℕ) (d : SharedDeclaration) (place : VariablePlace) → slice_get shared i ≡ Some d → slice_get places i ≡ Some place → IsOfKind d.extent place) → ArePlacesOf shared places
+    → ((i : ℕ) (d : SharedDeclaration) (place : VariablePlace) → slice_get shared i ≡ Some d → slice_get places i ≡ Some place → IsOfKind d.extent place)
+    → ArePlacesOf shared places
 places_of [] [] n f = tt
 places_of [] (place ∷ places) n f = absurd (omega (arith, n))
 places_of (d ∷ ds) [] n f = absurd (omega (arith, n))
 places_of (d ∷ ds) (place ∷ places) n f = (f 0 d place refl refl, places_of ds places (omega (arith, n)) (λ i e q a b. f (suc i) e q a b))
 
 pub places_by_number : (written : ℕ → Bool) (shared : List SharedDeclaration) (places : List VariablePlace) → length places ≡ length shared
-    → ((i : ℕ) (d : SharedDeclaration) (place : VariablePlace) → slice_get shared i ≡ Some d → slice_get places i ≡ Some place → IsPlaceOf (written i) d.extent place) → ArePlacesOf shared places
+    → ((i : ℕ) (d : SharedDeclaration) (place : VariablePlace) → slice_get shared i ≡ Some d → slice_get places i ≡ Some place
+    → IsPlaceOf (written i) d.extent place) → ArePlacesOf shared places
 places_by_number written shared places n f = places_of shared places n (λ i d place a b. of_kind (written i) d.extent place (f i d place a b))
 
 -- a place of this kind has these many words
@@ -58,7 +60,8 @@ in_order_end from end (p ∷ ps) h =
     let b = in_order_end (end_of (home_region p)) end ps h.1 in
     omega (arith, a, b)
 
-pub variables_are : (text : List ℕ) (from end : ℕ) (ds : List SharedDeclaration) (ps : List VariablePlace) → ArePlacesOf ds ps → AreInOrder from (map home_region ps) end
+pub variables_are : (text : List ℕ) (from end : ℕ) (ds : List SharedDeclaration) (ps : List VariablePlace) → ArePlacesOf ds ps
+    → AreInOrder from (map home_region ps) end
     → fram_first ≤ from → end ≤ reset_vector → All (λ d. HasWords d.extent) ds → All IsVariable (variables_of text ds ps)
 variables_are text from end [] [] places order low high words = All-nil IsVariable
 variables_are text from end [] (p ∷ ps) places order low high words = absurd places
@@ -85,7 +88,8 @@ names_of_variables text [] (p ∷ ps) h = absurd h
 names_of_variables text (d ∷ ds) [] h = absurd h
 names_of_variables text (d ∷ ds) (p ∷ ps) h = ap (λ l. spelled text d.name ∷ l) (names_of_variables text ds ps h.1)
 
-pub of_declarations : (text : List ℕ) (ds : List SharedDeclaration) (ps : List VariablePlace) → ArePlacesOf ds ps → AreVariablesOf text (variables_of text ds ps) ds
+pub of_declarations : (text : List ℕ) (ds : List SharedDeclaration) (ps : List VariablePlace) → ArePlacesOf ds ps
+    → AreVariablesOf text (variables_of text ds ps) ds
 of_declarations text [] [] h = tt
 of_declarations text [] (p ∷ ps) h = absurd h
 of_declarations text (d ∷ ds) [] h = absurd h

@@ -1,5 +1,6 @@
 -- The private scalars of a task are scalars of the source in order of declaration.
-use Rattle.std.proofs.Common.{◌≡◌, ◌∙◌, ℕ, suc, ◌+◌, ◌-◌, ◌<◌, ◌≤◌, ◌==◌, ◌&&◌, Bool, true, false, cond, List, [], ◌∷◌, map, refl, sym, ap, arith, Option, Some, None, is_none, eqb-true}
+use Rattle.std.proofs.Common.{◌≡◌, ◌∙◌, ℕ, suc, ◌+◌, ◌-◌, ◌<◌, ◌≤◌, ◌==◌, ◌&&◌, Bool, true, false, cond, List, [], ◌∷◌, map, refl, sym, ap, arith, Option}
+use Rattle.std.proofs.Common.{Some, None, is_none, eqb-true}
 use Rattle.std.specs.Prelude.{All, AllPairs, slice_get, IsSomeAnd}
 use Rattle.std.specs.Str.{bytes_eq}
 use Rattle.std.proofs.lemmas.Bool.Decides.{nat_tests}
@@ -41,7 +42,8 @@ weaker : (j k : ℕ) (ns : List ℕ) → j ≤ k → AreFrom k ns → AreFrom j 
 weaker j k [] l h = tt
 weaker j k (n ∷ ns) l h = let low = h.0 in (omega (arith, l, low), h.1)
 
-scalar_there : (text : List ℕ) (d : SharedDeclaration) (place : VariablePlace) → is_scalar d.extent ≡ true → is_scalar_of (spelled text d.name) (variable_of text d place) ≡ true
+scalar_there : (text : List ℕ) (d : SharedDeclaration) (place : VariablePlace) → is_scalar d.extent ≡ true
+    → is_scalar_of (spelled text d.name) (variable_of text d place) ≡ true
 scalar_there text d place h = by d.extent h
   where
     same : bytes_eq (spelled text d.name) (spelled text d.name) ≡ true

@@ -14,9 +14,11 @@ use Rattle.cost_bound.specs.task_lex.declared.piece.Piece.{Piece}
 use Rattle.cost_bound.specs.task_lex.declared.step.Place.{Place}
 use Rattle.cost_bound.specs.task_lex.declared.step.Step.{Step}
 use Rattle.cost_bound.specs.task_lex.declared.step.Step.TheVariants.{Skip, Take, Fails}
-use Rattle.cost_bound.specs.task_lex.Pieces.{is_blank, is_letter, is_word, is_in_line, spelling, singles, pairs, spelled as spelled_kind, single_piece, marked, mark}
+use Rattle.cost_bound.specs.task_lex.Pieces.{is_blank, is_letter, is_word, is_in_line, spelling, singles, pairs, spelled as spelled_kind, single_piece}
+use Rattle.cost_bound.specs.task_lex.Pieces.{marked, mark}
 use Rattle.cost_bound.specs.task_lex.Pieces.{word_kind, number, piece_of}
-use Rattle.cost_bound.specs.task_lex.Lex.{Lexed, tokens, fault, with_front, after, step, step_by, counted, numbered, is_opening, is_end, depth_after, width_after}
+use Rattle.cost_bound.specs.task_lex.Lex.{Lexed, tokens, fault, with_front, after, step, step_by, counted, numbered, is_opening, is_end, depth_after}
+use Rattle.cost_bound.specs.task_lex.Lex.{width_after}
 use Rattle.cost_bound.specs.task_lex.Lex.{lex_within, lex_from, lexed}
 use Rattle.task_ast.specs.declared.SharedDeclaration.{SharedDeclaration}
 use Rattle.task_ast.specs.Tree.{Task, Program}

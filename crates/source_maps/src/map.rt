@@ -9,7 +9,8 @@ ghost use Rattle.memory_map.specs.Places.{home_region};
 ghost use Rattle.source_maps.specs.Maps as maps;
 ghost use Rattle.source_maps.specs.Maps.{variables_of, private_names, task_value_of, tasks_of};
 ghost use Rattle.source_maps.specs.Names.{HasNames};
-ghost use Rattle.source_maps.specs.Adding.{bare_map, map_with_variables, with_variables, TakesVariables, with_privates, TakesPrivates, with_whole_task, with_tasks, TakesTasks, TakesSource};
+ghost use Rattle.source_maps.specs.Adding.{bare_map, map_with_variables, with_variables, TakesVariables, with_privates, TakesPrivates, with_whole_task};
+ghost use Rattle.source_maps.specs.Adding.{with_tasks, TakesTasks, TakesSource};
 
 use alp_text::Span;
 use cost_bound::Allow;

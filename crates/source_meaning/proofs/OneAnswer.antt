@@ -41,11 +41,13 @@ same_program parses checks text p q x y =
 
 no_stop : parse.OneAnswer → (text : List ℕ) (tree : Program Span Span) (line : ℕ) → Parses text tree → IsNoProgram text line → ⊥
 no_stop law text tree line x refused =
-    law.no_program x.words refused.at tree (subst (λ ts. StopsAt ts refused.at) (same_tokens refused.words x.words (sym refused.lexes ∙ x.lexes)) refused.stops) x.grammar
+    law.no_program x.words refused.at tree (subst (λ ts. StopsAt ts refused.at) (same_tokens refused.words x.words (sym refused.lexes ∙ x.lexes))
+    refused.stops) x.grammar
 
 no_check : parse.OneAnswer → check.OneAnswer → (text : List ℕ) (p : Program VariableName TaskName) (e : CheckFault) → Checks text p → IsUnchecked text e → ⊥
 no_check parses checks text p e x refused =
-    checks.no_refusal text x.tree p e x.checks (subst (λ t. IsRefused text t e) (same_tree parses text refused.tree x.tree refused.parses x.parses) refused.refused)
+    checks.no_refusal text x.tree p e x.checks (subst (λ t. IsRefused text t e) (same_tree parses text refused.tree x.tree refused.parses x.parses)
+    refused.refused)
 
 no_over : parse.OneAnswer → check.OneAnswer → ((p : Program VariableName TaskName) (lines : List ℕ) → cost.OneAnswer p lines)
     → (text : List ℕ) (p : Program VariableName TaskName) (a : Allow) (e : Over) → Checks text p → IsAllowed p a → IsTooCostly text e → ⊥

@@ -26,7 +26,8 @@ on_then p q r f g (goes_on s) next h more = on_map q r (f h.0) (λ ys y. g h.0 y
 on_then p q r f g (to_task k s) next h more = tt
 on_then p q r f g short next h more = tt
 
-on_value : (p : List Access → Type 0) (v : Option (ℕ × List ℕ)) (s : Attempt) (next : ℕ → Attempt → Outcome) → ((w : ℕ) (s : Attempt) → OnPath p (next w s)) → OnPath p (if_value v s next)
+on_value : (p : List Access → Type 0) (v : Option (ℕ × List ℕ)) (s : Attempt) (next : ℕ → Attempt → Outcome) → ((w : ℕ) (s : Attempt) → OnPath p (next w s))
+    → OnPath p (if_value v s next)
 on_value p None s next more = tt
 on_value p (Some x) s next more = more x.0 (record s { left = x.1 })
 
@@ -45,41 +46,51 @@ expression_path (t.binary op a b) = let p = expression_path a in let q = express
 expression_path (t.shift op e count) = let p = expression_path e in (p.0, path.shift op e count p.0 p.1)
 expression_path (t.short_circuit op a b) = let p = expression_path a in (p.0, path.left_alone op a b p.0 p.1)
 
-turns_path : (n from : ℕ) (x : VariableName) (body : Block VariableName TaskName) (s : Attempt) → ((s : Attempt) → OnPath (λ xs. BlockPath body xs path.goes_on) (run_block body s))
+turns_path : (n from : ℕ) (x : VariableName) (body : Block VariableName TaskName) (s : Attempt)
+    → ((s : Attempt) → OnPath (λ xs. BlockPath body xs path.goes_on) (run_block body s))
     → OnPath (λ xs. TurnsPath x n body xs path.goes_on) (turns n from x.variable (run_block body) s)
 turns_path zero from x body s h = ([], path.over x body)
 turns_path (suc n) from x body s h =
     on_then (λ xs. BlockPath body xs path.goes_on) (λ xs. TurnsPath x n body xs path.goes_on) (λ xs. TurnsPath x (suc n) body xs path.goes_on)
     (λ xs ys. xs ++ write x ∷ ys) (λ xs ys p q. path.turn x n body xs ys path.goes_on p q)
-    (run_block body (assigned s x.variable 0 from)) (turns n (from + 1) x.variable (run_block body)) (h (assigned s x.variable 0 from)) (λ s. turns_path n (from + 1) x body s h)
+    (run_block body (assigned s x.variable 0 from)) (turns n (from + 1) x.variable (run_block body)) (h (assigned s x.variable 0 from))
+    (λ s. turns_path n (from + 1) x body s h)
 
 mutual
   statement_path : (s : Statement VariableName TaskName) (a : Attempt) → OnPath (λ xs. StatementPath s xs path.goes_on) (run_statement s a)
   statement_path (t.declare of x None) a = (path.unset x ∷ [], path.declare_unset of x)
   statement_path (t.declare of x (Some e)) a = let p = expression_path e in
-      on_value (λ xs. StatementPath (t.declare of x (Some e)) xs path.goes_on) (value_of e a.variables a.left) a _ (λ w s. (p.0 ++ write x ∷ [], path.declare_set of x e p.0 p.1))
+      on_value (λ xs. StatementPath (t.declare of x (Some e)) xs path.goes_on) (value_of e a.variables a.left) a _
+      (λ w s. (p.0 ++ write x ∷ [], path.declare_set of x e p.0 p.1))
   statement_path (t.assign x e) a = let p = expression_path e in
       on_value (λ xs. StatementPath (t.assign x e) xs path.goes_on) (value_of e a.variables a.left) a _ (λ w s. (p.0 ++ write x ∷ [], path.assign x e p.0 p.1))
   statement_path (t.store x index e) a = let i = expression_path index in let p = expression_path e in
       on_value (λ xs. StatementPath (t.store x index e) xs path.goes_on) (value_of index a.variables a.left) a _
       (λ k s. on_value (λ xs. StatementPath (t.store x index e) xs path.goes_on) (value_of e s.variables s.left) s _
       (λ w s. (i.0 ++ (p.0 ++ write x ∷ []), path.store x index e i.0 p.0 i.1 p.1)))
-  statement_path (t.choose c) a = on_map (λ xs. ChoicePath c xs path.goes_on) (λ xs. StatementPath (t.choose c) xs path.goes_on) (λ xs. xs) (λ xs p. path.choose c xs path.goes_on p) (run_choice c a) (choice_path c a)
+  statement_path (t.choose c) a = on_map (λ xs. ChoicePath c xs path.goes_on) (λ xs. StatementPath (t.choose c) xs path.goes_on) (λ xs. xs)
+      (λ xs p. path.choose c xs path.goes_on p) (run_choice c a) (choice_path c a)
   statement_path (t.loop x from tested under stepped body) a =
-      on_map (λ xs. TurnsPath x (under - from) body xs path.goes_on) (λ xs. StatementPath (t.loop x from tested under stepped body) xs path.goes_on) (λ xs. write x ∷ xs)
-      (λ xs p. path.loop x from tested under stepped body xs path.goes_on p) (turns (under - from) from x.variable (run_block body) a) (turns_path (under - from) from x body a (block_path body))
+      on_map (λ xs. TurnsPath x (under - from) body xs path.goes_on) (λ xs. StatementPath (t.loop x from tested under stepped body) xs path.goes_on)
+      (λ xs. write x ∷ xs)
+      (λ xs p. path.loop x from tested under stepped body xs path.goes_on p) (turns (under - from) from x.variable (run_block body) a)
+      (turns_path (under - from) from x body a (block_path body))
   statement_path (t.emit e) a = let p = expression_path e in
       on_value (λ xs. StatementPath (t.emit e) xs path.goes_on) (value_of e a.variables a.left) a _ (λ w s. (p.0, path.emit e p.0 p.1))
   statement_path (t.transition n) a = tt
 
   choice_path : (c : Choice VariableName TaskName) (a : Attempt) → OnPath (λ xs. ChoicePath c xs path.goes_on) (run_choice c a)
   choice_path t.nothing a = ([], path.nothing)
-  choice_path (t.otherwise b) a = on_map (λ xs. BlockPath b xs path.goes_on) (λ xs. ChoicePath (t.otherwise b) xs path.goes_on) (λ xs. xs) (λ xs p. path.otherwise b xs path.goes_on p) (run_block b a) (block_path b a)
+  choice_path (t.otherwise b) a = on_map (λ xs. BlockPath b xs path.goes_on) (λ xs. ChoicePath (t.otherwise b) xs path.goes_on) (λ xs. xs)
+      (λ xs p. path.otherwise b xs path.goes_on p) (run_block b a) (block_path b a)
   choice_path (t.test e b more) a = let p = expression_path e in
-      on_value (λ xs. ChoicePath (t.test e b more) xs path.goes_on) (value_of e a.variables a.left) a (λ w s. if holds w then run_block b s else run_choice more s)
+      on_value (λ xs. ChoicePath (t.test e b more) xs path.goes_on) (value_of e a.variables a.left) a
+      (λ w s. if holds w then run_block b s else run_choice more s)
       (λ w s. on_if (λ xs. ChoicePath (t.test e b more) xs path.goes_on) (holds w) (run_block b s) (run_choice more s)
-      (on_map (λ xs. BlockPath b xs path.goes_on) (λ xs. ChoicePath (t.test e b more) xs path.goes_on) (λ ys. p.0 ++ ys) (λ ys q. path.taken e b more p.0 ys path.goes_on p.1 q) (run_block b s) (block_path b s))
-      (on_map (λ xs. ChoicePath more xs path.goes_on) (λ xs. ChoicePath (t.test e b more) xs path.goes_on) (λ ys. p.0 ++ ys) (λ ys q. path.passed e b more p.0 ys path.goes_on p.1 q) (run_choice more s) (choice_path more s)))
+      (on_map (λ xs. BlockPath b xs path.goes_on) (λ xs. ChoicePath (t.test e b more) xs path.goes_on) (λ ys. p.0 ++ ys)
+      (λ ys q. path.taken e b more p.0 ys path.goes_on p.1 q) (run_block b s) (block_path b s))
+      (on_map (λ xs. ChoicePath more xs path.goes_on) (λ xs. ChoicePath (t.test e b more) xs path.goes_on) (λ ys. p.0 ++ ys)
+      (λ ys q. path.passed e b more p.0 ys path.goes_on p.1 q) (run_choice more s) (choice_path more s)))
 
   pub block_path : (b : Block VariableName TaskName) (a : Attempt) → OnPath (λ xs. BlockPath b xs path.goes_on) (run_block b a)
   block_path t.end a = ([], path.finished)

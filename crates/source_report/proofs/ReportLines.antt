@@ -7,7 +7,8 @@ use Rattle.task_ast.specs.declared.SharedDeclaration.{SharedDeclaration}
 use Rattle.source_values.specs.Runs.{initial_words}
 use Rattle.source_report.specs.SourceReport.{spelled, emitted_lines, change_line, element_lines, variable_lines, change_lines}
 
-pub rest_of_emitted : (words : List ℕ) (i : ℕ) → i < length words → emitted_lines (drop i words) ≡ accepted_line (get_or words i 0) ++ emitted_lines (drop (i + 1) words)
+pub rest_of_emitted : (words : List ℕ) (i : ℕ) → i < length words → emitted_lines (drop i words) ≡ accepted_line (get_or words i 0)
+    ++ emitted_lines (drop (i + 1) words)
 rest_of_emitted words i h =
     let split : drop i words ≡ get_or words i 0 ∷ drop (i + 1) words = grind (arith, drop-cons words i 0) in
     ap emitted_lines split
@@ -25,7 +26,8 @@ abbrev pub IsShapedBy : List SharedDeclaration → List (List ℕ) → Type 0
 IsShapedBy shared rows = map (length {A = ℕ}) rows ≡ map (length {A = ℕ}) (map (λ d. initial_words d.extent) shared)
 
 pub shaped_count : (shared : List SharedDeclaration) (rows : List (List ℕ)) → IsShapedBy shared rows → length rows ≡ length shared
-shaped_count shared rows e = sym (length-map rows (length {A = ℕ})) ∙ ap length e ∙ length-map (map (λ d. initial_words d.extent) shared) (length {A = ℕ}) ∙ length-map shared (λ d. initial_words d.extent)
+shaped_count shared rows e = sym (length-map rows (length {A = ℕ})) ∙ ap length e ∙ length-map (map (λ d. initial_words d.extent) shared) (length {A = ℕ})
+    ∙ length-map shared (λ d. initial_words d.extent)
 
 pub shaped_row : (shared : List SharedDeclaration) (rows : List (List ℕ)) (v : ℕ) (d : SharedDeclaration) → IsShapedBy shared rows
     → v < length shared → length (get_or rows v []) ≡ length (initial_words (get_or shared v d).extent)

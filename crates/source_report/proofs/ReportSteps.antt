@@ -24,9 +24,11 @@ pub report_short : (n : ℕ) (text : List ℕ) (program : CheckedProgram) (total
 unfolding report_from
 report_short zero text program total k accepted task shared readings h e = absurd (omega arith)
 report_short (suc n) text program total k accepted task shared readings h e = ap (λ o. if_whole o (end_line Readings k accepted 0)
-    (λ c. attempt_lines text program total k task shared readings c ++ report_from n text program total (k + 1) (accepted + length c.emitted) c.next c.shared c.left)) e
+    (λ c. attempt_lines text program total k task shared readings c ++ report_from n text program total (k + 1) (accepted + length c.emitted) c.next c.shared
+    c.left)) e
 
-pub report_more : (n m : ℕ) (text : List ℕ) (program : CheckedProgram) (total k accepted task : ℕ) (shared : List (List ℕ)) (readings : List ℕ) (c : Completion) → n ≡ m + 1
+pub report_more : (n m : ℕ) (text : List ℕ) (program : CheckedProgram) (total k accepted task : ℕ) (shared : List (List ℕ)) (readings : List ℕ)
+    (c : Completion) → n ≡ m + 1
     → completion_of (attempt_of program task shared readings) ≡ Some c
     → report_from n text program total k accepted task shared readings
     ≡ attempt_lines text program total k task shared readings c ++ report_from m text program total (k + 1) (accepted + length c.emitted) c.next c.shared c.left
@@ -35,5 +37,7 @@ report_more zero m text program total k accepted task shared readings c h e = ab
 report_more (suc n) m text program total k accepted task shared readings c h e =
     let same : n ≡ m = omega arith in
     ap (λ o. if_whole o (end_line Readings k accepted 0)
-    (λ c. attempt_lines text program total k task shared readings c ++ report_from n text program total (k + 1) (accepted + length c.emitted) c.next c.shared c.left)) e
-    ∙ ap (λ j. attempt_lines text program total k task shared readings c ++ report_from j text program total (k + 1) (accepted + length c.emitted) c.next c.shared c.left) same
+    (λ c. attempt_lines text program total k task shared readings c ++ report_from n text program total (k + 1) (accepted + length c.emitted) c.next c.shared
+    c.left)) e
+    ∙ ap (λ j. attempt_lines text program total k task shared readings c ++ report_from j text program total (k + 1) (accepted + length c.emitted) c.next
+    c.shared c.left) same

@@ -1,6 +1,7 @@
 -- The report of a source run: for each transition its line, a line for each word that it emitted and one for each shared
 -- word that it changed; and the report of `mean`, with its end line.
-use Rattle.std.specs.Prelude.{◌≡◌, ◌≤◌, ◌<◌, take, drop, ℕ, ◌+◌, ◌-◌, ◌==◌, List, [], ◌∷◌, ◌++◌, length, flat_map, map, sum_by, slice_get, slice_index, Option, Some, None, if◌then◌else◌}
+use Rattle.std.specs.Prelude.{◌≡◌, ◌≤◌, ◌<◌, take, drop, ℕ, ◌+◌, ◌-◌, ◌==◌, List, [], ◌∷◌, ◌++◌, length, flat_map, map, sum_by, slice_get, slice_index}
+use Rattle.std.specs.Prelude.{Option, Some, None, if◌then◌else◌}
 use Rattle.std.specs.Option.{option_map}
 use Rattle.alp_text.specs.declared.lines.Span.{Span}
 use Rattle.alp_io.specs.declared.report.Reason.{Reason}

@@ -7,7 +7,8 @@ use Rattle.model_runs.specs.fram_board.Effects.{Effect}
 use Rattle.model_runs.specs.fram_board.Run.{Action, PowerUp, Execute, Moment}
 use Rattle.model_runs.specs.machine_effects.World.{World, world_after_one}
 use Rattle.model_runs.specs.machine_effects.Runs.{action_effects}
-use Rattle.model_runs.specs.crash_rules.History.{Done, History, is_done, is_decide, with_effect, behind_boot, behind_done, behind_decide, behind_gate, observe_one, observe, first_history}
+use Rattle.model_runs.specs.crash_rules.History.{Done, History, is_done, is_decide, with_effect, behind_boot, behind_done, behind_decide, behind_gate}
+use Rattle.model_runs.specs.crash_rules.History.{observe_one, observe, first_history}
 use Rattle.model_runs.specs.run_charges.Charges.{behind_action, observed}
 use Rattle.source_report.specs.Apart.{AreApart}
 use Rattle.source_runs.specs.Transitions.{committed_by}

@@ -1,5 +1,6 @@
 -- The receiver of a run accepted the words that its transitions emitted, and has heard no more than its charges pay for.
-use Rattle.std.proofs.Common.{◌≡◌, ◌≤◌, ℕ, ◌+◌, ◌-◌, refl, sym, ap, subst, arith, Bool, true, false, if◌then◌else◌, List, [], ◌∷◌, ◌++◌, length, sum_by, length-append, append-nil, Option, Some, None, Result, Ok, Err, ◌∙◌}
+use Rattle.std.proofs.Common.{◌≡◌, ◌≤◌, ℕ, ◌+◌, ◌-◌, refl, sym, ap, subst, arith, Bool, true, false, if◌then◌else◌, List, [], ◌∷◌, ◌++◌, length, sum_by}
+use Rattle.std.proofs.Common.{length-append, append-nil, Option, Some, None, Result, Ok, Err, ◌∙◌}
 use Rattle.std.proofs.lemmas.List.Sums.{sum_by-cons}
 use Rattle.model_runs.specs.msp_isa.declared.instructions.Instr.{Instr}
 use Rattle.model_runs.specs.msp_step.declared.machine.Stop.{Stop}
@@ -12,7 +13,8 @@ use Rattle.model_runs.specs.fram_board.declared.receiver.Receiver.{Receiver}
 use Rattle.model_runs.specs.fram_board.declared.board.Stepped.{Stepped}
 use Rattle.model_runs.specs.fram_board.Bus.{BusState, board_bus}
 use Rattle.model_runs.specs.fram_board.Board.{BoardValue, opened, answer_of, executed, powered, is_accepted, accepted_word, receiver_after}
-use Rattle.model_runs.specs.fram_board.Run.{Measure, Moment, Charges, Stopped, RunOutcome, run_outcome, BoardCharge, price, ChargeRun, Spent, NoInstruction, TooDear, Refused, Executed, Run, Over, Next, Last, word_list, accepted_by, accepted_words}
+use Rattle.model_runs.specs.fram_board.Run.{Measure, Moment, Charges, Stopped, RunOutcome, run_outcome, BoardCharge, price, ChargeRun, Spent, NoInstruction}
+use Rattle.model_runs.specs.fram_board.Run.{TooDear, Refused, Executed, Run, Over, Next, Last, word_list, accepted_by, accepted_words}
 use Rattle.model_runs.proofs.fram_board.Interface.{price_low, counted}
 use Rattle.source_report.specs.source_values.Runs.{State, Transition, state_after}
 use Rattle.model_runs.specs.machine_effects.World.{World}

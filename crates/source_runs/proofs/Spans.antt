@@ -1,6 +1,7 @@
 -- The spans of the transitions of a run, read off its moments, are those of the dones that are read off its effects; and so each of its
 -- charges pays for its transitions.
-use Rattle.std.proofs.Common.{◌≡◌, ℕ, ◌+◌, ◌*◌, ◌≤◌, refl, sym, ap, ap₂, ◌∙◌, subst, arith, Bool, true, false, cond, if◌then◌else◌, List, [], ◌∷◌, ◌++◌, length, map, append_assoc, append-nil, length-append, Some, Ok}
+use Rattle.std.proofs.Common.{◌≡◌, ℕ, ◌+◌, ◌*◌, ◌≤◌, refl, sym, ap, ap₂, ◌∙◌, subst, arith, Bool, true, false, cond, if◌then◌else◌, List, [], ◌∷◌, ◌++◌}
+use Rattle.std.proofs.Common.{length, map, append_assoc, append-nil, length-append, Some, Ok}
 use Rattle.std.proofs.lemmas.List.{length-map, map-append}
 use Rattle.model_runs.specs.msp_isa.declared.instructions.Instr.{Instr}
 use Rattle.model_runs.specs.image_map.MapValue.{MapValue}
@@ -17,7 +18,8 @@ use Rattle.model_runs.specs.crash_rules.History.{Done, History, is_decide, behin
 use Rattle.model_runs.proofs.crash_rules.Interface.{with_effects}
 use Rattle.model_runs.specs.run_charges.Charges.{ArePowerStates, behind_action, observed}
 use Rattle.model_runs.specs.run_charges.Laws.{IsRunOfWords}
-use Rattle.model_runs.proofs.run_charges.Interface.{IsMomentFrom, PowersUp, Instructs, AreMoments, charge_moments, charge_last, first_start, other_starts, front_moments}
+use Rattle.model_runs.proofs.run_charges.Interface.{IsMomentFrom, PowersUp, Instructs, AreMoments, charge_moments, charge_last, first_start, other_starts}
+use Rattle.model_runs.proofs.run_charges.Interface.{front_moments}
 use Rattle.model_runs.specs.Events.{SaysTheSame}
 use Rattle.model_runs.specs.EventLaws.{StartsWith}
 use Rattle.model_runs.proofs.Interface.{Together, observed_so, moment_leads, moments_lead, first_histories_are_the_same}

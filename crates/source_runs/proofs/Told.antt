@@ -1,5 +1,6 @@
 -- The report of a run is the source's, on the committed readings of its dones.
-use Rattle.std.proofs.Common.{◌≡◌, ℕ, ◌+◌, ◌-◌, ◌<◌, ◌≤◌, ◌^◌, refl, sym, ap, ap₂, ◌∙◌, subst, arith, List, [], ◌∷◌, ◌++◌, length, drop, append-nil, length-append, Some}
+use Rattle.std.proofs.Common.{◌≡◌, ℕ, ◌+◌, ◌-◌, ◌<◌, ◌≤◌, ◌^◌, refl, sym, ap, ap₂, ◌∙◌, subst, arith, List, [], ◌∷◌, ◌++◌, length, drop, append-nil}
+use Rattle.std.proofs.Common.{length-append, Some}
 use Rattle.std.proofs.lemmas.List.{length-map, map-append}
 use Rattle.model_runs.specs.alp_io.declared.report.Reason.{Reason}
 use Rattle.model_runs.specs.alp_io.declared.report.Reason.TheVariants as reason

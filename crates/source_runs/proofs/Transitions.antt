@@ -9,7 +9,8 @@ use Rattle.source_report.specs.task_ast.declared.names.TaskName.{TaskName}
 use Rattle.model_runs.specs.image_map.MapValue.{MapValue}
 use Rattle.source_report.specs.source_values.Values.{◌>>?◌}
 use Rattle.source_report.specs.source_values.Statements.{Outcome, goes_on, to_task, short, block_emits}
-use Rattle.source_report.specs.source_values.Runs.{CheckedProgram, State, Transition, Completion, EmitsFit, body_of, task_body, fresh_attempt, attempt_of, completion_of}
+use Rattle.source_report.specs.source_values.Runs.{CheckedProgram, State, Transition, Completion, EmitsFit, body_of, task_body, fresh_attempt, attempt_of}
+use Rattle.source_report.specs.source_values.Runs.{completion_of}
 use Rattle.source_report.specs.source_values.Runs.{exactly, transition_of, source_run, state_after, state_behind}
 use Rattle.source_report.proofs.source_values.Interface.{EmitsUpTo, block_up_to}
 use Rattle.source_report.specs.SourceReport.{readings_of}

@@ -7,7 +7,8 @@ use Rattle.model_runs.specs.image_map.MapValue.{MapValue}
 use Rattle.model_runs.specs.msp_step.declared.machine.Stop.{Stop}
 use Rattle.model_runs.specs.msp_step.declared.machine.Stop.TheVariants as stop
 use Rattle.model_runs.specs.fram_board.Board.{BoardValue, powered}
-use Rattle.model_runs.specs.fram_board.Run.{Cycles, Action, PowerUp, Execute, Moment, End, Charges, Stopped, RunOutcome, run_outcome, after_moments, BoardCharge, ChargeRun, power_up_of}
+use Rattle.model_runs.specs.fram_board.Run.{Cycles, Action, PowerUp, Execute, Moment, End, Charges, Stopped, RunOutcome, run_outcome, after_moments}
+use Rattle.model_runs.specs.fram_board.Run.{BoardCharge, ChargeRun, power_up_of}
 use Rattle.model_runs.specs.board_run.History.{History, start_with, is_done, word_in, noted}
 use Rattle.model_runs.specs.board_run.Report.{after_all}
 use Rattle.source_report.specs.source_values.Statements.{Outcome, short}

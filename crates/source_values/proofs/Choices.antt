@@ -1,5 +1,6 @@
 -- The conditions of an `if`, one after another, and what its blocks emit.
-use Rattle.std.proofs.Common.{◌≡◌, ◌<◌, ◌≤◌, ◌+◌, ℕ, zero, suc, max, true, false, List, [], ◌∷◌, map, length, drop, get_or, sym, ap, ◌∙◌, arith, Option, Some, None, drop-cons, if◌then◌else◌, OnSome, subst}
+use Rattle.std.proofs.Common.{◌≡◌, ◌<◌, ◌≤◌, ◌+◌, ℕ, zero, suc, max, true, false, List, [], ◌∷◌, map, length, drop, get_or, sym, ap, ◌∙◌, arith, Option, Some}
+use Rattle.std.proofs.Common.{None, drop-cons, if◌then◌else◌, OnSome, subst}
 use denote.Bor.{Bor}
 use Rattle.source_values.specs.declared.statements.Chosen.{Chosen}
 use Rattle.source_values.specs.declared.statements.Chosen.TheVariants.{Behind, NoneHolds}
@@ -19,20 +20,23 @@ arm_view : (arm : Arm VariableName TaskName) → tested_of arm ≡ record { cond
 arm_view arm = fold_out-Arm VariableName TaskName (Statement VariableName TaskName) (Tested VariableName TaskName) statement_step tested_step arm
 
 -- what the first condition leaves where it has a value
-pub choice_taken : (c : Expression VariableName) (block : Block VariableName TaskName) (more : Choice VariableName TaskName) (s : Attempt) (w : ℕ) (left : List ℕ)
+pub choice_taken : (c : Expression VariableName) (block : Block VariableName TaskName) (more : Choice VariableName TaskName) (s : Attempt) (w : ℕ)
+    (left : List ℕ)
     → Some (w, left) ≡ value_of c s.variables s.left → holds w ≡ true → run_choice (test c block more) s ≡ run_block block (record s { left = left })
 choice_taken c block more s w left e h =
     ap (λ o. if_value o s (λ w s. if holds w then run_block block s else run_choice more s)) (sym e)
     ∙ ap (λ b. if b then run_block block (record s { left = left }) else run_choice more (record s { left = left })) h
 
-pub choice_passed : (c : Expression VariableName) (block : Block VariableName TaskName) (more : Choice VariableName TaskName) (s : Attempt) (w : ℕ) (left : List ℕ)
+pub choice_passed : (c : Expression VariableName) (block : Block VariableName TaskName) (more : Choice VariableName TaskName) (s : Attempt) (w : ℕ)
+    (left : List ℕ)
     → Some (w, left) ≡ value_of c s.variables s.left → holds w ≡ false → run_choice (test c block more) s ≡ run_choice more (record s { left = left })
 choice_passed c block more s w left e h =
     ap (λ o. if_value o s (λ w s. if holds w then run_block block s else run_choice more s)) (sym e)
     ∙ ap (λ b. if b then run_block block (record s { left = left }) else run_choice more (record s { left = left })) h
 
 -- the arms from number i on
-choice_at : (arms : List (Arm VariableName TaskName)) (i : ℕ) (arm : Arm VariableName TaskName) (last : Option (Block VariableName TaskName)) → i < length arms → arm ≡ get_or arms i arm
+choice_at : (arms : List (Arm VariableName TaskName)) (i : ℕ) (arm : Arm VariableName TaskName) (last : Option (Block VariableName TaskName))
+    → i < length arms → arm ≡ get_or arms i arm
     → choice_of (map tested_of (drop i arms)) last
     ≡ test (expression_of arm.condition) (block_view arm.block.items) (choice_of (map tested_of (drop (i + 1) arms)) last)
 choice_at arms i arm last h is =
@@ -40,7 +44,8 @@ choice_at arms i arm last h is =
     ap (λ rest. choice_of (map tested_of rest) last) (split ∙ ap (λ x. x ∷ drop (i + 1) arms) (sym is))
     ∙ ap (λ t. test t.condition t.block (choice_of (map tested_of (drop (i + 1) arms)) last)) (arm_view arm)
 
-pub arm_taken : (arms : List (Arm VariableName TaskName)) (i : ℕ) (arm : Arm VariableName TaskName) (last : Option (Block VariableName TaskName)) (body : List (Stmt VariableName TaskName)) (s : Attempt) (w : ℕ) (left : List ℕ)
+pub arm_taken : (arms : List (Arm VariableName TaskName)) (i : ℕ) (arm : Arm VariableName TaskName) (last : Option (Block VariableName TaskName))
+    (body : List (Stmt VariableName TaskName)) (s : Attempt) (w : ℕ) (left : List ℕ)
     → i < length arms → arm ≡ get_or arms i arm → body ≡ arm.block.items
     → Some (w, left) ≡ value_of (expression_of arm.condition) s.variables s.left → holds w ≡ true
     → run_choice (choice_of (map tested_of (drop i arms)) last) s ≡ run_block (block_view body) (record s { left = left })
@@ -49,7 +54,8 @@ arm_taken arms i arm last body s w left h is e v t =
     ∙ choice_taken (expression_of arm.condition) (block_view arm.block.items) (choice_of (map tested_of (drop (i + 1) arms)) last) s w left v t
     ∙ ap (λ b. run_block (block_view b) (record s { left = left })) (sym e)
 
-pub arm_passed : (arms : List (Arm VariableName TaskName)) (i : ℕ) (arm : Arm VariableName TaskName) (last : Option (Block VariableName TaskName)) (s : Attempt) (w : ℕ) (left : List ℕ)
+pub arm_passed : (arms : List (Arm VariableName TaskName)) (i : ℕ) (arm : Arm VariableName TaskName) (last : Option (Block VariableName TaskName))
+    (s : Attempt) (w : ℕ) (left : List ℕ)
     → i < length arms → arm ≡ get_or arms i arm
     → Some (w, left) ≡ value_of (expression_of arm.condition) s.variables s.left → holds w ≡ false
     → run_choice (choice_of (map tested_of (drop i arms)) last) s ≡ run_choice (choice_of (map tested_of (drop (i + 1) arms)) last) (record s { left = left })
@@ -59,25 +65,30 @@ arm_passed arms i arm last s w left h is v t =
 
 -- ---- emitted words
 
-pub none_emits : (tests : List (Tested VariableName TaskName)) (last : Option (Block VariableName TaskName)) → choice_emits (choice_of tests None) ≤ choice_emits (choice_of tests last)
+pub none_emits : (tests : List (Tested VariableName TaskName)) (last : Option (Block VariableName TaskName))
+    → choice_emits (choice_of tests None) ≤ choice_emits (choice_of tests last)
 none_emits [] None = omega arith
 none_emits [] (Some block) = omega arith
 none_emits (t ∷ more) last = omega (arith, none_emits more last)
 
-pub last_emits : (tests : List (Tested VariableName TaskName)) (block : Block VariableName TaskName) → block_emits block ≤ choice_emits (choice_of tests (Some block))
+pub last_emits : (tests : List (Tested VariableName TaskName)) (block : Block VariableName TaskName)
+    → block_emits block ≤ choice_emits (choice_of tests (Some block))
 last_emits [] block = omega arith
 last_emits (t ∷ more) block = omega (arith, last_emits more block)
 
 -- no arm emits more than the arms from its number on
-pub rest_emits : (arms : List (Arm VariableName TaskName)) (i : ℕ) → choice_emits (choice_of (map tested_of (drop i arms)) None) ≤ choice_emits (choice_of (map tested_of arms) None)
+pub rest_emits : (arms : List (Arm VariableName TaskName)) (i : ℕ)
+    → choice_emits (choice_of (map tested_of (drop i arms)) None) ≤ choice_emits (choice_of (map tested_of arms) None)
 rest_emits arms zero = omega arith
 rest_emits [] (suc i) = omega arith
 rest_emits (arm ∷ arms) (suc i) = omega (arith, rest_emits arms i)
 
-pub arm_emits : (arms : List (Arm VariableName TaskName)) (i : ℕ) (arm : Arm VariableName TaskName) (body : List (Stmt VariableName TaskName)) → i < length arms → arm ≡ get_or arms i arm → body ≡ arm.block.items
+pub arm_emits : (arms : List (Arm VariableName TaskName)) (i : ℕ) (arm : Arm VariableName TaskName) (body : List (Stmt VariableName TaskName))
+    → i < length arms → arm ≡ get_or arms i arm → body ≡ arm.block.items
     → block_emits (block_view body) ≤ choice_emits (choice_of (map tested_of arms) None)
 arm_emits arms i arm body h is e =
-    let first : choice_emits (choice_of (map tested_of (drop i arms)) None) ≡ max (block_emits (block_view arm.block.items)) (choice_emits (choice_of (map tested_of (drop (i + 1) arms)) None)) =
+    let first : choice_emits (choice_of (map tested_of (drop i arms)) None) ≡ max (block_emits (block_view arm.block.items))
+    (choice_emits (choice_of (map tested_of (drop (i + 1) arms)) None)) =
     ap choice_emits (choice_at arms i arm None h is) in
     let same : block_emits (block_view body) ≡ block_emits (block_view arm.block.items) = ap (λ b. block_emits (block_view b)) e in
     let rest = rest_emits arms i in

@@ -17,7 +17,11 @@ to_task_of short c e = absurd (cc)
 to_task_of (to_task t s) c e =
     let n : t ≡ c.next = cc in
     let h : record { next = t; shared = s.variables.shared; emitted = s.emitted; left = s.left } ≡ c = cc in
-    record { state = s; is = ap (λ t. to_task t s) n; completion = ap (λ t. record { next = t; shared = s.variables.shared; emitted = s.emitted; left = s.left }) (sym n) ∙ h }
+    record {
+      state = s;
+      is = ap (λ t. to_task t s) n;
+      completion = ap (λ t. record { next = t; shared = s.variables.shared; emitted = s.emitted; left = s.left }) (sym n) ∙ h;
+    }
 
 -- a completion is the same with any readings behind those that it took
 pub readings_left_over_lem : ReadingsLeftOver
@@ -26,5 +30,6 @@ readings_left_over_lem program task shared readings c e =
     let uses = block_uses (task_body program task) (fresh_attempt shared readings) (to_task c.next t.state) t.is tt in (
       uses.used,
       uses.front ∙ ap (λ c. uses.used ++ c.left) t.completion,
-      λ others. ap completion_of (uses.same others) ∙ ap (λ (c : Completion). Some (record { next = c.next; shared = c.shared; emitted = c.emitted; left = others })) t.completion,
+      λ others. ap completion_of (uses.same others)
+          ∙ ap (λ (c : Completion). Some (record { next = c.next; shared = c.shared; emitted = c.emitted; left = others })) t.completion,
     )

@@ -13,7 +13,8 @@ record Set (rows : List (Vec ℕ Global)) (v i w : ℕ) (r : Vec ℕ Global) (wo
   pub words_are : words ≡ slice_set (get_or (rows_of rows) v []) i w
   pub row_is : rows_of (slice_set rows v (with_items (get_or rows v r) words)) ≡ slice_set (rows_of rows) v words
 
-set_row : (rows : List (Vec ℕ Global)) (v i w : ℕ) (r : Vec ℕ Global) (before words : List ℕ) → v < length rows → before ≡ (get_or rows v r).items → words ≡ slice_set before i w
+set_row : (rows : List (Vec ℕ Global)) (v i w : ℕ) (r : Vec ℕ Global) (before words : List ℕ) → v < length rows → before ≡ (get_or rows v r).items
+    → words ≡ slice_set before i w
     → Set rows v i w r words
 set_row rows v i w r before words h e f =
     let same : before ≡ get_or (rows_of rows) v [] = e ∙ sym (get_or-map (λ row. row.items) rows v r [] h) in
@@ -25,14 +26,16 @@ set_row rows v i w r before words h e f =
           ∙ ap (λ ws. slice_set (rows_of rows) v ws) (with_items_is (get_or rows v r) words len);
     }
 
-pub rows_set : (rows : List (Vec ℕ Global)) (v i w : ℕ) (r : Vec ℕ Global) (before words : List ℕ) → v < length rows → before ≡ (get_or rows v r).items → words ≡ slice_set before i w
+pub rows_set : (rows : List (Vec ℕ Global)) (v i w : ℕ) (r : Vec ℕ Global) (before words : List ℕ) → v < length rows → before ≡ (get_or rows v r).items
+    → words ≡ slice_set before i w
     → rows_of (slice_set rows v (with_items (get_or rows v r) words)) ≡ slice_set (rows_of rows) v (slice_set (get_or (rows_of rows) v []) i w)
 rows_set rows v i w r before words h e f =
     let s = set_row rows v i w r before words h e f in
     s.row_is ∙ ap (λ ws. slice_set (rows_of rows) v ws) s.words_are
 
 -- the rows keep their lengths
-pub rows_set-lengths : (rows : List (Vec ℕ Global)) (v i w : ℕ) (r : Vec ℕ Global) (before words : List ℕ) → v < length rows → before ≡ (get_or rows v r).items → words ≡ slice_set before i w
+pub rows_set-lengths : (rows : List (Vec ℕ Global)) (v i w : ℕ) (r : Vec ℕ Global) (before words : List ℕ) → v < length rows
+    → before ≡ (get_or rows v r).items → words ≡ slice_set before i w
     → map (length {A = ℕ}) (rows_of (slice_set rows v (with_items (get_or rows v r) words))) ≡ map (length {A = ℕ}) (rows_of rows)
 rows_set-lengths rows v i w r before words h e f =
     let s = set_row rows v i w r before words h e f in
@@ -46,12 +49,15 @@ same_count to from e =
     ∙ length-map (rows_of from) (length {A = ℕ}) ∙ length-map from (λ row. row.items)
 
 -- a row has the length of the other
-pub same_length : (to from : List (Vec ℕ Global)) (i : ℕ) (a b : Vec ℕ Global) → map (length {A = ℕ}) (rows_of to) ≡ map (length {A = ℕ}) (rows_of from) → i < length from
+pub same_length : (to from : List (Vec ℕ Global)) (i : ℕ) (a b : Vec ℕ Global) → map (length {A = ℕ}) (rows_of to) ≡ map (length {A = ℕ}) (rows_of from)
+    → i < length from
     → length (get_or to i a).items ≡ length (get_or from i b).items
 same_length to from i a b e h =
     let ht : i < length to = omega (arith, same_count to from e) in
-    let at : (rows : List (Vec ℕ Global)) (r : Vec ℕ Global) → i < length rows → get_or (map (length {A = ℕ}) (rows_of rows)) i 0 ≡ length (get_or rows i r).items =
-    λ rows r k. get_or-map (length {A = ℕ}) (rows_of rows) i [] 0 (omega (arith, length-map rows (λ row. row.items))) ∙ ap (length {A = ℕ}) (get_or-map (λ row. row.items) rows i r [] k) in
+    let at : (rows : List (Vec ℕ Global)) (r : Vec ℕ Global) → i < length rows → get_or (map (length {A = ℕ}) (rows_of rows)) i 0
+    ≡ length (get_or rows i r).items =
+    λ rows r k. get_or-map (length {A = ℕ}) (rows_of rows) i [] 0 (omega (arith, length-map rows (λ row. row.items)))
+    ∙ ap (length {A = ℕ}) (get_or-map (λ row. row.items) rows i r [] k) in
     sym (at to a ht) ∙ ap (λ ls. get_or ls i 0) e ∙ at from b h
 
 -- one row more
@@ -59,7 +65,8 @@ pub record Copied (to from : List (Vec ℕ Global)) (i : ℕ) : Type 0 where
   pub same_lengths : map (length {A = ℕ}) (rows_of to) ≡ map (length {A = ℕ}) (rows_of from)
   pub copied : take i (rows_of to) ≡ take i (rows_of from)
 
-pub copied_more : (to from : List (Vec ℕ Global)) (i : ℕ) (a b : Vec ℕ Global) (words : List ℕ) → map (length {A = ℕ}) (rows_of to) ≡ map (length {A = ℕ}) (rows_of from) → take i (rows_of to) ≡ take i (rows_of from)
+pub copied_more : (to from : List (Vec ℕ Global)) (i : ℕ) (a b : Vec ℕ Global) (words : List ℕ)
+    → map (length {A = ℕ}) (rows_of to) ≡ map (length {A = ℕ}) (rows_of from) → take i (rows_of to) ≡ take i (rows_of from)
     → i < length from → b ≡ get_or from i b → words ≡ b.items
     → Copied (slice_set to i (with_items (get_or to i a) words)) from (i + 1)
 copied_more to from i a b words e c h is w =
@@ -69,14 +76,17 @@ copied_more to from i a b words e c h is w =
     let row : words ≡ get_or (rows_of from) i [] = w ∙ ap (λ r. r.items) is ∙ sym (get_or-map (λ row. row.items) from i b [] h) in
     let old : length words ≡ length (get_or to i a).items = ap length (w ∙ ap (λ r. r.items) is) ∙ sym (same_length to from i a b e h) in
     let set : rows_of (slice_set to i (with_items (get_or to i a) words)) ≡ slice_set (rows_of to) i words =
-    map-set (λ row. row.items) to i (with_items (get_or to i a) words) ∙ ap (λ ws. slice_set (rows_of to) i ws) (with_items_is (get_or to i a) words (old ∙ sym (get_or to i a).ok.0)) in
+    map-set (λ row. row.items) to i (with_items (get_or to i a) words) ∙ ap (λ ws. slice_set (rows_of to) i ws)
+    (with_items_is (get_or to i a) words (old ∙ sym (get_or to i a).ok.0)) in
     let same : length words ≡ length (get_or (rows_of to) i []) = old ∙ ap length (sym (get_or-map (λ row. row.items) to i a [] ht)) in
     record {
       same_lengths = ap (map (length {A = ℕ})) set ∙ map-set_same (length {A = ℕ}) (rows_of to) i words [] same ∙ e;
-      copied = ap (take (i + 1)) set ∙ rw add-one (take-suc-set (rows_of to) i words hr ∙ ap (λ t. t ++ words ∷ []) c ∙ ap (λ x. take i (rows_of from) ++ x ∷ []) row ∙ sym (take-suc (rows_of from) i [] hf));
+      copied = ap (take (i + 1)) set ∙ rw add-one (take-suc-set (rows_of to) i words hr ∙ ap (λ t. t ++ words ∷ []) c
+          ∙ ap (λ x. take i (rows_of from) ++ x ∷ []) row ∙ sym (take-suc (rows_of from) i [] hf));
     }
 
-pub copied_all : (to from : List (Vec ℕ Global)) (i : ℕ) → map (length {A = ℕ}) (rows_of to) ≡ map (length {A = ℕ}) (rows_of from) → take i (rows_of to) ≡ take i (rows_of from) → length from ≤ i
+pub copied_all : (to from : List (Vec ℕ Global)) (i : ℕ) → map (length {A = ℕ}) (rows_of to) ≡ map (length {A = ℕ}) (rows_of from)
+    → take i (rows_of to) ≡ take i (rows_of from) → length from ≤ i
     → rows_of to ≡ rows_of from
 copied_all to from i e c h =
     let t : length (rows_of to) ≤ i = omega (arith, length-map to (λ row. row.items), same_count to from e) in

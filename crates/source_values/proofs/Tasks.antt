@@ -20,14 +20,16 @@ use Rattle.source_values.specs.View.{rows_of, attempt_in}
 use Rattle.source_values.proofs.Uses.{block_uses}
 
 -- what holds of each task holds of the one that the code reached
-pub task_holds : (P : Task VariableName TaskName → Type 0) (tasks : List (TaskDeclaration VariableName TaskName)) (i : ℕ) (t : TaskDeclaration VariableName TaskName)
+pub task_holds : (P : Task VariableName TaskName → Type 0) (tasks : List (TaskDeclaration VariableName TaskName)) (i : ℕ)
+    (t : TaskDeclaration VariableName TaskName)
     → i < length tasks → t ≡ get_or tasks i t → All P (map task_of tasks) → P (task_of t)
 task_holds P tasks i t h is all =
     let inside : i < length (map task_of tasks) = omega (arith, length-map tasks task_of) in
     subst P (get_or-map task_of tasks i t ∙ ap task_of (sym is)) (All-get_or P (map task_of tasks) i (task_of t) inside all)
 
 -- the attempt that the code makes
-pub attempt_is : (source : Source VariableName TaskName) (task i : ℕ) (t : TaskDeclaration VariableName TaskName) (body : List (Stmt VariableName TaskName)) (s : Scratch) (shared : List (List ℕ)) (readings : List ℕ)
+pub attempt_is : (source : Source VariableName TaskName) (task i : ℕ) (t : TaskDeclaration VariableName TaskName) (body : List (Stmt VariableName TaskName))
+    (s : Scratch) (shared : List (List ℕ)) (readings : List ℕ)
     → i ≡ task → i < length source.tasks.items → t ≡ get_or source.tasks.items i t → body ≡ t.body.items
     → rows_of s.shared.items ≡ shared → s.locals.items ≡ new_locals → s.emitted.items ≡ []
     → attempt_of (program_of source) task shared readings ≡ run_block (block_view body) (attempt_in s readings)
@@ -59,5 +61,6 @@ task_leaves b s t end e =
     leaves_end s.left uses.used end.left uses.front
 
 pub same_completion : (next : ℕ) {rows rows' : List (List ℕ)} {words words' left left' : List ℕ} → rows ≡ rows' → words ≡ words' → left ≡ left'
-    → (let before : Completion = record { next = next; shared = rows; emitted = words; left = left } in Some before) ≡ Some (record { next = next; shared = rows'; emitted = words'; left = left' })
+    → (let before : Completion = record { next = next; shared = rows; emitted = words; left = left } in Some before)
+    ≡ Some (record { next = next; shared = rows'; emitted = words'; left = left' })
 same_completion next e f h = cc

@@ -15,7 +15,8 @@ turns_step (suc n) m k x body s o e h =
     ap (λ o. and_then o (turns n (k + 1) x body)) h ∙ ap (λ j. and_then o (turns j (k + 1) x body)) same
 
 -- the attempt behind an assignment
-pub attempt_set : (old new : Scratch) (left : List ℕ) (x : Variable) (i w : ℕ) → variables_of new ≡ with_word (variables_of old) x i w → new.emitted ≡ old.emitted
+pub attempt_set : (old new : Scratch) (left : List ℕ) (x : Variable) (i w : ℕ) → variables_of new ≡ with_word (variables_of old) x i w
+    → new.emitted ≡ old.emitted
     → assigned (attempt_in old left) x i w ≡ attempt_in new left
 attempt_set old new left x i w v e =
     ap (λ m. record { variables = m; emitted = old.emitted.items; left = left }) (sym v)

@@ -1,11 +1,14 @@
 -- What statements do depends on the readings that they take, and on no others.
-use Rattle.std.proofs.Common.{◌≡◌, ℕ, zero, suc, ◌+◌, ◌-◌, List, [], ◌∷◌, ◌++◌, Bool, true, false, refl, ap, sym, ◌∙◌, subst, Option, Some, None, append_assoc, if◌then◌else◌}
-use Rattle.task_ast.specs.Tree.{Expression, Statement, declare, assign, store, choose, loop, emit, transition, Choice, nothing, otherwise, test, Block, end, step}
+use Rattle.std.proofs.Common.{◌≡◌, ℕ, zero, suc, ◌+◌, ◌-◌, List, [], ◌∷◌, ◌++◌, Bool, true, false, refl, ap, sym, ◌∙◌, subst, Option, Some, None}
+use Rattle.std.proofs.Common.{append_assoc, if◌then◌else◌}
+use Rattle.task_ast.specs.Tree.{Expression, Statement, declare, assign, store, choose, loop, emit, transition, Choice, nothing, otherwise, test, Block, end}
+use Rattle.task_ast.specs.Tree.{step}
 use Rattle.task_ast.specs.declared.names.Variable.{Variable}
 use Rattle.task_ast.specs.declared.names.VariableName.{VariableName}
 use Rattle.task_ast.specs.declared.names.TaskName.{TaskName}
 use Rattle.source_values.specs.Values.{value_of, holds}
-use Rattle.source_values.specs.Statements.{Attempt, Outcome, goes_on, to_task, short, and_then, if_value, with_value, assigned, turns, run_statement, run_choice, run_block}
+use Rattle.source_values.specs.Statements.{Attempt, Outcome, goes_on, to_task, short, and_then, if_value, with_value, assigned, turns, run_statement}
+use Rattle.source_values.specs.Statements.{run_choice, run_block}
 use Rattle.source_values.proofs.Takes.{value_takes}
 
 abbrev pub IsWhole : Outcome → Type 0
@@ -47,7 +50,8 @@ uses_assigned : (x : Variable) (i v : ℕ) → UsesItsOwn (λ s. goes_on (assign
 uses_assigned x i v s o e w = uses_none (λ s. goes_on (assigned s x i v)) s (goes_on (assigned s x i v)) refl (λ more. refl) o e
 
 uses_emitted : (v : ℕ) → UsesItsOwn (λ s. goes_on (record s { emitted = s.emitted ++ v ∷ [] }))
-uses_emitted v s o e w = uses_none (λ s. goes_on (record s { emitted = s.emitted ++ v ∷ [] })) s (goes_on (record s { emitted = s.emitted ++ v ∷ [] })) refl (λ more. refl) o e
+uses_emitted v s o e w = uses_none (λ s. goes_on (record s { emitted = s.emitted ++ v ∷ [] })) s (goes_on (record s { emitted = s.emitted ++ v ∷ [] })) refl
+    (λ more. refl) o e
 
 uses_to_task : (t : ℕ) → UsesItsOwn (to_task t)
 uses_to_task t s o e w = uses_none (to_task t) s (to_task t s) refl (λ more. refl) o e

@@ -52,7 +52,8 @@ pub record WorkedRows : Type 0 where
   pub shift_of_unsigned : value_of (shift Right (binary Add (name p) sense) by_one) words (0 ∷ []) ≡ Some (32766, [])
   pub less_of_ints : value_of (binary Less (name p) (number 2)) words [] ≡ Some (1, [])
   pub less_of_int_and_unsigned : value_of (binary Less (name p) (number 40000)) words [] ≡ Some (0, [])
-  pub literals : (type_of (number 32767) ≡ Int) × (type_of (number 32768) ≡ Unsigned) × (type_of (unary Negate (number 40000)) ≡ Unsigned) × (type_of (unary Not (number 40000)) ≡ Int)
+  pub literals : (type_of (number 32767) ≡ Int) × (type_of (number 32768) ≡ Unsigned) × (type_of (unary Negate (number 40000)) ≡ Unsigned)
+      × (type_of (unary Not (number 40000)) ≡ Int)
   pub index_at_the_length_reads_0 : value_of (element a (number 2)) words [] ≡ Some (0, [])
   pub readings_from_the_left : value_of (binary Less sense sense) words (1 ∷ 2 ∷ 3 ∷ []) ≡ Some (1, 3 ∷ [])
   pub and_leaves_the_right_side : value_of (short_circuit short_circuit_operator.And (number 0) sense) words (9 ∷ []) ≡ Some (0, 9 ∷ [])
@@ -64,6 +65,7 @@ pub record WorkedRows : Type 0 where
       ≡ goes_on (attempt (record { shared = (65533 ∷ []) ∷ (5 ∷ 9 ∷ []) ∷ []; locals = 7 ∷ [] }) [] [])
   pub turns_of_a_loop : run_statement (loop i 1 i 4 i (step (emit (name i)) end)) (attempt words [] []) ≡ goes_on (attempt (locals_are 4) (1 ∷ 2 ∷ 3 ∷ []) [])
   pub no_turns : run_statement (loop i 4 i 1 i (step (emit (name i)) end)) (attempt words [] []) ≡ goes_on (attempt (locals_are 4) [] [])
-  pub nothing_behind_a_transition : run_block (step (transition (record { span = nowhere; task = 2 })) (step (emit (number 1)) end)) (attempt words [] []) ≡ to_task 2 (attempt words [] [])
+  pub nothing_behind_a_transition : run_block (step (transition (record { span = nowhere; task = 2 })) (step (emit (number 1)) end)) (attempt words [] [])
+      ≡ to_task 2 (attempt words [] [])
   pub short_of_a_reading : run_block (step (emit sense) end) (attempt words [] []) ≡ short
   pub shared_words_start_at_0 : initial_words (Array 2) ≡ 0 ∷ 0 ∷ []

@@ -1,6 +1,7 @@
 //! The run of a source: whole tasks, one after another.
 
-ghost use Rattle.std.specs.Prelude.{◌≡◌, ◌+◌, ◌≤◌, ◌<◌, ◌^◌, ℕ, [], map, length, drop, All, IfOk, OnOk, OnErr, IfSome, IfNone, OnSome, IsSome, None, Some, slice_index, slice_index_or, replicate, vec_len};
+ghost use Rattle.std.specs.Prelude.{◌≡◌, ◌+◌, ◌≤◌, ◌<◌, ◌^◌, ℕ, [], map, length, drop, All, IfOk, OnOk, OnErr, IfSome, IfNone, OnSome, IsSome, None, Some};
+ghost use Rattle.std.specs.Prelude.{slice_index, slice_index_or, replicate, vec_len};
 ghost use Rattle.task_ast.specs.View.{block_view, program_of};
 ghost use Rattle.source_values.specs.Statements.{Attempt, run_block, block_emits, short, to_task};
 ghost use Rattle.source_values.specs.Runs.{initial_words, initial_rows, new_locals, fresh_attempt, attempt_of, completion_of, EndsWell};

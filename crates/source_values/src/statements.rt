@@ -5,7 +5,8 @@ ghost use Rattle.task_ast.specs.Tree.{Block, choice_of};
 ghost use Rattle.task_ast.specs.View.{expression_of, statement_of, tested_of, block_view};
 ghost use Rattle.task_ast.specs.declared.names.VariableName.{VariableName};
 ghost use Rattle.task_ast.specs.declared.names.TaskName.{TaskName};
-ghost use Rattle.source_values.specs.Statements.{run_statement, run_choice, run_block, statement_emits, choice_emits, block_emits, with_value, goes_on, assigned};
+ghost use Rattle.source_values.specs.Statements.{run_statement, run_choice, run_block, statement_emits, choice_emits, block_emits, with_value, goes_on};
+ghost use Rattle.source_values.specs.Statements.{assigned};
 ghost use Rattle.source_values.specs.View.{attempt_in, outcome_of, chosen_outcome, ChosenEmits, rows_of};
 
 use crate::scratch::Scratch;
@@ -149,7 +150,8 @@ fn run_arms<'r>(
     requires { length scratch.old.emitted.items + choice_emits (choice_of (map tested_of arms.now) None) ≤ 256 }
     ensures outcome { (last : Option (Block VariableName TaskName))
         → run_choice (choice_of (map tested_of arms.now) last) (attempt_in scratch.old readings.now) ≡ chosen_outcome result last scratch.new }
-    ensures emitted { ChosenEmits result (length scratch.old.emitted.items) (length scratch.new.emitted.items) (choice_emits (choice_of (map tested_of arms.now) None)) }
+    ensures emitted { ChosenEmits result (length scratch.old.emitted.items) (length scratch.new.emitted.items)
+        (choice_emits (choice_of (map tested_of arms.now) None)) }
     ensures same_lengths { map length (rows_of scratch.new.shared.items) ≡ map length (rows_of scratch.old.shared.items) }
     ensures same_locals { length scratch.new.locals.items ≡ length scratch.old.locals.items }
 {

@@ -1,5 +1,6 @@
 -- A commit keeps a decided world decided at each of its effects, and leaves the state to which it is decided.
-use Rattle.std.proofs.Common.{◌≡◌, ℕ, ◌+◌, ◌-◌, ◌*◌, ◌%◌, ◌<◌, List, ◌++◌, sym, ap, ap₂, ◌∙◌, subst, ⊎_elim, inl, inr, arith, length, take, drop, length-append, length-take-le, append_assoc, zero-le}
+use Rattle.std.proofs.Common.{◌≡◌, ℕ, ◌+◌, ◌-◌, ◌*◌, ◌%◌, ◌<◌, List, ◌++◌, sym, ap, ap₂, ◌∙◌, subst, ⊎_elim, inl, inr, arith, length, take, drop}
+use Rattle.std.proofs.Common.{length-append, length-take-le, append_assoc, zero-le}
 use Rattle.std.proofs.lemmas.List.{take-append-drop}
 use Rattle.runtime_effects.specs.machine_effects.World.{World, accepted_after}
 use Rattle.runtime_effects.specs.Places.{CopyPair, listed}

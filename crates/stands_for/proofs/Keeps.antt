@@ -1,5 +1,6 @@
 -- Each effect of a commit keeps a decided world decided.
-use Rattle.std.proofs.Common.{◌≡◌, ℕ, suc, ◌+◌, ◌*◌, ◌%◌, ◌<◌, ◌≤◌, List, [], ◌∷◌, ◌++◌, refl, sym, ap, ap₂, ◌∙◌, subst, ⊎_elim, inl, inr, ◌⊎◌, arith, ne_eqb, eq-eqb, cond, length, take, length-append, length-take-le, append_assoc, take-suc}
+use Rattle.std.proofs.Common.{◌≡◌, ℕ, suc, ◌+◌, ◌*◌, ◌%◌, ◌<◌, ◌≤◌, List, [], ◌∷◌, ◌++◌, refl, sym, ap, ap₂, ◌∙◌, subst, ⊎_elim, inl, inr, ◌⊎◌, arith, ne_eqb}
+use Rattle.std.proofs.Common.{eq-eqb, cond, length, take, length-append, length-take-le, append_assoc, take-suc}
 use Rattle.std.proofs.lemmas.Bool.{cases_eq}
 use Rattle.std.specs.List.{slice_index}
 use Rattle.runtime_effects.specs.fram_board.Effects.{Store, Send}

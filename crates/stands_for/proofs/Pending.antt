@@ -1,5 +1,6 @@
 -- A pending commit: what it needs, where it stores, and that behind it none is pending.
-use Rattle.std.proofs.Common.{◌≡◌, ℕ, zero, suc, ◌+◌, ◌-◌, ◌*◌, ◌%◌, ◌<◌, ◌≤◌, List, [], ◌∷◌, ◌++◌, refl, sym, ap, ◌∙◌, subst, inl, inr, arith, length, length-append, All}
+use Rattle.std.proofs.Common.{◌≡◌, ℕ, zero, suc, ◌+◌, ◌-◌, ◌*◌, ◌%◌, ◌<◌, ◌≤◌, List, [], ◌∷◌, ◌++◌, refl, sym, ap, ◌∙◌, subst, inl, inr, arith, length}
+use Rattle.std.proofs.Common.{length-append, All}
 use Rattle.runtime_effects.specs.fram_board.Effects.{Store}
 use Rattle.runtime_effects.specs.machine_effects.World.{World, put, accepted_after, world_after, EachStore}
 use Rattle.runtime_effects.proofs.machine_effects.Interface.{world_after-append, each_store-append, put_same, put_other}
@@ -135,7 +136,8 @@ module _ (l : ProgramPlaces) (apart : AreApart l.map) (x : World) (p : IsPending
     current_behind =
         let cur = word_place m CurrentTask in let to = f (word_place m NextTask) in
         let g1 = put g cur to in let g2 = put g1 (word_place m Base) (next_base m f) in
-        put_other g2 (word_place m Gate) 0 cur (λ e. omega (arith, apart, e)) ∙ put_other g1 (word_place m Base) (next_base m f) cur (λ e. omega (arith, apart, e))
+        put_other g2 (word_place m Gate) 0 cur (λ e. omega (arith, apart, e)) ∙ put_other g1 (word_place m Base) (next_base m f) cur
+        (λ e. omega (arith, apart, e))
         ∙ put_same g cur to
 
     base_behind : closed m f g (word_place m Base) ≡ length all % 0x10000

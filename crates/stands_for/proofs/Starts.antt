@@ -1,5 +1,6 @@
 -- An attempt's start keeps a world undecided, and leaves an attempt that has started.
-use Rattle.std.proofs.Common.{◌≡◌, ℕ, zero, suc, ◌+◌, ◌*◌, ◌<◌, ◌≤◌, List, [], ◌∷◌, ◌++◌, refl, sym, ap, ◌∙◌, subst, ⊎_elim, inl, inr, arith, ◌==◌, ◌%◌, Bool, true, false}
+use Rattle.std.proofs.Common.{◌≡◌, ℕ, zero, suc, ◌+◌, ◌*◌, ◌<◌, ◌≤◌, List, [], ◌∷◌, ◌++◌, refl, sym, ap, ◌∙◌, subst, ⊎_elim, inl, inr, arith, ◌==◌, ◌%◌, Bool}
+use Rattle.std.proofs.Common.{true, false}
 use Rattle.std.proofs.lemmas.Bool.{cases_eq}
 use Rattle.std.proofs.lemmas.Bool.Decides.{nat_tests}
 use Rattle.runtime_effects.specs.fram_board.Effects.{Effect, Store, Take, Send}
@@ -116,7 +117,8 @@ module _ {St : Type 0} (l : ProgramPlaces) (apart : AreApart l.map) (v : StateVi
       versions : (i : ℕ) → i < l.map.versions.words → x.fram (l.map.versions.address + 2 * i) < x.fram (word_place l.map Version)
 
     -- VER := 0, once the version words are cleared
-    reset_keeps : (x : World) → UndecidedAt l v s x → AreZero l.map.versions.words x → UndecidedAt l v s (world_after_one (Store (word_place l.map Version) 0) x)
+    reset_keeps : (x : World) → UndecidedAt l v s x → AreZero l.map.versions.words x
+        → UndecidedAt l v s (world_after_one (Store (word_place l.map Version) 0) x)
     reset_keeps x u z =
         let m = l.map in
         store_keeps x (word_place m Version) 0 (omega arith) (λ h. omega (arith, apart, h)) (λ q. omega (arith, apart, q)) (λ q. omega (arith, apart, q))
@@ -130,7 +132,8 @@ module _ {St : Type 0} (l : ProgramPlaces) (apart : AreApart l.map) (v : StateVi
 
     -- the clearing, where it comes: from any of its stores on a cut attempt finds VER at its end again, until all version words are 0
     cleared_through : (b : Bool) (x : World) → is_at_end l.map x.fram ≡ b → UndecidedAt l v s x
-        → HoldsThroughout (UndecidedAt l v s) (clearing_if l.map b) x × UndecidedAt l v s (world_after (clearing_if l.map b) x) × HasNumber (world_after (clearing_if l.map b) x)
+        → HoldsThroughout (UndecidedAt l v s) (clearing_if l.map b) x × UndecidedAt l v s (world_after (clearing_if l.map b) x)
+        × HasNumber (world_after (clearing_if l.map b) x)
     cleared_through true x e u =
         let m = l.map in
         let c = cleared m.versions.words m.versions.address in
@@ -272,7 +275,8 @@ module _ {St : Type 0} (l : ProgramPlaces) (apart : AreApart l.map) (v : StateVi
 
   -- where a start stores: 0 to the version words, to VER, 0 to CLN and EN, and to copies
   module _ (P : ℕ → ℕ → Type 0) (version_words : (i : ℕ) → i < l.map.versions.words → P (l.map.versions.address + 2 * i) 0)
-      (version : (w : ℕ) → w < 0x10000 → P (word_place l.map Version) w) (list_length : P (word_place l.map ListLength) 0) (emit_count : P (word_place l.map EmitCount) 0)
+      (version : (w : ℕ) → w < 0x10000 → P (word_place l.map Version) w) (list_length : P (word_place l.map ListLength) 0)
+      (emit_count : P (word_place l.map EmitCount) 0)
       (copies : (a w : ℕ) → IsCopyWord l a → P a w) where
     cleared_so : (n j : ℕ) → j + n ≡ l.map.versions.words → EachStore P (cleared n (l.map.versions.address + 2 * j))
     cleared_so zero j e = tt

@@ -79,7 +79,8 @@ module _ (m : MemoryMap) (x : World) (small : x.fram (word_place m SentBase) < 0
   sends_through (suc n) i k p y e ek ep d =
       let w = x.fram p in
       let d2 = sent i k w y (omega (arith, e)) ek (ap x.fram ep) d in
-      let r = sends_through n (suc i) ((k + 1) % 0x10000) (p + 2) (world_after_one (Send k w) y) (omega (arith, e)) (omega (arith, ek)) (omega (arith, ep)) d2 in
+      let r = sends_through n (suc i) ((k + 1) % 0x10000) (p + 2) (world_after_one (Send k w) y) (omega (arith, e)) (omega (arith, ek)) (omega (arith, ep))
+      d2 in
       ((so i y d, r.0), r.1)
 
   pub through : Q 0 x → HoldsThroughout P (commit_before m x.fram) x

@@ -1,5 +1,6 @@
 -- What stands behind the `q` of a state: what stands behind that of an image, and then nothing or the receiver's line.
-use Rattle.std.proofs.Common.{◌≡◌, ℕ, ◌+◌, ◌&&◌, List, [], ◌∷◌, ◌++◌, refl, ap, sym, subst, ◌∙◌, ◌⊎◌, inl, inr, if◌then◌else◌, Bool, true, false, Option, Some, None}
+use Rattle.std.proofs.Common.{◌≡◌, ℕ, ◌+◌, ◌&&◌, List, [], ◌∷◌, ◌++◌, refl, ap, sym, subst, ◌∙◌, ◌⊎◌, inl, inr, if◌then◌else◌, Bool, true, false, Option}
+use Rattle.std.proofs.Common.{Some, None}
 use Rattle.std.proofs.Common.{Result, Ok, Err, codes, append-nil}
 use Rattle.std.proofs.lemmas.Slice.Eq.{bytes_eq-Decides}
 use Rattle.std.specs.Str.{bytes_eq}
@@ -190,7 +191,8 @@ module _ (n : ℕ) (ls before : List (List ℕ)) (o : Option MapValue) (map_is :
       subst P (ap (λ r. tail_value r t) h) (inr (record { before = before; line = l; made = made; map = map_is; number = e }))
   end_said i l (m ∷ ms) t (Some k) made e h = cc
 
-  end_is : (i : ℕ) (rest : List (List ℕ)) (t : Tail) → ls ≡ before ++ rest → (number_of i rest >>= λ k. Ok (record { map = o; receiver = k })) ≡ Ok t → IsTail n ls t
+  end_is : (i : ℕ) (rest : List (List ℕ)) (t : Tail) → ls ≡ before ++ rest → (number_of i rest >>= λ k. Ok (record { map = o; receiver = k })) ≡ Ok t
+      → IsTail n ls t
   end_is i [] t made h =
       let P : Tail → Type 0 = λ t. IsTail n ls t in
       subst P (ap (λ r. tail_value r t) h) (inl (ap (map_behind n) (made ∙ append-nil before) ∙ map_is, refl))

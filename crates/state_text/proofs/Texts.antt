@@ -1,5 +1,6 @@
 -- A text is read as a state exactly where it is the text of an image, or that and the receiver's line.
-use Rattle.std.proofs.Common.{◌≡◌, ◌<◌, ◌^◌, ℕ, List, [], ◌∷◌, ◌++◌, refl, ap, sym, subst, ◌∙◌, inl, inr, Option, Some, Result, Ok, Err, codes, append_assoc, append-nil}
+use Rattle.std.proofs.Common.{◌≡◌, ◌<◌, ◌^◌, ℕ, List, [], ◌∷◌, ◌++◌, refl, ap, sym, subst, ◌∙◌, inl, inr, Option, Some, Result, Ok, Err, codes, append_assoc}
+use Rattle.std.proofs.Common.{append-nil}
 use Rattle.std.specs.Fmt.{decimal}
 use Rattle.text_parts.specs.Lines.{lines}
 use Rattle.text_parts.specs.Printed.{spaced, printed}

@@ -1,5 +1,6 @@
 -- A memory with RAM from 1C00 to 23FF and FRAM from 4400 to FFFF, as a bus; its word at address a stands at a / 2.
-use Rattle.std.specs.Prelude.{ℕ, ◌+◌, ◌-◌, ◌*◌, ◌/◌, ◌%◌, Bool, ◌&&◌, ◌||◌, ◌==◌, nat_le, nat_lt, if◌then◌else◌, List, slice_index, slice_set, Option, Some, None, Result, Ok, Err}
+use Rattle.std.specs.Prelude.{ℕ, ◌+◌, ◌-◌, ◌*◌, ◌/◌, ◌%◌, Bool, ◌&&◌, ◌||◌, ◌==◌, nat_le, nat_lt, if◌then◌else◌, List, slice_index, slice_set, Option, Some}
+use Rattle.std.specs.Prelude.{None, Result, Ok, Err}
 use Rattle.msp_step.specs.alp_words.declared.Width.{Width}
 use Rattle.msp_step.specs.alp_words.declared.Width.TheVariants.{Word, Byte}
 use Rattle.msp_step.specs.declared.bus.Refused.{Refused}

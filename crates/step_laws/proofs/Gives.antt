@@ -20,7 +20,8 @@ pub then_gives : {S A B : Type 0} (x : Access S A) (f : A → S → Access S B) 
 then_gives (Completed a t) f P h = h a t
 then_gives (Faulted e a t) f P h = tt
 
-pub then_keeps : {S A B : Type 0} (x : Access S A) (f : A → S → Access S B) (Q : A → Type 0) (P : B → Type 0) → Gives x Q → ((a : A) (t : S) → Q a → Gives (f a t) P) → Gives (then_do x f) P
+pub then_keeps : {S A B : Type 0} (x : Access S A) (f : A → S → Access S B) (Q : A → Type 0) (P : B → Type 0) → Gives x Q
+    → ((a : A) (t : S) → Q a → Gives (f a t) P) → Gives (then_do x f) P
 then_keeps (Completed a t) f Q P g h = h a t g
 then_keeps (Faulted e a t) f Q P g h = tt
 

@@ -21,7 +21,9 @@ use Rattle.msp_step.specs.msp_isa.declared.instructions.Instr.TheVariants as ins
 use Rattle.msp_step.specs.msp_isa.Encoding.{encoding, index_number, register_number, operand_row, source_row, destination_row}
 use Rattle.msp_step.specs.Registers.{Registers, with_register}
 use Rattle.msp_step.specs.Access.{BusModel, Access, Completed, Faulted}
-use Rattle.msp_step.specs.Effect.{Written, Operated, sum16, source, operand_location, incremented, written_back, read_modify_write, exchanged, rotated, shifted, sign_extended, pushed, load, store, finish, destination_operand, destination_location, after_source, operated, flags_of, with_flags, reads_destination, writes_destination}
+use Rattle.msp_step.specs.Effect.{Written, Operated, sum16, source, operand_location, incremented, written_back, read_modify_write, exchanged, rotated}
+use Rattle.msp_step.specs.Effect.{shifted, sign_extended, pushed, load, store, finish, destination_operand, destination_location, after_source, operated}
+use Rattle.msp_step.specs.Effect.{flags_of, with_flags, reads_destination, writes_destination}
 use Rattle.msp_step.specs.Step.{effect}
 use Rattle.step_laws.specs.Effects.{Gives, IsNot, CopiesKeepStatus, SwapKeepsStatus, MovesOn, MovesByLength}
 use Rattle.step_laws.proofs.Gives.{then_gives, then_keeps, write_gives, register_keeps, increment_keeps, source_keeps}
@@ -37,7 +39,8 @@ status_keeps reg.Sr r v other = absurd (other refl)
 status_keeps reg.R3 r v other = refl
 status_keeps (reg.Index b) r v other = register_keeps b r v
 
-store_keeps_status : {S : Type 0} (bus : BusModel S) (r : Registers) (w : Width) (extension : ℕ) (d : Dst) (v : ℕ) (s : S) → IsNot reg.Sr d → Gives (store bus r w (destination_location r extension d) v s) (λ y. y.0 2 ≡ r 2)
+store_keeps_status : {S : Type 0} (bus : BusModel S) (r : Registers) (w : Width) (extension : ℕ) (d : Dst) (v : ℕ) (s : S) → IsNot reg.Sr d
+    → Gives (store bus r w (destination_location r extension d) v s) (λ y. y.0 2 ≡ r 2)
 store_keeps_status bus r w extension (dst.Reg n) v s other = status_keeps n r v other
 store_keeps_status bus r w extension (dst.Indexed b x) v s other = write_gives (bus.writes s _ w v) _ s _ (λ y. y.0 2 ≡ r 2) refl
 store_keeps_status bus r w extension (dst.Symbolic x) v s other = write_gives (bus.writes s _ w v) _ s _ (λ y. y.0 2 ≡ r 2) refl
@@ -50,7 +53,8 @@ mov_keeps bus w x d other r s =
     let extension = sum16 first (2 * length (source_row x).extension) in
     then_keeps (source bus (with_register r 0 first) w x s) _ (λ y. y.1 2 ≡ r 2) (λ y. y.0 2 ≡ r 2) (source_keeps bus (with_register r 0 first) w x s) (λ y t k.
     let moved = with_register y.1 0 (sum16 extension (2 * length (destination_row d).extension)) in
-    gives_more (store bus moved w (destination_location moved extension d) y.0 t) (λ z. z.0 2 ≡ moved 2) (λ z. z.0 2 ≡ r 2) (λ z h. h ∙ k) (store_keeps_status bus moved w extension d y.0 t other))
+    gives_more (store bus moved w (destination_location moved extension d) y.0 t) (λ z. z.0 2 ≡ moved 2) (λ z. z.0 2 ≡ r 2) (λ z h. h ∙ k)
+    (store_keeps_status bus moved w extension d y.0 t other))
 
 pub bic_keeps : {S : Type 0} (bus : BusModel S) → CopiesKeepStatus bus Bic
 unfolding effect
@@ -60,7 +64,8 @@ bic_keeps bus w x d other r s =
     then_keeps (source bus (with_register r 0 first) w x s) _ (λ y. y.1 2 ≡ r 2) (λ y. y.0 2 ≡ r 2) (source_keeps bus (with_register r 0 first) w x s) (λ y t k.
     let moved = with_register y.1 0 (sum16 extension (2 * length (destination_row d).extension)) in
     then_gives (load bus moved w (destination_location moved extension d) t) _ (λ z. z.0 2 ≡ r 2) (λ v u.
-    gives_more (store bus moved w (destination_location moved extension d) (operated Bic w v y.0 (flags_of (moved 2))).value u) (λ z. z.0 2 ≡ moved 2) (λ z. z.0 2 ≡ r 2) (λ z h. h ∙ k) (store_keeps_status bus moved w extension d _ u other)))
+    gives_more (store bus moved w (destination_location moved extension d) (operated Bic w v y.0 (flags_of (moved 2))).value u) (λ z. z.0 2 ≡ moved 2)
+    (λ z. z.0 2 ≡ r 2) (λ z h. h ∙ k) (store_keeps_status bus moved w extension d _ u other)))
 
 pub bis_keeps : {S : Type 0} (bus : BusModel S) → CopiesKeepStatus bus Bis
 unfolding effect
@@ -70,7 +75,8 @@ bis_keeps bus w x d other r s =
     then_keeps (source bus (with_register r 0 first) w x s) _ (λ y. y.1 2 ≡ r 2) (λ y. y.0 2 ≡ r 2) (source_keeps bus (with_register r 0 first) w x s) (λ y t k.
     let moved = with_register y.1 0 (sum16 extension (2 * length (destination_row d).extension)) in
     then_gives (load bus moved w (destination_location moved extension d) t) _ (λ z. z.0 2 ≡ r 2) (λ v u.
-    gives_more (store bus moved w (destination_location moved extension d) (operated Bis w v y.0 (flags_of (moved 2))).value u) (λ z. z.0 2 ≡ moved 2) (λ z. z.0 2 ≡ r 2) (λ z h. h ∙ k) (store_keeps_status bus moved w extension d _ u other)))
+    gives_more (store bus moved w (destination_location moved extension d) (operated Bis w v y.0 (flags_of (moved 2))).value u) (λ z. z.0 2 ≡ moved 2)
+    (λ z. z.0 2 ≡ r 2) (λ z h. h ∙ k) (store_keeps_status bus moved w extension d _ u other)))
 
 -- a register other than PC
 index_keeps_pc : (b : IndexRegister) (r : Registers) (v : ℕ) → with_register r (index_number b) v 0 ≡ r 0
@@ -98,13 +104,15 @@ flags_keep_pc : (r : Registers) (f : Option Flags) → with_flags r f 0 ≡ r 0
 flags_keep_pc r None = refl
 flags_keep_pc r (Some f) = refl
 
-store_keeps_pc : {S : Type 0} (bus : BusModel S) (r q : Registers) (w : Width) (extension : ℕ) (d : Dst) (v : ℕ) (s : S) → IsNot reg.Pc d → Gives (store bus r w (destination_location q extension d) v s) (λ y. y.0 0 ≡ r 0)
+store_keeps_pc : {S : Type 0} (bus : BusModel S) (r q : Registers) (w : Width) (extension : ℕ) (d : Dst) (v : ℕ) (s : S) → IsNot reg.Pc d
+    → Gives (store bus r w (destination_location q extension d) v s) (λ y. y.0 0 ≡ r 0)
 store_keeps_pc bus r q w extension (dst.Reg n) v s other = pc_keeps n r v other
 store_keeps_pc bus r q w extension (dst.Indexed b x) v s other = write_gives (bus.writes s _ w v) _ s _ (λ y. y.0 0 ≡ r 0) refl
 store_keeps_pc bus r q w extension (dst.Symbolic x) v s other = write_gives (bus.writes s _ w v) _ s _ (λ y. y.0 0 ≡ r 0) refl
 store_keeps_pc bus r q w extension (dst.Absolute a) v s other = write_gives (bus.writes s _ w v) _ s _ (λ y. y.0 0 ≡ r 0) refl
 
-finish_keeps_pc : {S : Type 0} (b : Bool) (bus : BusModel S) (r q : Registers) (w : Width) (extension : ℕ) (d : Dst) (v : ℕ) (s : S) → IsNot reg.Pc d → Gives (finish b bus r w (destination_location q extension d) v s) (λ y. y.0 0 ≡ r 0)
+finish_keeps_pc : {S : Type 0} (b : Bool) (bus : BusModel S) (r q : Registers) (w : Width) (extension : ℕ) (d : Dst) (v : ℕ) (s : S) → IsNot reg.Pc d
+    → Gives (finish b bus r w (destination_location q extension d) v s) (λ y. y.0 0 ≡ r 0)
 finish_keeps_pc true bus r q w extension d v s other = store_keeps_pc bus r q w extension d v s other
 finish_keeps_pc false bus r q w extension d v s other = refl
 
@@ -121,15 +129,21 @@ two_moves bus op w x d other r s even =
     let extension = sum16 first (2 * a) in
     let P : Registers × Option Written → Type 0 = λ z. z.0 0 ≡ (r 0 + 2 * length (encoding (instr.Two op w x d))) % 0x10000 in
     let at = behind (r 0) a b _ even (length-append (source_row x).extension (destination_row d).extension) in
-    then_gives (source bus (with_register r 0 first) w x s) (λ y t. after_source bus op w (destination_location (with_register y.1 0 (sum16 extension (2 * b))) extension d) y.0 (with_register y.1 0 (sum16 extension (2 * b))) t) P (λ y t.
+    then_gives (source bus (with_register r 0 first) w x s)
+    (λ y t. after_source bus op w (destination_location (with_register y.1 0 (sum16 extension (2 * b))) extension d) y.0
+    (with_register y.1 0 (sum16 extension (2 * b))) t) P (λ y t.
     let moved = with_register y.1 0 (sum16 extension (2 * b)) in
     let l = destination_location moved extension d in
     let o : ℕ → _ = λ v. operated op w v y.0 (flags_of (moved 2)) in
-    then_gives (destination_operand (reads_destination op) bus moved w l t) (λ v u. finish (writes_destination op) bus (with_flags moved (o v).flags) w l (o v).value u) P (λ v u.
-    gives_more (finish (writes_destination op) bus (with_flags moved (o v).flags) w l (o v).value u) (λ z. z.0 0 ≡ with_flags moved (o v).flags 0) P (λ z h. h ∙ flags_keep_pc moved (o v).flags ∙ at) (finish_keeps_pc (writes_destination op) bus (with_flags moved (o v).flags) moved w extension d (o v).value u other)))
+    then_gives (destination_operand (reads_destination op) bus moved w l t)
+    (λ v u. finish (writes_destination op) bus (with_flags moved (o v).flags) w l (o v).value u) P (λ v u.
+    gives_more (finish (writes_destination op) bus (with_flags moved (o v).flags) w l (o v).value u) (λ z. z.0 0 ≡ with_flags moved (o v).flags 0) P
+    (λ z h. h ∙ flags_keep_pc moved (o v).flags ∙ at)
+    (finish_keeps_pc (writes_destination op) bus (with_flags moved (o v).flags) moved w extension d (o v).value u other)))
 
 -- a store to an operand other than SR, or than PC
-store_operand_keeps_status : {S : Type 0} (bus : BusModel S) (r q : Registers) (w : Width) (extension : ℕ) (o : Operand) (v : ℕ) (s : S) → o ≢ mode.Reg source_register.Sr → Gives (store bus r w (operand_location q extension o) v s) (λ y. y.0 2 ≡ r 2)
+store_operand_keeps_status : {S : Type 0} (bus : BusModel S) (r q : Registers) (w : Width) (extension : ℕ) (o : Operand) (v : ℕ) (s : S)
+    → o ≢ mode.Reg source_register.Sr → Gives (store bus r w (operand_location q extension o) v s) (λ y. y.0 2 ≡ r 2)
 store_operand_keeps_status bus r q w extension (mode.Reg source_register.Pc) v s other = refl
 store_operand_keeps_status bus r q w extension (mode.Reg source_register.Sr) v s other = absurd (other refl)
 store_operand_keeps_status bus r q w extension (mode.Reg (source_register.Index b)) v s other = register_keeps b r v
@@ -139,7 +153,8 @@ store_operand_keeps_status bus r q w extension (mode.Absolute a) v s other = wri
 store_operand_keeps_status bus r q w extension (mode.Indirect p) v s other = write_gives (bus.writes s _ w v) _ s _ (λ y. y.0 2 ≡ r 2) refl
 store_operand_keeps_status bus r q w extension (mode.Increment b) v s other = write_gives (bus.writes s _ w v) _ s _ (λ y. y.0 2 ≡ r 2) refl
 
-store_operand_keeps_pc : {S : Type 0} (bus : BusModel S) (r q : Registers) (w : Width) (extension : ℕ) (o : Operand) (v : ℕ) (s : S) → o ≢ mode.Reg source_register.Pc → Gives (store bus r w (operand_location q extension o) v s) (λ y. y.0 0 ≡ r 0)
+store_operand_keeps_pc : {S : Type 0} (bus : BusModel S) (r q : Registers) (w : Width) (extension : ℕ) (o : Operand) (v : ℕ) (s : S)
+    → o ≢ mode.Reg source_register.Pc → Gives (store bus r w (operand_location q extension o) v s) (λ y. y.0 0 ≡ r 0)
 store_operand_keeps_pc bus r q w extension (mode.Reg source_register.Pc) v s other = absurd (other refl)
 store_operand_keeps_pc bus r q w extension (mode.Reg source_register.Sr) v s other = refl
 store_operand_keeps_pc bus r q w extension (mode.Reg (source_register.Index b)) v s other = index_keeps_pc b r v
@@ -158,13 +173,15 @@ swap_keeps bus o other r s =
     let past = with_register (incremented moved Word o) 0 (sum16 first (2 * length (operand_row o).extension)) in
     let P : Registers × Option Written → Type 0 = λ y. y.0 2 ≡ r 2 in
     then_gives (load bus moved Word l s) (λ v t. written_back bus exchanged Word l v past t) P (λ v t.
-    gives_more (store bus past Word l (exchanged Word v (flags_of (past 2))).value t) (λ z. z.0 2 ≡ past 2) P (λ z h. h ∙ increment_keeps o moved Word) (store_operand_keeps_status bus past moved Word first o _ t other))
+    gives_more (store bus past Word l (exchanged Word v (flags_of (past 2))).value t) (λ z. z.0 2 ≡ past 2) P (λ z h. h ∙ increment_keeps o moved Word)
+    (store_operand_keeps_status bus past moved Word first o _ t other))
 
 -- PC behind an instruction of one operand
 behind_one : (pc a : ℕ) → pc % 2 ≡ 0 → sum16 (sum16 pc 2) (2 * a) / 2 * 2 ≡ (pc + 2 * suc a) % 0x10000
 behind_one pc a even = omega arith
 
-modify_moves : {S : Type 0} (bus : BusModel S) (f : Width → ℕ → Flags → Operated) (w : Width) (o : Operand) → o ≢ mode.Reg source_register.Pc → (r : Registers) (s : S) → r 0 % 2 ≡ 0
+modify_moves : {S : Type 0} (bus : BusModel S) (f : Width → ℕ → Flags → Operated) (w : Width) (o : Operand) → o ≢ mode.Reg source_register.Pc
+    → (r : Registers) (s : S) → r 0 % 2 ≡ 0
     → Gives (read_modify_write bus f w o r s) (λ y. y.0 0 ≡ (r 0 + 2 * suc (length (operand_row o).extension)) % 0x10000)
 modify_moves bus f w o other r s even =
     let first = sum16 (r 0) 2 in
@@ -175,7 +192,8 @@ modify_moves bus f w o other r s even =
     let P : Registers × Option Written → Type 0 = λ y. y.0 0 ≡ (r 0 + 2 * suc a) % 0x10000 in
     then_gives (load bus moved w l s) (λ v t. written_back bus f w l v past t) P (λ v t.
     let done = f w v (flags_of (past 2)) in
-    gives_more (store bus (with_flags past done.flags) w l done.value t) (λ z. z.0 0 ≡ with_flags past done.flags 0) P (λ z h. h ∙ flags_keep_pc past done.flags ∙ behind_one (r 0) a even) (store_operand_keeps_pc bus (with_flags past done.flags) moved w first o _ t other))
+    gives_more (store bus (with_flags past done.flags) w l done.value t) (λ z. z.0 0 ≡ with_flags past done.flags 0) P
+    (λ z h. h ∙ flags_keep_pc past done.flags ∙ behind_one (r 0) a even) (store_operand_keeps_pc bus (with_flags past done.flags) moved w first o _ t other))
 
 push_moves : {S : Type 0} (bus : BusModel S) (w : Width) (x : Src) → MovesOn bus (instr.One (one.Push w x))
 unfolding effect

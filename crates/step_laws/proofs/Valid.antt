@@ -21,7 +21,9 @@ use Rattle.msp_step.specs.declared.operand.Location.{Location}
 use Rattle.msp_step.specs.declared.operand.Location.TheVariants.{Register, Memory}
 use Rattle.msp_step.specs.Registers.{Registers, with_register}
 use Rattle.msp_step.specs.Access.{BusModel, read_at}
-use Rattle.msp_step.specs.Effect.{Operated, sum16, step_of, source, load, store, finish, operand_location, incremented, destination_operand, after_source, operated, flags_of, with_flags, reads_destination, writes_destination, two_operand_effect, read_modify_write, rotated, shifted, exchanged, sign_extended, push_effect, call_effect, reti_effect}
+use Rattle.msp_step.specs.Effect.{Operated, sum16, step_of, source, load, store, finish, operand_location, incremented, destination_operand, after_source}
+use Rattle.msp_step.specs.Effect.{operated, flags_of, with_flags, reads_destination, writes_destination, two_operand_effect, read_modify_write, rotated}
+use Rattle.msp_step.specs.Effect.{shifted, exchanged, sign_extended, push_effect, call_effect, reti_effect}
 use Rattle.msp_step.specs.Step.{effect, one_operand_effect}
 use Rattle.step_laws.specs.Effects.{Gives, IsValid, StaysValid}
 use Rattle.step_laws.proofs.Gives.{then_gives, then_keeps, write_gives}
@@ -73,23 +75,30 @@ source_valid bus r w (src.Operand p) s h = then_gives (load bus r w (operand_loc
 source_valid bus r w (src.Immediate n) s h = h
 source_valid bus r w (src.Constant k) s h = h
 
-store_valid : {S : Type 0} (bus : BusModel S) (r : Registers) (w : Width) (l : Location) (v : ℕ) (s : S) → IsValid r → Gives (store bus r w l v s) (λ y. IsValid y.0)
+store_valid : {S : Type 0} (bus : BusModel S) (r : Registers) (w : Width) (l : Location) (v : ℕ) (s : S) → IsValid r
+    → Gives (store bus r w l v s) (λ y. IsValid y.0)
 store_valid bus r w (Register n) v s h = valid_register n r v h
 store_valid bus r w (Memory a) v s h = write_gives (bus.writes s a w v) a s (r, Some (a, v)) (λ y. IsValid y.0) h
 
-finish_valid : {S : Type 0} (b : Bool) (bus : BusModel S) (r : Registers) (w : Width) (l : Location) (v : ℕ) (s : S) → IsValid r → Gives (finish b bus r w l v s) (λ y. IsValid y.0)
+finish_valid : {S : Type 0} (b : Bool) (bus : BusModel S) (r : Registers) (w : Width) (l : Location) (v : ℕ) (s : S) → IsValid r
+    → Gives (finish b bus r w l v s) (λ y. IsValid y.0)
 finish_valid true bus r w l v s h = store_valid bus r w l v s h
 finish_valid false bus r w l v s h = h
 
-after_valid : {S : Type 0} (bus : BusModel S) (op : TwoOp) (w : Width) (l : Location) (v : ℕ) (r : Registers) (s : S) → IsValid r → Gives (after_source bus op w l v r s) (λ y. IsValid y.0)
+after_valid : {S : Type 0} (bus : BusModel S) (op : TwoOp) (w : Width) (l : Location) (v : ℕ) (r : Registers) (s : S) → IsValid r
+    → Gives (after_source bus op w l v r s) (λ y. IsValid y.0)
 after_valid bus op w l v r s h = then_gives (destination_operand (reads_destination op) bus r w l s) _ (λ y. IsValid y.0)
-    (λ d t. finish_valid (writes_destination op) bus (with_flags r (operated op w d v (flags_of (r 2))).flags) w l (operated op w d v (flags_of (r 2))).value t (valid_flags (operated op w d v (flags_of (r 2))).flags r h))
+    (λ d t. finish_valid (writes_destination op) bus (with_flags r (operated op w d v (flags_of (r 2))).flags) w l (operated op w d v (flags_of (r 2))).value
+    t (valid_flags (operated op w d v (flags_of (r 2))).flags r h))
 
-two_valid : {S : Type 0} (bus : BusModel S) (op : TwoOp) (w : Width) (x : Src) (d : Dst) (r : Registers) (s : S) → IsValid r → Gives (two_operand_effect bus op w x d r s) (λ y. IsValid y.0)
-two_valid bus op w x d r s h = then_keeps (source bus (with_register r 0 (sum16 (r 0) 2)) w x s) _ (λ y. IsValid y.1) (λ y. IsValid y.0) (source_valid bus (with_register r 0 (sum16 (r 0) 2)) w x s (valid_pc r (sum16 (r 0) 2) h))
+two_valid : {S : Type 0} (bus : BusModel S) (op : TwoOp) (w : Width) (x : Src) (d : Dst) (r : Registers) (s : S) → IsValid r
+    → Gives (two_operand_effect bus op w x d r s) (λ y. IsValid y.0)
+two_valid bus op w x d r s h = then_keeps (source bus (with_register r 0 (sum16 (r 0) 2)) w x s) _ (λ y. IsValid y.1) (λ y. IsValid y.0)
+    (source_valid bus (with_register r 0 (sum16 (r 0) 2)) w x s (valid_pc r (sum16 (r 0) 2) h))
     (λ y t k. after_valid bus op w _ y.0 _ t (valid_pc y.1 _ k))
 
-modified_valid : {S : Type 0} (bus : BusModel S) (f : Width → ℕ → Flags → Operated) (w : Width) (p : Operand) (r : Registers) (s : S) → IsValid r → Gives (read_modify_write bus f w p r s) (λ y. IsValid y.0)
+modified_valid : {S : Type 0} (bus : BusModel S) (f : Width → ℕ → Flags → Operated) (w : Width) (p : Operand) (r : Registers) (s : S) → IsValid r
+    → Gives (read_modify_write bus f w p r s) (λ y. IsValid y.0)
 modified_valid bus f w p r s h =
     let first = sum16 (r 0) 2 in
     let moved = with_register r 0 first in
@@ -101,13 +110,15 @@ modified_valid bus f w p r s h =
 push_valid : {S : Type 0} (bus : BusModel S) (w : Width) (x : Src) (r : Registers) (s : S) → IsValid r → Gives (push_effect bus w x r s) (λ y. IsValid y.0)
 push_valid bus w x r s h =
     let first = sum16 (r 0) 2 in
-    then_keeps (source bus (with_register r 0 first) w x s) _ (λ y. IsValid y.1) (λ y. IsValid y.0) (source_valid bus (with_register r 0 first) w x s (valid_pc r first h))
+    then_keeps (source bus (with_register r 0 first) w x s) _ (λ y. IsValid y.1) (λ y. IsValid y.0)
+    (source_valid bus (with_register r 0 first) w x s (valid_pc r first h))
     (λ y t k. write_gives (bus.writes t _ w y.0) _ t _ (λ z. IsValid z.0) (valid_index index.Sp _ _ (valid_pc y.1 _ k)))
 
 call_valid : {S : Type 0} (bus : BusModel S) (x : Src) (r : Registers) (s : S) → IsValid r → Gives (call_effect bus x r s) (λ y. IsValid y.0)
 call_valid bus x r s h =
     let first = sum16 (r 0) 2 in
-    then_keeps (source bus (with_register r 0 first) Word x s) _ (λ y. IsValid y.1) (λ y. IsValid y.0) (source_valid bus (with_register r 0 first) Word x s (valid_pc r first h))
+    then_keeps (source bus (with_register r 0 first) Word x s) _ (λ y. IsValid y.1) (λ y. IsValid y.0)
+    (source_valid bus (with_register r 0 first) Word x s (valid_pc r first h))
     (λ y t k. write_gives (bus.writes t _ Word _) _ t _ (λ z. IsValid z.0) (valid_pc _ y.0 (valid_index index.Sp _ _ (valid_pc y.1 _ k))))
 
 reti_valid : {S : Type 0} (bus : BusModel S) (r : Registers) (s : S) → IsValid r → Gives (reti_effect bus r s) (λ y. IsValid y.0)

@@ -4,7 +4,8 @@
 
 ghost use Rattle.msp_step.specs.msp_isa.declared.instructions.TwoOp.TheVariants.{Cmp, Bit, Mov, Bic, Bis};
 ghost use Rattle.step_laws.specs.Alike.{CarriesAlike};
-ghost use Rattle.step_laws.specs.Effects.{ComparesOnly, CopiesKeepStatus, MovesByLength, MovesOnly, RegistersStay, SwapKeepsStatus, StatusIsTheResult, StatusStays, StaysValid};
+ghost use Rattle.step_laws.specs.Effects.{ComparesOnly, CopiesKeepStatus, MovesByLength, MovesOnly, RegistersStay, SwapKeepsStatus, StatusIsTheResult};
+ghost use Rattle.step_laws.specs.Effects.{StatusStays, StaysValid};
 
 use msp_step::Bus;
 

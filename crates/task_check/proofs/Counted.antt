@@ -9,9 +9,11 @@ use Rattle.task_ast.specs.Tree as t
 use Rattle.task_check.specs.declared.occurrence.Role.{Role}
 use Rattle.task_check.specs.declared.occurrence.Role.TheVariants as role
 use Rattle.task_check.specs.declared.occurrence.Occurrence.{Occurrence}
-use Rattle.task_check.specs.Occurrences.{and_front, expression_names, value_names, statement_names, choice_names, names_up_to, block_names, task_names, shared_names, program_names}
+use Rattle.task_check.specs.Occurrences.{and_front, expression_names, value_names, statement_names, choice_names, names_up_to, block_names, task_names}
+use Rattle.task_check.specs.Occurrences.{shared_names, program_names}
 use Rattle.task_check.specs.Scope.{one_shared, one_task, shared_in, tasks_in}
-use Rattle.task_check.specs.Counted.{expression_count, value_count, statement_count, choice_count, block_count, tasks_count, statement_transitions, choice_transitions, block_transitions, tasks_transitions}
+use Rattle.task_check.specs.Counted.{expression_count, value_count, statement_count, choice_count, block_count, tasks_count, statement_transitions}
+use Rattle.task_check.specs.Counted.{choice_transitions, block_transitions, tasks_transitions}
 
 -- the names, each counted as often as its role says
 abbrev pub count : (Role → ℕ) → List Occurrence → ℕ
@@ -39,27 +41,61 @@ count_front f (o ∷ names) s r = omega (arith, count_front f names s r)
 module _ (f : Role → ℕ) (v w k d : ℕ → ℕ)
     (v_none : v 0 ≡ 0) (v_more : (a b : ℕ) → v (a + b) ≡ v a + v b) (w_none : w 0 ≡ 0) (w_more : (a b : ℕ) → w (a + b) ≡ w a + w b)
     (k_none : k 0 ≡ 0) (k_more : (n : ℕ) → k (suc n) ≡ k n + k 1) (d_none : d 0 ≡ 0) (d_more : (n : ℕ) → d (suc n) ≡ d n + d 1)
-    (scalar : f role.Scalar ≡ v 1) (array : f role.Element ≡ v 1) (counter : f role.Counter ≡ v 1) (local : (of : WordType) (b e : ℕ) → f (role.Local of b e) ≡ v 1)
-    (target : f role.Target ≡ w 1) (shift : (n : ℕ) → f (role.Count n) ≡ 0) (task : f role.Task ≡ k 1) (shared : (of : WordType) (e : Extent) → f (role.Shared of e) ≡ d 1) where
+    (scalar : f role.Scalar ≡ v 1) (array : f role.Element ≡ v 1) (counter : f role.Counter ≡ v 1)
+    (local : (of : WordType) (b e : ℕ) → f (role.Local of b e) ≡ v 1)
+    (target : f role.Target ≡ w 1) (shift : (n : ℕ) → f (role.Count n) ≡ 0) (task : f role.Task ≡ k 1)
+    (shared : (of : WordType) (e : Extent) → f (role.Shared of e) ≡ d 1) where
   count_expression : (e : Expression Span) (names : List Occurrence) → count f (expression_names e names) ≡ v (expression_count e) + count f names
   count_expression (t.number n) names = omega (arith, v_none)
   count_expression (t.name s) names = omega (arith, count_front f names s role.Scalar, scalar)
-  count_expression (t.element s index) names = omega (arith, count_front f (expression_names index names) s role.Element, array, count_expression index names, v_more 1 (expression_count index))
+  count_expression (t.element s index) names = omega (
+    arith,
+    count_front f (expression_names index names) s role.Element,
+    array,
+    count_expression index names,
+    v_more 1 (expression_count index),
+  )
   count_expression t.sense names = omega (arith, v_none)
   count_expression (t.unary op a) names = count_expression a names
-  count_expression (t.binary op a b) names = omega (arith, count_expression a (expression_names b names), count_expression b names, v_more (expression_count a) (expression_count b))
-  count_expression (t.shift op a c) names = omega (arith, count_expression a (and_front names c.span (role.Count c.value)), count_front f names c.span (role.Count c.value), shift c.value)
-  count_expression (t.short_circuit op a b) names = omega (arith, count_expression a (expression_names b names), count_expression b names, v_more (expression_count a) (expression_count b))
+  count_expression (t.binary op a b) names = omega (
+    arith,
+    count_expression a (expression_names b names),
+    count_expression b names,
+    v_more (expression_count a) (expression_count b),
+  )
+  count_expression (t.shift op a c) names = omega (
+    arith,
+    count_expression a (and_front names c.span (role.Count c.value)),
+    count_front f names c.span (role.Count c.value),
+    shift c.value,
+  )
+  count_expression (t.short_circuit op a b) names =
+      omega (arith, count_expression a (expression_names b names), count_expression b names, v_more (expression_count a) (expression_count b))
 
   count_value : (e : Option (Expression Span)) (names : List Occurrence) → count f (value_names e names) ≡ v (value_count e) + count f names
   count_value None names = omega (arith, v_none)
   count_value (Some e) names = count_expression e names
 
   mutual
-    count_statement : (end : ℕ) (s : Statement Span Span) (names : List Occurrence) → count f (statement_names end s names) ≡ v (statement_count s) + w (statement_transitions s) + count f names
+    count_statement : (end : ℕ) (s : Statement Span Span) (names : List Occurrence) → count f (statement_names end s names)
+        ≡ v (statement_count s) + w (statement_transitions s) + count f names
     count_statement end (t.declare of s e) names =
-        omega (arith, count_front f (value_names e names) s (role.Local of (length names) end), local of (length names) end, count_value e names, v_more 1 (value_count e), w_none)
-    count_statement end (t.assign s e) names = omega (arith, count_front f (expression_names e names) s role.Scalar, scalar, count_expression e names, v_more 1 (expression_count e), w_none)
+        omega (
+          arith,
+          count_front f (value_names e names) s (role.Local of (length names) end),
+          local of (length names) end,
+          count_value e names,
+          v_more 1 (value_count e),
+          w_none,
+        )
+    count_statement end (t.assign s e) names = omega (
+      arith,
+      count_front f (expression_names e names) s role.Scalar,
+      scalar,
+      count_expression e names,
+      v_more 1 (expression_count e),
+      w_none,
+    )
     count_statement end (t.store s index e) names =
         omega (
           arith,
@@ -90,7 +126,8 @@ module _ (f : Role → ℕ) (v w k d : ℕ → ℕ)
     count_statement end (t.emit e) names = omega (arith, count_expression e names, w_none)
     count_statement end (t.transition s) names = omega (arith, count_front f names s role.Target, target, v_none)
 
-    count_choice : (c : Choice Span Span) (names : List Occurrence) → count f (choice_names c names) ≡ v (choice_count c) + w (choice_transitions c) + count f names
+    count_choice : (c : Choice Span Span) (names : List Occurrence) → count f (choice_names c names)
+        ≡ v (choice_count c) + w (choice_transitions c) + count f names
     count_choice t.nothing names = omega (arith, v_none, w_none)
     count_choice (t.otherwise b) names = count_block (length names) b names
     count_choice (t.test e b more) names =
@@ -105,12 +142,20 @@ module _ (f : Role → ℕ) (v w k d : ℕ → ℕ)
           w_more (block_transitions b) (choice_transitions more),
         )
 
-    count_block : (end : ℕ) (b : Block Span Span) (names : List Occurrence) → count f (names_up_to end b names) ≡ v (block_count b) + w (block_transitions b) + count f names
+    count_block : (end : ℕ) (b : Block Span Span) (names : List Occurrence) → count f (names_up_to end b names)
+        ≡ v (block_count b) + w (block_transitions b) + count f names
     count_block end t.end names = omega (arith, v_none, w_none)
     count_block end (t.step s more) names =
-        omega (arith, count_statement end s (names_up_to end more names), count_block end more names, v_more (statement_count s) (block_count more), w_more (statement_transitions s) (block_transitions more))
+        omega (
+          arith,
+          count_statement end s (names_up_to end more names),
+          count_block end more names,
+          v_more (statement_count s) (block_count more),
+          w_more (statement_transitions s) (block_transitions more),
+        )
 
-  count_tasks : (ts : List (Task Span Span)) (names : List Occurrence) → count f (task_names ts names) ≡ k (length ts) + v (tasks_count ts) + w (tasks_transitions ts) + count f names
+  count_tasks : (ts : List (Task Span Span)) (names : List Occurrence) → count f (task_names ts names)
+      ≡ k (length ts) + v (tasks_count ts) + w (tasks_transitions ts) + count f names
   count_tasks [] names = omega (arith, k_none, v_none, w_none)
   count_tasks (x ∷ ts) names =
       let rest = task_names ts names in
@@ -128,13 +173,27 @@ module _ (f : Role → ℕ) (v w k d : ℕ → ℕ)
   count_shared : (ds : List SharedDeclaration) (names : List Occurrence) → count f (shared_names ds names) ≡ d (length ds) + count f names
   count_shared [] names = omega (arith, d_none)
   count_shared (x ∷ ds) names =
-      omega (arith, count_front f (shared_names ds names) x.name (role.Shared x.word_type x.extent), shared x.word_type x.extent, count_shared ds names, d_more (length ds))
+      omega (
+        arith,
+        count_front f (shared_names ds names) x.name (role.Shared x.word_type x.extent),
+        shared x.word_type x.extent,
+        count_shared ds names,
+        d_more (length ds),
+      )
 
-  pub count_program : (p : Program Span Span) → count f (program_names p) ≡ d (length p.shared) + k (length p.tasks) + v (tasks_count p.tasks) + w (tasks_transitions p.tasks + 1)
+  pub count_program : (p : Program Span Span) → count f (program_names p) ≡ d (length p.shared) + k (length p.tasks) + v (tasks_count p.tasks) + w
+      (tasks_transitions p.tasks + 1)
   unfolding program_names
   count_program p =
       let last = and_front [] p.entry role.Target in
-      omega (arith, count_shared p.shared (task_names p.tasks last), count_tasks p.tasks last, count_front f [] p.entry role.Target, target, w_more (tasks_transitions p.tasks) 1)
+      omega (
+        arith,
+        count_shared p.shared (task_names p.tasks last),
+        count_tasks p.tasks last,
+        count_front f [] p.entry role.Target,
+        target,
+        w_more (tasks_transitions p.tasks) 1,
+      )
 
 -- ---- the four counts
 

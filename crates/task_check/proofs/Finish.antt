@@ -18,8 +18,10 @@ use Rattle.task_check.specs.Faults.{first_fault, name_fault, use_fault, limit_fa
 use Rattle.task_check.specs.Walks.{IsWalked}
 use Rattle.task_check.specs.Answers.{IsLookedUp, IsNamed, IsAccepted, IsCleanOnPaths, IsRefusedOnPaths, on_paths, at_limits, IsRefusedOrMemory, limits_fault}
 
-module _ (source : List ℕ) (tree : Program Span Span) (names : List Occurrence) (w : Walk) (same : names ≡ program_names tree) (walked : IsWalked source names names w) where
-  named_is : (checked : Program VariableName TaskName) → w.wrong_use ≡ None → program_back checked ≡ tree → task_variables checked.tasks [] ≡ w.variables.items → task_targets checked.tasks (checked.entry.task ∷ []) ≡ w.targets.items
+module _ (source : List ℕ) (tree : Program Span Span) (names : List Occurrence) (w : Walk) (same : names ≡ program_names tree)
+    (walked : IsWalked source names names w) where
+  named_is : (checked : Program VariableName TaskName) → w.wrong_use ≡ None → program_back checked ≡ tree
+      → task_variables checked.tasks [] ≡ w.variables.items → task_targets checked.tasks (checked.entry.task ∷ []) ≡ w.targets.items
       → IsNamed source tree checked
   named_is checked fine back vs ts = record {
     names = subst (λ xs. first_fault (name_fault source xs) xs ≡ None) same walked.names;
@@ -34,7 +36,8 @@ module _ (source : List ℕ) (tree : Program Span Span) (names : List Occurrence
   limits_are : (r : Option CheckFault) → w.too_many ≡ r → limits_fault source tree ≡ r
   limits_are r e = subst (λ xs. first_fault (limit_fault source) xs ≡ r) same (sym walked.too_many ∙ e)
 
-  pub looked_up_is : (checked : Program VariableName TaskName) → w.wrong_use ≡ None → program_back checked ≡ tree → task_variables checked.tasks [] ≡ w.variables.items → task_targets checked.tasks (checked.entry.task ∷ []) ≡ w.targets.items
+  pub looked_up_is : (checked : Program VariableName TaskName) → w.wrong_use ≡ None → program_back checked ≡ tree
+      → task_variables checked.tasks [] ≡ w.variables.items → task_targets checked.tasks (checked.entry.task ∷ []) ≡ w.targets.items
       → IsLookedUp source (program_back checked) checked
   looked_up_is checked fine back vs ts = subst (λ t. IsLookedUp source t checked) (sym back) (named_is checked fine back vs ts).looked_up
 
@@ -43,7 +46,8 @@ module _ (source : List ℕ) (tree : Program Span Span) (names : List Occurrence
 
   -- what the checks of paths and limits answer
   pub finished : (r : Result Checked CheckFault) (checked : Source VariableName TaskName)
-      → w.wrong_use ≡ None → program_back (program_of checked) ≡ tree → task_variables (program_of checked).tasks [] ≡ w.variables.items → task_targets (program_of checked).tasks ((program_of checked).entry.task ∷ []) ≡ w.targets.items
+      → w.wrong_use ≡ None → program_back (program_of checked) ≡ tree → task_variables (program_of checked).tasks [] ≡ w.variables.items
+      → task_targets (program_of checked).tasks ((program_of checked).entry.task ∷ []) ≡ w.targets.items
       → IfOk r (λ c. c.source ≡ checked) → IfOk r (λ c. w.too_many ≡ None)
       → IfErr r (λ e. (e ≡ fault.Memory) ⊎ (IsRefusedOnPaths source (program_of checked) e ⊎ (IsCleanOnPaths (program_of checked) × (w.too_many ≡ Some e))))
       → MatchResult r (λ c. IsAccepted source tree (program_of c.source)) (λ e. IsRefusedOrMemory source tree e)

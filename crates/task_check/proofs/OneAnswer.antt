@@ -47,7 +47,8 @@ clean_refused source c (fault.Unassigned l n) h k = h.assigned n k.1.0
 clean_refused source c (fault.NoTransition l n) h k = h.transitions n k.2.0
 clean_refused source c _ h k = k
 
-on_paths_alike : (source : List ℕ) (c : Program VariableName TaskName) (e d : CheckFault) → IsRefusedOnPaths source c e → IsRefusedOnPaths source c d → IsAlike e d
+on_paths_alike : (source : List ℕ) (c : Program VariableName TaskName) (e d : CheckFault) → IsRefusedOnPaths source c e → IsRefusedOnPaths source c d
+    → IsAlike e d
 on_paths_alike source c (fault.BadLoop l n) (fault.BadLoop m k) h g = let f = one_first _ n k h.0 g.0 in (lines source l m n k h.1 g.1 f, f)
 on_paths_alike source c (fault.BadLoop l n) (fault.Unassigned m k) h g = absurd (g.0 n h.0.0)
 on_paths_alike source c (fault.BadLoop l n) (fault.NoTransition m k) h g = absurd (g.0 n h.0.0)

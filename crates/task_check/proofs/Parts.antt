@@ -11,14 +11,16 @@ use Rattle.task_ast.specs.declared.names.TaskName.{TaskName}
 use Rattle.task_ast.specs.Tree.{Statement, Block, block_of, Tested, choice_of, Task}
 use Rattle.task_ast.specs.Tree as t
 use Rattle.task_check.specs.declared.symbol.TypedVariable.{TypedVariable}
-use Rattle.task_check.specs.LookedUp.{expression_back, statement_back, block_back, choice_back, expression_variables, statement_variables, block_variables, choice_variables, statement_targets, block_targets, choice_targets, task_variables, task_targets}
+use Rattle.task_check.specs.LookedUp.{expression_back, statement_back, block_back, choice_back, expression_variables, statement_variables, block_variables}
+use Rattle.task_check.specs.LookedUp.{choice_variables, statement_targets, block_targets, choice_targets, task_variables, task_targets}
 use Rattle.task_check.specs.Parts.{tested_back, list_variables, list_targets, arms_variables, arms_targets}
 
 pub block_back_list : (xs : List (Statement VariableName TaskName)) → block_back (block_of xs) ≡ block_of (map statement_back xs)
 block_back_list [] = refl
 block_back_list (x ∷ xs) = ap (t.step (statement_back x)) (block_back_list xs)
 
-pub block_variables_list : (xs : List (Statement VariableName TaskName)) (more : List TypedVariable) → block_variables (block_of xs) more ≡ list_variables xs more
+pub block_variables_list : (xs : List (Statement VariableName TaskName)) (more : List TypedVariable)
+    → block_variables (block_of xs) more ≡ list_variables xs more
 block_variables_list [] more = refl
 block_variables_list (x ∷ xs) more = ap (statement_variables x) (block_variables_list xs more)
 
@@ -30,15 +32,18 @@ pub choice_back_none : (xs : List (Tested VariableName TaskName)) → choice_bac
 choice_back_none [] = refl
 choice_back_none (x ∷ xs) = ap (t.test (expression_back x.condition) (block_back x.block)) (choice_back_none xs)
 
-pub choice_back_some : (xs : List (Tested VariableName TaskName)) (b : Block VariableName TaskName) → choice_back (choice_of xs (Some b)) ≡ choice_of (map tested_back xs) (Some (block_back b))
+pub choice_back_some : (xs : List (Tested VariableName TaskName)) (b : Block VariableName TaskName)
+    → choice_back (choice_of xs (Some b)) ≡ choice_of (map tested_back xs) (Some (block_back b))
 choice_back_some [] b = refl
 choice_back_some (x ∷ xs) b = ap (t.test (expression_back x.condition) (block_back x.block)) (choice_back_some xs b)
 
-pub choice_variables_none : (xs : List (Tested VariableName TaskName)) (more : List TypedVariable) → choice_variables (choice_of xs None) more ≡ arms_variables xs more
+pub choice_variables_none : (xs : List (Tested VariableName TaskName)) (more : List TypedVariable)
+    → choice_variables (choice_of xs None) more ≡ arms_variables xs more
 choice_variables_none [] more = refl
 choice_variables_none (x ∷ xs) more = ap (λ r. expression_variables x.condition (block_variables x.block r)) (choice_variables_none xs more)
 
-pub choice_variables_some : (xs : List (Tested VariableName TaskName)) (b : Block VariableName TaskName) (more : List TypedVariable) → choice_variables (choice_of xs (Some b)) more ≡ arms_variables xs (block_variables b more)
+pub choice_variables_some : (xs : List (Tested VariableName TaskName)) (b : Block VariableName TaskName) (more : List TypedVariable)
+    → choice_variables (choice_of xs (Some b)) more ≡ arms_variables xs (block_variables b more)
 choice_variables_some [] b more = refl
 choice_variables_some (x ∷ xs) b more = ap (λ r. expression_variables x.condition (block_variables x.block r)) (choice_variables_some xs b more)
 
@@ -46,15 +51,18 @@ pub choice_targets_none : (xs : List (Tested VariableName TaskName)) (more : Lis
 choice_targets_none [] more = refl
 choice_targets_none (x ∷ xs) more = ap (block_targets x.block) (choice_targets_none xs more)
 
-pub choice_targets_some : (xs : List (Tested VariableName TaskName)) (b : Block VariableName TaskName) (more : List ℕ) → choice_targets (choice_of xs (Some b)) more ≡ arms_targets xs (block_targets b more)
+pub choice_targets_some : (xs : List (Tested VariableName TaskName)) (b : Block VariableName TaskName) (more : List ℕ)
+    → choice_targets (choice_of xs (Some b)) more ≡ arms_targets xs (block_targets b more)
 choice_targets_some [] b more = refl
 choice_targets_some (x ∷ xs) b more = ap (block_targets x.block) (choice_targets_some xs b more)
 
-pub list_variables_push : (xs : List (Statement VariableName TaskName)) (x : Statement VariableName TaskName) (more : List TypedVariable) → list_variables (xs ++ x ∷ []) more ≡ list_variables xs (statement_variables x more)
+pub list_variables_push : (xs : List (Statement VariableName TaskName)) (x : Statement VariableName TaskName) (more : List TypedVariable)
+    → list_variables (xs ++ x ∷ []) more ≡ list_variables xs (statement_variables x more)
 list_variables_push [] x more = refl
 list_variables_push (y ∷ xs) x more = ap (statement_variables y) (list_variables_push xs x more)
 
-pub list_targets_push : (xs : List (Statement VariableName TaskName)) (x : Statement VariableName TaskName) (more : List ℕ) → list_targets (xs ++ x ∷ []) more ≡ list_targets xs (statement_targets x more)
+pub list_targets_push : (xs : List (Statement VariableName TaskName)) (x : Statement VariableName TaskName) (more : List ℕ)
+    → list_targets (xs ++ x ∷ []) more ≡ list_targets xs (statement_targets x more)
 list_targets_push [] x more = refl
 list_targets_push (y ∷ xs) x more = ap (statement_targets y) (list_targets_push xs x more)
 
@@ -63,30 +71,36 @@ pub arms_variables_push : (xs : List (Tested VariableName TaskName)) (x : Tested
 arms_variables_push [] x more = refl
 arms_variables_push (y ∷ xs) x more = ap (λ r. expression_variables y.condition (block_variables y.block r)) (arms_variables_push xs x more)
 
-pub arms_targets_push : (xs : List (Tested VariableName TaskName)) (x : Tested VariableName TaskName) (more : List ℕ) → arms_targets (xs ++ x ∷ []) more ≡ arms_targets xs (block_targets x.block more)
+pub arms_targets_push : (xs : List (Tested VariableName TaskName)) (x : Tested VariableName TaskName) (more : List ℕ)
+    → arms_targets (xs ++ x ∷ []) more ≡ arms_targets xs (block_targets x.block more)
 arms_targets_push [] x more = refl
 arms_targets_push (y ∷ xs) x more = ap (block_targets y.block) (arms_targets_push xs x more)
 
 -- one more at the end
-pub statements_push : (xs : List (Stmt VariableName TaskName)) (x : Stmt VariableName TaskName) → map statement_of (xs ++ x ∷ []) ≡ map statement_of xs ++ statement_of x ∷ []
+pub statements_push : (xs : List (Stmt VariableName TaskName)) (x : Stmt VariableName TaskName)
+    → map statement_of (xs ++ x ∷ []) ≡ map statement_of xs ++ statement_of x ∷ []
 statements_push xs x = map-append statement_of xs (x ∷ [])
 
 pub tests_push : (xs : List (Arm VariableName TaskName)) (x : Arm VariableName TaskName) → map tested_of (xs ++ x ∷ []) ≡ map tested_of xs ++ tested_of x ∷ []
 tests_push xs x = map-append tested_of xs (x ∷ [])
 
-pub backs_push : (xs : List (Statement VariableName TaskName)) (x : Statement VariableName TaskName) → map statement_back (xs ++ x ∷ []) ≡ map statement_back xs ++ statement_back x ∷ []
+pub backs_push : (xs : List (Statement VariableName TaskName)) (x : Statement VariableName TaskName)
+    → map statement_back (xs ++ x ∷ []) ≡ map statement_back xs ++ statement_back x ∷ []
 backs_push xs x = map-append statement_back xs (x ∷ [])
 
-pub tests_back_push : (xs : List (Tested VariableName TaskName)) (x : Tested VariableName TaskName) → map tested_back (xs ++ x ∷ []) ≡ map tested_back xs ++ tested_back x ∷ []
+pub tests_back_push : (xs : List (Tested VariableName TaskName)) (x : Tested VariableName TaskName)
+    → map tested_back (xs ++ x ∷ []) ≡ map tested_back xs ++ tested_back x ∷ []
 tests_back_push xs x = map-append tested_back xs (x ∷ [])
 
 -- ---- an `if` and its parts
 
-pub if_back_none : (s : Statement VariableName TaskName) (ts : List (Tested VariableName TaskName)) (us : List (Tested Span Span)) → s ≡ t.choose (choice_of ts None) → map tested_back ts ≡ us
+pub if_back_none : (s : Statement VariableName TaskName) (ts : List (Tested VariableName TaskName)) (us : List (Tested Span Span))
+    → s ≡ t.choose (choice_of ts None) → map tested_back ts ≡ us
     → statement_back s ≡ t.choose (choice_of us None)
 if_back_none s ts us e h = ap statement_back e ∙ ap t.choose (choice_back_none ts ∙ ap (λ v. choice_of v None) h)
 
-pub if_back_some : (s : Statement VariableName TaskName) (ts : List (Tested VariableName TaskName)) (b : Block VariableName TaskName) (us : List (Tested Span Span)) (d : Block Span Span)
+pub if_back_some : (s : Statement VariableName TaskName) (ts : List (Tested VariableName TaskName)) (b : Block VariableName TaskName)
+    (us : List (Tested Span Span)) (d : Block Span Span)
     → s ≡ t.choose (choice_of ts (Some b)) → map tested_back ts ≡ us → block_back b ≡ d
     → statement_back s ≡ t.choose (choice_of us (Some d))
 if_back_some s ts b us d e h k =
@@ -98,14 +112,16 @@ if_back_some s ts b us d e h k =
 pub read_on : {A B C : Type 0} (f : A → C) (g : B → C) (xs : List A) (x : A) (ys : List B) (i : ℕ) (y : B) → i < length ys → y ≡ get_or ys i y
     → map f xs ≡ map g (take i ys) → f x ≡ g y → map f (xs ++ x ∷ []) ≡ map g (take (i + 1) ys)
 read_on f g xs x ys i y l at h e =
-    map-append f xs (x ∷ []) ∙ (ap (λ v. v ++ f x ∷ []) h ∙ (ap (λ v. map g (take i ys) ++ v ∷ []) (e ∙ ap g at) ∙ (sym (map-append g (take i ys) (get_or ys i y ∷ [])) ∙ ap (map g) (sym (take_more ys i y l)))))
+    map-append f xs (x ∷ []) ∙ (ap (λ v. v ++ f x ∷ []) h
+    ∙ (ap (λ v. map g (take i ys) ++ v ∷ []) (e ∙ ap g at) ∙ (sym (map-append g (take i ys) (get_or ys i y ∷ [])) ∙ ap (map g) (sym (take_more ys i y l)))))
 
 pub map_map : {A B C : Type 0} (f : A → B) (g : B → C) (xs : List A) → map g (map f xs) ≡ map (λ x. g (f x)) xs
 map_map f g [] = refl
 map_map f g (x ∷ xs) = ap (λ v. g (f x) ∷ v) (map_map f g xs)
 
 -- the same through a second function
-pub read_on_through : {A D B C : Type 0} (f : A → D) (h : D → C) (g : B → C) (xs new : List A) (x : A) (ys : List B) (i : ℕ) (y : B) → new ≡ xs ++ x ∷ [] → i < length ys → y ≡ get_or ys i y
+pub read_on_through : {A D B C : Type 0} (f : A → D) (h : D → C) (g : B → C) (xs new : List A) (x : A) (ys : List B) (i : ℕ) (y : B) → new ≡ xs ++ x ∷ []
+    → i < length ys → y ≡ get_or ys i y
     → map h (map f xs) ≡ map g (take i ys) → h (f x) ≡ g y → map h (map f new) ≡ map g (take (i + 1) ys)
 read_on_through f h g xs new x ys i y is l at e k =
     ap (λ v. map h (map f v)) is ∙ (map_map f h (xs ++ x ∷ []) ∙ read_on (λ v. h (f v)) g xs x ys i y l at (sym (map_map f h xs) ∙ e) k)
@@ -114,22 +130,28 @@ read_on_through f h g xs new x ys i y is l at e k =
 pub push_variables : (xs new : List (Stmt VariableName TaskName)) (x : Stmt VariableName TaskName) (all rest left : List TypedVariable) → new ≡ xs ++ x ∷ []
     → all ≡ list_variables (map statement_of xs) rest → rest ≡ statement_variables (statement_of x) left → all ≡ list_variables (map statement_of new) left
 push_variables xs new x all rest left is h k =
-    h ∙ (ap (list_variables (map statement_of xs)) k ∙ (sym (list_variables_push (map statement_of xs) (statement_of x) left) ∙ ap (λ v. list_variables v left) (sym (statements_push xs x) ∙ ap (map statement_of) (sym is))))
+    h ∙ (ap (list_variables (map statement_of xs)) k
+    ∙ (sym (list_variables_push (map statement_of xs) (statement_of x) left) ∙ ap (λ v. list_variables v left)
+    (sym (statements_push xs x) ∙ ap (map statement_of) (sym is))))
 
 pub push_targets : (xs new : List (Stmt VariableName TaskName)) (x : Stmt VariableName TaskName) (all rest left : List ℕ) → new ≡ xs ++ x ∷ []
     → all ≡ list_targets (map statement_of xs) rest → rest ≡ statement_targets (statement_of x) left → all ≡ list_targets (map statement_of new) left
 push_targets xs new x all rest left is h k =
-    h ∙ (ap (list_targets (map statement_of xs)) k ∙ (sym (list_targets_push (map statement_of xs) (statement_of x) left) ∙ ap (λ v. list_targets v left) (sym (statements_push xs x) ∙ ap (map statement_of) (sym is))))
+    h ∙ (ap (list_targets (map statement_of xs)) k ∙ (sym (list_targets_push (map statement_of xs) (statement_of x) left)
+    ∙ ap (λ v. list_targets v left) (sym (statements_push xs x) ∙ ap (map statement_of) (sym is))))
 
 pub push_arm_variables : (xs new : List (Arm VariableName TaskName)) (x : Arm VariableName TaskName) (all rest left : List TypedVariable) → new ≡ xs ++ x ∷ []
-    → all ≡ arms_variables (map tested_of xs) rest → rest ≡ expression_variables (tested_of x).condition (block_variables (tested_of x).block left) → all ≡ arms_variables (map tested_of new) left
+    → all ≡ arms_variables (map tested_of xs) rest → rest ≡ expression_variables (tested_of x).condition (block_variables (tested_of x).block left)
+    → all ≡ arms_variables (map tested_of new) left
 push_arm_variables xs new x all rest left is h k =
-    h ∙ (ap (arms_variables (map tested_of xs)) k ∙ (sym (arms_variables_push (map tested_of xs) (tested_of x) left) ∙ ap (λ v. arms_variables v left) (sym (tests_push xs x) ∙ ap (map tested_of) (sym is))))
+    h ∙ (ap (arms_variables (map tested_of xs)) k ∙ (sym (arms_variables_push (map tested_of xs) (tested_of x) left)
+    ∙ ap (λ v. arms_variables v left) (sym (tests_push xs x) ∙ ap (map tested_of) (sym is))))
 
 pub push_arm_targets : (xs new : List (Arm VariableName TaskName)) (x : Arm VariableName TaskName) (all rest left : List ℕ) → new ≡ xs ++ x ∷ []
     → all ≡ arms_targets (map tested_of xs) rest → rest ≡ block_targets (tested_of x).block left → all ≡ arms_targets (map tested_of new) left
 push_arm_targets xs new x all rest left is h k =
-    h ∙ (ap (arms_targets (map tested_of xs)) k ∙ (sym (arms_targets_push (map tested_of xs) (tested_of x) left) ∙ ap (λ v. arms_targets v left) (sym (tests_push xs x) ∙ ap (map tested_of) (sym is))))
+    h ∙ (ap (arms_targets (map tested_of xs)) k ∙ (sym (arms_targets_push (map tested_of xs) (tested_of x) left)
+    ∙ ap (λ v. arms_targets v left) (sym (tests_push xs x) ∙ ap (map tested_of) (sym is))))
 
 -- the end of a loop over all
 pub all_read : {B C : Type 0} (g : B → C) (zs : List C) (ys : List B) (n : ℕ) → length ys ≤ n → zs ≡ map g (take n ys) → zs ≡ map g ys
@@ -137,20 +159,26 @@ all_read g zs ys n l h = h ∙ ap (map g) (take_all n ys l)
 
 -- ---- tasks
 
-task_variables_push : (xs : List (Task VariableName TaskName)) (x : Task VariableName TaskName) (more : List TypedVariable) → task_variables (xs ++ x ∷ []) more ≡ task_variables xs (block_variables x.body more)
+task_variables_push : (xs : List (Task VariableName TaskName)) (x : Task VariableName TaskName) (more : List TypedVariable)
+    → task_variables (xs ++ x ∷ []) more ≡ task_variables xs (block_variables x.body more)
 task_variables_push [] x more = refl
 task_variables_push (y ∷ xs) x more = ap (block_variables y.body) (task_variables_push xs x more)
 
-task_targets_push : (xs : List (Task VariableName TaskName)) (x : Task VariableName TaskName) (more : List ℕ) → task_targets (xs ++ x ∷ []) more ≡ task_targets xs (block_targets x.body more)
+task_targets_push : (xs : List (Task VariableName TaskName)) (x : Task VariableName TaskName) (more : List ℕ)
+    → task_targets (xs ++ x ∷ []) more ≡ task_targets xs (block_targets x.body more)
 task_targets_push [] x more = refl
 task_targets_push (y ∷ xs) x more = ap (block_targets y.body) (task_targets_push xs x more)
 
-pub push_task_variables : (xs new : List (TaskDeclaration VariableName TaskName)) (x : TaskDeclaration VariableName TaskName) (all rest left : List TypedVariable) → new ≡ xs ++ x ∷ []
+pub push_task_variables : (xs new : List (TaskDeclaration VariableName TaskName)) (x : TaskDeclaration VariableName TaskName)
+    (all rest left : List TypedVariable) → new ≡ xs ++ x ∷ []
     → all ≡ task_variables (map task_of xs) rest → rest ≡ block_variables (task_of x).body left → all ≡ task_variables (map task_of new) left
 push_task_variables xs new x all rest left is h k =
-    h ∙ (ap (task_variables (map task_of xs)) k ∙ (sym (task_variables_push (map task_of xs) (task_of x) left) ∙ ap (λ v. task_variables v left) (sym (map-append task_of xs (x ∷ [])) ∙ ap (map task_of) (sym is))))
+    h ∙ (ap (task_variables (map task_of xs)) k ∙ (sym (task_variables_push (map task_of xs) (task_of x) left)
+    ∙ ap (λ v. task_variables v left) (sym (map-append task_of xs (x ∷ [])) ∙ ap (map task_of) (sym is))))
 
-pub push_task_targets : (xs new : List (TaskDeclaration VariableName TaskName)) (x : TaskDeclaration VariableName TaskName) (all rest left : List ℕ) → new ≡ xs ++ x ∷ []
+pub push_task_targets : (xs new : List (TaskDeclaration VariableName TaskName)) (x : TaskDeclaration VariableName TaskName) (all rest left : List ℕ)
+    → new ≡ xs ++ x ∷ []
     → all ≡ task_targets (map task_of xs) rest → rest ≡ block_targets (task_of x).body left → all ≡ task_targets (map task_of new) left
 push_task_targets xs new x all rest left is h k =
-    h ∙ (ap (task_targets (map task_of xs)) k ∙ (sym (task_targets_push (map task_of xs) (task_of x) left) ∙ ap (λ v. task_targets v left) (sym (map-append task_of xs (x ∷ [])) ∙ ap (map task_of) (sym is))))
+    h ∙ (ap (task_targets (map task_of xs)) k ∙ (sym (task_targets_push (map task_of xs) (task_of x) left)
+    ∙ ap (λ v. task_targets v left) (sym (map-append task_of xs (x ∷ [])) ∙ ap (map task_of) (sym is))))

@@ -9,15 +9,18 @@ use Rattle.task_check.specs.declared.symbol.Global.{Global}
 use Rattle.task_check.specs.declared.symbol.Counts.{Counts}
 use Rattle.task_check.specs.declared.walk.Walk.{Walk}
 use Rattle.task_check.specs.declared.fault.CheckFault.TheVariants as fault
-use Rattle.task_check.specs.Scope.{text_of, shared_in, tasks_in, locals_in, locals_after, one_shared, one_task, global_in, local_in, local_with, if_named, meaning, stands_in_front}
+use Rattle.task_check.specs.Scope.{text_of, shared_in, tasks_in, locals_in, locals_after, one_shared, one_task, global_in, local_in, local_with, if_named}
+use Rattle.task_check.specs.Scope.{meaning, stands_in_front}
 use Rattle.task_check.specs.LookedUp.{symbol_by, symbol_at, behind, variable_by, target_by, variables_in, targets_in}
-use Rattle.task_check.specs.Faults.{first_fault, name_fault, name_fault_if, use_fault, use_fault_by, limit_fault, is_repeated, is_unknown, is_too_many, fault_if, line_at}
+use Rattle.task_check.specs.Faults.{first_fault, name_fault, name_fault_if, use_fault, use_fault_by, limit_fault, is_repeated, is_unknown, is_too_many}
+use Rattle.task_check.specs.Faults.{fault_if, line_at}
 use Rattle.task_check.specs.Tables.{found}
 use Rattle.task_check.specs.Walks.{HasGlobals, HasLocals, IsWalked, counts_in, symbol_of, name_fault_of, IsOneOn}
 
 pub counts_same : (k : Counts) (x y z : ℕ) → k.shared ≡ x → k.tasks ≡ y → k.locals ≡ z → k ≡ record { shared = x; tasks = y; locals = z }
 counts_same k x y z e f g =
-    ap (λ x. record { shared = x; tasks = k.tasks; locals = k.locals }) e ∙ (ap (λ y. record { shared = x; tasks = y; locals = k.locals }) f ∙ ap (λ z. record { shared = x; tasks = y; locals = z }) g)
+    ap (λ x. record { shared = x; tasks = k.tasks; locals = k.locals }) e
+    ∙ (ap (λ y. record { shared = x; tasks = y; locals = k.locals }) f ∙ ap (λ z. record { shared = x; tasks = y; locals = z }) g)
 
 module _ (source : List ℕ) (all front : List Occurrence) (o : Occurrence) (globals : BTreeMap (Bor (List ℕ)) Global) (w : Walk) (b n : ℕ)
     (has : HasGlobals source all globals) (walked : IsWalked source all front w) (bs : b ≡ behind all front) (ns : n ≡ length front) where
@@ -26,17 +29,24 @@ module _ (source : List ℕ) (all front : List Occurrence) (o : Occurrence) (glo
   same_symbol =
       ap (λ l. symbol_by o.role l.locals (meaning b (found w.locals (text_of source o.span)) (found globals (text_of source o.span)))) walked.counts
       ∙ (ap (λ k. symbol_by o.role (locals_in front) (meaning k (found w.locals (text_of source o.span)) (found globals (text_of source o.span)))) bs
-      ∙ (ap (λ l. symbol_by o.role (locals_in front) (meaning (behind all front) l (found globals (text_of source o.span)))) (walked.locals (text_of source o.span))
-      ∙ ap (λ g. symbol_by o.role (locals_in front) (meaning (behind all front) (local_in source (text_of source o.span) front) g)) (has (text_of source o.span))))
+      ∙ (ap (λ l. symbol_by o.role (locals_in front) (meaning (behind all front) l (found globals (text_of source o.span))))
+      (walked.locals (text_of source o.span))
+      ∙ ap (λ g. symbol_by o.role (locals_in front) (meaning (behind all front) (local_in source (text_of source o.span) front) g))
+      (has (text_of source o.span))))
 
   pub same_name_fault : name_fault_of source globals w o n b ≡ name_fault source all o front
   unfolding name_fault_of name_fault
   same_name_fault =
-      ap (λ k. name_fault_if source o (is_repeated o.role (stands_in_front k (found globals (text_of source o.span))) w.counts.tasks (found w.locals (text_of source o.span))) (is_unknown o.role (symbol_of source globals w o b))) ns
-      ∙ (ap (λ g. name_fault_if source o (is_repeated o.role (stands_in_front (length front) g) w.counts.tasks (found w.locals (text_of source o.span))) (is_unknown o.role (symbol_of source globals w o b))) (has (text_of source o.span))
-      ∙ (ap (λ c. name_fault_if source o (is_repeated o.role (stands_in_front (length front) (global_in source (text_of source o.span) all)) c.tasks (found w.locals (text_of source o.span))) (is_unknown o.role (symbol_of source globals w o b))) walked.counts
-      ∙ (ap (λ l. name_fault_if source o (is_repeated o.role (stands_in_front (length front) (global_in source (text_of source o.span) all)) (tasks_in front) l) (is_unknown o.role (symbol_of source globals w o b))) (walked.locals (text_of source o.span))
-      ∙ ap (λ s. name_fault_if source o (is_repeated o.role (stands_in_front (length front) (global_in source (text_of source o.span) all)) (tasks_in front) (local_in source (text_of source o.span) front)) (is_unknown o.role s)) same_symbol)))
+      ap (λ k. name_fault_if source o (is_repeated o.role (stands_in_front k (found globals (text_of source o.span))) w.counts.tasks
+      (found w.locals (text_of source o.span))) (is_unknown o.role (symbol_of source globals w o b))) ns
+      ∙ (ap (λ g. name_fault_if source o (is_repeated o.role (stands_in_front (length front) g) w.counts.tasks (found w.locals (text_of source o.span)))
+      (is_unknown o.role (symbol_of source globals w o b))) (has (text_of source o.span))
+      ∙ (ap (λ c. name_fault_if source o (is_repeated o.role (stands_in_front (length front) (global_in source (text_of source o.span) all)) c.tasks
+      (found w.locals (text_of source o.span))) (is_unknown o.role (symbol_of source globals w o b))) walked.counts
+      ∙ (ap (λ l. name_fault_if source o (is_repeated o.role (stands_in_front (length front) (global_in source (text_of source o.span) all)) (tasks_in front)
+      l) (is_unknown o.role (symbol_of source globals w o b))) (walked.locals (text_of source o.span))
+      ∙ ap (λ s. name_fault_if source o (is_repeated o.role (stands_in_front (length front) (global_in source (text_of source o.span) all)) (tasks_in front)
+      (local_in source (text_of source o.span) front)) (is_unknown o.role s)) same_symbol)))
 
   module _ (v : Walk) (on : IsOneOn source o (symbol_of source globals w o b) w v) where
     counts_on : v.counts ≡ counts_in (o ∷ front)
@@ -66,8 +76,10 @@ module _ (source : List ℕ) (all front : List Occurrence) (o : Occurrence) (glo
 
     too_many_on : v.too_many ≡ first_fault (limit_fault source) (o ∷ front)
     unfolding limit_fault
-    too_many_on = on.too_many ∙ (ap (λ e. option_or e (fault_if (is_too_many o.role w.counts.shared w.counts.tasks w.counts.locals) (fault.TooMany (line_at source o)))) walked.too_many
-        ∙ ap (λ c. option_or (first_fault (limit_fault source) front) (fault_if (is_too_many o.role c.shared c.tasks c.locals) (fault.TooMany (line_at source o)))) walked.counts)
+    too_many_on = on.too_many ∙ (ap (λ e. option_or e
+        (fault_if (is_too_many o.role w.counts.shared w.counts.tasks w.counts.locals) (fault.TooMany (line_at source o)))) walked.too_many
+        ∙ ap (λ c. option_or (first_fault (limit_fault source) front)
+        (fault_if (is_too_many o.role c.shared c.tasks c.locals) (fault.TooMany (line_at source o)))) walked.counts)
 
     -- the walk is right one name further
     pub walked_on : name_fault_of source globals w o n b ≡ None → IsWalked source all (o ∷ front) v

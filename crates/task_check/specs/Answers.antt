@@ -65,7 +65,8 @@ pub data IsRefused (source : List ℕ) (tree : Program Span Span) (e : CheckFaul
   at_names : names_fault source tree ≡ Some e → IsRefused source tree e
   at_uses : names_fault source tree ≡ None → uses_fault source tree ≡ Some e → IsRefused source tree e
   on_paths : (checked : Program VariableName TaskName) → IsNamed source tree checked → IsRefusedOnPaths source checked e → IsRefused source tree e
-  at_limits : (checked : Program VariableName TaskName) → IsNamed source tree checked → IsCleanOnPaths checked → limits_fault source tree ≡ Some e → IsRefused source tree e
+  at_limits : (checked : Program VariableName TaskName) → IsNamed source tree checked → IsCleanOnPaths checked → limits_fault source tree ≡ Some e
+      → IsRefused source tree e
 
 -- a refusal, or want of memory
 abbrev pub IsRefusedOrMemory : List ℕ → Program Span Span → CheckFault → Type 0

@@ -61,7 +61,8 @@ name_fault_if source o repeated unknown = option_or
 -- what is wrong with a name at its place: it is repeated, or unknown
 unfoldable pub name_fault : List ℕ → List Occurrence → Occurrence → List Occurrence → Option CheckFault
 name_fault source all o front = name_fault_if source o
-    (is_repeated o.role (stands_in_front (length front) (global_in source (text_of source o.span) all)) (tasks_in front) (local_in source (text_of source o.span) front))
+    (is_repeated o.role (stands_in_front (length front) (global_in source (text_of source o.span) all)) (tasks_in front)
+    (local_in source (text_of source o.span) front))
     (is_unknown o.role (symbol_at source all o front))
 
 -- ---- uses
@@ -82,7 +83,8 @@ abbrev pub is_no_task : Option Symbol → Bool
 is_no_task (Some (symbol.Task n)) = false
 is_no_task _ = true
 
--- A task or an array stands where a word is read or assigned, or in a `for`; something else than an array where an element is; something else than a task behind a transition or as the entry.
+-- A task or an array stands where a word is read or assigned, or in a `for`; something else than an array where an element is; something else than a task
+-- behind a transition or as the entry.
 -- A word is shifted by more than 15. An array has no words.
 abbrev pub use_fault_by : List ℕ → Occurrence → Role → Option Symbol → Option CheckFault
 use_fault_by source o role.Scalar s = fault_if (is_no_word s) (fault.WrongUse (line_at source o) (kept.Name o.span))

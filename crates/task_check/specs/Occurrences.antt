@@ -35,7 +35,8 @@ abbrev mutual
   statement_names end (t.assign s e) behind = and_front (expression_names e behind) s role.Scalar
   statement_names end (t.store s index e) behind = and_front (expression_names index (expression_names e behind)) s role.Element
   statement_names end (t.choose c) behind = choice_names c behind
-  statement_names end (t.loop v from w below u body) behind = and_front (and_front (and_front (names_up_to (length behind) body behind) u role.Counter) w role.Counter) v role.Counter
+  statement_names end (t.loop v from w below u body) behind =
+      and_front (and_front (and_front (names_up_to (length behind) body behind) u role.Counter) w role.Counter) v role.Counter
   statement_names end (t.emit e) behind = expression_names e behind
   statement_names end (t.transition s) behind = and_front behind s role.Target
 

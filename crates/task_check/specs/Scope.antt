@@ -75,12 +75,14 @@ if_named false found = None
 -- the first shared variable or task of the name
 abbrev pub global_in : List ℕ → List ℕ → List Occurrence → Option Global
 global_in source name [] = None
-global_in source name (o ∷ front) = option_or (global_in source name front) (if_named (bytes_eq (text_of source o.span) name) (global_with o.role (length front) (shared_in front) (tasks_in front)))
+global_in source name (o ∷ front) = option_or (global_in source name front)
+    (if_named (bytes_eq (text_of source o.span) name) (global_with o.role (length front) (shared_in front) (tasks_in front)))
 
 -- the last local of the name
 abbrev pub local_in : List ℕ → List ℕ → List Occurrence → Option Local
 local_in source name [] = None
-local_in source name (o ∷ front) = option_or (if_named (bytes_eq (text_of source o.span) name) (local_with o.role (tasks_in front) (locals_in front))) (local_in source name front)
+local_in source name (o ∷ front) = option_or (if_named (bytes_eq (text_of source o.span) name) (local_with o.role (tasks_in front) (locals_in front)))
+    (local_in source name front)
 
 -- a local, where it is known: so many names stand behind
 abbrev pub known_local : ℕ → Local → Option Symbol

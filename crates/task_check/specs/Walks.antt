@@ -12,9 +12,11 @@ use Rattle.task_check.specs.declared.fault.CheckFault.{CheckFault}
 use Rattle.task_check.specs.declared.fault.CheckFault.TheVariants as fault
 use Rattle.std.specs.Option.{option_or}
 use Rattle.std.specs.Str.{bytes_eq}
-use Rattle.task_check.specs.Scope.{text_of, shared_in, tasks_in, locals_in, locals_after, one_shared, one_task, global_in, local_in, local_with, if_named, meaning, stands_in_front}
+use Rattle.task_check.specs.Scope.{text_of, shared_in, tasks_in, locals_in, locals_after, one_shared, one_task, global_in, local_in, local_with, if_named}
+use Rattle.task_check.specs.Scope.{meaning, stands_in_front}
 use Rattle.task_check.specs.LookedUp.{symbol_by, variable_by, target_by, variables_in, targets_in}
-use Rattle.task_check.specs.Faults.{first_fault, name_fault, name_fault_if, use_fault, use_fault_by, limit_fault, is_repeated, is_unknown, is_too_many, fault_if, line_at}
+use Rattle.task_check.specs.Faults.{first_fault, name_fault, name_fault_if, use_fault, use_fault_by, limit_fault, is_repeated, is_unknown, is_too_many}
+use Rattle.task_check.specs.Faults.{fault_if, line_at}
 use Rattle.task_check.specs.Tables.{found}
 
 -- the numbers of declarations in front
@@ -54,11 +56,13 @@ name_fault_of source globals w o front behind = name_fault_if source o
 
 -- one more name has been walked over
 pub record IsOneOn (source : List ℕ) (o : Occurrence) (s : Option Symbol) (w v : Walk) : Type 0 where
-  pub locals : (q : List ℕ) → found v.locals q ≡ option_or (if_named (bytes_eq (text_of source o.span) q) (local_with o.role w.counts.tasks w.counts.locals)) (found w.locals q)
+  pub locals : (q : List ℕ) → found v.locals q ≡ option_or (if_named (bytes_eq (text_of source o.span) q) (local_with o.role w.counts.tasks w.counts.locals))
+      (found w.locals q)
   pub shared : v.counts.shared ≡ w.counts.shared + one_shared o.role
   pub tasks : v.counts.tasks ≡ w.counts.tasks + one_task o.role
   pub task_locals : v.counts.locals ≡ locals_after w.counts.locals o.role
   pub variables : v.variables.items ≡ w.variables.items ++ variable_by o.role s
   pub targets : v.targets.items ≡ w.targets.items ++ target_by o.role s
   pub wrong_use : v.wrong_use ≡ option_or w.wrong_use (use_fault_by source o o.role s)
-  pub too_many : v.too_many ≡ option_or w.too_many (fault_if (is_too_many o.role w.counts.shared w.counts.tasks w.counts.locals) (fault.TooMany (line_at source o)))
+  pub too_many : v.too_many ≡ option_or w.too_many (fault_if (is_too_many o.role w.counts.shared w.counts.tasks w.counts.locals)
+      (fault.TooMany (line_at source o)))

@@ -216,7 +216,8 @@ fn if_else(
     last: Vec<Stmt<VariableName, TaskName>>,
 ) -> Stmt<VariableName, TaskName>
     ensures tree { statement_of result ≡ node.choose (node.choice_of (map tested_of tests.items) (Some (block_view last.items))) }
-    ensures place { (arms : List (node.Tested Span Span)) (block : node.Block Span Span) → map parts.tested_back (map tested_of tests.items) ≡ arms → spec.block_back (block_view last.items) ≡ block
+    ensures place { (arms : List (node.Tested Span Span)) (block : node.Block Span Span) → map parts.tested_back (map tested_of tests.items) ≡ arms
+        → spec.block_back (block_view last.items) ≡ block
         → spec.statement_back (statement_of result) ≡ node.choose (node.choice_of arms (Some block)) }
 {
     tests_else(tests, last)
@@ -287,7 +288,8 @@ fn arm<'a>(
     names: Names<'a>,
 ) -> Result<(Arm<VariableName, TaskName>, Names<'a>), AllocError>
     ensures place { IfOk result (λ x. parts.tested_back (tested_of x.0) ≡ tested_of test.now) }
-    ensures variables { IfOk result (λ x. names.entry.variables.now ≡ spec.expression_variables (tested_of x.0).condition (spec.block_variables (tested_of x.0).block x.1.variables.now)) }
+    ensures variables { IfOk result (λ x. names.entry.variables.now ≡ spec.expression_variables (tested_of x.0).condition
+        (spec.block_variables (tested_of x.0).block x.1.variables.now)) }
     ensures targets { IfOk result (λ x. names.entry.targets.now ≡ spec.block_targets (tested_of x.0).block x.1.targets.now) }
 {
     let (condition, variables) = expression(alloc, &test.condition, names.variables)?;

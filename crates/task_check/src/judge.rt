@@ -271,7 +271,8 @@ pub fn first_limit_fault(
     counts: Counts,
 ) -> Option<CheckFault>
     requires { length source.now < 2 ^ 32 - 1 }
-    ensures { result ≡ option_or first (faults.fault_if (faults.is_too_many o.role counts.shared counts.tasks counts.locals) (fault.TooMany (faults.line_at source.now o))) }
+    ensures { result ≡ option_or first (faults.fault_if (faults.is_too_many o.role counts.shared counts.tasks counts.locals)
+        (fault.TooMany (faults.line_at source.now o))) }
 {
     match first {
         Some(fault) => Some(fault),

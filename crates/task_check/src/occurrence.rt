@@ -10,7 +10,8 @@ pub enum Role {
     Shared(WordType, Extent),
     /// It is declared as a task.
     Task,
-    /// It is declared as a local, and is known where at least `end` and fewer than `begin` names stand behind: from behind the declaration to the end of its block.
+    /// It is declared as a local, and is known where at least `end` and fewer than `begin` names stand behind: from behind the declaration to the end of its
+    /// block.
     Local {
         word_type: WordType,
         begin: usize,

@@ -74,7 +74,8 @@ fn check_paths(
     requires limits { too_many ≡ limits_fault source.now (program_back (program_of checked)) }
     ensures same { IfOk result (λ c. c.source ≡ checked) }
     ensures fine { IfOk result (λ c. too_many ≡ None) }
-    ensures refused { IfErr result (λ e. (e ≡ CheckFault.Memory) ⊎ (IsRefusedOnPaths source.now (program_of checked) e ⊎ (IsCleanOnPaths (program_of checked) × (too_many ≡ Some e)))) }
+    ensures refused { IfErr result (λ e. (e ≡ CheckFault.Memory)
+        ⊎ (IsRefusedOnPaths source.now (program_of checked) e ⊎ (IsCleanOnPaths (program_of checked) × (too_many ≡ Some e)))) }
     ensures lines { IfOk result (λ c. c.task_lines.items ≡ map (λ t. line_of source.now t.name.from) c.source.tasks.items) }
 {
     if let Some(fault) = paths_fault(source, &checked) {
@@ -101,7 +102,8 @@ fn check_named(
     requires short { length source.now < 2 ^ 32 - 1 }
     requires names { names.now ≡ occurrences.program_names (program_of tree) }
     requires walked { IsWalked source.now names.now names.now walk }
-    ensures answer { MatchResult result (λ c. IsAccepted source.now (program_of tree) (program_of c.source)) (λ e. IsRefusedOrMemory source.now (program_of tree) e) }
+    ensures answer { MatchResult result (λ c. IsAccepted source.now (program_of tree) (program_of c.source))
+        (λ e. IsRefusedOrMemory source.now (program_of tree) e) }
     ensures lines { IfOk result (λ c. c.task_lines.items ≡ map (λ t. line_of source.now t.name.from) c.source.tasks.items) }
 {
     let (wrong_use, too_many) = (walk.wrong_use, walk.too_many);
@@ -126,7 +128,8 @@ fn check_names(
 ) -> Result<Checked, CheckFault>
     requires short { length source.now < 2 ^ 32 - 1 }
     requires names { names.now ≡ occurrences.program_names (program_of tree) }
-    ensures answer { MatchResult result (λ c. IsAccepted source.now (program_of tree) (program_of c.source)) (λ e. IsRefusedOrMemory source.now (program_of tree) e) }
+    ensures answer { MatchResult result (λ c. IsAccepted source.now (program_of tree) (program_of c.source))
+        (λ e. IsRefusedOrMemory source.now (program_of tree) e) }
     ensures lines { IfOk result (λ c. c.task_lines.items ≡ map (λ t. line_of source.now t.name.from) c.source.tasks.items) }
 {
     // The names of a parsed text are pieces of it, so there are fewer than it has bytes. But any tree may come here, and nothing
@@ -142,7 +145,8 @@ fn check_names(
 /// The tree of a source with its names looked up; or the first fault of the first check that finds one. A place that goes past the text is cut to it.
 pub fn check(alloc: Global, source: &[u8], tree: Tree) -> Result<Checked, CheckFault>
     requires { length source.now < 2 ^ 32 - 1 }
-    ensures answer { MatchResult result (λ c. IsAccepted source.now (program_of tree) (program_of c.source)) (λ e. IsRefusedOrMemory source.now (program_of tree) e) }
+    ensures answer { MatchResult result (λ c. IsAccepted source.now (program_of tree) (program_of c.source))
+        (λ e. IsRefusedOrMemory source.now (program_of tree) e) }
     ensures lines { IfOk result (λ c. c.task_lines.items ≡ map (λ t. line_of source.now t.name.from) c.source.tasks.items) }
 {
     let names = program_names(alloc, &tree)?;

@@ -1,5 +1,6 @@
 -- Each token's slice of the source spells it.
-use Rattle.std.proofs.Common.{◌≡◌, ℕ, zero, suc, ◌+◌, ◌-◌, ◌<◌, ◌≤◌, Bool, true, false, cond, ◌&&◌, ◌==◌, not, nat_lt, List, [], ◌∷◌, length, drop, take, refl, sym, subst, arith, length-drop, length-take, Option, Some, None}
+use Rattle.std.proofs.Common.{◌≡◌, ℕ, zero, suc, ◌+◌, ◌-◌, ◌<◌, ◌≤◌, Bool, true, false, cond, ◌&&◌, ◌==◌, not, nat_lt, List, [], ◌∷◌, length, drop, take}
+use Rattle.std.proofs.Common.{refl, sym, subst, arith, length-drop, length-take, Option, Some, None}
 use Rattle.std.specs.Prelude.{All}
 use Rattle.std.specs.Str.{bytes_eq}
 use Rattle.std.proofs.lemmas.List.Elements.{All-cons}
@@ -15,7 +16,8 @@ use Rattle.task_lex.specs.declared.step.Step.TheVariants.{Skip, Take, Fails}
 use Rattle.task_lex.specs.declared.fault.Flaw.TheVariants as flaw
 use Rattle.task_lex.specs.Pieces.{Text, spelling, spelled, keywords, singles, pairs, or_name, word_kind, number, piece_of}
 use Rattle.task_lex.specs.Lexemes.{IsLexeme, word, one, two, StandsInFront}
-use Rattle.task_lex.specs.Lex.{Lexed, tokens, fault, with_front, after, step, step_by, counted, numbered, is_opening, is_end, depth_after, width_after, lex_within, lex_from, lexed}
+use Rattle.task_lex.specs.Lex.{Lexed, tokens, fault, with_front, after, step, step_by, counted, numbered, is_opening, is_end, depth_after, width_after}
+use Rattle.task_lex.specs.Lex.{lex_within, lex_from, lexed}
 use Rattle.task_lex.specs.Slices.{Spells, fixed, name, worth, IsSlice}
 use Rattle.task_lex.proofs.Longest.{longest}
 
@@ -24,7 +26,8 @@ unfolding spelled
 spelled_is [] w kind h = absurd (cc)
 spelled_is (x ∷ more) w kind h = go (bytes_eq w (spelling x)) refl h (spelled_is more w kind)
   where
-    go : (b : Bool) → bytes_eq w (spelling x) ≡ b → cond b (Some x) (spelled more w) ≡ Some kind → (spelled more w ≡ Some kind → w ≡ spelling kind) → w ≡ spelling kind
+    go : (b : Bool) → bytes_eq w (spelling x) ≡ b → cond b (Some x) (spelled more w) ≡ Some kind → (spelled more w ≡ Some kind → w ≡ spelling kind)
+        → w ≡ spelling kind
     go true e h later = let same : x ≡ kind = cc in subst (λ y. w ≡ spelling y) same ((bytes_eq-Decides w (spelling x)).0 e)
     go false e h later = later h
 
@@ -56,7 +59,9 @@ module _ (source : List ℕ) where
   unfolding counted
   counted_takes p n kind value spells = go (is_opening kind && p.depth == 64) (not (is_end kind) && p.width == 256)
     where
-      go : (a b : Bool) → Takes (cond a (Fails flaw.TooDeep) (cond b (Fails flaw.TooWide) (Take (record { kind = kind; span = record { from = p.at; to = p.at + n }; value = value }) (record { at = p.at + n; depth = depth_after kind (p.depth); width = width_after kind (p.width) }))))
+      go : (a b : Bool) → Takes (cond a (Fails flaw.TooDeep)
+          (cond b (Fails flaw.TooWide) (Take (record { kind = kind; span = record { from = p.at; to = p.at + n }; value = value })
+          (record { at = p.at + n; depth = depth_after kind (p.depth); width = width_after kind (p.width) }))))
       go true b = tt
       go false true = tt
       go false false = let size : n ≡ p.at + n - p.at = omega arith in subst (λ m. Spells (take m (drop p.at source)) kind value) size spells

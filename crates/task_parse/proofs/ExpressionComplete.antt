@@ -10,10 +10,12 @@ use Rattle.task_parse.specs.declared.operators.Infix.{Infix}
 use Rattle.task_parse.specs.declared.operators.Infix.TheVariants.{Binary, Shift, ShortCircuit}
 use Rattle.task_parse.specs.Parsed.{Expression}
 use Rattle.task_ast.specs.Tree as node
-use Rattle.task_parse.specs.Grammar.{prefix_of, infix_of, weakest, literal_of, IsExpression, number, name, element, sense, brackets, prefixed, tighter, joined, short_circuited, shifted}
+use Rattle.task_parse.specs.Grammar.{prefix_of, infix_of, weakest, literal_of, IsExpression, number, name, element, sense, brackets, prefixed, tighter}
+use Rattle.task_parse.specs.Grammar.{joined, short_circuited, shifted}
 use Rattle.task_parse.specs.Expressions as reading
 use Rattle.task_parse.specs.Reading.{done, fault, Parser, ◌>>=◌, and_then, pure, kind_of, same_kind, token, chosen, meaning, again, over, turned}
-use Rattle.task_parse.specs.Expressions.{of_precedence, infix_at, joined_with, climb_turn, climb, up_to, element_by, named, bracketed, primary_by, primary, unary, expression}
+use Rattle.task_parse.specs.Expressions.{of_precedence, infix_at, joined_with, climb_turn, climb, up_to, element_by, named, bracketed, primary_by, primary}
+use Rattle.task_parse.specs.Expressions.{unary, expression}
 use Rattle.task_parse.proofs.ExpressionSame.{unary_is, climb_suc}
 
 pub takes_one : (kind : Kind) (t : Token) (ts : List Token) → t.kind ≡ kind → token kind (t ∷ ts) ≡ done t ts
@@ -60,14 +62,17 @@ some_at j kind op h = let same : (j == j) ≡ true = grind arith in ap (of_prece
 climb_ends : (j : ℕ) (left : Expression) (rest : List Token) → suc j < reach (kind_of rest) → climb (up_to unary j) (suc j) left rest ≡ done left rest
 unfolding climb_turn
 climb_ends j left rest h =
-    climb_suc j left rest ∙ ap (λ o. and_then (chosen o (λ op. joined_with (up_to unary j) left op >>= λ whole. pure (again whole)) (pure (over left)) rest) (turned (climb (up_to unary j) (suc j)))) (none_past (suc j) (kind_of rest) h)
+    climb_suc j left rest ∙ ap (λ o. and_then (chosen o (λ op. joined_with (up_to unary j) left op >>= λ whole. pure (again whole)) (pure (over left)) rest)
+    (turned (climb (up_to unary j) (suc j)))) (none_past (suc j) (kind_of rest) h)
 
-climb_goes : (j : ℕ) (left whole : Expression) (t : Token) (op : Infix) (ts rest : List Token) → infix_of t.kind ≡ Some (suc j, op) → joined_with (up_to unary j) left op ts ≡ done whole rest
+climb_goes : (j : ℕ) (left whole : Expression) (t : Token) (op : Infix) (ts rest : List Token) → infix_of t.kind ≡ Some (suc j, op)
+    → joined_with (up_to unary j) left op ts ≡ done whole rest
     → climb (up_to unary j) (suc j) left (t ∷ ts) ≡ climb (up_to unary j) (suc j) whole rest
 unfolding climb_turn
 climb_goes j left whole t op ts rest is h =
     climb_suc j left (t ∷ ts)
-    ∙ ap (λ o. and_then (chosen o (λ op. joined_with (up_to unary j) left op >>= λ whole. pure (again whole)) (pure (over left)) (t ∷ ts)) (turned (climb (up_to unary j) (suc j)))) (some_at (suc j) t.kind op is)
+    ∙ ap (λ o. and_then (chosen o (λ op. joined_with (up_to unary j) left op >>= λ whole. pure (again whole)) (pure (over left)) (t ∷ ts))
+    (turned (climb (up_to unary j) (suc j)))) (some_at (suc j) t.kind op is)
     ∙ ap (λ o. and_then (and_then o (λ whole. pure (again whole))) (turned (climb (up_to unary j) (suc j)))) h
 
 module _ (x p : Parser Expression) where
@@ -88,26 +93,34 @@ module _ (x p : Parser Expression) where
   unfolding named
   reads_name t rest is ends = primary_is k.Name (t ∷ rest) (ap Some is) refl ∙ takes k.Name t rest _ is ∙ name_ends t (kind_of rest) rest ends
 
-  reads_element : (t o c : Token) (ts rest : List Token) (index : Expression) → t.kind ≡ k.Name → o.kind ≡ k.OpenSquare → x ts ≡ done index (c ∷ rest) → c.kind ≡ k.CloseSquare
+  reads_element : (t o c : Token) (ts rest : List Token) (index : Expression) → t.kind ≡ k.Name → o.kind ≡ k.OpenSquare → x ts ≡ done index (c ∷ rest)
+      → c.kind ≡ k.CloseSquare
       → reading.prefixed x p (t ∷ o ∷ ts) ≡ done (node.element t.span index) rest
   unfolding named
   reads_element t o c ts rest index is is_o r is_c =
-      primary_is k.Name (t ∷ o ∷ ts) (ap Some is) refl ∙ takes k.Name t (o ∷ ts) _ is ∙ ap (λ kd. element_by x t (Some kd) (o ∷ ts)) is_o ∙ takes k.OpenSquare o ts _ is_o
+      primary_is k.Name (t ∷ o ∷ ts) (ap Some is) refl ∙ takes k.Name t (o ∷ ts) _ is ∙ ap (λ kd. element_by x t (Some kd) (o ∷ ts)) is_o
+      ∙ takes k.OpenSquare o ts _ is_o
       ∙ ap (λ o. and_then o (λ index. token k.CloseSquare >>= λ c. pure (node.element t.span index))) r ∙ takes k.CloseSquare c rest _ is_c
 
-  reads_sense : (s o c : Token) (rest : List Token) → s.kind ≡ k.Sense → o.kind ≡ k.Open → c.kind ≡ k.Close → reading.prefixed x p (s ∷ o ∷ c ∷ rest) ≡ done node.sense rest
+  reads_sense : (s o c : Token) (rest : List Token) → s.kind ≡ k.Sense → o.kind ≡ k.Open → c.kind ≡ k.Close
+      → reading.prefixed x p (s ∷ o ∷ c ∷ rest) ≡ done node.sense rest
   unfolding reading.sense
-  reads_sense s o c rest is is_o is_c = primary_is k.Sense (s ∷ o ∷ c ∷ rest) (ap Some is) refl ∙ takes k.Sense s (o ∷ c ∷ rest) _ is ∙ takes k.Open o (c ∷ rest) _ is_o ∙ takes k.Close c rest _ is_c
+  reads_sense s o c rest is is_o is_c = primary_is k.Sense (s ∷ o ∷ c ∷ rest) (ap Some is) refl ∙ takes k.Sense s (o ∷ c ∷ rest) _ is
+      ∙ takes k.Open o (c ∷ rest) _ is_o ∙ takes k.Close c rest _ is_c
 
-  reads_brackets : (o c : Token) (ts rest : List Token) (inner : Expression) → o.kind ≡ k.Open → x ts ≡ done inner (c ∷ rest) → c.kind ≡ k.Close → reading.prefixed x p (o ∷ ts) ≡ done inner rest
+  reads_brackets : (o c : Token) (ts rest : List Token) (inner : Expression) → o.kind ≡ k.Open → x ts ≡ done inner (c ∷ rest) → c.kind ≡ k.Close
+      → reading.prefixed x p (o ∷ ts) ≡ done inner rest
   unfolding bracketed
   reads_brackets o c ts rest inner is_o r is_c =
-      primary_is k.Open (o ∷ ts) (ap Some is_o) refl ∙ takes k.Open o ts _ is_o ∙ ap (λ o. and_then o (λ inner. token k.Close >>= λ c. pure inner)) r ∙ takes k.Close c rest _ is_c
+      primary_is k.Open (o ∷ ts) (ap Some is_o) refl ∙ takes k.Open o ts _ is_o ∙ ap (λ o. and_then o (λ inner. token k.Close >>= λ c. pure inner)) r
+      ∙ takes k.Close c rest _ is_c
 
-  reads_prefixed : (t : Token) (op : UnaryOperator) (ts rest : List Token) (inner : Expression) → prefix_of t.kind ≡ Some op → p ts ≡ done inner rest → reading.prefixed x p (t ∷ ts) ≡ done (node.unary op inner) rest
+  reads_prefixed : (t : Token) (op : UnaryOperator) (ts rest : List Token) (inner : Expression) → prefix_of t.kind ≡ Some op → p ts ≡ done inner rest
+      → reading.prefixed x p (t ∷ ts) ≡ done (node.unary op inner) rest
   unfolding reading.prefixed
   reads_prefixed t op ts rest inner is r =
-      ap (λ o. chosen o (λ op. p >>= λ inner. pure (node.unary op inner)) (primary x) (t ∷ ts)) is ∙ ap (λ o. and_then o (λ inner. pure (node.unary op inner))) r
+      ap (λ o. chosen o (λ op. p >>= λ inner. pure (node.unary op inner)) (primary x) (t ∷ ts)) is
+      ∙ ap (λ o. and_then o (λ inner. pure (node.unary op inner))) r
 
 -- ---- the whole
 
@@ -116,7 +129,8 @@ Reads zero used tree = (rest : List Token) → 0 < reach (kind_of rest) → unar
 Reads (suc j) used tree = (rest : List Token) → suc j ≤ reach (kind_of rest) → up_to unary (suc j) (used ++ rest) ≡ climb (up_to unary j) (suc j) tree rest
 
 -- with nothing left to take
-ends : (j : ℕ) (used : List Token) (tree : Expression) → Reads j used tree → (rest : List Token) → j < reach (kind_of rest) → up_to unary j (used ++ rest) ≡ done tree rest
+ends : (j : ℕ) (used : List Token) (tree : Expression) → Reads j used tree → (rest : List Token) → j < reach (kind_of rest)
+    → up_to unary j (used ++ rest) ≡ done tree rest
 unfolding up_to
 ends zero used tree r rest h = r rest h
 ends (suc j) used tree r rest h = r rest (omega arith) ∙ climb_ends j tree rest h
@@ -135,7 +149,8 @@ pub closing : (c : Token) (kind : Kind) → c.kind ≡ kind → reach_by kind �
 closing c kind is far = let e : reach (Some c.kind) ≡ suc weakest = ap reach_by is ∙ far in omega arith
 
 -- an expression and the token that ends it
-inside : (ts : List Token) (tree : Expression) (c : Token) (kind : Kind) → Reads weakest ts tree → c.kind ≡ kind → reach_by kind ≡ suc weakest → (rest : List Token) → expression (ts ++ c ∷ rest) ≡ done tree (c ∷ rest)
+inside : (ts : List Token) (tree : Expression) (c : Token) (kind : Kind) → Reads weakest ts tree → c.kind ≡ kind → reach_by kind ≡ suc weakest
+    → (rest : List Token) → expression (ts ++ c ∷ rest) ≡ done tree (c ∷ rest)
 inside ts tree c kind r is far rest = ends weakest ts tree r (c ∷ rest) (closing c kind is far)
 
 pub reads : {j : ℕ} {used : List Token} {tree : Expression} → IsExpression j used tree → Reads j used tree
@@ -148,9 +163,14 @@ reads (brackets o c ts inner is_o r is_c) = λ rest end. ap (λ x. unary (o ∷ 
     ∙ reads_brackets expression unary o c (ts ++ c ∷ rest) rest inner is_o (inside ts inner c k.Close (reads r) is_c refl rest) is_c
 reads (prefixed t op ts inner is r) = λ rest end. unary_is (t ∷ ts ++ rest) ∙ reads_prefixed expression unary t op (ts ++ rest) rest inner is (reads r rest end)
 reads (tighter j ts inner r) = reads_tighter j ts inner (reads r)
-reads (joined j t op xs ys a b left is right) = reads_joined j t (Binary op) xs ys a (node.binary op a b) (reads left) is (λ rest end. ap (λ o. and_then o (λ right. pure (node.binary op a right))) (ends j ys b (reads right) rest end))
-reads (short_circuited j t op xs ys a b left is right) = reads_joined j t (ShortCircuit op) xs ys a (node.short_circuit op a b) (reads left) is (λ rest end. ap (λ o. and_then o (λ right. pure (node.short_circuit op a right))) (ends j ys b (reads right) rest end))
-reads (shifted j t c op xs a left is is_c) = reads_joined j t (Shift op) xs (c ∷ []) a (node.shift op a (literal_of c)) (reads left) is (λ rest end. takes k.Number c rest _ is_c)
+reads (joined j t op xs ys a b left is right) = reads_joined j t (Binary op) xs ys a (node.binary op a b) (reads left) is
+    (λ rest end. ap (λ o. and_then o (λ right. pure (node.binary op a right))) (ends j ys b (reads right) rest end))
+reads (short_circuited j t op xs ys a b left is right) =
+    reads_joined j t (ShortCircuit op) xs ys a (node.short_circuit op a b) (reads left) is
+    (λ rest end. ap (λ o. and_then o (λ right. pure (node.short_circuit op a right))) (ends j ys b (reads right) rest end))
+reads (shifted j t c op xs a left is is_c) = reads_joined j t (Shift op) xs (c ∷ []) a (node.shift op a (literal_of c)) (reads left) is
+    (λ rest end. takes k.Number c rest _ is_c)
 
-pub reads_to : (xs rest : List Token) (tree : Expression) (c : Token) (kind : Kind) → IsExpression weakest xs tree → c.kind ≡ kind → reach_by kind ≡ suc weakest → expression (xs ++ c ∷ rest) ≡ done tree (c ∷ rest)
+pub reads_to : (xs rest : List Token) (tree : Expression) (c : Token) (kind : Kind) → IsExpression weakest xs tree → c.kind ≡ kind
+    → reach_by kind ≡ suc weakest → expression (xs ++ c ∷ rest) ≡ done tree (c ∷ rest)
 reads_to xs rest tree c kind is is_c far = inside xs tree c kind (reads is) is_c far rest

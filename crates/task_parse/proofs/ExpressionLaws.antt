@@ -1,5 +1,6 @@
 -- The parsers of expressions keep to the grammar.
-use Rattle.std.proofs.Common.{◌≡◌, ℕ, zero, suc, Bool, true, false, cond, ◌==◌, List, [], ◌∷◌, ◌++◌, Option, Some, None, refl, ap₂, sym, subst, arith, append_assoc, append-nil}
+use Rattle.std.proofs.Common.{◌≡◌, ℕ, zero, suc, Bool, true, false, cond, ◌==◌, List, [], ◌∷◌, ◌++◌, Option, Some, None, refl, ap₂, sym, subst, arith}
+use Rattle.std.proofs.Common.{append_assoc, append-nil}
 use Rattle.task_lex.specs.declared.token.Token.{Token}
 use Rattle.task_lex.specs.declared.token.Kind.{Kind}
 use Rattle.task_lex.specs.declared.token.Kind.TheVariants as k
@@ -7,10 +8,12 @@ use Rattle.task_parse.specs.declared.operators.Infix.{Infix}
 use Rattle.task_parse.specs.declared.operators.Infix.TheVariants.{Binary, Shift, ShortCircuit}
 use Rattle.task_parse.specs.Parsed.{Expression}
 use Rattle.task_ast.specs.Tree as node
-use Rattle.task_parse.specs.Grammar.{prefix_of, infix_of, weakest, literal_of, IsExpression, number, name, element, sense, brackets, prefixed, tighter, joined, short_circuited, shifted}
+use Rattle.task_parse.specs.Grammar.{prefix_of, infix_of, weakest, literal_of, IsExpression, number, name, element, sense, brackets, prefixed, tighter}
+use Rattle.task_parse.specs.Grammar.{joined, short_circuited, shifted}
 use Rattle.task_parse.specs.Expressions as reading
 use Rattle.task_parse.specs.Reading.{Parser, pure, again, over}
-use Rattle.task_parse.specs.Expressions.{of_precedence, infix_at, joined_with, climb_turn, climb, up_to, element_by, named, bracketed, primary_by, primary, unary_within}
+use Rattle.task_parse.specs.Expressions.{of_precedence, infix_at, joined_with, climb_turn, climb, up_to, element_by, named, bracketed, primary_by, primary}
+use Rattle.task_parse.specs.Expressions.{unary_within}
 use Rattle.task_parse.proofs.ParserLaws.{Law, Sentence, law_pure, law_refuse, law_bind, law_by, law_accept, law_take, law_map, law_weaken}
 use Rattle.task_parse.proofs.Turns.{Leads, Shrinks, law_shrinks, law_repeat}
 
@@ -33,7 +36,8 @@ of_precedence_some j (Some p) op h = go (p.0 == j) refl h
 
 pub law_number : Law reading.number (IsExpression 0)
 unfolding reading.number
-law_number = law_take k.Number (λ t. pure (node.number t.value)) (IsExpression 0) (λ t is. law_pure (node.number t.value) (λ ys a. IsExpression 0 (t ∷ ys) a) (number t is))
+law_number = law_take k.Number (λ t. pure (node.number t.value)) (IsExpression 0)
+    (λ t is. law_pure (node.number t.value) (λ ys a. IsExpression 0 (t ∷ ys) a) (number t is))
 
 -- what may follow the left side
 abbrev pub GoesOn : ℕ → Expression → List Token → Expression → Type 0
@@ -43,21 +47,28 @@ goes_nowhere : (j : ℕ) (left : Expression) → GoesOn j left [] left
 goes_nowhere j left xs is = subst (λ x. IsExpression j x left) (sym (append-nil xs)) is
 
 module _ (j : ℕ) (lower : Parser Expression) (law : Law lower (IsExpression j)) where
-  law_joined_with : (t : Token) (op : Infix) (left : Expression) → infix_of t.kind ≡ Some (suc j, op) → Law (joined_with lower left op) (λ ys whole. GoesOn (suc j) left (t ∷ ys) whole)
+  law_joined_with : (t : Token) (op : Infix) (left : Expression) → infix_of t.kind ≡ Some (suc j, op)
+      → Law (joined_with lower left op) (λ ys whole. GoesOn (suc j) left (t ∷ ys) whole)
   law_joined_with t (Binary op) left is = law_map lower (node.binary op left) (IsExpression j) (λ ys whole. GoesOn (suc j) left (t ∷ ys) whole) law
       (λ ys right is_right xs is_left. joined j t op xs ys left right is_left is is_right)
   law_joined_with t (ShortCircuit op) left is = law_map lower (node.short_circuit op left) (IsExpression j) (λ ys whole. GoesOn (suc j) left (t ∷ ys) whole) law
       (λ ys right is_right xs is_left. short_circuited j t op xs ys left right is_left is is_right)
   law_joined_with t (Shift op) left is = law_take k.Number (λ n. pure (node.shift op left (literal_of n))) (λ ys whole. GoesOn (suc j) left (t ∷ ys) whole)
-      (λ n is_n. law_pure (node.shift op left (literal_of n)) (λ ys whole. GoesOn (suc j) left (t ∷ n ∷ ys) whole) (λ xs is_left. shifted j t n op xs left is_left is is_n))
+      (λ n is_n. law_pure (node.shift op left (literal_of n)) (λ ys whole. GoesOn (suc j) left (t ∷ n ∷ ys) whole)
+      (λ xs is_left. shifted j t n op xs left is_left is is_n))
 
   turn_after : (t : Token) (ys : List Token) (left whole : Expression) → GoesOn (suc j) left (t ∷ ys) whole → Leads (GoesOn (suc j)) left (t ∷ ys) (again whole)
-  turn_after t ys left whole goes = (omega arith, λ zs all after xs is_left. subst (λ x. IsExpression (suc j) x all) (append_assoc xs (t ∷ ys) zs) (after (xs ++ t ∷ ys) (goes xs is_left)))
+  turn_after t ys left whole goes = (
+    omega arith,
+    λ zs all after xs is_left. subst (λ x. IsExpression (suc j) x all) (append_assoc xs (t ∷ ys) zs)
+        (after (xs ++ t ∷ ys) (goes xs is_left)),
+  )
 
   law_climb_turn : (left : Expression) → Law (climb_turn lower (suc j) left) (Leads (GoesOn (suc j)) left)
   unfolding climb_turn infix_at
   law_climb_turn left = law_accept (infix_at (suc j)) _ (pure (over left)) (Leads (GoesOn (suc j)) left)
-      (λ t op is. law_map (joined_with lower left op) again (λ ys whole. GoesOn (suc j) left (t ∷ ys) whole) (λ ys turn. Leads (GoesOn (suc j)) left (t ∷ ys) turn)
+      (λ t op is. law_map (joined_with lower left op) again (λ ys whole. GoesOn (suc j) left (t ∷ ys) whole)
+      (λ ys turn. Leads (GoesOn (suc j)) left (t ∷ ys) turn)
       (law_joined_with t op left (of_precedence_some (suc j) (infix_of t.kind) op is)) (λ ys whole goes. turn_after t ys left whole goes))
       (law_pure (over left) (Leads (GoesOn (suc j)) left) (goes_nowhere (suc j) left))
 
@@ -77,11 +88,14 @@ law_up_to p law (suc j) = law_bind (climb (up_to p j) (suc j)) (IsExpression j) 
 
 law_sense : Law reading.sense (IsExpression 0)
 unfolding reading.sense
-law_sense = law_take k.Sense _ (IsExpression 0) (λ s is. law_take k.Open _ _ (λ o is_o. law_take k.Close _ _ (λ c is_c. law_pure node.sense _ (sense s o c is is_o is_c))))
+law_sense = law_take k.Sense _ (IsExpression 0) (λ s is. law_take k.Open _ _
+    (λ o is_o. law_take k.Close _ _ (λ c is_c. law_pure node.sense _ (sense s o c is is_o is_c))))
 
 module _ (p : Parser Expression) (law : Law p (IsExpression weakest)) where
   law_element_by : (t : Token) → t.kind ≡ k.Name → (kind : Option Kind) → Law (element_by p t kind) (λ ys a. IsExpression 0 (t ∷ ys) a)
-  law_element_by t is (Some k.OpenSquare) = law_take k.OpenSquare _ _ (λ o is_o. law_bind _ (IsExpression weakest) _ (λ xs index is_index. law_take k.CloseSquare _ _ (λ c is_c. law_pure (node.element t.span index) _ (element t o c xs index is is_o is_index is_c))) p law)
+  law_element_by t is (Some k.OpenSquare) = law_take k.OpenSquare _ _
+      (λ o is_o. law_bind _ (IsExpression weakest) _
+      (λ xs index is_index. law_take k.CloseSquare _ _ (λ c is_c. law_pure (node.element t.span index) _ (element t o c xs index is is_o is_index is_c))) p law)
   law_element_by t is _ = law_pure (node.name t.span) _ (name t is)
 
   law_named : Law (named p) (IsExpression 0)
@@ -90,7 +104,8 @@ module _ (p : Parser Expression) (law : Law p (IsExpression weakest)) where
 
   law_bracketed : Law (bracketed p) (IsExpression 0)
   unfolding bracketed
-  law_bracketed = law_take k.Open _ _ (λ o is_o. law_bind _ (IsExpression weakest) _ (λ xs inner is_inner. law_take k.Close _ _ (λ c is_c. law_pure inner _ (brackets o c xs inner is_o is_inner is_c))) p law)
+  law_bracketed = law_take k.Open _ _ (λ o is_o. law_bind _ (IsExpression weakest) _
+      (λ xs inner is_inner. law_take k.Close _ _ (λ c is_c. law_pure inner _ (brackets o c xs inner is_o is_inner is_c))) p law)
 
   law_primary_by : (kind : Option Kind) → Law (primary_by p kind) (IsExpression 0)
   law_primary_by (Some k.Number) = law_number
@@ -106,7 +121,9 @@ module _ (p : Parser Expression) (law : Law p (IsExpression weakest)) where
   law_prefixed : (q : Parser Expression) → Law q (IsExpression 0) → Law (reading.prefixed p q) (IsExpression 0)
   unfolding reading.prefixed
   law_prefixed q inside = law_accept prefix_of _ _ (IsExpression 0)
-      (λ t op is. law_bind (λ inner. pure (node.unary op inner)) (IsExpression 0) _ (λ xs inner is_inner. law_pure (node.unary op inner) _ (subst (λ x. IsExpression 0 (t ∷ x) (node.unary op inner)) (sym (append-nil xs)) (prefixed t op xs inner is is_inner))) q inside)
+      (λ t op is. law_bind (λ inner. pure (node.unary op inner)) (IsExpression 0) _
+      (λ xs inner is_inner. law_pure (node.unary op inner) _
+      (subst (λ x. IsExpression 0 (t ∷ x) (node.unary op inner)) (sym (append-nil xs)) (prefixed t op xs inner is is_inner))) q inside)
       law_primary
 
 pub law_within : (n : ℕ) → Law (unary_within n) (IsExpression 0)

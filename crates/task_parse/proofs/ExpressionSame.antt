@@ -9,13 +9,15 @@ use Rattle.task_parse.specs.declared.operators.Infix.{Infix}
 use Rattle.task_parse.specs.declared.operators.Infix.TheVariants.{Binary, Shift, ShortCircuit}
 use Rattle.task_parse.specs.Grammar.{prefix_of, weakest, IsExpression}
 use Rattle.task_parse.specs.Reading.{Parser, and_then, pure, kind_of, again, over, turned}
-use Rattle.task_parse.specs.Expressions.{infix_at, joined_with, climb_turn, climb, up_to, element_by, named, bracketed, primary_by, primary, prefixed, unary_within, unary, expression}
+use Rattle.task_parse.specs.Expressions.{infix_at, joined_with, climb_turn, climb, up_to, element_by, named, bracketed, primary_by, primary, prefixed}
+use Rattle.task_parse.specs.Expressions.{unary_within, unary, expression}
 use Rattle.task_parse.proofs.ParserLaws.{Law}
 use Rattle.task_parse.proofs.SameLaws.{Same, Shortens, law_shortens, same_bind, same_take, same_accept}
 use Rattle.task_parse.proofs.Turns.{law_enough, same_repeat, repeat_is}
 use Rattle.task_parse.proofs.ExpressionLaws.{law_up_to, law_within, shrinks_climb}
 
-same_joined_with : (m : ℕ) (lower lower' : Parser Expression) → Same m lower lower' → (left : Expression) (op : Infix) → Same m (joined_with lower left op) (joined_with lower' left op)
+same_joined_with : (m : ℕ) (lower lower' : Parser Expression) → Same m lower lower' → (left : Expression) (op : Infix)
+    → Same m (joined_with lower left op) (joined_with lower' left op)
 same_joined_with m lower lower' same left (Binary op) ts fits = ap (λ o. and_then o (λ right. pure (node.binary op left right))) (same ts fits)
 same_joined_with m lower lower' same left (ShortCircuit op) ts fits = ap (λ o. and_then o (λ right. pure (node.short_circuit op left right))) (same ts fits)
 same_joined_with m lower lower' same left (Shift op) ts fits = refl
@@ -24,7 +26,8 @@ module _ (m j : ℕ) (lower lower' : Parser Expression) (same : Same m lower low
   same_climb_turn : (left : Expression) → Same m (climb_turn lower (suc j) left) (climb_turn lower' (suc j) left)
   unfolding climb_turn infix_at
   same_climb_turn left ts fits = same_accept m (infix_at (suc j)) _ _ (pure (over left)) (pure (over left))
-      (λ op rest le. ap (λ o. and_then o (λ whole. pure (again whole))) (same_joined_with m lower lower' same left op rest le)) (λ rest le. refl) ts (omega arith)
+      (λ op rest le. ap (λ o. and_then o (λ whole. pure (again whole))) (same_joined_with m lower lower' same left op rest le)) (λ rest le. refl) ts
+      (omega arith)
 
   same_climb : (left : Expression) → Same m (climb lower (suc j) left) (climb lower' (suc j) left)
   same_climb = same_repeat m (climb_turn lower (suc j)) (climb_turn lower' (suc j)) same_climb_turn (shrinks_climb j lower law)
@@ -41,7 +44,8 @@ same_up_to m u u' same law (suc j) =
 
 module _ (m : ℕ) (x x' : Parser Expression) (same : Same m x x') (shorter : Shortens x) where
   same_element_by : (t : Token) (kind : Option Kind) → Same m (element_by x t kind) (element_by x' t kind)
-  same_element_by t (Some k.OpenSquare) = λ ts fits. same_take m k.OpenSquare _ _ (λ o. same_bind m x x' _ _ same (λ index rest le. refl) shorter) ts (omega arith)
+  same_element_by t (Some k.OpenSquare) = λ ts fits. same_take m k.OpenSquare _ _ (λ o. same_bind m x x' _ _ same (λ index rest le. refl) shorter) ts
+      (omega arith)
   same_element_by t _ = λ ts fits. refl
 
   same_named : Same (suc m) (named x) (named x')
@@ -63,11 +67,14 @@ module _ (m : ℕ) (x x' : Parser Expression) (same : Same m x x') (shorter : Sh
 
   same_prefixed : (u u' : Parser Expression) → Same m u u' → Shortens u → Same (suc m) (prefixed x u) (prefixed x' u')
   unfolding prefixed
-  same_prefixed u u' inside less = same_accept m prefix_of _ _ (primary x) (primary x') (λ op. same_bind m u u' _ _ inside (λ inner rest le. refl) less) same_primary
+  same_prefixed u u' inside less = same_accept m prefix_of _ _ (primary x) (primary x') (λ op. same_bind m u u' _ _ inside (λ inner rest le. refl) less)
+      same_primary
 
-same_step : (m n : ℕ) (u : Parser Expression) → Same m (unary_within n) u → Same (suc m) (prefixed (up_to (unary_within n) weakest) (unary_within n)) (prefixed (up_to u weakest) u)
+same_step : (m n : ℕ) (u : Parser Expression) → Same m (unary_within n) u
+    → Same (suc m) (prefixed (up_to (unary_within n) weakest) (unary_within n)) (prefixed (up_to u weakest) u)
 same_step m n u same =
-    same_prefixed m (up_to (unary_within n) weakest) (up_to u weakest) (same_up_to m (unary_within n) u same (law_within n) weakest) (law_shortens (up_to (unary_within n) weakest) (IsExpression weakest) (law_up_to (unary_within n) (law_within n) weakest))
+    same_prefixed m (up_to (unary_within n) weakest) (up_to u weakest) (same_up_to m (unary_within n) u same (law_within n) weakest)
+    (law_shortens (up_to (unary_within n) weakest) (IsExpression weakest) (law_up_to (unary_within n) (law_within n) weakest))
     (unary_within n) u same (law_shortens (unary_within n) (IsExpression 0) (law_within n))
 
 one_more : (n : ℕ) → Same n (unary_within n) (unary_within (suc n))
@@ -101,10 +108,13 @@ unfolding up_to
 up_to_above zero ts some = absurd (omega arith)
 up_to_above (suc j) ts some = let back : j ≡ suc j - 1 = omega arith in ap (λ i. and_then (up_to unary i ts) (climb (up_to unary i) (suc j))) back
 
-pub climb_suc : (j : ℕ) (left : Expression) (ts : List Token) → climb (up_to unary j) (suc j) left ts ≡ and_then (climb_turn (up_to unary j) (suc j) left ts) (turned (climb (up_to unary j) (suc j)))
+pub climb_suc : (j : ℕ) (left : Expression) (ts : List Token) → climb (up_to unary j) (suc j) left ts
+    ≡ and_then (climb_turn (up_to unary j) (suc j) left ts) (turned (climb (up_to unary j) (suc j)))
 climb_suc j = repeat_is (climb_turn (up_to unary j) (suc j)) (shrinks_climb j (up_to unary j) (law_up_to unary law_unary j))
 
-pub climb_is : (j : ℕ) (left : Expression) (ts : List Token) → 0 < j → climb (up_to unary (j - 1)) j left ts ≡ and_then (climb_turn (up_to unary (j - 1)) j left ts) (turned (climb (up_to unary (j - 1)) j))
+pub climb_is : (j : ℕ) (left : Expression) (ts : List Token) → 0 < j → climb (up_to unary (j - 1)) j left ts
+    ≡ and_then (climb_turn (up_to unary (j - 1)) j left ts) (turned (climb (up_to unary (j - 1)) j))
 climb_is zero left ts some = absurd (omega arith)
 climb_is (suc j) left ts some = let back : j ≡ suc j - 1 = omega arith in
-    subst (λ i. climb (up_to unary i) (suc j) left ts ≡ and_then (climb_turn (up_to unary i) (suc j) left ts) (turned (climb (up_to unary i) (suc j)))) back (climb_suc j left ts)
+    subst (λ i. climb (up_to unary i) (suc j) left ts ≡ and_then (climb_turn (up_to unary i) (suc j) left ts) (turned (climb (up_to unary i) (suc j)))) back
+    (climb_suc j left ts)

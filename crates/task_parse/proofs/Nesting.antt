@@ -64,16 +64,19 @@ module _ {B : Type 0} (f : Kind → Option B) (plain : (kind : Kind) (b : B) →
 pub nests_behind_prefix : (ts : List Token) (o : Option UnaryOperator) → o ≡ meaning prefix_of (kind_of ts) → IfSome o (λ op. nesting (drop 1 ts) ≡ nesting ts)
 nests_behind_prefix = nests_behind prefix_of prefix_plain
 
-pub row_behind_prefix : (ts : List Token) (o : Option UnaryOperator) → o ≡ meaning prefix_of (kind_of ts) → IfSome o (λ op. row_length ts ≡ row_length (drop 1 ts) + 1)
+pub row_behind_prefix : (ts : List Token) (o : Option UnaryOperator) → o ≡ meaning prefix_of (kind_of ts)
+    → IfSome o (λ op. row_length ts ≡ row_length (drop 1 ts) + 1)
 row_behind_prefix = row_behind prefix_of prefix_plain
 
 pub nests_behind_type : (ts : List Token) (o : Option WordType) → o ≡ meaning type_of (kind_of ts) → IfSome o (λ of. nesting (drop 1 ts) ≡ nesting ts)
 nests_behind_type = nests_behind type_of type_plain
 
-pub nests_behind_infix : (j : ℕ) (ts : List Token) (o : Option Infix) → o ≡ meaning (infix_at j) (kind_of ts) → IfSome o (λ op. nesting (drop 1 ts) ≡ nesting ts)
+pub nests_behind_infix : (j : ℕ) (ts : List Token) (o : Option Infix) → o ≡ meaning (infix_at j) (kind_of ts)
+    → IfSome o (λ op. nesting (drop 1 ts) ≡ nesting ts)
 nests_behind_infix j = nests_behind (infix_at j) (infix_plain j)
 
-pub row_behind_infix : (j : ℕ) (ts : List Token) (o : Option Infix) → o ≡ meaning (infix_at j) (kind_of ts) → IfSome o (λ op. row_length ts ≡ row_length (drop 1 ts) + 1)
+pub row_behind_infix : (j : ℕ) (ts : List Token) (o : Option Infix) → o ≡ meaning (infix_at j) (kind_of ts)
+    → IfSome o (λ op. row_length ts ≡ row_length (drop 1 ts) + 1)
 row_behind_infix j = row_behind (infix_at j) (infix_plain j)
 
 -- ---- bounded tokens
@@ -83,7 +86,8 @@ unfolding nesting
 nested depth width [] le h = omega arith
 nested depth width (t ∷ ts) le h = go (is_opening t.kind) (is_closing t.kind) (nested (depth_after t.kind depth) (width_after t.kind width) ts h.0 h.2)
   where
-    go : (opens closes : Bool) → cond opens (depth + 1) (cond closes (depth - 1) depth) + nesting ts ≤ 64 → depth + cond opens (nesting ts + 1) (cond closes (nesting ts - 1) (nesting ts)) ≤ 64
+    go : (opens closes : Bool) → cond opens (depth + 1) (cond closes (depth - 1) depth) + nesting ts ≤ 64
+        → depth + cond opens (nesting ts + 1) (cond closes (nesting ts - 1) (nesting ts)) ≤ 64
     go true closes more = omega arith
     go false true more = omega arith
     go false false more = more

@@ -1,5 +1,6 @@
 -- Tokens stop at one place, and only where they are no program.
-use Rattle.std.proofs.Common.{◌≡◌, ℕ, zero, suc, ◌<◌, ◌≤◌, Bool, true, false, nat_lt, List, [], ◌∷◌, ◌++◌, length, take, drop, refl, ap, sym, ◌∙◌, subst, arith, append_assoc}
+use Rattle.std.proofs.Common.{◌≡◌, ℕ, zero, suc, ◌<◌, ◌≤◌, Bool, true, false, nat_lt, List, [], ◌∷◌, ◌++◌, length, take, drop, refl, ap, sym, ◌∙◌, subst}
+use Rattle.std.proofs.Common.{arith, append_assoc}
 use Rattle.std.proofs.lemmas.List.{take-append-drop}
 use Rattle.task_lex.specs.declared.token.Token.{Token}
 use Rattle.task_parse.specs.Parsed.{Program}
@@ -22,7 +23,8 @@ no_later tokens i j less a b =
     let tree = b.before.1 in
     let inside : i < length tokens = (let fits : j ≤ length tokens = b.within in omega arith) in
     let between = drop (suc i) (take j tokens) in
-    a.none inside (between ++ more) tree (subst (λ ts. IsProgram ts tree) (ap (λ x. x ++ more) (cut (suc i) j tokens (omega arith)) ∙ append_assoc (take (suc i) tokens) between more) b.before.2)
+    a.none inside (between ++ more) tree (subst (λ ts. IsProgram ts tree) (ap (λ x. x ++ more) (cut (suc i) j tokens (omega arith))
+    ∙ append_assoc (take (suc i) tokens) between more) b.before.2)
 
 one_stop : (tokens : List Token) (i j : ℕ) → StopsAt tokens i → StopsAt tokens j → i ≡ j
 one_stop tokens i j a b = go (nat_lt i j) (nat_lt j i) refl refl
@@ -36,7 +38,8 @@ no_program : (tokens : List Token) (i : ℕ) (tree : Program) → StopsAt tokens
 no_program tokens i tree a is = go (nat_lt i (length tokens)) refl
   where
     go : (c : Bool) → nat_lt i (length tokens) ≡ c → ⊥
-    go true e = let inside : i < length tokens = grind arith in a.none inside (drop (suc i) tokens) tree (subst (λ ts. IsProgram ts tree) (sym (take-append-drop (suc i) tokens)) is)
+    go true e = let inside : i < length tokens = grind arith in
+        a.none inside (drop (suc i) tokens) tree (subst (λ ts. IsProgram ts tree) (sym (take-append-drop (suc i) tokens)) is)
     go false e = let fits : i ≤ length tokens = a.within in let same : i ≡ length tokens = grind arith in a.none_ends same tree is
 
 pub one_answer : OneAnswer

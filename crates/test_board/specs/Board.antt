@@ -1,5 +1,6 @@
 -- A board for tests and benchmarks: memory from 0x1C00 to the end, and a sensor port.
-use Rattle.std.specs.Prelude.{ℕ, ◌≡◌, ◌≤◌, ◌<◌, ◌+◌, ◌-◌, ◌*◌, ◌/◌, ◌%◌, Bool, true, false, ◌&&◌, ◌==◌, nat_le, nat_lt, if◌then◌else◌, List, length, slice_index, slice_set, Result, Ok, Err, Option, Some, None}
+use Rattle.std.specs.Prelude.{ℕ, ◌≡◌, ◌≤◌, ◌<◌, ◌+◌, ◌-◌, ◌*◌, ◌/◌, ◌%◌, Bool, true, false, ◌&&◌, ◌==◌, nat_le, nat_lt, if◌then◌else◌, List, length}
+use Rattle.std.specs.Prelude.{slice_index, slice_set, Result, Ok, Err, Option, Some, None}
 use Rattle.msp_isa.specs.alp_words.declared.Width.{Width}
 use Rattle.msp_isa.specs.alp_words.declared.Width.TheVariants.{Word, Byte}
 use Rattle.msp_step.specs.declared.bus.Refused.{Refused}

@@ -1,5 +1,6 @@
 -- The first group of a list.
-use Rattle.std.proofs.Common.{◌≡◌, ◌≤◌, ◌<◌, ℕ, suc, zero, ◌-◌, ◌==◌, List, [], ◌∷◌, length, take, drop, min, arith, refl, ap, sym, ◌∙◌, if◌then◌else◌, Bool, true, false, length-drop}
+use Rattle.std.proofs.Common.{◌≡◌, ◌≤◌, ◌<◌, ℕ, suc, zero, ◌-◌, ◌==◌, List, [], ◌∷◌, length, take, drop, min, arith, refl, ap, sym, ◌∙◌, if◌then◌else◌, Bool}
+use Rattle.std.proofs.Common.{true, false, length-drop}
 use Rattle.std.proofs.lemmas.List.{drop_min}
 use Rattle.std.proofs.lemmas.Bool.Decides.{nat_tests}
 use Rattle.text_parts.specs.Groups.{groups, groups_from, onto_group, AreGroups}
@@ -25,23 +26,28 @@ group_by : {A : Type 0} (t : Bool) (size k : ℕ) (w : A) (vs : List A) (y : Lis
 group_by true size k w vs y e g = let z : k ≡ 0 = grind (arith, nat_tests, e) in rw z refl
 group_by false size k w vs y e g = let some : 0 < k = grind (arith, nat_tests, e) in ap (onto_group w) (g some)
 
-group_cons : {A : Type 0} (size k : ℕ) (w v : A) (vs : List A) → groups_from size (suc k) (w ∷ v ∷ vs) ≡ (if suc k == 1 then (w ∷ []) ∷ groups size (v ∷ vs) else onto_group w (groups_from size k (v ∷ vs)))
+group_cons : {A : Type 0} (size k : ℕ) (w v : A) (vs : List A) → groups_from size (suc k) (w ∷ v ∷ vs)
+    ≡ (if suc k == 1 then (w ∷ []) ∷ groups size (v ∷ vs) else onto_group w (groups_from size k (v ∷ vs)))
 unfolding groups_from
-group_cons size k w v vs = ap (λ j. if suc k == 1 then (w ∷ []) ∷ groups size (v ∷ vs) else onto_group w (groups_from size j (v ∷ vs))) (let z : suc k - 1 ≡ k = omega arith in z)
+group_cons size k w v vs = ap (λ j. if suc k == 1 then (w ∷ []) ∷ groups size (v ∷ vs) else onto_group w (groups_from size j (v ∷ vs)))
+    (let z : suc k - 1 ≡ k = omega arith in z)
 
 group_last : {A : Type 0} (size k : ℕ) (w : A) → groups_from size (suc k) (w ∷ []) ≡ (w ∷ take k []) ∷ groups size (drop k [])
 unfolding groups_from
-group_last size k w = same (suc k == 1) ((w ∷ []) ∷ []) ∙ ap (λ r. (w ∷ r) ∷ []) (sym (take_none k)) ∙ ap (λ g. (w ∷ take k []) ∷ g) (sym (groups_none size size) ∙ ap (groups size) (sym (drop_none k)))
+group_last size k w = same (suc k == 1) ((w ∷ []) ∷ []) ∙ ap (λ r. (w ∷ r) ∷ []) (sym (take_none k))
+    ∙ ap (λ g. (w ∷ take k []) ∷ g) (sym (groups_none size size) ∙ ap (groups size) (sym (drop_none k)))
 
 group_first : {A : Type 0} (size k : ℕ) (w : A) (ws : List A) → groups_from size (suc k) (w ∷ ws) ≡ (w ∷ take k ws) ∷ groups size (drop k ws)
 group_first size k w [] = group_last size k w
 group_first size zero w (v ∷ vs) = group_cons size 0 w v vs
-group_first size (suc k) w (v ∷ vs) = group_cons size (suc k) w v vs ∙ group_by (suc (suc k) == 1) size (suc k) w (v ∷ vs) (groups_from size (suc k) (v ∷ vs)) refl (λ h. group_first size k v vs)
+group_first size (suc k) w (v ∷ vs) = group_cons size (suc k) w v vs ∙ group_by (suc (suc k) == 1) size (suc k) w (v ∷ vs)
+    (groups_from size (suc k) (v ∷ vs)) refl (λ h. group_first size k v vs)
 
 take_least : {A : Type 0} (n : ℕ) (xs : List A) → take (min n (length xs)) xs ≡ take n xs
 take_least zero xs = ap (λ k. take k xs) (let z : min 0 (length xs) ≡ 0 = omega arith in z)
 take_least (suc n) [] = ap (λ k. take k []) (let z : min (suc n) 0 ≡ 0 = omega arith in z)
-take_least (suc n) (x ∷ xs) = ap (λ k. take k (x ∷ xs)) (let z : min (suc n) (suc (length xs)) ≡ suc (min n (length xs)) = omega arith in z) ∙ ap (λ r. x ∷ r) (take_least n xs)
+take_least (suc n) (x ∷ xs) = ap (λ k. take k (x ∷ xs)) (let z : min (suc n) (suc (length xs)) ≡ suc (min n (length xs)) = omega arith in z)
+    ∙ ap (λ r. x ∷ r) (take_least n xs)
 
 pub no_groups : {A : Type 0} (size : ℕ) (ws : List A) → length ws ≡ 0 → groups size ws ≡ []
 no_groups size [] h = groups_none size size
@@ -53,7 +59,8 @@ first_group zero ws s h = absurd (omega arith)
 first_group (suc k) [] s h = absurd (omega arith)
 first_group (suc k) (w ∷ ws) s h = group_first (suc k) k w ws
 
-pub group_cut : {A : Type 0} (size : ℕ) (ws front back : List A) (n : ℕ) → 0 < size → 0 < length ws → n ≡ min size (length ws) → front ≡ take n ws → back ≡ drop n ws
+pub group_cut : {A : Type 0} (size : ℕ) (ws front back : List A) (n : ℕ) → 0 < size → 0 < length ws → n ≡ min size (length ws) → front ≡ take n ws
+    → back ≡ drop n ws
     → (groups size ws ≡ front ∷ groups size back) × (length back < length ws)
 group_cut size ws front back n s h m e f = (
   first_group size ws s h ∙ ap (λ r. r ∷ groups size (drop size ws)) (sym (e ∙ ap (λ k. take k ws) m ∙ take_least size ws))

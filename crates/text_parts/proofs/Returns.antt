@@ -1,5 +1,6 @@
 -- A piece with and without a carriage return at its end.
-use Rattle.std.proofs.Common.{◌≡◌, ◌≢◌, ◌<◌, ℕ, suc, zero, ◌-◌, ◌==◌, List, [], ◌∷◌, length, get_or, take, arith, refl, ap, sym, if◌then◌else◌, Bool, true, false}
+use Rattle.std.proofs.Common.{◌≡◌, ◌≢◌, ◌<◌, ℕ, suc, zero, ◌-◌, ◌==◌, List, [], ◌∷◌, length, get_or, take, arith, refl, ap, sym, if◌then◌else◌, Bool, true}
+use Rattle.std.proofs.Common.{false}
 use Rattle.text_parts.specs.Lines.{without_return}
 
 return_by : (n b : ℕ) (bs : List ℕ) → suc n ≡ length (b ∷ bs) → get_or (b ∷ bs) n 0 ≡ 13 → without_return (b ∷ bs) ≡ take n (b ∷ bs)

@@ -82,13 +82,15 @@ fronts x y xs ys a b f g = elim (front_or_behind y x ys f) [
   ]
 ]
 
-moved : (x y : ℕ) (xs ys : List ℕ) → x ≡ y → AllPairs ◌<◌ (x ∷ xs) → ((i : ℕ) → Contains (x ∷ xs) i → Contains (y ∷ ys) i) → (i : ℕ) → Contains xs i → Contains ys i
+moved : (x y : ℕ) (xs ys : List ℕ) → x ≡ y → AllPairs ◌<◌ (x ∷ xs) → ((i : ℕ) → Contains (x ∷ xs) i → Contains (y ∷ ys) i) → (i : ℕ) → Contains xs i
+    → Contains ys i
 moved x y xs ys e a f i h = elim (front_or_behind y i ys (f i (contains_behind x i xs h))) [
   | inl same ↦ let l = above x i xs a h in absurd (omega arith)
   | inr in_ys ↦ in_ys
 ]
 
-same_lists : (xs ys : List ℕ) → AllPairs ◌<◌ xs → AllPairs ◌<◌ ys → ((i : ℕ) → Contains xs i → Contains ys i) → ((i : ℕ) → Contains ys i → Contains xs i) → xs ≡ ys
+same_lists : (xs ys : List ℕ) → AllPairs ◌<◌ xs → AllPairs ◌<◌ ys → ((i : ℕ) → Contains xs i → Contains ys i) → ((i : ℕ) → Contains ys i → Contains xs i)
+    → xs ≡ ys
 same_lists [] [] a b f g = refl
 same_lists [] (y ∷ ys) a b f g = absurd (contains_none y (g y (contains_front y ys)))
 same_lists (x ∷ xs) [] a b f g = absurd (contains_none x (f x (contains_front x xs)))

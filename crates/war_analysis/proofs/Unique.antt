@@ -12,7 +12,8 @@ same_plan shared task a b x y =
     let f = one_list (IsVersionedIn shared task.body) a.versioned_arrays b.versioned_arrays x.versioned_arrays y.versioned_arrays in
     λ i. record { private_scalars = e i; versioned_arrays = f i }
 
-tail_plans : (shared : List SharedDeclaration) (task : CheckedTask) (tasks : List CheckedTask) (a : TaskPlanValue) (as' : List TaskPlanValue) → ArePlans shared (task ∷ tasks) (a ∷ as') → ArePlans shared tasks as'
+tail_plans : (shared : List SharedDeclaration) (task : CheckedTask) (tasks : List CheckedTask) (a : TaskPlanValue) (as' : List TaskPlanValue)
+    → ArePlans shared (task ∷ tasks) (a ∷ as') → ArePlans shared tasks as'
 tail_plans shared task tasks a as' h = record { count = let c = h.count in omega (arith, c); each = λ k t p e f. h.each (suc k) t p e f }
 
 same_plans : (shared : List SharedDeclaration) (tasks : List CheckedTask) (a b : List TaskPlanValue) → ArePlans shared tasks a → ArePlans shared tasks b → a ≡ b

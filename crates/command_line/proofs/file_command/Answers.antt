@@ -24,7 +24,8 @@ next_file name files i x lt =
 
 pub loop-file-preserved : goal.loop-file-preserved
 loop-file-preserved c =
-    let rule_is : rule_of c.positional.result ≡ file_rule (get_or c.args.files.now c.loop-file.file-index (record { ref_ptr = (0, 0); now = [] })).now = search rules in
+    let rule_is : rule_of c.positional.result ≡ file_rule (get_or c.args.files.now c.loop-file.file-index (record { ref_ptr = (0, 0); now = [] })).now =
+    search rules in
     record {
       app = c.in_ok-command.ensures.shape (search rules) ∙ ap₂ with_rule c.loop-file.invariant.app rule_is
           ∙ next_file c.args.name.now c.args.files.now c.loop-file.file-index (record { ref_ptr = (0, 0); now = [] }) c.loop-file-test.true;
@@ -34,4 +35,5 @@ loop-file-preserved c =
 pub returns : goal.returns
 returns c =
     let all : take c.loop-file.file-index c.args.files.now ≡ c.args.files.now = take_all _ _ c.loop-file-test.false in
-    subst (λ (fs : List (Bor Text)). IsCommand (subcommand_app (record { name = c.args.name.now; files = map (λ (f : Bor Text). f.now) fs })) c.loop-file.command) all c.loop-file.invariant
+    subst (λ (fs : List (Bor Text)). IsCommand (subcommand_app (record { name = c.args.name.now; files = map (λ (f : Bor Text). f.now) fs }))
+    c.loop-file.command) all c.loop-file.invariant

@@ -37,5 +37,6 @@ returns c =
     record {
       line = tt;
       rows = tt;
-      usage = λ _ line. no_fault _ c.in-Err-try_get_matches_from.error (faults ∙ line) (λ m. c.in_default.not-OutOfMemory (c.kind.ensures ∙ m)) (c.in-Err-try_get_matches_from.ensures.kinds free);
+      usage = λ _ line. no_fault _ c.in-Err-try_get_matches_from.error (faults ∙ line) (λ m. c.in_default.not-OutOfMemory (c.kind.ensures ∙ m))
+          (c.in-Err-try_get_matches_from.ensures.kinds free);
     }

@@ -12,7 +12,8 @@ all_three (Some a) (Some b) None = None
 all_three (Some a) (Some b) (Some d) = Some (a ∷ b ∷ d ∷ [])
 
 -- the values of three files, by those of each
-three_values : (first second third : Text) (rows : List Row) (a b d : Option Text) → first_of first rows ≡ a → first_of second rows ≡ b → first_of third rows ≡ d
+three_values : (first second third : Text) (rows : List Row) (a b d : Option Text) → first_of first rows ≡ a → first_of second rows ≡ b
+    → first_of third rows ≡ d
     → values_of (first ∷ second ∷ third ∷ []) rows ≡ all_three a b d
 three_values first second third rows None b d is_a is_b is_d = rw is_a refl
 three_values first second third rows (Some a) None d is_a is_b is_d = rw (is_a, is_b) refl
@@ -29,7 +30,8 @@ returns-in_err-first c =
 pub returns-in_err-second : goal.returns-in_err-second
 returns-in_err-second c =
     let found = found_of c.args.files.now in
-    let first : first_of c.args.first.now (rows_of found) ≡ Some c.in_ok-first.first.now = sym (first_value-rows found c.args.first.now) ∙ sym c.in_ok-first.ensures in
+    let first : first_of c.args.first.now (rows_of found) ≡ Some c.in_ok-first.first.now = sym (first_value-rows found c.args.first.now)
+    ∙ sym c.in_ok-first.ensures in
     let none : first_of c.args.second.now (rows_of found) ≡ None = sym (first_value-rows found c.args.second.now) ∙ sym c.in_err-second.ensures in
     ap (option_map (λ p. p.0.now ∷ p.1.now ∷ p.2.now ∷ [])) c.from_residual-in_err-second.ensures
     ∙ sym (three_values c.args.first.now c.args.second.now c.args.third.now (rows_of found) _ None _ first none refl)
@@ -37,8 +39,10 @@ returns-in_err-second c =
 pub returns-in_err-third : goal.returns-in_err-third
 returns-in_err-third c =
     let found = found_of c.args.files.now in
-    let first : first_of c.args.first.now (rows_of found) ≡ Some c.in_ok-first.first.now = sym (first_value-rows found c.args.first.now) ∙ sym c.in_ok-first.ensures in
-    let second : first_of c.args.second.now (rows_of found) ≡ Some c.in_ok-second.second.now = sym (first_value-rows found c.args.second.now) ∙ sym c.in_ok-second.ensures in
+    let first : first_of c.args.first.now (rows_of found) ≡ Some c.in_ok-first.first.now = sym (first_value-rows found c.args.first.now)
+    ∙ sym c.in_ok-first.ensures in
+    let second : first_of c.args.second.now (rows_of found) ≡ Some c.in_ok-second.second.now =
+    sym (first_value-rows found c.args.second.now) ∙ sym c.in_ok-second.ensures in
     let none : first_of c.args.third.now (rows_of found) ≡ None = sym (first_value-rows found c.args.third.now) ∙ sym c.in_err-third.ensures in
     ap (option_map (λ p. p.0.now ∷ p.1.now ∷ p.2.now ∷ [])) c.from_residual-in_err-third.ensures
     ∙ sym (three_values c.args.first.now c.args.second.now c.args.third.now (rows_of found) _ _ None first second none)
@@ -46,7 +50,10 @@ returns-in_err-third c =
 pub returns : goal.returns
 returns c =
     let found = found_of c.args.files.now in
-    let first : first_of c.args.first.now (rows_of found) ≡ Some c.in_ok-first.first.now = sym (first_value-rows found c.args.first.now) ∙ sym c.in_ok-first.ensures in
-    let second : first_of c.args.second.now (rows_of found) ≡ Some c.in_ok-second.second.now = sym (first_value-rows found c.args.second.now) ∙ sym c.in_ok-second.ensures in
-    let third : first_of c.args.third.now (rows_of found) ≡ Some c.in_ok-third.third.now = sym (first_value-rows found c.args.third.now) ∙ sym c.in_ok-third.ensures in
+    let first : first_of c.args.first.now (rows_of found) ≡ Some c.in_ok-first.first.now = sym (first_value-rows found c.args.first.now)
+    ∙ sym c.in_ok-first.ensures in
+    let second : first_of c.args.second.now (rows_of found) ≡ Some c.in_ok-second.second.now =
+    sym (first_value-rows found c.args.second.now) ∙ sym c.in_ok-second.ensures in
+    let third : first_of c.args.third.now (rows_of found) ≡ Some c.in_ok-third.third.now = sym (first_value-rows found c.args.third.now)
+    ∙ sym c.in_ok-third.ensures in
     sym (three_values c.args.first.now c.args.second.now c.args.third.now (rows_of found) _ _ _ first second third)

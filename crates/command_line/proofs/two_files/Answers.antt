@@ -27,7 +27,8 @@ returns-in_err-first c =
 pub returns-in_err-second : goal.returns-in_err-second
 returns-in_err-second c =
     let found = found_of c.args.files.now in
-    let first : first_of c.args.first.now (rows_of found) ≡ Some c.in_ok-first.first.now = sym (first_value-rows found c.args.first.now) ∙ sym c.in_ok-first.ensures in
+    let first : first_of c.args.first.now (rows_of found) ≡ Some c.in_ok-first.first.now = sym (first_value-rows found c.args.first.now)
+    ∙ sym c.in_ok-first.ensures in
     let none : first_of c.args.second.now (rows_of found) ≡ None = sym (first_value-rows found c.args.second.now) ∙ sym c.in_err-second.ensures in
     ap (option_map (λ p. p.0.now ∷ p.1.now ∷ [])) c.from_residual-in_err-second.ensures
     ∙ sym (both_values c.args.first.now c.args.second.now (rows_of found) _ None first none)
@@ -35,6 +36,8 @@ returns-in_err-second c =
 pub returns : goal.returns
 returns c =
     let found = found_of c.args.files.now in
-    let first : first_of c.args.first.now (rows_of found) ≡ Some c.in_ok-first.first.now = sym (first_value-rows found c.args.first.now) ∙ sym c.in_ok-first.ensures in
-    let second : first_of c.args.second.now (rows_of found) ≡ Some c.in_ok-second.second.now = sym (first_value-rows found c.args.second.now) ∙ sym c.in_ok-second.ensures in
+    let first : first_of c.args.first.now (rows_of found) ≡ Some c.in_ok-first.first.now = sym (first_value-rows found c.args.first.now)
+    ∙ sym c.in_ok-first.ensures in
+    let second : first_of c.args.second.now (rows_of found) ≡ Some c.in_ok-second.second.now =
+    sym (first_value-rows found c.args.second.now) ∙ sym c.in_ok-second.ensures in
     sym (both_values c.args.first.now c.args.second.now (rows_of found) _ _ first second)

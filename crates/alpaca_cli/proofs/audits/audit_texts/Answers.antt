@@ -12,7 +12,8 @@ returns-in_err-source-clause-failure g c =
 pub returns-in_err-trace-clause-failure : goal.returns-in_err-trace-clause-failure
 returns-in_err-trace-clause-failure g c =
     handed_on _ _ _ c.from_residual-in_err-trace.ensures
-    (λ shelf stands. refusal_fails _ _ _ _ _ 2 _ _ refl (λ r no. the_audits_trace _ r c.in_ok-source.ensures.said no) stands refl c.in_err-trace.ensures.refused)
+    (λ shelf stands. refusal_fails _ _ _ _ _ 2 _ _ refl (λ r no. the_audits_trace _ r c.in_ok-source.ensures.said no) stands refl
+    c.in_err-trace.ensures.refused)
 
 pub returns-in_err-verdict-clause-failure : goal.returns-in_err-verdict-clause-failure
 returns-in_err-verdict-clause-failure g c =

@@ -7,27 +7,39 @@ use Rattle.alpaca_cli.proofs.command.answer.Goals as goal
 
 pub returns-in-Ok-Mean-clause-answers : goal.returns-in-Ok-Mean-clause-answers
 returns-in-Ok-Mean-clause-answers g c =
-    on_line _ (call.mean _ _) _ _ _ _ (record { number = tt; line = c.in-Ok-Mean.ensures.command ∙ ap (λ x. Some (plain_line x)) c.in-Ok-Mean.field-0-is }) c.answer_mean.ensures.answers
+    on_line _ (call.mean _ _) _ _ _ _ (record { number = tt; line = c.in-Ok-Mean.ensures.command ∙ ap (λ x. Some (plain_line x)) c.in-Ok-Mean.field-0-is })
+    c.answer_mean.ensures.answers
 
 pub returns-in-Ok-Try-clause-answers : goal.returns-in-Ok-Try-clause-answers
 returns-in-Ok-Try-clause-answers g c =
-    on_line _ (call.try_ _ _ _) _ _ _ _ (record { number = tt; line = c.in-Ok-Try.ensures.command ∙ ap (λ x. Some (plain_line x)) c.in-Ok-Try.field-0-is }) c.answer_try.ensures.answers
+    on_line _ (call.try_ _ _ _) _ _ _ _ (record { number = tt; line = c.in-Ok-Try.ensures.command ∙ ap (λ x. Some (plain_line x)) c.in-Ok-Try.field-0-is })
+    c.answer_try.ensures.answers
 
 pub returns-in-Ok-Build-clause-answers : goal.returns-in-Ok-Build-clause-answers
 returns-in-Ok-Build-clause-answers g c =
-    on_line _ (call.build _ _) _ _ _ _ (record { number = tt; line = c.in-Ok-Build.ensures.command ∙ ap (λ x. Some (plain_line x)) c.in-Ok-Build.field-0-is }) c.answer_build.ensures.answers
+    on_line _ (call.build _ _) _ _ _ _ (record {
+      number = tt;
+      line = c.in-Ok-Build.ensures.command
+          ∙ ap (λ x. Some (plain_line x)) c.in-Ok-Build.field-0-is;
+    }) c.answer_build.ensures.answers
 
 pub returns-in-Ok-Run-clause-answers : goal.returns-in-Ok-Run-clause-answers
 returns-in-Ok-Run-clause-answers g c =
-    on_line _ (call.run _ _) _ _ _ _ (record { number = tt; line = c.in-Ok-Run.ensures.command ∙ ap (λ x. Some (plain_line x)) c.in-Ok-Run.field-0-is }) c.answer_run.ensures.answers
+    on_line _ (call.run _ _) _ _ _ _ (record { number = tt; line = c.in-Ok-Run.ensures.command ∙ ap (λ x. Some (plain_line x)) c.in-Ok-Run.field-0-is })
+    c.answer_run.ensures.answers
 
 pub returns-in-Ok-Asm-clause-answers : goal.returns-in-Ok-Asm-clause-answers
 returns-in-Ok-Asm-clause-answers g c =
-    on_silent_line _ (call.asm _ _) _ _ _ _ (record { number = tt; line = c.in-Ok-Asm.ensures.command ∙ ap (λ x. Some (plain_line x)) c.in-Ok-Asm.field-0-is }) refl c.answer_asm.ensures.answers
+    on_silent_line _ (call.asm _ _) _ _ _ _ (record {
+      number = tt;
+      line = c.in-Ok-Asm.ensures.command
+          ∙ ap (λ x. Some (plain_line x)) c.in-Ok-Asm.field-0-is;
+    }) refl c.answer_asm.ensures.answers
 
 pub returns-in-Ok-Dis-clause-answers : goal.returns-in-Ok-Dis-clause-answers
 returns-in-Ok-Dis-clause-answers g c =
-    on_line _ (call.dis _) _ _ _ _ (record { number = tt; line = c.in-Ok-Dis.ensures.command ∙ ap (λ x. Some (plain_line x)) c.in-Ok-Dis.field-0-is }) c.answer_dis.ensures.answers
+    on_line _ (call.dis _) _ _ _ _ (record { number = tt; line = c.in-Ok-Dis.ensures.command ∙ ap (λ x. Some (plain_line x)) c.in-Ok-Dis.field-0-is })
+    c.answer_dis.ensures.answers
 
 pub returns-in-Ok-Gen-clause-answers : goal.returns-in-Ok-Gen-clause-answers
 returns-in-Ok-Gen-clause-answers g c =
@@ -37,15 +49,24 @@ returns-in-Ok-Gen-clause-answers g c =
 
 pub returns-in-Ok-Save-clause-answers : goal.returns-in-Ok-Save-clause-answers
 returns-in-Ok-Save-clause-answers g c =
-    on_line _ (call.save _ _ _) _ _ _ _ (record { number = tt; line = c.in-Ok-Save.ensures.command ∙ ap (λ x. Some (plain_line x)) c.in-Ok-Save.field-0-is }) c.answer_save.ensures.answers
+    on_line _ (call.save _ _ _) _ _ _ _ (record { number = tt; line = c.in-Ok-Save.ensures.command ∙ ap (λ x. Some (plain_line x)) c.in-Ok-Save.field-0-is })
+    c.answer_save.ensures.answers
 
 pub returns-in-Ok-Resume-clause-answers : goal.returns-in-Ok-Resume-clause-answers
 returns-in-Ok-Resume-clause-answers g c =
-    on_line _ (call.resume _ _ _) _ _ _ _ (record { number = tt; line = c.in-Ok-Resume.ensures.command ∙ ap (λ x. Some (plain_line x)) c.in-Ok-Resume.field-0-is }) c.answer_resume.ensures.answers
+    on_line _ (call.resume _ _ _) _ _ _ _ (record {
+      number = tt;
+      line = c.in-Ok-Resume.ensures.command
+          ∙ ap (λ x. Some (plain_line x)) c.in-Ok-Resume.field-0-is;
+    }) c.answer_resume.ensures.answers
 
 pub returns-in-Ok-Audit-clause-answers : goal.returns-in-Ok-Audit-clause-answers
 returns-in-Ok-Audit-clause-answers g c =
-    on_line _ (call.audit _ _ _) _ _ _ _ (record { number = tt; line = c.in-Ok-Audit.ensures.command ∙ ap (λ x. Some (plain_line x)) c.in-Ok-Audit.field-0-is }) c.answer_audit.ensures.answers
+    on_line _ (call.audit _ _ _) _ _ _ _ (record {
+      number = tt;
+      line = c.in-Ok-Audit.ensures.command
+          ∙ ap (λ x. Some (plain_line x)) c.in-Ok-Audit.field-0-is;
+    }) c.answer_audit.ensures.answers
 
 pub returns-in-Err-Usage-clause-answers : goal.returns-in-Err-Usage-clause-answers
 returns-in-Err-Usage-clause-answers g c = (

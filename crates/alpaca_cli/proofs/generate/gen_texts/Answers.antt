@@ -19,7 +19,8 @@ returns-in-Ok-write_lines-clause-whole g c =
     let built = c.in_ok-built.ensures.built in
     let product = generates _ _ _ _ _ _ _ _ _ c.in_ok-source.ensures.text c.requires.generated (ap (λ a. a.cycles) c.allow.ensures)
     c.in_ok-trace.ensures.trace c.in_ok-source.ensures.accepted built c.in_ok-built.ensures.told c.in_ok-trace.ensures.words (ran.outcome, ran.run) in
-    put_whole (λ output. output ≡ _) _ _ _ _ _ _ _ refl (λ output same. (product output (same ∙ lines_of_run _ _ _ _ _ _ _ ran), refl)) c.as_slice.ensures.value c.in_ok-put_file.ensures.put
+    put_whole (λ output. output ≡ _) _ _ _ _ _ _ _ refl (λ output same. (product output (same ∙ lines_of_run _ _ _ _ _ _ _ ran), refl))
+    c.as_slice.ensures.value c.in_ok-put_file.ensures.put
     (_, refl, c.in-Ok-write_lines.ensures.bytes.whole)
 
 pub returns-clause-failure : goal.returns-clause-failure

@@ -9,4 +9,5 @@ returns-in_err-first-clause-unread g c =
 pub returns-in_err-second-clause-unread : goal.returns-in_err-second-clause-unread
 returns-in_err-second-clause-unread g c =
     handed_on _ _ _ c.from_residual-in_err-second.ensures
-    (behind_unread _ _ _ _ _ _ _ _ _ c.in_ok-first.ensures.held c.in_ok-first.ensures.fits c.in_ok-first.ensures.counts c.in_ok-first.ensures.same c.in_err-second.ensures.unread)
+    (behind_unread _ _ _ _ _ _ _ _ _ c.in_ok-first.ensures.held c.in_ok-first.ensures.fits c.in_ok-first.ensures.counts c.in_ok-first.ensures.same
+    c.in_err-second.ensures.unread)

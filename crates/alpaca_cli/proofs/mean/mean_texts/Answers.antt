@@ -15,7 +15,9 @@ returns-in_err-trace-clause-failure g c =
     (λ shelf stands. refusal_fails _ _ _ _ _ 1 _ _ refl (λ r no. its_trace _ r c.in_ok-source.ensures.said no) stands refl c.in_err-trace.ensures.refused)
 
 pub returns-clause-whole : goal.returns-clause-whole
-returns-clause-whole g c = mean_whole _ _ _ _ _ _ _ _ _ c.in_ok-source.ensures.text c.in_ok-source.ensures.said c.in_ok-trace.ensures.said c.write_meaning.ensures.whole
+returns-clause-whole g c = mean_whole _ _ _ _ _ _ _ _ _ c.in_ok-source.ensures.text c.in_ok-source.ensures.said c.in_ok-trace.ensures.said
+    c.write_meaning.ensures.whole
 
 pub returns-clause-failure : goal.returns-clause-failure
-returns-clause-failure g c = mean_fails _ _ _ _ _ _ _ _ _ c.in_ok-source.ensures.text c.in_ok-source.ensures.said c.in_ok-trace.ensures.said c.write_meaning.ensures.failure
+returns-clause-failure g c = mean_fails _ _ _ _ _ _ _ _ _ c.in_ok-source.ensures.text c.in_ok-source.ensures.said c.in_ok-trace.ensures.said
+    c.write_meaning.ensures.failure

@@ -13,7 +13,8 @@ returns-in_err-image-clause-failure g c =
 pub returns-in_err-state-clause-failure : goal.returns-in_err-state-clause-failure
 returns-in_err-state-clause-failure g c =
     handed_on _ _ _ c.from_residual-in_err-state.ensures
-    (λ shelf stands. refusal_fails _ _ _ _ _ 1 _ _ refl (λ r no. the_resumed_state _ r c.in_ok-image.ensures.said no) stands refl c.in_err-state.ensures.refused)
+    (λ shelf stands. refusal_fails _ _ _ _ _ 1 _ _ refl (λ r no. the_resumed_state _ r c.in_ok-image.ensures.said no) stands refl
+    c.in_err-state.ensures.refused)
 
 pub returns-in_err-trace-clause-failure : goal.returns-in_err-trace-clause-failure
 returns-in_err-trace-clause-failure g c =

@@ -28,13 +28,15 @@ returns-in_err-put_file-in-Ok-clause-failure g c =
 pub returns-in-Ok-write_end-clause-whole : goal.returns-in-Ok-write_end-clause-whole
 returns-in-Ok-write_end-clause-whole g c =
     let ran = ran_on _ _ _ _ _ _ _ c.in_ok-state.ensures.said c.in_ok-trace.ensures.said c.in_ok-ran.ensures.ran in
-    put_whole (λ output. output ≡ _) _ _ _ _ _ _ _ refl (λ output line. saves_well _ _ _ _ _ ran _ _ output c.in-Ok.is (c.in_ok-text-in-Ok.ensures.text, c.in_ok-text-in-Ok.ensures.reads_back) line)
+    put_whole (λ output. output ≡ _) _ _ _ _ _ _ _ refl
+    (λ output line. saves_well _ _ _ _ _ ran _ _ output c.in-Ok.is (c.in_ok-text-in-Ok.ensures.text, c.in_ok-text-in-Ok.ensures.reads_back) line)
     c.as_slice.ensures.value c.in_ok-put_file-in-Ok.ensures.put (_, refl, c.in-Ok-write_end.ensures.bytes.whole)
 
 pub returns-in-Ok-clause-failure : goal.returns-in-Ok-clause-failure
 returns-in-Ok-clause-failure g c =
     let ran = ran_on _ _ _ _ _ _ _ c.in_ok-state.ensures.said c.in_ok-trace.ensures.said c.in_ok-ran.ensures.ran in
-    put_breaks (λ output. output ≡ _) _ _ _ _ _ _ _ refl (λ output line. saves_well _ _ _ _ _ ran _ _ output c.in-Ok.is (c.in_ok-text-in-Ok.ensures.text, c.in_ok-text-in-Ok.ensures.reads_back) line)
+    put_breaks (λ output. output ≡ _) _ _ _ _ _ _ _ refl
+    (λ output line. saves_well _ _ _ _ _ ran _ _ output c.in-Ok.is (c.in_ok-text-in-Ok.ensures.text, c.in_ok-text-in-Ok.ensures.reads_back) line)
     c.as_slice.ensures.value c.in_ok-put_file-in-Ok.ensures.put (_, refl, c.in-Err-write_end.ensures.bytes.part, c.in-Err-write_end.ensures.cause.failed)
 
 pub write_fault-requires : goal.write_fault-requires

@@ -6,6 +6,7 @@ use Rattle.asm_line.proofs.cuts.cut_line.Goals as goal
 
 pub returns : goal.returns
 returns c = record {
-  lines = ap (map bare) (cut_parts 10 (located c.args.text) _ _ c.cut_at.ensures.before c.cut_at.ensures.behind) ∙ ap (λ l. l ∷ lines_left (option_map located c.cut_at.result.1)) (sym c.bare.ensures);
+  lines = ap (map bare) (cut_parts 10 (located c.args.text) _ _ c.cut_at.ensures.before c.cut_at.ensures.behind)
+      ∙ ap (λ l. l ∷ lines_left (option_map located c.cut_at.result.1)) (sym c.bare.ensures);
   shorter = cut_shorter 10 (located c.args.text) _ c.cut_at.ensures.behind;
 }

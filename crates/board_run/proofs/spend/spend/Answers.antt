@@ -16,7 +16,8 @@ pub loop-rest-smaller : goal.loop-rest-smaller
 loop-rest-smaller g c = turn_less _ _ _ _ _ _ _ _ _ _ c.in-Left.is c.in_ok-rest.ensures.turn
 
 pub returns-in_err-rest-clause-spent : goal.returns-in_err-rest-clause-spent
-returns-in_err-rest-clause-spent g c = spends_stop_writing _ _ _ _ _ _ _ _ _ _ _ _ _ c.from_residual.ensures.0 c.loop-rest.invariant.on c.in_err-rest.ensures.turn
+returns-in_err-rest-clause-spent g c = spends_stop_writing _ _ _ _ _ _ _ _ _ _ _ _ _ c.from_residual.ensures.0 c.loop-rest.invariant.on
+    c.in_err-rest.ensures.turn
 
 pub returns-in-Spent-clause-spent : goal.returns-in-Spent-clause-spent
 returns-in-Spent-clause-spent g c = turn_spent _ _ _ _ _ _ _ _ _ _ _ _ _ c.in-Spent.is c.loop-rest.invariant.on c.in_ok-rest.ensures.turn

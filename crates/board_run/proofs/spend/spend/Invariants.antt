@@ -7,7 +7,8 @@ abbrev pub invariant-loop-rest : goal.invariant-loop-rest
 invariant-loop-rest g l = record {
   same : l.report.sink.ghost_name ≡ l.fn.report.sink.ghost_name;
   count : g.S.Sink.faults l.fn.report.sink.now ≤ g.S.Sink.faults l.report.sink.now;
-  on : SpendsOn l.fn.watch (measure_of l.kind) l.amount l.fn.board (g.S.Sink.contents l.fn.report.sink.now) l.left l.board (g.S.Sink.contents l.report.sink.now) l.watch;
+  on : SpendsOn l.fn.watch (measure_of l.kind) l.amount l.fn.board (g.S.Sink.contents l.fn.report.sink.now) l.left l.board
+      (g.S.Sink.contents l.report.sink.now) l.watch;
 }
 
 abbrev pub decreases-loop-rest : goal.decreases-loop-rest

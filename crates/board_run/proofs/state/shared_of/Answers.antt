@@ -11,5 +11,6 @@ loop-place-init c =
       variables = start.0;
       index = start.1;
       made = ap (λ x. x ++ values_in c.args.image.now.words (words_left c.variables-rest.result.now 0)) c.new-shared.ensures.items
-          ∙ ap (λ vs. values_in c.args.image.now.words (words_left vs 0)) c.variables-rest.ensures ∙ ap (values_in c.args.image.now.words) (all_left c.args.map.now.variables);
+          ∙ ap (λ vs. values_in c.args.image.now.words (words_left vs 0)) c.variables-rest.ensures
+          ∙ ap (values_in c.args.image.now.words) (all_left c.args.map.now.variables);
     }

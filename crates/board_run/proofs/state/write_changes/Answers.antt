@@ -18,7 +18,9 @@ loop-place-init g c =
 
 pub returns-in_err-write_word-clause-bytes : goal.returns-in_err-write_word-clause-bytes
 returns-in_err-write_word-clause-bytes g c = progress_err _ _ _ _ _ _ _ c.from_residual.ensures.0
-    (next_lines _ _ _ _ _ (lines_of_next _ _ _ _ _ _ _ _ _ _ c.loop-place.invariant.kept c.in-Some.ensures.cut c.word-now.ensures (read_old _ _ _ _ _ _ _ _ _ c.loop-place.invariant.kept c.in-Some.ensures.cut c.index.ensures)) c.loop-place.invariant.lines) c.in_err-write_word.ensures.bytes.part
+    (next_lines _ _ _ _ _ (lines_of_next _ _ _ _ _ _ _ _ _ _ c.loop-place.invariant.kept c.in-Some.ensures.cut c.word-now.ensures
+    (read_old _ _ _ _ _ _ _ _ _ c.loop-place.invariant.kept c.in-Some.ensures.cut c.index.ensures)) c.loop-place.invariant.lines)
+    c.in_err-write_word.ensures.bytes.part
 
 pub loop-place-preserved : goal.loop-place-preserved
 loop-place-preserved g c = record {
@@ -28,6 +30,8 @@ loop-place-preserved g c = record {
   index = c.in-Some.ensures.next.1;
   kept = kept_next _ _ _ _ _ _ _ _ _ c.loop-place.invariant.kept c.in-Some.ensures.cut c.word-now.ensures;
   len = c.loop-place.invariant.len;
-  lines = progress_step _ _ _ _ _ _ (next_lines _ _ _ _ _ (lines_of_next _ _ _ _ _ _ _ _ _ _ c.loop-place.invariant.kept c.in-Some.ensures.cut c.word-now.ensures (read_old _ _ _ _ _ _ _ _ _ c.loop-place.invariant.kept c.in-Some.ensures.cut c.index.ensures)) c.loop-place.invariant.lines)
+  lines = progress_step _ _ _ _ _ _ (next_lines _ _ _ _ _
+      (lines_of_next _ _ _ _ _ _ _ _ _ _ c.loop-place.invariant.kept c.in-Some.ensures.cut c.word-now.ensures
+      (read_old _ _ _ _ _ _ _ _ _ c.loop-place.invariant.kept c.in-Some.ensures.cut c.index.ensures)) c.loop-place.invariant.lines)
       c.in_ok-write_word.ensures.bytes.whole;
 }

@@ -15,7 +15,8 @@ invariant-loop-place g l = record {
   kept : Kept (shared_words l.map.variables) (words_left l.rest l.i) l.board.fram l.fn.shared.items l.shared.items l.k;
   len : vec_len l.shared ≡ vec_len l.fn.shared;
   lines : Progress (g.S.Sink.contents l.fn.report.sink.now) (g.S.Sink.contents l.report.sink.now)
-      (changed_lines (words_left l.rest l.i) (drop l.k l.fn.shared.items) l.board.fram) (changed_lines (shared_words l.map.variables) l.fn.shared.items l.board.fram);
+      (changed_lines (words_left l.rest l.i) (drop l.k l.fn.shared.items) l.board.fram)
+      (changed_lines (shared_words l.map.variables) l.fn.shared.items l.board.fram);
 }
 
 abbrev pub decreases-loop-place : goal.decreases-loop-place

@@ -11,5 +11,6 @@ pub loop-w-preserved : goal.loop-w-preserved
 loop-w-preserved g c = record {
   same = c.in_ok-accepted.ensures.same_sink ∙ c.loop-w.invariant.same;
   count = omega (arith, c.in_ok-accepted.ensures.cause.later, c.loop-w.invariant.count);
-  lines = progress_step _ _ _ _ _ _ (next_lines _ _ _ _ _ (words_next c.args.words.now c.loop-w.w-index c.loop-w-test.true) c.loop-w.invariant.lines) c.in_ok-accepted.ensures.bytes.whole;
+  lines = progress_step _ _ _ _ _ _ (next_lines _ _ _ _ _ (words_next c.args.words.now c.loop-w.w-index c.loop-w-test.true) c.loop-w.invariant.lines)
+      c.in_ok-accepted.ensures.bytes.whole;
 }

@@ -7,5 +7,6 @@ abbrev pub invariant-loop-w : goal.invariant-loop-w
 invariant-loop-w g l = record {
   same : l.report.sink.ghost_name ≡ l.fn.report.sink.ghost_name;
   count : g.S.Sink.faults l.fn.report.sink.now ≤ g.S.Sink.faults l.report.sink.now;
-  lines : Progress (g.S.Sink.contents l.fn.report.sink.now) (g.S.Sink.contents l.report.sink.now) (flat_map accepted_line (drop l.w-index l.words)) (flat_map accepted_line l.words);
+  lines : Progress (g.S.Sink.contents l.fn.report.sink.now) (g.S.Sink.contents l.report.sink.now) (flat_map accepted_line (drop l.w-index l.words))
+      (flat_map accepted_line l.words);
 }

@@ -9,5 +9,6 @@ invariant-loop-charge g l = record {
   same : l.report.sink.ghost_name ≡ l.fn.report.sink.ghost_name;
   count : g.S.Sink.faults l.fn.report.sink.now ≤ g.S.Sink.faults l.report.sink.now;
   on : SpendsFor l.fn.watch (charges_of l.charges) l.fn.board (g.S.Sink.contents l.fn.report.sink.now) (4294967295 * charge_count l.charges)
-      (charges_of (drop l.charge-index l.charges)) l.board (g.S.Sink.contents l.report.sink.now) l.watch (4294967295 * charge_count (drop l.charge-index l.charges));
+      (charges_of (drop l.charge-index l.charges)) l.board (g.S.Sink.contents l.report.sink.now) l.watch
+      (4294967295 * charge_count (drop l.charge-index l.charges));
 }

@@ -5,4 +5,5 @@ use Rattle.boot_runtime.specs.Listing.{stubs}
 use Rattle.boot_runtime.proofs.stubs.push_stubs.Given as goal
 
 abbrev pub invariant-loop-task : goal.invariant-loop-task
-invariant-loop-task l = l.code.items ++ instructions (stubs (map entry_of (drop l.task-index l.tasks))) ≡ l.fn.code.items ++ instructions (stubs (map entry_of l.fn.tasks))
+invariant-loop-task l = l.code.items ++ instructions (stubs (map entry_of (drop l.task-index l.tasks))) ≡ l.fn.code.items
+    ++ instructions (stubs (map entry_of l.fn.tasks))

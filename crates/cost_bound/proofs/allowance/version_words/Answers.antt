@@ -6,5 +6,6 @@ use Rattle.cost_bound.proofs.allowance.version_words.Goals as goal
 
 pub returns-clause-value : goal.returns-clause-value
 returns-clause-value c =
-    written_sum version_part c.args.source.now.shared.items c.deref.result.now c.args.written.now (is_written (map task_of c.args.source.now.tasks.items)) c.versions.result
+    written_sum version_part c.args.source.now.shared.items c.deref.result.now c.args.written.now (is_written (map task_of c.args.source.now.tasks.items))
+    c.versions.result
     c.requires.few c.deref.ensures.value c.requires.written c.versions.ensures.value

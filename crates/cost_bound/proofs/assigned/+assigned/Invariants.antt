@@ -11,4 +11,6 @@ abbrev pub invariant-mark_assigned-loop-i : goal.invariant-mark_assigned-loop-i
 invariant-mark_assigned-loop-i l = AreMarked l.fn.marks l.marks (λ k. block_assigns k (block_view (drop l.i l.body)))
 
 abbrev pub invariant-mark_arms-loop-i : goal.invariant-mark_arms-loop-i
-invariant-mark_arms-loop-i l = (start : List Bool) (last : Option (Block VariableName TaskName)) → AreMarked start l.fn.marks (λ k. choice_assigns k (choice_of [] last)) → AreMarked start l.marks (λ k. choice_assigns k (choice_of (map tested_of (drop l.i l.arms)) last))
+invariant-mark_arms-loop-i l = (start : List Bool) (last : Option (Block VariableName TaskName))
+    → AreMarked start l.fn.marks (λ k. choice_assigns k (choice_of [] last))
+    → AreMarked start l.marks (λ k. choice_assigns k (choice_of (map tested_of (drop l.i l.arms)) last))

@@ -10,4 +10,5 @@ abbrev pub invariant-block_price-loop-i : goal.invariant-block_price-loop-i
 invariant-block_price-loop-i l = l.n ≡ capped (block_price l.column (block_view (drop l.i l.body)))
 
 abbrev pub invariant-blocks_price-loop-i : goal.invariant-blocks_price-loop-i
-invariant-blocks_price-loop-i l = (b : Option (Block VariableName TaskName)) → l.fn.last ≡ capped (blocks_price l.column (choice_of [] b)) → l.n ≡ capped (blocks_price l.column (choice_of (map tested_of (drop l.i l.arms)) b))
+invariant-blocks_price-loop-i l = (b : Option (Block VariableName TaskName)) → l.fn.last ≡ capped (blocks_price l.column (choice_of [] b))
+    → l.n ≡ capped (blocks_price l.column (choice_of (map tested_of (drop l.i l.arms)) b))

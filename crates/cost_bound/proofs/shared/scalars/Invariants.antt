@@ -7,4 +7,5 @@ pub record Counted (n i all sum : ℕ) : Type 0 where
   pub low : n + i ≤ all
 
 abbrev pub invariant-loop-i : goal.invariant-loop-i
-invariant-loop-i l = Counted l.n l.i (length l.shared) (shared_sum_from (λ k extent. scalar_part (slice_index_or l.assigned k false) extent) l.i (drop l.i l.shared))
+invariant-loop-i l = Counted l.n l.i (length l.shared)
+    (shared_sum_from (λ k extent. scalar_part (slice_index_or l.assigned k false) extent) l.i (drop l.i l.shared))

@@ -12,7 +12,8 @@ count_in_choice-loop-i-preserved t c = λ b h.
 
 pub count_in_choice-returns : goal.count_in_choice-returns
 count_in_choice-returns t c = λ b h.
-    choice_added c.args.arms.now c.loop-i.i b c.args.counts.now c.loop-i.greatest c.add_turns.new.counts c.loop-i-test.false (c.loop-i.invariant b h) c.add_turns.ensures
+    choice_added c.args.arms.now c.loop-i.i b c.args.counts.now c.loop-i.greatest c.add_turns.new.counts c.loop-i-test.false (c.loop-i.invariant b h)
+    c.add_turns.ensures
 
 pub count_in_statement-returns-in-None : goal.count_in_statement-returns-in-None
 count_in_statement-returns-in-None t c =

@@ -11,4 +11,5 @@ abbrev pub invariant-store_counts-loop-i : goal.invariant-store_counts-loop-i
 invariant-store_counts-loop-i l = AreCapped l.counts (λ k. block_count (is_store_to k) (block_view (drop l.i l.body)))
 
 abbrev pub invariant-count_in_choice-loop-i : goal.invariant-count_in_choice-loop-i
-invariant-count_in_choice-loop-i l = (b : Option (Block VariableName TaskName)) → AreCapped l.fn.last (λ k. choice_count (is_store_to k) (choice_of [] b)) → AreCapped l.greatest (λ k. choice_count (is_store_to k) (choice_of (map tested_of (drop l.i l.arms)) b))
+invariant-count_in_choice-loop-i l = (b : Option (Block VariableName TaskName)) → AreCapped l.fn.last (λ k. choice_count (is_store_to k) (choice_of [] b))
+    → AreCapped l.greatest (λ k. choice_count (is_store_to k) (choice_of (map tested_of (drop l.i l.arms)) b))

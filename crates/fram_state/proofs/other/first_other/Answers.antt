@@ -2,7 +2,8 @@ use Rattle.std.proofs.Common.{◌≡◌, ◌<◌, ℕ, ◌+◌, ◌*◌, length,
 use Rattle.fram_state.specs.OtherImage.{first_other}
 use Rattle.fram_state.proofs.Others.{same_passed, named_passed}
 use Rattle.fram_state.proofs.other.first_other.Goals as goal
-use Rattle.fram_state.proofs.other.first_other.Goals.{then-address-named+then-image-i+in-Some, else-address-named, else-address-named-via-then-address-named+else-image-i, else-address-named-via-else-address-named}
+use Rattle.fram_state.proofs.other.first_other.Goals.{then-address-named+then-image-i+in-Some, else-address-named}
+use Rattle.fram_state.proofs.other.first_other.Goals.{else-address-named-via-then-address-named+else-image-i, else-address-named-via-else-address-named}
 
 pub loop-i-preserved : goal.loop-i-preserved
 loop-i-preserved c =

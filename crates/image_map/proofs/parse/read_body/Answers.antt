@@ -9,7 +9,8 @@ returns-in_err-goes_on-clause-value c =
     rw (p.1, p.2, ← c.loop-line.invariant.left) (body_fault _ _ _ _ _ _ c.in-Some.ensures.cut.0 c.in_err-goes_on.ensures.value)
 
 pub returns-then-not-goes_on-clause-value : goal.returns-then-not-goes_on-clause-value
-returns-then-not-goes_on-clause-value c = sym c.loop-line.invariant.left ∙ body_done _ _ _ _ _ _ _ c.in-Some.ensures.cut.0 c.in_ok-goes_on.ensures.value c.if-not-goes_on.true
+returns-then-not-goes_on-clause-value c = sym c.loop-line.invariant.left ∙ body_done _ _ _ _ _ _ _ c.in-Some.ensures.cut.0 c.in_ok-goes_on.ensures.value
+    c.if-not-goes_on.true
 
 pub loop-line-preserved : goal.loop-line-preserved
 loop-line-preserved c = record {

@@ -3,4 +3,5 @@ use Rattle.image_map.proofs.Printed.{line_written}
 use Rattle.image_map.proofs.print.push_line.Goals as goal
 
 pub returns : goal.returns
-returns c = line_written c.args.first.now (map (λ f. f.now) c.args.fields.now) c.args.out.now.items _ _ _ c.in_ok-extend_from_slice.ensures.items c.in_ok-push_tail.ensures c.in_ok-push.ensures.items
+returns c = line_written c.args.first.now (map (λ f. f.now) c.args.fields.now) c.args.out.now.items _ _ _ c.in_ok-extend_from_slice.ensures.items
+    c.in_ok-push_tail.ensures c.in_ok-push.ensures.items

@@ -20,4 +20,5 @@ pub returns-clause-reads_back : goal.returns-clause-reads_back
 returns-clause-reads_back c = λ some.
     let P : List Variable → Type 0 = λ vs. All (λ v. is_name v.name ≡ true) vs in
     let Q : List TaskValue → Type 0 = λ ts. All AreTaskNames ts in
-    reads_back c.args.map.now c.rules.ensures (subst P c.variables.ensures c.in_ok-push_variables.ensures.names) (subst Q c.tasks.ensures c.in_ok-push_tasks.ensures.names) some
+    reads_back c.args.map.now c.rules.ensures (subst P c.variables.ensures c.in_ok-push_variables.ensures.names)
+    (subst Q c.tasks.ensures c.in_ok-push_tasks.ensures.names) some

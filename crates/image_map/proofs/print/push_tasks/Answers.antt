@@ -8,11 +8,14 @@ use Rattle.image_map.proofs.print.push_tasks.Goals as goal
 
 pub loop-task-preserved : goal.loop-task-preserved
 loop-task-preserved c = record {
-  text = task_written c.args.tasks.now _ c.loop-task.task-index _ _ c.loop-task-test.true c.task-item.is c.in_ok-push_task.ensures.text ∙ c.loop-task.invariant.text;
-  names = one_more AreTaskNames c.args.tasks.now c.task-item.result c.loop-task.task-index c.loop-task-test.true c.task-item.is c.in_ok-push_task.ensures.names c.loop-task.invariant.names;
+  text = task_written c.args.tasks.now _ c.loop-task.task-index _ _ c.loop-task-test.true c.task-item.is c.in_ok-push_task.ensures.text
+      ∙ c.loop-task.invariant.text;
+  names = one_more AreTaskNames c.args.tasks.now c.task-item.result c.loop-task.task-index c.loop-task-test.true c.task-item.is
+      c.in_ok-push_task.ensures.names c.loop-task.invariant.names;
 }
 
 pub returns-clause-text : goal.returns-clause-text
 returns-clause-text c =
-    sym (ap (λ ts. c.loop-task.out.items ++ printed (tasks_fields ts)) (drop_of_length-le c.args.tasks.now c.loop-task-test.false) ∙ no_tasks_written c.loop-task.out.items)
+    sym (ap (λ ts. c.loop-task.out.items ++ printed (tasks_fields ts)) (drop_of_length-le c.args.tasks.now c.loop-task-test.false)
+    ∙ no_tasks_written c.loop-task.out.items)
     ∙ c.loop-task.invariant.text

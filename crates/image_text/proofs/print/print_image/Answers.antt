@@ -16,7 +16,8 @@ returns c =
     let back = subst P c.map.ensures.value c.in_ok-push_map_part.ensures.reads_back in
     record {
       text = text;
-      reads_back = printed_back c.args.image.now.words _ _ c.args.image.now.map c.words.ensures.value c.words.ensures.len c.in_ok-push_sections.ensures.ranges back text;
+      reads_back = printed_back c.args.image.now.words _ _ c.args.image.now.map c.words.ensures.value c.words.ensures.len
+          c.in_ok-push_sections.ensures.ranges back text;
       sections = sections_made 0 c.args.image.now.words;
     }
 

@@ -15,7 +15,8 @@ push_part-requires-2 c =
     let l = c.args.layout.now in
     let ps = map program_of c.args.programs.now in
     let start : c.boot-start.result.address ≡ l.boot.address = ap (λ r. r.address) c.boot-start.ensures in
-    let boot = after_boot l ps c.requires.fits c.boot-start.result.address c.new-words.result.items c.push_part.new.words.items c.as_slice.result.now start c.new-words.ensures.items
+    let boot = after_boot l ps c.requires.fits c.boot-start.result.address c.new-words.result.items c.push_part.new.words.items c.as_slice.result.now start
+    c.new-words.ensures.items
     (c.as_slice.ensures.value ∙ c.in_ok-boot.ensures
     ∙ ap (λ a. instructions (boot_forms l l.commit.address (task_entries l) a)) start) c.in_ok-push_part.ensures in
     let at : c.commit.result.address ≡ l.commit.address = ap (λ r. r.address) c.commit.ensures in
@@ -32,10 +33,12 @@ push_tasks-requires-clause-order c =
     let l = c.args.layout.now in
     let ps = map program_of c.args.programs.now in
     let start : c.boot-start.result.address ≡ l.boot.address = ap (λ r. r.address) c.boot-start.ensures in
-    let boot = after_boot l ps c.requires.fits c.boot-start.result.address c.new-words.result.items c.push_part.new.words.items c.as_slice.result.now start c.new-words.ensures.items
+    let boot = after_boot l ps c.requires.fits c.boot-start.result.address c.new-words.result.items c.push_part.new.words.items c.as_slice.result.now start
+    c.new-words.ensures.items
     (c.as_slice.ensures.value ∙ c.in_ok-boot.ensures
     ∙ ap (λ a. instructions (boot_forms l l.commit.address (task_entries l) a)) start) c.in_ok-push_part.ensures in
-    let commit = after_commit l ps c.requires.fits c.boot-start.result.address c.commit.result.address c.push_part.new.words.items c.push_part-2.new.words.items c.as_slice-2.result.now
+    let commit = after_commit l ps c.requires.fits c.boot-start.result.address c.commit.result.address c.push_part.new.words.items
+    c.push_part-2.new.words.items c.as_slice-2.result.now
     start (ap (λ r. r.address) c.commit.ensures) (c.as_slice-2.ensures.value ∙ c.in_ok-commit.ensures) boot c.in_ok-push_part-2.ensures in
     subst (λ ts. PartsInOrder (c.boot-start.result.address + 2 * length c.push_part-2.new.words.items) (task_parts ts ps) reset_vector) (sym c.tasks.ensures)
     (tasks_behind l ps c.requires.fits c.boot-start.result.address c.push_part-2.new.words.items commit)
@@ -45,11 +48,14 @@ returns c =
     let l = c.args.layout.now in
     let ps = map program_of c.args.programs.now in
     let start : c.boot-start.result.address ≡ l.boot.address = ap (λ r. r.address) c.boot-start.ensures in
-    let boot = after_boot l ps c.requires.fits c.boot-start.result.address c.new-words.result.items c.push_part.new.words.items c.as_slice.result.now start c.new-words.ensures.items
+    let boot = after_boot l ps c.requires.fits c.boot-start.result.address c.new-words.result.items c.push_part.new.words.items c.as_slice.result.now start
+    c.new-words.ensures.items
     (c.as_slice.ensures.value ∙ c.in_ok-boot.ensures
     ∙ ap (λ a. instructions (boot_forms l l.commit.address (task_entries l) a)) start) c.in_ok-push_part.ensures in
-    let commit = after_commit l ps c.requires.fits c.boot-start.result.address c.commit.result.address c.push_part.new.words.items c.push_part-2.new.words.items c.as_slice-2.result.now
+    let commit = after_commit l ps c.requires.fits c.boot-start.result.address c.commit.result.address c.push_part.new.words.items
+    c.push_part-2.new.words.items c.as_slice-2.result.now
     start (ap (λ r. r.address) c.commit.ensures) (c.as_slice-2.ensures.value ∙ c.in_ok-commit.ensures) boot c.in_ok-push_part-2.ensures in
     c.in_ok-push_tasks.ensures
-    ∙ ap (λ ts. c.push_part-2.new.words.items ++ words_in (chained (c.boot-start.result.address + 2 * length c.push_part-2.new.words.items) (task_parts ts ps))) c.tasks.ensures
+    ∙ ap (λ ts. c.push_part-2.new.words.items ++ words_in
+    (chained (c.boot-start.result.address + 2 * length c.push_part-2.new.words.items) (task_parts ts ps))) c.tasks.ensures
     ∙ commit.rest

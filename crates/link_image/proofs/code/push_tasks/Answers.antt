@@ -9,12 +9,14 @@ use Rattle.link_image.proofs.code.push_tasks.Goals as goal
 pub push_task-requires-clause-order : goal.push_task-requires-clause-order
 push_task-requires-clause-order c =
     let at = c.args.start + 2 * length c.loop-k.words.items in
-    let order = next_order c.args.tasks.now c.args.programs.now at c.loop-k.k c.index-tasks-k.result c.index-programs-k.result c.loop-k-test.true c.requires.count c.index-tasks-k.is c.index-programs-k.is c.loop-k.invariant.order in
+    let order = next_order c.args.tasks.now c.args.programs.now at c.loop-k.k c.index-tasks-k.result c.index-programs-k.result c.loop-k-test.true
+    c.requires.count c.index-tasks-k.is c.index-programs-k.is c.loop-k.invariant.order in
     (order.0, order_end _ reset_vector _ order.1)
 
 pub push_task-requires-clause-whole : goal.push_task-requires-clause-whole
 push_task-requires-clause-whole c =
-    (next_whole c.args.programs.now c.loop-k.k c.index-programs-k.result (omega (arith, c.loop-k-test.true, c.requires.count)) c.index-programs-k.is c.loop-k.invariant.whole).0
+    (next_whole c.args.programs.now c.loop-k.k c.index-programs-k.result (omega (arith, c.loop-k-test.true, c.requires.count)) c.index-programs-k.is
+    c.loop-k.invariant.whole).0
 
 pub loop-k-preserved : goal.loop-k-preserved
 loop-k-preserved c =

@@ -14,7 +14,8 @@ invariant-loop-k l =
     let at = l.start + 2 * length l.words.items in
     record {
       made : l.words.items ++ words_of (instructions (chained at left))
-          ≡ l.fn.words.items ++ words_of (instructions (chained (l.fn.start + 2 * length l.fn.words.items) (task_parts l.fn.tasks (map program_of l.fn.programs))));
+          ≡ l.fn.words.items ++ words_of (instructions
+          (chained (l.fn.start + 2 * length l.fn.words.items) (task_parts l.fn.tasks (map program_of l.fn.programs))));
       order : PartsInOrder at left reset_vector;
       whole : All IsWhole (map program_of (drop l.k l.programs));
     }

@@ -14,13 +14,15 @@ loop-i-init c =
     let n = length ds in
     let count = same_length ds vs c.requires.places in
     record {
-      each = λ a is. blank_at c.args.image.now.words a c.requires.blank ∙ sym (at_drop_all (λ xs. shared_word xs (rows_of (drop n ds)) a) vs n (omega (arith, count)));
+      each = λ a is. blank_at c.args.image.now.words a c.requires.blank
+          ∙ sym (at_drop_all (λ xs. shared_word xs (rows_of (drop n ds)) a) vs n (omega (arith, count)));
       are_words = λ h. h;
       same_map = refl;
     }
 
 pub bounds-variables-i : goal.bounds-variables-i
-bounds-variables-i c = let count = same_length c.args.shared.now c.args.variables.now c.requires.places in omega (arith, count, c.loop-i-test.true, c.loop-i.auto.i)
+bounds-variables-i c = let count = same_length c.args.shared.now c.args.variables.now c.requires.places in
+    omega (arith, count, c.loop-i-test.true, c.loop-i.auto.i)
 
 pub put_initial-requires-clause-even : goal.put_initial-requires-clause-even
 put_initial-requires-clause-even c =

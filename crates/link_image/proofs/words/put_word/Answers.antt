@@ -13,4 +13,5 @@ returns-clause-each c = λ a is. ap (λ i. fram_of i.words a) c.set.ensures
 
 pub returns-clause-are_words : goal.returns-clause-are_words
 returns-clause-are_words c = λ h.
-    subst (λ i. AreWords i.words) (sym c.set.ensures) (All-set (λ w. w < 0x10000) c.args.image.now.words (place_of c.args.at) c.args.word (omega (arith, c.ranges.word.fits)) h)
+    subst (λ i. AreWords i.words) (sym c.set.ensures)
+    (All-set (λ w. w < 0x10000) c.args.image.now.words (place_of c.args.at) c.args.word (omega (arith, c.ranges.word.fits)) h)

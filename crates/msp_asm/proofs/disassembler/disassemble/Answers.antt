@@ -5,7 +5,8 @@ use Rattle.msp_asm.proofs.disassembler.disassemble.Goals as goal
 
 pub returns-in_err-write_section-clause-part : goal.returns-in_err-write_section-clause-part
 returns-in_err-write_section-clause-part g c = on_err _ c.from_residual.result
-    (section_cut _ (record { place = c.in-Some.at; words = c.in-Some.section.now }) _ _ _ _ _ c.loop-at.invariant.bytes c.in-Some.ensures.cut c.in_err-write_section.ensures.part)
+    (section_cut _ (record { place = c.in-Some.at; words = c.in-Some.section.now }) _ _ _ _ _ c.loop-at.invariant.bytes c.in-Some.ensures.cut
+    c.in_err-write_section.ensures.part)
 
 pub loop-at-preserved : goal.loop-at-preserved
 loop-at-preserved g c =
@@ -21,7 +22,9 @@ pub returns-clause-whole : goal.returns-clause-whole
 returns-clause-whole g c = listed_end _ _ _ _ c.loop-at.invariant.bytes (no_sections _ c.in_default.ensures.cut)
 
 pub returns-in_err-write_section-clause-assembles : goal.returns-in_err-write_section-clause-assembles
-returns-in_err-write_section-clause-assembles g c = λ text. text_assembles c.args.image.now.words c.words-words.result.now text c.words-words.ensures.value c.words-words.ensures.len c.are_words.ensures
+returns-in_err-write_section-clause-assembles g c =
+    λ text. text_assembles c.args.image.now.words c.words-words.result.now text c.words-words.ensures.value c.words-words.ensures.len c.are_words.ensures
 
 pub returns-clause-assembles : goal.returns-clause-assembles
-returns-clause-assembles g c = λ text. text_assembles c.args.image.now.words c.words-words.result.now text c.words-words.ensures.value c.words-words.ensures.len c.are_words.ensures
+returns-clause-assembles g c = λ text. text_assembles c.args.image.now.words c.words-words.result.now text c.words-words.ensures.value
+    c.words-words.ensures.len c.are_words.ensures

@@ -12,7 +12,8 @@ returns-in_default-line_of c = sym (rw c.in-Some.is at c.loop-left.invariant.res
 pub loop-left-preserved : goal.loop-left-preserved
 loop-left-preserved c = record {
   number = (let n = rw c.in-Some.is at c.loop-left.invariant.number in omega (arith, n, c.cut_line.ensures.shorter));
-  rest = labels_next (label_at c.loop-left.labels) _ c.loop-left.n c.loop-left.address _ _ _ _ _ c.cut_line.ensures.lines c.in-Some-line_of.ensures c.in_ok-note.ensures c.after-address.ensures
+  rest = labels_next (label_at c.loop-left.labels) _ c.loop-left.n c.loop-left.address _ _ _ _ _ c.cut_line.ensures.lines c.in-Some-line_of.ensures
+      c.in_ok-note.ensures c.after-address.ensures
       ∙ (rw c.in-Some.is at c.loop-left.invariant.rest);
 }
 

@@ -8,7 +8,8 @@ use Rattle.msp_asm.proofs.passes.labels_of.Given as goal
 abbrev pub invariant-loop-left : goal.invariant-loop-left
 invariant-loop-left l = record {
   number : l.n + left_len (option_map located l.left) ≤ length (located l.text).text + 2;
-  rest : labels_of (label_at l.labels) l.n l.address (lines_left (option_map located l.left)) ≡ labels_of no_labels 1 0x4400 (lines_left (Some (located l.text)));
+  rest : labels_of (label_at l.labels) l.n l.address (lines_left (option_map located l.left))
+      ≡ labels_of no_labels 1 0x4400 (lines_left (Some (located l.text)));
 }
 
 abbrev pub decreases-loop-left : goal.decreases-loop-left

@@ -9,5 +9,6 @@ returns-in-Err-clause-reads g c =
 
 pub returns-in-Err-clause-memory : goal.returns-in-Err-clause-memory
 returns-in-Err-clause-memory g c =
-    let read = faulted_after_reads g.B.Bus.model c.args.instruction.now (registers_of c.args.cpu.now) c.args.bus.now c.perform.new.bus _ _ (sym c.in-Err.ensures) in
+    let read = faulted_after_reads g.B.Bus.model c.args.instruction.now (registers_of c.args.cpu.now) c.args.bus.now c.perform.new.bus _ _
+    (sym c.in-Err.ensures) in
     reads_keep g.B.Bus.model g.met.B.Bus.reads_keep_memory c.args.bus.now c.perform.new.bus read.count read.reads

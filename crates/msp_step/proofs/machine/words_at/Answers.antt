@@ -21,7 +21,8 @@ returns-in_err-third-clause-none g c =
     let long = ltb-true 2 c.in-Ok.count h.0 in
     let longer = longer_by 2 c.in_ok-first.first c.in-Ok.count w.found (have_words c.in_ok-first.first c.in-Ok.count w.only) long in
     let second = c.in_ok-second.ensures.found (lt-ltb 1 c.in-Ok.count (omega arith)) in
-    let t = third_missing g.B.Bus.model c.args.bus.now c.args.pc c.in_ok-first.first c.in_ok-second.second _ longer c.in_ok-first.ensures.found second (h.1, h.2) in search rules
+    let t = third_missing g.B.Bus.model c.args.bus.now c.args.pc c.in_ok-first.first c.in_ok-second.second _ longer c.in_ok-first.ensures.found second
+    (h.1, h.2) in search rules
 
 pub returns-clause-found : goal.returns-clause-found
 returns-clause-found g c =

@@ -6,7 +6,8 @@ use Rattle.path_checks.proofs.loops.first_bad_loop.Goals as goal
 
 pub loop-i-preserved : goal.loop-i-preserved
 loop-i-preserved c =
-    first_task (λ t. BadLoopIn t.body) c.args.source.now.tasks.items c.loop-i.i c.index.result.now _ _ _ c.loop-i-test.true (omega arith) c.index.ensures c.first_of-first.ensures
+    first_task (λ t. BadLoopIn t.body) c.args.source.now.tasks.items c.loop-i.i c.index.result.now _ _ _ c.loop-i-test.true (omega arith) c.index.ensures
+    c.first_of-first.ensures
     (found_is _ _ _ c.bad_in_block.ensures c.deref.ensures.value) c.loop-i.invariant
 
 pub returns : goal.returns

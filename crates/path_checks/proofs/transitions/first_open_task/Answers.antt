@@ -5,7 +5,8 @@ use Rattle.path_checks.proofs.transitions.first_open_task.Goals as goal
 
 pub loop-i-preserved : goal.loop-i-preserved
 loop-i-preserved c =
-    first_task OpenAt c.args.source.now.tasks.items c.loop-i.i c.index.result.now _ _ _ c.loop-i-test.true (omega arith) c.index.ensures c.first_of-first.ensures
+    first_task OpenAt c.args.source.now.tasks.items c.loop-i.i c.index.result.now _ _ _ c.loop-i-test.true (omega arith) c.index.ensures
+    c.first_of-first.ensures
     c.open_name.ensures c.loop-i.invariant
 
 pub returns : goal.returns

@@ -19,10 +19,14 @@ walk_turns-returns-then-turns-eq0 t c = no_turn c.args.base c.args.turns c.args.
 
 pub walk_turns-returns-then-turns-eq1 : goal.walk_turns-returns-then-turns-eq1
 walk_turns-returns-then-turns-eq1 t c = elim c.then-turns-eq1.branch [
-  | walk_turns-then-turns-eq1-via-then-turns-eq1 w ↦ one_turn c.args.base c.args.turns c.args.s c.args.name.now (block_view c.args.body.now) _ _ _ _ c.fresh.ensures c.walk_block.ensures c.written-turn.ensures c.after-once.ensures w.if-turns-eq1.true
-  | walk_turns-then-turns-eq1-via-else-turns-eq1+then-settled w ↦ settled_turn c.args.base c.args.turns c.args.s c.args.name.now (block_view c.args.body.now) _ _ _ _ c.fresh.ensures c.walk_block.ensures c.written-turn.ensures c.after-once.ensures c.if-turns-eq0.false (sym w.settled.ensures ∙ w.if-settled.true)
+  | walk_turns-then-turns-eq1-via-then-turns-eq1 w ↦ one_turn c.args.base c.args.turns c.args.s c.args.name.now (block_view c.args.body.now) _ _ _ _
+      c.fresh.ensures c.walk_block.ensures c.written-turn.ensures c.after-once.ensures w.if-turns-eq1.true
+  | walk_turns-then-turns-eq1-via-else-turns-eq1+then-settled w ↦ settled_turn c.args.base c.args.turns c.args.s c.args.name.now (block_view c.args.body.now)
+      _ _ _ _ c.fresh.ensures c.walk_block.ensures c.written-turn.ensures c.after-once.ensures c.if-turns-eq0.false (sym w.settled.ensures ∙ w.if-settled.true)
 ]
 
 pub walk_turns-returns : goal.walk_turns-returns
-walk_turns-returns t c = more_turns c.args.base c.args.turns c.args.s c.args.name.now (block_view c.args.body.now) _ _ _ _ _ _ _ _ c.fresh.ensures c.walk_block.ensures c.written-turn.ensures c.after-once.ensures
-    c.fresh-2.ensures c.walk_block-2.ensures c.written.ensures c.after.ensures c.if-turns-eq0.false c.if-turns-eq1.false (sym c.settled.ensures ∙ c.if-settled.false)
+walk_turns-returns t c = more_turns c.args.base c.args.turns c.args.s c.args.name.now (block_view c.args.body.now) _ _ _ _ _ _ _ _ c.fresh.ensures
+    c.walk_block.ensures c.written-turn.ensures c.after-once.ensures
+    c.fresh-2.ensures c.walk_block-2.ensures c.written.ensures c.after.ensures c.if-turns-eq0.false c.if-turns-eq1.false
+    (sym c.settled.ensures ∙ c.if-settled.false)

@@ -7,7 +7,8 @@ use Rattle.path_checks.proofs.unassigned.first_unassigned.Goals as goal
 
 pub loop-i-preserved : goal.loop-i-preserved
 loop-i-preserved c =
-    first_task (λ t. ReadsUnassigned t.body) c.args.source.now.tasks.items c.loop-i.i c.index.result.now _ _ _ c.loop-i-test.true (omega arith) c.index.ensures c.first_of-first.ensures
+    first_task (λ t. ReadsUnassigned t.body) c.args.source.now.tasks.items c.loop-i.i c.index.result.now _ _ _ c.loop-i-test.true (omega arith)
+    c.index.ensures c.first_of-first.ensures
     (subst (λ xs. IsFirst c.first_in_body.result (ReadsUnassigned (block_view xs))) c.deref.ensures.value c.first_in_body.ensures) c.loop-i.invariant
 
 pub returns : goal.returns

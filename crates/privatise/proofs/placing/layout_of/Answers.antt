@@ -20,20 +20,24 @@ place_variables-requires-clause-few c = rw c.as_slice-shared.ensures.value c.req
 
 pub place_variables-requires-clause-room : goal.place_variables-requires-clause-room
 place_variables-requires-clause-room c =
-    let marks : AreWritten (program_of c.args.source.now) c.written_variables-written.result = λ i l. c.written_variables-written.ensures i l ∙ ap (λ ts. is_written (map task_of ts) i) c.as_slice-tasks.ensures.value in
-    rw c.as_slice-shared.ensures.value (room (program_of c.args.source.now) c.args.allow.now c.sizes_of.result c.regions_of-regions.result c.written_variables-written.result c.requires.few marks c.requires.allowed c.sizes_of.ensures c.regions_of-regions.ensures)
+    let marks : AreWritten (program_of c.args.source.now) c.written_variables-written.result =
+    λ i l. c.written_variables-written.ensures i l ∙ ap (λ ts. is_written (map task_of ts) i) c.as_slice-tasks.ensures.value in
+    rw c.as_slice-shared.ensures.value (room (program_of c.args.source.now) c.args.allow.now c.sizes_of.result c.regions_of-regions.result
+    c.written_variables-written.result c.requires.few marks c.requires.allowed c.sizes_of.ensures c.regions_of-regions.ensures)
 
 pub place_tasks-requires-clause-few : goal.place_tasks-requires-clause-few
 place_tasks-requires-clause-few c = rw c.as_slice-shared.ensures.value c.requires.few
 
 pub place_tasks-requires-clause-small : goal.place_tasks-requires-clause-small
 place_tasks-requires-clause-small c =
-    rw (c.as_slice-shared.ensures.value, c.as_slice-tasks.ensures.value) (code_small (program_of c.args.source.now) c.args.allow.now c.sizes_of.result c.requires.allowed c.sizes_of.ensures)
+    rw (c.as_slice-shared.ensures.value, c.as_slice-tasks.ensures.value)
+    (code_small (program_of c.args.source.now) c.args.allow.now c.sizes_of.result c.requires.allowed c.sizes_of.ensures)
 
 pub place_tasks-requires-clause-room : goal.place_tasks-requires-clause-room
 place_tasks-requires-clause-room c =
     rw (c.as_slice-shared.ensures.value, c.as_slice-tasks.ensures.value)
-    (code_room (program_of c.args.source.now) c.args.allow.now c.sizes_of.result c.regions_of-regions.result c.requires.allowed c.sizes_of.ensures c.regions_of-regions.ensures)
+    (code_room (program_of c.args.source.now) c.args.allow.now c.sizes_of.result c.regions_of-regions.result c.requires.allowed c.sizes_of.ensures
+    c.regions_of-regions.ensures)
 
 pub place_tasks-requires-clause-even : goal.place_tasks-requires-clause-even
 place_tasks-requires-clause-even c = (even_starts c.args.allow.now c.sizes_of.result c.regions_of-regions.result c.regions_of-regions.ensures).code
@@ -50,15 +54,21 @@ place_tasks-requires-clause-scalars c = λ k plan at.
 
 pub new-requires : goal.new-requires
 new-requires c =
-    let marks : AreWritten (program_of c.args.source.now) c.written_variables-written.result = λ i l. c.written_variables-written.ensures i l ∙ ap (λ ts. is_written (map task_of ts) i) c.as_slice-tasks.ensures.value in
-    laid_out (program_of c.args.source.now) c.args.allow.now c.args.plan.now c.sizes_of.result c.regions_of-regions.result c.written_variables-written.result c.in_ok-variables.variables.items c.in_ok-layouts.layouts.items
+    let marks : AreWritten (program_of c.args.source.now) c.written_variables-written.result =
+    λ i l. c.written_variables-written.ensures i l ∙ ap (λ ts. is_written (map task_of ts) i) c.as_slice-tasks.ensures.value in
+    laid_out (program_of c.args.source.now) c.args.allow.now c.args.plan.now c.sizes_of.result c.regions_of-regions.result c.written_variables-written.result
+    c.in_ok-variables.variables.items c.in_ok-layouts.layouts.items
     c.requires.few marks c.requires.allowed c.sizes_of.ensures c.regions_of-regions.ensures (rw c.as_slice-shared.ensures.value at c.in_ok-variables.ensures)
-    (tasks_moved _ _ _ _ _ _ _ _ _ _ c.as_slice-shared.ensures.value c.as_slice.ensures.value c.as_slice-tasks.ensures.value c.tasks.ensures c.in_ok-layouts.ensures)
+    (tasks_moved _ _ _ _ _ _ _ _ _ _ c.as_slice-shared.ensures.value c.as_slice.ensures.value c.as_slice-tasks.ensures.value c.tasks.ensures
+    c.in_ok-layouts.ensures)
 
 pub returns : goal.returns
 returns c =
-    let marks : AreWritten (program_of c.args.source.now) c.written_variables-written.result = λ i l. c.written_variables-written.ensures i l ∙ ap (λ ts. is_written (map task_of ts) i) c.as_slice-tasks.ensures.value in
-    let is = whole (program_of c.args.source.now) c.args.allow.now c.args.plan.now c.sizes_of.result c.regions_of-regions.result c.written_variables-written.result c.in_ok-variables.variables.items c.in_ok-layouts.layouts.items
+    let marks : AreWritten (program_of c.args.source.now) c.written_variables-written.result =
+    λ i l. c.written_variables-written.ensures i l ∙ ap (λ ts. is_written (map task_of ts) i) c.as_slice-tasks.ensures.value in
+    let is = whole (program_of c.args.source.now) c.args.allow.now c.args.plan.now c.sizes_of.result c.regions_of-regions.result
+    c.written_variables-written.result c.in_ok-variables.variables.items c.in_ok-layouts.layouts.items
     c.requires.few marks c.requires.allowed c.sizes_of.ensures c.regions_of-regions.ensures (rw c.as_slice-shared.ensures.value at c.in_ok-variables.ensures)
-    (tasks_moved _ _ _ _ _ _ _ _ _ _ c.as_slice-shared.ensures.value c.as_slice.ensures.value c.as_slice-tasks.ensures.value c.tasks.ensures c.in_ok-layouts.ensures) in
+    (tasks_moved _ _ _ _ _ _ _ _ _ _ c.as_slice-shared.ensures.value c.as_slice.ensures.value c.as_slice-tasks.ensures.value c.tasks.ensures
+    c.in_ok-layouts.ensures) in
     subst (IsLayout (program_of c.args.source.now) c.args.allow.now c.args.plan.now) (sym c.new.ensures) is

@@ -13,9 +13,11 @@ all_task_words-requires-clause-small c =
 pub returns : goal.returns
 returns c = record {
   homes = c.home_words.ensures ∙ ap home_words c.deref.ensures.value;
-  copies = written_sum copy_part c.args.source.now.shared.items c.deref-2.result.now c.args.written.now (is_written (map task_of c.args.source.now.tasks.items)) c.copy_words.result
+  copies = written_sum copy_part c.args.source.now.shared.items c.deref-2.result.now c.args.written.now
+      (is_written (map task_of c.args.source.now.tasks.items)) c.copy_words.result
       c.requires.few c.deref-2.ensures.value c.requires.written c.copy_words.ensures;
-  boot = c.boot_words.ensures ∙ ap (λ ds. boot_words ds (map task_of c.deref-4.result.now)) c.deref-3.ensures.value ∙ ap (λ ts. boot_words c.args.source.now.shared.items (map task_of ts)) c.deref-4.ensures.value;
+  boot = c.boot_words.ensures ∙ ap (λ ds. boot_words ds (map task_of c.deref-4.result.now)) c.deref-3.ensures.value
+      ∙ ap (λ ts. boot_words c.args.source.now.shared.items (map task_of ts)) c.deref-4.ensures.value;
   code = c.all_task_words.ensures ∙ ap (λ ds. total (body_words ds) (map task_of c.deref-6.result.now)) c.deref-5.ensures.value
       ∙ ap (λ ts. total (body_words c.args.source.now.shared.items) (map task_of ts)) c.deref-6.ensures.value;
 }

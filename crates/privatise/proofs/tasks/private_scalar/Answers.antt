@@ -8,7 +8,8 @@ bounds-variables-number c = scalar_within c.args.variables.now c.args.number c.r
 
 pub unreachable-requires : goal.unreachable-requires
 unreachable-requires c =
-    no_array c.args.variables.now c.args.number _ c.requires (slice_get-get_or c.args.variables.now c.args.number _ (scalar_within c.args.variables.now c.args.number c.requires) ∙ ap Some c.in-Array.is) refl
+    no_array c.args.variables.now c.args.number _ c.requires
+    (slice_get-get_or c.args.variables.now c.args.number _ (scalar_within c.args.variables.now c.args.number c.requires) ∙ ap Some c.in-Array.is) refl
 
 pub returns-clause-place : goal.returns-clause-place
 returns-clause-place c = record {

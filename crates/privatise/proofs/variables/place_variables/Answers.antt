@@ -10,20 +10,28 @@ loop-i-init c =
 
 pub free_behind-next-requires-clause-home : goal.free_behind-next-requires-clause-home
 free_behind-next-requires-clause-home c =
-    (room_for c.args.shared.now c.args.written.now c.args.free c.loop-i.i _ _ c.loop-i.next c.loop-i-test.true (λ d. ap (λ x. x.extent) (get_or_default c.args.shared.now c.loop-i.i _ d c.loop-i-test.true)) refl c.place_at.result c.place_at.ensures c.loop-i.places.items c.requires.room c.loop-i.invariant).home
+    (room_for c.args.shared.now c.args.written.now c.args.free c.loop-i.i _ _ c.loop-i.next c.loop-i-test.true
+    (λ d. ap (λ x. x.extent) (get_or_default c.args.shared.now c.loop-i.i _ d c.loop-i-test.true)) refl c.place_at.result c.place_at.ensures
+    c.loop-i.places.items c.requires.room c.loop-i.invariant).home
 
 pub free_behind-next-requires-clause-copy : goal.free_behind-next-requires-clause-copy
 free_behind-next-requires-clause-copy c =
-    (room_for c.args.shared.now c.args.written.now c.args.free c.loop-i.i _ _ c.loop-i.next c.loop-i-test.true (λ d. ap (λ x. x.extent) (get_or_default c.args.shared.now c.loop-i.i _ d c.loop-i-test.true)) refl c.place_at.result c.place_at.ensures c.loop-i.places.items c.requires.room c.loop-i.invariant).copy
+    (room_for c.args.shared.now c.args.written.now c.args.free c.loop-i.i _ _ c.loop-i.next c.loop-i-test.true
+    (λ d. ap (λ x. x.extent) (get_or_default c.args.shared.now c.loop-i.i _ d c.loop-i-test.true)) refl c.place_at.result c.place_at.ensures
+    c.loop-i.places.items c.requires.room c.loop-i.invariant).copy
 
 pub free_behind-next-requires-clause-version : goal.free_behind-next-requires-clause-version
 free_behind-next-requires-clause-version c =
-    (room_for c.args.shared.now c.args.written.now c.args.free c.loop-i.i _ _ c.loop-i.next c.loop-i-test.true (λ d. ap (λ x. x.extent) (get_or_default c.args.shared.now c.loop-i.i _ d c.loop-i-test.true)) refl c.place_at.result c.place_at.ensures c.loop-i.places.items c.requires.room c.loop-i.invariant).version
+    (room_for c.args.shared.now c.args.written.now c.args.free c.loop-i.i _ _ c.loop-i.next c.loop-i-test.true
+    (λ d. ap (λ x. x.extent) (get_or_default c.args.shared.now c.loop-i.i _ d c.loop-i-test.true)) refl c.place_at.result c.place_at.ensures
+    c.loop-i.places.items c.requires.room c.loop-i.invariant).version
 
 pub loop-i-preserved : goal.loop-i-preserved
 loop-i-preserved c =
-    one_placed c.args.shared.now c.args.written.now c.args.free c.loop-i.i _ _ c.loop-i.next c.loop-i-test.true (λ d. ap (λ x. x.extent) (get_or_default c.args.shared.now c.loop-i.i _ d c.loop-i-test.true)) refl
-    c.free_behind-next.result c.place_at.result c.loop-i.places.items c.push.new.self.items c.place_at.ensures c.free_behind-next.ensures.home c.free_behind-next.ensures.copy c.free_behind-next.ensures.version
+    one_placed c.args.shared.now c.args.written.now c.args.free c.loop-i.i _ _ c.loop-i.next c.loop-i-test.true
+    (λ d. ap (λ x. x.extent) (get_or_default c.args.shared.now c.loop-i.i _ d c.loop-i-test.true)) refl
+    c.free_behind-next.result c.place_at.result c.loop-i.places.items c.push.new.self.items c.place_at.ensures c.free_behind-next.ensures.home
+    c.free_behind-next.ensures.copy c.free_behind-next.ensures.version
     c.in_ok-push.ensures.items c.loop-i.invariant
 
 pub returns : goal.returns

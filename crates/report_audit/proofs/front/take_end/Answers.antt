@@ -17,7 +17,11 @@ returns-in-Ok-clause-good c =
     is_whole (inputs_of c.args.source.now c.args.readings.now c.args.report.now)
     (record { names = c.requires.names; few_readings = omega arith; few_bytes = omega arith }) c.args.front _ _ c.requires.front.2
     _ _ _ c.requires.entry
-    (record { on_board = never_off (fields (first_line (drop c.args.front.at c.args.report.now))) _ _ _ c.requires.entry; few_accepted = omega arith; few_repeats = omega arith }) (omega arith) _
+    (record {
+      on_board = never_off (fields (first_line (drop c.args.front.at c.args.report.now))) _ _ _ c.requires.entry;
+      few_accepted = omega arith;
+      few_repeats = omega arith;
+    }) (omega arith) _
     (subst (λ text. StandsUpTo c.args.report.now c.args.front.at text c.in-Ok.at) line c.in-Ok.ensures.stands) c.if-at-report.true
 
 pub returns-in-Ok-2-clause-stop : goal.returns-in-Ok-2-clause-stop
@@ -26,7 +30,11 @@ returns-in-Ok-2-clause-stop c =
     stops_behind_end (inputs_of c.args.source.now c.args.readings.now c.args.report.now)
     (record { names = c.requires.names; few_readings = omega arith; few_bytes = omega arith }) c.args.front _ _ c.requires.front.2
     _ _ _ c.requires.entry
-    (record { on_board = never_off (fields (first_line (drop c.args.front.at c.args.report.now))) _ _ _ c.requires.entry; few_accepted = omega arith; few_repeats = omega arith }) (omega arith) _
+    (record {
+      on_board = never_off (fields (first_line (drop c.args.front.at c.args.report.now))) _ _ _ c.requires.entry;
+      few_accepted = omega arith;
+      few_repeats = omega arith;
+    }) (omega arith) _
     (subst (λ text. StandsUpTo c.args.report.now c.args.front.at text c.in-Ok.at) line c.in-Ok.ensures.stands) (λ all. omega (arith, all))
 
 pub returns-in-Err-clause-stop : goal.returns-in-Err-clause-stop
@@ -35,5 +43,9 @@ returns-in-Err-clause-stop c =
     stops_in_end (inputs_of c.args.source.now c.args.readings.now c.args.report.now)
     (record { names = c.requires.names; few_readings = omega arith; few_bytes = omega arith }) c.args.front _ _ c.requires.front.2
     _ _ _ c.requires.entry
-    (record { on_board = never_off (fields (first_line (drop c.args.front.at c.args.report.now))) _ _ _ c.requires.entry; few_accepted = omega arith; few_repeats = omega arith }) (omega arith) _
+    (record {
+      on_board = never_off (fields (first_line (drop c.args.front.at c.args.report.now))) _ _ _ c.requires.entry;
+      few_accepted = omega arith;
+      few_repeats = omega arith;
+    }) (omega arith) _
     (subst (λ text. DiffersAt c.args.report.now c.args.front.at text c.in-Err.place) line c.in-Err.ensures.differs)

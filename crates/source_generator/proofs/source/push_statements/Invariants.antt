@@ -6,6 +6,7 @@ use Rattle.source_generator.proofs.source.push_statements.Given as goal
 
 abbrev pub invariant-loop-statement : goal.invariant-loop-statement
 invariant-loop-statement l = record {
-  text : l.out.items ++ flat_map statement_text (draws (6 - l._statement) l.generator.state) ≡ l.fn.out.items ++ flat_map statement_text (draws 6 l.fn.generator.state);
+  text : l.out.items ++ flat_map statement_text (draws (6 - l._statement) l.generator.state) ≡ l.fn.out.items
+      ++ flat_map statement_text (draws 6 l.fn.generator.state);
   state : behind (6 - l._statement) l.generator.state ≡ behind 6 l.fn.generator.state;
 }

@@ -14,7 +14,8 @@ loop-reading-preserved c =
     }
 
 pub returns-clause-readings : goal.returns-clause-readings
-returns-clause-readings c = all_written _ _ _ c.loop-reading.invariant.readings (no_draws 512 c.loop-reading._reading c.loop-reading.generator.state (omega arith))
+returns-clause-readings c = all_written _ _ _ c.loop-reading.invariant.readings
+    (no_draws 512 c.loop-reading._reading c.loop-reading.generator.state (omega arith))
 
 pub returns-clause-state : goal.returns-clause-state
 returns-clause-state c = sym (behind_none 512 c.loop-reading._reading c.loop-reading.generator.state (omega arith)) ∙ c.loop-reading.invariant.state

@@ -40,7 +40,8 @@ returns c =
     made c.args.text.now (program_of c.args.source.now) c.args.layout.now c.args.allow.now c.set_copies.new.self c.add_variables.new.added c.add_tasks.new.added
     c.as_slice.result.now c.as_slice-2.result.now c.variables.result.now (map task_of c.as_slice-3.result.now) c.tasks.result.now
     (copies_are c.args.layout.now c.args.allow.now c.new-map.result c.set_copies.new.self c.map_buffer-copies.result
-    (bare_is c.args.layout.now c.args.allow.now c.new-map.result c.map_words-words.result c.map_list-list.result c.map_buffer-emits.result c.map_buffer-versions.result
+    (bare_is c.args.layout.now c.args.allow.now c.new-map.result c.map_words-words.result c.map_list-list.result c.map_buffer-emits.result
+    c.map_buffer-versions.result
     c.new-map.ensures c.map_words-words.ensures c.map_list-list.ensures (c.map_buffer-emits.ensures ∙ ap map_buffer c.emits.ensures)
     (c.map_buffer-versions.ensures ∙ ap map_buffer c.versions.ensures))
     c.set_copies.ensures (c.map_buffer-copies.ensures ∙ ap map_buffer c.copies.ensures))

@@ -16,7 +16,8 @@ use Rattle.source_values.proofs.Turns.{turns_step, attempt_set, turn_emits, ende
 use Rattle.source_values.proofs.statements.+run.Goals as goal
 
 -- what a `for` does
-for_runs : (statement : Stmt VariableName TaskName) (s : Attempt) (x : VariableName) (from : ℕ) (tested : VariableName) (below : ℕ) (stepped : VariableName) (body : Vec (Stmt VariableName TaskName) Global)
+for_runs : (statement : Stmt VariableName TaskName) (s : Attempt) (x : VariableName) (from : ℕ) (tested : VariableName) (below : ℕ) (stepped : VariableName)
+    (body : Vec (Stmt VariableName TaskName) Global)
     → statement ≡ For x from tested below stepped body
     → run_statement (statement_of statement) s ≡ turns (below - from) from x.variable (run_block (block_view body.items)) s
 for_runs statement s x from tested below stepped body is =
@@ -30,12 +31,14 @@ run_arms-run_block-requires t c =
 
 pub run_arms-returns-in_err-run_block-clause-outcome : goal.run_arms-returns-in_err-run_block-clause-outcome
 run_arms-returns-in_err-run_block-clause-outcome t c = λ last.
-    let step = arm_taken c.args.arms.now c.loop-arm.arm-index c.arm-item.result last c.deref.result.now (attempt_in c.loop-arm.scratch c.loop-arm.left.now) c.in_ok-x.x.word c.in_ok-x.x.left.now c.loop-arm-test.true c.arm-item.is c.deref.ensures.value c.in_ok-x.ensures.value (sym c.if-holds.ensures) in
+    let step = arm_taken c.args.arms.now c.loop-arm.arm-index c.arm-item.result last c.deref.result.now (attempt_in c.loop-arm.scratch c.loop-arm.left.now)
+    c.in_ok-x.x.word c.in_ok-x.x.left.now c.loop-arm-test.true c.arm-item.is c.deref.ensures.value c.in_ok-x.ensures.value (sym c.if-holds.ensures) in
     rw c.from_residual-in_err-run_block.ensures (sym (c.loop-arm.invariant.rest last) ∙ step ∙ c.in_err-run_block.ensures.outcome)
 
 pub run_arms-returns-then-holds-clause-outcome : goal.run_arms-returns-then-holds-clause-outcome
 run_arms-returns-then-holds-clause-outcome t c = λ last.
-    let step = arm_taken c.args.arms.now c.loop-arm.arm-index c.arm-item.result last c.deref.result.now (attempt_in c.loop-arm.scratch c.loop-arm.left.now) c.in_ok-x.x.word c.in_ok-x.x.left.now c.loop-arm-test.true c.arm-item.is c.deref.ensures.value c.in_ok-x.ensures.value (sym c.if-holds.ensures) in
+    let step = arm_taken c.args.arms.now c.loop-arm.arm-index c.arm-item.result last c.deref.result.now (attempt_in c.loop-arm.scratch c.loop-arm.left.now)
+    c.in_ok-x.x.word c.in_ok-x.x.left.now c.loop-arm-test.true c.arm-item.is c.deref.ensures.value c.in_ok-x.ensures.value (sym c.if-holds.ensures) in
     sym (c.loop-arm.invariant.rest last) ∙ step ∙ c.in_ok-run_block.ensures.outcome
 
 pub run_arms-returns-then-holds-clause-emitted : goal.run_arms-returns-then-holds-clause-emitted
@@ -46,13 +49,15 @@ run_arms-returns-then-holds-clause-emitted t c =
 
 pub run_arms-loop-arm-preserved : goal.run_arms-loop-arm-preserved
 run_arms-loop-arm-preserved t c = record {
-  rest = λ last. sym (arm_passed c.args.arms.now c.loop-arm.arm-index c.arm-item.result last (attempt_in c.loop-arm.scratch c.loop-arm.left.now) c.in_ok-x.x.word c.in_ok-x.x.left.now c.loop-arm-test.true c.arm-item.is c.in_ok-x.ensures.value (sym c.if-holds.ensures))
+  rest = λ last. sym (arm_passed c.args.arms.now c.loop-arm.arm-index c.arm-item.result last (attempt_in c.loop-arm.scratch c.loop-arm.left.now)
+      c.in_ok-x.x.word c.in_ok-x.x.left.now c.loop-arm-test.true c.arm-item.is c.in_ok-x.ensures.value (sym c.if-holds.ensures))
       ∙ c.loop-arm.invariant.rest last;
   same = c.loop-arm.invariant.same;
 }
 
 -- the emitted words of an `if`
-if_emits : (arms : Vec (Arm VariableName TaskName) Global) (last : Option (Vec (Stmt VariableName TaskName) Global)) (statement : Stmt VariableName TaskName) → statement ≡ If arms last
+if_emits : (arms : Vec (Arm VariableName TaskName) Global) (last : Option (Vec (Stmt VariableName TaskName) Global)) (statement : Stmt VariableName TaskName)
+    → statement ≡ If arms last
     → statement_emits (statement_of statement) ≡ choice_emits (choice_view arms.items last)
 if_emits arms last statement is = ap (λ s. statement_emits (statement_of s)) is ∙ ap statement_emits (if_view arms last)
 
@@ -65,7 +70,8 @@ run_statement-run_arms-requires t c =
 
 pub run_statement-run_block-requires : goal.run_statement-run_block-requires
 run_statement-run_block-requires t c =
-    let whole = if_emits c.in-If.arms c.in-If.last c.args.statement.now c.in-If.is ∙ ap (λ last. choice_emits (choice_view c.in-If.arms.items last)) c.in-Some.is in
+    let whole = if_emits c.in-If.arms c.in-If.last c.args.statement.now c.in-If.is ∙ ap (λ last. choice_emits (choice_view c.in-If.arms.items last))
+    c.in-Some.is in
     let most = last_emits (map tested_of c.in-If.arms.items) (block_view c.in-Some.block.items) in
     let same = ap (λ b. block_emits (block_view b)) c.deref-in-Some.ensures.value in
     let kept = none_kept c.in_ok-ran-in-If.field-0 c.in-NoneHolds.left _ _ _ c.in-NoneHolds.is c.in_ok-ran-in-If.ensures.emitted in
@@ -73,29 +79,43 @@ run_statement-run_block-requires t c =
 
 pub run_statement-returns-in_err-ran-in-For-clause-outcome : goal.run_statement-returns-in_err-ran-in-For-clause-outcome
 run_statement-returns-in_err-ran-in-For-clause-outcome t c =
-    let set = attempt_set c.loop-k.scratch c.set.new.self c.loop-k.left.now c.in-For.variable.variable 0 c.loop-k.k c.set.ensures.variables c.set.ensures.emitted in
-    let whole = for_runs c.args.statement.now (attempt_in c.args.scratch.now c.args.readings.now) c.in-For.variable c.in-For.from c.in-For.tested c.in-For.below c.in-For.stepped c.in-For.body c.in-For.is in
-    let step = turns_step (c.in-For.below - c.loop-k.k) (c.in-For.below - (c.loop-k.k + 1)) c.loop-k.k c.in-For.variable.variable (run_block (block_view c.in-For.body.items)) (attempt_in c.loop-k.scratch c.loop-k.left.now) short (omega arith)
-    (ap (run_block (block_view c.in-For.body.items)) set ∙ ap (λ b. run_block (block_view b) (attempt_in c.set.new.self c.loop-k.left.now)) (sym c.deref-in-loop-k.ensures.value) ∙ c.in_err-ran-in-For.ensures.outcome) in
+    let set = attempt_set c.loop-k.scratch c.set.new.self c.loop-k.left.now c.in-For.variable.variable 0 c.loop-k.k c.set.ensures.variables
+    c.set.ensures.emitted in
+    let whole = for_runs c.args.statement.now (attempt_in c.args.scratch.now c.args.readings.now) c.in-For.variable c.in-For.from c.in-For.tested
+    c.in-For.below c.in-For.stepped c.in-For.body c.in-For.is in
+    let step = turns_step (c.in-For.below - c.loop-k.k) (c.in-For.below - (c.loop-k.k + 1)) c.loop-k.k c.in-For.variable.variable
+    (run_block (block_view c.in-For.body.items)) (attempt_in c.loop-k.scratch c.loop-k.left.now) short (omega arith)
+    (ap (run_block (block_view c.in-For.body.items)) set ∙ ap (λ b. run_block (block_view b) (attempt_in c.set.new.self c.loop-k.left.now))
+    (sym c.deref-in-loop-k.ensures.value) ∙ c.in_err-ran-in-For.ensures.outcome) in
     rw c.from_residual-in_err-ran-in-For.ensures (whole ∙ sym c.loop-k.invariant.rest ∙ step)
 
 pub run_statement-returns-then-is_some-clause-outcome : goal.run_statement-returns-then-is_some-clause-outcome
 run_statement-returns-then-is_some-clause-outcome t c =
-    let set = attempt_set c.loop-k.scratch c.set.new.self c.loop-k.left.now c.in-For.variable.variable 0 c.loop-k.k c.set.ensures.variables c.set.ensures.emitted in
-    let whole = for_runs c.args.statement.now (attempt_in c.args.scratch.now c.args.readings.now) c.in-For.variable c.in-For.from c.in-For.tested c.in-For.below c.in-For.stepped c.in-For.body c.in-For.is in
+    let set = attempt_set c.loop-k.scratch c.set.new.self c.loop-k.left.now c.in-For.variable.variable 0 c.loop-k.k c.set.ensures.variables
+    c.set.ensures.emitted in
+    let whole = for_runs c.args.statement.now (attempt_in c.args.scratch.now c.args.readings.now) c.in-For.variable c.in-For.from c.in-For.tested
+    c.in-For.below c.in-For.stepped c.in-For.body c.in-For.is in
     let o = ended c.in_ok-ran-in-For.ran.next (attempt_in c.run_block-in-loop-k.new.scratch c.in_ok-ran-in-For.ran.left.now) in
-    let step = turns_step (c.in-For.below - c.loop-k.k) (c.in-For.below - (c.loop-k.k + 1)) c.loop-k.k c.in-For.variable.variable (run_block (block_view c.in-For.body.items)) (attempt_in c.loop-k.scratch c.loop-k.left.now) o (omega arith)
-    (ap (run_block (block_view c.in-For.body.items)) set ∙ ap (λ b. run_block (block_view b) (attempt_in c.set.new.self c.loop-k.left.now)) (sym c.deref-in-loop-k.ensures.value) ∙ c.in_ok-ran-in-For.ensures.outcome) in
-    whole ∙ sym c.loop-k.invariant.rest ∙ step ∙ ended_stays c.in_ok-ran-in-For.ran.next (attempt_in c.run_block-in-loop-k.new.scratch c.in_ok-ran-in-For.ran.left.now) (turns (c.in-For.below - (c.loop-k.k + 1)) (c.loop-k.k + 1) c.in-For.variable.variable (run_block (block_view c.in-For.body.items))) (sym c.is_some.ensures ∙ c.if-is_some.true)
+    let step = turns_step (c.in-For.below - c.loop-k.k) (c.in-For.below - (c.loop-k.k + 1)) c.loop-k.k c.in-For.variable.variable
+    (run_block (block_view c.in-For.body.items)) (attempt_in c.loop-k.scratch c.loop-k.left.now) o (omega arith)
+    (ap (run_block (block_view c.in-For.body.items)) set ∙ ap (λ b. run_block (block_view b) (attempt_in c.set.new.self c.loop-k.left.now))
+    (sym c.deref-in-loop-k.ensures.value) ∙ c.in_ok-ran-in-For.ensures.outcome) in
+    whole ∙ sym c.loop-k.invariant.rest ∙ step ∙ ended_stays c.in_ok-ran-in-For.ran.next
+    (attempt_in c.run_block-in-loop-k.new.scratch c.in_ok-ran-in-For.ran.left.now)
+    (turns (c.in-For.below - (c.loop-k.k + 1)) (c.loop-k.k + 1) c.in-For.variable.variable (run_block (block_view c.in-For.body.items)))
+    (sym c.is_some.ensures ∙ c.if-is_some.true)
 
 pub run_statement-loop-k-preserved : goal.run_statement-loop-k-preserved
 run_statement-loop-k-preserved t c = record {
   rest =
-      let set = attempt_set c.loop-k.scratch c.set.new.self c.loop-k.left.now c.in-For.variable.variable 0 c.loop-k.k c.set.ensures.variables c.set.ensures.emitted in
+      let set = attempt_set c.loop-k.scratch c.set.new.self c.loop-k.left.now c.in-For.variable.variable 0 c.loop-k.k c.set.ensures.variables
+      c.set.ensures.emitted in
       let behind = attempt_in c.run_block-in-loop-k.new.scratch c.in_ok-ran-in-For.ran.left.now in
       let more = turns (c.in-For.below - (c.loop-k.k + 1)) (c.loop-k.k + 1) c.in-For.variable.variable (run_block (block_view c.in-For.body.items)) in
-      let step = turns_step (c.in-For.below - c.loop-k.k) (c.in-For.below - (c.loop-k.k + 1)) c.loop-k.k c.in-For.variable.variable (run_block (block_view c.in-For.body.items)) (attempt_in c.loop-k.scratch c.loop-k.left.now) (ended c.in_ok-ran-in-For.ran.next behind) (omega arith)
-      (ap (run_block (block_view c.in-For.body.items)) set ∙ ap (λ b. run_block (block_view b) (attempt_in c.set.new.self c.loop-k.left.now)) (sym c.deref-in-loop-k.ensures.value) ∙ c.in_ok-ran-in-For.ensures.outcome) in
+      let step = turns_step (c.in-For.below - c.loop-k.k) (c.in-For.below - (c.loop-k.k + 1)) c.loop-k.k c.in-For.variable.variable
+      (run_block (block_view c.in-For.body.items)) (attempt_in c.loop-k.scratch c.loop-k.left.now) (ended c.in_ok-ran-in-For.ran.next behind) (omega arith)
+      (ap (run_block (block_view c.in-For.body.items)) set ∙ ap (λ b. run_block (block_view b) (attempt_in c.set.new.self c.loop-k.left.now))
+      (sym c.deref-in-loop-k.ensures.value) ∙ c.in_ok-ran-in-For.ensures.outcome) in
       sym (step ∙ ended_goes_on c.in_ok-ran-in-For.ran.next behind more (sym c.is_some.ensures ∙ c.if-is_some.false)) ∙ c.loop-k.invariant.rest;
   emits =
       let turn = turn_emits (c.in-For.below - c.loop-k.k) (c.in-For.below - (c.loop-k.k + 1)) (block_emits (block_view c.in-For.body.items)) (omega arith) in
@@ -117,7 +137,8 @@ run_statement-returns-in-Behind-clause-emitted t c =
 
 pub run_statement-returns-in-Some-clause-emitted : goal.run_statement-returns-in-Some-clause-emitted
 run_statement-returns-in-Some-clause-emitted t c =
-    let whole = if_emits c.in-If.arms c.in-If.last c.args.statement.now c.in-If.is ∙ ap (λ last. choice_emits (choice_view c.in-If.arms.items last)) c.in-Some.is in
+    let whole = if_emits c.in-If.arms c.in-If.last c.args.statement.now c.in-If.is ∙ ap (λ last. choice_emits (choice_view c.in-If.arms.items last))
+    c.in-Some.is in
     let most = last_emits (map tested_of c.in-If.arms.items) (block_view c.in-Some.block.items) in
     let same = ap (λ b. block_emits (block_view b)) c.deref-in-Some.ensures.value in
     let kept = none_kept c.in_ok-ran-in-If.field-0 c.in-NoneHolds.left _ _ _ c.in-NoneHolds.is c.in_ok-ran-in-If.ensures.emitted in

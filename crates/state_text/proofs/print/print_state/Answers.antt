@@ -12,4 +12,5 @@ returns-clause-text c =
 pub returns-clause-reads_back : goal.returns-clause-reads_back
 returns-clause-reads_back c =
     ap state_of c.in_ok-push_receiver.ensures.text
-    ∙ state_back c.args.state.now.image c.args.state.now.receiver c.in_ok-out.out.items c.push_receiver.ensures.small c.in_ok-out.ensures.text c.in_ok-out.ensures.reads_back
+    ∙ state_back c.args.state.now.image c.args.state.now.receiver c.in_ok-out.out.items c.push_receiver.ensures.small c.in_ok-out.ensures.text
+    c.in_ok-out.ensures.reads_back

@@ -3,7 +3,8 @@ use Rattle.task_ast.specs.Tree as node
 use Rattle.task_ast.specs.View.{statement_of, tested_of}
 use Rattle.task_check.specs.LookedUp as spec
 use Rattle.task_check.specs.Parts as parts
-use Rattle.task_check.proofs.Parts.{read_on_through, block_back_list, block_variables_list, block_targets_list, push_variables, push_targets, push_arm_variables, push_arm_targets, all_read}
+use Rattle.task_check.proofs.Parts.{read_on_through, block_back_list, block_variables_list, block_targets_list, push_variables, push_targets}
+use Rattle.task_check.proofs.Parts.{push_arm_variables, push_arm_targets, all_read}
 use Rattle.task_check.proofs.build.+build.Goals as goal
 
 pub block-returns-clause-place : goal.block-returns-clause-place
@@ -12,7 +13,8 @@ block-returns-clause-place t c =
 
 pub block-loop-i-preserved : goal.block-loop-i-preserved
 block-loop-i-preserved t c = (
-  read_on_through statement_of spec.statement_back statement_of c.loop-i.found.items _ c.in_ok-s.s c.args.body.now c.loop-i.i c.index-body-i.result c.in_ok-push.ensures.items c.loop-i-test.true c.index-body-i.is
+  read_on_through statement_of spec.statement_back statement_of c.loop-i.found.items _ c.in_ok-s.s c.args.body.now c.loop-i.i c.index-body-i.result
+      c.in_ok-push.ensures.items c.loop-i-test.true c.index-body-i.is
       c.loop-i.invariant.0 c.in_ok-s.ensures.place,
   push_variables c.loop-i.found.items _ c.in_ok-s.s _ _ _ c.in_ok-push.ensures.items c.loop-i.invariant.1 c.in_ok-s.ensures.variables,
   push_targets c.loop-i.found.items _ c.in_ok-s.s _ _ _ c.in_ok-push.ensures.items c.loop-i.invariant.2 c.in_ok-s.ensures.targets,
@@ -20,7 +22,8 @@ block-loop-i-preserved t c = (
 
 pub arms-loop-i-preserved : goal.arms-loop-i-preserved
 arms-loop-i-preserved t c = (
-  read_on_through tested_of parts.tested_back tested_of c.loop-i.found.items _ c.in_ok-test.test c.args.tests.now c.loop-i.i c.index-tests-i.result c.in_ok-push.ensures.items c.loop-i-test.true c.index-tests-i.is
+  read_on_through tested_of parts.tested_back tested_of c.loop-i.found.items _ c.in_ok-test.test c.args.tests.now c.loop-i.i c.index-tests-i.result
+      c.in_ok-push.ensures.items c.loop-i-test.true c.index-tests-i.is
       c.loop-i.invariant.0 c.in_ok-test.ensures.place,
   push_arm_variables c.loop-i.found.items _ c.in_ok-test.test _ _ _ c.in_ok-push.ensures.items c.loop-i.invariant.1 c.in_ok-test.ensures.variables,
   push_arm_targets c.loop-i.found.items _ c.in_ok-test.test _ _ _ c.in_ok-push.ensures.items c.loop-i.invariant.2 c.in_ok-test.ensures.targets,

@@ -6,7 +6,8 @@ use Rattle.task_check.proofs.build.tasks.Goals as goal
 
 pub loop-i-preserved : goal.loop-i-preserved
 loop-i-preserved c = (
-  read_on_through task_of task_back task_of c.loop-i.found.items _ c.in_ok-of.of c.args.all.now c.loop-i.i c.index-all-i.result c.in_ok-push.ensures.items c.loop-i-test.true c.index-all-i.is c.loop-i.invariant.0 c.in_ok-of.ensures.place,
+  read_on_through task_of task_back task_of c.loop-i.found.items _ c.in_ok-of.of c.args.all.now c.loop-i.i c.index-all-i.result c.in_ok-push.ensures.items
+      c.loop-i-test.true c.index-all-i.is c.loop-i.invariant.0 c.in_ok-of.ensures.place,
   push_task_variables c.loop-i.found.items _ c.in_ok-of.of _ _ _ c.in_ok-push.ensures.items c.loop-i.invariant.1 c.in_ok-of.ensures.variables,
   push_task_targets c.loop-i.found.items _ c.in_ok-of.of _ _ _ c.in_ok-push.ensures.items c.loop-i.invariant.2 c.in_ok-of.ensures.targets,
 )

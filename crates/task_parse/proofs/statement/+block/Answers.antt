@@ -15,7 +15,8 @@ elses-arms-preserved t c =
       fits = search rules;
       nests = search rules;
       goes_on = c.arms.invariant.goes_on
-          ∙ another_arm (map tested_of found) (tested_of next) c.in_ok-next.field-0-0 c.arms.rest.now c.in_ok-next.next.now rest (search rules) (search rules) (search rules) (search rules)
+          ∙ another_arm (map tested_of found) (tested_of next) c.in_ok-next.field-0-0 c.arms.rest.now c.in_ok-next.next.now rest (search rules)
+          (search rules) (search rules) (search rules)
           ∙ ap (λ xs. elses block xs rest) (sym (tested_push found next) ∙ ap (map tested_of) (sym pushed));
     }
 

@@ -11,6 +11,7 @@ returns-then-is_empty g c = record {
 
 pub returns : goal.returns
 returns g c = record {
-  cut = group_cut _ _ _ _ c.min.result c.requires (grind (arith, nat_tests, c.is_empty.ensures, c.if-is_empty.false)) (omega (arith, c.min.ensures)) c.split_at.ensures.front c.split_at.ensures.back;
+  cut = group_cut _ _ _ _ c.min.result c.requires (grind (arith, nat_tests, c.is_empty.ensures, c.if-is_empty.false)) (omega (arith, c.min.ensures))
+      c.split_at.ensures.front c.split_at.ensures.back;
   made = groups_made _ _ c.requires;
 }

@@ -11,7 +11,8 @@ returns-in_err-write_words-clause-bytes g c = cut_second _ _ _ _ _ _ _ _ c.from_
     (record {
       number = c.saturating_add-self.ensures;
       task = c.task_name.ensures;
-      next = c.task_name-2.ensures ∙ ap (task_name c.args.map.now.tasks) (c.word-next.ensures ∙ ap (λ (w : RuntimeWords). word_in c.args.board.now.fram w.current_task) c.words.ensures);
+      next = c.task_name-2.ensures ∙ ap (task_name c.args.map.now.tasks) (c.word-next.ensures
+          ∙ ap (λ (w : RuntimeWords). word_in c.args.board.now.fram w.current_task) c.words.ensures);
       words = c.as_slice.ensures.value;
     }))
     c.in_ok-step.ensures.bytes.whole c.in_err-write_words.ensures.bytes.part
@@ -22,7 +23,8 @@ returns-in_err-write_more-clause-bytes g c = cut_third _ _ _ _ _ _ _ _ _ _ c.fro
     (record {
       number = c.saturating_add-self.ensures;
       task = c.task_name.ensures;
-      next = c.task_name-2.ensures ∙ ap (task_name c.args.map.now.tasks) (c.word-next.ensures ∙ ap (λ (w : RuntimeWords). word_in c.args.board.now.fram w.current_task) c.words.ensures);
+      next = c.task_name-2.ensures ∙ ap (task_name c.args.map.now.tasks) (c.word-next.ensures
+          ∙ ap (λ (w : RuntimeWords). word_in c.args.board.now.fram w.current_task) c.words.ensures);
       words = c.as_slice.ensures.value;
     }))
     c.in_ok-step.ensures.bytes.whole c.in_ok-write_words.ensures.bytes.whole c.in_err-write_more.ensures.bytes.part
@@ -33,7 +35,8 @@ returns-in_err-write_changes-clause-bytes g c = cut_fourth _ _ _ _ _ _ _ _ _ _ _
     (record {
       number = c.saturating_add-self.ensures;
       task = c.task_name.ensures;
-      next = c.task_name-2.ensures ∙ ap (task_name c.args.map.now.tasks) (c.word-next.ensures ∙ ap (λ (w : RuntimeWords). word_in c.args.board.now.fram w.current_task) c.words.ensures);
+      next = c.task_name-2.ensures ∙ ap (task_name c.args.map.now.tasks) (c.word-next.ensures
+          ∙ ap (λ (w : RuntimeWords). word_in c.args.board.now.fram w.current_task) c.words.ensures);
       words = c.as_slice.ensures.value;
     }))
     c.in_ok-step.ensures.bytes.whole c.in_ok-write_words.ensures.bytes.whole c.in_ok-write_more.ensures.bytes.whole c.in_err-write_changes.ensures.bytes.part

@@ -6,7 +6,8 @@ use Rattle.fram_board.proofs.board.Board.execute.Goals.{in-Ok, in-Err}
 pub overflow_sub-result : goal.overflow_sub-result
 overflow_sub-result c =
     let d = c.self.inside.devices in
-    let grown = taken_grows c.args.instruction.now c.self.inside.cpu d c.execute-answer.result c.execute-answer.new.cpu c.execute-answer.new.bus c.execute-answer.ensures.executes in
+    let grown = taken_grows c.args.instruction.now c.self.inside.cpu d c.execute-answer.result c.execute-answer.new.cpu c.execute-answer.new.bus
+    c.execute-answer.ensures.executes in
     let from = grown.from in
     let before = c.taken-before.ensures.taken in
     let after = c.taken.ensures.taken ∙ ap (λ s. s.taken) c.receive-accepted.ensures.devices in
@@ -31,7 +32,8 @@ returns-clause-stopped c = elim c.match-answer.branch [
 pub returns-clause-took : goal.returns-clause-took
 returns-clause-took c = elim c.match-answer.branch [
   | in-Ok w ↦
-      let grown = taken_grows c.args.instruction.now c.self.inside.cpu c.self.inside.devices c.execute-answer.result c.execute-answer.new.cpu c.execute-answer.new.bus c.execute-answer.ensures.executes in
+      let grown = taken_grows c.args.instruction.now c.self.inside.cpu c.self.inside.devices c.execute-answer.result c.execute-answer.new.cpu
+      c.execute-answer.new.bus c.execute-answer.ensures.executes in
       let to = grown.to in
       let before = c.taken-before.ensures.taken in
       let after = w.taken.ensures.taken ∙ ap (λ s. s.taken) c.receive-accepted.ensures.devices in
@@ -42,4 +44,5 @@ returns-clause-took c = elim c.match-answer.branch [
 pub returns-clause-counts : goal.returns-clause-counts
 returns-clause-counts c =
     let d = c.execute-answer.new.bus in
-    heard_few_of d.outnum d.offered c.self.inside.receiver c.args.self.now.receiver c.receive-accepted.new.receiver (ap (λ x. x.receiver) c.self.view_is) c.receive-accepted.ensures.receiver
+    heard_few_of d.outnum d.offered c.self.inside.receiver c.args.self.now.receiver c.receive-accepted.new.receiver (ap (λ x. x.receiver) c.self.view_is)
+    c.receive-accepted.ensures.receiver

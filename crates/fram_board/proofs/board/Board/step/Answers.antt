@@ -9,10 +9,22 @@ use Rattle.fram_board.proofs.board.Board.step.Goals as goal
 pub returns-in-Ok-clause-step : goal.returns-in-Ok-clause-step
 returns-in-Ok-clause-step c =
     let b = c.args.self.now in
-    let i = c.in-Ok.instruction in
-    ((executed b i).offered, (execution board_bus i (registers_of b.cpu) (opened b), Executed i c.in-Ok.ensures.found, outcome_of_parts (executed b i) c.execute.result c.execute.new.self c.execute.ensures.answer c.execute.ensures.board))
+    let i = c.in-Ok.instruction in (
+      (executed b i).offered,
+      (
+        execution board_bus i (registers_of b.cpu) (opened b),
+        Executed i c.in-Ok.ensures.found,
+        outcome_of_parts (executed b i) c.execute.result c.execute.new.self c.execute.ensures.answer c.execute.ensures.board,
+      ),
+    )
 
 pub returns-in-Err-clause-step : goal.returns-in-Err-clause-step
 returns-in-Err-clause-step c =
-    let b = c.args.self.now in
-    (None, (_, Stopped c.in-Err.stop c.in-Err.ensures.none, stopped_outcome b c.in-Err.stop (sym (ap (λ x. length x.cpu) c.self.view_is) ∙ c.reg-pc.ensures.valid.long)))
+    let b = c.args.self.now in (
+      None,
+      (
+        _,
+        Stopped c.in-Err.stop c.in-Err.ensures.none,
+        stopped_outcome b c.in-Err.stop (sym (ap (λ x. length x.cpu) c.self.view_is) ∙ c.reg-pc.ensures.valid.long),
+      ),
+    )

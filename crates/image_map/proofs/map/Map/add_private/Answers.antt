@@ -5,10 +5,12 @@ use Rattle.image_map.proofs.Last.{some_task, tasks_set, private_set}
 use Rattle.image_map.proofs.map.Map.add_private.Goals as goal
 
 pub overflow_sub-last : goal.overflow_sub-last
-overflow_sub-last c = let some = some_task (map_of c.self.inside) c.args.self.now c.args.name c.self.view_is c.requires in omega (arith, c.len-last.ensures, c.self.inside.tasks.ok.0)
+overflow_sub-last c = let some = some_task (map_of c.self.inside) c.args.self.now c.args.name c.self.view_is c.requires in
+    omega (arith, c.len-last.ensures, c.self.inside.tasks.ok.0)
 
 pub index_mut-task-requires : goal.index_mut-task-requires
-index_mut-task-requires c = let some = some_task (map_of c.self.inside) c.args.self.now c.args.name c.self.view_is c.requires in omega (arith, c.len-last.ensures, c.self.inside.tasks.ok.0)
+index_mut-task-requires c = let some = some_task (map_of c.self.inside) c.args.self.now c.args.name c.self.view_is c.requires in
+    omega (arith, c.len-last.ensures, c.self.inside.tasks.ok.0)
 
 pub invariant_of-self-2 : goal.invariant_of-self-2
 invariant_of-self-2 c =
