@@ -2,8 +2,6 @@
 use Rattle.std.proofs.Common.{◌≡◌, ◌∙◌, ℕ, List, [], ◌∷◌, Ok, Err, Result, sym, subst}
 use Rattle.energy_trace.specs.Reading.{trace_of}
 use Rattle.image_text.specs.Reading.{image_of}
-use Rattle.image_text.specs.ImageValue.{ImageValue}
-use Rattle.state_text.specs.declared.state.State.{State}
 use Rattle.state_text.specs.Reading.{state_of}
 use Rattle.fram_state.specs.Belongs.{IsAnswer}
 use Rattle.fram_state.specs.Laws.{AnswersAreOne}

@@ -2,7 +2,6 @@
 use Rattle.std.proofs.Common.{◌≡◌, ◌∙◌, ℕ, List, [], ◌∷◌, Ok, Option, Result, refl, sym, ap, subst}
 use Rattle.energy_trace.specs.TraceValue.{TraceValue}
 use Rattle.energy_trace.specs.Reading.{trace_of}
-use Rattle.image_text.specs.ImageValue.{ImageValue}
 use Rattle.image_text.specs.Reading.{image_of}
 use Rattle.state_text.specs.declared.state.State.{State}
 use Rattle.state_text.specs.Reading.{state_of}

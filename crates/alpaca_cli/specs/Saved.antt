@@ -8,14 +8,14 @@ use Rattle.state_text.specs.Reading.{state_of}
 use Rattle.state_text.specs.Text.{state_text}
 use Rattle.fram_board.specs.Board.{BoardValue, started}
 use Rattle.fram_board.specs.Saved.{saved}
-use Rattle.fram_board.specs.Run.{End, RunOutcome, Run}
+use Rattle.fram_board.specs.Run.{RunOutcome, Run}
 use Rattle.board_run.specs.declared.trace_run.RunEnd.{RunEnd}
 use Rattle.board_run.specs.declared.trace_run.RunFault.{RunFault}
 use Rattle.board_run.specs.declared.trace_run.RunFault.TheVariants as fault
 use Rattle.board_run.specs.Charges.{charges_of}
-use Rattle.board_run.specs.History.{History, start_of}
+use Rattle.board_run.specs.History.{start_of}
 use Rattle.board_run.specs.Report.{after_all, answer_of, last_line}
-use Rattle.alpaca_cli.specs.Ending.{Ending, well, at_fault}
+use Rattle.alpaca_cli.specs.Ending.{Ending, well}
 use Rattle.alpaca_cli.specs.Generated.{reason_of}
 use Rattle.alpaca_cli.specs.RunReport.{ending_of}
 

@@ -1,5 +1,5 @@
 -- The headline: the report of the image of an accepted source, on any trace, is told by the source.
-use Rattle.std.specs.Prelude.{◌≡◌, ℕ, List, Some, ◌++◌}
+use Rattle.std.specs.Prelude.{◌≡◌, ℕ, List, ◌++◌}
 use Rattle.link_image.specs.cost_bound.declared.allowance.Allow.{Allow}
 use Rattle.link_image.specs.energy_trace.TraceValue.{TraceValue}
 use Rattle.link_image.specs.image_text.ImageValue.{ImageValue}
