@@ -9,7 +9,10 @@ use Rattle.state_text.specs.declared.state.State.{State}
 use Rattle.state_text.specs.Reading.{state_of}
 use Rattle.fram_state.specs.Belongs.{Belongs}
 use Rattle.fram_board.specs.Board.{BoardValue, fresh}
+use Rattle.fram_board.specs.Run.{RunOutcome, Run}
+use Rattle.board_run.specs.Charges.{charges_of}
 use Rattle.board_run.specs.History.{History, start_of}
+use Rattle.board_run.specs.Report.{report_of}
 use Rattle.source_values.specs.Runs.{CheckedProgram}
 use Rattle.source_report.specs.SourceReport.{IsMeanReport}
 use Rattle.alpaca_cli.specs.declared.failure.Failure.{Failure}
@@ -28,6 +31,7 @@ use Rattle.alpaca_cli.specs.Outcomes.{FailsBy, FailsWriting, Gains}
 use Rattle.alpaca_cli.specs.Outside.{Shelved, Written, Stands, IsSilent, WhereStands, IsPut}
 use Rattle.alpaca_cli.specs.Products.{Product, IsProduct, IsRefused, IsListing}
 use Rattle.alpaca_cli.specs.Refusals.{Refusal}
+use Rattle.alpaca_cli.specs.Resumed.{IsOfItsSource}
 use Rattle.alpaca_cli.specs.RunReport.{IsReportFrom}
 use Rattle.alpaca_cli.specs.Saved.{from_state}
 use Rattle.alpaca_cli.specs.Sources.{IsSourceText}
@@ -134,22 +138,25 @@ run_product a b image trace i t board image_said trace_said is_board ending outp
 -- ---- `resume`
 
 pub resume_product : (a b c image state trace : List ℕ) (i : ImageValue) (s : State) (t : TraceValue) (board : BoardValue)
-    → image_of image ≡ Ok i → state_of state ≡ Ok s → trace_of trace ≡ Ok t → Belongs i s → board ≡ from_state s t
+    → image_of image ≡ Ok i → state_of state ≡ Ok s → trace_of trace ≡ Ok t → Belongs i s
+    → ((r : RunOutcome) → Run (charges_of t.charges) (from_state s t) r → IsOfItsSource i s t r (report_of (start_of s.image) r)) → board ≡ from_state s t
     → (ending : Ending) (output : List ℕ) → IsReportFrom board (start_of s.image) t ending output
     → IsProduct (resume a b c) (image ∷ state ∷ trace ∷ []) (output_alone output ending)
-resume_product a b c image state trace i s t board image_said state_said trace_said belongs is_board ending output r = (
-  record {
-    value = i;
-    saved = s;
-    charges = t;
-    image_said = image_said;
-    state_said = state_said;
-    trace_said = trace_said;
-    belongs = belongs;
-    report = told_from board (from_state s t) (start_of s.image) (start_of s.image) t is_board refl ending output r;
-  },
-  refl,
-)
+resume_product a b c image state trace i s t board image_said state_said trace_said belongs law is_board ending output r =
+    let report = told_from board (from_state s t) (start_of s.image) (start_of s.image) t is_board refl ending output r in (
+      record {
+        value = i;
+        saved = s;
+        charges = t;
+        image_said = image_said;
+        state_said = state_said;
+        trace_said = trace_said;
+        belongs = belongs;
+        report = report;
+        of_source = subst (IsOfItsSource i s t report.outcome) (sym report.lines) (law report.outcome report.run);
+      },
+      refl,
+    )
 
 -- ---- `mean`, whose source keeps its text
 

@@ -15,6 +15,7 @@ mod RunLaws
 mod SaveLaws
 mod ShelfLaws
 mod SourceLaws
+mod StateLaws
 mod StatusLaws
 mod TraceLaws
 mod TrialLaws

@@ -10,7 +10,7 @@ use Rattle.state_text.specs.declared.state.State.{State}
 use Rattle.state_text.specs.Reading.{state_of}
 use Rattle.fram_board.specs.Board.{BoardValue}
 use Rattle.fram_board.specs.Saved.{saved}
-use Rattle.fram_board.specs.Run.{End, Charges, Stopped}
+use Rattle.fram_board.specs.Run.{End, Charges, Stopped, RunOutcome, Run}
 use Rattle.board_run.specs.declared.trace_run.RunEnd.{RunEnd}
 use Rattle.board_run.specs.declared.trace_run.RunEnd.TheVariants as run_end
 use Rattle.board_run.specs.declared.trace_run.RunFault.{RunFault}
@@ -23,7 +23,7 @@ use Rattle.alpaca_cli.specs.Calls.{save}
 use Rattle.alpaca_cli.specs.Ending.{Ending, well, at_fault}
 use Rattle.alpaca_cli.specs.Outside.{Shelved, Written, Stands}
 use Rattle.alpaca_cli.specs.RunReport.{ending_of}
-use Rattle.alpaca_cli.specs.Saved.{IsSavedAt, RanFrom, Saves, from_state, told_end, told_fault}
+use Rattle.alpaca_cli.specs.Saved.{IsSavedAt, RanFrom, Saves, StaysWithItsImage, from_state, told_end, told_fault}
 use Rattle.alpaca_cli.proofs.RunLaws.{ends_well, ends_at_fault}
 
 -- ---- the run, to a sink that never fails
@@ -91,11 +91,13 @@ pub record RanOn (image trace : List ℕ) (end : Result RunEnd RunFault) (board 
   pub state_said : state_of image ≡ Ok state
   pub trace_said : trace_of trace ≡ Ok charges
   pub ran : RanFrom state charges end board completed
+  pub stays : StaysWithItsImage state ran.outcome
 
 abbrev pub ran_on : (image trace : List ℕ) (s : State) (t : TraceValue) (end : Result RunEnd RunFault) (board : BoardValue) (completed : ℕ)
-    → state_of image ≡ Ok s → trace_of trace ≡ Ok t → RanFrom s t end board completed → RanOn image trace end board completed
-ran_on image trace s t end board completed state_said trace_said ran =
-    record { state = s; charges = t; state_said = state_said; trace_said = trace_said; ran = ran }
+    → state_of image ≡ Ok s → trace_of trace ≡ Ok t → ((r : RunOutcome) → Run (charges_of t.charges) (from_state s t) r → StaysWithItsImage s r)
+    → RanFrom s t end board completed → RanOn image trace end board completed
+ran_on image trace s t end board completed state_said trace_said stay ran =
+    record { state = s; charges = t; state_said = state_said; trace_said = trace_said; ran = ran; stays = stay ran.outcome ran.run }
 
 module _ (image trace : List ℕ) (end : Result RunEnd RunFault) (board : BoardValue) (completed : ℕ) (r : RanOn image trace end board completed) where
   saves : (file : Option (List ℕ)) (ending : Ending) (output : List ℕ) → ending ≡ ending_of r.ran.outcome.ending
@@ -110,6 +112,7 @@ module _ (image trace : List ℕ) (end : Result RunEnd RunFault) (board : BoardV
     run = r.ran.run;
     ends = ends;
     put = subst (λ b. IsSavedAt ending file (saved b r.state.image.map)) r.ran.at_end put;
+    stays = r.stays;
     line = line ∙ ap (λ b. last_line (after_all (start_of r.state.image) r.ran.outcome.moments) r.ran.outcome.ending b) r.ran.at_end;
   }
 

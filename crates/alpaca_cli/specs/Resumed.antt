@@ -10,14 +10,24 @@ use Rattle.fram_state.specs.declared.fault.StateFault.{StateFault}
 use Rattle.fram_state.specs.declared.fault.StateFault.TheVariants.{OtherMap, OtherWord, Unsound}
 use Rattle.fram_state.specs.Belongs.{Belongs, IsAnswer}
 use Rattle.fram_state.specs.Rules.{rule_name}
+use Rattle.fram_board.specs.Run.{RunOutcome}
 use Rattle.board_run.specs.History.{start_of}
+use Rattle.link_image.specs.Compiled.{IsImageOf}
+use Rattle.compiled_states.specs.Worlds.{IsToldByItsSource, LeavesItsStates}
 use Rattle.alpaca_cli.specs.Ending.{Ending}
 use Rattle.alpaca_cli.specs.Refusals.{Detail, Refusal, name, address}
 use Rattle.alpaca_cli.specs.RunReport.{IsReportFrom}
 use Rattle.alpaca_cli.specs.Saved.{from_state}
 
+-- What holds of a run from a state, on a trace, where the image is what the compiler makes of a source, whatever its text. The report is told by
+-- the source: from the state on, or behind the transition of the commit that is pending there; and what is saved of each of the run's
+-- boards, and at its end, belongs to the image again.
+pub record IsOfItsSource (image : ImageValue) (s : State) (trace : TraceValue) (r : RunOutcome) (output : List ℕ) : Type 0 where
+  pub told : IsToldByItsSource image s trace r output
+  pub stays : (source : List ℕ) → IsImageOf source image → LeavesItsStates image s (from_state s trace) r
+
 -- The texts are an image, a state that belongs to it, and a trace. This is the report of the run of the board that goes on from the
--- state, on the trace, and that run ends so.
+-- state, on the trace, and that run ends so. And where the image is one of a source, the run is as the source says.
 pub record Resumes (image state trace : List ℕ) (ending : Ending) (output : List ℕ) : Type 0 where
   pub value : ImageValue
   pub saved : State
@@ -27,6 +37,7 @@ pub record Resumes (image state trace : List ℕ) (ending : Ending) (output : Li
   pub trace_said : trace_of trace ≡ Ok charges
   pub belongs : Belongs value saved
   pub report : IsReportFrom (from_state saved charges) (start_of saved.image) charges ending output
+  pub of_source : IsOfItsSource value saved charges report.outcome output
 
 -- ---- a state that is refused
 

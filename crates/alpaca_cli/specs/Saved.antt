@@ -1,11 +1,13 @@
 -- The state that `save` puts, and the line that it writes.
-use Rattle.std.specs.Prelude.{◌≡◌, ℕ, List, [], Option, None, Result, Ok, IsSomeAnd}
+use Rattle.std.specs.Prelude.{◌≡◌, ℕ, ◌⊎◌, List, [], Option, None, Result, Ok, IsSomeAnd}
 use Rattle.alp_io.specs.Report.{illegal_line, bus_line, end_line}
 use Rattle.energy_trace.specs.TraceValue.{TraceValue}
 use Rattle.energy_trace.specs.Reading.{trace_of}
+use Rattle.image_text.specs.ImageValue.{ImageValue}
 use Rattle.state_text.specs.declared.state.State.{State}
 use Rattle.state_text.specs.Reading.{state_of}
 use Rattle.state_text.specs.Text.{state_text}
+use Rattle.fram_state.specs.Belongs.{Belongs}
 use Rattle.fram_board.specs.Board.{BoardValue, started}
 use Rattle.fram_board.specs.Saved.{saved}
 use Rattle.fram_board.specs.Run.{RunOutcome, Run}
@@ -32,6 +34,14 @@ abbrev pub IsSavedAt : Ending → Option (List ℕ) → State → Type 0
 IsSavedAt well file s = IsSomeAnd file (λ text. (text ≡ state_text s) × (state_of text ≡ Ok s))
 IsSavedAt ending file s = file ≡ None
 
+-- a state from which a run of an image goes on: the image before anything was done, or one that belongs to it
+abbrev pub IsStateOf : ImageValue → State → Type 0
+IsStateOf image s = (s ≡ record { image = image; receiver = 0 }) ⊎ Belongs image s
+
+-- of whatever source's image a run went on from a state, what is saved at the run's end belongs to it, so that the image takes it
+abbrev pub StaysWithItsImage : State → RunOutcome → Type 0
+StaysWithItsImage s r = (source : List ℕ) (image : ImageValue) → IsImageOf source image → IsStateOf image s → Belongs image (saved r.board s.image.map)
+
 -- The texts are a state, or an image, whose receiver takes word 0 next; and a trace. The board that goes on from it has one run on the
 -- trace, which ends so; this file holds the FRAM, the map and the receiver's next number of the run's last board, and this is the last line of
 -- the run's report.
@@ -44,6 +54,7 @@ pub record Saves (image trace : List ℕ) (file : Option (List ℕ)) (ending : E
   pub run : Run (charges_of charges.charges) (from_state state charges) outcome
   pub ends : ending ≡ ending_of outcome.ending
   pub put : IsSavedAt ending file (saved outcome.board state.image.map)
+  pub stays : StaysWithItsImage state outcome
   pub line : output ≡ line_at_end state outcome
 
 -- the run of the board that goes on from a state, which answers so, and the board and the count of transitions at its end

@@ -19,7 +19,7 @@ use crate::inputs::{ThreeTexts, read_three_texts};
 use crate::messages;
 use crate::refusal::{Detail, Refusal};
 use crate::run::{RunEnding, write_run};
-use crate::states::state_of;
+use crate::states::{state_is_told, state_of};
 use crate::status::Status;
 use crate::traces::trace_of;
 use alp_io::{Shelf, Sink};
@@ -96,6 +96,7 @@ pub fn resume_texts<'t, O: Sink>(
     let state = state_of(alloc, names.1, state)?;
     let trace = trace_of(alloc, names.2, trace)?;
     check_belongs(names.1, &image, &state)?;
+    state_is_told(&image, &state, &trace);
     let Ok(mut board) = Board::from_state(alloc, &state, trace.readings()) else {
         return Err(Failure::Memory);
     };

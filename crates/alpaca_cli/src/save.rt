@@ -21,7 +21,7 @@ use crate::inputs::read_texts;
 use crate::messages;
 use crate::puts::put_file;
 use crate::run::RunEnding;
-use crate::states::state_of;
+use crate::states::{state_of, state_stays};
 use crate::status::Status;
 use crate::traces::trace_of;
 use alp_io::{Failed, NullSink, Report, Shelf, Sink};
@@ -135,6 +135,7 @@ pub fn save_texts<'t, H: Shelf, O: Sink>(
 {
     let state = state_of(alloc, names.0, texts.0)?;
     let trace = trace_of(alloc, names.1, texts.1)?;
+    state_stays(&state, &trace);
     let ran = run_from(alloc, &state, &trace)?;
     match ran.end {
         Ok(end) => {

@@ -1,10 +1,21 @@
-//! A state text, read for a command.
-ghost use Rattle.std.specs.Prelude.{◌≡◌, ◌<◌, IfOk, IfErr, Ok, length};
+//! A state text, read for a command, and what the runs from it owe to sources.
+ghost use Rattle.std.specs.Prelude.{◌≡◌, ◌<◌, ◌^◌, All, IfOk, IfErr, Ok, length};
 ghost use Rattle.state_text.specs.Reading.{state_of};
+ghost use Rattle.fram_state.specs.Belongs.{Belongs};
+ghost use Rattle.fram_board.specs.Run.{RunOutcome, Run};
+ghost use Rattle.board_run.specs.Charges.{charges_of};
+ghost use Rattle.board_run.specs.History.{start_of};
+ghost use Rattle.board_run.specs.Report.{report_of};
+ghost use Rattle.source_runs.specs.Traces.{IsTraceOfWords};
+ghost use Rattle.compiled_states.specs.Worlds.{HasFramWords};
+ghost use Rattle.alpaca_cli.specs.Resumed.{IsOfItsSource};
+ghost use Rattle.alpaca_cli.specs.Saved.{StaysWithItsImage, from_state};
 ghost use Rattle.alpaca_cli.specs.Texts.{RefusesState, FailsRefused};
 
 use crate::failure::{Failure, refused_plainly};
-use image_text::ImageFault;
+use compiled_states::{fresh_states_belong, states_are_told, states_stay};
+use energy_trace::Trace;
+use image_text::{Image, ImageFault};
 use state_text::{State, parse_state};
 use std::alloc::Global;
 
@@ -26,4 +37,39 @@ pub fn state_of<'t>(alloc: Global, file: &'t str, text: &[u8]) -> Result<State, 
         Err(ImageFault::BadMap { line }) => Err(refused_plainly(file, line, "BadMap")),
         Err(ImageFault::Memory) => Err(Failure::Memory),
     }
+}
+
+// Words are below 65536.
+fn are_words(words: &[u16])
+    ensures { All (λ w. w < 2 ^ 16) words.now }
+{}
+
+// A state has the words of the FRAM.
+fn has_fram_words(state: &State)
+    ensures { HasFramWords state.now }
+{
+    are_words(state.image.words());
+    let _receiver = state.receiver;
+}
+
+/// The run from a state that belongs to an image is as the image's source says, if it is the image of one.
+pub fn state_is_told(image: &Image, state: &State, trace: &Trace)
+    requires belongs { Belongs image.now state.now }
+    requires words { IsTraceOfWords trace.now }
+    ensures { (r : RunOutcome) → Run (charges_of trace.now.charges) (from_state state.now trace.now) r
+        → IsOfItsSource image.now state.now trace.now r (report_of (start_of state.now.image) r) }
+{
+    has_fram_words(state);
+    states_are_told();
+    states_stay();
+}
+
+/// What is saved at the end of a run from a state belongs to the image from which the run went on, if that is the image of a source.
+pub fn state_stays(state: &State, trace: &Trace)
+    requires { IsTraceOfWords trace.now }
+    ensures { (r : RunOutcome) → Run (charges_of trace.now.charges) (from_state state.now trace.now) r → StaysWithItsImage state.now r }
+{
+    has_fram_words(state);
+    fresh_states_belong();
+    states_stay();
 }

@@ -3,8 +3,10 @@ pub mod Told
 pub mod Capacities
 pub mod ImageStart
 pub mod ImageCode
+pub mod Untouched
 pub mod Onward
 pub mod ImageLaw
 pub mod Resumed
 pub mod Tasks
 pub mod CompiledTold
+pub mod Interface

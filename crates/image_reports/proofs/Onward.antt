@@ -27,11 +27,11 @@ use Rattle.link_image.specs.memory_map.MemoryMap.{MemoryMap, word_place}
 use Rattle.link_image.specs.runtime_effects.Stages.{commit_effects}
 use Rattle.link_image.specs.boot_runtime.Entries.{task_entries}
 use Rattle.link_image.specs.boot_runtime.Listing.{privates_in}
-use Rattle.link_image.specs.crash_rules.Model.{Model, ModelLaws, program_effects, with_commit, script}
+use Rattle.link_image.specs.crash_rules.Model.{IsElsewhere, Model, ModelLaws, program_effects, with_commit, script}
 use Rattle.link_image.specs.crash_rules.History.{History, first_history}
 use Rattle.link_image.specs.crash_rules.Runs.{Program}
 use Rattle.link_image.specs.crash_rules.Laws.{Origin, Phase, UndecidedPhase, DecidedPhase, CommittingPhase, StandsFor, Begins}
-use Rattle.link_image.proofs.crash_rules.Interface.{world_fram, never_lost, sent_once, pending_sends, stops_short}
+use Rattle.link_image.proofs.crash_rules.Interface.{world_fram, never_lost, sent_once, pending_sends, stops_short, stores_only}
 use Rattle.link_image.specs.run_charges.Charges.{AreInstructionMoments, IsPlacedProgram}
 use Rattle.link_image.specs.run_charges.Laws.{IsRunOfWords}
 use Rattle.link_image.proofs.run_charges.Interface.{IsMomentFrom, PowersUp, Instructs, AreMoments, are_behind, front_moments, Counts, moments_count}
@@ -39,6 +39,7 @@ use Rattle.link_image.specs.model_runs.Runs.{BearsModel, Progresses}
 use Rattle.link_image.specs.model_runs.EventLaws.{StartsWith}
 use Rattle.link_image.proofs.model_runs.Interface.{AtFront, at_front, is_powered, program_leads, starts_hold, fronts_are_lawful, makes_progress}
 use Rattle.link_image.specs.stands_for.StandsFor.{HoldsWords, IsSound, SoundAtRest, SoundPending}
+use Rattle.link_image.proofs.stands_for.Interface.{commit_stores_there, each_weaker}
 use Rattle.link_image.specs.compiled_model.Places.{program_places}
 use Rattle.link_image.specs.compiled_model.Parts.{compiled_model}
 use Rattle.compiled_laws.specs.compiled_bounds.Laws.{KeepsCapacities}
@@ -56,6 +57,7 @@ use Rattle.image_reports.specs.Resumed.{BelongsTo, known_from, HoldsFrom}
 use Rattle.image_reports.proofs.Capacities.{attempts_fit}
 use Rattle.image_reports.proofs.Told.{made}
 use Rattle.image_reports.proofs.ImageStart.{versions_below}
+use Rattle.image_reports.proofs.Untouched.{NeverThere, untouched}
 use Rattle.image_reports.proofs.ImageCode.{GoesOn, StopsAtReadings, goes_on, StandsOn, stands_on, placed_within, same_words, words_fetched}
 
 -- what is due is the crash theorem's script
@@ -180,6 +182,17 @@ module _ (text : List ℕ) (p : CheckedProgram) (allow : Allow) (image : ImageVa
   stops_at_readings es t k charged q up fram left n price e halted =
       (stops_short model program ready.model bearing.program readings origin x (machine_of b) bearing.begins es t k charged q up fram left n price e halted).0
 
+  -- no step stores on the code or behind it
+  never_there : (a : ℕ) → l.boot.address ≤ a
+      → NeverThere a program bearing.program.changes (word_place l Gate) (machine_of b) (first_history (word_place l Gate) x)
+  never_there a from es t k charged q up fram left n =
+      let P : ℕ → ℕ → Type 0 = λ d w. d < l.boot.address in
+      let apart = ready.code.apart in
+      each_weaker P (IsElsewhere a) (λ d w low e. omega (arith, low, from, e)) _
+      (stores_only model program P ready.model bearing.program (λ st y rs w u. ready.stores.below st y rs w u)
+      (λ to y d. each_weaker _ P (λ d w h. let low = h.below in omega (arith, low, apart)) _ (commit_stores_there (program_places p l) y apart d.pending))
+      readings origin x (machine_of b) begins es t k charged q up fram left n)
+
   -- the board is one that a power-up left
   begins_on : GoesOn program (machine_of b)
   begins_on es price e stops =
@@ -253,6 +266,11 @@ module _ (text : List ℕ) (p : CheckedProgram) (allow : Allow) (image : ImageVa
         capacities_are_kept program p l ready.code.apart (attempts_fit text p allow image ok c) readings origin x cs b r run bearing belongs.capacities
         ms rest e
 
+    kept : (a : ℕ) → l.boot.address ≤ a → fram_of t.fram a ≡ x.fram a
+    kept a from =
+        untouched a program bearing.program.changes (word_place l Gate) at.charges (machine_of b) (machine_of t) (first_history (word_place l Gate) x) h
+        (never_there a from) at.charged
+
     pub front : HoldsFrom p l image x origin readings t ms h
     front =
         let known = fronts_are_lawful model program readings origin x cs b r run bearing ms rest e in
@@ -288,6 +306,7 @@ module _ (text : List ℕ) (p : CheckedProgram) (allow : Allow) (image : ImageVa
             capacities = subst Capacities same keeps_capacities;
             sound = phase_sound p l ready.model readings origin lawful.stands.state h lawful.stands.phase;
           };
+          kept = kept;
           fetches = fetches;
         }
 

@@ -80,8 +80,8 @@ module _ (text : List ℕ) (p : CheckedProgram) (allow : Allow) (image : ImageVa
   states = worlds_stand text p allow image ok c
 
   -- a board that goes on is as whole as a fresh one
-  run : IsRunOfWords cs b r
-  run =
+  pub of_words : IsRunOfWords cs b r
+  of_words =
       let w = fresh_is_whole fram readings long few are_words words in
       let whole = w.0 in let of_words = w.1 in
       record {
@@ -119,7 +119,7 @@ module _ (text : List ℕ) (p : CheckedProgram) (allow : Allow) (image : ImageVa
   begun = begun_by belongs.sound
 
   abbrev bears : BearsModel model program readings origin x b
-  bears = bearing text p allow image ok c fram number accepted count belongs origin cs readings words begun r run
+  bears = bearing text p allow image ok c fram number accepted count belongs origin cs readings words begun r of_words
 
   source : IsSourcesMap text p l m
   source = record {
@@ -151,7 +151,7 @@ module _ (text : List ℕ) (p : CheckedProgram) (allow : Allow) (image : ImageVa
   module _ (few_in_all : all_amounts cs < 2 ^ 64) where
     told : ResumedRunIsTold model program text p m x cs b r
     told = resumed_runs_are_told model program text p m x cs b r (models_are_of_sources text p l m source)
-        (starts_with text p allow image ok c fram number accepted count belongs origin cs readings words begun r run) run few_in_all
+        (starts_with text p allow image ok c fram number accepted count belongs origin cs readings words begun r of_words) of_words few_in_all
 
     onward_by : IsSound (program_places p l) x → IsToldOnward text p m l x cs b r (report_of (start_with fram (Some m)) r)
     onward_by (SoundAtRest q) =
@@ -170,7 +170,7 @@ pub images_resume : ImagesResume
 images_resume text p allow image ok c fram long are_words number accepted count belongs cs starts readings words few r go =
     let l = c.layout in
     let x : World = record { fram = fram_of fram; accepted = accepted } in
-    let same = run text p allow image ok c fram long are_words number accepted count belongs cs starts readings words few r go in
+    let same = of_words text p allow image ok c fram long are_words number accepted count belongs cs starts readings words few r go in
     let at = begun text p allow image ok c fram long are_words number accepted count belongs cs starts readings words few r go in
     let o = origin_of l x in
     let bear = bearing text p allow image ok c fram number accepted count belongs o cs readings words at r same in

@@ -88,6 +88,8 @@ pub record HoldsFrom (p : CheckedProgram) (l : MemoryMap) (image : ImageValue) (
   pub sent : (to : State) → origin ≡ Pending to → h.completed ≡ [] → IsBetween x.accepted to.emitted h.world.accepted
   pub versions : h.effects ≡ start_due l h.start.fram → VersionsBelow l (fram_of b.fram)
   pub belongs : BelongsTo p l image h.world
+  -- no store fell on the code, nor on a word behind it
+  pub kept : (a : ℕ) → l.boot.address ≤ a → fram_of b.fram a ≡ x.fram a
   pub fetches : FetchesCode p l image b
 
 -- What holds of a run of an image from a saved state, with these words in FRAM and this number for the next word; the words accepted before

@@ -34,7 +34,7 @@ returns-clause-whole g c =
     let is_board = c.in-Ok.ensures ∙ ap (started c.in_ok-state.state.image.words c.in_ok-state.state.receiver) c.readings.ensures.value in
     report_whole _ _ _ _ _ _ _ refl
     (resume_product c.args.names.0.now c.args.names.1.now c.args.names.2.now _ _ _ _ _ _ _ c.in_ok-image.ensures.said c.in_ok-state.ensures.said
-    c.in_ok-trace.ensures.said c.in_ok-check_belongs.ensures.belongs is_board)
+    c.in_ok-trace.ensures.said c.in_ok-check_belongs.ensures.belongs c.state_is_told.ensures is_board)
     c.write_run.ensures.whole
 
 pub returns-clause-failure : goal.returns-clause-failure
@@ -42,5 +42,5 @@ returns-clause-failure g c =
     let is_board = c.in-Ok.ensures ∙ ap (started c.in_ok-state.state.image.words c.in_ok-state.state.receiver) c.readings.ensures.value in
     report_fails _ _ _ _ _ _ _ refl
     (resume_product c.args.names.0.now c.args.names.1.now c.args.names.2.now _ _ _ _ _ _ _ c.in_ok-image.ensures.said c.in_ok-state.ensures.said
-    c.in_ok-trace.ensures.said c.in_ok-check_belongs.ensures.belongs is_board)
+    c.in_ok-trace.ensures.said c.in_ok-check_belongs.ensures.belongs c.state_is_told.ensures is_board)
     c.write_run.ensures.failure

@@ -21,20 +21,20 @@ returns-in_err-ran-clause-failure g c =
 
 pub returns-in_err-put_file-in-Ok-clause-failure : goal.returns-in_err-put_file-in-Ok-clause-failure
 returns-in_err-put_file-in-Ok-clause-failure g c =
-    let ran = ran_on _ _ _ _ _ _ _ c.in_ok-state.ensures.said c.in_ok-trace.ensures.said c.in_ok-ran.ensures.ran in
+    let ran = ran_on _ _ _ _ _ _ _ c.in_ok-state.ensures.said c.in_ok-trace.ensures.said c.state_stays.ensures c.in_ok-ran.ensures.ran in
     let product = saves_well _ _ _ _ _ ran _ _ _ c.in-Ok.is (c.in_ok-text-in-Ok.ensures.text, c.in_ok-text-in-Ok.ensures.reads_back) refl in
     handed_on _ _ _ c.from_residual-in_err-put_file-in-Ok.ensures (put_fails _ _ _ _ _ _ _ _ refl product refl c.in_err-put_file-in-Ok.ensures.failure)
 
 pub returns-in-Ok-write_end-clause-whole : goal.returns-in-Ok-write_end-clause-whole
 returns-in-Ok-write_end-clause-whole g c =
-    let ran = ran_on _ _ _ _ _ _ _ c.in_ok-state.ensures.said c.in_ok-trace.ensures.said c.in_ok-ran.ensures.ran in
+    let ran = ran_on _ _ _ _ _ _ _ c.in_ok-state.ensures.said c.in_ok-trace.ensures.said c.state_stays.ensures c.in_ok-ran.ensures.ran in
     put_whole (λ output. output ≡ _) _ _ _ _ _ _ _ refl
     (λ output line. saves_well _ _ _ _ _ ran _ _ output c.in-Ok.is (c.in_ok-text-in-Ok.ensures.text, c.in_ok-text-in-Ok.ensures.reads_back) line)
     c.as_slice.ensures.value c.in_ok-put_file-in-Ok.ensures.put (_, refl, c.in-Ok-write_end.ensures.bytes.whole)
 
 pub returns-in-Ok-clause-failure : goal.returns-in-Ok-clause-failure
 returns-in-Ok-clause-failure g c =
-    let ran = ran_on _ _ _ _ _ _ _ c.in_ok-state.ensures.said c.in_ok-trace.ensures.said c.in_ok-ran.ensures.ran in
+    let ran = ran_on _ _ _ _ _ _ _ c.in_ok-state.ensures.said c.in_ok-trace.ensures.said c.state_stays.ensures c.in_ok-ran.ensures.ran in
     put_breaks (λ output. output ≡ _) _ _ _ _ _ _ _ refl
     (λ output line. saves_well _ _ _ _ _ ran _ _ output c.in-Ok.is (c.in_ok-text-in-Ok.ensures.text, c.in_ok-text-in-Ok.ensures.reads_back) line)
     c.as_slice.ensures.value c.in_ok-put_file-in-Ok.ensures.put (_, refl, c.in-Err-write_end.ensures.bytes.part, c.in-Err-write_end.ensures.cause.failed)
@@ -44,10 +44,10 @@ write_fault-requires g c = ends_by_itself _ _ _ _ _ c.in_ok-ran.ensures.ran _ c.
 
 pub returns-in-Ok-write_fault-clause-whole : goal.returns-in-Ok-write_fault-clause-whole
 returns-in-Ok-write_fault-clause-whole g c =
-    let ran = ran_on _ _ _ _ _ _ _ c.in_ok-state.ensures.said c.in_ok-trace.ensures.said c.in_ok-ran.ensures.ran in
+    let ran = ran_on _ _ _ _ _ _ _ c.in_ok-state.ensures.said c.in_ok-trace.ensures.said c.state_stays.ensures c.in_ok-ran.ensures.ran in
     fault_whole _ _ _ _ _ ran _ _ _ _ _ _ c.in-Err.is refl c.in-Ok-write_fault.ensures.bytes.whole
 
 pub returns-clause-failure : goal.returns-clause-failure
 returns-clause-failure g c =
-    let ran = ran_on _ _ _ _ _ _ _ c.in_ok-state.ensures.said c.in_ok-trace.ensures.said c.in_ok-ran.ensures.ran in
+    let ran = ran_on _ _ _ _ _ _ _ c.in_ok-state.ensures.said c.in_ok-trace.ensures.said c.state_stays.ensures c.in_ok-ran.ensures.ran in
     fault_breaks _ _ _ _ _ ran _ _ _ _ _ _ c.in-Err.is refl c.in-Err-write_fault.ensures.bytes.part c.in-Err-write_fault.ensures.cause.failed

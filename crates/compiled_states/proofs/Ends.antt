@@ -1,0 +1,55 @@
+-- What is saved at the end of a run is what is saved of the board behind its last moment.
+use Rattle.std.proofs.Common.{◌≡◌, ℕ, ◌-◌, refl, sym, ap, ◌∙◌, List, [], ◌∷◌, ◌++◌, Option, Err}
+use Rattle.link_image.specs.msp_isa.declared.instructions.Instr.{Instr}
+use Rattle.link_image.specs.msp_step.declared.machine.Stop.{Stop}
+use Rattle.link_image.specs.msp_step.Registers.{Registers, registers_of}
+use Rattle.link_image.specs.msp_step.Access.{Access, Completed, Faulted}
+use Rattle.link_image.specs.msp_step.Effect.{Written}
+use Rattle.link_image.specs.msp_step.Step.{effect, outcome_of}
+use Rattle.link_image.proofs.fram_board.msp_step.Interface.{Ends, effect_ends}
+use Rattle.link_image.specs.image_map.MapValue.{MapValue}
+use Rattle.fram_state.specs.state_text.declared.state.State.{State}
+use Rattle.link_image.specs.fram_board.Bus.{BusState, board_bus}
+use Rattle.link_image.specs.fram_board.Board.{BoardValue, opened, board_outcome, executed, powered, next_number, receiver_after}
+use Rattle.link_image.specs.fram_board.Saved.{saved}
+use Rattle.link_image.specs.fram_board.Run.{Measure, Moment, Charges, Stopped, RunOutcome, run_outcome, BoardCharge, price, ChargeRun, Spent, NoInstruction}
+use Rattle.link_image.specs.fram_board.Run.{TooDear, Refused, Executed, Run, Over, Next, Last}
+use Rattle.link_image.proofs.fram_board.Interface.{only_takes}
+use Rattle.link_image.specs.machine_effects.Runs.{last_board}
+use Rattle.link_image.proofs.run_charges.Interface.{charge_last}
+
+module _ (map : Option MapValue) where
+  -- an instruction that stops takes readings alone
+  stopped_saved : (b : BoardValue) (i : Instr) (m : Access BusState (Registers × Option Written)) (e : Stop) → Ends board_bus 2 (opened b) m
+      → (board_outcome b (outcome_of i (registers_of b.cpu) m)).answer ≡ Err e
+      → saved (board_outcome b (outcome_of i (registers_of b.cpu) m)).board map ≡ saved b map
+  stopped_saved b i (Completed x s) e h a = absurd cc
+  stopped_saved b i (Faulted f c s) e h a =
+      let of_bus : BusState → State = λ y. record {
+        image = record { words = y.fram; map = map };
+        receiver = next_number (receiver_after y.outnum y.offered b.receiver);
+      } in
+      ap of_bus (only_takes 2 (opened b) s h).same
+
+  refused_saved : (b : BoardValue) (i : Instr) (e : Stop) → (executed b i).answer ≡ Err e → saved (executed b i).board map ≡ saved b map
+  refused_saved b i e a =
+      stopped_saved b i (effect board_bus i (registers_of b.cpu) (opened b)) e (effect_ends board_bus i (registers_of b.cpu) (opened b)) a
+
+  charge_saved : (m : Measure) (left : ℕ) (b : BoardValue) (r : RunOutcome) → ChargeRun m left b r → saved r.board map ≡ saved (last_board b r.moments) map
+  charge_saved m left b r (Spent _ _ none) = refl
+  charge_saved m left b r (NoInstruction _ _ e pos h) = refl
+  charge_saved m left b r (TooDear _ _ i pos c dear) = refl
+  charge_saved m left b r (Refused _ _ i e pos c paid a) = refused_saved b i e a
+  charge_saved m left b r (Executed _ _ i done rest pos c paid a h) = charge_saved m (left - price m i) (executed b i).board rest h
+
+  behind_both : (b : BoardValue) (ms ns : List Moment) → last_board (last_board b ms) ns ≡ last_board b (ms ++ ns)
+  behind_both b [] ns = refl
+  behind_both b (m ∷ ms) ns = behind_both m.after ms ns
+
+  pub run_saved : (cs : List BoardCharge) (b : BoardValue) (r : RunOutcome) → Run cs b r → saved r.board map ≡ saved (last_board b r.moments) map
+  run_saved cs b r (Over _) = refl
+  run_saved cs b r (Next c ds _ ms end rest one more) =
+      let there : last_board (powered b c.start) ms ≡ end = charge_last c.measure c.amount (powered b c.start) (run_outcome ms Charges end) one refl in
+      run_saved ds end rest more ∙ ap (λ y. saved (last_board y rest.moments) map) (sym there)
+      ∙ ap (λ y. saved y map) (behind_both (powered b c.start) ms rest.moments)
+  run_saved cs b r (Last c ds _ ms stop end one) = charge_saved c.measure c.amount (powered b c.start) (run_outcome ms (Stopped stop) end) one

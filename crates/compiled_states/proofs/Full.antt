@@ -1,0 +1,103 @@
+-- The layout of a source leaves no word unused in front of its code.
+use Rattle.std.proofs.Common.{◌≡◌, ℕ, ◌+◌, ◌*◌, ◌≤◌, Bool, true, false, List, [], ◌∷◌, refl, arith}
+use Rattle.layout_facts.specs.task_ast.declared.Extent.{Extent}
+use Rattle.layout_facts.specs.task_ast.declared.Extent.TheVariants.{Scalar, Array}
+use Rattle.layout_facts.specs.task_ast.declared.SharedDeclaration.{SharedDeclaration}
+use Rattle.layout_facts.specs.cost_bound.declared.allowance.Allow.{Allow}
+use Rattle.layout_facts.specs.cost_bound.Counts.{Code, emits_of}
+use Rattle.layout_facts.specs.cost_bound.Allowance.{CheckedProgram, CheckedTask, IsAllowed, shared_sum_from, place_part, version_part, is_written, total, greatest}
+use Rattle.layout_facts.specs.cost_bound.Allowance.{task_words, list_of, words_of, versions_of}
+use Rattle.layout_facts.specs.war_analysis.PlanValue.{TaskPlanValue}
+use Rattle.layout_facts.specs.memory_map.MemoryMap.{MemoryMap}
+use Rattle.layout_facts.specs.memory_map.Places.{end_of}
+use Rattle.layout_facts.specs.memory_map.Laws.{AreApart}
+use Rattle.layout_facts.proofs.memory_map.Interface.{apart_of}
+use Rattle.layout_facts.specs.privatise.Sizes.{home_part, home_words, copy_part, copy_words, body_words, entry_words, boot_words, commit_words}
+use Rattle.layout_facts.specs.privatise.Layouts.{IsLayout}
+
+-- each part in front of the code begins where the one before ends
+pub record IsFull (l : MemoryMap) : Type 0 where
+  pub row : l.row ≡ 17408
+  pub list : l.list.address ≡ l.row + 16
+  pub emits : l.emits.address ≡ l.list.address + 6 * l.entries
+  pub versions : l.versions.address ≡ end_of l.emits
+  pub homes : l.homes.address ≡ end_of l.versions
+  pub copies : l.copies.address ≡ end_of l.homes
+  pub boot : l.boot.address ≡ end_of l.copies
+
+-- the words of a variable are those of its homes, copies and versions
+part_within : (written : Bool) (e : Extent) → place_part written e ≤ home_part e + copy_part written e + version_part written e
+part_within written (Scalar w) = omega arith
+part_within true (Array n) = omega arith
+part_within false (Array n) = omega arith
+
+places_within : (written : ℕ → Bool) (i : ℕ) (ds : List SharedDeclaration) → shared_sum_from (λ k e. place_part (written k) e) i ds
+    ≤ shared_sum_from (λ k e. home_part e) i ds + shared_sum_from (λ k e. copy_part (written k) e) i ds
+    + shared_sum_from (λ k e. version_part (written k) e) i ds
+places_within written i [] = omega arith
+places_within written i (d ∷ ds) =
+    let here : place_part (written i) d.extent ≤ home_part d.extent + copy_part (written i) d.extent + version_part (written i) d.extent =
+    part_within (written i) d.extent in
+    let rest : shared_sum_from (λ k e. place_part (written k) e) (i + 1) ds
+    ≤ shared_sum_from (λ k e. home_part e) (i + 1) ds + shared_sum_from (λ k e. copy_part (written k) e) (i + 1) ds
+    + shared_sum_from (λ k e. version_part (written k) e) (i + 1) ds = places_within written (i + 1) ds in
+    omega (arith, here, rest)
+
+-- the words of the tasks are those of their starts and of their code
+total_within : (f g h : Code → ℕ) (ts : List CheckedTask) → ((c : Code) → f c ≤ g c + h c) → total f ts ≤ total g ts + total h ts
+total_within f g h [] e = omega arith
+total_within f g h (t ∷ ts) e =
+    let here : f t.body ≤ g t.body + h t.body = e t.body in
+    let rest : total f ts ≤ total g ts + total h ts = total_within f g h ts e in
+    omega (arith, here, rest)
+
+-- what is left in front of the boot, where the code takes as much as it has
+front_of_boot : (boot commit code bw cw tw w e t h c v l m : ℕ) → boot + 2 * bw ≤ commit → commit + 2 * cw ≤ code → code + 2 * tw + 2 ≤ 17408 + 2 * w
+    → bw ≡ 391 + e → cw ≡ 200 → tw ≡ t → w ≤ 600 + (e + t) + (h + c + v) + 3 * l + m → boot ≤ 17424 + 2 * (3 * l + m + v + h + c)
+front_of_boot boot commit code bw cw tw w e t h c v l m x y z a b d k = omega (arith, x, y, z, a, b, d, k)
+
+-- so nothing is left between the parts
+no_room : (l : MemoryMap) → AreApart l → l.boot.address ≤ 17424 + 2 * (3 * l.entries + l.emits.words + l.versions.words + l.homes.words + l.copies.words)
+    → IsFull l
+no_room l a room = record {
+  row = omega (arith, a, room);
+  list = omega (arith, a, room);
+  emits = omega (arith, a, room);
+  versions = omega (arith, a, room);
+  homes = omega (arith, a, room);
+  copies = omega (arith, a, room);
+  boot = omega (arith, a, room);
+}
+
+pub layout_is_full : (p : CheckedProgram) (allow : Allow) (plans : List TaskPlanValue) (l : MemoryMap) → IsAllowed p allow → IsLayout p allow plans l
+    → IsFull l
+layout_is_full p allow plans l h laid =
+    let a = apart_of l laid.rules in
+    let starts = total (entry_words p.shared) p.tasks in
+    let bodies = total (body_words p.shared) p.tasks in
+    let homes = home_words p.shared in
+    let copies = copy_words p in
+    let versions = versions_of p in
+    let list = greatest (list_of p.shared) p.tasks in
+    let emits = greatest emits_of p.tasks in
+    let code : total (task_words p.shared) p.tasks ≤ starts + bodies =
+    total_within (task_words p.shared) (entry_words p.shared) (body_words p.shared) p.tasks (λ c. omega arith) in
+    let data = places_within (is_written p.tasks) 0 p.shared in
+    let all : words_of p ≤ 600 + (starts + bodies) + (homes + copies + versions) + 3 * list + emits = omega (arith, code, data) in
+    let front : l.boot.address ≤ 17424 + 2 * (3 * list + emits + versions + homes + copies) =
+    front_of_boot l.boot.address l.commit.address l.code.address l.boot.words l.commit.words l.code.words (words_of p) starts bodies homes copies versions list
+    emits a.commit a.code laid.size laid.boot laid.commit laid.code all in
+    let entries : l.entries ≡ list = by_two l.entries allow.list list laid.list h.list in
+    let sends : l.emits.words ≡ emits = by_two l.emits.words allow.emits emits laid.emits h.emits in
+    let marks : l.versions.words ≡ versions = by_two l.versions.words allow.versions versions laid.versions h.versions in
+    let own : l.homes.words ≡ homes = laid.homes in
+    let others : l.copies.words ≡ copies = laid.copies in
+    no_room l a (same_room l.boot.address l.entries l.emits.words l.versions.words l.homes.words l.copies.words list emits versions homes copies front
+    entries sends marks own others)
+  where
+    by_two : (a b c : ℕ) → a ≡ b → b ≡ c → a ≡ c
+    by_two a b c e f = omega (arith, e, f)
+
+    same_room : (boot l m v h c list emits versions homes copies : ℕ) → boot ≤ 17424 + 2 * (3 * list + emits + versions + homes + copies) → l ≡ list → m ≡ emits
+        → v ≡ versions → h ≡ homes → c ≡ copies → boot ≤ 17424 + 2 * (3 * l + m + v + h + c)
+    same_room boot l m v h c list emits versions homes copies x a b d e f = omega (arith, x, a, b, d, e, f)

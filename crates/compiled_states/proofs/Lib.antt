@@ -1,0 +1,9 @@
+mod Full
+mod Held
+mod Words
+mod Named
+mod Listed
+mod Sound
+mod Keeping
+mod Ends
+mod States

@@ -1,0 +1,58 @@
+-- What holds of the states of images of accepted sources.
+use Rattle.std.specs.Prelude.{◌≡◌, ℕ, ◌<◌, ◌≤◌, List, length, All}
+use Rattle.fram_state.specs.state_text.declared.state.State.{State}
+use Rattle.fram_state.specs.Belongs.{Belongs}
+use Rattle.link_image.specs.image_text.ImageValue.{ImageValue}
+use Rattle.link_image.specs.energy_trace.TraceValue.{TraceValue}
+use Rattle.link_image.specs.fram_board.Run.{BoardCharge, RunOutcome, Run}
+use Rattle.link_image.specs.board_run.Charges.{charges_of}
+use Rattle.link_image.specs.board_run.History.{start_of}
+use Rattle.link_image.specs.board_run.Report.{report_of}
+use Rattle.link_image.specs.run_charges.Charges.{ArePowerStates}
+use Rattle.link_image.specs.source_runs.Traces.{IsTraceOfWords}
+use Rattle.link_image.specs.cost_bound.declared.allowance.Allow.{Allow}
+use Rattle.link_image.specs.source_values.Runs.{CheckedProgram}
+use Rattle.link_image.specs.source_meaning.Acceptance.{IsAcceptedText}
+use Rattle.link_image.specs.Compiled.{IsCompiled, IsImageOf}
+use Rattle.image_reports.specs.Resumed.{BelongsTo, IsResumedRun}
+use Rattle.compiled_states.specs.Worlds.{world_of, MayHaveAccepted, HasFramWords, HasCodeWords, board_of, IsToldByItsSource, LeavesItsStates}
+
+-- what holds of each image of an accepted source
+abbrev OfImages : ((text : List ℕ) (p : CheckedProgram) (allow : Allow) (image : ImageValue) → IsCompiled text p allow image → Type 0) → Type 0
+OfImages F = (text : List ℕ) (p : CheckedProgram) (allow : Allow) (image : ImageValue) → IsAcceptedText text p allow → (c : IsCompiled text p allow image)
+    → F text p allow image c
+
+-- the world of a state that belongs to the image is one from which a run may go on, whatever words were accepted before
+abbrev pub StatesAreWorlds : Type 0
+StatesAreWorlds = OfImages (λ text p allow image c. (s : State) (accepted : List ℕ) → HasFramWords s → MayHaveAccepted s accepted → Belongs image s
+    → BelongsTo p c.layout image (world_of s accepted))
+
+-- and a state of the image's map, with such a world and with the image's words from the code on, belongs to the image
+abbrev pub WorldsAreStates : Type 0
+WorldsAreStates = OfImages (λ text p allow image c. (s : State) (accepted : List ℕ) → length s.image.words ≡ 24064 → MayHaveAccepted s accepted
+    → s.image.map ≡ image.map → HasCodeWords c.layout image s → BelongsTo p c.layout image (world_of s accepted) → Belongs image s)
+
+-- the image, before anything was done, is a state that belongs to it
+abbrev pub FreshStatesBelong : Type 0
+FreshStatesBelong = (text : List ℕ) (image : ImageValue) → IsImageOf text image → Belongs image (record { image = image; receiver = 0 })
+
+-- each run from a state that belongs to the image keeps the laws of runs that go on, whatever words were accepted before: under every list of
+-- charges, from every state that each power-up may leave, and on all readings that a board may hold; and what is saved of each of its boards
+-- belongs to the image again
+abbrev pub StatesGoOn : Type 0
+StatesGoOn = OfImages (λ text p allow image c. (s : State) (accepted : List ℕ) → HasFramWords s → MayHaveAccepted s accepted → Belongs image s
+    → (cs : List BoardCharge) → ArePowerStates cs → (readings : List ℕ) → All (λ w. w < 0x10000) readings → length readings ≤ 262144
+    → (r : RunOutcome) → Run cs (board_of s readings) r
+    → IsResumedRun text p allow c.layout image (world_of s accepted) cs (board_of s readings) r × LeavesItsStates image s (board_of s readings) r)
+
+-- on any trace of words, the report of the one run from a state that belongs to an image is told by the image's source
+abbrev pub StatesAreTold : Type 0
+StatesAreTold = (image : ImageValue) (s : State) → HasFramWords s → Belongs image s → (trace : TraceValue) → IsTraceOfWords trace
+    → (r : RunOutcome) → Run (charges_of trace.charges) (board_of s trace.readings) r
+    → IsToldByItsSource image s trace r (report_of (start_of s.image) r)
+
+-- and it leaves states that belong to the image, where this is one of an accepted source
+abbrev pub StatesStay : Type 0
+StatesStay = (text : List ℕ) (image : ImageValue) → IsImageOf text image → (s : State) → HasFramWords s → Belongs image s → (trace : TraceValue)
+    → IsTraceOfWords trace → (r : RunOutcome) → Run (charges_of trace.charges) (board_of s trace.readings) r
+    → LeavesItsStates image s (board_of s trace.readings) r

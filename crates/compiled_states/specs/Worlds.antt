@@ -1,0 +1,54 @@
+-- States as worlds, and the runs that go on from them as sources tell them.
+use Rattle.std.specs.Prelude.{◌≡◌, ℕ, ◌%◌, ◌<◌, ◌≤◌, List, ◌++◌, length, All}
+use Rattle.fram_state.specs.state_text.declared.state.State.{State}
+use Rattle.fram_state.specs.Belongs.{Belongs}
+use Rattle.link_image.specs.image_text.ImageValue.{ImageValue}
+use Rattle.link_image.specs.energy_trace.TraceValue.{TraceValue}
+use Rattle.link_image.specs.fram_board.Board.{BoardValue, started}
+use Rattle.link_image.specs.fram_board.Run.{Moment, RunOutcome}
+use Rattle.link_image.specs.fram_board.Saved.{saved}
+use Rattle.link_image.specs.board_run.Charges.{charges_of}
+use Rattle.link_image.specs.machine_effects.World.{World}
+use Rattle.link_image.specs.machine_effects.Machine.{IsFram, fram_of}
+use Rattle.link_image.specs.machine_effects.Runs.{last_board}
+use Rattle.link_image.specs.cost_bound.declared.allowance.Allow.{Allow}
+use Rattle.link_image.specs.source_values.Runs.{CheckedProgram}
+use Rattle.link_image.specs.source_meaning.Acceptance.{IsAcceptedText}
+use Rattle.link_image.specs.source_maps.Maps.{map_of}
+use Rattle.link_image.specs.memory_map.MemoryMap.{MemoryMap}
+use Rattle.link_image.specs.Compiled.{IsCompiled}
+use Rattle.image_reports.specs.Resumed.{IsToldOnward}
+
+-- the world of a state whose receiver accepted these words before
+abbrev pub world_of : State → List ℕ → World
+world_of s accepted = record { fram = fram_of s.image.words; accepted = accepted }
+
+-- these may be the words that it accepted before: it takes next the word behind them
+abbrev pub MayHaveAccepted : State → List ℕ → Type 0
+MayHaveAccepted s accepted = length accepted % 0x10000 ≡ s.receiver
+
+-- a state has as many words as the FRAM, and they and its receiver's number are below 65536
+pub record HasFramWords (s : State) : Type 0 where
+  pub count : length s.image.words ≡ 24064
+  pub are_words : All (λ w. w < 0x10000) s.image.words
+  pub receiver : s.receiver < 0x10000
+
+-- from the first word of the code on a state has the words of an image
+abbrev pub HasCodeWords : MemoryMap → ImageValue → State → Type 0
+HasCodeWords l image s = (a : ℕ) → IsFram a → l.boot.address ≤ a → fram_of s.image.words a ≡ fram_of image.words a
+
+-- the board that goes on from a state, on these readings
+abbrev pub board_of : State → List ℕ → BoardValue
+board_of s readings = started s.image.words s.receiver readings
+
+-- A run from a state on a trace is told so by whatever source the image is of, whatever words were accepted before: from the state on; or, where
+-- its commit is pending, behind the transition that this makes
+abbrev pub IsToldByItsSource : ImageValue → State → TraceValue → RunOutcome → List ℕ → Type 0
+IsToldByItsSource image s trace r report = (text : List ℕ) (p : CheckedProgram) (allow : Allow) → IsAcceptedText text p allow
+    → (c : IsCompiled text p allow image) → (accepted : List ℕ) → MayHaveAccepted s accepted
+    → IsToldOnward text p (map_of text p c.layout allow) c.layout (world_of s accepted) (charges_of trace.charges) (board_of s trace.readings) r report
+
+-- what is saved of each board of a run from a state belongs to the image, and so does what is saved at its end
+pub record LeavesItsStates (image : ImageValue) (s : State) (b : BoardValue) (r : RunOutcome) : Type 0 where
+  pub boards : (ms rest : List Moment) → r.moments ≡ ms ++ rest → Belongs image (saved (last_board b ms) s.image.map)
+  pub end : Belongs image (saved r.board s.image.map)
