@@ -82,8 +82,8 @@ layout_is_full p allow plans l h laid =
     let emits = greatest emits_of p.tasks in
     let code : total (task_words p.shared) p.tasks ≤ starts + bodies =
     total_within (task_words p.shared) (entry_words p.shared) (body_words p.shared) p.tasks (λ c. omega arith) in
-    let data = places_within (is_written p.tasks) 0 p.shared in
-    let all : words_of p ≤ 600 + (starts + bodies) + (homes + copies + versions) + 3 * list + emits = omega (arith, code, data) in
+    let places = places_within (is_written p.tasks) 0 p.shared in
+    let all : words_of p ≤ 600 + (starts + bodies) + (homes + copies + versions) + 3 * list + emits = omega (arith, code, places) in
     let front : l.boot.address ≤ 17424 + 2 * (3 * list + emits + versions + homes + copies) =
     front_of_boot l.boot.address l.commit.address l.code.address l.boot.words l.commit.words l.code.words (words_of p) starts bodies homes copies versions list
     emits a.commit a.code laid.size laid.boot laid.commit laid.code all in

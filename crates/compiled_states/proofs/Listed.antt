@@ -12,6 +12,7 @@ use Rattle.layout_facts.specs.memory_map.MemoryMap.{MemoryMap}
 use Rattle.layout_facts.specs.memory_map.Places.{end_of}
 use Rattle.layout_facts.proofs.memory_map.Interface.{even_of}
 use Rattle.layout_facts.specs.runtime_effects.Places.{CopyPair, run_pairs, entries_from}
+use Rattle.layout_facts.proofs.runtime_effects.Interface.{run_length}
 use Rattle.layout_facts.specs.stands_for.Layout.{ProgramPlaces, IsSharedWord, IsCopyWord, IsAmong}
 use Rattle.layout_facts.specs.compiled_model.Places.{program_places}
 use Rattle.layout_facts.specs.Facts.{HasLayout}
@@ -47,10 +48,6 @@ each_front P (p ∷ ps) qs h q (inr a) = each_front P ps qs (λ r b. h r (inr b)
 each_back : (P : CopyPair → Type 0) (ps qs : List CopyPair) → EachPair P (ps ++ qs) → EachPair P qs
 each_back P [] qs h = h
 each_back P (p ∷ ps) qs h = each_back P ps qs (λ r b. h r (inr b))
-
-run_length : (n home copy : ℕ) → length (run_pairs n home copy) ≡ n
-run_length zero home copy = refl
-run_length (suc n) home copy = ap suc (run_length n (home + 2) (copy + 2))
 
 -- the pairs of an entry, and those of entries
 abbrev pub pairs_of : Entry → List CopyPair

@@ -1,7 +1,7 @@
 -- States that belong to the image of an accepted source are its worlds, and go on as it says.
-use Rattle.std.proofs.Common.{◌≡◌, ◌⊎◌, inl, inr, ℕ, suc, ◌%◌, ◌<◌, ◌≤◌, true, false, Bool, List, [], ◌∷◌, ◌++◌, length, map, Option, Some, refl, sym, ap, ◌∙◌, subst, arith, All}
+use Rattle.std.proofs.Common.{◌≡◌, ◌⊎◌, inl, inr, ℕ, ◌%◌, ◌<◌, ◌≤◌, true, false, Bool, List, [], ◌++◌, length, Option, Some, refl, sym, ap, ◌∙◌, subst, arith, All}
 use Rattle.std.proofs.Common.{append-nil, replicate}
-use Rattle.std.proofs.lemmas.List.{length-replicate}
+use Rattle.std.proofs.lemmas.List.{length-map, length-replicate}
 use Rattle.std.proofs.lemmas.Bool.{cases_lt}
 use Rattle.fram_state.specs.state_text.declared.state.State.{State}
 use Rattle.fram_state.specs.OtherImage.{SameBut}
@@ -72,11 +72,7 @@ module _ (text : List ℕ) (p : CheckedProgram) (allow : Allow) (image : ImageVa
   new = images_are_fresh text p allow image ok c
 
   same_tasks : length m.tasks ≡ length p.tasks
-  same_tasks = sym (names_length (λ t. t.name) m.tasks) ∙ ap length source_map.of_source.tasks ∙ names_length _ p.tasks
-    where
-      names_length : {X : Type 0} (name : X → List ℕ) (xs : List X) → length (map name xs) ≡ length xs
-      names_length name [] = refl
-      names_length name (x ∷ xs) = ap suc (names_length name xs)
+  same_tasks = sym (length-map m.tasks (λ t. t.name)) ∙ ap length source_map.of_source.tasks ∙ length-map p.tasks _
 
   -- a map that the image has is the source's
   one_map : (n : MapValue) → image.map ≡ Some n → n ≡ m
@@ -208,7 +204,7 @@ states_are_told image s whole b trace t r run text p allow ok c accepted number 
 
 -- so many words that a receiver takes next the one of a number
 words_before : (n : ℕ) → n < 0x10000 → length (replicate n 0) % 0x10000 ≡ n
-words_before n small = ap (λ k. k % 0x10000) (length-replicate n 0) ∙ omega (arith, small)
+words_before n small = let below : n % 0x10000 ≡ n = omega (arith, small) in ap (λ k. k % 0x10000) (length-replicate n 0) ∙ below
 
 pub states_stay : StatesStay
 states_stay text image of s whole b trace t r run =
