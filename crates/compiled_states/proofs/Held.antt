@@ -32,8 +32,8 @@ LeaveNothing from (s ∷ ss) to = (s.from ≤ from) × LeaveNothing s.to ss to
 
 pub all_held : (ss : List Stretch) (from to a : ℕ) → LeaveNothing from ss to → from ≤ a → a < to → is_held ss a ≡ true
 all_held [] from to a h low high = absurd (omega (arith, h, low, high))
-all_held (s ∷ ss) from to a h low high = by_order (cases_lt a s.to)
+all_held (s ∷ ss) from to a h low high = by_order (cases_lt a s.to) (λ ge. all_held ss s.to to a h.1 ge high)
   where
-    by_order : (a < s.to) ⊎ (s.to ≤ a) → is_held (s ∷ ss) a ≡ true
-    by_order (inl lt) = let begin = h.0 in or_left (holds s a) (is_held ss a) (within s a (omega (arith, begin, low)) lt)
-    by_order (inr ge) = or_right (holds s a) (is_held ss a) (all_held ss s.to to a h.1 ge high)
+    by_order : (a < s.to) ⊎ (s.to ≤ a) → (s.to ≤ a → is_held ss a ≡ true) → is_held (s ∷ ss) a ≡ true
+    by_order (inl lt) more = let begin = h.0 in or_left (holds s a) (is_held ss a) (within s a (omega (arith, begin, low)) lt)
+    by_order (inr ge) more = or_right (holds s a) (is_held ss a) (more ge)

@@ -36,7 +36,7 @@ abbrev pub EachPair : (CopyPair → Type 0) → List CopyPair → Type 0
 EachPair P ps = (q : CopyPair) → IsAmong ps q → P q
 
 each_join : (P : CopyPair → Type 0) (ps qs : List CopyPair) → EachPair P ps → EachPair P qs → EachPair P (ps ++ qs)
-each_join P [] qs h k = k
+each_join P [] qs h k q a = k q a
 each_join P (p ∷ ps) qs h k q (inl e) = h q (inl e)
 each_join P (p ∷ ps) qs h k q (inr a) = each_join P ps qs (λ r b. h r (inr b)) k q a
 
@@ -175,11 +175,11 @@ module _ (text : List ℕ) (p : CheckedProgram) (allow : Allow) (plans : List Ta
 
   pub good_homes : (es : List Entry) → AreGood es → HomesAre (all_pairs es)
   good_homes [] g q a = absurd a
-  good_homes (e ∷ es) g = each_join (λ q. IsSharedWord places q.home) (pairs_of e) (all_pairs es) g.0.homes (good_homes es g.1)
+  good_homes (e ∷ es) g q a = each_join (λ q. IsSharedWord places q.home) (pairs_of e) (all_pairs es) g.0.homes (good_homes es g.1) q a
 
   pub good_copies : (es : List Entry) → AreGood es → CopiesAre (all_pairs es)
   good_copies [] g q a = absurd a
-  good_copies (e ∷ es) g = each_join (λ q. IsCopyWord places q.copy) (pairs_of e) (all_pairs es) g.0.copied (good_copies es g.1)
+  good_copies (e ∷ es) g q a = each_join (λ q. IsCopyWord places q.copy) (pairs_of e) (all_pairs es) g.0.copied (good_copies es g.1) q a
 
   pub by_pairs : (es : List Entry) → HaveWords es → HomesAre (all_pairs es) → CopiesAre (all_pairs es) → AreGood es
   by_pairs [] some homes copied = tt

@@ -45,6 +45,7 @@ shared_between text [] (place ∷ places) from end a kinds order h = absurd kind
 shared_between text (d ∷ ds) [] from end a kinds order h = absurd kinds
 shared_between text (d ∷ ds) (place ∷ places) from end a kinds order h =
     by_first (or_cases (holds (variable_words (variable_of text d place)) a) (is_shared (variables_of text ds places) a) h)
+    (shared_between text ds places (end_of (home_region place)) end a kinds.1 order.1)
   where
     size : unwrap_or (length_of d.extent) 1 ≡ (home_region place).words
     size = words_are d.extent place kinds.0
@@ -52,16 +53,17 @@ shared_between text (d ∷ ds) (place ∷ places) from end a kinds order h =
     begin : from ≤ (home_region place).address
     begin = order.0.from
 
-    by_first : (holds (variable_words (variable_of text d place)) a ≡ true) ⊎ (is_shared (variables_of text ds places) a ≡ true) → (from ≤ a) × (a < end)
-    by_first (inl here) =
+    by_first : (holds (variable_words (variable_of text d place)) a ≡ true) ⊎ (is_shared (variables_of text ds places) a ≡ true)
+        → (is_shared (variables_of text ds places) a ≡ true → (end_of (home_region place) ≤ a) × (a < end)) → (from ≤ a) × (a < end)
+    by_first (inl here) others =
         let b = bounds_of (variable_words (variable_of text d place)) a here in
         let low : (home_region place).address ≤ a = b.0 in
         let high : a < (home_region place).address + 2 * unwrap_or (length_of d.extent) 1 = b.1 in
         let behind = in_order_end (end_of (home_region place)) (map home_region places) end order.1 in
         let first = begin in let words = size in
         (omega (arith, first, low), omega (arith, high, words, behind))
-    by_first (inr later) =
-        let b = shared_between text ds places (end_of (home_region place)) end a kinds.1 order.1 later in
+    by_first (inr later) others =
+        let b = others later in
         let low = b.0 in let first = begin in
         (omega (arith, first, low), b.1)
 

@@ -203,11 +203,14 @@ states_are_told image s whole b trace t r run text p allow ok c accepted number 
     ((lawful text p allow image ok c s accepted whole number b (charges_of trace.charges) few.0 trace.readings t.readings t.trace.readings r run).told few.1)
 
 -- so many words that a receiver takes next the one of a number
-words_before : (n : ℕ) → n < 0x10000 → length (replicate n 0) % 0x10000 ≡ n
+abbrev some_words : ℕ → List ℕ
+some_words n = replicate n 0
+
+words_before : (n : ℕ) → n < 0x10000 → length (some_words n) % 0x10000 ≡ n
 words_before n small = let below : n % 0x10000 ≡ n = omega (arith, small) in ap (λ k. k % 0x10000) (length-replicate n 0) ∙ below
 
 pub states_stay : StatesStay
 states_stay text image of s whole b trace t r run =
     let few = traces_are_few trace t in
-    leaves text of.program of.allow image of.accepted of.compiled s (replicate s.receiver 0) whole (words_before s.receiver whole.receiver) b
+    leaves text of.program of.allow image of.accepted of.compiled s (some_words s.receiver) whole (words_before s.receiver whole.receiver) b
     (charges_of trace.charges) few.0 trace.readings t.readings t.trace.readings r run
