@@ -1,5 +1,6 @@
 -- A sound world within its capacities, as a state of the map, keeps the rules.
-use Rattle.std.proofs.Common.{◌≡◌, ◌⊎◌, inl, inr, ℕ, ◌+◌, ◌-◌, ◌*◌, ◌%◌, ◌<◌, ◌≤◌, ◌==◌, ◌&&◌, ◌||◌, if◌then◌else◌, Bool, true, false, not, List, length, sym, ap}
+use Rattle.std.proofs.Common.{◌≡◌, ◌⊎◌, inl, inr, ℕ, ◌+◌, ◌-◌, ◌*◌, ◌%◌, ◌<◌, ◌≤◌, ◌==◌, ◌&&◌, ◌||◌, if◌then◌else◌, Bool, true, false, not, List, length, sym}
+use Rattle.std.proofs.Common.{ap}
 use Rattle.std.proofs.Common.{◌∙◌, subst, arith}
 use Rattle.std.specs.Prelude.{nat_le, nat_lt}
 use Rattle.std.specs.List.{list_all}
@@ -20,7 +21,7 @@ use Rattle.layout_facts.specs.compiled_model.Places.{program_places}
 use Rattle.layout_facts.specs.Facts.{HasLayout}
 use Rattle.link_image.specs.machine_effects.World.{World}
 use Rattle.link_image.specs.machine_effects.Machine.{fram_of}
-use Rattle.link_image.specs.source_maps.Maps.{map_list, map_buffer, map_of}
+use Rattle.link_image.specs.source_maps.Maps.{map_of}
 use Rattle.link_image.specs.source_maps.Placing.{ArePlacesOf}
 use Rattle.link_image.specs.image_map.MapValue.{MapValue}
 use Rattle.fram_state.specs.declared.runtime.Runtime.{Runtime}
@@ -75,14 +76,15 @@ module _ (text : List ℕ) (p : CheckedProgram) (allow : Allow) (plans : List Ta
       and_from (fits_fram (place_words m.versions)) (are_at_most (words_from words l.versions.address l.versions.words) own.version)
       (le-leb (end_of l.versions) 65536 (omega (arith, high)))
       (all_at_most l.versions.words words l.versions.address own.version long even low (omega (arith, high)) (λ i lt.
-          let here = fram_at words (l.versions.address + 2 * i)
-            (record { even = omega (arith, even); low = omega (arith, low); high = omega (arith, high, lt) }) in
-          let there = at Version in let most = versions i lt in omega (arith, here, there, most)))
+      let here = fram_at words (l.versions.address + 2 * i)
+      (record { even = omega (arith, even); low = omega (arith, low); high = omega (arith, high, lt) }) in
+      let there = at Version in let most = versions i lt in omega (arith, here, there, most)))
 
   keeps_list_length : (fits_fram (list_words m.list) && nat_le own.list_length m.list.capacity) ≡ true
   keeps_list_length =
       let is = at ListLength in let end = list_end in
-      and_from (fits_fram (list_words m.list)) (nat_le own.list_length m.list.capacity) (le-leb (l.list.address + 2 * (3 * l.entries)) 65536 (omega (arith, end)))
+      and_from (fits_fram (list_words m.list)) (nat_le own.list_length m.list.capacity)
+      (le-leb (l.list.address + 2 * (3 * l.entries)) 65536 (omega (arith, end)))
       (le-leb own.list_length m.list.capacity (omega (arith, is, list)))
 
   keeps_emit_count : (fits_fram (place_words m.emits) && nat_le own.emit_count m.emits.capacity) ≡ true

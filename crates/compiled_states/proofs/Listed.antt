@@ -1,7 +1,8 @@
 -- The commit list of a state, entry by entry, and the words that it names, pair by pair.
-use Rattle.std.proofs.Common.{◌≡◌, ◌⊎◌, inl, inr, ℕ, zero, suc, ◌+◌, ◌*◌, ◌%◌, ◌<◌, ◌≤◌, ◌==◌, ◌&&◌, Bool, true, List, [], ◌∷◌, ◌++◌, length, refl, sym, ap, ◌∙◌}
+use Rattle.std.proofs.Common.{◌≡◌, inl, inr, ℕ, zero, suc, ◌+◌, ◌*◌, ◌%◌, ◌<◌, ◌≤◌, true, List, [], ◌∷◌, ◌++◌, length, refl, sym, ap}
+use Rattle.std.proofs.Common.{◌∙◌}
 use Rattle.std.proofs.Common.{subst, arith, length-append}
-use Rattle.std.specs.Prelude.{nat_le, sum_by}
+use Rattle.std.specs.Prelude.{nat_le}
 use Rattle.std.specs.List.{list_all}
 use Rattle.std.proofs.lemmas.Bool.{leb-true, le-leb, eqb-true, eq-eqb, and_parts, and_from}
 use Rattle.std.proofs.lemmas.List.Sums.{sum_by-cons}
@@ -190,7 +191,7 @@ module _ (text : List ℕ) (p : CheckedProgram) (allow : Allow) (plans : List Ta
       copied = each_front (λ q. IsCopyWord places q.copy) (pairs_of e) (all_pairs es) copied;
     },
     by_pairs es some.1 (each_back (λ q. IsSharedWord places q.home) (pairs_of e) (all_pairs es) homes)
-    (each_back (λ q. IsCopyWord places q.copy) (pairs_of e) (all_pairs es) copied),
+        (each_back (λ q. IsCopyWord places q.copy) (pairs_of e) (all_pairs es) copied),
   )
 
 -- ---- the entries in the FRAM
@@ -260,6 +261,6 @@ module _ (words : List ℕ) (all : length words ≡ 24064) where
       let same = ap f at in let count = count_is a n even low high in let some = h 0 (omega arith) in omega (arith, same, count, some)) in
       let rest : HaveWords (entries_at n (a + 6)) =
       some_counts n (a + 6) (omega (arith, even)) (omega (arith, low)) (omega (arith, high)) (λ i lt.
-          let at : (a + 6) + 6 * i + 4 ≡ a + 6 * suc i + 4 = omega arith in
-          let same = ap f at in let some = h (suc i) (omega (arith, lt)) in omega (arith, same, some)) in
+      let at : (a + 6) + 6 * i + 4 ≡ a + 6 * suc i + 4 = omega arith in
+      let same = ap f at in let some = h (suc i) (omega (arith, lt)) in omega (arith, same, some)) in
       subst HaveWords (sym (entries_split a n even low high)) (here, rest)

@@ -1,5 +1,6 @@
 -- What the map of a source names: the words of the runtime, the buffers, the variables and the copies, which are all in front of the code.
-use Rattle.std.proofs.Common.{◌≡◌, ◌⊎◌, inl, inr, ℕ, zero, suc, ◌+◌, ◌*◌, ◌%◌, ◌<◌, ◌≤◌, ◌||◌, Bool, true, false, List, [], ◌∷◌, Some, None, map, refl, sym, ap, arith}
+use Rattle.std.proofs.Common.{◌≡◌, ◌⊎◌, inl, inr, ℕ, zero, suc, ◌+◌, ◌*◌, ◌%◌, ◌<◌, ◌≤◌, ◌||◌, Bool, true, false, List, [], ◌∷◌, Some, None, map, refl, sym}
+use Rattle.std.proofs.Common.{ap, arith}
 use Rattle.std.specs.Prelude.{slice_get, unwrap_or}
 use Rattle.std.proofs.lemmas.Bool.{false≢true, cases_lt, or_cases, or_from, or_left, or_right}
 use Rattle.layout_facts.specs.task_ast.declared.Extent.{Extent}
@@ -194,8 +195,7 @@ module _ (text : List ℕ) (p : CheckedProgram) (allow : Allow) (plans : List Ta
       by_row (inl lt) =
           let k = full in let low = is.low in
           or_left (is_held (runtime_words (map_words l)) a) (is_held (buffers m) a || is_shared m.variables a)
-          (all_held (runtime_words (map_words l)) l.row (l.row + 16) a
-          (
+          (all_held (runtime_words (map_words l)) l.row (l.row + 16) a (
             omega arith,
             (
               omega arith,

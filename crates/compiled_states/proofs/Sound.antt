@@ -1,5 +1,6 @@
 -- A state that keeps the rules is a sound world.
-use Rattle.std.proofs.Common.{◌≡◌, ◌⊎◌, inl, inr, ℕ, zero, suc, ◌+◌, ◌-◌, ◌*◌, ◌%◌, ◌<◌, ◌≤◌, ◌==◌, ◌&&◌, ◌||◌, if◌then◌else◌, Bool, true, false, not, List, length, refl, sym, ap}
+use Rattle.std.proofs.Common.{◌≡◌, ◌⊎◌, inl, inr, ℕ, zero, suc, ◌+◌, ◌-◌, ◌*◌, ◌%◌, ◌<◌, ◌≤◌, ◌==◌, ◌&&◌, ◌||◌, if◌then◌else◌, Bool, true, false, not, List}
+use Rattle.std.proofs.Common.{length, refl, sym, ap}
 use Rattle.std.proofs.Common.{◌∙◌, subst, arith, All}
 use Rattle.std.specs.Prelude.{nat_le, nat_lt}
 use Rattle.std.specs.List.{list_all}
@@ -14,12 +15,12 @@ use Rattle.layout_facts.specs.memory_map.Laws.{PartsInFram}
 use Rattle.layout_facts.proofs.memory_map.Interface.{parts_in_fram, words_stand}
 use Rattle.layout_facts.specs.runtime_effects.Places.{CopyPair, listed}
 use Rattle.layout_facts.specs.stands_for.Layout.{ProgramPlaces, IsSharedWord, IsCopyWord, IsAmong}
-use Rattle.layout_facts.specs.stands_for.StandsFor.{EntriesHaveWords, VersionsWithin, IsAtRest, IsPendingCommit, IsSound, SoundAtRest, SoundPending}
+use Rattle.layout_facts.specs.stands_for.StandsFor.{VersionsWithin, IsAtRest, IsPendingCommit, IsSound, SoundAtRest, SoundPending}
 use Rattle.layout_facts.specs.compiled_model.Places.{program_places}
 use Rattle.layout_facts.specs.Facts.{HasLayout}
 use Rattle.link_image.specs.machine_effects.World.{World}
-use Rattle.link_image.specs.machine_effects.Machine.{IsFram, fram_of}
-use Rattle.link_image.specs.source_maps.Maps.{map_list, map_buffer, map_of}
+use Rattle.link_image.specs.machine_effects.Machine.{fram_of}
+use Rattle.link_image.specs.source_maps.Maps.{map_of}
 use Rattle.link_image.specs.source_maps.Placing.{ArePlacesOf}
 use Rattle.link_image.specs.image_map.MapValue.{MapValue}
 use Rattle.fram_state.specs.declared.runtime.Runtime.{Runtime}

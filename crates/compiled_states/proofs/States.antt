@@ -1,21 +1,20 @@
 -- States that belong to the image of an accepted source are its worlds, and go on as it says.
-use Rattle.std.proofs.Common.{◌≡◌, ◌⊎◌, inl, inr, ℕ, ◌%◌, ◌<◌, ◌≤◌, true, false, Bool, List, [], ◌++◌, length, Option, Some, refl, sym, ap, ◌∙◌, subst, arith, All}
+use Rattle.std.proofs.Common.{◌≡◌, ◌⊎◌, inl, inr, ℕ, ◌%◌, ◌<◌, ◌≤◌, false, List, [], ◌++◌, length, Option, Some, refl, sym, ap, ◌∙◌, subst, arith}
+use Rattle.std.proofs.Common.{All}
 use Rattle.std.proofs.Common.{append-nil, replicate}
 use Rattle.std.proofs.lemmas.List.{length-map, length-replicate}
 use Rattle.std.proofs.lemmas.Bool.{cases_lt}
 use Rattle.fram_state.specs.state_text.declared.state.State.{State}
 use Rattle.fram_state.specs.OtherImage.{SameBut}
 use Rattle.fram_state.specs.Named.{is_named}
-use Rattle.fram_state.specs.Runtime.{word_in}
 use Rattle.fram_state.specs.Sound as state
 use Rattle.fram_state.specs.Belongs.{Belongs}
 use Rattle.layout_facts.specs.memory_map.declared.words.RuntimeWord.TheVariants.{Gate}
 use Rattle.layout_facts.specs.memory_map.MemoryMap.{MemoryMap, word_place}
 use Rattle.layout_facts.specs.Facts.{HasLayout}
 use Rattle.layout_facts.proofs.whole_programs.Interface.{privates_are_few}
-use Rattle.link_image.specs.image_map.MapValue.{MapValue, IsFramWord}
+use Rattle.link_image.specs.image_map.MapValue.{MapValue}
 use Rattle.link_image.specs.image_text.ImageValue.{ImageValue}
-use Rattle.link_image.specs.energy_trace.TraceValue.{TraceValue}
 use Rattle.link_image.specs.fram_board.Board.{BoardValue}
 use Rattle.link_image.specs.fram_board.Run.{BoardCharge, Moment, RunOutcome, Run}
 use Rattle.link_image.specs.fram_board.Saved.{saved}
@@ -23,7 +22,7 @@ use Rattle.link_image.specs.board_run.Charges.{charges_of}
 use Rattle.link_image.specs.board_run.History.{start_of}
 use Rattle.link_image.specs.board_run.Report.{report_of}
 use Rattle.link_image.specs.machine_effects.World.{World}
-use Rattle.link_image.specs.machine_effects.Machine.{IsFram, fram_of}
+use Rattle.link_image.specs.machine_effects.Machine.{IsFram}
 use Rattle.link_image.specs.machine_effects.Runs.{last_board}
 use Rattle.link_image.specs.crash_rules.History.{first_history}
 use Rattle.link_image.specs.run_charges.Charges.{ArePowerStates}
@@ -32,11 +31,10 @@ use Rattle.link_image.proofs.run_charges.Interface.{Counts, moments_count, front
 use Rattle.link_image.specs.cost_bound.declared.allowance.Allow.{Allow}
 use Rattle.link_image.specs.source_values.Runs.{CheckedProgram}
 use Rattle.link_image.specs.source_meaning.Acceptance.{IsAcceptedText}
-use Rattle.link_image.specs.source_runs.Traces.{IsTraceOfWords}
 use Rattle.link_image.proofs.source_runs.Interface.{traces_are_few}
 use Rattle.link_image.specs.source_maps.Maps.{map_of}
 use Rattle.link_image.specs.source_maps.Laws.{IsSourceMap}
-use Rattle.link_image.specs.Compiled.{IsCompiled, IsImageOf}
+use Rattle.link_image.specs.Compiled.{IsCompiled}
 use Rattle.link_image.specs.Laws.{IsFreshImage}
 use Rattle.link_image.proofs.Interface.{images_are_fresh}
 use Rattle.link_image.proofs.compiled_runs.Interface.{code_is_placed}
@@ -198,7 +196,7 @@ states_are_told image s whole b trace t r run text p allow ok c accepted number 
     let few = traces_are_few trace t in
     let l = c.layout in
     let P : Option MapValue → Type 0 = λ o. IsToldOnward text p (map_of text p l allow) l (world_of s accepted) (charges_of trace.charges)
-      (board_of s trace.readings) r (report_of (start_of (record { words = s.image.words; map = o })) r) in
+    (board_of s trace.readings) r (report_of (start_of (record { words = s.image.words; map = o })) r) in
     subst P (b.have.of_image ∙ sym b.have.of_state)
     ((lawful text p allow image ok c s accepted whole number b (charges_of trace.charges) few.0 trace.readings t.readings t.trace.readings r run).told few.1)
 

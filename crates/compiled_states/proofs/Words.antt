@@ -1,5 +1,6 @@
 -- The words of a state at addresses, one by one.
-use Rattle.std.proofs.Common.{◌≡◌, ℕ, zero, suc, ◌+◌, ◌-◌, ◌*◌, ◌/◌, ◌%◌, ◌<◌, ◌≤◌, ◌==◌, ◌&&◌, true, List, ◌∷◌, length, get_or, take, drop, refl, sym, ap, ◌∙◌, All}
+use Rattle.std.proofs.Common.{◌≡◌, ℕ, zero, suc, ◌+◌, ◌-◌, ◌*◌, ◌%◌, ◌<◌, ◌≤◌, ◌==◌, ◌&&◌, true, List, ◌∷◌, length, get_or, take, drop, refl, sym, ap}
+use Rattle.std.proofs.Common.{◌∙◌, All}
 use Rattle.std.proofs.Common.{arith}
 use Rattle.std.specs.Prelude.{nat_le, nat_lt, slice_index}
 use Rattle.std.proofs.lemmas.Bool.{leb-true, le-leb, lt-ltb, eq-eqb, and_parts, and_from, cond-true, cond_both}
@@ -38,7 +39,8 @@ pub each_at_most : (n : ℕ) (words : List ℕ) (a top : ℕ) → length words �
     → are_at_most (words_from words a n) top ≡ true → (i : ℕ) → i < n → word_in words (a + 2 * i) ≤ top
 each_at_most zero words a top all even low high h i lt = absurd (omega (arith, lt))
 each_at_most (suc n) words a top all even low high h i lt =
-    by_index i lt (leb-true (word_in words a) top both.0) (each_at_most n words (a + 2) top all (omega (arith, even)) (omega (arith, low)) (omega (arith, high)) both.1)
+    by_index i lt (leb-true (word_in words a) top both.0)
+    (each_at_most n words (a + 2) top all (omega (arith, even)) (omega (arith, low)) (omega (arith, high)) both.1)
   where
     is : IsFram a
     is = record { even = even; low = low; high = omega (arith, high) }
@@ -63,5 +65,5 @@ all_at_most (suc n) words a top all even low high h =
     ap (λ ws. are_at_most ws top) (first_word words a n all is)
     ∙ and_from (nat_le (word_in words a) top) (are_at_most (words_from words (a + 2) n) top) (le-leb (word_in words a) top here)
     (all_at_most n words (a + 2) top all (omega (arith, even)) (omega (arith, low)) (omega (arith, high)) (λ i lt.
-        let at : (a + 2) + 2 * i ≡ a + 2 * suc i = omega arith in
-        let same = ap (word_in words) at in let most = h (suc i) (omega (arith, lt)) in omega (arith, same, most)))
+    let at : (a + 2) + 2 * i ≡ a + 2 * suc i = omega arith in
+    let same = ap (word_in words) at in let most = h (suc i) (omega (arith, lt)) in omega (arith, same, most)))
