@@ -17,6 +17,7 @@ use Rattle.board_run.specs.declared.trace_run.RunFault.TheVariants as fault
 use Rattle.board_run.specs.Charges.{charges_of}
 use Rattle.board_run.specs.History.{start_of}
 use Rattle.board_run.specs.Report.{after_all, answer_of, last_line}
+use Rattle.link_image.specs.Compiled.{IsImageOf}
 use Rattle.alpaca_cli.specs.Ending.{Ending, well}
 use Rattle.alpaca_cli.specs.Generated.{reason_of}
 use Rattle.alpaca_cli.specs.RunReport.{ending_of}
