@@ -17,8 +17,7 @@ fn push_receiver(out: &mut Vec<u8>, receiver: u16) -> Result<(), AllocError>
 {
     out.extend_from_slice(b"receiver ")?;
     out.extend_from_slice(print_u64(receiver as u64).as_bytes())?;
-    out.push(b'\n')?;
-    Ok(())
+    out.extend_from_slice(b"\n")
 }
 
 /// The text of a state: that of its image (see `print_image`), then the line `receiver N`, also where N is 0. It reads back as the state.
