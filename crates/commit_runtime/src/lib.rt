@@ -91,8 +91,7 @@ fn push_copies(code: &mut Vec<Instr>) -> Result<(), AllocError>
     code.extend_from_slice(&entry_test())?;
     code.extend_from_slice(&entry_begin())?;
     code.extend_from_slice(&word_loop())?;
-    code.extend_from_slice(&entry_end())?;
-    Ok(())
+    code.extend_from_slice(&entry_end())
 }
 
 // R7 := SB, R4 := EN, R5 := the emitted words.
