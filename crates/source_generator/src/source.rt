@@ -72,8 +72,7 @@ fn push_statement(out: &mut Vec<u8>, draw: u16) -> Result<(), AllocError>
 {
     out.extend_from_slice(b"  ")?;
     push_filled(out, draw, template(draw % 6))?;
-    out.push(b'\n')?;
-    Ok(())
+    out.extend_from_slice(b"\n")
 }
 
 #[tactic(auto, unfolding(crate::specs::Source::scalar_text))]
@@ -105,8 +104,7 @@ fn push_task_head(out: &mut Vec<u8>, number: u16) -> Result<(), AllocError>
 {
     out.extend_from_slice(b"task t")?;
     push_number(out, number)?;
-    out.extend_from_slice(b" {\n  unsigned i;\n")?;
-    Ok(())
+    out.extend_from_slice(b" {\n  unsigned i;\n")
 }
 
 #[tactic(auto, unfolding(crate::specs::Source::task_end))]
