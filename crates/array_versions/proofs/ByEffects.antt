@@ -1,17 +1,25 @@
 -- A program changes FRAM and the readings by its effects.
-use Rattle.std.proofs.Common.{◌≡◌, ℕ, zero, suc, ◌+◌, ◌-◌, ◌*◌, ◌%◌, ◌==◌, List, [], ◌∷◌, ◌++◌, Option, Some, None, Bool, true, false, nat_lt, refl, sym, ap}
+use Rattle.std.proofs.Common.{◌≡◌, ℕ, zero, suc, ◌+◌, ◌-◌, ◌*◌, ◌%◌, ◌==◌, List, [], ◌∷◌, ◌++◌, Option, Some, None, Bool, true, false, nat_lt, refl}
+use Rattle.std.proofs.Common.{sym, ap}
 use Rattle.std.proofs.Common.{◌∙◌, append_assoc, append-nil, if◌then◌else◌}
 use Rattle.machine_effects.specs.fram_board.Effects.{Effect, Store}
 use Rattle.machine_effects.specs.World.{fram_after, readings_taken}
 use Rattle.machine_effects.proofs.Interface.{fram_after-append, readings_taken-append}
 use Rattle.array_versions.specs.declared.program.ArrayPlace.{ArrayPlace}
 use Rattle.array_versions.specs.declared.program.ListPlace.{ListPlace}
-use Rattle.array_versions.specs.Program.{Step, Program, number, load, keep, local, set_local, unary, binary, shift, element, emit_word, list_entry}
-use Rattle.array_versions.specs.Program.{versioned_read, versioned_write, sense, choose, repeat, store_number, move_word, jump, nothing, step}
-use Rattle.array_versions.specs.Behaviour.{WordState, End, GoesOn, Jumps, Short, Strays, Broken, Behaviour, behaves, goes_on, strays, broken, behind_effects}
+use Rattle.array_versions.specs.Operations.{is_true, compare_words}
+use Rattle.array_versions.specs.Program.{Step, Test, Program, number, load, keep, local, set_local, unary, binary, shift, element, emit_word}
+use Rattle.array_versions.specs.Program.{list_entry}
+use Rattle.array_versions.specs.Program.{versioned_read, versioned_write, sense, truth, choose, repeat, store_number, move_word, jump, holds}
+use Rattle.array_versions.specs.Program.{compares}
+use Rattle.array_versions.specs.Program.{both, either, fails, nothing, step}
+use Rattle.array_versions.specs.Behaviour.{WordState, End, GoesOn, Jumps, Short, Strays, Broken, Behaviour, behaves, goes_on, strays, broken}
+use Rattle.array_versions.specs.Behaviour.{behind_effects}
 use Rattle.array_versions.specs.Behaviour.{then_on, is_place, at_place, with_top, with_two, with_stack, pushed, stored, with_local, local_pushed}
-use Rattle.array_versions.specs.Behaviour.{reading_pushed, word_stored, element_pushed, word_emitted, entry_stored, ends_before, raised, listed_behind, word_listed, own_element, versioned_pushed, first_stored}
-use Rattle.array_versions.specs.Behaviour.{own_stored, versioned_stored, chosen, turns, step_behaviour, behaviour}
+use Rattle.array_versions.specs.Behaviour.{reading_pushed, word_stored, element_pushed, word_emitted, entry_stored, ends_before, raised}
+use Rattle.array_versions.specs.Behaviour.{listed_behind, word_listed, own_element, versioned_pushed, first_stored}
+use Rattle.array_versions.specs.Behaviour.{own_stored, versioned_stored, number_pushed, way_by_top, way_by_two, turns, step_behaviour, tested}
+use Rattle.array_versions.specs.Behaviour.{behaviour}
 use Rattle.array_versions.specs.Laws.{EndsByEffects, BehavesByEffects}
 
 abbrev Good : WordState → Behaviour → Type 0
@@ -72,9 +80,9 @@ element_by false base i s = (refl, refl)
 stored_by : (a v : ℕ) (s t : WordState) → t.fram ≡ s.fram → t.readings ≡ s.readings → Good s (word_stored a v t)
 stored_by a v s t e f = guarded (is_place a) s (goes_on (Store a v ∷ []) (stored a v t)) (ap (λ g. fram_after (Store a v ∷ []) g) e, f)
 
-chosen_by : (v : ℕ) (s : WordState) (a b : Behaviour) → Good s a → Good s b → Good s (chosen v a b)
-chosen_by zero s a b h k = k
-chosen_by (suc v) s a b h k = h
+either_by : (c : Bool) (s : WordState) (a b : Behaviour) → Good s a → Good s b → Good s (if c then a else b)
+either_by true s a b h k = h
+either_by false s a b h k = k
 
 turns_by : (m n k : ℕ) (body : WordState → Behaviour) (s : WordState) → ((t : WordState) → Good t (body t)) → Good s (turns m n k body s)
 turns_by zero n k body s h = (refl, refl)
@@ -117,7 +125,8 @@ entry_by count list home copy words s =
     let b = behind_effects (Store a home ∷ Store (a + 2) copy ∷ Store (a + 4) words ∷ [])
     (raised count (stored (a + 4) words (stored (a + 2) copy (stored a home s)))) in
     guarded (is_place count) s (at_place a (at_place (a + 2) (at_place (a + 4) b)))
-    (guarded (is_place a) s (at_place (a + 2) (at_place (a + 4) b)) (guarded (is_place (a + 2)) s (at_place (a + 4) b) (guarded (is_place (a + 4)) s b (refl, refl))))
+    (guarded (is_place a) s (at_place (a + 2) (at_place (a + 4) b))
+    (guarded (is_place (a + 2)) s (at_place (a + 4) b) (guarded (is_place (a + 4)) s b (refl, refl))))
 
 -- the last entry gets longer, or there is one more
 longer_by : (b : Bool) (list : ListPlace) (a home copy : ℕ) (s : WordState)
@@ -176,6 +185,13 @@ versioned_stored_by true place list i v s =
     (guarded (is_place (2 * i + place.versions)) s _ (own_stored_by (t.fram list.ver == t.fram (2 * i + place.versions)) place list i c v s)))
 versioned_stored_by false place list i v s = (refl, refl)
 
+-- one of two ways, behind words that are popped
+popped_by : (c : Bool) (vs : List ℕ) (s : WordState) (held failed : WordState → Behaviour) → ((v : WordState) → Good v (held v))
+    → ((v : WordState) → Good v (failed v)) → Good s (if c then held (with_stack vs s) else failed (with_stack vs s))
+popped_by c vs s held failed h k =
+    let v = with_stack vs s in
+    unstacked vs s (if c then held v else failed v) (either_by c v (held v) (failed v) (h v) (k v))
+
 mutual
   step_by : (first : Step) (s : WordState) → Good s (step_behaviour first s)
   step_by (number w) s = (refl, refl)
@@ -198,13 +214,26 @@ mutual
       two_by s.stack s _ (λ i v vs. unstacked vs s (versioned_stored place list i v (with_stack vs s))
       (versioned_stored_by (nat_lt i place.length) place list i v (with_stack vs s)))
   step_by sense s = reading_by s.readings s refl
-  step_by (choose taken otherwise) s = top_by s.stack s _ (λ v vs. chosen_by v s (behaviour taken (with_stack vs s)) (behaviour otherwise (with_stack vs s))
-      (unstacked vs s (behaviour taken (with_stack vs s)) (by_effects taken (with_stack vs s)))
-      (unstacked vs s (behaviour otherwise (with_stack vs s)) (by_effects otherwise (with_stack vs s))))
+  step_by (truth t) s = test_by t s (number_pushed 1) (number_pushed 0) (λ v. (refl, refl)) (λ v. (refl, refl))
+  step_by (choose t taken otherwise) s = test_by t s (behaviour taken) (behaviour otherwise) (by_effects taken) (by_effects otherwise)
   step_by (repeat n from below body) s = turns_by (below - from) n from (behaviour body) s (by_effects body)
   step_by (store_number a w) s = stored_by a w s s refl refl
   step_by (move_word from to) s = guarded (is_place from) s (word_stored to (s.fram from) s) (stored_by to (s.fram from) s s refl refl)
   step_by (jump to) s = jump_by (to % 2 == 0) to s
+
+  test_by : (t : Test) (s : WordState) (held failed : WordState → Behaviour) → ((v : WordState) → Good v (held v)) → ((v : WordState) → Good v (failed v))
+      → Good s (tested t held failed s)
+  test_by (holds p) s held failed h k =
+      let b = behaviour p s in
+      then_by b.effects s b.end (way_by_top held failed) (by_effects p s)
+      (λ u. top_by u.stack u _ (λ v vs. popped_by (is_true v) vs u held failed h k))
+  test_by (compares op p) s held failed h k =
+      let b = behaviour p s in
+      then_by b.effects s b.end (way_by_two op held failed) (by_effects p s)
+      (λ u. two_by u.stack u _ (λ x y vs. popped_by (compare_words op x y) vs u held failed h k))
+  test_by (both t u) s held failed h k = test_by t s (tested u held failed) failed (λ v. test_by u v held failed h k) k
+  test_by (either t u) s held failed h k = test_by t s held (tested u held failed) h (λ v. test_by u v held failed h k)
+  test_by (fails t) s held failed h k = test_by t s failed held k h
 
   by_effects : (p : Program) (s : WordState) → Good s (behaviour p s)
   by_effects nothing s = (refl, refl)

@@ -1,8 +1,10 @@
 -- A program behind another.
-use Rattle.std.proofs.Common.{◌≡◌, List, [], ◌++◌, refl, sym, ap, ◌∙◌, arith, append_assoc}
+use Rattle.std.proofs.Common.{◌≡◌, ℕ, Bool, true, false, if◌then◌else◌, List, [], ◌∷◌, ◌++◌, refl, sym, ap, ◌∙◌, arith, append_assoc}
 use Rattle.machine_effects.specs.fram_board.Effects.{Effect}
-use Rattle.array_versions.specs.Program.{Program, nothing, step, joined}
-use Rattle.array_versions.specs.Behaviour.{WordState, End, GoesOn, Jumps, Short, Strays, Broken, Behaviour, behaves, behind_effects, on_end, then_on, step_behaviour, behaviour}
+use Rattle.array_versions.specs.Operations.{is_true, compare_words}
+use Rattle.array_versions.specs.Program.{Test, Program, holds, compares, both, either, fails, nothing, step, joined}
+use Rattle.array_versions.specs.Behaviour.{WordState, End, GoesOn, Jumps, Short, Strays, Broken, Behaviour, behaves, behind_effects, on_end, then_on}
+use Rattle.array_versions.specs.Behaviour.{with_top, with_stack, number_pushed, way_by_top, way_by_two, step_behaviour, tested, behaviour}
 use Rattle.array_versions.specs.Laws.{JoinedGoOn, JoinedCycles, JoinedWords}
 
 -- effects in front of effects
@@ -23,6 +25,49 @@ joined_go_on nothing q s = refl
 joined_go_on (step first more) q s =
     let b = step_behaviour first s in
     then_on_end b.effects b.end (behaviour more) (behaviour q) (behaviour (joined more q)) (joined_go_on more q)
+
+-- what stands behind what stands behind
+pub then_on_assoc : (b : Behaviour) (f g : WordState → Behaviour) → then_on b (λ s. then_on (f s) g) ≡ then_on (then_on b f) g
+then_on_assoc b f g = then_on_end b.effects b.end f g (λ s. then_on (f s) g) (λ s. refl)
+
+-- ---- what stands behind a test stands behind each of its ways
+
+-- a way with something behind it
+abbrev IsBehind : (WordState → Behaviour) → (WordState → Behaviour) → (WordState → Behaviour) → Type 0
+IsBehind all way next = (s : WordState) → all s ≡ then_on (way s) next
+
+either_on : (c : Bool) (a b x y : Behaviour) (next : WordState → Behaviour) → a ≡ then_on x next → b ≡ then_on y next
+    → (if c then a else b) ≡ then_on (if c then x else y) next
+either_on true a b x y next e f = e
+either_on false a b x y next e f = f
+
+top_on : (vs : List ℕ) (all way : ℕ → List ℕ → Behaviour) (next : WordState → Behaviour) → ((v : ℕ) (us : List ℕ) → all v us ≡ then_on (way v us) next)
+    → with_top vs all ≡ then_on (with_top vs way) next
+top_on [] all way next e = refl
+top_on (v ∷ vs) all way next e = e v vs
+
+pub tested_on : (t : Test) (h f held failed next : WordState → Behaviour) (s : WordState) → IsBehind h held next → IsBehind f failed next
+    → tested t h f s ≡ then_on (tested t held failed s) next
+tested_on (holds p) h f held failed next s a b =
+    let r = behaviour p s in
+    then_on_end r.effects r.end (way_by_top held failed) next (way_by_top h f) (λ u.
+    top_on u.stack _ _ next (λ v vs. let x = with_stack vs u in either_on (is_true v) (h x) (f x) (held x) (failed x) next (a x) (b x)))
+tested_on (compares op p) h f held failed next s a b =
+    let r = behaviour p s in
+    then_on_end r.effects r.end (way_by_two op held failed) next (way_by_two op h f) (λ u.
+    top_on u.stack _ _ next (λ v us. top_on us _ _ next (λ w vs.
+    let x = with_stack vs u in either_on (compare_words op w v) (h x) (f x) (held x) (failed x) next (a x) (b x))))
+tested_on (both t u) h f held failed next s a b =
+    tested_on t (tested u h f) f (tested u held failed) failed next s (λ v. tested_on u h f held failed next v a b) b
+tested_on (either t u) h f held failed next s a b =
+    tested_on t h (tested u h f) held (tested u held failed) next s a (λ v. tested_on u h f held failed next v a b)
+tested_on (fails t) h f held failed next s a b = tested_on t f h failed held next s b a
+
+-- a test decides as the word 1 or 0 that it is the truth of
+pub decided_by_truth : (t : Test) (held failed : WordState → Behaviour) (s : WordState)
+    → tested t held failed s ≡ then_on (tested t (number_pushed 1) (number_pushed 0) s) (way_by_top held failed)
+decided_by_truth t held failed s =
+    tested_on t held failed (number_pushed 1) (number_pushed 0) (way_by_top held failed) s (λ v. refl) (λ v. refl)
 
 -- the cycles of two programs
 pub joined_cycles : JoinedCycles

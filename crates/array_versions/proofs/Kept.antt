@@ -2,26 +2,24 @@
 use Rattle.std.proofs.Common.{◌≡◌, ℕ, zero, suc, ◌+◌, ◌-◌, ◌<◌, ◌≤◌, ◌==◌, refl, arith, Bool, true, false, nat_le, nat_lt, ltb-true, if◌then◌else◌}
 use Rattle.std.proofs.lemmas.Bool.Decides.{nat_tests}
 use Rattle.array_versions.specs.declared.operations.UnaryOperation.{UnaryOperation}
-use Rattle.array_versions.specs.declared.operations.UnaryOperation.TheVariants.{Negate, Complement, Not, Truth}
+use Rattle.array_versions.specs.declared.operations.UnaryOperation.TheVariants.{Negate, Complement}
 use Rattle.array_versions.specs.declared.operations.BinaryOperation.{BinaryOperation}
 use Rattle.array_versions.specs.declared.operations.BinaryOperation.TheVariants.{Multiply}
 use Rattle.array_versions.specs.declared.operations.ShiftOperation.{ShiftOperation}
 use Rattle.array_versions.specs.declared.operations.ShiftOperation.TheVariants.{Left, Right, SignedRight}
-use Rattle.array_versions.specs.Program.{number, load, keep, local, set_local, unary, binary, shift, element, emit_word, list_entry, versioned_read, versioned_write, sense, choose, repeat, store_number, move_word, jump}
+use Rattle.array_versions.specs.Program.{number, load, keep, local, set_local, unary, binary, shift, element, emit_word, list_entry, versioned_read}
+use Rattle.array_versions.specs.Program.{versioned_write, sense, truth, choose, repeat, store_number, move_word, jump, holds, compares, both, either}
+use Rattle.array_versions.specs.Program.{fails}
 use Rattle.array_versions.specs.Cost.{unary_cycles, unary_words, binary_cycles, binary_words, right_words, shift_words, cycles_of}
-use Rattle.array_versions.specs.Allowance.{binary_allowance, StepsKeepToCycles, StepsKeepToWords}
+use Rattle.array_versions.specs.Allowance.{binary_allowance, StepsKeepToCycles, StepsKeepToWords, TestsKeepToCycles, TestsKeepToWords}
 
 unary_cycles_kept : (o : UnaryOperation) → unary_cycles o ≤ 40
 unary_cycles_kept Negate = omega arith
 unary_cycles_kept Complement = omega arith
-unary_cycles_kept Not = omega arith
-unary_cycles_kept Truth = omega arith
 
 unary_words_kept : (o : UnaryOperation) → unary_words o ≤ 16
 unary_words_kept Negate = omega arith
 unary_words_kept Complement = omega arith
-unary_words_kept Not = omega arith
-unary_words_kept Truth = omega arith
 
 -- of each operation alike: the first clause makes it a proof by cases
 binary_cycles_kept : (o : BinaryOperation) → binary_cycles o ≤ binary_allowance o
@@ -64,7 +62,8 @@ steps_keep_to_cycles (list_entry count list home copy words) = omega arith
 steps_keep_to_cycles (versioned_read place list) = omega arith
 steps_keep_to_cycles (versioned_write place list) = omega arith
 steps_keep_to_cycles sense = omega arith
-steps_keep_to_cycles (choose taken otherwise) = omega arith
+steps_keep_to_cycles (truth t) = omega arith
+steps_keep_to_cycles (choose t taken otherwise) = omega arith
 steps_keep_to_cycles (repeat n from below body) = let turns = below - from in let c = cycles_of body in omega arith
 steps_keep_to_cycles (store_number a w) = omega arith
 steps_keep_to_cycles (move_word from to) = omega arith
@@ -91,8 +90,25 @@ steps_keep_to_words (list_entry count list home copy words) = entry_kept (words 
 steps_keep_to_words (versioned_read place list) = omega arith
 steps_keep_to_words (versioned_write place list) = omega arith
 steps_keep_to_words sense = omega arith
-steps_keep_to_words (choose taken otherwise) = omega arith
+steps_keep_to_words (truth t) = omega arith
+steps_keep_to_words (choose t taken otherwise) = omega arith
 steps_keep_to_words (repeat n from below body) = omega arith
 steps_keep_to_words (store_number a w) = omega arith
 steps_keep_to_words (move_word from to) = omega arith
 steps_keep_to_words (jump to) = omega arith
+
+-- each test keeps to its cycles
+pub tests_keep_to_cycles : TestsKeepToCycles
+tests_keep_to_cycles (holds p) = omega arith
+tests_keep_to_cycles (compares op p) = omega arith
+tests_keep_to_cycles (both t u) = omega arith
+tests_keep_to_cycles (either t u) = omega arith
+tests_keep_to_cycles (fails t) = omega arith
+
+-- and to its words
+pub tests_keep_to_words : TestsKeepToWords
+tests_keep_to_words (holds p) = omega arith
+tests_keep_to_words (compares op p) = omega arith
+tests_keep_to_words (both t u) = omega arith
+tests_keep_to_words (either t u) = omega arith
+tests_keep_to_words (fails t) = omega arith

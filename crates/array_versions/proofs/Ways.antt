@@ -1,11 +1,21 @@
 -- A whole program is never broken: along each way the stack is as deep as is said, and the locals that are said to be assigned are.
-use Rattle.std.proofs.Common.{◌≡◌, ℕ, zero, suc, ◌+◌, ◌-◌, ◌*◌, ◌%◌, ◌==◌, ◌≤◌, ◌||◌, List, [], ◌∷◌, length, Option, Some, None, Bool, true, false, nat_eq, nat_lt, refl, sym, ap, ◌∙◌, subst, arith, eq-eqb, if◌then◌else◌}
+use Rattle.std.proofs.Common.{◌≡◌, ℕ, zero, suc, ◌+◌, ◌-◌, ◌*◌, ◌%◌, ◌==◌, ◌≤◌, ◌||◌, List, [], ◌∷◌, length, Option, Some, None, Bool, true, false}
+use Rattle.std.proofs.Common.{nat_eq, nat_lt, refl, sym, ap, ◌∙◌, subst, arith, eq-eqb, if◌then◌else◌}
 use Rattle.machine_effects.specs.fram_board.Effects.{Store}
 use Rattle.array_versions.specs.declared.program.ArrayPlace.{ArrayPlace}
 use Rattle.array_versions.specs.declared.program.ListPlace.{ListPlace}
-use Rattle.array_versions.specs.Program.{Step, Program, number, load, keep, local, set_local, unary, binary, shift, element, emit_word, list_entry, versioned_read, versioned_write, sense, choose, repeat, store_number, move_word, jump, nothing, step}
-use Rattle.array_versions.specs.Behaviour.{stored, behind_effects, WordState, started, End, GoesOn, Jumps, Short, Strays, Broken, Behaviour, behaves, goes_on, strays, broken, on_end, then_on, is_place, at_place, with_top, with_two, with_stack, pushed, with_local, local_pushed, reading_pushed, entry_stored, raised, ends_before, listed_behind, own_element, first_stored, own_stored, chosen, turns, step_behaviour, behaviour}
-use Rattle.array_versions.specs.Form.{Place, start, assigning, Moves, EachTurn, EachStepWay, EachWay}
+use Rattle.array_versions.specs.Operations.{is_true, compare_words}
+use Rattle.array_versions.specs.Program.{Step, Test, Program, number, load, keep, local, set_local, unary, binary, shift, element, emit_word}
+use Rattle.array_versions.specs.Program.{list_entry}
+use Rattle.array_versions.specs.Program.{versioned_read, versioned_write, sense, truth, choose, repeat, store_number, move_word, jump, holds}
+use Rattle.array_versions.specs.Program.{compares}
+use Rattle.array_versions.specs.Program.{both, either, fails, nothing, step}
+use Rattle.array_versions.specs.Behaviour.{stored, behind_effects, WordState, started, End, GoesOn, Jumps, Short, Strays, Broken, Behaviour, behaves}
+use Rattle.array_versions.specs.Behaviour.{goes_on}
+use Rattle.array_versions.specs.Behaviour.{strays, broken, on_end, then_on, is_place, at_place, with_top, with_two, with_stack, pushed, with_local}
+use Rattle.array_versions.specs.Behaviour.{local_pushed, reading_pushed, entry_stored, raised, ends_before, listed_behind, own_element, first_stored}
+use Rattle.array_versions.specs.Behaviour.{own_stored, number_pushed, way_by_top, way_by_two, turns, step_behaviour, tested, behaviour}
+use Rattle.array_versions.specs.Form.{Place, start, assigning, Moves, EachTurn, EachStepWay, EachTestWay, EachWay}
 use Rattle.array_versions.specs.Laws.{IsSound, WholeEndsSoundly}
 
 -- a local that is assigned has a word
@@ -26,7 +36,8 @@ GoesWell next Short = Unit {0}
 GoesWell next Strays = Unit {0}
 GoesWell next Broken = ⊥
 
-then_well : (mid next : Place → Type 0) (b : Behaviour) (go : WordState → Behaviour) → GoesWell mid b.end → ((q : Place) (t : WordState) → mid q → Matches q t → GoesWell next (go t).end) → GoesWell next (then_on b go).end
+then_well : (mid next : Place → Type 0) (b : Behaviour) (go : WordState → Behaviour) → GoesWell mid b.end
+    → ((q : Place) (t : WordState) → mid q → Matches q t → GoesWell next (go t).end) → GoesWell next (then_on b go).end
 then_well mid next b go h k = by_end b.end h
   where
     by_end : (e : End) → GoesWell mid e → GoesWell next (on_end e go).end
@@ -40,11 +51,13 @@ guarded : (next : Place → Type 0) (c : Bool) (b : Behaviour) → GoesWell next
 guarded next true b h = h
 guarded next false b h = tt
 
-top_well : (next : Place → Type 0) (vs : List ℕ) (go : ℕ → List ℕ → Behaviour) → 1 ≤ length vs → ((v : ℕ) (us : List ℕ) → length us + 1 ≡ length vs → GoesWell next (go v us).end) → GoesWell next (with_top vs go).end
+top_well : (next : Place → Type 0) (vs : List ℕ) (go : ℕ → List ℕ → Behaviour) → 1 ≤ length vs
+    → ((v : ℕ) (us : List ℕ) → length us + 1 ≡ length vs → GoesWell next (go v us).end) → GoesWell next (with_top vs go).end
 top_well next [] go l h = absurd (omega arith)
 top_well next (v ∷ vs) go l h = h v vs (omega arith)
 
-two_well : (next : Place → Type 0) (vs : List ℕ) (go : ℕ → ℕ → List ℕ → Behaviour) → 2 ≤ length vs → ((u v : ℕ) (us : List ℕ) → length us + 2 ≡ length vs → GoesWell next (go u v us).end) → GoesWell next (with_two vs go).end
+two_well : (next : Place → Type 0) (vs : List ℕ) (go : ℕ → ℕ → List ℕ → Behaviour) → 2 ≤ length vs
+    → ((u v : ℕ) (us : List ℕ) → length us + 2 ≡ length vs → GoesWell next (go u v us).end) → GoesWell next (with_two vs go).end
 two_well next vs go l h =
     top_well next vs _ (omega arith) (λ v us e. top_well next us _ (omega arith) (λ u rest f. h u v rest (omega arith)))
 
@@ -64,7 +77,8 @@ pub matches_local : (q : Place) (s : WordState) (n v : ℕ) → Matches q s → 
 matches_local q s n v m = record { depth = m.depth; assigned = λ k e. assigned_by (nat_eq k n) (s.locals k) (q.assigned k) v (m.assigned k) e }
 
 -- a word more, and no other change of the stack or the locals
-push_well : (room v : ℕ) (next : Place → Type 0) (q : Place) (s t : WordState) → Moves room 0 1 next q → Matches q s → t.stack ≡ v ∷ s.stack → t.locals ≡ s.locals → GoesWell next (GoesOn t)
+push_well : (room v : ℕ) (next : Place → Type 0) (q : Place) (s t : WordState) → Moves room 0 1 next q → Matches q s → t.stack ≡ v ∷ s.stack
+    → t.locals ≡ s.locals → GoesWell next (GoesOn t)
 push_well room v next q s t h m e f = (
   at_depth (q.depth - 0 + 1) q,
   h.2,
@@ -76,7 +90,8 @@ same_well next q s t h m e f =
     (q, h, record { depth = ap (length {A = ℕ}) e ∙ m.depth; assigned = λ n k. subst (λ l. HasWord (l n)) (sym f) (m.assigned n k) })
 
 -- a word less
-pop_well : (room : ℕ) (next : Place → Type 0) (q : Place) (s t : WordState) → Moves room 1 0 next q → Matches q s → length t.stack + 1 ≡ length s.stack → t.locals ≡ s.locals → GoesWell next (GoesOn t)
+pop_well : (room : ℕ) (next : Place → Type 0) (q : Place) (s t : WordState) → Moves room 1 0 next q → Matches q s → length t.stack + 1 ≡ length s.stack
+    → t.locals ≡ s.locals → GoesWell next (GoesOn t)
 pop_well room next q s t h m e f = (
   at_depth (q.depth - 1 + 0) q,
   h.2,
@@ -84,34 +99,43 @@ pop_well room next q s t h m e f = (
 )
 
 -- words popped, and one pushed
-turn_well : (room pops : ℕ) (next : Place → Type 0) (q : Place) (s t : WordState) → Moves room pops 1 next q → Matches q s → length t.stack + pops ≡ length s.stack + 1 → t.locals ≡ s.locals → GoesWell next (GoesOn t)
+turn_well : (room pops : ℕ) (next : Place → Type 0) (q : Place) (s t : WordState) → Moves room pops 1 next q → Matches q s
+    → length t.stack + pops ≡ length s.stack + 1 → t.locals ≡ s.locals → GoesWell next (GoesOn t)
 turn_well room pops next q s t h m e f = (
   at_depth (q.depth - pops + 1) q,
   h.2,
   record { depth = let l = h.0 in omega (arith, m.depth); assigned = λ n k. subst (λ l. HasWord (l n)) (sym f) (m.assigned n k) },
 )
 
-local_well : (room : ℕ) (o : Option ℕ) (next : Place → Type 0) (q : Place) (s : WordState) → HasWord o → Moves room 0 1 next q → Matches q s → GoesWell next (local_pushed o s).end
+local_well : (room : ℕ) (o : Option ℕ) (next : Place → Type 0) (q : Place) (s : WordState) → HasWord o → Moves room 0 1 next q → Matches q s
+    → GoesWell next (local_pushed o s).end
 local_well room None next q s w h m = absurd (let e = w.is in (cc))
 local_well room (Some v) next q s w h m = push_well room v next q s (pushed v s) h m refl refl
 
-reading_well : (room : ℕ) (rs : List ℕ) (next : Place → Type 0) (q : Place) (s : WordState) → Moves room 0 1 next q → Matches q s → GoesWell next (reading_pushed rs s).end
+reading_well : (room : ℕ) (rs : List ℕ) (next : Place → Type 0) (q : Place) (s : WordState) → Moves room 0 1 next q → Matches q s
+    → GoesWell next (reading_pushed rs s).end
 reading_well room [] next q s h m = tt
 reading_well room (r ∷ rs) next q s h m = push_well room r next q s (pushed r (record s { readings = rs })) h m refl refl
 
-element_well : (c : Bool) (base i : ℕ) (next : Place → Type 0) (t : WordState) → ((v : ℕ) → GoesWell next (GoesOn (pushed v t))) → GoesWell next (if c then at_place (2 * i + base) (goes_on [] (pushed (t.fram (2 * i + base)) t)) else goes_on [] (pushed 0 t)).end
+element_well : (c : Bool) (base i : ℕ) (next : Place → Type 0) (t : WordState) → ((v : ℕ) → GoesWell next (GoesOn (pushed v t)))
+    → GoesWell next (if c then at_place (2 * i + base) (goes_on [] (pushed (t.fram (2 * i + base)) t)) else goes_on [] (pushed 0 t)).end
 element_well true base i next t h = guarded next (is_place (2 * i + base)) (goes_on [] (pushed (t.fram (2 * i + base)) t)) (h (t.fram (2 * i + base)))
 element_well false base i next t h = h 0
 
 own_element_well : (b : Bool) (place : ArrayPlace) (i : ℕ) (next : Place → Type 0) (t : WordState) → ((v : ℕ) → GoesWell next (GoesOn (pushed v t)))
-    → GoesWell next (if b then at_place (2 * i + place.copies) (goes_on [] (pushed (t.fram (2 * i + place.copies)) t)) else at_place (2 * i + place.elements) (goes_on [] (pushed (t.fram (2 * i + place.elements)) t))).end
-own_element_well true place i next t h = guarded next (is_place (2 * i + place.copies)) (goes_on [] (pushed (t.fram (2 * i + place.copies)) t)) (h (t.fram (2 * i + place.copies)))
-own_element_well false place i next t h = guarded next (is_place (2 * i + place.elements)) (goes_on [] (pushed (t.fram (2 * i + place.elements)) t)) (h (t.fram (2 * i + place.elements)))
+    → GoesWell next (if b then at_place (2 * i + place.copies) (goes_on [] (pushed (t.fram (2 * i + place.copies)) t))
+    else at_place (2 * i + place.elements) (goes_on [] (pushed (t.fram (2 * i + place.elements)) t))).end
+own_element_well true place i next t h = guarded next (is_place (2 * i + place.copies)) (goes_on [] (pushed (t.fram (2 * i + place.copies)) t))
+    (h (t.fram (2 * i + place.copies)))
+own_element_well false place i next t h = guarded next (is_place (2 * i + place.elements)) (goes_on [] (pushed (t.fram (2 * i + place.elements)) t))
+    (h (t.fram (2 * i + place.elements)))
 
-versioned_pushed_well : (b : Bool) (place : ArrayPlace) (list : ListPlace) (i : ℕ) (next : Place → Type 0) (t : WordState) → ((v : ℕ) → GoesWell next (GoesOn (pushed v t)))
+versioned_pushed_well : (b : Bool) (place : ArrayPlace) (list : ListPlace) (i : ℕ) (next : Place → Type 0) (t : WordState)
+    → ((v : ℕ) → GoesWell next (GoesOn (pushed v t)))
     → GoesWell next (if b then own_element place list i t else goes_on [] (pushed 0 t)).end
 versioned_pushed_well true place list i next t h =
-    guarded next (is_place list.ver) _ (guarded next (is_place (2 * i + place.versions)) _ (own_element_well (t.fram list.ver == t.fram (2 * i + place.versions)) place i next t h))
+    guarded next (is_place list.ver) _ (guarded next (is_place (2 * i + place.versions)) _
+    (own_element_well (t.fram list.ver == t.fram (2 * i + place.versions)) place i next t h))
 versioned_pushed_well false place list i next t h = h 0
 
 -- an entry leaves the stack and the locals
@@ -128,7 +152,8 @@ longer_well true list a home copy next t h = h _
 longer_well false list a home copy next t h = entry_well list.cln list.list home copy 1 next t h
 
 -- so does a word that is listed
-listed_well : (n : ℕ) (list : ListPlace) (home copy : ℕ) (next : Place → Type 0) (t : WordState) → ((f : ℕ → ℕ) → GoesWell next (GoesOn (record t { fram = f })))
+listed_well : (n : ℕ) (list : ListPlace) (home copy : ℕ) (next : Place → Type 0) (t : WordState)
+    → ((f : ℕ → ℕ) → GoesWell next (GoesOn (record t { fram = f })))
     → GoesWell next (listed_behind n list home copy t).end
 listed_well zero list home copy next t h = entry_well list.cln list.list home copy 1 next t h
 listed_well (suc n) list home copy next t h =
@@ -136,7 +161,8 @@ listed_well (suc n) list home copy next t h =
     guarded next (is_place a) _ (guarded next (is_place (a + 2)) _ (guarded next (is_place (a + 4)) _
     (longer_well (ends_before t.fram a home copy) list a home copy next t h)))
 
-own_stored_well : (b : Bool) (place : ArrayPlace) (list : ListPlace) (i c v : ℕ) (next : Place → Type 0) (t : WordState) → ((f : ℕ → ℕ) → GoesWell next (GoesOn (record t { fram = f })))
+own_stored_well : (b : Bool) (place : ArrayPlace) (list : ListPlace) (i c v : ℕ) (next : Place → Type 0) (t : WordState)
+    → ((f : ℕ → ℕ) → GoesWell next (GoesOn (record t { fram = f })))
     → GoesWell next (if b then goes_on (Store c v ∷ []) (stored c v t) else behind_effects (Store c v ∷ []) (first_stored place list i (stored c v t))).end
 own_stored_well true place list i c v next t h = h _
 own_stored_well false place list i c v next t h =
@@ -144,27 +170,49 @@ own_stored_well false place list i c v next t h =
     guarded next (is_place (2 * i + place.elements)) _ (guarded next (is_place list.cln) _
     (listed_well (u.fram list.cln) list (2 * i + place.elements) (2 * i + place.copies) next u h))
 
-versioned_stored_well : (b : Bool) (place : ArrayPlace) (list : ListPlace) (i v : ℕ) (next : Place → Type 0) (t : WordState) → ((f : ℕ → ℕ) → GoesWell next (GoesOn (record t { fram = f })))
+versioned_stored_well : (b : Bool) (place : ArrayPlace) (list : ListPlace) (i v : ℕ) (next : Place → Type 0) (t : WordState)
+    → ((f : ℕ → ℕ) → GoesWell next (GoesOn (record t { fram = f })))
     → GoesWell next (if b then own_stored place list i v t else goes_on [] t).end
 versioned_stored_well true place list i v next t h =
     let c = 2 * i + place.copies in
     let u = stored c v t in
-    guarded next (is_place c) _ (guarded next (is_place list.ver) _ (guarded next (is_place (2 * i + place.versions)) _ (own_stored_well (u.fram list.ver == u.fram (2 * i + place.versions)) place list i c v next t h)))
+    guarded next (is_place c) _ (guarded next (is_place list.ver) _
+    (guarded next (is_place (2 * i + place.versions)) _ (own_stored_well (u.fram list.ver == u.fram (2 * i + place.versions)) place list i c v next t h)))
 versioned_stored_well false place list i v next t h = h t.fram
 
 -- two words less
-pop_two_well : (room : ℕ) (next : Place → Type 0) (q : Place) (s t : WordState) → Moves room 2 0 next q → Matches q s → length t.stack + 2 ≡ length s.stack → t.locals ≡ s.locals → GoesWell next (GoesOn t)
+pop_two_well : (room : ℕ) (next : Place → Type 0) (q : Place) (s t : WordState) → Moves room 2 0 next q → Matches q s → length t.stack + 2 ≡ length s.stack
+    → t.locals ≡ s.locals → GoesWell next (GoesOn t)
 pop_two_well room next q s t h m e f = (
   at_depth (q.depth - 2 + 0) q,
   h.2,
   record { depth = omega (arith, m.depth); assigned = λ n k. subst (λ l. HasWord (l n)) (sym f) (m.assigned n k) },
 )
 
-chosen_well : (v : ℕ) (next : Place → Type 0) (a b : Behaviour) → GoesWell next a.end → GoesWell next b.end → GoesWell next (chosen v a b).end
-chosen_well zero next a b h k = k
-chosen_well (suc v) next a b h k = h
+-- one of two ways
+either_well : (c : Bool) (next : Place → Type 0) (a b : Behaviour) → GoesWell next a.end → GoesWell next b.end → GoesWell next (if c then a else b).end
+either_well true next a b h k = h
+either_well false next a b h k = k
 
-turns_well : (body : (Place → Type 0) → Place → Type 0) (run : WordState → Behaviour) → ((next : Place → Type 0) (q : Place) (s : WordState) → body next q → Matches q s → GoesWell next (run s).end)
+-- what is fit and what follows it goes well
+abbrev Leads : (Place → Type 0) → (Place → Type 0) → (WordState → Behaviour) → Type 0
+Leads mid next go = (q : Place) (s : WordState) → mid q → Matches q s → GoesWell next (go s).end
+
+-- a number on top
+number_leads : (room n : ℕ) (next : Place → Type 0) → Leads (Moves room 0 1 next) next (number_pushed n)
+number_leads room n next q s h m = push_well room n next q s (pushed n s) h m refl refl
+
+-- one of two ways, behind words that are popped
+popped_well : (c : Bool) (d : ℕ) (vs : List ℕ) (held failed next : Place → Type 0) (go other : WordState → Behaviour) (q : Place) (s : WordState)
+    → held (at_depth d q) × failed (at_depth d q) → Matches q s → length vs ≡ d → Leads held next go → Leads failed next other
+    → GoesWell next (if c then go (with_stack vs s) else other (with_stack vs s)).end
+popped_well c d vs held failed next go other q s h m e f g =
+    let t = with_stack vs s in
+    let n = matches_depth q s vs d m e in
+    either_well c next (go t) (other t) (f (at_depth d q) t h.0 n) (g (at_depth d q) t h.1 n)
+
+turns_well : (body : (Place → Type 0) → Place → Type 0) (run : WordState → Behaviour)
+    → ((next : Place → Type 0) (q : Place) (s : WordState) → body next q → Matches q s → GoesWell next (run s).end)
     → (m n k : ℕ) (next : Place → Type 0) (q : Place) (s : WordState) → EachTurn m n body next q → Matches q s → GoesWell next (turns m n k run s).end
 turns_well body run f zero n k next q s h m = (assigning n q, h, matches_local q s n k m)
 turns_well body run f (suc j) n k next q s h m =
@@ -178,45 +226,79 @@ jump_well false to next s e = absurd (cc)
 
 mutual
   -- a step along each way
-  pub step_well : (room : ℕ) (first : Step) (next : Place → Type 0) (q : Place) (s : WordState) → EachStepWay room first next q → Matches q s → GoesWell next (step_behaviour first s).end
+  pub step_well : (room : ℕ) (first : Step) (next : Place → Type 0) (q : Place) (s : WordState) → EachStepWay room first next q → Matches q s
+      → GoesWell next (step_behaviour first s).end
   step_well room (number w) next q s h m = push_well room w next q s (pushed w s) h m refl refl
-  step_well room (load a) next q s h m = guarded next (is_place a) (goes_on [] (pushed (s.fram a) s)) (push_well room (s.fram a) next q s (pushed (s.fram a) s) h m refl refl)
+  step_well room (load a) next q s h m = guarded next (is_place a) (goes_on [] (pushed (s.fram a) s))
+      (push_well room (s.fram a) next q s (pushed (s.fram a) s) h m refl refl)
   step_well room (keep a) next q s h m =
       top_well next s.stack _ (omega (arith, h.0, m.depth)) (λ v vs e. guarded next (is_place a) _ (pop_well room next q s _ h m e refl))
   step_well room (local n) next q s h m = local_well room (s.locals n) next q s (m.assigned n h.0) h.1 m
   step_well room (set_local n) next q s h m =
       top_well next s.stack _ (omega (arith, h.0, m.depth))
-      (λ v vs e. (assigning n (at_depth (q.depth - 1 + 0) q), h.2, matches_local (at_depth (q.depth - 1 + 0) q) (with_stack vs s) n v (matches_depth q s vs (q.depth - 1 + 0) m (omega (arith, m.depth)))))
+      (λ v vs e. (
+        assigning n (at_depth (q.depth - 1 + 0) q),
+        h.2,
+        matches_local (at_depth (q.depth - 1 + 0) q) (with_stack vs s) n v (matches_depth q s vs (q.depth - 1 + 0) m (omega (arith, m.depth))),
+      ))
   step_well room (unary op) next q s h m = top_well next s.stack _ (omega (arith, h.0, m.depth)) (λ v vs e. turn_well room 1 next q s _ h m (omega arith) refl)
-  step_well room (binary op) next q s h m = two_well next s.stack _ (omega (arith, h.0, m.depth)) (λ u v vs e. turn_well room 2 next q s _ h m (omega arith) refl)
-  step_well room (shift op k) next q s h m = top_well next s.stack _ (omega (arith, h.0, m.depth)) (λ v vs e. turn_well room 1 next q s _ h m (omega arith) refl)
+  step_well room (binary op) next q s h m = two_well next s.stack _ (omega (arith, h.0, m.depth))
+      (λ u v vs e. turn_well room 2 next q s _ h m (omega arith) refl)
+  step_well room (shift op k) next q s h m = top_well next s.stack _ (omega (arith, h.0, m.depth))
+      (λ v vs e. turn_well room 1 next q s _ h m (omega arith) refl)
   step_well room (element base size) next q s h m =
-      top_well next s.stack _ (omega (arith, h.0, m.depth)) (λ i vs e. element_well (nat_lt i size) base i next (with_stack vs s) (λ v. turn_well room 1 next q s _ h m (omega arith) refl))
+      top_well next s.stack _ (omega (arith, h.0, m.depth))
+      (λ i vs e. element_well (nat_lt i size) base i next (with_stack vs s) (λ v. turn_well room 1 next q s _ h m (omega arith) refl))
   step_well room (emit_word count buffer) next q s h m =
-      top_well next s.stack _ (omega (arith, h.0, m.depth)) (λ v vs e. guarded next (is_place count) _ (guarded next (is_place (2 * s.fram count + buffer)) _ (pop_well room next q s _ h m e refl)))
+      top_well next s.stack _ (omega (arith, h.0, m.depth))
+      (λ v vs e. guarded next (is_place count) _ (guarded next (is_place (2 * s.fram count + buffer)) _ (pop_well room next q s _ h m e refl)))
   step_well room (list_entry count list home copy words) next q s h m =
       entry_well count list home copy words next s (λ f. same_well next q s _ h m refl refl)
   step_well room (versioned_read place list) next q s h m =
-      top_well next s.stack _ (omega (arith, h.0, m.depth)) (λ i vs e. versioned_pushed_well (nat_lt i place.length) place list i next (with_stack vs s) (λ v. turn_well room 1 next q s _ h m (omega arith) refl))
+      top_well next s.stack _ (omega (arith, h.0, m.depth))
+      (λ i vs e. versioned_pushed_well (nat_lt i place.length) place list i next (with_stack vs s) (λ v. turn_well room 1 next q s _ h m (omega arith) refl))
   step_well room (versioned_write place list) next q s h m =
-      two_well next s.stack _ (omega (arith, h.0, m.depth)) (λ i v vs e. versioned_stored_well (nat_lt i place.length) place list i v next (with_stack vs s) (λ f. pop_two_well room next q s _ h m e refl))
+      two_well next s.stack _ (omega (arith, h.0, m.depth))
+      (λ i v vs e. versioned_stored_well (nat_lt i place.length) place list i v next (with_stack vs s) (λ f. pop_two_well room next q s _ h m e refl))
   step_well room sense next q s h m = reading_well room s.readings next q s h m
-  step_well room (choose taken otherwise) next q s h m =
-      top_well next s.stack _ (omega (arith, h.0, m.depth)) (λ v vs e.
-      let p = at_depth (q.depth - 1 + 0) q in
-      let w = matches_depth q s vs (q.depth - 1 + 0) m (omega (arith, m.depth)) in
-      chosen_well v next _ _ (well room taken next p (with_stack vs s) h.2.0 w) (well room otherwise next p (with_stack vs s) h.2.1 w))
+  step_well room (truth t) next q s h m =
+      test_well room t (Moves room 0 1 next) (Moves room 0 1 next) next (number_pushed 1) (number_pushed 0) q s h m
+      (number_leads room 1 next) (number_leads room 0 next)
+  step_well room (choose t taken otherwise) next q s h m =
+      test_well room t (EachWay room taken next) (EachWay room otherwise next) next (behaviour taken) (behaviour otherwise) q s h m
+      (well room taken next) (well room otherwise next)
   step_well room (repeat n from below body) next q s h m =
       turns_well (EachWay room body) (behaviour body) (well room body) (below - from) n from next q s h m
   step_well room (store_number a w) next q s h m = guarded next (is_place a) _ (same_well next q s _ h m refl refl)
   step_well room (move_word from to) next q s h m = guarded next (is_place from) _ (guarded next (is_place to) _ (same_well next q s _ h m refl refl))
   step_well room (jump to) next q s h m = jump_well (to % 2 == 0) to next s (eq-eqb (to % 2) 0 h)
 
+  -- a test along each way
+  pub test_well : (room : ℕ) (t : Test) (held failed next : Place → Type 0) (go other : WordState → Behaviour) (q : Place) (s : WordState)
+      → EachTestWay room t held failed q → Matches q s → Leads held next go → Leads failed next other → GoesWell next (tested t go other s).end
+  test_well room (holds p) held failed next go other q s h m f g =
+      then_well (Moves room 1 0 (λ r. held r × failed r)) next (behaviour p s) (way_by_top go other) (well room p _ q s h m)
+      (λ r u k n. top_well next u.stack _ (omega (arith, k.0, n.depth)) (λ v vs e.
+      popped_well (is_true v) (r.depth - 1 + 0) vs held failed next go other r u k.2 n (omega (arith, n.depth)) f g))
+  test_well room (compares op p) held failed next go other q s h m f g =
+      then_well (Moves room 2 0 (λ r. held r × failed r)) next (behaviour p s) (way_by_two op go other) (well room p _ q s h m)
+      (λ r u k n. two_well next u.stack _ (omega (arith, k.0, n.depth)) (λ x y vs e.
+      popped_well (compare_words op x y) (r.depth - 2 + 0) vs held failed next go other r u k.2 n (omega (arith, n.depth)) f g))
+  test_well room (both t u) held failed next go other q s h m f g =
+      test_well room t (EachTestWay room u held failed) failed next (tested u go other) other q s h m
+      (λ r v k n. test_well room u held failed next go other r v k n f g) g
+  test_well room (either t u) held failed next go other q s h m f g =
+      test_well room t held (EachTestWay room u held failed) next go (tested u go other) q s h m f
+      (λ r v k n. test_well room u held failed next go other r v k n f g)
+  test_well room (fails t) held failed next go other q s h m f g = test_well room t failed held next other go q s h m g f
+
   -- a program along each way
-  pub well : (room : ℕ) (p : Program) (next : Place → Type 0) (q : Place) (s : WordState) → EachWay room p next q → Matches q s → GoesWell next (behaviour p s).end
+  pub well : (room : ℕ) (p : Program) (next : Place → Type 0) (q : Place) (s : WordState) → EachWay room p next q → Matches q s
+      → GoesWell next (behaviour p s).end
   well room nothing next q s h m = (q, h, m)
   well room (step first more) next q s h m =
-      then_well (EachWay room more next) next (step_behaviour first s) (behaviour more) (step_well room first (EachWay room more next) q s h m) (λ p t g w. well room more next p t g w)
+      then_well (EachWay room more next) next (step_behaviour first s) (behaviour more) (step_well room first (EachWay room more next) q s h m)
+      (λ p t g w. well room more next p t g w)
 
 -- the state that an attempt starts with
 pub start_matches : (fram : ℕ → ℕ) (readings : List ℕ) → Matches start (started fram readings)
@@ -224,7 +306,8 @@ start_matches fram readings = record { depth = refl; assigned = λ n e. absurd (
 
 -- a whole program jumps, or is short of readings, or comes to an address that isn't in FRAM
 pub whole_ends_soundly : WholeEndsSoundly
-whole_ends_soundly p fram readings h = by_end (behaviour p (started fram readings)).end (well h.room p (λ q. ⊥) start (started fram readings) h.ways (start_matches fram readings))
+whole_ends_soundly p fram readings h = by_end (behaviour p (started fram readings)).end
+    (well h.room p (λ q. ⊥) start (started fram readings) h.ways (start_matches fram readings))
   where
     by_end : (e : End) → GoesWell (λ q. ⊥) e → IsSound e
     by_end (GoesOn t) g = g.1

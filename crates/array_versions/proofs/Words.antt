@@ -1,45 +1,45 @@
 -- From words a program makes words.
-use Rattle.std.proofs.Common.{◌≡◌, ℕ, zero, suc, ◌+◌, ◌-◌, ◌*◌, ◌/◌, ◌%◌, ◌^◌, ◌==◌, ◌<◌, List, [], ◌∷◌, Option, Some, None, Bool, true, false, not, nat_eq}
+use Rattle.std.proofs.Common.{◌≡◌, ℕ, zero, suc, ◌+◌, ◌-◌, ◌*◌, ◌/◌, ◌%◌, ◌^◌, ◌==◌, ◌<◌, List, [], ◌∷◌, Option, Some, None, Bool, true, false, not}
+use Rattle.std.proofs.Common.{nat_eq}
 use Rattle.std.proofs.Common.{nat_lt, nat_le, refl, subst, arith, if◌then◌else◌}
 use Rattle.std.specs.List.{AllByRecursion}
 use Rattle.std.proofs.lemmas.Bool.Decides.{nat_tests}
 use Rattle.std.proofs.lemmas.Nat.{and_le_l, or_lt, xor_lt}
 use Rattle.std.proofs.lemmas.Option.{same_Some}
-use Rattle.machine_effects.specs.alp_words.Words.{bit, biased, is_negative}
+use Rattle.machine_effects.specs.alp_words.Words.{is_negative}
 use Rattle.machine_effects.specs.alp_words.declared.Width.TheVariants.{Word}
 use Rattle.machine_effects.specs.fram_board.Effects.{Store}
 use Rattle.machine_effects.specs.World.{put}
 use Rattle.array_versions.specs.declared.operations.UnaryOperation.{UnaryOperation}
-use Rattle.array_versions.specs.declared.operations.UnaryOperation.TheVariants.{Negate, Complement, Not, Truth}
+use Rattle.array_versions.specs.declared.operations.UnaryOperation.TheVariants.{Negate, Complement}
 use Rattle.array_versions.specs.declared.operations.BinaryOperation.{BinaryOperation}
-use Rattle.array_versions.specs.declared.operations.BinaryOperation.TheVariants.{Multiply, Divide, Remainder, Add, Subtract, And, Xor, Or, Equal, NotEqual}
-use Rattle.array_versions.specs.declared.operations.BinaryOperation.TheVariants.{Below, AtMost, Above, AtLeast, SignedBelow, SignedAtMost, SignedAbove}
-use Rattle.array_versions.specs.declared.operations.BinaryOperation.TheVariants.{SignedAtLeast}
+use Rattle.array_versions.specs.declared.operations.BinaryOperation.TheVariants.{Multiply, Divide, Remainder, Add, Subtract, And, Xor, Or}
 use Rattle.array_versions.specs.declared.operations.ShiftOperation.{ShiftOperation}
 use Rattle.array_versions.specs.declared.operations.ShiftOperation.TheVariants.{Left, Right, SignedRight}
-use Rattle.array_versions.specs.Operations.{unary_word, binary_word, shifted_word, shift_word}
+use Rattle.array_versions.specs.Operations.{unary_word, binary_word, shifted_word, shift_word, is_true, compare_words}
 use Rattle.array_versions.specs.declared.program.ArrayPlace.{ArrayPlace}
 use Rattle.array_versions.specs.declared.program.ListPlace.{ListPlace}
-use Rattle.array_versions.specs.Program.{Step, Program, number, load, keep, local, set_local, unary, binary, shift, element, emit_word, list_entry}
-use Rattle.array_versions.specs.Program.{versioned_read, versioned_write, sense, choose, repeat, store_number, move_word, jump, nothing, step}
-use Rattle.array_versions.specs.Behaviour.{WordState, End, GoesOn, Jumps, Short, Strays, Broken, Behaviour, behaves, goes_on, strays, broken, on_end, is_place}
-use Rattle.array_versions.specs.Behaviour.{at_place, with_top, with_stack, pushed, stored, with_local, local_pushed, reading_pushed, entry_stored, ends_before, raised, listed_behind}
-use Rattle.array_versions.specs.Behaviour.{behind_effects, own_element, first_stored, own_stored, chosen, turns, step_behaviour, behaviour}
-use Rattle.array_versions.specs.Form.{StepOfWords, OfWords}
+use Rattle.array_versions.specs.Program.{Step, Test, Program, number, load, keep, local, set_local, unary, binary, shift, element, emit_word}
+use Rattle.array_versions.specs.Program.{list_entry}
+use Rattle.array_versions.specs.Program.{versioned_read, versioned_write, sense, truth, choose, repeat, store_number, move_word, jump, holds}
+use Rattle.array_versions.specs.Program.{compares}
+use Rattle.array_versions.specs.Program.{both, either, fails, nothing, step}
+use Rattle.array_versions.specs.Behaviour.{WordState, End, GoesOn, Jumps, Short, Strays, Broken, Behaviour, behaves, goes_on, strays, broken, on_end}
+use Rattle.array_versions.specs.Behaviour.{is_place}
+use Rattle.array_versions.specs.Behaviour.{at_place, with_top, with_stack, pushed, stored, with_local, local_pushed, reading_pushed, entry_stored}
+use Rattle.array_versions.specs.Behaviour.{ends_before, raised, listed_behind}
+use Rattle.array_versions.specs.Behaviour.{behind_effects, own_element, first_stored, own_stored, number_pushed, way_by_top, way_by_two, turns}
+use Rattle.array_versions.specs.Behaviour.{step_behaviour}
+use Rattle.array_versions.specs.Behaviour.{tested, behaviour}
+use Rattle.array_versions.specs.Form.{StepOfWords, TestOfWords, OfWords}
 use Rattle.array_versions.specs.Laws.{IsStateOfWords, EndsInWords, WordsStayWords}
 
 abbrev pub AreWords : List ℕ → Type 0
 AreWords vs = AllByRecursion (λ v. v < 0x10000) vs
 
-bit_small : (b : Bool) → bit b < 0x10000
-bit_small true = omega arith
-bit_small false = omega arith
-
 pub unary_small : (op : UnaryOperation) (v : ℕ) → v < 0x10000 → unary_word op v < 0x10000
 unary_small Negate v h = omega arith
 unary_small Complement v h = omega arith
-unary_small Not v h = bit_small (v == 0)
-unary_small Truth v h = bit_small (not (v == 0))
 
 quotient_small : (b : Bool) (a d : ℕ) → a < 0x10000 → (if b then 0xFFFF else a / d) < 0x10000
 quotient_small true a d h = omega arith
@@ -58,16 +58,6 @@ binary_small Subtract x y h k = omega arith
 binary_small And x y h k = let l = and_le_l x y in omega arith
 binary_small Xor x y h k = xor_lt 16 x y h k
 binary_small Or x y h k = or_lt 16 x y h k
-binary_small Equal x y h k = bit_small (x == y)
-binary_small NotEqual x y h k = bit_small (not (x == y))
-binary_small Below x y h k = bit_small (nat_lt x y)
-binary_small AtMost x y h k = bit_small (not (nat_lt y x))
-binary_small Above x y h k = bit_small (nat_lt y x)
-binary_small AtLeast x y h k = bit_small (not (nat_lt x y))
-binary_small SignedBelow x y h k = bit_small (nat_lt (biased x) (biased y))
-binary_small SignedAtMost x y h k = bit_small (not (nat_lt (biased y) (biased x)))
-binary_small SignedAbove x y h k = bit_small (nat_lt (biased y) (biased x))
-binary_small SignedAtLeast x y h k = bit_small (not (nat_lt (biased x) (biased y)))
 
 small_by : (b : Bool) (y p : ℕ) → y < 0x10000 → (if b then 0xFFFF - (0xFFFF - y) / p else y / p) < 0x10000
 small_by true y p h = omega arith
@@ -211,9 +201,21 @@ versioned_stored_words true place list i v s l w =
     (λ g. own_stored_words (t.fram list.ver == t.fram (2 * i + place.versions)) place list i v s l (place_high c e) w)))
 versioned_stored_words false place list i v s l w = w
 
-chosen_words : (v : ℕ) (a b : Behaviour) → EndsInWords a.end → EndsInWords b.end → EndsInWords (chosen v a b).end
-chosen_words zero a b h k = k
-chosen_words (suc v) a b h k = h
+either_words : (c : Bool) (a b : Behaviour) → EndsInWords a.end → EndsInWords b.end → EndsInWords (if c then a else b).end
+either_words true a b h k = h
+either_words false a b h k = k
+
+-- a way that leaves words
+abbrev LeavesWords : (WordState → Behaviour) → Type 0
+LeavesWords go = (s : WordState) → IsStateOfWords s → EndsInWords (go s).end
+
+-- one of two ways, behind words that are popped
+popped_words : (c : Bool) (vs : List ℕ) (s : WordState) (held failed : WordState → Behaviour) → IsStateOfWords s → AreWords vs
+    → LeavesWords held → LeavesWords failed → EndsInWords (if c then held (with_stack vs s) else failed (with_stack vs s)).end
+popped_words c vs s held failed w m h k =
+    let t = with_stack vs s in
+    let x = stack_words s vs w m in
+    either_words c (held t) (failed t) (h t x) (k t x)
 
 turns_words : (m n k : ℕ) (body : WordState → Behaviour) (s : WordState) → k + m < 0x10000 → ((t : WordState) → IsStateOfWords t → EndsInWords (body t).end)
     → IsStateOfWords s → EndsInWords (turns m n k body s).end
@@ -253,14 +255,30 @@ mutual
       top_words s.stack _ w.stack (λ v us l m. top_words us _ m
       (λ i vs k j. versioned_stored_words (nat_lt i place.length) place list i v (with_stack vs s) l (stack_words s vs w j)))
   step_words sense s h w = reading_words s.readings s w.readings w
-  step_words (choose taken otherwise) s h w =
-      top_words s.stack _ w.stack (λ v vs l m. chosen_words v _ _ (words taken (with_stack vs s) h.0 (stack_words s vs w m))
-      (words otherwise (with_stack vs s) h.1 (stack_words s vs w m)))
+  step_words (truth t) s h w =
+      test_words t s (number_pushed 1) (number_pushed 0) h w (λ v x. pushed_words v 1 x (omega arith)) (λ v x. pushed_words v 0 x (omega arith))
+  step_words (choose t taken otherwise) s h w =
+      test_words t s (behaviour taken) (behaviour otherwise) h.0 w (λ v. words taken v h.1) (λ v. words otherwise v h.2)
   step_words (repeat n from below body) s h w =
       turns_words (below - from) n from (behaviour body) s (let l = h.1 in let m = h.2 in omega arith) (λ t v. words body t h.3 v) w
   step_words (store_number a v) s h w = guarded (is_place a) _ (λ e. stored_words s a v w h.1)
   step_words (move_word from to) s h w = guarded (is_place from) _ (λ e. guarded (is_place to) _ (λ f. stored_words s to (s.fram from) w (w.fram from)))
   step_words (jump to) s h w = jumped_words (to % 2 == 0) to s w
+
+  -- a test of words leaves words
+  pub test_words : (t : Test) (s : WordState) (held failed : WordState → Behaviour) → TestOfWords t → IsStateOfWords s
+      → LeavesWords held → LeavesWords failed → EndsInWords (tested t held failed s).end
+  test_words (holds p) s held failed h w k l =
+      then_words (behaviour p s).end (way_by_top held failed) (words p s h w)
+      (λ u x. top_words u.stack _ x.stack (λ v vs i m. popped_words (is_true v) vs u held failed x m k l))
+  test_words (compares op p) s held failed h w k l =
+      then_words (behaviour p s).end (way_by_two op held failed) (words p s h w)
+      (λ u x. top_words u.stack _ x.stack (λ b us i m. top_words us _ m (λ a vs j n. popped_words (compare_words op a b) vs u held failed x n k l)))
+  test_words (both t u) s held failed h w k l =
+      test_words t s (tested u held failed) failed h.0 w (λ v x. test_words u v held failed h.1 x k l) l
+  test_words (either t u) s held failed h w k l =
+      test_words t s held (tested u held failed) h.0 w k (λ v x. test_words u v held failed h.1 x k l)
+  test_words (fails t) s held failed h w k l = test_words t s failed held h w l k
 
   -- a program of words leaves words
   pub words : (p : Program) (s : WordState) → OfWords p → IsStateOfWords s → EndsInWords (behaviour p s).end

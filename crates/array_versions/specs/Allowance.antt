@@ -2,8 +2,11 @@
 use Rattle.std.specs.Prelude.{ℕ, ◌+◌, ◌-◌, ◌*◌, ◌≤◌, ◌==◌, if◌then◌else◌, max}
 use Rattle.array_versions.specs.declared.operations.BinaryOperation.{BinaryOperation}
 use Rattle.array_versions.specs.declared.operations.BinaryOperation.TheVariants.{Multiply, Divide, Remainder}
-use Rattle.array_versions.specs.Program.{Step, number, load, keep, local, set_local, unary, binary, shift, element, emit_word, list_entry, versioned_read, versioned_write, sense, choose, repeat, store_number, move_word, jump}
-use Rattle.array_versions.specs.Cost.{step_cycles, cycles_of, step_words, words_of}
+use Rattle.array_versions.specs.Program.{Step, Test, number, load, keep, local, set_local, unary, binary, shift, element, emit_word, list_entry}
+use Rattle.array_versions.specs.Program.{versioned_read, versioned_write, sense, truth, choose, repeat, store_number, move_word, jump, holds}
+use Rattle.array_versions.specs.Program.{compares}
+use Rattle.array_versions.specs.Program.{both, either, fails}
+use Rattle.array_versions.specs.Cost.{step_cycles, test_cycles, cycles_of, step_words, test_words, words_of}
 
 -- the cycles of an operation on two words
 abbrev pub binary_allowance : BinaryOperation → ℕ
@@ -29,7 +32,8 @@ allowed_cycles (list_entry count list home copy words) = 40
 allowed_cycles (versioned_read place list) = 60
 allowed_cycles (versioned_write place list) = 120
 allowed_cycles sense = 40
-allowed_cycles (choose taken otherwise) = 40 + max (cycles_of taken) (cycles_of otherwise)
+allowed_cycles (truth t) = 40 + test_cycles t
+allowed_cycles (choose t taken otherwise) = 40 + test_cycles t + max (cycles_of taken) (cycles_of otherwise)
 allowed_cycles (repeat n from below body) = 40 + (below - from) * (40 + cycles_of body)
 allowed_cycles (store_number a w) = 30
 allowed_cycles (move_word from to) = 30
@@ -55,11 +59,28 @@ allowed_words (list_entry count list home copy words) = entry_allowance words
 allowed_words (versioned_read place list) = 24
 allowed_words (versioned_write place list) = 60
 allowed_words sense = 16
-allowed_words (choose taken otherwise) = 24 + words_of taken + words_of otherwise
+allowed_words (truth t) = 16 + test_words t
+allowed_words (choose t taken otherwise) = 24 + test_words t + words_of taken + words_of otherwise
 allowed_words (repeat n from below body) = 24 + words_of body
 allowed_words (store_number a w) = 10
 allowed_words (move_word from to) = 10
 allowed_words (jump to) = 10
+
+-- the cycles of a test: of a word or a comparison those of its row; `&&`, `||` and `!` have none beside their parts
+abbrev pub allowed_test_cycles : Test → ℕ
+allowed_test_cycles (holds p) = 40 + cycles_of p
+allowed_test_cycles (compares op p) = 40 + cycles_of p
+allowed_test_cycles (both t u) = test_cycles t + test_cycles u
+allowed_test_cycles (either t u) = test_cycles t + test_cycles u
+allowed_test_cycles (fails t) = test_cycles t
+
+-- its words
+abbrev pub allowed_test_words : Test → ℕ
+allowed_test_words (holds p) = 16 + words_of p
+allowed_test_words (compares op p) = 16 + words_of p
+allowed_test_words (both t u) = test_words t + test_words u
+allowed_test_words (either t u) = test_words t + test_words u
+allowed_test_words (fails t) = test_words t
 
 -- each step keeps to its cycles
 abbrev pub StepsKeepToCycles : Type 0
@@ -68,3 +89,11 @@ StepsKeepToCycles = (s : Step) → step_cycles s ≤ allowed_cycles s
 -- each step keeps to its words
 abbrev pub StepsKeepToWords : Type 0
 StepsKeepToWords = (s : Step) → step_words s ≤ allowed_words s
+
+-- each test keeps to its cycles
+abbrev pub TestsKeepToCycles : Type 0
+TestsKeepToCycles = (t : Test) → test_cycles t ≤ allowed_test_cycles t
+
+-- each test keeps to its words
+abbrev pub TestsKeepToWords : Type 0
+TestsKeepToWords = (t : Test) → test_words t ≤ allowed_test_words t

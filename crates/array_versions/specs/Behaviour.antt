@@ -1,12 +1,18 @@
 -- What a word program does from a state on: its effects, and how it ends. Both depend on FRAM and the readings at its start.
-use Rattle.std.specs.Prelude.{ℕ, zero, suc, ◌+◌, ◌-◌, ◌*◌, ◌%◌, ◌==◌, ◌&&◌, Bool, nat_eq, nat_lt, if◌then◌else◌, List, [], ◌∷◌, ◌++◌, Option, Some, None}
+use Rattle.std.specs.Prelude.{ℕ, zero, suc, ◌+◌, ◌-◌, ◌*◌, ◌%◌, ◌==◌, ◌&&◌, Bool, nat_eq, nat_lt, if◌then◌else◌, List, [], ◌∷◌, ◌++◌, Option, Some}
+use Rattle.std.specs.Prelude.{None}
 use Rattle.machine_effects.specs.fram_board.Bus.{is_fram}
 use Rattle.machine_effects.specs.fram_board.Effects.{Effect, Store, Take}
 use Rattle.machine_effects.specs.World.{put}
 use Rattle.array_versions.specs.declared.program.ArrayPlace.{ArrayPlace}
 use Rattle.array_versions.specs.declared.program.ListPlace.{ListPlace}
-use Rattle.array_versions.specs.Operations.{unary_word, binary_word, shift_word}
-use Rattle.array_versions.specs.Program.{Step, Program, number, load, keep, local, set_local, unary, binary, shift, element, emit_word, list_entry, versioned_read, versioned_write, sense, choose, repeat, store_number, move_word, jump, nothing, step}
+use Rattle.array_versions.specs.declared.operations.Comparison.{Comparison}
+use Rattle.array_versions.specs.Operations.{unary_word, binary_word, shift_word, is_true, compare_words}
+use Rattle.array_versions.specs.Program.{Step, Test, Program, number, load, keep, local, set_local, unary, binary, shift, element, emit_word}
+use Rattle.array_versions.specs.Program.{list_entry}
+use Rattle.array_versions.specs.Program.{versioned_read, versioned_write, sense, truth, choose, repeat, store_number, move_word, jump, holds}
+use Rattle.array_versions.specs.Program.{compares}
+use Rattle.array_versions.specs.Program.{both, either, fails, nothing, step}
 
 -- what a program works on
 pub record WordState : Type 0 where
@@ -193,10 +199,18 @@ own_stored place list i v s =
 abbrev pub versioned_stored : ArrayPlace → ListPlace → ℕ → ℕ → WordState → Behaviour
 versioned_stored place list i v s = if nat_lt i place.length then own_stored place list i v s else goes_on [] s
 
--- the first where a condition isn't 0, else the second
-abbrev pub chosen : ℕ → Behaviour → Behaviour → Behaviour
-chosen zero taken otherwise = otherwise
-chosen (suc v) taken otherwise = taken
+-- pushes a number
+abbrev pub number_pushed : ℕ → WordState → Behaviour
+number_pushed n s = goes_on [] (pushed n s)
+
+-- pops a word: one way where it isn't 0, else another
+abbrev pub way_by_top : (WordState → Behaviour) → (WordState → Behaviour) → WordState → Behaviour
+way_by_top held failed s = with_top s.stack (λ v vs. if is_true v then held (with_stack vs s) else failed (with_stack vs s))
+
+-- pops two words: one way where they compare so, else another
+abbrev pub way_by_two : Comparison → (WordState → Behaviour) → (WordState → Behaviour) → WordState → Behaviour
+way_by_two op held failed s =
+    with_two s.stack (λ u v vs. if compare_words op u v then held (with_stack vs s) else failed (with_stack vs s))
 
 -- so many turns for a local, from number k on; behind them it is the number after the last
 abbrev pub turns : ℕ → ℕ → ℕ → (WordState → Behaviour) → WordState → Behaviour
@@ -224,12 +238,20 @@ abbrev mutual
   step_behaviour (versioned_read place list) s = with_top s.stack (λ i vs. versioned_pushed place list i (with_stack vs s))
   step_behaviour (versioned_write place list) s = with_two s.stack (λ i v vs. versioned_stored place list i v (with_stack vs s))
   step_behaviour sense s = reading_pushed s.readings s
-  step_behaviour (choose taken otherwise) s =
-      with_top s.stack (λ v vs. chosen v (behaviour taken (with_stack vs s)) (behaviour otherwise (with_stack vs s)))
+  step_behaviour (truth t) s = tested t (number_pushed 1) (number_pushed 0) s
+  step_behaviour (choose t taken otherwise) s = tested t (behaviour taken) (behaviour otherwise) s
   step_behaviour (repeat n from below body) s = turns (below - from) n from (behaviour body) s
   step_behaviour (store_number a w) s = word_stored a w s
   step_behaviour (move_word from to) s = at_place from (word_stored to (s.fram from) s)
   step_behaviour (jump to) s = jumped to s
+
+  -- one way where a test holds, and another where it fails. The second of two tests is asked only where the first leaves it open
+  pub tested : Test → (WordState → Behaviour) → (WordState → Behaviour) → WordState → Behaviour
+  tested (holds p) held failed s = then_on (behaviour p s) (way_by_top held failed)
+  tested (compares op p) held failed s = then_on (behaviour p s) (way_by_two op held failed)
+  tested (both t u) held failed s = tested t (tested u held failed) failed s
+  tested (either t u) held failed s = tested t held (tested u held failed) s
+  tested (fails t) held failed s = tested t failed held s
 
   -- one step after another
   pub behaviour : Program → WordState → Behaviour

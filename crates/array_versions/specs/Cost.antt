@@ -1,27 +1,30 @@
 -- What the code of a word program costs at most, in cycles and in words.
 use Rattle.std.specs.Prelude.{ℕ, zero, suc, ◌+◌, ◌-◌, ◌*◌, max, nat_le, nat_lt, ◌==◌, if◌then◌else◌, List, [], ◌∷◌}
 use Rattle.array_versions.specs.declared.operations.UnaryOperation.{UnaryOperation}
-use Rattle.array_versions.specs.declared.operations.UnaryOperation.TheVariants.{Negate, Complement, Not, Truth}
+use Rattle.array_versions.specs.declared.operations.UnaryOperation.TheVariants.{Negate, Complement}
 use Rattle.array_versions.specs.declared.operations.BinaryOperation.{BinaryOperation}
-use Rattle.array_versions.specs.declared.operations.BinaryOperation.TheVariants.{Multiply, Divide, Remainder, Add, Subtract, And, Xor, Or, Equal, NotEqual, Below, AtMost, Above, AtLeast, SignedBelow, SignedAtMost, SignedAbove, SignedAtLeast}
+use Rattle.array_versions.specs.declared.operations.BinaryOperation.TheVariants.{Multiply, Divide, Remainder, Add, Subtract, And, Xor, Or}
+use Rattle.array_versions.specs.declared.operations.Comparison.{Comparison}
 use Rattle.array_versions.specs.declared.operations.ShiftOperation.{ShiftOperation}
 use Rattle.array_versions.specs.declared.operations.ShiftOperation.TheVariants.{Left, Right, SignedRight}
-use Rattle.array_versions.specs.Program.{Step, Program, number, load, keep, local, set_local, unary, binary, shift, element, emit_word, list_entry, versioned_read, versioned_write, sense, choose, repeat, store_number, move_word, jump, nothing, step}
-use Rattle.array_versions.specs.Behaviour.{WordState, End, GoesOn, Jumps, Short, Strays, Broken, Behaviour, with_stack, with_local, step_behaviour, behaviour}
+use Rattle.array_versions.specs.Operations.{is_true, compare_words}
+use Rattle.array_versions.specs.Program.{Step, Test, Program, number, load, keep, local, set_local, unary, binary, shift, element, emit_word}
+use Rattle.array_versions.specs.Program.{list_entry}
+use Rattle.array_versions.specs.Program.{versioned_read, versioned_write, sense, truth, choose, repeat, store_number, move_word, jump, holds}
+use Rattle.array_versions.specs.Program.{compares}
+use Rattle.array_versions.specs.Program.{both, either, fails, nothing, step}
+use Rattle.array_versions.specs.Behaviour.{WordState, End, GoesOn, Jumps, Short, Strays, Broken, Behaviour, with_stack, with_local, step_behaviour}
+use Rattle.array_versions.specs.Behaviour.{behaviour}
 
 -- the cycles of an operation on the top of the stack
 abbrev pub unary_cycles : UnaryOperation → ℕ
 unary_cycles Negate = 7
 unary_cycles Complement = 7
-unary_cycles Not = 8
-unary_cycles Truth = 8
 
 -- its words
 abbrev pub unary_words : UnaryOperation → ℕ
 unary_words Negate = 4
 unary_words Complement = 4
-unary_words Not = 5
-unary_words Truth = 5
 
 -- the cycles of an operation on two words; products and quotients go by the bits of a word
 abbrev pub binary_cycles : BinaryOperation → ℕ
@@ -33,16 +36,6 @@ binary_cycles Subtract = 8
 binary_cycles And = 8
 binary_cycles Xor = 8
 binary_cycles Or = 8
-binary_cycles Equal = 11
-binary_cycles NotEqual = 11
-binary_cycles Below = 10
-binary_cycles AtMost = 10
-binary_cycles Above = 10
-binary_cycles AtLeast = 10
-binary_cycles SignedBelow = 14
-binary_cycles SignedAtMost = 14
-binary_cycles SignedAbove = 14
-binary_cycles SignedAtLeast = 14
 
 -- its words
 abbrev pub binary_words : BinaryOperation → ℕ
@@ -54,16 +47,6 @@ binary_words Subtract = 4
 binary_words And = 4
 binary_words Xor = 4
 binary_words Or = 4
-binary_words Equal = 7
-binary_words NotEqual = 7
-binary_words Below = 6
-binary_words AtMost = 6
-binary_words Above = 6
-binary_words AtLeast = 6
-binary_words SignedBelow = 10
-binary_words SignedAtMost = 10
-binary_words SignedAbove = 10
-binary_words SignedAtLeast = 10
 
 -- the words that shift a register to the right by fewer than 8 bits: behind the first bit RRA brings in 0
 abbrev pub right_words : ℕ → ℕ
@@ -97,11 +80,20 @@ abbrev mutual
   step_cycles (versioned_read place list) = 23
   step_cycles (versioned_write place list) = 79
   step_cycles sense = 6
-  step_cycles (choose taken otherwise) = 8 + max (cycles_of taken) (cycles_of otherwise)
+  step_cycles (truth t) = test_cycles t + 5
+  step_cycles (choose t taken otherwise) = test_cycles t + max (cycles_of taken + 3) (cycles_of otherwise)
   step_cycles (repeat n from below body) = 15 + (below - from) * (18 + cycles_of body)
   step_cycles (store_number a w) = 5
   step_cycles (move_word from to) = 6
   step_cycles (jump to) = 3
+
+  -- the cycles of a test, at most, up to where it goes on
+  pub test_cycles : Test → ℕ
+  test_cycles (holds p) = cycles_of p + 8
+  test_cycles (compares op p) = cycles_of p + 10
+  test_cycles (both t u) = test_cycles t + test_cycles u
+  test_cycles (either t u) = test_cycles t + test_cycles u
+  test_cycles (fails t) = test_cycles t
 
   -- the cycles of a program, at most
   pub cycles_of : Program → ℕ
@@ -125,11 +117,20 @@ abbrev mutual
   step_words (versioned_read place list) = 18
   step_words (versioned_write place list) = 59
   step_words sense = 3
-  step_words (choose taken otherwise) = 7 + words_of taken + words_of otherwise
+  step_words (truth t) = test_words t + 3
+  step_words (choose t taken otherwise) = test_words t + 2 + words_of taken + words_of otherwise
   step_words (repeat n from below body) = 17 + words_of body
   step_words (store_number a w) = 3
   step_words (move_word from to) = 3
   step_words (jump to) = 2
+
+  -- the words of a test's code
+  pub test_words : Test → ℕ
+  test_words (holds p) = words_of p + 5
+  test_words (compares op p) = words_of p + 6
+  test_words (both t u) = test_words t + test_words u
+  test_words (either t u) = test_words t + test_words u
+  test_words (fails t) = test_words t
 
   -- the words of a program's code
   pub words_of : Program → ℕ
@@ -144,11 +145,19 @@ spent_on Short next = 0
 spent_on Strays next = 0
 spent_on Broken next = 0
 
+-- what is spent behind a word that is popped
+abbrev pub top_spent : List ℕ → (ℕ → List ℕ → ℕ) → ℕ
+top_spent [] next = 0
+top_spent (v ∷ vs) next = next v vs
+
 -- what one of two ways spends, by the top of the stack: the first where it isn't 0
-abbrev pub way_spent : List ℕ → (List ℕ → ℕ) → (List ℕ → ℕ) → ℕ
-way_spent [] taken otherwise = 0
-way_spent (zero ∷ vs) taken otherwise = otherwise vs
-way_spent (suc v ∷ vs) taken otherwise = taken vs
+abbrev pub spent_by_top : (WordState → ℕ) → (WordState → ℕ) → WordState → ℕ
+spent_by_top held failed s = top_spent s.stack (λ v vs. if is_true v then held (with_stack vs s) else failed (with_stack vs s))
+
+-- what one of two ways spends, by the two words on top of the stack: the first where they compare so
+abbrev pub spent_by_two : Comparison → (WordState → ℕ) → (WordState → ℕ) → WordState → ℕ
+spent_by_two op held failed s =
+    top_spent s.stack (λ v us. top_spent us (λ u vs. if compare_words op u v then held (with_stack vs s) else failed (with_stack vs s)))
 
 -- what so many turns spend, from number k on
 abbrev pub turns_spent : ℕ → ℕ → ℕ → (WordState → Behaviour) → (WordState → ℕ) → WordState → ℕ
@@ -158,7 +167,8 @@ turns_spent (suc m) n k body cost s = let t = with_local n k s in 18 + cost t + 
 abbrev mutual
   -- the cycles of a step from a state on, at most, on the way that it takes: a loop that is left by a jump makes no further turns
   pub step_spent : Step → WordState → ℕ
-  step_spent (choose taken otherwise) s = 8 + way_spent s.stack (λ vs. spent taken (with_stack vs s)) (λ vs. spent otherwise (with_stack vs s))
+  step_spent (truth t) s = test_spent t (λ v. 5) (λ v. 3) s
+  step_spent (choose t taken otherwise) s = test_spent t (λ v. spent taken v + 3) (spent otherwise) s
   step_spent (repeat n from below body) s = 15 + turns_spent (below - from) n from (behaviour body) (spent body) s
   step_spent (number w) s = step_cycles (number w)
   step_spent (load a) s = step_cycles (load a)
@@ -177,6 +187,14 @@ abbrev mutual
   step_spent (store_number a w) s = step_cycles (store_number a w)
   step_spent (move_word from to) s = step_cycles (move_word from to)
   step_spent (jump to) s = step_cycles (jump to)
+
+  -- the cycles of a test and of the way that it takes, where each way spends so many by the state that it begins with
+  pub test_spent : Test → (WordState → ℕ) → (WordState → ℕ) → WordState → ℕ
+  test_spent (holds p) held failed s = spent p s + spent_on (behaviour p s).end (λ v. 8 + spent_by_top held failed v)
+  test_spent (compares op p) held failed s = spent p s + spent_on (behaviour p s).end (λ v. 10 + spent_by_two op held failed v)
+  test_spent (both t u) held failed s = test_spent t (test_spent u held failed) failed s
+  test_spent (either t u) held failed s = test_spent t held (test_spent u held failed) s
+  test_spent (fails t) held failed s = test_spent t failed held s
 
   -- the cycles of a program from a state on, at most
   pub spent : Program → WordState → ℕ

@@ -4,7 +4,11 @@ use Rattle.std.specs.Prelude.{ℕ, zero, suc, ◌+◌, ◌-◌, ◌*◌, ◌%◌
 use Rattle.machine_effects.specs.alp_words.Words.{IsWord}
 use Rattle.array_versions.specs.declared.program.ArrayPlace.{ArrayPlace}
 use Rattle.array_versions.specs.declared.program.ListPlace.{ListPlace}
-use Rattle.array_versions.specs.Program.{Step, Program, number, load, keep, local, set_local, unary, binary, shift, element, emit_word, list_entry, versioned_read, versioned_write, sense, choose, repeat, store_number, move_word, jump, nothing, step}
+use Rattle.array_versions.specs.Program.{Step, Test, Program, number, load, keep, local, set_local, unary, binary, shift, element, emit_word}
+use Rattle.array_versions.specs.Program.{list_entry}
+use Rattle.array_versions.specs.Program.{versioned_read, versioned_write, sense, truth, choose, repeat, store_number, move_word, jump, holds}
+use Rattle.array_versions.specs.Program.{compares}
+use Rattle.array_versions.specs.Program.{both, either, fails, nothing, step}
 
 -- what is known at a place of one way: the words on the stack, and which locals are assigned
 pub record Place : Type 0 where
@@ -46,12 +50,20 @@ abbrev mutual
   EachStepWay room (versioned_read place list) next p = Moves room 1 1 next p
   EachStepWay room (versioned_write place list) next p = Moves room 2 0 next p
   EachStepWay room sense next p = Moves room 0 1 next p
-  EachStepWay room (choose taken otherwise) next p =
-      Moves room 1 0 (λ q. EachWay room taken next q × EachWay room otherwise next q) p
+  EachStepWay room (truth t) next p = EachTestWay room t (Moves room 0 1 next) (Moves room 0 1 next) p
+  EachStepWay room (choose t taken otherwise) next p = EachTestWay room t (EachWay room taken next) (EachWay room otherwise next) p
   EachStepWay room (repeat n from below body) next p = EachTurn (below - from) n (EachWay room body) next p
   EachStepWay room (store_number a w) next p = next p
   EachStepWay room (move_word from to) next p = next p
   EachStepWay room (jump to) next p = to % 2 ≡ 0
+
+  -- the same of a test; one thing follows where it holds, and another where it fails
+  pub EachTestWay : ℕ → Test → (Place → Type 0) → (Place → Type 0) → Place → Type 0
+  EachTestWay room (holds p) held failed q = EachWay room p (Moves room 1 0 (λ r. held r × failed r)) q
+  EachTestWay room (compares op p) held failed q = EachWay room p (Moves room 2 0 (λ r. held r × failed r)) q
+  EachTestWay room (both t u) held failed q = EachTestWay room t (EachTestWay room u held failed) failed q
+  EachTestWay room (either t u) held failed q = EachTestWay room t held (EachTestWay room u held failed) q
+  EachTestWay room (fails t) held failed q = EachTestWay room t failed held q
 
   -- the same of steps, one after another
   pub EachWay : ℕ → Program → (Place → Type 0) → Place → Type 0
@@ -63,9 +75,18 @@ abbrev mutual
   pub StepLocalsBelow : ℕ → Step → Type 0
   StepLocalsBelow locals (local n) = n < locals
   StepLocalsBelow locals (set_local n) = n < locals
-  StepLocalsBelow locals (choose taken otherwise) = LocalsBelow locals taken × LocalsBelow locals otherwise
+  StepLocalsBelow locals (truth t) = TestLocalsBelow locals t
+  StepLocalsBelow locals (choose t taken otherwise) = TestLocalsBelow locals t × LocalsBelow locals taken × LocalsBelow locals otherwise
   StepLocalsBelow locals (repeat n from below body) = (n < locals) × LocalsBelow locals body
   StepLocalsBelow locals _ = Unit {0}
+
+  -- the same of a test
+  pub TestLocalsBelow : ℕ → Test → Type 0
+  TestLocalsBelow locals (holds p) = LocalsBelow locals p
+  TestLocalsBelow locals (compares op p) = LocalsBelow locals p
+  TestLocalsBelow locals (both t u) = TestLocalsBelow locals t × TestLocalsBelow locals u
+  TestLocalsBelow locals (either t u) = TestLocalsBelow locals t × TestLocalsBelow locals u
+  TestLocalsBelow locals (fails t) = TestLocalsBelow locals t
 
   -- the same of each step of a program
   pub LocalsBelow : ℕ → Program → Type 0
@@ -76,9 +97,18 @@ abbrev mutual
   -- a step assigns no local of this number
   pub StepSpares : ℕ → Step → Type 0
   StepSpares n (set_local m) = m ≢ n
-  StepSpares n (choose taken otherwise) = Spares n taken × Spares n otherwise
+  StepSpares n (truth t) = TestSpares n t
+  StepSpares n (choose t taken otherwise) = TestSpares n t × Spares n taken × Spares n otherwise
   StepSpares n (repeat m from below body) = (m ≢ n) × Spares n body
   StepSpares n _ = Unit {0}
+
+  -- the same of a test
+  pub TestSpares : ℕ → Test → Type 0
+  TestSpares n (holds p) = Spares n p
+  TestSpares n (compares op p) = Spares n p
+  TestSpares n (both t u) = TestSpares n t × TestSpares n u
+  TestSpares n (either t u) = TestSpares n t × TestSpares n u
+  TestSpares n (fails t) = TestSpares n t
 
   -- the same of each step of a program
   pub Spares : ℕ → Program → Type 0
@@ -88,9 +118,18 @@ abbrev mutual
 abbrev mutual
   -- the body of each loop assigns no local that counts the loop's turns, so that there are as many as it says
   pub StepLoopsCount : Step → Type 0
-  StepLoopsCount (choose taken otherwise) = LoopsCount taken × LoopsCount otherwise
+  StepLoopsCount (truth t) = TestLoopsCount t
+  StepLoopsCount (choose t taken otherwise) = TestLoopsCount t × LoopsCount taken × LoopsCount otherwise
   StepLoopsCount (repeat n from below body) = Spares n body × LoopsCount body
   StepLoopsCount _ = Unit {0}
+
+  -- the same of a test
+  pub TestLoopsCount : Test → Type 0
+  TestLoopsCount (holds p) = LoopsCount p
+  TestLoopsCount (compares op p) = LoopsCount p
+  TestLoopsCount (both t u) = TestLoopsCount t × TestLoopsCount u
+  TestLoopsCount (either t u) = TestLoopsCount t × TestLoopsCount u
+  TestLoopsCount (fails t) = TestLoopsCount t
 
   -- the same of each step of a program
   pub LoopsCount : Program → Type 0
@@ -122,11 +161,20 @@ abbrev mutual
   StepOfWords (versioned_read place list) = ArrayOfWords place × ListOfWords list
   StepOfWords (versioned_write place list) = ArrayOfWords place × ListOfWords list
   StepOfWords sense = Unit {0}
-  StepOfWords (choose taken otherwise) = OfWords taken × OfWords otherwise
+  StepOfWords (truth t) = TestOfWords t
+  StepOfWords (choose t taken otherwise) = TestOfWords t × OfWords taken × OfWords otherwise
   StepOfWords (repeat n from below body) = IsWord n × IsWord from × IsWord below × OfWords body
   StepOfWords (store_number a w) = IsWord a × IsWord w
   StepOfWords (move_word from to) = IsWord from × IsWord to
   StepOfWords (jump to) = IsWord to
+
+  -- the same of a test
+  pub TestOfWords : Test → Type 0
+  TestOfWords (holds p) = OfWords p
+  TestOfWords (compares op p) = OfWords p
+  TestOfWords (both t u) = TestOfWords t × TestOfWords u
+  TestOfWords (either t u) = TestOfWords t × TestOfWords u
+  TestOfWords (fails t) = TestOfWords t
 
   -- the same of each step of a program
   pub OfWords : Program → Type 0

@@ -1,10 +1,12 @@
 -- What the operations give, by the arithmetic of words.
-use Rattle.std.specs.Prelude.{ℕ, ◌^◌, ◌-◌, ◌/◌, ◌==◌, not, nat_le, nat_lt, bit_and, bit_or, bit_xor, if◌then◌else◌}
-use Rattle.machine_effects.specs.alp_words.Words.{word_sum, word_difference, word_product, quotient, remainder, arithmetic_shift, biased, bit}
+use Rattle.std.specs.Prelude.{ℕ, ◌^◌, ◌-◌, ◌/◌, ◌==◌, Bool, not, nat_le, nat_lt, bit_and, bit_or, bit_xor, if◌then◌else◌}
+use Rattle.machine_effects.specs.alp_words.Words.{word_sum, word_difference, word_product, quotient, remainder, arithmetic_shift, biased}
 use Rattle.array_versions.specs.declared.operations.UnaryOperation.{UnaryOperation}
-use Rattle.array_versions.specs.declared.operations.UnaryOperation.TheVariants.{Negate, Complement, Not, Truth}
+use Rattle.array_versions.specs.declared.operations.UnaryOperation.TheVariants.{Negate, Complement}
 use Rattle.array_versions.specs.declared.operations.BinaryOperation.{BinaryOperation}
-use Rattle.array_versions.specs.declared.operations.BinaryOperation.TheVariants.{Multiply, Divide, Remainder, Add, Subtract, And, Xor, Or, Equal, NotEqual, Below, AtMost, Above, AtLeast, SignedBelow, SignedAtMost, SignedAbove, SignedAtLeast}
+use Rattle.array_versions.specs.declared.operations.BinaryOperation.TheVariants.{Multiply, Divide, Remainder, Add, Subtract, And, Xor, Or}
+use Rattle.array_versions.specs.declared.operations.Comparison.{Comparison}
+use Rattle.array_versions.specs.declared.operations.Comparison.TheVariants.{Equal, Below, Above, SignedBelow, SignedAbove, CommonBit}
 use Rattle.array_versions.specs.declared.operations.ShiftOperation.{ShiftOperation}
 use Rattle.array_versions.specs.declared.operations.ShiftOperation.TheVariants.{Left, Right, SignedRight}
 
@@ -12,10 +14,8 @@ use Rattle.array_versions.specs.declared.operations.ShiftOperation.TheVariants.{
 abbrev pub unary_word : UnaryOperation → ℕ → ℕ
 unary_word Negate v = word_difference 0 v
 unary_word Complement v = 65535 - v
-unary_word Not v = bit (v == 0)
-unary_word Truth v = bit (not (v == 0))
 
--- an operation on two words; comparisons as signed words compare the values raised by 8000
+-- an operation on two words
 abbrev pub binary_word : BinaryOperation → ℕ → ℕ → ℕ
 binary_word Multiply u v = word_product u v
 binary_word Divide u v = quotient u v
@@ -25,16 +25,19 @@ binary_word Subtract u v = word_difference u v
 binary_word And u v = bit_and u v
 binary_word Xor u v = bit_xor u v
 binary_word Or u v = bit_or u v
-binary_word Equal u v = bit (u == v)
-binary_word NotEqual u v = bit (not (u == v))
-binary_word Below u v = bit (nat_lt u v)
-binary_word AtMost u v = bit (not (nat_lt v u))
-binary_word Above u v = bit (nat_lt v u)
-binary_word AtLeast u v = bit (not (nat_lt u v))
-binary_word SignedBelow u v = bit (nat_lt (biased u) (biased v))
-binary_word SignedAtMost u v = bit (not (nat_lt (biased v) (biased u)))
-binary_word SignedAbove u v = bit (nat_lt (biased v) (biased u))
-binary_word SignedAtLeast u v = bit (not (nat_lt (biased u) (biased v)))
+
+-- a word is a condition, which holds where it isn't 0
+abbrev pub is_true : ℕ → Bool
+is_true v = not (v == 0)
+
+-- whether two words compare so; as signed words the values raised by 8000 are compared
+abbrev pub compare_words : Comparison → ℕ → ℕ → Bool
+compare_words Equal u v = u == v
+compare_words Below u v = nat_lt u v
+compare_words Above u v = nat_lt v u
+compare_words SignedBelow u v = nat_lt (biased u) (biased v)
+compare_words SignedAbove u v = nat_lt (biased v) (biased u)
+compare_words CommonBit u v = is_true (bit_and u v)
 
 -- a shift by at most 15 bits
 abbrev pub shifted_word : ShiftOperation → ℕ → ℕ → ℕ

@@ -2,6 +2,7 @@
 use Rattle.std.specs.Prelude.{ℕ}
 use Rattle.array_versions.specs.declared.operations.UnaryOperation.{UnaryOperation}
 use Rattle.array_versions.specs.declared.operations.BinaryOperation.{BinaryOperation}
+use Rattle.array_versions.specs.declared.operations.Comparison.{Comparison}
 use Rattle.array_versions.specs.declared.operations.ShiftOperation.{ShiftOperation}
 use Rattle.array_versions.specs.declared.program.ArrayPlace.{ArrayPlace}
 use Rattle.array_versions.specs.declared.program.ListPlace.{ListPlace}
@@ -23,11 +24,21 @@ mutual
     versioned_read : (place : ArrayPlace) → (list : ListPlace) → Step
     versioned_write : (place : ArrayPlace) → (list : ListPlace) → Step
     sense : Step
-    choose : (taken otherwise : Program) → Step
+    truth : (test : Test) → Step
+    choose : (test : Test) → (taken otherwise : Program) → Step
     repeat : (n from below : ℕ) → (body : Program) → Step
     store_number : (address word : ℕ) → Step
     move_word : (from to : ℕ) → Step
     jump : (to : ℕ) → Step
+
+  -- A question that programs ask and that decides where steps go on: whether the word that a program leaves on top isn't 0; whether the
+  -- two words that it leaves on top compare so; whether both of two tests hold, or one of them; whether a test doesn't hold
+  pub data Test : Type 0 where
+    holds : (program : Program) → Test
+    compares : (comparison : Comparison) → (program : Program) → Test
+    both : (first second : Test) → Test
+    either : (first second : Test) → Test
+    fails : (test : Test) → Test
 
   -- steps, one after another
   pub data Program : Type 0 where

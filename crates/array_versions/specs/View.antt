@@ -1,9 +1,10 @@
 -- The programs that the Rust values stand for.
 use Rattle.std.specs.Prelude.{List, [], ◌∷◌, map}
 use Rattle.array_versions.specs.Program as steps
-use Rattle.array_versions.specs.Program.{Step, Program, nothing, step}
+use Rattle.array_versions.specs.Program.{Step, Test, Program, nothing, step}
 use Rattle.array_versions.specs.declared.program.WordStep.{WordStep, fold-WordStep}
-use Rattle.array_versions.specs.declared.program.WordStep.TheOpen.{WordStep-F}
+use Rattle.array_versions.specs.declared.program.WordTest.{WordTest, fold-WordTest}
+use Rattle.array_versions.specs.declared.program.WordStep.TheOpen.{WordStep-F, WordTest-F}
 use Rattle.array_versions.specs.declared.program.WordProgram.{WordProgram}
 
 -- a list of steps as a program
@@ -11,8 +12,8 @@ abbrev pub steps_in_order : List Step → Program
 steps_in_order [] = nothing
 steps_in_order (s ∷ more) = step s (steps_in_order more)
 
--- one level, with the steps inside already seen
-abbrev pub step_layer : WordStep-F Step → Step
+-- one level of a step, with the steps and tests inside already seen
+abbrev pub step_layer : WordStep-F Step Test → Step
 step_layer (WordStep-F.Number w) = steps.number w
 step_layer (WordStep-F.Load a) = steps.load a
 step_layer (WordStep-F.Keep a) = steps.keep a
@@ -27,15 +28,28 @@ step_layer (WordStep-F.ListEntry count list home copy words) = steps.list_entry 
 step_layer (WordStep-F.VersionedRead place list) = steps.versioned_read place list
 step_layer (WordStep-F.VersionedWrite place list) = steps.versioned_write place list
 step_layer WordStep-F.Sense = steps.sense
-step_layer (WordStep-F.Choose a b) = steps.choose (steps_in_order a.items) (steps_in_order b.items)
+step_layer (WordStep-F.Truth t) = steps.truth t
+step_layer (WordStep-F.Choose t a b) = steps.choose t (steps_in_order a.items) (steps_in_order b.items)
 step_layer (WordStep-F.Repeat n from below body) = steps.repeat n from below (steps_in_order body.items)
 step_layer (WordStep-F.StoreNumber a w) = steps.store_number a w
 step_layer (WordStep-F.MoveWord from to) = steps.move_word from to
 step_layer (WordStep-F.Jump to) = steps.jump to
 
+-- one level of a test
+abbrev pub test_layer : WordTest-F Step Test → Test
+test_layer (WordTest-F.Holds p) = steps.holds (steps_in_order p.items)
+test_layer (WordTest-F.Compares op p) = steps.compares op (steps_in_order p.items)
+test_layer (WordTest-F.Both t u) = steps.both t.value u.value
+test_layer (WordTest-F.Either t u) = steps.either t.value u.value
+test_layer (WordTest-F.Fails t) = steps.fails t.value
+
 -- a step
 abbrev pub step_of : WordStep → Step
-step_of = fold-WordStep Step step_layer
+step_of = fold-WordStep Step Test step_layer test_layer
+
+-- a test
+abbrev pub test_of : WordTest → Test
+test_of = fold-WordTest Step Test step_layer test_layer
 
 -- steps, one after another
 abbrev pub steps_of : List WordStep → Program

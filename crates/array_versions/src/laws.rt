@@ -1,7 +1,8 @@
 //! Laws of word programs. The functions do nothing: their contracts are the laws.
 
-ghost use Rattle.array_versions.specs.Laws.{JoinedGoOn, JoinedCycles, JoinedWords, JoinedSpend, WaysKeepToCycles, BehavesByEffects, WholeEndsSoundly, WordsStayWords};
-ghost use Rattle.array_versions.specs.Allowance.{StepsKeepToCycles, StepsKeepToWords};
+ghost use Rattle.array_versions.specs.Laws.{JoinedGoOn, JoinedCycles, JoinedWords, JoinedSpend, WaysKeepToCycles, BehavesByEffects, WholeEndsSoundly};
+ghost use Rattle.array_versions.specs.Laws.{WordsStayWords};
+ghost use Rattle.array_versions.specs.Allowance.{StepsKeepToCycles, StepsKeepToWords, TestsKeepToCycles, TestsKeepToWords};
 
 /// A program behind another does its steps behind the other's.
 #[tactic(auto, using(crate::proofs::Joined::joined_go_on))]
@@ -47,4 +48,11 @@ pub fn words_stay_words()
 pub fn steps_keep_to_the_allowance()
     ensures cycles { StepsKeepToCycles }
     ensures words { StepsKeepToWords }
+{}
+
+/// So does each test.
+#[tactic(auto, using(crate::proofs::Kept::tests_keep_to_cycles, crate::proofs::Kept::tests_keep_to_words))]
+pub fn tests_keep_to_the_allowance()
+    ensures cycles { TestsKeepToCycles }
+    ensures words { TestsKeepToWords }
 {}

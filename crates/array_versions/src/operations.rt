@@ -7,14 +7,10 @@ pub enum UnaryOperation {
     Negate,
     /// Each bit turned.
     Complement,
-    /// 1 for 0, else 0.
-    Not,
-    /// 0 for 0, else 1.
-    Truth,
 }
 
 /// An operation on the two words on top of the stack, the right side being the top. Sums, differences and products are taken
-/// modulo 65536; a comparison gives 1 where it holds and else 0.
+/// modulo 65536.
 #[derive(Clone, Copy, Debug, PartialEq, Eq)]
 pub enum BinaryOperation {
     Multiply,
@@ -27,16 +23,18 @@ pub enum BinaryOperation {
     And,
     Xor,
     Or,
+}
+
+/// A comparison of the two words on top of the stack, the right side being the top.
+#[derive(Clone, Copy, Debug, PartialEq, Eq)]
+pub enum Comparison {
     Equal,
-    NotEqual,
     Below,
-    AtMost,
     Above,
-    AtLeast,
     SignedBelow,
-    SignedAtMost,
     SignedAbove,
-    SignedAtLeast,
+    /// Some bit is 1 in both.
+    CommonBit,
 }
 
 /// A shift of the top of the stack by a number of bits; by more than 15 it gives 0.

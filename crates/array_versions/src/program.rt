@@ -1,11 +1,11 @@
 //! Word programs and their builders.
 
-ghost use Rattle.std.specs.Prelude.{◌≡◌, OnOk, OnErr};
+ghost use Rattle.std.specs.Prelude.{◌≡◌, OnOk, OnErr, IfOk};
 ghost use Rattle.array_versions.specs.Program.{nothing, behind};
 ghost use Rattle.array_versions.specs.Program as value;
-ghost use Rattle.array_versions.specs.View.{program_of, step_of};
+ghost use Rattle.array_versions.specs.View.{program_of, step_of, test_of};
 
-use crate::operations::{BinaryOperation, ShiftOperation, UnaryOperation};
+use crate::operations::{BinaryOperation, Comparison, ShiftOperation, UnaryOperation};
 use std::alloc::{AllocError, Global};
 
 /// The places of a versioned array: the addresses of its elements, of their copies and of their version words, and its length
@@ -27,6 +27,7 @@ pub struct ListPlace {
 }
 
 /// One step of a word program. Addresses are those of words of FRAM.
+#[cycle(steps)]
 #[derive(Drop)]
 pub enum WordStep {
     /// Pushes a number.
@@ -72,8 +73,10 @@ pub enum WordStep {
     VersionedWrite(ArrayPlace, ListPlace),
     /// Takes the next reading and pushes it.
     Sense,
-    /// Pops a condition; goes on with the first steps where it isn't 0, else with the second.
-    Choose(Vec<WordStep>, Vec<WordStep>),
+    /// Pushes 1 where a test holds, else 0.
+    Truth(WordTest),
+    /// Goes on with the first steps where a test holds, else with the second.
+    Choose(WordTest, Vec<WordStep>, Vec<WordStep>),
     /// Does the steps for each number of a local, from one number on, below another; behind them the local is the number
     /// after the last.
     Repeat {
@@ -96,10 +99,63 @@ pub enum WordStep {
     Jump(u16),
 }
 
+/// A question that steps ask and that decides where a program goes on.
+#[cycle(steps)]
+#[derive(Drop)]
+pub enum WordTest {
+    /// Whether the word that steps leave on top isn't 0. It is popped.
+    Holds(Vec<WordStep>),
+    /// Whether the two words that steps leave on top compare so. They are popped.
+    Compares(Comparison, Vec<WordStep>),
+    /// Whether both hold; the second is asked only where the first holds.
+    Both(Box<WordTest>, Box<WordTest>),
+    /// Whether one of them holds; the second is asked only where the first fails.
+    Either(Box<WordTest>, Box<WordTest>),
+    /// Whether a test doesn't hold.
+    Fails(Box<WordTest>),
+}
+
 /// A word program: its steps, one after another.
 #[derive(Drop)]
 pub struct WordProgram {
     pub steps: Vec<WordStep>,
+}
+
+impl WordTest {
+    /// Whether the word that a program leaves on top isn't 0.
+    pub fn holds(program: WordProgram) -> WordTest
+        ensures { test_of result ≡ value.holds (program_of program) }
+    {
+        WordTest::Holds(program.steps)
+    }
+
+    /// Whether the two words that a program leaves on top compare so.
+    pub fn compares(comparison: Comparison, program: WordProgram) -> WordTest
+        ensures { test_of result ≡ value.compares comparison (program_of program) }
+    {
+        WordTest::Compares(comparison, program.steps)
+    }
+
+    /// Whether two tests hold; the second is asked only where the first does.
+    pub fn both(alloc: Global, first: WordTest, second: WordTest) -> Result<WordTest, AllocError>
+        ensures { IfOk result (λ t. test_of t ≡ value.both (test_of first) (test_of second)) }
+    {
+        Ok(WordTest::Both(Box::new(alloc, first)?, Box::new(alloc, second)?))
+    }
+
+    /// Whether one of two tests holds; the second is asked only where the first fails.
+    pub fn either(alloc: Global, first: WordTest, second: WordTest) -> Result<WordTest, AllocError>
+        ensures { IfOk result (λ t. test_of t ≡ value.either (test_of first) (test_of second)) }
+    {
+        Ok(WordTest::Either(Box::new(alloc, first)?, Box::new(alloc, second)?))
+    }
+
+    /// Whether a test doesn't hold.
+    pub fn fails(alloc: Global, test: WordTest) -> Result<WordTest, AllocError>
+        ensures { IfOk result (λ t. test_of t ≡ value.fails (test_of test)) }
+    {
+        Ok(WordTest::Fails(Box::new(alloc, test)?))
+    }
 }
 
 impl WordProgram {
@@ -260,13 +316,26 @@ impl WordProgram {
         self.push(WordStep::Sense)
     }
 
-    /// Pops a condition; does the first program where it isn't 0, else the second.
-    pub fn choose(&mut self, taken: WordProgram, otherwise: WordProgram) -> Result<(), AllocError>
-        ensures ok { OnOk result (program_of self.new
-            ≡ behind (program_of self.old) (value.choose (program_of taken) (program_of otherwise))) }
+    /// Pushes 1 where a test holds, else 0.
+    pub fn truth(&mut self, test: WordTest) -> Result<(), AllocError>
+        ensures ok { OnOk result (program_of self.new ≡ behind (program_of self.old) (value.truth (test_of test))) }
         ensures err { OnErr result (program_of self.new ≡ program_of self.old) }
     {
-        self.push(WordStep::Choose(taken.steps, otherwise.steps))
+        self.push(WordStep::Truth(test))
+    }
+
+    /// Does the first program where a test holds, else the second.
+    pub fn choose(
+        &mut self,
+        test: WordTest,
+        taken: WordProgram,
+        otherwise: WordProgram,
+    ) -> Result<(), AllocError>
+        ensures ok { OnOk result (program_of self.new
+            ≡ behind (program_of self.old) (value.choose (test_of test) (program_of taken) (program_of otherwise))) }
+        ensures err { OnErr result (program_of self.new ≡ program_of self.old) }
+    {
+        self.push(WordStep::Choose(test, taken.steps, otherwise.steps))
     }
 
     /// Does a program for each number of a local, from one number on, below another; behind them the local is the number
