@@ -1,10 +1,12 @@
 -- Where the words that a task works on stand.
-use Rattle.std.proofs.Common.{◌≡◌, ℕ, ◌+◌, ◌*◌, ◌%◌, ◌<◌, ◌≤◌, nat_lt, ◌&&◌, Option, Some, true, ap, ◌∙◌, subst, arith, eq-eqb, le-leb, lt-ltb, inl, inr, ◌⊎◌, ⊎_elim, if◌then◌else◌}
+use Rattle.std.proofs.Common.{◌≡◌, ℕ, ◌+◌, ◌*◌, ◌%◌, ◌<◌, ◌≤◌, nat_lt, ◌&&◌, Option, Some, true, ap, ◌∙◌, subst, arith, eq-eqb, le-leb, lt-ltb, inl, inr, ◌⊎◌}
+use Rattle.std.proofs.Common.{⊎_elim, if◌then◌else◌}
 use Rattle.std.proofs.lemmas.Bool.{cases_eq}
 use Rattle.array_versions.specs.fram_board.Bus.{is_fram}
 use Rattle.array_versions.specs.Behaviour.{Behaviour, strays, is_place, at_place}
 use Rattle.memory_map.specs.declared.place.ArrayCopies.{ArrayCopies}
-use Rattle.memory_map.specs.Spots.{Places, IsScalarPlace, IsScalarAt, IsArrayAt, Element, IsElement, IsCopied, Spot, copy, IsSpot, element_in, copy_in, version_in, element_address, copy_address, version_address, spot_address}
+use Rattle.memory_map.specs.Spots.{Places, IsScalarPlace, IsScalarAt, IsArrayAt, Element, IsElement, IsCopied, Spot, copy, IsSpot, element_in, copy_in}
+use Rattle.memory_map.specs.Spots.{version_in, element_address, copy_address, version_address, spot_address}
 use Rattle.lower.specs.Spots.{Room, AreApart, AreEven, AreDifferent}
 
 -- ---- places

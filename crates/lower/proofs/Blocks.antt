@@ -1,5 +1,6 @@
 -- The program of statements does what they do.
-use Rattle.std.proofs.Common.{◌≡◌, ℕ, zero, suc, ◌+◌, ◌-◌, ◌*◌, ◌%◌, ◌<◌, ◌≤◌, List, [], ◌∷◌, ◌++◌, length, Option, Some, None, Bool, true, refl, sym, ap, ◌∙◌, subst, arith, if◌then◌else◌, le_refl, ⊎_elim}
+use Rattle.std.proofs.Common.{◌≡◌, ℕ, zero, suc, ◌+◌, ◌-◌, ◌*◌, ◌%◌, ◌<◌, ◌≤◌, List, [], ◌∷◌, ◌++◌, length, Option, Some, None, Bool, true, false}
+use Rattle.std.proofs.Common.{refl, sym, ap, ◌∙◌, subst, arith, if◌then◌else◌, le_refl, ⊎_elim}
 use Rattle.std.specs.Prelude.{slice_get, get_or}
 use Rattle.std.proofs.lemmas.Bool.{cases_lt}
 use Rattle.array_versions.specs.fram_board.Effects.{Store}
@@ -10,21 +11,28 @@ use Rattle.task_ast.specs.declared.names.Variable.TheVariants.{Shared, Local}
 use Rattle.cost_bound.specs.Allowance.{CheckedTask}
 use Rattle.source_values.specs.Values.{value_of, holds}
 use Rattle.source_values.specs.Statements as source
-use Rattle.source_values.specs.Statements.{Attempt, Outcome, goes_on, to_task, short, and_then, if_value, run_statement, run_choice, run_block, statement_emits, choice_emits, block_emits}
+use Rattle.source_values.specs.Statements.{Attempt, Outcome, goes_on, to_task, short, and_then, if_value, run_statement, run_choice, run_block}
+use Rattle.source_values.specs.Statements.{statement_emits, choice_emits, block_emits}
 use Rattle.cost_bound.specs.Counts.{statement_count, choice_count, block_count, is_shared, is_store_to, stores_of}
 use Rattle.source_values.proofs.Interface.{more_turns}
 use Rattle.path_runs.proofs.Interface.{runs_go_on_along_paths}
 use Rattle.array_versions.specs.Program.{Program, emit_word, versioned_write, choose, repeat, nothing, joined}
 use Rattle.array_versions.specs.Behaviour as words
-use Rattle.array_versions.specs.Behaviour.{WordState, End, GoesOn, Jumps, Short, Strays, Broken, Behaviour, behaves, behind_effects, on_end, then_on, is_place, at_place, stored, with_local, word_stored, word_emitted, chosen, step_behaviour, behaviour}
-use Rattle.array_versions.proofs.Interface.{joined_go_on, joined_assoc}
-use Rattle.lower.specs.Lowered.{one, write_step, written_array, list_place, store_step, loop_local, assignment, element_assignment, lowered_transition, lowered_expression, lowered_statement, lowered_choice, lowered_block, lowered_task, lowered_tasks}
+use Rattle.array_versions.specs.Behaviour.{WordState, End, GoesOn, Jumps, Short, Strays, Broken, Behaviour, behaves, behind_effects, on_end, then_on}
+use Rattle.array_versions.specs.Behaviour.{is_place, at_place, stored, with_local, word_stored, word_emitted, way_by_top, tested, step_behaviour}
+use Rattle.array_versions.specs.Behaviour.{behaviour}
+use Rattle.array_versions.proofs.Interface.{joined_go_on, joined_assoc, decided_by_truth}
+use Rattle.lower.specs.Lowered.{one, write_step, written_array, list_place, store_step, loop_local, assignment, element_assignment}
+use Rattle.lower.specs.Lowered.{lowered_transition, lowered_expression, lowered_test}
+use Rattle.lower.specs.Lowered.{lowered_statement, lowered_choice, lowered_block, lowered_task, lowered_tasks}
 use Rattle.lower.specs.Spots.{listed_of}
-use Rattle.lower.specs.Agreement.{IsTarget, IsWrittenArray, IsLocal, ExpressionFits, StatementFits, ChoiceFits, BlockFits, StandsFor, at_variable, at_emit_count, in_buffer, valued, AgreesWithValue, BlocksAgree}
+use Rattle.lower.specs.Agreement.{IsTarget, IsWrittenArray, IsLocal, ExpressionFits, StatementFits, ChoiceFits, BlockFits, StandsFor, at_variable}
+use Rattle.lower.specs.Agreement.{at_emit_count, in_buffer, valued, truth_of, AgreesWithValue, BlocksAgree}
 use Rattle.lower.proofs.Addresses.{fram_place, placed, spot_place}
-use Rattle.lower.proofs.Values.{suc_holds, expressions_agree}
+use Rattle.lower.proofs.Values.{holds_bit, truth_pushed, lowering_agrees, expressions_agree}
 use Rattle.lower.proofs.Emitted.{EmitsAtMost, statement_emitted, block_emitted}
-use Rattle.lower.proofs.Stored.{same_variables, same_list, same_emits, spot_list, spot_emits, scalar_set, local_holds, after_emit, emit_spots, emit_list, emitted_emits, few_entries}
+use Rattle.lower.proofs.Stored.{same_variables, same_list, same_emits, spot_list, spot_emits, scalar_set, local_holds, after_emit, emit_spots}
+use Rattle.lower.proofs.Stored.{emit_list, emitted_emits, few_entries}
 use Rattle.lower.proofs.Neighbours.{runs_are_few}
 use Rattle.lower.proofs.Transitions.{transition_behaves}
 use Rattle.lower.proofs.Ends.{Scene, Does, does_then, does_alone, does_value}
@@ -46,7 +54,12 @@ module _ (z : Scene) where
     stores = tt;
     stack_kept = refl;
     listed = listed;
-    stands = record { variables = local_holds z.p i v m.variables w.fram w.locals k h.stands.variables; emitted = h.stands.emitted; list = h.stands.list; readings = refl };
+    stands = record {
+      variables = local_holds z.p i v m.variables w.fram w.locals k h.stands.variables;
+      emitted = h.stands.emitted;
+      list = h.stands.list;
+      readings = refl;
+    };
     few = few_listed z m listed w n count most h;
   }
   write_does (Shared i) m listed w n count most v left k h =
@@ -227,7 +240,12 @@ module _ (z : Scene) where
       let m1 : Attempt = source.assigned m (Local i) 0 k in
       let w1 : WordState = with_local (i % 65536) k w in
       let begins : Begins z m1 listed w1 e c once = record {
-        stands = record { variables = local_holds z.p i k m.variables w.fram w.locals few h.stands.variables; emitted = h.stands.emitted; list = h.stands.list; readings = h.stands.readings };
+        stands = record {
+          variables = local_holds z.p i k m.variables w.fram w.locals few h.stands.variables;
+          emitted = h.stands.emitted;
+          list = h.stands.list;
+          readings = h.stands.readings;
+        };
         number = h.number;
         emits = omega (arith, l);
         lists = λ v. omega arith;
@@ -265,13 +283,42 @@ module _ (z : Scene) where
 
   -- ---- conditions
 
-  chosen_does : (v : ℕ) (start most : ℕ → ℕ) (stack : List ℕ) (taken otherwise : Behaviour) (o q : Outcome) → Does z start most stack taken o
-      → Does z start most stack otherwise q
-      → Does z start most stack (chosen v taken otherwise) (if holds v then o else q)
-  chosen_does zero start most stack taken otherwise o q h k = k
-  chosen_does (suc v) start most stack taken otherwise o q h k =
-      let P : Bool → Type 0 = λ b. Does z start most stack taken (if b then o else q) in
-      subst P (sym (suc_holds v)) h
+  -- one of two ways
+  either_does : (b : Bool) (start most : ℕ → ℕ) (stack : List ℕ) (taken otherwise : Behaviour) (o q : Outcome) → Does z start most stack taken o
+      → Does z start most stack otherwise q → Does z start most stack (if b then taken else otherwise) (if b then o else q)
+  either_does true start most stack taken otherwise o q h k = h
+  either_does false start most stack taken otherwise o q h k = k
+
+  -- a choice by a value is one by its truth
+  by_truth : (o : Option (ℕ × List ℕ)) (m : Attempt) (f g : Attempt → Outcome)
+      → if_value (truth_of o) m (λ v s. if holds v then f s else g s) ≡ if_value o m (λ v s. if holds v then f s else g s)
+  by_truth None m f g = refl
+  by_truth (Some x) m f g =
+      let s : Attempt = record m { left = x.1 } in
+      ap (λ b. if b then f s else g s) (holds_bit (holds x.0))
+
+  -- a choice, where both ways do from any readings on
+  choice_of_ways : (e : CheckedExpression) (m : Attempt) (listed : List Element) (w : WordState) (most : ℕ → ℕ) (taken otherwise : Program)
+      (f g : Attempt → Outcome) → ExpressionFits z.p e → StandsFor z.p m listed w
+      → ((left : List ℕ) → Does z w.fram most w.stack (behaviour taken (record w { readings = left })) (f (record m { left = left })))
+      → ((left : List ℕ) → Does z w.fram most w.stack (behaviour otherwise (record w { readings = left })) (g (record m { left = left })))
+      → Does z w.fram most w.stack (behaviour (one (choose (lowered_test z.p e) taken otherwise)) w)
+      (if_value (value_of e m.variables m.left) m (λ v s. if holds v then f s else g s))
+  choice_of_ways e m listed w most taken otherwise f g fits h a b =
+      let c = lowered_test z.p e in
+      let o = value_of e m.variables m.left in
+      let run : ℕ → Attempt → Outcome = λ v s. if holds v then f s else g s in
+      let ways = way_by_top (behaviour taken) (behaviour otherwise) in
+      let decided = decided_by_truth c (behaviour taken) (behaviour otherwise) w in
+      let agrees = subst (λ l. AgreesWithValue w (truth_pushed c w) (truth_of (value_of e m.variables l))) h.readings
+      (lowering_agrees z.p z.room e m.variables w z.apart z.even fits h.variables).test in
+      does_alone z w.fram most w.stack (tested c (behaviour taken) (behaviour otherwise) w) (if_value o m run)
+      (subst (λ r. Does z w.fram most w.stack r (if_value o m run)) (sym decided)
+      (subst (Does z w.fram most w.stack (then_on (truth_pushed c w) ways)) (by_truth o m f g)
+      (does_value z most w.stack w (truth_pushed c w) (truth_of o) ways m run agrees (λ y.
+      let u : WordState = record w { readings = y.1 } in
+      let n : Attempt = record m { left = y.1 } in
+      either_does (holds y.0) w.fram most w.stack (behaviour taken u) (behaviour otherwise u) (f n) (g n) (a y.1) (b y.1)))))
 
   -- with other readings left, for statements that emit and list no more
   with_left : (m : Attempt) (listed : List Element) (w : WordState) (n k : ℕ) (count fewer most : ℕ → ℕ) (left : List ℕ) → Begins z m listed w n count most
@@ -318,23 +365,11 @@ module _ (z : Scene) where
         { stores = tt; stack_kept = refl; listed = listed; stands = h.stands; few = few_listed z m listed w _ _ most h }
     choice_does (t.otherwise block) m listed w most fits h = block_does block m listed w most fits h
     choice_does (t.test e block more) m listed w most fits h =
-        let last = one (choose (lowered_block z.p block) (lowered_choice z.p more)) in
-        let P : Behaviour → Type 0 = λ b. Does z w.fram most w.stack b (run_choice (t.test e block more) m) in
-        subst P (sym (joined_go_on (lowered_expression z.p e) last w))
-        (does_value z most w.stack w (behaviour (lowered_expression z.p e) w) (value_of e m.variables m.left) (behaviour last) m
-        (λ v s. if holds v then run_block block s else run_choice more s)
-        (value_agrees e m listed w fits.0 h.stands)
-        (λ y.
-        let u : WordState = record w { readings = y.1 } in
-        let n : Attempt = record m { left = y.1 } in
-        let a = behaviour (lowered_block z.p block) u in
-        let b = behaviour (lowered_choice z.p more) u in
-        does_alone z w.fram most w.stack (chosen y.0 a b) (if holds y.0 then run_block block n else run_choice more n)
-        (chosen_does y.0 w.fram most w.stack a b (run_block block n) (run_choice more n)
-        (block_does block n listed u most fits.1
-        (with_left m listed w _ (block_emits block) _ (λ v. block_count (is_store_to v) block) most y.1 h (omega arith) (λ v. omega arith)))
-        (choice_does more n listed u most fits.2
-        (with_left m listed w _ (choice_emits more) _ (λ v. choice_count (is_store_to v) more) most y.1 h (omega arith) (λ v. omega arith))))))
+        choice_of_ways e m listed w most (lowered_block z.p block) (lowered_choice z.p more) (run_block block) (run_choice more) fits.0 h.stands
+        (λ left. block_does block (record m { left = left }) listed (record w { readings = left }) most fits.1
+        (with_left m listed w _ (block_emits block) _ (λ v. block_count (is_store_to v) block) most left h (omega arith) (λ v. omega arith)))
+        (λ left. choice_does more (record m { left = left }) listed (record w { readings = left }) most fits.2
+        (with_left m listed w _ (choice_emits more) _ (λ v. choice_count (is_store_to v) more) most left h (omega arith) (λ v. omega arith)))
 
     block_does : (b : CheckedBlock) (m : Attempt) (listed : List Element) (w : WordState) (most : ℕ → ℕ) → BlockFits z.p z.written b
         → Begins z m listed w (block_emits b) (λ v. block_count (is_store_to v) b) most

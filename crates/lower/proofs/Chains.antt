@@ -1,5 +1,6 @@
 -- Programs one behind another, and those of lists from one item on.
-use Rattle.std.proofs.Common.{◌≡◌, ℕ, suc, ◌+◌, ◌<◌, ◌≤◌, List, [], ◌∷◌, ◌++◌, length, get_or, drop, true, false, refl, sym, ap, ◌∙◌, drop-cons, add-one, if◌then◌else◌}
+use Rattle.std.proofs.Common.{◌≡◌, ℕ, suc, ◌+◌, ◌<◌, ◌≤◌, List, [], ◌∷◌, ◌++◌, length, get_or, drop, true, false, refl, sym, ap, ◌∙◌, drop-cons, add-one}
+use Rattle.std.proofs.Common.{if◌then◌else◌}
 use Rattle.std.proofs.lemmas.List.{drop_all}
 use Rattle.task_ast.specs.View.{statement_of, block_view}
 use Rattle.task_ast.specs.declared.Stmt.{Stmt}
@@ -52,12 +53,15 @@ pub entries_end : (count list : ℕ) (r : Run) (privates : List PrivateScalar) (
 entries_end count list r privates i p h = sym (ap (λ l. joined p (entries count list (runs_from r l))) (drop_all i privates h))
 
 -- the statements from one on, as its own program and that of those behind it
-pub block_step : (p : Places) (body : List (Stmt VariableName TaskName)) (i : ℕ) (s : Stmt VariableName TaskName) (q : Program) → i < length body → s ≡ get_or body i s
-    → joined (joined q (lowered_statement p (statement_of s))) (lowered_block p (block_view (drop (i + 1) body))) ≡ joined q (lowered_block p (block_view (drop i body)))
+pub block_step : (p : Places) (body : List (Stmt VariableName TaskName)) (i : ℕ) (s : Stmt VariableName TaskName) (q : Program) → i < length body
+    → s ≡ get_or body i s
+    → joined (joined q (lowered_statement p (statement_of s))) (lowered_block p (block_view (drop (i + 1) body)))
+    ≡ joined q (lowered_block p (block_view (drop i body)))
 block_step p body i s q h is =
     joined_assoc q (lowered_statement p (statement_of s)) (lowered_block p (block_view (drop (i + 1) body)))
     ∙ ap (λ j. joined q (joined (lowered_statement p (statement_of s)) (lowered_block p (block_view (drop j body))))) (add-one i)
     ∙ sym (ap (λ l. joined q (lowered_block p (block_view l))) (drop-cons body i s h ∙ ap (λ x. x ∷ drop (suc i) body) (sym is)))
 
-pub block_end : (p : Places) (body : List (Stmt VariableName TaskName)) (i : ℕ) (q : Program) → length body ≤ i → joined q (lowered_block p (block_view (drop i body))) ≡ q
+pub block_end : (p : Places) (body : List (Stmt VariableName TaskName)) (i : ℕ) (q : Program) → length body ≤ i
+    → joined q (lowered_block p (block_view (drop i body))) ≡ q
 block_end p body i q h = ap (λ l. joined q (lowered_block p (block_view l))) (drop_all i body h) ∙ joined_nothing q

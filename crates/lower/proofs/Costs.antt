@@ -1,6 +1,7 @@
 -- What tasks spend along the way that they take, against the allowance of a source: the entries of the private scalars are paid for once, at
 -- the transition.
-use Rattle.std.proofs.Common.{◌≡◌, ℕ, zero, suc, ◌+◌, ◌-◌, ◌*◌, ◌%◌, ◌==◌, ◌≤◌, max, Bool, true, false, if◌then◌else◌, List, [], ◌∷◌, length, Some, None, refl, sym, subst, arith}
+use Rattle.std.proofs.Common.{◌≡◌, ℕ, zero, suc, ◌+◌, ◌-◌, ◌*◌, ◌%◌, ◌==◌, ◌≤◌, max, Bool, true, false, if◌then◌else◌, List, [], ◌∷◌, length, Some}
+use Rattle.std.proofs.Common.{None, refl, sym, subst, arith}
 use Rattle.task_ast.specs.Tree as t
 use Rattle.task_ast.specs.Paths.{CheckedExpression, CheckedStatement, CheckedChoice, CheckedBlock}
 use Rattle.task_ast.specs.declared.names.Variable.{Variable}
@@ -11,14 +12,22 @@ use Rattle.memory_map.specs.declared.words.RuntimeWord.TheVariants.{NextTask, Ga
 use Rattle.lower.specs.declared.runs.Run.{Run}
 use Rattle.lower.specs.Runs.{runs_of}
 use Rattle.lower.proofs.Neighbours.{runs_are_few}
-use Rattle.array_versions.specs.Program.{Step, Program, choose, repeat, emit_word, store_number, move_word, jump, nothing, step, joined}
-use Rattle.array_versions.specs.Behaviour.{WordState, End, GoesOn, Jumps, Short, Strays, Broken, Behaviour, behaves, broken, on_end, then_on, is_place, goes_on, strays, with_stack, with_top, chosen, with_local, turns, step_behaviour, behaviour}
-use Rattle.array_versions.specs.Cost.{step_cycles, cycles_of, spent_on, way_spent, turns_spent, step_spent, spent}
+use Rattle.array_versions.specs.Operations.{is_true, compare_words}
+use Rattle.array_versions.specs.Program as word
+use Rattle.array_versions.specs.Program.{Step, Test, Program, choose, repeat, emit_word, store_number, move_word, jump, nothing, step, joined}
+use Rattle.array_versions.specs.Behaviour.{WordState, End, GoesOn, Jumps, Short, Strays, Broken, Behaviour, behaves, broken, on_end, then_on}
+use Rattle.array_versions.specs.Behaviour.{is_place}
+use Rattle.array_versions.specs.Behaviour.{goes_on, strays, with_stack, with_top, way_by_top, way_by_two, with_local, turns, step_behaviour, tested}
+use Rattle.array_versions.specs.Behaviour.{behaviour}
+use Rattle.array_versions.specs.Cost.{step_cycles, test_cycles, cycles_of, spent_on, top_spent, spent_by_top, spent_by_two, turns_spent, step_spent}
+use Rattle.array_versions.specs.Cost.{test_spent, spent}
 use Rattle.array_versions.proofs.Interface.{joined_go_on, joined_cycles, joined_spend, ways_keep_to_cycles}
 use Rattle.memory_map.specs.Spots.{Places}
-use Rattle.lower.specs.Lowered.{one, write_step, store_step, assignment, element_assignment, entries, lowered_transition, loop_local, lowered_expression, lowered_statement, lowered_choice, lowered_block}
+use Rattle.lower.specs.Lowered.{one, write_step, store_step, assignment, element_assignment, entries, lowered_transition, loop_local}
+use Rattle.lower.specs.Lowered.{lowered_expression}
+use Rattle.lower.specs.Lowered.{lowered_test, lowered_statement, lowered_choice, lowered_block}
 use Rattle.lower.specs.Sizes.{entry_cycles, BlocksKeepToCycles}
-use Rattle.lower.proofs.Sizes.{expression_cycles}
+use Rattle.lower.proofs.Sizes.{expression_cycles, test_cycles_kept}
 
 -- an end within an allowance and, where it leaves, the entries
 abbrev Within : Places → ℕ → End → ℕ → Type 0
@@ -63,10 +72,12 @@ jumped_leaves false to s = tt
 jump_leaves : (to : ℕ) (s : WordState) → Leaves (behaviour (one (jump to)) s).end
 jump_leaves to s = jumped_leaves (to % 2 == 0) to s
 
-stored_leaves : (a v : ℕ) (q : Program) → ((s : WordState) → Leaves (behaviour q s).end) → (s : WordState) → Leaves (behaviour (step (store_number a v) q) s).end
+stored_leaves : (a v : ℕ) (q : Program) → ((s : WordState) → Leaves (behaviour q s).end) → (s : WordState)
+    → Leaves (behaviour (step (store_number a v) q) s).end
 stored_leaves a v q h s = placed_leaves (is_place a) (goes_on _ _) (behaviour q) (h _)
 
-moved_leaves : (from to : ℕ) (q : Program) → ((s : WordState) → Leaves (behaviour q s).end) → (s : WordState) → Leaves (behaviour (step (move_word from to) q) s).end
+moved_leaves : (from to : ℕ) (q : Program) → ((s : WordState) → Leaves (behaviour q s).end) → (s : WordState)
+    → Leaves (behaviour (step (move_word from to) q) s).end
 moved_leaves from to q h s = placed_leaves (is_place from) _ (behaviour q) (placed_leaves (is_place to) (goes_on _ _) (behaviour q) (h _))
 
 -- behind the entries: SB, GATE, the jump
@@ -99,7 +110,8 @@ transition_spends p task s =
 -- ---- parts one behind the other
 
 -- of two parts the second is paid for where the first goes on
-both : (p : Places) (e : End) (f : WordState → Behaviour) (cost : WordState → ℕ) (n most more : ℕ) → Within p most e n → ((s : WordState) → Within p more (f s).end (cost s))
+both : (p : Places) (e : End) (f : WordState → Behaviour) (cost : WordState → ℕ) (n most more : ℕ) → Within p most e n
+    → ((s : WordState) → Within p more (f s).end (cost s))
     → Within p (most + more) (on_end e f).end (n + spent_on e cost)
 both p (GoesOn s) f cost n most more a h = let b = h s in omega (arith, a, b)
 both p (Jumps to s) f cost n most more a h = omega (arith, a)
@@ -107,7 +119,8 @@ both p Short f cost n most more a h = omega (arith, a)
 both p Strays f cost n most more a h = omega (arith, a)
 both p Broken f cost n most more a h = omega (arith, a)
 
-joined_spends : (p : Places) (a b : Program) (most more : ℕ) (s : WordState) → Within p most (behaviour a s).end (spent a s) → ((s : WordState) → Within p more (behaviour b s).end (spent b s))
+joined_spends : (p : Places) (a b : Program) (most more : ℕ) (s : WordState) → Within p most (behaviour a s).end (spent a s)
+    → ((s : WordState) → Within p more (behaviour b s).end (spent b s))
     → Within p (most + more) (behaviour (joined a b) s).end (spent (joined a b) s)
 joined_spends p a b most more s h k =
     let l = both p (behaviour a s).end (behaviour b) (spent b) (spent a s) most more h k in
@@ -118,7 +131,8 @@ plain : (p : Places) (q : Program) (most : ℕ) (s : WordState) → cycles_of q 
 plain p q most s h = let k = ways_keep_to_cycles q s in omega (arith, h, k)
 
 -- a step alone
-alone : (p : Places) (first : Step) (most : ℕ) (s : WordState) → Within p most (step_behaviour first s).end (step_spent first s) → Within p most (behaviour (one first) s).end (spent (one first) s)
+alone : (p : Places) (first : Step) (most : ℕ) (s : WordState) → Within p most (step_behaviour first s).end (step_spent first s)
+    → Within p most (behaviour (one first) s).end (spent (one first) s)
 alone p first most s h = by (step_behaviour first s).end h
   where
     by : (e : End) → Within p most e (step_spent first s) → Within p most (on_end e (behaviour nothing)).end (step_spent first s + spent_on e (spent nothing))
@@ -130,20 +144,60 @@ alone p first most s h = by (step_behaviour first s).end h
 
 -- ---- turns
 
-turns_spend : (p : Places) (most m n k : ℕ) (run : WordState → Behaviour) (cost : WordState → ℕ) (s : WordState) → ((v : WordState) → Within p most (run v).end (cost v))
+turns_spend : (p : Places) (most m n k : ℕ) (run : WordState → Behaviour) (cost : WordState → ℕ) (s : WordState)
+    → ((v : WordState) → Within p most (run v).end (cost v))
     → Within p (m * (40 + most)) (turns m n k run s).end (turns_spent m n k run cost s)
 turns_spend p most zero n k run cost s h = omega arith
 turns_spend p most (suc m) n k run cost s h =
     let v = with_local n k s in
-    let a = both p (run v).end (turns m n (k + 1) run) (turns_spent m n (k + 1) run cost) (18 + cost v) (18 + most) (m * (40 + most)) (let b = h v in omega (arith, b)) (λ u. turns_spend p most m n (k + 1) run cost u h) in
+    let a = both p (run v).end (turns m n (k + 1) run) (turns_spent m n (k + 1) run cost) (18 + cost v) (18 + most) (m * (40 + most))
+    (let b = h v in omega (arith, b)) (λ u. turns_spend p most m n (k + 1) run cost u h) in
     omega (arith, a)
 
--- one of two ways, by the top of the stack
-way_spends : (p : Places) (vs : List ℕ) (ra rb : List ℕ → Behaviour) (ca cb : List ℕ → ℕ) (a b : ℕ) → ((us : List ℕ) → Within p a (ra us).end (ca us)) → ((us : List ℕ) → Within p b (rb us).end (cb us))
-    → Within p (max a b) (with_top vs (λ v us. chosen v (ra us) (rb us))).end (way_spent vs ca cb)
-way_spends p [] ra rb ca cb a b f g = omega arith
-way_spends p (zero ∷ us) ra rb ca cb a b f g = let k = g us in omega (arith, k)
-way_spends p (suc v ∷ us) ra rb ca cb a b f g = let k = f us in omega (arith, k)
+-- ---- tests
+
+-- a way and what it spends
+abbrev Spends : Places → ℕ → (WordState → Behaviour) → (WordState → ℕ) → Type 0
+Spends p most run cost = (s : WordState) → Within p most (run s).end (cost s)
+
+either_spends : (p : Places) (c : Bool) (x y : Behaviour) (m n a b : ℕ) → Within p a x.end m → Within p b y.end n
+    → Within p (max a b) (if c then x else y).end (if c then m else n)
+either_spends p true x y m n a b h k = omega (arith, h)
+either_spends p false x y m n a b h k = omega (arith, k)
+
+top_spends : (p : Places) (most : ℕ) (vs : List ℕ) (run : ℕ → List ℕ → Behaviour) (cost : ℕ → List ℕ → ℕ)
+    → ((v : ℕ) (us : List ℕ) → Within p most (run v us).end (cost v us)) → Within p most (with_top vs run).end (top_spent vs cost)
+top_spends p most [] run cost h = omega arith
+top_spends p most (v ∷ vs) run cost h = h v vs
+
+-- what is spent beside
+beside : (p : Places) (e : End) (more most n : ℕ) → Within p most e n → Within p (more + most) e (more + n)
+beside p e more most n h = omega (arith, h)
+
+test_spends : (p : Places) (c : Test) (ra rb : WordState → Behaviour) (ca cb : WordState → ℕ) (a b : ℕ) → Spends p a ra ca → Spends p b rb cb
+    → Spends p (test_cycles c + max a b) (tested c ra rb) (test_spent c ca cb)
+test_spends p (word.holds q) ra rb ca cb a b f g s =
+    let k = both p (behaviour q s).end (way_by_top ra rb) (λ v. 8 + spent_by_top ca cb v) (spent q s) (cycles_of q) (8 + max a b)
+    (plain p q (cycles_of q) s (omega arith)) (λ v.
+    beside p (way_by_top ra rb v).end 8 (max a b) (spent_by_top ca cb v) (top_spends p (max a b) v.stack _ _ (λ x us.
+    let u = with_stack us v in either_spends p (is_true x) (ra u) (rb u) (ca u) (cb u) a b (f u) (g u)))) in
+    omega (arith, k)
+test_spends p (word.compares op q) ra rb ca cb a b f g s =
+    let k = both p (behaviour q s).end (way_by_two op ra rb) (λ v. 10 + spent_by_two op ca cb v) (spent q s) (cycles_of q) (10 + max a b)
+    (plain p q (cycles_of q) s (omega arith)) (λ v.
+    beside p (way_by_two op ra rb v).end 10 (max a b) (spent_by_two op ca cb v) (top_spends p (max a b) v.stack _ _ (λ y xs.
+    top_spends p (max a b) xs _ _ (λ x us.
+    let u = with_stack us v in either_spends p (compare_words op x y) (ra u) (rb u) (ca u) (cb u) a b (f u) (g u))))) in
+    omega (arith, k)
+test_spends p (word.both c d) ra rb ca cb a b f g s =
+    let most = test_cycles d + max a b in
+    let k = test_spends p c (tested d ra rb) rb (test_spent d ca cb) cb most b (test_spends p d ra rb ca cb a b f g) g s in
+    omega (arith, k)
+test_spends p (word.either c d) ra rb ca cb a b f g s =
+    let most = test_cycles d + max a b in
+    let k = test_spends p c ra (tested d ra rb) ca (test_spent d ca cb) a most f (test_spends p d ra rb ca cb a b f g) s in
+    omega (arith, k)
+test_spends p (word.fails c) ra rb ca cb a b f g s = let k = test_spends p c rb ra cb ca b a g f s in omega (arith, k)
 
 -- ---- statements
 
@@ -156,7 +210,8 @@ assignment_cycles p x e =
     write_cycles (Shared v) = omega arith
     write_cycles (Local n) = omega arith
 
-store_cycles : (p : Places) (x : Variable) (index e : CheckedExpression) → cycles_of (element_assignment p x index e) ≤ 120 + expression_price cycles_column index + expression_price cycles_column e
+store_cycles : (p : Places) (x : Variable) (index e : CheckedExpression)
+    → cycles_of (element_assignment p x index e) ≤ 120 + expression_price cycles_column index + expression_price cycles_column e
 store_cycles p x index e =
     let l = joined_cycles (lowered_expression p index) (lowered_expression p e) in
     let m = joined_cycles (joined (lowered_expression p index) (lowered_expression p e)) (one (store_step p x)) in
@@ -167,7 +222,8 @@ store_cycles p x index e =
     step_price (Local n) = omega arith
 
 mutual
-  statement_spends : (p : Places) (x : CheckedStatement) (w : WordState) → Within p (statement_price cycles_column x) (behaviour (lowered_statement p x) w).end (spent (lowered_statement p x) w)
+  statement_spends : (p : Places) (x : CheckedStatement) (w : WordState)
+      → Within p (statement_price cycles_column x) (behaviour (lowered_statement p x) w).end (spent (lowered_statement p x) w)
   statement_spends p (t.declare of x None) w = omega arith
   statement_spends p (t.declare of x (Some e)) w = plain p (assignment p x.variable e) _ w (assignment_cycles p x.variable e)
   statement_spends p (t.assign x e) w = plain p (assignment p x.variable e) _ w (assignment_cycles p x.variable e)
@@ -183,25 +239,27 @@ mutual
       plain p (lowered_statement p (t.emit e)) _ w (omega (arith, l, expression_cycles p e))
   statement_spends p (t.transition task) w = transition_spends p task.task w
 
-  choice_spends : (p : Places) (c : CheckedChoice) (w : WordState) → Within p (conditions_price cycles_column c + blocks_price cycles_column c) (behaviour (lowered_choice p c) w).end (spent (lowered_choice p c) w)
+  -- with a branch past what isn't taken
+  choice_spends : (p : Places) (c : CheckedChoice) (w : WordState)
+      → Within p (conditions_price cycles_column c + blocks_price cycles_column c + 3) (behaviour (lowered_choice p c) w).end (spent (lowered_choice p c) w)
   choice_spends p t.nothing w = omega arith
   choice_spends p (t.otherwise block) w = let a = block_spends p block w in omega (arith, a)
   choice_spends p (t.test e block more) w =
       let taken = lowered_block p block in
       let otherwise = lowered_choice p more in
-      let a = block_price cycles_column block in
-      let b = conditions_price cycles_column more + blocks_price cycles_column more in
-      let first = plain p (lowered_expression p e) (cycles_of (lowered_expression p e)) w (omega arith) in
-      let k = joined_spends p (lowered_expression p e) (one (choose taken otherwise)) (cycles_of (lowered_expression p e)) (8 + max a b) w first
-      (λ s. alone p (choose taken otherwise) (8 + max a b) s
-      (let l = way_spends p s.stack (λ us. behaviour taken (with_stack us s)) (λ us. behaviour otherwise (with_stack us s)) (λ us. spent taken (with_stack us s)) (λ us. spent otherwise (with_stack us s)) a b
-      (λ us. block_spends p block (with_stack us s)) (λ us. choice_spends p more (with_stack us s)) in omega (arith, l))) in
-      omega (arith, k, expression_cycles p e)
+      let a = block_price cycles_column block + 3 in
+      let b = conditions_price cycles_column more + blocks_price cycles_column more + 3 in
+      let k = alone p (choose (lowered_test p e) taken otherwise) (test_cycles (lowered_test p e) + max a b) w
+      (test_spends p (lowered_test p e) (behaviour taken) (behaviour otherwise) (λ v. spent taken v + 3) (spent otherwise) a b
+      (λ v. let r = block_spends p block v in omega (arith, r)) (λ v. choice_spends p more v) w) in
+      omega (arith, k, test_cycles_kept p e)
 
-  block_spends : (p : Places) (b : CheckedBlock) (w : WordState) → Within p (block_price cycles_column b) (behaviour (lowered_block p b) w).end (spent (lowered_block p b) w)
+  block_spends : (p : Places) (b : CheckedBlock) (w : WordState)
+      → Within p (block_price cycles_column b) (behaviour (lowered_block p b) w).end (spent (lowered_block p b) w)
   block_spends p t.end w = omega arith
   block_spends p (t.step x more) w =
-      joined_spends p (lowered_statement p x) (lowered_block p more) (statement_price cycles_column x) (block_price cycles_column more) w (statement_spends p x w) (λ s. block_spends p more s)
+      joined_spends p (lowered_statement p x) (lowered_block p more) (statement_price cycles_column x) (block_price cycles_column more) w
+      (statement_spends p x w) (λ s. block_spends p more s)
 
 pub blocks_keep_to_cycles : BlocksKeepToCycles
 blocks_keep_to_cycles p block w = block_spends p block w

@@ -1,5 +1,6 @@
 -- A store to an element, as the step of a task.
-use Rattle.std.proofs.Common.{◌≡◌, ℕ, ◌+◌, ◌*◌, ◌==◌, ◌<◌, ◌≤◌, List, [], ◌∷◌, ◌++◌, length, map, get_or, Option, Some, Contains, true, refl, sym, ap, ◌∙◌, subst, arith, ⊎_elim, length-append, append-nil, if◌then◌else◌}
+use Rattle.std.proofs.Common.{◌≡◌, ℕ, ◌+◌, ◌*◌, ◌==◌, ◌<◌, ◌≤◌, List, [], ◌∷◌, ◌++◌, length, map, get_or, Option, Some, Contains, true, refl, sym, ap, ◌∙◌}
+use Rattle.std.proofs.Common.{subst, arith, ⊎_elim, length-append, append-nil, if◌then◌else◌}
 use Rattle.std.proofs.lemmas.Bool.{cases_eq, cases_lt}
 use Rattle.std.proofs.lemmas.List.{length-map}
 use Rattle.std.proofs.lemmas.List.Elements.{All-same}
@@ -105,7 +106,12 @@ module _ (z : Scene) (n i v elements len : ℕ) (c : ArrayCopies) (w : WordState
         stores = tt;
         stack_kept = refl;
         listed = listed;
-        stands = record { variables = past_set z.p n i v elements len c m.variables w.fram w.locals at l h.stands.variables; emitted = h.stands.emitted; list = h.stands.list; readings = refl };
+        stands = record {
+          variables = past_set z.p n i v elements len c m.variables w.fram w.locals at l h.stands.variables;
+          emitted = h.stands.emitted;
+          list = h.stands.list;
+          readings = refl;
+        };
         few = few_listed z m listed w 0 (λ u. if n == u then 1 else 0) most h;
       })
 

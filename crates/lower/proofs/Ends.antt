@@ -1,5 +1,6 @@
 -- Programs and statements one behind another: the ends of both agree where each step's do.
-use Rattle.std.proofs.Common.{◌≡◌, ℕ, ◌<◌, ◌≤◌, List, [], ◌∷◌, ◌++◌, length, Option, Some, None, Bool, refl, sym, ap, ◌∙◌, subst, arith, append_assoc, append-nil}
+use Rattle.std.proofs.Common.{◌≡◌, ℕ, ◌<◌, ◌≤◌, List, [], ◌∷◌, ◌++◌, length, Option, Some, None, Bool, refl, sym, ap, ◌∙◌, subst, arith, append_assoc}
+use Rattle.std.proofs.Common.{append-nil}
 use Rattle.memory_map.specs.MemoryMap.{word_place}
 use Rattle.memory_map.specs.declared.words.RuntimeWord.TheVariants.{ListLength, EmitCount, Base, Version}
 use Rattle.array_versions.specs.fram_board.Effects.{Effect, Store, Take, Send}
@@ -12,7 +13,8 @@ use Rattle.array_versions.specs.Laws.{EndsByEffects}
 use Rattle.array_versions.proofs.Interface.{behaves_by_effects}
 use Rattle.memory_map.specs.Spots.{Places, Element, scalar, copy, version}
 use Rattle.lower.specs.Spots.{Room, AreApart, AreEven, listed_of, HasRoom}
-use Rattle.lower.specs.Agreement.{TakesAndStores, OnlyTakes, IsTaskStore, at_variable, at_copy, at_version, in_list, at_list_length, at_emit_count, in_buffer, StandsFor, valued, EndsWithValue, AgreesWithValue, Bounds, Left, EndsAs, Agrees}
+use Rattle.lower.specs.Agreement.{TakesAndStores, OnlyTakes, IsTaskStore, at_variable, at_copy, at_version, in_list, at_list_length, at_emit_count, in_buffer}
+use Rattle.lower.specs.Agreement.{StandsFor, valued, EndsWithValue, AgreesWithValue, Bounds, Left, EndsAs, Agrees}
 use Rattle.lower.proofs.Values.{takes_append, only_takes}
 use Rattle.lower.proofs.Emitted.{EmitsAtMost}
 
@@ -157,7 +159,8 @@ pub does_then : (z : Scene) (q : Program) (w : WordState) (few most : ℕ → �
 does_then z q w few most stack n o next more ver less h emits k = go (behaviour q w).effects (behaviour q w).end o (behaves_by_effects q w) h emits k
   where
     go : (es : List Effect) (e : End) (o : Outcome) → EndsByEffects w es e → Ends z w.fram few stack es e o → EmitsAtMost n o
-        → ((s : WordState) (m : Attempt) (listed : List Element) → o ≡ goes_on m → IsThere z few stack n s m listed → Does z s.fram most stack (next s) (more m))
+        → ((s : WordState) (m : Attempt) (listed : List Element) → o ≡ goes_on m → IsThere z few stack n s m listed
+        → Does z s.fram most stack (next s) (more m))
         → Does z w.fram most stack (behind_effects es (on_end e next)) (and_then o more)
     go es (GoesOn s) (goes_on m) by h emits k =
         let kept : s.fram (word_place z.p.map Version) ≡ z.ver =

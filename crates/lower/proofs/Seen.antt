@@ -1,5 +1,6 @@
 -- A memory map as a task sees it keeps the rules of memory maps, and what stands there stands in the whole map at the same address.
-use Rattle.std.proofs.Common.{◌≡◌, ℕ, zero, suc, ◌+◌, ◌*◌, ◌≤◌, Bool, true, false, List, [], ◌∷◌, ◌++◌, length, map, Option, Some, None, refl, sym, ap, ◌∙◌, subst, arith, slice_get}
+use Rattle.std.proofs.Common.{◌≡◌, ℕ, zero, suc, ◌+◌, ◌*◌, ◌≤◌, Bool, true, false, List, [], ◌∷◌, ◌++◌, length, map, Option, Some, None, refl, sym, ap, ◌∙◌}
+use Rattle.std.proofs.Common.{subst, arith, slice_get}
 use Rattle.std.specs.Prelude.{All, option_map}
 use Rattle.std.specs.List.{flat_map}
 use Rattle.std.proofs.lemmas.List.Elements.{All-weaker}
@@ -132,7 +133,8 @@ seen_from written xs v place e =
         → SeenFrom xs v (written v) place
     by None at b w h = let none : None ≡ Some place = sym (ap (option_map (place_seen (written v))) at) ∙ h in absurd (cc)
     by (Some x) at b w h =
-        let found : Some (place_seen b x) ≡ Some place = sym (ap (λ c. option_map (place_seen c) (Some x)) w) ∙ sym (ap (option_map (place_seen (written v))) at) ∙ h in
+        let found : Some (place_seen b x) ≡ Some place = sym (ap (λ c. option_map (place_seen c) (Some x)) w)
+        ∙ sym (ap (option_map (place_seen (written v))) at) ∙ h in
         let is : place_seen b x ≡ place = cc in
         by_place x b at w is
 

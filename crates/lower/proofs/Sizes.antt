@@ -1,5 +1,6 @@
 -- The words of a task's code, and the cycles of its expressions, are within the allowance of a source.
-use Rattle.std.proofs.Common.{◌≡◌, ℕ, suc, ◌+◌, ◌*◌, ◌<◌, ◌≤◌, ◌==◌, Bool, true, false, List, [], ◌∷◌, length, Option, Some, None, slice_get, refl, arith, if◌then◌else◌}
+use Rattle.std.proofs.Common.{◌≡◌, ℕ, suc, ◌+◌, ◌*◌, ◌<◌, ◌≤◌, ◌==◌, Bool, true, false, List, [], ◌∷◌, length, Option, Some, None, slice_get, refl}
+use Rattle.std.proofs.Common.{arith, if◌then◌else◌}
 use Rattle.std.proofs.lemmas.Bool.Decides.{nat_tests}
 use Rattle.task_ast.specs.Tree as t
 use Rattle.task_ast.specs.Paths.{CheckedExpression, CheckedStatement, CheckedChoice, CheckedBlock}
@@ -14,10 +15,12 @@ use Rattle.task_ast.specs.declared.ShortCircuitOperator.TheVariants.{And as Both
 use Rattle.task_ast.specs.declared.names.Variable.{Variable}
 use Rattle.task_ast.specs.declared.names.Variable.TheVariants.{Shared, Local}
 use Rattle.source_values.specs.Values.{joined_type, type_of}
-use Rattle.cost_bound.specs.Table.{cycles_column, words_column, operator_price, expression_price, statement_price, conditions_price, blocks_price, block_price}
-use Rattle.array_versions.specs.declared.operations.UnaryOperation.TheVariants.{Truth}
-use Rattle.array_versions.specs.Program.{Program, unary, binary, shift, choose, emit_word, store_number, move_word, jump, step, joined}
-use Rattle.array_versions.specs.Cost.{unary_cycles, binary_cycles, step_cycles, cycles_of, entry_words, step_words, words_of}
+use Rattle.cost_bound.specs.Table.{cycles_column, words_column, operator_price, expression_price, statement_price, conditions_price, blocks_price}
+use Rattle.cost_bound.specs.Table.{block_price}
+use Rattle.array_versions.specs.declared.operations.UnaryOperation.TheVariants.{Negate, Complement}
+use Rattle.array_versions.specs.declared.operations.BinaryOperation.TheVariants.{And}
+use Rattle.array_versions.specs.Program.{Test, Program, unary, binary, shift, choose, emit_word, store_number, move_word, jump, step, joined}
+use Rattle.array_versions.specs.Cost.{binary_cycles, step_cycles, test_cycles, cycles_of, entry_words, step_words, test_words, words_of}
 use Rattle.array_versions.proofs.Interface.{joined_cycles, joined_words, steps_keep_to_words}
 use Rattle.memory_map.specs.MemoryMap.{word_place}
 use Rattle.memory_map.specs.declared.words.RuntimeWord.TheVariants.{Gate, ListLength, EmitCount, Base, SentBase}
@@ -27,9 +30,15 @@ use Rattle.memory_map.specs.declared.place.PrivateScalar.{PrivateScalar}
 use Rattle.memory_map.specs.Spots.{Places}
 use Rattle.lower.specs.declared.runs.Run.{Run}
 use Rattle.lower.specs.Runs.{run_at, is_followed_by, runs_from, runs_of}
-use Rattle.lower.specs.Operations.{unary_operation, binary_operation, shift_operation}
+use Rattle.lower.specs.declared.operations.BinaryMeaning.{BinaryMeaning}
+use Rattle.lower.specs.declared.operations.BinaryMeaning.TheVariants.{Calculates, CommonBits, Holds, Fails}
+use Rattle.lower.specs.Operations.{binary_meaning, shift_operation}
 use Rattle.lower.specs.Sizes.{BlocksKeepToWords}
-use Rattle.lower.specs.Lowered.{one, read_step, write_step, element_read, element_step, store_step, lowered_choice_of_sides, evaluated_side, assignment, element_assignment, entries, lowered_transition, lowered_expression, lowered_statement, lowered_choice, lowered_block}
+use Rattle.lower.specs.Lowered.{one, read_step, write_step, element_read, element_step, store_step, Lowering, as_word, as_test, word_program}
+use Rattle.lower.specs.Lowered.{value_test, unary_lowering}
+use Rattle.lower.specs.Lowered.{binary_lowering, sides_test, lowering, assignment, element_assignment, entries, lowered_transition}
+use Rattle.lower.specs.Lowered.{lowered_expression}
+use Rattle.lower.specs.Lowered.{lowered_test, lowered_statement, lowered_choice, lowered_block}
 
 -- ---- words
 
@@ -51,45 +60,68 @@ element_words : (p : Places) (x : Variable) → step_words (element_step p x) �
 element_words p (Shared v) = read_array_words p (slice_get p.map.variables v)
 element_words p (Local n) = omega arith
 
-sides_words : (op : ShortCircuitOperator) (right : Program) → step_words (lowered_choice_of_sides op right) ≤ 9 + words_of right
-sides_words BothHold right = omega arith
-sides_words OneHolds right = omega arith
-
 -- of each operator alike: the first clause makes it a proof by cases
 operator_words : (s : ℕ) (op : BinaryOperator) → operator_price (words_column s) op ≡ 16
 operator_words s operator.Multiply = refl
 operator_words s _ = refl
 
-pub expression_words : (p : Places) (s : ℕ) (e : CheckedExpression) → words_of (lowered_expression p e) ≤ expression_price (words_column s) e
-expression_words p s (t.number n) = omega arith
-expression_words p s (t.name x) = let a = read_words p x.variable in omega (arith, a)
-expression_words p s (t.element x index) =
-    let a = element_words p x.variable in
+-- what an expression comes to has so many words, and as a test five more
+record HasWords (l : Lowering) (most : ℕ) : Type 0 where
+  word : words_of (word_program l) ≤ most
+  test : test_words (value_test l) ≤ most + 5
+
+word_has : (q : Program) (most : ℕ) → words_of q ≤ most → HasWords (as_word q) most
+word_has q most h = record { word = h; test = omega arith }
+
+test_has : (c : Test) (most : ℕ) → test_words c + 3 ≤ most → HasWords (as_test c) most
+test_has c most h = record { word = omega arith; test = omega arith }
+
+unary_has : (op : UnaryOperator) (l : Lowering) (n : ℕ) → HasWords l n → HasWords (unary_lowering op l) (16 + n)
+unary_has unary_operator.Negate l n h = word_has _ (16 + n) (omega (arith, joined_words (word_program l) (one (unary Negate)), h))
+unary_has unary_operator.Complement l n h = word_has _ (16 + n) (omega (arith, joined_words (word_program l) (one (unary Complement)), h))
+unary_has unary_operator.Not l n h = test_has _ (16 + n) (omega (arith, h))
+
+binary_has : (meaning : BinaryMeaning) (sides : Program) (n : ℕ) → words_of sides ≤ n → HasWords (binary_lowering meaning sides) (16 + n)
+binary_has (Calculates op) sides n h =
+    word_has _ (16 + n) (omega (arith, joined_words sides (one (binary op)), steps_keep_to_words (binary op), h))
+binary_has CommonBits sides n h = record { word = omega (arith, joined_words sides (one (binary And)), h); test = omega (arith, h) }
+binary_has (Holds c) sides n h = test_has _ (16 + n) (omega (arith, h))
+binary_has (Fails c) sides n h = test_has _ (16 + n) (omega (arith, h))
+
+sides_have : (op : ShortCircuitOperator) (c d : Test) → test_words (sides_test op c d) ≡ test_words c + test_words d
+sides_have BothHold c d = refl
+sides_have OneHolds c d = refl
+
+lowering_has : (p : Places) (s : ℕ) (e : CheckedExpression) → HasWords (lowering p e) (expression_price (words_column s) e)
+lowering_has p s (t.number n) = word_has _ _ (omega arith)
+lowering_has p s (t.name x) = word_has _ _ (let a = read_words p x.variable in omega (arith, a))
+lowering_has p s (t.element x index) =
     let l = joined_words (lowered_expression p index) (one (element_step p x.variable)) in
-    omega (arith, a, l, expression_words p s index)
-expression_words p s t.sense = omega arith
-expression_words p s (t.unary op e) =
-    let a = steps_keep_to_words (unary (unary_operation op)) in
-    let l = joined_words (lowered_expression p e) (one (unary (unary_operation op))) in
-    omega (arith, a, l, expression_words p s e)
-expression_words p s (t.binary op a b) =
-    let operation = binary (binary_operation op (joined_type (type_of a) (type_of b))) in
-    let k = steps_keep_to_words operation in
+    let h = lowering_has p s index in
+    word_has _ _ (omega (arith, element_words p x.variable, l, h))
+lowering_has p s t.sense = word_has _ _ (omega arith)
+lowering_has p s (t.unary op e) = unary_has op (lowering p e) (expression_price (words_column s) e) (lowering_has p s e)
+lowering_has p s (t.binary op a b) =
+    let sides = joined (lowered_expression p a) (lowered_expression p b) in
+    let n = expression_price (words_column s) a + expression_price (words_column s) b in
     let l = joined_words (lowered_expression p a) (lowered_expression p b) in
-    let m = joined_words (joined (lowered_expression p a) (lowered_expression p b)) (one operation) in
     let o = operator_words s op in
-    omega (arith, k, l, m, o, expression_words p s a, expression_words p s b)
-expression_words p s (t.shift op e count) =
+    let first = lowering_has p s a in
+    let second = lowering_has p s b in
+    let h = binary_has (binary_meaning op (joined_type (type_of a) (type_of b))) sides n (omega (arith, l, first, second)) in
+    record { word = omega (arith, o, h); test = omega (arith, o, h) }
+lowering_has p s (t.shift op e count) =
     let operation = shift (shift_operation op (type_of e)) count.value in
-    let a = steps_keep_to_words operation in
     let l = joined_words (lowered_expression p e) (one operation) in
-    omega (arith, a, l, expression_words p s e)
-expression_words p s (t.short_circuit op a b) =
-    let right = evaluated_side (lowered_expression p b) in
-    let k = sides_words op right in
-    let r = joined_words (lowered_expression p b) (one (unary Truth)) in
-    let l = joined_words (lowered_expression p a) (one (lowered_choice_of_sides op right)) in
-    omega (arith, k, r, l, expression_words p s a, expression_words p s b)
+    let h = lowering_has p s e in
+    word_has _ _ (omega (arith, steps_keep_to_words operation, l, h))
+lowering_has p s (t.short_circuit op a b) =
+    let first = lowering_has p s a in
+    let second = lowering_has p s b in
+    test_has _ _ (omega (arith, sides_have op (lowered_test p a) (lowered_test p b), first, second))
+
+pub expression_words : (p : Places) (s : ℕ) (e : CheckedExpression) → words_of (lowered_expression p e) ≤ expression_price (words_column s) e
+expression_words p s e = (lowering_has p s e).word
 
 -- an entry has no more than the words of its scalars
 one_entry : (words : ℕ) → 0 < words → entry_words words ≤ 16 * words
@@ -147,7 +179,8 @@ element_assignment_words p s x index e =
     omega (arith, a, l, m, expression_words p s index, expression_words p s e)
 
 mutual
-  pub statement_words : (p : Places) (s : ℕ) → length p.privates ≤ s → (x : CheckedStatement) → words_of (lowered_statement p x) ≤ statement_price (words_column s) x
+  pub statement_words : (p : Places) (s : ℕ) → length p.privates ≤ s → (x : CheckedStatement)
+      → words_of (lowered_statement p x) ≤ statement_price (words_column s) x
   statement_words p s few (t.declare of x None) = omega arith
   statement_words p s few (t.declare of x (Some e)) = assignment_words p s x.variable e
   statement_words p s few (t.assign x e) = assignment_words p s x.variable e
@@ -159,14 +192,15 @@ mutual
       omega (arith, l, expression_words p s e)
   statement_words p s few (t.transition task) = transition_words p s task.task few
 
-  pub choice_words : (p : Places) (s : ℕ) → length p.privates ≤ s → (c : CheckedChoice) → words_of (lowered_choice p c) ≤ conditions_price (words_column s) c + blocks_price (words_column s) c
+  pub choice_words : (p : Places) (s : ℕ) → length p.privates ≤ s → (c : CheckedChoice)
+      → words_of (lowered_choice p c) ≤ conditions_price (words_column s) c + blocks_price (words_column s) c
   choice_words p s few t.nothing = omega arith
   choice_words p s few (t.otherwise block) = let a = block_words p s few block in omega (arith, a)
   choice_words p s few (t.test e block more) =
       let a = block_words p s few block in
       let b = choice_words p s few more in
-      let l = joined_words (lowered_expression p e) (one (choose (lowered_block p block) (lowered_choice p more))) in
-      omega (arith, a, b, l, expression_words p s e)
+      let h = lowering_has p s e in
+      omega (arith, a, b, h)
 
   pub block_words : (p : Places) (s : ℕ) → length p.privates ≤ s → (b : CheckedBlock) → words_of (lowered_block p b) ≤ block_price (words_column s) b
   block_words p s few t.end = omega arith
@@ -176,7 +210,7 @@ mutual
       let l = joined_words (lowered_statement p x) (lowered_block p more) in
       omega (arith, a, b, l)
 
--- ---- cycles of expressions: 8 less than is allowed, so that an `if` has them for its choice
+-- ---- cycles of expressions: 11 less than is allowed, so that a test has them
 
 read_cycles : (p : Places) (x : Variable) → step_cycles (read_step p x) ≤ 5
 read_cycles p (Shared v) = omega arith
@@ -192,54 +226,76 @@ element_cycles : (p : Places) (x : Variable) → step_cycles (element_step p x) 
 element_cycles p (Shared v) = read_array_cycles p (slice_get p.map.variables v)
 element_cycles p (Local n) = omega arith
 
-unary_most : (op : UnaryOperator) → unary_cycles (unary_operation op) ≤ 8
-unary_most unary_operator.Negate = omega arith
-unary_most unary_operator.Complement = omega arith
-unary_most unary_operator.Not = omega arith
+-- what an expression comes to takes no more than so many cycles: its program 11 less, its test 3 less
+record HasCycles (l : Lowering) (most : ℕ) : Type 0 where
+  word : cycles_of (word_program l) + 11 ≤ most
+  test : test_cycles (value_test l) + 3 ≤ most
 
--- an order looks at signs, and all others are alike
-binary_most : (op : BinaryOperator) (of : WordType) → binary_cycles (binary_operation op of) ≤ operator_price cycles_column op
-binary_most operator.Less Int = omega arith
-binary_most operator.Less Unsigned = omega arith
-binary_most operator.LessEqual Int = omega arith
-binary_most operator.LessEqual Unsigned = omega arith
-binary_most operator.Greater Int = omega arith
-binary_most operator.Greater Unsigned = omega arith
-binary_most operator.GreaterEqual Int = omega arith
-binary_most operator.GreaterEqual Unsigned = omega arith
-binary_most _ of = omega arith
+word_takes : (q : Program) (most : ℕ) → cycles_of q + 11 ≤ most → HasCycles (as_word q) most
+word_takes q most h = record { word = h; test = omega arith }
 
-sides_cycles : (op : ShortCircuitOperator) (right : Program) → step_cycles (lowered_choice_of_sides op right) ≤ 12 + cycles_of right
-sides_cycles BothHold right = omega arith
-sides_cycles OneHolds right = omega arith
+test_takes : (c : Test) (most : ℕ) → test_cycles c + 16 ≤ most → HasCycles (as_test c) most
+test_takes c most h = record { word = omega arith; test = omega arith }
 
-pub expression_cycles : (p : Places) (e : CheckedExpression) → cycles_of (lowered_expression p e) + 8 ≤ expression_price cycles_column e
-expression_cycles p (t.number n) = omega arith
-expression_cycles p (t.name x) = let a = read_cycles p x.variable in omega (arith, a)
-expression_cycles p (t.element x index) =
-    let a = element_cycles p x.variable in
+unary_takes : (op : UnaryOperator) (l : Lowering) (n : ℕ) → HasCycles l n → HasCycles (unary_lowering op l) (40 + n)
+unary_takes unary_operator.Negate l n h = word_takes _ (40 + n) (omega (arith, joined_cycles (word_program l) (one (unary Negate)), h))
+unary_takes unary_operator.Complement l n h = word_takes _ (40 + n) (omega (arith, joined_cycles (word_program l) (one (unary Complement)), h))
+unary_takes unary_operator.Not l n h = test_takes _ (40 + n) (omega (arith, h))
+
+-- an operation takes 32 less than its row
+abbrev operation_cycles : BinaryMeaning → ℕ
+operation_cycles (Calculates op) = binary_cycles op
+operation_cycles _ = 8
+
+-- of each operator alike: the first clause makes it a proof by cases
+operation_most : (op : BinaryOperator) (of : WordType) → operation_cycles (binary_meaning op of) + 32 ≤ operator_price cycles_column op
+operation_most operator.Multiply of = omega arith
+operation_most _ of = omega arith
+
+binary_takes : (meaning : BinaryMeaning) (sides : Program) (n : ℕ) → cycles_of sides + 22 ≤ n
+    → HasCycles (binary_lowering meaning sides) (operation_cycles meaning + 32 + n)
+binary_takes (Calculates op) sides n h = word_takes _ _ (omega (arith, joined_cycles sides (one (binary op)), h))
+binary_takes CommonBits sides n h = record { word = omega (arith, joined_cycles sides (one (binary And)), h); test = omega (arith, h) }
+binary_takes (Holds c) sides n h = test_takes _ _ (omega (arith, h))
+binary_takes (Fails c) sides n h = test_takes _ _ (omega (arith, h))
+
+sides_take : (op : ShortCircuitOperator) (c d : Test) → test_cycles (sides_test op c d) ≡ test_cycles c + test_cycles d
+sides_take BothHold c d = refl
+sides_take OneHolds c d = refl
+
+lowering_takes : (p : Places) (e : CheckedExpression) → HasCycles (lowering p e) (expression_price cycles_column e)
+lowering_takes p (t.number n) = word_takes _ _ (omega arith)
+lowering_takes p (t.name x) = word_takes _ _ (let a = read_cycles p x.variable in omega (arith, a))
+lowering_takes p (t.element x index) =
     let l = joined_cycles (lowered_expression p index) (one (element_step p x.variable)) in
-    omega (arith, a, l, expression_cycles p index)
-expression_cycles p t.sense = omega arith
-expression_cycles p (t.unary op e) =
-    let a = unary_most op in
-    let l = joined_cycles (lowered_expression p e) (one (unary (unary_operation op))) in
-    omega (arith, a, l, expression_cycles p e)
-expression_cycles p (t.binary op a b) =
-    let operation = binary (binary_operation op (joined_type (type_of a) (type_of b))) in
-    let k = binary_most op (joined_type (type_of a) (type_of b)) in
+    let h = lowering_takes p index in
+    word_takes _ _ (omega (arith, element_cycles p x.variable, l, h))
+lowering_takes p t.sense = word_takes _ _ (omega arith)
+lowering_takes p (t.unary op e) = unary_takes op (lowering p e) (expression_price cycles_column e) (lowering_takes p e)
+lowering_takes p (t.binary op a b) =
+    let meaning = binary_meaning op (joined_type (type_of a) (type_of b)) in
+    let n = expression_price cycles_column a + expression_price cycles_column b in
     let l = joined_cycles (lowered_expression p a) (lowered_expression p b) in
-    let m = joined_cycles (joined (lowered_expression p a) (lowered_expression p b)) (one operation) in
-    omega (arith, k, l, m, expression_cycles p a, expression_cycles p b)
-expression_cycles p (t.shift op e count) =
+    let o = operation_most op (joined_type (type_of a) (type_of b)) in
+    let first = lowering_takes p a in
+    let second = lowering_takes p b in
+    let h = binary_takes meaning (joined (lowered_expression p a) (lowered_expression p b)) n (omega (arith, l, first, second)) in
+    record { word = omega (arith, o, h); test = omega (arith, o, h) }
+lowering_takes p (t.shift op e count) =
     let l = joined_cycles (lowered_expression p e) (one (shift (shift_operation op (type_of e)) count.value)) in
-    omega (arith, l, expression_cycles p e)
-expression_cycles p (t.short_circuit op a b) =
-    let right = evaluated_side (lowered_expression p b) in
-    let k = sides_cycles op right in
-    let r = joined_cycles (lowered_expression p b) (one (unary Truth)) in
-    let l = joined_cycles (lowered_expression p a) (one (lowered_choice_of_sides op right)) in
-    omega (arith, k, r, l, expression_cycles p a, expression_cycles p b)
+    let h = lowering_takes p e in
+    word_takes _ _ (omega (arith, l, h))
+lowering_takes p (t.short_circuit op a b) =
+    let first = lowering_takes p a in
+    let second = lowering_takes p b in
+    test_takes _ _ (omega (arith, sides_take op (lowered_test p a) (lowered_test p b), first, second))
+
+pub expression_cycles : (p : Places) (e : CheckedExpression) → cycles_of (lowered_expression p e) + 11 ≤ expression_price cycles_column e
+expression_cycles p e = (lowering_takes p e).word
+
+-- a choice has 3 more for a branch
+pub test_cycles_kept : (p : Places) (e : CheckedExpression) → test_cycles (lowered_test p e) + 3 ≤ expression_price cycles_column e
+test_cycles_kept p e = (lowering_takes p e).test
 
 pub blocks_keep_to_words : BlocksKeepToWords
 blocks_keep_to_words p s block few = block_words p s few block

@@ -1,5 +1,6 @@
 -- What stores do to a state that stands for an attempt.
-use Rattle.std.proofs.Common.{◌≡◌, ℕ, ◌+◌, ◌*◌, ◌%◌, ◌==◌, ◌<◌, ◌≤◌, List, [], ◌∷◌, ◌++◌, length, get_or, slice_set, slice_get, Option, Some, None, Contains, All, refl, sym, ap, ◌∙◌, subst, arith, eq-eqb, ne_eqb, ⊎_elim, length-append, if◌then◌else◌}
+use Rattle.std.proofs.Common.{◌≡◌, ℕ, ◌+◌, ◌*◌, ◌%◌, ◌==◌, ◌<◌, ◌≤◌, List, [], ◌∷◌, ◌++◌, length, get_or, slice_set, slice_get, Option, Some, None, Contains}
+use Rattle.std.proofs.Common.{All, refl, sym, ap, ◌∙◌, subst, arith, eq-eqb, ne_eqb, ⊎_elim, length-append, if◌then◌else◌}
 use Rattle.std.proofs.lemmas.Bool.{cases_eq}
 use Rattle.std.proofs.lemmas.List.{get_or-set_same, get_or-set_other, length-set, get_or_append_left, get_or_past}
 use Rattle.std.proofs.lemmas.List.{length-map}
@@ -20,7 +21,8 @@ use Rattle.memory_map.specs.declared.words.RuntimeWord.TheVariants.{ListLength, 
 use Rattle.memory_map.specs.declared.place.ArrayCopies.{ArrayCopies}
 use Rattle.memory_map.specs.declared.place.VariablePlace.{VariablePlace}
 use Rattle.memory_map.specs.declared.place.VariablePlace.TheVariants.{Scalar, Array}
-use Rattle.memory_map.specs.Spots.{Places, address_of, IsScalarPlace, IsScalarAt, IsArrayAt, Element, IsElement, IsCopied, Spot, scalar, element, copy, version, IsSpot, element_address, copy_address, version_address, spot_address}
+use Rattle.memory_map.specs.Spots.{Places, address_of, IsScalarPlace, IsScalarAt, IsArrayAt, Element, IsElement, IsCopied, Spot, scalar, element, copy}
+use Rattle.memory_map.specs.Spots.{version, IsSpot, element_address, copy_address, version_address, spot_address}
 
 -- ---- another word of a shared variable
 

@@ -4,7 +4,8 @@ use Rattle.array_versions.specs.fram_board.Effects.{Effect, Store}
 use Rattle.array_versions.specs.machine_effects.World.{put, fram_after}
 use Rattle.array_versions.proofs.machine_effects.Interface.{put_at, put_other}
 use Rattle.array_versions.specs.Program.{Program, store_number, move_word, jump, nothing, step, joined}
-use Rattle.array_versions.specs.Behaviour.{WordState, Jumps, Behaviour, behaves, goes_on, broken, behind_effects, then_on, is_place, at_place, word_stored, raised, entry_stored, jumped, step_behaviour, behaviour}
+use Rattle.array_versions.specs.Behaviour.{WordState, Jumps, Behaviour, behaves, goes_on, broken, behind_effects, then_on, is_place, at_place, word_stored}
+use Rattle.array_versions.specs.Behaviour.{raised, entry_stored, jumped, step_behaviour, behaviour}
 use Rattle.array_versions.proofs.Interface.{joined_go_on}
 use Rattle.memory_map.specs.MemoryMap.{word_place}
 use Rattle.memory_map.specs.declared.words.RuntimeWord.TheVariants.{NextTask, Gate, ListLength, Base, SentBase}

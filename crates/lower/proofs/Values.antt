@@ -1,10 +1,12 @@
 -- The program of an expression leaves its value.
-use Rattle.std.proofs.Common.{◌≡◌, ℕ, zero, suc, ◌+◌, ◌*◌, ◌%◌, ◌==◌, ◌<◌, ◌≤◌, List, [], ◌∷◌, ◌++◌, Option, Some, None, Bool, true, false, not, nat_le, nat_lt, refl, sym, ap, ◌∙◌, subst, arith, ne_eqb, le-ltb, lt-ltb, get_or, ⊎_elim, if◌then◌else◌}
+use Rattle.std.proofs.Common.{◌≡◌, ℕ, zero, suc, ◌+◌, ◌*◌, ◌%◌, ◌==◌, ◌<◌, ◌≤◌, List, [], ◌∷◌, ◌++◌, Option, Some, None, Bool, true, false, not}
+use Rattle.std.proofs.Common.{nat_le, nat_lt, refl, sym, ap, ◌∙◌, subst, arith, ne_eqb, le-ltb, lt-ltb, get_or, ⊎_elim, if◌then◌else◌, bit_and}
 use Rattle.array_versions.specs.alp_words.Words.{bit}
 use Rattle.array_versions.specs.fram_board.Effects.{Effect, Store, Take, Send}
 use Rattle.std.proofs.lemmas.Bool.{cases_lt}
 use Rattle.std.proofs.lemmas.List.{get_or_past}
 use Rattle.task_ast.specs.Tree as t
+use Rattle.task_ast.specs.Paths.{CheckedExpression}
 use Rattle.task_ast.specs.declared.WordType.{WordType}
 use Rattle.task_ast.specs.declared.WordType.TheVariants.{Unsigned, Int}
 use Rattle.task_ast.specs.declared.UnaryOperator.{UnaryOperator}
@@ -17,12 +19,19 @@ use Rattle.task_ast.specs.declared.ShortCircuitOperator.{ShortCircuitOperator}
 use Rattle.task_ast.specs.declared.ShortCircuitOperator.TheVariants.{And as BothHold, Or as OneHolds}
 use Rattle.task_ast.specs.declared.names.Variable.{Variable}
 use Rattle.task_ast.specs.declared.names.Variable.TheVariants.{Shared, Local}
-use Rattle.source_values.specs.Values.{◌>>?◌, Variables, word_at, type_of, joined_type, holds, unary_value, binary_value, shift_value, shifted_value, is_settled, next_reading, value_of}
-use Rattle.array_versions.specs.declared.operations.UnaryOperation.TheVariants.{Truth}
-use Rattle.array_versions.specs.Operations.{unary_word, binary_word, shift_word, shifted_word}
-use Rattle.array_versions.specs.Program.{Program, load, local, unary, binary, shift, nothing, joined}
-use Rattle.array_versions.specs.Behaviour.{WordState, End, GoesOn, Jumps, Short, Strays, Broken, Behaviour, goes_on, behind_effects, on_end, then_on, is_place, at_place, pushed, local_pushed, reading_pushed, behaviour}
-use Rattle.array_versions.proofs.Interface.{joined_go_on, joined_assoc}
+use Rattle.source_values.specs.Values.{◌>>?◌, Variables, word_at, type_of, joined_type, holds, unary_value, binary_value, shift_value, shifted_value}
+use Rattle.source_values.specs.Values.{is_settled, next_reading, value_of}
+use Rattle.array_versions.specs.declared.operations.UnaryOperation.{UnaryOperation}
+use Rattle.array_versions.specs.declared.operations.UnaryOperation.TheVariants.{Negate, Complement}
+use Rattle.array_versions.specs.declared.operations.BinaryOperation.{BinaryOperation}
+use Rattle.array_versions.specs.declared.operations.BinaryOperation.TheVariants.{And}
+use Rattle.array_versions.specs.declared.operations.Comparison.TheVariants.{CommonBit}
+use Rattle.array_versions.specs.Operations.{unary_word, binary_word, shift_word, shifted_word, compare_words}
+use Rattle.array_versions.specs.Program.{Test, Program, number, load, local, unary, binary, shift, sense, compares, fails, nothing, joined}
+use Rattle.array_versions.specs.Behaviour.{WordState, End, GoesOn, Jumps, Short, Strays, Broken, Behaviour, goes_on, behind_effects, on_end, then_on}
+use Rattle.array_versions.specs.Behaviour.{is_place, at_place, pushed, number_pushed, local_pushed, reading_pushed, way_by_top, way_by_two, tested}
+use Rattle.array_versions.specs.Behaviour.{behaviour}
+use Rattle.array_versions.proofs.Interface.{joined_go_on, then_on_assoc, decided_by_truth}
 use Rattle.memory_map.specs.MemoryMap.{word_place}
 use Rattle.memory_map.specs.declared.words.RuntimeWord.TheVariants.{Version}
 use Rattle.memory_map.specs.declared.place.ArrayCopies.{ArrayCopies}
@@ -30,10 +39,14 @@ use Rattle.memory_map.specs.declared.place.VariablePlace.{VariablePlace}
 use Rattle.memory_map.specs.declared.place.VariablePlace.TheVariants.{Array}
 use Rattle.memory_map.proofs.Interface.{word_even}
 use Rattle.memory_map.specs.Spots.{Places, address_of, IsArrayAt, Element, IsElement, IsCopied, scalar, element, copy, version}
-use Rattle.lower.specs.Operations.{unary_operation, binary_operation, shift_operation}
-use Rattle.lower.specs.Lowered.{one, read_step, element_read, element_step, evaluated_side, lowered_choice_of_sides, lowered_expression}
+use Rattle.lower.specs.declared.operations.BinaryMeaning.{BinaryMeaning}
+use Rattle.lower.specs.declared.operations.BinaryMeaning.TheVariants.{Calculates, CommonBits, Holds, Fails}
+use Rattle.lower.specs.Operations.{binary_meaning, shift_operation}
+use Rattle.lower.specs.Lowered.{one, read_step, element_read, element_step, Lowering, as_word, as_test, word_program, value_test, unary_lowering}
+use Rattle.lower.specs.Lowered.{binary_lowering, sides_test, lowering, lowered_test}
 use Rattle.lower.specs.Spots.{Room, AreApart, AreEven}
-use Rattle.lower.specs.Agreement.{IsKnown, IsArray, own_word, HoldVariables, TakesAndStores, OnlyTakes, valued, EndsWithValue, AgreesWithValue, ExpressionsAgree}
+use Rattle.lower.specs.Agreement.{IsKnown, IsArray, own_word, HoldVariables, TakesAndStores, OnlyTakes, valued, EndsWithValue, AgreesWithValue}
+use Rattle.lower.specs.Agreement.{ExpressionFits, truth_value, truth_of, ExpressionsAgree, TestsAgree}
 use Rattle.lower.proofs.Addresses.{fram_place, placed, spot_place, element_is, copy_is, version_is, has_element}
 
 -- ---- effects
@@ -197,13 +210,15 @@ element_agrees p room (Local n) i m w left apart even k h = absurd k
 
 -- ---- operators
 
-unary_same : (op : UnaryOperator) (v : ℕ) → unary_word (unary_operation op) v ≡ unary_value op v
-unary_same unary_operator.Negate v = refl
-unary_same unary_operator.Complement v = refl
-unary_same unary_operator.Not v = refl
+-- what an operator gives of two words
+abbrev meaning_word : BinaryMeaning → ℕ → ℕ → ℕ
+meaning_word (Calculates op) u v = binary_word op u v
+meaning_word CommonBits u v = bit_and u v
+meaning_word (Holds c) u v = bit (compare_words c u v)
+meaning_word (Fails c) u v = bit (not (compare_words c u v))
 
 -- an order looks at signs, and all others are alike
-pub binary_same : (op : BinaryOperator) (of : WordType) (u v : ℕ) → binary_word (binary_operation op of) u v ≡ binary_value op of u v
+binary_same : (op : BinaryOperator) (of : WordType) (u v : ℕ) → meaning_word (binary_meaning op of) u v ≡ binary_value op of u v
 binary_same operator.Less Int u v = refl
 binary_same operator.Less Unsigned u v = refl
 binary_same operator.LessEqual Int u v = refl
@@ -222,85 +237,302 @@ shifted_same shift_operator.Right Unsigned v k = refl
 shift_same : (op : ShiftOperator) (of : WordType) (v k : ℕ) → shift_word (shift_operation op of) v k ≡ shift_value op of v k
 shift_same op of v k = ap (λ x. if nat_le k 15 then x else 0) (shifted_same op of v k)
 
--- ---- `&&` and `||`
+-- ---- the truth of a value
 
-pub suc_holds : (v : ℕ) → holds (suc v) ≡ true
-suc_holds v = ap not (ne_eqb (suc v) 0 (λ e. omega (arith, e)))
+-- 1 holds and 0 doesn't
+pub holds_bit : (b : Bool) → holds (bit b) ≡ b
+holds_bit true = refl
+holds_bit false = refl
 
-side_agrees : (op : ShortCircuitOperator) (v : ℕ) (left : List ℕ) (w : WordState) (right : Program) (o : Option (ℕ × List ℕ))
-    → AgreesWithValue w (behaviour right (record w { readings = left })) o
-    → AgreesWithValue w (behaviour (one (lowered_choice_of_sides op right)) (valued w (v, left))) (if is_settled op v then Some (bit (holds v), left) else o)
-side_agrees BothHold zero left w right o h = (tt, refl)
-side_agrees BothHold (suc v) left w right o h =
-    let P : Bool → Type 0 = λ b. AgreesWithValue w (behaviour (one (lowered_choice_of_sides BothHold right)) (valued w (suc v, left)))
-    (if not b then Some (bit b, left) else o) in
-    subst P (sym (suc_holds v)) (value_done w (behaviour right (record w { readings = left })) o h)
-side_agrees OneHolds zero left w right o h = value_done w (behaviour right (record w { readings = left })) o h
-side_agrees OneHolds (suc v) left w right o h =
-    let P : Bool → Type 0 = λ b. AgreesWithValue w (behaviour (one (lowered_choice_of_sides OneHolds right)) (valued w (suc v, left)))
-    (if b then Some (bit b, left) else o) in
-    subst P (sym (suc_holds v)) (tt, refl)
+bit_is_truth : (b : Bool) (left : List ℕ) → truth_value (bit b, left) ≡ Some (bit b, left)
+bit_is_truth b left = ap (λ c. Some (bit c, left)) (holds_bit b)
+
+-- what is 1 or 0 is its own truth
+truth_twice : (o : Option (ℕ × List ℕ)) → truth_of (truth_of o) ≡ truth_of o
+truth_twice None = refl
+truth_twice (Some x) = bit_is_truth (holds x.0) x.1
+
+-- the word that the values of two sides make, the second from the readings that the first leaves
+abbrev pair_value : (ℕ → ℕ → ℕ) → Option (ℕ × List ℕ) → (List ℕ → Option (ℕ × List ℕ)) → Option (ℕ × List ℕ)
+pair_value f o second = o >>? λ x. second x.1 >>? λ y. Some (f x.0 y.0, y.1)
+
+-- the truth of such a word
+pair_truth : (f : ℕ → ℕ → ℕ) (o : Option (ℕ × List ℕ)) (second : List ℕ → Option (ℕ × List ℕ))
+    → pair_value (λ x y. bit (holds (f x y))) o second ≡ truth_of (pair_value f o second)
+pair_truth f None second = refl
+pair_truth f (Some x) second = by (second x.1)
+  where
+    by : (o : Option (ℕ × List ℕ)) → (o >>? λ y. Some (bit (holds (f x.0 y.0)), y.1)) ≡ truth_of (o >>? λ y. Some (f x.0 y.0, y.1))
+    by None = refl
+    by (Some y) = refl
+
+-- where it is 1 or 0, it is its own truth
+pair_is_truth : (f : ℕ → ℕ → ℕ) (b : ℕ → ℕ → Bool) (o : Option (ℕ × List ℕ)) (second : List ℕ → Option (ℕ × List ℕ))
+    → ((x y : ℕ) → bit (b x y) ≡ f x y) → truth_of (pair_value f o second) ≡ pair_value f o second
+pair_is_truth f b None second e = refl
+pair_is_truth f b (Some x) second e = by (second x.1)
+  where
+    one_or_zero : (u v : ℕ) → bit (holds (f u v)) ≡ f u v
+    one_or_zero u v = ap (λ r. bit (holds r)) (sym (e u v)) ∙ ap bit (holds_bit (b u v)) ∙ e u v
+
+    by : (o : Option (ℕ × List ℕ)) → (let r : Option (ℕ × List ℕ) = o >>? λ y. Some (f x.0 y.0, y.1) in truth_of r ≡ r)
+    by None = refl
+    by (Some y) = ap (λ r. Some (r, y.1)) (one_or_zero x.0 y.0)
+
+-- `!` of a value, and of a truth
+abbrev not_value : ℕ × List ℕ → Option (ℕ × List ℕ)
+not_value x = Some (bit (x.0 == 0), x.1)
+
+abbrev not_truth : ℕ × List ℕ → Option (ℕ × List ℕ)
+not_truth x = Some (bit (not (holds x.0)), x.1)
+
+-- that of a value by that of its truth
+not_of_truth : (o : Option (ℕ × List ℕ)) → (truth_of o >>? not_truth) ≡ (o >>? not_value)
+not_of_truth None = refl
+not_of_truth (Some x) = by (x.0 == 0)
+  where
+    by : (b : Bool) → not_truth (bit (not b), x.1) ≡ Some (bit b, x.1)
+    by true = refl
+    by false = refl
+
+not_is_truth : (o : Option (ℕ × List ℕ)) → truth_of (o >>? not_value) ≡ (o >>? not_value)
+not_is_truth None = refl
+not_is_truth (Some x) = bit_is_truth (x.0 == 0) x.1
+
+-- `&&` or `||` of a value by that of its truth, the right side being this of the readings left
+abbrev side_value : ShortCircuitOperator → (List ℕ → Option (ℕ × List ℕ)) → ℕ × List ℕ → Option (ℕ × List ℕ)
+side_value op right x = if is_settled op x.0 then Some (bit (holds x.0), x.1) else truth_of (right x.1)
+
+sides_of_truth : (o : Option (ℕ × List ℕ)) (op : ShortCircuitOperator) (right : List ℕ → Option (ℕ × List ℕ))
+    → (truth_of o >>? side_value op right) ≡ (o >>? side_value op right)
+sides_of_truth None op right = refl
+sides_of_truth (Some x) BothHold right = by (holds x.0)
+  where
+    by : (b : Bool) → side_value BothHold right (bit b, x.1) ≡ (if not b then Some (bit b, x.1) else truth_of (right x.1))
+    by true = refl
+    by false = refl
+sides_of_truth (Some x) OneHolds right = by (holds x.0)
+  where
+    by : (b : Bool) → side_value OneHolds right (bit b, x.1) ≡ (if b then Some (bit b, x.1) else truth_of (right x.1))
+    by true = refl
+    by false = refl
+
+sides_are_truth : (op : ShortCircuitOperator) (o : Option (ℕ × List ℕ)) (right : List ℕ → Option (ℕ × List ℕ))
+    → (let r = o >>? side_value op right in truth_of r ≡ r)
+sides_are_truth op None right = refl
+sides_are_truth op (Some x) right = by (is_settled op x.0)
+  where
+    by : (b : Bool) → (let r = if b then Some (bit (holds x.0), x.1) else truth_of (right x.1) in truth_of r ≡ r)
+    by true = bit_is_truth (holds x.0) x.1
+    by false = truth_twice (right x.1)
+
+-- ---- tests
+
+-- a test pushes its truth
+abbrev pub truth_pushed : Test → WordState → Behaviour
+truth_pushed c w = tested c (number_pushed 1) (number_pushed 0) w
+
+-- the program of an expression leaves its value, and its test decides by the value
+pub record LoweringAgrees (w : WordState) (l : Lowering) (o : Option (ℕ × List ℕ)) : Type 0 where
+  pub word : AgreesWithValue w (behaviour (word_program l) w) o
+  pub test : AgreesWithValue w (truth_pushed (value_test l) w) (truth_of o)
+
+-- 1 is pushed where it holds, else 0
+bit_agrees : (b : Bool) (r : ℕ) (w : WordState) (left : List ℕ) → bit b ≡ r
+    → (let u : WordState = record w { readings = left } in AgreesWithValue w (if b then number_pushed 1 u else number_pushed 0 u) (Some (r, left)))
+bit_agrees true r w left e = (tt, ap (λ v. valued w (v, left)) e)
+bit_agrees false r w left e = (tt, ap (λ v. valued w (v, left)) e)
+
+-- 0 is pushed where it holds, else 1
+turned_bit_agrees : (b : Bool) (r : ℕ) (w : WordState) (left : List ℕ) → bit (not b) ≡ r
+    → (let u : WordState = record w { readings = left } in AgreesWithValue w (if b then number_pushed 0 u else number_pushed 1 u) (Some (r, left)))
+turned_bit_agrees true r w left e = (tt, ap (λ v. valued w (v, left)) e)
+turned_bit_agrees false r w left e = (tt, ap (λ v. valued w (v, left)) e)
+
+-- what agrees with other readings in front agrees
+from_left : (w : WordState) (left : List ℕ) (b : Behaviour) (o : Option (ℕ × List ℕ)) → AgreesWithValue (record w { readings = left }) b o
+    → AgreesWithValue w b o
+from_left w left b o h = (h.0, by b.end o h.1)
+  where
+    by : (e : End) (o : Option (ℕ × List ℕ)) → EndsWithValue (record w { readings = left }) e o → EndsWithValue w e o
+    by (GoesOn s) (Some x) g = g
+    by (GoesOn s) None g = g
+    by (Jumps to s) o g = g
+    by Short (Some x) g = g
+    by Short None g = g
+    by Strays o g = g
+    by Broken o g = g
+
+-- by a program that leaves the value
+by_word : (w : WordState) (q : Program) (o : Option (ℕ × List ℕ)) → AgreesWithValue w (behaviour q w) o → LoweringAgrees w (as_word q) o
+by_word w q o h = record {
+  word = h;
+  test = value_then w w (behaviour q w) o (way_by_top (number_pushed 1) (number_pushed 0)) truth_value h
+      (λ x. bit_agrees (holds x.0) (bit (holds x.0)) w x.1 refl);
+}
+
+-- by a test, where the value is 1 or 0
+by_test : (w : WordState) (c : Test) (o : Option (ℕ × List ℕ)) → truth_of o ≡ o → AgreesWithValue w (truth_pushed c w) o → LoweringAgrees w (as_test c) o
+by_test w c o e h = record {
+  word = value_done w (truth_pushed c w) o h;
+  test = subst (AgreesWithValue w (truth_pushed c w)) (sym e) h;
+}
+
+-- a value, and what is done with it
+then_step : (w : WordState) (q last : Program) (o : Option (ℕ × List ℕ)) (more : ℕ × List ℕ → Option (ℕ × List ℕ))
+    → AgreesWithValue w (behaviour q w) o → ((x : ℕ × List ℕ) → AgreesWithValue w (behaviour last (valued w x)) (more x))
+    → AgreesWithValue w (behaviour (joined q last) w) (o >>? more)
+then_step w q last o more h k =
+    subst (λ b. AgreesWithValue w b (o >>? more)) (sym (joined_go_on q last w)) (value_then w w (behaviour q w) o (behaviour last) more h k)
+
+-- ---- two sides
+
+-- the programs of two sides, the second from any readings on
+record SidesAgree (w : WordState) (a b : Program) (o : Option (ℕ × List ℕ)) (second : List ℕ → Option (ℕ × List ℕ)) : Type 0 where
+  left_side : AgreesWithValue w (behaviour a w) o
+  right_side : (x : ℕ × List ℕ) → AgreesWithValue (valued w x) (behaviour b (valued w x)) (second x.1)
+
+-- what is done with both values, which makes this word of them
+abbrev MakesWord : WordState → (WordState → Behaviour) → (ℕ → ℕ → ℕ) → Type 0
+MakesWord w next f = (x y : ℕ) (left : List ℕ) → AgreesWithValue w (next (record w { stack = y ∷ (x ∷ w.stack); readings = left })) (Some (f x y, left))
+
+sides_agree : (w : WordState) (a b : Program) (o : Option (ℕ × List ℕ)) (second : List ℕ → Option (ℕ × List ℕ)) (f : ℕ → ℕ → ℕ)
+    (next : WordState → Behaviour) → SidesAgree w a b o second → MakesWord w next f
+    → AgreesWithValue w (then_on (behaviour (joined a b) w) next) (pair_value f o second)
+sides_agree w a b o second f next h k =
+    let rest : WordState → Behaviour = λ v. then_on (behaviour b v) next in
+    let P : Behaviour → Type 0 = λ r. AgreesWithValue w r (pair_value f o second) in
+    let is = ap (λ r. then_on r next) (joined_go_on a b w) ∙ sym (then_on_assoc (behaviour a w) (behaviour b) next) in
+    subst P (sym is)
+    (value_then w w (behaviour a w) o rest (λ x. second x.1 >>? λ y. Some (f x.0 y.0, y.1)) h.left_side (λ x.
+    value_then w (valued w x) (behaviour b (valued w x)) (second x.1) next (λ y. Some (f x.0 y.0, y.1)) (h.right_side x) (λ y. k x.0 y.0 y.1)))
+
+-- an operation behind both sides
+operated_agrees : (op : BinaryOperation) (w : WordState) (a b : Program) (o : Option (ℕ × List ℕ)) (second : List ℕ → Option (ℕ × List ℕ)) (f : ℕ → ℕ → ℕ)
+    → SidesAgree w a b o second → ((x y : ℕ) → binary_word op x y ≡ f x y)
+    → AgreesWithValue w (behaviour (joined (joined a b) (one (binary op))) w) (pair_value f o second)
+operated_agrees op w a b o second f h e =
+    subst (λ r. AgreesWithValue w r (pair_value f o second)) (sym (joined_go_on (joined a b) (one (binary op)) w))
+    (sides_agree w a b o second f (behaviour (one (binary op))) h (λ x y left. (tt, ap (λ v. valued w (v, left)) (e x y))))
+
+-- an operator of two sides
+binary_agrees : (meaning : BinaryMeaning) (w : WordState) (a b : Program) (o : Option (ℕ × List ℕ)) (second : List ℕ → Option (ℕ × List ℕ)) (f : ℕ → ℕ → ℕ)
+    → SidesAgree w a b o second → ((x y : ℕ) → meaning_word meaning x y ≡ f x y)
+    → LoweringAgrees w (binary_lowering meaning (joined a b)) (pair_value f o second)
+binary_agrees (Calculates op) w a b o second f h e =
+    by_word w (joined (joined a b) (one (binary op))) (pair_value f o second) (operated_agrees op w a b o second f h e)
+binary_agrees CommonBits w a b o second f h e =
+    let makes : MakesWord w (way_by_two CommonBit (number_pushed 1) (number_pushed 0)) (λ x y. bit (holds (f x y))) =
+    λ x y left. bit_agrees (holds (bit_and x y)) (bit (holds (f x y))) w left (ap (λ v. bit (holds v)) (e x y)) in
+    record {
+      word = operated_agrees And w a b o second f h e;
+      test = subst (AgreesWithValue w (truth_pushed (compares CommonBit (joined a b)) w)) (pair_truth f o second)
+          (sides_agree w a b o second (λ x y. bit (holds (f x y))) (way_by_two CommonBit (number_pushed 1) (number_pushed 0)) h makes);
+    }
+binary_agrees (Holds c) w a b o second f h e =
+    by_test w (compares c (joined a b)) (pair_value f o second) (pair_is_truth f (compare_words c) o second e)
+    (sides_agree w a b o second f (way_by_two c (number_pushed 1) (number_pushed 0)) h
+    (λ x y left. bit_agrees (compare_words c x y) (f x y) w left (e x y)))
+binary_agrees (Fails c) w a b o second f h e =
+    by_test w (fails (compares c (joined a b))) (pair_value f o second) (pair_is_truth f (λ x y. not (compare_words c x y)) o second e)
+    (sides_agree w a b o second f (way_by_two c (number_pushed 0) (number_pushed 1)) h
+    (λ x y left. turned_bit_agrees (compare_words c x y) (f x y) w left (e x y)))
+
+-- ---- `!`, `&&` and `||`
+
+-- an operation behind a value
+turned_agrees : (op : UnaryOperation) (w : WordState) (l : Lowering) (o : Option (ℕ × List ℕ)) → LoweringAgrees w l o
+    → LoweringAgrees w (as_word (joined (word_program l) (one (unary op)))) (o >>? λ x. Some (unary_word op x.0, x.1))
+turned_agrees op w l o h =
+    let turned : ℕ × List ℕ → Option (ℕ × List ℕ) = λ x. Some (unary_word op x.0, x.1) in
+    let last = one (unary op) in
+    by_word w (joined (word_program l) last) (o >>? turned) (then_step w (word_program l) last o turned h.word (λ x. (tt, refl)))
+
+unary_agrees : (op : UnaryOperator) (w : WordState) (l : Lowering) (o : Option (ℕ × List ℕ)) → LoweringAgrees w l o
+    → LoweringAgrees w (unary_lowering op l) (o >>? λ x. Some (unary_value op x.0, x.1))
+unary_agrees unary_operator.Negate w l o h = turned_agrees Negate w l o h
+unary_agrees unary_operator.Complement w l o h = turned_agrees Complement w l o h
+unary_agrees unary_operator.Not w l o h =
+    let c = value_test l in
+    let turned = way_by_top (number_pushed 0) (number_pushed 1) in
+    let r : Option (ℕ × List ℕ) = o >>? not_value in
+    by_test w (fails c) r (not_is_truth o)
+    (subst (λ b. AgreesWithValue w b r) (sym (decided_by_truth c (number_pushed 0) (number_pushed 1) w))
+    (subst (AgreesWithValue w (then_on (truth_pushed c w) turned)) (not_of_truth o)
+    (value_then w w (truth_pushed c w) (truth_of o) turned not_truth h.test (λ x. turned_bit_agrees (holds x.0) (bit (not (holds x.0))) w x.1 refl))))
+
+side_agrees : (op : ShortCircuitOperator) (w : WordState) (c d : Test) (o : Option (ℕ × List ℕ)) (right : List ℕ → Option (ℕ × List ℕ))
+    → AgreesWithValue w (truth_pushed c w) (truth_of o)
+    → ((left : List ℕ) → AgreesWithValue w (truth_pushed d (record w { readings = left })) (truth_of (right left)))
+    → AgreesWithValue w (truth_pushed (sides_test op c d) w) (truth_of o >>? side_value op right)
+side_agrees BothHold w c d o right h k =
+    let next = way_by_top (truth_pushed d) (number_pushed 0) in
+    subst (λ r. AgreesWithValue w r (truth_of o >>? side_value BothHold right)) (sym (decided_by_truth c (truth_pushed d) (number_pushed 0) w))
+    (value_then w w (truth_pushed c w) (truth_of o) next (side_value BothHold right) h (λ x. by (holds x.0) x.1))
+  where
+    by : (b : Bool) (left : List ℕ)
+        → (let u : WordState = record w { readings = left } in
+        AgreesWithValue w (if b then truth_pushed d u else number_pushed 0 u) (if not b then Some (bit b, left) else truth_of (right left)))
+    by true left = k left
+    by false left = (tt, refl)
+side_agrees OneHolds w c d o right h k =
+    let next = way_by_top (number_pushed 1) (truth_pushed d) in
+    subst (λ r. AgreesWithValue w r (truth_of o >>? side_value OneHolds right)) (sym (decided_by_truth c (number_pushed 1) (truth_pushed d) w))
+    (value_then w w (truth_pushed c w) (truth_of o) next (side_value OneHolds right) h (λ x. by (holds x.0) x.1))
+  where
+    by : (b : Bool) (left : List ℕ)
+        → (let u : WordState = record w { readings = left } in
+        AgreesWithValue w (if b then number_pushed 1 u else truth_pushed d u) (if b then Some (bit b, left) else truth_of (right left)))
+    by true left = (tt, refl)
+    by false left = k left
 
 -- ---- all expressions
 
-pub expressions_agree : ExpressionsAgree
-expressions_agree p room (t.number n) m w apart even fits h = (tt, refl)
-expressions_agree p room (t.name x) m w apart even fits h = read_agrees p room x.variable m w apart even fits h
-expressions_agree p room (t.element x index) m w apart even fits h =
+pub lowering_agrees : (p : Places) (room : Room) (e : CheckedExpression) (m : Variables) (w : WordState) → AreApart p room → AreEven p
+    → ExpressionFits p e → HoldVariables p m w.fram w.locals → LoweringAgrees w (lowering p e) (value_of e m w.readings)
+lowering_agrees p room (t.number n) m w apart even fits h = by_word w (one (number n)) _ (tt, refl)
+lowering_agrees p room (t.name x) m w apart even fits h =
+    by_word w (one (read_step p x.variable)) _ (read_agrees p room x.variable m w apart even fits h)
+lowering_agrees p room (t.element x index) m w apart even fits h =
+    let l = lowering p index in
     let last = one (element_step p x.variable) in
-    let P : Behaviour → Type 0 = λ b. AgreesWithValue w b (value_of (t.element x index) m w.readings) in
-    subst P (sym (joined_go_on (lowered_expression p index) last w))
-    (value_then w w (behaviour (lowered_expression p index) w) (value_of index m w.readings) (behaviour last) (λ i. Some (word_at m x.variable i.0, i.1))
-    (expressions_agree p room index m w apart even fits.1 h)
-    (λ i. element_agrees p room x.variable i.0 m w i.1 apart even fits.0 h))
-expressions_agree p room t.sense m w apart even fits h = sense_agrees w w.readings
-expressions_agree p room (t.unary op e) m w apart even fits h =
-    let last = one (unary (unary_operation op)) in
-    let P : Behaviour → Type 0 = λ b. AgreesWithValue w b (value_of (t.unary op e) m w.readings) in
-    subst P (sym (joined_go_on (lowered_expression p e) last w))
-    (value_then w w (behaviour (lowered_expression p e) w) (value_of e m w.readings) (behaviour last) (λ x. Some (unary_value op x.0, x.1))
-    (expressions_agree p room e m w apart even fits h)
-    (λ x. (tt, ap (λ v. valued w (v, x.1)) (unary_same op x.0))))
-expressions_agree p room (t.binary op a b) m w apart even fits h =
+    by_word w (joined (word_program l) last) _
+    (then_step w (word_program l) last (value_of index m w.readings) (λ i. Some (word_at m x.variable i.0, i.1))
+    (lowering_agrees p room index m w apart even fits.1 h).word (λ i. element_agrees p room x.variable i.0 m w i.1 apart even fits.0 h))
+lowering_agrees p room t.sense m w apart even fits h = by_word w (one sense) _ (sense_agrees w w.readings)
+lowering_agrees p room (t.unary op e) m w apart even fits h =
+    unary_agrees op w (lowering p e) (value_of e m w.readings) (lowering_agrees p room e m w apart even fits h)
+lowering_agrees p room (t.binary op a b) m w apart even fits h =
     let of = joined_type (type_of a) (type_of b) in
-    let last = one (binary (binary_operation op of)) in
-    let P : Behaviour → Type 0 = λ z. AgreesWithValue w z (value_of (t.binary op a b) m w.readings) in
-    let first = lowered_expression p a in
-    let second = lowered_expression p b in
-    subst P (sym (ap (λ q. behaviour q w) (joined_assoc first second last) ∙ joined_go_on first (joined second last) w))
-    (value_then w w (behaviour first w) (value_of a m w.readings) (behaviour (joined second last))
-    (λ x. value_of b m x.1 >>? λ y. Some (binary_value op of x.0 y.0, y.1))
-    (expressions_agree p room a m w apart even fits.0 h)
-    (λ x.
-    let v = valued w x in
-    let Q : Behaviour → Type 0 = λ z. AgreesWithValue w z (value_of b m x.1 >>? λ y. Some (binary_value op of x.0 y.0, y.1)) in
-    subst Q (sym (joined_go_on second last v))
-    (value_then w v (behaviour second v) (value_of b m x.1) (behaviour last) (λ y. Some (binary_value op of x.0 y.0, y.1))
-    (expressions_agree p room b m v apart even fits.1 h)
-    (λ y. (tt, ap (λ r. valued w (r, y.1)) (binary_same op of x.0 y.0))))))
-expressions_agree p room (t.shift op e count) m w apart even fits h =
+    let left = word_program (lowering p a) in
+    let right = word_program (lowering p b) in
+    let o = value_of a m w.readings in
+    let sides : SidesAgree w left right o (value_of b m) = record {
+      left_side = (lowering_agrees p room a m w apart even fits.0 h).word;
+      right_side = λ x. (lowering_agrees p room b m (valued w x) apart even fits.1 h).word;
+    } in
+    binary_agrees (binary_meaning op of) w left right o (value_of b m) (binary_value op of) sides (binary_same op of)
+lowering_agrees p room (t.shift op e count) m w apart even fits h =
+    let l = lowering p e in
     let last = one (shift (shift_operation op (type_of e)) count.value) in
-    let P : Behaviour → Type 0 = λ b. AgreesWithValue w b (value_of (t.shift op e count) m w.readings) in
-    subst P (sym (joined_go_on (lowered_expression p e) last w))
-    (value_then w w (behaviour (lowered_expression p e) w) (value_of e m w.readings) (behaviour last)
-    (λ x. Some (shift_value op (type_of e) x.0 count.value, x.1))
-    (expressions_agree p room e m w apart even fits h)
+    by_word w (joined (word_program l) last) _
+    (then_step w (word_program l) last (value_of e m w.readings) (λ x. Some (shift_value op (type_of e) x.0 count.value, x.1))
+    (lowering_agrees p room e m w apart even fits h).word
     (λ x. (tt, ap (λ v. valued w (v, x.1)) (shift_same op (type_of e) x.0 count.value))))
-expressions_agree p room (t.short_circuit op a b) m w apart even fits h =
-    let first = lowered_expression p a in
-    let second = lowered_expression p b in
-    let right = evaluated_side second in
-    let last = one (lowered_choice_of_sides op right) in
-    let P : Behaviour → Type 0 = λ z. AgreesWithValue w z (value_of (t.short_circuit op a b) m w.readings) in
-    subst P (sym (joined_go_on first last w))
-    (value_then w w (behaviour first w) (value_of a m w.readings) (behaviour last)
-    (λ x. if is_settled op x.0 then Some (bit (holds x.0), x.1) else (value_of b m x.1 >>? λ y. Some (bit (holds y.0), y.1)))
-    (expressions_agree p room a m w apart even fits.0 h)
-    (λ x.
-    let v : WordState = record w { readings = x.1 } in
-    let Q : Behaviour → Type 0 = λ z. AgreesWithValue w z (value_of b m x.1 >>? λ y. Some (bit (holds y.0), y.1)) in
-    side_agrees op x.0 x.1 w right (value_of b m x.1 >>? λ y. Some (bit (holds y.0), y.1))
-    (subst Q (sym (joined_go_on second (one (unary Truth)) v))
-    (value_then w v (behaviour second v) (value_of b m x.1) (behaviour (one (unary Truth))) (λ y. Some (bit (holds y.0), y.1))
-    (expressions_agree p room b m v apart even fits.1 h)
-    (λ y. (tt, refl))))))
+lowering_agrees p room (t.short_circuit op a b) m w apart even fits h =
+    let c = value_test (lowering p a) in
+    let d = value_test (lowering p b) in
+    let o = value_of a m w.readings in
+    let right = value_of b m in
+    by_test w (sides_test op c d) _ (sides_are_truth op o right)
+    (subst (AgreesWithValue w (truth_pushed (sides_test op c d) w)) (sides_of_truth o op right)
+    (side_agrees op w c d o right (lowering_agrees p room a m w apart even fits.0 h).test
+    (λ left. let u : WordState = record w { readings = left } in
+    from_left w left (truth_pushed d u) (truth_of (right left)) (lowering_agrees p room b m u apart even fits.1 h).test)))
+
+pub expressions_agree : ExpressionsAgree
+expressions_agree p room e m w apart even fits h = (lowering_agrees p room e m w apart even fits h).word
+
+pub tests_agree : TestsAgree
+tests_agree p room e m w apart even fits h =
+    value_done w (truth_pushed (lowered_test p e) w) (truth_of (value_of e m w.readings)) (lowering_agrees p room e m w apart even fits h).test

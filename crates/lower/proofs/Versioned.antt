@@ -1,7 +1,9 @@
 -- A store to an element: to its copy, and the first time in an attempt to its version word and to the commit list.
-use Rattle.std.proofs.Common.{◌≡◌, ℕ, zero, suc, ◌+◌, ◌*◌, ◌==◌, ◌<◌, ◌≤◌, List, [], ◌∷◌, ◌++◌, length, map, slice_get, Option, Some, Contains, All, true, refl, sym, ap, ◌∙◌, subst, arith, eq-eqb, ne_eqb, lt-ltb, le-ltb, ⊎_elim, if◌then◌else◌}
+use Rattle.std.proofs.Common.{◌≡◌, ℕ, zero, suc, ◌+◌, ◌*◌, ◌==◌, ◌<◌, ◌≤◌, List, [], ◌∷◌, ◌++◌, length, map, slice_get, Option, Some, Contains, All, true}
+use Rattle.std.proofs.Common.{refl, sym, ap, ◌∙◌, subst, arith, eq-eqb, ne_eqb, lt-ltb, le-ltb, ⊎_elim, if◌then◌else◌}
 use Rattle.std.proofs.lemmas.List.{map-append}
-use Rattle.std.proofs.lemmas.List.Elements.{All-append, All-map, All-weaker, Contains-append_left, Contains-append_right, Contains-append_cases, Contains-get_or}
+use Rattle.std.proofs.lemmas.List.Elements.{All-append, All-map, All-weaker, Contains-append_left, Contains-append_right, Contains-append_cases}
+use Rattle.std.proofs.lemmas.List.Elements.{Contains-get_or}
 use Rattle.std.proofs.lemmas.List.Quantifiers.{all_pairs_push}
 use Rattle.array_versions.specs.fram_board.Effects.{Effect, Store}
 use Rattle.array_versions.specs.machine_effects.World.{put}
@@ -10,7 +12,8 @@ use Rattle.task_ast.specs.declared.names.Variable.TheVariants.{Shared}
 use Rattle.source_values.specs.Values.{Variables, word_at, with_word}
 use Rattle.array_versions.specs.declared.program.ArrayPlace.{ArrayPlace}
 use Rattle.array_versions.specs.declared.program.ListPlace.{ListPlace}
-use Rattle.array_versions.specs.Behaviour.{WordState, Behaviour, goes_on, behind_effects, is_place, at_place, stored, word_listed, first_stored, own_stored, versioned_stored}
+use Rattle.array_versions.specs.Behaviour.{WordState, Behaviour, goes_on, behind_effects, is_place, at_place, stored, word_listed, first_stored, own_stored}
+use Rattle.array_versions.specs.Behaviour.{versioned_stored}
 use Rattle.lower.specs.Spots.{Room, AreApart, AreDifferent, AreListed, listed_of}
 use Rattle.lower.specs.Agreement.{own_word, HoldVariables, element_pair, HoldList}
 use Rattle.lower.proofs.Addresses.{placed, has_element, copy_is, version_is, no_scalar, same_element, same_or_not}
@@ -21,7 +24,8 @@ use Rattle.lower.proofs.Lists.{HaveWords, HasNext, IsElse}
 use Rattle.memory_map.specs.MemoryMap.{word_place}
 use Rattle.memory_map.specs.declared.words.RuntimeWord.TheVariants.{ListLength, EmitCount, Version}
 use Rattle.memory_map.specs.declared.place.VariablePlace.TheVariants.{Array}
-use Rattle.memory_map.specs.Spots.{Places, address_of, IsScalarAt, Element, IsElement, IsCopied, Spot, scalar, element, copy, version, IsSpot, copy_address, version_address, spot_address}
+use Rattle.memory_map.specs.Spots.{Places, address_of, IsScalarAt, Element, IsElement, IsCopied, Spot, scalar, element, copy, version, IsSpot, copy_address}
+use Rattle.memory_map.specs.Spots.{version_address, spot_address}
 
 -- ---- what the step does
 

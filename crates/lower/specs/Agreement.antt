@@ -1,6 +1,7 @@
 -- What it is that a word program does what the source does: the state that it works on stands for an attempt of the task, and its end
 -- for the outcome.
-use Rattle.std.specs.Prelude.{◌≡◌, ℕ, ◌+◌, ◌*◌, ◌%◌, ◌<◌, ◌≤◌, ◌==◌, Bool, true, if◌then◌else◌, Contains, List, [], ◌∷◌, ◌++◌, length, map, Option, Some, None, slice_get, slice_index, slice_index_or}
+use Rattle.std.specs.Prelude.{◌≡◌, ℕ, ◌+◌, ◌*◌, ◌%◌, ◌<◌, ◌≤◌, ◌==◌, Bool, true, if◌then◌else◌, Contains, List, [], ◌∷◌, ◌++◌, length, map, Option}
+use Rattle.std.specs.Prelude.{Some, None, slice_get, slice_index, slice_index_or}
 use Rattle.array_versions.specs.fram_board.Effects.{Effect, Store, Take, Send}
 use Rattle.array_versions.specs.machine_effects.World.{fram_after}
 use Rattle.task_ast.specs.Tree as t
@@ -8,7 +9,8 @@ use Rattle.task_ast.specs.Paths.{CheckedExpression, CheckedStatement, CheckedCho
 use Rattle.task_ast.specs.declared.names.Variable.{Variable}
 use Rattle.task_ast.specs.declared.names.Variable.TheVariants.{Shared, Local}
 use Rattle.path_sums.specs.Reaches.{statement_falls_through}
-use Rattle.source_values.specs.Values.{Variables, word_at, value_of}
+use Rattle.array_versions.specs.alp_words.Words.{bit}
+use Rattle.source_values.specs.Values.{◌>>?◌, Variables, word_at, holds, value_of}
 use Rattle.source_values.specs.Statements.{Attempt, Outcome, goes_on, to_task, short, run_block, block_emits}
 use Rattle.array_versions.specs.Behaviour.{WordState, End, GoesOn, Jumps, Short, Strays, Broken, Behaviour, behaviour}
 use Rattle.cost_bound.specs.Counts.{stores_of}
@@ -17,12 +19,14 @@ use Rattle.memory_map.specs.declared.words.RuntimeWord.TheVariants.{NextTask, Ga
 use Rattle.memory_map.specs.declared.place.ArrayCopies.{ArrayCopies}
 use Rattle.memory_map.specs.declared.place.VariablePlace.{VariablePlace}
 use Rattle.memory_map.specs.declared.place.VariablePlace.TheVariants.{Scalar, Array}
-use Rattle.memory_map.specs.Spots.{Places, address_of, IsScalarAt, IsArrayAt, Element, IsElement, IsCopied, element_address, copy_address, version_address}
+use Rattle.memory_map.specs.Spots.{Places, address_of, IsScalarAt, IsArrayAt, Element, IsElement, IsCopied, element_address, copy_address}
+use Rattle.memory_map.specs.Spots.{version_address}
 use Rattle.lower.specs.Spots.{Room, AreApart, AreEven, listed_of, AreListed, HasRoom}
 use Rattle.runtime_effects.specs.Places.{CopyPair, entries_from}
 use Rattle.lower.specs.declared.runs.Run.{Run}
 use Rattle.lower.specs.Runs.{runs_of}
-use Rattle.lower.specs.Lowered.{lowered_expression, lowered_block}
+use Rattle.array_versions.specs.Program.{truth}
+use Rattle.lower.specs.Lowered.{one, lowered_expression, lowered_test, lowered_block}
 
 -- ---- what is asked of a tree: each name is used as it was declared
 
@@ -196,6 +200,20 @@ abbrev pub ExpressionsAgree : Type 0
 ExpressionsAgree = (p : Places) (room : Room) (e : CheckedExpression) (m : Variables) (w : WordState) → AreApart p room → AreEven p
     → ExpressionFits p e → HoldVariables p m w.fram w.locals
     → AgreesWithValue w (behaviour (lowered_expression p e) w) (value_of e m w.readings)
+
+-- a value as 1 where it isn't 0, else 0
+abbrev pub truth_value : ℕ × List ℕ → Option (ℕ × List ℕ)
+truth_value x = Some (bit (holds x.0), x.1)
+
+-- the same of a value, if there is one
+abbrev pub truth_of : Option (ℕ × List ℕ) → Option (ℕ × List ℕ)
+truth_of o = o >>? truth_value
+
+-- the test of an expression holds where its value isn't 0
+abbrev pub TestsAgree : Type 0
+TestsAgree = (p : Places) (room : Room) (e : CheckedExpression) (m : Variables) (w : WordState) → AreApart p room → AreEven p
+    → ExpressionFits p e → HoldVariables p m w.fram w.locals
+    → AgreesWithValue w (behaviour (one (truth (lowered_test p e))) w) (truth_of (value_of e m w.readings))
 
 -- ---- statements
 

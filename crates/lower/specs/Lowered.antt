@@ -3,6 +3,8 @@ use Rattle.std.specs.Prelude.{ℕ, ◌%◌, List, [], ◌∷◌, Option, Some, N
 use Rattle.task_ast.specs.Tree as t
 use Rattle.task_ast.specs.Tree.{Task}
 use Rattle.task_ast.specs.Paths.{CheckedExpression, CheckedStatement, CheckedChoice, CheckedBlock}
+use Rattle.task_ast.specs.declared.UnaryOperator.{UnaryOperator}
+use Rattle.task_ast.specs.declared.UnaryOperator.TheVariants as unary_operator
 use Rattle.task_ast.specs.declared.ShortCircuitOperator.{ShortCircuitOperator}
 use Rattle.task_ast.specs.declared.ShortCircuitOperator.TheVariants.{And as BothHold, Or as OneHolds}
 use Rattle.task_ast.specs.declared.names.Variable.{Variable}
@@ -11,8 +13,14 @@ use Rattle.task_ast.specs.declared.names.VariableName.{VariableName}
 use Rattle.task_ast.specs.declared.names.TaskName.{TaskName}
 use Rattle.source_values.specs.Values.{joined_type, type_of}
 use Rattle.source_values.specs.Runs.{CheckedProgram}
-use Rattle.array_versions.specs.declared.operations.UnaryOperation.TheVariants.{Truth}
-use Rattle.array_versions.specs.Program.{Step, Program, number, load, keep, local, set_local, unary, binary, shift, element, emit_word, list_entry, sense, choose, repeat, versioned_read, versioned_write, store_number, move_word, jump, nothing, step, joined, behind}
+use Rattle.array_versions.specs.declared.operations.UnaryOperation.TheVariants.{Negate, Complement}
+use Rattle.array_versions.specs.declared.operations.BinaryOperation.TheVariants.{And}
+use Rattle.array_versions.specs.declared.operations.Comparison.TheVariants.{CommonBit}
+use Rattle.array_versions.specs.Program.{Step, Test, Program, number, load, keep, local, set_local, unary, binary, shift, element, emit_word}
+use Rattle.array_versions.specs.Program.{list_entry, sense}
+use Rattle.array_versions.specs.Program.{truth, choose, repeat, versioned_read, versioned_write, store_number, move_word, jump, holds, compares}
+use Rattle.array_versions.specs.Program.{both, either}
+use Rattle.array_versions.specs.Program.{fails, nothing, step, joined, behind}
 use Rattle.array_versions.specs.declared.program.ArrayPlace.{ArrayPlace}
 use Rattle.array_versions.specs.declared.program.ListPlace.{ListPlace}
 use Rattle.memory_map.specs.declared.words.RuntimeWord.TheVariants.{NextTask, Gate, ListLength, EmitCount, Base, SentBase, Version}
@@ -24,7 +32,9 @@ use Rattle.memory_map.specs.Spots.{Places, places_of, address_of}
 use Rattle.lower.specs.declared.runs.Run.{Run}
 use Rattle.lower.specs.Runs.{runs_of}
 use Rattle.lower.specs.Seen.{map_seen}
-use Rattle.lower.specs.Operations.{unary_operation, binary_operation, shift_operation}
+use Rattle.lower.specs.declared.operations.BinaryMeaning.{BinaryMeaning}
+use Rattle.lower.specs.declared.operations.BinaryMeaning.TheVariants.{Calculates, CommonBits, Holds, Fails}
+use Rattle.lower.specs.Operations.{binary_meaning, shift_operation}
 
 -- a program of one step
 abbrev pub one : Step → Program
@@ -77,32 +87,62 @@ abbrev pub store_step : Places → Variable → Step
 store_step p (Shared v) = versioned_write (written_array (slice_get p.map.variables v)) (list_place p)
 store_step p (Local n) = versioned_write no_array (list_place p)
 
--- what `&&` or `||` gives where the left side settles it
-abbrev pub settled_program : ShortCircuitOperator → Program
-settled_program BothHold = one (number 0)
-settled_program OneHolds = one (number 1)
+-- what an expression comes to: a program that leaves its value on top of the stack; a test, its value being 1 where the test holds and else
+-- 0; or a program that leaves two words, its value being the bits that are 1 in both
+pub data Lowering : Type 0 where
+  as_word : Program → Lowering
+  as_test : Test → Lowering
+  as_bits : Program → Lowering
 
--- where the left side leaves it open: 1 where the right side isn't 0
-abbrev pub evaluated_side : Program → Program
-evaluated_side right = behind right (unary Truth)
+-- the program that leaves the value on top of the stack
+abbrev pub word_program : Lowering → Program
+word_program (as_word q) = q
+word_program (as_test c) = one (truth c)
+word_program (as_bits q) = behind q (binary And)
 
--- pops the left side of `&&` or `||`; this is done where it leaves the result open
-abbrev pub lowered_choice_of_sides : ShortCircuitOperator → Program → Step
-lowered_choice_of_sides BothHold right = choose right (settled_program BothHold)
-lowered_choice_of_sides OneHolds right = choose (settled_program OneHolds) right
+-- the test that the value isn't 0
+abbrev pub value_test : Lowering → Test
+value_test (as_word q) = holds q
+value_test (as_test c) = c
+value_test (as_bits q) = compares CommonBit q
 
--- an expression's value, on top of the stack: the parts from left to right, then the operation by their types
+-- an operator in front: `!` is a test
+abbrev pub unary_lowering : UnaryOperator → Lowering → Lowering
+unary_lowering unary_operator.Negate l = as_word (behind (word_program l) (unary Negate))
+unary_lowering unary_operator.Complement l = as_word (behind (word_program l) (unary Complement))
+unary_lowering unary_operator.Not l = as_test (fails (value_test l))
+
+-- an operator of two sides, behind the program of both
+abbrev pub binary_lowering : BinaryMeaning → Program → Lowering
+binary_lowering (Calculates op) sides = as_word (behind sides (binary op))
+binary_lowering CommonBits sides = as_bits sides
+binary_lowering (Holds c) sides = as_test (compares c sides)
+binary_lowering (Fails c) sides = as_test (fails (compares c sides))
+
+-- `&&` and `||` as tests
+abbrev pub sides_test : ShortCircuitOperator → Test → Test → Test
+sides_test BothHold c d = both c d
+sides_test OneHolds c d = either c d
+
+-- an expression: the parts from left to right, then the operation by their types
+abbrev pub lowering : Places → CheckedExpression → Lowering
+lowering p (t.number w) = as_word (one (number w))
+lowering p (t.name x) = as_word (one (read_step p x.variable))
+lowering p (t.element x index) = as_word (behind (word_program (lowering p index)) (element_step p x.variable))
+lowering p t.sense = as_word (one sense)
+lowering p (t.unary op e) = unary_lowering op (lowering p e)
+lowering p (t.binary op a b) =
+    binary_lowering (binary_meaning op (joined_type (type_of a) (type_of b))) (joined (word_program (lowering p a)) (word_program (lowering p b)))
+lowering p (t.shift op e count) = as_word (behind (word_program (lowering p e)) (shift (shift_operation op (type_of e)) count.value))
+lowering p (t.short_circuit op a b) = as_test (sides_test op (value_test (lowering p a)) (value_test (lowering p b)))
+
+-- an expression's value, on top of the stack
 abbrev pub lowered_expression : Places → CheckedExpression → Program
-lowered_expression p (t.number w) = one (number w)
-lowered_expression p (t.name x) = one (read_step p x.variable)
-lowered_expression p (t.element x index) = behind (lowered_expression p index) (element_step p x.variable)
-lowered_expression p t.sense = one sense
-lowered_expression p (t.unary op e) = behind (lowered_expression p e) (unary (unary_operation op))
-lowered_expression p (t.binary op a b) =
-    behind (joined (lowered_expression p a) (lowered_expression p b)) (binary (binary_operation op (joined_type (type_of a) (type_of b))))
-lowered_expression p (t.shift op e count) = behind (lowered_expression p e) (shift (shift_operation op (type_of e)) count.value)
-lowered_expression p (t.short_circuit op a b) =
-    behind (lowered_expression p a) (lowered_choice_of_sides op (evaluated_side (lowered_expression p b)))
+lowered_expression p e = word_program (lowering p e)
+
+-- the test that an expression's value isn't 0
+abbrev pub lowered_test : Places → CheckedExpression → Test
+lowered_test p e = value_test (lowering p e)
 
 -- sets a variable to an expression's value
 abbrev pub assignment : Places → Variable → CheckedExpression → Program
@@ -155,7 +195,7 @@ abbrev mutual
   pub lowered_choice : Places → CheckedChoice → Program
   lowered_choice p t.nothing = nothing
   lowered_choice p (t.otherwise block) = lowered_block p block
-  lowered_choice p (t.test e block more) = behind (lowered_expression p e) (choose (lowered_block p block) (lowered_choice p more))
+  lowered_choice p (t.test e block more) = one (choose (lowered_test p e) (lowered_block p block) (lowered_choice p more))
 
   -- statements one after another
   pub lowered_block : Places → CheckedBlock → Program

@@ -9,11 +9,12 @@ use Rattle.lower.specs.Lowered.{lowered_expression, lowered_block}
 
 -- the words of statements' code, in a task with at most so many private scalars
 abbrev pub BlocksKeepToWords : Type 0
-BlocksKeepToWords = (p : Places) (scalars : ℕ) (block : CheckedBlock) → length p.privates ≤ scalars → words_of (lowered_block p block) ≤ block_price (words_column scalars) block
+BlocksKeepToWords = (p : Places) (scalars : ℕ) (block : CheckedBlock) → length p.privates ≤ scalars
+    → words_of (lowered_block p block) ≤ block_price (words_column scalars) block
 
--- the cycles of an expression, with 8 to spare: an `if` chooses within what its conditions have
+-- the cycles of an expression, with 11 to spare: a test has them
 abbrev pub ExpressionsKeepToCycles : Type 0
-ExpressionsKeepToCycles = (p : Places) (e : CheckedExpression) → cycles_of (lowered_expression p e) + 8 ≤ expression_price cycles_column e
+ExpressionsKeepToCycles = (p : Places) (e : CheckedExpression) → cycles_of (lowered_expression p e) + 11 ≤ expression_price cycles_column e
 
 -- what the entries of the private scalars take at most where a task leaves, 26 cycles for each
 abbrev pub entry_cycles : Places → End → ℕ

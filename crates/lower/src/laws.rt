@@ -1,12 +1,17 @@
 //! Laws of the word programs of a source. The functions do nothing: their contracts are the laws.
 
-ghost use Rattle.lower.specs.Agreement.{ExpressionsAgree, BlocksAgree};
+ghost use Rattle.lower.specs.Agreement.{ExpressionsAgree, TestsAgree, BlocksAgree};
 ghost use Rattle.lower.specs.Sizes.{BlocksKeepToWords, BlocksKeepToCycles, ExpressionsKeepToCycles};
 
 /// The program of an expression takes readings alone, and leaves the expression's value on top of the stack, with the
 /// readings left as the expression leaves them. It is short exactly where the expression is.
 pub fn expressions_agree()
     ensures { ExpressionsAgree }
+{}
+
+/// The test of an expression does the same, and holds exactly where the expression's value isn't 0.
+pub fn tests_agree()
+    ensures { TestsAgree }
 {}
 
 /// The program of statements does what they do: it goes on with the same words of the variables, with the words that they
@@ -22,7 +27,7 @@ pub fn statements_keep_to_words()
     ensures { BlocksKeepToWords }
 {}
 
-/// The code of an expression takes no more cycles than the allowance has for it, with 8 to spare.
+/// The code of an expression takes no more cycles than the allowance has for it, with 11 to spare.
 #[tactic(auto, using(crate::proofs::Sizes::expression_cycles))]
 pub fn expressions_keep_to_cycles()
     ensures { ExpressionsKeepToCycles }

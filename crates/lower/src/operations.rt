@@ -1,52 +1,62 @@
 //! The operations on words that the operators of a source stand for.
 ghost use Rattle.std.specs.Prelude.{◌≡◌};
-ghost use Rattle.lower.specs.Operations.{unary_operation, binary_operation, shift_operation};
+ghost use Rattle.lower.specs.Operations.{below, above, binary_meaning, shift_operation};
 
-use array_versions::{BinaryOperation, ShiftOperation, UnaryOperation};
-use task_ast::{BinaryOperator, ShiftOperator, UnaryOperator, WordType};
+use array_versions::{BinaryOperation, Comparison, ShiftOperation};
+use task_ast::{BinaryOperator, ShiftOperator, WordType};
 
-pub fn unary_operation(op: UnaryOperator) -> UnaryOperation
-    ensures { result ≡ unary_operation op }
+/// What an operator gives of the words of its two sides.
+#[derive(Clone, Copy, Debug, PartialEq, Eq)]
+pub enum BinaryMeaning {
+    /// What an operation gives.
+    Calculates(BinaryOperation),
+    /// The bits that are 1 in both.
+    CommonBits,
+    /// 1 where a comparison holds, else 0.
+    Holds(Comparison),
+    /// 0 where a comparison holds, else 1.
+    Fails(Comparison),
+}
+
+// Whether one word is below another, by their joined type: as signed words where both are ints.
+fn below(word_type: WordType) -> Comparison
+    ensures { result ≡ below word_type }
 {
-    match op {
-        UnaryOperator::Negate => UnaryOperation::Negate,
-        UnaryOperator::Complement => UnaryOperation::Complement,
-        UnaryOperator::Not => UnaryOperation::Not,
+    match word_type {
+        WordType::Int => Comparison::SignedBelow,
+        WordType::Unsigned => Comparison::Below,
     }
 }
 
-// A comparison of words whose joined type is unsigned, or an operation that doesn't look at signs.
-fn unsigned_operation(op: BinaryOperator) -> BinaryOperation
-    ensures { result ≡ binary_operation op WordType.Unsigned }
+// The same of above.
+fn above(word_type: WordType) -> Comparison
+    ensures { result ≡ above word_type }
 {
-    match op {
-        BinaryOperator::Multiply => BinaryOperation::Multiply,
-        BinaryOperator::Divide => BinaryOperation::Divide,
-        BinaryOperator::Remainder => BinaryOperation::Remainder,
-        BinaryOperator::Add => BinaryOperation::Add,
-        BinaryOperator::Subtract => BinaryOperation::Subtract,
-        BinaryOperator::Less => BinaryOperation::Below,
-        BinaryOperator::LessEqual => BinaryOperation::AtMost,
-        BinaryOperator::Greater => BinaryOperation::Above,
-        BinaryOperator::GreaterEqual => BinaryOperation::AtLeast,
-        BinaryOperator::Equal => BinaryOperation::Equal,
-        BinaryOperator::NotEqual => BinaryOperation::NotEqual,
-        BinaryOperator::And => BinaryOperation::And,
-        BinaryOperator::Xor => BinaryOperation::Xor,
-        BinaryOperator::Or => BinaryOperation::Or,
+    match word_type {
+        WordType::Int => Comparison::SignedAbove,
+        WordType::Unsigned => Comparison::Above,
     }
 }
 
-/// The operation for operands of this joined type: an order is signed where both are ints.
-pub fn binary_operation(op: BinaryOperator, word_type: WordType) -> BinaryOperation
-    ensures { result ≡ binary_operation op word_type }
+/// What an operator gives of two words of this joined type.
+pub fn binary_meaning(op: BinaryOperator, word_type: WordType) -> BinaryMeaning
+    ensures { result ≡ binary_meaning op word_type }
 {
-    match (op, word_type) {
-        (BinaryOperator::Less, WordType::Int) => BinaryOperation::SignedBelow,
-        (BinaryOperator::LessEqual, WordType::Int) => BinaryOperation::SignedAtMost,
-        (BinaryOperator::Greater, WordType::Int) => BinaryOperation::SignedAbove,
-        (BinaryOperator::GreaterEqual, WordType::Int) => BinaryOperation::SignedAtLeast,
-        _ => unsigned_operation(op),
+    match op {
+        BinaryOperator::Multiply => BinaryMeaning::Calculates(BinaryOperation::Multiply),
+        BinaryOperator::Divide => BinaryMeaning::Calculates(BinaryOperation::Divide),
+        BinaryOperator::Remainder => BinaryMeaning::Calculates(BinaryOperation::Remainder),
+        BinaryOperator::Add => BinaryMeaning::Calculates(BinaryOperation::Add),
+        BinaryOperator::Subtract => BinaryMeaning::Calculates(BinaryOperation::Subtract),
+        BinaryOperator::Less => BinaryMeaning::Holds(below(word_type)),
+        BinaryOperator::LessEqual => BinaryMeaning::Fails(above(word_type)),
+        BinaryOperator::Greater => BinaryMeaning::Holds(above(word_type)),
+        BinaryOperator::GreaterEqual => BinaryMeaning::Fails(below(word_type)),
+        BinaryOperator::Equal => BinaryMeaning::Holds(Comparison::Equal),
+        BinaryOperator::NotEqual => BinaryMeaning::Fails(Comparison::Equal),
+        BinaryOperator::And => BinaryMeaning::CommonBits,
+        BinaryOperator::Xor => BinaryMeaning::Calculates(BinaryOperation::Xor),
+        BinaryOperator::Or => BinaryMeaning::Calculates(BinaryOperation::Or),
     }
 }
 

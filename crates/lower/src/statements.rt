@@ -8,9 +8,10 @@ ghost use Rattle.task_ast.specs.View.{expression_of, statement_of, tested_of, bl
 ghost use Rattle.task_ast.specs.declared.names.VariableName.{VariableName};
 ghost use Rattle.task_ast.specs.declared.names.TaskName.{TaskName};
 ghost use Rattle.lower.specs.View.{places_in};
-ghost use Rattle.lower.specs.Lowered.{write_step, loop_local, lowered_expression, store_step, assignment, element_assignment, declaration, emission, lowered_transition, lowered_statement, lowered_choice, lowered_block};
+ghost use Rattle.lower.specs.Lowered.{one, write_step, loop_local, lowered_test, store_step, assignment, element_assignment, declaration, emission};
+ghost use Rattle.lower.specs.Lowered.{lowered_transition, lowered_statement, lowered_choice, lowered_block};
 
-use crate::expressions::lower_expression;
+use crate::expressions::{append, lower_expression, lower_test};
 use crate::places::{TaskPlaces, local_number, no_array, written_array};
 use crate::runs::list_entries;
 use array_versions::WordProgram;
@@ -43,7 +44,7 @@ fn assign(
     ensures { OnOk result (program_of program.new
         ≡ joined (program_of program.old) (assignment (places_in places.now) variable (expression_of e.now))) }
 {
-    let _ = lower_expression(alloc, e, places, program)?;
+    append(program, lower_expression(alloc, e, places)?)?;
     write(variable, places, program)
 }
 
@@ -77,8 +78,8 @@ fn store(
     ensures { OnOk result (program_of program.new ≡ joined (program_of program.old)
         (element_assignment (places_in places.now) variable (expression_of index.now) (expression_of e.now))) }
 {
-    let _ = lower_expression(alloc, index, places, program)?;
-    let _ = lower_expression(alloc, e, places, program)?;
+    append(program, lower_expression(alloc, index, places)?)?;
+    append(program, lower_expression(alloc, e, places)?)?;
     store_element(variable, places, program)
 }
 
@@ -110,7 +111,7 @@ fn emit(
     ensures { OnOk result (program_of program.new
         ≡ joined (program_of program.old) (emission (places_in places.now) (expression_of e.now))) }
 {
-    let _ = lower_expression(alloc, e, places, program)?;
+    append(program, lower_expression(alloc, e, places)?)?;
     let layout = places.layout;
     let emit_count = layout.word_place(RuntimeWord::EmitCount);
     program.emit_word(emit_count, layout.emits().address)
@@ -147,14 +148,6 @@ fn lower_transition(
     program.move_word(base, sent_base)?;
     program.store_number(gate, 1)?;
     program.jump(layout.commit().address)
-}
-
-// Puts a program behind another.
-#[tactic(auto, using(crate::proofs::Chains::steps_of_joined))]
-fn append(program: &mut WordProgram, mut more: WordProgram) -> Result<(), AllocError>
-    ensures { OnOk result (program_of program.new ≡ joined (program_of program.old) (program_of more)) }
-{
-    program.steps.append(&mut more.steps)
 }
 
 #[cycle(lower)]
@@ -207,14 +200,14 @@ fn lower_arm(
     otherwise: WordProgram,
     places: &TaskPlaces<'_>,
 ) -> Result<WordProgram, AllocError>
-    ensures { IfOk result (λ p. program_of p ≡ behind (lowered_expression (places_in places.now) (tested_of arm.now).condition)
-        (choose (lowered_block (places_in places.now) (tested_of arm.now).block) (program_of otherwise))) }
+    ensures { IfOk result (λ p. program_of p ≡ one (choose (lowered_test (places_in places.now) (tested_of arm.now).condition)
+        (lowered_block (places_in places.now) (tested_of arm.now).block) (program_of otherwise))) }
 {
-    let mut program = WordProgram::new(alloc);
-    let _ = lower_expression(alloc, &arm.condition, places, &mut program)?;
+    let test = lower_test(alloc, &arm.condition, places)?;
     let mut taken = WordProgram::new(alloc);
     lower_block(alloc, &arm.block, places, &mut taken)?;
-    program.choose(taken, otherwise)?;
+    let mut program = WordProgram::new(alloc);
+    program.choose(test, taken, otherwise)?;
     Ok(program)
 }
 

@@ -17,5 +17,6 @@ lower_block-loop-statement-preserved t c =
 
 pub lower_block-returns : goal.lower_block-returns
 lower_block-returns t c =
-    sym (block_end (places_in c.args.places.now) c.args.body.now c.loop-statement.statement-index (program_of c.loop-statement.program) c.loop-statement-test.false)
+    sym (block_end (places_in c.args.places.now) c.args.body.now c.loop-statement.statement-index (program_of c.loop-statement.program)
+    c.loop-statement-test.false)
     ∙ c.loop-statement.invariant

@@ -1,0 +1,5 @@
+use Rattle.lower.proofs.Values.{tests_agree}
+use Rattle.lower.proofs.laws.tests_agree.Goals as goal
+
+pub returns : goal.returns
+returns c = tests_agree
