@@ -1,28 +1,62 @@
 -- Code that is appended piece by piece.
-use Rattle.std.proofs.Common.{◌≡◌, ℕ, suc, ◌+◌, ◌-◌, ◌*◌, ◌<◌, ◌≤◌, List, [], ◌∷◌, ◌++◌, length, drop, get_or, sym, ap, ◌∙◌, arith, append_assoc, drop-cons}
-use Rattle.std.proofs.Common.{add-one, rules}
+use Rattle.std.proofs.Common.{◌≡◌, ℕ, suc, ◌+◌, ◌-◌, ◌*◌, ◌<◌, ◌≤◌, List, [], ◌∷◌, ◌++◌, length, drop, get_or, sym, ap, ◌∙◌, arith, append_assoc}
+use Rattle.std.proofs.Common.{drop-cons}
+use Rattle.std.proofs.Common.{add-one, rules, Result}
+use Rattle.std.specs.Result.{OnOk}
+use Rattle.std.proofs.lemmas.Result.{on_ok_weaker}
 use Rattle.msp_isa.specs.alp_words.declared.Width.TheVariants.{Word}
 use Rattle.msp_isa.specs.declared.instructions.Instr.{Instr}
 use Rattle.msp_isa.specs.declared.instructions.Instr.TheVariants.{Two}
 use Rattle.msp_isa.specs.declared.instructions.TwoOp.{TwoOp}
 use Rattle.msp_isa.specs.declared.operands.Src.{Src}
 use Rattle.msp_isa.specs.declared.operands.Dst.{Dst}
-use Rattle.code_forms.specs.Forms.{R4, Form, Branch, instruction_of}
+use Rattle.code_forms.specs.Forms.{R4, Form, instruction_of}
 use Rattle.code_forms.specs.Placed.{instructions}
-use Rattle.std.specs.declared.alloc.Global.{Global}
-use Rattle.std.specs.declared.vec.Vec.{Vec}
 use Rattle.code_forms.proofs.Interface.{instructions-append}
+use Rattle.std.specs.declared.alloc.Global.{Global}
+use Rattle.std.specs.declared.boxed.Box.{Box}
+use Rattle.std.specs.declared.vec.Vec.{Vec}
+use Rattle.array_versions.specs.declared.operations.Comparison.{Comparison}
+use Rattle.array_versions.specs.declared.program.ArrayPlace.{ArrayPlace}
+use Rattle.array_versions.specs.declared.program.ListPlace.{ListPlace}
 use Rattle.array_versions.specs.declared.program.WordStep.{WordStep, the_lemmas}
-use Rattle.array_versions.specs.declared.program.WordStep.TheVariants.{Choose}
-use Rattle.array_versions.specs.Program.{Step, Program, number, load, keep, local, set_local, unary, binary, shift, element, emit_word, list_entry}
-use Rattle.array_versions.specs.Program.{versioned_read, versioned_write, sense, choose, repeat, store_number, move_word, jump, nothing, step}
-use Rattle.array_versions.specs.View.{step_of, steps_of}
-use Rattle.array_versions.specs.Form.{StepLocalsBelow, LocalsBelow}
-use Rattle.array_versions.specs.Cost.{step_words, words_of}
-use Rattle.codegen.specs.Code.{pop_to, push_from, repeated, shift_code, choice_head, loop_head, loop_step, step_code, code_of}
+use Rattle.array_versions.specs.declared.program.WordStep.TheVariants.{VersionedRead, VersionedWrite, Choose}
+use Rattle.array_versions.specs.declared.program.WordTest.{WordTest}
+use Rattle.array_versions.specs.declared.program.WordTest.TheVariants.{Holds, Compares, Both, Either}
+use Rattle.array_versions.specs.Program.{Step, Test, Program, number, load, keep, local, set_local, unary, binary, shift, element, emit_word}
+use Rattle.array_versions.specs.Program.{list_entry}
+use Rattle.array_versions.specs.Program.{versioned_read, versioned_write, sense, truth, choose, repeat, store_number, move_word, jump, holds}
+use Rattle.array_versions.specs.Program.{compares}
+use Rattle.array_versions.specs.Program.{both, either, fails, nothing, step}
+use Rattle.array_versions.specs.View.{step_of, steps_of, test_of}
+use Rattle.array_versions.specs.Form.{StepLocalsBelow, TestLocalsBelow, LocalsBelow}
+use Rattle.array_versions.specs.Cost.{step_words}
+use Rattle.codegen.specs.Code.{pop_to, push_from, repeated, shift_code, step_code, code_of}
 
-pub step_of-choose : (a b : Vec WordStep Global) → step_of (Choose a b) ≡ choose (steps_of a.items) (steps_of b.items)
-step_of-choose a b = search (rules, the_lemmas)
+-- ---- one level of a step and of a test
+
+pub step_of-read : (place : ArrayPlace) (list : ListPlace) → step_of (VersionedRead place list) ≡ versioned_read place list
+step_of-read place list = search (rules, the_lemmas)
+
+pub step_of-write : (place : ArrayPlace) (list : ListPlace) → step_of (VersionedWrite place list) ≡ versioned_write place list
+step_of-write place list = search (rules, the_lemmas)
+
+pub step_of-choose : (t : WordTest) (p q : Vec WordStep Global) → step_of (Choose t p q) ≡ choose (test_of t) (steps_of p.items) (steps_of q.items)
+step_of-choose t p q = search (rules, the_lemmas)
+
+pub test_of-holds : (p : Vec WordStep Global) → test_of (Holds p) ≡ holds (steps_of p.items)
+test_of-holds p = search (rules, the_lemmas)
+
+pub test_of-compares : (c : Comparison) (p : Vec WordStep Global) → test_of (Compares c p) ≡ compares c (steps_of p.items)
+test_of-compares c p = search (rules, the_lemmas)
+
+pub test_of-both : (t u : Box WordTest Global) → test_of (Both t u) ≡ both (test_of t.value) (test_of u.value)
+test_of-both t u = search (rules, the_lemmas)
+
+pub test_of-either : (t u : Box WordTest Global) → test_of (Either t u) ≡ either (test_of t.value) (test_of u.value)
+test_of-either t u = search (rules, the_lemmas)
+
+-- ---- pieces
 
 -- the front of the list that is left
 pub left_front : (xs : List WordStep) (i : ℕ) (x : WordStep) → i < length xs → x ≡ get_or xs i x
@@ -61,23 +95,21 @@ six_behind l a b c d e f =
     append_assoc ((((l ++ a) ++ b) ++ c) ++ d) e f ∙ append_assoc (((l ++ a) ++ b) ++ c) d (e ++ f) ∙ append_assoc ((l ++ a) ++ b) c (d ++ (e ++ f))
     ∙ append_assoc (l ++ a) b (c ++ (d ++ (e ++ f))) ∙ append_assoc l a (b ++ (c ++ (d ++ (e ++ f))))
 
--- a choice from its pieces
-pub choice_emitted : (at middle end : ℕ) (p q : Program) (first second code new : List Instr) → first ≡ instructions (code_of (at + 10) p)
-    → second ≡ instructions (code_of (middle + 4) q) → middle ≡ at + 10 + 2 * words_of p → end ≡ middle + 4 + 2 * words_of q
-    → new ≡ code ++ (instructions (choice_head (middle + 4)) ++ (first ++ instruction_of (Branch end) ∷ second))
-    → new ≡ code ++ instructions (step_code at (choose p q))
-choice_emitted at middle end p q first second code new f s m n h =
-    let other = at + 14 + 2 * words_of p in
-    let k : middle + 4 ≡ other = omega (arith, m) in
-    let l : end ≡ other + 2 * words_of q = omega (arith, m, n) in
-    let A = code_of (at + 10) p in
-    let shape : ℕ → ℕ → List Instr = λ u v. instructions (choice_head u) ++ (instructions A ++ instruction_of (Branch v) ∷ instructions (code_of u q)) in
-    let i1 = instructions (choice_head (middle + 4)) in
-    h ∙ ap (λ x. code ++ (i1 ++ (x ++ instruction_of (Branch end) ∷ second))) f
-    ∙ ap (λ x. code ++ (i1 ++ (instructions A ++ instruction_of (Branch end) ∷ x))) s
-    ∙ ap (λ u. code ++ shape u end) k ∙ ap (λ v. code ++ shape other v) l
-    ∙ ap (λ r. code ++ (instructions (choice_head other) ++ r)) (sym (instructions-append A (Branch (other + 2 * words_of q) ∷ code_of other q)))
-    ∙ ap (λ r. code ++ r) (sym (instructions-append (choice_head other) (A ++ Branch (other + 2 * words_of q) ∷ code_of other q)))
+-- two parts, one behind the other
+pub two_behind : (code : List Instr) (a b : List Form) → (code ++ instructions a) ++ instructions b ≡ code ++ instructions (a ++ b)
+two_behind code a b = append_assoc code (instructions a) (instructions b) ∙ ap (λ l. code ++ l) (sym (instructions-append a b))
+
+-- three parts, one behind the other
+pub three_behind : (code : List Instr) (a b c : List Form)
+    → ((code ++ instructions a) ++ instructions b) ++ instructions c ≡ code ++ instructions (a ++ (b ++ c))
+three_behind code a b c = two_behind (code ++ instructions a) b c ∙ two_behind code a (b ++ c)
+
+-- the last part, where there was memory for it
+pub part_behind : {T E : Type 0} (r : Result T E) (code first new : List Instr) (a b c all : List Form) → first ≡ code ++ instructions a → b ≡ c
+    → a ++ c ≡ all → OnOk r (new ≡ first ++ instructions b) → OnOk r (new ≡ code ++ instructions all)
+part_behind r code first new a b c all f e is h =
+    on_ok_weaker r (λ (n : new ≡ first ++ instructions b). n ∙ ap (λ l. l ++ instructions b) f ∙ ap (λ m. (code ++ instructions a) ++ instructions m) e
+    ∙ two_behind code a c ∙ ap (λ m. code ++ instructions m) is) h
 
 -- a shift from its three pieces
 pub shift_emitted : (ms : List Form) (code c1 c2 c3 : List Instr) → c1 ≡ code ++ instruction_of (pop_to R4) ∷ [] → c2 ≡ c1 ++ instructions ms
@@ -89,30 +121,13 @@ shift_emitted ms code c1 c2 c3 a b c =
     ∙ append_assoc code first (instructions ms ++ last)
     ∙ ap (λ x. code ++ (first ++ x)) (sym (instructions-append ms (push_from R4 ∷ [])))
 
--- a loop from its three pieces
-pub loop_emitted : (at tail n from below : ℕ) (p : Program) (turn code c1 c2 c3 : List Instr) → turn ≡ instructions (code_of (at + 20) p)
-    → tail ≡ at + 20 + 2 * words_of p
-    → c1 ≡ code ++ instructions (loop_head n from below (tail + 14)) → c2 ≡ c1 ++ turn → c3 ≡ c2 ++ instructions (loop_step n (at + 6))
-    → c3 ≡ code ++ instructions (step_code at (repeat n from below p))
-loop_emitted at tail n from below p turn code c1 c2 c3 f m a b c =
-    let end = at + 34 + 2 * words_of p in
-    let k : tail + 14 ≡ end = omega (arith, m) in
-    let A = code_of (at + 20) p in
-    let last = loop_step n (at + 6) in
-    let i1 = instructions (loop_head n from below (tail + 14)) in
-    c ∙ ap (λ x. x ++ instructions last) (b ∙ ap (λ x. x ++ turn) a)
-    ∙ append_assoc (code ++ i1) turn (instructions last) ∙ append_assoc code i1 (turn ++ instructions last)
-    ∙ ap (λ x. code ++ (i1 ++ (x ++ instructions last))) f
-    ∙ ap (λ u. code ++ (instructions (loop_head n from below u) ++ (instructions A ++ instructions last))) k
-    ∙ ap (λ r. code ++ (instructions (loop_head n from below end) ++ r)) (sym (instructions-append A last))
-    ∙ ap (λ r. code ++ r) (sym (instructions-append (loop_head n from below end) (A ++ last)))
-
 -- more room for locals
 mutual
   step_locals_up : (a b : ℕ) (s : Step) → a ≤ b → StepLocalsBelow a s → StepLocalsBelow b s
   step_locals_up a b (local n) l h = omega (arith, h)
   step_locals_up a b (set_local n) l h = omega (arith, h)
-  step_locals_up a b (choose p q) l h = (locals_up a b p l h.0, locals_up a b q l h.1)
+  step_locals_up a b (truth c) l h = test_locals_up a b c l h
+  step_locals_up a b (choose c p q) l h = (test_locals_up a b c l h.0, locals_up a b p l h.1, locals_up a b q l h.2)
   step_locals_up a b (repeat n from below p) l h = (omega (arith, h.0), locals_up a b p l h.1)
   step_locals_up a b (number w) l h = tt
   step_locals_up a b (load w) l h = tt
@@ -129,6 +144,13 @@ mutual
   step_locals_up a b (store_number w x) l h = tt
   step_locals_up a b (move_word w x) l h = tt
   step_locals_up a b (jump w) l h = tt
+
+  test_locals_up : (a b : ℕ) (c : Test) → a ≤ b → TestLocalsBelow a c → TestLocalsBelow b c
+  test_locals_up a b (holds p) l h = locals_up a b p l h
+  test_locals_up a b (compares o p) l h = locals_up a b p l h
+  test_locals_up a b (both c d) l h = (test_locals_up a b c l h.0, test_locals_up a b d l h.1)
+  test_locals_up a b (either c d) l h = (test_locals_up a b c l h.0, test_locals_up a b d l h.1)
+  test_locals_up a b (fails c) l h = test_locals_up a b c l h
 
   pub locals_up : (a b : ℕ) (p : Program) → a ≤ b → LocalsBelow a p → LocalsBelow b p
   locals_up a b nothing l h = tt

@@ -36,7 +36,8 @@ OnGoesOn P Strays = Unit {0}
 OnGoesOn P Broken = Unit {0}
 
 -- more cycles allowed
-pub more_cycles : (z : Setting) (pc most more : ℕ) (u : Core) (es : List Effect) (e : End) → most ≤ more → FollowsEnd z pc most u es e → FollowsEnd z pc more u es e
+pub more_cycles : (z : Setting) (pc most more : ℕ) (u : Core) (es : List Effect) (e : End) → most ≤ more → FollowsEnd z pc most u es e
+    → FollowsEnd z pc more u es e
 more_cycles z pc most more u es (GoesOn w) l a = dearer z es most more u (StandsFor z pc w) l a
 more_cycles z pc most more u es (Jumps to w) l a = dearer z es most more u (HasJumped to w) l a
 more_cycles z pc most more u es Short l a = dearer_stall z es most more u l a
@@ -44,7 +45,8 @@ more_cycles z pc most more u es Strays l a = tt
 more_cycles z pc most more u es Broken l a = tt
 
 -- behind a stretch
-pub then_end : (z : Setting) (pc most more : ℕ) (u : Core) (P : Core → Type 0) (es fs : List Effect) (e : End) → Runs z.code es most u P → ((t : Core) → P t → FollowsEnd z pc more t fs e) → FollowsEnd z pc (most + more) u (es ++ fs) e
+pub then_end : (z : Setting) (pc most more : ℕ) (u : Core) (P : Core → Type 0) (es fs : List Effect) (e : End) → Runs z.code es most u P
+    → ((t : Core) → P t → FollowsEnd z pc more t fs e) → FollowsEnd z pc (most + more) u (es ++ fs) e
 then_end z pc most more u P es fs (GoesOn w) a b = runs_on z most more u P (StandsFor z pc w) es fs a b
 then_end z pc most more u P es fs (Jumps to w) a b = runs_on z most more u P (HasJumped to w) es fs a b
 then_end z pc most more u P es fs Short a b = starves_on z most more u P es fs a b
@@ -52,8 +54,10 @@ then_end z pc most more u P es fs Strays a b = tt
 then_end z pc most more u P es fs Broken a b = tt
 
 -- a part, and then what it goes on with, which costs by the state there
-pub then_way : (z : Setting) (pc pc' most : ℕ) (more : WordState → ℕ) (u : Core) (P : WordState → Type 0) (es : List Effect) (e : End) (go : WordState → Behaviour) → FollowsEnd z pc most u es e → OnGoesOn P e
-    → ((t : Core) (w : WordState) → P w → StandsFor z pc w t → Follows z pc' (more w) t (go w)) → Follows z pc' (most + spent_on e more) u (behind_effects es (on_end e go))
+pub then_way : (z : Setting) (pc pc' most : ℕ) (more : WordState → ℕ) (u : Core) (P : WordState → Type 0) (es : List Effect) (e : End)
+    (go : WordState → Behaviour) → FollowsEnd z pc most u es e → OnGoesOn P e
+    → ((t : Core) (w : WordState) → P w → StandsFor z pc w t → Follows z pc' (more w) t (go w))
+    → Follows z pc' (most + spent_on e more) u (behind_effects es (on_end e go))
 then_way z pc pc' most more u P es (GoesOn w) go a p b = then_end z pc' most (more w) u (StandsFor z pc w) es (go w).effects (go w).end a (λ t h. b t w p h)
 then_way z pc pc' most more u P es (Jumps to w) go a p b =
     subst (λ l. Runs z.code l (most + 0) u (HasJumped to w)) (sym (append-nil es)) (dearer z es most (most + 0) u (HasJumped to w) (omega arith) a)
@@ -63,9 +67,11 @@ then_way z pc pc' most more u P es Strays go a p b = tt
 then_way z pc pc' most more u P es Broken go a p b = tt
 
 -- one more stretch where the program goes on
-pub then_hop : (z : Setting) (pc pc' most more : ℕ) (u : Core) (es : List Effect) (e : End) → FollowsEnd z pc most u es e → ((t : Core) (w : WordState) → StandsFor z pc w t → Runs z.code [] more t (StandsFor z pc' w)) → FollowsEnd z pc' (most + more) u es e
+pub then_hop : (z : Setting) (pc pc' most more : ℕ) (u : Core) (es : List Effect) (e : End) → FollowsEnd z pc most u es e
+    → ((t : Core) (w : WordState) → StandsFor z pc w t → Runs z.code [] more t (StandsFor z pc' w)) → FollowsEnd z pc' (most + more) u es e
 then_hop z pc pc' most more u es (GoesOn w) a b =
-    subst (λ l. Runs z.code l (most + more) u (StandsFor z pc' w)) (append-nil es) (runs_on z most more u (StandsFor z pc w) (StandsFor z pc' w) es [] a (λ t h. b t w h))
+    subst (λ l. Runs z.code l (most + more) u (StandsFor z pc' w)) (append-nil es)
+    (runs_on z most more u (StandsFor z pc w) (StandsFor z pc' w) es [] a (λ t h. b t w h))
 then_hop z pc pc' most more u es (Jumps to w) a b = more_cycles z pc most (most + more) u es (Jumps to w) (omega arith) a
 then_hop z pc pc' most more u es Short a b = more_cycles z pc most (most + more) u es Short (omega arith) a
 then_hop z pc pc' most more u es Strays a b = tt
@@ -76,14 +82,17 @@ pub ends_at : (z : Setting) (pc pc' most : ℕ) (u : Core) (b : Behaviour) → p
 ends_at z pc pc' most u b e a = subst (λ p. Follows z p most u b) e a
 
 -- nothing is promised of what strays
-pub guarded : (z : Setting) (c : Bool) (pc most : ℕ) (u : Core) (b : Behaviour) → (c ≡ true → Follows z pc most u b) → Follows z pc most u (if c then b else strays)
+pub guarded : (z : Setting) (c : Bool) (pc most : ℕ) (u : Core) (b : Behaviour) → (c ≡ true → Follows z pc most u b)
+    → Follows z pc most u (if c then b else strays)
 guarded z true pc most u b h = h refl
 guarded z false pc most u b h = tt
 
 -- the machine elsewhere, with other registers
-pub stands_elsewhere : (z : Setting) (pc pc' : ℕ) (w : WordState) (u t : Core) → StandsFor z pc w u → t.pc ≡ pc' → t.sp ≡ u.sp → t.ram ≡ u.ram → t.fram ≡ u.fram → t.readings_left ≡ u.readings_left → StandsFor z pc' w t
+pub stands_elsewhere : (z : Setting) (pc pc' : ℕ) (w : WordState) (u t : Core) → StandsFor z pc w u → t.pc ≡ pc' → t.sp ≡ u.sp → t.ram ≡ u.ram
+    → t.fram ≡ u.fram → t.readings_left ≡ u.readings_left → StandsFor z pc' w t
 stands_elsewhere z pc pc' w u t i p q r f d = record { at = p; memory = rw (q, r) i.memory; fram = f ∙ i.fram; readings = d ∙ i.readings }
 
 -- the stack under a name
-pub memory_as : (z : Setting) (pc : ℕ) (w : WordState) (u : Core) (vs : List ℕ) → w.stack ≡ vs → StandsFor z pc w u → Memory z.locals z.room u.sp u.ram vs w.locals
+pub memory_as : (z : Setting) (pc : ℕ) (w : WordState) (u : Core) (vs : List ℕ) → w.stack ≡ vs → StandsFor z pc w u
+    → Memory z.locals z.room u.sp u.ram vs w.locals
 memory_as z pc w u vs e i = subst (λ l. Memory z.locals z.room u.sp u.ram l w.locals) e i.memory

@@ -4,11 +4,15 @@ use Rattle.array_versions.specs.fram_board.Effects.{Store, Take}
 use Rattle.array_versions.specs.machine_effects.World.{put}
 use Rattle.array_versions.specs.machine_effects.Going.{At, stretch, continued}
 use Rattle.array_versions.specs.machine_effects.Machine.{IsFram}
+use Rattle.msp_isa.specs.declared.operands.Konst.{Konst}
+use Rattle.msp_isa.specs.Constant.{constant_value}
 use Rattle.code_forms.specs.Forms as forms
-use Rattle.code_forms.specs.Forms.{R4, Core, Register, Number, Fram, Ram, Popped, ToFram, ToRam, Form, Move, Push, Branch, sensed, FormNeeds}
+use Rattle.code_forms.specs.Forms.{R4, Core, Register, Number, Constant, Fram, Ram, Popped, ToFram, ToRam, Form, Move, Push, Branch, sensed}
+use Rattle.code_forms.specs.Forms.{FormNeeds}
 use Rattle.code_forms.specs.Code.{Stands, forms_run, FormsNeed}
 use Rattle.code_forms.proofs.Interface.{stands_at, end_of}
-use Rattle.array_versions.specs.Behaviour.{WordState, behaves, goes_on, Jumps, broken, with_top, with_stack, pushed, stored, assigned, with_local, is_place}
+use Rattle.array_versions.specs.Behaviour.{WordState, behaves, goes_on, Jumps, broken, with_top, with_stack, pushed, stored, assigned, with_local}
+use Rattle.array_versions.specs.Behaviour.{is_place}
 use Rattle.array_versions.specs.Behaviour.{word_stored, reading_pushed, jumped}
 use Rattle.codegen.specs.Laws.{HasJumped}
 use Rattle.codegen.specs.Code.{local_address, push_from}
@@ -26,6 +30,19 @@ module _ (z : Setting) where
       (record {
         at = omega (arith, i.at);
         memory = push_memory z.locals z.room z.roomy u.sp u.ram n w.stack w.locals i.memory s;
+        fram = i.fram;
+        readings = i.readings;
+      })
+
+  pub constant_part : (k : Konst) (pc : ℕ) (w : WordState) (u : Core) → length w.stack < z.room → Stands z.code pc (Push (Constant k) ∷ [])
+      → StandsFor z pc w u → Follows z (pc + 2) 3 u (goes_on [] (pushed (constant_value k) w))
+  constant_part k pc w u s h i =
+      let ms = Push (Constant k) ∷ [] in
+      straight z ms 3 u (end_of u (forms_run ms u).status) [] 3 _ (tt, tt) (stands_at z.code pc ms u h i.at)
+      ((tt, push_needs z.locals z.room z.roomy u.sp u.ram w.stack w.locals i.memory s), tt) refl (omega arith)
+      (record {
+        at = omega (arith, i.at);
+        memory = push_memory z.locals z.room z.roomy u.sp u.ram (constant_value k) w.stack w.locals i.memory s;
         fram = i.fram;
         readings = i.readings;
       })

@@ -28,7 +28,8 @@ front_itself : (r : MachineStretchOf) → IsFront r r
 front_itself r = record { effects = record { rest = []; joins = append-nil r.effects }; cycles = omega arith }
 
 module _ (step : MachineBoard → StepOutcome MachineBoard Stop) where
-  front_step : (n m : ℕ) (o : StepOutcome MachineBoard Stop) → ((t : MachineBoard) → IsFront (going step n t) (going step m t)) → IsFront (continued o (going step n)) (continued o (going step m))
+  front_step : (n m : ℕ) (o : StepOutcome MachineBoard Stop) → ((t : MachineBoard) → IsFront (going step n t) (going step m t))
+      → IsFront (continued o (going step n)) (continued o (going step m))
   front_step n m (Goes es c t) h = front_after es c (going step n t) (going step m t) (h t)
   front_step n m (Stops es price x) h = front_itself (stretch es 0 (Halted price x))
 
@@ -49,7 +50,8 @@ runs_stay_within code es most u to s a n l =
     let k : a.steps + 0 ≡ n + m = omega arith in
     let q = going (exec code) (n + m) (board_of u) in
     let e : q ≡ stretch (es ++ []) (a.cycles + 0) (At (board_of a.end)) = ap (λ j. going (exec code) j (board_of u)) (sym k) ∙ a.leads.by 0 in
-    within es a.cycles most (going (exec code) n (board_of u)) q (fewer (exec code) n m (board_of u)) (ap (λ r. r.effects) e ∙ append-nil es) (ap (λ r. r.cycles) e ∙ omega arith) a.within
+    within es a.cycles most (going (exec code) n (board_of u)) q (fewer (exec code) n m (board_of u)) (ap (λ r. r.effects) e ∙ append-nil es)
+    (ap (λ r. r.cycles) e ∙ omega arith) a.within
 
 pub starving_stays_within : StarvingStaysWithin
 starving_stays_within code es most u a n =
@@ -57,4 +59,5 @@ starving_stays_within code es most u a n =
     let k : a.steps + suc n ≡ n + m = omega arith in
     let q = going (exec code) (n + m) (board_of u) in
     let e : q ≡ stretch es a.cycles (Halted a.price stop.NoReading) = ap (λ j. going (exec code) j (board_of u)) (sym k) ∙ a.stalls.by n in
-    within es a.cycles most (going (exec code) n (board_of u)) q (fewer (exec code) n m (board_of u)) (ap (λ r. r.effects) e) (ap (λ r. r.cycles) e) (let w = a.within in omega arith)
+    within es a.cycles most (going (exec code) n (board_of u)) q (fewer (exec code) n m (board_of u)) (ap (λ r. r.effects) e) (ap (λ r. r.cycles) e)
+    (let w = a.within in omega arith)

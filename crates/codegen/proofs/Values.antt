@@ -1,38 +1,86 @@
--- What the carry of a comparison says, and the numbers 0 and 1 that are made of it.
-use Rattle.std.proofs.Common.{◌≡◌, ℕ, ◌+◌, ◌-◌, ◌%◌, ◌<◌, ◌==◌, not, refl, ap, arith, Bool, true, false, nat_lt, nat_le, bit_and}
+-- What the flags of a comparison say.
+use Rattle.std.proofs.Common.{◌≡◌, ℕ, ◌+◌, ◌-◌, ◌%◌, ◌<◌, ◌≤◌, ◌==◌, ◌&&◌, not, refl, sym, ap, ◌∙◌, arith, Bool, true, false, nat_lt, nat_le}
+use Rattle.std.proofs.Common.{le-ltb, lt-ltb}
 use Rattle.std.proofs.lemmas.Bool.Decides.{nat_tests}
-use Rattle.msp_isa.specs.alp_words.Words.{bit, biased}
+use Rattle.std.proofs.Math.Bool.{not-not}
+use Rattle.msp_isa.specs.alp_words.declared.Flags.{Flags}
+use Rattle.msp_isa.specs.alp_words.declared.Width.TheVariants.{Word}
+use Rattle.msp_isa.specs.alp_words.Words.{biased, same, is_negative, difference_of, and_of}
+use Rattle.array_versions.specs.msp_step.Effect.{is_met}
+use Rattle.array_versions.specs.declared.operations.Comparison.{Comparison}
+use Rattle.array_versions.specs.declared.operations.Comparison.TheVariants.{Equal, Below, Above, SignedBelow, SignedAbove, CommonBit}
+use Rattle.array_versions.specs.Operations.{compare_words}
+use Rattle.codegen.specs.Code.{holding, failing}
+use Rattle.codegen.proofs.Registers.{no_borrow}
 
-pub carry_value : (b : Bool) → (0 + 0 + bit b) % 0x10000 ≡ bit b
-carry_value true = refl
-carry_value false = refl
+-- the flags of one word less another
+abbrev pub difference_flags : ℕ → ℕ → Flags
+difference_flags x y = (difference_of Word x y true).1
 
-borrow_sum : (a c : ℕ) → a < 0x10000 → (a + (0xFFFF - a) + c) % 0x10000 ≡ (0xFFFF + c) % 0x10000
-borrow_sum a c h = omega arith
+-- the flags of a comparison
+abbrev pub compared_flags : Comparison → ℕ → ℕ → Flags
+compared_flags Equal x y = difference_flags x y
+compared_flags Below x y = difference_flags x y
+compared_flags Above x y = difference_flags y x
+compared_flags SignedBelow x y = difference_flags x y
+compared_flags SignedAbove x y = difference_flags y x
+compared_flags CommonBit x y = (and_of Word x y).1
 
-pub borrow_value : (b : Bool) (a : ℕ) → a < 0x10000 → bit_and ((a + (0xFFFF - a) + bit b) % 0x10000) 1 ≡ bit (not b)
-borrow_value true a h = ap (λ n. bit_and n 1) (borrow_sum a 1 h)
-borrow_value false a h = ap (λ n. bit_and n 1) (borrow_sum a 0 h)
-
-pub not_le : (x y : ℕ) → not (nat_le y x) ≡ nat_lt x y
+not_le : (x y : ℕ) → not (nat_le y x) ≡ nat_lt x y
 not_le x y = grind (arith, nat_tests)
 
-pub le_is_not_lt : (x y : ℕ) → nat_le y x ≡ not (nat_lt x y)
-le_is_not_lt x y = grind (arith, nat_tests)
+no_difference : (x y : ℕ) → x < 0x10000 → y < 0x10000 → ((x + (0xFFFF - y) + 1) % 0x10000 == 0) ≡ (x == y)
+no_difference x y h k = grind (arith, nat_tests)
 
--- C behind a comparison with 1
-pub at_least_one : (x : ℕ) → nat_le 0x10000 (x + 65534 + 1) ≡ nat_le 1 x
-at_least_one x = grind (arith, nat_tests)
+-- as unsigned words
+below_flags : (x y : ℕ) → x < 0x10000 → y < 0x10000 → not (nat_le 0x10000 (x + (0xFFFF - y) + 1)) ≡ nat_lt x y
+below_flags x y h k = ap not (no_borrow x y h k) ∙ not_le x y
 
-pub not_one : (x : ℕ) → not (nat_le 1 x) ≡ (x == 0)
-not_one x = grind (arith, nat_tests)
+high : (x : ℕ) → nat_le 0x8000 x ≡ true → 0x8000 ≤ x
+high x e = grind (arith, nat_tests)
 
-pub one_is_not_zero : (x : ℕ) → nat_le 1 x ≡ not (x == 0)
-one_is_not_zero x = grind (arith, nat_tests)
+low : (x : ℕ) → nat_le 0x8000 x ≡ false → x < 0x8000
+low x e = grind (arith, nat_tests)
 
--- a difference that isn't 0
-pub differs : (x y : ℕ) → x < 0x10000 → y < 0x10000 → nat_le 1 ((x + (0xFFFF - y) + 1) % 0x10000) ≡ not (x == y)
-differs x y h k = grind (arith, nat_tests)
+-- as signed words, by the signs of both and of the difference
+by_signs : (a b c : Bool) (x y : ℕ) → x < 0x10000 → y < 0x10000 → nat_le 0x8000 x ≡ a → nat_le 0x8000 y ≡ b
+    → nat_le 0x8000 ((x + (0xFFFF - y) + 1) % 0x10000) ≡ c → not (same c (not (same a b) && same c b)) ≡ nat_lt (biased x) (biased y)
+by_signs true true true x y h k p q r =
+    let l = high x p in let m = high y q in let n = high _ r in sym (lt-ltb (biased x) (biased y) (omega arith))
+by_signs true true false x y h k p q r =
+    let l = high x p in let m = high y q in let n = low _ r in sym (le-ltb (biased x) (biased y) (omega arith))
+by_signs false false true x y h k p q r =
+    let l = low x p in let m = low y q in let n = high _ r in sym (lt-ltb (biased x) (biased y) (omega arith))
+by_signs false false false x y h k p q r =
+    let l = low x p in let m = low y q in let n = low _ r in sym (le-ltb (biased x) (biased y) (omega arith))
+by_signs true false true x y h k p q r = let l = high x p in let m = low y q in sym (lt-ltb (biased x) (biased y) (omega arith))
+by_signs true false false x y h k p q r = let l = high x p in let m = low y q in sym (lt-ltb (biased x) (biased y) (omega arith))
+by_signs false true true x y h k p q r = let l = low x p in let m = high y q in sym (le-ltb (biased x) (biased y) (omega arith))
+by_signs false true false x y h k p q r = let l = low x p in let m = high y q in sym (le-ltb (biased x) (biased y) (omega arith))
 
-pub biased_small : (x : ℕ) → biased x < 0x10000
-biased_small x = omega arith
+signed_flags : (x y : ℕ) → x < 0x10000 → y < 0x10000
+    → (let f = difference_flags x y in not (same f.n f.v) ≡ nat_lt (biased x) (biased y))
+signed_flags x y h k =
+    by_signs (is_negative Word x) (is_negative Word y) (is_negative Word ((x + (0xFFFF - y) + 1) % 0x10000)) x y h k refl refl refl
+
+-- one condition is met where the comparison holds
+pub compare_met : (c : Comparison) (x y : ℕ) → x < 0x10000 → y < 0x10000 → is_met (holding c) (compared_flags c x y) ≡ compare_words c x y
+compare_met Equal x y h k = no_difference x y h k
+compare_met Below x y h k = below_flags x y h k
+compare_met Above x y h k = below_flags y x k h
+compare_met SignedBelow x y h k = signed_flags x y h k
+compare_met SignedAbove x y h k = signed_flags y x k h
+compare_met CommonBit x y h k = refl
+
+-- and the other where it isn't met
+pub failing_met : (c : Comparison) (f : Flags) → is_met (failing c) f ≡ not (is_met (holding c) f)
+failing_met Equal f = refl
+failing_met Below f = sym (not-not f.c)
+failing_met Above f = sym (not-not f.c)
+failing_met SignedBelow f = sym (not-not (same f.n f.v))
+failing_met SignedAbove f = sym (not-not (same f.n f.v))
+failing_met CommonBit f = sym (not-not f.z)
+
+-- a word is 0 where it less 0 is
+pub zero_is : (v : ℕ) → v < 0x10000 → ((v + 65535 + 1) % 65536 == 0) ≡ (v == 0)
+zero_is v h = grind (arith, nat_tests)

@@ -1,44 +1,54 @@
 -- The code of a word program does what the program does, within the cycles of the way that it takes.
-use Rattle.std.proofs.Common.{◌≡◌, ℕ, suc, ◌+◌, ◌-◌, ◌*◌, ◌<◌, List, [], ◌∷◌, ◌++◌, length, All, Some, None, refl, sym, ap, subst, arith}
+use Rattle.std.proofs.Common.{◌≡◌, ℕ, suc, ◌+◌, ◌-◌, ◌*◌, ◌%◌, ◌<◌, Bool, true, false, not, if◌then◌else◌, List, [], ◌∷◌, ◌++◌, length, All, Some}
+use Rattle.std.proofs.Common.{None, refl, sym, ap, subst, arith}
 use Rattle.std.specs.List.{AllByRecursion}
 use Rattle.array_versions.specs.fram_board.Effects.{Effect}
-use Rattle.code_forms.specs.Forms.{WorkRegister, R4, R5, R6, Core, Branch}
+use Rattle.msp_isa.specs.declared.instructions.Condition.TheVariants as condition
+use Rattle.msp_isa.specs.declared.operands.Konst.TheVariants as konst
+use Rattle.code_forms.specs.Forms.{WorkRegister, R4, R5, R6, Core, Constant, Push, Branch}
 use Rattle.code_forms.specs.Code.{Stands, forms_bytes}
 use Rattle.code_forms.proofs.Interface.{stands_front, stands_back, forms_behind}
 use Rattle.array_versions.specs.declared.operations.UnaryOperation.{UnaryOperation}
-use Rattle.array_versions.specs.declared.operations.UnaryOperation.TheVariants.{Negate, Complement, Not, Truth}
+use Rattle.array_versions.specs.declared.operations.UnaryOperation.TheVariants.{Negate, Complement}
 use Rattle.array_versions.specs.declared.operations.BinaryOperation.{BinaryOperation}
-use Rattle.array_versions.specs.declared.operations.BinaryOperation.TheVariants.{Multiply, Divide, Remainder, Add, Subtract, And, Xor, Or, Equal, NotEqual}
-use Rattle.array_versions.specs.declared.operations.BinaryOperation.TheVariants.{Below, AtMost, Above, AtLeast, SignedBelow, SignedAtMost, SignedAbove}
-use Rattle.array_versions.specs.declared.operations.BinaryOperation.TheVariants.{SignedAtLeast}
-use Rattle.array_versions.specs.Operations.{unary_word, binary_word}
-use Rattle.array_versions.specs.Program.{Step, Program, number, load, keep, local, set_local, unary, binary, shift, element, emit_word, list_entry}
-use Rattle.array_versions.specs.Program.{versioned_read, versioned_write, sense, choose, repeat, store_number, move_word, jump, nothing, step}
-use Rattle.array_versions.specs.Behaviour.{WordState, started, End, GoesOn, Jumps, Short, Strays, Broken, goes_on, with_stack, with_local, with_top, with_two}
-use Rattle.array_versions.specs.Behaviour.{is_place, local_pushed, step_behaviour, behaviour}
-use Rattle.array_versions.specs.Form.{Place, start, assigning, EachTurn, EachStepWay, EachWay, StepLocalsBelow, LocalsBelow, StepLoopsCount, LoopsCount}
-use Rattle.array_versions.specs.Form.{StepOfWords, OfWords}
-use Rattle.array_versions.specs.Cost.{unary_cycles, unary_words, binary_cycles, binary_words, step_spent, spent, step_words, words_of}
+use Rattle.array_versions.specs.declared.operations.BinaryOperation.TheVariants.{Multiply, Divide, Remainder, Add, Subtract, And, Xor, Or}
+use Rattle.array_versions.specs.declared.operations.Comparison.{Comparison}
+use Rattle.array_versions.specs.Operations.{unary_word, binary_word, is_true, compare_words}
+use Rattle.array_versions.specs.Program.{Step, Test, Program, number, load, keep, local, set_local, unary, binary, shift, element, emit_word}
+use Rattle.array_versions.specs.Program.{list_entry}
+use Rattle.array_versions.specs.Program.{versioned_read, versioned_write, sense, truth, choose, repeat, store_number, move_word, jump, holds}
+use Rattle.array_versions.specs.Program.{compares}
+use Rattle.array_versions.specs.Program.{both, either, fails, nothing, step}
+use Rattle.array_versions.specs.Behaviour.{WordState, started, End, GoesOn, Jumps, Short, Strays, Broken, Behaviour, goes_on, with_stack, with_local}
+use Rattle.array_versions.specs.Behaviour.{with_top, with_two, is_place, local_pushed, number_pushed, way_by_top, way_by_two, step_behaviour, tested}
+use Rattle.array_versions.specs.Behaviour.{behaviour}
+use Rattle.array_versions.specs.Form.{Place, start, assigning, Moves, EachTurn, EachStepWay, EachTestWay, EachWay, StepLocalsBelow, TestLocalsBelow}
+use Rattle.array_versions.specs.Form.{LocalsBelow, StepLoopsCount, TestLoopsCount, LoopsCount, StepOfWords, TestOfWords, OfWords}
+use Rattle.array_versions.specs.Cost.{unary_cycles, unary_words, binary_cycles, binary_words, top_spent, spent_by_top, spent_by_two, step_spent}
+use Rattle.array_versions.specs.Cost.{test_spent}
+use Rattle.array_versions.specs.Cost.{spent, step_words, test_words, words_of}
 use Rattle.array_versions.specs.Laws.{IsStateOfWords, EndsInWords, IsSound}
-use Rattle.array_versions.proofs.Interface.{Matches, GoesWell, matches_local, start_matches, step_well, well, whole_ends_soundly, local_words, step_words as words_step, words, Leaves, leaves}
-use Rattle.codegen.specs.Code.{local_address, unary_middle, unary_result, unary_code, binary_middle, binary_result, binary_code, choice_code, loop_test}
-use Rattle.codegen.specs.Code.{loop_step, loop_code, step_code, code_of}
+use Rattle.array_versions.proofs.Interface.{Matches, GoesWell, matches_local, start_matches, step_well, well, whole_ends_soundly, local_words}
+use Rattle.array_versions.proofs.Interface.{step_words as words_step, words, Leaves, leaves}
+use Rattle.codegen.specs.Code.{pop_to, local_address, unary_middle, unary_code, binary_middle, binary_result, binary_code, holds_code, compares_code}
+use Rattle.codegen.specs.Code.{compare_form, decision}
+use Rattle.codegen.specs.Code.{holding, failing, truth_code, loop_test, loop_step, loop_code, step_code, test_code, code_of}
 use Rattle.codegen.specs.Laws.{ComesTo, CodeDoesAsProgram}
-use Rattle.codegen.proofs.Stretches.{Setting, nothing_run}
+use Rattle.codegen.proofs.Stretches.{Setting, runs_on, nothing_run}
 use Rattle.codegen.proofs.Memory.{place_is, assigned_same}
-use Rattle.codegen.proofs.Follows.{StandsFor, Follows, FollowsEnd, OnGoesOn, then_way, ends_at, guarded}
-use Rattle.codegen.proofs.Parts.{number_part, load_part, local_part, keep_part, set_part, sense_part, store_part, move_part, jump_part}
-use Rattle.codegen.proofs.Choices.{choice_part}
+use Rattle.codegen.proofs.Follows.{StandsFor, Follows, FollowsEnd, OnGoesOn, then_end, then_way, then_hop, ends_at, guarded}
+use Rattle.codegen.proofs.Parts.{number_part, constant_part, load_part, local_part, keep_part, set_part, sense_part, store_part, move_part, jump_part}
+use Rattle.codegen.proofs.Registers.{branch_to, jump_to}
+use Rattle.codegen.proofs.Choices.{Fork, fork_at, fork_turned, decided_follows, holds_part, compares_part}
 use Rattle.codegen.proofs.Loops.{loop_part}
-use Rattle.codegen.proofs.Middles.{BinaryMiddle, unary_part, binary_part, add_middle, subtract_middle, and_middle, or_middle, xor_middle, at_least_middle}
-use Rattle.codegen.proofs.Middles.{at_most_middle, below_middle, above_middle, signed_at_least_middle, signed_at_most_middle, signed_below_middle}
-use Rattle.codegen.proofs.Middles.{signed_above_middle, not_equal_middle, equal_middle, negate_middle, complement_middle, not_middle, truth_middle}
+use Rattle.codegen.proofs.Middles.{BinaryMiddle, unary_part, binary_part, add_middle, subtract_middle, and_middle, or_middle, xor_middle}
+use Rattle.codegen.proofs.Middles.{negate_middle, complement_middle}
 use Rattle.codegen.proofs.Access.{element_part, emit_part, entry_part}
 use Rattle.codegen.proofs.VersionParts.{read_part, write_part}
 use Rattle.codegen.proofs.ShiftParts.{shift_part}
 use Rattle.codegen.proofs.Products.{multiply_middle}
 use Rattle.codegen.proofs.Quotients.{divide_part, remainder_part}
-use Rattle.codegen.proofs.Lengths.{unary_length, binary_length, shift_length, step_length, code_length}
+use Rattle.codegen.proofs.Lengths.{unary_length, binary_length, shift_length, compare_length, step_length, test_length, code_length}
 
 -- a state from which what follows is fit, and which holds words
 record Ready (next : Place → Type 0) (w : WordState) : Type 0 where
@@ -63,28 +73,26 @@ ready_with next n k Short g h l = tt
 ready_with next n k Strays g h l = tt
 ready_with next n k Broken g h l = tt
 
--- what is left where the top is taken
-ready_popped : (next : Place → Type 0) (q : Place) (w : WordState) (v : ℕ) (us : List ℕ) → next (record q { depth = q.depth - 1 + 0 }) → Matches q w
-    → IsStateOfWords w → w.stack ≡ v ∷ us → Ready next (with_stack us w)
-ready_popped next q w v us f m h e =
+-- what is left where so many words are taken
+ready_popped : (next : Place → Type 0) (q : Place) (n : ℕ) (w : WordState) (us : List ℕ) → next (record q { depth = q.depth - n + 0 }) → Matches q w
+    → IsStateOfWords w → length us + n ≡ length w.stack → AllByRecursion (λ x. x < 0x10000) us → Ready next (with_stack us w)
+ready_popped next q n w us f m h e l =
     record {
-      place = record q { depth = q.depth - 1 + 0 };
+      place = record q { depth = q.depth - n + 0 };
       fit = f;
-      matches = record { depth = omega (arith, ap (length {A = ℕ}) e, m.depth); assigned = m.assigned };
-      words_in = record { stack = (subst (AllByRecursion (λ x. x < 0x10000)) e h.stack).1; locals = h.locals; fram = h.fram; readings = h.readings };
+      matches = record { depth = omega (arith, e, m.depth); assigned = m.assigned };
+      words_in = record { stack = l; locals = h.locals; fram = h.fram; readings = h.readings };
     }
 
 module _ (z : Setting) where
   abbrev Unaries : UnaryOperation → Type 0
-  Unaries o = (pc : ℕ) (w : WordState) (u : Core) → AllByRecursion (λ v. v < 0x10000) w.stack → Stands z.code pc (unary_code (unary_middle o) (unary_result o))
+  Unaries o = (pc : ℕ) (w : WordState) (u : Core) → AllByRecursion (λ v. v < 0x10000) w.stack → Stands z.code pc (unary_code (unary_middle o))
       → StandsFor z pc w u
       → Follows z (pc + 2 + forms_bytes (unary_middle o) + 2) (unary_cycles o) u (with_top w.stack (λ v vs. goes_on [] (with_stack (unary_word o v ∷ vs) w)))
 
   unary_follows : (o : UnaryOperation) → Unaries o
-  unary_follows Negate pc w u l h i = unary_part z (unary_middle Negate) R4 2 pc (unary_word Negate) w u w.stack refl l h i (negate_middle z)
-  unary_follows Complement pc w u l h i = unary_part z (unary_middle Complement) R4 2 pc (unary_word Complement) w u w.stack refl l h i (complement_middle z)
-  unary_follows Not pc w u l h i = unary_part z (unary_middle Not) R5 3 pc (unary_word Not) w u w.stack refl l h i (not_middle z)
-  unary_follows Truth pc w u l h i = unary_part z (unary_middle Truth) R4 3 pc (unary_word Truth) w u w.stack refl l h i (truth_middle z)
+  unary_follows Negate pc w u l h i = unary_part z (unary_middle Negate) 2 pc (unary_word Negate) w u w.stack refl l h i (negate_middle z)
+  unary_follows Complement pc w u l h i = unary_part z (unary_middle Complement) 2 pc (unary_word Complement) w u w.stack refl l h i (complement_middle z)
 
   abbrev Binaries : BinaryOperation → WorkRegister → ℕ → Type 0
   Binaries o b most = (pc : ℕ) (w : WordState) (u : Core) → AllByRecursion (λ v. v < 0x10000) w.stack → Stands z.code pc (binary_code (binary_middle o) b)
@@ -103,30 +111,70 @@ module _ (z : Setting) where
   binary_follows And = by_middle And R4 1 (and_middle z)
   binary_follows Xor = by_middle Xor R4 1 (xor_middle z)
   binary_follows Or = by_middle Or R4 1 (or_middle z)
-  binary_follows Equal = by_middle Equal R4 4 (equal_middle z)
-  binary_follows NotEqual = by_middle NotEqual R4 4 (not_equal_middle z)
-  binary_follows Below = by_middle Below R4 3 (below_middle z)
-  binary_follows AtMost = by_middle AtMost R4 3 (at_most_middle z)
-  binary_follows Above = by_middle Above R4 3 (above_middle z)
-  binary_follows AtLeast = by_middle AtLeast R4 3 (at_least_middle z)
-  binary_follows SignedBelow = by_middle SignedBelow R4 7 (signed_below_middle z)
-  binary_follows SignedAtMost = by_middle SignedAtMost R4 7 (signed_at_most_middle z)
-  binary_follows SignedAbove = by_middle SignedAbove R4 7 (signed_above_middle z)
-  binary_follows SignedAtLeast = by_middle SignedAtLeast R4 7 (signed_at_least_middle z)
 
-  -- where a choice's code stands, by the lengths of its parts
-  choice_stands : (pc : ℕ) (taken otherwise : Program)
-      → (let other = pc + 14 + 2 * words_of taken in let a = code_of (pc + 10) taken in let b = code_of other otherwise in
-      Stands z.code pc (choice_code other (other + 2 * words_of otherwise) a b)
-      → Stands z.code pc (choice_code (pc + 14 + forms_bytes a) (pc + 14 + forms_bytes a + forms_bytes b) a b))
-  choice_stands pc taken otherwise h =
-      let other = pc + 14 + 2 * words_of taken in
-      let a = code_of (pc + 10) taken in
-      let b = code_of other otherwise in
-      let e : other ≡ pc + 14 + forms_bytes a = omega (arith, code_length (pc + 10) taken) in
-      let f : other + 2 * words_of otherwise ≡ pc + 14 + forms_bytes a + forms_bytes b = omega (arith, e, code_length other otherwise) in
-      subst (λ n. Stands z.code pc (choice_code n (pc + 14 + forms_bytes a + forms_bytes b) a b)) e
-      (subst (λ n. Stands z.code pc (choice_code other n a b)) f h)
+  -- the forms in front of a comparison's decision, and the decision
+  compares_front : (c : Comparison) (pc : ℕ) (far : Bool) (holds_at fails_at : ℕ) → Stands z.code pc (compares_code c far holds_at fails_at)
+      → Stands z.code pc (pop_to R5 ∷ pop_to R4 ∷ compare_form c ∷ [])
+  compares_front c pc far holds_at fails_at h = (h.0, (h.1.0, (h.1.1.0, tt)))
+
+  compares_rest : (c : Comparison) (pc : ℕ) (far : Bool) (holds_at fails_at : ℕ) → Stands z.code pc (compares_code c far holds_at fails_at)
+      → Stands z.code (pc + 6) (decision far holds_at fails_at (holding c) (failing c))
+  compares_rest c pc far holds_at fails_at h =
+      subst (λ n. Stands z.code n (decision far holds_at fails_at (holding c) (failing c))) (omega (arith, compare_length c))
+      (forms_behind z.code pc 3 (compares_code c far holds_at fails_at) h)
+
+  -- 1 is pushed, and the jump leads past the other number
+  one_pushed : (pc : ℕ) (w : WordState) (u : Core) → Stands z.code pc truth_code → length w.stack < z.room → StandsFor z pc w u
+      → Follows z (pc + 6) 5 u (number_pushed 1 w)
+  one_pushed pc w u h l i =
+      let high = (z.tidy (pc + 2) _ h.1.0).high in
+      runs_on z 3 2 u _ _ [] [] (constant_part z konst.One pc w u l (h.0, tt) i)
+      (λ t j. jump_to z condition.Always 1 (pc + 2) (pc + 6) true _ t h.1.0 refl (omega arith) j)
+
+  third : (pc : ℕ) → Stands z.code pc truth_code → Stands z.code (pc + 4) (Push (Constant konst.Zero) ∷ [])
+  third pc h = forms_behind z.code pc 2 truth_code h
+
+  -- from states from which what follows is fit, code follows a way
+  abbrev WayFollows : (Place → Type 0) → ℕ → ℕ → (WordState → ℕ) → (WordState → Behaviour) → Type 0
+  WayFollows next at end cost run = (v : WordState) (x : Core) → Ready next v → StandsFor z at v x → Follows z end (cost v) x (run v)
+
+  -- behind a program whose word or words decide
+  module _ (far : Bool) (holds_at fails_at end : ℕ) (held failed : Place → Type 0) (ch cf : WordState → ℕ) (rh rf : WordState → Behaviour)
+      (fh : WayFollows held holds_at end ch rh) (ff : WayFollows failed fails_at end cf rf) where
+    by_top : (pc : ℕ) (w : WordState) (u : Core) (vs : List ℕ) → Stands z.code pc (holds_code far holds_at fails_at) → Fork far holds_at fails_at (pc + 10)
+        → Ready (Moves z.room 1 0 (λ r. held r × failed r)) w → w.stack ≡ vs → StandsFor z pc w u
+        → Follows z end (8 + top_spent vs (λ v us. if is_true v then ch (with_stack us w) else cf (with_stack us w))) u
+        (with_top vs (λ v us. if is_true v then rh (with_stack us w) else rf (with_stack us w)))
+    by_top pc w u [] h fork r e i = tt
+    by_top pc w u (v ∷ us) h fork r e i =
+        let t = with_stack us w in
+        let words = subst (AllByRecursion (λ x. x < 0x10000)) e r.words_in.stack in
+        let left : length us + 1 ≡ length w.stack = omega (arith, ap (length {A = ℕ}) e) in
+        let popped : (next : Place → Type 0) → next (record r.place { depth = r.place.depth - 1 + 0 }) → Ready next t =
+        λ next f. ready_popped next r.place 1 w us f r.matches r.words_in left words.1 in
+        decided_follows z far (is_true v) (pc + 4) holds_at fails_at 3 end (ch t) (cf t) condition.NotEqual condition.Equal t u (rh t) (rf t)
+        (forms_behind z.code pc 2 (holds_code far holds_at fails_at) h)
+        (fork_at far holds_at fails_at (pc + 10) (pc + 4 + 6) (omega arith) fork) (holds_part z far pc v holds_at fails_at us w u e words.0 h i)
+        (λ x j. fh t x (popped held r.fit.2.0) j) (λ x j. ff t x (popped failed r.fit.2.1) j)
+
+    by_two : (c : Comparison) (pc : ℕ) (w : WordState) (u : Core) (vs : List ℕ) → Stands z.code pc (compares_code c far holds_at fails_at)
+        → Fork far holds_at fails_at (pc + 12)
+        → Ready (Moves z.room 2 0 (λ r. held r × failed r)) w → w.stack ≡ vs → StandsFor z pc w u
+        → Follows z end
+        (10 + top_spent vs (λ y xs. top_spent xs (λ x us. if compare_words c x y then ch (with_stack us w) else cf (with_stack us w)))) u
+        (with_two vs (λ x y us. if compare_words c x y then rh (with_stack us w) else rf (with_stack us w)))
+    by_two c pc w u [] h fork r e i = tt
+    by_two c pc w u (y ∷ []) h fork r e i = tt
+    by_two c pc w u (y ∷ (x ∷ us)) h fork r e i =
+        let t = with_stack us w in
+        let words = subst (AllByRecursion (λ x. x < 0x10000)) e r.words_in.stack in
+        let left : length us + 2 ≡ length w.stack = omega (arith, ap (length {A = ℕ}) e) in
+        let popped : (next : Place → Type 0) → next (record r.place { depth = r.place.depth - 2 + 0 }) → Ready next t =
+        λ next f. ready_popped next r.place 2 w us f r.matches r.words_in left words.1.1 in
+        decided_follows z far (compare_words c x y) (pc + 6) holds_at fails_at 5 end (ch t) (cf t) (holding c) (failing c) t u (rh t) (rf t)
+        (compares_rest c pc far holds_at fails_at h) (fork_at far holds_at fails_at (pc + 12) (pc + 6 + 6) (omega arith) fork)
+        (compares_part z c pc x y us w u e words.1.0 words.0 (compares_front c pc far holds_at fails_at h) i)
+        (λ s j. fh t s (popped held r.fit.2.0) j) (λ s j. ff t s (popped failed r.fit.2.1) j)
 
   mutual
     step_follows : (first : Step) (next : Place → Type 0) (pc : ℕ) (w : WordState) (u : Core) → Ready (EachStepWay z.room first next) w → StepOfWords first
@@ -156,30 +204,41 @@ module _ (z : Setting) where
     step_follows (versioned_read place list) next pc w u r o l c h i = read_part z place list pc o.0.3 h w.stack w u r.words_in.fram refl r.words_in.stack i
     step_follows (versioned_write place list) next pc w u r o l c h i = write_part z place list pc o.0.3 h w.stack w u r.words_in.fram refl r.words_in.stack i
     step_follows sense next pc w u r o l c h i = sense_part z pc w u w.readings (omega (arith, r.fit.1, r.matches.depth)) refl h i
-    step_follows (choose taken otherwise) next pc w u r o l c h i =
-        let other = pc + 14 + 2 * words_of taken in
-        let a = code_of (pc + 10) taken in
-        let b = code_of other otherwise in
-        let e : other ≡ pc + 14 + forms_bytes a = omega (arith, code_length (pc + 10) taken) in
-        let g = choice_stands pc taken otherwise h in
-        let tail = Branch (pc + 14 + forms_bytes a + forms_bytes b) ∷ b in
-        let ha : Stands z.code (pc + 10) (a ++ tail) =
-        forms_behind z.code pc 4 (choice_code (pc + 14 + forms_bytes a) (pc + 14 + forms_bytes a + forms_bytes b) a b) g in
-        let hb : Stands z.code other b =
-        subst (λ n. Stands z.code n b) (omega (arith, code_length (pc + 10) taken)) (stands_back z.code (pc + 10) a tail ha).1 in
-        ends_at z (pc + 14 + forms_bytes a + forms_bytes b) (pc + 2 * step_words (choose taken otherwise)) (step_spent (choose taken otherwise) w) u
-        (step_behaviour (choose taken otherwise) w) (omega (arith, code_length (pc + 10) taken, code_length other otherwise))
-        (choice_part z a b pc g (λ us. spent taken (with_stack us w)) (λ us. spent otherwise (with_stack us w)) w u w.stack (behaviour taken)
-        (behaviour otherwise) refl r.words_in.stack i
-        (λ v us t q j. ends_at z (pc + 10 + 2 * words_of taken) _ (spent taken (with_stack us w)) t (behaviour taken (with_stack us w))
-        (omega (arith, code_length (pc + 10) taken))
-        (program_follows taken next (pc + 10) (with_stack us w) t
-        (ready_popped (EachWay z.room taken next) r.place w v us r.fit.2.0 r.matches r.words_in q) o.0 l.0 c.0 (stands_front z.code (pc + 10) a tail ha) j))
-        (λ v us t q j. ends_at z (other + 2 * words_of otherwise) _ (spent otherwise (with_stack us w)) t (behaviour otherwise (with_stack us w))
-        (omega (arith, code_length (pc + 10) taken, code_length other otherwise))
-        (program_follows otherwise next other (with_stack us w) t
-        (ready_popped (EachWay z.room otherwise next) r.place w v us r.fit.2.1 r.matches r.words_in q) o.1 l.1 c.1 hb
-        (subst (λ n. StandsFor z n (with_stack us w) t) (sym e) j))))
+    step_follows (truth t) next pc w u r o l c h i =
+        let inside = pc + 2 * test_words t in
+        let a = test_code pc false inside (inside + 4) t in
+        let ha : Stands z.code inside truth_code =
+        subst (λ n. Stands z.code n truth_code) (omega (arith, test_length pc false inside (inside + 4) t)) (stands_back z.code pc a truth_code h) in
+        let ev = (z.tidy inside _ ha.0).even in
+        let fork : Fork false inside (inside + 4) inside = record { even_holds = ev; even_fails = omega (arith, ev); near = refl } in
+        let pushes = Moves z.room 0 1 next in
+        ends_at z (inside + 6) (pc + 2 * step_words (truth t)) (step_spent (truth t) w) u (step_behaviour (truth t) w) (omega arith)
+        (test_follows t false inside (inside + 4) pc (inside + 6) pushes pushes (λ v. 5) (λ v. 3) (number_pushed 1) (number_pushed 0) w u r o l c
+        (stands_front z.code pc a truth_code h) (omega (arith, ev)) fork
+        (λ v x q j. one_pushed inside v x ha (omega (arith, q.fit.1, q.matches.depth)) j)
+        (λ v x q j. ends_at z (inside + 4 + 2) (inside + 6) 3 x (number_pushed 0 v) (omega arith)
+        (constant_part z konst.Zero (inside + 4) v x (omega (arith, q.fit.1, q.matches.depth)) (third inside ha) j)) i)
+    step_follows (choose t taken otherwise) next pc w u r o l c h i =
+        let inside = pc + 2 * test_words t in
+        let other = inside + 2 * words_of taken + 4 in
+        let end = other + 2 * words_of otherwise in
+        let a = test_code pc false inside other t in
+        let b = code_of inside taken in
+        let tail = Branch end ∷ code_of other otherwise in
+        let hb : Stands z.code inside (b ++ tail) =
+        subst (λ n. Stands z.code n (b ++ tail)) (omega (arith, test_length pc false inside other t)) (stands_back z.code pc a (b ++ tail) h) in
+        let ht : Stands z.code (inside + 2 * words_of taken) tail =
+        subst (λ n. Stands z.code n tail) (omega (arith, code_length inside taken)) (stands_back z.code inside b tail hb) in
+        let ev = (z.tidy (inside + 2 * words_of taken) _ ht.0).even in
+        let fork : Fork false inside other inside = record { even_holds = omega (arith, ev); even_fails = omega (arith, ev); near = refl } in
+        ends_at z end (pc + 2 * step_words (choose t taken otherwise)) (step_spent (choose t taken otherwise) w) u
+        (step_behaviour (choose t taken otherwise) w) (omega arith)
+        (test_follows t false inside other pc end (EachWay z.room taken next) (EachWay z.room otherwise next) (λ v. spent taken v + 3) (spent otherwise)
+        (behaviour taken) (behaviour otherwise) w u r o.0 l.0 c.0 (stands_front z.code pc a (b ++ tail) h) (omega (arith, ev)) fork
+        (λ v x q j. then_hop z (inside + 2 * words_of taken) end (spent taken v) 3 x (behaviour taken v).effects (behaviour taken v).end
+        (program_follows taken next inside v x q o.1 l.1 c.1 (stands_front z.code inside b tail hb) j)
+        (λ s y k. branch_to z end (inside + 2 * words_of taken) y s ht.0 (omega (arith, ev)) k))
+        (λ v x q j. program_follows otherwise next other v x q o.2 l.2 c.2 ht.1 j) i)
     step_follows (repeat n from below body) next pc w u r o l c h i =
         let code = code_of (pc + 20) body in
         let e : pc + 34 + 2 * words_of body ≡ pc + 34 + forms_bytes code = omega (arith, code_length (pc + 20) body) in
@@ -209,6 +268,62 @@ module _ (z : Setting) where
     step_follows (store_number a v) next pc w u r o l c h i = store_part z a v pc w u h i
     step_follows (move_word from to) next pc w u r o l c h i = guarded z (is_place from) (pc + 6) 6 u _ (λ e. move_part z from to pc w u (place_is from e) h i)
     step_follows (jump to) next pc w u r o l c h i = jump_part z to pc w u r.fit h i
+
+    test_follows : (t : Test) (far : Bool) (holds_at fails_at pc end : ℕ) (held failed : Place → Type 0) (ch cf : WordState → ℕ) (rh rf : WordState → Behaviour)
+        (w : WordState) (u : Core) → Ready (EachTestWay z.room t held failed) w → TestOfWords t → TestLocalsBelow z.locals t → TestLoopsCount t
+        → Stands z.code pc (test_code pc far holds_at fails_at t) → pc % 2 ≡ 0 → Fork far holds_at fails_at (pc + 2 * test_words t)
+        → WayFollows held holds_at end ch rh → WayFollows failed fails_at end cf rf → StandsFor z pc w u
+        → Follows z end (test_spent t ch cf w) u (tested t rh rf w)
+    test_follows (holds p) far holds_at fails_at pc end held failed ch cf rh rf w u r o l c h ev fork fh ff i =
+        let a = code_of pc p in
+        let at = pc + 2 * words_of p in
+        let last = holds_code far holds_at fails_at in
+        let hl : Stands z.code at last = subst (λ n. Stands z.code n last) (omega (arith, code_length pc p)) (stands_back z.code pc a last h) in
+        let next = Moves z.room 1 0 (λ s. held s × failed s) in
+        let b = behaviour p w in
+        then_way z at end (spent p w) (λ v. 8 + spent_by_top ch cf v) u (Ready next) b.effects b.end (way_by_top rh rf)
+        (program_follows p next pc w u r o l c (stands_front z.code pc a last h) i)
+        (ready_on next b.end (well z.room p next r.place w r.fit r.matches) (words p w o r.words_in))
+        (λ x v q j. by_top far holds_at fails_at end held failed ch cf rh rf fh ff at v x v.stack hl
+        (fork_at far holds_at fails_at (pc + 2 * test_words (holds p)) (at + 10) (omega arith) fork) q refl j)
+    test_follows (compares d p) far holds_at fails_at pc end held failed ch cf rh rf w u r o l c h ev fork fh ff i =
+        let a = code_of pc p in
+        let at = pc + 2 * words_of p in
+        let last = compares_code d far holds_at fails_at in
+        let hl : Stands z.code at last = subst (λ n. Stands z.code n last) (omega (arith, code_length pc p)) (stands_back z.code pc a last h) in
+        let next = Moves z.room 2 0 (λ s. held s × failed s) in
+        let b = behaviour p w in
+        then_way z at end (spent p w) (λ v. 10 + spent_by_two d ch cf v) u (Ready next) b.effects b.end (way_by_two d rh rf)
+        (program_follows p next pc w u r o l c (stands_front z.code pc a last h) i)
+        (ready_on next b.end (well z.room p next r.place w r.fit r.matches) (words p w o r.words_in))
+        (λ x v q j. by_two far holds_at fails_at end held failed ch cf rh rf fh ff d at v x v.stack hl
+        (fork_at far holds_at fails_at (pc + 2 * test_words (compares d p)) (at + 12) (omega arith) fork) q refl j)
+    test_follows (both t d) far holds_at fails_at pc end held failed ch cf rh rf w u r o l c h ev fork fh ff i =
+        let second = pc + 2 * test_words t in
+        let a = test_code pc false second fails_at t in
+        let b = test_code second far holds_at fails_at d in
+        let hb : Stands z.code second b =
+        subst (λ n. Stands z.code n b) (omega (arith, test_length pc false second fails_at t)) (stands_back z.code pc a b h) in
+        let ev' : second % 2 ≡ 0 = omega (arith, ev) in
+        let first : Fork false second fails_at second = record { even_holds = ev'; even_fails = fork.even_fails; near = refl } in
+        test_follows t false second fails_at pc end (EachTestWay z.room d held failed) failed (test_spent d ch cf) cf (tested d rh rf) rf w u r o.0 l.0 c.0
+        (stands_front z.code pc a b h) ev first
+        (λ v x q j. test_follows d far holds_at fails_at second end held failed ch cf rh rf v x q o.1 l.1 c.1 hb ev'
+        (fork_at far holds_at fails_at (pc + 2 * test_words (both t d)) (second + 2 * test_words d) (omega arith) fork) fh ff j) ff i
+    test_follows (either t d) far holds_at fails_at pc end held failed ch cf rh rf w u r o l c h ev fork fh ff i =
+        let second = pc + 2 * test_words t in
+        let a = test_code pc true holds_at second t in
+        let b = test_code second far holds_at fails_at d in
+        let hb : Stands z.code second b =
+        subst (λ n. Stands z.code n b) (omega (arith, test_length pc true holds_at second t)) (stands_back z.code pc a b h) in
+        let ev' : second % 2 ≡ 0 = omega (arith, ev) in
+        let first : Fork true holds_at second second = record { even_holds = fork.even_holds; even_fails = ev'; near = refl } in
+        test_follows t true holds_at second pc end held (EachTestWay z.room d held failed) ch (test_spent d ch cf) rh (tested d rh rf) w u r o.0 l.0 c.0
+        (stands_front z.code pc a b h) ev first fh
+        (λ v x q j. test_follows d far holds_at fails_at second end held failed ch cf rh rf v x q o.1 l.1 c.1 hb ev'
+        (fork_at far holds_at fails_at (pc + 2 * test_words (either t d)) (second + 2 * test_words d) (omega arith) fork) fh ff j) i
+    test_follows (fails t) far holds_at fails_at pc end held failed ch cf rh rf w u r o l c h ev fork fh ff i =
+        test_follows t (not far) fails_at holds_at pc end failed held cf ch rf rh w u r o l c h ev (fork_turned far holds_at fails_at _ fork) ff fh i
 
     program_follows : (p : Program) (next : Place → Type 0) (pc : ℕ) (w : WordState) (u : Core) → Ready (EachWay z.room p next) w → OfWords p
         → LocalsBelow z.locals p → LoopsCount p

@@ -1,25 +1,33 @@
 -- The code of a word program: the stack is at SP, its top first; a local stands in RAM; R4 to R7 are for work.
-use Rattle.std.specs.Prelude.{ℕ, zero, suc, ◌+◌, ◌-◌, ◌*◌, List, [], ◌∷◌, ◌++◌, ◌==◌, if◌then◌else◌, nat_le, nat_lt}
+use Rattle.std.specs.Prelude.{ℕ, zero, suc, ◌+◌, ◌-◌, ◌*◌, Bool, true, false, not, List, [], ◌∷◌, ◌++◌, ◌==◌, if◌then◌else◌, nat_le, nat_lt}
 use Rattle.msp_isa.specs.declared.instructions.TwoOp.TheVariants as op
 use Rattle.msp_isa.specs.declared.registers.SourceRegister.TheVariants as source_register
 use Rattle.msp_isa.specs.declared.operands.Operand.{Operand}
 use Rattle.msp_isa.specs.declared.operands.Operand.TheVariants as operand
 use Rattle.msp_isa.specs.declared.operands.Konst.TheVariants as konst
+use Rattle.msp_isa.specs.declared.instructions.Condition.{Condition}
 use Rattle.msp_isa.specs.declared.instructions.Condition.TheVariants as condition
 use Rattle.array_versions.specs.msp_step.declared.effect.Modification.TheVariants as change
 use Rattle.msp_isa.specs.alp_words.Words.{word_sum}
 use Rattle.code_forms.specs.Forms as forms
-use Rattle.code_forms.specs.Forms.{WorkRegister, R4, R5, R6, R7, Register, Number, Constant, Fram, Ram, Indexed, Popped, ToRegister, ToFram, ToRam, ToIndexed, Source, Form, Move, Calculate, Update, Push, Modify, Jump, Branch}
+use Rattle.code_forms.specs.Forms.{WorkRegister, R4, R5, R6, R7, Register, Number, Constant, Fram, Ram, Indexed, Popped, ToRegister, ToFram, ToRam}
+use Rattle.code_forms.specs.Forms.{ToIndexed, Source, Form, Move, Calculate, Update, Push, Modify, Jump, Branch}
 use Rattle.array_versions.specs.declared.operations.UnaryOperation.{UnaryOperation}
-use Rattle.array_versions.specs.declared.operations.UnaryOperation.TheVariants.{Negate, Complement, Not, Truth}
+use Rattle.array_versions.specs.declared.operations.UnaryOperation.TheVariants.{Negate, Complement}
 use Rattle.array_versions.specs.declared.operations.BinaryOperation.{BinaryOperation}
-use Rattle.array_versions.specs.declared.operations.BinaryOperation.TheVariants.{Multiply, Divide, Remainder, Add, Subtract, And, Xor, Or, Equal, NotEqual, Below, AtMost, Above, AtLeast, SignedBelow, SignedAtMost, SignedAbove, SignedAtLeast}
+use Rattle.array_versions.specs.declared.operations.BinaryOperation.TheVariants.{Multiply, Divide, Remainder, Add, Subtract, And, Xor, Or}
+use Rattle.array_versions.specs.declared.operations.Comparison.{Comparison}
+use Rattle.array_versions.specs.declared.operations.Comparison.TheVariants.{Equal, Below, Above, SignedBelow, SignedAbove, CommonBit}
 use Rattle.array_versions.specs.declared.operations.ShiftOperation.{ShiftOperation}
 use Rattle.array_versions.specs.declared.operations.ShiftOperation.TheVariants.{Left, Right, SignedRight}
 use Rattle.array_versions.specs.declared.program.ArrayPlace.{ArrayPlace}
 use Rattle.array_versions.specs.declared.program.ListPlace.{ListPlace}
-use Rattle.array_versions.specs.Program.{Step, Program, number, load, keep, local, set_local, unary, binary, shift, element, emit_word, list_entry, versioned_read, versioned_write, sense, choose, repeat, store_number, move_word, jump, nothing, step}
-use Rattle.array_versions.specs.Cost.{step_words, words_of}
+use Rattle.array_versions.specs.Program.{Step, Test, Program, number, load, keep, local, set_local, unary, binary, shift, element, emit_word}
+use Rattle.array_versions.specs.Program.{list_entry}
+use Rattle.array_versions.specs.Program.{versioned_read, versioned_write, sense, truth, choose, repeat, store_number, move_word, jump, holds}
+use Rattle.array_versions.specs.Program.{compares}
+use Rattle.array_versions.specs.Program.{both, either, fails, nothing, step}
+use Rattle.array_versions.specs.Cost.{step_words, test_words, words_of}
 
 -- where a local stands
 abbrev pub local_address : ℕ → ℕ
@@ -33,45 +41,14 @@ pop_to b = Move Popped (ToRegister b)
 abbrev pub push_from : WorkRegister → Form
 push_from b = Push (Register b)
 
--- C as a number in R4
-abbrev pub carry : List Form
-carry = Move (Constant konst.Zero) (ToRegister R4) ∷ Calculate op.Addc (Constant konst.Zero) R4 ∷ []
-
--- 1 - C as a number in R4
-abbrev pub no_carry : List Form
-no_carry = Calculate op.Subc (Register R4) R4 ∷ Calculate op.And (Constant konst.One) R4 ∷ []
-
--- an operation on R5
+-- an operation on R5, its result in R4
 abbrev pub unary_middle : UnaryOperation → List Form
 unary_middle Negate = Move (Constant konst.Zero) (ToRegister R4) ∷ Calculate op.Sub (Register R5) R4 ∷ []
 unary_middle Complement = Move (Constant konst.MinusOne) (ToRegister R4) ∷ Calculate op.Sub (Register R5) R4 ∷ []
-unary_middle Not = Calculate op.Cmp (Constant konst.One) R5 ∷ Calculate op.Subc (Register R5) R5 ∷ Calculate op.And (Constant konst.One) R5 ∷ []
-unary_middle Truth = Calculate op.Cmp (Constant konst.One) R5 ∷ carry
-
--- where its result is
-abbrev pub unary_result : UnaryOperation → WorkRegister
-unary_result Not = R5
-unary_result _ = R4
 
 -- the top to R5, the operation, its result to the top
-abbrev pub unary_code : List Form → WorkRegister → List Form
-unary_code middle b = pop_to R5 ∷ (middle ++ push_from b ∷ [])
-
--- a word raised by 8000, so that order as signed words is order as numbers
-abbrev pub bias : WorkRegister → Form
-bias b = Calculate op.Add (Number 0x8000) b
-
--- the left side less the right one
-abbrev pub compared : List Form → List Form
-compared tail = Calculate op.Cmp (Register R5) R4 ∷ tail
-
--- the right side less the left one
-abbrev pub compared_back : List Form → List Form
-compared_back tail = Calculate op.Cmp (Register R4) R5 ∷ tail
-
--- C where the two sides differ
-abbrev pub differing : List Form → List Form
-differing tail = Calculate op.Sub (Register R5) R4 ∷ Calculate op.Cmp (Constant konst.One) R4 ∷ tail
+abbrev pub unary_code : List Form → List Form
+unary_code middle = pop_to R5 ∷ (middle ++ push_from R4 ∷ [])
 
 -- a bit of the multiplier: where it is 1, what is in R4 is added to R6; then R4 is doubled and R5 halved, until R5 is 0
 abbrev pub multiply_turn : List Form
@@ -101,16 +78,6 @@ binary_middle Subtract = Calculate op.Sub (Register R5) R4 ∷ []
 binary_middle And = Calculate op.And (Register R5) R4 ∷ []
 binary_middle Xor = Calculate op.Xor (Register R5) R4 ∷ []
 binary_middle Or = Calculate op.Bis (Register R5) R4 ∷ []
-binary_middle Equal = differing no_carry
-binary_middle NotEqual = differing carry
-binary_middle Below = compared no_carry
-binary_middle AtMost = compared_back carry
-binary_middle Above = compared_back no_carry
-binary_middle AtLeast = compared carry
-binary_middle SignedBelow = bias R4 ∷ bias R5 ∷ compared no_carry
-binary_middle SignedAtMost = bias R4 ∷ bias R5 ∷ compared_back carry
-binary_middle SignedAbove = bias R4 ∷ bias R5 ∷ compared_back no_carry
-binary_middle SignedAtLeast = bias R4 ∷ bias R5 ∷ compared carry
 
 -- where its result is
 abbrev pub binary_result : BinaryOperation → WorkRegister
@@ -247,14 +214,50 @@ copy_code place list =
 abbrev pub write_code : ArrayPlace → ListPlace → List Form
 write_code place list = copy_code place list ++ first_code place list
 
--- the head of a choice, of ten bytes: a branch to the second program where the condition is 0. A short jump over the branch has
--- no limit in how far the branch goes
-abbrev pub choice_head : ℕ → List Form
-choice_head other = pop_to R4 ∷ Calculate op.Cmp (Constant konst.Zero) R4 ∷ Jump condition.NotEqual 2 ∷ Branch other ∷ []
+-- the flags of a comparison of R4, the left side, with R5, the right one
+abbrev pub compare_form : Comparison → Form
+compare_form Equal = Calculate op.Cmp (Register R5) R4
+compare_form Below = Calculate op.Cmp (Register R5) R4
+compare_form Above = Calculate op.Cmp (Register R4) R5
+compare_form SignedBelow = Calculate op.Cmp (Register R5) R4
+compare_form SignedAbove = Calculate op.Cmp (Register R4) R5
+compare_form CommonBit = Calculate op.Bit (Register R5) R4
 
--- behind the first program a branch of four bytes past the second
-abbrev pub choice_code : ℕ → ℕ → List Form → List Form → List Form
-choice_code other end taken otherwise = choice_head other ++ (taken ++ Branch end ∷ otherwise)
+-- the condition that they meet where it holds
+abbrev pub holding : Comparison → Condition
+holding Equal = condition.Equal
+holding Below = condition.NoCarry
+holding Above = condition.NoCarry
+holding SignedBelow = condition.Less
+holding SignedAbove = condition.Less
+holding CommonBit = condition.NotEqual
+
+-- and where it fails
+abbrev pub failing : Comparison → Condition
+failing Equal = condition.NotEqual
+failing Below = condition.Carry
+failing Above = condition.Carry
+failing SignedBelow = condition.GreaterOrEqual
+failing SignedAbove = condition.GreaterOrEqual
+failing CommonBit = condition.Equal
+
+-- to one address where a condition is met, to another where the opposite one is, of six bytes. One of the two stands right behind; a
+-- branch leads to the other, and a short jump over it, so that there is no limit in how far it goes. The flag says that the first is far
+abbrev pub decision : Bool → ℕ → ℕ → Condition → Condition → List Form
+decision true holds_at fails_at met opposite = Jump opposite 2 ∷ Branch holds_at ∷ []
+decision false holds_at fails_at met opposite = Jump met 2 ∷ Branch fails_at ∷ []
+
+-- whether the top isn't 0, of ten bytes
+abbrev pub holds_code : Bool → ℕ → ℕ → List Form
+holds_code far holds_at fails_at = pop_to R4 ∷ Calculate op.Cmp (Constant konst.Zero) R4 ∷ decision far holds_at fails_at condition.NotEqual condition.Equal
+
+-- whether the two words on top compare so, of twelve bytes
+abbrev pub compares_code : Comparison → Bool → ℕ → ℕ → List Form
+compares_code c far holds_at fails_at = pop_to R5 ∷ pop_to R4 ∷ compare_form c ∷ decision far holds_at fails_at (holding c) (failing c)
+
+-- behind a test that begins right in front of it, of six bytes: 1 where it holds, and from the third word on 0 where it fails
+abbrev pub truth_code : List Form
+truth_code = Push (Constant konst.One) ∷ Jump condition.Always 1 ∷ Push (Constant konst.Zero) ∷ []
 
 -- the test of a loop, of 14 bytes: a branch past the loop where the local isn't below the number
 abbrev pub loop_test : ℕ → ℕ → ℕ → List Form
@@ -282,7 +285,7 @@ abbrev mutual
   step_code at (keep a) = Move Popped (ToFram a) ∷ []
   step_code at (local n) = Push (Ram (local_address n)) ∷ []
   step_code at (set_local n) = Move Popped (ToRam (local_address n)) ∷ []
-  step_code at (unary operation) = unary_code (unary_middle operation) (unary_result operation)
+  step_code at (unary operation) = unary_code (unary_middle operation)
   step_code at (binary operation) = binary_code (binary_middle operation) (binary_result operation)
   step_code at (shift operation k) = shift_code (shift_middle operation k)
   step_code at (element base length) = element_code base length
@@ -291,14 +294,27 @@ abbrev mutual
   step_code at (versioned_read place list) = read_code place list
   step_code at (versioned_write place list) = write_code place list
   step_code at sense = forms.Sense R4 ∷ push_from R4 ∷ []
-  step_code at (choose taken otherwise) =
-      let other = at + 14 + 2 * words_of taken in
-      choice_code other (other + 2 * words_of otherwise) (code_of (at + 10) taken) (code_of other otherwise)
+  step_code at (truth t) = let inside = at + 2 * test_words t in test_code at false inside (inside + 4) t ++ truth_code
+  step_code at (choose t taken otherwise) =
+      let inside = at + 2 * test_words t in
+      let other = inside + 2 * words_of taken + 4 in
+      test_code at false inside other t ++ (code_of inside taken ++ Branch (other + 2 * words_of otherwise) ∷ code_of other otherwise)
   step_code at (repeat n from below body) =
       loop_code (at + 6) (at + 34 + 2 * words_of body) n from below (code_of (at + 20) body)
   step_code at (store_number a w) = Move (Number w) (ToFram a) ∷ []
   step_code at (move_word from to) = Move (Fram from) (ToFram to) ∷ []
   step_code at (jump to) = Branch to ∷ []
+
+  -- the code of a test that begins at an address. It comes to one address where the test holds, to another where it fails; one of the two
+  -- stands right behind it, and the flag says that it is the second
+  pub test_code : ℕ → Bool → ℕ → ℕ → Test → List Form
+  test_code at far holds_at fails_at (holds p) = code_of at p ++ holds_code far holds_at fails_at
+  test_code at far holds_at fails_at (compares c p) = code_of at p ++ compares_code c far holds_at fails_at
+  test_code at far holds_at fails_at (both t u) = let second = at + 2 * test_words t in test_code at false second fails_at t
+      ++ test_code second far holds_at fails_at u
+  test_code at far holds_at fails_at (either t u) = let second = at + 2 * test_words t in test_code at true holds_at second t
+      ++ test_code second far holds_at fails_at u
+  test_code at far holds_at fails_at (fails t) = test_code at (not far) fails_at holds_at t
 
   -- the code of a program that begins at an address
   pub code_of : ℕ → Program → List Form

@@ -1,6 +1,7 @@
 //! Code for word programs: the instructions that do what a program does, on a stack and locals in RAM.
 #![tactic(auto)]
 
+mod decisions;
 mod forms;
 pub mod laws;
 mod operations;

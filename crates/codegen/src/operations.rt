@@ -5,10 +5,8 @@ ghost use Rattle.code_forms.specs.Forms as form;
 ghost use Rattle.code_forms.specs.Placed.{instructions};
 ghost use Rattle.array_versions.specs.declared.operations.BinaryOperation.TheVariants as binary_op;
 ghost use Rattle.array_versions.specs.Cost.{unary_words, binary_words};
-ghost use Rattle.codegen.specs.Code.{unary_code, unary_middle, unary_result, binary_code, binary_middle, binary_result, carry};
-ghost use Rattle.codegen.specs.Code.{no_carry, differing, bias, divide_middle, push_from, pop_to};
+ghost use Rattle.codegen.specs.Code.{unary_code, unary_middle, binary_code, binary_middle, binary_result, divide_middle, push_from, pop_to};
 ghost use Rattle.msp_isa.specs.alp_words.declared.Width.TheVariants.{Word};
-ghost use Rattle.msp_isa.specs.declared.instructions.TwoOp.TheVariants as two_op;
 ghost use Rattle.msp_isa.specs.declared.instructions.OneOp.TheVariants as one_op;
 
 use crate::forms::{POPPED, R4, R5, R6, TO_R4, TO_R5, TO_R6, TO_R7, constant, jump, push, two};
@@ -21,7 +19,7 @@ use std::alloc::AllocError;
 /// Appends the code of an operation on the top of the stack.
 pub fn emit_unary(operation: UnaryOperation, code: &mut Vec<Instr>) -> Result<(), AllocError>
     ensures { OnOk result
-        (code.new.items ≡ code.old.items ++ instructions (unary_code (unary_middle operation) (unary_result operation))) }
+        (code.new.items ≡ code.old.items ++ instructions (unary_code (unary_middle operation))) }
 {
     match operation {
         UnaryOperation::Negate => code.extend_from_slice(&[
@@ -34,20 +32,6 @@ pub fn emit_unary(operation: UnaryOperation, code: &mut Vec<Instr>) -> Result<()
             two(TwoOp::Mov, POPPED, TO_R5),
             two(TwoOp::Mov, constant(Konst::MinusOne), TO_R4),
             two(TwoOp::Sub, R5, TO_R4),
-            push(R4),
-        ]),
-        UnaryOperation::Not => code.extend_from_slice(&[
-            two(TwoOp::Mov, POPPED, TO_R5),
-            two(TwoOp::Cmp, constant(Konst::One), TO_R5),
-            two(TwoOp::Subc, R5, TO_R5),
-            two(TwoOp::And, constant(Konst::One), TO_R5),
-            push(R5),
-        ]),
-        UnaryOperation::Truth => code.extend_from_slice(&[
-            two(TwoOp::Mov, POPPED, TO_R5),
-            two(TwoOp::Cmp, constant(Konst::One), TO_R5),
-            two(TwoOp::Mov, constant(Konst::Zero), TO_R4),
-            two(TwoOp::Addc, constant(Konst::Zero), TO_R4),
             push(R4),
         ]),
     }
@@ -63,60 +47,12 @@ fn emit_pops(code: &mut Vec<Instr>) -> Result<(), AllocError>
     ])
 }
 
-// Both sides raised, so that order as signed words is order as numbers.
-fn emit_bias(code: &mut Vec<Instr>) -> Result<(), AllocError>
-    ensures { OnOk result (code.new.items ≡ code.old.items ++ instructions (bias form.R4 ∷ bias form.R5 ∷ [])) }
-{
-    code.extend_from_slice(&[
-        two(TwoOp::Add, Src::Immediate(0x8000), TO_R4),
-        two(TwoOp::Add, Src::Immediate(0x8000), TO_R5),
-    ])
-}
-
-// Pushes C.
-fn emit_carry(code: &mut Vec<Instr>) -> Result<(), AllocError>
-    ensures { OnOk result (code.new.items ≡ code.old.items ++ instructions (carry ++ push_from form.R4 ∷ [])) }
-{
-    code.extend_from_slice(&[
-        two(TwoOp::Mov, constant(Konst::Zero), TO_R4),
-        two(TwoOp::Addc, constant(Konst::Zero), TO_R4),
-        push(R4),
-    ])
-}
-
-// Pushes 1 - C.
-fn emit_no_carry(code: &mut Vec<Instr>) -> Result<(), AllocError>
-    ensures { OnOk result (code.new.items ≡ code.old.items ++ instructions (no_carry ++ push_from form.R4 ∷ [])) }
-{
-    code.extend_from_slice(&[
-        two(TwoOp::Subc, R4, TO_R4),
-        two(TwoOp::And, constant(Konst::One), TO_R4),
-        push(R4),
-    ])
-}
-
 // One instruction, and its result is pushed.
 fn emit_plain(op: TwoOp, code: &mut Vec<Instr>) -> Result<(), AllocError>
     ensures { OnOk result (code.new.items
         ≡ code.old.items ++ instructions (form.Calculate op (form.Register form.R5) form.R4 ∷ push_from form.R4 ∷ [])) }
 {
     code.extend_from_slice(&[two(op, R5, TO_R4), push(R4)])
-}
-
-// C where the two sides differ.
-fn emit_differing(code: &mut Vec<Instr>) -> Result<(), AllocError>
-    ensures { OnOk result (code.new.items ≡ code.old.items ++ instructions (differing [])) }
-{
-    code.extend_from_slice(&[
-        two(TwoOp::Sub, R5, TO_R4),
-        two(TwoOp::Cmp, constant(Konst::One), TO_R4),
-    ])
-}
-
-fn emit_compare(src: Src, dst: Dst, code: &mut Vec<Instr>) -> Result<(), AllocError>
-    ensures { OnOk result (code.new.items ≡ code.old.items ++ Instr.Two two_op.Cmp Word src dst ∷ []) }
-{
-    code.extend_from_slice(&[two(TwoOp::Cmp, src, dst)])
 }
 
 fn emit_multiply(code: &mut Vec<Instr>) -> Result<(), AllocError>
@@ -159,40 +95,6 @@ fn emit_divide(from: Src, code: &mut Vec<Instr>) -> Result<(), AllocError>
     ])
 }
 
-// The left side against the right one: no borrow where it isn't below.
-fn emit_below(code: &mut Vec<Instr>) -> Result<(), AllocError>
-    ensures { OnOk result (code.new.items ≡ code.old.items
-        ++ instructions (form.Calculate two_op.Cmp (form.Register form.R5) form.R4 ∷ (no_carry ++ push_from form.R4 ∷ []))) }
-{
-    emit_compare(R5, TO_R4, code)?;
-    emit_no_carry(code)
-}
-
-fn emit_at_least(code: &mut Vec<Instr>) -> Result<(), AllocError>
-    ensures { OnOk result (code.new.items ≡ code.old.items
-        ++ instructions (form.Calculate two_op.Cmp (form.Register form.R5) form.R4 ∷ (carry ++ push_from form.R4 ∷ []))) }
-{
-    emit_compare(R5, TO_R4, code)?;
-    emit_carry(code)
-}
-
-// The right side against the left one.
-fn emit_above(code: &mut Vec<Instr>) -> Result<(), AllocError>
-    ensures { OnOk result (code.new.items ≡ code.old.items
-        ++ instructions (form.Calculate two_op.Cmp (form.Register form.R4) form.R5 ∷ (no_carry ++ push_from form.R4 ∷ []))) }
-{
-    emit_compare(R4, TO_R5, code)?;
-    emit_no_carry(code)
-}
-
-fn emit_at_most(code: &mut Vec<Instr>) -> Result<(), AllocError>
-    ensures { OnOk result (code.new.items ≡ code.old.items
-        ++ instructions (form.Calculate two_op.Cmp (form.Register form.R4) form.R5 ∷ (carry ++ push_from form.R4 ∷ []))) }
-{
-    emit_compare(R4, TO_R5, code)?;
-    emit_carry(code)
-}
-
 // An operation on the left side in R4 and the right one in R5, and its result is pushed.
 fn emit_middle(operation: BinaryOperation, code: &mut Vec<Instr>) -> Result<(), AllocError>
     ensures { OnOk result (code.new.items
@@ -207,34 +109,6 @@ fn emit_middle(operation: BinaryOperation, code: &mut Vec<Instr>) -> Result<(), 
         BinaryOperation::Multiply => emit_multiply(code),
         BinaryOperation::Divide => emit_divide(R4, code),
         BinaryOperation::Remainder => emit_divide(R6, code),
-        BinaryOperation::Equal => {
-            emit_differing(code)?;
-            emit_no_carry(code)
-        }
-        BinaryOperation::NotEqual => {
-            emit_differing(code)?;
-            emit_carry(code)
-        }
-        BinaryOperation::Below => emit_below(code),
-        BinaryOperation::AtMost => emit_at_most(code),
-        BinaryOperation::Above => emit_above(code),
-        BinaryOperation::AtLeast => emit_at_least(code),
-        BinaryOperation::SignedBelow => {
-            emit_bias(code)?;
-            emit_below(code)
-        }
-        BinaryOperation::SignedAtMost => {
-            emit_bias(code)?;
-            emit_at_most(code)
-        }
-        BinaryOperation::SignedAbove => {
-            emit_bias(code)?;
-            emit_above(code)
-        }
-        BinaryOperation::SignedAtLeast => {
-            emit_bias(code)?;
-            emit_at_least(code)
-        }
     }
 }
 
@@ -250,11 +124,10 @@ pub fn emit_binary(operation: BinaryOperation, code: &mut Vec<Instr>) -> Result<
 /// The bytes of the code of an operation on the top of the stack.
 pub fn unary_bytes(operation: UnaryOperation) -> u16
     ensures value { result ≡ 2 * unary_words operation }
-    ensures low { result ≤ 10 }
+    ensures low { result ≤ 8 }
 {
     match operation {
         UnaryOperation::Negate | UnaryOperation::Complement => 8,
-        UnaryOperation::Not | UnaryOperation::Truth => 10,
     }
 }
 
@@ -271,14 +144,5 @@ pub fn binary_bytes(operation: BinaryOperation) -> u16
         | BinaryOperation::Or => 8,
         BinaryOperation::Multiply => 22,
         BinaryOperation::Divide | BinaryOperation::Remainder => 30,
-        BinaryOperation::Equal | BinaryOperation::NotEqual => 14,
-        BinaryOperation::Below
-        | BinaryOperation::AtMost
-        | BinaryOperation::Above
-        | BinaryOperation::AtLeast => 12,
-        BinaryOperation::SignedBelow
-        | BinaryOperation::SignedAtMost
-        | BinaryOperation::SignedAbove
-        | BinaryOperation::SignedAtLeast => 20,
     }
 }

@@ -10,8 +10,8 @@ abbrev pub invariant-emit_steps-loop-step : goal.invariant-emit_steps-loop-step
 invariant-emit_steps-loop-step l =
     let left = steps_of (drop l.step-index l.steps) in
     record {
-      owed : l.code.items ++ instructions (code_of l.end left) ≡ l.initial.code.items ++ instructions (code_of l.fn.at (steps_of l.steps));
-      address : l.end + 2 * words_of left ≡ l.fn.at + 2 * words_of (steps_of l.steps);
+      owed : l.code.items ++ instructions (code_of l.start left) ≡ l.initial.code.items ++ instructions (code_of l.fn.at (steps_of l.steps));
+      address : l.start + 2 * words_of left ≡ l.fn.at + 2 * words_of (steps_of l.steps);
       locals : LocalsBelow 1008 left;
       in_words : OfWords left → OfWords (steps_of l.steps);
     }
