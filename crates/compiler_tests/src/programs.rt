@@ -1,25 +1,28 @@
 //! One program by each builder.
 
-use array_versions::{BinaryOperation, WordProgram, WordStep};
+use array_versions::{BinaryOperation, Comparison, WordProgram, WordStep, WordTest};
 use std::alloc::{AllocError, Global};
 
-// `if (7) { n = n + sense(); }`, with n at 4410.
+// `if (7 < 9) { n = n + sense(); }`, with n at 4410.
 fn adding(alloc: Global) -> Result<WordProgram, AllocError> {
     let mut adds = WordProgram::new(alloc);
     adds.load(0x4410)?;
     adds.sense()?;
     adds.binary(BinaryOperation::Add)?;
     adds.keep(0x4410)?;
+    let mut sides = WordProgram::new(alloc);
+    sides.number(7)?;
+    sides.number(9)?;
+    let test = WordTest::compares(Comparison::Below, sides);
     let mut program = WordProgram::new(alloc);
-    program.number(7)?;
-    program.choose(adds, WordProgram::new(alloc))?;
+    program.choose(test, adds, WordProgram::new(alloc))?;
     Ok(program)
 }
 
 #[test]
 fn builders_append(rt: HostRuntime) -> Result<(), AllocError> {
     let program = adding(rt.alloc())?;
-    assert_eq!(rt; program.steps.len(), 2);
-    assert!(rt; matches!(program.steps[0], WordStep::Number(7)));
+    assert_eq!(rt; program.steps.len(), 1);
+    assert!(rt; matches!(program.steps[0], WordStep::Choose(..)));
     Ok(())
 }

@@ -1,5 +1,6 @@
 -- Behind the last store of a transition the world is decided to the state that the source comes to.
-use Rattle.std.proofs.Common.{◌≡◌, ℕ, ◌+◌, ◌-◌, ◌*◌, ◌%◌, ◌<◌, ◌≤◌, List, [], ◌∷◌, ◌++◌, length, length-append, map, get_or, Some, None, true, false, refl, sym, ap, ◌∙◌, subst, ⊎_elim, inl, arith, append_assoc, append-nil}
+use Rattle.std.proofs.Common.{◌≡◌, ℕ, ◌+◌, ◌-◌, ◌*◌, ◌%◌, ◌<◌, ◌≤◌, List, [], ◌∷◌, ◌++◌, length, length-append, map, get_or, Some, None, true, false, refl}
+use Rattle.std.proofs.Common.{sym, ap, ◌∙◌, subst, ⊎_elim, inl, arith, append_assoc, append-nil}
 use Rattle.std.specs.Prelude.{Contains, slice_get}
 use Rattle.std.proofs.lemmas.List.{get_or_past}
 use Rattle.std.proofs.lemmas.Bool.{cases_lt, cases_Bool}
@@ -37,17 +38,20 @@ use Rattle.task_attempts.proofs.Given.{IsGiven, IsTaskGiven}
 use Rattle.task_attempts.proofs.Rows.{rows_are, rows_count, declared_length}
 use Rattle.task_attempts.proofs.StoredWords.{StoresWords}
 use Rattle.task_attempts.proofs.Quiet.{IsQuiet, IsQuietAt, quiet_behind, stores_as, stays_within}
-use Rattle.task_attempts.proofs.Entries.{IsTransitionStore, transition_stores, closing, closed, closed_sent, closed_next, closed_count, closed_pairs, closed_entries, IsLeft, closed_left}
+use Rattle.task_attempts.proofs.Entries.{IsTransitionStore, transition_stores, closing, closed, closed_sent, closed_next, closed_count, closed_pairs}
+use Rattle.task_attempts.proofs.Entries.{closed_entries, IsLeft, closed_left}
 use Rattle.task_attempts.proofs.Listed.{among_either, among_front, among_back, among_map, map_among}
 use Rattle.task_attempts.proofs.Tasks.{IsAt, places, body, room, task_given, body_is, private_copy, private_not_in_place}
 use Rattle.task_attempts.proofs.Stores.{Safe, StoresOf, task_safe, transition_safe}
-use Rattle.task_attempts.proofs.Words.{OwnWord, marked, unmarked, own_word_of, IsTaskWord, left_there, private, element as an_element, task_word, scalar_there, element_there, element_word}
+use Rattle.task_attempts.proofs.Words.{OwnWord, marked, unmarked, own_word_of, IsTaskWord, left_there, private, element as an_element, task_word}
+use Rattle.task_attempts.proofs.Words.{scalar_there, element_there, element_word}
 use Rattle.layout_facts.specs.memory_map.declared.words.RuntimeWord.TheVariants.{CurrentTask, NextTask, Gate, ListLength, EmitCount, Base, SentBase, Version}
 use Rattle.layout_facts.specs.memory_map.declared.place.VariablePlace.{VariablePlace}
 use Rattle.layout_facts.specs.memory_map.declared.place.VariablePlace.TheVariants.{Scalar, Array}
 use Rattle.layout_facts.specs.memory_map.declared.place.PrivateScalar.{PrivateScalar}
 use Rattle.layout_facts.specs.memory_map.MemoryMap.{MemoryMap, word_place}
-use Rattle.layout_facts.specs.memory_map.Spots.{address_of, Places, IsScalarPlace, IsScalarAt, Element, IsElement, IsCopied, Spot, IsSpot, scalar, element, copy, spot_address, element_address, copy_address, IsWordOf}
+use Rattle.layout_facts.specs.memory_map.Spots.{address_of, Places, IsScalarPlace, IsScalarAt, Element, IsElement, IsCopied, Spot, IsSpot, scalar, element}
+use Rattle.layout_facts.specs.memory_map.Spots.{copy, spot_address, element_address, copy_address, IsWordOf}
 
 module _ (p : CheckedProgram) (l : MemoryMap) (given : IsGiven p l) (s : State) (is_task : s.task < length p.tasks) (i : IsAt p l s.task) (x : World)
     (readings : List ℕ)

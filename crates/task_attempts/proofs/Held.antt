@@ -1,7 +1,8 @@
 -- The variables that an attempt starts from, as FRAM has them: a scalar that the task writes in place may hold any word there. The task
 -- comes to the same from these variables as from the state's, since each of its paths writes such a scalar before it reads it and before
 -- its transition. So an attempt is compared with the source's attempt from what FRAM holds, and that one with the source's own.
-use Rattle.std.proofs.Common.{◌≡◌, ℕ, zero, suc, ◌+◌, ◌==◌, ◌<◌, ◌≤◌, List, [], ◌∷◌, length, get_or, slice_set, Bool, true, false, ◌&&◌, not, Option, Some, None, refl, sym, ap, ◌∙◌, subst, ⊎_elim, arith}
+use Rattle.std.proofs.Common.{◌≡◌, ℕ, zero, suc, ◌+◌, ◌==◌, ◌<◌, ◌≤◌, List, [], ◌∷◌, length, get_or, slice_set, Bool, true, false, ◌&&◌, not, Option, Some}
+use Rattle.std.proofs.Common.{None, refl, sym, ap, ◌∙◌, subst, ⊎_elim, arith}
 use Rattle.std.specs.Prelude.{slice_get, IsSomeAnd}
 use Rattle.std.proofs.lemmas.Bool.{cases_eq, cases_Bool, eqb-true}
 use Rattle.std.proofs.lemmas.List.{get_or-set_same, get_or-set_other, length-set}

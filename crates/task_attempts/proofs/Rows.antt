@@ -1,5 +1,6 @@
 -- Rows of words: statements keep how many there are, and rows of the declared lengths are a state's.
-use Rattle.std.proofs.Common.{◌≡◌, ℕ, zero, suc, ◌+◌, ◌-◌, ◌<◌, List, [], ◌∷◌, ◌++◌, length, Option, Some, None, Bool, true, false, get_or, refl, sym, ◌∙◌, arith, eq-eqb, if◌then◌else◌}
+use Rattle.std.proofs.Common.{◌≡◌, ℕ, zero, suc, ◌+◌, ◌-◌, ◌<◌, List, [], ◌∷◌, ◌++◌, length, Option, Some, None, Bool, true, false, get_or, refl, sym, ◌∙◌}
+use Rattle.std.proofs.Common.{arith, eq-eqb, if◌then◌else◌}
 use Rattle.std.specs.Prelude.{◌&&◌, ◌==◌, nat_lt, slice_get}
 use Rattle.std.proofs.Math.ListN.{length-set}
 use Rattle.std.proofs.lemmas.Bool.{lt-ltb, and_from, and_parts}
@@ -12,7 +13,8 @@ use Rattle.layout_facts.specs.task_ast.declared.SharedDeclaration.{SharedDeclara
 use Rattle.layout_facts.specs.task_ast.declared.names.Variable.{Variable}
 use Rattle.layout_facts.specs.task_ast.declared.names.Variable.TheVariants.{Shared, Local}
 use Rattle.layout_facts.specs.source_values.Values.{value_of, holds}
-use Rattle.layout_facts.specs.source_values.Statements.{Attempt, Outcome, goes_on, to_task, short, and_then, if_value, assigned, turns, run_statement, run_choice, run_block}
+use Rattle.layout_facts.specs.source_values.Statements.{Attempt, Outcome, goes_on, to_task, short, and_then, if_value, assigned, turns, run_statement}
+use Rattle.layout_facts.specs.source_values.Statements.{run_choice, run_block}
 use Rattle.layout_facts.specs.source_values.Runs.{initial_words}
 use Rattle.layout_facts.specs.memory_map.declared.place.VariablePlace.{VariablePlace}
 use Rattle.layout_facts.specs.memory_map.declared.place.VariablePlace.TheVariants.{Scalar, Array}
@@ -106,7 +108,8 @@ rows_count [] [] h = refl
 rows_count [] (row ∷ rows) h = cc h
 rows_count (d ∷ ds) [] h = cc h
 rows_count (d ∷ ds) (row ∷ rows) h =
-    let k = rows_count ds rows (and_parts (are_words row) (are_rows ds rows) (and_parts (length row == length (initial_words d.extent)) (are_words row && are_rows ds rows) h).1).1 in
+    let k = rows_count ds rows (and_parts (are_words row) (are_rows ds rows)
+    (and_parts (length row == length (initial_words d.extent)) (are_words row && are_rows ds rows) h).1).1 in
     omega (arith, k)
 
 -- a place of the declared kind has the declared length

@@ -34,7 +34,8 @@ use Rattle.layout_facts.specs.memory_map.declared.place.VariablePlace.{VariableP
 use Rattle.layout_facts.specs.memory_map.declared.place.VariablePlace.TheVariants.{Scalar, Array}
 use Rattle.layout_facts.specs.memory_map.Places.{home_region}
 use Rattle.layout_facts.specs.memory_map.MemoryMap.{MemoryMap, word_place}
-use Rattle.layout_facts.specs.memory_map.Spots.{address_of, home_in, IsScalarAt, Places, Element, IsElement, IsCopied, version_address, element_address, IsWordOf}
+use Rattle.layout_facts.specs.memory_map.Spots.{address_of, home_in, IsScalarAt, Places, Element, IsElement, IsCopied, version_address, element_address}
+use Rattle.layout_facts.specs.memory_map.Spots.{IsWordOf}
 
 -- whether a place is one of a scalar
 abbrev is_scalar_at : Option VariablePlace → Bool

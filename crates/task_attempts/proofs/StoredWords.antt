@@ -1,5 +1,6 @@
 -- From words a program of words stores words.
-use Rattle.std.proofs.Common.{◌≡◌, ℕ, zero, suc, ◌+◌, ◌-◌, ◌*◌, ◌%◌, ◌==◌, ◌<◌, List, [], ◌∷◌, Option, Some, None, Bool, true, false, nat_lt, refl, arith}
+use Rattle.std.proofs.Common.{◌≡◌, ℕ, zero, suc, ◌+◌, ◌-◌, ◌*◌, ◌%◌, ◌==◌, ◌<◌, List, [], ◌∷◌, Option, Some, None, Bool, true, false, nat_lt, refl}
+use Rattle.std.proofs.Common.{arith}
 use Rattle.std.proofs.Common.{if◌then◌else◌}
 use Rattle.std.specs.List.{AllByRecursion}
 use Rattle.layout_facts.specs.fram_board.Effects.{Effect, Store}
@@ -7,12 +8,20 @@ use Rattle.layout_facts.specs.machine_effects.World.{EachStore}
 use Rattle.layout_facts.proofs.machine_effects.Interface.{each_store-append}
 use Rattle.layout_facts.specs.array_versions.declared.program.ArrayPlace.{ArrayPlace}
 use Rattle.layout_facts.specs.array_versions.declared.program.ListPlace.{ListPlace}
-use Rattle.layout_facts.specs.array_versions.Program.{Step, Program, number, load, keep, local, set_local, unary, binary, shift, element, emit_word, list_entry}
-use Rattle.layout_facts.specs.array_versions.Program.{versioned_read, versioned_write, sense, choose, repeat, store_number, move_word, jump, nothing, step}
-use Rattle.layout_facts.specs.array_versions.Behaviour.{WordState, End, GoesOn, Jumps, Short, Strays, Broken, Behaviour, behaves, goes_on, strays, broken, on_end, then_on}
-use Rattle.layout_facts.specs.array_versions.Behaviour.{is_place, at_place, with_top, with_stack, pushed, stored, with_local, local_pushed, reading_pushed, raised, entry_stored, ends_before}
-use Rattle.layout_facts.specs.array_versions.Behaviour.{listed_behind, behind_effects, own_element, first_stored, own_stored, chosen, turns, step_behaviour, behaviour}
-use Rattle.layout_facts.specs.array_versions.Form.{StepOfWords, OfWords}
+use Rattle.layout_facts.specs.array_versions.Operations.{is_true, compare_words}
+use Rattle.layout_facts.specs.array_versions.Program.{Step, Test, Program, number, load, keep, local, set_local, unary, binary, shift, element}
+use Rattle.layout_facts.specs.array_versions.Program.{emit_word}
+use Rattle.layout_facts.specs.array_versions.Program.{list_entry, versioned_read, versioned_write, sense, truth, choose, repeat, store_number}
+use Rattle.layout_facts.specs.array_versions.Program.{move_word}
+use Rattle.layout_facts.specs.array_versions.Program.{jump, holds, compares, both, either, fails, nothing, step}
+use Rattle.layout_facts.specs.array_versions.Behaviour.{WordState, End, GoesOn, Jumps, Short, Strays, Broken, Behaviour, behaves, goes_on, strays}
+use Rattle.layout_facts.specs.array_versions.Behaviour.{broken, on_end, then_on}
+use Rattle.layout_facts.specs.array_versions.Behaviour.{is_place, at_place, with_top, with_stack, pushed, stored, with_local, local_pushed}
+use Rattle.layout_facts.specs.array_versions.Behaviour.{reading_pushed, raised, entry_stored, ends_before}
+use Rattle.layout_facts.specs.array_versions.Behaviour.{listed_behind, behind_effects, own_element, first_stored, own_stored, number_pushed}
+use Rattle.layout_facts.specs.array_versions.Behaviour.{way_by_top}
+use Rattle.layout_facts.specs.array_versions.Behaviour.{way_by_two, turns, step_behaviour, tested, behaviour}
+use Rattle.layout_facts.specs.array_versions.Form.{StepOfWords, TestOfWords, OfWords}
 use Rattle.layout_facts.specs.array_versions.Laws.{IsStateOfWords, EndsInWords}
 use Rattle.layout_facts.proofs.array_versions.Interface.{put_words, local_words, place_high, step_words, words, stack_words}
 
@@ -121,9 +130,21 @@ versioned_stored_stores true place list i v s l w =
     (λ g. own_stored_stores (t.fram list.ver == t.fram (2 * i + place.versions)) place list i v s l (place_high c e) w)))
 versioned_stored_stores false place list i v s l w = tt
 
-chosen_stores : (v : ℕ) (a b : Behaviour) → StoresWords a.effects → StoresWords b.effects → StoresWords (chosen v a b).effects
-chosen_stores zero a b h k = k
-chosen_stores (suc v) a b h k = h
+either_stores : (c : Bool) (a b : Behaviour) → StoresWords a.effects → StoresWords b.effects → StoresWords (if c then a else b).effects
+either_stores true a b h k = h
+either_stores false a b h k = k
+
+-- a way that stores words
+abbrev WayStores : (WordState → Behaviour) → Type 0
+WayStores go = (s : WordState) → IsStateOfWords s → StoresWords (go s).effects
+
+-- one of two ways, behind words that are popped
+popped_stores : (c : Bool) (vs : List ℕ) (s : WordState) (held failed : WordState → Behaviour) → IsStateOfWords s → AreWords vs
+    → WayStores held → WayStores failed → StoresWords (if c then held (with_stack vs s) else failed (with_stack vs s)).effects
+popped_stores c vs s held failed w m h k =
+    let t = with_stack vs s in
+    let x = stack_words s vs w m in
+    either_stores c (held t) (failed t) (h t x) (k t x)
 
 turns_store : (m n k : ℕ) (body : WordState → Behaviour) (s : WordState) → k + m < 0x10000 → ((t : WordState) → IsStateOfWords t → EndsInWords (body t).end)
     → ((t : WordState) → IsStateOfWords t → StoresWords (body t).effects) → IsStateOfWords s → StoresWords (turns m n k body s).effects
@@ -159,15 +180,30 @@ mutual
       top_stores s.stack _ w.stack (λ v us l m. top_stores us _ m
       (λ i vs k j. versioned_stored_stores (nat_lt i place.length) place list i v (with_stack vs s) l (stack_words s vs w j)))
   step_stores sense s h w = reading_stores s.readings s
-  step_stores (choose taken otherwise) s h w =
-      top_stores s.stack _ w.stack (λ v vs l m. chosen_stores v _ _ (stores taken (with_stack vs s) h.0 (stack_words s vs w m))
-      (stores otherwise (with_stack vs s) h.1 (stack_words s vs w m)))
+  step_stores (truth c) s h w = test_stores c s (number_pushed 1) (number_pushed 0) h w (λ v x. tt) (λ v x. tt)
+  step_stores (choose c taken otherwise) s h w =
+      test_stores c s (behaviour taken) (behaviour otherwise) h.0 w (λ v. stores taken v h.1) (λ v. stores otherwise v h.2)
   step_stores (repeat n from below body) s h w =
       turns_store (below - from) n from (behaviour body) s (let l = h.1 in let m = h.2 in omega arith) (λ t v. words body t h.3 v)
       (λ t v. stores body t h.3 v) w
   step_stores (store_number a v) s h w = guarded (is_place a) _ (λ e. (h.1, tt))
   step_stores (move_word from to) s h w = guarded (is_place from) _ (λ e. guarded (is_place to) _ (λ f. (w.fram from, tt)))
   step_stores (jump to) s h w = jumped_stores (to % 2 == 0) to s
+
+  test_stores : (c : Test) (s : WordState) (held failed : WordState → Behaviour) → TestOfWords c → IsStateOfWords s → WayStores held → WayStores failed
+      → StoresWords (tested c held failed s).effects
+  test_stores (holds p) s held failed h w k l =
+      then_stores (behaviour p s) (way_by_top held failed) (stores p s h w) (words p s h w)
+      (λ u x. top_stores u.stack _ x.stack (λ v vs i m. popped_stores (is_true v) vs u held failed x m k l))
+  test_stores (compares op p) s held failed h w k l =
+      then_stores (behaviour p s) (way_by_two op held failed) (stores p s h w) (words p s h w)
+      (λ u x. top_stores u.stack _ x.stack (λ b us i m. top_stores us _ m
+      (λ a vs j n. popped_stores (compare_words op a b) vs u held failed x n k l)))
+  test_stores (both c d) s held failed h w k l =
+      test_stores c s (tested d held failed) failed h.0 w (λ v x. test_stores d v held failed h.1 x k l) l
+  test_stores (either c d) s held failed h w k l =
+      test_stores c s held (tested d held failed) h.0 w k (λ v x. test_stores d v held failed h.1 x k l)
+  test_stores (fails c) s held failed h w k l = test_stores c s failed held h w l k
 
   -- the words that a program stores
   pub stores : (p : Program) (s : WordState) → OfWords p → IsStateOfWords s → StoresWords (behaviour p s).effects

@@ -1,5 +1,6 @@
 -- The words of the variables as a task has them.
-use Rattle.std.proofs.Common.{◌≡◌, ℕ, ◌+◌, ◌*◌, ◌==◌, ◌<◌, length, Option, Some, None, Bool, true, false, refl, sym, ap, ◌∙◌, subst, ⊎_elim, arith, eq-eqb, ne_eqb, if◌then◌else◌}
+use Rattle.std.proofs.Common.{◌≡◌, ℕ, ◌+◌, ◌*◌, ◌==◌, ◌<◌, length, Option, Some, None, Bool, true, false, refl, sym, ap, ◌∙◌, subst, ⊎_elim, arith, eq-eqb}
+use Rattle.std.proofs.Common.{ne_eqb, if◌then◌else◌}
 use Rattle.std.proofs.lemmas.Bool.{cases_eq, cases_Bool}
 use Rattle.std.specs.Prelude.{Contains, slice_get}
 use Rattle.layout_facts.specs.cost_bound.Counts.{Code}
@@ -16,7 +17,8 @@ use Rattle.layout_facts.specs.memory_map.declared.place.VariablePlace.TheVariant
 use Rattle.layout_facts.specs.memory_map.declared.place.PrivateScalar.{PrivateScalar}
 use Rattle.layout_facts.specs.memory_map.MemoryMap.{MemoryMap, TaskPlace, word_place}
 use Rattle.layout_facts.specs.memory_map.Places.{home_region}
-use Rattle.layout_facts.specs.memory_map.Spots.{Places, places_of, address_of, IsScalarPlace, IsScalarAt, Element, IsElement, IsCopied, element_in, copy_in, version_in, element_address, copy_address, version_address, IsWordOf}
+use Rattle.layout_facts.specs.memory_map.Spots.{Places, places_of, address_of, IsScalarPlace, IsScalarAt, Element, IsElement, IsCopied, element_in, copy_in}
+use Rattle.layout_facts.specs.memory_map.Spots.{version_in, element_address, copy_address, version_address, IsWordOf}
 
 -- an element as an attempt has it: its copy where its version word is VER, else the element itself
 pub data OwnWord (p : Places) (f : ℕ → ℕ) (x : Element) : Type 0 where

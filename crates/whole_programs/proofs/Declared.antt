@@ -7,7 +7,8 @@ use Rattle.lower.specs.task_ast.Tree.{Expression, Statement, Choice, Block, Task
 use Rattle.lower.specs.task_check.declared.occurrence.Role.{Role}
 use Rattle.lower.specs.task_check.declared.occurrence.Role.TheVariants as role
 use Rattle.lower.specs.task_check.declared.occurrence.Occurrence.{Occurrence}
-use Rattle.lower.specs.task_check.Occurrences.{and_front, expression_names, value_names, statement_names, choice_names, names_up_to, task_names, shared_names, program_names}
+use Rattle.lower.specs.task_check.Occurrences.{and_front, expression_names, value_names, statement_names, choice_names, names_up_to, task_names, shared_names}
+use Rattle.lower.specs.task_check.Occurrences.{program_names}
 use Rattle.lower.specs.task_check.Scope.{shared_in}
 
 -- a name that declares a shared variable has the extent of the declaration of its number

@@ -13,7 +13,8 @@ use Rattle.lower.specs.task_lex.declared.token.Kind.TheVariants as k
 use Rattle.lower.specs.task_lex.Lex.{depth_after}
 use Rattle.source_meaning.specs.task_parse.declared.operators.Infix.{Infix}
 use Rattle.source_meaning.specs.task_parse.Parsed.{Expression, Statement, Block, Tested, Task, Program}
-use Rattle.source_meaning.specs.task_parse.Grammar.{prefix_of, infix_of, weakest, type_of, IsExpression, IsGiven, IsStatement, IsElses, IsArm, IsBlock, IsStatements, Row}
+use Rattle.source_meaning.specs.task_parse.Grammar.{prefix_of, infix_of, weakest, type_of, IsExpression, IsGiven, IsStatement, IsElses, IsArm, IsBlock}
+use Rattle.source_meaning.specs.task_parse.Grammar.{IsStatements, Row}
 use Rattle.source_meaning.specs.task_parse.Grammar.{IsExtent, IsShared, IsTask, IsProgram}
 use Rattle.source_meaning.specs.task_parse.Grammar as grammar
 use Rattle.whole_programs.specs.Needs.{ExpressionFits, StatementFits, ChoiceFits, BlockFits}

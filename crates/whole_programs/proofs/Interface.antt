@@ -7,6 +7,7 @@ pub use Rattle.whole_programs.proofs.Whole.{tasks_are_whole}
 -- The tokens of a text: no more than 64 brackets are open behind any of them, and each number is a word.
 pub use Rattle.whole_programs.proofs.Tokens.{AreSound, are_sound}
 -- What a sum over the paths of statements says of the writes of a shared variable.
-pub use Rattle.whole_programs.proofs.Written.{assignment_writes, store_writes, loop_writes, taken_writes, passed_writes, first_writes, others_write, block_assigned}
+pub use Rattle.whole_programs.proofs.Written.{assignment_writes, store_writes, loop_writes, taken_writes, passed_writes, first_writes, others_write}
+pub use Rattle.whole_programs.proofs.Written.{block_assigned}
 -- The private scalars of a task are at most as many as its allowance counts.
 pub use Rattle.whole_programs.proofs.Few.{privates_are_few}

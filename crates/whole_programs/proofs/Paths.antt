@@ -1,7 +1,8 @@
 -- Paths: each part of a task has one, and what a path leaves unassigned.
 use Rattle.std.proofs.Common.{◌≡◌, ℕ, zero, suc, ◌-◌, Bool, true, false, List, [], ◌∷◌, ◌++◌, Some, None, refl, ap, subst, ◌∙◌, if◌then◌else◌}
 use Rattle.lower.specs.task_ast.Tree as t
-use Rattle.lower.specs.task_ast.Paths.{CheckedExpression, CheckedStatement, CheckedChoice, CheckedBlock, Access, read, write, unset, End, goes_on, goes_to, ExpressionPath, StatementPath, ChoicePath, TurnsPath, BlockPath}
+use Rattle.lower.specs.task_ast.Paths.{CheckedExpression, CheckedStatement, CheckedChoice, CheckedBlock, Access, read, write, unset, End, goes_on, goes_to}
+use Rattle.lower.specs.task_ast.Paths.{ExpressionPath, StatementPath, ChoicePath, TurnsPath, BlockPath}
 use Rattle.lower.specs.task_ast.Paths as path
 use Rattle.lower.specs.task_ast.declared.names.Variable.{Variable}
 use Rattle.lower.specs.task_ast.declared.names.Variable.TheVariants.{Shared, Local}

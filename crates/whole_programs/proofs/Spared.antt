@@ -1,5 +1,6 @@
 -- A loop's variable is a local, which the body's program spares.
-use Rattle.std.proofs.Common.{◌≡◌, ℕ, ◌%◌, ◌==◌, ◌<◌, Bool, true, false, ◌&&◌, ◌||◌, not, List, [], ◌∷◌, Option, Some, None, refl, arith, inl, inr, slice_get}
+use Rattle.std.proofs.Common.{◌≡◌, ℕ, ◌%◌, ◌==◌, ◌<◌, Bool, true, false, ◌&&◌, ◌||◌, not, List, [], ◌∷◌, Option, Some, None, refl, arith, inl, inr}
+use Rattle.std.proofs.Common.{slice_get}
 use Rattle.std.specs.Prelude.{◌≢◌}
 use Rattle.std.proofs.lemmas.Bool.Decides.{nat_tests}
 use Rattle.std.proofs.lemmas.Bool.{or_parts}
@@ -7,16 +8,21 @@ use Rattle.lower.specs.alp_text.declared.lines.Span.{Span}
 use Rattle.lower.specs.task_ast.Tree as t
 use Rattle.lower.specs.task_ast.Paths.{CheckedExpression, CheckedStatement, CheckedChoice, CheckedBlock}
 use Rattle.lower.specs.task_ast.declared.SharedDeclaration.{SharedDeclaration}
+use Rattle.lower.specs.task_ast.declared.UnaryOperator.{UnaryOperator}
+use Rattle.lower.specs.task_ast.declared.UnaryOperator.TheVariants as unary_operator
 use Rattle.lower.specs.task_ast.declared.ShortCircuitOperator.{ShortCircuitOperator}
 use Rattle.lower.specs.task_ast.declared.ShortCircuitOperator.TheVariants.{And as BothHold, Or as OneHolds}
 use Rattle.lower.specs.task_ast.declared.names.Variable.{Variable}
 use Rattle.lower.specs.task_ast.declared.names.Variable.TheVariants.{Shared, Local}
 use Rattle.lower.specs.task_ast.declared.names.VariableName.{VariableName}
-use Rattle.lower.specs.path_checks.Loops.{is_local, is_same_local, statement_assigns, choice_assigns, block_assigns, is_good_loop, BadLoopInStatement, BadLoopInChoice, BadLoopIn}
+use Rattle.lower.specs.path_checks.Loops.{is_local, is_same_local, statement_assigns, choice_assigns, block_assigns, is_good_loop}
+use Rattle.lower.specs.path_checks.Loops.{BadLoopInStatement, BadLoopInChoice, BadLoopIn}
 use Rattle.lower.specs.source_values.Values.{joined_type, type_of}
-use Rattle.lower.specs.array_versions.declared.operations.UnaryOperation.TheVariants.{Truth}
-use Rattle.lower.specs.array_versions.Program.{Program, unary, binary, shift, emit_word, choose, store_number, move_word, jump, nothing, step, joined}
-use Rattle.lower.specs.array_versions.Form.{StepSpares, Spares}
+use Rattle.lower.specs.array_versions.declared.operations.UnaryOperation.TheVariants.{Negate, Complement}
+use Rattle.lower.specs.array_versions.declared.operations.BinaryOperation.TheVariants.{And}
+use Rattle.lower.specs.array_versions.Program.{Test, Program, unary, binary, shift, emit_word, choose, store_number, move_word, jump, nothing, step}
+use Rattle.lower.specs.array_versions.Program.{joined}
+use Rattle.lower.specs.array_versions.Form.{StepSpares, TestSpares, Spares}
 use Rattle.lower.specs.memory_map.MemoryMap.{word_place}
 use Rattle.lower.specs.memory_map.declared.words.RuntimeWord.TheVariants.{Gate, ListLength, EmitCount, Base, SentBase}
 use Rattle.lower.specs.memory_map.declared.place.VariablePlace.{VariablePlace}
@@ -24,8 +30,14 @@ use Rattle.lower.specs.memory_map.declared.place.VariablePlace.TheVariants.{Scal
 use Rattle.lower.specs.declared.runs.Run.{Run}
 use Rattle.lower.specs.Runs.{runs_of}
 use Rattle.lower.specs.memory_map.Spots.{Places}
-use Rattle.lower.specs.Operations.{unary_operation, binary_operation, shift_operation}
-use Rattle.lower.specs.Lowered.{one, read_step, write_step, element_read, element_step, store_step, evaluated_side, lowered_choice_of_sides, lowered_expression, assignment, loop_local, entries, lowered_transition, lowered_statement, lowered_choice, lowered_block}
+use Rattle.lower.specs.declared.operations.BinaryMeaning.{BinaryMeaning}
+use Rattle.lower.specs.declared.operations.BinaryMeaning.TheVariants.{Calculates, CommonBits, Holds, Fails}
+use Rattle.lower.specs.Operations.{binary_meaning, shift_operation}
+use Rattle.lower.specs.Lowered.{one, read_step, write_step, element_read, element_step, store_step, Lowering, as_word, as_test, word_program}
+use Rattle.lower.specs.Lowered.{value_test}
+use Rattle.lower.specs.Lowered.{unary_lowering, binary_lowering, sides_test, lowering, lowered_expression, lowered_test, assignment, loop_local}
+use Rattle.lower.specs.Lowered.{entries}
+use Rattle.lower.specs.Lowered.{lowered_transition, lowered_statement, lowered_choice, lowered_block}
 use Rattle.whole_programs.specs.Uses.{IsWordName, IsLocalName, StatementUses, ChoiceUses, BlockUses}
 
 -- ---- loops
@@ -87,26 +99,46 @@ module _ (p : Places) (n : ℕ) where
   store_spares (Shared v) = tt
   store_spares (Local m) = tt
 
-  sides_spare : (op : ShortCircuitOperator) (right : Program) → Spares n right → StepSpares n (lowered_choice_of_sides op right)
-  sides_spare BothHold right h = (h, (tt, tt))
-  sides_spare OneHolds right h = ((tt, tt), h)
+  -- so does what an expression comes to, as a program and as a test
+  abbrev LoweringSpares : Lowering → Type 0
+  LoweringSpares l = Spares n (word_program l) × TestSpares n (value_test l)
+
+  unary_spares : (op : UnaryOperator) (l : Lowering) → LoweringSpares l → LoweringSpares (unary_lowering op l)
+  unary_spares unary_operator.Negate l h =
+      let s = spares_joined n (word_program l) (one (unary Negate)) h.0 (tt, tt) in (s, s)
+  unary_spares unary_operator.Complement l h =
+      let s = spares_joined n (word_program l) (one (unary Complement)) h.0 (tt, tt) in (s, s)
+  unary_spares unary_operator.Not l h = ((h.1, tt), h.1)
+
+  binary_spares : (meaning : BinaryMeaning) (q : Program) → Spares n q → LoweringSpares (binary_lowering meaning q)
+  binary_spares (Calculates op) q h = let s = spares_joined n q (one (binary op)) h (tt, tt) in (s, s)
+  binary_spares CommonBits q h = (spares_joined n q (one (binary And)) h (tt, tt), h)
+  binary_spares (Holds c) q h = ((h, tt), h)
+  binary_spares (Fails c) q h = ((h, tt), h)
+
+  sides_spare : (op : ShortCircuitOperator) (b c : Test) → TestSpares n b → TestSpares n c → TestSpares n (sides_test op b c)
+  sides_spare BothHold b c h k = (h, k)
+  sides_spare OneHolds b c h k = (h, k)
+
+  lowering_spares : (e : CheckedExpression) → LoweringSpares (lowering p e)
+  lowering_spares (t.number w) = ((tt, tt), (tt, tt))
+  lowering_spares (t.name x) = let s = read_spares x.variable in ((s, tt), (s, tt))
+  lowering_spares (t.element x index) =
+      let last = one (element_step p x.variable) in
+      let s = spares_joined n (lowered_expression p index) last (lowering_spares index).0 (element_spares x.variable, tt) in (s, s)
+  lowering_spares t.sense = ((tt, tt), (tt, tt))
+  lowering_spares (t.unary op e) = unary_spares op (lowering p e) (lowering_spares e)
+  lowering_spares (t.binary op a b) =
+      binary_spares (binary_meaning op (joined_type (type_of a) (type_of b))) (joined (lowered_expression p a) (lowered_expression p b))
+      (spares_joined n (lowered_expression p a) (lowered_expression p b) (lowering_spares a).0 (lowering_spares b).0)
+  lowering_spares (t.shift op e count) =
+      let last = one (shift (shift_operation op (type_of e)) count.value) in
+      let s = spares_joined n (lowered_expression p e) last (lowering_spares e).0 (tt, tt) in (s, s)
+  lowering_spares (t.short_circuit op a b) =
+      let s = sides_spare op (lowered_test p a) (lowered_test p b) (lowering_spares a).1 (lowering_spares b).1 in ((s, tt), s)
 
   expression_spares : (e : CheckedExpression) → Spares n (lowered_expression p e)
-  expression_spares (t.number w) = (tt, tt)
-  expression_spares (t.name x) = (read_spares x.variable, tt)
-  expression_spares (t.element x index) =
-      spares_joined n (lowered_expression p index) (one (element_step p x.variable)) (expression_spares index) (element_spares x.variable, tt)
-  expression_spares t.sense = (tt, tt)
-  expression_spares (t.unary op e) = spares_joined n (lowered_expression p e) (one (unary (unary_operation op))) (expression_spares e) (tt, tt)
-  expression_spares (t.binary op a b) =
-      spares_joined n (joined (lowered_expression p a) (lowered_expression p b)) (one (binary (binary_operation op (joined_type (type_of a) (type_of b)))))
-      (spares_joined n (lowered_expression p a) (lowered_expression p b) (expression_spares a) (expression_spares b)) (tt, tt)
-  expression_spares (t.shift op e count) =
-      spares_joined n (lowered_expression p e) (one (shift (shift_operation op (type_of e)) count.value)) (expression_spares e) (tt, tt)
-  expression_spares (t.short_circuit op a b) =
-      let right = evaluated_side (lowered_expression p b) in
-      spares_joined n (lowered_expression p a) (one (lowered_choice_of_sides op right)) (expression_spares a)
-      (sides_spare op right (spares_joined n (lowered_expression p b) (one (unary Truth)) (expression_spares b) (tt, tt)), tt)
+  expression_spares e = (lowering_spares e).0
 
   entries_spare : (count list : ℕ) (runs : List Run) → Spares n (entries count list runs)
   entries_spare count list [] = tt
@@ -171,8 +203,9 @@ module _ (p : Places) (shared : List SharedDeclaration) (y : ℕ) (low : y < 256
     choice_spares (t.otherwise b) h n g = block_spares b h n g
     choice_spares (t.test e b more) h n g =
         let both = or_parts (block_assigns (Local y) b) (choice_assigns (Local y) more) h in
-        spares_joined (y % 65536) (lowered_expression p e) (one (choose (lowered_block p b) (lowered_choice p more))) (expression_spares p (y % 65536) e)
-        ((block_spares b both.0 n.1 (λ at bad. g at (inl bad)), choice_spares more both.1 n.2 (λ at bad. g at (inr bad))), tt)
+        let taken = block_spares b both.0 n.1 (λ at bad. g at (inl bad)) in
+        let passed = choice_spares more both.1 n.2 (λ at bad. g at (inr bad)) in
+        (((lowering_spares p (y % 65536) e).1, taken, passed), tt)
 
     pub block_spares : (b : CheckedBlock) → block_assigns (Local y) b ≡ false → BlockUses shared b → GoodBlock b → Spares (y % 65536) (lowered_block p b)
     block_spares t.end h n g = tt

@@ -5,6 +5,8 @@ use Rattle.lower.specs.alp_words.Words.{IsWord}
 use Rattle.lower.specs.task_ast.Tree as t
 use Rattle.lower.specs.task_ast.Paths.{CheckedExpression, CheckedStatement, CheckedChoice, CheckedBlock}
 use Rattle.lower.specs.task_ast.declared.SharedDeclaration.{SharedDeclaration}
+use Rattle.lower.specs.task_ast.declared.UnaryOperator.{UnaryOperator}
+use Rattle.lower.specs.task_ast.declared.UnaryOperator.TheVariants as unary_operator
 use Rattle.lower.specs.task_ast.declared.ShortCircuitOperator.{ShortCircuitOperator}
 use Rattle.lower.specs.task_ast.declared.ShortCircuitOperator.TheVariants.{And as BothHold, Or as OneHolds}
 use Rattle.lower.specs.task_ast.declared.names.Variable.{Variable}
@@ -12,9 +14,13 @@ use Rattle.lower.specs.task_ast.declared.names.Variable.TheVariants.{Shared, Loc
 use Rattle.lower.specs.task_ast.declared.names.VariableName.{VariableName}
 use Rattle.lower.specs.path_checks.Loops.{block_assigns}
 use Rattle.lower.specs.source_values.Values.{joined_type, type_of}
-use Rattle.lower.specs.array_versions.declared.operations.UnaryOperation.TheVariants.{Truth}
-use Rattle.lower.specs.array_versions.Program.{Step, Program, number, unary, binary, shift, emit_word, list_entry, sense, choose, repeat, store_number, move_word, jump, nothing, step, joined}
-use Rattle.lower.specs.array_versions.Form.{StepLocalsBelow, LocalsBelow, StepLoopsCount, LoopsCount, StepOfWords, OfWords, ArrayOfWords, ListOfWords}
+use Rattle.lower.specs.array_versions.declared.operations.UnaryOperation.TheVariants.{Negate, Complement}
+use Rattle.lower.specs.array_versions.declared.operations.BinaryOperation.TheVariants.{And}
+use Rattle.lower.specs.array_versions.Program.{Step, Test, Program, number, unary, binary, shift, emit_word, list_entry, sense, truth, choose, repeat}
+use Rattle.lower.specs.array_versions.Program.{compares, fails}
+use Rattle.lower.specs.array_versions.Program.{store_number, move_word, jump, nothing, step, joined}
+use Rattle.lower.specs.array_versions.Form.{StepLocalsBelow, TestLocalsBelow, LocalsBelow, StepLoopsCount, TestLoopsCount, LoopsCount, StepOfWords}
+use Rattle.lower.specs.array_versions.Form.{TestOfWords, OfWords, ArrayOfWords, ListOfWords}
 use Rattle.lower.specs.memory_map.MemoryMap.{word_place}
 use Rattle.lower.specs.memory_map.declared.words.RuntimeWord.{RuntimeWord}
 use Rattle.lower.specs.memory_map.declared.words.RuntimeWord.TheVariants.{NextTask, Gate, ListLength, EmitCount, Base, SentBase, Version}
@@ -26,8 +32,14 @@ use Rattle.lower.specs.declared.runs.Run.{Run}
 use Rattle.lower.specs.Runs.{runs_of}
 use Rattle.lower.proofs.Interface.{RunOfWords, runs_of_words}
 use Rattle.lower.specs.memory_map.Spots.{Places, address_of}
-use Rattle.lower.specs.Operations.{unary_operation, binary_operation, shift_operation}
-use Rattle.lower.specs.Lowered.{one, read_step, write_step, list_place, written_array, element_read, element_step, store_step, settled_program, evaluated_side, lowered_choice_of_sides, lowered_expression, assignment, loop_local, entries, lowered_transition, lowered_statement, lowered_choice, lowered_block}
+use Rattle.lower.specs.declared.operations.BinaryMeaning.{BinaryMeaning}
+use Rattle.lower.specs.declared.operations.BinaryMeaning.TheVariants.{Calculates, CommonBits, Holds, Fails}
+use Rattle.lower.specs.Operations.{binary_meaning, shift_operation}
+use Rattle.lower.specs.Lowered.{one, read_step, write_step, list_place, written_array, element_read, element_step, store_step, Lowering, as_word}
+use Rattle.lower.specs.Lowered.{as_test}
+use Rattle.lower.specs.Lowered.{word_program, value_test, unary_lowering, binary_lowering, sides_test, lowering, lowered_expression, lowered_test}
+use Rattle.lower.specs.Lowered.{assignment}
+use Rattle.lower.specs.Lowered.{loop_local, entries, lowered_transition, lowered_statement, lowered_choice, lowered_block}
 use Rattle.whole_programs.specs.Needs.{ExpressionFits, StatementFits, ChoiceFits, BlockFits}
 use Rattle.whole_programs.specs.Uses.{IsWordName, IsLocalName, ExpressionUses, StatementUses, ChoiceUses, BlockUses}
 use Rattle.whole_programs.proofs.Spared.{IsGood, GoodStatement, GoodChoice, GoodBlock, is_good, local_word, block_spares}
@@ -78,8 +90,40 @@ sound_joined (step first more) q h k = sound_step first (joined more q) (h.0.0, 
 sound_behind : (p : Program) (s : Step) → Sound p → StepSound s → Sound (joined p (one s))
 sound_behind p s h k = sound_joined p (one s) h (sound_one s k)
 
-sound_choose : (a b : Program) → Sound a → Sound b → StepSound (choose a b)
-sound_choose a b h k = ((h.0, k.0), (h.1, k.1), (h.2, k.2))
+abbrev TestSound : Test → Type 0
+TestSound c = TestLocalsBelow 256 c × TestLoopsCount c × TestOfWords c
+
+sound_choose : (c : Test) (a b : Program) → TestSound c → Sound a → Sound b → StepSound (choose c a b)
+sound_choose c a b h k l = ((h.0, k.0, l.0), (h.1, k.1, l.1), (h.2, k.2, l.2))
+
+-- what an expression comes to, as a program and as a test
+abbrev LoweringSound : Lowering → Type 0
+LoweringSound l = Sound (word_program l) × TestSound (value_test l)
+
+sound_word : (q : Program) → Sound q → LoweringSound (as_word q)
+sound_word q h = (h, h)
+
+sound_test : (c : Test) → TestSound c → LoweringSound (as_test c)
+sound_test c h = (sound_one (truth c) h, h)
+
+-- a word that a step makes behind a program
+sound_last : (q : Program) (s : Step) → Sound q → StepSound s → LoweringSound (as_word (joined q (one s)))
+sound_last q s h k = sound_word (joined q (one s)) (sound_behind q s h k)
+
+sound_unary : (op : UnaryOperator) (l : Lowering) → LoweringSound l → LoweringSound (unary_lowering op l)
+sound_unary unary_operator.Negate l h = sound_last (word_program l) (unary Negate) h.0 (tt, tt, tt)
+sound_unary unary_operator.Complement l h = sound_last (word_program l) (unary Complement) h.0 (tt, tt, tt)
+sound_unary unary_operator.Not l h = sound_test (fails (value_test l)) h.1
+
+sound_binary : (meaning : BinaryMeaning) (q : Program) → Sound q → LoweringSound (binary_lowering meaning q)
+sound_binary (Calculates op) q h = sound_last q (binary op) h (tt, tt, tt)
+sound_binary CommonBits q h = (sound_behind q (binary And) h (tt, tt, tt), h)
+sound_binary (Holds c) q h = sound_test (compares c q) h
+sound_binary (Fails c) q h = sound_test (fails (compares c q)) h
+
+sound_sides : (op : ShortCircuitOperator) (b c : Test) → TestSound b → TestSound c → TestSound (sides_test op b c)
+sound_sides BothHold b c h k = ((h.0, k.0), (h.1, k.1), (h.2, k.2))
+sound_sides OneHolds b c h k = ((h.0, k.0), (h.1, k.1), (h.2, k.2))
 
 zero_is_word : IsWord 0
 zero_is_word = omega arith
@@ -118,10 +162,6 @@ module _ (p : Places) (words : PlacesOfWords p) where
   store_sound (Shared v) = (tt, tt, (written_of_words (slice_get p.map.variables v) (words.places v), list_of_words))
   store_sound (Local n) = (tt, tt, ((zero_is_word, zero_is_word, zero_is_word, zero_is_word), list_of_words))
 
-  sides_sound : (op : ShortCircuitOperator) (right : Program) → Sound right → StepSound (lowered_choice_of_sides op right)
-  sides_sound BothHold right h = sound_choose right (settled_program BothHold) h (sound_one (number 0) (tt, tt, zero_is_word))
-  sides_sound OneHolds right h = sound_choose (settled_program OneHolds) right (sound_one (number 1) (tt, tt, one_is_word)) h
-
   module _ (shared : List SharedDeclaration) where
     read_sound : (x : Variable) → IsWordName shared x → StepSound (read_step p x)
     read_sound (Shared v) n = (tt, tt, words.addresses v)
@@ -131,24 +171,25 @@ module _ (p : Places) (words : PlacesOfWords p) where
     write_sound (Shared v) n = (tt, tt, words.addresses v)
     write_sound (Local n) l = (low_local n l, tt, local_is_word n l)
 
+    lowering_sound : (room beneath : ℕ) (e : CheckedExpression) → ExpressionFits room beneath e → ExpressionUses shared e → LoweringSound (lowering p e)
+    lowering_sound room beneath (t.number w) f n = sound_word (one (number w)) (sound_one (number w) (tt, tt, f.1))
+    lowering_sound room beneath (t.name x) f n =
+        sound_word (one (read_step p x.variable)) (sound_one (read_step p x.variable) (read_sound x.variable n))
+    lowering_sound room beneath (t.element x index) f n =
+        sound_last (lowered_expression p index) (element_step p x.variable) (lowering_sound room beneath index f n.1).0 (element_sound x.variable)
+    lowering_sound room beneath t.sense f n = sound_word (one sense) (sound_one sense (tt, tt, tt))
+    lowering_sound room beneath (t.unary op e) f n = sound_unary op (lowering p e) (lowering_sound room beneath e f n)
+    lowering_sound room beneath (t.binary op a b) f n =
+        sound_binary (binary_meaning op (joined_type (type_of a) (type_of b))) (joined (lowered_expression p a) (lowered_expression p b))
+        (sound_joined (lowered_expression p a) (lowered_expression p b) (lowering_sound room beneath a f.0 n.0).0 (lowering_sound room _ b f.1 n.1).0)
+    lowering_sound room beneath (t.shift op e count) f n =
+        sound_last (lowered_expression p e) (shift (shift_operation op (type_of e)) count.value) (lowering_sound room beneath e f.0 n).0 (tt, tt, f.1)
+    lowering_sound room beneath (t.short_circuit op a b) f n =
+        let sides = sound_sides op (lowered_test p a) (lowered_test p b) (lowering_sound room beneath a f.0 n.0).1 (lowering_sound room beneath b f.1 n.1).1 in
+        sound_test (sides_test op (lowered_test p a) (lowered_test p b)) sides
+
     expression_sound : (room beneath : ℕ) (e : CheckedExpression) → ExpressionFits room beneath e → ExpressionUses shared e → Sound (lowered_expression p e)
-    expression_sound room beneath (t.number w) f n = sound_one (number w) (tt, tt, f.1)
-    expression_sound room beneath (t.name x) f n = sound_one (read_step p x.variable) (read_sound x.variable n)
-    expression_sound room beneath (t.element x index) f n =
-        sound_behind (lowered_expression p index) (element_step p x.variable) (expression_sound room beneath index f n.1) (element_sound x.variable)
-    expression_sound room beneath t.sense f n = sound_one sense (tt, tt, tt)
-    expression_sound room beneath (t.unary op e) f n =
-        sound_behind (lowered_expression p e) (unary (unary_operation op)) (expression_sound room beneath e f n) (tt, tt, tt)
-    expression_sound room beneath (t.binary op a b) f n =
-        sound_behind (joined (lowered_expression p a) (lowered_expression p b)) (binary (binary_operation op (joined_type (type_of a) (type_of b))))
-        (sound_joined (lowered_expression p a) (lowered_expression p b) (expression_sound room beneath a f.0 n.0) (expression_sound room _ b f.1 n.1))
-        (tt, tt, tt)
-    expression_sound room beneath (t.shift op e count) f n =
-        sound_behind (lowered_expression p e) (shift (shift_operation op (type_of e)) count.value) (expression_sound room beneath e f.0 n) (tt, tt, f.1)
-    expression_sound room beneath (t.short_circuit op a b) f n =
-        let right = evaluated_side (lowered_expression p b) in
-        sound_behind (lowered_expression p a) (lowered_choice_of_sides op right) (expression_sound room beneath a f.0 n.0)
-        (sides_sound op right (sound_behind (lowered_expression p b) (unary Truth) (expression_sound room beneath b f.1 n.1) (tt, tt, tt)))
+    expression_sound room beneath e f n = (lowering_sound room beneath e f n).0
 
     entries_sound : (runs : List Run) → AllByRecursion RunOfWords runs → Sound (entries (word_place p.map ListLength) p.map.list.address runs)
     entries_sound [] h = (tt, tt, tt)
@@ -217,8 +258,9 @@ module _ (p : Places) (words : PlacesOfWords p) where
       choice_sound room (t.test e b more) f n g =
           let first = block_sound room b f.1 n.1 (λ at bad. g at (inl bad)) in
           let second = choice_sound room more f.2 n.2 (λ at bad. g at (inr bad)) in
-          sound_behind (lowered_expression p e) (choose (lowered_block p b) (lowered_choice p more)) (expression_sound room 0 e f.0 n.0)
-          (sound_choose (lowered_block p b) (lowered_choice p more) first second)
+          let question = (lowering_sound room 0 e f.0 n.0).1 in
+          sound_one (choose (lowered_test p e) (lowered_block p b) (lowered_choice p more))
+          (sound_choose (lowered_test p e) (lowered_block p b) (lowered_choice p more) question first second)
 
       pub block_sound : (room : ℕ) (b : CheckedBlock) → BlockFits room b → BlockUses shared b → GoodBlock b → Sound (lowered_block p b)
       block_sound room t.end f n g = (tt, tt, tt)

@@ -17,7 +17,8 @@ use Rattle.lower.specs.task_check.declared.occurrence.Occurrence.{Occurrence}
 use Rattle.lower.specs.task_check.declared.symbol.Symbol.{Symbol}
 use Rattle.lower.specs.task_check.declared.symbol.Global.{Global}
 use Rattle.lower.specs.task_check.declared.symbol.Local.{Local}
-use Rattle.lower.specs.task_check.Scope.{text_of, shared_in, tasks_in, locals_in, locals_after, global_with, local_with, if_named, global_in, local_in, or_global}
+use Rattle.lower.specs.task_check.Scope.{text_of, shared_in, tasks_in, locals_in, locals_after, global_with, local_with, if_named, global_in, local_in}
+use Rattle.lower.specs.task_check.Scope.{or_global}
 use Rattle.lower.specs.task_check.Scope.{meaning}
 use Rattle.lower.specs.task_check.LookedUp.{symbol_by, behind, symbol_at}
 use Rattle.lower.specs.task_check.Faults.{line_at, first_fault, limit_fault, is_too_many}

@@ -1,5 +1,6 @@
 -- The names of each task are used as they were declared.
-use Rattle.std.proofs.Common.{◌≡◌, ℕ, ◌&&◌, not, Bool, false, List, [], ◌∷◌, ◌++◌, length, map, Some, None, All, refl, sym, ap, ◌∙◌, subst, append_assoc, append-nil, inl, inr}
+use Rattle.std.proofs.Common.{◌≡◌, ℕ, ◌&&◌, not, Bool, false, List, [], ◌∷◌, ◌++◌, length, map, Some, None, All, refl, sym, ap, ◌∙◌, subst, append_assoc}
+use Rattle.std.proofs.Common.{append-nil, inl, inr}
 use Rattle.std.proofs.lemmas.List.Elements.{All-nil, All-cons}
 use Rattle.lower.specs.alp_text.declared.lines.Span.{Span}
 use Rattle.lower.specs.task_ast.declared.SharedDeclaration.{SharedDeclaration}
@@ -17,7 +18,8 @@ use Rattle.lower.specs.task_check.declared.occurrence.Role.TheVariants as role
 use Rattle.lower.specs.task_check.declared.occurrence.Occurrence.{Occurrence}
 use Rattle.lower.specs.task_check.declared.symbol.TypedVariable.{TypedVariable}
 use Rattle.lower.specs.task_check.Occurrences.{and_front, expression_names, statement_names, choice_names, names_up_to, task_names, shared_names, program_names}
-use Rattle.lower.specs.task_check.LookedUp.{expression_back, statement_back, choice_back, block_back, task_back, program_back, expression_variables, statement_variables, choice_variables, block_variables, task_variables}
+use Rattle.lower.specs.task_check.LookedUp.{expression_back, statement_back, choice_back, block_back, task_back, program_back, expression_variables}
+use Rattle.lower.specs.task_check.LookedUp.{statement_variables, choice_variables, block_variables, task_variables}
 use Rattle.whole_programs.specs.Uses.{IsWordName, IsLocalName, ExpressionUses, StatementUses, ChoiceUses, BlockUses}
 use Rattle.whole_programs.specs.UseLaws.{NamesAreUsedAsDeclared}
 use Rattle.whole_programs.proofs.Declared.{Declared, program_declared}

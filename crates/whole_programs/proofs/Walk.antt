@@ -13,7 +13,8 @@ use Rattle.lower.specs.task_check.declared.symbol.Symbol.TheVariants as symbol
 use Rattle.lower.specs.task_check.declared.symbol.TypedVariable.{TypedVariable}
 use Rattle.lower.specs.task_check.Scope.{text_of, tasks_in, locals_in, global_in, local_in, stands_in_front}
 use Rattle.lower.specs.task_check.LookedUp.{symbol_by, variable_by, symbol_at, variables_in}
-use Rattle.lower.specs.task_check.Faults.{line_at, first_fault, is_repeated, is_unknown, name_fault, is_no_word, is_no_array, use_fault_by, use_fault, limit_fault}
+use Rattle.lower.specs.task_check.Faults.{line_at, first_fault, is_repeated, is_unknown, name_fault, is_no_word, is_no_array, use_fault_by, use_fault}
+use Rattle.lower.specs.task_check.Faults.{limit_fault}
 use Rattle.lower.proofs.task_check.Interface.{no_fault, no_name_fault}
 use Rattle.whole_programs.specs.Uses.{IsWordName, IsArrayName, IsLocalName}
 use Rattle.whole_programs.proofs.Declared.{Declared}

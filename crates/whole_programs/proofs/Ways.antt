@@ -1,11 +1,15 @@
 -- Along each way through a task's program: the stack has room, each local that is read is assigned, and the way ends in a jump where the
 -- paths of the task do.
-use Rattle.std.proofs.Common.{◌≡◌, ℕ, zero, suc, ◌+◌, ◌-◌, ◌%◌, ◌==◌, ◌<◌, ◌≤◌, ◌||◌, Bool, true, false, nat_eq, List, [], ◌∷◌, ◌++◌, Option, Some, None, refl, sym, ap, subst, ◌∙◌, arith, if◌then◌else◌, slice_get}
+use Rattle.std.proofs.Common.{◌≡◌, ℕ, zero, suc, ◌+◌, ◌-◌, ◌%◌, ◌==◌, ◌<◌, ◌≤◌, ◌||◌, Bool, true, false, nat_eq, List, [], ◌∷◌, ◌++◌, Option, Some}
+use Rattle.std.proofs.Common.{None, refl, sym, ap, subst, ◌∙◌, arith, if◌then◌else◌, slice_get}
 use Rattle.std.proofs.lemmas.Bool.Decides.{nat_tests}
 use Rattle.lower.specs.task_ast.Tree as t
-use Rattle.lower.specs.task_ast.Paths.{CheckedExpression, CheckedStatement, CheckedChoice, CheckedBlock, Access, read, write, unset, End, goes_on, goes_to, StatementPath, ChoicePath, TurnsPath, BlockPath}
+use Rattle.lower.specs.task_ast.Paths.{CheckedExpression, CheckedStatement, CheckedChoice, CheckedBlock, Access, read, write, unset, End, goes_on}
+use Rattle.lower.specs.task_ast.Paths.{goes_to, StatementPath, ChoicePath, TurnsPath, BlockPath}
 use Rattle.lower.specs.task_ast.Paths as path
 use Rattle.lower.specs.task_ast.declared.SharedDeclaration.{SharedDeclaration}
+use Rattle.lower.specs.task_ast.declared.UnaryOperator.{UnaryOperator}
+use Rattle.lower.specs.task_ast.declared.UnaryOperator.TheVariants as unary_operator
 use Rattle.lower.specs.task_ast.declared.ShortCircuitOperator.{ShortCircuitOperator}
 use Rattle.lower.specs.task_ast.declared.ShortCircuitOperator.TheVariants.{And as BothHold, Or as OneHolds}
 use Rattle.lower.specs.task_ast.declared.names.Variable.{Variable}
@@ -13,9 +17,12 @@ use Rattle.lower.specs.task_ast.declared.names.Variable.TheVariants.{Shared, Loc
 use Rattle.lower.specs.task_ast.declared.names.VariableName.{VariableName}
 use Rattle.lower.specs.path_checks.Loops.{is_local}
 use Rattle.lower.specs.source_values.Values.{joined_type, type_of}
-use Rattle.lower.specs.array_versions.declared.operations.UnaryOperation.TheVariants.{Truth}
-use Rattle.lower.specs.array_versions.Program.{Program, unary, binary, shift, emit_word, choose, store_number, move_word, jump, nothing, step, joined}
-use Rattle.lower.specs.array_versions.Form.{Place, start, assigning, Moves, EachTurn, EachStepWay, EachWay}
+use Rattle.lower.specs.array_versions.declared.operations.UnaryOperation.TheVariants.{Negate, Complement}
+use Rattle.lower.specs.array_versions.declared.operations.BinaryOperation.{BinaryOperation}
+use Rattle.lower.specs.array_versions.declared.operations.BinaryOperation.TheVariants.{And}
+use Rattle.lower.specs.array_versions.Program.{Step, Test, Program, unary, binary, shift, emit_word, choose, store_number, move_word, jump, nothing}
+use Rattle.lower.specs.array_versions.Program.{step, joined}
+use Rattle.lower.specs.array_versions.Form.{Place, start, assigning, Moves, EachTurn, EachStepWay, EachTestWay, EachWay}
 use Rattle.lower.specs.memory_map.MemoryMap.{word_place}
 use Rattle.lower.specs.memory_map.declared.words.RuntimeWord.TheVariants.{Gate, ListLength, EmitCount, Base, SentBase}
 use Rattle.lower.specs.memory_map.declared.place.VariablePlace.{VariablePlace}
@@ -23,12 +30,19 @@ use Rattle.lower.specs.memory_map.declared.place.VariablePlace.TheVariants.{Scal
 use Rattle.lower.specs.declared.runs.Run.{Run}
 use Rattle.lower.specs.Runs.{runs_of}
 use Rattle.lower.specs.memory_map.Spots.{Places}
-use Rattle.lower.specs.Operations.{unary_operation, binary_operation, shift_operation}
-use Rattle.lower.specs.Lowered.{one, read_step, write_step, element_read, element_step, store_step, settled_program, evaluated_side, lowered_choice_of_sides, lowered_expression, assignment, element_assignment, loop_local, entries, lowered_transition, lowered_statement, lowered_choice, lowered_block}
+use Rattle.lower.specs.declared.operations.BinaryMeaning.{BinaryMeaning}
+use Rattle.lower.specs.declared.operations.BinaryMeaning.TheVariants.{Calculates, CommonBits, Holds, Fails}
+use Rattle.lower.specs.Operations.{binary_meaning, shift_operation}
+use Rattle.lower.specs.Lowered.{one, read_step, write_step, element_read, element_step, store_step, Lowering, as_word, as_test, word_program}
+use Rattle.lower.specs.Lowered.{value_test}
+use Rattle.lower.specs.Lowered.{unary_lowering, binary_lowering, sides_test, lowering, lowered_expression, lowered_test, assignment}
+use Rattle.lower.specs.Lowered.{element_assignment}
+use Rattle.lower.specs.Lowered.{loop_local, entries, lowered_transition, lowered_statement, lowered_choice, lowered_block}
 use Rattle.whole_programs.specs.Needs.{ExpressionFits, StatementFits, ChoiceFits, BlockFits}
 use Rattle.whole_programs.specs.Uses.{IsWordName, IsArrayName, ExpressionUses, StatementUses, ChoiceUses, BlockUses}
 use Rattle.lower.proofs.Interface.{small_modulo}
-use Rattle.whole_programs.proofs.Paths.{names_read, is_path, some_turns, some_block, written, forgotten, behind, behind_both, behind_names, behind_expression, IsAssigned, Safe, safe_both, safe_expression}
+use Rattle.whole_programs.proofs.Paths.{names_read, is_path, some_turns, some_block, written, forgotten, behind, behind_both, behind_names}
+use Rattle.whole_programs.proofs.Paths.{behind_expression, IsAssigned, Safe, safe_both, safe_expression}
 
 -- ---- ways
 
@@ -104,44 +118,97 @@ module _ (room : ℕ) (p : Places) where
       by_place (Some (Array elements length (Some c))) = turned d a next l h
   element_way d a (Local n) next l h = turned d a next l h
 
-  sides_way : (d : ℕ) (a : ℕ → Bool) (op : ShortCircuitOperator) (right : Program) (next : Place → Type 0) → d < room → next (at (suc d) a)
-      → EachWay room right next (at d a)
-      → EachStepWay room (lowered_choice_of_sides op right) next (at (suc d) a)
-  sides_way d a BothHold right next l h k =
-      moves room 1 0 (suc d) d a (λ o. EachWay room right next o × EachWay room (settled_program BothHold) next o) (omega arith) (omega arith) (omega arith)
-      (k, pushed d a next l h)
-  sides_way d a OneHolds right next l h k =
-      moves room 1 0 (suc d) d a (λ o. EachWay room (settled_program OneHolds) next o × EachWay room right next o) (omega arith) (omega arith) (omega arith)
-      (pushed d a next l h, k)
+  -- ways through a program that leaves the stack so deep
+  abbrev LeavesDepth : ℕ → (ℕ → Bool) → ℕ → Program → Type 1
+  LeavesDepth d a e q = (next : Place → Type 0) → next (at e a) → EachWay room q next (at d a)
+
+  -- ways through a test
+  abbrev Decides : ℕ → (ℕ → Bool) → Test → Type 1
+  Decides d a c = (held failed : Place → Type 0) → held (at d a) → failed (at d a) → EachTestWay room c held failed (at d a)
+
+  -- ways through what an expression comes to
+  record HasWays (d : ℕ) (a : ℕ → Bool) (l : Lowering) : Type 1 where
+    word : LeavesDepth d a (suc d) (word_program l)
+    test : Decides d a (value_test l)
+
+  by_word : (d : ℕ) (a : ℕ → Bool) (q : Program) → d < room → LeavesDepth d a (suc d) q → HasWays d a (as_word q)
+  by_word d a q l h = record {
+    word = h;
+    test = λ held failed x y. h (Moves room 1 0 (λ r. held r × failed r))
+        (moves room 1 0 (suc d) d a (λ r. held r × failed r) (omega arith) (omega arith) (omega arith) (x, y));
+  }
+
+  by_test : (d : ℕ) (a : ℕ → Bool) (c : Test) → d < room → Decides d a c → HasWays d a (as_test c)
+  by_test d a c l h = record {
+    word = λ next x. h (Moves room 0 1 next) (Moves room 0 1 next) (pushed d a next l x) (pushed d a next l x);
+    test = h;
+  }
+
+  -- a step behind a program
+  behind_way : (d : ℕ) (a : ℕ → Bool) (e f : ℕ) (q : Program) (s : Step) → LeavesDepth d a e q
+      → ((next : Place → Type 0) → next (at f a) → EachStepWay room s next (at e a)) → LeavesDepth d a f (joined q (one s))
+  behind_way d a e f q s h k next x = joined_way room q (one s) next (at d a) (h (EachWay room (one s) next) (k next x))
+
+  unary_way : (d : ℕ) (a : ℕ → Bool) (op : UnaryOperator) (l : Lowering) → d < room → HasWays d a l → HasWays d a (unary_lowering op l)
+  unary_way d a unary_operator.Negate l few h =
+      by_word d a _ few (behind_way d a (suc d) (suc d) (word_program l) (unary Negate) h.word (λ next x. turned d a next few x))
+  unary_way d a unary_operator.Complement l few h =
+      by_word d a _ few (behind_way d a (suc d) (suc d) (word_program l) (unary Complement) h.word (λ next x. turned d a next few x))
+  unary_way d a unary_operator.Not l few h = by_test d a _ few (λ held failed x y. h.test failed held y x)
+
+  -- two words become one
+  joins : (d : ℕ) (a : ℕ → Bool) (q : Program) (op : BinaryOperation) → d < room → LeavesDepth d a (suc (suc d)) q
+      → LeavesDepth d a (suc d) (joined q (one (binary op)))
+  joins d a q op few h =
+      behind_way d a (suc (suc d)) (suc d) q (binary op) h
+      (λ next x. moves room 2 1 (suc (suc d)) (suc d) a next (omega arith) (omega arith) (omega arith) x)
+
+  -- two words are popped
+  pops_two : (d : ℕ) (a : ℕ → Bool) (q : Program) → d < room → LeavesDepth d a (suc (suc d)) q → (held failed : Place → Type 0)
+      → held (at d a) → failed (at d a) → EachWay room q (Moves room 2 0 (λ r. held r × failed r)) (at d a)
+  pops_two d a q few h held failed x y =
+      h (Moves room 2 0 (λ r. held r × failed r))
+      (moves room 2 0 (suc (suc d)) d a (λ r. held r × failed r) (omega arith) (omega arith) (omega arith) (x, y))
+
+  binary_way : (d : ℕ) (a : ℕ → Bool) (meaning : BinaryMeaning) (q : Program) → d < room → LeavesDepth d a (suc (suc d)) q
+      → HasWays d a (binary_lowering meaning q)
+  binary_way d a (Calculates op) q few h = by_word d a _ few (joins d a q op few h)
+  binary_way d a CommonBits q few h = record { word = joins d a q And few h; test = pops_two d a q few h }
+  binary_way d a (Holds c) q few h = by_test d a _ few (pops_two d a q few h)
+  binary_way d a (Fails c) q few h = by_test d a _ few (λ held failed x y. pops_two d a q few h failed held y x)
+
+  sides_way : (d : ℕ) (a : ℕ → Bool) (op : ShortCircuitOperator) (b c : Test) → Decides d a b → Decides d a c → Decides d a (sides_test op b c)
+  sides_way d a BothHold b c h k held failed x y = h (EachTestWay room c held failed) failed (k held failed x y) y
+  sides_way d a OneHolds b c h k held failed x y = h held (EachTestWay room c held failed) x (k held failed x y)
+
+  lowering_way : (d : ℕ) (a : ℕ → Bool) (e : CheckedExpression) → ExpressionFits room d e → ReadsAssigned a e → HasWays d a (lowering p e)
+  lowering_way d a (t.number w) f r = by_word d a _ f.0 (λ next x. pushed d a next f.0 x)
+  lowering_way d a (t.name x) f r = by_word d a _ f (λ next y. read_way d a x.variable next f r y)
+  lowering_way d a (t.element x index) f r =
+      let few = some_room room d index f in
+      by_word d a _ few
+      (behind_way d a (suc d) (suc d) (lowered_expression p index) (element_step p x.variable) (lowering_way d a index f r).word
+      (λ next y. element_way d a x.variable next few y))
+  lowering_way d a t.sense f r = by_word d a _ f (λ next x. pushed d a next f x)
+  lowering_way d a (t.unary op e) f r = unary_way d a op (lowering p e) (some_room room d e f) (lowering_way d a e f r)
+  lowering_way d a (t.binary op b c) f r =
+      let first = lowered_expression p b in
+      let second = lowered_expression p c in
+      binary_way d a (binary_meaning op (joined_type (type_of b) (type_of c))) (joined first second) (some_room room d b f.0)
+      (λ next x. joined_way room first second next (at d a)
+      ((lowering_way d a b f.0 r.0).word (EachWay room second next) ((lowering_way (suc d) a c f.1 r.1).word next x)))
+  lowering_way d a (t.shift op e count) f r =
+      let few = some_room room d e f.0 in
+      by_word d a _ few
+      (behind_way d a (suc d) (suc d) (lowered_expression p e) (shift (shift_operation op (type_of e)) count.value) (lowering_way d a e f.0 r).word
+      (λ next x. turned d a next few x))
+  lowering_way d a (t.short_circuit op b c) f r =
+      by_test d a _ (some_room room d b f.0)
+      (sides_way d a op (lowered_test p b) (lowered_test p c) (lowering_way d a b f.0 r.0).test (lowering_way d a c f.1 r.1).test)
 
   expression_way : (d : ℕ) (a : ℕ → Bool) (e : CheckedExpression) (next : Place → Type 0) → ExpressionFits room d e → ReadsAssigned a e → next (at (suc d) a)
       → EachWay room (lowered_expression p e) next (at d a)
-  expression_way d a (t.number w) next f r h = moves room 0 1 d (suc d) a next (omega arith) (omega arith) (let l = f.0 in omega arith) h
-  expression_way d a (t.name x) next f r h = read_way d a x.variable next f r h
-  expression_way d a (t.element x index) next f r h =
-      joined_way room (lowered_expression p index) (one (element_step p x.variable)) next (at d a)
-      (expression_way d a index _ f r (element_way d a x.variable next (some_room room d index f) h))
-  expression_way d a t.sense next f r h = moves room 0 1 d (suc d) a next (omega arith) (omega arith) (omega arith) h
-  expression_way d a (t.unary op e) next f r h =
-      joined_way room (lowered_expression p e) (one (unary (unary_operation op))) next (at d a)
-      (expression_way d a e _ f r (turned d a next (some_room room d e f) h))
-  expression_way d a (t.binary op b c) next f r h =
-      let operation = one (binary (binary_operation op (joined_type (type_of b) (type_of c)))) in
-      joined_way room (joined (lowered_expression p b) (lowered_expression p c)) operation next (at d a)
-      (joined_way room (lowered_expression p b) (lowered_expression p c) (EachWay room operation next) (at d a)
-      (expression_way d a b _ f.0 r.0
-      (expression_way (suc d) a c _ f.1 r.1
-      (moves room 2 1 (suc (suc d)) (suc d) a next (omega arith) (omega arith) (let l = some_room room d b f.0 in omega arith) h))))
-  expression_way d a (t.shift op e count) next f r h =
-      joined_way room (lowered_expression p e) (one (shift (shift_operation op (type_of e)) count.value)) next (at d a)
-      (expression_way d a e _ f.0 r (turned d a next (some_room room d e f.0) h))
-  expression_way d a (t.short_circuit op b c) next f r h =
-      let right = evaluated_side (lowered_expression p c) in
-      let l = some_room room d b f.0 in
-      joined_way room (lowered_expression p b) (one (lowered_choice_of_sides op right)) next (at d a)
-      (expression_way d a b _ f.0 r.0
-      (sides_way d a op right next l h
-      (joined_way room (lowered_expression p c) (one (unary Truth)) next (at d a) (expression_way d a c _ f.1 r.1 (turned d a next l h)))))
+  expression_way d a e next f r h = (lowering_way d a e f r).word next h
 
 -- ---- locals
 
@@ -373,11 +440,9 @@ module _ (room : ℕ) (p : Places) (shared : List SharedDeclaration) (even : p.m
     choice_way (t.test e b more) u a next f n c h =
         let some = some_block b in
         let s = h.safe (names_read e ++ some.accesses) some.end (path.taken e b more (names_read e) some.accesses some.end (is_path e) some.is) in
-        joined_way room (lowered_expression p e) (one (choose (lowered_block p b) (lowered_choice p more))) next (at 0 a)
-        (expression_way room p 0 a e _ f.0 (reads_assigned shared u a e c n.0 (safe_expression u e some.accesses s).0)
-        (moves room 1 0 1 0 a (λ o. EachWay room (lowered_block p b) next o × EachWay room (lowered_choice p more) next o)
-        (omega arith) (omega arith) (omega arith)
-        (block_way b u a next f.1 n.1 c (taken_follows e b more u next h), choice_way more u a next f.2 n.2 c (passed_follows e b more u next h))))
+        let reads = reads_assigned shared u a e c n.0 (safe_expression u e some.accesses s).0 in
+        (lowering_way room p 0 a e f.0 reads).test (EachWay room (lowered_block p b) next) (EachWay room (lowered_choice p more) next)
+        (block_way b u a next f.1 n.1 c (taken_follows e b more u next h)) (choice_way more u a next f.2 n.2 c (passed_follows e b more u next h))
 
     block_way : (b : CheckedBlock) (u a : ℕ → Bool) (next : Place → Type 0) → BlockFits room b → BlockUses shared b → Covers u a
         → Follows (BlockPath b) u next → EachWay room (lowered_block p b) next (at 0 a)

@@ -120,8 +120,10 @@ mutual
 
   statement_goes_on : (x : Variable) (s : CheckedStatement) → (statement_sum (summary x) s).falls_through ≡ statement_falls_through s
   statement_goes_on x (t.declare _ n None) = refl
-  statement_goes_on x (t.declare _ n (Some e)) = goes_behind (expression_sum (summary x) e).falls_through _ true (expression_goes_on x e) (write_goes_on (is_same x n.variable))
-  statement_goes_on x (t.assign n e) = goes_behind (expression_sum (summary x) e).falls_through _ true (expression_goes_on x e) (write_goes_on (is_same x n.variable))
+  statement_goes_on x (t.declare _ n (Some e)) = goes_behind (expression_sum (summary x) e).falls_through _ true (expression_goes_on x e)
+      (write_goes_on (is_same x n.variable))
+  statement_goes_on x (t.assign n e) = goes_behind (expression_sum (summary x) e).falls_through _ true (expression_goes_on x e)
+      (write_goes_on (is_same x n.variable))
   statement_goes_on x (t.store n index e) =
       goes_behind (expression_sum (summary x) index).falls_through _ true (expression_goes_on x index)
       (goes_behind (expression_sum (summary x) e).falls_through _ true (expression_goes_on x e) (write_goes_on (is_same x n.variable)))
@@ -233,7 +235,8 @@ module _ (v : ℕ) where
           let turns = behind (if is_same (Shared v) n.variable then summary_write else summary_unit).writes _ _ (no_write v n.variable u.0) h in
           let turn = one_turn (below - from == 0) (below - from == 1) _ turns in
           block_assigned body u.1 (⊎_elim (λ e. e)
-          (λ e. let never : false ≡ true = sym (no_write v n.variable u.0) ∙ (and_parts (block_sum (summary (Shared v)) body).falls_through _ e).1 in absurd (cc))
+          (λ e. let never : false ≡ true = sym (no_write v n.variable u.0) ∙ (and_parts (block_sum (summary (Shared v)) body).falls_through _ e).1 in
+          absurd (cc))
           (or_cases (block_sum (summary (Shared v)) body).writes _ turn))
       statement_assigned (t.emit e) u h = let never : false ≡ true = sym (expression_writes_nothing (Shared v) e) ∙ h in absurd (cc)
       statement_assigned (t.transition _) u h = absurd (let never : false ≡ true = h in cc)
