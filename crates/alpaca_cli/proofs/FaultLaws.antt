@@ -7,7 +7,7 @@ use Rattle.report_audit.specs.declared.verdict.Verdict.TheVariants.{Yes, No}
 use Rattle.alpaca_cli.specs.declared.status.Status.{Status}
 use Rattle.alpaca_cli.specs.declared.status.Status.TheVariants.{Done, Refused, Usage, Unreadable, Unwritable, OutOfMemory, MachineFault, TooLong, Differs}
 use Rattle.alpaca_cli.specs.Answers.{Answers}
-use Rattle.alpaca_cli.specs.Calls.{Call, mean, try_, build, run, asm, dis, gen, save, resume, audit, OnLine, IsRun, IsAudit}
+use Rattle.alpaca_cli.specs.Calls.{Call, mean, try_, build, run, asm, dis, gen, save, resume, migrate, audit, OnLine, IsRun, IsAudit}
 use Rattle.alpaca_cli.specs.Ending.{Ending, well, at_fault, differs}
 use Rattle.alpaca_cli.specs.RunReport.{ending_of}
 use Rattle.alpaca_cli.specs.Verdicts.{verdict_ending}
@@ -44,6 +44,13 @@ faults_alone (dis a) (x ∷ []) p is e = not_both p.ending is.2 e
 faults_alone (dis a) (x ∷ y ∷ more) p is e = is
 faults_alone (gen n i) [] p is e = not_both p.ending is.1 e
 faults_alone (gen n i) (x ∷ more) p is e = is
+faults_alone (migrate a b c d k f) [] p is e = is
+faults_alone (migrate a b c d k f) (x ∷ []) p is e = is
+faults_alone (migrate a b c d k f) (x ∷ y ∷ []) p is e = is
+faults_alone (migrate a b c d k f) (x ∷ y ∷ z ∷ []) p is e = is
+faults_alone (migrate a b c d k f) (x ∷ y ∷ z ∷ u ∷ []) p is e = is
+faults_alone (migrate a b c d k f) (x ∷ y ∷ z ∷ u ∷ v ∷ []) p is e = not_both p.ending is.2 e
+faults_alone (migrate a b c d k f) (x ∷ y ∷ z ∷ u ∷ v ∷ w ∷ more) p is e = is
 faults_alone (audit a b c) [] p is e = is
 faults_alone (audit a b c) (x ∷ []) p is e = is
 faults_alone (audit a b c) (x ∷ y ∷ []) p is e = is
@@ -110,6 +117,13 @@ differs_alone (resume a b c) (x ∷ []) p is e = is
 differs_alone (resume a b c) (x ∷ y ∷ []) p is e = is
 differs_alone (resume a b c) (x ∷ y ∷ z ∷ []) p is e = no_difference is.0.report.outcome.ending (sym is.0.report.ends ∙ e)
 differs_alone (resume a b c) (x ∷ y ∷ z ∷ u ∷ more) p is e = is
+differs_alone (migrate a b c d k f) [] p is e = is
+differs_alone (migrate a b c d k f) (x ∷ []) p is e = is
+differs_alone (migrate a b c d k f) (x ∷ y ∷ []) p is e = is
+differs_alone (migrate a b c d k f) (x ∷ y ∷ z ∷ []) p is e = is
+differs_alone (migrate a b c d k f) (x ∷ y ∷ z ∷ u ∷ []) p is e = is
+differs_alone (migrate a b c d k f) (x ∷ y ∷ z ∷ u ∷ v ∷ []) p is e = well_alone p.ending is.2 e
+differs_alone (migrate a b c d k f) (x ∷ y ∷ z ∷ u ∷ v ∷ w ∷ more) p is e = is
 
 pub only_audits_differ : (status : Status) (words : List (List ℕ)) (shelf : Shelved) (out err : Written) → Answers status words shelf out err
     → status ≡ Differs → OnLine words IsAudit

@@ -6,6 +6,7 @@ mod FaultLaws
 mod GenLaws
 mod GenLines
 mod LineLaws
+mod MigrateLaws
 mod NotRefused
 mod OneEnding
 mod PutLaws

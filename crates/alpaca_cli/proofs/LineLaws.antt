@@ -7,7 +7,7 @@ use Rattle.std.specs.Str.{bytes_eq}
 use Rattle.std.specs.Str.Parse.{digits_value}
 use Rattle.command_line.specs.Commands.{NamesCommand}
 use Rattle.command_line.specs.declared.Command.TheVariants as command
-use Rattle.alpaca_cli.specs.Calls.{Call, mean, try_, build, run, asm, dis, gen, save, resume, audit, line_text, HasNumber, OnLine}
+use Rattle.alpaca_cli.specs.Calls.{Call, mean, try_, build, run, asm, dis, gen, save, resume, migrate, audit, line_text, HasNumber, OnLine}
 
 -- the command of a line
 abbrev call_of : List (List ℕ) → Option Call
@@ -19,7 +19,8 @@ call_of (name ∷ a ∷ b ∷ []) = cond (bytes_eq name (codes "mean")) (Some (m
     (cond (bytes_eq name (codes "gen")) (Some (gen (digits_value 10 a) b)) None))))
 call_of (name ∷ a ∷ b ∷ c ∷ []) = cond (bytes_eq name (codes "try")) (Some (try_ a b c)) (cond (bytes_eq name (codes "save")) (Some (save a b c))
     (cond (bytes_eq name (codes "resume")) (Some (resume a b c)) (cond (bytes_eq name (codes "audit")) (Some (audit a b c)) None)))
-call_of (name ∷ a ∷ b ∷ c ∷ d ∷ more) = None
+call_of (name ∷ a ∷ b ∷ c ∷ d ∷ e ∷ f ∷ []) = cond (bytes_eq name (codes "migrate")) (Some (migrate a b c d e f)) None
+call_of _ = None
 
 is_call : (c : Call) → HasNumber c → call_of (line_text c) ≡ Some c
 is_call (mean a b) h = refl
@@ -30,6 +31,7 @@ is_call (asm a b) h = refl
 is_call (dis a) h = refl
 is_call (save a b c) h = refl
 is_call (resume a b c) h = refl
+is_call (migrate a b c d e f) h = refl
 is_call (audit a b c) h = refl
 is_call (gen n a) h = ap (λ k. Some (gen k a)) (decimal_is_IsNumeral n (omega (arith, h))).1
 
@@ -50,4 +52,6 @@ names_command words (dis a, says, u) = (command.Dis (lent a), says.line)
 names_command words (gen n a, says, u) = (command.Gen n (lent a), says.line)
 names_command words (save a b c, says, u) = (command.Save (lent a) (lent b) (lent c), says.line)
 names_command words (resume a b c, says, u) = (command.Resume (lent a) (lent b) (lent c), says.line)
+names_command words (migrate a b c d e f, says, u) =
+    (command.Migrate (lent a) (lent b) (lent c) (lent d) (lent e) (lent f), says.line)
 names_command words (audit a b c, says, u) = (command.Audit (lent a) (lent b) (lent c), says.line)

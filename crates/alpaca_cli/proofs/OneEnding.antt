@@ -10,7 +10,7 @@ use Rattle.fram_board.specs.Board.{BoardValue}
 use Rattle.fram_board.specs.Run.{Run}
 use Rattle.board_run.specs.Charges.{charges_of}
 use Rattle.board_run.specs.History.{History, start_of}
-use Rattle.alpaca_cli.specs.Calls.{Call, mean, try_, build, run, asm, dis, gen, save, resume, audit}
+use Rattle.alpaca_cli.specs.Calls.{Call, mean, try_, build, run, asm, dis, gen, save, resume, migrate, audit}
 use Rattle.alpaca_cli.specs.Ending.{Ending}
 use Rattle.alpaca_cli.specs.Verdicts.{verdict_ending}
 use Rattle.cost_bound.specs.declared.allowance.Allow.{Allow}
@@ -106,6 +106,13 @@ one_ending law (resume c d e) (x ∷ []) p q a b = absurd a
 one_ending law (resume c d e) (x ∷ y ∷ []) p q a b = absurd a
 one_ending law (resume c d e) (x ∷ y ∷ z ∷ []) p q a b = resume_ending law x y z p.ending q.ending p.output q.output a.0 b.0
 one_ending law (resume c d e) (x ∷ y ∷ z ∷ u ∷ more) p q a b = absurd a
+one_ending law (migrate c d e f g h) [] p q a b = absurd a
+one_ending law (migrate c d e f g h) (x ∷ []) p q a b = absurd a
+one_ending law (migrate c d e f g h) (x ∷ y ∷ []) p q a b = absurd a
+one_ending law (migrate c d e f g h) (x ∷ y ∷ z ∷ []) p q a b = absurd a
+one_ending law (migrate c d e f g h) (x ∷ y ∷ z ∷ u ∷ []) p q a b = absurd a
+one_ending law (migrate c d e f g h) (x ∷ y ∷ z ∷ u ∷ v ∷ []) p q a b = a.2 ∙ sym b.2
+one_ending law (migrate c d e f g h) (x ∷ y ∷ z ∷ u ∷ v ∷ w ∷ more) p q a b = absurd a
 one_ending law (audit c d e) [] p q a b = absurd a
 one_ending law (audit c d e) (x ∷ []) p q a b = absurd a
 one_ending law (audit c d e) (x ∷ y ∷ []) p q a b = absurd a

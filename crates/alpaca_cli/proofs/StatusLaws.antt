@@ -13,6 +13,9 @@ use Rattle.alpaca_cli.specs.declared.run.RunEnding.{RunEnding}
 use Rattle.alpaca_cli.specs.Ending.{Ending}
 use Rattle.alpaca_cli.specs.Ends.{ending_of}
 use Rattle.alpaca_cli.specs.InputFiles.{AreHeld, IsUnread}
+use Rattle.alpaca_cli.specs.declared.migrate.MigrateNames.{MigrateNames}
+use Rattle.alpaca_cli.specs.Migrated.{Editions}
+use Rattle.alpaca_cli.specs.Migrating.{call_of, read_by, texts_of}
 use Rattle.alpaca_cli.specs.Outcomes.{FailsBy}
 use Rattle.alpaca_cli.specs.Outside.{Shelved, Written, Stands, IsSilent}
 use Rattle.alpaca_cli.specs.Told.{TellsFailure, TellsUnread}
@@ -104,6 +107,17 @@ pub of_two_read : (status : Status) (call : Call) (first second a b : List ℕ) 
 of_two_read status call first second a b files mid now before between after out err is_a is_b same falls held answer =
     of_two status call first second a b _ out err is_a is_b held
     (earlier_read status call (a ∷ b ∷ []) files mid now before between after out err same falls answer)
+
+-- a migration, which reads five files and then may put one
+pub of_five_read : (status : Status) (n : MigrateNames) (read lent : Editions) (files mid now : Option Files) (before between after : Counts)
+    (out err : Written) → lent ≡ read → mid ≡ files → NeverFall before between → IfSome files (λ f. AreHeld f (read_by n) (texts_of read))
+    → TextAnswers status (call_of n) (texts_of lent) (record { old = mid; new = now; counts_old = between; counts_new = after }) out err
+    → CommandAnswers status (call_of n) (record { old = files; new = now; counts_old = before; counts_new = after }) out err
+of_five_read status n read lent files mid now before between after out err is same falls held answer =
+    let of_read = subst (λ t. TextAnswers status (call_of n) (texts_of t) (record { old = mid; new = now; counts_old = between; counts_new = after }) out err)
+    is answer in
+    of_texts status (call_of n) (texts_of read) _ out err held
+    (earlier_read status (call_of n) (texts_of read) files mid now before between after out err same falls of_read)
 
 -- a whole command, by how it ends
 pub whole_ending : (call : Call) (texts : List (List ℕ)) (shelf : Shelved) (out : Written) (e f : Ending) → e ≡ f

@@ -13,6 +13,7 @@ pub data Call : Type 0 where
   gen : (number : ℕ) (image : List ℕ) → Call
   save : (image trace state : List ℕ) → Call
   resume : (image state trace : List ℕ) → Call
+  migrate : (source image state new_source new_image new_state : List ℕ) → Call
   audit : (source report trace : List ℕ) → Call
 
 -- its line: its first word, and then the names, and the number in its decimal digits
@@ -26,6 +27,8 @@ line_text (dis image) = codes "dis" ∷ image ∷ []
 line_text (gen number image) = codes "gen" ∷ decimal number ∷ image ∷ []
 line_text (save image trace state) = codes "save" ∷ image ∷ trace ∷ state ∷ []
 line_text (resume image state trace) = codes "resume" ∷ image ∷ state ∷ trace ∷ []
+line_text (migrate source image state new_source new_image new_state) =
+    codes "migrate" ∷ source ∷ image ∷ state ∷ new_source ∷ new_image ∷ new_state ∷ []
 line_text (audit source report trace) = codes "audit" ∷ source ∷ report ∷ trace ∷ []
 
 -- the names of the files that it reads, in order
@@ -39,6 +42,7 @@ reads (dis image) = image ∷ []
 reads (gen number image) = []
 reads (save image trace state) = image ∷ trace ∷ []
 reads (resume image state trace) = image ∷ state ∷ trace ∷ []
+reads (migrate source image state new_source new_image new_state) = source ∷ image ∷ state ∷ new_source ∷ new_image ∷ []
 reads (audit source report trace) = source ∷ report ∷ trace ∷ []
 
 -- the names of the texts that it may refuse, in order: those of its files, and of the generated source, which stands in none
@@ -57,6 +61,7 @@ puts (dis image) = None
 puts (gen number image) = Some image
 puts (save image trace state) = Some state
 puts (resume image state trace) = None
+puts (migrate source image state new_source new_image new_state) = Some new_state
 puts (audit source report trace) = None
 
 -- it audits a report

@@ -42,4 +42,4 @@ unfoldable pub usage_line : List ℕ
 usage_line =
     texts
     (codes
-    "usage: alpaca mean SRC TRACE | try SRC TRACE IMAGE | build SRC IMAGE | run IMAGE TRACE | asm ASM IMAGE | dis IMAGE | gen N IMAGE | save IMAGE TRACE STATE | resume IMAGE STATE TRACE | audit SRC REPORT TRACE\n" ∷ [])
+    "usage: alpaca mean SRC TRACE | try SRC TRACE IMAGE | build SRC IMAGE | run IMAGE TRACE | asm ASM IMAGE | dis IMAGE | gen N IMAGE | save IMAGE TRACE STATE | resume IMAGE STATE TRACE | migrate SRC IMAGE STATE NEWSRC NEWIMAGE NEWSTATE | audit SRC REPORT TRACE\n" ∷ [])

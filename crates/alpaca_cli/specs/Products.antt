@@ -32,11 +32,12 @@ use Rattle.source_generator.specs.Trace.{generated_trace}
 use Rattle.alpaca_cli.specs.Assemblies.{RefusesAssembly}
 use Rattle.report_audit.specs.declared.verdict.Verdict.{Verdict}
 use Rattle.report_audit.specs.Good.{IsVerdict}
-use Rattle.alpaca_cli.specs.Calls.{Call, mean, try_, build, run, asm, dis, gen, save, resume, audit}
+use Rattle.alpaca_cli.specs.Calls.{Call, mean, try_, build, run, asm, dis, gen, save, resume, migrate, audit}
 use Rattle.alpaca_cli.specs.Ending.{Ending, well}
 use Rattle.alpaca_cli.specs.Generated.{generated_lines}
 use Rattle.alpaca_cli.specs.Refusals.{Refusal}
 use Rattle.alpaca_cli.specs.Resumed.{RefusesOther, Resumes}
+use Rattle.alpaca_cli.specs.Migrated.{Migrates, CanBeMigrated, MigrateRefuses, editions}
 use Rattle.alpaca_cli.specs.RunReport.{IsRunReport, IsTold}
 use Rattle.alpaca_cli.specs.Sources.{IsSourceText, RefusesSource}
 use Rattle.alpaca_cli.specs.Saved.{Saves}
@@ -157,6 +158,8 @@ IsProduct (dis _) (image ∷ []) p = Lists image p.output × (p.file ≡ None) �
 IsProduct (gen number _) [] p = IsSomeAnd p.file (λ file. Generates number file p.output) × (p.ending ≡ well)
 IsProduct (save _ _ _) (image ∷ trace ∷ []) p = Saves image trace p.file p.ending p.output
 IsProduct (resume _ _ _) (image ∷ state ∷ trace ∷ []) p = Resumes image state trace p.ending p.output × (p.file ≡ None)
+IsProduct (migrate _ _ _ _ _ _) (source ∷ image ∷ state ∷ new_source ∷ new_image ∷ []) p =
+    IsSomeAnd p.file (Migrates (editions source image state new_source new_image)) × (p.output ≡ []) × (p.ending ≡ well)
 IsProduct (audit _ _ _) (source ∷ report ∷ trace ∷ []) p = Audits source report trace p.ending p.output × (p.file ≡ None)
 IsProduct call texts p = ⊥
 
@@ -197,6 +200,8 @@ AreAccepted (dis _) (image ∷ []) = SaysImage image
 AreAccepted (gen number _) [] = SaysSource (generated_text number)
 AreAccepted (save _ _ _) (image ∷ trace ∷ []) = SaysState image × SaysTrace trace
 AreAccepted (resume _ _ _) (image ∷ state ∷ trace ∷ []) = SaysItsState image state × SaysTrace trace
+AreAccepted (migrate _ _ _ _ _ _) (source ∷ image ∷ state ∷ new_source ∷ new_image ∷ []) =
+    CanBeMigrated (editions source image state new_source new_image)
 AreAccepted (audit _ _ _) (source ∷ report ∷ trace ∷ []) = SaysSource source × SaysTrace trace
 AreAccepted call texts = ⊥
 
@@ -240,5 +245,7 @@ IsRefused (dis _) (image ∷ []) place r = RefusesImage image r × (place ≡ 0)
 IsRefused (gen number _) [] place r = RefusesSource (generated_text number) r × (place ≡ 0)
 IsRefused (save _ _ _) (image ∷ trace ∷ []) place r = SaveRefuses image trace place r
 IsRefused (resume _ _ _) (image ∷ state ∷ trace ∷ []) place r = ResumeRefuses image state trace place r
+IsRefused (migrate _ _ _ _ _ _) (source ∷ image ∷ state ∷ new_source ∷ new_image ∷ []) place r =
+    MigrateRefuses (editions source image state new_source new_image) place r
 IsRefused (audit _ _ _) (source ∷ report ∷ trace ∷ []) place r = AuditRefuses source trace place r
 IsRefused call texts place r = ⊥

@@ -14,6 +14,7 @@ use crate::dis::answer_dis;
 use crate::generate::answer_gen;
 use crate::mean::answer_mean;
 use crate::messages;
+use crate::migrate::{MigrateNames, answer_migrate};
 use crate::resume::answer_resume;
 use crate::run::answer_run;
 use crate::save::answer_save;
@@ -22,7 +23,7 @@ use crate::try_::answer_try;
 use alp_io::{Shelf, Sink};
 use command_line::{Command, WordsFault, command_of};
 use fram_board::board_has_one_run;
-use fram_state::answers_are_one;
+use fram_state::{answers_are_one, no_migration_is_refused};
 use source_meaning::one_answer;
 use std::alloc::Global;
 
@@ -71,6 +72,28 @@ fn answer<H: Shelf, O: Sink, E: Sink>(
             },
         ) => answer_resume(alloc, (image, state, trace), shelf, out, err),
         Ok(
+            Command::Migrate {
+                source,
+                image,
+                state,
+                new_source,
+                new_image,
+                new_state,
+            },
+        ) => answer_migrate(
+            alloc,
+            MigrateNames {
+                source,
+                image,
+                state,
+                new_source,
+                new_image,
+                new_state,
+            },
+            shelf,
+            err,
+        ),
+        Ok(
             Command::Audit {
                 source,
                 report,
@@ -106,6 +129,7 @@ fn answer<H: Shelf, O: Sink, E: Sink>(
 /// IMAGE` puts it too, and writes the report of its run. `gen N IMAGE` puts the image of the source that is generated from N, and writes
 /// four lines of its run. `save IMAGE TRACE STATE` runs the image, or the state that it is, puts the state at the run's end and writes
 /// the last line of its report; `resume IMAGE STATE TRACE` writes the report of the run that goes on from a state of the image.
+/// `migrate SRC IMAGE STATE NEWSRC NEWIMAGE NEWSTATE` puts the state of a new edition of the program that goes on in place of an old state.
 /// `audit SRC REPORT TRACE` writes whether the source could have told the report on the trace's readings. Every other answer than `Done`
 /// writes its one line to `err`.
 pub fn alpaca<H: Shelf, O: Sink, E: Sink>(
@@ -148,5 +172,6 @@ pub fn alpaca<H: Shelf, O: Sink, E: Sink>(
     board_has_one_run();
     one_answer();
     answers_are_one();
+    no_migration_is_refused();
     answer(alloc, words, shelf, out, err)
 }

@@ -18,6 +18,7 @@ mod inputs;
 pub mod laws;
 mod mean;
 mod messages;
+mod migrate;
 mod puts;
 mod refusal;
 mod resume;

@@ -51,10 +51,11 @@ fn state_refusal<'t>(fault: StateFault) -> Refusal<'t>
     }
 }
 
-// Asks whether the state of a named file belongs to an image; takes no memory.
-//
-// Errors: `Refused` with what keeps it from that.
-fn check_belongs<'t>(file: &'t str, image: &Image, state: &State) -> Result<(), Failure<'t>>
+/// Asks whether the state of a named file belongs to an image; takes no memory.
+///
+/// # Errors
+/// `Refused` with what keeps it from that.
+pub fn check_belongs<'t>(file: &'t str, image: &Image, state: &State) -> Result<(), Failure<'t>>
     ensures belongs { IfOk result (λ _. Belongs image.now state.now) }
     ensures refused { IfErr result (FailsRefused file.now (RefusesOther image.now state.now)) }
 {

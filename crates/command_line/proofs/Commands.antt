@@ -21,7 +21,7 @@ use Rattle.command_line.specs.CommandLine.{AreTexts, IsLine, Subcommand, all_sai
 use Rattle.command_line.specs.CommandLine.{plain_line_of, said_behind, subcommand_named, subcommands}
 use Rattle.command_line.specs.Commands.{IsPlainLine, NamesCommand, line_found, plain_line, values_of}
 use Rattle.command_line.specs.declared.Command.{Command}
-use Rattle.command_line.specs.declared.Command.TheVariants.{Mean, Try, Build, Run, Asm, Dis, Gen, Save, Resume, Audit}
+use Rattle.command_line.specs.declared.Command.TheVariants.{Mean, Try, Build, Run, Asm, Dis, Gen, Save, Resume, Migrate, Audit}
 use Rattle.command_line.proofs.Files.{files_said, said_length, IsGiven, IsInOrder, built_subcommand, file_row, given_row, more_given, rows_for}
 use Rattle.command_line.proofs.Lines.{Line, all_in_order, has_name, in_order, line_reads, line_says, line_there, named}
 
@@ -79,6 +79,14 @@ some_more : (word : Text) (o : Option (List Text)) (line : List Text) → option
 some_more word None line e = cc
 some_more word (Some files) line e = (files, refl, ap (λ o. unwrap_or o []) (sym e))
 
+-- a command of files alone
+abbrev of_names : Text → List Text → Subcommand
+of_names called files = record { name = called; files = files }
+
+-- the files of `migrate`
+abbrev migrated_files : List Text
+migrated_files = codes "SRC" ∷ codes "IMAGE" ∷ codes "STATE" ∷ codes "NEWSRC" ∷ codes "NEWIMAGE" ∷ codes "NEWSTATE" ∷ []
+
 -- the command of a line, by its name and files
 subcommand_of_line : (c : Command) (name : Text) (files : List Text) → plain_line c ≡ name ∷ files
     → (s : Subcommand) × (subcommand_named name ≡ Some s) × (length files ≡ length s.files)
@@ -121,6 +129,9 @@ subcommand_of_line (Resume image state trace) name files e =
       let all = ap length (sym e) in
           omega arith,
     )
+subcommand_of_line (Migrate source image state new_source new_image new_state) name files e =
+    let named : name ≡ codes "migrate" = ap (λ l. unwrap_or (slice_get l 0) []) (sym e) in
+    (of_names (codes "migrate") migrated_files, ap subcommand_named named, let all = ap length (sym e) in omega arith)
 subcommand_of_line (Audit source report trace) name files e =
     let named : name ≡ codes "audit" = ap (λ l. unwrap_or (slice_get l 0) []) (sym e) in (
       record { name = codes "audit"; files = codes "SRC" ∷ codes "REPORT" ∷ codes "TRACE" ∷ [] },
@@ -205,9 +216,18 @@ three called make line (a ∷ b ∷ []) count = absurd (omega arith)
 three called make line (a ∷ b ∷ d ∷ []) count = (make (lent a) (lent b) (lent d), line a b d)
 three called make line (a ∷ b ∷ d ∷ other ∷ more) count = absurd (omega arith)
 
--- a command of files alone
-abbrev of_names : Text → List Text → Subcommand
-of_names called files = record { name = called; files = files }
+-- the same of six files
+six : (called : Text) (make : Bor Text → Bor Text → Bor Text → Bor Text → Bor Text → Bor Text → Command)
+    → ((a b d e f g : Text) → plain_line (make (lent a) (lent b) (lent d) (lent e) (lent f) (lent g)) ≡ called ∷ a ∷ b ∷ d ∷ e ∷ f ∷ g ∷ [])
+    → (files : List Text) → length files ≡ 6 → (c : Command) × (plain_line c ≡ called ∷ files)
+six called make line [] count = absurd (omega arith)
+six called make line (a ∷ []) count = absurd (omega arith)
+six called make line (a ∷ b ∷ []) count = absurd (omega arith)
+six called make line (a ∷ b ∷ d ∷ []) count = absurd (omega arith)
+six called make line (a ∷ b ∷ d ∷ e ∷ []) count = absurd (omega arith)
+six called make line (a ∷ b ∷ d ∷ e ∷ f ∷ []) count = absurd (omega arith)
+six called make line (a ∷ b ∷ d ∷ e ∷ f ∷ g ∷ []) count = (make (lent a) (lent b) (lent d) (lent e) (lent f) (lent g), line a b d e f g)
+six called make line (a ∷ b ∷ d ∷ e ∷ f ∷ g ∷ other ∷ more) count = absurd (omega arith)
 
 all_have_lines : AllHaveLines subcommands
 unfolding AllHaveLines
@@ -231,9 +251,12 @@ all_have_lines = (
                   of_files (of_names (codes "resume") (codes "IMAGE" ∷ codes "STATE" ∷ codes "TRACE" ∷ [])) refl
                       (three (codes "resume") Resume (λ a b d. refl)),
                   (
-                    of_files (of_names (codes "audit") (codes "SRC" ∷ codes "REPORT" ∷ codes "TRACE" ∷ [])) refl
-                        (three (codes "audit") Audit (λ a b d. refl)),
-                    tt,
+                    of_files (of_names (codes "migrate") migrated_files) refl (six (codes "migrate") Migrate (λ a b d e f g. refl)),
+                    (
+                      of_files (of_names (codes "audit") (codes "SRC" ∷ codes "REPORT" ∷ codes "TRACE" ∷ [])) refl
+                          (three (codes "audit") Audit (λ a b d. refl)),
+                      tt,
+                    ),
                   ),
                 ),
               ),

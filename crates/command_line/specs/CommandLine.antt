@@ -28,6 +28,10 @@ subcommands = record { name = codes "mean"; files = codes "SRC" ∷ codes "TRACE
     ∷ record { name = codes "gen"; files = codes "N" ∷ codes "IMAGE" ∷ [] }
     ∷ record { name = codes "save"; files = codes "IMAGE" ∷ codes "TRACE" ∷ codes "STATE" ∷ [] }
     ∷ record { name = codes "resume"; files = codes "IMAGE" ∷ codes "STATE" ∷ codes "TRACE" ∷ [] }
+    ∷ record {
+      name = codes "migrate";
+      files = codes "SRC" ∷ codes "IMAGE" ∷ codes "STATE" ∷ codes "NEWSRC" ∷ codes "NEWIMAGE" ∷ codes "NEWSTATE" ∷ [];
+    }
     ∷ record { name = codes "audit"; files = codes "SRC" ∷ codes "REPORT" ∷ codes "TRACE" ∷ [] } ∷ []
 
 -- N is a number, and each other one is a file

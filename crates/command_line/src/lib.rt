@@ -1,7 +1,7 @@
 //! The words of the command line, read by `clap` into a command of the program.
 #![tactic(auto)]
 
-ghost use Rattle.std.specs.Prelude.{◌≡◌, ◌↔◌, ◌∷◌, [], IfOk, IsErrOf, Some, List, false, map, option_map, string_bytes, decimal};
+ghost use Rattle.std.specs.Prelude.{◌≡◌, ◌↔◌, ◌∷◌, [], IfOk, IsErrOf, Some, List, false, map, option_map, string_bytes, decimal, codes};
 ghost use Rattle.std.specs.List.{list_any};
 ghost use Rattle.clap.specs.Words.{Text, app_of, found_of, rows_of, rule_of, subcommand_of, subcommand_rows_of, with_subcommand};
 ghost use Rattle.command_line.specs.CommandLine.{
@@ -94,6 +94,21 @@ pub enum Command<'a> {
         state: &'a str,
         /// The file of the trace.
         trace: &'a str,
+    },
+    /// `migrate SRC IMAGE STATE NEWSRC NEWIMAGE NEWSTATE`: the state of a new version of a program that goes on in place of an old one.
+    Migrate {
+        /// The file of the old source.
+        source: &'a str,
+        /// The file of its image.
+        image: &'a str,
+        /// The file of the old state.
+        state: &'a str,
+        /// The file of the new source.
+        new_source: &'a str,
+        /// The file of its image.
+        new_image: &'a str,
+        /// The file that is to hold the new state.
+        new_state: &'a str,
     },
     /// `audit SRC REPORT TRACE`: whether the source could have told the report on the trace's readings.
     Audit {
@@ -197,6 +212,19 @@ fn command_named<'a>(name: &str, files: &ArgMatches<'a>) -> Option<Command<'a>>
                 image,
                 state,
                 trace,
+            })
+        }
+        "migrate" => {
+            let (source, image, state) = three_files(files, "SRC", "IMAGE", "STATE")?;
+            let (new_source, new_image, new_state) =
+                three_files(files, "NEWSRC", "NEWIMAGE", "NEWSTATE")?;
+            Some(Command::Migrate {
+                source,
+                image,
+                state,
+                new_source,
+                new_image,
+                new_state,
             })
         }
         "audit" => {
@@ -369,6 +397,21 @@ fn with_three_files<'a>(
     with_files(alloc, command, name, [first, second, third].as_slice())
 }
 
+/// `command` with the command `migrate` added to it.
+fn with_migrate<'a>(
+    alloc: Global,
+    command: clap::Command<'a>,
+) -> Result<clap::Command<'a>, AllocError>
+    requires { has_globals command ≡ false }
+    ensures { IfOk result (λ c. IsCommand (with_subcommand (app_of command.entry) (subcommand_shape (record {
+      name = codes "migrate";
+      files = codes "SRC" ∷ codes "IMAGE" ∷ codes "STATE" ∷ codes "NEWSRC" ∷ codes "NEWIMAGE" ∷ codes "NEWSTATE" ∷ [];
+    }))) c) }
+{
+    let files = ["SRC", "IMAGE", "STATE", "NEWSRC", "NEWIMAGE", "NEWSTATE"];
+    with_files(alloc, command, "migrate", files.as_slice())
+}
+
 /// The command line of the program with no command yet.
 fn bare_command<'a>(alloc: Global) -> clap::Command<'a>
     ensures { IsCommand bare_app result }
@@ -394,5 +437,6 @@ fn alpaca_command<'a>(alloc: Global) -> Result<clap::Command<'a>, AllocError>
     let command = with_two_files(alloc, command, "gen", "N", "IMAGE")?;
     let command = with_three_files(alloc, command, "save", "IMAGE", "TRACE", "STATE")?;
     let command = with_three_files(alloc, command, "resume", "IMAGE", "STATE", "TRACE")?;
+    let command = with_migrate(alloc, command)?;
     with_three_files(alloc, command, "audit", "SRC", "REPORT", "TRACE")
 }

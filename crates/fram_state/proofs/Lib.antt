@@ -5,4 +5,9 @@ mod Others
 mod Entries
 mod Listed
 mod Taken
+mod Lines
+mod Numbers
+mod Rows
+mod Places
+mod Answered
 pub mod Interface

@@ -6,6 +6,9 @@ use Rattle.state_text.specs.declared.state.State.{State}
 use Rattle.fram_state.specs.declared.fault.StateFault.{StateFault}
 use Rattle.fram_state.specs.OtherImage.{first_other, IsFirstOther}
 use Rattle.fram_state.specs.Belongs.{Belongs, IsAnswer}
+use Rattle.fram_state.specs.declared.migrate.MigrateFault.{MigrateFault}
+use Rattle.fram_state.specs.declared.migrate.MigrateFault.TheVariants.{Memory}
+use Rattle.fram_state.specs.Migrated.{EditionValue, CanMigrate, IsFault}
 
 -- about an image and a state there is one answer
 abbrev pub AnswersAreOne : Type 0
@@ -24,3 +27,7 @@ BelongingStatesAreTaken = (image : ImageValue) (s : State) → AreImages image.w
 abbrev pub OtherWordsAreFirst : Type 0
 OtherWordsAreFirst = (m : MapValue) (image words : List ℕ) (a : ℕ) → AreImages image words → first_other m image words 0x4400 ≡ Some a
     → IsFirstOther m image words a
+
+-- of a state that can be migrated no other fault is told than want of memory
+abbrev pub NoMigrationIsRefused : Type 0
+NoMigrationIsRefused = (old new : EditionValue) (fault : MigrateFault) → CanMigrate old new → IsFault old new fault → fault ≡ Memory

@@ -5,6 +5,11 @@ pub mod Rules
 pub mod Sound
 pub mod OtherImage
 pub mod Belongs
+pub mod Suits
+pub mod Kept
+pub mod Migrated
+pub mod Laid
+pub mod Editions
 pub mod Laws
 pub use Rattle.state_text.specs.alp_text as alp_text
 pub use Rattle.state_text.specs.image_map as image_map

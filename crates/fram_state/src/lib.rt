@@ -1,4 +1,4 @@
-//! Whether a saved state is one of an image, and sound.
+//! Whether a saved state is one of an image, and sound; and what a new edition of its program goes on with.
 #![tactic(auto)]
 
 ghost use Rattle.std.specs.Prelude.{◌≡◌, IfOk, IfSome, IfNone};
@@ -6,23 +6,32 @@ ghost use Rattle.fram_state.specs.OtherImage.{HaveMap, HaveNoMap};
 ghost use Rattle.fram_state.specs.Belongs.{Belongs, IsAnswer, answer_with};
 ghost use Rattle.fram_state.specs.Laws.{AreImages};
 
+mod edition;
 mod entry;
 mod fault;
+mod kept;
+mod laid;
 mod laws;
 mod maps;
+mod migrate;
 mod named;
 mod other;
 mod runtime;
 mod sound;
 mod stretch;
+mod suits;
 
 pub use fault::{Rule, StateFault};
 use image_text::{Image, Map};
-pub use laws::{answers_are_one, belonging_states_are_taken, other_words_are_first};
+pub use laws::{
+    answers_are_one, belonging_states_are_taken, no_migration_is_refused, other_words_are_first,
+};
 use maps::are_same_maps;
+pub use migrate::{MigrateFault, migrate};
 use other::first_other;
 use sound::first_broken;
 use state_text::State;
+pub use suits::{SuitFault, suits};
 
 // The map that an image and a state have, if they have the same.
 fn shared_map<'a>(image: &'a Image, state: &State) -> Option<&'a Map>

@@ -18,8 +18,8 @@ pub struct Runtime {
     pub version: u16,
 }
 
-// The word at an address.
-fn word_in(words: &[u16], address: u16) -> u16
+/// The word at an address.
+pub fn word_in(words: &[u16], address: u16) -> u16
     requires all { length words.now ≡ 24064 }
     requires address { IsFramWord address }
     ensures { result ≡ word_in words.now address }

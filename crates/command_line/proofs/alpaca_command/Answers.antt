@@ -19,6 +19,8 @@ returns c =
     let e7 = c.in_ok-command-7.ensures.app ∙ ap (added (codes "gen") (codes "N" ∷ codes "IMAGE" ∷ [])) e6 in
     let e8 = c.in_ok-command-8.ensures.app ∙ ap (added (codes "save") (codes "IMAGE" ∷ codes "TRACE" ∷ codes "STATE" ∷ [])) e7 in
     let e9 = c.in_ok-command-9.ensures.app ∙ ap (added (codes "resume") (codes "IMAGE" ∷ codes "STATE" ∷ codes "TRACE" ∷ [])) e8 in
-    let whole : added (codes "audit") (codes "SRC" ∷ codes "REPORT" ∷ codes "TRACE" ∷ []) (app_of c.in_ok-command-9.command) ≡ alpaca_app =
-    ap (added (codes "audit") (codes "SRC" ∷ codes "REPORT" ∷ codes "TRACE" ∷ [])) e9 in
+    let e10 = c.in_ok-command-10.ensures.app
+    ∙ ap (added (codes "migrate") (codes "SRC" ∷ codes "IMAGE" ∷ codes "STATE" ∷ codes "NEWSRC" ∷ codes "NEWIMAGE" ∷ codes "NEWSTATE" ∷ [])) e9 in
+    let whole : added (codes "audit") (codes "SRC" ∷ codes "REPORT" ∷ codes "TRACE" ∷ []) (app_of c.in_ok-command-10.command) ≡ alpaca_app =
+    ap (added (codes "audit") (codes "SRC" ∷ codes "REPORT" ∷ codes "TRACE" ∷ [])) e10 in
     subst (λ (a : App). IfOk c.with_three_files-4.result (IsCommand a)) whole c.with_three_files-4.ensures

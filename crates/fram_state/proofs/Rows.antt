@@ -1,0 +1,176 @@
+-- Rows that are written over words, and how long the rows of variables are.
+use Rattle.std.proofs.Common.{◌≡◌, ◌<◌, ◌≤◌, ◌+◌, ◌⊎◌, inl, inr, ◌∙◌, ℕ, zero, suc, Bool, true, false, cond, List, [], ◌∷◌, length, get_or, set, take, drop}
+use Rattle.std.proofs.Common.{map, replicate, Option, Some, None, refl, sym, ap, subst, add-one, arith}
+use Rattle.std.specs.Prelude.{◌-◌, ◌*◌, slice_get, slice_index, unwrap_or, All}
+use Rattle.std.specs.Option.{option_map_or}
+use Rattle.std.proofs.Math.Seq.{drop-cons}
+use Rattle.std.proofs.lemmas.Bool.{cases_lt, leb-true, eqb-true, and_parts}
+use Rattle.std.proofs.lemmas.List.{drop_all, length-set, length-replicate, length-drop, length-take-le, get_or-set_same, get_or-set_other}
+use Rattle.image_text.specs.image_map.declared.parts.Variable.{Variable}
+use Rattle.image_text.specs.image_map.MapValue.{IsFramWord, IsVariable, fits}
+use Rattle.image_text.specs.ImageValue.{place_of}
+use Rattle.task_ast.specs.alp_text.Sequence.{◌>>?◌}
+use Rattle.task_ast.specs.declared.Extent.{Extent}
+use Rattle.task_ast.specs.declared.Extent.TheVariants.{Scalar, Array}
+use Rattle.task_ast.specs.declared.SharedDeclaration.{SharedDeclaration}
+use Rattle.source_report.specs.source_values.Runs.{initial_words}
+use Rattle.source_report.specs.SourceReport.{spelled}
+use Rattle.source_maps.specs.source_runs.Naming.{length_of}
+use Rattle.fram_state.specs.Runtime.{words_from}
+use Rattle.fram_state.specs.Suits.{Line, line_of, declared_line}
+use Rattle.fram_state.specs.Kept.{number_of, shared_names, same_type, same_kind, are_alike, if_alike, kept_from}
+use Rattle.fram_state.specs.Migrated.{EditionValue, kept_number, words_of, row_of}
+use Rattle.fram_state.specs.Laid.{with_row}
+use Rattle.fram_state.specs.Editions.{IsEdition}
+
+-- ---- a row over words
+
+pub row_more : (row words : List ℕ) (place i w : ℕ) → i < length row → w ≡ get_or row i w
+    → with_row (place + (i + 1)) (drop (i + 1) row) (set words (place + i) w) ≡ with_row (place + i) (drop i row) words
+row_more row words place i w h at =
+    let next : place + (i + 1) ≡ suc (place + i) = omega arith in
+    sym (ap (λ r. with_row (place + i) r words) (drop-cons row i w h)
+    ∙ ap (λ x. with_row (suc (place + i)) (drop (suc i) row) (set words (place + i) x)) (sym at)
+    ∙ ap (λ k. with_row (suc (place + i)) (drop k row) (set words (place + i) w)) (sym (add-one i))
+    ∙ ap (λ k. with_row k (drop (i + 1) row) (set words (place + i) w)) (sym next))
+
+pub row_end : (row words : List ℕ) (place i : ℕ) → length row ≤ i → with_row place (drop i row) words ≡ words
+row_end row words place i h = ap (λ r. with_row place r words) (drop_all i row h)
+
+pub row_long : (row words : List ℕ) (place : ℕ) → length (with_row place row words) ≡ length words
+row_long [] words place = refl
+row_long (w ∷ row) words place = row_long row (set words place w) (suc place) ∙ length-set words place w
+
+-- a word that the row doesn't have stays
+pub row_out : (row words : List ℕ) (place k : ℕ) → (k < place) ⊎ (place + length row ≤ k) → slice_index (with_row place row words) k ≡ slice_index words k
+row_out [] words place k h = refl
+row_out (w ∷ row) words place k (inl h) =
+    let other : k ≡ place → ⊥ = λ e. omega arith in
+    row_out row (set words place w) (suc place) k (inl (omega arith)) ∙ get_or-set_other words k place w 0 other
+row_out (w ∷ row) words place k (inr h) =
+    let other : k ≡ place → ⊥ = λ e. omega arith in
+    row_out row (set words place w) (suc place) k (inr (omega arith)) ∙ get_or-set_other words k place w 0 other
+
+-- and one that it has is its own
+pub row_in : (row words : List ℕ) (place k : ℕ) → place + length row ≤ length words → place ≤ k → k < place + length row
+    → slice_index (with_row place row words) k ≡ slice_index row (k - place)
+row_in [] words place k fits low high = absurd (omega arith)
+row_in (w ∷ row) words place k fits low high = by_first (cases_lt place k)
+  where
+    long : length (set words place w) ≡ length words
+    long = length-set words place w
+
+    by_first : (place < k) ⊎ (k ≤ place) → slice_index (with_row (suc place) row (set words place w)) k ≡ slice_index (w ∷ row) (k - place)
+    by_first (inl later) =
+        let next : k - place ≡ suc (k - suc place) = omega arith in
+        row_in row (set words place w) (suc place) k (omega arith) (omega arith) (omega arith) ∙ ap (slice_index (w ∷ row)) (sym next)
+    by_first (inr here) =
+        let is : k ≡ place = omega arith in
+        let first : k - place ≡ 0 = omega arith in
+        row_out row (set words place w) (suc place) k (inl (omega arith)) ∙ ap (slice_index (set words place w)) is
+        ∙ get_or-set_same words place w 0 (omega arith) ∙ ap (slice_index (w ∷ row)) (sym first)
+
+-- ---- how long the rows of variables are
+
+-- a variable's words end in the FRAM
+pub variable_fits : (v : Variable) → IsVariable v → place_of v.address + unwrap_or v.length 1 ≤ 24064
+variable_fits v is = by_length v.length refl
+  where
+    by_length : (n : Option ℕ) → v.length ≡ n → place_of v.address + unwrap_or v.length 1 ≤ 24064
+    by_length None e =
+        let one : unwrap_or v.length 1 ≡ 1 = ap (λ n. unwrap_or n 1) e in
+        omega (arith, is.address.low, is.address.high, is.address.even)
+    by_length (Some n) e =
+        let many : unwrap_or v.length 1 ≡ n = ap (λ n. unwrap_or n 1) e in
+        let both = and_parts _ _ (subst (λ l. fits v.address l ≡ true) e is.fits) in
+        let high : v.address + 2 * n ≤ 65536 = leb-true (v.address + 2 * n) 65536 both.1 in
+        omega (arith, is.address.low, is.address.even)
+
+-- the line of a declared variable is there, and is its declaration's
+pub line_at : (text : List ℕ) (vs : List Variable) (ds : List SharedDeclaration) (j : ℕ) (d : SharedDeclaration)
+    → map line_of vs ≡ map (declared_line text) ds → slice_get ds j ≡ Some d
+    → (v : Variable) × (slice_get vs j ≡ Some v) × (line_of v ≡ declared_line text d)
+line_at text [] [] j d same at = cc
+line_at text [] (e ∷ ds) j d same at = cc
+line_at text (v ∷ vs) [] j d same at = cc
+line_at text (v ∷ vs) (e ∷ ds) zero d same at =
+    let first : line_of v ≡ declared_line text e = cc in
+    let is : e ≡ d = cc in
+    (v, refl, first ∙ ap (declared_line text) is)
+line_at text (v ∷ vs) (e ∷ ds) (suc j) d same at =
+    let rest : map line_of vs ≡ map (declared_line text) ds = cc in
+    line_at text vs ds j d rest at
+
+pub all_at : {X : Type 0} (P : X → Type 0) (xs : List X) (j : ℕ) (x : X) → All P xs → slice_get xs j ≡ Some x → P x
+all_at P [] j x all at = cc
+all_at P (y ∷ ys) zero x all at = let is : y ≡ x = cc in subst P is (all 0 y (omega arith))
+all_at P (y ∷ ys) (suc j) x all at = all_at P ys j x (λ k d h. all (suc k) d (omega arith)) at
+
+-- a variable that is kept is like the new one
+record IsAlike (shared : List SharedDeclaration) (d : SharedDeclaration) (j : ℕ) : Type 0 where
+  old : SharedDeclaration
+  at : slice_get shared j ≡ Some old
+  alike : are_alike old d ≡ true
+
+alike_at : (shared : List SharedDeclaration) (d : SharedDeclaration) (k j : ℕ) → if_alike shared d k ≡ Some j → IsAlike shared d j
+alike_at shared d k j h = by_old (slice_get shared k) refl h
+  where
+    by_test : (e : SharedDeclaration) → slice_get shared k ≡ Some e → (b : Bool) → are_alike e d ≡ b → cond b (Some k) None ≡ Some j → IsAlike shared d j
+    by_test e at true alike g =
+        let is : k ≡ j = cc in
+        record { old = e; at = subst (λ n. slice_get shared n ≡ Some e) is at; alike = alike }
+    by_test e at false alike g = cc
+
+    by_old : (o : Option SharedDeclaration) → slice_get shared k ≡ o → (o >>? λ e. cond (are_alike e d) (Some k) None) ≡ Some j → IsAlike shared d j
+    by_old None at g = cc
+    by_old (Some e) at g = by_test e at (are_alike e d) refl g
+
+pub kept_alike : (text : List ℕ) (shared : List SharedDeclaration) (name : List ℕ) (d : SharedDeclaration) (j : ℕ)
+    → kept_from text shared name d ≡ Some j → IsAlike shared d j
+kept_alike text shared name d j h = by_number (number_of (shared_names text shared) name) h
+  where
+    by_number : (o : Option ℕ) → (o >>? if_alike shared d) ≡ Some j → IsAlike shared d j
+    by_number None g = cc
+    by_number (Some k) g = alike_at shared d k j g
+
+same_length : (e d : Extent) → same_kind e d ≡ true → length_of e ≡ length_of d
+same_length (Scalar w) (Scalar v) h = refl
+same_length (Scalar w) (Array m) h = cc
+same_length (Array n) (Scalar v) h = cc
+same_length (Array n) (Array m) h = ap Some (eqb-true n m h)
+
+initial_long : (e : Extent) → length (initial_words e) ≡ unwrap_or (length_of e) 1
+initial_long (Scalar w) = refl
+initial_long (Array n) = length-replicate n 0
+
+words_long : (words : List ℕ) (v : Variable) → length words ≡ 24064 → IsVariable v
+    → length (words_from words v.address (unwrap_or v.length 1)) ≡ unwrap_or v.length 1
+words_long words v all is =
+    let fits = variable_fits v is in
+    let behind : length (drop (place_of v.address) words) ≡ length words - place_of v.address = length-drop (place_of v.address) words in
+    length-take-le (unwrap_or v.length 1) (drop (place_of v.address) words) (omega arith)
+
+-- the row of a new variable is as long as the variable
+pub row_length : (old : EditionValue) → IsEdition old → (text : List ℕ) (d : SharedDeclaration)
+    → length (row_of old text d) ≡ unwrap_or (length_of d.extent) 1
+row_length old is text d = by_kept (kept_number old text d) refl
+  where
+    by_kept : (o : Option ℕ) → kept_number old text d ≡ o → length (option_map_or (words_of old) o (initial_words d.extent)) ≡ unwrap_or (length_of d.extent) 1
+    by_kept None e = initial_long d.extent
+    by_kept (Some j) e =
+        let kept = kept_alike old.text old.program.shared (spelled text d.name) d j e in
+        let v = line_at old.text old.named.variables old.program.shared j kept.old is.variables kept.at in
+        let variable = all_at IsVariable old.named.variables j v.0 is.rules.variables v.1 in
+        let kind : same_kind kept.old.extent d.extent ≡ true = (and_parts (same_type kept.old.word_type d.word_type) _ kept.alike).1 in
+        let lengths : v.0.length ≡ length_of d.extent = ap (λ (l : Line). l.length) v.2 ∙ same_length kept.old.extent d.extent kind in
+        ap (λ o. length (option_map_or (λ (v : Variable). words_from old.words v.address (unwrap_or v.length 1)) o [])) v.1
+        ∙ words_long old.words v.0 is.words variable ∙ ap (λ n. unwrap_or n 1) lengths
+
+-- so it fits at the variable's place
+pub row_fits : (old : EditionValue) → IsEdition old → (text : List ℕ) (d : SharedDeclaration) (v : Variable) → IsVariable v
+    → line_of v ≡ declared_line text d → place_of v.address + length (row_of old text d) ≤ 24064
+row_fits old is text d v variable line =
+    let long = row_length old is text d in
+    let lengths : unwrap_or v.length 1 ≡ unwrap_or (length_of d.extent) 1 = ap (λ (l : Line). unwrap_or l.length 1) line in
+    let fits = variable_fits v variable in
+    omega arith

@@ -1,0 +1,117 @@
+//! What a new edition of a program keeps of an old one.
+ghost use Rattle.std.specs.Prelude.{◌≡◌, ◌↔◌, ◌<◌, ◌^◌, ℕ, List, IfOk, IfSome, IsTrue, length, map};
+ghost use Rattle.task_ast.specs.View.{task_of, block_view};
+ghost use Rattle.source_report.specs.SourceReport.{spelled};
+ghost use Rattle.fram_state.specs.Kept as spec;
+ghost use Rattle.fram_state.specs.Kept.{number_of, shared_names, IsInPlace};
+ghost use Rattle.fram_state.specs.Editions.{HasNumbers};
+
+use path_sums::{is_private, is_written};
+use source_report::spelled;
+use std::alloc::{AllocError, Global};
+use std::collections::BTreeMap;
+use task_ast::{
+    Extent, SharedDeclaration, Stmt, TaskDeclaration, TaskName, Variable, VariableName, WordType,
+};
+
+/// The numbers of shared variables, by their names.
+pub type Numbers<'a> = BTreeMap<&'a [u8], usize>;
+
+/// The numbers of a source's shared variables; of those with one name the first.
+pub fn numbers_of<'a>(
+    alloc: Global,
+    text: &'a [u8],
+    shared: &[SharedDeclaration],
+) -> Result<Numbers<'a>, AllocError>
+    ensures { IfOk result (HasNumbers (shared_names text.now shared.now)) }
+{
+    let mut numbers = Numbers::new(alloc);
+    for i in (0..shared.len()).rev() {
+        numbers.insert(spelled(text, shared[i].name), i)?;
+    }
+    Ok(numbers)
+}
+
+fn same_type(one: WordType, other: WordType) -> bool
+    ensures { result ≡ spec.same_type one other }
+{
+    match one {
+        WordType::Unsigned => other == WordType::Unsigned,
+        WordType::Int => other == WordType::Int,
+    }
+}
+
+fn same_kind(one: Extent, other: Extent) -> bool
+    ensures { result ≡ spec.same_kind one other }
+{
+    match (one, other) {
+        (Extent::Scalar(_), Extent::Scalar(_)) => true,
+        (Extent::Array(n), Extent::Array(m)) => n == m,
+        _ => false,
+    }
+}
+
+// Whether two variables have the same type, kind and length.
+fn are_alike(one: &SharedDeclaration, other: &SharedDeclaration) -> bool
+    ensures { result ≡ spec.are_alike one.now other.now }
+{
+    same_type(one.word_type, other.word_type) && same_kind(one.extent, other.extent)
+}
+
+// The number, if the variable that has it is like this one.
+fn if_alike(
+    shared: &[SharedDeclaration],
+    declaration: &SharedDeclaration,
+    number: usize,
+) -> Option<usize>
+    ensures value { result ≡ spec.if_alike shared.now declaration.now number }
+    ensures inside { IfSome result (λ j. j < length shared.now) }
+{
+    let old = shared.get(number)?;
+    if are_alike(old, declaration) {
+        Some(number)
+    } else {
+        None
+    }
+}
+
+/// The number of the old variable from which a new one with this name is kept, by the table of the old names.
+pub fn kept_from<'a>(
+    text: &'a [u8],
+    shared: &[SharedDeclaration],
+    numbers: &Numbers<'a>,
+    name: &'a [u8],
+    declaration: &SharedDeclaration,
+) -> Option<usize>
+    requires { HasNumbers (shared_names text.now shared.now) numbers.now }
+    ensures value { result ≡ spec.kept_from text.now shared.now name.now declaration.now }
+    ensures inside { IfSome result (λ j. j < length shared.now) }
+{
+    let number = *numbers.get(&name)?;
+    if_alike(shared, declaration, number)
+}
+
+/// The number of the task of this name; of those with one name the first.
+pub fn task_named(
+    text: &[u8],
+    tasks: &[TaskDeclaration<VariableName, TaskName>],
+    name: &[u8],
+) -> Option<usize>
+    ensures { result ≡ number_of (map (λ t. spelled text.now t.name) (map task_of tasks.now)) name.now }
+{
+    for i in 0..tasks.len() {
+        if spelled(text, tasks[i].name) == name {
+            return Some(i);
+        }
+    }
+    None
+}
+
+/// Whether a task with this body writes the shared scalar of this number in place.
+pub fn is_in_place(number: usize, body: &[Stmt<VariableName, TaskName>]) -> bool
+    requires { number < 2 ^ 32 }
+    ensures { IsTrue result ↔ IsInPlace (block_view body.now) number }
+{
+    let scalar = Variable::Shared(number as u32);
+    is_written(scalar, body) && !is_private(scalar, body)
+}

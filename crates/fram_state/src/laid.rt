@@ -1,0 +1,149 @@
+//! The words of a new edition's FRAM, which are written over those of its image.
+ghost use Rattle.std.specs.Prelude.{◌≡◌, ◌≤◌, ◌+◌, ◌<◌, ◌^◌, IfOk, OnOk, length};
+ghost use Rattle.image_text.specs.image_map.MapValue.{IsFramWord, IsVariable};
+ghost use Rattle.image_text.specs.ImageValue.{place_of};
+ghost use Rattle.source_report.specs.source_values.Runs as runs;
+ghost use Rattle.fram_state.specs.Suits.{line_of, declared_line};
+ghost use Rattle.fram_state.specs.Kept.{shared_names};
+ghost use Rattle.fram_state.specs.Migrated as spec;
+ghost use Rattle.fram_state.specs.Migrated.{rows_of, row_of};
+ghost use Rattle.fram_state.specs.Laid.{with_row, with_rows, with_word, migrated_words};
+ghost use Rattle.fram_state.specs.Editions.{edition_of, HasNumbers, IsEdition};
+
+use crate::edition::Edition;
+use crate::kept::{Numbers, kept_from};
+use crate::runtime::{word_in, words_from};
+use image_text::Variable;
+use source_report::spelled;
+use std::alloc::{AllocError, Global};
+use task_ast::{Extent, SharedDeclaration};
+
+// Writes a row over words, from a place on.
+fn put_row(words: &mut [u16], place: usize, row: &[u16])
+    requires { place + length row.now ≤ length words.old }
+    ensures row { words.new ≡ with_row place row.now words.old }
+    ensures len { length words.new ≡ length words.old }
+{
+    for i in 0..row.len() {
+        words[place + i] = row[i];
+    }
+}
+
+// Writes a word at an address.
+fn put_word(words: &mut [u16], address: u16, word: u16)
+    requires all { length words.old ≡ 24064 }
+    requires address { IsFramWord address }
+    ensures word { words.new ≡ with_word words.old address word }
+    ensures len { length words.new ≡ 24064 }
+{
+    words[(address as usize - 0x4400) / 2] = word;
+}
+
+// The words that a variable begins with.
+fn initial_words(alloc: Global, extent: Extent) -> Result<Vec<u16>, AllocError>
+    ensures { IfOk result (λ v. v.items ≡ runs.initial_words extent) }
+{
+    match extent {
+        Extent::Scalar(word) => vec![in alloc; word; 1],
+        Extent::Array(words) => vec![in alloc; 0; words as usize],
+    }
+}
+
+// The words of the variable of a number in the FRAM of an edition.
+fn words_of<'a>(edition: &Edition<'a>, number: usize) -> &'a [u16]
+    ensures { result.now ≡ spec.words_of (edition_of edition.now) number }
+{
+    edition.map.rules();
+    match edition.map.variables().get(number) {
+        None => &[],
+        Some(v) => words_from(edition.words, v.address, v.length.unwrap_or(1) as usize),
+    }
+}
+
+// Writes the words that a new variable goes on with over those at its place.
+fn put_variable(
+    alloc: Global,
+    old: &Edition<'_>,
+    numbers: &Numbers<'_>,
+    text: &[u8],
+    declaration: &SharedDeclaration,
+    v: &Variable,
+    words: &mut [u16],
+) -> Result<(), AllocError>
+    requires old { IsEdition (edition_of old.now) }
+    requires names { HasNumbers (shared_names old.now.text.now old.now.source.now.shared.items) numbers.now }
+    requires place { IsVariable v.now }
+    requires line { line_of v.now ≡ declared_line text.now declaration.now }
+    requires all { length words.old ≡ 24064 }
+    ensures row { OnOk result (words.new ≡ with_row (place_of v.now.address) (row_of (edition_of old.now) text.now declaration.now) words.old) }
+    ensures len { length words.new ≡ 24064 }
+{
+    let place = (v.address as usize - 0x4400) / 2;
+    let name = spelled(text, declaration.name);
+    let shared = old.source.shared.as_slice();
+    match kept_from(old.text, shared, numbers, name, declaration) {
+        Some(from) => put_row(words, place, words_of(old, from)),
+        None => {
+            let row = initial_words(alloc, declaration.extent)?;
+            put_row(words, place, &row)
+        }
+    }
+    Ok(())
+}
+
+// Writes the words that the new variables go on with, those of the first over all others.
+fn put_variables(
+    alloc: Global,
+    old: &Edition<'_>,
+    numbers: &Numbers<'_>,
+    new: &Edition<'_>,
+    words: &mut [u16],
+) -> Result<(), AllocError>
+    requires old { IsEdition (edition_of old.now) }
+    requires new { IsEdition (edition_of new.now) }
+    requires names { HasNumbers (shared_names old.now.text.now old.now.source.now.shared.items) numbers.now }
+    requires all { length words.old ≡ 24064 }
+    ensures rows { OnOk result (words.new ≡ with_rows new.now.map.now.variables (rows_of (edition_of old.now) (edition_of new.now)) words.old) }
+    ensures len { length words.new ≡ 24064 }
+{
+    let shared = new.source.shared.as_slice();
+    let variables = new.map.variables();
+    for k in (0..shared.len()).rev() {
+        put_variable(
+            alloc,
+            old,
+            numbers,
+            new.text,
+            &shared[k],
+            &variables[k],
+            words,
+        )?;
+    }
+    Ok(())
+}
+
+/// The words of the new FRAM: those of the new image, with the words that the new variables go on with, BASE as the old state has it, and CUR
+/// as the number of this task.
+pub fn migrated_words(
+    alloc: Global,
+    old: &Edition<'_>,
+    numbers: &Numbers<'_>,
+    new: &Edition<'_>,
+    task: usize,
+) -> Result<Vec<u16>, AllocError>
+    requires old { IsEdition (edition_of old.now) }
+    requires new { IsEdition (edition_of new.now) }
+    requires names { HasNumbers (shared_names old.now.text.now old.now.source.now.shared.items) numbers.now }
+    requires task { task < 2 ^ 16 }
+    ensures { IfOk result (λ v. v.items ≡ migrated_words (edition_of old.now) (edition_of new.now) task) }
+{
+    old.map.rules();
+    new.map.rules();
+    let places = new.map.words();
+    let base = word_in(old.words, old.map.words().base);
+    let mut words = new.words.to_vec(alloc)?;
+    put_variables(alloc, old, numbers, new, &mut words)?;
+    put_word(&mut words, places.base, base);
+    put_word(&mut words, places.current_task, task as u16);
+    Ok(words)
+}
