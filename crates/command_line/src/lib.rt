@@ -216,8 +216,9 @@ fn command_named<'a>(name: &str, files: &ArgMatches<'a>) -> Option<Command<'a>>
         }
         "migrate" => {
             let (source, image, state) = three_files(files, "SRC", "IMAGE", "STATE")?;
-            let (new_source, new_image, new_state) =
-                three_files(files, "NEWSRC", "NEWIMAGE", "NEWSTATE")?;
+            let (new_source, new_image, new_state) = three_files(
+                files, "NEWSRC", "NEWIMAGE", "NEWSTATE",
+            )?;
             Some(Command::Migrate {
                 source,
                 image,

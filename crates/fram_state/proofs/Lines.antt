@@ -24,13 +24,13 @@ pub line_more : (text : List ℕ) (ds : List SharedDeclaration) (vs : List Varia
     → take i (map line_of vs) ≡ take i (map (declared_line text) ds) → take (i + 1) (map line_of vs) ≡ take (i + 1) (map (declared_line text) ds)
 line_more text ds vs i d v h k at bt e before =
     same_more (map line_of vs) (map (declared_line text) ds) i (line_of v) (declared_line text d) (under line_of vs i k) (under (declared_line text) ds i h)
-      (mapped_at line_of vs i v k bt) (mapped_at (declared_line text) ds i d h at) e before
+    (mapped_at line_of vs i v k bt) (mapped_at (declared_line text) ds i d h at) e before
 
 pub same_line : (text : List ℕ) (ds : List SharedDeclaration) (vs : List Variable) (i : ℕ) (d : SharedDeclaration) (v : Variable)
     → i < length ds → i < length vs → d ≡ get_or ds i d → v ≡ get_or vs i v → map line_of vs ≡ map (declared_line text) ds → line_of v ≡ declared_line text d
 same_line text ds vs i d v h k at bt e =
     same_item (map line_of vs) (map (declared_line text) ds) i (line_of v) (declared_line text d) (under line_of vs i k)
-      (mapped_at line_of vs i v k bt) (mapped_at (declared_line text) ds i d h at) e
+    (mapped_at line_of vs i v k bt) (mapped_at (declared_line text) ds i d h at) e
 
 pub same_count : {X Y Z : Type 0} (f : X → Z) (g : Y → Z) (xs : List X) (ys : List Y) → map f xs ≡ map g ys → length xs ≡ length ys
 same_count f g xs ys e = sym (length-map f xs) ∙ ap length e ∙ length-map g ys
@@ -42,7 +42,7 @@ pub name_more : (text : List ℕ) (ds : List SharedDeclaration) (numbers : List 
     → take i names ≡ take i (map (shared_name text ds) numbers) → take (i + 1) names ≡ take (i + 1) (map (shared_name text ds) numbers)
 name_more text ds numbers names i k n h j at bt e before =
     same_more names (map (shared_name text ds) numbers) i n (shared_name text ds k) j (under (shared_name text ds) numbers i h) bt
-      (mapped_at (shared_name text ds) numbers i k h at) e before
+    (mapped_at (shared_name text ds) numbers i k h at) e before
 
 pub same_name : (text : List ℕ) (ds : List SharedDeclaration) (numbers : List ℕ) (names : List (List ℕ)) (i k : ℕ) (n : List ℕ)
     → i < length numbers → i < length names → k ≡ get_or numbers i k → n ≡ get_or names i n → names ≡ map (shared_name text ds) numbers

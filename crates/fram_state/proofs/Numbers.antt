@@ -51,7 +51,7 @@ task_step : (text : List ℕ) (ts : List (TaskDeclaration VariableName TaskName)
     → i < length ts → t ≡ get_or ts i t → from (names_of text ts) i q ≡ cond (bytes_eq (spelled text t.name) q) (Some i) (from (names_of text ts) (i + 1) q)
 task_step text ts i t q h at =
     named_step (names_of text ts) i q (spelled text t.name) (under (λ t. spelled text t.name) (map task_of ts) i (under task_of ts i h))
-      (mapped_at (λ t. spelled text t.name) (map task_of ts) i (task_of t) (under task_of ts i h) (mapped_at task_of ts i t h at))
+    (mapped_at (λ t. spelled text t.name) (map task_of ts) i (task_of t) (under task_of ts i h) (mapped_at task_of ts i t h at))
 
 pub task_passed : (text : List ℕ) (ts : List (TaskDeclaration VariableName TaskName)) (i : ℕ) (t : TaskDeclaration VariableName TaskName) (q : List ℕ)
     → i < length ts → t ≡ get_or ts i t → bytes_eq (spelled text t.name) q ≡ false → from (names_of text ts) i q ≡ from (names_of text ts) (i + 1) q

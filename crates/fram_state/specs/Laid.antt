@@ -23,4 +23,4 @@ with_word words a w = slice_set words (place_of a) w
 abbrev pub migrated_words : EditionValue → EditionValue → (task : ℕ) → List ℕ
 migrated_words old new task =
     with_word (with_word (with_rows new.named.variables (rows_of old new) new.words) new.named.words.base (word_in old.words old.named.words.base))
-      new.named.words.current_task task
+    new.named.words.current_task task

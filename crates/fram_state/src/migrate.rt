@@ -177,7 +177,7 @@ pub fn migrate(
     requires new { Suits new.now.text.items (program_of new.now.checked.source) image }
     ensures answer { (m n : MapValue) → state.now.image.map ≡ Some m → image.map ≡ Some n
         → IsAnswerFor (edition_with old.now.text.items (program_of old.now.checked.source) m state.now.image.words)
-          (edition_with new.now.text.items (program_of new.now.checked.source) n image.words) state.now.receiver result }
+        (edition_with new.now.text.items (program_of new.now.checked.source) n image.words) state.now.receiver result }
 {
     let mut image = image;
     let Some(old_map) = state.image.map() else {

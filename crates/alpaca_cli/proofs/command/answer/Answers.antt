@@ -62,8 +62,11 @@ returns-in-Ok-Resume-clause-answers g c =
 
 pub returns-in-Ok-Migrate-clause-answers : goal.returns-in-Ok-Migrate-clause-answers
 returns-in-Ok-Migrate-clause-answers g c =
-    on_silent_line _ (call.migrate _ _ _ _ _ _) _ _ _ _ (record { number = tt; line = c.in-Ok-Migrate.ensures.command
-      ∙ ap (λ x. Some (plain_line x)) c.in-Ok-Migrate.field-0-is }) refl c.answer_migrate.ensures.answers
+    on_silent_line _ (call.migrate _ _ _ _ _ _) _ _ _ _ (record {
+      number = tt;
+      line = c.in-Ok-Migrate.ensures.command
+          ∙ ap (λ x. Some (plain_line x)) c.in-Ok-Migrate.field-0-is;
+    }) refl c.answer_migrate.ensures.answers
 
 pub returns-in-Ok-Audit-clause-answers : goal.returns-in-Ok-Audit-clause-answers
 returns-in-Ok-Audit-clause-answers g c =

@@ -5,7 +5,7 @@ use Rattle.alpaca_cli.proofs.migrate.answer_migrate.Goals as goal
 pub returns-in-Ok-clause-answers : goal.returns-in-Ok-clause-answers
 returns-in-Ok-clause-answers g c = λ out silent.
     of_five_read _ _ _ _ _ _ _ _ _ _ _ _ c.lent.ensures c.in-Ok.ensures.same c.in-Ok.ensures.counts c.in-Ok.ensures.held
-      (c.migrate_of.ensures.answers out silent)
+    (c.migrate_of.ensures.answers out silent)
 
 pub returns-in-Err-clause-answers : goal.returns-in-Err-clause-answers
 returns-in-Err-clause-answers g c = λ out silent. of_unread _ _ _ _ _ _ c.answer_unread.ensures.told c.in-Err.ensures.unread c.in-Err.ensures.same silent

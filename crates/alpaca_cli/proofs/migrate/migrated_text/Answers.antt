@@ -30,9 +30,9 @@ pub returns-in_err-state-clause-refused : goal.returns-in_err-state-clause-refus
 returns-in_err-state-clause-refused c =
     handed_on _ _ _ c.from_residual-in_err-state.ensures
     (fails_at _ _ _ _ _ 2 refl (refused_migration _ _ c.in_ok-said.ensures.said c.in_ok-check_suits.ensures.suits c.in_ok-check_suits-2.ensures.suits
-      c.in_ok-check_belongs.ensures.belongs) c.in_err-state.ensures.refused)
+    c.in_ok-check_belongs.ensures.belongs) c.in_err-state.ensures.refused)
 
 pub returns-in-Ok-clause-migrates : goal.returns-in-Ok-clause-migrates
 returns-in-Ok-clause-migrates c =
     migrates _ _ c.in_ok-said.ensures.said c.in_ok-check_suits.ensures.suits c.in_ok-check_suits-2.ensures.suits c.in_ok-check_belongs.ensures.belongs _ _
-      c.in_ok-state.ensures.migrated c.in-Ok.ensures.text c.in-Ok.ensures.reads_back
+    c.in_ok-state.ensures.migrated c.in-Ok.ensures.text c.in-Ok.ensures.reads_back
