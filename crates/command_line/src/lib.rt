@@ -1,7 +1,7 @@
 //! The words of the command line, read by `clap` into a command of the program.
 #![tactic(auto)]
 
-ghost use Rattle.std.specs.Prelude.{◌≡◌, ◌↔◌, ◌∷◌, [], IfOk, IsErrOf, Some, List, false, map, option_map, string_bytes, decimal, codes};
+ghost use Rattle.std.specs.Prelude.{◌≡◌, ◌↔◌, ◌∷◌, [], IfOk, IsErrOf, Some, List, false, map, option_map, string_bytes, decimal};
 ghost use Rattle.std.specs.List.{list_any};
 ghost use Rattle.clap.specs.Words.{Text, app_of, found_of, rows_of, rule_of, subcommand_of, subcommand_rows_of, with_subcommand};
 ghost use Rattle.command_line.specs.CommandLine.{
@@ -398,19 +398,30 @@ fn with_three_files<'a>(
     with_files(alloc, command, name, [first, second, third].as_slice())
 }
 
-/// `command` with the command `migrate` added to it.
-fn with_migrate<'a>(
+/// `command` with the command `name` added to it, which has six files.
+fn with_six_files<'a>(
     alloc: Global,
     command: clap::Command<'a>,
+    name: &'a str,
+    first: &'a str,
+    second: &'a str,
+    third: &'a str,
+    fourth: &'a str,
+    fifth: &'a str,
+    sixth: &'a str,
 ) -> Result<clap::Command<'a>, AllocError>
     requires { has_globals command ≡ false }
     ensures { IfOk result (λ c. IsCommand (with_subcommand (app_of command.entry) (subcommand_shape (record {
-      name = codes "migrate";
-      files = codes "SRC" ∷ codes "IMAGE" ∷ codes "STATE" ∷ codes "NEWSRC" ∷ codes "NEWIMAGE" ∷ codes "NEWSTATE" ∷ [];
+      name = name.entry.now;
+      files = first.entry.now ∷ second.entry.now ∷ third.entry.now ∷ fourth.entry.now ∷ fifth.entry.now ∷ sixth.entry.now ∷ [];
     }))) c) }
 {
-    let files = ["SRC", "IMAGE", "STATE", "NEWSRC", "NEWIMAGE", "NEWSTATE"];
-    with_files(alloc, command, "migrate", files.as_slice())
+    with_files(
+        alloc,
+        command,
+        name,
+        [first, second, third, fourth, fifth, sixth].as_slice(),
+    )
 }
 
 /// The command line of the program with no command yet.
@@ -438,6 +449,8 @@ fn alpaca_command<'a>(alloc: Global) -> Result<clap::Command<'a>, AllocError>
     let command = with_two_files(alloc, command, "gen", "N", "IMAGE")?;
     let command = with_three_files(alloc, command, "save", "IMAGE", "TRACE", "STATE")?;
     let command = with_three_files(alloc, command, "resume", "IMAGE", "STATE", "TRACE")?;
-    let command = with_migrate(alloc, command)?;
+    let command = with_six_files(
+        alloc, command, "migrate", "SRC", "IMAGE", "STATE", "NEWSRC", "NEWIMAGE", "NEWSTATE",
+    )?;
     with_three_files(alloc, command, "audit", "SRC", "REPORT", "TRACE")
 }

@@ -46,10 +46,10 @@ pub row_out : (row words : List ℕ) (place k : ℕ) → (k < place) ⊎ (place 
 row_out [] words place k h = refl
 row_out (w ∷ row) words place k (inl h) =
     let other : k ≡ place → ⊥ = λ e. omega arith in
-    row_out row (set words place w) (suc place) k (inl (omega arith)) ∙ get_or-set_other words k place w 0 other
+    row_out row (set words place w) (suc place) k (inl (omega arith)) ∙ get_or-set_other words place k w 0 other
 row_out (w ∷ row) words place k (inr h) =
     let other : k ≡ place → ⊥ = λ e. omega arith in
-    row_out row (set words place w) (suc place) k (inr (omega arith)) ∙ get_or-set_other words k place w 0 other
+    row_out row (set words place w) (suc place) k (inr (omega arith)) ∙ get_or-set_other words place k w 0 other
 
 -- and one that it has is its own
 pub row_in : (row words : List ℕ) (place k : ℕ) → place + length row ≤ length words → place ≤ k → k < place + length row
