@@ -9,7 +9,7 @@ use Rattle.image_text.specs.image_map.MapValue.{MapValue}
 use Rattle.state_text.specs.declared.state.State.{State}
 use Rattle.state_text.specs.Reading.{state_of}
 use Rattle.state_text.specs.Text.{state_text}
-use Rattle.fram_state.specs.declared.migrate.MigrateFault.{MigrateFault}
+use Rattle.fram_state.specs.declared.migration.MigrateFault.{MigrateFault}
 use Rattle.fram_state.specs.Belongs.{Belongs}
 use Rattle.fram_state.specs.Suits.{Suits}
 use Rattle.fram_state.specs.Migrated.{EditionValue, IsStateOf, IsMigrated, IsFault}

@@ -14,8 +14,8 @@ use Rattle.alpaca_cli.specs.Sources.{IsSourceText, RefusesSource}
 use Rattle.alpaca_cli.specs.Texts.{RefusesTrace, RefusesImage, outside_fram, twice, no_reset, bad_map}
 use Rattle.alpaca_cli.specs.Texts.{RefusesState, bad_state_line, outside_of_state, twice_in_state, no_reset_in_state, bad_map_of_state}
 use Rattle.alpaca_cli.specs.Texts as texts
-use Rattle.fram_state.specs.declared.migrate.MigrateFault.{MigrateFault}
-use Rattle.fram_state.specs.declared.migrate.MigrateFault.TheVariants.{Memory}
+use Rattle.fram_state.specs.declared.migration.MigrateFault.{MigrateFault}
+use Rattle.fram_state.specs.declared.migration.MigrateFault.TheVariants.{Memory}
 use Rattle.fram_state.specs.Suits.{Suits}
 use Rattle.fram_state.specs.Migrated.{EditionValue, edition_with, CanMigrate, IsFault}
 use Rattle.image_text.specs.image_map.MapValue.{MapValue}

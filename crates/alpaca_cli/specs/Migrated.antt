@@ -6,8 +6,8 @@ use Rattle.image_text.specs.Reading.{image_of}
 use Rattle.state_text.specs.declared.state.State.{State}
 use Rattle.state_text.specs.Reading.{state_of}
 use Rattle.state_text.specs.Text.{state_text}
-use Rattle.fram_state.specs.declared.migrate.MigrateFault.{MigrateFault}
-use Rattle.fram_state.specs.declared.migrate.MigrateFault.TheVariants.{Pending, NoTask, Unsettled, Memory}
+use Rattle.fram_state.specs.declared.migration.MigrateFault.{MigrateFault}
+use Rattle.fram_state.specs.declared.migration.MigrateFault.TheVariants.{Pending, NoTask, Unsettled, Memory}
 use Rattle.fram_state.specs.Belongs.{Belongs, IsAnswer}
 use Rattle.fram_state.specs.Suits.{Suits}
 use Rattle.fram_state.specs.Migrated.{EditionValue, edition_with, CanMigrate, IsMigrated, IsFault}

@@ -2,7 +2,7 @@
 ghost use Rattle.std.specs.Prelude.{◌≡◌, ◌≤◌, IfOk, IfErr, IfSome, Some, codes, option_map};
 ghost use Rattle.alp_io.specs.Shelf.{NeverFall};
 ghost use Rattle.image_reports.specs.task_ast.View.{program_of};
-ghost use Rattle.fram_state.specs.declared.migrate.MigrateFault.{MigrateFault};
+ghost use Rattle.fram_state.specs.declared.migration.MigrateFault.{MigrateFault};
 ghost use Rattle.fram_state.specs.Suits.{Suits};
 ghost use Rattle.fram_state.specs.Migrated.{IsStateOf, IsMigrated, IsFault};
 ghost use Rattle.alpaca_cli.specs.Answers.{CommandAnswers, IsWhole, TextAnswers};

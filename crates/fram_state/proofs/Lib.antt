@@ -5,7 +5,7 @@ mod Others
 mod Entries
 mod Listed
 mod Taken
-mod Lines
+mod Declared
 mod Numbers
 mod Rows
 mod Places

@@ -4,7 +4,8 @@ use Rattle.std.proofs.Common.{sym, ap, add-one, arith}
 use Rattle.std.specs.List.{position_from}
 use Rattle.std.specs.Str.{bytes_eq}
 use Rattle.std.proofs.Math.Seq.{drop-cons}
-use Rattle.std.proofs.lemmas.List.{drop_all, length-map}
+use Rattle.std.specs.Prelude.{◌-◌}
+use Rattle.std.proofs.lemmas.List.{drop_all, get_or_default, length-map}
 use Rattle.task_ast.specs.declared.SharedDeclaration.{SharedDeclaration}
 use Rattle.task_ast.specs.declared.TaskDeclaration.{TaskDeclaration}
 use Rattle.task_ast.specs.declared.names.VariableName.{VariableName}
@@ -12,7 +13,7 @@ use Rattle.task_ast.specs.declared.names.TaskName.{TaskName}
 use Rattle.task_ast.specs.View.{task_of}
 use Rattle.source_report.specs.SourceReport.{spelled}
 use Rattle.fram_state.specs.Kept.{shared_names}
-use Rattle.fram_state.proofs.Lines.{mapped_at, under}
+use Rattle.fram_state.proofs.Declared.{mapped_at, under}
 
 -- the first of the names from one on
 abbrev from : List (List ℕ) → ℕ → List ℕ → Option ℕ
@@ -36,9 +37,19 @@ shared_step text ds i d q h at =
     let named = λ (d : SharedDeclaration). spelled text d.name in
     named_step (shared_names text ds) i q (spelled text d.name) (under named ds i h) (mapped_at named ds i d h at)
 
+-- one name more in front
+pub numbered : (text : List ℕ) (ds : List SharedDeclaration) (i : ℕ) (e : SharedDeclaration) (q : List ℕ) (old : Option ℕ) → 0 < i → i ≤ length ds
+    → old ≡ from (shared_names text ds) i q
+    → cond (bytes_eq (spelled text (get_or ds (i - 1) e).name) q) (Some (i - 1)) old ≡ from (shared_names text ds) (i - 1) q
+numbered text ds i e q old some all is =
+    let back : (i - 1) + 1 ≡ i = omega arith in
+    let inside : i - 1 < length ds = omega arith in
+    ap (cond (bytes_eq (spelled text (get_or ds (i - 1) e).name) q) (Some (i - 1))) (is ∙ ap (λ j. from (shared_names text ds) j q) (sym back))
+    ∙ sym (shared_step text ds (i - 1) (get_or ds (i - 1) e) q inside (get_or_default ds (i - 1) e (get_or ds (i - 1) e) inside))
+
 pub shared_end : (text : List ℕ) (ds : List SharedDeclaration) (i : ℕ) (q : List ℕ) → length ds ≤ i → None ≡ from (shared_names text ds) i q
 shared_end text ds i q h =
-    let e : length (shared_names text ds) ≡ length ds = length-map (λ (d : SharedDeclaration). spelled text d.name) ds in
+    let e : length (shared_names text ds) ≡ length ds = length-map ds (λ d. spelled text d.name) in
     sym (named_end (shared_names text ds) i q (omega arith))
 
 -- ---- tasks
@@ -64,6 +75,6 @@ task_found text ts i t q h at e = task_step text ts i t q h at ∙ ap (λ b. con
 pub no_task : (text : List ℕ) (ts : List (TaskDeclaration VariableName TaskName)) (i : ℕ) (q : List ℕ) → length ts ≤ i
     → from (names_of text ts) i q ≡ None
 no_task text ts i q h =
-    let e : length (names_of text ts) ≡ length (map task_of ts) = length-map (λ t. spelled text t.name) (map task_of ts) in
-    let f : length (map task_of ts) ≡ length ts = length-map task_of ts in
+    let e : length (names_of text ts) ≡ length (map task_of ts) = length-map (map task_of ts) (λ t. spelled text t.name) in
+    let f : length (map task_of ts) ≡ length ts = length-map ts task_of in
     named_end (names_of text ts) i q (omega arith)

@@ -53,41 +53,39 @@ unfolding RowsFit
 rows_word [] [] words a fit all is = refl
 rows_word [] (row ∷ rows) words a fit all is = refl
 rows_word (v ∷ vs) [] words a fit all is = refl
-rows_word (v ∷ vs) (row ∷ rows) words a (variable, (long, fit)) all is = by_held (holds (variable_words v) a) refl
+rows_word (v ∷ vs) (row ∷ rows) words a (variable, long, fit) all is =
+    by_held (rows_word vs rows words a fit all is) (holds (variable_words v) a) refl
   where
-    n : ℕ
-    n = unwrap_or v.length 1
-
     below : List ℕ
     below = with_rows vs rows words
 
     wide : length below ≡ 24064
     wide = rows_long vs rows words ∙ all
 
-    fits : place_of v.address + n ≤ 24064
+    fits : place_of v.address + unwrap_or v.length 1 ≤ 24064
     fits = variable_fits v variable
 
     outside : holds (variable_words v) a ≡ false → (place_of a < place_of v.address) ⊎ (place_of v.address + length row ≤ place_of a)
-    outside h = by_order (cases_lt a v.address) (cases_lt a (v.address + 2 * n))
+    outside h = by_order (cases_lt a v.address) (cases_lt a (v.address + 2 * unwrap_or v.length 1))
       where
-        by_order : (a < v.address) ⊎ (v.address ≤ a) → (a < v.address + 2 * n) ⊎ (v.address + 2 * n ≤ a)
+        by_order : (a < v.address) ⊎ (v.address ≤ a) → (a < v.address + 2 * unwrap_or v.length 1) ⊎ (v.address + 2 * unwrap_or v.length 1 ≤ a)
             → (place_of a < place_of v.address) ⊎ (place_of v.address + length row ≤ place_of a)
         by_order (inl less) end = inl (omega (arith, variable.address.low, variable.address.even, is.low, is.even))
         by_order (inr from) (inr to) = inr (omega (arith, long, variable.address.low, variable.address.even, is.low, is.even))
         by_order (inr from) (inl to) =
-            let held = and_from (nat_le v.address a) (nat_lt a (v.address + 2 * n)) (le-leb v.address a from) (lt-ltb a (v.address + 2 * n) to) in
+            let held = and_from (nat_le v.address a) (nat_lt a (v.address + 2 * unwrap_or v.length 1)) (le-leb v.address a from) (lt-ltb a (v.address + 2 * unwrap_or v.length 1) to) in
             absurd (true≢false (sym held ∙ h))
 
-    by_held : (b : Bool) → holds (variable_words v) a ≡ b → word_in (with_row (place_of v.address) row below) a
+    by_held : word_in (with_rows vs rows words) a ≡ unwrap_or (shared_word vs rows a) (word_in words a) → (b : Bool) → holds (variable_words v) a ≡ b → word_in (with_row (place_of v.address) row below) a
         ≡ unwrap_or (cond b (Some (slice_index row ((a - v.address) / 2))) (shared_word vs rows a)) (word_in words a)
-    by_held true h =
-        let both = and_parts (nat_le v.address a) (nat_lt a (v.address + 2 * n)) h in
+    by_held more true h =
+        let both = and_parts (nat_le v.address a) (nat_lt a (v.address + 2 * unwrap_or v.length 1)) h in
         let from : v.address ≤ a = leb-true v.address a both.0 in
-        let to : a < v.address + 2 * n = ltb-true a (v.address + 2 * n) both.1 in
+        let to : a < v.address + 2 * unwrap_or v.length 1 = ltb-true a (v.address + 2 * unwrap_or v.length 1) both.1 in
         let index : place_of a - place_of v.address ≡ (a - v.address) / 2 = omega (arith, variable.address.low, variable.address.even, is.low, is.even) in
-        row_in row below (place_of v.address) (place_of a) (omega (arith, long)) (omega (arith, variable.address.low))
-          (omega (arith, long, variable.address.low, variable.address.even, is.low, is.even)) ∙ ap (slice_index row) index
-    by_held false h = row_out row below (place_of v.address) (place_of a) (outside h) ∙ rows_word vs rows words a fit all is
+        row_in row below (place_of v.address) (place_of a) (omega (arith, long, wide, fits)) (omega (arith, variable.address.low))
+        (omega (arith, long, variable.address.low, variable.address.even, is.low, is.even)) ∙ ap (slice_index row) index
+    by_held more false h = row_out row below (place_of v.address) (place_of a) (outside h) ∙ more
 
 rows_fit : (old : EditionValue) → IsEdition old → (text : List ℕ) (vs : List Variable) (ds : List SharedDeclaration) → All IsVariable vs
     → map line_of vs ≡ map (declared_line text) ds → RowsFit vs (map (row_of old text) ds)
@@ -98,18 +96,18 @@ rows_fit old is text (v ∷ vs) (d ∷ ds) all same =
     let first : line_of v ≡ declared_line text d = cc in
     let rest : map line_of vs ≡ map (declared_line text) ds = cc in
     let long = row_length old is text d ∙ ap (λ (l : Line). unwrap_or l.length 1) (sym first) in
-    (all 0 v (omega arith), (long, rows_fit old is text vs ds (λ k d h. all (suc k) d (omega arith)) rest))
+    (all 0 v (omega arith), long, rows_fit old is text vs ds (λ k d h. all (suc k) d (omega arith)) rest)
 
 -- ---- the whole FRAM
 
 module _ (old new : EditionValue) (is_old : IsEdition old) (is_new : IsEdition new) (task : ℕ) where
-  laid : List ℕ
+  abbrev laid : List ℕ
   laid = with_rows new.named.variables (rows_of old new) new.words
 
   laid_long : length laid ≡ 24064
   laid_long = rows_long new.named.variables (rows_of old new) new.words ∙ is_new.words
 
-  based : List ℕ
+  abbrev based : List ℕ
   based = with_word laid new.named.words.base (word_in old.words old.named.words.base)
 
   based_long : length based ≡ 24064

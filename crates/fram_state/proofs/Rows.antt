@@ -1,7 +1,7 @@
 -- Rows that are written over words, and how long the rows of variables are.
 use Rattle.std.proofs.Common.{◌≡◌, ◌<◌, ◌≤◌, ◌+◌, ◌⊎◌, inl, inr, ◌∙◌, ℕ, zero, suc, Bool, true, false, cond, List, [], ◌∷◌, length, get_or, set, take, drop}
 use Rattle.std.proofs.Common.{map, replicate, Option, Some, None, refl, sym, ap, subst, add-one, arith}
-use Rattle.std.specs.Prelude.{◌-◌, ◌*◌, slice_get, slice_index, unwrap_or, All}
+use Rattle.std.specs.Prelude.{◌-◌, ◌*◌, nat_lt, nat_le, slice_get, slice_index, unwrap_or, All}
 use Rattle.std.specs.Option.{option_map_or}
 use Rattle.std.proofs.Math.Seq.{drop-cons}
 use Rattle.std.proofs.lemmas.Bool.{cases_lt, leb-true, eqb-true, and_parts}
@@ -54,17 +54,19 @@ row_out (w ∷ row) words place k (inr h) =
 -- and one that it has is its own
 pub row_in : (row words : List ℕ) (place k : ℕ) → place + length row ≤ length words → place ≤ k → k < place + length row
     → slice_index (with_row place row words) k ≡ slice_index row (k - place)
-row_in [] words place k fits low high = absurd (omega arith)
-row_in (w ∷ row) words place k fits low high = by_first (cases_lt place k)
+row_in [] words place k ends low high = absurd (omega arith)
+row_in (w ∷ row) words place k ends low high =
+    by_first (λ later. row_in row (set words place w) (suc place) k (omega (arith, length-set words place w)) (omega arith) (omega arith)) (cases_lt place k)
   where
     long : length (set words place w) ≡ length words
     long = length-set words place w
 
-    by_first : (place < k) ⊎ (k ≤ place) → slice_index (with_row (suc place) row (set words place w)) k ≡ slice_index (w ∷ row) (k - place)
-    by_first (inl later) =
+    by_first : (place < k → slice_index (with_row (suc place) row (set words place w)) k ≡ slice_index row (k - suc place)) → (place < k) ⊎ (k ≤ place)
+        → slice_index (with_row (suc place) row (set words place w)) k ≡ slice_index (w ∷ row) (k - place)
+    by_first more (inl later) =
         let next : k - place ≡ suc (k - suc place) = omega arith in
-        row_in row (set words place w) (suc place) k (omega arith) (omega arith) (omega arith) ∙ ap (slice_index (w ∷ row)) (sym next)
-    by_first (inr here) =
+        more later ∙ ap (slice_index (w ∷ row)) (sym next)
+    by_first more (inr here) =
         let is : k ≡ place = omega arith in
         let first : k - place ≡ 0 = omega arith in
         row_out row (set words place w) (suc place) k (inl (omega arith)) ∙ ap (slice_index (set words place w)) is
@@ -82,7 +84,7 @@ variable_fits v is = by_length v.length refl
         omega (arith, is.address.low, is.address.high, is.address.even)
     by_length (Some n) e =
         let many : unwrap_or v.length 1 ≡ n = ap (λ n. unwrap_or n 1) e in
-        let both = and_parts _ _ (subst (λ l. fits v.address l ≡ true) e is.fits) in
+        let both = and_parts (nat_lt 0 n) (nat_le (v.address + 2 * n) 65536) (subst (λ l. fits v.address l ≡ true) e is.fits) in
         let high : v.address + 2 * n ≤ 65536 = leb-true (v.address + 2 * n) 65536 both.1 in
         omega (arith, is.address.low, is.address.even)
 
@@ -107,10 +109,10 @@ all_at P (y ∷ ys) zero x all at = let is : y ≡ x = cc in subst P is (all 0 y
 all_at P (y ∷ ys) (suc j) x all at = all_at P ys j x (λ k d h. all (suc k) d (omega arith)) at
 
 -- a variable that is kept is like the new one
-record IsAlike (shared : List SharedDeclaration) (d : SharedDeclaration) (j : ℕ) : Type 0 where
-  old : SharedDeclaration
-  at : slice_get shared j ≡ Some old
-  alike : are_alike old d ≡ true
+pub record IsAlike (shared : List SharedDeclaration) (d : SharedDeclaration) (j : ℕ) : Type 0 where
+  pub old : SharedDeclaration
+  pub at : slice_get shared j ≡ Some old
+  pub alike : are_alike old d ≡ true
 
 alike_at : (shared : List SharedDeclaration) (d : SharedDeclaration) (k j : ℕ) → if_alike shared d k ≡ Some j → IsAlike shared d j
 alike_at shared d k j h = by_old (slice_get shared k) refl h
@@ -146,7 +148,7 @@ initial_long (Array n) = length-replicate n 0
 words_long : (words : List ℕ) (v : Variable) → length words ≡ 24064 → IsVariable v
     → length (words_from words v.address (unwrap_or v.length 1)) ≡ unwrap_or v.length 1
 words_long words v all is =
-    let fits = variable_fits v is in
+    let ends = variable_fits v is in
     let behind : length (drop (place_of v.address) words) ≡ length words - place_of v.address = length-drop (place_of v.address) words in
     length-take-le (unwrap_or v.length 1) (drop (place_of v.address) words) (omega arith)
 
@@ -172,5 +174,23 @@ pub row_fits : (old : EditionValue) → IsEdition old → (text : List ℕ) (d :
 row_fits old is text d v variable line =
     let long = row_length old is text d in
     let lengths : unwrap_or v.length 1 ≡ unwrap_or (length_of d.extent) 1 = ap (λ (l : Line). unwrap_or l.length 1) line in
-    let fits = variable_fits v variable in
+    let ends = variable_fits v variable in
     omega arith
+
+-- the words of the old variable from which it is kept fit there, too
+pub kept_fits : (old : EditionValue) → IsEdition old → (text : List ℕ) (d : SharedDeclaration) (v : Variable) → IsVariable v
+    → line_of v ≡ declared_line text d → (name row : List ℕ) (j : ℕ) → name ≡ spelled text d.name → Some j ≡ kept_from old.text old.program.shared name d
+    → row ≡ words_of old j → place_of v.address + length row ≤ 24064
+kept_fits old is text d v variable line name row j named kept is_row =
+    let from : kept_number old text d ≡ Some j = ap (λ n. kept_from old.text old.program.shared n d) (sym named) ∙ sym kept in
+    let same : row_of old text d ≡ row = ap (λ o. option_map_or (words_of old) o (initial_words d.extent)) from ∙ sym is_row in
+    subst (λ r. place_of v.address + length r ≤ 24064) same (row_fits old is text d v variable line)
+
+-- and so do those that it begins with
+pub initial_fits : (old : EditionValue) → IsEdition old → (text : List ℕ) (d : SharedDeclaration) (v : Variable) → IsVariable v
+    → line_of v ≡ declared_line text d → (row : List ℕ) → row ≡ initial_words d.extent → place_of v.address + length row ≤ 24064
+initial_fits old is text d v variable line row is_row =
+    let long = initial_long d.extent in
+    let lengths : unwrap_or v.length 1 ≡ unwrap_or (length_of d.extent) 1 = ap (λ (l : Line). unwrap_or l.length 1) line in
+    let ends = variable_fits v variable in
+    subst (λ r. place_of v.address + length r ≤ 24064) (sym is_row) (omega arith)

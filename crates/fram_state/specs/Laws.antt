@@ -6,8 +6,8 @@ use Rattle.state_text.specs.declared.state.State.{State}
 use Rattle.fram_state.specs.declared.fault.StateFault.{StateFault}
 use Rattle.fram_state.specs.OtherImage.{first_other, IsFirstOther}
 use Rattle.fram_state.specs.Belongs.{Belongs, IsAnswer}
-use Rattle.fram_state.specs.declared.migrate.MigrateFault.{MigrateFault}
-use Rattle.fram_state.specs.declared.migrate.MigrateFault.TheVariants.{Memory}
+use Rattle.fram_state.specs.declared.migration.MigrateFault.{MigrateFault}
+use Rattle.fram_state.specs.declared.migration.MigrateFault.TheVariants.{Memory}
 use Rattle.fram_state.specs.Migrated.{EditionValue, CanMigrate, IsFault}
 
 -- about an image and a state there is one answer

@@ -12,8 +12,8 @@ use Rattle.task_check.specs.path_checks.Firsts.{CheckedTask}
 use Rattle.war_analysis.specs.Plans.{is_scalar}
 use Rattle.source_report.specs.source_values.Runs.{CheckedProgram, initial_words, task_body}
 use Rattle.source_report.specs.SourceReport.{spelled}
-use Rattle.fram_state.specs.declared.migrate.MigrateFault.{MigrateFault}
-use Rattle.fram_state.specs.declared.migrate.MigrateFault.TheVariants.{Pending, NoTask, Unsettled, Memory}
+use Rattle.fram_state.specs.declared.migration.MigrateFault.{MigrateFault}
+use Rattle.fram_state.specs.declared.migration.MigrateFault.TheVariants.{Pending, NoTask, Unsettled, Memory}
 use Rattle.fram_state.specs.Stretch.{holds}
 use Rattle.fram_state.specs.Named.{variable_words}
 use Rattle.fram_state.specs.Runtime.{word_in, words_from}

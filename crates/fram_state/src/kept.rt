@@ -1,5 +1,6 @@
 //! What a new edition of a program keeps of an old one.
 ghost use Rattle.std.specs.Prelude.{◌≡◌, ◌↔◌, ◌<◌, ◌^◌, ℕ, List, IfOk, IfSome, IsTrue, length, map};
+ghost use Rattle.std.specs.Str.{bytes_eq};
 ghost use Rattle.task_ast.specs.View.{task_of, block_view};
 ghost use Rattle.source_report.specs.SourceReport.{spelled};
 ghost use Rattle.fram_state.specs.Kept as spec;
@@ -91,16 +92,24 @@ pub fn kept_from<'a>(
     if_alike(shared, declaration, number)
 }
 
+// Whether a task has a name.
+fn is_named(text: &[u8], declaration: &TaskDeclaration<VariableName, TaskName>, name: &[u8]) -> bool
+    ensures { result ≡ bytes_eq (spelled text.now declaration.now.name) name.now }
+{
+    spelled(text, declaration.name) == name
+}
+
 /// The number of the task of this name; of those with one name the first.
 pub fn task_named(
     text: &[u8],
     tasks: &[TaskDeclaration<VariableName, TaskName>],
     name: &[u8],
 ) -> Option<usize>
-    ensures { result ≡ number_of (map (λ t. spelled text.now t.name) (map task_of tasks.now)) name.now }
+    ensures value { result ≡ number_of (map (λ t. spelled text.now t.name) (map task_of tasks.now)) name.now }
+    ensures inside { IfSome result (λ k. k < length tasks.now) }
 {
     for i in 0..tasks.len() {
-        if spelled(text, tasks[i].name) == name {
+        if is_named(text, &tasks[i], name) {
             return Some(i);
         }
     }

@@ -61,11 +61,11 @@ fn words_of<'a>(edition: &Edition<'a>, number: usize) -> &'a [u16]
 }
 
 // Writes the words that a new variable goes on with over those at its place.
-fn put_variable(
+fn put_variable<'a>(
     alloc: Global,
-    old: &Edition<'_>,
-    numbers: &Numbers<'_>,
-    text: &[u8],
+    old: &Edition<'a>,
+    numbers: &Numbers<'a>,
+    text: &'a [u8],
     declaration: &SharedDeclaration,
     v: &Variable,
     words: &mut [u16],
@@ -92,11 +92,11 @@ fn put_variable(
 }
 
 // Writes the words that the new variables go on with, those of the first over all others.
-fn put_variables(
+fn put_variables<'a>(
     alloc: Global,
-    old: &Edition<'_>,
-    numbers: &Numbers<'_>,
-    new: &Edition<'_>,
+    old: &Edition<'a>,
+    numbers: &Numbers<'a>,
+    new: &Edition<'a>,
     words: &mut [u16],
 ) -> Result<(), AllocError>
     requires old { IsEdition (edition_of old.now) }
@@ -124,11 +124,11 @@ fn put_variables(
 
 /// The words of the new FRAM: those of the new image, with the words that the new variables go on with, BASE as the old state has it, and CUR
 /// as the number of this task.
-pub fn migrated_words(
+pub fn migrated_words<'a>(
     alloc: Global,
-    old: &Edition<'_>,
-    numbers: &Numbers<'_>,
-    new: &Edition<'_>,
+    old: &Edition<'a>,
+    numbers: &Numbers<'a>,
+    new: &Edition<'a>,
     task: usize,
 ) -> Result<Vec<u16>, AllocError>
     requires old { IsEdition (edition_of old.now) }

@@ -12,26 +12,26 @@ mod fault;
 mod kept;
 mod laid;
 mod laws;
+mod lines;
 mod maps;
-mod migrate;
+mod migration;
 mod named;
 mod other;
 mod runtime;
 mod sound;
 mod stretch;
-mod suits;
 
 pub use fault::{Rule, StateFault};
 use image_text::{Image, Map};
 pub use laws::{
     answers_are_one, belonging_states_are_taken, no_migration_is_refused, other_words_are_first,
 };
+pub use lines::{SuitFault, suits};
 use maps::are_same_maps;
-pub use migrate::{MigrateFault, migrate};
+pub use migration::{MigrateFault, migrate};
 use other::first_other;
 use sound::first_broken;
 use state_text::State;
-pub use suits::{SuitFault, suits};
 
 // The map that an image and a state have, if they have the same.
 fn shared_map<'a>(image: &'a Image, state: &State) -> Option<&'a Map>

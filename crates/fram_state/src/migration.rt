@@ -41,7 +41,7 @@ pub enum MigrateFault {
 
 impl From<AllocError> for MigrateFault {
     ghost use Rattle.std.specs.Prelude.{◌≡◌};
-    ghost use Rattle.fram_state.specs.declared.migrate.MigrateFault.TheVariants.{Memory};
+    ghost use Rattle.fram_state.specs.declared.migration.MigrateFault.TheVariants.{Memory};
 
     ghost from_gives = { λ _ e. e ≡ Memory };
 
@@ -78,10 +78,10 @@ fn is_scalar(extent: Extent) -> bool
 }
 
 // Whether the new variable of a number is a scalar that is kept and isn't settled.
-fn is_unsettled(
-    old: &Edition<'_>,
-    numbers: &Numbers<'_>,
-    new: &Edition<'_>,
+fn is_unsettled<'a>(
+    old: &Edition<'a>,
+    numbers: &Numbers<'a>,
+    new: &Edition<'a>,
     task: usize,
     number: usize,
 ) -> bool
@@ -105,10 +105,10 @@ fn is_unsettled(
 }
 
 // The number of the first scalar that isn't settled.
-fn first_unsettled(
-    old: &Edition<'_>,
-    numbers: &Numbers<'_>,
-    new: &Edition<'_>,
+fn first_unsettled<'a>(
+    old: &Edition<'a>,
+    numbers: &Numbers<'a>,
+    new: &Edition<'a>,
     task: usize,
 ) -> Option<usize>
     requires old { IsEdition (edition_of old.now) }
@@ -130,10 +130,10 @@ fn first_unsettled(
 }
 
 // The words of the migrated FRAM, or what speaks against it.
-fn words_behind(
+fn words_behind<'a>(
     alloc: Global,
-    old: &Edition<'_>,
-    new: &Edition<'_>,
+    old: &Edition<'a>,
+    new: &Edition<'a>,
 ) -> Result<Vec<u16>, MigrateFault>
     requires old { IsEdition (edition_of old.now) }
     requires new { IsEdition (edition_of new.now) }
@@ -186,6 +186,7 @@ pub fn migrate(
     let Some(new_map) = image.map() else {
         unreachable!()
     };
+    old_map.rules();
     let words = words_behind(
         alloc,
         &Edition {

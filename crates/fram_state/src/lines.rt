@@ -59,7 +59,7 @@ fn is_declared(text: &[u8], declaration: &SharedDeclaration, v: &Variable) -> bo
 }
 
 // Whether the lines of variables are those of declarations, in order.
-#[tactic(auto, using(crate::proofs::Lines::line_more, crate::proofs::Lines::same_line))]
+#[tactic(auto, using(crate::proofs::Declared::line_more, crate::proofs::Declared::same_line))]
 fn are_declared(text: &[u8], shared: &[SharedDeclaration], variables: &[Variable]) -> bool
     ensures { IsTrue result ↔ (map line_of variables.now ≡ map (declared_line text.now) shared.now) }
 {
@@ -75,7 +75,7 @@ fn are_declared(text: &[u8], shared: &[SharedDeclaration], variables: &[Variable
 }
 
 // The name of the shared variable of a number.
-fn shared_name(text: &[u8], shared: &[SharedDeclaration], number: u32) -> &[u8]
+fn shared_name<'t>(text: &'t [u8], shared: &[SharedDeclaration], number: u32) -> &'t [u8]
     ensures { result.now ≡ maps.shared_name text.now shared.now number }
 {
     match shared.get(number as usize) {
@@ -84,8 +84,15 @@ fn shared_name(text: &[u8], shared: &[SharedDeclaration], number: u32) -> &[u8]
     }
 }
 
+// Whether a name is that of the shared variable of a number.
+fn is_name_of(text: &[u8], shared: &[SharedDeclaration], number: u32, name: &Name) -> bool
+    ensures { IsTrue result ↔ (name.now ≡ maps.shared_name text.now shared.now number) }
+{
+    name.as_bytes() == shared_name(text, shared, number)
+}
+
 // Whether names are those of the shared variables of these numbers, in order.
-#[tactic(auto, using(crate::proofs::Lines::name_more, crate::proofs::Lines::same_name))]
+#[tactic(auto, using(crate::proofs::Declared::name_more, crate::proofs::Declared::same_name))]
 fn are_privates(text: &[u8], shared: &[SharedDeclaration], numbers: &[u32], names: &[Name]) -> bool
     ensures { IsTrue result ↔ (names.now ≡ map (maps.shared_name text.now shared.now) numbers.now) }
 {
@@ -93,7 +100,7 @@ fn are_privates(text: &[u8], shared: &[SharedDeclaration], numbers: &[u32], name
         return false;
     }
     for i in 0..numbers.len() {
-        if names[i].as_bytes() != shared_name(text, shared, numbers[i]) {
+        if !is_name_of(text, shared, numbers[i], &names[i]) {
             return false;
         }
     }
@@ -114,25 +121,23 @@ fn is_planned(
         && are_privates(text, shared, plan.private_scalars(), task.privates())
 }
 
-// Whether the tasks of a map are a source's, each with the private scalars of its plan.
-#[tactic(auto, using(crate::proofs::Lines::task_more, crate::proofs::Lines::same_task))]
-fn are_planned(text: &[u8], source: &CheckedSource, plan: &Plan, tasks: &[Task]) -> bool
-    requires { length plan.now ≡ length source.now.tasks.items }
-    ensures { IsTrue result ↔ (tasks.now ≡ planned_tasks text.now source.now.shared.items (map task_of source.now.tasks.items) plan.now) }
+// Whether the tasks of a map are these, each with the private scalars of its plan.
+#[tactic(auto, using(crate::proofs::Declared::task_more, crate::proofs::Declared::same_task, crate::proofs::Declared::same_tasks, crate::proofs::Declared::all_tasks))]
+fn are_planned(
+    text: &[u8],
+    shared: &[SharedDeclaration],
+    declared: &[TaskDeclaration<VariableName, TaskName>],
+    plans: &[TaskPlan],
+    tasks: &[Task],
+) -> bool
+    requires { length plans.now ≡ length declared.now }
+    ensures { IsTrue result ↔ (tasks.now ≡ planned_tasks text.now shared.now (map task_of declared.now) plans.now) }
 {
-    let declared = source.tasks.as_slice();
-    let plans = plan.tasks();
     if tasks.len() != declared.len() {
         return false;
     }
     for i in 0..declared.len() {
-        if !is_planned(
-            text,
-            source.shared.as_slice(),
-            &declared[i],
-            &plans[i],
-            &tasks[i],
-        ) {
+        if !is_planned(text, shared, &declared[i], &plans[i], &tasks[i]) {
             return false;
         }
     }
@@ -145,7 +150,13 @@ fn has_lines_of(text: &[u8], source: &CheckedSource, plan: &Plan, map: &Map) -> 
     ensures { IsTrue result ↔ HasLinesOf text.now (program_of source.now) plan.now map.now }
 {
     are_declared(text, source.shared.as_slice(), map.variables())
-        && are_planned(text, source, plan, map.tasks())
+        && are_planned(
+            text,
+            source.shared.as_slice(),
+            source.tasks.as_slice(),
+            plan.tasks(),
+            map.tasks(),
+        )
 }
 
 /// Whether an image is one of a source: it has a map, and the `scalar`, `array`, `task` and `private` lines of this are those that the source
