@@ -71,10 +71,11 @@ excluded b A iff failed a = true≢false (sym (iff.1 a) ∙ failed)
 
 -- ---- tasks by their numbers and names
 
-pub task_at : {X Y : Type 0} (f : X → Y) (xs : List X) (i : ℕ) (x : X) → slice_get xs i ≡ Some x → slice_get (map f xs) i ≡ Some (f x)
-task_at f [] i x h = cc
-task_at f (y ∷ ys) zero x h = let is : y ≡ x = cc in ap (λ z. Some (f z)) is
-task_at f (y ∷ ys) (suc i) x h = task_at f ys i x h
+pub task_at : (ts : List (TaskDeclaration VariableName TaskName)) (i : ℕ) (t : TaskDeclaration VariableName TaskName) → slice_get ts i ≡ Some t
+    → slice_get (map task_of ts) i ≡ Some (task_of t)
+task_at [] i t h = cc
+task_at (u ∷ ts) zero t h = let is : u ≡ t = cc in ap (λ z. Some (task_of z)) is
+task_at (u ∷ ts) (suc i) t h = task_at ts i t h
 
 pub same_at : {X : Type 0} (xs : List X) (i : ℕ) (x y : X) → slice_get xs i ≡ Some x → slice_get xs i ≡ Some y → x ≡ y
 same_at xs i x y a b = let same : Some x ≡ Some y = sym a ∙ b in cc

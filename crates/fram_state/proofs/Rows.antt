@@ -103,10 +103,10 @@ line_at text (v ∷ vs) (e ∷ ds) (suc j) d same at =
     let rest : map line_of vs ≡ map (declared_line text) ds = cc in
     line_at text vs ds j d rest at
 
-pub all_at : {X : Type 0} (P : X → Type 0) (xs : List X) (j : ℕ) (x : X) → All P xs → slice_get xs j ≡ Some x → P x
-all_at P [] j x all at = cc
-all_at P (y ∷ ys) zero x all at = let is : y ≡ x = cc in subst P is (all 0 y (omega arith))
-all_at P (y ∷ ys) (suc j) x all at = all_at P ys j x (λ k d h. all (suc k) d (omega arith)) at
+pub variable_at : (vs : List Variable) (j : ℕ) (v : Variable) → All IsVariable vs → slice_get vs j ≡ Some v → IsVariable v
+variable_at [] j v all at = cc
+variable_at (w ∷ vs) zero v all at = let is : w ≡ v = cc in subst IsVariable is (all 0 w (omega arith))
+variable_at (w ∷ vs) (suc j) v all at = variable_at vs j v (λ k d h. all (suc k) d (omega arith)) at
 
 -- a variable that is kept is like the new one
 pub record IsAlike (shared : List SharedDeclaration) (d : SharedDeclaration) (j : ℕ) : Type 0 where
@@ -162,7 +162,7 @@ row_length old is text d = by_kept (kept_number old text d) refl
     by_kept (Some j) e =
         let kept = kept_alike old.text old.program.shared (spelled text d.name) d j e in
         let v = line_at old.text old.named.variables old.program.shared j kept.old is.variables kept.at in
-        let variable = all_at IsVariable old.named.variables j v.0 is.rules.variables v.1 in
+        let variable = variable_at old.named.variables j v.0 is.rules.variables v.1 in
         let kind : same_kind kept.old.extent d.extent ≡ true = (and_parts (same_type kept.old.word_type d.word_type) _ kept.alike).1 in
         let lengths : v.0.length ≡ length_of d.extent = ap (λ (l : Line). l.length) v.2 ∙ same_length kept.old.extent d.extent kind in
         ap (λ o. length (option_map_or (λ (v : Variable). words_from old.words v.address (unwrap_or v.length 1)) o [])) v.1

@@ -19,7 +19,7 @@ returns-in_default-clause-fault c =
     record {
       at_rest = excluded c.is_pending.result _ c.is_pending.ensures c.if-is_pending.false;
       task = task_of c.index.result.now;
-      is = task_at task_of items (current (edition_of c.args.old.now)) c.index.result.now at;
+      is = task_at items (current (edition_of c.args.old.now)) c.index.result.now at;
       none = looked_up c.args.new.now.text.now c.as_slice-tasks.result.now c.args.new.now.source.now.tasks.items c.spelled.result.now _ None
           c.as_slice-tasks.ensures.value c.spelled.ensures c.in_default.ensures.value;
       stands = refl;
@@ -52,7 +52,7 @@ returns-in-Some-first_unsettled-clause-fault c =
       task = task_of c.index.result.now;
       number = c.in-Some.task;
       goes_on = record {
-        is = task_at task_of items (current (edition_of c.args.old.now)) c.index.result.now at;
+        is = task_at items (current (edition_of c.args.old.now)) c.index.result.now at;
         named = looked_up c.args.new.now.text.now c.as_slice-tasks.result.now c.args.new.now.source.now.tasks.items c.spelled.result.now _ (Some c.in-Some.task)
             c.as_slice-tasks.ensures.value c.spelled.ensures c.in-Some.ensures.value;
       };
@@ -74,7 +74,7 @@ returns-clause-words c =
         task = task_of c.index.result.now;
         number = c.in-Some.task;
         goes_on = record {
-          is = task_at task_of items (current (edition_of c.args.old.now)) c.index.result.now at;
+          is = task_at items (current (edition_of c.args.old.now)) c.index.result.now at;
           named = looked_up c.args.new.now.text.now c.as_slice-tasks.result.now c.args.new.now.source.now.tasks.items c.spelled.result.now _
               (Some c.in-Some.task) c.as_slice-tasks.ensures.value c.spelled.ensures c.in-Some.ensures.value;
         };
