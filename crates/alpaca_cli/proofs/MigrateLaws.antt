@@ -79,13 +79,16 @@ module _ (t : Editions) (s : Said) (read : AreRead t s) where
 
   pub refused_old : (r : Refusal) → (r ≡ other_source) × (Suits s.source.text.items (program_of s.source.checked.source) s.image → ⊥) → MigrateRefuses t 1 r
   refused_old r h =
-      let back = λ x. subst (λ x. Suits x (program_of s.source.checked.source) s.image) (sym read.text) x in
+      let back : Suits t.source (program_of s.source.checked.source) s.image → Suits s.source.text.items (program_of s.source.checked.source) s.image =
+      λ x. subst (λ x. Suits x (program_of s.source.checked.source) s.image) (sym read.text) x in
       subst (λ x. MigrateRefuses t 1 x) (sym h.0) (unsuited said_in alone_in (λ x. h.1 (back x)))
 
   pub refused_new : Suits s.source.text.items (program_of s.source.checked.source) s.image → (r : Refusal)
       → (r ≡ other_source) × (Suits s.new_source.text.items (program_of s.new_source.checked.source) s.new_image → ⊥) → MigrateRefuses t 4 r
   refused_new old r h =
-      let back = λ x. subst (λ x. Suits x (program_of s.new_source.checked.source) s.new_image) (sym read.new_text) x in
+      let back : Suits t.new_source (program_of s.new_source.checked.source) s.new_image
+      → Suits s.new_source.text.items (program_of s.new_source.checked.source) s.new_image =
+      λ x. subst (λ x. Suits x (program_of s.new_source.checked.source) s.new_image) (sym read.new_text) x in
       subst (λ x. MigrateRefuses t 4 x) (sym h.0) (unsuited_new said_in alone_in (suits_old old) (λ x. h.1 (back x)))
 
   module _ (old : Suits s.source.text.items (program_of s.source.checked.source) s.image)

@@ -1,5 +1,6 @@
 -- Texts are accepted or refused, not both.
 use Rattle.std.proofs.Common.{◌≡◌, ◌∙◌, ℕ, List, [], ◌∷◌, Some, None, Ok, Err, Result, sym, ap, subst}
+use Rattle.image_text.specs.ImageValue.{ImageValue}
 use Rattle.energy_trace.specs.Reading.{trace_of}
 use Rattle.image_text.specs.Reading.{image_of}
 use Rattle.state_text.specs.Reading.{state_of}
