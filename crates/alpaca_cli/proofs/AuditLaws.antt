@@ -14,8 +14,8 @@ use Rattle.source_values.specs.Runs.{CheckedProgram, State, Transition, EmitsFit
 use Rattle.source_meaning.specs.Laws.{AcceptedTextsRun}
 use Rattle.source_report.specs.SourceReport.{Committed, IsConsecutive, IsEnding, readings_of, source_report}
 use Rattle.source_report.specs.Apart.{AreApart}
-use Rattle.source_runs.specs.Tells.{IsEndOf}
-use Rattle.source_runs.proofs.Interface.{made}
+use Rattle.compiled_states.specs.source_runs.Tells.{IsEndOf}
+use Rattle.compiled_states.proofs.source_runs.Interface.{made}
 use Rattle.report_audit.specs.declared.verdict.Verdict.{Verdict}
 use Rattle.report_audit.specs.declared.verdict.Verdict.TheVariants.{Yes, No}
 use Rattle.report_audit.specs.Good.{IsGoodReport, IsVerdict}

@@ -22,7 +22,7 @@ use Rattle.source_generator.specs.Trace.{charge_of, charges, behind_source, gene
 use Rattle.source_generator.proofs.Interface.{few_charges, each_once, few_readings}
 use Rattle.source_values.specs.Runs.{CheckedProgram}
 use Rattle.source_meaning.specs.Acceptance.{IsAcceptedText}
-use Rattle.source_runs.specs.Traces.{IsTraceOfWords}
+use Rattle.compiled_states.specs.source_runs.Traces.{IsTraceOfWords}
 use Rattle.alpaca_cli.specs.Ending.{Ending, well, at_fault}
 use Rattle.alpaca_cli.specs.Generated.{RanSo, ended_line, four_lines, generated_lines}
 use Rattle.alpaca_cli.specs.Products.{IsBuilt, Generates}

@@ -18,7 +18,7 @@ use Rattle.alpaca_cli.specs.Ending.{well}
 use Rattle.alpaca_cli.specs.Outcomes.{Breaks, FailsBy, FailsPutting, Gains}
 use Rattle.alpaca_cli.specs.Outside.{Shelved, Written, IsSilent, WhereSilent, IsPut, IsUnput}
 use Rattle.alpaca_cli.specs.Products.{Product, IsProduct, Assembles, IsBuilt, Builds, Tries}
-use Rattle.source_runs.specs.Traces.{IsTraceOfWords}
+use Rattle.compiled_states.specs.source_runs.Traces.{IsTraceOfWords}
 use Rattle.image_reports.specs.ImageLaw.{ImagesKeepTheLaws}
 use Rattle.alpaca_cli.specs.RunReport.{IsRunReport, IsTold}
 

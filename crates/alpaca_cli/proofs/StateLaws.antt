@@ -8,7 +8,7 @@ use Rattle.fram_board.specs.Run.{RunOutcome, Run}
 use Rattle.board_run.specs.Charges.{charges_of}
 use Rattle.board_run.specs.History.{start_of}
 use Rattle.board_run.specs.Report.{report_of}
-use Rattle.source_runs.specs.Traces.{IsTraceOfWords}
+use Rattle.compiled_states.specs.source_runs.Traces.{IsTraceOfWords}
 use Rattle.compiled_states.specs.Worlds.{HasFramWords}
 use Rattle.compiled_states.specs.Laws.{FreshStatesBelong, StatesAreTold, StatesStay}
 use Rattle.alpaca_cli.specs.Resumed.{IsOfItsSource}

@@ -16,7 +16,7 @@ use Rattle.energy_trace.specs.Line.{◌>>?◌}
 use Rattle.energy_trace.specs.Ranges.{IsCharge}
 use Rattle.energy_trace.specs.Meaning.{all_charges, all_readings, AreLinesOf}
 use Rattle.energy_trace.specs.TraceValue.{TraceValue}
-use Rattle.source_runs.specs.Traces.{IsTraceOfWords}
+use Rattle.compiled_states.specs.source_runs.Traces.{IsTraceOfWords}
 
 -- what a line says is of words
 abbrev IsOfWords : LineMeaning → Type 0

@@ -18,8 +18,8 @@ use Rattle.source_values.specs.Statements.{Outcome}
 use Rattle.source_values.specs.Runs.{CheckedProgram}
 use Rattle.source_meaning.specs.Acceptance.{IsAcceptedText}
 use Rattle.image_reports.specs.source_maps.Maps.{map_of}
-use Rattle.source_runs.specs.Tells.{IsEndOf, IsToldBySource}
-use Rattle.source_runs.specs.Traces.{IsTraceOfWords}
+use Rattle.compiled_states.specs.source_runs.Tells.{IsEndOf, IsToldBySource}
+use Rattle.compiled_states.specs.source_runs.Traces.{IsTraceOfWords}
 use Rattle.link_image.specs.Compiled.{IsCompiled}
 use Rattle.image_reports.specs.Laws.{ImagesAreTold}
 use Rattle.alpaca_cli.specs.declared.run.RunEnding.{RunEnding}

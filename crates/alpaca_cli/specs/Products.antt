@@ -24,9 +24,9 @@ use Rattle.msp_asm.specs.Assembled.{assembled}
 use Rattle.msp_asm.specs.Disassembly.{IsTextOf}
 use Rattle.source_values.specs.Runs.{CheckedProgram}
 use Rattle.source_report.specs.SourceReport.{IsMeanReport}
-use Rattle.source_runs.specs.Naming.{IsMapOf}
-use Rattle.source_runs.specs.Traces.{IsTraceOfWords}
-use Rattle.source_runs.specs.Tells.{IsToldBySource}
+use Rattle.compiled_states.specs.source_runs.Naming.{IsMapOf}
+use Rattle.compiled_states.specs.source_runs.Traces.{IsTraceOfWords}
+use Rattle.compiled_states.specs.source_runs.Tells.{IsToldBySource}
 use Rattle.source_generator.specs.Source.{generated_text}
 use Rattle.source_generator.specs.Trace.{generated_trace}
 use Rattle.alpaca_cli.specs.Assemblies.{RefusesAssembly}

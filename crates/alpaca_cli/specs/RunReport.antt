@@ -10,8 +10,8 @@ use Rattle.fram_board.specs.Run.{End, Charges, Stopped, RunOutcome, Run}
 use Rattle.board_run.specs.Charges.{charges_of}
 use Rattle.board_run.specs.History.{History, start_of}
 use Rattle.board_run.specs.Report.{report_of}
-use Rattle.source_runs.specs.Traces.{IsTraceOfWords}
-use Rattle.source_runs.specs.Tells.{IsToldBySource}
+use Rattle.compiled_states.specs.source_runs.Traces.{IsTraceOfWords}
+use Rattle.compiled_states.specs.source_runs.Tells.{IsToldBySource}
 use Rattle.alpaca_cli.specs.Ending.{Ending, well, at_fault}
 
 -- a run ends at a machine fault where it met a word that is no instruction, or a bus fault

@@ -5,7 +5,7 @@ ghost use Rattle.board_run.specs.History.{start_of};
 ghost use Rattle.alp_io.specs.Shelf.{NeverFall};
 ghost use Rattle.source_generator.specs.Source.{generated_text};
 ghost use Rattle.source_generator.specs.Trace as generator;
-ghost use Rattle.source_runs.specs.Traces.{IsTraceOfWords};
+ghost use Rattle.compiled_states.specs.source_runs.Traces.{IsTraceOfWords};
 ghost use Rattle.alpaca_cli.specs.declared.failure.Failure.TheVariants.{Memory};
 ghost use Rattle.alpaca_cli.specs.Calls as call;
 ghost use Rattle.alpaca_cli.specs.Ending.{Ending, well};

@@ -30,7 +30,10 @@ mod status;
 mod traces;
 mod try_;
 
-pub use alp_io::StdSink;
+// The files and outputs that a caller hands over.
+pub use alp_io::{
+    DirShelf, Failed, MemShelf, MemSink, NoMemory, ReadFault, Shelf, Sink, StdSink, write_pieces,
+};
 pub use arguments::answer_arguments;
 pub use command::alpaca;
 pub use laws::printed_reports_are_good;

@@ -1,7 +1,7 @@
 //! A trace text, read for a command.
 ghost use Rattle.std.specs.Prelude.{◌≡◌, ◌<◌, IfOk, IfErr, Ok, length};
 ghost use Rattle.energy_trace.specs.Reading.{trace_of};
-ghost use Rattle.source_runs.specs.Traces.{IsTraceOfWords};
+ghost use Rattle.compiled_states.specs.source_runs.Traces.{IsTraceOfWords};
 ghost use Rattle.alpaca_cli.specs.Texts.{RefusesTrace, FailsRefused};
 
 use crate::failure::{Failure, refused_plainly};

@@ -1,20 +1,20 @@
 -- The layout of a source leaves no word unused in front of its code.
 use Rattle.std.proofs.Common.{◌≡◌, ℕ, ◌+◌, ◌*◌, ◌≤◌, Bool, true, false, List, [], ◌∷◌, arith}
-use Rattle.layout_facts.specs.task_ast.declared.Extent.{Extent}
-use Rattle.layout_facts.specs.task_ast.declared.Extent.TheVariants.{Scalar, Array}
-use Rattle.layout_facts.specs.task_ast.declared.SharedDeclaration.{SharedDeclaration}
-use Rattle.layout_facts.specs.cost_bound.declared.allowance.Allow.{Allow}
-use Rattle.layout_facts.specs.cost_bound.Counts.{Code, emits_of}
-use Rattle.layout_facts.specs.cost_bound.Allowance.{CheckedProgram, CheckedTask, IsAllowed, shared_sum_from, place_part, version_part, is_written, total}
-use Rattle.layout_facts.specs.cost_bound.Allowance.{greatest}
-use Rattle.layout_facts.specs.cost_bound.Allowance.{task_words, list_of, words_of, versions_of}
-use Rattle.layout_facts.specs.war_analysis.PlanValue.{TaskPlanValue}
-use Rattle.layout_facts.specs.memory_map.MemoryMap.{MemoryMap}
-use Rattle.layout_facts.specs.memory_map.Places.{end_of}
-use Rattle.layout_facts.specs.memory_map.Laws.{AreApart}
-use Rattle.layout_facts.proofs.memory_map.Interface.{apart_of}
-use Rattle.layout_facts.specs.privatise.Sizes.{home_part, home_words, copy_part, copy_words, body_words, entry_words}
-use Rattle.layout_facts.specs.privatise.Layouts.{IsLayout}
+use Rattle.image_reports.specs.layout_facts.task_ast.declared.Extent.{Extent}
+use Rattle.image_reports.specs.layout_facts.task_ast.declared.Extent.TheVariants.{Scalar, Array}
+use Rattle.image_reports.specs.layout_facts.task_ast.declared.SharedDeclaration.{SharedDeclaration}
+use Rattle.image_reports.specs.layout_facts.cost_bound.declared.allowance.Allow.{Allow}
+use Rattle.image_reports.specs.layout_facts.cost_bound.Counts.{Code, emits_of}
+use Rattle.image_reports.specs.layout_facts.cost_bound.Allowance.{CheckedProgram, CheckedTask, IsAllowed, shared_sum_from, place_part, version_part, is_written, total}
+use Rattle.image_reports.specs.layout_facts.cost_bound.Allowance.{greatest}
+use Rattle.image_reports.specs.layout_facts.cost_bound.Allowance.{task_words, list_of, words_of, versions_of}
+use Rattle.image_reports.specs.layout_facts.war_analysis.PlanValue.{TaskPlanValue}
+use Rattle.image_reports.specs.layout_facts.memory_map.MemoryMap.{MemoryMap}
+use Rattle.image_reports.specs.layout_facts.memory_map.Places.{end_of}
+use Rattle.image_reports.specs.layout_facts.memory_map.Laws.{AreApart}
+use Rattle.image_reports.proofs.layout_facts.memory_map.Interface.{apart_of}
+use Rattle.image_reports.specs.layout_facts.privatise.Sizes.{home_part, home_words, copy_part, copy_words, body_words, entry_words}
+use Rattle.image_reports.specs.layout_facts.privatise.Layouts.{IsLayout}
 
 -- each part in front of the code begins where the one before ends
 pub record IsFull (l : MemoryMap) : Type 0 where

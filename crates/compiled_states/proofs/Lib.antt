@@ -7,3 +7,4 @@ mod Sound
 mod Keeping
 mod Ends
 mod States
+pub use Rattle.image_reports.proofs.source_runs as source_runs

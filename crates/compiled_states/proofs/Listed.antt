@@ -6,21 +6,21 @@ use Rattle.std.specs.Prelude.{nat_le}
 use Rattle.std.specs.List.{list_all}
 use Rattle.std.proofs.lemmas.Bool.{leb-true, le-leb, eqb-true, eq-eqb, and_parts, and_from}
 use Rattle.std.proofs.lemmas.List.Sums.{sum_by-cons}
-use Rattle.layout_facts.specs.cost_bound.declared.allowance.Allow.{Allow}
-use Rattle.layout_facts.specs.cost_bound.Allowance.{CheckedProgram}
-use Rattle.layout_facts.specs.war_analysis.PlanValue.{TaskPlanValue}
-use Rattle.layout_facts.specs.memory_map.MemoryMap.{MemoryMap}
-use Rattle.layout_facts.specs.memory_map.Places.{end_of}
-use Rattle.layout_facts.proofs.memory_map.Interface.{even_of}
-use Rattle.layout_facts.specs.runtime_effects.Places.{CopyPair, run_pairs, entries_from}
-use Rattle.layout_facts.proofs.runtime_effects.Interface.{run_length}
-use Rattle.layout_facts.specs.stands_for.Layout.{ProgramPlaces, IsSharedWord, IsCopyWord, IsAmong}
-use Rattle.layout_facts.specs.compiled_model.Places.{program_places}
-use Rattle.layout_facts.specs.Facts.{HasLayout}
-use Rattle.link_image.specs.source_maps.Maps.{map_of}
-use Rattle.link_image.specs.source_maps.Placing.{ArePlacesOf}
-use Rattle.link_image.specs.image_map.MapValue.{MapValue, IsFramWord}
-use Rattle.link_image.specs.machine_effects.Machine.{IsFram, fram_of}
+use Rattle.image_reports.specs.layout_facts.cost_bound.declared.allowance.Allow.{Allow}
+use Rattle.image_reports.specs.layout_facts.cost_bound.Allowance.{CheckedProgram}
+use Rattle.image_reports.specs.layout_facts.war_analysis.PlanValue.{TaskPlanValue}
+use Rattle.image_reports.specs.layout_facts.memory_map.MemoryMap.{MemoryMap}
+use Rattle.image_reports.specs.layout_facts.memory_map.Places.{end_of}
+use Rattle.image_reports.proofs.layout_facts.memory_map.Interface.{even_of}
+use Rattle.image_reports.specs.layout_facts.runtime_effects.Places.{CopyPair, run_pairs, entries_from}
+use Rattle.image_reports.proofs.layout_facts.runtime_effects.Interface.{run_length}
+use Rattle.image_reports.specs.layout_facts.stands_for.Layout.{ProgramPlaces, IsSharedWord, IsCopyWord, IsAmong}
+use Rattle.image_reports.specs.layout_facts.compiled_model.Places.{program_places}
+use Rattle.image_reports.specs.layout_facts.Facts.{HasLayout}
+use Rattle.image_reports.specs.link_image.source_maps.Maps.{map_of}
+use Rattle.image_reports.specs.link_image.source_maps.Placing.{ArePlacesOf}
+use Rattle.image_reports.specs.link_image.image_map.MapValue.{MapValue, IsFramWord}
+use Rattle.image_reports.specs.link_image.machine_effects.Machine.{IsFram, fram_of}
 use Rattle.fram_state.specs.declared.entry.Entry.{Entry}
 use Rattle.fram_state.specs.Stretch.{words_at, lies_in}
 use Rattle.fram_state.specs.Named.{copies_words, is_shared}

@@ -3,27 +3,27 @@ use Rattle.std.proofs.Common.{◌≡◌, ◌⊎◌, inl, inr, ℕ, zero, suc, �
 use Rattle.std.proofs.Common.{ap, arith}
 use Rattle.std.specs.Prelude.{slice_get, unwrap_or}
 use Rattle.std.proofs.lemmas.Bool.{false≢true, cases_lt, or_cases, or_from, or_left, or_right}
-use Rattle.layout_facts.specs.task_ast.declared.Extent.{Extent}
-use Rattle.layout_facts.specs.task_ast.declared.Extent.TheVariants as extent
-use Rattle.layout_facts.specs.task_ast.declared.SharedDeclaration.{SharedDeclaration}
-use Rattle.layout_facts.specs.cost_bound.declared.allowance.Allow.{Allow}
-use Rattle.layout_facts.specs.cost_bound.Allowance.{CheckedProgram}
-use Rattle.layout_facts.specs.war_analysis.PlanValue.{TaskPlanValue}
-use Rattle.layout_facts.specs.memory_map.declared.place.VariablePlace.{VariablePlace}
-use Rattle.layout_facts.specs.memory_map.declared.place.VariablePlace.TheVariants.{Scalar, Array}
-use Rattle.layout_facts.specs.memory_map.MemoryMap.{MemoryMap}
-use Rattle.layout_facts.specs.memory_map.Places.{end_of, home_region, AreInOrder}
-use Rattle.layout_facts.specs.memory_map.Laws.{AreApart}
-use Rattle.layout_facts.proofs.memory_map.Interface.{apart_of, in_order_end}
-use Rattle.layout_facts.specs.stands_for.Layout.{IsSharedWord}
-use Rattle.layout_facts.specs.compiled_model.Places.{program_places}
-use Rattle.layout_facts.specs.Facts.{HasLayout}
-use Rattle.layout_facts.proofs.Interface.{shared_words_are_of_variables}
-use Rattle.link_image.specs.machine_effects.Machine.{IsFram}
-use Rattle.link_image.specs.source_runs.Naming.{length_of}
-use Rattle.link_image.specs.source_maps.Maps.{map_words, map_list, map_buffer, variable_of, variables_of, map_of}
-use Rattle.link_image.specs.source_maps.Placing.{IsOfKind, ArePlacesOf}
-use Rattle.link_image.specs.image_map.MapValue.{MapValue}
+use Rattle.image_reports.specs.layout_facts.task_ast.declared.Extent.{Extent}
+use Rattle.image_reports.specs.layout_facts.task_ast.declared.Extent.TheVariants as extent
+use Rattle.image_reports.specs.layout_facts.task_ast.declared.SharedDeclaration.{SharedDeclaration}
+use Rattle.image_reports.specs.layout_facts.cost_bound.declared.allowance.Allow.{Allow}
+use Rattle.image_reports.specs.layout_facts.cost_bound.Allowance.{CheckedProgram}
+use Rattle.image_reports.specs.layout_facts.war_analysis.PlanValue.{TaskPlanValue}
+use Rattle.image_reports.specs.layout_facts.memory_map.declared.place.VariablePlace.{VariablePlace}
+use Rattle.image_reports.specs.layout_facts.memory_map.declared.place.VariablePlace.TheVariants.{Scalar, Array}
+use Rattle.image_reports.specs.layout_facts.memory_map.MemoryMap.{MemoryMap}
+use Rattle.image_reports.specs.layout_facts.memory_map.Places.{end_of, home_region, AreInOrder}
+use Rattle.image_reports.specs.layout_facts.memory_map.Laws.{AreApart}
+use Rattle.image_reports.proofs.layout_facts.memory_map.Interface.{apart_of, in_order_end}
+use Rattle.image_reports.specs.layout_facts.stands_for.Layout.{IsSharedWord}
+use Rattle.image_reports.specs.layout_facts.compiled_model.Places.{program_places}
+use Rattle.image_reports.specs.layout_facts.Facts.{HasLayout}
+use Rattle.image_reports.proofs.layout_facts.Interface.{shared_words_are_of_variables}
+use Rattle.image_reports.specs.link_image.machine_effects.Machine.{IsFram}
+use Rattle.image_reports.specs.link_image.source_runs.Naming.{length_of}
+use Rattle.image_reports.specs.link_image.source_maps.Maps.{map_words, map_list, map_buffer, variable_of, variables_of, map_of}
+use Rattle.image_reports.specs.link_image.source_maps.Placing.{IsOfKind, ArePlacesOf}
+use Rattle.image_reports.specs.link_image.image_map.MapValue.{MapValue}
 use Rattle.fram_state.specs.Stretch.{holds, is_held}
 use Rattle.fram_state.specs.Named.{place_words, list_words, variable_words, runtime_words, buffers, is_shared, is_named}
 use Rattle.compiled_states.proofs.Full.{IsFull, layout_is_full}

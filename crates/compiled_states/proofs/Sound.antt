@@ -5,24 +5,24 @@ use Rattle.std.proofs.Common.{◌∙◌, subst, arith, All}
 use Rattle.std.specs.Prelude.{nat_le, nat_lt}
 use Rattle.std.specs.List.{list_all}
 use Rattle.std.proofs.lemmas.Bool.{leb-true, ltb-true, eqb-true, eq-eqb, ne_eqb, and_parts, or_cases}
-use Rattle.layout_facts.specs.cost_bound.declared.allowance.Allow.{Allow}
-use Rattle.layout_facts.specs.cost_bound.Allowance.{CheckedProgram}
-use Rattle.layout_facts.specs.war_analysis.PlanValue.{TaskPlanValue}
-use Rattle.layout_facts.specs.memory_map.declared.words.RuntimeWord.{RuntimeWord}
-use Rattle.layout_facts.specs.memory_map.declared.words.RuntimeWord.TheVariants.{CurrentTask, NextTask, Gate, ListLength, EmitCount, Base, SentBase, Version}
-use Rattle.layout_facts.specs.memory_map.MemoryMap.{MemoryMap, word_place}
-use Rattle.layout_facts.specs.memory_map.Laws.{PartsInFram}
-use Rattle.layout_facts.proofs.memory_map.Interface.{parts_in_fram, words_stand}
-use Rattle.layout_facts.specs.runtime_effects.Places.{CopyPair, listed}
-use Rattle.layout_facts.specs.stands_for.Layout.{ProgramPlaces, IsSharedWord, IsCopyWord, IsAmong}
-use Rattle.layout_facts.specs.stands_for.StandsFor.{VersionsWithin, IsAtRest, IsPendingCommit, IsSound, SoundAtRest, SoundPending}
-use Rattle.layout_facts.specs.compiled_model.Places.{program_places}
-use Rattle.layout_facts.specs.Facts.{HasLayout}
-use Rattle.link_image.specs.machine_effects.World.{World}
-use Rattle.link_image.specs.machine_effects.Machine.{fram_of}
-use Rattle.link_image.specs.source_maps.Maps.{map_of}
-use Rattle.link_image.specs.source_maps.Placing.{ArePlacesOf}
-use Rattle.link_image.specs.image_map.MapValue.{MapValue}
+use Rattle.image_reports.specs.layout_facts.cost_bound.declared.allowance.Allow.{Allow}
+use Rattle.image_reports.specs.layout_facts.cost_bound.Allowance.{CheckedProgram}
+use Rattle.image_reports.specs.layout_facts.war_analysis.PlanValue.{TaskPlanValue}
+use Rattle.image_reports.specs.layout_facts.memory_map.declared.words.RuntimeWord.{RuntimeWord}
+use Rattle.image_reports.specs.layout_facts.memory_map.declared.words.RuntimeWord.TheVariants.{CurrentTask, NextTask, Gate, ListLength, EmitCount, Base, SentBase, Version}
+use Rattle.image_reports.specs.layout_facts.memory_map.MemoryMap.{MemoryMap, word_place}
+use Rattle.image_reports.specs.layout_facts.memory_map.Laws.{PartsInFram}
+use Rattle.image_reports.proofs.layout_facts.memory_map.Interface.{parts_in_fram, words_stand}
+use Rattle.image_reports.specs.layout_facts.runtime_effects.Places.{CopyPair, listed}
+use Rattle.image_reports.specs.layout_facts.stands_for.Layout.{ProgramPlaces, IsSharedWord, IsCopyWord, IsAmong}
+use Rattle.image_reports.specs.layout_facts.stands_for.StandsFor.{VersionsWithin, IsAtRest, IsPendingCommit, IsSound, SoundAtRest, SoundPending}
+use Rattle.image_reports.specs.layout_facts.compiled_model.Places.{program_places}
+use Rattle.image_reports.specs.layout_facts.Facts.{HasLayout}
+use Rattle.image_reports.specs.link_image.machine_effects.World.{World}
+use Rattle.image_reports.specs.link_image.machine_effects.Machine.{fram_of}
+use Rattle.image_reports.specs.link_image.source_maps.Maps.{map_of}
+use Rattle.image_reports.specs.link_image.source_maps.Placing.{ArePlacesOf}
+use Rattle.image_reports.specs.link_image.image_map.MapValue.{MapValue}
 use Rattle.fram_state.specs.declared.runtime.Runtime.{Runtime}
 use Rattle.fram_state.specs.declared.fault.Rule.TheVariants as rule
 use Rattle.fram_state.specs.Stretch.{fits_fram}

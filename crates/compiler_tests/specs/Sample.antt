@@ -1,5 +1,5 @@
 -- A small program, for the test.
-use Rattle.array_versions.specs.Program.{Program, number, keep, jump, nothing, step}
+use Rattle.codegen.specs.array_versions.Program.{Program, number, keep, jump, nothing, step}
 
 -- stores 7 at 4410 and leaves for 4400
 abbrev pub sample_steps : Program

@@ -1,11 +1,10 @@
 //! The code of a small program, against the words of TI's tables.
 
 ghost use Rattle.std.specs.Prelude.{◌≡◌, IfOk};
-ghost use Rattle.array_versions.specs.View.{program_of};
+ghost use Rattle.codegen.specs.array_versions.View.{program_of};
 ghost use Rattle.compiler_tests.specs.Sample.{sample_steps};
 
-use array_versions::WordProgram;
-use codegen::emit;
+use codegen::{WordProgram, emit};
 use msp_encode::encode;
 use std::alloc::{AllocError, Global};
 

@@ -1,39 +1,24 @@
 //! The layout of a whole text, with the places that no image shows. The addresses are counted by hand from the order and the sizes.
-use cost_bound::allow;
 use memory_map::{ArrayCopies, Layout, PrivateScalar, Region, VariablePlace};
 use privatise::layout;
+use source_meaning::accept;
 use std::alloc::Global;
-use task_check::{Checked, check};
-use task_lex::lex;
-use task_parse::parse;
 use war_analysis::analyse;
 
-// The source of a text that no check refuses.
-fn checked(alloc: Global, source: &[u8]) -> Option<Checked> {
+// The layout of a text that no pass refuses.
+fn layout_of(alloc: Global, text: &'static str) -> Option<Layout> {
+    let source = text.as_bytes();
     if source.len() >= 4_294_967_295 {
         return None;
     }
-    let Ok(tokens) = lex(alloc, source) else {
+    let Ok(accepted) = accept(alloc, source) else {
         return None;
     };
-    let Ok(tree) = parse(alloc, source, &tokens) else {
+    let checked = accepted.checked();
+    let Ok(plan) = analyse(alloc, checked) else {
         return None;
     };
-    match check(alloc, source, tree) {
-        Ok(checked) => Some(checked),
-        Err(_) => None,
-    }
-}
-
-fn layout_of(alloc: Global, text: &'static str) -> Option<Layout> {
-    let checked = checked(alloc, text.as_bytes())?;
-    let Ok(allow) = allow(&checked) else {
-        return None;
-    };
-    let Ok(plan) = analyse(alloc, &checked) else {
-        return None;
-    };
-    match layout(alloc, &checked, &allow, &plan) {
+    match layout(alloc, checked, accepted.allow(), &plan) {
         Ok(layout) => Some(layout),
         Err(_) => None,
     }

@@ -1,6 +1,6 @@
 //! One program by each builder.
 
-use array_versions::{BinaryOperation, Comparison, WordProgram, WordStep, WordTest};
+use codegen::{BinaryOperation, Comparison, WordProgram, WordStep, WordTest};
 use std::alloc::{AllocError, Global};
 
 // `if (7 < 9) { n = n + sense(); }`, with n at 4410.

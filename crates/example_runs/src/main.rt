@@ -4,8 +4,9 @@
 //! and it runs `alpaca audit NAME.alp NAME.report NAME.trace`.
 #![tactic(auto)]
 
-use alp_io::{DirShelf, Failed, MemSink, NoMemory, ReadFault, Shelf, Sink, StdSink, write_pieces};
-use alpaca_cli::{Status, alpaca};
+use alpaca_cli::{
+    DirShelf, Failed, MemSink, NoMemory, ReadFault, Shelf, Sink, Status, StdSink, alpaca, write_pieces,
+};
 use std::alloc::{AllocError, Global};
 use std::env;
 use std::process::ExitCode;

@@ -16,7 +16,7 @@ use Rattle.linked_code.proofs.machine_effects.Interface.{index_small}
 use Rattle.linked_code.specs.code_forms.Placed.{words_of, Holds}
 use Rattle.compiled_runs.specs.stands_for.Layout.{IsSharedWord}
 use Rattle.compiled_runs.specs.stands_for.StandsFor.{HoldsWords, RestsAt}
-use Rattle.array_versions.proofs.Interface.{zero_unless}
+use Rattle.codegen.proofs.array_versions.Interface.{zero_unless}
 use Rattle.lower.specs.Lowered.{lowered}
 use Rattle.whole_programs.proofs.Interface.{privates_are_few}
 use Rattle.layout_facts.specs.Facts.{HasLayout}

@@ -21,3 +21,4 @@ pub use Rattle.source_maps.proofs.source_runs as source_runs
 pub use Rattle.source_maps.proofs as source_maps
 pub use Rattle.linked_code.proofs.runtime_code as runtime_code
 pub use Rattle.compiled_runs.proofs as compiled_runs
+pub use Rattle.layout_facts.proofs as layout_facts

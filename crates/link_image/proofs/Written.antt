@@ -3,18 +3,18 @@ use Rattle.std.proofs.Common.{◌≡◌, ◌∙◌, ℕ, zero, suc, ◌+◌, ◌
 use Rattle.std.proofs.Common.{arith, append_assoc, length-append, get_or}
 use Rattle.std.specs.Prelude.{All}
 use Rattle.std.proofs.lemmas.List.{at_drop_more}
-use Rattle.msp_isa.specs.declared.instructions.Instr.{Instr}
-use Rattle.msp_isa.specs.Encoding.{encoding}
+use Rattle.codegen.specs.msp_isa.declared.instructions.Instr.{Instr}
+use Rattle.codegen.specs.msp_isa.Encoding.{encoding}
 use Rattle.linked_code.specs.code_forms.Forms.{Form}
 use Rattle.linked_code.specs.code_forms.Placed.{instructions, words_of}
 use Rattle.linked_code.proofs.code_forms.Interface.{instructions-append}
 use Rattle.linked_code.proofs.runtime_code.Interface.{code_bytes}
-use Rattle.array_versions.specs.Program.{Program}
-use Rattle.array_versions.specs.View.{program_of}
-use Rattle.array_versions.specs.Form.{IsWhole}
+use Rattle.codegen.specs.array_versions.Program.{Program}
+use Rattle.codegen.specs.array_versions.View.{program_of}
+use Rattle.codegen.specs.array_versions.Form.{IsWhole}
 use Rattle.std.proofs.lemmas.List.Elements.{All-head, All-tail}
 use Rattle.memory_map.specs.address_space.Limits.{reset_vector}
-use Rattle.array_versions.specs.declared.program.WordProgram.{WordProgram}
+use Rattle.codegen.specs.array_versions.declared.program.WordProgram.{WordProgram}
 use Rattle.codegen.specs.Code.{repeated}
 use Rattle.memory_map.specs.MemoryMap.{MemoryMap, TaskPlace}
 use Rattle.memory_map.specs.Places.{end_of}

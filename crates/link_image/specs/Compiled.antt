@@ -6,7 +6,7 @@ use Rattle.war_analysis.specs.PlanValue.{TaskPlanValue}
 use Rattle.war_analysis.specs.Plans.{IsPlan}
 use Rattle.memory_map.specs.MemoryMap.{MemoryMap}
 use Rattle.privatise.specs.Layouts.{IsLayout}
-use Rattle.array_versions.specs.Form.{OfWords}
+use Rattle.codegen.specs.array_versions.Form.{OfWords}
 use Rattle.image_text.specs.ImageValue.{ImageValue}
 use Rattle.lower.specs.Lowered.{lowered}
 use Rattle.source_meaning.specs.Acceptance.{IsAcceptedText}

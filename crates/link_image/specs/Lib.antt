@@ -5,7 +5,7 @@ pub mod Laws
 pub mod Needs
 pub use Rattle.compiled_runs.specs.text_parts as text_parts
 pub use Rattle.memory_map.specs as memory_map
-pub use Rattle.msp_isa.specs as msp_isa
+pub use Rattle.codegen.specs.msp_isa as msp_isa
 pub use Rattle.compiled_runs.specs.msp_step as msp_step
 pub use Rattle.source_maps.specs.energy_trace as energy_trace
 pub use Rattle.compiled_runs.specs.image_map as image_map
@@ -25,8 +25,9 @@ pub use Rattle.whole_programs.specs.source_values as source_values
 pub use Rattle.source_meaning.specs as source_meaning
 pub use Rattle.source_maps.specs.source_runs as source_runs
 pub use Rattle.source_maps.specs as source_maps
-pub use Rattle.array_versions.specs as array_versions
+pub use Rattle.codegen.specs.array_versions as array_versions
 pub use Rattle.whole_programs.specs as whole_programs
 pub use Rattle.boot_runtime.specs as boot_runtime
 pub use Rattle.compiled_runs.specs.compiled_model as compiled_model
 pub use Rattle.compiled_runs.specs as compiled_runs
+pub use Rattle.layout_facts.specs as layout_facts

@@ -3,7 +3,7 @@ use Rattle.std.specs.Prelude.{◌≡◌, ◌<◌, ℕ, List, All, length}
 use Rattle.linked_code.specs.cost_bound.declared.allowance.Allow.{Allow}
 use Rattle.whole_programs.specs.source_values.Runs.{CheckedProgram}
 use Rattle.memory_map.specs.MemoryMap.{MemoryMap}
-use Rattle.array_versions.specs.Form.{IsWhole, OfWords}
+use Rattle.codegen.specs.array_versions.Form.{IsWhole, OfWords}
 use Rattle.lower.specs.Lowered.{lowered}
 use Rattle.linked_code.specs.Linked.{CodeFits}
 use Rattle.source_maps.specs.Names.{HasNames}

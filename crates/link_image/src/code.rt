@@ -2,19 +2,17 @@
 ghost use Rattle.std.specs.Prelude.{◌≡◌, ◌+◌, ◌-◌, ◌*◌, ◌/◌, ◌%◌, ◌≤◌, ◌++◌, ◌∷◌, [], ℕ, All, IfOk, OnOk, length, map};
 ghost use Rattle.memory_map.specs.address_space.Limits.{fram_first, reset_vector};
 ghost use Rattle.linked_code.specs.code_forms.Placed.{instructions, words_of};
-ghost use Rattle.array_versions.specs.View.{program_of};
-ghost use Rattle.array_versions.specs.Form.{IsWhole};
+ghost use Rattle.codegen.specs.array_versions.View.{program_of};
+ghost use Rattle.codegen.specs.array_versions.Form.{IsWhole};
 ghost use Rattle.codegen.specs.Code.{repeated, code_of};
 ghost use Rattle.linked_code.specs.Parts.{filler, chained, PartsInOrder};
 ghost use Rattle.linked_code.specs.Linked.{linked, task_part, task_parts, CodeFits};
 
-use array_versions::WordProgram;
 use boot_runtime::boot_code;
-use codegen::emit;
+use codegen::{Instr, WordProgram, emit};
 use commit_runtime::commit_code;
 use memory_map::{Layout, TaskLayout};
 use msp_encode::encode;
-use msp_isa::Instr;
 use std::alloc::{AllocError, Global};
 
 /// A jump to itself.

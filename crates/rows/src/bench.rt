@@ -5,8 +5,7 @@ use crate::calls::{
 use crate::parts::Part;
 use crate::series::Series;
 use crate::turns::{ROOM, Turns};
-use alp_io::{MemShelf, MemSink, Shelf};
-use alpaca_cli::alpaca;
+use alpaca_cli::{MemShelf, MemSink, Shelf, alpaca};
 use anyhow::Result;
 use std::alloc::Global;
 

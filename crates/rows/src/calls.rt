@@ -1,5 +1,5 @@
 //! Calls of the crates below that the program doesn't make, or makes over files in memory alone here.
-use alp_io::{DirShelf, Shelf};
+use alpaca_cli::{DirShelf, Shelf};
 use anyhow::Result;
 use energy_trace::{parse_trace, print_trace};
 use fram_board::Board;

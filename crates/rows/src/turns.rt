@@ -3,8 +3,7 @@
 //! A read that fails is answered by status 3 and the file's name, a put by status 4 and the file's name: nothing is written, and
 //! nothing is put. A write that fails is answered by status 4: a proper front of the output is written, and the file is put whole.
 //! Where a write to standard error fails too, its line breaks off, and nothing else differs.
-use alp_io::{MemShelf, MemSink, Shelf};
-use alpaca_cli::{Status, alpaca};
+use alpaca_cli::{MemShelf, MemSink, Shelf, Status, alpaca};
 use anyhow::Result;
 use std::alloc::{AllocError, Global};
 

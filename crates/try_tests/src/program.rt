@@ -1,6 +1,5 @@
 //! The program, run on texts in memory.
-use alp_io::{MemShelf, MemSink, Shelf};
-use alpaca_cli::{Status, alpaca};
+use alpaca_cli::{MemShelf, MemSink, Shelf, Status, alpaca};
 use std::alloc::Global;
 use std::test::Fail;
 

@@ -4,7 +4,7 @@ use Rattle.memory_map.specs.address_space.Limits.{reset_vector}
 use Rattle.linked_code.specs.code_forms.Placed.{instructions}
 use Rattle.boot_runtime.specs.Entries.{task_entries}
 use Rattle.boot_runtime.specs.Listing.{boot_forms}
-use Rattle.array_versions.specs.View.{program_of}
+use Rattle.codegen.specs.array_versions.View.{program_of}
 use Rattle.linked_code.specs.Parts.{chained, PartsInOrder}
 use Rattle.linked_code.specs.Linked.{task_parts}
 use Rattle.link_image.proofs.Written.{words_in, after_boot, commit_behind, after_commit, tasks_behind, same_count}

@@ -1,5 +1,5 @@
 use Rattle.std.proofs.Common.{◌≡◌, ap, arith}
-use Rattle.array_versions.specs.View.{program_of}
+use Rattle.codegen.specs.array_versions.View.{program_of}
 use Rattle.codegen.proofs.Interface.{code_length}
 use Rattle.link_image.proofs.code.push_task.Goals as goal
 

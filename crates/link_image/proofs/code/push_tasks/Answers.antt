@@ -1,6 +1,6 @@
 use Rattle.std.proofs.Common.{◌∙◌, ◌+◌, ◌*◌, ◌++◌, ap, sym, subst, length, drop, map, arith}
 use Rattle.memory_map.specs.address_space.Limits.{reset_vector}
-use Rattle.array_versions.specs.View.{program_of}
+use Rattle.codegen.specs.array_versions.View.{program_of}
 use Rattle.linked_code.specs.Parts.{chained, PartsInOrder}
 use Rattle.linked_code.specs.Linked.{task_part, task_parts}
 use Rattle.link_image.proofs.Written.{words_in, part_words, parts_more, next_order, next_whole, order_end}

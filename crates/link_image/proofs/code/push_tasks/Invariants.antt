@@ -2,8 +2,8 @@ use Rattle.std.proofs.Common.{◌≡◌, ◌++◌, ◌+◌, ◌*◌, drop, map, 
 use Rattle.std.specs.Prelude.{All}
 use Rattle.memory_map.specs.address_space.Limits.{reset_vector}
 use Rattle.linked_code.specs.code_forms.Placed.{instructions, words_of}
-use Rattle.array_versions.specs.View.{program_of}
-use Rattle.array_versions.specs.Form.{IsWhole}
+use Rattle.codegen.specs.array_versions.View.{program_of}
+use Rattle.codegen.specs.array_versions.Form.{IsWhole}
 use Rattle.linked_code.specs.Parts.{chained, PartsInOrder}
 use Rattle.linked_code.specs.Linked.{task_parts}
 use Rattle.link_image.proofs.code.push_tasks.Given as goal

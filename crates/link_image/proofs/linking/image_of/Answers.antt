@@ -2,7 +2,7 @@ use Rattle.std.proofs.Common.{◌≡◌, ◌∙◌, ◌-◌, ◌/◌, ◌==◌, 
 use Rattle.memory_map.specs.address_space.Limits.{reset_vector}
 use Rattle.task_ast.specs.View as tree
 use Rattle.task_ast.specs.declared.SharedDeclaration.{SharedDeclaration}
-use Rattle.array_versions.specs.View.{program_of}
+use Rattle.codegen.specs.array_versions.View.{program_of}
 use Rattle.linked_code.specs.code_forms.Placed.{words_of}
 use Rattle.whole_programs.specs.source_values.Runs.{initial_words}
 use Rattle.memory_map.specs.declared.words.RuntimeWord.TheVariants.{CurrentTask}
