@@ -3,12 +3,7 @@
 # words on one line, the same label on each line, a fault in the last line) and `alpaca dis` for images without a zero word
 # and with a section for every other word.
 # ALPACA names another build of the program. Nothing depends on these figures.
-set -eu
-top=$(cd "$(dirname "$(readlink -f "$0")")/.." && pwd)
-alpaca=${ALPACA:-$top/bin/alpaca}
-work=$(mktemp -d)
-trap 'rm -rf "$work"' EXIT
-cd "$work"
+. "$(dirname "$(readlink -f "$0")")/workplace.sh"
 
 seconds() {
     local label=$1 start

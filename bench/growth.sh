@@ -3,12 +3,7 @@
 # some thirty thousand nodes. A row has the least seconds of processor time of five runs, less those of an empty trace, what that is for one (an
 # instruction, a transition), and the most memory held.
 # ALPACA names another build of the program. Nothing depends on these figures.
-set -eu
-top=$(cd "$(dirname "$(readlink -f "$0")")/.." && pwd)
-alpaca=${ALPACA:-$top/bin/alpaca}
-work=$(mktemp -d)
-trap 'rm -rf "$work"' EXIT
-cd "$work"
+. "$(dirname "$(readlink -f "$0")")/workplace.sh"
 
 # the least seconds of processor time of five runs, and the most memory in KiB
 least() {

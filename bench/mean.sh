@@ -2,12 +2,7 @@
 # Prints the seconds that `alpaca mean` takes: 10,000 transitions of a small task, a source text of 1 MiB, hostile texts of
 # 1 MiB with tens of thousands of locals, and two hundred million nodes of expressions.
 # ALPACA names another build of the program. Nothing depends on these figures.
-set -eu
-top=$(cd "$(dirname "$(readlink -f "$0")")/.." && pwd)
-alpaca=${ALPACA:-$top/bin/alpaca}
-work=$(mktemp -d)
-trap 'rm -rf "$work"' EXIT
-cd "$work"
+. "$(dirname "$(readlink -f "$0")")/workplace.sh"
 
 seconds() {
     local label=$1 start

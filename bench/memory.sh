@@ -1,12 +1,7 @@
 #!/usr/bin/env bash
 # Prints the most memory that each command of the program holds, and its seconds, on inputs at the limit of a file or of FRAM.
 # ALPACA names another build of the program. Nothing depends on these figures.
-set -eu
-top=$(cd "$(dirname "$(readlink -f "$0")")/.." && pwd)
-alpaca=${ALPACA:-$top/bin/alpaca}
-work=$(mktemp -d)
-trap 'rm -rf "$work"' EXIT
-cd "$work"
+. "$(dirname "$(readlink -f "$0")")/workplace.sh"
 
 measure() {
     local label=$1

@@ -1,12 +1,7 @@
 #!/usr/bin/env bash
 # Prints how many million instructions `alpaca run` makes a second of processor time: a loop that counts in a register, one that copies words in FRAM, and a
 # compiled program without and with its map's transitions being watched. ALPACA names another build of the program. Nothing depends on these figures.
-set -eu
-top=$(cd "$(dirname "$(readlink -f "$0")")/.." && pwd)
-alpaca=${ALPACA:-$top/bin/alpaca}
-work=$(mktemp -d)
-trap 'rm -rf "$work"' EXIT
-cd "$work"
+. "$(dirname "$(readlink -f "$0")")/workplace.sh"
 count=${COUNT:-50000000}
 echo "s $count 0" >charge
 TIMEFORMAT=%U

@@ -3,12 +3,7 @@
 # a counting loop that makes no transition, one that makes a transition every 205 instructions, and one that loses power every
 # 50 instructions.
 # ALPACA names another build of the program. Nothing depends on these figures.
-set -eu
-top=$(cd "$(dirname "$(readlink -f "$0")")/.." && pwd)
-alpaca=${ALPACA:-$top/bin/alpaca}
-work=$(mktemp -d)
-trap 'rm -rf "$work"' EXIT
-cd "$work"
+. "$(dirname "$(readlink -f "$0")")/workplace.sh"
 TIMEFORMAT=%R
 
 cat >loop <<'END'
