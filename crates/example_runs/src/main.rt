@@ -5,7 +5,8 @@
 #![tactic(auto)]
 
 use alpaca_cli::{
-    DirShelf, Failed, MemSink, NoMemory, ReadFault, Shelf, Sink, Status, StdSink, alpaca, write_pieces,
+    DirShelf, Failed, MemSink, NoMemory, ReadFault, Shelf, Sink, Status, StdSink, alpaca,
+    write_pieces,
 };
 use std::alloc::{AllocError, Global};
 use std::env;
