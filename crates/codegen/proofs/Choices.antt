@@ -1,6 +1,5 @@
 -- Tests: where the code goes on.
 use Rattle.std.proofs.Common.{◌≡◌, ℕ, ◌+◌, ◌%◌, ◌<◌, ◌==◌, not, List, [], ◌∷◌, Some, refl, sym, ap, ap₂, ◌∙◌, arith, Bool, true, false, if◌then◌else◌}
-use Rattle.std.specs.List.{AllByRecursion}
 use Rattle.std.proofs.Math.Bool.{not-not}
 use Rattle.msp_isa.specs.alp_words.declared.Flags.{Flags}
 use Rattle.msp_isa.specs.alp_words.declared.Width.TheVariants.{Word}
@@ -10,14 +9,14 @@ use Rattle.msp_isa.specs.declared.instructions.Condition.TheVariants as conditio
 use Rattle.msp_isa.specs.declared.instructions.TwoOp.TheVariants as op
 use Rattle.msp_isa.specs.declared.operands.Konst.TheVariants as konst
 use Rattle.array_versions.specs.msp_step.Effect.{is_met}
-use Rattle.code_forms.specs.Forms.{R4, R5, Core, Register, Constant, Form, Calculate, Jump, Branch, instruction_of}
+use Rattle.code_forms.specs.Forms.{R4, R5, Core, Register, Constant, Form, Calculate, instruction_of}
 use Rattle.code_forms.specs.Code.{Stands, forms_run, Runs}
 use Rattle.code_forms.proofs.Interface.{forms_behind, end_of, stands_at}
 use Rattle.array_versions.specs.declared.operations.Comparison.{Comparison}
 use Rattle.array_versions.specs.declared.operations.Comparison.TheVariants.{Equal, Below, Above, SignedBelow, SignedAbove, CommonBit}
 use Rattle.array_versions.specs.Operations.{is_true, compare_words}
 use Rattle.array_versions.specs.Behaviour.{WordState, Behaviour, with_stack}
-use Rattle.codegen.specs.Code.{pop_to, compare_form, holding, failing, decision, holds_code, compares_code}
+use Rattle.codegen.specs.Code.{pop_to, compare_form, holding, failing, decision, holds_code}
 use Rattle.codegen.proofs.Stretches.{Setting, straight, runs_on, dearer}
 use Rattle.codegen.proofs.Follows.{StandsFor, Follows, then_end, stands_elsewhere}
 use Rattle.codegen.proofs.Registers.{HasTwo, pop_part, pop_two, branch_to, jump_to}

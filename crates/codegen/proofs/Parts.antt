@@ -7,8 +7,7 @@ use Rattle.array_versions.specs.machine_effects.Machine.{IsFram}
 use Rattle.msp_isa.specs.declared.operands.Konst.{Konst}
 use Rattle.msp_isa.specs.Constant.{constant_value}
 use Rattle.code_forms.specs.Forms as forms
-use Rattle.code_forms.specs.Forms.{R4, Core, Register, Number, Constant, Fram, Ram, Popped, ToFram, ToRam, Form, Move, Push, Branch, sensed}
-use Rattle.code_forms.specs.Forms.{FormNeeds}
+use Rattle.code_forms.specs.Forms.{R4, Core, Number, Constant, Fram, Ram, Popped, ToFram, ToRam, Move, Push, Branch, sensed}
 use Rattle.code_forms.specs.Code.{Stands, forms_run, FormsNeed}
 use Rattle.code_forms.proofs.Interface.{stands_at, end_of}
 use Rattle.array_versions.specs.Behaviour.{WordState, behaves, goes_on, Jumps, broken, with_top, with_stack, pushed, stored, assigned, with_local}

@@ -36,7 +36,7 @@ use Rattle.codegen.specs.Code.{holding, failing, truth_code, loop_test, loop_ste
 use Rattle.codegen.specs.Laws.{ComesTo, CodeDoesAsProgram}
 use Rattle.codegen.proofs.Stretches.{Setting, runs_on, nothing_run}
 use Rattle.codegen.proofs.Memory.{place_is, assigned_same}
-use Rattle.codegen.proofs.Follows.{StandsFor, Follows, FollowsEnd, OnGoesOn, then_end, then_way, then_hop, ends_at, guarded}
+use Rattle.codegen.proofs.Follows.{StandsFor, Follows, FollowsEnd, OnGoesOn, then_way, then_hop, ends_at, guarded}
 use Rattle.codegen.proofs.Parts.{number_part, constant_part, load_part, local_part, keep_part, set_part, sense_part, store_part, move_part, jump_part}
 use Rattle.codegen.proofs.Registers.{branch_to, jump_to}
 use Rattle.codegen.proofs.Choices.{Fork, fork_at, fork_turned, decided_follows, holds_part, compares_part}

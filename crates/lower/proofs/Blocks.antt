@@ -11,15 +11,15 @@ use Rattle.task_ast.specs.declared.names.Variable.TheVariants.{Shared, Local}
 use Rattle.cost_bound.specs.Allowance.{CheckedTask}
 use Rattle.source_values.specs.Values.{value_of, holds}
 use Rattle.source_values.specs.Statements as source
-use Rattle.source_values.specs.Statements.{Attempt, Outcome, goes_on, to_task, short, and_then, if_value, run_statement, run_choice, run_block}
+use Rattle.source_values.specs.Statements.{Attempt, Outcome, goes_on, to_task, if_value, run_statement, run_choice, run_block}
 use Rattle.source_values.specs.Statements.{statement_emits, choice_emits, block_emits}
 use Rattle.cost_bound.specs.Counts.{statement_count, choice_count, block_count, is_shared, is_store_to, stores_of}
 use Rattle.source_values.proofs.Interface.{more_turns}
 use Rattle.path_runs.proofs.Interface.{runs_go_on_along_paths}
 use Rattle.array_versions.specs.Program.{Program, emit_word, versioned_write, choose, repeat, nothing, joined}
 use Rattle.array_versions.specs.Behaviour as words
-use Rattle.array_versions.specs.Behaviour.{WordState, End, GoesOn, Jumps, Short, Strays, Broken, Behaviour, behaves, behind_effects, on_end, then_on}
-use Rattle.array_versions.specs.Behaviour.{is_place, at_place, stored, with_local, word_stored, word_emitted, way_by_top, tested, step_behaviour}
+use Rattle.array_versions.specs.Behaviour.{WordState, Behaviour, then_on}
+use Rattle.array_versions.specs.Behaviour.{is_place, at_place, stored, with_local, word_emitted, way_by_top, tested}
 use Rattle.array_versions.specs.Behaviour.{behaviour}
 use Rattle.array_versions.proofs.Interface.{joined_go_on, joined_assoc, decided_by_truth}
 use Rattle.lower.specs.Lowered.{one, write_step, written_array, list_place, store_step, loop_local, assignment, element_assignment}

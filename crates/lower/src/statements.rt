@@ -1,7 +1,7 @@
 //! The programs of statements.
 ghost use Rattle.std.specs.Prelude.{◌≡◌, [], map, Option, OnOk, IfOk};
 ghost use Rattle.std.specs.Option.{option_map};
-ghost use Rattle.array_versions.specs.Program.{joined, behind, step, nothing, choose};
+ghost use Rattle.array_versions.specs.Program.{joined, behind, choose};
 ghost use Rattle.array_versions.specs.View.{program_of};
 ghost use Rattle.task_ast.specs.Tree.{Block, choice_of};
 ghost use Rattle.task_ast.specs.View.{expression_of, statement_of, tested_of, block_view};

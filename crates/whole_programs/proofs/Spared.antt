@@ -33,7 +33,7 @@ use Rattle.lower.specs.memory_map.Spots.{Places}
 use Rattle.lower.specs.declared.operations.BinaryMeaning.{BinaryMeaning}
 use Rattle.lower.specs.declared.operations.BinaryMeaning.TheVariants.{Calculates, CommonBits, Holds, Fails}
 use Rattle.lower.specs.Operations.{binary_meaning, shift_operation}
-use Rattle.lower.specs.Lowered.{one, read_step, write_step, element_read, element_step, store_step, Lowering, as_word, as_test, word_program}
+use Rattle.lower.specs.Lowered.{one, read_step, write_step, element_read, element_step, store_step, Lowering, word_program}
 use Rattle.lower.specs.Lowered.{value_test}
 use Rattle.lower.specs.Lowered.{unary_lowering, binary_lowering, sides_test, lowering, lowered_expression, lowered_test, assignment, loop_local}
 use Rattle.lower.specs.Lowered.{entries}
