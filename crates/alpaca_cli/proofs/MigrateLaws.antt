@@ -35,13 +35,14 @@ use Rattle.alpaca_cli.specs.Texts.{FailsRefused}
 use Rattle.alpaca_cli.specs.Views.{refusal_of}
 use Rattle.alpaca_cli.proofs.PutLaws.{put_whole, put_fails}
 
--- a text is refused, at its place
-pub fails_at : (e : Failure) (name : List ℕ) (P : Refusal → Type 0) (names : List (List ℕ)) (Q : ℕ → Refusal → Type 0) (place : ℕ)
-    → slice_get names place ≡ Some name → ((r : Refusal) → P r → Q place r) → FailsRefused name P e → FailsAt names Q e
-fails_at (Refused file r) name P names Q place named is fails = (place, named ∙ ap Some (sym fails.0), is (refusal_of r) fails.1)
-fails_at (Put file) name P names Q place named is fails = absurd fails
-fails_at Write name P names Q place named is fails = absurd fails
-fails_at Memory name P names Q place named is fails = tt
+-- a text of a migration is refused, at its place
+pub fails_at : (e : Failure) (name : List ℕ) (P : Refusal → Type 0) (n : MigrateNames) (t : Editions) (place : ℕ)
+    → slice_get (read_by n) place ≡ Some name → ((r : Refusal) → P r → MigrateRefuses t place r) → FailsRefused name P e
+    → FailsAt (read_by n) (MigrateRefuses t) e
+fails_at (Refused file r) name P n t place named is fails = (place, named ∙ ap Some (sym fails.0), is (refusal_of r) fails.1)
+fails_at (Put file) name P n t place named is fails = absurd fails
+fails_at Write name P n t place named is fails = absurd fails
+fails_at Memory name P n t place named is fails = tt
 
 -- ---- what the texts say
 

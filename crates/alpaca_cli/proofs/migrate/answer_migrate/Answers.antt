@@ -1,10 +1,9 @@
-use Rattle.std.proofs.Common.{refl, subst, sym}
 use Rattle.alpaca_cli.proofs.StatusLaws.{of_five_read, of_unread}
 use Rattle.alpaca_cli.proofs.migrate.answer_migrate.Goals as goal
 
 pub returns-in-Ok-clause-answers : goal.returns-in-Ok-clause-answers
 returns-in-Ok-clause-answers g c = λ out silent.
-    of_five_read _ _ _ _ _ _ _ _ _ _ _ _ c.lent.ensures c.in-Ok.ensures.same c.in-Ok.ensures.counts c.in-Ok.ensures.held
+    of_five_read _ c.args.names _ _ _ _ _ _ _ _ _ _ c.lent.ensures c.in-Ok.ensures.same c.in-Ok.ensures.counts c.in-Ok.ensures.held
     (c.migrate_of.ensures.answers out silent)
 
 pub returns-in-Err-clause-answers : goal.returns-in-Err-clause-answers
