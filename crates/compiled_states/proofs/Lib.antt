@@ -6,5 +6,6 @@ mod Listed
 mod Sound
 mod Keeping
 mod Ends
+mod Rows
 mod States
-pub use Rattle.image_reports.proofs.source_runs as source_runs
+mod Migrated

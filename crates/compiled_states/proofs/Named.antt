@@ -32,7 +32,7 @@ use Rattle.compiled_states.proofs.Held.{within, bounds_of, none_held, all_held}
 -- ---- the variables
 
 -- a variable of a map has the words of its place
-words_are : (e : Extent) (place : VariablePlace) → IsOfKind e place → unwrap_or (length_of e) 1 ≡ (home_region place).words
+pub words_are : (e : Extent) (place : VariablePlace) → IsOfKind e place → unwrap_or (length_of e) 1 ≡ (home_region place).words
 words_are (extent.Scalar w) (Scalar home copy) h = refl
 words_are (extent.Scalar w) (Array elements length copies) h = absurd h
 words_are (extent.Array n) (Scalar home copy) h = absurd h
@@ -108,15 +108,18 @@ module _ (text : List ℕ) (p : CheckedProgram) (allow : Allow) (plans : List Ta
       let w = shared_words_are_of_variables p allow plans l laid a s in
       shared_at text p.shared l.variables w.0 w.1 a w.2.place kinds w.2.at w.2.below w.2.address
 
-  -- a word behind the variables is none of theirs
-  not_shared : (a : ℕ) → end_of l.homes ≤ a → is_shared m.variables a ≡ false
-  not_shared a behind = by_test (is_shared m.variables a) refl
+  -- a word in front of the variables or behind them is none of theirs
+  pub not_shared : (a : ℕ) → (a < l.homes.address) ⊎ (end_of l.homes ≤ a) → is_shared m.variables a ≡ false
+  not_shared a outside = by_test (is_shared m.variables a) refl
     where
+      nowhere : (a < l.homes.address) ⊎ (end_of l.homes ≤ a) → (l.homes.address ≤ a) × (a < end_of l.homes) → ⊥
+      nowhere (inl front) b = let low = b.0 in omega (arith, front, low)
+      nowhere (inr behind) b = let high = b.1 in omega (arith, behind, high)
+
       by_test : (b : Bool) → is_shared m.variables a ≡ b → b ≡ false
       by_test false e = refl
       by_test true e =
-          let b = shared_between text p.shared l.variables l.homes.address (end_of l.homes) a kinds laid.layout.rules.homes e in
-          let low = b.1 in absurd (omega (arith, behind, low))
+          absurd (nowhere outside (shared_between text p.shared l.variables l.homes.address (end_of l.homes) a kinds laid.layout.rules.homes e))
 
   -- the code, and what stands behind it, has no name
   pub unnamed : (a : ℕ) → l.boot.address ≤ a → is_named m a ≡ false
@@ -143,7 +146,7 @@ module _ (text : List ℕ) (p : CheckedProgram) (allow : Allow) (plans : List Ta
         ),
       ))
       (or_from (is_held (buffers m) a) (is_shared m.variables a)
-      (none_held (buffers m) a (omega (arith, list), (emits, (versions, (copies, tt))))) (not_shared a homes))
+      (none_held (buffers m) a (omega (arith, list), (emits, (versions, (copies, tt))))) (not_shared a (inr homes)))
 
   -- one that a buffer has
   of_buffers : (a : ℕ) → is_held (buffers m) a ≡ true → is_named m a ≡ true

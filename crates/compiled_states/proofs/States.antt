@@ -9,35 +9,36 @@ use Rattle.fram_state.specs.OtherImage.{SameBut}
 use Rattle.fram_state.specs.Named.{is_named}
 use Rattle.fram_state.specs.Sound as state
 use Rattle.fram_state.specs.Belongs.{Belongs}
-use Rattle.image_reports.specs.layout_facts.memory_map.declared.words.RuntimeWord.TheVariants.{Gate}
-use Rattle.image_reports.specs.layout_facts.memory_map.MemoryMap.{MemoryMap, word_place}
-use Rattle.image_reports.specs.layout_facts.Facts.{HasLayout}
-use Rattle.image_reports.proofs.layout_facts.whole_programs.Interface.{privates_are_few}
-use Rattle.image_reports.specs.link_image.image_map.MapValue.{MapValue}
-use Rattle.image_reports.specs.link_image.image_text.ImageValue.{ImageValue}
-use Rattle.image_reports.specs.link_image.fram_board.Board.{BoardValue}
-use Rattle.image_reports.specs.link_image.fram_board.Run.{BoardCharge, Moment, RunOutcome, Run}
-use Rattle.image_reports.specs.link_image.fram_board.Saved.{saved}
-use Rattle.image_reports.specs.link_image.board_run.Charges.{charges_of}
-use Rattle.image_reports.specs.link_image.board_run.History.{start_of}
-use Rattle.image_reports.specs.link_image.board_run.Report.{report_of}
-use Rattle.image_reports.specs.link_image.machine_effects.World.{World}
-use Rattle.image_reports.specs.link_image.machine_effects.Machine.{IsFram}
-use Rattle.image_reports.specs.link_image.machine_effects.Runs.{last_board}
-use Rattle.image_reports.specs.link_image.crash_rules.History.{first_history}
-use Rattle.image_reports.specs.link_image.run_charges.Charges.{ArePowerStates}
-use Rattle.image_reports.specs.link_image.run_charges.Laws.{IsRunOfWords}
-use Rattle.image_reports.proofs.link_image.run_charges.Interface.{Counts, moments_count, front_moments}
-use Rattle.image_reports.specs.link_image.cost_bound.declared.allowance.Allow.{Allow}
-use Rattle.image_reports.specs.link_image.source_values.Runs.{CheckedProgram}
-use Rattle.image_reports.specs.link_image.source_meaning.Acceptance.{IsAcceptedText}
-use Rattle.image_reports.proofs.link_image.source_runs.Interface.{traces_are_few}
-use Rattle.image_reports.specs.link_image.source_maps.Maps.{map_of}
-use Rattle.image_reports.specs.link_image.source_maps.Laws.{IsSourceMap}
-use Rattle.image_reports.specs.link_image.Compiled.{IsCompiled}
-use Rattle.image_reports.specs.link_image.Laws.{IsFreshImage}
-use Rattle.image_reports.proofs.link_image.Interface.{images_are_fresh}
-use Rattle.image_reports.proofs.link_image.compiled_runs.Interface.{code_is_placed}
+use Rattle.layout_facts.specs.memory_map.declared.words.RuntimeWord.TheVariants.{Gate}
+use Rattle.layout_facts.specs.memory_map.MemoryMap.{MemoryMap, word_place}
+use Rattle.layout_facts.specs.Facts.{HasLayout}
+use Rattle.layout_facts.proofs.whole_programs.Interface.{privates_are_few}
+use Rattle.link_image.specs.image_map.MapValue.{MapValue}
+use Rattle.link_image.specs.image_text.ImageValue.{ImageValue}
+use Rattle.link_image.specs.fram_board.Board.{BoardValue}
+use Rattle.link_image.specs.fram_board.Run.{BoardCharge, Moment, RunOutcome, Run}
+use Rattle.link_image.specs.fram_board.Saved.{saved}
+use Rattle.link_image.specs.board_run.Charges.{charges_of}
+use Rattle.link_image.specs.board_run.History.{start_of}
+use Rattle.link_image.specs.board_run.Report.{report_of}
+use Rattle.link_image.specs.machine_effects.World.{World}
+use Rattle.link_image.specs.machine_effects.Machine.{IsFram, fram_of}
+use Rattle.link_image.specs.machine_effects.Runs.{last_board}
+use Rattle.link_image.specs.crash_rules.History.{first_history}
+use Rattle.link_image.specs.run_charges.Charges.{ArePowerStates}
+use Rattle.link_image.specs.run_charges.Laws.{IsRunOfWords}
+use Rattle.link_image.proofs.run_charges.Interface.{Counts, moments_count, front_moments}
+use Rattle.link_image.specs.cost_bound.declared.allowance.Allow.{Allow}
+use Rattle.link_image.specs.source_values.Runs.{CheckedProgram}
+use Rattle.link_image.specs.source_meaning.Acceptance.{IsAcceptedText}
+use Rattle.link_image.proofs.source_runs.Interface.{traces_are_few}
+use Rattle.link_image.specs.source_maps.Maps.{map_of}
+use Rattle.link_image.specs.source_maps.Laws.{IsSourceMap}
+use Rattle.link_image.specs.Compiled.{IsCompiled}
+use Rattle.link_image.specs.Laws.{IsFreshImage}
+use Rattle.link_image.proofs.Interface.{images_are_fresh}
+use Rattle.link_image.proofs.compiled_runs.Interface.{code_is_placed}
+use Rattle.image_reports.specs.ImageLaw.{KeepsCode}
 use Rattle.image_reports.specs.Resumed.{BelongsTo, known_from, IsToldOnward, IsResumedRun}
 use Rattle.image_reports.proofs.Interface.{made, images_belong, of_words, images_resume}
 use Rattle.compiled_states.specs.Worlds.{world_of, MayHaveAccepted, HasFramWords, HasCodeWords, board_of, LeavesItsStates}
@@ -55,7 +56,7 @@ module _ (text : List ℕ) (p : CheckedProgram) (allow : Allow) (image : ImageVa
   abbrev m : MapValue
   m = map_of text p l allow
 
-  laid : HasLayout p allow c.plans l
+  pub laid : HasLayout p allow c.plans l
   laid = record {
     allowed = ok.allowed;
     plan = c.is_plan;
@@ -63,7 +64,7 @@ module _ (text : List ℕ) (p : CheckedProgram) (allow : Allow) (image : ImageVa
     few = privates_are_few text p allow c.plans l (record { accepted = ok; plan = c.is_plan; layout = c.is_layout });
   }
 
-  source_map : IsSourceMap text p allow l
+  pub source_map : IsSourceMap text p allow l
   source_map = made text p allow image ok c
 
   new : IsFreshImage text p allow l image
@@ -73,7 +74,7 @@ module _ (text : List ℕ) (p : CheckedProgram) (allow : Allow) (image : ImageVa
   same_tasks = sym (length-map m.tasks (λ t. t.name)) ∙ ap length source_map.of_source.tasks ∙ length-map p.tasks _
 
   -- a map that the image has is the source's
-  one_map : (n : MapValue) → image.map ≡ Some n → n ≡ m
+  pub one_map : (n : MapValue) → image.map ≡ Some n → n ≡ m
   one_map n has = let both : Some n ≡ Some m = sym has ∙ c.map in cc
 
   -- from the code on a state that belongs has the image's words
@@ -81,6 +82,16 @@ module _ (text : List ℕ) (p : CheckedProgram) (allow : Allow) (image : ImageVa
   code_words s n has same a is from =
       let free : is_named n a ≡ false = ap (λ k. is_named k a) (one_map n has) ∙ unnamed text p allow c.plans l laid source_map.places a from in
       fram_at s.image.words a is ∙ same.each a (record { low = is.low; high = is.high; even = is.even }) free ∙ sym (fram_at image.words a is)
+
+  -- so it keeps the code
+  pub keeps_code : (s : State) → HasCodeWords l image s → KeepsCode p l image (fram_of s.image.words)
+  keeps_code s code =
+      let placed = code_is_placed p l new.fits in
+      let low = placed.low in let high = placed.high in
+      record {
+        code = λ a even from to. code a (record { even = even; low = omega (arith, low, from); high = omega (arith, high, to) }) from;
+        vector = code 0xFFFE (record { even = refl; low = omega arith; high = omega arith }) (omega (arith, high));
+      }
 
   module _ (s : State) (accepted : List ℕ) (number : MayHaveAccepted s accepted) where
     -- a state that belongs is a world
@@ -90,14 +101,8 @@ module _ (text : List ℕ) (p : CheckedProgram) (allow : Allow) (image : ImageVa
 
       pub as_world : BelongsTo p l image (world_of s accepted)
       as_world =
-          let code = code_words s b.map b.have.of_image b.others in
-          let placed = code_is_placed p l new.fits in
-          let low = placed.low in let high = placed.high in
           record {
-            code = record {
-              code = λ a even from to. code a (record { even = even; low = omega (arith, low, from); high = omega (arith, high, to) }) from;
-              vector = code 0xFFFE (record { even = refl; low = omega arith; high = omega arith }) (omega (arith, high));
-            };
+            code = keeps_code s (code_words s b.map b.have.of_image b.others);
             capacities = record {
               list = list_within text p allow c.plans l laid source_map.places same_tasks s.image.words whole.count whole.are_words s.receiver accepted number
                   sound;
@@ -201,10 +206,10 @@ states_are_told image s whole b trace t r run text p allow ok c accepted number 
     ((lawful text p allow image ok c s accepted whole number b (charges_of trace.charges) few.0 trace.readings t.readings t.trace.readings r run).told few.1)
 
 -- so many words that a receiver takes next the one of a number
-abbrev some_words : ℕ → List ℕ
+abbrev pub some_words : ℕ → List ℕ
 some_words n = replicate n 0
 
-words_before : (n : ℕ) → n < 0x10000 → length (some_words n) % 0x10000 ≡ n
+pub words_before : (n : ℕ) → n < 0x10000 → length (some_words n) % 0x10000 ≡ n
 words_before n small = let below : n % 0x10000 ≡ n = omega (arith, small) in ap (λ k. k % 0x10000) (length-replicate n 0) ∙ below
 
 pub states_stay : StatesStay

@@ -1,21 +1,24 @@
 -- What holds of the states of images of accepted sources.
-use Rattle.std.specs.Prelude.{◌≡◌, ℕ, ◌<◌, ◌≤◌, List, length, All}
+use Rattle.std.specs.Prelude.{◌≡◌, ℕ, ◌<◌, ◌≤◌, List, length, All, Some}
 use Rattle.fram_state.specs.state_text.declared.state.State.{State}
 use Rattle.fram_state.specs.Belongs.{Belongs}
-use Rattle.image_reports.specs.link_image.image_text.ImageValue.{ImageValue}
-use Rattle.image_reports.specs.link_image.energy_trace.TraceValue.{TraceValue}
-use Rattle.image_reports.specs.link_image.fram_board.Run.{BoardCharge, RunOutcome, Run}
-use Rattle.image_reports.specs.link_image.board_run.Charges.{charges_of}
-use Rattle.image_reports.specs.link_image.board_run.History.{start_of}
-use Rattle.image_reports.specs.link_image.board_run.Report.{report_of}
-use Rattle.image_reports.specs.link_image.run_charges.Charges.{ArePowerStates}
-use Rattle.image_reports.specs.link_image.source_runs.Traces.{IsTraceOfWords}
-use Rattle.image_reports.specs.link_image.cost_bound.declared.allowance.Allow.{Allow}
-use Rattle.image_reports.specs.link_image.source_values.Runs.{CheckedProgram}
-use Rattle.image_reports.specs.link_image.source_meaning.Acceptance.{IsAcceptedText}
-use Rattle.image_reports.specs.link_image.Compiled.{IsCompiled, IsImageOf}
+use Rattle.fram_state.specs.Migrated.{EditionValue, edition_with, rows_of, IsStateOf, IsMigrated}
+use Rattle.link_image.specs.image_map.MapValue.{MapValue}
+use Rattle.link_image.specs.image_map.Kept.{IsMap}
+use Rattle.link_image.specs.image_text.ImageValue.{ImageValue}
+use Rattle.link_image.specs.energy_trace.TraceValue.{TraceValue}
+use Rattle.link_image.specs.fram_board.Run.{BoardCharge, RunOutcome, Run}
+use Rattle.link_image.specs.board_run.Charges.{charges_of}
+use Rattle.link_image.specs.board_run.History.{start_of}
+use Rattle.link_image.specs.board_run.Report.{report_of}
+use Rattle.link_image.specs.run_charges.Charges.{ArePowerStates}
+use Rattle.link_image.specs.source_runs.Traces.{IsTraceOfWords}
+use Rattle.link_image.specs.cost_bound.declared.allowance.Allow.{Allow}
+use Rattle.link_image.specs.source_values.Runs.{CheckedProgram}
+use Rattle.link_image.specs.source_meaning.Acceptance.{IsAcceptedText}
+use Rattle.link_image.specs.Compiled.{IsCompiled, IsImageOf}
 use Rattle.image_reports.specs.Resumed.{BelongsTo, IsResumedRun}
-use Rattle.compiled_states.specs.Worlds.{world_of, MayHaveAccepted, HasFramWords, HasCodeWords, board_of, IsToldByItsSource, LeavesItsStates}
+use Rattle.compiled_states.specs.Worlds.{world_of, MayHaveAccepted, HasFramWords, HasCodeWords, BelongsAt, board_of, IsToldByItsSource, LeavesItsStates}
 
 -- what holds of each image of an accepted source
 abbrev OfImages : ((text : List ℕ) (p : CheckedProgram) (allow : Allow) (image : ImageValue) → IsCompiled text p allow image → Type 0) → Type 0
@@ -56,3 +59,13 @@ abbrev pub StatesStay : Type 0
 StatesStay = (text : List ℕ) (image : ImageValue) → IsImageOf text image → (s : State) → HasFramWords s → Belongs image s → (trace : TraceValue)
     → IsTraceOfWords trace → (r : RunOutcome) → Run (charges_of trace.charges) (board_of s trace.readings) r
     → LeavesItsStates image s (board_of s trace.readings) r
+
+-- What a migration makes of a state of any source, whatever image this is of, belongs to the new image where that is one of an accepted source; and
+-- it rests at the state of this source whose shared words are those that are kept of the old state, or else those that the source begins with,
+-- and whose task is the one of the old current task's name
+abbrev pub MigratedStatesBelong : Type 0
+MigratedStatesBelong = OfImages (λ text p allow image c. (old_text : List ℕ) (old_p : CheckedProgram) (s t : State) (m n : MapValue)
+    → IsStateOf old_text old_p s → HasFramWords s → HasFramWords t → s.image.map ≡ Some m → IsMap m → image.map ≡ Some n
+    → let old : EditionValue = edition_with old_text old_p m s.image.words in
+    let new : EditionValue = edition_with text p n image.words in
+    (g : IsMigrated old new s.receiver t) → BelongsAt p c.layout image (rows_of old new) g.migrates.can.number t)

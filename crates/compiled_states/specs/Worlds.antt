@@ -1,22 +1,26 @@
--- States as worlds, and the runs that go on from them as sources tell them.
+-- States as worlds, the source's states that they have, and the runs that go on from them as sources tell them.
 use Rattle.std.specs.Prelude.{◌≡◌, ℕ, ◌%◌, ◌<◌, ◌≤◌, List, ◌++◌, length, All}
 use Rattle.fram_state.specs.state_text.declared.state.State.{State}
 use Rattle.fram_state.specs.Belongs.{Belongs}
-use Rattle.image_reports.specs.link_image.image_text.ImageValue.{ImageValue}
-use Rattle.image_reports.specs.link_image.energy_trace.TraceValue.{TraceValue}
-use Rattle.image_reports.specs.link_image.fram_board.Board.{BoardValue, started}
-use Rattle.image_reports.specs.link_image.fram_board.Run.{Moment, RunOutcome}
-use Rattle.image_reports.specs.link_image.fram_board.Saved.{saved}
-use Rattle.image_reports.specs.link_image.board_run.Charges.{charges_of}
-use Rattle.image_reports.specs.link_image.machine_effects.World.{World}
-use Rattle.image_reports.specs.link_image.machine_effects.Machine.{IsFram, fram_of}
-use Rattle.image_reports.specs.link_image.machine_effects.Runs.{last_board}
-use Rattle.image_reports.specs.link_image.cost_bound.declared.allowance.Allow.{Allow}
-use Rattle.image_reports.specs.link_image.source_values.Runs.{CheckedProgram}
-use Rattle.image_reports.specs.link_image.source_meaning.Acceptance.{IsAcceptedText}
-use Rattle.image_reports.specs.link_image.source_maps.Maps.{map_of}
-use Rattle.image_reports.specs.link_image.memory_map.MemoryMap.{MemoryMap}
-use Rattle.image_reports.specs.link_image.Compiled.{IsCompiled}
+use Rattle.link_image.specs.image_text.ImageValue.{ImageValue}
+use Rattle.link_image.specs.energy_trace.TraceValue.{TraceValue}
+use Rattle.link_image.specs.fram_board.Board.{BoardValue, started}
+use Rattle.link_image.specs.fram_board.Run.{Moment, RunOutcome}
+use Rattle.link_image.specs.fram_board.Saved.{saved}
+use Rattle.link_image.specs.board_run.Charges.{charges_of}
+use Rattle.link_image.specs.machine_effects.World.{World}
+use Rattle.link_image.specs.machine_effects.Machine.{IsFram, fram_of}
+use Rattle.link_image.specs.machine_effects.Runs.{last_board}
+use Rattle.link_image.specs.cost_bound.declared.allowance.Allow.{Allow}
+use Rattle.link_image.specs.source_values.Runs.{CheckedProgram}
+use Rattle.link_image.specs.source_values.Runs as runs
+use Rattle.link_image.specs.source_meaning.Acceptance.{IsAcceptedText}
+use Rattle.link_image.specs.source_maps.Maps.{map_of}
+use Rattle.link_image.specs.memory_map.MemoryMap.{MemoryMap}
+use Rattle.link_image.specs.stands_for.StandsFor.{RestsAt}
+use Rattle.link_image.specs.compiled_model.Places.{program_places}
+use Rattle.link_image.specs.compiled_model.View.{state_view, state_in}
+use Rattle.link_image.specs.Compiled.{IsCompiled}
 use Rattle.image_reports.specs.Resumed.{IsToldOnward}
 
 -- the world of a state whose receiver accepted these words before
@@ -36,6 +40,18 @@ pub record HasFramWords (s : State) : Type 0 where
 -- from the first word of the code on a state has the words of an image
 abbrev pub HasCodeWords : MemoryMap → ImageValue → State → Type 0
 HasCodeWords l image s = (a : ℕ) → IsFram a → l.boot.address ≤ a → fram_of s.image.words a ≡ fram_of image.words a
+
+-- a state of a source: these shared words, this task, and these words emitted so far
+abbrev pub state_with : (shared : List (List ℕ)) (task : ℕ) (emitted : List ℕ) → runs.State
+state_with shared task emitted = record { shared = shared; task = task; emitted = emitted }
+
+-- A state belongs to an image of a source and, whatever words its receiver accepted before, rests at the source's state of these shared words and
+-- this task, which is the one that it has.
+pub record BelongsAt (p : CheckedProgram) (l : MemoryMap) (image : ImageValue) (shared : List (List ℕ)) (task : ℕ) (s : State) : Type 0 where
+  pub belongs : Belongs image s
+  pub has : (accepted : List ℕ) → state_in l (world_of s accepted) ≡ state_with shared task accepted
+  pub rests : (accepted : List ℕ) → MayHaveAccepted s accepted
+      → RestsAt (program_places p l) (state_view p l) (state_with shared task accepted) (world_of s accepted)
 
 -- the board that goes on from a state, on these readings
 abbrev pub board_of : State → List ℕ → BoardValue

@@ -29,7 +29,7 @@ use Rattle.fram_state.specs.Kept.{number_of}
 use Rattle.fram_state.specs.Migrated.{EditionValue, IsStateOf, current, current_task, next_edition_of, GoesOnAt, IsUnsettled, HasNoTask, IsFirstUnsettled}
 use Rattle.fram_state.specs.Migrated.{CanMigrate, IsFault, edition_with}
 use Rattle.fram_state.specs.Editions.{IsEdition}
-use Rattle.fram_state.proofs.Declared.{planned_count}
+use Rattle.fram_state.proofs.Declared.{planned_count, same_count}
 use Rattle.fram_state.proofs.Numbers.{names_of}
 
 same_task : (old : EditionValue) (s t : CheckedTask) → current_task old ≡ Some s → current_task old ≡ Some t → s ≡ t
@@ -97,6 +97,23 @@ named_is text p s is m mapped =
 lines_of : (text : List ℕ) (p : CheckedProgram) (s : State) (is : IsStateOf text p s) (m : MapValue) → Some m ≡ s.image.map
     → HasLinesOf text p is.suits.plans m
 lines_of text p s is m mapped = subst (HasLinesOf text p is.suits.plans) (named_is text p s is m mapped) is.suits.lines
+
+-- the edition of a state of a source
+pub edition_of_state : (text : List ℕ) (p : CheckedProgram) (s : State) (m : MapValue) → IsStateOf text p s → s.image.map ≡ Some m → IsMap m
+    → length s.image.words ≡ 24064 → IsEdition (edition_with text p m s.image.words)
+edition_of_state text p s m is mapped rules long =
+    let lines = lines_of text p s is m (sym mapped) in
+    let shared : length m.variables ≡ length p.shared = same_count line_of (declared_line text) m.variables p.shared lines.variables in
+    let tasks : length m.tasks ≡ length p.tasks = ap length lines.tasks ∙ planned_count text p.shared p.tasks is.suits.plans is.suits.is_plan.count in
+    let variables_few = rules.few_variables in
+    let tasks_few = rules.few_tasks in
+    record {
+      words = long;
+      rules = rules;
+      few_shared = omega (arith, shared, variables_few);
+      few_tasks = omega (arith, tasks, tasks_few);
+      variables = lines.variables;
+    }
 
 pub edition_at : (old : Accepted) (s : State) → IsStateOf old.text.items (program_of old.checked.source) s → (text words : List ℕ)
     (source : Source VariableName TaskName) (m : MapValue) → text ≡ old.text.items → source ≡ old.checked.source → Some m ≡ s.image.map

@@ -1,0 +1,243 @@
+-- What a migration makes of an old state belongs to the new image, and rests at the state that the old words make.
+use Rattle.std.proofs.Common.{◌≡◌, ◌⊎◌, inl, inr, ℕ, ◌+◌, ◌*◌, ◌%◌, ◌<◌, ◌≤◌, ◌==◌, ◌||◌, if◌then◌else◌, Bool, true, false, List, length, map, Option, Some, None}
+use Rattle.std.proofs.Common.{refl, sym, ap, ap₂, ◌∙◌, subst, arith}
+use Rattle.std.specs.Prelude.{unwrap_or}
+use Rattle.std.specs.Str.{bytes_eq}
+use Rattle.std.proofs.lemmas.List.{length-map}
+use Rattle.std.proofs.lemmas.Bool.{eqb-true, eq-eqb, ne_eqb}
+use Rattle.fram_state.specs.state_text.declared.state.State.{State}
+use Rattle.fram_state.specs.Named.{is_shared}
+use Rattle.fram_state.specs.Runtime.{word_in, runtime_of}
+use Rattle.fram_state.specs.Sound.{is_pending}
+use Rattle.fram_state.specs.Sound as state
+use Rattle.fram_state.specs.Belongs.{Belongs}
+use Rattle.fram_state.specs.Kept.{task_names}
+use Rattle.fram_state.specs.Migrated.{EditionValue, edition_with, row_of, rows_of, shared_word, migrated_word, next_edition_of, IsStateOf, IsPendingAt, IsMigrated}
+use Rattle.fram_state.specs.Editions.{IsEdition}
+use Rattle.fram_state.proofs.Interface.{edition_of_state, row_length}
+use Rattle.layout_facts.specs.task_ast.declared.SharedDeclaration.{SharedDeclaration}
+use Rattle.layout_facts.specs.memory_map.declared.words.RuntimeWord.{RuntimeWord}
+use Rattle.layout_facts.specs.memory_map.declared.words.RuntimeWord.TheVariants.{CurrentTask, Gate, ListLength, EmitCount, Base, Version}
+use Rattle.layout_facts.specs.memory_map.MemoryMap.{MemoryMap, word_place}
+use Rattle.layout_facts.specs.memory_map.Places.{end_of, home_region}
+use Rattle.layout_facts.specs.memory_map.Laws.{AreApart, WordStands}
+use Rattle.layout_facts.proofs.memory_map.Interface.{apart_of, even_of, words_stand}
+use Rattle.layout_facts.specs.stands_for.StandsFor.{RestsAt, IsAtRest, SoundAtRest}
+use Rattle.layout_facts.specs.compiled_model.Places.{program_places}
+use Rattle.layout_facts.specs.compiled_model.View.{row_in, state_view, state_in}
+use Rattle.link_image.specs.image_map.MapValue.{MapValue}
+use Rattle.link_image.specs.image_map.Kept.{IsMap}
+use Rattle.link_image.specs.image_text.ImageValue.{ImageValue}
+use Rattle.link_image.specs.machine_effects.Machine.{IsFram, fram_of}
+use Rattle.link_image.specs.cost_bound.declared.allowance.Allow.{Allow}
+use Rattle.link_image.specs.source_values.Runs.{CheckedProgram}
+use Rattle.link_image.specs.source_meaning.Acceptance.{IsAcceptedText}
+use Rattle.link_image.specs.source_maps.Maps.{map_of}
+use Rattle.link_image.specs.Compiled.{IsCompiled}
+use Rattle.link_image.specs.Laws.{IsFreshImage}
+use Rattle.link_image.proofs.Interface.{images_are_fresh, worlds_stand}
+use Rattle.image_reports.specs.Resumed.{BelongsTo}
+use Rattle.image_reports.proofs.Interface.{images_belong}
+use Rattle.compiled_states.specs.Worlds.{world_of, state_with, MayHaveAccepted, HasFramWords, HasCodeWords, BelongsAt}
+use Rattle.compiled_states.specs.Laws.{MigratedStatesBelong}
+use Rattle.compiled_states.proofs.Words.{fram_at, fram_small}
+use Rattle.compiled_states.proofs.Named.{not_shared}
+use Rattle.compiled_states.proofs.Rows.{none_there, position_below, rows_stand}
+use Rattle.compiled_states.proofs.Sound.{base_rule}
+use Rattle.compiled_states.proofs.States.{laid, source_map, one_map, keeps_code, as_state, some_words, words_before}
+
+-- where no commit is pending, BASE is the number that the receiver takes next
+base_at_rest : (m : MapValue) (words : List ℕ) (number : ℕ) → state.IsSound m words number → (word_in words m.words.gate ≡ 1 → ⊥)
+    → word_in words m.words.base ≡ number
+base_at_rest m words number sound rests =
+    let own = runtime_of m.words words in
+    let none : is_pending own ≡ false = ne_eqb own.gate 1 rests in
+    let same : (own.base == number) ≡ true =
+    sym (ap (λ b. if b then own.base == own.sent_base || own.base == (own.sent_base + own.emit_count) % 65536 else own.base == number) none)
+    ∙ base_rule m words number sound in
+    eqb-true own.base number same
+
+module _ (text : List ℕ) (p : CheckedProgram) (allow : Allow) (image : ImageValue) (ok : IsAcceptedText text p allow) (c : IsCompiled text p allow image)
+    (old : EditionValue) (is_old : IsEdition old) (number : ℕ) (t : State) (whole : HasFramWords t)
+    (g : IsMigrated old (edition_with text p (map_of text p c.layout allow) image.words) number t)
+    (old_base : word_in old.words old.named.words.base ≡ number) where
+  abbrev l : MemoryMap
+  l = c.layout
+
+  abbrev m : MapValue
+  m = map_of text p l allow
+
+  abbrev new : EditionValue
+  new = edition_with text p m image.words
+
+  abbrev rows : List (List ℕ)
+  rows = rows_of old new
+
+  abbrev task : ℕ
+  task = g.migrates.can.number
+
+  abbrev f : ℕ → ℕ
+  f = fram_of t.image.words
+
+  apart : AreApart l
+  apart = apart_of l c.is_layout.rules
+
+  stands : (w : RuntimeWord) → WordStands l w
+  stands w = words_stand l w c.is_layout.rules
+
+  -- ---- the words of the FRAM
+
+  -- the word at an address that is neither CUR's nor BASE's
+  word_elsewhere : (a : ℕ) → IsFram a → (a ≡ word_place l CurrentTask → ⊥) → (a ≡ word_place l Base → ⊥)
+      → f a ≡ unwrap_or (shared_word m.variables rows a) (word_in image.words a)
+  word_elsewhere a is no_task no_base =
+      fram_at t.image.words a is ∙ g.migrates.each a (record { low = is.low; high = is.high; even = is.even })
+      ∙ ap (λ b. if b then task
+      else (if a == word_place l Base then word_in old.words old.named.words.base
+      else unwrap_or (shared_word m.variables rows a) (word_in image.words a)))
+      (ne_eqb a (word_place l CurrentTask) no_task)
+      ∙ ap (λ b. if b then word_in old.words old.named.words.base else unwrap_or (shared_word m.variables rows a) (word_in image.words a))
+      (ne_eqb a (word_place l Base) no_base)
+
+  -- outside of the variables, too, it is the new image's
+  as_image : (a : ℕ) → IsFram a → (a ≡ word_place l CurrentTask → ⊥) → (a ≡ word_place l Base → ⊥) → (a < l.homes.address) ⊎ (end_of l.homes ≤ a)
+      → f a ≡ fram_of image.words a
+  as_image a is no_task no_base outside =
+      let free : is_shared m.variables a ≡ false =
+      not_shared text p allow c.plans l (laid text p allow image ok c) (source_map text p allow image ok c).places a outside in
+      word_elsewhere a is no_task no_base ∙ ap (λ o. unwrap_or o (word_in image.words a)) (none_there m.variables rows a free) ∙ sym (fram_at image.words a is)
+
+  -- a word of the runtime is one of the FRAM
+  is_word : (w : RuntimeWord) → IsFram (word_place l w)
+  is_word w = let is = (stands w).is_fram in let low = is.low in let high = is.high in
+      record { even = is.even; low = omega (arith, low); high = omega (arith, high) }
+
+  -- and another one than CUR and BASE is the new image's
+  runtime_word : (w : RuntimeWord) → (word_place l w ≡ word_place l CurrentTask → ⊥) → (word_place l w ≡ word_place l Base → ⊥)
+      → f (word_place l w) ≡ fram_of image.words (word_place l w)
+  runtime_word w no_task no_base =
+      let below = (stands w).below in let k = apart in
+      as_image (word_place l w) (is_word w) no_task no_base (inl (omega (arith, below, k)))
+
+  current : f (word_place l CurrentTask) ≡ task
+  current =
+      let a = word_place l CurrentTask in
+      let is = is_word CurrentTask in
+      fram_at t.image.words a is ∙ g.migrates.each a (record { low = is.low; high = is.high; even = is.even })
+      ∙ ap (λ b. if b then task
+      else (if a == word_place l Base then word_in old.words old.named.words.base
+      else unwrap_or (shared_word m.variables rows a) (word_in image.words a)))
+      (eq-eqb a a refl)
+
+  base : f (word_place l Base) ≡ number
+  base =
+      let a = word_place l Base in
+      let is = is_word Base in
+      fram_at t.image.words a is ∙ g.migrates.each a (record { low = is.low; high = is.high; even = is.even })
+      ∙ ap (λ b. if b then task
+      else (if a == word_place l Base then word_in old.words old.named.words.base
+      else unwrap_or (shared_word m.variables rows a) (word_in image.words a)))
+      (ne_eqb a (word_place l CurrentTask) (λ e. omega (arith, e)))
+      ∙ ap (λ b. if b then word_in old.words old.named.words.base else unwrap_or (shared_word m.variables rows a) (word_in image.words a))
+      (eq-eqb a a refl)
+      ∙ old_base
+
+  -- a version word is the new image's
+  version_word : (i : ℕ) → i < l.versions.words → f (l.versions.address + 2 * i) ≡ fram_of image.words (l.versions.address + 2 * i)
+  version_word i lt =
+      let k = apart in
+      let even = (even_of l c.is_layout.rules).versions in
+      let first = (stands CurrentTask).below in let second = (stands Base).below in
+      as_image (l.versions.address + 2 * i) (record { even = omega (arith, even); low = omega (arith, k); high = omega (arith, k, lt) })
+      (λ e. omega (arith, k, first, e)) (λ e. omega (arith, k, second, e)) (inl (omega (arith, k, lt)))
+
+  -- from the code on all words are the new image's
+  code_words : HasCodeWords l image t
+  code_words a is from =
+      let k = apart in
+      let first = (stands CurrentTask).below in let second = (stands Base).below in
+      as_image a is (λ e. omega (arith, k, first, from, e)) (λ e. omega (arith, k, second, from, e)) (inr (omega (arith, k, from)))
+
+  -- ---- the world of the state
+
+  fresh : IsFreshImage text p allow l image
+  fresh = images_are_fresh text p allow image ok c
+
+  new_world : BelongsTo p l image (world_of (record { image = image; receiver = 0 }) [])
+  new_world = images_belong text p allow image ok c
+
+  is_task : task < length p.tasks
+  is_task =
+      let below : task < 0 + length (task_names text p) =
+      position_below (λ n. bytes_eq n (spelled old.text g.migrates.can.task.name)) (task_names text p) 0 task g.migrates.can.goes_on.named in
+      let count : length (task_names text p) ≡ length p.tasks = length-map p.tasks (λ t. spelled text t.name) in
+      omega (arith, below, count)
+
+  module _ (accepted : List ℕ) (count : MayHaveAccepted t accepted) where
+    rests_there : IsAtRest (program_places p l) (world_of t accepted)
+    rests_there = record {
+      words = fram_small t.image.words whole.are_words;
+      current_task = (let is = current in let below = is_task in omega (arith, is, below));
+      gate = runtime_word Gate (λ e. omega (arith, e)) (λ e. omega (arith, e)) ∙ fresh.rests.is_open.gate;
+      base = base ∙ sym g.keeps ∙ sym count;
+      versions = λ i lt.
+          let here = version_word i lt in let there = runtime_word Version (λ e. omega (arith, e)) (λ e. omega (arith, e)) in
+          let most = fresh.rests.is_open.versions i lt in
+          omega (arith, here, there, most);
+    }
+
+    belongs_to : BelongsTo p l image (world_of t accepted)
+    belongs_to =
+        let k = new_world.capacities in
+        record {
+          code = keeps_code text p allow image ok c t code_words;
+          capacities = record {
+            list = (let here = runtime_word ListLength (λ e. omega (arith, e)) (λ e. omega (arith, e)) in let most = k.list in omega (arith, here, most));
+            emits = (let here = runtime_word EmitCount (λ e. omega (arith, e)) (λ e. omega (arith, e)) in let most = k.emits in omega (arith, here, most));
+            versions = rests_there.versions;
+          };
+          sound = SoundAtRest rests_there;
+        }
+
+  -- the variables have the words of the rows
+  rows_are : map (λ v. row_in f (home_region v)) l.variables ≡ rows
+  rows_are =
+      let k = apart in
+      let first = (stands CurrentTask).below in let second = (stands Base).below in
+      rows_stand text (row_of old text) (row_length old is_old text) f (word_in image.words) p.shared l.variables l.homes.address (end_of l.homes)
+      (source_map text p allow image ok c).places c.is_layout.rules.homes
+      (λ a even low high. word_elsewhere a (record { even = even; low = omega (arith, k, low); high = omega (arith, k, high) })
+      (λ e. omega (arith, k, first, low, e)) (λ e. omega (arith, k, second, low, e)))
+
+  has_state : (accepted : List ℕ) → state_in l (world_of t accepted) ≡ state_with rows task accepted
+  has_state accepted = ap₂ (λ shared n. state_with shared n accepted) rows_are current
+
+  pub belongs_at : BelongsAt p l image rows task t
+  belongs_at = record {
+    belongs = as_state text p allow image ok c t (some_words t.receiver) (words_before t.receiver whole.receiver) whole.count
+        (g.mapped ∙ sym c.map) code_words (belongs_to (some_words t.receiver) (words_before t.receiver whole.receiver));
+    has = has_state;
+    rests = λ accepted count.
+        subst (λ s. RestsAt (program_places p l) (state_view p l) s (world_of t accepted)) (has_state accepted)
+        ((worlds_stand text p allow image ok c).rest (world_of t accepted) (rests_there accepted count));
+  }
+
+-- ---- the law
+
+-- BASE of an old state that can be migrated
+old_base_is : (text : List ℕ) (p : CheckedProgram) (s : State) (m : MapValue) → IsStateOf text p s → s.image.map ≡ Some m
+    → (IsPendingAt (edition_with text p m s.image.words) → ⊥) → word_in s.image.words m.words.base ≡ s.receiver
+old_base_is text p s m is mapped rests =
+    let both : Some is.belongs.map ≡ Some m = sym is.belongs.have.of_state ∙ mapped in
+    let one : is.belongs.map ≡ m = cc in
+    base_at_rest m s.image.words s.receiver (subst (λ n. state.IsSound n s.image.words s.receiver) one is.belongs.sound) rests
+
+pub migrated_states_belong : MigratedStatesBelong
+migrated_states_belong text p allow image ok c old_text old_p s t m n is old_whole whole mapped rules has g =
+    let old : EditionValue = edition_with old_text old_p m s.image.words in
+    let is_old : IsEdition old = edition_of_state old_text old_p s m is mapped rules old_whole.count in
+    let source : MapValue = map_of text p c.layout allow in
+    let Law : MapValue → Type 0 = λ k. (h : IsMigrated old (edition_with text p k image.words) s.receiver t)
+    → BelongsAt p c.layout image (rows_of old (edition_with text p k image.words)) h.migrates.can.number t in
+    subst Law (sym (one_map text p allow image ok c n has))
+    (λ h. belongs_at text p allow image ok c old is_old s.receiver t whole h (old_base_is old_text old_p s m is mapped h.migrates.can.at_rest)) g
