@@ -1,7 +1,7 @@
 -- What a migration makes of an old state belongs to the new image, and rests at the state that the old words make.
 use Rattle.std.proofs.Common.{◌≡◌, ◌⊎◌, inl, inr, ℕ, ◌+◌, ◌*◌, ◌%◌, ◌<◌, ◌≤◌, ◌==◌, ◌||◌, if◌then◌else◌, Bool, true, false, List, length, map, Option, Some, None}
 use Rattle.std.proofs.Common.{refl, sym, ap, ap₂, ◌∙◌, subst, arith}
-use Rattle.std.specs.Prelude.{unwrap_or}
+use Rattle.std.specs.Prelude.{unwrap_or, IfSome}
 use Rattle.std.specs.Str.{bytes_eq}
 use Rattle.std.proofs.lemmas.List.{length-map}
 use Rattle.std.proofs.lemmas.Bool.{eqb-true, eq-eqb, ne_eqb}
@@ -232,11 +232,14 @@ old_base_is text p s m is mapped rests =
     let one : is.belongs.map ≡ m = cc in
     base_at_rest m s.image.words s.receiver (subst (λ n. state.IsSound n s.image.words s.receiver) one is.belongs.sound) rests
 
+-- a map that keeps the rules
+rules_of : (o : Option MapValue) (m : MapValue) → IfSome o IsMap → o ≡ Some m → IsMap m
+rules_of o m rules is = let P : Option MapValue → Type 0 = λ x. IfSome x IsMap in subst P is rules
+
 pub migrated_states_belong : MigratedStatesBelong
-migrated_states_belong text p allow image ok c old_text old_p s t m n is old_whole whole mapped rules has g =
+migrated_states_belong s t old_whole rules whole text p allow image ok c old_text old_p m n is mapped has g =
     let old : EditionValue = edition_with old_text old_p m s.image.words in
-    let is_old : IsEdition old = edition_of_state old_text old_p s m is mapped rules old_whole.count in
-    let source : MapValue = map_of text p c.layout allow in
+    let is_old : IsEdition old = edition_of_state old_text old_p s m is mapped (rules_of s.image.map m rules mapped) old_whole.count in
     let Law : MapValue → Type 0 = λ k. (h : IsMigrated old (edition_with text p k image.words) s.receiver t)
     → BelongsAt p c.layout image (rows_of old (edition_with text p k image.words)) h.migrates.can.number t in
     subst Law (sym (one_map text p allow image ok c n has))

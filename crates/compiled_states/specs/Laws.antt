@@ -1,5 +1,5 @@
 -- What holds of the states of images of accepted sources.
-use Rattle.std.specs.Prelude.{◌≡◌, ℕ, ◌<◌, ◌≤◌, List, length, All, Some}
+use Rattle.std.specs.Prelude.{◌≡◌, ℕ, ◌<◌, ◌≤◌, List, length, All, Some, IfSome}
 use Rattle.fram_state.specs.state_text.declared.state.State.{State}
 use Rattle.fram_state.specs.Belongs.{Belongs}
 use Rattle.fram_state.specs.Migrated.{EditionValue, edition_with, rows_of, IsStateOf, IsMigrated}
@@ -60,12 +60,16 @@ StatesStay = (text : List ℕ) (image : ImageValue) → IsImageOf text image →
     → IsTraceOfWords trace → (r : RunOutcome) → Run (charges_of trace.charges) (board_of s trace.readings) r
     → LeavesItsStates image s (board_of s trace.readings) r
 
--- What a migration makes of a state of any source, whatever image this is of, belongs to the new image where that is one of an accepted source; and
--- it rests at the state of this source whose shared words are those that are kept of the old state, or else those that the source begins with,
--- and whose task is the one of the old current task's name
-abbrev pub MigratedStatesBelong : Type 0
-MigratedStatesBelong = OfImages (λ text p allow image c. (old_text : List ℕ) (old_p : CheckedProgram) (s t : State) (m n : MapValue)
-    → IsStateOf old_text old_p s → HasFramWords s → HasFramWords t → s.image.map ≡ Some m → IsMap m → image.map ≡ Some n
+-- A state rests in place of an old one: whatever source the old one is of, and whatever accepted source's edition, with its image, it was migrated
+-- to, the new one belongs to that image, and rests at the state of that source whose shared words are those that are kept of the old state, or
+-- else those that the source begins with, and whose task is the one of the old current task's name
+abbrev pub RestsInPlaceOf : State → State → Type 0
+RestsInPlaceOf s t = OfImages (λ text p allow image c. (old_text : List ℕ) (old_p : CheckedProgram) (m n : MapValue) → IsStateOf old_text old_p s
+    → s.image.map ≡ Some m → image.map ≡ Some n
     → let old : EditionValue = edition_with old_text old_p m s.image.words in
     let new : EditionValue = edition_with text p n image.words in
     (g : IsMigrated old new s.receiver t) → BelongsAt p c.layout image (rows_of old new) g.migrates.can.number t)
+
+-- so it is with each two states, whatever image the old one is of
+abbrev pub MigratedStatesBelong : Type 0
+MigratedStatesBelong = (s t : State) → HasFramWords s → IfSome s.image.map IsMap → HasFramWords t → RestsInPlaceOf s t
