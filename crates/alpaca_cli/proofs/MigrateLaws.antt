@@ -13,6 +13,7 @@ use Rattle.fram_state.specs.declared.migration.MigrateFault.{MigrateFault}
 use Rattle.fram_state.specs.Belongs.{Belongs}
 use Rattle.fram_state.specs.Suits.{Suits}
 use Rattle.fram_state.specs.Migrated.{EditionValue, IsStateOf, IsMigrated, IsFault}
+use Rattle.compiled_states.specs.Laws.{RestsInPlaceOf}
 use Rattle.source_values.specs.Runs.{CheckedProgram}
 use Rattle.source_meaning.specs.Acceptance.{IsAcceptedText}
 use Rattle.cost_bound.specs.declared.allowance.Allow.{Allow}
@@ -131,15 +132,19 @@ module _ (t : Editions) (s : Said) (read : AreRead t s) where
           → MigrateRefuses t 2 r
       refused_migration r h = not_migrated said_in alone_in suited belongs h.0 r (of_editions (λ a b. IsFault a b h.0) h.1) h.2
 
-      pub migrates : (x : State) (file : List ℕ) → OfEditions s (λ a b. IsMigrated a b s.state.receiver x) → file ≡ state_text x → state_of file ≡ Ok x
-          → Migrates t file
-      migrates x file h text back = record {
+      pub migrates : (x : State) (file : List ℕ) → OfEditions s (λ a b. IsMigrated a b s.state.receiver x) → RestsInPlaceOf s.state x → file ≡ state_text x
+          → state_of file ≡ Ok x → Migrates t file
+      migrates x file h rests text back = record {
         said = said_in;
         alone = alone_in;
         suited = suited;
         belongs = belongs;
         state = x;
         migrated = of_editions (λ a b. IsMigrated a b s.state.receiver x) h;
+        of_source = λ allow ok c.
+            rests t.new_source (program_of s.new_source.checked.source) allow s.new_image ok c t.source (program_of s.source.checked.source)
+            suited.old.named suited.new.named (record { image = s.image; suits = suited.old; belongs = belongs }) map_is suited.new.mapped
+            (of_editions (λ a b. IsMigrated a b s.state.receiver x) h);
         text = text;
         reads_back = back;
       }

@@ -10,8 +10,12 @@ use Rattle.fram_state.specs.declared.migration.MigrateFault.{MigrateFault}
 use Rattle.fram_state.specs.declared.migration.MigrateFault.TheVariants.{Pending, NoTask, Unsettled, Memory}
 use Rattle.fram_state.specs.Belongs.{Belongs, IsAnswer}
 use Rattle.fram_state.specs.Suits.{Suits}
-use Rattle.fram_state.specs.Migrated.{EditionValue, edition_with, CanMigrate, IsMigrated, IsFault}
+use Rattle.fram_state.specs.Migrated.{EditionValue, edition_with, rows_of, CanMigrate, IsMigrated, IsFault}
+use Rattle.cost_bound.specs.declared.allowance.Allow.{Allow}
 use Rattle.source_values.specs.Runs.{CheckedProgram}
+use Rattle.source_meaning.specs.Acceptance.{IsAcceptedText}
+use Rattle.link_image.specs.Compiled.{IsCompiled}
+use Rattle.compiled_states.specs.Worlds.{BelongsAt}
 use Rattle.alpaca_cli.specs.Refusals.{Refusal, plain, named}
 use Rattle.alpaca_cli.specs.Resumed.{RefusesOther}
 use Rattle.alpaca_cli.specs.Sources.{IsSourceText, RefusesSource}
@@ -59,6 +63,14 @@ old_edition t s u = edition_with t.source s.program u.old.named s.state.image.wo
 abbrev pub new_edition : (t : Editions) (s : AreSaid t) → AreSuited t s → EditionValue
 new_edition t s u = edition_with t.new_source s.new_program u.new.named s.new_image.words
 
+-- Where the new image is what the compiler makes of the new source, a migrated state belongs to it, and rests at the state of this source whose shared
+-- words are those that were kept, or else those that the source begins with, and whose task is the one of the old current task's name.
+abbrev pub RestsInItsSource : (t : Editions) (s : AreSaid t) (u : AreSuited t s) (state : State)
+    → IsMigrated (old_edition t s u) (new_edition t s u) s.state.receiver state → Type 0
+RestsInItsSource t s u state g = (allow : Allow) → IsAcceptedText t.new_source s.new_program allow
+    → (c : IsCompiled t.new_source s.new_program allow s.new_image)
+    → BelongsAt s.new_program c.layout s.new_image (rows_of (old_edition t s u) (new_edition t s u)) g.migrates.can.number state
+
 -- The texts are a source, an image that suits it and a state that belongs to this image; and a new source and an image that suits it. These bytes are
 -- the text, which reads back, of a state that goes on in place of the old one.
 pub record Migrates (t : Editions) (file : List ℕ) : Type 0 where
@@ -68,6 +80,7 @@ pub record Migrates (t : Editions) (file : List ℕ) : Type 0 where
   pub belongs : Belongs said.image said.state
   pub state : State
   pub migrated : IsMigrated (old_edition t said suited) (new_edition t said suited) said.state.receiver state
+  pub of_source : RestsInItsSource t said suited state migrated
   pub text : file ≡ state_text state
   pub reads_back : state_of file ≡ Ok state
 

@@ -5,6 +5,7 @@ ghost use Rattle.image_reports.specs.task_ast.View.{program_of};
 ghost use Rattle.fram_state.specs.declared.migration.MigrateFault.{MigrateFault};
 ghost use Rattle.fram_state.specs.Suits.{Suits};
 ghost use Rattle.fram_state.specs.Migrated.{IsStateOf, IsMigrated, IsFault};
+ghost use Rattle.compiled_states.specs.Laws.{RestsInPlaceOf};
 ghost use Rattle.alpaca_cli.specs.Answers.{CommandAnswers, IsWhole, TextAnswers};
 ghost use Rattle.alpaca_cli.specs.Ending.{well};
 ghost use Rattle.alpaca_cli.specs.InputFiles.{AreHeld, IsUnread};
@@ -24,7 +25,7 @@ use crate::puts::put_file;
 use crate::refusal::{Refusal, named, plain};
 use crate::resume::check_belongs;
 use crate::sources::source_of;
-use crate::states::state_of;
+use crate::states::{migrated_state_rests, state_of};
 use crate::status::Status;
 use alp_io::{Shelf, Sink};
 use fram_state::{MigrateFault, SuitFault, migrate, suits};
@@ -148,6 +149,7 @@ fn migrated_of<'t>(
     requires old { IsStateOf said.source.text.items (program_of said.source.checked.source) said.state }
     requires new { Suits said.new_source.text.items (program_of said.new_source.checked.source) said.new_image }
     ensures migrated { IfOk result (λ s. OfEditions said (λ old new. IsMigrated old new said.state.receiver s)) }
+    ensures rests { IfOk result (RestsInPlaceOf said.state) }
     ensures refused { IfErr result (FailsRefused file.now (λ r. (f : MigrateFault) × OfEditions said (λ old new. IsFault old new f)
         × (told.migrate_refusal (editions_of texts.entry) f ≡ Some r))) }
 {
@@ -159,7 +161,10 @@ fn migrated_of<'t>(
         new_image,
     } = said;
     match migrate(alloc, &source, &state, &new_source, new_image) {
-        Ok(state) => Ok(state),
+        Ok(migrated) => {
+            migrated_state_rests(&state, &migrated);
+            Ok(migrated)
+        }
         Err(fault) => Err(failure_of(file, texts, fault)),
     }
 }

@@ -1,19 +1,23 @@
 //! A state text, read for a command, and what the runs from it owe to sources.
-ghost use Rattle.std.specs.Prelude.{◌≡◌, ◌<◌, ◌^◌, All, IfOk, IfErr, Ok, length};
+ghost use Rattle.std.specs.Prelude.{◌≡◌, ◌<◌, ◌^◌, All, IfOk, IfErr, IfSome, Ok, length};
+ghost use Rattle.image_text.specs.image_map.Kept.{IsMap};
 ghost use Rattle.state_text.specs.Reading.{state_of};
 ghost use Rattle.fram_state.specs.Belongs.{Belongs};
 ghost use Rattle.fram_board.specs.Run.{RunOutcome, Run};
 ghost use Rattle.board_run.specs.Charges.{charges_of};
 ghost use Rattle.board_run.specs.History.{start_of};
 ghost use Rattle.board_run.specs.Report.{report_of};
-ghost use Rattle.compiled_states.specs.source_runs.Traces.{IsTraceOfWords};
+ghost use Rattle.source_runs.specs.Traces.{IsTraceOfWords};
+ghost use Rattle.compiled_states.specs.Laws.{RestsInPlaceOf};
 ghost use Rattle.compiled_states.specs.Worlds.{HasFramWords};
 ghost use Rattle.alpaca_cli.specs.Resumed.{IsOfItsSource};
 ghost use Rattle.alpaca_cli.specs.Saved.{StaysWithItsImage, from_state};
 ghost use Rattle.alpaca_cli.specs.Texts.{RefusesState, FailsRefused};
 
 use crate::failure::{Failure, refused_plainly};
-use compiled_states::{fresh_states_belong, states_are_told, states_stay};
+use compiled_states::{
+    fresh_states_belong, migrated_states_belong, states_are_told, states_stay,
+};
 use energy_trace::Trace;
 use image_text::{Image, ImageFault};
 use state_text::{State, parse_state};
@@ -52,6 +56,15 @@ fn has_fram_words(state: &State)
     let _receiver = state.receiver;
 }
 
+// The map of a state, if it has one, keeps the rules of maps.
+fn has_ruled_map(state: &State)
+    ensures { IfSome state.now.image.map IsMap }
+{
+    if let Some(map) = state.image.map() {
+        map.rules();
+    }
+}
+
 /// The run from a state that belongs to an image is as the image's source says, if it is the image of one.
 pub fn state_is_told(image: &Image, state: &State, trace: &Trace)
     requires belongs { Belongs image.now state.now }
@@ -72,4 +85,14 @@ pub fn state_stays(state: &State, trace: &Trace)
     has_fram_words(state);
     fresh_states_belong();
     states_stay();
+}
+
+/// What a migration made of an old state belongs to the new image and rests there in place of the old one, if that is the image of a source.
+pub fn migrated_state_rests(old: &State, new: &State)
+    ensures { RestsInPlaceOf old.now new.now }
+{
+    has_fram_words(old);
+    has_ruled_map(old);
+    has_fram_words(new);
+    migrated_states_belong();
 }

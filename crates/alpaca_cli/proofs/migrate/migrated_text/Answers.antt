@@ -36,4 +36,4 @@ returns-in_err-state-clause-refused c =
 pub returns-in-Ok-clause-migrates : goal.returns-in-Ok-clause-migrates
 returns-in-Ok-clause-migrates c =
     migrates _ _ c.in_ok-said.ensures.said c.in_ok-check_suits.ensures.suits c.in_ok-check_suits-2.ensures.suits c.in_ok-check_belongs.ensures.belongs _ _
-    c.in_ok-state.ensures.migrated c.in-Ok.ensures.text c.in-Ok.ensures.reads_back
+    c.in_ok-state.ensures.migrated c.in_ok-state.ensures.rests c.in-Ok.ensures.text c.in-Ok.ensures.reads_back
