@@ -1,6 +1,6 @@
 //! Tables of cuts: a source whose charges end after each of many numbers of steps, each report compared with the source's meaning.
 use crate::meaning::{is_meant, transitions};
-use crate::program::tries;
+use crate::program::{trace, tries};
 use crate::sources::{CUT_TWICE, SOURCES, SUM, Source};
 use std::alloc::Global;
 use std::process::Abort;
@@ -8,16 +8,6 @@ use std::test::Fail;
 
 /// What RAM, registers and OUTNUM hold behind a power-up.
 const FILLS: [u16; 2] = [0, 65535];
-
-// The charges, then the readings.
-fn trace(alloc: Global, charges: &str, readings: &[u16]) -> Result<String, Fail> {
-    let mut text = format!(in alloc; "{charges}r")?;
-    for reading in readings {
-        text.push_str(&format!(in alloc; " {reading}")?)?;
-    }
-    text.push_str("\n")?;
-    Ok(text)
-}
 
 // The run ends well, and is meant.
 fn keeps(rt: &impl Abort, alloc: Global, source: &Source, charges: &str) -> Result<(), Fail> {
@@ -114,11 +104,7 @@ fn arrays_emits_and_loops_cut_twice_with_ones_in_ram(rt: HostRuntime) -> Result<
 // How many steps lead to a second transition of a run that isn't cut; at most so many are looked at.
 fn steps_of_two(alloc: Global, source: &Source, most: u32) -> Result<u32, Fail> {
     for k in 0..most {
-        let mut text = format!(in alloc; "s {k} 0\nr")?;
-        for reading in source.readings {
-            text.push_str(&format!(in alloc; " {reading}")?)?;
-        }
-        text.push_str("\n")?;
+        let text = trace(alloc, &format!(in alloc; "s {k} 0\n")?, source.readings)?;
         let answer = tries(alloc, source.text, &text)?;
         if transitions(alloc, &answer.out)? >= 2 {
             return Ok(k);

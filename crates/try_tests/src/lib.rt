@@ -11,4 +11,6 @@ mod program;
 #[cfg(test)]
 mod rows;
 #[cfg(test)]
+mod saved;
+#[cfg(test)]
 mod sources;

@@ -6,8 +6,8 @@ use std::alloc::Global;
 use std::test::Fail;
 use text_parts::{cut_line, next_field};
 
-// Field n of a line, from 0.
-fn field(line: &[u8], n: usize) -> Option<&[u8]> {
+/// Field n of a line, from 0.
+pub fn field(line: &[u8], n: usize) -> Option<&[u8]> {
     let mut rest = line;
     for _ in 0..n {
         let (_, behind) = next_field(rest)?;
@@ -17,14 +17,17 @@ fn field(line: &[u8], n: usize) -> Option<&[u8]> {
     Some(found)
 }
 
-// The readings of a line of a transition: from which position up to and without which.
-fn span(line: &[u8]) -> Option<(u64, u64)> {
+/// The number that is field n of a line.
+pub fn number_in(line: &[u8], n: usize) -> Option<u64> {
+    number(field(line, n)?).ok()
+}
+
+/// The readings of a line of a transition: from which position up to and without which.
+pub fn span(line: &[u8]) -> Option<(u64, u64)> {
     if field(line, 0)? != b"t".as_slice() {
         return None;
     }
-    let from = number(field(line, 4)?).ok()?;
-    let to = number(field(line, 5)?).ok()?;
-    Some((from, to))
+    Some((number_in(line, 4)?, number_in(line, 5)?))
 }
 
 /// The lines of a text.
@@ -43,9 +46,13 @@ pub fn lines_of(alloc: Global, text: &[u8]) -> Result<Vec<&[u8]>, Fail> {
     Ok(lines)
 }
 
-// A trace of the readings that these lines' transitions took.
-fn committed(alloc: Global, lines: &[&[u8]], readings: &[u16]) -> Result<Vec<u8>, Fail> {
-    let mut trace = b"r".to_vec(alloc)?;
+/// Adds the readings that these lines' transitions took to those of a trace.
+pub fn push_committed(
+    alloc: Global,
+    trace: &mut Vec<u8>,
+    lines: &[&[u8]],
+    readings: &[u16],
+) -> Result<(), Fail> {
     for line in lines {
         if let Some((from, to)) = span(line) {
             for i in from..to {
@@ -55,16 +62,31 @@ fn committed(alloc: Global, lines: &[&[u8]], readings: &[u16]) -> Result<Vec<u8>
             }
         }
     }
+    Ok(())
+}
+
+// A trace of the readings that these lines' transitions took.
+fn committed(alloc: Global, lines: &[&[u8]], readings: &[u16]) -> Result<Vec<u8>, Fail> {
+    let mut trace = b"r".to_vec(alloc)?;
+    push_committed(alloc, &mut trace, lines, readings)?;
     trace.push(b'\n')?;
     Ok(trace)
 }
 
-// Whether two lines say the same: of transitions, the same number and tasks, and as many readings.
-fn same_line(line: &[u8], meant: &[u8]) -> bool {
+// Whether a transition behind so many others has this number.
+fn same_number(line: &[u8], meant: &[u8], before: u64) -> bool {
+    match (number_in(line, 1), number_in(meant, 1)) {
+        (Some(number), Some(all)) => number.checked_add(before) == Some(all),
+        _ => false,
+    }
+}
+
+/// Whether two lines say the same: of transitions, behind so many others, the same number and tasks, and as many readings.
+pub fn same_line(line: &[u8], meant: &[u8], before: u64) -> bool {
     match (span(line), span(meant)) {
         (Some((from, to)), Some((a, b))) => {
             to.checked_sub(from) == b.checked_sub(a)
-                && field(line, 1) == field(meant, 1)
+                && same_number(line, meant, before)
                 && field(line, 2) == field(meant, 2)
                 && field(line, 3) == field(meant, 3)
         }
@@ -87,7 +109,7 @@ pub fn is_meant(
     let mut last = 0;
     let inner = lines.len().saturating_sub(2);
     for (line, wanted) in lines.iter().skip(1).take(inner).zip(meant.iter()) {
-        if !same_line(line, wanted) {
+        if !same_line(line, wanted, 0) {
             return Ok(false);
         }
         if let Some((from, to)) = span(line) {

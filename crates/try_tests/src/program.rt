@@ -6,11 +6,22 @@ use std::test::Fail;
 /// The bytes that a report of these tests has at most.
 const ROOM: usize = 40_000;
 
-/// What a run answered and wrote.
+/// What a run answered and wrote, and what stands under its last word then.
 #[derive(Drop)]
 pub struct Answer {
     pub status: Status,
     pub out: Vec<u8>,
+    pub last: Vec<u8>,
+}
+
+/// A trace: the charges, then the readings.
+pub fn trace(alloc: Global, charges: &str, readings: &[u16]) -> Result<String, Fail> {
+    let mut text = format!(in alloc; "{charges}r")?;
+    for reading in readings {
+        text.push_str(&format!(in alloc; " {reading}")?)?;
+    }
+    text.push_str("\n")?;
+    Ok(text)
 }
 
 /// Runs the program on these words, with these files there and ample memory.
@@ -26,9 +37,11 @@ pub fn run(alloc: Global, words: &[&str], files: &[(&str, &[u8])]) -> Result<Ans
     let mut out = MemSink::new(alloc, ROOM, Vec::new(alloc))?;
     let mut err = MemSink::new(alloc, ROOM, Vec::new(alloc))?;
     let status = alpaca(alloc, &line, &mut shelf, &mut out, &mut err);
+    let last = shelf.file(words.last().copied().unwrap_or("")).unwrap_or(b"");
     Ok(Answer {
         status,
         out: out.bytes().to_vec(alloc)?,
+        last: last.to_vec(alloc)?,
     })
 }
 

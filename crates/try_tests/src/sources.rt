@@ -114,3 +114,34 @@ pub const CUT_TWICE: [Source; 3] = [
         readings: &[1, 2, 3, 4, 5, 0, 7, 8, 9, 10],
     },
 ];
+
+/// An array as a ring; each task takes a reading.
+const RING_OF_READINGS: &str = "shared unsigned ring[3]; shared unsigned at; shared unsigned sum; \
+     task put { ring[at] = ring[at] + sense(); at = at + 1; emit(ring[0]); if (at == 3) { at = 0; transition_to(add); } transition_to(put); } \
+     task add { unsigned i; sum = sense(); for (i = 0; i < 3; i++) { sum = sum + ring[i]; } emit(sum); transition_to(put); } entry put;";
+
+/// Scalars that each path writes first, so that they stay in place, and one that is read before.
+const IN_PLACE: &str = "shared unsigned last = 9; shared unsigned twice; shared int seen = -3; \
+     task a { last = sense(); twice = last + last; emit(twice); transition_to(b); } \
+     task b { unsigned r = sense(); if (r > last) { seen = seen + 1; twice = r; } else { twice = 1; } emit(seen); emit(twice + last); transition_to(a); } \
+     entry a;";
+
+/// Three neighbours that are read first, and several words sent.
+const NEIGHBOURS: &str = "shared unsigned x; shared unsigned y = 7; shared unsigned z = 65530; \
+     task t { unsigned r = sense(); x = x + r; y = y + x; z = z - y; emit(x); emit(y); emit(z); transition_to(t); } entry t;";
+
+/// Sources each of whose tasks takes a reading: of arrays, of scalars in place, of neighbours and sends.
+pub const SAVED: [Source; 3] = [
+    Source {
+        text: RING_OF_READINGS,
+        readings: &[10, 20, 30, 40, 50, 60],
+    },
+    Source {
+        text: IN_PLACE,
+        readings: &[4, 8, 15, 16, 23, 42],
+    },
+    Source {
+        text: NEIGHBOURS,
+        readings: &[1, 65535, 4, 8, 20, 9],
+    },
+];

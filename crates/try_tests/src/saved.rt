@@ -1,0 +1,217 @@
+//! States that are saved behind each of the first steps of a run, and resumed: both reports together, beside what a board that isn't cut tells of
+//! the readings that were committed.
+use crate::meaning::{field, lines_of, number_in, push_committed, same_line, span};
+use crate::program::{Answer, run, trace};
+use crate::sources::{SAVED, Source};
+use std::alloc::Global;
+use std::process::Abort;
+use std::test::Fail;
+
+/// One charge, long enough for all readings.
+const LONG: &str = "c 1000000 0\n";
+
+/// The readings of the run that goes on.
+const LATER: [u16; 3] = [2, 65535, 40];
+
+/// The reports of a run and of the one that goes on from what was saved of it, line by line, without bound and end; and how many words the
+/// first one's receiver accepted.
+#[derive(Drop)]
+struct Reports<'r> {
+    first: Vec<&'r [u8]>,
+    sent: u64,
+    later: Vec<&'r [u8]>,
+}
+
+// The lines of a report between its bound and its end.
+fn told(alloc: Global, report: &[u8]) -> Result<Vec<&[u8]>, Fail> {
+    let lines = lines_of(alloc, report)?;
+    let inner = lines.len().saturating_sub(2);
+    let mut told = Vec::new(alloc);
+    for line in lines.iter().skip(1).take(inner) {
+        told.push(*line)?;
+    }
+    Ok(told)
+}
+
+fn is_of_kind(line: &[u8], kind: &[u8]) -> bool {
+    field(line, 0) == Some(kind)
+}
+
+// How many of these lines are of a kind.
+fn count(lines: &[&[u8]], kind: &[u8]) -> usize {
+    lines.iter().filter(|line| is_of_kind(line, kind)).count()
+}
+
+// How many lines the first transition has.
+fn first_transition(lines: &[&[u8]]) -> usize {
+    let mut n: usize = 0;
+    for line in lines {
+        if n > 0 && span(line).is_some() {
+            return n;
+        }
+        n = n.saturating_add(1);
+    }
+    n
+}
+
+// Whether the first transition took no reading; of a source each of whose tasks takes one, this is a commit that was pending.
+fn begins_pending(lines: &[&[u8]]) -> bool {
+    match lines.first() {
+        Some(line) => match span(line) {
+            Some((from, to)) => from == to,
+            None => false,
+        },
+        None => false,
+    }
+}
+
+// Whether the words of a commit that was pending are those of a transition without so many at their front.
+fn sends_the_rest(lines: &[&[u8]], wanted: &[&[u8]], sent: usize) -> bool {
+    let words = lines.iter().filter(|line| is_of_kind(line, b"o"));
+    let mut all = wanted.iter().filter(|line| is_of_kind(line, b"o")).skip(sent);
+    for word in words {
+        if all.next() != Some(word) {
+            return false;
+        }
+    }
+    all.next().is_none()
+}
+
+// Whether its changes are some of those of a transition, in order.
+fn changes_some(lines: &[&[u8]], wanted: &[&[u8]]) -> bool {
+    let mut all = wanted.iter().filter(|line| is_of_kind(line, b"v"));
+    for line in lines {
+        if is_of_kind(line, b"v") && !all.any(|other| other == line) {
+            return false;
+        }
+    }
+    true
+}
+
+// Whether these are the lines of a commit that was pending, whose transition is told so, and so many of whose words were accepted before.
+fn finishes(lines: &[&[u8]], wanted: &[&[u8]], sent: usize) -> bool {
+    let (Some(line), Some(other)) = (lines.first(), wanted.first()) else {
+        return false;
+    };
+    field(line, 2) == field(other, 2)
+        && field(line, 3) == field(other, 3)
+        && sends_the_rest(lines, wanted, sent)
+        && changes_some(lines, wanted)
+}
+
+// Whether lines behind so many transitions are told so.
+fn are_same(lines: &[&[u8]], wanted: &[&[u8]], before: usize) -> bool {
+    lines.len() == wanted.len()
+        && lines.iter().zip(wanted.iter()).all(
+            |pair| same_line(pair.0, pair.1, before as u64),
+        )
+}
+
+// Whether both reports together are this one.
+fn are_together(reports: &Reports<'_>, whole: &[&[u8]]) -> bool {
+    let first = reports.first.as_slice();
+    let later = reports.later.as_slice();
+    let before = count(first, b"t");
+    let sent = (reports.sent as usize).saturating_sub(count(first, b"o"));
+    let (front, behind) = whole.split_at(first.len().min(whole.len()));
+    if !are_same(first, front, 0) {
+        return false;
+    }
+    if !begins_pending(later) {
+        return sent == 0 && are_same(later, behind, before);
+    }
+    let (pending, more) = later.split_at(first_transition(later).min(later.len()));
+    let (wanted, rest) = behind.split_at(first_transition(behind).min(behind.len()));
+    finishes(pending, wanted, sent) && are_same(more, rest, before)
+}
+
+// A trace of one charge, with the readings that both runs committed. What a commit that was pending took, the report of the source's run that isn't cut
+// tells, which is the first report and more.
+fn committed(
+    alloc: Global,
+    source: &Source,
+    reports: &Reports<'_>,
+    uncut: &[&[u8]],
+) -> Result<Vec<u8>, Fail> {
+    let mut text = format!(in alloc; "{LONG}r")?.as_bytes().to_vec(alloc)?;
+    push_committed(alloc, &mut text, &reports.first, source.readings)?;
+    if begins_pending(&reports.later) {
+        if let Some(line) = uncut.get(reports.first.len()) {
+            push_committed(alloc, &mut text, &[*line], source.readings)?;
+        }
+    }
+    push_committed(alloc, &mut text, &reports.later, &LATER)?;
+    text.push(b'\n')?;
+    Ok(text)
+}
+
+// The run of an image on a trace.
+fn runs(alloc: Global, image: &[u8], trace: &[u8]) -> Result<Answer, Fail> {
+    run(alloc, &["run", "i", "t"], &[("i", image), ("t", trace)])
+}
+
+// Behind so many steps: what is saved is resumed, and both reports together are what a board that isn't cut tells. Whether a commit was pending.
+fn goes_on(
+    rt: &impl Abort,
+    alloc: Global,
+    source: &Source,
+    image: &[u8],
+    uncut: &[&[u8]],
+    steps: u32,
+) -> Result<bool, Fail> {
+    let fill = if steps % 2 == 0 { 0 } else { 65535 };
+    let cut = trace(alloc, &format!(in alloc; "s {steps} {fill}\n")?, source.readings)?;
+    let first = runs(alloc, image, cut.as_bytes())?;
+    let saved = run(
+        alloc,
+        &["save", "i", "t", "s"],
+        &[("i", image), ("t", cut.as_bytes())],
+    )?;
+    assert_eq!(rt; saved.status.code(), 0);
+    let more = trace(alloc, LONG, &LATER)?;
+    let later = run(
+        alloc,
+        &["resume", "i", "s", "t"],
+        &[("i", image), ("s", saved.last.as_slice()), ("t", more.as_bytes())],
+    )?;
+    assert_eq!(rt; later.status.code(), 0);
+    let reports = Reports {
+        first: told(alloc, &first.out)?,
+        sent: number_in(&saved.out, 3).unwrap_or(0),
+        later: told(alloc, &later.out)?,
+    };
+    let whole = runs(alloc, image, &committed(alloc, source, &reports, uncut)?)?;
+    assert!(rt; are_together(&reports, &told(alloc, &whole.out)?));
+    Ok(begins_pending(&reports.later))
+}
+
+// Behind each of the first 400 steps, of which some leave a commit pending.
+fn keeps_saved(rt: &impl Abort, alloc: Global, source: &Source) -> Result<(), Fail> {
+    let built = run(alloc, &["build", "s", "i"], &[("s", source.text.as_bytes())])?;
+    let long = runs(alloc, &built.last, trace(alloc, LONG, source.readings)?.as_bytes())?;
+    let uncut = told(alloc, &long.out)?;
+    let mut pending: u32 = 0;
+    for steps in 0..=400 {
+        if goes_on(rt, alloc, source, &built.last, &uncut, steps)? {
+            pending = pending.saturating_add(1);
+        }
+    }
+    assert!(rt; pending > 0 && pending < 400);
+    Ok(())
+}
+
+// A test each, as each has a minute.
+#[test]
+fn arrays_saved_after_each_of_400_steps(rt: HostRuntime) -> Result<(), Fail> {
+    keeps_saved(&rt, rt.alloc(), &SAVED[0])
+}
+
+#[test]
+fn scalars_in_place_saved_after_each_of_400_steps(rt: HostRuntime) -> Result<(), Fail> {
+    keeps_saved(&rt, rt.alloc(), &SAVED[1])
+}
+
+#[test]
+fn neighbours_and_sends_saved_after_each_of_400_steps(rt: HostRuntime) -> Result<(), Fail> {
+    keeps_saved(&rt, rt.alloc(), &SAVED[2])
+}
