@@ -9,3 +9,4 @@ mod Ends
 mod Rows
 mod States
 mod Migrated
+mod Suited

@@ -2,7 +2,6 @@
 use Rattle.std.proofs.Common.{◌≡◌, ◌⊎◌, inl, inr, ℕ, ◌+◌, ◌*◌, ◌%◌, ◌<◌, ◌≤◌, ◌==◌, ◌||◌, if◌then◌else◌, Bool, true, false, List, length, map, Option, Some, None}
 use Rattle.std.proofs.Common.{refl, sym, ap, ap₂, ◌∙◌, subst, arith}
 use Rattle.std.specs.Prelude.{unwrap_or, IfSome}
-use Rattle.std.specs.Str.{bytes_eq}
 use Rattle.std.proofs.lemmas.List.{length-map}
 use Rattle.std.proofs.lemmas.Bool.{eqb-true, eq-eqb, ne_eqb}
 use Rattle.fram_state.specs.state_text.declared.state.State.{State}
@@ -169,8 +168,8 @@ module _ (text : List ℕ) (p : CheckedProgram) (allow : Allow) (image : ImageVa
   is_task : task < length p.tasks
   is_task =
       let below : task < 0 + length (task_names text p) =
-      position_below (λ n. bytes_eq n (spelled old.text g.migrates.can.task.name)) (task_names text p) 0 task g.migrates.can.goes_on.named in
-      let count : length (task_names text p) ≡ length p.tasks = length-map p.tasks (λ t. spelled text t.name) in
+      position_below _ (task_names text p) 0 task g.migrates.can.goes_on.named in
+      let count : length (task_names text p) ≡ length p.tasks = length-map p.tasks _ in
       omega (arith, below, count)
 
   module _ (accepted : List ℕ) (count : MayHaveAccepted t accepted) where

@@ -2,6 +2,7 @@
 use Rattle.std.specs.Prelude.{◌≡◌, ℕ, ◌<◌, ◌≤◌, List, length, All, Some, IfSome}
 use Rattle.fram_state.specs.state_text.declared.state.State.{State}
 use Rattle.fram_state.specs.Belongs.{Belongs}
+use Rattle.fram_state.specs.Suits.{Suits}
 use Rattle.fram_state.specs.Migrated.{EditionValue, edition_with, rows_of, IsStateOf, IsMigrated}
 use Rattle.link_image.specs.image_map.MapValue.{MapValue}
 use Rattle.link_image.specs.image_map.Kept.{IsMap}
@@ -59,6 +60,10 @@ abbrev pub StatesStay : Type 0
 StatesStay = (text : List ℕ) (image : ImageValue) → IsImageOf text image → (s : State) → HasFramWords s → Belongs image s → (trace : TraceValue)
     → IsTraceOfWords trace → (r : RunOutcome) → Run (charges_of trace.charges) (board_of s trace.readings) r
     → LeavesItsStates image s (board_of s trace.readings) r
+
+-- the image suits its source
+abbrev pub ImagesSuitTheirSources : Type 0
+ImagesSuitTheirSources = OfImages (λ text p allow image c. Suits text p image)
 
 -- A state rests in place of an old one: whatever source the old one is of, and whatever accepted source's edition, with its image, it was migrated
 -- to, the new one belongs to that image, and rests at the state of that source whose shared words are those that are kept of the old state, or

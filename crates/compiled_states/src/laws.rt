@@ -1,6 +1,6 @@
 //! Laws of the states of images of accepted sources. The functions do nothing: their contracts are the laws.
 
-ghost use Rattle.compiled_states.specs.Laws.{FreshStatesBelong, MigratedStatesBelong, StatesAreTold, StatesAreWorlds, StatesGoOn, StatesStay, WorldsAreStates};
+ghost use Rattle.compiled_states.specs.Laws.{FreshStatesBelong, ImagesSuitTheirSources, MigratedStatesBelong, StatesAreTold, StatesAreWorlds, StatesGoOn, StatesStay, WorldsAreStates};
 
 /// A state that belongs to the image of an accepted source, by the image's map and words alone, is one of the source's worlds: the code is the
 /// image's, the counts keep to the capacities, and it is at rest, or its pending commit can be made.
@@ -33,6 +33,11 @@ pub fn states_are_told()
 /// What is saved of each board of such a run, and at its end, belongs to the image.
 pub fn states_stay()
     ensures { StatesStay }
+{}
+
+/// The image of an accepted source has the lines that the source gives, so that a migration takes the two together.
+pub fn images_suit_their_sources()
+    ensures { ImagesSuitTheirSources }
 {}
 
 /// What a migration makes of a state belongs to the new image, where that is one of an accepted source, and rests at the state of this source

@@ -5,6 +5,6 @@
 mod laws;
 
 pub use laws::{
-    fresh_states_belong, migrated_states_belong, states_are_told, states_are_worlds, states_go_on,
-    states_stay, worlds_are_states,
+    fresh_states_belong, images_suit_their_sources, migrated_states_belong, states_are_told,
+    states_are_worlds, states_go_on, states_stay, worlds_are_states,
 };
