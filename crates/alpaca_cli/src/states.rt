@@ -15,9 +15,7 @@ ghost use Rattle.alpaca_cli.specs.Saved.{StaysWithItsImage, from_state};
 ghost use Rattle.alpaca_cli.specs.Texts.{RefusesState, FailsRefused};
 
 use crate::failure::{Failure, refused_plainly};
-use compiled_states::{
-    fresh_states_belong, migrated_states_belong, states_are_told, states_stay,
-};
+use compiled_states::{fresh_states_belong, migrated_states_belong, states_are_told, states_stay};
 use energy_trace::Trace;
 use image_text::{Image, ImageFault};
 use state_text::{State, parse_state};

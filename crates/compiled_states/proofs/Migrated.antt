@@ -1,5 +1,5 @@
 -- What a migration makes of an old state belongs to the new image, and rests at the state that the old words make.
-use Rattle.std.proofs.Common.{◌≡◌, ◌⊎◌, inl, inr, ℕ, ◌+◌, ◌*◌, ◌%◌, ◌<◌, ◌≤◌, ◌==◌, ◌||◌, if◌then◌else◌, Bool, true, false, List, length, map, Option, Some, None}
+use Rattle.std.proofs.Common.{◌≡◌, ◌⊎◌, inl, inr, ℕ, ◌+◌, ◌*◌, ◌%◌, ◌<◌, ◌≤◌, ◌==◌, ◌||◌, if◌then◌else◌, true, false, List, [], length, map, Option, Some}
 use Rattle.std.proofs.Common.{refl, sym, ap, ap₂, ◌∙◌, subst, arith}
 use Rattle.std.specs.Prelude.{unwrap_or, IfSome}
 use Rattle.std.proofs.lemmas.List.{length-map}
@@ -9,12 +9,10 @@ use Rattle.fram_state.specs.Named.{is_shared}
 use Rattle.fram_state.specs.Runtime.{word_in, runtime_of}
 use Rattle.fram_state.specs.Sound.{is_pending}
 use Rattle.fram_state.specs.Sound as state
-use Rattle.fram_state.specs.Belongs.{Belongs}
 use Rattle.fram_state.specs.Kept.{task_names}
-use Rattle.fram_state.specs.Migrated.{EditionValue, edition_with, row_of, rows_of, shared_word, migrated_word, next_edition_of, IsStateOf, IsPendingAt, IsMigrated}
+use Rattle.fram_state.specs.Migrated.{EditionValue, edition_with, row_of, rows_of, shared_word, IsStateOf, IsPendingAt, IsMigrated}
 use Rattle.fram_state.specs.Editions.{IsEdition}
 use Rattle.fram_state.proofs.Interface.{edition_of_state, row_length}
-use Rattle.layout_facts.specs.task_ast.declared.SharedDeclaration.{SharedDeclaration}
 use Rattle.layout_facts.specs.memory_map.declared.words.RuntimeWord.{RuntimeWord}
 use Rattle.layout_facts.specs.memory_map.declared.words.RuntimeWord.TheVariants.{CurrentTask, Gate, ListLength, EmitCount, Base, Version}
 use Rattle.layout_facts.specs.memory_map.MemoryMap.{MemoryMap, word_place}

@@ -37,7 +37,9 @@ pub fn run(alloc: Global, words: &[&str], files: &[(&str, &[u8])]) -> Result<Ans
     let mut out = MemSink::new(alloc, ROOM, Vec::new(alloc))?;
     let mut err = MemSink::new(alloc, ROOM, Vec::new(alloc))?;
     let status = alpaca(alloc, &line, &mut shelf, &mut out, &mut err);
-    let last = shelf.file(words.last().copied().unwrap_or("")).unwrap_or(b"");
+    let last = shelf
+        .file(words.last().copied().unwrap_or(""))
+        .unwrap_or(b"");
     Ok(Answer {
         status,
         out: out.bytes().to_vec(alloc)?,

@@ -68,7 +68,10 @@ fn begins_pending(lines: &[&[u8]]) -> bool {
 // Whether the words of a commit that was pending are those of a transition without so many at their front.
 fn sends_the_rest(lines: &[&[u8]], wanted: &[&[u8]], sent: usize) -> bool {
     let words = lines.iter().filter(|line| is_of_kind(line, b"o"));
-    let mut all = wanted.iter().filter(|line| is_of_kind(line, b"o")).skip(sent);
+    let mut all = wanted
+        .iter()
+        .filter(|line| is_of_kind(line, b"o"))
+        .skip(sent);
     for word in words {
         if all.next() != Some(word) {
             return false;
@@ -102,9 +105,10 @@ fn finishes(lines: &[&[u8]], wanted: &[&[u8]], sent: usize) -> bool {
 // Whether lines behind so many transitions are told so.
 fn are_same(lines: &[&[u8]], wanted: &[&[u8]], before: usize) -> bool {
     lines.len() == wanted.len()
-        && lines.iter().zip(wanted.iter()).all(
-            |pair| same_line(pair.0, pair.1, before as u64),
-        )
+        && lines
+            .iter()
+            .zip(wanted.iter())
+            .all(|pair| same_line(pair.0, pair.1, before as u64))
 }
 
 // Whether both reports together are this one.
@@ -160,7 +164,11 @@ fn goes_on(
     steps: u32,
 ) -> Result<bool, Fail> {
     let fill = if steps % 2 == 0 { 0 } else { 65535 };
-    let cut = trace(alloc, &format!(in alloc; "s {steps} {fill}\n")?, source.readings)?;
+    let cut = trace(
+        alloc,
+        &format!(in alloc; "s {steps} {fill}\n")?,
+        source.readings,
+    )?;
     let first = runs(alloc, image, cut.as_bytes())?;
     let saved = run(
         alloc,
@@ -172,7 +180,11 @@ fn goes_on(
     let later = run(
         alloc,
         &["resume", "i", "s", "t"],
-        &[("i", image), ("s", saved.last.as_slice()), ("t", more.as_bytes())],
+        &[
+            ("i", image),
+            ("s", saved.last.as_slice()),
+            ("t", more.as_bytes()),
+        ],
     )?;
     assert_eq!(rt; later.status.code(), 0);
     let reports = Reports {
@@ -187,8 +199,16 @@ fn goes_on(
 
 // Behind each of the first 400 steps, of which some leave a commit pending.
 fn keeps_saved(rt: &impl Abort, alloc: Global, source: &Source) -> Result<(), Fail> {
-    let built = run(alloc, &["build", "s", "i"], &[("s", source.text.as_bytes())])?;
-    let long = runs(alloc, &built.last, trace(alloc, LONG, source.readings)?.as_bytes())?;
+    let built = run(
+        alloc,
+        &["build", "s", "i"],
+        &[("s", source.text.as_bytes())],
+    )?;
+    let long = runs(
+        alloc,
+        &built.last,
+        trace(alloc, LONG, source.readings)?.as_bytes(),
+    )?;
     let uncut = told(alloc, &long.out)?;
     let mut pending: u32 = 0;
     for steps in 0..=400 {
