@@ -7,7 +7,7 @@ ghost use Rattle.fram_board.specs.Run.{RunOutcome, Run};
 ghost use Rattle.board_run.specs.Charges.{charges_of};
 ghost use Rattle.board_run.specs.History.{start_of};
 ghost use Rattle.board_run.specs.Report.{report_of};
-ghost use Rattle.source_runs.specs.Traces.{IsTraceOfWords};
+ghost use Rattle.compiled_states.specs.source_runs.Traces.{IsTraceOfWords};
 ghost use Rattle.compiled_states.specs.Laws.{RestsInPlaceOf};
 ghost use Rattle.compiled_states.specs.Worlds.{HasFramWords};
 ghost use Rattle.alpaca_cli.specs.Resumed.{IsOfItsSource};

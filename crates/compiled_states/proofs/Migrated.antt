@@ -13,26 +13,26 @@ use Rattle.fram_state.specs.Kept.{task_names}
 use Rattle.fram_state.specs.Migrated.{EditionValue, edition_with, row_of, rows_of, shared_word, IsStateOf, IsPendingAt, IsMigrated}
 use Rattle.fram_state.specs.Editions.{IsEdition}
 use Rattle.fram_state.proofs.Interface.{edition_of_state, row_length}
-use Rattle.layout_facts.specs.memory_map.declared.words.RuntimeWord.{RuntimeWord}
-use Rattle.layout_facts.specs.memory_map.declared.words.RuntimeWord.TheVariants.{CurrentTask, Gate, ListLength, EmitCount, Base, Version}
-use Rattle.layout_facts.specs.memory_map.MemoryMap.{MemoryMap, word_place}
-use Rattle.layout_facts.specs.memory_map.Places.{end_of, home_region}
-use Rattle.layout_facts.specs.memory_map.Laws.{AreApart, WordStands}
-use Rattle.layout_facts.proofs.memory_map.Interface.{apart_of, even_of, words_stand}
-use Rattle.layout_facts.specs.stands_for.StandsFor.{RestsAt, IsAtRest, SoundAtRest}
-use Rattle.layout_facts.specs.compiled_model.Places.{program_places}
-use Rattle.layout_facts.specs.compiled_model.View.{row_in, state_view, state_in}
-use Rattle.link_image.specs.image_map.MapValue.{MapValue}
-use Rattle.link_image.specs.image_map.Kept.{IsMap}
-use Rattle.link_image.specs.image_text.ImageValue.{ImageValue}
-use Rattle.link_image.specs.machine_effects.Machine.{IsFram, fram_of}
-use Rattle.link_image.specs.cost_bound.declared.allowance.Allow.{Allow}
-use Rattle.link_image.specs.source_values.Runs.{CheckedProgram}
-use Rattle.link_image.specs.source_meaning.Acceptance.{IsAcceptedText}
-use Rattle.link_image.specs.source_maps.Maps.{map_of}
-use Rattle.link_image.specs.Compiled.{IsCompiled}
-use Rattle.link_image.specs.Laws.{IsFreshImage}
-use Rattle.link_image.proofs.Interface.{images_are_fresh, worlds_stand}
+use Rattle.image_reports.specs.layout_facts.memory_map.declared.words.RuntimeWord.{RuntimeWord}
+use Rattle.image_reports.specs.layout_facts.memory_map.declared.words.RuntimeWord.TheVariants.{CurrentTask, Gate, ListLength, EmitCount, Base, Version}
+use Rattle.image_reports.specs.layout_facts.memory_map.MemoryMap.{MemoryMap, word_place}
+use Rattle.image_reports.specs.layout_facts.memory_map.Places.{end_of, home_region}
+use Rattle.image_reports.specs.layout_facts.memory_map.Laws.{AreApart, WordStands}
+use Rattle.image_reports.proofs.layout_facts.memory_map.Interface.{apart_of, even_of, words_stand}
+use Rattle.image_reports.specs.layout_facts.stands_for.StandsFor.{RestsAt, IsAtRest, SoundAtRest}
+use Rattle.image_reports.specs.layout_facts.compiled_model.Places.{program_places}
+use Rattle.image_reports.specs.layout_facts.compiled_model.View.{row_in, state_view, state_in}
+use Rattle.image_reports.specs.link_image.image_map.MapValue.{MapValue}
+use Rattle.image_reports.specs.link_image.image_map.Kept.{IsMap}
+use Rattle.image_reports.specs.link_image.image_text.ImageValue.{ImageValue}
+use Rattle.image_reports.specs.link_image.machine_effects.Machine.{IsFram, fram_of}
+use Rattle.image_reports.specs.link_image.cost_bound.declared.allowance.Allow.{Allow}
+use Rattle.image_reports.specs.link_image.source_values.Runs.{CheckedProgram}
+use Rattle.image_reports.specs.link_image.source_meaning.Acceptance.{IsAcceptedText}
+use Rattle.image_reports.specs.link_image.source_maps.Maps.{map_of}
+use Rattle.image_reports.specs.link_image.Compiled.{IsCompiled}
+use Rattle.image_reports.specs.link_image.Laws.{IsFreshImage}
+use Rattle.image_reports.proofs.link_image.Interface.{images_are_fresh, worlds_stand}
 use Rattle.image_reports.specs.Resumed.{BelongsTo}
 use Rattle.image_reports.proofs.Interface.{images_belong}
 use Rattle.compiled_states.specs.Worlds.{world_of, state_with, MayHaveAccepted, HasFramWords, HasCodeWords, BelongsAt}

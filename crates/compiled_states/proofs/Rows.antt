@@ -4,16 +4,16 @@ use Rattle.std.proofs.Common.{ap, ap₂, ◌∙◌, Some, None, arith}
 use Rattle.std.specs.Prelude.{slice_index, unwrap_or}
 use Rattle.std.specs.List.{position_from}
 use Rattle.std.proofs.lemmas.Bool.{or_parts}
-use Rattle.layout_facts.specs.task_ast.declared.SharedDeclaration.{SharedDeclaration}
-use Rattle.layout_facts.specs.memory_map.declared.place.VariablePlace.{VariablePlace}
-use Rattle.layout_facts.specs.memory_map.Places.{end_of, home_region, AreInOrder}
-use Rattle.layout_facts.proofs.memory_map.Interface.{in_order_end}
-use Rattle.layout_facts.specs.stands_for.StandsFor.{words_at}
-use Rattle.layout_facts.specs.compiled_model.View.{row_in}
-use Rattle.link_image.specs.image_map.declared.parts.Variable.{Variable}
-use Rattle.link_image.specs.source_runs.Naming.{length_of}
-use Rattle.link_image.specs.source_maps.Maps.{variable_of, variables_of}
-use Rattle.link_image.specs.source_maps.Placing.{ArePlacesOf}
+use Rattle.image_reports.specs.layout_facts.task_ast.declared.SharedDeclaration.{SharedDeclaration}
+use Rattle.image_reports.specs.layout_facts.memory_map.declared.place.VariablePlace.{VariablePlace}
+use Rattle.image_reports.specs.layout_facts.memory_map.Places.{end_of, home_region, AreInOrder}
+use Rattle.image_reports.proofs.layout_facts.memory_map.Interface.{in_order_end}
+use Rattle.image_reports.specs.layout_facts.stands_for.StandsFor.{words_at}
+use Rattle.image_reports.specs.layout_facts.compiled_model.View.{row_in}
+use Rattle.image_reports.specs.link_image.image_map.declared.parts.Variable.{Variable}
+use Rattle.image_reports.specs.link_image.source_runs.Naming.{length_of}
+use Rattle.image_reports.specs.link_image.source_maps.Maps.{variable_of, variables_of}
+use Rattle.image_reports.specs.link_image.source_maps.Placing.{ArePlacesOf}
 use Rattle.fram_state.specs.Stretch.{holds}
 use Rattle.fram_state.specs.Named.{variable_words, is_shared}
 use Rattle.fram_state.specs.Migrated.{shared_word}

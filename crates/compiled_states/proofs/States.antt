@@ -9,35 +9,35 @@ use Rattle.fram_state.specs.OtherImage.{SameBut}
 use Rattle.fram_state.specs.Named.{is_named}
 use Rattle.fram_state.specs.Sound as state
 use Rattle.fram_state.specs.Belongs.{Belongs}
-use Rattle.layout_facts.specs.memory_map.declared.words.RuntimeWord.TheVariants.{Gate}
-use Rattle.layout_facts.specs.memory_map.MemoryMap.{MemoryMap, word_place}
-use Rattle.layout_facts.specs.Facts.{HasLayout}
-use Rattle.layout_facts.proofs.whole_programs.Interface.{privates_are_few}
-use Rattle.link_image.specs.image_map.MapValue.{MapValue}
-use Rattle.link_image.specs.image_text.ImageValue.{ImageValue}
-use Rattle.link_image.specs.fram_board.Board.{BoardValue}
-use Rattle.link_image.specs.fram_board.Run.{BoardCharge, Moment, RunOutcome, Run}
-use Rattle.link_image.specs.fram_board.Saved.{saved}
-use Rattle.link_image.specs.board_run.Charges.{charges_of}
-use Rattle.link_image.specs.board_run.History.{start_of}
-use Rattle.link_image.specs.board_run.Report.{report_of}
-use Rattle.link_image.specs.machine_effects.World.{World}
-use Rattle.link_image.specs.machine_effects.Machine.{IsFram, fram_of}
-use Rattle.link_image.specs.machine_effects.Runs.{last_board}
-use Rattle.link_image.specs.crash_rules.History.{first_history}
-use Rattle.link_image.specs.run_charges.Charges.{ArePowerStates}
-use Rattle.link_image.specs.run_charges.Laws.{IsRunOfWords}
-use Rattle.link_image.proofs.run_charges.Interface.{Counts, moments_count, front_moments}
-use Rattle.link_image.specs.cost_bound.declared.allowance.Allow.{Allow}
-use Rattle.link_image.specs.source_values.Runs.{CheckedProgram}
-use Rattle.link_image.specs.source_meaning.Acceptance.{IsAcceptedText}
-use Rattle.link_image.proofs.source_runs.Interface.{traces_are_few}
-use Rattle.link_image.specs.source_maps.Maps.{map_of}
-use Rattle.link_image.specs.source_maps.Laws.{IsSourceMap}
-use Rattle.link_image.specs.Compiled.{IsCompiled}
-use Rattle.link_image.specs.Laws.{IsFreshImage}
-use Rattle.link_image.proofs.Interface.{images_are_fresh}
-use Rattle.link_image.proofs.compiled_runs.Interface.{code_is_placed}
+use Rattle.image_reports.specs.layout_facts.memory_map.declared.words.RuntimeWord.TheVariants.{Gate}
+use Rattle.image_reports.specs.layout_facts.memory_map.MemoryMap.{MemoryMap, word_place}
+use Rattle.image_reports.specs.layout_facts.Facts.{HasLayout}
+use Rattle.image_reports.proofs.layout_facts.whole_programs.Interface.{privates_are_few}
+use Rattle.image_reports.specs.link_image.image_map.MapValue.{MapValue}
+use Rattle.image_reports.specs.link_image.image_text.ImageValue.{ImageValue}
+use Rattle.image_reports.specs.link_image.fram_board.Board.{BoardValue}
+use Rattle.image_reports.specs.link_image.fram_board.Run.{BoardCharge, Moment, RunOutcome, Run}
+use Rattle.image_reports.specs.link_image.fram_board.Saved.{saved}
+use Rattle.image_reports.specs.link_image.board_run.Charges.{charges_of}
+use Rattle.image_reports.specs.link_image.board_run.History.{start_of}
+use Rattle.image_reports.specs.link_image.board_run.Report.{report_of}
+use Rattle.image_reports.specs.link_image.machine_effects.World.{World}
+use Rattle.image_reports.specs.link_image.machine_effects.Machine.{IsFram, fram_of}
+use Rattle.image_reports.specs.link_image.machine_effects.Runs.{last_board}
+use Rattle.image_reports.specs.link_image.crash_rules.History.{first_history}
+use Rattle.image_reports.specs.link_image.run_charges.Charges.{ArePowerStates}
+use Rattle.image_reports.specs.link_image.run_charges.Laws.{IsRunOfWords}
+use Rattle.image_reports.proofs.link_image.run_charges.Interface.{Counts, moments_count, front_moments}
+use Rattle.image_reports.specs.link_image.cost_bound.declared.allowance.Allow.{Allow}
+use Rattle.image_reports.specs.link_image.source_values.Runs.{CheckedProgram}
+use Rattle.image_reports.specs.link_image.source_meaning.Acceptance.{IsAcceptedText}
+use Rattle.image_reports.proofs.link_image.source_runs.Interface.{traces_are_few}
+use Rattle.image_reports.specs.link_image.source_maps.Maps.{map_of}
+use Rattle.image_reports.specs.link_image.source_maps.Laws.{IsSourceMap}
+use Rattle.image_reports.specs.link_image.Compiled.{IsCompiled}
+use Rattle.image_reports.specs.link_image.Laws.{IsFreshImage}
+use Rattle.image_reports.proofs.link_image.Interface.{images_are_fresh}
+use Rattle.image_reports.proofs.link_image.compiled_runs.Interface.{code_is_placed}
 use Rattle.image_reports.specs.ImageLaw.{KeepsCode}
 use Rattle.image_reports.specs.Resumed.{BelongsTo, known_from, IsToldOnward, IsResumedRun}
 use Rattle.image_reports.proofs.Interface.{made, images_belong, of_words, images_resume}

@@ -2,16 +2,16 @@
 use Rattle.std.proofs.Common.{◌≡◌, ℕ, suc, List, [], ◌∷◌, length, map, Some, refl, ap, ap₂, ◌∙◌, arith}
 use Rattle.std.specs.Prelude.{slice_get}
 use Rattle.fram_state.specs.Suits.{line_of, declared_line, planned_task, planned_tasks}
-use Rattle.layout_facts.specs.task_ast.declared.SharedDeclaration.{SharedDeclaration}
-use Rattle.layout_facts.specs.cost_bound.Allowance.{CheckedTask}
-use Rattle.layout_facts.specs.war_analysis.PlanValue.{TaskPlanValue}
-use Rattle.layout_facts.specs.memory_map.declared.place.VariablePlace.{VariablePlace}
-use Rattle.layout_facts.specs.memory_map.declared.place.PrivateScalar.{PrivateScalar}
-use Rattle.layout_facts.specs.memory_map.MemoryMap.{TaskPlace}
-use Rattle.layout_facts.specs.privatise.Layouts.{IsTaskLayout}
-use Rattle.link_image.specs.image_map.MapValue.{TaskValue}
-use Rattle.link_image.specs.source_maps.Maps.{variables_of, shared_name, task_value_of, tasks_of, map_of}
-use Rattle.link_image.specs.source_maps.Placing.{ArePlacesOf}
+use Rattle.image_reports.specs.layout_facts.task_ast.declared.SharedDeclaration.{SharedDeclaration}
+use Rattle.image_reports.specs.layout_facts.cost_bound.Allowance.{CheckedTask}
+use Rattle.image_reports.specs.layout_facts.war_analysis.PlanValue.{TaskPlanValue}
+use Rattle.image_reports.specs.layout_facts.memory_map.declared.place.VariablePlace.{VariablePlace}
+use Rattle.image_reports.specs.layout_facts.memory_map.declared.place.PrivateScalar.{PrivateScalar}
+use Rattle.image_reports.specs.layout_facts.memory_map.MemoryMap.{TaskPlace}
+use Rattle.image_reports.specs.layout_facts.privatise.Layouts.{IsTaskLayout}
+use Rattle.image_reports.specs.link_image.image_map.MapValue.{TaskValue}
+use Rattle.image_reports.specs.link_image.source_maps.Maps.{variables_of, shared_name, task_value_of, tasks_of, map_of}
+use Rattle.image_reports.specs.link_image.source_maps.Placing.{ArePlacesOf}
 use Rattle.compiled_states.specs.Laws.{ImagesSuitTheirSources}
 use Rattle.compiled_states.proofs.States.{source_map}
 

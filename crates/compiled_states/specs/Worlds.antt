@@ -2,25 +2,25 @@
 use Rattle.std.specs.Prelude.{◌≡◌, ℕ, ◌%◌, ◌<◌, ◌≤◌, List, ◌++◌, length, All}
 use Rattle.fram_state.specs.state_text.declared.state.State.{State}
 use Rattle.fram_state.specs.Belongs.{Belongs}
-use Rattle.link_image.specs.image_text.ImageValue.{ImageValue}
-use Rattle.link_image.specs.energy_trace.TraceValue.{TraceValue}
-use Rattle.link_image.specs.fram_board.Board.{BoardValue, started}
-use Rattle.link_image.specs.fram_board.Run.{Moment, RunOutcome}
-use Rattle.link_image.specs.fram_board.Saved.{saved}
-use Rattle.link_image.specs.board_run.Charges.{charges_of}
-use Rattle.link_image.specs.machine_effects.World.{World}
-use Rattle.link_image.specs.machine_effects.Machine.{IsFram, fram_of}
-use Rattle.link_image.specs.machine_effects.Runs.{last_board}
-use Rattle.link_image.specs.cost_bound.declared.allowance.Allow.{Allow}
-use Rattle.link_image.specs.source_values.Runs.{CheckedProgram}
-use Rattle.link_image.specs.source_values.Runs as runs
-use Rattle.link_image.specs.source_meaning.Acceptance.{IsAcceptedText}
-use Rattle.link_image.specs.source_maps.Maps.{map_of}
-use Rattle.link_image.specs.memory_map.MemoryMap.{MemoryMap}
-use Rattle.link_image.specs.stands_for.StandsFor.{RestsAt}
-use Rattle.link_image.specs.compiled_model.Places.{program_places}
-use Rattle.link_image.specs.compiled_model.View.{state_view, state_in}
-use Rattle.link_image.specs.Compiled.{IsCompiled}
+use Rattle.image_reports.specs.link_image.image_text.ImageValue.{ImageValue}
+use Rattle.image_reports.specs.link_image.energy_trace.TraceValue.{TraceValue}
+use Rattle.image_reports.specs.link_image.fram_board.Board.{BoardValue, started}
+use Rattle.image_reports.specs.link_image.fram_board.Run.{Moment, RunOutcome}
+use Rattle.image_reports.specs.link_image.fram_board.Saved.{saved}
+use Rattle.image_reports.specs.link_image.board_run.Charges.{charges_of}
+use Rattle.image_reports.specs.link_image.machine_effects.World.{World}
+use Rattle.image_reports.specs.link_image.machine_effects.Machine.{IsFram, fram_of}
+use Rattle.image_reports.specs.link_image.machine_effects.Runs.{last_board}
+use Rattle.image_reports.specs.link_image.cost_bound.declared.allowance.Allow.{Allow}
+use Rattle.image_reports.specs.link_image.source_values.Runs.{CheckedProgram}
+use Rattle.image_reports.specs.link_image.source_values.Runs as runs
+use Rattle.image_reports.specs.link_image.source_meaning.Acceptance.{IsAcceptedText}
+use Rattle.image_reports.specs.link_image.source_maps.Maps.{map_of}
+use Rattle.image_reports.specs.link_image.memory_map.MemoryMap.{MemoryMap}
+use Rattle.image_reports.specs.link_image.stands_for.StandsFor.{RestsAt}
+use Rattle.image_reports.specs.link_image.compiled_model.Places.{program_places}
+use Rattle.image_reports.specs.link_image.compiled_model.View.{state_view, state_in}
+use Rattle.image_reports.specs.link_image.Compiled.{IsCompiled}
 use Rattle.image_reports.specs.Resumed.{IsToldOnward}
 
 -- the world of a state whose receiver accepted these words before
