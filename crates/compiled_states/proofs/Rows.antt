@@ -14,6 +14,7 @@ use Rattle.image_reports.specs.link_image.image_map.declared.parts.Variable.{Var
 use Rattle.image_reports.specs.link_image.source_runs.Naming.{length_of}
 use Rattle.image_reports.specs.link_image.source_maps.Maps.{variable_of, variables_of}
 use Rattle.image_reports.specs.link_image.source_maps.Placing.{ArePlacesOf}
+use Rattle.image_reports.proofs.link_image.Interface.{half}
 use Rattle.fram_state.specs.Stretch.{holds}
 use Rattle.fram_state.specs.Named.{variable_words, is_shared}
 use Rattle.fram_state.specs.Migrated.{shared_word}
@@ -50,9 +51,6 @@ words_are_row f (w ∷ row) (suc n) a long h =
   where
     next : (i : ℕ) → f (a + 2 + 2 * i) ≡ f (a + 2 * suc i)
     next i = let there : a + 2 + 2 * i ≡ a + 2 * suc i = omega arith in ap f there
-
-half : (a i : ℕ) → (a + 2 * i - a) / 2 ≡ i
-half a i = omega arith
 
 -- Where a FRAM has the words of rows, one for each declaration and of its length, at the places of the declared variables, the rows stand there.
 module _ (text : List ℕ) (row : SharedDeclaration → List ℕ) (long : (d : SharedDeclaration) → length (row d) ≡ unwrap_or (length_of d.extent) 1)

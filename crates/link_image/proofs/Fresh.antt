@@ -78,7 +78,7 @@ none_before (v ∷ vs) (row ∷ rows) from end a h l =
 holds_words : (words : List ℕ) → All (λ w. w < 0x10000) words → HoldsWords (fram_of words)
 holds_words words all a = zero_unless ((a % 2 == 0) && is_fram a) (slice_index words (place_of a)) (index_small words (place_of a) all)
 
-half : (p k : ℕ) → (p + 2 * k - p) / 2 ≡ k
+pub half : (p k : ℕ) → (p + 2 * k - p) / 2 ≡ k
 half p k = omega arith
 
 module _ (text : List ℕ) (p : CheckedProgram) (allow : Allow) (image : ImageValue) (ok : IsAcceptedText text p allow) (runs : IsRunnable p)

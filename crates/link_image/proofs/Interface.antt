@@ -2,5 +2,5 @@
 
 -- Where the world rests at a state of the source, the map finds the state's words in it; and the state that each world has.
 pub use Rattle.link_image.proofs.States.{maps_find_states, worlds_stand}
--- The world of an image before anything was done.
-pub use Rattle.link_image.proofs.Fresh.{zero_at, version, images_are_fresh}
+-- The world of an image before anything was done, and the place of a word at twice its place in bytes.
+pub use Rattle.link_image.proofs.Fresh.{zero_at, version, half, images_are_fresh}
