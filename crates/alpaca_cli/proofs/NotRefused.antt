@@ -22,10 +22,11 @@ use Rattle.fram_state.specs.Migrated.{EditionValue, edition_with, CanMigrate, Is
 use Rattle.image_text.specs.image_map.MapValue.{MapValue}
 use Rattle.alpaca_cli.specs.Migrated.{Editions, editions, AreSaid, AreAlone, AreSuited, CanBeMigrated, MigrateRefuses, migrate_refusal, old_edition, new_edition}
 use Rattle.alpaca_cli.specs.Migrated as migrated
-use Rattle.alpaca_cli.specs.Products.{SaysSource, SaysTrace, SaysImage, SaysState, SaysItsState, SaysAssembly, AreAccepted, IsRefused}
-use Rattle.alpaca_cli.specs.Products.{MeanRefuses, the_source, its_trace, RunRefuses, the_image, the_trace, SaveRefuses, the_state, the_states_trace}
-use Rattle.alpaca_cli.specs.Products.{ResumeRefuses, the_states_image, the_resumed_state, the_resumed_trace, the_other_state}
+use Rattle.alpaca_cli.specs.Products.{SaysSource, SaysTrace, SaysImage, SaysState, SaysAssembly, AreAccepted, IsRefused}
+use Rattle.alpaca_cli.specs.Products.{MeanRefuses, the_source, its_trace, RunRefuses, the_image, the_trace}
+use Rattle.alpaca_cli.specs.Resumed.{SaysItsState, ResumeRefuses, the_states_image, the_resumed_state, the_resumed_trace, the_other_state}
 use Rattle.alpaca_cli.specs.Products.{AuditRefuses, the_audits_source, the_audits_trace}
+use Rattle.alpaca_cli.specs.Saved.{SaveRefuses, the_state, the_states_trace}
 use Rattle.alpaca_cli.proofs.OneEnding.{same_value}
 
 -- no text is a source and refused as one

@@ -7,7 +7,6 @@ use Rattle.image_text.specs.ImageValue.{ImageValue}
 use Rattle.image_text.specs.Reading.{image_of}
 use Rattle.state_text.specs.declared.state.State.{State}
 use Rattle.state_text.specs.Reading.{state_of}
-use Rattle.fram_state.specs.Belongs.{IsAnswer}
 use Rattle.image_text.specs.Text.{map_part, text_of}
 use Rattle.image_reports.specs.text_parts.Printed.{printed}
 use Rattle.alp_io.specs.Report.{bound_line}
@@ -36,12 +35,12 @@ use Rattle.alpaca_cli.specs.Calls.{Call, mean, try_, build, run, asm, dis, gen, 
 use Rattle.alpaca_cli.specs.Ending.{Ending, well}
 use Rattle.alpaca_cli.specs.Generated.{generated_lines}
 use Rattle.alpaca_cli.specs.Refusals.{Refusal}
-use Rattle.alpaca_cli.specs.Resumed.{RefusesOther, Resumes}
+use Rattle.alpaca_cli.specs.Resumed.{Resumes, SaysItsState, ResumeRefuses}
 use Rattle.alpaca_cli.specs.Migrated.{Migrates, CanBeMigrated, MigrateRefuses, editions}
 use Rattle.alpaca_cli.specs.RunReport.{IsRunReport, IsTold}
 use Rattle.alpaca_cli.specs.Sources.{IsSourceText, RefusesSource}
-use Rattle.alpaca_cli.specs.Saved.{Saves}
-use Rattle.alpaca_cli.specs.Texts.{RefusesTrace, RefusesImage, RefusesState}
+use Rattle.alpaca_cli.specs.Saved.{Saves, SaveRefuses}
+use Rattle.alpaca_cli.specs.Texts.{RefusesTrace, RefusesImage}
 use Rattle.alpaca_cli.specs.Verdicts.{verdict_line, verdict_ending}
 
 -- the bytes of the file that a command puts, if it puts one; what it writes; and how it ends
@@ -178,14 +177,6 @@ SaysImage text = (value : ImageValue) × (image_of text ≡ Ok value)
 abbrev pub SaysState : List ℕ → Type 0
 SaysState text = (value : State) × (state_of text ≡ Ok value)
 
--- the texts are an image and a state that is taken with it
-pub record SaysItsState (image state : List ℕ) : Type 0 where
-  pub value : ImageValue
-  pub saved : State
-  pub image_said : image_of image ≡ Ok value
-  pub state_said : state_of state ≡ Ok saved
-  pub taken : IsAnswer value saved (Ok tt)
-
 abbrev pub SaysAssembly : List ℕ → Type 0
 SaysAssembly text = (words : List ℕ) × (assembled text ≡ Ok words)
 
@@ -214,20 +205,6 @@ pub data MeanRefuses (source trace : List ℕ) : ℕ → Refusal → Type 0 wher
 pub data RunRefuses (image trace : List ℕ) : ℕ → Refusal → Type 0 where
   the_image : (r : Refusal) → RefusesImage image r → RunRefuses image trace 0 r
   the_trace : (value : ImageValue) (r : Refusal) → image_of image ≡ Ok value → RefusesTrace trace r → RunRefuses image trace 1 r
-
--- the same of `save`, whose image may be a state
-pub data SaveRefuses (image trace : List ℕ) : ℕ → Refusal → Type 0 where
-  the_state : (r : Refusal) → RefusesState image r → SaveRefuses image trace 0 r
-  the_states_trace : (value : State) (r : Refusal) → state_of image ≡ Ok value → RefusesTrace trace r → SaveRefuses image trace 1 r
-
--- the same of `resume`, which behind all faults of the texts refuses a state that doesn't belong to the image
-pub data ResumeRefuses (image state trace : List ℕ) : ℕ → Refusal → Type 0 where
-  the_states_image : (r : Refusal) → RefusesImage image r → ResumeRefuses image state trace 0 r
-  the_resumed_state : (value : ImageValue) (r : Refusal) → image_of image ≡ Ok value → RefusesState state r → ResumeRefuses image state trace 1 r
-  the_resumed_trace : (value : ImageValue) (saved : State) (r : Refusal) → image_of image ≡ Ok value → state_of state ≡ Ok saved
-      → RefusesTrace trace r → ResumeRefuses image state trace 2 r
-  the_other_state : (value : ImageValue) (saved : State) (charges : TraceValue) (r : Refusal) → image_of image ≡ Ok value → state_of state ≡ Ok saved
-      → trace_of trace ≡ Ok charges → RefusesOther value saved r → ResumeRefuses image state trace 1 r
 
 -- the same of `audit`, which refuses no report
 pub data AuditRefuses (source trace : List ℕ) : ℕ → Refusal → Type 0 where

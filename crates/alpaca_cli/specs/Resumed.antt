@@ -18,6 +18,7 @@ use Rattle.alpaca_cli.specs.Ending.{Ending}
 use Rattle.alpaca_cli.specs.Refusals.{Detail, Refusal, name, address}
 use Rattle.alpaca_cli.specs.RunReport.{IsReportFrom}
 use Rattle.alpaca_cli.specs.Saved.{from_state}
+use Rattle.alpaca_cli.specs.Texts.{RefusesTrace, RefusesImage, RefusesState}
 
 -- What holds of a run from a state, on a trace, where the image is what the compiler makes of a source, whatever its text. The report is told by
 -- the source: from the state on, or behind the transition of the commit that is pending there; and what is saved of each of the run's
@@ -54,3 +55,20 @@ state_refusal (Unsound rule) = of_state (codes "Unsound") (name (rule_name rule)
 -- a state doesn't belong to an image, and is refused so
 abbrev pub RefusesOther : ImageValue → State → Refusal → Type 0
 RefusesOther image s r = (fault : StateFault) × IsAnswer image s (Err fault) × (r ≡ state_refusal fault)
+
+-- the texts are an image and a state that is taken with it
+pub record SaysItsState (image state : List ℕ) : Type 0 where
+  pub value : ImageValue
+  pub saved : State
+  pub image_said : image_of image ≡ Ok value
+  pub state_said : state_of state ≡ Ok saved
+  pub taken : IsAnswer value saved (Ok tt)
+
+-- the text of `resume` at this place, from 0, is the first that is refused, and so; behind all faults of the texts a state that doesn't belong to the image
+pub data ResumeRefuses (image state trace : List ℕ) : ℕ → Refusal → Type 0 where
+  the_states_image : (r : Refusal) → RefusesImage image r → ResumeRefuses image state trace 0 r
+  the_resumed_state : (value : ImageValue) (r : Refusal) → image_of image ≡ Ok value → RefusesState state r → ResumeRefuses image state trace 1 r
+  the_resumed_trace : (value : ImageValue) (saved : State) (r : Refusal) → image_of image ≡ Ok value → state_of state ≡ Ok saved
+      → RefusesTrace trace r → ResumeRefuses image state trace 2 r
+  the_other_state : (value : ImageValue) (saved : State) (charges : TraceValue) (r : Refusal) → image_of image ≡ Ok value → state_of state ≡ Ok saved
+      → trace_of trace ≡ Ok charges → RefusesOther value saved r → ResumeRefuses image state trace 1 r

@@ -20,7 +20,9 @@ use Rattle.board_run.specs.Report.{after_all, answer_of, last_line}
 use Rattle.link_image.specs.Compiled.{IsImageOf}
 use Rattle.alpaca_cli.specs.Ending.{Ending, well}
 use Rattle.alpaca_cli.specs.Generated.{reason_of}
+use Rattle.alpaca_cli.specs.Refusals.{Refusal}
 use Rattle.alpaca_cli.specs.RunReport.{ending_of}
+use Rattle.alpaca_cli.specs.Texts.{RefusesTrace, RefusesState}
 
 -- the board that goes on from a state, on the readings of a trace
 abbrev pub from_state : State → TraceValue → BoardValue
@@ -75,3 +77,8 @@ abbrev pub told_fault : RunFault → List ℕ
 told_fault (fault.Illegal pc word) = illegal_line pc word
 told_fault (fault.Bus pc address) = bus_line pc address
 told_fault fault.Write = []
+
+-- the text of `save` at this place, from 0, is the first that is refused, and so; its image may be a state
+pub data SaveRefuses (image trace : List ℕ) : ℕ → Refusal → Type 0 where
+  the_state : (r : Refusal) → RefusesState image r → SaveRefuses image trace 0 r
+  the_states_trace : (value : State) (r : Refusal) → state_of image ≡ Ok value → RefusesTrace trace r → SaveRefuses image trace 1 r

@@ -1,6 +1,6 @@
 use Rattle.std.proofs.Common.{◌∙◌, ap, refl}
 use Rattle.fram_board.specs.Board.{started}
-use Rattle.alpaca_cli.specs.Products.{the_states_image, the_resumed_state, the_resumed_trace, the_other_state}
+use Rattle.alpaca_cli.specs.Resumed.{the_states_image, the_resumed_state, the_resumed_trace, the_other_state}
 use Rattle.alpaca_cli.proofs.UnreadFiles.{handed_on}
 use Rattle.alpaca_cli.proofs.FailureLaws.{refusal_fails, report_whole, report_fails, resume_product}
 use Rattle.alpaca_cli.proofs.resume.resume_texts.Goals as goal

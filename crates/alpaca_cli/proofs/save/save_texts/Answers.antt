@@ -1,5 +1,5 @@
 use Rattle.std.proofs.Common.{◌≡◌, refl}
-use Rattle.alpaca_cli.specs.Products.{the_state, the_states_trace}
+use Rattle.alpaca_cli.specs.Saved.{the_state, the_states_trace}
 use Rattle.alpaca_cli.proofs.FailureLaws.{refusal_fails, memory_fails}
 use Rattle.alpaca_cli.proofs.PutLaws.{put_whole, put_breaks, put_fails}
 use Rattle.alpaca_cli.proofs.SaveLaws.{ends_by_itself, ran_on, saves_well, fault_whole, fault_breaks}
