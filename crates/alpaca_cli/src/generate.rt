@@ -3,6 +3,8 @@ ghost use Rattle.std.specs.Prelude.{◌≡◌, ◌<◌, ◌≤◌, ◌^◌, [], 
 ghost use Rattle.fram_board.specs.Board.{fresh};
 ghost use Rattle.board_run.specs.History.{start_of};
 ghost use Rattle.alp_io.specs.Shelf.{NeverFall};
+ghost use Rattle.image_reports.specs.task_ast.View.{program_of};
+ghost use Rattle.source_meaning.specs.Acceptance.{IsAcceptedText};
 ghost use Rattle.source_generator.specs.Source.{generated_text};
 ghost use Rattle.source_generator.specs.Trace as generator;
 ghost use Rattle.compiled_states.specs.source_runs.Traces.{IsTraceOfWords};
@@ -10,12 +12,13 @@ ghost use Rattle.alpaca_cli.specs.declared.failure.Failure.TheVariants.{Memory};
 ghost use Rattle.alpaca_cli.specs.Calls as call;
 ghost use Rattle.alpaca_cli.specs.Ending.{Ending, well};
 ghost use Rattle.alpaca_cli.specs.Generated.{RanSo};
-ghost use Rattle.alpaca_cli.specs.RunReport.{IsRunReport};
+ghost use Rattle.alpaca_cli.specs.Products.{IsBuilt};
+ghost use Rattle.alpaca_cli.specs.RunReport.{IsRunReport, IsToldOnTraces};
 ghost use Rattle.alpaca_cli.specs.Answers.{CommandAnswers, IsWhole, TextAnswers};
 ghost use Rattle.alpaca_cli.specs.Outcomes.{FailsBy};
 
 use crate::answers::answer_failure;
-use crate::built::built_of;
+use crate::built::{Built, built_of};
 use crate::failure::Failure;
 use crate::gen_lines::write_lines;
 use crate::puts::put_file;
@@ -27,6 +30,7 @@ use energy_trace::Trace;
 use fram_board::Board;
 use image_text::Image;
 use source_generator::{generated_source, generated_trace};
+use source_meaning::Accepted;
 use std::alloc::{AllocError, Global};
 
 // The trace of a number, for its source with this bound; `Memory` where memory was refused.
@@ -57,6 +61,52 @@ fn run_alone(image: &Image, trace: &Trace, board: &mut Board, watch: &mut Watch<
     }
 }
 
+// Puts the image of the source that is generated from the number, and writes the four lines of its run on the number's trace. All memory
+// but that of the put is taken before it.
+fn put_generated<'t, H: Shelf, O: Sink>(
+    alloc: Global,
+    words: (u32, &'t str),
+    source: &Accepted,
+    trace: &Trace,
+    built: &Built,
+    shelf: &mut H,
+    out: &mut O,
+) -> Result<(), Failure<'t>>
+    requires generated { source.now.text.items ≡ generated_text words.0 }
+    requires accepted { IsAcceptedText source.now.text.items (program_of source.now.checked.source) source.now.allow }
+    requires trace { trace.now ≡ generator.generated_trace words.0 source.now.allow.cycles }
+    requires words { IsTraceOfWords trace.now }
+    requires built { IsBuilt source.now.text.items (program_of source.now.checked.source) source.now.allow built.now.image built.now.text.items }
+    requires told { IsToldOnTraces source.now.text.items (program_of source.now.checked.source) built.now.image }
+    ensures counts { NeverFall (H.counts shelf.old) (H.counts shelf.new) }
+    ensures faults { O.faults out.old ≤ O.faults out.new }
+    ensures whole { IfOk result (λ _. IsWhole (call.gen words.entry.0 words.entry.1.now) [] well
+        (record { old = H.files shelf.old; new = H.files shelf.new; counts_old = H.counts shelf.old; counts_new = H.counts shelf.new })
+        (record { old = O.contents out.old; new = O.contents out.new; faults_old = O.faults out.old; faults_new = O.faults out.new })) }
+    ensures failure { IfErr result (λ e. FailsBy e (call.gen words.entry.0 words.entry.1.now) []
+        (record { old = H.files shelf.old; new = H.files shelf.new; counts_old = H.counts shelf.old; counts_new = H.counts shelf.new })
+        (record { old = O.contents out.old; new = O.contents out.new; faults_old = O.faults out.old; faults_new = O.faults out.new })) }
+{
+    let Ok(mut board) = Board::new(alloc, &built.image, trace.readings()) else {
+        return Err(Failure::Memory);
+    };
+    let Ok(mut watch) = Watch::new(alloc, &built.image) else {
+        return Err(Failure::Memory);
+    };
+    put_file(alloc, shelf, words.1, built.text.as_slice())?;
+    let end = run_alone(&built.image, trace, &mut board, &mut watch);
+    match write_lines(
+        out,
+        (words.0, source.allow().cycles),
+        end,
+        &board,
+        &watch,
+    ) {
+        Ok(()) => Ok(()),
+        Err(Failed) => Err(Failure::Write),
+    }
+}
+
 /// Puts the image of the source that is generated from the number, and writes the four lines of its run. All memory but that of the put
 /// is taken before it.
 ///
@@ -83,21 +133,9 @@ pub fn gen_texts<'t, H: Shelf, O: Sink>(
         (record { old = O.contents out.old; new = O.contents out.new; faults_old = O.faults out.old; faults_new = O.faults out.new })) }
 {
     let source = source_of(alloc, "gen", text)?;
-    let bound = source.allow().cycles;
-    let trace = trace_of_number(alloc, words.0, bound)?;
+    let trace = trace_of_number(alloc, words.0, source.allow().cycles)?;
     let built = built_of(alloc, &source)?;
-    let Ok(mut board) = Board::new(alloc, &built.image, trace.readings()) else {
-        return Err(Failure::Memory);
-    };
-    let Ok(mut watch) = Watch::new(alloc, &built.image) else {
-        return Err(Failure::Memory);
-    };
-    put_file(alloc, shelf, words.1, built.text.as_slice())?;
-    let end = run_alone(&built.image, &trace, &mut board, &mut watch);
-    match write_lines(out, (words.0, bound), end, &board, &watch) {
-        Ok(()) => Ok(()),
-        Err(Failed) => Err(Failure::Write),
-    }
+    put_generated(alloc, words, &source, &trace, &built, shelf, out)
 }
 
 fn gen_of<H: Shelf, O: Sink, E: Sink>(

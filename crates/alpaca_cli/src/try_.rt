@@ -3,12 +3,13 @@ ghost use Rattle.std.specs.Prelude.{◌≡◌, ◌<◌, ◌≤◌, ◌^◌, ◌�
 ghost use Rattle.alp_io.specs.Shelf.{NeverFall};
 ghost use Rattle.alpaca_cli.specs.Calls as call;
 ghost use Rattle.alpaca_cli.specs.Ending.{Ending, well};
-ghost use Rattle.alpaca_cli.specs.RunReport.{IsReportFrom};
+ghost use Rattle.alpaca_cli.specs.Products.{Tries};
+ghost use Rattle.alpaca_cli.specs.RunReport.{IsReportFrom, IsRunReport};
 ghost use Rattle.alpaca_cli.specs.Answers.{CommandAnswers, IsWhole, TextAnswers};
 ghost use Rattle.alpaca_cli.specs.Outcomes.{Breaks, FailsBy, Gains};
 
 use crate::answers::{answer_failure, answer_unread};
-use crate::built::built_of;
+use crate::built::{Built, built_of};
 use crate::failure::Failure;
 use crate::inputs::read_texts;
 use crate::puts::put_file;
@@ -46,6 +47,45 @@ fn write_trial<O: Sink>(
     }
 }
 
+// Puts the image of a source, and writes the report of its run on the trace. All memory but that of the put is taken before it.
+fn put_trial<'t, H: Shelf, O: Sink>(
+    alloc: Global,
+    names: (&'t str, &'t str, &'t str),
+    texts: (&[u8], &[u8]),
+    built: &Built,
+    trace: &Trace,
+    shelf: &mut H,
+    out: &mut O,
+) -> Result<(), Failure<'t>>
+    requires tries { (output : List ℕ) → IsRunReport built.now.image trace.now well output
+        → Tries texts.0.now texts.1.now built.now.text.items output }
+    requires report { (output : List ℕ) × IsRunReport built.now.image trace.now well output }
+    requires ends_well { (ending : Ending) (output : List ℕ) → IsRunReport built.now.image trace.now ending output → ending ≡ well }
+    ensures counts { NeverFall (H.counts shelf.old) (H.counts shelf.new) }
+    ensures faults { O.faults out.old ≤ O.faults out.new }
+    ensures whole { IfOk result (λ _. IsWhole (call.try_ names.entry.0.now names.entry.1.now names.entry.2.now) (texts.entry.0.now ∷ texts.entry.1.now ∷ [])
+        well
+        (record { old = H.files shelf.old; new = H.files shelf.new; counts_old = H.counts shelf.old; counts_new = H.counts shelf.new })
+        (record { old = O.contents out.old; new = O.contents out.new; faults_old = O.faults out.old; faults_new = O.faults out.new })) }
+    ensures failure { IfErr result (λ e. FailsBy e (call.try_ names.entry.0.now names.entry.1.now names.entry.2.now)
+        (texts.entry.0.now ∷ texts.entry.1.now ∷ [])
+        (record { old = H.files shelf.old; new = H.files shelf.new; counts_old = H.counts shelf.old; counts_new = H.counts shelf.new })
+        (record { old = O.contents out.old; new = O.contents out.new; faults_old = O.faults out.old; faults_new = O.faults out.new })) }
+{
+    let _ = texts;
+    let Ok(mut board) = Board::new(alloc, &built.image, trace.readings()) else {
+        return Err(Failure::Memory);
+    };
+    let Ok(mut watch) = Watch::new(alloc, &built.image) else {
+        return Err(Failure::Memory);
+    };
+    put_file(alloc, shelf, names.2, built.text.as_slice())?;
+    match write_trial(out, trace, &mut board, &mut watch) {
+        Ok(()) => Ok(()),
+        Err(Failed) => Err(Failure::Write),
+    }
+}
+
 /// Puts the image of the source, and writes the report of its run on the trace. All memory but that of the put is taken before it.
 ///
 /// # Errors
@@ -75,17 +115,7 @@ pub fn try_texts<'t, H: Shelf, O: Sink>(
     let source = source_of(alloc, names.0, texts.0)?;
     let trace = trace_of(alloc, names.1, texts.1)?;
     let built = built_of(alloc, &source)?;
-    let Ok(mut board) = Board::new(alloc, &built.image, trace.readings()) else {
-        return Err(Failure::Memory);
-    };
-    let Ok(mut watch) = Watch::new(alloc, &built.image) else {
-        return Err(Failure::Memory);
-    };
-    put_file(alloc, shelf, names.2, built.text.as_slice())?;
-    match write_trial(out, &trace, &mut board, &mut watch) {
-        Ok(()) => Ok(()),
-        Err(Failed) => Err(Failure::Write),
-    }
+    put_trial(alloc, names, texts, &built, &trace, shelf, out)
 }
 
 fn try_of<H: Shelf, O: Sink, E: Sink>(

@@ -1,38 +1,10 @@
-use Rattle.std.proofs.Common.{◌≡◌, ◌∙◌, refl, ap}
-use Rattle.alpaca_cli.proofs.PutLaws.{put_whole, put_breaks, put_fails}
-use Rattle.alpaca_cli.proofs.GenLaws.{generates, lines_of_run}
-use Rattle.alpaca_cli.proofs.UnreadFiles.{handed_on}
+use Rattle.std.proofs.Common.{◌∙◌, ap}
+use Rattle.source_generator.specs.Trace.{generated_trace}
 use Rattle.alpaca_cli.proofs.generate.gen_texts.Goals as goal
 
-pub returns-in_err-put_file-clause-failure : goal.returns-in_err-put_file-clause-failure
-returns-in_err-put_file-clause-failure g c =
-    let built = c.in_ok-built.ensures.built in
-    let told = c.in_ok-built.ensures.told built.map built.mapped _ c.in_ok-trace.ensures.words in
-    let product = generates _ _ _ _ _ _ _ _ _ c.in_ok-source.ensures.text c.requires.generated (ap (λ a. a.cycles) c.allow.ensures)
-    c.in_ok-trace.ensures.trace c.in_ok-source.ensures.accepted built c.in_ok-built.ensures.told c.in_ok-trace.ensures.words
-    (told.report.outcome, told.report.run) _ refl in
-    handed_on _ _ _ c.from_residual-in_err-put_file.ensures (put_fails _ _ _ _ _ _ _ _ refl (product, refl) refl c.in_err-put_file.ensures.failure)
+pub put_generated-requires-clause-generated : goal.put_generated-requires-clause-generated
+put_generated-requires-clause-generated g c = c.in_ok-source.ensures.text ∙ c.requires.generated
 
-pub returns-in-Ok-write_lines-clause-whole : goal.returns-in-Ok-write_lines-clause-whole
-returns-in-Ok-write_lines-clause-whole g c =
-    let ran = c.run_alone-end.ensures in
-    let built = c.in_ok-built.ensures.built in
-    let product = generates _ _ _ _ _ _ _ _ _ c.in_ok-source.ensures.text c.requires.generated (ap (λ a. a.cycles) c.allow.ensures)
-    c.in_ok-trace.ensures.trace c.in_ok-source.ensures.accepted built c.in_ok-built.ensures.told c.in_ok-trace.ensures.words (ran.outcome, ran.run) in
-    put_whole (λ output. output ≡ _) _ _ _ _ _ _ _ refl (λ output same. (product output (same ∙ lines_of_run _ _ _ _ _ _ _ ran), refl))
-    c.as_slice.ensures.value c.in_ok-put_file.ensures.put
-    (_, refl, c.in-Ok-write_lines.ensures.bytes.whole)
-
-pub returns-clause-failure : goal.returns-clause-failure
-returns-clause-failure g c =
-    let ran = c.run_alone-end.ensures in
-    let built = c.in_ok-built.ensures.built in
-    let product = generates _ _ _ _ _ _ _ _ _ c.in_ok-source.ensures.text c.requires.generated (ap (λ a. a.cycles) c.allow.ensures)
-    c.in_ok-trace.ensures.trace c.in_ok-source.ensures.accepted built c.in_ok-built.ensures.told c.in_ok-trace.ensures.words (ran.outcome, ran.run) in
-    put_breaks (λ output. output ≡ _) _ _ _ _ _ _ _ refl (λ output same. (product output (same ∙ lines_of_run _ _ _ _ _ _ _ ran), refl))
-    c.as_slice.ensures.value c.in_ok-put_file.ensures.put (_, refl, c.in-Err.ensures.bytes.part, c.in-Err.ensures.cause.failed)
-
-pub run_alone-end-requires-clause-ends_well : goal.run_alone-end-requires-clause-ends_well
-run_alone-end-requires-clause-ends_well g c =
-    let built = c.in_ok-built.ensures.built in
-    (c.in_ok-built.ensures.told built.map built.mapped _ c.in_ok-trace.ensures.words).ends_well
+pub put_generated-requires-clause-trace : goal.put_generated-requires-clause-trace
+put_generated-requires-clause-trace g c =
+    c.in_ok-trace.ensures.trace ∙ ap (λ b. generated_trace c.args.words.0 b) (ap (λ a. a.cycles) c.allow.ensures)

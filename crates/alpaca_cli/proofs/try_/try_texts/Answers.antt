@@ -1,9 +1,7 @@
-use Rattle.std.proofs.Common.{◌∙◌, ap, refl}
-use Rattle.fram_board.specs.Board.{fresh}
+use Rattle.std.proofs.Common.{refl}
 use Rattle.alpaca_cli.specs.Products.{the_source, its_trace}
 use Rattle.alpaca_cli.proofs.FailureLaws.{refusal_fails, memory_fails}
-use Rattle.alpaca_cli.proofs.PutLaws.{put_whole, put_breaks, put_fails, tries}
-use Rattle.alpaca_cli.proofs.RunLaws.{told_from}
+use Rattle.alpaca_cli.proofs.PutLaws.{tries}
 use Rattle.alpaca_cli.proofs.UnreadFiles.{handed_on}
 use Rattle.alpaca_cli.proofs.try_.try_texts.Goals as goal
 
@@ -20,35 +18,19 @@ pub returns-in_err-built-clause-failure : goal.returns-in_err-built-clause-failu
 returns-in_err-built-clause-failure g c =
     handed_on _ _ _ c.from_residual-in_err-built.ensures (memory_fails _ _ _ _ _ c.in_err-built.ensures.failure refl refl)
 
-pub returns-in_err-put_file-clause-failure : goal.returns-in_err-put_file-clause-failure
-returns-in_err-put_file-clause-failure g c =
+pub put_trial-requires-clause-tries : goal.put_trial-requires-clause-tries
+put_trial-requires-clause-tries g c =
     let built = c.in_ok-built.ensures.built in
     let told = c.in_ok-built.ensures.told built.map built.mapped _ c.in_ok-trace.ensures.words in
-    let product = tries _ _ _ _ _ _ _ _ c.in_ok-source.ensures.text c.in_ok-source.ensures.accepted c.in_ok-trace.ensures.said built told in
-    handed_on _ _ _ c.from_residual-in_err-put_file.ensures
-    (put_fails _ _ _ _ _ _ _ _ refl (product told.output told.report, refl) refl c.in_err-put_file.ensures.failure)
+    tries _ _ _ _ _ _ _ _ c.in_ok-source.ensures.text c.in_ok-source.ensures.accepted c.in_ok-trace.ensures.said built told
 
-pub returns-in-Ok-write_trial-clause-whole : goal.returns-in-Ok-write_trial-clause-whole
-returns-in-Ok-write_trial-clause-whole g c =
+pub put_trial-requires-clause-report : goal.put_trial-requires-clause-report
+put_trial-requires-clause-report g c =
     let built = c.in_ok-built.ensures.built in
     let told = c.in_ok-built.ensures.told built.map built.mapped _ c.in_ok-trace.ensures.words in
-    let product = tries _ _ _ _ _ _ _ _ c.in_ok-source.ensures.text c.in_ok-source.ensures.accepted c.in_ok-trace.ensures.said built told in
-    let is_board = c.in-Ok.ensures ∙ ap (fresh c.in_ok-built.built.image.words) c.readings.ensures.value in
-    put_whole _ _ _ _ _ _ _ _ refl (λ output report. (product output (told_from _ _ _ _ _ is_board c.in-Ok-new.ensures _ _ report), refl))
-    c.as_slice.ensures.value c.in_ok-put_file.ensures.put c.in-Ok-write_trial.ensures.whole
+    (told.output, told.report)
 
-pub returns-clause-failure : goal.returns-clause-failure
-returns-clause-failure g c =
+pub put_trial-requires-clause-ends_well : goal.put_trial-requires-clause-ends_well
+put_trial-requires-clause-ends_well g c =
     let built = c.in_ok-built.ensures.built in
-    let told = c.in_ok-built.ensures.told built.map built.mapped _ c.in_ok-trace.ensures.words in
-    let product = tries _ _ _ _ _ _ _ _ c.in_ok-source.ensures.text c.in_ok-source.ensures.accepted c.in_ok-trace.ensures.said built told in
-    let is_board = c.in-Ok.ensures ∙ ap (fresh c.in_ok-built.built.image.words) c.readings.ensures.value in
-    put_breaks _ _ _ _ _ _ _ _ refl (λ output report. (product output (told_from _ _ _ _ _ is_board c.in-Ok-new.ensures _ _ report), refl))
-    c.as_slice.ensures.value c.in_ok-put_file.ensures.put c.in-Err.ensures.failure
-
-pub write_trial-requires-clause-ends_well : goal.write_trial-requires-clause-ends_well
-write_trial-requires-clause-ends_well g c =
-    let built = c.in_ok-built.ensures.built in
-    let told = c.in_ok-built.ensures.told built.map built.mapped _ c.in_ok-trace.ensures.words in
-    let is_board = c.in-Ok.ensures ∙ ap (fresh c.in_ok-built.built.image.words) c.readings.ensures.value in
-    λ ending output report. told.ends_well ending output (told_from _ _ _ _ _ is_board c.in-Ok-new.ensures ending output report)
+    (c.in_ok-built.ensures.told built.map built.mapped _ c.in_ok-trace.ensures.words).ends_well
