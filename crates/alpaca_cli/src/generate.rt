@@ -95,13 +95,7 @@ fn put_generated<'t, H: Shelf, O: Sink>(
     };
     put_file(alloc, shelf, words.1, built.text.as_slice())?;
     let end = run_alone(&built.image, trace, &mut board, &mut watch);
-    match write_lines(
-        out,
-        (words.0, source.allow().cycles),
-        end,
-        &board,
-        &watch,
-    ) {
+    match write_lines(out, (words.0, source.allow().cycles), end, &board, &watch) {
         Ok(()) => Ok(()),
         Err(Failed) => Err(Failure::Write),
     }

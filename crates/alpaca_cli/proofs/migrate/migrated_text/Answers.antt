@@ -15,12 +15,14 @@ returns-in_err-check_suits-clause-refused c =
 pub returns-in_err-check_suits-2-clause-refused : goal.returns-in_err-check_suits-2-clause-refused
 returns-in_err-check_suits-2-clause-refused c =
     handed_on _ _ _ c.from_residual-in_err-check_suits-2.ensures
-    (fails_at _ _ _ c.args.names (editions_of c.args.texts) 4 refl (refused_new _ _ c.in_ok-said.ensures.said c.in_ok-check_suits.ensures.suits) c.in_err-check_suits-2.ensures.refused)
+    (fails_at _ _ _ c.args.names (editions_of c.args.texts) 4 refl
+    (refused_new _ _ c.in_ok-said.ensures.said c.in_ok-check_suits.ensures.suits) c.in_err-check_suits-2.ensures.refused)
 
 pub returns-in_err-check_belongs-clause-refused : goal.returns-in_err-check_belongs-clause-refused
 returns-in_err-check_belongs-clause-refused c =
     handed_on _ _ _ c.from_residual-in_err-check_belongs.ensures
-    (fails_at _ _ _ c.args.names (editions_of c.args.texts) 2 refl (refused_state _ _ c.in_ok-said.ensures.said c.in_ok-check_suits.ensures.suits c.in_ok-check_suits-2.ensures.suits)
+    (fails_at _ _ _ c.args.names (editions_of c.args.texts) 2 refl
+    (refused_state _ _ c.in_ok-said.ensures.said c.in_ok-check_suits.ensures.suits c.in_ok-check_suits-2.ensures.suits)
     c.in_err-check_belongs.ensures.refused)
 
 pub migrated_of-requires-clause-old : goal.migrated_of-requires-clause-old
@@ -30,7 +32,8 @@ migrated_of-requires-clause-old c =
 pub returns-in_err-state-clause-refused : goal.returns-in_err-state-clause-refused
 returns-in_err-state-clause-refused c =
     handed_on _ _ _ c.from_residual-in_err-state.ensures
-    (fails_at _ _ _ c.args.names (editions_of c.args.texts) 2 refl (refused_migration _ _ c.in_ok-said.ensures.said c.in_ok-check_suits.ensures.suits c.in_ok-check_suits-2.ensures.suits
+    (fails_at _ _ _ c.args.names (editions_of c.args.texts) 2 refl
+    (refused_migration _ _ c.in_ok-said.ensures.said c.in_ok-check_suits.ensures.suits c.in_ok-check_suits-2.ensures.suits
     c.in_ok-check_belongs.ensures.belongs) c.in_err-state.ensures.refused)
 
 pub returns-in-Ok-clause-migrates : goal.returns-in-Ok-clause-migrates

@@ -7,7 +7,9 @@ use Rattle.alpaca_cli.proofs.migrate.said_by.Goals as goal
 
 pub returns-in_err-source-clause-refused : goal.returns-in_err-source-clause-refused
 returns-in_err-source-clause-refused c =
-    handed_on _ _ _ c.from_residual.ensures (fails_at _ _ _ c.args.names (editions_of c.args.texts) 0 refl (λ r no. the_old_source r no) c.in_err-source.ensures.refused)
+    handed_on _ _ _ c.from_residual.ensures
+    (fails_at _ _ _ c.args.names (editions_of c.args.texts) 0 refl
+    (λ r no. the_old_source r no) c.in_err-source.ensures.refused)
 
 pub returns-in_err-image-clause-refused : goal.returns-in_err-image-clause-refused
 returns-in_err-image-clause-refused c =
@@ -17,12 +19,14 @@ returns-in_err-image-clause-refused c =
 pub returns-in_err-state-clause-refused : goal.returns-in_err-state-clause-refused
 returns-in_err-state-clause-refused c =
     handed_on _ _ _ c.from_residual-in_err-state.ensures
-    (fails_at _ _ _ c.args.names (editions_of c.args.texts) 2 refl (λ r no. the_old_state _ _ r c.in_ok-source.ensures.said c.in_ok-image.ensures.said no) c.in_err-state.ensures.refused)
+    (fails_at _ _ _ c.args.names (editions_of c.args.texts) 2 refl
+    (λ r no. the_old_state _ _ r c.in_ok-source.ensures.said c.in_ok-image.ensures.said no) c.in_err-state.ensures.refused)
 
 pub returns-in_err-new_source-clause-refused : goal.returns-in_err-new_source-clause-refused
 returns-in_err-new_source-clause-refused c =
     handed_on _ _ _ c.from_residual-in_err-new_source.ensures
-    (fails_at _ _ _ c.args.names (editions_of c.args.texts) 3 refl (λ r no. the_new_source _ _ _ r c.in_ok-source.ensures.said c.in_ok-image.ensures.said c.in_ok-state.ensures.said no)
+    (fails_at _ _ _ c.args.names (editions_of c.args.texts) 3 refl
+    (λ r no. the_new_source _ _ _ r c.in_ok-source.ensures.said c.in_ok-image.ensures.said c.in_ok-state.ensures.said no)
     c.in_err-new_source.ensures.refused)
 
 pub returns-in_err-new_image-clause-refused : goal.returns-in_err-new_image-clause-refused
