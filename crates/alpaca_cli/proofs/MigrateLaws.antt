@@ -49,7 +49,7 @@ fails_at Memory name P n t place named is fails = tt
 pub fault_refuses : (e : Failure) (name : List ℕ) (t : Editions) (s : Said) (f : MigrateFault) → OfEditions s (λ a b. IsFault a b f)
     → FailsRefused name (λ r. migrate_refusal t f ≡ Some r) e
     → FailsRefused name (λ r. (x : MigrateFault) × OfEditions s (λ a b. IsFault a b x) × (migrate_refusal t x ≡ Some r)) e
-fault_refuses (Refused file r) name t s f is fails = (fails.0, f, is, fails.1)
+fault_refuses (Refused file r) name t s f is fails = (fails.0, (f, is, fails.1))
 fault_refuses (Put file) name t s f is fails = fails
 fault_refuses Write name t s f is fails = fails
 fault_refuses Memory name t s f is fails = tt
