@@ -46,7 +46,24 @@ pub fn lines_of(alloc: Global, text: &[u8]) -> Result<Vec<&[u8]>, Fail> {
     Ok(lines)
 }
 
-/// Adds the readings that these lines' transitions took to those of a trace.
+/// Adds the readings that a line's transition took, if it is one of a transition, to those of a trace.
+pub fn push_readings(
+    alloc: Global,
+    trace: &mut Vec<u8>,
+    line: &[u8],
+    readings: &[u16],
+) -> Result<(), Fail> {
+    if let Some((from, to)) = span(line) {
+        for i in from..to {
+            if let Some(reading) = readings.get(i as usize) {
+                trace.extend_from_slice(format!(in alloc; " {reading}")?.as_bytes())?;
+            }
+        }
+    }
+    Ok(())
+}
+
+/// Adds those of these lines' transitions.
 pub fn push_committed(
     alloc: Global,
     trace: &mut Vec<u8>,
@@ -54,13 +71,7 @@ pub fn push_committed(
     readings: &[u16],
 ) -> Result<(), Fail> {
     for line in lines {
-        if let Some((from, to)) = span(line) {
-            for i in from..to {
-                if let Some(reading) = readings.get(i as usize) {
-                    trace.extend_from_slice(format!(in alloc; " {reading}")?.as_bytes())?;
-                }
-            }
-        }
+        push_readings(alloc, trace, line, readings)?;
     }
     Ok(())
 }

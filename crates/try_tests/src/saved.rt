@@ -1,6 +1,8 @@
 //! States that are saved behind each of the first steps of a run, and resumed: both reports together, beside what a board that isn't cut tells of
 //! the readings that were committed.
-use crate::meaning::{field, lines_of, number_in, push_committed, same_line, span};
+use crate::meaning::{
+    field, lines_of, number_in, push_committed, push_readings, same_line, span,
+};
 use crate::program::{Answer, run, trace};
 use crate::sources::{SAVED, Source};
 use std::alloc::Global;
@@ -12,15 +14,6 @@ const LONG: &str = "c 1000000 0\n";
 
 /// The readings of the run that goes on.
 const LATER: [u16; 3] = [2, 65535, 40];
-
-/// The reports of a run and of the one that goes on from what was saved of it, line by line, without bound and end; and how many words the
-/// first one's receiver accepted.
-#[derive(Drop)]
-struct Reports<'r> {
-    first: Vec<&'r [u8]>,
-    sent: u64,
-    later: Vec<&'r [u8]>,
-}
 
 // The lines of a report between its bound and its end.
 fn told(alloc: Global, report: &[u8]) -> Result<Vec<&[u8]>, Fail> {
@@ -104,47 +97,55 @@ fn finishes(lines: &[&[u8]], wanted: &[&[u8]], sent: usize) -> bool {
 
 // Whether lines behind so many transitions are told so.
 fn are_same(lines: &[&[u8]], wanted: &[&[u8]], before: usize) -> bool {
+    for (line, other) in lines.iter().zip(wanted.iter()) {
+        if !same_line(line, other, before as u64) {
+            return false;
+        }
+    }
     lines.len() == wanted.len()
-        && lines
-            .iter()
-            .zip(wanted.iter())
-            .all(|pair| same_line(pair.0, pair.1, before as u64))
 }
 
-// Whether both reports together are this one.
-fn are_together(reports: &Reports<'_>, whole: &[&[u8]]) -> bool {
-    let first = reports.first.as_slice();
-    let later = reports.later.as_slice();
+// The first so many lines, and those behind them.
+fn cut_behind<'t, 'r>(lines: &'t [&'r [u8]], n: usize) -> (&'t [&'r [u8]], &'t [&'r [u8]]) {
+    (
+        lines.get(0..n).unwrap_or(lines),
+        lines.get(n..).unwrap_or(&[]),
+    )
+}
+
+// Whether the lines of a run, whose receiver accepted so many words, and of the one that goes on from what was saved of it are together these.
+fn are_together(first: &[&[u8]], sent: usize, later: &[&[u8]], whole: &[&[u8]]) -> bool {
     let before = count(first, b"t");
-    let sent = (reports.sent as usize).saturating_sub(count(first, b"o"));
-    let (front, behind) = whole.split_at(first.len().min(whole.len()));
+    let ahead = sent.saturating_sub(count(first, b"o"));
+    let (front, behind) = cut_behind(whole, first.len());
     if !are_same(first, front, 0) {
         return false;
     }
     if !begins_pending(later) {
-        return sent == 0 && are_same(later, behind, before);
+        return ahead == 0 && are_same(later, behind, before);
     }
-    let (pending, more) = later.split_at(first_transition(later).min(later.len()));
-    let (wanted, rest) = behind.split_at(first_transition(behind).min(behind.len()));
-    finishes(pending, wanted, sent) && are_same(more, rest, before)
+    let (pending, more) = cut_behind(later, first_transition(later));
+    let (wanted, rest) = cut_behind(behind, first_transition(behind));
+    finishes(pending, wanted, ahead) && are_same(more, rest, before)
 }
 
-// A trace of one charge, with the readings that both runs committed. What a commit that was pending took, the report of the source's run that isn't cut
-// tells, which is the first report and more.
+// A trace of one charge, with the readings that both runs committed. What a commit that was pending took, the first run tells where it isn't cut:
+// its report is the first report and more.
 fn committed(
     alloc: Global,
     source: &Source,
-    reports: &Reports<'_>,
+    first: &[&[u8]],
+    later: &[&[u8]],
     uncut: &[&[u8]],
 ) -> Result<Vec<u8>, Fail> {
     let mut text = format!(in alloc; "{LONG}r")?.as_bytes().to_vec(alloc)?;
-    push_committed(alloc, &mut text, &reports.first, source.readings)?;
-    if begins_pending(&reports.later) {
-        if let Some(line) = uncut.get(reports.first.len()) {
-            push_committed(alloc, &mut text, &[*line], source.readings)?;
+    push_committed(alloc, &mut text, first, source.readings)?;
+    if begins_pending(later) {
+        if let Some(line) = uncut.get(first.len()) {
+            push_readings(alloc, &mut text, line, source.readings)?;
         }
     }
-    push_committed(alloc, &mut text, &reports.later, &LATER)?;
+    push_committed(alloc, &mut text, later, &LATER)?;
     text.push(b'\n')?;
     Ok(text)
 }
@@ -152,6 +153,24 @@ fn committed(
 // The run of an image on a trace.
 fn runs(alloc: Global, image: &[u8], trace: &[u8]) -> Result<Answer, Fail> {
     run(alloc, &["run", "i", "t"], &[("i", image), ("t", trace)])
+}
+
+// What is saved at its end.
+fn saves(alloc: Global, image: &[u8], trace: &[u8]) -> Result<Answer, Fail> {
+    run(
+        alloc,
+        &["save", "i", "t", "s"],
+        &[("i", image), ("t", trace)],
+    )
+}
+
+// The run that goes on from a state.
+fn resumes(alloc: Global, image: &[u8], state: &[u8], trace: &[u8]) -> Result<Answer, Fail> {
+    run(
+        alloc,
+        &["resume", "i", "s", "t"],
+        &[("i", image), ("s", state), ("t", trace)],
+    )
 }
 
 // Behind so many steps: what is saved is resumed, and both reports together are what a board that isn't cut tells. Whether a commit was pending.
@@ -164,37 +183,22 @@ fn goes_on(
     steps: u32,
 ) -> Result<bool, Fail> {
     let fill = if steps % 2 == 0 { 0 } else { 65535 };
-    let cut = trace(
-        alloc,
-        &format!(in alloc; "s {steps} {fill}\n")?,
-        source.readings,
-    )?;
+    let charge = format!(in alloc; "s {steps} {fill}\n")?;
+    let cut = trace(alloc, &charge, source.readings)?;
     let first = runs(alloc, image, cut.as_bytes())?;
-    let saved = run(
-        alloc,
-        &["save", "i", "t", "s"],
-        &[("i", image), ("t", cut.as_bytes())],
-    )?;
+    let saved = saves(alloc, image, cut.as_bytes())?;
     assert_eq!(rt; saved.status.code(), 0);
     let more = trace(alloc, LONG, &LATER)?;
-    let later = run(
-        alloc,
-        &["resume", "i", "s", "t"],
-        &[
-            ("i", image),
-            ("s", saved.last.as_slice()),
-            ("t", more.as_bytes()),
-        ],
-    )?;
+    let later = resumes(alloc, image, &saved.last, more.as_bytes())?;
     assert_eq!(rt; later.status.code(), 0);
-    let reports = Reports {
-        first: told(alloc, &first.out)?,
-        sent: number_in(&saved.out, 3).unwrap_or(0),
-        later: told(alloc, &later.out)?,
-    };
-    let whole = runs(alloc, image, &committed(alloc, source, &reports, uncut)?)?;
-    assert!(rt; are_together(&reports, &told(alloc, &whole.out)?));
-    Ok(begins_pending(&reports.later))
+    let front = told(alloc, &first.out)?;
+    let sent = number_in(&saved.out, 3).unwrap_or(0) as usize;
+    let behind = told(alloc, &later.out)?;
+    let readings = committed(alloc, source, &front, &behind, uncut)?;
+    let whole = runs(alloc, image, &readings)?;
+    let wanted = told(alloc, &whole.out)?;
+    assert!(rt; are_together(&front, sent, &behind, &wanted));
+    Ok(begins_pending(&behind))
 }
 
 // Behind each of the first 400 steps, of which some leave a commit pending.
