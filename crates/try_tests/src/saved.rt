@@ -1,8 +1,6 @@
 //! States that are saved behind each of the first steps of a run, and resumed: both reports together, beside what a board that isn't cut tells of
 //! the readings that were committed.
-use crate::meaning::{
-    field, lines_of, number_in, push_committed, push_readings, same_line, span,
-};
+use crate::meaning::{field, lines_of, number_in, push_committed, push_readings, same_line, span};
 use crate::program::{Answer, run, trace};
 use crate::sources::{SAVED, Source};
 use std::alloc::Global;
@@ -105,27 +103,19 @@ fn are_same(lines: &[&[u8]], wanted: &[&[u8]], before: usize) -> bool {
     lines.len() == wanted.len()
 }
 
-// The first so many lines, and those behind them.
-fn cut_behind<'t, 'r>(lines: &'t [&'r [u8]], n: usize) -> (&'t [&'r [u8]], &'t [&'r [u8]]) {
-    (
-        lines.get(0..n).unwrap_or(lines),
-        lines.get(n..).unwrap_or(&[]),
-    )
-}
-
 // Whether the lines of a run, whose receiver accepted so many words, and of the one that goes on from what was saved of it are together these.
 fn are_together(first: &[&[u8]], sent: usize, later: &[&[u8]], whole: &[&[u8]]) -> bool {
     let before = count(first, b"t");
     let ahead = sent.saturating_sub(count(first, b"o"));
-    let (front, behind) = cut_behind(whole, first.len());
+    let (front, behind) = whole.split_at(first.len().min(whole.len()));
     if !are_same(first, front, 0) {
         return false;
     }
     if !begins_pending(later) {
         return ahead == 0 && are_same(later, behind, before);
     }
-    let (pending, more) = cut_behind(later, first_transition(later));
-    let (wanted, rest) = cut_behind(behind, first_transition(behind));
+    let (pending, more) = later.split_at(first_transition(later).min(later.len()));
+    let (wanted, rest) = behind.split_at(first_transition(behind).min(behind.len()));
     finishes(pending, wanted, ahead) && are_same(more, rest, before)
 }
 
