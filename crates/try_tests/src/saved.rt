@@ -163,6 +163,41 @@ fn resumes(alloc: Global, image: &[u8], state: &[u8], trace: &[u8]) -> Result<An
     )
 }
 
+// A run that is cut, and what was saved at its end.
+#[derive(Drop)]
+struct Cut {
+    first: Answer,
+    saved: Answer,
+}
+
+// The run of an image that is cut behind so many steps.
+fn cut_behind(alloc: Global, source: &Source, image: &[u8], steps: u32) -> Result<Cut, Fail> {
+    let fill = if steps % 2 == 0 { 0 } else { 65535 };
+    let charge = format!(in alloc; "s {steps} {fill}\n")?;
+    let cut = trace(alloc, &charge, source.readings)?;
+    let first = runs(alloc, image, cut.as_bytes())?;
+    let saved = saves(alloc, image, cut.as_bytes())?;
+    Ok(Cut { first, saved })
+}
+
+// The run that goes on from a state, on other readings.
+fn later_run(alloc: Global, image: &[u8], state: &[u8]) -> Result<Answer, Fail> {
+    let more = trace(alloc, LONG, &LATER)?;
+    resumes(alloc, image, state, more.as_bytes())
+}
+
+// The run of a board that isn't cut, on the readings that both runs committed.
+fn runs_whole(
+    alloc: Global,
+    source: &Source,
+    image: &[u8],
+    parts: (&[&[u8]], &[&[u8]]),
+    uncut: &[&[u8]],
+) -> Result<Answer, Fail> {
+    let readings = committed(alloc, source, parts.0, parts.1, uncut)?;
+    runs(alloc, image, &readings)
+}
+
 // Behind so many steps: what is saved is resumed, and both reports together are what a board that isn't cut tells. Whether a commit was pending.
 fn goes_on(
     rt: &impl Abort,
@@ -172,21 +207,15 @@ fn goes_on(
     uncut: &[&[u8]],
     steps: u32,
 ) -> Result<bool, Fail> {
-    let fill = if steps % 2 == 0 { 0 } else { 65535 };
-    let charge = format!(in alloc; "s {steps} {fill}\n")?;
-    let cut = trace(alloc, &charge, source.readings)?;
-    let first = runs(alloc, image, cut.as_bytes())?;
-    let saved = saves(alloc, image, cut.as_bytes())?;
-    assert_eq!(rt; saved.status.code(), 0);
-    let more = trace(alloc, LONG, &LATER)?;
-    let later = resumes(alloc, image, &saved.last, more.as_bytes())?;
-    assert_eq!(rt; later.status.code(), 0);
-    let front = told(alloc, &first.out)?;
-    let sent = number_in(&saved.out, 3).unwrap_or(0) as usize;
+    let cut = cut_behind(alloc, source, image, steps)?;
+    let later = later_run(alloc, image, &cut.saved.last)?;
+    let front = told(alloc, &cut.first.out)?;
     let behind = told(alloc, &later.out)?;
-    let readings = committed(alloc, source, &front, &behind, uncut)?;
-    let whole = runs(alloc, image, &readings)?;
+    let whole = runs_whole(alloc, source, image, (&front, &behind), uncut)?;
     let wanted = told(alloc, &whole.out)?;
+    let sent = number_in(&cut.saved.out, 3).unwrap_or(0) as usize;
+    assert_eq!(rt; cut.saved.status.code(), 0);
+    assert_eq!(rt; later.status.code(), 0);
     assert!(rt; are_together(&front, sent, &behind, &wanted));
     Ok(begins_pending(&behind))
 }
