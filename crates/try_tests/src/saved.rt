@@ -82,12 +82,17 @@ fn changes_some(lines: &[&[u8]], wanted: &[&[u8]]) -> bool {
     true
 }
 
+// Whether a pending commit's task is that of a transition, or the next one, where the commit has stored this already.
+fn is_task_of(line: &[u8], other: &[u8]) -> bool {
+    field(line, 2) == field(other, 2) || field(line, 2) == field(other, 3)
+}
+
 // Whether these are the lines of a commit that was pending, whose transition is told so, and so many of whose words were accepted before.
 fn finishes(lines: &[&[u8]], wanted: &[&[u8]], sent: usize) -> bool {
     let (Some(line), Some(other)) = (lines.first(), wanted.first()) else {
         return false;
     };
-    field(line, 2) == field(other, 2)
+    is_task_of(line, other)
         && field(line, 3) == field(other, 3)
         && sends_the_rest(lines, wanted, sent)
         && changes_some(lines, wanted)
@@ -103,42 +108,6 @@ fn are_same(lines: &[&[u8]], wanted: &[&[u8]], before: usize) -> bool {
     lines.len() == wanted.len()
 }
 
-// Whether a line tells of a scalar that is written in place. The attempt that was cut may have stored its new word already, so the first transition
-// behind a state tells it against the saved word.
-fn is_of_scalar_in_place(line: &[u8]) -> bool {
-    is_of_kind(line, b"v")
-        && (field(line, 1) == Some(b"last".as_slice())
-            || field(line, 1) == Some(b"twice".as_slice()))
-}
-
-// The place of the first line, from one on, that is of no scalar in place.
-fn next_compared(lines: &[&[u8]], from: usize) -> usize {
-    let mut at = from;
-    for line in lines.iter().skip(from) {
-        if !is_of_scalar_in_place(line) {
-            return at;
-        }
-        at = at.saturating_add(1);
-    }
-    at
-}
-
-// Whether the lines of a transition, but those of scalars in place, are told so behind so many transitions.
-fn is_same_transition(lines: &[&[u8]], wanted: &[&[u8]], before: usize) -> bool {
-    let mut at: usize = 0;
-    for line in lines {
-        if !is_of_scalar_in_place(line) {
-            at = next_compared(wanted, at);
-            match wanted.get(at) {
-                Some(other) if same_line(line, other, before as u64) => {}
-                _ => return false,
-            }
-            at = at.saturating_add(1);
-        }
-    }
-    next_compared(wanted, at) >= wanted.len()
-}
-
 // Whether the lines of a run, whose receiver accepted so many words, and of the one that goes on from what was saved of it are together these.
 fn are_together(first: &[&[u8]], sent: usize, later: &[&[u8]], whole: &[&[u8]]) -> bool {
     let before = count(first, b"t");
@@ -147,14 +116,12 @@ fn are_together(first: &[&[u8]], sent: usize, later: &[&[u8]], whole: &[&[u8]]) 
     if !are_same(first, front, 0) {
         return false;
     }
-    let (next, more) = later.split_at(first_transition(later).min(later.len()));
+    if !begins_pending(later) {
+        return ahead == 0 && are_same(later, behind, before);
+    }
+    let (pending, more) = later.split_at(first_transition(later).min(later.len()));
     let (wanted, rest) = behind.split_at(first_transition(behind).min(behind.len()));
-    let goes_on = if begins_pending(later) {
-        finishes(next, wanted, ahead)
-    } else {
-        ahead == 0 && is_same_transition(next, wanted, before)
-    };
-    goes_on && are_same(more, rest, before)
+    finishes(pending, wanted, ahead) && are_same(more, rest, before)
 }
 
 // A trace of one charge, with the readings that both runs committed. What a commit that was pending took, the first run tells where it isn't cut:
