@@ -7,15 +7,16 @@ use Rattle.machine_effects.specs.World.{fram_after, readings_taken}
 use Rattle.machine_effects.proofs.Interface.{fram_after-append, readings_taken-append}
 use Rattle.array_versions.specs.declared.program.ArrayPlace.{ArrayPlace}
 use Rattle.array_versions.specs.declared.program.ListPlace.{ListPlace}
-use Rattle.array_versions.specs.Operations.{is_true, compare_words}
-use Rattle.array_versions.specs.Program.{Step, Test, Program, number, load, keep, local, set_local, unary, binary, shift, element, emit_word}
+use Rattle.array_versions.specs.declared.operations.PlainOperation.{PlainOperation}
+use Rattle.array_versions.specs.Operations.{plain_word, is_true, compare_words}
+use Rattle.array_versions.specs.Program.{Step, Test, Program, number, load, keep, update, local, set_local, update_local, unary, binary, shift, element, emit_word}
 use Rattle.array_versions.specs.Program.{list_entry}
 use Rattle.array_versions.specs.Program.{versioned_read, versioned_write, sense, truth, choose, repeat, store_number, move_word, jump, holds}
 use Rattle.array_versions.specs.Program.{compares}
 use Rattle.array_versions.specs.Program.{both, either, fails, nothing, step}
 use Rattle.array_versions.specs.Behaviour.{WordState, End, GoesOn, Jumps, Short, Strays, Broken, Behaviour, behaves, goes_on, strays, broken}
 use Rattle.array_versions.specs.Behaviour.{behind_effects}
-use Rattle.array_versions.specs.Behaviour.{then_on, is_place, at_place, with_top, with_two, with_stack, pushed, stored, with_local, local_pushed}
+use Rattle.array_versions.specs.Behaviour.{then_on, is_place, at_place, with_top, with_two, with_stack, pushed, stored, with_local, local_pushed, local_updated}
 use Rattle.array_versions.specs.Behaviour.{reading_pushed, word_stored, element_pushed, word_emitted, entry_stored, ends_before, raised}
 use Rattle.array_versions.specs.Behaviour.{listed_behind, word_listed, own_element, versioned_pushed, first_stored}
 use Rattle.array_versions.specs.Behaviour.{own_stored, versioned_stored, number_pushed, way_by_top, way_by_two, turns, step_behaviour, tested}
@@ -67,6 +68,10 @@ two_by vs s next h = top_by vs s _ (λ v us. top_by us s _ (λ u rest. h u v res
 local_by : (o : Option ℕ) (s : WordState) → Good s (local_pushed o s)
 local_by None s = tt
 local_by (Some v) s = (refl, refl)
+
+updated_by : (op : PlainOperation) (n v : ℕ) (o : Option ℕ) (s : WordState) → Good s (local_updated op n v o s)
+updated_by op n v None s = tt
+updated_by op n v (Some u) s = (refl, refl)
 
 reading_by : (rs : List ℕ) (s : WordState) → s.readings ≡ rs → Good s (reading_pushed rs s)
 reading_by [] s e = sym e
@@ -197,8 +202,11 @@ mutual
   step_by (number w) s = (refl, refl)
   step_by (load a) s = guarded (is_place a) s (goes_on [] (pushed (s.fram a) s)) (refl, refl)
   step_by (keep a) s = top_by s.stack s _ (λ v vs. stored_by a v s (with_stack vs s) refl refl)
+  step_by (update op a) s = top_by s.stack s _ (λ v vs. stored_by a (plain_word op (s.fram a) v) s (with_stack vs s) refl refl)
   step_by (local n) s = local_by (s.locals n) s
   step_by (set_local n) s = top_by s.stack s _ (λ v vs. (refl, refl))
+  step_by (update_local op n) s =
+      top_by s.stack s _ (λ v vs. unstacked vs s (local_updated op n v (s.locals n) (with_stack vs s)) (updated_by op n v (s.locals n) (with_stack vs s)))
   step_by (unary op) s = top_by s.stack s _ (λ v vs. (refl, refl))
   step_by (binary op) s = two_by s.stack s _ (λ u v vs. (refl, refl))
   step_by (shift op k) s = top_by s.stack s _ (λ v vs. (refl, refl))

@@ -7,7 +7,7 @@ use Rattle.array_versions.specs.declared.operations.BinaryOperation.{BinaryOpera
 use Rattle.array_versions.specs.declared.operations.BinaryOperation.TheVariants.{Multiply}
 use Rattle.array_versions.specs.declared.operations.ShiftOperation.{ShiftOperation}
 use Rattle.array_versions.specs.declared.operations.ShiftOperation.TheVariants.{Left, Right, SignedRight}
-use Rattle.array_versions.specs.Program.{number, load, keep, local, set_local, unary, binary, shift, element, emit_word, list_entry, versioned_read}
+use Rattle.array_versions.specs.Program.{number, load, keep, update, local, set_local, update_local, unary, binary, shift, element, emit_word, list_entry, versioned_read}
 use Rattle.array_versions.specs.Program.{versioned_write, sense, truth, choose, repeat, store_number, move_word, jump, holds, compares, both, either}
 use Rattle.array_versions.specs.Program.{fails}
 use Rattle.array_versions.specs.Cost.{unary_cycles, unary_words, binary_cycles, binary_words, right_words, shift_words, cycles_of}
@@ -51,8 +51,10 @@ pub steps_keep_to_cycles : StepsKeepToCycles
 steps_keep_to_cycles (number w) = omega arith
 steps_keep_to_cycles (load a) = omega arith
 steps_keep_to_cycles (keep a) = omega arith
+steps_keep_to_cycles (update op a) = omega arith
 steps_keep_to_cycles (local n) = omega arith
 steps_keep_to_cycles (set_local n) = omega arith
+steps_keep_to_cycles (update_local op n) = omega arith
 steps_keep_to_cycles (unary o) = unary_cycles_kept o
 steps_keep_to_cycles (binary o) = binary_cycles_kept o
 steps_keep_to_cycles (shift o k) = omega arith
@@ -79,8 +81,10 @@ pub steps_keep_to_words : StepsKeepToWords
 steps_keep_to_words (number w) = omega arith
 steps_keep_to_words (load a) = omega arith
 steps_keep_to_words (keep a) = omega arith
+steps_keep_to_words (update op a) = omega arith
 steps_keep_to_words (local n) = omega arith
 steps_keep_to_words (set_local n) = omega arith
+steps_keep_to_words (update_local op n) = omega arith
 steps_keep_to_words (unary o) = unary_words_kept o
 steps_keep_to_words (binary o) = binary_words_kept o
 steps_keep_to_words (shift o k) = shift_kept (nat_le k 15) o k refl

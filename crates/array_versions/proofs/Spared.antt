@@ -4,15 +4,16 @@ use Rattle.std.proofs.Common.{◌∙◌, ne_eqb, ◌≢◌, if◌then◌else◌}
 use Rattle.machine_effects.specs.fram_board.Effects.{Store}
 use Rattle.array_versions.specs.declared.program.ArrayPlace.{ArrayPlace}
 use Rattle.array_versions.specs.declared.program.ListPlace.{ListPlace}
-use Rattle.array_versions.specs.Operations.{is_true, compare_words}
-use Rattle.array_versions.specs.Program.{Step, Test, Program, number, load, keep, local, set_local, unary, binary, shift, element, emit_word}
+use Rattle.array_versions.specs.declared.operations.PlainOperation.{PlainOperation}
+use Rattle.array_versions.specs.Operations.{plain_word, is_true, compare_words}
+use Rattle.array_versions.specs.Program.{Step, Test, Program, number, load, keep, update, local, set_local, update_local, unary, binary, shift, element, emit_word}
 use Rattle.array_versions.specs.Program.{list_entry}
 use Rattle.array_versions.specs.Program.{versioned_read, versioned_write, sense, truth, choose, repeat, store_number, move_word, jump, holds}
 use Rattle.array_versions.specs.Program.{compares}
 use Rattle.array_versions.specs.Program.{both, either, fails, nothing, step}
 use Rattle.array_versions.specs.Behaviour.{stored, behind_effects, WordState, assigned, End, GoesOn, Jumps, Short, Strays, Broken, Behaviour, behaves}
 use Rattle.array_versions.specs.Behaviour.{goes_on, strays, broken, on_end, is_place, at_place, with_top, with_stack, pushed, with_local}
-use Rattle.array_versions.specs.Behaviour.{local_pushed}
+use Rattle.array_versions.specs.Behaviour.{local_pushed, local_updated}
 use Rattle.array_versions.specs.Behaviour.{reading_pushed, entry_stored, ends_before, raised, listed_behind, own_element, first_stored, own_stored}
 use Rattle.array_versions.specs.Behaviour.{number_pushed, way_by_top, way_by_two, turns, step_behaviour, tested, behaviour}
 use Rattle.array_versions.specs.Form.{StepSpares, TestSpares, Spares}
@@ -116,6 +117,11 @@ jump_leaves n o false to s = tt
 other : (s : WordState) (m v n : ℕ) → m ≢ n → assigned s.locals m v n ≡ s.locals n
 other s m v n h = ap (λ b. if b then Some v else s.locals n) (ne_eqb n m (λ e. h (sym e)))
 
+updated_leaves : (n : ℕ) (o : Option ℕ) (op : PlainOperation) (m v : ℕ) (p : Option ℕ) (s : WordState) → m ≢ n → s.locals n ≡ o
+    → Leaves n o (local_updated op m v p s).end
+updated_leaves n o op m v None s d e = tt
+updated_leaves n o op m v (Some u) s d e = other s m (plain_word op u v) n d ∙ e
+
 turns_leave : (n : ℕ) (o : Option ℕ) (j m k : ℕ) (body : WordState → Behaviour) (s : WordState) → m ≢ n → s.locals n ≡ o
     → ((t : WordState) → t.locals n ≡ o → Leaves n o (body t).end) → Leaves n o (turns j m k body s).end
 turns_leave n o zero m k body s d e h = other s m k n d ∙ e
@@ -128,8 +134,10 @@ mutual
   step_leaves n o (number w) s h e = e
   step_leaves n o (load a) s h e = guarded n o (is_place a) (goes_on [] (pushed (s.fram a) s)) e
   step_leaves n o (keep a) s h e = top_leaves n o s.stack _ (λ v vs. guarded n o (is_place a) _ e)
+  step_leaves n o (update op a) s h e = top_leaves n o s.stack _ (λ v vs. guarded n o (is_place a) _ e)
   step_leaves n o (local m) s h e = local_leaves n o (s.locals m) s e
   step_leaves n o (set_local m) s h e = top_leaves n o s.stack _ (λ v vs. other s m v n h ∙ e)
+  step_leaves n o (update_local op m) s h e = top_leaves n o s.stack _ (λ v vs. updated_leaves n o op m v (s.locals m) (with_stack vs s) h e)
   step_leaves n o (unary op) s h e = top_leaves n o s.stack _ (λ v vs. e)
   step_leaves n o (binary op) s h e = top_leaves n o s.stack _ (λ v us. top_leaves n o us _ (λ u vs. e))
   step_leaves n o (shift op k) s h e = top_leaves n o s.stack _ (λ v vs. e)

@@ -2,7 +2,7 @@
 use Rattle.std.proofs.Common.{◌≡◌, ℕ, zero, suc, ◌+◌, ◌-◌, ◌*◌, ◌≤◌, max, Bool, true, false, if◌then◌else◌, List, [], ◌∷◌, refl, arith}
 use Rattle.array_versions.specs.declared.operations.Comparison.{Comparison}
 use Rattle.array_versions.specs.Operations.{is_true, compare_words}
-use Rattle.array_versions.specs.Program.{Step, Test, number, load, keep, local, set_local, unary, binary, shift, element, emit_word, list_entry}
+use Rattle.array_versions.specs.Program.{Step, Test, number, load, keep, update, local, set_local, update_local, unary, binary, shift, element, emit_word, list_entry}
 use Rattle.array_versions.specs.Program.{versioned_read, versioned_write, sense, truth, choose, repeat, store_number, move_word, jump, holds}
 use Rattle.array_versions.specs.Program.{compares}
 use Rattle.array_versions.specs.Program.{both, either, fails, nothing, step, joined}
@@ -65,8 +65,10 @@ mutual
   step_most (number w) s = omega arith
   step_most (load a) s = omega arith
   step_most (keep a) s = omega arith
+  step_most (update op a) s = omega arith
   step_most (local n) s = omega arith
   step_most (set_local n) s = omega arith
+  step_most (update_local op n) s = omega arith
   step_most (unary op) s = omega arith
   step_most (binary op) s = omega arith
   step_most (shift op k) s = omega arith

@@ -4,8 +4,9 @@ use Rattle.std.proofs.Common.{nat_eq, nat_lt, refl, sym, ap, ◌∙◌, subst, a
 use Rattle.machine_effects.specs.fram_board.Effects.{Store}
 use Rattle.array_versions.specs.declared.program.ArrayPlace.{ArrayPlace}
 use Rattle.array_versions.specs.declared.program.ListPlace.{ListPlace}
-use Rattle.array_versions.specs.Operations.{is_true, compare_words}
-use Rattle.array_versions.specs.Program.{Step, Test, Program, number, load, keep, local, set_local, unary, binary, shift, element, emit_word}
+use Rattle.array_versions.specs.declared.operations.PlainOperation.{PlainOperation}
+use Rattle.array_versions.specs.Operations.{plain_word, is_true, compare_words}
+use Rattle.array_versions.specs.Program.{Step, Test, Program, number, load, keep, update, local, set_local, update_local, unary, binary, shift, element, emit_word}
 use Rattle.array_versions.specs.Program.{list_entry}
 use Rattle.array_versions.specs.Program.{versioned_read, versioned_write, sense, truth, choose, repeat, store_number, move_word, jump, holds}
 use Rattle.array_versions.specs.Program.{compares}
@@ -13,7 +14,7 @@ use Rattle.array_versions.specs.Program.{both, either, fails, nothing, step}
 use Rattle.array_versions.specs.Behaviour.{stored, behind_effects, WordState, started, End, GoesOn, Jumps, Short, Strays, Broken, Behaviour, behaves}
 use Rattle.array_versions.specs.Behaviour.{goes_on}
 use Rattle.array_versions.specs.Behaviour.{strays, broken, on_end, then_on, is_place, at_place, with_top, with_two, with_stack, pushed, with_local}
-use Rattle.array_versions.specs.Behaviour.{local_pushed, reading_pushed, entry_stored, raised, ends_before, listed_behind, own_element, first_stored}
+use Rattle.array_versions.specs.Behaviour.{local_pushed, local_updated, reading_pushed, entry_stored, raised, ends_before, listed_behind, own_element, first_stored}
 use Rattle.array_versions.specs.Behaviour.{own_stored, number_pushed, way_by_top, way_by_two, turns, step_behaviour, tested, behaviour}
 use Rattle.array_versions.specs.Form.{Place, start, assigning, Moves, EachTurn, EachStepWay, EachTestWay, EachWay}
 use Rattle.array_versions.specs.Laws.{IsSound, WholeEndsSoundly}
@@ -111,6 +112,12 @@ local_well : (room : ℕ) (o : Option ℕ) (next : Place → Type 0) (q : Place)
     → GoesWell next (local_pushed o s).end
 local_well room None next q s w h m = absurd (let e = w.is in (cc))
 local_well room (Some v) next q s w h m = push_well room v next q s (pushed v s) h m refl refl
+
+-- a local that has a word has another
+updated_well : (op : PlainOperation) (n v : ℕ) (o : Option ℕ) (next : Place → Type 0) (q : Place) (s : WordState) → HasWord o → next (assigning n q)
+    → Matches q s → GoesWell next (local_updated op n v o s).end
+updated_well op n v None next q s w h m = absurd (let e = w.is in (cc))
+updated_well op n v (Some u) next q s w h m = (assigning n q, h, matches_local q s n (plain_word op u v) m)
 
 reading_well : (room : ℕ) (rs : List ℕ) (next : Place → Type 0) (q : Place) (s : WordState) → Moves room 0 1 next q → Matches q s
     → GoesWell next (reading_pushed rs s).end
@@ -233,6 +240,8 @@ mutual
       (push_well room (s.fram a) next q s (pushed (s.fram a) s) h m refl refl)
   step_well room (keep a) next q s h m =
       top_well next s.stack _ (omega (arith, h.0, m.depth)) (λ v vs e. guarded next (is_place a) _ (pop_well room next q s _ h m e refl))
+  step_well room (update op a) next q s h m =
+      top_well next s.stack _ (omega (arith, h.0, m.depth)) (λ v vs e. guarded next (is_place a) _ (pop_well room next q s _ h m e refl))
   step_well room (local n) next q s h m = local_well room (s.locals n) next q s (m.assigned n h.0) h.1 m
   step_well room (set_local n) next q s h m =
       top_well next s.stack _ (omega (arith, h.0, m.depth))
@@ -241,6 +250,12 @@ mutual
         h.2,
         matches_local (at_depth (q.depth - 1 + 0) q) (with_stack vs s) n v (matches_depth q s vs (q.depth - 1 + 0) m (omega (arith, m.depth))),
       ))
+  step_well room (update_local op n) next q s h m =
+      let f = h.1 in
+      top_well next s.stack _ (omega (arith, f.0, m.depth)) (λ v vs e.
+      let p = at_depth (q.depth - 1 + 0) q in
+      updated_well op n v (s.locals n) next p (with_stack vs s) (m.assigned n h.0) f.2
+      (matches_depth q s vs (q.depth - 1 + 0) m (omega (arith, m.depth))))
   step_well room (unary op) next q s h m = top_well next s.stack _ (omega (arith, h.0, m.depth)) (λ v vs e. turn_well room 1 next q s _ h m (omega arith) refl)
   step_well room (binary op) next q s h m = two_well next s.stack _ (omega (arith, h.0, m.depth))
       (λ u v vs e. turn_well room 2 next q s _ h m (omega arith) refl)

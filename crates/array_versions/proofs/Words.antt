@@ -13,20 +13,22 @@ use Rattle.machine_effects.specs.World.{put}
 use Rattle.array_versions.specs.declared.operations.UnaryOperation.{UnaryOperation}
 use Rattle.array_versions.specs.declared.operations.UnaryOperation.TheVariants.{Negate, Complement}
 use Rattle.array_versions.specs.declared.operations.BinaryOperation.{BinaryOperation}
-use Rattle.array_versions.specs.declared.operations.BinaryOperation.TheVariants.{Multiply, Divide, Remainder, Add, Subtract, And, Xor, Or}
+use Rattle.array_versions.specs.declared.operations.BinaryOperation.TheVariants.{Multiply, Divide, Remainder, Plain}
+use Rattle.array_versions.specs.declared.operations.PlainOperation.{PlainOperation}
+use Rattle.array_versions.specs.declared.operations.PlainOperation.TheVariants.{Add, Subtract, And, Xor, Or}
 use Rattle.array_versions.specs.declared.operations.ShiftOperation.{ShiftOperation}
 use Rattle.array_versions.specs.declared.operations.ShiftOperation.TheVariants.{Left, Right, SignedRight}
-use Rattle.array_versions.specs.Operations.{unary_word, binary_word, shifted_word, shift_word, is_true, compare_words}
+use Rattle.array_versions.specs.Operations.{unary_word, plain_word, binary_word, shifted_word, shift_word, is_true, compare_words}
 use Rattle.array_versions.specs.declared.program.ArrayPlace.{ArrayPlace}
 use Rattle.array_versions.specs.declared.program.ListPlace.{ListPlace}
-use Rattle.array_versions.specs.Program.{Step, Test, Program, number, load, keep, local, set_local, unary, binary, shift, element, emit_word}
+use Rattle.array_versions.specs.Program.{Step, Test, Program, number, load, keep, update, local, set_local, update_local, unary, binary, shift, element, emit_word}
 use Rattle.array_versions.specs.Program.{list_entry}
 use Rattle.array_versions.specs.Program.{versioned_read, versioned_write, sense, truth, choose, repeat, store_number, move_word, jump, holds}
 use Rattle.array_versions.specs.Program.{compares}
 use Rattle.array_versions.specs.Program.{both, either, fails, nothing, step}
 use Rattle.array_versions.specs.Behaviour.{WordState, End, GoesOn, Jumps, Short, Strays, Broken, Behaviour, behaves, goes_on, strays, broken, on_end}
 use Rattle.array_versions.specs.Behaviour.{is_place}
-use Rattle.array_versions.specs.Behaviour.{at_place, with_top, with_stack, pushed, stored, with_local, local_pushed, reading_pushed, entry_stored}
+use Rattle.array_versions.specs.Behaviour.{at_place, with_top, with_stack, pushed, stored, with_local, local_pushed, local_updated, reading_pushed, entry_stored}
 use Rattle.array_versions.specs.Behaviour.{ends_before, raised, listed_behind}
 use Rattle.array_versions.specs.Behaviour.{behind_effects, own_element, first_stored, own_stored, number_pushed, way_by_top, way_by_two, turns}
 use Rattle.array_versions.specs.Behaviour.{step_behaviour}
@@ -49,15 +51,18 @@ rest_small : (b : Bool) (a d : ℕ) → a < 0x10000 → (if b then a else a % d)
 rest_small true a d h = h
 rest_small false a d h = grind arith
 
+pub plain_small : (op : PlainOperation) (x y : ℕ) → x < 0x10000 → y < 0x10000 → plain_word op x y < 0x10000
+plain_small Add x y h k = omega arith
+plain_small Subtract x y h k = omega arith
+plain_small And x y h k = let l = and_le_l x y in omega arith
+plain_small Xor x y h k = xor_lt 16 x y h k
+plain_small Or x y h k = or_lt 16 x y h k
+
 pub binary_small : (op : BinaryOperation) (x y : ℕ) → x < 0x10000 → y < 0x10000 → binary_word op x y < 0x10000
 binary_small Multiply x y h k = let p = x * y in omega arith
 binary_small Divide x y h k = quotient_small (y == 0) x y h
 binary_small Remainder x y h k = rest_small (y == 0) x y h
-binary_small Add x y h k = omega arith
-binary_small Subtract x y h k = omega arith
-binary_small And x y h k = let l = and_le_l x y in omega arith
-binary_small Xor x y h k = xor_lt 16 x y h k
-binary_small Or x y h k = or_lt 16 x y h k
+binary_small (Plain op) x y h k = plain_small op x y h k
 
 small_by : (b : Bool) (y p : ℕ) → y < 0x10000 → (if b then 0xFFFF - (0xFFFF - y) / p else y / p) < 0x10000
 small_by true y p h = omega arith
@@ -123,6 +128,11 @@ pushed_words s v w h = stack_words s (v ∷ s.stack) w (h, w.stack)
 local_pushed_words : (o : Option ℕ) (s : WordState) → ((y : ℕ) → o ≡ Some y → y < 0x10000) → IsStateOfWords s → EndsInWords (local_pushed o s).end
 local_pushed_words None s h w = tt
 local_pushed_words (Some v) s h w = pushed_words s v w (h v refl)
+
+updated_words : (op : PlainOperation) (n v : ℕ) (o : Option ℕ) (s : WordState) → v < 0x10000 → ((y : ℕ) → o ≡ Some y → y < 0x10000) → IsStateOfWords s
+    → EndsInWords (local_updated op n v o s).end
+updated_words op n v None s h k w = tt
+updated_words op n v (Some u) s h k w = local_words s n (plain_word op u v) w (plain_small op u v (k u refl) h)
 
 reading_words : (rs : List ℕ) (s : WordState) → AreWords rs → IsStateOfWords s → EndsInWords (reading_pushed rs s).end
 reading_words [] s h w = tt
@@ -235,8 +245,13 @@ mutual
   step_words (load a) s h w = guarded (is_place a) _ (λ e. pushed_words s (s.fram a) w (w.fram a))
   step_words (keep a) s h w =
       top_words s.stack _ w.stack (λ v vs l m. guarded (is_place a) _ (λ e. stored_words (with_stack vs s) a v (stack_words s vs w m) l))
+  step_words (update op a) s h w =
+      top_words s.stack _ w.stack (λ v vs l m. guarded (is_place a) _ (λ e.
+      stored_words (with_stack vs s) a (plain_word op (s.fram a) v) (stack_words s vs w m) (plain_small op (s.fram a) v (w.fram a) l)))
   step_words (local n) s h w = local_pushed_words (s.locals n) s (w.locals n) w
   step_words (set_local n) s h w = top_words s.stack _ w.stack (λ v vs l m. local_words (with_stack vs s) n v (stack_words s vs w m) l)
+  step_words (update_local op n) s h w =
+      top_words s.stack _ w.stack (λ v vs l m. updated_words op n v (s.locals n) (with_stack vs s) l (w.locals n) (stack_words s vs w m))
   step_words (unary op) s h w = top_words s.stack _ w.stack (λ v vs l m. stack_words s _ w (unary_small op v l, m))
   step_words (binary op) s h w = top_words s.stack _ w.stack (λ v us l m. top_words us _ m (λ u vs k j. stack_words s _ w (binary_small op u v k l, j)))
   step_words (shift op k) s h w = top_words s.stack _ w.stack (λ v vs l m. stack_words s _ w (shift_small op v k l, m))

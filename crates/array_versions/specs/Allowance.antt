@@ -2,7 +2,7 @@
 use Rattle.std.specs.Prelude.{ℕ, ◌+◌, ◌-◌, ◌*◌, ◌≤◌, ◌==◌, if◌then◌else◌, max}
 use Rattle.array_versions.specs.declared.operations.BinaryOperation.{BinaryOperation}
 use Rattle.array_versions.specs.declared.operations.BinaryOperation.TheVariants.{Multiply, Divide, Remainder}
-use Rattle.array_versions.specs.Program.{Step, Test, number, load, keep, local, set_local, unary, binary, shift, element, emit_word, list_entry}
+use Rattle.array_versions.specs.Program.{Step, Test, number, load, keep, update, local, set_local, update_local, unary, binary, shift, element, emit_word, list_entry}
 use Rattle.array_versions.specs.Program.{versioned_read, versioned_write, sense, truth, choose, repeat, store_number, move_word, jump, holds}
 use Rattle.array_versions.specs.Program.{compares}
 use Rattle.array_versions.specs.Program.{both, either, fails}
@@ -21,8 +21,10 @@ abbrev pub allowed_cycles : Step → ℕ
 allowed_cycles (number w) = 40
 allowed_cycles (load a) = 40
 allowed_cycles (keep a) = 40
+allowed_cycles (update op a) = 40
 allowed_cycles (local n) = 40
 allowed_cycles (set_local n) = 40
+allowed_cycles (update_local op n) = 40
 allowed_cycles (unary op) = 40
 allowed_cycles (binary op) = binary_allowance op
 allowed_cycles (shift op k) = 100
@@ -48,8 +50,10 @@ abbrev pub allowed_words : Step → ℕ
 allowed_words (number w) = 16
 allowed_words (load a) = 16
 allowed_words (keep a) = 24
+allowed_words (update op a) = 24
 allowed_words (local n) = 16
 allowed_words (set_local n) = 24
+allowed_words (update_local op n) = 24
 allowed_words (unary op) = 16
 allowed_words (binary op) = 16
 allowed_words (shift op k) = 16

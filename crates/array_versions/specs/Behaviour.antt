@@ -6,9 +6,10 @@ use Rattle.machine_effects.specs.fram_board.Effects.{Effect, Store, Take}
 use Rattle.machine_effects.specs.World.{put}
 use Rattle.array_versions.specs.declared.program.ArrayPlace.{ArrayPlace}
 use Rattle.array_versions.specs.declared.program.ListPlace.{ListPlace}
+use Rattle.array_versions.specs.declared.operations.PlainOperation.{PlainOperation}
 use Rattle.array_versions.specs.declared.operations.Comparison.{Comparison}
-use Rattle.array_versions.specs.Operations.{unary_word, binary_word, shift_word, is_true, compare_words}
-use Rattle.array_versions.specs.Program.{Step, Test, Program, number, load, keep, local, set_local, unary, binary, shift, element, emit_word}
+use Rattle.array_versions.specs.Operations.{unary_word, plain_word, binary_word, shift_word, is_true, compare_words}
+use Rattle.array_versions.specs.Program.{Step, Test, Program, number, load, keep, update, local, set_local, update_local, unary, binary, shift, element, emit_word}
 use Rattle.array_versions.specs.Program.{list_entry}
 use Rattle.array_versions.specs.Program.{versioned_read, versioned_write, sense, truth, choose, repeat, store_number, move_word, jump, holds}
 use Rattle.array_versions.specs.Program.{compares}
@@ -112,6 +113,11 @@ with_local n v s = record s { locals = assigned s.locals n v }
 abbrev pub local_pushed : Option ℕ → WordState → Behaviour
 local_pushed None s = broken
 local_pushed (Some v) s = goes_on [] (pushed v s)
+
+-- assigns to a local what an operation gives of it, if it is assigned, and of a word
+abbrev pub local_updated : PlainOperation → ℕ → ℕ → Option ℕ → WordState → Behaviour
+local_updated op n v None s = broken
+local_updated op n v (Some u) s = goes_on [] (with_local n (plain_word op u v) s)
 
 -- takes the next reading and pushes it
 abbrev pub reading_pushed : List ℕ → WordState → Behaviour
@@ -227,8 +233,10 @@ abbrev mutual
   step_behaviour (number w) s = goes_on [] (pushed w s)
   step_behaviour (load a) s = at_place a (goes_on [] (pushed (s.fram a) s))
   step_behaviour (keep a) s = with_top s.stack (λ v vs. word_stored a v (with_stack vs s))
+  step_behaviour (update op a) s = with_top s.stack (λ v vs. word_stored a (plain_word op (s.fram a) v) (with_stack vs s))
   step_behaviour (local n) s = local_pushed (s.locals n) s
   step_behaviour (set_local n) s = with_top s.stack (λ v vs. goes_on [] (with_local n v (with_stack vs s)))
+  step_behaviour (update_local op n) s = with_top s.stack (λ v vs. local_updated op n v (s.locals n) (with_stack vs s))
   step_behaviour (unary op) s = with_top s.stack (λ v vs. goes_on [] (with_stack (unary_word op v ∷ vs) s))
   step_behaviour (binary op) s = with_two s.stack (λ u v vs. goes_on [] (with_stack (binary_word op u v ∷ vs) s))
   step_behaviour (shift op k) s = with_top s.stack (λ v vs. goes_on [] (with_stack (shift_word op v k ∷ vs) s))

@@ -3,12 +3,12 @@ use Rattle.std.specs.Prelude.{ℕ, zero, suc, ◌+◌, ◌-◌, ◌*◌, max, na
 use Rattle.array_versions.specs.declared.operations.UnaryOperation.{UnaryOperation}
 use Rattle.array_versions.specs.declared.operations.UnaryOperation.TheVariants.{Negate, Complement}
 use Rattle.array_versions.specs.declared.operations.BinaryOperation.{BinaryOperation}
-use Rattle.array_versions.specs.declared.operations.BinaryOperation.TheVariants.{Multiply, Divide, Remainder, Add, Subtract, And, Xor, Or}
+use Rattle.array_versions.specs.declared.operations.BinaryOperation.TheVariants.{Multiply, Divide, Remainder, Plain}
 use Rattle.array_versions.specs.declared.operations.Comparison.{Comparison}
 use Rattle.array_versions.specs.declared.operations.ShiftOperation.{ShiftOperation}
 use Rattle.array_versions.specs.declared.operations.ShiftOperation.TheVariants.{Left, Right, SignedRight}
 use Rattle.array_versions.specs.Operations.{is_true, compare_words}
-use Rattle.array_versions.specs.Program.{Step, Test, Program, number, load, keep, local, set_local, unary, binary, shift, element, emit_word}
+use Rattle.array_versions.specs.Program.{Step, Test, Program, number, load, keep, update, local, set_local, update_local, unary, binary, shift, element, emit_word}
 use Rattle.array_versions.specs.Program.{list_entry}
 use Rattle.array_versions.specs.Program.{versioned_read, versioned_write, sense, truth, choose, repeat, store_number, move_word, jump, holds}
 use Rattle.array_versions.specs.Program.{compares}
@@ -31,22 +31,14 @@ abbrev pub binary_cycles : BinaryOperation → ℕ
 binary_cycles Multiply = 152
 binary_cycles Divide = 202
 binary_cycles Remainder = 202
-binary_cycles Add = 8
-binary_cycles Subtract = 8
-binary_cycles And = 8
-binary_cycles Xor = 8
-binary_cycles Or = 8
+binary_cycles (Plain op) = 8
 
 -- its words
 abbrev pub binary_words : BinaryOperation → ℕ
 binary_words Multiply = 11
 binary_words Divide = 15
 binary_words Remainder = 15
-binary_words Add = 4
-binary_words Subtract = 4
-binary_words And = 4
-binary_words Xor = 4
-binary_words Or = 4
+binary_words (Plain op) = 4
 
 -- the words that shift a register to the right by fewer than 8 bits: behind the first bit RRA brings in 0
 abbrev pub right_words : ℕ → ℕ
@@ -69,8 +61,10 @@ abbrev mutual
   step_cycles (number w) = 4
   step_cycles (load a) = 5
   step_cycles (keep a) = 5
+  step_cycles (update op a) = 5
   step_cycles (local n) = 5
   step_cycles (set_local n) = 5
+  step_cycles (update_local op n) = 10
   step_cycles (unary op) = unary_cycles op
   step_cycles (binary op) = binary_cycles op
   step_cycles (shift op k) = 15
@@ -106,8 +100,10 @@ abbrev mutual
   step_words (number w) = 2
   step_words (load a) = 2
   step_words (keep a) = 2
+  step_words (update op a) = 2
   step_words (local n) = 2
   step_words (set_local n) = 2
+  step_words (update_local op n) = 6
   step_words (unary op) = unary_words op
   step_words (binary op) = binary_words op
   step_words (shift op k) = 2 + (if nat_le k 15 then shift_words op k else 1)
@@ -173,8 +169,10 @@ abbrev mutual
   step_spent (number w) s = step_cycles (number w)
   step_spent (load a) s = step_cycles (load a)
   step_spent (keep a) s = step_cycles (keep a)
+  step_spent (update op a) s = step_cycles (update op a)
   step_spent (local n) s = step_cycles (local n)
   step_spent (set_local n) s = step_cycles (set_local n)
+  step_spent (update_local op n) s = step_cycles (update_local op n)
   step_spent (unary op) s = step_cycles (unary op)
   step_spent (binary op) s = step_cycles (binary op)
   step_spent (shift op k) s = step_cycles (shift op k)

@@ -4,7 +4,7 @@ use Rattle.std.specs.Prelude.{ℕ, zero, suc, ◌+◌, ◌-◌, ◌*◌, ◌%◌
 use Rattle.machine_effects.specs.alp_words.Words.{IsWord}
 use Rattle.array_versions.specs.declared.program.ArrayPlace.{ArrayPlace}
 use Rattle.array_versions.specs.declared.program.ListPlace.{ListPlace}
-use Rattle.array_versions.specs.Program.{Step, Test, Program, number, load, keep, local, set_local, unary, binary, shift, element, emit_word}
+use Rattle.array_versions.specs.Program.{Step, Test, Program, number, load, keep, update, local, set_local, update_local, unary, binary, shift, element, emit_word}
 use Rattle.array_versions.specs.Program.{list_entry}
 use Rattle.array_versions.specs.Program.{versioned_read, versioned_write, sense, truth, choose, repeat, store_number, move_word, jump, holds}
 use Rattle.array_versions.specs.Program.{compares}
@@ -39,8 +39,10 @@ abbrev mutual
   EachStepWay room (number w) next p = Moves room 0 1 next p
   EachStepWay room (load a) next p = Moves room 0 1 next p
   EachStepWay room (keep a) next p = Moves room 1 0 next p
+  EachStepWay room (update op a) next p = Moves room 1 0 next p
   EachStepWay room (local n) next p = (p.assigned n ≡ true) × Moves room 0 1 next p
   EachStepWay room (set_local n) next p = Moves room 1 0 (λ q. next (assigning n q)) p
+  EachStepWay room (update_local op n) next p = (p.assigned n ≡ true) × Moves room 1 0 (λ q. next (assigning n q)) p
   EachStepWay room (unary op) next p = Moves room 1 1 next p
   EachStepWay room (binary op) next p = Moves room 2 1 next p
   EachStepWay room (shift op k) next p = Moves room 1 1 next p
@@ -75,6 +77,7 @@ abbrev mutual
   pub StepLocalsBelow : ℕ → Step → Type 0
   StepLocalsBelow locals (local n) = n < locals
   StepLocalsBelow locals (set_local n) = n < locals
+  StepLocalsBelow locals (update_local op n) = n < locals
   StepLocalsBelow locals (truth t) = TestLocalsBelow locals t
   StepLocalsBelow locals (choose t taken otherwise) = TestLocalsBelow locals t × LocalsBelow locals taken × LocalsBelow locals otherwise
   StepLocalsBelow locals (repeat n from below body) = (n < locals) × LocalsBelow locals body
@@ -97,6 +100,7 @@ abbrev mutual
   -- a step assigns no local of this number
   pub StepSpares : ℕ → Step → Type 0
   StepSpares n (set_local m) = m ≢ n
+  StepSpares n (update_local op m) = m ≢ n
   StepSpares n (truth t) = TestSpares n t
   StepSpares n (choose t taken otherwise) = TestSpares n t × Spares n taken × Spares n otherwise
   StepSpares n (repeat m from below body) = (m ≢ n) × Spares n body
@@ -150,8 +154,10 @@ abbrev mutual
   StepOfWords (number w) = IsWord w
   StepOfWords (load a) = IsWord a
   StepOfWords (keep a) = IsWord a
+  StepOfWords (update op a) = IsWord a
   StepOfWords (local n) = IsWord n
   StepOfWords (set_local n) = IsWord n
+  StepOfWords (update_local op n) = IsWord n
   StepOfWords (unary op) = Unit {0}
   StepOfWords (binary op) = Unit {0}
   StepOfWords (shift op k) = IsWord k

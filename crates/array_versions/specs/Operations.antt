@@ -4,7 +4,9 @@ use Rattle.machine_effects.specs.alp_words.Words.{word_sum, word_difference, wor
 use Rattle.array_versions.specs.declared.operations.UnaryOperation.{UnaryOperation}
 use Rattle.array_versions.specs.declared.operations.UnaryOperation.TheVariants.{Negate, Complement}
 use Rattle.array_versions.specs.declared.operations.BinaryOperation.{BinaryOperation}
-use Rattle.array_versions.specs.declared.operations.BinaryOperation.TheVariants.{Multiply, Divide, Remainder, Add, Subtract, And, Xor, Or}
+use Rattle.array_versions.specs.declared.operations.BinaryOperation.TheVariants.{Multiply, Divide, Remainder, Plain}
+use Rattle.array_versions.specs.declared.operations.PlainOperation.{PlainOperation}
+use Rattle.array_versions.specs.declared.operations.PlainOperation.TheVariants.{Add, Subtract, And, Xor, Or}
 use Rattle.array_versions.specs.declared.operations.Comparison.{Comparison}
 use Rattle.array_versions.specs.declared.operations.Comparison.TheVariants.{Equal, Below, Above, SignedBelow, SignedAbove, CommonBit}
 use Rattle.array_versions.specs.declared.operations.ShiftOperation.{ShiftOperation}
@@ -15,16 +17,20 @@ abbrev pub unary_word : UnaryOperation → ℕ → ℕ
 unary_word Negate v = word_difference 0 v
 unary_word Complement v = 65535 - v
 
+-- an operation on two words that is one instruction
+abbrev pub plain_word : PlainOperation → ℕ → ℕ → ℕ
+plain_word Add u v = word_sum u v
+plain_word Subtract u v = word_difference u v
+plain_word And u v = bit_and u v
+plain_word Xor u v = bit_xor u v
+plain_word Or u v = bit_or u v
+
 -- an operation on two words
 abbrev pub binary_word : BinaryOperation → ℕ → ℕ → ℕ
 binary_word Multiply u v = word_product u v
 binary_word Divide u v = quotient u v
 binary_word Remainder u v = remainder u v
-binary_word Add u v = word_sum u v
-binary_word Subtract u v = word_difference u v
-binary_word And u v = bit_and u v
-binary_word Xor u v = bit_xor u v
-binary_word Or u v = bit_or u v
+binary_word (Plain op) u v = plain_word op u v
 
 -- a word is a condition, which holds where it isn't 0
 abbrev pub is_true : ℕ → Bool

@@ -2,6 +2,7 @@
 use Rattle.std.specs.Prelude.{ℕ}
 use Rattle.array_versions.specs.declared.operations.UnaryOperation.{UnaryOperation}
 use Rattle.array_versions.specs.declared.operations.BinaryOperation.{BinaryOperation}
+use Rattle.array_versions.specs.declared.operations.PlainOperation.{PlainOperation}
 use Rattle.array_versions.specs.declared.operations.Comparison.{Comparison}
 use Rattle.array_versions.specs.declared.operations.ShiftOperation.{ShiftOperation}
 use Rattle.array_versions.specs.declared.program.ArrayPlace.{ArrayPlace}
@@ -13,8 +14,10 @@ mutual
     number : (word : ℕ) → Step
     load : (address : ℕ) → Step
     keep : (address : ℕ) → Step
+    update : (operation : PlainOperation) → (address : ℕ) → Step
     local : (n : ℕ) → Step
     set_local : (n : ℕ) → Step
+    update_local : (operation : PlainOperation) → (n : ℕ) → Step
     unary : (operation : UnaryOperation) → Step
     binary : (operation : BinaryOperation) → Step
     shift : (operation : ShiftOperation) → (count : ℕ) → Step

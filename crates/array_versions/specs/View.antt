@@ -17,8 +17,10 @@ abbrev pub step_layer : WordStep-F Step Test → Step
 step_layer (WordStep-F.Number w) = steps.number w
 step_layer (WordStep-F.Load a) = steps.load a
 step_layer (WordStep-F.Keep a) = steps.keep a
+step_layer (WordStep-F.Update op a) = steps.update op a
 step_layer (WordStep-F.Local n) = steps.local n
 step_layer (WordStep-F.SetLocal n) = steps.set_local n
+step_layer (WordStep-F.UpdateLocal op n) = steps.update_local op n
 step_layer (WordStep-F.Unary op) = steps.unary op
 step_layer (WordStep-F.Binary op) = steps.binary op
 step_layer (WordStep-F.Shift op k) = steps.shift op k

@@ -6,5 +6,5 @@ pub mod laws;
 mod operations;
 mod program;
 
-pub use operations::{BinaryOperation, Comparison, ShiftOperation, UnaryOperation};
+pub use operations::{BinaryOperation, Comparison, PlainOperation, ShiftOperation, UnaryOperation};
 pub use program::{ArrayPlace, ListPlace, WordProgram, WordStep, WordTest};

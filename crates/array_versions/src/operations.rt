@@ -9,8 +9,17 @@ pub enum UnaryOperation {
     Complement,
 }
 
-/// An operation on the two words on top of the stack, the right side being the top. Sums, differences and products are taken
-/// modulo 65536.
+/// An operation on two words that the machine has an instruction for. Sums and differences are taken modulo 65536.
+#[derive(Clone, Copy, Debug, PartialEq, Eq)]
+pub enum PlainOperation {
+    Add,
+    Subtract,
+    And,
+    Xor,
+    Or,
+}
+
+/// An operation on the two words on top of the stack, the right side being the top. Products are taken modulo 65536.
 #[derive(Clone, Copy, Debug, PartialEq, Eq)]
 pub enum BinaryOperation {
     Multiply,
@@ -18,11 +27,7 @@ pub enum BinaryOperation {
     Divide,
     /// The unsigned remainder; the left side where the right side is 0.
     Remainder,
-    Add,
-    Subtract,
-    And,
-    Xor,
-    Or,
+    Plain(PlainOperation),
 }
 
 /// A comparison of the two words on top of the stack, the right side being the top.

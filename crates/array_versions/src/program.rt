@@ -5,7 +5,7 @@ ghost use Rattle.array_versions.specs.Program.{nothing, behind};
 ghost use Rattle.array_versions.specs.Program as value;
 ghost use Rattle.array_versions.specs.View.{program_of, step_of, test_of};
 
-use crate::operations::{BinaryOperation, Comparison, ShiftOperation, UnaryOperation};
+use crate::operations::{BinaryOperation, Comparison, PlainOperation, ShiftOperation, UnaryOperation};
 use std::alloc::{AllocError, Global};
 
 /// The places of a versioned array: the addresses of its elements, of their copies and of their version words, and its length
@@ -36,10 +36,14 @@ pub enum WordStep {
     Load(u16),
     /// Pops a word and stores it at an address.
     Keep(u16),
+    /// Pops a word and stores at an address what an operation gives of the word there and of that one.
+    Update(PlainOperation, u16),
     /// Pushes a local.
     Local(u16),
     /// Pops a word and assigns it to a local.
     SetLocal(u16),
+    /// Pops a word and assigns to a local what an operation gives of the local and of that word.
+    UpdateLocal(PlainOperation, u16),
     Unary(UnaryOperation),
     Binary(BinaryOperation),
     /// A shift by a count of bits.
@@ -202,6 +206,14 @@ impl WordProgram {
         self.push(WordStep::Keep(address))
     }
 
+    /// Pops a word and stores at an address what the operation gives of the word there and of that one.
+    pub fn update(&mut self, operation: PlainOperation, address: u16) -> Result<(), AllocError>
+        ensures ok { OnOk result (program_of self.new ≡ behind (program_of self.old) (value.update operation address)) }
+        ensures err { OnErr result (program_of self.new ≡ program_of self.old) }
+    {
+        self.push(WordStep::Update(operation, address))
+    }
+
     /// Pushes a local.
     pub fn local(&mut self, n: u16) -> Result<(), AllocError>
         ensures ok { OnOk result (program_of self.new ≡ behind (program_of self.old) (value.local n)) }
@@ -216,6 +228,14 @@ impl WordProgram {
         ensures err { OnErr result (program_of self.new ≡ program_of self.old) }
     {
         self.push(WordStep::SetLocal(n))
+    }
+
+    /// Pops a word and assigns to a local what the operation gives of the local and of that word.
+    pub fn update_local(&mut self, operation: PlainOperation, n: u16) -> Result<(), AllocError>
+        ensures ok { OnOk result (program_of self.new ≡ behind (program_of self.old) (value.update_local operation n)) }
+        ensures err { OnErr result (program_of self.new ≡ program_of self.old) }
+    {
+        self.push(WordStep::UpdateLocal(operation, n))
     }
 
     /// Pops a word and pushes what the operation gives.
