@@ -6,22 +6,28 @@ use Rattle.std.proofs.lemmas.Bool.{cases_lt}
 use Rattle.array_versions.specs.fram_board.Effects.{Store}
 use Rattle.task_ast.specs.Tree as t
 use Rattle.task_ast.specs.Paths.{CheckedExpression, CheckedStatement, CheckedChoice, CheckedBlock}
+use Rattle.task_ast.specs.declared.WordType.{WordType}
+use Rattle.task_ast.specs.declared.BinaryOperator.{BinaryOperator}
 use Rattle.task_ast.specs.declared.names.Variable.{Variable}
 use Rattle.task_ast.specs.declared.names.Variable.TheVariants.{Shared, Local}
 use Rattle.cost_bound.specs.Allowance.{CheckedTask}
-use Rattle.source_values.specs.Values.{value_of, holds}
+use Rattle.source_values.specs.Values.{◌>>?◌, word_at, joined_type, type_of, binary_value, value_of, holds}
 use Rattle.source_values.specs.Statements as source
 use Rattle.source_values.specs.Statements.{Attempt, Outcome, goes_on, to_task, if_value, run_statement, run_choice, run_block}
 use Rattle.source_values.specs.Statements.{statement_emits, choice_emits, block_emits}
 use Rattle.cost_bound.specs.Counts.{statement_count, choice_count, block_count, is_shared, is_store_to, stores_of}
 use Rattle.source_values.proofs.Interface.{more_turns}
 use Rattle.path_runs.proofs.Interface.{runs_go_on_along_paths}
+use Rattle.array_versions.specs.declared.operations.PlainOperation.{PlainOperation}
+use Rattle.array_versions.specs.Operations.{plain_word}
+use Rattle.lower.specs.Operations.{plain_operation}
 use Rattle.array_versions.specs.Program.{Program, emit_word, versioned_write, choose, repeat, nothing, joined}
 use Rattle.array_versions.specs.Behaviour as words
 use Rattle.array_versions.specs.Behaviour.{WordState, Behaviour, then_on}
-use Rattle.array_versions.specs.Behaviour.{is_place, at_place, stored, with_local, word_emitted, way_by_top, tested}
+use Rattle.array_versions.specs.Behaviour.{local_updated, is_place, at_place, stored, with_local, word_stored, word_emitted, way_by_top, tested}
 use Rattle.array_versions.specs.Behaviour.{behaviour}
 use Rattle.array_versions.proofs.Interface.{joined_go_on, joined_assoc, decided_by_truth}
+use Rattle.lower.specs.Lowered.{update_step, setting, updating, sides_set}
 use Rattle.lower.specs.Lowered.{one, write_step, written_array, list_place, store_step, loop_local, assignment, element_assignment}
 use Rattle.lower.specs.Lowered.{lowered_transition, lowered_expression, lowered_test}
 use Rattle.lower.specs.Lowered.{lowered_statement, lowered_choice, lowered_block, lowered_task, lowered_tasks}
@@ -29,7 +35,8 @@ use Rattle.lower.specs.Spots.{listed_of}
 use Rattle.lower.specs.Agreement.{IsTarget, IsWrittenArray, IsLocal, ExpressionFits, StatementFits, ChoiceFits, BlockFits, StandsFor, at_variable}
 use Rattle.lower.specs.Agreement.{at_emit_count, in_buffer, valued, truth_of, AgreesWithValue, BlocksAgree}
 use Rattle.lower.proofs.Addresses.{fram_place, placed, spot_place}
-use Rattle.lower.proofs.Values.{holds_bit, truth_pushed, lowering_agrees, expressions_agree}
+use Rattle.lower.proofs.Updates.{is_update, plain_value}
+use Rattle.lower.proofs.Values.{small_modulo, holds_bit, truth_pushed, lowering_agrees, expressions_agree}
 use Rattle.lower.proofs.Emitted.{EmitsAtMost, statement_emitted, block_emitted}
 use Rattle.lower.proofs.Stored.{same_variables, same_list, same_emits, spot_list, spot_emits, scalar_set, local_holds, after_emit, emit_spots}
 use Rattle.lower.proofs.Stored.{emit_list, emitted_emits, few_entries}
@@ -90,18 +97,90 @@ module _ (z : Scene) where
       let P : List ℕ → Type 0 = λ l. AgreesWithValue w (behaviour (lowered_expression z.p e) w) (value_of e m.variables l) in
       subst P h.readings (expressions_agree z.p z.room e m.variables w z.apart z.even fits h.variables)
 
-  assignment_does : (x : Variable) (e : CheckedExpression) (m : Attempt) (listed : List Element) (w : WordState) (n : ℕ) (count most : ℕ → ℕ)
+  setting_does : (x : Variable) (e : CheckedExpression) (m : Attempt) (listed : List Element) (w : WordState) (n : ℕ) (count most : ℕ → ℕ)
       → ExpressionFits z.p e → IsTarget z.p z.written x
       → Begins z m listed w n count most
-      → Does z w.fram most w.stack (behaviour (assignment z.p x e) w)
+      → Does z w.fram most w.stack (behaviour (setting z.p x e) w)
       (if_value (value_of e m.variables m.left) m (λ v s. goes_on (source.assigned s x 0 v)))
-  assignment_does x e m listed w n count most fits target h =
+  setting_does x e m listed w n count most fits target h =
       let P : Behaviour → Type 0 = λ b. Does z w.fram most w.stack b
       (if_value (value_of e m.variables m.left) m (λ v s. goes_on (source.assigned s x 0 v))) in
       subst P (sym (joined_go_on (lowered_expression z.p e) (one (write_step z.p x)) w))
       (does_value z most w.stack w (behaviour (lowered_expression z.p e) w) (value_of e m.variables m.left) (behaviour (one (write_step z.p x))) m
       (λ v s. goes_on (source.assigned s x 0 v))
       (value_agrees e m listed w fits h.stands) (λ y. write_does x m listed w n count most y.0 y.1 target h))
+
+  -- a local that has a word has what the operation gives of it
+  local_updated_does : (op : PlainOperation) (i v : ℕ) (o : Option ℕ) (m : Attempt) (listed : List Element) (w : WordState) (n : ℕ) (count most : ℕ → ℕ)
+      (left : List ℕ) → i < 256 → ((u : ℕ) → o ≡ Some u → word_at m.variables (Local i) 0 ≡ u)
+      → Begins z m listed w n count most
+      → Does z w.fram most w.stack (then_on (local_updated op (i % 65536) v o (record w { readings = left })) (behaviour nothing))
+      (goes_on (source.assigned (record m { left = left }) (Local i) 0 (plain_word op (word_at m.variables (Local i) 0) v)))
+  local_updated_does op i v None m listed w n count most left few is h = tt
+  local_updated_does op i v (Some u) m listed w n count most left few is h =
+      let P : ℕ → Type 0 = λ x. Does z w.fram most w.stack (behaviour (one (write_step z.p (Local i))) (valued w (plain_word op u v, left)))
+      (goes_on (source.assigned (record m { left = left }) (Local i) 0 (plain_word op x v))) in
+      subst P (sym (is u refl)) (write_does (Local i) m listed w n count most (plain_word op u v) left few h)
+
+  update_does : (op : PlainOperation) (x : Variable) (m : Attempt) (listed : List Element) (w : WordState) (n : ℕ) (count most : ℕ → ℕ) (v : ℕ)
+      (left : List ℕ) → IsTarget z.p z.written x
+      → Begins z m listed w n count most
+      → Does z w.fram most w.stack (behaviour (one (update_step z.p op x)) (valued w (v, left)))
+      (goes_on (source.assigned (record m { left = left }) x 0 (plain_word op (word_at m.variables x 0) v)))
+  update_does op (Local i) m listed w n count most v left k h =
+      let P : ℕ → Type 0 = λ j. Does z w.fram most w.stack (then_on (local_updated op j v (w.locals j) (record w { readings = left })) (behaviour nothing))
+      (goes_on (source.assigned (record m { left = left }) (Local i) 0 (plain_word op (word_at m.variables (Local i) 0) v))) in
+      let small = small_modulo i k in
+      local_updated_does op i v (w.locals (i % 65536)) m listed w n count most left k
+      (λ u e. h.stands.variables.locals i u (ap w.locals (sym small) ∙ e)) h
+  update_does op (Shared i) m listed w n count most v left k h =
+      let a = address_of z.p i in
+      let u = plain_word op (w.fram a) v in
+      let P : ℕ → Type 0 = λ x. Does z w.fram most w.stack (behaviour (one (write_step z.p (Shared i))) (valued w (u, left)))
+      (goes_on (source.assigned (record m { left = left }) (Shared i) 0 x)) in
+      subst P (ap (λ x. plain_word op x v) (h.stands.variables.words i k.0)) (write_does (Shared i) m listed w n count most u left k h)
+
+  -- what an operator gives of a variable and of another side
+  updated_value : (x : Variable) (op : BinaryOperator) (o : PlainOperation) (of : WordType) (m : Attempt) (r : Option (ℕ × List ℕ))
+      → plain_operation op ≡ Some o
+      → if_value (r >>? λ y. Some (binary_value op of (word_at m.variables x 0) y.0, y.1)) m (λ v s. goes_on (source.assigned s x 0 v))
+      ≡ if_value r m (λ v s. goes_on (source.assigned s x 0 (plain_word o (word_at m.variables x 0) v)))
+  updated_value x op o of m None is = refl
+  updated_value x op o of m (Some y) is =
+      ap (λ v. goes_on (source.assigned (record m { left = y.1 }) x 0 v)) (plain_value op o of (word_at m.variables x 0) y.0 is)
+
+  sides_do : (x : Variable) (op : BinaryOperator) (a b : CheckedExpression) (o : Option PlainOperation) (m : Attempt) (listed : List Element) (w : WordState)
+      (n : ℕ) (count most : ℕ → ℕ) → updating x op a ≡ o → ExpressionFits z.p (t.binary op a b) → IsTarget z.p z.written x
+      → Begins z m listed w n count most
+      → Does z w.fram most w.stack (behaviour (sides_set z.p x op a b o) w)
+      (if_value (value_of (t.binary op a b) m.variables m.left) m (λ v s. goes_on (source.assigned s x 0 v)))
+  sides_do x op a b None m listed w n count most is fits target h = setting_does x (t.binary op a b) m listed w n count most fits target h
+  sides_do x op a b (Some o) m listed w n count most is fits target h =
+      let update = is_update x op a o is in
+      let given : Attempt → ℕ → Outcome = λ s v. goes_on (source.assigned s x 0 (plain_word o (word_at m.variables x 0) v)) in
+      let P : Outcome → Type 0 = λ r. Does z w.fram most w.stack (behaviour (sides_set z.p x op a b (Some o)) w) r in
+      let same : if_value (value_of (t.binary op a b) m.variables m.left) m (λ v s. goes_on (source.assigned s x 0 v))
+          ≡ if_value (value_of b m.variables m.left) m (λ v s. given s v) =
+      ap (λ c. if_value (value_of (t.binary op c b) m.variables m.left) m (λ v s. goes_on (source.assigned s x 0 v))) update.is
+      ∙ ap (λ y. if_value (value_of b m.variables m.left >>? λ v. Some (binary_value op (joined_type update.name.word_type (type_of b)) (word_at m.variables y 0) v.0, v.1)) m
+      (λ v s. goes_on (source.assigned s x 0 v))) update.same
+      ∙ updated_value x op o (joined_type update.name.word_type (type_of b)) m (value_of b m.variables m.left) update.operation in
+      let Q : Behaviour → Type 0 = λ r. Does z w.fram most w.stack r (if_value (value_of b m.variables m.left) m (λ v s. given s v)) in
+      subst P (sym same)
+      (subst Q (sym (joined_go_on (lowered_expression z.p b) (one (update_step z.p o x)) w))
+      (does_value z most w.stack w (behaviour (lowered_expression z.p b) w) (value_of b m.variables m.left) (behaviour (one (update_step z.p o x))) m
+      (λ v s. given s v)
+      (value_agrees b m listed w fits.1 h.stands) (λ y. update_does o x m listed w n count most y.0 y.1 target h)))
+
+  -- by the kind of the expression: the first clause makes it a proof by cases
+  assignment_does : (x : Variable) (e : CheckedExpression) (m : Attempt) (listed : List Element) (w : WordState) (n : ℕ) (count most : ℕ → ℕ)
+      → ExpressionFits z.p e → IsTarget z.p z.written x
+      → Begins z m listed w n count most
+      → Does z w.fram most w.stack (behaviour (assignment z.p x e) w)
+      (if_value (value_of e m.variables m.left) m (λ v s. goes_on (source.assigned s x 0 v)))
+  assignment_does x (t.binary op a b) m listed w n count most fits target h =
+      sides_do x op a b (updating x op a) m listed w n count most refl fits target h
+  assignment_does x e m listed w n count most fits target h = setting_does x e m listed w n count most fits target h
 
   -- ---- stores to elements
 

@@ -1,9 +1,10 @@
 -- What tasks spend along the way that they take, against the allowance of a source: the entries of the private scalars are paid for once, at
 -- the transition.
 use Rattle.std.proofs.Common.{◌≡◌, ℕ, zero, suc, ◌+◌, ◌-◌, ◌*◌, ◌%◌, ◌==◌, ◌≤◌, max, Bool, true, false, if◌then◌else◌, List, [], ◌∷◌, length, Some}
-use Rattle.std.proofs.Common.{None, refl, sym, subst, arith}
+use Rattle.std.proofs.Common.{Option, None, refl, sym, subst, arith}
 use Rattle.task_ast.specs.Tree as t
 use Rattle.task_ast.specs.Paths.{CheckedExpression, CheckedStatement, CheckedChoice, CheckedBlock}
+use Rattle.task_ast.specs.declared.BinaryOperator.{BinaryOperator}
 use Rattle.task_ast.specs.declared.names.Variable.{Variable}
 use Rattle.task_ast.specs.declared.names.Variable.TheVariants.{Shared, Local}
 use Rattle.cost_bound.specs.Table.{cycles_column, expression_price, statement_price, conditions_price, blocks_price, block_price}
@@ -12,6 +13,7 @@ use Rattle.memory_map.specs.declared.words.RuntimeWord.TheVariants.{NextTask, Ga
 use Rattle.lower.specs.declared.runs.Run.{Run}
 use Rattle.lower.specs.Runs.{runs_of}
 use Rattle.lower.proofs.Neighbours.{runs_are_few}
+use Rattle.array_versions.specs.declared.operations.PlainOperation.{PlainOperation}
 use Rattle.array_versions.specs.Operations.{is_true, compare_words}
 use Rattle.array_versions.specs.Program as word
 use Rattle.array_versions.specs.Program.{Step, Test, Program, choose, repeat, emit_word, store_number, move_word, jump, nothing, step, joined}
@@ -23,6 +25,7 @@ use Rattle.array_versions.specs.Cost.{step_cycles, test_cycles, cycles_of, spent
 use Rattle.array_versions.specs.Cost.{test_spent, spent}
 use Rattle.array_versions.proofs.Interface.{joined_go_on, joined_cycles, joined_spend, ways_keep_to_cycles}
 use Rattle.memory_map.specs.Spots.{Places}
+use Rattle.lower.specs.Lowered.{update_step, setting, updating, sides_set}
 use Rattle.lower.specs.Lowered.{one, write_step, store_step, assignment, element_assignment, entries, lowered_transition, loop_local}
 use Rattle.lower.specs.Lowered.{lowered_expression}
 use Rattle.lower.specs.Lowered.{lowered_test, lowered_statement, lowered_choice, lowered_block}
@@ -201,14 +204,30 @@ test_spends p (word.fails c) ra rb ca cb a b f g s = let k = test_spends p c rb 
 
 -- ---- statements
 
-assignment_cycles : (p : Places) (x : Variable) (e : CheckedExpression) → cycles_of (assignment p x e) ≤ 40 + expression_price cycles_column e
-assignment_cycles p x e =
+setting_cycles : (p : Places) (x : Variable) (e : CheckedExpression) → cycles_of (setting p x e) ≤ 40 + expression_price cycles_column e
+setting_cycles p x e =
     let l = joined_cycles (lowered_expression p e) (one (write_step p x)) in
     omega (arith, l, write_cycles x, expression_cycles p e)
   where
     write_cycles : (x : Variable) → step_cycles (write_step p x) ≤ 5
     write_cycles (Shared v) = omega arith
     write_cycles (Local n) = omega arith
+
+sides_set_cycles : (p : Places) (x : Variable) (op : BinaryOperator) (a b : CheckedExpression) (o : Option PlainOperation)
+    → cycles_of (sides_set p x op a b o) ≤ 40 + expression_price cycles_column (t.binary op a b)
+sides_set_cycles p x op a b None = setting_cycles p x (t.binary op a b)
+sides_set_cycles p x op a b (Some o) =
+    let l = joined_cycles (lowered_expression p b) (one (update_step p o x)) in
+    omega (arith, l, update_cycles x, expression_cycles p b)
+  where
+    update_cycles : (x : Variable) → step_cycles (update_step p o x) ≤ 10
+    update_cycles (Shared v) = omega arith
+    update_cycles (Local n) = omega arith
+
+-- the first clause makes it a proof by cases
+assignment_cycles : (p : Places) (x : Variable) (e : CheckedExpression) → cycles_of (assignment p x e) ≤ 40 + expression_price cycles_column e
+assignment_cycles p x (t.binary op a b) = sides_set_cycles p x op a b (updating x op a)
+assignment_cycles p x e = setting_cycles p x e
 
 store_cycles : (p : Places) (x : Variable) (index e : CheckedExpression)
     → cycles_of (element_assignment p x index e) ≤ 120 + expression_price cycles_column index + expression_price cycles_column e

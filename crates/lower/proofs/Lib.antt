@@ -1,6 +1,7 @@
 mod Neighbours
 mod Addresses
 mod Values
+mod Updates
 mod Emitted
 mod Stored
 mod Transitions

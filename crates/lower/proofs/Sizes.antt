@@ -17,7 +17,9 @@ use Rattle.source_values.specs.Values.{joined_type, type_of}
 use Rattle.cost_bound.specs.Table.{cycles_column, words_column, operator_price, expression_price, statement_price, conditions_price, blocks_price}
 use Rattle.cost_bound.specs.Table.{block_price}
 use Rattle.array_versions.specs.declared.operations.UnaryOperation.TheVariants.{Negate, Complement}
-use Rattle.array_versions.specs.declared.operations.BinaryOperation.TheVariants.{And}
+use Rattle.array_versions.specs.declared.operations.BinaryOperation.TheVariants.{Plain}
+use Rattle.array_versions.specs.declared.operations.PlainOperation.{PlainOperation}
+use Rattle.array_versions.specs.declared.operations.PlainOperation.TheVariants.{And}
 use Rattle.array_versions.specs.Program.{Test, Program, unary, binary, shift, choose, emit_word, store_number, move_word, jump, step, joined}
 use Rattle.array_versions.specs.Cost.{binary_cycles, step_cycles, test_cycles, cycles_of, entry_words, step_words, test_words, words_of}
 use Rattle.array_versions.proofs.Interface.{joined_cycles, joined_words, steps_keep_to_words}
@@ -35,6 +37,7 @@ use Rattle.lower.specs.Operations.{binary_meaning, shift_operation}
 use Rattle.lower.specs.Sizes.{BlocksKeepToWords}
 use Rattle.lower.specs.Lowered.{one, read_step, write_step, element_read, element_step, store_step, Lowering, as_word, as_test, word_program}
 use Rattle.lower.specs.Lowered.{value_test, unary_lowering}
+use Rattle.lower.specs.Lowered.{update_step, setting, updating, sides_set}
 use Rattle.lower.specs.Lowered.{binary_lowering, sides_test, lowering, assignment, element_assignment, entries, lowered_transition}
 use Rattle.lower.specs.Lowered.{lowered_expression}
 use Rattle.lower.specs.Lowered.{lowered_test, lowered_statement, lowered_choice, lowered_block}
@@ -83,7 +86,7 @@ unary_has unary_operator.Not l n h = test_has _ (16 + n) (omega (arith, h))
 binary_has : (meaning : BinaryMeaning) (sides : Program) (n : ℕ) → words_of sides ≤ n → HasWords (binary_lowering meaning sides) (16 + n)
 binary_has (Calculates op) sides n h =
     word_has _ (16 + n) (omega (arith, joined_words sides (one (binary op)), steps_keep_to_words (binary op), h))
-binary_has CommonBits sides n h = record { word = omega (arith, joined_words sides (one (binary And)), h); test = omega (arith, h) }
+binary_has CommonBits sides n h = record { word = omega (arith, joined_words sides (one (binary (Plain And))), h); test = omega (arith, h) }
 binary_has (Holds c) sides n h = test_has _ (16 + n) (omega (arith, h))
 binary_has (Fails c) sides n h = test_has _ (16 + n) (omega (arith, h))
 
@@ -159,11 +162,27 @@ transition_words p s task few =
     let l = joined_words (entries (word_place p.map ListLength) p.map.list.address (runs_of p.privates)) close in
     omega (arith, a, l, few)
 
-assignment_words : (p : Places) (s : ℕ) (x : Variable) (e : CheckedExpression) → words_of (assignment p x e) ≤ 24 + expression_price (words_column s) e
-assignment_words p s x e =
+update_words : (p : Places) (o : PlainOperation) (x : Variable) → step_words (update_step p o x) ≤ 6
+update_words p o (Shared v) = omega arith
+update_words p o (Local n) = omega arith
+
+setting_words : (p : Places) (s : ℕ) (x : Variable) (e : CheckedExpression) → words_of (setting p x e) ≤ 24 + expression_price (words_column s) e
+setting_words p s x e =
     let a = write_words p x in
     let l = joined_words (lowered_expression p e) (one (write_step p x)) in
     omega (arith, a, l, expression_words p s e)
+
+sides_set_words : (p : Places) (s : ℕ) (x : Variable) (op : BinaryOperator) (a b : CheckedExpression) (o : Option PlainOperation)
+    → words_of (sides_set p x op a b o) ≤ 24 + expression_price (words_column s) (t.binary op a b)
+sides_set_words p s x op a b None = setting_words p s x (t.binary op a b)
+sides_set_words p s x op a b (Some o) =
+    let l = joined_words (lowered_expression p b) (one (update_step p o x)) in
+    omega (arith, update_words p o x, l, expression_words p s b)
+
+-- the first clause makes it a proof by cases
+assignment_words : (p : Places) (s : ℕ) (x : Variable) (e : CheckedExpression) → words_of (assignment p x e) ≤ 24 + expression_price (words_column s) e
+assignment_words p s x (t.binary op a b) = sides_set_words p s x op a b (updating x op a)
+assignment_words p s x e = setting_words p s x e
 
 store_words : (p : Places) (x : Variable) → step_words (store_step p x) ≡ 59
 store_words p (Shared v) = refl
@@ -254,7 +273,7 @@ operation_most _ of = omega arith
 binary_takes : (meaning : BinaryMeaning) (sides : Program) (n : ℕ) → cycles_of sides + 22 ≤ n
     → HasCycles (binary_lowering meaning sides) (operation_cycles meaning + 32 + n)
 binary_takes (Calculates op) sides n h = word_takes _ _ (omega (arith, joined_cycles sides (one (binary op)), h))
-binary_takes CommonBits sides n h = record { word = omega (arith, joined_cycles sides (one (binary And)), h); test = omega (arith, h) }
+binary_takes CommonBits sides n h = record { word = omega (arith, joined_cycles sides (one (binary (Plain And))), h); test = omega (arith, h) }
 binary_takes (Holds c) sides n h = test_takes _ _ (omega (arith, h))
 binary_takes (Fails c) sides n h = test_takes _ _ (omega (arith, h))
 

@@ -24,7 +24,8 @@ use Rattle.source_values.specs.Values.{is_settled, next_reading, value_of}
 use Rattle.array_versions.specs.declared.operations.UnaryOperation.{UnaryOperation}
 use Rattle.array_versions.specs.declared.operations.UnaryOperation.TheVariants.{Negate, Complement}
 use Rattle.array_versions.specs.declared.operations.BinaryOperation.{BinaryOperation}
-use Rattle.array_versions.specs.declared.operations.BinaryOperation.TheVariants.{And}
+use Rattle.array_versions.specs.declared.operations.BinaryOperation.TheVariants.{Plain}
+use Rattle.array_versions.specs.declared.operations.PlainOperation.TheVariants.{And}
 use Rattle.array_versions.specs.declared.operations.Comparison.TheVariants.{CommonBit}
 use Rattle.array_versions.specs.Operations.{unary_word, binary_word, shift_word, shifted_word, compare_words}
 use Rattle.array_versions.specs.Program.{Test, Program, number, load, local, unary, binary, shift, sense, compares, fails, nothing, joined}
@@ -425,7 +426,7 @@ binary_agrees CommonBits w a b o second f h e =
     let makes : MakesWord w (way_by_two CommonBit (number_pushed 1) (number_pushed 0)) (λ x y. bit (holds (f x y))) =
     λ x y left. bit_agrees (holds (bit_and x y)) (bit (holds (f x y))) w left (ap (λ v. bit (holds v)) (e x y)) in
     record {
-      word = operated_agrees And w a b o second f h e;
+      word = operated_agrees (Plain And) w a b o second f h e;
       test = subst (AgreesWithValue w (truth_pushed (compares CommonBit (joined a b)) w)) (pair_truth f o second)
           (sides_agree w a b o second (λ x y. bit (holds (f x y))) (way_by_two CommonBit (number_pushed 1) (number_pushed 0)) h makes);
     }

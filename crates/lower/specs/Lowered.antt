@@ -1,10 +1,11 @@
 -- The word programs of expressions, statements and tasks.
-use Rattle.std.specs.Prelude.{ℕ, ◌%◌, List, [], ◌∷◌, Option, Some, None, slice_get}
+use Rattle.std.specs.Prelude.{ℕ, ◌%◌, ◌==◌, Bool, true, false, if◌then◌else◌, List, [], ◌∷◌, Option, Some, None, slice_get}
 use Rattle.task_ast.specs.Tree as t
 use Rattle.task_ast.specs.Tree.{Task}
 use Rattle.task_ast.specs.Paths.{CheckedExpression, CheckedStatement, CheckedChoice, CheckedBlock}
 use Rattle.task_ast.specs.declared.UnaryOperator.{UnaryOperator}
 use Rattle.task_ast.specs.declared.UnaryOperator.TheVariants as unary_operator
+use Rattle.task_ast.specs.declared.BinaryOperator.{BinaryOperator}
 use Rattle.task_ast.specs.declared.ShortCircuitOperator.{ShortCircuitOperator}
 use Rattle.task_ast.specs.declared.ShortCircuitOperator.TheVariants.{And as BothHold, Or as OneHolds}
 use Rattle.task_ast.specs.declared.names.Variable.{Variable}
@@ -14,9 +15,12 @@ use Rattle.task_ast.specs.declared.names.TaskName.{TaskName}
 use Rattle.source_values.specs.Values.{joined_type, type_of}
 use Rattle.source_values.specs.Runs.{CheckedProgram}
 use Rattle.array_versions.specs.declared.operations.UnaryOperation.TheVariants.{Negate, Complement}
-use Rattle.array_versions.specs.declared.operations.BinaryOperation.TheVariants.{And}
+use Rattle.array_versions.specs.declared.operations.PlainOperation.{PlainOperation}
+use Rattle.array_versions.specs.declared.operations.PlainOperation.TheVariants.{And}
+use Rattle.array_versions.specs.declared.operations.BinaryOperation.TheVariants.{Plain}
 use Rattle.array_versions.specs.declared.operations.Comparison.TheVariants.{CommonBit}
-use Rattle.array_versions.specs.Program.{Step, Test, Program, number, load, keep, local, set_local, unary, binary, shift, element, emit_word}
+use Rattle.array_versions.specs.Program.{Step, Test, Program, number, load, keep, update, local, set_local, update_local, unary, binary, shift, element}
+use Rattle.array_versions.specs.Program.{emit_word}
 use Rattle.array_versions.specs.Program.{list_entry, sense}
 use Rattle.array_versions.specs.Program.{truth, choose, repeat, versioned_read, versioned_write, store_number, move_word, jump, holds, compares}
 use Rattle.array_versions.specs.Program.{both, either}
@@ -34,7 +38,7 @@ use Rattle.lower.specs.Runs.{runs_of}
 use Rattle.lower.specs.Seen.{map_seen}
 use Rattle.lower.specs.declared.operations.BinaryMeaning.{BinaryMeaning}
 use Rattle.lower.specs.declared.operations.BinaryMeaning.TheVariants.{Calculates, CommonBits, Holds, Fails}
-use Rattle.lower.specs.Operations.{binary_meaning, shift_operation}
+use Rattle.lower.specs.Operations.{binary_meaning, plain_operation, shift_operation}
 
 -- a program of one step
 abbrev pub one : Step → Program
@@ -49,6 +53,11 @@ read_step p (Local n) = local (n % 65536)
 abbrev pub write_step : Places → Variable → Step
 write_step p (Shared v) = keep (address_of p v)
 write_step p (Local n) = set_local (n % 65536)
+
+-- pops a word and sets a variable to what an operation gives of the variable and of that word
+abbrev pub update_step : Places → PlainOperation → Variable → Step
+update_step p op (Shared v) = update op (address_of p v)
+update_step p op (Local n) = update_local op (n % 65536)
 
 -- the elements of an array, their copies and their version words
 abbrev pub array_place : ℕ → ℕ → ArrayCopies → ArrayPlace
@@ -98,7 +107,7 @@ pub data Lowering : Type 0 where
 abbrev pub word_program : Lowering → Program
 word_program (as_word q) = q
 word_program (as_test c) = one (truth c)
-word_program (as_bits q) = behind q (binary And)
+word_program (as_bits q) = behind q (binary (Plain And))
 
 -- the test that the value isn't 0
 abbrev pub value_test : Lowering → Test
@@ -145,8 +154,33 @@ abbrev pub lowered_test : Places → CheckedExpression → Test
 lowered_test p e = value_test (lowering p e)
 
 -- sets a variable to an expression's value
+abbrev pub setting : Places → Variable → CheckedExpression → Program
+setting p x e = behind (lowered_expression p e) (write_step p x)
+
+-- whether two variables are one
+abbrev pub is_same : Variable → Variable → Bool
+is_same (Shared v) (Shared w) = v == w
+is_same (Local m) (Local n) = m == n
+is_same _ _ = false
+
+-- whether an expression is a variable alone
+abbrev pub is_name : Variable → CheckedExpression → Bool
+is_name x (t.name y) = is_same x y.variable
+is_name x _ = false
+
+-- the operation that sets a variable to what an operator gives of it, on the left, and of another side
+abbrev pub updating : Variable → BinaryOperator → CheckedExpression → Option PlainOperation
+updating x op a = if is_name x a then plain_operation op else None
+
+-- sets a variable to what an operator gives of two sides: in place, where an operation does
+abbrev pub sides_set : Places → Variable → BinaryOperator → CheckedExpression → CheckedExpression → Option PlainOperation → Program
+sides_set p x op a b None = setting p x (t.binary op a b)
+sides_set p x op a b (Some o) = behind (lowered_expression p b) (update_step p o x)
+
+-- an assignment; `x = x + e` and its like are in place, since `e` leaves x
 abbrev pub assignment : Places → Variable → CheckedExpression → Program
-assignment p x e = behind (lowered_expression p e) (write_step p x)
+assignment p x (t.binary op a b) = sides_set p x op a b (updating x op a)
+assignment p x e = setting p x e
 
 -- stores an expression's value in an element: the index is evaluated first
 abbrev pub element_assignment : Places → Variable → CheckedExpression → CheckedExpression → Program

@@ -1,10 +1,13 @@
 -- What the operators of a source stand for.
+use Rattle.std.specs.Prelude.{Option, Some, None}
 use Rattle.task_ast.specs.declared.WordType.{WordType}
 use Rattle.task_ast.specs.declared.WordType.TheVariants.{Unsigned, Int}
 use Rattle.task_ast.specs.declared.BinaryOperator.{BinaryOperator}
 use Rattle.task_ast.specs.declared.BinaryOperator.TheVariants as operator
 use Rattle.task_ast.specs.declared.ShiftOperator.{ShiftOperator}
 use Rattle.task_ast.specs.declared.ShiftOperator.TheVariants as shift_operator
+use Rattle.array_versions.specs.declared.operations.PlainOperation.{PlainOperation}
+use Rattle.array_versions.specs.declared.operations.PlainOperation.TheVariants as plain
 use Rattle.array_versions.specs.declared.operations.BinaryOperation.TheVariants as operation
 use Rattle.array_versions.specs.declared.operations.Comparison.{Comparison}
 use Rattle.array_versions.specs.declared.operations.Comparison.TheVariants.{Equal, Below, Above, SignedBelow, SignedAbove}
@@ -28,8 +31,8 @@ abbrev pub binary_meaning : BinaryOperator → WordType → BinaryMeaning
 binary_meaning operator.Multiply t = Calculates operation.Multiply
 binary_meaning operator.Divide t = Calculates operation.Divide
 binary_meaning operator.Remainder t = Calculates operation.Remainder
-binary_meaning operator.Add t = Calculates operation.Add
-binary_meaning operator.Subtract t = Calculates operation.Subtract
+binary_meaning operator.Add t = Calculates (operation.Plain plain.Add)
+binary_meaning operator.Subtract t = Calculates (operation.Plain plain.Subtract)
 binary_meaning operator.Less t = Holds (below t)
 binary_meaning operator.LessEqual t = Fails (above t)
 binary_meaning operator.Greater t = Holds (above t)
@@ -37,8 +40,17 @@ binary_meaning operator.GreaterEqual t = Fails (below t)
 binary_meaning operator.Equal t = Holds Equal
 binary_meaning operator.NotEqual t = Fails Equal
 binary_meaning operator.And t = CommonBits
-binary_meaning operator.Xor t = Calculates operation.Xor
-binary_meaning operator.Or t = Calculates operation.Or
+binary_meaning operator.Xor t = Calculates (operation.Plain plain.Xor)
+binary_meaning operator.Or t = Calculates (operation.Plain plain.Or)
+
+-- the operation that is one instruction, of an operator that has one
+abbrev pub plain_operation : BinaryOperator → Option PlainOperation
+plain_operation operator.Add = Some plain.Add
+plain_operation operator.Subtract = Some plain.Subtract
+plain_operation operator.And = Some plain.And
+plain_operation operator.Xor = Some plain.Xor
+plain_operation operator.Or = Some plain.Or
+plain_operation _ = None
 
 -- the shift of a word of this type: to the right it copies the sign of an int
 abbrev pub shift_operation : ShiftOperator → WordType → ShiftOperation

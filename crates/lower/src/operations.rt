@@ -1,8 +1,10 @@
 //! The operations on words that the operators of a source stand for.
 ghost use Rattle.std.specs.Prelude.{◌≡◌};
-ghost use Rattle.lower.specs.Operations.{below, above, binary_meaning, shift_operation};
+ghost use Rattle.array_versions.specs.declared.operations.BinaryOperation.TheVariants as binary_op;
+ghost use Rattle.lower.specs.declared.operations.BinaryMeaning.TheVariants as Meaning;
+ghost use Rattle.lower.specs.Operations.{below, above, binary_meaning, plain_operation, shift_operation};
 
-use array_versions::{BinaryOperation, Comparison, ShiftOperation};
+use array_versions::{BinaryOperation, Comparison, PlainOperation, ShiftOperation};
 use task_ast::{BinaryOperator, ShiftOperator, WordType};
 
 /// What an operator gives of the words of its two sides.
@@ -38,6 +40,13 @@ fn above(word_type: WordType) -> Comparison
     }
 }
 
+// What an operation of one instruction gives.
+fn calculates(operation: PlainOperation) -> BinaryMeaning
+    ensures { result ≡ Meaning.Calculates (binary_op.Plain operation) }
+{
+    BinaryMeaning::Calculates(BinaryOperation::Plain(operation))
+}
+
 /// What an operator gives of two words of this joined type.
 pub fn binary_meaning(op: BinaryOperator, word_type: WordType) -> BinaryMeaning
     ensures { result ≡ binary_meaning op word_type }
@@ -46,8 +55,8 @@ pub fn binary_meaning(op: BinaryOperator, word_type: WordType) -> BinaryMeaning
         BinaryOperator::Multiply => BinaryMeaning::Calculates(BinaryOperation::Multiply),
         BinaryOperator::Divide => BinaryMeaning::Calculates(BinaryOperation::Divide),
         BinaryOperator::Remainder => BinaryMeaning::Calculates(BinaryOperation::Remainder),
-        BinaryOperator::Add => BinaryMeaning::Calculates(BinaryOperation::Add),
-        BinaryOperator::Subtract => BinaryMeaning::Calculates(BinaryOperation::Subtract),
+        BinaryOperator::Add => calculates(PlainOperation::Add),
+        BinaryOperator::Subtract => calculates(PlainOperation::Subtract),
         BinaryOperator::Less => BinaryMeaning::Holds(below(word_type)),
         BinaryOperator::LessEqual => BinaryMeaning::Fails(above(word_type)),
         BinaryOperator::Greater => BinaryMeaning::Holds(above(word_type)),
@@ -55,8 +64,22 @@ pub fn binary_meaning(op: BinaryOperator, word_type: WordType) -> BinaryMeaning
         BinaryOperator::Equal => BinaryMeaning::Holds(Comparison::Equal),
         BinaryOperator::NotEqual => BinaryMeaning::Fails(Comparison::Equal),
         BinaryOperator::And => BinaryMeaning::CommonBits,
-        BinaryOperator::Xor => BinaryMeaning::Calculates(BinaryOperation::Xor),
-        BinaryOperator::Or => BinaryMeaning::Calculates(BinaryOperation::Or),
+        BinaryOperator::Xor => calculates(PlainOperation::Xor),
+        BinaryOperator::Or => calculates(PlainOperation::Or),
+    }
+}
+
+/// The operation that is one instruction, of an operator that has one.
+pub fn plain_operation(op: BinaryOperator) -> Option<PlainOperation>
+    ensures { result ≡ plain_operation op }
+{
+    match op {
+        BinaryOperator::Add => Some(PlainOperation::Add),
+        BinaryOperator::Subtract => Some(PlainOperation::Subtract),
+        BinaryOperator::And => Some(PlainOperation::And),
+        BinaryOperator::Xor => Some(PlainOperation::Xor),
+        BinaryOperator::Or => Some(PlainOperation::Or),
+        _ => None,
     }
 }
 

@@ -8,16 +8,18 @@ ghost use Rattle.task_ast.specs.View.{expression_of, statement_of, tested_of, bl
 ghost use Rattle.task_ast.specs.declared.names.VariableName.{VariableName};
 ghost use Rattle.task_ast.specs.declared.names.TaskName.{TaskName};
 ghost use Rattle.lower.specs.View.{places_in};
-ghost use Rattle.lower.specs.Lowered.{one, write_step, loop_local, lowered_test, store_step, assignment, element_assignment, declaration, emission};
-ghost use Rattle.lower.specs.Lowered.{lowered_transition, lowered_statement, lowered_choice, lowered_block};
+ghost use Rattle.lower.specs.Lowered.{one, write_step, update_step, loop_local, lowered_test, store_step, setting, is_same, is_name, updating, assignment};
+ghost use Rattle.lower.specs.Lowered.{element_assignment, declaration, emission};
+ghost use Rattle.lower.specs.Lowered.{lowered_expression, lowered_transition, lowered_statement, lowered_choice, lowered_block};
 
 use crate::expressions::{append, lower_expression, lower_test};
+use crate::operations::plain_operation;
 use crate::places::{TaskPlaces, local_number, no_array, written_array};
 use crate::runs::list_entries;
-use array_versions::WordProgram;
+use array_versions::{PlainOperation, WordProgram};
 use memory_map::RuntimeWord;
 use std::alloc::{AllocError, Global};
-use task_ast::{Arm, Expr, Stmt, TaskName, Variable, VariableName};
+use task_ast::{Arm, BinaryOperator, Expr, Stmt, TaskName, Variable, VariableName};
 
 fn write(
     variable: Variable,
@@ -33,7 +35,92 @@ fn write(
     }
 }
 
+// Pops a word and sets a variable to what an operation gives of the variable and of that word.
+fn update(
+    operation: PlainOperation,
+    variable: Variable,
+    places: &TaskPlaces<'_>,
+    program: &mut WordProgram,
+) -> Result<(), AllocError>
+    ensures { OnOk result (program_of program.new
+        ≡ behind (program_of program.old) (update_step (places_in places.now) operation variable)) }
+{
+    match variable {
+        Variable::Shared(number) => program.update(operation, places.address_of(number)),
+        Variable::Local(number) => program.update_local(operation, local_number(number)),
+    }
+}
+
+// Sets a variable to an expression's value.
 #[tactic(auto, using(array_versions::proofs::Interface::joined_assoc))]
+fn set(
+    alloc: Global,
+    variable: Variable,
+    e: &Expr<VariableName>,
+    places: &TaskPlaces<'_>,
+    program: &mut WordProgram,
+) -> Result<(), AllocError>
+    ensures { OnOk result (program_of program.new
+        ≡ joined (program_of program.old) (setting (places_in places.now) variable (expression_of e.now))) }
+{
+    append(program, lower_expression(alloc, e, places)?)?;
+    write(variable, places, program)
+}
+
+// Sets a variable to what an operation gives of it and of an expression's value.
+#[tactic(auto, using(array_versions::proofs::Interface::joined_assoc))]
+fn set_in_place(
+    alloc: Global,
+    operation: PlainOperation,
+    variable: Variable,
+    e: &Expr<VariableName>,
+    places: &TaskPlaces<'_>,
+    program: &mut WordProgram,
+) -> Result<(), AllocError>
+    ensures { OnOk result (program_of program.new ≡ joined (program_of program.old)
+        (behind (lowered_expression (places_in places.now) (expression_of e.now)) (update_step (places_in places.now) operation variable))) }
+{
+    append(program, lower_expression(alloc, e, places)?)?;
+    update(operation, variable, places, program)
+}
+
+// Whether two variables are one.
+fn is_same(first: Variable, second: Variable) -> bool
+    ensures { result ≡ is_same first second }
+{
+    match (first, second) {
+        (Variable::Shared(v), Variable::Shared(w)) => v == w,
+        (Variable::Local(m), Variable::Local(n)) => m == n,
+        (Variable::Shared(_), Variable::Local(_)) | (Variable::Local(_), Variable::Shared(_)) => false,
+    }
+}
+
+// Whether an expression is a variable alone.
+fn is_name(variable: Variable, e: &Expr<VariableName>) -> bool
+    ensures { result ≡ is_name variable (expression_of e.now) }
+{
+    match e {
+        Expr::Name(name) => is_same(variable, name.variable),
+        _ => false,
+    }
+}
+
+// The operation that sets a variable to what an operator gives of it, on the left, and of another side.
+fn updating(
+    variable: Variable,
+    op: BinaryOperator,
+    left: &Expr<VariableName>,
+) -> Option<PlainOperation>
+    ensures { result ≡ updating variable op (expression_of left.now) }
+{
+    if is_name(variable, left) {
+        plain_operation(op)
+    } else {
+        None
+    }
+}
+
+// `x = x + e` and its like are in place.
 fn assign(
     alloc: Global,
     variable: Variable,
@@ -44,8 +131,13 @@ fn assign(
     ensures { OnOk result (program_of program.new
         ≡ joined (program_of program.old) (assignment (places_in places.now) variable (expression_of e.now))) }
 {
-    append(program, lower_expression(alloc, e, places)?)?;
-    write(variable, places, program)
+    match e {
+        Expr::Binary(op, left, right) => match updating(variable, *op, left) {
+            Some(operation) => set_in_place(alloc, operation, variable, right, places, program),
+            None => set(alloc, variable, e, places, program),
+        },
+        _ => set(alloc, variable, e, places, program),
+    }
 }
 
 // Pops a word and an index, and stores the word in the copy of an element. The checks refuse an index on anything but an
