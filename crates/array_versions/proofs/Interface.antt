@@ -9,7 +9,7 @@ pub use Rattle.array_versions.proofs.ByEffects.{behaves_by_effects}
 -- A whole program is never broken: along each way the stack is as deep as is said, and the locals that are said to be assigned are.
 pub use Rattle.array_versions.proofs.Ways.{Matches, GoesWell, matches_local, step_well, test_well, well, start_matches, whole_ends_soundly}
 -- From words a program makes words.
-pub use Rattle.array_versions.proofs.Words.{zero_unless, put_words, stack_words, local_words, place_high, step_words, test_words, words}
+pub use Rattle.array_versions.proofs.Words.{zero_unless, plain_small, put_words, stack_words, local_words, place_high, step_words, test_words, words}
 -- A program that spares a local leaves its word.
 pub use Rattle.array_versions.proofs.Spared.{Leaves, leaves}
 -- Each step keeps to the allowance.

@@ -23,7 +23,8 @@ use Rattle.array_versions.specs.declared.program.WordStep.{WordStep, the_lemmas}
 use Rattle.array_versions.specs.declared.program.WordStep.TheVariants.{VersionedRead, VersionedWrite, Choose}
 use Rattle.array_versions.specs.declared.program.WordTest.{WordTest}
 use Rattle.array_versions.specs.declared.program.WordTest.TheVariants.{Holds, Compares, Both, Either}
-use Rattle.array_versions.specs.Program.{Step, Test, Program, number, load, keep, local, set_local, unary, binary, shift, element, emit_word}
+use Rattle.array_versions.specs.Program.{Step, Test, Program, number, load, keep, update, local, set_local, update_local, unary, binary, shift, element}
+use Rattle.array_versions.specs.Program.{emit_word}
 use Rattle.array_versions.specs.Program.{list_entry}
 use Rattle.array_versions.specs.Program.{versioned_read, versioned_write, sense, truth, choose, repeat, store_number, move_word, jump, holds}
 use Rattle.array_versions.specs.Program.{compares}
@@ -126,12 +127,14 @@ mutual
   step_locals_up : (a b : ℕ) (s : Step) → a ≤ b → StepLocalsBelow a s → StepLocalsBelow b s
   step_locals_up a b (local n) l h = omega (arith, h)
   step_locals_up a b (set_local n) l h = omega (arith, h)
+  step_locals_up a b (update_local o n) l h = omega (arith, h)
   step_locals_up a b (truth c) l h = test_locals_up a b c l h
   step_locals_up a b (choose c p q) l h = (test_locals_up a b c l h.0, locals_up a b p l h.1, locals_up a b q l h.2)
   step_locals_up a b (repeat n from below p) l h = (omega (arith, h.0), locals_up a b p l h.1)
   step_locals_up a b (number w) l h = tt
   step_locals_up a b (load w) l h = tt
   step_locals_up a b (keep w) l h = tt
+  step_locals_up a b (update o w) l h = tt
   step_locals_up a b (unary o) l h = tt
   step_locals_up a b (binary o) l h = tt
   step_locals_up a b (shift o k) l h = tt

@@ -18,7 +18,8 @@ use Rattle.array_versions.specs.declared.program.ArrayPlace.{ArrayPlace}
 use Rattle.array_versions.specs.declared.program.ListPlace.{ListPlace}
 use Rattle.array_versions.specs.declared.operations.Comparison.{Comparison}
 use Rattle.array_versions.specs.declared.operations.Comparison.TheVariants.{Equal, Below, Above, SignedBelow, SignedAbove, CommonBit}
-use Rattle.array_versions.specs.Program.{Step, Test, Program, number, load, keep, local, set_local, unary, binary, shift, element, emit_word}
+use Rattle.array_versions.specs.Program.{Step, Test, Program, number, load, keep, update, local, set_local, update_local, unary, binary, shift, element}
+use Rattle.array_versions.specs.Program.{emit_word}
 use Rattle.array_versions.specs.Program.{list_entry}
 use Rattle.array_versions.specs.Program.{versioned_read, versioned_write, sense, truth, choose, repeat, store_number, move_word, jump, holds}
 use Rattle.array_versions.specs.Program.{compares}
@@ -108,8 +109,10 @@ mutual
   step_are at (number w) = (tt, tt)
   step_are at (load a) = (tt, tt)
   step_are at (keep a) = (tt, tt)
+  step_are at (update o a) = (tt, tt)
   step_are at (local n) = (tt, tt)
   step_are at (set_local n) = (tt, tt)
+  step_are at (update_local o n) = (tt, (tt, (tt, (tt, tt))))
   step_are at (unary o) = (tt, are-append (unary_middle o) (push_from R4 ∷ []) (unary_are o) (tt, tt))
   step_are at (binary o) = (tt, (tt, are-append (binary_middle o) (push_from (binary_result o) ∷ []) (binary_are o) (tt, tt)))
   step_are at (shift o k) = (tt, are-append (shift_middle o k) (push_from R4 ∷ []) (shift_are o k) (tt, tt))

@@ -20,7 +20,8 @@ use Rattle.array_versions.specs.declared.operations.ShiftOperation.{ShiftOperati
 use Rattle.array_versions.specs.declared.operations.ShiftOperation.TheVariants.{Left, Right, SignedRight}
 use Rattle.array_versions.specs.declared.operations.Comparison.{Comparison}
 use Rattle.array_versions.specs.declared.operations.Comparison.TheVariants.{Equal, Below, Above, SignedBelow, SignedAbove, CommonBit}
-use Rattle.array_versions.specs.Program.{Step, Test, Program, number, load, keep, local, set_local, unary, binary, shift, element, emit_word}
+use Rattle.array_versions.specs.Program.{Step, Test, Program, number, load, keep, update, local, set_local, update_local, unary, binary, shift, element}
+use Rattle.array_versions.specs.Program.{emit_word}
 use Rattle.array_versions.specs.Program.{list_entry}
 use Rattle.array_versions.specs.Program.{versioned_read, versioned_write, sense, truth, choose, repeat, store_number, move_word, jump, holds}
 use Rattle.array_versions.specs.Program.{compares}
@@ -90,8 +91,10 @@ mutual
   step_length at (number w) = refl
   step_length at (load a) = refl
   step_length at (keep a) = refl
+  step_length at (update o a) = refl
   step_length at (local n) = refl
   step_length at (set_local n) = refl
+  step_length at (update_local o n) = refl
   step_length at (unary o) = omega (arith, forms_bytes-append (unary_middle o) (push_from R4 ∷ []), unary_length o)
   step_length at (binary o) = omega (arith, forms_bytes-append (binary_middle o) (push_from (binary_result o) ∷ []), binary_length o)
   step_length at (shift o k) = omega (arith, forms_bytes-append (shift_middle o k) (push_from R4 ∷ []), shift_length o k)

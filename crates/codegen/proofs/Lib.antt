@@ -2,6 +2,7 @@ mod Stretches
 mod Memory
 mod Follows
 mod Parts
+mod Updates
 mod Registers
 mod Choices
 mod Loops

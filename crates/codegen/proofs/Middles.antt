@@ -6,7 +6,9 @@ use Rattle.code_forms.specs.Forms.{WorkRegister, R4, R5, work_number, Core, Regi
 use Rattle.code_forms.specs.Code.{Stands, forms_bytes, AreStraight, forms_run, FormsNeed, Runs}
 use Rattle.code_forms.proofs.Interface.{stands_front, stands_back, end_of}
 use Rattle.array_versions.specs.declared.operations.UnaryOperation.TheVariants.{Negate, Complement}
-use Rattle.array_versions.specs.declared.operations.BinaryOperation.TheVariants.{Add, Subtract, And, Xor, Or}
+use Rattle.array_versions.specs.declared.operations.PlainOperation.{PlainOperation}
+use Rattle.array_versions.specs.declared.operations.PlainOperation.TheVariants.{Add, Subtract, And, Xor, Or}
+use Rattle.array_versions.specs.declared.operations.BinaryOperation.TheVariants.{Plain}
 use Rattle.array_versions.specs.Operations.{unary_word, binary_word}
 use Rattle.array_versions.specs.Behaviour.{WordState, goes_on, with_stack, with_top, with_two}
 use Rattle.codegen.specs.Code.{unary_middle, unary_code, binary_middle, binary_code}
@@ -63,27 +65,19 @@ module _ (z : Setting) where
       middle z ms c pc (pc + forms_bytes ms) val b w t (end_of t (forms_run ms t).status) i st h ok x.0
       (x.1 ∙ ap (λ p. p + forms_bytes ms) i.at) x.2 x.3 x.4 x.5 x.6
 
-  pub add_middle : BinaryMiddle (binary_middle Add) R4 1 (binary_word Add)
-  add_middle pc x y w t a b h k =
-      line (binary_middle Add) 1 pc R4 _ w t k.is (tt, tt) h ((tt, tt), tt)
+  pub plain_middle : (o : PlainOperation) → BinaryMiddle (binary_middle (Plain o)) R4 1 (binary_word (Plain o))
+  plain_middle Add pc x y w t a b h k =
+      line (binary_middle (Plain Add)) 1 pc R4 _ w t k.is (tt, tt) h ((tt, tt), tt)
       (refl, omega arith, refl, refl, refl, refl, ap₂ (λ p q. (p + q + 0) % 0x10000) k.four k.five ∙ omega arith)
-
-  pub subtract_middle : BinaryMiddle (binary_middle Subtract) R4 1 (binary_word Subtract)
-  subtract_middle pc x y w t a b h k =
-      line (binary_middle Subtract) 1 pc R4 _ w t k.is (tt, tt) h ((tt, tt), tt)
+  plain_middle Subtract pc x y w t a b h k =
+      line (binary_middle (Plain Subtract)) 1 pc R4 _ w t k.is (tt, tt) h ((tt, tt), tt)
       (refl, omega arith, refl, refl, refl, refl, ap₂ (λ p q. (p + (0xFFFF - q) + 1) % 0x10000) k.four k.five ∙ omega arith)
-
-  pub and_middle : BinaryMiddle (binary_middle And) R4 1 (binary_word And)
-  and_middle pc x y w t a b h k =
-      line (binary_middle And) 1 pc R4 _ w t k.is (tt, tt) h ((tt, tt), tt) (refl, omega arith, refl, refl, refl, refl, ap₂ bit_and k.four k.five)
-
-  pub or_middle : BinaryMiddle (binary_middle Or) R4 1 (binary_word Or)
-  or_middle pc x y w t a b h k =
-      line (binary_middle Or) 1 pc R4 _ w t k.is (tt, tt) h ((tt, tt), tt) (refl, omega arith, refl, refl, refl, refl, ap₂ bit_or k.four k.five)
-
-  pub xor_middle : BinaryMiddle (binary_middle Xor) R4 1 (binary_word Xor)
-  xor_middle pc x y w t a b h k =
-      line (binary_middle Xor) 1 pc R4 _ w t k.is (tt, tt) h ((tt, tt), tt) (refl, omega arith, refl, refl, refl, refl, ap₂ bit_xor k.four k.five)
+  plain_middle And pc x y w t a b h k =
+      line (binary_middle (Plain And)) 1 pc R4 _ w t k.is (tt, tt) h ((tt, tt), tt) (refl, omega arith, refl, refl, refl, refl, ap₂ bit_and k.four k.five)
+  plain_middle Xor pc x y w t a b h k =
+      line (binary_middle (Plain Xor)) 1 pc R4 _ w t k.is (tt, tt) h ((tt, tt), tt) (refl, omega arith, refl, refl, refl, refl, ap₂ bit_xor k.four k.five)
+  plain_middle Or pc x y w t a b h k =
+      line (binary_middle (Plain Or)) 1 pc R4 _ w t k.is (tt, tt) h ((tt, tt), tt) (refl, omega arith, refl, refl, refl, refl, ap₂ bit_or k.four k.five)
 
   pub negate_middle : UnaryMiddle (unary_middle Negate) 2 (unary_word Negate)
   negate_middle pc y w t b h k =

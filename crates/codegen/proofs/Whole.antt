@@ -11,16 +11,18 @@ use Rattle.code_forms.proofs.Interface.{stands_front, stands_back, forms_behind}
 use Rattle.array_versions.specs.declared.operations.UnaryOperation.{UnaryOperation}
 use Rattle.array_versions.specs.declared.operations.UnaryOperation.TheVariants.{Negate, Complement}
 use Rattle.array_versions.specs.declared.operations.BinaryOperation.{BinaryOperation}
-use Rattle.array_versions.specs.declared.operations.BinaryOperation.TheVariants.{Multiply, Divide, Remainder, Add, Subtract, And, Xor, Or}
+use Rattle.array_versions.specs.declared.operations.BinaryOperation.TheVariants.{Multiply, Divide, Remainder, Plain}
+use Rattle.array_versions.specs.declared.operations.PlainOperation.{PlainOperation}
 use Rattle.array_versions.specs.declared.operations.Comparison.{Comparison}
 use Rattle.array_versions.specs.Operations.{unary_word, binary_word, is_true, compare_words}
-use Rattle.array_versions.specs.Program.{Step, Test, Program, number, load, keep, local, set_local, unary, binary, shift, element, emit_word}
+use Rattle.array_versions.specs.Program.{Step, Test, Program, number, load, keep, update, local, set_local, update_local, unary, binary, shift, element}
+use Rattle.array_versions.specs.Program.{emit_word}
 use Rattle.array_versions.specs.Program.{list_entry}
 use Rattle.array_versions.specs.Program.{versioned_read, versioned_write, sense, truth, choose, repeat, store_number, move_word, jump, holds}
 use Rattle.array_versions.specs.Program.{compares}
 use Rattle.array_versions.specs.Program.{both, either, fails, nothing, step}
 use Rattle.array_versions.specs.Behaviour.{WordState, started, End, GoesOn, Jumps, Short, Strays, Broken, Behaviour, goes_on, with_stack, with_local}
-use Rattle.array_versions.specs.Behaviour.{with_top, with_two, is_place, local_pushed, number_pushed, way_by_top, way_by_two, step_behaviour, tested}
+use Rattle.array_versions.specs.Behaviour.{with_top, with_two, is_place, local_pushed, local_updated, number_pushed, way_by_top, way_by_two, step_behaviour, tested}
 use Rattle.array_versions.specs.Behaviour.{behaviour}
 use Rattle.array_versions.specs.Form.{Place, start, assigning, Moves, EachTurn, EachStepWay, EachTestWay, EachWay, StepLocalsBelow, TestLocalsBelow}
 use Rattle.array_versions.specs.Form.{LocalsBelow, StepLoopsCount, TestLoopsCount, LoopsCount, StepOfWords, TestOfWords, OfWords}
@@ -41,8 +43,8 @@ use Rattle.codegen.proofs.Parts.{number_part, constant_part, load_part, local_pa
 use Rattle.codegen.proofs.Registers.{branch_to, jump_to}
 use Rattle.codegen.proofs.Choices.{Fork, fork_at, fork_turned, decided_follows, holds_part, compares_part}
 use Rattle.codegen.proofs.Loops.{loop_part}
-use Rattle.codegen.proofs.Middles.{BinaryMiddle, unary_part, binary_part, add_middle, subtract_middle, and_middle, or_middle, xor_middle}
-use Rattle.codegen.proofs.Middles.{negate_middle, complement_middle}
+use Rattle.codegen.proofs.Middles.{BinaryMiddle, unary_part, binary_part, plain_middle, negate_middle, complement_middle}
+use Rattle.codegen.proofs.Updates.{update_part, update_local_part}
 use Rattle.codegen.proofs.Access.{element_part, emit_part, entry_part}
 use Rattle.codegen.proofs.VersionParts.{read_part, write_part}
 use Rattle.codegen.proofs.ShiftParts.{shift_part}
@@ -106,11 +108,7 @@ module _ (z : Setting) where
   binary_follows Multiply = by_middle Multiply R6 145 (multiply_middle z)
   binary_follows Divide = by_middle Divide R4 195 (divide_part z)
   binary_follows Remainder = by_middle Remainder R6 195 (remainder_part z)
-  binary_follows Add = by_middle Add R4 1 (add_middle z)
-  binary_follows Subtract = by_middle Subtract R4 1 (subtract_middle z)
-  binary_follows And = by_middle And R4 1 (and_middle z)
-  binary_follows Xor = by_middle Xor R4 1 (xor_middle z)
-  binary_follows Or = by_middle Or R4 1 (or_middle z)
+  binary_follows (Plain o) = by_middle (Plain o) R4 1 (plain_middle z o)
 
   -- the forms in front of a comparison's decision, and the decision
   compares_front : (c : Comparison) (pc : ℕ) (far : Bool) (holds_at fails_at : ℕ) → Stands z.code pc (compares_code c far holds_at fails_at)
@@ -184,11 +182,16 @@ module _ (z : Setting) where
     step_follows (load a) next pc w u r o l c h i =
         guarded z (is_place a) (pc + 4) 5 u _ (λ e. load_part z a pc w u (omega (arith, r.fit.1, r.matches.depth)) (place_is a e) h i)
     step_follows (keep a) next pc w u r o l c h i = keep_part z a pc w u w.stack refl h i
+    step_follows (update op a) next pc w u r o l c h i = update_part z op a pc w u w.stack (r.words_in.fram a) refl r.words_in.stack h i
     step_follows (local n) next pc w u r o l c h i =
         let x = r.matches.assigned n r.fit.0 in
         let f = r.fit.1 in
         subst (λ v. Follows z (pc + 4) 5 u (local_pushed v w)) (sym x.is) (local_part z n x.word pc w u (omega (arith, f.1, r.matches.depth)) l x.is h i)
     step_follows (set_local n) next pc w u r o l c h i = set_part z n pc w u w.stack l refl h i
+    step_follows (update_local op n) next pc w u r o l c h i =
+        let x = r.matches.assigned n r.fit.0 in
+        subst (λ v. Follows z (pc + 12) 10 u (with_top w.stack (λ y us. local_updated op n y v (with_stack us w)))) (sym x.is)
+        (update_local_part z op n x.word pc w u w.stack l x.is (r.words_in.locals n x.word x.is) refl r.words_in.stack h i)
     step_follows (unary op) next pc w u r o l c h i =
         ends_at z _ (pc + 2 * unary_words op) (unary_cycles op) u (step_behaviour (unary op) w) (omega (arith, unary_length op))
         (unary_follows op pc w u r.words_in.stack h i)

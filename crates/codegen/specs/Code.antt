@@ -1,5 +1,6 @@
 -- The code of a word program: the stack is at SP, its top first; a local stands in RAM; R4 to R7 are for work.
 use Rattle.std.specs.Prelude.{ℕ, zero, suc, ◌+◌, ◌-◌, ◌*◌, Bool, true, false, not, List, [], ◌∷◌, ◌++◌, ◌==◌, if◌then◌else◌, nat_le, nat_lt}
+use Rattle.msp_isa.specs.declared.instructions.TwoOp.{TwoOp}
 use Rattle.msp_isa.specs.declared.instructions.TwoOp.TheVariants as op
 use Rattle.msp_isa.specs.declared.registers.SourceRegister.TheVariants as source_register
 use Rattle.msp_isa.specs.declared.operands.Operand.{Operand}
@@ -15,14 +16,17 @@ use Rattle.code_forms.specs.Forms.{ToIndexed, Source, Form, Move, Calculate, Upd
 use Rattle.array_versions.specs.declared.operations.UnaryOperation.{UnaryOperation}
 use Rattle.array_versions.specs.declared.operations.UnaryOperation.TheVariants.{Negate, Complement}
 use Rattle.array_versions.specs.declared.operations.BinaryOperation.{BinaryOperation}
-use Rattle.array_versions.specs.declared.operations.BinaryOperation.TheVariants.{Multiply, Divide, Remainder, Add, Subtract, And, Xor, Or}
+use Rattle.array_versions.specs.declared.operations.BinaryOperation.TheVariants.{Multiply, Divide, Remainder, Plain}
+use Rattle.array_versions.specs.declared.operations.PlainOperation.{PlainOperation}
+use Rattle.array_versions.specs.declared.operations.PlainOperation.TheVariants.{Add, Subtract, And, Xor, Or}
 use Rattle.array_versions.specs.declared.operations.Comparison.{Comparison}
 use Rattle.array_versions.specs.declared.operations.Comparison.TheVariants.{Equal, Below, Above, SignedBelow, SignedAbove, CommonBit}
 use Rattle.array_versions.specs.declared.operations.ShiftOperation.{ShiftOperation}
 use Rattle.array_versions.specs.declared.operations.ShiftOperation.TheVariants.{Left, Right, SignedRight}
 use Rattle.array_versions.specs.declared.program.ArrayPlace.{ArrayPlace}
 use Rattle.array_versions.specs.declared.program.ListPlace.{ListPlace}
-use Rattle.array_versions.specs.Program.{Step, Test, Program, number, load, keep, local, set_local, unary, binary, shift, element, emit_word}
+use Rattle.array_versions.specs.Program.{Step, Test, Program, number, load, keep, update, local, set_local, update_local, unary, binary, shift, element}
+use Rattle.array_versions.specs.Program.{emit_word}
 use Rattle.array_versions.specs.Program.{list_entry}
 use Rattle.array_versions.specs.Program.{versioned_read, versioned_write, sense, truth, choose, repeat, store_number, move_word, jump, holds}
 use Rattle.array_versions.specs.Program.{compares}
@@ -68,16 +72,20 @@ divide_turn =
 abbrev pub divide_middle : List Form
 divide_middle = Move (Constant konst.Zero) (ToRegister R6) ∷ Move (Number 16) (ToRegister R7) ∷ divide_turn
 
+-- the instruction of an operation
+abbrev pub plain_instruction : PlainOperation → TwoOp
+plain_instruction Add = op.Add
+plain_instruction Subtract = op.Sub
+plain_instruction And = op.And
+plain_instruction Xor = op.Xor
+plain_instruction Or = op.Bis
+
 -- an operation on the left side in R4 and the right one in R5
 abbrev pub binary_middle : BinaryOperation → List Form
 binary_middle Multiply = Move (Constant konst.Zero) (ToRegister R6) ∷ multiply_turn
 binary_middle Divide = divide_middle
 binary_middle Remainder = divide_middle
-binary_middle Add = Calculate op.Add (Register R5) R4 ∷ []
-binary_middle Subtract = Calculate op.Sub (Register R5) R4 ∷ []
-binary_middle And = Calculate op.And (Register R5) R4 ∷ []
-binary_middle Xor = Calculate op.Xor (Register R5) R4 ∷ []
-binary_middle Or = Calculate op.Bis (Register R5) R4 ∷ []
+binary_middle (Plain o) = Calculate (plain_instruction o) (Register R5) R4 ∷ []
 
 -- where its result is
 abbrev pub binary_result : BinaryOperation → WorkRegister
@@ -88,6 +96,12 @@ binary_result _ = R4
 -- the right side to R5 and the left one to R4, the operation, its result to the top
 abbrev pub binary_code : List Form → WorkRegister → List Form
 binary_code middle b = pop_to R5 ∷ pop_to R4 ∷ (middle ++ push_from b ∷ [])
+
+-- a local becomes what an operation gives of it and of the top
+abbrev pub update_code : PlainOperation → ℕ → List Form
+update_code o n =
+    pop_to R5 ∷ Move (Ram (local_address n)) (ToRegister R4) ∷ Calculate (plain_instruction o) (Register R5) R4
+    ∷ Move (Register R4) (ToRam (local_address n)) ∷ []
 
 -- R4 as an operand
 abbrev pub in_r4 : Operand
@@ -283,8 +297,10 @@ abbrev mutual
   step_code at (number w) = Push (Number w) ∷ []
   step_code at (load a) = Push (Fram a) ∷ []
   step_code at (keep a) = Move Popped (ToFram a) ∷ []
+  step_code at (update o a) = Update (plain_instruction o) Popped a ∷ []
   step_code at (local n) = Push (Ram (local_address n)) ∷ []
   step_code at (set_local n) = Move Popped (ToRam (local_address n)) ∷ []
+  step_code at (update_local o n) = update_code o n
   step_code at (unary operation) = unary_code (unary_middle operation)
   step_code at (binary operation) = binary_code (binary_middle operation) (binary_result operation)
   step_code at (shift operation k) = shift_code (shift_middle operation k)

@@ -5,12 +5,12 @@ ghost use Rattle.code_forms.specs.Forms as form;
 ghost use Rattle.code_forms.specs.Placed.{instructions};
 ghost use Rattle.array_versions.specs.declared.operations.BinaryOperation.TheVariants as binary_op;
 ghost use Rattle.array_versions.specs.Cost.{unary_words, binary_words};
-ghost use Rattle.codegen.specs.Code.{unary_code, unary_middle, binary_code, binary_middle, binary_result, divide_middle, push_from, pop_to};
+ghost use Rattle.codegen.specs.Code.{unary_code, unary_middle, binary_code, binary_middle, binary_result, divide_middle, push_from, pop_to, plain_instruction};
 ghost use Rattle.msp_isa.specs.alp_words.declared.Width.TheVariants.{Word};
 ghost use Rattle.msp_isa.specs.declared.instructions.OneOp.TheVariants as one_op;
 
 use crate::forms::{POPPED, R4, R5, R6, TO_R4, TO_R5, TO_R6, TO_R7, constant, jump, push, two};
-use array_versions::{BinaryOperation, UnaryOperation};
+use array_versions::{BinaryOperation, PlainOperation, UnaryOperation};
 use msp_isa::{
     Condition, Dst, IndexRegister, Instr, Konst, OneOp, Operand, SourceRegister, Src, TwoOp, Width,
 };
@@ -45,6 +45,19 @@ fn emit_pops(code: &mut Vec<Instr>) -> Result<(), AllocError>
         two(TwoOp::Mov, POPPED, TO_R5),
         two(TwoOp::Mov, POPPED, TO_R4),
     ])
+}
+
+/// The instruction of an operation.
+pub fn plain_instruction(operation: PlainOperation) -> TwoOp
+    ensures { result ≡ plain_instruction operation }
+{
+    match operation {
+        PlainOperation::Add => TwoOp::Add,
+        PlainOperation::Subtract => TwoOp::Sub,
+        PlainOperation::And => TwoOp::And,
+        PlainOperation::Xor => TwoOp::Xor,
+        PlainOperation::Or => TwoOp::Bis,
+    }
 }
 
 // One instruction, and its result is pushed.
@@ -101,11 +114,7 @@ fn emit_middle(operation: BinaryOperation, code: &mut Vec<Instr>) -> Result<(), 
         ≡ code.old.items ++ instructions (binary_middle operation ++ push_from (binary_result operation) ∷ [])) }
 {
     match operation {
-        BinaryOperation::Add => emit_plain(TwoOp::Add, code),
-        BinaryOperation::Subtract => emit_plain(TwoOp::Sub, code),
-        BinaryOperation::And => emit_plain(TwoOp::And, code),
-        BinaryOperation::Xor => emit_plain(TwoOp::Xor, code),
-        BinaryOperation::Or => emit_plain(TwoOp::Bis, code),
+        BinaryOperation::Plain(operation) => emit_plain(plain_instruction(operation), code),
         BinaryOperation::Multiply => emit_multiply(code),
         BinaryOperation::Divide => emit_divide(R4, code),
         BinaryOperation::Remainder => emit_divide(R6, code),
@@ -137,11 +146,7 @@ pub fn binary_bytes(operation: BinaryOperation) -> u16
     ensures low { result ≤ 30 }
 {
     match operation {
-        BinaryOperation::Add
-        | BinaryOperation::Subtract
-        | BinaryOperation::And
-        | BinaryOperation::Xor
-        | BinaryOperation::Or => 8,
+        BinaryOperation::Plain(_) => 8,
         BinaryOperation::Multiply => 22,
         BinaryOperation::Divide | BinaryOperation::Remainder => 30,
     }

@@ -11,17 +11,17 @@ ghost use Rattle.array_versions.specs.View.{program_of, steps_of, step_of, test_
 ghost use Rattle.array_versions.specs.Form.{IsWhole, LocalsBelow, StepLocalsBelow, TestLocalsBelow, OfWords, StepOfWords, TestOfWords};
 ghost use Rattle.array_versions.specs.Cost.{words_of, step_words, test_words, entry_words};
 ghost use Rattle.codegen.specs.Code.{code_of, step_code, test_code, truth_code, element_code, emit_code, words_source, entry_code, loop_head};
-ghost use Rattle.codegen.specs.Code.{loop_step, push_from};
+ghost use Rattle.codegen.specs.Code.{loop_step, push_from, update_code};
 
 use crate::decisions::{emit_compares, emit_holds};
 use crate::forms::{
     POPPED, R4, R5, R6, TO_R4, TO_R5, TO_R6, absolute, branch, constant, jump, local_address, push,
     two,
 };
-use crate::operations::{binary_bytes, emit_binary, emit_unary, unary_bytes};
+use crate::operations::{binary_bytes, emit_binary, emit_unary, plain_instruction, unary_bytes};
 use crate::shifts::{emit_shift, shift_bytes};
 use crate::versioned::{emit_versioned_read, emit_versioned_write};
-use array_versions::{WordProgram, WordStep, WordTest};
+use array_versions::{PlainOperation, WordProgram, WordStep, WordTest};
 use msp_isa::{Condition, Dst, IndexRegister, Instr, Konst, Operand, Src, TwoOp};
 use std::alloc::{AllocError, Global};
 
@@ -165,6 +165,20 @@ fn emit_move(source: Src, address: u16, code: &mut Vec<Instr>) -> Result<(), All
     emit_one(two(TwoOp::Mov, source, Dst::Absolute(address)), code)
 }
 
+// A local becomes what an operation gives of it and of the top.
+fn emit_update(operation: PlainOperation, n: u16, code: &mut Vec<Instr>) -> Result<(), AllocError>
+    requires { n < 1008 }
+    ensures { OnOk result (code.new.items ≡ code.old.items ++ instructions (update_code operation n)) }
+{
+    let place = local_address(n);
+    code.extend_from_slice(&[
+        two(TwoOp::Mov, POPPED, TO_R5),
+        two(TwoOp::Mov, absolute(place), TO_R4),
+        two(plain_instruction(operation), R5, TO_R4),
+        two(TwoOp::Mov, R4, Dst::Absolute(place)),
+    ])
+}
+
 // The next reading to the top.
 fn emit_sense(code: &mut Vec<Instr>) -> Result<(), AllocError>
     ensures { OnOk result (code.new.items ≡ code.old.items ++ instructions (form.Sense form.R4 ∷ push_from form.R4 ∷ [])) }
@@ -193,9 +207,11 @@ fn step_bytes(step: &WordStep) -> u16
         WordStep::Number(_)
         | WordStep::Load(_)
         | WordStep::Keep(_)
+        | WordStep::Update(..)
         | WordStep::Local(_)
         | WordStep::SetLocal(_)
         | WordStep::Jump(_) => 4,
+        WordStep::UpdateLocal(..) => 12,
         WordStep::Sense | WordStep::StoreNumber { .. } | WordStep::MoveWord { .. } => 6,
         WordStep::Unary(operation) => unary_bytes(*operation),
         WordStep::Binary(operation) => binary_bytes(*operation),
@@ -401,8 +417,13 @@ fn emit_step(step: &WordStep, at: u16, end: u16, code: &mut Vec<Instr>) -> Resul
         WordStep::Number(word) => emit_one(push(Src::Immediate(*word)), code),
         WordStep::Load(address) => emit_one(push(absolute(*address)), code),
         WordStep::Keep(address) => emit_move(POPPED, *address, code),
+        WordStep::Update(operation, address) => {
+            let op = plain_instruction(*operation);
+            emit_one(two(op, POPPED, Dst::Absolute(*address)), code)
+        }
         WordStep::Local(n) => emit_one(push(absolute(local_address(*n))), code),
         WordStep::SetLocal(n) => emit_move(POPPED, local_address(*n), code),
+        WordStep::UpdateLocal(operation, n) => emit_update(*operation, *n, code),
         WordStep::Unary(operation) => emit_unary(*operation, code),
         WordStep::Binary(operation) => emit_binary(*operation, code),
         WordStep::Shift(operation, count) => emit_shift(*operation, *count, code),

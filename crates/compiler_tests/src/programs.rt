@@ -1,6 +1,6 @@
 //! One program by each builder.
 
-use codegen::{BinaryOperation, Comparison, WordProgram, WordStep, WordTest};
+use codegen::{BinaryOperation, Comparison, PlainOperation, WordProgram, WordStep, WordTest};
 use std::alloc::{AllocError, Global};
 
 // `if (7 < 9) { n = n + sense(); }`, with n at 4410.
@@ -8,7 +8,7 @@ fn adding(alloc: Global) -> Result<WordProgram, AllocError> {
     let mut adds = WordProgram::new(alloc);
     adds.load(0x4410)?;
     adds.sense()?;
-    adds.binary(BinaryOperation::Add)?;
+    adds.binary(BinaryOperation::Plain(PlainOperation::Add))?;
     adds.keep(0x4410)?;
     let mut sides = WordProgram::new(alloc);
     sides.number(7)?;

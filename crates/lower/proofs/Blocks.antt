@@ -24,7 +24,7 @@ use Rattle.lower.specs.Operations.{plain_operation}
 use Rattle.array_versions.specs.Program.{Program, emit_word, versioned_write, choose, repeat, nothing, joined}
 use Rattle.array_versions.specs.Behaviour as words
 use Rattle.array_versions.specs.Behaviour.{WordState, Behaviour, then_on}
-use Rattle.array_versions.specs.Behaviour.{local_updated, is_place, at_place, stored, with_local, word_stored, word_emitted, way_by_top, tested}
+use Rattle.array_versions.specs.Behaviour.{local_updated, is_place, at_place, stored, with_local, word_emitted, way_by_top, tested}
 use Rattle.array_versions.specs.Behaviour.{behaviour}
 use Rattle.array_versions.proofs.Interface.{joined_go_on, joined_assoc, decided_by_truth}
 use Rattle.lower.specs.Lowered.{update_step, setting, updating, sides_set}

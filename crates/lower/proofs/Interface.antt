@@ -2,6 +2,8 @@
 
 -- The program of an expression leaves its value.
 pub use Rattle.lower.proofs.Values.{takes_append, small_modulo}
+-- An assignment in place has the variable on the left side.
+pub use Rattle.lower.proofs.Updates.{IsUpdate, is_update}
 -- What an entry more of the commit list leaves, and that no run is without a word.
 pub use Rattle.lower.proofs.Transitions.{after_entry}
 pub use Rattle.lower.proofs.Lists.{entered_pairs}

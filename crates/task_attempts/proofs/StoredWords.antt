@@ -8,22 +8,23 @@ use Rattle.layout_facts.specs.machine_effects.World.{EachStore}
 use Rattle.layout_facts.proofs.machine_effects.Interface.{each_store-append}
 use Rattle.layout_facts.specs.array_versions.declared.program.ArrayPlace.{ArrayPlace}
 use Rattle.layout_facts.specs.array_versions.declared.program.ListPlace.{ListPlace}
+use Rattle.layout_facts.specs.array_versions.declared.operations.PlainOperation.{PlainOperation}
 use Rattle.layout_facts.specs.array_versions.Operations.{is_true, compare_words}
-use Rattle.layout_facts.specs.array_versions.Program.{Step, Test, Program, number, load, keep, local, set_local, unary, binary, shift, element}
+use Rattle.layout_facts.specs.array_versions.Program.{Step, Test, Program, number, load, keep, update, local, set_local, update_local, unary, binary, shift, element}
 use Rattle.layout_facts.specs.array_versions.Program.{emit_word}
 use Rattle.layout_facts.specs.array_versions.Program.{list_entry, versioned_read, versioned_write, sense, truth, choose, repeat, store_number}
 use Rattle.layout_facts.specs.array_versions.Program.{move_word}
 use Rattle.layout_facts.specs.array_versions.Program.{jump, holds, compares, both, either, fails, nothing, step}
 use Rattle.layout_facts.specs.array_versions.Behaviour.{WordState, End, GoesOn, Jumps, Short, Strays, Broken, Behaviour, behaves, goes_on, strays}
 use Rattle.layout_facts.specs.array_versions.Behaviour.{broken, on_end, then_on}
-use Rattle.layout_facts.specs.array_versions.Behaviour.{is_place, at_place, with_top, with_stack, pushed, stored, with_local, local_pushed}
+use Rattle.layout_facts.specs.array_versions.Behaviour.{is_place, at_place, with_top, with_stack, pushed, stored, with_local, local_pushed, local_updated}
 use Rattle.layout_facts.specs.array_versions.Behaviour.{reading_pushed, raised, entry_stored, ends_before}
 use Rattle.layout_facts.specs.array_versions.Behaviour.{listed_behind, behind_effects, own_element, first_stored, own_stored, number_pushed}
 use Rattle.layout_facts.specs.array_versions.Behaviour.{way_by_top}
 use Rattle.layout_facts.specs.array_versions.Behaviour.{way_by_two, turns, step_behaviour, tested, behaviour}
 use Rattle.layout_facts.specs.array_versions.Form.{StepOfWords, TestOfWords, OfWords}
 use Rattle.layout_facts.specs.array_versions.Laws.{IsStateOfWords, EndsInWords}
-use Rattle.layout_facts.proofs.array_versions.Interface.{put_words, local_words, place_high, step_words, words, stack_words}
+use Rattle.layout_facts.proofs.array_versions.Interface.{put_words, local_words, place_high, plain_small, step_words, words, stack_words}
 
 -- the word of each store is a word
 abbrev pub StoresWords : List Effect → Type 0
@@ -130,6 +131,10 @@ versioned_stored_stores true place list i v s l w =
     (λ g. own_stored_stores (t.fram list.ver == t.fram (2 * i + place.versions)) place list i v s l (place_high c e) w)))
 versioned_stored_stores false place list i v s l w = tt
 
+updated_stores : (op : PlainOperation) (n v : ℕ) (o : Option ℕ) (s : WordState) → StoresWords (local_updated op n v o s).effects
+updated_stores op n v None s = tt
+updated_stores op n v (Some u) s = tt
+
 either_stores : (c : Bool) (a b : Behaviour) → StoresWords a.effects → StoresWords b.effects → StoresWords (if c then a else b).effects
 either_stores true a b h k = h
 either_stores false a b h k = k
@@ -163,8 +168,11 @@ mutual
   step_stores (number v) s h w = tt
   step_stores (load a) s h w = guarded (is_place a) _ (λ e. tt)
   step_stores (keep a) s h w = top_stores s.stack _ w.stack (λ v vs l m. guarded (is_place a) _ (λ e. (l, tt)))
+  step_stores (update op a) s h w =
+      top_stores s.stack _ w.stack (λ v vs l m. guarded (is_place a) _ (λ e. (plain_small op (s.fram a) v (w.fram a) l, tt)))
   step_stores (local n) s h w = local_stores (s.locals n) s
   step_stores (set_local n) s h w = top_stores s.stack _ w.stack (λ v vs l m. tt)
+  step_stores (update_local op n) s h w = top_stores s.stack _ w.stack (λ v vs l m. updated_stores op n v (s.locals n) (with_stack vs s))
   step_stores (unary op) s h w = top_stores s.stack _ w.stack (λ v vs l m. tt)
   step_stores (binary op) s h w = top_stores s.stack _ w.stack (λ v us l m. top_stores us _ m (λ u vs k j. tt))
   step_stores (shift op k) s h w = top_stores s.stack _ w.stack (λ v vs l m. tt)

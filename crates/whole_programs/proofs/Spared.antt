@@ -10,6 +10,7 @@ use Rattle.lower.specs.task_ast.Paths.{CheckedExpression, CheckedStatement, Chec
 use Rattle.lower.specs.task_ast.declared.SharedDeclaration.{SharedDeclaration}
 use Rattle.lower.specs.task_ast.declared.UnaryOperator.{UnaryOperator}
 use Rattle.lower.specs.task_ast.declared.UnaryOperator.TheVariants as unary_operator
+use Rattle.lower.specs.task_ast.declared.BinaryOperator.{BinaryOperator}
 use Rattle.lower.specs.task_ast.declared.ShortCircuitOperator.{ShortCircuitOperator}
 use Rattle.lower.specs.task_ast.declared.ShortCircuitOperator.TheVariants.{And as BothHold, Or as OneHolds}
 use Rattle.lower.specs.task_ast.declared.names.Variable.{Variable}
@@ -19,7 +20,9 @@ use Rattle.lower.specs.path_checks.Loops.{is_local, is_same_local, statement_ass
 use Rattle.lower.specs.path_checks.Loops.{BadLoopInStatement, BadLoopInChoice, BadLoopIn}
 use Rattle.lower.specs.source_values.Values.{joined_type, type_of}
 use Rattle.lower.specs.array_versions.declared.operations.UnaryOperation.TheVariants.{Negate, Complement}
-use Rattle.lower.specs.array_versions.declared.operations.BinaryOperation.TheVariants.{And}
+use Rattle.lower.specs.array_versions.declared.operations.BinaryOperation.TheVariants.{Plain}
+use Rattle.lower.specs.array_versions.declared.operations.PlainOperation.{PlainOperation}
+use Rattle.lower.specs.array_versions.declared.operations.PlainOperation.TheVariants.{And}
 use Rattle.lower.specs.array_versions.Program.{Test, Program, unary, binary, shift, emit_word, choose, store_number, move_word, jump, nothing, step}
 use Rattle.lower.specs.array_versions.Program.{joined}
 use Rattle.lower.specs.array_versions.Form.{StepSpares, TestSpares, Spares}
@@ -35,6 +38,7 @@ use Rattle.lower.specs.declared.operations.BinaryMeaning.TheVariants.{Calculates
 use Rattle.lower.specs.Operations.{binary_meaning, shift_operation}
 use Rattle.lower.specs.Lowered.{one, read_step, write_step, element_read, element_step, store_step, Lowering, word_program}
 use Rattle.lower.specs.Lowered.{value_test}
+use Rattle.lower.specs.Lowered.{update_step, setting, updating, sides_set}
 use Rattle.lower.specs.Lowered.{unary_lowering, binary_lowering, sides_test, lowering, lowered_expression, lowered_test, assignment, loop_local}
 use Rattle.lower.specs.Lowered.{entries}
 use Rattle.lower.specs.Lowered.{lowered_transition, lowered_statement, lowered_choice, lowered_block}
@@ -112,7 +116,7 @@ module _ (p : Places) (n : ℕ) where
 
   binary_spares : (meaning : BinaryMeaning) (q : Program) → Spares n q → LoweringSpares (binary_lowering meaning q)
   binary_spares (Calculates op) q h = let s = spares_joined n q (one (binary op)) h (tt, tt) in (s, s)
-  binary_spares CommonBits q h = (spares_joined n q (one (binary And)) h (tt, tt), h)
+  binary_spares CommonBits q h = (spares_joined n q (one (binary (Plain And))) h (tt, tt), h)
   binary_spares (Holds c) q h = ((h, tt), h)
   binary_spares (Fails c) q h = ((h, tt), h)
 
@@ -167,10 +171,31 @@ module _ (p : Places) (shared : List SharedDeclaration) (y : ℕ) (low : y < 256
   word_spares (Shared v) n h = tt
   word_spares (Local m) n h = apart m y n low h
 
+  update_spares : (o : PlainOperation) (x : Variable) → IsWordName shared x → is_same_local x (Local y) ≡ false
+      → StepSpares (y % 65536) (update_step p o x)
+  update_spares o (Shared v) n h = tt
+  update_spares o (Local m) n h = apart m y n low h
+
+  setting_spares : (x : Variable) (e : CheckedExpression) → IsWordName shared x → is_same_local x (Local y) ≡ false
+      → Spares (y % 65536) (setting p x e)
+  setting_spares x e n h =
+      spares_joined (y % 65536) (lowered_expression p e) (one (write_step p x)) (expression_spares p (y % 65536) e) (word_spares x n h, tt)
+
+  sides_set_spares : (x : Variable) (op : BinaryOperator) (a b : CheckedExpression) (o : Option PlainOperation) → IsWordName shared x
+      → is_same_local x (Local y) ≡ false → Spares (y % 65536) (sides_set p x op a b o)
+  sides_set_spares x op a b None n h = setting_spares x (t.binary op a b) n h
+  sides_set_spares x op a b (Some o) n h =
+      spares_joined (y % 65536) (lowered_expression p b) (one (update_step p o x)) (expression_spares p (y % 65536) b) (update_spares o x n h, tt)
+
+  -- the first clause makes it a proof by cases
+  assignment_spares : (x : Variable) (e : CheckedExpression) → IsWordName shared x → is_same_local x (Local y) ≡ false
+      → Spares (y % 65536) (assignment p x e)
+  assignment_spares x (t.binary op a b) n h = sides_set_spares x op a b (updating x op a) n h
+  assignment_spares x e n h = setting_spares x e n h
+
   assigned_spares : (x : VariableName) (e : CheckedExpression) → IsWordName shared x.variable → is_same_local x.variable (Local y) ≡ false
       → Spares (y % 65536) (assignment p x.variable e)
-  assigned_spares x e n h =
-      spares_joined (y % 65536) (lowered_expression p e) (one (write_step p x.variable)) (expression_spares p (y % 65536) e) (word_spares x.variable n h, tt)
+  assigned_spares x e n h = assignment_spares x.variable e n h
 
   loop_apart : (v : Variable) → IsLocalName v → is_same_local v (Local y) ≡ false → loop_local v ≢ y % 65536
   loop_apart (Shared n) w h = absurd w

@@ -7,6 +7,7 @@ use Rattle.lower.specs.task_ast.Paths.{CheckedExpression, CheckedStatement, Chec
 use Rattle.lower.specs.task_ast.declared.SharedDeclaration.{SharedDeclaration}
 use Rattle.lower.specs.task_ast.declared.UnaryOperator.{UnaryOperator}
 use Rattle.lower.specs.task_ast.declared.UnaryOperator.TheVariants as unary_operator
+use Rattle.lower.specs.task_ast.declared.BinaryOperator.{BinaryOperator}
 use Rattle.lower.specs.task_ast.declared.ShortCircuitOperator.{ShortCircuitOperator}
 use Rattle.lower.specs.task_ast.declared.ShortCircuitOperator.TheVariants.{And as BothHold, Or as OneHolds}
 use Rattle.lower.specs.task_ast.declared.names.Variable.{Variable}
@@ -15,7 +16,9 @@ use Rattle.lower.specs.task_ast.declared.names.VariableName.{VariableName}
 use Rattle.lower.specs.path_checks.Loops.{block_assigns}
 use Rattle.lower.specs.source_values.Values.{joined_type, type_of}
 use Rattle.lower.specs.array_versions.declared.operations.UnaryOperation.TheVariants.{Negate, Complement}
-use Rattle.lower.specs.array_versions.declared.operations.BinaryOperation.TheVariants.{And}
+use Rattle.lower.specs.array_versions.declared.operations.BinaryOperation.TheVariants.{Plain}
+use Rattle.lower.specs.array_versions.declared.operations.PlainOperation.{PlainOperation}
+use Rattle.lower.specs.array_versions.declared.operations.PlainOperation.TheVariants.{And}
 use Rattle.lower.specs.array_versions.Program.{Step, Test, Program, number, unary, binary, shift, emit_word, list_entry, sense, truth, choose, repeat}
 use Rattle.lower.specs.array_versions.Program.{compares, fails}
 use Rattle.lower.specs.array_versions.Program.{store_number, move_word, jump, nothing, step, joined}
@@ -38,7 +41,7 @@ use Rattle.lower.specs.Operations.{binary_meaning, shift_operation}
 use Rattle.lower.specs.Lowered.{one, read_step, write_step, list_place, written_array, element_read, element_step, store_step, Lowering, as_word}
 use Rattle.lower.specs.Lowered.{as_test}
 use Rattle.lower.specs.Lowered.{word_program, value_test, unary_lowering, binary_lowering, sides_test, lowering, lowered_expression, lowered_test}
-use Rattle.lower.specs.Lowered.{assignment}
+use Rattle.lower.specs.Lowered.{update_step, setting, updating, sides_set, assignment}
 use Rattle.lower.specs.Lowered.{loop_local, entries, lowered_transition, lowered_statement, lowered_choice, lowered_block}
 use Rattle.whole_programs.specs.Needs.{ExpressionFits, StatementFits, ChoiceFits, BlockFits}
 use Rattle.whole_programs.specs.Uses.{IsWordName, IsLocalName, ExpressionUses, StatementUses, ChoiceUses, BlockUses}
@@ -117,7 +120,7 @@ sound_unary unary_operator.Not l h = sound_test (fails (value_test l)) h.1
 
 sound_binary : (meaning : BinaryMeaning) (q : Program) → Sound q → LoweringSound (binary_lowering meaning q)
 sound_binary (Calculates op) q h = sound_last q (binary op) h (tt, tt, tt)
-sound_binary CommonBits q h = (sound_behind q (binary And) h (tt, tt, tt), h)
+sound_binary CommonBits q h = (sound_behind q (binary (Plain And)) h (tt, tt, tt), h)
 sound_binary (Holds c) q h = sound_test (compares c q) h
 sound_binary (Fails c) q h = sound_test (fails (compares c q)) h
 
@@ -212,9 +215,29 @@ module _ (p : Places) (words : PlacesOfWords p) where
         (sound_step (store_number (word_place p.map Gate) 1) leaves (tt, tt, (words.words Gate, one_is_word))
         (sound_one (jump p.map.commit.address) (tt, tt, words.commit)))))
 
+    update_sound : (o : PlainOperation) (x : Variable) → IsWordName shared x → StepSound (update_step p o x)
+    update_sound o (Shared v) n = (tt, tt, words.addresses v)
+    update_sound o (Local n) l = (low_local n l, tt, local_is_word n l)
+
+    setting_sound : (room : ℕ) (x : Variable) (e : CheckedExpression) → IsWordName shared x → ExpressionFits room 0 e → ExpressionUses shared e
+        → Sound (setting p x e)
+    setting_sound room x e w f n = sound_behind (lowered_expression p e) (write_step p x) (expression_sound room 0 e f n) (write_sound x w)
+
+    sides_set_sound : (room : ℕ) (x : Variable) (op : BinaryOperator) (a b : CheckedExpression) (o : Option PlainOperation) → IsWordName shared x
+        → ExpressionFits room 0 (t.binary op a b) → ExpressionUses shared (t.binary op a b) → Sound (sides_set p x op a b o)
+    sides_set_sound room x op a b None w f n = setting_sound room x (t.binary op a b) w f n
+    sides_set_sound room x op a b (Some o) w f n =
+        sound_behind (lowered_expression p b) (update_step p o x) (expression_sound room 1 b f.1 n.1) (update_sound o x w)
+
+    -- the first clause makes it a proof by cases
+    assignment_sound : (room : ℕ) (x : Variable) (e : CheckedExpression) → IsWordName shared x → ExpressionFits room 0 e → ExpressionUses shared e
+        → Sound (assignment p x e)
+    assignment_sound room x (t.binary op a b) w f n = sides_set_sound room x op a b (updating x op a) w f n
+    assignment_sound room x e w f n = setting_sound room x e w f n
+
     assigned_sound : (room : ℕ) (x : VariableName) (e : CheckedExpression) → IsWordName shared x.variable → ExpressionFits room 0 e
         → ExpressionUses shared e → Sound (assignment p x.variable e)
-    assigned_sound room x e w f n = sound_behind (lowered_expression p e) (write_step p x.variable) (expression_sound room 0 e f n) (write_sound x.variable w)
+    assigned_sound room x e w f n = assignment_sound room x.variable e w f n
 
     -- a loop by its local
     loop_sound : (v : Variable) (from below : ℕ) (body : CheckedBlock) → IsGood v body → IsLocalName v → BlockUses shared body → GoodBlock body

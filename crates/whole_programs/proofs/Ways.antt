@@ -10,6 +10,7 @@ use Rattle.lower.specs.task_ast.Paths as path
 use Rattle.lower.specs.task_ast.declared.SharedDeclaration.{SharedDeclaration}
 use Rattle.lower.specs.task_ast.declared.UnaryOperator.{UnaryOperator}
 use Rattle.lower.specs.task_ast.declared.UnaryOperator.TheVariants as unary_operator
+use Rattle.lower.specs.task_ast.declared.BinaryOperator.{BinaryOperator}
 use Rattle.lower.specs.task_ast.declared.ShortCircuitOperator.{ShortCircuitOperator}
 use Rattle.lower.specs.task_ast.declared.ShortCircuitOperator.TheVariants.{And as BothHold, Or as OneHolds}
 use Rattle.lower.specs.task_ast.declared.names.Variable.{Variable}
@@ -19,7 +20,9 @@ use Rattle.lower.specs.path_checks.Loops.{is_local}
 use Rattle.lower.specs.source_values.Values.{joined_type, type_of}
 use Rattle.lower.specs.array_versions.declared.operations.UnaryOperation.TheVariants.{Negate, Complement}
 use Rattle.lower.specs.array_versions.declared.operations.BinaryOperation.{BinaryOperation}
-use Rattle.lower.specs.array_versions.declared.operations.BinaryOperation.TheVariants.{And}
+use Rattle.lower.specs.array_versions.declared.operations.BinaryOperation.TheVariants.{Plain}
+use Rattle.lower.specs.array_versions.declared.operations.PlainOperation.{PlainOperation}
+use Rattle.lower.specs.array_versions.declared.operations.PlainOperation.TheVariants.{And}
 use Rattle.lower.specs.array_versions.Program.{Step, Test, Program, unary, binary, shift, emit_word, choose, store_number, move_word, jump, nothing}
 use Rattle.lower.specs.array_versions.Program.{step, joined}
 use Rattle.lower.specs.array_versions.Form.{Place, start, assigning, Moves, EachTurn, EachStepWay, EachTestWay, EachWay}
@@ -36,11 +39,12 @@ use Rattle.lower.specs.Operations.{binary_meaning, shift_operation}
 use Rattle.lower.specs.Lowered.{one, read_step, write_step, element_read, element_step, store_step, Lowering, as_word, as_test, word_program}
 use Rattle.lower.specs.Lowered.{value_test}
 use Rattle.lower.specs.Lowered.{unary_lowering, binary_lowering, sides_test, lowering, lowered_expression, lowered_test, assignment}
+use Rattle.lower.specs.Lowered.{update_step, setting, updating, sides_set}
 use Rattle.lower.specs.Lowered.{element_assignment}
 use Rattle.lower.specs.Lowered.{loop_local, entries, lowered_transition, lowered_statement, lowered_choice, lowered_block}
 use Rattle.whole_programs.specs.Needs.{ExpressionFits, StatementFits, ChoiceFits, BlockFits}
 use Rattle.whole_programs.specs.Uses.{IsWordName, IsArrayName, ExpressionUses, StatementUses, ChoiceUses, BlockUses}
-use Rattle.lower.proofs.Interface.{small_modulo}
+use Rattle.lower.proofs.Interface.{small_modulo, is_update}
 use Rattle.whole_programs.proofs.Paths.{names_read, is_path, some_turns, some_block, written, forgotten, behind, behind_both, behind_names}
 use Rattle.whole_programs.proofs.Paths.{behind_expression, IsAssigned, Safe, safe_both, safe_expression}
 
@@ -92,6 +96,17 @@ some_room room d (t.unary op e) h = some_room room d e h
 some_room room d (t.binary op a b) h = some_room room d a h.0
 some_room room d (t.shift op e count) h = some_room room d e h.0
 some_room room d (t.short_circuit op a b) h = some_room room d a h.0
+
+-- with fewer words beneath
+fits_above : (room d : ℕ) (e : CheckedExpression) → ExpressionFits room (suc d) e → ExpressionFits room d e
+fits_above room d (t.number w) h = (let l = h.0 in omega arith, h.1)
+fits_above room d (t.name x) h = omega arith
+fits_above room d (t.element x index) h = fits_above room d index h
+fits_above room d t.sense h = omega arith
+fits_above room d (t.unary op e) h = fits_above room d e h
+fits_above room d (t.binary op a b) h = (fits_above room d a h.0, fits_above room (suc d) b h.1)
+fits_above room d (t.shift op e count) h = (fits_above room d e h.0, h.1)
+fits_above room d (t.short_circuit op a b) h = (fits_above room d a h.0, fits_above room d b h.1)
 
 module _ (room : ℕ) (p : Places) where
   read_way : (d : ℕ) (a : ℕ → Bool) (x : Variable) (next : Place → Type 0) → d < room → ReadOf a x → next (at (suc d) a)
@@ -173,7 +188,7 @@ module _ (room : ℕ) (p : Places) where
   binary_way : (d : ℕ) (a : ℕ → Bool) (meaning : BinaryMeaning) (q : Program) → d < room → LeavesDepth d a (suc (suc d)) q
       → HasWays d a (binary_lowering meaning q)
   binary_way d a (Calculates op) q few h = by_word d a _ few (joins d a q op few h)
-  binary_way d a CommonBits q few h = record { word = joins d a q And few h; test = pops_two d a q few h }
+  binary_way d a CommonBits q few h = record { word = joins d a q (Plain And) few h; test = pops_two d a q few h }
   binary_way d a (Holds c) q few h = by_test d a _ few (pops_two d a q few h)
   binary_way d a (Fails c) q few h = by_test d a _ few (λ held failed x y. pops_two d a q few h failed held y x)
 
@@ -317,14 +332,48 @@ module _ (room : ℕ) (p : Places) (shared : List SharedDeclaration) (even : p.m
           moves room 1 0 1 0 a (λ q. next (assigning (n % 65536) q)) (omega arith) (omega arith) (omega arith)
           (h (λ m. nat_eq m (n % 65536) || a m) (subst (λ v. Covers (written u x) (λ m. nat_eq m (loop_local v) || a m)) is (covers_written u a x c)))
 
+  -- where the variable is assigned it may be updated
+  update_way : (a : ℕ → Bool) (o : PlainOperation) (v : Variable) (next : Place → Type 0) → ReadOf a v → EachStepWay room (write_step p v) next (at 1 a)
+      → EachStepWay room (update_step p o v) next (at 1 a)
+  update_way a o (Shared v) next r h = h
+  update_way a o (Local n) next r h = (r, h)
+
+  -- what follows behind the write
+  abbrev Written : (ℕ → Bool) → VariableName → CheckedExpression → (Place → Type 0) → Type 0
+  Written u x e next = (b : ℕ → Bool) → Covers (behind u (names_read e ++ write x ∷ [])) b → next (at 0 b)
+
+  write_behind : (u a : ℕ → Bool) (x : VariableName) (e : CheckedExpression) (next : Place → Type 0) → Covers u a → Written u x e next
+      → EachStepWay room (write_step p x.variable) next (at 1 a)
+  write_behind u a x e next c h = write_way u a x next c (λ b d. h b (subst (λ v. Covers v b) (sym (behind_expression u e (write x ∷ []))) d))
+
   -- an expression's value is set
-  assigned_way : (u a : ℕ → Bool) (x : VariableName) (e : CheckedExpression) (next : Place → Type 0) → ExpressionFits room 0 e → ExpressionUses shared e
-      → Covers u a → Safe u (names_read e ++ write x ∷ [])
-      → ((b : ℕ → Bool) → Covers (behind u (names_read e ++ write x ∷ [])) b → next (at 0 b)) → EachWay room (assignment p x.variable e) next (at 0 a)
-  assigned_way u a x e next f n c s h =
+  setting_way : (u a : ℕ → Bool) (x : VariableName) (e : CheckedExpression) (next : Place → Type 0) → ExpressionFits room 0 e → Covers u a
+      → ReadsAssigned a e → Written u x e next → EachWay room (setting p x.variable e) next (at 0 a)
+  setting_way u a x e next f c r h =
       joined_way room (lowered_expression p e) (one (write_step p x.variable)) next (at 0 a)
-      (expression_way room p 0 a e _ f (reads_assigned shared u a e c n (safe_expression u e (write x ∷ []) s).0)
-      (write_way u a x next c (λ b d. h b (subst (λ v. Covers v b) (sym (behind_expression u e (write x ∷ []))) d))))
+      (expression_way room p 0 a e _ f r (write_behind u a x e next c h))
+
+  sides_set_way : (u a : ℕ → Bool) (x : VariableName) (op : BinaryOperator) (b e : CheckedExpression) (o : Option PlainOperation) (next : Place → Type 0)
+      → updating x.variable op b ≡ o → ExpressionFits room 0 (t.binary op b e) → Covers u a → ReadsAssigned a (t.binary op b e)
+      → Written u x (t.binary op b e) next → EachWay room (sides_set p x.variable op b e o) next (at 0 a)
+  sides_set_way u a x op b e None next is f c r h = setting_way u a x (t.binary op b e) next f c r h
+  sides_set_way u a x op b e (Some o) next is f c r h =
+      let update = is_update x.variable op b o is in
+      let own : ReadOf a x.variable = subst (ReadOf a) update.same (subst (ReadsAssigned a) update.is r.0) in
+      joined_way room (lowered_expression p e) (one (update_step p o x.variable)) next (at 0 a)
+      (expression_way room p 0 a e _ (fits_above room 0 e f.1) r.1
+      (update_way a o x.variable next own (write_behind u a x (t.binary op b e) next c h)))
+
+  -- the first clause makes it a proof by cases
+  assignment_way : (u a : ℕ → Bool) (x : VariableName) (e : CheckedExpression) (next : Place → Type 0) → ExpressionFits room 0 e → Covers u a
+      → ReadsAssigned a e → Written u x e next → EachWay room (assignment p x.variable e) next (at 0 a)
+  assignment_way u a x (t.binary op b e) next f c r h = sides_set_way u a x op b e (updating x.variable op b) next refl f c r h
+  assignment_way u a x e next f c r h = setting_way u a x e next f c r h
+
+  assigned_way : (u a : ℕ → Bool) (x : VariableName) (e : CheckedExpression) (next : Place → Type 0) → ExpressionFits room 0 e → ExpressionUses shared e
+      → Covers u a → Safe u (names_read e ++ write x ∷ []) → Written u x e next → EachWay room (assignment p x.variable e) next (at 0 a)
+  assigned_way u a x e next f n c s h =
+      assignment_way u a x e next f c (reads_assigned shared u a e c n (safe_expression u e (write x ∷ []) s).0) h
 
   entries_way : (count list : ℕ) (runs : List Run) (next : Place → Type 0) (o : Place) → next o
       → EachWay room (entries count list runs) next o
