@@ -6,7 +6,8 @@ use Rattle.array_versions.specs.declared.program.ArrayPlace.{ArrayPlace}
 use Rattle.array_versions.specs.declared.program.ListPlace.{ListPlace}
 use Rattle.array_versions.specs.declared.operations.PlainOperation.{PlainOperation}
 use Rattle.array_versions.specs.Operations.{plain_word, is_true, compare_words}
-use Rattle.array_versions.specs.Program.{Step, Test, Program, number, load, keep, update, local, set_local, update_local, unary, binary, shift, element, emit_word}
+use Rattle.array_versions.specs.Program.{Step, Test, Program, number, load, keep, update, local, set_local, update_local, unary, binary, shift, element}
+use Rattle.array_versions.specs.Program.{emit_word}
 use Rattle.array_versions.specs.Program.{list_entry}
 use Rattle.array_versions.specs.Program.{versioned_read, versioned_write, sense, truth, choose, repeat, store_number, move_word, jump, holds}
 use Rattle.array_versions.specs.Program.{compares}
@@ -14,7 +15,8 @@ use Rattle.array_versions.specs.Program.{both, either, fails, nothing, step}
 use Rattle.array_versions.specs.Behaviour.{stored, behind_effects, WordState, started, End, GoesOn, Jumps, Short, Strays, Broken, Behaviour, behaves}
 use Rattle.array_versions.specs.Behaviour.{goes_on}
 use Rattle.array_versions.specs.Behaviour.{strays, broken, on_end, then_on, is_place, at_place, with_top, with_two, with_stack, pushed, with_local}
-use Rattle.array_versions.specs.Behaviour.{local_pushed, local_updated, reading_pushed, entry_stored, raised, ends_before, listed_behind, own_element, first_stored}
+use Rattle.array_versions.specs.Behaviour.{local_pushed, local_updated, reading_pushed, entry_stored, raised, ends_before, listed_behind, own_element}
+use Rattle.array_versions.specs.Behaviour.{first_stored}
 use Rattle.array_versions.specs.Behaviour.{own_stored, number_pushed, way_by_top, way_by_two, turns, step_behaviour, tested, behaviour}
 use Rattle.array_versions.specs.Form.{Place, start, assigning, Moves, EachTurn, EachStepWay, EachTestWay, EachWay}
 use Rattle.array_versions.specs.Laws.{IsSound, WholeEndsSoundly}

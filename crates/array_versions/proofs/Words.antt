@@ -21,14 +21,16 @@ use Rattle.array_versions.specs.declared.operations.ShiftOperation.TheVariants.{
 use Rattle.array_versions.specs.Operations.{unary_word, plain_word, binary_word, shifted_word, shift_word, is_true, compare_words}
 use Rattle.array_versions.specs.declared.program.ArrayPlace.{ArrayPlace}
 use Rattle.array_versions.specs.declared.program.ListPlace.{ListPlace}
-use Rattle.array_versions.specs.Program.{Step, Test, Program, number, load, keep, update, local, set_local, update_local, unary, binary, shift, element, emit_word}
+use Rattle.array_versions.specs.Program.{Step, Test, Program, number, load, keep, update, local, set_local, update_local, unary, binary, shift, element}
+use Rattle.array_versions.specs.Program.{emit_word}
 use Rattle.array_versions.specs.Program.{list_entry}
 use Rattle.array_versions.specs.Program.{versioned_read, versioned_write, sense, truth, choose, repeat, store_number, move_word, jump, holds}
 use Rattle.array_versions.specs.Program.{compares}
 use Rattle.array_versions.specs.Program.{both, either, fails, nothing, step}
 use Rattle.array_versions.specs.Behaviour.{WordState, End, GoesOn, Jumps, Short, Strays, Broken, Behaviour, behaves, goes_on, strays, broken, on_end}
 use Rattle.array_versions.specs.Behaviour.{is_place}
-use Rattle.array_versions.specs.Behaviour.{at_place, with_top, with_stack, pushed, stored, with_local, local_pushed, local_updated, reading_pushed, entry_stored}
+use Rattle.array_versions.specs.Behaviour.{at_place, with_top, with_stack, pushed, stored, with_local, local_pushed, local_updated, reading_pushed}
+use Rattle.array_versions.specs.Behaviour.{entry_stored}
 use Rattle.array_versions.specs.Behaviour.{ends_before, raised, listed_behind}
 use Rattle.array_versions.specs.Behaviour.{behind_effects, own_element, first_stored, own_stored, number_pushed, way_by_top, way_by_two, turns}
 use Rattle.array_versions.specs.Behaviour.{step_behaviour}

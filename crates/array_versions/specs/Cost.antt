@@ -8,7 +8,8 @@ use Rattle.array_versions.specs.declared.operations.Comparison.{Comparison}
 use Rattle.array_versions.specs.declared.operations.ShiftOperation.{ShiftOperation}
 use Rattle.array_versions.specs.declared.operations.ShiftOperation.TheVariants.{Left, Right, SignedRight}
 use Rattle.array_versions.specs.Operations.{is_true, compare_words}
-use Rattle.array_versions.specs.Program.{Step, Test, Program, number, load, keep, update, local, set_local, update_local, unary, binary, shift, element, emit_word}
+use Rattle.array_versions.specs.Program.{Step, Test, Program, number, load, keep, update, local, set_local, update_local, unary, binary, shift, element}
+use Rattle.array_versions.specs.Program.{emit_word}
 use Rattle.array_versions.specs.Program.{list_entry}
 use Rattle.array_versions.specs.Program.{versioned_read, versioned_write, sense, truth, choose, repeat, store_number, move_word, jump, holds}
 use Rattle.array_versions.specs.Program.{compares}

@@ -22,7 +22,8 @@ use Rattle.array_versions.specs.Program.{versioned_read, versioned_write, sense,
 use Rattle.array_versions.specs.Program.{compares}
 use Rattle.array_versions.specs.Program.{both, either, fails, nothing, step}
 use Rattle.array_versions.specs.Behaviour.{WordState, started, End, GoesOn, Jumps, Short, Strays, Broken, Behaviour, goes_on, with_stack, with_local}
-use Rattle.array_versions.specs.Behaviour.{with_top, with_two, is_place, local_pushed, local_updated, number_pushed, way_by_top, way_by_two, step_behaviour, tested}
+use Rattle.array_versions.specs.Behaviour.{with_top, with_two, is_place, local_pushed, local_updated, number_pushed, way_by_top, way_by_two, step_behaviour}
+use Rattle.array_versions.specs.Behaviour.{tested}
 use Rattle.array_versions.specs.Behaviour.{behaviour}
 use Rattle.array_versions.specs.Form.{Place, start, assigning, Moves, EachTurn, EachStepWay, EachTestWay, EachWay, StepLocalsBelow, TestLocalsBelow}
 use Rattle.array_versions.specs.Form.{LocalsBelow, StepLoopsCount, TestLoopsCount, LoopsCount, StepOfWords, TestOfWords, OfWords}

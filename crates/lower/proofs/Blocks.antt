@@ -162,7 +162,8 @@ module _ (z : Scene) where
       let same : if_value (value_of (t.binary op a b) m.variables m.left) m (λ v s. goes_on (source.assigned s x 0 v))
           ≡ if_value (value_of b m.variables m.left) m (λ v s. given s v) =
       ap (λ c. if_value (value_of (t.binary op c b) m.variables m.left) m (λ v s. goes_on (source.assigned s x 0 v))) update.is
-      ∙ ap (λ y. if_value (value_of b m.variables m.left >>? λ v. Some (binary_value op (joined_type update.name.word_type (type_of b)) (word_at m.variables y 0) v.0, v.1)) m
+      ∙ ap (λ y. if_value (value_of b m.variables m.left >>? λ v. Some
+        (binary_value op (joined_type update.name.word_type (type_of b)) (word_at m.variables y 0) v.0, v.1)) m
       (λ v s. goes_on (source.assigned s x 0 v))) update.same
       ∙ updated_value x op o (joined_type update.name.word_type (type_of b)) m (value_of b m.variables m.left) update.operation in
       let Q : Behaviour → Type 0 = λ r. Does z w.fram most w.stack r (if_value (value_of b m.variables m.left) m (λ v s. given s v)) in

@@ -10,7 +10,8 @@ use Rattle.layout_facts.specs.array_versions.declared.program.ArrayPlace.{ArrayP
 use Rattle.layout_facts.specs.array_versions.declared.program.ListPlace.{ListPlace}
 use Rattle.layout_facts.specs.array_versions.declared.operations.PlainOperation.{PlainOperation}
 use Rattle.layout_facts.specs.array_versions.Operations.{is_true, compare_words}
-use Rattle.layout_facts.specs.array_versions.Program.{Step, Test, Program, number, load, keep, update, local, set_local, update_local, unary, binary, shift, element}
+use Rattle.layout_facts.specs.array_versions.Program.{Step, Test, Program, number, load, keep, update, local, set_local, update_local, unary, binary, shift}
+use Rattle.layout_facts.specs.array_versions.Program.{element}
 use Rattle.layout_facts.specs.array_versions.Program.{emit_word}
 use Rattle.layout_facts.specs.array_versions.Program.{list_entry, versioned_read, versioned_write, sense, truth, choose, repeat, store_number}
 use Rattle.layout_facts.specs.array_versions.Program.{move_word}
