@@ -2,12 +2,12 @@ mod Stretches
 mod Memory
 mod Follows
 mod Parts
-mod Updates
 mod Registers
 mod Choices
 mod Loops
 mod Values
 mod Middles
+mod Updates
 mod Access
 mod ListParts
 mod VersionParts

@@ -1,6 +1,9 @@
 -- Operations on registers: what each leaves, and the steps that they are.
-use Rattle.std.proofs.Common.{◌≡◌, ℕ, ◌+◌, ◌-◌, ◌%◌, ◌<◌, List, [], ◌∷◌, ◌++◌, refl, ap, ap₂, ◌∙◌, subst, arith, bit_and, bit_or, bit_xor}
+use Rattle.std.proofs.Common.{◌≡◌, ℕ, ◌+◌, ◌-◌, ◌%◌, ◌<◌, List, [], ◌∷◌, ◌++◌, refl, ap, ap₂, ◌∙◌, subst, arith}
 use Rattle.std.specs.List.{AllByRecursion}
+use Rattle.msp_isa.specs.alp_words.declared.Flags.{Flags}
+use Rattle.msp_isa.specs.alp_words.declared.Width.TheVariants.{Word}
+use Rattle.array_versions.specs.msp_step.Effect.{operated}
 use Rattle.array_versions.specs.machine_effects.Going.{At, stretch}
 use Rattle.code_forms.specs.Forms.{WorkRegister, R4, R5, work_number, Core, Register, Form, Push}
 use Rattle.code_forms.specs.Code.{Stands, forms_bytes, AreStraight, forms_run, FormsNeed, Runs}
@@ -9,12 +12,20 @@ use Rattle.array_versions.specs.declared.operations.UnaryOperation.TheVariants.{
 use Rattle.array_versions.specs.declared.operations.PlainOperation.{PlainOperation}
 use Rattle.array_versions.specs.declared.operations.PlainOperation.TheVariants.{Add, Subtract, And, Xor, Or}
 use Rattle.array_versions.specs.declared.operations.BinaryOperation.TheVariants.{Plain}
-use Rattle.array_versions.specs.Operations.{unary_word, binary_word}
+use Rattle.array_versions.specs.Operations.{unary_word, plain_word, binary_word}
 use Rattle.array_versions.specs.Behaviour.{WordState, goes_on, with_stack, with_top, with_two}
-use Rattle.codegen.specs.Code.{unary_middle, unary_code, binary_middle, binary_code}
+use Rattle.codegen.specs.Code.{unary_middle, unary_code, plain_instruction, binary_middle, binary_code}
 use Rattle.codegen.proofs.Stretches.{Setting, runs_on}
 use Rattle.codegen.proofs.Follows.{StandsFor, Follows, memory_as}
 use Rattle.codegen.proofs.Registers.{Has, HasTwo, pop_five, pop_two, push_result, middle}
+
+-- what the instruction of an operation makes of two words
+pub makes : (o : PlainOperation) (x y : ℕ) (f : Flags) → x < 0x10000 → y < 0x10000 → (operated (plain_instruction o) Word x y f).value ≡ plain_word o x y
+makes Add x y f h k = omega arith
+makes Subtract x y f h k = omega arith
+makes And x y f h k = refl
+makes Xor x y f h k = refl
+makes Or x y f h k = refl
 
 module _ (z : Setting) where
   -- the machine stands for the state, and has a value in a register
@@ -65,19 +76,18 @@ module _ (z : Setting) where
       middle z ms c pc (pc + forms_bytes ms) val b w t (end_of t (forms_run ms t).status) i st h ok x.0
       (x.1 ∙ ap (λ p. p + forms_bytes ms) i.at) x.2 x.3 x.4 x.5 x.6
 
+  -- what it makes of R4 and R5
+  made : (o : PlainOperation) (pc x y : ℕ) (w : WordState) (t : Core) → x < 0x10000 → y < 0x10000 → HasTwo z pc w x y t
+      → (operated (plain_instruction o) Word (t.work 4) (t.work 5) t.flags).value ≡ plain_word o x y
+  made o pc x y w t a b k =
+      ap₂ (λ p q. (operated (plain_instruction o) Word p q t.flags).value) k.four k.five ∙ makes o x y t.flags a b
+
+  -- of each operation alike: the first clause makes it a proof by cases
   pub plain_middle : (o : PlainOperation) → BinaryMiddle (binary_middle (Plain o)) R4 1 (binary_word (Plain o))
   plain_middle Add pc x y w t a b h k =
-      line (binary_middle (Plain Add)) 1 pc R4 _ w t k.is (tt, tt) h ((tt, tt), tt)
-      (refl, omega arith, refl, refl, refl, refl, ap₂ (λ p q. (p + q + 0) % 0x10000) k.four k.five ∙ omega arith)
-  plain_middle Subtract pc x y w t a b h k =
-      line (binary_middle (Plain Subtract)) 1 pc R4 _ w t k.is (tt, tt) h ((tt, tt), tt)
-      (refl, omega arith, refl, refl, refl, refl, ap₂ (λ p q. (p + (0xFFFF - q) + 1) % 0x10000) k.four k.five ∙ omega arith)
-  plain_middle And pc x y w t a b h k =
-      line (binary_middle (Plain And)) 1 pc R4 _ w t k.is (tt, tt) h ((tt, tt), tt) (refl, omega arith, refl, refl, refl, refl, ap₂ bit_and k.four k.five)
-  plain_middle Xor pc x y w t a b h k =
-      line (binary_middle (Plain Xor)) 1 pc R4 _ w t k.is (tt, tt) h ((tt, tt), tt) (refl, omega arith, refl, refl, refl, refl, ap₂ bit_xor k.four k.five)
-  plain_middle Or pc x y w t a b h k =
-      line (binary_middle (Plain Or)) 1 pc R4 _ w t k.is (tt, tt) h ((tt, tt), tt) (refl, omega arith, refl, refl, refl, refl, ap₂ bit_or k.four k.five)
+      line (binary_middle (Plain Add)) 1 pc R4 _ w t k.is (tt, tt) h ((tt, tt), tt) (refl, omega arith, refl, refl, refl, refl, made Add pc x y w t a b k)
+  plain_middle o pc x y w t a b h k =
+      line (binary_middle (Plain o)) 1 pc R4 _ w t k.is (tt, tt) h ((tt, tt), tt) (refl, omega arith, refl, refl, refl, refl, made o pc x y w t a b k)
 
   pub negate_middle : UnaryMiddle (unary_middle Negate) 2 (unary_word Negate)
   negate_middle pc y w t b h k =

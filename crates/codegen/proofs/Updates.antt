@@ -1,110 +1,99 @@
 -- Operations in place: on a word of FRAM, and on a local.
-use Rattle.std.proofs.Common.{◌≡◌, ℕ, ◌+◌, ◌<◌, List, [], ◌∷◌, Some, ap, ap₂, ◌∙◌, refl, subst, arith}
+use Rattle.std.proofs.Common.{◌≡◌, ℕ, ◌+◌, ◌<◌, List, [], ◌∷◌, Some, true, refl, sym, ap, ap₂, ◌∙◌, subst, arith}
 use Rattle.std.specs.List.{AllByRecursion}
-use Rattle.msp_isa.specs.alp_words.declared.Flags.{Flags}
 use Rattle.msp_isa.specs.alp_words.declared.Width.TheVariants.{Word}
-use Rattle.array_versions.specs.msp_step.Effect.{operated}
+use Rattle.array_versions.specs.msp_step.Effect.{operated, writes_destination}
 use Rattle.array_versions.specs.fram_board.Effects.{Store}
 use Rattle.array_versions.specs.machine_effects.World.{put}
-use Rattle.array_versions.specs.machine_effects.Machine.{IsFram}
-use Rattle.code_forms.specs.Forms.{Core, Popped, Form, Update}
+use Rattle.array_versions.specs.machine_effects.Going.{At, stretch}
+use Rattle.code_forms.specs.Forms.{R4, R5, Core, Register, Ram, Popped, ToRegister, ToRam, Move, Update, IsNotMov, flags_after, instruction_of}
 use Rattle.code_forms.specs.Code.{Stands, forms_run, Runs}
-use Rattle.code_forms.proofs.Interface.{stands_at, end_of}
+use Rattle.code_forms.proofs.Interface.{forms_behind, stands_at, end_of}
 use Rattle.array_versions.specs.declared.operations.PlainOperation.{PlainOperation}
-use Rattle.array_versions.specs.declared.operations.PlainOperation.TheVariants.{Add, Subtract, And, Xor, Or}
+use Rattle.array_versions.specs.declared.operations.PlainOperation.TheVariants.{Add}
 use Rattle.array_versions.specs.Operations.{plain_word}
-use Rattle.array_versions.specs.Behaviour.{WordState, goes_on, with_top, with_stack, stored, with_local, is_place, word_stored}
-use Rattle.codegen.specs.Code.{plain_instruction, local_address, update_code}
-use Rattle.codegen.proofs.Stretches.{Setting, straight}
-use Rattle.codegen.proofs.Memory.{pop_memory, pop_needs, local_needs, set_memory, place_is}
-use Rattle.codegen.proofs.Follows.{StandsFor, Follows, guarded, memory_as}
+use Rattle.array_versions.specs.Behaviour.{WordState, goes_on, with_top, with_stack, stored, assigned, with_local, is_place, word_stored}
+use Rattle.codegen.specs.Code.{pop_to, plain_instruction, local_address, update_code}
+use Rattle.codegen.proofs.Stretches.{Setting, straight, runs_on}
+use Rattle.codegen.proofs.Memory.{Memory, pop_memory, pop_needs, local_needs, set_memory, place_is}
+use Rattle.codegen.proofs.Follows.{StandsFor, Follows, ends_at, guarded, memory_as}
+use Rattle.codegen.proofs.Registers.{Has, HasTwo}
+use Rattle.codegen.proofs.Middles.{makes, plain_middle}
 
--- what the instruction makes of two words
-makes : (o : PlainOperation) (x y : ℕ) (f : Flags) → x < 0x10000 → y < 0x10000 → (operated (plain_instruction o) Word x y f).value ≡ plain_word o x y
-makes Add x y f h k = omega arith
-makes Subtract x y f h k = omega arith
-makes And x y f h k = refl
-makes Xor x y f h k = refl
-makes Or x y f h k = refl
+-- the instruction reads its destination and writes it; of each operation alike: the first clause makes it a proof by cases
+plain_needs : (o : PlainOperation) → IsNotMov (plain_instruction o) × (writes_destination (plain_instruction o) ≡ true)
+plain_needs Add = (tt, refl)
+plain_needs _ = (tt, refl)
 
 module _ (z : Setting) where
-  -- what the instruction makes is stored
-  stores_made : (o : PlainOperation) (a pc v : ℕ) (vs : List ℕ) (w : WordState) (u : Core) → w.stack ≡ v ∷ vs → IsFram a
-      → Stands z.code pc (Update (plain_instruction o) Popped a ∷ []) → StandsFor z pc w u
-      → (let x = (operated (plain_instruction o) Word (u.fram a) (u.ram u.sp) u.flags).value in
-      Runs z.code (Store a x ∷ []) 5 u (StandsFor z (pc + 4) (stored a x (with_stack vs w))))
-  stores_made Add a pc v vs w u e f h i =
-      let ms : List Form = Update (plain_instruction Add) Popped a ∷ [] in
-      let m = memory_as z pc w u (v ∷ vs) e i in
-      straight z ms 5 u (end_of u (forms_run ms u).status) _ 5 _ (tt, tt) (stands_at z.code pc ms u h i.at)
-      ((tt, refl, pop_needs z.locals z.room z.roomy u.sp u.ram v vs w.locals m, f), tt) refl (omega arith)
-      (record {
-        at = omega (arith, i.at);
-        memory = pop_memory z.locals z.room z.roomy u.sp u.ram v vs w.locals m;
-        fram = ap (λ g. put g a _) i.fram;
-        readings = i.readings;
-      })
-  stores_made o a pc v vs w u e f h i =
-      let ms : List Form = Update (plain_instruction o) Popped a ∷ [] in
-      let m = memory_as z pc w u (v ∷ vs) e i in
-      straight z ms 5 u (end_of u (forms_run ms u).status) _ 5 _ (tt, tt) (stands_at z.code pc ms u h i.at)
-      ((tt, refl, pop_needs z.locals z.room z.roomy u.sp u.ram v vs w.locals m, f), tt) refl (omega arith)
-      (record {
-        at = omega (arith, i.at);
-        memory = pop_memory z.locals z.room z.roomy u.sp u.ram v vs w.locals m;
-        fram = ap (λ g. put g a _) i.fram;
-        readings = i.readings;
-      })
-
+  -- what the instruction makes of the word and of the top is stored
   pub update_part : (o : PlainOperation) (a pc : ℕ) (w : WordState) (u : Core) (vs : List ℕ) → w.fram a < 0x10000 → w.stack ≡ vs
       → AllByRecursion (λ v. v < 0x10000) vs → Stands z.code pc (Update (plain_instruction o) Popped a ∷ []) → StandsFor z pc w u
       → Follows z (pc + 4) 5 u (with_top vs (λ v us. word_stored a (plain_word o (w.fram a) v) (with_stack us w)))
   update_part o a pc w u [] f e l h i = tt
   update_part o a pc w u (v ∷ vs) f e l h i =
+      let ms = Update (plain_instruction o) Popped a ∷ [] in
       let m = memory_as z pc w u (v ∷ vs) e i in
-      let t = with_stack vs w in
-      let same = ap₂ (λ x y. (operated (plain_instruction o) Word x y u.flags).value) (ap (λ g. g a) i.fram) m.stack.0
-          ∙ makes o (w.fram a) v u.flags f l.0 in
-      guarded z (is_place a) (pc + 4) 5 u (goes_on (Store a (plain_word o (w.fram a) v) ∷ []) (stored a (plain_word o (w.fram a) v) t)) (λ g.
-      subst (λ x. Runs z.code (Store a x ∷ []) 5 u (StandsFor z (pc + 4) (stored a x t))) same (stores_made o a pc v vs w u e (place_is a g) h i))
-
-  -- what the instruction makes of a local
-  assigns_made : (o : PlainOperation) (n pc v : ℕ) (vs : List ℕ) (w : WordState) (u : Core) → w.stack ≡ v ∷ vs → n < z.locals
-      → Stands z.code pc (update_code o n) → StandsFor z pc w u
-      → (let x = (operated (plain_instruction o) Word (u.ram (local_address n)) (u.ram u.sp) u.flags).value in
-      Runs z.code [] 10 u (StandsFor z (pc + 12) (with_local n x (with_stack vs w))))
-  assigns_made Add n pc v vs w u e lt h i =
-      let ms = update_code Add n in
-      let m = memory_as z pc w u (v ∷ vs) e i in
-      let p = pop_memory z.locals z.room z.roomy u.sp u.ram v vs w.locals m in
-      let needs = local_needs z.locals z.room z.roomy n lt in
-      straight z ms 10 u (end_of u (forms_run ms u).status) [] 10 _ (tt, (tt, (tt, (tt, tt)))) (stands_at z.code pc ms u h i.at)
-      ((pop_needs z.locals z.room z.roomy u.sp u.ram v vs w.locals m, tt), ((needs, tt), ((tt, tt), ((tt, needs), tt)))) refl (omega arith)
+      let x = plain_word o (w.fram a) v in
+      let made = operated (plain_instruction o) Word (u.fram a) (u.ram u.sp) u.flags in
+      let is : made.value ≡ x = ap₂ (λ p q. (operated (plain_instruction o) Word p q u.flags).value) (ap (λ g. g a) i.fram) m.stack.0
+      ∙ makes o (w.fram a) v u.flags f l.0 in
+      let t : ℕ → Core = λ y. record u { pc = u.pc + (2 + 0 + 2); sp = u.sp + 2; flags = flags_after made.flags u.flags; fram = put u.fram a y } in
+      let needs = plain_needs o in
+      guarded z (is_place a) (pc + 4) 5 u (goes_on (Store a x ∷ []) (stored a x (with_stack vs w))) (λ g.
+      straight z ms 5 u (t x) (Store a x ∷ []) 5 _ (tt, tt) (stands_at z.code pc ms u h i.at)
+      ((needs.0, needs.1, pop_needs z.locals z.room z.roomy u.sp u.ram v vs w.locals m, place_is a g), tt)
+      (ap (λ y. stretch (Store a y ∷ []) 5 (At (t y))) is) (omega arith)
       (record {
         at = omega (arith, i.at);
-        memory = set_memory z.locals z.room z.roomy (u.sp + 2) u.ram n _ vs w.locals p lt;
+        memory = pop_memory z.locals z.room z.roomy u.sp u.ram v vs w.locals m;
+        fram = ap (λ k. put k a x) i.fram;
+        readings = i.readings;
+      }))
+
+  -- the top to R5, and a local to R4
+  take_two : (n x v pc : ℕ) (vs : List ℕ) (w : WordState) (u : Core) → n < z.locals → w.locals n ≡ Some x → w.stack ≡ v ∷ vs
+      → Stands z.code pc (pop_to R5 ∷ Move (Ram (local_address n)) (ToRegister R4) ∷ []) → StandsFor z pc w u
+      → Runs z.code [] 5 u (HasTwo z (pc + 6) (with_stack vs w) x v)
+  take_two n x v pc vs w u lt q e h i =
+      let ms = pop_to R5 ∷ Move (Ram (local_address n)) (ToRegister R4) ∷ [] in
+      let m = memory_as z pc w u (v ∷ vs) e i in
+      let p = pop_memory z.locals z.room z.roomy u.sp u.ram v vs w.locals m in
+      straight z ms 5 u (end_of u (forms_run ms u).status) [] 5 _ (tt, (tt, tt)) (stands_at z.code pc ms u h i.at)
+      ((pop_needs z.locals z.room z.roomy u.sp u.ram v vs w.locals m, tt), ((local_needs z.locals z.room z.roomy n lt, tt), tt)) refl (omega arith)
+      (record {
+        is = record { at = omega (arith, i.at); memory = p; fram = i.fram; readings = i.readings };
+        four = i.memory.vars n x lt q;
+        five = m.stack.0;
+      })
+
+  -- R4 to a local
+  set_from : (n v pc : ℕ) (w : WordState) (t : Core) → n < z.locals → z.code pc ≡ Some (instruction_of (Move (Register R4) (ToRam (local_address n))))
+      → Has z R4 pc w v t → Runs z.code [] 4 t (StandsFor z (pc + 4) (with_local n v w))
+  set_from n v pc w t lt h k =
+      let ms = Move (Register R4) (ToRam (local_address n)) ∷ [] in
+      let i = k.is in
+      straight z ms 4 t (end_of t (forms_run ms t).status) [] 4 _ (tt, tt) (stands_at z.code pc ms t (h, tt) i.at)
+      ((tt, local_needs z.locals z.room z.roomy n lt), tt) refl (omega arith)
+      (record {
+        at = omega (arith, i.at);
+        memory =
+            subst (λ y. Memory z.locals z.room t.sp (put t.ram (local_address n) y) w.stack (assigned w.locals n v)) (sym k.value)
+            (set_memory z.locals z.room z.roomy t.sp t.ram n v w.stack w.locals i.memory lt);
         fram = i.fram;
         readings = i.readings;
       })
-  assigns_made o n pc v vs w u e lt h i =
-      let ms = update_code o n in
-      let m = memory_as z pc w u (v ∷ vs) e i in
-      let p = pop_memory z.locals z.room z.roomy u.sp u.ram v vs w.locals m in
-      let needs = local_needs z.locals z.room z.roomy n lt in
-      straight z ms 10 u (end_of u (forms_run ms u).status) [] 10 _ (tt, (tt, (tt, (tt, tt)))) (stands_at z.code pc ms u h i.at)
-      ((pop_needs z.locals z.room z.roomy u.sp u.ram v vs w.locals m, tt), ((needs, tt), ((tt, tt), ((tt, needs), tt)))) refl (omega arith)
-      (record {
-        at = omega (arith, i.at);
-        memory = set_memory z.locals z.room z.roomy (u.sp + 2) u.ram n _ vs w.locals p lt;
-        fram = i.fram;
-        readings = i.readings;
-      })
 
+  -- what the instruction makes of a local and of the top is assigned
   pub update_local_part : (o : PlainOperation) (n x pc : ℕ) (w : WordState) (u : Core) (vs : List ℕ) → n < z.locals → w.locals n ≡ Some x → x < 0x10000
       → w.stack ≡ vs → AllByRecursion (λ v. v < 0x10000) vs → Stands z.code pc (update_code o n) → StandsFor z pc w u
       → Follows z (pc + 12) 10 u (with_top vs (λ v us. goes_on [] (with_local n (plain_word o x v) (with_stack us w))))
   update_local_part o n x pc w u [] lt q k e l h i = tt
   update_local_part o n x pc w u (v ∷ vs) lt q k e l h i =
-      let m = memory_as z pc w u (v ∷ vs) e i in
-      let same = ap₂ (λ a b. (operated (plain_instruction o) Word a b u.flags).value) (i.memory.vars n x lt q) m.stack.0 ∙ makes o x v u.flags k l.0 in
-      subst (λ y. Runs z.code [] 10 u (StandsFor z (pc + 12) (with_local n y (with_stack vs w)))) same (assigns_made o n pc v vs w u e lt h i)
+      let popped = with_stack vs w in
+      let y = plain_word o x v in
+      let last = forms_behind z.code pc 2 (update_code o n) h in
+      ends_at z (pc + 6 + 2 + 4) (pc + 12) 10 u (goes_on [] (with_local n y popped)) (omega arith)
+      (runs_on z 5 5 u _ _ [] [] (take_two n x v pc vs w u lt q e (h.0, (h.1.0, tt)) i) (λ t j.
+      runs_on z 1 4 t _ _ [] [] (plain_middle z o (pc + 6) x v popped t k l.0 (last.0, tt) j) (λ s r.
+      set_from n y (pc + 6 + 2) popped s lt last.1.0 r)))

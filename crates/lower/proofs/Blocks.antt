@@ -128,8 +128,6 @@ module _ (z : Scene) where
       → Does z w.fram most w.stack (behaviour (one (update_step z.p op x)) (valued w (v, left)))
       (goes_on (source.assigned (record m { left = left }) x 0 (plain_word op (word_at m.variables x 0) v)))
   update_does op (Local i) m listed w n count most v left k h =
-      let P : ℕ → Type 0 = λ j. Does z w.fram most w.stack (then_on (local_updated op j v (w.locals j) (record w { readings = left })) (behaviour nothing))
-      (goes_on (source.assigned (record m { left = left }) (Local i) 0 (plain_word op (word_at m.variables (Local i) 0) v))) in
       let small = small_modulo i k in
       local_updated_does op i v (w.locals (i % 65536)) m listed w n count most left k
       (λ u e. h.stands.variables.locals i u (ap w.locals (sym small) ∙ e)) h

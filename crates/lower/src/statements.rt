@@ -101,7 +101,13 @@ fn is_name(variable: Variable, e: &Expr<VariableName>) -> bool
 {
     match e {
         Expr::Name(name) => is_same(variable, name.variable),
-        _ => false,
+        Expr::Number(_)
+        | Expr::Element(..)
+        | Expr::Sense
+        | Expr::Unary(..)
+        | Expr::Binary(..)
+        | Expr::Shift(..)
+        | Expr::ShortCircuit(..) => false,
     }
 }
 
@@ -136,7 +142,13 @@ fn assign(
             Some(operation) => set_in_place(alloc, operation, variable, right, places, program),
             None => set(alloc, variable, e, places, program),
         },
-        _ => set(alloc, variable, e, places, program),
+        Expr::Number(_)
+        | Expr::Name(_)
+        | Expr::Element(..)
+        | Expr::Sense
+        | Expr::Unary(..)
+        | Expr::Shift(..)
+        | Expr::ShortCircuit(..) => set(alloc, variable, e, places, program),
     }
 }
 

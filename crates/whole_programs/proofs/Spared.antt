@@ -171,10 +171,10 @@ module _ (p : Places) (shared : List SharedDeclaration) (y : ℕ) (low : y < 256
   word_spares (Shared v) n h = tt
   word_spares (Local m) n h = apart m y n low h
 
-  update_spares : (o : PlainOperation) (x : Variable) → IsWordName shared x → is_same_local x (Local y) ≡ false
-      → StepSpares (y % 65536) (update_step p o x)
-  update_spares o (Shared v) n h = tt
-  update_spares o (Local m) n h = apart m y n low h
+  -- an update is as a write
+  update_spares : (o : PlainOperation) (x : Variable) → StepSpares (y % 65536) (write_step p x) → StepSpares (y % 65536) (update_step p o x)
+  update_spares o (Shared v) h = h
+  update_spares o (Local m) h = h
 
   setting_spares : (x : Variable) (e : CheckedExpression) → IsWordName shared x → is_same_local x (Local y) ≡ false
       → Spares (y % 65536) (setting p x e)
@@ -185,17 +185,14 @@ module _ (p : Places) (shared : List SharedDeclaration) (y : ℕ) (low : y < 256
       → is_same_local x (Local y) ≡ false → Spares (y % 65536) (sides_set p x op a b o)
   sides_set_spares x op a b None n h = setting_spares x (t.binary op a b) n h
   sides_set_spares x op a b (Some o) n h =
-      spares_joined (y % 65536) (lowered_expression p b) (one (update_step p o x)) (expression_spares p (y % 65536) b) (update_spares o x n h, tt)
+      spares_joined (y % 65536) (lowered_expression p b) (one (update_step p o x)) (expression_spares p (y % 65536) b)
+      (update_spares o x (word_spares x n h), tt)
 
   -- the first clause makes it a proof by cases
   assignment_spares : (x : Variable) (e : CheckedExpression) → IsWordName shared x → is_same_local x (Local y) ≡ false
       → Spares (y % 65536) (assignment p x e)
   assignment_spares x (t.binary op a b) n h = sides_set_spares x op a b (updating x op a) n h
   assignment_spares x e n h = setting_spares x e n h
-
-  assigned_spares : (x : VariableName) (e : CheckedExpression) → IsWordName shared x.variable → is_same_local x.variable (Local y) ≡ false
-      → Spares (y % 65536) (assignment p x.variable e)
-  assigned_spares x e n h = assignment_spares x.variable e n h
 
   loop_apart : (v : Variable) → IsLocalName v → is_same_local v (Local y) ≡ false → loop_local v ≢ y % 65536
   loop_apart (Shared n) w h = absurd w
@@ -205,8 +202,8 @@ module _ (p : Places) (shared : List SharedDeclaration) (y : ℕ) (low : y < 256
     statement_spares : (s : CheckedStatement) → statement_assigns (Local y) s ≡ false → StatementUses shared s → GoodStatement s
         → Spares (y % 65536) (lowered_statement p s)
     statement_spares (t.declare of x None) h n g = tt
-    statement_spares (t.declare of x (Some e)) h n g = assigned_spares x e (local_word shared x.variable n.0) h
-    statement_spares (t.assign x e) h n g = assigned_spares x e n.0 h
+    statement_spares (t.declare of x (Some e)) h n g = assignment_spares x.variable e (local_word shared x.variable n.0) h
+    statement_spares (t.assign x e) h n g = assignment_spares x.variable e n.0 h
     statement_spares (t.store x index e) h n g =
         spares_joined (y % 65536) (joined (lowered_expression p index) (lowered_expression p e)) (one (store_step p x.variable))
         (spares_joined (y % 65536) (lowered_expression p index) (lowered_expression p e)

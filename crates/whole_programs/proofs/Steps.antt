@@ -12,7 +12,6 @@ use Rattle.lower.specs.task_ast.declared.ShortCircuitOperator.{ShortCircuitOpera
 use Rattle.lower.specs.task_ast.declared.ShortCircuitOperator.TheVariants.{And as BothHold, Or as OneHolds}
 use Rattle.lower.specs.task_ast.declared.names.Variable.{Variable}
 use Rattle.lower.specs.task_ast.declared.names.Variable.TheVariants.{Shared, Local}
-use Rattle.lower.specs.task_ast.declared.names.VariableName.{VariableName}
 use Rattle.lower.specs.path_checks.Loops.{block_assigns}
 use Rattle.lower.specs.source_values.Values.{joined_type, type_of}
 use Rattle.lower.specs.array_versions.declared.operations.UnaryOperation.TheVariants.{Negate, Complement}
@@ -215,9 +214,10 @@ module _ (p : Places) (words : PlacesOfWords p) where
         (sound_step (store_number (word_place p.map Gate) 1) leaves (tt, tt, (words.words Gate, one_is_word))
         (sound_one (jump p.map.commit.address) (tt, tt, words.commit)))))
 
-    update_sound : (o : PlainOperation) (x : Variable) → IsWordName shared x → StepSound (update_step p o x)
-    update_sound o (Shared v) n = (tt, tt, words.addresses v)
-    update_sound o (Local n) l = (low_local n l, tt, local_is_word n l)
+    -- an update is as a write
+    update_sound : (o : PlainOperation) (x : Variable) → StepSound (write_step p x) → StepSound (update_step p o x)
+    update_sound o (Shared v) h = h
+    update_sound o (Local n) h = h
 
     setting_sound : (room : ℕ) (x : Variable) (e : CheckedExpression) → IsWordName shared x → ExpressionFits room 0 e → ExpressionUses shared e
         → Sound (setting p x e)
@@ -227,17 +227,13 @@ module _ (p : Places) (words : PlacesOfWords p) where
         → ExpressionFits room 0 (t.binary op a b) → ExpressionUses shared (t.binary op a b) → Sound (sides_set p x op a b o)
     sides_set_sound room x op a b None w f n = setting_sound room x (t.binary op a b) w f n
     sides_set_sound room x op a b (Some o) w f n =
-        sound_behind (lowered_expression p b) (update_step p o x) (expression_sound room 1 b f.1 n.1) (update_sound o x w)
+        sound_behind (lowered_expression p b) (update_step p o x) (expression_sound room 1 b f.1 n.1) (update_sound o x (write_sound x w))
 
     -- the first clause makes it a proof by cases
     assignment_sound : (room : ℕ) (x : Variable) (e : CheckedExpression) → IsWordName shared x → ExpressionFits room 0 e → ExpressionUses shared e
         → Sound (assignment p x e)
     assignment_sound room x (t.binary op a b) w f n = sides_set_sound room x op a b (updating x op a) w f n
     assignment_sound room x e w f n = setting_sound room x e w f n
-
-    assigned_sound : (room : ℕ) (x : VariableName) (e : CheckedExpression) → IsWordName shared x.variable → ExpressionFits room 0 e
-        → ExpressionUses shared e → Sound (assignment p x.variable e)
-    assigned_sound room x e w f n = assignment_sound room x.variable e w f n
 
     -- a loop by its local
     loop_sound : (v : Variable) (from below : ℕ) (body : CheckedBlock) → IsGood v body → IsLocalName v → BlockUses shared body → GoodBlock body
@@ -259,8 +255,8 @@ module _ (p : Places) (words : PlacesOfWords p) where
     mutual
       statement_sound : (room : ℕ) (s : CheckedStatement) → StatementFits room s → StatementUses shared s → GoodStatement s → Sound (lowered_statement p s)
       statement_sound room (t.declare of x None) f n g = (tt, tt, tt)
-      statement_sound room (t.declare of x (Some e)) f n g = assigned_sound room x e (local_word shared x.variable n.0) f n.1
-      statement_sound room (t.assign x e) f n g = assigned_sound room x e n.0 f n.1
+      statement_sound room (t.declare of x (Some e)) f n g = assignment_sound room x.variable e (local_word shared x.variable n.0) f n.1
+      statement_sound room (t.assign x e) f n g = assignment_sound room x.variable e n.0 f n.1
       statement_sound room (t.store x index e) f n g =
           sound_behind (joined (lowered_expression p index) (lowered_expression p e)) (store_step p x.variable)
           (sound_joined (lowered_expression p index) (lowered_expression p e) (expression_sound room 0 index f.0 n.1) (expression_sound room 1 e f.1 n.2))
