@@ -10,6 +10,8 @@ mod shifts;
 mod versioned;
 
 // What the word programs that `emit` takes are made of, and what it makes of them.
-pub use array_versions::{BinaryOperation, Comparison, PlainOperation, WordProgram, WordStep, WordTest};
+pub use array_versions::{
+    BinaryOperation, Comparison, PlainOperation, WordProgram, WordStep, WordTest,
+};
 pub use msp_isa::Instr;
 pub use program::emit;

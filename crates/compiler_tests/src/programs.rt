@@ -3,13 +3,15 @@
 use codegen::{BinaryOperation, Comparison, PlainOperation, WordProgram, WordStep, WordTest};
 use std::alloc::{AllocError, Global};
 
-// `if (7 < 9) { n = n + sense(); }`, with n at 4410.
+// `if (7 < 9) { n = m + sense(); n = n & 7; }`, with m at 4410 and n at 4412.
 fn adding(alloc: Global) -> Result<WordProgram, AllocError> {
     let mut adds = WordProgram::new(alloc);
     adds.load(0x4410)?;
     adds.sense()?;
     adds.binary(BinaryOperation::Plain(PlainOperation::Add))?;
-    adds.keep(0x4410)?;
+    adds.keep(0x4412)?;
+    adds.number(7)?;
+    adds.update(PlainOperation::And, 0x4412)?;
     let mut sides = WordProgram::new(alloc);
     sides.number(7)?;
     sides.number(9)?;

@@ -6,12 +6,11 @@ use Rattle.std.proofs.lemmas.Bool.{cases_lt}
 use Rattle.array_versions.specs.fram_board.Effects.{Store}
 use Rattle.task_ast.specs.Tree as t
 use Rattle.task_ast.specs.Paths.{CheckedExpression, CheckedStatement, CheckedChoice, CheckedBlock}
-use Rattle.task_ast.specs.declared.WordType.{WordType}
 use Rattle.task_ast.specs.declared.BinaryOperator.{BinaryOperator}
 use Rattle.task_ast.specs.declared.names.Variable.{Variable}
 use Rattle.task_ast.specs.declared.names.Variable.TheVariants.{Shared, Local}
 use Rattle.cost_bound.specs.Allowance.{CheckedTask}
-use Rattle.source_values.specs.Values.{◌>>?◌, word_at, joined_type, type_of, binary_value, value_of, holds}
+use Rattle.source_values.specs.Values.{word_at, value_of, holds}
 use Rattle.source_values.specs.Statements as source
 use Rattle.source_values.specs.Statements.{Attempt, Outcome, goes_on, to_task, if_value, run_statement, run_choice, run_block}
 use Rattle.source_values.specs.Statements.{statement_emits, choice_emits, block_emits}
@@ -20,7 +19,6 @@ use Rattle.source_values.proofs.Interface.{more_turns}
 use Rattle.path_runs.proofs.Interface.{runs_go_on_along_paths}
 use Rattle.array_versions.specs.declared.operations.PlainOperation.{PlainOperation}
 use Rattle.array_versions.specs.Operations.{plain_word}
-use Rattle.lower.specs.Operations.{plain_operation}
 use Rattle.array_versions.specs.Program.{Program, emit_word, versioned_write, choose, repeat, nothing, joined}
 use Rattle.array_versions.specs.Behaviour as words
 use Rattle.array_versions.specs.Behaviour.{WordState, Behaviour, then_on}
@@ -35,7 +33,7 @@ use Rattle.lower.specs.Spots.{listed_of}
 use Rattle.lower.specs.Agreement.{IsTarget, IsWrittenArray, IsLocal, ExpressionFits, StatementFits, ChoiceFits, BlockFits, StandsFor, at_variable}
 use Rattle.lower.specs.Agreement.{at_emit_count, in_buffer, valued, truth_of, AgreesWithValue, BlocksAgree}
 use Rattle.lower.proofs.Addresses.{fram_place, placed, spot_place}
-use Rattle.lower.proofs.Updates.{is_update, plain_value}
+use Rattle.lower.proofs.Updates.{is_update, update_goes_on}
 use Rattle.lower.proofs.Values.{small_modulo, holds_bit, truth_pushed, lowering_agrees, expressions_agree}
 use Rattle.lower.proofs.Emitted.{EmitsAtMost, statement_emitted, block_emitted}
 use Rattle.lower.proofs.Stored.{same_variables, same_list, same_emits, spot_list, spot_emits, scalar_set, local_holds, after_emit, emit_spots}
@@ -138,15 +136,6 @@ module _ (z : Scene) where
       (goes_on (source.assigned (record m { left = left }) (Shared i) 0 x)) in
       subst P (ap (λ x. plain_word op x v) (h.stands.variables.words i k.0)) (write_does (Shared i) m listed w n count most u left k h)
 
-  -- what an operator gives of a variable and of another side
-  updated_value : (x : Variable) (op : BinaryOperator) (o : PlainOperation) (of : WordType) (m : Attempt) (r : Option (ℕ × List ℕ))
-      → plain_operation op ≡ Some o
-      → if_value (r >>? λ y. Some (binary_value op of (word_at m.variables x 0) y.0, y.1)) m (λ v s. goes_on (source.assigned s x 0 v))
-      ≡ if_value r m (λ v s. goes_on (source.assigned s x 0 (plain_word o (word_at m.variables x 0) v)))
-  updated_value x op o of m None is = refl
-  updated_value x op o of m (Some y) is =
-      ap (λ v. goes_on (source.assigned (record m { left = y.1 }) x 0 v)) (plain_value op o of (word_at m.variables x 0) y.0 is)
-
   sides_do : (x : Variable) (op : BinaryOperator) (a b : CheckedExpression) (o : Option PlainOperation) (m : Attempt) (listed : List Element) (w : WordState)
       (n : ℕ) (count most : ℕ → ℕ) → updating x op a ≡ o → ExpressionFits z.p (t.binary op a b) → IsTarget z.p z.written x
       → Begins z m listed w n count most
@@ -154,21 +143,11 @@ module _ (z : Scene) where
       (if_value (value_of (t.binary op a b) m.variables m.left) m (λ v s. goes_on (source.assigned s x 0 v)))
   sides_do x op a b None m listed w n count most is fits target h = setting_does x (t.binary op a b) m listed w n count most fits target h
   sides_do x op a b (Some o) m listed w n count most is fits target h =
-      let update = is_update x op a o is in
-      let given : Attempt → ℕ → Outcome = λ s v. goes_on (source.assigned s x 0 (plain_word o (word_at m.variables x 0) v)) in
-      let P : Outcome → Type 0 = λ r. Does z w.fram most w.stack (behaviour (sides_set z.p x op a b (Some o)) w) r in
-      let same : if_value (value_of (t.binary op a b) m.variables m.left) m (λ v s. goes_on (source.assigned s x 0 v))
-          ≡ if_value (value_of b m.variables m.left) m (λ v s. given s v) =
-      ap (λ c. if_value (value_of (t.binary op c b) m.variables m.left) m (λ v s. goes_on (source.assigned s x 0 v))) update.is
-      ∙ ap (λ y. if_value (value_of b m.variables m.left >>? λ v. Some
-        (binary_value op (joined_type update.name.word_type (type_of b)) (word_at m.variables y 0) v.0, v.1)) m
-      (λ v s. goes_on (source.assigned s x 0 v))) update.same
-      ∙ updated_value x op o (joined_type update.name.word_type (type_of b)) m (value_of b m.variables m.left) update.operation in
-      let Q : Behaviour → Type 0 = λ r. Does z w.fram most w.stack r (if_value (value_of b m.variables m.left) m (λ v s. given s v)) in
-      subst P (sym same)
-      (subst Q (sym (joined_go_on (lowered_expression z.p b) (one (update_step z.p o x)) w))
-      (does_value z most w.stack w (behaviour (lowered_expression z.p b) w) (value_of b m.variables m.left) (behaviour (one (update_step z.p o x))) m
-      (λ v s. given s v)
+      let next : ℕ → Attempt → Outcome = λ v s. goes_on (source.assigned s x 0 (plain_word o (word_at m.variables x 0) v)) in
+      let last = one (update_step z.p o x) in
+      subst (Does z w.fram most w.stack (behaviour (sides_set z.p x op a b (Some o)) w)) (sym (update_goes_on x op a b o m (is_update x op a o is)))
+      (subst (λ r. Does z w.fram most w.stack r (if_value (value_of b m.variables m.left) m next)) (sym (joined_go_on (lowered_expression z.p b) last w))
+      (does_value z most w.stack w (behaviour (lowered_expression z.p b) w) (value_of b m.variables m.left) (behaviour last) m next
       (value_agrees b m listed w fits.1 h.stands) (λ y. update_does o x m listed w n count most y.0 y.1 target h)))
 
   -- by the kind of the expression: the first clause makes it a proof by cases

@@ -1,5 +1,5 @@
 -- An assignment in place: `x = x + e` and its like.
-use Rattle.std.proofs.Common.{◌≡◌, ◌==◌, ℕ, Bool, true, false, Some, None, refl, sym, ap, if◌then◌else◌}
+use Rattle.std.proofs.Common.{◌≡◌, ◌==◌, ℕ, List, Bool, true, false, Option, Some, None, refl, sym, ap, ◌∙◌, if◌then◌else◌}
 use Rattle.std.proofs.lemmas.Bool.{eqb-true}
 use Rattle.task_ast.specs.Tree as t
 use Rattle.task_ast.specs.Paths.{CheckedExpression}
@@ -9,7 +9,8 @@ use Rattle.task_ast.specs.declared.BinaryOperator.TheVariants as operator
 use Rattle.task_ast.specs.declared.names.Variable.{Variable}
 use Rattle.task_ast.specs.declared.names.Variable.TheVariants.{Shared, Local}
 use Rattle.task_ast.specs.declared.names.VariableName.{VariableName}
-use Rattle.source_values.specs.Values.{binary_value}
+use Rattle.source_values.specs.Values.{◌>>?◌, word_at, joined_type, type_of, binary_value, value_of}
+use Rattle.source_values.specs.Statements.{Attempt, Outcome, goes_on, if_value, assigned}
 use Rattle.array_versions.specs.declared.operations.PlainOperation.{PlainOperation}
 use Rattle.array_versions.specs.declared.operations.PlainOperation.TheVariants as plain
 use Rattle.array_versions.specs.Operations.{plain_word}
@@ -40,7 +41,7 @@ is_update x op (t.name y) o h = by_name (is_same x y.variable) x op y o refl h
 is_update x op a o h = absurd (cc)
 
 -- the operator gives what the operation does
-pub plain_value : (op : BinaryOperator) (o : PlainOperation) (of : WordType) (a b : ℕ) → plain_operation op ≡ Some o
+plain_value : (op : BinaryOperator) (o : PlainOperation) (of : WordType) (a b : ℕ) → plain_operation op ≡ Some o
     → binary_value op of a b ≡ plain_word o a b
 plain_value operator.Add o of a b h = let e : plain.Add ≡ o = cc in ap (λ p. plain_word p a b) e
 plain_value operator.Subtract o of a b h = let e : plain.Subtract ≡ o = cc in ap (λ p. plain_word p a b) e
@@ -48,3 +49,23 @@ plain_value operator.And o of a b h = let e : plain.And ≡ o = cc in ap (λ p. 
 plain_value operator.Xor o of a b h = let e : plain.Xor ≡ o = cc in ap (λ p. plain_word p a b) e
 plain_value operator.Or o of a b h = let e : plain.Or ≡ o = cc in ap (λ p. plain_word p a b) e
 plain_value _ o of a b h = absurd (cc)
+
+-- with the variable on the left side, an assignment goes on with what the operation does
+updated_value : (x : Variable) (op : BinaryOperator) (o : PlainOperation) (of : WordType) (m : Attempt) (right : Option (ℕ × List ℕ))
+    → plain_operation op ≡ Some o
+    → if_value (right >>? λ y. Some (binary_value op of (word_at m.variables x 0) y.0, y.1)) m (λ v s. goes_on (assigned s x 0 v))
+    ≡ if_value right m (λ v s. goes_on (assigned s x 0 (plain_word o (word_at m.variables x 0) v)))
+updated_value x op o of m None is = refl
+updated_value x op o of m (Some y) is =
+    ap (λ v. goes_on (assigned (record m { left = y.1 }) x 0 v)) (plain_value op o of (word_at m.variables x 0) y.0 is)
+
+pub update_goes_on : (x : Variable) (op : BinaryOperator) (a b : CheckedExpression) (o : PlainOperation) (m : Attempt) → IsUpdate x op a o
+    → if_value (value_of (t.binary op a b) m.variables m.left) m (λ v s. goes_on (assigned s x 0 v))
+    ≡ if_value (value_of b m.variables m.left) m (λ v s. goes_on (assigned s x 0 (plain_word o (word_at m.variables x 0) v)))
+update_goes_on x op a b o m u =
+    let of = joined_type u.name.word_type (type_of b) in
+    let right = value_of b m.variables m.left in
+    let behind : ℕ → Outcome =
+    λ n. if_value (right >>? λ y. Some (binary_value op of n y.0, y.1)) m (λ v s. goes_on (assigned s x 0 v)) in
+    ap (λ e. if_value (value_of (t.binary op e b) m.variables m.left) m (λ v s. goes_on (assigned s x 0 v))) u.is
+    ∙ ap (λ y. behind (word_at m.variables y 0)) u.same ∙ updated_value x op o of m right u.operation

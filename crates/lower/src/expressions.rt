@@ -12,7 +12,9 @@ ghost use Rattle.lower.specs.Lowered.{as_word, as_test, lowered_expression, lowe
 
 use crate::operations::{BinaryMeaning, binary_meaning, shift_operation};
 use crate::places::{TaskPlaces, array_place, local_number};
-use array_versions::{BinaryOperation, Comparison, PlainOperation, UnaryOperation, WordProgram, WordTest};
+use array_versions::{
+    BinaryOperation, Comparison, PlainOperation, UnaryOperation, WordProgram, WordTest,
+};
 use memory_map::VariablePlace;
 use source_values::types::{binary_type, joined_type, literal_type, unary_type};
 use std::alloc::{AllocError, Global};

@@ -91,7 +91,8 @@ fn is_same(first: Variable, second: Variable) -> bool
     match (first, second) {
         (Variable::Shared(v), Variable::Shared(w)) => v == w,
         (Variable::Local(m), Variable::Local(n)) => m == n,
-        (Variable::Shared(_), Variable::Local(_)) | (Variable::Local(_), Variable::Shared(_)) => false,
+        (Variable::Shared(_), Variable::Local(_)) | (Variable::Local(_), Variable::Shared(_)) =>
+            false,
     }
 }
 
