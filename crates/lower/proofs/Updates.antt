@@ -1,5 +1,5 @@
 -- An assignment in place: `x = x + e` and its like.
-use Rattle.std.proofs.Common.{◌≡◌, ◌==◌, ℕ, List, Bool, true, false, Option, Some, None, refl, sym, ap, ◌∙◌, if◌then◌else◌}
+use Rattle.std.proofs.Common.{◌≡◌, ℕ, List, Bool, true, false, Option, Some, None, refl, sym, ap, ◌∙◌, if◌then◌else◌}
 use Rattle.std.proofs.lemmas.Bool.{eqb-true}
 use Rattle.task_ast.specs.Tree as t
 use Rattle.task_ast.specs.Paths.{CheckedExpression}
@@ -15,7 +15,7 @@ use Rattle.array_versions.specs.declared.operations.PlainOperation.{PlainOperati
 use Rattle.array_versions.specs.declared.operations.PlainOperation.TheVariants as plain
 use Rattle.array_versions.specs.Operations.{plain_word}
 use Rattle.lower.specs.Operations.{plain_operation}
-use Rattle.lower.specs.Lowered.{is_same, is_name, updating}
+use Rattle.lower.specs.Lowered.{is_same, updating}
 
 -- the left side is the variable alone, and the operator has an operation that is one instruction
 pub record IsUpdate (x : Variable) (op : BinaryOperator) (a : CheckedExpression) (o : PlainOperation) : Type 0 where
