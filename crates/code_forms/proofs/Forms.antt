@@ -5,7 +5,7 @@ use Rattle.std.proofs.lemmas.Bool.Decides.{nat_tests}
 use Rattle.machine_effects.specs.alp_words.declared.Flags.{Flags}
 use Rattle.machine_effects.specs.alp_words.declared.Width.{Width}
 use Rattle.machine_effects.specs.alp_words.declared.Width.TheVariants.{Word}
-use Rattle.machine_effects.specs.alp_words.Words.{difference_of}
+use Rattle.machine_effects.specs.alp_words.Words.{sum_of, difference_of}
 use Rattle.machine_effects.specs.msp_isa.declared.instructions.TwoOp.{TwoOp}
 use Rattle.machine_effects.specs.msp_isa.declared.instructions.TwoOp.TheVariants.{Mov, Add, Addc, Subc, Sub, Cmp, Dadd, Bit, Bic, Bis, Xor, And}
 use Rattle.machine_effects.specs.msp_isa.declared.instructions.Condition.{Condition}
@@ -36,8 +36,8 @@ use Rattle.machine_effects.specs.Machine.{MachineOutcome, MachineBus, machine_bu
 use Rattle.code_forms.specs.Forms.{WorkRegister, work_number, index_of, Core, register_file, board_of, outcome_of_core, Source, Register, Number, Constant}
 use Rattle.code_forms.specs.Forms.{Fram, Ram, Pointed, PointedNext, Indexed, Popped, source_operand, source_bytes, source_value, source_read, SourceNeeds}
 use Rattle.code_forms.specs.Forms.{Target, ToRegister, ToFram, ToRam, ToIndexed, ToPointed, ToOutnum, ToOutdata, target_operand, target_bytes, target_written}
-use Rattle.code_forms.specs.Forms.{TargetNeeds, Move, Calculate, Compare, Update, Push, Modify, SetStack, Sense, Jump, Branch, BranchIndexed, BranchRegister}
-use Rattle.code_forms.specs.Forms.{instruction_of, flags_after, calculated, sensed, form_step, FormNeeds, IsNotMov, HasPushRoom, IsCodeAddress}
+use Rattle.code_forms.specs.Forms.{TargetNeeds, Move, Calculate, Compare, Update, Push, Modify, SetStack, Sense, Jump, Skip, Branch, BranchIndexed}
+use Rattle.code_forms.specs.Forms.{BranchRegister, instruction_of, flags_after, calculated, sensed, form_step, FormNeeds, IsNotMov, HasPushRoom, IsCodeAddress}
 use Rattle.code_forms.specs.Laws.{FormsDoAsInstructions}
 use Rattle.code_forms.proofs.Registers.{set_pc, set_sp, set_work, get_work, high, number, set_flags, flags_back, is_on, no_port}
 
@@ -407,6 +407,15 @@ jumps k o u c =
           (distance_even o)),
     ) refl
 
+skips : (n : ℕ) (u : Core) → IsCodeAddress u.pc → n % 2 ≡ 0
+    → step_with (Some (instruction_of (Skip n))) (board_of u) ≡ outcome_of_core (form_step (Skip n) u)
+skips n u c h =
+    let even = c.even in
+    let sum = sum_of Word (u.pc + 4) n false in
+    let e : sum.0 / 2 * 2 ≡ sum.0 = omega arith in
+    on_two Add (Number n) (dst.Reg reg.Pc) u c tt
+    ∙ rw (flags_back u.flags, set_flags (u.pc + 4) u.sp u.flags sum.1 u.work, set_pc (u.pc + 4) u.sp sum.0 sum.0 sum.1 u.work e) refl
+
 branches : (a : ℕ) (u : Core) → IsCodeAddress u.pc → a % 2 ≡ 0
     → step_with (Some (instruction_of (Branch a))) (board_of u) ≡ outcome_of_core (form_step (Branch a) u)
 branches a u c h =
@@ -490,6 +499,7 @@ form_does (Modify m b) u c h = modifies m b u c
 form_does (SetStack n) u c h = sets_stack n u c h
 form_does (Sense b) u c h = senses b u c
 form_does (Jump k o) u c h = jumps k o u c
+form_does (Skip n) u c h = skips n u c h
 form_does (Branch a) u c h = branches a u c h
 form_does (BranchIndexed b x) u c h = branches_indexed b x u c h
 form_does (BranchRegister b) u c h = branches_register b u c h

@@ -18,8 +18,8 @@ use Rattle.machine_effects.specs.Machine.{MachineBoard, MachineOutcome, MachineS
 use Rattle.machine_effects.specs.Machine.{IsMachineStep, NoInstruction, Executes, MachineRun, Stays, Halts, Steps, Code, step_with, exec, word_address}
 use Rattle.machine_effects.specs.Laws.{ChangesByEffects}
 use Rattle.machine_effects.proofs.Interface.{each_store-front, each_store-back, step_changes}
-use Rattle.code_forms.specs.Forms.{Form, Move, Calculate, Compare, Update, Push, Modify, SetStack, Sense, Jump, Branch, BranchIndexed, BranchRegister}
-use Rattle.code_forms.specs.Forms.{source_operand, target_operand, instruction_of, form_bytes, Core}
+use Rattle.code_forms.specs.Forms.{Form, Move, Calculate, Compare, Update, Push, Modify, SetStack, Sense, Jump, Skip, Branch, BranchIndexed}
+use Rattle.code_forms.specs.Forms.{BranchRegister, source_operand, target_operand, instruction_of, form_bytes, Core}
 use Rattle.code_forms.specs.Code.{Stands, forms_bytes}
 use Rattle.code_forms.specs.Placed.{placed, words_of, instructions, Holds, AreInstructions, IsOutside, LeavesCode}
 use Rattle.code_forms.specs.Laws.{FormsStandWherePlaced, PlacedIsTidy, CodeInFramRuns}
@@ -40,6 +40,7 @@ bytes_are (Modify change.Sxt b) = refl
 bytes_are (SetStack n) = refl
 bytes_are (Sense b) = refl
 bytes_are (Jump c o) = refl
+bytes_are (Skip n) = refl
 bytes_are (Branch a) = refl
 bytes_are (BranchIndexed b x) = refl
 bytes_are (BranchRegister b) = refl

@@ -5,7 +5,7 @@ use Rattle.machine_effects.specs.msp_step.declared.machine.Stop.TheVariants as s
 use Rattle.machine_effects.specs.fram_board.Effects.{Effect}
 use Rattle.machine_effects.specs.Going.{Goes, Stops, At, stretch, continued, Leads, Stalls}
 use Rattle.machine_effects.specs.Machine.{Code, exec}
-use Rattle.code_forms.specs.Forms.{Core, CoreOutcome, CoreStretch, board_of, Form, Move, Calculate, Compare, Update, Push, Modify, SetStack, Sense, Jump}
+use Rattle.code_forms.specs.Forms.{Core, CoreOutcome, CoreStretch, board_of, Form, Move, Calculate, Compare, Update, Push, Modify, SetStack, Sense, Jump, Skip}
 use Rattle.code_forms.specs.Forms.{Branch, BranchIndexed, BranchRegister, instruction_of, form_bytes, form_step, FormNeeds, IsCodeAddress}
 
 -- the forms stand in the code from this address on
@@ -18,9 +18,10 @@ abbrev pub forms_bytes : List Form → ℕ
 forms_bytes [] = 0
 forms_bytes (m ∷ ms) = form_bytes m + forms_bytes ms
 
--- no jump and no branch
+-- no jump, no skip and no branch
 abbrev pub IsStraight : Form → Type 0
 IsStraight (Jump c offset) = ⊥
+IsStraight (Skip n) = ⊥
 IsStraight (Branch a) = ⊥
 IsStraight (BranchIndexed b x) = ⊥
 IsStraight (BranchRegister b) = ⊥

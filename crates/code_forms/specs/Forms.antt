@@ -15,7 +15,7 @@ use Rattle.machine_effects.specs.msp_isa.declared.operands.Src.TheVariants as sr
 use Rattle.machine_effects.specs.msp_isa.declared.operands.Dst.{Dst}
 use Rattle.machine_effects.specs.msp_isa.declared.operands.Dst.TheVariants as dst
 use Rattle.machine_effects.specs.msp_isa.declared.instructions.TwoOp.{TwoOp}
-use Rattle.machine_effects.specs.msp_isa.declared.instructions.TwoOp.TheVariants.{Mov, Cmp}
+use Rattle.machine_effects.specs.msp_isa.declared.instructions.TwoOp.TheVariants.{Mov, Add, Cmp}
 use Rattle.machine_effects.specs.msp_isa.declared.instructions.OneOp.{OneOp}
 use Rattle.machine_effects.specs.msp_isa.declared.instructions.OneOp.TheVariants as one
 use Rattle.machine_effects.specs.msp_isa.declared.instructions.Condition.{Condition}
@@ -266,6 +266,7 @@ pub data Form : Type 0 where
   SetStack : (n : ℕ) → Form  -- SP becomes n
   Sense : (b : WorkRegister) → Form  -- a reading is taken into a register
   Jump : (c : Condition) → (offset : ℕ) → Form
+  Skip : (n : ℕ) → Form  -- n is added to PC, which stands behind the instruction here
   Branch : (a : ℕ) → Form  -- PC becomes a
   BranchIndexed : (b : WorkRegister) → (x : ℕ) → Form  -- PC becomes the word of FRAM at the register's address plus x
   BranchRegister : (b : WorkRegister) → Form  -- PC becomes the register's word
@@ -281,6 +282,7 @@ instruction_of (Modify m b) = instr.One (modification_operand m b)
 instruction_of (SetStack n) = instr.Two Mov Word (src.Immediate n) (dst.Reg (reg.Index index.Sp))
 instruction_of (Sense b) = instr.Two Mov Word (src.Operand (mode.Absolute sensor_port)) (dst.Reg (reg.Index (index_of b)))
 instruction_of (Jump c offset) = instr.Jump c offset
+instruction_of (Skip n) = instr.Two Add Word (src.Immediate n) (dst.Reg reg.Pc)
 instruction_of (Branch a) = instr.Two Mov Word (src.Immediate a) (dst.Reg reg.Pc)
 instruction_of (BranchIndexed b x) = instr.Two Mov Word (src.Operand (mode.Indexed (index_of b) x)) (dst.Reg reg.Pc)
 instruction_of (BranchRegister b) = instr.Two Mov Word (src.Operand (mode.Reg (source_register.Index (index_of b)))) (dst.Reg reg.Pc)
@@ -296,6 +298,7 @@ form_bytes (Modify m b) = 2
 form_bytes (SetStack n) = 4
 form_bytes (Sense b) = 4
 form_bytes (Jump c offset) = 2
+form_bytes (Skip n) = 4
 form_bytes (Branch a) = 4
 form_bytes (BranchIndexed b x) = 4
 form_bytes (BranchRegister b) = 2
@@ -341,6 +344,9 @@ form_step (Modify m b) u =
 form_step (SetStack n) u = Goes [] 2 (record u { pc = u.pc + 4; sp = n })
 form_step (Sense b) u = sensed u.readings_left b u
 form_step (Jump c offset) u = Goes [] 2 (record u { pc = if is_met c u.flags then sum16 (u.pc + 2) (distance offset) else u.pc + 2 })
+form_step (Skip n) u =
+    let o = operated Add Word (u.pc + 4) n u.flags in
+    Goes [] 3 (record u { pc = o.value; flags = flags_after o.flags u.flags })
 form_step (Branch a) u = Goes [] 3 (record u { pc = a })
 form_step (BranchIndexed b x) u = Goes [] 3 (record u { pc = u.fram (u.work (work_number b) + x) })
 form_step (BranchRegister b) u = Goes [] 2 (record u { pc = u.work (work_number b) })
@@ -367,6 +373,7 @@ FormNeeds (Modify m b) u = Unit {0}
 FormNeeds (SetStack n) u = n % 2 ≡ 0
 FormNeeds (Sense b) u = Unit {0}
 FormNeeds (Jump c offset) u = Unit {0}
+FormNeeds (Skip n) u = n % 2 ≡ 0
 FormNeeds (Branch a) u = a % 2 ≡ 0
 FormNeeds (BranchIndexed b x) u = IsFram (u.work (work_number b) + x) × (u.fram (u.work (work_number b) + x) % 2 ≡ 0)
 FormNeeds (BranchRegister b) u = u.work (work_number b) % 2 ≡ 0
