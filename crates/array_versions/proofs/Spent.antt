@@ -49,11 +49,11 @@ by_two_most op held failed a b s h k =
     (λ x vs. let u = with_stack vs s in either_most (compare_words op x y) (held u) (failed u) a b (h u) (k u)))
 
 turns_most : (m n k most : ℕ) (body : WordState → Behaviour) (cost : WordState → ℕ) (s : WordState) → ((t : WordState) → cost t ≤ most)
-    → turns_spent m n k body cost s ≤ m * (18 + most)
+    → turns_spent m n k body cost s ≤ m * (15 + most)
 turns_most zero n k most body cost s h = omega arith
 turns_most (suc m) n k most body cost s h =
     let t = with_local n k s in
-    omega (arith, h t, spent_on_most (body t).end (m * (18 + most)) (turns_spent m n (k + 1) body cost) (λ u. turns_most m n (k + 1) most body cost u h))
+    omega (arith, h t, spent_on_most (body t).end (m * (15 + most)) (turns_spent m n (k + 1) body cost) (λ u. turns_most m n (k + 1) most body cost u h))
 
 mutual
   step_most : (first : Step) (s : WordState) → step_spent first s ≤ step_cycles first

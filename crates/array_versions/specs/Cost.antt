@@ -77,7 +77,7 @@ abbrev mutual
   step_cycles sense = 6
   step_cycles (truth t) = test_cycles t + 5
   step_cycles (choose t taken otherwise) = test_cycles t + max (cycles_of taken + 3) (cycles_of otherwise)
-  step_cycles (repeat n from below body) = 15 + (below - from) * (18 + cycles_of body)
+  step_cycles (repeat n from below body) = 5 + (below - from) * (15 + cycles_of body)
   step_cycles (store_number a w) = 5
   step_cycles (move_word from to) = 6
   step_cycles (jump to) = 3
@@ -96,7 +96,7 @@ abbrev mutual
   cycles_of (step first more) = step_cycles first + cycles_of more
 
 abbrev mutual
-  -- the words of a step's code
+  -- the words of a step's code, at most
   pub step_words : Step → ℕ
   step_words (number w) = 2
   step_words (load a) = 2
@@ -116,12 +116,12 @@ abbrev mutual
   step_words sense = 3
   step_words (truth t) = test_words t + 3
   step_words (choose t taken otherwise) = test_words t + 2 + words_of taken + words_of otherwise
-  step_words (repeat n from below body) = 17 + words_of body
+  step_words (repeat n from below body) = 13 + words_of body
   step_words (store_number a w) = 3
   step_words (move_word from to) = 3
   step_words (jump to) = 2
 
-  -- the words of a test's code
+  -- the words of a test's code, at most
   pub test_words : Test → ℕ
   test_words (holds p) = words_of p + 5
   test_words (compares op p) = words_of p + 6
@@ -129,7 +129,7 @@ abbrev mutual
   test_words (either t u) = test_words t + test_words u
   test_words (fails t) = test_words t
 
-  -- the words of a program's code
+  -- the words of a program's code, at most
   pub words_of : Program → ℕ
   words_of nothing = 0
   words_of (step first more) = step_words first + words_of more
@@ -159,14 +159,14 @@ spent_by_two op held failed s =
 -- what so many turns spend, from number k on
 abbrev pub turns_spent : ℕ → ℕ → ℕ → (WordState → Behaviour) → (WordState → ℕ) → WordState → ℕ
 turns_spent zero n k body cost s = 0
-turns_spent (suc m) n k body cost s = let t = with_local n k s in 18 + cost t + spent_on (body t).end (turns_spent m n (k + 1) body cost)
+turns_spent (suc m) n k body cost s = let t = with_local n k s in 15 + cost t + spent_on (body t).end (turns_spent m n (k + 1) body cost)
 
 abbrev mutual
   -- the cycles of a step from a state on, at most, on the way that it takes: a loop that is left by a jump makes no further turns
   pub step_spent : Step → WordState → ℕ
   step_spent (truth t) s = test_spent t (λ v. 5) (λ v. 3) s
   step_spent (choose t taken otherwise) s = test_spent t (λ v. spent taken v + 3) (spent otherwise) s
-  step_spent (repeat n from below body) s = 15 + turns_spent (below - from) n from (behaviour body) (spent body) s
+  step_spent (repeat n from below body) s = 5 + turns_spent (below - from) n from (behaviour body) (spent body) s
   step_spent (number w) s = step_cycles (number w)
   step_spent (load a) s = step_cycles (load a)
   step_spent (keep a) s = step_cycles (keep a)

@@ -153,7 +153,7 @@ turns_spend : (p : Places) (most m n k : ℕ) (run : WordState → Behaviour) (c
 turns_spend p most zero n k run cost s h = omega arith
 turns_spend p most (suc m) n k run cost s h =
     let v = with_local n k s in
-    let a = both p (run v).end (turns m n (k + 1) run) (turns_spent m n (k + 1) run cost) (18 + cost v) (18 + most) (m * (40 + most))
+    let a = both p (run v).end (turns m n (k + 1) run) (turns_spent m n (k + 1) run cost) (15 + cost v) (15 + most) (m * (40 + most))
     (let b = h v in omega (arith, b)) (λ u. turns_spend p most m n (k + 1) run cost u h) in
     omega (arith, a)
 
