@@ -15,10 +15,9 @@ use Rattle.array_versions.specs.machine_effects.Going.{At, stretch}
 use Rattle.array_versions.specs.machine_effects.Machine.{IsFram}
 use Rattle.code_forms.specs.Forms.{WorkRegister, R4, Core, CoreStretch, Register, Number, Constant, Indexed, ToRegister, ToIndexed, Move, Calculate, Update}
 use Rattle.code_forms.specs.Forms.{Jump, instruction_of, form_bytes}
-use Rattle.code_forms.specs.Code.{Stands, forms_run, Runs}
+use Rattle.code_forms.specs.Code.{Stands, forms_bytes, forms_run, Runs}
 use Rattle.code_forms.proofs.Interface.{stands_at, stands_front, stands_back, form_at, forms_at, end_of}
 use Rattle.array_versions.specs.Behaviour.{WordState, goes_on, with_stack, with_top, is_place, at_place, stored, element_pushed, word_emitted, entry_stored}
-use Rattle.array_versions.specs.Cost.{entry_words}
 use Rattle.codegen.specs.Code.{push_from, element_code, emit_code, pair_code, entry_code}
 use Rattle.codegen.proofs.Stretches.{Setting, straight, runs_on, dearer}
 use Rattle.codegen.proofs.Memory.{pop_memory, pop_needs, place_is}
@@ -46,7 +45,7 @@ module _ (z : Setting) where
       let ms = Calculate op.Cmp (Number size) R4 ∷ [] in
       straight z ms 2 t (end_of t (forms_run ms t).status) [] 2 _ (tt, tt) (stands_at z.code pc ms t (h, tt) k.is.at) ((tt, tt), tt) refl (omega arith)
       (record {
-        has = record { is = stands_elsewhere z pc (pc + 4) w t _ k.is (omega (arith, k.is.at)) refl refl refl refl; value = k.value };
+        has = record { is = stands_elsewhere z pc (pc + 4) w t _ k.is (omega (arith, k.is.at)) refl refl refl refl refl; value = k.value };
         flag = ap (λ v. nat_le 0x10000 (v + (0xFFFF - size) + 1)) k.value ∙ no_borrow i size a b;
       })
 
@@ -83,10 +82,10 @@ module _ (z : Setting) where
         (runs_on z 2 8 u _ _ [] [] (pop_part z pc i rest w u e h.0 k) (λ t j.
         runs_on z 2 6 t _ _ [] [] (compare_part (pc + 2) i size popped t r l h.1.0 j) (λ t j.
         runs_on z 2 4 t _ _ [] [] (jump_has z condition.Carry 4 (pc + 6) (pc + 16) true R4 i popped t at6 (j.flag ∙ le_of_lt i size false lt) to
-        (record { is = stands_elsewhere z (pc + 2 + 4) (pc + 6) popped t t j.has.is (omega (arith, j.has.is.at)) refl refl refl refl; value = j.has.value }))
+        (record { is = stands_elsewhere z (pc + 2 + 4) (pc + 6) popped t t j.has.is (omega (arith, j.has.is.at)) refl refl refl refl refl; value = j.has.value }))
         (λ t j.
         runs_on z 1 3 t _ _ [] [] (middle z zeroed 1 (pc + 16) (pc + 18) 0 R4 popped t (end_of t (forms_run zeroed t).status) j.is (tt, tt) at16
-        ((tt, tt), tt) refl (omega (arith, j.is.at)) refl refl refl refl refl) (λ t j.
+        ((tt, tt), tt) refl (omega (arith, j.is.at)) refl refl refl refl refl refl) (λ t j.
         push_result z R4 (pc + 18) 0 popped t (omega (arith, m.fits)) at18 j))))))
     element_by true i rest w u lt r e k =
         let popped = with_stack rest w in
@@ -105,11 +104,11 @@ module _ (z : Setting) where
         (runs_on z 2 13 u _ _ [] [] (pop_part z pc i rest w u e h.0 k) (λ t j.
         runs_on z 2 11 t _ _ [] [] (compare_part (pc + 2) i size popped t r l h.1.0 j) (λ t j.
         runs_on z 2 9 t _ _ [] [] (jump_has z condition.Carry 4 (pc + 6) (pc + 8) false R4 i popped t at6 (j.flag ∙ le_of_lt i size true lt) (omega arith)
-        (record { is = stands_elsewhere z (pc + 2 + 4) (pc + 6) popped t t j.has.is (omega (arith, j.has.is.at)) refl refl refl refl; value = j.has.value }))
+        (record { is = stands_elsewhere z (pc + 2 + 4) (pc + 6) popped t t j.has.is (omega (arith, j.has.is.at)) refl refl refl refl refl; value = j.has.value }))
         (λ t j.
         let q : (t.work 4 + t.work 4 + 0) % 0x10000 ≡ 2 * i = ap (λ v. (v + v + 0) % 0x10000) j.value ∙ small in
         runs_on z 4 5 t _ _ [] [] (middle z ms 4 (pc + 8) (pc + 14) (w.fram a) R4 popped t (end_of t (forms_run ms t).status) j.is (tt, (tt, tt)) at8
-        ((tt, tt), ((subst (λ v. IsFram (v + base)) (sym q) f, tt), tt)) refl (omega (arith, j.is.at)) refl refl refl refl
+        ((tt, tt), ((subst (λ v. IsFram (v + base)) (sym q) f, tt), tt)) refl (omega (arith, j.is.at)) refl refl refl refl refl
         (ap (λ v. t.fram (v + base)) q ∙ ap (λ y. y a) j.is.fram)) (λ t j.
         runs_on z 2 3 t _ _ [] [] (jump_has z condition.Always 1 (pc + 14) (pc + 18) true R4 (w.fram a) popped t at14 refl to j) (λ t j.
         push_result z R4 (pc + 18) (w.fram a) popped t (omega (arith, m.fits)) at18 j)))))))
@@ -139,14 +138,14 @@ module _ (z : Setting) where
       let shape : ℕ → ℕ → ℕ → CoreStretch = λ a x k. stretch (Store a x ∷ Store count k ∷ []) 16 (At (record t0 { fram = put (put u.fram a x) count k })) in
       straight z ms 16 u (record t0 { fram = put (put u.fram (2 * n + buffer) v) count (n + 1) }) (Store (2 * n + buffer) v ∷ Store count (n + 1) ∷ []) 16 _
       (tt, (tt, (tt, (tt, (tt, (tt, (tt, tt))))))) (stands_at z.code pc ms u h i.at) (
-        (pop_needs z.locals z.room z.roomy u.sp u.ram v rest w.locals m, tt),
+        (pop_needs z m, tt),
         ((f1, tt), ((tt, tt), ((tt, tt), ((tt, subst IsFram (sym at) f2), ((tt, tt), ((tt, f1), tt)))))),
       )
       (ap (λ a. shape a (u.ram u.sp) ((u.fram count + 1 + 0) % 0x10000)) at ∙ ap (λ x. shape (2 * n + buffer) x ((u.fram count + 1 + 0) % 0x10000)) m.stack.0
       ∙ ap (λ k. shape (2 * n + buffer) v k) up) (omega arith)
       (record {
         at = omega (arith, i.at);
-        memory = pop_memory z.locals z.room z.roomy u.sp u.ram v rest w.locals m;
+        memory = pop_memory z m;
         fram = ap (λ f. put (put f (2 * n + buffer) v) count (n + 1)) i.fram;
         readings = i.readings;
       })))
@@ -245,12 +244,12 @@ module _ (z : Setting) where
         count_part (pc + 24 + form_bytes m) t fc back.1 j))))))
 
   pub entry_part : (count list home copy words pc : ℕ) (w : WordState) (u : Core) → Stands z.code pc (entry_code count list home copy words)
-      → StandsFor z pc w u → Follows z (pc + 2 * entry_words words) 26 u (entry_stored count list home copy words w)
+      → StandsFor z pc w u → Follows z (pc + forms_bytes (entry_code count list home copy words)) 26 u (entry_stored count list home copy words w)
   entry_part count list home copy words pc w u h i =
-      ends_at z _ (pc + 2 * entry_words words) 26 u (entry_stored count list home copy words w) (by (words == 1))
+      ends_at z _ (pc + forms_bytes (entry_code count list home copy words)) 26 u (entry_stored count list home copy words w) (by (words == 1))
       (entry_by count list home copy words w (words == 1) pc u refl h i)
     where
-      by : (b : Bool) → pc + 24 + form_bytes (Move (if b then Constant konst.One else Number words) (ToIndexed R4 (word_sum list 4))) + 4
-          ≡ pc + 2 * (if b then 16 else 17)
+      by : (b : Bool) → (let m = Move (if b then Constant konst.One else Number words) (ToIndexed R4 (word_sum list 4)) in
+          pc + 24 + form_bytes m + 4 ≡ pc + forms_bytes (pair_code count list home copy ++ (m ∷ Update op.Add (Constant konst.One) count ∷ [])))
       by true = omega arith
       by false = omega arith

@@ -1,5 +1,6 @@
 -- Tests: where the code goes on.
-use Rattle.std.proofs.Common.{◌≡◌, ℕ, ◌+◌, ◌%◌, ◌<◌, ◌==◌, not, List, [], ◌∷◌, Some, refl, sym, ap, ap₂, ◌∙◌, arith, Bool, true, false, if◌then◌else◌}
+use Rattle.std.proofs.Common.{◌≡◌, ℕ, ◌+◌, ◌*◌, ◌%◌, ◌<◌, ◌==◌, not, List, [], ◌∷◌, Some, refl, sym, ap, ap₂, ◌∙◌, subst, arith, Bool, true, false}
+use Rattle.std.proofs.Common.{if◌then◌else◌}
 use Rattle.std.proofs.Math.Bool.{not-not}
 use Rattle.msp_isa.specs.alp_words.declared.Flags.{Flags}
 use Rattle.msp_isa.specs.alp_words.declared.Width.TheVariants.{Word}
@@ -10,74 +11,77 @@ use Rattle.msp_isa.specs.declared.instructions.TwoOp.TheVariants as op
 use Rattle.msp_isa.specs.declared.operands.Konst.TheVariants as konst
 use Rattle.array_versions.specs.msp_step.Effect.{is_met}
 use Rattle.code_forms.specs.Forms.{R4, R5, Core, Register, Constant, Form, Calculate, instruction_of}
-use Rattle.code_forms.specs.Code.{Stands, forms_run, Runs}
+use Rattle.code_forms.specs.Code.{Stands, forms_bytes, forms_run, Runs}
 use Rattle.code_forms.proofs.Interface.{forms_behind, end_of, stands_at}
 use Rattle.array_versions.specs.declared.operations.Comparison.{Comparison}
 use Rattle.array_versions.specs.declared.operations.Comparison.TheVariants.{Equal, Below, Above, SignedBelow, SignedAbove, CommonBit}
 use Rattle.array_versions.specs.Operations.{is_true, compare_words}
 use Rattle.array_versions.specs.Behaviour.{WordState, Behaviour, with_stack}
-use Rattle.codegen.specs.Code.{pop_to, compare_form, holding, failing, decision, holds_code}
-use Rattle.codegen.proofs.Stretches.{Setting, straight, runs_on, dearer}
+use Rattle.codegen.specs.Code.{pop_to, compare_form, holding, failing, jump_over, decision, holds_code}
+use Rattle.codegen.proofs.Stretches.{Setting, straight, runs_on}
 use Rattle.codegen.proofs.Follows.{StandsFor, Follows, then_end, stands_elsewhere}
-use Rattle.codegen.proofs.Registers.{HasTwo, pop_part, pop_two, branch_to, jump_to}
-use Rattle.codegen.proofs.Values.{difference_flags, compared_flags, compare_met, failing_met, zero_is}
+use Rattle.codegen.proofs.Registers.{zero_flag, HasTwo, pop_part, pop_two}
+use Rattle.codegen.proofs.Jumps.{stands_low, Decided, over_part}
+use Rattle.codegen.proofs.Values.{difference_flags, compared_flags, compare_met, failing_met}
 
--- where a test goes on, where it holds and where it fails: one of the two stands right behind it
-pub record Fork (far : Bool) (holds_at fails_at behind : ℕ) : Type 0 where
-  pub even_holds : holds_at % 2 ≡ 0
-  pub even_fails : fails_at % 2 ≡ 0
-  pub near : (if far then fails_at else holds_at) ≡ behind
+-- where a test goes on, where it holds and where it fails: at one of the two, as the flag says, it goes over so many words behind it, and what it goes over
+-- ends below 10000
+pub record Fork (sense : Bool) (d holds_at fails_at behind : ℕ) : Type 0 where
+  pub holds : (if sense then behind + 2 * d else behind) ≡ holds_at
+  pub fails : (if sense then behind else behind + 2 * d) ≡ fails_at
+  pub room : behind < 0x10000 → behind + 2 * d < 0x10000
 
-pub fork_at : (far : Bool) (holds_at fails_at a b : ℕ) → a ≡ b → Fork far holds_at fails_at a → Fork far holds_at fails_at b
-fork_at far holds_at fails_at a b e k = record { even_holds = k.even_holds; even_fails = k.even_fails; near = k.near ∙ e }
+pub fork_at : (sense : Bool) (d holds_at fails_at a b : ℕ) → a ≡ b → Fork sense d holds_at fails_at a → Fork sense d holds_at fails_at b
+fork_at sense d holds_at fails_at a b e k = subst (Fork sense d holds_at fails_at) e k
 
-pub fork_turned : (far : Bool) (holds_at fails_at behind : ℕ) → Fork far holds_at fails_at behind → Fork (not far) fails_at holds_at behind
-fork_turned true holds_at fails_at behind k = record { even_holds = k.even_fails; even_fails = k.even_holds; near = k.near }
-fork_turned false holds_at fails_at behind k = record { even_holds = k.even_fails; even_fails = k.even_holds; near = k.near }
+pub fork_turned : (sense : Bool) (d holds_at fails_at behind : ℕ) → Fork sense d holds_at fails_at behind → Fork (not sense) d fails_at holds_at behind
+fork_turned true d holds_at fails_at behind k = record { holds = k.fails; fails = k.holds; room = k.room }
+fork_turned false d holds_at fails_at behind k = record { holds = k.fails; fails = k.holds; room = k.room }
+
+-- the first of two parts that both have to hold: where it fails it goes over the second part, and on as both do where they fail
+pub fork_both : (sense : Bool) (d n holds_at fails_at middle : ℕ) → (middle < 0x10000 → middle + 2 * n < 0x10000)
+    → Fork sense d holds_at fails_at (middle + 2 * n) → Fork false (n + (if sense then 0 else d)) middle fails_at middle
+fork_both true d n holds_at fails_at middle l k = record { holds = refl; fails = omega (arith, k.fails); room = λ h. omega (arith, l h) }
+fork_both false d n holds_at fails_at middle l k = record { holds = refl; fails = omega (arith, k.fails); room = λ h. omega (arith, k.room (l h)) }
+
+-- the first of two parts of which one has to hold: where it holds it goes over the second part, and on as both do where one holds
+pub fork_either : (sense : Bool) (d n holds_at fails_at middle : ℕ) → (middle < 0x10000 → middle + 2 * n < 0x10000)
+    → Fork sense d holds_at fails_at (middle + 2 * n) → Fork true (n + (if sense then d else 0)) holds_at middle middle
+fork_either true d n holds_at fails_at middle l k = record { holds = omega (arith, k.holds); fails = refl; room = λ h. omega (arith, k.room (l h)) }
+fork_either false d n holds_at fails_at middle l k = record { holds = omega (arith, k.holds); fails = refl; room = λ h. omega (arith, l h) }
 
 module _ (z : Setting) where
-  -- a flag is tested here
-  pub record Tested (pc : ℕ) (w : WordState) (k : Condition) (b : Bool) (t : Core) : Type 0 where
-    pub is : StandsFor z pc w t
-    pub flag : is_met k t.flags ≡ b
-
-  -- it is decided here: one condition is met where it holds, and the other where it fails
-  pub record Decided (pc : ℕ) (w : WordState) (b : Bool) (met opposite : Condition) (t : Core) : Type 0 where
-    pub is : StandsFor z pc w t
-    pub holds : is_met met t.flags ≡ b
-    pub fails : is_met opposite t.flags ≡ not b
-
-  -- the jump, and the branch behind it
-  decision_part : (far b : Bool) (pc holds_at fails_at : ℕ) (met opposite : Condition) (w : WordState) (t : Core)
-      → Stands z.code pc (decision far holds_at fails_at met opposite)
-      → Fork far holds_at fails_at (pc + 6) → Decided pc w b met opposite t → Runs z.code [] 5 t (StandsFor z (if b then holds_at else fails_at) w)
-  decision_part true true pc holds_at fails_at met opposite w t h k d =
-      runs_on z 2 3 t (StandsFor z (pc + 2) w) _ [] [] (jump_to z opposite 2 pc (pc + 2) false w t h.0 d.fails refl d.is)
-      (λ u j. branch_to z holds_at (pc + 2) w u h.1.0 k.even_holds j)
-  decision_part true false pc holds_at fails_at met opposite w t h k d =
-      let high = (z.tidy pc _ h.0).high in
-      let near : fails_at ≡ pc + 6 = k.near in
-      dearer z [] 2 5 t _ (omega arith) (jump_to z opposite 2 pc fails_at true w t h.0 d.fails (omega arith) d.is)
-  decision_part false true pc holds_at fails_at met opposite w t h k d =
-      let high = (z.tidy pc _ h.0).high in
-      let near : holds_at ≡ pc + 6 = k.near in
-      dearer z [] 2 5 t _ (omega arith) (jump_to z met 2 pc holds_at true w t h.0 d.holds (omega arith) d.is)
-  decision_part false false pc holds_at fails_at met opposite w t h k d =
-      runs_on z 2 3 t (StandsFor z (pc + 2) w) _ [] [] (jump_to z met 2 pc (pc + 2) false w t h.0 d.holds refl d.is)
-      (λ u j. branch_to z fails_at (pc + 2) w u h.1.0 k.even_fails j)
+  -- the jump to the one way or the other
+  decision_part : (sense b : Bool) (pc d holds_at fails_at : ℕ) (met opposite : Condition) (w : WordState) (t : Core)
+      → Stands z.code pc (decision sense d met opposite)
+      → Fork sense d holds_at fails_at (pc + forms_bytes (decision sense d met opposite)) → pc < 0x10000 → Decided z pc w b met opposite t
+      → Runs z.code [] 5 t (StandsFor z (if b then holds_at else fails_at) w)
+  decision_part true true pc d holds_at fails_at met opposite w t h k l i =
+      let low = stands_low z pc (jump_over met opposite d) h l in
+      over_part z true pc d holds_at met opposite w t h k.holds (omega (arith, k.room low, k.holds)) i
+  decision_part true false pc d holds_at fails_at met opposite w t h k l i =
+      let low = stands_low z pc (jump_over met opposite d) h l in
+      over_part z false pc d fails_at met opposite w t h k.fails (omega (arith, low, k.fails)) i
+  decision_part false true pc d holds_at fails_at met opposite w t h k l i =
+      let low = stands_low z pc (jump_over opposite met d) h l in
+      over_part z false pc d holds_at opposite met w t h k.holds (omega (arith, low, k.holds)) (record { is = i.is; holds = i.fails; fails = i.holds })
+  decision_part false false pc d holds_at fails_at met opposite w t h k l i =
+      let low = stands_low z pc (jump_over opposite met d) h l in
+      over_part z true pc d fails_at opposite met w t h k.fails (omega (arith, k.room low, k.fails)) (record { is = i.is; holds = i.fails; fails = i.holds })
 
   -- the code that follows where it is decided, and the way that is taken
-  pub decided_follows : (far b : Bool) (pc holds_at fails_at n end m k : ℕ) (met opposite : Condition) (w : WordState) (u : Core) (x y : Behaviour)
-      → Stands z.code pc (decision far holds_at fails_at met opposite) → Fork far holds_at fails_at (pc + 6) → Runs z.code [] n u (Decided pc w b met opposite)
+  pub decided_follows : (sense b : Bool) (pc d holds_at fails_at n end m k : ℕ) (met opposite : Condition) (w : WordState) (u : Core) (x y : Behaviour)
+      → Stands z.code pc (decision sense d met opposite) → Fork sense d holds_at fails_at (pc + forms_bytes (decision sense d met opposite)) → pc < 0x10000
+      → Runs z.code [] n u (Decided z pc w b met opposite)
       → ((t : Core) → StandsFor z holds_at w t → Follows z end m t x) → ((t : Core) → StandsFor z fails_at w t → Follows z end k t y)
       → Follows z end (n + 5 + (if b then m else k)) u (if b then x else y)
-  decided_follows far true pc holds_at fails_at n end m k met opposite w u x y h fork r f g =
-      let come = runs_on z n 5 u (Decided pc w true met opposite) (StandsFor z holds_at w) [] [] r
-      (λ t d. decision_part far true pc holds_at fails_at met opposite w t h fork d) in
+  decided_follows sense true pc d holds_at fails_at n end m k met opposite w u x y h fork l r f g =
+      let come = runs_on z n 5 u (Decided z pc w true met opposite) (StandsFor z holds_at w) [] [] r
+      (λ t i. decision_part sense true pc d holds_at fails_at met opposite w t h fork l i) in
       then_end z end (n + 5) m u (StandsFor z holds_at w) [] x.effects x.end come f
-  decided_follows far false pc holds_at fails_at n end m k met opposite w u x y h fork r f g =
-      let come = runs_on z n 5 u (Decided pc w false met opposite) (StandsFor z fails_at w) [] [] r
-      (λ t d. decision_part far false pc holds_at fails_at met opposite w t h fork d) in
+  decided_follows sense false pc d holds_at fails_at n end m k met opposite w u x y h fork l r f g =
+      let come = runs_on z n 5 u (Decided z pc w false met opposite) (StandsFor z fails_at w) [] [] r
+      (λ t i. decision_part sense false pc d holds_at fails_at met opposite w t h fork l i) in
       then_end z end (n + 5) k u (StandsFor z fails_at w) [] y.effects y.end come g
 
   -- ---- whether the top isn't 0
@@ -85,17 +89,17 @@ module _ (z : Setting) where
   abbrev zero_test : Form
   zero_test = Calculate op.Cmp (Constant konst.Zero) R4
 
-  pub holds_part : (far : Bool) (pc v holds_at fails_at : ℕ) (vs : List ℕ) (w : WordState) (u : Core) → w.stack ≡ v ∷ vs → v < 0x10000
-      → Stands z.code pc (holds_code far holds_at fails_at) → StandsFor z pc w u
-      → Runs z.code [] 3 u (Decided (pc + 4) (with_stack vs w) (is_true v) condition.NotEqual condition.Equal)
-  holds_part far pc v holds_at fails_at vs w u e l h i =
+  pub holds_part : (sense : Bool) (pc v d : ℕ) (vs : List ℕ) (w : WordState) (u : Core) → w.stack ≡ v ∷ vs → v < 0x10000
+      → Stands z.code pc (holds_code sense d) → StandsFor z pc w u
+      → Runs z.code [] 3 u (Decided z (pc + 4) (with_stack vs w) (is_true v) condition.NotEqual condition.Equal)
+  holds_part sense pc v d vs w u e l h i =
       let ms = zero_test ∷ [] in
       runs_on z 2 1 u _ _ [] [] (pop_part z pc v vs w u e h.0 i) (λ t k.
-      let zero : ((t.work 4 + 65535 + 1) % 65536 == 0) ≡ (v == 0) = ap (λ x. (x + 65535 + 1) % 65536 == 0) k.value ∙ zero_is v l in
+      let zero : ((t.work 4 + 65535 + 1) % 65536 == 0) ≡ (v == 0) = ap (λ x. (x + 65535 + 1) % 65536 == 0) k.value ∙ zero_flag v l in
       straight z ms 1 t (end_of t (forms_run ms t).status) [] 1 _ (tt, tt) (stands_at z.code (pc + 2) ms t (h.1.0, tt) k.is.at) ((tt, tt), tt) refl
       (omega arith)
       (record {
-        is = stands_elsewhere z (pc + 2) (pc + 4) (with_stack vs w) t _ k.is (omega (arith, k.is.at)) refl refl refl refl;
+        is = stands_elsewhere z (pc + 2) (pc + 4) (with_stack vs w) t _ k.is (omega (arith, k.is.at)) refl refl refl refl refl;
         holds = ap not zero;
         fails = zero ∙ sym (not-not (v == 0));
       }))
@@ -113,7 +117,7 @@ module _ (z : Setting) where
       let ms = Calculate op.Cmp (Register R5) R4 ∷ [] in
       straight z ms 1 t (end_of t (forms_run ms t).status) [] 1 _ (tt, tt) (stands_at z.code pc ms t (h, tt) k.is.at) ((tt, tt), tt) refl (omega arith)
       (record {
-        is = stands_elsewhere z pc next w t _ k.is (omega (arith, k.is.at)) refl refl refl refl;
+        is = stands_elsewhere z pc next w t _ k.is (omega (arith, k.is.at)) refl refl refl refl refl;
         flags = ap₂ difference_flags k.four k.five;
       })
 
@@ -123,7 +127,7 @@ module _ (z : Setting) where
       let ms = Calculate op.Cmp (Register R4) R5 ∷ [] in
       straight z ms 1 t (end_of t (forms_run ms t).status) [] 1 _ (tt, tt) (stands_at z.code pc ms t (h, tt) k.is.at) ((tt, tt), tt) refl (omega arith)
       (record {
-        is = stands_elsewhere z pc next w t _ k.is (omega (arith, k.is.at)) refl refl refl refl;
+        is = stands_elsewhere z pc next w t _ k.is (omega (arith, k.is.at)) refl refl refl refl refl;
         flags = ap₂ difference_flags k.five k.four;
       })
 
@@ -133,7 +137,7 @@ module _ (z : Setting) where
       let ms = Calculate op.Bit (Register R5) R4 ∷ [] in
       straight z ms 1 t (end_of t (forms_run ms t).status) [] 1 _ (tt, tt) (stands_at z.code pc ms t (h, tt) k.is.at) ((tt, tt), tt) refl (omega arith)
       (record {
-        is = stands_elsewhere z pc next w t _ k.is (omega (arith, k.is.at)) refl refl refl refl;
+        is = stands_elsewhere z pc next w t _ k.is (omega (arith, k.is.at)) refl refl refl refl refl;
         flags = ap₂ (λ p q. (and_of Word p q).1) k.four k.five;
       })
 
@@ -148,7 +152,7 @@ module _ (z : Setting) where
 
   pub compares_part : (c : Comparison) (pc x y : ℕ) (vs : List ℕ) (w : WordState) (u : Core) → w.stack ≡ y ∷ (x ∷ vs)
       → x < 0x10000 → y < 0x10000 → Stands z.code pc (pop_to R5 ∷ pop_to R4 ∷ compare_form c ∷ []) → StandsFor z pc w u
-      → Runs z.code [] 5 u (Decided (pc + 6) (with_stack vs w) (compare_words c x y) (holding c) (failing c))
+      → Runs z.code [] 5 u (Decided z (pc + 6) (with_stack vs w) (compare_words c x y) (holding c) (failing c))
   compares_part c pc x y vs w u e l m h i =
       let v = with_stack vs w in
       let here = (forms_behind z.code pc 2 (pop_to R5 ∷ pop_to R4 ∷ compare_form c ∷ []) h).0 in
@@ -156,7 +160,7 @@ module _ (z : Setting) where
       as_decided t (compare_part c (pc + 4) (pc + 6) x y v t (omega arith) here k))
     where
       as_decided : (t : Core) → Runs z.code [] 1 t (HasFlags (pc + 6) (with_stack vs w) (compared_flags c x y))
-          → Runs z.code [] 1 t (Decided (pc + 6) (with_stack vs w) (compare_words c x y) (holding c) (failing c))
+          → Runs z.code [] 1 t (Decided z (pc + 6) (with_stack vs w) (compare_words c x y) (holding c) (failing c))
       as_decided t r =
           let met = ap (is_met (holding c)) r.holds.flags ∙ compare_met c x y l m in
           record {

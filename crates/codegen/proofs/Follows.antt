@@ -7,12 +7,12 @@ use Rattle.array_versions.specs.Behaviour.{WordState, End, GoesOn, Jumps, Short,
 use Rattle.array_versions.specs.Cost.{spent_on}
 use Rattle.codegen.specs.Laws.{HasJumped}
 use Rattle.codegen.proofs.Stretches.{Setting, runs_on, starves_on, dearer, dearer_stall}
-use Rattle.codegen.proofs.Memory.{Memory}
+use Rattle.codegen.proofs.Memory.{local_words, Memory}
 
 -- the machine at this place stands for what the program works on
 pub record StandsFor (z : Setting) (pc : ℕ) (w : WordState) (u : Core) : Type 0 where
   pub at : u.pc ≡ pc
-  pub memory : Memory z.locals z.room u.sp u.ram w.stack w.locals
+  pub memory : Memory z u.sp u.ram (local_words u.work) w.stack w.locals
   pub fram : u.fram ≡ w.fram
   pub readings : u.readings_left ≡ w.readings
 
@@ -87,12 +87,18 @@ pub guarded : (z : Setting) (c : Bool) (pc most : ℕ) (u : Core) (b : Behaviour
 guarded z true pc most u b h = h refl
 guarded z false pc most u b h = tt
 
--- the machine elsewhere, with other registers
+-- the machine elsewhere, with other words in R4 to R7
 pub stands_elsewhere : (z : Setting) (pc pc' : ℕ) (w : WordState) (u t : Core) → StandsFor z pc w u → t.pc ≡ pc' → t.sp ≡ u.sp → t.ram ≡ u.ram
-    → t.fram ≡ u.fram → t.readings_left ≡ u.readings_left → StandsFor z pc' w t
-stands_elsewhere z pc pc' w u t i p q r f d = record { at = p; memory = rw (q, r) i.memory; fram = f ∙ i.fram; readings = d ∙ i.readings }
+    → local_words t.work ≡ local_words u.work → t.fram ≡ u.fram → t.readings_left ≡ u.readings_left → StandsFor z pc' w t
+stands_elsewhere z pc pc' w u t i p q r k f d =
+    record {
+      at = p;
+      memory = subst (λ l. Memory z t.sp t.ram l w.stack w.locals) (sym k) (rw (q, r) i.memory);
+      fram = f ∙ i.fram;
+      readings = d ∙ i.readings;
+    }
 
 -- the stack under a name
 pub memory_as : (z : Setting) (pc : ℕ) (w : WordState) (u : Core) (vs : List ℕ) → w.stack ≡ vs → StandsFor z pc w u
-    → Memory z.locals z.room u.sp u.ram vs w.locals
-memory_as z pc w u vs e i = subst (λ l. Memory z.locals z.room u.sp u.ram l w.locals) e i.memory
+    → Memory z u.sp u.ram (local_words u.work) vs w.locals
+memory_as z pc w u vs e i = subst (λ l. Memory z u.sp u.ram (local_words u.work) l w.locals) e i.memory

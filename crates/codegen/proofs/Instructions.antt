@@ -1,6 +1,7 @@
 -- The forms of a program's code are instructions: their jumps reach no further than ten bits say.
-use Rattle.std.proofs.Common.{ℕ, zero, suc, ◌+◌, ◌-◌, ◌*◌, ◌==◌, List, [], ◌∷◌, ◌++◌, arith, Bool, true, false, not, nat_le, nat_lt, if◌then◌else◌}
-use Rattle.code_forms.specs.Forms.{R4, Constant, Number, ToIndexed, Form, Move, Update, Branch, instruction_of}
+use Rattle.std.proofs.Common.{◌≡◌, ℕ, zero, suc, ◌+◌, ◌-◌, ◌*◌, ◌<◌, ◌==◌, refl, List, [], ◌∷◌, ◌++◌, arith, Bool, true, false, not, nat_le, nat_lt, if◌then◌else◌}
+use Rattle.std.proofs.lemmas.Bool.Decides.{nat_tests}
+use Rattle.code_forms.specs.Forms.{R4, Constant, Number, ToIndexed, Form, Move, Update, Jump, Skip, instruction_of}
 use Rattle.msp_isa.specs.alp_words.Words.{word_sum}
 use Rattle.msp_isa.specs.declared.instructions.TwoOp.TheVariants as op
 use Rattle.msp_isa.specs.declared.instructions.Condition.{Condition}
@@ -24,10 +25,9 @@ use Rattle.array_versions.specs.Program.{list_entry}
 use Rattle.array_versions.specs.Program.{versioned_read, versioned_write, sense, truth, choose, repeat, store_number, move_word, jump, holds}
 use Rattle.array_versions.specs.Program.{compares}
 use Rattle.array_versions.specs.Program.{both, either, fails, nothing, step}
-use Rattle.array_versions.specs.Cost.{step_words, test_words, words_of}
 use Rattle.codegen.specs.Code.{push_from, unary_middle, binary_middle, binary_result, repeated, double, halve, right_code, shift_by, shift_middle}
-use Rattle.codegen.specs.Code.{element_code, emit_code, pair_code, read_code, write_code, compare_form, holding, failing, decision, holds_code}
-use Rattle.codegen.specs.Code.{compares_code, truth_code, loop_head, loop_step, step_code, test_code, code_of}
+use Rattle.codegen.specs.Code.{element_code, emit_code, pair_code, read_code, write_code, compare_form, holding, failing, size, pass_over, jump_back}
+use Rattle.codegen.specs.Code.{decision, holds_code, compares_code, truth_code, number_code, turn_end, turns_code, step_code, test_code, code_of}
 use Rattle.codegen.specs.Laws.{CodeIsInstructions}
 
 -- the forms are instructions
@@ -94,77 +94,93 @@ compare_is SignedBelow = tt
 compare_is SignedAbove = tt
 compare_is CommonBit = tt
 
-decision_are : (far : Bool) (holds_at fails_at : ℕ) (met opposite : Condition) → Are (decision far holds_at fails_at met opposite)
-decision_are true holds_at fails_at met opposite = search arith
-decision_are false holds_at fails_at met opposite = search arith
+near_is : (d : ℕ) → nat_le d 511 ≡ true → d < 0x400
+near_is d e = grind (arith, nat_tests)
+
+-- over so many words; by whether they are few
+over_are : (near : Bool) (met opposite : Condition) (d : ℕ) → nat_le d 511 ≡ near → Are (if near then Jump met d ∷ [] else (Jump opposite 2 ∷ Skip (2 * d) ∷ []))
+over_are true met opposite d e = (near_is d e, tt)
+over_are false met opposite d e = search arith
+
+decision_are : (sense : Bool) (d : ℕ) (met opposite : Condition) → Are (decision sense d met opposite)
+decision_are true d met opposite = over_are (nat_le d 511) met opposite d refl
+decision_are false d met opposite = over_are (nat_le d 511) opposite met d refl
+
+pass_are : (d : ℕ) → Are (pass_over d)
+pass_are d = either_are (d == 0) [] _ tt (by (nat_le d 511) refl)
+  where
+    by : (near : Bool) → nat_le d 511 ≡ near → Are (if near then Jump condition.Always d ∷ [] else (Skip (2 * d) ∷ []))
+    by true e = (near_is d e, tt)
+    by false e = (tt, tt)
+
+back_are : (near : Bool) (d : ℕ) → nat_le d 511 ≡ near
+    → Are (if near then Jump condition.NotEqual (1023 - d) ∷ [] else (Jump condition.Equal 2 ∷ Skip (0xFFFA - 2 * d) ∷ []))
+back_are true d e = (omega arith, tt)
+back_are false d e = search arith
 
 truth_are : Are truth_code
 truth_are = search arith
 
-loop_head_are : (n from below end : ℕ) → Are (loop_head n from below end)
-loop_head_are n from below end = search arith
+turn_end_are : (n below : ℕ) → Are (turn_end n below)
+turn_end_are n below = either_are (nat_lt n 8) _ _ (tt, (tt, tt)) (tt, (tt, (tt, (tt, tt))))
+
+turns_are : (n below : ℕ) (body : List Form) → Are body → Are (turns_code n below body)
+turns_are n below body h =
+    let turn = body ++ turn_end n below in
+    are-append turn (jump_back condition.NotEqual condition.Equal (size turn)) (are-append body (turn_end n below) h (turn_end_are n below))
+    (back_are (nat_le (size turn) 511) (size turn) refl)
 
 mutual
-  step_are : (at : ℕ) (s : Step) → Are (step_code at s)
-  step_are at (number w) = (tt, tt)
-  step_are at (load a) = (tt, tt)
-  step_are at (keep a) = (tt, tt)
-  step_are at (update o a) = (tt, tt)
-  step_are at (local n) = (tt, tt)
-  step_are at (set_local n) = (tt, tt)
-  step_are at (update_local o n) = (tt, (tt, (tt, (tt, tt))))
-  step_are at (unary o) = (tt, are-append (unary_middle o) (push_from R4 ∷ []) (unary_are o) (tt, tt))
-  step_are at (binary o) = (tt, (tt, are-append (binary_middle o) (push_from (binary_result o) ∷ []) (binary_are o) (tt, tt)))
-  step_are at (shift o k) = (tt, are-append (shift_middle o k) (push_from R4 ∷ []) (shift_are o k) (tt, tt))
-  step_are at (element base size) = element_are base size
-  step_are at (emit_word count buffer) = emit_are count buffer
-  step_are at (list_entry count list home copy words) = entry_are count list home copy words (words == 1)
-  step_are at (versioned_read place list) = read_are place list
-  step_are at (versioned_write place list) = write_are place list
-  step_are at sense = (tt, (tt, tt))
-  step_are at (truth t) =
-      let inside = at + 2 * test_words t in
-      are-append (test_code at false inside (inside + 4) t) truth_code (test_are at false inside (inside + 4) t) truth_are
-  step_are at (choose t taken otherwise) =
-      let inside = at + 2 * test_words t in
-      let other = inside + 2 * words_of taken + 4 in
-      let b = code_of inside taken in
-      let tail = Branch (other + 2 * words_of otherwise) ∷ code_of other otherwise in
-      are-append (test_code at false inside other t) (b ++ tail) (test_are at false inside other t)
-      (are-append b tail (code_are inside taken) (tt, code_are other otherwise))
-  step_are at (repeat n from below body) =
-      let end = at + 34 + 2 * words_of body in
-      let c = code_of (at + 20) body in
-      are-append (loop_head n from below end) (c ++ loop_step n (at + 6)) (loop_head_are n from below end)
-      (are-append c (loop_step n (at + 6)) (code_are (at + 20) body) (tt, (tt, (tt, (tt, tt)))))
-  step_are at (store_number a w) = (tt, tt)
-  step_are at (move_word from to) = (tt, tt)
-  step_are at (jump to) = (tt, tt)
+  step_are : (s : Step) → Are (step_code s)
+  step_are (number w) = (tt, tt)
+  step_are (load a) = (tt, tt)
+  step_are (keep a) = (tt, tt)
+  step_are (update o a) = (tt, tt)
+  step_are (local n) = (tt, tt)
+  step_are (set_local n) = (tt, tt)
+  step_are (update_local o n) = either_are (nat_lt n 8) _ _ (tt, tt) (tt, (tt, (tt, (tt, tt))))
+  step_are (unary o) = (tt, are-append (unary_middle o) (push_from R4 ∷ []) (unary_are o) (tt, tt))
+  step_are (binary o) = (tt, (tt, are-append (binary_middle o) (push_from (binary_result o) ∷ []) (binary_are o) (tt, tt)))
+  step_are (shift o k) = (tt, are-append (shift_middle o k) (push_from R4 ∷ []) (shift_are o k) (tt, tt))
+  step_are (element base size) = element_are base size
+  step_are (emit_word count buffer) = emit_are count buffer
+  step_are (list_entry count list home copy words) = entry_are count list home copy words (words == 1)
+  step_are (versioned_read place list) = read_are place list
+  step_are (versioned_write place list) = write_are place list
+  step_are sense = (tt, (tt, tt))
+  step_are (truth t) = are-append (test_code t false 2) truth_code (test_are t false 2) truth_are
+  step_are (choose t taken otherwise) =
+      let other = code_of otherwise in
+      let first = code_of taken ++ pass_over (size other) in
+      are-append (test_code t false (size first)) (first ++ other) (test_are t false (size first))
+      (are-append first other (are-append (code_of taken) (pass_over (size other)) (code_are taken) (pass_are (size other))) (code_are otherwise))
+  step_are (repeat n from below body) =
+      let turns = turns_code n below (code_of body) in
+      are-append (number_code n from) (if nat_lt from below then turns else []) (tt, tt)
+      (either_are (nat_lt from below) turns [] (turns_are n below (code_of body) (code_are body)) tt)
+  step_are (store_number a w) = (tt, tt)
+  step_are (move_word from to) = (tt, tt)
+  step_are (jump to) = (tt, tt)
 
-  test_are : (at : ℕ) (far : Bool) (holds_at fails_at : ℕ) (t : Test) → Are (test_code at far holds_at fails_at t)
-  test_are at far holds_at fails_at (holds p) =
-      are-append (code_of at p) (holds_code far holds_at fails_at) (code_are at p)
-      (tt, (tt, decision_are far holds_at fails_at condition.NotEqual condition.Equal))
-  test_are at far holds_at fails_at (compares c p) =
-      are-append (code_of at p) (compares_code c far holds_at fails_at) (code_are at p) (
-        tt,
-        (tt, (compare_is c, decision_are far holds_at fails_at (holding c) (failing c))),
-      )
-  test_are at far holds_at fails_at (both t u) =
-      let second = at + 2 * test_words t in
-      are-append (test_code at false second fails_at t) (test_code second far holds_at fails_at u) (test_are at false second fails_at t)
-      (test_are second far holds_at fails_at u)
-  test_are at far holds_at fails_at (either t u) =
-      let second = at + 2 * test_words t in
-      are-append (test_code at true holds_at second t) (test_code second far holds_at fails_at u) (test_are at true holds_at second t)
-      (test_are second far holds_at fails_at u)
-  test_are at far holds_at fails_at (fails t) = test_are at (not far) fails_at holds_at t
+  test_are : (t : Test) (sense : Bool) (d : ℕ) → Are (test_code t sense d)
+  test_are (holds p) sense d =
+      are-append (code_of p) (holds_code sense d) (code_are p) (tt, (tt, decision_are sense d condition.NotEqual condition.Equal))
+  test_are (compares c p) sense d =
+      are-append (code_of p) (compares_code c sense d) (code_are p) (tt, (tt, (compare_is c, decision_are sense d (holding c) (failing c))))
+  test_are (both t u) sense d =
+      let second = test_code u sense d in
+      let more = size second + (if sense then 0 else d) in
+      are-append (test_code t false more) second (test_are t false more) (test_are u sense d)
+  test_are (either t u) sense d =
+      let second = test_code u sense d in
+      let more = size second + (if sense then d else 0) in
+      are-append (test_code t true more) second (test_are t true more) (test_are u sense d)
+  test_are (fails t) sense d = test_are t (not sense) d
 
   -- the code's forms are instructions
-  pub code_are : (at : ℕ) (p : Program) → Are (code_of at p)
-  code_are at nothing = tt
-  code_are at (step first more) =
-      are-append (step_code at first) (code_of (at + 2 * step_words first) more) (step_are at first) (code_are (at + 2 * step_words first) more)
+  pub code_are : (p : Program) → Are (code_of p)
+  code_are nothing = tt
+  code_are (step first more) = are-append (step_code first) (code_of more) (step_are first) (code_are more)
 
 pub code_is_instructions : CodeIsInstructions
-code_is_instructions at p = code_are at p
+code_is_instructions p = code_are p

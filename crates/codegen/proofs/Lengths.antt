@@ -1,5 +1,5 @@
--- The code of a program is as long as its words say, wherever it stands.
-use Rattle.std.proofs.Common.{◌≡◌, ℕ, zero, suc, ◌+◌, ◌-◌, ◌*◌, ◌==◌, List, [], ◌∷◌, ◌++◌, length, refl, arith, length-append, Bool, true, false}
+-- The code of a program is no longer than its words say.
+use Rattle.std.proofs.Common.{◌≡◌, ℕ, zero, suc, ◌+◌, ◌-◌, ◌*◌, ◌≤◌, ◌==◌, List, [], ◌∷◌, ◌++◌, length, refl, arith, length-append, Bool, true, false}
 use Rattle.std.proofs.Common.{not, nat_le, nat_lt}
 use Rattle.std.proofs.Common.{if◌then◌else◌}
 use Rattle.msp_isa.specs.alp_words.Words.{word_sum}
@@ -8,7 +8,8 @@ use Rattle.msp_isa.specs.declared.instructions.Condition.{Condition}
 use Rattle.msp_isa.specs.declared.instructions.Condition.TheVariants as condition
 use Rattle.msp_isa.specs.declared.operands.Konst.TheVariants as konst
 use Rattle.msp_isa.specs.Encoding.{encoding}
-use Rattle.code_forms.specs.Forms.{R4, Constant, Number, ToIndexed, Form, Move, Update, Branch, instruction_of, form_bytes}
+use Rattle.code_forms.specs.Forms.{R4, Register, Constant, Number, Ram, ToRegister, ToRam, ToIndexed, target_bytes, Form, Move, Update, Push, Jump, Skip}
+use Rattle.code_forms.specs.Forms.{instruction_of, form_bytes}
 use Rattle.code_forms.specs.Code.{forms_bytes}
 use Rattle.code_forms.specs.Placed.{words_of as instruction_words, instructions}
 use Rattle.code_forms.proofs.Interface.{bytes_are, forms_bytes-append}
@@ -27,20 +28,20 @@ use Rattle.array_versions.specs.Program.{versioned_read, versioned_write, sense,
 use Rattle.array_versions.specs.Program.{compares}
 use Rattle.array_versions.specs.Program.{both, either, fails, nothing, step}
 use Rattle.array_versions.specs.Cost.{unary_words, binary_words, right_words, shift_words, step_words, test_words, words_of}
-use Rattle.codegen.specs.Code.{compare_form, holding, failing, decision, holds_code, compares_code, truth_code, test_code}
+use Rattle.codegen.specs.Code.{local_register, local_address, compare_form, holding, failing, size, pass_over, jump_back, decision, holds_code}
+use Rattle.codegen.specs.Code.{compares_code, truth_code, number_code, turn_end, turns_code, step_code, test_code, code_of}
 use Rattle.codegen.specs.Code.{push_from, unary_middle, binary_middle, binary_result, repeated, double, halve, right_code, shift_by, shift_middle}
 use Rattle.codegen.specs.Code.{pair_code}
-use Rattle.codegen.specs.Code.{loop_test, loop_step, step_code, code_of}
 use Rattle.codegen.specs.Laws.{CodeHasItsBytes, CodeHasItsWords}
 
-pub unary_length : (o : UnaryOperation) → 2 + forms_bytes (unary_middle o) + 2 ≡ 2 * unary_words o
-unary_length Negate = refl
-unary_length Complement = refl
+unary_length : (o : UnaryOperation) → forms_bytes (unary_middle o) ≤ 4
+unary_length Negate = omega arith
+unary_length Complement = omega arith
 
 -- of each operation alike: the first clause makes it a proof by cases
-pub binary_length : (o : BinaryOperation) → 4 + forms_bytes (binary_middle o) + 2 ≡ 2 * binary_words o
-binary_length Multiply = refl
-binary_length _ = refl
+binary_length : (o : BinaryOperation) → 4 + forms_bytes (binary_middle o) + 2 ≤ 2 * binary_words o
+binary_length Multiply = omega arith
+binary_length _ = omega arith
 
 doubles_length : (k : ℕ) → forms_bytes (repeated k double) ≡ 2 * k
 doubles_length zero = refl
@@ -64,7 +65,7 @@ shift_by_length Left k = either_length (nat_lt k 8) _ _ k (3 + (k - 8)) (doubles
 shift_by_length Right k = either_length (nat_lt k 8) _ _ (right_words k) (3 + (k - 8)) (right_length k) (omega (arith, halves_length (k - 8)))
 shift_by_length SignedRight k = either_length (nat_lt k 8) _ _ k (2 + (k - 8)) (halves_length k) (omega (arith, halves_length (k - 8)))
 
-pub shift_length : (o : ShiftOperation) (k : ℕ) → forms_bytes (shift_middle o k) ≡ 2 * (if nat_le k 15 then shift_words o k else 1)
+shift_length : (o : ShiftOperation) (k : ℕ) → forms_bytes (shift_middle o k) ≡ 2 * (if nat_le k 15 then shift_words o k else 1)
 shift_length o k = either_length (nat_le k 15) (shift_by o k) _ (shift_words o k) 1 (shift_by_length o k) refl
 
 -- by whether the entry has one word
@@ -82,102 +83,122 @@ compare_length SignedBelow = refl
 compare_length SignedAbove = refl
 compare_length CommonBit = refl
 
-decision_length : (far : Bool) (holds_at fails_at : ℕ) (met opposite : Condition) → forms_bytes (decision far holds_at fails_at met opposite) ≡ 6
-decision_length true holds_at fails_at met opposite = refl
-decision_length false holds_at fails_at met opposite = refl
+either_short : (b : Bool) (x y : List Form) (most : ℕ) → forms_bytes x ≤ most → forms_bytes y ≤ most → forms_bytes (if b then x else y) ≤ most
+either_short true x y most h k = h
+either_short false x y most h k = k
+
+decision_short : (sense : Bool) (d : ℕ) (met opposite : Condition) → forms_bytes (decision sense d met opposite) ≤ 6
+decision_short true d met opposite = either_short (nat_le d 511) _ _ 6 (omega arith) (omega arith)
+decision_short false d met opposite = either_short (nat_le d 511) _ _ 6 (omega arith) (omega arith)
+
+pass_short : (d : ℕ) → forms_bytes (pass_over d) ≤ 4
+pass_short d =
+    either_short (d == 0) [] _ 4 (omega arith)
+    (either_short (nat_le d 511) (Jump condition.Always d ∷ []) (Skip (2 * d) ∷ []) 4 (omega arith) (omega arith))
+
+local_short : (n : ℕ) (b : Bool) → form_bytes (Push (if b then Register (local_register n) else Ram (local_address n))) ≤ 4
+local_short n true = omega arith
+local_short n false = omega arith
+
+target_short : (n : ℕ) (b : Bool) → target_bytes (if b then ToRegister (local_register n) else ToRam (local_address n)) ≤ 2
+target_short n true = omega arith
+target_short n false = omega arith
+
+turn_end_short : (n below : ℕ) → forms_bytes (turn_end n below) ≤ 14
+turn_end_short n below = either_short (nat_lt n 8) _ _ 14 (omega arith) (omega arith)
+
+-- turns have ten words more than their body
+turns_short : (n below : ℕ) (body : List Form) → forms_bytes (turns_code n below body) ≤ forms_bytes body + 20
+turns_short n below body =
+    let turn = body ++ turn_end n below in
+    omega (
+      arith,
+      forms_bytes-append turn (jump_back condition.NotEqual condition.Equal (size turn)),
+      forms_bytes-append body (turn_end n below),
+      turn_end_short n below,
+      either_short (nat_le (size turn) 511) (Jump condition.NotEqual (1023 - size turn) ∷ [])
+          (Jump condition.Equal 2 ∷ Skip (0xFFFA - 2 * size turn) ∷ []) 6 (omega arith) (omega arith),
+    )
 
 mutual
-  pub step_length : (at : ℕ) (s : Step) → forms_bytes (step_code at s) ≡ 2 * step_words s
-  step_length at (number w) = refl
-  step_length at (load a) = refl
-  step_length at (keep a) = refl
-  step_length at (update o a) = refl
-  step_length at (local n) = refl
-  step_length at (set_local n) = refl
-  step_length at (update_local o n) = refl
-  step_length at (unary o) = omega (arith, forms_bytes-append (unary_middle o) (push_from R4 ∷ []), unary_length o)
-  step_length at (binary o) = omega (arith, forms_bytes-append (binary_middle o) (push_from (binary_result o) ∷ []), binary_length o)
-  step_length at (shift o k) = omega (arith, forms_bytes-append (shift_middle o k) (push_from R4 ∷ []), shift_length o k)
-  step_length at (element base size) = refl
-  step_length at (emit_word count buffer) = refl
-  step_length at (list_entry count list home copy words) = entry_length count list home copy words (words == 1)
-  step_length at (versioned_read place list) = refl
-  step_length at (versioned_write place list) = refl
-  step_length at sense = refl
-  step_length at (truth t) =
-      let inside = at + 2 * test_words t in
-      omega (arith, forms_bytes-append (test_code at false inside (inside + 4) t) truth_code, test_length at false inside (inside + 4) t)
-  step_length at (choose t taken otherwise) =
-      let inside = at + 2 * test_words t in
-      let other = inside + 2 * words_of taken + 4 in
-      let a = test_code at false inside other t in
-      let b = code_of inside taken in
-      let tail = Branch (other + 2 * words_of otherwise) ∷ code_of other otherwise in
+  pub step_short : (s : Step) → forms_bytes (step_code s) ≤ 2 * step_words s
+  step_short (number w) = omega arith
+  step_short (load a) = omega arith
+  step_short (keep a) = omega arith
+  step_short (update o a) = omega arith
+  step_short (local n) = omega (arith, local_short n (nat_lt n 8))
+  step_short (set_local n) = omega (arith, target_short n (nat_lt n 8))
+  step_short (update_local o n) = either_short (nat_lt n 8) _ _ 12 (omega arith) (omega arith)
+  step_short (unary o) = omega (arith, forms_bytes-append (unary_middle o) (push_from R4 ∷ []), unary_length o)
+  step_short (binary o) = omega (arith, forms_bytes-append (binary_middle o) (push_from (binary_result o) ∷ []), binary_length o)
+  step_short (shift o k) = omega (arith, forms_bytes-append (shift_middle o k) (push_from R4 ∷ []), shift_length o k)
+  step_short (element base size) = omega arith
+  step_short (emit_word count buffer) = omega arith
+  step_short (list_entry count list home copy words) = let e = entry_length count list home copy words (words == 1) in omega (arith, e)
+  step_short (versioned_read place list) = omega arith
+  step_short (versioned_write place list) = omega arith
+  step_short sense = omega arith
+  step_short (truth t) = omega (arith, forms_bytes-append (test_code t false 2) truth_code, test_short t false 2)
+  step_short (choose t taken otherwise) =
+      let other = code_of otherwise in
+      let first = code_of taken ++ pass_over (size other) in
       omega (
         arith,
-        forms_bytes-append a (b ++ tail),
-        forms_bytes-append b tail,
-        test_length at false inside other t,
-        code_length inside taken,
-        code_length other otherwise,
+        forms_bytes-append (test_code t false (size first)) (first ++ other),
+        forms_bytes-append first other,
+        forms_bytes-append (code_of taken) (pass_over (size other)),
+        test_short t false (size first),
+        code_short taken,
+        pass_short (size other),
+        code_short otherwise,
       )
-  step_length at (repeat n from below body) =
-      let c = code_of (at + 20) body in
+  step_short (repeat n from below body) =
+      let turns = if nat_lt from below then turns_code n below (code_of body) else [] in
       omega (
         arith,
-        forms_bytes-append (loop_test n below (at + 34 + 2 * words_of body)) (c ++ loop_step n (at + 6)),
-        forms_bytes-append c (loop_step n (at + 6)),
-        code_length (at + 20) body,
+        forms_bytes-append (number_code n from) turns,
+        target_short n (nat_lt n 8),
+        either_short (nat_lt from below) (turns_code n below (code_of body)) [] (forms_bytes (code_of body) + 20) (turns_short n below (code_of body))
+            (omega arith),
+        code_short body,
       )
-  step_length at (store_number a w) = refl
-  step_length at (move_word from to) = refl
-  step_length at (jump to) = refl
+  step_short (store_number a w) = omega arith
+  step_short (move_word from to) = omega arith
+  step_short (jump to) = omega arith
 
-  pub test_length : (at : ℕ) (far : Bool) (holds_at fails_at : ℕ) (t : Test) → forms_bytes (test_code at far holds_at fails_at t) ≡ 2 * test_words t
-  test_length at far holds_at fails_at (holds p) =
-      let e = decision_length far holds_at fails_at condition.NotEqual condition.Equal in
-      omega (arith, forms_bytes-append (code_of at p) (holds_code far holds_at fails_at), e, code_length at p)
-  test_length at far holds_at fails_at (compares c p) =
-      let e = decision_length far holds_at fails_at (holding c) (failing c) in
-      omega (arith, forms_bytes-append (code_of at p) (compares_code c far holds_at fails_at), e, compare_length c, code_length at p)
-  test_length at far holds_at fails_at (both t u) =
-      let second = at + 2 * test_words t in
-      let a = test_code at false second fails_at t in
-      omega (
-        arith,
-        forms_bytes-append a (test_code second far holds_at fails_at u),
-        test_length at false second fails_at t,
-        test_length second far holds_at fails_at u,
-      )
-  test_length at far holds_at fails_at (either t u) =
-      let second = at + 2 * test_words t in
-      let a = test_code at true holds_at second t in
-      omega (
-        arith,
-        forms_bytes-append a (test_code second far holds_at fails_at u),
-        test_length at true holds_at second t,
-        test_length second far holds_at fails_at u,
-      )
-  test_length at far holds_at fails_at (fails t) = test_length at (not far) fails_at holds_at t
+  pub test_short : (t : Test) (sense : Bool) (d : ℕ) → forms_bytes (test_code t sense d) ≤ 2 * test_words t
+  test_short (holds p) sense d =
+      let e = decision_short sense d condition.NotEqual condition.Equal in
+      omega (arith, forms_bytes-append (code_of p) (holds_code sense d), e, code_short p)
+  test_short (compares c p) sense d =
+      let e = decision_short sense d (holding c) (failing c) in
+      omega (arith, forms_bytes-append (code_of p) (compares_code c sense d), e, compare_length c, code_short p)
+  test_short (both t u) sense d =
+      let second = test_code u sense d in
+      let more = size second + (if sense then 0 else d) in
+      omega (arith, forms_bytes-append (test_code t false more) second, test_short t false more, test_short u sense d)
+  test_short (either t u) sense d =
+      let second = test_code u sense d in
+      let more = size second + (if sense then d else 0) in
+      omega (arith, forms_bytes-append (test_code t true more) second, test_short t true more, test_short u sense d)
+  test_short (fails t) sense d = test_short t (not sense) d
 
-  -- the code is as long as its words are counted
-  pub code_length : (at : ℕ) (p : Program) → forms_bytes (code_of at p) ≡ 2 * words_of p
-  code_length at nothing = refl
-  code_length at (step first more) =
-      omega (
-        arith,
-        forms_bytes-append (step_code at first) (code_of (at + 2 * step_words first) more),
-        step_length at first,
-        code_length (at + 2 * step_words first) more,
-      )
+  -- the code is no longer than its words are counted
+  pub code_short : (p : Program) → forms_bytes (code_of p) ≤ 2 * words_of p
+  code_short nothing = omega arith
+  code_short (step first more) = omega (arith, forms_bytes-append (step_code first) (code_of more), step_short first, code_short more)
 
-instructions_length : (ms : List Form) → 2 * length (instruction_words (instructions ms)) ≡ forms_bytes ms
+pub instructions_length : (ms : List Form) → 2 * length (instruction_words (instructions ms)) ≡ forms_bytes ms
 instructions_length [] = refl
 instructions_length (m ∷ ms) =
     omega (arith, bytes_are m, instructions_length ms, length-append (encoding (instruction_of m)) (instruction_words (instructions ms)))
 
+-- its words are as many as its instructions have
+pub size_words : (ms : List Form) → size ms ≡ length (instruction_words (instructions ms))
+size_words ms = let e = instructions_length ms in omega arith
+
 pub code_has_its_bytes : CodeHasItsBytes
-code_has_its_bytes at p = code_length at p
+code_has_its_bytes p = code_short p
 
 pub code_has_its_words : CodeHasItsWords
-code_has_its_words at p = omega (arith, code_length at p, instructions_length (code_of at p))
+code_has_its_words p = omega (arith, code_short p, instructions_length (code_of p))

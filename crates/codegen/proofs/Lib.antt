@@ -3,6 +3,7 @@ mod Memory
 mod Follows
 mod Parts
 mod Registers
+mod Jumps
 mod Choices
 mod Loops
 mod Values

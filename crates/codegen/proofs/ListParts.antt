@@ -25,15 +25,8 @@ use Rattle.codegen.specs.Code.{mark_code, next_code, word_code, first_code}
 use Rattle.codegen.proofs.Stretches.{Setting, straight, runs_on, dearer}
 use Rattle.codegen.proofs.Memory.{place_is}
 use Rattle.codegen.proofs.Follows.{StandsFor, Follows, then_end, ends_at, guarded, more_cycles, stands_elsewhere}
-use Rattle.codegen.proofs.Registers.{jump_to}
+use Rattle.codegen.proofs.Registers.{zero_flag, equal_flag, jump_to}
 use Rattle.codegen.proofs.Products.{jump_exact}
-
--- Z behind a comparison
-pub equal_flag : (x y : ℕ) → x < 0x10000 → y < 0x10000 → ((x + (0xFFFF - y) + 1) % 0x10000 == 0) ≡ (x == y)
-equal_flag x y h k = grind (arith, nat_tests)
-
-zero_flag : (x : ℕ) → x < 0x10000 → ((x + 65535 + 1) % 0x10000 == 0) ≡ (x == 0)
-zero_flag x h = grind (arith, nat_tests)
 
 pub plus_small : (n base : ℕ) → 2 * n + base < 0x10000 → (2 * n + base + 0) % 0x10000 ≡ 2 * n + base
 plus_small n base h = omega arith
@@ -81,7 +74,7 @@ module _ (z : Setting) where
       → Runs z.code [] 2 t (Holds pc' w q home copy)
   jump_holds k o pc pc' b w q home copy t h m to j =
       jump_exact z k o pc' b t _ (ap z.code j.is.at ∙ h) m (ap (λ x. if b then sum16 (x + 2) (distance o) else x + 2) j.is.at ∙ to)
-      (record { is = stands_elsewhere z pc pc' w t _ j.is refl refl refl refl refl; four = j.four; five = j.five; seven = j.seven })
+      (record { is = stands_elsewhere z pc pc' w t _ j.is refl refl refl refl refl refl; four = j.four; five = j.five; seven = j.seven })
 
   -- the version word is stored; the home, the copy and the count are in their registers
   mark_part : (place : ArrayPlace) (list : ListPlace) (pc i : ℕ) (w : WordState) (t : Core) → ((a : ℕ) → w.fram a < 0x10000)
@@ -178,7 +171,7 @@ module _ (z : Setting) where
       straight z lasting 5 t (end_of t (forms_run lasting t).status) [] 5 _ (tt, (tt, (tt, (tt, (tt, tt))))) (stands_at z.code pc lasting t h j.is.at)
       ((tt, tt), ((tt, tt), ((tt, tt), ((tt, tt), ((tt, tt), tt))))) refl (omega arith)
       (record {
-        is = stands_elsewhere z pc (pc + 10) w t _ j.is (omega (arith, j.is.at)) refl refl refl refl;
+        is = stands_elsewhere z pc (pc + 10) w t _ j.is (omega (arith, j.is.at)) refl refl refl refl refl;
         four = j.four;
         five = ap sixfold less ∙ six_times n small;
         seven = j.seven;
@@ -213,7 +206,7 @@ module _ (z : Setting) where
       ((subst IsFram (sym pc') fc, tt), ((tt, tt), ((tt, subst IsFram (sym pd) fd), ((tt, tt), tt)))) refl (omega arith)
       (record {
         holds = record {
-          is = stands_elsewhere z pc (pc + 12) w t _ j.is (omega (arith, j.is.at)) refl refl refl refl;
+          is = stands_elsewhere z pc (pc + 12) w t _ j.is (omega (arith, j.is.at)) refl refl refl refl refl;
           four = j.four;
           five = j.five;
           seven = j.seven;
@@ -248,7 +241,7 @@ module _ (z : Setting) where
       straight z next_code 2 t (end_of t (forms_run next_code t).status) [] 2 _ (tt, tt) (stands_at z.code pc next_code t h j.is.at) ((tt, tt), tt) refl
       (omega arith)
       (record {
-        is = stands_elsewhere z pc (pc + 4) w t _ j.is (omega (arith, j.is.at)) refl refl refl refl;
+        is = stands_elsewhere z pc (pc + 4) w t _ j.is (omega (arith, j.is.at)) refl refl refl refl refl;
         four = j.four;
         five = omega (arith, five, small);
         seven = j.seven;

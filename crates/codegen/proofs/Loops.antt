@@ -1,31 +1,28 @@
--- Loops.
-use Rattle.std.proofs.Common.{◌≡◌, ℕ, zero, suc, ◌+◌, ◌-◌, ◌%◌, ◌<◌, ◌≤◌, not, List, [], ◌∷◌, ◌++◌, Some, refl, sym, ap, ◌∙◌, subst, arith, Bool, true}
-use Rattle.std.proofs.Common.{false, nat_le}
+-- Loops: a turn, and behind it the local decides whether there is another.
+use Rattle.std.proofs.Common.{◌≡◌, ℕ, zero, suc, ◌+◌, ◌-◌, ◌*◌, ◌%◌, ◌<◌, ◌≤◌, ◌==◌, not, Bool, true, false, nat_lt, if◌then◌else◌, List, [], ◌∷◌, ◌++◌}
+use Rattle.std.proofs.Common.{refl, sym, ap, ◌∙◌, subst, arith, eq-eqb, ne_eqb}
 use Rattle.std.proofs.lemmas.Bool.Decides.{nat_tests}
+use Rattle.std.proofs.Math.Bool.{not-not}
 use Rattle.msp_isa.specs.declared.instructions.Condition.TheVariants as condition
 use Rattle.msp_isa.specs.declared.instructions.TwoOp.TheVariants as op
 use Rattle.msp_isa.specs.declared.operands.Konst.TheVariants as konst
 use Rattle.array_versions.specs.machine_effects.World.{put}
-use Rattle.code_forms.specs.Forms.{R4, Core, Register, Number, Constant, Ram, ToRegister, ToRam, Form, Move, Calculate, Jump, Branch, instruction_of}
+use Rattle.array_versions.proofs.machine_effects.Interface.{put_same}
+use Rattle.code_forms.specs.Forms.{R4, work_number, Core, Register, Number, Constant, Ram, ToRegister, ToRam, Form, Move, Calculate}
 use Rattle.code_forms.specs.Code.{Stands, forms_bytes, forms_run, Runs}
-use Rattle.code_forms.proofs.Interface.{stands_front, stands_back, form_at, first_forms, end_of, stands_at}
+use Rattle.code_forms.proofs.Interface.{stands_front, stands_back, end_of, stands_at, forms_bytes-append}
 use Rattle.array_versions.specs.Behaviour.{WordState, End, GoesOn, Jumps, Short, Strays, Broken, Behaviour, with_local, assigned, turns}
 use Rattle.array_versions.specs.Cost.{spent_on, turns_spent}
-use Rattle.codegen.specs.Code.{local_address, loop_test, loop_step, loop_code}
-use Rattle.codegen.proofs.Stretches.{Setting, straight, runs_on, dearer}
-use Rattle.codegen.proofs.Memory.{Memory, local_needs, set_memory, assigned_same}
-use Rattle.codegen.proofs.Follows.{StandsFor, Follows, OnGoesOn, more_cycles, then_end, then_way, ends_at, stands_elsewhere}
-use Rattle.codegen.proofs.Registers.{bytes_even, no_borrow, branch_to, jump_to}
-use Rattle.codegen.proofs.Choices.{Tested}
+use Rattle.codegen.specs.Code.{local_register, local_address, number_code, size, turn_end, jump_back, turns_code}
+use Rattle.codegen.proofs.Stretches.{Setting, straight, runs_on}
+use Rattle.codegen.proofs.Memory.{local_words, in_register, in_ram, Memory, local_needs, set_register, set_ram}
+use Rattle.codegen.proofs.Follows.{StandsFor, Follows, OnGoesOn, more_cycles, then_end, then_way, ends_at}
+use Rattle.codegen.proofs.Parts.{local_number}
+use Rattle.codegen.proofs.Registers.{equal_flag}
+use Rattle.codegen.proofs.Jumps.{whole_size, Decided, back_part}
 
-le_false : (x y : ℕ) → x < y → nat_le y x ≡ false
-le_false x y h = grind (arith, nat_tests)
-
-le_true : (x y : ℕ) → y ≤ x → nat_le y x ≡ true
-le_true x y h = grind (arith, nat_tests)
-
--- the end of a turn and the test behind it
-turn_and_rest : (e : End) (f : WordState → ℕ) → spent_on e (λ v. 11 + (10 + f v)) ≤ 21 + spent_on e f
+-- what is spent behind a turn, with the turn's own part in front
+turn_and_rest : (e : End) (f : WordState → ℕ) → spent_on e (λ v. 15 + f v) ≤ 15 + spent_on e f
 turn_and_rest (GoesOn v) f = omega arith
 turn_and_rest (Jumps to v) f = omega arith
 turn_and_rest Short f = omega arith
@@ -33,127 +30,171 @@ turn_and_rest Strays f = omega arith
 turn_and_rest Broken f = omega arith
 
 module _ (z : Setting) where
-  -- the local against the number that it stays below
-  test_local : (pc n below k : ℕ) (b : Bool) (w : WordState) (u : Core) → n < z.locals → below < 0x10000 → k < 0x10000 → w.locals n ≡ Some k
-      → nat_le below k ≡ b
-      → Stands z.code pc (Move (Ram (local_address n)) (ToRegister R4) ∷ Calculate op.Cmp (Number below) R4 ∷ []) → StandsFor z pc w u
-      → Runs z.code [] 5 u (Tested z (pc + 8) w condition.NoCarry (not b))
-  test_local pc n below k b w u lt l s q e h i =
-      let ms = Move (Ram (local_address n)) (ToRegister R4) ∷ Calculate op.Cmp (Number below) R4 ∷ [] in
-      straight z ms 5 u (end_of u (forms_run ms u).status) [] 5 _ (tt, (tt, tt)) (stands_at z.code pc ms u h i.at)
-      ((local_needs z.locals z.room z.roomy n lt, tt), ((tt, tt), tt)) refl (omega arith)
+  -- the local is one more, and the flags tell whether it has come to the number
+  abbrev pub Raised : ℕ → ℕ → ℕ → ℕ → WordState → Core → Type 0
+  Raised pc n k below w t = Decided z pc (with_local n k w) (not (k == below)) condition.NotEqual condition.Equal t
+
+  raise_by : (b : Bool) (pc n k below : ℕ) (w : WordState) (u : Core) → nat_lt n 8 ≡ b → n < z.locals → w.locals n ≡ Some k → k + 1 < 0x10000
+      → below < 0x10000
+      → (let ms = if b then Calculate op.Add (Constant konst.One) (local_register n) ∷ Calculate op.Cmp (Number below) (local_register n) ∷ []
+      else (Move (Ram (local_address n)) (ToRegister R4) ∷ Calculate op.Add (Constant konst.One) R4 ∷ Move (Register R4) (ToRam (local_address n))
+      ∷ Calculate op.Cmp (Number below) R4 ∷ []) in
+      Stands z.code pc ms → StandsFor z pc w u → Runs z.code [] 10 u (Raised (pc + forms_bytes ms) n (k + 1) below w))
+  raise_by true pc n k below w u b lt q l lb h i =
+      let r = work_number (local_register n) in
+      let ms = Calculate op.Add (Constant konst.One) (local_register n) ∷ Calculate op.Cmp (Number below) (local_register n) ∷ [] in
+      let word = in_register u.work u.ram n b ∙ i.memory.vars n k lt q in
+      let next : (u.work r + 1 + 0) % 0x10000 ≡ k + 1 = omega (arith, word) in
+      let made = put u.work r ((u.work r + 1 + 0) % 0x10000) in
+      let there : made r ≡ k + 1 = put_same u.work r ((u.work r + 1 + 0) % 0x10000) ∙ next in
+      let flag = ap (λ x. (x + (0xFFFF - below) + 1) % 0x10000 == 0) there ∙ equal_flag (k + 1) below l lb in
+      straight z ms 10 u (end_of u (forms_run ms u).status) [] 3 _ (tt, (tt, tt)) (stands_at z.code pc ms u h i.at) ((tt, tt), ((tt, tt), tt)) refl
+      (omega arith)
       (record {
-        is = stands_elsewhere z pc (pc + 8) w u _ i (omega (arith, i.at)) refl refl refl refl;
-        flag = ap not (ap (λ v. nat_le 0x10000 (v + (0xFFFF - below) + 1)) (i.memory.vars n k lt q) ∙ no_borrow k below s l ∙ e);
+        is =
+            record {
+              at = omega (arith, i.at);
+              memory =
+                  subst (λ y. Memory z u.sp u.ram (local_words (put u.work r y)) w.stack (assigned w.locals n (k + 1))) (sym next)
+                  (set_register z u.sp n (k + 1) u.ram u.work w.stack w.locals b i.memory);
+              fram = i.fram;
+              readings = i.readings;
+            };
+        holds = ap not flag;
+        fails = flag ∙ sym (not-not ((k + 1) == below));
+      })
+  raise_by false pc n k below w u b lt q l lb h i =
+      let a = local_address n in
+      let ms =
+      Move (Ram a) (ToRegister R4) ∷ Calculate op.Add (Constant konst.One) R4 ∷ Move (Register R4) (ToRam a) ∷ Calculate op.Cmp (Number below) R4 ∷ [] in
+      let word = in_ram (local_words u.work) u.ram n b ∙ i.memory.vars n k lt q in
+      let next : (u.ram a + 1 + 0) % 0x10000 ≡ k + 1 = omega (arith, word) in
+      let flag = ap (λ x. (x + (0xFFFF - below) + 1) % 0x10000 == 0) next ∙ equal_flag (k + 1) below l lb in
+      let needs = local_needs z n lt in
+      straight z ms 10 u (end_of u (forms_run ms u).status) [] 10 _ (tt, (tt, (tt, (tt, tt)))) (stands_at z.code pc ms u h i.at)
+      ((needs, tt), ((tt, tt), ((tt, needs), ((tt, tt), tt)))) refl (omega arith)
+      (record {
+        is =
+            record {
+              at = omega (arith, i.at);
+              memory =
+                  subst (λ y. Memory z u.sp (put u.ram a y) (local_words u.work) w.stack (assigned w.locals n (k + 1))) (sym next)
+                  (set_ram z u.sp n (k + 1) u.ram (local_words u.work) w.stack w.locals b lt i.memory);
+              fram = i.fram;
+              readings = i.readings;
+            };
+        holds = ap not flag;
+        fails = flag ∙ sym (not-not ((k + 1) == below));
       })
 
-  -- the end of a turn: the local goes up
-  step_part : (pc top n k : ℕ) (w : WordState) (u : Core) → n < z.locals → w.locals n ≡ Some k → k + 1 < 0x10000 → top % 2 ≡ 0
-      → Stands z.code pc (loop_step n top) → StandsFor z pc w u → Runs z.code [] 11 u (StandsFor z top (with_local n (k + 1) w))
-  step_part pc top n k w u lt e l ev h i =
-      let ms = Move (Ram (local_address n)) (ToRegister R4) ∷ Calculate op.Add (Constant konst.One) R4 ∷ Move (Register R4) (ToRam (local_address n)) ∷ [] in
-      let r = local_needs z.locals z.room z.roomy n lt in
-      let next : (u.ram (local_address n) + 1 + 0) % 0x10000 ≡ k + 1 = omega (arith, i.memory.vars n k lt e) in
-      runs_on z 8 3 u (StandsFor z (pc + 10) (with_local n (k + 1) w)) _ [] []
-      (straight z ms 8 u (end_of u (forms_run ms u).status) [] 8 _ (tt, (tt, (tt, tt)))
-      (stands_at z.code pc ms u (first_forms z.code pc 3 (loop_step n top) h) i.at) ((r, tt), ((tt, tt), ((tt, r), tt))) refl (omega arith)
-      (record {
-        at = omega (arith, i.at);
-        memory =
-            subst (λ y. Memory z.locals z.room u.sp (put u.ram (local_address n) y) w.stack (assigned w.locals n (k + 1))) (sym next)
-            (set_memory z.locals z.room z.roomy u.sp u.ram n (k + 1) w.stack w.locals i.memory lt);
-        fram = i.fram;
-        readings = i.readings;
-      }))
-      (λ t j. branch_to z top (pc + 10) _ t (form_at z.code pc 3 (loop_step n top) (Branch top) h refl) ev j)
+  raise_part : (pc n k below : ℕ) (w : WordState) (u : Core) → n < z.locals → w.locals n ≡ Some k → k + 1 < 0x10000 → below < 0x10000
+      → Stands z.code pc (turn_end n below) → StandsFor z pc w u → Runs z.code [] 10 u (Raised (pc + forms_bytes (turn_end n below)) n (k + 1) below w)
+  raise_part pc n k below w u lt q l lb h i = raise_by (nat_lt n 8) pc n k below w u refl lt q l lb h i
 
-  -- the local's first number
-  start_part : (pc n k : ℕ) (w : WordState) (u : Core) → n < z.locals → z.code pc ≡ Some (instruction_of (Move (Number k) (ToRam (local_address n))))
-      → StandsFor z pc w u → Runs z.code [] 5 u (StandsFor z (pc + 6) (with_local n k w))
-  start_part pc n k w u lt h i =
-      let ms = Move (Number k) (ToRam (local_address n)) ∷ [] in
-      straight z ms 5 u (end_of u (forms_run ms u).status) [] 5 _ (tt, tt) (stands_at z.code pc ms u (h, tt) i.at)
-      ((tt, local_needs z.locals z.room z.roomy n lt), tt) refl (omega arith)
-      (record {
-        at = omega (arith, i.at);
-        memory = set_memory z.locals z.room z.roomy u.sp u.ram n k w.stack w.locals i.memory lt;
-        fram = i.fram;
-        readings = i.readings;
-      })
-
-  -- from the test on, with so many turns left, where `fit` says of a state that the turns left can be made from it
+  -- turns of a body, where they stand; `fit` says of a state that so many turns can be made from it
   module _ (body : List Form) (pc n below : ℕ) (cost : WordState → ℕ) (run : WordState → Behaviour) (fit : ℕ → WordState → Type 0) (lt : n < z.locals)
-      (small : below < 0x10000)
-      (test : Stands z.code pc (loop_test n below (pc + 28 + forms_bytes body))) (tail : Stands z.code (pc + 14 + forms_bytes body) (loop_step n pc))
-      (doing : (m k : ℕ) (s : WordState) (t : Core) → fit (suc m) s → k < below → StandsFor z (pc + 14) (with_local n k s) t
-      → Follows z (pc + 14 + forms_bytes body) (cost (with_local n k s)) t (run (with_local n k s)))
+      (small : below < 0x10000) (h : Stands z.code pc (turns_code n below body))
+      (doing : (m k : ℕ) (s : WordState) (t : Core) → fit (suc m) s → k < below → StandsFor z pc (with_local n k s) t
+      → Follows z (pc + forms_bytes body) (cost (with_local n k s)) t (run (with_local n k s)))
       (keeps : (m k : ℕ) (s : WordState) → fit (suc m) s → k < below → OnGoesOn (λ v. fit m v × (v.locals n ≡ Some k)) (run (with_local n k s)).end) where
-    at8 : z.code (pc + 8) ≡ Some (instruction_of (Jump condition.NoCarry 2))
-    at8 = form_at z.code pc 2 (loop_test n below (pc + 28 + forms_bytes body)) (Jump condition.NoCarry 2) test refl
+    abbrev turn : List Form
+    turn = body ++ turn_end n below
 
-    at10 : z.code (pc + 10) ≡ Some (instruction_of (Branch (pc + 28 + forms_bytes body)))
-    at10 = form_at z.code pc 3 (loop_test n below (pc + 28 + forms_bytes body)) (Branch (pc + 28 + forms_bytes body)) test refl
+    abbrev back : List Form
+    back = jump_back condition.NotEqual condition.Equal (size turn)
 
-    turns_part : (m k : ℕ) (s : WordState) (u : Core) → fit m s → k < 0x10000 → m ≡ below - k → StandsFor z pc (with_local n k s) u
-        → Follows z (pc + 28 + forms_bytes body) (10 + turns_spent m n k run cost s) u (turns m n k run s)
-    turns_part zero k s u g r e i =
+    -- where a turn ends, and where all of them do
+    abbrev behind_turn : ℕ
+    behind_turn = pc + forms_bytes turn
+
+    abbrev end : ℕ
+    end = pc + forms_bytes (turns_code n below body)
+
+    inside : Stands z.code pc turn
+    inside = stands_front z.code pc turn back h
+
+    jumps_back : Stands z.code behind_turn back
+    jumps_back = stands_back z.code pc turn back h
+
+    -- behind the body: on to the end, or back for another turn
+    behind_body : (k : ℕ) (v : WordState) (t : Core) → v.locals n ≡ Some k → k + 1 < 0x10000 → StandsFor z (pc + forms_bytes body) v t
+        → Runs z.code [] 10 t (Raised behind_turn n (k + 1) below v)
+    behind_body k v t q l i =
+        let tail = stands_back z.code pc body (turn_end n below) inside in
+        let e : pc + forms_bytes body + forms_bytes (turn_end n below) ≡ behind_turn = omega (arith, forms_bytes-append body (turn_end n below)) in
+        subst (λ p. Runs z.code [] 10 t (Raised p n (k + 1) below v)) e (raise_part (pc + forms_bytes body) n k below v t lt q l small tail i)
+
+    last_turn : (k : ℕ) (v : WordState) (t : Core) → v.locals n ≡ Some k → k + 1 ≡ below → StandsFor z (pc + forms_bytes body) v t
+        → Runs z.code [] 15 t (StandsFor z end (with_local n (k + 1) v))
+    last_turn k v t q e i =
+        let to : behind_turn + forms_bytes back ≡ end = omega (arith, forms_bytes-append turn back) in
+        let over : not ((k + 1) == below) ≡ false = ap not (eq-eqb (k + 1) below e) in
+        runs_on z 10 5 t (Raised behind_turn n (k + 1) below v) _ [] [] (behind_body k v t q (omega arith) i) (λ u j.
+        back_part z false behind_turn (size turn) end condition.NotEqual condition.Equal (with_local n (k + 1) v) u jumps_back to
+        (subst (λ b. Decided z behind_turn (with_local n (k + 1) v) b condition.NotEqual condition.Equal u) over j))
+
+    next_turn : (k : ℕ) (v : WordState) (t : Core) → v.locals n ≡ Some k → k + 1 < below → StandsFor z (pc + forms_bytes body) v t
+        → Runs z.code [] 15 t (StandsFor z pc (with_local n (k + 1) v))
+    next_turn k v t q l i =
+        let from : pc + 2 * size turn ≡ behind_turn = omega (arith, whole_size turn) in
+        let more : not ((k + 1) == below) ≡ true = ap not (ne_eqb (k + 1) below (λ e. omega arith)) in
+        runs_on z 10 5 t (Raised behind_turn n (k + 1) below v) _ [] [] (behind_body k v t q (omega arith) i) (λ u j.
+        back_part z true behind_turn (size turn) pc condition.NotEqual condition.Equal (with_local n (k + 1) v) u jumps_back from
+        (subst (λ b. Decided z behind_turn (with_local n (k + 1) v) b condition.NotEqual condition.Equal u) more j))
+
+    -- a turn, and what is behind its body
+    one_turn : (m k : ℕ) (s : WordState) (u : Core) → fit (suc m) s → k < below → StandsFor z pc (with_local n k s) u
+        → ((v : WordState) (t : Core) → fit m v → v.locals n ≡ Some k → StandsFor z (pc + forms_bytes body) v t
+        → Follows z end (15 + turns_spent m n (k + 1) run cost v) t (turns m n (k + 1) run v))
+        → Follows z end (turns_spent (suc m) n k run cost s) u (turns (suc m) n k run s)
+    one_turn m k s u g less i rest =
         let w = with_local n k s in
-        let ev = (z.tidy pc _ test.0).even in
-        let eb = bytes_even body in
-        let head = test_local pc n below k true w u lt small r (assigned_same s.locals n k) (le_true k below (omega arith)) (test.0, (test.1.0, tt)) i in
-        let past = runs_on z 5 2 u _ (StandsFor z (pc + 10) w) [] [] head (λ t j.
-        jump_to z condition.NoCarry 2 (pc + 8) (pc + 10) false w t at8 j.flag (omega arith) j.is) in
-        dearer z [] 10 _ u _ (omega arith)
-        (runs_on z 7 3 u (StandsFor z (pc + 10) w) _ [] [] past (λ t j.
-        branch_to z (pc + 28 + forms_bytes body) (pc + 10) w t at10 (omega arith) j))
-    turns_part (suc m) k s u g r e i =
-        let w = with_local n k s in
-        let less : k < below = omega arith in
-        let ev = (z.tidy pc _ test.0).even in
-        let high = (z.tidy (pc + 10) _ at10).high in
-        let head = test_local pc n below k false w u lt small r (assigned_same s.locals n k) (le_false k below less) (test.0, (test.1.0, tt)) i in
-        let inside = runs_on z 5 2 u _ (StandsFor z (pc + 14) w) [] [] head (λ t j.
-        jump_to z condition.NoCarry 2 (pc + 8) (pc + 14) true w t at8 j.flag (omega arith) j.is) in
-        let first =
-        then_end z (pc + 14 + forms_bytes body) 7 (cost w) u (StandsFor z (pc + 14) w) [] (run w).effects (run w).end inside
-        (λ t j. doing m k s t g less j) in
+        let more : WordState → ℕ = λ v. 15 + turns_spent m n (k + 1) run cost v in
         let all =
-        then_way z (pc + 14 + forms_bytes body) (pc + 28 + forms_bytes body) (7 + cost w) (λ v. 11 + (10 + turns_spent m n (k + 1) run cost v)) u
-        (λ v. fit m v × (v.locals n ≡ Some k)) (run w).effects (run w).end (turns m n (k + 1) run) first (keeps m k s g less) (λ t v p j.
-        then_end z _ 11 (10 + turns_spent m n (k + 1) run cost v) t _ [] (turns m n (k + 1) run v).effects (turns m n (k + 1) run v).end
-        (step_part (pc + 14 + forms_bytes body) pc n k v t lt p.1 (omega arith) ev tail j)
-        (λ c l. turns_part m (k + 1) v c p.0 (omega arith) (omega arith) l)) in
-        more_cycles z _ (7 + cost w + spent_on (run w).end (λ v. 11 + (10 + turns_spent m n (k + 1) run cost v))) _ u _ (turns (suc m) n k run s).end
+        then_way z (pc + forms_bytes body) end (cost w) more u (λ v. fit m v × (v.locals n ≡ Some k)) (run w).effects (run w).end (turns m n (k + 1) run)
+        (doing m k s u g less i) (keeps m k s g less) (λ t v p j. rest v t p.0 p.1 j) in
+        more_cycles z end (cost w + spent_on (run w).end more) _ u _ (turns (suc m) n k run s).end
         (omega (arith, turn_and_rest (run w).end (turns_spent m n (k + 1) run cost))) all
 
-  -- a loop, where its code stands
-  module _ (body : List Form) (pc n from below : ℕ) (lt : n < z.locals) (la : from < 0x10000) (lb : below < 0x10000)
-      (h : Stands z.code pc (loop_code (pc + 6) (pc + 34 + forms_bytes body) n from below body)) where
-    pub loop_part : (cost : WordState → ℕ) (run : WordState → Behaviour) (fit : ℕ → WordState → Type 0) (s : WordState)
-        (u : Core)
-        → StandsFor z pc s u → fit (below - from) s
-        → ((m k : ℕ) (s : WordState) (t : Core) → fit (suc m) s → k < below → StandsFor z (pc + 20) (with_local n k s) t
-        → Follows z (pc + 20 + forms_bytes body) (cost (with_local n k s)) t (run (with_local n k s)))
-        → ((m k : ℕ) (s : WordState) → fit (suc m) s → k < below → OnGoesOn (λ v. fit m v × (v.locals n ≡ Some k)) (run (with_local n k s)).end)
-        → Follows z (pc + 34 + forms_bytes body) (15 + turns_spent (below - from) n from run cost s) u (turns (below - from) n from run s)
-    loop_part cost run fit s u i g f keeps =
-        let b = turns (below - from) n from run s in
-        let e28 : pc + 6 + 28 + forms_bytes body ≡ pc + 34 + forms_bytes body = omega arith in
-        let e14 : pc + 6 + 14 ≡ pc + 20 = omega arith in
-        let rest = h.1 in
-        let test : Stands z.code (pc + 6) (loop_test n below (pc + 6 + 28 + forms_bytes body)) =
-        subst (λ k. Stands z.code (pc + 6) (loop_test n below k)) (sym e28)
-        (stands_front z.code (pc + 6) (loop_test n below (pc + 34 + forms_bytes body)) (body ++ loop_step n (pc + 6)) rest) in
-        let tail : Stands z.code (pc + 6 + 14 + forms_bytes body) (loop_step n (pc + 6)) =
-        stands_back z.code (pc + 6 + 14) body (loop_step n (pc + 6))
-        (stands_back z.code (pc + 6) (loop_test n below (pc + 34 + forms_bytes body)) (body ++ loop_step n (pc + 6)) rest) in
-        let doing : (m k : ℕ) (s : WordState) (t : Core) → fit (suc m) s → k < below → StandsFor z (pc + 6 + 14) (with_local n k s) t
-        → Follows z (pc + 6 + 14 + forms_bytes body) (cost (with_local n k s)) t (run (with_local n k s))
-        = λ m k s t p l j. ends_at z (pc + 20 + forms_bytes body) _ (cost (with_local n k s)) t (run (with_local n k s)) (omega arith)
-        (f m k s t p l (subst (λ x. StandsFor z x (with_local n k s) t) e14 j)) in
-        let loop =
-        then_end z (pc + 6 + 28 + forms_bytes body) 5 (10 + turns_spent (below - from) n from run cost s) u _ [] b.effects b.end
-        (start_part pc n from s u lt h.0 i)
-        (λ t j. turns_part body (pc + 6) n below cost run fit lt lb test tail doing keeps (below - from) from s t g la refl j) in
-        ends_at z (pc + 6 + 28 + forms_bytes body) _ _ u b e28
-        (more_cycles z _ (5 + (10 + turns_spent (below - from) n from run cost s)) _ u _ b.end (omega arith) loop)
+    -- so many turns behind the first
+    pub turns_part : (m k : ℕ) (s : WordState) (u : Core) → fit (suc m) s → suc m ≡ below - k → StandsFor z pc (with_local n k s) u
+        → Follows z end (turns_spent (suc m) n k run cost s) u (turns (suc m) n k run s)
+    turns_part zero k s u g e i =
+        one_turn zero k s u g (omega arith) i (λ v t f q j. last_turn k v t q (omega arith) j)
+    turns_part (suc m) k s u g e i =
+        one_turn (suc m) k s u g (omega arith) i (λ v t f q j.
+        then_end z end 15 (turns_spent (suc m) n (k + 1) run cost v) t _ [] (turns (suc m) n (k + 1) run v).effects (turns (suc m) n (k + 1) run v).end
+        (next_turn k v t q (omega arith) j) (λ c l. turns_part m (k + 1) v c f (omega arith) l))
+
+  -- a loop, where its code stands; by whether it makes a turn
+  pub loop_by : (some : Bool) (body : List Form) (pc n from below : ℕ) (cost : WordState → ℕ) (run : WordState → Behaviour) (fit : ℕ → WordState → Type 0)
+      (s : WordState) (u : Core) → nat_lt from below ≡ some → n < z.locals → below < 0x10000
+      → (let start = number_code n from in let rest = if some then turns_code n below body else [] in
+      Stands z.code pc (start ++ rest) → StandsFor z pc s u → fit (below - from) s
+      → (Stands z.code (pc + forms_bytes start) body → (m k : ℕ) (s : WordState) (t : Core) → fit (suc m) s → k < below
+      → StandsFor z (pc + forms_bytes start) (with_local n k s) t → Follows z (pc + forms_bytes start + forms_bytes body) (cost (with_local n k s)) t (run (with_local n k s)))
+      → ((m k : ℕ) (s : WordState) → fit (suc m) s → k < below → OnGoesOn (λ v. fit m v × (v.locals n ≡ Some k)) (run (with_local n k s)).end)
+      → Follows z (pc + forms_bytes (start ++ rest)) (5 + turns_spent (below - from) n from run cost s) u (turns (below - from) n from run s))
+  loop_by false body pc n from below cost run fit s u c lt lb h i g doing keeps =
+      let start = number_code n from in
+      let none : below - from ≡ 0 = let l : below ≤ from = grind (arith, nat_tests) in omega arith in
+      let e : pc + forms_bytes start ≡ pc + forms_bytes (start ++ []) = omega (arith, forms_bytes-append start []) in
+      let set = local_number z n from pc s u lt (stands_front z.code pc start [] h) i in
+      subst (λ m. Follows z (pc + forms_bytes (start ++ [])) (5 + turns_spent m n from run cost s) u (turns m n from run s)) (sym none)
+      (ends_at z (pc + forms_bytes start) _ 5 u (turns 0 n from run s) e set)
+  loop_by true body pc n from below cost run fit s u c lt lb h i g doing keeps =
+      let start = number_code n from in
+      let rest = turns_code n below body in
+      let m = below - from - 1 in
+      let some : suc m ≡ below - from = let l : from < below = grind (arith, nat_tests) in omega arith in
+      let e : pc + forms_bytes start + forms_bytes rest ≡ pc + forms_bytes (start ++ rest) = omega (arith, forms_bytes-append start rest) in
+      let set = local_number z n from pc s u lt (stands_front z.code pc start rest h) i in
+      let top = pc + forms_bytes start in
+      let turn = body ++ turn_end n below in
+      let stand = stands_back z.code pc start rest h in
+      let there = stands_front z.code top turn (jump_back condition.NotEqual condition.Equal (size turn)) stand in
+      let inside = stands_front z.code top body (turn_end n below) there in
+      subst (λ q. Follows z (pc + forms_bytes (start ++ rest)) (5 + turns_spent q n from run cost s) u (turns q n from run s)) some
+      (ends_at z (pc + forms_bytes start + forms_bytes rest) _ (5 + turns_spent (suc m) n from run cost s) u (turns (suc m) n from run s) e
+      (then_end z _ 5 (turns_spent (suc m) n from run cost s) u _ [] (turns (suc m) n from run s).effects (turns (suc m) n from run s).end set (λ t j.
+      turns_part body top n below cost run fit lt lb stand (doing inside) keeps m from s t (subst (λ q. fit q s) (sym some) g) some j)))

@@ -1,14 +1,15 @@
--- The stack and the locals in RAM.
-use Rattle.std.proofs.Common.{◌≡◌, ℕ, ◌+◌, ◌-◌, ◌*◌, ◌<◌, ◌≤◌, List, [], ◌∷◌, length, Option, Some, refl, sym, ap, ◌∙◌, subst, arith, Bool, true, false, nat_eq}
-use Rattle.std.proofs.Common.{eq-eqb, if◌then◌else◌}
+-- The stack and the locals: the first eight in registers, the others in RAM.
+use Rattle.std.proofs.Common.{◌≡◌, ℕ, zero, suc, ◌+◌, ◌-◌, ◌*◌, ◌<◌, ◌≤◌, List, [], ◌∷◌, length, get_or, Option, Some, refl, sym, ap, ◌∙◌, subst, arith}
+use Rattle.std.proofs.Common.{Bool, true, false, nat_eq, nat_lt, eq-eqb, if◌then◌else◌}
 use Rattle.std.proofs.lemmas.Bool.Decides.{nat_tests}
 use Rattle.std.proofs.lemmas.Option.{same_Some}
 use Rattle.array_versions.specs.machine_effects.World.{put}
 use Rattle.array_versions.specs.machine_effects.Machine.{IsFram, IsRam}
 use Rattle.array_versions.proofs.machine_effects.Interface.{put_same, put_other}
-use Rattle.code_forms.specs.Forms.{HasPushRoom}
+use Rattle.code_forms.specs.Forms.{work_number, HasPushRoom}
 use Rattle.array_versions.specs.Behaviour.{is_place, assigned}
-use Rattle.codegen.specs.Code.{local_address}
+use Rattle.codegen.specs.Code.{local_registers, local_register, local_address}
+use Rattle.codegen.proofs.Stretches.{Setting}
 
 -- the stack in RAM, its top first
 abbrev pub StackIs : (ℕ → ℕ) → ℕ → List ℕ → Type 0
@@ -25,56 +26,135 @@ place_is a h = record { even = grind (arith, nat_tests); low = grind (arith, nat
 pub assigned_same : (f : ℕ → Option ℕ) (n v : ℕ) → assigned f n v n ≡ Some v
 assigned_same f n v = ap (λ b. if b then Some v else f n) (eq-eqb n n refl)
 
--- locals from 1C20 up, the stack down from 2400
-pub record Memory (locals room sp : ℕ) (ram : ℕ → ℕ) (vs : List ℕ) (ls : ℕ → Option ℕ) : Type 0 where
+-- the words of the registers in which the first eight locals stand. A write to another register leaves them, by computation alone
+abbrev pub local_words : (ℕ → ℕ) → List ℕ
+local_words work = work 8 ∷ work 9 ∷ work 10 ∷ work 11 ∷ work 12 ∷ work 13 ∷ work 14 ∷ work 15 ∷ []
+
+-- the word of a local
+abbrev pub local_word : List ℕ → (ℕ → ℕ) → ℕ → ℕ
+local_word words ram n = if nat_lt n 8 then get_or words n 0 else ram (local_address n)
+
+below_eight : (n : ℕ) → nat_lt n 8 ≡ true → n < 8
+below_eight n e = grind (arith, nat_tests)
+
+from_eight : (n : ℕ) → nat_lt n 8 ≡ false → 8 ≤ n
+from_eight n e = grind (arith, nat_tests)
+
+register_number : (n : ℕ) → n < 8 → work_number (local_register n) ≡ 8 + n
+register_number zero l = refl
+register_number (suc zero) l = refl
+register_number (suc (suc zero)) l = refl
+register_number (suc (suc (suc zero))) l = refl
+register_number (suc (suc (suc (suc zero)))) l = refl
+register_number (suc (suc (suc (suc (suc zero))))) l = refl
+register_number (suc (suc (suc (suc (suc (suc zero)))))) l = refl
+register_number (suc (suc (suc (suc (suc (suc (suc zero))))))) l = refl
+register_number (suc (suc (suc (suc (suc (suc (suc (suc n)))))))) l = absurd (let high = l in omega arith)
+
+word_at : (work : ℕ → ℕ) (n : ℕ) → n < 8 → get_or (local_words work) n 0 ≡ work (8 + n)
+word_at work zero l = refl
+word_at work (suc zero) l = refl
+word_at work (suc (suc zero)) l = refl
+word_at work (suc (suc (suc zero))) l = refl
+word_at work (suc (suc (suc (suc zero)))) l = refl
+word_at work (suc (suc (suc (suc (suc zero))))) l = refl
+word_at work (suc (suc (suc (suc (suc (suc zero)))))) l = refl
+word_at work (suc (suc (suc (suc (suc (suc (suc zero))))))) l = refl
+word_at work (suc (suc (suc (suc (suc (suc (suc (suc n)))))))) l = absurd (let high = l in omega arith)
+
+-- a local in a register
+pub in_register : (work ram : ℕ → ℕ) (n : ℕ) → nat_lt n 8 ≡ true → work (work_number (local_register n)) ≡ local_word (local_words work) ram n
+in_register work ram n e =
+    let l = below_eight n e in
+    ap work (register_number n l) ∙ sym (word_at work n l) ∙ ap (λ b. if b then get_or (local_words work) n 0 else ram (local_address n)) (sym e)
+
+-- a local in RAM
+pub in_ram : (words : List ℕ) (ram : ℕ → ℕ) (n : ℕ) → nat_lt n 8 ≡ false → ram (local_address n) ≡ local_word words ram n
+in_ram words ram n e = ap (λ b. if b then get_or words n 0 else ram (local_address n)) (sym e)
+
+-- the locals, and the stack down from 2400
+pub record Memory (z : Setting) (sp : ℕ) (ram : ℕ → ℕ) (words vs : List ℕ) (ls : ℕ → Option ℕ) : Type 0 where
   pub depth : sp + 2 * length vs ≡ 0x2400
-  pub fits : length vs ≤ room
+  pub fits : length vs ≤ z.room
   pub stack : StackIs ram sp vs
-  pub vars : (n v : ℕ) → n < locals → ls n ≡ Some v → ram (local_address n) ≡ v
+  pub vars : (n v : ℕ) → n < z.locals → ls n ≡ Some v → local_word words ram n ≡ v
 
-module _ (locals room : ℕ) (roomy : 0x1C20 + 2 * (locals + room) ≤ 0x2400) where
-  pub pop_memory : (sp : ℕ) (ram : ℕ → ℕ) (v : ℕ) (vs : List ℕ) (ls : ℕ → Option ℕ) → Memory locals room sp ram (v ∷ vs) ls
-      → Memory locals room (sp + 2) ram vs ls
-  pop_memory sp ram v vs ls m = record { depth = omega (arith, m.depth); fits = omega (arith, m.fits); stack = m.stack.1; vars = m.vars }
+module _ (z : Setting) where
+  pub pop_memory : {sp v : ℕ} {ram : ℕ → ℕ} {words vs : List ℕ} {ls : ℕ → Option ℕ} → Memory z sp ram words (v ∷ vs) ls
+      → Memory z (sp + 2) ram words vs ls
+  pop_memory m = record { depth = omega (arith, m.depth); fits = omega (arith, m.fits); stack = m.stack.1; vars = m.vars }
 
-  pub pop_needs : (sp : ℕ) (ram : ℕ → ℕ) (v : ℕ) (vs : List ℕ) (ls : ℕ → Option ℕ) → Memory locals room sp ram (v ∷ vs) ls → IsRam sp
-  pop_needs sp ram v vs ls m = let d = m.depth in let f = m.fits in record { even = omega arith; low = omega arith; high = omega arith }
+  pub pop_needs : {sp v : ℕ} {ram : ℕ → ℕ} {words vs : List ℕ} {ls : ℕ → Option ℕ} → Memory z sp ram words (v ∷ vs) ls → IsRam sp
+  pop_needs m =
+      let d = m.depth in let f = m.fits in let r = z.roomy in record { even = omega arith; low = omega arith; high = omega arith }
 
-  pub push_needs : (sp : ℕ) (ram : ℕ → ℕ) (vs : List ℕ) (ls : ℕ → Option ℕ) → Memory locals room sp ram vs ls → length vs < room → HasPushRoom sp
-  push_needs sp ram vs ls m l = let d = m.depth in record { even = omega arith; low = omega arith; high = omega arith }
+  pub push_needs : {sp : ℕ} {ram : ℕ → ℕ} {words vs : List ℕ} {ls : ℕ → Option ℕ} → Memory z sp ram words vs ls → length vs < z.room → HasPushRoom sp
+  push_needs m l = let d = m.depth in let r = z.roomy in record { even = omega arith; low = omega arith; high = omega arith }
 
-  pub local_needs : (n : ℕ) → n < locals → IsRam (local_address n)
-  local_needs n l = record { even = omega arith; low = omega arith; high = omega arith }
+  pub local_needs : (n : ℕ) → n < z.locals → IsRam (local_address n)
+  local_needs n l = let r = z.roomy in record { even = omega arith; low = omega arith; high = omega arith }
 
-  pub push_memory : (sp : ℕ) (ram : ℕ → ℕ) (v : ℕ) (vs : List ℕ) (ls : ℕ → Option ℕ) → Memory locals room sp ram vs ls → length vs < room
-      → Memory locals room (sp - 2) (put ram (sp - 2) v) (v ∷ vs) ls
-  push_memory sp ram v vs ls m l =
-      let d = m.depth in
+  pub push_memory : {sp : ℕ} {ram : ℕ → ℕ} {words vs : List ℕ} {ls : ℕ → Option ℕ} (v : ℕ) → Memory z sp ram words vs ls → length vs < z.room
+      → Memory z (sp - 2) (put ram (sp - 2) v) words (v ∷ vs) ls
+  push_memory {sp} {ram} {words} {vs} v m l =
+      let d = m.depth in let r = z.roomy in
       let up : sp - 2 + 2 ≡ sp = omega arith in
+      let apart : (n : ℕ) → n < z.locals → put ram (sp - 2) v (local_address n) ≡ ram (local_address n) =
+      λ n h. put_other ram (sp - 2) v (local_address n) (λ e. omega arith) in
       record {
         depth = omega arith;
         fits = omega arith;
         stack = (put_same ram (sp - 2) v, subst (λ n. StackIs (put ram (sp - 2) v) n vs) (sym up) (stack_put ram (sp - 2) v sp vs (omega arith) m.stack));
-        vars = λ n w h q. put_other ram (sp - 2) v (local_address n) (λ e. omega arith) ∙ m.vars n w h q;
+        vars = λ n w h q. ap (λ x. if nat_lt n 8 then get_or words n 0 else x) (apart n h) ∙ m.vars n w h q;
       }
 
-  pub set_memory : (sp : ℕ) (ram : ℕ → ℕ) (n v : ℕ) (vs : List ℕ) (ls : ℕ → Option ℕ) → Memory locals room sp ram vs ls → n < locals
-      → Memory locals room sp (put ram (local_address n) v) vs (assigned ls n v)
-  set_memory sp ram n v vs ls m lt =
-      let d = m.depth in let f = m.fits in
-      record {
-        depth = d;
-        fits = f;
-        stack = stack_put ram (local_address n) v sp vs (omega arith) m.stack;
-        vars = λ k w h q. put_vars k w h q;
-      }
+  -- one local has another word now, and the others theirs
+  assign : (sp n v : ℕ) (ram ram' : ℕ → ℕ) (words words' vs : List ℕ) (ls : ℕ → Option ℕ) → Memory z sp ram words vs ls → StackIs ram' sp vs
+      → ((k : ℕ) → local_word words' ram' k ≡ (if nat_eq k n then v else local_word words ram k)) → Memory z sp ram' words' vs (assigned ls n v)
+  assign sp n v ram ram' words words' vs ls m stack same =
+      record { depth = m.depth; fits = m.fits; stack = stack; vars = λ k w h q. same k ∙ by (nat_eq k n) k w h q }
     where
-      same_test : (k : ℕ) → nat_eq (local_address k) (local_address n) ≡ nat_eq k n
-      same_test k = grind (arith, nat_tests)
+      by : (b : Bool) (k w : ℕ) → k < z.locals → (if b then Some v else ls k) ≡ Some w → (if b then v else local_word words ram k) ≡ w
+      by true k w h q = same_Some v w q
+      by false k w h q = m.vars k w h q
 
-      by_test : (b : Bool) (k w : ℕ) → k < locals → (if b then Some v else ls k) ≡ Some w → (if b then v else ram (local_address k)) ≡ w
-      by_test true k w h q = same_Some v w q
-      by_test false k w h q = m.vars k w h q
+  -- a local in a register is written
+  pub set_register : (sp n v : ℕ) (ram work : ℕ → ℕ) (vs : List ℕ) (ls : ℕ → Option ℕ) → nat_lt n 8 ≡ true → Memory z sp ram (local_words work) vs ls
+      → Memory z sp ram (local_words (put work (work_number (local_register n)) v)) vs (assigned ls n v)
+  set_register sp n v ram work vs ls e m =
+      let after = put work (work_number (local_register n)) v in
+      assign sp n v ram ram (local_words work) (local_words after) vs ls m m.stack (λ k. by (nat_lt k 8) k refl)
+    where
+      l : n < 8
+      l = below_eight n e
 
-      put_vars : (k w : ℕ) → k < locals → assigned ls n v k ≡ Some w → put ram (local_address n) v (local_address k) ≡ w
-      put_vars k w h q = ap (λ b. if b then v else ram (local_address k)) (same_test k) ∙ by_test (nat_eq k n) k w h q
+      by : (b : Bool) (k : ℕ) → nat_lt k 8 ≡ b
+          → (if b then get_or (local_words (put work (work_number (local_register n)) v)) k 0 else ram (local_address k))
+          ≡ (if nat_eq k n then v else (if b then get_or (local_words work) k 0 else ram (local_address k)))
+      by true k t =
+          let h = below_eight k t in
+          let same : nat_eq (8 + k) (8 + n) ≡ nat_eq k n = grind (arith, nat_tests) in
+          word_at (put work (work_number (local_register n)) v) k h ∙ ap (λ r. put work r v (8 + k)) (register_number n l)
+          ∙ ap (λ b. if b then v else work (8 + k)) same ∙ ap (λ x. if nat_eq k n then v else x) (sym (word_at work k h))
+      by false k t =
+          let h = from_eight k t in
+          let other : nat_eq k n ≡ false = grind (arith, nat_tests) in
+          ap (λ b. if b then v else ram (local_address k)) (sym other)
+
+  -- a local in RAM is written
+  pub set_ram : (sp n v : ℕ) (ram : ℕ → ℕ) (words vs : List ℕ) (ls : ℕ → Option ℕ) → nat_lt n 8 ≡ false → n < z.locals → Memory z sp ram words vs ls
+      → Memory z sp (put ram (local_address n) v) words vs (assigned ls n v)
+  set_ram sp n v ram words vs ls e lt m =
+      let d = m.depth in let f = m.fits in let r = z.roomy in
+      assign sp n v ram (put ram (local_address n) v) words words vs ls m (stack_put ram (local_address n) v sp vs (omega arith) m.stack)
+      (λ k. by (nat_lt k 8) k refl)
+    where
+      by : (b : Bool) (k : ℕ) → nat_lt k 8 ≡ b → (if b then get_or words k 0 else put ram (local_address n) v (local_address k))
+          ≡ (if nat_eq k n then v else (if b then get_or words k 0 else ram (local_address k)))
+      by true k t =
+          let h = below_eight k t in let l = from_eight n e in
+          let other : nat_eq k n ≡ false = grind (arith, nat_tests) in
+          ap (λ b. if b then v else get_or words k 0) (sym other)
+      by false k t =
+          let same : nat_eq (local_address k) (local_address n) ≡ nat_eq k n = grind (arith, nat_tests) in
+          ap (λ b. if b then v else ram (local_address k)) same

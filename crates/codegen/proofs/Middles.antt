@@ -16,6 +16,7 @@ use Rattle.array_versions.specs.Operations.{unary_word, plain_word, binary_word}
 use Rattle.array_versions.specs.Behaviour.{WordState, goes_on, with_stack, with_top, with_two}
 use Rattle.codegen.specs.Code.{unary_middle, unary_code, plain_instruction, binary_middle, binary_code}
 use Rattle.codegen.proofs.Stretches.{Setting, runs_on}
+use Rattle.codegen.proofs.Memory.{local_words}
 use Rattle.codegen.proofs.Follows.{StandsFor, Follows, memory_as}
 use Rattle.codegen.proofs.Registers.{Has, HasTwo, pop_five, pop_two, push_result, middle}
 
@@ -70,11 +71,11 @@ module _ (z : Setting) where
   -- straight middles
   line : (ms : List Form) (c pc : ℕ) (b : WorkRegister) (val : ℕ) (w : WordState) (t : Core) → StandsFor z pc w t → AreStraight ms → Stands z.code pc ms
       → FormsNeed ms t → (let v = end_of t (forms_run ms t).status in
-      (forms_run ms t ≡ stretch [] c (At v)) × (v.pc ≡ t.pc + forms_bytes ms) × (v.sp ≡ t.sp) × (v.ram ≡ t.ram) × (v.fram ≡ t.fram)
-      × (v.readings_left ≡ t.readings_left) × (v.work (work_number b) ≡ val)) → Runs z.code [] c t (HasIn b (pc + forms_bytes ms) w val)
+      (forms_run ms t ≡ stretch [] c (At v)) × (v.pc ≡ t.pc + forms_bytes ms) × (v.sp ≡ t.sp) × (v.ram ≡ t.ram)
+      × (local_words v.work ≡ local_words t.work) × (v.fram ≡ t.fram) × (v.readings_left ≡ t.readings_left) × (v.work (work_number b) ≡ val)) → Runs z.code [] c t (HasIn b (pc + forms_bytes ms) w val)
   line ms c pc b val w t i st h ok x =
       middle z ms c pc (pc + forms_bytes ms) val b w t (end_of t (forms_run ms t).status) i st h ok x.0
-      (x.1 ∙ ap (λ p. p + forms_bytes ms) i.at) x.2 x.3 x.4 x.5 x.6
+      (x.1 ∙ ap (λ p. p + forms_bytes ms) i.at) x.2 x.3 x.4 x.5 x.6 x.7
 
   -- what it makes of R4 and R5
   made : (o : PlainOperation) (pc x y : ℕ) (w : WordState) (t : Core) → x < 0x10000 → y < 0x10000 → HasTwo z pc w x y t
@@ -85,16 +86,16 @@ module _ (z : Setting) where
   -- of each operation alike: the first clause makes it a proof by cases
   pub plain_middle : (o : PlainOperation) → BinaryMiddle (binary_middle (Plain o)) R4 1 (binary_word (Plain o))
   plain_middle Add pc x y w t a b h k =
-      line (binary_middle (Plain Add)) 1 pc R4 _ w t k.is (tt, tt) h ((tt, tt), tt) (refl, omega arith, refl, refl, refl, refl, made Add pc x y w t a b k)
+      line (binary_middle (Plain Add)) 1 pc R4 _ w t k.is (tt, tt) h ((tt, tt), tt) (refl, omega arith, refl, refl, refl, refl, refl, made Add pc x y w t a b k)
   plain_middle o pc x y w t a b h k =
-      line (binary_middle (Plain o)) 1 pc R4 _ w t k.is (tt, tt) h ((tt, tt), tt) (refl, omega arith, refl, refl, refl, refl, made o pc x y w t a b k)
+      line (binary_middle (Plain o)) 1 pc R4 _ w t k.is (tt, tt) h ((tt, tt), tt) (refl, omega arith, refl, refl, refl, refl, refl, made o pc x y w t a b k)
 
   pub negate_middle : UnaryMiddle (unary_middle Negate) 2 (unary_word Negate)
   negate_middle pc y w t b h k =
       line (unary_middle Negate) 2 pc R4 _ w t k.is (tt, (tt, tt)) h ((tt, tt), ((tt, tt), tt))
-      (refl, omega arith, refl, refl, refl, refl, ap (λ q. (0 + (0xFFFF - q) + 1) % 0x10000) k.value ∙ omega arith)
+      (refl, omega arith, refl, refl, refl, refl, refl, ap (λ q. (0 + (0xFFFF - q) + 1) % 0x10000) k.value ∙ omega arith)
 
   pub complement_middle : UnaryMiddle (unary_middle Complement) 2 (unary_word Complement)
   complement_middle pc y w t b h k =
       line (unary_middle Complement) 2 pc R4 _ w t k.is (tt, (tt, tt)) h ((tt, tt), ((tt, tt), tt))
-      (refl, omega arith, refl, refl, refl, refl, ap (λ q. (0xFFFF + (0xFFFF - q) + 1) % 0x10000) k.value ∙ omega arith)
+      (refl, omega arith, refl, refl, refl, refl, refl, ap (λ q. (0xFFFF + (0xFFFF - q) + 1) % 0x10000) k.value ∙ omega arith)

@@ -98,7 +98,7 @@ module _ (z : Setting) where
         straight z tested 1 t (end_of t (forms_run tested t).status) [] 1 _ (tt, tt) (stands_at z.code p tested t (h.0, tt) i.is.at) ((tt, tt), tt) refl
         (omega arith)
         (record {
-          all = record { is = stands_elsewhere z p (p + 2) w t _ i.is (omega (arith, i.is.at)) refl refl refl refl; four = i.four; five = i.five; six = i.six };
+          all = record { is = stands_elsewhere z p (p + 2) w t _ i.is (omega (arith, i.is.at)) refl refl refl refl refl; four = i.four; five = i.five; six = i.six };
           zero_flag = ap (λ v. bit_and v 1 == 0) i.five;
         })
 
@@ -115,7 +115,7 @@ module _ (z : Setting) where
         (record {
           all =
               record {
-                is = stands_elsewhere z (p + 6) (p + 12) w t _ i.is (omega (arith, i.is.at)) refl refl refl refl;
+                is = stands_elsewhere z (p + 6) (p + 12) w t _ i.is (omega (arith, i.is.at)) refl refl refl refl refl;
                 four = ap (λ v. (v + v + 0) % 0x10000) i.four ∙ omega arith;
                 five = q;
                 six = i.six;
@@ -129,14 +129,14 @@ module _ (z : Setting) where
         straight z adding 1 t (end_of t (forms_run adding t).status) [] 1 _ (tt, tt) (stands_at z.code (p + 4) adding t at i.is.at) ((tt, tt), tt) refl
         (omega arith)
         (record {
-          is = stands_elsewhere z (p + 4) (p + 6) w t _ i.is (omega (arith, i.is.at)) refl refl refl refl;
+          is = stands_elsewhere z (p + 4) (p + 6) w t _ i.is (omega (arith, i.is.at)) refl refl refl refl refl;
           four = i.four;
           five = i.five;
           six = ap₂ (λ x y. (x + y + 0) % 0x10000) i.six i.four;
         })
 
     moved : (pc pc' : ℕ) (w : WordState) (a b acc : ℕ) (t : Core) → Multi pc w a b acc t → Multi pc' w a b acc (record t { pc = pc' })
-    moved pc pc' w a b acc t i = record { is = stands_elsewhere z pc pc' w t _ i.is refl refl refl refl refl; four = i.four; five = i.five; six = i.six }
+    moved pc pc' w a b acc t i = record { is = stands_elsewhere z pc pc' w t _ i.is refl refl refl refl refl refl; four = i.four; five = i.five; six = i.six }
 
     record Turn (a b acc : ℕ) (w : WordState) (t : Core) : Type 0 where
       next : ℕ
@@ -191,7 +191,7 @@ module _ (z : Setting) where
         dearer z [] 9 (suc n * 9) t _ (omega arith)
         (runs_on z 7 2 t _ _ [] [] r.runs (λ u j. jump_exact condition.NotEqual 1017 (p + 14) false u _ (ap z.code j.all.is.at ∙ at12)
         (ap not (j.zero_flag ∙ e)) (omega (arith, j.all.is.at))
-        (record { is = stands_elsewhere z (p + 12) (p + 14) w u _ j.all.is refl refl refl refl refl; value = j.all.six ∙ v })))
+        (record { is = stands_elsewhere z (p + 12) (p + 14) w u _ j.all.is refl refl refl refl refl refl; value = j.all.six ∙ v })))
     leave n a b acc w t false e r again =
         let high = (z.tidy (p + 12) _ at12).high in
         let to : sum16 (p + 12 + 2) (distance 1017) ≡ p = omega arith in
@@ -219,5 +219,5 @@ module _ (z : Setting) where
       (subst (λ v. Runs z.code [] 145 t (Has z R6 (pc + 2 + 14) w v)) is_zero
       (runs_on z 1 144 t (Multi (pc + 2) w x y 0) _ [] []
       (straight z ms 1 t (end_of t (forms_run ms t).status) [] 1 _ (tt, tt) (stands_at z.code pc ms t (h.0, tt) i.is.at) ((tt, tt), tt) refl (omega arith)
-      (record { is = stands_elsewhere z pc (pc + 2) w t _ i.is (omega (arith, i.is.at)) refl refl refl refl; four = i.four; five = i.five; six = refl }))
+      (record { is = stands_elsewhere z pc (pc + 2) w t _ i.is (omega (arith, i.is.at)) refl refl refl refl refl; four = i.four; five = i.five; six = refl }))
       (λ u j. loop (pc + 2) h.1 15 x y 0 w u b (omega arith) j)))

@@ -211,7 +211,7 @@ module _ (z : Setting) where
 
   moved : (pc pc' : ℕ) (w : WordState) (x d r n : ℕ) (t : Core) → DivAt pc w x d r n t → DivAt pc' w x d r n (record t { pc = pc' })
   moved pc pc' w x d r n t i =
-      record { is = stands_elsewhere z pc pc' w t _ i.is refl refl refl refl refl; four = i.four; five = i.five; six = i.six; seven = i.seven }
+      record { is = stands_elsewhere z pc pc' w t _ i.is refl refl refl refl refl refl; four = i.four; five = i.five; six = i.six; seven = i.seven }
 
   module _ (p : ℕ) (h : Stands z.code p divide_turn) where
     at4 : z.code (p + 4) ≡ Some (instruction_of (Jump condition.Carry 2))
@@ -243,7 +243,7 @@ module _ (z : Setting) where
         (record {
           all =
               record {
-                is = stands_elsewhere z p (p + 4) w t _ i.is (omega (arith, i.is.at)) refl refl refl refl;
+                is = stands_elsewhere z p (p + 4) w t _ i.is (omega (arith, i.is.at)) refl refl refl refl refl;
                 four = ap shifted i.four;
                 five = i.five;
                 six = ap₂ (λ u v. longer u v % 0x10000) i.four i.six;
@@ -261,7 +261,7 @@ module _ (z : Setting) where
         (record {
           all =
               record {
-                is = stands_elsewhere z (p + 6) (p + 8) w t _ i.is (omega (arith, i.is.at)) refl refl refl refl;
+                is = stands_elsewhere z (p + 6) (p + 8) w t _ i.is (omega (arith, i.is.at)) refl refl refl refl refl;
                 four = i.four;
                 five = i.five;
                 six = i.six;
@@ -277,7 +277,7 @@ module _ (z : Setting) where
         straight z taking 2 t (end_of t (forms_run taking t).status) [] 2 _ (tt, (tt, tt)) (stands_at z.code (p + 10) taking t at i.is.at)
         ((tt, tt), ((tt, tt), tt)) refl (omega arith)
         (record {
-          is = stands_elsewhere z (p + 10) (p + 14) w t _ i.is (omega (arith, i.is.at)) refl refl refl refl;
+          is = stands_elsewhere z (p + 10) (p + 14) w t _ i.is (omega (arith, i.is.at)) refl refl refl refl refl;
           four = ap (λ u. (u + 1 + 0) % 0x10000) i.four;
           five = i.five;
           six = ap₂ (λ u v. (u + (0xFFFF - v) + 1) % 0x10000) i.six i.five;
@@ -293,7 +293,7 @@ module _ (z : Setting) where
         (record {
           all =
               record {
-                is = stands_elsewhere z (p + 14) (p + 16) w t _ i.is (omega (arith, i.is.at)) refl refl refl refl;
+                is = stands_elsewhere z (p + 14) (p + 16) w t _ i.is (omega (arith, i.is.at)) refl refl refl refl refl;
                 four = i.four;
                 five = i.five;
                 six = i.six;
@@ -420,7 +420,7 @@ module _ (z : Setting) where
       (straight z heads 3 t (end_of t (forms_run heads t).status) [] 3 _ (tt, (tt, tt)) (stands_at z.code pc heads t (h.0, (h.1.0, tt)) i.is.at)
       ((tt, tt), ((tt, tt), tt)) refl (omega arith)
       (record {
-        is = stands_elsewhere z pc (pc + 6) w t _ i.is (omega (arith, i.is.at)) refl refl refl refl;
+        is = stands_elsewhere z pc (pc + 6) w t _ i.is (omega (arith, i.is.at)) refl refl refl refl refl;
         four = i.four;
         five = i.five;
         six = refl;

@@ -1,6 +1,9 @@
 -- Values in registers, and jumps.
-use Rattle.std.proofs.Common.{◌≡◌, ℕ, ◌+◌, ◌-◌, ◌%◌, ◌<◌, List, [], ◌∷◌, length, Some, refl, sym, ap, ap₂, ◌∙◌, subst, arith, Bool, nat_le, if◌then◌else◌}
+use Rattle.std.proofs.Common.{◌≡◌, ℕ, ◌+◌, ◌-◌, ◌%◌, ◌<◌, ◌==◌, List, [], ◌∷◌, length, Some, refl, sym, ap, ap₂, ◌∙◌, subst, arith, Bool, false, nat_le}
+use Rattle.std.proofs.Common.{if◌then◌else◌}
 use Rattle.std.proofs.lemmas.Bool.Decides.{nat_tests}
+use Rattle.msp_isa.specs.alp_words.declared.Width.TheVariants.{Word}
+use Rattle.msp_isa.specs.alp_words.Words.{sum_of}
 use Rattle.msp_isa.specs.declared.instructions.Condition.{Condition}
 use Rattle.array_versions.specs.msp_step.Effect.{sum16, distance, is_met}
 use Rattle.array_versions.specs.machine_effects.World.{put}
@@ -14,7 +17,7 @@ use Rattle.code_forms.proofs.Interface.{stands_at, end_of}
 use Rattle.array_versions.specs.Behaviour.{WordState, with_stack}
 use Rattle.codegen.specs.Code.{pop_to, push_from}
 use Rattle.codegen.proofs.Stretches.{Setting, straight, hop}
-use Rattle.codegen.proofs.Memory.{Memory, pop_memory, pop_needs, push_needs, push_memory}
+use Rattle.codegen.proofs.Memory.{local_words, Memory, pop_memory, pop_needs, push_needs, push_memory}
 use Rattle.codegen.proofs.Follows.{StandsFor, stands_elsewhere, memory_as}
 
 source_even : (x : Source) → forms.source_bytes x % 2 ≡ 0
@@ -60,6 +63,14 @@ bytes_even (m ∷ ms) = omega (arith, form_even m, bytes_even ms)
 pub no_borrow : (x y : ℕ) → x < 0x10000 → y < 0x10000 → nat_le 0x10000 (x + (0xFFFF - y) + 1) ≡ nat_le y x
 no_borrow x y h k = grind (arith, nat_tests)
 
+-- a word is 0 where it less 0 is
+pub zero_flag : (x : ℕ) → x < 0x10000 → ((x + 65535 + 1) % 0x10000 == 0) ≡ (x == 0)
+zero_flag x h = grind (arith, nat_tests)
+
+-- two words are equal where their difference is 0
+pub equal_flag : (x y : ℕ) → x < 0x10000 → y < 0x10000 → ((x + (0xFFFF - y) + 1) % 0x10000 == 0) ≡ (x == y)
+equal_flag x y h k = grind (arith, nat_tests)
+
 module _ (z : Setting) where
   -- the machine stands for the state, and has a value in a register
   pub record Has (b : WorkRegister) (pc : ℕ) (w : WordState) (v : ℕ) (t : Core) : Type 0 where
@@ -78,9 +89,9 @@ module _ (z : Setting) where
       let ms = pop_to R4 ∷ [] in
       let m = memory_as z pc w u (v ∷ vs) e i in
       straight z ms 2 u (end_of u (forms_run ms u).status) [] 2 _ (tt, tt) (stands_at z.code pc ms u (h, tt) i.at)
-      ((pop_needs z.locals z.room z.roomy u.sp u.ram v vs w.locals m, tt), tt) refl (omega arith)
+      ((pop_needs z m, tt), tt) refl (omega arith)
       (record {
-        is = record { at = omega (arith, i.at); memory = pop_memory z.locals z.room z.roomy u.sp u.ram v vs w.locals m; fram = i.fram; readings = i.readings };
+        is = record { at = omega (arith, i.at); memory = pop_memory z m; fram = i.fram; readings = i.readings };
         value = m.stack.0;
       })
 
@@ -90,9 +101,9 @@ module _ (z : Setting) where
       let ms = pop_to R5 ∷ [] in
       let m = memory_as z pc w u (v ∷ vs) e i in
       straight z ms 2 u (end_of u (forms_run ms u).status) [] 2 _ (tt, tt) (stands_at z.code pc ms u (h, tt) i.at)
-      ((pop_needs z.locals z.room z.roomy u.sp u.ram v vs w.locals m, tt), tt) refl (omega arith)
+      ((pop_needs z m, tt), tt) refl (omega arith)
       (record {
-        is = record { at = omega (arith, i.at); memory = pop_memory z.locals z.room z.roomy u.sp u.ram v vs w.locals m; fram = i.fram; readings = i.readings };
+        is = record { at = omega (arith, i.at); memory = pop_memory z m; fram = i.fram; readings = i.readings };
         value = m.stack.0;
       })
 
@@ -101,15 +112,15 @@ module _ (z : Setting) where
   pop_two pc x y vs w u e h i =
       let ms = pop_to R5 ∷ pop_to R4 ∷ [] in
       let m = memory_as z pc w u (y ∷ (x ∷ vs)) e i in
-      let p = pop_memory z.locals z.room z.roomy u.sp u.ram y (x ∷ vs) w.locals m in
+      let p = pop_memory z m in
       straight z ms 4 u (end_of u (forms_run ms u).status) [] 4 _ (tt, (tt, tt)) (stands_at z.code pc ms u h i.at)
-      ((pop_needs z.locals z.room z.roomy u.sp u.ram y (x ∷ vs) w.locals m, tt), ((pop_needs z.locals z.room z.roomy (u.sp + 2) u.ram x vs w.locals p, tt), tt))
+      ((pop_needs z m, tt), ((pop_needs z p, tt), tt))
       refl (omega arith)
       (record {
         is =
             record {
               at = omega (arith, i.at);
-              memory = pop_memory z.locals z.room z.roomy (u.sp + 2) u.ram x vs w.locals p;
+              memory = pop_memory z p;
               fram = i.fram;
               readings = i.readings;
             };
@@ -123,12 +134,12 @@ module _ (z : Setting) where
       let ms = push_from b ∷ [] in
       let i = k.is in
       straight z ms 3 t (end_of t (forms_run ms t).status) [] 3 _ (tt, tt) (stands_at z.code pc ms t (h, tt) i.at)
-      ((tt, push_needs z.locals z.room z.roomy t.sp t.ram w.stack w.locals i.memory s), tt) refl (omega arith)
+      ((tt, push_needs z i.memory s), tt) refl (omega arith)
       (record {
         at = omega (arith, i.at);
         memory =
-            subst (λ x. Memory z.locals z.room (t.sp - 2) (put t.ram (t.sp - 2) x) (v ∷ w.stack) w.locals) (sym k.value)
-            (push_memory z.locals z.room z.roomy t.sp t.ram v w.stack w.locals i.memory s);
+            subst (λ x. Memory z (t.sp - 2) (put t.ram (t.sp - 2) x) (local_words t.work) (v ∷ w.stack) w.locals) (sym k.value)
+            (push_memory z v i.memory s);
         fram = i.fram;
         readings = i.readings;
       })
@@ -136,23 +147,26 @@ module _ (z : Setting) where
   -- straight code on registers alone
   pub middle : (ms : List Form) (c pc pc' val : ℕ) (b : WorkRegister) (w : WordState) (t v : Core) → StandsFor z pc w t → AreStraight ms → Stands z.code pc ms
       → FormsNeed ms t → forms_run ms t ≡ stretch [] c (At v)
-      → v.pc ≡ pc' → v.sp ≡ t.sp → v.ram ≡ t.ram → v.fram ≡ t.fram → v.readings_left ≡ t.readings_left → v.work (work_number b) ≡ val
+      → v.pc ≡ pc' → v.sp ≡ t.sp → v.ram ≡ t.ram
+      → local_words v.work ≡ local_words t.work → v.fram ≡ t.fram → v.readings_left ≡ t.readings_left → v.work (work_number b) ≡ val
       → Runs z.code [] c t (Has b pc' w val)
-  middle ms c pc pc' val b w t v i st h ok e p q r f d x =
+  middle ms c pc pc' val b w t v i st h ok e p q r l f d x =
       straight z ms c t v [] c _ st (stands_at z.code pc ms t h i.at) ok e (omega arith)
-      (record { is = stands_elsewhere z pc pc' w t v i p q r f d; value = x })
-
-  pub branch_to : (a pc : ℕ) (w : WordState) (t : Core) → z.code pc ≡ Some (instruction_of (Branch a)) → a % 2 ≡ 0 → StandsFor z pc w t
-      → Runs z.code [] 3 t (StandsFor z a w)
-  branch_to a pc w t h ev i =
-      hop z (Branch a) 3 t (record t { pc = a }) [] 3 _ (ap z.code i.at ∙ h) ev refl (omega arith) (stands_elsewhere z pc a w t _ i refl refl refl refl refl)
+      (record { is = stands_elsewhere z pc pc' w t v i p q r l f d; value = x })
 
   pub jump_to : (k : Condition) (o pc pc' : ℕ) (b : Bool) (w : WordState) (t : Core) → z.code pc ≡ Some (instruction_of (Jump k o)) → is_met k t.flags ≡ b
       → (if b then sum16 (pc + 2) (distance o) else pc + 2) ≡ pc' → StandsFor z pc w t → Runs z.code [] 2 t (StandsFor z pc' w)
   jump_to k o pc pc' b w t h e to i =
       hop z (Jump k o) 2 t (record t { pc = if is_met k t.flags then sum16 (t.pc + 2) (distance o) else t.pc + 2 }) [] 2 _ (ap z.code i.at ∙ h) tt refl
       (omega arith)
-      (stands_elsewhere z pc pc' w t _ i (ap₂ (λ x p. if x then sum16 (p + 2) (distance o) else p + 2) e i.at ∙ to) refl refl refl refl)
+      (stands_elsewhere z pc pc' w t _ i (ap₂ (λ x p. if x then sum16 (p + 2) (distance o) else p + 2) e i.at ∙ to) refl refl refl refl refl)
+
+  pub skip_to : (n pc pc' : ℕ) (w : WordState) (t : Core) → z.code pc ≡ Some (instruction_of (Skip n)) → n % 2 ≡ 0 → (pc + 4 + n + 0) % 0x10000 ≡ pc'
+      → StandsFor z pc w t → Runs z.code [] 3 t (StandsFor z pc' w)
+  skip_to n pc pc' w t h ev to i =
+      let sum = sum_of Word (t.pc + 4) n false in
+      hop z (Skip n) 3 t (record t { pc = sum.0; flags = sum.1 }) [] 3 _ (ap z.code i.at ∙ h) ev refl (omega arith)
+      (stands_elsewhere z pc pc' w t _ i (ap (λ p. (p + 4 + n + 0) % 0x10000) i.at ∙ to) refl refl refl refl refl)
 
   -- the same with a register that matters
   pub jump_has : (k : Condition) (o pc pc' : ℕ) (b : Bool) (r : WorkRegister) (v : ℕ) (w : WordState) (t : Core) → z.code pc ≡ Some (instruction_of (Jump k o))
@@ -161,6 +175,6 @@ module _ (z : Setting) where
       hop z (Jump k o) 2 t (record t { pc = if is_met k t.flags then sum16 (t.pc + 2) (distance o) else t.pc + 2 }) [] 2 _ (ap z.code i.is.at ∙ h) tt refl
       (omega arith)
       (record {
-        is = stands_elsewhere z pc pc' w t _ i.is (ap₂ (λ x p. if x then sum16 (p + 2) (distance o) else p + 2) e i.is.at ∙ to) refl refl refl refl;
+        is = stands_elsewhere z pc pc' w t _ i.is (ap₂ (λ x p. if x then sum16 (p + 2) (distance o) else p + 2) e i.is.at ∙ to) refl refl refl refl refl;
         value = i.value;
       })

@@ -150,14 +150,14 @@ module _ (z : Setting) where
       → Runs z.code [] 1 t (HasIn (pc + 2) w (double y))
   double_step pc y w t h i =
       let ms = Calculate op.Add (Register R4) R4 ∷ [] in
-      middle z ms 1 pc (pc + 2) (double y) R4 w t (end_of t (forms_run ms t).status) i.is (tt, tt) (h, tt) ((tt, tt), tt) refl (omega (arith, i.is.at)) refl
+      middle z ms 1 pc (pc + 2) (double y) R4 w t (end_of t (forms_run ms t).status) i.is (tt, tt) (h, tt) ((tt, tt), tt) refl (omega (arith, i.is.at)) refl refl
       refl refl refl (ap (λ v. (v + v + 0) % 0x10000) i.value ∙ omega arith)
 
   halve_step : (pc y : ℕ) (w : WordState) (t : Core) → z.code pc ≡ Some (instruction_of (Modify change.Rra R4)) → HasIn pc w y t
       → Runs z.code [] 1 t (HasIn (pc + 2) w (half_signed y))
   halve_step pc y w t h i =
       let ms = Modify change.Rra R4 ∷ [] in
-      middle z ms 1 pc (pc + 2) (half_signed y) R4 w t (end_of t (forms_run ms t).status) i.is (tt, tt) (h, tt) (tt, tt) refl (omega (arith, i.is.at)) refl
+      middle z ms 1 pc (pc + 2) (half_signed y) R4 w t (end_of t (forms_run ms t).status) i.is (tt, tt) (h, tt) (tt, tt) refl (omega (arith, i.is.at)) refl refl
       refl refl refl (ap half_signed i.value)
 
   doubles : (k pc y : ℕ) (w : WordState) (t : Core) → Stands z.code pc (repeated k (Calculate op.Add (Register R4) R4)) → HasIn pc w y t
@@ -194,22 +194,22 @@ module _ (z : Setting) where
 
   up_first : Turns up_head 3 (λ v. (v * 256) % 0x10000)
   up_first pc y w t s h i = middle z up_head 3 pc (pc + 6) _ R4 w t (end_of t (forms_run up_head t).status) i.is (tt, (tt, tt)) h (tt, ((tt, tt), tt)) refl
-      (omega (arith, i.is.at)) refl refl refl refl (ap (λ v. bit_and (swap v) 0xFF00) i.value ∙ high_byte y s)
+      (omega (arith, i.is.at)) refl refl refl refl refl (ap (λ v. bit_and (swap v) 0xFF00) i.value ∙ high_byte y s)
 
   down_first : Turns down_head 3 (λ v. v / 256)
   down_first pc y w t s h i = middle z down_head 3 pc (pc + 6) _ R4 w t (end_of t (forms_run down_head t).status) i.is (tt, (tt, tt)) h (tt, ((tt, tt), tt))
-      refl (omega (arith, i.is.at)) refl refl refl refl (ap (λ v. bit_and (swap v) 0xFF) i.value ∙ low_byte y s)
+      refl (omega (arith, i.is.at)) refl refl refl refl refl (ap (λ v. bit_and (swap v) 0xFF) i.value ∙ low_byte y s)
 
   sign_first : Turns sign_head 2 (λ v. sign (swap v))
   sign_first pc y w t s h i = middle z sign_head 2 pc (pc + 4) _ R4 w t (end_of t (forms_run sign_head t).status) i.is (tt, (tt, tt)) h (tt, (tt, tt)) refl
-      (omega (arith, i.is.at)) refl refl refl refl (ap (λ v. sign (swap v)) i.value)
+      (omega (arith, i.is.at)) refl refl refl refl refl (ap (λ v. sign (swap v)) i.value)
 
   no_bits : (v : ℕ) → v / 2 + 0x8000 * bit (not (bit_and v 0 == 0)) ≡ v / 2
   no_bits v = let e : bit_and v 0 ≡ 0 = let l = and_le_r v 0 in omega arith in ap (λ n. v / 2 + 0x8000 * bit (not (n == 0))) e ∙ omega arith
 
   one_first : Turns one_down 2 (λ v. v / 2)
   one_first pc y w t s h i = middle z one_down 2 pc (pc + 4) _ R4 w t (end_of t (forms_run one_down t).status) i.is (tt, (tt, tt)) h ((tt, tt), (tt, tt))
-      refl (omega (arith, i.is.at)) refl refl refl refl (ap (λ v. v / 2 + 0x8000 * bit (not (bit_and v 0 == 0))) i.value ∙ no_bits y)
+      refl (omega (arith, i.is.at)) refl refl refl refl refl (ap (λ v. v / 2 + 0x8000 * bit (not (bit_and v 0 == 0))) i.value ∙ no_bits y)
 
   as_value : (ms : List Form) (f g : ℕ → ℕ) → ((y : ℕ) → y < 0x10000 → f y ≡ g y) → Turns ms 10 f → Turns ms 10 g
   as_value ms f g e a pc y w t s h i = subst (λ v. Runs z.code [] 10 t (HasIn (pc + forms_bytes ms) w v)) (e y s) (a pc y w t s h i)
@@ -256,7 +256,7 @@ module _ (z : Setting) where
   middle_turns false d k e pc y w t s h i =
       let ms = Move (Constant konst.Zero) (ToRegister R4) ∷ [] in
       dearer z [] 1 10 t _ (omega arith) (middle z ms 1 pc (pc + 2) 0 R4 w t (end_of t (forms_run ms t).status) i.is (tt, tt) h ((tt, tt), tt) refl
-      (omega (arith, i.is.at)) refl refl refl refl refl)
+      (omega (arith, i.is.at)) refl refl refl refl refl refl)
 
   pub shift_part : (d : ShiftOperation) (k pc : ℕ) (w : WordState) (u : Core) (vs : List ℕ) → w.stack ≡ vs → AllByRecursion (λ v. v < 0x10000) vs
       → Stands z.code pc (shift_code (shift_middle d k)) → StandsFor z pc w u

@@ -11,7 +11,7 @@ use Rattle.array_versions.specs.declared.operations.Comparison.{Comparison}
 use Rattle.array_versions.specs.declared.operations.Comparison.TheVariants.{Equal, Below, Above, SignedBelow, SignedAbove, CommonBit}
 use Rattle.array_versions.specs.Operations.{compare_words}
 use Rattle.codegen.specs.Code.{holding, failing}
-use Rattle.codegen.proofs.Registers.{no_borrow}
+use Rattle.codegen.proofs.Registers.{no_borrow, equal_flag}
 
 -- the flags of one word less another
 abbrev pub difference_flags : ℕ → ℕ → Flags
@@ -28,9 +28,6 @@ compared_flags CommonBit x y = (and_of Word x y).1
 
 not_le : (x y : ℕ) → not (nat_le y x) ≡ nat_lt x y
 not_le x y = grind (arith, nat_tests)
-
-no_difference : (x y : ℕ) → x < 0x10000 → y < 0x10000 → ((x + (0xFFFF - y) + 1) % 0x10000 == 0) ≡ (x == y)
-no_difference x y h k = grind (arith, nat_tests)
 
 -- as unsigned words
 below_flags : (x y : ℕ) → x < 0x10000 → y < 0x10000 → not (nat_le 0x10000 (x + (0xFFFF - y) + 1)) ≡ nat_lt x y
@@ -65,7 +62,7 @@ signed_flags x y h k =
 
 -- one condition is met where the comparison holds
 pub compare_met : (c : Comparison) (x y : ℕ) → x < 0x10000 → y < 0x10000 → is_met (holding c) (compared_flags c x y) ≡ compare_words c x y
-compare_met Equal x y h k = no_difference x y h k
+compare_met Equal x y h k = equal_flag x y h k
 compare_met Below x y h k = below_flags x y h k
 compare_met Above x y h k = below_flags y x k h
 compare_met SignedBelow x y h k = signed_flags x y h k
@@ -80,7 +77,3 @@ failing_met Above f = sym (not-not f.c)
 failing_met SignedBelow f = sym (not-not (same f.n f.v))
 failing_met SignedAbove f = sym (not-not (same f.n f.v))
 failing_met CommonBit f = sym (not-not f.z)
-
--- a word is 0 where it less 0 is
-pub zero_is : (v : ℕ) → v < 0x10000 → ((v + 65535 + 1) % 65536 == 0) ≡ (v == 0)
-zero_is v h = grind (arith, nat_tests)

@@ -22,10 +22,10 @@ use Rattle.codegen.specs.Code.{push_from, read_code, first_code, write_code}
 use Rattle.codegen.proofs.Stretches.{Setting, straight, runs_on, dearer}
 use Rattle.codegen.proofs.Memory.{place_is}
 use Rattle.codegen.proofs.Follows.{StandsFor, Follows, then_end, guarded, stands_elsewhere, memory_as}
-use Rattle.codegen.proofs.Registers.{Has, HasTwo, pop_part, pop_two, push_result, middle, jump_to, jump_has, no_borrow}
+use Rattle.codegen.proofs.Registers.{equal_flag, Has, HasTwo, pop_part, pop_two, push_result, middle, jump_to, jump_has, no_borrow}
 use Rattle.codegen.proofs.Products.{jump_exact}
 use Rattle.codegen.proofs.Access.{compare_part, le_of_lt}
-use Rattle.codegen.proofs.ListParts.{equal_flag, first_follows}
+use Rattle.codegen.proofs.ListParts.{first_follows}
 
 twice : (n base : ℕ) → 2 * n + base < 0x10000 → (n + n + 0) % 0x10000 ≡ 2 * n
 twice n base h = omega arith
@@ -49,7 +49,7 @@ module _ (z : Setting) where
       straight z ms 7 t (end_of t (forms_run ms t).status) [] 7 _ (tt, (tt, (tt, tt))) (stands_at z.code pc ms t h k.is.at)
       ((tt, tt), ((f, tt), ((tt, subst (λ v. IsFram (v + place.versions)) (sym d) g), tt))) refl (omega arith)
       (record {
-        has = record { is = stands_elsewhere z pc (pc + 10) w t _ k.is (omega (arith, k.is.at)) refl refl refl refl; value = d };
+        has = record { is = stands_elsewhere z pc (pc + 10) w t _ k.is (omega (arith, k.is.at)) refl refl refl refl refl; value = d };
         flag = ap₂ (λ x y. (x + (0xFFFF - y) + 1) % 0x10000 == 0) (ap (λ q. q list.ver) k.is.fram)
             (ap (λ v. t.fram (v + place.versions)) d ∙ ap (λ q. q (2 * i + place.versions)) k.is.fram)
             ∙ equal_flag (w.fram list.ver) (w.fram (2 * i + place.versions)) (l list.ver) (l (2 * i + place.versions));
@@ -76,7 +76,7 @@ module _ (z : Setting) where
         let e : pc + 34 + 2 ≡ pc + 36 = omega arith in
         subst (λ n. Runs z.code [] 8 t (StandsFor z n (pushed (w.fram (2 * i + base)) w))) e
         (runs_on z 3 5 t _ _ [] [] (middle z ms 3 from (from + 4) (w.fram (2 * i + base)) R4 w t (end_of t (forms_run ms t).status) k.is (tt, tt) (a, tt)
-        ((subst (λ v. IsFram (v + base)) (sym k.value) f, tt), tt) refl (omega (arith, k.is.at)) refl refl refl refl
+        ((subst (λ v. IsFram (v + base)) (sym k.value) f, tt), tt) refl (omega (arith, k.is.at)) refl refl refl refl refl
         (ap (λ v. t.fram (v + base)) k.value ∙ ap (λ q. q (2 * i + base)) k.is.fram)) (λ u j.
         runs_on z 2 3 u _ _ [] [] (jump_has z condition.Always o (from + 4) (pc + 34) true R4 (w.fram (2 * i + base)) w u b refl d j) (λ u j.
         push_result z R4 (pc + 34) (w.fram (2 * i + base)) w u s at34 j)))
@@ -125,10 +125,10 @@ module _ (z : Setting) where
         (runs_on z 2 8 u _ _ [] [] (pop_part z pc i rest w u e h.0 k) (λ t j.
         runs_on z 2 6 t _ _ [] [] (compare_part z (pc + 2) i place.length x t r l h.1.0 j) (λ t j.
         runs_on z 2 4 t _ _ [] [] (jump_has z condition.Carry 12 (pc + 6) (pc + 32) true R4 i x t at6 (j.flag ∙ le_of_lt z i place.length false lt) to
-        (record { is = stands_elsewhere z (pc + 2 + 4) (pc + 6) x t t j.has.is (omega (arith, j.has.is.at)) refl refl refl refl; value = j.has.value }))
+        (record { is = stands_elsewhere z (pc + 2 + 4) (pc + 6) x t t j.has.is (omega (arith, j.has.is.at)) refl refl refl refl refl; value = j.has.value }))
         (λ t j.
         runs_on z 1 3 t _ _ [] [] (middle z zeroed 1 (pc + 32) (pc + 34) 0 R4 x t (end_of t (forms_run zeroed t).status) j.is (tt, tt) at32 ((tt, tt), tt) refl
-        (omega (arith, j.is.at)) refl refl refl refl refl) (λ t j.
+        (omega (arith, j.is.at)) refl refl refl refl refl refl) (λ t j.
         push_result z R4 (pc + 34) 0 x t (omega (arith, m.fits)) at34 j))))))
     read_by true i rest w u wl lt r e k =
         let x = with_stack rest w in
@@ -142,7 +142,7 @@ module _ (z : Setting) where
         (runs_on z 2 4 u _ _ [] [] (pop_part z pc i rest w u e h.0 k) (λ t j.
         runs_on z 2 2 t _ _ [] [] (compare_part z (pc + 2) i place.length x t r l h.1.0 j) (λ t j.
         jump_has z condition.Carry 12 (pc + 6) (pc + 8) false R4 i x t at6 (j.flag ∙ le_of_lt z i place.length true lt) (omega arith)
-        (record { is = stands_elsewhere z (pc + 2 + 4) (pc + 6) x t t j.has.is (omega (arith, j.has.is.at)) refl refl refl refl; value = j.has.value }))))
+        (record { is = stands_elsewhere z (pc + 2 + 4) (pc + 6) x t t j.has.is (omega (arith, j.has.is.at)) refl refl refl refl refl; value = j.has.value }))))
         (λ t j. subst (λ n. Runs z.code [] 7 t (Marked n x i same)) e18
         (mark_part place list (pc + 8) i x t wl (place_is list.ver g1) (place_is (2 * i + place.versions) g2) marks j)) in
         then_end z (pc + 36) 13 10 u (Marked (pc + 18) x i same) [] _ _ head
@@ -208,7 +208,7 @@ module _ (z : Setting) where
       let ms = Calculate op.Cmp (Number size) R4 ∷ [] in
       straight z ms 2 t (end_of t (forms_run ms t).status) [] 2 _ (tt, tt) (stands_at z.code pc ms t (h, tt) k.is.at) ((tt, tt), tt) refl (omega arith)
       (record {
-        two = record { is = stands_elsewhere z pc (pc + 4) w t _ k.is (omega (arith, k.is.at)) refl refl refl refl; four = k.four; five = k.five };
+        two = record { is = stands_elsewhere z pc (pc + 4) w t _ k.is (omega (arith, k.is.at)) refl refl refl refl refl; four = k.four; five = k.five };
         flag = ap (λ q. nat_le 0x10000 (q + (0xFFFF - size) + 1)) k.four ∙ no_borrow i size a b;
       })
 
@@ -261,7 +261,7 @@ module _ (z : Setting) where
         then_end z (pc + 26 + 92) 2 58 u (Copied (pc + 26) y i (y.fram list.ver) false) [] (first_stored place list i y).effects
         (first_stored place list i y).end
         (jump_exact z condition.Equal 46 (pc + 26) false u _ (ap z.code p24 ∙ at24) (k.flag ∙ e) (omega (arith, p24))
-        (record { is = stands_elsewhere z (pc + 10 + 14) (pc + 26) y u _ k.is refl refl refl refl refl; four = k.four; six = k.six; flag = k.flag ∙ e }))
+        (record { is = stands_elsewhere z (pc + 10 + 14) (pc + 26) y u _ k.is refl refl refl refl refl refl; four = k.four; six = k.six; flag = k.flag ∙ e }))
         (λ u' k'. first_follows z place list (pc + 26) behind i y u' yl fc fm k'.is k'.four k'.six)))
 
     write_by : (b : Bool) (i v : ℕ) (rest : List ℕ) (w : WordState) (u : Core) → ((a : ℕ) → w.fram a < 0x10000)
@@ -289,7 +289,7 @@ module _ (z : Setting) where
         runs_on z 2 2 t _ _ [] [] (compare_two (pc + 4) i v place.length x t r l at4 j) (λ t q.
         let p8 : t.pc ≡ pc + 8 = q.two.is.at ∙ e8 in
         jump_exact z condition.Carry 54 (pc + 10) false t _ (ap z.code p8 ∙ at8) (q.flag ∙ le_of_lt z i place.length true lt) (omega (arith, p8))
-        (record { is = stands_elsewhere z (pc + 4 + 4) (pc + 10) x t _ q.two.is refl refl refl refl refl; four = q.two.four; five = q.two.five }))))
+        (record { is = stands_elsewhere z (pc + 4 + 4) (pc + 10) x t _ q.two.is refl refl refl refl refl refl; four = q.two.four; five = q.two.five }))))
         (λ t j. own_stored_part (y.fram list.ver == y.fram (2 * i + place.versions)) i v x t wl s (place_is c g1) (place_is list.ver g2)
         (place_is (2 * i + place.versions) g3) refl j))))
 

@@ -1,5 +1,6 @@
--- The code of a word program: the stack is at SP, its top first; a local stands in RAM; R4 to R7 are for work.
-use Rattle.std.specs.Prelude.{ℕ, zero, suc, ◌+◌, ◌-◌, ◌*◌, Bool, true, false, not, List, [], ◌∷◌, ◌++◌, ◌==◌, if◌then◌else◌, nat_le, nat_lt}
+-- The code of a word program, which does the same wherever it stands: the stack is at SP, its top first; the locals stand in R8 to R15 and, from the
+-- ninth on, in RAM; R4 to R7 are for work.
+use Rattle.std.specs.Prelude.{ℕ, zero, suc, ◌+◌, ◌-◌, ◌*◌, ◌/◌, Bool, true, false, not, List, [], ◌∷◌, ◌++◌, get_or, ◌==◌, if◌then◌else◌, nat_le, nat_lt}
 use Rattle.msp_isa.specs.declared.instructions.TwoOp.{TwoOp}
 use Rattle.msp_isa.specs.declared.instructions.TwoOp.TheVariants as op
 use Rattle.msp_isa.specs.declared.registers.SourceRegister.TheVariants as source_register
@@ -11,8 +12,10 @@ use Rattle.msp_isa.specs.declared.instructions.Condition.TheVariants as conditio
 use Rattle.array_versions.specs.msp_step.declared.effect.Modification.TheVariants as change
 use Rattle.msp_isa.specs.alp_words.Words.{word_sum}
 use Rattle.code_forms.specs.Forms as forms
-use Rattle.code_forms.specs.Forms.{WorkRegister, R4, R5, R6, R7, Register, Number, Constant, Fram, Ram, Indexed, Popped, ToRegister, ToFram, ToRam}
-use Rattle.code_forms.specs.Forms.{ToIndexed, Source, Form, Move, Calculate, Update, Push, Modify, Jump, Branch}
+use Rattle.code_forms.specs.Forms.{WorkRegister, R4, R5, R6, R7, R8, R9, R10, R11, R12, R13, R14, R15, Register, Number, Constant, Fram, Ram, Indexed}
+use Rattle.code_forms.specs.Forms.{Popped, Source, ToRegister, ToFram, ToRam, ToIndexed, Target, Form, Move, Calculate, Update, Push, Modify, Jump, Skip}
+use Rattle.code_forms.specs.Forms.{Branch}
+use Rattle.code_forms.specs.Code.{forms_bytes}
 use Rattle.array_versions.specs.declared.operations.UnaryOperation.{UnaryOperation}
 use Rattle.array_versions.specs.declared.operations.UnaryOperation.TheVariants.{Negate, Complement}
 use Rattle.array_versions.specs.declared.operations.BinaryOperation.{BinaryOperation}
@@ -31,11 +34,26 @@ use Rattle.array_versions.specs.Program.{list_entry}
 use Rattle.array_versions.specs.Program.{versioned_read, versioned_write, sense, truth, choose, repeat, store_number, move_word, jump, holds}
 use Rattle.array_versions.specs.Program.{compares}
 use Rattle.array_versions.specs.Program.{both, either, fails, nothing, step}
-use Rattle.array_versions.specs.Cost.{step_words, test_words, words_of}
 
--- where a local stands
+-- the registers of the first eight locals
+abbrev pub local_registers : List WorkRegister
+local_registers = R8 ∷ R9 ∷ R10 ∷ R11 ∷ R12 ∷ R13 ∷ R14 ∷ R15 ∷ []
+
+-- the register of a local below 8
+abbrev pub local_register : ℕ → WorkRegister
+local_register n = get_or local_registers n R15
+
+-- where any other local stands in RAM
 abbrev pub local_address : ℕ → ℕ
 local_address n = 0x1C20 + 2 * n
+
+-- a local as a source
+abbrev pub local_source : ℕ → Source
+local_source n = if nat_lt n 8 then Register (local_register n) else Ram (local_address n)
+
+-- and as what MOV writes
+abbrev pub local_target : ℕ → Target
+local_target n = if nat_lt n 8 then ToRegister (local_register n) else ToRam (local_address n)
 
 -- the top of the stack to a register
 abbrev pub pop_to : WorkRegister → Form
@@ -97,11 +115,15 @@ binary_result _ = R4
 abbrev pub binary_code : List Form → WorkRegister → List Form
 binary_code middle b = pop_to R5 ∷ pop_to R4 ∷ (middle ++ push_from b ∷ [])
 
--- a local becomes what an operation gives of it and of the top
+-- a local becomes what an operation gives of it and of the top; one in RAM goes through R4
 abbrev pub update_code : PlainOperation → ℕ → List Form
 update_code o n =
-    pop_to R5 ∷ Move (Ram (local_address n)) (ToRegister R4) ∷ Calculate (plain_instruction o) (Register R5) R4
-    ∷ Move (Register R4) (ToRam (local_address n)) ∷ []
+    if nat_lt n 8 then Calculate (plain_instruction o) Popped (local_register n) ∷ []
+    else
+      (
+        pop_to R5 ∷ Move (Ram (local_address n)) (ToRegister R4) ∷ Calculate (plain_instruction o) (Register R5) R4
+        ∷ Move (Register R4) (ToRam (local_address n)) ∷ []
+      )
 
 -- R4 as an operand
 abbrev pub in_r4 : Operand
@@ -255,84 +277,100 @@ failing SignedBelow = condition.GreaterOrEqual
 failing SignedAbove = condition.GreaterOrEqual
 failing CommonBit = condition.Equal
 
--- to one address where a condition is met, to another where the opposite one is, of six bytes. One of the two stands right behind; a
--- branch leads to the other, and a short jump over it, so that there is no limit in how far it goes. The flag says that the first is far
-abbrev pub decision : Bool → ℕ → ℕ → Condition → Condition → List Form
-decision true holds_at fails_at met opposite = Jump opposite 2 ∷ Branch holds_at ∷ []
-decision false holds_at fails_at met opposite = Jump met 2 ∷ Branch fails_at ∷ []
+-- the words of code
+abbrev pub size : List Form → ℕ
+size ms = forms_bytes ms / 2
 
--- whether the top isn't 0, of ten bytes
-abbrev pub holds_code : Bool → ℕ → ℕ → List Form
-holds_code far holds_at fails_at = pop_to R4 ∷ Calculate op.Cmp (Constant konst.Zero) R4 ∷ decision far holds_at fails_at condition.NotEqual condition.Equal
+-- over so many words behind it where a condition is met, else on; the opposite one is met where it isn't. A jump of one word reaches 511 words; any
+-- further PC is added to, and the opposite condition jumps over that
+abbrev pub jump_over : Condition → Condition → ℕ → List Form
+jump_over met opposite d = if nat_le d 511 then Jump met d ∷ [] else (Jump opposite 2 ∷ Skip (2 * d) ∷ [])
 
--- whether the two words on top compare so, of twelve bytes
-abbrev pub compares_code : Comparison → Bool → ℕ → ℕ → List Form
-compares_code c far holds_at fails_at = pop_to R5 ∷ pop_to R4 ∷ compare_form c ∷ decision far holds_at fails_at (holding c) (failing c)
+-- over so many words behind it in any case
+abbrev pub pass_over : ℕ → List Form
+pass_over d = if d == 0 then [] else if nat_le d 511 then Jump condition.Always d ∷ [] else (Skip (2 * d) ∷ [])
 
--- behind a test that begins right in front of it, of six bytes: 1 where it holds, and from the third word on 0 where it fails
+-- back over so many words in front of it where a condition is met, else on; the opposite one is met where it isn't
+abbrev pub jump_back : Condition → Condition → ℕ → List Form
+jump_back met opposite d = if nat_le d 511 then Jump met (1023 - d) ∷ [] else (Jump opposite 2 ∷ Skip (0xFFFA - 2 * d) ∷ [])
+
+-- over so many words where what the flags tell is as the flag says, else on: where it holds the one condition is met, and where it fails the other
+abbrev pub decision : Bool → ℕ → Condition → Condition → List Form
+decision true d met opposite = jump_over met opposite d
+decision false d met opposite = jump_over opposite met d
+
+-- by whether the top isn't 0
+abbrev pub holds_code : Bool → ℕ → List Form
+holds_code sense d = pop_to R4 ∷ Calculate op.Cmp (Constant konst.Zero) R4 ∷ decision sense d condition.NotEqual condition.Equal
+
+-- by whether the two words on top compare so
+abbrev pub compares_code : Comparison → Bool → ℕ → List Form
+compares_code c sense d = pop_to R5 ∷ pop_to R4 ∷ compare_form c ∷ decision sense d (holding c) (failing c)
+
+-- 1 is pushed, and from the third word on 0
 abbrev pub truth_code : List Form
 truth_code = Push (Constant konst.One) ∷ Jump condition.Always 1 ∷ Push (Constant konst.Zero) ∷ []
 
--- the test of a loop, of 14 bytes: a branch past the loop where the local isn't below the number
-abbrev pub loop_test : ℕ → ℕ → ℕ → List Form
-loop_test n below end =
-    Move (Ram (local_address n)) (ToRegister R4) ∷ Calculate op.Cmp (Number below) R4 ∷ Jump condition.NoCarry 2 ∷ Branch end ∷ []
+-- a local becomes a number
+abbrev pub number_code : ℕ → ℕ → List Form
+number_code n k = Move (Number k) (local_target n) ∷ []
 
--- the head of a loop, of 20 bytes: the local's first number, and the test
-abbrev pub loop_head : ℕ → ℕ → ℕ → ℕ → List Form
-loop_head n from below end = Move (Number from) (ToRam (local_address n)) ∷ loop_test n below end
+-- the end of a turn: the local goes up by one, and is compared with a number; one in RAM goes through R4
+abbrev pub turn_end : ℕ → ℕ → List Form
+turn_end n below =
+    if nat_lt n 8 then Calculate op.Add (Constant konst.One) (local_register n) ∷ Calculate op.Cmp (Number below) (local_register n) ∷ []
+    else
+      (
+        Move (Ram (local_address n)) (ToRegister R4) ∷ Calculate op.Add (Constant konst.One) R4 ∷ Move (Register R4) (ToRam (local_address n))
+        ∷ Calculate op.Cmp (Number below) R4 ∷ []
+      )
 
--- the end of a turn, of 14 bytes: the local goes up by one
-abbrev pub loop_step : ℕ → ℕ → List Form
-loop_step n top =
-    Move (Ram (local_address n)) (ToRegister R4) ∷ Calculate op.Add (Constant konst.One) R4 ∷ Move (Register R4) (ToRam (local_address n)) ∷ Branch top ∷ []
-
--- the head, the body, the end of a turn with a branch back to the test
-abbrev pub loop_code : ℕ → ℕ → ℕ → ℕ → ℕ → List Form → List Form
-loop_code top end n from below body = loop_head n from below end ++ (body ++ loop_step n top)
+-- turns of a body until the local has come to a number: there is one at least, since the local is looked at behind each
+abbrev pub turns_code : ℕ → ℕ → List Form → List Form
+turns_code n below body = let turn = body ++ turn_end n below in turn ++ jump_back condition.NotEqual condition.Equal (size turn)
 
 abbrev mutual
-  -- the code of a step that begins at an address
-  pub step_code : ℕ → Step → List Form
-  step_code at (number w) = Push (Number w) ∷ []
-  step_code at (load a) = Push (Fram a) ∷ []
-  step_code at (keep a) = Move Popped (ToFram a) ∷ []
-  step_code at (update o a) = Update (plain_instruction o) Popped a ∷ []
-  step_code at (local n) = Push (Ram (local_address n)) ∷ []
-  step_code at (set_local n) = Move Popped (ToRam (local_address n)) ∷ []
-  step_code at (update_local o n) = update_code o n
-  step_code at (unary operation) = unary_code (unary_middle operation)
-  step_code at (binary operation) = binary_code (binary_middle operation) (binary_result operation)
-  step_code at (shift operation k) = shift_code (shift_middle operation k)
-  step_code at (element base length) = element_code base length
-  step_code at (emit_word count buffer) = emit_code count buffer
-  step_code at (list_entry count list home copy words) = entry_code count list home copy words
-  step_code at (versioned_read place list) = read_code place list
-  step_code at (versioned_write place list) = write_code place list
-  step_code at sense = forms.Sense R4 ∷ push_from R4 ∷ []
-  step_code at (truth t) = let inside = at + 2 * test_words t in test_code at false inside (inside + 4) t ++ truth_code
-  step_code at (choose t taken otherwise) =
-      let inside = at + 2 * test_words t in
-      let other = inside + 2 * words_of taken + 4 in
-      test_code at false inside other t ++ (code_of inside taken ++ Branch (other + 2 * words_of otherwise) ∷ code_of other otherwise)
-  step_code at (repeat n from below body) =
-      loop_code (at + 6) (at + 34 + 2 * words_of body) n from below (code_of (at + 20) body)
-  step_code at (store_number a w) = Move (Number w) (ToFram a) ∷ []
-  step_code at (move_word from to) = Move (Fram from) (ToFram to) ∷ []
-  step_code at (jump to) = Branch to ∷ []
+  -- the code of a step
+  pub step_code : Step → List Form
+  step_code (number w) = Push (Number w) ∷ []
+  step_code (load a) = Push (Fram a) ∷ []
+  step_code (keep a) = Move Popped (ToFram a) ∷ []
+  step_code (update o a) = Update (plain_instruction o) Popped a ∷ []
+  step_code (local n) = Push (local_source n) ∷ []
+  step_code (set_local n) = Move Popped (local_target n) ∷ []
+  step_code (update_local o n) = update_code o n
+  step_code (unary operation) = unary_code (unary_middle operation)
+  step_code (binary operation) = binary_code (binary_middle operation) (binary_result operation)
+  step_code (shift operation k) = shift_code (shift_middle operation k)
+  step_code (element base length) = element_code base length
+  step_code (emit_word count buffer) = emit_code count buffer
+  step_code (list_entry count list home copy words) = entry_code count list home copy words
+  step_code (versioned_read place list) = read_code place list
+  step_code (versioned_write place list) = write_code place list
+  step_code sense = forms.Sense R4 ∷ push_from R4 ∷ []
+  step_code (truth t) = test_code t false 2 ++ truth_code
+  step_code (choose t taken otherwise) =
+      let other = code_of otherwise in
+      let first = code_of taken ++ pass_over (size other) in
+      test_code t false (size first) ++ (first ++ other)
+  step_code (repeat n from below body) = number_code n from ++ (if nat_lt from below then turns_code n below (code_of body) else [])
+  step_code (store_number a w) = Move (Number w) (ToFram a) ∷ []
+  step_code (move_word from to) = Move (Fram from) (ToFram to) ∷ []
+  step_code (jump to) = Branch to ∷ []
 
-  -- the code of a test that begins at an address. It comes to one address where the test holds, to another where it fails; one of the two
-  -- stands right behind it, and the flag says that it is the second
-  pub test_code : ℕ → Bool → ℕ → ℕ → Test → List Form
-  test_code at far holds_at fails_at (holds p) = code_of at p ++ holds_code far holds_at fails_at
-  test_code at far holds_at fails_at (compares c p) = code_of at p ++ compares_code c far holds_at fails_at
-  test_code at far holds_at fails_at (both t u) = let second = at + 2 * test_words t in test_code at false second fails_at t
-      ++ test_code second far holds_at fails_at u
-  test_code at far holds_at fails_at (either t u) = let second = at + 2 * test_words t in test_code at true holds_at second t
-      ++ test_code second far holds_at fails_at u
-  test_code at far holds_at fails_at (fails t) = test_code at (not far) fails_at holds_at t
+  -- the code of a test: it goes over so many words behind it where the test's truth is this one, else on
+  pub test_code : Test → Bool → ℕ → List Form
+  test_code (holds p) sense d = code_of p ++ holds_code sense d
+  test_code (compares c p) sense d = code_of p ++ compares_code c sense d
+  test_code (both t u) sense d =
+      let second = test_code u sense d in
+      test_code t false (size second + (if sense then 0 else d)) ++ second
+  test_code (either t u) sense d =
+      let second = test_code u sense d in
+      test_code t true (size second + (if sense then d else 0)) ++ second
+  test_code (fails t) sense d = test_code t (not sense) d
 
-  -- the code of a program that begins at an address
-  pub code_of : ℕ → Program → List Form
-  code_of at nothing = []
-  code_of at (step first more) = step_code at first ++ code_of (at + 2 * step_words first) more
+  -- the code of a program
+  pub code_of : Program → List Form
+  code_of nothing = []
+  code_of (step first more) = step_code first ++ code_of more

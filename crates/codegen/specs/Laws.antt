@@ -37,7 +37,7 @@ ComesTo code most u es Broken = ⊥
 
 -- code in which the code of a whole program stands does what the program does, within the cycles of the way that it takes
 abbrev pub CodeDoesAsProgram : Type 0
-CodeDoesAsProgram = (code : Code) (at : ℕ) (p : Program) (u : Core) → IsTidy code → Stands code at (code_of at p) → IsWhole p → OfWords p → IsEntry at u
+CodeDoesAsProgram = (code : Code) (at : ℕ) (p : Program) (u : Core) → IsTidy code → Stands code at (code_of p) → IsWhole p → OfWords p → IsEntry at u
     → let s = started u.fram u.readings_left in let b = behaviour p s in ComesTo code (spent p s) u b.effects b.end
 
 -- a stretch so far: its effects are a prefix of these, its cycles within so many
@@ -55,14 +55,14 @@ abbrev pub StarvingStaysWithin : Type 0
 StarvingStaysWithin = (code : Code) (es : List Effect) (most : ℕ) (u : Core) → Starves code es most u → (n : ℕ)
     → IsWithin most es (going (exec code) n (board_of u))
 
--- the code is as long as the program's words say, wherever it stands
+-- the code is at most as long as the program's words say
 abbrev pub CodeHasItsBytes : Type 0
-CodeHasItsBytes = (at : ℕ) (p : Program) → forms_bytes (code_of at p) ≡ 2 * words_of p
+CodeHasItsBytes = (p : Program) → forms_bytes (code_of p) ≤ 2 * words_of p
 
--- and encoded it has so many words
+-- and encoded it has at most so many words
 abbrev pub CodeHasItsWords : Type 0
-CodeHasItsWords = (at : ℕ) (p : Program) → length (instruction_words (instructions (code_of at p))) ≡ words_of p
+CodeHasItsWords = (p : Program) → length (instruction_words (instructions (code_of p))) ≤ words_of p
 
 -- each of its instructions has its words
 abbrev pub CodeIsInstructions : Type 0
-CodeIsInstructions = (at : ℕ) (p : Program) → AreInstructions (instructions (code_of at p))
+CodeIsInstructions = (p : Program) → AreInstructions (instructions (code_of p))
