@@ -31,7 +31,6 @@ use Rattle.array_versions.specs.Program.{compares}
 use Rattle.array_versions.specs.Program.{both, either, fails, nothing, step}
 use Rattle.array_versions.specs.View.{step_of, steps_of, test_of}
 use Rattle.array_versions.specs.Form.{StepLocalsBelow, TestLocalsBelow, LocalsBelow}
-use Rattle.array_versions.specs.Cost.{step_words}
 use Rattle.codegen.specs.Code.{pop_to, push_from, repeated, shift_code, step_code, code_of}
 
 -- ---- one level of a step and of a test
@@ -66,12 +65,12 @@ left_front xs i x l e =
     ap steps_of (drop-cons xs i x l) ∙ ap (λ y. steps_of (y ∷ drop (suc i) xs)) (sym e) ∙ ap (λ j. steps_of (x ∷ drop j xs)) (sym (add-one i))
 
 -- one more step of what is owed
-pub step_owed : (s : Step) (more : Program) (at : ℕ) (code new all : List Instr) → new ≡ code ++ instructions (step_code at s)
-    → code ++ instructions (code_of at (step s more)) ≡ all → new ++ instructions (code_of (at + 2 * step_words s) more) ≡ all
-step_owed s more at code new all e h =
-    let rest = code_of (at + 2 * step_words s) more in
-    ap (λ l. l ++ instructions rest) e ∙ append_assoc code (instructions (step_code at s)) (instructions rest)
-    ∙ ap (λ l. code ++ l) (sym (instructions-append (step_code at s) rest)) ∙ h
+pub step_owed : (s : Step) (more : Program) (code new all : List Instr) → new ≡ code ++ instructions (step_code s)
+    → code ++ instructions (code_of (step s more)) ≡ all → new ++ instructions (code_of more) ≡ all
+step_owed s more code new all e h =
+    let rest = code_of more in
+    ap (λ l. l ++ instructions rest) e ∙ append_assoc code (instructions (step_code s)) (instructions rest)
+    ∙ ap (λ l. code ++ l) (sym (instructions-append (step_code s) rest)) ∙ h
 
 -- one more form of what is owed
 pub form_owed : (m : Form) (i : Instr) (n k : ℕ) (code new all : List Instr) → i ≡ instruction_of m → k < n → new ≡ code ++ i ∷ []

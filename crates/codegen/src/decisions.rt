@@ -1,12 +1,13 @@
-//! Where a test goes on.
+//! Where code goes on.
 
-ghost use Rattle.std.specs.Prelude.{◌≡◌, ◌++◌, OnOk};
+ghost use Rattle.std.specs.Prelude.{◌≡◌, ◌≤◌, ◌*◌, ◌++◌, OnOk, length};
 ghost use Rattle.code_forms.specs.Forms as form;
-ghost use Rattle.code_forms.specs.Placed.{instructions};
-ghost use Rattle.codegen.specs.Code.{compare_form, holding, failing, decision, holds_code, compares_code};
+ghost use Rattle.code_forms.specs.Placed.{instructions, words_of as instruction_words};
+ghost use Rattle.codegen.specs.Code.{compare_form, holding, failing, jump_over, pass_over, jump_back, decision, holds_code, compares_code};
 
-use crate::forms::{POPPED, R4, R5, TO_R4, TO_R5, branch, constant, jump, two};
+use crate::forms::{POPPED, R4, R5, TO_R4, TO_R5, constant, jump, skip, two};
 use array_versions::Comparison;
+use msp_encode::encode;
 use msp_isa::{Condition, Instr, Konst, TwoOp};
 use std::alloc::AllocError;
 
@@ -47,69 +48,112 @@ fn failing(comparison: Comparison) -> Condition
     }
 }
 
-// To one address where a condition is met, to another where the opposite one is. One of them stands right behind: where the
-// flag is set, the second.
+/// The words of code, of fewer than 8000.
+pub fn code_words(code: &[Instr]) -> u16
+    requires { length (instruction_words code.now) ≤ 0x7FFF }
+    ensures { result ≡ length (instruction_words code.now) }
+{
+    let mut words = 0;
+    for instruction in code {
+        words += encode(instruction).len() as u16;
+    }
+    words
+}
+
+// Over so many words where a condition is met, else on; the opposite one is met where it isn't.
+fn emit_jump_over(
+    met: Condition,
+    opposite: Condition,
+    over: u16,
+    code: &mut Vec<Instr>,
+) -> Result<(), AllocError>
+    requires { 2 * over ≤ 0xFFFE }
+    ensures { OnOk result (code.new.items ≡ code.old.items ++ instructions (jump_over met opposite over)) }
+{
+    if over <= 511 {
+        code.extend_from_slice(&[jump(met, over)])
+    } else {
+        code.extend_from_slice(&[jump(opposite, 2), skip(2 * over)])
+    }
+}
+
+/// Appends the code that goes over so many words.
+pub fn emit_pass_over(over: u16, code: &mut Vec<Instr>) -> Result<(), AllocError>
+    requires { 2 * over ≤ 0xFFFE }
+    ensures { OnOk result (code.new.items ≡ code.old.items ++ instructions (pass_over over)) }
+{
+    if over == 0 {
+        return Ok(());
+    }
+    if over <= 511 {
+        code.extend_from_slice(&[jump(Condition::Always, over)])
+    } else {
+        code.extend_from_slice(&[skip(2 * over)])
+    }
+}
+
+/// Appends the code that goes back over so many words in front of it where a condition is met, else on; the opposite one is met
+/// where it isn't.
+pub fn emit_jump_back(
+    met: Condition,
+    opposite: Condition,
+    over: u16,
+    code: &mut Vec<Instr>,
+) -> Result<(), AllocError>
+    requires { 2 * over ≤ 0xFFFA }
+    ensures { OnOk result (code.new.items ≡ code.old.items ++ instructions (jump_back met opposite over)) }
+{
+    if over <= 511 {
+        code.extend_from_slice(&[jump(met, 1023 - over)])
+    } else {
+        code.extend_from_slice(&[jump(opposite, 2), skip(0xfffa - 2 * over)])
+    }
+}
+
+// Over so many words where what the flags tell is as the flag says, else on.
 fn emit_decision(
-    far: bool,
-    holds_at: u16,
-    fails_at: u16,
+    sense: bool,
+    over: u16,
     met: Condition,
     opposite: Condition,
     code: &mut Vec<Instr>,
 ) -> Result<(), AllocError>
-    ensures { OnOk result (code.new.items ≡ code.old.items ++ instructions (decision far holds_at fails_at met opposite)) }
+    requires { 2 * over ≤ 0xFFFE }
+    ensures { OnOk result (code.new.items ≡ code.old.items ++ instructions (decision sense over met opposite)) }
 {
-    if far {
-        code.extend_from_slice(&[jump(opposite, 2), branch(holds_at)])
+    if sense {
+        emit_jump_over(met, opposite, over, code)
     } else {
-        code.extend_from_slice(&[jump(met, 2), branch(fails_at)])
+        emit_jump_over(opposite, met, over, code)
     }
 }
 
-/// Appends the code that pops a word and decides by whether it isn't 0.
-pub fn emit_holds(
-    far: bool,
-    holds_at: u16,
-    fails_at: u16,
-    code: &mut Vec<Instr>,
-) -> Result<(), AllocError>
-    ensures { OnOk result (code.new.items ≡ code.old.items ++ instructions (holds_code far holds_at fails_at)) }
+/// Appends the code that pops a word and goes over so many words by whether it isn't 0.
+pub fn emit_holds(sense: bool, over: u16, code: &mut Vec<Instr>) -> Result<(), AllocError>
+    requires { 2 * over ≤ 0xFFFE }
+    ensures { OnOk result (code.new.items ≡ code.old.items ++ instructions (holds_code sense over)) }
 {
     code.extend_from_slice(&[
         two(TwoOp::Mov, POPPED, TO_R4),
         two(TwoOp::Cmp, constant(Konst::Zero), TO_R4),
     ])?;
-    emit_decision(
-        far,
-        holds_at,
-        fails_at,
-        Condition::NotEqual,
-        Condition::Equal,
-        code,
-    )
+    emit_decision(sense, over, Condition::NotEqual, Condition::Equal, code)
 }
 
-/// Appends the code that pops two words and decides by a comparison.
+/// Appends the code that pops two words and goes over so many words by how they compare.
 pub fn emit_compares(
     comparison: Comparison,
-    far: bool,
-    holds_at: u16,
-    fails_at: u16,
+    sense: bool,
+    over: u16,
     code: &mut Vec<Instr>,
 ) -> Result<(), AllocError>
-    ensures { OnOk result (code.new.items ≡ code.old.items ++ instructions (compares_code comparison far holds_at fails_at)) }
+    requires { 2 * over ≤ 0xFFFE }
+    ensures { OnOk result (code.new.items ≡ code.old.items ++ instructions (compares_code comparison sense over)) }
 {
     code.extend_from_slice(&[
         two(TwoOp::Mov, POPPED, TO_R5),
         two(TwoOp::Mov, POPPED, TO_R4),
         compare(comparison),
     ])?;
-    emit_decision(
-        far,
-        holds_at,
-        fails_at,
-        holding(comparison),
-        failing(comparison),
-        code,
-    )
+    emit_decision(sense, over, holding(comparison), failing(comparison), code)
 }

@@ -5,9 +5,9 @@ ghost use Rattle.msp_isa.specs.alp_words.declared.Width.TheVariants.{Word};
 ghost use Rattle.msp_isa.specs.declared.instructions.OneOp.TheVariants as OneOps;
 ghost use Rattle.msp_isa.specs.declared.operands.Src.TheVariants as Srcs;
 ghost use Rattle.msp_isa.specs.declared.operands.Operand.TheVariants as Operands;
-ghost use Rattle.code_forms.specs.Forms.{instruction_of};
+ghost use Rattle.code_forms.specs.Forms.{instruction_of, index_of, source_operand, target_operand};
 ghost use Rattle.code_forms.specs.Forms as form;
-ghost use Rattle.codegen.specs.Code.{local_address as address_of};
+ghost use Rattle.codegen.specs.Code as place;
 
 use msp_isa::{
     Condition, Dst, IndexRegister, Instr, Konst, Offset, OneOp, Operand, Reg, SourceRegister, Src,
@@ -83,10 +83,57 @@ pub fn branch(to: u16) -> Instr
     two(TwoOp::Mov, Src::Immediate(to), Dst::Reg(Reg::Pc))
 }
 
-/// Where a local stands in RAM.
+/// An addition to PC.
+pub fn skip(bytes: u16) -> Instr
+    ensures { result ≡ instruction_of (form.Skip bytes) }
+{
+    two(TwoOp::Add, Src::Immediate(bytes), Dst::Reg(Reg::Pc))
+}
+
+/// The register of a local below 8.
+pub fn local_register(n: u16) -> IndexRegister
+    ensures { result ≡ index_of (place.local_register n) }
+{
+    match n {
+        0 => IndexRegister::R8,
+        1 => IndexRegister::R9,
+        2 => IndexRegister::R10,
+        3 => IndexRegister::R11,
+        4 => IndexRegister::R12,
+        5 => IndexRegister::R13,
+        6 => IndexRegister::R14,
+        _ => IndexRegister::R15,
+    }
+}
+
+/// Where any other local stands in RAM.
 pub fn local_address(n: u16) -> u16
     requires { n < 1008 }
-    ensures { result ≡ address_of n }
+    ensures { result ≡ place.local_address n }
 {
     0x1c20 + 2 * n
+}
+
+/// A local as a source.
+pub fn local_source(n: u16) -> Src
+    requires { n < 1008 }
+    ensures { result ≡ source_operand (place.local_source n) }
+{
+    if n < 8 {
+        Src::Operand(Operand::Reg(SourceRegister::Index(local_register(n))))
+    } else {
+        absolute(local_address(n))
+    }
+}
+
+/// A local as what MOV writes.
+pub fn local_target(n: u16) -> Dst
+    requires { n < 1008 }
+    ensures { result ≡ target_operand (place.local_target n) }
+{
+    if n < 8 {
+        Dst::Reg(Reg::Index(local_register(n)))
+    } else {
+        Dst::Absolute(local_address(n))
+    }
 }

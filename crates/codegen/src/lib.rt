@@ -1,4 +1,4 @@
-//! Code for word programs: the instructions that do what a program does, on a stack and locals in RAM.
+//! Code for word programs: the instructions that do what a program does, on a stack in RAM, and locals in registers and RAM.
 #![tactic(auto)]
 
 mod decisions;

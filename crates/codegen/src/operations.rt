@@ -1,10 +1,9 @@
 //! The code of the operations.
 
-ghost use Rattle.std.specs.Prelude.{◌≡◌, ◌≤◌, ◌*◌, [], ◌∷◌, ◌++◌, OnOk};
+ghost use Rattle.std.specs.Prelude.{◌≡◌, [], ◌∷◌, ◌++◌, OnOk};
 ghost use Rattle.code_forms.specs.Forms as form;
 ghost use Rattle.code_forms.specs.Placed.{instructions};
 ghost use Rattle.array_versions.specs.declared.operations.BinaryOperation.TheVariants as binary_op;
-ghost use Rattle.array_versions.specs.Cost.{unary_words, binary_words};
 ghost use Rattle.codegen.specs.Code.{unary_code, unary_middle, binary_code, binary_middle, binary_result, divide_middle, push_from, pop_to, plain_instruction};
 ghost use Rattle.msp_isa.specs.alp_words.declared.Width.TheVariants.{Word};
 ghost use Rattle.msp_isa.specs.declared.instructions.OneOp.TheVariants as one_op;
@@ -128,26 +127,4 @@ pub fn emit_binary(operation: BinaryOperation, code: &mut Vec<Instr>) -> Result<
 {
     emit_pops(code)?;
     emit_middle(operation, code)
-}
-
-/// The bytes of the code of an operation on the top of the stack.
-pub fn unary_bytes(operation: UnaryOperation) -> u16
-    ensures value { result ≡ 2 * unary_words operation }
-    ensures low { result ≤ 8 }
-{
-    match operation {
-        UnaryOperation::Negate | UnaryOperation::Complement => 8,
-    }
-}
-
-/// The bytes of the code of an operation on two words.
-pub fn binary_bytes(operation: BinaryOperation) -> u16
-    ensures value { result ≡ 2 * binary_words operation }
-    ensures low { result ≤ 30 }
-{
-    match operation {
-        BinaryOperation::Plain(_) => 8,
-        BinaryOperation::Multiply => 22,
-        BinaryOperation::Divide | BinaryOperation::Remainder => 30,
-    }
 }

@@ -1,11 +1,9 @@
 //! The code of the shifts.
 
-ghost use Rattle.std.specs.Prelude.{◌≡◌, ◌≤◌, ◌*◌, [], ◌∷◌, ◌++◌, OnOk};
+ghost use Rattle.std.specs.Prelude.{◌≡◌, [], ◌∷◌, ◌++◌, OnOk};
 ghost use Rattle.code_forms.specs.Placed.{instructions};
 ghost use Rattle.msp_isa.specs.declared.instructions.OneOp.TheVariants as OneOps;
 ghost use Rattle.array_versions.specs.declared.operations.ShiftOperation.TheVariants as shift_op;
-ghost use Rattle.array_versions.specs.Program as value;
-ghost use Rattle.array_versions.specs.Cost.{shift_words, step_words};
 ghost use Rattle.codegen.specs.Code.{in_r4, repeated, double, halve, right_code, shift_by, shift_middle, shift_code};
 
 use crate::forms::{POPPED, R4, TO_R4, constant, push, two};
@@ -120,36 +118,4 @@ pub fn emit_shift(
     emit_shift_middle(operation, count, code)?;
     code.extend_from_slice(&[push(R4)])?;
     Ok(())
-}
-
-// The words that shift R4.
-fn middle_words(operation: ShiftOperation, count: u16) -> u16
-    requires { count ≤ 15 }
-    ensures value { result ≡ shift_words operation count }
-    ensures low { result ≤ 15 }
-{
-    match operation {
-        ShiftOperation::Left => { if count < 8 { count } else { 3 + (count - 8) } }
-        ShiftOperation::Right => {
-            if count == 0 {
-                0
-            } else if count < 8 {
-                2 + (count - 1)
-            } else {
-                3 + (count - 8)
-            }
-        }
-        ShiftOperation::SignedRight => { if count < 8 { count } else { 2 + (count - 8) } }
-    }
-}
-
-/// The bytes of the code of a shift.
-pub fn shift_bytes(operation: ShiftOperation, count: u16) -> u16
-    ensures value { result ≡ 2 * step_words (value.shift operation count) }
-    ensures low { result ≤ 34 }
-{
-    if count > 15 {
-        return 6;
-    }
-    4 + 2 * middle_words(operation, count)
 }

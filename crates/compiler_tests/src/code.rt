@@ -23,8 +23,7 @@ fn sample(alloc: Global) -> Result<WordProgram, AllocError>
 fn a_small_program_has_its_words(rt: HostRuntime) -> Result<(), AllocError> {
     let program = sample(rt.alloc())?;
     let mut code = Vec::new(rt.alloc());
-    let end = emit(rt.alloc(), &program, 0x4500, &mut code)?;
-    assert_eq!(rt; end, 0x450c);
+    emit(rt.alloc(), &program, &mut code)?;
     assert_eq!(rt; code.len(), 3);
     assert_eq!(rt; encode(&code[0]).as_slice(), [0x1230, 7].as_slice());
     assert_eq!(rt; encode(&code[1]).as_slice(), [0x41b2, 0x4410].as_slice());

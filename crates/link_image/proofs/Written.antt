@@ -11,17 +11,17 @@ use Rattle.linked_code.proofs.code_forms.Interface.{instructions-append}
 use Rattle.linked_code.proofs.runtime_code.Interface.{code_bytes}
 use Rattle.codegen.specs.array_versions.Program.{Program}
 use Rattle.codegen.specs.array_versions.View.{program_of}
-use Rattle.codegen.specs.array_versions.Form.{IsWhole}
-use Rattle.std.proofs.lemmas.List.Elements.{All-head, All-tail}
+use Rattle.std.proofs.lemmas.List.Elements.{All-nil, All-cons, All-head, All-tail}
 use Rattle.memory_map.specs.address_space.Limits.{reset_vector}
 use Rattle.codegen.specs.array_versions.declared.program.WordProgram.{WordProgram}
 use Rattle.codegen.specs.Code.{repeated}
 use Rattle.memory_map.specs.MemoryMap.{MemoryMap, TaskPlace}
-use Rattle.memory_map.specs.Places.{end_of}
-use Rattle.memory_map.proofs.Interface.{apart_of, even_of}
+use Rattle.memory_map.specs.Places.{end_of, AreInOrder}
+use Rattle.memory_map.proofs.Interface.{apart_of, even_of, in_order_end}
 use Rattle.linked_code.specs.Parts.{filler, CodePart, part_end, chained, PartsInOrder}
 use Rattle.linked_code.specs.Linked.{boot_part, commit_part, task_part, task_parts, linked, ProgramsFit, CodeFits}
 use Rattle.linked_code.proofs.Interface.{in_order}
+use Rattle.link_image.specs.Needs.{IsShort}
 
 -- the words of forms
 abbrev pub words_in : List Form → List ℕ
@@ -98,11 +98,22 @@ pub next_order : (ts : List TaskPlace) (ps : List WordProgram) (at k : ℕ) (t :
     → PartsInOrder at (task_part t (program_of p) ∷ task_parts (drop (k + 1) ts) (map program_of (drop (k + 1) ps))) reset_vector
 next_order ts ps at k t p l n a b o = subst (λ parts. PartsInOrder at parts reset_vector) (parts_more ts ps k t p l (omega (arith, l, n)) a b) o
 
-pub next_whole : (ps : List WordProgram) (k : ℕ) (p : WordProgram) → k < length ps → p ≡ get_or ps k p → All IsWhole (map program_of (drop k ps))
-    → IsWhole (program_of p) × All IsWhole (map program_of (drop (k + 1) ps))
-next_whole ps k p l a h =
-    let there = subst (All IsWhole) (at_drop_more (λ xs. map program_of xs) ps k p l ∙ ap (λ x. map program_of (x ∷ drop (k + 1) ps)) (sym a)) h in
-    (All-head IsWhole (program_of p) (map program_of (drop (k + 1) ps)) there, All-tail IsWhole (program_of p) (map program_of (drop (k + 1) ps)) there)
+pub next_each : (P : Program → Type 0) (ps : List WordProgram) (k : ℕ) (p : WordProgram) → k < length ps → p ≡ get_or ps k p
+    → All P (map program_of (drop k ps)) → P (program_of p) × All P (map program_of (drop (k + 1) ps))
+next_each P ps k p l a h =
+    let there = subst (All P) (at_drop_more (λ xs. map program_of xs) ps k p l ∙ ap (λ x. map program_of (x ∷ drop (k + 1) ps)) (sym a)) h in
+    (All-head P (program_of p) (map program_of (drop (k + 1) ps)) there, All-tail P (program_of p) (map program_of (drop (k + 1) ps)) there)
+
+-- programs whose code has its places are short
+pub each_short : (from : ℕ) (ts : List TaskPlace) (ps : List Program) (end : ℕ) → AreInOrder from (map (λ t. t.code) ts) end → end < 0x10000
+    → ProgramsFit ts ps → All IsShort ps
+each_short from [] [] end o l f = All-nil IsShort
+each_short from [] (p ∷ ps) end o l f = absurd f
+each_short from (t ∷ ts) [] end o l f = All-nil IsShort
+each_short from (t ∷ ts) (p ∷ ps) end o l f =
+    let high = in_order_end (end_of t.code) (map (λ t. t.code) ts) end o.1 in
+    let w = f.0 in
+    All-cons IsShort p ps (omega (arith, high, w)) (each_short (end_of t.code) ts ps end o.1 l f.1)
 
 -- ---- the whole code
 

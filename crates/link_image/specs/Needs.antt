@@ -1,13 +1,19 @@
 -- What an image is made from: an accepted source with its plan and its layout.
-use Rattle.std.specs.Prelude.{◌≡◌, ◌<◌, ℕ, List, All, length}
+use Rattle.std.specs.Prelude.{◌≡◌, ◌<◌, ◌≤◌, ℕ, List, All, length}
 use Rattle.linked_code.specs.cost_bound.declared.allowance.Allow.{Allow}
 use Rattle.whole_programs.specs.source_values.Runs.{CheckedProgram}
 use Rattle.memory_map.specs.MemoryMap.{MemoryMap}
+use Rattle.codegen.specs.array_versions.Program.{Program}
 use Rattle.codegen.specs.array_versions.Form.{IsWhole, OfWords}
+use Rattle.codegen.specs.array_versions.Cost.{words_of}
 use Rattle.lower.specs.Lowered.{lowered}
 use Rattle.linked_code.specs.Linked.{CodeFits}
 use Rattle.source_maps.specs.Names.{HasNames}
 use Rattle.source_maps.specs.Laws.{IsSourceMap}
+
+-- a program whose code has so few words that they have numbers of 16 bits as bytes, too
+abbrev pub IsShort : Program → Type 0
+IsShort p = words_of p ≤ 0x7FFF
 
 -- its code has room, its programs are whole, its names can be a map's, and it has a task
 pub record IsReadyToLink (text : List ℕ) (p : CheckedProgram) (allow : Allow) (l : MemoryMap) : Type 0 where

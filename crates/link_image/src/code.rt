@@ -1,9 +1,10 @@
 //! The words of the code.
 ghost use Rattle.std.specs.Prelude.{◌≡◌, ◌+◌, ◌-◌, ◌*◌, ◌/◌, ◌%◌, ◌≤◌, ◌++◌, ◌∷◌, [], ℕ, All, IfOk, OnOk, length, map};
-ghost use Rattle.memory_map.specs.address_space.Limits.{fram_first, reset_vector};
+ghost use Rattle.memory_map.specs.address_space.Limits.{reset_vector};
 ghost use Rattle.linked_code.specs.code_forms.Placed.{instructions, words_of};
 ghost use Rattle.codegen.specs.array_versions.View.{program_of};
 ghost use Rattle.codegen.specs.array_versions.Form.{IsWhole};
+ghost use Rattle.link_image.specs.Needs.{IsShort};
 ghost use Rattle.codegen.specs.Code.{repeated, code_of};
 ghost use Rattle.linked_code.specs.Parts.{filler, chained, PartsInOrder};
 ghost use Rattle.linked_code.specs.Linked.{linked, task_part, task_parts, CodeFits};
@@ -57,16 +58,16 @@ fn push_task(
     task: &TaskLayout,
     program: &WordProgram,
 ) -> Result<(), AllocError>
-    requires low { fram_first ≤ start }
     requires order { PartsInOrder (start + 2 * length words.old.items) (task_part task.now (program_of program.now) ∷ []) reset_vector }
     requires whole { IsWhole (program_of program.now) }
+    requires short { IsShort (program_of program.now) }
     ensures { OnOk result (words.new.items ≡ words.old.items
         ++ (words_of (instructions (repeated ((task.now.code.address - (start + 2 * length words.old.items)) / 2) filler))
-        ++ words_of (instructions (code_of task.now.code.address (program_of program.now))))) }
+        ++ words_of (instructions (code_of (program_of program.now))))) }
 {
     let at = task.code().address;
     let mut code = Vec::new(alloc);
-    let _ = emit(alloc, program, at, &mut code)?;
+    emit(alloc, program, &mut code)?;
     push_part(words, start, at, code.as_slice())
 }
 
@@ -79,10 +80,10 @@ fn push_tasks(
     programs: &[WordProgram],
 ) -> Result<(), AllocError>
     requires even { start % 2 ≡ 0 }
-    requires low { fram_first ≤ start }
     requires count { length tasks.now ≡ length programs.now }
     requires order { PartsInOrder (start + 2 * length words.old.items) (task_parts tasks.now (map program_of programs.now)) reset_vector }
     requires whole { All IsWhole (map program_of programs.now) }
+    requires short { All IsShort (map program_of programs.now) }
     ensures { OnOk result (words.new.items ≡ words.old.items
         ++ words_of (instructions (chained (start + 2 * length words.old.items) (task_parts tasks.now (map program_of programs.now))))) }
 {

@@ -5,7 +5,7 @@ use Rattle.boot_runtime.specs.code_forms.Placed.{placed, words_of}
 use Rattle.boot_runtime.proofs.code_forms.Interface.{forms_stand, placed_is_tidy}
 use Rattle.boot_runtime.proofs.runtime_code.Interface.{code_bytes}
 use Rattle.codegen.specs.array_versions.Program.{Program}
-use Rattle.codegen.proofs.Interface.{code_length, code_are}
+use Rattle.codegen.proofs.Interface.{code_short, code_are}
 use Rattle.boot_runtime.specs.runtime_code.Addresses.{start_address}
 use Rattle.boot_runtime.specs.Entries.{task_entries}
 use Rattle.boot_runtime.proofs.Interface.{boot_is_short, boot_is_code}
@@ -23,7 +23,7 @@ tasks_in_order : (from : ℕ) (ts : List TaskPlace) (ps : List Program) (end : �
 tasks_in_order from [] ps end o f = o
 tasks_in_order from (t ∷ ts) [] end o f = absurd f
 tasks_in_order from (t ∷ ts) (p ∷ ps) end o f =
-    let e = code_length t.code.address p in
+    let e = code_short p in
     let w = f.0 in (
       record { from = o.0.from; even = o.0.even },
       from_before (end_of t.code) (part_end (task_part t p)) (task_parts ts ps) end (omega (arith, e, w))
@@ -58,7 +58,7 @@ in_order l programs f = (
 tasks_are : (ts : List TaskPlace) (ps : List Program) → AllAre (task_parts ts ps)
 tasks_are [] ps = tt
 tasks_are (t ∷ ts) [] = tt
-tasks_are (t ∷ ts) (p ∷ ps) = (code_are t.code.address p, tasks_are ts ps)
+tasks_are (t ∷ ts) (p ∷ ps) = (code_are p, tasks_are ts ps)
 
 ends : (l : MemoryMap) (programs : List Program) → CodeFits l programs → l.boot.address + 2 * length (words_of (linked l programs)) ≤ end_of l.code
 ends l programs f =

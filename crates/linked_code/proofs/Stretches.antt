@@ -135,15 +135,15 @@ module _ (l : MemoryMap) (programs : List Program) (fits : CodeFits l programs) 
       (λ v h. start_there v u.fram u.readings_left h (omega (arith, named, count, e)) word)
 
   -- the code of a task stands where the boot comes to it
-  task_stands : (k : ℕ) → k < length programs → Stands code (entry_at tasks k).code (code_of (entry_at tasks k).code (program k))
+  task_stands : (k : ℕ) → k < length programs → Stands code (entry_at tasks k).code (code_of (program k))
   task_stands k h =
       let t = get_or l.tasks k no_task in
       let count = programs_count l.tasks programs fits.tasks in
       let a = slice_get-get_or l.tasks k no_task (omega (arith, h, count)) in
       let b = slice_get-get_or programs k nothing h in
-      let s : Stands code t.code.address (code_of t.code.address (program k)) = parts.tasks k t (program k) a b in
+      let s : Stands code t.code.address (code_of (program k)) = parts.tasks k t (program k) a b in
       let d : t.code.address ≡ (entry_at tasks k).code = ap (λ x. x.code) (sym (entry_is l.tasks k)) in
-      subst (λ q. Stands code q (code_of q (program k))) d s
+      subst (λ q. Stands code q (code_of (program k))) d s
 
   -- what a task's body does on FRAM and readings
   abbrev pub DoesBody : Core → ℕ → (ℕ → ℕ) → List ℕ → Type 0

@@ -28,7 +28,7 @@ commit_part l = record { address = l.commit.address; forms = commit_forms l (sta
 
 -- a task's code
 abbrev pub task_part : TaskPlace → Program → CodePart
-task_part t p = record { address = t.code.address; forms = code_of t.code.address p }
+task_part t p = record { address = t.code.address; forms = code_of p }
 
 -- the code of tasks, each with its program
 abbrev pub task_parts : List TaskPlace → List Program → List CodePart

@@ -1,4 +1,4 @@
-use Rattle.std.proofs.Common.{◌≡◌, ◌+◌, ◌*◌, ◌++◌, drop}
+use Rattle.std.proofs.Common.{◌≡◌, ◌≤◌, ◌++◌, drop}
 use Rattle.code_forms.specs.Placed.{instructions}
 use Rattle.array_versions.specs.View.{steps_of}
 use Rattle.array_versions.specs.Form.{LocalsBelow, OfWords}
@@ -10,8 +10,8 @@ abbrev pub invariant-emit_steps-loop-step : goal.invariant-emit_steps-loop-step
 invariant-emit_steps-loop-step l =
     let left = steps_of (drop l.step-index l.steps) in
     record {
-      owed : l.code.items ++ instructions (code_of l.start left) ≡ l.initial.code.items ++ instructions (code_of l.fn.at (steps_of l.steps));
-      address : l.start + 2 * words_of left ≡ l.fn.at + 2 * words_of (steps_of l.steps);
+      owed : l.code.items ++ instructions (code_of left) ≡ l.initial.code.items ++ instructions (code_of (steps_of l.steps));
+      room : words_of left ≤ 0x7FFF;
       locals : LocalsBelow 1008 left;
       in_words : OfWords left → OfWords (steps_of l.steps);
     }

@@ -1,13 +1,14 @@
 use Rattle.std.proofs.Common.{◌≡◌, ◌∙◌, ◌+◌, ◌*◌, ◌++◌, ap, sym, subst, length, map, arith}
 use Rattle.std.proofs.lemmas.List.{length-map}
 use Rattle.memory_map.specs.address_space.Limits.{reset_vector}
+use Rattle.memory_map.specs.Places.{end_of}
 use Rattle.linked_code.specs.code_forms.Placed.{instructions}
 use Rattle.boot_runtime.specs.Entries.{task_entries}
 use Rattle.boot_runtime.specs.Listing.{boot_forms}
 use Rattle.codegen.specs.array_versions.View.{program_of}
 use Rattle.linked_code.specs.Parts.{chained, PartsInOrder}
 use Rattle.linked_code.specs.Linked.{task_parts}
-use Rattle.link_image.proofs.Written.{words_in, after_boot, commit_behind, after_commit, tasks_behind, same_count}
+use Rattle.link_image.proofs.Written.{words_in, after_boot, commit_behind, after_commit, tasks_behind, same_count, each_short}
 use Rattle.link_image.proofs.code.code_words.Goals as goal
 
 pub push_part-requires-2 : goal.push_part-requires-2
@@ -42,6 +43,13 @@ push_tasks-requires-clause-order c =
     start (ap (λ r. r.address) c.commit.ensures) (c.as_slice-2.ensures.value ∙ c.in_ok-commit.ensures) boot c.in_ok-push_part-2.ensures in
     subst (λ ts. PartsInOrder (c.boot-start.result.address + 2 * length c.push_part-2.new.words.items) (task_parts ts ps) reset_vector) (sym c.tasks.ensures)
     (tasks_behind l ps c.requires.fits c.boot-start.result.address c.push_part-2.new.words.items commit)
+
+pub push_tasks-requires-clause-short : goal.push_tasks-requires-clause-short
+push_tasks-requires-clause-short c =
+    let l = c.args.layout.now in
+    let fits = c.requires.fits in
+    let high = fits.high in
+    each_short l.code.address l.tasks (map program_of c.args.programs.now) (end_of l.code) fits.rules.code (omega (arith, high)) fits.tasks
 
 pub returns : goal.returns
 returns c =

@@ -1,9 +1,11 @@
 use Rattle.std.proofs.Common.{◌∙◌, ◌+◌, ◌*◌, ◌++◌, ap, sym, subst, length, drop, map, arith}
 use Rattle.memory_map.specs.address_space.Limits.{reset_vector}
 use Rattle.codegen.specs.array_versions.View.{program_of}
+use Rattle.codegen.specs.array_versions.Form.{IsWhole}
 use Rattle.linked_code.specs.Parts.{chained, PartsInOrder}
 use Rattle.linked_code.specs.Linked.{task_part, task_parts}
-use Rattle.link_image.proofs.Written.{words_in, part_words, parts_more, next_order, next_whole, order_end}
+use Rattle.link_image.proofs.Written.{words_in, part_words, parts_more, next_order, next_each, order_end}
+use Rattle.link_image.specs.Needs.{IsShort}
 use Rattle.link_image.proofs.code.push_tasks.Goals as goal
 
 pub push_task-requires-clause-order : goal.push_task-requires-clause-order
@@ -15,8 +17,13 @@ push_task-requires-clause-order c =
 
 pub push_task-requires-clause-whole : goal.push_task-requires-clause-whole
 push_task-requires-clause-whole c =
-    (next_whole c.args.programs.now c.loop-k.k c.index-programs-k.result (omega (arith, c.loop-k-test.true, c.requires.count)) c.index-programs-k.is
+    (next_each IsWhole c.args.programs.now c.loop-k.k c.index-programs-k.result (omega (arith, c.loop-k-test.true, c.requires.count)) c.index-programs-k.is
     c.loop-k.invariant.whole).0
+
+pub push_task-requires-clause-short : goal.push_task-requires-clause-short
+push_task-requires-clause-short c =
+    (next_each IsShort c.args.programs.now c.loop-k.k c.index-programs-k.result (omega (arith, c.loop-k-test.true, c.requires.count)) c.index-programs-k.is
+    c.loop-k.invariant.short).0
 
 pub loop-k-preserved : goal.loop-k-preserved
 loop-k-preserved c =
@@ -37,5 +44,6 @@ loop-k-preserved c =
     record {
       made = made.1;
       order = subst (λ e. PartsInOrder e rest reset_vector) (sym made.0) order.1;
-      whole = (next_whole ps k p (omega (arith, c.loop-k-test.true, c.requires.count)) c.index-programs-k.is c.loop-k.invariant.whole).1;
+      whole = (next_each IsWhole ps k p (omega (arith, c.loop-k-test.true, c.requires.count)) c.index-programs-k.is c.loop-k.invariant.whole).1;
+      short = (next_each IsShort ps k p (omega (arith, c.loop-k-test.true, c.requires.count)) c.index-programs-k.is c.loop-k.invariant.short).1;
     }

@@ -6,6 +6,7 @@ use Rattle.codegen.specs.array_versions.View.{program_of}
 use Rattle.codegen.specs.array_versions.Form.{IsWhole}
 use Rattle.linked_code.specs.Parts.{chained, PartsInOrder}
 use Rattle.linked_code.specs.Linked.{task_parts}
+use Rattle.link_image.specs.Needs.{IsShort}
 use Rattle.link_image.proofs.code.push_tasks.Given as goal
 
 abbrev pub invariant-loop-k : goal.invariant-loop-k
@@ -18,4 +19,5 @@ invariant-loop-k l =
           (chained (l.fn.start + 2 * length l.fn.words.items) (task_parts l.fn.tasks (map program_of l.fn.programs))));
       order : PartsInOrder at left reset_vector;
       whole : All IsWhole (map program_of (drop l.k l.programs));
+      short : All IsShort (map program_of (drop l.k l.programs));
     }
