@@ -117,7 +117,7 @@ from_length (PointedNext b) = refl
 from_length (Indexed b x) = refl
 from_length Popped = refl
 
-from_small : (x : Source) → (source_bytes x ≤ 2) × (source_bytes x % 2 ≡ 0)
+pub from_small : (x : Source) → (source_bytes x ≤ 2) × (source_bytes x % 2 ≡ 0)
 from_small (Register b) = (omega arith, refl)
 from_small (Number n) = (omega arith, refl)
 from_small (Constant k) = (omega arith, refl)
@@ -414,7 +414,7 @@ skips n u c h =
     let sum = sum_of Word (u.pc + 4) n false in
     let e : sum.0 / 2 * 2 ≡ sum.0 = omega arith in
     on_two Add (Number n) (dst.Reg reg.Pc) u c tt
-    ∙ rw (flags_back u.flags, set_flags (u.pc + 4) u.sp u.flags sum.1 u.work, set_pc (u.pc + 4) u.sp sum.0 sum.0 sum.1 u.work e) refl
+    ∙ rw (set_flags (u.pc + 4) u.sp u.flags sum.1 u.work, set_pc (u.pc + 4) u.sp sum.0 sum.0 sum.1 u.work e) refl
 
 branches : (a : ℕ) (u : Core) → IsCodeAddress u.pc → a % 2 ≡ 0
     → step_with (Some (instruction_of (Branch a))) (board_of u) ≡ outcome_of_core (form_step (Branch a) u)

@@ -19,11 +19,12 @@ use Rattle.machine_effects.specs.Machine.{IsMachineStep, NoInstruction, Executes
 use Rattle.machine_effects.specs.Laws.{ChangesByEffects}
 use Rattle.machine_effects.proofs.Interface.{each_store-front, each_store-back, step_changes}
 use Rattle.code_forms.specs.Forms.{Form, Move, Calculate, Compare, Update, Push, Modify, SetStack, Sense, Jump, Skip, Branch, BranchIndexed}
-use Rattle.code_forms.specs.Forms.{BranchRegister, source_operand, target_operand, instruction_of, form_bytes, Core}
+use Rattle.code_forms.specs.Forms.{BranchRegister, source_operand, Target, ToRegister, target_operand, target_bytes, instruction_of, form_bytes}
+use Rattle.code_forms.specs.Forms.{Core}
 use Rattle.code_forms.specs.Code.{Stands, forms_bytes}
 use Rattle.code_forms.specs.Placed.{placed, words_of, instructions, Holds, AreInstructions, IsOutside, LeavesCode}
 use Rattle.code_forms.specs.Laws.{FormsStandWherePlaced, PlacedIsTidy, CodeInFramRuns}
-use Rattle.code_forms.proofs.Forms.{from_length, to_length}
+use Rattle.code_forms.proofs.Forms.{from_small, from_length, to_length}
 
 -- a form's length is that of its instruction's words
 pub bytes_are : (m : Form) → 2 * length (encoding (instruction_of m)) ≡ form_bytes m
@@ -44,6 +45,26 @@ bytes_are (Skip n) = refl
 bytes_are (Branch a) = refl
 bytes_are (BranchIndexed b x) = refl
 bytes_are (BranchRegister b) = refl
+
+to_small : (y : Target) → target_bytes y ≤ 2
+to_small (ToRegister b) = omega arith
+to_small _ = omega arith
+
+-- a form has at most three words
+pub form_small : (m : Form) → form_bytes m ≤ 6
+form_small (Move x y) = omega (arith, from_small x, to_small y)
+form_small (Calculate op x b) = omega (arith, from_small x)
+form_small (Compare x a) = omega (arith, from_small x)
+form_small (Update op x a) = omega (arith, from_small x)
+form_small (Push x) = omega (arith, from_small x)
+form_small (Modify m b) = omega arith
+form_small (SetStack n) = omega arith
+form_small (Sense b) = omega arith
+form_small (Jump c o) = omega arith
+form_small (Skip n) = omega arith
+form_small (Branch a) = omega arith
+form_small (BranchIndexed b x) = omega arith
+form_small (BranchRegister b) = omega arith
 
 encoding_some : (i : Instr) → 0 < length (encoding i)
 encoding_some i = grind arith
