@@ -40,7 +40,7 @@ fork_turned false d holds_at fails_at behind k = record { holds = k.fails; fails
 
 -- the first of two parts that both have to hold: where it fails it goes over the second part, and on as both do where they fail
 pub fork_both : (sense : Bool) (d n holds_at fails_at middle : ℕ) → (middle < 0x10000 → middle + 2 * n < 0x10000)
-    → Fork sense d holds_at fails_at (middle + 2 * n) → Fork false (n + (if sense then 0 else d)) middle fails_at middle
+    → Fork sense d holds_at fails_at (middle + 2 * n) → Fork false (n + (if not sense then d else 0)) middle fails_at middle
 fork_both true d n holds_at fails_at middle l k = record { holds = refl; fails = omega (arith, k.fails); room = λ h. omega (arith, l h) }
 fork_both false d n holds_at fails_at middle l k = record { holds = refl; fails = omega (arith, k.fails); room = λ h. omega (arith, k.room (l h)) }
 

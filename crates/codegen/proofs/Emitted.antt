@@ -11,8 +11,9 @@ use Rattle.msp_isa.specs.declared.instructions.TwoOp.{TwoOp}
 use Rattle.msp_isa.specs.declared.operands.Src.{Src}
 use Rattle.msp_isa.specs.declared.operands.Dst.{Dst}
 use Rattle.code_forms.specs.Forms.{R4, Form, instruction_of}
-use Rattle.code_forms.specs.Placed.{instructions}
+use Rattle.code_forms.specs.Placed.{instructions, words_of as instruction_words}
 use Rattle.code_forms.proofs.Interface.{instructions-append}
+use Rattle.codegen.proofs.Lengths.{size_words}
 use Rattle.std.specs.declared.alloc.Global.{Global}
 use Rattle.std.specs.declared.boxed.Box.{Box}
 use Rattle.std.specs.declared.vec.Vec.{Vec}
@@ -31,7 +32,7 @@ use Rattle.array_versions.specs.Program.{compares}
 use Rattle.array_versions.specs.Program.{both, either, fails, nothing, step}
 use Rattle.array_versions.specs.View.{step_of, steps_of, test_of}
 use Rattle.array_versions.specs.Form.{StepLocalsBelow, TestLocalsBelow, LocalsBelow}
-use Rattle.codegen.specs.Code.{pop_to, push_from, repeated, shift_code, step_code, code_of}
+use Rattle.codegen.specs.Code.{pop_to, push_from, repeated, shift_code, size, step_code, code_of}
 
 -- ---- one level of a step and of a test
 
@@ -110,6 +111,17 @@ pub part_behind : {T E : Type 0} (r : Result T E) (code first new : List Instr) 
 part_behind r code first new a b c all f e is h =
     on_ok_weaker r (λ (n : new ≡ first ++ instructions b). n ∙ ap (λ l. l ++ instructions b) f ∙ ap (λ m. (code ++ instructions a) ++ instructions m) e
     ∙ two_behind code a c ∙ ap (λ m. code ++ instructions m) is) h
+
+-- a part that was made by itself, behind one that was made in its place
+pub own_behind : {T E : Type 0} (r : Result T E) (code first own new : List Instr) (a b all : List Form) → first ≡ code ++ instructions a
+    → own ≡ instructions b → a ++ b ≡ all → OnOk r (new ≡ first ++ own) → OnOk r (new ≡ code ++ instructions all)
+own_behind r code first own new a b all f o is h =
+    on_ok_weaker r (λ (n : new ≡ first ++ own). n ∙ ap (λ l. first ++ l) o ∙ ap (λ l. l ++ instructions b) f ∙ two_behind code a b
+    ∙ ap (λ m. code ++ instructions m) is) h
+
+-- the words of such a part
+pub own_words : (own : List Instr) (ms : List Form) → own ≡ instructions ms → length (instruction_words own) ≡ size ms
+own_words own ms e = ap (λ l. length (instruction_words l)) e ∙ sym (size_words ms)
 
 -- a shift from its three pieces
 pub shift_emitted : (ms : List Form) (code c1 c2 c3 : List Instr) → c1 ≡ code ++ instruction_of (pop_to R4) ∷ [] → c2 ≡ c1 ++ instructions ms

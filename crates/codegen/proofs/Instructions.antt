@@ -169,7 +169,7 @@ mutual
       are-append (code_of p) (compares_code c sense d) (code_are p) (tt, (tt, (compare_is c, decision_are sense d (holding c) (failing c))))
   test_are (both t u) sense d =
       let second = test_code u sense d in
-      let more = size second + (if sense then 0 else d) in
+      let more = size second + (if not sense then d else 0) in
       are-append (test_code t false more) second (test_are t false more) (test_are u sense d)
   test_are (either t u) sense d =
       let second = test_code u sense d in

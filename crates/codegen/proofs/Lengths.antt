@@ -175,7 +175,7 @@ mutual
       omega (arith, forms_bytes-append (code_of p) (compares_code c sense d), e, compare_length c, code_short p)
   test_short (both t u) sense d =
       let second = test_code u sense d in
-      let more = size second + (if sense then 0 else d) in
+      let more = size second + (if not sense then d else 0) in
       omega (arith, forms_bytes-append (test_code t false more) second, test_short t false more, test_short u sense d)
   test_short (either t u) sense d =
       let second = test_code u sense d in

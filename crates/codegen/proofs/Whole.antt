@@ -174,7 +174,7 @@ module _ (z : Setting) where
         let left : length us + 2 ≡ length w.stack = omega (arith, ap (length {A = ℕ}) e) in
         let popped : (next : Place → Type 0) → next (record r.place { depth = r.place.depth - 2 + 0 }) → Ready next t =
         λ next f. ready_popped next r.place 2 w us f r.matches r.words_in left words.1.1 in
-        let high = (z.tidy (pc + 4) _ (compares_front c pc sense d h).1.1.0).high in
+        let high = (z.tidy (pc + 2 + 2) _ h.1.1.0).high in
         let last = decision sense d (holding c) (failing c) in
         decided_follows z sense (compare_words c x y) (pc + 6) d holds_at fails_at 5 end (ch t) (cf t) (holding c) (failing c) t u (rh t) (rf t)
         (compares_rest c pc sense d h)
@@ -310,7 +310,7 @@ module _ (z : Setting) where
         (fork_at sense d holds_at fails_at (pc + forms_bytes (a ++ last)) (at + forms_bytes last) (omega (arith, forms_bytes-append a last)) fork) q refl j)
     test_follows (both t e) sense d holds_at fails_at pc end held failed ch cf rh rf w u r o l c h fork fh ff i =
         let second = test_code e sense d in
-        let over = size second + (if sense then 0 else d) in
+        let over = size second + (if not sense then d else 0) in
         let first = test_code t false over in
         let middle = pc + forms_bytes first in
         let behind = pc + forms_bytes (first ++ second) in

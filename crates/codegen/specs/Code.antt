@@ -364,7 +364,7 @@ abbrev mutual
   test_code (compares c p) sense d = code_of p ++ compares_code c sense d
   test_code (both t u) sense d =
       let second = test_code u sense d in
-      test_code t false (size second + (if sense then 0 else d)) ++ second
+      test_code t false (size second + (if not sense then d else 0)) ++ second
   test_code (either t u) sense d =
       let second = test_code u sense d in
       test_code t true (size second + (if sense then d else 0)) ++ second

@@ -1,6 +1,6 @@
 //! The code of programs.
 
-ghost use Rattle.std.specs.Prelude.{◌≡◌, [], ◌∷◌, ◌++◌, ◌+◌, ◌<◌, ◌≤◌, OnOk, OnErr};
+ghost use Rattle.std.specs.Prelude.{◌≡◌, [], ◌∷◌, ◌++◌, ◌+◌, ◌<◌, ◌≤◌, if◌then◌else◌, OnOk, OnErr};
 ghost use Rattle.code_forms.specs.Forms as form;
 ghost use Rattle.msp_isa.specs.alp_words.declared.Width.TheVariants.{Word};
 ghost use Rattle.msp_isa.specs.declared.instructions.TwoOp.TheVariants as two_op;
@@ -187,6 +187,13 @@ fn emit_truth_code(code: &mut Vec<Instr>) -> Result<(), AllocError>
     ])
 }
 
+// So many words where the flag is set, else none.
+fn words_if(flag: bool, words: u16) -> u16
+    ensures { result ≡ (if flag then words else 0) }
+{
+    if flag { words } else { 0 }
+}
+
 // A test, whose code goes over so many words behind it where the test's truth is the flag.
 #[cycle(emit)]
 fn emit_test(
@@ -214,15 +221,15 @@ fn emit_test(
         WordTest::Both(first, second) => {
             let mut behind = Vec::new(alloc);
             emit_test(alloc, second, sense, over, &mut behind)?;
-            let further = if sense { 0 } else { over };
-            emit_test(alloc, first, false, code_words(&behind) + further, code)?;
+            let further = code_words(&behind) + words_if(!sense, over);
+            emit_test(alloc, first, false, further, code)?;
             code.extend_from_slice(&behind)
         }
         WordTest::Either(first, second) => {
             let mut behind = Vec::new(alloc);
             emit_test(alloc, second, sense, over, &mut behind)?;
-            let further = if sense { over } else { 0 };
-            emit_test(alloc, first, true, code_words(&behind) + further, code)?;
+            let further = code_words(&behind) + words_if(sense, over);
+            emit_test(alloc, first, true, further, code)?;
             code.extend_from_slice(&behind)
         }
         WordTest::Fails(test) => emit_test(alloc, test, !sense, over, code),
@@ -240,32 +247,6 @@ fn emit_truth(alloc: Global, test: &WordTest, code: &mut Vec<Instr>) -> Result<(
 {
     emit_test(alloc, test, false, 2, code)?;
     emit_truth_code(code)
-}
-
-// The code of a choice: of the ways before that of the test, which goes over the first of them.
-#[cycle(emit)]
-fn emit_choice(
-    alloc: Global,
-    test: &WordTest,
-    taken: &[WordStep],
-    otherwise: &[WordStep],
-    code: &mut Vec<Instr>,
-) -> Result<(), AllocError>
-    requires room { step_words (value.choose (test_of test.now) (steps_of taken.now) (steps_of otherwise.now)) ≤ 0x7FFF }
-    requires locals { StepLocalsBelow 1008 (value.choose (test_of test.now) (steps_of taken.now) (steps_of otherwise.now)) }
-    ensures code { OnOk result (code.new.items ≡ code.old.items
-        ++ instructions (step_code (value.choose (test_of test.now) (steps_of taken.now) (steps_of otherwise.now)))) }
-    ensures of_words { OnOk result
-        (StepOfWords (value.choose (test_of test.now) (steps_of taken.now) (steps_of otherwise.now))) }
-{
-    let mut other = Vec::new(alloc);
-    emit_steps(alloc, otherwise, &mut other)?;
-    let mut first = Vec::new(alloc);
-    emit_steps(alloc, taken, &mut first)?;
-    emit_pass_over(code_words(&other), &mut first)?;
-    emit_test(alloc, test, false, code_words(&first), code)?;
-    code.extend_from_slice(&first)?;
-    code.extend_from_slice(&other)
 }
 
 // A loop. The body of one that makes no turn is made, too: its words are learned by that.
@@ -333,7 +314,16 @@ fn emit_step(alloc: Global, step: &WordStep, code: &mut Vec<Instr>) -> Result<()
         WordStep::VersionedWrite(place, list) => emit_versioned_write(*place, *list, code),
         WordStep::Sense => emit_sense(code),
         WordStep::Truth(test) => emit_truth(alloc, test, code),
-        WordStep::Choose(test, taken, otherwise) => emit_choice(alloc, test, taken, otherwise, code),
+        WordStep::Choose(test, taken, otherwise) => {
+            let mut other = Vec::new(alloc);
+            emit_steps(alloc, otherwise, &mut other)?;
+            let mut first = Vec::new(alloc);
+            emit_steps(alloc, taken, &mut first)?;
+            emit_pass_over(code_words(&other), &mut first)?;
+            emit_test(alloc, test, false, code_words(&first), code)?;
+            code.extend_from_slice(&first)?;
+            code.extend_from_slice(&other)
+        }
         WordStep::Repeat {
             local,
             from,
