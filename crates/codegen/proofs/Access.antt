@@ -82,7 +82,10 @@ module _ (z : Setting) where
         (runs_on z 2 8 u _ _ [] [] (pop_part z pc i rest w u e h.0 k) (λ t j.
         runs_on z 2 6 t _ _ [] [] (compare_part (pc + 2) i size popped t r l h.1.0 j) (λ t j.
         runs_on z 2 4 t _ _ [] [] (jump_has z condition.Carry 4 (pc + 6) (pc + 16) true R4 i popped t at6 (j.flag ∙ le_of_lt i size false lt) to
-        (record { is = stands_elsewhere z (pc + 2 + 4) (pc + 6) popped t t j.has.is (omega (arith, j.has.is.at)) refl refl refl refl refl; value = j.has.value }))
+        (record {
+          is = stands_elsewhere z (pc + 2 + 4) (pc + 6) popped t t j.has.is (omega (arith, j.has.is.at)) refl refl refl refl refl;
+          value = j.has.value;
+        }))
         (λ t j.
         runs_on z 1 3 t _ _ [] [] (middle z zeroed 1 (pc + 16) (pc + 18) 0 R4 popped t (end_of t (forms_run zeroed t).status) j.is (tt, tt) at16
         ((tt, tt), tt) refl (omega (arith, j.is.at)) refl refl refl refl refl refl) (λ t j.
@@ -104,7 +107,10 @@ module _ (z : Setting) where
         (runs_on z 2 13 u _ _ [] [] (pop_part z pc i rest w u e h.0 k) (λ t j.
         runs_on z 2 11 t _ _ [] [] (compare_part (pc + 2) i size popped t r l h.1.0 j) (λ t j.
         runs_on z 2 9 t _ _ [] [] (jump_has z condition.Carry 4 (pc + 6) (pc + 8) false R4 i popped t at6 (j.flag ∙ le_of_lt i size true lt) (omega arith)
-        (record { is = stands_elsewhere z (pc + 2 + 4) (pc + 6) popped t t j.has.is (omega (arith, j.has.is.at)) refl refl refl refl refl; value = j.has.value }))
+        (record {
+          is = stands_elsewhere z (pc + 2 + 4) (pc + 6) popped t t j.has.is (omega (arith, j.has.is.at)) refl refl refl refl refl;
+          value = j.has.value;
+        }))
         (λ t j.
         let q : (t.work 4 + t.work 4 + 0) % 0x10000 ≡ 2 * i = ap (λ v. (v + v + 0) % 0x10000) j.value ∙ small in
         runs_on z 4 5 t _ _ [] [] (middle z ms 4 (pc + 8) (pc + 14) (w.fram a) R4 popped t (end_of t (forms_run ms t).status) j.is (tt, (tt, tt)) at8

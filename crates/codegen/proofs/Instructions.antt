@@ -1,5 +1,6 @@
 -- The forms of a program's code are instructions: their jumps reach no further than ten bits say.
-use Rattle.std.proofs.Common.{◌≡◌, ℕ, zero, suc, ◌+◌, ◌-◌, ◌*◌, ◌<◌, ◌==◌, refl, List, [], ◌∷◌, ◌++◌, arith, Bool, true, false, not, nat_le, nat_lt, if◌then◌else◌}
+use Rattle.std.proofs.Common.{◌≡◌, ℕ, zero, suc, ◌+◌, ◌-◌, ◌*◌, ◌<◌, ◌==◌, refl, List, [], ◌∷◌, ◌++◌, arith, Bool, true, false, not, nat_le, nat_lt}
+use Rattle.std.proofs.Common.{if◌then◌else◌}
 use Rattle.std.proofs.lemmas.Bool.Decides.{nat_tests}
 use Rattle.code_forms.specs.Forms.{R4, Constant, Number, ToIndexed, Form, Move, Update, Jump, Skip, instruction_of}
 use Rattle.msp_isa.specs.alp_words.Words.{word_sum}
@@ -98,7 +99,8 @@ near_is : (d : ℕ) → nat_le d 511 ≡ true → d < 0x400
 near_is d e = grind (arith, nat_tests)
 
 -- over so many words; by whether they are few
-over_are : (near : Bool) (met opposite : Condition) (d : ℕ) → nat_le d 511 ≡ near → Are (if near then Jump met d ∷ [] else (Jump opposite 2 ∷ Skip (2 * d) ∷ []))
+over_are : (near : Bool) (met opposite : Condition) (d : ℕ) → nat_le d 511 ≡ near
+    → Are (if near then Jump met d ∷ [] else (Jump opposite 2 ∷ Skip (2 * d) ∷ []))
 over_are true met opposite d e = (near_is d e, tt)
 over_are false met opposite d e = search arith
 

@@ -172,7 +172,8 @@ module _ (z : Setting) where
       → (let start = number_code n from in let rest = if some then turns_code n below body else [] in
       Stands z.code pc (start ++ rest) → StandsFor z pc s u → fit (below - from) s
       → (Stands z.code (pc + forms_bytes start) body → (m k : ℕ) (s : WordState) (t : Core) → fit (suc m) s → k < below
-      → StandsFor z (pc + forms_bytes start) (with_local n k s) t → Follows z (pc + forms_bytes start + forms_bytes body) (cost (with_local n k s)) t (run (with_local n k s)))
+      → StandsFor z (pc + forms_bytes start) (with_local n k s) t
+      → Follows z (pc + forms_bytes start + forms_bytes body) (cost (with_local n k s)) t (run (with_local n k s)))
       → ((m k : ℕ) (s : WordState) → fit (suc m) s → k < below → OnGoesOn (λ v. fit m v × (v.locals n ≡ Some k)) (run (with_local n k s)).end)
       → Follows z (pc + forms_bytes (start ++ rest)) (5 + turns_spent (below - from) n from run cost s) u (turns (below - from) n from run s))
   loop_by false body pc n from below cost run fit s u c lt lb h i g doing keeps =

@@ -72,7 +72,8 @@ module _ (z : Setting) where
   line : (ms : List Form) (c pc : ℕ) (b : WorkRegister) (val : ℕ) (w : WordState) (t : Core) → StandsFor z pc w t → AreStraight ms → Stands z.code pc ms
       → FormsNeed ms t → (let v = end_of t (forms_run ms t).status in
       (forms_run ms t ≡ stretch [] c (At v)) × (v.pc ≡ t.pc + forms_bytes ms) × (v.sp ≡ t.sp) × (v.ram ≡ t.ram)
-      × (local_words v.work ≡ local_words t.work) × (v.fram ≡ t.fram) × (v.readings_left ≡ t.readings_left) × (v.work (work_number b) ≡ val)) → Runs z.code [] c t (HasIn b (pc + forms_bytes ms) w val)
+      × (local_words v.work ≡ local_words t.work) × (v.fram ≡ t.fram) × (v.readings_left ≡ t.readings_left) × (v.work (work_number b) ≡ val))
+      → Runs z.code [] c t (HasIn b (pc + forms_bytes ms) w val)
   line ms c pc b val w t i st h ok x =
       middle z ms c pc (pc + forms_bytes ms) val b w t (end_of t (forms_run ms t).status) i st h ok x.0
       (x.1 ∙ ap (λ p. p + forms_bytes ms) i.at) x.2 x.3 x.4 x.5 x.6 x.7

@@ -98,7 +98,13 @@ module _ (z : Setting) where
         straight z tested 1 t (end_of t (forms_run tested t).status) [] 1 _ (tt, tt) (stands_at z.code p tested t (h.0, tt) i.is.at) ((tt, tt), tt) refl
         (omega arith)
         (record {
-          all = record { is = stands_elsewhere z p (p + 2) w t _ i.is (omega (arith, i.is.at)) refl refl refl refl refl; four = i.four; five = i.five; six = i.six };
+          all =
+              record {
+                is = stands_elsewhere z p (p + 2) w t _ i.is (omega (arith, i.is.at)) refl refl refl refl refl;
+                four = i.four;
+                five = i.five;
+                six = i.six;
+              };
           zero_flag = ap (λ v. bit_and v 1 == 0) i.five;
         })
 

@@ -9,8 +9,8 @@ use Rattle.array_versions.specs.msp_step.Effect.{sum16, distance, is_met}
 use Rattle.array_versions.specs.machine_effects.World.{put}
 use Rattle.array_versions.specs.machine_effects.Going.{At, stretch}
 use Rattle.code_forms.specs.Forms.{WorkRegister, R4, R5, work_number, Core, Register, Form, Push, Jump, Skip, Branch, Move, Calculate, Compare, Update}
-use Rattle.code_forms.specs.Forms.{Modify, SetStack, BranchIndexed, BranchRegister, Source, PointedNext, Number, Constant, Fram, Ram, Pointed, Indexed, Popped, Target}
-use Rattle.code_forms.specs.Forms.{instruction_of, form_bytes}
+use Rattle.code_forms.specs.Forms.{Modify, SetStack, BranchIndexed, BranchRegister, Source, PointedNext, Number, Constant, Fram, Ram, Pointed, Indexed}
+use Rattle.code_forms.specs.Forms.{Popped, Target, instruction_of, form_bytes}
 use Rattle.code_forms.specs.Forms as forms
 use Rattle.code_forms.specs.Code.{Stands, forms_bytes, AreStraight, forms_run, FormsNeed, Runs}
 use Rattle.code_forms.proofs.Interface.{stands_at, end_of}

@@ -150,8 +150,8 @@ module _ (z : Setting) where
       → Runs z.code [] 1 t (HasIn (pc + 2) w (double y))
   double_step pc y w t h i =
       let ms = Calculate op.Add (Register R4) R4 ∷ [] in
-      middle z ms 1 pc (pc + 2) (double y) R4 w t (end_of t (forms_run ms t).status) i.is (tt, tt) (h, tt) ((tt, tt), tt) refl (omega (arith, i.is.at)) refl refl
-      refl refl refl (ap (λ v. (v + v + 0) % 0x10000) i.value ∙ omega arith)
+      middle z ms 1 pc (pc + 2) (double y) R4 w t (end_of t (forms_run ms t).status) i.is (tt, tt) (h, tt) ((tt, tt), tt) refl (omega (arith, i.is.at)) refl
+      refl refl refl refl (ap (λ v. (v + v + 0) % 0x10000) i.value ∙ omega arith)
 
   halve_step : (pc y : ℕ) (w : WordState) (t : Core) → z.code pc ≡ Some (instruction_of (Modify change.Rra R4)) → HasIn pc w y t
       → Runs z.code [] 1 t (HasIn (pc + 2) w (half_signed y))

@@ -391,7 +391,8 @@ code_does_as_program code at p u tidy h whole o entry =
     by_end z (spent p s) b.effects b.end (program_follows z p (λ q. ⊥) at s u r o whole.low_locals whole.loops_count h i)
     (whole_ends_soundly p u.fram u.readings_left whole)
   where
-    by_end : (z : Setting) (most : ℕ) (es : List Effect) (e : End) → FollowsEnd z (at + forms_bytes (code_of p)) most u es e → IsSound e → ComesTo z.code most u es e
+    by_end : (z : Setting) (most : ℕ) (es : List Effect) (e : End) → FollowsEnd z (at + forms_bytes (code_of p)) most u es e
+        → IsSound e → ComesTo z.code most u es e
     by_end z most es (GoesOn w) a g = g
     by_end z most es (Jumps to w) a g = a
     by_end z most es Short a g = a

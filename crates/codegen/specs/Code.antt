@@ -120,10 +120,10 @@ abbrev pub update_code : PlainOperation → ℕ → List Form
 update_code o n =
     if nat_lt n 8 then Calculate (plain_instruction o) Popped (local_register n) ∷ []
     else
-      (
-        pop_to R5 ∷ Move (Ram (local_address n)) (ToRegister R4) ∷ Calculate (plain_instruction o) (Register R5) R4
-        ∷ Move (Register R4) (ToRam (local_address n)) ∷ []
-      )
+    (
+    pop_to R5 ∷ Move (Ram (local_address n)) (ToRegister R4) ∷ Calculate (plain_instruction o) (Register R5) R4
+    ∷ Move (Register R4) (ToRam (local_address n)) ∷ []
+    )
 
 -- R4 as an operand
 abbrev pub in_r4 : Operand
@@ -320,10 +320,10 @@ abbrev pub turn_end : ℕ → ℕ → List Form
 turn_end n below =
     if nat_lt n 8 then Calculate op.Add (Constant konst.One) (local_register n) ∷ Calculate op.Cmp (Number below) (local_register n) ∷ []
     else
-      (
-        Move (Ram (local_address n)) (ToRegister R4) ∷ Calculate op.Add (Constant konst.One) R4 ∷ Move (Register R4) (ToRam (local_address n))
-        ∷ Calculate op.Cmp (Number below) R4 ∷ []
-      )
+    (
+    Move (Ram (local_address n)) (ToRegister R4) ∷ Calculate op.Add (Constant konst.One) R4 ∷ Move (Register R4) (ToRam (local_address n))
+    ∷ Calculate op.Cmp (Number below) R4 ∷ []
+    )
 
 -- turns of a body until the local has come to a number: there is one at least, since the local is looked at behind each
 abbrev pub turns_code : ℕ → ℕ → List Form → List Form

@@ -12,9 +12,7 @@ ghost use Rattle.array_versions.specs.Cost.{words_of, step_words, test_words};
 ghost use Rattle.codegen.specs.Code.{code_of, step_code, test_code, truth_code, element_code, emit_code, words_source, entry_code, number_code};
 ghost use Rattle.codegen.specs.Code.{turn_end, push_from, update_code};
 
-use crate::decisions::{
-    code_words, emit_compares, emit_holds, emit_jump_back, emit_pass_over,
-};
+use crate::decisions::{code_words, emit_compares, emit_holds, emit_jump_back, emit_pass_over};
 use crate::forms::{
     POPPED, R4, R5, R6, TO_R4, TO_R5, TO_R6, absolute, branch, constant, jump, local_address,
     local_register, local_source, local_target, push, two,
