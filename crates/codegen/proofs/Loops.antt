@@ -8,12 +8,12 @@ use Rattle.msp_isa.specs.declared.instructions.TwoOp.TheVariants as op
 use Rattle.msp_isa.specs.declared.operands.Konst.TheVariants as konst
 use Rattle.array_versions.specs.machine_effects.World.{put}
 use Rattle.array_versions.proofs.machine_effects.Interface.{put_same}
-use Rattle.code_forms.specs.Forms.{R4, work_number, Core, Register, Number, Constant, Ram, ToRegister, ToRam, Form, Move, Calculate}
+use Rattle.code_forms.specs.Forms.{work_number, Core, Number, Constant, Form, Calculate}
 use Rattle.code_forms.specs.Code.{Stands, forms_bytes, forms_run, Runs}
 use Rattle.code_forms.proofs.Interface.{stands_front, stands_back, end_of, stands_at, forms_bytes-append}
 use Rattle.array_versions.specs.Behaviour.{WordState, End, GoesOn, Jumps, Short, Strays, Broken, Behaviour, with_local, assigned, turns}
 use Rattle.array_versions.specs.Cost.{spent_on, turns_spent}
-use Rattle.codegen.specs.Code.{local_register, local_address, number_code, size, turn_end, jump_back, turns_code}
+use Rattle.codegen.specs.Code.{local_register, local_address, number_code, size, ram_turn_end, turn_end, jump_back, turns_code}
 use Rattle.codegen.proofs.Stretches.{Setting, straight, runs_on}
 use Rattle.codegen.proofs.Memory.{local_words, in_register, in_ram, Memory, local_needs, set_register, set_ram}
 use Rattle.codegen.proofs.Follows.{StandsFor, Follows, OnGoesOn, more_cycles, then_end, then_way, ends_at}
@@ -37,8 +37,7 @@ module _ (z : Setting) where
   raise_by : (b : Bool) (pc n k below : ℕ) (w : WordState) (u : Core) → nat_lt n 8 ≡ b → n < z.locals → w.locals n ≡ Some k → k + 1 < 0x10000
       → below < 0x10000
       → (let ms = if b then Calculate op.Add (Constant konst.One) (local_register n) ∷ Calculate op.Cmp (Number below) (local_register n) ∷ []
-      else (Move (Ram (local_address n)) (ToRegister R4) ∷ Calculate op.Add (Constant konst.One) R4 ∷ Move (Register R4) (ToRam (local_address n))
-      ∷ Calculate op.Cmp (Number below) R4 ∷ []) in
+      else (ram_turn_end n below) in
       Stands z.code pc ms → StandsFor z pc w u → Runs z.code [] 10 u (Raised (pc + forms_bytes ms) n (k + 1) below w))
   raise_by true pc n k below w u b lt q l lb h i =
       let r = work_number (local_register n) in
@@ -65,8 +64,7 @@ module _ (z : Setting) where
       })
   raise_by false pc n k below w u b lt q l lb h i =
       let a = local_address n in
-      let ms =
-      Move (Ram a) (ToRegister R4) ∷ Calculate op.Add (Constant konst.One) R4 ∷ Move (Register R4) (ToRam a) ∷ Calculate op.Cmp (Number below) R4 ∷ [] in
+      let ms = ram_turn_end n below in
       let word = in_ram (local_words u.work) u.ram n b ∙ i.memory.vars n k lt q in
       let next : (u.ram a + 1 + 0) % 0x10000 ≡ k + 1 = omega (arith, word) in
       let flag = ap (λ x. (x + (0xFFFF - below) + 1) % 0x10000 == 0) next ∙ equal_flag (k + 1) below l lb in

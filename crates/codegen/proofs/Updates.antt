@@ -6,7 +6,7 @@ use Rattle.array_versions.specs.msp_step.Effect.{operated, writes_destination}
 use Rattle.array_versions.specs.fram_board.Effects.{Store}
 use Rattle.array_versions.specs.machine_effects.World.{put}
 use Rattle.array_versions.specs.machine_effects.Going.{At, stretch}
-use Rattle.code_forms.specs.Forms.{R4, R5, work_number, Core, Register, Ram, Popped, ToRegister, ToRam, Form, Move, Calculate, Update, IsNotMov}
+use Rattle.code_forms.specs.Forms.{R4, R5, work_number, Core, Register, Ram, Popped, ToRegister, ToRam, Move, Calculate, Update, IsNotMov}
 use Rattle.code_forms.specs.Forms.{flags_after, instruction_of}
 use Rattle.code_forms.specs.Code.{Stands, forms_bytes, forms_run, Runs}
 use Rattle.code_forms.proofs.Interface.{forms_behind, stands_at, end_of}
@@ -14,7 +14,7 @@ use Rattle.array_versions.specs.declared.operations.PlainOperation.{PlainOperati
 use Rattle.array_versions.specs.declared.operations.PlainOperation.TheVariants.{Add}
 use Rattle.array_versions.specs.Operations.{plain_word}
 use Rattle.array_versions.specs.Behaviour.{WordState, goes_on, with_top, with_stack, stored, assigned, with_local, is_place, word_stored}
-use Rattle.codegen.specs.Code.{pop_to, plain_instruction, local_register, local_address, update_code}
+use Rattle.codegen.specs.Code.{pop_to, plain_instruction, local_register, local_address, ram_update, update_code}
 use Rattle.codegen.proofs.Stretches.{Setting, straight, runs_on}
 use Rattle.codegen.proofs.Memory.{local_words, in_register, in_ram, Memory, pop_memory, pop_needs, local_needs, set_register, set_ram, place_is}
 use Rattle.codegen.proofs.Follows.{StandsFor, Follows, ends_at, guarded, memory_as}
@@ -25,12 +25,6 @@ use Rattle.codegen.proofs.Middles.{makes, plain_middle}
 plain_needs : (o : PlainOperation) → IsNotMov (plain_instruction o) × (writes_destination (plain_instruction o) ≡ true)
 plain_needs Add = (tt, refl)
 plain_needs _ = (tt, refl)
-
--- the forms for a local in RAM
-abbrev in_place : PlainOperation → ℕ → List Form
-in_place o n =
-    pop_to R5 ∷ Move (Ram (local_address n)) (ToRegister R4) ∷ Calculate (plain_instruction o) (Register R5) R4
-    ∷ Move (Register R4) (ToRam (local_address n)) ∷ []
 
 module _ (z : Setting) where
   -- what the instruction makes of the word and of the top is stored
@@ -118,13 +112,13 @@ module _ (z : Setting) where
   -- by where the local stands
   update_by : (b : Bool) (o : PlainOperation) (n x v pc : ℕ) (vs : List ℕ) (w : WordState) (u : Core) → nat_lt n 8 ≡ b → n < z.locals → w.locals n ≡ Some x
       → x < 0x10000 → v < 0x10000 → w.stack ≡ v ∷ vs
-      → (let ms = if b then Calculate (plain_instruction o) Popped (local_register n) ∷ [] else (in_place o n) in
+      → (let ms = if b then Calculate (plain_instruction o) Popped (local_register n) ∷ [] else (ram_update o n) in
       Stands z.code pc ms → StandsFor z pc w u → Follows z (pc + forms_bytes ms) 10 u (goes_on [] (with_local n (plain_word o x v) (with_stack vs w))))
   update_by true o n x v pc vs w u b lt q k l e h i = update_register o n x v pc vs w u b lt q k l e h i
   update_by false o n x v pc vs w u b lt q k l e h i =
       let popped = with_stack vs w in
       let y = plain_word o x v in
-      let last = forms_behind z.code pc 2 (in_place o n) h in
+      let last = forms_behind z.code pc 2 (ram_update o n) h in
       ends_at z (pc + 6 + 2 + 4) (pc + 12) 10 u (goes_on [] (with_local n y popped)) (omega arith)
       (runs_on z 5 5 u _ _ [] [] (take_two n x v pc vs w u b lt q e (h.0, (h.1.0, tt)) i) (λ t j.
       runs_on z 1 4 t _ _ [] [] (plain_middle z o (pc + 6) x v popped t k l (last.0, tt) j) (λ s r.

@@ -115,15 +115,15 @@ binary_result _ = R4
 abbrev pub binary_code : List Form → WorkRegister → List Form
 binary_code middle b = pop_to R5 ∷ pop_to R4 ∷ (middle ++ push_from b ∷ [])
 
--- a local becomes what an operation gives of it and of the top; one in RAM goes through R4
-abbrev pub update_code : PlainOperation → ℕ → List Form
-update_code o n =
-    if nat_lt n 8 then Calculate (plain_instruction o) Popped (local_register n) ∷ []
-    else
-    (
+-- a local in RAM becomes what an operation gives of it and of the top
+abbrev pub ram_update : PlainOperation → ℕ → List Form
+ram_update o n =
     pop_to R5 ∷ Move (Ram (local_address n)) (ToRegister R4) ∷ Calculate (plain_instruction o) (Register R5) R4
     ∷ Move (Register R4) (ToRam (local_address n)) ∷ []
-    )
+
+-- the same of any local
+abbrev pub update_code : PlainOperation → ℕ → List Form
+update_code o n = if nat_lt n 8 then Calculate (plain_instruction o) Popped (local_register n) ∷ [] else (ram_update o n)
 
 -- R4 as an operand
 abbrev pub in_r4 : Operand
@@ -315,15 +315,17 @@ truth_code = Push (Constant konst.One) ∷ Jump condition.Always 1 ∷ Push (Con
 abbrev pub number_code : ℕ → ℕ → List Form
 number_code n k = Move (Number k) (local_target n) ∷ []
 
--- the end of a turn: the local goes up by one, and is compared with a number; one in RAM goes through R4
+-- the end of a turn for a local in RAM: it goes up by one, and is compared with a number
+abbrev pub ram_turn_end : ℕ → ℕ → List Form
+ram_turn_end n below =
+    Move (Ram (local_address n)) (ToRegister R4) ∷ Calculate op.Add (Constant konst.One) R4 ∷ Move (Register R4) (ToRam (local_address n))
+    ∷ Calculate op.Cmp (Number below) R4 ∷ []
+
+-- the same for any local
 abbrev pub turn_end : ℕ → ℕ → List Form
 turn_end n below =
     if nat_lt n 8 then Calculate op.Add (Constant konst.One) (local_register n) ∷ Calculate op.Cmp (Number below) (local_register n) ∷ []
-    else
-    (
-    Move (Ram (local_address n)) (ToRegister R4) ∷ Calculate op.Add (Constant konst.One) R4 ∷ Move (Register R4) (ToRam (local_address n))
-    ∷ Calculate op.Cmp (Number below) R4 ∷ []
-    )
+    else (ram_turn_end n below)
 
 -- turns of a body until the local has come to a number: there is one at least, since the local is looked at behind each
 abbrev pub turns_code : ℕ → ℕ → List Form → List Form
