@@ -44,9 +44,10 @@ module _ (z : Setting) where
       let ms = Calculate op.Add (Constant konst.One) (local_register n) ∷ Calculate op.Cmp (Number below) (local_register n) ∷ [] in
       let word = in_register u.work u.ram n b ∙ i.memory.vars n k lt q in
       let next : (u.work r + 1 + 0) % 0x10000 ≡ k + 1 = omega (arith, word) in
-      let made = put u.work r ((u.work r + 1 + 0) % 0x10000) in
+      let made : ℕ → ℕ = put u.work r ((u.work r + 1 + 0) % 0x10000) in
       let there : made r ≡ k + 1 = put_same u.work r ((u.work r + 1 + 0) % 0x10000) ∙ next in
-      let flag = ap (λ x. (x + (0xFFFF - below) + 1) % 0x10000 == 0) there ∙ equal_flag (k + 1) below l lb in
+      let flag : ((made r + (0xFFFF - below) + 1) % 0x10000 == 0) ≡ ((k + 1) == below) =
+      ap (λ x. (x + (0xFFFF - below) + 1) % 0x10000 == 0) there ∙ equal_flag (k + 1) below l lb in
       straight z ms 10 u (end_of u (forms_run ms u).status) [] 3 _ (tt, (tt, tt)) (stands_at z.code pc ms u h i.at) ((tt, tt), ((tt, tt), tt)) refl
       (omega arith)
       (record {
@@ -67,7 +68,8 @@ module _ (z : Setting) where
       let ms = ram_turn_end n below in
       let word = in_ram (local_words u.work) u.ram n b ∙ i.memory.vars n k lt q in
       let next : (u.ram a + 1 + 0) % 0x10000 ≡ k + 1 = omega (arith, word) in
-      let flag = ap (λ x. (x + (0xFFFF - below) + 1) % 0x10000 == 0) next ∙ equal_flag (k + 1) below l lb in
+      let flag : (((u.ram a + 1 + 0) % 0x10000 + (0xFFFF - below) + 1) % 0x10000 == 0) ≡ ((k + 1) == below) =
+      ap (λ x. (x + (0xFFFF - below) + 1) % 0x10000 == 0) next ∙ equal_flag (k + 1) below l lb in
       let needs = local_needs z n lt in
       straight z ms 10 u (end_of u (forms_run ms u).status) [] 10 _ (tt, (tt, (tt, (tt, tt)))) (stands_at z.code pc ms u h i.at)
       ((needs, tt), ((tt, tt), ((tt, needs), ((tt, tt), tt)))) refl (omega arith)
@@ -106,7 +108,7 @@ module _ (z : Setting) where
     behind_turn = pc + forms_bytes turn
 
     abbrev end : ℕ
-    end = pc + forms_bytes (turns_code n below body)
+    end = pc + forms_bytes (turn ++ back)
 
     inside : Stands z.code pc turn
     inside = stands_front z.code pc turn back h
@@ -165,9 +167,9 @@ module _ (z : Setting) where
         (next_turn k v t q (omega arith) j) (λ c l. turns_part m (k + 1) v c f (omega arith) l))
 
   -- a loop, where its code stands; by whether it makes a turn
-  pub loop_by : (some : Bool) (body : List Form) (pc n from below : ℕ) (cost : WordState → ℕ) (run : WordState → Behaviour) (fit : ℕ → WordState → Type 0)
-      (s : WordState) (u : Core) → nat_lt from below ≡ some → n < z.locals → below < 0x10000
-      → (let start = number_code n from in let rest = if some then turns_code n below body else [] in
+  pub loop_by : (any : Bool) (body : List Form) (pc n from below : ℕ) (cost : WordState → ℕ) (run : WordState → Behaviour) (fit : ℕ → WordState → Type 0)
+      (s : WordState) (u : Core) → nat_lt from below ≡ any → n < z.locals → below < 0x10000
+      → (let start = number_code n from in let rest = if any then turns_code n below body else [] in
       Stands z.code pc (start ++ rest) → StandsFor z pc s u → fit (below - from) s
       → (Stands z.code (pc + forms_bytes start) body → (m k : ℕ) (s : WordState) (t : Core) → fit (suc m) s → k < below
       → StandsFor z (pc + forms_bytes start) (with_local n k s) t
@@ -185,7 +187,7 @@ module _ (z : Setting) where
       let start = number_code n from in
       let rest = turns_code n below body in
       let m = below - from - 1 in
-      let some : suc m ≡ below - from = let l : from < below = grind (arith, nat_tests) in omega arith in
+      let count : suc m ≡ below - from = let l : from < below = grind (arith, nat_tests) in omega arith in
       let e : pc + forms_bytes start + forms_bytes rest ≡ pc + forms_bytes (start ++ rest) = omega (arith, forms_bytes-append start rest) in
       let set = local_number z n from pc s u lt (stands_front z.code pc start rest h) i in
       let top = pc + forms_bytes start in
@@ -193,7 +195,7 @@ module _ (z : Setting) where
       let stand = stands_back z.code pc start rest h in
       let there = stands_front z.code top turn (jump_back condition.NotEqual condition.Equal (size turn)) stand in
       let inside = stands_front z.code top body (turn_end n below) there in
-      subst (λ q. Follows z (pc + forms_bytes (start ++ rest)) (5 + turns_spent q n from run cost s) u (turns q n from run s)) some
+      subst (λ q. Follows z (pc + forms_bytes (start ++ rest)) (5 + turns_spent q n from run cost s) u (turns q n from run s)) count
       (ends_at z (pc + forms_bytes start + forms_bytes rest) _ (5 + turns_spent (suc m) n from run cost s) u (turns (suc m) n from run s) e
       (then_end z _ 5 (turns_spent (suc m) n from run cost s) u _ [] (turns (suc m) n from run s).effects (turns (suc m) n from run s).end set (λ t j.
-      turns_part body top n below cost run fit lt lb stand (doing inside) keeps m from s t (subst (λ q. fit q s) (sym some) g) some j)))
+      turns_part body top n below cost run fit lt lb stand (doing inside) keeps m from s t (subst (λ q. fit q s) (sym count) g) count j)))

@@ -1,6 +1,6 @@
 -- The stack and the locals: the first eight in registers, the others in RAM.
 use Rattle.std.proofs.Common.{◌≡◌, ℕ, zero, suc, ◌+◌, ◌-◌, ◌*◌, ◌<◌, ◌≤◌, List, [], ◌∷◌, length, get_or, Option, Some, refl, sym, ap, ◌∙◌, subst, arith}
-use Rattle.std.proofs.Common.{Bool, true, false, nat_eq, nat_lt, eq-eqb, if◌then◌else◌}
+use Rattle.std.proofs.Common.{Bool, true, false, nat_eq, nat_lt, eq-eqb, ne_eqb, if◌then◌else◌}
 use Rattle.std.proofs.lemmas.Bool.Decides.{nat_tests}
 use Rattle.std.proofs.lemmas.Option.{same_Some}
 use Rattle.array_versions.specs.machine_effects.World.{put}
@@ -138,7 +138,7 @@ module _ (z : Setting) where
           ∙ ap (λ b. if b then v else work (8 + k)) same ∙ ap (λ x. if nat_eq k n then v else x) (sym (word_at work k h))
       by false k t =
           let h = from_eight k t in
-          let other : nat_eq k n ≡ false = grind (arith, nat_tests) in
+          let other : nat_eq k n ≡ false = ne_eqb k n (λ q. let low = l in omega arith) in
           ap (λ b. if b then v else ram (local_address k)) (sym other)
 
   -- a local in RAM is written
@@ -153,7 +153,7 @@ module _ (z : Setting) where
           ≡ (if nat_eq k n then v else (if b then get_or words k 0 else ram (local_address k)))
       by true k t =
           let h = below_eight k t in let l = from_eight n e in
-          let other : nat_eq k n ≡ false = grind (arith, nat_tests) in
+          let other : nat_eq k n ≡ false = ne_eqb k n (λ q. omega arith) in
           ap (λ b. if b then v else get_or words k 0) (sym other)
       by false k t =
           let same : nat_eq (local_address k) (local_address n) ≡ nat_eq k n = grind (arith, nat_tests) in

@@ -154,19 +154,21 @@ module _ (z : Setting) where
       straight z ms c t v [] c _ st (stands_at z.code pc ms t h i.at) ok e (omega arith)
       (record { is = stands_elsewhere z pc pc' w t v i p q r l f d; value = x })
 
-  pub jump_to : (k : Condition) (o pc pc' : ℕ) (b : Bool) (w : WordState) (t : Core) → z.code pc ≡ Some (instruction_of (Jump k o)) → is_met k t.flags ≡ b
-      → (if b then sum16 (pc + 2) (distance o) else pc + 2) ≡ pc' → StandsFor z pc w t → Runs z.code [] 2 t (StandsFor z pc' w)
-  jump_to k o pc pc' b w t h e to i =
-      hop z (Jump k o) 2 t (record t { pc = if is_met k t.flags then sum16 (t.pc + 2) (distance o) else t.pc + 2 }) [] 2 _ (ap z.code i.at ∙ h) tt refl
-      (omega arith)
-      (stands_elsewhere z pc pc' w t _ i (ap₂ (λ x p. if x then sum16 (p + 2) (distance o) else p + 2) e i.at ∙ to) refl refl refl refl refl)
-
+  -- an addition to PC
   pub skip_to : (n pc pc' : ℕ) (w : WordState) (t : Core) → z.code pc ≡ Some (instruction_of (Skip n)) → n % 2 ≡ 0 → (pc + 4 + n + 0) % 0x10000 ≡ pc'
       → StandsFor z pc w t → Runs z.code [] 3 t (StandsFor z pc' w)
   skip_to n pc pc' w t h ev to i =
       let sum = sum_of Word (t.pc + 4) n false in
       hop z (Skip n) 3 t (record t { pc = sum.0; flags = sum.1 }) [] 3 _ (ap z.code i.at ∙ h) ev refl (omega arith)
       (stands_elsewhere z pc pc' w t _ i (ap (λ p. (p + 4 + n + 0) % 0x10000) i.at ∙ to) refl refl refl refl refl)
+
+  -- a jump
+  pub jump_to : (k : Condition) (o pc pc' : ℕ) (b : Bool) (w : WordState) (t : Core) → z.code pc ≡ Some (instruction_of (Jump k o)) → is_met k t.flags ≡ b
+      → (if b then sum16 (pc + 2) (distance o) else pc + 2) ≡ pc' → StandsFor z pc w t → Runs z.code [] 2 t (StandsFor z pc' w)
+  jump_to k o pc pc' b w t h e to i =
+      hop z (Jump k o) 2 t (record t { pc = if is_met k t.flags then sum16 (t.pc + 2) (distance o) else t.pc + 2 }) [] 2 _ (ap z.code i.at ∙ h) tt refl
+      (omega arith)
+      (stands_elsewhere z pc pc' w t _ i (ap₂ (λ x p. if x then sum16 (p + 2) (distance o) else p + 2) e i.at ∙ to) refl refl refl refl refl)
 
   -- the same with a register that matters
   pub jump_has : (k : Condition) (o pc pc' : ℕ) (b : Bool) (r : WorkRegister) (v : ℕ) (w : WordState) (t : Core) → z.code pc ≡ Some (instruction_of (Jump k o))
