@@ -26,35 +26,35 @@ use Rattle.codegen.proofs.Values.{difference_flags, compared_flags, compare_met,
 
 -- where a test goes on, where it holds and where it fails: at one of the two, as the flag says, it goes over so many words behind it, and what it goes over
 -- ends below 10000
-pub record Fork (sense : Bool) (d holds_at fails_at behind : ℕ) : Type 0 where
-  pub holds : (if sense then behind + 2 * d else behind) ≡ holds_at
-  pub fails : (if sense then behind else behind + 2 * d) ≡ fails_at
+pub record Fork (when : Bool) (d holds_at fails_at behind : ℕ) : Type 0 where
+  pub holds : (if when then behind + 2 * d else behind) ≡ holds_at
+  pub fails : (if when then behind else behind + 2 * d) ≡ fails_at
   pub room : behind < 0x10000 → behind + 2 * d < 0x10000
 
-pub fork_at : (sense : Bool) (d holds_at fails_at a b : ℕ) → a ≡ b → Fork sense d holds_at fails_at a → Fork sense d holds_at fails_at b
-fork_at sense d holds_at fails_at a b e k = subst (Fork sense d holds_at fails_at) e k
+pub fork_at : (when : Bool) (d holds_at fails_at a b : ℕ) → a ≡ b → Fork when d holds_at fails_at a → Fork when d holds_at fails_at b
+fork_at when d holds_at fails_at a b e k = subst (Fork when d holds_at fails_at) e k
 
-pub fork_turned : (sense : Bool) (d holds_at fails_at behind : ℕ) → Fork sense d holds_at fails_at behind → Fork (not sense) d fails_at holds_at behind
+pub fork_turned : (when : Bool) (d holds_at fails_at behind : ℕ) → Fork when d holds_at fails_at behind → Fork (not when) d fails_at holds_at behind
 fork_turned true d holds_at fails_at behind k = record { holds = k.fails; fails = k.holds; room = k.room }
 fork_turned false d holds_at fails_at behind k = record { holds = k.fails; fails = k.holds; room = k.room }
 
 -- the first of two parts that both have to hold: where it fails it goes over the second part, and on as both do where they fail
-pub fork_both : (sense : Bool) (d n holds_at fails_at middle : ℕ) → (middle < 0x10000 → middle + 2 * n < 0x10000)
-    → Fork sense d holds_at fails_at (middle + 2 * n) → Fork false (n + (if not sense then d else 0)) middle fails_at middle
+pub fork_both : (when : Bool) (d n holds_at fails_at middle : ℕ) → (middle < 0x10000 → middle + 2 * n < 0x10000)
+    → Fork when d holds_at fails_at (middle + 2 * n) → Fork false (n + (if not when then d else 0)) middle fails_at middle
 fork_both true d n holds_at fails_at middle l k = record { holds = refl; fails = omega (arith, k.fails); room = λ h. omega (arith, l h) }
 fork_both false d n holds_at fails_at middle l k = record { holds = refl; fails = omega (arith, k.fails); room = λ h. omega (arith, k.room (l h)) }
 
 -- the first of two parts of which one has to hold: where it holds it goes over the second part, and on as both do where one holds
-pub fork_either : (sense : Bool) (d n holds_at fails_at middle : ℕ) → (middle < 0x10000 → middle + 2 * n < 0x10000)
-    → Fork sense d holds_at fails_at (middle + 2 * n) → Fork true (n + (if sense then d else 0)) holds_at middle middle
+pub fork_either : (when : Bool) (d n holds_at fails_at middle : ℕ) → (middle < 0x10000 → middle + 2 * n < 0x10000)
+    → Fork when d holds_at fails_at (middle + 2 * n) → Fork true (n + (if when then d else 0)) holds_at middle middle
 fork_either true d n holds_at fails_at middle l k = record { holds = omega (arith, k.holds); fails = refl; room = λ h. omega (arith, k.room (l h)) }
 fork_either false d n holds_at fails_at middle l k = record { holds = omega (arith, k.holds); fails = refl; room = λ h. omega (arith, l h) }
 
 module _ (z : Setting) where
   -- the jump to the one way or the other
-  decision_part : (sense b : Bool) (pc d holds_at fails_at : ℕ) (met opposite : Condition) (w : WordState) (t : Core)
-      → Stands z.code pc (decision sense d met opposite)
-      → Fork sense d holds_at fails_at (pc + forms_bytes (decision sense d met opposite)) → pc < 0x10000 → Decided z pc w b met opposite t
+  decision_part : (when b : Bool) (pc d holds_at fails_at : ℕ) (met opposite : Condition) (w : WordState) (t : Core)
+      → Stands z.code pc (decision when d met opposite)
+      → Fork when d holds_at fails_at (pc + forms_bytes (decision when d met opposite)) → pc < 0x10000 → Decided z pc w b met opposite t
       → Runs z.code [] 5 t (StandsFor z (if b then holds_at else fails_at) w)
   decision_part true true pc d holds_at fails_at met opposite w t h k l i =
       let low = stands_low z pc (jump_over met opposite d) h l in
@@ -70,18 +70,18 @@ module _ (z : Setting) where
       over_part z true pc d fails_at opposite met w t h k.fails (omega (arith, k.room low, k.fails)) (record { is = i.is; holds = i.fails; fails = i.holds })
 
   -- the code that follows where it is decided, and the way that is taken
-  pub decided_follows : (sense b : Bool) (pc d holds_at fails_at n end m k : ℕ) (met opposite : Condition) (w : WordState) (u : Core) (x y : Behaviour)
-      → Stands z.code pc (decision sense d met opposite) → Fork sense d holds_at fails_at (pc + forms_bytes (decision sense d met opposite)) → pc < 0x10000
+  pub decided_follows : (when b : Bool) (pc d holds_at fails_at n end m k : ℕ) (met opposite : Condition) (w : WordState) (u : Core) (x y : Behaviour)
+      → Stands z.code pc (decision when d met opposite) → Fork when d holds_at fails_at (pc + forms_bytes (decision when d met opposite)) → pc < 0x10000
       → Runs z.code [] n u (Decided z pc w b met opposite)
       → ((t : Core) → StandsFor z holds_at w t → Follows z end m t x) → ((t : Core) → StandsFor z fails_at w t → Follows z end k t y)
       → Follows z end (n + 5 + (if b then m else k)) u (if b then x else y)
-  decided_follows sense true pc d holds_at fails_at n end m k met opposite w u x y h fork l r f g =
+  decided_follows when true pc d holds_at fails_at n end m k met opposite w u x y h fork l r f g =
       let come = runs_on z n 5 u (Decided z pc w true met opposite) (StandsFor z holds_at w) [] [] r
-      (λ t i. decision_part sense true pc d holds_at fails_at met opposite w t h fork l i) in
+      (λ t i. decision_part when true pc d holds_at fails_at met opposite w t h fork l i) in
       then_end z end (n + 5) m u (StandsFor z holds_at w) [] x.effects x.end come f
-  decided_follows sense false pc d holds_at fails_at n end m k met opposite w u x y h fork l r f g =
+  decided_follows when false pc d holds_at fails_at n end m k met opposite w u x y h fork l r f g =
       let come = runs_on z n 5 u (Decided z pc w false met opposite) (StandsFor z fails_at w) [] [] r
-      (λ t i. decision_part sense false pc d holds_at fails_at met opposite w t h fork l i) in
+      (λ t i. decision_part when false pc d holds_at fails_at met opposite w t h fork l i) in
       then_end z end (n + 5) k u (StandsFor z fails_at w) [] y.effects y.end come g
 
   -- ---- whether the top isn't 0
@@ -89,10 +89,10 @@ module _ (z : Setting) where
   abbrev zero_test : Form
   zero_test = Calculate op.Cmp (Constant konst.Zero) R4
 
-  pub holds_part : (sense : Bool) (pc v d : ℕ) (vs : List ℕ) (w : WordState) (u : Core) → w.stack ≡ v ∷ vs → v < 0x10000
-      → Stands z.code pc (holds_code sense d) → StandsFor z pc w u
+  pub holds_part : (when : Bool) (pc v d : ℕ) (vs : List ℕ) (w : WordState) (u : Core) → w.stack ≡ v ∷ vs → v < 0x10000
+      → Stands z.code pc (holds_code when d) → StandsFor z pc w u
       → Runs z.code [] 3 u (Decided z (pc + 4) (with_stack vs w) (is_true v) condition.NotEqual condition.Equal)
-  holds_part sense pc v d vs w u e l h i =
+  holds_part when pc v d vs w u e l h i =
       let ms = zero_test ∷ [] in
       runs_on z 2 1 u _ _ [] [] (pop_part z pc v vs w u e h.0 i) (λ t k.
       let zero : ((t.work 4 + 65535 + 1) % 65536 == 0) ≡ (v == 0) = ap (λ x. (x + 65535 + 1) % 65536 == 0) k.value ∙ zero_flag v l in

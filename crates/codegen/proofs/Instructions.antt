@@ -104,7 +104,7 @@ over_are : (near : Bool) (met opposite : Condition) (d : ℕ) → nat_le d 511 �
 over_are true met opposite d e = (near_is d e, tt)
 over_are false met opposite d e = search arith
 
-decision_are : (sense : Bool) (d : ℕ) (met opposite : Condition) → Are (decision sense d met opposite)
+decision_are : (when : Bool) (d : ℕ) (met opposite : Condition) → Are (decision when d met opposite)
 decision_are true d met opposite = over_are (nat_le d 511) met opposite d refl
 decision_are false d met opposite = over_are (nat_le d 511) opposite met d refl
 
@@ -164,20 +164,20 @@ mutual
   step_are (move_word from to) = (tt, tt)
   step_are (jump to) = (tt, tt)
 
-  test_are : (t : Test) (sense : Bool) (d : ℕ) → Are (test_code t sense d)
-  test_are (holds p) sense d =
-      are-append (code_of p) (holds_code sense d) (code_are p) (tt, (tt, decision_are sense d condition.NotEqual condition.Equal))
-  test_are (compares c p) sense d =
-      are-append (code_of p) (compares_code c sense d) (code_are p) (tt, (tt, (compare_is c, decision_are sense d (holding c) (failing c))))
-  test_are (both t u) sense d =
-      let second = test_code u sense d in
-      let more = size second + (if not sense then d else 0) in
-      are-append (test_code t false more) second (test_are t false more) (test_are u sense d)
-  test_are (either t u) sense d =
-      let second = test_code u sense d in
-      let more = size second + (if sense then d else 0) in
-      are-append (test_code t true more) second (test_are t true more) (test_are u sense d)
-  test_are (fails t) sense d = test_are t (not sense) d
+  test_are : (t : Test) (when : Bool) (d : ℕ) → Are (test_code t when d)
+  test_are (holds p) when d =
+      are-append (code_of p) (holds_code when d) (code_are p) (tt, (tt, decision_are when d condition.NotEqual condition.Equal))
+  test_are (compares c p) when d =
+      are-append (code_of p) (compares_code c when d) (code_are p) (tt, (tt, (compare_is c, decision_are when d (holding c) (failing c))))
+  test_are (both t u) when d =
+      let second = test_code u when d in
+      let more = size second + (if not when then d else 0) in
+      are-append (test_code t false more) second (test_are t false more) (test_are u when d)
+  test_are (either t u) when d =
+      let second = test_code u when d in
+      let more = size second + (if when then d else 0) in
+      are-append (test_code t true more) second (test_are t true more) (test_are u when d)
+  test_are (fails t) when d = test_are t (not when) d
 
   -- the code's forms are instructions
   pub code_are : (p : Program) → Are (code_of p)

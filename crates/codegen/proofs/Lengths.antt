@@ -87,7 +87,7 @@ either_short : (b : Bool) (x y : List Form) (most : ℕ) → forms_bytes x ≤ m
 either_short true x y most h k = h
 either_short false x y most h k = k
 
-decision_short : (sense : Bool) (d : ℕ) (met opposite : Condition) → forms_bytes (decision sense d met opposite) ≤ 6
+decision_short : (when : Bool) (d : ℕ) (met opposite : Condition) → forms_bytes (decision when d met opposite) ≤ 6
 decision_short true d met opposite = either_short (nat_le d 511) _ _ 6 (omega arith) (omega arith)
 decision_short false d met opposite = either_short (nat_le d 511) _ _ 6 (omega arith) (omega arith)
 
@@ -166,22 +166,22 @@ mutual
   step_short (move_word from to) = omega arith
   step_short (jump to) = omega arith
 
-  pub test_short : (t : Test) (sense : Bool) (d : ℕ) → forms_bytes (test_code t sense d) ≤ 2 * test_words t
-  test_short (holds p) sense d =
-      let e = decision_short sense d condition.NotEqual condition.Equal in
-      omega (arith, forms_bytes-append (code_of p) (holds_code sense d), e, code_short p)
-  test_short (compares c p) sense d =
-      let e = decision_short sense d (holding c) (failing c) in
-      omega (arith, forms_bytes-append (code_of p) (compares_code c sense d), e, compare_length c, code_short p)
-  test_short (both t u) sense d =
-      let second = test_code u sense d in
-      let more = size second + (if not sense then d else 0) in
-      omega (arith, forms_bytes-append (test_code t false more) second, test_short t false more, test_short u sense d)
-  test_short (either t u) sense d =
-      let second = test_code u sense d in
-      let more = size second + (if sense then d else 0) in
-      omega (arith, forms_bytes-append (test_code t true more) second, test_short t true more, test_short u sense d)
-  test_short (fails t) sense d = test_short t (not sense) d
+  pub test_short : (t : Test) (when : Bool) (d : ℕ) → forms_bytes (test_code t when d) ≤ 2 * test_words t
+  test_short (holds p) when d =
+      let e = decision_short when d condition.NotEqual condition.Equal in
+      omega (arith, forms_bytes-append (code_of p) (holds_code when d), e, code_short p)
+  test_short (compares c p) when d =
+      let e = decision_short when d (holding c) (failing c) in
+      omega (arith, forms_bytes-append (code_of p) (compares_code c when d), e, compare_length c, code_short p)
+  test_short (both t u) when d =
+      let second = test_code u when d in
+      let more = size second + (if not when then d else 0) in
+      omega (arith, forms_bytes-append (test_code t false more) second, test_short t false more, test_short u when d)
+  test_short (either t u) when d =
+      let second = test_code u when d in
+      let more = size second + (if when then d else 0) in
+      omega (arith, forms_bytes-append (test_code t true more) second, test_short t true more, test_short u when d)
+  test_short (fails t) when d = test_short t (not when) d
 
   -- the code is no longer than its words are counted
   pub code_short : (p : Program) → forms_bytes (code_of p) ≤ 2 * words_of p

@@ -112,15 +112,15 @@ module _ (z : Setting) where
   binary_follows (Plain o) = by_middle (Plain o) R4 1 (plain_middle z o)
 
   -- the forms in front of a comparison's decision, and the decision
-  compares_front : (c : Comparison) (pc : ℕ) (far : Bool) (holds_at fails_at : ℕ) → Stands z.code pc (compares_code c far holds_at fails_at)
+  compares_front : (c : Comparison) (pc : ℕ) (when : Bool) (d : ℕ) → Stands z.code pc (compares_code c when d)
       → Stands z.code pc (pop_to R5 ∷ pop_to R4 ∷ compare_form c ∷ [])
-  compares_front c pc far holds_at fails_at h = (h.0, (h.1.0, (h.1.1.0, tt)))
+  compares_front c pc when d h = (h.0, (h.1.0, (h.1.1.0, tt)))
 
-  compares_rest : (c : Comparison) (pc : ℕ) (far : Bool) (holds_at fails_at : ℕ) → Stands z.code pc (compares_code c far holds_at fails_at)
-      → Stands z.code (pc + 6) (decision far holds_at fails_at (holding c) (failing c))
-  compares_rest c pc far holds_at fails_at h =
-      subst (λ n. Stands z.code n (decision far holds_at fails_at (holding c) (failing c))) (omega (arith, compare_length c))
-      (forms_behind z.code pc 3 (compares_code c far holds_at fails_at) h)
+  compares_rest : (c : Comparison) (pc : ℕ) (when : Bool) (d : ℕ) → Stands z.code pc (compares_code c when d)
+      → Stands z.code (pc + 6) (decision when d (holding c) (failing c))
+  compares_rest c pc when d h =
+      subst (λ n. Stands z.code n (decision when d (holding c) (failing c))) (omega (arith, compare_length c))
+      (forms_behind z.code pc 3 (compares_code c when d) h)
 
   -- 1 is pushed, and the jump leads past the other number
   one_pushed : (pc : ℕ) (w : WordState) (u : Core) → Stands z.code pc truth_code → length w.stack < z.room → StandsFor z pc w u
@@ -130,18 +130,22 @@ module _ (z : Setting) where
       runs_on z 3 2 u _ _ [] [] (constant_part z konst.One pc w u l (h.0, tt) i)
       (λ t j. jump_to z condition.Always 1 (pc + 2) (pc + 6) true _ t h.1.0 refl (omega arith) j)
 
-  third : (pc : ℕ) → Stands z.code pc truth_code → Stands z.code (pc + 4) (Push (Constant konst.Zero) ∷ [])
-  third pc h = forms_behind z.code pc 2 truth_code h
+  -- 0 is pushed
+  zero_pushed : (pc : ℕ) (w : WordState) (u : Core) → Stands z.code pc truth_code → length w.stack < z.room → StandsFor z (pc + 4) w u
+      → Follows z (pc + 6) 3 u (number_pushed 0 w)
+  zero_pushed pc w u h l i =
+      ends_at z (pc + 4 + 2) (pc + 6) 3 u (number_pushed 0 w) (omega arith)
+      (constant_part z konst.Zero (pc + 4) w u l (forms_behind z.code pc 2 truth_code h) i)
 
   -- from states from which what follows is fit, code follows a way
   abbrev WayFollows : (Place → Type 0) → ℕ → ℕ → (WordState → ℕ) → (WordState → Behaviour) → Type 0
   WayFollows next at end cost run = (v : WordState) (x : Core) → Ready next v → StandsFor z at v x → Follows z end (cost v) x (run v)
 
   -- behind a program whose word or words decide
-  module _ (sense : Bool) (d holds_at fails_at end : ℕ) (held failed : Place → Type 0) (ch cf : WordState → ℕ) (rh rf : WordState → Behaviour)
+  module _ (when : Bool) (d holds_at fails_at end : ℕ) (held failed : Place → Type 0) (ch cf : WordState → ℕ) (rh rf : WordState → Behaviour)
       (fh : WayFollows held holds_at end ch rh) (ff : WayFollows failed fails_at end cf rf) where
-    by_top : (pc : ℕ) (w : WordState) (u : Core) (vs : List ℕ) → Stands z.code pc (holds_code sense d)
-        → Fork sense d holds_at fails_at (pc + forms_bytes (holds_code sense d))
+    by_top : (pc : ℕ) (w : WordState) (u : Core) (vs : List ℕ) → Stands z.code pc (holds_code when d)
+        → Fork when d holds_at fails_at (pc + forms_bytes (holds_code when d))
         → Ready (Moves z.room 1 0 (λ r. held r × failed r)) w → w.stack ≡ vs → StandsFor z pc w u
         → Follows z end (8 + top_spent vs (λ v us. if is_true v then ch (with_stack us w) else cf (with_stack us w))) u
         (with_top vs (λ v us. if is_true v then rh (with_stack us w) else rf (with_stack us w)))
@@ -153,15 +157,15 @@ module _ (z : Setting) where
         let popped : (next : Place → Type 0) → next (record r.place { depth = r.place.depth - 1 + 0 }) → Ready next t =
         λ next f. ready_popped next r.place 1 w us f r.matches r.words_in left words.1 in
         let high = (z.tidy (pc + 2) _ h.1.0).high in
-        let last = decision sense d condition.NotEqual condition.Equal in
-        decided_follows z sense (is_true v) (pc + 4) d holds_at fails_at 3 end (ch t) (cf t) condition.NotEqual condition.Equal t u (rh t) (rf t)
-        (forms_behind z.code pc 2 (holds_code sense d) h)
-        (fork_at sense d holds_at fails_at (pc + forms_bytes (holds_code sense d)) (pc + 4 + forms_bytes last) (omega arith) fork) (omega arith)
-        (holds_part z sense pc v d us w u e words.0 h i)
+        let last = decision when d condition.NotEqual condition.Equal in
+        decided_follows z when (is_true v) (pc + 4) d holds_at fails_at 3 end (ch t) (cf t) condition.NotEqual condition.Equal t u (rh t) (rf t)
+        (forms_behind z.code pc 2 (holds_code when d) h)
+        (fork_at when d holds_at fails_at (pc + forms_bytes (holds_code when d)) (pc + 4 + forms_bytes last) (omega arith) fork) (omega arith)
+        (holds_part z when pc v d us w u e words.0 h i)
         (λ x j. fh t x (popped held r.fit.2.0) j) (λ x j. ff t x (popped failed r.fit.2.1) j)
 
-    by_two : (c : Comparison) (pc : ℕ) (w : WordState) (u : Core) (vs : List ℕ) → Stands z.code pc (compares_code c sense d)
-        → Fork sense d holds_at fails_at (pc + forms_bytes (compares_code c sense d))
+    by_two : (c : Comparison) (pc : ℕ) (w : WordState) (u : Core) (vs : List ℕ) → Stands z.code pc (compares_code c when d)
+        → Fork when d holds_at fails_at (pc + forms_bytes (compares_code c when d))
         → Ready (Moves z.room 2 0 (λ r. held r × failed r)) w → w.stack ≡ vs → StandsFor z pc w u
         → Follows z end
         (10 + top_spent vs (λ y xs. top_spent xs (λ x us. if compare_words c x y then ch (with_stack us w) else cf (with_stack us w)))) u
@@ -175,11 +179,11 @@ module _ (z : Setting) where
         let popped : (next : Place → Type 0) → next (record r.place { depth = r.place.depth - 2 + 0 }) → Ready next t =
         λ next f. ready_popped next r.place 2 w us f r.matches r.words_in left words.1.1 in
         let high = (z.tidy (pc + 2 + 2) _ h.1.1.0).high in
-        let last = decision sense d (holding c) (failing c) in
-        decided_follows z sense (compare_words c x y) (pc + 6) d holds_at fails_at 5 end (ch t) (cf t) (holding c) (failing c) t u (rh t) (rf t)
-        (compares_rest c pc sense d h)
-        (fork_at sense d holds_at fails_at (pc + forms_bytes (compares_code c sense d)) (pc + 6 + forms_bytes last) (omega (arith, compare_length c)) fork)
-        (omega arith) (compares_part z c pc x y us w u e words.1.0 words.0 (compares_front c pc sense d h) i)
+        let last = decision when d (holding c) (failing c) in
+        decided_follows z when (compare_words c x y) (pc + 6) d holds_at fails_at 5 end (ch t) (cf t) (holding c) (failing c) t u (rh t) (rf t)
+        (compares_rest c pc when d h)
+        (fork_at when d holds_at fails_at (pc + forms_bytes (compares_code c when d)) (pc + 6 + forms_bytes last) (omega (arith, compare_length c)) fork)
+        (omega arith) (compares_part z c pc x y us w u e words.1.0 words.0 (compares_front c pc when d h) i)
         (λ s j. fh t s (popped held r.fit.2.0) j) (λ s j. ff t s (popped failed r.fit.2.1) j)
 
   mutual
@@ -280,68 +284,68 @@ module _ (z : Setting) where
     step_follows (move_word from to) next pc w u r o l c h i = guarded z (is_place from) (pc + 6) 6 u _ (λ e. move_part z from to pc w u (place_is from e) h i)
     step_follows (jump to) next pc w u r o l c h i = jump_part z to pc w u r.fit h i
 
-    test_follows : (t : Test) (sense : Bool) (d holds_at fails_at pc end : ℕ) (held failed : Place → Type 0) (ch cf : WordState → ℕ)
+    test_follows : (t : Test) (when : Bool) (d holds_at fails_at pc end : ℕ) (held failed : Place → Type 0) (ch cf : WordState → ℕ)
         (rh rf : WordState → Behaviour) (w : WordState) (u : Core) → Ready (EachTestWay z.room t held failed) w → TestOfWords t
         → TestLocalsBelow z.locals t → TestLoopsCount t
-        → Stands z.code pc (test_code t sense d) → Fork sense d holds_at fails_at (pc + forms_bytes (test_code t sense d))
+        → Stands z.code pc (test_code t when d) → Fork when d holds_at fails_at (pc + forms_bytes (test_code t when d))
         → WayFollows held holds_at end ch rh → WayFollows failed fails_at end cf rf → StandsFor z pc w u
         → Follows z end (test_spent t ch cf w) u (tested t rh rf w)
-    test_follows (holds p) sense d holds_at fails_at pc end held failed ch cf rh rf w u r o l c h fork fh ff i =
+    test_follows (holds p) when d holds_at fails_at pc end held failed ch cf rh rf w u r o l c h fork fh ff i =
         let a = code_of p in
         let at = pc + forms_bytes a in
-        let last = holds_code sense d in
+        let last = holds_code when d in
         let next = Moves z.room 1 0 (λ s. held s × failed s) in
         let b = behaviour p w in
         then_way z at end (spent p w) (λ v. 8 + spent_by_top ch cf v) u (Ready next) b.effects b.end (way_by_top rh rf)
         (program_follows p next pc w u r o l c (stands_front z.code pc a last h) i)
         (ready_on next b.end (well z.room p next r.place w r.fit r.matches) (words p w o r.words_in))
-        (λ x v q j. by_top sense d holds_at fails_at end held failed ch cf rh rf fh ff at v x v.stack (stands_back z.code pc a last h)
-        (fork_at sense d holds_at fails_at (pc + forms_bytes (a ++ last)) (at + forms_bytes last) (omega (arith, forms_bytes-append a last)) fork) q refl j)
-    test_follows (compares e p) sense d holds_at fails_at pc end held failed ch cf rh rf w u r o l c h fork fh ff i =
+        (λ x v q j. by_top when d holds_at fails_at end held failed ch cf rh rf fh ff at v x v.stack (stands_back z.code pc a last h)
+        (fork_at when d holds_at fails_at (pc + forms_bytes (a ++ last)) (at + forms_bytes last) (omega (arith, forms_bytes-append a last)) fork) q refl j)
+    test_follows (compares e p) when d holds_at fails_at pc end held failed ch cf rh rf w u r o l c h fork fh ff i =
         let a = code_of p in
         let at = pc + forms_bytes a in
-        let last = compares_code e sense d in
+        let last = compares_code e when d in
         let next = Moves z.room 2 0 (λ s. held s × failed s) in
         let b = behaviour p w in
         then_way z at end (spent p w) (λ v. 10 + spent_by_two e ch cf v) u (Ready next) b.effects b.end (way_by_two e rh rf)
         (program_follows p next pc w u r o l c (stands_front z.code pc a last h) i)
         (ready_on next b.end (well z.room p next r.place w r.fit r.matches) (words p w o r.words_in))
-        (λ x v q j. by_two sense d holds_at fails_at end held failed ch cf rh rf fh ff e at v x v.stack (stands_back z.code pc a last h)
-        (fork_at sense d holds_at fails_at (pc + forms_bytes (a ++ last)) (at + forms_bytes last) (omega (arith, forms_bytes-append a last)) fork) q refl j)
-    test_follows (both t e) sense d holds_at fails_at pc end held failed ch cf rh rf w u r o l c h fork fh ff i =
-        let second = test_code e sense d in
-        let over = size second + (if not sense then d else 0) in
+        (λ x v q j. by_two when d holds_at fails_at end held failed ch cf rh rf fh ff e at v x v.stack (stands_back z.code pc a last h)
+        (fork_at when d holds_at fails_at (pc + forms_bytes (a ++ last)) (at + forms_bytes last) (omega (arith, forms_bytes-append a last)) fork) q refl j)
+    test_follows (both t e) when d holds_at fails_at pc end held failed ch cf rh rf w u r o l c h fork fh ff i =
+        let second = test_code e when d in
+        let over = size second + (if not when then d else 0) in
         let first = test_code t false over in
         let middle = pc + forms_bytes first in
         let behind = pc + forms_bytes (first ++ second) in
         let front = stands_front z.code pc first second h in
         let back = stands_back z.code pc first second h in
-        let counted = fork_at sense d holds_at fails_at behind (middle + 2 * size second)
+        let counted = fork_at when d holds_at fails_at behind (middle + 2 * size second)
         (omega (arith, forms_bytes-append first second, whole_size second)) fork in
-        let last = fork_at sense d holds_at fails_at behind (middle + forms_bytes second) (omega (arith, forms_bytes-append first second)) fork in
+        let last = fork_at when d holds_at fails_at behind (middle + forms_bytes second) (omega (arith, forms_bytes-append first second)) fork in
         let low : middle < 0x10000 → middle + 2 * size second < 0x10000 =
         λ less. omega (arith, stands_low z middle second back less, whole_size second) in
         test_follows t false over middle fails_at pc end (EachTestWay z.room e held failed) failed (test_spent e ch cf) cf (tested e rh rf) rf w u
-        r o.0 l.0 c.0 front (fork_both sense d (size second) holds_at fails_at middle low counted)
-        (λ v x q j. test_follows e sense d holds_at fails_at middle end held failed ch cf rh rf v x q o.1 l.1 c.1 back last fh ff j) ff i
-    test_follows (either t e) sense d holds_at fails_at pc end held failed ch cf rh rf w u r o l c h fork fh ff i =
-        let second = test_code e sense d in
-        let over = size second + (if sense then d else 0) in
+        r o.0 l.0 c.0 front (fork_both when d (size second) holds_at fails_at middle low counted)
+        (λ v x q j. test_follows e when d holds_at fails_at middle end held failed ch cf rh rf v x q o.1 l.1 c.1 back last fh ff j) ff i
+    test_follows (either t e) when d holds_at fails_at pc end held failed ch cf rh rf w u r o l c h fork fh ff i =
+        let second = test_code e when d in
+        let over = size second + (if when then d else 0) in
         let first = test_code t true over in
         let middle = pc + forms_bytes first in
         let behind = pc + forms_bytes (first ++ second) in
         let front = stands_front z.code pc first second h in
         let back = stands_back z.code pc first second h in
-        let counted = fork_at sense d holds_at fails_at behind (middle + 2 * size second)
+        let counted = fork_at when d holds_at fails_at behind (middle + 2 * size second)
         (omega (arith, forms_bytes-append first second, whole_size second)) fork in
-        let last = fork_at sense d holds_at fails_at behind (middle + forms_bytes second) (omega (arith, forms_bytes-append first second)) fork in
+        let last = fork_at when d holds_at fails_at behind (middle + forms_bytes second) (omega (arith, forms_bytes-append first second)) fork in
         let low : middle < 0x10000 → middle + 2 * size second < 0x10000 =
         λ less. omega (arith, stands_low z middle second back less, whole_size second) in
         test_follows t true over holds_at middle pc end held (EachTestWay z.room e held failed) ch (test_spent e ch cf) rh (tested e rh rf) w u
-        r o.0 l.0 c.0 front (fork_either sense d (size second) holds_at fails_at middle low counted) fh
-        (λ v x q j. test_follows e sense d holds_at fails_at middle end held failed ch cf rh rf v x q o.1 l.1 c.1 back last fh ff j) i
-    test_follows (fails t) sense d holds_at fails_at pc end held failed ch cf rh rf w u r o l c h fork fh ff i =
-        test_follows t (not sense) d fails_at holds_at pc end failed held cf ch rf rh w u r o l c h (fork_turned sense d holds_at fails_at _ fork) ff fh i
+        r o.0 l.0 c.0 front (fork_either when d (size second) holds_at fails_at middle low counted) fh
+        (λ v x q j. test_follows e when d holds_at fails_at middle end held failed ch cf rh rf v x q o.1 l.1 c.1 back last fh ff j) i
+    test_follows (fails t) when d holds_at fails_at pc end held failed ch cf rh rf w u r o l c h fork fh ff i =
+        test_follows t (not when) d fails_at holds_at pc end failed held cf ch rf rh w u r o l c h (fork_turned when d holds_at fails_at _ fork) ff fh i
 
     program_follows : (p : Program) (next : Place → Type 0) (pc : ℕ) (w : WordState) (u : Core) → Ready (EachWay z.room p next) w → OfWords p
         → LocalsBelow z.locals p → LoopsCount p

@@ -301,11 +301,11 @@ decision false d met opposite = jump_over opposite met d
 
 -- by whether the top isn't 0
 abbrev pub holds_code : Bool → ℕ → List Form
-holds_code sense d = pop_to R4 ∷ Calculate op.Cmp (Constant konst.Zero) R4 ∷ decision sense d condition.NotEqual condition.Equal
+holds_code when d = pop_to R4 ∷ Calculate op.Cmp (Constant konst.Zero) R4 ∷ decision when d condition.NotEqual condition.Equal
 
 -- by whether the two words on top compare so
 abbrev pub compares_code : Comparison → Bool → ℕ → List Form
-compares_code c sense d = pop_to R5 ∷ pop_to R4 ∷ compare_form c ∷ decision sense d (holding c) (failing c)
+compares_code c when d = pop_to R5 ∷ pop_to R4 ∷ compare_form c ∷ decision when d (holding c) (failing c)
 
 -- 1 is pushed, and from the third word on 0
 abbrev pub truth_code : List Form
@@ -362,15 +362,15 @@ abbrev mutual
 
   -- the code of a test: it goes over so many words behind it where the test's truth is this one, else on
   pub test_code : Test → Bool → ℕ → List Form
-  test_code (holds p) sense d = code_of p ++ holds_code sense d
-  test_code (compares c p) sense d = code_of p ++ compares_code c sense d
-  test_code (both t u) sense d =
-      let second = test_code u sense d in
-      test_code t false (size second + (if not sense then d else 0)) ++ second
-  test_code (either t u) sense d =
-      let second = test_code u sense d in
-      test_code t true (size second + (if sense then d else 0)) ++ second
-  test_code (fails t) sense d = test_code t (not sense) d
+  test_code (holds p) when d = code_of p ++ holds_code when d
+  test_code (compares c p) when d = code_of p ++ compares_code c when d
+  test_code (both t u) when d =
+      let second = test_code u when d in
+      test_code t false (size second + (if not when then d else 0)) ++ second
+  test_code (either t u) when d =
+      let second = test_code u when d in
+      test_code t true (size second + (if when then d else 0)) ++ second
+  test_code (fails t) when d = test_code t (not when) d
 
   -- the code of a program
   pub code_of : Program → List Form

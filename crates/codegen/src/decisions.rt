@@ -112,16 +112,16 @@ pub fn emit_jump_back(
 
 // Over so many words where what the flags tell is as the flag says, else on.
 fn emit_decision(
-    sense: bool,
+    when: bool,
     over: u16,
     met: Condition,
     opposite: Condition,
     code: &mut Vec<Instr>,
 ) -> Result<(), AllocError>
     requires { 2 * over ≤ 0xFFFE }
-    ensures { OnOk result (code.new.items ≡ code.old.items ++ instructions (decision sense over met opposite)) }
+    ensures { OnOk result (code.new.items ≡ code.old.items ++ instructions (decision when over met opposite)) }
 {
-    if sense {
+    if when {
         emit_jump_over(met, opposite, over, code)
     } else {
         emit_jump_over(opposite, met, over, code)
@@ -129,31 +129,31 @@ fn emit_decision(
 }
 
 /// Appends the code that pops a word and goes over so many words by whether it isn't 0.
-pub fn emit_holds(sense: bool, over: u16, code: &mut Vec<Instr>) -> Result<(), AllocError>
+pub fn emit_holds(when: bool, over: u16, code: &mut Vec<Instr>) -> Result<(), AllocError>
     requires { 2 * over ≤ 0xFFFE }
-    ensures { OnOk result (code.new.items ≡ code.old.items ++ instructions (holds_code sense over)) }
+    ensures { OnOk result (code.new.items ≡ code.old.items ++ instructions (holds_code when over)) }
 {
     code.extend_from_slice(&[
         two(TwoOp::Mov, POPPED, TO_R4),
         two(TwoOp::Cmp, constant(Konst::Zero), TO_R4),
     ])?;
-    emit_decision(sense, over, Condition::NotEqual, Condition::Equal, code)
+    emit_decision(when, over, Condition::NotEqual, Condition::Equal, code)
 }
 
 /// Appends the code that pops two words and goes over so many words by how they compare.
 pub fn emit_compares(
     comparison: Comparison,
-    sense: bool,
+    when: bool,
     over: u16,
     code: &mut Vec<Instr>,
 ) -> Result<(), AllocError>
     requires { 2 * over ≤ 0xFFFE }
-    ensures { OnOk result (code.new.items ≡ code.old.items ++ instructions (compares_code comparison sense over)) }
+    ensures { OnOk result (code.new.items ≡ code.old.items ++ instructions (compares_code comparison when over)) }
 {
     code.extend_from_slice(&[
         two(TwoOp::Mov, POPPED, TO_R5),
         two(TwoOp::Mov, POPPED, TO_R4),
         compare(comparison),
     ])?;
-    emit_decision(sense, over, holding(comparison), failing(comparison), code)
+    emit_decision(when, over, holding(comparison), failing(comparison), code)
 }

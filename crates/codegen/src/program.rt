@@ -197,40 +197,40 @@ fn words_if(flag: bool, words: u16) -> u16
 fn emit_test(
     alloc: Global,
     test: &WordTest,
-    sense: bool,
+    when: bool,
     over: u16,
     code: &mut Vec<Instr>,
 ) -> Result<(), AllocError>
     requires room { over + test_words (test_of test.now) ≤ 0x7FFF }
     requires locals { TestLocalsBelow 1008 (test_of test.now) }
     ensures code { OnOk result (code.new.items
-        ≡ code.old.items ++ instructions (test_code (test_of test.now) sense over)) }
+        ≡ code.old.items ++ instructions (test_code (test_of test.now) when over)) }
     ensures of_words { OnOk result (TestOfWords (test_of test.now)) }
 {
     match test {
         WordTest::Holds(steps) => {
             emit_steps(alloc, steps, code)?;
-            emit_holds(sense, over, code)
+            emit_holds(when, over, code)
         }
         WordTest::Compares(comparison, steps) => {
             emit_steps(alloc, steps, code)?;
-            emit_compares(*comparison, sense, over, code)
+            emit_compares(*comparison, when, over, code)
         }
         WordTest::Both(first, second) => {
             let mut behind = Vec::new(alloc);
-            emit_test(alloc, second, sense, over, &mut behind)?;
-            let further = code_words(&behind) + words_if(!sense, over);
+            emit_test(alloc, second, when, over, &mut behind)?;
+            let further = code_words(&behind) + words_if(!when, over);
             emit_test(alloc, first, false, further, code)?;
             code.extend_from_slice(&behind)
         }
         WordTest::Either(first, second) => {
             let mut behind = Vec::new(alloc);
-            emit_test(alloc, second, sense, over, &mut behind)?;
-            let further = code_words(&behind) + words_if(sense, over);
+            emit_test(alloc, second, when, over, &mut behind)?;
+            let further = code_words(&behind) + words_if(when, over);
             emit_test(alloc, first, true, further, code)?;
             code.extend_from_slice(&behind)
         }
-        WordTest::Fails(test) => emit_test(alloc, test, !sense, over, code),
+        WordTest::Fails(test) => emit_test(alloc, test, !when, over, code),
     }
 }
 
