@@ -48,7 +48,7 @@ module _ (z : Setting) where
 
   -- over so many words where it holds; by whether they are few
   over_by : (near b : Bool) (pc d to : ℕ) (met opposite : Condition) (w : WordState) (t : Core) → nat_le d 511 ≡ near
-      → (let ms = if near then Jump met d ∷ [] else (Jump opposite 2 ∷ Skip (2 * d) ∷ []) in Stands z.code pc ms
+      → (let ms : List Form = if near then Jump met d ∷ [] else (Jump opposite 2 ∷ Skip (2 * d) ∷ []) in Stands z.code pc ms
       → (if b then pc + forms_bytes ms + 2 * d else pc + forms_bytes ms) ≡ to → to < 0x10000 → Decided pc w b met opposite t
       → Runs z.code [] 5 t (StandsFor z to w))
   over_by true true pc d to met opposite w t n h e l k =
@@ -72,7 +72,7 @@ module _ (z : Setting) where
 
   -- over so many words in any case; by whether there are any, and few
   pass_by : (empty near : Bool) (pc d to : ℕ) (w : WordState) (t : Core) → (d == 0) ≡ empty → nat_le d 511 ≡ near
-      → (let ms = if empty then [] else if near then Jump condition.Always d ∷ [] else (Skip (2 * d) ∷ []) in Stands z.code pc ms
+      → (let ms : List Form = if empty then [] else if near then Jump condition.Always d ∷ [] else (Skip (2 * d) ∷ []) in Stands z.code pc ms
       → pc + forms_bytes ms + 2 * d ≡ to → (pc + forms_bytes ms < 0x10000 → to < 0x10000) → StandsFor z pc w t
       → Runs z.code [] 3 t (StandsFor z to w))
   pass_by true near pc d to w t n m h e low i =
@@ -96,7 +96,7 @@ module _ (z : Setting) where
 
   -- back over so many words where it holds; by whether they are few
   back_by : (near b : Bool) (pc d to : ℕ) (met opposite : Condition) (w : WordState) (t : Core) → nat_le d 511 ≡ near
-      → (let ms = if near then Jump met (1023 - d) ∷ [] else (Jump opposite 2 ∷ Skip (0xFFFA - 2 * d) ∷ []) in Stands z.code pc ms
+      → (let ms : List Form = if near then Jump met (1023 - d) ∷ [] else (Jump opposite 2 ∷ Skip (0xFFFA - 2 * d) ∷ []) in Stands z.code pc ms
       → (if b then to + 2 * d ≡ pc else pc + forms_bytes ms ≡ to) → Decided pc w b met opposite t → Runs z.code [] 5 t (StandsFor z to w))
   back_by true true pc d to met opposite w t n h e k =
       let l = near_is d n in

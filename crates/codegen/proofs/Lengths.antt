@@ -153,7 +153,7 @@ mutual
         code_short otherwise,
       )
   step_short (repeat n from below body) =
-      let turns = if nat_lt from below then turns_code n below (code_of body) else [] in
+      let turns : List Form = if nat_lt from below then turns_code n below (code_of body) else [] in
       omega (
         arith,
         forms_bytes-append (number_code n from) turns,

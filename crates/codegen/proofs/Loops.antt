@@ -36,7 +36,7 @@ module _ (z : Setting) where
 
   raise_by : (b : Bool) (pc n k below : ℕ) (w : WordState) (u : Core) → nat_lt n 8 ≡ b → n < z.locals → w.locals n ≡ Some k → k + 1 < 0x10000
       → below < 0x10000
-      → (let ms = if b then Calculate op.Add (Constant konst.One) (local_register n) ∷ Calculate op.Cmp (Number below) (local_register n) ∷ []
+      → (let ms : List Form = if b then Calculate op.Add (Constant konst.One) (local_register n) ∷ Calculate op.Cmp (Number below) (local_register n) ∷ []
       else (ram_turn_end n below) in
       Stands z.code pc ms → StandsFor z pc w u → Runs z.code [] 10 u (Raised (pc + forms_bytes ms) n (k + 1) below w))
   raise_by true pc n k below w u b lt q l lb h i =
@@ -169,7 +169,7 @@ module _ (z : Setting) where
   -- a loop, where its code stands; by whether it makes a turn
   pub loop_by : (any : Bool) (body : List Form) (pc n from below : ℕ) (cost : WordState → ℕ) (run : WordState → Behaviour) (fit : ℕ → WordState → Type 0)
       (s : WordState) (u : Core) → nat_lt from below ≡ any → n < z.locals → below < 0x10000
-      → (let start = number_code n from in let rest = if any then turns_code n below body else [] in
+      → (let start = number_code n from in let rest : List Form = if any then turns_code n below body else [] in
       Stands z.code pc (start ++ rest) → StandsFor z pc s u → fit (below - from) s
       → (Stands z.code (pc + forms_bytes start) body → (m k : ℕ) (s : WordState) (t : Core) → fit (suc m) s → k < below
       → StandsFor z (pc + forms_bytes start) (with_local n k s) t

@@ -7,7 +7,7 @@ use Rattle.array_versions.specs.fram_board.Effects.{Store}
 use Rattle.array_versions.specs.machine_effects.World.{put}
 use Rattle.array_versions.specs.machine_effects.Going.{At, stretch}
 use Rattle.code_forms.specs.Forms.{R4, R5, work_number, Core, Register, Ram, Popped, ToRegister, ToRam, Move, Calculate, Update, IsNotMov}
-use Rattle.code_forms.specs.Forms.{flags_after, instruction_of}
+use Rattle.code_forms.specs.Forms.{Form, flags_after, instruction_of}
 use Rattle.code_forms.specs.Code.{Stands, forms_bytes, forms_run, Runs}
 use Rattle.code_forms.proofs.Interface.{forms_behind, stands_at, end_of}
 use Rattle.array_versions.specs.declared.operations.PlainOperation.{PlainOperation}
@@ -112,7 +112,7 @@ module _ (z : Setting) where
   -- by where the local stands
   update_by : (b : Bool) (o : PlainOperation) (n x v pc : ℕ) (vs : List ℕ) (w : WordState) (u : Core) → nat_lt n 8 ≡ b → n < z.locals → w.locals n ≡ Some x
       → x < 0x10000 → v < 0x10000 → w.stack ≡ v ∷ vs
-      → (let ms = if b then Calculate (plain_instruction o) Popped (local_register n) ∷ [] else (ram_update o n) in
+      → (let ms : List Form = if b then Calculate (plain_instruction o) Popped (local_register n) ∷ [] else (ram_update o n) in
       Stands z.code pc ms → StandsFor z pc w u → Follows z (pc + forms_bytes ms) 10 u (goes_on [] (with_local n (plain_word o x v) (with_stack vs w))))
   update_by true o n x v pc vs w u b lt q k l e h i = update_register o n x v pc vs w u b lt q k l e h i
   update_by false o n x v pc vs w u b lt q k l e h i =
