@@ -1,7 +1,7 @@
 -- Code that is appended piece by piece.
 use Rattle.std.proofs.Common.{◌≡◌, ℕ, suc, ◌+◌, ◌-◌, ◌*◌, ◌<◌, ◌≤◌, List, [], ◌∷◌, ◌++◌, length, drop, get_or, sym, ap, ◌∙◌, arith, append_assoc}
 use Rattle.std.proofs.Common.{drop-cons}
-use Rattle.std.proofs.Common.{add-one, rules, Result}
+use Rattle.std.proofs.Common.{add-one, rules, Bool, true, false, if◌then◌else◌, Result, Ok, Err, is_ok}
 use Rattle.std.specs.Result.{OnOk}
 use Rattle.std.proofs.lemmas.Result.{on_ok_weaker}
 use Rattle.msp_isa.specs.alp_words.declared.Width.TheVariants.{Word}
@@ -118,6 +118,16 @@ pub own_behind : {T E : Type 0} (r : Result T E) (code first own new : List Inst
 own_behind r code first own new a b all f o is h =
     on_ok_weaker r (λ (n : new ≡ first ++ own). n ∙ ap (λ l. first ++ l) o ∙ ap (λ l. l ++ instructions b) f ∙ two_behind code a b
     ∙ ap (λ m. code ++ instructions m) is) h
+
+-- what is appended where there is memory for it
+pub on_ok_items : {T E : Type 0} (r : Result T E) (new x y : List Instr) → new ≡ (if is_ok r then x else y) → OnOk r (new ≡ x)
+on_ok_items (Ok v) new x y e = e
+on_ok_items (Err v) new x y e = tt
+
+-- so many words where a flag is set are no more than these
+pub words_at_most : (b : Bool) (n : ℕ) → (if b then n else 0) ≤ n
+words_at_most true n = omega arith
+words_at_most false n = omega arith
 
 -- the words of such a part
 pub own_words : (own : List Instr) (ms : List Form) → own ≡ instructions ms → length (instruction_words own) ≡ size ms

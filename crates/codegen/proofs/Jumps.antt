@@ -97,7 +97,7 @@ module _ (z : Setting) where
   -- back over so many words where it holds; by whether they are few
   back_by : (near b : Bool) (pc d to : ℕ) (met opposite : Condition) (w : WordState) (t : Core) → nat_le d 511 ≡ near
       → (let ms : List Form = if near then Jump met (1023 - d) ∷ [] else (Jump opposite 2 ∷ Skip (0xFFFA - 2 * d) ∷ []) in Stands z.code pc ms
-      → (if b then to + 2 * d ≡ pc else pc + forms_bytes ms ≡ to) → Decided pc w b met opposite t → Runs z.code [] 5 t (StandsFor z to w))
+      → (if b then to + 2 * d else pc + forms_bytes ms) ≡ (if b then pc else to) → Decided pc w b met opposite t → Runs z.code [] 5 t (StandsFor z to w))
   back_by true true pc d to met opposite w t n h e k =
       let l = near_is d n in
       let high = (z.tidy pc _ h.0).high in
@@ -115,6 +115,6 @@ module _ (z : Setting) where
       dearer z [] 2 5 t _ (omega arith) (jump_to z opposite 2 pc to true w t h.0 k.fails (omega (arith, e)) k.is)
 
   pub back_part : (b : Bool) (pc d to : ℕ) (met opposite : Condition) (w : WordState) (t : Core) → Stands z.code pc (jump_back met opposite d)
-      → (if b then to + 2 * d ≡ pc else pc + forms_bytes (jump_back met opposite d) ≡ to) → Decided pc w b met opposite t
+      → (if b then to + 2 * d else pc + forms_bytes (jump_back met opposite d)) ≡ (if b then pc else to) → Decided pc w b met opposite t
       → Runs z.code [] 5 t (StandsFor z to w)
   back_part b pc d to met opposite w t h e k = back_by (nat_le d 511) b pc d to met opposite w t refl h e k

@@ -34,7 +34,7 @@ use Rattle.codegen.specs.Code.{push_from, unary_middle, binary_middle, binary_re
 use Rattle.codegen.specs.Code.{pair_code}
 use Rattle.codegen.specs.Laws.{CodeHasItsBytes, CodeHasItsWords}
 
-unary_length : (o : UnaryOperation) → forms_bytes (unary_middle o) ≤ 4
+unary_length : (o : UnaryOperation) → 2 + forms_bytes (unary_middle o) + 2 ≤ 2 * unary_words o
 unary_length Negate = omega arith
 unary_length Complement = omega arith
 
@@ -91,7 +91,7 @@ decision_short : (when : Bool) (d : ℕ) (met opposite : Condition) → forms_by
 decision_short true d met opposite = either_short (nat_le d 511) _ _ 6 (omega arith) (omega arith)
 decision_short false d met opposite = either_short (nat_le d 511) _ _ 6 (omega arith) (omega arith)
 
-pass_short : (d : ℕ) → forms_bytes (pass_over d) ≤ 4
+pub pass_short : (d : ℕ) → forms_bytes (pass_over d) ≤ 4
 pass_short d =
     either_short (d == 0) [] _ 4 (omega arith)
     (either_short (nat_le d 511) (Jump condition.Always d ∷ []) (Skip (2 * d) ∷ []) 4 (omega arith) (omega arith))
@@ -104,7 +104,7 @@ target_short : (n : ℕ) (b : Bool) → target_bytes (if b then ToRegister (loca
 target_short n true = omega arith
 target_short n false = omega arith
 
-turn_end_short : (n below : ℕ) → forms_bytes (turn_end n below) ≤ 14
+pub turn_end_short : (n below : ℕ) → forms_bytes (turn_end n below) ≤ 14
 turn_end_short n below = either_short (nat_lt n 8) _ _ 14 (omega arith) (omega arith)
 
 -- turns have ten words more than their body
@@ -132,7 +132,7 @@ mutual
   step_short (unary o) = omega (arith, forms_bytes-append (unary_middle o) (push_from R4 ∷ []), unary_length o)
   step_short (binary o) = omega (arith, forms_bytes-append (binary_middle o) (push_from (binary_result o) ∷ []), binary_length o)
   step_short (shift o k) = omega (arith, forms_bytes-append (shift_middle o k) (push_from R4 ∷ []), shift_length o k)
-  step_short (element base size) = omega arith
+  step_short (element base n) = omega arith
   step_short (emit_word count buffer) = omega arith
   step_short (list_entry count list home copy words) = let e = entry_length count list home copy words (words == 1) in omega (arith, e)
   step_short (versioned_read place list) = omega arith

@@ -1,13 +1,17 @@
-use Rattle.std.proofs.Common.{◌≡◌, ◌+◌, ◌++◌, ◌∷◌, [], drop, length, not, refl, sym, ap, ◌∙◌, subst, arith, append_assoc, false, true, if◌then◌else◌}
+use Rattle.std.proofs.Common.{◌≡◌, ◌+◌, ◌++◌, ◌∷◌, [], drop, length, not, refl, sym, ap, ◌∙◌, subst, arith, rules, append_assoc, false, true, nat_lt}
+use Rattle.std.proofs.Common.{if◌then◌else◌, lt-ltb}
 use Rattle.std.specs.Result.{OnOk}
 use Rattle.code_forms.specs.Placed.{instructions}
-use Rattle.code_forms.proofs.Interface.{instructions-append}
+use Rattle.code_forms.proofs.Interface.{forms_bytes-append, instructions-append}
 use Rattle.array_versions.specs.View.{step_of, steps_of, test_of}
-use Rattle.array_versions.specs.Form.{LocalsBelow, OfWords, StepOfWords}
-use Rattle.array_versions.specs.Cost.{words_of}
-use Rattle.codegen.specs.Code.{holds_code, compares_code, truth_code, size, pass_over, step_code, test_code, code_of}
+use Rattle.array_versions.specs.declared.program.WordStep as word_step
+use Rattle.array_versions.specs.Form.{StepLocalsBelow, TestLocalsBelow, LocalsBelow, OfWords, StepOfWords}
+use Rattle.array_versions.specs.Cost.{words_of, step_words, test_words}
+use Rattle.msp_isa.specs.declared.instructions.Condition.TheVariants as condition
+use Rattle.codegen.specs.Code.{holds_code, compares_code, truth_code, size, pass_over, jump_back, number_code, turn_end, turns_code, step_code, test_code, code_of}
 use Rattle.codegen.proofs.Emitted.{step_of-choose, step_of-read, step_of-write, test_of-holds, test_of-compares, test_of-both, test_of-either}
-use Rattle.codegen.proofs.Emitted.{part_behind, own_behind, own_words, step_owed, left_front}
+use Rattle.codegen.proofs.Emitted.{part_behind, two_behind, own_behind, on_ok_items, words_at_most, own_words, step_owed, left_front}
+use Rattle.codegen.proofs.Lengths.{pass_short, turn_end_short, test_short, code_short, size_words}
 use Rattle.codegen.proofs.program.+emit.Goals as goal
 
 pub emit_steps-loop-step-preserved : goal.emit_steps-loop-step-preserved
@@ -64,3 +68,260 @@ pub emit_step-returns-in-VersionedWrite-clause-of_words : goal.emit_step-returns
 emit_step-returns-in-VersionedWrite-clause-of_words t c =
     let is = ap step_of c.in-VersionedWrite.is ∙ step_of-write c.in-VersionedWrite.place c.in-VersionedWrite.list in
     subst (λ s. OnOk c.emit_versioned_write.result (StepOfWords s)) (sym is) c.emit_versioned_write.ensures.of_words
+
+pub emit_test-code_words-requires : goal.emit_test-code_words-requires
+emit_test-code_words-requires t c =
+    let when = c.args.when in
+    let over = c.args.over in
+    let a = test_of c.in-Both.first.value in
+    let u = test_of c.in-Both.second.value in
+    let second = test_code u when over in
+    let is = ap test_of c.in-Both.is ∙ test_of-both c.in-Both.first c.in-Both.second in
+    let own = c.in_ok-emit_test-in-Both.ensures.code ∙ ap (λ x. c.new-behind.result.items ++ instructions (test_code (test_of x) when over)) c.deref-in-Both.ensures
+    ∙ ap (λ l. l ++ instructions second) c.new-behind.ensures.items in
+    let words = own_words c.deref-in-Both-2.result.now second (c.deref-in-Both-2.ensures.value ∙ own) in
+    omega (arith, words, test_short u when over, ap test_words is, c.requires.room)
+
+pub emit_test-overflow_add-further : goal.emit_test-overflow_add-further
+emit_test-overflow_add-further t c =
+    let when = c.args.when in
+    let over = c.args.over in
+    let a = test_of c.in-Both.first.value in
+    let u = test_of c.in-Both.second.value in
+    let second = test_code u when over in
+    let is = ap test_of c.in-Both.is ∙ test_of-both c.in-Both.first c.in-Both.second in
+    let own = c.in_ok-emit_test-in-Both.ensures.code ∙ ap (λ x. c.new-behind.result.items ++ instructions (test_code (test_of x) when over)) c.deref-in-Both.ensures
+    ∙ ap (λ l. l ++ instructions second) c.new-behind.ensures.items in
+    let words = own_words c.deref-in-Both-2.result.now second (c.deref-in-Both-2.ensures.value ∙ own) in
+    omega (arith, words, test_short u when over, ap test_words is, c.requires.room, c.code_words.ensures, c.words_if.ensures, words_at_most (not when) over)
+
+pub emit_test-emit_test-requires-in-Both : goal.emit_test-emit_test-requires-in-Both
+emit_test-emit_test-requires-in-Both t c =
+    let when = c.args.when in
+    let over = c.args.over in
+    let a = test_of c.in-Both.first.value in
+    let u = test_of c.in-Both.second.value in
+    let second = test_code u when over in
+    let is = ap test_of c.in-Both.is ∙ test_of-both c.in-Both.first c.in-Both.second in
+    let own = c.in_ok-emit_test-in-Both.ensures.code ∙ ap (λ x. c.new-behind.result.items ++ instructions (test_code (test_of x) when over)) c.deref-in-Both.ensures
+    ∙ ap (λ l. l ++ instructions second) c.new-behind.ensures.items in
+    let words = own_words c.deref-in-Both-2.result.now second (c.deref-in-Both-2.ensures.value ∙ own) in
+    (
+      search (rules, word_step.the_lemmas),
+      (
+        omega (arith, words, test_short u when over, ap test_words is, c.requires.room, c.code_words.ensures, c.words_if.ensures, words_at_most (not when) over, ap (λ x. test_words (test_of x)) c.deref-in-Both-3.ensures),
+        subst (λ x. TestLocalsBelow 1008 (test_of x)) (sym c.deref-in-Both-3.ensures) (subst (TestLocalsBelow 1008) is c.requires.locals).0,
+      ),
+    )
+
+pub emit_test-returns-in_ok-emit_test-in-Both-2-clause-code : goal.emit_test-returns-in_ok-emit_test-in-Both-2-clause-code
+emit_test-returns-in_ok-emit_test-in-Both-2-clause-code t c =
+    let when = c.args.when in
+    let over = c.args.over in
+    let a = test_of c.in-Both.first.value in
+    let u = test_of c.in-Both.second.value in
+    let second = test_code u when over in
+    let is = ap test_of c.in-Both.is ∙ test_of-both c.in-Both.first c.in-Both.second in
+    let own = c.in_ok-emit_test-in-Both.ensures.code ∙ ap (λ x. c.new-behind.result.items ++ instructions (test_code (test_of x) when over)) c.deref-in-Both.ensures
+    ∙ ap (λ l. l ++ instructions second) c.new-behind.ensures.items in
+    let words = own_words c.deref-in-Both-2.result.now second (c.deref-in-Both-2.ensures.value ∙ own) in
+    let old = c.args.code.now.items in
+    let counted = ap (λ n. n + c.words_if.result) (c.code_words.ensures ∙ words) ∙ ap (λ n. size second + n) c.words_if.ensures in
+    let tested = c.in_ok-emit_test-in-Both-2.ensures.code ∙ ap (λ x. old ++ instructions (test_code (test_of x) false (c.code_words.result + c.words_if.result))) c.deref-in-Both-3.ensures
+    ∙ ap (λ n. old ++ instructions (test_code a false n)) counted in
+    own_behind c.extend_from_slice.result old c.emit_test-in-Both.new.code.items c.deref-in-Both-4.result.now _ (test_code a false (size second + (if not when then over else 0))) second _
+    tested (c.deref-in-Both-4.ensures.value ∙ own) (ap (λ q. test_code q when over) (sym is)) (on_ok_items c.extend_from_slice.result _ _ _ c.extend_from_slice.ensures.items)
+
+pub emit_test-code_words-requires-in-Either : goal.emit_test-code_words-requires-in-Either
+emit_test-code_words-requires-in-Either t c =
+    let when = c.args.when in
+    let over = c.args.over in
+    let a = test_of c.in-Either.first.value in
+    let u = test_of c.in-Either.second.value in
+    let second = test_code u when over in
+    let is = ap test_of c.in-Either.is ∙ test_of-either c.in-Either.first c.in-Either.second in
+    let own = c.in_ok-emit_test-in-Either.ensures.code ∙ ap (λ x. c.new-behind-in-Either.result.items ++ instructions (test_code (test_of x) when over)) c.deref-in-Either.ensures
+    ∙ ap (λ l. l ++ instructions second) c.new-behind-in-Either.ensures.items in
+    let words = own_words c.deref-in-Either-2.result.now second (c.deref-in-Either-2.ensures.value ∙ own) in
+    omega (arith, words, test_short u when over, ap test_words is, c.requires.room)
+
+pub emit_test-overflow_add-further-in-Either : goal.emit_test-overflow_add-further-in-Either
+emit_test-overflow_add-further-in-Either t c =
+    let when = c.args.when in
+    let over = c.args.over in
+    let a = test_of c.in-Either.first.value in
+    let u = test_of c.in-Either.second.value in
+    let second = test_code u when over in
+    let is = ap test_of c.in-Either.is ∙ test_of-either c.in-Either.first c.in-Either.second in
+    let own = c.in_ok-emit_test-in-Either.ensures.code ∙ ap (λ x. c.new-behind-in-Either.result.items ++ instructions (test_code (test_of x) when over)) c.deref-in-Either.ensures
+    ∙ ap (λ l. l ++ instructions second) c.new-behind-in-Either.ensures.items in
+    let words = own_words c.deref-in-Either-2.result.now second (c.deref-in-Either-2.ensures.value ∙ own) in
+    omega (arith, words, test_short u when over, ap test_words is, c.requires.room, c.code_words-in-Either.ensures, c.words_if-in-Either.ensures, words_at_most (when) over)
+
+pub emit_test-emit_test-requires-in-Either-2 : goal.emit_test-emit_test-requires-in-Either-2
+emit_test-emit_test-requires-in-Either-2 t c =
+    let when = c.args.when in
+    let over = c.args.over in
+    let a = test_of c.in-Either.first.value in
+    let u = test_of c.in-Either.second.value in
+    let second = test_code u when over in
+    let is = ap test_of c.in-Either.is ∙ test_of-either c.in-Either.first c.in-Either.second in
+    let own = c.in_ok-emit_test-in-Either.ensures.code ∙ ap (λ x. c.new-behind-in-Either.result.items ++ instructions (test_code (test_of x) when over)) c.deref-in-Either.ensures
+    ∙ ap (λ l. l ++ instructions second) c.new-behind-in-Either.ensures.items in
+    let words = own_words c.deref-in-Either-2.result.now second (c.deref-in-Either-2.ensures.value ∙ own) in
+    (
+      search (rules, word_step.the_lemmas),
+      (
+        omega (arith, words, test_short u when over, ap test_words is, c.requires.room, c.code_words-in-Either.ensures, c.words_if-in-Either.ensures, words_at_most (when) over, ap (λ x. test_words (test_of x)) c.deref-in-Either-3.ensures),
+        subst (λ x. TestLocalsBelow 1008 (test_of x)) (sym c.deref-in-Either-3.ensures) (subst (TestLocalsBelow 1008) is c.requires.locals).0,
+      ),
+    )
+
+pub emit_test-returns-in_ok-emit_test-in-Either-2-clause-code : goal.emit_test-returns-in_ok-emit_test-in-Either-2-clause-code
+emit_test-returns-in_ok-emit_test-in-Either-2-clause-code t c =
+    let when = c.args.when in
+    let over = c.args.over in
+    let a = test_of c.in-Either.first.value in
+    let u = test_of c.in-Either.second.value in
+    let second = test_code u when over in
+    let is = ap test_of c.in-Either.is ∙ test_of-either c.in-Either.first c.in-Either.second in
+    let own = c.in_ok-emit_test-in-Either.ensures.code ∙ ap (λ x. c.new-behind-in-Either.result.items ++ instructions (test_code (test_of x) when over)) c.deref-in-Either.ensures
+    ∙ ap (λ l. l ++ instructions second) c.new-behind-in-Either.ensures.items in
+    let words = own_words c.deref-in-Either-2.result.now second (c.deref-in-Either-2.ensures.value ∙ own) in
+    let old = c.args.code.now.items in
+    let counted = ap (λ n. n + c.words_if-in-Either.result) (c.code_words-in-Either.ensures ∙ words) ∙ ap (λ n. size second + n) c.words_if-in-Either.ensures in
+    let tested = c.in_ok-emit_test-in-Either-2.ensures.code ∙ ap (λ x. old ++ instructions (test_code (test_of x) true (c.code_words-in-Either.result + c.words_if-in-Either.result))) c.deref-in-Either-3.ensures
+    ∙ ap (λ n. old ++ instructions (test_code a true n)) counted in
+    own_behind c.extend_from_slice-in-Either.result old c.emit_test-in-Either-2.new.code.items c.deref-in-Either-4.result.now _ (test_code a true (size second + (if when then over else 0))) second _
+    tested (c.deref-in-Either-4.ensures.value ∙ own) (ap (λ q. test_code q when over) (sym is)) (on_ok_items c.extend_from_slice-in-Either.result _ _ _ c.extend_from_slice-in-Either.ensures.items)
+
+pub emit_loop-code_words-over-requires : goal.emit_loop-code_words-over-requires
+emit_loop-code_words-over-requires t c =
+    let body = steps_of c.args.body.now in
+    let n = c.args.n in
+    let made = code_of body in
+    let end = turn_end n c.args.below in
+    let turn = c.in_ok-emit_turn_end.ensures ∙ ap (λ l. l ++ instructions end)
+    (c.in_ok-emit_steps.ensures.code ∙ ap (λ l. l ++ instructions made) c.new-turn.ensures.items) ∙ sym (instructions-append made end) in
+    let words = own_words c.deref-then-from-below.result.now (made ++ end) (c.deref-then-from-below.ensures.value ∙ turn) in
+    omega (arith, words, forms_bytes-append made end, code_short body, turn_end_short n c.args.below, c.requires.room)
+
+pub emit_loop-emit_jump_back-requires : goal.emit_loop-emit_jump_back-requires
+emit_loop-emit_jump_back-requires t c =
+    let body = steps_of c.args.body.now in
+    let n = c.args.n in
+    let made = code_of body in
+    let end = turn_end n c.args.below in
+    let turn = c.in_ok-emit_turn_end.ensures ∙ ap (λ l. l ++ instructions end)
+    (c.in_ok-emit_steps.ensures.code ∙ ap (λ l. l ++ instructions made) c.new-turn.ensures.items) ∙ sym (instructions-append made end) in
+    let words = own_words c.deref-then-from-below.result.now (made ++ end) (c.deref-then-from-below.ensures.value ∙ turn) in
+    omega (arith, words, forms_bytes-append made end, code_short body, turn_end_short n c.args.below, c.requires.room, c.code_words-over.ensures)
+
+pub emit_loop-returns-then-from-below-clause-code : goal.emit_loop-returns-then-from-below-clause-code
+emit_loop-returns-then-from-below-clause-code t c =
+    let old = c.args.code.now.items in
+    let below = c.args.below in
+    let made = code_of (steps_of c.args.body.now) in
+    let start = number_code c.args.n c.args.from in
+    let turn = made ++ turn_end c.args.n below in
+    let back = jump_back condition.NotEqual condition.Equal in
+    let own = c.in_ok-emit_turn_end.ensures ∙ ap (λ l. l ++ instructions (turn_end c.args.n below))
+    (c.in_ok-emit_steps.ensures.code ∙ ap (λ l. l ++ instructions made) c.new-turn.ensures.items) ∙ sym (instructions-append made (turn_end c.args.n below)) in
+    let words = own_words c.deref-then-from-below.result.now turn (c.deref-then-from-below.ensures.value ∙ own) in
+    let first = c.in_ok-extend_from_slice.ensures.items ∙ ap (λ l. c.emit_number.new.code.items ++ l) (c.deref.ensures.value ∙ own)
+    ∙ ap (λ l. l ++ instructions turn) c.in_ok-emit_number.ensures ∙ two_behind old start turn in
+    part_behind c.emit_jump_back.result old c.extend_from_slice.new.self.items c.emit_jump_back.new.code.items (start ++ turn)
+    (back c.code_words-over.result) (back (size turn)) _ first (ap back (c.code_words-over.ensures ∙ words))
+    (append_assoc start turn (back (size turn))
+    ∙ ap (λ b. start ++ (if b then turns_code c.args.n below made else [])) (sym (lt-ltb c.args.from below c.if-from-below.true)))
+    c.emit_jump_back.ensures
+
+pub emit_step-code_words-requires : goal.emit_step-code_words-requires
+emit_step-code_words-requires t c =
+    let of = c.in-Choose in
+    let is = ap step_of of.is ∙ step_of-choose of.test of.taken of.otherwise in
+    let b = code_of (steps_of of.taken.items) in
+    let other = code_of (steps_of of.otherwise.items) in
+    let otherwise = c.in_ok-emit_steps-in-Choose.ensures.code ∙ ap (λ s. c.new-other.result.items ++ instructions (code_of (steps_of s))) c.deref.ensures.value
+    ∙ ap (λ l. l ++ instructions other) c.new-other.ensures.items in
+    let behind = own_words c.deref-in-Choose-2.result.now other (c.deref-in-Choose-2.ensures.value ∙ otherwise) in
+    omega (arith, behind, code_short (steps_of of.otherwise.items), ap step_words is, c.requires.room)
+
+pub emit_step-emit_pass_over-requires : goal.emit_step-emit_pass_over-requires
+emit_step-emit_pass_over-requires t c =
+    let of = c.in-Choose in
+    let is = ap step_of of.is ∙ step_of-choose of.test of.taken of.otherwise in
+    let b = code_of (steps_of of.taken.items) in
+    let other = code_of (steps_of of.otherwise.items) in
+    let otherwise = c.in_ok-emit_steps-in-Choose.ensures.code ∙ ap (λ s. c.new-other.result.items ++ instructions (code_of (steps_of s))) c.deref.ensures.value
+    ∙ ap (λ l. l ++ instructions other) c.new-other.ensures.items in
+    let behind = own_words c.deref-in-Choose-2.result.now other (c.deref-in-Choose-2.ensures.value ∙ otherwise) in
+    omega (arith, behind, code_short (steps_of of.otherwise.items), ap step_words is, c.requires.room, c.code_words.ensures)
+
+pub emit_step-code_words-requires-in-Choose : goal.emit_step-code_words-requires-in-Choose
+emit_step-code_words-requires-in-Choose t c =
+    let of = c.in-Choose in
+    let is = ap step_of of.is ∙ step_of-choose of.test of.taken of.otherwise in
+    let b = code_of (steps_of of.taken.items) in
+    let other = code_of (steps_of of.otherwise.items) in
+    let over = pass_over (size other) in
+    let otherwise = c.in_ok-emit_steps-in-Choose.ensures.code ∙ ap (λ s. c.new-other.result.items ++ instructions (code_of (steps_of s))) c.deref.ensures.value
+    ∙ ap (λ l. l ++ instructions other) c.new-other.ensures.items in
+    let behind = own_words c.deref-in-Choose-2.result.now other (c.deref-in-Choose-2.ensures.value ∙ otherwise) in
+    let taken = c.in_ok-emit_steps-in-Choose-2.ensures.code ∙ ap (λ s. c.new-first.result.items ++ instructions (code_of (steps_of s))) c.deref-in-Choose.ensures.value
+    ∙ ap (λ l. l ++ instructions b) c.new-first.ensures.items in
+    let first = c.in_ok-emit_pass_over-in-Choose.ensures
+    ∙ ap (λ n. c.emit_steps-in-Choose.new.code.items ++ instructions (pass_over n)) (c.code_words.ensures ∙ behind)
+    ∙ ap (λ l. l ++ instructions over) taken ∙ sym (instructions-append b over) in
+    let words = own_words c.deref-in-Choose-3.result.now (b ++ over) (c.deref-in-Choose-3.ensures.value ∙ first) in
+    omega (arith, words, forms_bytes-append b over, code_short (steps_of of.taken.items), pass_short (size other), ap step_words is, c.requires.room)
+
+pub emit_step-emit_test-requires : goal.emit_step-emit_test-requires
+emit_step-emit_test-requires t c =
+    let of = c.in-Choose in
+    let is = ap step_of of.is ∙ step_of-choose of.test of.taken of.otherwise in
+    let b = code_of (steps_of of.taken.items) in
+    let other = code_of (steps_of of.otherwise.items) in
+    let over = pass_over (size other) in
+    let otherwise = c.in_ok-emit_steps-in-Choose.ensures.code ∙ ap (λ s. c.new-other.result.items ++ instructions (code_of (steps_of s))) c.deref.ensures.value
+    ∙ ap (λ l. l ++ instructions other) c.new-other.ensures.items in
+    let behind = own_words c.deref-in-Choose-2.result.now other (c.deref-in-Choose-2.ensures.value ∙ otherwise) in
+    let taken = c.in_ok-emit_steps-in-Choose-2.ensures.code ∙ ap (λ s. c.new-first.result.items ++ instructions (code_of (steps_of s))) c.deref-in-Choose.ensures.value
+    ∙ ap (λ l. l ++ instructions b) c.new-first.ensures.items in
+    let first = c.in_ok-emit_pass_over-in-Choose.ensures
+    ∙ ap (λ n. c.emit_steps-in-Choose.new.code.items ++ instructions (pass_over n)) (c.code_words.ensures ∙ behind)
+    ∙ ap (λ l. l ++ instructions over) taken ∙ sym (instructions-append b over) in
+    let words = own_words c.deref-in-Choose-3.result.now (b ++ over) (c.deref-in-Choose-3.ensures.value ∙ first) in
+    (
+      search (rules, word_step.the_lemmas),
+      (
+        omega (arith, words, forms_bytes-append b over, code_short (steps_of of.taken.items), pass_short (size other), ap step_words is, c.requires.room, c.code_words-in-Choose.ensures),
+        (subst (StepLocalsBelow 1008) is c.requires.locals).0,
+      ),
+    )
+
+pub emit_step-returns-in_ok-extend_from_slice-in-Choose-clause-code : goal.emit_step-returns-in_ok-extend_from_slice-in-Choose-clause-code
+emit_step-returns-in_ok-extend_from_slice-in-Choose-clause-code t c =
+    let of = c.in-Choose in
+    let is = ap step_of of.is ∙ step_of-choose of.test of.taken of.otherwise in
+    let b = code_of (steps_of of.taken.items) in
+    let other = code_of (steps_of of.otherwise.items) in
+    let over = pass_over (size other) in
+    let otherwise = c.in_ok-emit_steps-in-Choose.ensures.code ∙ ap (λ s. c.new-other.result.items ++ instructions (code_of (steps_of s))) c.deref.ensures.value
+    ∙ ap (λ l. l ++ instructions other) c.new-other.ensures.items in
+    let behind = own_words c.deref-in-Choose-2.result.now other (c.deref-in-Choose-2.ensures.value ∙ otherwise) in
+    let taken = c.in_ok-emit_steps-in-Choose-2.ensures.code ∙ ap (λ s. c.new-first.result.items ++ instructions (code_of (steps_of s))) c.deref-in-Choose.ensures.value
+    ∙ ap (λ l. l ++ instructions b) c.new-first.ensures.items in
+    let first = c.in_ok-emit_pass_over-in-Choose.ensures
+    ∙ ap (λ n. c.emit_steps-in-Choose.new.code.items ++ instructions (pass_over n)) (c.code_words.ensures ∙ behind)
+    ∙ ap (λ l. l ++ instructions over) taken ∙ sym (instructions-append b over) in
+    let words = own_words c.deref-in-Choose-3.result.now (b ++ over) (c.deref-in-Choose-3.ensures.value ∙ first) in
+    let old = c.args.code.now.items in
+    let test = test_code (test_of of.test) false (size (b ++ over)) in
+    let tested = c.in_ok-emit_test-in-Choose.ensures.code
+    ∙ ap (λ n. old ++ instructions (test_code (test_of of.test) false n)) (c.code_words-in-Choose.ensures ∙ words) in
+    let added = c.in_ok-extend_from_slice-in-Choose.ensures.items ∙ ap (λ l. c.emit_test.new.code.items ++ l) (c.deref-in-Choose-4.ensures.value ∙ first)
+    ∙ ap (λ l. l ++ instructions (b ++ over)) tested ∙ two_behind old test (b ++ over) in
+    own_behind c.extend_from_slice-in-Choose.result old _ c.deref-in-Choose-5.result.now _ (test ++ (b ++ over)) other _ added
+    (c.deref-in-Choose-5.ensures.value ∙ otherwise) (append_assoc test (b ++ over) other ∙ ap step_code (sym is))
+    (on_ok_items c.extend_from_slice-in-Choose.result _ _ _ c.extend_from_slice-in-Choose.ensures.items)
