@@ -8,7 +8,7 @@ use Rattle.array_versions.specs.machine_effects.Machine.{IsFram, IsRam}
 use Rattle.array_versions.proofs.machine_effects.Interface.{put_same, put_other}
 use Rattle.code_forms.specs.Forms.{work_number, HasPushRoom}
 use Rattle.array_versions.specs.Behaviour.{is_place, assigned}
-use Rattle.codegen.specs.Code.{local_registers, local_register, local_address}
+use Rattle.codegen.specs.Code.{local_register, local_address}
 use Rattle.codegen.proofs.Stretches.{Setting}
 
 -- the stack in RAM, its top first

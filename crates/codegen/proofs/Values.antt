@@ -1,5 +1,5 @@
 -- What the flags of a comparison say.
-use Rattle.std.proofs.Common.{◌≡◌, ℕ, ◌+◌, ◌-◌, ◌%◌, ◌<◌, ◌≤◌, ◌==◌, ◌&&◌, not, refl, sym, ap, ◌∙◌, arith, Bool, true, false, nat_lt, nat_le}
+use Rattle.std.proofs.Common.{◌≡◌, ℕ, ◌+◌, ◌-◌, ◌%◌, ◌<◌, ◌≤◌, ◌&&◌, not, refl, sym, ap, ◌∙◌, arith, Bool, true, false, nat_lt, nat_le}
 use Rattle.std.proofs.Common.{le-ltb, lt-ltb}
 use Rattle.std.proofs.lemmas.Bool.Decides.{nat_tests}
 use Rattle.std.proofs.Math.Bool.{not-not}

@@ -5,7 +5,7 @@ use Rattle.std.specs.List.{AllByRecursion}
 use Rattle.array_versions.specs.fram_board.Effects.{Effect}
 use Rattle.msp_isa.specs.declared.instructions.Condition.TheVariants as condition
 use Rattle.msp_isa.specs.declared.operands.Konst.TheVariants as konst
-use Rattle.code_forms.specs.Forms.{WorkRegister, R4, R5, R6, Core, Constant, Form, Push}
+use Rattle.code_forms.specs.Forms.{WorkRegister, R4, R5, R6, Core}
 use Rattle.code_forms.specs.Code.{Stands, forms_bytes}
 use Rattle.code_forms.proofs.Interface.{stands_front, stands_back, forms_behind, forms_bytes-append}
 use Rattle.array_versions.specs.declared.operations.UnaryOperation.{UnaryOperation}

@@ -1,4 +1,4 @@
-use Rattle.std.proofs.Common.{◌≡◌, ◌+◌, ◌++◌, ◌∷◌, [], drop, length, not, refl, sym, ap, ◌∙◌, subst, arith, rules, append_assoc, false, true, nat_lt}
+use Rattle.std.proofs.Common.{◌≡◌, ◌+◌, ◌++◌, [], drop, not, refl, sym, ap, ◌∙◌, subst, arith, rules, append_assoc, false, true}
 use Rattle.std.proofs.Common.{if◌then◌else◌, lt-ltb}
 use Rattle.std.specs.Result.{OnOk}
 use Rattle.code_forms.specs.Placed.{instructions}
@@ -11,7 +11,7 @@ use Rattle.msp_isa.specs.declared.instructions.Condition.TheVariants as conditio
 use Rattle.codegen.specs.Code.{holds_code, compares_code, truth_code, size, pass_over, jump_back, number_code, turn_end, turns_code, step_code, test_code, code_of}
 use Rattle.codegen.proofs.Emitted.{step_of-choose, step_of-read, step_of-write, test_of-holds, test_of-compares, test_of-both, test_of-either}
 use Rattle.codegen.proofs.Emitted.{part_behind, two_behind, own_behind, on_ok_items, words_at_most, own_words, step_owed, left_front}
-use Rattle.codegen.proofs.Lengths.{pass_short, turn_end_short, test_short, code_short, size_words}
+use Rattle.codegen.proofs.Lengths.{pass_short, turn_end_short, test_short, code_short}
 use Rattle.codegen.proofs.program.+emit.Goals as goal
 
 pub emit_steps-loop-step-preserved : goal.emit_steps-loop-step-preserved
@@ -105,8 +105,7 @@ emit_test-emit_test-requires-in-Both t c =
     let is = ap test_of c.in-Both.is ∙ test_of-both c.in-Both.first c.in-Both.second in
     let own = c.in_ok-emit_test-in-Both.ensures.code ∙ ap (λ x. c.new-behind.result.items ++ instructions (test_code (test_of x) when over)) c.deref-in-Both.ensures
     ∙ ap (λ l. l ++ instructions second) c.new-behind.ensures.items in
-    let words = own_words c.deref-in-Both-2.result.now second (c.deref-in-Both-2.ensures.value ∙ own) in
-    (
+    let words = own_words c.deref-in-Both-2.result.now second (c.deref-in-Both-2.ensures.value ∙ own) in (
       search (rules, word_step.the_lemmas),
       (
         omega (arith, words, test_short u when over, ap test_words is, c.requires.room, c.code_words.ensures, c.words_if.ensures, words_at_most (not when) over, ap (λ x. test_words (test_of x)) c.deref-in-Both-3.ensures),
@@ -168,8 +167,7 @@ emit_test-emit_test-requires-in-Either-2 t c =
     let is = ap test_of c.in-Either.is ∙ test_of-either c.in-Either.first c.in-Either.second in
     let own = c.in_ok-emit_test-in-Either.ensures.code ∙ ap (λ x. c.new-behind-in-Either.result.items ++ instructions (test_code (test_of x) when over)) c.deref-in-Either.ensures
     ∙ ap (λ l. l ++ instructions second) c.new-behind-in-Either.ensures.items in
-    let words = own_words c.deref-in-Either-2.result.now second (c.deref-in-Either-2.ensures.value ∙ own) in
-    (
+    let words = own_words c.deref-in-Either-2.result.now second (c.deref-in-Either-2.ensures.value ∙ own) in (
       search (rules, word_step.the_lemmas),
       (
         omega (arith, words, test_short u when over, ap test_words is, c.requires.room, c.code_words-in-Either.ensures, c.words_if-in-Either.ensures, words_at_most (when) over, ap (λ x. test_words (test_of x)) c.deref-in-Either-3.ensures),
@@ -291,8 +289,7 @@ emit_step-emit_test-requires t c =
     let first = c.in_ok-emit_pass_over-in-Choose.ensures
     ∙ ap (λ n. c.emit_steps-in-Choose.new.code.items ++ instructions (pass_over n)) (c.code_words.ensures ∙ behind)
     ∙ ap (λ l. l ++ instructions over) taken ∙ sym (instructions-append b over) in
-    let words = own_words c.deref-in-Choose-3.result.now (b ++ over) (c.deref-in-Choose-3.ensures.value ∙ first) in
-    (
+    let words = own_words c.deref-in-Choose-3.result.now (b ++ over) (c.deref-in-Choose-3.ensures.value ∙ first) in (
       search (rules, word_step.the_lemmas),
       (
         omega (arith, words, forms_bytes-append b over, code_short (steps_of of.taken.items), pass_short (size other), ap step_words is, c.requires.room, c.code_words-in-Choose.ensures),
