@@ -118,3 +118,5 @@ climb_is zero left ts some = absurd (omega arith)
 climb_is (suc j) left ts some = let back : j ≡ suc j - 1 = omega arith in
     subst (λ i. climb (up_to unary i) (suc j) left ts ≡ and_then (climb_turn (up_to unary i) (suc j) left ts) (turned (climb (up_to unary i) (suc j)))) back
     (climb_suc j left ts)
+
+pub ruleset up_to_is = (up_to_zero, up_to_above, climb_is)

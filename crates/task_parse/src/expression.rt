@@ -95,9 +95,23 @@ fn unary<'a>(alloc: Global, tokens: &'a [Token]) -> Result<(Expr<Span>, &'a [Tok
     }
 }
 
+// `sense()`
+#[tactic(auto, unfolding(crate::specs::Expressions::sense))]
+fn sensed<'a>(tokens: &'a [Token]) -> Result<(Expr<Span>, &'a [Token]), Stop<'a>>
+    ensures value { Gives (λ x. reading.done (expression_of x.0) x.1.now) (spec.sense tokens.now) result }
+    ensures shorter { IfOk result (λ x. length x.1.now < length tokens.now) }
+    ensures nests { IfOk result (λ x. nesting x.1.now ≤ nesting tokens.now) }
+    ensures row { IfOk result (λ x. row_length x.1.now ≤ row_length tokens.now) }
+{
+    let (_, rest) = take(Kind::Sense, tokens)?;
+    let (_, rest) = take(Kind::Open, rest)?;
+    let (_, rest) = take(Kind::Close, rest)?;
+    Ok((Expr::Sense, rest))
+}
+
 // A number, a name with or without an index, `sense()`, or an expression in brackets.
 #[cycle(expression)]
-#[tactic(auto, unfolding(crate::specs::Expressions::primary, crate::specs::Expressions::number, crate::specs::Expressions::sense, crate::specs::Expressions::bracketed))]
+#[tactic(auto, unfolding(crate::specs::Expressions::primary, crate::specs::Expressions::number, crate::specs::Expressions::bracketed))]
 fn primary<'a>(alloc: Global, tokens: &'a [Token]) -> Result<(Expr<Span>, &'a [Token]), Stop<'a>>
     ensures value { Gives (λ x. reading.done (expression_of x.0) x.1.now)
         (spec.primary spec.expression tokens.now) result }
@@ -111,12 +125,7 @@ fn primary<'a>(alloc: Global, tokens: &'a [Token]) -> Result<(Expr<Span>, &'a [T
             Ok((Expr::Number(number.value), rest))
         }
         Some(Kind::Name) => named(alloc, tokens),
-        Some(Kind::Sense) => {
-            let (_, rest) = take(Kind::Sense, tokens)?;
-            let (_, rest) = take(Kind::Open, rest)?;
-            let (_, rest) = take(Kind::Close, rest)?;
-            Ok((Expr::Sense, rest))
-        }
+        Some(Kind::Sense) => sensed(tokens),
         Some(Kind::Open) => {
             let (_, rest) = take(Kind::Open, tokens)?;
             let (inner, rest) = up_to(alloc, WEAKEST, rest)?;
@@ -150,7 +159,7 @@ fn named<'a>(alloc: Global, tokens: &'a [Token]) -> Result<(Expr<Span>, &'a [Tok
 
 // An expression whose operators outside brackets are of the precedence or tighter.
 #[cycle(expression)]
-#[tactic(auto, unfolding(crate::specs::Expressions::climb_turn), using(crate::proofs::ExpressionSame::up_to_zero, crate::proofs::ExpressionSame::up_to_above, crate::proofs::ExpressionSame::climb_is))]
+#[tactic(auto, unfolding(crate::specs::Expressions::climb_turn), using(crate::proofs::ExpressionSame::up_to_is))]
 fn up_to<'a>(
     alloc: Global,
     precedence: u8,
