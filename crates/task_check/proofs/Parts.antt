@@ -56,6 +56,9 @@ pub choice_targets_some : (xs : List (Tested VariableName TaskName)) (b : Block 
 choice_targets_some [] b more = refl
 choice_targets_some (x ∷ xs) b more = ap (block_targets x.block) (choice_targets_some xs b more)
 
+-- what a choice uses
+pub ruleset choice_uses = (choice_variables_none, choice_variables_some, choice_targets_none, choice_targets_some)
+
 pub list_variables_push : (xs : List (Statement VariableName TaskName)) (x : Statement VariableName TaskName) (more : List TypedVariable)
     → list_variables (xs ++ x ∷ []) more ≡ list_variables xs (statement_variables x more)
 list_variables_push [] x more = refl

@@ -224,7 +224,7 @@ fn if_else(
 }
 
 #[cycle(build)]
-#[tactic(auto, using(crate::proofs::Parts::choice_variables_none, crate::proofs::Parts::choice_variables_some, crate::proofs::Parts::choice_targets_none, crate::proofs::Parts::choice_targets_some))]
+#[tactic(auto, using(crate::proofs::Parts::choice_uses))]
 fn statement<'a>(
     alloc: Global,
     s: &Stmt<Span, Span>,
