@@ -115,7 +115,28 @@ all_in_order = (
                 (
                   (refl, refl, refl, refl, refl, (refl, refl, refl, refl, refl, (refl, refl, refl, refl, refl, (refl, refl)))),
                   (
-                    (refl, refl, refl, refl, refl, (refl, refl, refl, refl, refl, (refl, refl, refl, refl, refl, (refl, refl, refl, refl, refl, (refl, refl, refl, refl, refl, (refl, refl, refl, refl, refl, (refl, refl))))))),
+                    (
+                      refl,
+                      refl,
+                      refl,
+                      refl,
+                      refl,
+                      (
+                        refl,
+                        refl,
+                        refl,
+                        refl,
+                        refl,
+                        (
+                          refl,
+                          refl,
+                          refl,
+                          refl,
+                          refl,
+                          (refl, refl, refl, refl, refl, (refl, refl, refl, refl, refl, (refl, refl, refl, refl, refl, (refl, refl)))),
+                        ),
+                      ),
+                    ),
                     ((refl, refl, refl, refl, refl, (refl, refl, refl, refl, refl, (refl, refl, refl, refl, refl, (refl, refl)))), tt),
                   ),
                 ),
