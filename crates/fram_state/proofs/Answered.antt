@@ -146,7 +146,8 @@ current_at old s is text words source m source_is mapped words_are =
     subst (λ (n : MapValue). nat_lt (word_in s.image.words n.words.current_task) (length n.tasks) ≡ true) map_is sound in
     let less : word_in s.image.words m.words.current_task < length m.tasks = ltb-true (word_in s.image.words m.words.current_task) (length m.tasks) here in
     let count : length m.tasks ≡ length p.tasks = ap length lines.tasks ∙ planned_count old.text.items p.shared p.tasks is.suits.plans is.suits.is_plan.count in
-    let tasks : length (map task_of old.checked.source.tasks.items) ≡ length old.checked.source.tasks.items = length-map old.checked.source.tasks.items task_of in
+    let tasks : length (map task_of old.checked.source.tasks.items) ≡ length old.checked.source.tasks.items =
+    length-map old.checked.source.tasks.items task_of in
     let all : word_in s.image.words m.words.current_task < length old.checked.source.tasks.items = omega arith in
     subst (λ x. word_in words m.words.current_task < length x.tasks.items) (sym source_is)
     (subst (λ ws. word_in ws m.words.current_task < length old.checked.source.tasks.items) (sym words_are) all)

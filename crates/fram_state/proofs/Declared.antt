@@ -110,3 +110,6 @@ pub all_tasks : (text : List ℕ) (ds : List SharedDeclaration) (ts : List (Task
 all_tasks text ds ts ps vs i e f h same =
     let count = planned_long text ds ts ps e in
     sym (take_all i vs (omega arith)) ∙ same ∙ take_all i (planned_tasks text ds (map task_of ts) ps) (omega arith)
+
+-- tasks one behind another
+pub ruleset tasks_in_order = (task_more, same_task, same_tasks, all_tasks)

@@ -66,3 +66,5 @@ no_entry m [] room h = le-leb 0 room (omega arith)
 no_entry m (a ∷ []) room h = le-leb 0 room (omega arith)
 no_entry m (a ∷ b ∷ []) room h = le-leb 0 room (omega arith)
 no_entry m (a ∷ b ∷ c ∷ ws) room h = absurd (omega arith)
+
+pub ruleset entry_by_entry = (entry_more, entry_stop, entry_long, no_entry)

@@ -51,6 +51,8 @@ none_behind m (w ∷ ws) [] (suc i) a h = by_rest (drop i ws)
     by_rest (w ∷ ws) = refl
 none_behind m (w ∷ ws) (v ∷ vs) (suc i) a h = none_behind m ws vs i a (omega arith)
 
+pub ruleset word_by_word = (same_passed, named_passed, other_found, none_behind)
+
 -- where no word is another, each that the map doesn't name is the same
 none_other : (m : MapValue) (ws vs : List ℕ) (a i : ℕ) → length ws ≡ length vs → first_other m ws vs a ≡ None → is_named m (a + 2 * i) ≡ false
     → get_or vs i 0 ≡ get_or ws i 0

@@ -1,5 +1,6 @@
 -- The words of a migrated FRAM, address by address.
-use Rattle.std.proofs.Common.{◌≡◌, ◌<◌, ◌≤◌, ◌+◌, ◌⊎◌, inl, inr, ◌∙◌, ℕ, suc, Bool, true, false, cond, List, [], ◌∷◌, length, map, Option, Some, None, refl, sym, ap}
+use Rattle.std.proofs.Common.{◌≡◌, ◌<◌, ◌≤◌, ◌+◌, ◌⊎◌, inl, inr, ◌∙◌, ℕ, suc, Bool, true, false, cond, List, [], ◌∷◌, length, map, Option, Some, None, refl}
+use Rattle.std.proofs.Common.{sym, ap}
 use Rattle.std.proofs.Common.{arith, true≢false}
 use Rattle.std.specs.Prelude.{◌-◌, ◌*◌, ◌/◌, ◌==◌, slice_index, unwrap_or, All, nat_le, nat_lt}
 use Rattle.std.proofs.lemmas.Bool.{cases_lt, leb-true, ltb-true, le-leb, lt-ltb, eqb-true, eqb-false, and_parts, and_from}
@@ -73,10 +74,12 @@ rows_word (v ∷ vs) (row ∷ rows) words a (variable, long, fit) all is =
         by_order (inl less) end = inl (omega (arith, variable.address.low, variable.address.even, is.low, is.even))
         by_order (inr from) (inr to) = inr (omega (arith, long, variable.address.low, variable.address.even, is.low, is.even))
         by_order (inr from) (inl to) =
-            let held = and_from (nat_le v.address a) (nat_lt a (v.address + 2 * unwrap_or v.length 1)) (le-leb v.address a from) (lt-ltb a (v.address + 2 * unwrap_or v.length 1) to) in
+            let held = and_from (nat_le v.address a) (nat_lt a (v.address + 2 * unwrap_or v.length 1)) (le-leb v.address a from)
+            (lt-ltb a (v.address + 2 * unwrap_or v.length 1) to) in
             absurd (true≢false (sym held ∙ h))
 
-    by_held : word_in (with_rows vs rows words) a ≡ unwrap_or (shared_word vs rows a) (word_in words a) → (b : Bool) → holds (variable_words v) a ≡ b → word_in (with_row (place_of v.address) row below) a
+    by_held : word_in (with_rows vs rows words) a ≡ unwrap_or (shared_word vs rows a) (word_in words a) → (b : Bool)
+        → holds (variable_words v) a ≡ b → word_in (with_row (place_of v.address) row below) a
         ≡ unwrap_or (cond b (Some (slice_index row ((a - v.address) / 2))) (shared_word vs rows a)) (word_in words a)
     by_held more true h =
         let both = and_parts (nat_le v.address a) (nat_lt a (v.address + 2 * unwrap_or v.length 1)) h in

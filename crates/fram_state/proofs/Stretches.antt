@@ -85,3 +85,6 @@ pub last_none : (m : MapValue) (a : ℕ) (r : Option ℕ) → held_until (runtim
     → r ≡ shared_until m.variables a → IfNone r (is_named m a ≡ false)
 last_none m a None runtime lists e = none_named m a runtime lists (sym e)
 last_none m a (Some end) runtime lists e = tt
+
+-- place by place
+pub ruleset named_by_places = (runtime_named, buffers_named, last_some, last_none)

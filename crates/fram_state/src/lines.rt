@@ -122,7 +122,7 @@ fn is_planned(
 }
 
 // Whether the tasks of a map are these, each with the private scalars of its plan.
-#[tactic(auto, using(crate::proofs::Declared::task_more, crate::proofs::Declared::same_task, crate::proofs::Declared::same_tasks, crate::proofs::Declared::all_tasks))]
+#[tactic(auto, using(crate::proofs::Declared::tasks_in_order))]
 fn are_planned(
     text: &[u8],
     shared: &[SharedDeclaration],

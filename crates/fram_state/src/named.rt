@@ -90,7 +90,7 @@ fn shared_until(variables: &[Variable], address: u64) -> Option<u64>
 }
 
 /// An address behind this one, such that the map names all from this one up to there; nothing where it doesn't name this one.
-#[tactic(auto, using(crate::proofs::Stretches::runtime_named, crate::proofs::Stretches::buffers_named, crate::proofs::Stretches::last_some, crate::proofs::Stretches::last_none))]
+#[tactic(auto, using(crate::proofs::Stretches::named_by_places))]
 pub fn named_until(map: &Map, address: u64) -> Option<u64>
     ensures some { IfSome result (AllUpTo (is_named map.now) address) }
     ensures none { IfNone result (is_named map.now address ≡ false) }

@@ -6,7 +6,7 @@ use crate::named::named_until;
 use image_text::Map;
 
 /// The first address that the map doesn't name and at which the words of an image and of a state differ, if there is one.
-#[tactic(auto, using(crate::proofs::Others::same_passed, crate::proofs::Others::named_passed, crate::proofs::Others::other_found, crate::proofs::Others::none_behind))]
+#[tactic(auto, using(crate::proofs::Others::word_by_word))]
 pub fn first_other(map: &Map, image: &[u16], state: &[u16]) -> Option<u16>
     requires image { length image.now ≡ 24064 }
     requires state { length state.now ≡ 24064 }

@@ -49,7 +49,7 @@ fn is_entry(map: &Map, entry: Entry) -> bool
 }
 
 // Whether the entries that words are go from copies to shared words, and have at most as many words as the list has room for entries.
-#[tactic(auto, using(crate::proofs::Entries::entry_more, crate::proofs::Entries::entry_stop, crate::proofs::Entries::entry_long, crate::proofs::Entries::no_entry))]
+#[tactic(auto, using(crate::proofs::Entries::entry_by_entry))]
 fn are_entries(map: &Map, list: &[u16]) -> bool
     ensures { result ≡ sound.are_entries map.now (entries_of list.now) map.now.list.capacity }
 {

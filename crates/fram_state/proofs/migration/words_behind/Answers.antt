@@ -15,7 +15,8 @@ returns-in_default-clause-fault c =
     let items = c.args.old.now.source.now.tasks.items in
     let at : slice_get items (current (edition_of c.args.old.now)) ≡ Some c.index.result.now =
     ap (slice_get items) (sym c.current.ensures.number)
-    ∙ slice_get_read items (length items) c.current.result c.index.result.now refl (omega (arith, c.requires.current, c.current.ensures.number)) c.index.ensures in
+    ∙ slice_get_read items (length items) c.current.result c.index.result.now refl (omega (arith, c.requires.current, c.current.ensures.number))
+    c.index.ensures in
     record {
       at_rest = excluded c.is_pending.result _ c.is_pending.ensures c.if-is_pending.false;
       task = task_of c.index.result.now;
@@ -42,7 +43,8 @@ returns-in-Some-first_unsettled-clause-fault c =
     let shared = c.args.new.now.source.now.shared.items in
     let at : slice_get items (current (edition_of c.args.old.now)) ≡ Some c.index.result.now =
     ap (slice_get items) (sym c.current.ensures.number)
-    ∙ slice_get_read items (length items) c.current.result c.index.result.now refl (omega (arith, c.requires.current, c.current.ensures.number)) c.index.ensures in
+    ∙ slice_get_read items (length items) c.current.result c.index.result.now refl (omega (arith, c.requires.current, c.current.ensures.number))
+    c.index.ensures in
     let unsettled = c.in-Some-first_unsettled.ensures.some in
     let scalar : slice_get shared c.in-Some-first_unsettled.number ≡ Some c.index-in-Some-first_unsettled.result.now =
     slice_get_read shared (length shared) c.in-Some-first_unsettled.number c.index-in-Some-first_unsettled.result.now refl
@@ -59,7 +61,8 @@ returns-in-Some-first_unsettled-clause-fault c =
       scalar = c.in-Some-first_unsettled.number;
       unsettled = unsettled;
       first = c.in-Some-first_unsettled.ensures.first;
-      stands = ap (λ d. d.name) (same_at shared c.in-Some-first_unsettled.number c.index-in-Some-first_unsettled.result.now unsettled.scalar scalar unsettled.is);
+      stands = ap (λ d. d.name) (same_at shared c.in-Some-first_unsettled.number c.index-in-Some-first_unsettled.result.now unsettled.scalar scalar
+          unsettled.is);
     }
 
 pub returns-clause-words : goal.returns-clause-words
@@ -67,7 +70,8 @@ returns-clause-words c =
     let items = c.args.old.now.source.now.tasks.items in
     let at : slice_get items (current (edition_of c.args.old.now)) ≡ Some c.index.result.now =
     ap (slice_get items) (sym c.current.ensures.number)
-    ∙ slice_get_read items (length items) c.current.result c.index.result.now refl (omega (arith, c.requires.current, c.current.ensures.number)) c.index.ensures in
+    ∙ slice_get_read items (length items) c.current.result c.index.result.now refl (omega (arith, c.requires.current, c.current.ensures.number))
+    c.index.ensures in
     record {
       can = record {
         at_rest = excluded c.is_pending.result _ c.is_pending.ensures c.if-is_pending.false;
