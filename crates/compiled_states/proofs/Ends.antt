@@ -12,7 +12,8 @@ use Rattle.fram_state.specs.state_text.declared.state.State.{State}
 use Rattle.image_reports.specs.link_image.fram_board.Bus.{BusState, board_bus}
 use Rattle.image_reports.specs.link_image.fram_board.Board.{BoardValue, opened, board_outcome, executed, powered, next_number, receiver_after}
 use Rattle.image_reports.specs.link_image.fram_board.Saved.{saved}
-use Rattle.image_reports.specs.link_image.fram_board.Run.{Measure, Moment, Charges, Stopped, RunOutcome, run_outcome, BoardCharge, price, ChargeRun, Spent, NoInstruction}
+use Rattle.image_reports.specs.link_image.fram_board.Run.{Measure, Moment, Charges, Stopped, RunOutcome, run_outcome, BoardCharge, price}
+use Rattle.image_reports.specs.link_image.fram_board.Run.{ChargeRun, Spent, NoInstruction}
 use Rattle.image_reports.specs.link_image.fram_board.Run.{TooDear, Refused, Executed, Run, Over, Next, Last}
 use Rattle.image_reports.proofs.link_image.fram_board.Interface.{only_takes}
 use Rattle.image_reports.specs.link_image.machine_effects.Runs.{last_board}

@@ -5,7 +5,8 @@ use Rattle.image_reports.specs.layout_facts.task_ast.declared.Extent.TheVariants
 use Rattle.image_reports.specs.layout_facts.task_ast.declared.SharedDeclaration.{SharedDeclaration}
 use Rattle.image_reports.specs.layout_facts.cost_bound.declared.allowance.Allow.{Allow}
 use Rattle.image_reports.specs.layout_facts.cost_bound.Counts.{Code, emits_of}
-use Rattle.image_reports.specs.layout_facts.cost_bound.Allowance.{CheckedProgram, CheckedTask, IsAllowed, shared_sum_from, place_part, version_part, is_written, total}
+use Rattle.image_reports.specs.layout_facts.cost_bound.Allowance.{CheckedProgram, CheckedTask, IsAllowed, shared_sum_from, place_part, version_part}
+use Rattle.image_reports.specs.layout_facts.cost_bound.Allowance.{is_written, total}
 use Rattle.image_reports.specs.layout_facts.cost_bound.Allowance.{greatest}
 use Rattle.image_reports.specs.layout_facts.cost_bound.Allowance.{task_words, list_of, words_of, versions_of}
 use Rattle.image_reports.specs.layout_facts.war_analysis.PlanValue.{TaskPlanValue}

@@ -9,7 +9,8 @@ use Rattle.image_reports.specs.layout_facts.cost_bound.declared.allowance.Allow.
 use Rattle.image_reports.specs.layout_facts.cost_bound.Allowance.{CheckedProgram}
 use Rattle.image_reports.specs.layout_facts.war_analysis.PlanValue.{TaskPlanValue}
 use Rattle.image_reports.specs.layout_facts.memory_map.declared.words.RuntimeWord.{RuntimeWord}
-use Rattle.image_reports.specs.layout_facts.memory_map.declared.words.RuntimeWord.TheVariants.{CurrentTask, NextTask, Gate, ListLength, EmitCount, Base, SentBase, Version}
+use Rattle.image_reports.specs.layout_facts.memory_map.declared.words.RuntimeWord.TheVariants.{CurrentTask, NextTask, Gate, ListLength}
+use Rattle.image_reports.specs.layout_facts.memory_map.declared.words.RuntimeWord.TheVariants.{EmitCount, Base, SentBase, Version}
 use Rattle.image_reports.specs.layout_facts.memory_map.MemoryMap.{MemoryMap, word_place}
 use Rattle.image_reports.specs.layout_facts.memory_map.Places.{end_of}
 use Rattle.image_reports.specs.layout_facts.memory_map.Laws.{PartsInFram}

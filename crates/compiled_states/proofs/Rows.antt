@@ -87,7 +87,8 @@ module _ (text : List ℕ) (row : SharedDeclaration → List ℕ) (long : (d : S
           let words = size in let low = begin in let two = even in let high = behind in
           let here : holds (variable_words v) a ≡ true = within (variable_words v) a (omega arith) (omega (arith, words, lt)) in
           h a (omega (arith, two)) (omega (arith, low)) (omega (arith, high, lt))
-          ∙ ap (λ b. unwrap_or (if b then Some (slice_index (row d) ((a - v.address) / 2)) else shared_word (variables_of text ds places) (map row ds) a) (other a))
+          ∙ ap (λ b. unwrap_or (if b then Some (slice_index (row d) ((a - v.address) / 2)) else shared_word (variables_of text ds places) (map row ds) a)
+          (other a))
           here
           ∙ ap (slice_index (row d)) (half from_here i)
 
@@ -98,5 +99,6 @@ module _ (text : List ℕ) (row : SharedDeclaration → List ℕ) (long : (d : S
           let words = size in let low = begin in
           let out : holds (variable_words v) a ≡ false = past (variable_words v) a (omega (arith, words, behind_here)) in
           h a two (omega (arith, low, behind_here)) below
-          ∙ ap (λ b. unwrap_or (if b then Some (slice_index (row d) ((a - v.address) / 2)) else shared_word (variables_of text ds places) (map row ds) a) (other a))
+          ∙ ap (λ b. unwrap_or (if b then Some (slice_index (row d) ((a - v.address) / 2)) else shared_word (variables_of text ds places) (map row ds) a)
+          (other a))
           out

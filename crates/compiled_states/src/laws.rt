@@ -1,6 +1,7 @@
 //! Laws of the states of images of accepted sources. The functions do nothing: their contracts are the laws.
 
-ghost use Rattle.compiled_states.specs.Laws.{FreshStatesBelong, ImagesSuitTheirSources, MigratedStatesBelong, StatesAreTold, StatesAreWorlds, StatesGoOn, StatesStay, WorldsAreStates};
+ghost use Rattle.compiled_states.specs.Laws.{FreshStatesBelong, ImagesSuitTheirSources, MigratedStatesBelong, StatesAreTold};
+ghost use Rattle.compiled_states.specs.Laws.{StatesAreWorlds, StatesGoOn, StatesStay, WorldsAreStates};
 
 /// A state that belongs to the image of an accepted source, by the image's map and words alone, is one of the source's worlds: the code is the
 /// image's, the counts keep to the capacities, and it is at rest, or its pending commit can be made.
