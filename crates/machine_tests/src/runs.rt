@@ -52,7 +52,10 @@ fn the_board_stands_behind_the_step_of_the_line(rt: HostRuntime) -> Result<(), F
 
 // l: mov &0x0200,r4; mov #1,&0x5004; mov r4,&0x5014; mov #7,&0x5000; mov #0,&0x5004; jmp l
 const READS_AND_COMMITS: &'static str =
-    "@4400\n14 42 00 02 92 43 04 50 82 44 14 50 B2 40 07 00\n00 50 82 43 04 50 F4 3F\n@FFFE\n00 44\nq\nmap\nbound 9\nwords 5000 5002 5004 5006 5008 500A 500C 500E\nlist 5020 1\nemits 5030 1\nversions 5040 0\nscalar x int 5010\narray y unsigned 5012 3\ntask a\ntask b\nend\n";
+    "@4400\n14 42 00 02 92 43 04 50 82 44 14 50 B2 40 07 00\n00 50 82 43 04 50 F4 3F\n\
+    @FFFE\n00 44\nq\n\
+    map\nbound 9\nwords 5000 5002 5004 5006 5008 500A 500C 500E\nlist 5020 1\nemits 5030 1\nversions 5040 0\n\
+    scalar x int 5010\narray y unsigned 5012 3\ntask a\ntask b\nend\n";
 
 // The answer of a run, the word that it stores to, the sum of the shared words, and how many transitions were completed.
 fn summed(

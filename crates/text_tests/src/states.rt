@@ -7,7 +7,10 @@ use std::test::Fail;
 // A state whose commit is pending, and which is sound: the two words of `xs` are to become copies, and of the word that was emitted
 // nobody knows whether it was sent. Behind the runtime's words stand the list, the emits, a version word, the copies, `n` and `xs`.
 const PENDING: &'static str =
-    "@4400\n00 00 01 00 01 00 01 00 01 00 05 00 05 00 03 00\n2A 44 24 44 02 00 00 00 00 00 00 00 07 00 00 00\n02 00 09 00 0A 00 0B 00 01 00 02 00 03 00 FF 3F\n@FFFE\n2E 44\nq\nmap\nbound 9\nwords 4400 4402 4404 4406 4408 440A 440C 440E\nlist 4410 2\nemits 441C 2\nversions 4420 1\ncopies 4422 3\nscalar n unsigned 4428\narray xs int 442A 2\ntask a\ntask b\nend\nreceiver 6\n";
+    "@4400\n00 00 01 00 01 00 01 00 01 00 05 00 05 00 03 00\n2A 44 24 44 02 00 00 00 00 00 00 00 07 00 00 00\n02 00 09 00 0A 00 0B 00 01 00 02 00 03 00 FF 3F\n\
+    @FFFE\n2E 44\nq\n\
+    map\nbound 9\nwords 4400 4402 4404 4406 4408 440A 440C 440E\nlist 4410 2\nemits 441C 2\nversions 4420 1\n\
+    copies 4422 3\nscalar n unsigned 4428\narray xs int 442A 2\ntask a\ntask b\nend\nreceiver 6\n";
 
 fn pending(rt: &HostRuntime) -> Result<State, Fail> {
     Ok(parse_state(rt.alloc(), PENDING.as_bytes())?)
