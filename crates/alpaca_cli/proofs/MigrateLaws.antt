@@ -1,11 +1,10 @@
 -- The parts of a migration, put together.
-use Rattle.std.proofs.Common.{◌≡◌, ◌∙◌, ℕ, List, [], ◌∷◌, Option, Some, None, Result, Ok, Err, refl, sym, ap, subst, IfOk, IfErr}
-use Rattle.std.specs.Prelude.{slice_get, length}
+use Rattle.std.proofs.Common.{◌≡◌, ◌∙◌, ℕ, List, [], Some, Result, Ok, Err, refl, sym, ap, subst, IfOk, IfErr}
+use Rattle.std.specs.Prelude.{slice_get}
 use Rattle.std.specs.Io.KnownBytes.{Appends}
 use Rattle.std.proofs.KnownBytes.{Appends-nil}
 use Rattle.alp_io.specs.Shelf.{Told, Sets}
 use Rattle.image_reports.specs.task_ast.View.{program_of}
-use Rattle.image_text.specs.image_map.MapValue.{MapValue}
 use Rattle.state_text.specs.declared.state.State.{State}
 use Rattle.state_text.specs.Reading.{state_of}
 use Rattle.state_text.specs.Text.{state_text}
@@ -22,13 +21,12 @@ use Rattle.alpaca_cli.specs.declared.failure.Failure.TheVariants.{Refused, Put, 
 use Rattle.alpaca_cli.specs.declared.migrate.MigrateNames.{MigrateNames}
 use Rattle.alpaca_cli.specs.declared.migrate.Said.{Said}
 use Rattle.alpaca_cli.specs.Answers.{IsWhole}
-use Rattle.alpaca_cli.specs.Calls.{judges, puts}
 use Rattle.alpaca_cli.specs.Ending.{well}
 use Rattle.alpaca_cli.specs.Migrated.{Editions, AreSaid, AreAlone, AreSuited, Migrates, MigrateRefuses, unsuited, unsuited_new, another_state, not_migrated}
 use Rattle.alpaca_cli.specs.Migrated.{other_source, migrate_refusal, old_edition, new_edition}
 use Rattle.alpaca_cli.specs.Migrating.{AreRead, FailsAt, OfEditions, old_with, new_with, read_by, call_of, texts_of}
 use Rattle.alpaca_cli.specs.Outcomes.{FailsBy, FailsPutting}
-use Rattle.alpaca_cli.specs.Outside.{Shelved, Written, WhereSilent}
+use Rattle.alpaca_cli.specs.Outside.{Shelved, WhereSilent}
 use Rattle.alpaca_cli.specs.Refusals.{Refusal}
 use Rattle.alpaca_cli.specs.Resumed.{RefusesOther}
 use Rattle.alpaca_cli.specs.Sources.{IsSourceText}

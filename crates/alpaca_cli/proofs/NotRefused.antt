@@ -15,12 +15,10 @@ use Rattle.alpaca_cli.specs.Sources.{IsSourceText, RefusesSource}
 use Rattle.alpaca_cli.specs.Texts.{RefusesTrace, RefusesImage, outside_fram, twice, no_reset, bad_map}
 use Rattle.alpaca_cli.specs.Texts.{RefusesState, bad_state_line, outside_of_state, twice_in_state, no_reset_in_state, bad_map_of_state}
 use Rattle.alpaca_cli.specs.Texts as texts
-use Rattle.fram_state.specs.declared.migration.MigrateFault.{MigrateFault}
-use Rattle.fram_state.specs.declared.migration.MigrateFault.TheVariants.{Memory}
 use Rattle.fram_state.specs.Suits.{Suits}
-use Rattle.fram_state.specs.Migrated.{EditionValue, edition_with, CanMigrate, IsFault}
-use Rattle.image_text.specs.image_map.MapValue.{MapValue}
-use Rattle.alpaca_cli.specs.Migrated.{Editions, editions, AreSaid, AreAlone, AreSuited, CanBeMigrated, MigrateRefuses, migrate_refusal, old_edition, new_edition}
+use Rattle.fram_state.specs.Migrated.{EditionValue, edition_with, CanMigrate}
+use Rattle.alpaca_cli.specs.Migrated.{Editions, editions, AreSaid, AreAlone, AreSuited, CanBeMigrated, MigrateRefuses, migrate_refusal}
+use Rattle.alpaca_cli.specs.Migrated.{old_edition, new_edition}
 use Rattle.alpaca_cli.specs.Migrated as migrated
 use Rattle.alpaca_cli.specs.Products.{SaysSource, SaysTrace, SaysImage, SaysState, SaysAssembly, AreAccepted, IsRefused}
 use Rattle.alpaca_cli.specs.Products.{MeanRefuses, the_source, its_trace, RunRefuses, the_image, the_trace}

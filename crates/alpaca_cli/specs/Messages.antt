@@ -37,9 +37,9 @@ machine_fault_line = texts (codes "machine fault\n" ∷ [])
 unfoldable pub differs_line : List ℕ
 differs_line = texts (codes "report differs\n" ∷ [])
 
--- the line where the words are no command line: all commands, also those to come
+-- the line where the words are no command line: all commands
 unfoldable pub usage_line : List ℕ
 usage_line =
     texts
-    (codes
-    "usage: alpaca mean SRC TRACE | try SRC TRACE IMAGE | build SRC IMAGE | run IMAGE TRACE | asm ASM IMAGE | dis IMAGE | gen N IMAGE | save IMAGE TRACE STATE | resume IMAGE STATE TRACE | migrate SRC IMAGE STATE NEWSRC NEWIMAGE NEWSTATE | audit SRC REPORT TRACE\n" ∷ [])
+    (codes "usage: alpaca mean SRC TRACE | try SRC TRACE IMAGE | build SRC IMAGE | run IMAGE TRACE | asm ASM IMAGE | dis IMAGE | gen N IMAGE"
+    ∷ codes " | save IMAGE TRACE STATE | resume IMAGE STATE TRACE | migrate SRC IMAGE STATE NEWSRC NEWIMAGE NEWSTATE | audit SRC REPORT TRACE\n" ∷ [])

@@ -1,6 +1,5 @@
 -- What `migrate` makes of its texts: the state of a new edition of a program that goes on in place of an old one; and why there is none.
-use Rattle.std.specs.Prelude.{◌≡◌, ℕ, ◌≤◌, List, [], ◌∷◌, length, codes, Option, Some, None, Ok, slice_get}
-use Rattle.image_reports.specs.task_ast.View.{program_of}
+use Rattle.std.specs.Prelude.{◌≡◌, ℕ, List, codes, Option, Some, None, Ok}
 use Rattle.image_text.specs.ImageValue.{ImageValue}
 use Rattle.image_text.specs.Reading.{image_of}
 use Rattle.state_text.specs.declared.state.State.{State}

@@ -3,7 +3,6 @@ use Rattle.std.specs.Prelude.{◌≡◌, ℕ, ◌≤◌, List, [], ◌∷◌, le
 use Rattle.image_reports.specs.task_ast.View.{program_of}
 use Rattle.image_text.specs.Reading.{image_of}
 use Rattle.image_text.specs.image_map.MapValue.{MapValue}
-use Rattle.state_text.specs.declared.state.State.{State}
 use Rattle.state_text.specs.Reading.{state_of}
 use Rattle.fram_state.specs.Migrated.{EditionValue, edition_with}
 use Rattle.source_values.specs.Runs.{CheckedProgram}

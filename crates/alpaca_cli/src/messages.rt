@@ -137,7 +137,8 @@ pub fn tell_usage<E: Sink>(err: &mut E)
     tell(
         err,
         &[
-            b"usage: alpaca mean SRC TRACE | try SRC TRACE IMAGE | build SRC IMAGE | run IMAGE TRACE | asm ASM IMAGE | dis IMAGE | gen N IMAGE | save IMAGE TRACE STATE | resume IMAGE STATE TRACE | migrate SRC IMAGE STATE NEWSRC NEWIMAGE NEWSTATE | audit SRC REPORT TRACE\n",
+            b"usage: alpaca mean SRC TRACE | try SRC TRACE IMAGE | build SRC IMAGE | run IMAGE TRACE | asm ASM IMAGE | dis IMAGE | gen N IMAGE \
+              | save IMAGE TRACE STATE | resume IMAGE STATE TRACE | migrate SRC IMAGE STATE NEWSRC NEWIMAGE NEWSTATE | audit SRC REPORT TRACE\n",
         ],
     );
 }

@@ -16,5 +16,9 @@ returns-clause-only_audits_differ g c = only_audits_differ _ _ _ _ _ c.answer.en
 
 pub returns-clause-complete : goal.returns-clause-complete
 returns-clause-complete g c =
-    let exclude : TextsExclude = record { sources = sources_exclude c.one_answer.ensures; states = c.answers_are_one.ensures; migrations = c.no_migration_is_refused.ensures } in
+    let exclude : TextsExclude = record {
+      sources = sources_exclude c.one_answer.ensures;
+      states = c.answers_are_one.ensures;
+      migrations = c.no_migration_is_refused.ensures;
+    } in
     complete_told c.board_has_one_run.ensures.unique exclude _ _ _ _ _ _ _ _ c.answer.ensures.answers
