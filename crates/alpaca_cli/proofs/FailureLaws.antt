@@ -28,7 +28,7 @@ use Rattle.alpaca_cli.specs.Calls.{Call, mean, run, dis, resume, audit, puts, ju
 use Rattle.alpaca_cli.specs.Ending.{Ending, well}
 use Rattle.alpaca_cli.specs.Ends.{ending_of}
 use Rattle.alpaca_cli.specs.Outcomes.{FailsBy, FailsWriting, Gains}
-use Rattle.alpaca_cli.specs.Outside.{Shelved, Written, Stands, IsSilent, WhereStands, IsPut}
+use Rattle.alpaca_cli.specs.Outside.{Shelved, Written, Stands, IsSilent, WhereStands, WhereSilent, IsPut}
 use Rattle.alpaca_cli.specs.Products.{Product, IsProduct, IsRefused, IsListing}
 use Rattle.alpaca_cli.specs.Refusals.{Refusal}
 use Rattle.alpaca_cli.specs.Resumed.{IsOfItsSource}
@@ -55,6 +55,11 @@ refusal_fails Memory name P call texts place shelf out named is stands silent fa
 pub memory_fails : (e : Failure) (call : Call) (texts : List (List ℕ)) (shelf : Shelved) (out : Written) → e ≡ Memory → Stands shelf → IsSilent out
     → FailsBy e call texts shelf out
 memory_fails e call texts shelf out memory stands silent = subst (λ x. FailsBy x call texts shelf out) (sym memory) (stands, silent)
+
+-- a part that neither puts nor writes failed, and nothing was put or written
+pub nothing_done : (e : Failure) (call : Call) (texts : List (List ℕ)) (shelf : Shelved) (out : Written)
+    → WhereStands (λ s. WhereSilent (FailsBy e call texts s)) → Stands shelf → IsSilent out → FailsBy e call texts shelf out
+nothing_done e call texts shelf out fails stands silent = fails shelf stands out silent
 
 -- ---- a command that puts no file
 

@@ -23,7 +23,7 @@ use Rattle.alpaca_cli.specs.Calls.{save}
 use Rattle.alpaca_cli.specs.Ending.{Ending, well, at_fault}
 use Rattle.alpaca_cli.specs.Outside.{Shelved, Written, Stands}
 use Rattle.alpaca_cli.specs.RunReport.{ending_of}
-use Rattle.alpaca_cli.specs.Saved.{IsSavedAt, RanFrom, Saves, StaysWithItsImage, from_state, told_end, told_fault}
+use Rattle.alpaca_cli.specs.Saved.{IsSavedAt, RanFrom, RanOn, Saves, StaysWithItsImage, from_state, told_end, told_fault}
 use Rattle.alpaca_cli.proofs.RunLaws.{ends_well, ends_at_fault}
 
 -- ---- the run, to a sink that never fails
@@ -84,52 +84,44 @@ fault_is f b h (Stopped (stop.Bus pc address)) is = let same : f ≡ fault.Bus p
 
 -- ---- what the command makes
 
--- the texts are a state and a trace, and the board that goes on from it ran so
-pub record RanOn (image trace : List ℕ) (end : Result RunEnd RunFault) (board : BoardValue) (completed : ℕ) : Type 0 where
-  pub state : State
-  pub charges : TraceValue
-  pub state_said : state_of image ≡ Ok state
-  pub trace_said : trace_of trace ≡ Ok charges
-  pub ran : RanFrom state charges end board completed
-  pub stays : StaysWithItsImage state ran.outcome
-
 abbrev pub ran_on : (image trace : List ℕ) (s : State) (t : TraceValue) (end : Result RunEnd RunFault) (board : BoardValue) (completed : ℕ)
     → state_of image ≡ Ok s → trace_of trace ≡ Ok t → ((r : RunOutcome) → Run (charges_of t.charges) (from_state s t) r → StaysWithItsImage s r)
-    → RanFrom s t end board completed → RanOn image trace end board completed
+    → RanFrom s t end board completed → RanOn image trace s end board completed
 ran_on image trace s t end board completed state_said trace_said stay ran =
-    record { state = s; charges = t; state_said = state_said; trace_said = trace_said; ran = ran; stays = stay ran.outcome ran.run }
+    record { charges = t; state_said = state_said; trace_said = trace_said; ran = ran; stays = stay ran.outcome ran.run }
 
-module _ (image trace : List ℕ) (end : Result RunEnd RunFault) (board : BoardValue) (completed : ℕ) (r : RanOn image trace end board completed) where
+module _ (image trace : List ℕ) (s : State) (end : Result RunEnd RunFault) (board : BoardValue) (completed : ℕ)
+    (r : RanOn image trace s end board completed) where
   saves : (file : Option (List ℕ)) (ending : Ending) (output : List ℕ) → ending ≡ ending_of r.ran.outcome.ending
-      → IsSavedAt ending file (saved board r.state.image.map)
-      → output ≡ last_line (after_all (start_of r.state.image) r.ran.outcome.moments) r.ran.outcome.ending board → Saves image trace file ending output
+      → IsSavedAt ending file (saved board s.image.map)
+      → output ≡ last_line (after_all (start_of s.image) r.ran.outcome.moments) r.ran.outcome.ending board → Saves image trace file ending output
   saves file ending output ends put line = record {
-    state = r.state;
+    state = s;
     charges = r.charges;
     outcome = r.ran.outcome;
     state_said = r.state_said;
     trace_said = r.trace_said;
     run = r.ran.run;
     ends = ends;
-    put = subst (λ b. IsSavedAt ending file (saved b r.state.image.map)) r.ran.at_end put;
+    put = subst (λ b. IsSavedAt ending file (saved b s.image.map)) r.ran.at_end put;
     stays = r.stays;
-    line = line ∙ ap (λ b. last_line (after_all (start_of r.state.image) r.ran.outcome.moments) r.ran.outcome.ending b) r.ran.at_end;
+    line = line ∙ ap (λ b. last_line (after_all (start_of s.image) r.ran.outcome.moments) r.ran.outcome.ending b) r.ran.at_end;
   }
 
   -- where the run ended well
-  pub saves_well : (x : RunEnd) (text output : List ℕ) → end ≡ Ok x → IsSavedAt well (Some text) (saved board r.state.image.map)
+  pub saves_well : (x : RunEnd) (text output : List ℕ) → end ≡ Ok x → IsSavedAt well (Some text) (saved board s.image.map)
       → output ≡ told_end x completed board → Saves image trace (Some text) well output
   saves_well x text output is put line =
       let answer = sym is ∙ r.ran.answer in
       saves (Some text) well output (ends_well r.ran.outcome.ending x answer) put
-      (line ∙ end_is x completed board (after_all (start_of r.state.image) r.ran.outcome.moments) r.ran.outcome.ending answer r.ran.count)
+      (line ∙ end_is x completed board (after_all (start_of s.image) r.ran.outcome.moments) r.ran.outcome.ending answer r.ran.count)
 
   -- where it met a fault nothing is put
   saves_none : (f : RunFault) (output : List ℕ) → end ≡ Err f → output ≡ told_fault f → Saves image trace None at_fault output
   saves_none f output is line =
       let answer = sym is ∙ r.ran.answer in
       saves None at_fault output (ends_at_fault r.ran.outcome.ending f answer) refl
-      (line ∙ fault_is f board (after_all (start_of r.state.image) r.ran.outcome.moments) r.ran.outcome.ending answer)
+      (line ∙ fault_is f board (after_all (start_of s.image) r.ran.outcome.moments) r.ran.outcome.ending answer)
 
   pub fault_whole : (f : RunFault) (a b c : List ℕ) (shelf : Shelved) (out : Written) → end ≡ Err f → Stands shelf → Appends out.old out.new (told_fault f)
       → IsWhole (save a b c) (image ∷ trace ∷ []) at_fault shelf out

@@ -11,6 +11,7 @@ use Rattle.alpaca_cli.specs.declared.failure.Failure.TheVariants.{Refused, Put, 
 use Rattle.alpaca_cli.specs.declared.migrate.EditionTexts.{EditionTexts}
 use Rattle.alpaca_cli.specs.declared.migrate.MigrateNames.{MigrateNames}
 use Rattle.alpaca_cli.specs.declared.migrate.FiveTexts.{FiveTexts}
+use Rattle.alpaca_cli.specs.declared.migrate.OldSaid.{OldSaid}
 use Rattle.alpaca_cli.specs.declared.migrate.Said.{Said}
 use Rattle.alpaca_cli.specs.Calls.{Call, migrate}
 use Rattle.alpaca_cli.specs.Refusals.{Refusal}
@@ -45,6 +46,14 @@ call_of n = migrate n.source.now n.image.now n.state.now n.new_source.now n.new_
 -- the names of the files that it reads
 abbrev pub read_by : MigrateNames → List (List ℕ)
 read_by n = n.source.now ∷ n.image.now ∷ n.state.now ∷ n.new_source.now ∷ n.new_image.now ∷ []
+
+-- the texts of the old edition say this
+pub record AreOldRead (t : Editions) (s : OldSaid) : Type 0 where
+  pub text : s.source.text.items ≡ t.source
+  pub source_said : IsSourceText t.source (program_of s.source.checked.source)
+  pub only : (other : CheckedProgram) → IsSourceText t.source other → other ≡ program_of s.source.checked.source
+  pub image_said : image_of t.image ≡ Ok s.image
+  pub state_said : state_of t.state ≡ Ok s.state
 
 -- the texts say this
 pub record AreRead (t : Editions) (s : Said) : Type 0 where

@@ -13,6 +13,7 @@ use Rattle.fram_state.specs.Rules.{rule_name}
 use Rattle.fram_board.specs.Run.{RunOutcome}
 use Rattle.board_run.specs.History.{start_of}
 use Rattle.link_image.specs.Compiled.{IsImageOf}
+use Rattle.compiled_states.specs.source_runs.Traces.{IsTraceOfWords}
 use Rattle.compiled_states.specs.Worlds.{IsToldByItsSource, LeavesItsStates}
 use Rattle.alpaca_cli.specs.Ending.{Ending}
 use Rattle.alpaca_cli.specs.Refusals.{Detail, Refusal, name, address}
@@ -39,6 +40,13 @@ pub record Resumes (image state trace : List ℕ) (ending : Ending) (output : Li
   pub belongs : Belongs value saved
   pub report : IsReportFrom (from_state saved charges) (start_of saved.image) charges ending output
   pub of_source : IsOfItsSource value saved charges report.outcome output
+
+-- the texts are this image, this state and this trace
+pub record IsResumption (image state trace : List ℕ) (value : ImageValue) (saved : State) (charges : TraceValue) : Type 0 where
+  pub image_said : image_of image ≡ Ok value
+  pub state_said : state_of state ≡ Ok saved
+  pub trace_said : trace_of trace ≡ Ok charges
+  pub words : IsTraceOfWords charges
 
 -- ---- a state that is refused
 

@@ -68,6 +68,14 @@ pub record RanFrom (s : State) (trace : TraceValue) (end : Result RunEnd RunFaul
   pub at_end : board ≡ outcome.board
   pub count : completed ≡ (after_all (start_of s.image) outcome.moments).completed
 
+-- the texts are this state and a trace, and the run of the board that goes on from the state, on the trace, is so
+pub record RanOn (image trace : List ℕ) (s : State) (end : Result RunEnd RunFault) (board : BoardValue) (completed : ℕ) : Type 0 where
+  pub charges : TraceValue
+  pub state_said : state_of image ≡ Ok s
+  pub trace_said : trace_of trace ≡ Ok charges
+  pub ran : RanFrom s charges end board completed
+  pub stays : StaysWithItsImage s ran.outcome
+
 -- the last line of a run that answers so, by the count of its transitions and the board at its end
 abbrev pub told_end : RunEnd → ℕ → BoardValue → List ℕ
 told_end end completed b = end_line (reason_of end) completed b.receiver.accepted b.receiver.repeats

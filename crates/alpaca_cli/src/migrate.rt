@@ -3,6 +3,7 @@ ghost use Rattle.std.specs.Prelude.{◌≡◌, ◌≤◌, IfOk, IfErr, IfSome, S
 ghost use Rattle.alp_io.specs.Shelf.{NeverFall};
 ghost use Rattle.image_reports.specs.task_ast.View.{program_of};
 ghost use Rattle.fram_state.specs.declared.migration.MigrateFault.{MigrateFault};
+ghost use Rattle.fram_state.specs.Belongs.{Belongs};
 ghost use Rattle.fram_state.specs.Suits.{Suits};
 ghost use Rattle.fram_state.specs.Migrated.{IsStateOf, IsMigrated, IsFault};
 ghost use Rattle.compiled_states.specs.Laws.{RestsInPlaceOf};
@@ -11,7 +12,7 @@ ghost use Rattle.alpaca_cli.specs.Ending.{well};
 ghost use Rattle.alpaca_cli.specs.InputFiles.{AreHeld, IsUnread};
 ghost use Rattle.alpaca_cli.specs.Migrated as told;
 ghost use Rattle.alpaca_cli.specs.Migrated.{Migrates, MigrateRefuses, other_source};
-ghost use Rattle.alpaca_cli.specs.Migrating.{AreRead, AreShort, FailsAt, OfEditions, call_of, editions_in, editions_of, read_by, texts_of};
+ghost use Rattle.alpaca_cli.specs.Migrating.{AreOldRead, AreRead, AreShort, FailsAt, OfEditions, call_of, editions_in, editions_of, read_by, texts_of};
 ghost use Rattle.alpaca_cli.specs.Outcomes.{FailsBy};
 ghost use Rattle.alpaca_cli.specs.Outside.{WhereSilent};
 ghost use Rattle.alpaca_cli.specs.Texts.{FailsRefused};
@@ -75,6 +76,34 @@ pub struct Said {
     pub new_image: Image,
 }
 
+/// What those of the old edition say.
+#[derive(Drop)]
+pub struct OldSaid {
+    pub source: Accepted,
+    pub image: Image,
+    pub state: State,
+}
+
+// What the texts of the old edition say; or the first of them that is refused.
+fn old_said_by<'t>(
+    alloc: Global,
+    names: MigrateNames<'t>,
+    texts: EditionTexts<'t>,
+) -> Result<OldSaid, Failure<'t>>
+    requires { AreShort (editions_of texts) }
+    ensures said { IfOk result (AreOldRead (editions_of texts.entry)) }
+    ensures refused { IfErr result (FailsAt (read_by names.entry) (MigrateRefuses (editions_of texts.entry))) }
+{
+    let source = source_of(alloc, names.source, texts.source)?;
+    let image = image_of(alloc, names.image, texts.image)?;
+    let state = state_of(alloc, names.state, texts.state)?;
+    Ok(OldSaid {
+        source,
+        image,
+        state,
+    })
+}
+
 // What the texts say; or the first that is refused.
 fn said_by<'t>(
     alloc: Global,
@@ -85,11 +114,14 @@ fn said_by<'t>(
     ensures said { IfOk result (AreRead (editions_of texts.entry)) }
     ensures refused { IfErr result (FailsAt (read_by names.entry) (MigrateRefuses (editions_of texts.entry))) }
 {
-    let source = source_of(alloc, names.source, texts.source)?;
-    let image = image_of(alloc, names.image, texts.image)?;
-    let state = state_of(alloc, names.state, texts.state)?;
+    let old_said = old_said_by(alloc, names, texts)?;
     let new_source = source_of(alloc, names.new_source, texts.new_source)?;
     let new_image = image_of(alloc, names.new_image, texts.new_image)?;
+    let OldSaid {
+        source,
+        image,
+        state,
+    } = old_said;
     Ok(Said {
         source,
         image,
@@ -117,6 +149,27 @@ fn check_suits<'t>(
         Err(SuitFault::OtherSource) => Err(refused_plainly(file, 0, "OtherSource")),
         Err(SuitFault::Memory) => Err(Failure::Memory),
     }
+}
+
+// Asks whether each image suits its source, and the state belongs to the old image; the texts say these.
+//
+// Errors: `Refused` with what keeps it from that; `Memory` where memory was refused.
+fn check_editions<'t>(
+    alloc: Global,
+    names: MigrateNames<'t>,
+    texts: EditionTexts<'t>,
+    said: &Said,
+) -> Result<(), Failure<'t>>
+    requires { AreRead (editions_of texts) said.now }
+    ensures old { IfOk result (λ _. Suits said.now.source.text.items (program_of said.now.source.checked.source) said.now.image) }
+    ensures new { IfOk result (λ _. Suits said.now.new_source.text.items (program_of said.now.new_source.checked.source) said.now.new_image) }
+    ensures belongs { IfOk result (λ _. Belongs said.now.image said.now.state) }
+    ensures refused { IfErr result (FailsAt (read_by names.entry) (MigrateRefuses (editions_of texts.entry))) }
+{
+    let _ = texts;
+    check_suits(alloc, names.image, &said.source, &said.image)?;
+    check_suits(alloc, names.new_image, &said.new_source, &said.new_image)?;
+    check_belongs(names.state, &said.image, &said.state)
 }
 
 fn migrate_refusal<'t>(texts: EditionTexts<'t>, fault: MigrateFault) -> Option<Refusal<'t>>
@@ -180,9 +233,7 @@ fn migrated_text<'t>(
     ensures refused { IfErr result (FailsAt (read_by names.entry) (MigrateRefuses (editions_of texts.entry))) }
 {
     let said = said_by(alloc, names, texts)?;
-    check_suits(alloc, names.image, &said.source, &said.image)?;
-    check_suits(alloc, names.new_image, &said.new_source, &said.new_image)?;
-    check_belongs(names.state, &said.image, &said.state)?;
+    check_editions(alloc, names, texts, &said)?;
     let state = migrated_of(alloc, names.state, texts, said)?;
     match print_state(alloc, &state) {
         Ok(text) => Ok(text),

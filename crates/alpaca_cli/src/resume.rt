@@ -4,11 +4,11 @@ ghost use Rattle.alp_io.specs.Shelf.{NeverFall};
 ghost use Rattle.fram_state.specs.Belongs.{Belongs};
 ghost use Rattle.alpaca_cli.specs.Calls as call;
 ghost use Rattle.alpaca_cli.specs.Ends.{ending_of};
-ghost use Rattle.alpaca_cli.specs.Outside.{WhereStands};
+ghost use Rattle.alpaca_cli.specs.Outside.{WhereSilent, WhereStands};
 ghost use Rattle.alpaca_cli.specs.Answers.{CommandAnswers, IsWhole, TextAnswers};
 ghost use Rattle.alpaca_cli.specs.Outcomes.{FailsBy};
 ghost use Rattle.alpaca_cli.specs.Resumed as told;
-ghost use Rattle.alpaca_cli.specs.Resumed.{RefusesOther};
+ghost use Rattle.alpaca_cli.specs.Resumed.{RefusesOther, IsResumption};
 ghost use Rattle.alpaca_cli.specs.Texts.{FailsRefused};
 ghost use Rattle.alpaca_cli.specs.Views.{detail_of, refusal_of};
 
@@ -23,11 +23,20 @@ use crate::states::{state_is_told, state_of};
 use crate::status::Status;
 use crate::traces::trace_of;
 use alp_io::{Shelf, Sink};
+use energy_trace::Trace;
 use fram_board::Board;
 use fram_state::{StateFault, belongs};
 use image_text::Image;
 use state_text::State;
 use std::alloc::Global;
+
+/// What the texts of a call say.
+#[derive(Drop)]
+struct Resumption {
+    image: Image,
+    state: State,
+    trace: Trace,
+}
 
 // A refusal of a whole state, which keeps this.
 fn of_state<'t>(kind: &'static str, detail: Detail<'t>) -> Refusal<'t>
@@ -68,6 +77,31 @@ pub fn check_belongs<'t>(file: &'t str, image: &Image, state: &State) -> Result<
     }
 }
 
+// What the texts say; or the first that is refused.
+fn resumption_of<'t>(
+    alloc: Global,
+    names: (&'t str, &'t str, &'t str),
+    image: &[u8],
+    state: &[u8],
+    trace: &[u8],
+) -> Result<Resumption, Failure<'t>>
+    requires image { length image.now ≤ 1048576 }
+    requires state { length state.now ≤ 1048576 }
+    requires trace { length trace.now ≤ 1048576 }
+    ensures said { IfOk result (λ r. IsResumption image.now state.now trace.now r.image r.state r.trace) }
+    ensures failure { IfErr result (λ e. WhereStands (λ shelf. WhereSilent (FailsBy e
+        (call.resume names.entry.0.now names.entry.1.now names.entry.2.now) (image.now ∷ state.now ∷ trace.now ∷ []) shelf))) }
+{
+    let image = image_of(alloc, names.0, image)?;
+    let state = state_of(alloc, names.1, state)?;
+    let trace = trace_of(alloc, names.2, trace)?;
+    Ok(Resumption {
+        image,
+        state,
+        trace,
+    })
+}
+
 /// Writes the report of the run that goes on from the state that the second text is, which has to belong to the image that the first is, on
 /// the trace that the third is, and answers how it ended.
 ///
@@ -93,15 +127,13 @@ pub fn resume_texts<'t, O: Sink>(
         (call.resume names.entry.0.now names.entry.1.now names.entry.2.now) (image.now ∷ state.now ∷ trace.now ∷ []) shelf
         (record { old = O.contents out.old; new = O.contents out.new; faults_old = O.faults out.old; faults_new = O.faults out.new }))) }
 {
-    let image = image_of(alloc, names.0, image)?;
-    let state = state_of(alloc, names.1, state)?;
-    let trace = trace_of(alloc, names.2, trace)?;
-    check_belongs(names.1, &image, &state)?;
-    state_is_told(&image, &state, &trace);
-    let Ok(mut board) = Board::from_state(alloc, &state, trace.readings()) else {
+    let said = resumption_of(alloc, names, image, state, trace)?;
+    check_belongs(names.1, &said.image, &said.state)?;
+    state_is_told(&said.image, &said.state, &said.trace);
+    let Ok(mut board) = Board::from_state(alloc, &said.state, said.trace.readings()) else {
         return Err(Failure::Memory);
     };
-    write_run(alloc, out, &mut board, &state.image, &trace)
+    write_run(alloc, out, &mut board, &said.state.image, &said.trace)
 }
 
 fn resume_of<O: Sink, E: Sink>(

@@ -10,9 +10,10 @@ ghost use Rattle.state_text.specs.Text.{state_text};
 ghost use Rattle.alpaca_cli.specs.declared.failure.Failure.TheVariants.{Memory};
 ghost use Rattle.alpaca_cli.specs.Calls as call;
 ghost use Rattle.alpaca_cli.specs.Ends.{ending_of};
-ghost use Rattle.alpaca_cli.specs.Saved.{RanFrom, told_end, told_fault};
+ghost use Rattle.alpaca_cli.specs.Saved.{RanFrom, RanOn, told_end, told_fault};
 ghost use Rattle.alpaca_cli.specs.Answers.{CommandAnswers, IsWhole, TextAnswers};
 ghost use Rattle.alpaca_cli.specs.Outcomes.{FailsBy};
+ghost use Rattle.alpaca_cli.specs.Outside.{WhereSilent, WhereStands};
 
 use crate::answers::{answer_failure, answer_unread};
 use crate::failure::Failure;
@@ -40,6 +41,13 @@ struct SilentRun {
     completed: u64,
     /// The board at its end.
     board: Board,
+}
+
+/// A state, and the run that went on from it.
+#[derive(Drop)]
+struct StateRun {
+    state: State,
+    ran: SilentRun,
 }
 
 // Runs the board that goes on from a state to its end; nothing is written. `Memory` where memory was refused.
@@ -106,6 +114,59 @@ fn saved_text<'t>(alloc: Global, board: &Board, state: State) -> Result<Vec<u8>,
     }
 }
 
+// Runs the image or the state that the first text is on the trace that the second is; or the first text that is refused.
+fn state_run_of<'t>(
+    alloc: Global,
+    names: (&'t str, &'t str, &'t str),
+    texts: (&[u8], &[u8]),
+) -> Result<StateRun, Failure<'t>>
+    requires image { length texts.0.now ≤ 1048576 }
+    requires trace { length texts.1.now ≤ 1048576 }
+    ensures ran { IfOk result (λ r. RanOn texts.entry.0.now texts.entry.1.now r.state r.ran.end r.ran.board r.ran.completed) }
+    ensures failure { IfErr result (λ e. WhereStands (λ shelf. WhereSilent (FailsBy e
+        (call.save names.entry.0.now names.entry.1.now names.entry.2.now) (texts.entry.0.now ∷ texts.entry.1.now ∷ []) shelf))) }
+{
+    let state = state_of(alloc, names.0, texts.0)?;
+    let trace = trace_of(alloc, names.1, texts.1)?;
+    state_stays(&state, &trace);
+    let ran = run_from(alloc, &state, &trace)?;
+    Ok(StateRun { state, ran })
+}
+
+// Puts the state at the end of a run that ended well, and writes the last line of the run's report. All memory but that of the put is
+// taken before it.
+fn put_saved<'t, H: Shelf, O: Sink>(
+    alloc: Global,
+    names: (&'t str, &'t str, &'t str),
+    texts: (&[u8], &[u8]),
+    end: RunEnd,
+    state_run: StateRun,
+    shelf: &mut H,
+    out: &mut O,
+) -> Result<RunEnding, Failure<'t>>
+    requires ran { RanOn texts.0.now texts.1.now state_run.state state_run.ran.end state_run.ran.board state_run.ran.completed }
+    requires ends { state_run.ran.end ≡ Ok end }
+    ensures counts { NeverFall (H.counts shelf.old) (H.counts shelf.new) }
+    ensures faults { O.faults out.old ≤ O.faults out.new }
+    ensures whole { IfOk result (λ ending. IsWhole (call.save names.entry.0.now names.entry.1.now names.entry.2.now)
+        (texts.entry.0.now ∷ texts.entry.1.now ∷ []) (ending_of ending)
+        (record { old = H.files shelf.old; new = H.files shelf.new; counts_old = H.counts shelf.old; counts_new = H.counts shelf.new })
+        (record { old = O.contents out.old; new = O.contents out.new; faults_old = O.faults out.old; faults_new = O.faults out.new })) }
+    ensures failure { IfErr result (λ e. FailsBy e (call.save names.entry.0.now names.entry.1.now names.entry.2.now)
+        (texts.entry.0.now ∷ texts.entry.1.now ∷ [])
+        (record { old = H.files shelf.old; new = H.files shelf.new; counts_old = H.counts shelf.old; counts_new = H.counts shelf.new })
+        (record { old = O.contents out.old; new = O.contents out.new; faults_old = O.faults out.old; faults_new = O.faults out.new })) }
+{
+    let _ = texts;
+    let StateRun { state, ran } = state_run;
+    let text = saved_text(alloc, &ran.board, state)?;
+    put_file(alloc, shelf, names.2, text.as_slice())?;
+    match write_end(out, end, &ran) {
+        Ok(()) => Ok(RunEnding::Well),
+        Err(Failed) => Err(Failure::Write),
+    }
+}
+
 /// Runs the image or the state that the first text is on the trace that the second is, puts the state at the run's end, and writes the
 /// last line of the run's report. At a machine fault nothing is put. All memory but that of the put is taken before it.
 ///
@@ -133,19 +194,9 @@ pub fn save_texts<'t, H: Shelf, O: Sink>(
         (record { old = H.files shelf.old; new = H.files shelf.new; counts_old = H.counts shelf.old; counts_new = H.counts shelf.new })
         (record { old = O.contents out.old; new = O.contents out.new; faults_old = O.faults out.old; faults_new = O.faults out.new })) }
 {
-    let state = state_of(alloc, names.0, texts.0)?;
-    let trace = trace_of(alloc, names.1, texts.1)?;
-    state_stays(&state, &trace);
-    let ran = run_from(alloc, &state, &trace)?;
-    match ran.end {
-        Ok(end) => {
-            let text = saved_text(alloc, &ran.board, state)?;
-            put_file(alloc, shelf, names.2, text.as_slice())?;
-            match write_end(out, end, &ran) {
-                Ok(()) => Ok(RunEnding::Well),
-                Err(Failed) => Err(Failure::Write),
-            }
-        }
+    let state_run = state_run_of(alloc, names, texts)?;
+    match state_run.ran.end {
+        Ok(end) => put_saved(alloc, names, texts, end, state_run, shelf, out),
         Err(fault) => match write_fault(out, fault) {
             Ok(()) => Ok(RunEnding::AtFault),
             Err(Failed) => Err(Failure::Write),
