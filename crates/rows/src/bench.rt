@@ -77,7 +77,8 @@ impl Failing {
 
 // What the program tells of words that are no line.
 const USAGE: &[u8] =
-    b"usage: alpaca mean SRC TRACE | try SRC TRACE IMAGE | build SRC IMAGE | run IMAGE TRACE | asm ASM IMAGE | dis IMAGE | gen N IMAGE | save IMAGE TRACE STATE | resume IMAGE STATE TRACE | migrate SRC IMAGE STATE NEWSRC NEWIMAGE NEWSTATE | audit SRC REPORT TRACE\n";
+    b"usage: alpaca mean SRC TRACE | try SRC TRACE IMAGE | build SRC IMAGE | run IMAGE TRACE | asm ASM IMAGE | dis IMAGE | gen N IMAGE \
+      | save IMAGE TRACE STATE | resume IMAGE STATE TRACE | migrate SRC IMAGE STATE NEWSRC NEWIMAGE NEWSTATE | audit SRC REPORT TRACE\n";
 
 // Whether an output is this text; it is said then.
 fn is_said(found: &mut Vec<u8>, text: &[u8]) -> bool {
@@ -126,37 +127,65 @@ impl Bench {
     /// Takes the next part. What was found in place of what it says, where that differs.
     pub fn take(&mut self, part: &Part<'_>) -> Result<Option<String>> {
         let (kind, said) = part.head.split_once(" ").unwrap_or((part.head, ""));
-        let met = match kind.as_bytes() {
-            b"row" => return self.begin(),
-            b"failing" => self.fail(said)?,
-            b"file" => self.put(said, &part.text)?,
-            b"call" => return self.call(said, &part.text),
-            b"each" => return self.call_in_turns(said, &part.text),
-            b"with" => self.begin_series(said, &part.text)?,
-            b"accepted" | b"refused" | b"fault" | b"end" => return self.call_over(kind, part),
-            b"usage" => return self.call_for_usage(said, &part.text),
-            b"failed" => self.says_failed(said),
-            b"status" => self.says_status(said),
-            b"out" => is_said(&mut self.out, &part.text),
-            b"err" => is_said(&mut self.err, &part.text),
-            b"keep" => self.keep(said)?,
-            b"holds" => self.shelf.file(said) == Some(&part.text),
-            b"has" => self.shelf.file(said).is_some(),
-            b"lacks" => self.shelf.file(said).is_none(),
-            b"like" => self.are_like(said),
-            b"begins" => self.says_begin(&part.text),
-            b"ends" => self.says_end(said, &part.text),
-            b"shows" => self.is_shown(said, &part.text)?,
-            b"size" => self.has_size(said),
-            b"prints" | b"compiles" | b"word" | b"decides" | b"real" => self.calls_below(
-                kind, said, &part.text,
-            )?,
-            _ => false,
-        };
+        match kind.as_bytes() {
+            b"row" => self.begin(),
+            b"call" => self.call(said, &part.text),
+            b"each" => self.call_in_turns(said, &part.text),
+            b"usage" => self.call_for_usage(said, &part.text),
+            b"accepted" | b"refused" | b"fault" | b"end" => self.call_over(kind, part),
+            _ => {
+                let met = self.is_met(kind, said, &part.text)?;
+                self.unmet(met)
+            }
+        }
+    }
+
+    // What was found, where a part isn't met.
+    fn unmet(&self, met: bool) -> Result<Option<String>> {
         if met {
             Ok(None)
         } else {
             Ok(Some(self.found()?))
+        }
+    }
+
+    // Whether a part that doesn't call the program is met.
+    fn is_met(&mut self, kind: &str, said: &str, text: &[u8]) -> Result<bool> {
+        match kind.as_bytes() {
+            b"failing" => self.fail(said),
+            b"file" => self.put(said, text),
+            b"with" => self.begin_series(said, text),
+            b"keep" => self.keep(said),
+            b"shows" => self.is_shown(said, text),
+            b"prints" | b"compiles" | b"word" | b"decides" | b"real" => self.calls_below(
+                kind, said, text,
+            ),
+            b"holds" | b"has" | b"lacks" | b"like" | b"size" => Ok(self.are_so(kind, said, text)),
+            _ => Ok(self.says(kind, said, text)),
+        }
+    }
+
+    // Whether the files are as such a part says.
+    fn are_so(&self, kind: &str, said: &str, text: &[u8]) -> bool {
+        match kind.as_bytes() {
+            b"holds" => self.shelf.file(said) == Some(text),
+            b"has" => self.shelf.file(said).is_some(),
+            b"lacks" => self.shelf.file(said).is_none(),
+            b"like" => self.are_like(said),
+            _ => self.has_size(said),
+        }
+    }
+
+    // Whether the last answer is as such a part says; what it says is said then.
+    fn says(&mut self, kind: &str, said: &str, text: &[u8]) -> bool {
+        match kind.as_bytes() {
+            b"failed" => self.says_failed(said),
+            b"status" => self.says_status(said),
+            b"out" => is_said(&mut self.out, text),
+            b"err" => is_said(&mut self.err, text),
+            b"begins" => self.says_begin(text),
+            b"ends" => self.says_end(said, text),
+            _ => false,
         }
     }
 
