@@ -1,10 +1,10 @@
-//! The code of a small program, against the words of TI's tables.
+//! The code of small programs, against the words of TI's tables.
 
 ghost use Rattle.std.specs.Prelude.{◌≡◌, IfOk};
 ghost use Rattle.codegen.specs.array_versions.View.{program_of};
-ghost use Rattle.compiler_tests.specs.Sample.{sample_steps};
+ghost use Rattle.compiler_tests.specs.Sample.{sample_steps, looping_steps};
 
-use codegen::{WordProgram, emit};
+use codegen::{WordProgram, WordTest, emit};
 use msp_encode::encode;
 use std::alloc::{AllocError, Global};
 
@@ -28,5 +28,49 @@ fn a_small_program_has_its_words(rt: HostRuntime) -> Result<(), AllocError> {
     assert_eq!(rt; encode(&code[0]).as_slice(), [0x1230, 7].as_slice());
     assert_eq!(rt; encode(&code[1]).as_slice(), [0x41b2, 0x4410].as_slice());
     assert_eq!(rt; encode(&code[2]).as_slice(), [0x4030, 0x4400].as_slice());
+    Ok(())
+}
+
+// Where local 8, which is 5, isn't 0, stores the number of each of three turns at 4410, else 9; and leaves for 4400.
+fn looping(alloc: Global) -> Result<WordProgram, AllocError>
+    ensures { IfOk result (λ p. program_of p ≡ looping_steps) }
+{
+    let mut asked = WordProgram::new(alloc);
+    asked.local(8)?;
+    let mut taken = WordProgram::new(alloc);
+    taken.local(0)?;
+    taken.keep(0x4410)?;
+    let mut otherwise = WordProgram::new(alloc);
+    otherwise.number(9)?;
+    otherwise.keep(0x4410)?;
+    let mut turn = WordProgram::new(alloc);
+    turn.choose(WordTest::holds(asked), taken, otherwise)?;
+    let mut program = WordProgram::new(alloc);
+    program.number(5)?;
+    program.set_local(8)?;
+    program.repeat(0, 0, 3, turn)?;
+    program.jump(0x4400)?;
+    Ok(program)
+}
+
+// The words of 5 and its store; of the loop's start; of the test; of what is done where it holds; of what is done where it fails; of
+// the turn's end; and of the jump out.
+const LOOPING: [u16; 25] = [
+    0x1230, 5, 0x41b2, 0x1c30, 0x4038, 0, 0x1212, 0x1c30, 0x4134, 0x9304, 0x2404, 0x1208, 0x41b2,
+    0x4410, 0x3c04, 0x1230, 9, 0x41b2, 0x4410, 0x5318, 0x9038, 3, 0x23ef, 0x4030, 0x4400,
+];
+
+// Local 0 is R8, and local 8 stands at 1C30. The test goes over 4 words, what is taken over 4 more, and the loop back over the 16
+// words of a turn.
+#[test]
+fn a_loop_and_a_choice_have_their_words(rt: HostRuntime) -> Result<(), AllocError> {
+    let program = looping(rt.alloc())?;
+    let mut code = Vec::new(rt.alloc());
+    emit(rt.alloc(), &program, &mut code)?;
+    let mut words = Vec::new(rt.alloc());
+    for instruction in &code {
+        words.extend_from_slice(encode(instruction).as_slice())?;
+    }
+    assert_eq!(rt; words.as_slice(), LOOPING.as_slice());
     Ok(())
 }
