@@ -113,7 +113,7 @@ each_short from (t ∷ ts) [] end o l f = All-nil IsShort
 each_short from (t ∷ ts) (p ∷ ps) end o l f =
     let high = in_order_end (end_of t.code) (map (λ t. t.code) ts) end o.1 in
     let w = f.0 in
-    All-cons IsShort p ps (omega (arith, high, w)) (each_short (end_of t.code) ts ps end o.1 l f.1)
+    All-cons IsShort p ps (omega (arith, high, w, l)) (each_short (end_of t.code) ts ps end o.1 l f.1)
 
 -- ---- the whole code
 
