@@ -5,7 +5,9 @@ ghost use Rattle.array_versions.specs.Program.{nothing, behind};
 ghost use Rattle.array_versions.specs.Program as value;
 ghost use Rattle.array_versions.specs.View.{program_of, step_of, test_of};
 
-use crate::operations::{BinaryOperation, Comparison, PlainOperation, ShiftOperation, UnaryOperation};
+use crate::operations::{
+    BinaryOperation, Comparison, PlainOperation, ShiftOperation, UnaryOperation,
+};
 use std::alloc::{AllocError, Global};
 
 /// The places of a versioned array: the addresses of its elements, of their copies and of their version words, and its length
