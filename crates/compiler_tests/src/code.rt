@@ -4,7 +4,7 @@ ghost use Rattle.std.specs.Prelude.{◌≡◌, IfOk};
 ghost use Rattle.codegen.specs.array_versions.View.{program_of};
 ghost use Rattle.compiler_tests.specs.Sample.{sample_steps, looping_steps};
 
-use codegen::{WordProgram, WordTest, emit};
+use codegen::{WordProgram, emit};
 use msp_encode::encode;
 use std::alloc::{AllocError, Global};
 
@@ -44,7 +44,7 @@ fn looping(alloc: Global) -> Result<WordProgram, AllocError>
     otherwise.number(9)?;
     otherwise.keep(0x4410)?;
     let mut turn = WordProgram::new(alloc);
-    turn.choose(WordTest::holds(asked), taken, otherwise)?;
+    turn.choose(codegen::WordTest::holds(asked), taken, otherwise)?;
     let mut program = WordProgram::new(alloc);
     program.number(5)?;
     program.set_local(8)?;
