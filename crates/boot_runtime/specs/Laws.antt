@@ -38,13 +38,13 @@ pub record IsBoot (code : Code) (m : MemoryMap) (commit : ℕ) (tasks : List Tas
 -- from the boot's address on, whatever the registers: with GATE 1 it comes to the commit, and does nothing else
 abbrev pub PendingCommitIsFound : Type 0
 PendingCommitIsFound = (code : Code) (m : MemoryMap) (commit : ℕ) (tasks : List TaskEntry) (at : ℕ) (u : Core) → IsBoot code m commit tasks at
-    → u.pc ≡ at → u.fram (word_place m Gate) ≡ 1 → Comes code [] 4 11 u (Enters commit stack_top u.fram u.readings_left)
+    → u.pc ≡ at → u.fram (word_place m Gate) ≡ 1 → Comes code [] 3 9 u (IsAt commit u.fram u.readings_left)
 
 -- else to the attempt's start
 abbrev pub AttemptIsFound : Type 0
 AttemptIsFound = (code : Code) (m : MemoryMap) (commit : ℕ) (tasks : List TaskEntry) (at : ℕ) (u : Core) → IsBoot code m commit tasks at
     → u.pc ≡ at → u.fram (word_place m Gate) < 0x10000 → u.fram (word_place m Gate) ≢ 1
-    → Comes code [] 3 8 u (Enters (start_address at) stack_top u.fram u.readings_left)
+    → Comes code [] 2 6 u (IsAt (start_address at) u.fram u.readings_left)
 
 -- from the attempt's start on, whatever the registers: where CUR names a task it makes exactly the start, and comes to the task's
 -- code with nothing on the stack, in a number of steps and of cycles that depends on its private scalars alone, and on the version
@@ -58,18 +58,18 @@ StartIsMade = (code : Code) (m : MemoryMap) (commit : ℕ) (tasks : List TaskEnt
     Comes code es (start_steps clears m.versions.words (length t.privates)) (start_cycles clears m.versions.words (length t.privates)) u
     (Enters t.code stack_top (fram_after es u.fram) u.readings_left)
 
--- from the boot's address on, whatever the registers: where GATE isn't 1 and VER isn't at its end, the sixth instruction raises VER, and
+-- from the boot's address on, whatever the registers: where GATE isn't 1 and VER isn't at its end, the fifth instruction raises VER, and
 -- is the first that stores
 abbrev pub VersionIsRaised : Type 0
 VersionIsRaised = (code : Code) (m : MemoryMap) (commit : ℕ) (tasks : List TaskEntry) (at : ℕ) (u : Core) → IsBoot code m commit tasks at
     → u.pc ≡ at → u.fram (word_place m Gate) < 0x10000 → u.fram (word_place m Gate) ≢ 1 → u.fram (word_place m Version) < 0xFFFF
     → let raised = u.fram (word_place m Version) + 1 in
-    Comes code (Store (word_place m Version) raised ∷ []) 6 18 u
+    Comes code (Store (word_place m Version) raised ∷ []) 5 16 u
     (IsAt (start_address at + 36) (put u.fram (word_place m Version) raised) u.readings_left)
 
--- a start without clearing takes 40 cycles at most, and 6 for each private scalar, whatever the arrays
+-- a start without clearing takes 33 cycles at most, and 6 for each private scalar, whatever the arrays
 abbrev pub StartsAreShort : Type 0
-StartsAreShort = (versions privates : ℕ) → start_cycles false versions privates ≤ 40 + 6 * privates
+StartsAreShort = (versions privates : ℕ) → start_cycles false versions privates ≤ 33 + 6 * privates
 
 -- and never more than one with it
 abbrev pub ClearingIsDearest : Type 0

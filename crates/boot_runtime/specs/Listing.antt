@@ -1,15 +1,15 @@
 -- The boot's code: its listing.
 use Rattle.std.specs.Prelude.{ℕ, ◌+◌, ◌-◌, ◌*◌, Bool, if◌then◌else◌, List, [], ◌∷◌, ◌++◌, length, get_or}
-use Rattle.msp_isa.specs.declared.instructions.TwoOp.TheVariants.{Add, Sub}
+use Rattle.msp_isa.specs.declared.instructions.TwoOp.TheVariants.{Add}
 use Rattle.msp_isa.specs.declared.instructions.Condition.TheVariants.{NotEqual}
 use Rattle.msp_isa.specs.declared.operands.Konst.TheVariants.{Zero, One, Two, MinusOne}
-use Rattle.runtime_code.specs.code_forms.Forms.{Form, Move, Calculate, Compare, Update, SetStack, Jump, Branch, BranchRegister, R4, R5}
+use Rattle.runtime_code.specs.code_forms.Forms.{Form, Move, Calculate, Compare, Update, SetStack, Jump, Branch, SkipBy, R4, R5}
 use Rattle.runtime_code.specs.code_forms.Forms.{Register, Number, Constant, Fram, ToRegister, ToFram, ToPointed}
 use Rattle.memory_map.specs.declared.words.RuntimeWord.TheVariants.{CurrentTask, Gate, ListLength, EmitCount, Version}
 use Rattle.memory_map.specs.MemoryMap.{MemoryMap, word_place}
 use Rattle.runtime_code.specs.runtime_effects.Places.{CopyPair}
 use Rattle.memory_map.specs.address_space.Limits.{stack_top}
-use Rattle.runtime_code.specs.Counted.{counted}
+use Rattle.runtime_code.specs.Counted.{counted, if_any}
 
 -- a task as the boot comes to it: its private scalars, and where its code stands
 pub record TaskEntry : Type 0 where
@@ -24,25 +24,25 @@ entry_at tasks k = get_or tasks k (record { privates = []; code = 0 })
 abbrev pub privates_in : List TaskEntry → ℕ → List CopyPair
 privates_in tasks k = (entry_at tasks k).privates
 
--- SP := its top; where GATE is 1 a branch to the commit
+-- where GATE is 1 a branch to the commit
 abbrev pub head : MemoryMap → ℕ → List Form
-head m commit = SetStack stack_top ∷ Compare (Constant One) (word_place m Gate) ∷ Jump NotEqual 2 ∷ Branch commit ∷ []
+head m commit = Compare (Constant One) (word_place m Gate) ∷ Jump NotEqual 2 ∷ Branch commit ∷ []
 
 -- where VER isn't at its end, over the clearing
 abbrev pub end_tested : MemoryMap → List Form
 end_tested m = Compare (Constant MinusOne) (word_place m Version) ∷ Jump NotEqual 13 ∷ []
 
--- R4 := the number of version words, R5 := their place
+-- R4 := the number of version words
 abbrev pub clearing_begins : MemoryMap → List Form
-clearing_begins m = Move (Number m.versions.words) (ToRegister R4) ∷ Move (Number m.versions.address) (ToRegister R5) ∷ []
+clearing_begins m = Move (Number m.versions.words) (ToRegister R4) ∷ []
 
 -- a version word becomes 0
 abbrev pub clear_turn : List Form
-clear_turn = Move (Constant Zero) (ToPointed R5) ∷ Calculate Add (Constant Two) R5 ∷ Calculate Sub (Constant One) R4 ∷ []
+clear_turn = Move (Constant Zero) (ToPointed R5) ∷ Calculate Add (Constant Two) R5 ∷ []
 
 -- for each of them
-abbrev pub clear_loop : List Form
-clear_loop = counted clear_turn 5 (0x400 - 7)
+abbrev pub clear_loop : MemoryMap → List Form
+clear_loop m = counted m.versions.address clear_turn 7 (0x400 - 5)
 
 -- VER := 0
 abbrev pub version_cleared : MemoryMap → List Form
@@ -50,7 +50,7 @@ version_cleared m = Move (Constant Zero) (ToFram (word_place m Version)) ∷ []
 
 -- the clearing: each version word becomes 0, and then VER
 abbrev pub clearing : MemoryMap → List Form
-clearing m = clearing_begins m ++ (clear_loop ++ version_cleared m)
+clearing m = clearing_begins m ++ (clear_loop m ++ version_cleared m)
 
 -- VER := VER + 1, CLN := 0, EN := 0
 abbrev pub counts_set : MemoryMap → List Form
@@ -62,33 +62,42 @@ counts_set m =
 abbrev pub opening : MemoryMap → List Form
 opening m = end_tested m ++ (clearing m ++ counts_set m)
 
--- SP := its top, R4 := the place in a ladder of four bytes a task
-abbrev pub task_found : MemoryMap → ℕ → List Form
-task_found m ladder =
-    SetStack stack_top ∷ Move (Fram (word_place m CurrentTask)) (ToRegister R4) ∷ Calculate Add (Register R4) R4 ∷ Calculate Add (Register R4) R4
-    ∷ Calculate Add (Number ladder) R4 ∷ []
+-- SP := its top, R4 := how far the task that CUR names is from the beginning of a ladder of four bytes a task
+abbrev pub task_found : MemoryMap → List Form
+task_found m =
+    SetStack stack_top ∷ Move (Fram (word_place m CurrentTask)) (ToRegister R4) ∷ Calculate Add (Register R4) R4 ∷ Calculate Add (Register R4) R4 ∷ []
 
--- to the stub of the task that CUR names
-abbrev pub dispatch : MemoryMap → ℕ → List Form
-dispatch m ladder = task_found m ladder ++ (BranchRegister R4 ∷ [])
+-- to its rung of the ladder, which stands right behind
+abbrev pub dispatch : MemoryMap → List Form
+dispatch m = task_found m ++ (SkipBy R4 ∷ [])
 
 -- the private scalars are copied
 abbrev pub copies_in : List CopyPair → List Form
 copies_in [] = []
 copies_in (x ∷ xs) = Move (Fram x.home) (ToFram x.copy) ∷ copies_in xs
 
--- a task's stub: its private scalars are copied, then a branch to its code
+-- private scalars are copied, then a branch to a task's code; where there is none, nothing
+abbrev pub stub_to : ℕ → List CopyPair → List Form
+stub_to code [] = []
+stub_to code (x ∷ xs) = copies_in (x ∷ xs) ++ (Branch code ∷ [])
+
+-- a task's stub
 abbrev pub stub : TaskEntry → List Form
-stub t = copies_in t.privates ++ (Branch t.code ∷ [])
+stub t = stub_to t.code t.privates
 
 -- the length of a stub in bytes
 abbrev pub stub_bytes : TaskEntry → ℕ
-stub_bytes t = 6 * length t.privates + 4
+stub_bytes t = 6 * length t.privates + if_any (length t.privates) 4
 
--- a branch to each stub, which stand one behind another from an address on
+-- where a task's rung leads: to its stub, at an address, or right to its code where it has none
+abbrev pub rung_to : ℕ → ℕ → List CopyPair → ℕ
+rung_to stub code [] = code
+rung_to stub code (x ∷ xs) = stub
+
+-- the ladder: a branch for each task, whose stubs stand one behind another from an address on
 abbrev pub ladder_to : ℕ → List TaskEntry → List Form
 ladder_to p [] = []
-ladder_to p (t ∷ ts) = Branch p ∷ ladder_to (p + stub_bytes t) ts
+ladder_to p (t ∷ ts) = Branch (rung_to p t.code t.privates) ∷ ladder_to (p + stub_bytes t) ts
 
 -- the stubs
 abbrev pub stubs : List TaskEntry → List Form
@@ -97,7 +106,7 @@ stubs (t ∷ ts) = stub t ++ stubs ts
 
 -- the bytes before the ladder
 abbrev pub ladder_offset : ℕ
-ladder_offset = 76
+ladder_offset = 68
 
 -- the ladder's place, by the place of the boot
 abbrev pub ladder_address : ℕ → ℕ
@@ -108,26 +117,26 @@ abbrev pub stubs_address : List TaskEntry → ℕ → ℕ
 stubs_address tasks at = ladder_address at + 4 * length tasks
 
 -- what stands before the ladder: the look at GATE, an attempt's opening, and the way to the ladder
-abbrev pub fixed_forms : MemoryMap → ℕ → ℕ → List Form
-fixed_forms m commit ladder = head m commit ++ (opening m ++ dispatch m ladder)
+abbrev pub fixed_forms : MemoryMap → ℕ → List Form
+fixed_forms m commit = head m commit ++ (opening m ++ dispatch m)
 
 -- boot, attempt start, ladder and stubs, to stand at an address
 abbrev pub boot_forms : MemoryMap → ℕ → List TaskEntry → ℕ → List Form
-boot_forms m commit tasks at = fixed_forms m commit (ladder_address at) ++ (ladder_to (stubs_address tasks at) tasks ++ stubs tasks)
+boot_forms m commit tasks at = fixed_forms m commit ++ (ladder_to (stubs_address tasks at) tasks ++ stubs tasks)
 
 -- the length of stubs in bytes
 abbrev pub stubs_bytes : List TaskEntry → ℕ
 stubs_bytes [] = 0
 stubs_bytes (t ∷ ts) = stub_bytes t + stubs_bytes ts
 
--- the length of it all: 38 words, and for each task 4 and 3 for each private scalar
+-- the length of it all: 34 words, and for each task 2, and where it has private scalars 2 more and 3 for each
 abbrev pub boot_bytes : List TaskEntry → ℕ
 boot_bytes tasks = ladder_offset + 4 * length tasks + stubs_bytes tasks
 
 -- the steps of an attempt's start, by whether the clearing comes first, by the version words and by the private scalars
 abbrev pub start_steps : Bool → ℕ → ℕ → ℕ
-start_steps clears versions privates = 13 + (if clears then 5 + 6 * versions else 0) + privates
+start_steps clears versions privates = 11 + (if clears then 4 + (if_any versions 1 + 4 * versions) else 0) + (if_any privates 1 + privates)
 
--- its cycles: the version words cost an attempt nothing but once in 65535
+-- its cycles: the version words cost an attempt nothing but once in 65535, and a task without private scalars has no stub
 abbrev pub start_cycles : Bool → ℕ → ℕ → ℕ
-start_cycles clears versions privates = 35 + (if clears then 11 + 11 * versions else 0) + 6 * privates
+start_cycles clears versions privates = 30 + (if clears then 9 + (if_any versions 2 + 8 * versions) else 0) + (if_any privates 3 + 6 * privates)

@@ -17,14 +17,14 @@ pub fn start_is_made()
     ensures { StartIsMade }
 {}
 
-/// In a charge that begins with GATE not 1 and VER not 65535 the sixth instruction raises VER, and is the first that stores: however soon
+/// In a charge that begins with GATE not 1 and VER not 65535 the fifth instruction raises VER, and is the first that stores: however soon
 /// the next cut comes behind it, the next attempt has another number.
 #[tactic(auto, using(crate::proofs::Boot::version_is_raised))]
 pub fn version_is_raised()
     ensures { VersionIsRaised }
 {}
 
-/// The start of an attempt takes 40 cycles at most and 6 for each private scalar, whatever the arrays; but for the clearing, which comes
+/// The start of an attempt takes 33 cycles at most and 6 for each private scalar, whatever the arrays; but for the clearing, which comes
 /// once in 65535 attempts.
 #[tactic(auto, using(crate::proofs::Words::starts_are_short, crate::proofs::Words::clearing_is_dearest))]
 pub fn starts_are_short()
@@ -32,8 +32,8 @@ pub fn starts_are_short()
     ensures dearest { ClearingIsDearest }
 {}
 
-/// The code is 38 words long, and for each task 4 and 3 for each of its private scalars, which is within the allowance; each of its
-/// instructions has its words.
+/// The code is 34 words long, and for each task 2, and where it has private scalars 2 more and 3 for each, which is within the allowance;
+/// each of its instructions has its words.
 pub fn boot_is_short()
     ensures short { BootIsShort }
     ensures code { BootIsCode }

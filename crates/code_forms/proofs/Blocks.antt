@@ -10,7 +10,7 @@ use Rattle.machine_effects.specs.Machine.{MachineStretch, Code, step_with, exec}
 use Rattle.machine_effects.proofs.Interface.{stay, one_step, join, join_stall, stall, after_after, after_nothing}
 use Rattle.code_forms.specs.Forms.{WorkRegister, Core, CoreOutcome, CoreStretch, board_of, outcome_of_core, source_read, Target, ToRegister, ToFram, ToRam}
 use Rattle.code_forms.specs.Forms.{ToIndexed, ToPointed, ToOutnum, ToOutdata, target_written, Form, Move, Calculate, Compare, Update, Push, Modify, SetStack}
-use Rattle.code_forms.specs.Forms.{Sense, Jump, Skip, Branch, BranchIndexed, BranchRegister, instruction_of, form_bytes, sensed, form_step, FormNeeds}
+use Rattle.code_forms.specs.Forms.{Sense, Jump, Skip, Branch, BranchIndexed, SkipBy, instruction_of, form_bytes, sensed, form_step, FormNeeds}
 use Rattle.code_forms.specs.Code.{Stands, forms_bytes, IsStraight, AreStraight, forms_run, OfNext, FormsNeed, IsTidy, Runs, Starves}
 use Rattle.code_forms.specs.Laws.{StraightCodeLeads}
 use Rattle.code_forms.proofs.Forms.{form_does}
@@ -85,7 +85,7 @@ goes_to (Jump c o) u h = elim h [ ]
 goes_to (Skip n) u h = elim h [ ]
 goes_to (Branch a) u h = elim h [ ]
 goes_to (BranchIndexed b x) u h = elim h [ ]
-goes_to (BranchRegister b) u h = elim h [ ]
+goes_to (SkipBy b) u h = elim h [ ]
 
 -- goes on from where a stretch ends
 abbrev pub on_status : Status Core Stop → List Effect → ℕ → (Core → MachineStretch) → MachineStretch

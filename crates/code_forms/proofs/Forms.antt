@@ -37,7 +37,7 @@ use Rattle.code_forms.specs.Forms.{WorkRegister, work_number, index_of, Core, re
 use Rattle.code_forms.specs.Forms.{Fram, Ram, Pointed, PointedNext, Indexed, Popped, source_operand, source_bytes, source_value, source_read, SourceNeeds}
 use Rattle.code_forms.specs.Forms.{Target, ToRegister, ToFram, ToRam, ToIndexed, ToPointed, ToOutnum, ToOutdata, target_operand, target_bytes, target_written}
 use Rattle.code_forms.specs.Forms.{TargetNeeds, Move, Calculate, Compare, Update, Push, Modify, SetStack, Sense, Jump, Skip, Branch, BranchIndexed}
-use Rattle.code_forms.specs.Forms.{BranchRegister, instruction_of, flags_after, calculated, sensed, form_step, FormNeeds, IsNotMov, HasPushRoom, IsCodeAddress}
+use Rattle.code_forms.specs.Forms.{SkipBy, instruction_of, flags_after, calculated, sensed, form_step, FormNeeds, IsNotMov, HasPushRoom, IsCodeAddress}
 use Rattle.code_forms.specs.Laws.{FormsDoAsInstructions}
 use Rattle.code_forms.proofs.Registers.{set_pc, set_sp, set_work, get_work, high, number, set_flags, flags_back, is_on, no_port}
 
@@ -432,13 +432,14 @@ branches_indexed b x u c h =
     on_two Mov (Indexed b x) (dst.Reg reg.Pc) u c h.0
     ∙ rw (set_pc (u.pc + 4) u.sp a a u.flags u.work e) refl
 
-branches_register : (b : WorkRegister) (u : Core) → IsCodeAddress u.pc → u.work (work_number b) % 2 ≡ 0
-    → step_with (Some (instruction_of (BranchRegister b))) (board_of u) ≡ outcome_of_core (form_step (BranchRegister b) u)
-branches_register b u c h =
-    let a = u.work (work_number b) in
-    let e : a / 2 * 2 ≡ a = omega arith in
-    on_two Mov (Register b) (dst.Reg reg.Pc) u c tt
-    ∙ rw (set_pc (u.pc + 2) u.sp a a u.flags u.work e) refl
+skips_by : (b : WorkRegister) (u : Core) → IsCodeAddress u.pc → u.work (work_number b) % 2 ≡ 0
+    → step_with (Some (instruction_of (SkipBy b))) (board_of u) ≡ outcome_of_core (form_step (SkipBy b) u)
+skips_by b u c h =
+    let even = c.even in
+    let sum = sum_of Word (u.pc + 2) (u.work (work_number b)) false in
+    let e : sum.0 / 2 * 2 ≡ sum.0 = omega arith in
+    on_two Add (Register b) (dst.Reg reg.Pc) u c tt
+    ∙ rw (set_flags (u.pc + 2) u.sp u.flags sum.1 u.work, set_pc (u.pc + 2) u.sp sum.0 sum.0 sum.1 u.work e) refl
 
 -- an operation on one register
 modified_half : (f : Width → ℕ → Flags → Operated) (b : WorkRegister) (u : Core) → IsCodeAddress u.pc
@@ -502,4 +503,4 @@ form_does (Jump k o) u c h = jumps k o u c
 form_does (Skip n) u c h = skips n u c h
 form_does (Branch a) u c h = branches a u c h
 form_does (BranchIndexed b x) u c h = branches_indexed b x u c h
-form_does (BranchRegister b) u c h = branches_register b u c h
+form_does (SkipBy b) u c h = skips_by b u c h

@@ -19,7 +19,7 @@ use Rattle.machine_effects.specs.Machine.{IsMachineStep, NoInstruction, Executes
 use Rattle.machine_effects.specs.Laws.{ChangesByEffects}
 use Rattle.machine_effects.proofs.Interface.{each_store-front, each_store-back, step_changes}
 use Rattle.code_forms.specs.Forms.{Form, Move, Calculate, Compare, Update, Push, Modify, SetStack, Sense, Jump, Skip, Branch, BranchIndexed}
-use Rattle.code_forms.specs.Forms.{BranchRegister, source_operand, Target, ToRegister, target_operand, target_bytes, instruction_of, form_bytes}
+use Rattle.code_forms.specs.Forms.{SkipBy, source_operand, Target, ToRegister, target_operand, target_bytes, instruction_of, form_bytes}
 use Rattle.code_forms.specs.Forms.{Core}
 use Rattle.code_forms.specs.Code.{Stands, forms_bytes}
 use Rattle.code_forms.specs.Placed.{placed, words_of, instructions, Holds, AreInstructions, IsOutside, LeavesCode}
@@ -44,7 +44,7 @@ bytes_are (Jump c o) = refl
 bytes_are (Skip n) = refl
 bytes_are (Branch a) = refl
 bytes_are (BranchIndexed b x) = refl
-bytes_are (BranchRegister b) = refl
+bytes_are (SkipBy b) = refl
 
 to_small : (y : Target) → target_bytes y ≤ 2
 to_small (ToRegister b) = omega arith
@@ -64,7 +64,7 @@ form_small (Jump c o) = omega arith
 form_small (Skip n) = omega arith
 form_small (Branch a) = omega arith
 form_small (BranchIndexed b x) = omega arith
-form_small (BranchRegister b) = omega arith
+form_small (SkipBy b) = omega arith
 
 encoding_some : (i : Instr) → 0 < length (encoding i)
 encoding_some i = grind arith

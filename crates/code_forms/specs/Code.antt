@@ -6,7 +6,7 @@ use Rattle.machine_effects.specs.fram_board.Effects.{Effect}
 use Rattle.machine_effects.specs.Going.{Goes, Stops, At, stretch, continued, Leads, Stalls}
 use Rattle.machine_effects.specs.Machine.{Code, exec}
 use Rattle.code_forms.specs.Forms.{Core, CoreOutcome, CoreStretch, board_of, Form, Move, Calculate, Compare, Update, Push, Modify, SetStack, Sense, Jump, Skip}
-use Rattle.code_forms.specs.Forms.{Branch, BranchIndexed, BranchRegister, instruction_of, form_bytes, form_step, FormNeeds, IsCodeAddress}
+use Rattle.code_forms.specs.Forms.{Branch, BranchIndexed, SkipBy, instruction_of, form_bytes, form_step, FormNeeds, IsCodeAddress}
 
 -- the forms stand in the code from this address on
 abbrev pub Stands : Code → ℕ → List Form → Type 0
@@ -24,7 +24,7 @@ IsStraight (Jump c offset) = ⊥
 IsStraight (Skip n) = ⊥
 IsStraight (Branch a) = ⊥
 IsStraight (BranchIndexed b x) = ⊥
-IsStraight (BranchRegister b) = ⊥
+IsStraight (SkipBy b) = ⊥
 IsStraight (Move x y) = Unit {0}
 IsStraight (Calculate op x b) = Unit {0}
 IsStraight (Compare x a) = Unit {0}

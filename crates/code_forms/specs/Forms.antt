@@ -269,7 +269,7 @@ pub data Form : Type 0 where
   Skip : (n : ℕ) → Form  -- n is added to PC, which stands behind the instruction here
   Branch : (a : ℕ) → Form  -- PC becomes a
   BranchIndexed : (b : WorkRegister) → (x : ℕ) → Form  -- PC becomes the word of FRAM at the register's address plus x
-  BranchRegister : (b : WorkRegister) → Form  -- PC becomes the register's word
+  SkipBy : (b : WorkRegister) → Form  -- the register's word is added to PC, which stands behind the instruction here
 
 -- a form as an instruction
 abbrev pub instruction_of : Form → Instr
@@ -285,7 +285,7 @@ instruction_of (Jump c offset) = instr.Jump c offset
 instruction_of (Skip n) = instr.Two Add Word (src.Immediate n) (dst.Reg reg.Pc)
 instruction_of (Branch a) = instr.Two Mov Word (src.Immediate a) (dst.Reg reg.Pc)
 instruction_of (BranchIndexed b x) = instr.Two Mov Word (src.Operand (mode.Indexed (index_of b) x)) (dst.Reg reg.Pc)
-instruction_of (BranchRegister b) = instr.Two Mov Word (src.Operand (mode.Reg (source_register.Index (index_of b)))) (dst.Reg reg.Pc)
+instruction_of (SkipBy b) = instr.Two Add Word (src.Operand (mode.Reg (source_register.Index (index_of b)))) (dst.Reg reg.Pc)
 
 -- its length in bytes
 abbrev pub form_bytes : Form → ℕ
@@ -301,7 +301,7 @@ form_bytes (Jump c offset) = 2
 form_bytes (Skip n) = 4
 form_bytes (Branch a) = 4
 form_bytes (BranchIndexed b x) = 4
-form_bytes (BranchRegister b) = 2
+form_bytes (SkipBy b) = 2
 
 -- flags after an operation, which may leave them
 abbrev pub flags_after : Option Flags → Flags → Flags
@@ -349,7 +349,9 @@ form_step (Skip n) u =
     Goes [] 3 (record u { pc = o.value; flags = flags_after o.flags u.flags })
 form_step (Branch a) u = Goes [] 3 (record u { pc = a })
 form_step (BranchIndexed b x) u = Goes [] 3 (record u { pc = u.fram (u.work (work_number b) + x) })
-form_step (BranchRegister b) u = Goes [] 2 (record u { pc = u.work (work_number b) })
+form_step (SkipBy b) u =
+    let o = operated Add Word (u.pc + 2) (u.work (work_number b)) u.flags in
+    Goes [] 2 (record u { pc = o.value; flags = flags_after o.flags u.flags })
 
 -- room in RAM below SP for a word
 pub record HasPushRoom (sp : ℕ) : Type 0 where
@@ -376,7 +378,7 @@ FormNeeds (Jump c offset) u = Unit {0}
 FormNeeds (Skip n) u = n % 2 ≡ 0
 FormNeeds (Branch a) u = a % 2 ≡ 0
 FormNeeds (BranchIndexed b x) u = IsFram (u.work (work_number b) + x) × (u.fram (u.work (work_number b) + x) % 2 ≡ 0)
-FormNeeds (BranchRegister b) u = u.work (work_number b) % 2 ≡ 0
+FormNeeds (SkipBy b) u = u.work (work_number b) % 2 ≡ 0
 
 -- an even address with room behind it for an instruction of three words
 pub record IsCodeAddress (pc : ℕ) : Type 0 where

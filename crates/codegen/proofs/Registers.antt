@@ -9,7 +9,7 @@ use Rattle.array_versions.specs.msp_step.Effect.{sum16, distance, is_met}
 use Rattle.array_versions.specs.machine_effects.World.{put}
 use Rattle.array_versions.specs.machine_effects.Going.{At, stretch}
 use Rattle.code_forms.specs.Forms.{WorkRegister, R4, R5, work_number, Core, Register, Form, Push, Jump, Skip, Branch, Move, Calculate, Compare, Update}
-use Rattle.code_forms.specs.Forms.{Modify, SetStack, BranchIndexed, BranchRegister, Source, PointedNext, Number, Constant, Fram, Ram, Pointed, Indexed}
+use Rattle.code_forms.specs.Forms.{Modify, SetStack, BranchIndexed, SkipBy, Source, PointedNext, Number, Constant, Fram, Ram, Pointed, Indexed}
 use Rattle.code_forms.specs.Forms.{Popped, Target, instruction_of, form_bytes}
 use Rattle.code_forms.specs.Forms as forms
 use Rattle.code_forms.specs.Code.{Stands, forms_bytes, AreStraight, forms_run, FormsNeed, Runs}
@@ -53,7 +53,7 @@ form_even (Jump c o) = refl
 form_even (Skip n) = refl
 form_even (Branch a) = refl
 form_even (BranchIndexed b x) = refl
-form_even (BranchRegister b) = refl
+form_even (SkipBy b) = refl
 
 -- forms are of whole words
 pub bytes_even : (ms : List Form) → forms_bytes ms % 2 ≡ 0

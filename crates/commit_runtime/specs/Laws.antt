@@ -5,7 +5,7 @@ use Rattle.runtime_code.specs.machine_effects.Machine.{Code, IsFram}
 use Rattle.runtime_code.specs.code_forms.Forms.{Core}
 use Rattle.runtime_code.specs.code_forms.Code.{Stands, IsTidy}
 use Rattle.runtime_code.specs.code_forms.Placed.{instructions, words_of, AreInstructions}
-use Rattle.memory_map.specs.declared.words.RuntimeWord.TheVariants.{ListLength, EmitCount}
+use Rattle.memory_map.specs.declared.words.RuntimeWord.TheVariants.{ListLength, EmitCount, SentBase}
 use Rattle.memory_map.specs.MemoryMap.{MemoryMap, word_place}
 use Rattle.runtime_code.specs.runtime_effects.Places.{listed}
 use Rattle.runtime_code.specs.runtime_effects.Stages.{commit_effects}
@@ -13,11 +13,11 @@ use Rattle.runtime_code.specs.runtime_effects.Needs.{AreInFram, CanCommit}
 use Rattle.runtime_code.specs.Comes.{Comes, IsAt}
 use Rattle.commit_runtime.specs.Listing.{commit_forms, commit_bytes, commit_steps, commit_cycles}
 
--- from where the listing stands, on FRAM on which a commit can be made, the code makes exactly the commit, whatever the registers,
+-- from where the listing stands, on FRAM on which a commit can be made and SB is a word, the code makes exactly the commit, whatever the registers,
 -- and comes to the attempt's start, in a number of steps and of cycles that depends on CLN, the listed words and EN alone
 abbrev pub CommitIsMade : Type 0
 CommitIsMade = (code : Code) (m : MemoryMap) (at start : ℕ) (u : Core) → IsTidy code → AreInFram m → at + commit_bytes < 0x10000 → start % 2 ≡ 0
-    → Stands code at (commit_forms m start) → u.pc ≡ at → CanCommit m u.fram
+    → Stands code at (commit_forms m start) → u.pc ≡ at → CanCommit m u.fram → u.fram (word_place m SentBase) < 0x10000
     → let entries = u.fram (word_place m ListLength) in
     let words = length (listed m u.fram) in
     let emits = u.fram (word_place m EmitCount) in

@@ -7,13 +7,13 @@ mod laws;
 ghost use Rattle.std.specs.Prelude.{◌≡◌, ◌+◌, ◌<◌, ◌++◌, ℕ, IfOk, OnOk};
 ghost use Rattle.runtime_code.specs.code_forms.Placed.{instructions};
 ghost use Rattle.runtime_code.specs.Addresses.{start_address};
-ghost use Rattle.commit_runtime.specs.Listing.{copies_begin, entry_test, entry_begin, word_loop, entry_end, copy_loop, sends_begin, send_loop, closing};
+ghost use Rattle.commit_runtime.specs.Listing.{copies_begin, entry_begin, word_loop, copy_loop, sends_begin, send_turn, send_loop, closing};
 ghost use Rattle.commit_runtime.specs.Listing.{commit_forms};
 
 pub use laws::{commit_is_made, commit_is_short, commit_stores_in_fram};
 use memory_map::{Layout, RuntimeWord};
 use msp_isa::{Condition, Dst, IndexRegister, Instr, Konst, Operand, Src};
-use runtime_code::{add, branch, cmp, jump, load, mov, read, set, start_address, sub};
+use runtime_code::{add, branch, jump, load, loop_begin, loop_end, mov, read, set, start_address, sub};
 use std::alloc::{AllocError, Global};
 
 /// The port that takes the number of the next word for the receiver.
@@ -22,18 +22,12 @@ const OUTNUM: u16 = 0x0202;
 /// The port that offers a word to the receiver.
 const OUTDATA: u16 = 0x0204;
 
-// R4 := CLN, R5 := the commit list.
-fn copies_begin(layout: &Layout) -> [Instr; 2]
+// R4 := CLN.
+fn copies_begin(layout: &Layout) -> [Instr; 1]
     ensures { result ≡ instructions (copies_begin layout.now) }
 {
     let list_length = load(layout.word_place(RuntimeWord::ListLength));
-    [
-        mov(list_length, set(IndexRegister::R4)),
-        mov(
-            Src::Immediate(layout.list().address),
-            set(IndexRegister::R5),
-        ),
-    ]
+    [mov(list_length, set(IndexRegister::R4))]
 }
 
 // An entry is read: its home to R6, its copy's address to R7, its words to R8.
@@ -62,40 +56,18 @@ fn word_loop() -> [Instr; 5]
     ]
 }
 
-// The test of the loop over the entries.
-fn entry_test() -> [Instr; 2]
-    ensures { result ≡ instructions entry_test }
-{
-    let entries = set(IndexRegister::R4);
-    [
-        cmp(Src::Constant(Konst::Zero), entries),
-        jump(Condition::Equal, 11),
-    ]
-}
-
-// The end of its turn.
-fn entry_end() -> [Instr; 2]
-    ensures { result ≡ instructions entry_end }
-{
-    let entries = set(IndexRegister::R4);
-    [
-        sub(Src::Constant(Konst::One), entries),
-        jump(Condition::Always, 0x400 - 13),
-    ]
-}
-
 // For each entry its words go home.
-fn push_copies(code: &mut Vec<Instr>) -> Result<(), AllocError>
-    ensures { OnOk result (code.new.items ≡ code.old.items ++ instructions copy_loop) }
+fn push_copies(code: &mut Vec<Instr>, layout: &Layout) -> Result<(), AllocError>
+    ensures { OnOk result (code.new.items ≡ code.old.items ++ instructions (copy_loop layout.now)) }
 {
-    code.extend_from_slice(&entry_test())?;
+    code.extend_from_slice(&loop_begin(layout.list().address, 13))?;
     code.extend_from_slice(&entry_begin())?;
     code.extend_from_slice(&word_loop())?;
-    code.extend_from_slice(&entry_end())
+    code.extend_from_slice(&loop_end(0x400 - 11))
 }
 
-// R7 := SB, R4 := EN, R5 := the emitted words.
-fn sends_begin(layout: &Layout) -> [Instr; 3]
+// R7 := SB, R4 := EN.
+fn sends_begin(layout: &Layout) -> [Instr; 2]
     ensures { result ≡ instructions (sends_begin layout.now) }
 {
     let sent_base = load(layout.word_place(RuntimeWord::SentBase));
@@ -103,45 +75,41 @@ fn sends_begin(layout: &Layout) -> [Instr; 3]
     [
         mov(sent_base, set(IndexRegister::R7)),
         mov(emit_count, set(IndexRegister::R4)),
-        mov(
-            Src::Immediate(layout.emits().address),
-            set(IndexRegister::R5),
-        ),
     ]
 }
 
-// For each emitted word: its number, then the word.
-fn send_loop() -> [Instr; 7]
-    ensures { result ≡ instructions send_loop }
+// A word is sent: its number, then the word; the next number.
+fn send_turn() -> [Instr; 3]
+    ensures { result ≡ instructions send_turn }
 {
-    let emits = set(IndexRegister::R4);
     let next = Src::Operand(Operand::Increment(IndexRegister::R5));
     [
-        cmp(Src::Constant(Konst::Zero), emits),
-        jump(Condition::Equal, 7),
         mov(read(IndexRegister::R7), Dst::Absolute(OUTNUM)),
         mov(next, Dst::Absolute(OUTDATA)),
         add(Src::Constant(Konst::One), set(IndexRegister::R7)),
-        sub(Src::Constant(Konst::One), emits),
-        jump(Condition::Always, 0x400 - 9),
     ]
 }
 
-// CUR := NEXT, BASE := SB + EN, GATE := 0. SB and EN are read before CUR is written.
-fn closing(layout: &Layout) -> [Instr; 5]
+// Each emitted word is sent.
+fn push_sends(code: &mut Vec<Instr>, layout: &Layout) -> Result<(), AllocError>
+    ensures { OnOk result (code.new.items ≡ code.old.items ++ instructions (send_loop layout.now)) }
+{
+    code.extend_from_slice(&loop_begin(layout.emits().address, 9))?;
+    code.extend_from_slice(&send_turn())?;
+    code.extend_from_slice(&loop_end(0x400 - 7))
+}
+
+// CUR := NEXT, BASE := the number behind the last word's, which is SB + EN, GATE := 0.
+fn closing(layout: &Layout) -> [Instr; 3]
     ensures { result ≡ instructions (closing layout.now) }
 {
-    let sent_base = load(layout.word_place(RuntimeWord::SentBase));
-    let emit_count = load(layout.word_place(RuntimeWord::EmitCount));
     let next_task = load(layout.word_place(RuntimeWord::NextTask));
     let current_task = Dst::Absolute(layout.word_place(RuntimeWord::CurrentTask));
     let base = Dst::Absolute(layout.word_place(RuntimeWord::Base));
     let gate = Dst::Absolute(layout.word_place(RuntimeWord::Gate));
     [
-        mov(sent_base, set(IndexRegister::R4)),
-        add(emit_count, set(IndexRegister::R4)),
         mov(next_task, current_task),
-        mov(read(IndexRegister::R4), base),
+        mov(read(IndexRegister::R7), base),
         mov(Src::Constant(Konst::Zero), gate),
     ]
 }
@@ -150,16 +118,16 @@ fn closing(layout: &Layout) -> [Instr; 5]
 ///
 /// They copy the words of the entries of the commit list, from the first on, send the emitted words, numbered from SB on, and store CUR, BASE and
 /// GATE, in this order; the last one is a branch to the start of an attempt. GATE is 1 until all else is done, so that a boot in
-/// between finds it and begins the commit anew. They take 45 words, and may stand anywhere.
+/// between finds it and begins the commit anew. They take 41 words, and may stand anywhere.
 pub fn commit_code(alloc: Global, layout: &Layout) -> Result<Vec<Instr>, AllocError>
-    requires { layout.now.boot.address + 14 < 65536 }
+    requires { layout.now.boot.address + 10 < 65536 }
     ensures { IfOk result (λ code. code.items ≡ instructions (commit_forms layout.now (start_address layout.now.boot.address))) }
 {
     let mut code = Vec::new(alloc);
     code.extend_from_slice(&copies_begin(layout))?;
-    push_copies(&mut code)?;
+    push_copies(&mut code, layout)?;
     code.extend_from_slice(&sends_begin(layout))?;
-    code.extend_from_slice(&send_loop())?;
+    push_sends(&mut code, layout)?;
     code.extend_from_slice(&closing(layout))?;
     code.push(branch(start_address(layout.boot().address)))?;
     Ok(code)

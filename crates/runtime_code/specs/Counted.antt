@@ -1,11 +1,23 @@
 -- Loops that count down.
-use Rattle.std.specs.Prelude.{ℕ, List, [], ◌∷◌, ◌++◌}
-use Rattle.msp_isa.specs.declared.instructions.TwoOp.TheVariants.{Cmp}
-use Rattle.msp_isa.specs.declared.operands.Konst.TheVariants.{Zero}
-use Rattle.msp_isa.specs.declared.instructions.Condition.TheVariants.{Equal, Always}
-use Rattle.code_forms.specs.Forms.{Form, Calculate, Jump, Constant, R4}
+use Rattle.std.specs.Prelude.{ℕ, zero, suc, List, [], ◌∷◌, ◌++◌}
+use Rattle.msp_isa.specs.declared.instructions.TwoOp.TheVariants.{Sub, Cmp}
+use Rattle.msp_isa.specs.declared.operands.Konst.TheVariants.{Zero, One}
+use Rattle.msp_isa.specs.declared.instructions.Condition.TheVariants.{Equal, NotEqual}
+use Rattle.code_forms.specs.Forms.{Form, Move, Calculate, Jump, Constant, Number, ToRegister, R4, R5}
 
--- a loop that leaves where R4 is 0 and else makes a turn, which counts R4 down: the words to jump over at its end, and the ten bits
--- of the jump back
-abbrev pub counted : List Form → ℕ → ℕ → List Form
-counted turn over back = Calculate Cmp (Constant Zero) R4 ∷ Jump Equal over ∷ (turn ++ (Jump Always back ∷ []))
+-- where R4 is 0, over the loop's words; else R5 := the address of what it goes over
+abbrev pub loop_begin : ℕ → ℕ → List Form
+loop_begin address over = Calculate Cmp (Constant Zero) R4 ∷ Jump Equal over ∷ Move (Number address) (ToRegister R5) ∷ []
+
+-- one turn less in R4; where one is left, back to it, by the ten bits of the jump
+abbrev pub loop_end : ℕ → List Form
+loop_end back = Calculate Sub (Constant One) R4 ∷ Jump NotEqual back ∷ []
+
+-- a loop of R4 turns over what stands from an address on
+abbrev pub counted : ℕ → List Form → ℕ → ℕ → List Form
+counted address turn over back = loop_begin address over ++ (turn ++ loop_end back)
+
+-- what is spent once where there is any of so many, and not where there is none
+abbrev pub if_any : ℕ → ℕ → ℕ
+if_any zero once = 0
+if_any (suc n) once = once

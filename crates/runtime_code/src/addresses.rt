@@ -3,10 +3,10 @@
 ghost use Rattle.std.specs.Prelude.{◌≡◌, ◌+◌, ◌<◌, ℕ};
 ghost use Rattle.runtime_code.specs.Addresses.{start_address};
 
-/// Where an attempt starts, by the address of the boot: behind its first 14 bytes, which look at GATE.
+/// Where an attempt starts, by the address of the boot: behind its first 10 bytes, which look at GATE.
 pub fn start_address(boot: u16) -> u16
-    requires { boot + 14 < 65536 }
+    requires { boot + 10 < 65536 }
     ensures { result ≡ start_address boot }
 {
-    boot + 14
+    boot + 10
 }

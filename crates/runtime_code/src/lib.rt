@@ -4,8 +4,10 @@
 
 mod addresses;
 mod laws;
+mod loops;
 mod writing;
 
 pub use addresses::start_address;
 pub use laws::{layout_is_in_fram, layout_keeps_apart};
+pub use loops::{loop_begin, loop_end};
 pub use writing::{add, branch, cmp, jump, load, mov, read, set, sub};
