@@ -1,9 +1,9 @@
 -- An attempt's opening: the clearing where VER is at its end; then VER, CLN and EN.
-use Rattle.std.proofs.Common.{◌≡◌, ◌≢◌, ℕ, zero, suc, ◌+◌, ◌-◌, ◌*◌, ◌%◌, ◌<◌, ◌≤◌, ◌==◌, ◌⊎◌, not, inl, inr, List, [], ◌∷◌, ◌++◌, Some, refl, sym, ap, ◌∙◌}
+use Rattle.std.proofs.Common.{◌≡◌, ◌≢◌, ℕ, zero, suc, ◌+◌, ◌-◌, ◌*◌, ◌%◌, ◌<◌, ◌≤◌, ◌==◌, ◌⊎◌, not, inl, inr, List, [], ◌∷◌, ◌++◌, refl, sym, ap, ◌∙◌}
 use Rattle.std.proofs.Common.{subst, arith}
 use Rattle.std.proofs.Common.{Bool, true, false, if◌then◌else◌}
 use Rattle.std.proofs.lemmas.Bool.Decides.{nat_tests}
-use Rattle.msp_isa.specs.declared.instructions.Condition.TheVariants.{Always, NotEqual}
+use Rattle.msp_isa.specs.declared.instructions.Condition.TheVariants.{NotEqual}
 use Rattle.msp_isa.specs.declared.instructions.TwoOp.TheVariants.{Add}
 use Rattle.msp_isa.specs.declared.operands.Konst.TheVariants.{One, MinusOne}
 use Rattle.runtime_code.specs.msp_step.Effect.{sum16, distance}
@@ -12,13 +12,15 @@ use Rattle.runtime_code.specs.machine_effects.World.{put, fram_after}
 use Rattle.runtime_code.specs.machine_effects.Going.{Goes}
 use Rattle.runtime_code.specs.machine_effects.Machine.{Code, IsFram}
 use Rattle.runtime_code.proofs.machine_effects.Interface.{fram_after-append, put_other}
-use Rattle.runtime_code.specs.code_forms.Forms.{Core, Form, Compare, Update, Jump, Constant, instruction_of}
-use Rattle.runtime_code.specs.code_forms.Code.{Stands, IsTidy, forms_run}
+use Rattle.runtime_code.specs.code_forms.Forms.{Core, Form, Compare, Update, Jump, Constant}
+use Rattle.runtime_code.specs.code_forms.Code.{Stands, IsTidy, forms_run, forms_bytes}
 use Rattle.runtime_code.proofs.code_forms.Interface.{stands_at, stands_front, stands_back, end_of}
 use Rattle.runtime_code.specs.runtime_effects.Stages.{is_at_end, clearing_if, cleared, counting_effects, opening_effects}
 use Rattle.runtime_code.specs.runtime_effects.Needs.{AreInFram, KeepsTask}
 use Rattle.runtime_code.specs.Comes.{Comes, IsAt}
-use Rattle.runtime_code.proofs.Interface.{straight, one_form, recounted, nothing, then_on, moved_to, chain, tested, goes_in, leaves, jumps_back}
+use Rattle.runtime_code.specs.Counted.{if_any}
+use Rattle.runtime_code.proofs.Interface.{straight, one_form, recounted, nothing, then_on, moved_to, chain}
+use Rattle.runtime_code.proofs.Interface.{tested, one_less, begun, turn_stands, passes, begins, goes_back, leaves}
 use Rattle.boot_runtime.specs.Listing.{end_tested, clearing_begins, clear_turn, clear_loop, version_cleared, clearing, counts_set, opening}
 use Rattle.memory_map.specs.declared.words.RuntimeWord.TheVariants.{CurrentTask, ListLength, EmitCount, Version}
 use Rattle.memory_map.specs.MemoryMap.{MemoryMap, word_place}
@@ -87,46 +89,79 @@ module _ (code : Code) (tidy : IsTidy code) (m : MemoryMap) (places : AreInFram 
       let even = i.even in let low = i.low in let high = i.high in let from = places.versions.low in let end = places.versions.high in
       record { even = even; low = omega (arith, from, low); high = omega (arith, high, end) }
 
-  module _ (p : ℕ) (high : p + 22 < 0x10000) (stands : Stands code p clear_loop) where
+  module _ (p : ℕ) (high : p + 22 < 0x10000) (stands : Stands code p (clear_loop m)) where
     abbrev done : ℕ
-    done = p + 2 + 2 + 4 + 2 + 2 + 2
+    done = p + 18
 
-    clear_there : sum16 (p + 2 + 2) (distance 5) ≡ done
+    clear_there : sum16 (p + 2 + 2) (distance 7) ≡ done
     clear_there = omega arith
 
-    clear_back : sum16 (p + 2 + 2 + 4 + 2 + 2 + 2) (distance (0x400 - 7)) ≡ p
+    clears_counted : p + 2 + 2 + 4 + forms_bytes clear_turn ≡ p + 14
+    clears_counted = omega arith
+
+    clear_back : sum16 (p + 14 + 2 + 2) (distance (0x400 - 5)) ≡ p + 2 + 2 + 4
     clear_back = omega arith
 
-    turns : (n : ℕ) (u : Core) → u.pc ≡ p → u.work 4 ≡ n → n < 0x10000 → InVersions (u.work 5) n
-        → let es = cleared n (u.work 5) in Comes code es (2 + n * 6) (3 + n * 11) u (IsAt done (fram_after es u.fram) u.readings_left)
+    behind_clears : p + 14 + 2 + 2 ≡ done
+    behind_clears = omega arith
+
+    -- a version word becomes 0
+    one_cleared : (u : Core) → u.pc ≡ p + 2 + 2 + 4 → IsFram (u.work 5)
+        → Comes code (Store (u.work 5) 0 ∷ []) 2 5 u (λ v. v ≡ end_of u (forms_run clear_turn u).status)
+    one_cleared u e word =
+        let t = end_of u (forms_run clear_turn u).status in
+        straight code tidy clear_turn 2 u t (Store (u.work 5) 0 ∷ []) 5 (λ v. v ≡ t) (tt, (tt, tt))
+        (stands_at code (p + 2 + 2 + 4) clear_turn u
+        (turn_stands code tidy p m.versions.address 7 (0x400 - 5) (p + 14) done clear_turn stands clear_there clears_counted clear_back behind_clears) e)
+        ((tt, word), ((tt, tt), tt)) refl refl refl
+
+    -- from a turn on, the words that are left
+    turns : (n : ℕ) (u : Core) → u.pc ≡ p + 2 + 2 + 4 → u.work 4 ≡ suc n → suc n < 0x10000 → InVersions (u.work 5) (suc n)
+        → let es = cleared (suc n) (u.work 5) in Comes code es (4 + n * 4) (8 + n * 8) u (IsAt done (fram_after es u.fram) u.readings_left)
     turns zero u e c l i =
-        let t : Core = record (tested code tidy p 5 done stands.0 stands.1.0 clear_there u) { pc = done } in
-        then_on code 2 0 3 0 u t _ [] [] (leaves code tidy p 5 done stands.0 stands.1.0 clear_there u e c)
-        (nothing code t _ (record { pc = refl; fram = refl; readings_left = refl }))
+        let u1 = end_of u (forms_run clear_turn u).status in
+        let t : Core = record (one_less u1) { pc = done } in
+        let es : List Effect = Store (u.work 5) 0 ∷ [] in
+        then_on code 2 2 5 3 u u1 _ es [] (one_cleared u e (in_fram (u.work 5) 0 i))
+        (then_on code 2 0 3 0 u1 t _ [] []
+        (leaves code tidy p m.versions.address 7 (0x400 - 5) (p + 14) done clear_turn stands clear_there clears_counted clear_back behind_clears u1
+        (omega (arith, e)) c)
+        (nothing code t _ (record { pc = refl; fram = refl; readings_left = refl })))
     turns (suc n) u e c l i =
         let even = i.even in let low = i.low in let top = i.high in let end = places.versions.high in
         let q = u.work 5 in
-        let u1 : Core = record (tested code tidy p 5 done stands.0 stands.1.0 clear_there u) { pc = p + 2 + 2 } in
-        let u2 = end_of u1 (forms_run clear_turn u1).status in
-        let u3 : Core = record u2 { pc = p } in
+        let u1 = end_of u (forms_run clear_turn u).status in
+        let t : Core = record (one_less u1) { pc = p + 2 + 2 + 4 } in
         let es : List Effect = Store q 0 ∷ [] in
-        let a = goes_in code tidy p 5 done stands.0 stands.1.0 clear_there u e (omega (arith, c, l)) (omega (arith, c)) in
-        let b : Comes code es 3 6 u1 (λ v. v ≡ u2) =
-        straight code tidy clear_turn 3 u1 u2 es 6 (λ v. v ≡ u2) (tt, (tt, (tt, tt)))
-        (stands_front code (p + 2 + 2) clear_turn (Jump Always (0x400 - 7) ∷ []) stands.1.1)
-        ((tt, in_fram q n i), ((tt, tt), ((tt, tt), tt))) refl refl refl in
-        let at : code (p + 2 + 2 + 4 + 2 + 2) ≡ Some (instruction_of (Jump Always (0x400 - 7))) =
-        subst (λ y. code y ≡ Some (instruction_of (Jump Always (0x400 - 7)))) (omega arith)
-        (stands_back code (p + 2 + 2) clear_turn (Jump Always (0x400 - 7) ∷ []) stands.1.1).0 in
-        let d = jumps_back code tidy (p + 2 + 2 + 4 + 2 + 2) p (0x400 - 7) u2 at refl clear_back in
         let next : (q + 2 + 0) % 0x10000 ≡ q + 2 = omega (arith, top, end) in
-        let i' : InVersions (q + 2) n = record { even = omega (arith, even); low = omega (arith, low); high = omega (arith, top) } in
-        let r : Comes code (cleared n (q + 2)) (2 + n * 6) (3 + n * 11) u3 (IsAt done (fram_after (cleared n (q + 2)) (put u.fram q 0)) u.readings_left) =
-        subst (λ k. Comes code (cleared n k) (2 + n * 6) (3 + n * 11) u3 (IsAt done (fram_after (cleared n k) (put u.fram q 0)) u.readings_left)) next
-        (turns n u3 refl (omega (arith, c)) (omega (arith, l)) (subst (λ k. InVersions k n) (sym next) i')) in
-        recounted code _ (2 + (3 + (1 + (2 + n * 6)))) (2 + suc n * 6) (3 + (6 + (2 + (3 + n * 11)))) (3 + suc n * 11) u _ (omega arith) (omega arith)
-        (then_on code 2 (3 + (1 + (2 + n * 6))) 3 (6 + (2 + (3 + n * 11))) u u1 _ [] _ a
-        (then_on code 3 (1 + (2 + n * 6)) 6 (2 + (3 + n * 11)) u1 u2 _ es _ b (then_on code 1 (2 + n * 6) 2 (3 + n * 11) u2 u3 _ [] _ d r)))
+        let i' : InVersions (q + 2) (suc n) = record { even = omega (arith, even); low = omega (arith, low); high = omega (arith, top) } in
+        let To : ℕ → Type 0 = λ k. Comes code (cleared (suc n) k) (4 + n * 4) (8 + n * 8) t
+        (IsAt done (fram_after (cleared (suc n) k) (put u.fram q 0)) u.readings_left) in
+        let r : To (q + 2) =
+        subst To next (turns n t refl (omega (arith, c, l)) (omega (arith, l)) (subst (λ k. InVersions k (suc n)) (sym next) i')) in
+        recounted code _ (2 + (2 + (4 + n * 4))) (4 + suc n * 4) (5 + (3 + (8 + n * 8))) (8 + suc n * 8) u _ (omega arith) (omega arith)
+        (then_on code 2 (2 + (4 + n * 4)) 5 (3 + (8 + n * 8)) u u1 _ es _ (one_cleared u e (in_fram q (suc n) i))
+        (then_on code 2 (4 + n * 4) 3 (8 + n * 8) u1 t _ [] _
+        (goes_back code tidy p m.versions.address 7 (0x400 - 5) (p + 14) done clear_turn stands clear_there clears_counted clear_back behind_clears n u1
+        (omega (arith, e)) c (omega (arith, c, l))) r))
+
+    -- from its test on, all of them
+    clears_all : (n : ℕ) (u : Core) → u.pc ≡ p → u.work 4 ≡ n → n < 0x10000 → InVersions m.versions.address n
+        → let es = cleared n m.versions.address in
+        Comes code es (2 + if_any n 1 + n * 4) (3 + if_any n 2 + n * 8) u (IsAt done (fram_after es u.fram) u.readings_left)
+    clears_all zero u e c l i =
+        let t : Core = record (tested u) { pc = done } in
+        then_on code 2 0 3 0 u t _ [] []
+        (passes code tidy p m.versions.address 7 (0x400 - 5) (p + 14) done clear_turn stands clear_there clears_counted clear_back behind_clears u e c)
+        (nothing code t _ (record { pc = refl; fram = refl; readings_left = refl }))
+    clears_all (suc n) u e c l i =
+        let t = begun p m.versions.address u in
+        let es = cleared (suc n) m.versions.address in
+        recounted code es (3 + (4 + n * 4)) (2 + 1 + suc n * 4) (5 + (8 + n * 8)) (3 + 2 + suc n * 8) u _ (omega arith) (omega arith)
+        (then_on code 3 (4 + n * 4) 5 (8 + n * 8) u t _ [] es
+        (begins code tidy p m.versions.address 7 (0x400 - 5) (p + 14) done clear_turn stands clear_there clears_counted clear_back behind_clears u e
+        (omega (arith, c, l)) (omega (arith, c)))
+        (turns n t refl c l i))
 
   -- VER is compared with its end: on to the clearing, or over it
   pub looks_at_version : (p : ℕ) (b : Bool) (u : Core) → p + 32 < 0x10000 → u.pc ≡ p → Stands code p (end_tested m) → u.fram (word_place m Version) < 0x10000
@@ -150,8 +185,8 @@ module _ (code : Code) (tidy : IsTidy code) (m : MemoryMap) (places : AreInFram 
 
   -- the clearing, of 26 bytes
   clears : (p : ℕ) (u : Core) → p + 34 < 0x10000 → u.pc ≡ p → Stands code p (clearing m)
-      → let n = m.versions.words in let es = clearing_if m true in Comes code es (5 + 6 * n) (11 + 11 * n) u
-      (IsAt (p + 26) (fram_after es u.fram) u.readings_left)
+      → let n = m.versions.words in let es = clearing_if m true in
+      Comes code es (4 + (if_any n 1 + 4 * n)) (9 + (if_any n 2 + 8 * n)) u (IsAt (p + 26) (fram_after es u.fram) u.readings_left)
   clears p u high e h =
       let hd = clearing_begins m in
       let n = m.versions.words in
@@ -162,26 +197,26 @@ module _ (code : Code) (tidy : IsTidy code) (m : MemoryMap) (places : AreInFram 
       let g = fram_after cs f in
       let last : List Effect = Store (word_place m Version) 0 ∷ [] in
       let u1 = end_of u (forms_run hd u).status in
-      let h1 = stands_back code p hd (clear_loop ++ version_cleared m) h in
-      let l1 : Stands code (p + 4 + 4) clear_loop =
-      subst (λ x. Stands code x clear_loop) (omega arith) (stands_front code _ clear_loop (version_cleared m) h1) in
+      let h1 = stands_back code p hd (clear_loop m ++ version_cleared m) h in
+      let l1 : Stands code (p + 4) (clear_loop m) = stands_front code _ (clear_loop m) (version_cleared m) h1 in
       let t2 : Stands code (p + 22) (version_cleared m) =
-      subst (λ x. Stands code x (version_cleared m)) (omega arith) (stands_back code _ clear_loop (version_cleared m) h1) in
-      let a : Comes code [] 2 4 u (λ v. v ≡ u1) =
-      straight code tidy hd 2 u u1 [] 4 (λ v. v ≡ u1) (tt, (tt, tt)) (stands_at code p hd u (stands_front code p hd (clear_loop ++ version_cleared m) h) e)
-      ((tt, tt), ((tt, tt), tt)) refl refl refl in
-      let b = turns (p + 4 + 4) (omega (arith, high)) l1 n u1 (omega (arith, e)) refl (omega (arith, end))
+      subst (λ x. Stands code x (version_cleared m)) (omega arith) (stands_back code _ (clear_loop m) (version_cleared m) h1) in
+      let a : Comes code [] 1 2 u (λ v. v ≡ u1) =
+      straight code tidy hd 1 u u1 [] 2 (λ v. v ≡ u1) (tt, tt) (stands_at code p hd u (stands_front code p hd (clear_loop m ++ version_cleared m) h) e)
+      ((tt, tt), tt) refl refl refl in
+      let x = 2 + if_any n 1 + n * 4 in let y = 3 + if_any n 2 + n * 8 in
+      let b = clears_all (p + 4) (omega (arith, high)) l1 n u1 (omega (arith, e)) refl (omega (arith, end))
       (record { even = places.versions.even; low = omega arith; high = omega arith }) in
-      let ab = moved_to code _ (p + 22) _ _ u cs g rs (omega arith) (then_on code 2 (2 + n * 6) 4 (3 + n * 11) u u1 _ [] cs a b) in
+      let ab = moved_to code _ (p + 22) _ _ u cs g rs (omega arith) (then_on code 1 x 2 y u u1 _ [] cs a b) in
       let d : (v : Core) → v.pc ≡ p + 22 → v.fram ≡ g → v.readings_left ≡ rs → Comes code last 1 4 v (IsAt (p + 26) (fram_after last g) rs) =
       λ v at is left.
       subst (λ x. Comes code last 1 4 v (IsAt (p + 26) (fram_after last x) rs)) is
       (straight code tidy (version_cleared m) 1 v (end_of v (forms_run (version_cleared m) v).status) last 4 _ (tt, tt)
       (stands_at code (p + 22) (version_cleared m) v t2 at) ((tt, places.words Version), tt) refl refl
       (record { pc = omega (arith, at); fram = refl; readings_left = left })) in
-      recounted code (cs ++ last) (2 + (2 + n * 6) + 1) (5 + 6 * n) (4 + (3 + n * 11) + 4) (11 + 11 * n) u _ (omega arith) (omega arith)
-      (subst (λ x. Comes code (cs ++ last) (2 + (2 + n * 6) + 1) (4 + (3 + n * 11) + 4) u (IsAt (p + 26) x rs)) (sym (fram_after-append cs last f))
-      (chain code (2 + (2 + n * 6)) 1 (4 + (3 + n * 11)) 4 (p + 22) u cs last g rs (IsAt (p + 26) (fram_after last g) rs) ab d))
+      recounted code (cs ++ last) (1 + x + 1) (4 + (if_any n 1 + 4 * n)) (2 + y + 4) (9 + (if_any n 2 + 8 * n)) u _ (omega arith) (omega arith)
+      (subst (λ i. Comes code (cs ++ last) (1 + x + 1) (2 + y + 4) u (IsAt (p + 26) i rs)) (sym (fram_after-append cs last f))
+      (chain code (1 + x) 1 (2 + y) 4 (p + 22) u cs last g rs (IsAt (p + 26) (fram_after last g) rs) ab d))
 
   -- VER goes up by one
   pub raises : (p : ℕ) (u : Core) → u.pc ≡ p → Stands code p (counts_set m) → u.fram (word_place m Version) < 0xFFFF
@@ -211,10 +246,10 @@ module _ (code : Code) (tidy : IsTidy code) (m : MemoryMap) (places : AreInFram 
 
   -- the steps and cycles of the clearing, by whether it comes
   abbrev pub clearing_steps : Bool → ℕ
-  clearing_steps b = if b then 5 + 6 * m.versions.words else 0
+  clearing_steps b = if b then 4 + (if_any m.versions.words 1 + 4 * m.versions.words) else 0
 
   abbrev pub clearing_cycles : Bool → ℕ
-  clearing_cycles b = if b then 11 + 11 * m.versions.words else 0
+  clearing_cycles b = if b then 9 + (if_any m.versions.words 2 + 8 * m.versions.words) else 0
 
   -- the clearing, where it comes
   clears_if : (b : Bool) (p : ℕ) (u : Core) → p + 44 < 0x10000 → u.pc ≡ p → u.fram (word_place m Version) < 0x10000 → Stands code p (end_tested m)
@@ -224,12 +259,13 @@ module _ (code : Code) (tidy : IsTidy code) (m : MemoryMap) (places : AreInFram 
       let f = u.fram in let rs = u.readings_left in
       let n = m.versions.words in
       let es = clearing_if m true in
-      let Q : ℕ → (ℕ → ℕ) → List ℕ → Core → Type 0 = λ q g l v. Comes code es (5 + 6 * n) (11 + 11 * n) v (IsAt q (fram_after es g) l) in
+      let x = 4 + (if_any n 1 + 4 * n) in let y = 9 + (if_any n 2 + 8 * n) in
+      let Q : ℕ → (ℕ → ℕ) → List ℕ → Core → Type 0 = λ q g l v. Comes code es x y v (IsAt q (fram_after es g) l) in
       let there : p + 6 + 26 ≡ p + 32 = omega arith in
       let d : (v : Core) → v.pc ≡ p + 6 → v.fram ≡ f → v.readings_left ≡ rs → Q (p + 32) f rs v =
       λ v at is left. subst (λ q. Q q f rs v) there (subst (λ l. Q (p + 6 + 26) f l v) left
       (subst (λ g. Q (p + 6 + 26) g v.readings_left v) is (clears (p + 6) v (omega (arith, high)) at k))) in
-      chain code 2 (5 + 6 * n) 6 (11 + 11 * n) (p + 6) u [] es f rs (IsAt (p + 32) (fram_after es f) rs)
+      chain code 2 x 6 y (p + 6) u [] es f rs (IsAt (p + 32) (fram_after es f) rs)
       (looks_at_version p true u (omega (arith, high)) e h word z) d
   clears_if false p u high e word h k z = looks_at_version p false u (omega (arith, high)) e h word z
 

@@ -2,9 +2,9 @@
 
 ghost use Rattle.std.specs.Prelude.{◌≡◌, ◌+◌, ◌*◌, ◌<◌, ◌++◌, ℕ, OnOk, length, map};
 ghost use Rattle.runtime_code.specs.code_forms.Placed.{instructions};
-ghost use Rattle.runtime_code.specs.LayoutPlaces.{pair_of};
+ghost use Rattle.runtime_code.specs.LayoutPlaces.{pair_of, pairs_of};
 ghost use Rattle.boot_runtime.specs.Entries.{entry_of};
-ghost use Rattle.boot_runtime.specs.Listing.{copies_in, stub, stub_bytes, stubs, stubs_bytes, ladder_to};
+ghost use Rattle.boot_runtime.specs.Listing.{copies_in, stub, stub_bytes, stubs, stubs_bytes, rung_to, ladder_to};
 
 use memory_map::{PrivateScalar, TaskLayout};
 use msp_isa::{Dst, Instr};
@@ -16,15 +16,38 @@ const COPY: u16 = 6;
 
 const BRANCH: u16 = 4;
 
-/// Adds a branch to each task's stub, of which the first stands at an address and each other one behind the one before.
+// Where a task's branch leads: to its stub, or right to its code where it has none.
+fn rung(task: &TaskLayout, stub: u16) -> u16
+    ensures { result ≡ rung_to stub task.now.code.address (pairs_of task.now) }
+{
+    if task.privates().is_empty() {
+        task.code().address
+    } else {
+        stub
+    }
+}
+
+// The bytes of a task's stub.
+fn stub_size(task: &TaskLayout) -> u16
+    requires { stub_bytes (entry_of task.now) < 65536 }
+    ensures { result ≡ stub_bytes (entry_of task.now) }
+{
+    if task.privates().is_empty() {
+        0
+    } else {
+        COPY * task.privates().len() as u16 + BRANCH
+    }
+}
+
+/// Adds each task's branch. The first stub stands at an address, and each other one behind the one before.
 pub fn push_ladder(code: &mut Vec<Instr>, tasks: &[TaskLayout], at: u16) -> Result<(), AllocError>
     requires { at + stubs_bytes (map entry_of tasks.now) < 65536 }
     ensures { OnOk result (code.new.items ≡ code.old.items ++ instructions (ladder_to at (map entry_of tasks.now))) }
 {
     let mut stub = at;
     for task in tasks {
-        code.push(branch(stub))?;
-        stub += COPY * task.privates().len() as u16 + BRANCH;
+        code.push(branch(rung(task, stub)))?;
+        stub += stub_size(task);
     }
     Ok(())
 }
@@ -39,13 +62,24 @@ fn push_copies(code: &mut Vec<Instr>, privates: &[PrivateScalar]) -> Result<(), 
     Ok(())
 }
 
-/// Adds each task's stub: its private scalars are copied, and a branch leads to its code.
+// Adds a task's stub: its private scalars are copied, and a branch leads to its code; or nothing, where it has none.
+fn push_stub(code: &mut Vec<Instr>, task: &TaskLayout) -> Result<(), AllocError>
+    ensures { OnOk result (code.new.items ≡ code.old.items ++ instructions (stub (entry_of task.now))) }
+{
+    let privates = task.privates();
+    if privates.is_empty() {
+        return Ok(());
+    }
+    push_copies(code, privates)?;
+    code.push(branch(task.code().address))
+}
+
+/// Adds each task's stub.
 pub fn push_stubs(code: &mut Vec<Instr>, tasks: &[TaskLayout]) -> Result<(), AllocError>
     ensures { OnOk result (code.new.items ≡ code.old.items ++ instructions (stubs (map entry_of tasks.now))) }
 {
     for task in tasks {
-        push_copies(code, task.privates())?;
-        code.push(branch(task.code().address))?;
+        push_stub(code, task)?;
     }
     Ok(())
 }

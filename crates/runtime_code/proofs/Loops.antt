@@ -1,5 +1,5 @@
 -- The tests and the jumps of loops that count down.
-use Rattle.std.proofs.Common.{◌≡◌, ℕ, suc, ◌+◌, ◌-◌, ◌%◌, ◌<◌, ◌≤◌, ◌==◌, [], ◌∷◌, List, Some, refl, ap, ◌∙◌, subst, arith, Bool, true, false, not}
+use Rattle.std.proofs.Common.{◌≡◌, ℕ, suc, ◌+◌, ◌%◌, ◌<◌, ◌≤◌, ◌==◌, [], ◌∷◌, List, Some, refl, ap, ◌∙◌, subst, arith, Bool, true, false, not}
 use Rattle.std.proofs.Common.{if◌then◌else◌, zero}
 use Rattle.std.proofs.lemmas.Bool.Decides.{nat_tests}
 use Rattle.msp_isa.specs.declared.instructions.TwoOp.TheVariants.{Sub, Cmp}

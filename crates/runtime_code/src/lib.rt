@@ -3,11 +3,11 @@
 #![tactic(auto)]
 
 mod addresses;
+mod counted;
 mod laws;
-mod loops;
 mod writing;
 
 pub use addresses::start_address;
+pub use counted::{loop_begin, loop_end};
 pub use laws::{layout_is_in_fram, layout_keeps_apart};
-pub use loops::{loop_begin, loop_end};
 pub use writing::{add, branch, cmp, jump, load, mov, read, set, sub};
