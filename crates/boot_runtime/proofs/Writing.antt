@@ -1,5 +1,5 @@
 -- Code that is written part by part.
-use Rattle.std.proofs.Common.{◌≡◌, ℕ, ◌+◌, ◌*◌, ◌<◌, length, map, drop, get_or, List, [], ◌∷◌, ◌++◌, refl, sym, ap, ◌∙◌, append_assoc, arith}
+use Rattle.std.proofs.Common.{◌≡◌, ℕ, ◌+◌, ◌<◌, length, map, drop, get_or, List, [], ◌∷◌, ◌++◌, sym, ap, ◌∙◌, append_assoc, arith}
 use Rattle.std.proofs.lemmas.List.{at_drop_more}
 use Rattle.msp_isa.specs.declared.instructions.Instr.{Instr}
 use Rattle.runtime_code.specs.code_forms.Forms.{Branch, instruction_of}
@@ -7,7 +7,7 @@ use Rattle.runtime_code.specs.code_forms.Placed.{instructions}
 use Rattle.runtime_code.proofs.code_forms.Interface.{instructions-append}
 use Rattle.runtime_code.specs.runtime_effects.Places.{CopyPair}
 use Rattle.boot_runtime.specs.Entries.{entry_of}
-use Rattle.boot_runtime.specs.Listing.{TaskEntry, copies_in, stub_to, stub, stubs, rung_to, ladder_to, fixed_forms, boot_forms, stubs_address}
+use Rattle.boot_runtime.specs.Listing.{TaskEntry, copies_in, stub_to, stub, stubs, ladder_to, fixed_forms, boot_forms, stubs_address}
 use Rattle.memory_map.specs.MemoryMap.{TaskPlace, MemoryMap}
 
 -- a stub, by its parts
@@ -21,20 +21,6 @@ stub_written is js ks (x ∷ xs) code some copied branched =
     ∙ ap (λ l. l ++ b) copied
     ∙ append_assoc is c b
     ∙ ap (λ l. is ++ l) (sym (instructions-append (copies_in (x ∷ xs)) (Branch code ∷ [])))
-
--- no stub
-pub no_stub : (xs : List CopyPair) (code : ℕ) → length xs ≡ 0 → stub_to code xs ≡ []
-no_stub [] code none = refl
-no_stub (x ∷ xs) code none = absurd (omega (arith, none))
-
--- where a rung leads
-pub rung_to_code : (xs : List CopyPair) (stub code : ℕ) → length xs ≡ 0 → rung_to stub code xs ≡ code
-rung_to_code [] stub code none = refl
-rung_to_code (x ∷ xs) stub code none = absurd (omega (arith, none))
-
-pub rung_to_stub : (xs : List CopyPair) (stub code : ℕ) → 0 < length xs → rung_to stub code xs ≡ stub
-rung_to_stub [] stub code some = absurd (omega (arith, some))
-rung_to_stub (x ∷ xs) stub code some = refl
 
 -- what stands before the ladder, the ladder, and the stubs
 pub boot_written : (m : MemoryMap) (commit at q : ℕ) (tasks us : List TaskEntry) (u v w : List Instr) → us ≡ tasks → q ≡ stubs_address us at

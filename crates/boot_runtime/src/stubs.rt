@@ -71,7 +71,8 @@ fn push_stub(code: &mut Vec<Instr>, task: &TaskLayout) -> Result<(), AllocError>
         return Ok(());
     }
     push_copies(code, privates)?;
-    code.push(branch(task.code().address))
+    code.push(branch(task.code().address))?;
+    Ok(())
 }
 
 /// Adds each task's stub.

@@ -8,6 +8,7 @@ use Rattle.compiled_model.specs.cost_bound.Table.{cycles_column, statement_price
 use Rattle.compiled_model.specs.cost_bound.Counts.{Code, is_emit, statement_count, choice_count, block_count, emits_of}
 use Rattle.compiled_model.specs.cost_bound.Allowance.{CheckedProgram, CheckedTask, bound_of, list_of, task_bound, versions_of, greatest}
 use Rattle.compiled_model.specs.commit_runtime.Listing.{commit_cycles}
+use Rattle.compiled_model.proofs.runtime_code.Interface.{if_any_most}
 
 turns_pay : (n count price : ℕ) → 60 * count ≤ price → 60 * (n * count) ≤ n * (40 + price)
 turns_pay zero count price h = omega arith
@@ -57,11 +58,12 @@ has_greatest f g (t ∷ u ∷ ts) h =
     (cases_lt (f t.body) (greatest f (u ∷ ts)))
 
 pub commit_within_bound : (p : CheckedProgram) (entries emits : ℕ) → 0 < length p.tasks → entries ≡ greatest (list_of p.shared) p.tasks
-    → emits ≡ greatest emits_of p.tasks → 11 + commit_cycles entries entries emits ≤ bound_of p
+    → emits ≡ greatest emits_of p.tasks → 9 + commit_cycles entries entries emits ≤ bound_of p
 commit_within_bound p entries emits some list_is emits_are =
     let price = task_bound (versions_of p) p.shared in
     let a = has_greatest (list_of p.shared) price p.tasks some in
     let b = has_greatest emits_of price p.tasks some in
     let a_is = a.is in let a_within = a.within in let b_is = b.is in let b_within = b.within in
     let paid = emits_pay b.code in
-    omega (arith, list_is, emits_are, a_is, a_within, b_is, b_within, paid)
+    let list_begins = if_any_most entries 2 in let sends_begin = if_any_most emits 2 in
+    omega (arith, list_is, emits_are, a_is, a_within, b_is, b_within, paid, list_begins, sends_begin)

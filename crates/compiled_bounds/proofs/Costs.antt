@@ -24,6 +24,7 @@ use Rattle.compiled_model.specs.lower.Seen.{map_seen}
 use Rattle.compiled_model.specs.lower.Lowered.{lowered_task}
 use Rattle.compiled_model.specs.lower.Sizes.{entry_cycles}
 use Rattle.compiled_model.specs.commit_runtime.Listing.{commit_cycles}
+use Rattle.compiled_model.proofs.runtime_code.Interface.{if_any_most}
 use Rattle.compiled_model.specs.Parts.{task_program}
 use Rattle.compiled_model.specs.Needs.{whole_cycles}
 use Rattle.compiled_bounds.specs.Laws.{TasksKeepToTheBound}
@@ -42,9 +43,11 @@ entries_cost l layout Broken = omega arith
 
 -- a boot, a start with the clearing of versions and the copies of private scalars, the body, the entries, and the commit
 all_within : (v1 v2 privates scalars body price list emits : ℕ) → v1 ≡ v2 → privates ≤ scalars → body ≤ price + 26 * privates
-    → 11 + (35 + (11 + 11 * v1) + 6 * privates) + body + (42 + 17 * list + 9 * list + 16 * emits)
+    → 9 + start_cycles true v1 privates + body + commit_cycles list list emits
     ≤ 400 + 12 * v2 + 72 * scalars + price + 40 * list + 40 * emits
-all_within v1 v2 privates scalars body price list emits v e b = omega (arith, v, e, b)
+all_within v1 v2 privates scalars body price list emits v e b =
+    let clears = if_any_most v1 2 in let copies = if_any_most privates 3 in let lists = if_any_most list 2 in let sends = if_any_most emits 2 in
+    omega (arith, v, e, b, clears, copies, lists, sends)
 
 module _ (p : CheckedProgram) (allow : Allow) (plans : List TaskPlanValue) (l : MemoryMap) (allowed : IsAllowed p allow) (few : PrivatesAreCounted p l)
     (layout : IsLayout p allow plans l) (t : ℕ) (fram : ℕ → ℕ) (readings : List ℕ) (task : CheckedTask) (own : TaskPlace)
@@ -95,6 +98,6 @@ tasks_keep_to_the_bound p allow plans l allowed few layout = record {
       let count = layout.tasks.count in
       let own = element l.tasks t (omega (arith, below, count)) in
       within p allow plans l allowed few layout t fram readings task.0 own.0 task.1 own.1;
-  commits = λ t below. subst (λ n. 11 + commit_cycles l.entries l.entries l.emits.words ≤ n) (sym (bound_is_the_sources p l))
+  commits = λ t below. subst (λ n. 9 + commit_cycles l.entries l.entries l.emits.words ≤ n) (sym (bound_is_the_sources p l))
       (commit_within_bound p l.entries l.emits.words (omega (arith, below)) (layout.list ∙ allowed.list) (layout.emits ∙ allowed.emits));
 }

@@ -9,6 +9,7 @@ pub use Rattle.linked_code.proofs.array_versions as array_versions
 pub use Rattle.lower.proofs as lower
 pub use Rattle.linked_code.proofs.runtime_code as runtime_code
 pub use Rattle.linked_code.proofs.boot_runtime as boot_runtime
+pub use Rattle.linked_code.proofs.commit_runtime as commit_runtime
 pub use Rattle.linked_code.proofs as linked_code
 pub use Rattle.linked_code.proofs.runtime_effects as runtime_effects
 pub use Rattle.linked_code.proofs.path_sums as path_sums

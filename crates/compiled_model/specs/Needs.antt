@@ -17,11 +17,11 @@ use Rattle.compiled_model.specs.Places.{program_places}
 use Rattle.compiled_model.specs.View.{state_view}
 use Rattle.compiled_model.specs.Parts.{task_program, compiled_model}
 
--- a task, from a power-up up to the end of its commit: a boot, which takes 11 cycles at most, a start with the clearing of the version
+-- a task, from a power-up up to the end of its commit: a boot, which takes 9 cycles at most, a start with the clearing of the version
 -- words, the body and the commit, of as many entries as words: each may be a run of its own
 abbrev pub whole_cycles : CheckedProgram → MemoryMap → ℕ → (ℕ → ℕ) → List ℕ → ℕ
 whole_cycles p l t fram readings =
-    11 + start_cycles true l.versions.words (length (privates_in (task_entries l) t)) + spent (task_program p l t) (started fram readings)
+    9 + start_cycles true l.versions.words (length (privates_in (task_entries l) t)) + spent (task_program p l t) (started fram readings)
     + commit_cycles (list_of p.shared (task_body p t)) (list_of p.shared (task_body p t)) (emits_of (task_body p t))
 
 -- each task keeps to its bound, whatever FRAM holds and whatever the readings are; and where there is a task, a boot with the commit of a
@@ -29,7 +29,7 @@ whole_cycles p l t fram readings =
 pub record CostsAreWithin (p : CheckedProgram) (l : MemoryMap) : Type 0 where
   pub within : (t : ℕ) (fram : ℕ → ℕ) (readings : List ℕ) → t < length p.tasks → HoldsWords fram → All IsWord readings
       → whole_cycles p l t fram readings ≤ task_bound (versions_of p) p.shared (task_body p t)
-  pub commits : (t : ℕ) → t < length p.tasks → 11 + commit_cycles l.entries l.entries l.emits.words ≤ bound (compiled_model p l)
+  pub commits : (t : ℕ) → t < length p.tasks → 9 + commit_cycles l.entries l.entries l.emits.words ≤ bound (compiled_model p l)
 
 -- a program's end: it leaves for an address, or is short of readings
 abbrev pub LeavesFor : ℕ → End → Type 0

@@ -15,7 +15,7 @@ use Rattle.compiled_model.specs.array_versions.Cost.{spent}
 use Rattle.compiled_model.specs.array_versions.Laws.{EndsByEffects}
 use Rattle.compiled_model.proofs.array_versions.Interface.{behaves_by_effects}
 use Rattle.compiled_model.specs.codegen.Laws.{HasJumped, ComesTo}
-use Rattle.compiled_model.specs.memory_map.declared.words.RuntimeWord.TheVariants.{CurrentTask, Gate, ListLength, EmitCount, Version}
+use Rattle.compiled_model.specs.memory_map.declared.words.RuntimeWord.TheVariants.{CurrentTask, Gate, ListLength, EmitCount, SentBase, Version}
 use Rattle.compiled_model.specs.memory_map.MemoryMap.{MemoryMap, word_place}
 use Rattle.compiled_model.specs.runtime_effects.Places.{CopyPair, listed}
 use Rattle.compiled_model.specs.runtime_effects.Stages.{is_at_end, start_effects, commit_effects}
@@ -40,6 +40,7 @@ use Rattle.compiled_model.specs.View.{state_view}
 use Rattle.compiled_model.specs.Parts.{has_jumped, task_program, compiled_model}
 use Rattle.compiled_model.specs.Needs.{whole_cycles, LeavesFor}
 use Rattle.compiled_model.specs.linked_code.Linked.{ProgramsAreWhole}
+use Rattle.compiled_model.proofs.commit_runtime.Interface.{commit_grows}
 use Rattle.compiled_model.proofs.linked_code.Interface.{programs_count, to_start, to_task, DoesBody, body_there, commit_there, to_commit}
 use Rattle.compiled_runs.specs.Program.{placed_code, IsAtEntry, compiled_program}
 use Rattle.compiled_runs.specs.Laws.{CanRun, CodeKeepsTheLaws}
@@ -82,13 +83,13 @@ module _ (p : CheckedProgram) (l : MemoryMap) (r : CanRun p l) (laws : ModelLaws
     pub is : b ≡ board_of core
     pub steps : ℕ
     pub cycles : ℕ
-    pub within : cycles ≤ 8
+    pub within : cycles ≤ 6
     pub comes : Comes code [] steps cycles core (IsAt start_at core.fram core.readings_left)
 
   reaches_start : (b : MachineBoard) → IsAtEntry l b → b.fram (word_place l Gate) ≡ 0 → ReachesStart b
   reaches_start b (inl k) z =
       let zero : k.core.fram (word_place l Gate) ≡ 0 = ap (λ s. s.fram (word_place l Gate)) (sym k.is) ∙ z in
-      record { core = k.core; is = k.is; steps = 3; cycles = 8; within = omega arith; comes = to_start l (lowered l p) r.fits are_whole k.core k.pc zero }
+      record { core = k.core; is = k.is; steps = 2; cycles = 6; within = omega arith; comes = to_start l (lowered l p) r.fits are_whole k.core k.pc zero }
   reaches_start b (inr k) z =
       let u = k.core in
       let here : IsAt start_at u.fram u.readings_left u = record { pc = k.pc; fram = refl; readings_left = refl } in
@@ -110,12 +111,13 @@ module _ (p : CheckedProgram) (l : MemoryMap) (r : CanRun p l) (laws : ModelLaws
       ap (λ f. f (word_place l Gate)) h.fram ∙ ap (λ es. fram_after es x.fram (word_place l Gate)) k.is ∙ behind_last k.before (word_place l Gate) 0 x.fram in
       inr (record { core = v; is = refl; pc = h.pc; gate = λ e. omega (arith, gate, e) })
 
-  -- the room of the list and of the words to send
+  -- the room of the list and of the words to send, and the number of the first
   record FitsCommit (k : ℕ) (f : ℕ → ℕ) : Type 0 where
     pub can : CanCommit l f
     pub list : f (word_place l ListLength) ≤ (program_places p l).list_capacity k
     pub words : length (listed l f) ≤ (program_places p l).list_capacity k
     pub emits : f (word_place l EmitCount) ≤ (program_places p l).emit_capacity k
+    pub base : f (word_place l SentBase) < 0x10000
 
   fits_commit : (s next : State) (x : World) → m.Decided s next x → FitsCommit s.task x.fram
   fits_commit s next x d =
@@ -125,6 +127,7 @@ module _ (p : CheckedProgram) (l : MemoryMap) (r : CanRun p l) (laws : ModelLaws
         list = d.decided.within_list;
         words = d.decided.within_words;
         emits = omega (arith, e, k);
+        base = d.decided.words (word_place l SentBase);
       }
 
   -- a pending commit, from a boot on: the list and the words to send have room, and the bound has the cycles for all that has
@@ -134,14 +137,16 @@ module _ (p : CheckedProgram) (l : MemoryMap) (r : CanRun p l) (laws : ModelLaws
   commit_from_boot to accepted u e d =
       let x : World = record { fram = u.fram; accepted = accepted } in
       let q = d.pending in
-      let a = to_commit l (lowered l p) r.fits are_whole u e q.gate (pending_can_commit (program_places p l) x r.apart q) in
+      let a = to_commit l (lowered l p) r.fits are_whole u e q.gate (pending_can_commit (program_places p l) x r.apart q)
+      (q.words (word_place l SentBase)) in
       let n = u.fram (word_place l ListLength) in let ws = length (listed l u.fram) in let k = u.fram (word_place l EmitCount) in
       let list = q.list_length in let words = q.list_words in let emits = q.emit_count in
       let most = r.costs.commits to.task d.rests.is_open.is_task in
+      let dearest = commit_grows n l.entries ws l.entries k l.emits.words list words emits in
       record {
-        steps = 4 + commit_steps n ws k;
-        cycles = 11 + commit_cycles n ws k;
-        ends = λ t. (omega (arith, list, words, emits, most), (board_of a.end, a.leads, behind_commit to x d a.end u.readings_left a.holds));
+        steps = 3 + commit_steps n ws k;
+        cycles = 9 + commit_cycles n ws k;
+        ends = λ t. (omega (arith, dearest, most), (board_of a.end, a.leads, behind_commit to x d a.end u.readings_left a.holds));
         lacks = λ t. absurd (cc (t));
       }
 
@@ -234,7 +239,7 @@ module _ (p : CheckedProgram) (l : MemoryMap) (r : CanRun p l) (laws : ModelLaws
     abbrev script_by : End → ProgramEffects
     script_by e = with_commit m u.fram (program_effects (es ++ b.effects) (has_jumped e))
 
-    module _ (steps cycles : ℕ) (few : cycles ≤ 8) (a : Comes code [] steps cycles u (IsAt start_at u.fram u.readings_left)) where
+    module _ (steps cycles : ℕ) (few : cycles ≤ 6) (a : Comes code [] steps cycles u (IsAt start_at u.fram u.readings_left)) where
       abbrev clears : Bool
       clears = is_at_end l u.fram
 
@@ -263,7 +268,7 @@ module _ (p : CheckedProgram) (l : MemoryMap) (r : CanRun p l) (laws : ModelLaws
           let v = q.end in
           let fits : FitsCommit s.task f = subst (FitsCommit s.task) d.fram (fits_commit s d.next d.world d.decided) in
           let arrived : IsAt l.commit.address f v.readings_left v = record { pc = q.holds.pc ∙ t; fram = q.holds.fram ∙ same; readings_left = refl } in
-          let h = commit_there l (lowered l p) r.fits are_whole v f v.readings_left arrived fits.can in
+          let h = commit_there l (lowered l p) r.fits are_whole v f v.readings_left arrived fits.can fits.base in
           let n = f (word_place l ListLength) in let ws = length (listed l f) in let o = f (word_place l EmitCount) in
           let at : IsAt start_at (fram_after (commit_effects l d.world.fram) d.world.fram) v.readings_left h.end =
           subst (λ y. IsAt start_at (fram_after (commit_effects l y) y) v.readings_left h.end) (sym d.fram) h.holds in
@@ -274,11 +279,13 @@ module _ (p : CheckedProgram) (l : MemoryMap) (r : CanRun p l) (laws : ModelLaws
           let words : ws ≤ (program_places p l).list_capacity k = subst (λ j. ws ≤ (program_places p l).list_capacity j) (sym is_current) fits.words in
           let emits : o ≤ (program_places p l).emit_capacity k = subst (λ j. o ≤ (program_places p l).emit_capacity j) (sym is_current) fits.emits in
           let most = within in let start_most = at_most in let body_most = q.within in
+          let dearest = commit_grows n ((program_places p l).list_capacity k) ws ((program_places p l).list_capacity k) o
+          ((program_places p l).emit_capacity k) list words emits in
           let entry = behind_commit d.next d.world (laws.decided_committing s d.next d.world d.decided) h.end v.readings_left at in
           record {
             steps = to_steps + q.steps + commit_steps n ws o;
             cycles = to_cycles + q.cycles + commit_cycles n ws o;
-            ends = λ z. (omega (arith, few, most, start_most, body_most, list, words, emits), (board_of h.end, all, entry));
+            ends = λ z. (omega (arith, few, most, start_most, body_most, dearest), (board_of h.end, all, entry));
             lacks = λ z. absurd (cc (z));
           }
 

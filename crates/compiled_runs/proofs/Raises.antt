@@ -25,8 +25,8 @@ power_ups_raise_version p l r b boots gate below t leads =
     let version : u.fram a ≡ b.fram a = ap (λ s. s.fram a) (sym boots.is) in
     let low : u.fram a < 0xFFFF = omega (arith, version, below) in
     let raised = to_raised l (lowered l p) r.fits whole u boots.pc zero low in
-    let made : (going step 6 (board_of u)).status ≡ At (board_of raised.end) = ap (λ q. q.status) (raised.leads.by 0) in
-    let there : At t ≡ At (board_of raised.end) = sym leads ∙ ap (λ s. (going step 6 s).status) boots.is ∙ made in
+    let made : (going step 5 (board_of u)).status ≡ At (board_of raised.end) = ap (λ q. q.status) (raised.leads.by 0) in
+    let there : At t ≡ At (board_of raised.end) = sym leads ∙ ap (λ s. (going step 5 s).status) boots.is ∙ made in
     let same : t ≡ board_of raised.end = cc there in
     let stored : raised.end.fram a ≡ u.fram a + 1 = ap (λ f. f a) raised.holds.fram ∙ put_same u.fram a (u.fram a + 1) in
     ap (λ s. s.fram a) same ∙ stored ∙ ap (λ n. n + 1) version

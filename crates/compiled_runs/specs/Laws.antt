@@ -49,10 +49,10 @@ abbrev pub CodeIsPlaced : Type 0
 CodeIsPlaced = (p : CheckedProgram) (l : MemoryMap) → CodeFits l (lowered l p)
     → IsPlacedProgram (compiled_program p l) l.boot.address (source_code p l) l.boot.address
 
--- from a power-up with GATE 0 and VER not at its end, the sixth instruction raises VER
+-- from a power-up with GATE 0 and VER not at its end, the fifth instruction raises VER
 abbrev pub PowerUpsRaiseVersion : Type 0
 PowerUpsRaiseVersion = (p : CheckedProgram) (l : MemoryMap) → CanRun p l → (b : MachineBoard) → IsBooting l b → b.fram (word_place l Gate) ≡ 0
-    → b.fram (word_place l Version) < 0xFFFF → (t : MachineBoard) → (going (compiled_program p l).step 6 b).status ≡ At t
+    → b.fram (word_place l Version) < 0xFFFF → (t : MachineBoard) → (going (compiled_program p l).step 5 b).status ≡ At t
     → t.fram (word_place l Version) ≡ b.fram (word_place l Version) + 1
 
 -- a run stores nowhere on the code, nor on the reset vector, and never comes to where no instruction stands

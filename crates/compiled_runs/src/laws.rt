@@ -15,7 +15,7 @@ pub fn code_is_placed()
     ensures { CodeIsPlaced }
 {}
 
-/// From a power-up with GATE 0 and VER not 65535 on, the sixth instruction raises VER.
+/// From a power-up with GATE 0 and VER not 65535 on, the fifth instruction raises VER.
 #[tactic(auto, using(crate::proofs::Raises::power_ups_raise_version))]
 pub fn power_ups_raise_version()
     ensures { PowerUpsRaiseVersion }

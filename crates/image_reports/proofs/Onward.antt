@@ -310,33 +310,33 @@ module _ (text : List ℕ) (p : CheckedProgram) (allow : Allow) (image : ImageVa
           fetches = fetches;
         }
 
-  -- VER is raised by the sixth instruction of a charge
+  -- VER is raised by the fifth instruction of a charge
   module _ (ms : List Moment) (power : PowerState) (powers : IsPowerState power) (at : AtFront model program readings origin x cs b r run bearing
       (last_board b ms) (known_from l x ms)) where
     abbrev on : BoardValue
     on = powered (last_board b ms) power
 
-    raised_by_six : (first : List Moment) → AreMoments on first → AreInstructionMoments first → length first ≡ 6
+    raised_by_five : (first : List Moment) → AreMoments on first → AreInstructionMoments first → length first ≡ 5
         → fram_of on.fram (word_place l Gate) ≡ 0 → fram_of on.fram (word_place l Version) < 0xFFFF
         → fram_of (last_board on first).fram (word_place l Version) ≡ fram_of on.fram (word_place l Version) + 1
-    raised_by_six first are is six gate low =
+    raised_by_five first are is five gate low =
         let t = last_board b ms in let h = known_from l x ms in
         let up = is_powered model program readings origin x cs b r run bearing t h at power powers in
         let leads = program_leads model program readings origin x cs b r run bearing t h at power powers first are is in
         power_ups_raise_version p l ready.code (machine_of on) up gate low (machine_of (last_board on first))
-        (ap (λ n. (going program.step n (machine_of on)).status) (sym six) ∙ leads)
+        (ap (λ n. (going program.step n (machine_of on)).status) (sym five) ∙ leads)
 
   -- what a charge that begins so owes
   abbrev RaisesFrom : List Moment → Moment → Type 0
   RaisesFrom steps boot = fram_of boot.after.fram (word_place l Gate) ≡ 0 → fram_of boot.after.fram (word_place l Version) ≢ 0xFFFF
       → IsRaisedSoon l boot.after steps
 
-  raises_from : (ms rest steps first more : List Moment) → r.moments ≡ ms ++ rest → steps ≡ first ++ more → length first ≡ 6
+  raises_from : (ms rest steps first more : List Moment) → r.moments ≡ ms ++ rest → steps ≡ first ++ more → length first ≡ 5
       → AreInstructionMoments first → (boot : Moment) → boot.action ≡ PowerUp → IsMomentFrom (last_board b ms) boot → AreMoments boot.after first
       → RaisesFrom steps boot
-  raises_from ms rest steps first more e cut six are boot up (Instructs i done current answer is) moments =
+  raises_from ms rest steps first more e cut five are boot up (Instructs i done current answer is) moments =
       absurd (let other = sym up ∙ ap (λ y. y.action) is in cc (other))
-  raises_from ms rest steps first more e cut six are boot up (PowersUp power powers is) moments =
+  raises_from ms rest steps first more e cut five are boot up (PowersUp power powers is) moments =
       let P : Moment → Type 0 = λ y. AreMoments y.after first → RaisesFrom steps y in
       let Q : (ℕ → ℕ) → Type 0 = λ f. f (word_place l Version) < 0x10000 in
       let at = at_front model program readings origin x cs b r run bearing ms rest e in
@@ -347,21 +347,21 @@ module _ (text : List ℕ) (p : CheckedProgram) (allow : Allow) (image : ImageVa
         first = first;
         rest = more;
         are = cut;
-        soon = omega (arith, six);
-        raised = raised_by_six ms power powers at first own are six gate (below_end _ word end);
+        soon = omega (arith, five);
+        raised = raised_by_five ms power powers at first own are five gate (below_end _ word end);
       }) moments
 
   pub raises : RaisesVersion l r.moments
   raises ms steps rest boot e up are many =
-      let first = take 6 steps in
-      let more = drop 6 steps in
-      let cut : steps ≡ first ++ more = sym (take-append-drop 6 steps) in
+      let first = take 5 steps in
+      let more = drop 5 steps in
+      let cut : steps ≡ first ++ more = sym (take-append-drop 5 steps) in
       let behind : r.moments ≡ ms ++ (boot ∷ (first ++ (more ++ rest))) =
       e ∙ ap (λ q. ms ++ (boot ∷ (q ++ rest))) cut ∙ ap (λ q. ms ++ (boot ∷ q)) (append_assoc first more rest) in
       let front : r.moments ≡ (ms ++ (boot ∷ first)) ++ (more ++ rest) = behind ∙ sym (append_assoc ms (boot ∷ first) (more ++ rest)) in
       let moments = are_behind b ms (boot ∷ first) (front_moments cs b r (ms ++ (boot ∷ first)) (more ++ rest) run.starts run.run front) in
-      let six : length first ≡ 6 = length-take-le 6 steps (omega (arith, many)) in
-      raises_from ms (boot ∷ (steps ++ rest)) steps first more e cut six (front_are first more (subst AreInstructionMoments cut are)) boot up
+      let five : length first ≡ 5 = length-take-le 5 steps (omega (arith, many)) in
+      raises_from ms (boot ∷ (steps ++ rest)) steps first more e cut five (front_are first more (subst AreInstructionMoments cut are)) boot up
       moments.0 moments.1
 
   -- each charge that is spent pays for its transitions

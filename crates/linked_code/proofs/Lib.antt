@@ -11,5 +11,6 @@ pub use Rattle.boot_runtime.proofs.war_analysis as war_analysis
 pub use Rattle.codegen.proofs.array_versions as array_versions
 pub use Rattle.boot_runtime.proofs.runtime_code as runtime_code
 pub use Rattle.boot_runtime.proofs as boot_runtime
+pub use Rattle.commit_runtime.proofs as commit_runtime
 pub use Rattle.boot_runtime.proofs.runtime_effects as runtime_effects
 pub use Rattle.boot_runtime.proofs.path_sums as path_sums

@@ -28,7 +28,7 @@ use Rattle.commit_runtime.proofs.Interface.{commit_is_made}
 use Rattle.linked_code.specs.Linked.{linked, ProgramsFit, CodeFits, ProgramsAreWhole}
 use Rattle.linked_code.specs.Laws.{IsLinkedCode, PartsStand}
 use Rattle.linked_code.proofs.Linked.{linked_is_code, linked_stands}
-use Rattle.boot_runtime.specs.memory_map.declared.words.RuntimeWord.TheVariants.{CurrentTask, Gate, ListLength, EmitCount, Version}
+use Rattle.boot_runtime.specs.memory_map.declared.words.RuntimeWord.TheVariants.{CurrentTask, Gate, ListLength, EmitCount, SentBase, Version}
 use Rattle.boot_runtime.specs.memory_map.MemoryMap.{MemoryMap, TaskPlace, word_place}
 use Rattle.boot_runtime.proofs.memory_map.Interface.{apart_of, even_of}
 use Rattle.boot_runtime.specs.address_space.Limits.{stack_top}
@@ -87,15 +87,13 @@ module _ (l : MemoryMap) (programs : List Program) (fits : CodeFits l programs) 
       }
 
   -- from the boot to the start of an attempt
-  pub to_start : (u : Core) → u.pc ≡ l.boot.address → u.fram (word_place l Gate) ≡ 0 → Comes code [] 3 8 u (IsAt start_at u.fram u.readings_left)
-  to_start u e z =
-      let a = attempt_is_found code l l.commit.address tasks l.boot.address u is_boot e (omega (arith, z)) (λ q. omega (arith, z, q)) in
-      record { end = a.end; leads = a.leads; holds = record { pc = a.holds.pc; fram = a.holds.fram; readings_left = a.holds.readings_left } }
+  pub to_start : (u : Core) → u.pc ≡ l.boot.address → u.fram (word_place l Gate) ≡ 0 → Comes code [] 2 6 u (IsAt start_at u.fram u.readings_left)
+  to_start u e z = attempt_is_found code l l.commit.address tasks l.boot.address u is_boot e (omega (arith, z)) (λ q. omega (arith, z, q))
 
   -- from the boot to the store to VER, where it isn't at its end
   pub to_raised : (u : Core) → u.pc ≡ l.boot.address → u.fram (word_place l Gate) ≡ 0 → u.fram (word_place l Version) < 0xFFFF
       → let raised = u.fram (word_place l Version) + 1 in
-      Comes code (Store (word_place l Version) raised ∷ []) 6 18 u (IsAt (start_at + 36) (put u.fram (word_place l Version) raised) u.readings_left)
+      Comes code (Store (word_place l Version) raised ∷ []) 5 16 u (IsAt (start_at + 36) (put u.fram (word_place l Version) raised) u.readings_left)
   to_raised u e z below =
       version_is_raised code l l.commit.address tasks l.boot.address u is_boot e (omega (arith, z)) (λ q. omega (arith, z, q)) below
 
@@ -173,23 +171,26 @@ module _ (l : MemoryMap) (programs : List Program) (fits : CodeFits l programs) 
       (IsAt start_at (fram_after es f) rs)
 
   -- where the commit is entered and can be made, its code makes it
-  pub commit_there : (v : Core) (f : ℕ → ℕ) (rs : List ℕ) → IsAt l.commit.address f rs v → CanCommit l f → DoesCommit v f rs
-  commit_there v f rs h can =
+  pub commit_there : (v : Core) (f : ℕ → ℕ) (rs : List ℕ) → IsAt l.commit.address f rs v → CanCommit l f
+      → f (word_place l SentBase) < 0x10000 → DoesCommit v f rs
+  commit_there v f rs h can word =
       let c = fits.commit in let d = (apart_of l fits.rules).code in let k = (apart_of l fits.rules).high in
       let even = (even_of l fits.rules).boot in
       let a : DoesCommit v v.fram v.readings_left = commit_is_made code l l.commit.address start_at v is_linked.tidy is_boot.places
-      (omega (arith, c, d, k)) (omega (arith, even)) parts.commit h.pc (subst (CanCommit l) (sym h.fram) can) in
+      (omega (arith, c, d, k)) (omega (arith, even)) parts.commit h.pc (subst (CanCommit l) (sym h.fram) can)
+      (subst (λ g. g (word_place l SentBase) < 0x10000) (sym h.fram) word) in
       subst (λ q. DoesCommit v f q) h.readings_left (subst (λ g. DoesCommit v g v.readings_left) h.fram a)
 
   -- from the boot to the commit, where GATE is 1
   pub to_commit : (u : Core) → u.pc ≡ l.boot.address → u.fram (word_place l Gate) ≡ 1 → CanCommit l u.fram
+      → u.fram (word_place l SentBase) < 0x10000
       → let es = commit_effects l u.fram in
       let n = u.fram (word_place l ListLength) in let ws = length (listed l u.fram) in let k = u.fram (word_place l EmitCount) in
-      Comes code es (4 + commit_steps n ws k) (11 + commit_cycles n ws k) u (IsAt start_at (fram_after es u.fram) u.readings_left)
-  to_commit u e one can =
+      Comes code es (3 + commit_steps n ws k) (9 + commit_cycles n ws k) u (IsAt start_at (fram_after es u.fram) u.readings_left)
+  to_commit u e one can word =
       let es = commit_effects l u.fram in
       let n = u.fram (word_place l ListLength) in let ws = length (listed l u.fram) in let k = u.fram (word_place l EmitCount) in
-      comes_on code 4 (commit_steps n ws k) 11 (commit_cycles n ws k) u (Enters l.commit.address stack_top u.fram u.readings_left)
+      comes_on code 3 (commit_steps n ws k) 9 (commit_cycles n ws k) u (IsAt l.commit.address u.fram u.readings_left)
       (IsAt start_at (fram_after es u.fram) u.readings_left) [] es
       (pending_commit_is_found code l l.commit.address tasks l.boot.address u is_boot e one)
-      (λ v h. commit_there v u.fram u.readings_left (record { pc = h.pc; fram = h.fram; readings_left = h.readings_left }) can)
+      (λ v h. commit_there v u.fram u.readings_left h can word)
