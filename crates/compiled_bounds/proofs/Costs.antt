@@ -1,5 +1,5 @@
 -- Each task keeps to its part of the bound.
-use Rattle.std.proofs.Common.{◌≡◌, ℕ, ◌+◌, ◌*◌, ◌≤◌, sym, ap, ◌∙◌, subst, arith, List, [], length, Some}
+use Rattle.std.proofs.Common.{◌≡◌, ℕ, ◌+◌, ◌*◌, ◌≤◌, sym, ap, ◌∙◌, subst, arith, List, [], length, Some, true}
 use Rattle.std.proofs.lemmas.List.{length-map}
 use Rattle.std.proofs.lemmas.Option.{slice_get-map, get_or_from_slice_get}
 use Rattle.std.specs.Option.{option_map}
@@ -15,11 +15,11 @@ use Rattle.compiled_model.specs.linked_code.Rooms.{PrivatesAreCounted}
 use Rattle.compiled_model.specs.array_versions.Program.{Program}
 use Rattle.compiled_model.specs.array_versions.Behaviour.{WordState, End, GoesOn, Jumps, Short, Strays, Broken, behaviour, started}
 use Rattle.compiled_model.specs.array_versions.Cost.{spent}
-use Rattle.compiled_model.specs.privatise.Layouts.{IsLayout, IsTaskLayout}
+use Rattle.compiled_model.specs.privatise.Layouts.{IsLayout}
 use Rattle.compiled_model.proofs.lower.Interface.{program_at, blocks_keep_to_cycles}
 use Rattle.compiled_model.specs.runtime_code.LayoutPlaces.{pair_of}
 use Rattle.compiled_model.specs.boot_runtime.Entries.{entry_of, task_entries}
-use Rattle.compiled_model.specs.boot_runtime.Listing.{privates_in, entry_at}
+use Rattle.compiled_model.specs.boot_runtime.Listing.{privates_in, entry_at, start_cycles}
 use Rattle.compiled_model.specs.lower.Seen.{map_seen}
 use Rattle.compiled_model.specs.lower.Lowered.{lowered_task}
 use Rattle.compiled_model.specs.lower.Sizes.{entry_cycles}
