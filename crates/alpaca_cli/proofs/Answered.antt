@@ -4,21 +4,23 @@ use Rattle.std.specs.Prelude.{unwrap_or}
 use Rattle.alp_io.specs.Count.{Rose}
 use Rattle.alp_io.specs.Shelf.{Files, Counts}
 use Rattle.fram_board.specs.Laws.{HasOneRun}
-use Rattle.alpaca_cli.specs.declared.status.Status.{Status}
-use Rattle.alpaca_cli.specs.declared.status.Status.TheVariants.{Done, Refused, Usage, Unreadable, Unwritable, OutOfMemory, MachineFault, TooLong, Differs}
-use Rattle.alpaca_cli.specs.Answers.{Answers, CommandAnswers, IsCarriedOut, IsWhole, status_of}
-use Rattle.alpaca_cli.specs.Calls.{Call, OnLine, Says, line_text, reads}
-use Rattle.alpaca_cli.specs.InputFiles.{AreHeld, IsFirstUnfit, here, behind, IsOverlong}
-use Rattle.alpaca_cli.specs.Outside.{Shelved, Written, IsSilent, WhereSilent}
-use Rattle.alpaca_cli.specs.Ending.{Ending, well, at_fault, differs}
+use Rattle.command_answers.specs.declared.status.Status.{Status}
+use Rattle.command_answers.specs.declared.status.Status.TheVariants.{Done, Refused, Usage, Unreadable, Unwritable, OutOfMemory, MachineFault, TooLong, Differs}
+use Rattle.alpaca_cli.specs.Answers.{Answers, IsCarriedOut, status_of}
+use Rattle.command_answers.specs.CommandAnswers.{CommandAnswers, IsWhole}
+use Rattle.alpaca_cli.specs.Calls.{Call, OnLine, Says, line_text, reads, promise_of}
+use Rattle.command_answers.specs.InputFiles.{AreHeld, IsFirstUnfit, here, behind, IsOverlong}
+use Rattle.command_answers.specs.Outside.{Shelved, Written, IsSilent, WhereSilent}
+use Rattle.command_answers.specs.Ending.{Ending, well, at_fault, differs}
 use Rattle.alpaca_cli.specs.Products.{IsProduct, AreAccepted}
 use Rattle.alpaca_cli.proofs.LineLaws.{same_call}
-use Rattle.alpaca_cli.proofs.NotRefused.{TextsExclude, not_refused}
+use Rattle.state_commands.proofs.Interface.{TextsExclude}
+use Rattle.alpaca_cli.proofs.NotRefused.{not_refused}
 use Rattle.alpaca_cli.proofs.OneEnding.{one_ending}
 
 -- the words are a line, and this is said of its command
 pub on_line : (status : Status) (call : Call) (words : List (List ℕ)) (shelf : Shelved) (out err : Written)
-    → Says words call → CommandAnswers status call shelf out err → Answers status words shelf out err
+    → Says words call → CommandAnswers status (promise_of call) shelf out err → Answers status words shelf out err
 on_line Done call words shelf out err says a = (call, says, a)
 on_line Refused call words shelf out err says a = (call, says, a)
 on_line Usage call words shelf out err says a = absurd a.2
@@ -31,7 +33,7 @@ on_line Differs call words shelf out err says a = (call, says, a)
 
 -- the same of a command that has no output
 pub on_silent_line : (status : Status) (call : Call) (words : List (List ℕ)) (shelf : Shelved) (out err : Written)
-    → Says words call → IsSilent out → WhereSilent (λ o. CommandAnswers status call shelf o err) → Answers status words shelf out err
+    → Says words call → IsSilent out → WhereSilent (λ o. CommandAnswers status (promise_of call) shelf o err) → Answers status words shelf out err
 on_silent_line status call words shelf out err says silent a = on_line status call words shelf out err says (a out silent)
 
 -- ---- where nothing fails
@@ -73,7 +75,7 @@ before f now old new = record { old = Some f; new = now; counts_old = old; count
 
 -- a whole command is carried out, whichever texts its files hold
 carried_out : HasOneRun → (call : Call) (texts made : List (List ℕ)) (status : Status) (ending : Ending) (shelf : Shelved) (out : Written)
-    → texts ≡ made → status ≡ status_of ending → IsWhole call made ending shelf out → IsCarriedOut call texts status
+    → texts ≡ made → status ≡ status_of ending → IsWhole (promise_of call) made ending shelf out → IsCarriedOut call texts status
 carried_out law call texts made status ending shelf out same said whole =
     let is : IsProduct call texts whole.product = subst (λ t. IsProduct call t whole.product) (sym same) whole.is in
     record {
@@ -85,7 +87,7 @@ carried_out law call texts made status ending shelf out same said whole =
 -- what is said of a command whose files are held, accepted and read, put and written without a failure
 command_complete : HasOneRun → TextsExclude → (status : Status) (call : Call) (texts : List (List ℕ)) (f : Files)
     (now : Option Files) (old new : Counts) (out err : Written) → AreHeld f (reads call) texts → AreAccepted call texts → NothingFailed old new out
-    → CommandAnswers status call (before f now old new) out err → IsCarriedOut call texts status ⊎ (status ≡ OutOfMemory)
+    → CommandAnswers status (promise_of call) (before f now old new) out err → IsCarriedOut call texts status ⊎ (status ≡ OutOfMemory)
 command_complete law exclude Done call texts f now old new out err held is fine a =
     inl (carried_out law call texts a.0 Done well _ out (same_files f (reads call) texts a.0 held a.1) refl a.2.0)
 command_complete law exclude MachineFault call texts f now old new out err held is fine a =
@@ -109,13 +111,13 @@ command_complete law exclude Usage call texts f now old new out err held is fine
 
 -- the same of the words
 of_line : (status : Status) (words : List (List ℕ)) (call : Call) (shelf : Shelved) (out err : Written)
-    → Says words call → OnLine words (λ c. CommandAnswers status c shelf out err) → CommandAnswers status call shelf out err
+    → Says words call → OnLine words (λ c. CommandAnswers status (promise_of c) shelf out err) → CommandAnswers status (promise_of call) shelf out err
 of_line status words call shelf out err says a =
     let same : line_text a.0 ≡ line_text call = ap (λ o. unwrap_or o []) (sym a.1.line ∙ says.line) in
-    subst (λ c. CommandAnswers status c shelf out err) (same_call a.0 call a.1.number says.number same) a.2
+    subst (λ c. CommandAnswers status (promise_of c) shelf out err) (same_call a.0 call a.1.number says.number same) a.2
 
 line_complete : HasOneRun → TextsExclude → (status : Status) (words : List (List ℕ)) (call : Call) (texts : List (List ℕ)) (f : Files)
-    (now : Option Files) (old new : Counts) (out err : Written) → OnLine words (λ c. CommandAnswers status c (before f now old new) out err)
+    (now : Option Files) (old new : Counts) (out err : Written) → OnLine words (λ c. CommandAnswers status (promise_of c) (before f now old new) out err)
     → Says words call → AreHeld f (reads call) texts → AreAccepted call texts → NothingFailed old new out
     → IsCarriedOut call texts status ⊎ (status ≡ OutOfMemory)
 line_complete law exclude status words call texts f now old new out err a says held is fine =

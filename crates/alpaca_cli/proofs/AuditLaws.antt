@@ -4,7 +4,7 @@ use Rattle.std.proofs.lemmas.List.Sums.{sum_by-cons}
 use Rattle.alp_io.specs.declared.report.Reason.{Reason}
 use Rattle.alp_io.specs.declared.report.Reason.TheVariants as reason
 use Rattle.alp_io.specs.Report.{bound_line, end_line}
-use Rattle.image_reports.specs.msp_step.declared.machine.Stop.TheVariants as stop
+use Rattle.fram_board.specs.msp_step.declared.machine.Stop.TheVariants as stop
 use Rattle.energy_trace.specs.TraceValue.{TraceValue}
 use Rattle.energy_trace.specs.Reading.{trace_of}
 use Rattle.fram_board.specs.Run.{End, Charges, Stopped}
@@ -14,16 +14,16 @@ use Rattle.source_values.specs.Runs.{CheckedProgram, State, Transition, EmitsFit
 use Rattle.source_meaning.specs.Laws.{AcceptedTextsRun}
 use Rattle.source_report.specs.SourceReport.{Committed, IsConsecutive, IsEnding, readings_of, source_report}
 use Rattle.source_report.specs.Apart.{AreApart}
-use Rattle.compiled_states.specs.source_runs.Tells.{IsEndOf}
-use Rattle.compiled_states.proofs.source_runs.Interface.{made}
+use Rattle.source_runs.specs.Tells.{IsEndOf}
+use Rattle.source_runs.proofs.Interface.{made}
 use Rattle.report_audit.specs.declared.verdict.Verdict.{Verdict}
 use Rattle.report_audit.specs.declared.verdict.Verdict.TheVariants.{Yes, No}
 use Rattle.report_audit.specs.Good.{IsGoodReport, IsVerdict}
 use Rattle.report_audit.proofs.Interface.{run_on}
 use Rattle.alpaca_cli.specs.Audited.{TriedReportsAreGood, MeanReportsAreGood, TriedReportsAreAnsweredYes, MeanReportsAreAnsweredYes}
-use Rattle.alpaca_cli.specs.Ending.{Ending, well}
-use Rattle.alpaca_cli.specs.Products.{Audits}
-use Rattle.alpaca_cli.specs.Verdicts.{verdict_line, verdict_ending}
+use Rattle.command_answers.specs.Ending.{Ending, well}
+use Rattle.plain_commands.specs.Audit.{Audits}
+use Rattle.plain_commands.specs.Verdicts.{verdict_line, verdict_ending}
 
 -- ---- `try`
 

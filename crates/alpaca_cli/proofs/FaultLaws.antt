@@ -1,18 +1,19 @@
 -- Only the run of an image or a state that was read may meet a machine fault.
 use Rattle.std.proofs.Common.{◌≡◌, ◌∙◌, ℕ, List, [], ◌∷◌, sym}
-use Rattle.image_reports.specs.msp_step.declared.machine.Stop.TheVariants as stop
+use Rattle.fram_board.specs.msp_step.declared.machine.Stop.TheVariants as stop
 use Rattle.fram_board.specs.Run.{End, Charges, Stopped}
 use Rattle.report_audit.specs.declared.verdict.Verdict.{Verdict}
 use Rattle.report_audit.specs.declared.verdict.Verdict.TheVariants.{Yes, No}
-use Rattle.alpaca_cli.specs.declared.status.Status.{Status}
-use Rattle.alpaca_cli.specs.declared.status.Status.TheVariants.{Done, Refused, Usage, Unreadable, Unwritable, OutOfMemory, MachineFault, TooLong, Differs}
+use Rattle.command_answers.specs.declared.status.Status.{Status}
+use Rattle.command_answers.specs.declared.status.Status.TheVariants.{Done, Refused, Usage, Unreadable, Unwritable, OutOfMemory, MachineFault, TooLong, Differs}
 use Rattle.alpaca_cli.specs.Answers.{Answers}
 use Rattle.alpaca_cli.specs.Calls.{Call, mean, try_, build, run, asm, dis, gen, save, resume, migrate, audit, OnLine, IsRun, IsAudit}
-use Rattle.alpaca_cli.specs.Ending.{Ending, well, at_fault, differs}
-use Rattle.alpaca_cli.specs.RunReport.{ending_of}
-use Rattle.alpaca_cli.specs.Verdicts.{verdict_ending}
-use Rattle.alpaca_cli.specs.Outside.{Shelved, Written}
-use Rattle.alpaca_cli.specs.Products.{Product, IsProduct}
+use Rattle.command_answers.specs.Ending.{Ending, well, at_fault, differs}
+use Rattle.plain_commands.specs.RunReport.{ending_of}
+use Rattle.plain_commands.specs.Verdicts.{verdict_ending}
+use Rattle.command_answers.specs.Outside.{Shelved, Written}
+use Rattle.command_answers.specs.Promises.{Product}
+use Rattle.alpaca_cli.specs.Products.{IsProduct}
 
 not_both : (e : Ending) → e ≡ well → e ≡ at_fault → ⊥
 not_both e ends faults = let same : well ≡ at_fault = sym ends ∙ faults in cc

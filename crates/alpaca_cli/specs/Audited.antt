@@ -2,9 +2,11 @@
 use Rattle.std.specs.Prelude.{◌≡◌, ℕ, List}
 use Rattle.report_audit.specs.declared.verdict.Verdict.TheVariants.{Yes}
 use Rattle.report_audit.specs.Good.{IsGoodReport}
-use Rattle.alpaca_cli.specs.Ending.{Ending, well}
-use Rattle.alpaca_cli.specs.Products.{Means, Tries, Audits}
-use Rattle.alpaca_cli.specs.Verdicts.{verdict_line}
+use Rattle.command_answers.specs.Ending.{Ending, well}
+use Rattle.plain_commands.specs.Mean.{Means}
+use Rattle.compiler_commands.specs.Try.{Tries}
+use Rattle.plain_commands.specs.Audit.{Audits}
+use Rattle.plain_commands.specs.Verdicts.{verdict_line}
 
 -- the report of `try` is good, by the source and the trace that it was made of
 abbrev pub TriedReportsAreGood : Type 0

@@ -1,6 +1,18 @@
 -- The program's commands with the names of their files and the number of `gen`, and what their lines are.
-use Rattle.std.specs.Prelude.{◌≡◌, ℕ, ◌^◌, ◌<◌, List, [], ◌∷◌, codes, decimal, Option, Some, None}
+use Rattle.std.specs.Prelude.{◌≡◌, ℕ, ◌^◌, ◌<◌, List, [], ◌∷◌, codes, decimal, Option, Some}
 use Rattle.command_line.specs.CommandLine.{line_of}
+use Rattle.command_answers.specs.Promises.{Promise}
+use Rattle.plain_commands.specs.Mean.{mean_promise}
+use Rattle.plain_commands.specs.Run.{run_promise}
+use Rattle.plain_commands.specs.Asm.{asm_promise}
+use Rattle.plain_commands.specs.Dis.{dis_promise}
+use Rattle.plain_commands.specs.Audit.{audit_promise}
+use Rattle.compiler_commands.specs.Build.{build_promise}
+use Rattle.compiler_commands.specs.Try.{try_promise}
+use Rattle.compiler_commands.specs.Gen.{gen_promise}
+use Rattle.state_commands.specs.Saved.{save_promise}
+use Rattle.state_commands.specs.Resumed.{resume_promise}
+use Rattle.state_commands.specs.Migrated.{migrate_promise}
 
 -- a command, with what stands on its line, in order
 pub data Call : Type 0 where
@@ -31,38 +43,27 @@ line_text (migrate source image state new_source new_image new_state) =
     codes "migrate" ∷ source ∷ image ∷ state ∷ new_source ∷ new_image ∷ new_state ∷ []
 line_text (audit source report trace) = codes "audit" ∷ source ∷ report ∷ trace ∷ []
 
+-- what it promises
+abbrev pub promise_of : Call → Promise
+promise_of (mean source trace) = mean_promise source trace
+promise_of (try_ source trace image) = try_promise source trace image
+promise_of (build source image) = build_promise source image
+promise_of (run image trace) = run_promise image trace
+promise_of (asm assembly image) = asm_promise assembly image
+promise_of (dis image) = dis_promise image
+promise_of (gen number image) = gen_promise number image
+promise_of (save image trace state) = save_promise image trace state
+promise_of (resume image state trace) = resume_promise image state trace
+promise_of (migrate source image state new_source new_image new_state) = migrate_promise source image state new_source new_image new_state
+promise_of (audit source report trace) = audit_promise source report trace
+
 -- the names of the files that it reads, in order
 abbrev pub reads : Call → List (List ℕ)
-reads (mean source trace) = source ∷ trace ∷ []
-reads (try_ source trace image) = source ∷ trace ∷ []
-reads (build source image) = source ∷ []
-reads (run image trace) = image ∷ trace ∷ []
-reads (asm assembly image) = assembly ∷ []
-reads (dis image) = image ∷ []
-reads (gen number image) = []
-reads (save image trace state) = image ∷ trace ∷ []
-reads (resume image state trace) = image ∷ state ∷ trace ∷ []
-reads (migrate source image state new_source new_image new_state) = source ∷ image ∷ state ∷ new_source ∷ new_image ∷ []
-reads (audit source report trace) = source ∷ report ∷ trace ∷ []
+reads call = (promise_of call).reads
 
--- the names of the texts that it may refuse, in order: those of its files, and of the generated source, which stands in none
-abbrev pub judges : Call → List (List ℕ)
-judges (gen number image) = codes "gen" ∷ []
-judges call = reads call
-
--- the name of the file that it puts, if it puts one; `save` puts none where its run ends at a machine fault
+-- the name of the file that it puts, if it puts one
 abbrev pub puts : Call → Option (List ℕ)
-puts (mean source trace) = None
-puts (try_ source trace image) = Some image
-puts (build source image) = Some image
-puts (run image trace) = None
-puts (asm assembly image) = Some image
-puts (dis image) = None
-puts (gen number image) = Some image
-puts (save image trace state) = Some state
-puts (resume image state trace) = None
-puts (migrate source image state new_source new_image new_state) = Some new_state
-puts (audit source report trace) = None
+puts call = (promise_of call).puts
 
 -- it audits a report
 abbrev pub IsAudit : Call → Type 0

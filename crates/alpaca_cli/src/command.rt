@@ -2,29 +2,20 @@
 ghost use Rattle.std.specs.Prelude.{◌≡◌, ℕ, List, ◌≤◌, ◌⊎◌, map, string_bytes, IfSome};
 ghost use Rattle.alp_io.specs.Count.{Rose};
 ghost use Rattle.alp_io.specs.Shelf.{NeverFall};
-ghost use Rattle.alpaca_cli.specs.InputFiles.{AreHeld};
+ghost use Rattle.command_answers.specs.InputFiles.{AreHeld};
 ghost use Rattle.alpaca_cli.specs.Calls.{Call, IsAudit, IsRun, OnLine, Says, reads};
 ghost use Rattle.alpaca_cli.specs.Products.{AreAccepted};
 ghost use Rattle.alpaca_cli.specs.Answers.{Answers, IsCarriedOut, OthersStand};
 
-use crate::asm::answer_asm;
-use crate::audits::{AuditNames, answer_audit};
-use crate::build::answer_build;
-use crate::dis::answer_dis;
-use crate::generate::answer_gen;
-use crate::mean::answer_mean;
-use crate::messages;
-use crate::migrate::{MigrateNames, answer_migrate};
-use crate::resume::answer_resume;
-use crate::run::answer_run;
-use crate::save::answer_save;
-use crate::status::Status;
-use crate::try_::answer_try;
 use alp_io::{Shelf, Sink};
+use command_answers::{Status, messages};
 use command_line::{Command, WordsFault, command_of};
+use compiler_commands::{answer_build, answer_gen, answer_try};
 use fram_board::board_has_one_run;
 use fram_state::{answers_are_one, no_migration_is_refused};
+use plain_commands::{AuditNames, answer_asm, answer_audit, answer_dis, answer_mean, answer_run};
 use source_meaning::one_answer;
+use state_commands::{MigrateNames, answer_migrate, answer_resume, answer_save};
 use std::alloc::Global;
 
 // The answer to the words.

@@ -1,6 +1,6 @@
 use Rattle.std.proofs.Common.{[], None, inl, refl}
 use Rattle.alp_io.specs.Shelf.{Counts}
-use Rattle.alpaca_cli.specs.Outside.{Shelved}
+use Rattle.command_answers.specs.Outside.{Shelved}
 use Rattle.alpaca_cli.proofs.arguments.answer_arguments.Goals as goal
 
 abbrev no_fault : Counts

@@ -1,5 +1,0 @@
-use Rattle.alpaca_cli.proofs.AssemblyLaws.{fails_assembly}
-use Rattle.alpaca_cli.proofs.assemblies.assembly_of.Goals as goal
-
-pub returns-in-Err-clause-refused : goal.returns-in-Err-clause-refused
-returns-in-Err-clause-refused c = fails_assembly _ _ _ _ c.in-Err.ensures.value c.failure_of.ensures

@@ -1,6 +1,0 @@
-use Rattle.alpaca_cli.proofs.TrialLaws.{is_told}
-use Rattle.alpaca_cli.proofs.built.image_is_told.Goals as goal
-
-pub returns : goal.returns
-returns c =
-    is_told c.images_are_told.ensures c.board_has_one_run.ensures.exists _ _ _ _ c.requires.accepted c.requires.compiled

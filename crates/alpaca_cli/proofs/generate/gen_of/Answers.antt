@@ -1,5 +1,0 @@
-use Rattle.alpaca_cli.proofs.StatusLaws.{of_failure}
-use Rattle.alpaca_cli.proofs.generate.gen_of.Goals as goal
-
-pub returns-in-Err-clause-answers : goal.returns-in-Err-clause-answers
-returns-in-Err-clause-answers g c = of_failure _ _ _ _ _ _ _ c.answer_failure.ensures.told c.in-Err.ensures.failure

@@ -1,6 +1,0 @@
-use Rattle.alpaca_cli.specs.Messages.{too_long_line}
-use Rattle.alpaca_cli.proofs.messages.tell_too_long.Goals as goal
-
-pub returns-clause-line : goal.returns-clause-line
-unfolding too_long_line
-returns-clause-line g c = rw c.as_bytes.ensures.value at c.tell.ensures.line

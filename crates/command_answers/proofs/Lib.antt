@@ -1,0 +1,7 @@
+mod FailureLaws
+mod PutLaws
+mod Refused
+mod ShelfLaws
+mod StatusLaws
+mod UnreadFiles
+pub mod Interface

@@ -1,0 +1,11 @@
+pub mod CommandAnswers
+pub mod Ending
+pub mod InputFiles
+pub mod Messages
+pub mod Outcomes
+pub mod Outside
+pub mod Promises
+pub mod Refusals
+pub mod Status
+pub mod Told
+pub mod Views

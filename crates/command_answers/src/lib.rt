@@ -1,0 +1,17 @@
+//! What every command shares: its files read in order and put, its texts refused in order, and its status with the one line to standard error.
+#![tactic(auto)]
+
+mod answers;
+mod failure;
+mod inputs;
+pub mod messages;
+mod puts;
+mod refusal;
+mod status;
+
+pub use answers::{answer_failure, answer_unread};
+pub use failure::{Failure, refused_plainly};
+pub use inputs::{Texts, ThreeTexts, Unread, read_file, read_texts, read_three_texts};
+pub use puts::put_file;
+pub use refusal::{Detail, Refusal, named, plain};
+pub use status::Status;

@@ -1,0 +1,5 @@
+mod AssemblyLaws
+mod OneReading
+mod SourceLaws
+mod TraceLaws
+pub mod Interface

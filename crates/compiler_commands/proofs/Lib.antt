@@ -1,0 +1,4 @@
+mod GenLaws
+mod GenLines
+mod PutLaws
+mod TrialLaws

@@ -1,0 +1,50 @@
+-- What `build` and `try` make, whose source keeps its text.
+use Rattle.std.proofs.Common.{◌≡◌, ℕ, List, Ok, sym, subst}
+use Rattle.alp_io.specs.Report.{bound_line}
+use Rattle.cost_bound.specs.declared.allowance.Allow.{Allow}
+use Rattle.energy_trace.specs.TraceValue.{TraceValue}
+use Rattle.energy_trace.specs.Reading.{trace_of}
+use Rattle.image_text.specs.ImageValue.{ImageValue}
+use Rattle.source_values.specs.Runs.{CheckedProgram}
+use Rattle.source_meaning.specs.Acceptance.{IsAcceptedText}
+use Rattle.command_answers.specs.Ending.{well}
+use Rattle.compiler_commands.specs.Build.{IsBuilt, Builds}
+use Rattle.compiler_commands.specs.Try.{Tries}
+use Rattle.image_reports.specs.source_runs.Traces.{IsTraceOfWords}
+use Rattle.image_reports.specs.ImageLaw.{ImagesKeepTheLaws}
+use Rattle.plain_commands.specs.RunReport.{IsRunReport}
+use Rattle.compiler_commands.specs.ToldRuns.{IsTold}
+
+pub builds : ImagesKeepTheLaws → (source text file : List ℕ) (p : CheckedProgram) (allow : Allow) (image : ImageValue) → text ≡ source
+    → IsAcceptedText source p allow → (built : IsBuilt text p allow image file)
+    → ((trace : TraceValue) → IsTraceOfWords trace → IsTold text p built.map image trace)
+    → (output : List ℕ) → output ≡ bound_line allow.cycles → Builds source file output
+builds law source text file p allow image kept accepted built told output bound =
+    let own = subst (λ x. IsAcceptedText x p allow) (sym kept) accepted in
+    let made : Builds text file output = record {
+      program = p;
+      allow = allow;
+      image = image;
+      accepted = own;
+      built = built;
+      bound = bound;
+      told = told;
+      lawful = law text p allow image own built.compiled;
+    } in subst (λ x. Builds x file output) kept made
+
+pub tries : (source trace text file : List ℕ) (p : CheckedProgram) (allow : Allow) (image : ImageValue) (charges : TraceValue) → text ≡ source
+    → IsAcceptedText source p allow → trace_of trace ≡ Ok charges → (built : IsBuilt text p allow image file)
+    → IsTold text p built.map image charges
+    → (output : List ℕ) → IsRunReport image charges well output → Tries source trace file output
+tries source trace text file p allow image charges kept accepted said built told output report =
+    let tried : Tries text trace file output = record {
+      program = p;
+      allow = allow;
+      image = image;
+      charges = charges;
+      accepted = subst (λ x. IsAcceptedText x p allow) (sym kept) accepted;
+      trace_said = said;
+      built = built;
+      report = report;
+      told = told.told output report;
+    } in subst (λ x. Tries x trace file output) kept tried

@@ -1,0 +1,5 @@
+use Rattle.command_answers.proofs.Interface.{of_failure}
+use Rattle.compiler_commands.proofs.generate.gen_of.Goals as goal
+
+pub returns-in-Err-clause-answers : goal.returns-in-Err-clause-answers
+returns-in-Err-clause-answers g c = of_failure _ _ _ _ _ _ _ c.answer_failure.ensures.told c.in-Err.ensures.failure

@@ -1,0 +1,45 @@
+-- What `gen` makes of its number.
+use Rattle.std.specs.Prelude.{◌≡◌, ℕ, List, [], ◌∷◌, Some, IsSomeAnd, codes}
+use Rattle.image_text.specs.ImageValue.{ImageValue}
+use Rattle.fram_board.specs.Board.{fresh}
+use Rattle.fram_board.specs.Run.{RunOutcome, Run}
+use Rattle.board_run.specs.Charges.{charges_of}
+use Rattle.board_run.specs.History.{start_of}
+use Rattle.board_run.specs.Report.{report_of}
+use Rattle.cost_bound.specs.declared.allowance.Allow.{Allow}
+use Rattle.source_meaning.specs.Acceptance.{IsAcceptedText}
+use Rattle.source_values.specs.Runs.{CheckedProgram}
+use Rattle.image_reports.specs.source_runs.Tells.{IsToldBySource}
+use Rattle.source_generator.specs.Source.{generated_text}
+use Rattle.source_generator.specs.Trace.{generated_trace}
+use Rattle.alpaca_cli.specs.Calls.{run}
+use Rattle.command_answers.specs.Ending.{well}
+use Rattle.compiler_commands.specs.Generated.{generated_lines}
+use Rattle.command_texts.specs.Sources.{RefusesSource, SaysSource}
+use Rattle.command_answers.specs.Promises.{Promise, OfNoText}
+use Rattle.compiler_commands.specs.Build.{IsBuilt}
+
+-- These bytes are the image text of the image of the source that is generated from the number. It has one run on the number's trace for
+-- its bound, of which the source tells, and these are the four lines of that run.
+pub record Generates (number : ℕ) (file output : List ℕ) : Type 0 where
+  pub program : CheckedProgram
+  pub allow : Allow
+  pub image : ImageValue
+  pub outcome : RunOutcome
+  pub accepted : IsAcceptedText (generated_text number) program allow
+  pub built : IsBuilt (generated_text number) program allow image file
+  pub run : let trace = generated_trace number allow.cycles in Run (charges_of trace.charges) (fresh image.words trace.readings) outcome
+  pub told : let trace = generated_trace number allow.cycles in IsToldBySource (generated_text number) program built.map (charges_of trace.charges)
+      (fresh image.words trace.readings) outcome (report_of (start_of image) outcome)
+  pub lines : output ≡ generated_lines number allow.cycles (start_of image) outcome
+
+-- What it promises. The text of the generated source, which stands in no file, is told of as `gen`.
+abbrev pub gen_promise : (number : ℕ) (image : List ℕ) → Promise
+gen_promise number image = record {
+  reads = [];
+  judges = codes "gen" ∷ [];
+  puts = Some image;
+  takes = OfNoText (SaysSource (generated_text number));
+  makes = λ texts p. OfNoText (IsSomeAnd p.file (λ file. Generates number file p.output) × (p.ending ≡ well)) texts;
+  refuses = λ texts place r. OfNoText (RefusesSource (generated_text number) r × (place ≡ 0)) texts;
+}

@@ -1,0 +1,5 @@
+pub mod Build
+pub mod Gen
+pub mod Generated
+pub mod ToldRuns
+pub mod Try

@@ -1,0 +1,25 @@
+-- What the source tells of the run of an image.
+use Rattle.std.specs.Prelude.{◌≡◌, ℕ, List, Some}
+use Rattle.energy_trace.specs.TraceValue.{TraceValue}
+use Rattle.source_values.specs.Runs.{CheckedProgram}
+use Rattle.image_reports.specs.image_map.MapValue.{MapValue}
+use Rattle.image_text.specs.ImageValue.{ImageValue}
+use Rattle.fram_board.specs.Board.{fresh}
+use Rattle.board_run.specs.Charges.{charges_of}
+use Rattle.image_reports.specs.source_runs.Traces.{IsTraceOfWords}
+use Rattle.image_reports.specs.source_runs.Tells.{IsToldBySource}
+use Rattle.command_answers.specs.Ending.{Ending, well}
+use Rattle.plain_commands.specs.RunReport.{IsRunReport}
+
+-- An image with this map has a report of its run on a trace; and each such report ends well, and is what the source tells of that run.
+pub record IsTold (source : List ℕ) (program : CheckedProgram) (m : MapValue) (image : ImageValue) (trace : TraceValue) : Type 0 where
+  pub output : List ℕ
+  pub report : IsRunReport image trace well output
+  pub ends_well : (ending : Ending) (text : List ℕ) → IsRunReport image trace ending text → ending ≡ well
+  pub told : (text : List ℕ) (r : IsRunReport image trace well text)
+      → IsToldBySource source program m (charges_of trace.charges) (fresh image.words trace.readings) r.outcome text
+
+-- the same on any trace, by the map that the image has
+abbrev pub IsToldOnTraces : List ℕ → CheckedProgram → ImageValue → Type 0
+IsToldOnTraces source program image = (m : MapValue) → image.map ≡ Some m → (trace : TraceValue) → IsTraceOfWords trace
+    → IsTold source program m image trace

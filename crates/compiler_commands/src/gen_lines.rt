@@ -1,0 +1,74 @@
+//! The four lines of `gen`.
+ghost use Rattle.alp_io.specs.Count.{HasCause};
+ghost use Rattle.alp_io.specs.Report.{bound_line};
+ghost use Rattle.alp_io.specs.Sink.{Writes};
+ghost use Rattle.compiler_commands.specs.Generated.{ended_line, four_lines, number_line, sum_line};
+
+use alp_io::{Failed, Report, Sink, write_pieces};
+use alp_text::print_u64;
+use board_run::{RunEnd, Watch};
+use fram_board::Board;
+use plain_commands::reason_of;
+
+#[tactic(auto, unfolding(crate::specs::Generated::number_line))]
+fn write_number<O: Sink>(out: &mut O, number: u32) -> Result<(), Failed>
+    ensures bytes { Writes (O.contents out.old) (O.contents out.new) result (number_line number) }
+    ensures cause { HasCause (O.faults out.old) (O.faults out.new) result }
+{
+    let number = print_u64(number as u64);
+    write_pieces(out, &[b"gen ", number.as_bytes(), b"\n"])
+}
+
+/// Writes the line of a bound. Takes no memory.
+pub fn write_bound<O: Sink>(out: &mut O, bound: u32) -> Result<(), Failed>
+    ensures bytes { Writes (O.contents out.old) (O.contents out.new) result (bound_line bound) }
+    ensures cause { HasCause (O.faults out.old) (O.faults out.new) result }
+{
+    let mut report = Report::new(out);
+    report.bound(bound)
+}
+
+fn write_end<O: Sink>(
+    out: &mut O,
+    end: RunEnd,
+    board: &Board,
+    watch: &Watch<'_>,
+) -> Result<(), Failed>
+    ensures bytes { Writes (O.contents out.old) (O.contents out.new) result (ended_line end board.now watch.now) }
+    ensures cause { HasCause (O.faults out.old) (O.faults out.new) result }
+{
+    let mut report = Report::new(out);
+    report.end(
+        reason_of(end),
+        watch.completed(),
+        board.accepted(),
+        board.repeats(),
+    )
+}
+
+#[tactic(auto, unfolding(crate::specs::Generated::sum_line))]
+fn write_sum<O: Sink>(out: &mut O, sum: u16) -> Result<(), Failed>
+    ensures bytes { Writes (O.contents out.old) (O.contents out.new) result (sum_line sum) }
+    ensures cause { HasCause (O.faults out.old) (O.faults out.new) result }
+{
+    let sum = print_u64(sum as u64);
+    write_pieces(out, &[b"sum ", sum.as_bytes(), b"\n"])
+}
+
+/// Writes the number, the bound, how a run ended by the board and the watch at its end, and the watch's sum. Takes no memory.
+pub fn write_lines<O: Sink>(
+    out: &mut O,
+    numbers: (u32, u32),
+    end: RunEnd,
+    board: &Board,
+    watch: &Watch<'_>,
+) -> Result<(), Failed>
+    ensures bytes { Writes (O.contents out.old) (O.contents out.new) result
+        (four_lines numbers.0 numbers.1 (ended_line end board.now watch.now) watch.now) }
+    ensures cause { HasCause (O.faults out.old) (O.faults out.new) result }
+{
+    write_number(out, numbers.0)?;
+    write_bound(out, numbers.1)?;
+    write_end(out, end, board, watch)?;
+    write_sum(out, watch.sum())
+}

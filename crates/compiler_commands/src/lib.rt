@@ -1,0 +1,12 @@
+//! The commands that compile: `build`, `try` and `gen`.
+#![tactic(auto)]
+
+mod build;
+mod built;
+mod gen_lines;
+mod generate;
+mod try_;
+
+pub use build::answer_build;
+pub use generate::answer_gen;
+pub use try_::answer_try;

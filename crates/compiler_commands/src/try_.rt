@@ -1,0 +1,166 @@
+//! `try SRC TRACE IMAGE`: the image of a source, put as an image text, and the report of its run on the trace.
+ghost use Rattle.std.specs.Prelude.{◌≡◌, ◌<◌, ◌≤◌, ◌^◌, ◌∷◌, [], ℕ, List, IfOk, IfErr, length};
+ghost use Rattle.alp_io.specs.Shelf.{NeverFall};
+ghost use Rattle.command_answers.specs.Ending.{Ending, well};
+ghost use Rattle.compiler_commands.specs.Try.{Tries, try_promise};
+ghost use Rattle.plain_commands.specs.RunReport.{IsReportFrom, IsRunReport};
+ghost use Rattle.command_answers.specs.CommandAnswers.{CommandAnswers, IsWhole, TextAnswers};
+ghost use Rattle.command_answers.specs.Outcomes.{Breaks, FailsBy, Gains};
+
+use crate::built::{Built, built_of};
+use alp_io::{Failed, Shelf, Sink};
+use board_run::Watch;
+use command_answers::{Failure, Status, answer_failure, answer_unread, put_file, read_texts};
+use command_texts::{source_of, trace_of};
+use energy_trace::Trace;
+use fram_board::Board;
+use plain_commands::{RunEnding, write_report};
+use std::alloc::Global;
+
+// Writes the report of a board's run that ends well. Takes no memory.
+fn write_trial<O: Sink>(
+    out: &mut O,
+    trace: &Trace,
+    board: &mut Board,
+    watch: &mut Watch<'_>,
+) -> Result<(), Failed>
+    requires accepted { board.old.receiver.accepted < 2 ^ 63 }
+    requires repeats { board.old.receiver.repeats < 2 ^ 63 }
+    requires ends_well { (ending : Ending) (output : List ℕ) → IsReportFrom board.old watch.old trace.now ending output → ending ≡ well }
+    ensures faults { O.faults out.old ≤ O.faults out.new }
+    ensures whole { IfOk result (λ _. Gains
+        (record { old = O.contents out.old; new = O.contents out.new; faults_old = O.faults out.old; faults_new = O.faults out.new })
+        (IsReportFrom board.old watch.old trace.now well)) }
+    ensures failure { IfErr result (λ _. Breaks
+        (record { old = O.contents out.old; new = O.contents out.new; faults_old = O.faults out.old; faults_new = O.faults out.new })
+        (IsReportFrom board.old watch.old trace.now well)) }
+{
+    match write_report(out, trace, board, watch)? {
+        RunEnding::Well => Ok(()),
+        RunEnding::AtFault => unreachable!(),
+    }
+}
+
+// Puts the image of a source, and writes the report of its run on the trace. All memory but that of the put is taken before it.
+fn put_trial<'t, H: Shelf, O: Sink>(
+    alloc: Global,
+    names: (&'t str, &'t str, &'t str),
+    texts: (&[u8], &[u8]),
+    built: &Built,
+    trace: &Trace,
+    shelf: &mut H,
+    out: &mut O,
+) -> Result<(), Failure<'t>>
+    requires tries { (output : List ℕ) → IsRunReport built.now.image trace.now well output
+        → Tries texts.0.now texts.1.now built.now.text.items output }
+    requires report { (output : List ℕ) × IsRunReport built.now.image trace.now well output }
+    requires ends_well { (ending : Ending) (output : List ℕ) → IsRunReport built.now.image trace.now ending output → ending ≡ well }
+    ensures counts { NeverFall (H.counts shelf.old) (H.counts shelf.new) }
+    ensures faults { O.faults out.old ≤ O.faults out.new }
+    ensures whole { IfOk result (λ _. IsWhole (try_promise names.entry.0.now names.entry.1.now names.entry.2.now) (texts.entry.0.now ∷ texts.entry.1.now ∷ [])
+        well
+        (record { old = H.files shelf.old; new = H.files shelf.new; counts_old = H.counts shelf.old; counts_new = H.counts shelf.new })
+        (record { old = O.contents out.old; new = O.contents out.new; faults_old = O.faults out.old; faults_new = O.faults out.new })) }
+    ensures failure { IfErr result (λ e. FailsBy e (try_promise names.entry.0.now names.entry.1.now names.entry.2.now)
+        (texts.entry.0.now ∷ texts.entry.1.now ∷ [])
+        (record { old = H.files shelf.old; new = H.files shelf.new; counts_old = H.counts shelf.old; counts_new = H.counts shelf.new })
+        (record { old = O.contents out.old; new = O.contents out.new; faults_old = O.faults out.old; faults_new = O.faults out.new })) }
+{
+    let _ = texts;
+    let Ok(mut board) = Board::new(alloc, &built.image, trace.readings()) else {
+        return Err(Failure::Memory);
+    };
+    let Ok(mut watch) = Watch::new(alloc, &built.image) else {
+        return Err(Failure::Memory);
+    };
+    put_file(alloc, shelf, names.2, built.text.as_slice())?;
+    match write_trial(out, trace, &mut board, &mut watch) {
+        Ok(()) => Ok(()),
+        Err(Failed) => Err(Failure::Write),
+    }
+}
+
+/// Puts the image of the source, and writes the report of its run on the trace. All memory but that of the put is taken before it.
+///
+/// # Errors
+/// `Refused` for the first text that is refused, `Memory` where memory was refused; no file is changed and nothing is written then.
+/// `Put` where the put failed, and the file of the image may hold anything or be absent. `Write` where a write failed behind it, and
+/// the output gained a proper prefix of the report.
+pub fn try_texts<'t, H: Shelf, O: Sink>(
+    alloc: Global,
+    names: (&'t str, &'t str, &'t str),
+    texts: (&'t [u8], &[u8]),
+    shelf: &mut H,
+    out: &mut O,
+) -> Result<(), Failure<'t>>
+    requires source { length texts.0.now ≤ 1048576 }
+    requires trace { length texts.1.now ≤ 1048576 }
+    ensures counts { NeverFall (H.counts shelf.old) (H.counts shelf.new) }
+    ensures faults { O.faults out.old ≤ O.faults out.new }
+    ensures whole { IfOk result (λ _. IsWhole (try_promise names.entry.0.now names.entry.1.now names.entry.2.now) (texts.entry.0.now ∷ texts.entry.1.now ∷ [])
+        well
+        (record { old = H.files shelf.old; new = H.files shelf.new; counts_old = H.counts shelf.old; counts_new = H.counts shelf.new })
+        (record { old = O.contents out.old; new = O.contents out.new; faults_old = O.faults out.old; faults_new = O.faults out.new })) }
+    ensures failure { IfErr result (λ e. FailsBy e (try_promise names.entry.0.now names.entry.1.now names.entry.2.now)
+        (texts.entry.0.now ∷ texts.entry.1.now ∷ [])
+        (record { old = H.files shelf.old; new = H.files shelf.new; counts_old = H.counts shelf.old; counts_new = H.counts shelf.new })
+        (record { old = O.contents out.old; new = O.contents out.new; faults_old = O.faults out.old; faults_new = O.faults out.new })) }
+{
+    let source = source_of(alloc, names.0, texts.0)?;
+    let trace = trace_of(alloc, names.1, texts.1)?;
+    let built = built_of(alloc, &source)?;
+    put_trial(alloc, names, texts, &built, &trace, shelf, out)
+}
+
+fn try_of<H: Shelf, O: Sink, E: Sink>(
+    alloc: Global,
+    names: (&str, &str, &str),
+    texts: (&[u8], &[u8]),
+    shelf: &mut H,
+    out: &mut O,
+    err: &mut E,
+) -> Status
+    requires source { length texts.0.now ≤ 1048576 }
+    requires trace { length texts.1.now ≤ 1048576 }
+    ensures counts { NeverFall (H.counts shelf.old) (H.counts shelf.new) }
+    ensures out_faults { O.faults out.old ≤ O.faults out.new }
+    ensures err_faults { E.faults err.old ≤ E.faults err.new }
+    ensures answers { TextAnswers result (try_promise names.entry.0.now names.entry.1.now names.entry.2.now) (texts.entry.0.now ∷ texts.entry.1.now ∷ [])
+        (record { old = H.files shelf.old; new = H.files shelf.new; counts_old = H.counts shelf.old; counts_new = H.counts shelf.new })
+        (record { old = O.contents out.old; new = O.contents out.new; faults_old = O.faults out.old; faults_new = O.faults out.new })
+        (record { old = E.contents err.old; new = E.contents err.new; faults_old = E.faults err.old; faults_new = E.faults err.new }) }
+{
+    match try_texts(alloc, names, texts, shelf, out) {
+        Ok(()) => Status::Done,
+        Err(failure) => answer_failure(err, failure),
+    }
+}
+
+/// The answer to `try SRC TRACE IMAGE`.
+pub fn answer_try<H: Shelf, O: Sink, E: Sink>(
+    alloc: Global,
+    names: (&str, &str, &str),
+    shelf: &mut H,
+    out: &mut O,
+    err: &mut E,
+) -> Status
+    ensures counts { NeverFall (H.counts shelf.old) (H.counts shelf.new) }
+    ensures out_faults { O.faults out.old ≤ O.faults out.new }
+    ensures err_faults { E.faults err.old ≤ E.faults err.new }
+    ensures answers { CommandAnswers result (try_promise names.entry.0.now names.entry.1.now names.entry.2.now)
+        (record { old = H.files shelf.old; new = H.files shelf.new; counts_old = H.counts shelf.old; counts_new = H.counts shelf.new })
+        (record { old = O.contents out.old; new = O.contents out.new; faults_old = O.faults out.old; faults_new = O.faults out.new })
+        (record { old = E.contents err.old; new = E.contents err.new; faults_old = E.faults err.old; faults_new = E.faults err.new }) }
+{
+    match read_texts(alloc, shelf, names.0, names.1) {
+        Ok(texts) => try_of(
+            alloc,
+            names,
+            (texts.first.as_slice(), texts.second.as_slice()),
+            shelf,
+            out,
+            err,
+        ),
+        Err(unread) => answer_unread(err, unread),
+    }
+}

@@ -1,0 +1,6 @@
+mod CommandLaws
+mod NotRefused
+mod OneEnding
+mod Reports
+mod RunLaws
+pub mod Interface

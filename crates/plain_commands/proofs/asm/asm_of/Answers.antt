@@ -1,0 +1,9 @@
+use Rattle.std.proofs.Common.{refl}
+use Rattle.command_answers.proofs.Interface.{of_failure}
+use Rattle.plain_commands.proofs.asm.asm_of.Goals as goal
+
+pub returns-in-Ok-clause-answers : goal.returns-in-Ok-clause-answers
+returns-in-Ok-clause-answers g c = λ out silent. (c.in-Ok.ensures.whole out silent, refl)
+
+pub returns-in-Err-clause-answers : goal.returns-in-Err-clause-answers
+returns-in-Err-clause-answers g c = λ out silent. of_failure _ _ _ _ _ _ _ c.answer_failure.ensures.told (c.in-Err.ensures.failure out silent)

@@ -1,0 +1,9 @@
+use Rattle.std.proofs.Common.{refl}
+use Rattle.command_answers.proofs.Interface.{of_texts, of_unread}
+use Rattle.plain_commands.proofs.audits.answer_audit.Goals as goal
+
+pub returns-in-Ok-clause-answers : goal.returns-in-Ok-clause-answers
+returns-in-Ok-clause-answers g c = of_texts _ _ _ _ _ _ c.in-Ok.ensures.held (c.audit_of.ensures.answers _ c.in-Ok.ensures.same)
+
+pub returns-in-Err-clause-answers : goal.returns-in-Err-clause-answers
+returns-in-Err-clause-answers g c = of_unread _ _ _ _ _ _ c.answer_unread.ensures.told c.in-Err.ensures.unread c.in-Err.ensures.same refl

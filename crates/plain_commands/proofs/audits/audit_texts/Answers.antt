@@ -1,0 +1,46 @@
+use Rattle.std.proofs.Common.{refl}
+use Rattle.plain_commands.specs.Audit.{the_audits_source, the_audits_trace}
+use Rattle.command_answers.proofs.Interface.{handed_on, refusal_fails, memory_fails}
+use Rattle.plain_commands.proofs.CommandLaws.{audit_product}
+use Rattle.plain_commands.proofs.audits.audit_texts.Goals as goal
+
+pub returns-in_err-source-clause-failure : goal.returns-in_err-source-clause-failure
+returns-in_err-source-clause-failure g c =
+    handed_on _ _ _ c.from_residual.ensures
+    (λ shelf stands. refusal_fails _ _ _ _ _ 0 _ _ refl (λ r no. the_audits_source r no) stands refl c.in_err-source.ensures.refused)
+
+pub returns-in_err-trace-clause-failure : goal.returns-in_err-trace-clause-failure
+returns-in_err-trace-clause-failure g c =
+    handed_on _ _ _ c.from_residual-in_err-trace.ensures
+    (λ shelf stands. refusal_fails _ _ _ _ _ 2 _ _ refl (λ r no. the_audits_trace _ r c.in_ok-source.ensures.said no) stands refl
+    c.in_err-trace.ensures.refused)
+
+pub returns-in_err-verdict-clause-failure : goal.returns-in_err-verdict-clause-failure
+returns-in_err-verdict-clause-failure g c =
+    handed_on _ _ _ c.from_residual-in_err-verdict.ensures
+    (λ shelf stands. memory_fails _ _ _ _ _ c.in_err-verdict.ensures.memory stands refl)
+
+pub verdict_of-requires-clause-accepted : goal.verdict_of-requires-clause-accepted
+verdict_of-requires-clause-accepted g c = rw c.in_ok-source.ensures.text c.in_ok-source.ensures.accepted
+
+pub returns-in-Ok-clause-whole : goal.returns-in-Ok-clause-whole
+returns-in-Ok-clause-whole g c = λ shelf stands. record {
+  product = _;
+  is = audit_product c.args.names.source.now c.args.names.report.now c.args.names.trace.now _ _ _ _ _ _ _ _
+      c.in_ok-source.ensures.text c.in_ok-source.ensures.accepted c.in_ok-source.ensures.only
+      c.in_ok-trace.ensures.said c.in_ok-verdict.ensures.says;
+  ends = refl;
+  put = stands;
+  written = c.in-Ok.ensures.bytes.whole;
+}
+
+pub returns-clause-failure : goal.returns-clause-failure
+returns-clause-failure g c = λ shelf stands. record {
+  product = _;
+  is = audit_product c.args.names.source.now c.args.names.report.now c.args.names.trace.now _ _ _ _ _ _ _ _
+      c.in_ok-source.ensures.text c.in_ok-source.ensures.accepted c.in_ok-source.ensures.only
+      c.in_ok-trace.ensures.said c.in_ok-verdict.ensures.says;
+  put = stands;
+  written = c.in-Err.ensures.bytes.part;
+  failed = c.in-Err.ensures.cause.failed;
+}

@@ -1,0 +1,17 @@
+use Rattle.std.proofs.Common.{refl}
+use Rattle.command_answers.proofs.Interface.{of_failure}
+use Rattle.plain_commands.proofs.CommandLaws.{whole_as}
+use Rattle.plain_commands.proofs.run.run_of.Goals as goal
+
+pub returns-in-Ok-Well-clause-answers : goal.returns-in-Ok-Well-clause-answers
+returns-in-Ok-Well-clause-answers g c = λ shelf stands.
+    (whole_as _ _ _ _ _ _ c.in-Ok-Well.field-0-is (c.in-Ok-Well.ensures.whole shelf stands), refl)
+
+pub returns-in-Ok-AtFault-clause-answers : goal.returns-in-Ok-AtFault-clause-answers
+returns-in-Ok-AtFault-clause-answers g c = λ shelf stands. (
+  whole_as _ _ _ _ _ _ c.in-Ok-AtFault.field-0-is (c.in-Ok-AtFault.ensures.whole shelf stands),
+  c.tell_machine_fault.ensures.line,
+)
+
+pub returns-in-Err-clause-answers : goal.returns-in-Err-clause-answers
+returns-in-Err-clause-answers g c = λ shelf stands. of_failure _ _ _ _ _ _ _ c.answer_failure.ensures.told (c.in-Err.ensures.failure shelf stands)

@@ -1,0 +1,45 @@
+-- What `audit` makes of its texts.
+use Rattle.std.specs.Prelude.{◌≡◌, ℕ, List, [], ◌∷◌, None, Ok}
+use Rattle.energy_trace.specs.TraceValue.{TraceValue}
+use Rattle.energy_trace.specs.Reading.{trace_of}
+use Rattle.cost_bound.specs.declared.allowance.Allow.{Allow}
+use Rattle.source_meaning.specs.Acceptance.{IsAcceptedText}
+use Rattle.source_values.specs.Runs.{CheckedProgram}
+use Rattle.report_audit.specs.declared.verdict.Verdict.{Verdict}
+use Rattle.report_audit.specs.Good.{IsVerdict}
+use Rattle.alpaca_cli.specs.Calls.{audit}
+use Rattle.command_answers.specs.Ending.{Ending}
+use Rattle.command_answers.specs.Refusals.{Refusal}
+use Rattle.command_texts.specs.Sources.{IsSourceText, RefusesSource, SaysSource}
+use Rattle.command_texts.specs.Texts.{RefusesTrace, SaysTrace}
+use Rattle.plain_commands.specs.Verdicts.{verdict_line, verdict_ending}
+use Rattle.command_answers.specs.Promises.{Promise, OfThreeTexts}
+
+-- the texts are a source, accepted as this program alone, and a trace; this is what an audit of the report by them says, and its line
+pub record Audits (source report trace : List ℕ) (ending : Ending) (output : List ℕ) : Type 0 where
+  pub program : CheckedProgram
+  pub allow : Allow
+  pub value : TraceValue
+  pub verdict : Verdict
+  pub accepted : IsAcceptedText source program allow
+  pub only : (other : CheckedProgram) (price : Allow) → IsAcceptedText source other price → (other ≡ program) × (price ≡ allow)
+  pub trace_said : trace_of trace ≡ Ok value
+  pub says : IsVerdict source program allow.cycles value.readings report verdict
+  pub ends : ending ≡ verdict_ending verdict
+  pub line : output ≡ verdict_line verdict
+
+-- the text of `audit` at this place, from 0, is the first that is refused, and so; it refuses no report
+pub data AuditRefuses (source trace : List ℕ) : ℕ → Refusal → Type 0 where
+  the_audits_source : (r : Refusal) → RefusesSource source r → AuditRefuses source trace 0 r
+  the_audits_trace : (program : CheckedProgram) (r : Refusal) → IsSourceText source program → RefusesTrace trace r → AuditRefuses source trace 2 r
+
+-- what it promises
+abbrev pub audit_promise : (source report trace : List ℕ) → Promise
+audit_promise source report trace = record {
+  reads = source ∷ report ∷ trace ∷ [];
+  judges = source ∷ report ∷ trace ∷ [];
+  puts = None;
+  takes = OfThreeTexts (λ s r t. SaysSource s × SaysTrace t);
+  makes = λ texts p. OfThreeTexts (λ s r t. Audits s r t p.ending p.output × (p.file ≡ None)) texts;
+  refuses = λ texts place x. OfThreeTexts (λ s r t. AuditRefuses s t place x) texts;
+}

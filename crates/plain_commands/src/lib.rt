@@ -1,0 +1,14 @@
+//! The commands that need no compiler: `mean`, `run`, `asm`, `dis` and `audit`.
+#![tactic(auto)]
+
+mod asm;
+mod audits;
+mod dis;
+mod mean;
+mod run;
+
+pub use asm::answer_asm;
+pub use audits::{AuditNames, answer_audit};
+pub use dis::answer_dis;
+pub use mean::answer_mean;
+pub use run::{RunEnding, answer_run, reason_of, write_report, write_run};

@@ -1,0 +1,196 @@
+//! `mean SRC TRACE`: the report of a source's meaning.
+ghost use Rattle.std.specs.Prelude.{◌≡◌, ◌≤◌, ◌∷◌, [], IfOk, IfErr, length};
+ghost use Rattle.alp_io.specs.Count.{HasCause};
+ghost use Rattle.alp_io.specs.Sink.{Writes};
+ghost use Rattle.source_report.specs.task_ast.View.{program_of};
+ghost use Rattle.source_values.specs.Running.{fresh_run};
+ghost use Rattle.source_report.specs.MeanReport.{mean_report};
+ghost use Rattle.source_report.specs.SourceReport.{IsMeanReport};
+ghost use Rattle.alp_io.specs.Shelf.{NeverFall};
+ghost use Rattle.command_answers.specs.Ending.{well};
+ghost use Rattle.command_answers.specs.Outside.{WhereStands};
+ghost use Rattle.command_answers.specs.CommandAnswers.{CommandAnswers, IsWhole, TextAnswers};
+ghost use Rattle.command_answers.specs.Outcomes.{FailsBy, FailsWriting, Gains};
+ghost use Rattle.plain_commands.specs.Mean.{mean_promise};
+
+use alp_io::{Failed, Report, Shelf, Sink};
+use buffered_sink::{BufferedSink, Origin};
+use command_answers::{Failure, Status, answer_failure, answer_unread, read_texts};
+use command_texts::{source_of, trace_of};
+use energy_trace::Trace;
+use source_meaning::Accepted;
+use source_report::{mean_report_is_determined, write_mean_report};
+use source_values::SourceRun;
+use std::alloc::{AllocError, Global};
+use std::marker::Brand;
+
+const MOST_TRANSITIONS: u64 = 10_000;
+
+// What is written is the report of the source's meaning.
+fn report_is_the_meaning(source: &Accepted, trace: &Trace)
+    ensures { IsMeanReport source.now.text.items (program_of source.now.checked.source) trace.now.readings
+        (mean_report 10000 source.now.text.items (program_of source.now.checked.source) trace.now.readings) }
+{
+    mean_report_is_determined();
+}
+
+// Writes the report of a run that has made no transition, each line by a write of its own.
+fn write_by_line<S: Sink>(
+    out: &mut S,
+    source: &Accepted,
+    run: &mut SourceRun,
+    trace: &Trace,
+) -> Result<(), Failed>
+    requires fresh { run.old ≡ fresh_run (program_of source.now.checked.source) }
+    ensures bytes { Writes (S.contents out.old) (S.contents out.new) result
+        (mean_report 10000 source.now.text.items (program_of source.now.checked.source) trace.now.readings) }
+    ensures cause { HasCause (S.faults out.old) (S.faults out.new) result }
+{
+    let mut report = Report::new(out);
+    write_mean_report(
+        &mut report,
+        source.source(),
+        source.checked().source(),
+        run,
+        trace.readings(),
+        MOST_TRANSITIONS,
+    )
+}
+
+// Writes the report of a run that has made no transition through a buffer before the output, which is given back.
+fn write_through<'a, O: Sink, P: Origin>(
+    out: &'a mut O,
+    source: &Accepted,
+    run: &mut SourceRun,
+    trace: &Trace,
+) -> (&'a mut O, Result<(), Failed>)
+    requires place { out.ghost_name ≡ P.place }
+    requires contents { O.contents out.old ≡ P.contents }
+    requires fresh { run.old ≡ fresh_run (program_of source.now.checked.source) }
+    ensures same_sink { result.0.ghost_name ≡ out.entry.ghost_name }
+    ensures bytes { Writes (O.contents out.old) (O.contents result.0.now) result.1
+        (mean_report 10000 source.now.text.items (program_of source.now.checked.source) trace.now.readings) }
+    ensures cause { HasCause (O.faults out.old) (O.faults result.0.now) result.1 }
+{
+    let mut lines = BufferedSink::<O, P>::new(out);
+    let written = write_by_line(&mut lines, source, run, trace);
+    lines.finish(written)
+}
+
+// Writes the report of a run that has made no transition. Takes no memory.
+fn write_report<O: Sink>(
+    out: &mut O,
+    source: &Accepted,
+    run: &mut SourceRun,
+    trace: &Trace,
+) -> Result<(), Failed>
+    requires fresh { run.old ≡ fresh_run (program_of source.now.checked.source) }
+    ensures bytes { Writes (O.contents out.old) (O.contents out.new) result
+        (mean_report 10000 source.now.text.items (program_of source.now.checked.source) trace.now.readings) }
+    ensures cause { HasCause (O.faults out.old) (O.faults out.new) result }
+{
+    let (_, result) = write_through::<O, Brand>(out, source, run, trace);
+    result
+}
+
+/// Writes the whole report, once all memory is taken.
+fn write_meaning<'t, O: Sink>(
+    alloc: Global,
+    out: &mut O,
+    source: &Accepted,
+    trace: &Trace,
+) -> Result<(), Failure<'t>>
+    ensures faults { O.faults out.old ≤ O.faults out.new }
+    ensures whole { IfOk result (λ _. Gains
+        (record { old = O.contents out.old; new = O.contents out.new; faults_old = O.faults out.old; faults_new = O.faults out.new })
+        (IsMeanReport source.now.text.items (program_of source.now.checked.source) trace.now.readings)) }
+    ensures failure { IfErr result (λ e. FailsWriting e
+        (record { old = O.contents out.old; new = O.contents out.new; faults_old = O.faults out.old; faults_new = O.faults out.new })
+        (IsMeanReport source.now.text.items (program_of source.now.checked.source) trace.now.readings)) }
+{
+    report_is_the_meaning(source, trace);
+    match SourceRun::new(alloc, source.checked().source()) {
+        Err(AllocError) => Err(Failure::Memory),
+        Ok(mut run) => match write_report(out, source, &mut run, trace) {
+            Ok(()) => Ok(()),
+            Err(Failed) => Err(Failure::Write),
+        },
+    }
+}
+
+/// Writes the report of the source and the trace that the two texts are.
+///
+/// # Errors
+/// `Refused` for the first text that is refused, `Memory` where memory was refused; nothing is written then. `Write` where a
+/// write failed, and the output gained a proper prefix of the report.
+pub fn mean_texts<'t, O: Sink>(
+    alloc: Global,
+    names: (&'t str, &'t str),
+    source: &'t [u8],
+    trace: &[u8],
+    out: &mut O,
+) -> Result<(), Failure<'t>>
+    requires first { length source.now ≤ 1048576 }
+    requires second { length trace.now ≤ 1048576 }
+    ensures faults { O.faults out.old ≤ O.faults out.new }
+    ensures whole { IfOk result (λ _. WhereStands (λ shelf. IsWhole (mean_promise names.entry.0.now names.entry.1.now) (source.now ∷ trace.now ∷ []) well shelf
+        (record { old = O.contents out.old; new = O.contents out.new; faults_old = O.faults out.old; faults_new = O.faults out.new }))) }
+    ensures failure { IfErr result (λ e. WhereStands (λ shelf. FailsBy e (mean_promise names.entry.0.now names.entry.1.now) (source.now ∷ trace.now ∷ []) shelf
+        (record { old = O.contents out.old; new = O.contents out.new; faults_old = O.faults out.old; faults_new = O.faults out.new }))) }
+{
+    let source = source_of(alloc, names.0, source)?;
+    let trace = trace_of(alloc, names.1, trace)?;
+    write_meaning(alloc, out, &source, &trace)
+}
+
+fn mean_of<O: Sink, E: Sink>(
+    alloc: Global,
+    names: (&str, &str),
+    source: &[u8],
+    trace: &[u8],
+    out: &mut O,
+    err: &mut E,
+) -> Status
+    requires source { length source.now ≤ 1048576 }
+    requires trace { length trace.now ≤ 1048576 }
+    ensures out_faults { O.faults out.old ≤ O.faults out.new }
+    ensures err_faults { E.faults err.old ≤ E.faults err.new }
+    ensures answers { WhereStands (λ shelf. TextAnswers result (mean_promise names.entry.0.now names.entry.1.now) (source.now ∷ trace.now ∷ []) shelf
+        (record { old = O.contents out.old; new = O.contents out.new; faults_old = O.faults out.old; faults_new = O.faults out.new })
+        (record { old = E.contents err.old; new = E.contents err.new; faults_old = E.faults err.old; faults_new = E.faults err.new })) }
+{
+    match mean_texts(alloc, names, source, trace, out) {
+        Ok(()) => Status::Done,
+        Err(failure) => answer_failure(err, failure),
+    }
+}
+
+/// The answer to `mean SRC TRACE`.
+pub fn answer_mean<H: Shelf, O: Sink, E: Sink>(
+    alloc: Global,
+    source: &str,
+    trace: &str,
+    shelf: &mut H,
+    out: &mut O,
+    err: &mut E,
+) -> Status
+    ensures counts { NeverFall (H.counts shelf.old) (H.counts shelf.new) }
+    ensures out_faults { O.faults out.old ≤ O.faults out.new }
+    ensures err_faults { E.faults err.old ≤ E.faults err.new }
+    ensures answers { CommandAnswers result (mean_promise source.now trace.now)
+        (record { old = H.files shelf.old; new = H.files shelf.new; counts_old = H.counts shelf.old; counts_new = H.counts shelf.new })
+        (record { old = O.contents out.old; new = O.contents out.new; faults_old = O.faults out.old; faults_new = O.faults out.new })
+        (record { old = E.contents err.old; new = E.contents err.new; faults_old = E.faults err.old; faults_new = E.faults err.new }) }
+{
+    match read_texts(alloc, shelf, source, trace) {
+        Ok(texts) => mean_of(
+            alloc,
+            (source, trace),
+            texts.first.as_slice(),
+            texts.second.as_slice(),
+            out,
+            err,
+        ),
+        Err(unread) => answer_unread(err, unread),
+    }
+}

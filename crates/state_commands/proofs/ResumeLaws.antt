@@ -1,0 +1,42 @@
+-- What `resume` makes.
+use Rattle.std.proofs.Common.{◌≡◌, ℕ, List, [], ◌∷◌, Ok, refl, sym, subst}
+use Rattle.energy_trace.specs.TraceValue.{TraceValue}
+use Rattle.energy_trace.specs.Reading.{trace_of}
+use Rattle.image_text.specs.ImageValue.{ImageValue}
+use Rattle.image_text.specs.Reading.{image_of}
+use Rattle.state_text.specs.declared.state.State.{State}
+use Rattle.state_text.specs.Reading.{state_of}
+use Rattle.fram_state.specs.Belongs.{Belongs}
+use Rattle.fram_board.specs.Board.{BoardValue}
+use Rattle.fram_board.specs.Run.{RunOutcome, Run}
+use Rattle.board_run.specs.Charges.{charges_of}
+use Rattle.board_run.specs.History.{start_of}
+use Rattle.board_run.specs.Report.{report_of}
+use Rattle.alpaca_cli.specs.Calls.{run}
+use Rattle.command_answers.specs.Ending.{Ending}
+use Rattle.state_commands.specs.Resumed.{IsOfItsSource, resume_promise}
+use Rattle.plain_commands.specs.RunReport.{IsReportFrom}
+use Rattle.state_commands.specs.Saved.{from_state}
+use Rattle.plain_commands.proofs.Interface.{told_from}
+use Rattle.command_answers.proofs.Interface.{output_alone}
+
+pub resume_product : (a b c image state trace : List ℕ) (i : ImageValue) (s : State) (t : TraceValue) (board : BoardValue)
+    → image_of image ≡ Ok i → state_of state ≡ Ok s → trace_of trace ≡ Ok t → Belongs i s
+    → ((r : RunOutcome) → Run (charges_of t.charges) (from_state s t) r → IsOfItsSource i s t r (report_of (start_of s.image) r)) → board ≡ from_state s t
+    → (ending : Ending) (output : List ℕ) → IsReportFrom board (start_of s.image) t ending output
+    → (resume_promise a b c).makes (image ∷ state ∷ trace ∷ []) (output_alone output ending)
+resume_product a b c image state trace i s t board image_said state_said trace_said belongs law is_board ending output r =
+    let report = told_from board (from_state s t) (start_of s.image) (start_of s.image) t is_board refl ending output r in (
+      record {
+        value = i;
+        saved = s;
+        charges = t;
+        image_said = image_said;
+        state_said = state_said;
+        trace_said = trace_said;
+        belongs = belongs;
+        report = report;
+        of_source = subst (IsOfItsSource i s t report.outcome) (sym report.lines) (law report.outcome report.run);
+      },
+      refl,
+    )

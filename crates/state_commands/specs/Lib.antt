@@ -1,0 +1,4 @@
+pub mod Migrated
+pub mod Migrating
+pub mod Resumed
+pub mod Saved

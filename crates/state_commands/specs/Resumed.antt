@@ -1,0 +1,95 @@
+-- What `resume` makes of its texts: the report of the run that goes on from a state; and why a state is refused.
+use Rattle.std.specs.Prelude.{◌≡◌, ℕ, List, codes, Ok, Err, [], ◌∷◌, None}
+use Rattle.energy_trace.specs.TraceValue.{TraceValue}
+use Rattle.energy_trace.specs.Reading.{trace_of}
+use Rattle.image_text.specs.ImageValue.{ImageValue}
+use Rattle.image_text.specs.Reading.{image_of}
+use Rattle.state_text.specs.declared.state.State.{State}
+use Rattle.state_text.specs.Reading.{state_of}
+use Rattle.fram_state.specs.declared.fault.StateFault.{StateFault}
+use Rattle.fram_state.specs.declared.fault.StateFault.TheVariants.{OtherMap, OtherWord, Unsound}
+use Rattle.fram_state.specs.Belongs.{Belongs, IsAnswer}
+use Rattle.fram_state.specs.Rules.{rule_name}
+use Rattle.fram_board.specs.Run.{RunOutcome}
+use Rattle.board_run.specs.History.{start_of}
+use Rattle.link_image.specs.Compiled.{IsImageOf}
+use Rattle.compiled_states.specs.source_runs.Traces.{IsTraceOfWords}
+use Rattle.compiled_states.specs.Worlds.{IsToldByItsSource, LeavesItsStates}
+use Rattle.command_answers.specs.Ending.{Ending}
+use Rattle.command_answers.specs.Refusals.{Detail, Refusal, name, address}
+use Rattle.plain_commands.specs.RunReport.{IsReportFrom}
+use Rattle.state_commands.specs.Saved.{from_state}
+use Rattle.command_texts.specs.Texts.{RefusesTrace, RefusesImage, RefusesState, SaysTrace}
+use Rattle.alpaca_cli.specs.Calls.{run}
+use Rattle.command_answers.specs.Promises.{Promise, OfThreeTexts}
+
+-- What holds of a run from a state, on a trace, where the image is what the compiler makes of a source, whatever its text. The report is told by
+-- the source: from the state on, or behind the transition of the commit that is pending there; and what is saved of each of the run's
+-- boards, and at its end, belongs to the image again.
+pub record IsOfItsSource (image : ImageValue) (s : State) (trace : TraceValue) (r : RunOutcome) (output : List ℕ) : Type 0 where
+  pub told : IsToldByItsSource image s trace r output
+  pub stays : (source : List ℕ) → IsImageOf source image → LeavesItsStates image s (from_state s trace) r
+
+-- The texts are an image, a state that belongs to it, and a trace. This is the report of the run of the board that goes on from the
+-- state, on the trace, and that run ends so. And where the image is one of a source, the run is as the source says.
+pub record Resumes (image state trace : List ℕ) (ending : Ending) (output : List ℕ) : Type 0 where
+  pub value : ImageValue
+  pub saved : State
+  pub charges : TraceValue
+  pub image_said : image_of image ≡ Ok value
+  pub state_said : state_of state ≡ Ok saved
+  pub trace_said : trace_of trace ≡ Ok charges
+  pub belongs : Belongs value saved
+  pub report : IsReportFrom (from_state saved charges) (start_of saved.image) charges ending output
+  pub of_source : IsOfItsSource value saved charges report.outcome output
+
+-- the texts are this image, this state and this trace
+pub record IsResumption (image state trace : List ℕ) (value : ImageValue) (saved : State) (charges : TraceValue) : Type 0 where
+  pub image_said : image_of image ≡ Ok value
+  pub state_said : state_of state ≡ Ok saved
+  pub trace_said : trace_of trace ≡ Ok charges
+  pub words : IsTraceOfWords charges
+
+-- ---- a state that is refused
+
+-- a refusal of a whole state, which keeps this
+abbrev pub of_state : List ℕ → Detail → Refusal
+of_state kind detail = record { line = 0; kind = kind; detail = detail }
+
+-- what is told of a state that a board may not go on from
+abbrev pub state_refusal : StateFault → Refusal
+state_refusal OtherMap = of_state (codes "OtherImage") (name (codes "map"))
+state_refusal (OtherWord a) = of_state (codes "OtherImage") (address a)
+state_refusal (Unsound rule) = of_state (codes "Unsound") (name (rule_name rule))
+
+-- a state doesn't belong to an image, and is refused so
+abbrev pub RefusesOther : ImageValue → State → Refusal → Type 0
+RefusesOther image s r = (fault : StateFault) × IsAnswer image s (Err fault) × (r ≡ state_refusal fault)
+
+-- the texts are an image and a state that is taken with it
+pub record SaysItsState (image state : List ℕ) : Type 0 where
+  pub value : ImageValue
+  pub saved : State
+  pub image_said : image_of image ≡ Ok value
+  pub state_said : state_of state ≡ Ok saved
+  pub taken : IsAnswer value saved (Ok tt)
+
+-- the text of `resume` at this place, from 0, is the first that is refused, and so; behind all faults of the texts a state that doesn't belong to the image
+pub data ResumeRefuses (image state trace : List ℕ) : ℕ → Refusal → Type 0 where
+  the_states_image : (r : Refusal) → RefusesImage image r → ResumeRefuses image state trace 0 r
+  the_resumed_state : (value : ImageValue) (r : Refusal) → image_of image ≡ Ok value → RefusesState state r → ResumeRefuses image state trace 1 r
+  the_resumed_trace : (value : ImageValue) (saved : State) (r : Refusal) → image_of image ≡ Ok value → state_of state ≡ Ok saved
+      → RefusesTrace trace r → ResumeRefuses image state trace 2 r
+  the_other_state : (value : ImageValue) (saved : State) (charges : TraceValue) (r : Refusal) → image_of image ≡ Ok value → state_of state ≡ Ok saved
+      → trace_of trace ≡ Ok charges → RefusesOther value saved r → ResumeRefuses image state trace 1 r
+
+-- what it promises
+abbrev pub resume_promise : (image state trace : List ℕ) → Promise
+resume_promise image state trace = record {
+  reads = image ∷ state ∷ trace ∷ [];
+  judges = image ∷ state ∷ trace ∷ [];
+  puts = None;
+  takes = OfThreeTexts (λ i s t. SaysItsState i s × SaysTrace t);
+  makes = λ texts p. OfThreeTexts (λ i s t. Resumes i s t p.ending p.output × (p.file ≡ None)) texts;
+  refuses = λ texts place r. OfThreeTexts (λ i s t. ResumeRefuses i s t place r) texts;
+}

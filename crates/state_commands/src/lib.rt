@@ -1,0 +1,11 @@
+//! The commands on saved states: `save`, `resume` and `migrate`.
+#![tactic(auto)]
+
+mod migrate;
+mod resume;
+mod save;
+mod state_laws;
+
+pub use migrate::{MigrateNames, answer_migrate};
+pub use resume::answer_resume;
+pub use save::answer_save;

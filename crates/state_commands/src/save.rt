@@ -1,0 +1,257 @@
+//! `save IMAGE TRACE STATE`: the state of the board at the end of an image's run, put as a state text.
+ghost use Rattle.std.specs.Prelude.{◌≡◌, ◌≤◌, ◌∷◌, [], Ok, IfOk, IfErr, length};
+ghost use Rattle.alp_io.specs.Count.{HasCause};
+ghost use Rattle.alp_io.specs.Shelf.{NeverFall};
+ghost use Rattle.alp_io.specs.Sink.{Writes};
+ghost use Rattle.fram_board.specs.Saved.{saved};
+ghost use Rattle.board_run.specs.declared.trace_run.RunFault.TheVariants.{Write};
+ghost use Rattle.state_text.specs.Reading.{state_of};
+ghost use Rattle.state_text.specs.Text.{state_text};
+ghost use Rattle.command_answers.specs.declared.failure.Failure.TheVariants.{Memory};
+ghost use Rattle.plain_commands.specs.Ends.{ending_of};
+ghost use Rattle.state_commands.specs.Saved.{RanFrom, RanOn, told_end, told_fault, save_promise};
+ghost use Rattle.command_answers.specs.CommandAnswers.{CommandAnswers, IsWhole, TextAnswers};
+ghost use Rattle.command_answers.specs.Outcomes.{FailsBy};
+ghost use Rattle.command_answers.specs.Outside.{WhereSilent, WhereStands};
+
+use crate::state_laws::state_stays;
+use alp_io::{Failed, NullSink, Report, Shelf, Sink};
+use board_run::{RunEnd, RunFault, Watch, run};
+use command_answers::{
+    Failure, Status, answer_failure, answer_unread, messages, put_file, read_texts,
+};
+use command_texts::{state_of, trace_of};
+use energy_trace::Trace;
+use fram_board::Board;
+use plain_commands::{RunEnding, reason_of};
+use state_text::{State, print_state};
+use std::alloc::{AllocError, Global};
+
+/// A run of which no line was written.
+#[derive(Drop)]
+struct SilentRun {
+    /// How it ended.
+    end: Result<RunEnd, RunFault>,
+    /// How many transitions it completed.
+    completed: u64,
+    /// The board at its end.
+    board: Board,
+}
+
+/// A state, and the run that went on from it.
+#[derive(Drop)]
+struct StateRun {
+    state: State,
+    ran: SilentRun,
+}
+
+// Runs the board that goes on from a state to its end; nothing is written. `Memory` where memory was refused.
+fn run_from<'t>(alloc: Global, state: &State, trace: &Trace) -> Result<SilentRun, Failure<'t>>
+    ensures ran { IfOk result (λ r. RanFrom state.now trace.now r.end r.board r.completed) }
+    ensures failure { IfErr result (λ e. e ≡ Memory) }
+{
+    let Ok(mut board) = Board::from_state(alloc, state, trace.readings()) else {
+        return Err(Failure::Memory);
+    };
+    let Ok(mut watch) = Watch::new(alloc, &state.image) else {
+        return Err(Failure::Memory);
+    };
+    let mut sink = NullSink;
+    let mut report = Report::new(&mut sink);
+    let end = run(&mut board, trace, &mut watch, &mut report);
+    let completed = watch.completed();
+    Ok(SilentRun {
+        end,
+        completed,
+        board,
+    })
+}
+
+// Writes the last line of the report of a run that ended so. Takes no memory.
+fn write_end<O: Sink>(out: &mut O, end: RunEnd, ran: &SilentRun) -> Result<(), Failed>
+    ensures bytes { Writes (O.contents out.old) (O.contents out.new) result (told_end end ran.now.completed ran.now.board) }
+    ensures cause { HasCause (O.faults out.old) (O.faults out.new) result }
+{
+    let mut report = Report::new(out);
+    report.end(
+        reason_of(end),
+        ran.completed,
+        ran.board.accepted(),
+        ran.board.repeats(),
+    )
+}
+
+// Writes the line of the machine fault that a run met. Takes no memory.
+fn write_fault<O: Sink>(out: &mut O, fault: RunFault) -> Result<(), Failed>
+    requires { fault ≡ Write → ⊥ }
+    ensures bytes { Writes (O.contents out.old) (O.contents out.new) result (told_fault fault) }
+    ensures cause { HasCause (O.faults out.old) (O.faults out.new) result }
+{
+    let mut report = Report::new(out);
+    match fault {
+        RunFault::Illegal { pc, word } => report.illegal(pc, word),
+        RunFault::Bus { pc, address } => report.bus(pc, address),
+        RunFault::Write => unreachable!(),
+    }
+}
+
+// The text of what is saved of a board, with the map of the state that it went on from; `Memory` where memory was refused.
+fn saved_text<'t>(alloc: Global, board: &Board, state: State) -> Result<Vec<u8>, Failure<'t>>
+    ensures text { IfOk result (λ v. v.items ≡ state_text (saved board.now state.image.map)) }
+    ensures reads_back { IfOk result (λ v. state_of v.items ≡ Ok (saved board.now state.image.map)) }
+    ensures failure { IfErr result (λ e. e ≡ Memory) }
+{
+    let mut state = state;
+    board.save_into(&mut state);
+    match print_state(alloc, &state) {
+        Ok(text) => Ok(text),
+        Err(AllocError) => Err(Failure::Memory),
+    }
+}
+
+// Runs the image or the state that the first text is on the trace that the second is; or the first text that is refused.
+fn state_run_of<'t>(
+    alloc: Global,
+    names: (&'t str, &'t str, &'t str),
+    texts: (&[u8], &[u8]),
+) -> Result<StateRun, Failure<'t>>
+    requires image { length texts.0.now ≤ 1048576 }
+    requires trace { length texts.1.now ≤ 1048576 }
+    ensures ran { IfOk result (λ r. RanOn texts.entry.0.now texts.entry.1.now r.state r.ran.end r.ran.board r.ran.completed) }
+    ensures failure { IfErr result (λ e. WhereStands (λ shelf. WhereSilent (FailsBy e
+        (save_promise names.entry.0.now names.entry.1.now names.entry.2.now) (texts.entry.0.now ∷ texts.entry.1.now ∷ []) shelf))) }
+{
+    let state = state_of(alloc, names.0, texts.0)?;
+    let trace = trace_of(alloc, names.1, texts.1)?;
+    state_stays(&state, &trace);
+    let ran = run_from(alloc, &state, &trace)?;
+    Ok(StateRun { state, ran })
+}
+
+// Puts the state at the end of a run that ended well, and writes the last line of the run's report. All memory but that of the put is
+// taken before it.
+fn put_saved<'t, H: Shelf, O: Sink>(
+    alloc: Global,
+    names: (&'t str, &'t str, &'t str),
+    texts: (&[u8], &[u8]),
+    end: RunEnd,
+    state_run: StateRun,
+    shelf: &mut H,
+    out: &mut O,
+) -> Result<RunEnding, Failure<'t>>
+    requires ran { RanOn texts.0.now texts.1.now state_run.state state_run.ran.end state_run.ran.board state_run.ran.completed }
+    requires ends { state_run.ran.end ≡ Ok end }
+    ensures counts { NeverFall (H.counts shelf.old) (H.counts shelf.new) }
+    ensures faults { O.faults out.old ≤ O.faults out.new }
+    ensures whole { IfOk result (λ ending. IsWhole (save_promise names.entry.0.now names.entry.1.now names.entry.2.now)
+        (texts.entry.0.now ∷ texts.entry.1.now ∷ []) (ending_of ending)
+        (record { old = H.files shelf.old; new = H.files shelf.new; counts_old = H.counts shelf.old; counts_new = H.counts shelf.new })
+        (record { old = O.contents out.old; new = O.contents out.new; faults_old = O.faults out.old; faults_new = O.faults out.new })) }
+    ensures failure { IfErr result (λ e. FailsBy e (save_promise names.entry.0.now names.entry.1.now names.entry.2.now)
+        (texts.entry.0.now ∷ texts.entry.1.now ∷ [])
+        (record { old = H.files shelf.old; new = H.files shelf.new; counts_old = H.counts shelf.old; counts_new = H.counts shelf.new })
+        (record { old = O.contents out.old; new = O.contents out.new; faults_old = O.faults out.old; faults_new = O.faults out.new })) }
+{
+    let _ = texts;
+    let StateRun { state, ran } = state_run;
+    let text = saved_text(alloc, &ran.board, state)?;
+    put_file(alloc, shelf, names.2, text.as_slice())?;
+    match write_end(out, end, &ran) {
+        Ok(()) => Ok(RunEnding::Well),
+        Err(Failed) => Err(Failure::Write),
+    }
+}
+
+/// Runs the image or the state that the first text is on the trace that the second is, puts the state at the run's end, and writes the
+/// last line of the run's report. At a machine fault nothing is put. All memory but that of the put is taken before it.
+///
+/// # Errors
+/// `Refused` for the first text that is refused, `Memory` where memory was refused; no file is changed and nothing is written then. `Put`
+/// where the put failed, and the file of the state may hold anything or be absent. `Write` where a write failed behind it, and the
+/// output gained a proper prefix of the line.
+pub fn save_texts<'t, H: Shelf, O: Sink>(
+    alloc: Global,
+    names: (&'t str, &'t str, &'t str),
+    texts: (&[u8], &[u8]),
+    shelf: &mut H,
+    out: &mut O,
+) -> Result<RunEnding, Failure<'t>>
+    requires image { length texts.0.now ≤ 1048576 }
+    requires trace { length texts.1.now ≤ 1048576 }
+    ensures counts { NeverFall (H.counts shelf.old) (H.counts shelf.new) }
+    ensures faults { O.faults out.old ≤ O.faults out.new }
+    ensures whole { IfOk result (λ ending. IsWhole (save_promise names.entry.0.now names.entry.1.now names.entry.2.now)
+        (texts.entry.0.now ∷ texts.entry.1.now ∷ []) (ending_of ending)
+        (record { old = H.files shelf.old; new = H.files shelf.new; counts_old = H.counts shelf.old; counts_new = H.counts shelf.new })
+        (record { old = O.contents out.old; new = O.contents out.new; faults_old = O.faults out.old; faults_new = O.faults out.new })) }
+    ensures failure { IfErr result (λ e. FailsBy e (save_promise names.entry.0.now names.entry.1.now names.entry.2.now)
+        (texts.entry.0.now ∷ texts.entry.1.now ∷ [])
+        (record { old = H.files shelf.old; new = H.files shelf.new; counts_old = H.counts shelf.old; counts_new = H.counts shelf.new })
+        (record { old = O.contents out.old; new = O.contents out.new; faults_old = O.faults out.old; faults_new = O.faults out.new })) }
+{
+    let state_run = state_run_of(alloc, names, texts)?;
+    match state_run.ran.end {
+        Ok(end) => put_saved(alloc, names, texts, end, state_run, shelf, out),
+        Err(fault) => match write_fault(out, fault) {
+            Ok(()) => Ok(RunEnding::AtFault),
+            Err(Failed) => Err(Failure::Write),
+        },
+    }
+}
+
+fn save_of<H: Shelf, O: Sink, E: Sink>(
+    alloc: Global,
+    names: (&str, &str, &str),
+    texts: (&[u8], &[u8]),
+    shelf: &mut H,
+    out: &mut O,
+    err: &mut E,
+) -> Status
+    requires image { length texts.0.now ≤ 1048576 }
+    requires trace { length texts.1.now ≤ 1048576 }
+    ensures counts { NeverFall (H.counts shelf.old) (H.counts shelf.new) }
+    ensures out_faults { O.faults out.old ≤ O.faults out.new }
+    ensures err_faults { E.faults err.old ≤ E.faults err.new }
+    ensures answers { TextAnswers result (save_promise names.entry.0.now names.entry.1.now names.entry.2.now) (texts.entry.0.now ∷ texts.entry.1.now ∷ [])
+        (record { old = H.files shelf.old; new = H.files shelf.new; counts_old = H.counts shelf.old; counts_new = H.counts shelf.new })
+        (record { old = O.contents out.old; new = O.contents out.new; faults_old = O.faults out.old; faults_new = O.faults out.new })
+        (record { old = E.contents err.old; new = E.contents err.new; faults_old = E.faults err.old; faults_new = E.faults err.new }) }
+{
+    match save_texts(alloc, names, texts, shelf, out) {
+        Ok(RunEnding::Well) => Status::Done,
+        Ok(RunEnding::AtFault) => {
+            messages::tell_machine_fault(err);
+            Status::MachineFault
+        }
+        Err(failure) => answer_failure(err, failure),
+    }
+}
+
+/// The answer to `save IMAGE TRACE STATE`.
+pub fn answer_save<H: Shelf, O: Sink, E: Sink>(
+    alloc: Global,
+    names: (&str, &str, &str),
+    shelf: &mut H,
+    out: &mut O,
+    err: &mut E,
+) -> Status
+    ensures counts { NeverFall (H.counts shelf.old) (H.counts shelf.new) }
+    ensures out_faults { O.faults out.old ≤ O.faults out.new }
+    ensures err_faults { E.faults err.old ≤ E.faults err.new }
+    ensures answers { CommandAnswers result (save_promise names.entry.0.now names.entry.1.now names.entry.2.now)
+        (record { old = H.files shelf.old; new = H.files shelf.new; counts_old = H.counts shelf.old; counts_new = H.counts shelf.new })
+        (record { old = O.contents out.old; new = O.contents out.new; faults_old = O.faults out.old; faults_new = O.faults out.new })
+        (record { old = E.contents err.old; new = E.contents err.new; faults_old = E.faults err.old; faults_new = E.faults err.new }) }
+{
+    match read_texts(alloc, shelf, names.0, names.1) {
+        Ok(texts) => save_of(
+            alloc,
+            names,
+            (texts.first.as_slice(), texts.second.as_slice()),
+            shelf,
+            out,
+            err,
+        ),
+        Err(unread) => answer_unread(err, unread),
+    }
+}
