@@ -9,7 +9,7 @@ import sys
 ROOT = os.path.join(os.path.dirname(os.path.abspath(__file__)), "..")
 CRATES = os.path.join(ROOT, "crates")
 START = "alpaca_cli/specs/Answers.antt"
-APART = ("link_image/", "image_reports/", "asm_line/", "msp_asm/", "source_generator/", "state_text/", "fram_state/", "compiled_states/", "alpaca_cli/specs/Saved.antt", "alpaca_cli/specs/Resumed.antt", "alpaca_cli/specs/Migrated.antt", "report_audit/")
+APART = ("link_image/", "image_reports/", "asm_line/", "msp_asm/", "source_generator/", "state_text/", "fram_state/", "compiled_states/", "state_commands/", "report_audit/")
 
 
 def imports(text):
