@@ -1,5 +1,4 @@
 mod Answered
-mod AuditLaws
 mod FaultLaws
 mod LineLaws
 mod NotRefused

@@ -1,6 +1,7 @@
 //! Laws of what the program prints. The function does nothing of its own: its contract is the law.
 
-ghost use Rattle.alpaca_cli.specs.Audited.{TriedReportsAreGood, MeanReportsAreGood, TriedReportsAreAnsweredYes, MeanReportsAreAnsweredYes};
+ghost use Rattle.plain_commands.specs.Audited.{MeanReportsAreGood, MeanReportsAreAnsweredYes};
+ghost use Rattle.compiler_commands.specs.Audited.{TriedReportsAreGood, TriedReportsAreAnsweredYes};
 
 use source_meaning::accepted_texts_run;
 

@@ -1,4 +1,6 @@
+mod AuditLaws
 mod GenLaws
 mod GenLines
 mod PutLaws
 mod TrialLaws
+pub mod Interface

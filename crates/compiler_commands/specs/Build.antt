@@ -14,7 +14,6 @@ use Rattle.image_reports.specs.ImageLaw.{IsLawful}
 use Rattle.source_values.specs.Runs.{CheckedProgram}
 use Rattle.image_reports.specs.source_runs.Naming.{IsMapOf}
 use Rattle.image_reports.specs.source_runs.Traces.{IsTraceOfWords}
-use Rattle.alpaca_cli.specs.Calls.{run}
 use Rattle.command_answers.specs.Ending.{well}
 use Rattle.compiler_commands.specs.ToldRuns.{IsTold}
 use Rattle.command_texts.specs.Sources.{RefusesSource, SaysSource}

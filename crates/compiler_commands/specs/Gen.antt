@@ -12,7 +12,6 @@ use Rattle.source_values.specs.Runs.{CheckedProgram}
 use Rattle.image_reports.specs.source_runs.Tells.{IsToldBySource}
 use Rattle.source_generator.specs.Source.{generated_text}
 use Rattle.source_generator.specs.Trace.{generated_trace}
-use Rattle.alpaca_cli.specs.Calls.{run}
 use Rattle.command_answers.specs.Ending.{well}
 use Rattle.compiler_commands.specs.Generated.{generated_lines}
 use Rattle.command_texts.specs.Sources.{RefusesSource, SaysSource}

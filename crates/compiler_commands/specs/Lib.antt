@@ -1,3 +1,4 @@
+pub mod Audited
 pub mod Build
 pub mod Gen
 pub mod Generated

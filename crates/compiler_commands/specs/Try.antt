@@ -9,7 +9,6 @@ use Rattle.cost_bound.specs.declared.allowance.Allow.{Allow}
 use Rattle.source_meaning.specs.Acceptance.{IsAcceptedText}
 use Rattle.source_values.specs.Runs.{CheckedProgram}
 use Rattle.image_reports.specs.source_runs.Tells.{IsToldBySource}
-use Rattle.alpaca_cli.specs.Calls.{run}
 use Rattle.command_answers.specs.Ending.{well}
 use Rattle.plain_commands.specs.RunReport.{IsRunReport}
 use Rattle.command_texts.specs.Sources.{SaysSource}

@@ -17,7 +17,6 @@ use Rattle.source_meaning.specs.Acceptance.{IsAcceptedText}
 use Rattle.report_audit.specs.declared.verdict.Verdict.{Verdict}
 use Rattle.report_audit.specs.Good.{IsVerdict}
 use Rattle.plain_commands.specs.Verdicts.{verdict_line, verdict_ending}
-use Rattle.alpaca_cli.specs.Calls.{run}
 use Rattle.command_answers.specs.Ending.{Ending, well}
 use Rattle.plain_commands.specs.Ends.{ending_of}
 use Rattle.command_answers.specs.Outcomes.{FailsBy, FailsWriting, Gains, FailsPutting}

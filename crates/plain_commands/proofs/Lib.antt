@@ -1,3 +1,4 @@
+mod AuditLaws
 mod CommandLaws
 mod NotRefused
 mod OneEnding

@@ -6,7 +6,6 @@ use Rattle.image_text.specs.Reading.{image_of}
 use Rattle.fram_board.specs.Laws.{HasOneRun}
 use Rattle.fram_board.specs.Board.{BoardValue}
 use Rattle.board_run.specs.History.{History}
-use Rattle.alpaca_cli.specs.Calls.{run}
 use Rattle.command_answers.specs.Ending.{Ending}
 use Rattle.plain_commands.specs.Verdicts.{verdict_ending}
 use Rattle.cost_bound.specs.declared.allowance.Allow.{Allow}

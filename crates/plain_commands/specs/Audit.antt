@@ -7,7 +7,6 @@ use Rattle.source_meaning.specs.Acceptance.{IsAcceptedText}
 use Rattle.source_values.specs.Runs.{CheckedProgram}
 use Rattle.report_audit.specs.declared.verdict.Verdict.{Verdict}
 use Rattle.report_audit.specs.Good.{IsVerdict}
-use Rattle.alpaca_cli.specs.Calls.{audit}
 use Rattle.command_answers.specs.Ending.{Ending}
 use Rattle.command_answers.specs.Refusals.{Refusal}
 use Rattle.command_texts.specs.Sources.{IsSourceText, RefusesSource, SaysSource}

@@ -1,5 +1,6 @@
 pub mod Asm
 pub mod Audit
+pub mod Audited
 pub mod Dis
 pub mod Ends
 pub mod Mean

@@ -4,7 +4,6 @@ use Rattle.energy_trace.specs.TraceValue.{TraceValue}
 use Rattle.energy_trace.specs.Reading.{trace_of}
 use Rattle.image_text.specs.ImageValue.{ImageValue}
 use Rattle.image_text.specs.Reading.{image_of}
-use Rattle.alpaca_cli.specs.Calls.{run}
 use Rattle.command_answers.specs.Ending.{Ending}
 use Rattle.command_answers.specs.Refusals.{Refusal}
 use Rattle.plain_commands.specs.RunReport.{IsRunReport}

@@ -8,7 +8,6 @@ use Rattle.fram_board.specs.Laws.{HasOneRun}
 use Rattle.fram_board.specs.Run.{Run}
 use Rattle.board_run.specs.Charges.{charges_of}
 use Rattle.board_run.specs.History.{start_of}
-use Rattle.alpaca_cli.specs.Calls.{run}
 use Rattle.command_answers.specs.Ending.{Ending}
 use Rattle.state_commands.specs.Resumed.{Resumes}
 use Rattle.plain_commands.specs.RunReport.{IsReportFrom, ending_of}

@@ -12,7 +12,6 @@ use Rattle.fram_board.specs.Run.{RunOutcome, Run}
 use Rattle.board_run.specs.Charges.{charges_of}
 use Rattle.board_run.specs.History.{start_of}
 use Rattle.board_run.specs.Report.{report_of}
-use Rattle.alpaca_cli.specs.Calls.{run}
 use Rattle.command_answers.specs.Ending.{Ending}
 use Rattle.state_commands.specs.Resumed.{IsOfItsSource, resume_promise}
 use Rattle.plain_commands.specs.RunReport.{IsReportFrom}

@@ -1,6 +1,6 @@
 -- What the parts of a migration bring.
 use Rattle.std.specs.Prelude.{◌≡◌, ℕ, ◌≤◌, List, [], ◌∷◌, length, Some, Ok, slice_get}
-use Rattle.image_reports.specs.task_ast.View.{program_of}
+use Rattle.link_image.specs.task_ast.View.{program_of}
 use Rattle.image_text.specs.Reading.{image_of}
 use Rattle.image_text.specs.image_map.MapValue.{MapValue}
 use Rattle.state_text.specs.Reading.{state_of}

@@ -20,7 +20,6 @@ use Rattle.command_answers.specs.Refusals.{Detail, Refusal, name, address}
 use Rattle.plain_commands.specs.RunReport.{IsReportFrom}
 use Rattle.state_commands.specs.Saved.{from_state}
 use Rattle.command_texts.specs.Texts.{RefusesTrace, RefusesImage, RefusesState, SaysTrace}
-use Rattle.alpaca_cli.specs.Calls.{run}
 use Rattle.command_answers.specs.Promises.{Promise, OfThreeTexts}
 
 -- What holds of a run from a state, on a trace, where the image is what the compiler makes of a source, whatever its text. The report is told by

@@ -23,7 +23,6 @@ use Rattle.plain_commands.specs.Ends.{reason_of}
 use Rattle.command_answers.specs.Refusals.{Refusal}
 use Rattle.plain_commands.specs.RunReport.{ending_of}
 use Rattle.command_texts.specs.Texts.{RefusesTrace, RefusesState, SaysState, SaysTrace}
-use Rattle.alpaca_cli.specs.Calls.{run}
 use Rattle.command_answers.specs.Promises.{Promise, OfTwoTexts}
 
 -- the board that goes on from a state, on the readings of a trace

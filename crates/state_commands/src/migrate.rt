@@ -1,7 +1,7 @@
 //! `migrate SRC IMAGE STATE NEWSRC NEWIMAGE NEWSTATE`: a saved state as one of a new edition of its program, put as a state text.
 ghost use Rattle.std.specs.Prelude.{◌≡◌, ◌≤◌, IfOk, IfErr, IfSome, Some, option_map};
 ghost use Rattle.alp_io.specs.Shelf.{NeverFall};
-ghost use Rattle.image_reports.specs.task_ast.View.{program_of};
+ghost use Rattle.link_image.specs.task_ast.View.{program_of};
 ghost use Rattle.fram_state.specs.declared.migration.MigrateFault.{MigrateFault};
 ghost use Rattle.fram_state.specs.Belongs.{Belongs};
 ghost use Rattle.fram_state.specs.Suits.{Suits};

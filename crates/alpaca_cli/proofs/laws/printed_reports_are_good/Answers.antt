@@ -1,4 +1,5 @@
-use Rattle.alpaca_cli.proofs.AuditLaws.{tried_reports_are_good, mean_reports_are_good, tried_reports_are_answered_yes, mean_reports_are_answered_yes}
+use Rattle.plain_commands.proofs.Interface.{mean_reports_are_good, mean_reports_are_answered_yes}
+use Rattle.compiler_commands.proofs.Interface.{tried_reports_are_good, tried_reports_are_answered_yes}
 use Rattle.alpaca_cli.proofs.laws.printed_reports_are_good.Goals as goal
 
 pub returns-clause-tried : goal.returns-clause-tried

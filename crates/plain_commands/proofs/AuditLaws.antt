@@ -1,66 +1,26 @@
--- What `try` and `mean` print is a report that its source could have told.
-use Rattle.std.proofs.Common.{◌≡◌, ◌≤◌, ◌*◌, ◌+◌, ◌∙◌, ℕ, List, [], ◌∷◌, ◌++◌, length, map, sum_by, All, arith, refl, sym, ap, subst, inl, inr, Ok, Some}
+-- What `mean` prints is a report that its source could have told; and what an audit says of such a report.
+use Rattle.std.proofs.Common.{◌≡◌, ◌≤◌, ◌*◌, ◌+◌, ◌∙◌, ℕ, List, [], ◌∷◌, length, map, sum_by, All, arith, refl, sym, ap, subst, inl, Ok, Some}
 use Rattle.std.proofs.lemmas.List.Sums.{sum_by-cons}
 use Rattle.alp_io.specs.declared.report.Reason.{Reason}
 use Rattle.alp_io.specs.declared.report.Reason.TheVariants as reason
-use Rattle.alp_io.specs.Report.{bound_line, end_line}
-use Rattle.fram_board.specs.msp_step.declared.machine.Stop.TheVariants as stop
 use Rattle.energy_trace.specs.TraceValue.{TraceValue}
 use Rattle.energy_trace.specs.Reading.{trace_of}
-use Rattle.fram_board.specs.Run.{End, Charges, Stopped}
+use Rattle.fram_board.specs.Run.{Charges}
 use Rattle.cost_bound.specs.declared.allowance.Allow.{Allow}
 use Rattle.source_values.specs.Statements.{Outcome}
 use Rattle.source_values.specs.Runs.{CheckedProgram, State, Transition, EmitsFit, first_state, state_after, source_run}
 use Rattle.source_meaning.specs.Laws.{AcceptedTextsRun}
-use Rattle.source_report.specs.SourceReport.{Committed, IsConsecutive, IsEnding, readings_of, source_report}
+use Rattle.source_report.specs.SourceReport.{Committed, IsConsecutive, IsEnding, readings_of}
 use Rattle.source_report.specs.Apart.{AreApart}
-use Rattle.source_runs.specs.Tells.{IsEndOf}
 use Rattle.source_runs.proofs.Interface.{made}
 use Rattle.report_audit.specs.declared.verdict.Verdict.{Verdict}
 use Rattle.report_audit.specs.declared.verdict.Verdict.TheVariants.{Yes, No}
 use Rattle.report_audit.specs.Good.{IsGoodReport, IsVerdict}
 use Rattle.report_audit.proofs.Interface.{run_on}
-use Rattle.alpaca_cli.specs.Audited.{TriedReportsAreGood, MeanReportsAreGood, TriedReportsAreAnsweredYes, MeanReportsAreAnsweredYes}
+use Rattle.plain_commands.specs.Audited.{MeanReportsAreGood, MeanReportsAreAnsweredYes}
 use Rattle.command_answers.specs.Ending.{Ending, well}
 use Rattle.plain_commands.specs.Audit.{Audits}
 use Rattle.plain_commands.specs.Verdicts.{verdict_line, verdict_ending}
-
--- ---- `try`
-
--- a run that its source tells ends with the charges or the readings
-never_off : (end : End) (next : Outcome) (why : Reason) → IsEndOf end next why → why ≡ reason.Off → ⊥
-never_off Charges next why ends off = cc (ends, off)
-never_off (Stopped stop.NoReading) next why ends off = let is = ends.0 in cc (is, off)
-never_off (Stopped stop.Off) next why ends off = ends
-never_off (Stopped (stop.Illegal pc word)) next why ends off = ends
-never_off (Stopped (stop.Bus pc address)) next why ends off = ends
-
-pub tried_reports_are_good : TriedReportsAreGood
-tried_reports_are_good source trace file output t =
-    let r = t.report.outcome in
-    let heard = t.told.heard in (
-      length t.told.spans,
-      record {
-        head = bound_line t.allow.cycles;
-        spans = t.told.spans;
-        transitions = t.told.transitions;
-        reason = t.told.why;
-        accepted = r.board.receiver.accepted;
-        repeats = r.board.receiver.repeats;
-        bounded = inr refl;
-        apart = t.told.apart;
-        run = t.told.source;
-        count = refl;
-        on_board = never_off r.ending _ t.told.why t.told.ending;
-        words = t.told.words;
-        few_accepted = omega (arith, heard);
-        few_repeats = omega (arith, heard);
-        lines = t.told.lines ∙ ap (λ n. bound_line n ++ (source_report source t.program 1 t.told.spans t.told.transitions
-            ++ end_line t.told.why (length t.told.spans) r.board.receiver.accepted r.board.receiver.repeats)) t.built.bound;
-      },
-    )
-
--- ---- `mean`
 
 inside : (from end : ℕ) (spans : List Committed) → IsConsecutive from end spans → from ≤ end
 inside from end [] h = h
@@ -136,7 +96,7 @@ answered source trace output p w readings n good (Yes k) ending line says ends t
 answered source trace output p w readings n good (No l) ending line says ends told = absurd (says.not_good n good)
 
 -- whatever program, price and trace it finds, they are those of the report
-of_same : (source trace output : List ℕ) (p : CheckedProgram) (w : Allow) (t : TraceValue) (n : ℕ) → IsGoodReport source p w.cycles t.readings output n
+pub of_same : (source trace output : List ℕ) (p : CheckedProgram) (w : Allow) (t : TraceValue) (n : ℕ) → IsGoodReport source p w.cycles t.readings output n
     → trace_of trace ≡ Ok t → (ending : Ending) (line : List ℕ) (a : Audits source output trace ending line) → (p ≡ a.program) × (w ≡ a.allow)
     → (k : ℕ) × (ending ≡ well) × (line ≡ verdict_line (Yes k))
 of_same source trace output p w t n good said ending line a same =
@@ -147,11 +107,6 @@ of_same source trace output p w t n good said ending line a same =
     let R : TraceValue → Type 0 = λ x. IsGoodReport source a.program a.allow.cycles x.readings output n in
     answered source trace output a.program a.allow a.value.readings n (subst R value (subst Q same.1 (subst P same.0 good)))
     a.verdict ending line a.says a.ends a.line
-
-pub tried_reports_are_answered_yes : TriedReportsAreAnsweredYes
-tried_reports_are_answered_yes source trace file output t ending line a =
-    let good = tried_reports_are_good source trace file output t in
-    of_same source trace output t.program t.allow t.charges good.0 good.1 t.trace_said ending line a (a.only t.program t.allow t.accepted)
 
 pub mean_reports_are_answered_yes : AcceptedTextsRun → MeanReportsAreAnsweredYes
 mean_reports_are_answered_yes law source trace output m ending line a =

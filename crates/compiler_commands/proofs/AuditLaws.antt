@@ -1,0 +1,50 @@
+-- What `try` prints is a report that its source could have told.
+use Rattle.std.proofs.Common.{◌≡◌, ◌∙◌, ◌++◌, length, arith, refl, ap, inr}
+use Rattle.alp_io.specs.declared.report.Reason.{Reason}
+use Rattle.alp_io.specs.declared.report.Reason.TheVariants as reason
+use Rattle.alp_io.specs.Report.{bound_line, end_line}
+use Rattle.fram_board.specs.msp_step.declared.machine.Stop.TheVariants as stop
+use Rattle.fram_board.specs.Run.{End, Charges, Stopped}
+use Rattle.source_values.specs.Statements.{Outcome}
+use Rattle.source_report.specs.SourceReport.{source_report}
+use Rattle.image_reports.specs.source_runs.Tells.{IsEndOf}
+use Rattle.compiler_commands.specs.Audited.{TriedReportsAreGood, TriedReportsAreAnsweredYes}
+use Rattle.plain_commands.proofs.Interface.{of_same}
+
+-- a run that its source tells ends with the charges or the readings
+never_off : (end : End) (next : Outcome) (why : Reason) → IsEndOf end next why → why ≡ reason.Off → ⊥
+never_off Charges next why ends off = cc (ends, off)
+never_off (Stopped stop.NoReading) next why ends off = let is = ends.0 in cc (is, off)
+never_off (Stopped stop.Off) next why ends off = ends
+never_off (Stopped (stop.Illegal pc word)) next why ends off = ends
+never_off (Stopped (stop.Bus pc address)) next why ends off = ends
+
+pub tried_reports_are_good : TriedReportsAreGood
+tried_reports_are_good source trace file output t =
+    let r = t.report.outcome in
+    let heard = t.told.heard in (
+      length t.told.spans,
+      record {
+        head = bound_line t.allow.cycles;
+        spans = t.told.spans;
+        transitions = t.told.transitions;
+        reason = t.told.why;
+        accepted = r.board.receiver.accepted;
+        repeats = r.board.receiver.repeats;
+        bounded = inr refl;
+        apart = t.told.apart;
+        run = t.told.source;
+        count = refl;
+        on_board = never_off r.ending _ t.told.why t.told.ending;
+        words = t.told.words;
+        few_accepted = omega (arith, heard);
+        few_repeats = omega (arith, heard);
+        lines = t.told.lines ∙ ap (λ n. bound_line n ++ (source_report source t.program 1 t.told.spans t.told.transitions
+            ++ end_line t.told.why (length t.told.spans) r.board.receiver.accepted r.board.receiver.repeats)) t.built.bound;
+      },
+    )
+
+pub tried_reports_are_answered_yes : TriedReportsAreAnsweredYes
+tried_reports_are_answered_yes source trace file output t ending line a =
+    let good = tried_reports_are_good source trace file output t in
+    of_same source trace output t.program t.allow t.charges good.0 good.1 t.trace_said ending line a (a.only t.program t.allow t.accepted)
