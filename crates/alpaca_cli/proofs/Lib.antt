@@ -4,3 +4,4 @@ mod LineLaws
 mod NotRefused
 mod OneEnding
 mod ShelfLaws
+mod StateLaws

@@ -6,6 +6,7 @@ use Rattle.command_answers.specs.Promises.{Product}
 use Rattle.alpaca_cli.specs.Products.{IsProduct}
 use Rattle.plain_commands.proofs.Interface.{run_ending, audit_ending}
 use Rattle.state_commands.proofs.Interface.{resume_ending, save_ending}
+use Rattle.alpaca_cli.specs.OfSources.{SavedStatesStay, IsOfItsSource}
 
 pub one_ending : HasOneRun → (call : Call) (texts : List (List ℕ)) (p q : Product) → IsProduct call texts p → IsProduct call texts q → p.ending ≡ q.ending
 one_ending law (mean c d) [] p q a b = absurd a
@@ -33,12 +34,12 @@ one_ending law (gen n i) [] p q a b = a.1 ∙ sym b.1
 one_ending law (gen n i) (x ∷ more) p q a b = absurd a
 one_ending law (save c d i) [] p q a b = absurd a
 one_ending law (save c d i) (x ∷ []) p q a b = absurd a
-one_ending law (save c d i) (x ∷ y ∷ []) p q a b = save_ending law x y p.file q.file p.ending q.ending p.output q.output a b
+one_ending law (save c d i) (x ∷ y ∷ []) p q a b = save_ending SavedStatesStay law x y p.file q.file p.ending q.ending p.output q.output a b
 one_ending law (save c d i) (x ∷ y ∷ z ∷ more) p q a b = absurd a
 one_ending law (resume c d e) [] p q a b = absurd a
 one_ending law (resume c d e) (x ∷ []) p q a b = absurd a
 one_ending law (resume c d e) (x ∷ y ∷ []) p q a b = absurd a
-one_ending law (resume c d e) (x ∷ y ∷ z ∷ []) p q a b = resume_ending law x y z p.ending q.ending p.output q.output a.0 b.0
+one_ending law (resume c d e) (x ∷ y ∷ z ∷ []) p q a b = resume_ending IsOfItsSource law x y z p.ending q.ending p.output q.output a.0 b.0
 one_ending law (resume c d e) (x ∷ y ∷ z ∷ u ∷ more) p q a b = absurd a
 one_ending law (migrate c d e f g h) [] p q a b = absurd a
 one_ending law (migrate c d e f g h) (x ∷ []) p q a b = absurd a

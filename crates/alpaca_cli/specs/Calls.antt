@@ -11,6 +11,7 @@ use Rattle.compiler_commands.specs.Build.{build_promise}
 use Rattle.compiler_commands.specs.Try.{try_promise}
 use Rattle.compiler_commands.specs.Gen.{gen_promise}
 use Rattle.state_commands.specs.Saved.{save_promise}
+use Rattle.alpaca_cli.specs.OfSources.{SavedStatesStay, IsOfItsSource, RestsInItsSource}
 use Rattle.state_commands.specs.Resumed.{resume_promise}
 use Rattle.state_commands.specs.Migrated.{migrate_promise}
 
@@ -52,9 +53,9 @@ promise_of (run image trace) = run_promise image trace
 promise_of (asm assembly image) = asm_promise assembly image
 promise_of (dis image) = dis_promise image
 promise_of (gen number image) = gen_promise number image
-promise_of (save image trace state) = save_promise image trace state
-promise_of (resume image state trace) = resume_promise image state trace
-promise_of (migrate source image state new_source new_image new_state) = migrate_promise source image state new_source new_image new_state
+promise_of (save image trace state) = save_promise SavedStatesStay image trace state
+promise_of (resume image state trace) = resume_promise IsOfItsSource image state trace
+promise_of (migrate source image state new_source new_image new_state) = migrate_promise RestsInItsSource source image state new_source new_image new_state
 promise_of (audit source report trace) = audit_promise source report trace
 
 -- the names of the files that it reads, in order

@@ -10,6 +10,7 @@ ghost use Rattle.alpaca_cli.specs.Answers.{Answers, IsCarriedOut, OthersStand};
 use alp_io::{Shelf, Sink};
 use command_answers::{Status, messages};
 use command_line::{Command, WordsFault, command_of};
+use compiled_states::{fresh_states_belong, migrated_states_belong, states_are_told, states_stay};
 use compiler_commands::{answer_build, answer_gen, answer_try};
 use fram_board::board_has_one_run;
 use fram_state::{answers_are_one, no_migration_is_refused};
@@ -34,6 +35,10 @@ fn answer<H: Shelf, O: Sink, E: Sink>(
         (record { old = O.contents out.old; new = O.contents out.new; faults_old = O.faults out.old; faults_new = O.faults out.new })
         (record { old = E.contents err.old; new = E.contents err.new; faults_old = E.faults err.old; faults_new = E.faults err.new }) }
 {
+    states_are_told();
+    states_stay();
+    fresh_states_belong();
+    migrated_states_belong();
     match command_of(alloc, words) {
         Ok(Command::Mean { source, trace }) => answer_mean(alloc, source, trace, shelf, out, err),
         Ok(

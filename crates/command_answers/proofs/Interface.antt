@@ -12,3 +12,5 @@ pub use Rattle.command_answers.proofs.ShelfLaws.{all_same, command_same}
 pub use Rattle.command_answers.proofs.StatusLaws.{of_failure, of_unread, of_texts, held_alone, of_two, of_one, earlier_read, of_one_read, of_two_read, whole_ending}
 -- Why one file of a list wasn't read is why the list wasn't.
 pub use Rattle.command_answers.proofs.UnreadFiles.{front_unread, behind_unread, handed_on}
+-- A command that makes one thing of its texts makes what follows from that.
+pub use Rattle.command_answers.proofs.MadeMore.{answers_more}

@@ -1,4 +1,5 @@
 mod FailureLaws
+mod MadeMore
 mod PutLaws
 mod Refused
 mod ShelfLaws

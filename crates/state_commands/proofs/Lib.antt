@@ -3,5 +3,4 @@ mod NotRefused
 mod OneEnding
 mod ResumeLaws
 mod SaveLaws
-mod StateLaws
 pub mod Interface

@@ -4,7 +4,7 @@ use Rattle.std.specs.Prelude.{slice_get}
 use Rattle.std.specs.Io.KnownBytes.{Appends}
 use Rattle.std.proofs.KnownBytes.{Appends-nil}
 use Rattle.alp_io.specs.Shelf.{Told, Sets, Files, Counts, NeverFall}
-use Rattle.link_image.specs.task_ast.View.{program_of}
+use Rattle.source_report.specs.task_ast.View.{program_of}
 use Rattle.state_text.specs.declared.state.State.{State}
 use Rattle.state_text.specs.Reading.{state_of}
 use Rattle.state_text.specs.Text.{state_text}
@@ -12,7 +12,8 @@ use Rattle.fram_state.specs.declared.migration.MigrateFault.{MigrateFault}
 use Rattle.fram_state.specs.Belongs.{Belongs}
 use Rattle.fram_state.specs.Suits.{Suits}
 use Rattle.fram_state.specs.Migrated.{EditionValue, IsStateOf, IsMigrated, IsFault}
-use Rattle.compiled_states.specs.Laws.{RestsInPlaceOf}
+use Rattle.state_text.specs.image_map.Kept.{IsMap}
+use Rattle.state_commands.specs.Saved.{IsOfWords}
 use Rattle.source_values.specs.Runs.{CheckedProgram}
 use Rattle.source_meaning.specs.Acceptance.{IsAcceptedText}
 use Rattle.cost_bound.specs.declared.allowance.Allow.{Allow}
@@ -22,7 +23,7 @@ use Rattle.state_commands.specs.declared.migrate.MigrateNames.{MigrateNames}
 use Rattle.state_commands.specs.declared.migrate.Said.{Said}
 use Rattle.command_answers.specs.CommandAnswers.{IsWhole, CommandAnswers, TextAnswers}
 use Rattle.command_answers.specs.Ending.{well}
-use Rattle.state_commands.specs.Migrated.{Editions, AreSaid, AreAlone, AreSuited, Migrates, MigrateRefuses, unsuited, unsuited_new, another_state, not_migrated, other_source, migrate_refusal, old_edition, new_edition}
+use Rattle.state_commands.specs.Migrated.{Editions, AreSaid, AreAlone, AreSuited, Migrates, MigratesWords, MigrateRefuses, unsuited, unsuited_new, another_state, not_migrated, other_source, migrate_refusal, old_edition, new_edition}
 use Rattle.state_commands.specs.Migrating.{AreRead, FailsAt, OfEditions, old_with, new_with, read_by, texts_of, migration_of}
 use Rattle.command_answers.specs.Outcomes.{FailsBy, FailsPutting, FailsRefused}
 use Rattle.command_answers.specs.Outside.{Shelved, WhereSilent, Written}
@@ -32,7 +33,6 @@ use Rattle.command_texts.specs.Sources.{IsSourceText}
 use Rattle.command_answers.specs.Views.{refusal_of}
 use Rattle.command_answers.proofs.Interface.{put_whole, put_fails, of_texts, earlier_read}
 use Rattle.command_answers.specs.declared.status.Status.{Status}
-use Rattle.command_answers.specs.declared.status.Status.TheVariants.{Refused}
 use Rattle.command_answers.specs.InputFiles.{AreHeld}
 
 -- a text of a migration is refused, at its place
@@ -143,19 +143,16 @@ module _ (t : Editions) (s : Said) (read : AreRead t s) where
           → MigrateRefuses t 2 r
       refused_migration r h = not_migrated said_in alone_in suited belongs h.0 r (of_editions (λ a b. IsFault a b h.0) h.1) h.2
 
-      pub migrates : (x : State) (file : List ℕ) → OfEditions s (λ a b. IsMigrated a b s.state.receiver x) → RestsInPlaceOf s.state x → file ≡ state_text x
-          → state_of file ≡ Ok x → Migrates t file
-      migrates x file h rests text back = record {
+      pub migrates : (x : State) (file : List ℕ) → OfEditions s (λ a b. IsMigrated a b s.state.receiver x) → IsOfWords s.state × IfSome s.state.image.map IsMap × IsOfWords x → file ≡ state_text x
+          → state_of file ≡ Ok x → Migrates MigratesWords t file
+      migrates x file h words text back = record {
         said = said_in;
         alone = alone_in;
         suited = suited;
         belongs = belongs;
         state = x;
         migrated = of_editions (λ a b. IsMigrated a b s.state.receiver x) h;
-        of_source = λ allow ok c.
-            rests t.new_source (program_of s.new_source.checked.source) allow s.new_image ok c t.source (program_of s.source.checked.source)
-            suited.old.named suited.new.named (record { image = s.image; suits = suited.old; belongs = belongs }) map_is suited.new.mapped
-            (of_editions (λ a b. IsMigrated a b s.state.receiver x) h);
+        holds = words;
         text = text;
         reads_back = back;
       }
@@ -169,7 +166,7 @@ refusal_at (Put file) n t shelf fails stands = absurd fails
 refusal_at Write n t shelf fails stands = absurd fails
 refusal_at Memory n t shelf fails stands = λ out silent. (stands, silent)
 
-pub migrate_whole : {A : Type 0} (result : Result A Failure) (n : MigrateNames) (t : Editions) (file bytes : List ℕ) (shelf : Shelved) → Migrates t file
+pub migrate_whole : {A : Type 0} (result : Result A Failure) (n : MigrateNames) (t : Editions) (file bytes : List ℕ) (shelf : Shelved) → Migrates MigratesWords t file
     → bytes ≡ file → IfOk result (λ x. Told shelf.old shelf.new (Sets n.new_state.now bytes))
     → IfOk result (λ x. WhereSilent (IsWhole (migration_of n) (texts_of t) well shelf))
 migrate_whole (Ok x) n t file bytes shelf is same put = λ out silent.
@@ -177,7 +174,7 @@ migrate_whole (Ok x) n t file bytes shelf is same put = λ out silent.
     ([], refl, subst (λ now. Appends out.old now []) (sym silent) (Appends-nil out.old))
 migrate_whole (Err e) n t file bytes shelf is same put = tt
 
-pub migrate_fails : {A : Type 0} (result : Result A Failure) (n : MigrateNames) (t : Editions) (file : List ℕ) (shelf : Shelved) → Migrates t file
+pub migrate_fails : {A : Type 0} (result : Result A Failure) (n : MigrateNames) (t : Editions) (file : List ℕ) (shelf : Shelved) → Migrates MigratesWords t file
     → IfErr result (λ e. FailsPutting e n.new_state.now shelf) → IfErr result (λ e. WhereSilent (FailsBy e (migration_of n) (texts_of t) shelf))
 migrate_fails (Ok x) n t file shelf is fails = tt
 migrate_fails (Err e) n t file shelf is fails = λ out silent.

@@ -5,7 +5,8 @@ use Rattle.energy_trace.specs.Reading.{trace_of}
 use Rattle.state_text.specs.declared.state.State.{State}
 use Rattle.state_text.specs.Reading.{state_of}
 use Rattle.fram_board.specs.Laws.{HasOneRun}
-use Rattle.fram_board.specs.Run.{Run}
+use Rattle.fram_board.specs.Run.{Run, RunOutcome}
+use Rattle.image_text.specs.ImageValue.{ImageValue}
 use Rattle.board_run.specs.Charges.{charges_of}
 use Rattle.board_run.specs.History.{start_of}
 use Rattle.command_answers.specs.Ending.{Ending}
@@ -15,16 +16,16 @@ use Rattle.state_commands.specs.Saved.{Saves, from_state}
 use Rattle.command_texts.proofs.Interface.{same_value}
 use Rattle.plain_commands.proofs.Interface.{one_run}
 
-pub resume_ending : HasOneRun → (x y z : List ℕ) (e e' : Ending) (o o' : List ℕ) → Resumes x y z e o → Resumes x y z e' o' → e ≡ e'
-resume_ending law x y z e e' o o' a b =
+pub resume_ending : (Holds : ImageValue → State → TraceValue → RunOutcome → List ℕ → Type 0) → HasOneRun → (x y z : List ℕ) (e e' : Ending) (o o' : List ℕ) → Resumes Holds x y z e o → Resumes Holds x y z e' o' → e ≡ e'
+resume_ending Holds law x y z e e' o o' a b =
     let state : b.saved ≡ a.saved = same_value (state_of y) b.saved a.saved b.state_said a.state_said in
     let trace : b.charges ≡ a.charges = same_value (trace_of z) b.charges a.charges b.trace_said a.trace_said in
     let OfState : State → Type 0 = λ s. IsReportFrom (from_state s b.charges) (start_of s.image) b.charges e' o' in
     let OfTrace : TraceValue → Type 0 = λ t. IsReportFrom (from_state a.saved t) (start_of a.saved.image) t e' o' in
     one_run law _ _ a.charges e e' o o' a.report (subst OfTrace trace (subst OfState state b.report))
 
-pub save_ending : HasOneRun → (x y : List ℕ) (f f' : Option (List ℕ)) (e e' : Ending) (o o' : List ℕ) → Saves x y f e o → Saves x y f' e' o' → e ≡ e'
-save_ending law x y f f' e e' o o' a b =
+pub save_ending : (Holds : State → TraceValue → RunOutcome → Type 0) → HasOneRun → (x y : List ℕ) (f f' : Option (List ℕ)) (e e' : Ending) (o o' : List ℕ) → Saves Holds x y f e o → Saves Holds x y f' e' o' → e ≡ e'
+save_ending Holds law x y f f' e e' o o' a b =
     let state : b.state ≡ a.state = same_value (state_of x) b.state a.state b.state_said a.state_said in
     let trace : b.charges ≡ a.charges = same_value (trace_of y) b.charges a.charges b.trace_said a.trace_said in
     let OfState : State → Type 0 = λ s. Run (charges_of b.charges.charges) (from_state s b.charges) b.outcome in

@@ -13,18 +13,19 @@ use Rattle.board_run.specs.Charges.{charges_of}
 use Rattle.board_run.specs.History.{start_of}
 use Rattle.board_run.specs.Report.{report_of}
 use Rattle.command_answers.specs.Ending.{Ending}
-use Rattle.state_commands.specs.Resumed.{IsOfItsSource, resume_promise}
 use Rattle.plain_commands.specs.RunReport.{IsReportFrom}
-use Rattle.state_commands.specs.Saved.{from_state}
+use Rattle.source_runs.specs.Traces.{IsTraceOfWords}
+use Rattle.state_commands.specs.Resumed.{ResumesOnWords, resume_promise}
+use Rattle.state_commands.specs.Saved.{IsOfWords, from_state}
 use Rattle.plain_commands.proofs.Interface.{told_from}
 use Rattle.command_answers.proofs.Interface.{output_alone}
 
 pub resume_product : (a b c image state trace : List ℕ) (i : ImageValue) (s : State) (t : TraceValue) (board : BoardValue)
     → image_of image ≡ Ok i → state_of state ≡ Ok s → trace_of trace ≡ Ok t → Belongs i s
-    → ((r : RunOutcome) → Run (charges_of t.charges) (from_state s t) r → IsOfItsSource i s t r (report_of (start_of s.image) r)) → board ≡ from_state s t
+    → IsOfWords s → IsTraceOfWords t → board ≡ from_state s t
     → (ending : Ending) (output : List ℕ) → IsReportFrom board (start_of s.image) t ending output
-    → (resume_promise a b c).makes (image ∷ state ∷ trace ∷ []) (output_alone output ending)
-resume_product a b c image state trace i s t board image_said state_said trace_said belongs law is_board ending output r =
+    → (resume_promise ResumesOnWords a b c).makes (image ∷ state ∷ trace ∷ []) (output_alone output ending)
+resume_product a b c image state trace i s t board image_said state_said trace_said belongs whole words is_board ending output r =
     let report = told_from board (from_state s t) (start_of s.image) (start_of s.image) t is_board refl ending output r in (
       record {
         value = i;
@@ -35,7 +36,7 @@ resume_product a b c image state trace i s t board image_said state_said trace_s
         trace_said = trace_said;
         belongs = belongs;
         report = report;
-        of_source = subst (IsOfItsSource i s t report.outcome) (sym report.lines) (law report.outcome report.run);
+        holds = (whole, words);
       },
       refl,
     )

@@ -22,7 +22,8 @@ use Rattle.command_answers.specs.CommandAnswers.{IsWhole, IsBroken}
 use Rattle.command_answers.specs.Ending.{Ending, well, at_fault}
 use Rattle.command_answers.specs.Outside.{Shelved, Written, Stands}
 use Rattle.plain_commands.specs.RunReport.{ending_of}
-use Rattle.state_commands.specs.Saved.{IsSavedAt, RanFrom, RanOn, Saves, StaysWithItsImage, from_state, told_end, told_fault, save_promise}
+use Rattle.source_runs.specs.Traces.{IsTraceOfWords}
+use Rattle.state_commands.specs.Saved.{IsSavedAt, RanFrom, RanOn, Saves, RunsOnWords, IsOfWords, from_state, told_end, told_fault, save_promise}
 use Rattle.plain_commands.proofs.Interface.{ends_well, ends_at_fault}
 
 -- ---- the run, to a sink that never fails
@@ -84,16 +85,16 @@ fault_is f b h (Stopped (stop.Bus pc address)) is = let same : f ≡ fault.Bus p
 -- ---- what the command makes
 
 abbrev pub ran_on : (image trace : List ℕ) (s : State) (t : TraceValue) (end : Result RunEnd RunFault) (board : BoardValue) (completed : ℕ)
-    → state_of image ≡ Ok s → trace_of trace ≡ Ok t → ((r : RunOutcome) → Run (charges_of t.charges) (from_state s t) r → StaysWithItsImage s r)
+    → state_of image ≡ Ok s → trace_of trace ≡ Ok t → IsOfWords s → IsTraceOfWords t
     → RanFrom s t end board completed → RanOn image trace s end board completed
-ran_on image trace s t end board completed state_said trace_said stay ran =
-    record { charges = t; state_said = state_said; trace_said = trace_said; ran = ran; stays = stay ran.outcome ran.run }
+ran_on image trace s t end board completed state_said trace_said whole words ran =
+    record { charges = t; state_said = state_said; trace_said = trace_said; ran = ran; words = (whole, words) }
 
 module _ (image trace : List ℕ) (s : State) (end : Result RunEnd RunFault) (board : BoardValue) (completed : ℕ)
     (r : RanOn image trace s end board completed) where
   saves : (file : Option (List ℕ)) (ending : Ending) (output : List ℕ) → ending ≡ ending_of r.ran.outcome.ending
       → IsSavedAt ending file (saved board s.image.map)
-      → output ≡ last_line (after_all (start_of s.image) r.ran.outcome.moments) r.ran.outcome.ending board → Saves image trace file ending output
+      → output ≡ last_line (after_all (start_of s.image) r.ran.outcome.moments) r.ran.outcome.ending board → Saves RunsOnWords image trace file ending output
   saves file ending output ends put line = record {
     state = s;
     charges = r.charges;
@@ -103,27 +104,27 @@ module _ (image trace : List ℕ) (s : State) (end : Result RunEnd RunFault) (bo
     run = r.ran.run;
     ends = ends;
     put = subst (λ b. IsSavedAt ending file (saved b s.image.map)) r.ran.at_end put;
-    stays = r.stays;
+    holds = r.words;
     line = line ∙ ap (λ b. last_line (after_all (start_of s.image) r.ran.outcome.moments) r.ran.outcome.ending b) r.ran.at_end;
   }
 
   -- where the run ended well
   pub saves_well : (x : RunEnd) (text output : List ℕ) → end ≡ Ok x → IsSavedAt well (Some text) (saved board s.image.map)
-      → output ≡ told_end x completed board → Saves image trace (Some text) well output
+      → output ≡ told_end x completed board → Saves RunsOnWords image trace (Some text) well output
   saves_well x text output is put line =
       let answer = sym is ∙ r.ran.answer in
       saves (Some text) well output (ends_well r.ran.outcome.ending x answer) put
       (line ∙ end_is x completed board (after_all (start_of s.image) r.ran.outcome.moments) r.ran.outcome.ending answer r.ran.count)
 
   -- where it met a fault nothing is put
-  saves_none : (f : RunFault) (output : List ℕ) → end ≡ Err f → output ≡ told_fault f → Saves image trace None at_fault output
+  saves_none : (f : RunFault) (output : List ℕ) → end ≡ Err f → output ≡ told_fault f → Saves RunsOnWords image trace None at_fault output
   saves_none f output is line =
       let answer = sym is ∙ r.ran.answer in
       saves None at_fault output (ends_at_fault r.ran.outcome.ending f answer) refl
       (line ∙ fault_is f board (after_all (start_of s.image) r.ran.outcome.moments) r.ran.outcome.ending answer)
 
   pub fault_whole : (f : RunFault) (a b c : List ℕ) (shelf : Shelved) (out : Written) → end ≡ Err f → Stands shelf → Appends out.old out.new (told_fault f)
-      → IsWhole (save_promise a b c) (image ∷ trace ∷ []) at_fault shelf out
+      → IsWhole (save_promise RunsOnWords a b c) (image ∷ trace ∷ []) at_fault shelf out
   fault_whole f a b c shelf out is stands written = record {
     product = record { file = None; output = told_fault f; ending = at_fault };
     is = saves_none f (told_fault f) is refl;
@@ -133,7 +134,7 @@ module _ (image trace : List ℕ) (s : State) (end : Result RunEnd RunFault) (bo
   }
 
   pub fault_breaks : (f : RunFault) (a b c : List ℕ) (shelf : Shelved) (out : Written) → end ≡ Err f → Stands shelf
-      → AppendsProperPrefix out.old out.new (told_fault f) → Rose out.faults_old out.faults_new → IsBroken (save_promise a b c) (image ∷ trace ∷ []) shelf out
+      → AppendsProperPrefix out.old out.new (told_fault f) → Rose out.faults_old out.faults_new → IsBroken (save_promise RunsOnWords a b c) (image ∷ trace ∷ []) shelf out
   fault_breaks f a b c shelf out is stands written failed = record {
     product = record { file = None; output = told_fault f; ending = at_fault };
     is = saves_none f (told_fault f) is refl;

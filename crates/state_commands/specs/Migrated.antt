@@ -1,5 +1,5 @@
 -- What `migrate` makes of its texts: the state of a new edition of a program that goes on in place of an old one; and why there is none.
-use Rattle.std.specs.Prelude.{◌≡◌, ℕ, List, codes, Option, Some, None, Ok, [], ◌∷◌, IsSomeAnd}
+use Rattle.std.specs.Prelude.{◌≡◌, ℕ, List, codes, Option, Some, None, Ok, [], ◌∷◌, IsSomeAnd, IfSome}
 use Rattle.image_text.specs.ImageValue.{ImageValue}
 use Rattle.image_text.specs.Reading.{image_of}
 use Rattle.state_text.specs.declared.state.State.{State}
@@ -9,12 +9,10 @@ use Rattle.fram_state.specs.declared.migration.MigrateFault.{MigrateFault}
 use Rattle.fram_state.specs.declared.migration.MigrateFault.TheVariants.{Pending, NoTask, Unsettled, Memory}
 use Rattle.fram_state.specs.Belongs.{Belongs, IsAnswer}
 use Rattle.fram_state.specs.Suits.{Suits}
-use Rattle.fram_state.specs.Migrated.{EditionValue, edition_with, rows_of, CanMigrate, IsMigrated, IsFault}
-use Rattle.cost_bound.specs.declared.allowance.Allow.{Allow}
+use Rattle.fram_state.specs.Migrated.{EditionValue, edition_with, CanMigrate, IsMigrated, IsFault}
 use Rattle.source_values.specs.Runs.{CheckedProgram}
-use Rattle.source_meaning.specs.Acceptance.{IsAcceptedText}
-use Rattle.link_image.specs.Compiled.{IsCompiled}
-use Rattle.compiled_states.specs.Worlds.{BelongsAt}
+use Rattle.state_text.specs.image_map.Kept.{IsMap}
+use Rattle.state_commands.specs.Saved.{IsOfWords}
 use Rattle.command_answers.specs.Refusals.{Refusal, plain, named}
 use Rattle.state_commands.specs.Resumed.{RefusesOther}
 use Rattle.command_texts.specs.Sources.{IsSourceText, RefusesSource}
@@ -64,24 +62,25 @@ old_edition t s u = edition_with t.source s.program u.old.named s.state.image.wo
 abbrev pub new_edition : (t : Editions) (s : AreSaid t) → AreSuited t s → EditionValue
 new_edition t s u = edition_with t.new_source s.new_program u.new.named s.new_image.words
 
--- Where the new image is what the compiler makes of the new source, a migrated state belongs to it, and rests at the state of this source whose shared
--- words are those that were kept, or else those that the source begins with, and whose task is the one of the old current task's name.
-abbrev pub RestsInItsSource : (t : Editions) (s : AreSaid t) (u : AreSuited t s) (state : State)
+-- what may hold of the texts of a migration and of the state that it makes
+abbrev pub HoldsOfMigrations : Type 1
+HoldsOfMigrations = (t : Editions) (s : AreSaid t) (u : AreSuited t s) (state : State)
     → IsMigrated (old_edition t s u) (new_edition t s u) s.state.receiver state → Type 0
-RestsInItsSource t s u state g = (allow : Allow) → IsAcceptedText t.new_source s.new_program allow
-    → (c : IsCompiled t.new_source s.new_program allow s.new_image)
-    → BelongsAt s.new_program c.layout s.new_image (rows_of (old_edition t s u) (new_edition t s u)) g.migrates.can.number state
+
+-- by their types both states are of words, and the old one's map keeps the rules of maps
+abbrev pub MigratesWords : HoldsOfMigrations
+MigratesWords t s u state g = IsOfWords s.state × IfSome s.state.image.map IsMap × IsOfWords state
 
 -- The texts are a source, an image that suits it and a state that belongs to this image; and a new source and an image that suits it. These bytes are
--- the text, which reads back, of a state that goes on in place of the old one.
-pub record Migrates (t : Editions) (file : List ℕ) : Type 0 where
+-- the text, which reads back, of a state that goes on in place of the old one. And this holds of them.
+pub record Migrates (Holds : HoldsOfMigrations) (t : Editions) (file : List ℕ) : Type 0 where
   pub said : AreSaid t
   pub alone : AreAlone t said
   pub suited : AreSuited t said
   pub belongs : Belongs said.image said.state
   pub state : State
   pub migrated : IsMigrated (old_edition t said suited) (new_edition t said suited) said.state.receiver state
-  pub of_source : RestsInItsSource t said suited state migrated
+  pub holds : Holds t said suited state migrated
   pub text : file ≡ state_text state
   pub reads_back : state_of file ≡ Ok state
 
@@ -124,12 +123,12 @@ pub data MigrateRefuses (t : Editions) : ℕ → Refusal → Type 0 where
       → IsFault (old_edition t s u) (new_edition t s u) f → migrate_refusal t f ≡ Some r → MigrateRefuses t 2 r
 
 -- what it promises
-abbrev pub migrate_promise : (source image state new_source new_image new_state : List ℕ) → Promise
-migrate_promise source image state new_source new_image new_state = record {
+abbrev pub migrate_promise : HoldsOfMigrations → (source image state new_source new_image new_state : List ℕ) → Promise
+migrate_promise Holds source image state new_source new_image new_state = record {
   reads = source ∷ image ∷ state ∷ new_source ∷ new_image ∷ [];
   judges = source ∷ image ∷ state ∷ new_source ∷ new_image ∷ [];
   puts = Some new_state;
   takes = OfFiveTexts (λ s i t n j. CanBeMigrated (editions s i t n j));
-  makes = λ texts p. OfFiveTexts (λ s i t n j. IsSomeAnd p.file (Migrates (editions s i t n j)) × (p.output ≡ []) × (p.ending ≡ well)) texts;
+  makes = λ texts p. OfFiveTexts (λ s i t n j. IsSomeAnd p.file (Migrates Holds (editions s i t n j)) × (p.output ≡ []) × (p.ending ≡ well)) texts;
   refuses = λ texts place r. OfFiveTexts (λ s i t n j. MigrateRefuses (editions s i t n j) place r) texts;
 }

@@ -1,6 +1,6 @@
 -- What the parts of a migration bring.
 use Rattle.std.specs.Prelude.{◌≡◌, ℕ, ◌≤◌, List, [], ◌∷◌, length, Some, Ok, slice_get}
-use Rattle.link_image.specs.task_ast.View.{program_of}
+use Rattle.source_report.specs.task_ast.View.{program_of}
 use Rattle.image_text.specs.Reading.{image_of}
 use Rattle.image_text.specs.image_map.MapValue.{MapValue}
 use Rattle.state_text.specs.Reading.{state_of}
@@ -16,7 +16,7 @@ use Rattle.state_commands.specs.declared.migrate.Said.{Said}
 use Rattle.command_answers.specs.Refusals.{Refusal}
 use Rattle.command_texts.specs.Sources.{IsSourceText}
 use Rattle.command_answers.specs.Views.{refusal_of}
-use Rattle.state_commands.specs.Migrated.{Editions, migrate_promise}
+use Rattle.state_commands.specs.Migrated.{Editions, migrate_promise, MigratesWords}
 use Rattle.command_answers.specs.Promises.{Promise}
 
 -- the texts as values
@@ -41,7 +41,7 @@ editions_in t = record { source = t.source.items; image = t.image.items; state =
 
 -- the command of these names
 abbrev pub migration_of : MigrateNames → Promise
-migration_of n = migrate_promise n.source.now n.image.now n.state.now n.new_source.now n.new_image.now n.new_state.now
+migration_of n = migrate_promise MigratesWords n.source.now n.image.now n.state.now n.new_source.now n.new_image.now n.new_state.now
 
 -- the names of the files that it reads
 abbrev pub read_by : MigrateNames → List (List ℕ)

@@ -12,26 +12,17 @@ use Rattle.fram_state.specs.Belongs.{Belongs, IsAnswer}
 use Rattle.fram_state.specs.Rules.{rule_name}
 use Rattle.fram_board.specs.Run.{RunOutcome}
 use Rattle.board_run.specs.History.{start_of}
-use Rattle.link_image.specs.Compiled.{IsImageOf}
-use Rattle.compiled_states.specs.source_runs.Traces.{IsTraceOfWords}
-use Rattle.compiled_states.specs.Worlds.{IsToldByItsSource, LeavesItsStates}
+use Rattle.source_runs.specs.Traces.{IsTraceOfWords}
 use Rattle.command_answers.specs.Ending.{Ending}
 use Rattle.command_answers.specs.Refusals.{Detail, Refusal, name, address}
 use Rattle.plain_commands.specs.RunReport.{IsReportFrom}
-use Rattle.state_commands.specs.Saved.{from_state}
+use Rattle.state_commands.specs.Saved.{RunsOnWords, from_state}
 use Rattle.command_texts.specs.Texts.{RefusesTrace, RefusesImage, RefusesState, SaysTrace}
 use Rattle.command_answers.specs.Promises.{Promise, OfThreeTexts}
 
--- What holds of a run from a state, on a trace, where the image is what the compiler makes of a source, whatever its text. The report is told by
--- the source: from the state on, or behind the transition of the commit that is pending there; and what is saved of each of the run's
--- boards, and at its end, belongs to the image again.
-pub record IsOfItsSource (image : ImageValue) (s : State) (trace : TraceValue) (r : RunOutcome) (output : List ℕ) : Type 0 where
-  pub told : IsToldByItsSource image s trace r output
-  pub stays : (source : List ℕ) → IsImageOf source image → LeavesItsStates image s (from_state s trace) r
-
 -- The texts are an image, a state that belongs to it, and a trace. This is the report of the run of the board that goes on from the
--- state, on the trace, and that run ends so. And where the image is one of a source, the run is as the source says.
-pub record Resumes (image state trace : List ℕ) (ending : Ending) (output : List ℕ) : Type 0 where
+-- state, on the trace, and that run ends so. And this holds of them, the run and the report.
+pub record Resumes (Holds : ImageValue → State → TraceValue → RunOutcome → List ℕ → Type 0) (image state trace : List ℕ) (ending : Ending) (output : List ℕ) : Type 0 where
   pub value : ImageValue
   pub saved : State
   pub charges : TraceValue
@@ -40,7 +31,11 @@ pub record Resumes (image state trace : List ℕ) (ending : Ending) (output : Li
   pub trace_said : trace_of trace ≡ Ok charges
   pub belongs : Belongs value saved
   pub report : IsReportFrom (from_state saved charges) (start_of saved.image) charges ending output
-  pub of_source : IsOfItsSource value saved charges report.outcome output
+  pub holds : Holds value saved charges report.outcome output
+
+-- a run from a state on a trace is one of words, whatever is reported of it
+abbrev pub ResumesOnWords : ImageValue → State → TraceValue → RunOutcome → List ℕ → Type 0
+ResumesOnWords image s trace r output = RunsOnWords s trace r
 
 -- the texts are this image, this state and this trace
 pub record IsResumption (image state trace : List ℕ) (value : ImageValue) (saved : State) (charges : TraceValue) : Type 0 where
@@ -83,12 +78,12 @@ pub data ResumeRefuses (image state trace : List ℕ) : ℕ → Refusal → Type
       → trace_of trace ≡ Ok charges → RefusesOther value saved r → ResumeRefuses image state trace 1 r
 
 -- what it promises
-abbrev pub resume_promise : (image state trace : List ℕ) → Promise
-resume_promise image state trace = record {
+abbrev pub resume_promise : (ImageValue → State → TraceValue → RunOutcome → List ℕ → Type 0) → (image state trace : List ℕ) → Promise
+resume_promise Holds image state trace = record {
   reads = image ∷ state ∷ trace ∷ [];
   judges = image ∷ state ∷ trace ∷ [];
   puts = None;
   takes = OfThreeTexts (λ i s t. SaysItsState i s × SaysTrace t);
-  makes = λ texts p. OfThreeTexts (λ i s t. Resumes i s t p.ending p.output × (p.file ≡ None)) texts;
+  makes = λ texts p. OfThreeTexts (λ i s t. Resumes Holds i s t p.ending p.output × (p.file ≡ None)) texts;
   refuses = λ texts place r. OfThreeTexts (λ i s t. ResumeRefuses i s t place r) texts;
 }

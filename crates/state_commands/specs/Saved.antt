@@ -1,5 +1,5 @@
 -- The state that `save` puts, and the line that it writes.
-use Rattle.std.specs.Prelude.{◌≡◌, ℕ, ◌⊎◌, List, [], Option, None, Result, Ok, IsSomeAnd, ◌∷◌, Some}
+use Rattle.std.specs.Prelude.{◌≡◌, ◌<◌, ℕ, List, [], ◌∷◌, All, length, Option, Some, None, Result, Ok, IsSomeAnd}
 use Rattle.alp_io.specs.Report.{illegal_line, bus_line, end_line}
 use Rattle.energy_trace.specs.TraceValue.{TraceValue}
 use Rattle.energy_trace.specs.Reading.{trace_of}
@@ -7,7 +7,6 @@ use Rattle.image_text.specs.ImageValue.{ImageValue}
 use Rattle.state_text.specs.declared.state.State.{State}
 use Rattle.state_text.specs.Reading.{state_of}
 use Rattle.state_text.specs.Text.{state_text}
-use Rattle.fram_state.specs.Belongs.{Belongs}
 use Rattle.fram_board.specs.Board.{BoardValue, started}
 use Rattle.fram_board.specs.Saved.{saved}
 use Rattle.fram_board.specs.Run.{RunOutcome, Run}
@@ -17,7 +16,7 @@ use Rattle.board_run.specs.declared.trace_run.RunFault.TheVariants as fault
 use Rattle.board_run.specs.Charges.{charges_of}
 use Rattle.board_run.specs.History.{start_of}
 use Rattle.board_run.specs.Report.{after_all, answer_of, last_line}
-use Rattle.link_image.specs.Compiled.{IsImageOf}
+use Rattle.source_runs.specs.Traces.{IsTraceOfWords}
 use Rattle.command_answers.specs.Ending.{Ending, well}
 use Rattle.plain_commands.specs.Ends.{reason_of}
 use Rattle.command_answers.specs.Refusals.{Refusal}
@@ -38,18 +37,18 @@ abbrev pub IsSavedAt : Ending → Option (List ℕ) → State → Type 0
 IsSavedAt well file s = IsSomeAnd file (λ text. (text ≡ state_text s) × (state_of text ≡ Ok s))
 IsSavedAt ending file s = file ≡ None
 
--- a state from which a run of an image goes on: the image before anything was done, or one that belongs to it
-abbrev pub IsStateOf : ImageValue → State → Type 0
-IsStateOf image s = (s ≡ record { image = image; receiver = 0 }) ⊎ Belongs image s
+-- what the type of a state says of it: it has as many words as the FRAM, and they and its receiver's number are below 65536
+abbrev pub IsOfWords : State → Type 0
+IsOfWords s = (length s.image.words ≡ 24064) × All (λ w. w < 0x10000) s.image.words × (s.receiver < 0x10000)
 
--- of whatever source's image a run went on from a state, what is saved at the run's end belongs to it, so that the image takes it
-abbrev pub StaysWithItsImage : State → RunOutcome → Type 0
-StaysWithItsImage s r = (source : List ℕ) (image : ImageValue) → IsImageOf source image → IsStateOf image s → Belongs image (saved r.board s.image.map)
+-- so a run from it on a trace is one of words
+abbrev pub RunsOnWords : State → TraceValue → RunOutcome → Type 0
+RunsOnWords s trace r = IsOfWords s × IsTraceOfWords trace
 
 -- The texts are a state, or an image, whose receiver takes word 0 next; and a trace. The board that goes on from it has one run on the
 -- trace, which ends so; this file holds the FRAM, the map and the receiver's next number of the run's last board, and this is the last line of
--- the run's report.
-pub record Saves (image trace : List ℕ) (file : Option (List ℕ)) (ending : Ending) (output : List ℕ) : Type 0 where
+-- the run's report. And this holds of the state, the trace and the run.
+pub record Saves (Holds : State → TraceValue → RunOutcome → Type 0) (image trace : List ℕ) (file : Option (List ℕ)) (ending : Ending) (output : List ℕ) : Type 0 where
   pub state : State
   pub charges : TraceValue
   pub outcome : RunOutcome
@@ -58,7 +57,7 @@ pub record Saves (image trace : List ℕ) (file : Option (List ℕ)) (ending : E
   pub run : Run (charges_of charges.charges) (from_state state charges) outcome
   pub ends : ending ≡ ending_of outcome.ending
   pub put : IsSavedAt ending file (saved outcome.board state.image.map)
-  pub stays : StaysWithItsImage state outcome
+  pub holds : Holds state charges outcome
   pub line : output ≡ line_at_end state outcome
 
 -- the run of the board that goes on from a state, which answers so, and the board and the count of transitions at its end
@@ -75,7 +74,7 @@ pub record RanOn (image trace : List ℕ) (s : State) (end : Result RunEnd RunFa
   pub state_said : state_of image ≡ Ok s
   pub trace_said : trace_of trace ≡ Ok charges
   pub ran : RanFrom s charges end board completed
-  pub stays : StaysWithItsImage s ran.outcome
+  pub words : RunsOnWords s charges ran.outcome
 
 -- the last line of a run that answers so, by the count of its transitions and the board at its end
 abbrev pub told_end : RunEnd → ℕ → BoardValue → List ℕ
@@ -93,12 +92,12 @@ pub data SaveRefuses (image trace : List ℕ) : ℕ → Refusal → Type 0 where
   the_states_trace : (value : State) (r : Refusal) → state_of image ≡ Ok value → RefusesTrace trace r → SaveRefuses image trace 1 r
 
 -- what `save` promises; it puts no file where its run ends at a machine fault
-abbrev pub save_promise : (image trace state : List ℕ) → Promise
-save_promise image trace state = record {
+abbrev pub save_promise : (State → TraceValue → RunOutcome → Type 0) → (image trace state : List ℕ) → Promise
+save_promise Holds image trace state = record {
   reads = image ∷ trace ∷ [];
   judges = image ∷ trace ∷ [];
   puts = Some state;
   takes = OfTwoTexts (λ i t. SaysState i × SaysTrace t);
-  makes = λ texts p. OfTwoTexts (λ i t. Saves i t p.file p.ending p.output) texts;
+  makes = λ texts p. OfTwoTexts (λ i t. Saves Holds i t p.file p.ending p.output) texts;
   refuses = λ texts place r. OfTwoTexts (λ i t. SaveRefuses i t place r) texts;
 }

@@ -4,7 +4,7 @@
 mod migrate;
 mod resume;
 mod save;
-mod state_laws;
+mod state_words;
 
 pub use migrate::{MigrateNames, answer_migrate};
 pub use resume::answer_resume;

@@ -1,24 +1,25 @@
 //! `migrate SRC IMAGE STATE NEWSRC NEWIMAGE NEWSTATE`: a saved state as one of a new edition of its program, put as a state text.
 ghost use Rattle.std.specs.Prelude.{◌≡◌, ◌≤◌, IfOk, IfErr, IfSome, Some, option_map};
 ghost use Rattle.alp_io.specs.Shelf.{NeverFall};
-ghost use Rattle.link_image.specs.task_ast.View.{program_of};
+ghost use Rattle.source_report.specs.task_ast.View.{program_of};
 ghost use Rattle.fram_state.specs.declared.migration.MigrateFault.{MigrateFault};
 ghost use Rattle.fram_state.specs.Belongs.{Belongs};
 ghost use Rattle.fram_state.specs.Suits.{Suits};
 ghost use Rattle.fram_state.specs.Migrated.{IsStateOf, IsMigrated, IsFault};
-ghost use Rattle.compiled_states.specs.Laws.{RestsInPlaceOf};
+ghost use Rattle.state_text.specs.image_map.Kept.{IsMap};
 ghost use Rattle.command_answers.specs.CommandAnswers.{CommandAnswers, IsWhole, TextAnswers};
 ghost use Rattle.command_answers.specs.Ending.{well};
 ghost use Rattle.command_answers.specs.InputFiles.{AreHeld, IsUnread};
 ghost use Rattle.state_commands.specs.Migrated as told;
-ghost use Rattle.state_commands.specs.Migrated.{Migrates, MigrateRefuses, other_source};
+ghost use Rattle.state_commands.specs.Migrated.{Migrates, MigrateRefuses, other_source, MigratesWords};
+ghost use Rattle.state_commands.specs.Saved.{IsOfWords};
 ghost use Rattle.state_commands.specs.Migrating.{AreOldRead, AreRead, AreShort, FailsAt, OfEditions, migration_of, editions_in, editions_of, read_by, texts_of};
 ghost use Rattle.command_answers.specs.Outcomes.{FailsBy, FailsRefused};
 ghost use Rattle.command_answers.specs.Outside.{WhereSilent};
 ghost use Rattle.command_answers.specs.Views.{refusal_of};
 
 use crate::resume::check_belongs;
-use crate::state_laws::migrated_state_rests;
+use crate::state_words::{has_ruled_map, is_of_words};
 use alp_io::{Shelf, Sink};
 use command_answers::{
     Failure, Refusal, Status, Unread, answer_failure, answer_unread, named, plain, put_file,
@@ -198,7 +199,7 @@ fn migrated_of<'t>(
     requires old { IsStateOf said.source.text.items (program_of said.source.checked.source) said.state }
     requires new { Suits said.new_source.text.items (program_of said.new_source.checked.source) said.new_image }
     ensures migrated { IfOk result (λ s. OfEditions said (λ old new. IsMigrated old new said.state.receiver s)) }
-    ensures rests { IfOk result (RestsInPlaceOf said.state) }
+    ensures words { IfOk result (λ s. IsOfWords said.state × IfSome said.state.image.map IsMap × IsOfWords s) }
     ensures refused { IfErr result (FailsRefused file.now (λ r. (f : MigrateFault) × OfEditions said (λ old new. IsFault old new f)
         × (told.migrate_refusal (editions_of texts.entry) f ≡ Some r))) }
 {
@@ -211,7 +212,9 @@ fn migrated_of<'t>(
     } = said;
     match migrate(alloc, &source, &state, &new_source, new_image) {
         Ok(migrated) => {
-            migrated_state_rests(&state, &migrated);
+            is_of_words(&state);
+            has_ruled_map(&state);
+            is_of_words(&migrated);
             Ok(migrated)
         }
         Err(fault) => Err(failure_of(file, texts, fault)),
@@ -225,7 +228,7 @@ fn migrated_text<'t>(
     texts: EditionTexts<'t>,
 ) -> Result<Vec<u8>, Failure<'t>>
     requires { AreShort (editions_of texts) }
-    ensures migrates { IfOk result (λ v. Migrates (editions_of texts.entry) v.items) }
+    ensures migrates { IfOk result (λ v. Migrates MigratesWords (editions_of texts.entry) v.items) }
     ensures refused { IfErr result (FailsAt (read_by names.entry) (MigrateRefuses (editions_of texts.entry))) }
 {
     let said = said_by(alloc, names, texts)?;

@@ -7,10 +7,10 @@ ghost use Rattle.command_answers.specs.Outside.{WhereSilent, WhereStands};
 ghost use Rattle.command_answers.specs.CommandAnswers.{CommandAnswers, IsWhole, TextAnswers};
 ghost use Rattle.command_answers.specs.Outcomes.{FailsBy, FailsRefused};
 ghost use Rattle.state_commands.specs.Resumed as told;
-ghost use Rattle.state_commands.specs.Resumed.{RefusesOther, IsResumption, resume_promise};
+ghost use Rattle.state_commands.specs.Resumed.{RefusesOther, IsResumption, ResumesOnWords, resume_promise};
 ghost use Rattle.command_answers.specs.Views.{detail_of, refusal_of};
 
-use crate::state_laws::state_is_told;
+use crate::state_words::is_of_words;
 use alp_io::{Shelf, Sink};
 use command_answers::{
     Detail, Failure, Refusal, Status, ThreeTexts, answer_failure, answer_unread, messages,
@@ -85,7 +85,7 @@ fn resumption_of<'t>(
     requires trace { length trace.now ≤ 1048576 }
     ensures said { IfOk result (λ r. IsResumption image.now state.now trace.now r.image r.state r.trace) }
     ensures failure { IfErr result (λ e. WhereStands (λ shelf. WhereSilent (FailsBy e
-        (resume_promise names.entry.0.now names.entry.1.now names.entry.2.now) (image.now ∷ state.now ∷ trace.now ∷ []) shelf))) }
+        (resume_promise ResumesOnWords names.entry.0.now names.entry.1.now names.entry.2.now) (image.now ∷ state.now ∷ trace.now ∷ []) shelf))) }
 {
     let image = image_of(alloc, names.0, image)?;
     let state = state_of(alloc, names.1, state)?;
@@ -116,15 +116,15 @@ pub fn resume_texts<'t, O: Sink>(
     requires trace { length trace.now ≤ 1048576 }
     ensures faults { O.faults out.old ≤ O.faults out.new }
     ensures whole { IfOk result (λ ending. WhereStands (λ shelf. IsWhole
-        (resume_promise names.entry.0.now names.entry.1.now names.entry.2.now) (image.now ∷ state.now ∷ trace.now ∷ []) (ending_of ending) shelf
+        (resume_promise ResumesOnWords names.entry.0.now names.entry.1.now names.entry.2.now) (image.now ∷ state.now ∷ trace.now ∷ []) (ending_of ending) shelf
         (record { old = O.contents out.old; new = O.contents out.new; faults_old = O.faults out.old; faults_new = O.faults out.new }))) }
     ensures failure { IfErr result (λ e. WhereStands (λ shelf. FailsBy e
-        (resume_promise names.entry.0.now names.entry.1.now names.entry.2.now) (image.now ∷ state.now ∷ trace.now ∷ []) shelf
+        (resume_promise ResumesOnWords names.entry.0.now names.entry.1.now names.entry.2.now) (image.now ∷ state.now ∷ trace.now ∷ []) shelf
         (record { old = O.contents out.old; new = O.contents out.new; faults_old = O.faults out.old; faults_new = O.faults out.new }))) }
 {
     let said = resumption_of(alloc, names, image, state, trace)?;
     check_belongs(names.1, &said.image, &said.state)?;
-    state_is_told(&said.image, &said.state, &said.trace);
+    is_of_words(&said.state);
     let Ok(mut board) = Board::from_state(alloc, &said.state, said.trace.readings()) else {
         return Err(Failure::Memory);
     };
@@ -144,7 +144,7 @@ fn resume_of<O: Sink, E: Sink>(
     ensures out_faults { O.faults out.old ≤ O.faults out.new }
     ensures err_faults { E.faults err.old ≤ E.faults err.new }
     ensures answers { WhereStands (λ shelf. TextAnswers result
-        (resume_promise names.entry.0.now names.entry.1.now names.entry.2.now)
+        (resume_promise ResumesOnWords names.entry.0.now names.entry.1.now names.entry.2.now)
         (texts.now.first.items ∷ texts.now.second.items ∷ texts.now.third.items ∷ []) shelf
         (record { old = O.contents out.old; new = O.contents out.new; faults_old = O.faults out.old; faults_new = O.faults out.new })
         (record { old = E.contents err.old; new = E.contents err.new; faults_old = E.faults err.old; faults_new = E.faults err.new })) }
@@ -170,7 +170,7 @@ pub fn answer_resume<H: Shelf, O: Sink, E: Sink>(
     ensures counts { NeverFall (H.counts shelf.old) (H.counts shelf.new) }
     ensures out_faults { O.faults out.old ≤ O.faults out.new }
     ensures err_faults { E.faults err.old ≤ E.faults err.new }
-    ensures answers { CommandAnswers result (resume_promise names.entry.0.now names.entry.1.now names.entry.2.now)
+    ensures answers { CommandAnswers result (resume_promise ResumesOnWords names.entry.0.now names.entry.1.now names.entry.2.now)
         (record { old = H.files shelf.old; new = H.files shelf.new; counts_old = H.counts shelf.old; counts_new = H.counts shelf.new })
         (record { old = O.contents out.old; new = O.contents out.new; faults_old = O.faults out.old; faults_new = O.faults out.new })
         (record { old = E.contents err.old; new = E.contents err.new; faults_old = E.faults err.old; faults_new = E.faults err.new }) }

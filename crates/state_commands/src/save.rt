@@ -3,18 +3,18 @@ ghost use Rattle.std.specs.Prelude.{◌≡◌, ◌≤◌, ◌∷◌, [], Ok, IfO
 ghost use Rattle.alp_io.specs.Count.{HasCause};
 ghost use Rattle.alp_io.specs.Shelf.{NeverFall};
 ghost use Rattle.alp_io.specs.Sink.{Writes};
-ghost use Rattle.fram_board.specs.Saved.{saved};
+ghost use Rattle.fram_board.specs.Saved.{RunsOnWords, saved};
 ghost use Rattle.board_run.specs.declared.trace_run.RunFault.TheVariants.{Write};
 ghost use Rattle.state_text.specs.Reading.{state_of};
 ghost use Rattle.state_text.specs.Text.{state_text};
 ghost use Rattle.command_answers.specs.declared.failure.Failure.TheVariants.{Memory};
 ghost use Rattle.plain_commands.specs.Ends.{ending_of};
-ghost use Rattle.state_commands.specs.Saved.{RanFrom, RanOn, told_end, told_fault, save_promise};
+ghost use Rattle.state_commands.specs.Saved.{RunsOnWords, RanFrom, RanOn, told_end, told_fault, save_promise};
 ghost use Rattle.command_answers.specs.CommandAnswers.{CommandAnswers, IsWhole, TextAnswers};
 ghost use Rattle.command_answers.specs.Outcomes.{FailsBy};
 ghost use Rattle.command_answers.specs.Outside.{WhereSilent, WhereStands};
 
-use crate::state_laws::state_stays;
+use crate::state_words::is_of_words;
 use alp_io::{Failed, NullSink, Report, Shelf, Sink};
 use board_run::{RunEnd, RunFault, Watch, run};
 use command_answers::{
@@ -119,11 +119,11 @@ fn state_run_of<'t>(
     requires trace { length texts.1.now ≤ 1048576 }
     ensures ran { IfOk result (λ r. RanOn texts.entry.0.now texts.entry.1.now r.state r.ran.end r.ran.board r.ran.completed) }
     ensures failure { IfErr result (λ e. WhereStands (λ shelf. WhereSilent (FailsBy e
-        (save_promise names.entry.0.now names.entry.1.now names.entry.2.now) (texts.entry.0.now ∷ texts.entry.1.now ∷ []) shelf))) }
+        (save_promise RunsOnWords names.entry.0.now names.entry.1.now names.entry.2.now) (texts.entry.0.now ∷ texts.entry.1.now ∷ []) shelf))) }
 {
     let state = state_of(alloc, names.0, texts.0)?;
     let trace = trace_of(alloc, names.1, texts.1)?;
-    state_stays(&state, &trace);
+    is_of_words(&state);
     let ran = run_from(alloc, &state, &trace)?;
     Ok(StateRun { state, ran })
 }
@@ -143,11 +143,11 @@ fn put_saved<'t, H: Shelf, O: Sink>(
     requires ends { state_run.ran.end ≡ Ok end }
     ensures counts { NeverFall (H.counts shelf.old) (H.counts shelf.new) }
     ensures faults { O.faults out.old ≤ O.faults out.new }
-    ensures whole { IfOk result (λ ending. IsWhole (save_promise names.entry.0.now names.entry.1.now names.entry.2.now)
+    ensures whole { IfOk result (λ ending. IsWhole (save_promise RunsOnWords names.entry.0.now names.entry.1.now names.entry.2.now)
         (texts.entry.0.now ∷ texts.entry.1.now ∷ []) (ending_of ending)
         (record { old = H.files shelf.old; new = H.files shelf.new; counts_old = H.counts shelf.old; counts_new = H.counts shelf.new })
         (record { old = O.contents out.old; new = O.contents out.new; faults_old = O.faults out.old; faults_new = O.faults out.new })) }
-    ensures failure { IfErr result (λ e. FailsBy e (save_promise names.entry.0.now names.entry.1.now names.entry.2.now)
+    ensures failure { IfErr result (λ e. FailsBy e (save_promise RunsOnWords names.entry.0.now names.entry.1.now names.entry.2.now)
         (texts.entry.0.now ∷ texts.entry.1.now ∷ [])
         (record { old = H.files shelf.old; new = H.files shelf.new; counts_old = H.counts shelf.old; counts_new = H.counts shelf.new })
         (record { old = O.contents out.old; new = O.contents out.new; faults_old = O.faults out.old; faults_new = O.faults out.new })) }
@@ -180,11 +180,11 @@ pub fn save_texts<'t, H: Shelf, O: Sink>(
     requires trace { length texts.1.now ≤ 1048576 }
     ensures counts { NeverFall (H.counts shelf.old) (H.counts shelf.new) }
     ensures faults { O.faults out.old ≤ O.faults out.new }
-    ensures whole { IfOk result (λ ending. IsWhole (save_promise names.entry.0.now names.entry.1.now names.entry.2.now)
+    ensures whole { IfOk result (λ ending. IsWhole (save_promise RunsOnWords names.entry.0.now names.entry.1.now names.entry.2.now)
         (texts.entry.0.now ∷ texts.entry.1.now ∷ []) (ending_of ending)
         (record { old = H.files shelf.old; new = H.files shelf.new; counts_old = H.counts shelf.old; counts_new = H.counts shelf.new })
         (record { old = O.contents out.old; new = O.contents out.new; faults_old = O.faults out.old; faults_new = O.faults out.new })) }
-    ensures failure { IfErr result (λ e. FailsBy e (save_promise names.entry.0.now names.entry.1.now names.entry.2.now)
+    ensures failure { IfErr result (λ e. FailsBy e (save_promise RunsOnWords names.entry.0.now names.entry.1.now names.entry.2.now)
         (texts.entry.0.now ∷ texts.entry.1.now ∷ [])
         (record { old = H.files shelf.old; new = H.files shelf.new; counts_old = H.counts shelf.old; counts_new = H.counts shelf.new })
         (record { old = O.contents out.old; new = O.contents out.new; faults_old = O.faults out.old; faults_new = O.faults out.new })) }
@@ -212,7 +212,7 @@ fn save_of<H: Shelf, O: Sink, E: Sink>(
     ensures counts { NeverFall (H.counts shelf.old) (H.counts shelf.new) }
     ensures out_faults { O.faults out.old ≤ O.faults out.new }
     ensures err_faults { E.faults err.old ≤ E.faults err.new }
-    ensures answers { TextAnswers result (save_promise names.entry.0.now names.entry.1.now names.entry.2.now) (texts.entry.0.now ∷ texts.entry.1.now ∷ [])
+    ensures answers { TextAnswers result (save_promise RunsOnWords names.entry.0.now names.entry.1.now names.entry.2.now) (texts.entry.0.now ∷ texts.entry.1.now ∷ [])
         (record { old = H.files shelf.old; new = H.files shelf.new; counts_old = H.counts shelf.old; counts_new = H.counts shelf.new })
         (record { old = O.contents out.old; new = O.contents out.new; faults_old = O.faults out.old; faults_new = O.faults out.new })
         (record { old = E.contents err.old; new = E.contents err.new; faults_old = E.faults err.old; faults_new = E.faults err.new }) }
@@ -238,7 +238,7 @@ pub fn answer_save<H: Shelf, O: Sink, E: Sink>(
     ensures counts { NeverFall (H.counts shelf.old) (H.counts shelf.new) }
     ensures out_faults { O.faults out.old ≤ O.faults out.new }
     ensures err_faults { E.faults err.old ≤ E.faults err.new }
-    ensures answers { CommandAnswers result (save_promise names.entry.0.now names.entry.1.now names.entry.2.now)
+    ensures answers { CommandAnswers result (save_promise RunsOnWords names.entry.0.now names.entry.1.now names.entry.2.now)
         (record { old = H.files shelf.old; new = H.files shelf.new; counts_old = H.counts shelf.old; counts_new = H.counts shelf.new })
         (record { old = O.contents out.old; new = O.contents out.new; faults_old = O.faults out.old; faults_new = O.faults out.new })
         (record { old = E.contents err.old; new = E.contents err.new; faults_old = E.faults err.old; faults_new = E.faults err.new }) }

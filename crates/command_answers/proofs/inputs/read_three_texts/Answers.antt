@@ -9,9 +9,9 @@ returns-in_err-first-clause-unread g c =
 
 pub returns-in_err-second-clause-unread : goal.returns-in_err-second-clause-unread
 returns-in_err-second-clause-unread g c =
-    let here = front_unread _ _ (c.args.second.now ∷ []) (c.args.third.now ∷ []) _ _ c.in_err-second.ensures.unread in
     handed_on _ _ _ c.from_residual-in_err-second.ensures
-    (behind_unread _ _ _ _ _ _ _ _ _ c.in_ok-first.ensures.held c.in_ok-first.ensures.fits c.in_ok-first.ensures.counts c.in_ok-first.ensures.same here)
+    (behind_unread _ _ _ _ _ _ _ _ _ c.in_ok-first.ensures.held c.in_ok-first.ensures.fits c.in_ok-first.ensures.counts c.in_ok-first.ensures.same
+    (front_unread _ _ (c.args.second.now ∷ []) (c.args.third.now ∷ []) _ _ c.in_err-second.ensures.unread))
 
 pub returns-in_err-third-clause-unread : goal.returns-in_err-third-clause-unread
 returns-in_err-third-clause-unread g c =

@@ -27,4 +27,4 @@ pub returns-in-Ok-clause-migrates : goal.returns-in-Ok-clause-migrates
 returns-in-Ok-clause-migrates c =
     let good = c.in_ok-check_editions.ensures in
     migrates _ _ c.in_ok-said.ensures.said good.old good.new good.belongs _ _
-    c.in_ok-state.ensures.migrated c.in_ok-state.ensures.rests c.in-Ok.ensures.text c.in-Ok.ensures.reads_back
+    c.in_ok-state.ensures.migrated c.in_ok-state.ensures.words c.in-Ok.ensures.text c.in-Ok.ensures.reads_back

@@ -17,9 +17,6 @@ returns-in_err-check_belongs-clause-failure g c =
     (λ shelf stands. refusal_fails _ _ _ _ _ 1 _ _ refl
     (λ r no. the_other_state _ _ _ r said.image_said said.state_said said.trace_said no) stands refl c.in_err-check_belongs.ensures.refused)
 
-pub state_is_told-requires-clause-words : goal.state_is_told-requires-clause-words
-state_is_told-requires-clause-words g c = c.in_ok-said.ensures.said.words
-
 pub returns-clause-whole : goal.returns-clause-whole
 returns-clause-whole g c =
     let said = c.in_ok-said.ensures.said in
@@ -27,7 +24,7 @@ returns-clause-whole g c =
     let is_board = c.in-Ok.ensures ∙ ap (started state.image.words state.receiver) c.readings.ensures.value in
     report_whole _ _ _ _ _ _ _ refl
     (resume_product c.args.names.0.now c.args.names.1.now c.args.names.2.now _ _ _ _ _ _ _ said.image_said said.state_said said.trace_said
-    c.in_ok-check_belongs.ensures.belongs c.state_is_told.ensures is_board)
+    c.in_ok-check_belongs.ensures.belongs c.is_of_words.ensures said.words is_board)
     c.write_run.ensures.whole
 
 pub returns-clause-failure : goal.returns-clause-failure
@@ -37,5 +34,5 @@ returns-clause-failure g c =
     let is_board = c.in-Ok.ensures ∙ ap (started state.image.words state.receiver) c.readings.ensures.value in
     report_fails _ _ _ _ _ _ _ refl
     (resume_product c.args.names.0.now c.args.names.1.now c.args.names.2.now _ _ _ _ _ _ _ said.image_said said.state_said said.trace_said
-    c.in_ok-check_belongs.ensures.belongs c.state_is_told.ensures is_board)
+    c.in_ok-check_belongs.ensures.belongs c.is_of_words.ensures said.words is_board)
     c.write_run.ensures.failure

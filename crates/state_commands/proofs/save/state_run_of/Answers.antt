@@ -22,4 +22,4 @@ returns-in_err-ran-clause-failure c =
 
 pub returns-clause-ran : goal.returns-clause-ran
 returns-clause-ran c =
-    ran_on _ _ _ _ _ _ _ c.in_ok-state.ensures.said c.in_ok-trace.ensures.said c.state_stays.ensures c.in_ok-ran.ensures.ran
+    ran_on _ _ _ _ _ _ _ c.in_ok-state.ensures.said c.in_ok-trace.ensures.said c.is_of_words.ensures c.in_ok-trace.ensures.words c.in_ok-ran.ensures.ran

@@ -1,0 +1,116 @@
+-- What `save`, `resume` and `migrate` make, where an image is one of a source.
+use Rattle.std.proofs.Common.{◌≡◌, ◌∙◌, ℕ, List, [], ◌∷◌, Option, Some, None, IfSome, IsSomeAnd, inl, inr, sym, subst}
+use Rattle.energy_trace.specs.TraceValue.{TraceValue}
+use Rattle.image_text.specs.ImageValue.{ImageValue}
+use Rattle.state_text.specs.declared.state.State.{State}
+use Rattle.state_text.specs.image_map.Kept.{IsMap}
+use Rattle.fram_state.specs.Belongs.{Belongs}
+use Rattle.fram_state.specs.Migrated.{IsMigrated}
+use Rattle.fram_board.specs.Run.{RunOutcome, Run}
+use Rattle.board_run.specs.Charges.{charges_of}
+use Rattle.board_run.specs.History.{start_of}
+use Rattle.board_run.specs.Report.{report_of}
+use Rattle.compiled_states.specs.source_runs.Traces.{IsTraceOfWords}
+use Rattle.compiled_states.specs.Worlds.{HasFramWords}
+use Rattle.compiled_states.specs.Laws.{FreshStatesBelong, MigratedStatesBelong, StatesAreTold, StatesStay}
+use Rattle.command_answers.specs.Promises.{Product, OfTwoTexts, OfThreeTexts, OfFiveTexts}
+use Rattle.state_commands.specs.Saved.{IsOfWords, RunsOnWords, Saves, from_state, save_promise}
+use Rattle.state_commands.specs.Resumed.{Resumes, ResumesOnWords, resume_promise}
+use Rattle.state_commands.specs.Migrated.{Editions, AreSaid, AreSuited, Migrates, MigratesWords, editions, migrate_promise, old_edition, new_edition}
+use Rattle.alpaca_cli.specs.OfSources.{StaysWithItsImage, SavedStatesStay, IsOfItsSource, RestsInItsSource}
+
+has_words : (s : State) → IsOfWords s → HasFramWords s
+has_words s w = record { count = w.0; are_words = w.1; receiver = w.2 }
+
+-- ---- `save`
+
+stays_with : FreshStatesBelong → StatesStay → (s : State) → IsOfWords s → (t : TraceValue) → IsTraceOfWords t → (r : RunOutcome)
+    → Run (charges_of t.charges) (from_state s t) r → StaysWithItsImage s r
+stays_with fresh stay s whole t words r run source image of (inl is) =
+    (stay source image of s (has_words s whole) (subst (Belongs image) (sym is) (fresh source image of)) t words r run).end
+stays_with fresh stay s whole t words r run source image of (inr b) = (stay source image of s (has_words s whole) b t words r run).end
+
+pub saves_more : FreshStatesBelong → StatesStay → (a b c : List ℕ) (texts : List (List ℕ)) (p : Product)
+    → (save_promise RunsOnWords a b c).makes texts p → (save_promise SavedStatesStay a b c).makes texts p
+saves_more fresh stay a b c [] p m = m
+saves_more fresh stay a b c (x ∷ []) p m = m
+saves_more fresh stay a b c (x ∷ y ∷ []) p m = record {
+  state = m.state;
+  charges = m.charges;
+  outcome = m.outcome;
+  state_said = m.state_said;
+  trace_said = m.trace_said;
+  run = m.run;
+  ends = m.ends;
+  put = m.put;
+  holds = stays_with fresh stay m.state m.holds.0 m.charges m.holds.1 m.outcome m.run;
+  line = m.line;
+}
+saves_more fresh stay a b c (x ∷ y ∷ z ∷ more) p m = m
+
+-- ---- `resume`
+
+of_its_source : StatesAreTold → StatesStay → (image : ImageValue) (s : State) → IsOfWords s → Belongs image s → (t : TraceValue) → IsTraceOfWords t
+    → (r : RunOutcome) → Run (charges_of t.charges) (from_state s t) r → (output : List ℕ) → output ≡ report_of (start_of s.image) r
+    → IsOfItsSource image s t r output
+of_its_source told stay image s whole b t words r run output lines =
+    let of_report : IsOfItsSource image s t r (report_of (start_of s.image) r) = record {
+      told = told image s (has_words s whole) b t words r run;
+      stays = λ source of. stay source image of s (has_words s whole) b t words r run;
+    } in subst (IsOfItsSource image s t r) (sym lines) of_report
+
+pub resumes_more : StatesAreTold → StatesStay → (a b c : List ℕ) (texts : List (List ℕ)) (p : Product)
+    → (resume_promise ResumesOnWords a b c).makes texts p → (resume_promise IsOfItsSource a b c).makes texts p
+resumes_more told stay a b c [] p m = m
+resumes_more told stay a b c (x ∷ []) p m = m
+resumes_more told stay a b c (x ∷ y ∷ []) p m = m
+resumes_more told stay a b c (x ∷ y ∷ z ∷ []) p (m, none) = (
+  record {
+    value = m.value;
+    saved = m.saved;
+    charges = m.charges;
+    image_said = m.image_said;
+    state_said = m.state_said;
+    trace_said = m.trace_said;
+    belongs = m.belongs;
+    report = m.report;
+    holds = of_its_source told stay m.value m.saved m.holds.0 m.belongs m.charges m.holds.1 m.report.outcome m.report.run p.output m.report.lines;
+  },
+  none,
+)
+resumes_more told stay a b c (x ∷ y ∷ z ∷ u ∷ more) p m = m
+
+-- ---- `migrate`
+
+rests : MigratedStatesBelong → (t : Editions) (file : List ℕ) (m : Migrates MigratesWords t file) → RestsInItsSource t m.said m.suited m.state m.migrated
+rests law t file m allow ok c =
+    let old = m.suited.old in
+    let same : Some m.belongs.map ≡ Some old.named = sym m.belongs.have.of_image ∙ old.mapped in
+    law m.said.state m.state (has_words m.said.state m.holds.0) m.holds.1 (has_words m.state m.holds.2)
+    t.new_source m.said.new_program allow m.said.new_image ok c t.source m.said.program old.named m.suited.new.named
+    (record { image = m.said.image; suits = old; belongs = m.belongs }) (m.belongs.have.of_state ∙ same) m.suited.new.mapped m.migrated
+
+migrates_of_source : MigratedStatesBelong → (t : Editions) (file : Option (List ℕ)) → IsSomeAnd file (Migrates MigratesWords t)
+    → IsSomeAnd file (Migrates RestsInItsSource t)
+migrates_of_source law t None m = m
+migrates_of_source law t (Some file) m = record {
+  said = m.said;
+  alone = m.alone;
+  suited = m.suited;
+  belongs = m.belongs;
+  state = m.state;
+  migrated = m.migrated;
+  holds = rests law t file m;
+  text = m.text;
+  reads_back = m.reads_back;
+}
+
+pub migrates_more : MigratedStatesBelong → (a b c d e f : List ℕ) (texts : List (List ℕ)) (p : Product)
+    → (migrate_promise MigratesWords a b c d e f).makes texts p → (migrate_promise RestsInItsSource a b c d e f).makes texts p
+migrates_more law a b c d e f [] p m = m
+migrates_more law a b c d e f (x ∷ []) p m = m
+migrates_more law a b c d e f (x ∷ y ∷ []) p m = m
+migrates_more law a b c d e f (x ∷ y ∷ z ∷ []) p m = m
+migrates_more law a b c d e f (x ∷ y ∷ z ∷ u ∷ []) p m = m
+migrates_more law a b c d e f (x ∷ y ∷ z ∷ u ∷ v ∷ []) p m = (migrates_of_source law (editions x y z u v) p.file m.0, m.1, m.2)
+migrates_more law a b c d e f (x ∷ y ∷ z ∷ u ∷ v ∷ w ∷ more) p m = m
