@@ -1,11 +1,9 @@
 -- What `save`, `resume` and `migrate` make, where an image is one of a source.
-use Rattle.std.proofs.Common.{◌≡◌, ◌∙◌, ℕ, List, [], ◌∷◌, Option, Some, None, IfSome, IsSomeAnd, inl, inr, sym, subst}
+use Rattle.std.proofs.Common.{◌≡◌, ◌∙◌, ℕ, List, [], ◌∷◌, Option, Some, None, IsSomeAnd, inl, inr, sym, subst}
 use Rattle.energy_trace.specs.TraceValue.{TraceValue}
 use Rattle.image_text.specs.ImageValue.{ImageValue}
 use Rattle.state_text.specs.declared.state.State.{State}
-use Rattle.state_text.specs.image_map.Kept.{IsMap}
 use Rattle.fram_state.specs.Belongs.{Belongs}
-use Rattle.fram_state.specs.Migrated.{IsMigrated}
 use Rattle.fram_board.specs.Run.{RunOutcome, Run}
 use Rattle.board_run.specs.Charges.{charges_of}
 use Rattle.board_run.specs.History.{start_of}
@@ -13,10 +11,10 @@ use Rattle.board_run.specs.Report.{report_of}
 use Rattle.compiled_states.specs.source_runs.Traces.{IsTraceOfWords}
 use Rattle.compiled_states.specs.Worlds.{HasFramWords}
 use Rattle.compiled_states.specs.Laws.{FreshStatesBelong, MigratedStatesBelong, StatesAreTold, StatesStay}
-use Rattle.command_answers.specs.Promises.{Product, OfTwoTexts, OfThreeTexts, OfFiveTexts}
-use Rattle.state_commands.specs.Saved.{IsOfWords, RunsOnWords, Saves, from_state, save_promise}
-use Rattle.state_commands.specs.Resumed.{Resumes, ResumesOnWords, resume_promise}
-use Rattle.state_commands.specs.Migrated.{Editions, AreSaid, AreSuited, Migrates, MigratesWords, editions, migrate_promise, old_edition, new_edition}
+use Rattle.command_answers.specs.Promises.{Product}
+use Rattle.state_commands.specs.Saved.{IsOfWords, RunsOnWords, from_state, save_promise}
+use Rattle.state_commands.specs.Resumed.{ResumesOnWords, resume_promise}
+use Rattle.state_commands.specs.Migrated.{Editions, Migrates, MigratesWords, editions, migrate_promise}
 use Rattle.alpaca_cli.specs.OfSources.{StaysWithItsImage, SavedStatesStay, IsOfItsSource, RestsInItsSource}
 
 has_words : (s : State) → IsOfWords s → HasFramWords s

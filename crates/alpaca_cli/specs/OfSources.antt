@@ -4,7 +4,7 @@ use Rattle.energy_trace.specs.TraceValue.{TraceValue}
 use Rattle.image_text.specs.ImageValue.{ImageValue}
 use Rattle.state_text.specs.declared.state.State.{State}
 use Rattle.fram_state.specs.Belongs.{Belongs}
-use Rattle.fram_state.specs.Migrated.{IsMigrated, rows_of}
+use Rattle.fram_state.specs.Migrated.{rows_of}
 use Rattle.fram_board.specs.Run.{RunOutcome}
 use Rattle.fram_board.specs.Saved.{saved}
 use Rattle.cost_bound.specs.declared.allowance.Allow.{Allow}
@@ -12,7 +12,7 @@ use Rattle.source_meaning.specs.Acceptance.{IsAcceptedText}
 use Rattle.link_image.specs.Compiled.{IsCompiled, IsImageOf}
 use Rattle.compiled_states.specs.Worlds.{BelongsAt, IsToldByItsSource, LeavesItsStates}
 use Rattle.state_commands.specs.Saved.{from_state}
-use Rattle.state_commands.specs.Migrated.{Editions, AreSaid, AreSuited, HoldsOfMigrations, old_edition, new_edition}
+use Rattle.state_commands.specs.Migrated.{HoldsOfMigrations, old_edition, new_edition}
 
 -- a state from which a run of an image goes on: the image before anything was done, or one that belongs to it
 abbrev pub IsStateOf : ImageValue → State → Type 0

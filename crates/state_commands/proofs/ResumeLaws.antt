@@ -1,5 +1,5 @@
 -- What `resume` makes.
-use Rattle.std.proofs.Common.{◌≡◌, ℕ, List, [], ◌∷◌, Ok, refl, sym, subst}
+use Rattle.std.proofs.Common.{◌≡◌, ℕ, List, [], ◌∷◌, Ok, refl}
 use Rattle.energy_trace.specs.TraceValue.{TraceValue}
 use Rattle.energy_trace.specs.Reading.{trace_of}
 use Rattle.image_text.specs.ImageValue.{ImageValue}
@@ -8,10 +8,7 @@ use Rattle.state_text.specs.declared.state.State.{State}
 use Rattle.state_text.specs.Reading.{state_of}
 use Rattle.fram_state.specs.Belongs.{Belongs}
 use Rattle.fram_board.specs.Board.{BoardValue}
-use Rattle.fram_board.specs.Run.{RunOutcome, Run}
-use Rattle.board_run.specs.Charges.{charges_of}
 use Rattle.board_run.specs.History.{start_of}
-use Rattle.board_run.specs.Report.{report_of}
 use Rattle.command_answers.specs.Ending.{Ending}
 use Rattle.plain_commands.specs.RunReport.{IsReportFrom}
 use Rattle.source_runs.specs.Traces.{IsTraceOfWords}

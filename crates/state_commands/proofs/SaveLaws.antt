@@ -10,7 +10,7 @@ use Rattle.state_text.specs.declared.state.State.{State}
 use Rattle.state_text.specs.Reading.{state_of}
 use Rattle.fram_board.specs.Board.{BoardValue}
 use Rattle.fram_board.specs.Saved.{saved}
-use Rattle.fram_board.specs.Run.{End, Charges, Stopped, RunOutcome, Run}
+use Rattle.fram_board.specs.Run.{End, Charges, Stopped}
 use Rattle.board_run.specs.declared.trace_run.RunEnd.{RunEnd}
 use Rattle.board_run.specs.declared.trace_run.RunEnd.TheVariants as run_end
 use Rattle.board_run.specs.declared.trace_run.RunFault.{RunFault}

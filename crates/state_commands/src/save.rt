@@ -3,7 +3,7 @@ ghost use Rattle.std.specs.Prelude.{◌≡◌, ◌≤◌, ◌∷◌, [], Ok, IfO
 ghost use Rattle.alp_io.specs.Count.{HasCause};
 ghost use Rattle.alp_io.specs.Shelf.{NeverFall};
 ghost use Rattle.alp_io.specs.Sink.{Writes};
-ghost use Rattle.fram_board.specs.Saved.{RunsOnWords, saved};
+ghost use Rattle.fram_board.specs.Saved.{saved};
 ghost use Rattle.board_run.specs.declared.trace_run.RunFault.TheVariants.{Write};
 ghost use Rattle.state_text.specs.Reading.{state_of};
 ghost use Rattle.state_text.specs.Text.{state_text};
