@@ -19,7 +19,7 @@ use Rattle.runtime_code.specs.runtime_effects.Needs.{AreInFram}
 use Rattle.runtime_code.specs.Addresses.{start_address}
 use Rattle.runtime_code.specs.Comes.{Comes, IsAt, Enters}
 use Rattle.runtime_code.specs.Counted.{if_any}
-use Rattle.runtime_code.proofs.Interface.{straight, one_form, comes_on, recounted, then_on, chain}
+use Rattle.runtime_code.proofs.Interface.{last_flag, straight, one_form, comes_on, recounted, then_on, chain}
 use Rattle.boot_runtime.specs.Listing.{TaskEntry, entry_at, privates_in, head, end_tested, clearing, counts_set, opening, dispatch, ladder_to, stubs}
 use Rattle.boot_runtime.specs.Listing.{start_steps, start_cycles, ladder_address, stubs_address}
 use Rattle.boot_runtime.specs.Laws.{IsEntered, IsBoot, PendingCommitIsFound, AttemptIsFound, StartIsMade, VersionIsRaised}
@@ -29,10 +29,7 @@ use Rattle.memory_map.specs.declared.words.RuntimeWord.TheVariants.{CurrentTask,
 use Rattle.memory_map.specs.MemoryMap.{MemoryMap, word_place}
 use Rattle.memory_map.specs.address_space.Limits.{stack_top}
 
--- GATE is 1, or it isn't
-gate_is_one : (n : ℕ) → n ≡ 1 → ((n + 65534 + 1) % 65536 == 0) ≡ true
-gate_is_one n e = ap (λ x. (x + 65534 + 1) % 65536 == 0) e
-
+-- GATE isn't 1
 gate_is_not_one : (n : ℕ) → n < 0x10000 → n ≢ 1 → ((n + 65534 + 1) % 65536 == 0) ≡ false
 gate_is_not_one n l h = grind (arith, nat_tests, l, h)
 
@@ -134,7 +131,7 @@ pending_commit_is_found code m commit tasks at u boot e gate =
     let tidy = boot.tidy in
     let h = stands_front code at (head m commit) (opening m ++ (dispatch m ++ (ladder_to (stubs_address tasks at) tasks ++ stubs tasks))) boot.stands in
     let rs = u.readings_left in
-    let a = looked code tidy m commit at true u boot.places (omega (arith, room)) e h (gate_is_one (u.fram (word_place m Gate)) gate) in
+    let a = looked code tidy m commit at true u boot.places (omega (arith, room)) e h (last_flag (u.fram (word_place m Gate)) gate) in
     let there : at + 4 + 2 ≡ at + 6 = omega arith in
     comes_on code 2 1 6 3 u (IsAt (at + 6) u.fram rs) (IsAt commit u.fram rs) [] [] a
     (λ v k. one_form code tidy (Branch commit) v (record v { pc = commit }) [] 3 _ (ap code (k.pc ∙ sym there) ∙ h.1.1.0) boot.even_commit refl

@@ -6,5 +6,6 @@ pub use Rattle.code_forms.proofs.Registers.{powered_has_a_core}
 pub use Rattle.code_forms.proofs.Blocks.{stands_front, stands_back, forms_behind, first_forms, forms_at, form_at, does, block, straight, hop, runs_on, dearer}
 pub use Rattle.code_forms.proofs.Blocks.{nothing, starve, starves_on, dearer_starves, end_of}
 -- Instructions that stand one after another in FRAM, untouched, are what a machine fetches.
-pub use Rattle.code_forms.proofs.Placed.{bytes_are, form_small, holds_front, holds_back, fram_word, fram_no_ram, holds_stores, code_in_fram_runs, placed_is_tidy}
+pub use Rattle.code_forms.proofs.Placed.{bytes_are, form_small, holds_front, holds_back, fram_word, fram_no_ram, holds_stores, code_in_fram_runs}
+pub use Rattle.code_forms.proofs.Placed.{placed_is_tidy}
 pub use Rattle.code_forms.proofs.Placed.{forms_stand, forms_bytes-append, instructions-append, stands_at}

@@ -277,7 +277,8 @@ module _ (code : Code) (tidy : IsTidy code) (m : MemoryMap) (places : AreInFram 
         let es : List Effect = Send (u.work 7) (u.fram (u.work 5)) ∷ [] in
         then_on code 3 2 10 3 u u1 _ es [] (one_sent u e w (omega (arith, top, end)))
         (then_on code 2 0 3 0 u1 t _ [] []
-        (leaves code tidy p m.emits.address 9 (0x400 - 7) (p + 18) sent send_turn stands send_there sends_counted send_back behind_sends u1 (omega (arith, e)) c)
+        (leaves code tidy p m.emits.address 9 (0x400 - 7) (p + 18) sent send_turn stands send_there sends_counted send_back behind_sends u1
+        (omega (arith, e)) c)
         (nothing code t _ (record { at = record { pc = refl; fram = refl; readings_left = refl }; next_number = omega arith })))
     sending (suc n) u e c l i =
         let even = i.even in let low = i.low in let top = i.high in let end = places.emits.high in

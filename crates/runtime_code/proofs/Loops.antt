@@ -27,8 +27,8 @@ if_any_grows zero m once l = omega arith
 if_any_grows (suc n) zero once l = absurd (omega (arith, l))
 if_any_grows (suc n) (suc m) once l = omega arith
 
--- the flag of a count by one: it came to 0, or not
-last_flag : (n : ℕ) → n ≡ 1 → ((n + 65534 + 1) % 65536 == 0) ≡ true
+-- the flag of a count by one, or of a comparison with 1: it came to 0, or not
+pub last_flag : (n : ℕ) → n ≡ 1 → ((n + 65534 + 1) % 65536 == 0) ≡ true
 last_flag n e = ap (λ x. (x + 65534 + 1) % 65536 == 0) e
 
 more_flag : (n k : ℕ) → n < 0x10000 → n ≡ suc (suc k) → ((n + 65534 + 1) % 65536 == 0) ≡ false
