@@ -2,7 +2,6 @@
 use Rattle.std.proofs.Common.{◌≡◌, ℕ, ◌+◌, ◌-◌, ◌*◌, ◌%◌, ◌<◌, ◌==◌, not, List, [], ◌∷◌, ◌++◌, Some, refl, sym, ap, ◌∙◌, subst, arith, Bool, true, false}
 use Rattle.std.proofs.Common.{nat_lt, nat_le}
 use Rattle.std.proofs.Common.{if◌then◌else◌}
-use Rattle.std.specs.List.{AllByRecursion}
 use Rattle.std.proofs.lemmas.Bool.Decides.{nat_tests}
 use Rattle.msp_isa.specs.alp_words.Words.{word_sum}
 use Rattle.msp_isa.specs.declared.instructions.Condition.TheVariants as condition
@@ -13,17 +12,17 @@ use Rattle.array_versions.specs.fram_board.Effects.{Effect, Store}
 use Rattle.array_versions.specs.machine_effects.World.{put}
 use Rattle.array_versions.specs.machine_effects.Going.{At, stretch}
 use Rattle.array_versions.specs.machine_effects.Machine.{IsFram}
-use Rattle.code_forms.specs.Forms.{WorkRegister, R4, Core, CoreStretch, Register, Number, Constant, Indexed, ToRegister, ToIndexed, Move, Calculate, Update}
+use Rattle.code_forms.specs.Forms.{WorkRegister, R4, R5, Core, CoreStretch, Register, Number, Constant, Indexed, ToRegister, ToIndexed, Move, Calculate, Update}
 use Rattle.code_forms.specs.Forms.{Jump, instruction_of, form_bytes}
 use Rattle.code_forms.specs.Code.{Stands, forms_bytes, forms_run, Runs}
 use Rattle.code_forms.proofs.Interface.{stands_at, stands_front, stands_back, form_at, forms_at, end_of}
-use Rattle.array_versions.specs.Behaviour.{WordState, goes_on, with_stack, with_top, is_place, at_place, stored, element_pushed, word_emitted, entry_stored}
-use Rattle.codegen.specs.Code.{push_from, element_code, emit_code, pair_code, entry_code}
+use Rattle.array_versions.specs.Behaviour.{WordState, is_place, stored, word_emitted, entry_stored}
+use Rattle.codegen.specs.Code.{element_code, emit_code, pair_code, entry_code}
 use Rattle.codegen.proofs.Stretches.{Setting, straight, runs_on, dearer}
-use Rattle.codegen.proofs.Memory.{pop_memory, pop_needs, place_is}
-use Rattle.codegen.proofs.Follows.{StandsFor, Follows, ends_at, guarded, stands_elsewhere, memory_as}
+use Rattle.codegen.proofs.Memory.{place_is}
+use Rattle.codegen.proofs.Follows.{StandsFor, Follows, ends_at, guarded, stands_elsewhere}
 use Rattle.codegen.proofs.ListParts.{sixfold, six_times, at_offset, plus_none}
-use Rattle.codegen.proofs.Registers.{Has, pop_part, push_result, middle, jump_has, no_borrow}
+use Rattle.codegen.proofs.Registers.{Has, middle, jump_has, no_borrow}
 
 twice : (n : ℕ) → n + n < 0x10000 → (n + n + 0) % 0x10000 ≡ n + n
 twice n h = omega arith
@@ -55,85 +54,56 @@ module _ (z : Setting) where
 
   -- an element, where its code stands
   module _ (base size pc : ℕ) (l : size < 0x10000) (h : Stands z.code pc (element_code base size)) where
-    at6 : z.code (pc + 6) ≡ Some (instruction_of (Jump condition.Carry 4))
-    at6 = form_at z.code pc 2 (element_code base size) (Jump condition.Carry 4) h refl
+    at4 : z.code (pc + 4) ≡ Some (instruction_of (Jump condition.Carry 4))
+    at4 = form_at z.code pc 1 (element_code base size) (Jump condition.Carry 4) h refl
 
-    at14 : z.code (pc + 14) ≡ Some (instruction_of (Jump condition.Always 1))
-    at14 = form_at z.code pc 5 (element_code base size) (Jump condition.Always 1) h refl
+    at12 : z.code (pc + 12) ≡ Some (instruction_of (Jump condition.Always 1))
+    at12 = form_at z.code pc 4 (element_code base size) (Jump condition.Always 1) h refl
 
-    at18 : z.code (pc + 18) ≡ Some (instruction_of (push_from R4))
-    at18 = form_at z.code pc 7 (element_code base size) (push_from R4) h refl
-
-    -- by whether the index is below the length
-    element_by : (b : Bool) (i : ℕ) (rest : List ℕ) (w : WordState) (u : Core) → nat_lt i size ≡ b → i < 0x10000
-        → w.stack ≡ i ∷ rest → StandsFor z pc w u
-        → Follows z (pc + 20) 15 u (if b then at_place (2 * i + base) (goes_on [] (with_stack (w.fram (2 * i + base) ∷ rest) w)) else goes_on []
-        (with_stack (0 ∷ rest) w))
-    element_by false i rest w u lt r e k =
-        let popped = with_stack rest w in
-        let m = memory_as z pc w u (i ∷ rest) e k in
-        let high = (z.tidy (pc + 14) _ at14).high in
-        let to : sum16 (pc + 6 + 2) (distance 4) ≡ pc + 16 = omega arith in
+    -- the index is not below the length
+    pub past_end : (i : ℕ) (w : WordState) (t : Core) → nat_lt i size ≡ false → i < 0x10000 → HasIn R4 pc w i t
+        → Runs z.code [] 10 t (HasIn R4 (pc + 16) w 0)
+    past_end i w t lt r k =
+        let high = (z.tidy (pc + 12) _ at12).high in
+        let to : sum16 (pc + 4 + 2) (distance 4) ≡ pc + 14 = omega arith in
         let zeroed = Move (Constant konst.Zero) (ToRegister R4) ∷ [] in
-        let at16 : Stands z.code (pc + 16) zeroed = forms_at z.code pc 6 1 (element_code base size) h in
-        let e20 : pc + 18 + 2 ≡ pc + 20 = omega arith in
-        subst (λ n. Runs z.code [] 15 u (StandsFor z n (with_stack (0 ∷ rest) w))) e20
-        (dearer z [] 10 15 u _ (omega arith)
-        (runs_on z 2 8 u _ _ [] [] (pop_part z pc i rest w u e h.0 k) (λ t j.
-        runs_on z 2 6 t _ _ [] [] (compare_part (pc + 2) i size popped t r l h.1.0 j) (λ t j.
-        runs_on z 2 4 t _ _ [] [] (jump_has z condition.Carry 4 (pc + 6) (pc + 16) true R4 i popped t at6 (j.flag ∙ le_of_lt i size false lt) to
-        (record {
-          is = stands_elsewhere z (pc + 2 + 4) (pc + 6) popped t t j.has.is (omega (arith, j.has.is.at)) refl refl refl refl refl;
-          value = j.has.value;
-        }))
-        (λ t j.
-        runs_on z 1 3 t _ _ [] [] (middle z zeroed 1 (pc + 16) (pc + 18) 0 R4 popped t (end_of t (forms_run zeroed t).status) j.is (tt, tt) at16
-        ((tt, tt), tt) refl (omega (arith, j.is.at)) refl refl refl refl refl refl) (λ t j.
-        push_result z R4 (pc + 18) 0 popped t (omega (arith, m.fits)) at18 j))))))
-    element_by true i rest w u lt r e k =
-        let popped = with_stack rest w in
-        let m = memory_as z pc w u (i ∷ rest) e k in
+        let at14 : Stands z.code (pc + 14) zeroed = forms_at z.code pc 5 1 (element_code base size) h in
+        dearer z [] 5 10 t _ (omega arith)
+        (runs_on z 2 3 t _ _ [] [] (compare_part pc i size w t r l h.0 k) (λ t j.
+        runs_on z 2 1 t _ _ [] [] (jump_has z condition.Carry 4 (pc + 4) (pc + 14) true R4 i w t at4 (j.flag ∙ le_of_lt i size false lt) to j.has) (λ t j.
+        middle z zeroed 1 (pc + 14) (pc + 16) 0 R4 w t (end_of t (forms_run zeroed t).status) j.is (tt, tt) at14
+        ((tt, tt), tt) refl (omega (arith, j.is.at)) refl refl refl refl refl refl)))
+
+    -- it is, and the element is a word of FRAM
+    pub before_end : (i : ℕ) (w : WordState) (t : Core) → nat_lt i size ≡ true → i < 0x10000 → IsFram (2 * i + base) → HasIn R4 pc w i t
+        → Runs z.code [] 10 t (HasIn R4 (pc + 16) w (w.fram (2 * i + base)))
+    before_end i w t lt r f k =
         let a = 2 * i + base in
-        guarded z (is_place a) (pc + 20) 15 u (goes_on [] (with_stack (w.fram a ∷ rest) w)) (λ g.
-        let f = place_is a g in
         let fh = f.high in
         let small : (i + i + 0) % 0x10000 ≡ 2 * i = omega arith in
-        let high = (z.tidy (pc + 14) _ at14).high in
-        let to : sum16 (pc + 14 + 2) (distance 1) ≡ pc + 18 = omega arith in
+        let high = (z.tidy (pc + 12) _ at12).high in
+        let to : sum16 (pc + 12 + 2) (distance 1) ≡ pc + 16 = omega arith in
         let ms = Calculate op.Add (Register R4) R4 ∷ Move (Indexed R4 base) (ToRegister R4) ∷ [] in
-        let at8 : Stands z.code (pc + 8) ms = forms_at z.code pc 3 2 (element_code base size) h in
-        let e20 : pc + 18 + 2 ≡ pc + 20 = omega arith in
-        subst (λ n. Runs z.code [] 15 u (StandsFor z n (with_stack (w.fram a ∷ rest) w))) e20
-        (runs_on z 2 13 u _ _ [] [] (pop_part z pc i rest w u e h.0 k) (λ t j.
-        runs_on z 2 11 t _ _ [] [] (compare_part (pc + 2) i size popped t r l h.1.0 j) (λ t j.
-        runs_on z 2 9 t _ _ [] [] (jump_has z condition.Carry 4 (pc + 6) (pc + 8) false R4 i popped t at6 (j.flag ∙ le_of_lt i size true lt) (omega arith)
-        (record {
-          is = stands_elsewhere z (pc + 2 + 4) (pc + 6) popped t t j.has.is (omega (arith, j.has.is.at)) refl refl refl refl refl;
-          value = j.has.value;
-        }))
+        let at6 : Stands z.code (pc + 6) ms = forms_at z.code pc 2 2 (element_code base size) h in
+        runs_on z 2 8 t _ _ [] [] (compare_part pc i size w t r l h.0 k) (λ t j.
+        runs_on z 2 6 t _ _ [] [] (jump_has z condition.Carry 4 (pc + 4) (pc + 6) false R4 i w t at4 (j.flag ∙ le_of_lt i size true lt) (omega arith) j.has)
         (λ t j.
         let q : (t.work 4 + t.work 4 + 0) % 0x10000 ≡ 2 * i = ap (λ v. (v + v + 0) % 0x10000) j.value ∙ small in
-        runs_on z 4 5 t _ _ [] [] (middle z ms 4 (pc + 8) (pc + 14) (w.fram a) R4 popped t (end_of t (forms_run ms t).status) j.is (tt, (tt, tt)) at8
+        runs_on z 4 2 t _ _ [] [] (middle z ms 4 (pc + 6) (pc + 12) (w.fram a) R4 w t (end_of t (forms_run ms t).status) j.is (tt, (tt, tt)) at6
         ((tt, tt), ((subst (λ v. IsFram (v + base)) (sym q) f, tt), tt)) refl (omega (arith, j.is.at)) refl refl refl refl refl
         (ap (λ v. t.fram (v + base)) q ∙ ap (λ y. y a) j.is.fram)) (λ t j.
-        runs_on z 2 3 t _ _ [] [] (jump_has z condition.Always 1 (pc + 14) (pc + 18) true R4 (w.fram a) popped t at14 refl to j) (λ t j.
-        push_result z R4 (pc + 18) (w.fram a) popped t (omega (arith, m.fits)) at18 j)))))))
+        jump_has z condition.Always 1 (pc + 12) (pc + 16) true R4 (w.fram a) w t at12 refl to j)))
 
-    -- the element at an index, if that is below the length
-    pub element_part : (vs : List ℕ) (w : WordState) (u : Core) → w.stack ≡ vs → AllByRecursion (λ v. v < 0x10000) vs → StandsFor z pc w u
-        → Follows z (pc + 20) 15 u (with_top vs (λ i rest. element_pushed base size i (with_stack rest w)))
-    element_part [] w u e s k = tt
-    element_part (i ∷ rest) w u e s k = element_by (nat_lt i size) i rest w u refl s.0 e k
-
-  pub emit_part : (count buffer pc : ℕ) (vs : List ℕ) (w : WordState) (u : Core) → w.stack ≡ vs → Stands z.code pc (emit_code count buffer) → StandsFor z pc w u
-      → Follows z (pc + 20) 16 u (with_top vs (λ v rest. word_emitted count buffer v (with_stack rest w)))
-  emit_part count buffer pc [] w u e h i = tt
-  emit_part count buffer pc (v ∷ rest) w u e h i =
-      let m = memory_as z pc w u (v ∷ rest) e i in
+  -- the word in R5
+  pub emit_part : (count buffer pc v : ℕ) (w : WordState) (u : Core) → Stands z.code pc (emit_code count buffer) → HasIn R5 pc w v u
+      → Follows z (pc + 18) 14 u (word_emitted count buffer v w)
+  emit_part count buffer pc v w u h k =
+      let i = k.is in
       let n = w.fram count in
       let ms = emit_code count buffer in
-      guarded z (is_place count) (pc + 20) 16 u _ (λ g1.
-      guarded z (is_place (2 * n + buffer)) (pc + 20) 16 u _ (λ g2.
+      let end = pc + 18 in
+      guarded z (is_place count) end 14 u _ (λ g1.
+      guarded z (is_place (2 * n + buffer)) end 14 u _ (λ g2.
       let f1 = place_is count g1 in
       let f2 = place_is (2 * n + buffer) g2 in
       let fh = f2.high in
@@ -141,17 +111,15 @@ module _ (z : Setting) where
       let at : (u.fram count + u.fram count + 0) % 0x10000 + buffer ≡ 2 * n + buffer = omega (arith, un) in
       let up : (u.fram count + 1 + 0) % 0x10000 ≡ n + 1 = omega (arith, un) in
       let t0 = end_of u (forms_run ms u).status in
-      let shape : ℕ → ℕ → ℕ → CoreStretch = λ a x k. stretch (Store a x ∷ Store count k ∷ []) 16 (At (record t0 { fram = put (put u.fram a x) count k })) in
-      straight z ms 16 u (record t0 { fram = put (put u.fram (2 * n + buffer) v) count (n + 1) }) (Store (2 * n + buffer) v ∷ Store count (n + 1) ∷ []) 16 _
-      (tt, (tt, (tt, (tt, (tt, (tt, (tt, tt))))))) (stands_at z.code pc ms u h i.at) (
-        (pop_needs z m, tt),
-        ((f1, tt), ((tt, tt), ((tt, tt), ((tt, subst IsFram (sym at) f2), ((tt, tt), ((tt, f1), tt)))))),
-      )
-      (ap (λ a. shape a (u.ram u.sp) ((u.fram count + 1 + 0) % 0x10000)) at ∙ ap (λ x. shape (2 * n + buffer) x ((u.fram count + 1 + 0) % 0x10000)) m.stack.0
+      let shape : ℕ → ℕ → ℕ → CoreStretch = λ a x k. stretch (Store a x ∷ Store count k ∷ []) 14 (At (record t0 { fram = put (put u.fram a x) count k })) in
+      straight z ms 14 u (record t0 { fram = put (put u.fram (2 * n + buffer) v) count (n + 1) }) (Store (2 * n + buffer) v ∷ Store count (n + 1) ∷ []) 14 _
+      (tt, (tt, (tt, (tt, (tt, (tt, tt)))))) (stands_at z.code pc ms u h i.at)
+      ((f1, tt), ((tt, tt), ((tt, tt), ((tt, subst IsFram (sym at) f2), ((tt, tt), ((tt, f1), tt))))))
+      (ap (λ a. shape a (u.work 5) ((u.fram count + 1 + 0) % 0x10000)) at ∙ ap (λ x. shape (2 * n + buffer) x ((u.fram count + 1 + 0) % 0x10000)) k.value
       ∙ ap (λ k. shape (2 * n + buffer) v k) up) (omega arith)
       (record {
         at = omega (arith, i.at);
-        memory = pop_memory z m;
+        memory = i.memory;
         fram = ap (λ f. put (put f (2 * n + buffer) v) count (n + 1)) i.fram;
         readings = i.readings;
       })))

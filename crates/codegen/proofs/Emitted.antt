@@ -10,7 +10,7 @@ use Rattle.msp_isa.specs.declared.instructions.Instr.TheVariants.{Two}
 use Rattle.msp_isa.specs.declared.instructions.TwoOp.{TwoOp}
 use Rattle.msp_isa.specs.declared.operands.Src.{Src}
 use Rattle.msp_isa.specs.declared.operands.Dst.{Dst}
-use Rattle.code_forms.specs.Forms.{R4, Form, instruction_of}
+use Rattle.code_forms.specs.Forms.{Form, instruction_of}
 use Rattle.code_forms.specs.Placed.{instructions, words_of as instruction_words}
 use Rattle.code_forms.proofs.Interface.{instructions-append}
 use Rattle.codegen.proofs.Lengths.{size_words}
@@ -32,7 +32,8 @@ use Rattle.array_versions.specs.Program.{compares}
 use Rattle.array_versions.specs.Program.{both, either, fails, nothing, step}
 use Rattle.array_versions.specs.View.{step_of, steps_of, test_of}
 use Rattle.array_versions.specs.Form.{StepLocalsBelow, TestLocalsBelow, LocalsBelow}
-use Rattle.codegen.specs.Code.{pop_to, push_from, repeated, shift_code, size, step_code, code_of}
+use Rattle.codegen.specs.declared.waiting.Waiting.{Waiting}
+use Rattle.codegen.specs.Code.{repeated, size, waiting_behind, step_code, steps_code}
 
 -- ---- one level of a step and of a test
 
@@ -66,12 +67,13 @@ left_front xs i x l e =
     ap steps_of (drop-cons xs i x l) ∙ ap (λ y. steps_of (y ∷ drop (suc i) xs)) (sym e) ∙ ap (λ j. steps_of (x ∷ drop j xs)) (sym (add-one i))
 
 -- one more step of what is owed
-pub step_owed : (s : Step) (more : Program) (code new all : List Instr) → new ≡ code ++ instructions (step_code s)
-    → code ++ instructions (code_of (step s more)) ≡ all → new ++ instructions (code_of more) ≡ all
-step_owed s more code new all e h =
-    let rest = code_of more in
-    ap (λ l. l ++ instructions rest) e ∙ append_assoc code (instructions (step_code s)) (instructions rest)
-    ∙ ap (λ l. code ++ l) (sym (instructions-append (step_code s) rest)) ∙ h
+pub step_owed : (s : Step) (more : Program) (os os' : List Waiting) (code new all : List Instr) → new ≡ code ++ instructions (step_code os s)
+    → os' ≡ waiting_behind os s → code ++ instructions (steps_code os (step s more)) ≡ all → new ++ instructions (steps_code os' more) ≡ all
+step_owed s more os os' code new all e q h =
+    let rest = steps_code (waiting_behind os s) more in
+    ap (λ ws. new ++ instructions (steps_code ws more)) q ∙ ap (λ l. l ++ instructions rest) e
+    ∙ append_assoc code (instructions (step_code os s)) (instructions rest)
+    ∙ ap (λ l. code ++ l) (sym (instructions-append (step_code os s) rest)) ∙ h
 
 -- one more form of what is owed
 pub form_owed : (m : Form) (i : Instr) (n k : ℕ) (code new all : List Instr) → i ≡ instruction_of m → k < n → new ≡ code ++ i ∷ []
@@ -132,16 +134,6 @@ words_at_most false n = omega arith
 -- the words of such a part
 pub own_words : (own : List Instr) (ms : List Form) → own ≡ instructions ms → length (instruction_words own) ≡ size ms
 own_words own ms e = ap (λ l. length (instruction_words l)) e ∙ sym (size_words ms)
-
--- a shift from its three pieces
-pub shift_emitted : (ms : List Form) (code c1 c2 c3 : List Instr) → c1 ≡ code ++ instruction_of (pop_to R4) ∷ [] → c2 ≡ c1 ++ instructions ms
-    → c3 ≡ c2 ++ instruction_of (push_from R4) ∷ [] → c3 ≡ code ++ instructions (shift_code ms)
-shift_emitted ms code c1 c2 c3 a b c =
-    let first = instruction_of (pop_to R4) ∷ [] in
-    let last = instruction_of (push_from R4) ∷ [] in
-    c ∙ ap (λ x. x ++ last) (b ∙ ap (λ x. x ++ instructions ms) a) ∙ append_assoc (code ++ first) (instructions ms) last
-    ∙ append_assoc code first (instructions ms ++ last)
-    ∙ ap (λ x. code ++ (first ++ x)) (sym (instructions-append ms (push_from R4 ∷ [])))
 
 -- more room for locals
 mutual

@@ -1,8 +1,10 @@
 -- The forms of a program's code are instructions: their jumps reach no further than ten bits say.
 use Rattle.std.proofs.Common.{◌≡◌, ℕ, zero, suc, ◌+◌, ◌-◌, ◌*◌, ◌<◌, ◌==◌, refl, List, [], ◌∷◌, ◌++◌, arith, Bool, true, false, not, nat_le, nat_lt}
+use Rattle.std.proofs.Common.{Option, Some, None}
 use Rattle.std.proofs.Common.{if◌then◌else◌}
 use Rattle.std.proofs.lemmas.Bool.Decides.{nat_tests}
-use Rattle.code_forms.specs.Forms.{R4, Constant, Number, ToIndexed, Form, Move, Update, Jump, Skip, instruction_of}
+use Rattle.code_forms.specs.Forms as forms
+use Rattle.code_forms.specs.Forms.{R4, Constant, Number, Fram, Ram, ToFram, ToIndexed, Form, Move, Update, Push, Jump, Skip, Branch, instruction_of}
 use Rattle.msp_isa.specs.alp_words.Words.{word_sum}
 use Rattle.msp_isa.specs.declared.instructions.TwoOp.TheVariants as op
 use Rattle.msp_isa.specs.declared.instructions.Condition.{Condition}
@@ -26,9 +28,13 @@ use Rattle.array_versions.specs.Program.{list_entry}
 use Rattle.array_versions.specs.Program.{versioned_read, versioned_write, sense, truth, choose, repeat, store_number, move_word, jump, holds}
 use Rattle.array_versions.specs.Program.{compares}
 use Rattle.array_versions.specs.Program.{both, either, fails, nothing, step}
-use Rattle.codegen.specs.Code.{push_from, unary_middle, binary_middle, binary_result, repeated, double, halve, right_code, shift_by, shift_middle}
-use Rattle.codegen.specs.Code.{element_code, emit_code, pair_code, read_code, write_code, compare_form, holding, failing, size, pass_over, jump_back}
-use Rattle.codegen.specs.Code.{decision, holds_code, compares_code, truth_code, number_code, turn_end, turns_code, step_code, test_code, code_of}
+use Rattle.codegen.specs.declared.waiting.Waiting.{Waiting}
+use Rattle.codegen.specs.declared.waiting.Waiting.TheVariants as waiting
+use Rattle.codegen.specs.Code.{local_address, local_target, waiting_source, flushed, top_of, source_from, below_top, any_held, cleared, kept, four_from}
+use Rattle.codegen.specs.Code.{five_from, top_to_four, top_to_five, two_to_registers, unary_middle, binary_middle, plain_instruction, update_code, repeated}
+use Rattle.codegen.specs.Code.{double, halve, right_code, shift_by, shift_middle, element_code, emit_code, pair_code, entry_code, read_code, write_code}
+use Rattle.codegen.specs.Code.{compare_form, holding, failing, size, pass_over, jump_back, decision, holds_code, compares_code, truth_code, number_code, turn_end}
+use Rattle.codegen.specs.Code.{turns_code, waiting_behind, waiting_after, step_code, test_code, steps_code, code_of}
 use Rattle.codegen.specs.Laws.{CodeIsInstructions}
 
 -- the forms are instructions
@@ -132,43 +138,91 @@ turns_are n below body h =
     are-append turn (jump_back condition.NotEqual condition.Equal (size turn)) (are-append body (turn_end n below) h (turn_end_are n below))
     (back_are (nat_le (size turn) 511) (size turn) refl)
 
+flushed_are : (os : List Waiting) → Are (flushed os)
+flushed_are [] = tt
+flushed_are (o ∷ os) = are-append (flushed os) (Push (waiting_source o) ∷ []) (flushed_are os) (tt, tt)
+
+cleared_are : (os : List Waiting) → Are (cleared os)
+cleared_are os = either_are (any_held os) (flushed os) [] (flushed_are os) tt
+
+four_are : (o : Option Waiting) → Are (four_from o)
+four_are None = (tt, tt)
+four_are (Some (waiting.Number n)) = (tt, tt)
+four_are (Some (waiting.Fram a)) = (tt, tt)
+four_are (Some (waiting.Local n)) = (tt, tt)
+four_are (Some waiting.R4) = tt
+four_are (Some waiting.R6) = (tt, tt)
+
+top_to_four_are : (os : List Waiting) → Are (top_to_four os)
+top_to_four_are os = are-append (cleared (below_top os)) (four_from (top_of os)) (cleared_are (below_top os)) (four_are (top_of os))
+
+top_to_five_are : (os : List Waiting) → Are (top_to_five os)
+top_to_five_are os = are-append (cleared (below_top os)) (five_from (top_of os)) (cleared_are (below_top os)) (tt, tt)
+
+two_are : (os : List Waiting) → Are (two_to_registers os)
+two_are os =
+    let under = below_top os in
+    are-append (cleared (below_top under)) (five_from (top_of os) ++ four_from (top_of under)) (cleared_are (below_top under))
+    (are-append (five_from (top_of os)) (four_from (top_of under)) (tt, tt) (four_are (top_of under)))
+
+block_are : (p : Program) → Are (steps_code [] p) → Are (code_of p)
+block_are p h = are-append (steps_code [] p) (flushed (waiting_after [] p)) h (flushed_are (waiting_after [] p))
+
 mutual
-  step_are : (s : Step) → Are (step_code s)
-  step_are (number w) = (tt, tt)
-  step_are (load a) = (tt, tt)
-  step_are (keep a) = (tt, tt)
-  step_are (update o a) = (tt, tt)
-  step_are (local n) = (tt, tt)
-  step_are (set_local n) = (tt, tt)
-  step_are (update_local o n) = either_are (nat_lt n 8) _ _ (tt, tt) (tt, (tt, (tt, (tt, tt))))
-  step_are (unary o) = (tt, are-append (unary_middle o) (push_from R4 ∷ []) (unary_are o) (tt, tt))
-  step_are (binary o) = (tt, (tt, are-append (binary_middle o) (push_from (binary_result o) ∷ []) (binary_are o) (tt, tt)))
-  step_are (shift o k) = (tt, are-append (shift_middle o k) (push_from R4 ∷ []) (shift_are o k) (tt, tt))
-  step_are (element base size) = element_are base size
-  step_are (emit_word count buffer) = emit_are count buffer
-  step_are (list_entry count list home copy words) = entry_are count list home copy words (words == 1)
-  step_are (versioned_read place list) = read_are place list
-  step_are (versioned_write place list) = write_are place list
-  step_are sense = (tt, (tt, tt))
-  step_are (truth t) = are-append (test_code t false 2) truth_code (test_are t false 2) truth_are
-  step_are (choose t taken otherwise) =
+  step_are : (s : Step) (os : List Waiting) → Are (step_code os s)
+  step_are (number w) os = tt
+  step_are (load a) os = tt
+  step_are (keep a) os = are-append (flushed (below_top os)) (Move (source_from (top_of os)) (ToFram a) ∷ []) (flushed_are (below_top os)) (tt, tt)
+  step_are (update o a) os =
+      are-append (flushed (below_top os)) (Update (plain_instruction o) (source_from (top_of os)) a ∷ []) (flushed_are (below_top os)) (tt, tt)
+  step_are (local n) os =
+      either_are (nat_lt n 8) [] _ tt (are-append (flushed os) (Push (Ram (local_address n)) ∷ []) (flushed_are os) (tt, tt))
+  step_are (set_local n) os =
+      are-append (flushed (below_top os)) (Move (source_from (top_of os)) (local_target n) ∷ []) (flushed_are (below_top os)) (tt, tt)
+  step_are (update_local o n) os =
+      are-append (flushed (below_top os)) (update_code o n (source_from (top_of os))) (flushed_are (below_top os))
+      (either_are (nat_lt n 8) _ _ (tt, tt) (tt, (tt, (tt, (tt, tt)))))
+  step_are (unary o) os = are-append (top_to_five os) (unary_middle o) (top_to_five_are os) (unary_are o)
+  step_are (binary o) os = are-append (two_to_registers os) (binary_middle o) (two_are os) (binary_are o)
+  step_are (shift o k) os = are-append (top_to_four os) (shift_middle o k) (top_to_four_are os) (shift_are o k)
+  step_are (element base size) os = are-append (top_to_four os) (element_code base size) (top_to_four_are os) (element_are base size)
+  step_are (emit_word count buffer) os =
+      let ks = kept (below_top os) in
+      are-append (top_to_five os ++ flushed ks) (emit_code count buffer) (are-append (top_to_five os) (flushed ks) (top_to_five_are os) (flushed_are ks))
+      (emit_are count buffer)
+  step_are (list_entry count list home copy words) os =
+      are-append (flushed os) (entry_code count list home copy words) (flushed_are os) (entry_are count list home copy words (words == 1))
+  step_are (versioned_read place list) os = are-append (top_to_four os) (read_code place list) (top_to_four_are os) (read_are place list)
+  step_are (versioned_write place list) os =
+      let ks = kept (below_top (below_top os)) in
+      are-append (two_to_registers os ++ flushed ks) (write_code place list) (are-append (two_to_registers os) (flushed ks) (two_are os) (flushed_are ks))
+      (write_are place list)
+  step_are sense os = are-append (cleared os) (forms.Sense R4 ∷ []) (cleared_are os) (tt, tt)
+  step_are (truth t) os =
+      are-append (flushed os) (test_code t false 2 ++ truth_code) (flushed_are os) (are-append (test_code t false 2) truth_code (test_are t false 2) truth_are)
+  step_are (choose t taken otherwise) os =
       let other = code_of otherwise in
       let first = code_of taken ++ pass_over (size other) in
-      are-append (test_code t false (size first)) (first ++ other) (test_are t false (size first))
-      (are-append first other (are-append (code_of taken) (pass_over (size other)) (code_are taken) (pass_are (size other))) (code_are otherwise))
-  step_are (repeat n from below body) =
+      are-append (flushed os) (test_code t false (size first) ++ (first ++ other)) (flushed_are os)
+      (are-append (test_code t false (size first)) (first ++ other) (test_are t false (size first))
+      (are-append first other
+      (are-append (code_of taken) (pass_over (size other)) (block_are taken (steps_are taken [])) (pass_are (size other)))
+      (block_are otherwise (steps_are otherwise []))))
+  step_are (repeat n from below body) os =
       let turns = turns_code n below (code_of body) in
-      are-append (number_code n from) (if nat_lt from below then turns else []) (tt, tt)
-      (either_are (nat_lt from below) turns [] (turns_are n below (code_of body) (code_are body)) tt)
-  step_are (store_number a w) = (tt, tt)
-  step_are (move_word from to) = (tt, tt)
-  step_are (jump to) = (tt, tt)
+      are-append (flushed os) (number_code n from ++ (if nat_lt from below then turns else [])) (flushed_are os)
+      (are-append (number_code n from) (if nat_lt from below then turns else []) (tt, tt)
+      (either_are (nat_lt from below) turns [] (turns_are n below (code_of body) (block_are body (steps_are body []))) tt))
+  step_are (store_number a w) os = are-append (flushed os) (Move (Number w) (ToFram a) ∷ []) (flushed_are os) (tt, tt)
+  step_are (move_word from to) os = are-append (flushed os) (Move (Fram from) (ToFram to) ∷ []) (flushed_are os) (tt, tt)
+  step_are (jump to) os = are-append (flushed os) (Branch to ∷ []) (flushed_are os) (tt, tt)
 
   test_are : (t : Test) (when : Bool) (d : ℕ) → Are (test_code t when d)
   test_are (holds p) when d =
-      are-append (code_of p) (holds_code when d) (code_are p) (tt, (tt, decision_are when d condition.NotEqual condition.Equal))
+      are-append (code_of p) (holds_code when d) (block_are p (steps_are p [])) (tt, (tt, decision_are when d condition.NotEqual condition.Equal))
   test_are (compares c p) when d =
-      are-append (code_of p) (compares_code c when d) (code_are p) (tt, (tt, (compare_is c, decision_are when d (holding c) (failing c))))
+      are-append (code_of p) (compares_code c when d) (block_are p (steps_are p []))
+      (tt, (tt, (compare_is c, decision_are when d (holding c) (failing c))))
   test_are (both t u) when d =
       let second = test_code u when d in
       let more = size second + (if not when then d else 0) in
@@ -179,10 +233,14 @@ mutual
       are-append (test_code t true more) second (test_are t true more) (test_are u when d)
   test_are (fails t) when d = test_are t (not when) d
 
-  -- the code's forms are instructions
-  pub code_are : (p : Program) → Are (code_of p)
-  code_are nothing = tt
-  code_are (step first more) = are-append (step_code first) (code_of more) (step_are first) (code_are more)
+  steps_are : (p : Program) (os : List Waiting) → Are (steps_code os p)
+  steps_are nothing os = tt
+  steps_are (step first more) os =
+      are-append (step_code os first) (steps_code (waiting_behind os first) more) (step_are first os) (steps_are more (waiting_behind os first))
+
+-- the code's forms are instructions
+pub code_are : (p : Program) → Are (code_of p)
+code_are p = block_are p (steps_are p [])
 
 pub code_is_instructions : CodeIsInstructions
 code_is_instructions p = code_are p

@@ -8,15 +8,17 @@ use Rattle.msp_isa.specs.declared.instructions.Condition.{Condition}
 use Rattle.msp_isa.specs.declared.instructions.Condition.TheVariants as condition
 use Rattle.msp_isa.specs.declared.operands.Konst.TheVariants as konst
 use Rattle.msp_isa.specs.Encoding.{encoding}
-use Rattle.code_forms.specs.Forms.{R4, Register, Constant, Number, Ram, ToRegister, ToRam, ToIndexed, target_bytes, Form, Move, Update, Push, Jump, Skip}
-use Rattle.code_forms.specs.Forms.{instruction_of, form_bytes}
+use Rattle.code_forms.specs.Forms as forms
+use Rattle.code_forms.specs.Forms.{R4, Constant, Number, Fram, Ram, Source, source_bytes, ToRegister, ToFram, ToRam, ToIndexed, target_bytes, Form, Move}
+use Rattle.code_forms.specs.Forms.{Calculate, Update, Push, Jump, Skip, Branch, instruction_of, form_bytes}
 use Rattle.code_forms.specs.Code.{forms_bytes}
 use Rattle.code_forms.specs.Placed.{words_of as instruction_words, instructions}
 use Rattle.code_forms.proofs.Interface.{bytes_are, forms_bytes-append}
 use Rattle.array_versions.specs.declared.operations.UnaryOperation.{UnaryOperation}
 use Rattle.array_versions.specs.declared.operations.UnaryOperation.TheVariants.{Negate, Complement}
 use Rattle.array_versions.specs.declared.operations.BinaryOperation.{BinaryOperation}
-use Rattle.array_versions.specs.declared.operations.BinaryOperation.TheVariants.{Multiply}
+use Rattle.array_versions.specs.declared.operations.BinaryOperation.TheVariants.{Multiply, Divide, Remainder, Plain}
+use Rattle.array_versions.specs.declared.operations.PlainOperation.{PlainOperation}
 use Rattle.array_versions.specs.declared.operations.ShiftOperation.{ShiftOperation}
 use Rattle.array_versions.specs.declared.operations.ShiftOperation.TheVariants.{Left, Right, SignedRight}
 use Rattle.array_versions.specs.declared.operations.Comparison.{Comparison}
@@ -27,11 +29,15 @@ use Rattle.array_versions.specs.Program.{list_entry}
 use Rattle.array_versions.specs.Program.{versioned_read, versioned_write, sense, truth, choose, repeat, store_number, move_word, jump, holds}
 use Rattle.array_versions.specs.Program.{compares}
 use Rattle.array_versions.specs.Program.{both, either, fails, nothing, step}
-use Rattle.array_versions.specs.Cost.{unary_words, binary_words, right_words, shift_words, step_words, test_words, words_of}
-use Rattle.codegen.specs.Code.{local_register, local_address, compare_form, holding, failing, size, pass_over, jump_back, decision, holds_code}
-use Rattle.codegen.specs.Code.{compares_code, truth_code, number_code, turn_end, turns_code, step_code, test_code, code_of}
-use Rattle.codegen.specs.Code.{push_from, unary_middle, binary_middle, binary_result, repeated, double, halve, right_code, shift_by, shift_middle}
-use Rattle.codegen.specs.Code.{pair_code}
+use Rattle.array_versions.specs.Cost.{unary_words, binary_words, right_words, shift_words, entry_words, step_words, test_words, words_of}
+use Rattle.codegen.specs.declared.waiting.Waiting.{Waiting}
+use Rattle.codegen.specs.declared.waiting.Waiting.TheVariants as waiting
+use Rattle.codegen.specs.Code.{local_register, local_address, local_target, waiting_source, flushed, top_of, source_from, below_top, any_held, cleared, kept}
+use Rattle.codegen.specs.Code.{four_from, five_from, top_to_four, top_to_five, two_to_registers, unary_middle, binary_middle, binary_result}
+use Rattle.codegen.specs.Code.{plain_instruction, ram_update, update_code, repeated, double, halve, right_code, shift_by, shift_middle, element_code, emit_code}
+use Rattle.codegen.specs.Code.{pair_code, entry_code, read_code, write_code, compare_form, holding, failing, size, pass_over, jump_back, decision, holds_code}
+use Rattle.codegen.specs.Code.{compares_code, truth_code, number_code, turn_end, turns_code, waiting_behind, waiting_after, step_code, test_code, steps_code}
+use Rattle.codegen.specs.Code.{code_of}
 use Rattle.codegen.specs.Laws.{CodeHasItsBytes, CodeHasItsWords}
 
 unary_length : (o : UnaryOperation) → 2 + forms_bytes (unary_middle o) + 2 ≤ 2 * unary_words o
@@ -96,10 +102,6 @@ pass_short d =
     either_short (d == 0) [] _ 4 (omega arith)
     (either_short (nat_le d 511) (Jump condition.Always d ∷ []) (Skip (2 * d) ∷ []) 4 (omega arith) (omega arith))
 
-local_short : (n : ℕ) (b : Bool) → form_bytes (Push (if b then Register (local_register n) else Ram (local_address n))) ≤ 4
-local_short n true = omega arith
-local_short n false = omega arith
-
 target_short : (n : ℕ) (b : Bool) → target_bytes (if b then ToRegister (local_register n) else ToRam (local_address n)) ≤ 2
 target_short n true = omega arith
 target_short n false = omega arith
@@ -120,59 +122,185 @@ turns_short n below body =
           (Jump condition.Equal 2 ∷ Skip (0xFFFA - 2 * size turn) ∷ []) 6 (omega arith) (omega arith),
     )
 
+-- the bytes of a push that waits, at most
+abbrev pub kept_bytes_of : Waiting → ℕ
+kept_bytes_of (waiting.Number n) = 4
+kept_bytes_of (waiting.Fram a) = 4
+kept_bytes_of (waiting.Local n) = 4
+kept_bytes_of waiting.R4 = 2
+kept_bytes_of waiting.R6 = 2
+
+abbrev pub kept_bytes : List Waiting → ℕ
+kept_bytes [] = 0
+kept_bytes (o ∷ os) = kept_bytes os + kept_bytes_of o
+
+push_short : (o : Waiting) → form_bytes (Push (waiting_source o)) ≤ kept_bytes_of o
+push_short (waiting.Number n) = omega arith
+push_short (waiting.Fram a) = omega arith
+push_short (waiting.Local n) = omega arith
+push_short waiting.R4 = omega arith
+push_short waiting.R6 = omega arith
+
+flushed_short : (os : List Waiting) → forms_bytes (flushed os) ≤ kept_bytes os
+flushed_short [] = omega arith
+flushed_short (o ∷ os) = omega (arith, forms_bytes-append (flushed os) (Push (waiting_source o) ∷ []), flushed_short os, push_short o)
+
+cleared_by : (b : Bool) (os : List Waiting)
+    → forms_bytes (if b then flushed os else []) + kept_bytes (if b then [] else os) ≤ kept_bytes os
+cleared_by true os = omega (arith, flushed_short os)
+cleared_by false os = omega arith
+
+cleared_short : (os : List Waiting) → forms_bytes (cleared os) + kept_bytes (kept os) ≤ kept_bytes os
+cleared_short os = cleared_by (any_held os) os
+
+-- the top as a source takes no more than its push
+source_short : (os : List Waiting) → source_bytes (source_from (top_of os)) + kept_bytes (below_top os) ≤ kept_bytes os
+source_short [] = omega arith
+source_short (waiting.Number n ∷ os) = omega arith
+source_short (waiting.Fram a ∷ os) = omega arith
+source_short (waiting.Local n ∷ os) = omega arith
+source_short (waiting.R4 ∷ os) = omega arith
+source_short (waiting.R6 ∷ os) = omega arith
+
+five_short : (os : List Waiting) → forms_bytes (five_from (top_of os)) + kept_bytes (below_top os) ≤ 2 + kept_bytes os
+five_short os = omega (arith, source_short os)
+
+four_short : (os : List Waiting) → forms_bytes (four_from (top_of os)) + kept_bytes (below_top os) ≤ 2 + kept_bytes os
+four_short [] = omega arith
+four_short (waiting.Number n ∷ os) = omega arith
+four_short (waiting.Fram a ∷ os) = omega arith
+four_short (waiting.Local n ∷ os) = omega arith
+four_short (waiting.R4 ∷ os) = omega arith
+four_short (waiting.R6 ∷ os) = omega arith
+
+top_to_four_short : (os : List Waiting) → forms_bytes (top_to_four os) + kept_bytes (kept (below_top os)) ≤ 2 + kept_bytes os
+top_to_four_short os =
+    omega (arith, forms_bytes-append (cleared (below_top os)) (four_from (top_of os)), cleared_short (below_top os), four_short os)
+
+top_to_five_short : (os : List Waiting) → forms_bytes (top_to_five os) + kept_bytes (kept (below_top os)) ≤ 2 + kept_bytes os
+top_to_five_short os =
+    omega (arith, forms_bytes-append (cleared (below_top os)) (five_from (top_of os)), cleared_short (below_top os), five_short os)
+
+two_short : (os : List Waiting) → forms_bytes (two_to_registers os) + kept_bytes (kept (below_top (below_top os))) ≤ 4 + kept_bytes os
+two_short os =
+    let under = below_top os in
+    let loads = five_from (top_of os) ++ four_from (top_of under) in
+    omega (
+      arith,
+      forms_bytes-append (cleared (below_top under)) loads,
+      forms_bytes-append (five_from (top_of os)) (four_from (top_of under)),
+      cleared_short (below_top under),
+      five_short os,
+      four_short under,
+    )
+
+-- code behind the pushes of all that waits
+behind_flushed : (os : List Waiting) (ms : List Form) (n : ℕ) → forms_bytes ms ≤ 2 * n → forms_bytes (flushed os ++ ms) + 0 ≤ 2 * n + kept_bytes os
+behind_flushed os ms n h = omega (arith, forms_bytes-append (flushed os) ms, flushed_short os, h)
+
+-- a statement's instruction behind the pushes of what waits below its source
+behind_below : (os : List Waiting) (ms : List Form) (n : ℕ) → forms_bytes ms ≤ source_bytes (source_from (top_of os)) + 2 * n
+    → forms_bytes (flushed (below_top os) ++ ms) + 0 ≤ 2 * n + kept_bytes os
+behind_below os ms n h = omega (arith, forms_bytes-append (flushed (below_top os)) ms, flushed_short (below_top os), source_short os, h)
+
+local_short : (b : Bool) (n : ℕ) (os : List Waiting)
+    → forms_bytes (if b then [] else (flushed os ++ Push (Ram (local_address n)) ∷ [])) + kept_bytes (if b then waiting.Local n ∷ os else []) ≤ 4 + kept_bytes os
+local_short true n os = omega arith
+local_short false n os = omega (arith, forms_bytes-append (flushed os) (Push (Ram (local_address n)) ∷ []), flushed_short os)
+
+update_short : (b : Bool) (o : PlainOperation) (n : ℕ) (x : Source)
+    → forms_bytes (if b then Calculate (plain_instruction o) x (local_register n) ∷ [] else (ram_update o n x)) ≤ source_bytes x + 12
+update_short true o n x = omega arith
+update_short false o n x = omega arith
+
+result_short : (o : BinaryOperation) → kept_bytes_of (binary_result o) ≡ 2
+result_short Multiply = refl
+result_short Divide = refl
+result_short Remainder = refl
+result_short (Plain o) = refl
+
+-- steps with no word waiting in front of them, and then those that wait behind them are pushed
+block_short : (p : Program) → forms_bytes (steps_code [] p) + kept_bytes (waiting_after [] p) ≤ 2 * words_of p + 0 → forms_bytes (code_of p) ≤ 2 * words_of p
+block_short p h = omega (arith, h, forms_bytes-append (steps_code [] p) (flushed (waiting_after [] p)), flushed_short (waiting_after [] p))
+
 mutual
-  pub step_short : (s : Step) → forms_bytes (step_code s) ≤ 2 * step_words s
-  step_short (number w) = omega arith
-  step_short (load a) = omega arith
-  step_short (keep a) = omega arith
-  step_short (update o a) = omega arith
-  step_short (local n) = omega (arith, local_short n (nat_lt n 8))
-  step_short (set_local n) = omega (arith, target_short n (nat_lt n 8))
-  step_short (update_local o n) = either_short (nat_lt n 8) _ _ 12 (omega arith) (omega arith)
-  step_short (unary o) = omega (arith, forms_bytes-append (unary_middle o) (push_from R4 ∷ []), unary_length o)
-  step_short (binary o) = omega (arith, forms_bytes-append (binary_middle o) (push_from (binary_result o) ∷ []), binary_length o)
-  step_short (shift o k) = omega (arith, forms_bytes-append (shift_middle o k) (push_from R4 ∷ []), shift_length o k)
-  step_short (element base n) = omega arith
-  step_short (emit_word count buffer) = omega arith
-  step_short (list_entry count list home copy words) = let e = entry_length count list home copy words (words == 1) in omega (arith, e)
-  step_short (versioned_read place list) = omega arith
-  step_short (versioned_write place list) = omega arith
-  step_short sense = omega arith
-  step_short (truth t) = omega (arith, forms_bytes-append (test_code t false 2) truth_code, test_short t false 2)
-  step_short (choose t taken otherwise) =
+  pub step_short : (s : Step) (os : List Waiting) → forms_bytes (step_code os s) + kept_bytes (waiting_behind os s) ≤ 2 * step_words s + kept_bytes os
+  step_short (number w) os = omega arith
+  step_short (load a) os = omega arith
+  step_short (keep a) os = behind_below os (Move (source_from (top_of os)) (ToFram a) ∷ []) 2 (omega arith)
+  step_short (update o a) os = behind_below os (Update (plain_instruction o) (source_from (top_of os)) a ∷ []) 2 (omega arith)
+  step_short (local n) os = local_short (nat_lt n 8) n os
+  step_short (set_local n) os =
+      behind_below os (Move (source_from (top_of os)) (local_target n) ∷ []) 2 (omega (arith, target_short n (nat_lt n 8)))
+  step_short (update_local o n) os =
+      behind_below os (update_code o n (source_from (top_of os))) 6 (update_short (nat_lt n 8) o n (source_from (top_of os)))
+  step_short (unary o) os = omega (arith, forms_bytes-append (top_to_five os) (unary_middle o), unary_length o, top_to_five_short os)
+  step_short (binary o) os =
+      omega (arith, forms_bytes-append (two_to_registers os) (binary_middle o), binary_length o, two_short os, result_short o)
+  step_short (shift o k) os = omega (arith, forms_bytes-append (top_to_four os) (shift_middle o k), shift_length o k, top_to_four_short os)
+  step_short (element base n) os = omega (arith, forms_bytes-append (top_to_four os) (element_code base n), top_to_four_short os)
+  step_short (emit_word count buffer) os =
+      let ks = kept (below_top os) in
+      omega (
+        arith,
+        forms_bytes-append (top_to_five os ++ flushed ks) (emit_code count buffer),
+        forms_bytes-append (top_to_five os) (flushed ks),
+        top_to_five_short os,
+        flushed_short ks,
+      )
+  step_short (list_entry count list home copy words) os =
+      let e = entry_length count list home copy words (words == 1) in
+      behind_flushed os (entry_code count list home copy words) (entry_words words) (omega (arith, e))
+  step_short (versioned_read place list) os = omega (arith, forms_bytes-append (top_to_four os) (read_code place list), top_to_four_short os)
+  step_short (versioned_write place list) os =
+      let ks = kept (below_top (below_top os)) in
+      omega (
+        arith,
+        forms_bytes-append (two_to_registers os ++ flushed ks) (write_code place list),
+        forms_bytes-append (two_to_registers os) (flushed ks),
+        two_short os,
+        flushed_short ks,
+      )
+  step_short sense os = omega (arith, forms_bytes-append (cleared os) (forms.Sense R4 ∷ []), cleared_short os)
+  step_short (truth t) os =
+      behind_flushed os (test_code t false 2 ++ truth_code) (test_words t + 3)
+      (omega (arith, forms_bytes-append (test_code t false 2) truth_code, test_short t false 2))
+  step_short (choose t taken otherwise) os =
       let other = code_of otherwise in
       let first = code_of taken ++ pass_over (size other) in
-      omega (
+      behind_flushed os (test_code t false (size first) ++ (first ++ other)) (test_words t + 2 + words_of taken + words_of otherwise)
+      (omega (
         arith,
         forms_bytes-append (test_code t false (size first)) (first ++ other),
         forms_bytes-append first other,
         forms_bytes-append (code_of taken) (pass_over (size other)),
         test_short t false (size first),
-        code_short taken,
+        block_short taken (steps_short taken []),
         pass_short (size other),
-        code_short otherwise,
-      )
-  step_short (repeat n from below body) =
-      let turns : List Form = if nat_lt from below then turns_code n below (code_of body) else [] in
-      omega (
+        block_short otherwise (steps_short otherwise []),
+      ))
+  step_short (repeat n from below body) os =
+      let made = code_of body in
+      let turns : List Form = if nat_lt from below then turns_code n below made else [] in
+      behind_flushed os (number_code n from ++ turns) (13 + words_of body)
+      (omega (
         arith,
         forms_bytes-append (number_code n from) turns,
         target_short n (nat_lt n 8),
-        either_short (nat_lt from below) (turns_code n below (code_of body)) [] (forms_bytes (code_of body) + 20) (turns_short n below (code_of body))
-            (omega arith),
-        code_short body,
-      )
-  step_short (store_number a w) = omega arith
-  step_short (move_word from to) = omega arith
-  step_short (jump to) = omega arith
+        either_short (nat_lt from below) (turns_code n below made) [] (forms_bytes made + 20) (turns_short n below made) (omega arith),
+        block_short body (steps_short body []),
+      ))
+  step_short (store_number a w) os = behind_flushed os (Move (Number w) (ToFram a) ∷ []) 3 (omega arith)
+  step_short (move_word from to) os = behind_flushed os (Move (Fram from) (ToFram to) ∷ []) 3 (omega arith)
+  step_short (jump to) os = behind_flushed os (Branch to ∷ []) 2 (omega arith)
 
   pub test_short : (t : Test) (when : Bool) (d : ℕ) → forms_bytes (test_code t when d) ≤ 2 * test_words t
   test_short (holds p) when d =
       let e = decision_short when d condition.NotEqual condition.Equal in
-      omega (arith, forms_bytes-append (code_of p) (holds_code when d), e, code_short p)
+      omega (arith, forms_bytes-append (code_of p) (holds_code when d), e, block_short p (steps_short p []))
   test_short (compares c p) when d =
       let e = decision_short when d (holding c) (failing c) in
-      omega (arith, forms_bytes-append (code_of p) (compares_code c when d), e, compare_length c, code_short p)
+      omega (arith, forms_bytes-append (code_of p) (compares_code c when d), e, compare_length c, block_short p (steps_short p []))
   test_short (both t u) when d =
       let second = test_code u when d in
       let more = size second + (if not when then d else 0) in
@@ -183,10 +311,15 @@ mutual
       omega (arith, forms_bytes-append (test_code t true more) second, test_short t true more, test_short u when d)
   test_short (fails t) when d = test_short t (not when) d
 
-  -- the code is no longer than its words are counted
-  pub code_short : (p : Program) → forms_bytes (code_of p) ≤ 2 * words_of p
-  code_short nothing = omega arith
-  code_short (step first more) = omega (arith, forms_bytes-append (step_code first) (code_of more), step_short first, code_short more)
+  pub steps_short : (p : Program) (os : List Waiting) → forms_bytes (steps_code os p) + kept_bytes (waiting_after os p) ≤ 2 * words_of p + kept_bytes os
+  steps_short nothing os = omega arith
+  steps_short (step first more) os =
+      let mid = waiting_behind os first in
+      omega (arith, forms_bytes-append (step_code os first) (steps_code mid more), step_short first os, steps_short more mid)
+
+-- the code is no longer than its words are counted
+pub code_short : (p : Program) → forms_bytes (code_of p) ≤ 2 * words_of p
+code_short p = block_short p (steps_short p [])
 
 pub instructions_length : (ms : List Form) → 2 * length (instruction_words (instructions ms)) ≡ forms_bytes ms
 instructions_length [] = refl

@@ -3,6 +3,8 @@ mod Memory
 mod Follows
 mod Parts
 mod Registers
+mod Operands
+mod Results
 mod Jumps
 mod Choices
 mod Loops

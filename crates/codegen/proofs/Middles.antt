@@ -1,24 +1,23 @@
 -- Operations on registers: what each leaves, and the steps that they are.
 use Rattle.std.proofs.Common.{◌≡◌, ℕ, ◌+◌, ◌-◌, ◌%◌, ◌<◌, List, [], ◌∷◌, ◌++◌, refl, ap, ap₂, ◌∙◌, subst, arith}
-use Rattle.std.specs.List.{AllByRecursion}
 use Rattle.msp_isa.specs.alp_words.declared.Flags.{Flags}
 use Rattle.msp_isa.specs.alp_words.declared.Width.TheVariants.{Word}
 use Rattle.array_versions.specs.msp_step.Effect.{operated}
 use Rattle.array_versions.specs.machine_effects.Going.{At, stretch}
-use Rattle.code_forms.specs.Forms.{WorkRegister, R4, R5, work_number, Core, Register, Form, Push}
+use Rattle.code_forms.specs.Forms.{WorkRegister, R4, R5, work_number, Core, Form}
 use Rattle.code_forms.specs.Code.{Stands, forms_bytes, AreStraight, forms_run, FormsNeed, Runs}
-use Rattle.code_forms.proofs.Interface.{stands_front, stands_back, end_of}
+use Rattle.code_forms.proofs.Interface.{end_of}
 use Rattle.array_versions.specs.declared.operations.UnaryOperation.TheVariants.{Negate, Complement}
 use Rattle.array_versions.specs.declared.operations.PlainOperation.{PlainOperation}
 use Rattle.array_versions.specs.declared.operations.PlainOperation.TheVariants.{Add, Subtract, And, Xor, Or}
 use Rattle.array_versions.specs.declared.operations.BinaryOperation.TheVariants.{Plain}
 use Rattle.array_versions.specs.Operations.{unary_word, plain_word, binary_word}
-use Rattle.array_versions.specs.Behaviour.{WordState, goes_on, with_stack, with_top, with_two}
-use Rattle.codegen.specs.Code.{unary_middle, unary_code, plain_instruction, binary_middle, binary_code}
-use Rattle.codegen.proofs.Stretches.{Setting, runs_on}
+use Rattle.array_versions.specs.Behaviour.{WordState}
+use Rattle.codegen.specs.Code.{unary_middle, plain_instruction, binary_middle}
+use Rattle.codegen.proofs.Stretches.{Setting}
 use Rattle.codegen.proofs.Memory.{local_words}
-use Rattle.codegen.proofs.Follows.{StandsFor, Follows, memory_as}
-use Rattle.codegen.proofs.Registers.{Has, HasTwo, pop_five, pop_two, push_result, middle}
+use Rattle.codegen.proofs.Follows.{StandsFor}
+use Rattle.codegen.proofs.Registers.{Has, HasTwo, middle}
 
 -- what the instruction of an operation makes of two words
 pub makes : (o : PlainOperation) (x y : ℕ) (f : Flags) → x < 0x10000 → y < 0x10000 → (operated (plain_instruction o) Word x y f).value ≡ plain_word o x y
@@ -42,31 +41,6 @@ module _ (z : Setting) where
   abbrev pub UnaryMiddle : List Form → ℕ → (ℕ → ℕ) → Type 0
   UnaryMiddle ms c f = (pc y : ℕ) (w : WordState) (t : Core) → y < 0x10000 → Stands z.code pc ms → HasIn R5 pc w y t
       → Runs z.code [] c t (HasIn R4 (pc + forms_bytes ms) w (f y))
-
-  pub binary_part : (ms : List Form) (b : WorkRegister) (c pc : ℕ) (f : ℕ → ℕ → ℕ) (w : WordState) (u : Core) (vs : List ℕ) → w.stack ≡ vs
-      → AllByRecursion (λ v. v < 0x10000) vs → Stands z.code pc (binary_code ms b) → StandsFor z pc w u → BinaryMiddle ms b c f →
-      Follows z (pc + 4 + forms_bytes ms + 2) (4 + (c + 3)) u (with_two vs (λ x y rest. goes_on [] (with_stack (f x y ∷ rest) w)))
-  binary_part ms b c pc f w u [] e k h i g = tt
-  binary_part ms b c pc f w u (y ∷ []) e k h i g = tt
-  binary_part ms b c pc f w u (y ∷ (x ∷ rest)) e k h i g =
-      let m = memory_as z pc w u (y ∷ (x ∷ rest)) e i in
-      let h2 : Stands z.code (pc + 4) (ms ++ (Push (Register b) ∷ [])) = subst (λ n. Stands z.code n (ms ++ (Push (Register b) ∷ []))) (omega arith) h.1.1 in
-      let popped = with_stack rest w in
-      runs_on z 4 (c + 3) u _ _ [] [] (pop_two z pc x y rest w u e (h.0, (h.1.0, tt)) i) (λ t j.
-      runs_on z c 3 t _ _ [] [] (g (pc + 4) x y popped t k.1.0 k.0 (stands_front z.code (pc + 4) ms (Push (Register b) ∷ []) h2) j) (λ v q.
-      push_result z b (pc + 4 + forms_bytes ms) (f x y) popped v (omega (arith, m.fits)) (stands_back z.code (pc + 4) ms (Push (Register b) ∷ []) h2).0 q))
-
-  pub unary_part : (ms : List Form) (c pc : ℕ) (f : ℕ → ℕ) (w : WordState) (u : Core) (vs : List ℕ) → w.stack ≡ vs
-      → AllByRecursion (λ v. v < 0x10000) vs → Stands z.code pc (unary_code ms) → StandsFor z pc w u → UnaryMiddle ms c f →
-      Follows z (pc + 2 + forms_bytes ms + 2) (2 + (c + 3)) u (with_top vs (λ y rest. goes_on [] (with_stack (f y ∷ rest) w)))
-  unary_part ms c pc f w u [] e k h i g = tt
-  unary_part ms c pc f w u (y ∷ rest) e k h i g =
-      let m = memory_as z pc w u (y ∷ rest) e i in
-      let h2 : Stands z.code (pc + 2) (ms ++ (Push (Register R4) ∷ [])) = subst (λ n. Stands z.code n (ms ++ (Push (Register R4) ∷ []))) (omega arith) h.1 in
-      let popped = with_stack rest w in
-      runs_on z 2 (c + 3) u _ _ [] [] (pop_five z pc y rest w u e h.0 i) (λ t j.
-      runs_on z c 3 t _ _ [] [] (g (pc + 2) y popped t k.0 (stands_front z.code (pc + 2) ms (Push (Register R4) ∷ []) h2) j) (λ v q.
-      push_result z R4 (pc + 2 + forms_bytes ms) (f y) popped v (omega (arith, m.fits)) (stands_back z.code (pc + 2) ms (Push (Register R4) ∷ []) h2).0 q))
 
   -- straight middles
   line : (ms : List Form) (c pc : ℕ) (b : WorkRegister) (val : ℕ) (w : WordState) (t : Core) → StandsFor z pc w t → AreStraight ms → Stands z.code pc ms

@@ -1,7 +1,6 @@
 -- Shifts by a count.
 use Rattle.std.proofs.Common.{◌≡◌, ℕ, zero, suc, ◌+◌, ◌-◌, ◌*◌, ◌/◌, ◌%◌, ◌^◌, ◌<◌, ◌≤◌, ◌==◌, not, List, [], ◌∷◌, ◌++◌, Some, refl, sym, ap, ◌∙◌, subst}
 use Rattle.std.proofs.Common.{arith, Bool, true, false, nat_lt, nat_le, ltb-true, if◌then◌else◌, bit_and}
-use Rattle.std.specs.List.{AllByRecursion}
 use Rattle.std.proofs.lemmas.Bool.Decides.{nat_tests}
 use Rattle.std.proofs.lemmas.Nat.{and_mask, and_le_r, mul-mod_first, pow-add}
 use Rattle.std.proofs.Math.Nat.{div-div-eq-div-mul}
@@ -16,11 +15,10 @@ use Rattle.code_forms.proofs.Interface.{stands_front, stands_back, end_of}
 use Rattle.array_versions.specs.declared.operations.ShiftOperation.{ShiftOperation}
 use Rattle.array_versions.specs.declared.operations.ShiftOperation.TheVariants.{Left, Right, SignedRight}
 use Rattle.array_versions.specs.Operations.{shifted_word, shift_word}
-use Rattle.array_versions.specs.Behaviour.{WordState, goes_on, with_stack, with_top}
-use Rattle.codegen.specs.Code.{push_from, repeated, right_code, shift_by, shift_middle, shift_code}
+use Rattle.array_versions.specs.Behaviour.{WordState}
+use Rattle.codegen.specs.Code.{repeated, right_code, shift_by, shift_middle}
 use Rattle.codegen.proofs.Stretches.{Setting, runs_on, dearer, nothing_run}
-use Rattle.codegen.proofs.Follows.{StandsFor, Follows, memory_as}
-use Rattle.codegen.proofs.Registers.{Has, pop_part, push_result, middle}
+use Rattle.codegen.proofs.Registers.{Has, middle}
 
 -- a shift, its count first
 abbrev shift_of : ShiftOperation → ℕ → ℕ → ℕ
@@ -258,17 +256,5 @@ module _ (z : Setting) where
       dearer z [] 1 10 t _ (omega arith) (middle z ms 1 pc (pc + 2) 0 R4 w t (end_of t (forms_run ms t).status) i.is (tt, tt) h ((tt, tt), tt) refl
       (omega (arith, i.is.at)) refl refl refl refl refl refl)
 
-  pub shift_part : (d : ShiftOperation) (k pc : ℕ) (w : WordState) (u : Core) (vs : List ℕ) → w.stack ≡ vs → AllByRecursion (λ v. v < 0x10000) vs
-      → Stands z.code pc (shift_code (shift_middle d k)) → StandsFor z pc w u
-      → Follows z (pc + 2 + forms_bytes (shift_middle d k) + 2) 15 u (with_top vs (λ v rest. goes_on [] (with_stack (shift_word d v k ∷ rest) w)))
-  shift_part d k pc w u [] e b h i = tt
-  shift_part d k pc w u (y ∷ rest) e b h i =
-      let ms = shift_middle d k in
-      let m = memory_as z pc w u (y ∷ rest) e i in
-      let h2 : Stands z.code (pc + 2) (ms ++ (push_from R4 ∷ [])) = subst (λ n. Stands z.code n (ms ++ (push_from R4 ∷ []))) (omega arith) h.1 in
-      let popped = with_stack rest w in
-      runs_on z 2 13 u _ _ [] [] (pop_part z pc y rest w u e h.0 i) (λ t j.
-      runs_on z 10 3 t _ _ [] [] (middle_turns (nat_le k 15) d k refl (pc + 2) y popped t b.0 (stands_front z.code (pc + 2) ms (push_from R4 ∷ []) h2) j)
-      (λ v q.
-      push_result z R4 (pc + 2 + forms_bytes ms) (shift_word d y k) popped v (omega (arith, m.fits))
-      (stands_back z.code (pc + 2) ms (push_from R4 ∷ []) h2).0 q))
+  pub shift_part : (d : ShiftOperation) (k : ℕ) → Turns (shift_middle d k) 10 (λ v. shift_word d v k)
+  shift_part d k = middle_turns (nat_le k 15) d k refl

@@ -42,6 +42,12 @@ dearer z = blocks.dearer z.code z.tidy
 pub dearer_stall : (z : Setting) (es : List Effect) (most more : ℕ) (u : Core) → most ≤ more → Starves z.code es most u → Starves z.code es more u
 dearer_stall z = blocks.dearer_starves z.code z.tidy
 
+-- what it comes to, said otherwise
+pub so_runs : (z : Setting) (es : List Effect) (most : ℕ) (u : Core) (P Q : Core → Type 0) → ((t : Core) → P t → Q t) → Runs z.code es most u P
+    → Runs z.code es most u Q
+so_runs z es most u P Q f a =
+    record { steps = a.steps; cycles = a.cycles; end = a.end; within = a.within; leads = a.leads; holds = f a.end a.holds }
+
 pub nothing_run : (z : Setting) (u : Core) (P : Core → Type 0) → P u → Runs z.code [] 0 u P
 nothing_run z = blocks.nothing z.code z.tidy
 

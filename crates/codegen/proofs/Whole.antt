@@ -5,15 +5,11 @@ use Rattle.std.specs.List.{AllByRecursion}
 use Rattle.array_versions.specs.fram_board.Effects.{Effect}
 use Rattle.msp_isa.specs.declared.instructions.Condition.TheVariants as condition
 use Rattle.msp_isa.specs.declared.operands.Konst.TheVariants as konst
-use Rattle.code_forms.specs.Forms.{WorkRegister, R4, R5, R6, Core}
+use Rattle.code_forms.specs.Forms.{R4, R5, Core, Form, Move, Branch, Number, Fram, ToFram}
 use Rattle.code_forms.specs.Code.{Stands, forms_bytes}
 use Rattle.code_forms.proofs.Interface.{stands_front, stands_back, forms_behind, forms_bytes-append}
-use Rattle.array_versions.specs.declared.operations.UnaryOperation.{UnaryOperation}
-use Rattle.array_versions.specs.declared.operations.UnaryOperation.TheVariants.{Negate, Complement}
-use Rattle.array_versions.specs.declared.operations.BinaryOperation.{BinaryOperation}
-use Rattle.array_versions.specs.declared.operations.BinaryOperation.TheVariants.{Multiply, Divide, Remainder, Plain}
 use Rattle.array_versions.specs.declared.operations.Comparison.{Comparison}
-use Rattle.array_versions.specs.Operations.{unary_word, binary_word, is_true, compare_words}
+use Rattle.array_versions.specs.Operations.{is_true, compare_words}
 use Rattle.array_versions.specs.Program.{Step, Test, Program, number, load, keep, update, local, set_local, update_local, unary, binary, shift, element}
 use Rattle.array_versions.specs.Program.{emit_word}
 use Rattle.array_versions.specs.Program.{list_entry}
@@ -26,31 +22,30 @@ use Rattle.array_versions.specs.Behaviour.{tested}
 use Rattle.array_versions.specs.Behaviour.{behaviour}
 use Rattle.array_versions.specs.Form.{Place, start, assigning, Moves, EachTurn, EachStepWay, EachTestWay, EachWay, StepLocalsBelow, TestLocalsBelow}
 use Rattle.array_versions.specs.Form.{LocalsBelow, StepLoopsCount, TestLoopsCount, LoopsCount, StepOfWords, TestOfWords, OfWords}
-use Rattle.array_versions.specs.Cost.{unary_cycles, binary_cycles, top_spent, spent_by_top, spent_by_two, step_spent}
+use Rattle.array_versions.specs.Cost.{top_spent, spent_by_top, spent_by_two, step_spent, spent_on}
 use Rattle.array_versions.specs.Cost.{test_spent}
 use Rattle.array_versions.specs.Cost.{spent}
 use Rattle.array_versions.specs.Laws.{IsStateOfWords, EndsInWords, IsSound}
 use Rattle.array_versions.proofs.Interface.{Matches, GoesWell, matches_local, start_matches, step_well, well, whole_ends_soundly, local_words}
 use Rattle.array_versions.proofs.Interface.{step_words as words_step, words, Leaves, leaves}
-use Rattle.codegen.specs.Code.{pop_to, push_from, unary_middle, unary_code, binary_middle, binary_result, binary_code, update_code, shift_middle}
-use Rattle.codegen.specs.Code.{compare_form, holding, failing, size, pass_over, decision, holds_code, compares_code, truth_code, number_code}
-use Rattle.codegen.specs.Code.{step_code, test_code, code_of}
+use Rattle.codegen.specs.declared.waiting.Waiting.{Waiting}
+use Rattle.codegen.specs.declared.waiting.Waiting.TheVariants as waiting
+use Rattle.codegen.specs.Code.{pop_to, flushed, entry_code, compare_form, holding, failing, size, pass_over, decision, holds_code, compares_code, truth_code}
+use Rattle.codegen.specs.Code.{number_code, turns_code, waiting_behind, waiting_after, step_code, test_code, steps_code, code_of}
 use Rattle.codegen.specs.Laws.{ComesTo, CodeDoesAsProgram}
 use Rattle.codegen.proofs.Stretches.{Setting, runs_on, nothing_run}
 use Rattle.codegen.proofs.Memory.{place_is, assigned_same}
-use Rattle.codegen.proofs.Follows.{StandsFor, Follows, FollowsEnd, OnGoesOn, then_way, then_hop, ends_at, guarded}
-use Rattle.codegen.proofs.Parts.{number_part, constant_part, load_part, local_part, keep_part, set_part, sense_part, store_part, move_part, jump_part}
+use Rattle.codegen.proofs.Follows.{StandsFor, Follows, FollowsEnd, OnGoesOn, then_way, then_hop, ends_at, guarded, reach_more, reach_way, then_follows}
+use Rattle.codegen.proofs.Follows.{reach_guarded}
+use Rattle.codegen.proofs.Parts.{constant_part, store_part, move_part, jump_part}
 use Rattle.codegen.proofs.Registers.{jump_to}
 use Rattle.codegen.proofs.Jumps.{whole_size, stands_low, pass_part}
 use Rattle.codegen.proofs.Choices.{Fork, fork_at, fork_turned, fork_both, fork_either, decided_follows, holds_part, compares_part}
 use Rattle.codegen.proofs.Loops.{loop_by}
-use Rattle.codegen.proofs.Middles.{BinaryMiddle, unary_part, binary_part, plain_middle, negate_middle, complement_middle}
-use Rattle.codegen.proofs.Updates.{update_part, update_local_part}
-use Rattle.codegen.proofs.Access.{element_part, emit_part, entry_part}
-use Rattle.codegen.proofs.VersionParts.{read_part, write_part}
-use Rattle.codegen.proofs.ShiftParts.{shift_part}
-use Rattle.codegen.proofs.Products.{multiply_middle}
-use Rattle.codegen.proofs.Quotients.{divide_part, remainder_part}
+use Rattle.codegen.proofs.Access.{entry_part}
+use Rattle.codegen.proofs.Operands.{owed, Describes, dressed, flush_part}
+use Rattle.codegen.proofs.Results.{Does, number_part, load_part, local_by, keep_reaches, update_reaches, set_reaches, update_local_reaches, unary_part, binary_part}
+use Rattle.codegen.proofs.Results.{shift_reaches, element_reaches, emit_reaches, read_reaches, write_reaches, sense_part, alone_part}
 use Rattle.codegen.proofs.Lengths.{compare_length}
 
 -- a state from which what follows is fit, and which holds words
@@ -88,29 +83,6 @@ ready_popped next q n w us f m h e l =
     }
 
 module _ (z : Setting) where
-  abbrev Unaries : UnaryOperation → Type 0
-  Unaries o = (pc : ℕ) (w : WordState) (u : Core) → AllByRecursion (λ v. v < 0x10000) w.stack → Stands z.code pc (unary_code (unary_middle o))
-      → StandsFor z pc w u
-      → Follows z (pc + 2 + forms_bytes (unary_middle o) + 2) (unary_cycles o) u (with_top w.stack (λ v vs. goes_on [] (with_stack (unary_word o v ∷ vs) w)))
-
-  unary_follows : (o : UnaryOperation) → Unaries o
-  unary_follows Negate pc w u l h i = unary_part z (unary_middle Negate) 2 pc (unary_word Negate) w u w.stack refl l h i (negate_middle z)
-  unary_follows Complement pc w u l h i = unary_part z (unary_middle Complement) 2 pc (unary_word Complement) w u w.stack refl l h i (complement_middle z)
-
-  abbrev Binaries : BinaryOperation → WorkRegister → ℕ → Type 0
-  Binaries o b most = (pc : ℕ) (w : WordState) (u : Core) → AllByRecursion (λ v. v < 0x10000) w.stack → Stands z.code pc (binary_code (binary_middle o) b)
-      → StandsFor z pc w u
-      → Follows z (pc + 4 + forms_bytes (binary_middle o) + 2) most u (with_two w.stack (λ x y vs. goes_on [] (with_stack (binary_word o x y ∷ vs) w)))
-
-  by_middle : (o : BinaryOperation) (b : WorkRegister) (c : ℕ) → BinaryMiddle z (binary_middle o) b c (binary_word o) → Binaries o b (4 + (c + 3))
-  by_middle o b c m pc w u l h i = binary_part z (binary_middle o) b c pc (binary_word o) w u w.stack refl l h i m
-
-  binary_follows : (o : BinaryOperation) → Binaries o (binary_result o) (binary_cycles o)
-  binary_follows Multiply = by_middle Multiply R6 145 (multiply_middle z)
-  binary_follows Divide = by_middle Divide R4 195 (divide_part z)
-  binary_follows Remainder = by_middle Remainder R6 195 (remainder_part z)
-  binary_follows (Plain o) = by_middle (Plain o) R4 1 (plain_middle z o)
-
   -- the forms in front of a comparison's decision, and the decision
   compares_front : (c : Comparison) (pc : ℕ) (when : Bool) (d : ℕ) → Stands z.code pc (compares_code c when d)
       → Stands z.code pc (pop_to R5 ∷ pop_to R4 ∷ compare_form c ∷ [])
@@ -186,68 +158,86 @@ module _ (z : Setting) where
         (omega arith) (compares_part z c pc x y us w u e words.1.0 words.0 (compares_front c pc when d h) i)
         (λ s j. fh t s (popped held r.fit.2.0) j) (λ s j. ff t s (popped failed r.fit.2.1) j)
 
+  -- steps with no word waiting in front of them, and then those that wait behind them are pushed
+  block_follows : (p : Program) (pc : ℕ) (w : WordState) (u : Core) → Stands z.code pc (code_of p)
+      → (Stands z.code pc (steps_code [] p) → Does z (waiting_after [] p) (pc + forms_bytes (steps_code [] p)) (spent p w + 0) u (behaviour p w))
+      → Follows z (pc + forms_bytes (code_of p)) (spent p w) u (behaviour p w)
+  block_follows p pc w u h f =
+      let a = steps_code [] p in
+      let os = waiting_after [] p in
+      let mid = pc + forms_bytes a in
+      let b = behaviour p w in
+      ends_at z (mid + forms_bytes (flushed os)) (pc + forms_bytes (code_of p)) (spent p w) u b (omega (arith, forms_bytes-append a (flushed os)))
+      (then_follows z (owed os) (mid + forms_bytes (flushed os)) (spent p w) (Describes z os mid) u b.effects b.end
+      (reach_more z (owed os) (Describes z os mid) (spent p w + 0) (spent p w) u b.effects b.end (omega arith)
+      (f (stands_front z.code pc a (flushed os) h)))
+      (λ t v d. flush_part z os mid v t d (stands_back z.code pc a (flushed os) h)))
+
   mutual
-    step_follows : (first : Step) (next : Place → Type 0) (pc : ℕ) (w : WordState) (u : Core) → Ready (EachStepWay z.room first next) w → StepOfWords first
-        → StepLocalsBelow z.locals first → StepLoopsCount first
-        → Stands z.code pc (step_code first) → StandsFor z pc w u
-        → Follows z (pc + forms_bytes (step_code first)) (step_spent first w) u (step_behaviour first w)
-    step_follows (number v) next pc w u r o l c h i = number_part z v pc w u (omega (arith, r.fit.1, r.matches.depth)) h i
-    step_follows (load a) next pc w u r o l c h i =
-        guarded z (is_place a) (pc + 4) 5 u _ (λ e. load_part z a pc w u (omega (arith, r.fit.1, r.matches.depth)) (place_is a e) h i)
-    step_follows (keep a) next pc w u r o l c h i = keep_part z a pc w u w.stack refl h i
-    step_follows (update op a) next pc w u r o l c h i = update_part z op a pc w u w.stack (r.words_in.fram a) refl r.words_in.stack h i
-    step_follows (local n) next pc w u r o l c h i =
+    step_follows : (first : Step) (next : Place → Type 0) (os : List Waiting) (pc : ℕ) (w : WordState) (u : Core) → Ready (EachStepWay z.room first next) w
+        → StepOfWords first → StepLocalsBelow z.locals first → StepLoopsCount first
+        → Stands z.code pc (step_code os first) → Describes z os pc w u
+        → Does z (waiting_behind os first) (pc + forms_bytes (step_code os first)) (step_spent first w + owed os) u (step_behaviour first w)
+    step_follows (number v) next os pc w u r o l c h d = number_part z v os pc w u (omega (arith, r.fit.1, r.matches.depth)) d
+    step_follows (load a) next os pc w u r o l c h d =
+        let after = waiting.Fram a ∷ os in
+        reach_guarded z (is_place a) (owed after) (Describes z after (pc + 0)) (5 + owed os) u _
+        (λ e. load_part z a os pc w u (omega (arith, r.fit.1, r.matches.depth)) (place_is a e) d)
+    step_follows (keep a) next os pc w u r o l c h d = keep_reaches z a os pc w w.stack u refl h d
+    step_follows (update op a) next os pc w u r o l c h d = update_reaches z op a os pc w w.stack u (r.words_in.fram a) refl r.words_in.stack h d
+    step_follows (local n) next os pc w u r o l c h d =
         let x = r.matches.assigned n r.fit.0 in
         let f = r.fit.1 in
-        let end = pc + forms_bytes (step_code (local n)) in
-        subst (λ v. Follows z end 5 u (local_pushed v w)) (sym x.is) (local_part z n x.word pc w u (omega (arith, f.1, r.matches.depth)) l x.is h i)
-    step_follows (set_local n) next pc w u r o l c h i = set_part z n pc w u w.stack l refl h i
-    step_follows (update_local op n) next pc w u r o l c h i =
+        let after = waiting_behind os (local n) in
+        let end = pc + forms_bytes (step_code os (local n)) in
+        subst (λ v. Does z after end (5 + owed os) u (local_pushed v w)) (sym x.is)
+        (local_by z (nat_lt n 8) n x.word os pc w u refl (omega (arith, f.1, r.matches.depth)) l x.is h d)
+    step_follows (set_local n) next os pc w u r o l c h d = set_reaches z n os pc w w.stack u l refl h d
+    step_follows (update_local op n) next os pc w u r o l c h d =
         let x = r.matches.assigned n r.fit.0 in
-        let end = pc + forms_bytes (update_code op n) in
-        subst (λ v. Follows z end 10 u (with_top w.stack (λ y us. local_updated op n y v (with_stack us w)))) (sym x.is)
-        (update_local_part z op n x.word pc w u w.stack l x.is (r.words_in.locals n x.word x.is) refl r.words_in.stack h i)
-    step_follows (unary op) next pc w u r o l c h i =
-        ends_at z _ (pc + forms_bytes (step_code (unary op))) (unary_cycles op) u (step_behaviour (unary op) w)
-        (omega (arith, forms_bytes-append (unary_middle op) (push_from R4 ∷ [])))
-        (unary_follows op pc w u r.words_in.stack h i)
-    step_follows (binary op) next pc w u r o l c h i =
-        ends_at z _ (pc + forms_bytes (step_code (binary op))) (binary_cycles op) u (step_behaviour (binary op) w)
-        (omega (arith, forms_bytes-append (binary_middle op) (push_from (binary_result op) ∷ [])))
-        (binary_follows op pc w u r.words_in.stack h i)
-    step_follows (shift op k) next pc w u r o l c h i =
-        ends_at z _ (pc + forms_bytes (step_code (shift op k))) 15 u (step_behaviour (shift op k) w)
-        (omega (arith, forms_bytes-append (shift_middle op k) (push_from R4 ∷ [])))
-        (shift_part z op k pc w u w.stack refl r.words_in.stack h i)
-    step_follows (element base size) next pc w u r o l c h i = element_part z base size pc o.1 h w.stack w u refl r.words_in.stack i
-    step_follows (emit_word count buffer) next pc w u r o l c h i = emit_part z count buffer pc w.stack w u refl h i
-    step_follows (list_entry count list home copy n) next pc w u r o l c h i = entry_part z count list home copy n pc w u h i
-    step_follows (versioned_read place list) next pc w u r o l c h i = read_part z place list pc o.0.3 h w.stack w u r.words_in.fram refl r.words_in.stack i
-    step_follows (versioned_write place list) next pc w u r o l c h i = write_part z place list pc o.0.3 h w.stack w u r.words_in.fram refl r.words_in.stack i
-    step_follows sense next pc w u r o l c h i = sense_part z pc w u w.readings (omega (arith, r.fit.1, r.matches.depth)) refl h i
-    step_follows (truth t) next pc w u r o l c h i =
+        let end = pc + forms_bytes (step_code os (update_local op n)) in
+        subst (λ v. Does z [] end (10 + owed os) u (with_top w.stack (λ y us. local_updated op n y v (with_stack us w)))) (sym x.is)
+        (update_local_reaches z op n x.word os pc w w.stack u l x.is (r.words_in.locals n x.word x.is) refl r.words_in.stack h d)
+    step_follows (unary op) next os pc w u r o l c h d = unary_part z op os pc w w.stack u refl r.words_in.stack h d
+    step_follows (binary op) next os pc w u r o l c h d = binary_part z op os pc w w.stack u refl r.words_in.stack h d
+    step_follows (shift op k) next os pc w u r o l c h d = shift_reaches z op k os pc w w.stack u refl r.words_in.stack h d
+    step_follows (element base size) next os pc w u r o l c h d = element_reaches z base size os pc w w.stack u o.1 refl r.words_in.stack h d
+    step_follows (emit_word count buffer) next os pc w u r o l c h d = emit_reaches z count buffer os pc w w.stack u refl h d
+    step_follows (list_entry count list home copy n) next os pc w u r o l c h d =
+        alone_part z os (entry_code count list home copy n) 26 pc w u (step_behaviour (list_entry count list home copy n) w) h d
+        (λ t s i. entry_part z count list home copy n (pc + forms_bytes (flushed os)) w t s i)
+    step_follows (versioned_read place list) next os pc w u r o l c h d =
+        read_reaches z place list os pc w w.stack u o.0.3 r.words_in.fram refl r.words_in.stack h d
+    step_follows (versioned_write place list) next os pc w u r o l c h d =
+        write_reaches z place list os pc w w.stack u o.0.3 r.words_in.fram refl r.words_in.stack h d
+    step_follows sense next os pc w u r o l c h d = sense_part z os pc w w.readings u (omega (arith, r.fit.1, r.matches.depth)) refl h d
+    step_follows (truth t) next os pc w u r o l c h d =
         let a = test_code t false 2 in
-        let inside = pc + forms_bytes a in
-        let ha = stands_back z.code pc a truth_code h in
+        let at = pc + forms_bytes (flushed os) in
+        let inside = at + forms_bytes a in
+        let pushes = Moves z.room 0 1 next in
+        alone_part z os (a ++ truth_code) (step_spent (truth t) w) pc w u (step_behaviour (truth t) w) h d (λ x s i.
+        let ha = stands_back z.code at a truth_code s in
         let high = (z.tidy (inside + 2) _ ha.1.0).high in
         let fork : Fork false 2 inside (inside + 4) inside = record { holds = refl; fails = refl; room = λ low. omega arith } in
-        let pushes = Moves z.room 0 1 next in
-        ends_at z (inside + 6) (pc + forms_bytes (step_code (truth t))) (step_spent (truth t) w) u (step_behaviour (truth t) w)
+        ends_at z (inside + 6) (at + forms_bytes (a ++ truth_code)) (step_spent (truth t) w) x (step_behaviour (truth t) w)
         (omega (arith, forms_bytes-append a truth_code))
-        (test_follows t false 2 inside (inside + 4) pc (inside + 6) pushes pushes (λ v. 5) (λ v. 3) (number_pushed 1) (number_pushed 0) w u r o l c
-        (stands_front z.code pc a truth_code h) fork
-        (λ v x q j. one_pushed inside v x ha (omega (arith, q.fit.1, q.matches.depth)) j)
-        (λ v x q j. zero_pushed inside v x ha (omega (arith, q.fit.1, q.matches.depth)) j) i)
-    step_follows (choose t taken otherwise) next pc w u r o l c h i =
+        (test_follows t false 2 inside (inside + 4) at (inside + 6) pushes pushes (λ v. 5) (λ v. 3) (number_pushed 1) (number_pushed 0) w x r o l c
+        (stands_front z.code at a truth_code s) fork
+        (λ v y q j. one_pushed inside v y ha (omega (arith, q.fit.1, q.matches.depth)) j)
+        (λ v y q j. zero_pushed inside v y ha (omega (arith, q.fit.1, q.matches.depth)) j) i))
+    step_follows (choose t taken otherwise) next os pc w u r o l c h d =
         let b = code_of taken in
         let other = code_of otherwise in
         let over = pass_over (size other) in
         let first = b ++ over in
         let a = test_code t false (size first) in
-        let inside = pc + forms_bytes a in
+        let at = pc + forms_bytes (flushed os) in
+        let inside = at + forms_bytes a in
         let middle = inside + forms_bytes first in
         let end = middle + forms_bytes other in
-        let hb = stands_back z.code pc a (first ++ other) h in
+        alone_part z os (a ++ (first ++ other)) (step_spent (choose t taken otherwise) w) pc w u (step_behaviour (choose t taken otherwise) w) h d (λ x s i.
+        let hb = stands_back z.code at a (first ++ other) s in
         let hf = stands_front z.code inside first other hb in
         let ho = stands_back z.code inside first other hb in
         let fork : Fork false (size first) inside middle inside = record {
@@ -255,34 +245,47 @@ module _ (z : Setting) where
           fails = omega (arith, whole_size first);
           room = λ low. omega (arith, stands_low z inside first hf low, whole_size first);
         } in
-        ends_at z end (pc + forms_bytes (step_code (choose t taken otherwise))) (step_spent (choose t taken otherwise) w) u
+        ends_at z end (at + forms_bytes (a ++ (first ++ other))) (step_spent (choose t taken otherwise) w) x
         (step_behaviour (choose t taken otherwise) w) (omega (arith, forms_bytes-append a (first ++ other), forms_bytes-append first other))
-        (test_follows t false (size first) inside middle pc end (EachWay z.room taken next) (EachWay z.room otherwise next) (λ v. spent taken v + 3)
-        (spent otherwise) (behaviour taken) (behaviour otherwise) w u r o.0 l.0 c.0 (stands_front z.code pc a (first ++ other) h) fork
-        (λ v x q j. then_hop z (inside + forms_bytes b) end (spent taken v) 3 x (behaviour taken v).effects (behaviour taken v).end
-        (program_follows taken next inside v x q o.1 l.1 c.1 (stands_front z.code inside b over hf) j)
-        (λ s y k. pass_part z (inside + forms_bytes b) (size other) end y s (stands_back z.code inside b over hf)
+        (test_follows t false (size first) inside middle at end (EachWay z.room taken next) (EachWay z.room otherwise next) (λ v. spent taken v + 3)
+        (spent otherwise) (behaviour taken) (behaviour otherwise) w x r o.0 l.0 c.0 (stands_front z.code at a (first ++ other) s) fork
+        (λ v y q j. then_hop z (inside + forms_bytes b) end (spent taken v) 3 y (behaviour taken v).effects (behaviour taken v).end
+        (block_follows taken inside v y (stands_front z.code inside b over hf)
+        (λ hs. steps_follow taken next [] inside v y q o.1 l.1 c.1 hs (dressed z inside v y j)))
+        (λ s' y' k. pass_part z (inside + forms_bytes b) (size other) end y' s' (stands_back z.code inside b over hf)
         (omega (arith, whole_size other, forms_bytes-append b over))
         (λ low. stands_low z middle other ho (omega (arith, low, forms_bytes-append b over))) k))
-        (λ v x q j. program_follows otherwise next middle v x q o.2 l.2 c.2 ho j) i)
-    step_follows (repeat n from below body) next pc w u r o l c h i =
+        (λ v y q j. block_follows otherwise middle v y ho (λ hs. steps_follow otherwise next [] middle v y q o.2 l.2 c.2 hs (dressed z middle v y j))) i))
+    step_follows (repeat n from below body) next os pc w u r o l c h d =
         let start = number_code n from in
+        let made = code_of body in
+        let at = pc + forms_bytes (flushed os) in
         let turn : ℕ → Place → Type 0 = λ m. EachTurn m n (EachWay z.room body) next in
-        loop_by z (nat_lt from below) (code_of body) pc n from below (spent body) (behaviour body) (λ m s. Ready (turn m) s) w u refl l.0 o.2 h i r
-        (λ stands m k s t p less j. program_follows body (turn m) (pc + forms_bytes start) (with_local n k s) t
+        let rest : List Form = if nat_lt from below then turns_code n below made else [] in
+        alone_part z os (start ++ rest) (step_spent (repeat n from below body) w) pc w u (step_behaviour (repeat n from below body) w) h d (λ x hs i.
+        loop_by z (nat_lt from below) made at n from below (spent body) (behaviour body) (λ m s. Ready (turn m) s) w x refl l.0 o.2 hs i r
+        (λ stands m k s t p less j. block_follows body (at + forms_bytes start) (with_local n k s) t stands (λ hb.
+        steps_follow body (turn m) [] (at + forms_bytes start) (with_local n k s) t
         (record {
           place = assigning n p.place;
           fit = p.fit;
           matches = matches_local p.place s n k p.matches;
           words_in = local_words s n k p.words_in (let x = o.2 in omega arith);
-        }) o.3 l.1 c.1 stands j)
+        }) o.3 l.1 c.1 hb (dressed z (at + forms_bytes start) (with_local n k s) t j)))
         (λ m k s p less. ready_with (turn m) n k (behaviour body (with_local n k s)).end
         (well z.room body (turn m) (assigning n p.place) (with_local n k s) p.fit (matches_local p.place s n k p.matches))
         (words body (with_local n k s) o.3 (local_words s n k p.words_in (let x = o.2 in omega arith)))
-        (leaves n (Some k) body (with_local n k s) c.0 (assigned_same s.locals n k)))
-    step_follows (store_number a v) next pc w u r o l c h i = store_part z a v pc w u h i
-    step_follows (move_word from to) next pc w u r o l c h i = guarded z (is_place from) (pc + 6) 6 u _ (λ e. move_part z from to pc w u (place_is from e) h i)
-    step_follows (jump to) next pc w u r o l c h i = jump_part z to pc w u r.fit h i
+        (leaves n (Some k) body (with_local n k s) c.0 (assigned_same s.locals n k))))
+    step_follows (store_number a v) next os pc w u r o l c h d =
+        alone_part z os (Move (Number v) (ToFram a) ∷ []) 5 pc w u (step_behaviour (store_number a v) w) h d
+        (λ t s i. store_part z a v (pc + forms_bytes (flushed os)) w t s i)
+    step_follows (move_word from to) next os pc w u r o l c h d =
+        let at = pc + forms_bytes (flushed os) in
+        alone_part z os (Move (Fram from) (ToFram to) ∷ []) 6 pc w u (step_behaviour (move_word from to) w) h d
+        (λ t s i. guarded z (is_place from) (at + 6) 6 t _ (λ e. move_part z from to at w t (place_is from e) s i))
+    step_follows (jump to) next os pc w u r o l c h d =
+        alone_part z os (Branch to ∷ []) 3 pc w u (step_behaviour (jump to) w) h d
+        (λ t s i. jump_part z to (pc + forms_bytes (flushed os)) w t r.fit s i)
 
     test_follows : (t : Test) (when : Bool) (d holds_at fails_at pc end : ℕ) (held failed : Place → Type 0) (ch cf : WordState → ℕ)
         (rh rf : WordState → Behaviour) (w : WordState) (u : Core) → Ready (EachTestWay z.room t held failed) w → TestOfWords t
@@ -297,7 +300,7 @@ module _ (z : Setting) where
         let next = Moves z.room 1 0 (λ s. held s × failed s) in
         let b = behaviour p w in
         then_way z at end (spent p w) (λ v. 8 + spent_by_top ch cf v) u (Ready next) b.effects b.end (way_by_top rh rf)
-        (program_follows p next pc w u r o l c (stands_front z.code pc a last h) i)
+        (block_follows p pc w u (stands_front z.code pc a last h) (λ s. steps_follow p next [] pc w u r o l c s (dressed z pc w u i)))
         (ready_on next b.end (well z.room p next r.place w r.fit r.matches) (words p w o r.words_in))
         (λ x v q j. by_top when d holds_at fails_at end held failed ch cf rh rf fh ff at v x v.stack (stands_back z.code pc a last h)
         (fork_at when d holds_at fails_at (pc + forms_bytes (a ++ last)) (at + forms_bytes last) (omega (arith, forms_bytes-append a last)) fork) q refl j)
@@ -308,7 +311,7 @@ module _ (z : Setting) where
         let next = Moves z.room 2 0 (λ s. held s × failed s) in
         let b = behaviour p w in
         then_way z at end (spent p w) (λ v. 10 + spent_by_two e ch cf v) u (Ready next) b.effects b.end (way_by_two e rh rf)
-        (program_follows p next pc w u r o l c (stands_front z.code pc a last h) i)
+        (block_follows p pc w u (stands_front z.code pc a last h) (λ s. steps_follow p next [] pc w u r o l c s (dressed z pc w u i)))
         (ready_on next b.end (well z.room p next r.place w r.fit r.matches) (words p w o r.words_in))
         (λ x v q j. by_two when d holds_at fails_at end held failed ch cf rh rf fh ff e at v x v.stack (stands_back z.code pc a last h)
         (fork_at when d holds_at fails_at (pc + forms_bytes (a ++ last)) (at + forms_bytes last) (omega (arith, forms_bytes-append a last)) fork) q refl j)
@@ -347,23 +350,34 @@ module _ (z : Setting) where
     test_follows (fails t) when d holds_at fails_at pc end held failed ch cf rh rf w u r o l c h fork fh ff i =
         test_follows t (not when) d fails_at holds_at pc end failed held cf ch rf rh w u r o l c h (fork_turned when d holds_at fails_at _ fork) ff fh i
 
-    program_follows : (p : Program) (next : Place → Type 0) (pc : ℕ) (w : WordState) (u : Core) → Ready (EachWay z.room p next) w → OfWords p
+    steps_follow : (p : Program) (next : Place → Type 0) (os : List Waiting) (pc : ℕ) (w : WordState) (u : Core) → Ready (EachWay z.room p next) w → OfWords p
         → LocalsBelow z.locals p → LoopsCount p
-        → Stands z.code pc (code_of p) → StandsFor z pc w u → Follows z (pc + forms_bytes (code_of p)) (spent p w) u (behaviour p w)
-    program_follows nothing next pc w u r o l c h i = let e : pc ≡ pc + 0 = omega arith in
-        nothing_run z u (StandsFor z (pc + 0) w) (subst (λ n. StandsFor z n w u) e i)
-    program_follows (step first more) next pc w u r o l c h i =
-        let a = step_code first in
-        let rest = code_of more in
+        → Stands z.code pc (steps_code os p) → Describes z os pc w u
+        → Does z (waiting_after os p) (pc + forms_bytes (steps_code os p)) (spent p w + owed os) u (behaviour p w)
+    steps_follow nothing next os pc w u r o l c h d =
+        let e : pc ≡ pc + 0 = omega arith in
+        record { spent = 0; within = omega arith; runs = nothing_run z u (Describes z os (pc + 0) w) (subst (λ n. Describes z os n w u) e d) }
+    steps_follow (step first more) next os pc w u r o l c h d =
+        let a = step_code os first in
+        let mid = waiting_behind os first in
+        let rest = steps_code mid more in
         let b = step_behaviour first w in
         let pc' = pc + forms_bytes a in
-        ends_at z (pc' + forms_bytes rest) (pc + forms_bytes (a ++ rest)) (spent (step first more) w) u (behaviour (step first more) w)
-        (omega (arith, forms_bytes-append a rest))
-        (then_way z pc' (pc' + forms_bytes rest) (step_spent first w) (spent more) u (Ready (EachWay z.room more next)) b.effects b.end (behaviour more)
-        (step_follows first (EachWay z.room more next) pc w u r o.0 l.0 c.0 (stands_front z.code pc a rest h) i)
+        let end = pc' + forms_bytes rest in
+        let after = waiting_after mid more in
+        let all = behaviour (step first more) w in
+        let there : end ≡ pc + forms_bytes (a ++ rest) = omega (arith, forms_bytes-append a rest) in
+        subst (λ p. Does z after p (spent (step first more) w + owed os) u all) there
+        (reach_more z (owed after) (Describes z after end) (step_spent first w + owed os + spent_on b.end (spent more)) (spent (step first more) w + owed os) u
+        all.effects all.end (omega arith)
+        (reach_way z (owed mid) (owed after) (Describes z mid pc') (Describes z after end) (step_spent first w + owed os) (spent more) u
+        (Ready (EachWay z.room more next)) b.effects b.end (behaviour more)
+        (step_follows first (EachWay z.room more next) os pc w u r o.0 l.0 c.0 (stands_front z.code pc a rest h) d)
         (ready_on (EachWay z.room more next) b.end (step_well z.room first (EachWay z.room more next) r.place w r.fit r.matches)
         (words_step first w o.0 r.words_in))
-        (λ t v q j. program_follows more next pc' v t q o.1 l.1 c.1 (stands_back z.code pc a rest h) j))
+        (λ t v q j. reach_more z (owed after) (Describes z after end) (spent more v + owed mid) (owed mid + spent more v) t (behaviour more v).effects
+        (behaviour more v).end (omega arith)
+        (steps_follow more next mid pc' v t q o.1 l.1 c.1 (stands_back z.code pc a rest h) j))))
 
 -- each of a list by its head and its tail
 all_by_recursion : (vs : List ℕ) → All (λ r. r < 0x10000) vs → AllByRecursion (λ r. r < 0x10000) vs
@@ -392,7 +406,8 @@ code_does_as_program code at p u tidy h whole o entry =
       words_in =
           record { stack = tt; locals = λ n v q. absurd (let q' = q in (cc)); fram = entry.fram; readings = all_by_recursion u.readings_left entry.readings };
     } in
-    by_end z (spent p s) b.effects b.end (program_follows z p (λ q. ⊥) at s u r o whole.low_locals whole.loops_count h i)
+    by_end z (spent p s) b.effects b.end
+    (block_follows z p at s u h (λ hs. steps_follow z p (λ q. ⊥) [] at s u r o whole.low_locals whole.loops_count hs (dressed z at s u i)))
     (whole_ends_soundly p u.fram u.readings_left whole)
   where
     by_end : (z : Setting) (most : ℕ) (es : List Effect) (e : End) → FollowsEnd z (at + forms_bytes (code_of p)) most u es e

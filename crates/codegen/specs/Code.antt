@@ -1,6 +1,7 @@
--- The code of a word program, which does the same wherever it stands: the stack is at SP, its top first; the locals stand in R8 to R15 and, from the
--- ninth on, in RAM; R4 to R7 are for work.
+-- The code of a word program, which does the same wherever it stands: the stack is at SP, its top first, below the words that wait to be pushed; the
+-- locals stand in R8 to R15 and, from the ninth on, in RAM; R4 to R7 are for work.
 use Rattle.std.specs.Prelude.{ℕ, zero, suc, ◌+◌, ◌-◌, ◌*◌, ◌/◌, Bool, true, false, not, List, [], ◌∷◌, ◌++◌, get_or, ◌==◌, if◌then◌else◌, nat_le, nat_lt}
+use Rattle.std.specs.Prelude.{◌||◌, Option, Some, None}
 use Rattle.msp_isa.specs.declared.instructions.TwoOp.{TwoOp}
 use Rattle.msp_isa.specs.declared.instructions.TwoOp.TheVariants as op
 use Rattle.msp_isa.specs.declared.registers.SourceRegister.TheVariants as source_register
@@ -16,6 +17,8 @@ use Rattle.code_forms.specs.Forms.{WorkRegister, R4, R5, R6, R7, R8, R9, R10, R1
 use Rattle.code_forms.specs.Forms.{Popped, Source, ToRegister, ToFram, ToRam, ToIndexed, Target, Form, Move, Calculate, Update, Push, Modify, Jump, Skip}
 use Rattle.code_forms.specs.Forms.{Branch}
 use Rattle.code_forms.specs.Code.{forms_bytes}
+use Rattle.codegen.specs.declared.waiting.Waiting.{Waiting}
+use Rattle.codegen.specs.declared.waiting.Waiting.TheVariants as waiting
 use Rattle.array_versions.specs.declared.operations.UnaryOperation.{UnaryOperation}
 use Rattle.array_versions.specs.declared.operations.UnaryOperation.TheVariants.{Negate, Complement}
 use Rattle.array_versions.specs.declared.operations.BinaryOperation.{BinaryOperation}
@@ -63,14 +66,81 @@ pop_to b = Move Popped (ToRegister b)
 abbrev pub push_from : WorkRegister → Form
 push_from b = Push (Register b)
 
+-- a word that waits to be pushed, as a source: what an instruction names in its place
+abbrev pub waiting_source : Waiting → Source
+waiting_source (waiting.Number n) = Number n
+waiting_source (waiting.Fram a) = Fram a
+waiting_source (waiting.Local n) = Register (local_register n)
+waiting_source waiting.R4 = Register R4
+waiting_source waiting.R6 = Register R6
+
+-- all words that wait are pushed, the lowest first; lists of them have the top first
+abbrev pub flushed : List Waiting → List Form
+flushed [] = []
+flushed (o ∷ os) = flushed os ++ Push (waiting_source o) ∷ []
+
+-- the top, where it waits
+abbrev pub top_of : List Waiting → Option Waiting
+top_of [] = None
+top_of (o ∷ os) = Some o
+
+-- as a source: where it doesn't wait it is popped
+abbrev pub source_from : Option Waiting → Source
+source_from None = Popped
+source_from (Some o) = waiting_source o
+
+-- the words that wait below the top
+abbrev pub below_top : List Waiting → List Waiting
+below_top [] = []
+below_top (o ∷ os) = os
+
+-- a word waits in a register for work
+abbrev pub is_held : Waiting → Bool
+is_held waiting.R4 = true
+is_held waiting.R6 = true
+is_held _ = false
+
+-- so does one of them
+abbrev pub any_held : List Waiting → Bool
+any_held [] = false
+any_held (o ∷ os) = is_held o || any_held os
+
+-- in front of code that writes registers for work, the words below what it takes: where one of them waits in such a register all are pushed
+abbrev pub cleared : List Waiting → List Form
+cleared os = if any_held os then flushed os else []
+
+-- and those that go on waiting
+abbrev pub kept : List Waiting → List Waiting
+kept os = if any_held os then [] else os
+
+-- to R4
+abbrev pub four_from : Option Waiting → List Form
+four_from None = pop_to R4 ∷ []
+four_from (Some waiting.R4) = []
+four_from (Some o) = Move (waiting_source o) (ToRegister R4) ∷ []
+
+-- to R5
+abbrev pub five_from : Option Waiting → List Form
+five_from o = Move (source_from o) (ToRegister R5) ∷ []
+
+-- the top to R4
+abbrev pub top_to_four : List Waiting → List Form
+top_to_four os = cleared (below_top os) ++ four_from (top_of os)
+
+-- the top to R5
+abbrev pub top_to_five : List Waiting → List Form
+top_to_five os = cleared (below_top os) ++ five_from (top_of os)
+
+-- the right side, which is the top, to R5 and the left one to R4
+abbrev pub two_to_registers : List Waiting → List Form
+two_to_registers os =
+    let under = below_top os in
+    cleared (below_top under) ++ (five_from (top_of os) ++ four_from (top_of under))
+
 -- an operation on R5, its result in R4
 abbrev pub unary_middle : UnaryOperation → List Form
 unary_middle Negate = Move (Constant konst.Zero) (ToRegister R4) ∷ Calculate op.Sub (Register R5) R4 ∷ []
 unary_middle Complement = Move (Constant konst.MinusOne) (ToRegister R4) ∷ Calculate op.Sub (Register R5) R4 ∷ []
-
--- the top to R5, the operation, its result to the top
-abbrev pub unary_code : List Form → List Form
-unary_code middle = pop_to R5 ∷ (middle ++ push_from R4 ∷ [])
 
 -- a bit of the multiplier: where it is 1, what is in R4 is added to R6; then R4 is doubled and R5 halved, until R5 is 0
 abbrev pub multiply_turn : List Form
@@ -105,25 +175,21 @@ binary_middle Divide = divide_middle
 binary_middle Remainder = divide_middle
 binary_middle (Plain o) = Calculate (plain_instruction o) (Register R5) R4 ∷ []
 
--- where its result is
-abbrev pub binary_result : BinaryOperation → WorkRegister
-binary_result Multiply = R6
-binary_result Remainder = R6
-binary_result _ = R4
+-- where its result waits
+abbrev pub binary_result : BinaryOperation → Waiting
+binary_result Multiply = waiting.R6
+binary_result Remainder = waiting.R6
+binary_result _ = waiting.R4
 
--- the right side to R5 and the left one to R4, the operation, its result to the top
-abbrev pub binary_code : List Form → WorkRegister → List Form
-binary_code middle b = pop_to R5 ∷ pop_to R4 ∷ (middle ++ push_from b ∷ [])
-
--- a local in RAM becomes what an operation gives of it and of the top
-abbrev pub ram_update : PlainOperation → ℕ → List Form
-ram_update o n =
-    pop_to R5 ∷ Move (Ram (local_address n)) (ToRegister R4) ∷ Calculate (plain_instruction o) (Register R5) R4
+-- a local in RAM becomes what an operation gives of it and of a word
+abbrev pub ram_update : PlainOperation → ℕ → Source → List Form
+ram_update o n x =
+    Move x (ToRegister R5) ∷ Move (Ram (local_address n)) (ToRegister R4) ∷ Calculate (plain_instruction o) (Register R5) R4
     ∷ Move (Register R4) (ToRam (local_address n)) ∷ []
 
 -- the same of any local
-abbrev pub update_code : PlainOperation → ℕ → List Form
-update_code o n = if nat_lt n 8 then Calculate (plain_instruction o) Popped (local_register n) ∷ [] else (ram_update o n)
+abbrev pub update_code : PlainOperation → ℕ → Source → List Form
+update_code o n x = if nat_lt n 8 then Calculate (plain_instruction o) x (local_register n) ∷ [] else (ram_update o n x)
 
 -- R4 as an operand
 abbrev pub in_r4 : Operand
@@ -157,20 +223,16 @@ shift_by SignedRight k = if nat_lt k 8 then repeated k halve else (Modify change
 abbrev pub shift_middle : ShiftOperation → ℕ → List Form
 shift_middle operation k = if nat_le k 15 then shift_by operation k else (Move (Constant konst.Zero) (ToRegister R4) ∷ [])
 
--- the top to R4, the shift, and back
-abbrev pub shift_code : List Form → List Form
-shift_code middle = pop_to R4 ∷ (middle ++ push_from R4 ∷ [])
-
--- the index is compared with the length; below it, twice the index is an offset in the array
+-- the index in R4 is compared with the length; below it, twice the index is an offset in the array, and R4 becomes the element, else 0
 abbrev pub element_code : ℕ → ℕ → List Form
 element_code base length =
-    pop_to R4 ∷ Calculate op.Cmp (Number length) R4 ∷ Jump condition.Carry 4 ∷ Calculate op.Add (Register R4) R4
-    ∷ Move (Indexed R4 base) (ToRegister R4) ∷ Jump condition.Always 1 ∷ Move (Constant konst.Zero) (ToRegister R4) ∷ push_from R4 ∷ []
+    Calculate op.Cmp (Number length) R4 ∷ Jump condition.Carry 4 ∷ Calculate op.Add (Register R4) R4
+    ∷ Move (Indexed R4 base) (ToRegister R4) ∷ Jump condition.Always 1 ∷ Move (Constant konst.Zero) (ToRegister R4) ∷ []
 
--- the word, then the count
+-- the word in R5, then the count
 abbrev pub emit_code : ℕ → ℕ → List Form
 emit_code count buffer =
-    pop_to R5 ∷ Move (Fram count) (ToRegister R6) ∷ Move (Register R6) (ToRegister R4) ∷ Calculate op.Add (Register R6) R4
+    Move (Fram count) (ToRegister R6) ∷ Move (Register R6) (ToRegister R4) ∷ Calculate op.Add (Register R6) R4
     ∷ Move (Register R5) (ToIndexed R4 buffer) ∷ Calculate op.Add (Constant konst.One) R6 ∷ Move (Register R6) (ToFram count) ∷ []
 
 -- how many words a run has, as a source: 1 takes no word of its own
@@ -189,13 +251,14 @@ entry_code count list home copy words =
     pair_code count list home copy
     ++ (Move (words_source words) (ToIndexed R4 (word_sum list 4)) ∷ Update op.Add (Constant konst.One) count ∷ [])
 
--- a versioned read: below the length, the version word is compared with the attempt's number; then the copy or the element
+-- a versioned read at the index in R4: below the length, the version word is compared with the attempt's number; then R4 becomes the copy or the
+-- element, else 0
 abbrev pub read_code : ArrayPlace → ListPlace → List Form
 read_code place list =
-    pop_to R4 ∷ Calculate op.Cmp (Number place.length) R4 ∷ Jump condition.Carry 12 ∷ double ∷ Move (Fram list.ver) (ToRegister R5)
+    Calculate op.Cmp (Number place.length) R4 ∷ Jump condition.Carry 12 ∷ double ∷ Move (Fram list.ver) (ToRegister R5)
     ∷ Calculate op.Cmp (Indexed R4 place.versions) R5 ∷ Jump condition.NotEqual 3 ∷ Move (Indexed R4 place.copies) (ToRegister R4)
     ∷ Jump condition.Always 4 ∷ Move (Indexed R4 place.elements) (ToRegister R4) ∷ Jump condition.Always 1 ∷ Move (Constant konst.Zero) (ToRegister R4)
-    ∷ push_from R4 ∷ []
+    ∷ []
 
 -- R6 is where the run of the last entry ends, the words of its entry being at one address from R5 on and where it begins at another;
 -- where that isn't what this register holds, a jump
@@ -240,10 +303,10 @@ first_code place list =
     mark_code place list ++ (last_code ++ (end_test words list.list R7 13 ++ (end_test words (word_sum list.list 2) R4 6
     ++ (longer_code words ++ (next_code ++ word_code list)))))
 
--- the store to the copy; where the version word is the attempt's number, all that follows it is passed over
+-- the store to the copy, of the word in R5 at the index in R4; where the version word is the attempt's number, all that follows it is passed over
 abbrev pub copy_code : ArrayPlace → ListPlace → List Form
 copy_code place list =
-    pop_to R5 ∷ pop_to R4 ∷ Calculate op.Cmp (Number place.length) R4 ∷ Jump condition.Carry 54 ∷ double ∷ Move (Register R5) (ToIndexed R4 place.copies)
+    Calculate op.Cmp (Number place.length) R4 ∷ Jump condition.Carry 54 ∷ double ∷ Move (Register R5) (ToIndexed R4 place.copies)
     ∷ Move (Fram list.ver) (ToRegister R6) ∷ Calculate op.Cmp (Indexed R4 place.versions) R6 ∷ Jump condition.Equal 46 ∷ []
 
 -- a versioned write
@@ -331,39 +394,63 @@ turn_end n below =
 abbrev pub turns_code : ℕ → ℕ → List Form → List Form
 turns_code n below body = let turn = body ++ turn_end n below in turn ++ jump_back condition.NotEqual condition.Equal (size turn)
 
+-- a local is pushed where it stands in RAM
+abbrev pub local_code : List Waiting → ℕ → List Form
+local_code os n = if nat_lt n 8 then [] else (flushed os ++ Push (Ram (local_address n)) ∷ [])
+
+-- what waits behind a step; nothing does behind a store, behind an assignment and where ways part or meet
+abbrev pub waiting_behind : List Waiting → Step → List Waiting
+waiting_behind os (number w) = waiting.Number w ∷ os
+waiting_behind os (load a) = waiting.Fram a ∷ os
+waiting_behind os (local n) = if nat_lt n 8 then waiting.Local n ∷ os else []
+waiting_behind os (unary operation) = waiting.R4 ∷ kept (below_top os)
+waiting_behind os (binary operation) = binary_result operation ∷ kept (below_top (below_top os))
+waiting_behind os (shift operation k) = waiting.R4 ∷ kept (below_top os)
+waiting_behind os (element base length) = waiting.R4 ∷ kept (below_top os)
+waiting_behind os (versioned_read place list) = waiting.R4 ∷ kept (below_top os)
+waiting_behind os sense = waiting.R4 ∷ kept os
+waiting_behind os _ = []
+
+-- what waits behind a program
+abbrev pub waiting_after : List Waiting → Program → List Waiting
+waiting_after os nothing = os
+waiting_after os (step first more) = waiting_after (waiting_behind os first) more
+
 abbrev mutual
-  -- the code of a step
-  pub step_code : Step → List Form
-  step_code (number w) = Push (Number w) ∷ []
-  step_code (load a) = Push (Fram a) ∷ []
-  step_code (keep a) = Move Popped (ToFram a) ∷ []
-  step_code (update o a) = Update (plain_instruction o) Popped a ∷ []
-  step_code (local n) = Push (local_source n) ∷ []
-  step_code (set_local n) = Move Popped (local_target n) ∷ []
-  step_code (update_local o n) = update_code o n
-  step_code (unary operation) = unary_code (unary_middle operation)
-  step_code (binary operation) = binary_code (binary_middle operation) (binary_result operation)
-  step_code (shift operation k) = shift_code (shift_middle operation k)
-  step_code (element base length) = element_code base length
-  step_code (emit_word count buffer) = emit_code count buffer
-  step_code (list_entry count list home copy words) = entry_code count list home copy words
-  step_code (versioned_read place list) = read_code place list
-  step_code (versioned_write place list) = write_code place list
-  step_code sense = forms.Sense R4 ∷ push_from R4 ∷ []
-  step_code (truth t) = test_code t false 2 ++ truth_code
-  step_code (choose t taken otherwise) =
-      let other = code_of otherwise in
-      let first = code_of taken ++ pass_over (size other) in
-      test_code t false (size first) ++ (first ++ other)
-  step_code (repeat n from below body) = number_code n from ++ (if nat_lt from below then turns_code n below (code_of body) else [])
-  step_code (store_number a w) = Move (Number w) (ToFram a) ∷ []
-  step_code (move_word from to) = Move (Fram from) (ToFram to) ∷ []
-  step_code (jump to) = Branch to ∷ []
+  -- the code of a step, where these words wait
+  pub step_code : List Waiting → Step → List Form
+  step_code os (number w) = []
+  step_code os (load a) = []
+  step_code os (keep a) = flushed (below_top os) ++ Move (source_from (top_of os)) (ToFram a) ∷ []
+  step_code os (update o a) = flushed (below_top os) ++ Update (plain_instruction o) (source_from (top_of os)) a ∷ []
+  step_code os (local n) = local_code os n
+  step_code os (set_local n) = flushed (below_top os) ++ Move (source_from (top_of os)) (local_target n) ∷ []
+  step_code os (update_local o n) = flushed (below_top os) ++ update_code o n (source_from (top_of os))
+  step_code os (unary operation) = top_to_five os ++ unary_middle operation
+  step_code os (binary operation) = two_to_registers os ++ binary_middle operation
+  step_code os (shift operation k) = top_to_four os ++ shift_middle operation k
+  step_code os (element base length) = top_to_four os ++ element_code base length
+  step_code os (emit_word count buffer) = (top_to_five os ++ flushed (kept (below_top os))) ++ emit_code count buffer
+  step_code os (list_entry count list home copy words) = flushed os ++ entry_code count list home copy words
+  step_code os (versioned_read place list) = top_to_four os ++ read_code place list
+  step_code os (versioned_write place list) = (two_to_registers os ++ flushed (kept (below_top (below_top os)))) ++ write_code place list
+  step_code os sense = cleared os ++ forms.Sense R4 ∷ []
+  step_code os (truth t) = flushed os ++ (test_code t false 2 ++ truth_code)
+  step_code os (choose t taken otherwise) =
+      let other = steps_code [] otherwise ++ flushed (waiting_after [] otherwise) in
+      let first = (steps_code [] taken ++ flushed (waiting_after [] taken)) ++ pass_over (size other) in
+      flushed os ++ (test_code t false (size first) ++ (first ++ other))
+  step_code os (repeat n from below body) =
+      let block = steps_code [] body ++ flushed (waiting_after [] body) in
+      flushed os ++ (number_code n from ++ (if nat_lt from below then turns_code n below block else []))
+  step_code os (store_number a w) = flushed os ++ Move (Number w) (ToFram a) ∷ []
+  step_code os (move_word from to) = flushed os ++ Move (Fram from) (ToFram to) ∷ []
+  step_code os (jump to) = flushed os ++ Branch to ∷ []
 
   -- the code of a test: it goes over so many words behind it where the test's truth is this one, else on
   pub test_code : Test → Bool → ℕ → List Form
-  test_code (holds p) when d = code_of p ++ holds_code when d
-  test_code (compares c p) when d = code_of p ++ compares_code c when d
+  test_code (holds p) when d = (steps_code [] p ++ flushed (waiting_after [] p)) ++ holds_code when d
+  test_code (compares c p) when d = (steps_code [] p ++ flushed (waiting_after [] p)) ++ compares_code c when d
   test_code (both t u) when d =
       let second = test_code u when d in
       test_code t false (size second + (if not when then d else 0)) ++ second
@@ -372,7 +459,11 @@ abbrev mutual
       test_code t true (size second + (if when then d else 0)) ++ second
   test_code (fails t) when d = test_code t (not when) d
 
-  -- the code of a program
-  pub code_of : Program → List Form
-  code_of nothing = []
-  code_of (step first more) = step_code first ++ code_of more
+  -- the code of steps, one after another
+  pub steps_code : List Waiting → Program → List Form
+  steps_code os nothing = []
+  steps_code os (step first more) = step_code os first ++ steps_code (waiting_behind os first) more
+
+-- the code of a program, behind which no word waits
+abbrev pub code_of : Program → List Form
+code_of p = steps_code [] p ++ flushed (waiting_after [] p)

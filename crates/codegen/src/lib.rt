@@ -7,7 +7,9 @@ pub mod laws;
 mod operations;
 mod program;
 mod shifts;
+mod steps;
 mod versioned;
+mod waiting;
 
 // What the word programs that `emit` takes are made of, and what it makes of them.
 pub use array_versions::{

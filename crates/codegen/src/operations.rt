@@ -4,46 +4,46 @@ ghost use Rattle.std.specs.Prelude.{◌≡◌, [], ◌∷◌, ◌++◌, OnOk};
 ghost use Rattle.code_forms.specs.Forms as form;
 ghost use Rattle.code_forms.specs.Placed.{instructions};
 ghost use Rattle.array_versions.specs.declared.operations.BinaryOperation.TheVariants as binary_op;
-ghost use Rattle.codegen.specs.Code.{unary_code, unary_middle, binary_code, binary_middle, binary_result, divide_middle, push_from, pop_to, plain_instruction};
-ghost use Rattle.msp_isa.specs.alp_words.declared.Width.TheVariants.{Word};
-ghost use Rattle.msp_isa.specs.declared.instructions.OneOp.TheVariants as one_op;
+ghost use Rattle.array_versions.specs.Program as value;
+ghost use Rattle.codegen.specs.Code.{unary_middle, binary_middle, binary_result, divide_middle, plain_instruction, step_code, waiting_behind};
 
-use crate::forms::{POPPED, R4, R5, R6, TO_R4, TO_R5, TO_R6, TO_R7, constant, jump, push, two};
+use crate::forms::{R4, R5, R6, TO_R4, TO_R5, TO_R6, TO_R7, constant, jump, two};
+use crate::waiting::{Waiting, emit_top_to_five, emit_two_to_registers, wait};
 use array_versions::{BinaryOperation, PlainOperation, UnaryOperation};
 use msp_isa::{
-    Condition, Dst, IndexRegister, Instr, Konst, OneOp, Operand, SourceRegister, Src, TwoOp, Width,
+    Condition, IndexRegister, Instr, Konst, OneOp, Operand, SourceRegister, Src, TwoOp, Width,
 };
 use std::alloc::AllocError;
 
-/// Appends the code of an operation on the top of the stack.
-pub fn emit_unary(operation: UnaryOperation, code: &mut Vec<Instr>) -> Result<(), AllocError>
-    ensures { OnOk result
-        (code.new.items ≡ code.old.items ++ instructions (unary_code (unary_middle operation))) }
+// An operation on R5, its result in R4.
+fn emit_unary_middle(operation: UnaryOperation, code: &mut Vec<Instr>) -> Result<(), AllocError>
+    ensures { OnOk result (code.new.items ≡ code.old.items ++ instructions (unary_middle operation)) }
 {
     match operation {
         UnaryOperation::Negate => code.extend_from_slice(&[
-            two(TwoOp::Mov, POPPED, TO_R5),
             two(TwoOp::Mov, constant(Konst::Zero), TO_R4),
             two(TwoOp::Sub, R5, TO_R4),
-            push(R4),
         ]),
         UnaryOperation::Complement => code.extend_from_slice(&[
-            two(TwoOp::Mov, POPPED, TO_R5),
             two(TwoOp::Mov, constant(Konst::MinusOne), TO_R4),
             two(TwoOp::Sub, R5, TO_R4),
-            push(R4),
         ]),
     }
 }
 
-// The right side to R5 and the left one to R4.
-fn emit_pops(code: &mut Vec<Instr>) -> Result<(), AllocError>
-    ensures { OnOk result (code.new.items ≡ code.old.items ++ instructions (pop_to form.R5 ∷ pop_to form.R4 ∷ [])) }
+/// Appends the code of an operation on the top of the stack.
+pub fn emit_unary(
+    operation: UnaryOperation,
+    waiting: &mut Vec<Waiting>,
+    code: &mut Vec<Instr>,
+) -> Result<(), AllocError>
+    ensures code { OnOk result (code.new.items
+        ≡ code.old.items ++ instructions (step_code waiting.old.items (value.unary operation))) }
+    ensures waiting { OnOk result (waiting.new.items ≡ waiting_behind waiting.old.items (value.unary operation)) }
 {
-    code.extend_from_slice(&[
-        two(TwoOp::Mov, POPPED, TO_R5),
-        two(TwoOp::Mov, POPPED, TO_R4),
-    ])
+    emit_top_to_five(waiting, code)?;
+    emit_unary_middle(operation, code)?;
+    wait(Waiting::R4, waiting)
 }
 
 /// The instruction of an operation.
@@ -59,17 +59,8 @@ pub fn plain_instruction(operation: PlainOperation) -> TwoOp
     }
 }
 
-// One instruction, and its result is pushed.
-fn emit_plain(op: TwoOp, code: &mut Vec<Instr>) -> Result<(), AllocError>
-    ensures { OnOk result (code.new.items
-        ≡ code.old.items ++ instructions (form.Calculate op (form.Register form.R5) form.R4 ∷ push_from form.R4 ∷ [])) }
-{
-    code.extend_from_slice(&[two(op, R5, TO_R4), push(R4)])
-}
-
 fn emit_multiply(code: &mut Vec<Instr>) -> Result<(), AllocError>
-    ensures { OnOk result (code.new.items
-        ≡ code.old.items ++ instructions (binary_middle binary_op.Multiply ++ push_from form.R6 ∷ [])) }
+    ensures { OnOk result (code.new.items ≡ code.old.items ++ instructions (binary_middle binary_op.Multiply)) }
 {
     code.extend_from_slice(&[
         two(TwoOp::Mov, constant(Konst::Zero), TO_R6),
@@ -83,13 +74,12 @@ fn emit_multiply(code: &mut Vec<Instr>) -> Result<(), AllocError>
             Operand::Reg(SourceRegister::Index(IndexRegister::R5)),
         )),
         jump(Condition::NotEqual, 1017),
-        push(R6),
     ])
 }
 
-// Division, of which the result is pushed from this register: the quotient from R4, the rest from R6.
-fn emit_divide(from: Src, code: &mut Vec<Instr>) -> Result<(), AllocError>
-    ensures { OnOk result (code.new.items ≡ code.old.items ++ (instructions divide_middle ++ Instr.One (one_op.Push Word from) ∷ [])) }
+// Division: the quotient is in R4 then, and the rest in R6.
+fn emit_divide(code: &mut Vec<Instr>) -> Result<(), AllocError>
+    ensures { OnOk result (code.new.items ≡ code.old.items ++ instructions divide_middle) }
 {
     code.extend_from_slice(&[
         two(TwoOp::Mov, constant(Konst::Zero), TO_R6),
@@ -103,28 +93,43 @@ fn emit_divide(from: Src, code: &mut Vec<Instr>) -> Result<(), AllocError>
         two(TwoOp::Add, constant(Konst::One), TO_R4),
         two(TwoOp::Sub, constant(Konst::One), TO_R7),
         jump(Condition::NotEqual, 1015),
-        push(from),
     ])
 }
 
-// An operation on the left side in R4 and the right one in R5, and its result is pushed.
-fn emit_middle(operation: BinaryOperation, code: &mut Vec<Instr>) -> Result<(), AllocError>
-    ensures { OnOk result (code.new.items
-        ≡ code.old.items ++ instructions (binary_middle operation ++ push_from (binary_result operation) ∷ [])) }
+// An operation on the left side in R4 and the right one in R5.
+fn emit_binary_middle(operation: BinaryOperation, code: &mut Vec<Instr>) -> Result<(), AllocError>
+    ensures { OnOk result (code.new.items ≡ code.old.items ++ instructions (binary_middle operation)) }
 {
     match operation {
-        BinaryOperation::Plain(operation) => emit_plain(plain_instruction(operation), code),
+        BinaryOperation::Plain(operation) => {
+            code.extend_from_slice(&[two(plain_instruction(operation), R5, TO_R4)])
+        }
         BinaryOperation::Multiply => emit_multiply(code),
-        BinaryOperation::Divide => emit_divide(R4, code),
-        BinaryOperation::Remainder => emit_divide(R6, code),
+        BinaryOperation::Divide | BinaryOperation::Remainder => emit_divide(code),
+    }
+}
+
+// Where its result waits.
+fn binary_result(operation: BinaryOperation) -> Waiting
+    ensures { result ≡ binary_result operation }
+{
+    match operation {
+        BinaryOperation::Multiply | BinaryOperation::Remainder => Waiting::R6,
+        BinaryOperation::Divide | BinaryOperation::Plain(_) => Waiting::R4,
     }
 }
 
 /// Appends the code of an operation on the two words on top of the stack.
-pub fn emit_binary(operation: BinaryOperation, code: &mut Vec<Instr>) -> Result<(), AllocError>
-    ensures { OnOk result
-        (code.new.items ≡ code.old.items ++ instructions (binary_code (binary_middle operation) (binary_result operation))) }
+pub fn emit_binary(
+    operation: BinaryOperation,
+    waiting: &mut Vec<Waiting>,
+    code: &mut Vec<Instr>,
+) -> Result<(), AllocError>
+    ensures code { OnOk result (code.new.items
+        ≡ code.old.items ++ instructions (step_code waiting.old.items (value.binary operation))) }
+    ensures waiting { OnOk result (waiting.new.items ≡ waiting_behind waiting.old.items (value.binary operation)) }
 {
-    emit_pops(code)?;
-    emit_middle(operation, code)
+    emit_two_to_registers(waiting, code)?;
+    emit_binary_middle(operation, code)?;
+    wait(binary_result(operation), waiting)
 }

@@ -4,9 +4,11 @@ ghost use Rattle.std.specs.Prelude.{◌≡◌, [], ◌∷◌, ◌++◌, OnOk};
 ghost use Rattle.code_forms.specs.Placed.{instructions};
 ghost use Rattle.msp_isa.specs.declared.instructions.OneOp.TheVariants as OneOps;
 ghost use Rattle.array_versions.specs.declared.operations.ShiftOperation.TheVariants as shift_op;
-ghost use Rattle.codegen.specs.Code.{in_r4, repeated, double, halve, right_code, shift_by, shift_middle, shift_code};
+ghost use Rattle.codegen.specs.Code.{in_r4, repeated, double, halve, right_code, shift_by, shift_middle, step_code, waiting_behind};
+ghost use Rattle.array_versions.specs.Program as value;
 
-use crate::forms::{POPPED, R4, TO_R4, constant, push, two};
+use crate::forms::{R4, TO_R4, constant, two};
+use crate::waiting::{Waiting, emit_top_to_four, wait};
 use array_versions::ShiftOperation;
 use msp_isa::{IndexRegister, Instr, Konst, OneOp, Operand, SourceRegister, Src, TwoOp, Width};
 use std::alloc::AllocError;
@@ -109,13 +111,14 @@ fn emit_shift_middle(
 pub fn emit_shift(
     operation: ShiftOperation,
     count: u16,
+    waiting: &mut Vec<Waiting>,
     code: &mut Vec<Instr>,
 ) -> Result<(), AllocError>
-    ensures { OnOk result
-        (code.new.items ≡ code.old.items ++ instructions (shift_code (shift_middle operation count))) }
+    ensures code { OnOk result (code.new.items
+        ≡ code.old.items ++ instructions (step_code waiting.old.items (value.shift operation count))) }
+    ensures waiting { OnOk result (waiting.new.items ≡ waiting_behind waiting.old.items (value.shift operation count)) }
 {
-    code.extend_from_slice(&[two(TwoOp::Mov, POPPED, TO_R4)])?;
+    emit_top_to_four(waiting, code)?;
     emit_shift_middle(operation, count, code)?;
-    code.extend_from_slice(&[push(R4)])?;
-    Ok(())
+    wait(Waiting::R4, waiting)
 }

@@ -1,6 +1,6 @@
 //! The code of versioned accesses.
 
-ghost use Rattle.std.specs.Prelude.{◌≡◌, ◌++◌, OnOk};
+ghost use Rattle.std.specs.Prelude.{◌≡◌, [], ◌++◌, OnOk};
 ghost use Rattle.msp_isa.specs.declared.operands.Src.TheVariants as Srcs;
 ghost use Rattle.msp_isa.specs.declared.operands.Operand.TheVariants as Operands;
 ghost use Rattle.msp_isa.specs.declared.registers.IndexRegister.TheVariants as index;
@@ -8,11 +8,13 @@ ghost use Rattle.array_versions.specs.Form.{ArrayOfWords, ListOfWords};
 ghost use Rattle.code_forms.specs.Placed.{instructions};
 ghost use Rattle.msp_isa.specs.alp_words.Words.{word_sum};
 ghost use Rattle.code_forms.specs.Forms as form;
-ghost use Rattle.codegen.specs.Code.{read_code, mark_code, last_code, end_test, longer_code, next_code, word_code, first_code, copy_code, write_code};
+ghost use Rattle.codegen.specs.Code.{read_code, mark_code, last_code, end_test, longer_code, next_code, word_code, first_code, copy_code, write_code, step_code, waiting_behind};
+ghost use Rattle.array_versions.specs.Program as value;
 
 use crate::forms::{
-    POPPED, R4, R5, R6, R7, TO_R4, TO_R5, TO_R6, TO_R7, absolute, constant, jump, push, two,
+    R4, R5, R6, R7, TO_R4, TO_R5, TO_R6, TO_R7, absolute, constant, jump, two,
 };
+use crate::waiting::{Waiting, emit_all, emit_top_to_four, emit_two_to_registers, wait};
 use array_versions::{ArrayPlace, ListPlace};
 use msp_isa::{Condition, Dst, IndexRegister, Instr, Konst, Operand, Src, TwoOp};
 use std::alloc::AllocError;
@@ -31,8 +33,8 @@ fn at_r5(base: u16) -> Src
     Src::Operand(Operand::Indexed(IndexRegister::R5, base))
 }
 
-/// Appends the code of a versioned read.
-pub fn emit_versioned_read(
+// A versioned read at the index in R4.
+fn emit_read(
     place: ArrayPlace,
     list: ListPlace,
     code: &mut Vec<Instr>,
@@ -41,7 +43,6 @@ pub fn emit_versioned_read(
     ensures of_words { OnOk result (ArrayOfWords place × ListOfWords list) }
 {
     code.extend_from_slice(&[
-        two(TwoOp::Mov, POPPED, TO_R4),
         two(TwoOp::Cmp, Src::Immediate(place.length), TO_R4),
         jump(Condition::Carry, 12),
         two(TwoOp::Add, R4, TO_R4),
@@ -53,9 +54,25 @@ pub fn emit_versioned_read(
         two(TwoOp::Mov, at_r4(place.elements), TO_R4),
         jump(Condition::Always, 1),
         two(TwoOp::Mov, constant(Konst::Zero), TO_R4),
-        push(R4),
     ])?;
     Ok(())
+}
+
+/// Appends the code of a versioned read.
+pub fn emit_versioned_read(
+    place: ArrayPlace,
+    list: ListPlace,
+    waiting: &mut Vec<Waiting>,
+    code: &mut Vec<Instr>,
+) -> Result<(), AllocError>
+    ensures code { OnOk result (code.new.items
+        ≡ code.old.items ++ instructions (step_code waiting.old.items (value.versioned_read place list))) }
+    ensures waiting { OnOk result (waiting.new.items ≡ waiting_behind waiting.old.items (value.versioned_read place list)) }
+    ensures of_words { OnOk result (ArrayOfWords place × ListOfWords list) }
+{
+    emit_top_to_four(waiting, code)?;
+    emit_read(place, list, code)?;
+    wait(Waiting::R4, waiting)
 }
 
 // The version word; then the home is in R7, its copy in R4, and the count of entries in R5.
@@ -173,8 +190,6 @@ fn emit_copy(place: ArrayPlace, list: ListPlace, code: &mut Vec<Instr>) -> Resul
     ensures { OnOk result (code.new.items ≡ code.old.items ++ instructions (copy_code place list)) }
 {
     code.extend_from_slice(&[
-        two(TwoOp::Mov, POPPED, TO_R5),
-        two(TwoOp::Mov, POPPED, TO_R4),
         two(TwoOp::Cmp, Src::Immediate(place.length), TO_R4),
         jump(Condition::Carry, 54),
         two(TwoOp::Add, R4, TO_R4),
@@ -190,16 +205,29 @@ fn emit_copy(place: ArrayPlace, list: ListPlace, code: &mut Vec<Instr>) -> Resul
     Ok(())
 }
 
-/// Appends the code of a versioned write.
-pub fn emit_versioned_write(
-    place: ArrayPlace,
-    list: ListPlace,
-    code: &mut Vec<Instr>,
-) -> Result<(), AllocError>
+// A versioned write of the word in R5 at the index in R4.
+fn emit_write(place: ArrayPlace, list: ListPlace, code: &mut Vec<Instr>) -> Result<(), AllocError>
     ensures code { OnOk result (code.new.items ≡ code.old.items ++ instructions (write_code place list)) }
     ensures of_words { OnOk result (ArrayOfWords place × ListOfWords list) }
 {
     emit_copy(place, list, code)?;
     emit_first(place, list, code)?;
     Ok(())
+}
+
+/// Appends the code of a versioned write.
+pub fn emit_versioned_write(
+    place: ArrayPlace,
+    list: ListPlace,
+    waiting: &mut Vec<Waiting>,
+    code: &mut Vec<Instr>,
+) -> Result<(), AllocError>
+    ensures code { OnOk result (code.new.items
+        ≡ code.old.items ++ instructions (step_code waiting.old.items (value.versioned_write place list))) }
+    ensures waiting { OnOk result (waiting.new.items ≡ []) }
+    ensures of_words { OnOk result (ArrayOfWords place × ListOfWords list) }
+{
+    emit_two_to_registers(waiting, code)?;
+    emit_all(waiting, code)?;
+    emit_write(place, list, code)
 }

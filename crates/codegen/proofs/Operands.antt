@@ -1,0 +1,578 @@
+-- Words that wait to be pushed: what the machine stands for where some do, how they are pushed, and how they come to registers.
+use Rattle.std.proofs.Common.{◌≡◌, ℕ, zero, suc, ◌+◌, ◌-◌, ◌*◌, ◌<◌, ◌≤◌, Bool, true, false, nat_lt, if◌then◌else◌, List, [], ◌∷◌, ◌++◌, length, get_or, drop}
+use Rattle.std.proofs.Common.{Option, Some, None, refl, sym, ap, ap₂, ◌∙◌, subst, arith, append_assoc, append-nil, length-append}
+use Rattle.std.specs.Option.{unwrap_or}
+use Rattle.std.specs.List.{AllByRecursion}
+use Rattle.array_versions.specs.machine_effects.World.{put}
+use Rattle.array_versions.specs.machine_effects.Going.{Goes}
+use Rattle.array_versions.specs.machine_effects.Machine.{IsFram}
+use Rattle.array_versions.specs.msp_cycles.Cycles.{cycles_of, source_cycles, to_register, to_memory}
+use Rattle.array_versions.proofs.machine_effects.Interface.{put_same, put_other}
+use Rattle.code_forms.specs.Forms.{WorkRegister, R4, R5, work_number, Core, Source, source_operand, source_bytes, source_value, source_read, SourceNeeds, ToRegister, Form}
+use Rattle.code_forms.specs.Forms.{Move, Push, HasPushRoom, instruction_of, form_bytes}
+use Rattle.code_forms.specs.Code.{Stands, forms_bytes, Runs}
+use Rattle.code_forms.proofs.Interface.{stands_front, stands_back, forms_bytes-append}
+use Rattle.array_versions.specs.Behaviour.{WordState, with_stack, pushed}
+use Rattle.codegen.specs.declared.waiting.Waiting.{Waiting}
+use Rattle.codegen.specs.declared.waiting.Waiting.TheVariants as waiting
+use Rattle.codegen.specs.Code.{waiting_source, flushed, top_of, source_from, below_top, any_held, cleared, kept, four_from, five_from, top_to_four}
+use Rattle.codegen.specs.Code.{top_to_five, two_to_registers}
+use Rattle.codegen.proofs.Stretches.{Setting, hop, runs_on, dearer, nothing_run, so_runs}
+use Rattle.codegen.proofs.Memory.{local_words, in_register, Memory, pop_memory, pop_needs, push_needs, push_memory}
+use Rattle.codegen.proofs.Follows.{StandsFor, stands_elsewhere, memory_as}
+use Rattle.codegen.proofs.Registers.{Has, HasTwo}
+
+-- ---- what a word that waits is, and what it has paid for
+
+-- by FRAM, the locals and the registers
+abbrev pub waiting_word : (ℕ → ℕ) → (ℕ → Option ℕ) → (ℕ → ℕ) → Waiting → ℕ
+waiting_word fram locals work (waiting.Number n) = n
+waiting_word fram locals work (waiting.Fram a) = fram a
+waiting_word fram locals work (waiting.Local n) = unwrap_or (locals n) 0
+waiting_word fram locals work waiting.R4 = work 4
+waiting_word fram locals work waiting.R6 = work 6
+
+abbrev pub waiting_words : (ℕ → ℕ) → (ℕ → Option ℕ) → (ℕ → ℕ) → List Waiting → List ℕ
+waiting_words fram locals work [] = []
+waiting_words fram locals work (o ∷ os) = waiting_word fram locals work o ∷ waiting_words fram locals work os
+
+-- a local that stands in a register and is assigned
+pub record LocalIsThere (most : ℕ) (locals : ℕ → Option ℕ) (n : ℕ) : Type 0 where
+  pub in_register : nat_lt n 8 ≡ true
+  pub below : n < most
+  pub word : ℕ
+  pub assigned : locals n ≡ Some word
+
+-- what a word that waits names is there
+abbrev pub IsThere : ℕ → (ℕ → Option ℕ) → Waiting → Type 0
+IsThere most locals (waiting.Number n) = Unit {0}
+IsThere most locals (waiting.Fram a) = IsFram a
+IsThere most locals (waiting.Local n) = LocalIsThere most locals n
+IsThere most locals waiting.R4 = Unit {0}
+IsThere most locals waiting.R6 = Unit {0}
+
+-- the cycles of its push, at most: they were spent when it came to wait
+abbrev pub owed_by : Waiting → ℕ
+owed_by (waiting.Number n) = 4
+owed_by (waiting.Fram a) = 5
+owed_by (waiting.Local n) = 5
+owed_by waiting.R4 = 3
+owed_by waiting.R6 = 3
+
+abbrev pub owed : List Waiting → ℕ
+owed [] = 0
+owed (o ∷ os) = owed os + owed_by o
+
+owed_least : (o : Waiting) → 3 ≤ owed_by o
+owed_least (waiting.Number n) = omega arith
+owed_least (waiting.Fram a) = omega arith
+owed_least (waiting.Local n) = omega arith
+owed_least waiting.R4 = omega arith
+owed_least waiting.R6 = omega arith
+
+push_cycles : (o : Waiting) → cycles_of (instruction_of (Push (waiting_source o))) ≤ owed_by o
+push_cycles (waiting.Number n) = omega arith
+push_cycles (waiting.Fram a) = omega arith
+push_cycles (waiting.Local n) = omega arith
+push_cycles waiting.R4 = omega arith
+push_cycles waiting.R6 = omega arith
+
+-- ---- lists
+
+head_is : {v x : ℕ} {vs xs : List ℕ} → v ∷ vs ≡ x ∷ xs → v ≡ x
+head_is e = ap (λ (l : List ℕ). get_or l 0 0) e
+
+tail_is : {v x : ℕ} {vs xs : List ℕ} → v ∷ vs ≡ x ∷ xs → vs ≡ xs
+tail_is e = ap (λ (l : List ℕ). drop 1 l) e
+
+waiting_length : (f : ℕ → ℕ) (l : ℕ → Option ℕ) (g : ℕ → ℕ) (os : List Waiting) → length (waiting_words f l g os) ≡ length os
+waiting_length f l g [] = refl
+waiting_length f l g (o ∷ os) = ap suc (waiting_length f l g os)
+
+words_append : (f : ℕ → ℕ) (l : ℕ → Option ℕ) (g : ℕ → ℕ) (a b : List Waiting)
+    → waiting_words f l g (a ++ b) ≡ waiting_words f l g a ++ waiting_words f l g b
+words_append f l g [] b = refl
+words_append f l g (o ∷ a) b = ap (λ xs. waiting_word f l g o ∷ xs) (words_append f l g a b)
+
+-- the words are the same where R4 and R6 are
+words_same : (f : ℕ → ℕ) (l : ℕ → Option ℕ) (g h : ℕ → ℕ) (os : List Waiting) → g 4 ≡ h 4 → g 6 ≡ h 6 → waiting_words f l g os ≡ waiting_words f l h os
+words_same f l g h [] p q = refl
+words_same f l g h (waiting.Number n ∷ os) p q = ap (λ xs. n ∷ xs) (words_same f l g h os p q)
+words_same f l g h (waiting.Fram a ∷ os) p q = ap (λ xs. f a ∷ xs) (words_same f l g h os p q)
+words_same f l g h (waiting.Local n ∷ os) p q = ap (λ xs. unwrap_or (l n) 0 ∷ xs) (words_same f l g h os p q)
+words_same f l g h (waiting.R4 ∷ os) p q = ap₂ (λ x xs. x ∷ xs) p (words_same f l g h os p q)
+words_same f l g h (waiting.R6 ∷ os) p q = ap₂ (λ x xs. x ∷ xs) q (words_same f l g h os p q)
+
+-- and where none waits in a register for work
+pub words_kept : (f : ℕ → ℕ) (l : ℕ → Option ℕ) (g h : ℕ → ℕ) (os : List Waiting) → any_held os ≡ false → waiting_words f l g os ≡ waiting_words f l h os
+words_kept f l g h [] e = refl
+words_kept f l g h (waiting.Number n ∷ os) e = ap (λ xs. n ∷ xs) (words_kept f l g h os e)
+words_kept f l g h (waiting.Fram a ∷ os) e = ap (λ xs. f a ∷ xs) (words_kept f l g h os e)
+words_kept f l g h (waiting.Local n ∷ os) e = ap (λ xs. unwrap_or (l n) 0 ∷ xs) (words_kept f l g h os e)
+words_kept f l g h (waiting.R4 ∷ os) e = absurd (let q = e in (cc))
+words_kept f l g h (waiting.R6 ∷ os) e = absurd (let q = e in (cc))
+
+there_front : (P : Waiting → Type 0) (a b : List Waiting) → AllByRecursion P (a ++ b) → AllByRecursion P a
+there_front P [] b h = tt
+there_front P (o ∷ a) b h = (h.0, there_front P a b h.1)
+
+there_back : (P : Waiting → Type 0) (a b : List Waiting) → AllByRecursion P (a ++ b) → AllByRecursion P b
+there_back P [] b h = h
+there_back P (o ∷ a) b h = there_back P a b h.1
+
+kept_by : (b : Bool) (os : List Waiting) → any_held os ≡ b → any_held (if b then [] else os) ≡ false
+kept_by true os e = refl
+kept_by false os e = e
+
+pub none_held : (os : List Waiting) → any_held (kept os) ≡ false
+none_held os = kept_by (any_held os) os refl
+
+-- the cycles in which words are pushed where one of them waits in a register, at most
+abbrev pub clear_cycles : List Waiting → ℕ
+clear_cycles os = if any_held os then owed os else 0
+
+owed_kept_by : (b : Bool) (n : ℕ) (os : List Waiting) → owed os ≡ n → (if b then n else 0) + owed (if b then [] else os) ≡ n
+owed_kept_by true n os e = omega arith
+owed_kept_by false n os e = omega (arith, e)
+
+pub owed_kept : (os : List Waiting) → clear_cycles os + owed (kept os) ≡ owed os
+owed_kept os = owed_kept_by (any_held os) (owed os) os refl
+
+-- the cycles in which the top comes to a register, at most
+abbrev pub load_cycles : Option Waiting → ℕ
+load_cycles None = 2
+load_cycles (Some o) = 3
+
+pub load_price : (o : Option Waiting) → source_cycles to_register (source_operand (source_from o)) ≤ load_cycles o
+load_price None = omega arith
+load_price (Some (waiting.Number n)) = omega arith
+load_price (Some (waiting.Fram a)) = omega arith
+load_price (Some (waiting.Local n)) = omega arith
+load_price (Some waiting.R4) = omega arith
+load_price (Some waiting.R6) = omega arith
+
+-- the cycles of an instruction that writes memory and takes it as its source, at most
+abbrev pub store_cycles : Option Waiting → ℕ
+store_cycles None = 5
+store_cycles (Some o) = 6
+
+pub load_less : (o : Option Waiting) → load_cycles o ≤ store_cycles o
+load_less None = omega arith
+load_less (Some o) = omega arith
+
+pub store_price : (o : Option Waiting) → source_cycles to_memory (source_operand (source_from o)) ≤ store_cycles o
+store_price None = omega arith
+store_price (Some (waiting.Number n)) = omega arith
+store_price (Some (waiting.Fram a)) = omega arith
+store_price (Some (waiting.Local n)) = omega arith
+store_price (Some waiting.R4) = omega arith
+store_price (Some waiting.R6) = omega arith
+
+pub store_owed : (os : List Waiting) → store_cycles (top_of os) + owed (below_top os) ≤ 5 + owed os
+store_owed [] = omega arith
+store_owed (o ∷ os) = omega (arith, owed_least o)
+
+pub load_owed : (os : List Waiting) → load_cycles (top_of os) + owed (below_top os) ≤ 2 + owed os
+load_owed [] = omega arith
+load_owed (o ∷ os) = omega (arith, owed_least o)
+
+-- ---- a word that waits, as a source
+
+source_still : (o : Waiting) (u : Core) → source_read (waiting_source o) u ≡ u
+source_still (waiting.Number n) u = refl
+source_still (waiting.Fram a) u = refl
+source_still (waiting.Local n) u = refl
+source_still waiting.R4 u = refl
+source_still waiting.R6 u = refl
+
+source_needs : (most : ℕ) (locals : ℕ → Option ℕ) (o : Waiting) (u : Core) → IsThere most locals o → SourceNeeds (waiting_source o) u
+source_needs most locals (waiting.Number n) u h = tt
+source_needs most locals (waiting.Fram a) u h = h
+source_needs most locals (waiting.Local n) u h = tt
+source_needs most locals waiting.R4 u h = tt
+source_needs most locals waiting.R6 u h = tt
+
+-- the machine at this place stands for what the program works on, where these words wait: the stack is their words, and below them the words that are pushed
+pub record Describes (z : Setting) (os : List Waiting) (pc : ℕ) (w : WordState) (u : Core) : Type 0 where
+  pub rest : List ℕ
+  pub is : StandsFor z pc (with_stack rest w) u
+  pub stack : w.stack ≡ waiting_words w.fram w.locals u.work os ++ rest
+  pub there : AllByRecursion (IsThere z.locals w.locals) os
+  pub fits : length w.stack ≤ z.room
+
+-- where the top may be read: its word, what it needs, and what waits behind it
+pub record Top (z : Setting) (x : Source) (os : List Waiting) (pc : ℕ) (w : WordState) (v : ℕ) (vs : List ℕ) (u : Core) : Type 0 where
+  pub at : u.pc ≡ pc
+  pub fram : u.fram ≡ w.fram
+  pub value : source_value x u ≡ v
+  pub needs : SourceNeeds x u
+  pub left : Describes z os pc (with_stack vs w) (source_read x u)
+  pub same : (source_read x u).work ≡ u.work
+
+-- a state with these registers
+pub record Flushed (z : Setting) (pc : ℕ) (w : WordState) (g : ℕ → ℕ) (t : Core) : Type 0 where
+  pub is : StandsFor z pc w t
+  pub work : t.work ≡ g
+
+-- the same where words wait
+pub record Waits (z : Setting) (os : List Waiting) (pc : ℕ) (w : WordState) (g : ℕ → ℕ) (t : Core) : Type 0 where
+  pub is : Describes z os pc w t
+  pub work : t.work ≡ g
+
+-- a word is in a register, the other registers being as they were
+pub record Loaded (z : Setting) (b : WorkRegister) (os : List Waiting) (pc : ℕ) (w : WordState) (v : ℕ) (g : ℕ → ℕ) (t : Core) : Type 0 where
+  pub is : Describes z os pc w t
+  pub value : t.work (work_number b) ≡ v
+  pub others : (n : ℕ) → (n ≡ work_number b → ⊥) → t.work n ≡ g n
+
+-- a word is in a register
+pub record InRegister (z : Setting) (b : WorkRegister) (os : List Waiting) (pc : ℕ) (w : WordState) (v : ℕ) (t : Core) : Type 0 where
+  pub is : Describes z os pc w t
+  pub value : t.work (work_number b) ≡ v
+
+-- two words are in R4 and R5
+pub record LoadedTwo (z : Setting) (os : List Waiting) (pc : ℕ) (w : WordState) (x y : ℕ) (t : Core) : Type 0 where
+  pub is : Describes z os pc w t
+  pub four : t.work 4 ≡ x
+  pub five : t.work 5 ≡ y
+
+module _ (z : Setting) where
+  source_word : (o : Waiting) (pc : ℕ) (w : WordState) (u : Core) → StandsFor z pc w u → IsThere z.locals w.locals o
+      → source_value (waiting_source o) u ≡ waiting_word w.fram w.locals u.work o
+  source_word (waiting.Number n) pc w u i h = refl
+  source_word (waiting.Fram a) pc w u i h = ap (λ f. f a) i.fram
+  source_word (waiting.Local n) pc w u i h =
+      in_register u.work u.ram n h.in_register ∙ i.memory.vars n h.word h.below h.assigned ∙ sym (ap (λ x. unwrap_or x 0) h.assigned)
+  source_word waiting.R4 pc w u i h = refl
+  source_word waiting.R6 pc w u i h = refl
+
+  -- ---- none waits
+
+  pub bare : (pc : ℕ) (w : WordState) (u : Core) → Describes z [] pc w u → StandsFor z pc w u
+  bare pc w u d = subst (λ l. StandsFor z pc (with_stack l w) u) (sym d.stack) d.is
+
+  pub dressed : (pc : ℕ) (w : WordState) (u : Core) → StandsFor z pc w u → Describes z [] pc w u
+  dressed pc w u i = record { rest = w.stack; is = i; stack = refl; there = tt; fits = i.memory.fits }
+
+  -- the machine elsewhere, with the same words waiting
+  pub describes_elsewhere : (os : List Waiting) (pc pc' : ℕ) (w : WordState) (u t : Core) → Describes z os pc w u → t.pc ≡ pc' → t.sp ≡ u.sp → t.ram ≡ u.ram
+      → local_words t.work ≡ local_words u.work → t.fram ≡ u.fram → t.readings_left ≡ u.readings_left
+      → waiting_words w.fram w.locals t.work os ≡ waiting_words w.fram w.locals u.work os → Describes z os pc' w t
+  describes_elsewhere os pc pc' w u t d p q r l f e k =
+      record {
+        rest = d.rest;
+        is = stands_elsewhere z pc pc' (with_stack d.rest w) u t d.is p q r l f e;
+        stack = d.stack ∙ ap (λ xs. xs ++ d.rest) (sym k);
+        there = d.there;
+        fits = d.fits;
+      }
+
+  -- ---- pushes
+
+  push_waiting : (o : Waiting) (pc : ℕ) (w : WordState) (u : Core) → StandsFor z pc w u → IsThere z.locals w.locals o → length w.stack < z.room
+      → z.code pc ≡ Some (instruction_of (Push (waiting_source o)))
+      → Runs z.code [] (owed_by o) u (Flushed z (pc + form_bytes (Push (waiting_source o))) (pushed (waiting_word w.fram w.locals u.work o) w) u.work)
+  push_waiting o pc w u i h s c =
+      let x = waiting_source o in
+      let v = waiting_word w.fram w.locals u.work o in
+      let price = cycles_of (instruction_of (Push x)) in
+      let after : Core → Core = λ t. record t { pc = u.pc + (2 + source_bytes x); sp = t.sp - 2; ram = put t.ram (t.sp - 2) (source_value x u) } in
+      let still = source_still o u in
+      hop z (Push x) (owed_by o) u (after u) [] price _ (ap z.code i.at ∙ c)
+      (source_needs z.locals w.locals o u h, subst (λ (t : Core). HasPushRoom t.sp) (sym still) (push_needs z i.memory s))
+      (ap (λ t. Goes [] price (after t)) still) (push_cycles o)
+      (record {
+        is =
+            record {
+              at = ap (λ p. p + (2 + source_bytes x)) i.at;
+              memory =
+                  subst (λ y. Memory z (u.sp - 2) (put u.ram (u.sp - 2) y) (local_words u.work) (v ∷ w.stack) w.locals) (sym (source_word o pc w u i h))
+                  (push_memory z v i.memory s);
+              fram = i.fram;
+              readings = i.readings;
+            };
+        work = refl;
+      })
+
+  flush_run : (os : List Waiting) (pc : ℕ) (w : WordState) (u : Core) → StandsFor z pc w u → AllByRecursion (IsThere z.locals w.locals) os
+      → length os + length w.stack ≤ z.room → Stands z.code pc (flushed os)
+      → Runs z.code [] (owed os) u (Flushed z (pc + forms_bytes (flushed os)) (with_stack (waiting_words w.fram w.locals u.work os ++ w.stack) w) u.work)
+  flush_run [] pc w u i t l h =
+      let e : pc ≡ pc + 0 = omega arith in
+      nothing_run z u _ (record { is = subst (λ n. StandsFor z n w u) e i; work = refl })
+  flush_run (o ∷ os) pc w u i t l h =
+      let ms = flushed os in
+      let m = Push (waiting_source o) in
+      let words = waiting_words w.fram w.locals u.work os in
+      let there = with_stack (words ++ w.stack) w in
+      let mid = pc + forms_bytes ms in
+      let end : mid + form_bytes m ≡ pc + forms_bytes (ms ++ m ∷ []) = omega (arith, forms_bytes-append ms (m ∷ [])) in
+      let room : length (words ++ w.stack) < z.room = omega (arith, l, length-append words w.stack, waiting_length w.fram w.locals u.work os) in
+      let less : length os + length w.stack ≤ z.room = omega (arith, l) in
+      runs_on z (owed os) (owed_by o) u (Flushed z mid there u.work) _ [] [] (flush_run os pc w u i t.1 less (stands_front z.code pc ms (m ∷ []) h)) (λ s k.
+      so_runs z [] (owed_by o) s (Flushed z (mid + form_bytes m) (pushed (waiting_word w.fram w.locals s.work o) there) s.work) _
+      (λ q j. record {
+        is = subst (λ n. StandsFor z n (pushed (waiting_word w.fram w.locals u.work o) there) q) end
+            (subst (λ g. StandsFor z (mid + form_bytes m) (pushed (waiting_word w.fram w.locals g o) there) q) k.work j.is);
+        work = j.work ∙ k.work;
+      })
+      (push_waiting o mid there s k.is t.0 room (stands_back z.code pc ms (m ∷ []) h).0))
+
+  -- those behind others are pushed
+  pub flush_under : (front back : List Waiting) (pc : ℕ) (w : WordState) (u : Core) → Describes z (front ++ back) pc w u → Stands z.code pc (flushed back)
+      → Runs z.code [] (owed back) u (Waits z front (pc + forms_bytes (flushed back)) w u.work)
+  flush_under front back pc w u d h =
+      let P = IsThere z.locals w.locals in
+      let words = waiting_words w.fram w.locals u.work in
+      let all = ap (length {A = ℕ}) d.stack in
+      let room : length back + length d.rest ≤ z.room =
+      omega (
+        arith,
+        all,
+        d.fits,
+        length-append (words (front ++ back)) d.rest,
+        waiting_length w.fram w.locals u.work (front ++ back),
+        length-append front back,
+      ) in
+      so_runs z [] (owed back) u (Flushed z (pc + forms_bytes (flushed back)) (with_stack (words back ++ d.rest) w) u.work) _
+      (λ t k. record {
+        is =
+            record {
+              rest = words back ++ d.rest;
+              is = k.is;
+              stack = d.stack ∙ ap (λ xs. xs ++ d.rest) (words_append w.fram w.locals u.work front back) ∙ append_assoc (words front) (words back) d.rest
+                  ∙ ap (λ g. waiting_words w.fram w.locals g front ++ (words back ++ d.rest)) (sym k.work);
+              there = there_front P front back d.there;
+              fits = d.fits;
+            };
+        work = k.work;
+      })
+      (flush_run back pc (with_stack d.rest w) u d.is (there_back P front back d.there) room h)
+
+  -- all are pushed
+  pub flush_part : (os : List Waiting) (pc : ℕ) (w : WordState) (u : Core) → Describes z os pc w u → Stands z.code pc (flushed os)
+      → Runs z.code [] (owed os) u (StandsFor z (pc + forms_bytes (flushed os)) w)
+  flush_part os pc w u d h =
+      so_runs z [] (owed os) u (Waits z [] (pc + forms_bytes (flushed os)) w u.work) _ (λ t k. bare (pc + forms_bytes (flushed os)) w t k.is)
+      (flush_under [] os pc w u d h)
+
+  clear_by : (b : Bool) (front back : List Waiting) (pc : ℕ) (w : WordState) (u : Core) → Describes z (front ++ back) pc w u
+      → (let ms : List Form = if b then flushed back else [] in Stands z.code pc ms
+      → Runs z.code [] (if b then owed back else 0) u (Waits z (front ++ (if b then [] else back)) (pc + forms_bytes ms) w u.work))
+  clear_by true front back pc w u d h =
+      subst (λ os. Runs z.code [] (owed back) u (Waits z os (pc + forms_bytes (flushed back)) w u.work)) (sym (append-nil front))
+      (flush_under front back pc w u d h)
+  clear_by false front back pc w u d h =
+      let e : pc ≡ pc + 0 = omega arith in
+      nothing_run z u _ (record { is = subst (λ n. Describes z (front ++ back) n w u) e d; work = refl })
+
+  -- those behind others are pushed where one of them waits in a register
+  pub clear_under : (front back : List Waiting) (pc : ℕ) (w : WordState) (u : Core) → Describes z (front ++ back) pc w u → Stands z.code pc (cleared back)
+      → Runs z.code [] (clear_cycles back) u (Waits z (front ++ kept back) (pc + forms_bytes (cleared back)) w u.work)
+  clear_under front back pc w u d h = clear_by (any_held back) front back pc w u d h
+
+  -- ---- the top
+
+  pub take_part : (os : List Waiting) (pc : ℕ) (w : WordState) (v : ℕ) (vs : List ℕ) (u : Core) → w.stack ≡ v ∷ vs → Describes z os pc w u
+      → Top z (source_from (top_of os)) (below_top os) pc w v vs u
+  take_part [] pc w v vs u e d =
+      let i = bare pc w u d in
+      let m = memory_as z pc w u (v ∷ vs) e i in
+      record {
+        at = i.at;
+        fram = i.fram;
+        value = m.stack.0;
+        needs = pop_needs z m;
+        left = dressed pc (with_stack vs w) _ (record { at = i.at; memory = pop_memory z m; fram = i.fram; readings = i.readings });
+        same = refl;
+      }
+  take_part (o ∷ os) pc w v vs u e d =
+      let q = sym e ∙ d.stack in
+      let still = source_still o u in
+      record {
+        at = d.is.at;
+        fram = d.is.fram;
+        value = source_word o pc (with_stack d.rest w) u d.is d.there.0 ∙ sym (head_is q);
+        needs = source_needs z.locals w.locals o u d.there.0;
+        left = subst (λ t. Describes z os pc (with_stack vs w) t) (sym still)
+            (record { rest = d.rest; is = d.is; stack = tail_is q; there = d.there.1; fits = omega (arith, d.fits, ap (length {A = ℕ}) e) });
+        same = ap (λ (t : Core). t.work) still;
+      }
+
+  -- a word comes to a register in which none of the others waits
+  move_part : (b : WorkRegister) (o : Option Waiting) (os : List Waiting) (pc : ℕ) (w : WordState) (v : ℕ) (vs : List ℕ) (u : Core)
+      → ((f : ℕ → ℕ) (y : ℕ) → local_words (put f (work_number b) y) ≡ local_words f)
+      → ((f : ℕ → ℕ) (y : ℕ) → waiting_words w.fram w.locals (put f (work_number b) y) os ≡ waiting_words w.fram w.locals f os)
+      → (let m = Move (source_from o) (ToRegister b) in Stands z.code pc (m ∷ []) → Top z (source_from o) os pc w v vs u
+      → Runs z.code [] (load_cycles o) u (Loaded z b os (pc + forms_bytes (m ∷ [])) (with_stack vs w) v u.work))
+  move_part b o os pc w v vs u clean spare h k =
+      let x = source_from o in
+      let m = Move x (ToRegister b) in
+      let price = cycles_of (instruction_of m) in
+      let t = source_read x u in
+      let y = source_value x u in
+      let end : u.pc + (2 + source_bytes x + 0) ≡ pc + forms_bytes (m ∷ []) = omega (arith, k.at) in
+      let after : Core = record t { pc = u.pc + (2 + source_bytes x + 0); work = put t.work (work_number b) y } in
+      hop z m (load_cycles o) u after [] price _ (ap z.code k.at ∙ h.0) (k.needs, tt) refl (load_price o)
+      (record {
+        is = describes_elsewhere os pc _ (with_stack vs w) t after k.left end refl refl (clean t.work y) refl refl (spare t.work y);
+        value = put_same t.work (work_number b) y ∙ k.value;
+        others = λ n ne. put_other t.work (work_number b) y n ne ∙ ap (λ (g : ℕ → ℕ). g n) k.same;
+      })
+
+  -- the last word that waits comes to R5
+  pub to_five_part : (o : Option Waiting) (pc : ℕ) (w : WordState) (v : ℕ) (vs : List ℕ) (u : Core)
+      → (let m = Move (source_from o) (ToRegister R5) in Stands z.code pc (m ∷ []) → Top z (source_from o) [] pc w v vs u
+      → Runs z.code [] (load_cycles o) u (Has z R5 (pc + form_bytes m) (with_stack vs w) v))
+  to_five_part o pc w v vs u h k =
+      let m = Move (source_from o) (ToRegister R5) in
+      let end : pc + forms_bytes (m ∷ []) ≡ pc + form_bytes m = omega arith in
+      subst (λ n. Runs z.code [] (load_cycles o) u (Has z R5 n (with_stack vs w) v)) end
+      (so_runs z [] (load_cycles o) u (Loaded z R5 [] (pc + forms_bytes (m ∷ [])) (with_stack vs w) v u.work) _
+      (λ t j. record { is = bare (pc + forms_bytes (m ∷ [])) (with_stack vs w) t j.is; value = j.value })
+      (move_part R5 o [] pc w v vs u (λ f y. refl) (λ f y. refl) h k))
+
+  pub five_part : (os : List Waiting) (pc : ℕ) (w : WordState) (v : ℕ) (vs : List ℕ) (u : Core) → w.stack ≡ v ∷ vs
+      → Stands z.code pc (five_from (top_of os)) → Describes z os pc w u
+      → Runs z.code [] (load_cycles (top_of os)) u (Loaded z R5 (below_top os) (pc + forms_bytes (five_from (top_of os))) (with_stack vs w) v u.work)
+  five_part os pc w v vs u e h d =
+      move_part R5 (top_of os) (below_top os) pc w v vs u (λ f y. refl) (λ f y. words_same w.fram w.locals (put f 5 y) f (below_top os) refl refl) h
+      (take_part os pc w v vs u e d)
+
+  four_move : (os : List Waiting) (pc : ℕ) (w : WordState) (v : ℕ) (vs : List ℕ) (u : Core) → w.stack ≡ v ∷ vs → any_held (below_top os) ≡ false
+      → (let m = Move (source_from (top_of os)) (ToRegister R4) in Stands z.code pc (m ∷ []) → Describes z os pc w u
+      → Runs z.code [] (load_cycles (top_of os)) u (Loaded z R4 (below_top os) (pc + forms_bytes (m ∷ [])) (with_stack vs w) v u.work))
+  four_move os pc w v vs u e none h d =
+      move_part R4 (top_of os) (below_top os) pc w v vs u (λ f y. refl) (λ f y. words_kept w.fram w.locals (put f 4 y) f (below_top os) none) h
+      (take_part os pc w v vs u e d)
+
+  pub four_part : (os : List Waiting) (pc : ℕ) (w : WordState) (v : ℕ) (vs : List ℕ) (u : Core) → w.stack ≡ v ∷ vs → any_held (below_top os) ≡ false
+      → Stands z.code pc (four_from (top_of os)) → Describes z os pc w u
+      → Runs z.code [] (load_cycles (top_of os)) u (Loaded z R4 (below_top os) (pc + forms_bytes (four_from (top_of os))) (with_stack vs w) v u.work)
+  four_part [] pc w v vs u e none h d = four_move [] pc w v vs u e none h d
+  four_part (waiting.R4 ∷ os) pc w v vs u e none h d =
+      let k = take_part (waiting.R4 ∷ os) pc w v vs u e d in
+      let same : pc ≡ pc + 0 = omega arith in
+      dearer z [] 0 3 u _ (omega arith)
+      (nothing_run z u _ (record {
+        is = subst (λ n. Describes z os n (with_stack vs w) u) same k.left;
+        value = k.value;
+        others = λ n ne. refl;
+      }))
+  four_part (waiting.Number n ∷ os) pc w v vs u e none h d = four_move (waiting.Number n ∷ os) pc w v vs u e none h d
+  four_part (waiting.Fram a ∷ os) pc w v vs u e none h d = four_move (waiting.Fram a ∷ os) pc w v vs u e none h d
+  four_part (waiting.Local n ∷ os) pc w v vs u e none h d = four_move (waiting.Local n ∷ os) pc w v vs u e none h d
+  four_part (waiting.R6 ∷ os) pc w v vs u e none h d = four_move (waiting.R6 ∷ os) pc w v vs u e none h d
+
+  -- code behind pushes
+  behind_cleared : (back os : List Waiting) (more : List Form) (n pc : ℕ) (w : WordState) (u : Core) (P : ℕ → Core → Type 0)
+      → Runs z.code [] (clear_cycles back) u (Waits z os (pc + forms_bytes (cleared back)) w u.work)
+      → ((t : Core) → Describes z os (pc + forms_bytes (cleared back)) w t → Runs z.code [] n t (P (pc + forms_bytes (cleared back) + forms_bytes more)))
+      → Runs z.code [] (clear_cycles back + n) u (P (pc + forms_bytes (cleared back ++ more)))
+  behind_cleared back os more n pc w u P a f =
+      let end : pc + forms_bytes (cleared back) + forms_bytes more ≡ pc + forms_bytes (cleared back ++ more) =
+      omega (arith, forms_bytes-append (cleared back) more) in
+      subst (λ p. Runs z.code [] (clear_cycles back + n) u (P p)) end
+      (runs_on z (clear_cycles back) n u (Waits z os (pc + forms_bytes (cleared back)) w u.work) _ [] [] a (λ t k. f t k.is))
+
+  only_has : (b : WorkRegister) (os : List Waiting) (pc : ℕ) (w : WordState) (v n : ℕ) (g : ℕ → ℕ) (u : Core) → Runs z.code [] n u (Loaded z b os pc w v g)
+      → Runs z.code [] n u (InRegister z b os pc w v)
+  only_has b os pc w v n g u = so_runs z [] n u (Loaded z b os pc w v g) (InRegister z b os pc w v) (λ t k. record { is = k.is; value = k.value })
+
+  pub top_to_four_part : (os : List Waiting) (pc : ℕ) (w : WordState) (v : ℕ) (vs : List ℕ) (u : Core) → w.stack ≡ v ∷ vs
+      → Stands z.code pc (top_to_four os) → Describes z os pc w u
+      → Runs z.code [] (clear_cycles (below_top os) + load_cycles (top_of os)) u
+      (InRegister z R4 (kept (below_top os)) (pc + forms_bytes (top_to_four os)) (with_stack vs w) v)
+  top_to_four_part [] pc w v vs u e h d =
+      only_has R4 [] (pc + forms_bytes (top_to_four [])) (with_stack vs w) v 2 u.work u (four_part [] pc w v vs u e refl h d)
+  top_to_four_part (o ∷ os) pc w v vs u e h d =
+      let more = four_from (Some o) in
+      behind_cleared os (o ∷ kept os) more 3 pc w u (λ p. InRegister z R4 (kept os) p (with_stack vs w) v)
+      (clear_under (o ∷ []) os pc w u d (stands_front z.code pc (cleared os) more h)) (λ t k.
+      only_has R4 (kept os) (pc + forms_bytes (cleared os) + forms_bytes more) (with_stack vs w) v 3 t.work t
+      (four_part (o ∷ kept os) (pc + forms_bytes (cleared os)) w v vs t e (none_held os) (stands_back z.code pc (cleared os) more h) k))
+
+  pub top_to_five_part : (os : List Waiting) (pc : ℕ) (w : WordState) (v : ℕ) (vs : List ℕ) (u : Core) → w.stack ≡ v ∷ vs
+      → Stands z.code pc (top_to_five os) → Describes z os pc w u
+      → Runs z.code [] (clear_cycles (below_top os) + load_cycles (top_of os)) u
+      (InRegister z R5 (kept (below_top os)) (pc + forms_bytes (top_to_five os)) (with_stack vs w) v)
+  top_to_five_part [] pc w v vs u e h d =
+      only_has R5 [] (pc + forms_bytes (top_to_five [])) (with_stack vs w) v 2 u.work u (five_part [] pc w v vs u e h d)
+  top_to_five_part (o ∷ os) pc w v vs u e h d =
+      let more = five_from (Some o) in
+      behind_cleared os (o ∷ kept os) more 3 pc w u (λ p. InRegister z R5 (kept os) p (with_stack vs w) v)
+      (clear_under (o ∷ []) os pc w u d (stands_front z.code pc (cleared os) more h)) (λ t k.
+      only_has R5 (kept os) (pc + forms_bytes (cleared os) + forms_bytes more) (with_stack vs w) v 3 t.work t
+      (five_part (o ∷ kept os) (pc + forms_bytes (cleared os)) w v vs t e (stands_back z.code pc (cleared os) more h) k))
+
+  two_loads : (os : List Waiting) (pc : ℕ) (w : WordState) (x y : ℕ) (vs : List ℕ) (u : Core) → w.stack ≡ y ∷ (x ∷ vs)
+      → any_held (below_top (below_top os)) ≡ false
+      → (let ms = five_from (top_of os) ++ four_from (top_of (below_top os)) in Stands z.code pc ms → Describes z os pc w u
+      → Runs z.code [] (load_cycles (top_of os) + load_cycles (top_of (below_top os))) u
+      (LoadedTwo z (below_top (below_top os)) (pc + forms_bytes ms) (with_stack vs w) x y))
+  two_loads os pc w x y vs u e none h d =
+      let under = below_top os in
+      let first = five_from (top_of os) in
+      let second = four_from (top_of under) in
+      let mid = pc + forms_bytes first in
+      let left = with_stack (x ∷ vs) w in
+      let end : mid + forms_bytes second ≡ pc + forms_bytes (first ++ second) = omega (arith, forms_bytes-append first second) in
+      runs_on z (load_cycles (top_of os)) (load_cycles (top_of under)) u (Loaded z R5 under mid left y u.work) _ [] []
+      (five_part os pc w y (x ∷ vs) u e (stands_front z.code pc first second h) d) (λ t k.
+      so_runs z [] (load_cycles (top_of under)) t (Loaded z R4 (below_top under) (mid + forms_bytes second) (with_stack vs w) x t.work) _
+      (λ s j. record {
+        is = subst (λ n. Describes z (below_top under) n (with_stack vs w) s) end j.is;
+        four = j.value;
+        five = j.others 5 (λ q. omega (arith, q)) ∙ k.value;
+      })
+      (four_part under mid left x vs t refl none (stands_back z.code pc first second h) k.is))
+
+  pub two_to_registers_part : (os : List Waiting) (pc : ℕ) (w : WordState) (x y : ℕ) (vs : List ℕ) (u : Core) → w.stack ≡ y ∷ (x ∷ vs)
+      → Stands z.code pc (two_to_registers os) → Describes z os pc w u
+      → (let under = below_top os in Runs z.code [] (clear_cycles (below_top under) + (load_cycles (top_of os) + load_cycles (top_of under))) u
+      (LoadedTwo z (kept (below_top under)) (pc + forms_bytes (two_to_registers os)) (with_stack vs w) x y))
+  two_to_registers_part [] pc w x y vs u e h d = two_loads [] pc w x y vs u e refl h d
+  two_to_registers_part (o ∷ []) pc w x y vs u e h d = two_loads (o ∷ []) pc w x y vs u e refl h d
+  two_to_registers_part (o ∷ (p ∷ os)) pc w x y vs u e h d =
+      let more = five_from (Some o) ++ four_from (Some p) in
+      behind_cleared os (o ∷ (p ∷ kept os)) more 6 pc w u (λ n. LoadedTwo z (kept os) n (with_stack vs w) x y)
+      (clear_under (o ∷ (p ∷ [])) os pc w u d (stands_front z.code pc (cleared os) more h)) (λ t k.
+      two_loads (o ∷ (p ∷ kept os)) (pc + forms_bytes (cleared os)) w x y vs t e (none_held os) (stands_back z.code pc (cleared os) more h) k)
+
+  -- the top for a statement, all others being pushed
+  pub below_part : (os : List Waiting) (pc : ℕ) (w : WordState) (v : ℕ) (vs : List ℕ) (u : Core) → w.stack ≡ v ∷ vs
+      → Stands z.code pc (flushed (below_top os)) → Describes z os pc w u
+      → Runs z.code [] (owed (below_top os)) u (Top z (source_from (top_of os)) [] (pc + forms_bytes (flushed (below_top os))) w v vs)
+  below_part [] pc w v vs u e h d =
+      let same : pc ≡ pc + 0 = omega arith in
+      nothing_run z u _ (subst (λ n. Top z (source_from None) [] n w v vs u) same (take_part [] pc w v vs u e d))
+  below_part (o ∷ os) pc w v vs u e h d =
+      let end = pc + forms_bytes (flushed os) in
+      so_runs z [] (owed os) u (Waits z (o ∷ []) end w u.work) _ (λ t k. take_part (o ∷ []) end w v vs t e k.is) (flush_under (o ∷ []) os pc w u d h)
+
+  -- ---- one more word waits
+
+  -- a result in a register, all else that waits being elsewhere
+  pub result_waits : (o : Waiting) (os : List Waiting) (pc : ℕ) (w : WordState) (r : ℕ) (vs rest : List ℕ) (g : ℕ → ℕ) (t : Core)
+      → vs ≡ waiting_words w.fram w.locals g os ++ rest → AllByRecursion (IsThere z.locals w.locals) (o ∷ os) → any_held os ≡ false → length vs < z.room
+      → waiting_word w.fram w.locals t.work o ≡ r → StandsFor z pc (with_stack rest w) t → Describes z (o ∷ os) pc (with_stack (r ∷ vs) w) t
+  result_waits o os pc w r vs rest g t stack there none room word i =
+      record {
+        rest = rest;
+        is = i;
+        stack = ap₂ (λ x xs. x ∷ xs) (sym word) (stack ∙ ap (λ xs. xs ++ rest) (words_kept w.fram w.locals g t.work os none));
+        there = there;
+        fits = omega (arith, room);
+      }
+
+  -- a word that no code brings anywhere
+  pub waits_more : (o : Waiting) (os : List Waiting) (pc : ℕ) (w : WordState) (v : ℕ) (u : Core) → IsThere z.locals w.locals o
+      → waiting_word w.fram w.locals u.work o ≡ v → length w.stack < z.room → Describes z os pc w u → Describes z (o ∷ os) pc (pushed v w) u
+  waits_more o os pc w v u there word room d =
+      record {
+        rest = d.rest;
+        is = d.is;
+        stack = ap₂ (λ x xs. x ∷ xs) (sym word) d.stack;
+        there = (there, d.there);
+        fits = omega (arith, room);
+      }

@@ -1,0 +1,512 @@
+-- Steps where words wait: values that come to wait in a register, and statements behind which none waits.
+use Rattle.std.proofs.Common.{◌≡◌, ℕ, ◌+◌, ◌*◌, ◌<◌, ◌≤◌, ◌==◌, Bool, true, false, nat_lt, if◌then◌else◌, List, [], ◌∷◌, ◌++◌, length, Some, refl}
+use Rattle.std.proofs.Common.{ap, ◌∙◌, subst, arith}
+use Rattle.std.specs.Option.{unwrap_or}
+use Rattle.std.specs.List.{AllByRecursion}
+use Rattle.array_versions.specs.fram_board.Effects.{Take}
+use Rattle.array_versions.specs.machine_effects.World.{put}
+use Rattle.array_versions.specs.machine_effects.Machine.{IsFram}
+use Rattle.code_forms.specs.Forms as forms
+use Rattle.code_forms.specs.Forms.{WorkRegister, R4, R5, R6, work_number, Core, Form, Move, Update, Push, Ram, ToFram, sensed}
+use Rattle.code_forms.specs.Code.{Stands, forms_bytes, Runs}
+use Rattle.code_forms.proofs.Interface.{stands_front, stands_back, forms_bytes-append}
+use Rattle.array_versions.specs.declared.program.ArrayPlace.{ArrayPlace}
+use Rattle.array_versions.specs.declared.program.ListPlace.{ListPlace}
+use Rattle.array_versions.specs.declared.operations.UnaryOperation.{UnaryOperation}
+use Rattle.array_versions.specs.declared.operations.UnaryOperation.TheVariants.{Negate, Complement}
+use Rattle.array_versions.specs.declared.operations.BinaryOperation.{BinaryOperation}
+use Rattle.array_versions.specs.declared.operations.BinaryOperation.TheVariants.{Multiply, Divide, Remainder, Plain}
+use Rattle.array_versions.specs.declared.operations.PlainOperation.{PlainOperation}
+use Rattle.array_versions.specs.declared.operations.ShiftOperation.{ShiftOperation}
+use Rattle.array_versions.specs.Operations.{unary_word, plain_word, binary_word, shift_word}
+use Rattle.array_versions.specs.Program.{keep, update, set_local, update_local, unary, binary, shift, element, emit_word, versioned_read, versioned_write}
+use Rattle.array_versions.specs.Program.{sense}
+use Rattle.array_versions.specs.Behaviour.{WordState, Behaviour, goes_on, with_top, with_two, with_stack, with_local, pushed, is_place, at_place, word_stored}
+use Rattle.array_versions.specs.Behaviour.{word_emitted, element_pushed, own_element, versioned_pushed, versioned_stored, reading_pushed}
+use Rattle.array_versions.specs.Cost.{unary_cycles, binary_cycles}
+use Rattle.codegen.specs.declared.waiting.Waiting.{Waiting}
+use Rattle.codegen.specs.declared.waiting.Waiting.TheVariants as waiting
+use Rattle.codegen.specs.Code.{local_address, local_target, flushed, top_of, source_from, below_top, any_held, cleared, kept, top_to_four, top_to_five}
+use Rattle.codegen.specs.Code.{plain_instruction, update_code}
+use Rattle.codegen.specs.Code.{two_to_registers, unary_middle, binary_middle, binary_result, shift_middle, element_code, emit_code, read_code, write_code}
+use Rattle.codegen.specs.Code.{waiting_behind, step_code}
+use Rattle.codegen.proofs.Stretches.{Setting, hop, runs_on, dearer_stall, nothing_run, so_runs, starved}
+use Rattle.codegen.proofs.Memory.{place_is}
+use Rattle.codegen.proofs.Follows.{StandsFor, Follows, Pays, Reaches, reach_more, then_reach, reaches, reach_guarded}
+use Rattle.codegen.proofs.Registers.{Has, HasTwo}
+use Rattle.codegen.proofs.Operands.{IsThere, owed_by, owed, none_held, clear_cycles, owed_kept, load_cycles, load_owed, store_cycles, store_owed, Describes}
+use Rattle.codegen.proofs.Operands.{Top, Waits, InRegister, LoadedTwo, waiting_word, bare, dressed, flush_under, flush_part, clear_under, below_part}
+use Rattle.codegen.proofs.Operands.{top_to_four_part, top_to_five_part, two_to_registers_part, result_waits, waits_more}
+use Rattle.codegen.proofs.Parts.{local_part, keep_part, set_part}
+use Rattle.codegen.proofs.Updates.{update_part, update_local_part}
+use Rattle.codegen.proofs.Middles.{UnaryMiddle, BinaryMiddle, plain_middle, negate_middle, complement_middle}
+use Rattle.codegen.proofs.Products.{multiply_middle}
+use Rattle.codegen.proofs.Quotients.{divide_part, remainder_part}
+use Rattle.codegen.proofs.ShiftParts.{shift_part}
+use Rattle.codegen.proofs.Access.{past_end, before_end, emit_part}
+use Rattle.codegen.proofs.VersionParts.{past_read, own_copy, own_home, write_part}
+
+unary_price : (o : UnaryOperation) → unary_cycles o ≡ 7
+unary_price Negate = refl
+unary_price Complement = refl
+
+module _ (z : Setting) where
+  -- what code does, and the words that wait behind it
+  abbrev pub Does : List Waiting → ℕ → ℕ → Core → Behaviour → Type 0
+  Does os pc most u b = Reaches z (owed os) (Describes z os pc) most u b.effects b.end
+
+  -- ---- values
+
+  -- a word in a register, what is made of it, and where that waits
+  after_one : (b h : WorkRegister) (o : Waiting) (ks : List Waiting) (l c most pc pc' : ℕ) (w : WordState) (v r : ℕ) (vs : List ℕ) (u : Core)
+      → any_held ks ≡ false → IsThere z.locals w.locals o → length vs < z.room → l + c + (owed ks + owed_by o) ≤ most
+      → ((f : ℕ → ℕ) → waiting_word w.fram w.locals f o ≡ f (work_number h)) → Runs z.code [] l u (InRegister z b ks pc (with_stack vs w) v)
+      → ((rest : List ℕ) (t : Core) → Has z b pc (with_stack rest w) v t → Runs z.code [] c t (Has z h pc' (with_stack rest w) r))
+      → Does (o ∷ ks) pc' most u (goes_on [] (with_stack (r ∷ vs) w))
+  after_one b h o ks l c most pc pc' w v r vs u none there room budget word front middle =
+      record {
+        spent = l + c;
+        within = budget;
+        runs = runs_on z l c u (InRegister z b ks pc (with_stack vs w) v) _ [] [] front (λ t k.
+            so_runs z [] c t (Has z h pc' (with_stack k.is.rest w) r) _ (λ s j.
+            result_waits z o ks pc' w r vs k.is.rest t.work s k.is.stack (there, k.is.there) none room (word s.work ∙ j.value) j.is)
+            (middle k.is.rest t (record { is = k.is.is; value = k.value })));
+      }
+
+  -- the same of two words
+  after_two : (h : WorkRegister) (o : Waiting) (ks : List Waiting) (l c most pc pc' : ℕ) (w : WordState) (x y r : ℕ) (vs : List ℕ) (u : Core)
+      → any_held ks ≡ false → IsThere z.locals w.locals o → length vs < z.room → l + c + (owed ks + owed_by o) ≤ most
+      → ((f : ℕ → ℕ) → waiting_word w.fram w.locals f o ≡ f (work_number h)) → Runs z.code [] l u (LoadedTwo z ks pc (with_stack vs w) x y)
+      → ((rest : List ℕ) (t : Core) → HasTwo z pc (with_stack rest w) x y t → Runs z.code [] c t (Has z h pc' (with_stack rest w) r))
+      → Does (o ∷ ks) pc' most u (goes_on [] (with_stack (r ∷ vs) w))
+  after_two h o ks l c most pc pc' w x y r vs u none there room budget word front middle =
+      record {
+        spent = l + c;
+        within = budget;
+        runs = runs_on z l c u (LoadedTwo z ks pc (with_stack vs w) x y) _ [] [] front (λ t k.
+            so_runs z [] c t (Has z h pc' (with_stack k.is.rest w) r) _ (λ s j.
+            result_waits z o ks pc' w r vs k.is.rest t.work s k.is.stack (there, k.is.there) none room (word s.work ∙ j.value) j.is)
+            (middle k.is.rest t (record { is = k.is.is; four = k.four; five = k.five })));
+      }
+
+  -- code that brings the top to a register, and what is made of it in R4
+  value_part : (b : WorkRegister) (front ms : List Form) (c most : ℕ) (os : List Waiting) (pc : ℕ) (w : WordState) (y r : ℕ) (rest : List ℕ) (u : Core)
+      → 5 + c ≤ most → w.stack ≡ y ∷ rest → Describes z os pc w u
+      → (let ks = kept (below_top os) in let mid = pc + forms_bytes front in
+      Runs z.code [] (clear_cycles (below_top os) + load_cycles (top_of os)) u (InRegister z b ks mid (with_stack rest w) y)
+      → ((xs : List ℕ) (t : Core) → Has z b mid (with_stack xs w) y t → Runs z.code [] c t (Has z R4 (mid + forms_bytes ms) (with_stack xs w) r))
+      → Does (waiting.R4 ∷ ks) (pc + forms_bytes (front ++ ms)) (most + owed os) u (goes_on [] (with_stack (r ∷ rest) w)))
+  value_part b front ms c most os pc w y r rest u l e d come middle =
+      let under = below_top os in
+      let mid = pc + forms_bytes front in
+      let end : mid + forms_bytes ms ≡ pc + forms_bytes (front ++ ms) = omega (arith, forms_bytes-append front ms) in
+      let room : length rest < z.room = omega (arith, d.fits, ap (length {A = ℕ}) e) in
+      subst (λ p. Does (waiting.R4 ∷ kept under) p (most + owed os) u (goes_on [] (with_stack (r ∷ rest) w))) end
+      (after_one b R4 waiting.R4 (kept under) (clear_cycles under + load_cycles (top_of os)) c (most + owed os) mid (mid + forms_bytes ms) w y r rest u
+      (none_held under) tt room (omega (arith, l, owed_kept under, load_owed os)) (λ f. refl) come middle)
+
+  unary_middles : (o : UnaryOperation) → UnaryMiddle z (unary_middle o) 2 (unary_word o)
+  unary_middles Negate = negate_middle z
+  unary_middles Complement = complement_middle z
+
+  pub unary_part : (o : UnaryOperation) (os : List Waiting) (pc : ℕ) (w : WordState) (vs : List ℕ) (u : Core) → w.stack ≡ vs
+      → AllByRecursion (λ v. v < 0x10000) vs → Stands z.code pc (step_code os (unary o)) → Describes z os pc w u
+      → Does (waiting_behind os (unary o)) (pc + forms_bytes (step_code os (unary o))) (unary_cycles o + owed os) u
+      (with_top vs (λ v us. goes_on [] (with_stack (unary_word o v ∷ us) w)))
+  unary_part o os pc w [] u e l h d = tt
+  unary_part o os pc w (y ∷ rest) u e l h d =
+      let front = top_to_five os in
+      let ms = unary_middle o in
+      let back = stands_back z.code pc front ms h in
+      value_part R5 front ms 2 (unary_cycles o) os pc w y (unary_word o y) rest u (omega (arith, unary_price o)) e d
+      (top_to_five_part z os pc w y rest u e (stands_front z.code pc front ms h) d)
+      (λ xs t k. unary_middles o (pc + forms_bytes front) y (with_stack xs w) t l.0 back k)
+
+  pub shift_reaches : (o : ShiftOperation) (n : ℕ) (os : List Waiting) (pc : ℕ) (w : WordState) (vs : List ℕ) (u : Core) → w.stack ≡ vs
+      → AllByRecursion (λ v. v < 0x10000) vs → Stands z.code pc (step_code os (shift o n)) → Describes z os pc w u
+      → Does (waiting_behind os (shift o n)) (pc + forms_bytes (step_code os (shift o n))) (15 + owed os) u
+      (with_top vs (λ v us. goes_on [] (with_stack (shift_word o v n ∷ us) w)))
+  shift_reaches o n os pc w [] u e l h d = tt
+  shift_reaches o n os pc w (y ∷ rest) u e l h d =
+      let front = top_to_four os in
+      let ms = shift_middle o n in
+      let back = stands_back z.code pc front ms h in
+      value_part R4 front ms 10 15 os pc w y (shift_word o y n) rest u (omega arith) e d
+      (top_to_four_part z os pc w y rest u e (stands_front z.code pc front ms h) d)
+      (λ xs t k. shift_part z o n (pc + forms_bytes front) y (with_stack xs w) t l.0 back k)
+
+  -- an element, by whether the index is below the length
+  element_by : (b : Bool) (base size : ℕ) (os : List Waiting) (pc : ℕ) (w : WordState) (i : ℕ) (rest : List ℕ) (u : Core) → nat_lt i size ≡ b
+      → size < 0x10000 → i < 0x10000 → w.stack ≡ i ∷ rest → Stands z.code pc (step_code os (element base size)) → Describes z os pc w u
+      → (let a = 2 * i + base in
+      let x : Behaviour = if b then at_place a (goes_on [] (with_stack (w.fram a ∷ rest) w)) else goes_on [] (with_stack (0 ∷ rest) w) in
+      Does (waiting_behind os (element base size)) (pc + forms_bytes (step_code os (element base size))) (15 + owed os) u x)
+  element_by false base size os pc w i rest u lt s r e h d =
+      let front = top_to_four os in
+      let ms = element_code base size in
+      let mid = pc + forms_bytes front in
+      let back = stands_back z.code pc front ms h in
+      value_part R4 front ms 10 15 os pc w i 0 rest u (omega arith) e d
+      (top_to_four_part z os pc w i rest u e (stands_front z.code pc front ms h) d)
+      (λ xs t k. past_end z base size mid s back i (with_stack xs w) t lt r k)
+  element_by true base size os pc w i rest u lt s r e h d =
+      let front = top_to_four os in
+      let ms = element_code base size in
+      let mid = pc + forms_bytes front in
+      let back = stands_back z.code pc front ms h in
+      let a = 2 * i + base in
+      let after = waiting_behind os (element base size) in
+      let end = pc + forms_bytes (front ++ ms) in
+      reach_guarded z (is_place a) (owed after) (Describes z after end) (15 + owed os) u (goes_on [] (with_stack (w.fram a ∷ rest) w)) (λ g.
+      value_part R4 front ms 10 15 os pc w i (w.fram a) rest u (omega arith) e d
+      (top_to_four_part z os pc w i rest u e (stands_front z.code pc front ms h) d)
+      (λ xs t k. before_end z base size mid s back i (with_stack xs w) t lt r (place_is a g) k))
+
+  pub element_reaches : (base size : ℕ) (os : List Waiting) (pc : ℕ) (w : WordState) (vs : List ℕ) (u : Core) → size < 0x10000 → w.stack ≡ vs
+      → AllByRecursion (λ v. v < 0x10000) vs → Stands z.code pc (step_code os (element base size)) → Describes z os pc w u
+      → Does (waiting_behind os (element base size)) (pc + forms_bytes (step_code os (element base size))) (15 + owed os) u
+      (with_top vs (λ i us. element_pushed base size i (with_stack us w)))
+  element_reaches base size os pc w [] u s e l h d = tt
+  element_reaches base size os pc w (i ∷ rest) u s e l h d = element_by (nat_lt i size) base size os pc w i rest u refl s l.0 e h d
+
+  -- ---- versioned reads, where their code stands
+
+  module _ (place : ArrayPlace) (list : ListPlace) (os : List Waiting) (pc : ℕ) (small : place.length < 0x10000)
+      (h : Stands z.code pc (step_code os (versioned_read place list))) (w : WordState) (i : ℕ) (rest : List ℕ) (u : Core) (wl : (a : ℕ) → w.fram a < 0x10000)
+      (r : i < 0x10000) (e : w.stack ≡ i ∷ rest) (d : Describes z os pc w u) where
+    abbrev after_read : List Waiting
+    after_read = waiting_behind os (versioned_read place list)
+
+    abbrev read_end : ℕ
+    read_end = pc + forms_bytes (step_code os (versioned_read place list))
+
+    abbrev read_mid : ℕ
+    read_mid = pc + forms_bytes (top_to_four os)
+
+    -- a word that its code gives
+    read_gives : (v : ℕ) → ((xs : List ℕ) (t : Core) → Stands z.code read_mid (read_code place list) → Has z R4 read_mid (with_stack xs w) i t
+        → Runs z.code [] 18 t (Has z R4 (read_mid + 32) (with_stack xs w) v)) → Does after_read read_end (23 + owed os) u (goes_on [] (with_stack (v ∷ rest) w))
+    read_gives v f =
+        let front = top_to_four os in
+        let ms = read_code place list in
+        value_part R4 front ms 18 23 os pc w i v rest u (omega arith) e d
+        (top_to_four_part z os pc w i rest u e (stands_front z.code pc front ms h) d)
+        (λ xs t k. f xs t (stands_back z.code pc front ms h) k)
+
+    -- by whether the version word is the attempt's number
+    own_by : (b : Bool) → (w.fram list.ver == w.fram (2 * i + place.versions)) ≡ b → nat_lt i place.length ≡ true → IsFram list.ver
+        → IsFram (2 * i + place.versions)
+        → (let c = 2 * i + place.copies in let a = 2 * i + place.elements in
+        let x : Behaviour = if b then at_place c (goes_on [] (with_stack (w.fram c ∷ rest) w)) else at_place a (goes_on [] (with_stack (w.fram a ∷ rest) w)) in
+        Does after_read read_end (23 + owed os) u x)
+    own_by true q lt f g =
+        let c = 2 * i + place.copies in
+        reach_guarded z (is_place c) (owed after_read) (Describes z after_read read_end) (23 + owed os) u (goes_on [] (with_stack (w.fram c ∷ rest) w)) (λ p.
+        read_gives (w.fram c) (λ xs t s k. own_copy z place list read_mid small s i (with_stack xs w) t wl lt r f g q (place_is c p) k))
+    own_by false q lt f g =
+        let a = 2 * i + place.elements in
+        reach_guarded z (is_place a) (owed after_read) (Describes z after_read read_end) (23 + owed os) u (goes_on [] (with_stack (w.fram a ∷ rest) w)) (λ p.
+        read_gives (w.fram a) (λ xs t s k. own_home z place list read_mid small s i (with_stack xs w) t wl lt r f g q (place_is a p) k))
+
+    -- by whether the index is below the length
+    read_by : (b : Bool) → nat_lt i place.length ≡ b
+        → (let x : Behaviour = if b then own_element place list i (with_stack rest w) else goes_on [] (with_stack (0 ∷ rest) w) in
+        Does after_read read_end (23 + owed os) u x)
+    read_by false lt = read_gives 0 (λ xs t s k. past_read z place list read_mid small s i (with_stack xs w) t lt r k)
+    read_by true lt =
+        let m = 2 * i + place.versions in
+        reach_guarded z (is_place list.ver) (owed after_read) (Describes z after_read read_end) (23 + owed os) u _ (λ f.
+        reach_guarded z (is_place m) (owed after_read) (Describes z after_read read_end) (23 + owed os) u _ (λ g.
+        own_by (w.fram list.ver == w.fram m) refl lt (place_is list.ver f) (place_is m g)))
+
+  pub read_reaches : (place : ArrayPlace) (list : ListPlace) (os : List Waiting) (pc : ℕ) (w : WordState) (vs : List ℕ) (u : Core) → place.length < 0x10000
+      → ((a : ℕ) → w.fram a < 0x10000) → w.stack ≡ vs → AllByRecursion (λ v. v < 0x10000) vs → Stands z.code pc (step_code os (versioned_read place list))
+      → Describes z os pc w u → Does (waiting_behind os (versioned_read place list)) (pc + forms_bytes (step_code os (versioned_read place list)))
+      (23 + owed os) u (with_top vs (λ i us. versioned_pushed place list i (with_stack us w)))
+  read_reaches place list os pc w [] u s wl e l h d = tt
+  read_reaches place list os pc w (i ∷ rest) u s wl e l h d = read_by place list os pc s h w i rest u wl l.0 e d (nat_lt i place.length) refl
+
+  -- ---- operations on two words
+
+  binary_by : (o : BinaryOperation) (hand : WorkRegister) (c : ℕ) (os : List Waiting) (pc : ℕ) (w : WordState) (vs : List ℕ) (u : Core)
+      → BinaryMiddle z (binary_middle o) hand c (binary_word o) → IsThere z.locals w.locals (binary_result o) → owed_by (binary_result o) ≡ 3
+      → ((f : ℕ → ℕ) → waiting_word w.fram w.locals f (binary_result o) ≡ f (work_number hand)) → w.stack ≡ vs → AllByRecursion (λ v. v < 0x10000) vs
+      → Stands z.code pc (step_code os (binary o)) → Describes z os pc w u
+      → Does (waiting_behind os (binary o)) (pc + forms_bytes (step_code os (binary o))) (7 + c + owed os) u
+      (with_two vs (λ x y us. goes_on [] (with_stack (binary_word o x y ∷ us) w)))
+  binary_by o hand c os pc w [] u m there three word e l h d = tt
+  binary_by o hand c os pc w (y ∷ []) u m there three word e l h d = tt
+  binary_by o hand c os pc w (y ∷ (x ∷ rest)) u m there three word e l h d =
+      let front = two_to_registers os in
+      let ms = binary_middle o in
+      let r = binary_result o in
+      let first = top_of os in
+      let under = below_top os in
+      let ks = kept (below_top under) in
+      let mid = pc + forms_bytes front in
+      let v = binary_word o x y in
+      let end : mid + forms_bytes ms ≡ pc + forms_bytes (front ++ ms) = omega (arith, forms_bytes-append front ms) in
+      let room : length rest < z.room = omega (arith, d.fits, ap (length {A = ℕ}) e) in
+      let paid : clear_cycles (below_top under) + (load_cycles first + load_cycles (top_of under)) + c + (owed ks + owed_by r) ≤ 7 + c + owed os =
+      omega (arith, three, owed_kept (below_top under), load_owed os, load_owed under) in
+      let back = stands_back z.code pc front ms h in
+      subst (λ p. Does (r ∷ ks) p (7 + c + owed os) u (goes_on [] (with_stack (v ∷ rest) w))) end
+      (after_two hand r ks (clear_cycles (below_top under) + (load_cycles first + load_cycles (top_of under))) c (7 + c + owed os) mid (mid + forms_bytes ms)
+      w x y v rest u (none_held (below_top under)) there room paid word
+      (two_to_registers_part z os pc w x y rest u e (stands_front z.code pc front ms h) d)
+      (λ xs t k. m mid x y (with_stack xs w) t l.1.0 l.0 back k))
+
+  pub binary_part : (o : BinaryOperation) (os : List Waiting) (pc : ℕ) (w : WordState) (vs : List ℕ) (u : Core) → w.stack ≡ vs
+      → AllByRecursion (λ v. v < 0x10000) vs → Stands z.code pc (step_code os (binary o)) → Describes z os pc w u
+      → Does (waiting_behind os (binary o)) (pc + forms_bytes (step_code os (binary o))) (binary_cycles o + owed os) u
+      (with_two vs (λ x y us. goes_on [] (with_stack (binary_word o x y ∷ us) w)))
+  binary_part Multiply os pc w vs u e l h d = binary_by Multiply R6 145 os pc w vs u (multiply_middle z) tt refl (λ f. refl) e l h d
+  binary_part Divide os pc w vs u e l h d = binary_by Divide R4 195 os pc w vs u (divide_part z) tt refl (λ f. refl) e l h d
+  binary_part Remainder os pc w vs u e l h d = binary_by Remainder R6 195 os pc w vs u (remainder_part z) tt refl (λ f. refl) e l h d
+  binary_part (Plain o) os pc w vs u e l h d = binary_by (Plain o) R4 1 os pc w vs u (plain_middle z o) tt refl (λ f. refl) e l h d
+
+  -- ---- words that no code brings anywhere
+
+  waits_part : (o : Waiting) (os : List Waiting) (pc : ℕ) (w : WordState) (v n : ℕ) (u : Core) → IsThere z.locals w.locals o
+      → waiting_word w.fram w.locals u.work o ≡ v → owed_by o ≤ n → length w.stack < z.room → Describes z os pc w u
+      → Does (o ∷ os) (pc + 0) (n + owed os) u (goes_on [] (pushed v w))
+  waits_part o os pc w v n u there word less room d =
+      let same : pc ≡ pc + 0 = omega arith in
+      record {
+        spent = 0;
+        within = omega (arith, less);
+        runs = nothing_run z u _ (subst (λ p. Describes z (o ∷ os) p (pushed v w) u) same (waits_more z o os pc w v u there word room d));
+      }
+
+  pub number_part : (n : ℕ) (os : List Waiting) (pc : ℕ) (w : WordState) (u : Core) → length w.stack < z.room → Describes z os pc w u
+      → Does (waiting.Number n ∷ os) (pc + 0) (4 + owed os) u (goes_on [] (pushed n w))
+  number_part n os pc w u room d = waits_part (waiting.Number n) os pc w n 4 u tt refl (omega arith) room d
+
+  pub load_part : (a : ℕ) (os : List Waiting) (pc : ℕ) (w : WordState) (u : Core) → length w.stack < z.room → IsFram a → Describes z os pc w u
+      → Does (waiting.Fram a ∷ os) (pc + 0) (5 + owed os) u (goes_on [] (pushed (w.fram a) w))
+  load_part a os pc w u room f d = waits_part (waiting.Fram a) os pc w (w.fram a) 5 u f refl (omega arith) room d
+
+  -- ---- statements
+
+  -- code behind which no word waits, the others below what it takes being pushed in front of it
+  pub alone_part : (os : List Waiting) (ms : List Form) (c pc : ℕ) (w : WordState) (u : Core) (b : Behaviour) → Stands z.code pc (flushed os ++ ms)
+      → Describes z os pc w u
+      → (let mid = pc + forms_bytes (flushed os) in
+      ((t : Core) → Stands z.code mid ms → StandsFor z mid w t → Follows z (mid + forms_bytes ms) c t b)
+      → Does [] (pc + forms_bytes (flushed os ++ ms)) (c + owed os) u b)
+  alone_part os ms c pc w u b h d f =
+      let front = flushed os in
+      let mid = pc + forms_bytes front in
+      let back = stands_back z.code pc front ms h in
+      let end : mid + forms_bytes ms ≡ pc + forms_bytes (front ++ ms) = omega (arith, forms_bytes-append front ms) in
+      subst (λ p. Does [] p (c + owed os) u b) end
+      (reach_more z 0 (Describes z [] (mid + forms_bytes ms)) (owed os + c) (c + owed os) u b.effects b.end (omega arith)
+      (then_reach z 0 (Describes z [] (mid + forms_bytes ms)) (owed os) c u (StandsFor z mid w) [] b.effects b.end
+      (flush_part z os pc w u d (stands_front z.code pc front ms h)) (λ t k.
+      reaches z (Describes z [] (mid + forms_bytes ms)) (mid + forms_bytes ms) c t b.effects b.end (dressed z (mid + forms_bytes ms)) (f t back k))))
+
+  -- the same where the top is its source
+  pub statement_part : (os : List Waiting) (ms : List Form) (c most pc : ℕ) (w : WordState) (v : ℕ) (vs : List ℕ) (u : Core) (b : Behaviour)
+      → owed (below_top os) + c ≤ most → w.stack ≡ v ∷ vs → Stands z.code pc (flushed (below_top os) ++ ms) → Describes z os pc w u
+      → (let mid = pc + forms_bytes (flushed (below_top os)) in
+      ((t : Core) → Stands z.code mid ms → Top z (source_from (top_of os)) [] mid w v vs t → Follows z (mid + forms_bytes ms) c t b)
+      → Does [] (pc + forms_bytes (flushed (below_top os) ++ ms)) most u b)
+  statement_part os ms c most pc w v vs u b l e h d f =
+      let front = flushed (below_top os) in
+      let mid = pc + forms_bytes front in
+      let back = stands_back z.code pc front ms h in
+      let end : mid + forms_bytes ms ≡ pc + forms_bytes (front ++ ms) = omega (arith, forms_bytes-append front ms) in
+      let x = source_from (top_of os) in
+      subst (λ p. Does [] p most u b) end
+      (reach_more z 0 (Describes z [] (mid + forms_bytes ms)) (owed (below_top os) + c) most u b.effects b.end l
+      (then_reach z 0 (Describes z [] (mid + forms_bytes ms)) (owed (below_top os)) c u (Top z x [] mid w v vs) [] b.effects b.end
+      (below_part z os pc w v vs u e (stands_front z.code pc front ms h) d) (λ t k.
+      reaches z (Describes z [] (mid + forms_bytes ms)) (mid + forms_bytes ms) c t b.effects b.end (dressed z (mid + forms_bytes ms)) (f t back k))))
+
+  pub keep_reaches : (a : ℕ) (os : List Waiting) (pc : ℕ) (w : WordState) (vs : List ℕ) (u : Core) → w.stack ≡ vs → Stands z.code pc (step_code os (keep a))
+      → Describes z os pc w u → Does [] (pc + forms_bytes (step_code os (keep a))) (5 + owed os) u
+      (with_top vs (λ v us. word_stored a v (with_stack us w)))
+  keep_reaches a os pc w [] u e h d = tt
+  keep_reaches a os pc w (v ∷ us) u e h d =
+      let mid = pc + forms_bytes (flushed (below_top os)) in
+      statement_part os (Move (source_from (top_of os)) (ToFram a) ∷ []) (store_cycles (top_of os)) (5 + owed os) pc w v us u
+      (word_stored a v (with_stack us w)) (omega (arith, store_owed os)) e h d (λ t s k. keep_part z (top_of os) a mid v us w t s k)
+
+  pub update_reaches : (o : PlainOperation) (a : ℕ) (os : List Waiting) (pc : ℕ) (w : WordState) (vs : List ℕ) (u : Core) → w.fram a < 0x10000 → w.stack ≡ vs
+      → AllByRecursion (λ v. v < 0x10000) vs → Stands z.code pc (step_code os (update o a)) → Describes z os pc w u
+      → Does [] (pc + forms_bytes (step_code os (update o a))) (5 + owed os) u
+      (with_top vs (λ v us. word_stored a (plain_word o (w.fram a) v) (with_stack us w)))
+  update_reaches o a os pc w [] u f e l h d = tt
+  update_reaches o a os pc w (v ∷ us) u f e l h d =
+      let mid = pc + forms_bytes (flushed (below_top os)) in
+      statement_part os (Update (plain_instruction o) (source_from (top_of os)) a ∷ []) (store_cycles (top_of os)) (5 + owed os) pc w v us u
+      (word_stored a (plain_word o (w.fram a) v) (with_stack us w)) (omega (arith, store_owed os)) e h d
+      (λ t s k. update_part z o (top_of os) a mid v us w t f l.0 s k)
+
+  pub set_reaches : (n : ℕ) (os : List Waiting) (pc : ℕ) (w : WordState) (vs : List ℕ) (u : Core) → n < z.locals → w.stack ≡ vs
+      → Stands z.code pc (step_code os (set_local n)) → Describes z os pc w u
+      → Does [] (pc + forms_bytes (step_code os (set_local n))) (5 + owed os) u (with_top vs (λ v us. goes_on [] (with_local n v (with_stack us w))))
+  set_reaches n os pc w [] u l e h d = tt
+  set_reaches n os pc w (v ∷ us) u l e h d =
+      let mid = pc + forms_bytes (flushed (below_top os)) in
+      statement_part os (Move (source_from (top_of os)) (local_target n) ∷ []) (store_cycles (top_of os)) (5 + owed os) pc w v us u
+      (goes_on [] (with_local n v (with_stack us w))) (omega (arith, store_owed os)) e h d (λ t s k. set_part z (top_of os) n v mid us w t l s k)
+
+  pub update_local_reaches : (o : PlainOperation) (n x : ℕ) (os : List Waiting) (pc : ℕ) (w : WordState) (vs : List ℕ) (u : Core) → n < z.locals
+      → w.locals n ≡ Some x → x < 0x10000 → w.stack ≡ vs → AllByRecursion (λ v. v < 0x10000) vs → Stands z.code pc (step_code os (update_local o n))
+      → Describes z os pc w u → Does [] (pc + forms_bytes (step_code os (update_local o n))) (10 + owed os) u
+      (with_top vs (λ v us. goes_on [] (with_local n (plain_word o x v) (with_stack us w))))
+  update_local_reaches o n x os pc w [] u l q f e k h d = tt
+  update_local_reaches o n x os pc w (v ∷ us) u l q f e k h d =
+      let mid = pc + forms_bytes (flushed (below_top os)) in
+      statement_part os (update_code o n (source_from (top_of os))) (8 + load_cycles (top_of os)) (10 + owed os) pc w v us u
+      (goes_on [] (with_local n (plain_word o x v) (with_stack us w))) (omega (arith, load_owed os)) e h d
+      (λ t s top. update_local_part z o (top_of os) n x v mid us w t l q f k.0 s top)
+
+  -- a local that is pushed, by where it stands
+  pub local_by : (b : Bool) (n v : ℕ) (os : List Waiting) (pc : ℕ) (w : WordState) (u : Core) → nat_lt n 8 ≡ b → length w.stack < z.room → n < z.locals
+      → w.locals n ≡ Some v
+      → (let ms : List Form = if b then [] else (flushed os ++ Push (Ram (local_address n)) ∷ []) in
+      let after : List Waiting = if b then waiting.Local n ∷ os else [] in
+      Stands z.code pc ms → Describes z os pc w u → Does after (pc + forms_bytes ms) (5 + owed os) u (goes_on [] (pushed v w)))
+  local_by true n v os pc w u lt room l q h d =
+      waits_part (waiting.Local n) os pc w v 5 u (record { in_register = lt; below = l; word = v; assigned = q }) (ap (λ x. unwrap_or x 0) q) (omega arith)
+      room d
+  local_by false n v os pc w u lt room l q h d =
+      alone_part os (Push (Ram (local_address n)) ∷ []) 5 pc w u (goes_on [] (pushed v w)) h d
+      (λ t s i. local_part z n v (pc + forms_bytes (flushed os)) w t lt room l q s i)
+
+  -- words in registers, and all that waits below is pushed then
+  push_under : (b : WorkRegister) (ks : List Waiting) (pc : ℕ) (w : WordState) (v : ℕ) (u : Core) → Stands z.code pc (flushed ks)
+      → InRegister z b ks pc w v u → Runs z.code [] (owed ks) u (Has z b (pc + forms_bytes (flushed ks)) w v)
+  push_under b ks pc w v u h k =
+      let end = pc + forms_bytes (flushed ks) in
+      so_runs z [] (owed ks) u (Waits z [] end w u.work) _
+      (λ t j. record { is = bare z end w t j.is; value = ap (λ (f : ℕ → ℕ). f (work_number b)) j.work ∙ k.value })
+      (flush_under z [] ks pc w u k.is h)
+
+  push_under_two : (ks : List Waiting) (pc : ℕ) (w : WordState) (x y : ℕ) (u : Core) → Stands z.code pc (flushed ks)
+      → LoadedTwo z ks pc w x y u → Runs z.code [] (owed ks) u (HasTwo z (pc + forms_bytes (flushed ks)) w x y)
+  push_under_two ks pc w x y u h k =
+      let end = pc + forms_bytes (flushed ks) in
+      so_runs z [] (owed ks) u (Waits z [] end w u.work) _
+      (λ t j. record {
+        is = bare z end w t j.is;
+        four = ap (λ (f : ℕ → ℕ). f 4) j.work ∙ k.four;
+        five = ap (λ (f : ℕ → ℕ). f 5) j.work ∙ k.five;
+      })
+      (flush_under z [] ks pc w u k.is h)
+
+  -- a word that is emitted
+  emit_by : (count buffer : ℕ) (os : List Waiting) (pc : ℕ) (w : WordState) (v : ℕ) (rest : List ℕ) (u : Core) → w.stack ≡ v ∷ rest
+      → Stands z.code pc (step_code os (emit_word count buffer)) → Describes z os pc w u
+      → Does [] (pc + forms_bytes (step_code os (emit_word count buffer))) (16 + owed os) u (word_emitted count buffer v (with_stack rest w))
+  emit_by count buffer os pc w v rest u e h d =
+      let under = below_top os in
+      let front = top_to_five os in
+      let pushes = flushed (kept under) in
+      let ms = emit_code count buffer in
+      let first = pc + forms_bytes front in
+      let mid = first + forms_bytes pushes in
+      let left = with_stack rest w in
+      let b = word_emitted count buffer v left in
+      let l = clear_cycles under + load_cycles (top_of os) in
+      let there = stands_front z.code pc (front ++ pushes) ms h in
+      let here : pc + forms_bytes (front ++ pushes) ≡ mid = omega (arith, forms_bytes-append front pushes) in
+      let back = subst (λ p. Stands z.code p ms) here (stands_back z.code pc (front ++ pushes) ms h) in
+      let end : mid + 18 ≡ pc + forms_bytes ((front ++ pushes) ++ ms) = omega (arith, here, forms_bytes-append (front ++ pushes) ms) in
+      let come = runs_on z l (owed (kept under)) u (InRegister z R5 (kept under) first left v) (Has z R5 mid left v) [] []
+      (top_to_five_part z os pc w v rest u e (stands_front z.code pc front pushes there) d)
+      (λ t k. push_under R5 (kept under) first left v t (stands_back z.code pc front pushes there) k) in
+      subst (λ p. Does [] p (16 + owed os) u b) end
+      (reach_more z 0 (Describes z [] (mid + 18)) (l + owed (kept under) + 14) (16 + owed os) u b.effects b.end
+      (omega (arith, owed_kept under, load_owed os))
+      (then_reach z 0 (Describes z [] (mid + 18)) (l + owed (kept under)) 14 u (Has z R5 mid left v) [] b.effects b.end come (λ t k.
+      reaches z (Describes z [] (mid + 18)) (mid + 18) 14 t b.effects b.end (dressed z (mid + 18)) (emit_part z count buffer mid v left t back k))))
+
+  pub emit_reaches : (count buffer : ℕ) (os : List Waiting) (pc : ℕ) (w : WordState) (vs : List ℕ) (u : Core) → w.stack ≡ vs
+      → Stands z.code pc (step_code os (emit_word count buffer)) → Describes z os pc w u
+      → Does [] (pc + forms_bytes (step_code os (emit_word count buffer))) (16 + owed os) u
+      (with_top vs (λ v us. word_emitted count buffer v (with_stack us w)))
+  emit_reaches count buffer os pc w [] u e h d = tt
+  emit_reaches count buffer os pc w (v ∷ rest) u e h d = emit_by count buffer os pc w v rest u e h d
+
+  -- a versioned write
+  write_by : (place : ArrayPlace) (list : ListPlace) (os : List Waiting) (pc : ℕ) (w : WordState) (i v : ℕ) (rest : List ℕ) (u : Core)
+      → place.length < 0x10000 → ((a : ℕ) → w.fram a < 0x10000) → i < 0x10000 → v < 0x10000 → w.stack ≡ v ∷ (i ∷ rest)
+      → Stands z.code pc (step_code os (versioned_write place list)) → Describes z os pc w u
+      → Does [] (pc + forms_bytes (step_code os (versioned_write place list))) (79 + owed os) u (versioned_stored place list i v (with_stack rest w))
+  write_by place list os pc w i v rest u small wl r s e h d =
+      let under = below_top os in
+      let ks = kept (below_top under) in
+      let front = two_to_registers os in
+      let pushes = flushed ks in
+      let ms = write_code place list in
+      let first = pc + forms_bytes front in
+      let mid = first + forms_bytes pushes in
+      let left = with_stack rest w in
+      let b = versioned_stored place list i v left in
+      let l = clear_cycles (below_top under) + (load_cycles (top_of os) + load_cycles (top_of under)) in
+      let there = stands_front z.code pc (front ++ pushes) ms h in
+      let here : pc + forms_bytes (front ++ pushes) ≡ mid = omega (arith, forms_bytes-append front pushes) in
+      let back = subst (λ p. Stands z.code p ms) here (stands_back z.code pc (front ++ pushes) ms h) in
+      let end : mid + 114 ≡ pc + forms_bytes ((front ++ pushes) ++ ms) = omega (arith, here, forms_bytes-append (front ++ pushes) ms) in
+      let come = runs_on z l (owed ks) u (LoadedTwo z ks first left i v) (HasTwo z mid left i v) [] []
+      (two_to_registers_part z os pc w i v rest u e (stands_front z.code pc front pushes there) d)
+      (λ t k. push_under_two ks first left i v t (stands_back z.code pc front pushes there) k) in
+      subst (λ p. Does [] p (79 + owed os) u b) end
+      (reach_more z 0 (Describes z [] (mid + 114)) (l + owed ks + 75) (79 + owed os) u b.effects b.end
+      (omega (arith, owed_kept (below_top under), load_owed os, load_owed under))
+      (then_reach z 0 (Describes z [] (mid + 114)) (l + owed ks) 75 u (HasTwo z mid left i v) [] b.effects b.end come (λ t k.
+      reaches z (Describes z [] (mid + 114)) (mid + 114) 75 t b.effects b.end (dressed z (mid + 114))
+      (write_part z place list mid small back i v left t wl r s k))))
+
+  pub write_reaches : (place : ArrayPlace) (list : ListPlace) (os : List Waiting) (pc : ℕ) (w : WordState) (vs : List ℕ) (u : Core) → place.length < 0x10000
+      → ((a : ℕ) → w.fram a < 0x10000) → w.stack ≡ vs → AllByRecursion (λ v. v < 0x10000) vs → Stands z.code pc (step_code os (versioned_write place list))
+      → Describes z os pc w u → Does [] (pc + forms_bytes (step_code os (versioned_write place list))) (79 + owed os) u
+      (with_two vs (λ i v us. versioned_stored place list i v (with_stack us w)))
+  write_reaches place list os pc w [] u s wl e l h d = tt
+  write_reaches place list os pc w (v ∷ []) u s wl e l h d = tt
+  write_reaches place list os pc w (v ∷ (i ∷ rest)) u s wl e l h d = write_by place list os pc w i v rest u s wl l.1.0 l.0 e h d
+
+  -- ---- a reading
+
+  taken_part : (ks : List Waiting) (pc : ℕ) (w : WordState) (r : ℕ) (rs : List ℕ) (t : Core) → any_held ks ≡ false → length w.stack < z.room
+      → w.readings ≡ r ∷ rs → Stands z.code pc (forms.Sense R4 ∷ []) → Describes z ks pc w t
+      → Runs z.code (Take r ∷ []) 3 t (Describes z (waiting.R4 ∷ ks) (pc + 4) (pushed r (record w { readings = rs })))
+  taken_part ks pc w r rs t none room e h d =
+      let left : WordState = record w { readings = rs } in
+      let after : Core = record t { pc = t.pc + 4; work = put t.work 4 r; readings_left = rs } in
+      hop z (forms.Sense R4) 3 t after (Take r ∷ []) 3 _ (ap z.code d.is.at ∙ h.0) tt (ap (λ l. sensed l R4 t) (d.is.readings ∙ e)) (omega arith)
+      (result_waits z waiting.R4 ks (pc + 4) left r w.stack d.rest t.work after d.stack (tt, d.there) none room refl
+      (record { at = omega (arith, d.is.at); memory = d.is.memory; fram = d.is.fram; readings = refl }))
+
+  pub sense_part : (os : List Waiting) (pc : ℕ) (w : WordState) (rs : List ℕ) (u : Core) → length w.stack < z.room → w.readings ≡ rs
+      → Stands z.code pc (step_code os sense) → Describes z os pc w u
+      → Does (waiting_behind os sense) (pc + forms_bytes (step_code os sense)) (6 + owed os) u (reading_pushed rs w)
+  sense_part os pc w rs u room e h d =
+      let front = cleared os in
+      let ms = forms.Sense R4 ∷ [] in
+      let mid = pc + forms_bytes front in
+      let after = waiting.R4 ∷ kept os in
+      let b = reading_pushed rs w in
+      let end : mid + 4 ≡ pc + forms_bytes (front ++ ms) = omega (arith, forms_bytes-append front ms) in
+      let back = stands_back z.code pc front ms h in
+      subst (λ p. Does after p (6 + owed os) u b) end
+      (reach_more z (owed after) (Describes z after (mid + 4)) (clear_cycles os + (6 + owed (kept os))) (6 + owed os) u b.effects b.end
+      (omega (arith, owed_kept os))
+      (then_reach z (owed after) (Describes z after (mid + 4)) (clear_cycles os) (6 + owed (kept os)) u (Waits z (kept os) mid w u.work) [] b.effects b.end
+      (clear_under z [] os pc w u d (stands_front z.code pc front ms h)) (λ t k. by rs t e back k.is)))
+    where
+      by : (rs : List ℕ) (t : Core) → w.readings ≡ rs → Stands z.code (pc + forms_bytes (cleared os)) (forms.Sense R4 ∷ [])
+          → Describes z (kept os) (pc + forms_bytes (cleared os)) w t
+          → Does (waiting.R4 ∷ kept os) (pc + forms_bytes (cleared os) + 4) (6 + owed (kept os)) t (reading_pushed rs w)
+      by [] t q s j =
+          dearer_stall z [] 3 (6 + owed (kept os)) t (omega arith)
+          (starved z (forms.Sense R4) t 3 (ap z.code j.is.at ∙ s.0) tt (ap (λ l. sensed l R4 t) (j.is.readings ∙ q)))
+      by (r ∷ rs) t q s j =
+          record {
+            spent = 3;
+            within = omega arith;
+            runs = taken_part (kept os) (pc + forms_bytes (cleared os)) w r rs t (none_held os) room q s j;
+          }

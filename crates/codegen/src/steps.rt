@@ -1,0 +1,356 @@
+//! The code of steps that are no test, no choice and no loop.
+
+ghost use Rattle.std.specs.Prelude.{◌≡◌, [], ◌∷◌, ◌++◌, ◌<◌, OnOk};
+ghost use Rattle.code_forms.specs.Forms as form;
+ghost use Rattle.msp_isa.specs.alp_words.declared.Width.TheVariants.{Word};
+ghost use Rattle.msp_isa.specs.declared.instructions.TwoOp.TheVariants as two_op;
+ghost use Rattle.code_forms.specs.Placed.{instructions};
+ghost use Rattle.array_versions.specs.Program as value;
+ghost use Rattle.codegen.specs.Code.{element_code, emit_code, words_source, entry_code, number_code, ram_update, turn_end, step_code, waiting_behind};
+
+use crate::forms::{
+    R4, R5, R6, TO_R4, TO_R5, TO_R6, absolute, branch, constant, jump, local_address,
+    local_register, local_target, push, two,
+};
+use crate::operations::plain_instruction;
+use crate::waiting::{
+    Waiting, emit_all, emit_below, emit_cleared, emit_top_to_five, emit_top_to_four, wait,
+};
+use array_versions::PlainOperation;
+use msp_isa::{Condition, Dst, IndexRegister, Instr, Konst, Operand, Reg, Src, TwoOp};
+use std::alloc::AllocError;
+
+// The element at the index in R4.
+fn emit_fetch(base: u16, length: u16, code: &mut Vec<Instr>) -> Result<(), AllocError>
+    ensures { OnOk result (code.new.items ≡ code.old.items ++ instructions (element_code base length)) }
+{
+    code.extend_from_slice(&[
+        two(TwoOp::Cmp, Src::Immediate(length), TO_R4),
+        jump(Condition::Carry, 4),
+        two(TwoOp::Add, R4, TO_R4),
+        two(
+            TwoOp::Mov,
+            Src::Operand(Operand::Indexed(IndexRegister::R4, base)),
+            TO_R4,
+        ),
+        jump(Condition::Always, 1),
+        two(TwoOp::Mov, constant(Konst::Zero), TO_R4),
+    ])
+}
+
+/// Appends the code of an element of an array.
+pub fn emit_element(
+    base: u16,
+    length: u16,
+    waiting: &mut Vec<Waiting>,
+    code: &mut Vec<Instr>,
+) -> Result<(), AllocError>
+    ensures code { OnOk result (code.new.items
+        ≡ code.old.items ++ instructions (step_code waiting.old.items (value.element base length))) }
+    ensures waiting { OnOk result (waiting.new.items ≡ waiting_behind waiting.old.items (value.element base length)) }
+{
+    emit_top_to_four(waiting, code)?;
+    emit_fetch(base, length, code)?;
+    wait(Waiting::R4, waiting)
+}
+
+// The word in R5 behind those that are counted, then the count.
+fn emit_counted(count: u16, buffer: u16, code: &mut Vec<Instr>) -> Result<(), AllocError>
+    ensures { OnOk result (code.new.items ≡ code.old.items ++ instructions (emit_code count buffer)) }
+{
+    code.extend_from_slice(&[
+        two(TwoOp::Mov, absolute(count), TO_R6),
+        two(TwoOp::Mov, R6, TO_R4),
+        two(TwoOp::Add, R6, TO_R4),
+        two(TwoOp::Mov, R5, Dst::Indexed(IndexRegister::R4, buffer)),
+        two(TwoOp::Add, constant(Konst::One), TO_R6),
+        two(TwoOp::Mov, R6, Dst::Absolute(count)),
+    ])
+}
+
+/// Appends the code of a word that is emitted.
+pub fn emit_emit(
+    count: u16,
+    buffer: u16,
+    waiting: &mut Vec<Waiting>,
+    code: &mut Vec<Instr>,
+) -> Result<(), AllocError>
+    ensures code { OnOk result (code.new.items
+        ≡ code.old.items ++ instructions (step_code waiting.old.items (value.emit_word count buffer))) }
+    ensures waiting { OnOk result (waiting.new.items ≡ []) }
+{
+    emit_top_to_five(waiting, code)?;
+    emit_all(waiting, code)?;
+    emit_counted(count, buffer, code)
+}
+
+// How many words a run has, as a source: 1 takes no word of its own.
+fn words_source(words: u16) -> Src
+    ensures { result ≡ form.source_operand (words_source words) }
+{
+    match words {
+        1 => constant(Konst::One),
+        words => Src::Immediate(words),
+    }
+}
+
+// An entry of the commit list.
+fn emit_listed(
+    count: u16,
+    list: u16,
+    home: u16,
+    copy: u16,
+    words: u16,
+    code: &mut Vec<Instr>,
+) -> Result<(), AllocError>
+    ensures { OnOk result (code.new.items ≡ code.old.items ++ instructions (entry_code count list home copy words)) }
+{
+    let second = list.wrapping_add(2);
+    let third = list.wrapping_add(4);
+    code.extend_from_slice(&[
+        two(TwoOp::Mov, absolute(count), TO_R6),
+        two(TwoOp::Mov, R6, TO_R4),
+        two(TwoOp::Add, R4, TO_R4),
+        two(TwoOp::Add, R6, TO_R4),
+        two(TwoOp::Add, R4, TO_R4),
+        two(
+            TwoOp::Mov,
+            Src::Immediate(home),
+            Dst::Indexed(IndexRegister::R4, list),
+        ),
+        two(
+            TwoOp::Mov,
+            Src::Immediate(copy),
+            Dst::Indexed(IndexRegister::R4, second),
+        ),
+        two(
+            TwoOp::Mov,
+            words_source(words),
+            Dst::Indexed(IndexRegister::R4, third),
+        ),
+        two(TwoOp::Add, constant(Konst::One), Dst::Absolute(count)),
+    ])
+}
+
+/// Appends the code of an entry of the commit list.
+pub fn emit_entry(
+    count: u16,
+    list: u16,
+    home: u16,
+    copy: u16,
+    words: u16,
+    waiting: &mut Vec<Waiting>,
+    code: &mut Vec<Instr>,
+) -> Result<(), AllocError>
+    ensures code { OnOk result (code.new.items
+        ≡ code.old.items ++ instructions (step_code waiting.old.items (value.list_entry count list home copy words))) }
+    ensures waiting { OnOk result (waiting.new.items ≡ []) }
+{
+    emit_all(waiting, code)?;
+    emit_listed(count, list, home, copy, words, code)
+}
+
+/// Appends the code that makes a local a number.
+pub fn emit_number(n: u16, number: u16, code: &mut Vec<Instr>) -> Result<(), AllocError>
+    requires { n < 1008 }
+    ensures { OnOk result (code.new.items ≡ code.old.items ++ instructions (number_code n number)) }
+{
+    code.extend_from_slice(&[two(TwoOp::Mov, Src::Immediate(number), local_target(n))])
+}
+
+/// Appends the end of a turn: the local goes up by one, and is compared with a number.
+pub fn emit_turn_end(n: u16, below: u16, code: &mut Vec<Instr>) -> Result<(), AllocError>
+    requires { n < 1008 }
+    ensures { OnOk result (code.new.items ≡ code.old.items ++ instructions (turn_end n below)) }
+{
+    if n < 8 {
+        let local = Dst::Reg(Reg::Index(local_register(n)));
+        code.extend_from_slice(&[
+            two(TwoOp::Add, constant(Konst::One), local),
+            two(TwoOp::Cmp, Src::Immediate(below), local),
+        ])
+    } else {
+        let place = local_address(n);
+        code.extend_from_slice(&[
+            two(TwoOp::Mov, absolute(place), TO_R4),
+            two(TwoOp::Add, constant(Konst::One), TO_R4),
+            two(TwoOp::Mov, R4, Dst::Absolute(place)),
+            two(TwoOp::Cmp, Src::Immediate(below), TO_R4),
+        ])
+    }
+}
+
+// One instruction.
+fn emit_one(instruction: Instr, code: &mut Vec<Instr>) -> Result<(), AllocError>
+    ensures { OnOk result (code.new.items ≡ code.old.items ++ instruction ∷ []) }
+{
+    code.extend_from_slice(&[instruction])
+}
+
+// A word from one place to another.
+fn emit_move(source: Src, to: Dst, code: &mut Vec<Instr>) -> Result<(), AllocError>
+    ensures { OnOk result (code.new.items ≡ code.old.items ++ Instr.Two two_op.Mov Word source to ∷ []) }
+{
+    emit_one(two(TwoOp::Mov, source, to), code)
+}
+
+/// Appends the code of a local that is pushed: it waits where it stands in a register.
+pub fn emit_local(
+    n: u16,
+    waiting: &mut Vec<Waiting>,
+    code: &mut Vec<Instr>,
+) -> Result<(), AllocError>
+    requires { n < 1008 }
+    ensures code { OnOk result (code.new.items
+        ≡ code.old.items ++ instructions (step_code waiting.old.items (value.local n))) }
+    ensures waiting { OnOk result (waiting.new.items ≡ waiting_behind waiting.old.items (value.local n)) }
+{
+    if n < 8 {
+        return wait(Waiting::Local(n), waiting);
+    }
+    emit_all(waiting, code)?;
+    emit_one(push(absolute(local_address(n))), code)
+}
+
+/// Appends the code of a word that is kept.
+pub fn emit_keep(
+    address: u16,
+    waiting: &mut Vec<Waiting>,
+    code: &mut Vec<Instr>,
+) -> Result<(), AllocError>
+    ensures code { OnOk result (code.new.items
+        ≡ code.old.items ++ instructions (step_code waiting.old.items (value.keep address))) }
+    ensures waiting { OnOk result (waiting.new.items ≡ []) }
+{
+    let source = emit_below(waiting, code)?;
+    emit_move(source, Dst::Absolute(address), code)
+}
+
+/// Appends the code of an operation on a word of FRAM.
+pub fn emit_update(
+    operation: PlainOperation,
+    address: u16,
+    waiting: &mut Vec<Waiting>,
+    code: &mut Vec<Instr>,
+) -> Result<(), AllocError>
+    ensures code { OnOk result (code.new.items
+        ≡ code.old.items ++ instructions (step_code waiting.old.items (value.update operation address))) }
+    ensures waiting { OnOk result (waiting.new.items ≡ []) }
+{
+    let source = emit_below(waiting, code)?;
+    let op = plain_instruction(operation);
+    emit_one(two(op, source, Dst::Absolute(address)), code)
+}
+
+/// Appends the code of a local that is assigned.
+pub fn emit_set_local(
+    n: u16,
+    waiting: &mut Vec<Waiting>,
+    code: &mut Vec<Instr>,
+) -> Result<(), AllocError>
+    requires { n < 1008 }
+    ensures code { OnOk result (code.new.items
+        ≡ code.old.items ++ instructions (step_code waiting.old.items (value.set_local n))) }
+    ensures waiting { OnOk result (waiting.new.items ≡ []) }
+{
+    let source = emit_below(waiting, code)?;
+    emit_move(source, local_target(n), code)
+}
+
+// A local in RAM becomes what an operation gives of it and of a word.
+fn emit_ram_update(
+    op: TwoOp,
+    n: u16,
+    source: Src,
+    code: &mut Vec<Instr>,
+) -> Result<(), AllocError>
+    requires { n < 1008 }
+    ensures { (operation : PlainOperation) (x : form.Source) → op ≡ plain_instruction operation → source ≡ form.source_operand x
+        → OnOk result (code.new.items ≡ code.old.items ++ instructions (ram_update operation n x)) }
+{
+    let place = local_address(n);
+    code.extend_from_slice(&[
+        two(TwoOp::Mov, source, TO_R5),
+        two(TwoOp::Mov, absolute(place), TO_R4),
+        two(op, R5, TO_R4),
+        two(TwoOp::Mov, R4, Dst::Absolute(place)),
+    ])
+}
+
+/// Appends the code of an operation on a local.
+pub fn emit_update_local(
+    operation: PlainOperation,
+    n: u16,
+    waiting: &mut Vec<Waiting>,
+    code: &mut Vec<Instr>,
+) -> Result<(), AllocError>
+    requires { n < 1008 }
+    ensures code { OnOk result (code.new.items
+        ≡ code.old.items ++ instructions (step_code waiting.old.items (value.update_local operation n))) }
+    ensures waiting { OnOk result (waiting.new.items ≡ []) }
+{
+    let source = emit_below(waiting, code)?;
+    let op = plain_instruction(operation);
+    if n < 8 {
+        emit_one(two(op, source, Dst::Reg(Reg::Index(local_register(n)))), code)
+    } else {
+        emit_ram_update(op, n, source, code)
+    }
+}
+
+/// Appends the code that takes the next reading.
+pub fn emit_sense(
+    waiting: &mut Vec<Waiting>,
+    code: &mut Vec<Instr>,
+) -> Result<(), AllocError>
+    ensures code { OnOk result (code.new.items ≡ code.old.items ++ instructions (step_code waiting.old.items value.sense)) }
+    ensures waiting { OnOk result (waiting.new.items ≡ waiting_behind waiting.old.items value.sense) }
+{
+    emit_cleared(waiting, code)?;
+    emit_move(absolute(0x200), TO_R4, code)?;
+    wait(Waiting::R4, waiting)
+}
+
+/// Appends the code that stores a number.
+pub fn emit_store(
+    address: u16,
+    word: u16,
+    waiting: &mut Vec<Waiting>,
+    code: &mut Vec<Instr>,
+) -> Result<(), AllocError>
+    ensures code { OnOk result (code.new.items
+        ≡ code.old.items ++ instructions (step_code waiting.old.items (value.store_number address word))) }
+    ensures waiting { OnOk result (waiting.new.items ≡ []) }
+{
+    emit_all(waiting, code)?;
+    emit_move(Src::Immediate(word), Dst::Absolute(address), code)
+}
+
+/// Appends the code that copies a word of FRAM.
+pub fn emit_move_word(
+    from: u16,
+    to: u16,
+    waiting: &mut Vec<Waiting>,
+    code: &mut Vec<Instr>,
+) -> Result<(), AllocError>
+    ensures code { OnOk result (code.new.items
+        ≡ code.old.items ++ instructions (step_code waiting.old.items (value.move_word from to))) }
+    ensures waiting { OnOk result (waiting.new.items ≡ []) }
+{
+    emit_all(waiting, code)?;
+    emit_move(absolute(from), Dst::Absolute(to), code)
+}
+
+/// Appends the code of a jump.
+pub fn emit_jump(
+    to: u16,
+    waiting: &mut Vec<Waiting>,
+    code: &mut Vec<Instr>,
+) -> Result<(), AllocError>
+    ensures code { OnOk result (code.new.items
+        ≡ code.old.items ++ instructions (step_code waiting.old.items (value.jump to))) }
+    ensures waiting { OnOk result (waiting.new.items ≡ []) }
+{
+    emit_all(waiting, code)?;
+    emit_one(branch(to), code)
+}

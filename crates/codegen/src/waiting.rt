@@ -1,0 +1,192 @@
+//! Words that wait to be pushed: what an instruction names in place of the words on top of the stack, the top first.
+
+ghost use Rattle.std.specs.Prelude.{◌≡◌, [], ◌∷◌, ◌++◌, ◌-◌, Bool, OnOk, IfOk};
+ghost use Rattle.code_forms.specs.Forms.{source_operand};
+ghost use Rattle.code_forms.specs.Placed.{instructions};
+ghost use Rattle.codegen.specs.Code as code;
+ghost use Rattle.codegen.specs.Code.{flushed, top_of, below_top, is_held, any_held, cleared, kept, four_from, five_from, top_to_four, top_to_five, two_to_registers};
+
+use crate::forms::{POPPED, R4, R6, TO_R4, TO_R5, absolute, local_register, push, two};
+use msp_isa::{Instr, Operand, SourceRegister, Src, TwoOp};
+use std::alloc::AllocError;
+
+/// A word that waits to be pushed.
+#[derive(Clone, Copy, Debug, PartialEq, Eq)]
+pub enum Waiting {
+    Number(u16),
+    /// The word of FRAM at an address.
+    Fram(u16),
+    /// One of the first eight locals, which stand in registers.
+    Local(u16),
+    /// A result in R4.
+    R4,
+    /// A result in R6.
+    R6,
+}
+
+// A word that waits, as a source.
+fn waiting_source(word: Waiting) -> Src
+    ensures { result ≡ source_operand (code.waiting_source word) }
+{
+    match word {
+        Waiting::Number(number) => Src::Immediate(number),
+        Waiting::Fram(address) => absolute(address),
+        Waiting::Local(n) => Src::Operand(Operand::Reg(SourceRegister::Index(local_register(n)))),
+        Waiting::R4 => R4,
+        Waiting::R6 => R6,
+    }
+}
+
+// The top as a source: where it doesn't wait it is popped.
+fn source_from(top: Option<Waiting>) -> Src
+    ensures { result ≡ source_operand (code.source_from top) }
+{
+    match top {
+        None => POPPED,
+        Some(word) => waiting_source(word),
+    }
+}
+
+// Takes the top, where it waits.
+fn take(waiting: &mut Vec<Waiting>) -> Option<Waiting>
+    ensures top { result ≡ top_of waiting.old.items }
+    ensures below { waiting.new.items ≡ below_top waiting.old.items }
+{
+    if waiting.is_empty() {
+        None
+    } else {
+        Some(waiting.remove(0))
+    }
+}
+
+/// One more word waits.
+pub fn wait(word: Waiting, waiting: &mut Vec<Waiting>) -> Result<(), AllocError>
+    ensures { OnOk result (waiting.new.items ≡ word ∷ waiting.old.items) }
+{
+    waiting.insert(0, word)?;
+    Ok(())
+}
+
+// A word waits in a register for work.
+fn is_held(word: Waiting) -> bool
+    ensures { result ≡ is_held word }
+{
+    match word {
+        Waiting::R4 | Waiting::R6 => true,
+        Waiting::Number(_) | Waiting::Fram(_) | Waiting::Local(_) => false,
+    }
+}
+
+// So does one of them.
+fn any_held(waiting: &[Waiting]) -> bool
+    ensures { result ≡ any_held waiting.now }
+{
+    let mut held = false;
+    for word in waiting {
+        held = held || is_held(*word);
+    }
+    held
+}
+
+/// Appends the code that pushes all words that wait, the lowest first.
+pub fn emit_flushed(waiting: &[Waiting], code: &mut Vec<Instr>) -> Result<(), AllocError>
+    ensures { OnOk result (code.new.items ≡ code.old.items ++ instructions (flushed waiting.now)) }
+{
+    for i in 0..waiting.len() {
+        let word = waiting[waiting.len() - 1 - i];
+        code.extend_from_slice(&[push(waiting_source(word))])?;
+    }
+    Ok(())
+}
+
+/// Appends that code, and behind it no word waits.
+pub fn emit_all(waiting: &mut Vec<Waiting>, code: &mut Vec<Instr>) -> Result<(), AllocError>
+    ensures code { OnOk result (code.new.items ≡ code.old.items ++ instructions (flushed waiting.old.items)) }
+    ensures waiting { OnOk result (waiting.new.items ≡ []) }
+{
+    emit_flushed(waiting, code)?;
+    waiting.clear();
+    Ok(())
+}
+
+/// The same where one of them waits in a register for work.
+pub fn emit_cleared(waiting: &mut Vec<Waiting>, code: &mut Vec<Instr>) -> Result<(), AllocError>
+    ensures code { OnOk result (code.new.items ≡ code.old.items ++ instructions (cleared waiting.old.items)) }
+    ensures waiting { OnOk result (waiting.new.items ≡ kept waiting.old.items) }
+{
+    if any_held(waiting) {
+        emit_all(waiting, code)
+    } else {
+        Ok(())
+    }
+}
+
+// The top, which is taken, to R4.
+fn emit_to_four(top: Option<Waiting>, code: &mut Vec<Instr>) -> Result<(), AllocError>
+    ensures { OnOk result (code.new.items ≡ code.old.items ++ instructions (four_from top)) }
+{
+    match top {
+        None => code.extend_from_slice(&[two(TwoOp::Mov, POPPED, TO_R4)]),
+        Some(Waiting::R4) => Ok(()),
+        Some(word) => code.extend_from_slice(&[two(TwoOp::Mov, waiting_source(word), TO_R4)]),
+    }
+}
+
+// The top, which is taken, to R5.
+fn emit_to_five(top: Option<Waiting>, code: &mut Vec<Instr>) -> Result<(), AllocError>
+    ensures { OnOk result (code.new.items ≡ code.old.items ++ instructions (five_from top)) }
+{
+    code.extend_from_slice(&[two(TwoOp::Mov, source_from(top), TO_R5)])
+}
+
+/// Takes the top, as a source; the others that wait are pushed.
+pub fn emit_below(waiting: &mut Vec<Waiting>, code: &mut Vec<Instr>) -> Result<Src, AllocError>
+    ensures source { IfOk result (λ source. source ≡ source_operand (code.source_from (top_of waiting.old.items))) }
+    ensures code { OnOk result (code.new.items ≡ code.old.items ++ instructions (flushed (below_top waiting.old.items))) }
+    ensures waiting { OnOk result (waiting.new.items ≡ []) }
+{
+    let top = take(waiting);
+    emit_all(waiting, code)?;
+    Ok(source_from(top))
+}
+
+/// Takes the top to R4.
+pub fn emit_top_to_four(
+    waiting: &mut Vec<Waiting>,
+    code: &mut Vec<Instr>,
+) -> Result<(), AllocError>
+    ensures code { OnOk result (code.new.items ≡ code.old.items ++ instructions (top_to_four waiting.old.items)) }
+    ensures waiting { OnOk result (waiting.new.items ≡ kept (below_top waiting.old.items)) }
+{
+    let top = take(waiting);
+    emit_cleared(waiting, code)?;
+    emit_to_four(top, code)
+}
+
+/// Takes the top to R5.
+pub fn emit_top_to_five(
+    waiting: &mut Vec<Waiting>,
+    code: &mut Vec<Instr>,
+) -> Result<(), AllocError>
+    ensures code { OnOk result (code.new.items ≡ code.old.items ++ instructions (top_to_five waiting.old.items)) }
+    ensures waiting { OnOk result (waiting.new.items ≡ kept (below_top waiting.old.items)) }
+{
+    let top = take(waiting);
+    emit_cleared(waiting, code)?;
+    emit_to_five(top, code)
+}
+
+/// Takes the right side, which is the top, to R5 and the left one to R4.
+pub fn emit_two_to_registers(
+    waiting: &mut Vec<Waiting>,
+    code: &mut Vec<Instr>,
+) -> Result<(), AllocError>
+    ensures code { OnOk result (code.new.items ≡ code.old.items ++ instructions (two_to_registers waiting.old.items)) }
+    ensures waiting { OnOk result (waiting.new.items ≡ kept (below_top (below_top waiting.old.items))) }
+{
+    let right = take(waiting);
+    let left = take(waiting);
+    emit_cleared(waiting, code)?;
+    emit_to_five(right, code)?;
+    emit_to_four(left, code)
+}
