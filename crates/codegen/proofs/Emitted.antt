@@ -1,6 +1,7 @@
 -- Code that is appended piece by piece.
 use Rattle.std.proofs.Common.{◌≡◌, ℕ, suc, ◌+◌, ◌-◌, ◌<◌, ◌≤◌, List, [], ◌∷◌, ◌++◌, length, drop, get_or, sym, ap, ◌∙◌, arith, append_assoc}
-use Rattle.std.proofs.Common.{drop-cons}
+use Rattle.std.proofs.Common.{drop-cons, refl, Some, ◌||◌}
+use Rattle.std.specs.List.{insert, remove, slice_index_or}
 use Rattle.std.proofs.Common.{add-one, rules, Bool, true, false, if◌then◌else◌, Result, Ok, Err, is_ok}
 use Rattle.std.specs.Result.{OnOk}
 use Rattle.std.proofs.lemmas.Result.{on_ok_weaker}
@@ -10,7 +11,7 @@ use Rattle.msp_isa.specs.declared.instructions.Instr.TheVariants.{Two}
 use Rattle.msp_isa.specs.declared.instructions.TwoOp.{TwoOp}
 use Rattle.msp_isa.specs.declared.operands.Src.{Src}
 use Rattle.msp_isa.specs.declared.operands.Dst.{Dst}
-use Rattle.code_forms.specs.Forms.{Form, instruction_of}
+use Rattle.code_forms.specs.Forms.{Form, Push, instruction_of}
 use Rattle.code_forms.specs.Placed.{instructions, words_of as instruction_words}
 use Rattle.code_forms.proofs.Interface.{instructions-append}
 use Rattle.codegen.proofs.Lengths.{size_words}
@@ -33,7 +34,7 @@ use Rattle.array_versions.specs.Program.{both, either, fails, nothing, step}
 use Rattle.array_versions.specs.View.{step_of, steps_of, test_of}
 use Rattle.array_versions.specs.Form.{StepLocalsBelow, TestLocalsBelow, LocalsBelow}
 use Rattle.codegen.specs.declared.waiting.Waiting.{Waiting}
-use Rattle.codegen.specs.Code.{repeated, size, waiting_behind, step_code, steps_code}
+use Rattle.codegen.specs.Code.{waiting_source, flushed, top_of, below_top, is_held, any_held, repeated, size, waiting_behind, step_code, steps_code}
 
 -- ---- one level of a step and of a test
 
@@ -75,6 +76,40 @@ step_owed s more os os' code new all e q h =
     ∙ append_assoc code (instructions (step_code os s)) (instructions rest)
     ∙ ap (λ l. code ++ l) (sym (instructions-append (step_code os s) rest)) ∙ h
 
+-- two parts, one behind the other
+pub two_behind : (code : List Instr) (a b : List Form) → (code ++ instructions a) ++ instructions b ≡ code ++ instructions (a ++ b)
+two_behind code a b = append_assoc code (instructions a) (instructions b) ∙ ap (λ l. code ++ l) (sym (instructions-append a b))
+
+-- a list of words that wait, its top taken or one more on it
+pub taken_is : (os : List Waiting) (x : Waiting) → 0 < length os → x ≡ slice_index_or os 0 x → Some x ≡ top_of os
+taken_is [] x l e = absurd (let q = l in (omega arith))
+taken_is (o ∷ os) x l e = ap Some e
+
+pub left_is : (os : List Waiting) → remove os 0 ≡ below_top os
+left_is [] = refl
+left_is (o ∷ os) = refl
+
+pub more_wait : (os : List Waiting) (x : Waiting) → insert os 0 x ≡ x ∷ os
+more_wait os x = refl
+
+pub held_step : (os : List Waiting) (i : ℕ) (x : Waiting) → i < length os → x ≡ get_or os i x → any_held (drop i os) ≡ is_held x || any_held (drop (i + 1) os)
+held_step os i x l e =
+    ap any_held (drop-cons os i x l) ∙ ap (λ y. any_held (y ∷ drop (suc i) os)) (sym e) ∙ ap (λ j. any_held (x ∷ drop j os)) (sym (add-one i))
+
+-- one more of them is pushed, from the lowest on
+pub flushed_step : (os : List Waiting) (i : ℕ) (o : Waiting) (m : Instr) (old code new : List Instr) → i < length os → o ≡ get_or os (length os - 1 - i) o
+    → m ≡ instruction_of (Push (waiting_source o)) → new ≡ code ++ m ∷ [] → code ≡ old ++ instructions (flushed (drop (length os - i) os))
+    → new ≡ old ++ instructions (flushed (drop (length os - (i + 1)) os))
+flushed_step os i o m old code new l e q f known =
+    let j = length os - 1 - i in
+    let up : suc j ≡ length os - i = omega arith in
+    let at : length os - (i + 1) ≡ j = omega arith in
+    let rest = flushed (drop (length os - i) os) in
+    let here : drop (length os - (i + 1)) os ≡ o ∷ drop (length os - i) os =
+    ap (λ k. drop k os) at ∙ drop-cons os j o (omega arith) ∙ ap (λ y. y ∷ drop (suc j) os) (sym e) ∙ ap (λ k. o ∷ drop k os) up in
+    f ∙ ap (λ x. code ++ x ∷ []) q ∙ ap (λ c. c ++ instruction_of (Push (waiting_source o)) ∷ []) known ∙ two_behind old rest (Push (waiting_source o) ∷ [])
+    ∙ ap (λ ws. old ++ instructions (flushed ws)) (sym here)
+
 -- one more form of what is owed
 pub form_owed : (m : Form) (i : Instr) (n k : ℕ) (code new all : List Instr) → i ≡ instruction_of m → k < n → new ≡ code ++ i ∷ []
     → code ++ instructions (repeated (n - k) m) ≡ all → new ++ instructions (repeated (n - (k + 1)) m) ≡ all
@@ -97,10 +132,6 @@ pub six_behind : (l a b c d e f : List Instr) → (((((l ++ a) ++ b) ++ c) ++ d)
 six_behind l a b c d e f =
     append_assoc ((((l ++ a) ++ b) ++ c) ++ d) e f ∙ append_assoc (((l ++ a) ++ b) ++ c) d (e ++ f) ∙ append_assoc ((l ++ a) ++ b) c (d ++ (e ++ f))
     ∙ append_assoc (l ++ a) b (c ++ (d ++ (e ++ f))) ∙ append_assoc l a (b ++ (c ++ (d ++ (e ++ f))))
-
--- two parts, one behind the other
-pub two_behind : (code : List Instr) (a b : List Form) → (code ++ instructions a) ++ instructions b ≡ code ++ instructions (a ++ b)
-two_behind code a b = append_assoc code (instructions a) (instructions b) ∙ ap (λ l. code ++ l) (sym (instructions-append a b))
 
 -- three parts, one behind the other
 pub three_behind : (code : List Instr) (a b c : List Form)

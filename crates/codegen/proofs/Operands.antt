@@ -6,7 +6,7 @@ use Rattle.std.specs.List.{AllByRecursion}
 use Rattle.array_versions.specs.machine_effects.World.{put}
 use Rattle.array_versions.specs.machine_effects.Going.{Goes}
 use Rattle.array_versions.specs.machine_effects.Machine.{IsFram}
-use Rattle.array_versions.specs.msp_cycles.Cycles.{cycles_of, source_cycles, to_register, to_memory}
+use Rattle.array_versions.specs.machine_effects.msp_cycles.Cycles.{cycles_of, source_cycles, to_register, to_memory}
 use Rattle.array_versions.proofs.machine_effects.Interface.{put_same, put_other}
 use Rattle.code_forms.specs.Forms.{WorkRegister, R4, R5, work_number, Core, Source, source_operand, source_bytes, source_value, source_read, SourceNeeds, ToRegister, Form}
 use Rattle.code_forms.specs.Forms.{Move, Push, HasPushRoom, instruction_of, form_bytes}

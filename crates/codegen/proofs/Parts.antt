@@ -1,7 +1,7 @@
 -- The steps that are straight code: words of FRAM, locals, jumps.
 use Rattle.std.proofs.Common.{◌≡◌, ℕ, ◌+◌, ◌-◌, ◌%◌, ◌<◌, Bool, true, false, nat_lt, List, [], ◌∷◌, length, Option, Some, refl, sym, ap, ◌∙◌, subst, arith}
 use Rattle.std.proofs.Common.{eq-eqb, if◌then◌else◌}
-use Rattle.array_versions.specs.msp_cycles.Cycles.{cycles_of}
+use Rattle.array_versions.specs.machine_effects.msp_cycles.Cycles.{cycles_of}
 use Rattle.array_versions.specs.fram_board.Effects.{Store}
 use Rattle.array_versions.specs.machine_effects.World.{put}
 use Rattle.array_versions.specs.machine_effects.Going.{Goes, At, stretch}

@@ -2,7 +2,7 @@
 use Rattle.std.proofs.Common.{◌≡◌, ℕ, ◌+◌, ◌<◌, Bool, true, false, nat_lt, if◌then◌else◌, List, [], ◌∷◌, Option, Some, refl, sym, ap, ap₂, ◌∙◌, subst, arith}
 use Rattle.msp_isa.specs.alp_words.declared.Width.TheVariants.{Word}
 use Rattle.array_versions.specs.msp_step.Effect.{operated, writes_destination}
-use Rattle.array_versions.specs.msp_cycles.Cycles.{cycles_of}
+use Rattle.array_versions.specs.machine_effects.msp_cycles.Cycles.{cycles_of}
 use Rattle.array_versions.specs.fram_board.Effects.{Store}
 use Rattle.array_versions.specs.machine_effects.World.{put}
 use Rattle.array_versions.specs.machine_effects.Going.{Goes}

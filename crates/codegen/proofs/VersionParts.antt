@@ -205,8 +205,8 @@ module _ (z : Setting) where
     at0 : z.code pc ≡ Some (instruction_of (Calculate op.Cmp (Number place.length) R4))
     at0 = h.0
 
-    at4 : z.code (pc + 4) ≡ Some (instruction_of (Jump condition.Carry 54))
-    at4 = form_at z.code pc 1 (write_code place list) (Jump condition.Carry 54) h refl
+    jump4 : z.code (pc + 4) ≡ Some (instruction_of (Jump condition.Carry 54))
+    jump4 = form_at z.code pc 1 (write_code place list) (Jump condition.Carry 54) h refl
 
     copies : Stands z.code (pc + 6) (copying place list)
     copies = forms_at z.code pc 2 4 (write_code place list) h
@@ -260,7 +260,7 @@ module _ (z : Setting) where
         let to : sum16 (pc + 4 + 2) (distance 54) ≡ pc + 114 = omega arith in
         dearer z [] 4 75 t _ (omega arith)
         (runs_on z 2 2 t _ _ [] [] (compare_two pc i v place.length w t r l at0 k) (λ t q.
-        jump_to z condition.Carry 54 (pc + 4) (pc + 114) true w t at4 (q.flag ∙ le_of_lt z i place.length false lt) to q.two.is))
+        jump_to z condition.Carry 54 (pc + 4) (pc + 114) true w t jump4 (q.flag ∙ le_of_lt z i place.length false lt) to q.two.is))
 
     write_by : (b : Bool) (i v : ℕ) (w : WordState) (t : Core) → ((a : ℕ) → w.fram a < 0x10000)
         → nat_lt i place.length ≡ b → i < 0x10000 → v < 0x10000 → HasTwo z pc w i v t
@@ -274,7 +274,7 @@ module _ (z : Setting) where
         then_end z (pc + 114) 4 71 t (HasTwo z (pc + 6) w i v) [] _ _
         (runs_on z 2 2 t _ _ [] [] (compare_two pc i v place.length w t r l at0 k) (λ t q.
         let p4 : t.pc ≡ pc + 4 = q.two.is.at in
-        jump_exact z condition.Carry 54 (pc + 6) false t _ (ap z.code p4 ∙ at4) (q.flag ∙ le_of_lt z i place.length true lt) (omega (arith, p4))
+        jump_exact z condition.Carry 54 (pc + 6) false t _ (ap z.code p4 ∙ jump4) (q.flag ∙ le_of_lt z i place.length true lt) (omega (arith, p4))
         (record { is = stands_elsewhere z (pc + 4) (pc + 6) w t _ q.two.is refl refl refl refl refl refl; four = q.two.four; five = q.two.five })))
         (λ t j. own_stored_part (y.fram list.ver == y.fram (2 * i + place.versions)) i v w t wl s (place_is c g1) (place_is list.ver g2)
         (place_is (2 * i + place.versions) g3) refl j))))

@@ -3,7 +3,7 @@
 ghost use Rattle.std.specs.Prelude.{◌≡◌, [], ◌∷◌, ◌++◌, ◌-◌, Bool, OnOk, IfOk};
 ghost use Rattle.code_forms.specs.Forms.{source_operand};
 ghost use Rattle.code_forms.specs.Placed.{instructions};
-ghost use Rattle.codegen.specs.Code as code;
+ghost use Rattle.codegen.specs.Code as made;
 ghost use Rattle.codegen.specs.Code.{flushed, top_of, below_top, is_held, any_held, cleared, kept, four_from, five_from, top_to_four, top_to_five, two_to_registers};
 
 use crate::forms::{POPPED, R4, R6, TO_R4, TO_R5, absolute, local_register, push, two};
@@ -26,7 +26,7 @@ pub enum Waiting {
 
 // A word that waits, as a source.
 fn waiting_source(word: Waiting) -> Src
-    ensures { result ≡ source_operand (code.waiting_source word) }
+    ensures { result ≡ source_operand (made.waiting_source word) }
 {
     match word {
         Waiting::Number(number) => Src::Immediate(number),
@@ -39,7 +39,7 @@ fn waiting_source(word: Waiting) -> Src
 
 // The top as a source: where it doesn't wait it is popped.
 fn source_from(top: Option<Waiting>) -> Src
-    ensures { result ≡ source_operand (code.source_from top) }
+    ensures { result ≡ source_operand (made.source_from top) }
 {
     match top {
         None => POPPED,
@@ -81,11 +81,12 @@ fn is_held(word: Waiting) -> bool
 fn any_held(waiting: &[Waiting]) -> bool
     ensures { result ≡ any_held waiting.now }
 {
-    let mut held = false;
     for word in waiting {
-        held = held || is_held(*word);
+        if is_held(*word) {
+            return true;
+        }
     }
-    held
+    false
 }
 
 /// Appends the code that pushes all words that wait, the lowest first.
@@ -141,7 +142,7 @@ fn emit_to_five(top: Option<Waiting>, code: &mut Vec<Instr>) -> Result<(), Alloc
 
 /// Takes the top, as a source; the others that wait are pushed.
 pub fn emit_below(waiting: &mut Vec<Waiting>, code: &mut Vec<Instr>) -> Result<Src, AllocError>
-    ensures source { IfOk result (λ source. source ≡ source_operand (code.source_from (top_of waiting.old.items))) }
+    ensures source { IfOk result (λ source. source ≡ source_operand (made.source_from (top_of waiting.old.items))) }
     ensures code { OnOk result (code.new.items ≡ code.old.items ++ instructions (flushed (below_top waiting.old.items))) }
     ensures waiting { OnOk result (waiting.new.items ≡ []) }
 {

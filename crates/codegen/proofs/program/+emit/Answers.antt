@@ -8,7 +8,8 @@ use Rattle.array_versions.specs.declared.program.WordStep as word_step
 use Rattle.array_versions.specs.Form.{StepLocalsBelow, TestLocalsBelow, LocalsBelow, OfWords, StepOfWords}
 use Rattle.array_versions.specs.Cost.{words_of, step_words, test_words}
 use Rattle.msp_isa.specs.declared.instructions.Condition.TheVariants as condition
-use Rattle.codegen.specs.Code.{holds_code, compares_code, truth_code, size, pass_over, jump_back, number_code, turn_end, turns_code, step_code, test_code, code_of}
+use Rattle.codegen.specs.Code.{flushed, holds_code, compares_code, truth_code, size, pass_over, jump_back, number_code, turn_end, turns_code, waiting_behind}
+use Rattle.codegen.specs.Code.{waiting_after, step_code, test_code, steps_code, code_of}
 use Rattle.codegen.proofs.Emitted.{step_of-choose, step_of-read, step_of-write, test_of-holds, test_of-compares, test_of-both, test_of-either}
 use Rattle.codegen.proofs.Emitted.{part_behind, two_behind, own_behind, on_ok_items, words_at_most, own_words, step_owed, left_front}
 use Rattle.codegen.proofs.Lengths.{pass_short, turn_end_short, test_short, code_short}
@@ -18,51 +19,89 @@ pub emit_steps-loop-step-preserved : goal.emit_steps-loop-step-preserved
 emit_steps-loop-step-preserved t c =
     let x = c.step-item.result in
     let code = c.loop-step.code.items in
-    let new = c.emit_step.new.code.items in
+    let os = c.loop-step.waiting.items in
     let more = steps_of (drop (c.loop-step.step-index + 1) c.args.steps.now) in
     let e = left_front c.args.steps.now c.loop-step.step-index x c.loop-step-test.true c.step-item.is in
     let known = c.loop-step.invariant in
+    let behind = c.in_ok-emit_step.ensures.waiting in
     record {
-      owed = step_owed (step_of x) more code new _ c.in_ok-emit_step.ensures.code (ap (λ p. code ++ instructions (code_of p)) (sym e) ∙ known.owed);
+      owed = step_owed (step_of x) more os c.emit_step.new.waiting.items code c.emit_step.new.code.items _ c.in_ok-emit_step.ensures.code behind
+          (ap (λ p. code ++ instructions (steps_code os p)) (sym e) ∙ known.owed);
+      after = ap (λ ws. waiting_after ws more) behind ∙ ap (λ p. waiting_after os p) (sym e) ∙ known.after;
       room = omega (arith, ap words_of e, known.room);
       locals = (subst (LocalsBelow 1008) e known.locals).1;
       in_words = λ h. known.in_words (subst OfWords (sym e) (c.in_ok-emit_step.ensures.of_words, h));
     }
 
-pub emit_test-returns-in_ok-emit_steps-in-Holds-clause-code : goal.emit_test-returns-in_ok-emit_steps-in-Holds-clause-code
-emit_test-returns-in_ok-emit_steps-in-Holds-clause-code t c =
+pub emit_block-returns-clause-code : goal.emit_block-returns-clause-code
+emit_block-returns-clause-code t c =
+    let old = c.args.code.now.items in
+    let p = steps_of c.args.steps.now in
+    let a = steps_code [] p in
+    let os = waiting_after [] p in
+    let first = c.in_ok-emit_steps.ensures.code ∙ ap (λ ws. old ++ instructions (steps_code ws p)) c.new-waiting.ensures.items in
+    let after = c.deref.ensures.value ∙ c.in_ok-emit_steps.ensures.waiting ∙ ap (λ ws. waiting_after ws p) c.new-waiting.ensures.items in
+    part_behind c.emit_flushed.result old c.emit_steps.new.code.items c.emit_flushed.new.code.items a (flushed c.deref.result.now) (flushed os) _
+    first (ap flushed after) refl c.emit_flushed.ensures
+
+pub emit_test-returns-in_ok-emit_block-in-Holds-clause-code : goal.emit_test-returns-in_ok-emit_block-in-Holds-clause-code
+emit_test-returns-in_ok-emit_block-in-Holds-clause-code t c =
     let old = c.args.code.now.items in
     let last = holds_code c.args.when c.args.over in
-    let first = c.in_ok-emit_steps-in-Holds.ensures.code ∙ ap (λ s. old ++ instructions (code_of (steps_of s))) c.deref.ensures.value in
+    let first = c.in_ok-emit_block-in-Holds.ensures.code ∙ ap (λ s. old ++ instructions (code_of (steps_of s))) c.deref.ensures.value in
     let is = ap test_of c.in-Holds.is ∙ test_of-holds c.in-Holds.steps in
-    part_behind c.emit_holds.result old c.emit_steps.new.code.items c.emit_holds.new.code.items (code_of (steps_of c.in-Holds.steps.items)) last last _
+    part_behind c.emit_holds.result old c.emit_block.new.code.items c.emit_holds.new.code.items (code_of (steps_of c.in-Holds.steps.items)) last last _
     first refl (ap (λ q. test_code q c.args.when c.args.over) (sym is)) c.emit_holds.ensures
 
-pub emit_test-returns-in_ok-emit_steps-in-Compares-clause-code : goal.emit_test-returns-in_ok-emit_steps-in-Compares-clause-code
-emit_test-returns-in_ok-emit_steps-in-Compares-clause-code t c =
+pub emit_test-returns-in_ok-emit_block-in-Compares-clause-code : goal.emit_test-returns-in_ok-emit_block-in-Compares-clause-code
+emit_test-returns-in_ok-emit_block-in-Compares-clause-code t c =
     let old = c.args.code.now.items in
     let p = steps_of c.in-Compares.steps.items in
     let last = compares_code c.in-Compares.comparison c.args.when c.args.over in
-    let first = c.in_ok-emit_steps-in-Compares.ensures.code ∙ ap (λ s. old ++ instructions (code_of (steps_of s))) c.deref-in-Compares.ensures.value in
+    let first = c.in_ok-emit_block-in-Compares.ensures.code ∙ ap (λ s. old ++ instructions (code_of (steps_of s))) c.deref-in-Compares.ensures.value in
     let is = ap test_of c.in-Compares.is ∙ test_of-compares c.in-Compares.comparison c.in-Compares.steps in
-    part_behind c.emit_compares.result old c.emit_steps-in-Compares.new.code.items c.emit_compares.new.code.items (code_of p) last last _
+    part_behind c.emit_compares.result old c.emit_block-in-Compares.new.code.items c.emit_compares.new.code.items (code_of p) last last _
     first refl (ap (λ q. test_code q c.args.when c.args.over) (sym is)) c.emit_compares.ensures
 
 pub emit_truth-returns-clause-code : goal.emit_truth-returns-clause-code
 emit_truth-returns-clause-code t c =
-    part_behind c.emit_truth_code.result c.args.code.now.items c.emit_test.new.code.items c.emit_truth_code.new.code.items
-    (test_code (test_of c.args.test.now) false 2) truth_code truth_code _ c.in_ok-emit_test.ensures.code refl refl c.emit_truth_code.ensures
+    let old = c.args.code.now.items in
+    let pushes = flushed c.args.waiting.now.items in
+    let test = test_code (test_of c.args.test.now) false 2 in
+    let first = c.in_ok-emit_test.ensures.code ∙ ap (λ l. l ++ instructions test) c.in_ok-emit_all.ensures.code ∙ two_behind old pushes test in
+    part_behind c.emit_truth_code.result old c.emit_test.new.code.items c.emit_truth_code.new.code.items
+    (pushes ++ test) truth_code truth_code _ first refl (append_assoc pushes test truth_code) c.emit_truth_code.ensures
 
 pub emit_step-returns-in-VersionedRead-clause-code : goal.emit_step-returns-in-VersionedRead-clause-code
 emit_step-returns-in-VersionedRead-clause-code t c =
     let is = ap step_of c.in-VersionedRead.is ∙ step_of-read c.in-VersionedRead.place c.in-VersionedRead.list in
     subst (λ s. OnOk c.emit_versioned_read.result
-    (c.emit_versioned_read.new.code.items ≡ c.args.code.now.items ++ instructions (step_code s))) (sym is) c.emit_versioned_read.ensures.code
+    (c.emit_versioned_read.new.code.items ≡ c.args.code.now.items ++ instructions (step_code c.args.waiting.now.items s))) (sym is)
+    c.emit_versioned_read.ensures.code
+
+pub emit_step-returns-in-VersionedRead-clause-waiting : goal.emit_step-returns-in-VersionedRead-clause-waiting
+emit_step-returns-in-VersionedRead-clause-waiting t c =
+    let is = ap step_of c.in-VersionedRead.is ∙ step_of-read c.in-VersionedRead.place c.in-VersionedRead.list in
+    subst (λ s. OnOk c.emit_versioned_read.result (c.emit_versioned_read.new.waiting.items ≡ waiting_behind c.args.waiting.now.items s)) (sym is)
+    c.emit_versioned_read.ensures.waiting
 
 pub emit_step-returns-in-VersionedRead-clause-of_words : goal.emit_step-returns-in-VersionedRead-clause-of_words
 emit_step-returns-in-VersionedRead-clause-of_words t c =
     let is = ap step_of c.in-VersionedRead.is ∙ step_of-read c.in-VersionedRead.place c.in-VersionedRead.list in
     subst (λ s. OnOk c.emit_versioned_read.result (StepOfWords s)) (sym is) c.emit_versioned_read.ensures.of_words
+
+pub emit_step-returns-in-VersionedWrite-clause-code : goal.emit_step-returns-in-VersionedWrite-clause-code
+emit_step-returns-in-VersionedWrite-clause-code t c =
+    let is = ap step_of c.in-VersionedWrite.is ∙ step_of-write c.in-VersionedWrite.place c.in-VersionedWrite.list in
+    subst (λ s. OnOk c.emit_versioned_write.result
+    (c.emit_versioned_write.new.code.items ≡ c.args.code.now.items ++ instructions (step_code c.args.waiting.now.items s))) (sym is)
+    c.emit_versioned_write.ensures.code
+
+pub emit_step-returns-in-VersionedWrite-clause-waiting : goal.emit_step-returns-in-VersionedWrite-clause-waiting
+emit_step-returns-in-VersionedWrite-clause-waiting t c =
+    let is = ap step_of c.in-VersionedWrite.is ∙ step_of-write c.in-VersionedWrite.place c.in-VersionedWrite.list in
+    subst (λ s. OnOk c.emit_versioned_write.result (c.emit_versioned_write.new.waiting.items ≡ waiting_behind c.args.waiting.now.items s)) (sym is)
+    c.emit_versioned_write.ensures.waiting
 
 pub emit_step-returns-in-VersionedWrite-clause-of_words : goal.emit_step-returns-in-VersionedWrite-clause-of_words
 emit_step-returns-in-VersionedWrite-clause-of_words t c =
@@ -200,7 +239,7 @@ emit_loop-code_words-over-requires t c =
     let made = code_of body in
     let end = turn_end n c.args.below in
     let turn = c.in_ok-emit_turn_end.ensures ∙ ap (λ l. l ++ instructions end)
-    (c.in_ok-emit_steps.ensures.code ∙ ap (λ l. l ++ instructions made) c.new-turn.ensures.items) ∙ sym (instructions-append made end) in
+    (c.in_ok-emit_block.ensures.code ∙ ap (λ l. l ++ instructions made) c.new-turn.ensures.items) ∙ sym (instructions-append made end) in
     let words = own_words c.deref-then-from-below.result.now (made ++ end) (c.deref-then-from-below.ensures.value ∙ turn) in
     omega (arith, words, forms_bytes-append made end, code_short body, turn_end_short n c.args.below, c.requires.room)
 
@@ -211,7 +250,7 @@ emit_loop-emit_jump_back-requires t c =
     let made = code_of body in
     let end = turn_end n c.args.below in
     let turn = c.in_ok-emit_turn_end.ensures ∙ ap (λ l. l ++ instructions end)
-    (c.in_ok-emit_steps.ensures.code ∙ ap (λ l. l ++ instructions made) c.new-turn.ensures.items) ∙ sym (instructions-append made end) in
+    (c.in_ok-emit_block.ensures.code ∙ ap (λ l. l ++ instructions made) c.new-turn.ensures.items) ∙ sym (instructions-append made end) in
     let words = own_words c.deref-then-from-below.result.now (made ++ end) (c.deref-then-from-below.ensures.value ∙ turn) in
     omega (arith, words, forms_bytes-append made end, code_short body, turn_end_short n c.args.below, c.requires.room, c.code_words-over.ensures)
 
@@ -220,105 +259,98 @@ emit_loop-returns-then-from-below-clause-code t c =
     let old = c.args.code.now.items in
     let below = c.args.below in
     let made = code_of (steps_of c.args.body.now) in
+    let pushes = flushed c.args.waiting.now.items in
     let start = number_code c.args.n c.args.from in
     let turn = made ++ turn_end c.args.n below in
     let back = jump_back condition.NotEqual condition.Equal in
     let own = c.in_ok-emit_turn_end.ensures ∙ ap (λ l. l ++ instructions (turn_end c.args.n below))
-    (c.in_ok-emit_steps.ensures.code ∙ ap (λ l. l ++ instructions made) c.new-turn.ensures.items) ∙ sym (instructions-append made (turn_end c.args.n below)) in
+    (c.in_ok-emit_block.ensures.code ∙ ap (λ l. l ++ instructions made) c.new-turn.ensures.items) ∙ sym (instructions-append made (turn_end c.args.n below)) in
     let words = own_words c.deref-then-from-below.result.now turn (c.deref-then-from-below.ensures.value ∙ own) in
     let first = c.in_ok-extend_from_slice.ensures.items ∙ ap (λ l. c.emit_number.new.code.items ++ l) (c.deref.ensures.value ∙ own)
-    ∙ ap (λ l. l ++ instructions turn) c.in_ok-emit_number.ensures ∙ two_behind old start turn in
-    part_behind c.emit_jump_back.result old c.extend_from_slice.new.self.items c.emit_jump_back.new.code.items (start ++ turn)
+    ∙ ap (λ l. l ++ instructions turn) c.in_ok-emit_number.ensures ∙ two_behind c.emit_all.new.code.items start turn
+    ∙ ap (λ l. l ++ instructions (start ++ turn)) c.in_ok-emit_all.ensures.code ∙ two_behind old pushes (start ++ turn) in
+    part_behind c.emit_jump_back.result old c.extend_from_slice.new.self.items c.emit_jump_back.new.code.items (pushes ++ (start ++ turn))
     (back c.code_words-over.result) (back (size turn)) _ first (ap back (c.code_words-over.ensures ∙ words))
-    (append_assoc start turn (back (size turn))
-    ∙ ap (λ b. start ++ (if b then turns_code c.args.n below made else [])) (sym (lt-ltb c.args.from below c.if-from-below.true)))
+    (append_assoc pushes (start ++ turn) (back (size turn)) ∙ ap (λ l. pushes ++ l) (append_assoc start turn (back (size turn)))
+    ∙ ap (λ b. pushes ++ (start ++ (if b then turns_code c.args.n below made else []))) (sym (lt-ltb c.args.from below c.if-from-below.true)))
     c.emit_jump_back.ensures
 
-pub emit_step-code_words-requires : goal.emit_step-code_words-requires
-emit_step-code_words-requires t c =
-    let of = c.in-Choose in
-    let is = ap step_of of.is ∙ step_of-choose of.test of.taken of.otherwise in
-    let b = code_of (steps_of of.taken.items) in
-    let other = code_of (steps_of of.otherwise.items) in
-    let otherwise = c.in_ok-emit_steps-in-Choose.ensures.code ∙ ap (λ s. c.new-other.result.items ++ instructions (code_of (steps_of s))) c.deref.ensures.value
-    ∙ ap (λ l. l ++ instructions other) c.new-other.ensures.items in
-    let behind = own_words c.deref-in-Choose-2.result.now other (c.deref-in-Choose-2.ensures.value ∙ otherwise) in
-    omega (arith, behind, code_short (steps_of of.otherwise.items), ap step_words is, c.requires.room)
+pub emit_choice-code_words-requires : goal.emit_choice-code_words-requires
+emit_choice-code_words-requires t c =
+    let p = steps_of c.args.otherwise.now in
+    let other = code_of p in
+    let otherwise = c.in_ok-emit_block.ensures.code ∙ ap (λ l. l ++ instructions other) c.new-other.ensures.items in
+    let behind = own_words c.deref.result.now other (c.deref.ensures.value ∙ otherwise) in
+    omega (arith, behind, code_short p, c.requires.room)
 
-pub emit_step-emit_pass_over-requires : goal.emit_step-emit_pass_over-requires
-emit_step-emit_pass_over-requires t c =
-    let of = c.in-Choose in
-    let is = ap step_of of.is ∙ step_of-choose of.test of.taken of.otherwise in
-    let b = code_of (steps_of of.taken.items) in
-    let other = code_of (steps_of of.otherwise.items) in
-    let otherwise = c.in_ok-emit_steps-in-Choose.ensures.code ∙ ap (λ s. c.new-other.result.items ++ instructions (code_of (steps_of s))) c.deref.ensures.value
-    ∙ ap (λ l. l ++ instructions other) c.new-other.ensures.items in
-    let behind = own_words c.deref-in-Choose-2.result.now other (c.deref-in-Choose-2.ensures.value ∙ otherwise) in
-    omega (arith, behind, code_short (steps_of of.otherwise.items), ap step_words is, c.requires.room, c.code_words.ensures)
+pub emit_choice-emit_pass_over-requires : goal.emit_choice-emit_pass_over-requires
+emit_choice-emit_pass_over-requires t c =
+    let p = steps_of c.args.otherwise.now in
+    let other = code_of p in
+    let otherwise = c.in_ok-emit_block.ensures.code ∙ ap (λ l. l ++ instructions other) c.new-other.ensures.items in
+    let behind = own_words c.deref.result.now other (c.deref.ensures.value ∙ otherwise) in
+    omega (arith, behind, code_short p, c.requires.room, c.code_words.ensures)
 
-pub emit_step-code_words-requires-in-Choose : goal.emit_step-code_words-requires-in-Choose
-emit_step-code_words-requires-in-Choose t c =
-    let of = c.in-Choose in
-    let is = ap step_of of.is ∙ step_of-choose of.test of.taken of.otherwise in
-    let b = code_of (steps_of of.taken.items) in
-    let other = code_of (steps_of of.otherwise.items) in
+pub emit_choice-code_words-requires-2 : goal.emit_choice-code_words-requires-2
+emit_choice-code_words-requires-2 t c =
+    let p = steps_of c.args.otherwise.now in
+    let q = steps_of c.args.taken.now in
+    let b = code_of q in
+    let other = code_of p in
     let over = pass_over (size other) in
-    let otherwise = c.in_ok-emit_steps-in-Choose.ensures.code ∙ ap (λ s. c.new-other.result.items ++ instructions (code_of (steps_of s))) c.deref.ensures.value
-    ∙ ap (λ l. l ++ instructions other) c.new-other.ensures.items in
-    let behind = own_words c.deref-in-Choose-2.result.now other (c.deref-in-Choose-2.ensures.value ∙ otherwise) in
-    let taken = c.in_ok-emit_steps-in-Choose-2.ensures.code ∙ ap (λ s. c.new-first.result.items ++ instructions (code_of (steps_of s))) c.deref-in-Choose.ensures.value
-    ∙ ap (λ l. l ++ instructions b) c.new-first.ensures.items in
-    let first = c.in_ok-emit_pass_over-in-Choose.ensures
-    ∙ ap (λ n. c.emit_steps-in-Choose.new.code.items ++ instructions (pass_over n)) (c.code_words.ensures ∙ behind)
+    let otherwise = c.in_ok-emit_block.ensures.code ∙ ap (λ l. l ++ instructions other) c.new-other.ensures.items in
+    let behind = own_words c.deref.result.now other (c.deref.ensures.value ∙ otherwise) in
+    let taken = c.in_ok-emit_block-2.ensures.code ∙ ap (λ l. l ++ instructions b) c.new-first.ensures.items in
+    let first = c.in_ok-emit_pass_over.ensures
+    ∙ ap (λ n. c.emit_block-2.new.code.items ++ instructions (pass_over n)) (c.code_words.ensures ∙ behind)
     ∙ ap (λ l. l ++ instructions over) taken ∙ sym (instructions-append b over) in
-    let words = own_words c.deref-in-Choose-3.result.now (b ++ over) (c.deref-in-Choose-3.ensures.value ∙ first) in
-    omega (arith, words, forms_bytes-append b over, code_short (steps_of of.taken.items), pass_short (size other), ap step_words is, c.requires.room)
+    let words = own_words c.deref-2.result.now (b ++ over) (c.deref-2.ensures.value ∙ first) in
+    omega (arith, words, forms_bytes-append b over, code_short q, pass_short (size other), c.requires.room)
 
-pub emit_step-emit_test-requires : goal.emit_step-emit_test-requires
-emit_step-emit_test-requires t c =
-    let of = c.in-Choose in
-    let is = ap step_of of.is ∙ step_of-choose of.test of.taken of.otherwise in
-    let b = code_of (steps_of of.taken.items) in
-    let other = code_of (steps_of of.otherwise.items) in
+pub emit_choice-emit_test-requires : goal.emit_choice-emit_test-requires
+emit_choice-emit_test-requires t c =
+    let p = steps_of c.args.otherwise.now in
+    let q = steps_of c.args.taken.now in
+    let b = code_of q in
+    let other = code_of p in
     let over = pass_over (size other) in
-    let otherwise = c.in_ok-emit_steps-in-Choose.ensures.code ∙ ap (λ s. c.new-other.result.items ++ instructions (code_of (steps_of s))) c.deref.ensures.value
-    ∙ ap (λ l. l ++ instructions other) c.new-other.ensures.items in
-    let behind = own_words c.deref-in-Choose-2.result.now other (c.deref-in-Choose-2.ensures.value ∙ otherwise) in
-    let taken = c.in_ok-emit_steps-in-Choose-2.ensures.code ∙ ap (λ s. c.new-first.result.items ++ instructions (code_of (steps_of s))) c.deref-in-Choose.ensures.value
-    ∙ ap (λ l. l ++ instructions b) c.new-first.ensures.items in
-    let first = c.in_ok-emit_pass_over-in-Choose.ensures
-    ∙ ap (λ n. c.emit_steps-in-Choose.new.code.items ++ instructions (pass_over n)) (c.code_words.ensures ∙ behind)
+    let otherwise = c.in_ok-emit_block.ensures.code ∙ ap (λ l. l ++ instructions other) c.new-other.ensures.items in
+    let behind = own_words c.deref.result.now other (c.deref.ensures.value ∙ otherwise) in
+    let taken = c.in_ok-emit_block-2.ensures.code ∙ ap (λ l. l ++ instructions b) c.new-first.ensures.items in
+    let first = c.in_ok-emit_pass_over.ensures
+    ∙ ap (λ n. c.emit_block-2.new.code.items ++ instructions (pass_over n)) (c.code_words.ensures ∙ behind)
     ∙ ap (λ l. l ++ instructions over) taken ∙ sym (instructions-append b over) in
-    let words = own_words c.deref-in-Choose-3.result.now (b ++ over) (c.deref-in-Choose-3.ensures.value ∙ first) in (
+    let words = own_words c.deref-2.result.now (b ++ over) (c.deref-2.ensures.value ∙ first) in (
       search (rules, word_step.the_lemmas),
       (
-        omega (arith, words, forms_bytes-append b over, code_short (steps_of of.taken.items), pass_short (size other), ap step_words is, c.requires.room, c.code_words-in-Choose.ensures),
-        (subst (StepLocalsBelow 1008) is c.requires.locals).0,
+        omega (arith, words, forms_bytes-append b over, code_short q, pass_short (size other), c.requires.room, c.code_words-2.ensures),
+        c.requires.test,
       ),
     )
 
-pub emit_step-returns-in_ok-extend_from_slice-in-Choose-clause-code : goal.emit_step-returns-in_ok-extend_from_slice-in-Choose-clause-code
-emit_step-returns-in_ok-extend_from_slice-in-Choose-clause-code t c =
-    let of = c.in-Choose in
-    let is = ap step_of of.is ∙ step_of-choose of.test of.taken of.otherwise in
-    let b = code_of (steps_of of.taken.items) in
-    let other = code_of (steps_of of.otherwise.items) in
+pub emit_choice-returns-clause-code : goal.emit_choice-returns-clause-code
+emit_choice-returns-clause-code t c =
+    let p = steps_of c.args.otherwise.now in
+    let q = steps_of c.args.taken.now in
+    let b = code_of q in
+    let other = code_of p in
     let over = pass_over (size other) in
-    let otherwise = c.in_ok-emit_steps-in-Choose.ensures.code ∙ ap (λ s. c.new-other.result.items ++ instructions (code_of (steps_of s))) c.deref.ensures.value
-    ∙ ap (λ l. l ++ instructions other) c.new-other.ensures.items in
-    let behind = own_words c.deref-in-Choose-2.result.now other (c.deref-in-Choose-2.ensures.value ∙ otherwise) in
-    let taken = c.in_ok-emit_steps-in-Choose-2.ensures.code ∙ ap (λ s. c.new-first.result.items ++ instructions (code_of (steps_of s))) c.deref-in-Choose.ensures.value
-    ∙ ap (λ l. l ++ instructions b) c.new-first.ensures.items in
-    let first = c.in_ok-emit_pass_over-in-Choose.ensures
-    ∙ ap (λ n. c.emit_steps-in-Choose.new.code.items ++ instructions (pass_over n)) (c.code_words.ensures ∙ behind)
+    let otherwise = c.in_ok-emit_block.ensures.code ∙ ap (λ l. l ++ instructions other) c.new-other.ensures.items in
+    let behind = own_words c.deref.result.now other (c.deref.ensures.value ∙ otherwise) in
+    let taken = c.in_ok-emit_block-2.ensures.code ∙ ap (λ l. l ++ instructions b) c.new-first.ensures.items in
+    let first = c.in_ok-emit_pass_over.ensures
+    ∙ ap (λ n. c.emit_block-2.new.code.items ++ instructions (pass_over n)) (c.code_words.ensures ∙ behind)
     ∙ ap (λ l. l ++ instructions over) taken ∙ sym (instructions-append b over) in
-    let words = own_words c.deref-in-Choose-3.result.now (b ++ over) (c.deref-in-Choose-3.ensures.value ∙ first) in
+    let words = own_words c.deref-2.result.now (b ++ over) (c.deref-2.ensures.value ∙ first) in
     let old = c.args.code.now.items in
-    let test = test_code (test_of of.test) false (size (b ++ over)) in
-    let tested = c.in_ok-emit_test-in-Choose.ensures.code
-    ∙ ap (λ n. old ++ instructions (test_code (test_of of.test) false n)) (c.code_words-in-Choose.ensures ∙ words) in
-    let added = c.in_ok-extend_from_slice-in-Choose.ensures.items ∙ ap (λ l. c.emit_test.new.code.items ++ l) (c.deref-in-Choose-4.ensures.value ∙ first)
-    ∙ ap (λ l. l ++ instructions (b ++ over)) tested ∙ two_behind old test (b ++ over) in
-    own_behind c.extend_from_slice-in-Choose.result old _ c.deref-in-Choose-5.result.now _ (test ++ (b ++ over)) other _ added
-    (c.deref-in-Choose-5.ensures.value ∙ otherwise) (append_assoc test (b ++ over) other ∙ ap step_code (sym is))
-    (on_ok_items c.extend_from_slice-in-Choose.result _ _ _ c.extend_from_slice-in-Choose.ensures.items)
+    let pushes = flushed c.args.waiting.now.items in
+    let test = test_code (test_of c.args.test.now) false (size (b ++ over)) in
+    let tested = c.in_ok-emit_test.ensures.code
+    ∙ ap (λ n. c.emit_all.new.code.items ++ instructions (test_code (test_of c.args.test.now) false n)) (c.code_words-2.ensures ∙ words)
+    ∙ ap (λ l. l ++ instructions test) c.in_ok-emit_all.ensures.code ∙ two_behind old pushes test in
+    let added = c.in_ok-extend_from_slice.ensures.items ∙ ap (λ l. c.emit_test.new.code.items ++ l) (c.deref-3.ensures.value ∙ first)
+    ∙ ap (λ l. l ++ instructions (b ++ over)) tested ∙ two_behind old (pushes ++ test) (b ++ over) in
+    own_behind c.extend_from_slice-2.result old _ c.deref-4.result.now _ ((pushes ++ test) ++ (b ++ over)) other _ added
+    (c.deref-4.ensures.value ∙ otherwise)
+    (append_assoc (pushes ++ test) (b ++ over) other ∙ append_assoc pushes test ((b ++ over) ++ other))
+    (on_ok_items c.extend_from_slice-2.result _ _ _ c.extend_from_slice-2.ensures.items)

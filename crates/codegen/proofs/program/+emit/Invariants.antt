@@ -3,14 +3,16 @@ use Rattle.code_forms.specs.Placed.{instructions}
 use Rattle.array_versions.specs.View.{steps_of}
 use Rattle.array_versions.specs.Form.{LocalsBelow, OfWords}
 use Rattle.array_versions.specs.Cost.{words_of}
-use Rattle.codegen.specs.Code.{code_of}
+use Rattle.codegen.specs.Code.{waiting_after, steps_code}
 use Rattle.codegen.proofs.program.+emit.Given as goal
 
 abbrev pub invariant-emit_steps-loop-step : goal.invariant-emit_steps-loop-step
 invariant-emit_steps-loop-step l =
     let left = steps_of (drop l.step-index l.steps) in
     record {
-      owed : l.code.items ++ instructions (code_of left) ≡ l.initial.code.items ++ instructions (code_of (steps_of l.steps));
+      owed : l.code.items ++ instructions (steps_code l.waiting.items left)
+          ≡ l.initial.code.items ++ instructions (steps_code l.initial.waiting.items (steps_of l.steps));
+      after : waiting_after l.waiting.items left ≡ waiting_after l.initial.waiting.items (steps_of l.steps);
       room : words_of left ≤ 0x7FFF;
       locals : LocalsBelow 1008 left;
       in_words : OfWords left → OfWords (steps_of l.steps);

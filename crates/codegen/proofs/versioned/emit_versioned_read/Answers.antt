@@ -1,14 +1,13 @@
-use Rattle.std.proofs.Common.{◌++◌, refl, ap, ◌∙◌}
-use Rattle.codegen.proofs.Emitted.{cons, from_source}
+use Rattle.std.proofs.Common.{◌++◌, ◌∷◌, ap, ◌∙◌}
+use Rattle.std.proofs.lemmas.Result.{on_ok_weaker}
+use Rattle.code_forms.specs.Placed.{instructions}
+use Rattle.codegen.specs.Code.{top_to_four, read_code}
+use Rattle.codegen.proofs.Emitted.{two_behind}
 use Rattle.codegen.proofs.versioned.emit_versioned_read.Goals as goal
 
 pub returns-clause-code : goal.returns-clause-code
 returns-clause-code c =
-    c.in_ok-extend_from_slice.ensures.items ∙ ap (λ l. c.args.code.now.items ++ l)
-    (cons _ _ _ _ c.two.ensures (cons _ _ _ _ c.two-2.ensures
-    (cons _ _ _ _ c.jump.ensures (cons _ _ _ _ c.two-3.ensures
-    (cons _ _ _ _ (from_source _ _ _ _ _ c.two-4.ensures c.absolute.ensures)
-    (cons _ _ _ _ (from_source _ _ _ _ _ c.two-5.ensures c.at_r4.ensures)
-    (cons _ _ _ _ c.jump-2.ensures (cons _ _ _ _ (from_source _ _ _ _ _ c.two-6.ensures c.at_r4-2.ensures)
-    (cons _ _ _ _ c.jump-3.ensures (cons _ _ _ _ (from_source _ _ _ _ _ c.two-7.ensures c.at_r4-3.ensures)
-    (cons _ _ _ _ c.jump-4.ensures (cons _ _ _ _ (from_source _ _ _ _ _ c.two-8.ensures c.constant.ensures) (cons _ _ _ _ c.push.ensures refl)))))))))))))
+    let old = c.args.code.now.items in
+    let front = top_to_four c.args.waiting.now.items in
+    let ms = read_code c.args.place c.args.list in
+    on_ok_weaker c.wait.result (λ w. c.in_ok-emit_read.ensures.code ∙ ap (λ l. l ++ instructions ms) c.in_ok-emit_top_to_four.ensures.code ∙ two_behind old front ms) c.wait.ensures

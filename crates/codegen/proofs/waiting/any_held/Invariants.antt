@@ -1,0 +1,6 @@
+use Rattle.std.proofs.Common.{◌≡◌, drop}
+use Rattle.codegen.specs.Code.{any_held}
+use Rattle.codegen.proofs.waiting.any_held.Given as goal
+
+abbrev pub invariant-loop-word : goal.invariant-loop-word
+invariant-loop-word l = any_held (drop l.word-index l.waiting) ≡ any_held l.waiting

@@ -1,0 +1,7 @@
+use Rattle.std.proofs.Common.{◌≡◌, ◌-◌, ◌++◌, drop, length}
+use Rattle.code_forms.specs.Placed.{instructions}
+use Rattle.codegen.specs.Code.{flushed}
+use Rattle.codegen.proofs.waiting.emit_flushed.Given as goal
+
+abbrev pub invariant-loop-i : goal.invariant-loop-i
+invariant-loop-i l = l.code.items ≡ l.initial.code.items ++ instructions (flushed (drop (length l.waiting - l.i) l.waiting))
