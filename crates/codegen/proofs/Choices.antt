@@ -12,15 +12,15 @@ use Rattle.msp_isa.specs.declared.operands.Konst.TheVariants as konst
 use Rattle.array_versions.specs.msp_step.Effect.{is_met}
 use Rattle.code_forms.specs.Forms.{R4, R5, Core, Register, Constant, Form, Calculate, instruction_of}
 use Rattle.code_forms.specs.Code.{Stands, forms_bytes, forms_run, Runs}
-use Rattle.code_forms.proofs.Interface.{forms_behind, end_of, stands_at}
+use Rattle.code_forms.proofs.Interface.{end_of, stands_at}
 use Rattle.array_versions.specs.declared.operations.Comparison.{Comparison}
 use Rattle.array_versions.specs.declared.operations.Comparison.TheVariants.{Equal, Below, Above, SignedBelow, SignedAbove, CommonBit}
 use Rattle.array_versions.specs.Operations.{is_true, compare_words}
-use Rattle.array_versions.specs.Behaviour.{WordState, Behaviour, with_stack}
-use Rattle.codegen.specs.Code.{pop_to, compare_form, holding, failing, jump_over, decision, holds_code}
-use Rattle.codegen.proofs.Stretches.{Setting, straight, runs_on}
+use Rattle.array_versions.specs.Behaviour.{WordState, Behaviour}
+use Rattle.codegen.specs.Code.{compare_form, holding, failing, jump_over, decision}
+use Rattle.codegen.proofs.Stretches.{Setting, straight, runs_on, so_runs}
 use Rattle.codegen.proofs.Follows.{StandsFor, Follows, then_end, stands_elsewhere}
-use Rattle.codegen.proofs.Registers.{zero_flag, HasTwo, pop_part, pop_two}
+use Rattle.codegen.proofs.Registers.{zero_flag, Has, HasTwo}
 use Rattle.codegen.proofs.Jumps.{stands_low, Decided, over_part}
 use Rattle.codegen.proofs.Values.{difference_flags, compared_flags, compare_met, failing_met}
 
@@ -86,23 +86,20 @@ module _ (z : Setting) where
 
   -- ---- whether the top isn't 0
 
-  abbrev zero_test : Form
+  abbrev pub zero_test : Form
   zero_test = Calculate op.Cmp (Constant konst.Zero) R4
 
-  pub holds_part : (when : Bool) (pc v d : ℕ) (vs : List ℕ) (w : WordState) (u : Core) → w.stack ≡ v ∷ vs → v < 0x10000
-      → Stands z.code pc (holds_code when d) → StandsFor z pc w u
-      → Runs z.code [] 3 u (Decided z (pc + 4) (with_stack vs w) (is_true v) condition.NotEqual condition.Equal)
-  holds_part when pc v d vs w u e l h i =
+  pub holds_part : (pc v : ℕ) (w : WordState) (t : Core) → v < 0x10000 → z.code pc ≡ Some (instruction_of zero_test) → Has z R4 pc w v t
+      → Runs z.code [] 1 t (Decided z (pc + 2) w (is_true v) condition.NotEqual condition.Equal)
+  holds_part pc v w t l h k =
       let ms = zero_test ∷ [] in
-      runs_on z 2 1 u _ _ [] [] (pop_part z pc v vs w u e h.0 i) (λ t k.
       let zero : ((t.work 4 + 65535 + 1) % 65536 == 0) ≡ (v == 0) = ap (λ x. (x + 65535 + 1) % 65536 == 0) k.value ∙ zero_flag v l in
-      straight z ms 1 t (end_of t (forms_run ms t).status) [] 1 _ (tt, tt) (stands_at z.code (pc + 2) ms t (h.1.0, tt) k.is.at) ((tt, tt), tt) refl
-      (omega arith)
+      straight z ms 1 t (end_of t (forms_run ms t).status) [] 1 _ (tt, tt) (stands_at z.code pc ms t (h, tt) k.is.at) ((tt, tt), tt) refl (omega arith)
       (record {
-        is = stands_elsewhere z (pc + 2) (pc + 4) (with_stack vs w) t _ k.is (omega (arith, k.is.at)) refl refl refl refl refl;
+        is = stands_elsewhere z pc (pc + 2) w t _ k.is (omega (arith, k.is.at)) refl refl refl refl refl;
         holds = ap not zero;
         fails = zero ∙ sym (not-not (v == 0));
-      }))
+      })
 
   -- ---- whether two words compare so
 
@@ -150,24 +147,10 @@ module _ (z : Setting) where
   compare_part SignedAbove = right_part
   compare_part CommonBit = bits_part
 
-  pub compares_part : (c : Comparison) (pc x y : ℕ) (vs : List ℕ) (w : WordState) (u : Core) → w.stack ≡ y ∷ (x ∷ vs)
-      → x < 0x10000 → y < 0x10000 → Stands z.code pc (pop_to R5 ∷ pop_to R4 ∷ compare_form c ∷ []) → StandsFor z pc w u
-      → Runs z.code [] 5 u (Decided z (pc + 6) (with_stack vs w) (compare_words c x y) (holding c) (failing c))
-  compares_part c pc x y vs w u e l m h i =
-      let v = with_stack vs w in
-      let here = (forms_behind z.code pc 2 (pop_to R5 ∷ pop_to R4 ∷ compare_form c ∷ []) h).0 in
-      runs_on z 4 1 u _ _ [] [] (pop_two z pc x y vs w u e (h.0, (h.1.0, tt)) i) (λ t k.
-      as_decided t (compare_part c (pc + 4) (pc + 6) x y v t (omega arith) here k))
-    where
-      as_decided : (t : Core) → Runs z.code [] 1 t (HasFlags (pc + 6) (with_stack vs w) (compared_flags c x y))
-          → Runs z.code [] 1 t (Decided z (pc + 6) (with_stack vs w) (compare_words c x y) (holding c) (failing c))
-      as_decided t r =
-          let met = ap (is_met (holding c)) r.holds.flags ∙ compare_met c x y l m in
-          record {
-            steps = r.steps;
-            cycles = r.cycles;
-            end = r.end;
-            within = r.within;
-            leads = r.leads;
-            holds = record { is = r.holds.is; holds = met; fails = failing_met c r.end.flags ∙ ap not met };
-          }
+  pub compares_part : (c : Comparison) (pc x y : ℕ) (w : WordState) (t : Core) → x < 0x10000 → y < 0x10000 → z.code pc ≡ Some (instruction_of (compare_form c))
+      → HasTwo z pc w x y t → Runs z.code [] 1 t (Decided z (pc + 2) w (compare_words c x y) (holding c) (failing c))
+  compares_part c pc x y w t l m h k =
+      so_runs z [] 1 t (HasFlags (pc + 2) w (compared_flags c x y)) _ (λ s j.
+      let met = ap (is_met (holding c)) j.flags ∙ compare_met c x y l m in
+      record { is = j.is; holds = met; fails = failing_met c s.flags ∙ ap not met })
+      (compare_part c pc (pc + 2) x y w t refl h k)

@@ -1,6 +1,6 @@
 -- Code that is appended piece by piece.
 use Rattle.std.proofs.Common.{◌≡◌, ℕ, suc, ◌+◌, ◌-◌, ◌<◌, ◌≤◌, List, [], ◌∷◌, ◌++◌, length, drop, get_or, sym, ap, ◌∙◌, arith, append_assoc}
-use Rattle.std.proofs.Common.{drop-cons, refl, Some, ◌||◌}
+use Rattle.std.proofs.Common.{drop-cons, refl, Some, ◌||◌, ◌==◌}
 use Rattle.std.specs.List.{insert, remove, slice_index_or}
 use Rattle.std.proofs.Common.{add-one, rules, Bool, true, false, if◌then◌else◌, Result, Ok, Err, is_ok}
 use Rattle.std.specs.Result.{OnOk}
@@ -81,8 +81,8 @@ pub two_behind : (code : List Instr) (a b : List Form) → (code ++ instructions
 two_behind code a b = append_assoc code (instructions a) (instructions b) ∙ ap (λ l. code ++ l) (sym (instructions-append a b))
 
 -- a list of words that wait, its top taken or one more on it
-pub taken_is : (os : List Waiting) (x : Waiting) → 0 < length os → x ≡ slice_index_or os 0 x → Some x ≡ top_of os
-taken_is [] x l e = absurd (let q = l in (omega arith))
+pub taken_is : (os : List Waiting) (x : Waiting) → (length os == 0) ≡ false → x ≡ slice_index_or os 0 x → Some x ≡ top_of os
+taken_is [] x l e = absurd (let q = l in (cc))
 taken_is (o ∷ os) x l e = ap Some e
 
 pub left_is : (os : List Waiting) → remove os 0 ≡ below_top os
@@ -144,6 +144,13 @@ pub part_behind : {T E : Type 0} (r : Result T E) (code first new : List Instr) 
 part_behind r code first new a b c all f e is h =
     on_ok_weaker r (λ (n : new ≡ first ++ instructions b). n ∙ ap (λ l. l ++ instructions b) f ∙ ap (λ m. (code ++ instructions a) ++ instructions m) e
     ∙ two_behind code a c ∙ ap (λ m. code ++ instructions m) is) h
+
+-- one instruction, where there was memory for it
+pub one_behind : {T E : Type 0} (r : Result T E) (code first new : List Instr) (a : List Form) (m : Form) (i : Instr) → first ≡ code ++ instructions a
+    → i ≡ instruction_of m → OnOk r (new ≡ first ++ i ∷ []) → OnOk r (new ≡ code ++ instructions (a ++ m ∷ []))
+one_behind r code first new a m i f e h =
+    on_ok_weaker r (λ (n : new ≡ first ++ i ∷ []). n ∙ ap (λ l. l ++ i ∷ []) f ∙ ap (λ x. (code ++ instructions a) ++ x ∷ []) e ∙ two_behind code a (m ∷ []))
+    h
 
 -- a part that was made by itself, behind one that was made in its place
 pub own_behind : {T E : Type 0} (r : Result T E) (code first own new : List Instr) (a b all : List Form) → first ≡ code ++ instructions a

@@ -219,10 +219,17 @@ mutual
 
   test_are : (t : Test) (when : Bool) (d : ℕ) → Are (test_code t when d)
   test_are (holds p) when d =
-      are-append (code_of p) (holds_code when d) (block_are p (steps_are p [])) (tt, (tt, decision_are when d condition.NotEqual condition.Equal))
+      let os = waiting_after [] p in
+      let ks = kept (below_top os) in
+      are-append (steps_code [] p) (holds_code os when d) (steps_are p [])
+      (are-append (top_to_four os ++ flushed ks) _ (are-append (top_to_four os) (flushed ks) (top_to_four_are os) (flushed_are ks))
+      (tt, decision_are when d condition.NotEqual condition.Equal))
   test_are (compares c p) when d =
-      are-append (code_of p) (compares_code c when d) (block_are p (steps_are p []))
-      (tt, (tt, (compare_is c, decision_are when d (holding c) (failing c))))
+      let os = waiting_after [] p in
+      let ks = kept (below_top (below_top os)) in
+      are-append (steps_code [] p) (compares_code os c when d) (steps_are p [])
+      (are-append (two_to_registers os ++ flushed ks) _ (are-append (two_to_registers os) (flushed ks) (two_are os) (flushed_are ks))
+      (compare_is c, decision_are when d (holding c) (failing c)))
   test_are (both t u) when d =
       let second = test_code u when d in
       let more = size second + (if not when then d else 0) in

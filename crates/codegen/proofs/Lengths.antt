@@ -223,6 +223,32 @@ result_short (Plain o) = refl
 block_short : (p : Program) → forms_bytes (steps_code [] p) + kept_bytes (waiting_after [] p) ≤ 2 * words_of p + 0 → forms_bytes (code_of p) ≤ 2 * words_of p
 block_short p h = omega (arith, h, forms_bytes-append (steps_code [] p) (flushed (waiting_after [] p)), flushed_short (waiting_after [] p))
 
+holds_short : (os : List Waiting) (when : Bool) (d : ℕ) → forms_bytes (holds_code os when d) ≤ 10 + kept_bytes os
+holds_short os when d =
+    let ks = kept (below_top os) in
+    let tail = Calculate op.Cmp (Constant konst.Zero) R4 ∷ decision when d condition.NotEqual condition.Equal in
+    omega (
+      arith,
+      forms_bytes-append (top_to_four os ++ flushed ks) tail,
+      forms_bytes-append (top_to_four os) (flushed ks),
+      top_to_four_short os,
+      flushed_short ks,
+      decision_short when d condition.NotEqual condition.Equal,
+    )
+
+compares_short : (os : List Waiting) (c : Comparison) (when : Bool) (d : ℕ) → forms_bytes (compares_code os c when d) ≤ 12 + kept_bytes os
+compares_short os c when d =
+    let ks = kept (below_top (below_top os)) in
+    omega (
+      arith,
+      forms_bytes-append (two_to_registers os ++ flushed ks) (compare_form c ∷ decision when d (holding c) (failing c)),
+      forms_bytes-append (two_to_registers os) (flushed ks),
+      two_short os,
+      flushed_short ks,
+      compare_length c,
+      decision_short when d (holding c) (failing c),
+    )
+
 mutual
   pub step_short : (s : Step) (os : List Waiting) → forms_bytes (step_code os s) + kept_bytes (waiting_behind os s) ≤ 2 * step_words s + kept_bytes os
   step_short (number w) os = omega arith
@@ -296,11 +322,11 @@ mutual
 
   pub test_short : (t : Test) (when : Bool) (d : ℕ) → forms_bytes (test_code t when d) ≤ 2 * test_words t
   test_short (holds p) when d =
-      let e = decision_short when d condition.NotEqual condition.Equal in
-      omega (arith, forms_bytes-append (code_of p) (holds_code when d), e, block_short p (steps_short p []))
+      let os = waiting_after [] p in
+      omega (arith, forms_bytes-append (steps_code [] p) (holds_code os when d), holds_short os when d, steps_short p [])
   test_short (compares c p) when d =
-      let e = decision_short when d (holding c) (failing c) in
-      omega (arith, forms_bytes-append (code_of p) (compares_code c when d), e, compare_length c, block_short p (steps_short p []))
+      let os = waiting_after [] p in
+      omega (arith, forms_bytes-append (steps_code [] p) (compares_code os c when d), compares_short os c when d, steps_short p [])
   test_short (both t u) when d =
       let second = test_code u when d in
       let more = size second + (if not when then d else 0) in

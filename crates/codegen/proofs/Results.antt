@@ -377,7 +377,7 @@ module _ (z : Setting) where
       (λ t s i. local_part z n v (pc + forms_bytes (flushed os)) w t lt room l q s i)
 
   -- words in registers, and all that waits below is pushed then
-  push_under : (b : WorkRegister) (ks : List Waiting) (pc : ℕ) (w : WordState) (v : ℕ) (u : Core) → Stands z.code pc (flushed ks)
+  pub push_under : (b : WorkRegister) (ks : List Waiting) (pc : ℕ) (w : WordState) (v : ℕ) (u : Core) → Stands z.code pc (flushed ks)
       → InRegister z b ks pc w v u → Runs z.code [] (owed ks) u (Has z b (pc + forms_bytes (flushed ks)) w v)
   push_under b ks pc w v u h k =
       let end = pc + forms_bytes (flushed ks) in
@@ -385,7 +385,7 @@ module _ (z : Setting) where
       (λ t j. record { is = bare z end w t j.is; value = ap (λ (f : ℕ → ℕ). f (work_number b)) j.work ∙ k.value })
       (flush_under z [] ks pc w u k.is h)
 
-  push_under_two : (ks : List Waiting) (pc : ℕ) (w : WordState) (x y : ℕ) (u : Core) → Stands z.code pc (flushed ks)
+  pub push_under_two : (ks : List Waiting) (pc : ℕ) (w : WordState) (x y : ℕ) (u : Core) → Stands z.code pc (flushed ks)
       → LoadedTwo z ks pc w x y u → Runs z.code [] (owed ks) u (HasTwo z (pc + forms_bytes (flushed ks)) w x y)
   push_under_two ks pc w x y u h k =
       let end = pc + forms_bytes (flushed ks) in

@@ -5,7 +5,7 @@ use Rattle.std.specs.List.{AllByRecursion}
 use Rattle.array_versions.specs.fram_board.Effects.{Effect}
 use Rattle.msp_isa.specs.declared.instructions.Condition.TheVariants as condition
 use Rattle.msp_isa.specs.declared.operands.Konst.TheVariants as konst
-use Rattle.code_forms.specs.Forms.{R4, R5, Core, Form, Move, Branch, Number, Fram, ToFram}
+use Rattle.code_forms.specs.Forms.{R4, Core, Form, form_bytes, Move, Branch, Number, Fram, ToFram}
 use Rattle.code_forms.specs.Code.{Stands, forms_bytes}
 use Rattle.code_forms.proofs.Interface.{stands_front, stands_back, forms_behind, forms_bytes-append}
 use Rattle.array_versions.specs.declared.operations.Comparison.{Comparison}
@@ -17,7 +17,7 @@ use Rattle.array_versions.specs.Program.{versioned_read, versioned_write, sense,
 use Rattle.array_versions.specs.Program.{compares}
 use Rattle.array_versions.specs.Program.{both, either, fails, nothing, step}
 use Rattle.array_versions.specs.Behaviour.{WordState, started, End, GoesOn, Jumps, Short, Strays, Broken, Behaviour, goes_on, with_stack, with_local}
-use Rattle.array_versions.specs.Behaviour.{with_top, with_two, is_place, local_pushed, local_updated, number_pushed, way_by_top, way_by_two, step_behaviour}
+use Rattle.array_versions.specs.Behaviour.{with_top, with_two, is_place, local_pushed, local_updated, number_pushed, way_by_top, way_by_two, step_behaviour, then_on}
 use Rattle.array_versions.specs.Behaviour.{tested}
 use Rattle.array_versions.specs.Behaviour.{behaviour}
 use Rattle.array_versions.specs.Form.{Place, start, assigning, Moves, EachTurn, EachStepWay, EachTestWay, EachWay, StepLocalsBelow, TestLocalsBelow}
@@ -30,22 +30,23 @@ use Rattle.array_versions.proofs.Interface.{Matches, GoesWell, matches_local, st
 use Rattle.array_versions.proofs.Interface.{step_words as words_step, words, Leaves, leaves}
 use Rattle.codegen.specs.declared.waiting.Waiting.{Waiting}
 use Rattle.codegen.specs.declared.waiting.Waiting.TheVariants as waiting
-use Rattle.codegen.specs.Code.{pop_to, flushed, entry_code, compare_form, holding, failing, size, pass_over, decision, holds_code, compares_code, truth_code}
+use Rattle.codegen.specs.Code.{flushed, top_of, below_top, kept, top_to_four, two_to_registers, entry_code, compare_form, holding, failing, size, pass_over, decision, holds_code, compares_code, truth_code}
 use Rattle.codegen.specs.Code.{number_code, turns_code, waiting_behind, waiting_after, step_code, test_code, steps_code, code_of}
 use Rattle.codegen.specs.Laws.{ComesTo, CodeDoesAsProgram}
 use Rattle.codegen.proofs.Stretches.{Setting, runs_on, nothing_run}
 use Rattle.codegen.proofs.Memory.{place_is, assigned_same}
-use Rattle.codegen.proofs.Follows.{StandsFor, Follows, FollowsEnd, OnGoesOn, then_way, then_hop, ends_at, guarded, reach_more, reach_way, then_follows}
-use Rattle.codegen.proofs.Follows.{reach_guarded}
+use Rattle.codegen.proofs.Follows.{StandsFor, Follows, FollowsEnd, OnGoesOn, more_cycles, then_hop, ends_at, guarded, reach_more, reach_way, reaches}
+use Rattle.codegen.proofs.Follows.{then_follows, reach_guarded}
 use Rattle.codegen.proofs.Parts.{constant_part, store_part, move_part, jump_part}
-use Rattle.codegen.proofs.Registers.{jump_to}
+use Rattle.codegen.proofs.Registers.{Has, HasTwo, jump_to}
 use Rattle.codegen.proofs.Jumps.{whole_size, stands_low, pass_part}
-use Rattle.codegen.proofs.Choices.{Fork, fork_at, fork_turned, fork_both, fork_either, decided_follows, holds_part, compares_part}
+use Rattle.codegen.proofs.Choices.{Fork, fork_at, fork_turned, fork_both, fork_either, decided_follows, zero_test, holds_part, compares_part}
 use Rattle.codegen.proofs.Loops.{loop_by}
 use Rattle.codegen.proofs.Access.{entry_part}
-use Rattle.codegen.proofs.Operands.{owed, Describes, dressed, flush_part}
+use Rattle.codegen.proofs.Operands.{owed, clear_cycles, owed_kept, load_cycles, load_owed, Describes, InRegister, LoadedTwo, dressed, flush_part}
+use Rattle.codegen.proofs.Operands.{top_to_four_part, two_to_registers_part}
 use Rattle.codegen.proofs.Results.{Does, number_part, load_part, local_by, keep_reaches, update_reaches, set_reaches, update_local_reaches, unary_part, binary_part}
-use Rattle.codegen.proofs.Results.{shift_reaches, element_reaches, emit_reaches, read_reaches, write_reaches, sense_part, alone_part}
+use Rattle.codegen.proofs.Results.{shift_reaches, element_reaches, emit_reaches, read_reaches, write_reaches, sense_part, alone_part, push_under, push_under_two}
 use Rattle.codegen.proofs.Lengths.{compare_length}
 
 -- a state from which what follows is fit, and which holds words
@@ -83,17 +84,6 @@ ready_popped next q n w us f m h e l =
     }
 
 module _ (z : Setting) where
-  -- the forms in front of a comparison's decision, and the decision
-  compares_front : (c : Comparison) (pc : ℕ) (when : Bool) (d : ℕ) → Stands z.code pc (compares_code c when d)
-      → Stands z.code pc (pop_to R5 ∷ pop_to R4 ∷ compare_form c ∷ [])
-  compares_front c pc when d h = (h.0, (h.1.0, (h.1.1.0, tt)))
-
-  compares_rest : (c : Comparison) (pc : ℕ) (when : Bool) (d : ℕ) → Stands z.code pc (compares_code c when d)
-      → Stands z.code (pc + 6) (decision when d (holding c) (failing c))
-  compares_rest c pc when d h =
-      subst (λ n. Stands z.code n (decision when d (holding c) (failing c))) (omega (arith, compare_length c))
-      (forms_behind z.code pc 3 (compares_code c when d) h)
-
   -- 1 is pushed, and the jump leads past the other number
   one_pushed : (pc : ℕ) (w : WordState) (u : Core) → Stands z.code pc truth_code → length w.stack < z.room → StandsFor z pc w u
       → Follows z (pc + 6) 5 u (number_pushed 1 w)
@@ -116,47 +106,103 @@ module _ (z : Setting) where
   -- behind a program whose word or words decide
   module _ (when : Bool) (d holds_at fails_at end : ℕ) (held failed : Place → Type 0) (ch cf : WordState → ℕ) (rh rf : WordState → Behaviour)
       (fh : WayFollows held holds_at end ch rh) (ff : WayFollows failed fails_at end cf rf) where
-    by_top : (pc : ℕ) (w : WordState) (u : Core) (vs : List ℕ) → Stands z.code pc (holds_code when d)
-        → Fork when d holds_at fails_at (pc + forms_bytes (holds_code when d))
-        → Ready (Moves z.room 1 0 (λ r. held r × failed r)) w → w.stack ≡ vs → StandsFor z pc w u
-        → Follows z end (8 + top_spent vs (λ v us. if is_true v then ch (with_stack us w) else cf (with_stack us w))) u
+    by_top : (os : List Waiting) (pc : ℕ) (w : WordState) (u : Core) (vs : List ℕ) → Stands z.code pc (holds_code os when d)
+        → Fork when d holds_at fails_at (pc + forms_bytes (holds_code os when d))
+        → Ready (Moves z.room 1 0 (λ r. held r × failed r)) w → w.stack ≡ vs → Describes z os pc w u
+        → Follows z end (owed os + (8 + top_spent vs (λ v us. if is_true v then ch (with_stack us w) else cf (with_stack us w)))) u
         (with_top vs (λ v us. if is_true v then rh (with_stack us w) else rf (with_stack us w)))
-    by_top pc w u [] h fork r e i = tt
-    by_top pc w u (v ∷ us) h fork r e i =
+    by_top os pc w u [] h fork r e i = tt
+    by_top os pc w u (v ∷ us) h fork r e i =
         let t = with_stack us w in
         let words = subst (AllByRecursion (λ x. x < 0x10000)) e r.words_in.stack in
         let left : length us + 1 ≡ length w.stack = omega (arith, ap (length {A = ℕ}) e) in
         let popped : (next : Place → Type 0) → next (record r.place { depth = r.place.depth - 1 + 0 }) → Ready next t =
         λ next f. ready_popped next r.place 1 w us f r.matches r.words_in left words.1 in
-        let high = (z.tidy (pc + 2) _ h.1.0).high in
+        let under = below_top os in
+        let load = top_to_four os in
+        let pushes = flushed (kept under) in
         let last = decision when d condition.NotEqual condition.Equal in
-        decided_follows z when (is_true v) (pc + 4) d holds_at fails_at 3 end (ch t) (cf t) condition.NotEqual condition.Equal t u (rh t) (rf t)
-        (forms_behind z.code pc 2 (holds_code when d) h)
-        (fork_at when d holds_at fails_at (pc + forms_bytes (holds_code when d)) (pc + 4 + forms_bytes last) (omega arith) fork) (omega arith)
-        (holds_part z when pc v d us w u e words.0 h i)
-        (λ x j. fh t x (popped held r.fit.2.0) j) (λ x j. ff t x (popped failed r.fit.2.1) j)
+        let tail = zero_test z ∷ last in
+        let first = pc + forms_bytes load in
+        let mid = first + forms_bytes pushes in
+        let l = clear_cycles under + load_cycles (top_of os) in
+        let there = stands_front z.code pc (load ++ pushes) tail h in
+        let here : pc + forms_bytes (load ++ pushes) ≡ mid = omega (arith, forms_bytes-append load pushes) in
+        let back = subst (λ p. Stands z.code p tail) here (stands_back z.code pc (load ++ pushes) tail h) in
+        let high = (z.tidy mid _ back.0).high in
+        let behind : pc + forms_bytes (holds_code os when d) ≡ mid + 2 + forms_bytes last = omega (arith, here, forms_bytes-append (load ++ pushes) tail) in
+        let b = is_true v in
+        let most = owed os + (8 + (if b then ch t else cf t)) in
+        let come = runs_on z l (owed (kept under)) u (InRegister z R4 (kept under) first t v) (Has z R4 mid t v) [] []
+        (top_to_four_part z os pc w v us u e (stands_front z.code pc load pushes there) i)
+        (λ x k. push_under z R4 (kept under) first t v x (stands_back z.code pc load pushes there) k) in
+        more_cycles z end (l + owed (kept under) + 1 + 5 + (if b then ch t else cf t)) most u (if b then rh t else rf t).effects (if b then rh t else rf t).end
+        (omega (arith, owed_kept under, load_owed os))
+        (decided_follows z when b (mid + 2) d holds_at fails_at (l + owed (kept under) + 1) end (ch t) (cf t) condition.NotEqual condition.Equal t u (rh t) (rf t)
+        back.1 (fork_at when d holds_at fails_at (pc + forms_bytes (holds_code os when d)) (mid + 2 + forms_bytes last) behind fork) (omega arith)
+        (runs_on z (l + owed (kept under)) 1 u (Has z R4 mid t v) _ [] [] come (λ x k. holds_part z mid v t x words.0 back.0 k))
+        (λ x j. fh t x (popped held r.fit.2.0) j) (λ x j. ff t x (popped failed r.fit.2.1) j))
 
-    by_two : (c : Comparison) (pc : ℕ) (w : WordState) (u : Core) (vs : List ℕ) → Stands z.code pc (compares_code c when d)
-        → Fork when d holds_at fails_at (pc + forms_bytes (compares_code c when d))
-        → Ready (Moves z.room 2 0 (λ r. held r × failed r)) w → w.stack ≡ vs → StandsFor z pc w u
+    by_two : (os : List Waiting) (c : Comparison) (pc : ℕ) (w : WordState) (u : Core) (vs : List ℕ) → Stands z.code pc (compares_code os c when d)
+        → Fork when d holds_at fails_at (pc + forms_bytes (compares_code os c when d))
+        → Ready (Moves z.room 2 0 (λ r. held r × failed r)) w → w.stack ≡ vs → Describes z os pc w u
         → Follows z end
-        (10 + top_spent vs (λ y xs. top_spent xs (λ x us. if compare_words c x y then ch (with_stack us w) else cf (with_stack us w)))) u
+        (owed os + (10 + top_spent vs (λ y xs. top_spent xs (λ x us. if compare_words c x y then ch (with_stack us w) else cf (with_stack us w))))) u
         (with_two vs (λ x y us. if compare_words c x y then rh (with_stack us w) else rf (with_stack us w)))
-    by_two c pc w u [] h fork r e i = tt
-    by_two c pc w u (y ∷ []) h fork r e i = tt
-    by_two c pc w u (y ∷ (x ∷ us)) h fork r e i =
+    by_two os c pc w u [] h fork r e i = tt
+    by_two os c pc w u (y ∷ []) h fork r e i = tt
+    by_two os c pc w u (y ∷ (x ∷ us)) h fork r e i =
         let t = with_stack us w in
         let words = subst (AllByRecursion (λ x. x < 0x10000)) e r.words_in.stack in
         let left : length us + 2 ≡ length w.stack = omega (arith, ap (length {A = ℕ}) e) in
         let popped : (next : Place → Type 0) → next (record r.place { depth = r.place.depth - 2 + 0 }) → Ready next t =
         λ next f. ready_popped next r.place 2 w us f r.matches r.words_in left words.1.1 in
-        let high = (z.tidy (pc + 2 + 2) _ h.1.1.0).high in
+        let under = below_top os in
+        let ks = kept (below_top under) in
+        let load = two_to_registers os in
+        let pushes = flushed ks in
         let last = decision when d (holding c) (failing c) in
-        decided_follows z when (compare_words c x y) (pc + 6) d holds_at fails_at 5 end (ch t) (cf t) (holding c) (failing c) t u (rh t) (rf t)
-        (compares_rest c pc when d h)
-        (fork_at when d holds_at fails_at (pc + forms_bytes (compares_code c when d)) (pc + 6 + forms_bytes last) (omega (arith, compare_length c)) fork)
-        (omega arith) (compares_part z c pc x y us w u e words.1.0 words.0 (compares_front c pc when d h) i)
-        (λ s j. fh t s (popped held r.fit.2.0) j) (λ s j. ff t s (popped failed r.fit.2.1) j)
+        let tail = compare_form c ∷ last in
+        let first = pc + forms_bytes load in
+        let mid = first + forms_bytes pushes in
+        let l = clear_cycles (below_top under) + (load_cycles (top_of os) + load_cycles (top_of under)) in
+        let there = stands_front z.code pc (load ++ pushes) tail h in
+        let here : pc + forms_bytes (load ++ pushes) ≡ mid = omega (arith, forms_bytes-append load pushes) in
+        let back = subst (λ p. Stands z.code p tail) here (stands_back z.code pc (load ++ pushes) tail h) in
+        let next : mid + form_bytes (compare_form c) ≡ mid + 2 = omega (arith, compare_length c) in
+        let high = (z.tidy mid _ back.0).high in
+        let behind : pc + forms_bytes (compares_code os c when d) ≡ mid + 2 + forms_bytes last =
+        omega (arith, here, compare_length c, forms_bytes-append (load ++ pushes) tail) in
+        let b = compare_words c x y in
+        let most = owed os + (10 + (if b then ch t else cf t)) in
+        let come = runs_on z l (owed ks) u (LoadedTwo z ks first t x y) (HasTwo z mid t x y) [] []
+        (two_to_registers_part z os pc w x y us u e (stands_front z.code pc load pushes there) i)
+        (λ q k. push_under_two z ks first t x y q (stands_back z.code pc load pushes there) k) in
+        more_cycles z end (l + owed ks + 1 + 5 + (if b then ch t else cf t)) most u (if b then rh t else rf t).effects (if b then rh t else rf t).end
+        (omega (arith, owed_kept (below_top under), load_owed os, load_owed under))
+        (decided_follows z when b (mid + 2) d holds_at fails_at (l + owed ks + 1) end (ch t) (cf t) (holding c) (failing c) t u (rh t) (rf t)
+        (subst (λ n. Stands z.code n last) next back.1)
+        (fork_at when d holds_at fails_at (pc + forms_bytes (compares_code os c when d)) (mid + 2 + forms_bytes last) behind fork) (omega arith)
+        (runs_on z (l + owed ks) 1 u (HasTwo z mid t x y) _ [] [] come (λ q k. compares_part z c mid x y t q words.1.0 words.0 back.0 k))
+        (λ s j. fh t s (popped held r.fit.2.0) j) (λ s j. ff t s (popped failed r.fit.2.1) j))
+
+  -- behind steps with no word waiting in front of them, code that takes those that wait behind them
+  leaf_follows : (p : Program) (next : Place → Type 0) (pc end : ℕ) (cost : WordState → ℕ) (go : WordState → Behaviour) (w : WordState) (u : Core)
+      → (let os = waiting_after [] p in let at = pc + forms_bytes (steps_code [] p) in let b = behaviour p w in
+      Does z os at (spent p w + 0) u b → OnGoesOn (Ready next) b.end
+      → ((x : Core) (v : WordState) → Ready next v → Describes z os at v x → Follows z end (owed os + cost v) x (go v))
+      → Follows z end (spent p w + spent_on b.end cost) u (then_on b go))
+  leaf_follows p next pc end cost go w u a r f =
+      let os = waiting_after [] p in
+      let at = pc + forms_bytes (steps_code [] p) in
+      let b = behaviour p w in
+      let all = then_on b go in
+      let most = spent p w + 0 + spent_on b.end cost in
+      more_cycles z end most (spent p w + spent_on b.end cost) u all.effects all.end (omega arith)
+      (then_follows z 0 end most (StandsFor z end) u all.effects all.end
+      (reach_way z (owed os) 0 (Describes z os at) (StandsFor z end) (spent p w + 0) cost u (Ready next) b.effects b.end go a r
+      (λ x v q d. reaches z (StandsFor z end) end (owed os + cost v) x (go v).effects (go v).end (λ s t i. i) (f x v q d)))
+      (λ t s i. nothing_run z t (StandsFor z end s) i))
 
   -- steps with no word waiting in front of them, and then those that wait behind them are pushed
   block_follows : (p : Program) (pc : ℕ) (w : WordState) (u : Core) → Stands z.code pc (code_of p)
@@ -294,26 +340,26 @@ module _ (z : Setting) where
         → WayFollows held holds_at end ch rh → WayFollows failed fails_at end cf rf → StandsFor z pc w u
         → Follows z end (test_spent t ch cf w) u (tested t rh rf w)
     test_follows (holds p) when d holds_at fails_at pc end held failed ch cf rh rf w u r o l c h fork fh ff i =
-        let a = code_of p in
+        let a = steps_code [] p in
+        let os = waiting_after [] p in
         let at = pc + forms_bytes a in
-        let last = holds_code when d in
+        let last = holds_code os when d in
         let next = Moves z.room 1 0 (λ s. held s × failed s) in
-        let b = behaviour p w in
-        then_way z at end (spent p w) (λ v. 8 + spent_by_top ch cf v) u (Ready next) b.effects b.end (way_by_top rh rf)
-        (block_follows p pc w u (stands_front z.code pc a last h) (λ s. steps_follow p next [] pc w u r o l c s (dressed z pc w u i)))
-        (ready_on next b.end (well z.room p next r.place w r.fit r.matches) (words p w o r.words_in))
-        (λ x v q j. by_top when d holds_at fails_at end held failed ch cf rh rf fh ff at v x v.stack (stands_back z.code pc a last h)
+        leaf_follows p next pc end (λ v. 8 + spent_by_top ch cf v) (way_by_top rh rf) w u
+        (steps_follow p next [] pc w u r o l c (stands_front z.code pc a last h) (dressed z pc w u i))
+        (ready_on next (behaviour p w).end (well z.room p next r.place w r.fit r.matches) (words p w o r.words_in))
+        (λ x v q j. by_top when d holds_at fails_at end held failed ch cf rh rf fh ff os at v x v.stack (stands_back z.code pc a last h)
         (fork_at when d holds_at fails_at (pc + forms_bytes (a ++ last)) (at + forms_bytes last) (omega (arith, forms_bytes-append a last)) fork) q refl j)
     test_follows (compares e p) when d holds_at fails_at pc end held failed ch cf rh rf w u r o l c h fork fh ff i =
-        let a = code_of p in
+        let a = steps_code [] p in
+        let os = waiting_after [] p in
         let at = pc + forms_bytes a in
-        let last = compares_code e when d in
+        let last = compares_code os e when d in
         let next = Moves z.room 2 0 (λ s. held s × failed s) in
-        let b = behaviour p w in
-        then_way z at end (spent p w) (λ v. 10 + spent_by_two e ch cf v) u (Ready next) b.effects b.end (way_by_two e rh rf)
-        (block_follows p pc w u (stands_front z.code pc a last h) (λ s. steps_follow p next [] pc w u r o l c s (dressed z pc w u i)))
-        (ready_on next b.end (well z.room p next r.place w r.fit r.matches) (words p w o r.words_in))
-        (λ x v q j. by_two when d holds_at fails_at end held failed ch cf rh rf fh ff e at v x v.stack (stands_back z.code pc a last h)
+        leaf_follows p next pc end (λ v. 10 + spent_by_two e ch cf v) (way_by_two e rh rf) w u
+        (steps_follow p next [] pc w u r o l c (stands_front z.code pc a last h) (dressed z pc w u i))
+        (ready_on next (behaviour p w).end (well z.room p next r.place w r.fit r.matches) (words p w o r.words_in))
+        (λ x v q j. by_two when d holds_at fails_at end held failed ch cf rh rf fh ff os e at v x v.stack (stands_back z.code pc a last h)
         (fork_at when d holds_at fails_at (pc + forms_bytes (a ++ last)) (at + forms_bytes last) (omega (arith, forms_bytes-append a last)) fork) q refl j)
     test_follows (both t e) when d holds_at fails_at pc end held failed ch cf rh rf w u r o l c h fork fh ff i =
         let second = test_code e when d in

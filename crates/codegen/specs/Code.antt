@@ -362,13 +362,15 @@ abbrev pub decision : Bool → ℕ → Condition → Condition → List Form
 decision true d met opposite = jump_over met opposite d
 decision false d met opposite = jump_over opposite met d
 
--- by whether the top isn't 0
-abbrev pub holds_code : Bool → ℕ → List Form
-holds_code when d = pop_to R4 ∷ Calculate op.Cmp (Constant konst.Zero) R4 ∷ decision when d condition.NotEqual condition.Equal
+-- by whether the top isn't 0, where these words wait
+abbrev pub holds_code : List Waiting → Bool → ℕ → List Form
+holds_code os when d =
+    (top_to_four os ++ flushed (kept (below_top os))) ++ (Calculate op.Cmp (Constant konst.Zero) R4 ∷ decision when d condition.NotEqual condition.Equal)
 
 -- by whether the two words on top compare so
-abbrev pub compares_code : Comparison → Bool → ℕ → List Form
-compares_code c when d = pop_to R5 ∷ pop_to R4 ∷ compare_form c ∷ decision when d (holding c) (failing c)
+abbrev pub compares_code : List Waiting → Comparison → Bool → ℕ → List Form
+compares_code os c when d =
+    (two_to_registers os ++ flushed (kept (below_top (below_top os)))) ++ (compare_form c ∷ decision when d (holding c) (failing c))
 
 -- 1 is pushed, and from the third word on 0
 abbrev pub truth_code : List Form
@@ -449,8 +451,8 @@ abbrev mutual
 
   -- the code of a test: it goes over so many words behind it where the test's truth is this one, else on
   pub test_code : Test → Bool → ℕ → List Form
-  test_code (holds p) when d = (steps_code [] p ++ flushed (waiting_after [] p)) ++ holds_code when d
-  test_code (compares c p) when d = (steps_code [] p ++ flushed (waiting_after [] p)) ++ compares_code c when d
+  test_code (holds p) when d = steps_code [] p ++ holds_code (waiting_after [] p) when d
+  test_code (compares c p) when d = steps_code [] p ++ compares_code (waiting_after [] p) c when d
   test_code (both t u) when d =
       let second = test_code u when d in
       test_code t false (size second + (if not when then d else 0)) ++ second

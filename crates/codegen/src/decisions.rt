@@ -1,11 +1,15 @@
 //! Where code goes on.
 
-ghost use Rattle.std.specs.Prelude.{◌≡◌, ◌≤◌, ◌*◌, ◌++◌, OnOk, length};
+ghost use Rattle.std.specs.Prelude.{◌≡◌, ◌≤◌, ◌*◌, ◌∷◌, ◌++◌, OnOk, length};
+ghost use Rattle.msp_isa.specs.declared.instructions.TwoOp.TheVariants as two_op;
+ghost use Rattle.msp_isa.specs.declared.instructions.Condition.TheVariants as conditions;
+ghost use Rattle.msp_isa.specs.declared.operands.Konst.TheVariants as constants;
 ghost use Rattle.code_forms.specs.Forms as form;
 ghost use Rattle.code_forms.specs.Placed.{instructions, words_of as instruction_words};
 ghost use Rattle.codegen.specs.Code.{compare_form, holding, failing, jump_over, pass_over, jump_back, decision, holds_code, compares_code};
 
-use crate::forms::{POPPED, R4, R5, TO_R4, TO_R5, constant, jump, skip, two};
+use crate::forms::{R4, R5, TO_R4, TO_R5, constant, jump, skip, two};
+use crate::waiting::{Waiting, emit_all, emit_top_to_four, emit_two_to_registers};
 use array_versions::Comparison;
 use msp_encode::encode;
 use msp_isa::{Condition, Instr, Konst, TwoOp};
@@ -128,32 +132,58 @@ fn emit_decision(
     }
 }
 
-/// Appends the code that pops a word and goes over so many words by whether it isn't 0.
-pub fn emit_holds(when: bool, over: u16, code: &mut Vec<Instr>) -> Result<(), AllocError>
+// The comparison of R4 with 0, and what goes over so many words by it.
+fn emit_zero_test(when: bool, over: u16, code: &mut Vec<Instr>) -> Result<(), AllocError>
     requires { 2 * over ≤ 0xFFFE }
-    ensures { OnOk result (code.new.items ≡ code.old.items ++ instructions (holds_code when over)) }
+    ensures { OnOk result (code.new.items ≡ code.old.items
+        ++ instructions (form.Calculate two_op.Cmp (form.Constant constants.Zero) form.R4 ∷ decision when over conditions.NotEqual conditions.Equal)) }
 {
-    code.extend_from_slice(&[
-        two(TwoOp::Mov, POPPED, TO_R4),
-        two(TwoOp::Cmp, constant(Konst::Zero), TO_R4),
-    ])?;
+    code.extend_from_slice(&[two(TwoOp::Cmp, constant(Konst::Zero), TO_R4)])?;
     emit_decision(when, over, Condition::NotEqual, Condition::Equal, code)
 }
 
-/// Appends the code that pops two words and goes over so many words by how they compare.
-pub fn emit_compares(
+/// Appends the code that goes over so many words by whether the top isn't 0.
+pub fn emit_holds(
+    when: bool,
+    over: u16,
+    waiting: &mut Vec<Waiting>,
+    code: &mut Vec<Instr>,
+) -> Result<(), AllocError>
+    requires { 2 * over ≤ 0xFFFE }
+    ensures { OnOk result (code.new.items ≡ code.old.items ++ instructions (holds_code waiting.old.items when over)) }
+{
+    emit_top_to_four(waiting, code)?;
+    emit_all(waiting, code)?;
+    emit_zero_test(when, over, code)
+}
+
+// A comparison of R4 with R5, and what goes over so many words by it.
+fn emit_comparison(
     comparison: Comparison,
     when: bool,
     over: u16,
     code: &mut Vec<Instr>,
 ) -> Result<(), AllocError>
     requires { 2 * over ≤ 0xFFFE }
-    ensures { OnOk result (code.new.items ≡ code.old.items ++ instructions (compares_code comparison when over)) }
+    ensures { OnOk result (code.new.items ≡ code.old.items
+        ++ instructions (compare_form comparison ∷ decision when over (holding comparison) (failing comparison))) }
 {
-    code.extend_from_slice(&[
-        two(TwoOp::Mov, POPPED, TO_R5),
-        two(TwoOp::Mov, POPPED, TO_R4),
-        compare(comparison),
-    ])?;
+    code.extend_from_slice(&[compare(comparison)])?;
     emit_decision(when, over, holding(comparison), failing(comparison), code)
+}
+
+/// Appends the code that goes over so many words by how the two words on top compare.
+pub fn emit_compares(
+    comparison: Comparison,
+    when: bool,
+    over: u16,
+    waiting: &mut Vec<Waiting>,
+    code: &mut Vec<Instr>,
+) -> Result<(), AllocError>
+    requires { 2 * over ≤ 0xFFFE }
+    ensures { OnOk result (code.new.items ≡ code.old.items ++ instructions (compares_code waiting.old.items comparison when over)) }
+{
+    emit_two_to_registers(waiting, code)?;
+    emit_all(waiting, code)?;
+    emit_comparison(comparison, when, over, code)
 }

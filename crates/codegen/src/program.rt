@@ -58,12 +58,14 @@ fn emit_test(
 {
     match test {
         WordTest::Holds(steps) => {
-            emit_block(alloc, steps, code)?;
-            emit_holds(when, over, code)
+            let mut waiting = Vec::new(alloc);
+            emit_steps(alloc, steps, &mut waiting, code)?;
+            emit_holds(when, over, &mut waiting, code)
         }
         WordTest::Compares(comparison, steps) => {
-            emit_block(alloc, steps, code)?;
-            emit_compares(*comparison, when, over, code)
+            let mut waiting = Vec::new(alloc);
+            emit_steps(alloc, steps, &mut waiting, code)?;
+            emit_compares(*comparison, when, over, &mut waiting, code)
         }
         WordTest::Both(first, second) => {
             let mut behind = Vec::new(alloc);

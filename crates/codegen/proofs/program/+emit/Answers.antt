@@ -1,7 +1,9 @@
 use Rattle.std.proofs.Common.{◌≡◌, ◌+◌, ◌++◌, [], drop, not, refl, sym, ap, ◌∙◌, subst, arith, rules, append_assoc, false, true}
-use Rattle.std.proofs.Common.{if◌then◌else◌, lt-ltb}
+use Rattle.std.proofs.Common.{if◌then◌else◌, lt-ltb, le-ltb, List, append-nil}
 use Rattle.std.specs.Result.{OnOk}
+use Rattle.code_forms.specs.Forms.{Form}
 use Rattle.code_forms.specs.Placed.{instructions}
+use Rattle.codegen.specs.declared.waiting.Waiting.{Waiting}
 use Rattle.code_forms.proofs.Interface.{forms_bytes-append, instructions-append}
 use Rattle.array_versions.specs.View.{step_of, steps_of, test_of}
 use Rattle.array_versions.specs.declared.program.WordStep as word_step
@@ -44,24 +46,37 @@ emit_block-returns-clause-code t c =
     part_behind c.emit_flushed.result old c.emit_steps.new.code.items c.emit_flushed.new.code.items a (flushed c.deref.result.now) (flushed os) _
     first (ap flushed after) refl c.emit_flushed.ensures
 
-pub emit_test-returns-in_ok-emit_block-in-Holds-clause-code : goal.emit_test-returns-in_ok-emit_block-in-Holds-clause-code
-emit_test-returns-in_ok-emit_block-in-Holds-clause-code t c =
+pub emit_test-returns-in_ok-emit_steps-in-Holds-clause-code : goal.emit_test-returns-in_ok-emit_steps-in-Holds-clause-code
+emit_test-returns-in_ok-emit_steps-in-Holds-clause-code t c =
     let old = c.args.code.now.items in
-    let last = holds_code c.args.when c.args.over in
-    let first = c.in_ok-emit_block-in-Holds.ensures.code ∙ ap (λ s. old ++ instructions (code_of (steps_of s))) c.deref.ensures.value in
+    let p = steps_of c.in-Holds.steps.items in
+    let os = waiting_after [] p in
+    let last : List Waiting → List Form = λ ws. holds_code ws c.args.when c.args.over in
+    let none = c.new-waiting.ensures.items in
+    let same = c.deref.ensures.value in
+    let made = c.in_ok-emit_steps-in-Holds.ensures in
+    let first = made.code ∙ ap (λ ws. old ++ instructions (steps_code ws (steps_of c.deref.result.now))) none
+    ∙ ap (λ s. old ++ instructions (steps_code [] (steps_of s))) same in
+    let after = made.waiting ∙ ap (λ ws. waiting_after ws (steps_of c.deref.result.now)) none ∙ ap (λ s. waiting_after [] (steps_of s)) same in
     let is = ap test_of c.in-Holds.is ∙ test_of-holds c.in-Holds.steps in
-    part_behind c.emit_holds.result old c.emit_block.new.code.items c.emit_holds.new.code.items (code_of (steps_of c.in-Holds.steps.items)) last last _
-    first refl (ap (λ q. test_code q c.args.when c.args.over) (sym is)) c.emit_holds.ensures
+    part_behind c.emit_holds.result old c.emit_steps.new.code.items c.emit_holds.new.code.items (steps_code [] p) (last c.emit_steps.new.waiting.items) (last os) _
+    first (ap last after) (ap (λ q. test_code q c.args.when c.args.over) (sym is)) c.emit_holds.ensures
 
-pub emit_test-returns-in_ok-emit_block-in-Compares-clause-code : goal.emit_test-returns-in_ok-emit_block-in-Compares-clause-code
-emit_test-returns-in_ok-emit_block-in-Compares-clause-code t c =
+pub emit_test-returns-in_ok-emit_steps-in-Compares-clause-code : goal.emit_test-returns-in_ok-emit_steps-in-Compares-clause-code
+emit_test-returns-in_ok-emit_steps-in-Compares-clause-code t c =
     let old = c.args.code.now.items in
     let p = steps_of c.in-Compares.steps.items in
-    let last = compares_code c.in-Compares.comparison c.args.when c.args.over in
-    let first = c.in_ok-emit_block-in-Compares.ensures.code ∙ ap (λ s. old ++ instructions (code_of (steps_of s))) c.deref-in-Compares.ensures.value in
+    let os = waiting_after [] p in
+    let last : List Waiting → List Form = λ ws. compares_code ws c.in-Compares.comparison c.args.when c.args.over in
+    let none = c.new-waiting-in-Compares.ensures.items in
+    let same = c.deref-in-Compares.ensures.value in
+    let made = c.in_ok-emit_steps-in-Compares.ensures in
+    let first = made.code ∙ ap (λ ws. old ++ instructions (steps_code ws (steps_of c.deref-in-Compares.result.now))) none
+    ∙ ap (λ s. old ++ instructions (steps_code [] (steps_of s))) same in
+    let after = made.waiting ∙ ap (λ ws. waiting_after ws (steps_of c.deref-in-Compares.result.now)) none ∙ ap (λ s. waiting_after [] (steps_of s)) same in
     let is = ap test_of c.in-Compares.is ∙ test_of-compares c.in-Compares.comparison c.in-Compares.steps in
-    part_behind c.emit_compares.result old c.emit_block-in-Compares.new.code.items c.emit_compares.new.code.items (code_of p) last last _
-    first refl (ap (λ q. test_code q c.args.when c.args.over) (sym is)) c.emit_compares.ensures
+    part_behind c.emit_compares.result old c.emit_steps-in-Compares.new.code.items c.emit_compares.new.code.items (steps_code [] p) (last c.emit_steps-in-Compares.new.waiting.items) (last os) _
+    first (ap last after) (ap (λ q. test_code q c.args.when c.args.over) (sym is)) c.emit_compares.ensures
 
 pub emit_truth-returns-clause-code : goal.emit_truth-returns-clause-code
 emit_truth-returns-clause-code t c =
@@ -354,3 +369,19 @@ emit_choice-returns-clause-code t c =
     (c.deref-4.ensures.value ∙ otherwise)
     (append_assoc (pushes ++ test) (b ++ over) other ∙ append_assoc pushes test ((b ++ over) ++ other))
     (on_ok_items c.extend_from_slice-2.result _ _ _ c.extend_from_slice-2.ensures.items)
+
+pub emit_loop-returns-clause-code : goal.emit_loop-returns-clause-code
+emit_loop-returns-clause-code t c =
+    let old = c.args.code.now.items in
+    let pushes = flushed c.args.waiting.now.items in
+    let start = number_code c.args.n c.args.from in
+    let turns = turns_code c.args.n c.args.below (code_of (steps_of c.args.body.now)) in
+    c.in_ok-emit_number.ensures ∙ ap (λ l. l ++ instructions start) c.in_ok-emit_all.ensures.code ∙ two_behind old pushes start
+    ∙ ap (λ l. old ++ instructions (pushes ++ l)) (sym (append-nil start))
+    ∙ ap (λ b. old ++ instructions (pushes ++ (start ++ (if b then turns else [])))) (sym (le-ltb c.args.from c.args.below c.if-from-below.false))
+
+pub emit_choice-emit_block-requires : goal.emit_choice-emit_block-requires
+emit_choice-emit_block-requires t c = ?
+
+pub emit_choice-emit_block-requires-2 : goal.emit_choice-emit_block-requires-2
+emit_choice-emit_block-requires-2 t c = ?
