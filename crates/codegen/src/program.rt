@@ -138,38 +138,6 @@ fn emit_loop(
     }
 }
 
-// A choice between two ways.
-#[cycle(emit)]
-fn emit_choice(
-    alloc: Global,
-    test: &WordTest,
-    taken: &[WordStep],
-    otherwise: &[WordStep],
-    waiting: &mut Vec<Waiting>,
-    code: &mut Vec<Instr>,
-) -> Result<(), AllocError>
-    requires room { step_words (value.choose (test_of test.now) (steps_of taken.now) (steps_of otherwise.now)) ≤ 0x7FFF }
-    requires test { TestLocalsBelow 1008 (test_of test.now) }
-    requires taken { LocalsBelow 1008 (steps_of taken.now) }
-    requires otherwise { LocalsBelow 1008 (steps_of otherwise.now) }
-    ensures code { OnOk result (code.new.items
-        ≡ code.old.items ++ instructions (step_code waiting.old.items (value.choose (test_of test.now) (steps_of taken.now) (steps_of otherwise.now)))) }
-    ensures waiting { OnOk result (waiting.new.items ≡ []) }
-    ensures test { OnOk result (TestOfWords (test_of test.now)) }
-    ensures taken { OnOk result (OfWords (steps_of taken.now)) }
-    ensures otherwise { OnOk result (OfWords (steps_of otherwise.now)) }
-{
-    emit_all(waiting, code)?;
-    let mut other = Vec::new(alloc);
-    emit_block(alloc, otherwise, &mut other)?;
-    let mut first = Vec::new(alloc);
-    emit_block(alloc, taken, &mut first)?;
-    emit_pass_over(code_words(&other), &mut first)?;
-    emit_test(alloc, test, false, code_words(&first), code)?;
-    code.extend_from_slice(&first)?;
-    code.extend_from_slice(&other)
-}
-
 // A step; the words that wait in front of it become those that wait behind it.
 #[cycle(emit)]
 fn emit_step(
@@ -209,7 +177,15 @@ fn emit_step(
         } => emit_entry(*count, *list, *home, *copy, *words, waiting, code),
         WordStep::Truth(test) => emit_truth(alloc, test, waiting, code),
         WordStep::Choose(test, taken, otherwise) => {
-            emit_choice(alloc, test, taken, otherwise, waiting, code)
+            emit_all(waiting, code)?;
+            let mut other = Vec::new(alloc);
+            emit_block(alloc, otherwise, &mut other)?;
+            let mut first = Vec::new(alloc);
+            emit_block(alloc, taken, &mut first)?;
+            emit_pass_over(code_words(&other), &mut first)?;
+            emit_test(alloc, test, false, code_words(&first), code)?;
+            code.extend_from_slice(&first)?;
+            code.extend_from_slice(&other)
         }
         WordStep::Repeat {
             local,

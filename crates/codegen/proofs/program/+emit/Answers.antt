@@ -290,85 +290,97 @@ emit_loop-returns-then-from-below-clause-code t c =
     ∙ ap (λ b. pushes ++ (start ++ (if b then turns_code c.args.n below made else []))) (sym (lt-ltb c.args.from below c.if-from-below.true)))
     c.emit_jump_back.ensures
 
-pub emit_choice-code_words-requires : goal.emit_choice-code_words-requires
-emit_choice-code_words-requires t c =
-    let p = steps_of c.args.otherwise.now in
-    let other = code_of p in
-    let otherwise = c.in_ok-emit_block.ensures.code ∙ ap (λ l. l ++ instructions other) c.new-other.ensures.items in
-    let behind = own_words c.deref.result.now other (c.deref.ensures.value ∙ otherwise) in
-    omega (arith, behind, code_short p, c.requires.room)
+pub emit_step-code_words-requires : goal.emit_step-code_words-requires
+emit_step-code_words-requires t c =
+    let of = c.in-Choose in
+    let is = ap step_of of.is ∙ step_of-choose of.test of.taken of.otherwise in
+    let b = code_of (steps_of of.taken.items) in
+    let other = code_of (steps_of of.otherwise.items) in
+    let otherwise = c.in_ok-emit_block-in-Choose.ensures.code ∙ ap (λ s. c.new-other.result.items ++ instructions (code_of (steps_of s))) c.deref.ensures.value
+    ∙ ap (λ l. l ++ instructions other) c.new-other.ensures.items in
+    let behind = own_words c.deref-in-Choose-2.result.now other (c.deref-in-Choose-2.ensures.value ∙ otherwise) in
+    omega (arith, behind, code_short (steps_of of.otherwise.items), ap step_words is, c.requires.room)
 
-pub emit_choice-emit_pass_over-requires : goal.emit_choice-emit_pass_over-requires
-emit_choice-emit_pass_over-requires t c =
-    let p = steps_of c.args.otherwise.now in
-    let other = code_of p in
-    let otherwise = c.in_ok-emit_block.ensures.code ∙ ap (λ l. l ++ instructions other) c.new-other.ensures.items in
-    let behind = own_words c.deref.result.now other (c.deref.ensures.value ∙ otherwise) in
-    omega (arith, behind, code_short p, c.requires.room, c.code_words.ensures)
+pub emit_step-emit_pass_over-requires : goal.emit_step-emit_pass_over-requires
+emit_step-emit_pass_over-requires t c =
+    let of = c.in-Choose in
+    let is = ap step_of of.is ∙ step_of-choose of.test of.taken of.otherwise in
+    let b = code_of (steps_of of.taken.items) in
+    let other = code_of (steps_of of.otherwise.items) in
+    let otherwise = c.in_ok-emit_block-in-Choose.ensures.code ∙ ap (λ s. c.new-other.result.items ++ instructions (code_of (steps_of s))) c.deref.ensures.value
+    ∙ ap (λ l. l ++ instructions other) c.new-other.ensures.items in
+    let behind = own_words c.deref-in-Choose-2.result.now other (c.deref-in-Choose-2.ensures.value ∙ otherwise) in
+    omega (arith, behind, code_short (steps_of of.otherwise.items), ap step_words is, c.requires.room, c.code_words.ensures)
 
-pub emit_choice-code_words-requires-2 : goal.emit_choice-code_words-requires-2
-emit_choice-code_words-requires-2 t c =
-    let p = steps_of c.args.otherwise.now in
-    let q = steps_of c.args.taken.now in
-    let b = code_of q in
-    let other = code_of p in
+pub emit_step-code_words-requires-in-Choose : goal.emit_step-code_words-requires-in-Choose
+emit_step-code_words-requires-in-Choose t c =
+    let of = c.in-Choose in
+    let is = ap step_of of.is ∙ step_of-choose of.test of.taken of.otherwise in
+    let b = code_of (steps_of of.taken.items) in
+    let other = code_of (steps_of of.otherwise.items) in
     let over = pass_over (size other) in
-    let otherwise = c.in_ok-emit_block.ensures.code ∙ ap (λ l. l ++ instructions other) c.new-other.ensures.items in
-    let behind = own_words c.deref.result.now other (c.deref.ensures.value ∙ otherwise) in
-    let taken = c.in_ok-emit_block-2.ensures.code ∙ ap (λ l. l ++ instructions b) c.new-first.ensures.items in
-    let first = c.in_ok-emit_pass_over.ensures
-    ∙ ap (λ n. c.emit_block-2.new.code.items ++ instructions (pass_over n)) (c.code_words.ensures ∙ behind)
+    let otherwise = c.in_ok-emit_block-in-Choose.ensures.code ∙ ap (λ s. c.new-other.result.items ++ instructions (code_of (steps_of s))) c.deref.ensures.value
+    ∙ ap (λ l. l ++ instructions other) c.new-other.ensures.items in
+    let behind = own_words c.deref-in-Choose-2.result.now other (c.deref-in-Choose-2.ensures.value ∙ otherwise) in
+    let taken = c.in_ok-emit_block-in-Choose-2.ensures.code ∙ ap (λ s. c.new-first.result.items ++ instructions (code_of (steps_of s))) c.deref-in-Choose.ensures.value
+    ∙ ap (λ l. l ++ instructions b) c.new-first.ensures.items in
+    let first = c.in_ok-emit_pass_over-in-Choose.ensures
+    ∙ ap (λ n. c.emit_block-in-Choose.new.code.items ++ instructions (pass_over n)) (c.code_words.ensures ∙ behind)
     ∙ ap (λ l. l ++ instructions over) taken ∙ sym (instructions-append b over) in
-    let words = own_words c.deref-2.result.now (b ++ over) (c.deref-2.ensures.value ∙ first) in
-    omega (arith, words, forms_bytes-append b over, code_short q, pass_short (size other), c.requires.room)
+    let words = own_words c.deref-in-Choose-3.result.now (b ++ over) (c.deref-in-Choose-3.ensures.value ∙ first) in
+    omega (arith, words, forms_bytes-append b over, code_short (steps_of of.taken.items), pass_short (size other), ap step_words is, c.requires.room)
 
-pub emit_choice-emit_test-requires : goal.emit_choice-emit_test-requires
-emit_choice-emit_test-requires t c =
-    let p = steps_of c.args.otherwise.now in
-    let q = steps_of c.args.taken.now in
-    let b = code_of q in
-    let other = code_of p in
+pub emit_step-emit_test-requires : goal.emit_step-emit_test-requires
+emit_step-emit_test-requires t c =
+    let of = c.in-Choose in
+    let is = ap step_of of.is ∙ step_of-choose of.test of.taken of.otherwise in
+    let b = code_of (steps_of of.taken.items) in
+    let other = code_of (steps_of of.otherwise.items) in
     let over = pass_over (size other) in
-    let otherwise = c.in_ok-emit_block.ensures.code ∙ ap (λ l. l ++ instructions other) c.new-other.ensures.items in
-    let behind = own_words c.deref.result.now other (c.deref.ensures.value ∙ otherwise) in
-    let taken = c.in_ok-emit_block-2.ensures.code ∙ ap (λ l. l ++ instructions b) c.new-first.ensures.items in
-    let first = c.in_ok-emit_pass_over.ensures
-    ∙ ap (λ n. c.emit_block-2.new.code.items ++ instructions (pass_over n)) (c.code_words.ensures ∙ behind)
+    let otherwise = c.in_ok-emit_block-in-Choose.ensures.code ∙ ap (λ s. c.new-other.result.items ++ instructions (code_of (steps_of s))) c.deref.ensures.value
+    ∙ ap (λ l. l ++ instructions other) c.new-other.ensures.items in
+    let behind = own_words c.deref-in-Choose-2.result.now other (c.deref-in-Choose-2.ensures.value ∙ otherwise) in
+    let taken = c.in_ok-emit_block-in-Choose-2.ensures.code ∙ ap (λ s. c.new-first.result.items ++ instructions (code_of (steps_of s))) c.deref-in-Choose.ensures.value
+    ∙ ap (λ l. l ++ instructions b) c.new-first.ensures.items in
+    let first = c.in_ok-emit_pass_over-in-Choose.ensures
+    ∙ ap (λ n. c.emit_block-in-Choose.new.code.items ++ instructions (pass_over n)) (c.code_words.ensures ∙ behind)
     ∙ ap (λ l. l ++ instructions over) taken ∙ sym (instructions-append b over) in
-    let words = own_words c.deref-2.result.now (b ++ over) (c.deref-2.ensures.value ∙ first) in (
+    let words = own_words c.deref-in-Choose-3.result.now (b ++ over) (c.deref-in-Choose-3.ensures.value ∙ first) in (
       search (rules, word_step.the_lemmas),
       (
-        omega (arith, words, forms_bytes-append b over, code_short q, pass_short (size other), c.requires.room, c.code_words-2.ensures),
-        c.requires.test,
+        omega (arith, words, forms_bytes-append b over, code_short (steps_of of.taken.items), pass_short (size other), ap step_words is, c.requires.room, c.code_words-in-Choose.ensures),
+        (subst (StepLocalsBelow 1008) is c.requires.locals).0,
       ),
     )
 
-pub emit_choice-returns-clause-code : goal.emit_choice-returns-clause-code
-emit_choice-returns-clause-code t c =
-    let p = steps_of c.args.otherwise.now in
-    let q = steps_of c.args.taken.now in
-    let b = code_of q in
-    let other = code_of p in
+pub emit_step-returns-in_ok-extend_from_slice-in-Choose-clause-code : goal.emit_step-returns-in_ok-extend_from_slice-in-Choose-clause-code
+emit_step-returns-in_ok-extend_from_slice-in-Choose-clause-code t c =
+    let of = c.in-Choose in
+    let is = ap step_of of.is ∙ step_of-choose of.test of.taken of.otherwise in
+    let b = code_of (steps_of of.taken.items) in
+    let other = code_of (steps_of of.otherwise.items) in
     let over = pass_over (size other) in
-    let otherwise = c.in_ok-emit_block.ensures.code ∙ ap (λ l. l ++ instructions other) c.new-other.ensures.items in
-    let behind = own_words c.deref.result.now other (c.deref.ensures.value ∙ otherwise) in
-    let taken = c.in_ok-emit_block-2.ensures.code ∙ ap (λ l. l ++ instructions b) c.new-first.ensures.items in
-    let first = c.in_ok-emit_pass_over.ensures
-    ∙ ap (λ n. c.emit_block-2.new.code.items ++ instructions (pass_over n)) (c.code_words.ensures ∙ behind)
+    let otherwise = c.in_ok-emit_block-in-Choose.ensures.code ∙ ap (λ s. c.new-other.result.items ++ instructions (code_of (steps_of s))) c.deref.ensures.value
+    ∙ ap (λ l. l ++ instructions other) c.new-other.ensures.items in
+    let behind = own_words c.deref-in-Choose-2.result.now other (c.deref-in-Choose-2.ensures.value ∙ otherwise) in
+    let taken = c.in_ok-emit_block-in-Choose-2.ensures.code ∙ ap (λ s. c.new-first.result.items ++ instructions (code_of (steps_of s))) c.deref-in-Choose.ensures.value
+    ∙ ap (λ l. l ++ instructions b) c.new-first.ensures.items in
+    let first = c.in_ok-emit_pass_over-in-Choose.ensures
+    ∙ ap (λ n. c.emit_block-in-Choose.new.code.items ++ instructions (pass_over n)) (c.code_words.ensures ∙ behind)
     ∙ ap (λ l. l ++ instructions over) taken ∙ sym (instructions-append b over) in
-    let words = own_words c.deref-2.result.now (b ++ over) (c.deref-2.ensures.value ∙ first) in
+    let words = own_words c.deref-in-Choose-3.result.now (b ++ over) (c.deref-in-Choose-3.ensures.value ∙ first) in
     let old = c.args.code.now.items in
+    let test = test_code (test_of of.test) false (size (b ++ over)) in
     let pushes = flushed c.args.waiting.now.items in
-    let test = test_code (test_of c.args.test.now) false (size (b ++ over)) in
-    let tested = c.in_ok-emit_test.ensures.code
-    ∙ ap (λ n. c.emit_all.new.code.items ++ instructions (test_code (test_of c.args.test.now) false n)) (c.code_words-2.ensures ∙ words)
-    ∙ ap (λ l. l ++ instructions test) c.in_ok-emit_all.ensures.code ∙ two_behind old pushes test in
-    let added = c.in_ok-extend_from_slice.ensures.items ∙ ap (λ l. c.emit_test.new.code.items ++ l) (c.deref-3.ensures.value ∙ first)
+    let tested = c.in_ok-emit_test-in-Choose.ensures.code
+    ∙ ap (λ n. c.emit_all.new.code.items ++ instructions (test_code (test_of of.test) false n)) (c.code_words-in-Choose.ensures ∙ words)
+    ∙ ap (λ l. l ++ instructions test) c.in_ok-emit_all-in-Choose.ensures.code ∙ two_behind old pushes test in
+    let added = c.in_ok-extend_from_slice-in-Choose.ensures.items ∙ ap (λ l. c.emit_test.new.code.items ++ l) (c.deref-in-Choose-4.ensures.value ∙ first)
     ∙ ap (λ l. l ++ instructions (b ++ over)) tested ∙ two_behind old (pushes ++ test) (b ++ over) in
-    own_behind c.extend_from_slice-2.result old _ c.deref-4.result.now _ ((pushes ++ test) ++ (b ++ over)) other _ added
-    (c.deref-4.ensures.value ∙ otherwise)
-    (append_assoc (pushes ++ test) (b ++ over) other ∙ append_assoc pushes test ((b ++ over) ++ other))
-    (on_ok_items c.extend_from_slice-2.result _ _ _ c.extend_from_slice-2.ensures.items)
+    own_behind c.extend_from_slice-in-Choose.result old _ c.deref-in-Choose-5.result.now _ ((pushes ++ test) ++ (b ++ over)) other _ added
+    (c.deref-in-Choose-5.ensures.value ∙ otherwise)
+    (append_assoc (pushes ++ test) (b ++ over) other ∙ append_assoc pushes test ((b ++ over) ++ other) ∙ ap (step_code c.args.waiting.now.items) (sym is))
+    (on_ok_items c.extend_from_slice-in-Choose.result _ _ _ c.extend_from_slice-in-Choose.ensures.items)
 
 pub emit_loop-returns-clause-code : goal.emit_loop-returns-clause-code
 emit_loop-returns-clause-code t c =
@@ -379,9 +391,3 @@ emit_loop-returns-clause-code t c =
     c.in_ok-emit_number.ensures ∙ ap (λ l. l ++ instructions start) c.in_ok-emit_all.ensures.code ∙ two_behind old pushes start
     ∙ ap (λ l. old ++ instructions (pushes ++ l)) (sym (append-nil start))
     ∙ ap (λ b. old ++ instructions (pushes ++ (start ++ (if b then turns else [])))) (sym (le-ltb c.args.from c.args.below c.if-from-below.false))
-
-pub emit_choice-emit_block-requires : goal.emit_choice-emit_block-requires
-emit_choice-emit_block-requires t c = ?
-
-pub emit_choice-emit_block-requires-2 : goal.emit_choice-emit_block-requires-2
-emit_choice-emit_block-requires-2 t c = ?

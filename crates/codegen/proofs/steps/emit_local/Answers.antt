@@ -2,6 +2,8 @@ use Rattle.std.proofs.Common.{◌≡◌, ◌++◌, ◌∷◌, [], sym, ap, ◌�
 use Rattle.std.specs.Result.{OnOk}
 use Rattle.msp_isa.specs.declared.instructions.Instr.TheVariants.{One}
 use Rattle.msp_isa.specs.declared.instructions.OneOp.TheVariants as one
+use Rattle.msp_isa.specs.declared.operands.Operand.TheVariants as operand
+use Rattle.msp_isa.specs.declared.operands.Src.TheVariants as src
 use Rattle.msp_isa.specs.alp_words.declared.Width.TheVariants.{Word}
 use Rattle.code_forms.specs.Forms.{Push, Ram}
 use Rattle.code_forms.specs.Placed.{instructions}
@@ -17,4 +19,5 @@ returns-clause-code c =
     subst (λ b. OnOk c.emit_one.result (c.emit_one.new.code.items ≡ old ++ instructions (if b then [] else (pushes ++ m ∷ []))))
     (sym (le-ltb c.args.n 8 c.if-n-lt8.false))
     (one_behind c.emit_one.result old c.emit_all.new.code.items c.emit_one.new.code.items pushes m _ c.in_ok-emit_all.ensures.code
-    (c.push.ensures ∙ ap (λ s. One (one.Push Word s)) (c.absolute.ensures ∙ ?)) c.emit_one.ensures)
+    (c.push.ensures ∙ ap (λ s. One (one.Push Word s)) (c.absolute.ensures
+    ∙ ap (λ a. src.Operand (operand.Absolute a)) c.local_address.ensures)) c.emit_one.ensures)

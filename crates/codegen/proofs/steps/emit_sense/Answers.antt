@@ -1,6 +1,6 @@
 use Rattle.std.proofs.Common.{◌++◌, ◌∷◌, [], refl, ap, ◌∙◌}
 use Rattle.std.proofs.lemmas.Result.{on_ok_weaker}
-use Rattle.code_forms.specs.Forms.{R4, Sense}
+use Rattle.code_forms.specs.Forms.{R4, Sense, instruction_of}
 use Rattle.codegen.specs.Code.{cleared}
 use Rattle.codegen.proofs.Emitted.{two_behind, from_source}
 use Rattle.codegen.proofs.steps.emit_sense.Goals as goal
@@ -9,5 +9,6 @@ pub returns-clause-code : goal.returns-clause-code
 returns-clause-code c =
     let old = c.args.code.now.items in
     let front = cleared c.args.waiting.now.items in
-    on_ok_weaker c.wait.result (λ w. c.in_ok-emit_move.ensures ∙ ap (λ i. c.emit_cleared.new.code.items ++ i ∷ []) (from_source _ _ _ _ _ refl c.absolute.ensures)
-    ∙ ap (λ l. l ++ _ ∷ []) c.in_ok-emit_cleared.ensures.code ∙ two_behind old front (Sense R4 ∷ [])) c.wait.ensures
+    let i = instruction_of (Sense R4) in
+    on_ok_weaker c.wait.result (λ w. c.in_ok-emit_move.ensures ∙ ap (λ x. c.emit_cleared.new.code.items ++ x ∷ []) (from_source _ _ _ _ _ refl c.absolute.ensures)
+    ∙ ap (λ l. l ++ i ∷ []) c.in_ok-emit_cleared.ensures.code ∙ two_behind old front (Sense R4 ∷ [])) c.wait.ensures

@@ -21,7 +21,7 @@ returns-then-n-lt8-clause-code c =
     let m = Calculate (plain_instruction c.args.operation) x (local_register c.args.n) in
     subst (λ b. OnOk c.emit_one.result (c.emit_one.new.code.items ≡ old ++ instructions (below ++ (if b then m ∷ [] else (ram_update c.args.operation c.args.n x)))))
     (sym (lt-ltb c.args.n 8 c.if-n-lt8.true))
-    (one_behind c.emit_one.result old c.emit_below-source.new.code.items c.emit_one.new.code.items below m _ c.in_ok-source.ensures.code
+    (one_behind c.emit_one.result old c.emit_below.new.code.items c.emit_one.new.code.items below m _ c.in_ok-source.ensures.code
     (c.two.ensures ∙ ap₂ (λ o s. Two o Word s (dst.Reg (reg.Index c.local_register.result))) c.plain_instruction-op.ensures c.in_ok-source.ensures.source
     ∙ ap (λ r. Two (plain_instruction c.args.operation) Word (source_operand x) (dst.Reg (reg.Index r))) c.local_register.ensures) c.emit_one.ensures)
 
@@ -35,6 +35,6 @@ returns-else-n-lt8-clause-code c =
     let ms = ram_update c.args.operation c.args.n x in
     subst (λ b. OnOk c.emit_ram_update.result (c.emit_ram_update.new.code.items ≡ old ++ instructions (below ++ (if b then m ∷ [] else ms))))
     (sym (le-ltb c.args.n 8 c.if-n-lt8.false))
-    (part_behind c.emit_ram_update.result old c.emit_below-source.new.code.items c.emit_ram_update.new.code.items below ms ms (below ++ ms)
+    (part_behind c.emit_ram_update.result old c.emit_below.new.code.items c.emit_ram_update.new.code.items below ms ms (below ++ ms)
     c.in_ok-source.ensures.code refl refl
     (c.emit_ram_update.ensures c.args.operation x c.plain_instruction-op.ensures c.in_ok-source.ensures.source))
