@@ -1,5 +1,5 @@
 -- Operations on registers: what each leaves, and the steps that they are.
-use Rattle.std.proofs.Common.{◌≡◌, ℕ, ◌+◌, ◌-◌, ◌%◌, ◌<◌, List, [], ◌∷◌, ◌++◌, refl, ap, ap₂, ◌∙◌, subst, arith}
+use Rattle.std.proofs.Common.{◌≡◌, ℕ, ◌+◌, ◌-◌, ◌%◌, ◌<◌, List, [], refl, ap, ap₂, ◌∙◌, arith}
 use Rattle.msp_isa.specs.alp_words.declared.Flags.{Flags}
 use Rattle.msp_isa.specs.alp_words.declared.Width.TheVariants.{Word}
 use Rattle.array_versions.specs.msp_step.Effect.{operated}

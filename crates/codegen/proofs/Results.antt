@@ -32,7 +32,7 @@ use Rattle.codegen.specs.Code.{two_to_registers, unary_middle, binary_middle, bi
 use Rattle.codegen.specs.Code.{waiting_behind, step_code}
 use Rattle.codegen.proofs.Stretches.{Setting, hop, runs_on, dearer_stall, nothing_run, so_runs, starved}
 use Rattle.codegen.proofs.Memory.{place_is}
-use Rattle.codegen.proofs.Follows.{StandsFor, Follows, Pays, Reaches, reach_more, then_reach, reaches, reach_guarded}
+use Rattle.codegen.proofs.Follows.{StandsFor, Follows, Reaches, reach_more, then_reach, reaches, reach_guarded}
 use Rattle.codegen.proofs.Registers.{Has, HasTwo}
 use Rattle.codegen.proofs.Operands.{IsThere, owed_by, owed, none_held, clear_cycles, owed_kept, load_cycles, load_owed, store_cycles, store_owed, Describes}
 use Rattle.codegen.proofs.Operands.{Top, Waits, InRegister, LoadedTwo, waiting_word, bare, dressed, flush_under, flush_part, clear_under, below_part}

@@ -258,12 +258,7 @@ pub fn emit_set_local(
 }
 
 // A local in RAM becomes what an operation gives of it and of a word.
-fn emit_ram_update(
-    op: TwoOp,
-    n: u16,
-    source: Src,
-    code: &mut Vec<Instr>,
-) -> Result<(), AllocError>
+fn emit_ram_update(op: TwoOp, n: u16, source: Src, code: &mut Vec<Instr>) -> Result<(), AllocError>
     requires { n < 1008 }
     ensures { (operation : PlainOperation) (x : form.Source) → op ≡ plain_instruction operation → source ≡ form.source_operand x
         → OnOk result (code.new.items ≡ code.old.items ++ instructions (ram_update operation n x)) }
@@ -292,17 +287,17 @@ pub fn emit_update_local(
     let source = emit_below(waiting, code)?;
     let op = plain_instruction(operation);
     if n < 8 {
-        emit_one(two(op, source, Dst::Reg(Reg::Index(local_register(n)))), code)
+        emit_one(
+            two(op, source, Dst::Reg(Reg::Index(local_register(n)))),
+            code,
+        )
     } else {
         emit_ram_update(op, n, source, code)
     }
 }
 
 /// Appends the code that takes the next reading.
-pub fn emit_sense(
-    waiting: &mut Vec<Waiting>,
-    code: &mut Vec<Instr>,
-) -> Result<(), AllocError>
+pub fn emit_sense(waiting: &mut Vec<Waiting>, code: &mut Vec<Instr>) -> Result<(), AllocError>
     ensures code { OnOk result (code.new.items ≡ code.old.items ++ instructions (step_code waiting.old.items value.sense)) }
     ensures waiting { OnOk result (waiting.new.items ≡ waiting_behind waiting.old.items value.sense) }
 {

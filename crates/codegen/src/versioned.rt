@@ -11,9 +11,7 @@ ghost use Rattle.code_forms.specs.Forms as form;
 ghost use Rattle.codegen.specs.Code.{read_code, mark_code, last_code, end_test, longer_code, next_code, word_code, first_code, copy_code, write_code, step_code, waiting_behind};
 ghost use Rattle.array_versions.specs.Program as value;
 
-use crate::forms::{
-    R4, R5, R6, R7, TO_R4, TO_R5, TO_R6, TO_R7, absolute, constant, jump, two,
-};
+use crate::forms::{R4, R5, R6, R7, TO_R4, TO_R5, TO_R6, TO_R7, absolute, constant, jump, two};
 use crate::waiting::{Waiting, emit_all, emit_top_to_four, emit_two_to_registers, wait};
 use array_versions::{ArrayPlace, ListPlace};
 use msp_isa::{Condition, Dst, IndexRegister, Instr, Konst, Operand, Src, TwoOp};
@@ -34,11 +32,7 @@ fn at_r5(base: u16) -> Src
 }
 
 // A versioned read at the index in R4.
-fn emit_read(
-    place: ArrayPlace,
-    list: ListPlace,
-    code: &mut Vec<Instr>,
-) -> Result<(), AllocError>
+fn emit_read(place: ArrayPlace, list: ListPlace, code: &mut Vec<Instr>) -> Result<(), AllocError>
     ensures code { OnOk result (code.new.items ≡ code.old.items ++ instructions (read_code place list)) }
     ensures of_words { OnOk result (ArrayOfWords place × ListOfWords list) }
 {

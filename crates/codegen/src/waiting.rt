@@ -152,10 +152,7 @@ pub fn emit_below(waiting: &mut Vec<Waiting>, code: &mut Vec<Instr>) -> Result<S
 }
 
 /// Takes the top to R4.
-pub fn emit_top_to_four(
-    waiting: &mut Vec<Waiting>,
-    code: &mut Vec<Instr>,
-) -> Result<(), AllocError>
+pub fn emit_top_to_four(waiting: &mut Vec<Waiting>, code: &mut Vec<Instr>) -> Result<(), AllocError>
     ensures code { OnOk result (code.new.items ≡ code.old.items ++ instructions (top_to_four waiting.old.items)) }
     ensures waiting { OnOk result (waiting.new.items ≡ kept (below_top waiting.old.items)) }
 {
@@ -165,10 +162,7 @@ pub fn emit_top_to_four(
 }
 
 /// Takes the top to R5.
-pub fn emit_top_to_five(
-    waiting: &mut Vec<Waiting>,
-    code: &mut Vec<Instr>,
-) -> Result<(), AllocError>
+pub fn emit_top_to_five(waiting: &mut Vec<Waiting>, code: &mut Vec<Instr>) -> Result<(), AllocError>
     ensures code { OnOk result (code.new.items ≡ code.old.items ++ instructions (top_to_five waiting.old.items)) }
     ensures waiting { OnOk result (waiting.new.items ≡ kept (below_top waiting.old.items)) }
 {

@@ -1,4 +1,4 @@
-use Rattle.std.proofs.Common.{◌++◌, ◌∷◌, [], refl, ap, ◌∙◌}
+use Rattle.std.proofs.Common.{refl}
 use Rattle.codegen.specs.Code.{flushed, entry_code}
 use Rattle.codegen.proofs.Emitted.{part_behind}
 use Rattle.codegen.proofs.steps.emit_entry.Goals as goal

@@ -1,7 +1,6 @@
-use Rattle.std.proofs.Common.{refl, ap, ◌∙◌}
 use Rattle.code_forms.specs.Forms.{Branch}
 use Rattle.codegen.specs.Code.{flushed}
-use Rattle.codegen.proofs.Emitted.{one_behind, from_source}
+use Rattle.codegen.proofs.Emitted.{one_behind}
 use Rattle.codegen.proofs.steps.emit_jump.Goals as goal
 
 pub returns-clause-code : goal.returns-clause-code

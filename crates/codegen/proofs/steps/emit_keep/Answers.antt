@@ -1,7 +1,7 @@
-use Rattle.std.proofs.Common.{refl, sym, ap, ap₂, ◌∙◌, if◌then◌else◌, lt-ltb, le-ltb}
+use Rattle.std.proofs.Common.{refl}
 use Rattle.code_forms.specs.Forms.{Move, ToFram}
-use Rattle.codegen.specs.Code.{flushed, top_of, source_from, below_top, local_target, local_register, local_address, plain_instruction, ram_update, update_code}
-use Rattle.codegen.proofs.Emitted.{one_behind, part_behind, from_source}
+use Rattle.codegen.specs.Code.{flushed, top_of, source_from, below_top}
+use Rattle.codegen.proofs.Emitted.{one_behind, from_source}
 use Rattle.codegen.proofs.steps.emit_keep.Goals as goal
 
 pub returns-clause-code : goal.returns-clause-code

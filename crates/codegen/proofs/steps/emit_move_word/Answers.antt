@@ -1,4 +1,4 @@
-use Rattle.std.proofs.Common.{refl, ap, ◌∙◌}
+use Rattle.std.proofs.Common.{refl}
 use Rattle.code_forms.specs.Forms.{Move, Fram, ToFram}
 use Rattle.codegen.specs.Code.{flushed}
 use Rattle.codegen.proofs.Emitted.{one_behind, from_source}

@@ -1,12 +1,10 @@
-use Rattle.std.proofs.Common.{refl, sym, ap, ap₂, ◌∙◌, if◌then◌else◌, lt-ltb, le-ltb}
+use Rattle.std.proofs.Common.{ap₂, ◌∙◌}
 use Rattle.msp_isa.specs.alp_words.declared.Width.TheVariants.{Word}
 use Rattle.msp_isa.specs.declared.instructions.Instr.TheVariants.{Two}
-use Rattle.msp_isa.specs.declared.instructions.TwoOp.TheVariants.{Mov}
 use Rattle.msp_isa.specs.declared.operands.Dst.TheVariants as dst
-use Rattle.msp_isa.specs.declared.registers.Reg.TheVariants as reg
 use Rattle.code_forms.specs.Forms.{Update}
-use Rattle.codegen.specs.Code.{flushed, top_of, source_from, below_top, local_target, local_register, local_address, plain_instruction, ram_update, update_code}
-use Rattle.codegen.proofs.Emitted.{one_behind, part_behind, from_source}
+use Rattle.codegen.specs.Code.{flushed, top_of, source_from, below_top, plain_instruction}
+use Rattle.codegen.proofs.Emitted.{one_behind}
 use Rattle.codegen.proofs.steps.emit_update.Goals as goal
 
 pub returns-clause-code : goal.returns-clause-code

@@ -1,4 +1,4 @@
-use Rattle.std.proofs.Common.{refl, ap, ◌∙◌, rules}
+use Rattle.std.proofs.Common.{ap, ◌∙◌, rules}
 use Rattle.msp_isa.specs.alp_words.declared.Width.TheVariants.{Word}
 use Rattle.msp_isa.specs.declared.instructions.Instr.TheVariants.{One}
 use Rattle.msp_isa.specs.declared.instructions.OneOp.TheVariants as one

@@ -1,4 +1,4 @@
-use Rattle.std.proofs.Common.{◌++◌, refl, ap, ◌∙◌, append_assoc}
+use Rattle.std.proofs.Common.{◌++◌, ap, ◌∙◌, append_assoc}
 use Rattle.code_forms.specs.Placed.{instructions}
 use Rattle.codegen.specs.Code.{top_of, below_top, cleared, four_from, five_from}
 use Rattle.codegen.proofs.Emitted.{two_behind, part_behind}
