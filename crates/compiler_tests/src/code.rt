@@ -24,10 +24,9 @@ fn a_small_program_has_its_words(rt: HostRuntime) -> Result<(), AllocError> {
     let program = sample(rt.alloc())?;
     let mut code = Vec::new(rt.alloc());
     emit(rt.alloc(), &program, &mut code)?;
-    assert_eq!(rt; code.len(), 3);
-    assert_eq!(rt; encode(&code[0]).as_slice(), [0x1230, 7].as_slice());
-    assert_eq!(rt; encode(&code[1]).as_slice(), [0x41b2, 0x4410].as_slice());
-    assert_eq!(rt; encode(&code[2]).as_slice(), [0x4030, 0x4400].as_slice());
+    assert_eq!(rt; code.len(), 2);
+    assert_eq!(rt; encode(&code[0]).as_slice(), [0x40b2, 7, 0x4410].as_slice());
+    assert_eq!(rt; encode(&code[1]).as_slice(), [0x4030, 0x4400].as_slice());
     Ok(())
 }
 
@@ -53,14 +52,14 @@ fn looping(alloc: Global) -> Result<WordProgram, AllocError>
     Ok(program)
 }
 
-// The words of 5 and its store; of the loop's start; of the test; of what is done where it holds; of what is done where it fails; of
+// The words of the store of 5; of the loop's start; of the test; of what is done where it holds; of what is done where it fails; of
 // the turn's end; and of the jump out.
-const LOOPING: [u16; 25] = [
-    0x1230, 5, 0x41b2, 0x1c30, 0x4038, 0, 0x1212, 0x1c30, 0x4134, 0x9304, 0x2404, 0x1208, 0x41b2,
-    0x4410, 0x3c04, 0x1230, 9, 0x41b2, 0x4410, 0x5318, 0x9038, 3, 0x23ef, 0x4030, 0x4400,
+const LOOPING: [u16; 22] = [
+    0x40b2, 5, 0x1c30, 0x4038, 0, 0x1212, 0x1c30, 0x4134, 0x9304, 0x2403, 0x4882, 0x4410, 0x3c03,
+    0x40b2, 9, 0x4410, 0x5318, 0x9038, 3, 0x23f1, 0x4030, 0x4400,
 ];
 
-// Local 0 is R8, and local 8 stands at 1C30. The test goes over 4 words, what is taken over 4 more, and the loop back over the 16
+// Local 0 is R8, and local 8 stands at 1C30. The test goes over 3 words, what is taken over 3 more, and the loop back over the 14
 // words of a turn.
 #[test]
 fn a_loop_and_a_choice_have_their_words(rt: HostRuntime) -> Result<(), AllocError> {
