@@ -13,8 +13,11 @@ others_stand Usage words shelf out err a = λ name unnamed. all_same shelf.old s
 others_stand OutOfMemory words shelf out err a = λ name unnamed. all_same shelf.old shelf.new name a.stands
 others_stand Done words shelf out err a = λ name unnamed. command_same Done (promise_of a.0) name shelf out err (λ named. unnamed (a.0, a.1, named)) a.2
 others_stand Refused words shelf out err a = λ name unnamed. command_same Refused (promise_of a.0) name shelf out err (λ named. unnamed (a.0, a.1, named)) a.2
-others_stand Unreadable words shelf out err a = λ name unnamed. command_same Unreadable (promise_of a.0) name shelf out err (λ named. unnamed (a.0, a.1, named)) a.2
-others_stand Unwritable words shelf out err a = λ name unnamed. command_same Unwritable (promise_of a.0) name shelf out err (λ named. unnamed (a.0, a.1, named)) a.2
-others_stand MachineFault words shelf out err a = λ name unnamed. command_same MachineFault (promise_of a.0) name shelf out err (λ named. unnamed (a.0, a.1, named)) a.2
+others_stand Unreadable words shelf out err a = λ name unnamed. command_same Unreadable (promise_of a.0) name shelf out err
+    (λ named. unnamed (a.0, a.1, named)) a.2
+others_stand Unwritable words shelf out err a = λ name unnamed. command_same Unwritable (promise_of a.0) name shelf out err
+    (λ named. unnamed (a.0, a.1, named)) a.2
+others_stand MachineFault words shelf out err a = λ name unnamed. command_same MachineFault (promise_of a.0) name shelf out err
+    (λ named. unnamed (a.0, a.1, named)) a.2
 others_stand Differs words shelf out err a = λ name unnamed. command_same Differs (promise_of a.0) name shelf out err (λ named. unnamed (a.0, a.1, named)) a.2
 others_stand TooLong words shelf out err a = λ name unnamed. command_same TooLong (promise_of a.0) name shelf out err (λ named. unnamed (a.0, a.1, named)) a.2

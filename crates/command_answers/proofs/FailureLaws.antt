@@ -11,7 +11,8 @@ use Rattle.command_answers.specs.Promises.{Product, Promise}
 use Rattle.command_answers.specs.Refusals.{Refusal}
 use Rattle.command_answers.specs.Views.{refusal_of}
 
-pub refusal_fails : (e : Failure) (name : List ℕ) (P : Refusal → Type 0) (promise : Promise) (texts : List (List ℕ)) (place : ℕ) (shelf : Shelved) (out : Written)
+pub refusal_fails : (e : Failure) (name : List ℕ) (P : Refusal → Type 0) (promise : Promise) (texts : List (List ℕ)) (place : ℕ) (shelf : Shelved)
+    (out : Written)
     → slice_get promise.judges place ≡ Some name → ((r : Refusal) → P r → promise.refuses texts place r) → Stands shelf → IsSilent out
     → FailsRefused name P e → FailsBy e promise texts shelf out
 refusal_fails (Refused file r) name P promise texts place shelf out named is stands silent fails = (

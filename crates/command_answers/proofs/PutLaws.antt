@@ -41,7 +41,8 @@ put_breaks P promise texts name file bytes shelf out named is same put breaks = 
 }
 
 pub put_fails : (e : Failure) (promise : Promise) (texts : List (List ℕ)) (name file output : List ℕ) (shelf : Shelved) (out : Written)
-    → promise.puts ≡ Some name → promise.makes texts (put_and_written file output) → IsSilent out → FailsPutting e name shelf → FailsBy e promise texts shelf out
+    → promise.puts ≡ Some name → promise.makes texts (put_and_written file output) → IsSilent out → FailsPutting e name shelf
+    → FailsBy e promise texts shelf out
 put_fails (Refused file r) promise texts name bytes output shelf out named is silent fails = absurd fails
 put_fails (Put file) promise texts name bytes output shelf out named is silent fails = record {
   product = put_and_written bytes output;

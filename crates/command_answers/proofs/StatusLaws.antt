@@ -78,7 +78,8 @@ of_one status promise text a shelf out err is_a held answer =
     of_texts status promise (a ∷ []) shelf out err (subst (λ x. IfSome shelf.old (λ f. AreHeld f promise.reads (x ∷ []))) (sym is_a) held) answer
 
 -- what is said from behind the reads on, from before them
-pub earlier_read : (status : Status) (promise : Promise) (texts : List (List ℕ)) (files mid now : Option Files) (before between after : Counts) (out err : Written)
+pub earlier_read : (status : Status) (promise : Promise) (texts : List (List ℕ)) (files mid now : Option Files) (before between after : Counts)
+    (out err : Written)
     → mid ≡ files → NeverFall before between
     → TextAnswers status promise texts (record { old = mid; new = now; counts_old = between; counts_new = after }) out err
     → TextAnswers status promise texts (record { old = files; new = now; counts_old = before; counts_new = after }) out err
@@ -95,7 +96,8 @@ of_one_read status promise text a files mid now before between after out err is_
     of_one status promise text a _ out err is_a held (earlier_read status promise (a ∷ []) files mid now before between after out err same falls answer)
 
 -- a command that reads two files and then may put one
-pub of_two_read : (status : Status) (promise : Promise) (first second a b : List ℕ) (files mid now : Option Files) (before between after : Counts) (out err : Written)
+pub of_two_read : (status : Status) (promise : Promise) (first second a b : List ℕ) (files mid now : Option Files) (before between after : Counts)
+    (out err : Written)
     → a ≡ first → b ≡ second → mid ≡ files → NeverFall before between → IfSome files (λ f. AreHeld f promise.reads (first ∷ second ∷ []))
     → TextAnswers status promise (a ∷ b ∷ []) (record { old = mid; new = now; counts_old = between; counts_new = after }) out err
     → CommandAnswers status promise (record { old = files; new = now; counts_old = before; counts_new = after }) out err

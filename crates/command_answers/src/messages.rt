@@ -1,7 +1,8 @@
 //! The one line to standard error that goes with a status. A write that fails leaves the status as it is.
 ghost use Rattle.std.specs.Prelude.{◌≤◌, flat_map, ◌∷◌, [], codes};
 ghost use Rattle.alp_io.specs.Report.{texts};
-ghost use Rattle.command_answers.specs.Messages.{Tells, unreadable_line, too_long_line, unput_line, unwritable_line, memory_line, machine_fault_line, differs_line, usage_line};
+ghost use Rattle.command_answers.specs.Messages.{Tells, unreadable_line, too_long_line, unput_line, unwritable_line, memory_line, machine_fault_line};
+ghost use Rattle.command_answers.specs.Messages.{differs_line, usage_line};
 ghost use Rattle.command_answers.specs.Refusals.{refused_line};
 ghost use Rattle.command_answers.specs.Views.{refusal_of};
 

@@ -6,7 +6,8 @@ use Rattle.state_text.specs.Reading.{state_of}
 use Rattle.msp_asm.specs.Assembled.{assembled}
 use Rattle.command_texts.specs.Assemblies.{RefusesAssembly, SaysAssembly}
 use Rattle.command_answers.specs.Refusals.{Refusal}
-use Rattle.command_texts.specs.Texts.{RefusesTrace, RefusesImage, outside_fram, twice, no_reset, bad_map, RefusesState, bad_state_line, outside_of_state, twice_in_state, no_reset_in_state, bad_map_of_state, SaysTrace, SaysImage, SaysState}
+use Rattle.command_texts.specs.Texts.{RefusesTrace, RefusesImage, outside_fram, twice, no_reset, bad_map, RefusesState, bad_state_line, outside_of_state}
+use Rattle.command_texts.specs.Texts.{twice_in_state, no_reset_in_state, bad_map_of_state, SaysTrace, SaysImage, SaysState}
 use Rattle.command_texts.specs.Texts as texts
 
 pub same_value : {A E : Type 0} (x : Result A E) (a b : A) → x ≡ Ok a → x ≡ Ok b → a ≡ b

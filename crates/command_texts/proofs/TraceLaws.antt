@@ -1,5 +1,6 @@
 -- The numbers of a trace that is read are as their types say.
-use Rattle.std.proofs.Common.{◌≡◌, ◌<◌, ◌^◌, ◌==◌, ℕ, List, [], ◌∷◌, map, Bool, true, false, if◌then◌else◌, nat_lt, Option, Some, None, IfSome, Result, Ok, Err, codes, All, arith, refl, sym, subst}
+use Rattle.std.proofs.Common.{◌≡◌, ◌<◌, ◌^◌, ◌==◌, ℕ, List, [], ◌∷◌, map, Bool, true, false, if◌then◌else◌, nat_lt, Option, Some, None, IfSome, Result, Ok}
+use Rattle.std.proofs.Common.{Err, codes, All, arith, refl, sym, subst}
 use Rattle.std.specs.Str.{bytes_eq}
 use Rattle.std.proofs.lemmas.Bool.Decides.{nat_tests}
 use Rattle.std.proofs.lemmas.List.Elements.{All-nil, All-cons, All-append}
@@ -10,7 +11,8 @@ use Rattle.image_text.specs.text_parts.Lengths.{before}
 use Rattle.energy_trace.specs.declared.charge.Charge.{Charge}
 use Rattle.energy_trace.specs.declared.charge.ChargeKind.{ChargeKind}
 use Rattle.energy_trace.specs.declared.charge.ChargeKind.TheVariants as kind
-use Rattle.energy_trace.specs.Line.{LineMeaning, nothing, charge, readings, number_below, positive, times_of, charge_of, readings_of, fields_say, line_says, ◌>>?◌}
+use Rattle.energy_trace.specs.Line.{LineMeaning, nothing, charge, readings, number_below, positive, times_of, charge_of, readings_of, fields_say, line_says}
+use Rattle.energy_trace.specs.Line.{◌>>?◌}
 use Rattle.energy_trace.specs.Ranges.{IsCharge}
 use Rattle.energy_trace.specs.Meaning.{all_charges, all_readings, AreLinesOf}
 use Rattle.energy_trace.specs.TraceValue.{TraceValue}

@@ -41,7 +41,8 @@ use Rattle.command_answers.proofs.Interface.{output_alone, none_put, whole_by, f
 
 -- ---- a command that writes the report of a run
 
-pub report_whole : (result : Result RunEnding Failure) (b : BoardValue) (h : History) (t : TraceValue) (promise : Promise) (texts : List (List ℕ)) (out : Written)
+pub report_whole : (result : Result RunEnding Failure) (b : BoardValue) (h : History) (t : TraceValue) (promise : Promise) (texts : List (List ℕ))
+    (out : Written)
     → promise.puts ≡ None
     → ((ending : Ending) (output : List ℕ) → IsReportFrom b h t ending output → promise.makes texts (output_alone output ending))
     → IfOk result (λ ending. Gains out (IsReportFrom b h t (ending_of ending)))
@@ -55,7 +56,8 @@ report_whole (Ok ending) b h t promise texts out none is gains = λ shelf stands
 }
 report_whole (Err e) b h t promise texts out none is gains = tt
 
-pub report_fails : (result : Result RunEnding Failure) (b : BoardValue) (h : History) (t : TraceValue) (promise : Promise) (texts : List (List ℕ)) (out : Written)
+pub report_fails : (result : Result RunEnding Failure) (b : BoardValue) (h : History) (t : TraceValue) (promise : Promise) (texts : List (List ℕ))
+    (out : Written)
     → promise.puts ≡ None
     → ((ending : Ending) (output : List ℕ) → IsReportFrom b h t ending output → promise.makes texts (output_alone output ending))
     → IfErr result (λ e. FailsWriting e out (λ output. (ending : Ending) × IsReportFrom b h t ending output))
@@ -114,13 +116,15 @@ pub dis_whole : {A : Type 0} (result : Result A Failure) (a image : List ℕ) (i
     → image_of image ≡ Ok i → IfOk result (λ x. Gains out (IsListing i.words))
     → IfOk result (λ x. WhereStands (λ shelf. IsWhole (dis_promise a) (image ∷ []) well shelf out))
 dis_whole result a image i out said gains =
-    whole_by result (IsListing i.words) (dis_promise a) (image ∷ []) well out refl (λ output is. (record { value = i; said = said; listing = is }, refl, refl)) gains
+    whole_by result (IsListing i.words) (dis_promise a) (image ∷ []) well out refl
+    (λ output is. (record { value = i; said = said; listing = is }, refl, refl)) gains
 
 pub dis_fails : {A : Type 0} (result : Result A Failure) (a image : List ℕ) (i : ImageValue) (out : Written)
     → image_of image ≡ Ok i → IfErr result (λ e. FailsWriting e out (IsListing i.words))
     → IfErr result (λ e. WhereStands (λ shelf. FailsBy e (dis_promise a) (image ∷ []) shelf out))
 dis_fails result a image i out said fails =
-    fails_by result (IsListing i.words) (dis_promise a) (image ∷ []) well out refl (λ output is. (record { value = i; said = said; listing = is }, refl, refl)) fails
+    fails_by result (IsListing i.words) (dis_promise a) (image ∷ []) well out refl
+    (λ output is. (record { value = i; said = said; listing = is }, refl, refl)) fails
 
 -- ---- `audit`, whose source keeps its text
 
@@ -171,4 +175,5 @@ asm_whole (Err e) a i assembly file bytes shelf is same put = tt
 pub asm_fails : {A : Type 0} (result : Result A Failure) (a i assembly file : List ℕ) (shelf : Shelved) → Assembles assembly file
     → IfErr result (λ e. FailsPutting e i shelf) → IfErr result (λ e. WhereSilent (FailsBy e (asm_promise a i) (assembly ∷ []) shelf))
 asm_fails (Ok x) a i assembly file shelf is fails = tt
-asm_fails (Err e) a i assembly file shelf is fails = λ out silent. put_fails e (asm_promise a i) (assembly ∷ []) i file [] shelf out refl (is, refl, refl) silent fails
+asm_fails (Err e) a i assembly file shelf is fails =
+    λ out silent. put_fails e (asm_promise a i) (assembly ∷ []) i file [] shelf out refl (is, refl, refl) silent fails

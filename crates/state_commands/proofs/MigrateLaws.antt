@@ -23,7 +23,8 @@ use Rattle.state_commands.specs.declared.migrate.MigrateNames.{MigrateNames}
 use Rattle.state_commands.specs.declared.migrate.Said.{Said}
 use Rattle.command_answers.specs.CommandAnswers.{IsWhole, CommandAnswers, TextAnswers}
 use Rattle.command_answers.specs.Ending.{well}
-use Rattle.state_commands.specs.Migrated.{Editions, AreSaid, AreAlone, AreSuited, Migrates, MigratesWords, MigrateRefuses, unsuited, unsuited_new, another_state, not_migrated, other_source, migrate_refusal, old_edition, new_edition}
+use Rattle.state_commands.specs.Migrated.{Editions, AreSaid, AreAlone, AreSuited, Migrates, MigratesWords, MigrateRefuses, unsuited, unsuited_new}
+use Rattle.state_commands.specs.Migrated.{another_state, not_migrated, other_source, migrate_refusal, old_edition, new_edition}
 use Rattle.state_commands.specs.Migrating.{AreRead, FailsAt, OfEditions, old_with, new_with, read_by, texts_of, migration_of}
 use Rattle.command_answers.specs.Outcomes.{FailsBy, FailsPutting, FailsRefused}
 use Rattle.command_answers.specs.Outside.{Shelved, WhereSilent, Written}
@@ -143,7 +144,8 @@ module _ (t : Editions) (s : Said) (read : AreRead t s) where
           → MigrateRefuses t 2 r
       refused_migration r h = not_migrated said_in alone_in suited belongs h.0 r (of_editions (λ a b. IsFault a b h.0) h.1) h.2
 
-      pub migrates : (x : State) (file : List ℕ) → OfEditions s (λ a b. IsMigrated a b s.state.receiver x) → IsOfWords s.state × IfSome s.state.image.map IsMap × IsOfWords x → file ≡ state_text x
+      pub migrates : (x : State) (file : List ℕ) → OfEditions s (λ a b. IsMigrated a b s.state.receiver x) → IsOfWords s.state
+          × IfSome s.state.image.map IsMap × IsOfWords x → file ≡ state_text x
           → state_of file ≡ Ok x → Migrates MigratesWords t file
       migrates x file h words text back = record {
         said = said_in;
@@ -166,7 +168,8 @@ refusal_at (Put file) n t shelf fails stands = absurd fails
 refusal_at Write n t shelf fails stands = absurd fails
 refusal_at Memory n t shelf fails stands = λ out silent. (stands, silent)
 
-pub migrate_whole : {A : Type 0} (result : Result A Failure) (n : MigrateNames) (t : Editions) (file bytes : List ℕ) (shelf : Shelved) → Migrates MigratesWords t file
+pub migrate_whole : {A : Type 0} (result : Result A Failure) (n : MigrateNames) (t : Editions) (file bytes : List ℕ) (shelf : Shelved)
+    → Migrates MigratesWords t file
     → bytes ≡ file → IfOk result (λ x. Told shelf.old shelf.new (Sets n.new_state.now bytes))
     → IfOk result (λ x. WhereSilent (IsWhole (migration_of n) (texts_of t) well shelf))
 migrate_whole (Ok x) n t file bytes shelf is same put = λ out silent.
@@ -186,7 +189,8 @@ pub of_five_read : (status : Status) (n : MigrateNames) (read lent : Editions) (
     → TextAnswers status (migration_of n) (texts_of lent) (record { old = mid; new = now; counts_old = between; counts_new = after }) out err
     → CommandAnswers status (migration_of n) (record { old = files; new = now; counts_old = before; counts_new = after }) out err
 of_five_read status n read lent files mid now before between after out err is same falls held answer =
-    let of_read = subst (λ t. TextAnswers status (migration_of n) (texts_of t) (record { old = mid; new = now; counts_old = between; counts_new = after }) out err)
+    let of_read = subst (λ t. TextAnswers status (migration_of n) (texts_of t) (record { old = mid; new = now; counts_old = between; counts_new = after })
+    out err)
     is answer in
     of_texts status (migration_of n) (texts_of read) _ out err held
     (earlier_read status (migration_of n) (texts_of read) files mid now before between after out err same falls of_read)

@@ -16,7 +16,8 @@ use Rattle.state_commands.specs.Saved.{Saves, from_state}
 use Rattle.command_texts.proofs.Interface.{same_value}
 use Rattle.plain_commands.proofs.Interface.{one_run}
 
-pub resume_ending : (Holds : ImageValue → State → TraceValue → RunOutcome → List ℕ → Type 0) → HasOneRun → (x y z : List ℕ) (e e' : Ending) (o o' : List ℕ) → Resumes Holds x y z e o → Resumes Holds x y z e' o' → e ≡ e'
+pub resume_ending : (Holds : ImageValue → State → TraceValue → RunOutcome → List ℕ → Type 0) → HasOneRun → (x y z : List ℕ) (e e' : Ending) (o o' : List ℕ)
+    → Resumes Holds x y z e o → Resumes Holds x y z e' o' → e ≡ e'
 resume_ending Holds law x y z e e' o o' a b =
     let state : b.saved ≡ a.saved = same_value (state_of y) b.saved a.saved b.state_said a.state_said in
     let trace : b.charges ≡ a.charges = same_value (trace_of z) b.charges a.charges b.trace_said a.trace_said in
@@ -24,7 +25,8 @@ resume_ending Holds law x y z e e' o o' a b =
     let OfTrace : TraceValue → Type 0 = λ t. IsReportFrom (from_state a.saved t) (start_of a.saved.image) t e' o' in
     one_run law _ _ a.charges e e' o o' a.report (subst OfTrace trace (subst OfState state b.report))
 
-pub save_ending : (Holds : State → TraceValue → RunOutcome → Type 0) → HasOneRun → (x y : List ℕ) (f f' : Option (List ℕ)) (e e' : Ending) (o o' : List ℕ) → Saves Holds x y f e o → Saves Holds x y f' e' o' → e ≡ e'
+pub save_ending : (Holds : State → TraceValue → RunOutcome → Type 0) → HasOneRun → (x y : List ℕ) (f f' : Option (List ℕ)) (e e' : Ending) (o o' : List ℕ)
+    → Saves Holds x y f e o → Saves Holds x y f' e' o' → e ≡ e'
 save_ending Holds law x y f f' e e' o o' a b =
     let state : b.state ≡ a.state = same_value (state_of x) b.state a.state b.state_said a.state_said in
     let trace : b.charges ≡ a.charges = same_value (trace_of y) b.charges a.charges b.trace_said a.trace_said in

@@ -134,7 +134,8 @@ module _ (image trace : List ℕ) (s : State) (end : Result RunEnd RunFault) (bo
   }
 
   pub fault_breaks : (f : RunFault) (a b c : List ℕ) (shelf : Shelved) (out : Written) → end ≡ Err f → Stands shelf
-      → AppendsProperPrefix out.old out.new (told_fault f) → Rose out.faults_old out.faults_new → IsBroken (save_promise RunsOnWords a b c) (image ∷ trace ∷ []) shelf out
+      → AppendsProperPrefix out.old out.new (told_fault f) → Rose out.faults_old out.faults_new
+      → IsBroken (save_promise RunsOnWords a b c) (image ∷ trace ∷ []) shelf out
   fault_breaks f a b c shelf out is stands written failed = record {
     product = record { file = None; output = told_fault f; ending = at_fault };
     is = saves_none f (told_fault f) is refl;

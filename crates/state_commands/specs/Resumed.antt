@@ -22,7 +22,8 @@ use Rattle.command_answers.specs.Promises.{Promise, OfThreeTexts}
 
 -- The texts are an image, a state that belongs to it, and a trace. This is the report of the run of the board that goes on from the
 -- state, on the trace, and that run ends so. And this holds of them, the run and the report.
-pub record Resumes (Holds : ImageValue → State → TraceValue → RunOutcome → List ℕ → Type 0) (image state trace : List ℕ) (ending : Ending) (output : List ℕ) : Type 0 where
+pub record Resumes (Holds : ImageValue → State → TraceValue → RunOutcome → List ℕ → Type 0) (image state trace : List ℕ) (ending : Ending)
+    (output : List ℕ) : Type 0 where
   pub value : ImageValue
   pub saved : State
   pub charges : TraceValue

@@ -47,7 +47,8 @@ RunsOnWords s trace r = IsOfWords s × IsTraceOfWords trace
 -- The texts are a state, or an image, whose receiver takes word 0 next; and a trace. The board that goes on from it has one run on the
 -- trace, which ends so; this file holds the FRAM, the map and the receiver's next number of the run's last board, and this is the last line of
 -- the run's report. And this holds of the state, the trace and the run.
-pub record Saves (Holds : State → TraceValue → RunOutcome → Type 0) (image trace : List ℕ) (file : Option (List ℕ)) (ending : Ending) (output : List ℕ) : Type 0 where
+pub record Saves (Holds : State → TraceValue → RunOutcome → Type 0) (image trace : List ℕ) (file : Option (List ℕ)) (ending : Ending) (output : List ℕ) :
+    Type 0 where
   pub state : State
   pub charges : TraceValue
   pub outcome : RunOutcome

@@ -212,7 +212,8 @@ fn save_of<H: Shelf, O: Sink, E: Sink>(
     ensures counts { NeverFall (H.counts shelf.old) (H.counts shelf.new) }
     ensures out_faults { O.faults out.old ≤ O.faults out.new }
     ensures err_faults { E.faults err.old ≤ E.faults err.new }
-    ensures answers { TextAnswers result (save_promise RunsOnWords names.entry.0.now names.entry.1.now names.entry.2.now) (texts.entry.0.now ∷ texts.entry.1.now ∷ [])
+    ensures answers { TextAnswers result (save_promise RunsOnWords names.entry.0.now names.entry.1.now names.entry.2.now)
+        (texts.entry.0.now ∷ texts.entry.1.now ∷ [])
         (record { old = H.files shelf.old; new = H.files shelf.new; counts_old = H.counts shelf.old; counts_new = H.counts shelf.new })
         (record { old = O.contents out.old; new = O.contents out.new; faults_old = O.faults out.old; faults_new = O.faults out.new })
         (record { old = E.contents err.old; new = E.contents err.new; faults_old = E.faults err.old; faults_new = E.faults err.new }) }

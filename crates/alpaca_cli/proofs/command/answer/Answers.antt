@@ -68,7 +68,8 @@ returns-in-Ok-Migrate-clause-answers g c =
       number = tt;
       line = c.in-Ok-Migrate.ensures.command
           ∙ ap (λ x. Some (plain_line x)) c.in-Ok-Migrate.field-0-is;
-    }) refl (λ out silent. answers_more _ _ (migrates_more c.migrated_states_belong.ensures _ _ _ _ _ _) _ _ out _ (c.answer_migrate.ensures.answers out silent))
+    }) refl (λ out silent. answers_more _ _ (migrates_more c.migrated_states_belong.ensures _ _ _ _ _ _) _ _ out _
+    (c.answer_migrate.ensures.answers out silent))
 
 pub returns-in-Ok-Audit-clause-answers : goal.returns-in-Ok-Audit-clause-answers
 returns-in-Ok-Audit-clause-answers g c =
