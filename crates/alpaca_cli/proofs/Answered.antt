@@ -1,17 +1,17 @@
 -- From what is said of a command to what is said of the words, and what follows where nothing fails.
 use Rattle.std.proofs.Common.{◌≡◌, ◌∙◌, ◌⊎◌, inl, inr, ◌≤◌, ℕ, List, [], ◌∷◌, length, Option, Some, None, IfSome, arith, refl, sym, ap, subst}
 use Rattle.std.specs.Prelude.{unwrap_or}
-use Rattle.alp_io.specs.Count.{Rose}
-use Rattle.alp_io.specs.Shelf.{Files, Counts}
-use Rattle.fram_board.specs.Laws.{HasOneRun}
-use Rattle.command_answers.specs.declared.status.Status.{Status}
-use Rattle.command_answers.specs.declared.status.Status.TheVariants.{Done, Refused, Usage, Unreadable, Unwritable, OutOfMemory, MachineFault, TooLong, Differs}
+use Rattle.plain_commands.specs.alp_io.Count.{Rose}
+use Rattle.plain_commands.specs.alp_io.Shelf.{Files, Counts}
+use Rattle.plain_commands.specs.fram_board.Laws.{HasOneRun}
+use Rattle.plain_commands.specs.command_answers.declared.status.Status.{Status}
+use Rattle.plain_commands.specs.command_answers.declared.status.Status.TheVariants.{Done, Refused, Usage, Unreadable, Unwritable, OutOfMemory, MachineFault, TooLong, Differs}
 use Rattle.alpaca_cli.specs.Answers.{Answers, IsCarriedOut, status_of}
-use Rattle.command_answers.specs.CommandAnswers.{CommandAnswers, IsWhole}
+use Rattle.plain_commands.specs.command_answers.CommandAnswers.{CommandAnswers, IsWhole}
 use Rattle.alpaca_cli.specs.Calls.{Call, OnLine, Says, line_text, reads, promise_of}
-use Rattle.command_answers.specs.InputFiles.{AreHeld, IsFirstUnfit, here, behind, IsOverlong}
-use Rattle.command_answers.specs.Outside.{Shelved, Written, IsSilent, WhereSilent}
-use Rattle.command_answers.specs.Ending.{Ending, well, at_fault, differs}
+use Rattle.plain_commands.specs.command_answers.InputFiles.{AreHeld, IsFirstUnfit, here, behind, IsOverlong}
+use Rattle.plain_commands.specs.command_answers.Outside.{Shelved, Written, IsSilent, WhereSilent}
+use Rattle.plain_commands.specs.command_answers.Ending.{Ending, well, at_fault, differs}
 use Rattle.alpaca_cli.specs.Products.{IsProduct, AreAccepted}
 use Rattle.alpaca_cli.proofs.LineLaws.{same_call}
 use Rattle.state_commands.proofs.Interface.{TextsExclude}

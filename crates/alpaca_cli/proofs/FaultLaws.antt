@@ -1,18 +1,18 @@
 -- Only the run of an image or a state that was read may meet a machine fault.
 use Rattle.std.proofs.Common.{◌≡◌, ◌∙◌, ℕ, List, [], ◌∷◌, sym}
-use Rattle.fram_board.specs.msp_step.declared.machine.Stop.TheVariants as stop
-use Rattle.fram_board.specs.Run.{End, Charges, Stopped}
-use Rattle.report_audit.specs.declared.verdict.Verdict.{Verdict}
-use Rattle.report_audit.specs.declared.verdict.Verdict.TheVariants.{Yes, No}
-use Rattle.command_answers.specs.declared.status.Status.{Status}
-use Rattle.command_answers.specs.declared.status.Status.TheVariants.{Done, Refused, Usage, Unreadable, Unwritable, OutOfMemory, MachineFault, TooLong, Differs}
+use Rattle.plain_commands.specs.fram_board.msp_step.declared.machine.Stop.TheVariants as stop
+use Rattle.plain_commands.specs.fram_board.Run.{End, Charges, Stopped}
+use Rattle.plain_commands.specs.report_audit.declared.verdict.Verdict.{Verdict}
+use Rattle.plain_commands.specs.report_audit.declared.verdict.Verdict.TheVariants.{Yes, No}
+use Rattle.plain_commands.specs.command_answers.declared.status.Status.{Status}
+use Rattle.plain_commands.specs.command_answers.declared.status.Status.TheVariants.{Done, Refused, Usage, Unreadable, Unwritable, OutOfMemory, MachineFault, TooLong, Differs}
 use Rattle.alpaca_cli.specs.Answers.{Answers}
 use Rattle.alpaca_cli.specs.Calls.{Call, mean, try_, build, run, asm, dis, gen, save, resume, migrate, audit, OnLine, IsRun, IsAudit}
-use Rattle.command_answers.specs.Ending.{Ending, well, at_fault, differs}
+use Rattle.plain_commands.specs.command_answers.Ending.{Ending, well, at_fault, differs}
 use Rattle.plain_commands.specs.RunReport.{ending_of}
 use Rattle.plain_commands.specs.Verdicts.{verdict_ending}
-use Rattle.command_answers.specs.Outside.{Shelved, Written}
-use Rattle.command_answers.specs.Promises.{Product}
+use Rattle.plain_commands.specs.command_answers.Outside.{Shelved, Written}
+use Rattle.plain_commands.specs.command_answers.Promises.{Product}
 use Rattle.alpaca_cli.specs.Products.{IsProduct}
 
 not_both : (e : Ending) → e ≡ well → e ≡ at_fault → ⊥

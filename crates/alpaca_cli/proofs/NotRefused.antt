@@ -1,10 +1,10 @@
 -- Texts are accepted or refused, not both.
 use Rattle.std.proofs.Common.{ℕ, List, [], ◌∷◌}
 use Rattle.alpaca_cli.specs.Calls.{Call, mean, try_, build, run, asm, dis, gen, save, resume, migrate, audit, promise_of}
-use Rattle.command_answers.specs.Refusals.{Refusal}
+use Rattle.plain_commands.specs.command_answers.Refusals.{Refusal}
 use Rattle.state_commands.specs.Migrated.{editions}
 use Rattle.alpaca_cli.specs.Products.{AreAccepted}
-use Rattle.command_texts.proofs.Interface.{no_image, no_assembly}
+use Rattle.plain_commands.proofs.command_texts.Interface.{no_image, no_assembly}
 use Rattle.plain_commands.proofs.Interface.{no_mean, no_run, no_audit}
 use Rattle.state_commands.proofs.Interface.{no_save, no_resume, no_migrate, TextsExclude}
 

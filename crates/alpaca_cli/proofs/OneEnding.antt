@@ -1,8 +1,8 @@
 -- Whatever a command makes of its texts has one ending.
 use Rattle.std.proofs.Common.{◌≡◌, ◌∙◌, ℕ, List, [], ◌∷◌, sym}
-use Rattle.fram_board.specs.Laws.{HasOneRun}
+use Rattle.plain_commands.specs.fram_board.Laws.{HasOneRun}
 use Rattle.alpaca_cli.specs.Calls.{Call, mean, try_, build, run, asm, dis, gen, save, resume, migrate, audit}
-use Rattle.command_answers.specs.Promises.{Product}
+use Rattle.plain_commands.specs.command_answers.Promises.{Product}
 use Rattle.alpaca_cli.specs.Products.{IsProduct}
 use Rattle.plain_commands.proofs.Interface.{run_ending, audit_ending}
 use Rattle.state_commands.proofs.Interface.{resume_ending, save_ending}

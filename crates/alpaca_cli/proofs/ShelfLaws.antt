@@ -1,11 +1,11 @@
 -- No file is changed but one that the words put.
 use Rattle.std.proofs.Common.{ℕ, List}
-use Rattle.command_answers.specs.declared.status.Status.{Status}
-use Rattle.command_answers.specs.declared.status.Status.TheVariants.{Done, Refused, Usage, Unreadable, Unwritable, OutOfMemory, MachineFault, TooLong, Differs}
+use Rattle.plain_commands.specs.command_answers.declared.status.Status.{Status}
+use Rattle.plain_commands.specs.command_answers.declared.status.Status.TheVariants.{Done, Refused, Usage, Unreadable, Unwritable, OutOfMemory, MachineFault, TooLong, Differs}
 use Rattle.alpaca_cli.specs.Answers.{Answers, OthersStand}
 use Rattle.alpaca_cli.specs.Calls.{promise_of}
-use Rattle.command_answers.specs.Outside.{Shelved, Written}
-use Rattle.command_answers.proofs.Interface.{all_same, command_same}
+use Rattle.plain_commands.specs.command_answers.Outside.{Shelved, Written}
+use Rattle.plain_commands.proofs.command_answers.Interface.{all_same, command_same}
 
 pub others_stand : (status : Status) (words : List (List ℕ)) (shelf : Shelved) (out err : Written) → Answers status words shelf out err
     → OthersStand words shelf.old shelf.new

@@ -1,17 +1,17 @@
 -- What `save`, `resume` and `migrate` make, where an image is one of a source.
 use Rattle.std.proofs.Common.{◌≡◌, ◌∙◌, ℕ, List, [], ◌∷◌, Option, Some, None, IsSomeAnd, inl, inr, sym, subst}
-use Rattle.energy_trace.specs.TraceValue.{TraceValue}
-use Rattle.image_text.specs.ImageValue.{ImageValue}
-use Rattle.state_text.specs.declared.state.State.{State}
-use Rattle.fram_state.specs.Belongs.{Belongs}
-use Rattle.fram_board.specs.Run.{RunOutcome, Run}
-use Rattle.board_run.specs.Charges.{charges_of}
-use Rattle.board_run.specs.History.{start_of}
-use Rattle.board_run.specs.Report.{report_of}
+use Rattle.plain_commands.specs.energy_trace.TraceValue.{TraceValue}
+use Rattle.plain_commands.specs.image_text.ImageValue.{ImageValue}
+use Rattle.plain_commands.specs.state_text.declared.state.State.{State}
+use Rattle.state_commands.specs.fram_state.Belongs.{Belongs}
+use Rattle.plain_commands.specs.fram_board.Run.{RunOutcome, Run}
+use Rattle.plain_commands.specs.board_run.Charges.{charges_of}
+use Rattle.plain_commands.specs.board_run.History.{start_of}
+use Rattle.plain_commands.specs.board_run.Report.{report_of}
 use Rattle.compiled_states.specs.source_runs.Traces.{IsTraceOfWords}
 use Rattle.compiled_states.specs.Worlds.{HasFramWords}
 use Rattle.compiled_states.specs.Laws.{FreshStatesBelong, MigratedStatesBelong, StatesAreTold, StatesStay}
-use Rattle.command_answers.specs.Promises.{Product}
+use Rattle.plain_commands.specs.command_answers.Promises.{Product}
 use Rattle.state_commands.specs.Saved.{IsOfWords, RunsOnWords, from_state, save_promise}
 use Rattle.state_commands.specs.Resumed.{ResumesOnWords, resume_promise}
 use Rattle.state_commands.specs.Migrated.{Editions, Migrates, MigratesWords, editions, migrate_promise}

@@ -1,16 +1,16 @@
 -- What each status says of the files, the output and the line to standard error.
 use Rattle.std.specs.Prelude.{◌≡◌, ℕ, List, Option, Some}
-use Rattle.alp_io.specs.Shelf.{Files, Told}
+use Rattle.plain_commands.specs.alp_io.Shelf.{Files, Told}
 use Rattle.command_line.specs.CommandLine.{IsLine}
-use Rattle.command_answers.specs.declared.status.Status.{Status}
-use Rattle.command_answers.specs.declared.status.Status.TheVariants.{Done, Usage, OutOfMemory, MachineFault, Differs}
-use Rattle.command_answers.specs.Messages.{memory_line, usage_line}
+use Rattle.plain_commands.specs.command_answers.declared.status.Status.{Status}
+use Rattle.plain_commands.specs.command_answers.declared.status.Status.TheVariants.{Done, Usage, OutOfMemory, MachineFault, Differs}
+use Rattle.plain_commands.specs.command_answers.Messages.{memory_line, usage_line}
 use Rattle.alpaca_cli.specs.Calls.{Call, OnLine, puts, promise_of}
-use Rattle.command_answers.specs.Ending.{Ending, well, at_fault, differs}
-use Rattle.command_answers.specs.Outside.{Shelved, Written}
-use Rattle.command_answers.specs.Promises.{Product}
+use Rattle.plain_commands.specs.command_answers.Ending.{Ending, well, at_fault, differs}
+use Rattle.plain_commands.specs.command_answers.Outside.{Shelved, Written}
+use Rattle.plain_commands.specs.command_answers.Promises.{Product}
 use Rattle.alpaca_cli.specs.Products.{IsProduct}
-use Rattle.command_answers.specs.CommandAnswers.{CommandAnswers, OnlyTold}
+use Rattle.plain_commands.specs.command_answers.CommandAnswers.{CommandAnswers, OnlyTold}
 
 -- What a status says of a call with these words.
 abbrev pub Answers : Status → List (List ℕ) → Shelved → Written → Written → Type 0

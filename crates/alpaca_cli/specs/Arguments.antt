@@ -1,11 +1,11 @@
 -- What the program says of the words that it was started with, whatever they were.
 use Rattle.std.specs.Prelude.{◌≡◌, ℕ, ◌⊎◌, List}
-use Rattle.command_answers.specs.declared.status.Status.{Status}
-use Rattle.command_answers.specs.declared.status.Status.TheVariants.{Usage}
+use Rattle.plain_commands.specs.command_answers.declared.status.Status.{Status}
+use Rattle.plain_commands.specs.command_answers.declared.status.Status.TheVariants.{Usage}
 use Rattle.alpaca_cli.specs.Answers.{Answers}
-use Rattle.command_answers.specs.CommandAnswers.{IsLineOf}
-use Rattle.command_answers.specs.Messages.{usage_line}
-use Rattle.command_answers.specs.Outside.{Shelved, Written, IsSilent}
+use Rattle.plain_commands.specs.command_answers.CommandAnswers.{IsLineOf}
+use Rattle.plain_commands.specs.command_answers.Messages.{usage_line}
+use Rattle.plain_commands.specs.command_answers.Outside.{Shelved, Written, IsSilent}
 
 -- some words were answered so, over some files; or one of them isn't UTF-8, and the usage was told
 abbrev pub AnswersArguments : Status → Written → Written → Type 0

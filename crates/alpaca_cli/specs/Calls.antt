@@ -1,7 +1,7 @@
 -- The program's commands with the names of their files and the number of `gen`, and what their lines are.
 use Rattle.std.specs.Prelude.{◌≡◌, ℕ, ◌^◌, ◌<◌, List, [], ◌∷◌, codes, decimal, Option, Some}
 use Rattle.command_line.specs.CommandLine.{line_of}
-use Rattle.command_answers.specs.Promises.{Promise}
+use Rattle.plain_commands.specs.command_answers.Promises.{Promise}
 use Rattle.plain_commands.specs.Mean.{mean_promise}
 use Rattle.plain_commands.specs.Run.{run_promise}
 use Rattle.plain_commands.specs.Asm.{asm_promise}

@@ -1,15 +1,15 @@
 -- What holds of saved, resumed and migrated states where an image is what the compiler makes of a source.
 use Rattle.std.specs.Prelude.{◌≡◌, ◌⊎◌, ℕ, List}
-use Rattle.energy_trace.specs.TraceValue.{TraceValue}
-use Rattle.image_text.specs.ImageValue.{ImageValue}
-use Rattle.state_text.specs.declared.state.State.{State}
-use Rattle.fram_state.specs.Belongs.{Belongs}
-use Rattle.fram_state.specs.Migrated.{rows_of}
-use Rattle.fram_board.specs.Run.{RunOutcome}
-use Rattle.fram_board.specs.Saved.{saved}
-use Rattle.cost_bound.specs.declared.allowance.Allow.{Allow}
-use Rattle.source_meaning.specs.Acceptance.{IsAcceptedText}
-use Rattle.link_image.specs.Compiled.{IsCompiled, IsImageOf}
+use Rattle.plain_commands.specs.energy_trace.TraceValue.{TraceValue}
+use Rattle.plain_commands.specs.image_text.ImageValue.{ImageValue}
+use Rattle.plain_commands.specs.state_text.declared.state.State.{State}
+use Rattle.state_commands.specs.fram_state.Belongs.{Belongs}
+use Rattle.state_commands.specs.fram_state.Migrated.{rows_of}
+use Rattle.plain_commands.specs.fram_board.Run.{RunOutcome}
+use Rattle.plain_commands.specs.fram_board.Saved.{saved}
+use Rattle.plain_commands.specs.cost_bound.declared.allowance.Allow.{Allow}
+use Rattle.plain_commands.specs.source_meaning.Acceptance.{IsAcceptedText}
+use Rattle.compiler_commands.specs.link_image.Compiled.{IsCompiled, IsImageOf}
 use Rattle.compiled_states.specs.Worlds.{BelongsAt, IsToldByItsSource, LeavesItsStates}
 use Rattle.state_commands.specs.Saved.{from_state}
 use Rattle.state_commands.specs.Migrated.{HoldsOfMigrations, old_edition, new_edition}

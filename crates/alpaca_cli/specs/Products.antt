@@ -1,7 +1,7 @@
 -- Which texts a command takes, and what it makes of them.
 use Rattle.std.specs.Prelude.{ℕ, List}
 use Rattle.alpaca_cli.specs.Calls.{Call, promise_of}
-use Rattle.command_answers.specs.Promises.{Product}
+use Rattle.plain_commands.specs.command_answers.Promises.{Product}
 
 -- the texts are accepted, and this is what the command makes of them
 abbrev pub IsProduct : Call → List (List ℕ) → Product → Type 0

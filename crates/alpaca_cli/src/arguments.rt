@@ -3,8 +3,8 @@ ghost use Rattle.std.specs.Prelude.{◌≤◌};
 ghost use Rattle.alpaca_cli.specs.Arguments.{AnswersArguments};
 
 use crate::command::alpaca;
-use alp_io::{DirShelf, Sink};
-use command_answers::{Status, messages};
+use plain_commands::outside::{DirShelf, Sink};
+use plain_commands::answers::{Status, messages};
 use command_line::WordsFault;
 use std::env;
 use std::io::ErrorKind;

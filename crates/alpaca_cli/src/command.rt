@@ -1,22 +1,21 @@
 //! The commands of the program.
 ghost use Rattle.std.specs.Prelude.{◌≡◌, ℕ, List, ◌≤◌, ◌⊎◌, map, string_bytes, IfSome};
-ghost use Rattle.alp_io.specs.Count.{Rose};
-ghost use Rattle.alp_io.specs.Shelf.{NeverFall};
-ghost use Rattle.command_answers.specs.InputFiles.{AreHeld};
+ghost use Rattle.plain_commands.specs.alp_io.Count.{Rose};
+ghost use Rattle.plain_commands.specs.alp_io.Shelf.{NeverFall};
+ghost use Rattle.plain_commands.specs.command_answers.InputFiles.{AreHeld};
 ghost use Rattle.alpaca_cli.specs.Calls.{Call, IsAudit, IsRun, OnLine, Says, reads};
 ghost use Rattle.alpaca_cli.specs.Products.{AreAccepted};
 ghost use Rattle.alpaca_cli.specs.Answers.{Answers, IsCarriedOut, OthersStand};
 
-use alp_io::{Shelf, Sink};
-use command_answers::{Status, messages};
 use command_line::{Command, WordsFault, command_of};
 use compiled_states::{fresh_states_belong, migrated_states_belong, states_are_told, states_stay};
 use compiler_commands::{answer_build, answer_gen, answer_try};
-use fram_board::board_has_one_run;
-use fram_state::{answers_are_one, no_migration_is_refused};
+use plain_commands::answers::{Status, messages};
+use plain_commands::boards::board_has_one_run;
+use plain_commands::outside::{Shelf, Sink};
+use plain_commands::texts::one_answer;
 use plain_commands::{AuditNames, answer_asm, answer_audit, answer_dis, answer_mean, answer_run};
-use source_meaning::one_answer;
-use state_commands::{MigrateNames, answer_migrate, answer_resume, answer_save};
+use state_commands::{MigrateNames, answer_migrate, answer_resume, answer_save, answers_are_one, no_migration_is_refused};
 use std::alloc::Global;
 
 // The answer to the words.

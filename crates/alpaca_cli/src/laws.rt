@@ -3,7 +3,7 @@
 ghost use Rattle.plain_commands.specs.Audited.{MeanReportsAreGood, MeanReportsAreAnsweredYes};
 ghost use Rattle.compiler_commands.specs.Audited.{TriedReportsAreGood, TriedReportsAreAnsweredYes};
 
-use source_meaning::accepted_texts_run;
+use plain_commands::texts::accepted_texts_run;
 
 /// What `try` and `mean` print is a report that its source could have told on its trace; and `audit` answers yes of it.
 pub fn printed_reports_are_good()

@@ -6,10 +6,10 @@ mod command;
 pub mod laws;
 
 // The files and outputs that a caller hands over.
-pub use alp_io::{
+pub use plain_commands::outside::{
     DirShelf, Failed, MemShelf, MemSink, NoMemory, ReadFault, Shelf, Sink, StdSink, write_pieces,
 };
 pub use arguments::answer_arguments;
 pub use command::alpaca;
-pub use command_answers::Status;
+pub use plain_commands::answers::Status;
 pub use laws::printed_reports_are_good;

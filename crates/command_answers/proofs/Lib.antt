@@ -6,3 +6,4 @@ mod ShelfLaws
 mod StatusLaws
 mod UnreadFiles
 pub mod Interface
+pub use Rattle.alp_io.proofs as alp_io

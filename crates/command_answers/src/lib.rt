@@ -15,3 +15,8 @@ pub use inputs::{Texts, ThreeTexts, Unread, read_file, read_texts, read_three_te
 pub use puts::put_file;
 pub use refusal::{Detail, Refusal, named, plain};
 pub use status::Status;
+
+// What the commands use of the crates below.
+pub use alp_io as outside;
+pub use alp_text::print_u64;
+pub use source_report::{mean_report_is_determined, write_mean_report};

@@ -2,7 +2,7 @@
 use Rattle.std.proofs.Common.{◌≡◌, ◌∙◌, Some, None, sym, ap, ℕ, List}
 use Rattle.source_meaning.specs.Laws.{OneAnswer}
 use Rattle.command_texts.specs.Sources.{source_refusal, IsSourceText, RefusesSource}
-use Rattle.source_values.specs.Runs.{CheckedProgram}
+use Rattle.command_answers.specs.source_values.Runs.{CheckedProgram}
 use Rattle.command_answers.specs.Refusals.{Refusal}
 
 -- no text is a source and refused as one

@@ -4,8 +4,8 @@ use Rattle.std.proofs.Common.{Err, codes, All, arith, refl, sym, subst}
 use Rattle.std.specs.Str.{bytes_eq}
 use Rattle.std.proofs.lemmas.Bool.Decides.{nat_tests}
 use Rattle.std.proofs.lemmas.List.Elements.{All-nil, All-cons, All-append}
-use Rattle.alp_text.specs.Numbers.{number_of, limited}
-use Rattle.alp_text.specs.declared.numbers.NumberFault.{NumberFault}
+use Rattle.command_answers.specs.alp_text.Numbers.{number_of, limited}
+use Rattle.command_answers.specs.alp_text.declared.numbers.NumberFault.{NumberFault}
 use Rattle.image_text.specs.text_parts.Fields.{fields}
 use Rattle.image_text.specs.text_parts.Lengths.{before}
 use Rattle.energy_trace.specs.declared.charge.Charge.{Charge}

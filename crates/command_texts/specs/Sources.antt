@@ -9,7 +9,7 @@ use Rattle.task_check.specs.declared.fault.Kept.TheVariants as kept
 use Rattle.cost_bound.specs.declared.fault.Over.{Over}
 use Rattle.cost_bound.specs.declared.fault.Over.TheVariants as over
 use Rattle.cost_bound.specs.declared.allowance.Allow.{Allow}
-use Rattle.source_values.specs.Runs.{CheckedProgram}
+use Rattle.command_answers.specs.source_values.Runs.{CheckedProgram}
 use Rattle.source_meaning.specs.declared.fault.SourceFault.{SourceFault}
 use Rattle.source_meaning.specs.declared.fault.SourceFault.TheVariants as fault
 use Rattle.source_meaning.specs.Acceptance.{IsAcceptedText, IsRefusedText}

@@ -1,8 +1,8 @@
 //! A source text, read for a command.
 ghost use Rattle.std.specs.Prelude.{◌≡◌, ◌≤◌, IfOk, IfErr, Ok, length, option_map, Some};
-ghost use Rattle.task_ast.specs.View.{program_of};
+ghost use Rattle.command_answers.specs.task_ast.View.{program_of};
 ghost use Rattle.cost_bound.specs.declared.allowance.Allow.{Allow};
-ghost use Rattle.source_values.specs.Runs.{CheckedProgram};
+ghost use Rattle.command_answers.specs.source_values.Runs.{CheckedProgram};
 ghost use Rattle.source_meaning.specs.Acceptance.{IsAcceptedText};
 ghost use Rattle.command_texts.specs.Sources as told;
 ghost use Rattle.command_texts.specs.Sources.{IsSourceText, RefusesSource};

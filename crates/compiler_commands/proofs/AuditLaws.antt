@@ -1,12 +1,12 @@
 -- What `try` prints is a report that its source could have told.
 use Rattle.std.proofs.Common.{◌≡◌, ◌∙◌, ◌++◌, length, arith, refl, ap, inr}
-use Rattle.alp_io.specs.declared.report.Reason.{Reason}
-use Rattle.alp_io.specs.declared.report.Reason.TheVariants as reason
-use Rattle.alp_io.specs.Report.{bound_line, end_line}
-use Rattle.fram_board.specs.msp_step.declared.machine.Stop.TheVariants as stop
-use Rattle.fram_board.specs.Run.{End, Charges, Stopped}
-use Rattle.source_values.specs.Statements.{Outcome}
-use Rattle.source_report.specs.SourceReport.{source_report}
+use Rattle.plain_commands.specs.alp_io.declared.report.Reason.{Reason}
+use Rattle.plain_commands.specs.alp_io.declared.report.Reason.TheVariants as reason
+use Rattle.plain_commands.specs.alp_io.Report.{bound_line, end_line}
+use Rattle.plain_commands.specs.fram_board.msp_step.declared.machine.Stop.TheVariants as stop
+use Rattle.plain_commands.specs.fram_board.Run.{End, Charges, Stopped}
+use Rattle.plain_commands.specs.source_values.Statements.{Outcome}
+use Rattle.plain_commands.specs.source_report.SourceReport.{source_report}
 use Rattle.image_reports.specs.source_runs.Tells.{IsEndOf}
 use Rattle.compiler_commands.specs.Audited.{TriedReportsAreGood, TriedReportsAreAnsweredYes}
 use Rattle.plain_commands.proofs.Interface.{of_same}

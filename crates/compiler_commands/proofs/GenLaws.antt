@@ -1,29 +1,29 @@
 -- The trace of `gen`, and the run of a generated source's image on it.
 use Rattle.std.proofs.Common.{◌≡◌, ◌∙◌, ℕ, zero, suc, ◌<◌, ◌^◌, List, Ok, Err, Option, refl, sym, ap, subst, arith, All, inl, inr}
 use Rattle.std.proofs.lemmas.List.Elements.{All-nil, All-cons}
-use Rattle.alp_io.specs.Count.{Rose}
-use Rattle.cost_bound.specs.declared.allowance.Allow.{Allow}
-use Rattle.energy_trace.specs.Ranges.{IsCharge}
-use Rattle.energy_trace.specs.TraceValue.{TraceValue}
-use Rattle.image_text.specs.ImageValue.{ImageValue}
+use Rattle.plain_commands.specs.alp_io.Count.{Rose}
+use Rattle.plain_commands.specs.cost_bound.declared.allowance.Allow.{Allow}
+use Rattle.plain_commands.specs.energy_trace.Ranges.{IsCharge}
+use Rattle.plain_commands.specs.energy_trace.TraceValue.{TraceValue}
+use Rattle.plain_commands.specs.image_text.ImageValue.{ImageValue}
 use Rattle.image_reports.specs.msp_step.declared.machine.Stop.TheVariants as stop
-use Rattle.fram_board.specs.Board.{BoardValue, fresh}
-use Rattle.fram_board.specs.Run.{End, Charges, Stopped, RunOutcome, Run}
-use Rattle.board_run.specs.Charges.{charges_of}
-use Rattle.board_run.specs.History.{History, start_of}
-use Rattle.board_run.specs.Report.{report_of, answer_of, last_line, HasWriteCause, IsRunOf}
-use Rattle.board_run.specs.declared.trace_run.RunEnd.{RunEnd}
-use Rattle.board_run.specs.declared.trace_run.RunEnd.TheVariants as run_end
-use Rattle.board_run.specs.declared.trace_run.RunFault.{RunFault}
-use Rattle.board_run.specs.declared.trace_run.RunFault.TheVariants as fault
+use Rattle.plain_commands.specs.fram_board.Board.{BoardValue, fresh}
+use Rattle.plain_commands.specs.fram_board.Run.{End, Charges, Stopped, RunOutcome, Run}
+use Rattle.plain_commands.specs.board_run.Charges.{charges_of}
+use Rattle.plain_commands.specs.board_run.History.{History, start_of}
+use Rattle.plain_commands.specs.board_run.Report.{report_of, answer_of, last_line, HasWriteCause, IsRunOf}
+use Rattle.plain_commands.specs.board_run.declared.trace_run.RunEnd.{RunEnd}
+use Rattle.plain_commands.specs.board_run.declared.trace_run.RunEnd.TheVariants as run_end
+use Rattle.plain_commands.specs.board_run.declared.trace_run.RunFault.{RunFault}
+use Rattle.plain_commands.specs.board_run.declared.trace_run.RunFault.TheVariants as fault
 use Rattle.source_generator.specs.Draws.{next, drawn, draws, behind}
 use Rattle.source_generator.specs.Source.{generated_text}
 use Rattle.source_generator.specs.Trace.{charge_of, charges, behind_source, generated_trace}
 use Rattle.source_generator.proofs.Interface.{few_charges, each_once, few_readings}
-use Rattle.source_values.specs.Runs.{CheckedProgram}
-use Rattle.source_meaning.specs.Acceptance.{IsAcceptedText}
+use Rattle.plain_commands.specs.source_values.Runs.{CheckedProgram}
+use Rattle.plain_commands.specs.source_meaning.Acceptance.{IsAcceptedText}
 use Rattle.image_reports.specs.source_runs.Traces.{IsTraceOfWords}
-use Rattle.command_answers.specs.Ending.{Ending, well, at_fault}
+use Rattle.plain_commands.specs.command_answers.Ending.{Ending, well, at_fault}
 use Rattle.compiler_commands.specs.Generated.{RanSo, ended_line, four_lines, generated_lines}
 use Rattle.compiler_commands.specs.Build.{IsBuilt}
 use Rattle.compiler_commands.specs.Gen.{Generates}

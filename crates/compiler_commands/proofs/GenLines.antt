@@ -1,8 +1,8 @@
 -- Four texts, one behind another.
 use Rattle.std.proofs.Common.{ℕ, List, ◌++◌, Option, Result}
 use Rattle.std.specs.Io.KnownBytes.{Appends}
-use Rattle.alp_io.specs.Sink.{AppendsProperPrefix, Writes}
-use Rattle.alp_io.proofs.Interface.{part_of_first, part_of_second, writes_then}
+use Rattle.plain_commands.specs.alp_io.Sink.{AppendsProperPrefix, Writes}
+use Rattle.plain_commands.proofs.alp_io.Interface.{part_of_first, part_of_second, writes_then}
 
 -- the second is written in part
 pub in_second : (old x new : Option (List ℕ)) (a b c d : List ℕ) → Appends old x a → AppendsProperPrefix x new b

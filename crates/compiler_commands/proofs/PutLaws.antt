@@ -1,13 +1,13 @@
 -- What `build` and `try` make, whose source keeps its text.
 use Rattle.std.proofs.Common.{◌≡◌, ℕ, List, Ok, sym, subst}
-use Rattle.alp_io.specs.Report.{bound_line}
-use Rattle.cost_bound.specs.declared.allowance.Allow.{Allow}
-use Rattle.energy_trace.specs.TraceValue.{TraceValue}
-use Rattle.energy_trace.specs.Reading.{trace_of}
-use Rattle.image_text.specs.ImageValue.{ImageValue}
-use Rattle.source_values.specs.Runs.{CheckedProgram}
-use Rattle.source_meaning.specs.Acceptance.{IsAcceptedText}
-use Rattle.command_answers.specs.Ending.{well}
+use Rattle.plain_commands.specs.alp_io.Report.{bound_line}
+use Rattle.plain_commands.specs.cost_bound.declared.allowance.Allow.{Allow}
+use Rattle.plain_commands.specs.energy_trace.TraceValue.{TraceValue}
+use Rattle.plain_commands.specs.energy_trace.Reading.{trace_of}
+use Rattle.plain_commands.specs.image_text.ImageValue.{ImageValue}
+use Rattle.plain_commands.specs.source_values.Runs.{CheckedProgram}
+use Rattle.plain_commands.specs.source_meaning.Acceptance.{IsAcceptedText}
+use Rattle.plain_commands.specs.command_answers.Ending.{well}
 use Rattle.compiler_commands.specs.Build.{IsBuilt, Builds}
 use Rattle.compiler_commands.specs.Try.{Tries}
 use Rattle.image_reports.specs.source_runs.Traces.{IsTraceOfWords}

@@ -1,22 +1,22 @@
 -- The run of a source's image on a trace, by the law that each such run is told by its source.
 use Rattle.std.proofs.Common.{◌≡◌, ◌∙◌, ℕ, List, Option, Some, Ok, Err, refl, sym, subst}
 use Rattle.std.specs.Io.KnownBytes.{Appends}
-use Rattle.alp_io.specs.Count.{Rose}
-use Rattle.alp_io.specs.declared.sink.Failed.{Failed}
-use Rattle.alp_io.specs.declared.report.Reason.{Reason}
-use Rattle.cost_bound.specs.declared.allowance.Allow.{Allow}
-use Rattle.energy_trace.specs.TraceValue.{TraceValue}
-use Rattle.image_text.specs.ImageValue.{ImageValue}
+use Rattle.plain_commands.specs.alp_io.Count.{Rose}
+use Rattle.plain_commands.specs.alp_io.declared.sink.Failed.{Failed}
+use Rattle.plain_commands.specs.alp_io.declared.report.Reason.{Reason}
+use Rattle.plain_commands.specs.cost_bound.declared.allowance.Allow.{Allow}
+use Rattle.plain_commands.specs.energy_trace.TraceValue.{TraceValue}
+use Rattle.plain_commands.specs.image_text.ImageValue.{ImageValue}
 use Rattle.image_reports.specs.msp_step.declared.machine.Stop.TheVariants as stop
-use Rattle.fram_board.specs.Board.{BoardValue, fresh}
-use Rattle.fram_board.specs.Laws.{HasRun}
-use Rattle.fram_board.specs.Run.{End, Charges, Stopped, RunOutcome}
-use Rattle.board_run.specs.Charges.{charges_of}
-use Rattle.board_run.specs.History.{History, start_of}
-use Rattle.board_run.specs.Report.{report_of}
-use Rattle.source_values.specs.Statements.{Outcome}
-use Rattle.source_values.specs.Runs.{CheckedProgram}
-use Rattle.source_meaning.specs.Acceptance.{IsAcceptedText}
+use Rattle.plain_commands.specs.fram_board.Board.{BoardValue, fresh}
+use Rattle.plain_commands.specs.fram_board.Laws.{HasRun}
+use Rattle.plain_commands.specs.fram_board.Run.{End, Charges, Stopped, RunOutcome}
+use Rattle.plain_commands.specs.board_run.Charges.{charges_of}
+use Rattle.plain_commands.specs.board_run.History.{History, start_of}
+use Rattle.plain_commands.specs.board_run.Report.{report_of}
+use Rattle.plain_commands.specs.source_values.Statements.{Outcome}
+use Rattle.plain_commands.specs.source_values.Runs.{CheckedProgram}
+use Rattle.plain_commands.specs.source_meaning.Acceptance.{IsAcceptedText}
 use Rattle.image_reports.specs.source_maps.Maps.{map_of}
 use Rattle.image_reports.specs.source_runs.Tells.{IsEndOf, IsToldBySource}
 use Rattle.image_reports.specs.source_runs.Traces.{IsTraceOfWords}
@@ -24,10 +24,10 @@ use Rattle.link_image.specs.Compiled.{IsCompiled}
 use Rattle.image_reports.specs.Laws.{ImagesAreTold}
 use Rattle.plain_commands.specs.declared.run.RunEnding.{RunEnding}
 use Rattle.plain_commands.specs.declared.run.RunEnding.TheVariants.{Well, AtFault}
-use Rattle.command_answers.specs.Ending.{Ending, well, at_fault}
+use Rattle.plain_commands.specs.command_answers.Ending.{Ending, well, at_fault}
 use Rattle.plain_commands.specs.Ends.{WritesRun}
-use Rattle.command_answers.specs.Outcomes.{Breaks}
-use Rattle.command_answers.specs.Outside.{Written}
+use Rattle.plain_commands.specs.command_answers.Outcomes.{Breaks}
+use Rattle.plain_commands.specs.command_answers.Outside.{Written}
 use Rattle.plain_commands.specs.RunReport.{ending_of, IsReportFrom}
 use Rattle.compiler_commands.specs.ToldRuns.{IsTold, IsToldOnTraces}
 

@@ -1,6 +1,6 @@
 -- What `try` prints is a report that its source could have told; and `audit` answers so.
 use Rattle.std.specs.Prelude.{ℕ, List}
-use Rattle.report_audit.specs.Good.{IsGoodReport}
+use Rattle.plain_commands.specs.report_audit.Good.{IsGoodReport}
 use Rattle.compiler_commands.specs.Try.{Tries}
 use Rattle.plain_commands.specs.Audited.{IsAnsweredYes}
 

@@ -1,23 +1,23 @@
 -- What `build` makes of its text.
 use Rattle.std.specs.Prelude.{◌≡◌, ℕ, List, [], ◌∷◌, ◌++◌, Some, Ok, IsSomeAnd}
-use Rattle.energy_trace.specs.TraceValue.{TraceValue}
+use Rattle.plain_commands.specs.energy_trace.TraceValue.{TraceValue}
 use Rattle.image_reports.specs.image_map.MapValue.{MapValue}
-use Rattle.image_text.specs.ImageValue.{ImageValue}
-use Rattle.image_text.specs.Reading.{image_of}
-use Rattle.image_text.specs.Text.{map_part, text_of}
+use Rattle.plain_commands.specs.image_text.ImageValue.{ImageValue}
+use Rattle.plain_commands.specs.image_text.Reading.{image_of}
+use Rattle.plain_commands.specs.image_text.Text.{map_part, text_of}
 use Rattle.image_reports.specs.text_parts.Printed.{printed}
-use Rattle.alp_io.specs.Report.{bound_line}
-use Rattle.cost_bound.specs.declared.allowance.Allow.{Allow}
-use Rattle.source_meaning.specs.Acceptance.{IsAcceptedText}
+use Rattle.plain_commands.specs.alp_io.Report.{bound_line}
+use Rattle.plain_commands.specs.cost_bound.declared.allowance.Allow.{Allow}
+use Rattle.plain_commands.specs.source_meaning.Acceptance.{IsAcceptedText}
 use Rattle.link_image.specs.Compiled.{IsCompiled}
 use Rattle.image_reports.specs.ImageLaw.{IsLawful}
-use Rattle.source_values.specs.Runs.{CheckedProgram}
+use Rattle.plain_commands.specs.source_values.Runs.{CheckedProgram}
 use Rattle.image_reports.specs.source_runs.Naming.{IsMapOf}
 use Rattle.image_reports.specs.source_runs.Traces.{IsTraceOfWords}
-use Rattle.command_answers.specs.Ending.{well}
+use Rattle.plain_commands.specs.command_answers.Ending.{well}
 use Rattle.compiler_commands.specs.ToldRuns.{IsTold}
-use Rattle.command_texts.specs.Sources.{RefusesSource, SaysSource}
-use Rattle.command_answers.specs.Promises.{Promise, OfOneText}
+use Rattle.plain_commands.specs.command_texts.Sources.{RefusesSource, SaysSource}
+use Rattle.plain_commands.specs.command_answers.Promises.{Promise, OfOneText}
 
 -- These bytes are the image text that is printed of an image, and they read back. The image has a map, which names the source's
 -- variables and tasks and has its bound; and it is exactly what the compiler makes of the source.

@@ -1,21 +1,21 @@
 -- What `gen` makes of its number.
 use Rattle.std.specs.Prelude.{◌≡◌, ℕ, List, [], ◌∷◌, Some, IsSomeAnd, codes}
-use Rattle.image_text.specs.ImageValue.{ImageValue}
-use Rattle.fram_board.specs.Board.{fresh}
-use Rattle.fram_board.specs.Run.{RunOutcome, Run}
-use Rattle.board_run.specs.Charges.{charges_of}
-use Rattle.board_run.specs.History.{start_of}
-use Rattle.board_run.specs.Report.{report_of}
-use Rattle.cost_bound.specs.declared.allowance.Allow.{Allow}
-use Rattle.source_meaning.specs.Acceptance.{IsAcceptedText}
-use Rattle.source_values.specs.Runs.{CheckedProgram}
+use Rattle.plain_commands.specs.image_text.ImageValue.{ImageValue}
+use Rattle.plain_commands.specs.fram_board.Board.{fresh}
+use Rattle.plain_commands.specs.fram_board.Run.{RunOutcome, Run}
+use Rattle.plain_commands.specs.board_run.Charges.{charges_of}
+use Rattle.plain_commands.specs.board_run.History.{start_of}
+use Rattle.plain_commands.specs.board_run.Report.{report_of}
+use Rattle.plain_commands.specs.cost_bound.declared.allowance.Allow.{Allow}
+use Rattle.plain_commands.specs.source_meaning.Acceptance.{IsAcceptedText}
+use Rattle.plain_commands.specs.source_values.Runs.{CheckedProgram}
 use Rattle.image_reports.specs.source_runs.Tells.{IsToldBySource}
 use Rattle.source_generator.specs.Source.{generated_text}
 use Rattle.source_generator.specs.Trace.{generated_trace}
-use Rattle.command_answers.specs.Ending.{well}
+use Rattle.plain_commands.specs.command_answers.Ending.{well}
 use Rattle.compiler_commands.specs.Generated.{generated_lines}
-use Rattle.command_texts.specs.Sources.{RefusesSource, SaysSource}
-use Rattle.command_answers.specs.Promises.{Promise, OfNoText}
+use Rattle.plain_commands.specs.command_texts.Sources.{RefusesSource, SaysSource}
+use Rattle.plain_commands.specs.command_answers.Promises.{Promise, OfNoText}
 use Rattle.compiler_commands.specs.Build.{IsBuilt}
 
 -- These bytes are the image text of the image of the source that is generated from the number. It has one run on the number's trace for

@@ -1,14 +1,14 @@
 -- The four lines that tell of the run of a generated source, on the trace of its number.
 use Rattle.std.specs.Prelude.{◌≡◌, ℕ, ◌%◌, List, [], ◌∷◌, ◌++◌, codes, decimal, Ok}
-use Rattle.alp_io.specs.Report.{texts, bound_line, end_line}
-use Rattle.energy_trace.specs.TraceValue.{TraceValue}
-use Rattle.image_text.specs.ImageValue.{ImageValue}
-use Rattle.fram_board.specs.Board.{BoardValue, fresh}
-use Rattle.fram_board.specs.Run.{RunOutcome, Run}
-use Rattle.board_run.specs.declared.trace_run.RunEnd.{RunEnd}
-use Rattle.board_run.specs.Charges.{charges_of}
-use Rattle.board_run.specs.History.{History, start_of, total}
-use Rattle.board_run.specs.Report.{after_all, answer_of, last_line}
+use Rattle.plain_commands.specs.alp_io.Report.{texts, bound_line, end_line}
+use Rattle.plain_commands.specs.energy_trace.TraceValue.{TraceValue}
+use Rattle.plain_commands.specs.image_text.ImageValue.{ImageValue}
+use Rattle.plain_commands.specs.fram_board.Board.{BoardValue, fresh}
+use Rattle.plain_commands.specs.fram_board.Run.{RunOutcome, Run}
+use Rattle.plain_commands.specs.board_run.declared.trace_run.RunEnd.{RunEnd}
+use Rattle.plain_commands.specs.board_run.Charges.{charges_of}
+use Rattle.plain_commands.specs.board_run.History.{History, start_of, total}
+use Rattle.plain_commands.specs.board_run.Report.{after_all, answer_of, last_line}
 use Rattle.plain_commands.specs.Ends.{reason_of}
 
 -- the number that the source and its trace are generated from

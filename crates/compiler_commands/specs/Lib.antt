@@ -4,3 +4,4 @@ pub mod Gen
 pub mod Generated
 pub mod ToldRuns
 pub mod Try
+pub use Rattle.link_image.specs as link_image

@@ -1,14 +1,14 @@
 -- What the source tells of the run of an image.
 use Rattle.std.specs.Prelude.{◌≡◌, ℕ, List, Some}
-use Rattle.energy_trace.specs.TraceValue.{TraceValue}
-use Rattle.source_values.specs.Runs.{CheckedProgram}
+use Rattle.plain_commands.specs.energy_trace.TraceValue.{TraceValue}
+use Rattle.plain_commands.specs.source_values.Runs.{CheckedProgram}
 use Rattle.image_reports.specs.image_map.MapValue.{MapValue}
-use Rattle.image_text.specs.ImageValue.{ImageValue}
-use Rattle.fram_board.specs.Board.{fresh}
-use Rattle.board_run.specs.Charges.{charges_of}
+use Rattle.plain_commands.specs.image_text.ImageValue.{ImageValue}
+use Rattle.plain_commands.specs.fram_board.Board.{fresh}
+use Rattle.plain_commands.specs.board_run.Charges.{charges_of}
 use Rattle.image_reports.specs.source_runs.Traces.{IsTraceOfWords}
 use Rattle.image_reports.specs.source_runs.Tells.{IsToldBySource}
-use Rattle.command_answers.specs.Ending.{Ending, well}
+use Rattle.plain_commands.specs.command_answers.Ending.{Ending, well}
 use Rattle.plain_commands.specs.RunReport.{IsRunReport}
 
 -- An image with this map has a report of its run on a trace; and each such report ends well, and is what the source tells of that run.

@@ -1,19 +1,19 @@
 -- What `try` makes of its texts.
 use Rattle.std.specs.Prelude.{◌≡◌, ℕ, List, [], ◌∷◌, Some, Ok, IsSomeAnd}
-use Rattle.energy_trace.specs.TraceValue.{TraceValue}
-use Rattle.energy_trace.specs.Reading.{trace_of}
-use Rattle.image_text.specs.ImageValue.{ImageValue}
-use Rattle.fram_board.specs.Board.{fresh}
-use Rattle.board_run.specs.Charges.{charges_of}
-use Rattle.cost_bound.specs.declared.allowance.Allow.{Allow}
-use Rattle.source_meaning.specs.Acceptance.{IsAcceptedText}
-use Rattle.source_values.specs.Runs.{CheckedProgram}
+use Rattle.plain_commands.specs.energy_trace.TraceValue.{TraceValue}
+use Rattle.plain_commands.specs.energy_trace.Reading.{trace_of}
+use Rattle.plain_commands.specs.image_text.ImageValue.{ImageValue}
+use Rattle.plain_commands.specs.fram_board.Board.{fresh}
+use Rattle.plain_commands.specs.board_run.Charges.{charges_of}
+use Rattle.plain_commands.specs.cost_bound.declared.allowance.Allow.{Allow}
+use Rattle.plain_commands.specs.source_meaning.Acceptance.{IsAcceptedText}
+use Rattle.plain_commands.specs.source_values.Runs.{CheckedProgram}
 use Rattle.image_reports.specs.source_runs.Tells.{IsToldBySource}
-use Rattle.command_answers.specs.Ending.{well}
+use Rattle.plain_commands.specs.command_answers.Ending.{well}
 use Rattle.plain_commands.specs.RunReport.{IsRunReport}
-use Rattle.command_texts.specs.Sources.{SaysSource}
-use Rattle.command_texts.specs.Texts.{SaysTrace}
-use Rattle.command_answers.specs.Promises.{Promise, OfTwoTexts}
+use Rattle.plain_commands.specs.command_texts.Sources.{SaysSource}
+use Rattle.plain_commands.specs.command_texts.Texts.{SaysTrace}
+use Rattle.plain_commands.specs.command_answers.Promises.{Promise, OfTwoTexts}
 use Rattle.compiler_commands.specs.Build.{IsBuilt}
 use Rattle.plain_commands.specs.Mean.{MeanRefuses}
 

@@ -1,16 +1,16 @@
 //! `build SRC IMAGE`: the image of a source, put as an image text, and the line of its bound.
 ghost use Rattle.std.specs.Prelude.{◌≤◌, ◌∷◌, [], IfOk, IfErr, length};
-ghost use Rattle.alp_io.specs.Shelf.{NeverFall};
-ghost use Rattle.command_answers.specs.Ending.{well};
-ghost use Rattle.command_answers.specs.CommandAnswers.{CommandAnswers, IsWhole, TextAnswers};
-ghost use Rattle.command_answers.specs.Outcomes.{FailsBy};
+ghost use Rattle.plain_commands.specs.alp_io.Shelf.{NeverFall};
+ghost use Rattle.plain_commands.specs.command_answers.Ending.{well};
+ghost use Rattle.plain_commands.specs.command_answers.CommandAnswers.{CommandAnswers, IsWhole, TextAnswers};
+ghost use Rattle.plain_commands.specs.command_answers.Outcomes.{FailsBy};
 ghost use Rattle.compiler_commands.specs.Build.{build_promise};
 
 use crate::built::built_of;
 use crate::gen_lines::write_bound;
-use alp_io::{Failed, Shelf, Sink};
-use command_answers::{Failure, Status, answer_failure, answer_unread, put_file, read_file};
-use command_texts::source_of;
+use plain_commands::outside::{Failed, Shelf, Sink};
+use plain_commands::answers::{Failure, Status, answer_failure, answer_unread, put_file, read_file};
+use plain_commands::texts::source_of;
 use image_reports::images_keep_the_laws;
 use std::alloc::Global;
 

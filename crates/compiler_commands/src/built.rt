@@ -1,18 +1,17 @@
 //! The image of a source, and its text.
 ghost use Rattle.std.specs.Prelude.{◌≡◌, IfOk, IfErr};
 ghost use Rattle.image_reports.specs.task_ast.View.{program_of};
-ghost use Rattle.source_meaning.specs.Acceptance.{IsAcceptedText};
-ghost use Rattle.command_answers.specs.declared.failure.Failure.TheVariants.{Memory};
+ghost use Rattle.plain_commands.specs.source_meaning.Acceptance.{IsAcceptedText};
+ghost use Rattle.plain_commands.specs.command_answers.declared.failure.Failure.TheVariants.{Memory};
 ghost use Rattle.link_image.specs.Compiled.{IsCompiled};
 ghost use Rattle.compiler_commands.specs.Build.{IsBuilt};
 ghost use Rattle.compiler_commands.specs.ToldRuns.{IsToldOnTraces};
 
-use command_answers::Failure;
-use fram_board::board_has_one_run;
 use image_reports::{images_are_mapped, images_are_told};
-use image_text::{Image, print_image};
 use link_image::link;
-use source_meaning::Accepted;
+use plain_commands::answers::Failure;
+use plain_commands::boards::board_has_one_run;
+use plain_commands::texts::{Accepted, Image, print_image};
 use std::alloc::{AllocError, Global};
 
 /// An image and the text that is printed of it.

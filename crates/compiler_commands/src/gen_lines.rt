@@ -1,13 +1,13 @@
 //! The four lines of `gen`.
-ghost use Rattle.alp_io.specs.Count.{HasCause};
-ghost use Rattle.alp_io.specs.Report.{bound_line};
-ghost use Rattle.alp_io.specs.Sink.{Writes};
+ghost use Rattle.plain_commands.specs.alp_io.Count.{HasCause};
+ghost use Rattle.plain_commands.specs.alp_io.Report.{bound_line};
+ghost use Rattle.plain_commands.specs.alp_io.Sink.{Writes};
 ghost use Rattle.compiler_commands.specs.Generated.{ended_line, four_lines, number_line, sum_line};
 
-use alp_io::{Failed, Report, Sink, write_pieces};
-use alp_text::print_u64;
-use board_run::{RunEnd, Watch};
-use fram_board::Board;
+use plain_commands::outside::{Failed, Report, Sink, write_pieces};
+use plain_commands::texts::print_u64;
+use plain_commands::board_runs::{RunEnd, Watch};
+use plain_commands::boards::Board;
 use plain_commands::reason_of;
 
 #[tactic(auto, unfolding(crate::specs::Generated::number_line))]

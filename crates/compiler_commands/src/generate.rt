@@ -1,34 +1,31 @@
 //! `gen N IMAGE`: the image of a generated source, put as an image text, and the four lines of its run on a generated trace.
 ghost use Rattle.std.specs.Prelude.{◌≡◌, ◌<◌, ◌≤◌, ◌^◌, [], ℕ, List, IfOk, IfErr, length};
-ghost use Rattle.fram_board.specs.Board.{fresh};
-ghost use Rattle.board_run.specs.History.{start_of};
-ghost use Rattle.alp_io.specs.Shelf.{NeverFall};
+ghost use Rattle.plain_commands.specs.fram_board.Board.{fresh};
+ghost use Rattle.plain_commands.specs.board_run.History.{start_of};
+ghost use Rattle.plain_commands.specs.alp_io.Shelf.{NeverFall};
 ghost use Rattle.image_reports.specs.task_ast.View.{program_of};
-ghost use Rattle.source_meaning.specs.Acceptance.{IsAcceptedText};
+ghost use Rattle.plain_commands.specs.source_meaning.Acceptance.{IsAcceptedText};
 ghost use Rattle.source_generator.specs.Source.{generated_text};
 ghost use Rattle.source_generator.specs.Trace as generator;
 ghost use Rattle.image_reports.specs.source_runs.Traces.{IsTraceOfWords};
-ghost use Rattle.command_answers.specs.declared.failure.Failure.TheVariants.{Memory};
-ghost use Rattle.command_answers.specs.Ending.{Ending, well};
+ghost use Rattle.plain_commands.specs.command_answers.declared.failure.Failure.TheVariants.{Memory};
+ghost use Rattle.plain_commands.specs.command_answers.Ending.{Ending, well};
 ghost use Rattle.compiler_commands.specs.Generated.{RanSo};
 ghost use Rattle.compiler_commands.specs.Build.{IsBuilt};
 ghost use Rattle.plain_commands.specs.RunReport.{IsRunReport};
 ghost use Rattle.compiler_commands.specs.ToldRuns.{IsToldOnTraces};
-ghost use Rattle.command_answers.specs.CommandAnswers.{CommandAnswers, IsWhole, TextAnswers};
-ghost use Rattle.command_answers.specs.Outcomes.{FailsBy};
+ghost use Rattle.plain_commands.specs.command_answers.CommandAnswers.{CommandAnswers, IsWhole, TextAnswers};
+ghost use Rattle.plain_commands.specs.command_answers.Outcomes.{FailsBy};
 ghost use Rattle.compiler_commands.specs.Gen.{gen_promise};
 
 use crate::built::{Built, built_of};
 use crate::gen_lines::write_lines;
-use alp_io::{Failed, NullSink, Report, Shelf, Sink};
-use board_run::{RunEnd, Watch, run};
-use command_answers::{Failure, Status, answer_failure, put_file};
-use command_texts::source_of;
-use energy_trace::Trace;
-use fram_board::Board;
-use image_text::Image;
+use plain_commands::answers::{Failure, Status, answer_failure, put_file};
+use plain_commands::board_runs::{RunEnd, Watch, run};
+use plain_commands::boards::Board;
+use plain_commands::outside::{Failed, NullSink, Report, Shelf, Sink};
+use plain_commands::texts::{Accepted, Image, Trace, source_of};
 use source_generator::{generated_source, generated_trace};
-use source_meaning::Accepted;
 use std::alloc::{AllocError, Global};
 
 // The trace of a number, for its source with this bound; `Memory` where memory was refused.

@@ -10,3 +10,6 @@ mod try_;
 pub use build::answer_build;
 pub use generate::answer_gen;
 pub use try_::answer_try;
+
+// The whole compiler as a call.
+pub use link_image::compile;

@@ -1,19 +1,18 @@
 //! `try SRC TRACE IMAGE`: the image of a source, put as an image text, and the report of its run on the trace.
 ghost use Rattle.std.specs.Prelude.{◌≡◌, ◌<◌, ◌≤◌, ◌^◌, ◌∷◌, [], ℕ, List, IfOk, IfErr, length};
-ghost use Rattle.alp_io.specs.Shelf.{NeverFall};
-ghost use Rattle.command_answers.specs.Ending.{Ending, well};
+ghost use Rattle.plain_commands.specs.alp_io.Shelf.{NeverFall};
+ghost use Rattle.plain_commands.specs.command_answers.Ending.{Ending, well};
 ghost use Rattle.compiler_commands.specs.Try.{Tries, try_promise};
 ghost use Rattle.plain_commands.specs.RunReport.{IsReportFrom, IsRunReport};
-ghost use Rattle.command_answers.specs.CommandAnswers.{CommandAnswers, IsWhole, TextAnswers};
-ghost use Rattle.command_answers.specs.Outcomes.{Breaks, FailsBy, Gains};
+ghost use Rattle.plain_commands.specs.command_answers.CommandAnswers.{CommandAnswers, IsWhole, TextAnswers};
+ghost use Rattle.plain_commands.specs.command_answers.Outcomes.{Breaks, FailsBy, Gains};
 
 use crate::built::{Built, built_of};
-use alp_io::{Failed, Shelf, Sink};
-use board_run::Watch;
-use command_answers::{Failure, Status, answer_failure, answer_unread, put_file, read_texts};
-use command_texts::{source_of, trace_of};
-use energy_trace::Trace;
-use fram_board::Board;
+use plain_commands::answers::{Failure, Status, answer_failure, answer_unread, put_file, read_texts};
+use plain_commands::board_runs::Watch;
+use plain_commands::boards::Board;
+use plain_commands::outside::{Failed, Shelf, Sink};
+use plain_commands::texts::{Trace, source_of, trace_of};
 use plain_commands::{RunEnding, write_report};
 use std::alloc::Global;
 

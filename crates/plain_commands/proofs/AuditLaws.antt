@@ -1,24 +1,24 @@
 -- What `mean` prints is a report that its source could have told; and what an audit says of such a report.
 use Rattle.std.proofs.Common.{◌≡◌, ◌≤◌, ◌*◌, ◌+◌, ◌∙◌, ℕ, List, [], ◌∷◌, length, map, sum_by, All, arith, refl, sym, ap, subst, inl, Ok, Some}
 use Rattle.std.proofs.lemmas.List.Sums.{sum_by-cons}
-use Rattle.alp_io.specs.declared.report.Reason.{Reason}
-use Rattle.alp_io.specs.declared.report.Reason.TheVariants as reason
-use Rattle.energy_trace.specs.TraceValue.{TraceValue}
-use Rattle.energy_trace.specs.Reading.{trace_of}
+use Rattle.command_texts.specs.alp_io.declared.report.Reason.{Reason}
+use Rattle.command_texts.specs.alp_io.declared.report.Reason.TheVariants as reason
+use Rattle.command_texts.specs.energy_trace.TraceValue.{TraceValue}
+use Rattle.command_texts.specs.energy_trace.Reading.{trace_of}
 use Rattle.fram_board.specs.Run.{Charges}
-use Rattle.cost_bound.specs.declared.allowance.Allow.{Allow}
+use Rattle.command_texts.specs.cost_bound.declared.allowance.Allow.{Allow}
 use Rattle.source_values.specs.Statements.{Outcome}
 use Rattle.source_values.specs.Runs.{CheckedProgram, State, Transition, EmitsFit, first_state, state_after, source_run}
-use Rattle.source_meaning.specs.Laws.{AcceptedTextsRun}
-use Rattle.source_report.specs.SourceReport.{Committed, IsConsecutive, IsEnding, readings_of}
-use Rattle.source_report.specs.Apart.{AreApart}
-use Rattle.source_runs.proofs.Interface.{made}
+use Rattle.command_texts.specs.source_meaning.Laws.{AcceptedTextsRun}
+use Rattle.command_texts.specs.source_report.SourceReport.{Committed, IsConsecutive, IsEnding, readings_of}
+use Rattle.command_texts.specs.source_report.Apart.{AreApart}
+use Rattle.command_texts.proofs.source_runs.Interface.{made}
 use Rattle.report_audit.specs.declared.verdict.Verdict.{Verdict}
 use Rattle.report_audit.specs.declared.verdict.Verdict.TheVariants.{Yes, No}
 use Rattle.report_audit.specs.Good.{IsGoodReport, IsVerdict}
 use Rattle.report_audit.proofs.Interface.{run_on}
 use Rattle.plain_commands.specs.Audited.{MeanReportsAreGood, MeanReportsAreAnsweredYes}
-use Rattle.command_answers.specs.Ending.{Ending, well}
+use Rattle.command_texts.specs.command_answers.Ending.{Ending, well}
 use Rattle.plain_commands.specs.Audit.{Audits}
 use Rattle.plain_commands.specs.Verdicts.{verdict_line, verdict_ending}
 

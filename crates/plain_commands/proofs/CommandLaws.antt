@@ -1,43 +1,43 @@
 -- What these commands make, from what their parts do.
 use Rattle.std.proofs.Common.{◌≡◌, ◌∙◌, ℕ, List, [], ◌∷◌, None, Result, Ok, Err, refl, sym, ap, subst, IfOk, IfErr, ◌++◌, append-nil}
-use Rattle.energy_trace.specs.TraceValue.{TraceValue}
-use Rattle.energy_trace.specs.Reading.{trace_of}
-use Rattle.image_text.specs.ImageValue.{ImageValue}
-use Rattle.image_text.specs.Reading.{image_of}
+use Rattle.command_texts.specs.energy_trace.TraceValue.{TraceValue}
+use Rattle.command_texts.specs.energy_trace.Reading.{trace_of}
+use Rattle.command_texts.specs.image_text.ImageValue.{ImageValue}
+use Rattle.command_texts.specs.image_text.Reading.{image_of}
 use Rattle.fram_board.specs.Board.{BoardValue, fresh}
 use Rattle.board_run.specs.History.{History, start_of}
 use Rattle.source_values.specs.Runs.{CheckedProgram}
-use Rattle.source_report.specs.SourceReport.{IsMeanReport}
-use Rattle.command_answers.specs.declared.failure.Failure.{Failure}
-use Rattle.command_answers.specs.declared.failure.Failure.TheVariants.{Refused, Put, Write, Memory}
+use Rattle.command_texts.specs.source_report.SourceReport.{IsMeanReport}
+use Rattle.command_texts.specs.command_answers.declared.failure.Failure.{Failure}
+use Rattle.command_texts.specs.command_answers.declared.failure.Failure.TheVariants.{Refused, Put, Write, Memory}
 use Rattle.plain_commands.specs.declared.run.RunEnding.{RunEnding}
-use Rattle.command_answers.specs.CommandAnswers.{IsWhole}
-use Rattle.cost_bound.specs.declared.allowance.Allow.{Allow}
-use Rattle.source_meaning.specs.Acceptance.{IsAcceptedText}
+use Rattle.command_texts.specs.command_answers.CommandAnswers.{IsWhole}
+use Rattle.command_texts.specs.cost_bound.declared.allowance.Allow.{Allow}
+use Rattle.command_texts.specs.source_meaning.Acceptance.{IsAcceptedText}
 use Rattle.report_audit.specs.declared.verdict.Verdict.{Verdict}
 use Rattle.report_audit.specs.Good.{IsVerdict}
 use Rattle.plain_commands.specs.Verdicts.{verdict_line, verdict_ending}
-use Rattle.command_answers.specs.Ending.{Ending, well}
+use Rattle.command_texts.specs.command_answers.Ending.{Ending, well}
 use Rattle.plain_commands.specs.Ends.{ending_of}
-use Rattle.command_answers.specs.Outcomes.{FailsBy, FailsWriting, Gains, FailsPutting}
-use Rattle.command_answers.specs.Outside.{Shelved, Written, WhereStands, WhereSilent}
-use Rattle.command_answers.specs.Promises.{Promise}
+use Rattle.command_texts.specs.command_answers.Outcomes.{FailsBy, FailsWriting, Gains, FailsPutting}
+use Rattle.command_texts.specs.command_answers.Outside.{Shelved, Written, WhereStands, WhereSilent}
+use Rattle.command_texts.specs.command_answers.Promises.{Promise}
 use Rattle.plain_commands.specs.Dis.{IsListing, dis_promise}
 use Rattle.plain_commands.specs.RunReport.{IsReportFrom}
 use Rattle.command_texts.specs.Sources.{IsSourceText}
 use Rattle.plain_commands.proofs.RunLaws.{told_from}
 use Rattle.std.specs.Io.KnownBytes.{Appends}
 use Rattle.std.proofs.KnownBytes.{Appends-nil}
-use Rattle.alp_io.specs.Shelf.{Told, Sets}
+use Rattle.command_texts.specs.alp_io.Shelf.{Told, Sets}
 use Rattle.plain_commands.specs.Asm.{Assembles, asm_promise}
-use Rattle.image_text.specs.text_parts.Printed.{printed}
-use Rattle.image_text.specs.Text.{text_of, map_part}
-use Rattle.msp_asm.specs.Assembled.{assembled}
-use Rattle.command_answers.specs.declared.status.Status.TheVariants.{Refused}
+use Rattle.command_texts.specs.image_text.text_parts.Printed.{printed}
+use Rattle.command_texts.specs.image_text.Text.{text_of, map_part}
+use Rattle.command_texts.specs.msp_asm.Assembled.{assembled}
+use Rattle.command_texts.specs.command_answers.declared.status.Status.TheVariants.{Refused}
 use Rattle.plain_commands.specs.Mean.{mean_promise}
 use Rattle.plain_commands.specs.Run.{run_promise}
 use Rattle.plain_commands.specs.Audit.{audit_promise}
-use Rattle.command_answers.proofs.Interface.{output_alone, none_put, whole_by, fails_by, put_whole, put_fails}
+use Rattle.command_texts.proofs.command_answers.Interface.{output_alone, none_put, whole_by, fails_by, put_whole, put_fails}
 
 -- ---- a command that writes the report of a run
 

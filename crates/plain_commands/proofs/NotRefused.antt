@@ -1,6 +1,6 @@
 -- Texts are accepted or refused, not both.
 use Rattle.std.proofs.Common.{ℕ, List}
-use Rattle.command_answers.specs.Refusals.{Refusal}
+use Rattle.command_texts.specs.command_answers.Refusals.{Refusal}
 use Rattle.command_texts.specs.Sources.{SaysSource}
 use Rattle.command_texts.specs.Texts.{SaysTrace, SaysImage}
 use Rattle.plain_commands.specs.Mean.{MeanRefuses, the_source, its_trace}

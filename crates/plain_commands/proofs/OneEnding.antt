@@ -1,14 +1,14 @@
 -- Whatever a command makes of its texts has one ending.
 use Rattle.std.proofs.Common.{◌≡◌, ◌∙◌, ℕ, List, refl, sym, ap, subst}
-use Rattle.energy_trace.specs.TraceValue.{TraceValue}
-use Rattle.energy_trace.specs.Reading.{trace_of}
-use Rattle.image_text.specs.Reading.{image_of}
+use Rattle.command_texts.specs.energy_trace.TraceValue.{TraceValue}
+use Rattle.command_texts.specs.energy_trace.Reading.{trace_of}
+use Rattle.command_texts.specs.image_text.Reading.{image_of}
 use Rattle.fram_board.specs.Laws.{HasOneRun}
 use Rattle.fram_board.specs.Board.{BoardValue}
 use Rattle.board_run.specs.History.{History}
-use Rattle.command_answers.specs.Ending.{Ending}
+use Rattle.command_texts.specs.command_answers.Ending.{Ending}
 use Rattle.plain_commands.specs.Verdicts.{verdict_ending}
-use Rattle.cost_bound.specs.declared.allowance.Allow.{Allow}
+use Rattle.command_texts.specs.cost_bound.declared.allowance.Allow.{Allow}
 use Rattle.source_values.specs.Runs.{CheckedProgram}
 use Rattle.report_audit.specs.declared.verdict.Verdict.{Verdict}
 use Rattle.report_audit.specs.declared.verdict.Verdict.TheVariants.{Yes, No}

@@ -1,20 +1,20 @@
 -- Reports are not empty, and what a buffer took of one is what the output has in the end.
 use Rattle.std.proofs.Common.{◌≡◌, ℕ, zero, suc, ◌+◌, ◌<◌, List, ◌++◌, length, length-append, arith, Option, Some, None, Result, Ok, Err, IfOk, sym, subst}
-use Rattle.alp_io.specs.declared.report.Reason.{Reason}
-use Rattle.alp_io.specs.declared.sink.Failed.{Failed}
-use Rattle.alp_io.specs.Report.{end_line, illegal_line, bus_line}
-use Rattle.alp_io.specs.Sink.{Writes}
+use Rattle.command_texts.specs.alp_io.declared.report.Reason.{Reason}
+use Rattle.command_texts.specs.alp_io.declared.sink.Failed.{Failed}
+use Rattle.command_texts.specs.alp_io.Report.{end_line, illegal_line, bus_line}
+use Rattle.command_texts.specs.alp_io.Sink.{Writes}
 use Rattle.buffered_sink.specs.Front.{Settles}
-use Rattle.energy_trace.specs.TraceValue.{TraceValue}
+use Rattle.command_texts.specs.energy_trace.TraceValue.{TraceValue}
 use Rattle.fram_board.specs.msp_step.declared.machine.Stop.TheVariants as stop
 use Rattle.fram_board.specs.Board.{BoardValue}
 use Rattle.fram_board.specs.Run.{End, Charges, Stopped, RunOutcome}
 use Rattle.board_run.specs.History.{History, bound_lines}
 use Rattle.board_run.specs.Report.{last_line, after_all, lines_from}
 use Rattle.source_values.specs.Runs.{CheckedProgram, Completion, completion_of, attempt_of}
-use Rattle.source_report.specs.MeanReport.{report_from, if_whole, mean_report}
+use Rattle.command_texts.specs.source_report.MeanReport.{report_from, if_whole, mean_report}
 use Rattle.plain_commands.specs.declared.run.RunEnding.{RunEnding}
-use Rattle.command_answers.specs.Ending.{Ending}
+use Rattle.command_texts.specs.command_answers.Ending.{Ending}
 use Rattle.plain_commands.specs.Ends.{ending_of, WritesRun}
 use Rattle.plain_commands.specs.RunReport.{IsReportFrom}
 

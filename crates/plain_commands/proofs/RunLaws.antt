@@ -1,7 +1,7 @@
 -- What a run of a board says of its report.
 use Rattle.std.proofs.Common.{◌≡◌, ℕ, List, Option, Result, Ok, Err, refl, subst}
-use Rattle.alp_io.specs.Sink.{AppendsProperPrefix}
-use Rattle.energy_trace.specs.TraceValue.{TraceValue}
+use Rattle.command_texts.specs.alp_io.Sink.{AppendsProperPrefix}
+use Rattle.command_texts.specs.energy_trace.TraceValue.{TraceValue}
 use Rattle.fram_board.specs.msp_step.declared.machine.Stop.TheVariants as stop
 use Rattle.fram_board.specs.Board.{BoardValue}
 use Rattle.fram_board.specs.Run.{End, Charges, Stopped}
@@ -11,7 +11,7 @@ use Rattle.board_run.specs.Report.{report_of, answer_of, IsRunOf}
 use Rattle.board_run.specs.declared.trace_run.RunEnd.{RunEnd}
 use Rattle.board_run.specs.declared.trace_run.RunFault.{RunFault}
 use Rattle.board_run.specs.declared.trace_run.RunFault.TheVariants as fault
-use Rattle.command_answers.specs.Ending.{Ending, well, at_fault}
+use Rattle.command_texts.specs.command_answers.Ending.{Ending, well, at_fault}
 use Rattle.plain_commands.specs.declared.run.RunEnding.TheVariants.{Well, AtFault}
 use Rattle.plain_commands.specs.Ends.{WritesRun}
 use Rattle.plain_commands.specs.RunReport.{IsReportFrom, ending_of}

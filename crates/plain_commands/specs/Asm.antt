@@ -1,12 +1,12 @@
 -- What `asm` makes of its text.
 use Rattle.std.specs.Prelude.{◌≡◌, ℕ, List, [], ◌∷◌, Some, None, Ok, IsSomeAnd}
-use Rattle.image_text.specs.Reading.{image_of}
-use Rattle.image_text.specs.Text.{text_of}
-use Rattle.image_text.specs.text_parts.Printed.{printed}
-use Rattle.msp_asm.specs.Assembled.{assembled}
+use Rattle.command_texts.specs.image_text.Reading.{image_of}
+use Rattle.command_texts.specs.image_text.Text.{text_of}
+use Rattle.command_texts.specs.image_text.text_parts.Printed.{printed}
+use Rattle.command_texts.specs.msp_asm.Assembled.{assembled}
 use Rattle.command_texts.specs.Assemblies.{RefusesAssembly, SaysAssembly}
-use Rattle.command_answers.specs.Ending.{well}
-use Rattle.command_answers.specs.Promises.{Promise, OfOneText}
+use Rattle.command_texts.specs.command_answers.Ending.{well}
+use Rattle.command_texts.specs.command_answers.Promises.{Promise, OfOneText}
 
 -- the assembler text says an image without a map, and these bytes are the image text that is printed of it, which reads back
 pub record Assembles (assembly file : List ℕ) : Type 0 where

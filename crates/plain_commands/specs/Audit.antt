@@ -1,18 +1,18 @@
 -- What `audit` makes of its texts.
 use Rattle.std.specs.Prelude.{◌≡◌, ℕ, List, [], ◌∷◌, None, Ok}
-use Rattle.energy_trace.specs.TraceValue.{TraceValue}
-use Rattle.energy_trace.specs.Reading.{trace_of}
-use Rattle.cost_bound.specs.declared.allowance.Allow.{Allow}
-use Rattle.source_meaning.specs.Acceptance.{IsAcceptedText}
+use Rattle.command_texts.specs.energy_trace.TraceValue.{TraceValue}
+use Rattle.command_texts.specs.energy_trace.Reading.{trace_of}
+use Rattle.command_texts.specs.cost_bound.declared.allowance.Allow.{Allow}
+use Rattle.command_texts.specs.source_meaning.Acceptance.{IsAcceptedText}
 use Rattle.source_values.specs.Runs.{CheckedProgram}
 use Rattle.report_audit.specs.declared.verdict.Verdict.{Verdict}
 use Rattle.report_audit.specs.Good.{IsVerdict}
-use Rattle.command_answers.specs.Ending.{Ending}
-use Rattle.command_answers.specs.Refusals.{Refusal}
+use Rattle.command_texts.specs.command_answers.Ending.{Ending}
+use Rattle.command_texts.specs.command_answers.Refusals.{Refusal}
 use Rattle.command_texts.specs.Sources.{IsSourceText, RefusesSource, SaysSource}
 use Rattle.command_texts.specs.Texts.{RefusesTrace, SaysTrace}
 use Rattle.plain_commands.specs.Verdicts.{verdict_line, verdict_ending}
-use Rattle.command_answers.specs.Promises.{Promise, OfThreeTexts}
+use Rattle.command_texts.specs.command_answers.Promises.{Promise, OfThreeTexts}
 
 -- the texts are a source, accepted as this program alone, and a trace; this is what an audit of the report by them says, and its line
 pub record Audits (source report trace : List ℕ) (ending : Ending) (output : List ℕ) : Type 0 where

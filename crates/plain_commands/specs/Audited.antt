@@ -2,7 +2,7 @@
 use Rattle.std.specs.Prelude.{◌≡◌, ℕ, List}
 use Rattle.report_audit.specs.declared.verdict.Verdict.TheVariants.{Yes}
 use Rattle.report_audit.specs.Good.{IsGoodReport}
-use Rattle.command_answers.specs.Ending.{Ending, well}
+use Rattle.command_texts.specs.command_answers.Ending.{Ending, well}
 use Rattle.plain_commands.specs.Mean.{Means}
 use Rattle.plain_commands.specs.Audit.{Audits}
 use Rattle.plain_commands.specs.Verdicts.{verdict_line}

@@ -1,12 +1,12 @@
 -- What `dis` makes of its text.
 use Rattle.std.specs.Prelude.{◌≡◌, ℕ, List, [], ◌∷◌, None, Ok}
-use Rattle.image_text.specs.ImageValue.{ImageValue}
-use Rattle.image_text.specs.Reading.{image_of}
-use Rattle.msp_asm.specs.Assembled.{assembled}
-use Rattle.msp_asm.specs.Disassembly.{IsTextOf}
-use Rattle.command_answers.specs.Ending.{well}
+use Rattle.command_texts.specs.image_text.ImageValue.{ImageValue}
+use Rattle.command_texts.specs.image_text.Reading.{image_of}
+use Rattle.command_texts.specs.msp_asm.Assembled.{assembled}
+use Rattle.command_texts.specs.msp_asm.Disassembly.{IsTextOf}
+use Rattle.command_texts.specs.command_answers.Ending.{well}
 use Rattle.command_texts.specs.Texts.{RefusesImage, SaysImage}
-use Rattle.command_answers.specs.Promises.{Promise, OfOneText}
+use Rattle.command_texts.specs.command_answers.Promises.{Promise, OfOneText}
 
 -- this is the listing of an image's words, and it assembles to them
 pub record IsListing (words output : List ℕ) : Type 0 where

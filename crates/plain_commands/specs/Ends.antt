@@ -1,17 +1,17 @@
 -- What a call that writes the report of a run leaves.
 use Rattle.std.specs.Prelude.{ℕ, List, Option, Result, Ok, Err}
 use Rattle.std.specs.Io.KnownBytes.{Appends}
-use Rattle.alp_io.specs.Sink.{AppendsProperPrefix}
-use Rattle.alp_io.specs.declared.sink.Failed.{Failed}
-use Rattle.energy_trace.specs.TraceValue.{TraceValue}
+use Rattle.command_texts.specs.alp_io.Sink.{AppendsProperPrefix}
+use Rattle.command_texts.specs.alp_io.declared.sink.Failed.{Failed}
+use Rattle.command_texts.specs.energy_trace.TraceValue.{TraceValue}
 use Rattle.fram_board.specs.Board.{BoardValue}
 use Rattle.board_run.specs.History.{History}
 use Rattle.plain_commands.specs.declared.run.RunEnding.{RunEnding}
 use Rattle.plain_commands.specs.declared.run.RunEnding.TheVariants.{Well, AtFault}
-use Rattle.command_answers.specs.Ending.{Ending, well, at_fault}
+use Rattle.command_texts.specs.command_answers.Ending.{Ending, well, at_fault}
 use Rattle.plain_commands.specs.RunReport.{IsReportFrom}
-use Rattle.alp_io.specs.declared.report.Reason.{Reason}
-use Rattle.alp_io.specs.declared.report.Reason.TheVariants as reason
+use Rattle.command_texts.specs.alp_io.declared.report.Reason.{Reason}
+use Rattle.command_texts.specs.alp_io.declared.report.Reason.TheVariants as reason
 use Rattle.board_run.specs.declared.trace_run.RunEnd.{RunEnd}
 use Rattle.board_run.specs.declared.trace_run.RunEnd.TheVariants.{Charges, Readings, Off}
 

@@ -1,14 +1,14 @@
 -- What `mean` makes of its texts.
 use Rattle.std.specs.Prelude.{◌≡◌, ℕ, List, [], ◌∷◌, None, Ok}
-use Rattle.energy_trace.specs.TraceValue.{TraceValue}
-use Rattle.energy_trace.specs.Reading.{trace_of}
+use Rattle.command_texts.specs.energy_trace.TraceValue.{TraceValue}
+use Rattle.command_texts.specs.energy_trace.Reading.{trace_of}
 use Rattle.source_values.specs.Runs.{CheckedProgram}
-use Rattle.source_report.specs.SourceReport.{IsMeanReport}
-use Rattle.command_answers.specs.Ending.{well}
-use Rattle.command_answers.specs.Refusals.{Refusal}
+use Rattle.command_texts.specs.source_report.SourceReport.{IsMeanReport}
+use Rattle.command_texts.specs.command_answers.Ending.{well}
+use Rattle.command_texts.specs.command_answers.Refusals.{Refusal}
 use Rattle.command_texts.specs.Sources.{IsSourceText, RefusesSource, SaysSource}
 use Rattle.command_texts.specs.Texts.{RefusesTrace, SaysTrace}
-use Rattle.command_answers.specs.Promises.{Promise, OfTwoTexts}
+use Rattle.command_texts.specs.command_answers.Promises.{Promise, OfTwoTexts}
 
 -- the texts are a source and a trace, and this is the report of the source's meaning on the trace's readings
 pub record Means (source trace output : List ℕ) : Type 0 where

@@ -1,14 +1,14 @@
 -- What `run` makes of its texts.
 use Rattle.std.specs.Prelude.{◌≡◌, ℕ, List, [], ◌∷◌, None, Ok}
-use Rattle.energy_trace.specs.TraceValue.{TraceValue}
-use Rattle.energy_trace.specs.Reading.{trace_of}
-use Rattle.image_text.specs.ImageValue.{ImageValue}
-use Rattle.image_text.specs.Reading.{image_of}
-use Rattle.command_answers.specs.Ending.{Ending}
-use Rattle.command_answers.specs.Refusals.{Refusal}
+use Rattle.command_texts.specs.energy_trace.TraceValue.{TraceValue}
+use Rattle.command_texts.specs.energy_trace.Reading.{trace_of}
+use Rattle.command_texts.specs.image_text.ImageValue.{ImageValue}
+use Rattle.command_texts.specs.image_text.Reading.{image_of}
+use Rattle.command_texts.specs.command_answers.Ending.{Ending}
+use Rattle.command_texts.specs.command_answers.Refusals.{Refusal}
 use Rattle.plain_commands.specs.RunReport.{IsRunReport}
 use Rattle.command_texts.specs.Texts.{RefusesTrace, RefusesImage, SaysImage, SaysTrace}
-use Rattle.command_answers.specs.Promises.{Promise, OfTwoTexts}
+use Rattle.command_texts.specs.command_answers.Promises.{Promise, OfTwoTexts}
 
 -- the texts are an image and a trace, and this is the report of the image's run on the trace, which ends so
 pub record Runs (image trace : List ℕ) (ending : Ending) (output : List ℕ) : Type 0 where

@@ -1,14 +1,14 @@
 -- The report of a run on a trace.
 use Rattle.std.specs.Prelude.{◌≡◌, ℕ, List}
-use Rattle.energy_trace.specs.TraceValue.{TraceValue}
-use Rattle.image_text.specs.ImageValue.{ImageValue}
+use Rattle.command_texts.specs.energy_trace.TraceValue.{TraceValue}
+use Rattle.command_texts.specs.image_text.ImageValue.{ImageValue}
 use Rattle.fram_board.specs.msp_step.declared.machine.Stop.TheVariants as stop
 use Rattle.fram_board.specs.Board.{BoardValue, fresh}
 use Rattle.fram_board.specs.Run.{End, Charges, Stopped, RunOutcome, Run}
 use Rattle.board_run.specs.Charges.{charges_of}
 use Rattle.board_run.specs.History.{History, start_of}
 use Rattle.board_run.specs.Report.{report_of}
-use Rattle.command_answers.specs.Ending.{Ending, well, at_fault}
+use Rattle.command_texts.specs.command_answers.Ending.{Ending, well, at_fault}
 
 -- a run ends at a machine fault where it met a word that is no instruction, or a bus fault
 abbrev pub ending_of : End → Ending

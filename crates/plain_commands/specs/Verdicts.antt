@@ -1,9 +1,9 @@
 -- How a verdict is told, and how a command ends that gave it.
 use Rattle.std.specs.Prelude.{ℕ, List, [], ◌∷◌, codes, decimal}
-use Rattle.alp_io.specs.Report.{texts}
+use Rattle.command_texts.specs.alp_io.Report.{texts}
 use Rattle.report_audit.specs.declared.verdict.Verdict.{Verdict}
 use Rattle.report_audit.specs.declared.verdict.Verdict.TheVariants.{Yes, No}
-use Rattle.command_answers.specs.Ending.{Ending, well, differs}
+use Rattle.command_texts.specs.command_answers.Ending.{Ending, well, differs}
 
 -- `yes T`, with the number of transitions; or `no LINE`
 unfoldable pub verdict_line : Verdict → List ℕ

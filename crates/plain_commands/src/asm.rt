@@ -1,17 +1,16 @@
 //! `asm ASM IMAGE`: the image of an assembler text, put as an image text.
 ghost use Rattle.std.specs.Prelude.{◌≤◌, ◌∷◌, [], IfOk, IfErr, length};
-ghost use Rattle.alp_io.specs.Shelf.{NeverFall};
-ghost use Rattle.command_answers.specs.Ending.{well};
+ghost use Rattle.command_texts.specs.alp_io.Shelf.{NeverFall};
+ghost use Rattle.command_texts.specs.command_answers.Ending.{well};
 ghost use Rattle.command_texts.specs.Assemblies.{RefusesAssembly};
 ghost use Rattle.plain_commands.specs.Asm.{Assembles, asm_promise};
-ghost use Rattle.command_answers.specs.Outside.{WhereSilent};
-ghost use Rattle.command_answers.specs.Outcomes.{FailsRefused, FailsBy};
-ghost use Rattle.command_answers.specs.CommandAnswers.{CommandAnswers, IsWhole, TextAnswers};
+ghost use Rattle.command_texts.specs.command_answers.Outside.{WhereSilent};
+ghost use Rattle.command_texts.specs.command_answers.Outcomes.{FailsRefused, FailsBy};
+ghost use Rattle.command_texts.specs.command_answers.CommandAnswers.{CommandAnswers, IsWhole, TextAnswers};
 
-use alp_io::{Shelf, Sink};
-use command_answers::{Failure, Status, answer_failure, answer_unread, put_file, read_file};
-use command_texts::assembly_of;
-use image_text::print_image;
+use command_texts::answers::{Failure, Status, answer_failure, answer_unread, put_file, read_file};
+use command_texts::outside::{Shelf, Sink};
+use command_texts::{assembly_of, print_image};
 use std::alloc::{AllocError, Global};
 
 // The image text of what the assembler text says.

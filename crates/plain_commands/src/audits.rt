@@ -1,27 +1,22 @@
 //! `audit SRC REPORT TRACE`: a report checked by its source alone.
 ghost use Rattle.std.specs.Prelude.{◌≡◌, ◌≤◌, ◌∷◌, [], IfOk, IfErr, length};
-ghost use Rattle.alp_io.specs.Count.{HasCause};
-ghost use Rattle.alp_io.specs.Shelf.{NeverFall};
-ghost use Rattle.alp_io.specs.Sink.{Writes};
-ghost use Rattle.source_report.specs.task_ast.View.{program_of};
-ghost use Rattle.source_meaning.specs.Acceptance.{IsAcceptedText};
+ghost use Rattle.command_texts.specs.alp_io.Count.{HasCause};
+ghost use Rattle.command_texts.specs.alp_io.Shelf.{NeverFall};
+ghost use Rattle.command_texts.specs.alp_io.Sink.{Writes};
+ghost use Rattle.command_texts.specs.source_report.task_ast.View.{program_of};
+ghost use Rattle.command_texts.specs.source_meaning.Acceptance.{IsAcceptedText};
 ghost use Rattle.report_audit.specs.Good.{IsVerdict};
-ghost use Rattle.command_answers.specs.declared.failure.Failure.TheVariants.{Memory};
+ghost use Rattle.command_texts.specs.command_answers.declared.failure.Failure.TheVariants.{Memory};
 ghost use Rattle.plain_commands.specs.Verdicts.{verdict_line, verdict_ending};
-ghost use Rattle.command_answers.specs.Outside.{WhereStands};
-ghost use Rattle.command_answers.specs.CommandAnswers.{CommandAnswers, IsWhole, TextAnswers};
-ghost use Rattle.command_answers.specs.Outcomes.{FailsBy};
+ghost use Rattle.command_texts.specs.command_answers.Outside.{WhereStands};
+ghost use Rattle.command_texts.specs.command_answers.CommandAnswers.{CommandAnswers, IsWhole, TextAnswers};
+ghost use Rattle.command_texts.specs.command_answers.Outcomes.{FailsBy};
 ghost use Rattle.plain_commands.specs.Audit.{audit_promise};
 
-use alp_io::{Failed, Shelf, Sink, write_pieces};
-use alp_text::print_u64;
-use command_answers::{
-    Failure, Status, ThreeTexts, answer_failure, answer_unread, messages, read_three_texts,
-};
-use command_texts::{source_of, trace_of};
-use energy_trace::Trace;
+use command_texts::answers::{Failure, Status, ThreeTexts, answer_failure, answer_unread, messages, read_three_texts};
+use command_texts::outside::{Failed, Shelf, Sink, write_pieces};
+use command_texts::{Accepted, Trace, print_u64, source_of, trace_of};
 use report_audit::{AuditFault, Verdict, audit};
-use source_meaning::Accepted;
 use std::alloc::Global;
 
 /// The names of the files of an audit.

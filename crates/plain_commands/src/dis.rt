@@ -1,17 +1,15 @@
 //! `dis IMAGE`: the assembler text of an image.
 ghost use Rattle.std.specs.Prelude.{◌≤◌, ◌∷◌, [], IfOk, IfErr, length};
-ghost use Rattle.alp_io.specs.Shelf.{NeverFall};
-ghost use Rattle.command_answers.specs.Ending.{well};
+ghost use Rattle.command_texts.specs.alp_io.Shelf.{NeverFall};
+ghost use Rattle.command_texts.specs.command_answers.Ending.{well};
 ghost use Rattle.plain_commands.specs.Dis.{IsListing, dis_promise};
-ghost use Rattle.command_answers.specs.Outside.{WhereStands};
-ghost use Rattle.command_answers.specs.CommandAnswers.{CommandAnswers, IsWhole, TextAnswers};
-ghost use Rattle.command_answers.specs.Outcomes.{FailsBy, FailsWriting, Gains};
+ghost use Rattle.command_texts.specs.command_answers.Outside.{WhereStands};
+ghost use Rattle.command_texts.specs.command_answers.CommandAnswers.{CommandAnswers, IsWhole, TextAnswers};
+ghost use Rattle.command_texts.specs.command_answers.Outcomes.{FailsBy, FailsWriting, Gains};
 
-use alp_io::{Failed, Shelf, Sink};
-use command_answers::{Failure, Status, answer_failure, answer_unread, read_file};
-use command_texts::image_of;
-use image_text::Image;
-use msp_asm::{disassemble, images_have_texts};
+use command_texts::answers::{Failure, Status, answer_failure, answer_unread, read_file};
+use command_texts::outside::{Failed, Shelf, Sink};
+use command_texts::{Image, disassemble, image_of, images_have_texts};
 use std::alloc::Global;
 
 // Writes the listing of the image. Takes no memory.

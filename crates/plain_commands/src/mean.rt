@@ -1,25 +1,22 @@
 //! `mean SRC TRACE`: the report of a source's meaning.
 ghost use Rattle.std.specs.Prelude.{◌≡◌, ◌≤◌, ◌∷◌, [], IfOk, IfErr, length};
-ghost use Rattle.alp_io.specs.Count.{HasCause};
-ghost use Rattle.alp_io.specs.Sink.{Writes};
-ghost use Rattle.source_report.specs.task_ast.View.{program_of};
+ghost use Rattle.command_texts.specs.alp_io.Count.{HasCause};
+ghost use Rattle.command_texts.specs.alp_io.Sink.{Writes};
+ghost use Rattle.command_texts.specs.source_report.task_ast.View.{program_of};
 ghost use Rattle.source_values.specs.Running.{fresh_run};
-ghost use Rattle.source_report.specs.MeanReport.{mean_report};
-ghost use Rattle.source_report.specs.SourceReport.{IsMeanReport};
-ghost use Rattle.alp_io.specs.Shelf.{NeverFall};
-ghost use Rattle.command_answers.specs.Ending.{well};
-ghost use Rattle.command_answers.specs.Outside.{WhereStands};
-ghost use Rattle.command_answers.specs.CommandAnswers.{CommandAnswers, IsWhole, TextAnswers};
-ghost use Rattle.command_answers.specs.Outcomes.{FailsBy, FailsWriting, Gains};
+ghost use Rattle.command_texts.specs.source_report.MeanReport.{mean_report};
+ghost use Rattle.command_texts.specs.source_report.SourceReport.{IsMeanReport};
+ghost use Rattle.command_texts.specs.alp_io.Shelf.{NeverFall};
+ghost use Rattle.command_texts.specs.command_answers.Ending.{well};
+ghost use Rattle.command_texts.specs.command_answers.Outside.{WhereStands};
+ghost use Rattle.command_texts.specs.command_answers.CommandAnswers.{CommandAnswers, IsWhole, TextAnswers};
+ghost use Rattle.command_texts.specs.command_answers.Outcomes.{FailsBy, FailsWriting, Gains};
 ghost use Rattle.plain_commands.specs.Mean.{mean_promise};
 
-use alp_io::{Failed, Report, Shelf, Sink};
 use buffered_sink::{BufferedSink, Origin};
-use command_answers::{Failure, Status, answer_failure, answer_unread, read_texts};
-use command_texts::{source_of, trace_of};
-use energy_trace::Trace;
-use source_meaning::Accepted;
-use source_report::{mean_report_is_determined, write_mean_report};
+use command_texts::answers::{Failure, Status, answer_failure, answer_unread, read_texts};
+use command_texts::outside::{Failed, Report, Shelf, Sink};
+use command_texts::{Accepted, Trace, mean_report_is_determined, source_of, trace_of, write_mean_report};
 use source_values::SourceRun;
 use std::alloc::{AllocError, Global};
 use std::marker::Brand;

@@ -1,25 +1,23 @@
 //! `run IMAGE TRACE`: the report of an image's run.
 ghost use Rattle.std.specs.Prelude.{◌≡◌, ◌<◌, ◌≤◌, ◌^◌, ◌∷◌, [], IfOk, IfErr, length};
-ghost use Rattle.alp_io.specs.Count.{HasCause};
+ghost use Rattle.command_texts.specs.alp_io.Count.{HasCause};
 ghost use Rattle.board_run.specs.History.{start_of};
 ghost use Rattle.plain_commands.specs.RunReport.{IsReportFrom};
-ghost use Rattle.alp_io.specs.Shelf.{NeverFall};
+ghost use Rattle.command_texts.specs.alp_io.Shelf.{NeverFall};
 ghost use Rattle.plain_commands.specs.Ends as ends;
 ghost use Rattle.plain_commands.specs.Ends.{ending_of, WritesRun};
-ghost use Rattle.command_answers.specs.Ending.{Ending};
-ghost use Rattle.command_answers.specs.Outside.{WhereStands};
-ghost use Rattle.command_answers.specs.CommandAnswers.{CommandAnswers, IsWhole, TextAnswers};
-ghost use Rattle.command_answers.specs.Outcomes.{FailsBy, FailsWriting, Gains};
+ghost use Rattle.command_texts.specs.command_answers.Ending.{Ending};
+ghost use Rattle.command_texts.specs.command_answers.Outside.{WhereStands};
+ghost use Rattle.command_texts.specs.command_answers.CommandAnswers.{CommandAnswers, IsWhole, TextAnswers};
+ghost use Rattle.command_texts.specs.command_answers.Outcomes.{FailsBy, FailsWriting, Gains};
 ghost use Rattle.plain_commands.specs.Run.{run_promise};
 
-use alp_io::{Failed, Reason, Report, Shelf, Sink};
 use board_run::{RunEnd, RunFault, Watch, run};
 use buffered_sink::{BufferedSink, Origin};
-use command_answers::{Failure, Status, answer_failure, answer_unread, messages, read_texts};
-use command_texts::{image_of, trace_of};
-use energy_trace::Trace;
+use command_texts::answers::{Failure, Status, answer_failure, answer_unread, messages, read_texts};
+use command_texts::outside::{Failed, Reason, Report, Shelf, Sink};
+use command_texts::{Image, Trace, image_of, trace_of};
 use fram_board::Board;
-use image_text::Image;
 use std::alloc::Global;
 use std::marker::Brand;
 

@@ -1,11 +1,6 @@
 //! Calls of the crates below that the program doesn't make, or makes over files in memory alone here.
-use alpaca_cli::{DirShelf, Shelf};
+use alpaca_cli::{Board, DirShelf, Meaning, Shelf, accept, compile, parse_image, parse_trace, print_image, print_trace};
 use anyhow::Result;
-use energy_trace::{parse_trace, print_trace};
-use fram_board::Board;
-use image_text::{parse_image, print_image};
-use link_image::compile;
-use source_meaning::{Meaning, accept};
 use std::alloc::Global;
 use std::fs;
 

@@ -3,38 +3,38 @@ use Rattle.std.proofs.Common.{◌≡◌, ◌∙◌, ℕ, List, [], Some, Result,
 use Rattle.std.specs.Prelude.{slice_get}
 use Rattle.std.specs.Io.KnownBytes.{Appends}
 use Rattle.std.proofs.KnownBytes.{Appends-nil}
-use Rattle.alp_io.specs.Shelf.{Told, Sets, Files, Counts, NeverFall}
-use Rattle.source_report.specs.task_ast.View.{program_of}
-use Rattle.state_text.specs.declared.state.State.{State}
-use Rattle.state_text.specs.Reading.{state_of}
-use Rattle.state_text.specs.Text.{state_text}
+use Rattle.plain_commands.specs.alp_io.Shelf.{Told, Sets, Files, Counts, NeverFall}
+use Rattle.plain_commands.specs.source_report.task_ast.View.{program_of}
+use Rattle.plain_commands.specs.state_text.declared.state.State.{State}
+use Rattle.plain_commands.specs.state_text.Reading.{state_of}
+use Rattle.plain_commands.specs.state_text.Text.{state_text}
 use Rattle.fram_state.specs.declared.migration.MigrateFault.{MigrateFault}
 use Rattle.fram_state.specs.Belongs.{Belongs}
 use Rattle.fram_state.specs.Suits.{Suits}
 use Rattle.fram_state.specs.Migrated.{EditionValue, IsStateOf, IsMigrated, IsFault}
-use Rattle.state_text.specs.image_map.Kept.{IsMap}
+use Rattle.plain_commands.specs.state_text.image_map.Kept.{IsMap}
 use Rattle.state_commands.specs.Saved.{IsOfWords}
-use Rattle.source_values.specs.Runs.{CheckedProgram}
-use Rattle.source_meaning.specs.Acceptance.{IsAcceptedText}
-use Rattle.cost_bound.specs.declared.allowance.Allow.{Allow}
-use Rattle.command_answers.specs.declared.failure.Failure.{Failure}
-use Rattle.command_answers.specs.declared.failure.Failure.TheVariants.{Refused, Put, Write, Memory}
+use Rattle.plain_commands.specs.source_values.Runs.{CheckedProgram}
+use Rattle.plain_commands.specs.source_meaning.Acceptance.{IsAcceptedText}
+use Rattle.plain_commands.specs.cost_bound.declared.allowance.Allow.{Allow}
+use Rattle.plain_commands.specs.command_answers.declared.failure.Failure.{Failure}
+use Rattle.plain_commands.specs.command_answers.declared.failure.Failure.TheVariants.{Refused, Put, Write, Memory}
 use Rattle.state_commands.specs.declared.migrate.MigrateNames.{MigrateNames}
 use Rattle.state_commands.specs.declared.migrate.Said.{Said}
-use Rattle.command_answers.specs.CommandAnswers.{IsWhole, CommandAnswers, TextAnswers}
-use Rattle.command_answers.specs.Ending.{well}
+use Rattle.plain_commands.specs.command_answers.CommandAnswers.{IsWhole, CommandAnswers, TextAnswers}
+use Rattle.plain_commands.specs.command_answers.Ending.{well}
 use Rattle.state_commands.specs.Migrated.{Editions, AreSaid, AreAlone, AreSuited, Migrates, MigratesWords, MigrateRefuses, unsuited, unsuited_new}
 use Rattle.state_commands.specs.Migrated.{another_state, not_migrated, other_source, migrate_refusal, old_edition, new_edition}
 use Rattle.state_commands.specs.Migrating.{AreRead, FailsAt, OfEditions, old_with, new_with, read_by, texts_of, migration_of}
-use Rattle.command_answers.specs.Outcomes.{FailsBy, FailsPutting, FailsRefused}
-use Rattle.command_answers.specs.Outside.{Shelved, WhereSilent, Written}
-use Rattle.command_answers.specs.Refusals.{Refusal}
+use Rattle.plain_commands.specs.command_answers.Outcomes.{FailsBy, FailsPutting, FailsRefused}
+use Rattle.plain_commands.specs.command_answers.Outside.{Shelved, WhereSilent, Written}
+use Rattle.plain_commands.specs.command_answers.Refusals.{Refusal}
 use Rattle.state_commands.specs.Resumed.{RefusesOther}
-use Rattle.command_texts.specs.Sources.{IsSourceText}
-use Rattle.command_answers.specs.Views.{refusal_of}
-use Rattle.command_answers.proofs.Interface.{put_whole, put_fails, of_texts, earlier_read}
-use Rattle.command_answers.specs.declared.status.Status.{Status}
-use Rattle.command_answers.specs.InputFiles.{AreHeld}
+use Rattle.plain_commands.specs.command_texts.Sources.{IsSourceText}
+use Rattle.plain_commands.specs.command_answers.Views.{refusal_of}
+use Rattle.plain_commands.proofs.command_answers.Interface.{put_whole, put_fails, of_texts, earlier_read}
+use Rattle.plain_commands.specs.command_answers.declared.status.Status.{Status}
+use Rattle.plain_commands.specs.command_answers.InputFiles.{AreHeld}
 
 -- a text of a migration is refused, at its place
 pub fails_at : (e : Failure) (name : List ℕ) (P : Refusal → Type 0) (n : MigrateNames) (t : Editions) (place : ℕ)

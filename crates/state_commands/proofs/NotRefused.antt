@@ -1,20 +1,20 @@
 -- Texts are accepted or refused, not both.
 use Rattle.std.proofs.Common.{◌≡◌, ◌∙◌, ℕ, List, Some, None, Ok, Err, sym, ap, subst}
-use Rattle.image_text.specs.ImageValue.{ImageValue}
-use Rattle.image_text.specs.Reading.{image_of}
-use Rattle.state_text.specs.Reading.{state_of}
+use Rattle.plain_commands.specs.image_text.ImageValue.{ImageValue}
+use Rattle.plain_commands.specs.image_text.Reading.{image_of}
+use Rattle.plain_commands.specs.state_text.Reading.{state_of}
 use Rattle.fram_state.specs.Belongs.{IsAnswer}
 use Rattle.fram_state.specs.Laws.{AnswersAreOne, NoMigrationIsRefused}
-use Rattle.source_values.specs.Runs.{CheckedProgram}
-use Rattle.command_answers.specs.Refusals.{Refusal}
-use Rattle.command_texts.specs.Texts.{SaysTrace, SaysState}
+use Rattle.plain_commands.specs.source_values.Runs.{CheckedProgram}
+use Rattle.plain_commands.specs.command_answers.Refusals.{Refusal}
+use Rattle.plain_commands.specs.command_texts.Texts.{SaysTrace, SaysState}
 use Rattle.fram_state.specs.Suits.{Suits}
 use Rattle.fram_state.specs.Migrated.{EditionValue, edition_with, CanMigrate}
 use Rattle.state_commands.specs.Migrated.{Editions, AreSaid, AreAlone, AreSuited, CanBeMigrated, MigrateRefuses, migrate_refusal, old_edition, new_edition}
 use Rattle.state_commands.specs.Migrated as migrated
 use Rattle.state_commands.specs.Resumed.{SaysItsState, ResumeRefuses, the_states_image, the_resumed_state, the_resumed_trace, the_other_state}
 use Rattle.state_commands.specs.Saved.{SaveRefuses, the_state, the_states_trace}
-use Rattle.command_texts.proofs.Interface.{same_value, no_trace, no_image, no_state, SourcesExclude}
+use Rattle.plain_commands.proofs.command_texts.Interface.{same_value, no_trace, no_image, no_state, SourcesExclude}
 
 -- no source and no state is taken and refused
 pub record TextsExclude : Type 0 where

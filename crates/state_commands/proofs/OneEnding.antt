@@ -1,19 +1,19 @@
 -- Whatever a command makes of its texts has one ending.
 use Rattle.std.proofs.Common.{◌≡◌, ◌∙◌, ℕ, List, Option, sym, ap, subst}
-use Rattle.energy_trace.specs.TraceValue.{TraceValue}
-use Rattle.energy_trace.specs.Reading.{trace_of}
-use Rattle.state_text.specs.declared.state.State.{State}
-use Rattle.state_text.specs.Reading.{state_of}
-use Rattle.fram_board.specs.Laws.{HasOneRun}
-use Rattle.fram_board.specs.Run.{Run, RunOutcome}
-use Rattle.image_text.specs.ImageValue.{ImageValue}
-use Rattle.board_run.specs.Charges.{charges_of}
-use Rattle.board_run.specs.History.{start_of}
-use Rattle.command_answers.specs.Ending.{Ending}
+use Rattle.plain_commands.specs.energy_trace.TraceValue.{TraceValue}
+use Rattle.plain_commands.specs.energy_trace.Reading.{trace_of}
+use Rattle.plain_commands.specs.state_text.declared.state.State.{State}
+use Rattle.plain_commands.specs.state_text.Reading.{state_of}
+use Rattle.plain_commands.specs.fram_board.Laws.{HasOneRun}
+use Rattle.plain_commands.specs.fram_board.Run.{Run, RunOutcome}
+use Rattle.plain_commands.specs.image_text.ImageValue.{ImageValue}
+use Rattle.plain_commands.specs.board_run.Charges.{charges_of}
+use Rattle.plain_commands.specs.board_run.History.{start_of}
+use Rattle.plain_commands.specs.command_answers.Ending.{Ending}
 use Rattle.state_commands.specs.Resumed.{Resumes}
 use Rattle.plain_commands.specs.RunReport.{IsReportFrom, ending_of}
 use Rattle.state_commands.specs.Saved.{Saves, from_state}
-use Rattle.command_texts.proofs.Interface.{same_value}
+use Rattle.plain_commands.proofs.command_texts.Interface.{same_value}
 use Rattle.plain_commands.proofs.Interface.{one_run}
 
 pub resume_ending : (Holds : ImageValue → State → TraceValue → RunOutcome → List ℕ → Type 0) → HasOneRun → (x y z : List ℕ) (e e' : Ending) (o o' : List ℕ)

@@ -1,21 +1,21 @@
 -- What `resume` makes.
 use Rattle.std.proofs.Common.{◌≡◌, ℕ, List, [], ◌∷◌, Ok, refl}
-use Rattle.energy_trace.specs.TraceValue.{TraceValue}
-use Rattle.energy_trace.specs.Reading.{trace_of}
-use Rattle.image_text.specs.ImageValue.{ImageValue}
-use Rattle.image_text.specs.Reading.{image_of}
-use Rattle.state_text.specs.declared.state.State.{State}
-use Rattle.state_text.specs.Reading.{state_of}
+use Rattle.plain_commands.specs.energy_trace.TraceValue.{TraceValue}
+use Rattle.plain_commands.specs.energy_trace.Reading.{trace_of}
+use Rattle.plain_commands.specs.image_text.ImageValue.{ImageValue}
+use Rattle.plain_commands.specs.image_text.Reading.{image_of}
+use Rattle.plain_commands.specs.state_text.declared.state.State.{State}
+use Rattle.plain_commands.specs.state_text.Reading.{state_of}
 use Rattle.fram_state.specs.Belongs.{Belongs}
-use Rattle.fram_board.specs.Board.{BoardValue}
-use Rattle.board_run.specs.History.{start_of}
-use Rattle.command_answers.specs.Ending.{Ending}
+use Rattle.plain_commands.specs.fram_board.Board.{BoardValue}
+use Rattle.plain_commands.specs.board_run.History.{start_of}
+use Rattle.plain_commands.specs.command_answers.Ending.{Ending}
 use Rattle.plain_commands.specs.RunReport.{IsReportFrom}
-use Rattle.source_runs.specs.Traces.{IsTraceOfWords}
+use Rattle.plain_commands.specs.source_runs.Traces.{IsTraceOfWords}
 use Rattle.state_commands.specs.Resumed.{ResumesOnWords, resume_promise}
 use Rattle.state_commands.specs.Saved.{IsOfWords, from_state}
 use Rattle.plain_commands.proofs.Interface.{told_from}
-use Rattle.command_answers.proofs.Interface.{output_alone}
+use Rattle.plain_commands.proofs.command_answers.Interface.{output_alone}
 
 pub resume_product : (a b c image state trace : List ℕ) (i : ImageValue) (s : State) (t : TraceValue) (board : BoardValue)
     → image_of image ≡ Ok i → state_of state ≡ Ok s → trace_of trace ≡ Ok t → Belongs i s

@@ -1,28 +1,28 @@
 -- The run that `save` makes, the line that it writes, and the state that it puts.
 use Rattle.std.proofs.Common.{◌≡◌, ◌∙◌, ℕ, List, [], ◌∷◌, Option, Some, None, Result, Ok, Err, refl, sym, ap, subst, arith, inl, inr}
 use Rattle.std.specs.Io.KnownBytes.{Appends}
-use Rattle.alp_io.specs.Count.{Rose}
-use Rattle.alp_io.specs.Sink.{AppendsProperPrefix}
-use Rattle.energy_trace.specs.TraceValue.{TraceValue}
-use Rattle.energy_trace.specs.Reading.{trace_of}
-use Rattle.fram_board.specs.msp_step.declared.machine.Stop.TheVariants as stop
-use Rattle.state_text.specs.declared.state.State.{State}
-use Rattle.state_text.specs.Reading.{state_of}
-use Rattle.fram_board.specs.Board.{BoardValue}
-use Rattle.fram_board.specs.Saved.{saved}
-use Rattle.fram_board.specs.Run.{End, Charges, Stopped}
-use Rattle.board_run.specs.declared.trace_run.RunEnd.{RunEnd}
-use Rattle.board_run.specs.declared.trace_run.RunEnd.TheVariants as run_end
-use Rattle.board_run.specs.declared.trace_run.RunFault.{RunFault}
-use Rattle.board_run.specs.declared.trace_run.RunFault.TheVariants as fault
-use Rattle.board_run.specs.Charges.{charges_of}
-use Rattle.board_run.specs.History.{History, start_of}
-use Rattle.board_run.specs.Report.{after_all, answer_of, HasWriteCause, IsRunOf, last_line}
-use Rattle.command_answers.specs.CommandAnswers.{IsWhole, IsBroken}
-use Rattle.command_answers.specs.Ending.{Ending, well, at_fault}
-use Rattle.command_answers.specs.Outside.{Shelved, Written, Stands}
+use Rattle.plain_commands.specs.alp_io.Count.{Rose}
+use Rattle.plain_commands.specs.alp_io.Sink.{AppendsProperPrefix}
+use Rattle.plain_commands.specs.energy_trace.TraceValue.{TraceValue}
+use Rattle.plain_commands.specs.energy_trace.Reading.{trace_of}
+use Rattle.plain_commands.specs.fram_board.msp_step.declared.machine.Stop.TheVariants as stop
+use Rattle.plain_commands.specs.state_text.declared.state.State.{State}
+use Rattle.plain_commands.specs.state_text.Reading.{state_of}
+use Rattle.plain_commands.specs.fram_board.Board.{BoardValue}
+use Rattle.plain_commands.specs.fram_board.Saved.{saved}
+use Rattle.plain_commands.specs.fram_board.Run.{End, Charges, Stopped}
+use Rattle.plain_commands.specs.board_run.declared.trace_run.RunEnd.{RunEnd}
+use Rattle.plain_commands.specs.board_run.declared.trace_run.RunEnd.TheVariants as run_end
+use Rattle.plain_commands.specs.board_run.declared.trace_run.RunFault.{RunFault}
+use Rattle.plain_commands.specs.board_run.declared.trace_run.RunFault.TheVariants as fault
+use Rattle.plain_commands.specs.board_run.Charges.{charges_of}
+use Rattle.plain_commands.specs.board_run.History.{History, start_of}
+use Rattle.plain_commands.specs.board_run.Report.{after_all, answer_of, HasWriteCause, IsRunOf, last_line}
+use Rattle.plain_commands.specs.command_answers.CommandAnswers.{IsWhole, IsBroken}
+use Rattle.plain_commands.specs.command_answers.Ending.{Ending, well, at_fault}
+use Rattle.plain_commands.specs.command_answers.Outside.{Shelved, Written, Stands}
 use Rattle.plain_commands.specs.RunReport.{ending_of}
-use Rattle.source_runs.specs.Traces.{IsTraceOfWords}
+use Rattle.plain_commands.specs.source_runs.Traces.{IsTraceOfWords}
 use Rattle.state_commands.specs.Saved.{IsSavedAt, RanFrom, RanOn, Saves, RunsOnWords, IsOfWords, from_state, told_end, told_fault, save_promise}
 use Rattle.plain_commands.proofs.Interface.{ends_well, ends_at_fault}
 

@@ -1,24 +1,24 @@
 -- What `migrate` makes of its texts: the state of a new edition of a program that goes on in place of an old one; and why there is none.
 use Rattle.std.specs.Prelude.{◌≡◌, ℕ, List, codes, Option, Some, None, Ok, [], ◌∷◌, IsSomeAnd, IfSome}
-use Rattle.image_text.specs.ImageValue.{ImageValue}
-use Rattle.image_text.specs.Reading.{image_of}
-use Rattle.state_text.specs.declared.state.State.{State}
-use Rattle.state_text.specs.Reading.{state_of}
-use Rattle.state_text.specs.Text.{state_text}
+use Rattle.plain_commands.specs.image_text.ImageValue.{ImageValue}
+use Rattle.plain_commands.specs.image_text.Reading.{image_of}
+use Rattle.plain_commands.specs.state_text.declared.state.State.{State}
+use Rattle.plain_commands.specs.state_text.Reading.{state_of}
+use Rattle.plain_commands.specs.state_text.Text.{state_text}
 use Rattle.fram_state.specs.declared.migration.MigrateFault.{MigrateFault}
 use Rattle.fram_state.specs.declared.migration.MigrateFault.TheVariants.{Pending, NoTask, Unsettled, Memory}
 use Rattle.fram_state.specs.Belongs.{Belongs, IsAnswer}
 use Rattle.fram_state.specs.Suits.{Suits}
 use Rattle.fram_state.specs.Migrated.{EditionValue, edition_with, CanMigrate, IsMigrated, IsFault}
-use Rattle.source_values.specs.Runs.{CheckedProgram}
-use Rattle.state_text.specs.image_map.Kept.{IsMap}
+use Rattle.plain_commands.specs.source_values.Runs.{CheckedProgram}
+use Rattle.plain_commands.specs.state_text.image_map.Kept.{IsMap}
 use Rattle.state_commands.specs.Saved.{IsOfWords}
-use Rattle.command_answers.specs.Refusals.{Refusal, plain, named}
+use Rattle.plain_commands.specs.command_answers.Refusals.{Refusal, plain, named}
 use Rattle.state_commands.specs.Resumed.{RefusesOther}
-use Rattle.command_texts.specs.Sources.{IsSourceText, RefusesSource}
-use Rattle.command_texts.specs.Texts.{RefusesImage, RefusesState}
-use Rattle.command_answers.specs.Ending.{well}
-use Rattle.command_answers.specs.Promises.{Promise, OfFiveTexts}
+use Rattle.plain_commands.specs.command_texts.Sources.{IsSourceText, RefusesSource}
+use Rattle.plain_commands.specs.command_texts.Texts.{RefusesImage, RefusesState}
+use Rattle.plain_commands.specs.command_answers.Ending.{well}
+use Rattle.plain_commands.specs.command_answers.Promises.{Promise, OfFiveTexts}
 
 -- the texts that `migrate` reads, in order
 pub record Editions : Type 0 where

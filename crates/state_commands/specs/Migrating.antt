@@ -1,23 +1,23 @@
 -- What the parts of a migration bring.
 use Rattle.std.specs.Prelude.{◌≡◌, ℕ, ◌≤◌, List, [], ◌∷◌, length, Some, Ok, slice_get}
-use Rattle.source_report.specs.task_ast.View.{program_of}
-use Rattle.image_text.specs.Reading.{image_of}
-use Rattle.image_text.specs.image_map.MapValue.{MapValue}
-use Rattle.state_text.specs.Reading.{state_of}
+use Rattle.plain_commands.specs.source_report.task_ast.View.{program_of}
+use Rattle.plain_commands.specs.image_text.Reading.{image_of}
+use Rattle.plain_commands.specs.image_text.image_map.MapValue.{MapValue}
+use Rattle.plain_commands.specs.state_text.Reading.{state_of}
 use Rattle.fram_state.specs.Migrated.{EditionValue, edition_with}
-use Rattle.source_values.specs.Runs.{CheckedProgram}
-use Rattle.command_answers.specs.declared.failure.Failure.{Failure}
-use Rattle.command_answers.specs.declared.failure.Failure.TheVariants.{Refused, Put, Write, Memory}
+use Rattle.plain_commands.specs.source_values.Runs.{CheckedProgram}
+use Rattle.plain_commands.specs.command_answers.declared.failure.Failure.{Failure}
+use Rattle.plain_commands.specs.command_answers.declared.failure.Failure.TheVariants.{Refused, Put, Write, Memory}
 use Rattle.state_commands.specs.declared.migrate.EditionTexts.{EditionTexts}
 use Rattle.state_commands.specs.declared.migrate.MigrateNames.{MigrateNames}
 use Rattle.state_commands.specs.declared.migrate.FiveTexts.{FiveTexts}
 use Rattle.state_commands.specs.declared.migrate.OldSaid.{OldSaid}
 use Rattle.state_commands.specs.declared.migrate.Said.{Said}
-use Rattle.command_answers.specs.Refusals.{Refusal}
-use Rattle.command_texts.specs.Sources.{IsSourceText}
-use Rattle.command_answers.specs.Views.{refusal_of}
+use Rattle.plain_commands.specs.command_answers.Refusals.{Refusal}
+use Rattle.plain_commands.specs.command_texts.Sources.{IsSourceText}
+use Rattle.plain_commands.specs.command_answers.Views.{refusal_of}
 use Rattle.state_commands.specs.Migrated.{Editions, migrate_promise, MigratesWords}
-use Rattle.command_answers.specs.Promises.{Promise}
+use Rattle.plain_commands.specs.command_answers.Promises.{Promise}
 
 -- the texts as values
 abbrev pub editions_of : EditionTexts → Editions

@@ -1,24 +1,24 @@
 -- What `resume` makes of its texts: the report of the run that goes on from a state; and why a state is refused.
 use Rattle.std.specs.Prelude.{◌≡◌, ℕ, List, codes, Ok, Err, [], ◌∷◌, None}
-use Rattle.energy_trace.specs.TraceValue.{TraceValue}
-use Rattle.energy_trace.specs.Reading.{trace_of}
-use Rattle.image_text.specs.ImageValue.{ImageValue}
-use Rattle.image_text.specs.Reading.{image_of}
-use Rattle.state_text.specs.declared.state.State.{State}
-use Rattle.state_text.specs.Reading.{state_of}
+use Rattle.plain_commands.specs.energy_trace.TraceValue.{TraceValue}
+use Rattle.plain_commands.specs.energy_trace.Reading.{trace_of}
+use Rattle.plain_commands.specs.image_text.ImageValue.{ImageValue}
+use Rattle.plain_commands.specs.image_text.Reading.{image_of}
+use Rattle.plain_commands.specs.state_text.declared.state.State.{State}
+use Rattle.plain_commands.specs.state_text.Reading.{state_of}
 use Rattle.fram_state.specs.declared.fault.StateFault.{StateFault}
 use Rattle.fram_state.specs.declared.fault.StateFault.TheVariants.{OtherMap, OtherWord, Unsound}
 use Rattle.fram_state.specs.Belongs.{Belongs, IsAnswer}
 use Rattle.fram_state.specs.Rules.{rule_name}
-use Rattle.fram_board.specs.Run.{RunOutcome}
-use Rattle.board_run.specs.History.{start_of}
-use Rattle.source_runs.specs.Traces.{IsTraceOfWords}
-use Rattle.command_answers.specs.Ending.{Ending}
-use Rattle.command_answers.specs.Refusals.{Detail, Refusal, name, address}
+use Rattle.plain_commands.specs.fram_board.Run.{RunOutcome}
+use Rattle.plain_commands.specs.board_run.History.{start_of}
+use Rattle.plain_commands.specs.source_runs.Traces.{IsTraceOfWords}
+use Rattle.plain_commands.specs.command_answers.Ending.{Ending}
+use Rattle.plain_commands.specs.command_answers.Refusals.{Detail, Refusal, name, address}
 use Rattle.plain_commands.specs.RunReport.{IsReportFrom}
 use Rattle.state_commands.specs.Saved.{RunsOnWords, from_state}
-use Rattle.command_texts.specs.Texts.{RefusesTrace, RefusesImage, RefusesState, SaysTrace}
-use Rattle.command_answers.specs.Promises.{Promise, OfThreeTexts}
+use Rattle.plain_commands.specs.command_texts.Texts.{RefusesTrace, RefusesImage, RefusesState, SaysTrace}
+use Rattle.plain_commands.specs.command_answers.Promises.{Promise, OfThreeTexts}
 
 -- The texts are an image, a state that belongs to it, and a trace. This is the report of the run of the board that goes on from the
 -- state, on the trace, and that run ends so. And this holds of them, the run and the report.

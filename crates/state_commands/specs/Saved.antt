@@ -1,27 +1,27 @@
 -- The state that `save` puts, and the line that it writes.
 use Rattle.std.specs.Prelude.{◌≡◌, ◌<◌, ℕ, List, [], ◌∷◌, All, length, Option, Some, None, Result, Ok, IsSomeAnd}
-use Rattle.alp_io.specs.Report.{illegal_line, bus_line, end_line}
-use Rattle.energy_trace.specs.TraceValue.{TraceValue}
-use Rattle.energy_trace.specs.Reading.{trace_of}
-use Rattle.state_text.specs.declared.state.State.{State}
-use Rattle.state_text.specs.Reading.{state_of}
-use Rattle.state_text.specs.Text.{state_text}
-use Rattle.fram_board.specs.Board.{BoardValue, started}
-use Rattle.fram_board.specs.Saved.{saved}
-use Rattle.fram_board.specs.Run.{RunOutcome, Run}
-use Rattle.board_run.specs.declared.trace_run.RunEnd.{RunEnd}
-use Rattle.board_run.specs.declared.trace_run.RunFault.{RunFault}
-use Rattle.board_run.specs.declared.trace_run.RunFault.TheVariants as fault
-use Rattle.board_run.specs.Charges.{charges_of}
-use Rattle.board_run.specs.History.{start_of}
-use Rattle.board_run.specs.Report.{after_all, answer_of, last_line}
-use Rattle.source_runs.specs.Traces.{IsTraceOfWords}
-use Rattle.command_answers.specs.Ending.{Ending, well}
+use Rattle.plain_commands.specs.alp_io.Report.{illegal_line, bus_line, end_line}
+use Rattle.plain_commands.specs.energy_trace.TraceValue.{TraceValue}
+use Rattle.plain_commands.specs.energy_trace.Reading.{trace_of}
+use Rattle.plain_commands.specs.state_text.declared.state.State.{State}
+use Rattle.plain_commands.specs.state_text.Reading.{state_of}
+use Rattle.plain_commands.specs.state_text.Text.{state_text}
+use Rattle.plain_commands.specs.fram_board.Board.{BoardValue, started}
+use Rattle.plain_commands.specs.fram_board.Saved.{saved}
+use Rattle.plain_commands.specs.fram_board.Run.{RunOutcome, Run}
+use Rattle.plain_commands.specs.board_run.declared.trace_run.RunEnd.{RunEnd}
+use Rattle.plain_commands.specs.board_run.declared.trace_run.RunFault.{RunFault}
+use Rattle.plain_commands.specs.board_run.declared.trace_run.RunFault.TheVariants as fault
+use Rattle.plain_commands.specs.board_run.Charges.{charges_of}
+use Rattle.plain_commands.specs.board_run.History.{start_of}
+use Rattle.plain_commands.specs.board_run.Report.{after_all, answer_of, last_line}
+use Rattle.plain_commands.specs.source_runs.Traces.{IsTraceOfWords}
+use Rattle.plain_commands.specs.command_answers.Ending.{Ending, well}
 use Rattle.plain_commands.specs.Ends.{reason_of}
-use Rattle.command_answers.specs.Refusals.{Refusal}
+use Rattle.plain_commands.specs.command_answers.Refusals.{Refusal}
 use Rattle.plain_commands.specs.RunReport.{ending_of}
-use Rattle.command_texts.specs.Texts.{RefusesTrace, RefusesState, SaysState, SaysTrace}
-use Rattle.command_answers.specs.Promises.{Promise, OfTwoTexts}
+use Rattle.plain_commands.specs.command_texts.Texts.{RefusesTrace, RefusesState, SaysState, SaysTrace}
+use Rattle.plain_commands.specs.command_answers.Promises.{Promise, OfTwoTexts}
 
 -- the board that goes on from a state, on the readings of a trace
 abbrev pub from_state : State → TraceValue → BoardValue

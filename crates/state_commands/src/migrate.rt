@@ -1,35 +1,29 @@
 //! `migrate SRC IMAGE STATE NEWSRC NEWIMAGE NEWSTATE`: a saved state as one of a new edition of its program, put as a state text.
 ghost use Rattle.std.specs.Prelude.{◌≡◌, ◌≤◌, IfOk, IfErr, IfSome, Some, option_map};
-ghost use Rattle.alp_io.specs.Shelf.{NeverFall};
-ghost use Rattle.source_report.specs.task_ast.View.{program_of};
+ghost use Rattle.plain_commands.specs.alp_io.Shelf.{NeverFall};
+ghost use Rattle.plain_commands.specs.source_report.task_ast.View.{program_of};
 ghost use Rattle.fram_state.specs.declared.migration.MigrateFault.{MigrateFault};
 ghost use Rattle.fram_state.specs.Belongs.{Belongs};
 ghost use Rattle.fram_state.specs.Suits.{Suits};
 ghost use Rattle.fram_state.specs.Migrated.{IsStateOf, IsMigrated, IsFault};
-ghost use Rattle.state_text.specs.image_map.Kept.{IsMap};
-ghost use Rattle.command_answers.specs.CommandAnswers.{CommandAnswers, IsWhole, TextAnswers};
-ghost use Rattle.command_answers.specs.Ending.{well};
-ghost use Rattle.command_answers.specs.InputFiles.{AreHeld, IsUnread};
+ghost use Rattle.plain_commands.specs.state_text.image_map.Kept.{IsMap};
+ghost use Rattle.plain_commands.specs.command_answers.CommandAnswers.{CommandAnswers, IsWhole, TextAnswers};
+ghost use Rattle.plain_commands.specs.command_answers.Ending.{well};
+ghost use Rattle.plain_commands.specs.command_answers.InputFiles.{AreHeld, IsUnread};
 ghost use Rattle.state_commands.specs.Migrated as told;
 ghost use Rattle.state_commands.specs.Migrated.{Migrates, MigrateRefuses, other_source, MigratesWords};
 ghost use Rattle.state_commands.specs.Saved.{IsOfWords};
 ghost use Rattle.state_commands.specs.Migrating.{AreOldRead, AreRead, AreShort, FailsAt, OfEditions, migration_of, editions_in, editions_of, read_by, texts_of};
-ghost use Rattle.command_answers.specs.Outcomes.{FailsBy, FailsRefused};
-ghost use Rattle.command_answers.specs.Outside.{WhereSilent};
-ghost use Rattle.command_answers.specs.Views.{refusal_of};
+ghost use Rattle.plain_commands.specs.command_answers.Outcomes.{FailsBy, FailsRefused};
+ghost use Rattle.plain_commands.specs.command_answers.Outside.{WhereSilent};
+ghost use Rattle.plain_commands.specs.command_answers.Views.{refusal_of};
 
 use crate::resume::check_belongs;
 use crate::state_words::{has_ruled_map, is_of_words};
-use alp_io::{Shelf, Sink};
-use command_answers::{
-    Failure, Refusal, Status, Unread, answer_failure, answer_unread, named, plain, put_file,
-    read_file, refused_plainly,
-};
-use command_texts::{image_of, source_of, state_of};
 use fram_state::{MigrateFault, SuitFault, migrate, suits};
-use image_text::Image;
-use source_meaning::Accepted;
-use state_text::{State, print_state};
+use plain_commands::answers::{Failure, Refusal, Status, Unread, answer_failure, answer_unread, named, plain, put_file, read_file, refused_plainly};
+use plain_commands::outside::{Shelf, Sink};
+use plain_commands::texts::{Accepted, Image, State, image_of, print_state, source_of, state_of};
 use std::alloc::{AllocError, Global};
 
 /// The names of the files of a migration.

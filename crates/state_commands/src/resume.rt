@@ -1,28 +1,22 @@
 //! `resume IMAGE STATE TRACE`: the report of the run that goes on from a saved state.
 ghost use Rattle.std.specs.Prelude.{◌≡◌, ◌≤◌, ◌∷◌, [], IfOk, IfErr, length};
-ghost use Rattle.alp_io.specs.Shelf.{NeverFall};
+ghost use Rattle.plain_commands.specs.alp_io.Shelf.{NeverFall};
 ghost use Rattle.fram_state.specs.Belongs.{Belongs};
 ghost use Rattle.plain_commands.specs.Ends.{ending_of};
-ghost use Rattle.command_answers.specs.Outside.{WhereSilent, WhereStands};
-ghost use Rattle.command_answers.specs.CommandAnswers.{CommandAnswers, IsWhole, TextAnswers};
-ghost use Rattle.command_answers.specs.Outcomes.{FailsBy, FailsRefused};
+ghost use Rattle.plain_commands.specs.command_answers.Outside.{WhereSilent, WhereStands};
+ghost use Rattle.plain_commands.specs.command_answers.CommandAnswers.{CommandAnswers, IsWhole, TextAnswers};
+ghost use Rattle.plain_commands.specs.command_answers.Outcomes.{FailsBy, FailsRefused};
 ghost use Rattle.state_commands.specs.Resumed as told;
 ghost use Rattle.state_commands.specs.Resumed.{RefusesOther, IsResumption, ResumesOnWords, resume_promise};
-ghost use Rattle.command_answers.specs.Views.{detail_of, refusal_of};
+ghost use Rattle.plain_commands.specs.command_answers.Views.{detail_of, refusal_of};
 
 use crate::state_words::is_of_words;
-use alp_io::{Shelf, Sink};
-use command_answers::{
-    Detail, Failure, Refusal, Status, ThreeTexts, answer_failure, answer_unread, messages,
-    read_three_texts,
-};
-use command_texts::{image_of, state_of, trace_of};
-use energy_trace::Trace;
-use fram_board::Board;
 use fram_state::{StateFault, belongs};
-use image_text::Image;
+use plain_commands::answers::{Detail, Failure, Refusal, Status, ThreeTexts, answer_failure, answer_unread, messages, read_three_texts};
+use plain_commands::boards::Board;
+use plain_commands::outside::{Shelf, Sink};
+use plain_commands::texts::{Image, State, Trace, image_of, state_of, trace_of};
 use plain_commands::{RunEnding, write_run};
-use state_text::State;
 use std::alloc::Global;
 
 /// What the texts of a call say.

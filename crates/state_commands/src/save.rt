@@ -1,30 +1,26 @@
 //! `save IMAGE TRACE STATE`: the state of the board at the end of an image's run, put as a state text.
 ghost use Rattle.std.specs.Prelude.{◌≡◌, ◌≤◌, ◌∷◌, [], Ok, IfOk, IfErr, length};
-ghost use Rattle.alp_io.specs.Count.{HasCause};
-ghost use Rattle.alp_io.specs.Shelf.{NeverFall};
-ghost use Rattle.alp_io.specs.Sink.{Writes};
-ghost use Rattle.fram_board.specs.Saved.{saved};
-ghost use Rattle.board_run.specs.declared.trace_run.RunFault.TheVariants.{Write};
-ghost use Rattle.state_text.specs.Reading.{state_of};
-ghost use Rattle.state_text.specs.Text.{state_text};
-ghost use Rattle.command_answers.specs.declared.failure.Failure.TheVariants.{Memory};
+ghost use Rattle.plain_commands.specs.alp_io.Count.{HasCause};
+ghost use Rattle.plain_commands.specs.alp_io.Shelf.{NeverFall};
+ghost use Rattle.plain_commands.specs.alp_io.Sink.{Writes};
+ghost use Rattle.plain_commands.specs.fram_board.Saved.{saved};
+ghost use Rattle.plain_commands.specs.board_run.declared.trace_run.RunFault.TheVariants.{Write};
+ghost use Rattle.plain_commands.specs.state_text.Reading.{state_of};
+ghost use Rattle.plain_commands.specs.state_text.Text.{state_text};
+ghost use Rattle.plain_commands.specs.command_answers.declared.failure.Failure.TheVariants.{Memory};
 ghost use Rattle.plain_commands.specs.Ends.{ending_of};
 ghost use Rattle.state_commands.specs.Saved.{RunsOnWords, RanFrom, RanOn, told_end, told_fault, save_promise};
-ghost use Rattle.command_answers.specs.CommandAnswers.{CommandAnswers, IsWhole, TextAnswers};
-ghost use Rattle.command_answers.specs.Outcomes.{FailsBy};
-ghost use Rattle.command_answers.specs.Outside.{WhereSilent, WhereStands};
+ghost use Rattle.plain_commands.specs.command_answers.CommandAnswers.{CommandAnswers, IsWhole, TextAnswers};
+ghost use Rattle.plain_commands.specs.command_answers.Outcomes.{FailsBy};
+ghost use Rattle.plain_commands.specs.command_answers.Outside.{WhereSilent, WhereStands};
 
 use crate::state_words::is_of_words;
-use alp_io::{Failed, NullSink, Report, Shelf, Sink};
-use board_run::{RunEnd, RunFault, Watch, run};
-use command_answers::{
-    Failure, Status, answer_failure, answer_unread, messages, put_file, read_texts,
-};
-use command_texts::{state_of, trace_of};
-use energy_trace::Trace;
-use fram_board::Board;
+use plain_commands::answers::{Failure, Status, answer_failure, answer_unread, messages, put_file, read_texts};
+use plain_commands::board_runs::{RunEnd, RunFault, Watch, run};
+use plain_commands::boards::Board;
+use plain_commands::outside::{Failed, NullSink, Report, Shelf, Sink};
+use plain_commands::texts::{State, Trace, print_state, state_of, trace_of};
 use plain_commands::{RunEnding, reason_of};
-use state_text::{State, print_state};
 use std::alloc::{AllocError, Global};
 
 /// A run of which no line was written.

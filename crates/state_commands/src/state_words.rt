@@ -1,9 +1,9 @@
 //! What the types of states and maps say of them.
 ghost use Rattle.std.specs.Prelude.{◌<◌, ◌^◌, All, IfSome};
-ghost use Rattle.state_text.specs.image_map.Kept.{IsMap};
+ghost use Rattle.plain_commands.specs.state_text.image_map.Kept.{IsMap};
 ghost use Rattle.state_commands.specs.Saved.{IsOfWords};
 
-use state_text::State;
+use plain_commands::texts::State;
 
 // Words are below 65536.
 fn are_words(words: &[u16])

@@ -1,6 +1,6 @@
 use Rattle.std.proofs.Common.{[], None, inl, refl}
-use Rattle.alp_io.specs.Shelf.{Counts}
-use Rattle.command_answers.specs.Outside.{Shelved}
+use Rattle.plain_commands.specs.alp_io.Shelf.{Counts}
+use Rattle.plain_commands.specs.command_answers.Outside.{Shelved}
 use Rattle.alpaca_cli.proofs.arguments.answer_arguments.Goals as goal
 
 abbrev no_fault : Counts

@@ -2,7 +2,7 @@ use Rattle.alpaca_cli.proofs.Answered.{complete_told}
 use Rattle.alpaca_cli.proofs.FaultLaws.{only_runs_fault, only_audits_differ}
 use Rattle.state_commands.proofs.Interface.{TextsExclude}
 use Rattle.alpaca_cli.proofs.ShelfLaws.{others_stand}
-use Rattle.command_texts.proofs.Interface.{sources_exclude}
+use Rattle.plain_commands.proofs.command_texts.Interface.{sources_exclude}
 use Rattle.alpaca_cli.proofs.command.alpaca.Goals as goal
 
 pub returns-clause-files : goal.returns-clause-files

@@ -2,7 +2,7 @@ use Rattle.std.proofs.Common.{◌∙◌, ap, Some, refl, Err, map, string_bytes}
 use Rattle.command_line.specs.Commands.{plain_line}
 use Rattle.alpaca_cli.specs.Calls as call
 use Rattle.alpaca_cli.proofs.Answered.{on_line, on_silent_line}
-use Rattle.command_answers.proofs.Interface.{answers_more}
+use Rattle.plain_commands.proofs.command_answers.Interface.{answers_more}
 use Rattle.alpaca_cli.proofs.LineLaws.{names_command}
 use Rattle.alpaca_cli.proofs.StateLaws.{saves_more, resumes_more, migrates_more}
 use Rattle.alpaca_cli.proofs.command.answer.Goals as goal

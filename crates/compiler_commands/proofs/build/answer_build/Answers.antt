@@ -1,5 +1,5 @@
 use Rattle.std.proofs.Common.{refl}
-use Rattle.command_answers.proofs.Interface.{held_alone, of_one_read, of_unread}
+use Rattle.plain_commands.proofs.command_answers.Interface.{held_alone, of_one_read, of_unread}
 use Rattle.compiler_commands.proofs.build.answer_build.Goals as goal
 
 pub returns-in-Ok-clause-answers : goal.returns-in-Ok-clause-answers

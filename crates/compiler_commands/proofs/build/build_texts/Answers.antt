@@ -1,6 +1,6 @@
 use Rattle.std.proofs.Common.{refl, ap}
-use Rattle.alp_io.specs.Report.{bound_line}
-use Rattle.command_answers.proofs.Interface.{refusal_fails, memory_fails, put_whole, put_breaks, put_fails, handed_on}
+use Rattle.plain_commands.specs.alp_io.Report.{bound_line}
+use Rattle.plain_commands.proofs.command_answers.Interface.{refusal_fails, memory_fails, put_whole, put_breaks, put_fails, handed_on}
 use Rattle.compiler_commands.proofs.PutLaws.{builds}
 use Rattle.compiler_commands.proofs.build.build_texts.Goals as goal
 

@@ -1,6 +1,6 @@
 use Rattle.std.proofs.Common.{◌%◌}
-use Rattle.alp_io.proofs.Interface.{writes_err}
-use Rattle.board_run.specs.History.{total}
+use Rattle.plain_commands.proofs.alp_io.Interface.{writes_err}
+use Rattle.plain_commands.specs.board_run.History.{total}
 use Rattle.compiler_commands.specs.Generated.{ended_line, sum_line}
 use Rattle.compiler_commands.proofs.GenLines.{in_second, in_third, all_four}
 use Rattle.compiler_commands.proofs.gen_lines.write_lines.Goals as goal

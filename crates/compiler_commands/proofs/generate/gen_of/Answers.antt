@@ -1,4 +1,4 @@
-use Rattle.command_answers.proofs.Interface.{of_failure}
+use Rattle.plain_commands.proofs.command_answers.Interface.{of_failure}
 use Rattle.compiler_commands.proofs.generate.gen_of.Goals as goal
 
 pub returns-in-Err-clause-answers : goal.returns-in-Err-clause-answers

@@ -1,6 +1,6 @@
 use Rattle.std.proofs.Common.{◌≡◌, ◌∙◌, refl, sym, ap}
 use Rattle.source_generator.specs.Trace.{generated_trace}
-use Rattle.command_answers.proofs.Interface.{put_whole, put_breaks, put_fails, handed_on}
+use Rattle.plain_commands.proofs.command_answers.Interface.{put_whole, put_breaks, put_fails, handed_on}
 use Rattle.compiler_commands.proofs.GenLaws.{generates, lines_of_run}
 use Rattle.compiler_commands.proofs.generate.put_generated.Goals as goal
 

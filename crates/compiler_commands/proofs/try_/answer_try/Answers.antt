@@ -1,5 +1,5 @@
 use Rattle.std.proofs.Common.{refl}
-use Rattle.command_answers.proofs.Interface.{of_two_read, of_unread}
+use Rattle.plain_commands.proofs.command_answers.Interface.{of_two_read, of_unread}
 use Rattle.compiler_commands.proofs.try_.answer_try.Goals as goal
 
 pub returns-in-Ok-clause-answers : goal.returns-in-Ok-clause-answers

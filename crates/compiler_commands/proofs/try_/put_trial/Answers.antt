@@ -1,6 +1,6 @@
 use Rattle.std.proofs.Common.{◌∙◌, ap, refl}
-use Rattle.fram_board.specs.Board.{fresh}
-use Rattle.command_answers.proofs.Interface.{put_whole, put_breaks, put_fails, handed_on}
+use Rattle.plain_commands.specs.fram_board.Board.{fresh}
+use Rattle.plain_commands.proofs.command_answers.Interface.{put_whole, put_breaks, put_fails, handed_on}
 use Rattle.plain_commands.proofs.Interface.{told_from}
 use Rattle.compiler_commands.proofs.try_.put_trial.Goals as goal
 

@@ -1,6 +1,6 @@
 use Rattle.std.proofs.Common.{refl}
 use Rattle.plain_commands.specs.Mean.{the_source, its_trace}
-use Rattle.command_answers.proofs.Interface.{refusal_fails, memory_fails, handed_on}
+use Rattle.plain_commands.proofs.command_answers.Interface.{refusal_fails, memory_fails, handed_on}
 use Rattle.compiler_commands.proofs.PutLaws.{tries}
 use Rattle.compiler_commands.proofs.try_.try_texts.Goals as goal
 

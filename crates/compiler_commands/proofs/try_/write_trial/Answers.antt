@@ -1,5 +1,5 @@
 use Rattle.compiler_commands.proofs.TrialLaws.{trial_whole, trial_breaks, no_fault}
-use Rattle.command_answers.proofs.Interface.{handed_on}
+use Rattle.plain_commands.proofs.command_answers.Interface.{handed_on}
 use Rattle.compiler_commands.proofs.try_.write_trial.Goals as goal
 
 pub unreachable-requires : goal.unreachable-requires

@@ -1,4 +1,4 @@
-use Rattle.command_answers.proofs.Interface.{held_alone, of_one_read, of_unread}
+use Rattle.command_texts.proofs.command_answers.Interface.{held_alone, of_one_read, of_unread}
 use Rattle.plain_commands.proofs.asm.answer_asm.Goals as goal
 
 pub returns-in-Ok-clause-answers : goal.returns-in-Ok-clause-answers

@@ -1,5 +1,5 @@
 use Rattle.std.proofs.Common.{refl}
-use Rattle.command_answers.proofs.Interface.{refusal_fails, handed_on}
+use Rattle.command_texts.proofs.command_answers.Interface.{refusal_fails, handed_on}
 use Rattle.plain_commands.proofs.CommandLaws.{asm_whole, asm_fails}
 use Rattle.plain_commands.proofs.asm.asm_texts.Goals as goal
 

@@ -1,6 +1,6 @@
 use Rattle.std.proofs.Common.{refl, ap}
 use Rattle.plain_commands.specs.Verdicts.{verdict_ending}
-use Rattle.command_answers.proofs.Interface.{of_failure, whole_ending}
+use Rattle.command_texts.proofs.command_answers.Interface.{of_failure, whole_ending}
 use Rattle.plain_commands.proofs.audits.audit_of.Goals as goal
 
 pub returns-in-Ok-Yes-clause-answers : goal.returns-in-Ok-Yes-clause-answers

@@ -1,6 +1,6 @@
 use Rattle.std.proofs.Common.{refl}
 use Rattle.plain_commands.specs.Audit.{the_audits_source, the_audits_trace}
-use Rattle.command_answers.proofs.Interface.{handed_on, refusal_fails, memory_fails}
+use Rattle.command_texts.proofs.command_answers.Interface.{handed_on, refusal_fails, memory_fails}
 use Rattle.plain_commands.proofs.CommandLaws.{audit_product}
 use Rattle.plain_commands.proofs.audits.audit_texts.Goals as goal
 

@@ -1,5 +1,5 @@
 use Rattle.std.proofs.Common.{refl}
-use Rattle.command_answers.proofs.Interface.{held_alone, of_one, of_unread}
+use Rattle.command_texts.proofs.command_answers.Interface.{held_alone, of_one, of_unread}
 use Rattle.plain_commands.proofs.dis.answer_dis.Goals as goal
 
 pub returns-in-Ok-clause-answers : goal.returns-in-Ok-clause-answers

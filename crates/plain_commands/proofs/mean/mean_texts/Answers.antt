@@ -1,6 +1,6 @@
 use Rattle.std.proofs.Common.{refl}
 use Rattle.plain_commands.specs.Mean.{the_source, its_trace}
-use Rattle.command_answers.proofs.Interface.{handed_on, refusal_fails}
+use Rattle.command_texts.proofs.command_answers.Interface.{handed_on, refusal_fails}
 use Rattle.plain_commands.proofs.CommandLaws.{mean_whole, mean_fails}
 use Rattle.plain_commands.proofs.mean.mean_texts.Goals as goal
 

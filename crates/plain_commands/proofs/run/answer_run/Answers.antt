@@ -1,5 +1,5 @@
 use Rattle.std.proofs.Common.{refl}
-use Rattle.command_answers.proofs.Interface.{of_two, of_unread}
+use Rattle.command_texts.proofs.command_answers.Interface.{of_two, of_unread}
 use Rattle.plain_commands.proofs.run.answer_run.Goals as goal
 
 pub returns-in-Ok-clause-answers : goal.returns-in-Ok-clause-answers

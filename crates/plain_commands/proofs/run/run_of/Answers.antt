@@ -1,5 +1,5 @@
 use Rattle.std.proofs.Common.{refl}
-use Rattle.command_answers.proofs.Interface.{of_failure}
+use Rattle.command_texts.proofs.command_answers.Interface.{of_failure}
 use Rattle.plain_commands.proofs.CommandLaws.{whole_as}
 use Rattle.plain_commands.proofs.run.run_of.Goals as goal
 

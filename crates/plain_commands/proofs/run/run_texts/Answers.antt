@@ -1,7 +1,7 @@
 use Rattle.std.proofs.Common.{◌∙◌, ap, refl}
 use Rattle.fram_board.specs.Board.{fresh}
 use Rattle.plain_commands.specs.Run.{the_image, the_trace}
-use Rattle.command_answers.proofs.Interface.{handed_on, refusal_fails}
+use Rattle.command_texts.proofs.command_answers.Interface.{handed_on, refusal_fails}
 use Rattle.plain_commands.proofs.CommandLaws.{report_whole, report_fails, run_product}
 use Rattle.plain_commands.proofs.run.run_texts.Goals as goal
 

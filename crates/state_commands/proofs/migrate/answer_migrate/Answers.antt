@@ -1,5 +1,5 @@
 use Rattle.state_commands.proofs.MigrateLaws.{of_five_read}
-use Rattle.command_answers.proofs.Interface.{of_unread}
+use Rattle.plain_commands.proofs.command_answers.Interface.{of_unread}
 use Rattle.state_commands.proofs.migrate.answer_migrate.Goals as goal
 
 pub returns-in-Ok-clause-answers : goal.returns-in-Ok-clause-answers

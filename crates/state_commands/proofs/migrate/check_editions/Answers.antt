@@ -1,7 +1,7 @@
 use Rattle.std.proofs.Common.{refl}
 use Rattle.state_commands.specs.Migrating.{editions_of}
 use Rattle.state_commands.proofs.MigrateLaws.{fails_at, all_fail_at, if_ok, refused_old, refused_new, refused_state}
-use Rattle.command_answers.proofs.Interface.{handed_on}
+use Rattle.plain_commands.proofs.command_answers.Interface.{handed_on}
 use Rattle.state_commands.proofs.migrate.check_editions.Goals as goal
 
 pub returns-in_err-check_suits-clause-refused : goal.returns-in_err-check_suits-clause-refused

@@ -1,5 +1,5 @@
 use Rattle.std.proofs.Common.{refl}
-use Rattle.command_answers.proofs.Interface.{of_failure}
+use Rattle.plain_commands.proofs.command_answers.Interface.{of_failure}
 use Rattle.state_commands.proofs.migrate.migrate_of.Goals as goal
 
 pub returns-in-Ok-clause-answers : goal.returns-in-Ok-clause-answers

@@ -1,6 +1,6 @@
 use Rattle.std.proofs.Common.{refl}
 use Rattle.state_commands.proofs.MigrateLaws.{refusal_at, migrate_whole, migrate_fails}
-use Rattle.command_answers.proofs.Interface.{handed_on}
+use Rattle.plain_commands.proofs.command_answers.Interface.{handed_on}
 use Rattle.state_commands.proofs.migrate.migrate_texts.Goals as goal
 
 pub returns-in_err-text-clause-failure : goal.returns-in_err-text-clause-failure

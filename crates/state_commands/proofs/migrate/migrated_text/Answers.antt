@@ -1,7 +1,7 @@
 use Rattle.std.proofs.Common.{refl}
 use Rattle.state_commands.specs.Migrating.{editions_of}
 use Rattle.state_commands.proofs.MigrateLaws.{fails_at, refused_migration, is_state_of, migrates}
-use Rattle.command_answers.proofs.Interface.{handed_on}
+use Rattle.plain_commands.proofs.command_answers.Interface.{handed_on}
 use Rattle.state_commands.proofs.migrate.migrated_text.Goals as goal
 
 pub returns-in_err-said-clause-refused : goal.returns-in_err-said-clause-refused

@@ -2,7 +2,7 @@ use Rattle.std.proofs.Common.{refl}
 use Rattle.state_commands.specs.Migrated.{the_old_source, the_old_image, the_old_state}
 use Rattle.state_commands.specs.Migrating.{editions_of}
 use Rattle.state_commands.proofs.MigrateLaws.{fails_at, alone}
-use Rattle.command_answers.proofs.Interface.{handed_on}
+use Rattle.plain_commands.proofs.command_answers.Interface.{handed_on}
 use Rattle.state_commands.proofs.migrate.old_said_by.Goals as goal
 
 pub returns-in_err-source-clause-refused : goal.returns-in_err-source-clause-refused

@@ -1,5 +1,5 @@
 use Rattle.std.proofs.Common.{[], ◌∷◌}
-use Rattle.command_answers.proofs.Interface.{front_unread, behind_unread, handed_on}
+use Rattle.plain_commands.proofs.command_answers.Interface.{front_unread, behind_unread, handed_on}
 use Rattle.state_commands.proofs.migrate.read_five_texts.Goals as goal
 
 pub returns-in_err-source-clause-unread : goal.returns-in_err-source-clause-unread

@@ -2,7 +2,7 @@ use Rattle.std.proofs.Common.{refl}
 use Rattle.state_commands.specs.Migrated.{the_new_source, the_new_image}
 use Rattle.state_commands.specs.Migrating.{editions_of}
 use Rattle.state_commands.proofs.MigrateLaws.{fails_at, alone}
-use Rattle.command_answers.proofs.Interface.{handed_on}
+use Rattle.plain_commands.proofs.command_answers.Interface.{handed_on}
 use Rattle.state_commands.proofs.migrate.said_by.Goals as goal
 
 pub returns-in_err-old_said-clause-refused : goal.returns-in_err-old_said-clause-refused

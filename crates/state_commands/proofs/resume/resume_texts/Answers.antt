@@ -1,7 +1,7 @@
 use Rattle.std.proofs.Common.{◌∙◌, ap, refl}
-use Rattle.fram_board.specs.Board.{started}
+use Rattle.plain_commands.specs.fram_board.Board.{started}
 use Rattle.state_commands.specs.Resumed.{the_other_state}
-use Rattle.command_answers.proofs.Interface.{handed_on, nothing_done, refusal_fails}
+use Rattle.plain_commands.proofs.command_answers.Interface.{handed_on, nothing_done, refusal_fails}
 use Rattle.plain_commands.proofs.Interface.{report_whole, report_fails}
 use Rattle.state_commands.proofs.ResumeLaws.{resume_product}
 use Rattle.state_commands.proofs.resume.resume_texts.Goals as goal

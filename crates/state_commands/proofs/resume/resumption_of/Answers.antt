@@ -1,6 +1,6 @@
 use Rattle.std.proofs.Common.{refl}
 use Rattle.state_commands.specs.Resumed.{the_states_image, the_resumed_state, the_resumed_trace}
-use Rattle.command_answers.proofs.Interface.{handed_on, refusal_fails}
+use Rattle.plain_commands.proofs.command_answers.Interface.{handed_on, refusal_fails}
 use Rattle.state_commands.proofs.resume.resumption_of.Goals as goal
 
 pub returns-in_err-image-clause-failure : goal.returns-in_err-image-clause-failure

@@ -1,5 +1,5 @@
 use Rattle.std.proofs.Common.{◌≡◌, refl}
-use Rattle.command_answers.proofs.Interface.{memory_fails, put_whole, put_breaks, put_fails, handed_on}
+use Rattle.plain_commands.proofs.command_answers.Interface.{memory_fails, put_whole, put_breaks, put_fails, handed_on}
 use Rattle.state_commands.proofs.SaveLaws.{saves_well}
 use Rattle.state_commands.proofs.save.put_saved.Goals as goal
 

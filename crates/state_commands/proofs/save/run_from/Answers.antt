@@ -1,5 +1,5 @@
 use Rattle.std.proofs.Common.{◌∙◌, ap}
-use Rattle.fram_board.specs.Board.{started}
+use Rattle.plain_commands.specs.fram_board.Board.{started}
 use Rattle.state_commands.proofs.SaveLaws.{ran_from}
 use Rattle.state_commands.proofs.save.run_from.Goals as goal
 

@@ -1,5 +1,5 @@
 use Rattle.std.proofs.Common.{refl}
-use Rattle.command_answers.proofs.Interface.{of_failure}
+use Rattle.plain_commands.proofs.command_answers.Interface.{of_failure}
 use Rattle.plain_commands.proofs.Interface.{whole_as}
 use Rattle.state_commands.proofs.save.save_of.Goals as goal
 

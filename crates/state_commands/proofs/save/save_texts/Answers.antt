@@ -1,5 +1,5 @@
 use Rattle.std.proofs.Common.{refl}
-use Rattle.command_answers.proofs.Interface.{nothing_done, handed_on}
+use Rattle.plain_commands.proofs.command_answers.Interface.{nothing_done, handed_on}
 use Rattle.state_commands.proofs.SaveLaws.{ends_by_itself, fault_whole, fault_breaks}
 use Rattle.state_commands.proofs.save.save_texts.Goals as goal
 

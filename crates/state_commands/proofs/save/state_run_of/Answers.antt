@@ -1,6 +1,6 @@
 use Rattle.std.proofs.Common.{refl}
 use Rattle.state_commands.specs.Saved.{the_state, the_states_trace}
-use Rattle.command_answers.proofs.Interface.{refusal_fails, memory_fails, handed_on}
+use Rattle.plain_commands.proofs.command_answers.Interface.{refusal_fails, memory_fails, handed_on}
 use Rattle.state_commands.proofs.SaveLaws.{ran_on}
 use Rattle.state_commands.proofs.save.state_run_of.Goals as goal
 
