@@ -5,7 +5,8 @@ use Rattle.plain_commands.specs.alp_io.Count.{Rose}
 use Rattle.plain_commands.specs.alp_io.Shelf.{Files, Counts}
 use Rattle.plain_commands.specs.fram_board.Laws.{HasOneRun}
 use Rattle.plain_commands.specs.command_answers.declared.status.Status.{Status}
-use Rattle.plain_commands.specs.command_answers.declared.status.Status.TheVariants.{Done, Refused, Usage, Unreadable, Unwritable, OutOfMemory, MachineFault, TooLong, Differs}
+use Rattle.plain_commands.specs.command_answers.declared.status.Status.TheVariants.{Done, Refused, Usage, Unreadable, Unwritable, OutOfMemory, MachineFault}
+use Rattle.plain_commands.specs.command_answers.declared.status.Status.TheVariants.{TooLong, Differs}
 use Rattle.alpaca_cli.specs.Answers.{Answers, IsCarriedOut, status_of}
 use Rattle.plain_commands.specs.command_answers.CommandAnswers.{CommandAnswers, IsWhole}
 use Rattle.alpaca_cli.specs.Calls.{Call, OnLine, Says, line_text, reads, promise_of}

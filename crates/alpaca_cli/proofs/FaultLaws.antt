@@ -5,7 +5,8 @@ use Rattle.plain_commands.specs.fram_board.Run.{End, Charges, Stopped}
 use Rattle.plain_commands.specs.report_audit.declared.verdict.Verdict.{Verdict}
 use Rattle.plain_commands.specs.report_audit.declared.verdict.Verdict.TheVariants.{Yes, No}
 use Rattle.plain_commands.specs.command_answers.declared.status.Status.{Status}
-use Rattle.plain_commands.specs.command_answers.declared.status.Status.TheVariants.{Done, Refused, Usage, Unreadable, Unwritable, OutOfMemory, MachineFault, TooLong, Differs}
+use Rattle.plain_commands.specs.command_answers.declared.status.Status.TheVariants.{Done, Refused, Usage, Unreadable, Unwritable, OutOfMemory, MachineFault}
+use Rattle.plain_commands.specs.command_answers.declared.status.Status.TheVariants.{TooLong, Differs}
 use Rattle.alpaca_cli.specs.Answers.{Answers}
 use Rattle.alpaca_cli.specs.Calls.{Call, mean, try_, build, run, asm, dis, gen, save, resume, migrate, audit, OnLine, IsRun, IsAudit}
 use Rattle.plain_commands.specs.command_answers.Ending.{Ending, well, at_fault, differs}

@@ -1,7 +1,8 @@
 -- No file is changed but one that the words put.
 use Rattle.std.proofs.Common.{ℕ, List}
 use Rattle.plain_commands.specs.command_answers.declared.status.Status.{Status}
-use Rattle.plain_commands.specs.command_answers.declared.status.Status.TheVariants.{Done, Refused, Usage, Unreadable, Unwritable, OutOfMemory, MachineFault, TooLong, Differs}
+use Rattle.plain_commands.specs.command_answers.declared.status.Status.TheVariants.{Done, Refused, Usage, Unreadable, Unwritable, OutOfMemory, MachineFault}
+use Rattle.plain_commands.specs.command_answers.declared.status.Status.TheVariants.{TooLong, Differs}
 use Rattle.alpaca_cli.specs.Answers.{Answers, OthersStand}
 use Rattle.alpaca_cli.specs.Calls.{promise_of}
 use Rattle.plain_commands.specs.command_answers.Outside.{Shelved, Written}

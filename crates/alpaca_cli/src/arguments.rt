@@ -3,9 +3,9 @@ ghost use Rattle.std.specs.Prelude.{◌≤◌};
 ghost use Rattle.alpaca_cli.specs.Arguments.{AnswersArguments};
 
 use crate::command::alpaca;
-use plain_commands::outside::{DirShelf, Sink};
-use plain_commands::answers::{Status, messages};
 use command_line::WordsFault;
+use plain_commands::answers::{Status, messages};
+use plain_commands::outside::{DirShelf, Sink};
 use std::env;
 use std::io::ErrorKind;
 

@@ -15,7 +15,10 @@ use plain_commands::boards::board_has_one_run;
 use plain_commands::outside::{Shelf, Sink};
 use plain_commands::texts::one_answer;
 use plain_commands::{AuditNames, answer_asm, answer_audit, answer_dis, answer_mean, answer_run};
-use state_commands::{MigrateNames, answer_migrate, answer_resume, answer_save, answers_are_one, no_migration_is_refused};
+use state_commands::{
+    MigrateNames, answer_migrate, answer_resume, answer_save, answers_are_one,
+    no_migration_is_refused,
+};
 use std::alloc::Global;
 
 // The answer to the words.

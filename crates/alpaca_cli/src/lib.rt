@@ -5,11 +5,19 @@ mod arguments;
 mod command;
 pub mod laws;
 
-// The files and outputs that a caller hands over.
+pub use arguments::answer_arguments;
+pub use command::alpaca;
+pub use laws::printed_reports_are_good;
+
+// The files and outputs that a caller hands over, and the status that it gets.
+pub use plain_commands::answers::Status;
 pub use plain_commands::outside::{
     DirShelf, Failed, MemShelf, MemSink, NoMemory, ReadFault, Shelf, Sink, StdSink, write_pieces,
 };
-pub use arguments::answer_arguments;
-pub use command::alpaca;
-pub use plain_commands::answers::Status;
-pub use laws::printed_reports_are_good;
+
+// What stands behind the commands, for programs that call it by itself.
+pub use compiler_commands::compile;
+pub use plain_commands::boards::Board;
+pub use plain_commands::texts::{
+    Meaning, accept, parse_image, parse_trace, print_image, print_trace,
+};

@@ -15,8 +15,9 @@ pub use traces::trace_of;
 
 // What the commands use of the crates below.
 pub use command_answers as answers;
-pub use command_answers::outside as outside;
-pub use command_answers::{mean_report_is_determined, print_u64, write_mean_report};
+pub use command_answers::{
+    mean_report_is_determined, outside as outside, print_u64, write_mean_report,
+};
 pub use energy_trace::{Trace, parse_trace, print_trace};
 pub use image_text::{Image, parse_image, print_image};
 pub use msp_asm::{disassemble, images_have_texts};

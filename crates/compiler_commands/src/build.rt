@@ -8,10 +8,12 @@ ghost use Rattle.compiler_commands.specs.Build.{build_promise};
 
 use crate::built::built_of;
 use crate::gen_lines::write_bound;
-use plain_commands::outside::{Failed, Shelf, Sink};
-use plain_commands::answers::{Failure, Status, answer_failure, answer_unread, put_file, read_file};
-use plain_commands::texts::source_of;
 use image_reports::images_keep_the_laws;
+use plain_commands::answers::{
+    Failure, Status, answer_failure, answer_unread, put_file, read_file,
+};
+use plain_commands::outside::{Failed, Shelf, Sink};
+use plain_commands::texts::source_of;
 use std::alloc::Global;
 
 /// Puts the image of the source, and writes its bound. All memory but that of the put is taken before it.

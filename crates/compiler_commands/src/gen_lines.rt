@@ -4,11 +4,11 @@ ghost use Rattle.plain_commands.specs.alp_io.Report.{bound_line};
 ghost use Rattle.plain_commands.specs.alp_io.Sink.{Writes};
 ghost use Rattle.compiler_commands.specs.Generated.{ended_line, four_lines, number_line, sum_line};
 
-use plain_commands::outside::{Failed, Report, Sink, write_pieces};
-use plain_commands::texts::print_u64;
 use plain_commands::board_runs::{RunEnd, Watch};
 use plain_commands::boards::Board;
+use plain_commands::outside::{Failed, Report, Sink, write_pieces};
 use plain_commands::reason_of;
+use plain_commands::texts::print_u64;
 
 #[tactic(auto, unfolding(crate::specs::Generated::number_line))]
 fn write_number<O: Sink>(out: &mut O, number: u32) -> Result<(), Failed>

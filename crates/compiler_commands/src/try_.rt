@@ -8,7 +8,9 @@ ghost use Rattle.plain_commands.specs.command_answers.CommandAnswers.{CommandAns
 ghost use Rattle.plain_commands.specs.command_answers.Outcomes.{Breaks, FailsBy, Gains};
 
 use crate::built::{Built, built_of};
-use plain_commands::answers::{Failure, Status, answer_failure, answer_unread, put_file, read_texts};
+use plain_commands::answers::{
+    Failure, Status, answer_failure, answer_unread, put_file, read_texts,
+};
 use plain_commands::board_runs::Watch;
 use plain_commands::boards::Board;
 use plain_commands::outside::{Failed, Shelf, Sink};

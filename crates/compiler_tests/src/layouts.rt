@@ -1,6 +1,5 @@
 //! The layout of a whole text, with the places that no image shows. The addresses are counted by hand from the order and the sizes.
-use memory_map::{ArrayCopies, Layout, PrivateScalar, Region, VariablePlace};
-use privatise::layout;
+use privatise::{ArrayCopies, Layout, PrivateScalar, Region, VariablePlace, layout};
 use source_meaning::accept;
 use std::alloc::Global;
 use war_analysis::analyse;

@@ -13,7 +13,9 @@ ghost use Rattle.command_texts.specs.command_answers.CommandAnswers.{CommandAnsw
 ghost use Rattle.command_texts.specs.command_answers.Outcomes.{FailsBy};
 ghost use Rattle.plain_commands.specs.Audit.{audit_promise};
 
-use command_texts::answers::{Failure, Status, ThreeTexts, answer_failure, answer_unread, messages, read_three_texts};
+use command_texts::answers::{
+    Failure, Status, ThreeTexts, answer_failure, answer_unread, messages, read_three_texts,
+};
 use command_texts::outside::{Failed, Shelf, Sink, write_pieces};
 use command_texts::{Accepted, Trace, print_u64, source_of, trace_of};
 use report_audit::{AuditFault, Verdict, audit};

@@ -16,6 +16,5 @@ pub use run::{RunEnding, answer_run, reason_of, write_report, write_run};
 // What the commands above use of the crates below.
 pub use board_run as board_runs;
 pub use command_texts as texts;
-pub use command_texts::answers as answers;
-pub use command_texts::outside as outside;
+pub use command_texts::{answers as answers, outside as outside};
 pub use fram_board as boards;

@@ -16,7 +16,9 @@ ghost use Rattle.plain_commands.specs.Mean.{mean_promise};
 use buffered_sink::{BufferedSink, Origin};
 use command_texts::answers::{Failure, Status, answer_failure, answer_unread, read_texts};
 use command_texts::outside::{Failed, Report, Shelf, Sink};
-use command_texts::{Accepted, Trace, mean_report_is_determined, source_of, trace_of, write_mean_report};
+use command_texts::{
+    Accepted, Trace, mean_report_is_determined, source_of, trace_of, write_mean_report,
+};
 use source_values::SourceRun;
 use std::alloc::{AllocError, Global};
 use std::marker::Brand;

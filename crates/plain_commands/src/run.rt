@@ -14,7 +14,9 @@ ghost use Rattle.plain_commands.specs.Run.{run_promise};
 
 use board_run::{RunEnd, RunFault, Watch, run};
 use buffered_sink::{BufferedSink, Origin};
-use command_texts::answers::{Failure, Status, answer_failure, answer_unread, messages, read_texts};
+use command_texts::answers::{
+    Failure, Status, answer_failure, answer_unread, messages, read_texts,
+};
 use command_texts::outside::{Failed, Reason, Report, Shelf, Sink};
 use command_texts::{Image, Trace, image_of, trace_of};
 use fram_board::Board;

@@ -1,5 +1,8 @@
 //! Calls of the crates below that the program doesn't make, or makes over files in memory alone here.
-use alpaca_cli::{Board, DirShelf, Meaning, Shelf, accept, compile, parse_image, parse_trace, print_image, print_trace};
+use alpaca_cli::{
+    Board, DirShelf, Meaning, Shelf, accept, compile, parse_image, parse_trace, print_image,
+    print_trace,
+};
 use anyhow::Result;
 use std::alloc::Global;
 use std::fs;

@@ -1,6 +1,6 @@
 //! The file of rows, cut into parts: a line that says what comes, and the text behind it.
+use hex::decode_to_slice;
 use std::alloc::{AllocError, Global};
-use text_parts::hex_digit;
 
 /// A line that says what comes, and the text behind it.
 #[derive(Drop)]
@@ -48,6 +48,15 @@ fn push_number(alloc: Global, number: u64, into: &mut Vec<u8>) -> Result<(), All
     into.extend_from_slice(format!(in alloc; "{number}")?.as_bytes())
 }
 
+// The byte of two hexadecimal digits, and 0 where they are none.
+fn byte_of(digits: [u8; 2]) -> u8 {
+    let mut byte = [0u8];
+    match decode_to_slice(digits, &mut byte) {
+        Ok(()) => byte[0],
+        Err(_) => 0,
+    }
+}
+
 // In a text `\#` is the number of the turn, counted from 1, `\@` the same from 0, and `\HH` the byte of two hexadecimal digits.
 fn push_said(alloc: Global, text: &[u8], turn: u64, into: &mut Vec<u8>) -> Result<(), AllocError> {
     let mut rest = text;
@@ -63,7 +72,7 @@ fn push_said(alloc: Global, text: &[u8], turn: u64, into: &mut Vec<u8>) -> Resul
                 rest = behind;
             }
             (b'\\', [high, low, behind @ ..]) => {
-                into.push(16 * hex_digit(*high).unwrap_or(0) + hex_digit(*low).unwrap_or(0))?;
+                into.push(byte_of([*high, *low]))?;
                 rest = behind;
             }
             (byte, _) => into.push(byte)?,

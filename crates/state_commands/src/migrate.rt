@@ -21,7 +21,10 @@ ghost use Rattle.plain_commands.specs.command_answers.Views.{refusal_of};
 use crate::resume::check_belongs;
 use crate::state_words::{has_ruled_map, is_of_words};
 use fram_state::{MigrateFault, SuitFault, migrate, suits};
-use plain_commands::answers::{Failure, Refusal, Status, Unread, answer_failure, answer_unread, named, plain, put_file, read_file, refused_plainly};
+use plain_commands::answers::{
+    Failure, Refusal, Status, Unread, answer_failure, answer_unread, named, plain, put_file,
+    read_file, refused_plainly,
+};
 use plain_commands::outside::{Shelf, Sink};
 use plain_commands::texts::{Accepted, Image, State, image_of, print_state, source_of, state_of};
 use std::alloc::{AllocError, Global};

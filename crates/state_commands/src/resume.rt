@@ -12,7 +12,10 @@ ghost use Rattle.plain_commands.specs.command_answers.Views.{detail_of, refusal_
 
 use crate::state_words::is_of_words;
 use fram_state::{StateFault, belongs};
-use plain_commands::answers::{Detail, Failure, Refusal, Status, ThreeTexts, answer_failure, answer_unread, messages, read_three_texts};
+use plain_commands::answers::{
+    Detail, Failure, Refusal, Status, ThreeTexts, answer_failure, answer_unread, messages,
+    read_three_texts,
+};
 use plain_commands::boards::Board;
 use plain_commands::outside::{Shelf, Sink};
 use plain_commands::texts::{Image, State, Trace, image_of, state_of, trace_of};

@@ -15,7 +15,9 @@ ghost use Rattle.plain_commands.specs.command_answers.Outcomes.{FailsBy};
 ghost use Rattle.plain_commands.specs.command_answers.Outside.{WhereSilent, WhereStands};
 
 use crate::state_words::is_of_words;
-use plain_commands::answers::{Failure, Status, answer_failure, answer_unread, messages, put_file, read_texts};
+use plain_commands::answers::{
+    Failure, Status, answer_failure, answer_unread, messages, put_file, read_texts,
+};
 use plain_commands::board_runs::{RunEnd, RunFault, Watch, run};
 use plain_commands::boards::Board;
 use plain_commands::outside::{Failed, NullSink, Report, Shelf, Sink};

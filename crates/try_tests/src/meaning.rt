@@ -1,25 +1,20 @@
 //! A run's report beside the source's meaning: the lines of each transition are those that `mean` has for it on the readings that
 //! the run committed, in order.
 use crate::program::means;
-use alp_text::number;
 use std::alloc::Global;
 use std::test::Fail;
-use text_parts::{cut_line, next_field};
 
 /// Field n of a line, from 0.
 pub fn field(line: &[u8], n: usize) -> Option<&[u8]> {
-    let mut rest = line;
-    for _ in 0..n {
-        let (_, behind) = next_field(rest)?;
-        rest = behind;
-    }
-    let (found, _) = next_field(rest)?;
-    Some(found)
+    let text = str::from_utf8(line).ok()?;
+    let found = text.split_whitespace().nth(n)?;
+    Some(found.as_bytes())
 }
 
 /// The number that is field n of a line.
 pub fn number_in(line: &[u8], n: usize) -> Option<u64> {
-    number(field(line, n)?).ok()
+    let text = str::from_utf8(field(line, n)?).ok()?;
+    text.parse::<u64>().ok()
 }
 
 /// The readings of a line of a transition: from which position up to and without which.
@@ -33,15 +28,8 @@ pub fn span(line: &[u8]) -> Option<(u64, u64)> {
 /// The lines of a text.
 pub fn lines_of(alloc: Global, text: &[u8]) -> Result<Vec<&[u8]>, Fail> {
     let mut lines = Vec::new(alloc);
-    let mut rest = text;
-    for _ in 0..text.len() {
-        match cut_line(rest) {
-            Some((line, behind)) => {
-                lines.push(line)?;
-                rest = behind;
-            }
-            None => break,
-        }
+    for line in str::from_utf8(text)?.lines() {
+        lines.push(line.as_bytes())?;
     }
     Ok(lines)
 }
