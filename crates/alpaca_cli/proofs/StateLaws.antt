@@ -20,6 +20,8 @@ use Rattle.alpaca_cli.specs.OfSources.{StaysWithItsImage, SavedStatesStay, IsOfI
 has_words : (s : State) → IsOfWords s → HasFramWords s
 has_words s w = record { count = w.0; are_words = w.1; receiver = w.2 }
 
+-- What a command makes of its texts doesn't depend on the names of its files: here they have none.
+
 -- ---- `save`
 
 stays_with : FreshStatesBelong → StatesStay → (s : State) → IsOfWords s → (t : TraceValue) → IsTraceOfWords t → (r : RunOutcome)
@@ -28,11 +30,11 @@ stays_with fresh stay s whole t words r run source image of (inl is) =
     (stay source image of s (has_words s whole) (subst (Belongs image) (sym is) (fresh source image of)) t words r run).end
 stays_with fresh stay s whole t words r run source image of (inr b) = (stay source image of s (has_words s whole) b t words r run).end
 
-pub saves_more : FreshStatesBelong → StatesStay → (a b c : List ℕ) (texts : List (List ℕ)) (p : Product)
-    → (save_promise RunsOnWords a b c).makes texts p → (save_promise SavedStatesStay a b c).makes texts p
-saves_more fresh stay a b c [] p m = m
-saves_more fresh stay a b c (x ∷ []) p m = m
-saves_more fresh stay a b c (x ∷ y ∷ []) p m = record {
+pub saves_more : FreshStatesBelong → StatesStay → (texts : List (List ℕ)) (p : Product)
+    → (save_promise RunsOnWords [] [] []).makes texts p → (save_promise SavedStatesStay [] [] []).makes texts p
+saves_more fresh stay [] p m = m
+saves_more fresh stay (x ∷ []) p m = m
+saves_more fresh stay (x ∷ y ∷ []) p m = record {
   state = m.state;
   charges = m.charges;
   outcome = m.outcome;
@@ -44,7 +46,7 @@ saves_more fresh stay a b c (x ∷ y ∷ []) p m = record {
   holds = stays_with fresh stay m.state m.holds.0 m.charges m.holds.1 m.outcome m.run;
   line = m.line;
 }
-saves_more fresh stay a b c (x ∷ y ∷ z ∷ more) p m = m
+saves_more fresh stay (x ∷ y ∷ z ∷ more) p m = m
 
 -- ---- `resume`
 
@@ -57,12 +59,12 @@ of_its_source told stay image s whole b t words r run output lines =
       stays = λ source of. stay source image of s (has_words s whole) b t words r run;
     } in subst (IsOfItsSource image s t r) (sym lines) of_report
 
-pub resumes_more : StatesAreTold → StatesStay → (a b c : List ℕ) (texts : List (List ℕ)) (p : Product)
-    → (resume_promise ResumesOnWords a b c).makes texts p → (resume_promise IsOfItsSource a b c).makes texts p
-resumes_more told stay a b c [] p m = m
-resumes_more told stay a b c (x ∷ []) p m = m
-resumes_more told stay a b c (x ∷ y ∷ []) p m = m
-resumes_more told stay a b c (x ∷ y ∷ z ∷ []) p (m, none) = (
+pub resumes_more : StatesAreTold → StatesStay → (texts : List (List ℕ)) (p : Product)
+    → (resume_promise ResumesOnWords [] [] []).makes texts p → (resume_promise IsOfItsSource [] [] []).makes texts p
+resumes_more told stay [] p m = m
+resumes_more told stay (x ∷ []) p m = m
+resumes_more told stay (x ∷ y ∷ []) p m = m
+resumes_more told stay (x ∷ y ∷ z ∷ []) p (m, none) = (
   record {
     value = m.value;
     saved = m.saved;
@@ -76,7 +78,7 @@ resumes_more told stay a b c (x ∷ y ∷ z ∷ []) p (m, none) = (
   },
   none,
 )
-resumes_more told stay a b c (x ∷ y ∷ z ∷ u ∷ more) p m = m
+resumes_more told stay (x ∷ y ∷ z ∷ u ∷ more) p m = m
 
 -- ---- `migrate`
 
@@ -103,12 +105,12 @@ migrates_of_source law t (Some file) m = record {
   reads_back = m.reads_back;
 }
 
-pub migrates_more : MigratedStatesBelong → (a b c d e f : List ℕ) (texts : List (List ℕ)) (p : Product)
-    → (migrate_promise MigratesWords a b c d e f).makes texts p → (migrate_promise RestsInItsSource a b c d e f).makes texts p
-migrates_more law a b c d e f [] p m = m
-migrates_more law a b c d e f (x ∷ []) p m = m
-migrates_more law a b c d e f (x ∷ y ∷ []) p m = m
-migrates_more law a b c d e f (x ∷ y ∷ z ∷ []) p m = m
-migrates_more law a b c d e f (x ∷ y ∷ z ∷ u ∷ []) p m = m
-migrates_more law a b c d e f (x ∷ y ∷ z ∷ u ∷ v ∷ []) p m = (migrates_of_source law (editions x y z u v) p.file m.0, m.1, m.2)
-migrates_more law a b c d e f (x ∷ y ∷ z ∷ u ∷ v ∷ w ∷ more) p m = m
+pub migrates_more : MigratedStatesBelong → (texts : List (List ℕ)) (p : Product)
+    → (migrate_promise MigratesWords [] [] [] [] [] []).makes texts p → (migrate_promise RestsInItsSource [] [] [] [] [] []).makes texts p
+migrates_more law [] p m = m
+migrates_more law (x ∷ []) p m = m
+migrates_more law (x ∷ y ∷ []) p m = m
+migrates_more law (x ∷ y ∷ z ∷ []) p m = m
+migrates_more law (x ∷ y ∷ z ∷ u ∷ []) p m = m
+migrates_more law (x ∷ y ∷ z ∷ u ∷ v ∷ []) p m = (migrates_of_source law (editions x y z u v) p.file m.0, m.1, m.2)
+migrates_more law (x ∷ y ∷ z ∷ u ∷ v ∷ w ∷ more) p m = m

@@ -52,7 +52,7 @@ returns-in-Ok-Gen-clause-answers g c =
 pub returns-in-Ok-Save-clause-answers : goal.returns-in-Ok-Save-clause-answers
 returns-in-Ok-Save-clause-answers g c =
     on_line _ (call.save _ _ _) _ _ _ _ (record { number = tt; line = c.in-Ok-Save.ensures.command ∙ ap (λ x. Some (plain_line x)) c.in-Ok-Save.field-0-is })
-    (answers_more _ _ (saves_more c.fresh_states_belong.ensures c.states_stay.ensures _ _ _) _ _ _ _ c.answer_save.ensures.answers)
+    (answers_more _ _ (saves_more c.fresh_states_belong.ensures c.states_stay.ensures) _ _ _ _ c.answer_save.ensures.answers)
 
 pub returns-in-Ok-Resume-clause-answers : goal.returns-in-Ok-Resume-clause-answers
 returns-in-Ok-Resume-clause-answers g c =
@@ -60,7 +60,7 @@ returns-in-Ok-Resume-clause-answers g c =
       number = tt;
       line = c.in-Ok-Resume.ensures.command
           ∙ ap (λ x. Some (plain_line x)) c.in-Ok-Resume.field-0-is;
-    }) (answers_more _ _ (resumes_more c.states_are_told.ensures c.states_stay.ensures _ _ _) _ _ _ _ c.answer_resume.ensures.answers)
+    }) (answers_more _ _ (resumes_more c.states_are_told.ensures c.states_stay.ensures) _ _ _ _ c.answer_resume.ensures.answers)
 
 pub returns-in-Ok-Migrate-clause-answers : goal.returns-in-Ok-Migrate-clause-answers
 returns-in-Ok-Migrate-clause-answers g c =
@@ -68,7 +68,7 @@ returns-in-Ok-Migrate-clause-answers g c =
       number = tt;
       line = c.in-Ok-Migrate.ensures.command
           ∙ ap (λ x. Some (plain_line x)) c.in-Ok-Migrate.field-0-is;
-    }) refl (λ out silent. answers_more _ _ (migrates_more c.migrated_states_belong.ensures _ _ _ _ _ _) _ _ out _
+    }) refl (λ out silent. answers_more _ _ (migrates_more c.migrated_states_belong.ensures) _ _ out _
     (c.answer_migrate.ensures.answers out silent))
 
 pub returns-in-Ok-Audit-clause-answers : goal.returns-in-Ok-Audit-clause-answers
