@@ -4,7 +4,7 @@ use Rattle.std.proofs.Common.{Option, Some, None}
 use Rattle.std.proofs.Common.{if◌then◌else◌}
 use Rattle.std.proofs.lemmas.Bool.Decides.{nat_tests}
 use Rattle.code_forms.specs.Forms as forms
-use Rattle.code_forms.specs.Forms.{R4, Constant, Number, Fram, Ram, ToFram, ToIndexed, Form, Move, Update, Push, Jump, Skip, Branch, instruction_of}
+use Rattle.code_forms.specs.Forms.{R4, Constant, Number, Fram, Ram, ToFram, ToIndexed, Form, Move, Calculate, Update, Push, Jump, Skip, Branch, instruction_of}
 use Rattle.msp_isa.specs.alp_words.Words.{word_sum}
 use Rattle.msp_isa.specs.declared.instructions.TwoOp.TheVariants as op
 use Rattle.msp_isa.specs.declared.instructions.Condition.{Condition}
@@ -15,7 +15,8 @@ use Rattle.msp_isa.specs.Encoding.{IsInstruction}
 use Rattle.array_versions.specs.declared.operations.UnaryOperation.{UnaryOperation}
 use Rattle.array_versions.specs.declared.operations.UnaryOperation.TheVariants.{Negate, Complement}
 use Rattle.array_versions.specs.declared.operations.BinaryOperation.{BinaryOperation}
-use Rattle.array_versions.specs.declared.operations.BinaryOperation.TheVariants.{Multiply}
+use Rattle.array_versions.specs.declared.operations.BinaryOperation.TheVariants.{Multiply, Divide, Remainder, Plain}
+use Rattle.array_versions.specs.declared.operations.PlainOperation.TheVariants.{And}
 use Rattle.array_versions.specs.declared.operations.ShiftOperation.{ShiftOperation}
 use Rattle.array_versions.specs.declared.operations.ShiftOperation.TheVariants.{Left, Right, SignedRight}
 use Rattle.array_versions.specs.declared.program.ArrayPlace.{ArrayPlace}
@@ -31,7 +32,7 @@ use Rattle.array_versions.specs.Program.{both, either, fails, nothing, step}
 use Rattle.codegen.specs.declared.waiting.Waiting.{Waiting}
 use Rattle.codegen.specs.declared.waiting.Waiting.TheVariants as waiting
 use Rattle.codegen.specs.Code.{local_address, local_target, waiting_source, flushed, top_of, source_from, below_top, any_held, cleared, kept, four_from}
-use Rattle.codegen.specs.Code.{five_from, top_to_four, top_to_five, two_to_registers, unary_middle, binary_middle, plain_instruction, update_code, repeated}
+use Rattle.codegen.specs.Code.{stays, sides, right_source, top_power, top_mask, two_code, power_code, five_from, top_to_four, top_to_five, two_to_registers, unary_middle, binary_middle, plain_instruction, update_code, repeated}
 use Rattle.codegen.specs.Code.{double, halve, right_code, shift_by, shift_middle, element_code, emit_code, pair_code, entry_code, read_code, write_code}
 use Rattle.codegen.specs.Code.{compare_form, holding, failing, size, pass_over, jump_back, decision, holds_code, compares_code, truth_code, number_code, turn_end}
 use Rattle.codegen.specs.Code.{turns_code, waiting_behind, waiting_after, step_code, test_code, steps_code, code_of}
@@ -165,6 +166,30 @@ two_are os =
     are-append (cleared (below_top under)) (five_from (top_of os) ++ four_from (top_of under)) (cleared_are (below_top under))
     (are-append (five_from (top_of os)) (four_from (top_of under)) (tt, tt) (four_are (top_of under)))
 
+right_are_by : (b : Bool) (o : Option Waiting) → Are (if b then [] else five_from o)
+right_are_by true o = tt
+right_are_by false o = (tt, tt)
+
+sides_are : (os : List Waiting) → Are (sides os)
+sides_are os =
+    let under = below_top os in
+    let right : List Form = if stays (top_of os) then [] else five_from (top_of os) in
+    are-append (cleared (below_top under)) (right ++ four_from (top_of under)) (cleared_are (below_top under))
+    (are-append right (four_from (top_of under)) (right_are_by (stays (top_of os)) (top_of os)) (four_are (top_of under)))
+
+two_code_are : (o : BinaryOperation) (os : List Waiting) → Are (two_code os o)
+two_code_are Multiply os = are-append (two_to_registers os) (binary_middle Multiply) (two_are os) (binary_are Multiply)
+two_code_are Divide os = are-append (two_to_registers os) (binary_middle Divide) (two_are os) (binary_are Divide)
+two_code_are Remainder os = are-append (two_to_registers os) (binary_middle Remainder) (two_are os) (binary_are Remainder)
+two_code_are (Plain o) os = are-append (sides os) (Calculate (plain_instruction o) (right_source (top_of os)) R4 ∷ []) (sides_are os) (tt, tt)
+
+power_are : (p : Option ℕ) (os : List Waiting) (o : BinaryOperation) → Are (power_code p os o)
+power_are None os o = two_code_are o os
+power_are (Some k) os Multiply = are-append (top_to_four (below_top os)) (shift_middle Left k) (top_to_four_are (below_top os)) (shift_are Left k)
+power_are (Some k) os Divide = are-append (top_to_four (below_top os)) (shift_middle Right k) (top_to_four_are (below_top os)) (shift_are Right k)
+power_are (Some k) os Remainder = two_code_are (Plain And) (waiting.Number (top_mask (top_of os)) ∷ below_top os)
+power_are (Some k) os (Plain o) = two_code_are (Plain o) os
+
 block_are : (p : Program) → Are (steps_code [] p) → Are (code_of p)
 block_are p h = are-append (steps_code [] p) (flushed (waiting_after [] p)) h (flushed_are (waiting_after [] p))
 
@@ -183,7 +208,7 @@ mutual
       are-append (flushed (below_top os)) (update_code o n (source_from (top_of os))) (flushed_are (below_top os))
       (either_are (nat_lt n 8) _ _ (tt, tt) (tt, (tt, (tt, (tt, tt)))))
   step_are (unary o) os = are-append (top_to_five os) (unary_middle o) (top_to_five_are os) (unary_are o)
-  step_are (binary o) os = are-append (two_to_registers os) (binary_middle o) (two_are os) (binary_are o)
+  step_are (binary o) os = power_are (top_power (top_of os)) os o
   step_are (shift o k) os = are-append (top_to_four os) (shift_middle o k) (top_to_four_are os) (shift_are o k)
   step_are (element base size) os = are-append (top_to_four os) (element_code base size) (top_to_four_are os) (element_are base size)
   step_are (emit_word count buffer) os =

@@ -1,6 +1,7 @@
 -- The code of a program is no longer than its words say.
-use Rattle.std.proofs.Common.{◌≡◌, ℕ, zero, suc, ◌+◌, ◌-◌, ◌*◌, ◌≤◌, ◌==◌, List, [], ◌∷◌, ◌++◌, length, refl, arith, length-append, Bool, true, false}
-use Rattle.std.proofs.Common.{not, nat_le, nat_lt}
+use Rattle.std.proofs.Common.{◌≡◌, ℕ, zero, suc, ◌+◌, ◌-◌, ◌*◌, ◌<◌, ◌≤◌, ◌==◌, List, [], ◌∷◌, ◌++◌, length, refl, arith, length-append, Bool, true, false}
+use Rattle.std.proofs.Common.{not, nat_le, nat_lt, Option, Some, None, ltb-true}
+use Rattle.std.proofs.lemmas.Bool.Decides.{nat_tests}
 use Rattle.std.proofs.Common.{if◌then◌else◌}
 use Rattle.msp_isa.specs.alp_words.Words.{word_sum}
 use Rattle.msp_isa.specs.declared.instructions.TwoOp.TheVariants as op
@@ -9,7 +10,7 @@ use Rattle.msp_isa.specs.declared.instructions.Condition.TheVariants as conditio
 use Rattle.msp_isa.specs.declared.operands.Konst.TheVariants as konst
 use Rattle.msp_isa.specs.Encoding.{encoding}
 use Rattle.code_forms.specs.Forms as forms
-use Rattle.code_forms.specs.Forms.{R4, Constant, Number, Fram, Ram, Source, source_bytes, ToRegister, ToFram, ToRam, ToIndexed, target_bytes, Form, Move}
+use Rattle.code_forms.specs.Forms.{R4, R5, Register, Constant, Number, Fram, Ram, Source, source_bytes, ToRegister, ToFram, ToRam, ToIndexed, target_bytes, Form, Move}
 use Rattle.code_forms.specs.Forms.{Calculate, Update, Push, Jump, Skip, Branch, instruction_of, form_bytes}
 use Rattle.code_forms.specs.Code.{forms_bytes}
 use Rattle.code_forms.specs.Placed.{words_of as instruction_words, instructions}
@@ -19,6 +20,7 @@ use Rattle.array_versions.specs.declared.operations.UnaryOperation.TheVariants.{
 use Rattle.array_versions.specs.declared.operations.BinaryOperation.{BinaryOperation}
 use Rattle.array_versions.specs.declared.operations.BinaryOperation.TheVariants.{Multiply, Divide, Remainder, Plain}
 use Rattle.array_versions.specs.declared.operations.PlainOperation.{PlainOperation}
+use Rattle.array_versions.specs.declared.operations.PlainOperation.TheVariants.{And}
 use Rattle.array_versions.specs.declared.operations.ShiftOperation.{ShiftOperation}
 use Rattle.array_versions.specs.declared.operations.ShiftOperation.TheVariants.{Left, Right, SignedRight}
 use Rattle.array_versions.specs.declared.operations.Comparison.{Comparison}
@@ -33,7 +35,7 @@ use Rattle.array_versions.specs.Cost.{unary_words, binary_words, right_words, sh
 use Rattle.codegen.specs.declared.waiting.Waiting.{Waiting}
 use Rattle.codegen.specs.declared.waiting.Waiting.TheVariants as waiting
 use Rattle.codegen.specs.Code.{local_register, local_address, local_target, waiting_source, flushed, top_of, source_from, below_top, any_held, cleared, kept}
-use Rattle.codegen.specs.Code.{four_from, five_from, top_to_four, top_to_five, two_to_registers, unary_middle, binary_middle, binary_result}
+use Rattle.codegen.specs.Code.{stays, sides, right_source, power, top_power, two_code, power_code, power_result, four_from, five_from, top_to_four, top_to_five, two_to_registers, unary_middle, binary_middle, binary_result}
 use Rattle.codegen.specs.Code.{plain_instruction, ram_update, update_code, repeated, double, halve, right_code, shift_by, shift_middle, element_code, emit_code}
 use Rattle.codegen.specs.Code.{pair_code, entry_code, read_code, write_code, compare_form, holding, failing, size, pass_over, jump_back, decision, holds_code}
 use Rattle.codegen.specs.Code.{compares_code, truth_code, number_code, turn_end, turns_code, waiting_behind, waiting_after, step_code, test_code, steps_code}
@@ -43,11 +45,6 @@ use Rattle.codegen.specs.Laws.{CodeHasItsBytes, CodeHasItsWords}
 unary_length : (o : UnaryOperation) → 2 + forms_bytes (unary_middle o) + 2 ≤ 2 * unary_words o
 unary_length Negate = omega arith
 unary_length Complement = omega arith
-
--- of each operation alike: the first clause makes it a proof by cases
-binary_length : (o : BinaryOperation) → 4 + forms_bytes (binary_middle o) + 2 ≤ 2 * binary_words o
-binary_length Multiply = omega arith
-binary_length _ = omega arith
 
 doubles_length : (k : ℕ) → forms_bytes (repeated k double) ≡ 2 * k
 doubles_length zero = refl
@@ -194,6 +191,70 @@ two_short os =
       four_short under,
     )
 
+right_short_by : (b : Bool) (os : List Waiting) → stays (top_of os) ≡ b
+    → forms_bytes (if b then [] else five_from (top_of os)) + source_bytes (if b then source_from (top_of os) else (Register R5)) + kept_bytes (below_top os)
+    ≤ 2 + kept_bytes os
+right_short_by true os e = omega (arith, source_short os)
+right_short_by false os e = omega (arith, five_short os)
+
+-- a plain operation behind what brings its sides
+plain_short : (o : PlainOperation) (os : List Waiting)
+    → forms_bytes (two_code os (Plain o)) + 2 + kept_bytes (kept (below_top (below_top os))) ≤ 8 + kept_bytes os
+plain_short o os =
+    let under = below_top os in
+    let right : List Form = if stays (top_of os) then [] else five_from (top_of os) in
+    let m = Calculate (plain_instruction o) (right_source (top_of os)) R4 in
+    omega (
+      arith,
+      forms_bytes-append (sides os) (m ∷ []),
+      forms_bytes-append (cleared (below_top under)) (right ++ four_from (top_of under)),
+      forms_bytes-append right (four_from (top_of under)),
+      cleared_short (below_top under),
+      right_short_by (stays (top_of os)) os refl,
+      four_short under,
+    )
+
+-- what an operation on two words and its result take
+abbrev OperationShort : Waiting → List Waiting → List Form → BinaryOperation → Type 0
+OperationShort r os ms o = forms_bytes ms + (kept_bytes (kept (below_top (below_top os))) + kept_bytes_of r) ≤ 2 * binary_words o + kept_bytes os
+
+two_code_short : (o : BinaryOperation) (os : List Waiting) → OperationShort (binary_result o) os (two_code os o) o
+two_code_short Multiply os = omega (arith, forms_bytes-append (two_to_registers os) (binary_middle Multiply), two_short os)
+two_code_short Divide os = omega (arith, forms_bytes-append (two_to_registers os) (binary_middle Divide), two_short os)
+two_code_short Remainder os = omega (arith, forms_bytes-append (two_to_registers os) (binary_middle Remainder), two_short os)
+two_code_short (Plain o) os = omega (arith, plain_short o os)
+
+right_words_most : (k : ℕ) → right_words k ≤ k + 1
+right_words_most zero = omega arith
+right_words_most (suc k) = omega arith
+
+shift_most_by : (b c : Bool) (k n : ℕ) → nat_le k 15 ≡ b → nat_lt k 8 ≡ c → n ≤ k + 1 → (if b then (if c then n else (3 + (k - 8))) else 1) ≤ 10
+shift_most_by true true k n e f l = let less : k < 8 = ltb-true k 8 f in omega arith
+shift_most_by true false k n e f l = let less : k ≤ 15 = grind (arith, nat_tests) in omega arith
+shift_most_by false c k n e f l = omega arith
+
+left_most : (k : ℕ) → forms_bytes (shift_middle Left k) ≤ 20
+left_most k = omega (arith, shift_length Left k, shift_most_by (nat_le k 15) (nat_lt k 8) k k refl refl (omega arith))
+
+right_most : (k : ℕ) → forms_bytes (shift_middle Right k) ≤ 20
+right_most k = omega (arith, shift_length Right k, shift_most_by (nat_le k 15) (nat_lt k 8) k (right_words k) refl refl (right_words_most k))
+
+power_short : (p : Option ℕ) (n : ℕ) (os : List Waiting) (o : BinaryOperation)
+    → OperationShort (power_result p o) (waiting.Number n ∷ os) (power_code p (waiting.Number n ∷ os) o) o
+power_short None n os o = two_code_short o (waiting.Number n ∷ os)
+power_short (Some k) n os Multiply = omega (arith, forms_bytes-append (top_to_four os) (shift_middle Left k), top_to_four_short os, left_most k)
+power_short (Some k) n os Divide = omega (arith, forms_bytes-append (top_to_four os) (shift_middle Right k), top_to_four_short os, right_most k)
+power_short (Some k) n os Remainder = omega (arith, plain_short And (waiting.Number (n - 1) ∷ os))
+power_short (Some k) n os (Plain o) = two_code_short (Plain o) (waiting.Number n ∷ os)
+
+binary_short : (o : BinaryOperation) (os : List Waiting) → OperationShort (power_result (top_power (top_of os)) o) os (step_code os (binary o)) o
+binary_short o [] = two_code_short o []
+binary_short o (waiting.Number n ∷ os) = power_short (power n) n os o
+binary_short o (waiting.Fram a ∷ os) = two_code_short o (waiting.Fram a ∷ os)
+binary_short o (waiting.Local n ∷ os) = two_code_short o (waiting.Local n ∷ os)
+binary_short o (waiting.R4 ∷ os) = two_code_short o (waiting.R4 ∷ os)
+binary_short o (waiting.R6 ∷ os) = two_code_short o (waiting.R6 ∷ os)
+
 -- code behind the pushes of all that waits
 behind_flushed : (os : List Waiting) (ms : List Form) (n : ℕ) → forms_bytes ms ≤ 2 * n → forms_bytes (flushed os ++ ms) + 0 ≤ 2 * n + kept_bytes os
 behind_flushed os ms n h = omega (arith, forms_bytes-append (flushed os) ms, flushed_short os, h)
@@ -212,12 +273,6 @@ update_short : (b : Bool) (o : PlainOperation) (n : ℕ) (x : Source)
     → forms_bytes (if b then Calculate (plain_instruction o) x (local_register n) ∷ [] else (ram_update o n x)) ≤ source_bytes x + 12
 update_short true o n x = omega arith
 update_short false o n x = omega arith
-
-result_short : (o : BinaryOperation) → kept_bytes_of (binary_result o) ≡ 2
-result_short Multiply = refl
-result_short Divide = refl
-result_short Remainder = refl
-result_short (Plain o) = refl
 
 -- steps with no word waiting in front of them, and then those that wait behind them are pushed
 block_short : (p : Program) → forms_bytes (steps_code [] p) + kept_bytes (waiting_after [] p) ≤ 2 * words_of p + 0 → forms_bytes (code_of p) ≤ 2 * words_of p
@@ -261,8 +316,7 @@ mutual
   step_short (update_local o n) os =
       behind_below os (update_code o n (source_from (top_of os))) 6 (update_short (nat_lt n 8) o n (source_from (top_of os)))
   step_short (unary o) os = omega (arith, forms_bytes-append (top_to_five os) (unary_middle o), unary_length o, top_to_five_short os)
-  step_short (binary o) os =
-      omega (arith, forms_bytes-append (two_to_registers os) (binary_middle o), binary_length o, two_short os, result_short o)
+  step_short (binary o) os = binary_short o os
   step_short (shift o k) os = omega (arith, forms_bytes-append (top_to_four os) (shift_middle o k), shift_length o k, top_to_four_short os)
   step_short (element base n) os = omega (arith, forms_bytes-append (top_to_four os) (element_code base n), top_to_four_short os)
   step_short (emit_word count buffer) os =

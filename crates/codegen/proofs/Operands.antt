@@ -8,7 +8,7 @@ use Rattle.array_versions.specs.machine_effects.Going.{Goes}
 use Rattle.array_versions.specs.machine_effects.Machine.{IsFram}
 use Rattle.array_versions.specs.machine_effects.msp_cycles.Cycles.{cycles_of, source_cycles, to_register, to_memory}
 use Rattle.array_versions.proofs.machine_effects.Interface.{put_same, put_other}
-use Rattle.code_forms.specs.Forms.{WorkRegister, R4, R5, work_number, Core, Source, source_operand, source_bytes, source_value, source_read, SourceNeeds, ToRegister, Form}
+use Rattle.code_forms.specs.Forms.{WorkRegister, R4, R5, work_number, Core, Source, Register, source_operand, source_bytes, source_value, source_read, SourceNeeds, ToRegister, Form}
 use Rattle.code_forms.specs.Forms.{Move, Push, HasPushRoom, instruction_of, form_bytes}
 use Rattle.code_forms.specs.Code.{Stands, forms_bytes, Runs}
 use Rattle.code_forms.proofs.Interface.{stands_front, stands_back, forms_bytes-append}
@@ -16,6 +16,7 @@ use Rattle.array_versions.specs.Behaviour.{WordState, with_stack, pushed}
 use Rattle.codegen.specs.declared.waiting.Waiting.{Waiting}
 use Rattle.codegen.specs.declared.waiting.Waiting.TheVariants as waiting
 use Rattle.codegen.specs.Code.{waiting_source, flushed, top_of, source_from, below_top, any_held, cleared, kept, four_from, five_from, top_to_four}
+use Rattle.codegen.specs.Code.{stays, sides, right_source}
 use Rattle.codegen.specs.Code.{top_to_five, two_to_registers}
 use Rattle.codegen.proofs.Stretches.{Setting, hop, runs_on, dearer, nothing_run, so_runs}
 use Rattle.codegen.proofs.Memory.{local_words, in_register, Memory, pop_memory, pop_needs, push_needs, push_memory}
@@ -176,6 +177,39 @@ pub load_owed : (os : List Waiting) → load_cycles (top_of os) + owed (below_to
 load_owed [] = omega arith
 load_owed (o ∷ os) = omega (arith, owed_least o)
 
+-- the cycles in which the right side of an operation comes to where it is read, and those in which the operation reads it, at most
+abbrev pub right_cycles : Option Waiting → ℕ
+right_cycles o = if stays o then 0 else load_cycles o
+
+abbrev pub reading_cycles : Option Waiting → ℕ
+reading_cycles o = if stays o then 3 else 1
+
+reading_by : (b : Bool) (o : Option Waiting) → stays o ≡ b
+    → source_cycles to_register (source_operand (if b then source_from o else (Register R5))) ≤ (if b then 3 else 1)
+reading_by true None e = absurd (let q = e in (cc))
+reading_by true (Some o) e = load_price (Some o)
+reading_by false o e = omega arith
+
+pub reading_price : (o : Option Waiting) → source_cycles to_register (source_operand (right_source o)) ≤ reading_cycles o
+reading_price o = reading_by (stays o) o refl
+
+right_by : (b : Bool) (os : List Waiting) → stays (top_of os) ≡ b
+    → (if b then 0 else load_cycles (top_of os)) + (if b then 3 else 1) + owed (below_top os) ≤ 3 + owed os
+right_by true [] e = absurd (let q = e in (cc))
+right_by true (o ∷ os) e = omega (arith, owed_least o)
+right_by false os e = omega (arith, load_owed os)
+
+pub right_owed : (os : List Waiting) → right_cycles (top_of os) + reading_cycles (top_of os) + owed (below_top os) ≤ 3 + owed os
+right_owed os = right_by (stays (top_of os)) os refl
+
+-- what waits elsewhere than in R4 is the same where R6 is
+word_stays : (f : ℕ → ℕ) (l : ℕ → Option ℕ) (g h : ℕ → ℕ) (o : Waiting) → stays (Some o) ≡ true → g 6 ≡ h 6 → waiting_word f l g o ≡ waiting_word f l h o
+word_stays f l g h (waiting.Number n) e q = refl
+word_stays f l g h (waiting.Fram a) e q = refl
+word_stays f l g h (waiting.Local n) e q = refl
+word_stays f l g h waiting.R4 e q = absurd (let k = e in (cc))
+word_stays f l g h waiting.R6 e q = q
+
 -- ---- a word that waits, as a source
 
 source_still : (o : Waiting) (u : Core) → source_read (waiting_source o) u ≡ u
@@ -235,6 +269,14 @@ pub record LoadedTwo (z : Setting) (os : List Waiting) (pc : ℕ) (w : WordState
   pub is : Describes z os pc w t
   pub four : t.work 4 ≡ x
   pub five : t.work 5 ≡ y
+
+-- the left side is in R4, and the right side where an instruction reads it
+pub record LoadedSides (z : Setting) (s : Source) (os : List Waiting) (pc : ℕ) (w : WordState) (x y : ℕ) (t : Core) : Type 0 where
+  pub is : Describes z os pc w t
+  pub four : t.work 4 ≡ x
+  pub right : source_value s t ≡ y
+  pub needs : SourceNeeds s t
+  pub still : source_read s t ≡ t
 
 module _ (z : Setting) where
   source_word : (o : Waiting) (pc : ℕ) (w : WordState) (u : Core) → StandsFor z pc w u → IsThere z.locals w.locals o
@@ -399,6 +441,15 @@ module _ (z : Setting) where
         same = ap (λ (t : Core). t.work) still;
       }
 
+  -- the top waits: its word, and what waits behind it
+  pub drop_part : (o : Waiting) (os : List Waiting) (pc : ℕ) (w : WordState) (v : ℕ) (vs : List ℕ) (u : Core) → w.stack ≡ v ∷ vs → Describes z (o ∷ os) pc w u
+      → Describes z os pc (with_stack vs w) u × (waiting_word w.fram w.locals u.work o ≡ v)
+  drop_part o os pc w v vs u e d =
+      let q = sym e ∙ d.stack in (
+        record { rest = d.rest; is = d.is; stack = tail_is q; there = d.there.1; fits = omega (arith, d.fits, ap (length {A = ℕ}) e) },
+        sym (head_is q),
+      )
+
   -- a word comes to a register in which none of the others waits
   move_part : (b : WorkRegister) (o : Option Waiting) (os : List Waiting) (pc : ℕ) (w : WordState) (v : ℕ) (vs : List ℕ) (u : Core)
       → ((f : ℕ → ℕ) (y : ℕ) → local_words (put f (work_number b) y) ≡ local_words f)
@@ -526,6 +577,58 @@ module _ (z : Setting) where
         five = j.others 5 (λ q. omega (arith, q)) ∙ k.value;
       })
       (four_part under mid left x vs t refl none (stands_back z.code pc first second h) k.is))
+
+  sides_by : (b : Bool) (os : List Waiting) (pc : ℕ) (w : WordState) (x y : ℕ) (vs : List ℕ) (u : Core) → stays (top_of os) ≡ b → w.stack ≡ y ∷ (x ∷ vs)
+      → any_held (below_top (below_top os)) ≡ false
+      → (let under = below_top os in
+      let first : List Form = if b then [] else five_from (top_of os) in
+      let s : Source = if b then source_from (top_of os) else (Register R5) in
+      let ms = first ++ four_from (top_of under) in Stands z.code pc ms → Describes z os pc w u
+      → Runs z.code [] ((if b then 0 else load_cycles (top_of os)) + load_cycles (top_of under)) u
+      (LoadedSides z s (below_top under) (pc + forms_bytes ms) (with_stack vs w) x y))
+  sides_by true [] pc w x y vs u b e none h d = absurd (let q = b in (cc))
+  sides_by true (o ∷ os) pc w x y vs u b e none h d =
+      let left = with_stack (x ∷ vs) w in
+      let end = pc + forms_bytes (four_from (top_of os)) in
+      let k = drop_part o os pc w y (x ∷ vs) u e d in
+      dearer z [] (load_cycles (top_of os)) (0 + load_cycles (top_of os)) u _ (omega arith)
+      (so_runs z [] (load_cycles (top_of os)) u (Loaded z R4 (below_top os) end (with_stack vs w) x u.work) _
+      (λ t j. record {
+        is = j.is;
+        four = j.value;
+        right = source_word o end (with_stack j.is.rest w) t j.is.is d.there.0
+            ∙ word_stays w.fram w.locals t.work u.work o b (j.others 6 (λ q. omega (arith, q))) ∙ k.1;
+        needs = source_needs z.locals w.locals o t d.there.0;
+        still = source_still o t;
+      })
+      (four_part os pc left x vs u refl none h k.0))
+  sides_by false os pc w x y vs u b e none h d =
+      let under = below_top os in
+      let end = pc + forms_bytes (five_from (top_of os) ++ four_from (top_of under)) in
+      so_runs z [] (load_cycles (top_of os) + load_cycles (top_of under)) u (LoadedTwo z (below_top under) end (with_stack vs w) x y) _
+      (λ t j. record { is = j.is; four = j.four; right = j.five; needs = tt; still = refl })
+      (two_loads os pc w x y vs u e none h d)
+
+  sides_loads : (os : List Waiting) (pc : ℕ) (w : WordState) (x y : ℕ) (vs : List ℕ) (u : Core) → w.stack ≡ y ∷ (x ∷ vs)
+      → any_held (below_top (below_top os)) ≡ false
+      → (let under = below_top os in let ms = (if stays (top_of os) then [] else five_from (top_of os)) ++ four_from (top_of under) in
+      Stands z.code pc ms → Describes z os pc w u → Runs z.code [] (right_cycles (top_of os) + load_cycles (top_of under)) u
+      (LoadedSides z (right_source (top_of os)) (below_top under) (pc + forms_bytes ms) (with_stack vs w) x y))
+  sides_loads os pc w x y vs u e none h d = sides_by (stays (top_of os)) os pc w x y vs u refl e none h d
+
+  pub sides_part : (os : List Waiting) (pc : ℕ) (w : WordState) (x y : ℕ) (vs : List ℕ) (u : Core) → w.stack ≡ y ∷ (x ∷ vs)
+      → Stands z.code pc (sides os) → Describes z os pc w u
+      → (let under = below_top os in Runs z.code [] (clear_cycles (below_top under) + (right_cycles (top_of os) + load_cycles (top_of under))) u
+      (LoadedSides z (right_source (top_of os)) (kept (below_top under)) (pc + forms_bytes (sides os)) (with_stack vs w) x y))
+  sides_part [] pc w x y vs u e h d = sides_loads [] pc w x y vs u e refl h d
+  sides_part (o ∷ []) pc w x y vs u e h d =
+      dearer z [] (right_cycles (Some o) + 2) (0 + (right_cycles (Some o) + 2)) u _ (omega arith) (sides_loads (o ∷ []) pc w x y vs u e refl h d)
+  sides_part (o ∷ (p ∷ os)) pc w x y vs u e h d =
+      let more = (if stays (Some o) then [] else five_from (Some o)) ++ four_from (Some p) in
+      behind_cleared os (o ∷ (p ∷ kept os)) more (right_cycles (Some o) + 3) pc w u
+      (λ n. LoadedSides z (right_source (Some o)) (kept os) n (with_stack vs w) x y)
+      (clear_under (o ∷ (p ∷ [])) os pc w u d (stands_front z.code pc (cleared os) more h)) (λ t k.
+      sides_loads (o ∷ (p ∷ kept os)) (pc + forms_bytes (cleared os)) w x y vs t e (none_held os) (stands_back z.code pc (cleared os) more h) k)
 
   pub two_to_registers_part : (os : List Waiting) (pc : ℕ) (w : WordState) (x y : ℕ) (vs : List ℕ) (u : Core) → w.stack ≡ y ∷ (x ∷ vs)
       → Stands z.code pc (two_to_registers os) → Describes z os pc w u

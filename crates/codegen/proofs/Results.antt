@@ -1,13 +1,22 @@
 -- Steps where words wait: values that come to wait in a register, and statements behind which none waits.
-use Rattle.std.proofs.Common.{◌≡◌, ℕ, ◌+◌, ◌*◌, ◌<◌, ◌≤◌, ◌==◌, Bool, true, false, nat_lt, if◌then◌else◌, List, [], ◌∷◌, ◌++◌, length, Some, refl}
-use Rattle.std.proofs.Common.{ap, ◌∙◌, subst, arith}
+use Rattle.std.proofs.Common.{◌≡◌, ℕ, ◌+◌, ◌*◌, ◌<◌, ◌≤◌, ◌-◌, ◌/◌, ◌%◌, ◌^◌, ◌==◌, ◌&&◌, Bool, true, false, nat_lt, if◌then◌else◌, List, [], ◌∷◌, ◌++◌, length, Option, Some, None}
+use Rattle.std.proofs.Common.{refl, sym, ap, ap₂, ◌∙◌, subst, arith, bit_and, w16, ltb-true, eqb-true, ne_eqb, le-leb}
+use Rattle.std.specs.Int.{trailing_zeros}
+use Rattle.std.proofs.lemmas.Option.{same_Some}
+use Rattle.std.proofs.lemmas.Nat.{and_mask, pow_pos}
+use Rattle.msp_isa.specs.alp_words.Words.{word_product, quotient, remainder}
+use Rattle.msp_isa.specs.alp_words.declared.Width.TheVariants.{Word}
+use Rattle.array_versions.specs.msp_step.Effect.{operated}
+use Rattle.array_versions.specs.machine_effects.msp_cycles.Cycles.{cycles_of, source_cycles, to_register}
+use Rattle.array_versions.specs.machine_effects.Going.{Goes}
 use Rattle.std.specs.Option.{unwrap_or}
 use Rattle.std.specs.List.{AllByRecursion}
 use Rattle.array_versions.specs.fram_board.Effects.{Take}
 use Rattle.array_versions.specs.machine_effects.World.{put}
 use Rattle.array_versions.specs.machine_effects.Machine.{IsFram}
 use Rattle.code_forms.specs.Forms as forms
-use Rattle.code_forms.specs.Forms.{WorkRegister, R4, R5, R6, work_number, Core, Form, Move, Update, Push, Ram, ToFram, sensed}
+use Rattle.code_forms.specs.Forms.{WorkRegister, R4, R5, R6, work_number, Core, Source, Register, source_operand, source_bytes, source_value, Form, Move}
+use Rattle.code_forms.specs.Forms.{Calculate, Update, Push, Ram, ToFram, sensed, flags_after, calculated, instruction_of, form_bytes}
 use Rattle.code_forms.specs.Code.{Stands, forms_bytes, Runs}
 use Rattle.code_forms.proofs.Interface.{stands_front, stands_back, forms_bytes-append}
 use Rattle.array_versions.specs.declared.program.ArrayPlace.{ArrayPlace}
@@ -17,29 +26,32 @@ use Rattle.array_versions.specs.declared.operations.UnaryOperation.TheVariants.{
 use Rattle.array_versions.specs.declared.operations.BinaryOperation.{BinaryOperation}
 use Rattle.array_versions.specs.declared.operations.BinaryOperation.TheVariants.{Multiply, Divide, Remainder, Plain}
 use Rattle.array_versions.specs.declared.operations.PlainOperation.{PlainOperation}
+use Rattle.array_versions.specs.declared.operations.PlainOperation.TheVariants.{And}
 use Rattle.array_versions.specs.declared.operations.ShiftOperation.{ShiftOperation}
+use Rattle.array_versions.specs.declared.operations.ShiftOperation.TheVariants.{Left, Right}
 use Rattle.array_versions.specs.Operations.{unary_word, plain_word, binary_word, shift_word}
 use Rattle.array_versions.specs.Program.{keep, update, set_local, update_local, unary, binary, shift, element, emit_word, versioned_read, versioned_write}
 use Rattle.array_versions.specs.Program.{sense}
-use Rattle.array_versions.specs.Behaviour.{WordState, Behaviour, goes_on, with_top, with_two, with_stack, with_local, pushed, is_place, at_place, word_stored}
+use Rattle.array_versions.specs.Behaviour.{WordState, Behaviour, GoesOn, goes_on, with_top, with_two, with_stack, with_local, pushed, is_place, at_place, word_stored}
 use Rattle.array_versions.specs.Behaviour.{word_emitted, element_pushed, own_element, versioned_pushed, versioned_stored, reading_pushed}
 use Rattle.array_versions.specs.Cost.{unary_cycles, binary_cycles}
 use Rattle.codegen.specs.declared.waiting.Waiting.{Waiting}
 use Rattle.codegen.specs.declared.waiting.Waiting.TheVariants as waiting
 use Rattle.codegen.specs.Code.{local_address, local_target, flushed, top_of, source_from, below_top, any_held, cleared, kept, top_to_four, top_to_five}
-use Rattle.codegen.specs.Code.{plain_instruction, update_code}
+use Rattle.codegen.specs.Code.{plain_instruction, update_code, sides, right_source, power, two_code, power_code, power_result}
 use Rattle.codegen.specs.Code.{two_to_registers, unary_middle, binary_middle, binary_result, shift_middle, element_code, emit_code, read_code, write_code}
 use Rattle.codegen.specs.Code.{waiting_behind, step_code}
 use Rattle.codegen.proofs.Stretches.{Setting, hop, runs_on, dearer_stall, nothing_run, so_runs, starved}
 use Rattle.codegen.proofs.Memory.{place_is}
-use Rattle.codegen.proofs.Follows.{StandsFor, Follows, Reaches, reach_more, then_reach, reaches, reach_guarded}
+use Rattle.codegen.proofs.Follows.{StandsFor, stands_elsewhere, Follows, Reaches, reach_more, then_reach, reaches, reach_guarded}
 use Rattle.codegen.proofs.Registers.{Has, HasTwo}
 use Rattle.codegen.proofs.Operands.{IsThere, owed_by, owed, none_held, clear_cycles, owed_kept, load_cycles, load_owed, store_cycles, store_owed, Describes}
 use Rattle.codegen.proofs.Operands.{Top, Waits, InRegister, LoadedTwo, waiting_word, bare, dressed, flush_under, flush_part, clear_under, below_part}
 use Rattle.codegen.proofs.Operands.{top_to_four_part, top_to_five_part, two_to_registers_part, result_waits, waits_more}
+use Rattle.codegen.proofs.Operands.{LoadedSides, right_cycles, reading_cycles, reading_price, right_owed, sides_part, drop_part}
 use Rattle.codegen.proofs.Parts.{local_part, keep_part, set_part}
-use Rattle.codegen.proofs.Updates.{update_part, update_local_part}
-use Rattle.codegen.proofs.Middles.{UnaryMiddle, BinaryMiddle, plain_middle, negate_middle, complement_middle}
+use Rattle.codegen.proofs.Updates.{plain_needs, update_part, update_local_part}
+use Rattle.codegen.proofs.Middles.{makes, UnaryMiddle, BinaryMiddle, negate_middle, complement_middle}
 use Rattle.codegen.proofs.Products.{multiply_middle}
 use Rattle.codegen.proofs.Quotients.{divide_part, remainder_part}
 use Rattle.codegen.proofs.ShiftParts.{shift_part}
@@ -49,6 +61,33 @@ use Rattle.codegen.proofs.VersionParts.{past_read, own_copy, own_home, write_par
 unary_price : (o : UnaryOperation) → unary_cycles o ≡ 7
 unary_price Negate = refl
 unary_price Complement = refl
+
+both_hold : (a b : Bool) → (a && b) ≡ true → (a ≡ true) × (b ≡ true)
+both_hold true b e = (refl, e)
+both_hold false b e = absurd (let q = e in (cc))
+
+-- a power of two
+power_cases : (b : Bool) (k n : ℕ) (j : ℕ) → (nat_lt k 16 && (n == 2 ^ k)) ≡ b → (if b then Some k else None) ≡ Some j → (j < 16) × (n ≡ 2 ^ j)
+power_cases true k n j e q =
+    let same = same_Some k j q in
+    let both = both_hold (nat_lt k 16) (n == 2 ^ k) e in
+    subst (λ m. (m < 16) × (n ≡ 2 ^ m)) same (ltb-true k 16 both.0, eqb-true n (2 ^ k) both.1)
+power_cases false k n j e q = absurd (let r = q in (cc))
+
+power_is : (n k : ℕ) → power n ≡ Some k → (k < 16) × (n ≡ 2 ^ k)
+power_is n k q = let t = trailing_zeros w16 n in power_cases (nat_lt t 16 && (n == 2 ^ t)) t n k refl q
+
+shift_left : (x k : ℕ) → k < 16 → shift_word Left x k ≡ word_product x (2 ^ k)
+shift_left x k l = ap (λ b. if b then word_product x (2 ^ k) else 0) (le-leb k 15 (omega arith))
+
+shift_right : (x k : ℕ) → k < 16 → shift_word Right x k ≡ quotient x (2 ^ k)
+shift_right x k l =
+    ap (λ b. if b then x / 2 ^ k else 0) (le-leb k 15 (omega arith))
+    ∙ sym (ap (λ b. if b then 0xFFFF else x / 2 ^ k) (ne_eqb (2 ^ k) 0 (λ e. let p = pow_pos k in omega arith)))
+
+mask_rest : (x k : ℕ) → bit_and x (2 ^ k - 1) ≡ remainder x (2 ^ k)
+mask_rest x k =
+    and_mask x k ∙ sym (ap (λ b. if b then x else x % 2 ^ k) (ne_eqb (2 ^ k) 0 (λ e. let p = pow_pos k in omega arith)))
 
 module _ (z : Setting) where
   -- what code does, and the words that wait behind it
@@ -228,15 +267,12 @@ module _ (z : Setting) where
 
   -- ---- operations on two words
 
-  binary_by : (o : BinaryOperation) (hand : WorkRegister) (c : ℕ) (os : List Waiting) (pc : ℕ) (w : WordState) (vs : List ℕ) (u : Core)
+  binary_by : (o : BinaryOperation) (hand : WorkRegister) (c : ℕ) (os : List Waiting) (pc : ℕ) (w : WordState) (x y : ℕ) (rest : List ℕ) (u : Core)
       → BinaryMiddle z (binary_middle o) hand c (binary_word o) → IsThere z.locals w.locals (binary_result o) → owed_by (binary_result o) ≡ 3
-      → ((f : ℕ → ℕ) → waiting_word w.fram w.locals f (binary_result o) ≡ f (work_number hand)) → w.stack ≡ vs → AllByRecursion (λ v. v < 0x10000) vs
-      → Stands z.code pc (step_code os (binary o)) → Describes z os pc w u
-      → Does (waiting_behind os (binary o)) (pc + forms_bytes (step_code os (binary o))) (7 + c + owed os) u
-      (with_two vs (λ x y us. goes_on [] (with_stack (binary_word o x y ∷ us) w)))
-  binary_by o hand c os pc w [] u m there three word e l h d = tt
-  binary_by o hand c os pc w (y ∷ []) u m there three word e l h d = tt
-  binary_by o hand c os pc w (y ∷ (x ∷ rest)) u m there three word e l h d =
+      → ((f : ℕ → ℕ) → waiting_word w.fram w.locals f (binary_result o) ≡ f (work_number hand)) → w.stack ≡ y ∷ (x ∷ rest) → x < 0x10000 → y < 0x10000
+      → (let ms = two_to_registers os ++ binary_middle o in Stands z.code pc ms → Describes z os pc w u
+      → Does (binary_result o ∷ kept (below_top (below_top os))) (pc + forms_bytes ms) (7 + c + owed os) u (goes_on [] (with_stack (binary_word o x y ∷ rest) w)))
+  binary_by o hand c os pc w x y rest u m there three word e lx ly h d =
       let front = two_to_registers os in
       let ms = binary_middle o in
       let r = binary_result o in
@@ -254,16 +290,144 @@ module _ (z : Setting) where
       (after_two hand r ks (clear_cycles (below_top under) + (load_cycles first + load_cycles (top_of under))) c (7 + c + owed os) mid (mid + forms_bytes ms)
       w x y v rest u (none_held (below_top under)) there room paid word
       (two_to_registers_part z os pc w x y rest u e (stands_front z.code pc front ms h) d)
-      (λ xs t k. m mid x y (with_stack xs w) t l.1.0 l.0 back k))
+      (λ xs t k. m mid x y (with_stack xs w) t lx ly back k))
+
+  -- the instruction of an operation, on R4 and the right side where that is read
+  plain_form : (o : PlainOperation) (s : Source) (c pc x y : ℕ) (ks : List Waiting) (w : WordState) (vs : List ℕ) (t : Core)
+      → source_cycles to_register (source_operand s) ≤ c → x < 0x10000 → y < 0x10000 → any_held ks ≡ false → length vs < z.room
+      → (let m = Calculate (plain_instruction o) s R4 in z.code pc ≡ Some (instruction_of m) → LoadedSides z s ks pc (with_stack vs w) x y t
+      → Runs z.code [] c t (Describes z (waiting.R4 ∷ ks) (pc + form_bytes m) (with_stack (plain_word o x y ∷ vs) w)))
+  plain_form o s c pc x y ks w vs t l lx ly none room h k =
+      let m = Calculate (plain_instruction o) s R4 in
+      let price = cycles_of (instruction_of m) in
+      let v = plain_word o x y in
+      let shape : Core → Core = λ q. calculated (plain_instruction o) R4 (operated (plain_instruction o) Word (q.work 4) (source_value s t) t.flags)
+      (record q { pc = t.pc + (2 + source_bytes s) }) in
+      let does = operated (plain_instruction o) Word (t.work 4) (source_value s t) t.flags in
+      let is : does.value ≡ v = ap₂ (λ p q. (operated (plain_instruction o) Word p q t.flags).value) k.four k.right ∙ makes o x y t.flags lx ly in
+      let needs = plain_needs o in
+      let after : (ℕ → ℕ) → Core = λ f. record t { pc = t.pc + (2 + source_bytes s); flags = flags_after does.flags t.flags; work = f } in
+      let q = k.is in
+      hop z m c t (after (put t.work 4 v)) [] price _ (ap z.code q.is.at ∙ h) (needs.0, k.needs)
+      (ap (λ a. Goes [] price (shape a)) k.still
+      ∙ ap (λ b. Goes [] price (after (if b then put t.work 4 does.value else t.work))) needs.1 ∙ ap (λ p. Goes [] price (after (put t.work 4 p))) is) l
+      (result_waits z waiting.R4 ks (pc + form_bytes m) w v vs q.rest t.work (after (put t.work 4 v)) q.stack (tt, q.there) none room refl
+      (stands_elsewhere z pc (pc + form_bytes m) (with_stack q.rest w) t (after (put t.work 4 v)) q.is (ap (λ p. p + (2 + source_bytes s)) q.is.at)
+      refl refl refl refl refl))
+
+  plain_by : (o : PlainOperation) (os : List Waiting) (pc : ℕ) (w : WordState) (x y : ℕ) (rest : List ℕ) (u : Core) → w.stack ≡ y ∷ (x ∷ rest)
+      → x < 0x10000 → y < 0x10000
+      → (let ms = sides os ++ Calculate (plain_instruction o) (right_source (top_of os)) R4 ∷ [] in Stands z.code pc ms → Describes z os pc w u
+      → Does (waiting.R4 ∷ kept (below_top (below_top os))) (pc + forms_bytes ms) (8 + owed os) u (goes_on [] (with_stack (plain_word o x y ∷ rest) w)))
+  plain_by o os pc w x y rest u e lx ly h d =
+      let front = sides os in
+      let s = right_source (top_of os) in
+      let m = Calculate (plain_instruction o) s R4 in
+      let under = below_top os in
+      let ks = kept (below_top under) in
+      let mid = pc + forms_bytes front in
+      let v = plain_word o x y in
+      let l = clear_cycles (below_top under) + (right_cycles (top_of os) + load_cycles (top_of under)) in
+      let c = reading_cycles (top_of os) in
+      let end : mid + form_bytes m ≡ pc + forms_bytes (front ++ m ∷ []) = omega (arith, forms_bytes-append front (m ∷ [])) in
+      let room : length rest < z.room = omega (arith, d.fits, ap (length {A = ℕ}) e) in
+      let back = stands_back z.code pc front (m ∷ []) h in
+      subst (λ p. Does (waiting.R4 ∷ ks) p (8 + owed os) u (goes_on [] (with_stack (v ∷ rest) w))) end
+      (record {
+        spent = l + c;
+        within = omega (arith, owed_kept (below_top under), right_owed os, load_owed under);
+        runs = runs_on z l c u (LoadedSides z s ks mid (with_stack rest w) x y) _ [] []
+            (sides_part z os pc w x y rest u e (stands_front z.code pc front (m ∷ []) h) d)
+            (λ t k. plain_form o s c mid x y ks w rest t (reading_price (top_of os)) lx ly (none_held (below_top under)) room back.0 k);
+      })
+
+  two_part : (o : BinaryOperation) (os : List Waiting) (pc : ℕ) (w : WordState) (x y : ℕ) (rest : List ℕ) (u : Core) → w.stack ≡ y ∷ (x ∷ rest)
+      → x < 0x10000 → y < 0x10000 → Stands z.code pc (two_code os o) → Describes z os pc w u
+      → Does (binary_result o ∷ kept (below_top (below_top os))) (pc + forms_bytes (two_code os o)) (binary_cycles o + owed os) u
+      (goes_on [] (with_stack (binary_word o x y ∷ rest) w))
+  two_part Multiply os pc w x y rest u e lx ly h d = binary_by Multiply R6 145 os pc w x y rest u (multiply_middle z) tt refl (λ f. refl) e lx ly h d
+  two_part Divide os pc w x y rest u e lx ly h d = binary_by Divide R4 195 os pc w x y rest u (divide_part z) tt refl (λ f. refl) e lx ly h d
+  two_part Remainder os pc w x y rest u e lx ly h d = binary_by Remainder R6 195 os pc w x y rest u (remainder_part z) tt refl (λ f. refl) e lx ly h d
+  two_part (Plain o) os pc w x y rest u e lx ly h d = plain_by o os pc w x y rest u e lx ly h d
+
+  -- by a power of two: the number that waits on top is no more than known
+  by_shift : (o : ShiftOperation) (n k most v : ℕ) (os : List Waiting) (pc : ℕ) (w : WordState) (x : ℕ) (rest : List ℕ) (u : Core) → 15 ≤ most
+      → shift_word o x k ≡ v → x < 0x10000 → w.stack ≡ n ∷ (x ∷ rest)
+      → (let ms = top_to_four os ++ shift_middle o k in Stands z.code pc ms → Describes z (waiting.Number n ∷ os) pc w u
+      → Does (waiting.R4 ∷ kept (below_top os)) (pc + forms_bytes ms) (most + (owed os + 4)) u (goes_on [] (with_stack (v ∷ rest) w)))
+  by_shift o n k most v os pc w x rest u l is lx e h d =
+      let left = with_stack (x ∷ rest) w in
+      let after = waiting.R4 ∷ kept (below_top os) in
+      let front = top_to_four os in
+      let ms = shift_middle o k in
+      let end = pc + forms_bytes (front ++ ms) in
+      let t = (drop_part z (waiting.Number n) os pc w n (x ∷ rest) u e d).0 in
+      let back = stands_back z.code pc front ms h in
+      subst (λ r. Does after end (most + (owed os + 4)) u (goes_on [] (with_stack (r ∷ rest) w))) is
+      (reach_more z (owed after) (Describes z after end) (15 + owed os) (most + (owed os + 4)) u [] (GoesOn (with_stack (shift_word o x k ∷ rest) w))
+      (omega (arith, l))
+      (value_part R4 front ms 10 15 os pc left x (shift_word o x k) rest u (omega arith) refl t
+      (top_to_four_part z os pc left x rest u refl (stands_front z.code pc front ms h) t)
+      (λ xs q j. shift_part z o k (pc + forms_bytes front) x (with_stack xs w) q lx back j)))
+
+  by_mask : (n m most v : ℕ) (os : List Waiting) (pc : ℕ) (w : WordState) (x : ℕ) (rest : List ℕ) (u : Core) → 8 ≤ most → m < 0x10000
+      → bit_and x m ≡ v → x < 0x10000 → w.stack ≡ n ∷ (x ∷ rest)
+      → (let ms = two_code (waiting.Number m ∷ os) (Plain And) in Stands z.code pc ms → Describes z (waiting.Number n ∷ os) pc w u
+      → Does (waiting.R4 ∷ kept (below_top os)) (pc + forms_bytes ms) (most + (owed os + 4)) u (goes_on [] (with_stack (v ∷ rest) w)))
+  by_mask n m most v os pc w x rest u l lm is lx e h d =
+      let left = with_stack (x ∷ rest) w in
+      let after = waiting.R4 ∷ kept (below_top os) in
+      let end = pc + forms_bytes (two_code (waiting.Number m ∷ os) (Plain And)) in
+      let room : length (x ∷ rest) < z.room = omega (arith, d.fits, ap (length {A = ℕ}) e) in
+      let t = waits_more z (waiting.Number m) os pc left m u tt refl room (drop_part z (waiting.Number n) os pc w n (x ∷ rest) u e d).0 in
+      subst (λ r. Does after end (most + (owed os + 4)) u (goes_on [] (with_stack (r ∷ rest) w))) is
+      (reach_more z (owed after) (Describes z after end) (8 + (owed os + 4)) (most + (owed os + 4)) u [] (GoesOn (with_stack (bit_and x m ∷ rest) w))
+      (omega (arith, l))
+      (plain_by And (waiting.Number m ∷ os) pc (with_stack (m ∷ (x ∷ rest)) w) x m rest u refl lx lm h t))
+
+  -- by whether the number is a power of two
+  power_by : (p : Option ℕ) (o : BinaryOperation) (n : ℕ) (os : List Waiting) (pc : ℕ) (w : WordState) (x y : ℕ) (rest : List ℕ) (u : Core) → power n ≡ p
+      → w.stack ≡ y ∷ (x ∷ rest) → x < 0x10000 → y < 0x10000 → Stands z.code pc (power_code p (waiting.Number n ∷ os) o)
+      → Describes z (waiting.Number n ∷ os) pc w u
+      → Does (power_result p o ∷ kept (below_top os)) (pc + forms_bytes (power_code p (waiting.Number n ∷ os) o)) (binary_cycles o + (owed os + 4)) u
+      (goes_on [] (with_stack (binary_word o x y ∷ rest) w))
+  power_by None o n os pc w x y rest u q e lx ly h d = two_part o (waiting.Number n ∷ os) pc w x y rest u e lx ly h d
+  power_by (Some k) Multiply n os pc w x y rest u q e lx ly h d =
+      let is = (drop_part z (waiting.Number n) os pc w y (x ∷ rest) u e d).1 in
+      let of = power_is n k q in
+      by_shift Left n k 152 (word_product x y) os pc w x rest u (omega arith) (shift_left x k of.0 ∙ ap (word_product x) (sym of.1 ∙ is)) lx
+      (e ∙ ap (λ v. v ∷ (x ∷ rest)) (sym is)) h d
+  power_by (Some k) Divide n os pc w x y rest u q e lx ly h d =
+      let is = (drop_part z (waiting.Number n) os pc w y (x ∷ rest) u e d).1 in
+      let of = power_is n k q in
+      by_shift Right n k 202 (quotient x y) os pc w x rest u (omega arith) (shift_right x k of.0 ∙ ap (quotient x) (sym of.1 ∙ is)) lx
+      (e ∙ ap (λ v. v ∷ (x ∷ rest)) (sym is)) h d
+  power_by (Some k) Remainder n os pc w x y rest u q e lx ly h d =
+      let is = (drop_part z (waiting.Number n) os pc w y (x ∷ rest) u e d).1 in
+      let of = power_is n k q in
+      by_mask n (n - 1) 202 (remainder x y) os pc w x rest u (omega arith) (omega (arith, is, ly))
+      (ap (λ p. bit_and x (p - 1)) of.1 ∙ mask_rest x k ∙ ap (remainder x) (sym of.1 ∙ is)) lx
+      (e ∙ ap (λ v. v ∷ (x ∷ rest)) (sym is)) h d
+  power_by (Some k) (Plain o) n os pc w x y rest u q e lx ly h d = two_part (Plain o) (waiting.Number n ∷ os) pc w x y rest u e lx ly h d
+
+  binary_on : (o : BinaryOperation) (os : List Waiting) (pc : ℕ) (w : WordState) (x y : ℕ) (rest : List ℕ) (u : Core) → w.stack ≡ y ∷ (x ∷ rest)
+      → x < 0x10000 → y < 0x10000 → Stands z.code pc (step_code os (binary o)) → Describes z os pc w u
+      → Does (waiting_behind os (binary o)) (pc + forms_bytes (step_code os (binary o))) (binary_cycles o + owed os) u
+      (goes_on [] (with_stack (binary_word o x y ∷ rest) w))
+  binary_on o [] pc w x y rest u e lx ly h d = two_part o [] pc w x y rest u e lx ly h d
+  binary_on o (waiting.Number n ∷ os) pc w x y rest u e lx ly h d = power_by (power n) o n os pc w x y rest u refl e lx ly h d
+  binary_on o (waiting.Fram a ∷ os) pc w x y rest u e lx ly h d = two_part o (waiting.Fram a ∷ os) pc w x y rest u e lx ly h d
+  binary_on o (waiting.Local n ∷ os) pc w x y rest u e lx ly h d = two_part o (waiting.Local n ∷ os) pc w x y rest u e lx ly h d
+  binary_on o (waiting.R4 ∷ os) pc w x y rest u e lx ly h d = two_part o (waiting.R4 ∷ os) pc w x y rest u e lx ly h d
+  binary_on o (waiting.R6 ∷ os) pc w x y rest u e lx ly h d = two_part o (waiting.R6 ∷ os) pc w x y rest u e lx ly h d
 
   pub binary_part : (o : BinaryOperation) (os : List Waiting) (pc : ℕ) (w : WordState) (vs : List ℕ) (u : Core) → w.stack ≡ vs
       → AllByRecursion (λ v. v < 0x10000) vs → Stands z.code pc (step_code os (binary o)) → Describes z os pc w u
       → Does (waiting_behind os (binary o)) (pc + forms_bytes (step_code os (binary o))) (binary_cycles o + owed os) u
       (with_two vs (λ x y us. goes_on [] (with_stack (binary_word o x y ∷ us) w)))
-  binary_part Multiply os pc w vs u e l h d = binary_by Multiply R6 145 os pc w vs u (multiply_middle z) tt refl (λ f. refl) e l h d
-  binary_part Divide os pc w vs u e l h d = binary_by Divide R4 195 os pc w vs u (divide_part z) tt refl (λ f. refl) e l h d
-  binary_part Remainder os pc w vs u e l h d = binary_by Remainder R6 195 os pc w vs u (remainder_part z) tt refl (λ f. refl) e l h d
-  binary_part (Plain o) os pc w vs u e l h d = binary_by (Plain o) R4 1 os pc w vs u (plain_middle z o) tt refl (λ f. refl) e l h d
+  binary_part o os pc w [] u e l h d = tt
+  binary_part o os pc w (y ∷ []) u e l h d = tt
+  binary_part o os pc w (y ∷ (x ∷ rest)) u e l h d = binary_on o os pc w x y rest u e l.1.0 l.0 h d
 
   -- ---- words that no code brings anywhere
 

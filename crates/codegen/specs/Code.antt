@@ -1,7 +1,8 @@
 -- The code of a word program, which does the same wherever it stands: the stack is at SP, its top first, below the words that wait to be pushed; the
 -- locals stand in R8 to R15 and, from the ninth on, in RAM; R4 to R7 are for work.
 use Rattle.std.specs.Prelude.{ℕ, zero, suc, ◌+◌, ◌-◌, ◌*◌, ◌/◌, Bool, true, false, not, List, [], ◌∷◌, ◌++◌, get_or, ◌==◌, if◌then◌else◌, nat_le, nat_lt}
-use Rattle.std.specs.Prelude.{◌||◌, Option, Some, None}
+use Rattle.std.specs.Prelude.{◌||◌, ◌&&◌, ◌^◌, Option, Some, None}
+use Rattle.std.specs.Int.{w16, trailing_zeros}
 use Rattle.msp_isa.specs.declared.instructions.TwoOp.{TwoOp}
 use Rattle.msp_isa.specs.declared.instructions.TwoOp.TheVariants as op
 use Rattle.msp_isa.specs.declared.registers.SourceRegister.TheVariants as source_register
@@ -396,6 +397,56 @@ turn_end n below =
 abbrev pub turns_code : ℕ → ℕ → List Form → List Form
 turns_code n below body = let turn = body ++ turn_end n below in turn ++ jump_back condition.NotEqual condition.Equal (size turn)
 
+-- the right side of an operation stays where it waits, but for R4
+abbrev pub stays : Option Waiting → Bool
+stays None = false
+stays (Some waiting.R4) = false
+stays (Some _) = true
+
+-- the right side, which is the top, to where an instruction reads it, and the left one to R4
+abbrev pub sides : List Waiting → List Form
+sides os =
+    let under = below_top os in
+    cleared (below_top under) ++ ((if stays (top_of os) then [] else five_from (top_of os)) ++ four_from (top_of under))
+
+-- the right side then
+abbrev pub right_source : Option Waiting → Source
+right_source o = if stays o then source_from o else (Register R5)
+
+-- the exponent of a power of two
+abbrev pub power : ℕ → Option ℕ
+power n = let k = trailing_zeros w16 n in if nat_lt k 16 && (n == 2 ^ k) then Some k else None
+
+-- that of the number that waits on top
+abbrev pub top_power : Option Waiting → Option ℕ
+top_power (Some (waiting.Number n)) = power n
+top_power _ = None
+
+-- that number less one
+abbrev pub top_mask : Option Waiting → ℕ
+top_mask (Some (waiting.Number n)) = n - 1
+top_mask _ = 0
+
+-- an operation on two words, where the right side is no power of two that is known: what brings them to R4 and R5 or elsewhere, and the operation
+abbrev pub two_code : List Waiting → BinaryOperation → List Form
+two_code os (Plain o) = sides os ++ Calculate (plain_instruction o) (right_source (top_of os)) R4 ∷ []
+two_code os Multiply = two_to_registers os ++ binary_middle Multiply
+two_code os Divide = two_to_registers os ++ binary_middle Divide
+two_code os Remainder = two_to_registers os ++ binary_middle Remainder
+
+-- a product, quotient or rest by a power of two, with the words that wait below it: a shift, or what AND leaves
+abbrev pub power_code : Option ℕ → List Waiting → BinaryOperation → List Form
+power_code None os operation = two_code os operation
+power_code (Some k) os Multiply = top_to_four (below_top os) ++ shift_middle Left k
+power_code (Some k) os Divide = top_to_four (below_top os) ++ shift_middle Right k
+power_code (Some k) os Remainder = two_code (waiting.Number (top_mask (top_of os)) ∷ below_top os) (Plain And)
+power_code (Some k) os (Plain o) = two_code os (Plain o)
+
+-- where its result waits
+abbrev pub power_result : Option ℕ → BinaryOperation → Waiting
+power_result None operation = binary_result operation
+power_result (Some k) operation = waiting.R4
+
 -- a local is pushed where it stands in RAM
 abbrev pub local_code : List Waiting → ℕ → List Form
 local_code os n = if nat_lt n 8 then [] else (flushed os ++ Push (Ram (local_address n)) ∷ [])
@@ -406,7 +457,7 @@ waiting_behind os (number w) = waiting.Number w ∷ os
 waiting_behind os (load a) = waiting.Fram a ∷ os
 waiting_behind os (local n) = if nat_lt n 8 then waiting.Local n ∷ os else []
 waiting_behind os (unary operation) = waiting.R4 ∷ kept (below_top os)
-waiting_behind os (binary operation) = binary_result operation ∷ kept (below_top (below_top os))
+waiting_behind os (binary operation) = power_result (top_power (top_of os)) operation ∷ kept (below_top (below_top os))
 waiting_behind os (shift operation k) = waiting.R4 ∷ kept (below_top os)
 waiting_behind os (element base length) = waiting.R4 ∷ kept (below_top os)
 waiting_behind os (versioned_read place list) = waiting.R4 ∷ kept (below_top os)
@@ -429,7 +480,7 @@ abbrev mutual
   step_code os (set_local n) = flushed (below_top os) ++ Move (source_from (top_of os)) (local_target n) ∷ []
   step_code os (update_local o n) = flushed (below_top os) ++ update_code o n (source_from (top_of os))
   step_code os (unary operation) = top_to_five os ++ unary_middle operation
-  step_code os (binary operation) = two_to_registers os ++ binary_middle operation
+  step_code os (binary operation) = power_code (top_power (top_of os)) os operation
   step_code os (shift operation k) = top_to_four os ++ shift_middle operation k
   step_code os (element base length) = top_to_four os ++ element_code base length
   step_code os (emit_word count buffer) = (top_to_five os ++ flushed (kept (below_top os))) ++ emit_code count buffer
