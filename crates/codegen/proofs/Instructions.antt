@@ -32,7 +32,7 @@ use Rattle.array_versions.specs.Program.{both, either, fails, nothing, step}
 use Rattle.codegen.specs.declared.waiting.Waiting.{Waiting}
 use Rattle.codegen.specs.declared.waiting.Waiting.TheVariants as waiting
 use Rattle.codegen.specs.Code.{local_address, local_target, waiting_source, flushed, top_of, source_from, below_top, any_held, cleared, kept, four_from}
-use Rattle.codegen.specs.Code.{stays, sides, right_source, top_power, top_mask, two_code, power_code, five_from, top_to_four, top_to_five, two_to_registers, unary_middle, binary_middle, plain_instruction, update_code, repeated}
+use Rattle.codegen.specs.Code.{top_number, element_at, stays, sides, right_source, top_power, top_mask, two_code, power_code, five_from, top_to_four, top_to_five, two_to_registers, unary_middle, binary_middle, plain_instruction, update_code, repeated}
 use Rattle.codegen.specs.Code.{double, halve, right_code, shift_by, shift_middle, element_code, emit_code, pair_code, entry_code, read_code, write_code}
 use Rattle.codegen.specs.Code.{compare_form, holding, failing, size, pass_over, jump_back, decision, holds_code, compares_code, truth_code, number_code, turn_end}
 use Rattle.codegen.specs.Code.{turns_code, waiting_behind, waiting_after, step_code, test_code, steps_code, code_of}
@@ -190,6 +190,10 @@ power_are (Some k) os Divide = are-append (top_to_four (below_top os)) (shift_mi
 power_are (Some k) os Remainder = two_code_are (Plain And) (waiting.Number (top_mask (top_of os)) ∷ below_top os)
 power_are (Some k) os (Plain o) = two_code_are (Plain o) os
 
+element_at_are : (k : Option ℕ) (os : List Waiting) (base size : ℕ) → Are (element_at k os base size)
+element_at_are (Some k) os base size = tt
+element_at_are None os base size = are-append (top_to_four os) (element_code base size) (top_to_four_are os) (element_are base size)
+
 block_are : (p : Program) → Are (steps_code [] p) → Are (code_of p)
 block_are p h = are-append (steps_code [] p) (flushed (waiting_after [] p)) h (flushed_are (waiting_after [] p))
 
@@ -210,7 +214,7 @@ mutual
   step_are (unary o) os = are-append (top_to_five os) (unary_middle o) (top_to_five_are os) (unary_are o)
   step_are (binary o) os = power_are (top_power (top_of os)) os o
   step_are (shift o k) os = are-append (top_to_four os) (shift_middle o k) (top_to_four_are os) (shift_are o k)
-  step_are (element base size) os = are-append (top_to_four os) (element_code base size) (top_to_four_are os) (element_are base size)
+  step_are (element base size) os = element_at_are (top_number (top_of os)) os base size
   step_are (emit_word count buffer) os =
       let ks = kept (below_top os) in
       are-append (top_to_five os ++ flushed ks) (emit_code count buffer) (are-append (top_to_five os) (flushed ks) (top_to_five_are os) (flushed_are ks))

@@ -35,7 +35,8 @@ use Rattle.array_versions.specs.Cost.{unary_words, binary_words, right_words, sh
 use Rattle.codegen.specs.declared.waiting.Waiting.{Waiting}
 use Rattle.codegen.specs.declared.waiting.Waiting.TheVariants as waiting
 use Rattle.codegen.specs.Code.{local_register, local_address, local_target, waiting_source, flushed, top_of, source_from, below_top, any_held, cleared, kept}
-use Rattle.codegen.specs.Code.{stays, sides, right_source, power, top_power, two_code, power_code, power_result, four_from, five_from, top_to_four, top_to_five, two_to_registers, unary_middle, binary_middle, binary_result}
+use Rattle.codegen.proofs.Operands.{number_cases}
+use Rattle.codegen.specs.Code.{number_source, stays, sides, right_source, power, top_power, two_code, power_code, power_result, four_from, five_from, top_to_four, top_to_five, two_to_registers, unary_middle, binary_middle, binary_result}
 use Rattle.codegen.specs.Code.{plain_instruction, ram_update, update_code, repeated, double, halve, right_code, shift_by, shift_middle, element_code, emit_code}
 use Rattle.codegen.specs.Code.{pair_code, entry_code, read_code, write_code, compare_form, holding, failing, size, pass_over, jump_back, decision, holds_code}
 use Rattle.codegen.specs.Code.{compares_code, truth_code, number_code, turn_end, turns_code, waiting_behind, waiting_after, step_code, test_code, steps_code}
@@ -131,8 +132,11 @@ abbrev pub kept_bytes : List Waiting → ℕ
 kept_bytes [] = 0
 kept_bytes (o ∷ os) = kept_bytes os + kept_bytes_of o
 
+number_bytes : (n : ℕ) → source_bytes (number_source n) ≤ 2
+number_bytes n = number_cases (λ s. source_bytes s ≤ 2) n (omega arith) (λ k e. omega arith)
+
 push_short : (o : Waiting) → form_bytes (Push (waiting_source o)) ≤ kept_bytes_of o
-push_short (waiting.Number n) = omega arith
+push_short (waiting.Number n) = omega (arith, number_bytes n)
 push_short (waiting.Fram a) = omega arith
 push_short (waiting.Local n) = omega arith
 push_short waiting.R4 = omega arith
@@ -153,7 +157,7 @@ cleared_short os = cleared_by (any_held os) os
 -- the top as a source takes no more than its push
 source_short : (os : List Waiting) → source_bytes (source_from (top_of os)) + kept_bytes (below_top os) ≤ kept_bytes os
 source_short [] = omega arith
-source_short (waiting.Number n ∷ os) = omega arith
+source_short (waiting.Number n ∷ os) = omega (arith, number_bytes n)
 source_short (waiting.Fram a ∷ os) = omega arith
 source_short (waiting.Local n ∷ os) = omega arith
 source_short (waiting.R4 ∷ os) = omega arith
@@ -164,7 +168,7 @@ five_short os = omega (arith, source_short os)
 
 four_short : (os : List Waiting) → forms_bytes (four_from (top_of os)) + kept_bytes (below_top os) ≤ 2 + kept_bytes os
 four_short [] = omega arith
-four_short (waiting.Number n ∷ os) = omega arith
+four_short (waiting.Number n ∷ os) = omega (arith, number_bytes n)
 four_short (waiting.Fram a ∷ os) = omega arith
 four_short (waiting.Local n ∷ os) = omega arith
 four_short (waiting.R4 ∷ os) = omega arith
@@ -264,6 +268,24 @@ behind_below : (os : List Waiting) (ms : List Form) (n : ℕ) → forms_bytes ms
     → forms_bytes (flushed (below_top os) ++ ms) + 0 ≤ 2 * n + kept_bytes os
 behind_below os ms n h = omega (arith, forms_bytes-append (flushed (below_top os)) ms, flushed_short (below_top os), source_short os, h)
 
+known_short : (b : Bool) (a : ℕ) → kept_bytes_of (if b then waiting.Fram a else (waiting.Number 0)) ≤ 4
+known_short true a = omega arith
+known_short false a = omega arith
+
+-- an element, at a number that waits and elsewhere
+element_short : (base n : ℕ) (os : List Waiting)
+    → forms_bytes (step_code os (element base n)) + kept_bytes (waiting_behind os (element base n)) ≤ 20 + kept_bytes os
+element_short base n [] = omega (arith, forms_bytes-append (top_to_four []) (element_code base n), top_to_four_short [])
+element_short base n (waiting.Number k ∷ os) = omega (arith, known_short (nat_lt k n) (word_sum base (word_sum k k)))
+element_short base n (waiting.Fram a ∷ os) =
+    omega (arith, forms_bytes-append (top_to_four (waiting.Fram a ∷ os)) (element_code base n), top_to_four_short (waiting.Fram a ∷ os))
+element_short base n (waiting.Local k ∷ os) =
+    omega (arith, forms_bytes-append (top_to_four (waiting.Local k ∷ os)) (element_code base n), top_to_four_short (waiting.Local k ∷ os))
+element_short base n (waiting.R4 ∷ os) =
+    omega (arith, forms_bytes-append (top_to_four (waiting.R4 ∷ os)) (element_code base n), top_to_four_short (waiting.R4 ∷ os))
+element_short base n (waiting.R6 ∷ os) =
+    omega (arith, forms_bytes-append (top_to_four (waiting.R6 ∷ os)) (element_code base n), top_to_four_short (waiting.R6 ∷ os))
+
 local_short : (b : Bool) (n : ℕ) (os : List Waiting)
     → forms_bytes (if b then [] else (flushed os ++ Push (Ram (local_address n)) ∷ [])) + kept_bytes (if b then waiting.Local n ∷ os else []) ≤ 4 + kept_bytes os
 local_short true n os = omega arith
@@ -318,7 +340,7 @@ mutual
   step_short (unary o) os = omega (arith, forms_bytes-append (top_to_five os) (unary_middle o), unary_length o, top_to_five_short os)
   step_short (binary o) os = binary_short o os
   step_short (shift o k) os = omega (arith, forms_bytes-append (top_to_four os) (shift_middle o k), shift_length o k, top_to_four_short os)
-  step_short (element base n) os = omega (arith, forms_bytes-append (top_to_four os) (element_code base n), top_to_four_short os)
+  step_short (element base n) os = element_short base n os
   step_short (emit_word count buffer) os =
       let ks = kept (below_top os) in
       omega (

@@ -1,21 +1,24 @@
 -- Words that wait to be pushed: what the machine stands for where some do, how they are pushed, and how they come to registers.
 use Rattle.std.proofs.Common.{◌≡◌, ℕ, suc, ◌+◌, ◌-◌, ◌<◌, ◌≤◌, Bool, true, false, nat_lt, if◌then◌else◌, List, [], ◌∷◌, ◌++◌, length, get_or, drop}
-use Rattle.std.proofs.Common.{Option, Some, None, refl, sym, ap, ap₂, ◌∙◌, subst, arith, append_assoc, append-nil, length-append}
+use Rattle.std.proofs.Common.{Option, Some, None, ◌==◌, eqb-true, refl, sym, ap, ap₂, ◌∙◌, subst, arith, append_assoc, append-nil, length-append}
 use Rattle.std.specs.Option.{unwrap_or}
 use Rattle.std.specs.List.{AllByRecursion}
 use Rattle.array_versions.specs.machine_effects.World.{put}
 use Rattle.array_versions.specs.machine_effects.Going.{Goes}
 use Rattle.array_versions.specs.machine_effects.Machine.{IsFram}
-use Rattle.array_versions.specs.machine_effects.msp_cycles.Cycles.{cycles_of, source_cycles, to_register, to_memory}
+use Rattle.msp_isa.specs.declared.operands.Konst.{Konst}
+use Rattle.msp_isa.specs.declared.operands.Konst.TheVariants as konst
+use Rattle.msp_isa.specs.Constant.{constant_value}
+use Rattle.array_versions.specs.machine_effects.msp_cycles.Cycles.{CycleRow, cycles_of, source_cycles, to_register, to_memory, push}
 use Rattle.array_versions.proofs.machine_effects.Interface.{put_same, put_other}
-use Rattle.code_forms.specs.Forms.{WorkRegister, R4, R5, work_number, Core, Source, Register, source_operand, source_bytes, source_value, source_read, SourceNeeds, ToRegister, Form}
+use Rattle.code_forms.specs.Forms.{WorkRegister, R4, R5, work_number, Core, Source, Register, Number, Constant, source_operand, source_bytes, source_value, source_read, SourceNeeds, ToRegister, Form}
 use Rattle.code_forms.specs.Forms.{Move, Push, HasPushRoom, instruction_of, form_bytes}
 use Rattle.code_forms.specs.Code.{Stands, forms_bytes, Runs}
 use Rattle.code_forms.proofs.Interface.{stands_front, stands_back, forms_bytes-append}
 use Rattle.array_versions.specs.Behaviour.{WordState, with_stack, pushed}
 use Rattle.codegen.specs.declared.waiting.Waiting.{Waiting}
 use Rattle.codegen.specs.declared.waiting.Waiting.TheVariants as waiting
-use Rattle.codegen.specs.Code.{waiting_source, flushed, top_of, source_from, below_top, any_held, cleared, kept, four_from, five_from, top_to_four}
+use Rattle.codegen.specs.Code.{number_source, waiting_source, flushed, top_of, source_from, below_top, any_held, cleared, kept, four_from, five_from, top_to_four}
 use Rattle.codegen.specs.Code.{stays, sides, right_source}
 use Rattle.codegen.specs.Code.{top_to_five, two_to_registers}
 use Rattle.codegen.proofs.Stretches.{Setting, hop, runs_on, dearer, nothing_run, so_runs}
@@ -64,6 +67,20 @@ abbrev pub owed : List Waiting → ℕ
 owed [] = 0
 owed (o ∷ os) = owed os + owed_by o
 
+-- what holds of an immediate number and of the constants holds of a number as a source
+pick : (P : Source → Type 0) (b : Bool) (x y : Source) → (b ≡ true → P x) → P y → P (if b then x else y)
+pick P true x y f p = f refl
+pick P false x y f p = p
+
+pub number_cases : (P : Source → Type 0) (n : ℕ) → P (Number n) → ((k : Konst) → constant_value k ≡ n → P (Constant k)) → P (number_source n)
+number_cases P n p f =
+    pick P (n == 0) _ _ (λ e. f konst.Zero (sym (eqb-true n 0 e))) (pick P (n == 1) _ _ (λ e. f konst.One (sym (eqb-true n 1 e)))
+    (pick P (n == 2) _ _ (λ e. f konst.Two (sym (eqb-true n 2 e))) (pick P (n == 4) _ _ (λ e. f konst.Four (sym (eqb-true n 4 e)))
+    (pick P (n == 8) _ _ (λ e. f konst.Eight (sym (eqb-true n 8 e))) (pick P (n == 0xFFFF) _ _ (λ e. f konst.MinusOne (sym (eqb-true n 0xFFFF e))) p)))))
+
+number_price : (row : CycleRow) (n most : ℕ) → row.immediate ≤ most → row.register ≤ most → source_cycles row (source_operand (number_source n)) ≤ most
+number_price row n most a b = number_cases (λ s. source_cycles row (source_operand s) ≤ most) n a (λ k e. b)
+
 owed_least : (o : Waiting) → 3 ≤ owed_by o
 owed_least (waiting.Number n) = omega arith
 owed_least (waiting.Fram a) = omega arith
@@ -72,7 +89,7 @@ owed_least waiting.R4 = omega arith
 owed_least waiting.R6 = omega arith
 
 push_cycles : (o : Waiting) → cycles_of (instruction_of (Push (waiting_source o))) ≤ owed_by o
-push_cycles (waiting.Number n) = omega arith
+push_cycles (waiting.Number n) = number_price push n 4 (omega arith) (omega arith)
 push_cycles (waiting.Fram a) = omega arith
 push_cycles (waiting.Local n) = omega arith
 push_cycles waiting.R4 = omega arith
@@ -146,7 +163,7 @@ load_cycles (Some o) = 3
 
 pub load_price : (o : Option Waiting) → source_cycles to_register (source_operand (source_from o)) ≤ load_cycles o
 load_price None = omega arith
-load_price (Some (waiting.Number n)) = omega arith
+load_price (Some (waiting.Number n)) = number_price to_register n 3 (omega arith) (omega arith)
 load_price (Some (waiting.Fram a)) = omega arith
 load_price (Some (waiting.Local n)) = omega arith
 load_price (Some waiting.R4) = omega arith
@@ -163,7 +180,7 @@ load_less (Some o) = omega arith
 
 pub store_price : (o : Option Waiting) → source_cycles to_memory (source_operand (source_from o)) ≤ store_cycles o
 store_price None = omega arith
-store_price (Some (waiting.Number n)) = omega arith
+store_price (Some (waiting.Number n)) = number_price to_memory n 6 (omega arith) (omega arith)
 store_price (Some (waiting.Fram a)) = omega arith
 store_price (Some (waiting.Local n)) = omega arith
 store_price (Some waiting.R4) = omega arith
@@ -213,14 +230,14 @@ word_stays f l g h waiting.R6 e q = q
 -- ---- a word that waits, as a source
 
 source_still : (o : Waiting) (u : Core) → source_read (waiting_source o) u ≡ u
-source_still (waiting.Number n) u = refl
+source_still (waiting.Number n) u = number_cases (λ s. source_read s u ≡ u) n refl (λ k e. refl)
 source_still (waiting.Fram a) u = refl
 source_still (waiting.Local n) u = refl
 source_still waiting.R4 u = refl
 source_still waiting.R6 u = refl
 
 source_needs : (most : ℕ) (locals : ℕ → Option ℕ) (o : Waiting) (u : Core) → IsThere most locals o → SourceNeeds (waiting_source o) u
-source_needs most locals (waiting.Number n) u h = tt
+source_needs most locals (waiting.Number n) u h = number_cases (λ s. SourceNeeds s u) n tt (λ k e. tt)
 source_needs most locals (waiting.Fram a) u h = h
 source_needs most locals (waiting.Local n) u h = tt
 source_needs most locals waiting.R4 u h = tt
@@ -281,7 +298,7 @@ pub record LoadedSides (z : Setting) (s : Source) (os : List Waiting) (pc : ℕ)
 module _ (z : Setting) where
   source_word : (o : Waiting) (pc : ℕ) (w : WordState) (u : Core) → StandsFor z pc w u → IsThere z.locals w.locals o
       → source_value (waiting_source o) u ≡ waiting_word w.fram w.locals u.work o
-  source_word (waiting.Number n) pc w u i h = refl
+  source_word (waiting.Number n) pc w u i h = number_cases (λ s. source_value s u ≡ n) n refl (λ k e. e)
   source_word (waiting.Fram a) pc w u i h = ap (λ f. f a) i.fram
   source_word (waiting.Local n) pc w u i h =
       in_register u.work u.ram n h.in_register ∙ i.memory.vars n h.word h.below h.assigned ∙ sym (ap (λ x. unwrap_or x 0) h.assigned)

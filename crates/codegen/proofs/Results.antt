@@ -4,7 +4,7 @@ use Rattle.std.proofs.Common.{refl, sym, ap, ap₂, ◌∙◌, subst, arith, bit
 use Rattle.std.specs.Int.{trailing_zeros}
 use Rattle.std.proofs.lemmas.Option.{same_Some}
 use Rattle.std.proofs.lemmas.Nat.{and_mask, pow_pos}
-use Rattle.msp_isa.specs.alp_words.Words.{word_product, quotient, remainder}
+use Rattle.msp_isa.specs.alp_words.Words.{word_sum, word_product, quotient, remainder}
 use Rattle.msp_isa.specs.alp_words.declared.Width.TheVariants.{Word}
 use Rattle.array_versions.specs.msp_step.Effect.{operated}
 use Rattle.array_versions.specs.machine_effects.msp_cycles.Cycles.{cycles_of, source_cycles, to_register}
@@ -38,7 +38,7 @@ use Rattle.array_versions.specs.Cost.{unary_cycles, binary_cycles}
 use Rattle.codegen.specs.declared.waiting.Waiting.{Waiting}
 use Rattle.codegen.specs.declared.waiting.Waiting.TheVariants as waiting
 use Rattle.codegen.specs.Code.{local_address, local_target, flushed, top_of, source_from, below_top, any_held, cleared, kept, top_to_four, top_to_five}
-use Rattle.codegen.specs.Code.{plain_instruction, update_code, sides, right_source, power, two_code, power_code, power_result}
+use Rattle.codegen.specs.Code.{plain_instruction, update_code, sides, right_source, power, known_element, two_code, power_code, power_result}
 use Rattle.codegen.specs.Code.{two_to_registers, unary_middle, binary_middle, binary_result, shift_middle, element_code, emit_code, read_code, write_code}
 use Rattle.codegen.specs.Code.{waiting_behind, step_code}
 use Rattle.codegen.proofs.Stretches.{Setting, hop, runs_on, dearer_stall, nothing_run, so_runs, starved}
@@ -174,39 +174,101 @@ module _ (z : Setting) where
       (top_to_four_part z os pc w y rest u e (stands_front z.code pc front ms h) d)
       (λ xs t k. shift_part z o n (pc + forms_bytes front) y (with_stack xs w) t l.0 back k)
 
-  -- an element, by whether the index is below the length
-  element_by : (b : Bool) (base size : ℕ) (os : List Waiting) (pc : ℕ) (w : WordState) (i : ℕ) (rest : List ℕ) (u : Core) → nat_lt i size ≡ b
-      → size < 0x10000 → i < 0x10000 → w.stack ≡ i ∷ rest → Stands z.code pc (step_code os (element base size)) → Describes z os pc w u
+  -- ---- words that no code brings anywhere
+
+  waits_part : (o : Waiting) (os : List Waiting) (pc : ℕ) (w : WordState) (v n : ℕ) (u : Core) → IsThere z.locals w.locals o
+      → waiting_word w.fram w.locals u.work o ≡ v → owed_by o ≤ n → length w.stack < z.room → Describes z os pc w u
+      → Does (o ∷ os) (pc + 0) (n + owed os) u (goes_on [] (pushed v w))
+  waits_part o os pc w v n u there word less room d =
+      let same : pc ≡ pc + 0 = omega arith in
+      record {
+        spent = 0;
+        within = omega (arith, less);
+        runs = nothing_run z u _ (subst (λ p. Describes z (o ∷ os) p (pushed v w) u) same (waits_more z o os pc w v u there word room d));
+      }
+
+  pub number_part : (n : ℕ) (os : List Waiting) (pc : ℕ) (w : WordState) (u : Core) → length w.stack < z.room → Describes z os pc w u
+      → Does (waiting.Number n ∷ os) (pc + 0) (4 + owed os) u (goes_on [] (pushed n w))
+  number_part n os pc w u room d = waits_part (waiting.Number n) os pc w n 4 u tt refl (omega arith) room d
+
+  pub load_part : (a : ℕ) (os : List Waiting) (pc : ℕ) (w : WordState) (u : Core) → length w.stack < z.room → IsFram a → Describes z os pc w u
+      → Does (waiting.Fram a ∷ os) (pc + 0) (5 + owed os) u (goes_on [] (pushed (w.fram a) w))
+  load_part a os pc w u room f d = waits_part (waiting.Fram a) os pc w (w.fram a) 5 u f refl (omega arith) room d
+
+  -- ---- elements
+
+  -- what an element gives: 0 where the index isn't below the length, else a word of FRAM
+  by_length : (b : Bool) (base size : ℕ) (after : List Waiting) (end most : ℕ) (w : WordState) (i : ℕ) (rest : List ℕ) (u : Core) → nat_lt i size ≡ b
+      → (nat_lt i size ≡ false → Does after end most u (goes_on [] (with_stack (0 ∷ rest) w)))
+      → (nat_lt i size ≡ true → IsFram (2 * i + base) → Does after end most u (goes_on [] (with_stack (w.fram (2 * i + base) ∷ rest) w)))
       → (let a = 2 * i + base in
-      let x : Behaviour = if b then at_place a (goes_on [] (with_stack (w.fram a ∷ rest) w)) else goes_on [] (with_stack (0 ∷ rest) w) in
-      Does (waiting_behind os (element base size)) (pc + forms_bytes (step_code os (element base size))) (15 + owed os) u x)
-  element_by false base size os pc w i rest u lt s r e h d =
-      let front = top_to_four os in
-      let ms = element_code base size in
-      let mid = pc + forms_bytes front in
-      let back = stands_back z.code pc front ms h in
-      value_part R4 front ms 10 15 os pc w i 0 rest u (omega arith) e d
-      (top_to_four_part z os pc w i rest u e (stands_front z.code pc front ms h) d)
-      (λ xs t k. past_end z base size mid s back i (with_stack xs w) t lt r k)
-  element_by true base size os pc w i rest u lt s r e h d =
-      let front = top_to_four os in
-      let ms = element_code base size in
-      let mid = pc + forms_bytes front in
-      let back = stands_back z.code pc front ms h in
+      let x : Behaviour = if b then at_place a (goes_on [] (with_stack (w.fram a ∷ rest) w)) else goes_on [] (with_stack (0 ∷ rest) w) in Does after end most u x)
+  by_length false base size after end most w i rest u lt none there = none lt
+  by_length true base size after end most w i rest u lt none there =
       let a = 2 * i + base in
-      let after = waiting_behind os (element base size) in
+      reach_guarded z (is_place a) (owed after) (Describes z after end) most u (goes_on [] (with_stack (w.fram a ∷ rest) w)) (λ g. there lt (place_is a g))
+
+  -- an element, by whether the index is below the length
+  element_by : (base size : ℕ) (os : List Waiting) (pc : ℕ) (w : WordState) (i : ℕ) (rest : List ℕ) (u : Core) → size < 0x10000 → i < 0x10000 → w.stack ≡ i ∷ rest
+      → (let ms = top_to_four os ++ element_code base size in Stands z.code pc ms → Describes z os pc w u
+      → Does (waiting.R4 ∷ kept (below_top os)) (pc + forms_bytes ms) (15 + owed os) u (element_pushed base size i (with_stack rest w)))
+  element_by base size os pc w i rest u s r e h d =
+      let a = 2 * i + base in
+      let front = top_to_four os in
+      let ms = element_code base size in
+      let mid = pc + forms_bytes front in
+      let after = waiting.R4 ∷ kept (below_top os) in
       let end = pc + forms_bytes (front ++ ms) in
-      reach_guarded z (is_place a) (owed after) (Describes z after end) (15 + owed os) u (goes_on [] (with_stack (w.fram a ∷ rest) w)) (λ g.
-      value_part R4 front ms 10 15 os pc w i (w.fram a) rest u (omega arith) e d
-      (top_to_four_part z os pc w i rest u e (stands_front z.code pc front ms h) d)
-      (λ xs t k. before_end z base size mid s back i (with_stack xs w) t lt r (place_is a g) k))
+      let back = stands_back z.code pc front ms h in
+      let come = top_to_four_part z os pc w i rest u e (stands_front z.code pc front ms h) d in
+      let none : nat_lt i size ≡ false → Does after end (15 + owed os) u (goes_on [] (with_stack (0 ∷ rest) w)) =
+      λ no. value_part R4 front ms 10 15 os pc w i 0 rest u (omega arith) e d come (λ xs t k. past_end z base size mid s back i (with_stack xs w) t no r k) in
+      let there : nat_lt i size ≡ true → IsFram a → Does after end (15 + owed os) u (goes_on [] (with_stack (w.fram a ∷ rest) w)) =
+      λ yes f. value_part R4 front ms 10 15 os pc w i (w.fram a) rest u (omega arith) e d come
+      (λ xs t k. before_end z base size mid s back i (with_stack xs w) t yes r f k) in
+      by_length (nat_lt i size) base size after end (15 + owed os) w i rest u refl none there
+
+  -- an element at a number that waits
+  known_by : (base size k : ℕ) (os : List Waiting) (pc : ℕ) (w : WordState) (i : ℕ) (rest : List ℕ) (u : Core) → w.stack ≡ i ∷ rest → Describes z (waiting.Number k ∷ os) pc w u
+      → Does (known_element base size k ∷ os) (pc + 0) (15 + (owed os + 4)) u (element_pushed base size i (with_stack rest w))
+  known_by base size k os pc w i rest u e d =
+      let at = 2 * i + base in
+      let left = with_stack rest w in
+      let x = drop_part z (waiting.Number k) os pc w i rest u e d in
+      let room : length rest < z.room = omega (arith, d.fits, ap (length {A = ℕ}) e) in
+      let one : (o : Waiting) (v : ℕ) → IsThere z.locals w.locals o → waiting_word w.fram w.locals u.work o ≡ v → owed_by o ≤ 5
+      → Does (o ∷ os) (pc + 0) (15 + (owed os + 4)) u (goes_on [] (pushed v left)) =
+      λ o v there word less. reach_more z (owed (o ∷ os)) (Describes z (o ∷ os) (pc + 0)) (5 + owed os) (15 + (owed os + 4)) u [] (GoesOn (pushed v left))
+      (omega arith) (waits_part o os pc left v 5 u there word less room x.0) in
+      let none : nat_lt i size ≡ false → Does (known_element base size k ∷ os) (pc + 0) (15 + (owed os + 4)) u (goes_on [] (with_stack (0 ∷ rest) w)) =
+      λ no. subst (λ c. Does ((if c then waiting.Fram (word_sum base (word_sum k k)) else (waiting.Number 0)) ∷ os) (pc + 0) (15 + (owed os + 4)) u
+      (goes_on [] (with_stack (0 ∷ rest) w))) (sym (ap (λ n. nat_lt n size) x.1 ∙ no)) (one (waiting.Number 0) 0 tt refl (omega arith)) in
+      let there : nat_lt i size ≡ true → IsFram at
+      → Does (known_element base size k ∷ os) (pc + 0) (15 + (owed os + 4)) u (goes_on [] (with_stack (w.fram at ∷ rest) w)) =
+      λ yes f. let high = f.high in
+      let there : word_sum base (word_sum k k) ≡ at = omega (arith, x.1) in
+      subst (λ c. Does ((if c then waiting.Fram (word_sum base (word_sum k k)) else (waiting.Number 0)) ∷ os) (pc + 0) (15 + (owed os + 4)) u
+      (goes_on [] (with_stack (w.fram at ∷ rest) w))) (sym (ap (λ n. nat_lt n size) x.1 ∙ yes))
+      (one (waiting.Fram (word_sum base (word_sum k k))) (w.fram at) (subst IsFram (sym there) f) (ap w.fram there) (omega arith)) in
+      by_length (nat_lt i size) base size (known_element base size k ∷ os) (pc + 0) (15 + (owed os + 4)) w i rest u refl none there
+
+  element_on : (base size : ℕ) (os : List Waiting) (pc : ℕ) (w : WordState) (i : ℕ) (rest : List ℕ) (u : Core) → size < 0x10000 → i < 0x10000
+      → w.stack ≡ i ∷ rest → Stands z.code pc (step_code os (element base size)) → Describes z os pc w u
+      → Does (waiting_behind os (element base size)) (pc + forms_bytes (step_code os (element base size))) (15 + owed os) u
+      (element_pushed base size i (with_stack rest w))
+  element_on base size [] pc w i rest u s r e h d = element_by base size [] pc w i rest u s r e h d
+  element_on base size (waiting.Number k ∷ os) pc w i rest u s r e h d = known_by base size k os pc w i rest u e d
+  element_on base size (waiting.Fram a ∷ os) pc w i rest u s r e h d = element_by base size (waiting.Fram a ∷ os) pc w i rest u s r e h d
+  element_on base size (waiting.Local n ∷ os) pc w i rest u s r e h d = element_by base size (waiting.Local n ∷ os) pc w i rest u s r e h d
+  element_on base size (waiting.R4 ∷ os) pc w i rest u s r e h d = element_by base size (waiting.R4 ∷ os) pc w i rest u s r e h d
+  element_on base size (waiting.R6 ∷ os) pc w i rest u s r e h d = element_by base size (waiting.R6 ∷ os) pc w i rest u s r e h d
 
   pub element_reaches : (base size : ℕ) (os : List Waiting) (pc : ℕ) (w : WordState) (vs : List ℕ) (u : Core) → size < 0x10000 → w.stack ≡ vs
       → AllByRecursion (λ v. v < 0x10000) vs → Stands z.code pc (step_code os (element base size)) → Describes z os pc w u
       → Does (waiting_behind os (element base size)) (pc + forms_bytes (step_code os (element base size))) (15 + owed os) u
       (with_top vs (λ i us. element_pushed base size i (with_stack us w)))
   element_reaches base size os pc w [] u s e l h d = tt
-  element_reaches base size os pc w (i ∷ rest) u s e l h d = element_by (nat_lt i size) base size os pc w i rest u refl s l.0 e h d
+  element_reaches base size os pc w (i ∷ rest) u s e l h d = element_on base size os pc w i rest u s l.0 e h d
 
   -- ---- versioned reads, where their code stands
 
@@ -428,27 +490,6 @@ module _ (z : Setting) where
   binary_part o os pc w [] u e l h d = tt
   binary_part o os pc w (y ∷ []) u e l h d = tt
   binary_part o os pc w (y ∷ (x ∷ rest)) u e l h d = binary_on o os pc w x y rest u e l.1.0 l.0 h d
-
-  -- ---- words that no code brings anywhere
-
-  waits_part : (o : Waiting) (os : List Waiting) (pc : ℕ) (w : WordState) (v n : ℕ) (u : Core) → IsThere z.locals w.locals o
-      → waiting_word w.fram w.locals u.work o ≡ v → owed_by o ≤ n → length w.stack < z.room → Describes z os pc w u
-      → Does (o ∷ os) (pc + 0) (n + owed os) u (goes_on [] (pushed v w))
-  waits_part o os pc w v n u there word less room d =
-      let same : pc ≡ pc + 0 = omega arith in
-      record {
-        spent = 0;
-        within = omega (arith, less);
-        runs = nothing_run z u _ (subst (λ p. Describes z (o ∷ os) p (pushed v w) u) same (waits_more z o os pc w v u there word room d));
-      }
-
-  pub number_part : (n : ℕ) (os : List Waiting) (pc : ℕ) (w : WordState) (u : Core) → length w.stack < z.room → Describes z os pc w u
-      → Does (waiting.Number n ∷ os) (pc + 0) (4 + owed os) u (goes_on [] (pushed n w))
-  number_part n os pc w u room d = waits_part (waiting.Number n) os pc w n 4 u tt refl (omega arith) room d
-
-  pub load_part : (a : ℕ) (os : List Waiting) (pc : ℕ) (w : WordState) (u : Core) → length w.stack < z.room → IsFram a → Describes z os pc w u
-      → Does (waiting.Fram a ∷ os) (pc + 0) (5 + owed os) u (goes_on [] (pushed (w.fram a) w))
-  load_part a os pc w u room f d = waits_part (waiting.Fram a) os pc w (w.fram a) 5 u f refl (omega arith) room d
 
   -- ---- statements
 

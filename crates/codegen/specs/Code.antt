@@ -67,9 +67,15 @@ pop_to b = Move Popped (ToRegister b)
 abbrev pub push_from : WorkRegister → Form
 push_from b = Push (Register b)
 
+-- a number as a source: some take no word of their own
+abbrev pub number_source : ℕ → Source
+number_source n =
+    if n == 0 then Constant konst.Zero else if n == 1 then Constant konst.One else if n == 2 then Constant konst.Two else if n == 4 then Constant konst.Four
+    else if n == 8 then Constant konst.Eight else if n == 0xFFFF then Constant konst.MinusOne else (Number n)
+
 -- a word that waits to be pushed, as a source: what an instruction names in its place
 abbrev pub waiting_source : Waiting → Source
-waiting_source (waiting.Number n) = Number n
+waiting_source (waiting.Number n) = number_source n
 waiting_source (waiting.Fram a) = Fram a
 waiting_source (waiting.Local n) = Register (local_register n)
 waiting_source waiting.R4 = Register R4
@@ -427,6 +433,24 @@ abbrev pub top_mask : Option Waiting → ℕ
 top_mask (Some (waiting.Number n)) = n - 1
 top_mask _ = 0
 
+-- the element of an array at a number is a word of FRAM, or 0
+abbrev pub known_element : ℕ → ℕ → ℕ → Waiting
+known_element base length k = if nat_lt k length then waiting.Fram (word_sum base (word_sum k k)) else (waiting.Number 0)
+
+-- the number that waits on top
+abbrev pub top_number : Option Waiting → Option ℕ
+top_number (Some (waiting.Number n)) = Some n
+top_number _ = None
+
+-- what waits behind an element of an array, whose index is a number that is known or not, and its code
+abbrev pub element_behind : Option ℕ → List Waiting → ℕ → ℕ → List Waiting
+element_behind (Some k) os base length = known_element base length k ∷ below_top os
+element_behind None os base length = waiting.R4 ∷ kept (below_top os)
+
+abbrev pub element_at : Option ℕ → List Waiting → ℕ → ℕ → List Form
+element_at (Some k) os base length = []
+element_at None os base length = top_to_four os ++ element_code base length
+
 -- an operation on two words, where the right side is no power of two that is known: what brings them to R4 and R5 or elsewhere, and the operation
 abbrev pub two_code : List Waiting → BinaryOperation → List Form
 two_code os (Plain o) = sides os ++ Calculate (plain_instruction o) (right_source (top_of os)) R4 ∷ []
@@ -459,7 +483,7 @@ waiting_behind os (local n) = if nat_lt n 8 then waiting.Local n ∷ os else []
 waiting_behind os (unary operation) = waiting.R4 ∷ kept (below_top os)
 waiting_behind os (binary operation) = power_result (top_power (top_of os)) operation ∷ kept (below_top (below_top os))
 waiting_behind os (shift operation k) = waiting.R4 ∷ kept (below_top os)
-waiting_behind os (element base length) = waiting.R4 ∷ kept (below_top os)
+waiting_behind os (element base length) = element_behind (top_number (top_of os)) os base length
 waiting_behind os (versioned_read place list) = waiting.R4 ∷ kept (below_top os)
 waiting_behind os sense = waiting.R4 ∷ kept os
 waiting_behind os _ = []
@@ -482,7 +506,7 @@ abbrev mutual
   step_code os (unary operation) = top_to_five os ++ unary_middle operation
   step_code os (binary operation) = power_code (top_power (top_of os)) os operation
   step_code os (shift operation k) = top_to_four os ++ shift_middle operation k
-  step_code os (element base length) = top_to_four os ++ element_code base length
+  step_code os (element base length) = element_at (top_number (top_of os)) os base length
   step_code os (emit_word count buffer) = (top_to_five os ++ flushed (kept (below_top os))) ++ emit_code count buffer
   step_code os (list_entry count list home copy words) = flushed os ++ entry_code count list home copy words
   step_code os (versioned_read place list) = top_to_four os ++ read_code place list

@@ -6,7 +6,7 @@ ghost use Rattle.msp_isa.specs.alp_words.declared.Width.TheVariants.{Word};
 ghost use Rattle.msp_isa.specs.declared.instructions.TwoOp.TheVariants as two_op;
 ghost use Rattle.code_forms.specs.Placed.{instructions};
 ghost use Rattle.array_versions.specs.Program as value;
-ghost use Rattle.codegen.specs.Code.{element_code, emit_code, words_source, entry_code, number_code, plain_instruction, ram_update, turn_end, step_code, waiting_behind};
+ghost use Rattle.codegen.specs.Code.{known_element, element_code, emit_code, words_source, entry_code, number_code, plain_instruction, ram_update, turn_end, step_code, waiting_behind};
 
 use crate::forms::{
     R4, R5, R6, TO_R4, TO_R5, TO_R6, absolute, branch, constant, jump, local_address,
@@ -14,7 +14,7 @@ use crate::forms::{
 };
 use crate::operations::plain_instruction;
 use crate::waiting::{
-    Waiting, emit_all, emit_below, emit_cleared, emit_top_to_five, emit_top_to_four, wait,
+    Waiting, emit_all, emit_below, emit_cleared, emit_top_to_five, emit_top_to_four, take, top_number, wait,
 };
 use array_versions::PlainOperation;
 use msp_isa::{Condition, Dst, IndexRegister, Instr, Konst, Operand, Reg, Src, TwoOp};
@@ -38,6 +38,17 @@ fn emit_fetch(base: u16, length: u16, code: &mut Vec<Instr>) -> Result<(), Alloc
     ])
 }
 
+// The element of an array at a number is a word of FRAM, or 0.
+fn known_element(base: u16, length: u16, index: u16) -> Waiting
+    ensures { result ≡ known_element base length index }
+{
+    if index < length {
+        Waiting::Fram(base.wrapping_add(index.wrapping_add(index)))
+    } else {
+        Waiting::Number(0)
+    }
+}
+
 /// Appends the code of an element of an array.
 pub fn emit_element(
     base: u16,
@@ -49,9 +60,17 @@ pub fn emit_element(
         ≡ code.old.items ++ instructions (step_code waiting.old.items (value.element base length))) }
     ensures waiting { OnOk result (waiting.new.items ≡ waiting_behind waiting.old.items (value.element base length)) }
 {
-    emit_top_to_four(waiting, code)?;
-    emit_fetch(base, length, code)?;
-    wait(Waiting::R4, waiting)
+    match top_number(waiting) {
+        Some(index) => {
+            take(waiting);
+            wait(known_element(base, length, index), waiting)
+        }
+        None => {
+            emit_top_to_four(waiting, code)?;
+            emit_fetch(base, length, code)?;
+            wait(Waiting::R4, waiting)
+        }
+    }
 }
 
 // The word in R5 behind those that are counted, then the count.

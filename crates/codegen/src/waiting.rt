@@ -5,9 +5,9 @@ ghost use Rattle.codegen.specs.declared.waiting.Waiting.TheVariants as words;
 ghost use Rattle.code_forms.specs.Forms.{source_operand};
 ghost use Rattle.code_forms.specs.Placed.{instructions};
 ghost use Rattle.codegen.specs.Code as made;
-ghost use Rattle.codegen.specs.Code.{flushed, top_of, below_top, is_held, any_held, cleared, kept, four_from, five_from, top_to_four, top_to_five, two_to_registers, stays, right_source, sides, power, top_power, top_mask};
+ghost use Rattle.codegen.specs.Code.{flushed, top_of, below_top, is_held, any_held, cleared, kept, four_from, five_from, top_to_four, top_to_five, two_to_registers, stays, right_source, sides, power, top_number, top_power, top_mask};
 
-use crate::forms::{POPPED, R4, R5, R6, TO_R4, TO_R5, absolute, local_register, push, two};
+use crate::forms::{POPPED, R4, R5, R6, TO_R4, TO_R5, absolute, local_register, number_source, push, two};
 use msp_isa::{Instr, Operand, SourceRegister, Src, TwoOp};
 use std::alloc::AllocError;
 
@@ -30,7 +30,7 @@ fn waiting_source(word: Waiting) -> Src
     ensures { result ≡ source_operand (made.waiting_source word) }
 {
     match word {
-        Waiting::Number(number) => Src::Immediate(number),
+        Waiting::Number(number) => number_source(number),
         Waiting::Fram(address) => absolute(address),
         Waiting::Local(n) => Src::Operand(Operand::Reg(SourceRegister::Index(local_register(n)))),
         Waiting::R4 => R4,
@@ -186,6 +186,16 @@ fn power(number: u16) -> Option<u16>
         Some(count as u16)
     } else {
         None
+    }
+}
+
+/// The number that waits on top.
+pub fn top_number(waiting: &[Waiting]) -> Option<u16>
+    ensures { result ≡ top_number (top_of waiting.now) }
+{
+    match waiting.first() {
+        Some(Waiting::Number(number)) => Some(*number),
+        _ => None,
     }
 }
 

@@ -1,13 +1,37 @@
-use Rattle.std.proofs.Common.{◌++◌, ap, ◌∙◌}
+use Rattle.std.proofs.Common.{◌≡◌, ◌++◌, ◌∷◌, [], Some, sym, ap, ap₂, ◌∙◌, append-nil}
 use Rattle.std.proofs.lemmas.Result.{on_ok_weaker}
 use Rattle.code_forms.specs.Placed.{instructions}
-use Rattle.codegen.specs.Code.{top_to_four, element_code}
+use Rattle.codegen.specs.Code.{top_of, top_to_four, element_code, top_number, element_behind, element_at}
 use Rattle.codegen.proofs.Emitted.{two_behind}
 use Rattle.codegen.proofs.steps.emit_element.Goals as goal
 
-pub returns-clause-code : goal.returns-clause-code
-returns-clause-code c =
+pub returns-in-Some-clause-code : goal.returns-in-Some-clause-code
+returns-in-Some-clause-code c =
     let old = c.args.code.now.items in
-    let front = top_to_four c.args.waiting.now.items in
+    let os = c.args.waiting.now.items in
+    let known = sym c.in-Some.is ∙ c.top_number.ensures ∙ ap (λ ws. top_number (top_of ws)) c.deref.ensures.value in
+    on_ok_weaker c.wait.result (λ w. sym (append-nil old) ∙ ap (λ k. old ++ instructions (element_at k os c.args.base c.args.length)) known) c.wait.ensures
+
+pub returns-in-Some-clause-waiting : goal.returns-in-Some-clause-waiting
+returns-in-Some-clause-waiting c =
+    let os = c.args.waiting.now.items in
+    let known = sym c.in-Some.is ∙ c.top_number.ensures ∙ ap (λ ws. top_number (top_of ws)) c.deref.ensures.value in
+    on_ok_weaker c.wait.result (λ w. w ∙ ap₂ (λ o ws. o ∷ ws) c.known_element.ensures c.take.ensures.below
+    ∙ ap (λ k. element_behind k os c.args.base c.args.length) known) c.wait.ensures
+
+pub returns-in-None-clause-code : goal.returns-in-None-clause-code
+returns-in-None-clause-code c =
+    let old = c.args.code.now.items in
+    let os = c.args.waiting.now.items in
+    let front = top_to_four os in
     let ms = element_code c.args.base c.args.length in
-    on_ok_weaker c.wait.result (λ w. c.in_ok-emit_fetch.ensures ∙ ap (λ l. l ++ instructions ms) c.in_ok-emit_top_to_four.ensures.code ∙ two_behind old front ms) c.wait.ensures
+    let known = sym c.in-None.is ∙ c.top_number.ensures ∙ ap (λ ws. top_number (top_of ws)) c.deref.ensures.value in
+    on_ok_weaker c.wait-in-None.result (λ w. c.in_ok-emit_fetch-in-None.ensures ∙ ap (λ l. l ++ instructions ms) c.in_ok-emit_top_to_four-in-None.ensures.code
+    ∙ two_behind old front ms ∙ ap (λ k. old ++ instructions (element_at k os c.args.base c.args.length)) known) c.wait-in-None.ensures
+
+pub returns-in-None-clause-waiting : goal.returns-in-None-clause-waiting
+returns-in-None-clause-waiting c =
+    let os = c.args.waiting.now.items in
+    let known = sym c.in-None.is ∙ c.top_number.ensures ∙ ap (λ ws. top_number (top_of ws)) c.deref.ensures.value in
+    on_ok_weaker c.wait-in-None.result (λ w. w ∙ ap (λ ws. _ ∷ ws) c.in_ok-emit_top_to_four-in-None.ensures.waiting
+    ∙ ap (λ k. element_behind k os c.args.base c.args.length) known) c.wait-in-None.ensures
