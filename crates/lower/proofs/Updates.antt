@@ -1,6 +1,6 @@
--- An assignment in place: `x = x + e` and its like.
-use Rattle.std.proofs.Common.{◌≡◌, ℕ, List, Bool, true, false, Option, Some, None, refl, sym, ap, ◌∙◌, if◌then◌else◌}
-use Rattle.std.proofs.lemmas.Bool.{eqb-true}
+-- An assignment in place: `x = x + e`, `a[i] = a[i] + e` and their like.
+use Rattle.std.proofs.Common.{◌≡◌, ℕ, List, Bool, true, false, ◌&&◌, Option, Some, None, refl, sym, ap, ◌∙◌, if◌then◌else◌}
+use Rattle.std.proofs.lemmas.Bool.{eqb-true, and_parts}
 use Rattle.task_ast.specs.Tree as t
 use Rattle.task_ast.specs.Paths.{CheckedExpression}
 use Rattle.task_ast.specs.declared.WordType.{WordType}
@@ -9,13 +9,13 @@ use Rattle.task_ast.specs.declared.BinaryOperator.TheVariants as operator
 use Rattle.task_ast.specs.declared.names.Variable.{Variable}
 use Rattle.task_ast.specs.declared.names.Variable.TheVariants.{Shared, Local}
 use Rattle.task_ast.specs.declared.names.VariableName.{VariableName}
-use Rattle.source_values.specs.Values.{◌>>?◌, word_at, joined_type, type_of, binary_value, value_of}
+use Rattle.source_values.specs.Values.{◌>>?◌, Variables, word_at, joined_type, type_of, binary_value, value_of}
 use Rattle.source_values.specs.Statements.{Attempt, Outcome, goes_on, if_value, assigned}
 use Rattle.array_versions.specs.declared.operations.PlainOperation.{PlainOperation}
 use Rattle.array_versions.specs.declared.operations.PlainOperation.TheVariants as plain
 use Rattle.array_versions.specs.Operations.{plain_word}
 use Rattle.lower.specs.Operations.{plain_operation}
-use Rattle.lower.specs.Lowered.{is_same, updating}
+use Rattle.lower.specs.Lowered.{is_same, is_name, updating, is_number, are_alike, element_updating}
 
 -- the left side is the variable alone, and the operator has an operation that is one instruction
 pub record IsUpdate (x : Variable) (op : BinaryOperator) (a : CheckedExpression) (o : PlainOperation) : Type 0 where
@@ -40,6 +40,49 @@ pub is_update : (x : Variable) (op : BinaryOperator) (a : CheckedExpression) (o 
 is_update x op (t.name y) o h = by_name (is_same x y.variable) x op y o refl h
 is_update x op a o h = absurd (cc)
 
+-- the left side is the element, at an index that is as its own, and the operator has an operation that is one instruction
+pub record IsElementUpdate (x : Variable) (index : CheckedExpression) (op : BinaryOperator) (a : CheckedExpression) (o : PlainOperation) : Type 0 where
+  pub name : VariableName
+  pub other : CheckedExpression
+  pub is : a ≡ t.element name other
+  pub same : name.variable ≡ x
+  pub alike : are_alike index other ≡ true
+  pub operation : plain_operation op ≡ Some o
+
+-- where the left side isn't the element, there is none
+by_element : (b : Bool) (x : Variable) (index : CheckedExpression) (op : BinaryOperator) (y : VariableName) (other : CheckedExpression) (o : PlainOperation)
+    → (is_same x y.variable && are_alike index other) ≡ b → (if b then plain_operation op else None) ≡ Some o
+    → IsElementUpdate x index op (t.element y other) o
+by_element true x index op y other o is h =
+    let both = and_parts (is_same x y.variable) (are_alike index other) is in
+    record { name = y; other = other; is = refl; same = same_variable x y.variable both.0; alike = both.1; operation = h }
+by_element false x index op y other o is h = absurd (cc)
+
+pub is_element_update : (x : Variable) (index : CheckedExpression) (op : BinaryOperator) (a : CheckedExpression) (o : PlainOperation)
+    → element_updating x index op a ≡ Some o → IsElementUpdate x index op a o
+is_element_update x index op (t.element y other) o h = by_element (is_same x y.variable && are_alike index other) x index op y other o refl h
+is_element_update x index op a o h = absurd (cc)
+
+-- two expressions have one word, and take no reading
+record HaveOneWord (m : Variables) (left : List ℕ) (a b : CheckedExpression) : Type 0 where
+  word : ℕ
+  first : value_of a m left ≡ Some (word, left)
+  second : value_of b m left ≡ Some (word, left)
+
+number_value : (m : Variables) (left : List ℕ) (n : ℕ) (e : CheckedExpression) → is_number n e ≡ true → value_of e m left ≡ Some (n, left)
+number_value m left n (t.number k) h = ap (λ w. Some (w, left)) (sym (eqb-true n k h))
+number_value m left n e h = absurd (cc)
+
+name_value : (m : Variables) (left : List ℕ) (x : Variable) (e : CheckedExpression) → is_name x e ≡ true
+    → value_of e m left ≡ Some (word_at m x 0, left)
+name_value m left x (t.name y) h = ap (λ z. Some (word_at m z 0, left)) (same_variable x y.variable h)
+name_value m left x e h = absurd (cc)
+
+alike_values : (m : Variables) (left : List ℕ) (a b : CheckedExpression) → are_alike a b ≡ true → HaveOneWord m left a b
+alike_values m left (t.number n) b h = record { word = n; first = refl; second = number_value m left n b h }
+alike_values m left (t.name x) b h = record { word = word_at m x.variable 0; first = refl; second = name_value m left x.variable b h }
+alike_values m left a b h = absurd (cc)
+
 -- the operator gives what the operation does
 plain_value : (op : BinaryOperator) (o : PlainOperation) (of : WordType) (a b : ℕ) → plain_operation op ≡ Some o
     → binary_value op of a b ≡ plain_word o a b
@@ -50,14 +93,14 @@ plain_value operator.Xor o of a b h = let e : plain.Xor ≡ o = cc in ap (λ p. 
 plain_value operator.Or o of a b h = let e : plain.Or ≡ o = cc in ap (λ p. plain_word p a b) e
 plain_value _ o of a b h = absurd (cc)
 
--- with the variable on the left side, an assignment goes on with what the operation does
-updated_value : (x : Variable) (op : BinaryOperator) (o : PlainOperation) (of : WordType) (m : Attempt) (right : Option (ℕ × List ℕ))
+-- with a word of the variable on the left side, an assignment to that word goes on with what the operation does
+updated_value : (x : Variable) (i : ℕ) (op : BinaryOperator) (o : PlainOperation) (of : WordType) (m : Attempt) (right : Option (ℕ × List ℕ))
     → plain_operation op ≡ Some o
-    → if_value (right >>? λ y. Some (binary_value op of (word_at m.variables x 0) y.0, y.1)) m (λ v s. goes_on (assigned s x 0 v))
-    ≡ if_value right m (λ v s. goes_on (assigned s x 0 (plain_word o (word_at m.variables x 0) v)))
-updated_value x op o of m None is = refl
-updated_value x op o of m (Some y) is =
-    ap (λ v. goes_on (assigned (record m { left = y.1 }) x 0 v)) (plain_value op o of (word_at m.variables x 0) y.0 is)
+    → if_value (right >>? λ y. Some (binary_value op of (word_at m.variables x i) y.0, y.1)) m (λ v s. goes_on (assigned s x i v))
+    ≡ if_value right m (λ v s. goes_on (assigned s x i (plain_word o (word_at m.variables x i) v)))
+updated_value x i op o of m None is = refl
+updated_value x i op o of m (Some y) is =
+    ap (λ v. goes_on (assigned (record m { left = y.1 }) x i v)) (plain_value op o of (word_at m.variables x i) y.0 is)
 
 pub update_goes_on : (x : Variable) (op : BinaryOperator) (a b : CheckedExpression) (o : PlainOperation) (m : Attempt) → IsUpdate x op a o
     → if_value (value_of (t.binary op a b) m.variables m.left) m (λ v s. goes_on (assigned s x 0 v))
@@ -68,4 +111,33 @@ update_goes_on x op a b o m u =
     let behind : ℕ → Outcome =
     λ n. if_value (right >>? λ y. Some (binary_value op of n y.0, y.1)) m (λ v s. goes_on (assigned s x 0 v)) in
     ap (λ e. if_value (value_of (t.binary op e b) m.variables m.left) m (λ v s. goes_on (assigned s x 0 v))) u.is
-    ∙ ap (λ y. behind (word_at m.variables y 0)) u.same ∙ updated_value x op o of m right u.operation
+    ∙ ap (λ y. behind (word_at m.variables y 0)) u.same ∙ updated_value x 0 op o of m right u.operation
+
+-- what an assignment to an element goes on with, where the index is evaluated first
+abbrev stored_value : Variable → CheckedExpression → ℕ → Attempt → Outcome
+stored_value x e i s = if_value (value_of e s.variables s.left) s (λ v s. goes_on (assigned s x i v))
+
+-- the same in place: behind the index the variables are as these
+abbrev updated_element : Variable → PlainOperation → CheckedExpression → Variables → ℕ → Attempt → Outcome
+updated_element x o b m i s = if_value (value_of b s.variables s.left) s (λ v s. goes_on (assigned s x i (plain_word o (word_at m x i) v)))
+
+pub element_update_goes_on : (x : Variable) (index : CheckedExpression) (op : BinaryOperator) (a b : CheckedExpression) (o : PlainOperation) (m : Attempt)
+    → IsElementUpdate x index op a o
+    → if_value (value_of index m.variables m.left) m (stored_value x (t.binary op a b))
+    ≡ if_value (value_of index m.variables m.left) m (updated_element x o b m.variables)
+element_update_goes_on x index op a b o m u =
+    let of = joined_type u.name.word_type (type_of b) in
+    let indexes = alike_values m.variables m.left index u.other u.alike in
+    let i = indexes.word in
+    let left_of : Option (ℕ × List ℕ) → Option (ℕ × List ℕ) = λ r. r >>? λ j. Some (word_at m.variables u.name.variable j.0, j.1) in
+    let behind_index : Option (ℕ × List ℕ) → Outcome =
+    λ r. if_value (left_of r >>? λ y. value_of b m.variables y.1 >>? λ z. Some (binary_value op of y.0 z.0, z.1)) m (λ v s. goes_on (assigned s x i v)) in
+    let right = value_of b m.variables m.left in
+    let behind_word : ℕ → Outcome =
+    λ n. if_value (right >>? λ z. Some (binary_value op of n z.0, z.1)) m (λ v s. goes_on (assigned s x i v)) in
+    ap (λ r. if_value r m (stored_value x (t.binary op a b))) indexes.first
+    ∙ ap (λ e. stored_value x (t.binary op e b) i m) u.is
+    ∙ ap behind_index indexes.second
+    ∙ ap (λ y. behind_word (word_at m.variables y i)) u.same
+    ∙ updated_value x i op o of m right u.operation
+    ∙ sym (ap (λ r. if_value r m (updated_element x o b m.variables)) indexes.first)

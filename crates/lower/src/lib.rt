@@ -14,5 +14,6 @@ mod operations;
 mod places;
 mod runs;
 mod statements;
+mod updates;
 
 pub use lowering::lower;
