@@ -244,18 +244,15 @@ module _ (z : Scene) (n i v elements len : ℕ) (c : ArrayCopies) (w : WordState
       by true = refl
       by false = refl
 
-  -- where the word is what an operation gives of the element and of another, the update is this store
+  -- where the word is what an operation gives of the element and of another, an update is this store
+  is_store : (op : PlainOperation) (y : ℕ) → plain_word op (word_at m.variables (Shared n) i) y ≡ v
+      → versioned_updated op place (list_place z.p) i y from ≡ versioned_stored place (list_place z.p) i v from
+  is_store op y given =
+      ⊎_elim
+      (λ l. update_stores op place (list_place z.p) i y v from l here_number (here_version l) (own_here l) (number_stays l)
+      (mark_stays l ∙ ap w.fram (version_is z.p x elements len c at)) (ap (λ u. plain_word op u y) (own_is l) ∙ given))
+      (λ l. updates_nothing op place (list_place z.p) i y v from l) (cases_lt i len)
+
   pub element_update_does : (op : PlainOperation) (y : ℕ) → plain_word op (word_at m.variables (Shared n) i) y ≡ v
       → Result (versioned_updated op place (list_place z.p) i y from)
-  element_update_does op y given = subst Result (sym (⊎_elim within beyond (cases_lt i len))) store_does
-    where
-      abbrev IsStore : Type 0
-      IsStore = versioned_updated op place (list_place z.p) i y from ≡ versioned_stored place (list_place z.p) i v from
-
-      within : i < len → IsStore
-      within l =
-          update_stores op place (list_place z.p) i y v from l here_number (here_version l) (own_here l) (number_stays l)
-          (mark_stays l ∙ ap w.fram (version_is z.p x elements len c at)) (ap (λ u. plain_word op u y) (own_is l) ∙ given)
-
-      beyond : len ≤ i → IsStore
-      beyond l = updates_nothing op place (list_place z.p) i y v from l
+  element_update_does op y given = subst Result (sym (is_store op y given)) store_does

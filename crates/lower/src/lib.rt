@@ -8,12 +8,12 @@
 #![tactic(auto)]
 
 mod expressions;
+mod in_place;
 pub mod laws;
 mod lowering;
 mod operations;
 mod places;
 mod runs;
 mod statements;
-mod updates;
 
 pub use lowering::lower;

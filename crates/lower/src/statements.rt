@@ -13,9 +13,9 @@ ghost use Rattle.lower.specs.Lowered.{index_and_value, element_setting, element_
 ghost use Rattle.lower.specs.Lowered.{lowered_expression, lowered_transition, lowered_statement, lowered_choice, lowered_block};
 
 use crate::expressions::{append, lower_expression, lower_test};
+use crate::in_place::{element_updating, updating};
 use crate::places::{TaskPlaces, local_number};
 use crate::runs::list_entries;
-use crate::updates::{element_updating, updating};
 use array_versions::{PlainOperation, WordProgram};
 use memory_map::RuntimeWord;
 use std::alloc::{AllocError, Global};
