@@ -74,7 +74,7 @@ abbrev mutual
   step_cycles (list_entry count list home copy words) = 26
   step_cycles (versioned_read place list) = 23
   step_cycles (versioned_write place list) = 79
-  step_cycles (versioned_update op place list) = 83
+  step_cycles (versioned_update op place list) = 86
   step_cycles sense = 6
   step_cycles (truth t) = test_cycles t + 5
   step_cycles (choose t taken otherwise) = test_cycles t + max (cycles_of taken + 3) (cycles_of otherwise)
@@ -114,7 +114,7 @@ abbrev mutual
   step_words (list_entry count list home copy words) = entry_words words
   step_words (versioned_read place list) = 18
   step_words (versioned_write place list) = 59
-  step_words (versioned_update op place list) = 68
+  step_words (versioned_update op place list) = 70
   step_words sense = 3
   step_words (truth t) = test_words t + 3
   step_words (choose t taken otherwise) = test_words t + 2 + words_of taken + words_of otherwise

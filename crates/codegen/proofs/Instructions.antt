@@ -1,21 +1,24 @@
 -- The forms of a program's code are instructions: their jumps reach no further than ten bits say.
-use Rattle.std.proofs.Common.{◌≡◌, ℕ, zero, suc, ◌+◌, ◌-◌, ◌*◌, ◌<◌, ◌==◌, refl, List, [], ◌∷◌, ◌++◌, arith, Bool, true, false, not, nat_le, nat_lt}
+use Rattle.std.proofs.Common.{◌≡◌, ℕ, zero, suc, ◌+◌, ◌-◌, ◌*◌, ◌<◌, ◌≤◌, ◌==◌, refl, List, [], ◌∷◌, ◌++◌, arith, Bool, true, false, not, nat_le, nat_lt}
 use Rattle.std.proofs.Common.{Option, Some, None}
 use Rattle.std.proofs.Common.{if◌then◌else◌}
 use Rattle.std.proofs.lemmas.Bool.Decides.{nat_tests}
 use Rattle.code_forms.specs.Forms as forms
-use Rattle.code_forms.specs.Forms.{R4, Constant, Number, Fram, Ram, ToFram, ToIndexed, Form, Move, Calculate, Update, Push, Jump, Skip, Branch, instruction_of}
+use Rattle.code_forms.specs.Forms.{R4, Constant, Number, Fram, Ram, ToRegister, ToFram, ToIndexed, Source, Form, Move, Calculate, Update, Push, Jump, Skip, Branch, instruction_of}
 use Rattle.msp_isa.specs.alp_words.Words.{word_sum}
 use Rattle.msp_isa.specs.declared.instructions.TwoOp.TheVariants as op
 use Rattle.msp_isa.specs.declared.instructions.Condition.{Condition}
 use Rattle.msp_isa.specs.declared.instructions.Condition.TheVariants as condition
 use Rattle.msp_isa.specs.declared.operands.Konst.TheVariants as konst
+use Rattle.code_forms.specs.Code.{forms_bytes}
 use Rattle.code_forms.specs.Placed.{instructions, AreInstructions}
+use Rattle.code_forms.proofs.Interface.{forms_bytes-append}
 use Rattle.msp_isa.specs.Encoding.{IsInstruction}
 use Rattle.array_versions.specs.declared.operations.UnaryOperation.{UnaryOperation}
 use Rattle.array_versions.specs.declared.operations.UnaryOperation.TheVariants.{Negate, Complement}
 use Rattle.array_versions.specs.declared.operations.BinaryOperation.{BinaryOperation}
 use Rattle.array_versions.specs.declared.operations.BinaryOperation.TheVariants.{Multiply, Divide, Remainder, Plain}
+use Rattle.array_versions.specs.declared.operations.PlainOperation.{PlainOperation}
 use Rattle.array_versions.specs.declared.operations.PlainOperation.TheVariants.{And}
 use Rattle.array_versions.specs.declared.operations.ShiftOperation.{ShiftOperation}
 use Rattle.array_versions.specs.declared.operations.ShiftOperation.TheVariants.{Left, Right, SignedRight}
@@ -26,7 +29,7 @@ use Rattle.array_versions.specs.declared.operations.Comparison.TheVariants.{Equa
 use Rattle.array_versions.specs.Program.{Step, Test, Program, number, load, keep, update, local, set_local, update_local, unary, binary, shift, element}
 use Rattle.array_versions.specs.Program.{emit_word}
 use Rattle.array_versions.specs.Program.{list_entry}
-use Rattle.array_versions.specs.Program.{versioned_read, versioned_write, sense, truth, choose, repeat, store_number, move_word, jump, holds}
+use Rattle.array_versions.specs.Program.{versioned_read, versioned_write, versioned_update, sense, truth, choose, repeat, store_number, move_word, jump, holds}
 use Rattle.array_versions.specs.Program.{compares}
 use Rattle.array_versions.specs.Program.{both, either, fails, nothing, step}
 use Rattle.codegen.specs.declared.waiting.Waiting.{Waiting}
@@ -36,7 +39,10 @@ use Rattle.codegen.specs.Code.{top_number, element_at, stays, sides, right_sourc
 use Rattle.codegen.specs.Code.{double, halve, right_code, shift_by, shift_middle, element_code, emit_code, pair_code, entry_code, read_code, write_code}
 use Rattle.codegen.specs.Code.{compare_form, holding, failing, size, pass_over, jump_back, decision, holds_code, compares_code, truth_code, number_code, turn_end}
 use Rattle.codegen.specs.Code.{turns_code, waiting_behind, waiting_after, step_code, test_code, steps_code, code_of}
+use Rattle.codegen.specs.Code.{rests, rest_source, to_rest, right_to_rest, update_sides, made_code, first_update, by_version, inside_update, checked_update}
+use Rattle.codegen.specs.Code.{known_update, known_index, update_at}
 use Rattle.codegen.specs.Laws.{CodeIsInstructions}
+use Rattle.codegen.proofs.UpdateBytes.{reads_bytes, made_bytes, first_bytes, inside_bytes, near_size}
 
 -- the forms are instructions
 abbrev Are : List Form → Type 0
@@ -194,6 +200,54 @@ element_at_are : (k : Option ℕ) (os : List Waiting) (base size : ℕ) → Are 
 element_at_are (Some k) os base size = tt
 element_at_are None os base size = are-append (top_to_four os) (element_code base size) (top_to_four_are os) (element_are base size)
 
+rest_are : (o : Option Waiting) → Are (to_rest o)
+rest_are o = right_are_by (rests o) o
+
+first_are : (o : PlainOperation) (x : Source) (place : ArrayPlace) (list : ListPlace) → Are (first_update o x place list)
+first_are o x place list = (tt, (tt, (tt, (tt, (write_are place list).1.1.1.1.1.1.1))))
+
+-- the two ways of an update, which are short
+ways_are : (again first : List Form) → forms_bytes again ≤ 400 → forms_bytes first ≤ 400 → Are again → Are first → Are (by_version again first)
+ways_are again first la lf h k =
+    let leave = Jump condition.Always (size first) ∷ [] in
+    let near : size first < 0x400 = omega (arith, near_size first 400 lf (omega arith)) in
+    let far : size (again ++ leave) < 0x400 =
+    omega (arith, near_size (again ++ leave) 402 (omega (arith, forms_bytes-append again leave, la)) (omega arith)) in
+    (far, are-append (again ++ leave) first (are-append again leave h (near, tt)) k)
+
+inside_are : (o : PlainOperation) (x : Source) (place : ArrayPlace) (list : ListPlace) → Are (inside_update o x place list)
+inside_are o x place list =
+    let again = made_code o x place.copies place.copies in
+    let first = first_update o x place list in
+    (tt, (tt, (tt, ways_are again first (omega (arith, made_bytes o x place.copies place.copies, reads_bytes o x))
+    (omega (arith, first_bytes o x place list, reads_bytes o x)) (tt, (tt, (tt, tt))) (first_are o x place list))))
+
+checked_are : (o : PlainOperation) (x : Source) (place : ArrayPlace) (list : ListPlace) → Are (checked_update o x place list)
+checked_are o x place list =
+    let ms = inside_update o x place list in
+    (tt, (omega (arith, near_size ms 200 (omega (arith, inside_bytes o x place list, reads_bytes o x)) (omega arith)), inside_are o x place list))
+
+known_are : (o : PlainOperation) (x : Source) (place : ArrayPlace) (list : ListPlace) (k : ℕ) → Are (known_update o x place list k)
+known_are o x place list k =
+    let again = Update (plain_instruction o) x (word_sum place.copies (word_sum k k)) ∷ [] in
+    let first = Move (Number (word_sum k k)) (ToRegister R4) ∷ first_update o x place list in
+    (tt, (tt, ways_are again first (omega (arith, reads_bytes o x)) (omega (arith, first_bytes o x place list, reads_bytes o x)) (tt, tt)
+    (tt, first_are o x place list)))
+
+in_place_are : (k : Option ℕ) (o : PlainOperation) (place : ArrayPlace) (list : ListPlace) (os : List Waiting) → Are (update_at k os o place list)
+in_place_are None o place list os =
+    let under = below_top os in
+    let x = rest_source (top_of os) in
+    let right = to_rest (top_of os) in
+    are-append (update_sides os) (checked_update o x place list) (are-append (flushed (below_top under)) (right ++ four_from (top_of under))
+    (flushed_are (below_top under)) (are-append right (four_from (top_of under)) (rest_are (top_of os)) (four_are (top_of under))))
+    (checked_are o x place list)
+in_place_are (Some k) o place list os =
+    let x = rest_source (top_of os) in
+    let below = below_top (below_top os) in
+    are-append (right_to_rest os) (known_update o x place list k) (are-append (flushed below) (to_rest (top_of os)) (flushed_are below) (rest_are (top_of os)))
+    (known_are o x place list k)
+
 block_are : (p : Program) → Are (steps_code [] p) → Are (code_of p)
 block_are p h = are-append (steps_code [] p) (flushed (waiting_after [] p)) h (flushed_are (waiting_after [] p))
 
@@ -226,6 +280,7 @@ mutual
       let ks = kept (below_top (below_top os)) in
       are-append (two_to_registers os ++ flushed ks) (write_code place list) (are-append (two_to_registers os) (flushed ks) (two_are os) (flushed_are ks))
       (write_are place list)
+  step_are (versioned_update o place list) os = in_place_are (known_index os place.length) o place list os
   step_are sense os = are-append (cleared os) (forms.Sense R4 ∷ []) (cleared_are os) (tt, tt)
   step_are (truth t) os =
       are-append (flushed os) (test_code t false 2 ++ truth_code) (flushed_are os) (are-append (test_code t false 2) truth_code (test_are t false 2) truth_are)

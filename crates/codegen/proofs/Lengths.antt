@@ -25,10 +25,12 @@ use Rattle.array_versions.specs.declared.operations.ShiftOperation.{ShiftOperati
 use Rattle.array_versions.specs.declared.operations.ShiftOperation.TheVariants.{Left, Right, SignedRight}
 use Rattle.array_versions.specs.declared.operations.Comparison.{Comparison}
 use Rattle.array_versions.specs.declared.operations.Comparison.TheVariants.{Equal, Below, Above, SignedBelow, SignedAbove, CommonBit}
+use Rattle.array_versions.specs.declared.program.ArrayPlace.{ArrayPlace}
+use Rattle.array_versions.specs.declared.program.ListPlace.{ListPlace}
 use Rattle.array_versions.specs.Program.{Step, Test, Program, number, load, keep, update, local, set_local, update_local, unary, binary, shift, element}
 use Rattle.array_versions.specs.Program.{emit_word}
 use Rattle.array_versions.specs.Program.{list_entry}
-use Rattle.array_versions.specs.Program.{versioned_read, versioned_write, sense, truth, choose, repeat, store_number, move_word, jump, holds}
+use Rattle.array_versions.specs.Program.{versioned_read, versioned_write, versioned_update, sense, truth, choose, repeat, store_number, move_word, jump, holds}
 use Rattle.array_versions.specs.Program.{compares}
 use Rattle.array_versions.specs.Program.{both, either, fails, nothing, step}
 use Rattle.array_versions.specs.Cost.{unary_words, binary_words, right_words, shift_words, entry_words, step_words, test_words, words_of}
@@ -40,7 +42,8 @@ use Rattle.codegen.specs.Code.{number_source, stays, sides, right_source, power,
 use Rattle.codegen.specs.Code.{plain_instruction, ram_update, update_code, repeated, double, halve, right_code, shift_by, shift_middle, element_code, emit_code}
 use Rattle.codegen.specs.Code.{pair_code, entry_code, read_code, write_code, compare_form, holding, failing, size, pass_over, jump_back, decision, holds_code}
 use Rattle.codegen.specs.Code.{compares_code, truth_code, number_code, turn_end, turns_code, waiting_behind, waiting_after, step_code, test_code, steps_code}
-use Rattle.codegen.specs.Code.{code_of}
+use Rattle.codegen.specs.Code.{code_of, rests, rest_source, to_rest, right_to_rest, update_sides, checked_update, known_update, known_index, update_at}
+use Rattle.codegen.proofs.UpdateBytes.{checked_bytes, known_bytes}
 use Rattle.codegen.specs.Laws.{CodeHasItsBytes, CodeHasItsWords}
 
 unary_length : (o : UnaryOperation) → 2 + forms_bytes (unary_middle o) + 2 ≤ 2 * unary_words o
@@ -286,6 +289,51 @@ element_short base n (waiting.R4 ∷ os) =
 element_short base n (waiting.R6 ∷ os) =
     omega (arith, forms_bytes-append (top_to_four (waiting.R6 ∷ os)) (element_code base n), top_to_four_short (waiting.R6 ∷ os))
 
+waiting_bytes : (o : Waiting) → source_bytes (waiting_source o) ≤ 2
+waiting_bytes (waiting.Number n) = number_bytes n
+waiting_bytes (waiting.Fram a) = omega arith
+waiting_bytes (waiting.Local n) = omega arith
+waiting_bytes waiting.R4 = omega arith
+waiting_bytes waiting.R6 = omega arith
+
+-- the right side of an update, which reads it twice
+rest_short_by : (b : Bool) (os : List Waiting) → rests (top_of os) ≡ b
+    → forms_bytes (if b then [] else five_from (top_of os)) + 2 * source_bytes (if b then source_from (top_of os) else (Register R5))
+    + kept_bytes (below_top os) ≤ 2 + kept_bytes os
+rest_short_by true [] e = absurd (let q = e in (cc))
+rest_short_by true (o ∷ os) e = omega (arith, source_short (o ∷ os), waiting_bytes o)
+rest_short_by false os e = omega (arith, five_short os)
+
+-- an element that is updated in place
+in_place_short : (k : Option ℕ) (o : PlainOperation) (place : ArrayPlace) (list : ListPlace) (os : List Waiting)
+    → forms_bytes (update_at k os o place list) + 0 ≤ 140 + kept_bytes os
+in_place_short None o place list os =
+    let under = below_top os in
+    let x = rest_source (top_of os) in
+    let right = to_rest (top_of os) in
+    omega (
+      arith,
+      forms_bytes-append (update_sides os) (checked_update o x place list),
+      forms_bytes-append (flushed (below_top under)) (right ++ four_from (top_of under)),
+      forms_bytes-append right (four_from (top_of under)),
+      flushed_short (below_top under),
+      rest_short_by (rests (top_of os)) os refl,
+      four_short under,
+      checked_bytes o x place list,
+    )
+in_place_short (Some k) o place list os =
+    let under = below_top os in
+    let x = rest_source (top_of os) in
+    omega (
+      arith,
+      forms_bytes-append (right_to_rest os) (known_update o x place list k),
+      forms_bytes-append (flushed (below_top under)) (to_rest (top_of os)),
+      flushed_short (below_top under),
+      rest_short_by (rests (top_of os)) os refl,
+      source_short under,
+      known_bytes o x place list k,
+    )
+
 local_short : (b : Bool) (n : ℕ) (os : List Waiting)
     → forms_bytes (if b then [] else (flushed os ++ Push (Ram (local_address n)) ∷ [])) + kept_bytes (if b then waiting.Local n ∷ os else []) ≤ 4 + kept_bytes os
 local_short true n os = omega arith
@@ -363,6 +411,7 @@ mutual
         two_short os,
         flushed_short ks,
       )
+  step_short (versioned_update o place list) os = in_place_short (known_index os place.length) o place list os
   step_short sense os = omega (arith, forms_bytes-append (cleared os) (forms.Sense R4 ∷ []), cleared_short os)
   step_short (truth t) os =
       behind_flushed os (test_code t false 2 ++ truth_code) (test_words t + 3)

@@ -14,6 +14,9 @@ mod Updates
 mod Access
 mod ListParts
 mod VersionParts
+mod UpdateBytes
+mod UpdateSides
+mod VersionUpdates
 mod ShiftParts
 mod Products
 mod Quotients

@@ -81,7 +81,7 @@ number_cases P n p f =
 number_price : (row : CycleRow) (n most : ℕ) → row.immediate ≤ most → row.register ≤ most → source_cycles row (source_operand (number_source n)) ≤ most
 number_price row n most a b = number_cases (λ s. source_cycles row (source_operand s) ≤ most) n a (λ k e. b)
 
-owed_least : (o : Waiting) → 3 ≤ owed_by o
+pub owed_least : (o : Waiting) → 3 ≤ owed_by o
 owed_least (waiting.Number n) = omega arith
 owed_least (waiting.Fram a) = omega arith
 owed_least (waiting.Local n) = omega arith
@@ -229,14 +229,14 @@ word_stays f l g h waiting.R6 e q = q
 
 -- ---- a word that waits, as a source
 
-source_still : (o : Waiting) (u : Core) → source_read (waiting_source o) u ≡ u
+pub source_still : (o : Waiting) (u : Core) → source_read (waiting_source o) u ≡ u
 source_still (waiting.Number n) u = number_cases (λ s. source_read s u ≡ u) n refl (λ k e. refl)
 source_still (waiting.Fram a) u = refl
 source_still (waiting.Local n) u = refl
 source_still waiting.R4 u = refl
 source_still waiting.R6 u = refl
 
-source_needs : (most : ℕ) (locals : ℕ → Option ℕ) (o : Waiting) (u : Core) → IsThere most locals o → SourceNeeds (waiting_source o) u
+pub source_needs : (most : ℕ) (locals : ℕ → Option ℕ) (o : Waiting) (u : Core) → IsThere most locals o → SourceNeeds (waiting_source o) u
 source_needs most locals (waiting.Number n) u h = number_cases (λ s. SourceNeeds s u) n tt (λ k e. tt)
 source_needs most locals (waiting.Fram a) u h = h
 source_needs most locals (waiting.Local n) u h = tt
@@ -296,7 +296,7 @@ pub record LoadedSides (z : Setting) (s : Source) (os : List Waiting) (pc : ℕ)
   pub still : source_read s t ≡ t
 
 module _ (z : Setting) where
-  source_word : (o : Waiting) (pc : ℕ) (w : WordState) (u : Core) → StandsFor z pc w u → IsThere z.locals w.locals o
+  pub source_word : (o : Waiting) (pc : ℕ) (w : WordState) (u : Core) → StandsFor z pc w u → IsThere z.locals w.locals o
       → source_value (waiting_source o) u ≡ waiting_word w.fram w.locals u.work o
   source_word (waiting.Number n) pc w u i h = number_cases (λ s. source_value s u ≡ n) n refl (λ k e. e)
   source_word (waiting.Fram a) pc w u i h = ap (λ f. f a) i.fram

@@ -13,7 +13,7 @@ use Rattle.array_versions.specs.Operations.{is_true, compare_words}
 use Rattle.array_versions.specs.Program.{Step, Test, Program, number, load, keep, update, local, set_local, update_local, unary, binary, shift, element}
 use Rattle.array_versions.specs.Program.{emit_word}
 use Rattle.array_versions.specs.Program.{list_entry}
-use Rattle.array_versions.specs.Program.{versioned_read, versioned_write, sense, truth, choose, repeat, store_number, move_word, jump, holds}
+use Rattle.array_versions.specs.Program.{versioned_read, versioned_write, versioned_update, sense, truth, choose, repeat, store_number, move_word, jump, holds}
 use Rattle.array_versions.specs.Program.{compares}
 use Rattle.array_versions.specs.Program.{both, either, fails, nothing, step}
 use Rattle.array_versions.specs.Behaviour.{WordState, started, End, GoesOn, Jumps, Short, Strays, Broken, Behaviour, with_stack, with_local}
@@ -47,6 +47,7 @@ use Rattle.codegen.proofs.Operands.{owed, clear_cycles, owed_kept, load_cycles, 
 use Rattle.codegen.proofs.Operands.{top_to_four_part, two_to_registers_part}
 use Rattle.codegen.proofs.Results.{Does, number_part, load_part, local_by, keep_reaches, update_reaches, set_reaches, update_local_reaches, unary_part, binary_part}
 use Rattle.codegen.proofs.Results.{shift_reaches, element_reaches, emit_reaches, read_reaches, write_reaches, sense_part, alone_part, push_under, push_under_two}
+use Rattle.codegen.proofs.VersionUpdates.{in_place_reaches}
 use Rattle.codegen.proofs.Lengths.{compare_length}
 
 -- a state from which what follows is fit, and which holds words
@@ -256,6 +257,8 @@ module _ (z : Setting) where
         read_reaches z place list os pc w w.stack u o.0.3 r.words_in.fram refl r.words_in.stack h d
     step_follows (versioned_write place list) next os pc w u r o l c h d =
         write_reaches z place list os pc w w.stack u o.0.3 r.words_in.fram refl r.words_in.stack h d
+    step_follows (versioned_update op place list) next os pc w u r o l c h d =
+        in_place_reaches z op place list o.0.3 os pc w w.stack u r.words_in.fram refl r.words_in.stack h d
     step_follows sense next os pc w u r o l c h d = sense_part z os pc w w.readings u (omega (arith, r.fit.1, r.matches.depth)) refl h d
     step_follows (truth t) next os pc w u r o l c h d =
         let a = test_code t false 2 in

@@ -35,7 +35,7 @@ use Rattle.array_versions.specs.declared.program.ListPlace.{ListPlace}
 use Rattle.array_versions.specs.Program.{Step, Test, Program, number, load, keep, update, local, set_local, update_local, unary, binary, shift, element}
 use Rattle.array_versions.specs.Program.{emit_word}
 use Rattle.array_versions.specs.Program.{list_entry}
-use Rattle.array_versions.specs.Program.{versioned_read, versioned_write, sense, truth, choose, repeat, store_number, move_word, jump, holds}
+use Rattle.array_versions.specs.Program.{versioned_read, versioned_write, versioned_update, sense, truth, choose, repeat, store_number, move_word, jump, holds}
 use Rattle.array_versions.specs.Program.{compares}
 use Rattle.array_versions.specs.Program.{both, either, fails, nothing, step}
 
@@ -471,6 +471,80 @@ abbrev pub power_result : Option ℕ → BinaryOperation → Waiting
 power_result None operation = binary_result operation
 power_result (Some k) operation = waiting.R4
 
+-- ---- an element that is updated in place
+
+-- the right side stays where it waits, but for registers for work
+abbrev pub rests : Option Waiting → Bool
+rests None = false
+rests (Some o) = not (is_held o)
+
+-- the right side then
+abbrev pub rest_source : Option Waiting → Source
+rest_source o = if rests o then source_from o else (Register R5)
+
+-- what brings it there
+abbrev pub to_rest : Option Waiting → List Form
+to_rest o = if rests o then [] else five_from o
+
+-- the same, all words below the two being pushed, where the index is a number that is known
+abbrev pub right_to_rest : List Waiting → List Form
+right_to_rest os = flushed (below_top (below_top os)) ++ to_rest (top_of os)
+
+-- and with the index to R4
+abbrev pub update_sides : List Waiting → List Form
+update_sides os = flushed (below_top (below_top os)) ++ (to_rest (top_of os) ++ four_from (top_of (below_top os)))
+
+-- a copy becomes what an operation gives of a word and of a source; R4 is the offset of both in their arrays
+abbrev pub made_code : PlainOperation → Source → ℕ → ℕ → List Form
+made_code o x from copies =
+    Move (Indexed R4 from) (ToRegister R7) ∷ Calculate (plain_instruction o) x R7 ∷ Move (Register R7) (ToIndexed R4 copies) ∷ []
+
+-- VER's word to R6
+abbrev pub attempt_form : ListPlace → Form
+attempt_form list = Move (Fram list.ver) (ToRegister R6)
+
+-- the first update of an element in an attempt, R4 being its offset. VER's word is read anew, since it could be the copy that has been stored
+abbrev pub first_update : PlainOperation → Source → ArrayPlace → ListPlace → List Form
+first_update o x place list = made_code o x place.elements place.copies ++ (attempt_form list ∷ first_code place list)
+
+-- one way or the other by the flags of the version word and VER's word: where they are equal, the one that is first here, with a jump over the other
+abbrev pub by_version : List Form → List Form → List Form
+by_version again first =
+    let next = again ++ Jump condition.Always (size first) ∷ [] in Jump condition.NotEqual (size next) ∷ (next ++ first)
+
+-- an update at the index in R4, which is below the length
+abbrev pub inside_update : PlainOperation → Source → ArrayPlace → ListPlace → List Form
+inside_update o x place list =
+    double ∷ attempt_form list ∷ Calculate op.Cmp (Indexed R4 place.versions) R6
+    ∷ by_version (made_code o x place.copies place.copies) (first_update o x place list)
+
+-- at any index in R4
+abbrev pub checked_update : PlainOperation → Source → ArrayPlace → ListPlace → List Form
+checked_update o x place list =
+    let inside = inside_update o x place list in
+    Calculate op.Cmp (Number place.length) R4 ∷ Jump condition.Carry (size inside) ∷ inside
+
+-- at a number that is known and below the length: its copy is updated by one instruction
+abbrev pub known_update : PlainOperation → Source → ArrayPlace → ListPlace → ℕ → List Form
+known_update o x place list k =
+    let offset = word_sum k k in
+    attempt_form list ∷ Calculate op.Cmp (Fram (word_sum place.versions offset)) R6
+    ∷ by_version (Update (plain_instruction o) x (word_sum place.copies offset) ∷ []) (Move (Number offset) (ToRegister R4) ∷ first_update o x place list)
+
+-- a number below a length
+abbrev pub if_below : ℕ → Option ℕ → Option ℕ
+if_below length None = None
+if_below length (Some k) = if nat_lt k length then Some k else None
+
+-- the number below a length that waits under the top
+abbrev pub known_index : List Waiting → ℕ → Option ℕ
+known_index os length = if_below length (top_number (top_of (below_top os)))
+
+-- an update, whose index is such a number or is not known
+abbrev pub update_at : Option ℕ → List Waiting → PlainOperation → ArrayPlace → ListPlace → List Form
+update_at (Some k) os o place list = right_to_rest os ++ known_update o (rest_source (top_of os)) place list k
+update_at None os o place list = update_sides os ++ checked_update o (rest_source (top_of os)) place list
+
 -- a local is pushed where it stands in RAM
 abbrev pub local_code : List Waiting → ℕ → List Form
 local_code os n = if nat_lt n 8 then [] else (flushed os ++ Push (Ram (local_address n)) ∷ [])
@@ -511,6 +585,7 @@ abbrev mutual
   step_code os (list_entry count list home copy words) = flushed os ++ entry_code count list home copy words
   step_code os (versioned_read place list) = top_to_four os ++ read_code place list
   step_code os (versioned_write place list) = (two_to_registers os ++ flushed (kept (below_top (below_top os)))) ++ write_code place list
+  step_code os (versioned_update o place list) = update_at (known_index os place.length) os o place list
   step_code os sense = cleared os ++ forms.Sense R4 ∷ []
   step_code os (truth t) = flushed os ++ (test_code t false 2 ++ truth_code)
   step_code os (choose t taken otherwise) =

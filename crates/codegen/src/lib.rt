@@ -3,6 +3,7 @@
 
 mod decisions;
 mod forms;
+mod in_place;
 pub mod laws;
 mod operations;
 mod program;

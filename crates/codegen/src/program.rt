@@ -10,6 +10,7 @@ ghost use Rattle.codegen.specs.Code.{code_of, step_code, steps_code, test_code, 
 
 use crate::decisions::{code_words, emit_compares, emit_holds, emit_jump_back, emit_pass_over};
 use crate::forms::{constant, jump, push};
+use crate::in_place::emit_versioned_update;
 use crate::operations::{emit_binary, emit_unary};
 use crate::shifts::emit_shift;
 use crate::steps::{
@@ -167,6 +168,9 @@ fn emit_step(
         WordStep::EmitWord { count, buffer } => emit_emit(*count, *buffer, waiting, code),
         WordStep::VersionedRead(place, list) => emit_versioned_read(*place, *list, waiting, code),
         WordStep::VersionedWrite(place, list) => emit_versioned_write(*place, *list, waiting, code),
+        WordStep::VersionedUpdate(operation, place, list) => {
+            emit_versioned_update(alloc, *operation, *place, *list, waiting, code)
+        }
         WordStep::Sense => emit_sense(waiting, code),
         WordStep::ListEntry {
             count,

@@ -17,8 +17,8 @@ use array_versions::{ArrayPlace, ListPlace};
 use msp_isa::{Condition, Dst, IndexRegister, Instr, Konst, Operand, Src, TwoOp};
 use std::alloc::AllocError;
 
-// The word at R4's address plus an address.
-fn at_r4(base: u16) -> Src
+/// The word at R4's address plus an address.
+pub fn at_r4(base: u16) -> Src
     ensures { result ≡ Srcs.Operand (Operands.Indexed index.R4 base) }
 {
     Src::Operand(Operand::Indexed(IndexRegister::R4, base))
@@ -166,8 +166,8 @@ fn emit_word(list: ListPlace, code: &mut Vec<Instr>) -> Result<(), AllocError>
     Ok(())
 }
 
-// What follows the first store to a copy.
-fn emit_first(place: ArrayPlace, list: ListPlace, code: &mut Vec<Instr>) -> Result<(), AllocError>
+/// Appends what follows the first store to a copy.
+pub fn emit_first(place: ArrayPlace, list: ListPlace, code: &mut Vec<Instr>) -> Result<(), AllocError>
     ensures { OnOk result (code.new.items ≡ code.old.items ++ instructions (first_code place list)) }
 {
     emit_mark(place, list, code)?;

@@ -5,7 +5,7 @@ ghost use Rattle.codegen.specs.declared.waiting.Waiting.TheVariants as words;
 ghost use Rattle.code_forms.specs.Forms.{source_operand};
 ghost use Rattle.code_forms.specs.Placed.{instructions};
 ghost use Rattle.codegen.specs.Code as made;
-ghost use Rattle.codegen.specs.Code.{flushed, top_of, below_top, is_held, any_held, cleared, kept, four_from, five_from, top_to_four, top_to_five, two_to_registers, stays, right_source, sides, power, top_number, top_power, top_mask};
+ghost use Rattle.codegen.specs.Code.{flushed, top_of, below_top, is_held, any_held, cleared, kept, four_from, five_from, top_to_four, top_to_five, two_to_registers, stays, right_source, sides, power, top_number, top_power, top_mask, rests, rest_source, to_rest};
 
 use crate::forms::{POPPED, R4, R5, R6, TO_R4, TO_R5, absolute, local_register, number_source, push, two};
 use msp_isa::{Instr, Operand, SourceRegister, Src, TwoOp};
@@ -123,8 +123,8 @@ pub fn emit_cleared(waiting: &mut Vec<Waiting>, code: &mut Vec<Instr>) -> Result
     }
 }
 
-// The top, which is taken, to R4.
-fn emit_to_four(top: Option<Waiting>, code: &mut Vec<Instr>) -> Result<(), AllocError>
+/// Appends what brings the top, which is taken, to R4.
+pub fn emit_to_four(top: Option<Waiting>, code: &mut Vec<Instr>) -> Result<(), AllocError>
     ensures { OnOk result (code.new.items ≡ code.old.items ++ instructions (four_from top)) }
 {
     match top {
@@ -175,6 +175,38 @@ pub fn emit_sides(waiting: &mut Vec<Waiting>, code: &mut Vec<Instr>) -> Result<S
     let source = emit_right(right, code)?;
     emit_to_four(left, code)?;
     Ok(source)
+}
+
+// The right side of an update stays where it waits, but for registers for work.
+fn rests(right: Option<Waiting>) -> bool
+    ensures { result ≡ rests right }
+{
+    match right {
+        None => false,
+        Some(word) => !is_held(word),
+    }
+}
+
+/// The right side of an update as a source.
+pub fn rest_source(right: Option<Waiting>) -> Src
+    ensures { result ≡ source_operand (rest_source right) }
+{
+    if rests(right) {
+        source_from(right)
+    } else {
+        R5
+    }
+}
+
+/// Appends what brings it there.
+pub fn emit_to_rest(right: Option<Waiting>, code: &mut Vec<Instr>) -> Result<(), AllocError>
+    ensures { OnOk result (code.new.items ≡ code.old.items ++ instructions (to_rest right)) }
+{
+    if rests(right) {
+        Ok(())
+    } else {
+        emit_to_five(right, code)
+    }
 }
 
 // The exponent of a power of two.

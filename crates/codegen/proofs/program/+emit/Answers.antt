@@ -12,7 +12,7 @@ use Rattle.array_versions.specs.Cost.{words_of, step_words, test_words}
 use Rattle.msp_isa.specs.declared.instructions.Condition.TheVariants as condition
 use Rattle.codegen.specs.Code.{flushed, holds_code, compares_code, truth_code, size, pass_over, jump_back, number_code, turn_end, turns_code, waiting_behind}
 use Rattle.codegen.specs.Code.{waiting_after, step_code, test_code, steps_code, code_of}
-use Rattle.codegen.proofs.Emitted.{step_of-choose, step_of-read, step_of-write, test_of-holds, test_of-compares, test_of-both, test_of-either}
+use Rattle.codegen.proofs.Emitted.{step_of-choose, step_of-read, step_of-write, step_of-update, test_of-holds, test_of-compares, test_of-both, test_of-either}
 use Rattle.codegen.proofs.Emitted.{part_behind, two_behind, own_behind, on_ok_items, words_at_most, own_words, step_owed, left_front}
 use Rattle.codegen.proofs.Lengths.{pass_short, turn_end_short, test_short, code_short}
 use Rattle.codegen.proofs.program.+emit.Goals as goal
@@ -122,6 +122,24 @@ pub emit_step-returns-in-VersionedWrite-clause-of_words : goal.emit_step-returns
 emit_step-returns-in-VersionedWrite-clause-of_words t c =
     let is = ap step_of c.in-VersionedWrite.is ∙ step_of-write c.in-VersionedWrite.place c.in-VersionedWrite.list in
     subst (λ s. OnOk c.emit_versioned_write.result (StepOfWords s)) (sym is) c.emit_versioned_write.ensures.of_words
+
+pub emit_step-returns-in-VersionedUpdate-clause-code : goal.emit_step-returns-in-VersionedUpdate-clause-code
+emit_step-returns-in-VersionedUpdate-clause-code t c =
+    let is = ap step_of c.in-VersionedUpdate.is ∙ step_of-update c.in-VersionedUpdate.operation c.in-VersionedUpdate.place c.in-VersionedUpdate.list in
+    subst (λ s. OnOk c.emit_versioned_update.result
+    (c.emit_versioned_update.new.code.items ≡ c.args.code.now.items ++ instructions (step_code c.args.waiting.now.items s))) (sym is)
+    c.emit_versioned_update.ensures.code
+
+pub emit_step-returns-in-VersionedUpdate-clause-waiting : goal.emit_step-returns-in-VersionedUpdate-clause-waiting
+emit_step-returns-in-VersionedUpdate-clause-waiting t c =
+    let is = ap step_of c.in-VersionedUpdate.is ∙ step_of-update c.in-VersionedUpdate.operation c.in-VersionedUpdate.place c.in-VersionedUpdate.list in
+    subst (λ s. OnOk c.emit_versioned_update.result (c.emit_versioned_update.new.waiting.items ≡ waiting_behind c.args.waiting.now.items s)) (sym is)
+    c.emit_versioned_update.ensures.waiting
+
+pub emit_step-returns-in-VersionedUpdate-clause-of_words : goal.emit_step-returns-in-VersionedUpdate-clause-of_words
+emit_step-returns-in-VersionedUpdate-clause-of_words t c =
+    let is = ap step_of c.in-VersionedUpdate.is ∙ step_of-update c.in-VersionedUpdate.operation c.in-VersionedUpdate.place c.in-VersionedUpdate.list in
+    subst (λ s. OnOk c.emit_versioned_update.result (StepOfWords s)) (sym is) c.emit_versioned_update.ensures.of_words
 
 pub emit_test-code_words-requires : goal.emit_test-code_words-requires
 emit_test-code_words-requires t c =
