@@ -4,7 +4,8 @@ use Rattle.std.proofs.Common.{Option, Some, None}
 use Rattle.std.proofs.Common.{if◌then◌else◌}
 use Rattle.std.proofs.lemmas.Bool.Decides.{nat_tests}
 use Rattle.code_forms.specs.Forms as forms
-use Rattle.code_forms.specs.Forms.{R4, Constant, Number, Fram, Ram, ToRegister, ToFram, ToIndexed, Source, Form, Move, Calculate, Update, Push, Jump, Skip, Branch, instruction_of}
+use Rattle.code_forms.specs.Forms.{R4, Constant, Number, Fram, Ram, ToRegister, ToFram, ToIndexed, Source, Form, Move, Calculate, Update, Push, Jump}
+use Rattle.code_forms.specs.Forms.{Skip, Branch, instruction_of}
 use Rattle.msp_isa.specs.alp_words.Words.{word_sum}
 use Rattle.msp_isa.specs.declared.instructions.TwoOp.TheVariants as op
 use Rattle.msp_isa.specs.declared.instructions.Condition.{Condition}
