@@ -4,7 +4,8 @@ use Rattle.std.proofs.Common.{Option, Some, None}
 use Rattle.std.proofs.Common.{if◌then◌else◌}
 use Rattle.std.proofs.lemmas.Bool.Decides.{nat_tests}
 use Rattle.code_forms.specs.Forms as forms
-use Rattle.code_forms.specs.Forms.{R4, Constant, Number, Fram, Ram, ToRegister, ToFram, ToIndexed, Source, Form, Move, Calculate, Update, Push, Jump, Skip, Branch, instruction_of}
+use Rattle.code_forms.specs.Forms.{R4, Constant, Number, Fram, Ram, ToRegister, ToFram, ToIndexed, Source, Form, Move, Calculate, Update, Push, Jump}
+use Rattle.code_forms.specs.Forms.{Skip, Branch, instruction_of}
 use Rattle.msp_isa.specs.alp_words.Words.{word_sum}
 use Rattle.msp_isa.specs.declared.instructions.TwoOp.TheVariants as op
 use Rattle.msp_isa.specs.declared.instructions.Condition.{Condition}
@@ -35,9 +36,11 @@ use Rattle.array_versions.specs.Program.{both, either, fails, nothing, step}
 use Rattle.codegen.specs.declared.waiting.Waiting.{Waiting}
 use Rattle.codegen.specs.declared.waiting.Waiting.TheVariants as waiting
 use Rattle.codegen.specs.Code.{local_address, local_target, waiting_source, flushed, top_of, source_from, below_top, any_held, cleared, kept, four_from}
-use Rattle.codegen.specs.Code.{top_number, element_at, stays, sides, right_source, top_power, top_mask, two_code, power_code, five_from, top_to_four, top_to_five, two_to_registers, unary_middle, binary_middle, plain_instruction, update_code, repeated}
+use Rattle.codegen.specs.Code.{top_number, element_at, stays, sides, right_source, top_power, top_mask, two_code, power_code, five_from, top_to_four}
+use Rattle.codegen.specs.Code.{top_to_five, two_to_registers, unary_middle, binary_middle, plain_instruction, update_code, repeated}
 use Rattle.codegen.specs.Code.{double, halve, right_code, shift_by, shift_middle, element_code, emit_code, pair_code, entry_code, read_code, write_code}
-use Rattle.codegen.specs.Code.{compare_form, holding, failing, size, pass_over, jump_back, decision, holds_code, compares_code, truth_code, number_code, turn_end}
+use Rattle.codegen.specs.Code.{compare_form, holding, failing, size, pass_over, jump_back, decision, holds_code, compares_code, truth_code, number_code}
+use Rattle.codegen.specs.Code.{turn_end}
 use Rattle.codegen.specs.Code.{turns_code, waiting_behind, waiting_after, step_code, test_code, steps_code, code_of}
 use Rattle.codegen.specs.Code.{rests, rest_source, to_rest, right_to_rest, update_sides, made_code, first_update, by_version, inside_update, checked_update}
 use Rattle.codegen.specs.Code.{known_update, known_index, update_at}

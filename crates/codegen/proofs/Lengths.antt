@@ -10,7 +10,8 @@ use Rattle.msp_isa.specs.declared.instructions.Condition.TheVariants as conditio
 use Rattle.msp_isa.specs.declared.operands.Konst.TheVariants as konst
 use Rattle.msp_isa.specs.Encoding.{encoding}
 use Rattle.code_forms.specs.Forms as forms
-use Rattle.code_forms.specs.Forms.{R4, R5, Register, Constant, Number, Fram, Ram, Source, source_bytes, ToRegister, ToFram, ToRam, ToIndexed, target_bytes, Form, Move}
+use Rattle.code_forms.specs.Forms.{R4, R5, Register, Constant, Number, Fram, Ram, Source, source_bytes, ToRegister, ToFram, ToRam, ToIndexed, target_bytes}
+use Rattle.code_forms.specs.Forms.{Form, Move}
 use Rattle.code_forms.specs.Forms.{Calculate, Update, Push, Jump, Skip, Branch, instruction_of, form_bytes}
 use Rattle.code_forms.specs.Code.{forms_bytes}
 use Rattle.code_forms.specs.Placed.{words_of as instruction_words, instructions}
@@ -38,7 +39,8 @@ use Rattle.codegen.specs.declared.waiting.Waiting.{Waiting}
 use Rattle.codegen.specs.declared.waiting.Waiting.TheVariants as waiting
 use Rattle.codegen.specs.Code.{local_register, local_address, local_target, waiting_source, flushed, top_of, source_from, below_top, any_held, cleared, kept}
 use Rattle.codegen.proofs.Operands.{number_cases}
-use Rattle.codegen.specs.Code.{number_source, stays, sides, right_source, power, top_power, two_code, power_code, power_result, four_from, five_from, top_to_four, top_to_five, two_to_registers, unary_middle, binary_middle, binary_result}
+use Rattle.codegen.specs.Code.{number_source, stays, sides, right_source, power, top_power, two_code, power_code, power_result, four_from, five_from}
+use Rattle.codegen.specs.Code.{top_to_four, top_to_five, two_to_registers, unary_middle, binary_middle, binary_result}
 use Rattle.codegen.specs.Code.{plain_instruction, ram_update, update_code, repeated, double, halve, right_code, shift_by, shift_middle, element_code, emit_code}
 use Rattle.codegen.specs.Code.{pair_code, entry_code, read_code, write_code, compare_form, holding, failing, size, pass_over, jump_back, decision, holds_code}
 use Rattle.codegen.specs.Code.{compares_code, truth_code, number_code, turn_end, turns_code, waiting_behind, waiting_after, step_code, test_code, steps_code}
@@ -335,7 +337,8 @@ in_place_short (Some k) o place list os =
     )
 
 local_short : (b : Bool) (n : ℕ) (os : List Waiting)
-    → forms_bytes (if b then [] else (flushed os ++ Push (Ram (local_address n)) ∷ [])) + kept_bytes (if b then waiting.Local n ∷ os else []) ≤ 4 + kept_bytes os
+    → forms_bytes (if b then [] else (flushed os ++ Push (Ram (local_address n)) ∷ [])) + kept_bytes (if b then waiting.Local n ∷ os else [])
+    ≤ 4 + kept_bytes os
 local_short true n os = omega arith
 local_short false n os = omega (arith, forms_bytes-append (flushed os) (Push (Ram (local_address n)) ∷ []), flushed_short os)
 

@@ -21,6 +21,7 @@ mod ShiftParts
 mod Products
 mod Quotients
 mod Emitted
+mod UpdateEmitted
 mod Prefixes
 mod Lengths
 mod Whole

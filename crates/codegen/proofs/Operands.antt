@@ -11,14 +11,16 @@ use Rattle.msp_isa.specs.declared.operands.Konst.TheVariants as konst
 use Rattle.msp_isa.specs.Constant.{constant_value}
 use Rattle.array_versions.specs.machine_effects.msp_cycles.Cycles.{CycleRow, cycles_of, source_cycles, to_register, to_memory, push}
 use Rattle.array_versions.proofs.machine_effects.Interface.{put_same, put_other}
-use Rattle.code_forms.specs.Forms.{WorkRegister, R4, R5, work_number, Core, Source, Register, Number, Constant, source_operand, source_bytes, source_value, source_read, SourceNeeds, ToRegister, Form}
+use Rattle.code_forms.specs.Forms.{WorkRegister, R4, R5, work_number, Core, Source, Register, Number, Constant, source_operand, source_bytes, source_value}
+use Rattle.code_forms.specs.Forms.{source_read, SourceNeeds, ToRegister, Form}
 use Rattle.code_forms.specs.Forms.{Move, Push, HasPushRoom, instruction_of, form_bytes}
 use Rattle.code_forms.specs.Code.{Stands, forms_bytes, Runs}
 use Rattle.code_forms.proofs.Interface.{stands_front, stands_back, forms_bytes-append}
 use Rattle.array_versions.specs.Behaviour.{WordState, with_stack, pushed}
 use Rattle.codegen.specs.declared.waiting.Waiting.{Waiting}
 use Rattle.codegen.specs.declared.waiting.Waiting.TheVariants as waiting
-use Rattle.codegen.specs.Code.{number_source, waiting_source, flushed, top_of, source_from, below_top, any_held, cleared, kept, four_from, five_from, top_to_four}
+use Rattle.codegen.specs.Code.{number_source, waiting_source, flushed, top_of, source_from, below_top, any_held, cleared, kept, four_from, five_from}
+use Rattle.codegen.specs.Code.{top_to_four}
 use Rattle.codegen.specs.Code.{stays, sides, right_source}
 use Rattle.codegen.specs.Code.{top_to_five, two_to_registers}
 use Rattle.codegen.proofs.Stretches.{Setting, hop, runs_on, dearer, nothing_run, so_runs}

@@ -1,5 +1,6 @@
 -- Steps where words wait: values that come to wait in a register, and statements behind which none waits.
-use Rattle.std.proofs.Common.{◌≡◌, ℕ, ◌+◌, ◌*◌, ◌<◌, ◌≤◌, ◌-◌, ◌/◌, ◌%◌, ◌^◌, ◌==◌, ◌&&◌, Bool, true, false, nat_lt, if◌then◌else◌, List, [], ◌∷◌, ◌++◌, length, Option, Some, None}
+use Rattle.std.proofs.Common.{◌≡◌, ℕ, ◌+◌, ◌*◌, ◌<◌, ◌≤◌, ◌-◌, ◌/◌, ◌%◌, ◌^◌, ◌==◌, ◌&&◌, Bool, true, false, nat_lt, if◌then◌else◌, List, [], ◌∷◌, ◌++◌}
+use Rattle.std.proofs.Common.{length, Option, Some, None}
 use Rattle.std.proofs.Common.{refl, sym, ap, ap₂, ◌∙◌, subst, arith, bit_and, w16, ltb-true, eqb-true, ne_eqb, le-leb}
 use Rattle.std.specs.Int.{trailing_zeros}
 use Rattle.std.proofs.lemmas.Option.{same_Some}
@@ -32,7 +33,8 @@ use Rattle.array_versions.specs.declared.operations.ShiftOperation.TheVariants.{
 use Rattle.array_versions.specs.Operations.{unary_word, plain_word, binary_word, shift_word}
 use Rattle.array_versions.specs.Program.{keep, update, set_local, update_local, unary, binary, shift, element, emit_word, versioned_read, versioned_write}
 use Rattle.array_versions.specs.Program.{sense}
-use Rattle.array_versions.specs.Behaviour.{WordState, Behaviour, GoesOn, goes_on, with_top, with_two, with_stack, with_local, pushed, is_place, at_place, word_stored}
+use Rattle.array_versions.specs.Behaviour.{WordState, Behaviour, GoesOn, goes_on, with_top, with_two, with_stack, with_local, pushed, is_place, at_place}
+use Rattle.array_versions.specs.Behaviour.{word_stored}
 use Rattle.array_versions.specs.Behaviour.{word_emitted, element_pushed, own_element, versioned_pushed, versioned_stored, reading_pushed}
 use Rattle.array_versions.specs.Cost.{unary_cycles, binary_cycles}
 use Rattle.codegen.specs.declared.waiting.Waiting.{Waiting}
@@ -202,14 +204,16 @@ module _ (z : Setting) where
       → (nat_lt i size ≡ false → Does after end most u (goes_on [] (with_stack (0 ∷ rest) w)))
       → (nat_lt i size ≡ true → IsFram (2 * i + base) → Does after end most u (goes_on [] (with_stack (w.fram (2 * i + base) ∷ rest) w)))
       → (let a = 2 * i + base in
-      let x : Behaviour = if b then at_place a (goes_on [] (with_stack (w.fram a ∷ rest) w)) else goes_on [] (with_stack (0 ∷ rest) w) in Does after end most u x)
+      let x : Behaviour = if b then at_place a (goes_on [] (with_stack (w.fram a ∷ rest) w)) else goes_on [] (with_stack (0 ∷ rest) w) in
+      Does after end most u x)
   by_length false base size after end most w i rest u lt none there = none lt
   by_length true base size after end most w i rest u lt none there =
       let a = 2 * i + base in
       reach_guarded z (is_place a) (owed after) (Describes z after end) most u (goes_on [] (with_stack (w.fram a ∷ rest) w)) (λ g. there lt (place_is a g))
 
   -- an element, by whether the index is below the length
-  element_by : (base size : ℕ) (os : List Waiting) (pc : ℕ) (w : WordState) (i : ℕ) (rest : List ℕ) (u : Core) → size < 0x10000 → i < 0x10000 → w.stack ≡ i ∷ rest
+  element_by : (base size : ℕ) (os : List Waiting) (pc : ℕ) (w : WordState) (i : ℕ) (rest : List ℕ) (u : Core) → size < 0x10000 → i < 0x10000
+      → w.stack ≡ i ∷ rest
       → (let ms = top_to_four os ++ element_code base size in Stands z.code pc ms → Describes z os pc w u
       → Does (waiting.R4 ∷ kept (below_top os)) (pc + forms_bytes ms) (15 + owed os) u (element_pushed base size i (with_stack rest w)))
   element_by base size os pc w i rest u s r e h d =
@@ -229,7 +233,8 @@ module _ (z : Setting) where
       by_length (nat_lt i size) base size after end (15 + owed os) w i rest u refl none there
 
   -- an element at a number that waits
-  known_by : (base size k : ℕ) (os : List Waiting) (pc : ℕ) (w : WordState) (i : ℕ) (rest : List ℕ) (u : Core) → w.stack ≡ i ∷ rest → Describes z (waiting.Number k ∷ os) pc w u
+  known_by : (base size k : ℕ) (os : List Waiting) (pc : ℕ) (w : WordState) (i : ℕ) (rest : List ℕ) (u : Core) → w.stack ≡ i ∷ rest
+      → Describes z (waiting.Number k ∷ os) pc w u
       → Does (known_element base size k ∷ os) (pc + 0) (15 + (owed os + 4)) u (element_pushed base size i (with_stack rest w))
   known_by base size k os pc w i rest u e d =
       let at = 2 * i + base in
@@ -333,7 +338,8 @@ module _ (z : Setting) where
       → BinaryMiddle z (binary_middle o) hand c (binary_word o) → IsThere z.locals w.locals (binary_result o) → owed_by (binary_result o) ≡ 3
       → ((f : ℕ → ℕ) → waiting_word w.fram w.locals f (binary_result o) ≡ f (work_number hand)) → w.stack ≡ y ∷ (x ∷ rest) → x < 0x10000 → y < 0x10000
       → (let ms = two_to_registers os ++ binary_middle o in Stands z.code pc ms → Describes z os pc w u
-      → Does (binary_result o ∷ kept (below_top (below_top os))) (pc + forms_bytes ms) (7 + c + owed os) u (goes_on [] (with_stack (binary_word o x y ∷ rest) w)))
+      → Does (binary_result o ∷ kept (below_top (below_top os))) (pc + forms_bytes ms) (7 + c + owed os) u
+        (goes_on [] (with_stack (binary_word o x y ∷ rest) w)))
   binary_by o hand c os pc w x y rest u m there three word e lx ly h d =
       let front = two_to_registers os in
       let ms = binary_middle o in

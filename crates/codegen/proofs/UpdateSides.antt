@@ -1,5 +1,6 @@
 -- The right side of an update of an element: it is read where it waits, whatever is in the registers for work.
-use Rattle.std.proofs.Common.{◌≡◌, ℕ, ◌+◌, ◌≤◌, Bool, true, false, not, if◌then◌else◌, List, [], ◌∷◌, ◌++◌, Option, Some, None, refl, sym, ap, ◌∙◌, subst, arith}
+use Rattle.std.proofs.Common.{◌≡◌, ℕ, ◌+◌, ◌≤◌, Bool, true, false, not, if◌then◌else◌, List, [], ◌∷◌, ◌++◌, Option, Some, None, refl, sym, ap, ◌∙◌}
+use Rattle.std.proofs.Common.{subst, arith}
 use Rattle.array_versions.specs.machine_effects.msp_cycles.Cycles.{source_cycles, to_register, to_memory}
 use Rattle.code_forms.specs.Forms.{R4, R5, Core, Source, Register, source_operand, source_value, source_read, SourceNeeds, Form}
 use Rattle.code_forms.specs.Code.{Stands, forms_bytes, Runs}
@@ -12,7 +13,7 @@ use Rattle.codegen.specs.Code.{right_to_rest, update_sides}
 use Rattle.codegen.proofs.Stretches.{Setting, runs_on, dearer, nothing_run, so_runs}
 use Rattle.codegen.proofs.Memory.{local_words, local_word, in_register}
 use Rattle.codegen.proofs.Follows.{StandsFor}
-use Rattle.codegen.proofs.Operands.{IsThere, owed_by, owed, owed_least, load_cycles, load_price, load_owed, store_price, number_cases, source_still, source_needs}
+use Rattle.codegen.proofs.Operands.{IsThere, owed, owed_least, load_cycles, load_price, load_owed, store_price, number_cases, source_still, source_needs}
 use Rattle.codegen.proofs.Operands.{source_word, Describes, Waits, Loaded, bare, flush_under, drop_part, five_part, four_part}
 
 -- a source that gives this word on each machine with this FRAM, this word in R5 and these locals in registers
@@ -48,7 +49,8 @@ waiting_gives most locals o v t b h e =
     }
 
 -- another machine, where these are the same
-pub gives_on : (x : Source) (v : ℕ) (u t : Core) → GivesOn x v u → t.fram ≡ u.fram → t.work 5 ≡ u.work 5 → local_words t.work ≡ local_words u.work → GivesOn x v t
+pub gives_on : (x : Source) (v : ℕ) (u t : Core) → GivesOn x v u → t.fram ≡ u.fram → t.work 5 ≡ u.work 5 → local_words t.work ≡ local_words u.work
+    → GivesOn x v t
 gives_on x v u t k f g l = record { word = λ s a b c. k.word s (a ∙ f) (b ∙ g) (c ∙ l); needs = k.needs; still = k.still }
 
 -- where but R4 is the same, the locals in registers are

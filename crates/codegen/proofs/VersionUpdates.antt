@@ -12,7 +12,7 @@ use Rattle.array_versions.specs.fram_board.Effects.{Store}
 use Rattle.array_versions.specs.machine_effects.World.{put}
 use Rattle.array_versions.specs.machine_effects.Going.{Goes}
 use Rattle.array_versions.specs.machine_effects.Machine.{IsFram}
-use Rattle.code_forms.specs.Forms.{R4, R6, R7, Core, Source, source_bytes, source_value, source_operand, source_read, Register, Number, Fram, Indexed, ToRegister}
+use Rattle.code_forms.specs.Forms.{R4, R6, R7, Core, Source, source_bytes, source_value, source_operand, Register, Number, Fram, Indexed, ToRegister}
 use Rattle.code_forms.specs.Forms.{ToIndexed, Form, Move, Calculate, Update, Jump, flags_after, calculated, instruction_of, form_bytes}
 use Rattle.code_forms.specs.Code.{Stands, forms_bytes, forms_run, Runs}
 use Rattle.code_forms.proofs.Interface.{stands_at, stands_front, stands_back, end_of, forms_bytes-append}
@@ -21,13 +21,13 @@ use Rattle.array_versions.specs.declared.program.ArrayPlace.{ArrayPlace}
 use Rattle.array_versions.specs.declared.program.ListPlace.{ListPlace}
 use Rattle.array_versions.specs.Operations.{plain_word}
 use Rattle.array_versions.specs.Program.{versioned_update}
-use Rattle.array_versions.specs.Behaviour.{WordState, Behaviour, goes_on, behind_effects, with_two, with_stack, is_place, at_place, stored, first_stored, own_place}
-use Rattle.array_versions.specs.Behaviour.{own_kept, own_updated, versioned_updated}
+use Rattle.array_versions.specs.Behaviour.{WordState, Behaviour, goes_on, behind_effects, with_two, with_stack, is_place, at_place, stored, first_stored}
+use Rattle.array_versions.specs.Behaviour.{own_place, own_kept, own_updated, versioned_updated}
 use Rattle.array_versions.proofs.Interface.{plain_small, put_words}
 use Rattle.codegen.specs.declared.waiting.Waiting.{Waiting}
 use Rattle.codegen.specs.declared.waiting.Waiting.TheVariants as waiting
-use Rattle.codegen.specs.Code.{top_of, below_top, plain_instruction, first_code, size, double, rest_source, right_to_rest, update_sides, made_code, attempt_form}
-use Rattle.codegen.specs.Code.{first_update, by_version, inside_update, checked_update, known_update, update_at, step_code}
+use Rattle.codegen.specs.Code.{top_of, below_top, plain_instruction, first_code, size, double, rest_source, right_to_rest, update_sides, made_code}
+use Rattle.codegen.specs.Code.{attempt_form, first_update, by_version, inside_update, checked_update, known_update, update_at, step_code}
 use Rattle.codegen.proofs.Stretches.{Setting, straight, hop, runs_on, dearer, so_runs}
 use Rattle.codegen.proofs.Memory.{place_is}
 use Rattle.codegen.proofs.Follows.{StandsFor, Follows, more_cycles, then_end, ends_at, guarded, stands_elsewhere, reach_more, then_reach, reaches}
@@ -59,7 +59,8 @@ known_place k base h = omega arith
 known_offset : (k base : ℕ) → 2 * k + base < 0x10000 → word_sum k k ≡ 2 * k
 known_offset k base h = omega arith
 
-module _ (z : Setting) (o : PlainOperation) (x : Source) (r : ℕ) (reads : source_cycles to_register (source_operand x) ≤ r) (place : ArrayPlace) (list : ListPlace) where
+module _ (z : Setting) (o : PlainOperation) (x : Source) (r : ℕ) (reads : source_cycles to_register (source_operand x) ≤ r) (place : ArrayPlace)
+    (list : ListPlace) where
   -- a flag says besides whether the version word is VER's
   record Looked (pc : ℕ) (w : WordState) (k v : ℕ) (b : Bool) (t : Core) : Type 0 where
     aims : Aims z x pc w k v t
@@ -104,7 +105,8 @@ module _ (z : Setting) (o : PlainOperation) (x : Source) (r : ℕ) (reads : sour
       (ap (λ q. Goes [] price (shape q)) (a.gives.still t)
       ∙ ap (λ b. Goes [] price (after (if b then put t.work 7 does.value else t.work))) needs.1 ∙ ap (λ p. Goes [] price (after (put t.work 7 p))) is) reads
       (record {
-        is = stands_elsewhere z pc (pc + form_bytes m) w t (after (put t.work 7 made)) a.is (ap (λ p. p + (2 + source_bytes x)) a.is.at) refl refl refl refl refl;
+        is = stands_elsewhere z pc (pc + form_bytes m) w t (after (put t.work 7 made)) a.is (ap (λ p. p + (2 + source_bytes x)) a.is.at)
+            refl refl refl refl refl;
         four = a.four;
         seven = refl;
       })
@@ -186,7 +188,7 @@ module _ (z : Setting) (o : PlainOperation) (x : Source) (r : ℕ) (reads : sour
       let back = stands_back z.code pc ms rest h in
       let sl = put_words w.fram c y wl (plain_small o (w.fram (2 * i + place.elements)) v (wl (2 * i + place.elements)) lv) in
       ends_at z (mid + 4 + 92) (pc + forms_bytes (first_update o x place list)) (68 + r) t (behind_effects (Store c y ∷ []) b) end
-      (more_cycles z (mid + 4 + 92) (7 + r + (3 + 58)) (68 + r) t (behind_effects (Store c y ∷ []) b).effects (behind_effects (Store c y ∷ []) b).end (omega arith)
+      (more_cycles z (mid + 4 + 92) (7 + r + (3 + 58)) (68 + r) t (Store c y ∷ b.effects) b.end (omega arith)
       (then_end z (mid + 4 + 92) (7 + r) (3 + 58) t (Has z R4 mid s (2 * i)) (Store c y ∷ []) b.effects b.end
       (made_part place.elements pc i v w t wl lv fe fc (stands_front z.code pc ms rest h) k) (λ u j.
       then_end z (mid + 4 + 92) 3 58 u (Numbered (mid + 4) s (2 * i)) [] b.effects b.end (number_part mid (2 * i) s u fv back.0 j) (λ q n.
@@ -194,7 +196,8 @@ module _ (z : Setting) (o : PlainOperation) (x : Source) (r : ℕ) (reads : sour
 
   -- ---- one way or the other
 
-  module _ (pc : ℕ) (again first : List Form) (h : Stands z.code pc (by_version again first)) (la : forms_bytes again ≤ 400) (lf : forms_bytes first ≤ 400) where
+  module _ (pc : ℕ) (again first : List Form) (h : Stands z.code pc (by_version again first)) (la : forms_bytes again ≤ 400)
+      (lf : forms_bytes first ≤ 400) where
     abbrev leave : List Form
     leave = Jump condition.Always (size first) ∷ []
 
@@ -216,7 +219,8 @@ module _ (z : Setting) (o : PlainOperation) (x : Source) (r : ℕ) (reads : sour
 
     -- the version word is VER's
     again_way : (c y n k v : ℕ) (w s : WordState) (t : Core) → Looked pc w k v true t
-        → ((u : Core) → Stands z.code (pc + 2) again → Aims z x (pc + 2) w k v u → Runs z.code (Store c y ∷ []) n u (StandsFor z (pc + 2 + forms_bytes again) s))
+        → ((u : Core) → Stands z.code (pc + 2) again → Aims z x (pc + 2) w k v u
+        → Runs z.code (Store c y ∷ []) n u (StandsFor z (pc + 2 + forms_bytes again) s))
         → Runs z.code (Store c y ∷ []) (2 + (n + 2)) t (StandsFor z end s)
     again_way c y n k v w s t j f =
         let p = j.aims.is.at in
@@ -403,7 +407,8 @@ module _ (z : Setting) (o : PlainOperation) (x : Source) (r : ℕ) (reads : sour
 
   -- a word of FRAM becomes what the operation gives of it and of the source
   place_part : (c pc v : ℕ) (w : WordState) (t : Core) → source_cycles to_memory (source_operand x) ≤ 6 → w.fram c < 0x10000 → v < 0x10000 → IsFram c
-      → (let m = Update (plain_instruction o) x c in let y = plain_word o (w.fram c) v in z.code pc ≡ Some (instruction_of m) → StandsFor z pc w t → GivesOn x v t
+      → (let m = Update (plain_instruction o) x c in let y = plain_word o (w.fram c) v in
+      z.code pc ≡ Some (instruction_of m) → StandsFor z pc w t → GivesOn x v t
       → Runs z.code (Store c y ∷ []) 6 t (StandsFor z (pc + form_bytes m) (stored c y w)))
   place_part c pc v w t writes l lv fc h i g =
       let m = Update (plain_instruction o) x c in
@@ -479,7 +484,8 @@ module _ (z : Setting) (o : PlainOperation) (x : Source) (r : ℕ) (reads : sour
         (place_part c' (pc + 8 + 2) v w u writes (wl c') lv (subst IsFram (sym at) fc) hs.0 a.is a.gives))
 
     -- the first update, R4 being loaded in front of it
-    afresh_part : (at : ℕ) (u : Core) → IsFram (2 * k + place.elements) → IsFram (2 * k + place.copies) → Stands z.code at known_first → Aims z x at w (t.work 4) v u
+    afresh_part : (at : ℕ) (u : Core) → IsFram (2 * k + place.elements) → IsFram (2 * k + place.copies) → Stands z.code at known_first
+        → Aims z x at w (t.work 4) v u
         → (let c = 2 * k + place.copies in let y = plain_word o (w.fram (2 * k + place.elements)) v in
         Follows z (at + forms_bytes known_first) (2 + (68 + r)) u (behind_effects (Store c y ∷ []) (first_stored place list k (stored c y w))))
     afresh_part at u fe fc hs a =
@@ -589,8 +595,8 @@ module _ (z : Setting) (o : PlainOperation) (place : ArrayPlace) (list : ListPla
       reaches z (Describes z [] end) end (78 + c) t b.effects b.end (dressed z end)
       (subst (λ n. Follows z end (78 + c) t (versioned_updated o place list n v left)) q.1
       (subst (λ y. Follows z end (78 + c) t (if y then own_updated o place list k v left else goes_on [] left)) (sym lt)
-      (known_part z o x c (reads_price (Some p)) place list k mid v left t (writes_price (Some p)) wl lv (stands_back z.code pc front ms h) (bare z mid left t q.0)
-      j.gives))))))
+      (known_part z o x c (reads_price (Some p)) place list k mid v left t (writes_price (Some p)) wl lv (stands_back z.code pc front ms h)
+      (bare z mid left t q.0) j.gives))))))
 
   update_on : (os : List Waiting) (pc : ℕ) (w : WordState) (i v : ℕ) (rest : List ℕ) (u : Core) → ((a : ℕ) → w.fram a < 0x10000) → i < 0x10000 → v < 0x10000
       → w.stack ≡ v ∷ (i ∷ rest) → Stands z.code pc (step_code os (versioned_update o place list)) → Describes z os pc w u

@@ -17,7 +17,8 @@ use Rattle.array_versions.specs.Program.{versioned_read, versioned_write, versio
 use Rattle.array_versions.specs.Program.{compares}
 use Rattle.array_versions.specs.Program.{both, either, fails, nothing, step}
 use Rattle.array_versions.specs.Behaviour.{WordState, started, End, GoesOn, Jumps, Short, Strays, Broken, Behaviour, with_stack, with_local}
-use Rattle.array_versions.specs.Behaviour.{with_top, with_two, is_place, local_pushed, local_updated, number_pushed, way_by_top, way_by_two, step_behaviour, then_on}
+use Rattle.array_versions.specs.Behaviour.{with_top, with_two, is_place, local_pushed, local_updated, number_pushed, way_by_top, way_by_two, step_behaviour}
+use Rattle.array_versions.specs.Behaviour.{then_on}
 use Rattle.array_versions.specs.Behaviour.{tested}
 use Rattle.array_versions.specs.Behaviour.{behaviour}
 use Rattle.array_versions.specs.Form.{Place, start, assigning, Moves, EachTurn, EachStepWay, EachTestWay, EachWay, StepLocalsBelow, TestLocalsBelow}
@@ -30,7 +31,8 @@ use Rattle.array_versions.proofs.Interface.{Matches, GoesWell, matches_local, st
 use Rattle.array_versions.proofs.Interface.{step_words as words_step, words, Leaves, leaves}
 use Rattle.codegen.specs.declared.waiting.Waiting.{Waiting}
 use Rattle.codegen.specs.declared.waiting.Waiting.TheVariants as waiting
-use Rattle.codegen.specs.Code.{flushed, top_of, below_top, kept, top_to_four, two_to_registers, entry_code, compare_form, holding, failing, size, pass_over, decision, holds_code, compares_code, truth_code}
+use Rattle.codegen.specs.Code.{flushed, top_of, below_top, kept, top_to_four, two_to_registers, entry_code, compare_form, holding, failing, size, pass_over}
+use Rattle.codegen.specs.Code.{decision, holds_code, compares_code, truth_code}
 use Rattle.codegen.specs.Code.{number_code, turns_code, waiting_behind, waiting_after, step_code, test_code, steps_code, code_of}
 use Rattle.codegen.specs.Laws.{ComesTo, CodeDoesAsProgram}
 use Rattle.codegen.proofs.Stretches.{Setting, runs_on, nothing_run}
@@ -45,8 +47,10 @@ use Rattle.codegen.proofs.Loops.{loop_by}
 use Rattle.codegen.proofs.Access.{entry_part}
 use Rattle.codegen.proofs.Operands.{owed, clear_cycles, owed_kept, load_cycles, load_owed, Describes, InRegister, LoadedTwo, dressed, flush_part}
 use Rattle.codegen.proofs.Operands.{top_to_four_part, two_to_registers_part}
-use Rattle.codegen.proofs.Results.{Does, number_part, load_part, local_by, keep_reaches, update_reaches, set_reaches, update_local_reaches, unary_part, binary_part}
-use Rattle.codegen.proofs.Results.{shift_reaches, element_reaches, emit_reaches, read_reaches, write_reaches, sense_part, alone_part, push_under, push_under_two}
+use Rattle.codegen.proofs.Results.{Does, number_part, load_part, local_by, keep_reaches, update_reaches, set_reaches, update_local_reaches, unary_part}
+use Rattle.codegen.proofs.Results.{binary_part}
+use Rattle.codegen.proofs.Results.{shift_reaches, element_reaches, emit_reaches, read_reaches, write_reaches, sense_part, alone_part, push_under}
+use Rattle.codegen.proofs.Results.{push_under_two}
 use Rattle.codegen.proofs.VersionUpdates.{in_place_reaches}
 use Rattle.codegen.proofs.Lengths.{compare_length}
 
@@ -139,7 +143,8 @@ module _ (z : Setting) where
         (λ x k. push_under z R4 (kept under) first t v x (stands_back z.code pc load pushes there) k) in
         more_cycles z end (l + owed (kept under) + 1 + 5 + (if b then ch t else cf t)) most u (if b then rh t else rf t).effects (if b then rh t else rf t).end
         (omega (arith, owed_kept under, load_owed os))
-        (decided_follows z when b (mid + 2) d holds_at fails_at (l + owed (kept under) + 1) end (ch t) (cf t) condition.NotEqual condition.Equal t u (rh t) (rf t)
+        (decided_follows z when b (mid + 2) d holds_at fails_at (l + owed (kept under) + 1) end (ch t) (cf t) condition.NotEqual condition.Equal t u (rh t)
+          (rf t)
         back.1 (fork_at when d holds_at fails_at (pc + forms_bytes (holds_code os when d)) (mid + 2 + forms_bytes last) behind fork) (omega arith)
         (runs_on z (l + owed (kept under)) 1 u (Has z R4 mid t v) _ [] [] come (λ x k. holds_part z mid v t x words.0 back.0 k))
         (λ x j. fh t x (popped held r.fit.2.0) j) (λ x j. ff t x (popped failed r.fit.2.1) j))

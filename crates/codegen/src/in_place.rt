@@ -6,7 +6,8 @@ ghost use Rattle.code_forms.specs.Placed.{instructions, words_of as instruction_
 ghost use Rattle.msp_isa.specs.declared.instructions.Condition.TheVariants as conditions;
 ghost use Rattle.array_versions.specs.Form.{ArrayOfWords, ListOfWords};
 ghost use Rattle.array_versions.specs.Program as value;
-ghost use Rattle.codegen.specs.Code.{flushed, top_of, below_top, four_from, top_number, rest_source, to_rest, made_code, attempt_form, first_update, inside_update, checked_update, known_update, if_below, step_code};
+ghost use Rattle.codegen.specs.Code.{flushed, top_of, below_top, four_from, top_number, rest_source, to_rest, made_code, attempt_form};
+ghost use Rattle.codegen.specs.Code.{first_update, inside_update, checked_update, known_update, if_below, step_code};
 
 use crate::decisions::code_words;
 use crate::forms::{R4, R7, TO_R4, TO_R6, TO_R7, absolute, jump, two};

@@ -6,7 +6,8 @@ ghost use Rattle.msp_isa.specs.alp_words.declared.Width.TheVariants.{Word};
 ghost use Rattle.msp_isa.specs.declared.instructions.TwoOp.TheVariants as two_op;
 ghost use Rattle.code_forms.specs.Placed.{instructions};
 ghost use Rattle.array_versions.specs.Program as value;
-ghost use Rattle.codegen.specs.Code.{known_element, element_code, emit_code, words_source, entry_code, number_code, plain_instruction, ram_update, turn_end, step_code, waiting_behind};
+ghost use Rattle.codegen.specs.Code.{known_element, element_code, emit_code, words_source, entry_code, number_code, plain_instruction, ram_update, turn_end};
+ghost use Rattle.codegen.specs.Code.{step_code, waiting_behind};
 
 use crate::forms::{
     R4, R5, R6, TO_R4, TO_R5, TO_R6, absolute, branch, constant, jump, local_address,

@@ -8,7 +8,8 @@ ghost use Rattle.array_versions.specs.Form.{ArrayOfWords, ListOfWords};
 ghost use Rattle.code_forms.specs.Placed.{instructions};
 ghost use Rattle.msp_isa.specs.alp_words.Words.{word_sum};
 ghost use Rattle.code_forms.specs.Forms as form;
-ghost use Rattle.codegen.specs.Code.{read_code, mark_code, last_code, end_test, longer_code, next_code, word_code, first_code, copy_code, write_code, step_code, waiting_behind};
+ghost use Rattle.codegen.specs.Code.{read_code, mark_code, last_code, end_test, longer_code, next_code, word_code, first_code, copy_code, write_code};
+ghost use Rattle.codegen.specs.Code.{step_code, waiting_behind};
 ghost use Rattle.array_versions.specs.Program as value;
 
 use crate::forms::{R4, R5, R6, R7, TO_R4, TO_R5, TO_R6, TO_R7, absolute, constant, jump, two};

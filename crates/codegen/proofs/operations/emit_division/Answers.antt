@@ -11,4 +11,5 @@ returns-clause-code c =
     let old = c.args.code.now.items in
     let front = two_to_registers c.args.waiting.now.items in
     let ms = divide_middle in
-    on_ok_weaker c.wait.result (λ w. c.in_ok-emit_divide.ensures ∙ ap (λ l. l ++ instructions ms) c.in_ok-emit_two_to_registers.ensures.code ∙ two_behind old front ms) c.wait.ensures
+    on_ok_weaker c.wait.result (λ w. c.in_ok-emit_divide.ensures ∙ ap (λ l. l ++ instructions ms) c.in_ok-emit_two_to_registers.ensures.code
+      ∙ two_behind old front ms) c.wait.ensures
