@@ -12,7 +12,7 @@ use Rattle.array_versions.specs.fram_board.Effects.{Effect, Store}
 use Rattle.array_versions.specs.machine_effects.World.{put}
 use Rattle.array_versions.specs.machine_effects.Going.{At, stretch}
 use Rattle.array_versions.specs.machine_effects.Machine.{IsFram}
-use Rattle.code_forms.specs.Forms.{R4, R5, Core, CoreStretch, Source, Number, Constant, ToRegister, ToIndexed, Form, Move, Calculate, Update}
+use Rattle.code_forms.specs.Forms.{R4, R5, Core, CoreStretch, Number, Constant, ToRegister, ToIndexed, Form, Move, Calculate, Update}
 use Rattle.code_forms.specs.Forms.{instruction_of, form_bytes}
 use Rattle.code_forms.specs.Code.{Stands, forms_bytes, forms_run, Runs}
 use Rattle.code_forms.proofs.Interface.{stands_at, stands_front, stands_back, end_of, forms_bytes-append}
@@ -22,10 +22,10 @@ use Rattle.codegen.proofs.Stretches.{Setting, straight, runs_on, dearer, so_runs
 use Rattle.codegen.proofs.Memory.{place_is}
 use Rattle.codegen.proofs.Follows.{StandsFor, Follows, ends_at, guarded, stands_elsewhere}
 use Rattle.codegen.proofs.ListParts.{sixfold, six_times, at_offset, plus_none}
-use Rattle.codegen.proofs.Registers.{Has, middle, jump_has, no_borrow}
+use Rattle.codegen.proofs.Registers.{Has, middle, jump_has}
 use Rattle.codegen.proofs.Jumps.{near_distance}
 use Rattle.codegen.proofs.Products.{jump_exact}
-use Rattle.codegen.proofs.Operands.{number_cases, Flushed}
+use Rattle.codegen.proofs.Operands.{Compared, Flushed, compare_number}
 
 twice : (n : ℕ) → n + n < 0x10000 → (n + n + 0) % 0x10000 ≡ n + n
 twice n h = omega arith
@@ -41,33 +41,6 @@ turned false x y = refl
 module _ (z : Setting) where
   -- ---- the check of an index
 
-  -- the registers are as they were, and a flag tells whether the index is not below the length
-  record Compared (pc : ℕ) (w : WordState) (g : ℕ → ℕ) (b : Bool) (t : Core) : Type 0 where
-    is : StandsFor z pc w t
-    work : t.work ≡ g
-    flag : t.flags.c ≡ b
-
-  compare_part : (pc i size : ℕ) (w : WordState) (t : Core) → i < 0x10000 → size < 0x10000 → t.work 4 ≡ i → StandsFor z pc w t
-      → (let m = Calculate op.Cmp (number_source size) R4 in z.code pc ≡ Some (instruction_of m)
-      → Runs z.code [] 2 t (Compared (pc + form_bytes m) w t.work (nat_le size i)))
-  compare_part pc i size w t a b v k =
-      let carry = ap (λ x. nat_le 0x10000 (x + (0xFFFF - size) + 1)) v ∙ no_borrow i size a b in
-      let P : Source → Type 0 = λ s. let m = Calculate op.Cmp s R4 in z.code pc ≡ Some (instruction_of m)
-      → Runs z.code [] 2 t (Compared (pc + form_bytes m) w t.work (nat_le size i)) in
-      number_cases P size
-      (λ h.
-      let ms = Calculate op.Cmp (Number size) R4 ∷ [] in
-      straight z ms 2 t (end_of t (forms_run ms t).status) [] 2 _ (tt, tt) (stands_at z.code pc ms t (h, tt) k.at) ((tt, tt), tt) refl (omega arith)
-      (record { is = stands_elsewhere z pc (pc + 4) w t _ k (omega (arith, k.at)) refl refl refl refl refl; work = refl; flag = carry }))
-      (λ c e h.
-      let ms = Calculate op.Cmp (Constant c) R4 ∷ [] in
-      straight z ms 2 t (end_of t (forms_run ms t).status) [] 1 _ (tt, tt) (stands_at z.code pc ms t (h, tt) k.at) ((tt, tt), tt) refl (omega arith)
-      (record {
-        is = stands_elsewhere z pc (pc + 2) w t _ k (omega (arith, k.at)) refl refl refl refl refl;
-        work = refl;
-        flag = ap (λ n. nat_le 0x10000 (t.work 4 + (0xFFFF - n) + 1)) e ∙ carry;
-      }))
-
   le_of_lt : (i size : ℕ) (b : Bool) → nat_lt i size ≡ b → nat_le size i ≡ not b
   le_of_lt i size true e = grind (arith, nat_tests)
   le_of_lt i size false e = grind (arith, nat_tests)
@@ -82,9 +55,9 @@ module _ (z : Setting) where
       let mid = pc + form_bytes m in
       let behind = pc + forms_bytes (check_code size over) in
       let same : mid + 2 ≡ behind = omega arith in
-      runs_on z 2 2 t (Compared mid w t.work (nat_le size i)) _ [] [] (compare_part pc i size w t r l v k h.0) (λ u j.
+      runs_on z 2 2 t (Compared z mid w t.work i size) _ [] [] (compare_number z R4 pc i size w t r l v k h.0) (λ u j.
       let at : u.pc + 2 ≡ behind = ap (λ n. n + 2) j.is.at ∙ same in
-      jump_exact z condition.Carry over to (not b) u _ (ap z.code j.is.at ∙ h.1.0) (j.flag ∙ le_of_lt i size b lt)
+      jump_exact z condition.Carry over to (not b) u _ (ap z.code j.is.at ∙ h.1.0) (j.carry ∙ le_of_lt i size b lt)
       (ap (λ n. if not b then sum16 n (distance over) else n) at ∙ turned b (sum16 behind (distance over)) behind ∙ e)
       (record { is = stands_elsewhere z mid to w u _ j.is refl refl refl refl refl refl; work = j.work }))
 

@@ -32,7 +32,8 @@ use Rattle.array_versions.specs.Program.{both, either, fails, nothing, step}
 use Rattle.codegen.specs.declared.bounds.Bound.{Bound}
 use Rattle.codegen.specs.declared.waiting.Waiting.{Waiting}
 use Rattle.codegen.specs.declared.waiting.Waiting.TheVariants as waiting
-use Rattle.codegen.specs.Code.{local_address, local_target, waiting_source, flushed, top_of, source_from, below_top, any_held, cleared, kept, four_from}
+use Rattle.codegen.specs.Code.{number_source, local_address, local_target, waiting_source, flushed, top_of, source_from, below_top, any_held, cleared, kept}
+use Rattle.codegen.specs.Code.{four_from}
 use Rattle.codegen.specs.Code.{top_number, element_at, stays, sides, right_source, top_power, top_mask, two_code, power_code, five_from, top_to_four}
 use Rattle.codegen.specs.Code.{top_to_five, two_to_registers, unary_middle, binary_middle, plain_instruction, update_code, repeated}
 use Rattle.codegen.specs.Code.{double, halve, right_code, shift_by, shift_middle, check_code, zero_code, fetch_code, element_code, emit_code, pair_code}
@@ -273,7 +274,7 @@ mutual
       are-append (flushed os) (number_code n from ++ (if nat_lt from below then turns else [])) (flushed_are os)
       (are-append (number_code n from) (if nat_lt from below then turns else []) (tt, tt)
       (either_are (nat_lt from below) turns [] (turns_are n below (block_code inner body) (block_are inner body (steps_are inner body []))) tt))
-  step_are bs (store_number a w) os = are-append (flushed os) (Move (Number w) (ToFram a) ∷ []) (flushed_are os) (tt, tt)
+  step_are bs (store_number a w) os = are-append (flushed os) (Move (number_source w) (ToFram a) ∷ []) (flushed_are os) (tt, tt)
   step_are bs (move_word from to) os = are-append (flushed os) (Move (Fram from) (ToFram to) ∷ []) (flushed_are os) (tt, tt)
   step_are bs (jump to) os = are-append (flushed os) (Branch to ∷ []) (flushed_are os) (tt, tt)
 

@@ -111,8 +111,11 @@ target_short : (n : ℕ) (b : Bool) → target_bytes (if b then ToRegister (loca
 target_short n true = omega arith
 target_short n false = omega arith
 
+number_bytes : (n : ℕ) → source_bytes (number_source n) ≤ 2
+number_bytes n = number_cases (λ s. source_bytes s ≤ 2) n (omega arith) (λ k e. omega arith)
+
 pub turn_end_short : (n below : ℕ) → forms_bytes (turn_end n below) ≤ 14
-turn_end_short n below = either_short (nat_lt n 8) _ _ 14 (omega arith) (omega arith)
+turn_end_short n below = either_short (nat_lt n 8) _ _ 14 (omega (arith, number_bytes below)) (omega (arith, number_bytes below))
 
 -- turns have ten words more than their body
 turns_short : (n below : ℕ) (body : List Form) → forms_bytes (turns_code n below body) ≤ forms_bytes body + 20
@@ -138,9 +141,6 @@ kept_bytes_of waiting.R6 = 2
 abbrev pub kept_bytes : List Waiting → ℕ
 kept_bytes [] = 0
 kept_bytes (o ∷ os) = kept_bytes os + kept_bytes_of o
-
-number_bytes : (n : ℕ) → source_bytes (number_source n) ≤ 2
-number_bytes n = number_cases (λ s. source_bytes s ≤ 2) n (omega arith) (λ k e. omega arith)
 
 push_short : (o : Waiting) → form_bytes (Push (waiting_source o)) ≤ kept_bytes_of o
 push_short (waiting.Number n) = omega (arith, number_bytes n)
@@ -433,10 +433,11 @@ mutual
         arith,
         forms_bytes-append (number_code n from) turns,
         target_short n (nat_lt n 8),
+        number_bytes from,
         either_short (nat_lt from below) (turns_code n below made) [] (forms_bytes made + 20) (turns_short n below made) (omega arith),
         block_short inner body (steps_short inner body []),
       ))
-  step_short bs (store_number a w) os = behind_flushed os (Move (Number w) (ToFram a) ∷ []) 3 (omega arith)
+  step_short bs (store_number a w) os = behind_flushed os (Move (number_source w) (ToFram a) ∷ []) 3 (omega (arith, number_bytes w))
   step_short bs (move_word from to) os = behind_flushed os (Move (Fram from) (ToFram to) ∷ []) 3 (omega arith)
   step_short bs (jump to) os = behind_flushed os (Branch to ∷ []) 2 (omega arith)
 

@@ -5,7 +5,7 @@ use Rattle.std.specs.List.{AllByRecursion}
 use Rattle.array_versions.specs.fram_board.Effects.{Effect}
 use Rattle.msp_isa.specs.declared.instructions.Condition.TheVariants as condition
 use Rattle.msp_isa.specs.declared.operands.Konst.TheVariants as konst
-use Rattle.code_forms.specs.Forms.{R4, Core, Form, form_bytes, Move, Branch, Number, Fram, ToFram}
+use Rattle.code_forms.specs.Forms.{R4, Core, Form, form_bytes, Move, Branch, Fram, ToFram}
 use Rattle.code_forms.specs.Code.{Stands, forms_bytes}
 use Rattle.code_forms.proofs.Interface.{stands_front, stands_back, forms_behind, forms_bytes-append}
 use Rattle.array_versions.specs.declared.operations.Comparison.{Comparison}
@@ -33,7 +33,8 @@ use Rattle.array_versions.proofs.Interface.{step_words as words_step, words, Lea
 use Rattle.codegen.specs.declared.bounds.Bound.{Bound}
 use Rattle.codegen.specs.declared.waiting.Waiting.{Waiting}
 use Rattle.codegen.specs.declared.waiting.Waiting.TheVariants as waiting
-use Rattle.codegen.specs.Code.{flushed, top_of, below_top, kept, top_to_four, two_to_registers, entry_code, compare_form, holding, failing, size, pass_over}
+use Rattle.codegen.specs.Code.{number_source, flushed, top_of, below_top, kept, top_to_four, two_to_registers, entry_code, compare_form, holding, failing, size}
+use Rattle.codegen.specs.Code.{pass_over}
 use Rattle.codegen.specs.Code.{decision, holds_code, compares_code, truth_code}
 use Rattle.codegen.specs.Code.{number_code, turns_code, waiting_behind, waiting_after, bound_of, step_code, test_code, steps_code, block_code, code_of}
 use Rattle.codegen.specs.Laws.{ComesTo, CodeDoesAsProgram}
@@ -355,7 +356,7 @@ module _ (z : Setting) where
         (bounded_on bs body (with_local n k s) around (bounded_with bs s.locals n k others p.bounded))
         (leaves n (Some k) body (with_local n k s) c.0 (assigned_same s.locals n k))))
     step_follows bs (store_number a v) next os pc w u r o l c spared h d =
-        alone_part z os (Move (Number v) (ToFram a) ∷ []) 5 pc w u (step_behaviour (store_number a v) w) h d
+        alone_part z os (Move (number_source v) (ToFram a) ∷ []) 5 pc w u (step_behaviour (store_number a v) w) h d
         (λ t s i. store_part z a v (pc + forms_bytes (flushed os)) w t s i)
     step_follows bs (move_word from to) next os pc w u r o l c spared h d =
         let at = pc + forms_bytes (flushed os) in

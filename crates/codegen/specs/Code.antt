@@ -405,18 +405,18 @@ truth_code = Push (Constant konst.One) ∷ Jump condition.Always 1 ∷ Push (Con
 
 -- a local becomes a number
 abbrev pub number_code : ℕ → ℕ → List Form
-number_code n k = Move (Number k) (local_target n) ∷ []
+number_code n k = Move (number_source k) (local_target n) ∷ []
 
 -- the end of a turn for a local in RAM: it goes up by one, and is compared with a number
 abbrev pub ram_turn_end : ℕ → ℕ → List Form
 ram_turn_end n below =
     Move (Ram (local_address n)) (ToRegister R4) ∷ Calculate op.Add (Constant konst.One) R4 ∷ Move (Register R4) (ToRam (local_address n))
-    ∷ Calculate op.Cmp (Number below) R4 ∷ []
+    ∷ Calculate op.Cmp (number_source below) R4 ∷ []
 
 -- the same for any local
 abbrev pub turn_end : ℕ → ℕ → List Form
 turn_end n below =
-    if nat_lt n 8 then Calculate op.Add (Constant konst.One) (local_register n) ∷ Calculate op.Cmp (Number below) (local_register n) ∷ []
+    if nat_lt n 8 then Calculate op.Add (Constant konst.One) (local_register n) ∷ Calculate op.Cmp (number_source below) (local_register n) ∷ []
     else (ram_turn_end n below)
 
 -- turns of a body until the local has come to a number: there is one at least, since the local is looked at behind each
@@ -558,7 +558,7 @@ abbrev mutual
   step_code bs os (repeat n from below body) =
       let block = steps_code (bound_of n below ∷ bs) [] body ++ flushed (waiting_after [] body) in
       flushed os ++ (number_code n from ++ (if nat_lt from below then turns_code n below block else []))
-  step_code bs os (store_number a w) = flushed os ++ Move (Number w) (ToFram a) ∷ []
+  step_code bs os (store_number a w) = flushed os ++ Move (number_source w) (ToFram a) ∷ []
   step_code bs os (move_word from to) = flushed os ++ Move (Fram from) (ToFram to) ∷ []
   step_code bs os (jump to) = flushed os ++ Branch to ∷ []
 

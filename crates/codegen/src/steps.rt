@@ -13,7 +13,7 @@ ghost use Rattle.codegen.specs.Code.{step_code, waiting_behind};
 use crate::bounds::{Bound, emit_check, emit_zero, is_inside};
 use crate::forms::{
     R4, R5, R6, TO_R4, TO_R5, TO_R6, absolute, branch, constant, jump, local_address,
-    local_register, local_target, push, two,
+    local_register, local_target, number_source, push, two,
 };
 use crate::operations::plain_instruction;
 use crate::waiting::{
@@ -192,7 +192,7 @@ pub fn emit_number(n: u16, number: u16, code: &mut Vec<Instr>) -> Result<(), All
     requires { n < 1008 }
     ensures { OnOk result (code.new.items ≡ code.old.items ++ instructions (number_code n number)) }
 {
-    code.extend_from_slice(&[two(TwoOp::Mov, Src::Immediate(number), local_target(n))])
+    code.extend_from_slice(&[two(TwoOp::Mov, number_source(number), local_target(n))])
 }
 
 /// Appends the end of a turn: the local goes up by one, and is compared with a number.
@@ -204,7 +204,7 @@ pub fn emit_turn_end(n: u16, below: u16, code: &mut Vec<Instr>) -> Result<(), Al
         let local = Dst::Reg(Reg::Index(local_register(n)));
         code.extend_from_slice(&[
             two(TwoOp::Add, constant(Konst::One), local),
-            two(TwoOp::Cmp, Src::Immediate(below), local),
+            two(TwoOp::Cmp, number_source(below), local),
         ])
     } else {
         let place = local_address(n);
@@ -212,7 +212,7 @@ pub fn emit_turn_end(n: u16, below: u16, code: &mut Vec<Instr>) -> Result<(), Al
             two(TwoOp::Mov, absolute(place), TO_R4),
             two(TwoOp::Add, constant(Konst::One), TO_R4),
             two(TwoOp::Mov, R4, Dst::Absolute(place)),
-            two(TwoOp::Cmp, Src::Immediate(below), TO_R4),
+            two(TwoOp::Cmp, number_source(below), TO_R4),
         ])
     }
 }
@@ -355,7 +355,7 @@ pub fn emit_store(
     ensures waiting { OnOk result (waiting.new.items ≡ []) }
 {
     emit_all(waiting, code)?;
-    emit_move(Src::Immediate(word), Dst::Absolute(address), code)
+    emit_move(number_source(word), Dst::Absolute(address), code)
 }
 
 /// Appends the code that copies a word of FRAM.
