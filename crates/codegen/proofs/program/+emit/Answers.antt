@@ -289,8 +289,9 @@ emit_loop-code_words-over-requires t c =
     let made = block_code inner body in
     let end = turn_end n c.args.below in
     let turn = c.in_ok-emit_turn_end.ensures ∙ ap (λ l. l ++ instructions end)
-    (c.in_ok-emit_block.ensures.code ∙ ap (λ l. l ++ instructions made) c.new-turn.ensures.items) ∙ sym (instructions-append made end) in
-    let words = own_words c.deref-then-from-below.result.now (made ++ end) (c.deref-then-from-below.ensures.value ∙ turn) in
+    (c.in_ok-emit_block.ensures.code ∙ ap (λ ws. c.new-turn.result.items ++ instructions (block_code ws (steps_of c.args.body.now)))
+    (c.deref.ensures.value ∙ c.in_ok-inner.ensures) ∙ ap (λ l. l ++ instructions made) c.new-turn.ensures.items) ∙ sym (instructions-append made end) in
+    let words = own_words c.deref-then-from-below-2.result.now (made ++ end) (c.deref-then-from-below-2.ensures.value ∙ turn) in
     omega (arith, words, forms_bytes-append made end, inner_short inner body, turn_end_short n c.args.below, c.requires.room)
 
 pub emit_loop-emit_jump_back-requires : goal.emit_loop-emit_jump_back-requires
@@ -301,8 +302,9 @@ emit_loop-emit_jump_back-requires t c =
     let made = block_code inner body in
     let end = turn_end n c.args.below in
     let turn = c.in_ok-emit_turn_end.ensures ∙ ap (λ l. l ++ instructions end)
-    (c.in_ok-emit_block.ensures.code ∙ ap (λ l. l ++ instructions made) c.new-turn.ensures.items) ∙ sym (instructions-append made end) in
-    let words = own_words c.deref-then-from-below.result.now (made ++ end) (c.deref-then-from-below.ensures.value ∙ turn) in
+    (c.in_ok-emit_block.ensures.code ∙ ap (λ ws. c.new-turn.result.items ++ instructions (block_code ws (steps_of c.args.body.now)))
+    (c.deref.ensures.value ∙ c.in_ok-inner.ensures) ∙ ap (λ l. l ++ instructions made) c.new-turn.ensures.items) ∙ sym (instructions-append made end) in
+    let words = own_words c.deref-then-from-below-2.result.now (made ++ end) (c.deref-then-from-below-2.ensures.value ∙ turn) in
     omega (arith, words, forms_bytes-append made end, inner_short inner body, turn_end_short n c.args.below, c.requires.room, c.code_words-over.ensures)
 
 pub emit_loop-returns-then-from-below-clause-code : goal.emit_loop-returns-then-from-below-clause-code
@@ -316,9 +318,10 @@ emit_loop-returns-then-from-below-clause-code t c =
     let turn = made ++ turn_end c.args.n below in
     let back = jump_back condition.NotEqual condition.Equal in
     let own = c.in_ok-emit_turn_end.ensures ∙ ap (λ l. l ++ instructions (turn_end c.args.n below))
-    (c.in_ok-emit_block.ensures.code ∙ ap (λ l. l ++ instructions made) c.new-turn.ensures.items) ∙ sym (instructions-append made (turn_end c.args.n below)) in
-    let words = own_words c.deref-then-from-below.result.now turn (c.deref-then-from-below.ensures.value ∙ own) in
-    let first = c.in_ok-extend_from_slice.ensures.items ∙ ap (λ l. c.emit_number.new.code.items ++ l) (c.deref.ensures.value ∙ own)
+    (c.in_ok-emit_block.ensures.code ∙ ap (λ ws. c.new-turn.result.items ++ instructions (block_code ws (steps_of c.args.body.now)))
+    (c.deref.ensures.value ∙ c.in_ok-inner.ensures) ∙ ap (λ l. l ++ instructions made) c.new-turn.ensures.items) ∙ sym (instructions-append made (turn_end c.args.n below)) in
+    let words = own_words c.deref-then-from-below-2.result.now turn (c.deref-then-from-below-2.ensures.value ∙ own) in
+    let first = c.in_ok-extend_from_slice.ensures.items ∙ ap (λ l. c.emit_number.new.code.items ++ l) (c.deref-then-from-below.ensures.value ∙ own)
     ∙ ap (λ l. l ++ instructions turn) c.in_ok-emit_number.ensures ∙ two_behind c.emit_all.new.code.items start turn
     ∙ ap (λ l. l ++ instructions (start ++ turn)) c.in_ok-emit_all.ensures.code ∙ two_behind old pushes (start ++ turn) in
     part_behind c.emit_jump_back.result old c.extend_from_slice.new.self.items c.emit_jump_back.new.code.items (pushes ++ (start ++ turn))
