@@ -319,7 +319,8 @@ emit_loop-returns-then-from-below-clause-code t c =
     let back = jump_back condition.NotEqual condition.Equal in
     let own = c.in_ok-emit_turn_end.ensures ∙ ap (λ l. l ++ instructions (turn_end c.args.n below))
     (c.in_ok-emit_block.ensures.code ∙ ap (λ ws. c.new-turn.result.items ++ instructions (block_code ws (steps_of c.args.body.now)))
-    (c.deref.ensures.value ∙ c.in_ok-inner.ensures) ∙ ap (λ l. l ++ instructions made) c.new-turn.ensures.items) ∙ sym (instructions-append made (turn_end c.args.n below)) in
+    (c.deref.ensures.value ∙ c.in_ok-inner.ensures) ∙ ap (λ l. l ++ instructions made) c.new-turn.ensures.items)
+    ∙ sym (instructions-append made (turn_end c.args.n below)) in
     let words = own_words c.deref-then-from-below-2.result.now turn (c.deref-then-from-below-2.ensures.value ∙ own) in
     let first = c.in_ok-extend_from_slice.ensures.items ∙ ap (λ l. c.emit_number.new.code.items ++ l) (c.deref-then-from-below.ensures.value ∙ own)
     ∙ ap (λ l. l ++ instructions turn) c.in_ok-emit_number.ensures ∙ two_behind c.emit_all.new.code.items start turn
