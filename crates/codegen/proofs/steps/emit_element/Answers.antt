@@ -21,8 +21,8 @@ returns-in-Some-clause-waiting c =
     on_ok_weaker c.wait.result (λ w. w ∙ ap₂ (λ o ws. o ∷ ws) c.known_element.ensures c.take.ensures.below
     ∙ ap (λ k. element_behind k os c.args.base c.args.length) known) c.wait.ensures
 
-pub returns-in-None-clause-code : goal.returns-in-None-clause-code
-returns-in-None-clause-code c =
+pub returns-in_ok-emit_indexed-in-None-clause-code : goal.returns-in_ok-emit_indexed-in-None-clause-code
+returns-in_ok-emit_indexed-in-None-clause-code c =
     let old = c.args.code.now.items in
     let os = c.args.waiting.now.items in
     let front = top_to_four os in
@@ -35,8 +35,8 @@ returns-in-None-clause-code c =
     ∙ ap (λ l. l ++ instructions (indexed sure)) c.in_ok-emit_top_to_four-in-None.ensures.code ∙ two_behind old front (indexed sure)
     ∙ ap (λ k. old ++ instructions (element_at sure k os c.args.base c.args.length)) known) c.wait-in-None.ensures
 
-pub returns-in-None-clause-waiting : goal.returns-in-None-clause-waiting
-returns-in-None-clause-waiting c =
+pub returns-in_ok-emit_indexed-in-None-clause-waiting : goal.returns-in_ok-emit_indexed-in-None-clause-waiting
+returns-in_ok-emit_indexed-in-None-clause-waiting c =
     let os = c.args.waiting.now.items in
     let known = sym c.in-None.is ∙ c.top_number.ensures ∙ ap (λ ws. top_number (top_of ws)) c.deref-2.ensures.value in
     on_ok_weaker c.wait-in-None.result (λ w. w ∙ ap (λ ws. _ ∷ ws) c.in_ok-emit_top_to_four-in-None.ensures.waiting
