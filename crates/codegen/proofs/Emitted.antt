@@ -34,6 +34,7 @@ use Rattle.array_versions.specs.Program.{compares}
 use Rattle.array_versions.specs.Program.{both, either, fails, nothing, step}
 use Rattle.array_versions.specs.View.{step_of, steps_of, test_of}
 use Rattle.array_versions.specs.Form.{StepLocalsBelow, TestLocalsBelow, LocalsBelow}
+use Rattle.codegen.specs.declared.bounds.Bound.{Bound}
 use Rattle.codegen.specs.declared.waiting.Waiting.{Waiting}
 use Rattle.codegen.specs.Code.{waiting_source, flushed, top_of, below_top, is_held, any_held, repeated, size, waiting_behind, step_code, steps_code}
 
@@ -72,13 +73,14 @@ left_front xs i x l e =
     ap steps_of (drop-cons xs i x l) ∙ ap (λ y. steps_of (y ∷ drop (suc i) xs)) (sym e) ∙ ap (λ j. steps_of (x ∷ drop j xs)) (sym (add-one i))
 
 -- one more step of what is owed
-pub step_owed : (s : Step) (more : Program) (os os' : List Waiting) (code new all : List Instr) → new ≡ code ++ instructions (step_code os s)
-    → os' ≡ waiting_behind os s → code ++ instructions (steps_code os (step s more)) ≡ all → new ++ instructions (steps_code os' more) ≡ all
-step_owed s more os os' code new all e q h =
-    let rest = steps_code (waiting_behind os s) more in
-    ap (λ ws. new ++ instructions (steps_code ws more)) q ∙ ap (λ l. l ++ instructions rest) e
-    ∙ append_assoc code (instructions (step_code os s)) (instructions rest)
-    ∙ ap (λ l. code ++ l) (sym (instructions-append (step_code os s) rest)) ∙ h
+pub step_owed : (bs : List Bound) (s : Step) (more : Program) (os os' : List Waiting) (code new all : List Instr)
+    → new ≡ code ++ instructions (step_code bs os s) → os' ≡ waiting_behind os s → code ++ instructions (steps_code bs os (step s more)) ≡ all
+    → new ++ instructions (steps_code bs os' more) ≡ all
+step_owed bs s more os os' code new all e q h =
+    let rest = steps_code bs (waiting_behind os s) more in
+    ap (λ ws. new ++ instructions (steps_code bs ws more)) q ∙ ap (λ l. l ++ instructions rest) e
+    ∙ append_assoc code (instructions (step_code bs os s)) (instructions rest)
+    ∙ ap (λ l. code ++ l) (sym (instructions-append (step_code bs os s) rest)) ∙ h
 
 -- two parts, one behind the other
 pub two_behind : (code : List Instr) (a b : List Form) → (code ++ instructions a) ++ instructions b ≡ code ++ instructions (a ++ b)

@@ -35,16 +35,22 @@ use Rattle.array_versions.specs.Program.{versioned_read, versioned_write, versio
 use Rattle.array_versions.specs.Program.{compares}
 use Rattle.array_versions.specs.Program.{both, either, fails, nothing, step}
 use Rattle.array_versions.specs.Cost.{unary_words, binary_words, right_words, shift_words, entry_words, step_words, test_words, words_of}
+use Rattle.array_versions.specs.declared.program.ArrayPlace.{ArrayPlace}
+use Rattle.array_versions.specs.declared.program.ListPlace.{ListPlace}
+use Rattle.codegen.specs.declared.bounds.Bound.{Bound}
 use Rattle.codegen.specs.declared.waiting.Waiting.{Waiting}
 use Rattle.codegen.specs.declared.waiting.Waiting.TheVariants as waiting
 use Rattle.codegen.specs.Code.{local_register, local_address, local_target, waiting_source, flushed, top_of, source_from, below_top, any_held, cleared, kept}
 use Rattle.codegen.proofs.Operands.{number_cases}
 use Rattle.codegen.specs.Code.{number_source, stays, sides, right_source, power, top_power, two_code, power_code, power_result, four_from, five_from}
 use Rattle.codegen.specs.Code.{top_to_four, top_to_five, two_to_registers, unary_middle, binary_middle, binary_result}
-use Rattle.codegen.specs.Code.{plain_instruction, ram_update, update_code, repeated, double, halve, right_code, shift_by, shift_middle, element_code, emit_code}
-use Rattle.codegen.specs.Code.{pair_code, entry_code, read_code, write_code, compare_form, holding, failing, size, pass_over, jump_back, decision, holds_code}
+use Rattle.codegen.specs.Code.{plain_instruction, ram_update, update_code, repeated, double, halve, right_code, shift_by, shift_middle, check_code, zero_code}
+use Rattle.codegen.specs.Code.{fetch_code, element_code, emit_code}
+use Rattle.codegen.specs.Code.{pair_code, entry_code, own_code, read_code, stored_code, write_code, compare_form, holding, failing, size, pass_over, jump_back}
+use Rattle.codegen.specs.Code.{decision, holds_code}
 use Rattle.codegen.specs.Code.{compares_code, truth_code, number_code, turn_end, turns_code, waiting_behind, waiting_after, step_code, test_code, steps_code}
-use Rattle.codegen.specs.Code.{code_of, rests, rest_source, to_rest, right_to_rest, update_sides, checked_update, known_update, known_index, update_at}
+use Rattle.codegen.specs.Code.{top_number, element_at, bound_of, is_inside, block_code, code_of}
+use Rattle.codegen.specs.Code.{rests, rest_source, to_rest, right_to_rest, update_sides, checked_update, known_update, known_index, update_at}
 use Rattle.codegen.proofs.UpdateBytes.{checked_bytes, known_bytes}
 use Rattle.codegen.specs.Laws.{CodeHasItsBytes, CodeHasItsWords}
 
@@ -109,8 +115,11 @@ target_short : (n : ℕ) (b : Bool) → target_bytes (if b then ToRegister (loca
 target_short n true = omega arith
 target_short n false = omega arith
 
+number_bytes : (n : ℕ) → source_bytes (number_source n) ≤ 2
+number_bytes n = number_cases (λ s. source_bytes s ≤ 2) n (omega arith) (λ k e. omega arith)
+
 pub turn_end_short : (n below : ℕ) → forms_bytes (turn_end n below) ≤ 14
-turn_end_short n below = either_short (nat_lt n 8) _ _ 14 (omega arith) (omega arith)
+turn_end_short n below = either_short (nat_lt n 8) _ _ 14 (omega (arith, number_bytes below)) (omega (arith, number_bytes below))
 
 -- turns have ten words more than their body
 turns_short : (n below : ℕ) (body : List Form) → forms_bytes (turns_code n below body) ≤ forms_bytes body + 20
@@ -136,9 +145,6 @@ kept_bytes_of waiting.R6 = 2
 abbrev pub kept_bytes : List Waiting → ℕ
 kept_bytes [] = 0
 kept_bytes (o ∷ os) = kept_bytes os + kept_bytes_of o
-
-number_bytes : (n : ℕ) → source_bytes (number_source n) ≤ 2
-number_bytes n = number_cases (λ s. source_bytes s ≤ 2) n (omega arith) (λ k e. omega arith)
 
 push_short : (o : Waiting) → form_bytes (Push (waiting_source o)) ≤ kept_bytes_of o
 push_short (waiting.Number n) = omega (arith, number_bytes n)
@@ -256,7 +262,7 @@ power_short (Some k) n os Divide = omega (arith, forms_bytes-append (top_to_four
 power_short (Some k) n os Remainder = omega (arith, plain_short And (waiting.Number (n - 1) ∷ os))
 power_short (Some k) n os (Plain o) = two_code_short (Plain o) (waiting.Number n ∷ os)
 
-binary_short : (o : BinaryOperation) (os : List Waiting) → OperationShort (power_result (top_power (top_of os)) o) os (step_code os (binary o)) o
+binary_short : (o : BinaryOperation) (os : List Waiting) → OperationShort (power_result (top_power (top_of os)) o) os (step_code [] os (binary o)) o
 binary_short o [] = two_code_short o []
 binary_short o (waiting.Number n ∷ os) = power_short (power n) n os o
 binary_short o (waiting.Fram a ∷ os) = two_code_short o (waiting.Fram a ∷ os)
@@ -277,19 +283,48 @@ known_short : (b : Bool) (a : ℕ) → kept_bytes_of (if b then waiting.Fram a e
 known_short true a = omega arith
 known_short false a = omega arith
 
+-- the check of an index
+check_short : (length over : ℕ) → forms_bytes (check_code length over) ≤ 6
+check_short length over = omega (arith, number_bytes length)
+
+element_code_short : (b : Bool) (base length : ℕ) → forms_bytes (element_code b base length) ≤ 16
+element_code_short true base length = omega arith
+element_code_short false base length =
+    omega (arith, forms_bytes-append (check_code length 4) (fetch_code base ++ zero_code), forms_bytes-append (fetch_code base) zero_code, check_short length 4)
+
+read_short : (b : Bool) (place : ArrayPlace) (list : ListPlace) → forms_bytes (read_code b place list) ≤ 32
+read_short true place list = omega arith
+read_short false place list =
+    omega (
+      arith,
+      forms_bytes-append (check_code place.length 12) (own_code 4 place list ++ zero_code),
+      forms_bytes-append (own_code 4 place list) zero_code,
+      check_short place.length 12,
+    )
+
+write_short : (b : Bool) (place : ArrayPlace) (list : ListPlace) → forms_bytes (write_code b place list) ≤ 114
+write_short true place list = omega arith
+write_short false place list =
+    omega (arith, forms_bytes-append (check_code place.length 54) (stored_code place list), check_short place.length 54)
+
 -- an element, at a number that waits and elsewhere
-element_short : (base n : ℕ) (os : List Waiting)
-    → forms_bytes (step_code os (element base n)) + kept_bytes (waiting_behind os (element base n)) ≤ 20 + kept_bytes os
-element_short base n [] = omega (arith, forms_bytes-append (top_to_four []) (element_code base n), top_to_four_short [])
-element_short base n (waiting.Number k ∷ os) = omega (arith, known_short (nat_lt k n) (word_sum base (word_sum k k)))
-element_short base n (waiting.Fram a ∷ os) =
-    omega (arith, forms_bytes-append (top_to_four (waiting.Fram a ∷ os)) (element_code base n), top_to_four_short (waiting.Fram a ∷ os))
-element_short base n (waiting.Local k ∷ os) =
-    omega (arith, forms_bytes-append (top_to_four (waiting.Local k ∷ os)) (element_code base n), top_to_four_short (waiting.Local k ∷ os))
-element_short base n (waiting.R4 ∷ os) =
-    omega (arith, forms_bytes-append (top_to_four (waiting.R4 ∷ os)) (element_code base n), top_to_four_short (waiting.R4 ∷ os))
-element_short base n (waiting.R6 ∷ os) =
-    omega (arith, forms_bytes-append (top_to_four (waiting.R6 ∷ os)) (element_code base n), top_to_four_short (waiting.R6 ∷ os))
+element_short : (b : Bool) (base n : ℕ) (os : List Waiting)
+    → forms_bytes (element_at b (top_number (top_of os)) os base n) + kept_bytes (waiting_behind os (element base n)) ≤ 20 + kept_bytes os
+element_short b base n [] =
+    omega (arith, forms_bytes-append (top_to_four []) (element_code b base n), element_code_short b base n, top_to_four_short [])
+element_short b base n (waiting.Number k ∷ os) = omega (arith, known_short (nat_lt k n) (word_sum base (word_sum k k)))
+element_short b base n (waiting.Fram a ∷ os) =
+    let os' = waiting.Fram a ∷ os in
+    omega (arith, forms_bytes-append (top_to_four os') (element_code b base n), element_code_short b base n, top_to_four_short os')
+element_short b base n (waiting.Local k ∷ os) =
+    let os' = waiting.Local k ∷ os in
+    omega (arith, forms_bytes-append (top_to_four os') (element_code b base n), element_code_short b base n, top_to_four_short os')
+element_short b base n (waiting.R4 ∷ os) =
+    let os' = waiting.R4 ∷ os in
+    omega (arith, forms_bytes-append (top_to_four os') (element_code b base n), element_code_short b base n, top_to_four_short os')
+element_short b base n (waiting.R6 ∷ os) =
+    let os' = waiting.R6 ∷ os in
+    omega (arith, forms_bytes-append (top_to_four os') (element_code b base n), element_code_short b base n, top_to_four_short os')
 
 waiting_bytes : (o : Waiting) → source_bytes (waiting_source o) ≤ 2
 waiting_bytes (waiting.Number n) = number_bytes n
@@ -348,8 +383,9 @@ update_short true o n x = omega arith
 update_short false o n x = omega arith
 
 -- steps with no word waiting in front of them, and then those that wait behind them are pushed
-block_short : (p : Program) → forms_bytes (steps_code [] p) + kept_bytes (waiting_after [] p) ≤ 2 * words_of p + 0 → forms_bytes (code_of p) ≤ 2 * words_of p
-block_short p h = omega (arith, h, forms_bytes-append (steps_code [] p) (flushed (waiting_after [] p)), flushed_short (waiting_after [] p))
+block_short : (bs : List Bound) (p : Program) → forms_bytes (steps_code bs [] p) + kept_bytes (waiting_after [] p) ≤ 2 * words_of p + 0
+    → forms_bytes (block_code bs p) ≤ 2 * words_of p
+block_short bs p h = omega (arith, h, forms_bytes-append (steps_code bs [] p) (flushed (waiting_after [] p)), flushed_short (waiting_after [] p))
 
 holds_short : (os : List Waiting) (when : Bool) (d : ℕ) → forms_bytes (holds_code os when d) ≤ 10 + kept_bytes os
 holds_short os when d =
@@ -378,21 +414,22 @@ compares_short os c when d =
     )
 
 mutual
-  pub step_short : (s : Step) (os : List Waiting) → forms_bytes (step_code os s) + kept_bytes (waiting_behind os s) ≤ 2 * step_words s + kept_bytes os
-  step_short (number w) os = omega arith
-  step_short (load a) os = omega arith
-  step_short (keep a) os = behind_below os (Move (source_from (top_of os)) (ToFram a) ∷ []) 2 (omega arith)
-  step_short (update o a) os = behind_below os (Update (plain_instruction o) (source_from (top_of os)) a ∷ []) 2 (omega arith)
-  step_short (local n) os = local_short (nat_lt n 8) n os
-  step_short (set_local n) os =
+  pub step_short : (bs : List Bound) (s : Step) (os : List Waiting)
+      → forms_bytes (step_code bs os s) + kept_bytes (waiting_behind os s) ≤ 2 * step_words s + kept_bytes os
+  step_short bs (number w) os = omega arith
+  step_short bs (load a) os = omega arith
+  step_short bs (keep a) os = behind_below os (Move (source_from (top_of os)) (ToFram a) ∷ []) 2 (omega arith)
+  step_short bs (update o a) os = behind_below os (Update (plain_instruction o) (source_from (top_of os)) a ∷ []) 2 (omega arith)
+  step_short bs (local n) os = local_short (nat_lt n 8) n os
+  step_short bs (set_local n) os =
       behind_below os (Move (source_from (top_of os)) (local_target n) ∷ []) 2 (omega (arith, target_short n (nat_lt n 8)))
-  step_short (update_local o n) os =
+  step_short bs (update_local o n) os =
       behind_below os (update_code o n (source_from (top_of os))) 6 (update_short (nat_lt n 8) o n (source_from (top_of os)))
-  step_short (unary o) os = omega (arith, forms_bytes-append (top_to_five os) (unary_middle o), unary_length o, top_to_five_short os)
-  step_short (binary o) os = binary_short o os
-  step_short (shift o k) os = omega (arith, forms_bytes-append (top_to_four os) (shift_middle o k), shift_length o k, top_to_four_short os)
-  step_short (element base n) os = element_short base n os
-  step_short (emit_word count buffer) os =
+  step_short bs (unary o) os = omega (arith, forms_bytes-append (top_to_five os) (unary_middle o), unary_length o, top_to_five_short os)
+  step_short bs (binary o) os = binary_short o os
+  step_short bs (shift o k) os = omega (arith, forms_bytes-append (top_to_four os) (shift_middle o k), shift_length o k, top_to_four_short os)
+  step_short bs (element base n) os = element_short (is_inside bs (top_of os) n) base n os
+  step_short bs (emit_word count buffer) os =
       let ks = kept (below_top os) in
       omega (
         arith,
@@ -401,79 +438,89 @@ mutual
         top_to_five_short os,
         flushed_short ks,
       )
-  step_short (list_entry count list home copy words) os =
+  step_short bs (list_entry count list home copy words) os =
       let e = entry_length count list home copy words (words == 1) in
       behind_flushed os (entry_code count list home copy words) (entry_words words) (omega (arith, e))
-  step_short (versioned_read place list) os = omega (arith, forms_bytes-append (top_to_four os) (read_code place list), top_to_four_short os)
-  step_short (versioned_write place list) os =
+  step_short bs (versioned_read place list) os =
+      let b = is_inside bs (top_of os) place.length in
+      omega (arith, forms_bytes-append (top_to_four os) (read_code b place list), read_short b place list, top_to_four_short os)
+  step_short bs (versioned_write place list) os =
       let ks = kept (below_top (below_top os)) in
+      let b = is_inside bs (top_of (below_top os)) place.length in
       omega (
         arith,
-        forms_bytes-append (two_to_registers os ++ flushed ks) (write_code place list),
+        forms_bytes-append (two_to_registers os ++ flushed ks) (write_code b place list),
+        write_short b place list,
         forms_bytes-append (two_to_registers os) (flushed ks),
         two_short os,
         flushed_short ks,
       )
-  step_short (versioned_update o place list) os = in_place_short (known_index os place.length) o place list os
-  step_short sense os = omega (arith, forms_bytes-append (cleared os) (forms.Sense R4 ∷ []), cleared_short os)
-  step_short (truth t) os =
-      behind_flushed os (test_code t false 2 ++ truth_code) (test_words t + 3)
-      (omega (arith, forms_bytes-append (test_code t false 2) truth_code, test_short t false 2))
-  step_short (choose t taken otherwise) os =
-      let other = code_of otherwise in
-      let first = code_of taken ++ pass_over (size other) in
-      behind_flushed os (test_code t false (size first) ++ (first ++ other)) (test_words t + 2 + words_of taken + words_of otherwise)
+  step_short bs (versioned_update o place list) os = in_place_short (known_index os place.length) o place list os
+  step_short bs sense os = omega (arith, forms_bytes-append (cleared os) (forms.Sense R4 ∷ []), cleared_short os)
+  step_short bs (truth t) os =
+      behind_flushed os (test_code bs t false 2 ++ truth_code) (test_words t + 3)
+      (omega (arith, forms_bytes-append (test_code bs t false 2) truth_code, test_short bs t false 2))
+  step_short bs (choose t taken otherwise) os =
+      let other = block_code bs otherwise in
+      let first = block_code bs taken ++ pass_over (size other) in
+      behind_flushed os (test_code bs t false (size first) ++ (first ++ other)) (test_words t + 2 + words_of taken + words_of otherwise)
       (omega (
         arith,
-        forms_bytes-append (test_code t false (size first)) (first ++ other),
+        forms_bytes-append (test_code bs t false (size first)) (first ++ other),
         forms_bytes-append first other,
-        forms_bytes-append (code_of taken) (pass_over (size other)),
-        test_short t false (size first),
-        block_short taken (steps_short taken []),
+        forms_bytes-append (block_code bs taken) (pass_over (size other)),
+        test_short bs t false (size first),
+        block_short bs taken (steps_short bs taken []),
         pass_short (size other),
-        block_short otherwise (steps_short otherwise []),
+        block_short bs otherwise (steps_short bs otherwise []),
       ))
-  step_short (repeat n from below body) os =
-      let made = code_of body in
+  step_short bs (repeat n from below body) os =
+      let inner = bound_of n below ∷ bs in
+      let made = block_code inner body in
       let turns : List Form = if nat_lt from below then turns_code n below made else [] in
       behind_flushed os (number_code n from ++ turns) (13 + words_of body)
       (omega (
         arith,
         forms_bytes-append (number_code n from) turns,
         target_short n (nat_lt n 8),
+        number_bytes from,
         either_short (nat_lt from below) (turns_code n below made) [] (forms_bytes made + 20) (turns_short n below made) (omega arith),
-        block_short body (steps_short body []),
+        block_short inner body (steps_short inner body []),
       ))
-  step_short (store_number a w) os = behind_flushed os (Move (Number w) (ToFram a) ∷ []) 3 (omega arith)
-  step_short (move_word from to) os = behind_flushed os (Move (Fram from) (ToFram to) ∷ []) 3 (omega arith)
-  step_short (jump to) os = behind_flushed os (Branch to ∷ []) 2 (omega arith)
+  step_short bs (store_number a w) os = behind_flushed os (Move (number_source w) (ToFram a) ∷ []) 3 (omega (arith, number_bytes w))
+  step_short bs (move_word from to) os = behind_flushed os (Move (Fram from) (ToFram to) ∷ []) 3 (omega arith)
+  step_short bs (jump to) os = behind_flushed os (Branch to ∷ []) 2 (omega arith)
 
-  pub test_short : (t : Test) (when : Bool) (d : ℕ) → forms_bytes (test_code t when d) ≤ 2 * test_words t
-  test_short (holds p) when d =
+  pub test_short : (bs : List Bound) (t : Test) (when : Bool) (d : ℕ) → forms_bytes (test_code bs t when d) ≤ 2 * test_words t
+  test_short bs (holds p) when d =
       let os = waiting_after [] p in
-      omega (arith, forms_bytes-append (steps_code [] p) (holds_code os when d), holds_short os when d, steps_short p [])
-  test_short (compares c p) when d =
+      omega (arith, forms_bytes-append (steps_code bs [] p) (holds_code os when d), holds_short os when d, steps_short bs p [])
+  test_short bs (compares c p) when d =
       let os = waiting_after [] p in
-      omega (arith, forms_bytes-append (steps_code [] p) (compares_code os c when d), compares_short os c when d, steps_short p [])
-  test_short (both t u) when d =
-      let second = test_code u when d in
+      omega (arith, forms_bytes-append (steps_code bs [] p) (compares_code os c when d), compares_short os c when d, steps_short bs p [])
+  test_short bs (both t u) when d =
+      let second = test_code bs u when d in
       let more = size second + (if not when then d else 0) in
-      omega (arith, forms_bytes-append (test_code t false more) second, test_short t false more, test_short u when d)
-  test_short (either t u) when d =
-      let second = test_code u when d in
+      omega (arith, forms_bytes-append (test_code bs t false more) second, test_short bs t false more, test_short bs u when d)
+  test_short bs (either t u) when d =
+      let second = test_code bs u when d in
       let more = size second + (if when then d else 0) in
-      omega (arith, forms_bytes-append (test_code t true more) second, test_short t true more, test_short u when d)
-  test_short (fails t) when d = test_short t (not when) d
+      omega (arith, forms_bytes-append (test_code bs t true more) second, test_short bs t true more, test_short bs u when d)
+  test_short bs (fails t) when d = test_short bs t (not when) d
 
-  pub steps_short : (p : Program) (os : List Waiting) → forms_bytes (steps_code os p) + kept_bytes (waiting_after os p) ≤ 2 * words_of p + kept_bytes os
-  steps_short nothing os = omega arith
-  steps_short (step first more) os =
+  pub steps_short : (bs : List Bound) (p : Program) (os : List Waiting)
+      → forms_bytes (steps_code bs os p) + kept_bytes (waiting_after os p) ≤ 2 * words_of p + kept_bytes os
+  steps_short bs nothing os = omega arith
+  steps_short bs (step first more) os =
       let mid = waiting_behind os first in
-      omega (arith, forms_bytes-append (step_code os first) (steps_code mid more), step_short first os, steps_short more mid)
+      omega (arith, forms_bytes-append (step_code bs os first) (steps_code bs mid more), step_short bs first os, steps_short bs more mid)
 
 -- the code is no longer than its words are counted
+pub inner_short : (bs : List Bound) (p : Program) → forms_bytes (block_code bs p) ≤ 2 * words_of p
+inner_short bs p = block_short bs p (steps_short bs p [])
+
 pub code_short : (p : Program) → forms_bytes (code_of p) ≤ 2 * words_of p
-code_short p = block_short p (steps_short p [])
+code_short p = inner_short [] p
 
 pub instructions_length : (ms : List Form) → 2 * length (instruction_words (instructions ms)) ≡ forms_bytes ms
 instructions_length [] = refl

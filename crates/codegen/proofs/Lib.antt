@@ -4,6 +4,7 @@ mod Follows
 mod Parts
 mod Registers
 mod Operands
+mod Bounds
 mod Results
 mod Jumps
 mod Choices

@@ -1,11 +1,12 @@
 -- Words that wait to be pushed: what the machine stands for where some do, how they are pushed, and how they come to registers.
-use Rattle.std.proofs.Common.{◌≡◌, ℕ, suc, ◌+◌, ◌-◌, ◌<◌, ◌≤◌, Bool, true, false, nat_lt, if◌then◌else◌, List, [], ◌∷◌, ◌++◌, length, get_or, drop}
+use Rattle.std.proofs.Common.{◌≡◌, ℕ, suc, ◌+◌, ◌-◌, ◌%◌, ◌<◌, ◌≤◌, nat_le, Bool, true, false, nat_lt, if◌then◌else◌, List, [], ◌∷◌, ◌++◌, length, get_or, drop}
 use Rattle.std.proofs.Common.{Option, Some, None, ◌==◌, eqb-true, refl, sym, ap, ap₂, ◌∙◌, subst, arith, append_assoc, append-nil, length-append}
 use Rattle.std.specs.Option.{unwrap_or}
 use Rattle.std.specs.List.{AllByRecursion}
 use Rattle.array_versions.specs.machine_effects.World.{put}
 use Rattle.array_versions.specs.machine_effects.Going.{Goes}
 use Rattle.array_versions.specs.machine_effects.Machine.{IsFram}
+use Rattle.msp_isa.specs.declared.instructions.TwoOp.TheVariants as op
 use Rattle.msp_isa.specs.declared.operands.Konst.{Konst}
 use Rattle.msp_isa.specs.declared.operands.Konst.TheVariants as konst
 use Rattle.msp_isa.specs.Constant.{constant_value}
@@ -13,9 +14,9 @@ use Rattle.array_versions.specs.machine_effects.msp_cycles.Cycles.{CycleRow, cyc
 use Rattle.array_versions.proofs.machine_effects.Interface.{put_same, put_other}
 use Rattle.code_forms.specs.Forms.{WorkRegister, R4, R5, work_number, Core, Source, Register, Number, Constant, source_operand, source_bytes, source_value}
 use Rattle.code_forms.specs.Forms.{source_read, SourceNeeds, ToRegister, Form}
-use Rattle.code_forms.specs.Forms.{Move, Push, HasPushRoom, instruction_of, form_bytes}
-use Rattle.code_forms.specs.Code.{Stands, forms_bytes, Runs}
-use Rattle.code_forms.proofs.Interface.{stands_front, stands_back, forms_bytes-append}
+use Rattle.code_forms.specs.Forms.{Move, Calculate, Push, HasPushRoom, instruction_of, form_bytes}
+use Rattle.code_forms.specs.Code.{Stands, forms_bytes, forms_run, Runs}
+use Rattle.code_forms.proofs.Interface.{stands_at, stands_front, stands_back, end_of, forms_bytes-append}
 use Rattle.array_versions.specs.Behaviour.{WordState, with_stack, pushed}
 use Rattle.codegen.specs.declared.waiting.Waiting.{Waiting}
 use Rattle.codegen.specs.declared.waiting.Waiting.TheVariants as waiting
@@ -23,10 +24,10 @@ use Rattle.codegen.specs.Code.{number_source, waiting_source, flushed, top_of, s
 use Rattle.codegen.specs.Code.{top_to_four}
 use Rattle.codegen.specs.Code.{stays, sides, right_source}
 use Rattle.codegen.specs.Code.{top_to_five, two_to_registers}
-use Rattle.codegen.proofs.Stretches.{Setting, hop, runs_on, dearer, nothing_run, so_runs}
+use Rattle.codegen.proofs.Stretches.{Setting, straight, hop, runs_on, dearer, nothing_run, so_runs}
 use Rattle.codegen.proofs.Memory.{local_words, in_register, Memory, pop_memory, pop_needs, push_needs, push_memory}
 use Rattle.codegen.proofs.Follows.{StandsFor, stands_elsewhere, memory_as}
-use Rattle.codegen.proofs.Registers.{Has}
+use Rattle.codegen.proofs.Registers.{no_borrow, equal_flag, Has}
 
 -- ---- what a word that waits is, and what it has paid for
 
@@ -80,7 +81,7 @@ number_cases P n p f =
     (pick P (n == 2) _ _ (λ e. f konst.Two (sym (eqb-true n 2 e))) (pick P (n == 4) _ _ (λ e. f konst.Four (sym (eqb-true n 4 e)))
     (pick P (n == 8) _ _ (λ e. f konst.Eight (sym (eqb-true n 8 e))) (pick P (n == 0xFFFF) _ _ (λ e. f konst.MinusOne (sym (eqb-true n 0xFFFF e))) p)))))
 
-number_price : (row : CycleRow) (n most : ℕ) → row.immediate ≤ most → row.register ≤ most → source_cycles row (source_operand (number_source n)) ≤ most
+pub number_price : (row : CycleRow) (n most : ℕ) → row.immediate ≤ most → row.register ≤ most → source_cycles row (source_operand (number_source n)) ≤ most
 number_price row n most a b = number_cases (λ s. source_cycles row (source_operand s) ≤ most) n a (λ k e. b)
 
 pub owed_least : (o : Waiting) → 3 ≤ owed_by o
@@ -244,6 +245,13 @@ source_needs most locals (waiting.Fram a) u h = h
 source_needs most locals (waiting.Local n) u h = tt
 source_needs most locals waiting.R4 u h = tt
 source_needs most locals waiting.R6 u h = tt
+
+-- a register is compared with a number, and is as it was
+pub record Compared (z : Setting) (pc : ℕ) (w : WordState) (g : ℕ → ℕ) (x k : ℕ) (t : Core) : Type 0 where
+  pub is : StandsFor z pc w t
+  pub work : t.work ≡ g
+  pub zero : t.flags.z ≡ (x == k)
+  pub carry : t.flags.c ≡ nat_le k x
 
 -- the machine at this place stands for what the program works on, where these words wait: the stack is their words, and below them the words that are pushed
 pub record Describes (z : Setting) (os : List Waiting) (pc : ℕ) (w : WordState) (u : Core) : Type 0 where
@@ -457,6 +465,19 @@ module _ (z : Setting) where
         needs = source_needs z.locals w.locals o u d.there.0;
         left = subst (λ t. Describes z os pc (with_stack vs w) t) (sym still)
             (record { rest = d.rest; is = d.is; stack = tail_is q; there = d.there.1; fits = omega (arith, d.fits, ap (length {A = ℕ}) e) });
+        same = ap (λ (t : Core). t.work) still;
+      }
+
+  -- a number by itself is read as a top would be
+  pub number_top : (k pc : ℕ) (w : WordState) (u : Core) → StandsFor z pc w u → Top z (number_source k) [] pc w k w.stack u
+  number_top k pc w u i =
+      let still = source_still (waiting.Number k) u in
+      record {
+        at = i.at;
+        fram = i.fram;
+        value = source_word (waiting.Number k) pc w u i tt;
+        needs = source_needs z.locals w.locals (waiting.Number k) u tt;
+        left = subst (λ t. Describes z [] pc w t) (sym still) (dressed pc w u i);
         same = ap (λ (t : Core). t.work) still;
       }
 
@@ -698,3 +719,28 @@ module _ (z : Setting) where
         there = (there, d.there);
         fits = omega (arith, room);
       }
+
+  -- ---- a comparison with a number
+
+  pub compare_number : (b : WorkRegister) (pc x k : ℕ) (w : WordState) (t : Core) → x < 0x10000 → k < 0x10000 → t.work (work_number b) ≡ x
+      → StandsFor z pc w t → (let m = Calculate op.Cmp (number_source k) b in z.code pc ≡ Some (instruction_of m)
+      → Runs z.code [] 2 t (Compared z (pc + form_bytes m) w t.work x k))
+  compare_number b pc x k w t l r v i =
+      let zero = ap (λ y. (y + (0xFFFF - k) + 1) % 0x10000 == 0) v ∙ equal_flag x k l r in
+      let carry = ap (λ y. nat_le 0x10000 (y + (0xFFFF - k) + 1)) v ∙ no_borrow x k l r in
+      let P : Source → Type 0 = λ s. let m = Calculate op.Cmp s b in z.code pc ≡ Some (instruction_of m)
+      → Runs z.code [] 2 t (Compared z (pc + form_bytes m) w t.work x k) in
+      number_cases P k
+      (λ h.
+      let ms = Calculate op.Cmp (Number k) b ∷ [] in
+      straight z ms 2 t (end_of t (forms_run ms t).status) [] 2 _ (tt, tt) (stands_at z.code pc ms t (h, tt) i.at) ((tt, tt), tt) refl (omega arith)
+      (record { is = stands_elsewhere z pc (pc + 4) w t _ i (omega (arith, i.at)) refl refl refl refl refl; work = refl; zero = zero; carry = carry }))
+      (λ c e h.
+      let ms = Calculate op.Cmp (Constant c) b ∷ [] in
+      straight z ms 2 t (end_of t (forms_run ms t).status) [] 1 _ (tt, tt) (stands_at z.code pc ms t (h, tt) i.at) ((tt, tt), tt) refl (omega arith)
+      (record {
+        is = stands_elsewhere z pc (pc + 2) w t _ i (omega (arith, i.at)) refl refl refl refl refl;
+        work = refl;
+        zero = ap (λ n. (t.work (work_number b) + (0xFFFF - n) + 1) % 0x10000 == 0) e ∙ zero;
+        carry = ap (λ n. nat_le 0x10000 (t.work (work_number b) + (0xFFFF - n) + 1)) e ∙ carry;
+      }))

@@ -3,6 +3,7 @@ use Rattle.std.proofs.Common.{◌≡◌, ℕ, ◌+◌, ◌*◌, ◌<◌, ◌≤�
 use Rattle.std.proofs.Common.{length, Option, Some, None}
 use Rattle.std.proofs.Common.{refl, sym, ap, ap₂, ◌∙◌, subst, arith, bit_and, w16, ltb-true, eqb-true, ne_eqb, le-leb}
 use Rattle.std.specs.Int.{trailing_zeros}
+use Rattle.std.proofs.lemmas.Bool.{and_parts}
 use Rattle.std.proofs.lemmas.Option.{same_Some}
 use Rattle.std.proofs.lemmas.Nat.{and_mask, pow_pos}
 use Rattle.msp_isa.specs.alp_words.Words.{word_sum, word_product, quotient, remainder}
@@ -37,12 +38,13 @@ use Rattle.array_versions.specs.Behaviour.{WordState, Behaviour, GoesOn, goes_on
 use Rattle.array_versions.specs.Behaviour.{word_stored}
 use Rattle.array_versions.specs.Behaviour.{word_emitted, element_pushed, own_element, versioned_pushed, versioned_stored, reading_pushed}
 use Rattle.array_versions.specs.Cost.{unary_cycles, binary_cycles}
+use Rattle.codegen.specs.declared.bounds.Bound.{Bound}
 use Rattle.codegen.specs.declared.waiting.Waiting.{Waiting}
 use Rattle.codegen.specs.declared.waiting.Waiting.TheVariants as waiting
 use Rattle.codegen.specs.Code.{local_address, local_target, flushed, top_of, source_from, below_top, any_held, cleared, kept, top_to_four, top_to_five}
 use Rattle.codegen.specs.Code.{plain_instruction, update_code, sides, right_source, power, known_element, two_code, power_code, power_result}
 use Rattle.codegen.specs.Code.{two_to_registers, unary_middle, binary_middle, binary_result, shift_middle, element_code, emit_code, read_code, write_code}
-use Rattle.codegen.specs.Code.{waiting_behind, step_code}
+use Rattle.codegen.specs.Code.{top_number, element_at, is_inside, waiting_behind, step_code}
 use Rattle.codegen.proofs.Stretches.{Setting, hop, runs_on, dearer_stall, nothing_run, so_runs, starved}
 use Rattle.codegen.proofs.Memory.{place_is}
 use Rattle.codegen.proofs.Follows.{StandsFor, stands_elsewhere, Follows, Reaches, reach_more, then_reach, reaches, reach_guarded}
@@ -51,6 +53,7 @@ use Rattle.codegen.proofs.Operands.{IsThere, owed_by, owed, none_held, clear_cyc
 use Rattle.codegen.proofs.Operands.{Top, Waits, InRegister, LoadedTwo, waiting_word, bare, dressed, flush_under, flush_part, clear_under, below_part}
 use Rattle.codegen.proofs.Operands.{top_to_four_part, top_to_five_part, two_to_registers_part, result_waits, waits_more}
 use Rattle.codegen.proofs.Operands.{LoadedSides, right_cycles, reading_cycles, reading_price, right_owed, sides_part, drop_part}
+use Rattle.codegen.proofs.Bounds.{Bounded, top_inside, under_inside}
 use Rattle.codegen.proofs.Parts.{local_part, keep_part, set_part}
 use Rattle.codegen.proofs.Updates.{plain_needs, update_part, update_local_part}
 use Rattle.codegen.proofs.Middles.{makes, UnaryMiddle, BinaryMiddle, negate_middle, complement_middle}
@@ -64,15 +67,11 @@ unary_price : (o : UnaryOperation) → unary_cycles o ≡ 7
 unary_price Negate = refl
 unary_price Complement = refl
 
-both_hold : (a b : Bool) → (a && b) ≡ true → (a ≡ true) × (b ≡ true)
-both_hold true b e = (refl, e)
-both_hold false b e = absurd (let q = e in (cc))
-
 -- a power of two
 power_cases : (b : Bool) (k n : ℕ) (j : ℕ) → (nat_lt k 16 && (n == 2 ^ k)) ≡ b → (if b then Some k else None) ≡ Some j → (j < 16) × (n ≡ 2 ^ j)
 power_cases true k n j e q =
     let same = same_Some k j q in
-    let both = both_hold (nat_lt k 16) (n == 2 ^ k) e in
+    let both = and_parts (nat_lt k 16) (n == 2 ^ k) e in
     subst (λ m. (m < 16) × (n ≡ 2 ^ m)) same (ltb-true k 16 both.0, eqb-true n (2 ^ k) both.1)
 power_cases false k n j e q = absurd (let r = q in (cc))
 
@@ -151,8 +150,8 @@ module _ (z : Setting) where
   unary_middles Complement = complement_middle z
 
   pub unary_part : (o : UnaryOperation) (os : List Waiting) (pc : ℕ) (w : WordState) (vs : List ℕ) (u : Core) → w.stack ≡ vs
-      → AllByRecursion (λ v. v < 0x10000) vs → Stands z.code pc (step_code os (unary o)) → Describes z os pc w u
-      → Does (waiting_behind os (unary o)) (pc + forms_bytes (step_code os (unary o))) (unary_cycles o + owed os) u
+      → AllByRecursion (λ v. v < 0x10000) vs → Stands z.code pc (step_code [] os (unary o)) → Describes z os pc w u
+      → Does (waiting_behind os (unary o)) (pc + forms_bytes (step_code [] os (unary o))) (unary_cycles o + owed os) u
       (with_top vs (λ v us. goes_on [] (with_stack (unary_word o v ∷ us) w)))
   unary_part o os pc w [] u e l h d = tt
   unary_part o os pc w (y ∷ rest) u e l h d =
@@ -164,8 +163,8 @@ module _ (z : Setting) where
       (λ xs t k. unary_middles o (pc + forms_bytes front) y (with_stack xs w) t l.0 back k)
 
   pub shift_reaches : (o : ShiftOperation) (n : ℕ) (os : List Waiting) (pc : ℕ) (w : WordState) (vs : List ℕ) (u : Core) → w.stack ≡ vs
-      → AllByRecursion (λ v. v < 0x10000) vs → Stands z.code pc (step_code os (shift o n)) → Describes z os pc w u
-      → Does (waiting_behind os (shift o n)) (pc + forms_bytes (step_code os (shift o n))) (15 + owed os) u
+      → AllByRecursion (λ v. v < 0x10000) vs → Stands z.code pc (step_code [] os (shift o n)) → Describes z os pc w u
+      → Does (waiting_behind os (shift o n)) (pc + forms_bytes (step_code [] os (shift o n))) (15 + owed os) u
       (with_top vs (λ v us. goes_on [] (with_stack (shift_word o v n ∷ us) w)))
   shift_reaches o n os pc w [] u e l h d = tt
   shift_reaches o n os pc w (y ∷ rest) u e l h d =
@@ -211,25 +210,26 @@ module _ (z : Setting) where
       let a = 2 * i + base in
       reach_guarded z (is_place a) (owed after) (Describes z after end) most u (goes_on [] (with_stack (w.fram a ∷ rest) w)) (λ g. there lt (place_is a g))
 
-  -- an element, by whether the index is below the length
-  element_by : (base size : ℕ) (os : List Waiting) (pc : ℕ) (w : WordState) (i : ℕ) (rest : List ℕ) (u : Core) → size < 0x10000 → i < 0x10000
-      → w.stack ≡ i ∷ rest
-      → (let ms = top_to_four os ++ element_code base size in Stands z.code pc ms → Describes z os pc w u
+  -- an element, by whether the index is below the length; whether it surely is decides what its code is
+  element_by : (b : Bool) (base size : ℕ) (os : List Waiting) (pc : ℕ) (w : WordState) (i : ℕ) (rest : List ℕ) (u : Core) → size < 0x10000 → i < 0x10000
+      → (b ≡ true → nat_lt i size ≡ true) → w.stack ≡ i ∷ rest
+      → (let ms = top_to_four os ++ element_code b base size in Stands z.code pc ms → Describes z os pc w u
       → Does (waiting.R4 ∷ kept (below_top os)) (pc + forms_bytes ms) (15 + owed os) u (element_pushed base size i (with_stack rest w)))
-  element_by base size os pc w i rest u s r e h d =
+  element_by b base size os pc w i rest u s r sure e h d =
       let a = 2 * i + base in
       let front = top_to_four os in
-      let ms = element_code base size in
+      let ms = element_code b base size in
       let mid = pc + forms_bytes front in
       let after = waiting.R4 ∷ kept (below_top os) in
       let end = pc + forms_bytes (front ++ ms) in
       let back = stands_back z.code pc front ms h in
       let come = top_to_four_part z os pc w i rest u e (stands_front z.code pc front ms h) d in
       let none : nat_lt i size ≡ false → Does after end (15 + owed os) u (goes_on [] (with_stack (0 ∷ rest) w)) =
-      λ no. value_part R4 front ms 10 15 os pc w i 0 rest u (omega arith) e d come (λ xs t k. past_end z base size mid s back i (with_stack xs w) t no r k) in
+      λ no. value_part R4 front ms 10 15 os pc w i 0 rest u (omega arith) e d come
+      (λ xs t k. past_end z b base size mid s back i (with_stack xs w) t sure no r k) in
       let there : nat_lt i size ≡ true → IsFram a → Does after end (15 + owed os) u (goes_on [] (with_stack (w.fram a ∷ rest) w)) =
       λ yes f. value_part R4 front ms 10 15 os pc w i (w.fram a) rest u (omega arith) e d come
-      (λ xs t k. before_end z base size mid s back i (with_stack xs w) t yes r f k) in
+      (λ xs t k. before_end z b base size mid s back i (with_stack xs w) t yes r f k) in
       by_length (nat_lt i size) base size after end (15 + owed os) w i rest u refl none there
 
   -- an element at a number that waits
@@ -257,44 +257,48 @@ module _ (z : Setting) where
       (one (waiting.Fram (word_sum base (word_sum k k))) (w.fram at) (subst IsFram (sym there) f) (ap w.fram there) (omega arith)) in
       by_length (nat_lt i size) base size (known_element base size k ∷ os) (pc + 0) (15 + (owed os + 4)) w i rest u refl none there
 
-  element_on : (base size : ℕ) (os : List Waiting) (pc : ℕ) (w : WordState) (i : ℕ) (rest : List ℕ) (u : Core) → size < 0x10000 → i < 0x10000
-      → w.stack ≡ i ∷ rest → Stands z.code pc (step_code os (element base size)) → Describes z os pc w u
-      → Does (waiting_behind os (element base size)) (pc + forms_bytes (step_code os (element base size))) (15 + owed os) u
-      (element_pushed base size i (with_stack rest w))
-  element_on base size [] pc w i rest u s r e h d = element_by base size [] pc w i rest u s r e h d
-  element_on base size (waiting.Number k ∷ os) pc w i rest u s r e h d = known_by base size k os pc w i rest u e d
-  element_on base size (waiting.Fram a ∷ os) pc w i rest u s r e h d = element_by base size (waiting.Fram a ∷ os) pc w i rest u s r e h d
-  element_on base size (waiting.Local n ∷ os) pc w i rest u s r e h d = element_by base size (waiting.Local n ∷ os) pc w i rest u s r e h d
-  element_on base size (waiting.R4 ∷ os) pc w i rest u s r e h d = element_by base size (waiting.R4 ∷ os) pc w i rest u s r e h d
-  element_on base size (waiting.R6 ∷ os) pc w i rest u s r e h d = element_by base size (waiting.R6 ∷ os) pc w i rest u s r e h d
+  element_on : (b : Bool) (base size : ℕ) (os : List Waiting) (pc : ℕ) (w : WordState) (i : ℕ) (rest : List ℕ) (u : Core) → size < 0x10000 → i < 0x10000
+      → (b ≡ true → nat_lt i size ≡ true) → w.stack ≡ i ∷ rest
+      → (let ms = element_at b (top_number (top_of os)) os base size in Stands z.code pc ms → Describes z os pc w u
+      → Does (waiting_behind os (element base size)) (pc + forms_bytes ms) (15 + owed os) u (element_pushed base size i (with_stack rest w)))
+  element_on b base size [] pc w i rest u s r sure e h d = element_by b base size [] pc w i rest u s r sure e h d
+  element_on b base size (waiting.Number k ∷ os) pc w i rest u s r sure e h d = known_by base size k os pc w i rest u e d
+  element_on b base size (waiting.Fram a ∷ os) pc w i rest u s r sure e h d = element_by b base size (waiting.Fram a ∷ os) pc w i rest u s r sure e h d
+  element_on b base size (waiting.Local n ∷ os) pc w i rest u s r sure e h d = element_by b base size (waiting.Local n ∷ os) pc w i rest u s r sure e h d
+  element_on b base size (waiting.R4 ∷ os) pc w i rest u s r sure e h d = element_by b base size (waiting.R4 ∷ os) pc w i rest u s r sure e h d
+  element_on b base size (waiting.R6 ∷ os) pc w i rest u s r sure e h d = element_by b base size (waiting.R6 ∷ os) pc w i rest u s r sure e h d
 
-  pub element_reaches : (base size : ℕ) (os : List Waiting) (pc : ℕ) (w : WordState) (vs : List ℕ) (u : Core) → size < 0x10000 → w.stack ≡ vs
-      → AllByRecursion (λ v. v < 0x10000) vs → Stands z.code pc (step_code os (element base size)) → Describes z os pc w u
-      → Does (waiting_behind os (element base size)) (pc + forms_bytes (step_code os (element base size))) (15 + owed os) u
+  pub element_reaches : (bs : List Bound) (base size : ℕ) (os : List Waiting) (pc : ℕ) (w : WordState) (vs : List ℕ) (u : Core) → size < 0x10000
+      → Bounded bs w.locals → w.stack ≡ vs → AllByRecursion (λ v. v < 0x10000) vs → Stands z.code pc (step_code bs os (element base size))
+      → Describes z os pc w u
+      → Does (waiting_behind os (element base size)) (pc + forms_bytes (step_code bs os (element base size))) (15 + owed os) u
       (with_top vs (λ i us. element_pushed base size i (with_stack us w)))
-  element_reaches base size os pc w [] u s e l h d = tt
-  element_reaches base size os pc w (i ∷ rest) u s e l h d = element_on base size os pc w i rest u s l.0 e h d
+  element_reaches bs base size os pc w [] u s lb e l h d = tt
+  element_reaches bs base size os pc w (i ∷ rest) u s lb e l h d =
+      element_on (is_inside bs (top_of os) size) base size os pc w i rest u s l.0 (top_inside z bs pc u size os w i rest lb e d) e h d
 
   -- ---- versioned reads, where their code stands
 
-  module _ (place : ArrayPlace) (list : ListPlace) (os : List Waiting) (pc : ℕ) (small : place.length < 0x10000)
-      (h : Stands z.code pc (step_code os (versioned_read place list))) (w : WordState) (i : ℕ) (rest : List ℕ) (u : Core) (wl : (a : ℕ) → w.fram a < 0x10000)
-      (r : i < 0x10000) (e : w.stack ≡ i ∷ rest) (d : Describes z os pc w u) where
+  module _ (sure : Bool) (place : ArrayPlace) (list : ListPlace) (os : List Waiting) (pc : ℕ) (small : place.length < 0x10000)
+      (h : Stands z.code pc (top_to_four os ++ read_code sure place list)) (w : WordState) (i : ℕ) (rest : List ℕ) (u : Core)
+      (wl : (a : ℕ) → w.fram a < 0x10000) (r : i < 0x10000) (is : sure ≡ true → nat_lt i place.length ≡ true) (e : w.stack ≡ i ∷ rest)
+      (d : Describes z os pc w u) where
     abbrev after_read : List Waiting
     after_read = waiting_behind os (versioned_read place list)
 
     abbrev read_end : ℕ
-    read_end = pc + forms_bytes (step_code os (versioned_read place list))
+    read_end = pc + forms_bytes (top_to_four os ++ read_code sure place list)
 
     abbrev read_mid : ℕ
     read_mid = pc + forms_bytes (top_to_four os)
 
     -- a word that its code gives
-    read_gives : (v : ℕ) → ((xs : List ℕ) (t : Core) → Stands z.code read_mid (read_code place list) → Has z R4 read_mid (with_stack xs w) i t
-        → Runs z.code [] 18 t (Has z R4 (read_mid + 32) (with_stack xs w) v)) → Does after_read read_end (23 + owed os) u (goes_on [] (with_stack (v ∷ rest) w))
+    read_gives : (v : ℕ) → ((xs : List ℕ) (t : Core) → Stands z.code read_mid (read_code sure place list) → Has z R4 read_mid (with_stack xs w) i t
+        → Runs z.code [] 18 t (Has z R4 (read_mid + forms_bytes (read_code sure place list)) (with_stack xs w) v))
+        → Does after_read read_end (23 + owed os) u (goes_on [] (with_stack (v ∷ rest) w))
     read_gives v f =
         let front = top_to_four os in
-        let ms = read_code place list in
+        let ms = read_code sure place list in
         value_part R4 front ms 18 23 os pc w i v rest u (omega arith) e d
         (top_to_four_part z os pc w i rest u e (stands_front z.code pc front ms h) d)
         (λ xs t k. f xs t (stands_back z.code pc front ms h) k)
@@ -308,29 +312,32 @@ module _ (z : Setting) where
     own_by true q lt f g =
         let c = 2 * i + place.copies in
         reach_guarded z (is_place c) (owed after_read) (Describes z after_read read_end) (23 + owed os) u (goes_on [] (with_stack (w.fram c ∷ rest) w)) (λ p.
-        read_gives (w.fram c) (λ xs t s k. own_copy z place list read_mid small s i (with_stack xs w) t wl lt r f g q (place_is c p) k))
+        read_gives (w.fram c) (λ xs t s k. own_copy z sure place list read_mid small s i (with_stack xs w) t wl lt r f g q (place_is c p) k))
     own_by false q lt f g =
         let a = 2 * i + place.elements in
         reach_guarded z (is_place a) (owed after_read) (Describes z after_read read_end) (23 + owed os) u (goes_on [] (with_stack (w.fram a ∷ rest) w)) (λ p.
-        read_gives (w.fram a) (λ xs t s k. own_home z place list read_mid small s i (with_stack xs w) t wl lt r f g q (place_is a p) k))
+        read_gives (w.fram a) (λ xs t s k. own_home z sure place list read_mid small s i (with_stack xs w) t wl lt r f g q (place_is a p) k))
 
     -- by whether the index is below the length
     read_by : (b : Bool) → nat_lt i place.length ≡ b
         → (let x : Behaviour = if b then own_element place list i (with_stack rest w) else goes_on [] (with_stack (0 ∷ rest) w) in
         Does after_read read_end (23 + owed os) u x)
-    read_by false lt = read_gives 0 (λ xs t s k. past_read z place list read_mid small s i (with_stack xs w) t lt r k)
+    read_by false lt = read_gives 0 (λ xs t s k. past_read z sure place list read_mid small s i (with_stack xs w) t is lt r k)
     read_by true lt =
         let m = 2 * i + place.versions in
         reach_guarded z (is_place list.ver) (owed after_read) (Describes z after_read read_end) (23 + owed os) u _ (λ f.
         reach_guarded z (is_place m) (owed after_read) (Describes z after_read read_end) (23 + owed os) u _ (λ g.
         own_by (w.fram list.ver == w.fram m) refl lt (place_is list.ver f) (place_is m g)))
 
-  pub read_reaches : (place : ArrayPlace) (list : ListPlace) (os : List Waiting) (pc : ℕ) (w : WordState) (vs : List ℕ) (u : Core) → place.length < 0x10000
-      → ((a : ℕ) → w.fram a < 0x10000) → w.stack ≡ vs → AllByRecursion (λ v. v < 0x10000) vs → Stands z.code pc (step_code os (versioned_read place list))
-      → Describes z os pc w u → Does (waiting_behind os (versioned_read place list)) (pc + forms_bytes (step_code os (versioned_read place list)))
+  pub read_reaches : (bs : List Bound) (place : ArrayPlace) (list : ListPlace) (os : List Waiting) (pc : ℕ) (w : WordState) (vs : List ℕ) (u : Core)
+      → place.length < 0x10000 → ((a : ℕ) → w.fram a < 0x10000) → Bounded bs w.locals → w.stack ≡ vs → AllByRecursion (λ v. v < 0x10000) vs
+      → Stands z.code pc (step_code bs os (versioned_read place list)) → Describes z os pc w u
+      → Does (waiting_behind os (versioned_read place list)) (pc + forms_bytes (step_code bs os (versioned_read place list)))
       (23 + owed os) u (with_top vs (λ i us. versioned_pushed place list i (with_stack us w)))
-  read_reaches place list os pc w [] u s wl e l h d = tt
-  read_reaches place list os pc w (i ∷ rest) u s wl e l h d = read_by place list os pc s h w i rest u wl l.0 e d (nat_lt i place.length) refl
+  read_reaches bs place list os pc w [] u s wl lb e l h d = tt
+  read_reaches bs place list os pc w (i ∷ rest) u s wl lb e l h d =
+      let n = place.length in
+      read_by (is_inside bs (top_of os) n) place list os pc s h w i rest u wl l.0 (top_inside z bs pc u n os w i rest lb e d) e d (nat_lt i n) refl
 
   -- ---- operations on two words
 
@@ -479,8 +486,8 @@ module _ (z : Setting) where
   power_by (Some k) (Plain o) n os pc w x y rest u q e lx ly h d = two_part (Plain o) (waiting.Number n ∷ os) pc w x y rest u e lx ly h d
 
   binary_on : (o : BinaryOperation) (os : List Waiting) (pc : ℕ) (w : WordState) (x y : ℕ) (rest : List ℕ) (u : Core) → w.stack ≡ y ∷ (x ∷ rest)
-      → x < 0x10000 → y < 0x10000 → Stands z.code pc (step_code os (binary o)) → Describes z os pc w u
-      → Does (waiting_behind os (binary o)) (pc + forms_bytes (step_code os (binary o))) (binary_cycles o + owed os) u
+      → x < 0x10000 → y < 0x10000 → Stands z.code pc (step_code [] os (binary o)) → Describes z os pc w u
+      → Does (waiting_behind os (binary o)) (pc + forms_bytes (step_code [] os (binary o))) (binary_cycles o + owed os) u
       (goes_on [] (with_stack (binary_word o x y ∷ rest) w))
   binary_on o [] pc w x y rest u e lx ly h d = two_part o [] pc w x y rest u e lx ly h d
   binary_on o (waiting.Number n ∷ os) pc w x y rest u e lx ly h d = power_by (power n) o n os pc w x y rest u refl e lx ly h d
@@ -490,8 +497,8 @@ module _ (z : Setting) where
   binary_on o (waiting.R6 ∷ os) pc w x y rest u e lx ly h d = two_part o (waiting.R6 ∷ os) pc w x y rest u e lx ly h d
 
   pub binary_part : (o : BinaryOperation) (os : List Waiting) (pc : ℕ) (w : WordState) (vs : List ℕ) (u : Core) → w.stack ≡ vs
-      → AllByRecursion (λ v. v < 0x10000) vs → Stands z.code pc (step_code os (binary o)) → Describes z os pc w u
-      → Does (waiting_behind os (binary o)) (pc + forms_bytes (step_code os (binary o))) (binary_cycles o + owed os) u
+      → AllByRecursion (λ v. v < 0x10000) vs → Stands z.code pc (step_code [] os (binary o)) → Describes z os pc w u
+      → Does (waiting_behind os (binary o)) (pc + forms_bytes (step_code [] os (binary o))) (binary_cycles o + owed os) u
       (with_two vs (λ x y us. goes_on [] (with_stack (binary_word o x y ∷ us) w)))
   binary_part o os pc w [] u e l h d = tt
   binary_part o os pc w (y ∷ []) u e l h d = tt
@@ -534,8 +541,8 @@ module _ (z : Setting) where
       (below_part z os pc w v vs u e (stands_front z.code pc front ms h) d) (λ t k.
       reaches z (Describes z [] (mid + forms_bytes ms)) (mid + forms_bytes ms) c t b.effects b.end (dressed z (mid + forms_bytes ms)) (f t back k))))
 
-  pub keep_reaches : (a : ℕ) (os : List Waiting) (pc : ℕ) (w : WordState) (vs : List ℕ) (u : Core) → w.stack ≡ vs → Stands z.code pc (step_code os (keep a))
-      → Describes z os pc w u → Does [] (pc + forms_bytes (step_code os (keep a))) (5 + owed os) u
+  pub keep_reaches : (a : ℕ) (os : List Waiting) (pc : ℕ) (w : WordState) (vs : List ℕ) (u : Core) → w.stack ≡ vs → Stands z.code pc (step_code [] os (keep a))
+      → Describes z os pc w u → Does [] (pc + forms_bytes (step_code [] os (keep a))) (5 + owed os) u
       (with_top vs (λ v us. word_stored a v (with_stack us w)))
   keep_reaches a os pc w [] u e h d = tt
   keep_reaches a os pc w (v ∷ us) u e h d =
@@ -544,8 +551,8 @@ module _ (z : Setting) where
       (word_stored a v (with_stack us w)) (omega (arith, store_owed os)) e h d (λ t s k. keep_part z (top_of os) a mid v us w t s k)
 
   pub update_reaches : (o : PlainOperation) (a : ℕ) (os : List Waiting) (pc : ℕ) (w : WordState) (vs : List ℕ) (u : Core) → w.fram a < 0x10000 → w.stack ≡ vs
-      → AllByRecursion (λ v. v < 0x10000) vs → Stands z.code pc (step_code os (update o a)) → Describes z os pc w u
-      → Does [] (pc + forms_bytes (step_code os (update o a))) (5 + owed os) u
+      → AllByRecursion (λ v. v < 0x10000) vs → Stands z.code pc (step_code [] os (update o a)) → Describes z os pc w u
+      → Does [] (pc + forms_bytes (step_code [] os (update o a))) (5 + owed os) u
       (with_top vs (λ v us. word_stored a (plain_word o (w.fram a) v) (with_stack us w)))
   update_reaches o a os pc w [] u f e l h d = tt
   update_reaches o a os pc w (v ∷ us) u f e l h d =
@@ -555,8 +562,8 @@ module _ (z : Setting) where
       (λ t s k. update_part z o (top_of os) a mid v us w t f l.0 s k)
 
   pub set_reaches : (n : ℕ) (os : List Waiting) (pc : ℕ) (w : WordState) (vs : List ℕ) (u : Core) → n < z.locals → w.stack ≡ vs
-      → Stands z.code pc (step_code os (set_local n)) → Describes z os pc w u
-      → Does [] (pc + forms_bytes (step_code os (set_local n))) (5 + owed os) u (with_top vs (λ v us. goes_on [] (with_local n v (with_stack us w))))
+      → Stands z.code pc (step_code [] os (set_local n)) → Describes z os pc w u
+      → Does [] (pc + forms_bytes (step_code [] os (set_local n))) (5 + owed os) u (with_top vs (λ v us. goes_on [] (with_local n v (with_stack us w))))
   set_reaches n os pc w [] u l e h d = tt
   set_reaches n os pc w (v ∷ us) u l e h d =
       let mid = pc + forms_bytes (flushed (below_top os)) in
@@ -564,8 +571,8 @@ module _ (z : Setting) where
       (goes_on [] (with_local n v (with_stack us w))) (omega (arith, store_owed os)) e h d (λ t s k. set_part z (top_of os) n v mid us w t l s k)
 
   pub update_local_reaches : (o : PlainOperation) (n x : ℕ) (os : List Waiting) (pc : ℕ) (w : WordState) (vs : List ℕ) (u : Core) → n < z.locals
-      → w.locals n ≡ Some x → x < 0x10000 → w.stack ≡ vs → AllByRecursion (λ v. v < 0x10000) vs → Stands z.code pc (step_code os (update_local o n))
-      → Describes z os pc w u → Does [] (pc + forms_bytes (step_code os (update_local o n))) (10 + owed os) u
+      → w.locals n ≡ Some x → x < 0x10000 → w.stack ≡ vs → AllByRecursion (λ v. v < 0x10000) vs → Stands z.code pc (step_code [] os (update_local o n))
+      → Describes z os pc w u → Does [] (pc + forms_bytes (step_code [] os (update_local o n))) (10 + owed os) u
       (with_top vs (λ v us. goes_on [] (with_local n (plain_word o x v) (with_stack us w))))
   update_local_reaches o n x os pc w [] u l q f e k h d = tt
   update_local_reaches o n x os pc w (v ∷ us) u l q f e k h d =
@@ -610,8 +617,8 @@ module _ (z : Setting) where
 
   -- a word that is emitted
   emit_by : (count buffer : ℕ) (os : List Waiting) (pc : ℕ) (w : WordState) (v : ℕ) (rest : List ℕ) (u : Core) → w.stack ≡ v ∷ rest
-      → Stands z.code pc (step_code os (emit_word count buffer)) → Describes z os pc w u
-      → Does [] (pc + forms_bytes (step_code os (emit_word count buffer))) (16 + owed os) u (word_emitted count buffer v (with_stack rest w))
+      → Stands z.code pc (step_code [] os (emit_word count buffer)) → Describes z os pc w u
+      → Does [] (pc + forms_bytes (step_code [] os (emit_word count buffer))) (16 + owed os) u (word_emitted count buffer v (with_stack rest w))
   emit_by count buffer os pc w v rest u e h d =
       let under = below_top os in
       let front = top_to_five os in
@@ -636,49 +643,53 @@ module _ (z : Setting) where
       reaches z (Describes z [] (mid + 18)) (mid + 18) 14 t b.effects b.end (dressed z (mid + 18)) (emit_part z count buffer mid v left t back k))))
 
   pub emit_reaches : (count buffer : ℕ) (os : List Waiting) (pc : ℕ) (w : WordState) (vs : List ℕ) (u : Core) → w.stack ≡ vs
-      → Stands z.code pc (step_code os (emit_word count buffer)) → Describes z os pc w u
-      → Does [] (pc + forms_bytes (step_code os (emit_word count buffer))) (16 + owed os) u
+      → Stands z.code pc (step_code [] os (emit_word count buffer)) → Describes z os pc w u
+      → Does [] (pc + forms_bytes (step_code [] os (emit_word count buffer))) (16 + owed os) u
       (with_top vs (λ v us. word_emitted count buffer v (with_stack us w)))
   emit_reaches count buffer os pc w [] u e h d = tt
   emit_reaches count buffer os pc w (v ∷ rest) u e h d = emit_by count buffer os pc w v rest u e h d
 
   -- a versioned write
-  write_by : (place : ArrayPlace) (list : ListPlace) (os : List Waiting) (pc : ℕ) (w : WordState) (i v : ℕ) (rest : List ℕ) (u : Core)
-      → place.length < 0x10000 → ((a : ℕ) → w.fram a < 0x10000) → i < 0x10000 → v < 0x10000 → w.stack ≡ v ∷ (i ∷ rest)
-      → Stands z.code pc (step_code os (versioned_write place list)) → Describes z os pc w u
-      → Does [] (pc + forms_bytes (step_code os (versioned_write place list))) (79 + owed os) u (versioned_stored place list i v (with_stack rest w))
-  write_by place list os pc w i v rest u small wl r s e h d =
+  write_by : (b : Bool) (place : ArrayPlace) (list : ListPlace) (os : List Waiting) (pc : ℕ) (w : WordState) (i v : ℕ) (rest : List ℕ) (u : Core)
+      → place.length < 0x10000 → ((a : ℕ) → w.fram a < 0x10000) → (b ≡ true → nat_lt i place.length ≡ true) → i < 0x10000 → v < 0x10000
+      → w.stack ≡ v ∷ (i ∷ rest)
+      → (let ms = (two_to_registers os ++ flushed (kept (below_top (below_top os)))) ++ write_code b place list in Stands z.code pc ms → Describes z os pc w u
+      → Does [] (pc + forms_bytes ms) (79 + owed os) u (versioned_stored place list i v (with_stack rest w)))
+  write_by sure place list os pc w i v rest u small wl is r s e h d =
       let under = below_top os in
       let ks = kept (below_top under) in
       let front = two_to_registers os in
       let pushes = flushed ks in
-      let ms = write_code place list in
+      let ms = write_code sure place list in
       let first = pc + forms_bytes front in
       let mid = first + forms_bytes pushes in
+      let last = mid + forms_bytes ms in
       let left = with_stack rest w in
       let b = versioned_stored place list i v left in
       let l = clear_cycles (below_top under) + (load_cycles (top_of os) + load_cycles (top_of under)) in
       let there = stands_front z.code pc (front ++ pushes) ms h in
       let here : pc + forms_bytes (front ++ pushes) ≡ mid = omega (arith, forms_bytes-append front pushes) in
       let back = subst (λ p. Stands z.code p ms) here (stands_back z.code pc (front ++ pushes) ms h) in
-      let end : mid + 114 ≡ pc + forms_bytes ((front ++ pushes) ++ ms) = omega (arith, here, forms_bytes-append (front ++ pushes) ms) in
+      let end : last ≡ pc + forms_bytes ((front ++ pushes) ++ ms) = omega (arith, here, forms_bytes-append (front ++ pushes) ms) in
       let come = runs_on z l (owed ks) u (LoadedTwo z ks first left i v) (HasTwo z mid left i v) [] []
       (two_to_registers_part z os pc w i v rest u e (stands_front z.code pc front pushes there) d)
       (λ t k. push_under_two ks first left i v t (stands_back z.code pc front pushes there) k) in
       subst (λ p. Does [] p (79 + owed os) u b) end
-      (reach_more z 0 (Describes z [] (mid + 114)) (l + owed ks + 75) (79 + owed os) u b.effects b.end
+      (reach_more z 0 (Describes z [] last) (l + owed ks + 75) (79 + owed os) u b.effects b.end
       (omega (arith, owed_kept (below_top under), load_owed os, load_owed under))
-      (then_reach z 0 (Describes z [] (mid + 114)) (l + owed ks) 75 u (HasTwo z mid left i v) [] b.effects b.end come (λ t k.
-      reaches z (Describes z [] (mid + 114)) (mid + 114) 75 t b.effects b.end (dressed z (mid + 114))
-      (write_part z place list mid small back i v left t wl r s k))))
+      (then_reach z 0 (Describes z [] last) (l + owed ks) 75 u (HasTwo z mid left i v) [] b.effects b.end come (λ t k.
+      reaches z (Describes z [] last) last 75 t b.effects b.end (dressed z last) (write_part z sure place list mid small back i v left t is wl r s k))))
 
-  pub write_reaches : (place : ArrayPlace) (list : ListPlace) (os : List Waiting) (pc : ℕ) (w : WordState) (vs : List ℕ) (u : Core) → place.length < 0x10000
-      → ((a : ℕ) → w.fram a < 0x10000) → w.stack ≡ vs → AllByRecursion (λ v. v < 0x10000) vs → Stands z.code pc (step_code os (versioned_write place list))
-      → Describes z os pc w u → Does [] (pc + forms_bytes (step_code os (versioned_write place list))) (79 + owed os) u
+  pub write_reaches : (bs : List Bound) (place : ArrayPlace) (list : ListPlace) (os : List Waiting) (pc : ℕ) (w : WordState) (vs : List ℕ) (u : Core)
+      → place.length < 0x10000 → ((a : ℕ) → w.fram a < 0x10000) → Bounded bs w.locals → w.stack ≡ vs → AllByRecursion (λ v. v < 0x10000) vs
+      → Stands z.code pc (step_code bs os (versioned_write place list)) → Describes z os pc w u
+      → Does [] (pc + forms_bytes (step_code bs os (versioned_write place list))) (79 + owed os) u
       (with_two vs (λ i v us. versioned_stored place list i v (with_stack us w)))
-  write_reaches place list os pc w [] u s wl e l h d = tt
-  write_reaches place list os pc w (v ∷ []) u s wl e l h d = tt
-  write_reaches place list os pc w (v ∷ (i ∷ rest)) u s wl e l h d = write_by place list os pc w i v rest u s wl l.1.0 l.0 e h d
+  write_reaches bs place list os pc w [] u s wl lb e l h d = tt
+  write_reaches bs place list os pc w (v ∷ []) u s wl lb e l h d = tt
+  write_reaches bs place list os pc w (v ∷ (i ∷ rest)) u s wl lb e l h d =
+      let n = place.length in
+      write_by (is_inside bs (top_of (below_top os)) n) place list os pc w i v rest u s wl (under_inside z bs pc u n os w i v rest lb e d) l.1.0 l.0 e h d
 
   -- ---- a reading
 
@@ -693,8 +704,8 @@ module _ (z : Setting) where
       (record { at = omega (arith, d.is.at); memory = d.is.memory; fram = d.is.fram; readings = refl }))
 
   pub sense_part : (os : List Waiting) (pc : ℕ) (w : WordState) (rs : List ℕ) (u : Core) → length w.stack < z.room → w.readings ≡ rs
-      → Stands z.code pc (step_code os sense) → Describes z os pc w u
-      → Does (waiting_behind os sense) (pc + forms_bytes (step_code os sense)) (6 + owed os) u (reading_pushed rs w)
+      → Stands z.code pc (step_code [] os sense) → Describes z os pc w u
+      → Does (waiting_behind os sense) (pc + forms_bytes (step_code [] os sense)) (6 + owed os) u (reading_pushed rs w)
   sense_part os pc w rs u room e h d =
       let front = cleared os in
       let ms = forms.Sense R4 ∷ [] in

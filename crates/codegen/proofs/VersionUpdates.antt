@@ -599,8 +599,8 @@ module _ (z : Setting) (o : PlainOperation) (place : ArrayPlace) (list : ListPla
       (bare z mid left t q.0) j.gives))))))
 
   update_on : (os : List Waiting) (pc : ℕ) (w : WordState) (i v : ℕ) (rest : List ℕ) (u : Core) → ((a : ℕ) → w.fram a < 0x10000) → i < 0x10000 → v < 0x10000
-      → w.stack ≡ v ∷ (i ∷ rest) → Stands z.code pc (step_code os (versioned_update o place list)) → Describes z os pc w u
-      → Does z [] (pc + forms_bytes (step_code os (versioned_update o place list))) (86 + owed os) u (versioned_updated o place list i v (with_stack rest w))
+      → w.stack ≡ v ∷ (i ∷ rest) → Stands z.code pc (step_code [] os (versioned_update o place list)) → Describes z os pc w u
+      → Does z [] (pc + forms_bytes (step_code [] os (versioned_update o place list))) (86 + owed os) u (versioned_updated o place list i v (with_stack rest w))
   update_on [] pc w i v rest u wl li lv e h d = update_by [] pc w i v rest u wl li lv e h d
   update_on (p ∷ []) pc w i v rest u wl li lv e h d = update_by (p ∷ []) pc w i v rest u wl li lv e h d
   update_on (p ∷ (waiting.Number k ∷ os)) pc w i v rest u wl li lv e h d = number_by (nat_lt k place.length) k p os pc w i v rest u refl wl li lv e h d
@@ -611,8 +611,8 @@ module _ (z : Setting) (o : PlainOperation) (place : ArrayPlace) (list : ListPla
 
   -- an element that is updated in place
   pub in_place_reaches : (os : List Waiting) (pc : ℕ) (w : WordState) (vs : List ℕ) (u : Core) → ((a : ℕ) → w.fram a < 0x10000) → w.stack ≡ vs
-      → AllByRecursion (λ v. v < 0x10000) vs → Stands z.code pc (step_code os (versioned_update o place list)) → Describes z os pc w u
-      → Does z [] (pc + forms_bytes (step_code os (versioned_update o place list))) (86 + owed os) u
+      → AllByRecursion (λ v. v < 0x10000) vs → Stands z.code pc (step_code [] os (versioned_update o place list)) → Describes z os pc w u
+      → Does z [] (pc + forms_bytes (step_code [] os (versioned_update o place list))) (86 + owed os) u
       (with_two vs (λ i v us. versioned_updated o place list i v (with_stack us w)))
   in_place_reaches os pc w [] u wl e l h d = tt
   in_place_reaches os pc w (v ∷ []) u wl e l h d = tt

@@ -18,6 +18,7 @@ use Rattle.code_forms.specs.Forms.{WorkRegister, R4, R5, R6, R7, R8, R9, R10, R1
 use Rattle.code_forms.specs.Forms.{Popped, Source, ToRegister, ToFram, ToRam, ToIndexed, Target, Form, Move, Calculate, Update, Push, Modify, Jump, Skip}
 use Rattle.code_forms.specs.Forms.{Branch}
 use Rattle.code_forms.specs.Code.{forms_bytes}
+use Rattle.codegen.specs.declared.bounds.Bound.{Bound}
 use Rattle.codegen.specs.declared.waiting.Waiting.{Waiting}
 use Rattle.codegen.specs.declared.waiting.Waiting.TheVariants as waiting
 use Rattle.array_versions.specs.declared.operations.UnaryOperation.{UnaryOperation}
@@ -230,11 +231,22 @@ shift_by SignedRight k = if nat_lt k 8 then repeated k halve else (Modify change
 abbrev pub shift_middle : ShiftOperation → ℕ → List Form
 shift_middle operation k = if nat_le k 15 then shift_by operation k else (Move (Constant konst.Zero) (ToRegister R4) ∷ [])
 
--- the index in R4 is compared with the length; below it, twice the index is an offset in the array, and R4 becomes the element, else 0
-abbrev pub element_code : ℕ → ℕ → List Form
-element_code base length =
-    Calculate op.Cmp (Number length) R4 ∷ Jump condition.Carry 4 ∷ Calculate op.Add (Register R4) R4
-    ∷ Move (Indexed R4 base) (ToRegister R4) ∷ Jump condition.Always 1 ∷ Move (Constant konst.Zero) (ToRegister R4) ∷ []
+-- the index in R4 is compared with a length: where it isn't below it, over so many words
+abbrev pub check_code : ℕ → ℕ → List Form
+check_code length over = Calculate op.Cmp (number_source length) R4 ∷ Jump condition.Carry over ∷ []
+
+-- what the check of an index goes to: R4 becomes 0; the code in front of it goes over that
+abbrev pub zero_code : List Form
+zero_code = Jump condition.Always 1 ∷ Move (Constant konst.Zero) (ToRegister R4) ∷ []
+
+-- twice the index in R4 is an offset in an array, and R4 becomes the element
+abbrev pub fetch_code : ℕ → List Form
+fetch_code base = double ∷ Move (Indexed R4 base) (ToRegister R4) ∷ []
+
+-- an element, by whether the index is surely below the length; else it is 0 where the index isn't
+abbrev pub element_code : Bool → ℕ → ℕ → List Form
+element_code true base length = fetch_code base
+element_code false base length = check_code length 4 ++ (fetch_code base ++ zero_code)
 
 -- the word in R5, then the count
 abbrev pub emit_code : ℕ → ℕ → List Form
@@ -258,14 +270,17 @@ entry_code count list home copy words =
     pair_code count list home copy
     ++ (Move (words_source words) (ToIndexed R4 (word_sum list 4)) ∷ Update op.Add (Constant konst.One) count ∷ [])
 
--- a versioned read at the index in R4: below the length, the version word is compared with the attempt's number; then R4 becomes the copy or the
--- element, else 0
-abbrev pub read_code : ArrayPlace → ListPlace → List Form
-read_code place list =
-    Calculate op.Cmp (Number place.length) R4 ∷ Jump condition.Carry 12 ∷ double ∷ Move (Fram list.ver) (ToRegister R5)
-    ∷ Calculate op.Cmp (Indexed R4 place.versions) R5 ∷ Jump condition.NotEqual 3 ∷ Move (Indexed R4 place.copies) (ToRegister R4)
-    ∷ Jump condition.Always 4 ∷ Move (Indexed R4 place.elements) (ToRegister R4) ∷ Jump condition.Always 1 ∷ Move (Constant konst.Zero) (ToRegister R4)
-    ∷ []
+-- a versioned read at an index in R4 that is below the length: the version word is compared with the attempt's number; then R4 becomes the copy, and
+-- the code goes over so many words, or the element
+abbrev pub own_code : ℕ → ArrayPlace → ListPlace → List Form
+own_code over place list =
+    double ∷ Move (Fram list.ver) (ToRegister R5) ∷ Calculate op.Cmp (Indexed R4 place.versions) R5 ∷ Jump condition.NotEqual 3
+    ∷ Move (Indexed R4 place.copies) (ToRegister R4) ∷ Jump condition.Always over ∷ Move (Indexed R4 place.elements) (ToRegister R4) ∷ []
+
+-- a versioned read, by whether the index is surely below the length; else it gives 0 where the index isn't
+abbrev pub read_code : Bool → ArrayPlace → ListPlace → List Form
+read_code true place list = own_code 2 place list
+read_code false place list = check_code place.length 12 ++ (own_code 4 place list ++ zero_code)
 
 -- R6 is where the run of the last entry ends, the words of its entry being at one address from R5 on and where it begins at another;
 -- where that isn't what this register holds, a jump
@@ -313,12 +328,17 @@ first_code place list =
 -- the store to the copy, of the word in R5 at the index in R4; where the version word is the attempt's number, all that follows it is passed over
 abbrev pub copy_code : ArrayPlace → ListPlace → List Form
 copy_code place list =
-    Calculate op.Cmp (Number place.length) R4 ∷ Jump condition.Carry 54 ∷ double ∷ Move (Register R5) (ToIndexed R4 place.copies)
-    ∷ Move (Fram list.ver) (ToRegister R6) ∷ Calculate op.Cmp (Indexed R4 place.versions) R6 ∷ Jump condition.Equal 46 ∷ []
+    double ∷ Move (Register R5) (ToIndexed R4 place.copies) ∷ Move (Fram list.ver) (ToRegister R6) ∷ Calculate op.Cmp (Indexed R4 place.versions) R6
+    ∷ Jump condition.Equal 46 ∷ []
 
--- a versioned write
-abbrev pub write_code : ArrayPlace → ListPlace → List Form
-write_code place list = copy_code place list ++ first_code place list
+-- a versioned write at an index that is below the length
+abbrev pub stored_code : ArrayPlace → ListPlace → List Form
+stored_code place list = copy_code place list ++ first_code place list
+
+-- a versioned write, by whether the index is surely below the length; else nothing is stored where the index isn't
+abbrev pub write_code : Bool → ArrayPlace → ListPlace → List Form
+write_code true place list = stored_code place list
+write_code false place list = check_code place.length 54 ++ stored_code place list
 
 -- the flags of a comparison of R4, the left side, with R5, the right one
 abbrev pub compare_form : Comparison → Form
@@ -385,18 +405,18 @@ truth_code = Push (Constant konst.One) ∷ Jump condition.Always 1 ∷ Push (Con
 
 -- a local becomes a number
 abbrev pub number_code : ℕ → ℕ → List Form
-number_code n k = Move (Number k) (local_target n) ∷ []
+number_code n k = Move (number_source k) (local_target n) ∷ []
 
 -- the end of a turn for a local in RAM: it goes up by one, and is compared with a number
 abbrev pub ram_turn_end : ℕ → ℕ → List Form
 ram_turn_end n below =
     Move (Ram (local_address n)) (ToRegister R4) ∷ Calculate op.Add (Constant konst.One) R4 ∷ Move (Register R4) (ToRam (local_address n))
-    ∷ Calculate op.Cmp (Number below) R4 ∷ []
+    ∷ Calculate op.Cmp (number_source below) R4 ∷ []
 
 -- the same for any local
 abbrev pub turn_end : ℕ → ℕ → List Form
 turn_end n below =
-    if nat_lt n 8 then Calculate op.Add (Constant konst.One) (local_register n) ∷ Calculate op.Cmp (Number below) (local_register n) ∷ []
+    if nat_lt n 8 then Calculate op.Add (Constant konst.One) (local_register n) ∷ Calculate op.Cmp (number_source below) (local_register n) ∷ []
     else (ram_turn_end n below)
 
 -- turns of a body until the local has come to a number: there is one at least, since the local is looked at behind each
@@ -447,9 +467,24 @@ abbrev pub element_behind : Option ℕ → List Waiting → ℕ → ℕ → List
 element_behind (Some k) os base length = known_element base length k ∷ below_top os
 element_behind None os base length = waiting.R4 ∷ kept (below_top os)
 
-abbrev pub element_at : Option ℕ → List Waiting → ℕ → ℕ → List Form
-element_at (Some k) os base length = []
-element_at None os base length = top_to_four os ++ element_code base length
+abbrev pub element_at : Bool → Option ℕ → List Waiting → ℕ → ℕ → List Form
+element_at inside (Some k) os base length = []
+element_at inside None os base length = top_to_four os ++ element_code inside base length
+
+-- a local is below a number in the body of its loop
+abbrev pub bound_of : ℕ → ℕ → Bound
+bound_of n below = record { local = n; below = below }
+
+-- a local is surely below a length: a loop around the code ends its turns there or before
+abbrev pub is_bounded : List Bound → ℕ → ℕ → Bool
+is_bounded [] n length = false
+is_bounded (b ∷ bs) n length = ((b.local == n) && nat_le b.below length) || is_bounded bs n length
+
+-- so is an index that waits: a number that is, or such a local
+abbrev pub is_inside : List Bound → Option Waiting → ℕ → Bool
+is_inside bs (Some (waiting.Number k)) length = nat_lt k length
+is_inside bs (Some (waiting.Local n)) length = is_bounded bs n length
+is_inside bs _ length = false
 
 -- an operation on two words, where the right side is no power of two that is known: what brings them to R4 and R5 or elsewhere, and the operation
 abbrev pub two_code : List Waiting → BinaryOperation → List Form
@@ -568,54 +603,61 @@ waiting_after os nothing = os
 waiting_after os (step first more) = waiting_after (waiting_behind os first) more
 
 abbrev mutual
-  -- the code of a step, where these words wait
-  pub step_code : List Waiting → Step → List Form
-  step_code os (number w) = []
-  step_code os (load a) = []
-  step_code os (keep a) = flushed (below_top os) ++ Move (source_from (top_of os)) (ToFram a) ∷ []
-  step_code os (update o a) = flushed (below_top os) ++ Update (plain_instruction o) (source_from (top_of os)) a ∷ []
-  step_code os (local n) = local_code os n
-  step_code os (set_local n) = flushed (below_top os) ++ Move (source_from (top_of os)) (local_target n) ∷ []
-  step_code os (update_local o n) = flushed (below_top os) ++ update_code o n (source_from (top_of os))
-  step_code os (unary operation) = top_to_five os ++ unary_middle operation
-  step_code os (binary operation) = power_code (top_power (top_of os)) os operation
-  step_code os (shift operation k) = top_to_four os ++ shift_middle operation k
-  step_code os (element base length) = element_at (top_number (top_of os)) os base length
-  step_code os (emit_word count buffer) = (top_to_five os ++ flushed (kept (below_top os))) ++ emit_code count buffer
-  step_code os (list_entry count list home copy words) = flushed os ++ entry_code count list home copy words
-  step_code os (versioned_read place list) = top_to_four os ++ read_code place list
-  step_code os (versioned_write place list) = (two_to_registers os ++ flushed (kept (below_top (below_top os)))) ++ write_code place list
-  step_code os (versioned_update o place list) = update_at (known_index os place.length) os o place list
-  step_code os sense = cleared os ++ forms.Sense R4 ∷ []
-  step_code os (truth t) = flushed os ++ (test_code t false 2 ++ truth_code)
-  step_code os (choose t taken otherwise) =
-      let other = steps_code [] otherwise ++ flushed (waiting_after [] otherwise) in
-      let first = (steps_code [] taken ++ flushed (waiting_after [] taken)) ++ pass_over (size other) in
-      flushed os ++ (test_code t false (size first) ++ (first ++ other))
-  step_code os (repeat n from below body) =
-      let block = steps_code [] body ++ flushed (waiting_after [] body) in
+  -- the code of a step in the bodies of loops with these bounds, where these words wait
+  pub step_code : List Bound → List Waiting → Step → List Form
+  step_code bs os (number w) = []
+  step_code bs os (load a) = []
+  step_code bs os (keep a) = flushed (below_top os) ++ Move (source_from (top_of os)) (ToFram a) ∷ []
+  step_code bs os (update o a) = flushed (below_top os) ++ Update (plain_instruction o) (source_from (top_of os)) a ∷ []
+  step_code bs os (local n) = local_code os n
+  step_code bs os (set_local n) = flushed (below_top os) ++ Move (source_from (top_of os)) (local_target n) ∷ []
+  step_code bs os (update_local o n) = flushed (below_top os) ++ update_code o n (source_from (top_of os))
+  step_code bs os (unary operation) = top_to_five os ++ unary_middle operation
+  step_code bs os (binary operation) = power_code (top_power (top_of os)) os operation
+  step_code bs os (shift operation k) = top_to_four os ++ shift_middle operation k
+  step_code bs os (element base length) =
+      element_at (is_inside bs (top_of os) length) (top_number (top_of os)) os base length
+  step_code bs os (emit_word count buffer) = (top_to_five os ++ flushed (kept (below_top os))) ++ emit_code count buffer
+  step_code bs os (list_entry count list home copy words) = flushed os ++ entry_code count list home copy words
+  step_code bs os (versioned_read place list) =
+      top_to_four os ++ read_code (is_inside bs (top_of os) place.length) place list
+  step_code bs os (versioned_write place list) =
+      (two_to_registers os ++ flushed (kept (below_top (below_top os)))) ++ write_code (is_inside bs (top_of (below_top os)) place.length) place list
+  step_code bs os (versioned_update o place list) = update_at (known_index os place.length) os o place list
+  step_code bs os sense = cleared os ++ forms.Sense R4 ∷ []
+  step_code bs os (truth t) = flushed os ++ (test_code bs t false 2 ++ truth_code)
+  step_code bs os (choose t taken otherwise) =
+      let other = steps_code bs [] otherwise ++ flushed (waiting_after [] otherwise) in
+      let first = (steps_code bs [] taken ++ flushed (waiting_after [] taken)) ++ pass_over (size other) in
+      flushed os ++ (test_code bs t false (size first) ++ (first ++ other))
+  step_code bs os (repeat n from below body) =
+      let block = steps_code (bound_of n below ∷ bs) [] body ++ flushed (waiting_after [] body) in
       flushed os ++ (number_code n from ++ (if nat_lt from below then turns_code n below block else []))
-  step_code os (store_number a w) = flushed os ++ Move (Number w) (ToFram a) ∷ []
-  step_code os (move_word from to) = flushed os ++ Move (Fram from) (ToFram to) ∷ []
-  step_code os (jump to) = flushed os ++ Branch to ∷ []
+  step_code bs os (store_number a w) = flushed os ++ Move (number_source w) (ToFram a) ∷ []
+  step_code bs os (move_word from to) = flushed os ++ Move (Fram from) (ToFram to) ∷ []
+  step_code bs os (jump to) = flushed os ++ Branch to ∷ []
 
   -- the code of a test: it goes over so many words behind it where the test's truth is this one, else on
-  pub test_code : Test → Bool → ℕ → List Form
-  test_code (holds p) when d = steps_code [] p ++ holds_code (waiting_after [] p) when d
-  test_code (compares c p) when d = steps_code [] p ++ compares_code (waiting_after [] p) c when d
-  test_code (both t u) when d =
-      let second = test_code u when d in
-      test_code t false (size second + (if not when then d else 0)) ++ second
-  test_code (either t u) when d =
-      let second = test_code u when d in
-      test_code t true (size second + (if when then d else 0)) ++ second
-  test_code (fails t) when d = test_code t (not when) d
+  pub test_code : List Bound → Test → Bool → ℕ → List Form
+  test_code bs (holds p) when d = steps_code bs [] p ++ holds_code (waiting_after [] p) when d
+  test_code bs (compares c p) when d = steps_code bs [] p ++ compares_code (waiting_after [] p) c when d
+  test_code bs (both t u) when d =
+      let second = test_code bs u when d in
+      test_code bs t false (size second + (if not when then d else 0)) ++ second
+  test_code bs (either t u) when d =
+      let second = test_code bs u when d in
+      test_code bs t true (size second + (if when then d else 0)) ++ second
+  test_code bs (fails t) when d = test_code bs t (not when) d
 
   -- the code of steps, one after another
-  pub steps_code : List Waiting → Program → List Form
-  steps_code os nothing = []
-  steps_code os (step first more) = step_code os first ++ steps_code (waiting_behind os first) more
+  pub steps_code : List Bound → List Waiting → Program → List Form
+  steps_code bs os nothing = []
+  steps_code bs os (step first more) = step_code bs os first ++ steps_code bs (waiting_behind os first) more
 
--- the code of a program, behind which no word waits
+-- the same with no word waiting in front of the steps or behind them
+abbrev pub block_code : List Bound → Program → List Form
+block_code bs p = steps_code bs [] p ++ flushed (waiting_after [] p)
+
+-- the code of a program
 abbrev pub code_of : Program → List Form
-code_of p = steps_code [] p ++ flushed (waiting_after [] p)
+code_of p = block_code [] p

@@ -205,7 +205,7 @@ pub fn emit_versioned_update(
     code: &mut Vec<Instr>,
 ) -> Result<(), AllocError>
     ensures code { OnOk result (code.new.items
-        ≡ code.old.items ++ instructions (step_code waiting.old.items (value.versioned_update operation place list))) }
+        ≡ code.old.items ++ instructions (step_code [] waiting.old.items (value.versioned_update operation place list))) }
     ensures waiting { OnOk result (waiting.new.items ≡ []) }
     ensures of_words { OnOk result (ArrayOfWords place × ListOfWords list) }
 {

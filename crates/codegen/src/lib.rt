@@ -1,6 +1,7 @@
 //! Code for word programs: the instructions that do what a program does, on a stack in RAM, and locals in registers and RAM.
 #![tactic(auto)]
 
+mod bounds;
 mod decisions;
 mod forms;
 mod in_place;

@@ -43,7 +43,7 @@ pub fn emit_unary(
     code: &mut Vec<Instr>,
 ) -> Result<(), AllocError>
     ensures code { OnOk result (code.new.items
-        ≡ code.old.items ++ instructions (step_code waiting.old.items (value.unary operation))) }
+        ≡ code.old.items ++ instructions (step_code [] waiting.old.items (value.unary operation))) }
     ensures waiting { OnOk result (waiting.new.items ≡ waiting_behind waiting.old.items (value.unary operation)) }
 {
     emit_top_to_five(waiting, code)?;
@@ -190,7 +190,7 @@ pub fn emit_binary(
     code: &mut Vec<Instr>,
 ) -> Result<(), AllocError>
     ensures code { OnOk result (code.new.items
-        ≡ code.old.items ++ instructions (step_code waiting.old.items (value.binary operation))) }
+        ≡ code.old.items ++ instructions (step_code [] waiting.old.items (value.binary operation))) }
     ensures waiting { OnOk result (waiting.new.items ≡ waiting_behind waiting.old.items (value.binary operation)) }
 {
     match top_power(waiting) {

@@ -222,6 +222,26 @@ fn power(number: u16) -> Option<u16>
     }
 }
 
+/// The top, where it waits; it stays.
+pub fn top(waiting: &[Waiting]) -> Option<Waiting>
+    ensures { result ≡ top_of waiting.now }
+{
+    match waiting.first() {
+        Some(word) => Some(*word),
+        None => None,
+    }
+}
+
+/// The word below the top, where both wait.
+pub fn under_top(waiting: &[Waiting]) -> Option<Waiting>
+    ensures { result ≡ top_of (below_top waiting.now) }
+{
+    match waiting.get(1) {
+        Some(word) => Some(*word),
+        None => None,
+    }
+}
+
 /// The number that waits on top.
 pub fn top_number(waiting: &[Waiting]) -> Option<u16>
     ensures { result ≡ top_number (top_of waiting.now) }
