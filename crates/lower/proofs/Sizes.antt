@@ -20,7 +20,7 @@ use Rattle.array_versions.specs.declared.operations.UnaryOperation.TheVariants.{
 use Rattle.array_versions.specs.declared.operations.BinaryOperation.TheVariants.{Plain}
 use Rattle.array_versions.specs.declared.operations.PlainOperation.{PlainOperation}
 use Rattle.array_versions.specs.declared.operations.PlainOperation.TheVariants.{And}
-use Rattle.array_versions.specs.Program.{Test, Program, unary, binary, shift, choose, emit_word, store_number, move_word, jump, step, joined}
+use Rattle.array_versions.specs.Program.{Test, Program, unary, binary, shift, emit_word, store_number, move_word, jump, step, joined}
 use Rattle.array_versions.specs.Cost.{binary_cycles, step_cycles, test_cycles, cycles_of, entry_words, step_words, test_words, words_of}
 use Rattle.array_versions.proofs.Interface.{joined_cycles, joined_words, steps_keep_to_words}
 use Rattle.memory_map.specs.MemoryMap.{word_place}

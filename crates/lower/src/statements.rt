@@ -159,7 +159,11 @@ fn set_element_in_place(
         (update_element_step (places_in places.now) operation variable))) }
 {
     index_and_value(alloc, index, e, places, program)?;
-    program.versioned_update(operation, &places.stored_array(variable), &places.list_place())
+    program.versioned_update(
+        operation,
+        &places.stored_array(variable),
+        &places.list_place(),
+    )
 }
 
 // `a[i] = a[i] + e` and its like are in place.
@@ -177,13 +181,7 @@ fn store(
     match e {
         Expr::Binary(op, left, right) => match element_updating(variable, index, *op, left) {
             Some(operation) => set_element_in_place(
-                alloc,
-                operation,
-                variable,
-                index,
-                right,
-                places,
-                program,
+                alloc, operation, variable, index, right, places, program,
             ),
             None => set_element(alloc, variable, index, e, places, program),
         },

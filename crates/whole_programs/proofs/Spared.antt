@@ -23,7 +23,7 @@ use Rattle.lower.specs.array_versions.declared.operations.UnaryOperation.TheVari
 use Rattle.lower.specs.array_versions.declared.operations.BinaryOperation.TheVariants.{Plain}
 use Rattle.lower.specs.array_versions.declared.operations.PlainOperation.{PlainOperation}
 use Rattle.lower.specs.array_versions.declared.operations.PlainOperation.TheVariants.{And}
-use Rattle.lower.specs.array_versions.Program.{Step, Test, Program, unary, binary, shift, emit_word, choose, store_number, move_word, jump, nothing, step}
+use Rattle.lower.specs.array_versions.Program.{Step, Test, Program, unary, binary, shift, emit_word, store_number, move_word, jump, nothing, step}
 use Rattle.lower.specs.array_versions.Program.{joined}
 use Rattle.lower.specs.array_versions.Form.{StepSpares, TestSpares, Spares}
 use Rattle.lower.specs.memory_map.MemoryMap.{word_place}
