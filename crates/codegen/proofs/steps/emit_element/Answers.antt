@@ -1,6 +1,7 @@
 use Rattle.std.proofs.Common.{◌≡◌, ◌++◌, ◌∷◌, [], Some, sym, ap, ap₂, ◌∙◌, append-nil}
 use Rattle.std.proofs.lemmas.Result.{on_ok_weaker}
 use Rattle.code_forms.specs.Placed.{instructions}
+use Rattle.codegen.specs.declared.waiting.Waiting.TheVariants as waiting
 use Rattle.codegen.specs.Code.{top_of, top_to_four, element_code, top_number, element_behind, element_at}
 use Rattle.codegen.proofs.Emitted.{two_behind}
 use Rattle.codegen.proofs.steps.emit_element.Goals as goal
@@ -33,5 +34,5 @@ pub returns-in_ok-emit_fetch-in-None-clause-waiting : goal.returns-in_ok-emit_fe
 returns-in_ok-emit_fetch-in-None-clause-waiting c =
     let os = c.args.waiting.now.items in
     let known = sym c.in-None.is ∙ c.top_number.ensures ∙ ap (λ ws. top_number (top_of ws)) c.deref.ensures.value in
-    on_ok_weaker c.wait-in-None.result (λ w. w ∙ ap (λ ws. _ ∷ ws) c.in_ok-emit_top_to_four-in-None.ensures.waiting
+    on_ok_weaker c.wait-in-None.result (λ w. w ∙ ap (λ ws. waiting.R4 ∷ ws) c.in_ok-emit_top_to_four-in-None.ensures.waiting
     ∙ ap (λ k. element_behind k os c.args.base c.args.length) known) c.wait-in-None.ensures
