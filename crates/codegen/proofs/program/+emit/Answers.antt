@@ -60,7 +60,7 @@ emit_test-returns-in_ok-emit_steps-in-Holds-clause-code t c =
     let after = made.waiting ∙ ap (λ ws. waiting_after ws (steps_of c.deref.result.now)) none ∙ ap (λ s. waiting_after [] (steps_of s)) same in
     let is = ap test_of c.in-Holds.is ∙ test_of-holds c.in-Holds.steps in
     part_behind c.emit_holds.result old c.emit_steps.new.code.items c.emit_holds.new.code.items (steps_code [] p) (last c.emit_steps.new.waiting.items)
-      (last os) _
+    (last os) _
     first (ap last after) (ap (λ q. test_code q c.args.when c.args.over) (sym is)) c.emit_holds.ensures
 
 pub emit_test-returns-in_ok-emit_steps-in-Compares-clause-code : goal.emit_test-returns-in_ok-emit_steps-in-Compares-clause-code
@@ -77,7 +77,7 @@ emit_test-returns-in_ok-emit_steps-in-Compares-clause-code t c =
     let after = made.waiting ∙ ap (λ ws. waiting_after ws (steps_of c.deref-in-Compares.result.now)) none ∙ ap (λ s. waiting_after [] (steps_of s)) same in
     let is = ap test_of c.in-Compares.is ∙ test_of-compares c.in-Compares.comparison c.in-Compares.steps in
     part_behind c.emit_compares.result old c.emit_steps-in-Compares.new.code.items c.emit_compares.new.code.items (steps_code [] p)
-      (last c.emit_steps-in-Compares.new.waiting.items) (last os) _
+    (last c.emit_steps-in-Compares.new.waiting.items) (last os) _
     first (ap last after) (ap (λ q. test_code q c.args.when c.args.over) (sym is)) c.emit_compares.ensures
 
 pub emit_truth-returns-clause-code : goal.emit_truth-returns-clause-code
@@ -152,7 +152,7 @@ emit_test-code_words-requires t c =
     let second = test_code u when over in
     let is = ap test_of c.in-Both.is ∙ test_of-both c.in-Both.first c.in-Both.second in
     let own = c.in_ok-emit_test-in-Both.ensures.code ∙ ap (λ x. c.new-behind.result.items ++ instructions (test_code (test_of x) when over))
-      c.deref-in-Both.ensures
+    c.deref-in-Both.ensures
     ∙ ap (λ l. l ++ instructions second) c.new-behind.ensures.items in
     let words = own_words c.deref-in-Both-2.result.now second (c.deref-in-Both-2.ensures.value ∙ own) in
     omega (arith, words, test_short u when over, ap test_words is, c.requires.room)
@@ -166,7 +166,7 @@ emit_test-overflow_add-further t c =
     let second = test_code u when over in
     let is = ap test_of c.in-Both.is ∙ test_of-both c.in-Both.first c.in-Both.second in
     let own = c.in_ok-emit_test-in-Both.ensures.code ∙ ap (λ x. c.new-behind.result.items ++ instructions (test_code (test_of x) when over))
-      c.deref-in-Both.ensures
+    c.deref-in-Both.ensures
     ∙ ap (λ l. l ++ instructions second) c.new-behind.ensures.items in
     let words = own_words c.deref-in-Both-2.result.now second (c.deref-in-Both-2.ensures.value ∙ own) in
     omega (arith, words, test_short u when over, ap test_words is, c.requires.room, c.code_words.ensures, c.words_if.ensures, words_at_most (not when) over)
@@ -180,13 +180,22 @@ emit_test-emit_test-requires-in-Both t c =
     let second = test_code u when over in
     let is = ap test_of c.in-Both.is ∙ test_of-both c.in-Both.first c.in-Both.second in
     let own = c.in_ok-emit_test-in-Both.ensures.code ∙ ap (λ x. c.new-behind.result.items ++ instructions (test_code (test_of x) when over))
-      c.deref-in-Both.ensures
+    c.deref-in-Both.ensures
     ∙ ap (λ l. l ++ instructions second) c.new-behind.ensures.items in
     let words = own_words c.deref-in-Both-2.result.now second (c.deref-in-Both-2.ensures.value ∙ own) in (
       search (rules, word_step.the_lemmas),
       (
-        omega (arith, words, test_short u when over, ap test_words is, c.requires.room, c.code_words.ensures, c.words_if.ensures,
-          words_at_most (not when) over, ap (λ x. test_words (test_of x)) c.deref-in-Both-3.ensures),
+        omega (
+          arith,
+          words,
+          test_short u when over,
+          ap test_words is,
+          c.requires.room,
+          c.code_words.ensures,
+          c.words_if.ensures,
+          words_at_most (not when) over,
+          ap (λ x. test_words (test_of x)) c.deref-in-Both-3.ensures,
+        ),
         subst (λ x. TestLocalsBelow 1008 (test_of x)) (sym c.deref-in-Both-3.ensures) (subst (TestLocalsBelow 1008) is c.requires.locals).0,
       ),
     )
@@ -200,18 +209,18 @@ emit_test-returns-in_ok-emit_test-in-Both-2-clause-code t c =
     let second = test_code u when over in
     let is = ap test_of c.in-Both.is ∙ test_of-both c.in-Both.first c.in-Both.second in
     let own = c.in_ok-emit_test-in-Both.ensures.code ∙ ap (λ x. c.new-behind.result.items ++ instructions (test_code (test_of x) when over))
-      c.deref-in-Both.ensures
+    c.deref-in-Both.ensures
     ∙ ap (λ l. l ++ instructions second) c.new-behind.ensures.items in
     let words = own_words c.deref-in-Both-2.result.now second (c.deref-in-Both-2.ensures.value ∙ own) in
     let old = c.args.code.now.items in
     let counted = ap (λ n. n + c.words_if.result) (c.code_words.ensures ∙ words) ∙ ap (λ n. size second + n) c.words_if.ensures in
     let tested = c.in_ok-emit_test-in-Both-2.ensures.code
-      ∙ ap (λ x. old ++ instructions (test_code (test_of x) false (c.code_words.result + c.words_if.result))) c.deref-in-Both-3.ensures
+    ∙ ap (λ x. old ++ instructions (test_code (test_of x) false (c.code_words.result + c.words_if.result))) c.deref-in-Both-3.ensures
     ∙ ap (λ n. old ++ instructions (test_code a false n)) counted in
     own_behind c.extend_from_slice.result old c.emit_test-in-Both.new.code.items c.deref-in-Both-4.result.now _
-      (test_code a false (size second + (if not when then over else 0))) second _
+    (test_code a false (size second + (if not when then over else 0))) second _
     tested (c.deref-in-Both-4.ensures.value ∙ own) (ap (λ q. test_code q when over) (sym is))
-      (on_ok_items c.extend_from_slice.result _ _ _ c.extend_from_slice.ensures.items)
+    (on_ok_items c.extend_from_slice.result _ _ _ c.extend_from_slice.ensures.items)
 
 pub emit_test-code_words-requires-in-Either : goal.emit_test-code_words-requires-in-Either
 emit_test-code_words-requires-in-Either t c =
@@ -222,7 +231,7 @@ emit_test-code_words-requires-in-Either t c =
     let second = test_code u when over in
     let is = ap test_of c.in-Either.is ∙ test_of-either c.in-Either.first c.in-Either.second in
     let own = c.in_ok-emit_test-in-Either.ensures.code ∙ ap (λ x. c.new-behind-in-Either.result.items ++ instructions (test_code (test_of x) when over))
-      c.deref-in-Either.ensures
+    c.deref-in-Either.ensures
     ∙ ap (λ l. l ++ instructions second) c.new-behind-in-Either.ensures.items in
     let words = own_words c.deref-in-Either-2.result.now second (c.deref-in-Either-2.ensures.value ∙ own) in
     omega (arith, words, test_short u when over, ap test_words is, c.requires.room)
@@ -236,11 +245,19 @@ emit_test-overflow_add-further-in-Either t c =
     let second = test_code u when over in
     let is = ap test_of c.in-Either.is ∙ test_of-either c.in-Either.first c.in-Either.second in
     let own = c.in_ok-emit_test-in-Either.ensures.code ∙ ap (λ x. c.new-behind-in-Either.result.items ++ instructions (test_code (test_of x) when over))
-      c.deref-in-Either.ensures
+    c.deref-in-Either.ensures
     ∙ ap (λ l. l ++ instructions second) c.new-behind-in-Either.ensures.items in
     let words = own_words c.deref-in-Either-2.result.now second (c.deref-in-Either-2.ensures.value ∙ own) in
-    omega (arith, words, test_short u when over, ap test_words is, c.requires.room, c.code_words-in-Either.ensures, c.words_if-in-Either.ensures,
-      words_at_most (when) over)
+    omega (
+      arith,
+      words,
+      test_short u when over,
+      ap test_words is,
+      c.requires.room,
+      c.code_words-in-Either.ensures,
+      c.words_if-in-Either.ensures,
+      words_at_most (when) over,
+    )
 
 pub emit_test-emit_test-requires-in-Either-2 : goal.emit_test-emit_test-requires-in-Either-2
 emit_test-emit_test-requires-in-Either-2 t c =
@@ -251,13 +268,22 @@ emit_test-emit_test-requires-in-Either-2 t c =
     let second = test_code u when over in
     let is = ap test_of c.in-Either.is ∙ test_of-either c.in-Either.first c.in-Either.second in
     let own = c.in_ok-emit_test-in-Either.ensures.code ∙ ap (λ x. c.new-behind-in-Either.result.items ++ instructions (test_code (test_of x) when over))
-      c.deref-in-Either.ensures
+    c.deref-in-Either.ensures
     ∙ ap (λ l. l ++ instructions second) c.new-behind-in-Either.ensures.items in
     let words = own_words c.deref-in-Either-2.result.now second (c.deref-in-Either-2.ensures.value ∙ own) in (
       search (rules, word_step.the_lemmas),
       (
-        omega (arith, words, test_short u when over, ap test_words is, c.requires.room, c.code_words-in-Either.ensures, c.words_if-in-Either.ensures,
-          words_at_most (when) over, ap (λ x. test_words (test_of x)) c.deref-in-Either-3.ensures),
+        omega (
+          arith,
+          words,
+          test_short u when over,
+          ap test_words is,
+          c.requires.room,
+          c.code_words-in-Either.ensures,
+          c.words_if-in-Either.ensures,
+          words_at_most (when) over,
+          ap (λ x. test_words (test_of x)) c.deref-in-Either-3.ensures,
+        ),
         subst (λ x. TestLocalsBelow 1008 (test_of x)) (sym c.deref-in-Either-3.ensures) (subst (TestLocalsBelow 1008) is c.requires.locals).0,
       ),
     )
@@ -271,18 +297,18 @@ emit_test-returns-in_ok-emit_test-in-Either-2-clause-code t c =
     let second = test_code u when over in
     let is = ap test_of c.in-Either.is ∙ test_of-either c.in-Either.first c.in-Either.second in
     let own = c.in_ok-emit_test-in-Either.ensures.code ∙ ap (λ x. c.new-behind-in-Either.result.items ++ instructions (test_code (test_of x) when over))
-      c.deref-in-Either.ensures
+    c.deref-in-Either.ensures
     ∙ ap (λ l. l ++ instructions second) c.new-behind-in-Either.ensures.items in
     let words = own_words c.deref-in-Either-2.result.now second (c.deref-in-Either-2.ensures.value ∙ own) in
     let old = c.args.code.now.items in
     let counted = ap (λ n. n + c.words_if-in-Either.result) (c.code_words-in-Either.ensures ∙ words) ∙ ap (λ n. size second + n) c.words_if-in-Either.ensures in
     let tested = c.in_ok-emit_test-in-Either-2.ensures.code
-      ∙ ap (λ x. old ++ instructions (test_code (test_of x) true (c.code_words-in-Either.result + c.words_if-in-Either.result))) c.deref-in-Either-3.ensures
+    ∙ ap (λ x. old ++ instructions (test_code (test_of x) true (c.code_words-in-Either.result + c.words_if-in-Either.result))) c.deref-in-Either-3.ensures
     ∙ ap (λ n. old ++ instructions (test_code a true n)) counted in
     own_behind c.extend_from_slice-in-Either.result old c.emit_test-in-Either-2.new.code.items c.deref-in-Either-4.result.now _
-      (test_code a true (size second + (if when then over else 0))) second _
+    (test_code a true (size second + (if when then over else 0))) second _
     tested (c.deref-in-Either-4.ensures.value ∙ own) (ap (λ q. test_code q when over) (sym is))
-      (on_ok_items c.extend_from_slice-in-Either.result _ _ _ c.extend_from_slice-in-Either.ensures.items)
+    (on_ok_items c.extend_from_slice-in-Either.result _ _ _ c.extend_from_slice-in-Either.ensures.items)
 
 pub emit_loop-code_words-over-requires : goal.emit_loop-code_words-over-requires
 emit_loop-code_words-over-requires t c =
@@ -360,7 +386,7 @@ emit_step-code_words-requires-in-Choose t c =
     ∙ ap (λ l. l ++ instructions other) c.new-other.ensures.items in
     let behind = own_words c.deref-in-Choose-2.result.now other (c.deref-in-Choose-2.ensures.value ∙ otherwise) in
     let taken = c.in_ok-emit_block-in-Choose-2.ensures.code ∙ ap (λ s. c.new-first.result.items ++ instructions (code_of (steps_of s)))
-      c.deref-in-Choose.ensures.value
+    c.deref-in-Choose.ensures.value
     ∙ ap (λ l. l ++ instructions b) c.new-first.ensures.items in
     let first = c.in_ok-emit_pass_over-in-Choose.ensures
     ∙ ap (λ n. c.emit_block-in-Choose.new.code.items ++ instructions (pass_over n)) (c.code_words.ensures ∙ behind)
@@ -379,7 +405,7 @@ emit_step-emit_test-requires t c =
     ∙ ap (λ l. l ++ instructions other) c.new-other.ensures.items in
     let behind = own_words c.deref-in-Choose-2.result.now other (c.deref-in-Choose-2.ensures.value ∙ otherwise) in
     let taken = c.in_ok-emit_block-in-Choose-2.ensures.code ∙ ap (λ s. c.new-first.result.items ++ instructions (code_of (steps_of s)))
-      c.deref-in-Choose.ensures.value
+    c.deref-in-Choose.ensures.value
     ∙ ap (λ l. l ++ instructions b) c.new-first.ensures.items in
     let first = c.in_ok-emit_pass_over-in-Choose.ensures
     ∙ ap (λ n. c.emit_block-in-Choose.new.code.items ++ instructions (pass_over n)) (c.code_words.ensures ∙ behind)
@@ -387,8 +413,16 @@ emit_step-emit_test-requires t c =
     let words = own_words c.deref-in-Choose-3.result.now (b ++ over) (c.deref-in-Choose-3.ensures.value ∙ first) in (
       search (rules, word_step.the_lemmas),
       (
-        omega (arith, words, forms_bytes-append b over, code_short (steps_of of.taken.items), pass_short (size other), ap step_words is, c.requires.room,
-          c.code_words-in-Choose.ensures),
+        omega (
+          arith,
+          words,
+          forms_bytes-append b over,
+          code_short (steps_of of.taken.items),
+          pass_short (size other),
+          ap step_words is,
+          c.requires.room,
+          c.code_words-in-Choose.ensures,
+        ),
         (subst (StepLocalsBelow 1008) is c.requires.locals).0,
       ),
     )
@@ -404,7 +438,7 @@ emit_step-returns-in_ok-extend_from_slice-in-Choose-clause-code t c =
     ∙ ap (λ l. l ++ instructions other) c.new-other.ensures.items in
     let behind = own_words c.deref-in-Choose-2.result.now other (c.deref-in-Choose-2.ensures.value ∙ otherwise) in
     let taken = c.in_ok-emit_block-in-Choose-2.ensures.code ∙ ap (λ s. c.new-first.result.items ++ instructions (code_of (steps_of s)))
-      c.deref-in-Choose.ensures.value
+    c.deref-in-Choose.ensures.value
     ∙ ap (λ l. l ++ instructions b) c.new-first.ensures.items in
     let first = c.in_ok-emit_pass_over-in-Choose.ensures
     ∙ ap (λ n. c.emit_block-in-Choose.new.code.items ++ instructions (pass_over n)) (c.code_words.ensures ∙ behind)

@@ -12,7 +12,7 @@ returns-clause-code c =
     let ks = kept (below_top (below_top os)) in
     let ms = write_code c.args.place c.args.list in
     let first = c.in_ok-emit_all.ensures.code ∙ ap (λ ws. c.emit_two_to_registers.new.code.items ++ instructions (flushed ws))
-      c.in_ok-emit_two_to_registers.ensures.waiting
+    c.in_ok-emit_two_to_registers.ensures.waiting
     ∙ ap (λ l. l ++ instructions (flushed ks)) c.in_ok-emit_two_to_registers.ensures.code ∙ two_behind old front (flushed ks) in
     part_behind c.emit_write.result old c.emit_all.new.code.items c.emit_write.new.code.items (front ++ flushed ks) ms ms _ first refl refl
-      c.emit_write.ensures.code
+    c.emit_write.ensures.code
