@@ -194,11 +194,7 @@ fn rests(right: Option<Waiting>) -> bool
 pub fn rest_source(right: Option<Waiting>) -> Src
     ensures { result ≡ source_operand (rest_source right) }
 {
-    if rests(right) {
-        source_from(right)
-    } else {
-        R5
-    }
+    if rests(right) { source_from(right) } else { R5 }
 }
 
 /// Appends what brings it there.
