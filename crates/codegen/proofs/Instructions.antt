@@ -246,9 +246,17 @@ ways_are again first la lf h k =
 inside_are : (o : PlainOperation) (x : Source) (place : ArrayPlace) (list : ListPlace) → Are (inside_update o x place list)
 inside_are o x place list =
     let again = made_code o x place.copies place.copies in
-    let first = first_update o x place list in
-    (tt, (tt, (tt, ways_are again first (omega (arith, made_bytes o x place.copies place.copies, reads_bytes o x))
-    (omega (arith, first_bytes o x place list, reads_bytes o x)) (tt, (tt, (tt, tt))) (first_are o x place list))))
+    let first = first_update o x place list in (
+      tt,
+      (
+        tt,
+        (
+          tt,
+          ways_are again first (omega (arith, made_bytes o x place.copies place.copies, reads_bytes o x))
+              (omega (arith, first_bytes o x place list, reads_bytes o x)) (tt, (tt, (tt, tt))) (first_are o x place list),
+        ),
+      ),
+    )
 
 checked_are : (o : PlainOperation) (x : Source) (place : ArrayPlace) (list : ListPlace) → Are (checked_update o x place list)
 checked_are o x place list =
@@ -258,9 +266,14 @@ checked_are o x place list =
 known_are : (o : PlainOperation) (x : Source) (place : ArrayPlace) (list : ListPlace) (k : ℕ) → Are (known_update o x place list k)
 known_are o x place list k =
     let again = Update (plain_instruction o) x (word_sum place.copies (word_sum k k)) ∷ [] in
-    let first = Move (Number (word_sum k k)) (ToRegister R4) ∷ first_update o x place list in
-    (tt, (tt, ways_are again first (omega (arith, reads_bytes o x)) (omega (arith, first_bytes o x place list, reads_bytes o x)) (tt, tt)
-    (tt, first_are o x place list)))
+    let first = Move (Number (word_sum k k)) (ToRegister R4) ∷ first_update o x place list in (
+      tt,
+      (
+        tt,
+        ways_are again first (omega (arith, reads_bytes o x)) (omega (arith, first_bytes o x place list, reads_bytes o x)) (tt, tt)
+            (tt, first_are o x place list),
+      ),
+    )
 
 in_place_are : (k : Option ℕ) (o : PlainOperation) (place : ArrayPlace) (list : ListPlace) (os : List Waiting) → Are (update_at k os o place list)
 in_place_are None o place list os =

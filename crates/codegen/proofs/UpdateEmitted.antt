@@ -1,5 +1,5 @@
 -- Code of updates that is appended piece by piece.
-use Rattle.std.proofs.Common.{◌≡◌, ℕ, ◌+◌, ◌<◌, ◌≤◌, List, [], ◌∷◌, ◌++◌, length, sym, ap, ap₂, ◌∙◌, arith, append_assoc}
+use Rattle.std.proofs.Common.{◌≡◌, ℕ, ◌+◌, ◌≤◌, List, [], ◌∷◌, ◌++◌, length, sym, ap, ap₂, ◌∙◌, arith, append_assoc}
 use Rattle.msp_isa.specs.declared.instructions.Condition.TheVariants as condition
 use Rattle.msp_isa.specs.declared.instructions.Instr.{Instr}
 use Rattle.code_forms.specs.Forms.{Form, Jump, instruction_of}
@@ -8,7 +8,6 @@ use Rattle.code_forms.specs.Placed.{instructions, words_of as instruction_words}
 use Rattle.code_forms.proofs.Interface.{forms_bytes-append, instructions-append}
 use Rattle.codegen.specs.Code.{size, by_version}
 use Rattle.codegen.proofs.Jumps.{whole_size}
-use Rattle.codegen.proofs.UpdateBytes.{near_size}
 use Rattle.codegen.proofs.Emitted.{own_words}
 
 -- the words of a piece that was made by itself

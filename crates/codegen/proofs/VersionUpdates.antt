@@ -1,6 +1,6 @@
 -- Elements that are updated in place.
-use Rattle.std.proofs.Common.{◌≡◌, ℕ, ◌+◌, ◌-◌, ◌*◌, ◌%◌, ◌<◌, ◌≤◌, ◌==◌, not, Bool, true, false, nat_lt, nat_le, if◌then◌else◌, List, [], ◌∷◌, ◌++◌, length}
-use Rattle.std.proofs.Common.{Option, Some, None, refl, sym, ap, ap₂, ◌∙◌, subst, arith}
+use Rattle.std.proofs.Common.{◌≡◌, ℕ, ◌+◌, ◌-◌, ◌*◌, ◌%◌, ◌<◌, ◌≤◌, ◌==◌, not, Bool, true, false, nat_lt, nat_le, if◌then◌else◌, List, [], ◌∷◌, ◌++◌}
+use Rattle.std.proofs.Common.{Some, None, refl, sym, ap, ap₂, ◌∙◌, subst, arith}
 use Rattle.std.specs.List.{AllByRecursion}
 use Rattle.msp_isa.specs.alp_words.Words.{word_sum}
 use Rattle.msp_isa.specs.alp_words.declared.Width.TheVariants.{Word}
@@ -40,7 +40,7 @@ use Rattle.codegen.proofs.Updates.{plain_needs}
 use Rattle.codegen.proofs.Operands.{owed, load_cycles, load_owed, Describes, bare, dressed, drop_part}
 use Rattle.codegen.proofs.UpdateSides.{GivesOn, Rested, Aims, rest_cycles, reads_cycles, reads_price, writes_price, rest_owed, update_sides_part, right_part}
 use Rattle.codegen.proofs.ListParts.{first_follows}
-use Rattle.codegen.proofs.UpdateBytes.{reads_bytes, made_bytes, first_bytes, ways_bytes, inside_bytes, near_size}
+use Rattle.codegen.proofs.UpdateBytes.{reads_bytes, made_bytes, first_bytes, inside_bytes, near_size}
 use Rattle.codegen.proofs.Results.{Does}
 
 -- a jump over code that it reaches

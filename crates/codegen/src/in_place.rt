@@ -155,13 +155,7 @@ fn number_below(length: u16, waiting: &[Waiting]) -> Option<u16>
     ensures { result ≡ if_below length (top_number (top_of waiting.now)) }
 {
     match top_number(waiting) {
-        Some(number) => {
-            if number < length {
-                Some(number)
-            } else {
-                None
-            }
-        }
+        Some(number) => { if number < length { Some(number) } else { None } }
         None => None,
     }
 }

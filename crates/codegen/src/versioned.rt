@@ -191,7 +191,11 @@ fn emit_word(list: ListPlace, code: &mut Vec<Instr>) -> Result<(), AllocError>
 }
 
 /// Appends what follows the first store to a copy.
-pub fn emit_first(place: ArrayPlace, list: ListPlace, code: &mut Vec<Instr>) -> Result<(), AllocError>
+pub fn emit_first(
+    place: ArrayPlace,
+    list: ListPlace,
+    code: &mut Vec<Instr>,
+) -> Result<(), AllocError>
     ensures { OnOk result (code.new.items ≡ code.old.items ++ instructions (first_code place list)) }
 {
     emit_mark(place, list, code)?;

@@ -8,7 +8,9 @@ ghost use Rattle.codegen.specs.Code as made;
 ghost use Rattle.codegen.specs.Code.{flushed, top_of, below_top, is_held, any_held, cleared, kept, four_from, five_from, top_to_four, top_to_five};
 ghost use Rattle.codegen.specs.Code.{two_to_registers, stays, right_source, sides, power, top_number, top_power, top_mask, rests, rest_source, to_rest};
 
-use crate::forms::{POPPED, R4, R5, R6, TO_R4, TO_R5, absolute, local_register, number_source, push, two};
+use crate::forms::{
+    POPPED, R4, R5, R6, TO_R4, TO_R5, absolute, local_register, number_source, push, two,
+};
 use msp_isa::{Instr, Operand, SourceRegister, Src, TwoOp};
 use std::alloc::AllocError;
 
@@ -192,11 +194,7 @@ fn rests(right: Option<Waiting>) -> bool
 pub fn rest_source(right: Option<Waiting>) -> Src
     ensures { result ≡ source_operand (rest_source right) }
 {
-    if rests(right) {
-        source_from(right)
-    } else {
-        R5
-    }
+    if rests(right) { source_from(right) } else { R5 }
 }
 
 /// Appends what brings it there.

@@ -7,8 +7,8 @@ use Rattle.codegen.specs.Code.{known_update, if_below, update_at}
 use Rattle.codegen.proofs.Emitted.{part_behind}
 use Rattle.codegen.proofs.in_place.emit_versioned_update.Goals as goal
 
-pub returns-in-Some-clause-code : goal.returns-in-Some-clause-code
-returns-in-Some-clause-code c =
+pub returns-in_ok-emit_rest-in-Some-clause-code : goal.returns-in_ok-emit_rest-in-Some-clause-code
+returns-in_ok-emit_rest-in-Some-clause-code c =
     let old = c.args.code.now.items in
     let os = c.args.waiting.now.items in
     let place = c.args.place in
@@ -17,12 +17,12 @@ returns-in-Some-clause-code c =
     ∙ ap (λ ws. if_below place.length (top_number (top_of ws))) (c.deref.ensures.value ∙ right.below) in
     let below = c.take.ensures.below ∙ ap below_top right.below in
     let ms : Option Waiting → List Form = λ o. known_update c.args.operation (rest_source o) place c.args.list c.in-Some.index in
-    let first = c.in_ok-emit_rest.ensures.code ∙ ap₂ (λ ws o. old ++ instructions (flushed ws ++ to_rest o)) below right.top in
+    let first = c.in_ok-emit_rest-in-Some.ensures.code ∙ ap₂ (λ ws o. old ++ instructions (flushed ws ++ to_rest o)) below right.top in
     part_behind c.emit_known.result old c.emit_rest.new.code.items c.emit_known.new.code.items (right_to_rest os) (ms c.take-right.result) (ms (top_of os)) _
     first (ap ms right.top) (ap (λ k. update_at k os c.args.operation place c.args.list) known) c.emit_known.ensures
 
-pub returns-in-None-clause-code : goal.returns-in-None-clause-code
-returns-in-None-clause-code c =
+pub returns-in_ok-emit_rest_and_index-in-None-clause-code : goal.returns-in_ok-emit_rest_and_index-in-None-clause-code
+returns-in_ok-emit_rest_and_index-in-None-clause-code c =
     let old = c.args.code.now.items in
     let os = c.args.waiting.now.items in
     let place = c.args.place in
