@@ -46,7 +46,7 @@ use Rattle.codegen.specs.Code.{compare_form, holding, failing, size, pass_over, 
 use Rattle.codegen.specs.Code.{turn_end}
 use Rattle.codegen.specs.Code.{turns_code, waiting_behind, waiting_after, bound_of, is_inside, step_code, test_code, steps_code, block_code, code_of}
 use Rattle.codegen.specs.Code.{rests, rest_source, to_rest, right_to_rest, update_sides, made_code, first_update, by_version, inside_update, checked_update}
-use Rattle.codegen.specs.Code.{known_update, known_index, update_at}
+use Rattle.codegen.specs.Code.{indexed_update, known_update, known_index, update_at}
 use Rattle.codegen.specs.Laws.{CodeIsInstructions}
 use Rattle.codegen.proofs.UpdateBytes.{reads_bytes, made_bytes, first_bytes, inside_bytes, near_size}
 
@@ -275,15 +275,20 @@ known_are o x place list k =
       ),
     )
 
-in_place_are : (k : Option ℕ) (o : PlainOperation) (place : ArrayPlace) (list : ListPlace) (os : List Waiting) → Are (update_at k os o place list)
-in_place_are None o place list os =
+indexed_are : (sure : Bool) (o : PlainOperation) (x : Source) (place : ArrayPlace) (list : ListPlace) → Are (indexed_update sure o x place list)
+indexed_are true o x place list = inside_are o x place list
+indexed_are false o x place list = checked_are o x place list
+
+in_place_are : (k : Option ℕ) (sure : Bool) (o : PlainOperation) (place : ArrayPlace) (list : ListPlace) (os : List Waiting)
+    → Are (update_at k sure os o place list)
+in_place_are None sure o place list os =
     let under = below_top os in
     let x = rest_source (top_of os) in
     let right = to_rest (top_of os) in
-    are-append (update_sides os) (checked_update o x place list) (are-append (flushed (below_top under)) (right ++ four_from (top_of under))
+    are-append (update_sides os) (indexed_update sure o x place list) (are-append (flushed (below_top under)) (right ++ four_from (top_of under))
     (flushed_are (below_top under)) (are-append right (four_from (top_of under)) (rest_are (top_of os)) (four_are (top_of under))))
-    (checked_are o x place list)
-in_place_are (Some k) o place list os =
+    (indexed_are sure o x place list)
+in_place_are (Some k) sure o place list os =
     let x = rest_source (top_of os) in
     let below = below_top (below_top os) in
     are-append (right_to_rest os) (known_update o x place list k) (are-append (flushed below) (to_rest (top_of os)) (flushed_are below) (rest_are (top_of os)))
@@ -324,7 +329,8 @@ mutual
       let b = is_inside bs (top_of (below_top os)) place.length in
       are-append (two_to_registers os ++ flushed ks) (write_code b place list) (are-append (two_to_registers os) (flushed ks) (two_are os) (flushed_are ks))
       (write_are b place list)
-  step_are bs (versioned_update o place list) os = in_place_are (known_index os place.length) o place list os
+  step_are bs (versioned_update o place list) os =
+      in_place_are (known_index os place.length) (is_inside bs (top_of (below_top os)) place.length) o place list os
   step_are bs sense os = are-append (cleared os) (forms.Sense R4 ∷ []) (cleared_are os) (tt, tt)
   step_are bs (truth t) os =
       are-append (flushed os) (test_code bs t false 2 ++ truth_code) (flushed_are os)

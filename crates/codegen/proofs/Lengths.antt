@@ -50,7 +50,7 @@ use Rattle.codegen.specs.Code.{pair_code, entry_code, own_code, read_code, store
 use Rattle.codegen.specs.Code.{decision, holds_code}
 use Rattle.codegen.specs.Code.{compares_code, truth_code, number_code, turn_end, turns_code, waiting_behind, waiting_after, step_code, test_code, steps_code}
 use Rattle.codegen.specs.Code.{top_number, element_at, bound_of, is_inside, block_code, code_of}
-use Rattle.codegen.specs.Code.{rests, rest_source, to_rest, right_to_rest, update_sides, checked_update, known_update, known_index, update_at}
+use Rattle.codegen.specs.Code.{rests, rest_source, to_rest, right_to_rest, update_sides, checked_update, indexed_update, known_update, known_index, update_at}
 use Rattle.codegen.proofs.UpdateBytes.{checked_bytes, known_bytes}
 use Rattle.codegen.specs.Laws.{CodeHasItsBytes, CodeHasItsWords}
 
@@ -342,23 +342,29 @@ rest_short_by true (o ∷ os) e = omega (arith, source_short (o ∷ os), waiting
 rest_short_by false os e = omega (arith, five_short os)
 
 -- an element that is updated in place
-in_place_short : (k : Option ℕ) (o : PlainOperation) (place : ArrayPlace) (list : ListPlace) (os : List Waiting)
-    → forms_bytes (update_at k os o place list) + 0 ≤ 140 + kept_bytes os
-in_place_short None o place list os =
+indexed_bytes : (sure : Bool) (o : PlainOperation) (x : Source) (place : ArrayPlace) (list : ListPlace)
+    → forms_bytes (indexed_update sure o x place list) ≤ forms_bytes (checked_update o x place list)
+indexed_bytes true o x place list = omega arith
+indexed_bytes false o x place list = omega arith
+
+in_place_short : (k : Option ℕ) (sure : Bool) (o : PlainOperation) (place : ArrayPlace) (list : ListPlace) (os : List Waiting)
+    → forms_bytes (update_at k sure os o place list) + 0 ≤ 140 + kept_bytes os
+in_place_short None sure o place list os =
     let under = below_top os in
     let x = rest_source (top_of os) in
     let right = to_rest (top_of os) in
     omega (
       arith,
-      forms_bytes-append (update_sides os) (checked_update o x place list),
+      forms_bytes-append (update_sides os) (indexed_update sure o x place list),
       forms_bytes-append (flushed (below_top under)) (right ++ four_from (top_of under)),
       forms_bytes-append right (four_from (top_of under)),
       flushed_short (below_top under),
       rest_short_by (rests (top_of os)) os refl,
       four_short under,
+      indexed_bytes sure o x place list,
       checked_bytes o x place list,
     )
-in_place_short (Some k) o place list os =
+in_place_short (Some k) sure o place list os =
     let under = below_top os in
     let x = rest_source (top_of os) in
     omega (
@@ -455,7 +461,8 @@ mutual
         two_short os,
         flushed_short ks,
       )
-  step_short bs (versioned_update o place list) os = in_place_short (known_index os place.length) o place list os
+  step_short bs (versioned_update o place list) os =
+      in_place_short (known_index os place.length) (is_inside bs (top_of (below_top os)) place.length) o place list os
   step_short bs sense os = omega (arith, forms_bytes-append (cleared os) (forms.Sense R4 ∷ []), cleared_short os)
   step_short bs (truth t) os =
       behind_flushed os (test_code bs t false 2 ++ truth_code) (test_words t + 3)

@@ -24,10 +24,11 @@ use Rattle.array_versions.specs.Program.{versioned_update}
 use Rattle.array_versions.specs.Behaviour.{WordState, Behaviour, goes_on, behind_effects, with_two, with_stack, is_place, at_place, stored, first_stored}
 use Rattle.array_versions.specs.Behaviour.{own_place, own_kept, own_updated, versioned_updated}
 use Rattle.array_versions.proofs.Interface.{plain_small, put_words}
+use Rattle.codegen.specs.declared.bounds.Bound.{Bound}
 use Rattle.codegen.specs.declared.waiting.Waiting.{Waiting}
 use Rattle.codegen.specs.declared.waiting.Waiting.TheVariants as waiting
 use Rattle.codegen.specs.Code.{top_of, below_top, plain_instruction, first_code, size, double, rest_source, right_to_rest, update_sides, made_code}
-use Rattle.codegen.specs.Code.{attempt_form, first_update, by_version, inside_update, checked_update, known_update, update_at, step_code}
+use Rattle.codegen.specs.Code.{attempt_form, first_update, by_version, inside_update, checked_update, indexed_update, known_update, update_at, is_inside, step_code}
 use Rattle.codegen.proofs.Stretches.{Setting, straight, hop, runs_on, dearer, so_runs}
 use Rattle.codegen.proofs.Memory.{place_is}
 use Rattle.codegen.proofs.Follows.{StandsFor, Follows, more_cycles, then_end, ends_at, guarded, stands_elsewhere, reach_more, then_reach, reaches}
@@ -38,6 +39,7 @@ use Rattle.codegen.proofs.Access.{le_of_lt}
 use Rattle.codegen.proofs.Middles.{makes}
 use Rattle.codegen.proofs.Updates.{plain_needs}
 use Rattle.codegen.proofs.Operands.{owed, load_cycles, load_owed, Describes, bare, dressed, drop_part}
+use Rattle.codegen.proofs.Bounds.{Bounded, under_inside}
 use Rattle.codegen.proofs.UpdateSides.{GivesOn, Rested, Aims, rest_cycles, reads_cycles, reads_price, writes_price, rest_owed, update_sides_part, right_part}
 use Rattle.codegen.proofs.ListParts.{first_follows}
 use Rattle.codegen.proofs.UpdateBytes.{reads_bytes, made_bytes, first_bytes, inside_bytes, near_size}
@@ -403,6 +405,17 @@ module _ (z : Setting) (o : PlainOperation) (x : Source) (r : ℕ) (reads : sour
       → Follows z (pc + forms_bytes (checked_update o x place list)) (81 + r) t (versioned_updated o place list i v w)
   checked_part pc i v w t wl li lv ln h k = checked_by (nat_lt i place.length) pc i v w t wl li lv ln refl h k
 
+  -- the same where the check may be left out
+  pub indexed_part : (sure : Bool) (pc i v : ℕ) (w : WordState) (t : Core) → ((a : ℕ) → w.fram a < 0x10000) → i < 0x10000 → v < 0x10000
+      → place.length < 0x10000 → (sure ≡ true → nat_lt i place.length ≡ true) → Stands z.code pc (indexed_update sure o x place list) → Aims z x pc w i v t
+      → Follows z (pc + forms_bytes (indexed_update sure o x place list)) (81 + r) t (versioned_updated o place list i v w)
+  indexed_part false pc i v w t wl li lv ln inside h k = checked_part pc i v w t wl li lv ln h k
+  indexed_part true pc i v w t wl li lv ln inside h k =
+      let end = pc + forms_bytes (inside_update o x place list) in
+      let b = own_updated o place list i v w in
+      subst (λ y. Follows z end (81 + r) t (if y then b else goes_on [] w)) (sym (inside refl))
+      (more_cycles z end (77 + r) (81 + r) t b.effects b.end (omega arith) (inside_part pc i v w t wl lv h k))
+
   -- ---- at a number that is known
 
   -- a word of FRAM becomes what the operation gives of it and of the source
@@ -544,17 +557,17 @@ module _ (z : Setting) (o : PlainOperation) (x : Source) (r : ℕ) (reads : sour
 -- ---- the step
 
 module _ (z : Setting) (o : PlainOperation) (place : ArrayPlace) (list : ListPlace) (small : place.length < 0x10000) where
-  -- the index in R4
-  update_by : (os : List Waiting) (pc : ℕ) (w : WordState) (i v : ℕ) (rest : List ℕ) (u : Core) → ((a : ℕ) → w.fram a < 0x10000) → i < 0x10000 → v < 0x10000
-      → w.stack ≡ v ∷ (i ∷ rest)
-      → (let ms = update_sides os ++ checked_update o (rest_source (top_of os)) place list in Stands z.code pc ms → Describes z os pc w u
+  -- the index in R4, where it may be surely below the length
+  update_by : (sure : Bool) (os : List Waiting) (pc : ℕ) (w : WordState) (i v : ℕ) (rest : List ℕ) (u : Core) → ((a : ℕ) → w.fram a < 0x10000) → i < 0x10000
+      → v < 0x10000 → w.stack ≡ v ∷ (i ∷ rest) → (sure ≡ true → nat_lt i place.length ≡ true)
+      → (let ms = update_sides os ++ indexed_update sure o (rest_source (top_of os)) place list in Stands z.code pc ms → Describes z os pc w u
       → Does z [] (pc + forms_bytes ms) (86 + owed os) u (versioned_updated o place list i v (with_stack rest w)))
-  update_by os pc w i v rest u wl li lv e h d =
+  update_by sure os pc w i v rest u wl li lv e inside h d =
       let under = below_top os in
       let front = update_sides os in
       let x = rest_source (top_of os) in
       let c = reads_cycles (top_of os) in
-      let ms = checked_update o x place list in
+      let ms = indexed_update sure o x place list in
       let mid = pc + forms_bytes front in
       let end = mid + forms_bytes ms in
       let left = with_stack rest w in
@@ -566,15 +579,16 @@ module _ (z : Setting) (o : PlainOperation) (place : ArrayPlace) (list : ListPla
       (then_reach z 0 (Describes z [] end) l (81 + c) u (Aims z x mid left i v) [] b.effects b.end
       (update_sides_part z os pc w i v rest u e (stands_front z.code pc front ms h) d) (λ t k.
       reaches z (Describes z [] end) end (81 + c) t b.effects b.end (dressed z end)
-      (checked_part z o x c (reads_price (top_of os)) place list mid i v left t wl li lv small (stands_back z.code pc front ms h) k))))
+      (indexed_part z o x c (reads_price (top_of os)) place list sure mid i v left t wl li lv small inside (stands_back z.code pc front ms h) k))))
 
   -- the index a number that waits, by whether it is below the length
-  number_by : (b : Bool) (k : ℕ) (p : Waiting) (os : List Waiting) (pc : ℕ) (w : WordState) (i v : ℕ) (rest : List ℕ) (u : Core) → nat_lt k place.length ≡ b
-      → ((a : ℕ) → w.fram a < 0x10000) → i < 0x10000 → v < 0x10000 → w.stack ≡ v ∷ (i ∷ rest)
-      → (let ws = p ∷ (waiting.Number k ∷ os) in let ms = update_at (if b then Some k else None) ws o place list in Stands z.code pc ms → Describes z ws pc w u
+  number_by : (b sure : Bool) (k : ℕ) (p : Waiting) (os : List Waiting) (pc : ℕ) (w : WordState) (i v : ℕ) (rest : List ℕ) (u : Core) → nat_lt k place.length ≡ b
+      → ((a : ℕ) → w.fram a < 0x10000) → i < 0x10000 → v < 0x10000 → w.stack ≡ v ∷ (i ∷ rest) → (sure ≡ true → nat_lt i place.length ≡ true)
+      → (let ws = p ∷ (waiting.Number k ∷ os) in let ms = update_at (if b then Some k else None) sure ws o place list in
+      Stands z.code pc ms → Describes z ws pc w u
       → Does z [] (pc + forms_bytes ms) (86 + owed ws) u (versioned_updated o place list i v (with_stack rest w)))
-  number_by false k p os pc w i v rest u lt wl li lv e h d = update_by (p ∷ (waiting.Number k ∷ os)) pc w i v rest u wl li lv e h d
-  number_by true k p os pc w i v rest u lt wl li lv e h d =
+  number_by false sure k p os pc w i v rest u lt wl li lv e inside h d = update_by sure (p ∷ (waiting.Number k ∷ os)) pc w i v rest u wl li lv e inside h d
+  number_by true sure k p os pc w i v rest u lt wl li lv e inside h d =
       let ws = p ∷ (waiting.Number k ∷ os) in
       let front = right_to_rest ws in
       let x = rest_source (Some p) in
@@ -598,22 +612,32 @@ module _ (z : Setting) (o : PlainOperation) (place : ArrayPlace) (list : ListPla
       (known_part z o x c (reads_price (Some p)) place list k mid v left t (writes_price (Some p)) wl lv (stands_back z.code pc front ms h)
       (bare z mid left t q.0) j.gives))))))
 
-  update_on : (os : List Waiting) (pc : ℕ) (w : WordState) (i v : ℕ) (rest : List ℕ) (u : Core) → ((a : ℕ) → w.fram a < 0x10000) → i < 0x10000 → v < 0x10000
-      → w.stack ≡ v ∷ (i ∷ rest) → Stands z.code pc (step_code [] os (versioned_update o place list)) → Describes z os pc w u
-      → Does z [] (pc + forms_bytes (step_code [] os (versioned_update o place list))) (86 + owed os) u (versioned_updated o place list i v (with_stack rest w))
-  update_on [] pc w i v rest u wl li lv e h d = update_by [] pc w i v rest u wl li lv e h d
-  update_on (p ∷ []) pc w i v rest u wl li lv e h d = update_by (p ∷ []) pc w i v rest u wl li lv e h d
-  update_on (p ∷ (waiting.Number k ∷ os)) pc w i v rest u wl li lv e h d = number_by (nat_lt k place.length) k p os pc w i v rest u refl wl li lv e h d
-  update_on (p ∷ (waiting.Fram a ∷ os)) pc w i v rest u wl li lv e h d = update_by (p ∷ (waiting.Fram a ∷ os)) pc w i v rest u wl li lv e h d
-  update_on (p ∷ (waiting.Local n ∷ os)) pc w i v rest u wl li lv e h d = update_by (p ∷ (waiting.Local n ∷ os)) pc w i v rest u wl li lv e h d
-  update_on (p ∷ (waiting.R4 ∷ os)) pc w i v rest u wl li lv e h d = update_by (p ∷ (waiting.R4 ∷ os)) pc w i v rest u wl li lv e h d
-  update_on (p ∷ (waiting.R6 ∷ os)) pc w i v rest u wl li lv e h d = update_by (p ∷ (waiting.R6 ∷ os)) pc w i v rest u wl li lv e h d
+  update_on : (bs : List Bound) (os : List Waiting) (pc : ℕ) (w : WordState) (i v : ℕ) (rest : List ℕ) (u : Core) → ((a : ℕ) → w.fram a < 0x10000)
+      → i < 0x10000 → v < 0x10000 → w.stack ≡ v ∷ (i ∷ rest) → (is_inside bs (top_of (below_top os)) place.length ≡ true → nat_lt i place.length ≡ true)
+      → Stands z.code pc (step_code bs os (versioned_update o place list)) → Describes z os pc w u
+      → Does z [] (pc + forms_bytes (step_code bs os (versioned_update o place list))) (86 + owed os) u (versioned_updated o place list i v (with_stack rest w))
+  update_on bs (p ∷ (waiting.Number k ∷ os)) pc w i v rest u wl li lv e inside h d =
+      number_by (nat_lt k place.length) (nat_lt k place.length) k p os pc w i v rest u refl wl li lv e inside h d
+  update_on bs [] pc w i v rest u wl li lv e inside h d =
+      let ws = [] in update_by (is_inside bs (top_of (below_top ws)) place.length) ws pc w i v rest u wl li lv e inside h d
+  update_on bs (p ∷ []) pc w i v rest u wl li lv e inside h d =
+      let ws = p ∷ [] in update_by (is_inside bs (top_of (below_top ws)) place.length) ws pc w i v rest u wl li lv e inside h d
+  update_on bs (p ∷ (waiting.Fram a ∷ os)) pc w i v rest u wl li lv e inside h d =
+      let ws = p ∷ (waiting.Fram a ∷ os) in update_by (is_inside bs (top_of (below_top ws)) place.length) ws pc w i v rest u wl li lv e inside h d
+  update_on bs (p ∷ (waiting.Local n ∷ os)) pc w i v rest u wl li lv e inside h d =
+      let ws = p ∷ (waiting.Local n ∷ os) in update_by (is_inside bs (top_of (below_top ws)) place.length) ws pc w i v rest u wl li lv e inside h d
+  update_on bs (p ∷ (waiting.R4 ∷ os)) pc w i v rest u wl li lv e inside h d =
+      let ws = p ∷ (waiting.R4 ∷ os) in update_by (is_inside bs (top_of (below_top ws)) place.length) ws pc w i v rest u wl li lv e inside h d
+  update_on bs (p ∷ (waiting.R6 ∷ os)) pc w i v rest u wl li lv e inside h d =
+      let ws = p ∷ (waiting.R6 ∷ os) in update_by (is_inside bs (top_of (below_top ws)) place.length) ws pc w i v rest u wl li lv e inside h d
 
   -- an element that is updated in place
-  pub in_place_reaches : (os : List Waiting) (pc : ℕ) (w : WordState) (vs : List ℕ) (u : Core) → ((a : ℕ) → w.fram a < 0x10000) → w.stack ≡ vs
-      → AllByRecursion (λ v. v < 0x10000) vs → Stands z.code pc (step_code [] os (versioned_update o place list)) → Describes z os pc w u
-      → Does z [] (pc + forms_bytes (step_code [] os (versioned_update o place list))) (86 + owed os) u
+  pub in_place_reaches : (bs : List Bound) (os : List Waiting) (pc : ℕ) (w : WordState) (vs : List ℕ) (u : Core) → ((a : ℕ) → w.fram a < 0x10000)
+      → Bounded bs w.locals → w.stack ≡ vs → AllByRecursion (λ v. v < 0x10000) vs
+      → Stands z.code pc (step_code bs os (versioned_update o place list)) → Describes z os pc w u
+      → Does z [] (pc + forms_bytes (step_code bs os (versioned_update o place list))) (86 + owed os) u
       (with_two vs (λ i v us. versioned_updated o place list i v (with_stack us w)))
-  in_place_reaches os pc w [] u wl e l h d = tt
-  in_place_reaches os pc w (v ∷ []) u wl e l h d = tt
-  in_place_reaches os pc w (v ∷ (i ∷ rest)) u wl e l h d = update_on os pc w i v rest u wl l.1.0 l.0 e h d
+  in_place_reaches bs os pc w [] u wl lb e l h d = tt
+  in_place_reaches bs os pc w (v ∷ []) u wl lb e l h d = tt
+  in_place_reaches bs os pc w (v ∷ (i ∷ rest)) u wl lb e l h d =
+      update_on bs os pc w i v rest u wl l.1.0 l.0 e (under_inside z bs pc u place.length os w i v rest lb e d) h d

@@ -286,7 +286,7 @@ module _ (z : Setting) where
     step_follows bs (versioned_write place list) next os pc w u r o l c spared h d =
         write_reaches z bs place list os pc w w.stack u o.0.3 r.words_in.fram r.bounded refl r.words_in.stack h d
     step_follows bs (versioned_update op place list) next os pc w u r o l c spared h d =
-        in_place_reaches z op place list o.0.3 os pc w w.stack u r.words_in.fram refl r.words_in.stack h d
+        in_place_reaches z op place list o.0.3 bs os pc w w.stack u r.words_in.fram r.bounded refl r.words_in.stack h d
     step_follows bs sense next os pc w u r o l c spared h d = sense_part z os pc w w.readings u (omega (arith, r.fit.1, r.matches.depth)) refl h d
     step_follows bs (truth t) next os pc w u r o l c spared h d =
         let a = test_code bs t false 2 in

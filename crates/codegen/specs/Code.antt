@@ -559,6 +559,10 @@ checked_update o x place list =
     let inside = inside_update o x place list in
     Calculate op.Cmp (Number place.length) R4 ∷ Jump condition.Carry (size inside) ∷ inside
 
+-- at any index in R4, by whether it is surely below the length
+abbrev pub indexed_update : Bool → PlainOperation → Source → ArrayPlace → ListPlace → List Form
+indexed_update sure o x place list = if sure then inside_update o x place list else (checked_update o x place list)
+
 -- at a number that is known and below the length: its copy is updated by one instruction
 abbrev pub known_update : PlainOperation → Source → ArrayPlace → ListPlace → ℕ → List Form
 known_update o x place list k =
@@ -575,10 +579,10 @@ if_below length (Some k) = if nat_lt k length then Some k else None
 abbrev pub known_index : List Waiting → ℕ → Option ℕ
 known_index os length = if_below length (top_number (top_of (below_top os)))
 
--- an update, whose index is such a number or is not known
-abbrev pub update_at : Option ℕ → List Waiting → PlainOperation → ArrayPlace → ListPlace → List Form
-update_at (Some k) os o place list = right_to_rest os ++ known_update o (rest_source (top_of os)) place list k
-update_at None os o place list = update_sides os ++ checked_update o (rest_source (top_of os)) place list
+-- an update, whose index is such a number or is not known, but may be surely below the length
+abbrev pub update_at : Option ℕ → Bool → List Waiting → PlainOperation → ArrayPlace → ListPlace → List Form
+update_at (Some k) sure os o place list = right_to_rest os ++ known_update o (rest_source (top_of os)) place list k
+update_at None sure os o place list = update_sides os ++ indexed_update sure o (rest_source (top_of os)) place list
 
 -- a local is pushed where it stands in RAM
 abbrev pub local_code : List Waiting → ℕ → List Form
@@ -623,7 +627,8 @@ abbrev mutual
       top_to_four os ++ read_code (is_inside bs (top_of os) place.length) place list
   step_code bs os (versioned_write place list) =
       (two_to_registers os ++ flushed (kept (below_top (below_top os)))) ++ write_code (is_inside bs (top_of (below_top os)) place.length) place list
-  step_code bs os (versioned_update o place list) = update_at (known_index os place.length) os o place list
+  step_code bs os (versioned_update o place list) =
+      update_at (known_index os place.length) (is_inside bs (top_of (below_top os)) place.length) os o place list
   step_code bs os sense = cleared os ++ forms.Sense R4 ∷ []
   step_code bs os (truth t) = flushed os ++ (test_code bs t false 2 ++ truth_code)
   step_code bs os (choose t taken otherwise) =

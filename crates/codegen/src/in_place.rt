@@ -7,14 +7,16 @@ ghost use Rattle.msp_isa.specs.declared.instructions.Condition.TheVariants as co
 ghost use Rattle.array_versions.specs.Form.{ArrayOfWords, ListOfWords};
 ghost use Rattle.array_versions.specs.Program as value;
 ghost use Rattle.codegen.specs.Code.{flushed, top_of, below_top, four_from, top_number, rest_source, to_rest, made_code, attempt_form};
-ghost use Rattle.codegen.specs.Code.{first_update, inside_update, checked_update, known_update, if_below, step_code};
+ghost use Rattle.codegen.specs.Code.{first_update, inside_update, checked_update, indexed_update, known_update, if_below, step_code};
 
+use crate::bounds::{Bound, is_inside};
 use crate::decisions::code_words;
 use crate::forms::{R4, R7, TO_R4, TO_R6, TO_R7, absolute, jump, two};
 use crate::operations::plain_instruction;
 use crate::versioned::{at_r4, emit_first};
 use crate::waiting::{
     Waiting, emit_all, emit_to_four, emit_to_rest, rest_source, take, top_number,
+    under_top,
 };
 use array_versions::{ArrayPlace, ListPlace, PlainOperation};
 use msp_isa::{Condition, Dst, IndexRegister, Instr, Src, TwoOp};
@@ -120,6 +122,26 @@ fn emit_checked(
     code.extend_from_slice(&inside)
 }
 
+// At any index in R4, which may be surely below the length.
+fn emit_indexed_update(
+    alloc: Global,
+    sure: bool,
+    operation: PlainOperation,
+    right: Option<Waiting>,
+    place: ArrayPlace,
+    list: ListPlace,
+    code: &mut Vec<Instr>,
+) -> Result<(), AllocError>
+    ensures { OnOk result (code.new.items
+        ≡ code.old.items ++ instructions (indexed_update sure operation (rest_source right) place list)) }
+{
+    if sure {
+        emit_inside(alloc, operation, right, place, list, code)
+    } else {
+        emit_checked(alloc, operation, right, place, list, code)
+    }
+}
+
 // At a number that is known and below the length.
 fn emit_known(
     alloc: Global,
@@ -192,6 +214,7 @@ fn emit_rest_and_index(
 /// Appends the code of an element that is updated in place.
 pub fn emit_versioned_update(
     alloc: Global,
+    bounds: &[Bound],
     operation: PlainOperation,
     place: ArrayPlace,
     list: ListPlace,
@@ -199,10 +222,11 @@ pub fn emit_versioned_update(
     code: &mut Vec<Instr>,
 ) -> Result<(), AllocError>
     ensures code { OnOk result (code.new.items
-        ≡ code.old.items ++ instructions (step_code [] waiting.old.items (value.versioned_update operation place list))) }
+        ≡ code.old.items ++ instructions (step_code bounds.now waiting.old.items (value.versioned_update operation place list))) }
     ensures waiting { OnOk result (waiting.new.items ≡ []) }
     ensures of_words { OnOk result (ArrayOfWords place × ListOfWords list) }
 {
+    let sure = is_inside(bounds, under_top(waiting), place.length);
     let right = take(waiting);
     match number_below(place.length, waiting) {
         Some(index) => {
@@ -212,7 +236,7 @@ pub fn emit_versioned_update(
         }
         None => {
             emit_rest_and_index(right, waiting, code)?;
-            emit_checked(alloc, operation, right, place, list, code)
+            emit_indexed_update(alloc, sure, operation, right, place, list, code)
         }
     }
 }

@@ -179,7 +179,7 @@ fn emit_step(
             emit_versioned_write(bounds, *place, *list, waiting, code)
         }
         WordStep::VersionedUpdate(operation, place, list) => {
-            emit_versioned_update(alloc, *operation, *place, *list, waiting, code)
+            emit_versioned_update(alloc, bounds, *operation, *place, *list, waiting, code)
         }
         WordStep::Sense => emit_sense(waiting, code),
         WordStep::ListEntry {
