@@ -130,11 +130,11 @@ module _ (z : Setting) where
   pub past_end : (b : Bool) (base size pc : ℕ) → size < 0x10000 → Stands z.code pc (element_code b base size) → (i : ℕ) (w : WordState) (t : Core)
       → (b ≡ true → nat_lt i size ≡ true) → nat_lt i size ≡ false → i < 0x10000 → Has z R4 pc w i t
       → Runs z.code [] 10 t (Has z R4 (pc + forms_bytes (element_code b base size)) w 0)
-  past_end true base size pc l h i w t sure no r k = absurd (both_ways (nat_lt i size) no (sure refl))
-  past_end false base size pc l h i w t sure no r k =
+  past_end true base size pc l h i w t sure below r k = absurd (both_ways (nat_lt i size) below (sure refl))
+  past_end false base size pc l h i w t sure below r k =
       let ms = fetch_code base in
       dearer z [] 5 10 t _ (omega arith)
-      (subst (λ p. Runs z.code [] 5 t (Has z R4 p w 0)) (checked_end size 4 pc ms l h) (checked_past size 4 pc ms l h i w t refl (omega arith) no r k))
+      (subst (λ p. Runs z.code [] 5 t (Has z R4 p w 0)) (checked_end size 4 pc ms l h) (checked_past size 4 pc ms l h i w t refl (omega arith) below r k))
 
   pub before_end : (b : Bool) (base size pc : ℕ) → size < 0x10000 → Stands z.code pc (element_code b base size) → (i : ℕ) (w : WordState) (t : Core)
       → nat_lt i size ≡ true → i < 0x10000 → IsFram (2 * i + base) → Has z R4 pc w i t

@@ -2,6 +2,7 @@ use Rattle.std.proofs.Common.{◌≡◌, ◌++◌, ◌∷◌, [], Bool, List, So
 use Rattle.std.proofs.lemmas.Result.{on_ok_weaker}
 use Rattle.code_forms.specs.Forms.{Form}
 use Rattle.code_forms.specs.Placed.{instructions}
+use Rattle.codegen.specs.declared.waiting.Waiting.TheVariants as waiting
 use Rattle.codegen.specs.Code.{top_of, top_to_four, element_code, top_number, element_behind, element_at, is_inside}
 use Rattle.codegen.proofs.Emitted.{two_behind}
 use Rattle.codegen.proofs.steps.emit_element.Goals as goal
@@ -39,5 +40,5 @@ pub returns-in_ok-emit_indexed-in-None-clause-waiting : goal.returns-in_ok-emit_
 returns-in_ok-emit_indexed-in-None-clause-waiting c =
     let os = c.args.waiting.now.items in
     let known = sym c.in-None.is ∙ c.top_number.ensures ∙ ap (λ ws. top_number (top_of ws)) c.deref-2.ensures.value in
-    on_ok_weaker c.wait-in-None.result (λ w. w ∙ ap (λ ws. _ ∷ ws) c.in_ok-emit_top_to_four-in-None.ensures.waiting
+    on_ok_weaker c.wait-in-None.result (λ w. w ∙ ap (λ ws. waiting.R4 ∷ ws) c.in_ok-emit_top_to_four-in-None.ensures.waiting
     ∙ ap (λ k. element_behind k os c.args.base c.args.length) known) c.wait-in-None.ensures
