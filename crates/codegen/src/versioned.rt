@@ -1,6 +1,6 @@
 //! The code of versioned accesses.
 
-ghost use Rattle.std.specs.Prelude.{◌≡◌, [], ◌++◌, OnOk};
+ghost use Rattle.std.specs.Prelude.{◌≡◌, [], ◌++◌, ◌<◌, OnOk};
 ghost use Rattle.msp_isa.specs.declared.operands.Src.TheVariants as Srcs;
 ghost use Rattle.msp_isa.specs.declared.operands.Operand.TheVariants as Operands;
 ghost use Rattle.msp_isa.specs.declared.registers.IndexRegister.TheVariants as index;
