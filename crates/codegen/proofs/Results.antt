@@ -346,7 +346,7 @@ module _ (z : Setting) where
       → ((f : ℕ → ℕ) → waiting_word w.fram w.locals f (binary_result o) ≡ f (work_number hand)) → w.stack ≡ y ∷ (x ∷ rest) → x < 0x10000 → y < 0x10000
       → (let ms = two_to_registers os ++ binary_middle o in Stands z.code pc ms → Describes z os pc w u
       → Does (binary_result o ∷ kept (below_top (below_top os))) (pc + forms_bytes ms) (7 + c + owed os) u
-        (goes_on [] (with_stack (binary_word o x y ∷ rest) w)))
+      (goes_on [] (with_stack (binary_word o x y ∷ rest) w)))
   binary_by o hand c os pc w x y rest u m there three word e lx ly h d =
       let front = two_to_registers os in
       let ms = binary_middle o in

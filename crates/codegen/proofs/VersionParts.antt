@@ -1,6 +1,6 @@
 -- Versioned reads and writes.
 use Rattle.std.proofs.Common.{◌≡◌, ℕ, ◌+◌, ◌-◌, ◌*◌, ◌%◌, ◌<◌, ◌==◌, not, List, [], ◌∷◌, Some, refl, sym, ap, ap₂, ◌∙◌, subst, arith, Bool, true, false}
-use Rattle.std.proofs.Common.{◌++◌, nat_lt, if◌then◌else◌}
+use Rattle.std.proofs.Common.{nat_lt, if◌then◌else◌}
 use Rattle.std.proofs.lemmas.Bool.{both_ways}
 use Rattle.msp_isa.specs.declared.instructions.Condition.TheVariants as condition
 use Rattle.msp_isa.specs.declared.instructions.TwoOp.TheVariants as op
@@ -9,7 +9,7 @@ use Rattle.array_versions.specs.msp_step.Effect.{sum16, distance}
 use Rattle.array_versions.specs.fram_board.Effects.{Store}
 use Rattle.array_versions.specs.machine_effects.World.{put}
 use Rattle.array_versions.specs.machine_effects.Machine.{IsFram}
-use Rattle.code_forms.specs.Forms.{R4, R5, R6, Core, Register, Number, Constant, Fram, Indexed, ToRegister, ToIndexed, Form, Move, Calculate, Update, Jump}
+use Rattle.code_forms.specs.Forms.{R4, R5, R6, Core, Register, Constant, Fram, Indexed, ToRegister, ToIndexed, Form, Move, Calculate, Update, Jump}
 use Rattle.code_forms.specs.Forms.{instruction_of}
 use Rattle.code_forms.specs.Code.{Stands, forms_bytes, forms_run, Runs}
 use Rattle.code_forms.proofs.Interface.{stands_at, stands_front, stands_back, form_at, first_forms, forms_behind, end_of, forms_bytes-append}

@@ -163,7 +163,7 @@ module _ (z : Setting) where
         more_cycles z end (l + owed (kept under) + 1 + 5 + (if b then ch t else cf t)) most u (if b then rh t else rf t).effects (if b then rh t else rf t).end
         (omega (arith, owed_kept under, load_owed os))
         (decided_follows z when b (mid + 2) d holds_at fails_at (l + owed (kept under) + 1) end (ch t) (cf t) condition.NotEqual condition.Equal t u (rh t)
-          (rf t)
+        (rf t)
         back.1 (fork_at when d holds_at fails_at (pc + forms_bytes (holds_code os when d)) (mid + 2 + forms_bytes last) behind fork) (omega arith)
         (runs_on z (l + owed (kept under)) 1 u (Has z R4 mid t v) _ [] [] come (λ x k. holds_part z mid v t x words.0 back.0 k))
         (λ x j. fh t x (popped held r.fit.2.0) j) (λ x j. ff t x (popped failed r.fit.2.1) j))

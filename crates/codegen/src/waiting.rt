@@ -8,7 +8,9 @@ ghost use Rattle.codegen.specs.Code as made;
 ghost use Rattle.codegen.specs.Code.{flushed, top_of, below_top, is_held, any_held, cleared, kept, four_from, five_from, top_to_four, top_to_five};
 ghost use Rattle.codegen.specs.Code.{two_to_registers, stays, right_source, sides, power, top_number, top_power, top_mask};
 
-use crate::forms::{POPPED, R4, R5, R6, TO_R4, TO_R5, absolute, local_register, number_source, push, two};
+use crate::forms::{
+    POPPED, R4, R5, R6, TO_R4, TO_R5, absolute, local_register, number_source, push, two,
+};
 use msp_isa::{Instr, Operand, SourceRegister, Src, TwoOp};
 use std::alloc::AllocError;
 

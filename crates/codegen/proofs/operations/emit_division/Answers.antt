@@ -1,6 +1,5 @@
-use Rattle.std.proofs.Common.{◌++◌, ◌∷◌, ap, ◌∙◌}
+use Rattle.std.proofs.Common.{◌++◌, ap, ◌∙◌}
 use Rattle.std.proofs.lemmas.Result.{on_ok_weaker}
-use Rattle.array_versions.specs.declared.operations.BinaryOperation.TheVariants as binary_op
 use Rattle.code_forms.specs.Placed.{instructions}
 use Rattle.codegen.specs.Code.{two_to_registers, divide_middle}
 use Rattle.codegen.proofs.Emitted.{two_behind}
@@ -12,4 +11,4 @@ returns-clause-code c =
     let front = two_to_registers c.args.waiting.now.items in
     let ms = divide_middle in
     on_ok_weaker c.wait.result (λ w. c.in_ok-emit_divide.ensures ∙ ap (λ l. l ++ instructions ms) c.in_ok-emit_two_to_registers.ensures.code
-      ∙ two_behind old front ms) c.wait.ensures
+    ∙ two_behind old front ms) c.wait.ensures

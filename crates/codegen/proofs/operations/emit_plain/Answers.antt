@@ -5,7 +5,6 @@ use Rattle.msp_isa.specs.declared.instructions.Instr.TheVariants.{Two}
 use Rattle.msp_isa.specs.declared.operands.Dst.TheVariants as dst
 use Rattle.msp_isa.specs.declared.registers.Reg.TheVariants as reg
 use Rattle.code_forms.specs.Forms.{R4, index_of, Calculate, instruction_of}
-use Rattle.code_forms.specs.Placed.{instructions}
 use Rattle.codegen.specs.Code.{top_of, plain_instruction, sides, right_source}
 use Rattle.codegen.proofs.Emitted.{two_behind}
 use Rattle.codegen.proofs.operations.emit_plain.Goals as goal

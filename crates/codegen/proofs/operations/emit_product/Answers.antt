@@ -1,4 +1,4 @@
-use Rattle.std.proofs.Common.{◌++◌, ◌∷◌, ap, ◌∙◌}
+use Rattle.std.proofs.Common.{◌++◌, ap, ◌∙◌}
 use Rattle.std.proofs.lemmas.Result.{on_ok_weaker}
 use Rattle.array_versions.specs.declared.operations.BinaryOperation.TheVariants as binary_op
 use Rattle.code_forms.specs.Placed.{instructions}
@@ -12,4 +12,4 @@ returns-clause-code c =
     let front = two_to_registers c.args.waiting.now.items in
     let ms = binary_middle binary_op.Multiply in
     on_ok_weaker c.wait.result (λ w. c.in_ok-emit_multiply.ensures ∙ ap (λ l. l ++ instructions ms) c.in_ok-emit_two_to_registers.ensures.code
-      ∙ two_behind old front ms) c.wait.ensures
+    ∙ two_behind old front ms) c.wait.ensures

@@ -16,8 +16,8 @@ returns-clause-code c =
     let same = c.is_inside-inside.ensures
     ∙ ap (λ o. is_inside c.args.bounds.now o c.args.place.length) (c.under_top.ensures ∙ ap (λ ws. top_of (below_top ws)) c.deref.ensures.value) in
     let first = c.in_ok-emit_all.ensures.code ∙ ap (λ ws. c.emit_two_to_registers.new.code.items ++ instructions (flushed ws))
-      c.in_ok-emit_two_to_registers.ensures.waiting
+    c.in_ok-emit_two_to_registers.ensures.waiting
     ∙ ap (λ l. l ++ instructions (flushed ks)) c.in_ok-emit_two_to_registers.ensures.code ∙ two_behind old front (flushed ks) in
     part_behind c.emit_write.result old c.emit_all.new.code.items c.emit_write.new.code.items (front ++ flushed ks)
     (write c.is_inside-inside.result) (write sure) _ first (ap write same) refl
-      c.emit_write.ensures.code
+    c.emit_write.ensures.code
