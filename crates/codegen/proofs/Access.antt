@@ -1,5 +1,5 @@
 -- Elements of arrays, emits, and entries of the commit list.
-use Rattle.std.proofs.Common.{◌≡◌, ℕ, ◌+◌, ◌-◌, ◌*◌, ◌%◌, ◌<◌, ◌==◌, not, List, [], ◌∷◌, ◌++◌, Some, refl, sym, ap, ◌∙◌, subst, arith, Bool, true, false}
+use Rattle.std.proofs.Common.{◌≡◌, ℕ, ◌+◌, ◌*◌, ◌%◌, ◌<◌, ◌==◌, not, List, [], ◌∷◌, ◌++◌, refl, sym, ap, ◌∙◌, subst, arith, Bool, true, false}
 use Rattle.std.proofs.Common.{◌≤◌, nat_lt, nat_le, if◌then◌else◌}
 use Rattle.std.proofs.lemmas.Bool.{both_ways}
 use Rattle.std.proofs.lemmas.Bool.Decides.{nat_tests}
@@ -13,7 +13,7 @@ use Rattle.array_versions.specs.machine_effects.World.{put}
 use Rattle.array_versions.specs.machine_effects.Going.{At, stretch}
 use Rattle.array_versions.specs.machine_effects.Machine.{IsFram}
 use Rattle.code_forms.specs.Forms.{R4, R5, Core, CoreStretch, Number, Constant, ToRegister, ToIndexed, Form, Move, Calculate, Update}
-use Rattle.code_forms.specs.Forms.{instruction_of, form_bytes}
+use Rattle.code_forms.specs.Forms.{form_bytes}
 use Rattle.code_forms.specs.Code.{Stands, forms_bytes, forms_run, Runs}
 use Rattle.code_forms.proofs.Interface.{stands_at, stands_front, stands_back, end_of, forms_bytes-append}
 use Rattle.array_versions.specs.Behaviour.{WordState, is_place, stored, word_emitted, entry_stored}
@@ -130,11 +130,11 @@ module _ (z : Setting) where
   pub past_end : (b : Bool) (base size pc : ℕ) → size < 0x10000 → Stands z.code pc (element_code b base size) → (i : ℕ) (w : WordState) (t : Core)
       → (b ≡ true → nat_lt i size ≡ true) → nat_lt i size ≡ false → i < 0x10000 → Has z R4 pc w i t
       → Runs z.code [] 10 t (Has z R4 (pc + forms_bytes (element_code b base size)) w 0)
-  past_end true base size pc l h i w t sure no r k = absurd (both_ways (nat_lt i size) no (sure refl))
-  past_end false base size pc l h i w t sure no r k =
+  past_end true base size pc l h i w t sure below r k = absurd (both_ways (nat_lt i size) below (sure refl))
+  past_end false base size pc l h i w t sure below r k =
       let ms = fetch_code base in
       dearer z [] 5 10 t _ (omega arith)
-      (subst (λ p. Runs z.code [] 5 t (Has z R4 p w 0)) (checked_end size 4 pc ms l h) (checked_past size 4 pc ms l h i w t refl (omega arith) no r k))
+      (subst (λ p. Runs z.code [] 5 t (Has z R4 p w 0)) (checked_end size 4 pc ms l h) (checked_past size 4 pc ms l h i w t refl (omega arith) below r k))
 
   pub before_end : (b : Bool) (base size pc : ℕ) → size < 0x10000 → Stands z.code pc (element_code b base size) → (i : ℕ) (w : WordState) (t : Core)
       → nat_lt i size ≡ true → i < 0x10000 → IsFram (2 * i + base) → Has z R4 pc w i t

@@ -4,7 +4,7 @@ mod Follows
 mod Parts
 mod Registers
 mod Operands
-mod Bounds
+mod LoopBounds
 mod Results
 mod Jumps
 mod Choices

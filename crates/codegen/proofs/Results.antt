@@ -53,7 +53,7 @@ use Rattle.codegen.proofs.Operands.{IsThere, owed_by, owed, none_held, clear_cyc
 use Rattle.codegen.proofs.Operands.{Top, Waits, InRegister, LoadedTwo, waiting_word, bare, dressed, flush_under, flush_part, clear_under, below_part}
 use Rattle.codegen.proofs.Operands.{top_to_four_part, top_to_five_part, two_to_registers_part, result_waits, waits_more}
 use Rattle.codegen.proofs.Operands.{LoadedSides, right_cycles, reading_cycles, reading_price, right_owed, sides_part, drop_part}
-use Rattle.codegen.proofs.Bounds.{Bounded, top_inside, under_inside}
+use Rattle.codegen.proofs.LoopBounds.{Bounded, top_inside, under_inside}
 use Rattle.codegen.proofs.Parts.{local_part, keep_part, set_part}
 use Rattle.codegen.proofs.Updates.{plain_needs, update_part, update_local_part}
 use Rattle.codegen.proofs.Middles.{makes, UnaryMiddle, BinaryMiddle, negate_middle, complement_middle}

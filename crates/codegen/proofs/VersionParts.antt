@@ -1,6 +1,6 @@
 -- Versioned reads and writes.
 use Rattle.std.proofs.Common.{◌≡◌, ℕ, ◌+◌, ◌-◌, ◌*◌, ◌%◌, ◌<◌, ◌==◌, not, List, [], ◌∷◌, Some, refl, sym, ap, ap₂, ◌∙◌, subst, arith, Bool, true, false}
-use Rattle.std.proofs.Common.{◌++◌, nat_lt, if◌then◌else◌}
+use Rattle.std.proofs.Common.{nat_lt, if◌then◌else◌}
 use Rattle.std.proofs.lemmas.Bool.{both_ways}
 use Rattle.msp_isa.specs.declared.instructions.Condition.TheVariants as condition
 use Rattle.msp_isa.specs.declared.instructions.TwoOp.TheVariants as op
@@ -9,7 +9,7 @@ use Rattle.array_versions.specs.msp_step.Effect.{sum16, distance}
 use Rattle.array_versions.specs.fram_board.Effects.{Store}
 use Rattle.array_versions.specs.machine_effects.World.{put}
 use Rattle.array_versions.specs.machine_effects.Machine.{IsFram}
-use Rattle.code_forms.specs.Forms.{R4, R5, R6, Core, Register, Number, Constant, Fram, Indexed, ToRegister, ToIndexed, Form, Move, Calculate, Update, Jump}
+use Rattle.code_forms.specs.Forms.{R4, R5, R6, Core, Register, Constant, Fram, Indexed, ToRegister, ToIndexed, Form, Move, Calculate, Update, Jump}
 use Rattle.code_forms.specs.Forms.{instruction_of}
 use Rattle.code_forms.specs.Code.{Stands, forms_bytes, forms_run, Runs}
 use Rattle.code_forms.proofs.Interface.{stands_at, stands_front, stands_back, form_at, first_forms, forms_behind, end_of, forms_bytes-append}
@@ -70,13 +70,13 @@ module _ (z : Setting) where
     at18 = form_at z.code pc 6 (own_code over place list) (Move (Indexed R4 place.elements) (ToRegister R4)) h refl
 
     -- a word is read
-    word_part : (base from i : ℕ) (w : WordState) (t : Core) → IsFram (2 * i + base)
+    word_part : (base from to i : ℕ) (w : WordState) (t : Core) → IsFram (2 * i + base) → from + 4 ≡ to
         → z.code from ≡ Some (instruction_of (Move (Indexed R4 base) (ToRegister R4))) → Has z R4 from w (2 * i) t
-        → Runs z.code [] 3 t (Has z R4 (from + 4) w (w.fram (2 * i + base)))
-    word_part base from i w t f a k =
+        → Runs z.code [] 3 t (Has z R4 to w (w.fram (2 * i + base)))
+    word_part base from to i w t f e a k =
         let ms = Move (Indexed R4 base) (ToRegister R4) ∷ [] in
-        middle z ms 3 from (from + 4) (w.fram (2 * i + base)) R4 w t (end_of t (forms_run ms t).status) k.is (tt, tt) (a, tt)
-        ((subst (λ v. IsFram (v + base)) (sym k.value) f, tt), tt) refl (omega (arith, k.is.at)) refl refl refl refl refl
+        middle z ms 3 from to (w.fram (2 * i + base)) R4 w t (end_of t (forms_run ms t).status) k.is (tt, tt) (a, tt)
+        ((subst (λ v. IsFram (v + base)) (sym k.value) f, tt), tt) refl (omega (arith, k.is.at, e)) refl refl refl refl refl
         (ap (λ v. t.fram (v + base)) k.value ∙ ap (λ q. q (2 * i + base)) k.is.fram)
 
     -- by whether the version word is the attempt's number
@@ -95,7 +95,7 @@ module _ (z : Setting) where
         runs_on z 7 7 t (Marked (pc + 10) w i true) _ [] [] (marked_part true i w t wl f g e k) (λ u m.
         runs_on z 2 5 u (Has z R4 (pc + 12) w (2 * i)) _ [] []
         (jump_has z condition.NotEqual 3 (pc + 10) (pc + 12) false R4 (2 * i) w u at10 (ap not m.flag) (omega arith) m.has) (λ q j.
-        runs_on z 3 2 q (Has z R4 (pc + 16) w v) _ [] [] (word_part place.copies (pc + 12) i w q c at12 j) (λ r n.
+        runs_on z 3 2 q (Has z R4 (pc + 16) w v) _ [] [] (word_part place.copies (pc + 12) (pc + 16) i w q c (omega arith) at12 j) (λ r n.
         jump_has z condition.Always over (pc + 16) to true R4 v w r at16 refl d n)))
 
     -- where it isn't, the element
@@ -108,18 +108,18 @@ module _ (z : Setting) where
         runs_on z 7 5 t (Marked (pc + 10) w i false) _ [] [] (marked_part false i w t wl f g e k) (λ u m.
         runs_on z 2 3 u (Has z R4 (pc + 18) w (2 * i)) _ [] []
         (jump_has z condition.NotEqual 3 (pc + 10) (pc + 18) true R4 (2 * i) w u at10 (ap not m.flag) to m.has) (λ q j.
-        word_part place.elements (pc + 18) i w q c at18 j))
+        word_part place.elements (pc + 18) (pc + 22) i w q c (omega arith) at18 j))
 
   -- a read, where its code stands, by whether the index is surely below the length
   pub past_read : (b : Bool) (place : ArrayPlace) (list : ListPlace) (pc : ℕ) → place.length < 0x10000 → Stands z.code pc (read_code b place list)
       → (i : ℕ) (w : WordState) (t : Core) → (b ≡ true → nat_lt i place.length ≡ true) → nat_lt i place.length ≡ false → i < 0x10000 → Has z R4 pc w i t
       → Runs z.code [] 18 t (Has z R4 (pc + forms_bytes (read_code b place list)) w 0)
-  past_read true place list pc l h i w t sure no r k = absurd (both_ways (nat_lt i place.length) no (sure refl))
-  past_read false place list pc l h i w t sure no r k =
+  past_read true place list pc l h i w t sure below r k = absurd (both_ways (nat_lt i place.length) below (sure refl))
+  past_read false place list pc l h i w t sure below r k =
       let ms = own_code 4 place list in
       let n = place.length in
       dearer z [] 5 18 t _ (omega arith)
-      (subst (λ p. Runs z.code [] 5 t (Has z R4 p w 0)) (checked_end z n 12 pc ms l h) (checked_past z n 12 pc ms l h i w t refl (omega arith) no r k))
+      (subst (λ p. Runs z.code [] 5 t (Has z R4 p w 0)) (checked_end z n 12 pc ms l h) (checked_past z n 12 pc ms l h i w t refl (omega arith) below r k))
 
   pub own_copy : (b : Bool) (place : ArrayPlace) (list : ListPlace) (pc : ℕ) → place.length < 0x10000 → Stands z.code pc (read_code b place list)
       → (i : ℕ) (w : WordState) (t : Core) → ((a : ℕ) → w.fram a < 0x10000) → nat_lt i place.length ≡ true → i < 0x10000 → IsFram list.ver

@@ -39,7 +39,7 @@ use Rattle.codegen.proofs.Access.{le_of_lt}
 use Rattle.codegen.proofs.Middles.{makes}
 use Rattle.codegen.proofs.Updates.{plain_needs}
 use Rattle.codegen.proofs.Operands.{owed, load_cycles, load_owed, Describes, bare, dressed, drop_part}
-use Rattle.codegen.proofs.Bounds.{Bounded, under_inside}
+use Rattle.codegen.proofs.LoopBounds.{Bounded, under_inside}
 use Rattle.codegen.proofs.UpdateSides.{GivesOn, Rested, Aims, rest_cycles, reads_cycles, reads_price, writes_price, rest_owed, update_sides_part, right_part}
 use Rattle.codegen.proofs.ListParts.{first_follows}
 use Rattle.codegen.proofs.UpdateBytes.{reads_bytes, made_bytes, first_bytes, inside_bytes, near_size}

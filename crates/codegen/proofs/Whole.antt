@@ -50,7 +50,7 @@ use Rattle.codegen.proofs.Loops.{loop_by}
 use Rattle.codegen.proofs.Access.{entry_part}
 use Rattle.codegen.proofs.Operands.{owed, clear_cycles, owed_kept, load_cycles, load_owed, Describes, InRegister, LoadedTwo, dressed, flush_part}
 use Rattle.codegen.proofs.Operands.{top_to_four_part, two_to_registers_part}
-use Rattle.codegen.proofs.Bounds.{Bounded, Spared, spared_so, bounded_with, bounded_on, step_bounded}
+use Rattle.codegen.proofs.LoopBounds.{Bounded, Spared, spared_so, bounded_with, bounded_on, step_bounded}
 use Rattle.codegen.proofs.Results.{Does, number_part, load_part, local_by, keep_reaches, update_reaches, set_reaches, update_local_reaches, unary_part}
 use Rattle.codegen.proofs.Results.{binary_part}
 use Rattle.codegen.proofs.Results.{shift_reaches, element_reaches, emit_reaches, read_reaches, write_reaches, sense_part, alone_part, push_under}

@@ -17,7 +17,8 @@ use crate::forms::{
 };
 use crate::operations::plain_instruction;
 use crate::waiting::{
-    Waiting, emit_all, emit_below, emit_cleared, emit_top_to_five, emit_top_to_four, take, top, top_number, wait,
+    Waiting, emit_all, emit_below, emit_cleared, emit_top_to_five, emit_top_to_four, take, top,
+    top_number, wait,
 };
 use array_versions::PlainOperation;
 use msp_isa::{Condition, Dst, IndexRegister, Instr, Konst, Operand, Reg, Src, TwoOp};

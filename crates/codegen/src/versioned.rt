@@ -1,6 +1,6 @@
 //! The code of versioned accesses.
 
-ghost use Rattle.std.specs.Prelude.{◌≡◌, [], ◌++◌, OnOk};
+ghost use Rattle.std.specs.Prelude.{◌≡◌, [], ◌++◌, ◌<◌, OnOk};
 ghost use Rattle.msp_isa.specs.declared.operands.Src.TheVariants as Srcs;
 ghost use Rattle.msp_isa.specs.declared.operands.Operand.TheVariants as Operands;
 ghost use Rattle.msp_isa.specs.declared.registers.IndexRegister.TheVariants as index;
@@ -15,7 +15,9 @@ ghost use Rattle.array_versions.specs.Program as value;
 
 use crate::bounds::{Bound, emit_check, emit_zero, is_inside};
 use crate::forms::{R4, R5, R6, R7, TO_R4, TO_R5, TO_R6, TO_R7, absolute, constant, jump, two};
-use crate::waiting::{Waiting, emit_all, emit_top_to_four, emit_two_to_registers, top, under_top, wait};
+use crate::waiting::{
+    Waiting, emit_all, emit_top_to_four, emit_two_to_registers, top, under_top, wait,
+};
 use array_versions::{ArrayPlace, ListPlace};
 use msp_isa::{Condition, Dst, IndexRegister, Instr, Konst, Operand, Src, TwoOp};
 use std::alloc::AllocError;

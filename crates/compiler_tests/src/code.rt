@@ -54,8 +54,8 @@ fn looping(alloc: Global) -> Result<WordProgram, AllocError>
 
 // The words of 5 that is stored; of the loop's start; of the test; of what is done where it holds; of what is done where it fails; of
 // the turn's end; and of the jump out.
-const LOOPING: [u16; 22] = [
-    0x40b2, 5, 0x1c30, 0x4038, 0, 0x1212, 0x1c30, 0x4134, 0x9304, 0x2403, 0x4882, 0x4410, 0x3c03,
+const LOOPING: [u16; 21] = [
+    0x40b2, 5, 0x1c30, 0x4308, 0x1212, 0x1c30, 0x4134, 0x9304, 0x2403, 0x4882, 0x4410, 0x3c03,
     0x40b2, 9, 0x4410, 0x5318, 0x9038, 3, 0x23f1, 0x4030, 0x4400,
 ];
 

@@ -63,7 +63,7 @@ emit_test-returns-in_ok-emit_steps-in-Holds-clause-code t c =
     let after = made.waiting ∙ ap (λ ws. waiting_after ws (steps_of c.deref.result.now)) none ∙ ap (λ s. waiting_after [] (steps_of s)) same in
     let is = ap test_of c.in-Holds.is ∙ test_of-holds c.in-Holds.steps in
     part_behind c.emit_holds.result old c.emit_steps.new.code.items c.emit_holds.new.code.items (steps_code bs [] p) (last c.emit_steps.new.waiting.items)
-      (last os) _
+    (last os) _
     first (ap last after) (ap (λ q. test_code bs q c.args.when c.args.over) (sym is)) c.emit_holds.ensures
 
 pub emit_test-returns-in_ok-emit_steps-in-Compares-clause-code : goal.emit_test-returns-in_ok-emit_steps-in-Compares-clause-code
@@ -81,7 +81,7 @@ emit_test-returns-in_ok-emit_steps-in-Compares-clause-code t c =
     let after = made.waiting ∙ ap (λ ws. waiting_after ws (steps_of c.deref-in-Compares.result.now)) none ∙ ap (λ s. waiting_after [] (steps_of s)) same in
     let is = ap test_of c.in-Compares.is ∙ test_of-compares c.in-Compares.comparison c.in-Compares.steps in
     part_behind c.emit_compares.result old c.emit_steps-in-Compares.new.code.items c.emit_compares.new.code.items (steps_code bs [] p)
-      (last c.emit_steps-in-Compares.new.waiting.items) (last os) _
+    (last c.emit_steps-in-Compares.new.waiting.items) (last os) _
     first (ap last after) (ap (λ q. test_code bs q c.args.when c.args.over) (sym is)) c.emit_compares.ensures
 
 pub emit_truth-returns-clause-code : goal.emit_truth-returns-clause-code
@@ -160,7 +160,7 @@ emit_test-code_words-requires t c =
     let second = test_code bs u when over in
     let is = ap test_of c.in-Both.is ∙ test_of-both c.in-Both.first c.in-Both.second in
     let own = c.in_ok-emit_test-in-Both.ensures.code ∙ ap (λ x. c.new-behind.result.items ++ instructions (test_code bs (test_of x) when over))
-      c.deref-in-Both.ensures
+    c.deref-in-Both.ensures
     ∙ ap (λ l. l ++ instructions second) c.new-behind.ensures.items in
     let words = own_words c.deref-in-Both-2.result.now second (c.deref-in-Both-2.ensures.value ∙ own) in
     omega (arith, words, test_short bs u when over, ap test_words is, c.requires.room)
@@ -175,7 +175,7 @@ emit_test-overflow_add-further t c =
     let second = test_code bs u when over in
     let is = ap test_of c.in-Both.is ∙ test_of-both c.in-Both.first c.in-Both.second in
     let own = c.in_ok-emit_test-in-Both.ensures.code ∙ ap (λ x. c.new-behind.result.items ++ instructions (test_code bs (test_of x) when over))
-      c.deref-in-Both.ensures
+    c.deref-in-Both.ensures
     ∙ ap (λ l. l ++ instructions second) c.new-behind.ensures.items in
     let words = own_words c.deref-in-Both-2.result.now second (c.deref-in-Both-2.ensures.value ∙ own) in
     omega (arith, words, test_short bs u when over, ap test_words is, c.requires.room, c.code_words.ensures, c.words_if.ensures, words_at_most (not when) over)
@@ -190,13 +190,22 @@ emit_test-emit_test-requires-in-Both t c =
     let second = test_code bs u when over in
     let is = ap test_of c.in-Both.is ∙ test_of-both c.in-Both.first c.in-Both.second in
     let own = c.in_ok-emit_test-in-Both.ensures.code ∙ ap (λ x. c.new-behind.result.items ++ instructions (test_code bs (test_of x) when over))
-      c.deref-in-Both.ensures
+    c.deref-in-Both.ensures
     ∙ ap (λ l. l ++ instructions second) c.new-behind.ensures.items in
     let words = own_words c.deref-in-Both-2.result.now second (c.deref-in-Both-2.ensures.value ∙ own) in (
       search (rules, word_step.the_lemmas),
       (
-        omega (arith, words, test_short bs u when over, ap test_words is, c.requires.room, c.code_words.ensures, c.words_if.ensures,
-          words_at_most (not when) over, ap (λ x. test_words (test_of x)) c.deref-in-Both-3.ensures),
+        omega (
+          arith,
+          words,
+          test_short bs u when over,
+          ap test_words is,
+          c.requires.room,
+          c.code_words.ensures,
+          c.words_if.ensures,
+          words_at_most (not when) over,
+          ap (λ x. test_words (test_of x)) c.deref-in-Both-3.ensures,
+        ),
         subst (λ x. TestLocalsBelow 1008 (test_of x)) (sym c.deref-in-Both-3.ensures) (subst (TestLocalsBelow 1008) is c.requires.locals).0,
       ),
     )
@@ -211,18 +220,18 @@ emit_test-returns-in_ok-emit_test-in-Both-2-clause-code t c =
     let second = test_code bs u when over in
     let is = ap test_of c.in-Both.is ∙ test_of-both c.in-Both.first c.in-Both.second in
     let own = c.in_ok-emit_test-in-Both.ensures.code ∙ ap (λ x. c.new-behind.result.items ++ instructions (test_code bs (test_of x) when over))
-      c.deref-in-Both.ensures
+    c.deref-in-Both.ensures
     ∙ ap (λ l. l ++ instructions second) c.new-behind.ensures.items in
     let words = own_words c.deref-in-Both-2.result.now second (c.deref-in-Both-2.ensures.value ∙ own) in
     let old = c.args.code.now.items in
     let counted = ap (λ n. n + c.words_if.result) (c.code_words.ensures ∙ words) ∙ ap (λ n. size second + n) c.words_if.ensures in
     let tested = c.in_ok-emit_test-in-Both-2.ensures.code
-      ∙ ap (λ x. old ++ instructions (test_code bs (test_of x) false (c.code_words.result + c.words_if.result))) c.deref-in-Both-3.ensures
+    ∙ ap (λ x. old ++ instructions (test_code bs (test_of x) false (c.code_words.result + c.words_if.result))) c.deref-in-Both-3.ensures
     ∙ ap (λ n. old ++ instructions (test_code bs a false n)) counted in
     own_behind c.extend_from_slice.result old c.emit_test-in-Both.new.code.items c.deref-in-Both-4.result.now _
-      (test_code bs a false (size second + (if not when then over else 0))) second _
+    (test_code bs a false (size second + (if not when then over else 0))) second _
     tested (c.deref-in-Both-4.ensures.value ∙ own) (ap (λ q. test_code bs q when over) (sym is))
-      (on_ok_items c.extend_from_slice.result _ _ _ c.extend_from_slice.ensures.items)
+    (on_ok_items c.extend_from_slice.result _ _ _ c.extend_from_slice.ensures.items)
 
 pub emit_test-code_words-requires-in-Either : goal.emit_test-code_words-requires-in-Either
 emit_test-code_words-requires-in-Either t c =
@@ -234,7 +243,7 @@ emit_test-code_words-requires-in-Either t c =
     let second = test_code bs u when over in
     let is = ap test_of c.in-Either.is ∙ test_of-either c.in-Either.first c.in-Either.second in
     let own = c.in_ok-emit_test-in-Either.ensures.code ∙ ap (λ x. c.new-behind-in-Either.result.items ++ instructions (test_code bs (test_of x) when over))
-      c.deref-in-Either.ensures
+    c.deref-in-Either.ensures
     ∙ ap (λ l. l ++ instructions second) c.new-behind-in-Either.ensures.items in
     let words = own_words c.deref-in-Either-2.result.now second (c.deref-in-Either-2.ensures.value ∙ own) in
     omega (arith, words, test_short bs u when over, ap test_words is, c.requires.room)
@@ -249,11 +258,19 @@ emit_test-overflow_add-further-in-Either t c =
     let second = test_code bs u when over in
     let is = ap test_of c.in-Either.is ∙ test_of-either c.in-Either.first c.in-Either.second in
     let own = c.in_ok-emit_test-in-Either.ensures.code ∙ ap (λ x. c.new-behind-in-Either.result.items ++ instructions (test_code bs (test_of x) when over))
-      c.deref-in-Either.ensures
+    c.deref-in-Either.ensures
     ∙ ap (λ l. l ++ instructions second) c.new-behind-in-Either.ensures.items in
     let words = own_words c.deref-in-Either-2.result.now second (c.deref-in-Either-2.ensures.value ∙ own) in
-    omega (arith, words, test_short bs u when over, ap test_words is, c.requires.room, c.code_words-in-Either.ensures, c.words_if-in-Either.ensures,
-      words_at_most (when) over)
+    omega (
+      arith,
+      words,
+      test_short bs u when over,
+      ap test_words is,
+      c.requires.room,
+      c.code_words-in-Either.ensures,
+      c.words_if-in-Either.ensures,
+      words_at_most (when) over,
+    )
 
 pub emit_test-emit_test-requires-in-Either-2 : goal.emit_test-emit_test-requires-in-Either-2
 emit_test-emit_test-requires-in-Either-2 t c =
@@ -265,13 +282,22 @@ emit_test-emit_test-requires-in-Either-2 t c =
     let second = test_code bs u when over in
     let is = ap test_of c.in-Either.is ∙ test_of-either c.in-Either.first c.in-Either.second in
     let own = c.in_ok-emit_test-in-Either.ensures.code ∙ ap (λ x. c.new-behind-in-Either.result.items ++ instructions (test_code bs (test_of x) when over))
-      c.deref-in-Either.ensures
+    c.deref-in-Either.ensures
     ∙ ap (λ l. l ++ instructions second) c.new-behind-in-Either.ensures.items in
     let words = own_words c.deref-in-Either-2.result.now second (c.deref-in-Either-2.ensures.value ∙ own) in (
       search (rules, word_step.the_lemmas),
       (
-        omega (arith, words, test_short bs u when over, ap test_words is, c.requires.room, c.code_words-in-Either.ensures, c.words_if-in-Either.ensures,
-          words_at_most (when) over, ap (λ x. test_words (test_of x)) c.deref-in-Either-3.ensures),
+        omega (
+          arith,
+          words,
+          test_short bs u when over,
+          ap test_words is,
+          c.requires.room,
+          c.code_words-in-Either.ensures,
+          c.words_if-in-Either.ensures,
+          words_at_most (when) over,
+          ap (λ x. test_words (test_of x)) c.deref-in-Either-3.ensures,
+        ),
         subst (λ x. TestLocalsBelow 1008 (test_of x)) (sym c.deref-in-Either-3.ensures) (subst (TestLocalsBelow 1008) is c.requires.locals).0,
       ),
     )
@@ -286,18 +312,18 @@ emit_test-returns-in_ok-emit_test-in-Either-2-clause-code t c =
     let second = test_code bs u when over in
     let is = ap test_of c.in-Either.is ∙ test_of-either c.in-Either.first c.in-Either.second in
     let own = c.in_ok-emit_test-in-Either.ensures.code ∙ ap (λ x. c.new-behind-in-Either.result.items ++ instructions (test_code bs (test_of x) when over))
-      c.deref-in-Either.ensures
+    c.deref-in-Either.ensures
     ∙ ap (λ l. l ++ instructions second) c.new-behind-in-Either.ensures.items in
     let words = own_words c.deref-in-Either-2.result.now second (c.deref-in-Either-2.ensures.value ∙ own) in
     let old = c.args.code.now.items in
     let counted = ap (λ n. n + c.words_if-in-Either.result) (c.code_words-in-Either.ensures ∙ words) ∙ ap (λ n. size second + n) c.words_if-in-Either.ensures in
     let tested = c.in_ok-emit_test-in-Either-2.ensures.code
-      ∙ ap (λ x. old ++ instructions (test_code bs (test_of x) true (c.code_words-in-Either.result + c.words_if-in-Either.result))) c.deref-in-Either-3.ensures
+    ∙ ap (λ x. old ++ instructions (test_code bs (test_of x) true (c.code_words-in-Either.result + c.words_if-in-Either.result))) c.deref-in-Either-3.ensures
     ∙ ap (λ n. old ++ instructions (test_code bs a true n)) counted in
     own_behind c.extend_from_slice-in-Either.result old c.emit_test-in-Either-2.new.code.items c.deref-in-Either-4.result.now _
-      (test_code bs a true (size second + (if when then over else 0))) second _
+    (test_code bs a true (size second + (if when then over else 0))) second _
     tested (c.deref-in-Either-4.ensures.value ∙ own) (ap (λ q. test_code bs q when over) (sym is))
-      (on_ok_items c.extend_from_slice-in-Either.result _ _ _ c.extend_from_slice-in-Either.ensures.items)
+    (on_ok_items c.extend_from_slice-in-Either.result _ _ _ c.extend_from_slice-in-Either.ensures.items)
 
 pub emit_loop-code_words-over-requires : goal.emit_loop-code_words-over-requires
 emit_loop-code_words-over-requires t c =
@@ -357,7 +383,7 @@ emit_step-code_words-requires t c =
     let b = block_code bs (steps_of of.taken.items) in
     let other = block_code bs (steps_of of.otherwise.items) in
     let otherwise = c.in_ok-emit_block-in-Choose.ensures.code ∙ ap (λ s. c.new-other.result.items ++ instructions (block_code bs (steps_of s)))
-      c.deref.ensures.value
+    c.deref.ensures.value
     ∙ ap (λ l. l ++ instructions other) c.new-other.ensures.items in
     let behind = own_words c.deref-in-Choose-2.result.now other (c.deref-in-Choose-2.ensures.value ∙ otherwise) in
     omega (arith, behind, inner_short bs (steps_of of.otherwise.items), ap step_words is, c.requires.room)
@@ -370,7 +396,7 @@ emit_step-emit_pass_over-requires t c =
     let b = block_code bs (steps_of of.taken.items) in
     let other = block_code bs (steps_of of.otherwise.items) in
     let otherwise = c.in_ok-emit_block-in-Choose.ensures.code ∙ ap (λ s. c.new-other.result.items ++ instructions (block_code bs (steps_of s)))
-      c.deref.ensures.value
+    c.deref.ensures.value
     ∙ ap (λ l. l ++ instructions other) c.new-other.ensures.items in
     let behind = own_words c.deref-in-Choose-2.result.now other (c.deref-in-Choose-2.ensures.value ∙ otherwise) in
     omega (arith, behind, inner_short bs (steps_of of.otherwise.items), ap step_words is, c.requires.room, c.code_words.ensures)
@@ -384,11 +410,11 @@ emit_step-code_words-requires-in-Choose t c =
     let other = block_code bs (steps_of of.otherwise.items) in
     let over = pass_over (size other) in
     let otherwise = c.in_ok-emit_block-in-Choose.ensures.code ∙ ap (λ s. c.new-other.result.items ++ instructions (block_code bs (steps_of s)))
-      c.deref.ensures.value
+    c.deref.ensures.value
     ∙ ap (λ l. l ++ instructions other) c.new-other.ensures.items in
     let behind = own_words c.deref-in-Choose-2.result.now other (c.deref-in-Choose-2.ensures.value ∙ otherwise) in
     let taken = c.in_ok-emit_block-in-Choose-2.ensures.code ∙ ap (λ s. c.new-first.result.items ++ instructions (block_code bs (steps_of s)))
-      c.deref-in-Choose.ensures.value
+    c.deref-in-Choose.ensures.value
     ∙ ap (λ l. l ++ instructions b) c.new-first.ensures.items in
     let first = c.in_ok-emit_pass_over-in-Choose.ensures
     ∙ ap (λ n. c.emit_block-in-Choose.new.code.items ++ instructions (pass_over n)) (c.code_words.ensures ∙ behind)
@@ -405,11 +431,11 @@ emit_step-emit_test-requires t c =
     let other = block_code bs (steps_of of.otherwise.items) in
     let over = pass_over (size other) in
     let otherwise = c.in_ok-emit_block-in-Choose.ensures.code ∙ ap (λ s. c.new-other.result.items ++ instructions (block_code bs (steps_of s)))
-      c.deref.ensures.value
+    c.deref.ensures.value
     ∙ ap (λ l. l ++ instructions other) c.new-other.ensures.items in
     let behind = own_words c.deref-in-Choose-2.result.now other (c.deref-in-Choose-2.ensures.value ∙ otherwise) in
     let taken = c.in_ok-emit_block-in-Choose-2.ensures.code ∙ ap (λ s. c.new-first.result.items ++ instructions (block_code bs (steps_of s)))
-      c.deref-in-Choose.ensures.value
+    c.deref-in-Choose.ensures.value
     ∙ ap (λ l. l ++ instructions b) c.new-first.ensures.items in
     let first = c.in_ok-emit_pass_over-in-Choose.ensures
     ∙ ap (λ n. c.emit_block-in-Choose.new.code.items ++ instructions (pass_over n)) (c.code_words.ensures ∙ behind)
@@ -417,8 +443,16 @@ emit_step-emit_test-requires t c =
     let words = own_words c.deref-in-Choose-3.result.now (b ++ over) (c.deref-in-Choose-3.ensures.value ∙ first) in (
       search (rules, word_step.the_lemmas),
       (
-        omega (arith, words, forms_bytes-append b over, inner_short bs (steps_of of.taken.items), pass_short (size other), ap step_words is, c.requires.room,
-          c.code_words-in-Choose.ensures),
+        omega (
+          arith,
+          words,
+          forms_bytes-append b over,
+          inner_short bs (steps_of of.taken.items),
+          pass_short (size other),
+          ap step_words is,
+          c.requires.room,
+          c.code_words-in-Choose.ensures,
+        ),
         (subst (StepLocalsBelow 1008) is c.requires.locals).0,
       ),
     )
@@ -432,11 +466,11 @@ emit_step-returns-in_ok-extend_from_slice-in-Choose-clause-code t c =
     let other = block_code bs (steps_of of.otherwise.items) in
     let over = pass_over (size other) in
     let otherwise = c.in_ok-emit_block-in-Choose.ensures.code ∙ ap (λ s. c.new-other.result.items ++ instructions (block_code bs (steps_of s)))
-      c.deref.ensures.value
+    c.deref.ensures.value
     ∙ ap (λ l. l ++ instructions other) c.new-other.ensures.items in
     let behind = own_words c.deref-in-Choose-2.result.now other (c.deref-in-Choose-2.ensures.value ∙ otherwise) in
     let taken = c.in_ok-emit_block-in-Choose-2.ensures.code ∙ ap (λ s. c.new-first.result.items ++ instructions (block_code bs (steps_of s)))
-      c.deref-in-Choose.ensures.value
+    c.deref-in-Choose.ensures.value
     ∙ ap (λ l. l ++ instructions b) c.new-first.ensures.items in
     let first = c.in_ok-emit_pass_over-in-Choose.ensures
     ∙ ap (λ n. c.emit_block-in-Choose.new.code.items ++ instructions (pass_over n)) (c.code_words.ensures ∙ behind)

@@ -12,5 +12,5 @@ returns c =
     let fetch = fetch_code c.args.base in
     let first = c.in_ok-emit_fetch.ensures ∙ ap (λ l. l ++ instructions fetch) c.in_ok-emit_check.ensures ∙ two_behind old check fetch in
     subst (λ b. OnOk c.emit_zero.result (c.emit_zero.new.code.items ≡ old ++ instructions (element_code b c.args.base c.args.length))) (sym c.if-inside.false)
-    (part_behind c.emit_zero.result old c.emit_fetch.new.code.items c.emit_zero.new.code.items (check ++ fetch) zero_code zero_code _ first refl
+    (part_behind c.emit_zero.result old c.emit_fetch-2.new.code.items c.emit_zero.new.code.items (check ++ fetch) zero_code zero_code _ first refl
     (append_assoc check fetch zero_code) c.emit_zero.ensures)

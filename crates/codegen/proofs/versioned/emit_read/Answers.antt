@@ -12,5 +12,5 @@ returns-clause-code c =
     let own = own_code 4 c.args.place c.args.list in
     let first = c.in_ok-emit_own.ensures ∙ ap (λ l. l ++ instructions own) c.in_ok-emit_check.ensures ∙ two_behind old check own in
     subst (λ b. OnOk c.emit_zero.result (c.emit_zero.new.code.items ≡ old ++ instructions (read_code b c.args.place c.args.list))) (sym c.if-inside.false)
-    (part_behind c.emit_zero.result old c.emit_own.new.code.items c.emit_zero.new.code.items (check ++ own) zero_code zero_code _ first refl
+    (part_behind c.emit_zero.result old c.emit_own-2.new.code.items c.emit_zero.new.code.items (check ++ own) zero_code zero_code _ first refl
     (append_assoc check own zero_code) c.emit_zero.ensures)

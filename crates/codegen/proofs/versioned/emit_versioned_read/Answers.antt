@@ -15,4 +15,4 @@ returns-clause-code c =
     let read : Bool → List Form = λ b. read_code b c.args.place c.args.list in
     let same = c.is_inside-inside.ensures ∙ ap (λ o. is_inside c.args.bounds.now o c.args.place.length) (c.top.ensures ∙ ap top_of c.deref.ensures.value) in
     on_ok_weaker c.wait.result (λ w. c.in_ok-emit_read.ensures.code ∙ ap (λ b. c.emit_top_to_four.new.code.items ++ instructions (read b)) same
-      ∙ ap (λ l. l ++ instructions (read sure)) c.in_ok-emit_top_to_four.ensures.code ∙ two_behind old front (read sure)) c.wait.ensures
+    ∙ ap (λ l. l ++ instructions (read sure)) c.in_ok-emit_top_to_four.ensures.code ∙ two_behind old front (read sure)) c.wait.ensures

@@ -20,4 +20,4 @@ returns-clause-code c =
     ∙ ap (λ l. l ++ instructions (flushed ks)) c.in_ok-emit_two_to_registers.ensures.code ∙ two_behind old front (flushed ks) in
     part_behind c.emit_write.result old c.emit_all.new.code.items c.emit_write.new.code.items (front ++ flushed ks)
     (write c.is_inside-inside.result) (write sure) _ first (ap write same) refl
-      c.emit_write.ensures.code
+    c.emit_write.ensures.code
