@@ -41,7 +41,7 @@ turned false x y = refl
 module _ (z : Setting) where
   -- ---- the check of an index
 
-  le_of_lt : (i size : ℕ) (b : Bool) → nat_lt i size ≡ b → nat_le size i ≡ not b
+  pub le_of_lt : (i size : ℕ) (b : Bool) → nat_lt i size ≡ b → nat_le size i ≡ not b
   le_of_lt i size true e = grind (arith, nat_tests)
   le_of_lt i size false e = grind (arith, nat_tests)
 

@@ -232,7 +232,7 @@ rest_are : (o : Option Waiting) → Are (to_rest o)
 rest_are o = right_are_by (rests o) o
 
 first_are : (o : PlainOperation) (x : Source) (place : ArrayPlace) (list : ListPlace) → Are (first_update o x place list)
-first_are o x place list = (tt, (tt, (tt, (tt, (write_are place list).1.1.1.1.1.1.1))))
+first_are o x place list = (tt, (tt, (tt, (tt, (stored_are place list).1.1.1.1.1))))
 
 -- the two ways of an update, which are short
 ways_are : (again first : List Form) → forms_bytes again ≤ 400 → forms_bytes first ≤ 400 → Are again → Are first → Are (by_version again first)
@@ -258,8 +258,8 @@ inside_are o x place list =
       ),
     )
 
-checked_are : (o : PlainOperation) (x : Source) (place : ArrayPlace) (list : ListPlace) → Are (checked_update o x place list)
-checked_are o x place list =
+checked_update_are : (o : PlainOperation) (x : Source) (place : ArrayPlace) (list : ListPlace) → Are (checked_update o x place list)
+checked_update_are o x place list =
     let ms = inside_update o x place list in
     (tt, (omega (arith, near_size ms 200 (omega (arith, inside_bytes o x place list, reads_bytes o x)) (omega arith)), inside_are o x place list))
 
@@ -277,7 +277,7 @@ known_are o x place list k =
 
 indexed_are : (sure : Bool) (o : PlainOperation) (x : Source) (place : ArrayPlace) (list : ListPlace) → Are (indexed_update sure o x place list)
 indexed_are true o x place list = inside_are o x place list
-indexed_are false o x place list = checked_are o x place list
+indexed_are false o x place list = checked_update_are o x place list
 
 in_place_are : (k : Option ℕ) (sure : Bool) (o : PlainOperation) (place : ArrayPlace) (list : ListPlace) (os : List Waiting)
     → Are (update_at k sure os o place list)
