@@ -15,8 +15,7 @@ use crate::forms::{R4, R7, TO_R4, TO_R6, TO_R7, absolute, jump, two};
 use crate::operations::plain_instruction;
 use crate::versioned::{at_r4, emit_first};
 use crate::waiting::{
-    Waiting, emit_all, emit_to_four, emit_to_rest, rest_source, take, top_number,
-    under_top,
+    Waiting, emit_all, emit_to_four, emit_to_rest, rest_source, take, top_number, under_top,
 };
 use array_versions::{ArrayPlace, ListPlace, PlainOperation};
 use msp_isa::{Condition, Dst, IndexRegister, Instr, Src, TwoOp};
