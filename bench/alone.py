@@ -5,8 +5,9 @@ usage: bench/alone.py PROGRAM
 
 Each body is built and run on one charge by a small model of the CPU, up to the end of the first commit. Its cycles are told apart by
 the code that they are spent in: boot and attempt start, commit, and the task; and in the task by what an instruction is for: the *versions* of
-arrays (the comparison of a version word with VER; behind the first store to an element the version word and the entry), and the *transition* (NEXT,
-the entries, SB, GATE and the branch). What is left is the body: `own`.
+arrays (the comparison of a version word with VER; behind the first store to an element the version word and the entry; where an element is updated, its
+first store, which goes to the copy and not to the word that was read), and the *transition* (NEXT, the entries, SB, GATE and the branch). What is left is
+the body: `own`.
 """
 import re
 import subprocess
@@ -167,42 +168,57 @@ def image(text):
     return words, range(low, low + 2 * int(versions[2]) if versions else low)
 
 
-def told_apart(program, source, folder):
-    """The cycles of each part of a charge that completes one transition."""
+def built(program, source, folder):
+    """The text of a source's image."""
     with open(folder + "/s", "w") as file:
         file.write(source + "\n")
     subprocess.run([program, "build", folder + "/s", folder + "/i"], check=True, stdout=subprocess.DEVNULL)
-    text = open(folder + "/i").read()
-    words, versions = image(text)
-    board, parts = Board(words, [5] * 64), dict.fromkeys(("runtime", "versions", "transition", "own"), 0)
-    mode, look, decided = "runtime", 0, False
-    while True:
-        at, word, first, second, cycles = board.step()
-        reads_list = word == 0x4216 and first == ENTRIES
-        if mode == "runtime" and word == 0x4030 and not decided and board.r[0] > at + 0x200 and board.r[0] != 0:
-            parts["runtime"] += cycles
-            mode = "own"
-            continue
-        part = mode
-        if mode == "own":
-            if word in (0x40B2, 0x43A2, 0x4392, 0x43B2, 0x42A2, 0x42B2, 0x4382) and (first if word != 0x40B2 else second) == NEXT:
-                mode = part = "transition"
-            elif word == 0x4684 and first in versions:
-                mode, part, look = "versions", "versions", 0
-            elif word & 0xFFF0 == 0x4210 and first == VER:
-                part, look = "versions", 2
-            elif look:
-                part, look = "versions", look - 1
-        elif mode == "versions":
-            if word == 0x5392 and first == ENTRIES or word == 0x3C0A:
-                mode = "own"
-        elif mode == "transition" and word == 0x4030:
-            mode = "runtime"
-        parts[part] += cycles
-        if board.load(GATE) == 1:
-            decided = True
-        elif decided:
-            return parts
+    with open(folder + "/i") as file:
+        return file.read()
+
+
+def attempt(board):
+    """The steps of a charge up to the end of its first commit, and which of them decides."""
+    steps, decides = [], None
+    while decides is None or board.load(GATE) == 1:
+        steps.append(board.step())
+        if decides is None and board.load(GATE) == 1:
+            decides = len(steps) - 1
+    return steps, decides
+
+
+def of_task(steps, versions):
+    """What each step of a task's code is for."""
+    parts, part, look = [], "own", 0
+    for at, word, first, second, cycles in steps:
+        reads_number = word & 0xFFF0 == 0x4210 and first == VER
+        if part == "own" and NEXT in (first, second) and word & 0xF0FF in (0x40B2, 0x4082, 0x4092, 0x40A2):
+            part = "transition"
+        elif part == "own" and word == 0x4684 and first in versions:
+            part, look = "versions", 0
+        elif part == "own" and reads_number:
+            look = 3
+            if parts and steps[len(parts) - 1][1] == 0x4784:
+                parts[-1] = "versions"
+        parts.append("versions" if look else part)
+        look -= look > 0
+        if part == "versions" and (word == 0x5392 and first == ENTRIES or word == 0x3C0A):
+            part = "own"
+    return parts
+
+
+def told_apart(program, source, folder):
+    """The cycles of each part of a charge that completes one transition."""
+    words, versions = image(built(program, source, folder))
+    steps, decides = attempt(Board(words, [5] * 64))
+    commit = steps[decides + 2][0]
+    begins = next(k for k, step in enumerate(steps) if step[0] > commit)
+    task = of_task(steps[begins : decides + 2], versions)
+    names = ["runtime"] * begins + task + ["runtime"] * (len(steps) - decides - 2)
+    parts = dict.fromkeys(("runtime", "versions", "transition", "own"), 0)
+    for name, step in zip(names, steps):
+        parts[name] += step[4]
+    return parts
 
 
 def main():
