@@ -1,23 +1,13 @@
 -- Elements of arrays, emits, and entries of the commit list.
-use Rattle.std.proofs.Common.{◌≡◌, ℕ, ◌+◌, ◌*◌, ◌%◌, ◌<◌, ◌==◌, not, List, [], ◌∷◌, ◌++◌, refl, sym, ap, ◌∙◌, subst, arith, Bool, true, false}
-use Rattle.std.proofs.Common.{◌≤◌, nat_lt, nat_le, if◌then◌else◌}
-use Rattle.std.proofs.lemmas.Bool.{both_ways}
-use Rattle.std.proofs.lemmas.Bool.Decides.{nat_tests}
-use Rattle.msp_isa.specs.alp_words.Words.{word_sum}
+use Rattle.std.proofs.Common.{◌≡◌, ℕ, ◌+◌, ◌*◌, ◌%◌, ◌<◌, ◌==◌, not, List, [], ◌∷◌, ◌++◌, refl, sym, ap, ◌∙◌, subst, arith, Bool, true, false, ◌≤◌, nat_lt}
+use Rattle.std.proofs.Common.{nat_le, if◌then◌else◌}
+use Rattle.codegen.proofs.Names.{both_ways, nat_tests, word_sum, sum16, distance, Effect, Store, put, At, stretch, IsFram, R4, R5, Core, CoreStretch, Number}
+use Rattle.codegen.proofs.Names.{Constant, ToRegister, ToIndexed, Form, Move, Calculate, Update, form_bytes, Stands, forms_bytes, forms_run, Runs, stands_at}
+use Rattle.codegen.proofs.Names.{stands_front, stands_back, end_of, forms_bytes-append, WordState, is_place, stored, word_emitted, entry_stored, number_source}
+use Rattle.codegen.proofs.Names.{check_code, zero_code, fetch_code, element_code, emit_code, pair_code, entry_code}
 use Rattle.msp_isa.specs.declared.instructions.Condition.TheVariants as condition
 use Rattle.msp_isa.specs.declared.instructions.TwoOp.TheVariants as op
 use Rattle.msp_isa.specs.declared.operands.Konst.TheVariants as konst
-use Rattle.array_versions.specs.msp_step.Effect.{sum16, distance}
-use Rattle.array_versions.specs.fram_board.Effects.{Effect, Store}
-use Rattle.array_versions.specs.machine_effects.World.{put}
-use Rattle.array_versions.specs.machine_effects.Going.{At, stretch}
-use Rattle.array_versions.specs.machine_effects.Machine.{IsFram}
-use Rattle.code_forms.specs.Forms.{R4, R5, Core, CoreStretch, Number, Constant, ToRegister, ToIndexed, Form, Move, Calculate, Update}
-use Rattle.code_forms.specs.Forms.{form_bytes}
-use Rattle.code_forms.specs.Code.{Stands, forms_bytes, forms_run, Runs}
-use Rattle.code_forms.proofs.Interface.{stands_at, stands_front, stands_back, end_of, forms_bytes-append}
-use Rattle.array_versions.specs.Behaviour.{WordState, is_place, stored, word_emitted, entry_stored}
-use Rattle.codegen.specs.Code.{number_source, check_code, zero_code, fetch_code, element_code, emit_code, pair_code, entry_code}
 use Rattle.codegen.proofs.Stretches.{Setting, straight, runs_on, dearer, so_runs}
 use Rattle.codegen.proofs.Memory.{place_is}
 use Rattle.codegen.proofs.Follows.{StandsFor, Follows, ends_at, guarded, stands_elsewhere}

@@ -1,26 +1,14 @@
 -- Tests: where the code goes on.
-use Rattle.std.proofs.Common.{◌≡◌, ℕ, ◌+◌, ◌*◌, ◌%◌, ◌<◌, ◌==◌, not, [], ◌∷◌, Some, refl, sym, ap, ap₂, ◌∙◌, subst, arith, Bool, true, false}
-use Rattle.std.proofs.Common.{if◌then◌else◌}
-use Rattle.std.proofs.Math.Bool.{not-not}
-use Rattle.msp_isa.specs.alp_words.declared.Flags.{Flags}
-use Rattle.msp_isa.specs.alp_words.declared.Width.TheVariants.{Word}
-use Rattle.msp_isa.specs.alp_words.Words.{and_of}
-use Rattle.msp_isa.specs.declared.instructions.Condition.{Condition}
+use Rattle.std.proofs.Common.{◌≡◌, ℕ, ◌+◌, ◌*◌, ◌%◌, ◌<◌, ◌==◌, not, [], ◌∷◌, Some, refl, sym, ap, ap₂, ◌∙◌, subst, arith, Bool, true, false, if◌then◌else◌}
+use Rattle.codegen.proofs.Names.{not-not, Flags, Word, and_of, Condition, is_met, R4, R5, Core, Register, Constant, Form, Calculate, instruction_of, Stands}
+use Rattle.codegen.proofs.Names.{forms_bytes, forms_run, Runs, end_of, stands_at, Comparison, Above, SignedAbove, CommonBit, is_true, compare_words, WordState}
+use Rattle.codegen.proofs.Names.{Behaviour, compare_form, holding, failing, jump_over, decision}
 use Rattle.msp_isa.specs.declared.instructions.Condition.TheVariants as condition
 use Rattle.msp_isa.specs.declared.instructions.TwoOp.TheVariants as op
 use Rattle.msp_isa.specs.declared.operands.Konst.TheVariants as konst
-use Rattle.array_versions.specs.msp_step.Effect.{is_met}
-use Rattle.code_forms.specs.Forms.{R4, R5, Core, Register, Constant, Form, Calculate, instruction_of}
-use Rattle.code_forms.specs.Code.{Stands, forms_bytes, forms_run, Runs}
-use Rattle.code_forms.proofs.Interface.{end_of, stands_at}
-use Rattle.array_versions.specs.declared.operations.Comparison.{Comparison}
-use Rattle.array_versions.specs.declared.operations.Comparison.TheVariants.{Equal, Below, Above, SignedBelow, SignedAbove, CommonBit}
-use Rattle.array_versions.specs.Operations.{is_true, compare_words}
-use Rattle.array_versions.specs.Behaviour.{WordState, Behaviour}
-use Rattle.codegen.specs.Code.{compare_form, holding, failing, jump_over, decision}
 use Rattle.codegen.proofs.Stretches.{Setting, straight, runs_on, so_runs}
 use Rattle.codegen.proofs.Follows.{StandsFor, Follows, then_end, stands_elsewhere}
-use Rattle.codegen.proofs.Registers.{zero_flag, Has, HasTwo}
+use Rattle.codegen.proofs.Registers.{equal_flag, Has, HasTwo}
 use Rattle.codegen.proofs.Jumps.{stands_low, Decided, over_part}
 use Rattle.codegen.proofs.Values.{difference_flags, compared_flags, compare_met, failing_met}
 
@@ -93,7 +81,7 @@ module _ (z : Setting) where
       → Runs z.code [] 1 t (Decided z (pc + 2) w (is_true v) condition.NotEqual condition.Equal)
   holds_part pc v w t l h k =
       let ms = zero_test ∷ [] in
-      let zero : ((t.work 4 + 65535 + 1) % 65536 == 0) ≡ (v == 0) = ap (λ x. (x + 65535 + 1) % 65536 == 0) k.value ∙ zero_flag v l in
+      let zero : ((t.work 4 + 65535 + 1) % 65536 == 0) ≡ (v == 0) = ap (λ x. (x + 65535 + 1) % 65536 == 0) k.value ∙ equal_flag v 0 l (omega arith) in
       straight z ms 1 t (end_of t (forms_run ms t).status) [] 1 _ (tt, tt) (stands_at z.code pc ms t (h, tt) k.is.at) ((tt, tt), tt) refl (omega arith)
       (record {
         is = stands_elsewhere z pc (pc + 2) w t _ k.is (omega (arith, k.is.at)) refl refl refl refl refl;
@@ -140,12 +128,10 @@ module _ (z : Setting) where
 
   compare_part : (c : Comparison) (pc next x y : ℕ) (w : WordState) (t : Core) → pc + 2 ≡ next → z.code pc ≡ Some (instruction_of (compare_form c))
       → HasTwo z pc w x y t → Runs z.code [] 1 t (HasFlags next w (compared_flags c x y))
-  compare_part Equal = left_part
-  compare_part Below = left_part
   compare_part Above = right_part
-  compare_part SignedBelow = left_part
   compare_part SignedAbove = right_part
   compare_part CommonBit = bits_part
+  compare_part _ = left_part
 
   pub compares_part : (c : Comparison) (pc x y : ℕ) (w : WordState) (t : Core) → x < 0x10000 → y < 0x10000 → z.code pc ≡ Some (instruction_of (compare_form c))
       → HasTwo z pc w x y t → Runs z.code [] 1 t (Decided z (pc + 2) w (compare_words c x y) (holding c) (failing c))

@@ -1,11 +1,7 @@
 -- What it is that a stretch of code follows a word program.
 use Rattle.std.proofs.Common.{◌≡◌, ℕ, ◌+◌, ◌≤◌, List, [], ◌++◌, refl, sym, ◌∙◌, subst, arith, append-nil, Bool, true, false, if◌then◌else◌}
-use Rattle.array_versions.specs.fram_board.Effects.{Effect}
-use Rattle.code_forms.specs.Forms.{Core}
-use Rattle.code_forms.specs.Code.{Runs, Starves}
-use Rattle.array_versions.specs.Behaviour.{WordState, End, GoesOn, Jumps, Short, Strays, Broken, Behaviour, behind_effects, on_end, strays}
-use Rattle.array_versions.specs.Cost.{spent_on}
-use Rattle.codegen.specs.Laws.{HasJumped}
+use Rattle.codegen.proofs.Names.{Effect, Core, Runs, Starves, WordState, End, GoesOn, Jumps, Short, Strays, Broken, Behaviour, behind_effects, on_end, strays}
+use Rattle.codegen.proofs.Names.{spent_on, HasJumped}
 use Rattle.codegen.proofs.Stretches.{Setting, runs_on, starves_on, dearer, dearer_stall, so_runs}
 use Rattle.codegen.proofs.Memory.{local_words, Memory}
 
@@ -41,8 +37,7 @@ pub more_cycles : (z : Setting) (pc most more : ℕ) (u : Core) (es : List Effec
 more_cycles z pc most more u es (GoesOn w) l a = dearer z es most more u (StandsFor z pc w) l a
 more_cycles z pc most more u es (Jumps to w) l a = dearer z es most more u (HasJumped to w) l a
 more_cycles z pc most more u es Short l a = dearer_stall z es most more u l a
-more_cycles z pc most more u es Strays l a = tt
-more_cycles z pc most more u es Broken l a = tt
+more_cycles z pc most more u es _ l a = tt
 
 -- behind a stretch
 pub then_end : (z : Setting) (pc most more : ℕ) (u : Core) (P : Core → Type 0) (es fs : List Effect) (e : End) → Runs z.code es most u P
@@ -50,8 +45,7 @@ pub then_end : (z : Setting) (pc most more : ℕ) (u : Core) (P : Core → Type 
 then_end z pc most more u P es fs (GoesOn w) a b = runs_on z most more u P (StandsFor z pc w) es fs a b
 then_end z pc most more u P es fs (Jumps to w) a b = runs_on z most more u P (HasJumped to w) es fs a b
 then_end z pc most more u P es fs Short a b = starves_on z most more u P es fs a b
-then_end z pc most more u P es fs Strays a b = tt
-then_end z pc most more u P es fs Broken a b = tt
+then_end z pc most more u P es fs _ a b = tt
 
 -- a part, and then what it goes on with, which costs by the state there
 pub then_way : (z : Setting) (pc pc' most : ℕ) (more : WordState → ℕ) (u : Core) (P : WordState → Type 0) (es : List Effect) (e : End)
@@ -63,8 +57,7 @@ then_way z pc pc' most more u P es (Jumps to w) go a p b =
     subst (λ l. Runs z.code l (most + 0) u (HasJumped to w)) (sym (append-nil es)) (dearer z es most (most + 0) u (HasJumped to w) (omega arith) a)
 then_way z pc pc' most more u P es Short go a p b =
     subst (λ l. Starves z.code l (most + 0) u) (sym (append-nil es)) (dearer_stall z es most (most + 0) u (omega arith) a)
-then_way z pc pc' most more u P es Strays go a p b = tt
-then_way z pc pc' most more u P es Broken go a p b = tt
+then_way z pc pc' most more u P es _ go a p b = tt
 
 -- one more stretch where the program goes on
 pub then_hop : (z : Setting) (pc pc' most more : ℕ) (u : Core) (es : List Effect) (e : End) → FollowsEnd z pc most u es e
@@ -74,8 +67,7 @@ then_hop z pc pc' most more u es (GoesOn w) a b =
     (runs_on z most more u (StandsFor z pc w) (StandsFor z pc' w) es [] a (λ t h. b t w h))
 then_hop z pc pc' most more u es (Jumps to w) a b = more_cycles z pc most (most + more) u es (Jumps to w) (omega arith) a
 then_hop z pc pc' most more u es Short a b = more_cycles z pc most (most + more) u es Short (omega arith) a
-then_hop z pc pc' most more u es Strays a b = tt
-then_hop z pc pc' most more u es Broken a b = tt
+then_hop z pc pc' most more u es _ a b = tt
 
 -- the same place by another number
 pub ends_at : (z : Setting) (pc pc' most : ℕ) (u : Core) (b : Behaviour) → pc ≡ pc' → Follows z pc most u b → Follows z pc' most u b
@@ -125,8 +117,7 @@ pub reach_more : (z : Setting) (owed : ℕ) (Q : WordState → Core → Type 0) 
 reach_more z owed Q most more u es (GoesOn w) l a = record { spent = a.spent; within = omega (arith, a.within, l); runs = a.runs }
 reach_more z owed Q most more u es (Jumps to w) l a = dearer z es most more u (HasJumped to w) l a
 reach_more z owed Q most more u es Short l a = dearer_stall z es most more u l a
-reach_more z owed Q most more u es Strays l a = tt
-reach_more z owed Q most more u es Broken l a = tt
+reach_more z owed Q most more u es _ l a = tt
 
 -- where it comes to, exactly
 exactly : (z : Setting) (es : List Effect) (most : ℕ) (u : Core) (P : Core → Type 0) (a : Runs z.code es most u P) → Runs z.code es most u (λ t. t ≡ a.end)
@@ -148,8 +139,7 @@ pub then_reach : (z : Setting) (owed : ℕ) (Q : WordState → Core → Type 0) 
 then_reach z owed Q most more u P es fs (GoesOn w) a b = pays_on z owed most more u P (Q w) es fs a b
 then_reach z owed Q most more u P es fs (Jumps to w) a b = runs_on z most more u P (HasJumped to w) es fs a b
 then_reach z owed Q most more u P es fs Short a b = starves_on z most more u P es fs a b
-then_reach z owed Q most more u P es fs Strays a b = tt
-then_reach z owed Q most more u P es fs Broken a b = tt
+then_reach z owed Q most more u P es fs _ a b = tt
 
 -- a part, and then what it goes on with, which costs by the state there; what the part has left is spent there
 pub reach_way : (z : Setting) (owed owed' : ℕ) (Q Q' : WordState → Core → Type 0) (most : ℕ) (more : WordState → ℕ) (u : Core) (P : WordState → Type 0)
@@ -163,8 +153,7 @@ reach_way z owed owed' Q Q' most more u P es (Jumps to w) go a p b =
     subst (λ l. Runs z.code l (most + 0) u (HasJumped to w)) (sym (append-nil es)) (dearer z es most (most + 0) u (HasJumped to w) (omega arith) a)
 reach_way z owed owed' Q Q' most more u P es Short go a p b =
     subst (λ l. Starves z.code l (most + 0) u) (sym (append-nil es)) (dearer_stall z es most (most + 0) u (omega arith) a)
-reach_way z owed owed' Q Q' most more u P es Strays go a p b = tt
-reach_way z owed owed' Q Q' most more u P es Broken go a p b = tt
+reach_way z owed owed' Q Q' most more u P es _ go a p b = tt
 
 -- where no word waits it is the same
 pub reaches : (z : Setting) (Q : WordState → Core → Type 0) (pc most : ℕ) (u : Core) (es : List Effect) (e : End)
@@ -172,8 +161,7 @@ pub reaches : (z : Setting) (Q : WordState → Core → Type 0) (pc most : ℕ) 
 reaches z Q pc most u es (GoesOn w) f a = record { spent = most; within = omega arith; runs = so_runs z es most u (StandsFor z pc w) (Q w) (f w) a }
 reaches z Q pc most u es (Jumps to w) f a = a
 reaches z Q pc most u es Short f a = a
-reaches z Q pc most u es Strays f a = tt
-reaches z Q pc most u es Broken f a = tt
+reaches z Q pc most u es _ f a = tt
 
 -- and where those that wait are pushed then
 pub then_follows : (z : Setting) (owed pc most : ℕ) (Q : WordState → Core → Type 0) (u : Core) (es : List Effect) (e : End) → Reaches z owed Q most u es e
@@ -184,8 +172,7 @@ then_follows z owed pc most Q u es (GoesOn w) a b =
     (runs_on z a.spent owed u (Q w) (StandsFor z pc w) es [] a.runs (λ t h. b t w h)))
 then_follows z owed pc most Q u es (Jumps to w) a b = a
 then_follows z owed pc most Q u es Short a b = a
-then_follows z owed pc most Q u es Strays a b = tt
-then_follows z owed pc most Q u es Broken a b = tt
+then_follows z owed pc most Q u es _ a b = tt
 
 -- nothing is promised of what strays
 pub reach_guarded : (z : Setting) (c : Bool) (owed : ℕ) (Q : WordState → Core → Type 0) (most : ℕ) (u : Core) (b : Behaviour)

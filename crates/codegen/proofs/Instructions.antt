@@ -1,53 +1,26 @@
 -- The forms of a program's code are instructions: their jumps reach no further than ten bits say.
 use Rattle.std.proofs.Common.{◌≡◌, ℕ, zero, suc, ◌+◌, ◌-◌, ◌*◌, ◌<◌, ◌≤◌, ◌==◌, refl, List, [], ◌∷◌, ◌++◌, arith, Bool, true, false, not, nat_le, nat_lt}
-use Rattle.std.proofs.Common.{Option, Some, None}
-use Rattle.std.proofs.Common.{if◌then◌else◌}
-use Rattle.std.proofs.lemmas.Bool.Decides.{nat_tests}
+use Rattle.std.proofs.Common.{Option, Some, None, if◌then◌else◌}
+use Rattle.codegen.proofs.Names.{nat_tests, R4, Constant, Number, Fram, Ram, ToRegister, ToFram, ToIndexed, Source, Form, Move, Calculate, Update, Push, Jump}
+use Rattle.codegen.proofs.Names.{Skip, Branch, instruction_of, word_sum, Condition, forms_bytes, instructions, AreInstructions, forms_bytes-append}
+use Rattle.codegen.proofs.Names.{IsInstruction, UnaryOperation, Negate, Complement, BinaryOperation, Multiply, Divide, Remainder, Plain, PlainOperation, And}
+use Rattle.codegen.proofs.Names.{ShiftOperation, Left, Right, SignedRight, ArrayPlace, ListPlace, Comparison, Equal, Step, Test, Program, number, load, keep}
+use Rattle.codegen.proofs.Names.{update, local, set_local, update_local, unary, binary, shift, element, emit_word, list_entry, versioned_read, versioned_write}
+use Rattle.codegen.proofs.Names.{versioned_update, sense, truth, choose, repeat, store_number, move_word, jump, holds, compares, both, either, fails, nothing}
+use Rattle.codegen.proofs.Names.{step, Bound, Waiting, number_source, local_address, local_target, waiting_source, flushed, top_of, source_from, below_top}
+use Rattle.codegen.proofs.Names.{any_held, cleared, kept, four_from, top_number, element_at, stays, sides, right_source, top_power, top_mask, two_code}
+use Rattle.codegen.proofs.Names.{power_code, five_from, top_to_four, top_to_five, two_to_registers, unary_middle, binary_middle, plain_instruction, update_code}
+use Rattle.codegen.proofs.Names.{repeated, double, halve, right_code, shift_by, shift_middle, check_code, zero_code, fetch_code, element_code, emit_code}
+use Rattle.codegen.proofs.Names.{pair_code, entry_code, own_code, read_code, stored_code, write_code, compare_form, holding, failing, size, pass_over}
+use Rattle.codegen.proofs.Names.{jump_back, decision, holds_code, compares_code, truth_code, number_code, turn_end, turns_code, waiting_behind, waiting_after}
+use Rattle.codegen.proofs.Names.{bound_of, is_inside, step_code, test_code, steps_code, block_code, code_of, rests, rest_source, to_rest, right_to_rest}
+use Rattle.codegen.proofs.Names.{update_sides, made_code, first_update, by_version, inside_update, checked_update, indexed_update, known_update, known_index}
+use Rattle.codegen.proofs.Names.{update_at, CodeIsInstructions}
 use Rattle.code_forms.specs.Forms as forms
-use Rattle.code_forms.specs.Forms.{R4, Constant, Number, Fram, Ram, ToRegister, ToFram, ToIndexed, Source, Form, Move, Calculate, Update, Push, Jump}
-use Rattle.code_forms.specs.Forms.{Skip, Branch, instruction_of}
-use Rattle.msp_isa.specs.alp_words.Words.{word_sum}
 use Rattle.msp_isa.specs.declared.instructions.TwoOp.TheVariants as op
-use Rattle.msp_isa.specs.declared.instructions.Condition.{Condition}
 use Rattle.msp_isa.specs.declared.instructions.Condition.TheVariants as condition
 use Rattle.msp_isa.specs.declared.operands.Konst.TheVariants as konst
-use Rattle.code_forms.specs.Code.{forms_bytes}
-use Rattle.code_forms.specs.Placed.{instructions, AreInstructions}
-use Rattle.code_forms.proofs.Interface.{forms_bytes-append}
-use Rattle.msp_isa.specs.Encoding.{IsInstruction}
-use Rattle.array_versions.specs.declared.operations.UnaryOperation.{UnaryOperation}
-use Rattle.array_versions.specs.declared.operations.UnaryOperation.TheVariants.{Negate, Complement}
-use Rattle.array_versions.specs.declared.operations.BinaryOperation.{BinaryOperation}
-use Rattle.array_versions.specs.declared.operations.BinaryOperation.TheVariants.{Multiply, Divide, Remainder, Plain}
-use Rattle.array_versions.specs.declared.operations.PlainOperation.{PlainOperation}
-use Rattle.array_versions.specs.declared.operations.PlainOperation.TheVariants.{And}
-use Rattle.array_versions.specs.declared.operations.ShiftOperation.{ShiftOperation}
-use Rattle.array_versions.specs.declared.operations.ShiftOperation.TheVariants.{Left, Right, SignedRight}
-use Rattle.array_versions.specs.declared.program.ArrayPlace.{ArrayPlace}
-use Rattle.array_versions.specs.declared.program.ListPlace.{ListPlace}
-use Rattle.array_versions.specs.declared.operations.Comparison.{Comparison}
-use Rattle.array_versions.specs.declared.operations.Comparison.TheVariants.{Equal, Below, Above, SignedBelow, SignedAbove, CommonBit}
-use Rattle.array_versions.specs.Program.{Step, Test, Program, number, load, keep, update, local, set_local, update_local, unary, binary, shift, element}
-use Rattle.array_versions.specs.Program.{emit_word}
-use Rattle.array_versions.specs.Program.{list_entry}
-use Rattle.array_versions.specs.Program.{versioned_read, versioned_write, versioned_update, sense, truth, choose, repeat, store_number, move_word, jump, holds}
-use Rattle.array_versions.specs.Program.{compares}
-use Rattle.array_versions.specs.Program.{both, either, fails, nothing, step}
-use Rattle.codegen.specs.declared.bounds.Bound.{Bound}
-use Rattle.codegen.specs.declared.waiting.Waiting.{Waiting}
 use Rattle.codegen.specs.declared.waiting.Waiting.TheVariants as waiting
-use Rattle.codegen.specs.Code.{number_source, local_address, local_target, waiting_source, flushed, top_of, source_from, below_top, any_held, cleared, kept}
-use Rattle.codegen.specs.Code.{four_from}
-use Rattle.codegen.specs.Code.{top_number, element_at, stays, sides, right_source, top_power, top_mask, two_code, power_code, five_from, top_to_four}
-use Rattle.codegen.specs.Code.{top_to_five, two_to_registers, unary_middle, binary_middle, plain_instruction, update_code, repeated}
-use Rattle.codegen.specs.Code.{double, halve, right_code, shift_by, shift_middle, check_code, zero_code, fetch_code, element_code, emit_code, pair_code}
-use Rattle.codegen.specs.Code.{entry_code, own_code, read_code, stored_code, write_code}
-use Rattle.codegen.specs.Code.{compare_form, holding, failing, size, pass_over, jump_back, decision, holds_code, compares_code, truth_code, number_code}
-use Rattle.codegen.specs.Code.{turn_end}
-use Rattle.codegen.specs.Code.{turns_code, waiting_behind, waiting_after, bound_of, is_inside, step_code, test_code, steps_code, block_code, code_of}
-use Rattle.codegen.specs.Code.{rests, rest_source, to_rest, right_to_rest, update_sides, made_code, first_update, by_version, inside_update, checked_update}
-use Rattle.codegen.specs.Code.{indexed_update, known_update, known_index, update_at}
-use Rattle.codegen.specs.Laws.{CodeIsInstructions}
 use Rattle.codegen.proofs.UpdateBytes.{reads_bytes, made_bytes, first_bytes, inside_bytes, near_size}
 
 -- the forms are instructions
@@ -130,11 +103,7 @@ write_are false place list = checked_are place.length 54 (stored_code place list
 
 compare_is : (c : Comparison) → IsInstruction (instruction_of (compare_form c))
 compare_is Equal = tt
-compare_is Below = tt
-compare_is Above = tt
-compare_is SignedBelow = tt
-compare_is SignedAbove = tt
-compare_is CommonBit = tt
+compare_is _ = tt
 
 near_is : (d : ℕ) → nat_le d 511 ≡ true → d < 0x400
 near_is d e = grind (arith, nat_tests)
@@ -181,12 +150,8 @@ cleared_are : (os : List Waiting) → Are (cleared os)
 cleared_are os = either_are (any_held os) (flushed os) [] (flushed_are os) tt
 
 four_are : (o : Option Waiting) → Are (four_from o)
-four_are None = (tt, tt)
-four_are (Some (waiting.Number n)) = (tt, tt)
-four_are (Some (waiting.Fram a)) = (tt, tt)
-four_are (Some (waiting.Local n)) = (tt, tt)
 four_are (Some waiting.R4) = tt
-four_are (Some waiting.R6) = (tt, tt)
+four_are _ = (tt, tt)
 
 top_to_four_are : (os : List Waiting) → Are (top_to_four os)
 top_to_four_are os = are-append (cleared (below_top os)) (four_from (top_of os)) (cleared_are (below_top os)) (four_are (top_of os))
@@ -212,10 +177,8 @@ sides_are os =
     (are-append right (four_from (top_of under)) (right_are_by (stays (top_of os)) (top_of os)) (four_are (top_of under)))
 
 two_code_are : (o : BinaryOperation) (os : List Waiting) → Are (two_code os o)
-two_code_are Multiply os = are-append (two_to_registers os) (binary_middle Multiply) (two_are os) (binary_are Multiply)
-two_code_are Divide os = are-append (two_to_registers os) (binary_middle Divide) (two_are os) (binary_are Divide)
-two_code_are Remainder os = are-append (two_to_registers os) (binary_middle Remainder) (two_are os) (binary_are Remainder)
 two_code_are (Plain o) os = are-append (sides os) (Calculate (plain_instruction o) (right_source (top_of os)) R4 ∷ []) (sides_are os) (tt, tt)
+two_code_are o os = are-append (two_to_registers os) (binary_middle o) (two_are os) (binary_are o)
 
 power_are : (p : Option ℕ) (os : List Waiting) (o : BinaryOperation) → Are (power_code p os o)
 power_are None os o = two_code_are o os

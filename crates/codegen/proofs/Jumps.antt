@@ -1,15 +1,9 @@
 -- Jumps over code and back: how far each of them goes.
 use Rattle.std.proofs.Common.{◌≡◌, ℕ, ◌+◌, ◌-◌, ◌*◌, ◌/◌, ◌%◌, ◌<◌, ◌≤◌, ◌==◌, not, Bool, true, false, nat_le, if◌then◌else◌, List, [], ◌∷◌, refl, ap, ◌∙◌}
 use Rattle.std.proofs.Common.{subst, arith, eq-eqb, ne_eqb, eqb-true}
-use Rattle.std.proofs.lemmas.Bool.Decides.{nat_tests}
-use Rattle.msp_isa.specs.declared.instructions.Condition.{Condition}
+use Rattle.codegen.proofs.Names.{nat_tests, Condition, sum16, distance, is_met, Core, Form, Jump, Skip, form_bytes, Stands, forms_bytes, Runs, form_small}
+use Rattle.codegen.proofs.Names.{WordState, size, jump_over, pass_over, jump_back}
 use Rattle.msp_isa.specs.declared.instructions.Condition.TheVariants as condition
-use Rattle.array_versions.specs.msp_step.Effect.{sum16, distance, is_met}
-use Rattle.code_forms.specs.Forms.{Core, Form, Jump, Skip, form_bytes}
-use Rattle.code_forms.specs.Code.{Stands, forms_bytes, Runs}
-use Rattle.code_forms.proofs.Interface.{form_small}
-use Rattle.array_versions.specs.Behaviour.{WordState}
-use Rattle.codegen.specs.Code.{size, jump_over, pass_over, jump_back}
 use Rattle.codegen.proofs.Stretches.{Setting, runs_on, dearer, nothing_run}
 use Rattle.codegen.proofs.Follows.{StandsFor}
 use Rattle.codegen.proofs.Registers.{bytes_even, jump_to, skip_to}

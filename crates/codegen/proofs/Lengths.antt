@@ -1,58 +1,29 @@
 -- The code of a program is no longer than its words say.
-use Rattle.std.proofs.Common.{◌≡◌, ℕ, zero, suc, ◌+◌, ◌-◌, ◌*◌, ◌<◌, ◌≤◌, ◌==◌, List, [], ◌∷◌, ◌++◌, length, refl, arith, length-append, Bool, true, false}
-use Rattle.std.proofs.Common.{not, nat_le, nat_lt, Option, Some, None, ltb-true}
-use Rattle.std.proofs.lemmas.Bool.Decides.{nat_tests}
-use Rattle.std.proofs.Common.{if◌then◌else◌}
-use Rattle.msp_isa.specs.alp_words.Words.{word_sum}
+use Rattle.std.proofs.Common.{◌≡◌, ℕ, zero, suc, ◌+◌, ◌-◌, ◌*◌, ◌<◌, ◌≤◌, ◌==◌, List, [], ◌∷◌, ◌++◌, length, refl, arith, length-append, Bool, true, false, not}
+use Rattle.std.proofs.Common.{nat_le, nat_lt, Option, Some, None, ltb-true, if◌then◌else◌}
+use Rattle.codegen.proofs.Names.{nat_tests, word_sum, Condition, encoding, R4, R5, Register, Constant, Number, Fram, Ram, Source, source_bytes, ToRegister}
+use Rattle.codegen.proofs.Names.{ToFram, ToRam, ToIndexed, target_bytes, Form, Move, Calculate, Update, Push, Jump, Skip, Branch, instruction_of, form_bytes}
+use Rattle.codegen.proofs.Names.{forms_bytes, instruction_words, instructions, bytes_are, forms_bytes-append, UnaryOperation, Negate, Complement}
+use Rattle.codegen.proofs.Names.{BinaryOperation, Multiply, Divide, Remainder, Plain, PlainOperation, And, ShiftOperation, Left, Right, SignedRight, Comparison}
+use Rattle.codegen.proofs.Names.{Equal, ArrayPlace, ListPlace, Step, Test, Program, number, load, keep, update, local, set_local, update_local, unary, binary}
+use Rattle.codegen.proofs.Names.{shift, element, emit_word, list_entry, versioned_read, versioned_write, versioned_update, sense, truth, choose, repeat}
+use Rattle.codegen.proofs.Names.{store_number, move_word, jump, holds, compares, both, either, fails, nothing, step, unary_words, binary_words, right_words}
+use Rattle.codegen.proofs.Names.{shift_words, entry_words, step_words, test_words, words_of, Bound, Waiting, local_register, local_address, local_target}
+use Rattle.codegen.proofs.Names.{waiting_source, flushed, top_of, source_from, below_top, any_held, cleared, kept, number_source, stays, sides, right_source}
+use Rattle.codegen.proofs.Names.{power, top_power, two_code, power_code, power_result, four_from, five_from, top_to_four, top_to_five, two_to_registers}
+use Rattle.codegen.proofs.Names.{unary_middle, binary_middle, binary_result, plain_instruction, ram_update, update_code, repeated, double, halve, right_code}
+use Rattle.codegen.proofs.Names.{shift_by, shift_middle, check_code, zero_code, fetch_code, element_code, emit_code, pair_code, entry_code, own_code, read_code}
+use Rattle.codegen.proofs.Names.{stored_code, write_code, compare_form, holding, failing, size, pass_over, jump_back, decision, holds_code, compares_code}
+use Rattle.codegen.proofs.Names.{truth_code, number_code, turn_end, turns_code, waiting_behind, waiting_after, step_code, test_code, steps_code, top_number}
+use Rattle.codegen.proofs.Names.{element_at, bound_of, is_inside, block_code, code_of, rests, rest_source, to_rest, right_to_rest, update_sides, checked_update}
+use Rattle.codegen.proofs.Names.{indexed_update, known_update, known_index, update_at, CodeHasItsBytes, CodeHasItsWords}
 use Rattle.msp_isa.specs.declared.instructions.TwoOp.TheVariants as op
-use Rattle.msp_isa.specs.declared.instructions.Condition.{Condition}
 use Rattle.msp_isa.specs.declared.instructions.Condition.TheVariants as condition
 use Rattle.msp_isa.specs.declared.operands.Konst.TheVariants as konst
-use Rattle.msp_isa.specs.Encoding.{encoding}
 use Rattle.code_forms.specs.Forms as forms
-use Rattle.code_forms.specs.Forms.{R4, R5, Register, Constant, Number, Fram, Ram, Source, source_bytes, ToRegister, ToFram, ToRam, ToIndexed, target_bytes}
-use Rattle.code_forms.specs.Forms.{Form, Move}
-use Rattle.code_forms.specs.Forms.{Calculate, Update, Push, Jump, Skip, Branch, instruction_of, form_bytes}
-use Rattle.code_forms.specs.Code.{forms_bytes}
-use Rattle.code_forms.specs.Placed.{words_of as instruction_words, instructions}
-use Rattle.code_forms.proofs.Interface.{bytes_are, forms_bytes-append}
-use Rattle.array_versions.specs.declared.operations.UnaryOperation.{UnaryOperation}
-use Rattle.array_versions.specs.declared.operations.UnaryOperation.TheVariants.{Negate, Complement}
-use Rattle.array_versions.specs.declared.operations.BinaryOperation.{BinaryOperation}
-use Rattle.array_versions.specs.declared.operations.BinaryOperation.TheVariants.{Multiply, Divide, Remainder, Plain}
-use Rattle.array_versions.specs.declared.operations.PlainOperation.{PlainOperation}
-use Rattle.array_versions.specs.declared.operations.PlainOperation.TheVariants.{And}
-use Rattle.array_versions.specs.declared.operations.ShiftOperation.{ShiftOperation}
-use Rattle.array_versions.specs.declared.operations.ShiftOperation.TheVariants.{Left, Right, SignedRight}
-use Rattle.array_versions.specs.declared.operations.Comparison.{Comparison}
-use Rattle.array_versions.specs.declared.operations.Comparison.TheVariants.{Equal, Below, Above, SignedBelow, SignedAbove, CommonBit}
-use Rattle.array_versions.specs.declared.program.ArrayPlace.{ArrayPlace}
-use Rattle.array_versions.specs.declared.program.ListPlace.{ListPlace}
-use Rattle.array_versions.specs.Program.{Step, Test, Program, number, load, keep, update, local, set_local, update_local, unary, binary, shift, element}
-use Rattle.array_versions.specs.Program.{emit_word}
-use Rattle.array_versions.specs.Program.{list_entry}
-use Rattle.array_versions.specs.Program.{versioned_read, versioned_write, versioned_update, sense, truth, choose, repeat, store_number, move_word, jump, holds}
-use Rattle.array_versions.specs.Program.{compares}
-use Rattle.array_versions.specs.Program.{both, either, fails, nothing, step}
-use Rattle.array_versions.specs.Cost.{unary_words, binary_words, right_words, shift_words, entry_words, step_words, test_words, words_of}
-use Rattle.array_versions.specs.declared.program.ArrayPlace.{ArrayPlace}
-use Rattle.array_versions.specs.declared.program.ListPlace.{ListPlace}
-use Rattle.codegen.specs.declared.bounds.Bound.{Bound}
-use Rattle.codegen.specs.declared.waiting.Waiting.{Waiting}
 use Rattle.codegen.specs.declared.waiting.Waiting.TheVariants as waiting
-use Rattle.codegen.specs.Code.{local_register, local_address, local_target, waiting_source, flushed, top_of, source_from, below_top, any_held, cleared, kept}
 use Rattle.codegen.proofs.Operands.{number_cases}
-use Rattle.codegen.specs.Code.{number_source, stays, sides, right_source, power, top_power, two_code, power_code, power_result, four_from, five_from}
-use Rattle.codegen.specs.Code.{top_to_four, top_to_five, two_to_registers, unary_middle, binary_middle, binary_result}
-use Rattle.codegen.specs.Code.{plain_instruction, ram_update, update_code, repeated, double, halve, right_code, shift_by, shift_middle, check_code, zero_code}
-use Rattle.codegen.specs.Code.{fetch_code, element_code, emit_code}
-use Rattle.codegen.specs.Code.{pair_code, entry_code, own_code, read_code, stored_code, write_code, compare_form, holding, failing, size, pass_over, jump_back}
-use Rattle.codegen.specs.Code.{decision, holds_code}
-use Rattle.codegen.specs.Code.{compares_code, truth_code, number_code, turn_end, turns_code, waiting_behind, waiting_after, step_code, test_code, steps_code}
-use Rattle.codegen.specs.Code.{top_number, element_at, bound_of, is_inside, block_code, code_of}
-use Rattle.codegen.specs.Code.{rests, rest_source, to_rest, right_to_rest, update_sides, checked_update, indexed_update, known_update, known_index, update_at}
 use Rattle.codegen.proofs.UpdateBytes.{checked_bytes, known_bytes}
-use Rattle.codegen.specs.Laws.{CodeHasItsBytes, CodeHasItsWords}
 
 unary_length : (o : UnaryOperation) → 2 + forms_bytes (unary_middle o) + 2 ≤ 2 * unary_words o
 unary_length Negate = omega arith
@@ -92,11 +63,7 @@ entry_length count list home copy words false = refl
 
 pub compare_length : (c : Comparison) → form_bytes (compare_form c) ≡ 2
 compare_length Equal = refl
-compare_length Below = refl
-compare_length Above = refl
-compare_length SignedBelow = refl
-compare_length SignedAbove = refl
-compare_length CommonBit = refl
+compare_length _ = refl
 
 either_short : (b : Bool) (x y : List Form) (most : ℕ) → forms_bytes x ≤ most → forms_bytes y ≤ most → forms_bytes (if b then x else y) ≤ most
 either_short true x y most h k = h
@@ -148,10 +115,7 @@ kept_bytes (o ∷ os) = kept_bytes os + kept_bytes_of o
 
 push_short : (o : Waiting) → form_bytes (Push (waiting_source o)) ≤ kept_bytes_of o
 push_short (waiting.Number n) = omega (arith, number_bytes n)
-push_short (waiting.Fram a) = omega arith
-push_short (waiting.Local n) = omega arith
-push_short waiting.R4 = omega arith
-push_short waiting.R6 = omega arith
+push_short _ = omega arith
 
 flushed_short : (os : List Waiting) → forms_bytes (flushed os) ≤ kept_bytes os
 flushed_short [] = omega arith
@@ -167,23 +131,15 @@ cleared_short os = cleared_by (any_held os) os
 
 -- the top as a source takes no more than its push
 source_short : (os : List Waiting) → source_bytes (source_from (top_of os)) + kept_bytes (below_top os) ≤ kept_bytes os
-source_short [] = omega arith
 source_short (waiting.Number n ∷ os) = omega (arith, number_bytes n)
-source_short (waiting.Fram a ∷ os) = omega arith
-source_short (waiting.Local n ∷ os) = omega arith
-source_short (waiting.R4 ∷ os) = omega arith
-source_short (waiting.R6 ∷ os) = omega arith
+source_short _ = omega arith
 
 five_short : (os : List Waiting) → forms_bytes (five_from (top_of os)) + kept_bytes (below_top os) ≤ 2 + kept_bytes os
 five_short os = omega (arith, source_short os)
 
 four_short : (os : List Waiting) → forms_bytes (four_from (top_of os)) + kept_bytes (below_top os) ≤ 2 + kept_bytes os
-four_short [] = omega arith
 four_short (waiting.Number n ∷ os) = omega (arith, number_bytes n)
-four_short (waiting.Fram a ∷ os) = omega arith
-four_short (waiting.Local n ∷ os) = omega arith
-four_short (waiting.R4 ∷ os) = omega arith
-four_short (waiting.R6 ∷ os) = omega arith
+four_short _ = omega arith
 
 top_to_four_short : (os : List Waiting) → forms_bytes (top_to_four os) + kept_bytes (kept (below_top os)) ≤ 2 + kept_bytes os
 top_to_four_short os =
@@ -234,10 +190,8 @@ abbrev OperationShort : Waiting → List Waiting → List Form → BinaryOperati
 OperationShort r os ms o = forms_bytes ms + (kept_bytes (kept (below_top (below_top os))) + kept_bytes_of r) ≤ 2 * binary_words o + kept_bytes os
 
 two_code_short : (o : BinaryOperation) (os : List Waiting) → OperationShort (binary_result o) os (two_code os o) o
-two_code_short Multiply os = omega (arith, forms_bytes-append (two_to_registers os) (binary_middle Multiply), two_short os)
-two_code_short Divide os = omega (arith, forms_bytes-append (two_to_registers os) (binary_middle Divide), two_short os)
-two_code_short Remainder os = omega (arith, forms_bytes-append (two_to_registers os) (binary_middle Remainder), two_short os)
 two_code_short (Plain o) os = omega (arith, plain_short o os)
+two_code_short o os = omega (arith, forms_bytes-append (two_to_registers os) (binary_middle o), two_short os)
 
 right_words_most : (k : ℕ) → right_words k ≤ k + 1
 right_words_most zero = omega arith
@@ -310,28 +264,13 @@ write_short false place list =
 -- an element, at a number that waits and elsewhere
 element_short : (b : Bool) (base n : ℕ) (os : List Waiting)
     → forms_bytes (element_at b (top_number (top_of os)) os base n) + kept_bytes (waiting_behind os (element base n)) ≤ 20 + kept_bytes os
-element_short b base n [] =
-    omega (arith, forms_bytes-append (top_to_four []) (element_code b base n), element_code_short b base n, top_to_four_short [])
 element_short b base n (waiting.Number k ∷ os) = omega (arith, known_short (nat_lt k n) (word_sum base (word_sum k k)))
-element_short b base n (waiting.Fram a ∷ os) =
-    let os' = waiting.Fram a ∷ os in
-    omega (arith, forms_bytes-append (top_to_four os') (element_code b base n), element_code_short b base n, top_to_four_short os')
-element_short b base n (waiting.Local k ∷ os) =
-    let os' = waiting.Local k ∷ os in
-    omega (arith, forms_bytes-append (top_to_four os') (element_code b base n), element_code_short b base n, top_to_four_short os')
-element_short b base n (waiting.R4 ∷ os) =
-    let os' = waiting.R4 ∷ os in
-    omega (arith, forms_bytes-append (top_to_four os') (element_code b base n), element_code_short b base n, top_to_four_short os')
-element_short b base n (waiting.R6 ∷ os) =
-    let os' = waiting.R6 ∷ os in
-    omega (arith, forms_bytes-append (top_to_four os') (element_code b base n), element_code_short b base n, top_to_four_short os')
+element_short b base n os =
+    omega (arith, forms_bytes-append (top_to_four os) (element_code b base n), element_code_short b base n, top_to_four_short os)
 
 waiting_bytes : (o : Waiting) → source_bytes (waiting_source o) ≤ 2
 waiting_bytes (waiting.Number n) = number_bytes n
-waiting_bytes (waiting.Fram a) = omega arith
-waiting_bytes (waiting.Local n) = omega arith
-waiting_bytes waiting.R4 = omega arith
-waiting_bytes waiting.R6 = omega arith
+waiting_bytes _ = omega arith
 
 -- the right side of an update, which reads it twice
 rest_short_by : (b : Bool) (os : List Waiting) → rests (top_of os) ≡ b

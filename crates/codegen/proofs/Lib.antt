@@ -1,3 +1,4 @@
+mod Names
 mod Stretches
 mod Memory
 mod Follows

@@ -1,30 +1,18 @@
 -- A word is listed: the last entry gets longer, or there is one more.
-use Rattle.std.proofs.Common.{◌≡◌, ℕ, suc, zero, ◌+◌, ◌-◌, ◌*◌, ◌%◌, ◌<◌, ◌==◌, ◌&&◌, not, List, [], ◌∷◌, Some, refl, sym, ap, ap₂, ◌∙◌, subst, arith}
-use Rattle.std.proofs.Common.{Bool, true, false, if◌then◌else◌, ne_eqb, drop}
-use Rattle.msp_isa.specs.alp_words.Words.{word_sum}
-use Rattle.msp_isa.specs.declared.instructions.Condition.{Condition}
+use Rattle.std.proofs.Common.{◌≡◌, ℕ, suc, zero, ◌+◌, ◌-◌, ◌*◌, ◌%◌, ◌<◌, ◌==◌, ◌&&◌, not, List, [], ◌∷◌, Some, refl, sym, ap, ap₂, ◌∙◌, subst, arith, Bool}
+use Rattle.std.proofs.Common.{true, false, if◌then◌else◌, ne_eqb, drop}
+use Rattle.codegen.proofs.Names.{word_sum, Condition, sum16, distance, is_met, Effect, Store, put, IsFram, put_other, WorkRegister, R4, R5, R6, R7, work_number}
+use Rattle.codegen.proofs.Names.{Core, Register, Constant, Indexed, ToRegister, ToIndexed, Form, Move, Calculate, Update, Jump, instruction_of, Stands}
+use Rattle.codegen.proofs.Names.{forms_run, Runs, stands_at, stands_front, form_at, forms_at, forms_behind, end_of, ArrayPlace, ListPlace, WordState, Behaviour}
+use Rattle.codegen.proofs.Names.{strays, behind_effects, is_place, stored, raised, entry_stored, ends_before, listed_behind, first_stored, put_words, mark_code}
+use Rattle.codegen.proofs.Names.{next_code, word_code, first_code}
 use Rattle.msp_isa.specs.declared.instructions.Condition.TheVariants as condition
 use Rattle.msp_isa.specs.declared.instructions.TwoOp.TheVariants as op
 use Rattle.msp_isa.specs.declared.operands.Konst.TheVariants as konst
-use Rattle.array_versions.specs.msp_step.Effect.{sum16, distance, is_met}
-use Rattle.array_versions.specs.fram_board.Effects.{Effect, Store}
-use Rattle.array_versions.specs.machine_effects.World.{put}
-use Rattle.array_versions.specs.machine_effects.Machine.{IsFram}
-use Rattle.array_versions.proofs.machine_effects.Interface.{put_other}
-use Rattle.code_forms.specs.Forms.{WorkRegister, R4, R5, R6, R7, work_number, Core, Register, Constant, Indexed, ToRegister, ToIndexed}
-use Rattle.code_forms.specs.Forms.{Form, Move, Calculate, Update, Jump, instruction_of}
-use Rattle.code_forms.specs.Code.{Stands, forms_run, Runs}
-use Rattle.code_forms.proofs.Interface.{stands_at, stands_front, form_at, forms_at, forms_behind, end_of}
-use Rattle.array_versions.specs.declared.program.ArrayPlace.{ArrayPlace}
-use Rattle.array_versions.specs.declared.program.ListPlace.{ListPlace}
-use Rattle.array_versions.specs.Behaviour.{WordState, Behaviour, strays, behind_effects, is_place, stored, raised, entry_stored, ends_before}
-use Rattle.array_versions.specs.Behaviour.{listed_behind, first_stored}
-use Rattle.array_versions.proofs.Interface.{put_words}
-use Rattle.codegen.specs.Code.{mark_code, next_code, word_code, first_code}
 use Rattle.codegen.proofs.Stretches.{Setting, straight, runs_on, dearer}
 use Rattle.codegen.proofs.Memory.{place_is}
 use Rattle.codegen.proofs.Follows.{StandsFor, Follows, then_end, ends_at, guarded, more_cycles, stands_elsewhere}
-use Rattle.codegen.proofs.Registers.{zero_flag, equal_flag, jump_to}
+use Rattle.codegen.proofs.Registers.{equal_flag, jump_to}
 use Rattle.codegen.proofs.Products.{jump_exact}
 
 pub plus_small : (n base : ℕ) → 2 * n + base < 0x10000 → (2 * n + base + 0) % 0x10000 ≡ 2 * n + base
@@ -105,7 +93,7 @@ module _ (z : Setting) where
               five = un;
               seven = ap (λ q. (q + place.elements + 0) % 0x10000) four ∙ plus_small i place.elements eh;
             };
-        flag = ap (λ q. (q + 65535 + 1) % 0x10000 == 0) un ∙ zero_flag (y.fram list.cln) (put_words w.fram m x wl (wl list.ver) list.cln);
+        flag = ap (λ q. (q + 65535 + 1) % 0x10000 == 0) un ∙ equal_flag (y.fram list.cln) 0 (put_words w.fram m x wl (wl list.ver) list.cln) (omega arith);
       }))
 
   -- an entry of one word, then the count

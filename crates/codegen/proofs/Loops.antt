@@ -1,20 +1,13 @@
 -- Loops: a turn, and behind it the local decides whether there is another.
-use Rattle.std.proofs.Common.{◌≡◌, ℕ, zero, suc, ◌+◌, ◌-◌, ◌*◌, ◌%◌, ◌<◌, ◌≤◌, ◌==◌, not, Bool, true, false, nat_lt, if◌then◌else◌, List, [], ◌∷◌, ◌++◌}
-use Rattle.std.proofs.Common.{Some, refl, sym, ap, ◌∙◌, subst, arith, eq-eqb, ne_eqb}
-use Rattle.std.proofs.lemmas.Bool.Decides.{nat_tests}
-use Rattle.std.proofs.Math.Bool.{not-not}
+use Rattle.std.proofs.Common.{◌≡◌, ℕ, zero, suc, ◌+◌, ◌-◌, ◌*◌, ◌%◌, ◌<◌, ◌≤◌, ◌==◌, not, Bool, true, false, nat_lt, if◌then◌else◌, List, [], ◌∷◌, ◌++◌, Some}
+use Rattle.std.proofs.Common.{refl, sym, ap, ◌∙◌, subst, arith, eq-eqb, ne_eqb}
+use Rattle.codegen.proofs.Names.{nat_tests, not-not, put, put_same, WorkRegister, R4, work_number, Core, Register, Constant, Ram, ToRegister, ToRam, Form, Move}
+use Rattle.codegen.proofs.Names.{Calculate, instruction_of, form_bytes, Stands, forms_bytes, forms_run, Runs, stands_front, stands_back, end_of, stands_at}
+use Rattle.codegen.proofs.Names.{form_at, first_forms, forms_bytes-append, WordState, End, GoesOn, Behaviour, with_local, assigned, turns, spent_on}
+use Rattle.codegen.proofs.Names.{turns_spent, local_register, local_address, number_source, number_code, size, ram_turn_end, turn_end, jump_back, turns_code}
 use Rattle.msp_isa.specs.declared.instructions.Condition.TheVariants as condition
 use Rattle.msp_isa.specs.declared.instructions.TwoOp.TheVariants as op
 use Rattle.msp_isa.specs.declared.operands.Konst.TheVariants as konst
-use Rattle.array_versions.specs.machine_effects.World.{put}
-use Rattle.array_versions.proofs.machine_effects.Interface.{put_same}
-use Rattle.code_forms.specs.Forms.{WorkRegister, R4, work_number, Core, Register, Constant, Ram, ToRegister, ToRam, Form, Move, Calculate, instruction_of}
-use Rattle.code_forms.specs.Forms.{form_bytes}
-use Rattle.code_forms.specs.Code.{Stands, forms_bytes, forms_run, Runs}
-use Rattle.code_forms.proofs.Interface.{stands_front, stands_back, end_of, stands_at, form_at, first_forms, forms_bytes-append}
-use Rattle.array_versions.specs.Behaviour.{WordState, End, GoesOn, Jumps, Short, Strays, Broken, Behaviour, with_local, assigned, turns}
-use Rattle.array_versions.specs.Cost.{spent_on, turns_spent}
-use Rattle.codegen.specs.Code.{local_register, local_address, number_source, number_code, size, ram_turn_end, turn_end, jump_back, turns_code}
 use Rattle.codegen.proofs.Stretches.{Setting, straight, runs_on, dearer, so_runs}
 use Rattle.codegen.proofs.Memory.{local_words, in_register, in_ram, Memory, local_needs, set_register, set_ram}
 use Rattle.codegen.proofs.Follows.{StandsFor, Follows, OnGoesOn, more_cycles, then_end, then_way, ends_at}
@@ -26,10 +19,7 @@ use Rattle.codegen.proofs.Jumps.{whole_size, Decided, back_part}
 -- what is spent behind a turn, with the turn's own part in front
 turn_and_rest : (e : End) (f : WordState → ℕ) → spent_on e (λ v. 15 + f v) ≤ 15 + spent_on e f
 turn_and_rest (GoesOn v) f = omega arith
-turn_and_rest (Jumps to v) f = omega arith
-turn_and_rest Short f = omega arith
-turn_and_rest Strays f = omega arith
-turn_and_rest Broken f = omega arith
+turn_and_rest _ f = omega arith
 
 module _ (z : Setting) where
   -- the local is one more, and the flags tell whether it has come to the number

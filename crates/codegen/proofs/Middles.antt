@@ -1,19 +1,8 @@
 -- Operations on registers: what each leaves, and the steps that they are.
 use Rattle.std.proofs.Common.{◌≡◌, ℕ, ◌+◌, ◌-◌, ◌%◌, ◌<◌, List, [], refl, ap, ap₂, ◌∙◌, arith}
-use Rattle.msp_isa.specs.alp_words.declared.Flags.{Flags}
-use Rattle.msp_isa.specs.alp_words.declared.Width.TheVariants.{Word}
-use Rattle.array_versions.specs.msp_step.Effect.{operated}
-use Rattle.array_versions.specs.machine_effects.Going.{At, stretch}
-use Rattle.code_forms.specs.Forms.{WorkRegister, R4, R5, work_number, Core, Form}
-use Rattle.code_forms.specs.Code.{Stands, forms_bytes, AreStraight, forms_run, FormsNeed, Runs}
-use Rattle.code_forms.proofs.Interface.{end_of}
-use Rattle.array_versions.specs.declared.operations.UnaryOperation.TheVariants.{Negate, Complement}
-use Rattle.array_versions.specs.declared.operations.PlainOperation.{PlainOperation}
-use Rattle.array_versions.specs.declared.operations.PlainOperation.TheVariants.{Add, Subtract, And, Xor, Or}
-use Rattle.array_versions.specs.declared.operations.BinaryOperation.TheVariants.{Plain}
-use Rattle.array_versions.specs.Operations.{unary_word, plain_word, binary_word}
-use Rattle.array_versions.specs.Behaviour.{WordState}
-use Rattle.codegen.specs.Code.{unary_middle, plain_instruction, binary_middle}
+use Rattle.codegen.proofs.Names.{Flags, Word, operated, At, stretch, WorkRegister, R4, R5, work_number, Core, Form, Stands, forms_bytes, AreStraight, forms_run}
+use Rattle.codegen.proofs.Names.{FormsNeed, Runs, end_of, Negate, Complement, PlainOperation, Add, Subtract, Plain, unary_word, plain_word, binary_word}
+use Rattle.codegen.proofs.Names.{WordState, unary_middle, plain_instruction, binary_middle}
 use Rattle.codegen.proofs.Stretches.{Setting}
 use Rattle.codegen.proofs.Memory.{local_words}
 use Rattle.codegen.proofs.Follows.{StandsFor}
@@ -23,9 +12,7 @@ use Rattle.codegen.proofs.Registers.{Has, HasTwo, middle}
 pub makes : (o : PlainOperation) (x y : ℕ) (f : Flags) → x < 0x10000 → y < 0x10000 → (operated (plain_instruction o) Word x y f).value ≡ plain_word o x y
 makes Add x y f h k = omega arith
 makes Subtract x y f h k = omega arith
-makes And x y f h k = refl
-makes Xor x y f h k = refl
-makes Or x y f h k = refl
+makes _ x y f h k = refl
 
 module _ (z : Setting) where
   -- the machine stands for the state, and has a value in a register

@@ -1,29 +1,16 @@
 -- Words that wait to be pushed: what the machine stands for where some do, how they are pushed, and how they come to registers.
 use Rattle.std.proofs.Common.{◌≡◌, ℕ, suc, ◌+◌, ◌-◌, ◌%◌, ◌<◌, ◌≤◌, nat_le, Bool, true, false, nat_lt, if◌then◌else◌, List, [], ◌∷◌, ◌++◌, length, get_or, drop}
 use Rattle.std.proofs.Common.{Option, Some, None, ◌==◌, eqb-true, refl, sym, ap, ap₂, ◌∙◌, subst, arith, append_assoc, append-nil, length-append}
-use Rattle.std.specs.Option.{unwrap_or}
-use Rattle.std.specs.List.{AllByRecursion}
-use Rattle.array_versions.specs.machine_effects.World.{put}
-use Rattle.array_versions.specs.machine_effects.Going.{Goes}
-use Rattle.array_versions.specs.machine_effects.Machine.{IsFram}
+use Rattle.codegen.proofs.Names.{unwrap_or, AllByRecursion, put, Goes, IsFram, Konst, constant_value, CycleRow, cycles_of, source_cycles, to_register}
+use Rattle.codegen.proofs.Names.{to_memory, push, put_same, put_other, WorkRegister, R4, R5, work_number, Core, Source, Register, Number, Constant}
+use Rattle.codegen.proofs.Names.{source_operand, source_bytes, source_value, source_read, SourceNeeds, ToRegister, Form, Move, Calculate, Push, HasPushRoom}
+use Rattle.codegen.proofs.Names.{instruction_of, form_bytes, Stands, forms_bytes, forms_run, Runs, stands_at, stands_front, stands_back, end_of}
+use Rattle.codegen.proofs.Names.{forms_bytes-append, WordState, with_stack, pushed, Waiting, number_source, waiting_source, flushed, top_of, source_from}
+use Rattle.codegen.proofs.Names.{below_top, any_held, cleared, kept, four_from, five_from, top_to_four, stays, sides, right_source, top_to_five}
+use Rattle.codegen.proofs.Names.{two_to_registers}
 use Rattle.msp_isa.specs.declared.instructions.TwoOp.TheVariants as op
-use Rattle.msp_isa.specs.declared.operands.Konst.{Konst}
 use Rattle.msp_isa.specs.declared.operands.Konst.TheVariants as konst
-use Rattle.msp_isa.specs.Constant.{constant_value}
-use Rattle.array_versions.specs.machine_effects.msp_cycles.Cycles.{CycleRow, cycles_of, source_cycles, to_register, to_memory, push}
-use Rattle.array_versions.proofs.machine_effects.Interface.{put_same, put_other}
-use Rattle.code_forms.specs.Forms.{WorkRegister, R4, R5, work_number, Core, Source, Register, Number, Constant, source_operand, source_bytes, source_value}
-use Rattle.code_forms.specs.Forms.{source_read, SourceNeeds, ToRegister, Form}
-use Rattle.code_forms.specs.Forms.{Move, Calculate, Push, HasPushRoom, instruction_of, form_bytes}
-use Rattle.code_forms.specs.Code.{Stands, forms_bytes, forms_run, Runs}
-use Rattle.code_forms.proofs.Interface.{stands_at, stands_front, stands_back, end_of, forms_bytes-append}
-use Rattle.array_versions.specs.Behaviour.{WordState, with_stack, pushed}
-use Rattle.codegen.specs.declared.waiting.Waiting.{Waiting}
 use Rattle.codegen.specs.declared.waiting.Waiting.TheVariants as waiting
-use Rattle.codegen.specs.Code.{number_source, waiting_source, flushed, top_of, source_from, below_top, any_held, cleared, kept, four_from, five_from}
-use Rattle.codegen.specs.Code.{top_to_four}
-use Rattle.codegen.specs.Code.{stays, sides, right_source}
-use Rattle.codegen.specs.Code.{top_to_five, two_to_registers}
 use Rattle.codegen.proofs.Stretches.{Setting, straight, hop, runs_on, dearer, nothing_run, so_runs}
 use Rattle.codegen.proofs.Memory.{local_words, in_register, Memory, pop_memory, pop_needs, push_needs, push_memory}
 use Rattle.codegen.proofs.Follows.{StandsFor, stands_elsewhere, memory_as}
@@ -86,17 +73,11 @@ number_price row n most a b = number_cases (λ s. source_cycles row (source_oper
 
 pub owed_least : (o : Waiting) → 3 ≤ owed_by o
 owed_least (waiting.Number n) = omega arith
-owed_least (waiting.Fram a) = omega arith
-owed_least (waiting.Local n) = omega arith
-owed_least waiting.R4 = omega arith
-owed_least waiting.R6 = omega arith
+owed_least _ = omega arith
 
 push_cycles : (o : Waiting) → cycles_of (instruction_of (Push (waiting_source o))) ≤ owed_by o
 push_cycles (waiting.Number n) = number_price push n 4 (omega arith) (omega arith)
-push_cycles (waiting.Fram a) = omega arith
-push_cycles (waiting.Local n) = omega arith
-push_cycles waiting.R4 = omega arith
-push_cycles waiting.R6 = omega arith
+push_cycles _ = omega arith
 
 -- ---- lists
 
@@ -118,20 +99,16 @@ words_append f l g (o ∷ a) b = ap (λ xs. waiting_word f l g o ∷ xs) (words_
 -- the words are the same where R4 and R6 are
 words_same : (f : ℕ → ℕ) (l : ℕ → Option ℕ) (g h : ℕ → ℕ) (os : List Waiting) → g 4 ≡ h 4 → g 6 ≡ h 6 → waiting_words f l g os ≡ waiting_words f l h os
 words_same f l g h [] p q = refl
-words_same f l g h (waiting.Number n ∷ os) p q = ap (λ xs. n ∷ xs) (words_same f l g h os p q)
-words_same f l g h (waiting.Fram a ∷ os) p q = ap (λ xs. f a ∷ xs) (words_same f l g h os p q)
-words_same f l g h (waiting.Local n ∷ os) p q = ap (λ xs. unwrap_or (l n) 0 ∷ xs) (words_same f l g h os p q)
 words_same f l g h (waiting.R4 ∷ os) p q = ap₂ (λ x xs. x ∷ xs) p (words_same f l g h os p q)
 words_same f l g h (waiting.R6 ∷ os) p q = ap₂ (λ x xs. x ∷ xs) q (words_same f l g h os p q)
+words_same f l g h (o ∷ os) p q = ap (λ xs. waiting_word f l g o ∷ xs) (words_same f l g h os p q)
 
 -- and where none waits in a register for work
 pub words_kept : (f : ℕ → ℕ) (l : ℕ → Option ℕ) (g h : ℕ → ℕ) (os : List Waiting) → any_held os ≡ false → waiting_words f l g os ≡ waiting_words f l h os
 words_kept f l g h [] e = refl
-words_kept f l g h (waiting.Number n ∷ os) e = ap (λ xs. n ∷ xs) (words_kept f l g h os e)
-words_kept f l g h (waiting.Fram a ∷ os) e = ap (λ xs. f a ∷ xs) (words_kept f l g h os e)
-words_kept f l g h (waiting.Local n ∷ os) e = ap (λ xs. unwrap_or (l n) 0 ∷ xs) (words_kept f l g h os e)
 words_kept f l g h (waiting.R4 ∷ os) e = absurd (let q = e in (cc))
 words_kept f l g h (waiting.R6 ∷ os) e = absurd (let q = e in (cc))
+words_kept f l g h (o ∷ os) e = ap (λ xs. waiting_word f l g o ∷ xs) (words_kept f l g h os e)
 
 there_front : (P : Waiting → Type 0) (a b : List Waiting) → AllByRecursion P (a ++ b) → AllByRecursion P a
 there_front P [] b h = tt
@@ -165,12 +142,8 @@ load_cycles None = 2
 load_cycles (Some o) = 3
 
 pub load_price : (o : Option Waiting) → source_cycles to_register (source_operand (source_from o)) ≤ load_cycles o
-load_price None = omega arith
 load_price (Some (waiting.Number n)) = number_price to_register n 3 (omega arith) (omega arith)
-load_price (Some (waiting.Fram a)) = omega arith
-load_price (Some (waiting.Local n)) = omega arith
-load_price (Some waiting.R4) = omega arith
-load_price (Some waiting.R6) = omega arith
+load_price _ = omega arith
 
 -- the cycles of an instruction that writes memory and takes it as its source, at most
 abbrev pub store_cycles : Option Waiting → ℕ
@@ -182,12 +155,8 @@ load_less None = omega arith
 load_less (Some o) = omega arith
 
 pub store_price : (o : Option Waiting) → source_cycles to_memory (source_operand (source_from o)) ≤ store_cycles o
-store_price None = omega arith
 store_price (Some (waiting.Number n)) = number_price to_memory n 6 (omega arith) (omega arith)
-store_price (Some (waiting.Fram a)) = omega arith
-store_price (Some (waiting.Local n)) = omega arith
-store_price (Some waiting.R4) = omega arith
-store_price (Some waiting.R6) = omega arith
+store_price _ = omega arith
 
 pub store_owed : (os : List Waiting) → store_cycles (top_of os) + owed (below_top os) ≤ 5 + owed os
 store_owed [] = omega arith
@@ -224,27 +193,20 @@ right_owed os = right_by (stays (top_of os)) os refl
 
 -- what waits elsewhere than in R4 is the same where R6 is
 word_stays : (f : ℕ → ℕ) (l : ℕ → Option ℕ) (g h : ℕ → ℕ) (o : Waiting) → stays (Some o) ≡ true → g 6 ≡ h 6 → waiting_word f l g o ≡ waiting_word f l h o
-word_stays f l g h (waiting.Number n) e q = refl
-word_stays f l g h (waiting.Fram a) e q = refl
-word_stays f l g h (waiting.Local n) e q = refl
 word_stays f l g h waiting.R4 e q = absurd (let k = e in (cc))
 word_stays f l g h waiting.R6 e q = q
+word_stays f l g h _ e q = refl
 
 -- ---- a word that waits, as a source
 
 pub source_still : (o : Waiting) (u : Core) → source_read (waiting_source o) u ≡ u
 source_still (waiting.Number n) u = number_cases (λ s. source_read s u ≡ u) n refl (λ k e. refl)
-source_still (waiting.Fram a) u = refl
-source_still (waiting.Local n) u = refl
-source_still waiting.R4 u = refl
-source_still waiting.R6 u = refl
+source_still _ u = refl
 
 pub source_needs : (most : ℕ) (locals : ℕ → Option ℕ) (o : Waiting) (u : Core) → IsThere most locals o → SourceNeeds (waiting_source o) u
 source_needs most locals (waiting.Number n) u h = number_cases (λ s. SourceNeeds s u) n tt (λ k e. tt)
 source_needs most locals (waiting.Fram a) u h = h
-source_needs most locals (waiting.Local n) u h = tt
-source_needs most locals waiting.R4 u h = tt
-source_needs most locals waiting.R6 u h = tt
+source_needs most locals _ u h = tt
 
 -- a register is compared with a number, and is as it was
 pub record Compared (z : Setting) (pc : ℕ) (w : WordState) (g : ℕ → ℕ) (x k : ℕ) (t : Core) : Type 0 where
@@ -540,7 +502,6 @@ module _ (z : Setting) where
   pub four_part : (os : List Waiting) (pc : ℕ) (w : WordState) (v : ℕ) (vs : List ℕ) (u : Core) → w.stack ≡ v ∷ vs → any_held (below_top os) ≡ false
       → Stands z.code pc (four_from (top_of os)) → Describes z os pc w u
       → Runs z.code [] (load_cycles (top_of os)) u (Loaded z R4 (below_top os) (pc + forms_bytes (four_from (top_of os))) (with_stack vs w) v u.work)
-  four_part [] pc w v vs u e none h d = four_move [] pc w v vs u e none h d
   four_part (waiting.R4 ∷ os) pc w v vs u e none h d =
       let k = take_part (waiting.R4 ∷ os) pc w v vs u e d in
       let same : pc ≡ pc + 0 = omega arith in
@@ -550,10 +511,7 @@ module _ (z : Setting) where
         value = k.value;
         others = λ n ne. refl;
       }))
-  four_part (waiting.Number n ∷ os) pc w v vs u e none h d = four_move (waiting.Number n ∷ os) pc w v vs u e none h d
-  four_part (waiting.Fram a ∷ os) pc w v vs u e none h d = four_move (waiting.Fram a ∷ os) pc w v vs u e none h d
-  four_part (waiting.Local n ∷ os) pc w v vs u e none h d = four_move (waiting.Local n ∷ os) pc w v vs u e none h d
-  four_part (waiting.R6 ∷ os) pc w v vs u e none h d = four_move (waiting.R6 ∷ os) pc w v vs u e none h d
+  four_part os pc w v vs u e none h d = four_move os pc w v vs u e none h d
 
   -- code behind pushes
   behind_cleared : (back os : List Waiting) (more : List Form) (n pc : ℕ) (w : WordState) (u : Core) (P : ℕ → Core → Type 0)

@@ -1,23 +1,13 @@
 -- Multiplication: a turn for each bit of the right side, up to its highest.
 use Rattle.std.proofs.Common.{◌≡◌, ℕ, zero, suc, ◌+◌, ◌*◌, ◌/◌, ◌%◌, ◌^◌, ◌<◌, ◌==◌, not, List, [], ◌∷◌, Some, refl, sym, ap, ap₂, ◌∙◌, subst, arith, Bool}
 use Rattle.std.proofs.Common.{true, false, eqb-true, if◌then◌else◌, bit_and}
-use Rattle.std.proofs.lemmas.Bool.Decides.{nat_tests}
-use Rattle.std.proofs.lemmas.Nat.{and_mask, and_le_r, mul-mod_first}
-use Rattle.msp_isa.specs.alp_words.Words.{bit}
-use Rattle.msp_isa.specs.declared.instructions.Condition.{Condition}
+use Rattle.codegen.proofs.Names.{nat_tests, and_mask, and_le_r, mul-mod_first, bit, Condition, sum16, distance, is_met, Goes, R4, R5, R6, Core, Register}
+use Rattle.codegen.proofs.Names.{Constant, ToRegister, Form, Move, Calculate, Modify, Jump, instruction_of, Stands, forms_bytes, forms_run, Runs, stands_at}
+use Rattle.codegen.proofs.Names.{form_at, forms_at, end_of, Multiply, binary_word, WordState, binary_middle, multiply_turn}
 use Rattle.msp_isa.specs.declared.instructions.Condition.TheVariants as condition
 use Rattle.msp_isa.specs.declared.instructions.TwoOp.TheVariants as op
 use Rattle.msp_isa.specs.declared.operands.Konst.TheVariants as konst
 use Rattle.array_versions.specs.msp_step.declared.effect.Modification.TheVariants as change
-use Rattle.array_versions.specs.msp_step.Effect.{sum16, distance, is_met}
-use Rattle.array_versions.specs.machine_effects.Going.{Goes}
-use Rattle.code_forms.specs.Forms.{R4, R5, R6, Core, Register, Constant, ToRegister, Form, Move, Calculate, Modify, Jump, instruction_of}
-use Rattle.code_forms.specs.Code.{Stands, forms_bytes, forms_run, Runs}
-use Rattle.code_forms.proofs.Interface.{stands_at, form_at, forms_at, end_of}
-use Rattle.array_versions.specs.declared.operations.BinaryOperation.TheVariants.{Multiply}
-use Rattle.array_versions.specs.Operations.{binary_word}
-use Rattle.array_versions.specs.Behaviour.{WordState}
-use Rattle.codegen.specs.Code.{binary_middle, multiply_turn}
 use Rattle.codegen.proofs.Stretches.{Setting, straight, hop, runs_on, dearer}
 use Rattle.codegen.proofs.Follows.{StandsFor, stands_elsewhere}
 use Rattle.codegen.proofs.Registers.{Has}

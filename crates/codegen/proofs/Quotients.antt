@@ -1,22 +1,13 @@
 -- Division: sixteen turns, each with one bit of the left side.
 use Rattle.std.proofs.Common.{◌≡◌, ℕ, zero, suc, ◌+◌, ◌-◌, ◌*◌, ◌/◌, ◌%◌, ◌^◌, ◌<◌, ◌≤◌, ◌==◌, ◌⊎◌, inl, inr, ⊎_elim, not, List, [], ◌∷◌, Some, refl, sym, ap}
 use Rattle.std.proofs.Common.{ap₂, ◌∙◌, subst, arith, Bool, true, false, nat_le, eq-eqb, if◌then◌else◌}
-use Rattle.std.proofs.lemmas.Bool.Decides.{nat_tests}
-use Rattle.std.proofs.lemmas.Nat.{div-mul-add, mod-mul-add}
-use Rattle.std.proofs.lemmas.Bool.{cases_eq}
-use Rattle.msp_isa.specs.alp_words.Words.{bit, quotient, remainder}
+use Rattle.codegen.proofs.Names.{nat_tests, div-mul-add, mod-mul-add, cases_eq, bit, quotient, remainder, sum16, distance, R4, R5, R6, R7, Core, Register}
+use Rattle.codegen.proofs.Names.{Number, Constant, ToRegister, Form, Move, Calculate, Jump, instruction_of, Stands, forms_bytes, forms_run, Runs, stands_at}
+use Rattle.codegen.proofs.Names.{form_at, forms_at, forms_behind, end_of, Divide, Remainder, binary_word, WordState, binary_middle, divide_middle, divide_turn}
 use Rattle.msp_isa.proofs.alp_words.Interface.{bit_below}
 use Rattle.msp_isa.specs.declared.instructions.Condition.TheVariants as condition
 use Rattle.msp_isa.specs.declared.instructions.TwoOp.TheVariants as op
 use Rattle.msp_isa.specs.declared.operands.Konst.TheVariants as konst
-use Rattle.array_versions.specs.msp_step.Effect.{sum16, distance}
-use Rattle.code_forms.specs.Forms.{R4, R5, R6, R7, Core, Register, Number, Constant, ToRegister, Form, Move, Calculate, Jump, instruction_of}
-use Rattle.code_forms.specs.Code.{Stands, forms_bytes, forms_run, Runs}
-use Rattle.code_forms.proofs.Interface.{stands_at, form_at, forms_at, forms_behind, end_of}
-use Rattle.array_versions.specs.declared.operations.BinaryOperation.TheVariants.{Divide, Remainder}
-use Rattle.array_versions.specs.Operations.{binary_word}
-use Rattle.array_versions.specs.Behaviour.{WordState}
-use Rattle.codegen.specs.Code.{binary_middle, divide_middle, divide_turn}
 use Rattle.codegen.proofs.Stretches.{Setting, straight, runs_on, dearer}
 use Rattle.codegen.proofs.Follows.{StandsFor, stands_elsewhere}
 use Rattle.codegen.proofs.Registers.{Has, HasTwo, no_borrow}

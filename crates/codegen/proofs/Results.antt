@@ -1,58 +1,29 @@
 -- Steps where words wait: values that come to wait in a register, and statements behind which none waits.
-use Rattle.std.proofs.Common.{◌≡◌, ℕ, ◌+◌, ◌*◌, ◌<◌, ◌≤◌, ◌-◌, ◌/◌, ◌%◌, ◌^◌, ◌==◌, ◌&&◌, Bool, true, false, nat_lt, if◌then◌else◌, List, [], ◌∷◌, ◌++◌}
-use Rattle.std.proofs.Common.{length, Option, Some, None}
-use Rattle.std.proofs.Common.{refl, sym, ap, ap₂, ◌∙◌, subst, arith, bit_and, w16, ltb-true, eqb-true, ne_eqb, le-leb}
+use Rattle.std.proofs.Common.{◌≡◌, ℕ, ◌+◌, ◌*◌, ◌<◌, ◌≤◌, ◌-◌, ◌/◌, ◌%◌, ◌^◌, ◌==◌, ◌&&◌, Bool, true, false, nat_lt, if◌then◌else◌, List, [], ◌∷◌, ◌++◌, length}
+use Rattle.std.proofs.Common.{Option, Some, None, refl, sym, ap, ap₂, ◌∙◌, subst, arith, bit_and, w16, ltb-true, eqb-true, ne_eqb, le-leb}
+use Rattle.codegen.proofs.Names.{and_parts, same_Some, and_mask, pow_pos, word_sum, word_product, quotient, remainder, Word, operated, cycles_of, source_cycles}
+use Rattle.codegen.proofs.Names.{to_register, Goes, unwrap_or, AllByRecursion, Take, put, IsFram, WorkRegister, R4, R5, R6, work_number, Core, Source}
+use Rattle.codegen.proofs.Names.{source_operand, source_bytes, source_value, Form, Move, Calculate, Update, Push, Ram, ToFram, sensed, flags_after, calculated}
+use Rattle.codegen.proofs.Names.{instruction_of, form_bytes, Stands, forms_bytes, Runs, stands_front, stands_back, forms_bytes-append, ArrayPlace, ListPlace}
+use Rattle.codegen.proofs.Names.{UnaryOperation, Negate, Complement, BinaryOperation, Multiply, Divide, Remainder, Plain, PlainOperation, And, ShiftOperation}
+use Rattle.codegen.proofs.Names.{Left, Right, unary_word, plain_word, binary_word, shift_word, keep, update, set_local, update_local, unary, binary, shift}
+use Rattle.codegen.proofs.Names.{element, emit_word, versioned_read, versioned_write, sense, WordState, Behaviour, GoesOn, goes_on, with_top, with_two}
+use Rattle.codegen.proofs.Names.{with_stack, with_local, pushed, is_place, at_place, word_stored, word_emitted, element_pushed, own_element, versioned_pushed}
+use Rattle.codegen.proofs.Names.{versioned_stored, reading_pushed, unary_cycles, binary_cycles, Bound, Waiting, local_address, local_target, flushed, top_of}
+use Rattle.codegen.proofs.Names.{source_from, below_top, any_held, cleared, kept, top_to_four, top_to_five, plain_instruction, update_code, sides, right_source}
+use Rattle.codegen.proofs.Names.{power, known_element, two_code, power_code, power_result, two_to_registers, unary_middle, binary_middle, binary_result}
+use Rattle.codegen.proofs.Names.{shift_middle, element_code, emit_code, read_code, write_code, top_number, element_at, is_inside, waiting_behind, step_code}
 use Rattle.std.specs.Int.{trailing_zeros}
-use Rattle.std.proofs.lemmas.Bool.{and_parts}
-use Rattle.std.proofs.lemmas.Option.{same_Some}
-use Rattle.std.proofs.lemmas.Nat.{and_mask, pow_pos}
-use Rattle.msp_isa.specs.alp_words.Words.{word_sum, word_product, quotient, remainder}
-use Rattle.msp_isa.specs.alp_words.declared.Width.TheVariants.{Word}
-use Rattle.array_versions.specs.msp_step.Effect.{operated}
-use Rattle.array_versions.specs.machine_effects.msp_cycles.Cycles.{cycles_of, source_cycles, to_register}
-use Rattle.array_versions.specs.machine_effects.Going.{Goes}
-use Rattle.std.specs.Option.{unwrap_or}
-use Rattle.std.specs.List.{AllByRecursion}
-use Rattle.array_versions.specs.fram_board.Effects.{Take}
-use Rattle.array_versions.specs.machine_effects.World.{put}
-use Rattle.array_versions.specs.machine_effects.Machine.{IsFram}
 use Rattle.code_forms.specs.Forms as forms
-use Rattle.code_forms.specs.Forms.{WorkRegister, R4, R5, R6, work_number, Core, Source, Register, source_operand, source_bytes, source_value, Form, Move}
-use Rattle.code_forms.specs.Forms.{Calculate, Update, Push, Ram, ToFram, sensed, flags_after, calculated, instruction_of, form_bytes}
-use Rattle.code_forms.specs.Code.{Stands, forms_bytes, Runs}
-use Rattle.code_forms.proofs.Interface.{stands_front, stands_back, forms_bytes-append}
-use Rattle.array_versions.specs.declared.program.ArrayPlace.{ArrayPlace}
-use Rattle.array_versions.specs.declared.program.ListPlace.{ListPlace}
-use Rattle.array_versions.specs.declared.operations.UnaryOperation.{UnaryOperation}
-use Rattle.array_versions.specs.declared.operations.UnaryOperation.TheVariants.{Negate, Complement}
-use Rattle.array_versions.specs.declared.operations.BinaryOperation.{BinaryOperation}
-use Rattle.array_versions.specs.declared.operations.BinaryOperation.TheVariants.{Multiply, Divide, Remainder, Plain}
-use Rattle.array_versions.specs.declared.operations.PlainOperation.{PlainOperation}
-use Rattle.array_versions.specs.declared.operations.PlainOperation.TheVariants.{And}
-use Rattle.array_versions.specs.declared.operations.ShiftOperation.{ShiftOperation}
-use Rattle.array_versions.specs.declared.operations.ShiftOperation.TheVariants.{Left, Right}
-use Rattle.array_versions.specs.Operations.{unary_word, plain_word, binary_word, shift_word}
-use Rattle.array_versions.specs.Program.{keep, update, set_local, update_local, unary, binary, shift, element, emit_word, versioned_read, versioned_write}
-use Rattle.array_versions.specs.Program.{sense}
-use Rattle.array_versions.specs.Behaviour.{WordState, Behaviour, GoesOn, goes_on, with_top, with_two, with_stack, with_local, pushed, is_place, at_place}
-use Rattle.array_versions.specs.Behaviour.{word_stored}
-use Rattle.array_versions.specs.Behaviour.{word_emitted, element_pushed, own_element, versioned_pushed, versioned_stored, reading_pushed}
-use Rattle.array_versions.specs.Cost.{unary_cycles, binary_cycles}
-use Rattle.codegen.specs.declared.bounds.Bound.{Bound}
-use Rattle.codegen.specs.declared.waiting.Waiting.{Waiting}
 use Rattle.codegen.specs.declared.waiting.Waiting.TheVariants as waiting
-use Rattle.codegen.specs.Code.{local_address, local_target, flushed, top_of, source_from, below_top, any_held, cleared, kept, top_to_four, top_to_five}
-use Rattle.codegen.specs.Code.{plain_instruction, update_code, sides, right_source, power, known_element, two_code, power_code, power_result}
-use Rattle.codegen.specs.Code.{two_to_registers, unary_middle, binary_middle, binary_result, shift_middle, element_code, emit_code, read_code, write_code}
-use Rattle.codegen.specs.Code.{top_number, element_at, is_inside, waiting_behind, step_code}
 use Rattle.codegen.proofs.Stretches.{Setting, hop, runs_on, dearer_stall, nothing_run, so_runs, starved}
 use Rattle.codegen.proofs.Memory.{place_is}
 use Rattle.codegen.proofs.Follows.{StandsFor, stands_elsewhere, Follows, Reaches, reach_more, then_reach, reaches, reach_guarded}
 use Rattle.codegen.proofs.Registers.{Has, HasTwo}
 use Rattle.codegen.proofs.Operands.{IsThere, owed_by, owed, none_held, clear_cycles, owed_kept, load_cycles, load_owed, store_cycles, store_owed, Describes}
 use Rattle.codegen.proofs.Operands.{Top, Waits, InRegister, LoadedTwo, waiting_word, bare, dressed, flush_under, flush_part, clear_under, below_part}
-use Rattle.codegen.proofs.Operands.{top_to_four_part, top_to_five_part, two_to_registers_part, result_waits, waits_more}
-use Rattle.codegen.proofs.Operands.{LoadedSides, right_cycles, reading_cycles, reading_price, right_owed, sides_part, drop_part}
+use Rattle.codegen.proofs.Operands.{top_to_four_part, top_to_five_part, two_to_registers_part, result_waits, waits_more, LoadedSides, right_cycles}
+use Rattle.codegen.proofs.Operands.{reading_cycles, reading_price, right_owed, sides_part, drop_part}
 use Rattle.codegen.proofs.LoopBounds.{Bounded, top_inside, under_inside}
 use Rattle.codegen.proofs.Parts.{local_part, keep_part, set_part}
 use Rattle.codegen.proofs.Updates.{plain_needs, update_part, update_local_part}
@@ -261,12 +232,8 @@ module _ (z : Setting) where
       → (b ≡ true → nat_lt i size ≡ true) → w.stack ≡ i ∷ rest
       → (let ms = element_at b (top_number (top_of os)) os base size in Stands z.code pc ms → Describes z os pc w u
       → Does (waiting_behind os (element base size)) (pc + forms_bytes ms) (15 + owed os) u (element_pushed base size i (with_stack rest w)))
-  element_on b base size [] pc w i rest u s r sure e h d = element_by b base size [] pc w i rest u s r sure e h d
   element_on b base size (waiting.Number k ∷ os) pc w i rest u s r sure e h d = known_by base size k os pc w i rest u e d
-  element_on b base size (waiting.Fram a ∷ os) pc w i rest u s r sure e h d = element_by b base size (waiting.Fram a ∷ os) pc w i rest u s r sure e h d
-  element_on b base size (waiting.Local n ∷ os) pc w i rest u s r sure e h d = element_by b base size (waiting.Local n ∷ os) pc w i rest u s r sure e h d
-  element_on b base size (waiting.R4 ∷ os) pc w i rest u s r sure e h d = element_by b base size (waiting.R4 ∷ os) pc w i rest u s r sure e h d
-  element_on b base size (waiting.R6 ∷ os) pc w i rest u s r sure e h d = element_by b base size (waiting.R6 ∷ os) pc w i rest u s r sure e h d
+  element_on b base size os pc w i rest u s r sure e h d = element_by b base size os pc w i rest u s r sure e h d
 
   pub element_reaches : (bs : List Bound) (base size : ℕ) (os : List Waiting) (pc : ℕ) (w : WordState) (vs : List ℕ) (u : Core) → size < 0x10000
       → Bounded bs w.locals → w.stack ≡ vs → AllByRecursion (λ v. v < 0x10000) vs → Stands z.code pc (step_code bs os (element base size))
@@ -489,12 +456,8 @@ module _ (z : Setting) where
       → x < 0x10000 → y < 0x10000 → Stands z.code pc (step_code [] os (binary o)) → Describes z os pc w u
       → Does (waiting_behind os (binary o)) (pc + forms_bytes (step_code [] os (binary o))) (binary_cycles o + owed os) u
       (goes_on [] (with_stack (binary_word o x y ∷ rest) w))
-  binary_on o [] pc w x y rest u e lx ly h d = two_part o [] pc w x y rest u e lx ly h d
   binary_on o (waiting.Number n ∷ os) pc w x y rest u e lx ly h d = power_by (power n) o n os pc w x y rest u refl e lx ly h d
-  binary_on o (waiting.Fram a ∷ os) pc w x y rest u e lx ly h d = two_part o (waiting.Fram a ∷ os) pc w x y rest u e lx ly h d
-  binary_on o (waiting.Local n ∷ os) pc w x y rest u e lx ly h d = two_part o (waiting.Local n ∷ os) pc w x y rest u e lx ly h d
-  binary_on o (waiting.R4 ∷ os) pc w x y rest u e lx ly h d = two_part o (waiting.R4 ∷ os) pc w x y rest u e lx ly h d
-  binary_on o (waiting.R6 ∷ os) pc w x y rest u e lx ly h d = two_part o (waiting.R6 ∷ os) pc w x y rest u e lx ly h d
+  binary_on o os pc w x y rest u e lx ly h d = two_part o os pc w x y rest u e lx ly h d
 
   pub binary_part : (o : BinaryOperation) (os : List Waiting) (pc : ℕ) (w : WordState) (vs : List ℕ) (u : Core) → w.stack ≡ vs
       → AllByRecursion (λ v. v < 0x10000) vs → Stands z.code pc (step_code [] os (binary o)) → Describes z os pc w u

@@ -1,22 +1,15 @@
 -- Shifts by a count.
-use Rattle.std.proofs.Common.{◌≡◌, ℕ, zero, suc, ◌+◌, ◌-◌, ◌*◌, ◌/◌, ◌%◌, ◌^◌, ◌<◌, ◌≤◌, ◌==◌, not, List, [], ◌∷◌, ◌++◌, Some, refl, sym, ap, ◌∙◌, subst}
-use Rattle.std.proofs.Common.{arith, Bool, true, false, nat_lt, nat_le, ltb-true, if◌then◌else◌, bit_and}
-use Rattle.std.proofs.lemmas.Bool.Decides.{nat_tests}
-use Rattle.std.proofs.lemmas.Nat.{and_mask, and_le_r, mul-mod_first, pow-add}
+use Rattle.std.proofs.Common.{◌≡◌, ℕ, zero, suc, ◌+◌, ◌-◌, ◌*◌, ◌/◌, ◌%◌, ◌^◌, ◌<◌, ◌≤◌, ◌==◌, not, List, [], ◌∷◌, ◌++◌, Some, refl, sym, ap, ◌∙◌, subst, arith}
+use Rattle.std.proofs.Common.{Bool, true, false, nat_lt, nat_le, ltb-true, if◌then◌else◌, bit_and}
+use Rattle.codegen.proofs.Names.{nat_tests, and_mask, and_le_r, mul-mod_first, pow-add, bit, arithmetic_shift, R4, Core, Register, Number, Constant, ToRegister}
+use Rattle.codegen.proofs.Names.{Form, Move, Calculate, Modify, instruction_of, form_bytes, Stands, forms_bytes, forms_run, Runs, stands_front, stands_back}
+use Rattle.codegen.proofs.Names.{end_of, ShiftOperation, Left, Right, SignedRight, shifted_word, shift_word, WordState, repeated, right_code, shift_by}
+use Rattle.codegen.proofs.Names.{shift_middle}
 use Rattle.std.proofs.Math.Nat.{div-div-eq-div-mul}
 use Rattle.std.proofs.lemmas.Grind.{and_high_numeral}
-use Rattle.msp_isa.specs.alp_words.Words.{bit, arithmetic_shift}
 use Rattle.msp_isa.specs.declared.instructions.TwoOp.TheVariants as op
 use Rattle.msp_isa.specs.declared.operands.Konst.TheVariants as konst
 use Rattle.array_versions.specs.msp_step.declared.effect.Modification.TheVariants as change
-use Rattle.code_forms.specs.Forms.{R4, Core, Register, Number, Constant, ToRegister, Form, Move, Calculate, Modify, instruction_of, form_bytes}
-use Rattle.code_forms.specs.Code.{Stands, forms_bytes, forms_run, Runs}
-use Rattle.code_forms.proofs.Interface.{stands_front, stands_back, end_of}
-use Rattle.array_versions.specs.declared.operations.ShiftOperation.{ShiftOperation}
-use Rattle.array_versions.specs.declared.operations.ShiftOperation.TheVariants.{Left, Right, SignedRight}
-use Rattle.array_versions.specs.Operations.{shifted_word, shift_word}
-use Rattle.array_versions.specs.Behaviour.{WordState}
-use Rattle.codegen.specs.Code.{repeated, right_code, shift_by, shift_middle}
 use Rattle.codegen.proofs.Stretches.{Setting, runs_on, dearer, nothing_run}
 use Rattle.codegen.proofs.Registers.{Has, middle}
 

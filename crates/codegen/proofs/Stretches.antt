@@ -1,11 +1,8 @@
 -- Stretches of code that stays, with room for locals and a stack.
 use Rattle.std.proofs.Common.{◌≡◌, ℕ, ◌+◌, ◌*◌, ◌≤◌, List, [], ◌++◌, Some, arith}
+use Rattle.codegen.proofs.Names.{Effect, Goes, Stops, At, stretch, Code, Core, Form, instruction_of, form_step, FormNeeds, Stands, AreStraight, forms_run}
+use Rattle.codegen.proofs.Names.{FormsNeed, IsTidy, Runs, Starves}
 use Rattle.array_versions.specs.msp_step.declared.machine.Stop.TheVariants as stop
-use Rattle.array_versions.specs.fram_board.Effects.{Effect}
-use Rattle.array_versions.specs.machine_effects.Going.{Goes, Stops, At, stretch}
-use Rattle.array_versions.specs.machine_effects.Machine.{Code}
-use Rattle.code_forms.specs.Forms.{Core, Form, instruction_of, form_step, FormNeeds}
-use Rattle.code_forms.specs.Code.{Stands, AreStraight, forms_run, FormsNeed, IsTidy, Runs, Starves}
 use Rattle.code_forms.proofs.Interface as blocks
 
 -- some code, and how much of RAM the locals and the stack may take

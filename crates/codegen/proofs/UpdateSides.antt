@@ -1,15 +1,11 @@
 -- The right side of an update of an element: it is read where it waits, whatever is in the registers for work.
-use Rattle.std.proofs.Common.{◌≡◌, ℕ, ◌+◌, ◌≤◌, Bool, true, false, not, if◌then◌else◌, List, [], ◌∷◌, ◌++◌, Option, Some, None, refl, sym, ap, ◌∙◌}
-use Rattle.std.proofs.Common.{subst, arith}
-use Rattle.array_versions.specs.machine_effects.msp_cycles.Cycles.{source_cycles, to_register, to_memory}
-use Rattle.code_forms.specs.Forms.{R4, R5, Core, Source, Register, source_operand, source_value, source_read, SourceNeeds, Form}
-use Rattle.code_forms.specs.Code.{Stands, forms_bytes, Runs}
-use Rattle.code_forms.proofs.Interface.{stands_front, stands_back, forms_bytes-append}
-use Rattle.array_versions.specs.Behaviour.{WordState, with_stack}
-use Rattle.codegen.specs.declared.waiting.Waiting.{Waiting}
+use Rattle.std.proofs.Common.{◌≡◌, ℕ, ◌+◌, ◌≤◌, Bool, true, false, not, if◌then◌else◌, List, [], ◌∷◌, ◌++◌, Option, Some, None, refl, sym, ap, ◌∙◌, subst}
+use Rattle.std.proofs.Common.{arith}
+use Rattle.codegen.proofs.Names.{source_cycles, to_register, to_memory, R4, R5, Core, Source, Register, source_operand, source_value, source_read, SourceNeeds}
+use Rattle.codegen.proofs.Names.{Form, Stands, forms_bytes, Runs, stands_front, stands_back, forms_bytes-append, WordState, with_stack, Waiting, waiting_source}
+use Rattle.codegen.proofs.Names.{flushed, top_of, source_from, below_top, is_held, any_held, four_from, five_from, rests, rest_source, to_rest, right_to_rest}
+use Rattle.codegen.proofs.Names.{update_sides}
 use Rattle.codegen.specs.declared.waiting.Waiting.TheVariants as waiting
-use Rattle.codegen.specs.Code.{waiting_source, flushed, top_of, source_from, below_top, is_held, any_held, four_from, five_from, rests, rest_source, to_rest}
-use Rattle.codegen.specs.Code.{right_to_rest, update_sides}
 use Rattle.codegen.proofs.Stretches.{Setting, runs_on, dearer, nothing_run, so_runs}
 use Rattle.codegen.proofs.Memory.{local_words, local_word, in_register}
 use Rattle.codegen.proofs.Follows.{StandsFor}

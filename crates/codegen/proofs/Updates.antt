@@ -1,21 +1,10 @@
 -- Operations in place: on a word of FRAM, and on a local.
 use Rattle.std.proofs.Common.{◌≡◌, ℕ, ◌+◌, ◌<◌, Bool, true, false, nat_lt, if◌then◌else◌, List, [], ◌∷◌, Option, Some, refl, sym, ap, ap₂, ◌∙◌, subst, arith}
-use Rattle.msp_isa.specs.alp_words.declared.Width.TheVariants.{Word}
-use Rattle.array_versions.specs.msp_step.Effect.{operated, writes_destination}
-use Rattle.array_versions.specs.machine_effects.msp_cycles.Cycles.{cycles_of}
-use Rattle.array_versions.specs.fram_board.Effects.{Store}
-use Rattle.array_versions.specs.machine_effects.World.{put}
-use Rattle.array_versions.specs.machine_effects.Going.{Goes}
-use Rattle.code_forms.specs.Forms.{R4, R5, work_number, Core, Register, Ram, source_bytes, source_value, source_read, ToRegister, ToRam, Move, Calculate}
-use Rattle.code_forms.specs.Forms.{Update, IsNotMov, Form, flags_after, instruction_of, form_bytes}
-use Rattle.code_forms.specs.Code.{Stands, forms_bytes, forms_run, Runs}
-use Rattle.code_forms.proofs.Interface.{stands_at, end_of}
-use Rattle.array_versions.specs.declared.operations.PlainOperation.{PlainOperation}
-use Rattle.array_versions.specs.declared.operations.PlainOperation.TheVariants.{Add}
-use Rattle.array_versions.specs.Operations.{plain_word}
-use Rattle.array_versions.specs.Behaviour.{WordState, goes_on, with_stack, stored, assigned, with_local, is_place, word_stored}
-use Rattle.codegen.specs.declared.waiting.Waiting.{Waiting}
-use Rattle.codegen.specs.Code.{plain_instruction, local_register, local_address, source_from, ram_update, update_code}
+use Rattle.codegen.proofs.Names.{Word, operated, writes_destination, cycles_of, Store, put, Goes, R4, R5, work_number, Core, Register, Ram, source_bytes}
+use Rattle.codegen.proofs.Names.{source_value, source_read, ToRegister, ToRam, Move, Calculate, Update, IsNotMov, Form, flags_after, instruction_of, form_bytes}
+use Rattle.codegen.proofs.Names.{Stands, forms_bytes, forms_run, Runs, stands_at, end_of, PlainOperation, Add, plain_word, WordState, goes_on, with_stack}
+use Rattle.codegen.proofs.Names.{stored, assigned, with_local, is_place, word_stored, Waiting, plain_instruction, local_register, local_address, source_from}
+use Rattle.codegen.proofs.Names.{ram_update, update_code}
 use Rattle.codegen.proofs.Stretches.{Setting, straight, hop, runs_on, dearer}
 use Rattle.codegen.proofs.Memory.{local_words, in_register, in_ram, Memory, local_needs, set_register, set_ram, place_is}
 use Rattle.codegen.proofs.Follows.{StandsFor, Follows, guarded}

@@ -1,23 +1,14 @@
 -- Versioned reads and writes.
-use Rattle.std.proofs.Common.{◌≡◌, ℕ, ◌+◌, ◌-◌, ◌*◌, ◌%◌, ◌<◌, ◌==◌, not, List, [], ◌∷◌, Some, refl, sym, ap, ap₂, ◌∙◌, subst, arith, Bool, true, false}
-use Rattle.std.proofs.Common.{nat_lt, if◌then◌else◌}
-use Rattle.std.proofs.lemmas.Bool.{both_ways}
+use Rattle.std.proofs.Common.{◌≡◌, ℕ, ◌+◌, ◌-◌, ◌*◌, ◌%◌, ◌<◌, ◌==◌, not, List, [], ◌∷◌, Some, refl, sym, ap, ap₂, ◌∙◌, subst, arith, Bool, true, false, nat_lt}
+use Rattle.std.proofs.Common.{if◌then◌else◌}
+use Rattle.codegen.proofs.Names.{both_ways, sum16, distance, Store, put, IsFram, R4, R5, R6, Core, Register, Constant, Fram, Indexed, ToRegister, ToIndexed}
+use Rattle.codegen.proofs.Names.{Form, Move, Calculate, Update, Jump, instruction_of, Stands, forms_bytes, forms_run, Runs, stands_at, stands_front}
+use Rattle.codegen.proofs.Names.{stands_back, form_at, first_forms, forms_behind, end_of, forms_bytes-append, ArrayPlace, ListPlace, WordState, goes_on}
+use Rattle.codegen.proofs.Names.{behind_effects, is_place, stored, first_stored, own_stored, versioned_stored, put_words, check_code, own_code, read_code}
+use Rattle.codegen.proofs.Names.{first_code, stored_code, write_code}
 use Rattle.msp_isa.specs.declared.instructions.Condition.TheVariants as condition
 use Rattle.msp_isa.specs.declared.instructions.TwoOp.TheVariants as op
 use Rattle.msp_isa.specs.declared.operands.Konst.TheVariants as konst
-use Rattle.array_versions.specs.msp_step.Effect.{sum16, distance}
-use Rattle.array_versions.specs.fram_board.Effects.{Store}
-use Rattle.array_versions.specs.machine_effects.World.{put}
-use Rattle.array_versions.specs.machine_effects.Machine.{IsFram}
-use Rattle.code_forms.specs.Forms.{R4, R5, R6, Core, Register, Constant, Fram, Indexed, ToRegister, ToIndexed, Form, Move, Calculate, Update, Jump}
-use Rattle.code_forms.specs.Forms.{instruction_of}
-use Rattle.code_forms.specs.Code.{Stands, forms_bytes, forms_run, Runs}
-use Rattle.code_forms.proofs.Interface.{stands_at, stands_front, stands_back, form_at, first_forms, forms_behind, end_of, forms_bytes-append}
-use Rattle.array_versions.specs.declared.program.ArrayPlace.{ArrayPlace}
-use Rattle.array_versions.specs.declared.program.ListPlace.{ListPlace}
-use Rattle.array_versions.specs.Behaviour.{WordState, goes_on, behind_effects, is_place, stored, first_stored, own_stored, versioned_stored}
-use Rattle.array_versions.proofs.Interface.{put_words}
-use Rattle.codegen.specs.Code.{check_code, own_code, read_code, first_code, stored_code, write_code}
 use Rattle.codegen.proofs.Stretches.{Setting, straight, runs_on, dearer, so_runs}
 use Rattle.codegen.proofs.Memory.{place_is}
 use Rattle.codegen.proofs.Follows.{StandsFor, Follows, more_cycles, then_end, ends_at, guarded, stands_elsewhere}

@@ -1,34 +1,17 @@
 -- Elements that are updated in place.
-use Rattle.std.proofs.Common.{◌≡◌, ℕ, ◌+◌, ◌-◌, ◌*◌, ◌%◌, ◌<◌, ◌≤◌, ◌==◌, not, Bool, true, false, nat_lt, nat_le, if◌then◌else◌, List, [], ◌∷◌, ◌++◌}
-use Rattle.std.proofs.Common.{Some, None, refl, sym, ap, ap₂, ◌∙◌, subst, arith}
-use Rattle.std.specs.List.{AllByRecursion}
-use Rattle.msp_isa.specs.alp_words.Words.{word_sum}
-use Rattle.msp_isa.specs.alp_words.declared.Width.TheVariants.{Word}
+use Rattle.std.proofs.Common.{◌≡◌, ℕ, ◌+◌, ◌-◌, ◌*◌, ◌%◌, ◌<◌, ◌≤◌, ◌==◌, not, Bool, true, false, nat_lt, nat_le, if◌then◌else◌, List, [], ◌∷◌, ◌++◌, Some}
+use Rattle.std.proofs.Common.{None, refl, sym, ap, ap₂, ◌∙◌, subst, arith}
+use Rattle.codegen.proofs.Names.{AllByRecursion, word_sum, Word, operated, sum16, distance, cycles_of, source_cycles, to_register, to_memory, Store, put, Goes}
+use Rattle.codegen.proofs.Names.{IsFram, R4, R6, R7, Core, Source, source_bytes, source_value, source_operand, Register, Number, Fram, Indexed, ToRegister}
+use Rattle.codegen.proofs.Names.{ToIndexed, Form, Move, Calculate, Update, Jump, flags_after, calculated, instruction_of, form_bytes, Stands, forms_bytes}
+use Rattle.codegen.proofs.Names.{forms_run, Runs, stands_at, stands_front, stands_back, end_of, forms_bytes-append, PlainOperation, ArrayPlace, ListPlace}
+use Rattle.codegen.proofs.Names.{plain_word, versioned_update, WordState, Behaviour, goes_on, behind_effects, with_two, with_stack, is_place, at_place, stored}
+use Rattle.codegen.proofs.Names.{first_stored, own_place, own_kept, own_updated, versioned_updated, plain_small, put_words, Bound, Waiting, top_of, below_top}
+use Rattle.codegen.proofs.Names.{plain_instruction, first_code, size, double, rest_source, right_to_rest, update_sides, made_code, attempt_form, first_update}
+use Rattle.codegen.proofs.Names.{by_version, inside_update, checked_update, indexed_update, known_update, update_at, is_inside, step_code}
 use Rattle.msp_isa.specs.declared.instructions.Condition.TheVariants as condition
 use Rattle.msp_isa.specs.declared.instructions.TwoOp.TheVariants as op
-use Rattle.array_versions.specs.msp_step.Effect.{operated, sum16, distance}
-use Rattle.array_versions.specs.machine_effects.msp_cycles.Cycles.{cycles_of, source_cycles, to_register, to_memory}
-use Rattle.array_versions.specs.fram_board.Effects.{Store}
-use Rattle.array_versions.specs.machine_effects.World.{put}
-use Rattle.array_versions.specs.machine_effects.Going.{Goes}
-use Rattle.array_versions.specs.machine_effects.Machine.{IsFram}
-use Rattle.code_forms.specs.Forms.{R4, R6, R7, Core, Source, source_bytes, source_value, source_operand, Register, Number, Fram, Indexed, ToRegister}
-use Rattle.code_forms.specs.Forms.{ToIndexed, Form, Move, Calculate, Update, Jump, flags_after, calculated, instruction_of, form_bytes}
-use Rattle.code_forms.specs.Code.{Stands, forms_bytes, forms_run, Runs}
-use Rattle.code_forms.proofs.Interface.{stands_at, stands_front, stands_back, end_of, forms_bytes-append}
-use Rattle.array_versions.specs.declared.operations.PlainOperation.{PlainOperation}
-use Rattle.array_versions.specs.declared.program.ArrayPlace.{ArrayPlace}
-use Rattle.array_versions.specs.declared.program.ListPlace.{ListPlace}
-use Rattle.array_versions.specs.Operations.{plain_word}
-use Rattle.array_versions.specs.Program.{versioned_update}
-use Rattle.array_versions.specs.Behaviour.{WordState, Behaviour, goes_on, behind_effects, with_two, with_stack, is_place, at_place, stored, first_stored}
-use Rattle.array_versions.specs.Behaviour.{own_place, own_kept, own_updated, versioned_updated}
-use Rattle.array_versions.proofs.Interface.{plain_small, put_words}
-use Rattle.codegen.specs.declared.bounds.Bound.{Bound}
-use Rattle.codegen.specs.declared.waiting.Waiting.{Waiting}
 use Rattle.codegen.specs.declared.waiting.Waiting.TheVariants as waiting
-use Rattle.codegen.specs.Code.{top_of, below_top, plain_instruction, first_code, size, double, rest_source, right_to_rest, update_sides, made_code}
-use Rattle.codegen.specs.Code.{attempt_form, first_update, by_version, inside_update, checked_update, indexed_update, known_update, update_at, is_inside, step_code}
 use Rattle.codegen.proofs.Stretches.{Setting, straight, hop, runs_on, dearer, so_runs}
 use Rattle.codegen.proofs.Memory.{place_is}
 use Rattle.codegen.proofs.Follows.{StandsFor, Follows, more_cycles, then_end, ends_at, guarded, stands_elsewhere, reach_more, then_reach, reaches}
@@ -618,18 +601,8 @@ module _ (z : Setting) (o : PlainOperation) (place : ArrayPlace) (list : ListPla
       → Does z [] (pc + forms_bytes (step_code bs os (versioned_update o place list))) (86 + owed os) u (versioned_updated o place list i v (with_stack rest w))
   update_on bs (p ∷ (waiting.Number k ∷ os)) pc w i v rest u wl li lv e inside h d =
       number_by (nat_lt k place.length) (nat_lt k place.length) k p os pc w i v rest u refl wl li lv e inside h d
-  update_on bs [] pc w i v rest u wl li lv e inside h d =
-      let ws = [] in update_by (is_inside bs (top_of (below_top ws)) place.length) ws pc w i v rest u wl li lv e inside h d
-  update_on bs (p ∷ []) pc w i v rest u wl li lv e inside h d =
-      let ws = p ∷ [] in update_by (is_inside bs (top_of (below_top ws)) place.length) ws pc w i v rest u wl li lv e inside h d
-  update_on bs (p ∷ (waiting.Fram a ∷ os)) pc w i v rest u wl li lv e inside h d =
-      let ws = p ∷ (waiting.Fram a ∷ os) in update_by (is_inside bs (top_of (below_top ws)) place.length) ws pc w i v rest u wl li lv e inside h d
-  update_on bs (p ∷ (waiting.Local n ∷ os)) pc w i v rest u wl li lv e inside h d =
-      let ws = p ∷ (waiting.Local n ∷ os) in update_by (is_inside bs (top_of (below_top ws)) place.length) ws pc w i v rest u wl li lv e inside h d
-  update_on bs (p ∷ (waiting.R4 ∷ os)) pc w i v rest u wl li lv e inside h d =
-      let ws = p ∷ (waiting.R4 ∷ os) in update_by (is_inside bs (top_of (below_top ws)) place.length) ws pc w i v rest u wl li lv e inside h d
-  update_on bs (p ∷ (waiting.R6 ∷ os)) pc w i v rest u wl li lv e inside h d =
-      let ws = p ∷ (waiting.R6 ∷ os) in update_by (is_inside bs (top_of (below_top ws)) place.length) ws pc w i v rest u wl li lv e inside h d
+  update_on bs os pc w i v rest u wl li lv e inside h d =
+      update_by (is_inside bs (top_of (below_top os)) place.length) os pc w i v rest u wl li lv e inside h d
 
   -- an element that is updated in place
   pub in_place_reaches : (bs : List Bound) (os : List Waiting) (pc : ℕ) (w : WordState) (vs : List ℕ) (u : Core) → ((a : ℕ) → w.fram a < 0x10000)

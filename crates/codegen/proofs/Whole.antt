@@ -1,43 +1,23 @@
 -- The code of a word program does what the program does, within the cycles of the way that it takes.
-use Rattle.std.proofs.Common.{◌≡◌, ℕ, suc, ◌+◌, ◌-◌, ◌*◌, ◌<◌, Bool, true, false, not, nat_lt, if◌then◌else◌, List, [], ◌∷◌, ◌++◌, length, All, Some}
-use Rattle.std.proofs.Common.{◌≢◌, None, refl, sym, ap, subst, arith}
-use Rattle.std.specs.List.{AllByRecursion}
-use Rattle.array_versions.specs.fram_board.Effects.{Effect}
+use Rattle.std.proofs.Common.{◌≡◌, ℕ, suc, ◌+◌, ◌-◌, ◌*◌, ◌<◌, Bool, true, false, not, nat_lt, if◌then◌else◌, List, [], ◌∷◌, ◌++◌, length, All, Some, ◌≢◌, None}
+use Rattle.std.proofs.Common.{refl, sym, ap, subst, arith}
+use Rattle.codegen.proofs.Names.{AllByRecursion, Effect, R4, Core, Form, form_bytes, Move, Branch, Fram, ToFram, Stands, forms_bytes, stands_front, stands_back}
+use Rattle.codegen.proofs.Names.{forms_behind, forms_bytes-append, Comparison, is_true, compare_words, Step, Test, Program, number, load, keep, update, local}
+use Rattle.codegen.proofs.Names.{set_local, update_local, unary, binary, shift, element, emit_word, list_entry, versioned_read, versioned_write}
+use Rattle.codegen.proofs.Names.{versioned_update, sense, truth, choose, repeat, store_number, move_word, jump, holds, compares, both, either, fails, nothing}
+use Rattle.codegen.proofs.Names.{step, WordState, started, End, GoesOn, Jumps, Short, Strays, Broken, Behaviour, with_stack, with_local, with_top, with_two}
+use Rattle.codegen.proofs.Names.{is_place, local_pushed, local_updated, number_pushed, way_by_top, way_by_two, step_behaviour, then_on, tested, behaviour}
+use Rattle.codegen.proofs.Names.{Place, start, assigning, Moves, EachTurn, EachStepWay, EachTestWay, EachWay, StepLocalsBelow, TestLocalsBelow, StepSpares}
+use Rattle.codegen.proofs.Names.{TestSpares, Spares, LocalsBelow, StepLoopsCount, TestLoopsCount, LoopsCount, StepOfWords, TestOfWords, OfWords, top_spent}
+use Rattle.codegen.proofs.Names.{spent_by_top, spent_by_two, step_spent, spent_on, test_spent, spent, Matches, GoesWell, matches_local, start_matches}
+use Rattle.codegen.proofs.Names.{step_well, well, whole_ends_soundly, local_words, words_step, words, Leaves, leaves, Bound, Waiting, number_source, flushed}
+use Rattle.codegen.proofs.Names.{top_of, below_top, kept, top_to_four, two_to_registers, entry_code, compare_form, holding, failing, size, pass_over, decision}
+use Rattle.codegen.proofs.Names.{holds_code, compares_code, truth_code, number_code, turns_code, waiting_behind, waiting_after, bound_of, step_code, test_code}
+use Rattle.codegen.proofs.Names.{steps_code, block_code, code_of, ComesTo, CodeDoesAsProgram}
+use Rattle.array_versions.specs.Laws.{IsStateOfWords, EndsInWords, IsSound}
 use Rattle.msp_isa.specs.declared.instructions.Condition.TheVariants as condition
 use Rattle.msp_isa.specs.declared.operands.Konst.TheVariants as konst
-use Rattle.code_forms.specs.Forms.{R4, Core, Form, form_bytes, Move, Branch, Fram, ToFram}
-use Rattle.code_forms.specs.Code.{Stands, forms_bytes}
-use Rattle.code_forms.proofs.Interface.{stands_front, stands_back, forms_behind, forms_bytes-append}
-use Rattle.array_versions.specs.declared.operations.Comparison.{Comparison}
-use Rattle.array_versions.specs.Operations.{is_true, compare_words}
-use Rattle.array_versions.specs.Program.{Step, Test, Program, number, load, keep, update, local, set_local, update_local, unary, binary, shift, element}
-use Rattle.array_versions.specs.Program.{emit_word}
-use Rattle.array_versions.specs.Program.{list_entry}
-use Rattle.array_versions.specs.Program.{versioned_read, versioned_write, versioned_update, sense, truth, choose, repeat, store_number, move_word, jump, holds}
-use Rattle.array_versions.specs.Program.{compares}
-use Rattle.array_versions.specs.Program.{both, either, fails, nothing, step}
-use Rattle.array_versions.specs.Behaviour.{WordState, started, End, GoesOn, Jumps, Short, Strays, Broken, Behaviour, with_stack, with_local}
-use Rattle.array_versions.specs.Behaviour.{with_top, with_two, is_place, local_pushed, local_updated, number_pushed, way_by_top, way_by_two, step_behaviour}
-use Rattle.array_versions.specs.Behaviour.{then_on}
-use Rattle.array_versions.specs.Behaviour.{tested}
-use Rattle.array_versions.specs.Behaviour.{behaviour}
-use Rattle.array_versions.specs.Form.{Place, start, assigning, Moves, EachTurn, EachStepWay, EachTestWay, EachWay, StepLocalsBelow, TestLocalsBelow}
-use Rattle.array_versions.specs.Form.{StepSpares, TestSpares, Spares, LocalsBelow, StepLoopsCount, TestLoopsCount, LoopsCount, StepOfWords, TestOfWords}
-use Rattle.array_versions.specs.Form.{OfWords}
-use Rattle.array_versions.specs.Cost.{top_spent, spent_by_top, spent_by_two, step_spent, spent_on}
-use Rattle.array_versions.specs.Cost.{test_spent}
-use Rattle.array_versions.specs.Cost.{spent}
-use Rattle.array_versions.specs.Laws.{IsStateOfWords, EndsInWords, IsSound}
-use Rattle.array_versions.proofs.Interface.{Matches, GoesWell, matches_local, start_matches, step_well, well, whole_ends_soundly, local_words}
-use Rattle.array_versions.proofs.Interface.{step_words as words_step, words, Leaves, leaves}
-use Rattle.codegen.specs.declared.bounds.Bound.{Bound}
-use Rattle.codegen.specs.declared.waiting.Waiting.{Waiting}
 use Rattle.codegen.specs.declared.waiting.Waiting.TheVariants as waiting
-use Rattle.codegen.specs.Code.{number_source, flushed, top_of, below_top, kept, top_to_four, two_to_registers, entry_code, compare_form, holding, failing, size}
-use Rattle.codegen.specs.Code.{pass_over}
-use Rattle.codegen.specs.Code.{decision, holds_code, compares_code, truth_code}
-use Rattle.codegen.specs.Code.{number_code, turns_code, waiting_behind, waiting_after, bound_of, step_code, test_code, steps_code, block_code, code_of}
-use Rattle.codegen.specs.Laws.{ComesTo, CodeDoesAsProgram}
 use Rattle.codegen.proofs.Stretches.{Setting, runs_on, nothing_run}
 use Rattle.codegen.proofs.Memory.{place_is, assigned_same}
 use Rattle.codegen.proofs.Follows.{StandsFor, Follows, FollowsEnd, OnGoesOn, more_cycles, then_hop, ends_at, guarded, reach_more, reach_way, reaches}
@@ -52,8 +32,7 @@ use Rattle.codegen.proofs.Operands.{owed, clear_cycles, owed_kept, load_cycles, 
 use Rattle.codegen.proofs.Operands.{top_to_four_part, two_to_registers_part}
 use Rattle.codegen.proofs.LoopBounds.{Bounded, Spared, spared_so, bounded_with, bounded_on, step_bounded}
 use Rattle.codegen.proofs.Results.{Does, number_part, load_part, local_by, keep_reaches, update_reaches, set_reaches, update_local_reaches, unary_part}
-use Rattle.codegen.proofs.Results.{binary_part}
-use Rattle.codegen.proofs.Results.{shift_reaches, element_reaches, emit_reaches, read_reaches, write_reaches, sense_part, alone_part, push_under}
+use Rattle.codegen.proofs.Results.{binary_part, shift_reaches, element_reaches, emit_reaches, read_reaches, write_reaches, sense_part, alone_part, push_under}
 use Rattle.codegen.proofs.Results.{push_under_two}
 use Rattle.codegen.proofs.VersionUpdates.{in_place_reaches}
 use Rattle.codegen.proofs.Lengths.{compare_length}
@@ -69,19 +48,13 @@ record Ready (bs : List Bound) (next : Place → Type 0) (w : WordState) : Type 
 ready_on : (bs : List Bound) (next : Place → Type 0) (e : End) → GoesWell next e → EndsInWords e → OnGoesOn (λ v. Bounded bs v.locals) e
     → OnGoesOn (Ready bs next) e
 ready_on bs next (GoesOn w) g h b = record { place = g.0; fit = g.1; matches = g.2; words_in = h; bounded = b }
-ready_on bs next (Jumps to w) g h b = tt
-ready_on bs next Short g h b = tt
-ready_on bs next Strays g h b = tt
-ready_on bs next Broken g h b = tt
+ready_on bs next _ g h b = tt
 
 -- the same with the word of a local
 ready_with : (bs : List Bound) (next : Place → Type 0) (n k : ℕ) (e : End) → GoesWell next e → EndsInWords e → OnGoesOn (λ v. Bounded bs v.locals) e
     → Leaves n (Some k) e → OnGoesOn (λ v. Ready bs next v × (v.locals n ≡ Some k)) e
 ready_with bs next n k (GoesOn w) g h b l = (record { place = g.0; fit = g.1; matches = g.2; words_in = h; bounded = b }, l)
-ready_with bs next n k (Jumps to w) g h b l = tt
-ready_with bs next n k Short g h b l = tt
-ready_with bs next n k Strays g h b l = tt
-ready_with bs next n k Broken g h b l = tt
+ready_with bs next n k _ g h b l = tt
 
 -- what is left where so many words are taken
 ready_popped : (bs : List Bound) (next : Place → Type 0) (q : Place) (n : ℕ) (w : WordState) (us : List ℕ) → next (record q { depth = q.depth - n + 0 })

@@ -1,10 +1,8 @@
 use Rattle.std.proofs.Common.{◌++◌, ◌∷◌, refl, ap, ◌∙◌}
+use Rattle.codegen.proofs.Names.{R4, Constant, Calculate, instructions, flushed, below_top, kept, top_to_four, decision}
 use Rattle.msp_isa.specs.declared.instructions.Condition.TheVariants as condition
 use Rattle.msp_isa.specs.declared.instructions.TwoOp.TheVariants as op
 use Rattle.msp_isa.specs.declared.operands.Konst.TheVariants as konst
-use Rattle.code_forms.specs.Forms.{R4, Constant, Calculate}
-use Rattle.code_forms.specs.Placed.{instructions}
-use Rattle.codegen.specs.Code.{flushed, below_top, kept, top_to_four, decision}
 use Rattle.codegen.proofs.Emitted.{two_behind, part_behind}
 use Rattle.codegen.proofs.decisions.emit_holds.Goals as goal
 

@@ -1,9 +1,7 @@
 use Rattle.std.proofs.Common.{◌++◌, ◌∷◌, [], refl, ap, ◌∙◌, arith}
+use Rattle.codegen.proofs.Names.{R4, Number, Calculate, Jump, instruction_of, instructions, size, rest_source, inside_update}
 use Rattle.msp_isa.specs.declared.instructions.Condition.TheVariants as condition
 use Rattle.msp_isa.specs.declared.instructions.TwoOp.TheVariants as op
-use Rattle.code_forms.specs.Forms.{R4, Number, Calculate, Jump, instruction_of}
-use Rattle.code_forms.specs.Placed.{instructions}
-use Rattle.codegen.specs.Code.{size, rest_source, inside_update}
 use Rattle.codegen.proofs.UpdateBytes.{reads_bytes, inside_bytes}
 use Rattle.codegen.proofs.UpdateEmitted.{few_words}
 use Rattle.codegen.proofs.Emitted.{cons, own_behind, own_words, on_ok_items}

@@ -1,7 +1,5 @@
 use Rattle.std.proofs.Common.{◌≡◌, ◌++◌, OnOk, Bool, List, sym, subst}
-use Rattle.code_forms.specs.Forms.{Form}
-use Rattle.code_forms.specs.Placed.{instructions}
-use Rattle.codegen.specs.Code.{rest_source, indexed_update}
+use Rattle.codegen.proofs.Names.{Form, instructions, rest_source, indexed_update}
 use Rattle.codegen.proofs.in_place.emit_indexed_update.Goals as goal
 
 pub returns-else-sure : goal.returns-else-sure

@@ -1,8 +1,6 @@
 use Rattle.std.proofs.Common.{◌++◌, ◌∷◌, [], refl, ap, ◌∙◌}
+use Rattle.codegen.proofs.Names.{R4, R6, Indexed, Calculate, instructions, double, rest_source, made_code, attempt_form, first_update, by_version}
 use Rattle.msp_isa.specs.declared.instructions.TwoOp.TheVariants as op
-use Rattle.code_forms.specs.Forms.{R4, R6, Indexed, Calculate}
-use Rattle.code_forms.specs.Placed.{instructions}
-use Rattle.codegen.specs.Code.{double, rest_source, made_code, attempt_form, first_update, by_version}
 use Rattle.codegen.proofs.UpdateEmitted.{two_ways}
 use Rattle.codegen.proofs.Emitted.{cons, from_source, own_behind}
 use Rattle.codegen.proofs.in_place.emit_inside.Goals as goal

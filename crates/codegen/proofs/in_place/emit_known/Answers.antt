@@ -1,12 +1,8 @@
 use Rattle.std.proofs.Common.{◌++◌, ◌∷◌, [], refl, ap, ap₂, ◌∙◌}
-use Rattle.msp_isa.specs.alp_words.Words.{word_sum}
-use Rattle.msp_isa.specs.alp_words.declared.Width.TheVariants.{Word}
-use Rattle.msp_isa.specs.declared.instructions.Instr.TheVariants.{Two}
+use Rattle.codegen.proofs.Names.{word_sum, Word, Two, R4, R6, Number, Fram, ToRegister, Move, Calculate, Update, instructions, plain_instruction, rest_source}
+use Rattle.codegen.proofs.Names.{attempt_form, first_update, by_version}
 use Rattle.msp_isa.specs.declared.instructions.TwoOp.TheVariants as op
 use Rattle.msp_isa.specs.declared.operands.Dst.TheVariants as dst
-use Rattle.code_forms.specs.Forms.{R4, R6, Number, Fram, ToRegister, Move, Calculate, Update}
-use Rattle.code_forms.specs.Placed.{instructions}
-use Rattle.codegen.specs.Code.{plain_instruction, rest_source, attempt_form, first_update, by_version}
 use Rattle.codegen.proofs.UpdateEmitted.{two_ways}
 use Rattle.codegen.proofs.Emitted.{cons, from_source, own_behind}
 use Rattle.codegen.proofs.in_place.emit_known.Goals as goal

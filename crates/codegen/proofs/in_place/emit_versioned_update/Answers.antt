@@ -1,9 +1,6 @@
 use Rattle.std.proofs.Common.{◌++◌, Bool, Option, List, sym, ap, ap₂, ◌∙◌}
-use Rattle.code_forms.specs.Forms.{Form}
-use Rattle.code_forms.specs.Placed.{instructions}
-use Rattle.codegen.specs.declared.waiting.Waiting.{Waiting}
-use Rattle.codegen.specs.Code.{flushed, top_of, below_top, four_from, top_number, rest_source, to_rest, right_to_rest, update_sides, indexed_update}
-use Rattle.codegen.specs.Code.{known_update, if_below, is_inside, update_at}
+use Rattle.codegen.proofs.Names.{Form, instructions, Waiting, flushed, top_of, below_top, four_from, top_number, rest_source, to_rest, right_to_rest}
+use Rattle.codegen.proofs.Names.{update_sides, indexed_update, known_update, if_below, is_inside, update_at}
 use Rattle.codegen.proofs.Emitted.{part_behind}
 use Rattle.codegen.proofs.in_place.emit_versioned_update.Goals as goal
 

@@ -1,8 +1,6 @@
 use Rattle.std.proofs.Common.{◌++◌, ap, ◌∙◌}
-use Rattle.std.proofs.lemmas.Result.{on_ok_weaker}
+use Rattle.codegen.proofs.Names.{on_ok_weaker, instructions, two_to_registers, binary_middle}
 use Rattle.array_versions.specs.declared.operations.BinaryOperation.TheVariants as binary_op
-use Rattle.code_forms.specs.Placed.{instructions}
-use Rattle.codegen.specs.Code.{two_to_registers, binary_middle}
 use Rattle.codegen.proofs.Emitted.{two_behind}
 use Rattle.codegen.proofs.operations.emit_product.Goals as goal
 

@@ -1,7 +1,5 @@
 use Rattle.std.proofs.Common.{◌++◌, ap, ◌∙◌}
-use Rattle.std.proofs.lemmas.Result.{on_ok_weaker}
-use Rattle.code_forms.specs.Placed.{instructions}
-use Rattle.codegen.specs.Code.{top_to_five, unary_middle}
+use Rattle.codegen.proofs.Names.{on_ok_weaker, instructions, top_to_five, unary_middle}
 use Rattle.codegen.proofs.Emitted.{two_behind}
 use Rattle.codegen.proofs.operations.emit_unary.Goals as goal
 

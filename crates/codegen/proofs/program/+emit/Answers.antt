@@ -1,17 +1,11 @@
-use Rattle.std.proofs.Common.{◌≡◌, ◌+◌, ◌∷◌, ◌++◌, [], drop, not, refl, sym, ap, ◌∙◌, subst, arith, rules, append_assoc, false, true}
-use Rattle.std.proofs.Common.{if◌then◌else◌, lt-ltb, le-ltb, List, append-nil}
-use Rattle.std.specs.Result.{OnOk}
-use Rattle.code_forms.specs.Forms.{Form}
-use Rattle.code_forms.specs.Placed.{instructions}
-use Rattle.codegen.specs.declared.waiting.Waiting.{Waiting}
-use Rattle.code_forms.proofs.Interface.{forms_bytes-append, instructions-append}
-use Rattle.array_versions.specs.View.{step_of, steps_of, test_of}
+use Rattle.std.proofs.Common.{◌≡◌, ◌+◌, ◌∷◌, ◌++◌, [], drop, not, refl, sym, ap, ◌∙◌, subst, arith, rules, append_assoc, false, true, if◌then◌else◌, lt-ltb}
+use Rattle.std.proofs.Common.{le-ltb, List, append-nil}
+use Rattle.codegen.proofs.Names.{OnOk, Form, instructions, Waiting, forms_bytes-append, instructions-append, step_of, steps_of, test_of, StepLocalsBelow}
+use Rattle.codegen.proofs.Names.{TestLocalsBelow, LocalsBelow, OfWords, StepOfWords, words_of, step_words, test_words, flushed, holds_code, compares_code}
+use Rattle.codegen.proofs.Names.{truth_code, size, pass_over, jump_back, number_code, turn_end, turns_code, waiting_behind, waiting_after, step_code, test_code}
+use Rattle.codegen.proofs.Names.{steps_code, bound_of, block_code}
 use Rattle.array_versions.specs.declared.program.WordStep as word_step
-use Rattle.array_versions.specs.Form.{StepLocalsBelow, TestLocalsBelow, LocalsBelow, OfWords, StepOfWords}
-use Rattle.array_versions.specs.Cost.{words_of, step_words, test_words}
 use Rattle.msp_isa.specs.declared.instructions.Condition.TheVariants as condition
-use Rattle.codegen.specs.Code.{flushed, holds_code, compares_code, truth_code, size, pass_over, jump_back, number_code, turn_end, turns_code, waiting_behind}
-use Rattle.codegen.specs.Code.{waiting_after, step_code, test_code, steps_code, bound_of, block_code}
 use Rattle.codegen.proofs.Emitted.{step_of-choose, step_of-read, step_of-write, step_of-update, test_of-holds, test_of-compares, test_of-both, test_of-either}
 use Rattle.codegen.proofs.Emitted.{part_behind, two_behind, own_behind, on_ok_items, words_at_most, own_words, step_owed, left_front}
 use Rattle.codegen.proofs.Lengths.{pass_short, turn_end_short, test_short, inner_short}

@@ -1,6 +1,5 @@
 use Rattle.std.proofs.Common.{◌++◌, refl, ap, ◌∙◌}
-use Rattle.code_forms.specs.Placed.{instructions}
-use Rattle.codegen.specs.Code.{flushed, below_top, kept, top_to_five, emit_code}
+use Rattle.codegen.proofs.Names.{instructions, flushed, below_top, kept, top_to_five, emit_code}
 use Rattle.codegen.proofs.Emitted.{two_behind, part_behind}
 use Rattle.codegen.proofs.steps.emit_emit.Goals as goal
 

@@ -1,7 +1,5 @@
 use Rattle.std.proofs.Common.{◌≡◌, ◌++◌, refl, sym, ap, ◌∙◌, subst, append_assoc}
-use Rattle.std.specs.Result.{OnOk}
-use Rattle.code_forms.specs.Placed.{instructions}
-use Rattle.codegen.specs.Code.{check_code, zero_code, fetch_code, element_code}
+use Rattle.codegen.proofs.Names.{OnOk, instructions, check_code, zero_code, fetch_code, element_code}
 use Rattle.codegen.proofs.Emitted.{two_behind, part_behind}
 use Rattle.codegen.proofs.steps.emit_indexed.Goals as goal
 

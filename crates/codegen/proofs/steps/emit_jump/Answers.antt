@@ -1,5 +1,4 @@
-use Rattle.code_forms.specs.Forms.{Branch}
-use Rattle.codegen.specs.Code.{flushed}
+use Rattle.codegen.proofs.Names.{Branch, flushed}
 use Rattle.codegen.proofs.Emitted.{one_behind}
 use Rattle.codegen.proofs.steps.emit_jump.Goals as goal
 

@@ -1,13 +1,8 @@
 use Rattle.std.proofs.Common.{◌≡◌, ◌++◌, ◌∷◌, [], sym, ap, ◌∙◌, subst, if◌then◌else◌, le-ltb}
-use Rattle.std.specs.Result.{OnOk}
-use Rattle.msp_isa.specs.declared.instructions.Instr.TheVariants.{One}
+use Rattle.codegen.proofs.Names.{OnOk, One, Word, Push, Ram, instructions, flushed, local_address}
 use Rattle.msp_isa.specs.declared.instructions.OneOp.TheVariants as one
 use Rattle.msp_isa.specs.declared.operands.Operand.TheVariants as operand
 use Rattle.msp_isa.specs.declared.operands.Src.TheVariants as src
-use Rattle.msp_isa.specs.alp_words.declared.Width.TheVariants.{Word}
-use Rattle.code_forms.specs.Forms.{Push, Ram}
-use Rattle.code_forms.specs.Placed.{instructions}
-use Rattle.codegen.specs.Code.{flushed, local_address}
 use Rattle.codegen.proofs.Emitted.{one_behind}
 use Rattle.codegen.proofs.steps.emit_local.Goals as goal
 

@@ -1,6 +1,5 @@
 use Rattle.std.proofs.Common.{refl}
-use Rattle.code_forms.specs.Forms.{Move, Fram, ToFram}
-use Rattle.codegen.specs.Code.{flushed}
+use Rattle.codegen.proofs.Names.{Move, Fram, ToFram, flushed}
 use Rattle.codegen.proofs.Emitted.{one_behind, from_source}
 use Rattle.codegen.proofs.steps.emit_move_word.Goals as goal
 

@@ -1,9 +1,6 @@
 use Rattle.std.proofs.Common.{ap₂}
-use Rattle.msp_isa.specs.alp_words.declared.Width.TheVariants.{Word}
-use Rattle.msp_isa.specs.declared.instructions.Instr.TheVariants.{Two}
+use Rattle.codegen.proofs.Names.{Word, Two, Move, flushed, top_of, source_from, below_top, local_target}
 use Rattle.msp_isa.specs.declared.instructions.TwoOp.TheVariants.{Mov}
-use Rattle.code_forms.specs.Forms.{Move}
-use Rattle.codegen.specs.Code.{flushed, top_of, source_from, below_top, local_target}
 use Rattle.codegen.proofs.Emitted.{one_behind}
 use Rattle.codegen.proofs.steps.emit_set_local.Goals as goal
 

@@ -1,6 +1,5 @@
 use Rattle.std.proofs.Common.{refl}
-use Rattle.code_forms.specs.Forms.{Move, ToFram}
-use Rattle.codegen.specs.Code.{number_source, flushed}
+use Rattle.codegen.proofs.Names.{Move, ToFram, number_source, flushed}
 use Rattle.codegen.proofs.Emitted.{one_behind, from_source}
 use Rattle.codegen.proofs.steps.emit_store.Goals as goal
 

@@ -1,9 +1,6 @@
 use Rattle.std.proofs.Common.{ap₂, ◌∙◌}
-use Rattle.msp_isa.specs.alp_words.declared.Width.TheVariants.{Word}
-use Rattle.msp_isa.specs.declared.instructions.Instr.TheVariants.{Two}
+use Rattle.codegen.proofs.Names.{Word, Two, Update, flushed, top_of, source_from, below_top, plain_instruction}
 use Rattle.msp_isa.specs.declared.operands.Dst.TheVariants as dst
-use Rattle.code_forms.specs.Forms.{Update}
-use Rattle.codegen.specs.Code.{flushed, top_of, source_from, below_top, plain_instruction}
 use Rattle.codegen.proofs.Emitted.{one_behind}
 use Rattle.codegen.proofs.steps.emit_update.Goals as goal
 

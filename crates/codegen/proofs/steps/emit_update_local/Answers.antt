@@ -1,13 +1,8 @@
-use Rattle.std.proofs.Common.{refl, sym, ap, ap₂, ◌∙◌, if◌then◌else◌, lt-ltb, le-ltb}
-use Rattle.msp_isa.specs.alp_words.declared.Width.TheVariants.{Word}
-use Rattle.msp_isa.specs.declared.instructions.Instr.TheVariants.{Two}
+use Rattle.std.proofs.Common.{refl, sym, ap, ap₂, ◌∙◌, if◌then◌else◌, lt-ltb, le-ltb, ◌≡◌, ◌++◌, ◌∷◌, [], subst}
+use Rattle.codegen.proofs.Names.{Word, Two, OnOk, Calculate, source_operand, instructions, flushed, top_of, source_from, below_top, local_register}
+use Rattle.codegen.proofs.Names.{plain_instruction, ram_update}
 use Rattle.msp_isa.specs.declared.operands.Dst.TheVariants as dst
 use Rattle.msp_isa.specs.declared.registers.Reg.TheVariants as reg
-use Rattle.std.proofs.Common.{◌≡◌, ◌++◌, ◌∷◌, [], subst}
-use Rattle.std.specs.Result.{OnOk}
-use Rattle.code_forms.specs.Forms.{Calculate, source_operand}
-use Rattle.code_forms.specs.Placed.{instructions}
-use Rattle.codegen.specs.Code.{flushed, top_of, source_from, below_top, local_register, plain_instruction, ram_update}
 use Rattle.codegen.proofs.Emitted.{one_behind, part_behind}
 use Rattle.codegen.proofs.steps.emit_update_local.Goals as goal
 

@@ -1,8 +1,5 @@
 use Rattle.std.proofs.Common.{◌++◌, Bool, List, ap, ◌∙◌}
-use Rattle.std.proofs.lemmas.Result.{on_ok_weaker}
-use Rattle.code_forms.specs.Placed.{instructions}
-use Rattle.code_forms.specs.Forms.{Form}
-use Rattle.codegen.specs.Code.{top_of, top_to_four, is_inside, read_code}
+use Rattle.codegen.proofs.Names.{on_ok_weaker, instructions, Form, top_of, top_to_four, is_inside, read_code}
 use Rattle.codegen.proofs.Emitted.{two_behind}
 use Rattle.codegen.proofs.versioned.emit_versioned_read.Goals as goal
 

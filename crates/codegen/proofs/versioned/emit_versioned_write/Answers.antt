@@ -1,7 +1,5 @@
 use Rattle.std.proofs.Common.{◌++◌, Bool, List, refl, ap, ◌∙◌}
-use Rattle.code_forms.specs.Placed.{instructions}
-use Rattle.code_forms.specs.Forms.{Form}
-use Rattle.codegen.specs.Code.{flushed, top_of, below_top, kept, two_to_registers, is_inside, write_code}
+use Rattle.codegen.proofs.Names.{instructions, Form, flushed, top_of, below_top, kept, two_to_registers, is_inside, write_code}
 use Rattle.codegen.proofs.Emitted.{two_behind, part_behind}
 use Rattle.codegen.proofs.versioned.emit_versioned_write.Goals as goal
 

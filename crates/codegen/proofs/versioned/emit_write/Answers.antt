@@ -1,7 +1,5 @@
 use Rattle.std.proofs.Common.{◌≡◌, ◌++◌, refl, sym, subst}
-use Rattle.std.specs.Result.{OnOk}
-use Rattle.code_forms.specs.Placed.{instructions}
-use Rattle.codegen.specs.Code.{check_code, stored_code, write_code}
+use Rattle.codegen.proofs.Names.{OnOk, instructions, check_code, stored_code, write_code}
 use Rattle.codegen.proofs.Emitted.{part_behind}
 use Rattle.codegen.proofs.versioned.emit_write.Goals as goal
 

@@ -1,6 +1,5 @@
 use Rattle.std.proofs.Common.{◌++◌, ap, ◌∙◌, append_assoc}
-use Rattle.code_forms.specs.Placed.{instructions}
-use Rattle.codegen.specs.Code.{top_of, below_top, cleared, four_from, five_from}
+use Rattle.codegen.proofs.Names.{instructions, top_of, below_top, cleared, four_from, five_from}
 use Rattle.codegen.proofs.Emitted.{two_behind, part_behind}
 use Rattle.codegen.proofs.waiting.emit_two_to_registers.Goals as goal
 
