@@ -1,7 +1,7 @@
 -- Values in registers, and jumps.
 use Rattle.std.proofs.Common.{◌≡◌, ℕ, ◌+◌, ◌-◌, ◌%◌, ◌<◌, ◌==◌, List, [], ◌∷◌, Some, refl, ap, ap₂, ◌∙◌, arith, Bool, false, nat_le, if◌then◌else◌}
-use Rattle.codegen.proofs.Names.{nat_tests, Word, sum_of, Condition, sum16, distance, is_met, At, stretch, WorkRegister, work_number, Core, Form, Jump, Skip}
-use Rattle.codegen.proofs.Names.{instruction_of, Stands, forms_bytes, AreStraight, forms_run, FormsNeed, Runs, stands_at, WordState}
+use Rattle.codegen.proofs.Names.{bytes_are, nat_tests, Word, sum_of, Condition, sum16, distance, is_met, At, stretch, WorkRegister, work_number, Core, Form}
+use Rattle.codegen.proofs.Names.{Jump, Skip, instruction_of, Stands, forms_bytes, AreStraight, forms_run, FormsNeed, Runs, stands_at, WordState}
 use Rattle.codegen.proofs.Stretches.{Setting, straight, hop}
 use Rattle.codegen.proofs.Memory.{local_words}
 use Rattle.codegen.proofs.Follows.{StandsFor, stands_elsewhere}
