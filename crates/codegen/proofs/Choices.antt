@@ -1,14 +1,14 @@
 -- Tests: where the code goes on.
 use Rattle.std.proofs.Common.{◌≡◌, ℕ, ◌+◌, ◌*◌, ◌%◌, ◌<◌, ◌==◌, not, [], ◌∷◌, Some, refl, sym, ap, ap₂, ◌∙◌, subst, arith, Bool, true, false, if◌then◌else◌}
-use Rattle.codegen.proofs.Names.{not-not, Flags, Word, and_of, Condition, is_met, R4, R5, Core, Register, Constant, Form, Calculate, instruction_of, Stands}
-use Rattle.codegen.proofs.Names.{forms_bytes, forms_run, Runs, end_of, stands_at, Comparison, Above, SignedAbove, CommonBit, is_true, compare_words, WordState}
-use Rattle.codegen.proofs.Names.{Behaviour, compare_form, holding, failing, jump_over, decision}
+use Rattle.codegen.proofs.Names.{not-not, Flags, Word, and_of, Condition, is_met, R4, Core, Constant, Form, Calculate, instruction_of, Stands, forms_bytes}
+use Rattle.codegen.proofs.Names.{Runs, Comparison, Above, SignedAbove, CommonBit, is_true, compare_words, WordState, Behaviour, compare_form, holding, failing}
+use Rattle.codegen.proofs.Names.{jump_over, decision}
 use Rattle.msp_isa.specs.declared.instructions.Condition.TheVariants as condition
 use Rattle.msp_isa.specs.declared.instructions.TwoOp.TheVariants as op
 use Rattle.msp_isa.specs.declared.operands.Konst.TheVariants as konst
-use Rattle.codegen.proofs.Stretches.{Setting, straight, runs_on, so_runs}
-use Rattle.codegen.proofs.Follows.{StandsFor, Follows, then_end, stands_elsewhere}
-use Rattle.codegen.proofs.Registers.{equal_flag, Has, HasTwo}
+use Rattle.codegen.proofs.Registers.{Has, HasTwo, line, equal_flag}
+use Rattle.codegen.proofs.Stretches.{Setting, runs_on, so_runs}
+use Rattle.codegen.proofs.Follows.{StandsFor, Follows, then_end}
 use Rattle.codegen.proofs.Jumps.{stands_low, Decided, over_part}
 use Rattle.codegen.proofs.Values.{difference_flags, compared_flags, compare_met, failing_met}
 
@@ -80,14 +80,9 @@ module _ (z : Setting) where
   pub holds_part : (pc v : ℕ) (w : WordState) (t : Core) → v < 0x10000 → z.code pc ≡ Some (instruction_of zero_test) → Has z R4 pc w v t
       → Runs z.code [] 1 t (Decided z (pc + 2) w (is_true v) condition.NotEqual condition.Equal)
   holds_part pc v w t l h k =
-      let ms = zero_test ∷ [] in
-      let zero : ((t.work 4 + 65535 + 1) % 65536 == 0) ≡ (v == 0) = ap (λ x. (x + 65535 + 1) % 65536 == 0) k.value ∙ equal_flag v 0 l (omega arith) in
-      straight z ms 1 t (end_of t (forms_run ms t).status) [] 1 _ (tt, tt) (stands_at z.code pc ms t (h, tt) k.is.at) ((tt, tt), tt) refl (omega arith)
-      (record {
-        is = stands_elsewhere z pc (pc + 2) w t _ k.is (omega (arith, k.is.at)) refl refl refl refl refl;
-        holds = ap not zero;
-        fails = zero ∙ sym (not-not (v == 0));
-      })
+      let zero : ((t.work 4 + 65535 + 1) % 65536 == 0) ≡ (v == 0) = ap (λ x. (x + 65535 + 1) % 65536 == 0) k.held ∙ equal_flag v 0 l (omega arith) in
+      line z (zero_test ∷ []) 1 (pc + 2) _ k.is (tt, tt) (h, tt) ((tt, tt), tt) refl refl (omega (arith, k.is.at))
+      (λ s. record { is = s; holds = ap not zero; fails = zero ∙ sym (not-not (v == 0)) })
 
   -- ---- whether two words compare so
 
@@ -96,42 +91,20 @@ module _ (z : Setting) where
     is : StandsFor z pc w t
     flags : t.flags ≡ f
 
-  left_part : (pc next x y : ℕ) (w : WordState) (t : Core) → pc + 2 ≡ next → z.code pc ≡ Some (instruction_of (Calculate op.Cmp (Register R5) R4))
-      → HasTwo z pc w x y t → Runs z.code [] 1 t (HasFlags next w (difference_flags x y))
-  left_part pc next x y w t e h k =
-      let ms = Calculate op.Cmp (Register R5) R4 ∷ [] in
-      straight z ms 1 t (end_of t (forms_run ms t).status) [] 1 _ (tt, tt) (stands_at z.code pc ms t (h, tt) k.is.at) ((tt, tt), tt) refl (omega arith)
-      (record {
-        is = stands_elsewhere z pc next w t _ k.is (omega (arith, k.is.at)) refl refl refl refl refl;
-        flags = ap₂ difference_flags k.four k.five;
-      })
-
-  right_part : (pc next x y : ℕ) (w : WordState) (t : Core) → pc + 2 ≡ next → z.code pc ≡ Some (instruction_of (Calculate op.Cmp (Register R4) R5))
-      → HasTwo z pc w x y t → Runs z.code [] 1 t (HasFlags next w (difference_flags y x))
-  right_part pc next x y w t e h k =
-      let ms = Calculate op.Cmp (Register R4) R5 ∷ [] in
-      straight z ms 1 t (end_of t (forms_run ms t).status) [] 1 _ (tt, tt) (stands_at z.code pc ms t (h, tt) k.is.at) ((tt, tt), tt) refl (omega arith)
-      (record {
-        is = stands_elsewhere z pc next w t _ k.is (omega (arith, k.is.at)) refl refl refl refl refl;
-        flags = ap₂ difference_flags k.five k.four;
-      })
-
-  bits_part : (pc next x y : ℕ) (w : WordState) (t : Core) → pc + 2 ≡ next → z.code pc ≡ Some (instruction_of (Calculate op.Bit (Register R5) R4))
-      → HasTwo z pc w x y t → Runs z.code [] 1 t (HasFlags next w ((and_of Word x y).1))
-  bits_part pc next x y w t e h k =
-      let ms = Calculate op.Bit (Register R5) R4 ∷ [] in
-      straight z ms 1 t (end_of t (forms_run ms t).status) [] 1 _ (tt, tt) (stands_at z.code pc ms t (h, tt) k.is.at) ((tt, tt), tt) refl (omega arith)
-      (record {
-        is = stands_elsewhere z pc next w t _ k.is (omega (arith, k.is.at)) refl refl refl refl refl;
-        flags = ap₂ (λ p q. (and_of Word p q).1) k.four k.five;
-      })
-
-  compare_part : (c : Comparison) (pc next x y : ℕ) (w : WordState) (t : Core) → pc + 2 ≡ next → z.code pc ≡ Some (instruction_of (compare_form c))
-      → HasTwo z pc w x y t → Runs z.code [] 1 t (HasFlags next w (compared_flags c x y))
-  compare_part Above = right_part
-  compare_part SignedAbove = right_part
-  compare_part CommonBit = bits_part
-  compare_part _ = left_part
+  compare_part : (c : Comparison) (pc x y : ℕ) (w : WordState) (t : Core) → z.code pc ≡ Some (instruction_of (compare_form c)) → HasTwo z pc w x y t
+      → Runs z.code [] 1 t (HasFlags (pc + 2) w (compared_flags c x y))
+  compare_part CommonBit pc x y w t h k =
+      line z (compare_form CommonBit ∷ []) 1 (pc + 2) _ k.is (tt, tt) (h, tt) ((tt, tt), tt) refl refl (omega (arith, k.is.at))
+      (λ s. record { is = s; flags = ap₂ (λ p q. (and_of Word p q).1) k.held.four k.held.five })
+  compare_part Above pc x y w t h k =
+      line z (compare_form Above ∷ []) 1 (pc + 2) _ k.is (tt, tt) (h, tt) ((tt, tt), tt) refl refl (omega (arith, k.is.at))
+      (λ s. record { is = s; flags = ap₂ difference_flags k.held.five k.held.four })
+  compare_part SignedAbove pc x y w t h k =
+      line z (compare_form SignedAbove ∷ []) 1 (pc + 2) _ k.is (tt, tt) (h, tt) ((tt, tt), tt) refl refl (omega (arith, k.is.at))
+      (λ s. record { is = s; flags = ap₂ difference_flags k.held.five k.held.four })
+  compare_part c pc x y w t h k =
+      line z (compare_form c ∷ []) 1 (pc + 2) _ k.is (tt, tt) (h, tt) ((tt, tt), tt) refl refl (omega (arith, k.is.at))
+      (λ s. record { is = s; flags = ap₂ difference_flags k.held.four k.held.five })
 
   pub compares_part : (c : Comparison) (pc x y : ℕ) (w : WordState) (t : Core) → x < 0x10000 → y < 0x10000 → z.code pc ≡ Some (instruction_of (compare_form c))
       → HasTwo z pc w x y t → Runs z.code [] 1 t (Decided z (pc + 2) w (compare_words c x y) (holding c) (failing c))
@@ -139,4 +112,4 @@ module _ (z : Setting) where
       so_runs z [] 1 t (HasFlags (pc + 2) w (compared_flags c x y)) _ (λ s j.
       let met = ap (is_met (holding c)) j.flags ∙ compare_met c x y l m in
       record { is = j.is; holds = met; fails = failing_met c s.flags ∙ ap not met })
-      (compare_part c pc (pc + 2) x y w t refl h k)
+      (compare_part c pc x y w t h k)

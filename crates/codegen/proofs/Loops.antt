@@ -8,12 +8,12 @@ use Rattle.codegen.proofs.Names.{turns_spent, local_register, local_address, num
 use Rattle.msp_isa.specs.declared.instructions.Condition.TheVariants as condition
 use Rattle.msp_isa.specs.declared.instructions.TwoOp.TheVariants as op
 use Rattle.msp_isa.specs.declared.operands.Konst.TheVariants as konst
+use Rattle.codegen.proofs.Registers.{Has, Flagged}
+use Rattle.codegen.proofs.Operands.{AreThese, IsCompared, compare_number}
 use Rattle.codegen.proofs.Stretches.{Setting, straight, runs_on, dearer, so_runs}
 use Rattle.codegen.proofs.Memory.{local_words, in_register, in_ram, Memory, local_needs, set_register, set_ram}
 use Rattle.codegen.proofs.Follows.{StandsFor, Follows, OnGoesOn, more_cycles, then_end, then_way, ends_at}
 use Rattle.codegen.proofs.Parts.{local_number}
-use Rattle.codegen.proofs.Registers.{Has}
-use Rattle.codegen.proofs.Operands.{Compared, compare_number}
 use Rattle.codegen.proofs.Jumps.{whole_size, Decided, back_part}
 
 -- what is spent behind a turn, with the turn's own part in front
@@ -32,9 +32,9 @@ module _ (z : Setting) where
       → Runs z.code [] 2 t (Raised (pc + form_bytes m) n k below w))
   compare_raised r pc n k below w t l lb h i =
       let end = pc + form_bytes (Calculate op.Cmp (number_source below) r) in
-      so_runs z [] 2 t (Compared z end (with_local n k w) t.work k below) _
-      (λ u j. record { is = j.is; holds = ap not j.zero; fails = j.zero ∙ sym (not-not (k == below)) })
-      (compare_number z r pc k below (with_local n k w) t l lb i.value i.is h)
+      so_runs z [] 2 t (Flagged z (AreThese t.work) (IsCompared k below) end (with_local n k w)) _
+      (λ u j. record { is = j.all.is; holds = ap not j.flag.zero; fails = j.flag.zero ∙ sym (not-not (k == below)) })
+      (compare_number z r pc k below (with_local n k w) t l lb i.held i.is h)
 
   raise_by : (b : Bool) (pc n k below : ℕ) (w : WordState) (u : Core) → nat_lt n 8 ≡ b → n < z.locals → w.locals n ≡ Some k → k + 1 < 0x10000
       → below < 0x10000
@@ -61,7 +61,7 @@ module _ (z : Setting) where
               fram = i.fram;
               readings = i.readings;
             };
-        value = put_same u.work r ((u.work r + 1 + 0) % 0x10000) ∙ next;
+        held = put_same u.work r ((u.work r + 1 + 0) % 0x10000) ∙ next;
       }) in
       subst (λ p. Runs z.code [] 10 u (Raised p n (k + 1) below w)) end
       (dearer z [] 3 10 u _ (omega arith) (runs_on z 1 2 u (Has z to (pc + 2) (with_local n (k + 1) w) (k + 1)) _ [] [] added
@@ -87,7 +87,7 @@ module _ (z : Setting) where
               fram = i.fram;
               readings = i.readings;
             };
-        value = next;
+        held = next;
       }) in
       subst (λ p. Runs z.code [] 10 u (Raised p n (k + 1) below w)) end
       (runs_on z 8 2 u (Has z R4 (pc + 10) (with_local n (k + 1) w) (k + 1)) _ [] [] added

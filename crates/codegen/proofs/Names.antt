@@ -32,7 +32,7 @@ pub use Rattle.array_versions.specs.msp_step.Effect.{sum16, distance, is_met, op
 pub use Rattle.code_forms.proofs.Interface.{stands_at, stands_front, stands_back, end_of, forms_bytes-append, instructions-append, form_small, bytes_are}
 pub use Rattle.code_forms.proofs.Interface.{form_at, forms_at, forms_behind, first_forms}
 pub use Rattle.code_forms.specs.Code.{Stands, forms_bytes, forms_run, Runs, Starves, AreStraight, FormsNeed, IsTidy}
-pub use Rattle.code_forms.specs.Forms.{R4, R5, Core, CoreStretch, Number, Constant, ToRegister, ToIndexed, Form, Move, Calculate, Update, form_bytes, Register}
+pub use Rattle.code_forms.specs.Forms.{R4, R5, Core, Number, Constant, ToRegister, ToIndexed, Form, Move, Calculate, Update, form_bytes, Register}
 pub use Rattle.code_forms.specs.Forms.{instruction_of, Push, Fram, Ram, ToFram, Source, Jump, Skip, Branch, source_bytes, ToRam, target_bytes, WorkRegister, R6}
 pub use Rattle.code_forms.specs.Forms.{R7, work_number, Indexed, HasPushRoom, source_operand, source_value, source_read, SourceNeeds, board_of, Modify, sensed}
 pub use Rattle.code_forms.specs.Forms.{flags_after, calculated, form_step, FormNeeds, IsNotMov, index_of, Sense}

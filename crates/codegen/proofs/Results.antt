@@ -16,14 +16,14 @@ use Rattle.codegen.proofs.Names.{shift_middle, element_code, emit_code, read_cod
 use Rattle.std.specs.Int.{trailing_zeros}
 use Rattle.code_forms.specs.Forms as forms
 use Rattle.codegen.specs.declared.waiting.Waiting.TheVariants as waiting
+use Rattle.codegen.proofs.Registers.{With, HasWord, HasSides, Holds, Has, HasTwo}
+use Rattle.codegen.proofs.Operands.{Waits, AreThese, IsThere, owed_by, owed, none_held, clear_cycles, owed_kept, load_cycles, load_owed, store_cycles}
+use Rattle.codegen.proofs.Operands.{store_owed, Describes, Top, waiting_word, bare, dressed, flush_under, flush_part, clear_under, below_part, top_to_four_part}
+use Rattle.codegen.proofs.Operands.{top_to_five_part, two_to_registers_part, result_waits, waits_more, LoadedSides, right_cycles, reading_cycles, reading_price}
+use Rattle.codegen.proofs.Operands.{right_owed, sides_part, drop_part}
 use Rattle.codegen.proofs.Stretches.{Setting, hop, runs_on, dearer_stall, nothing_run, so_runs, starved}
 use Rattle.codegen.proofs.Memory.{place_is}
 use Rattle.codegen.proofs.Follows.{StandsFor, stands_elsewhere, Follows, Reaches, reach_more, then_reach, reaches, reach_guarded}
-use Rattle.codegen.proofs.Registers.{Has, HasTwo}
-use Rattle.codegen.proofs.Operands.{IsThere, owed_by, owed, none_held, clear_cycles, owed_kept, load_cycles, load_owed, store_cycles, store_owed, Describes}
-use Rattle.codegen.proofs.Operands.{Top, Waits, InRegister, LoadedTwo, waiting_word, bare, dressed, flush_under, flush_part, clear_under, below_part}
-use Rattle.codegen.proofs.Operands.{top_to_four_part, top_to_five_part, two_to_registers_part, result_waits, waits_more, LoadedSides, right_cycles}
-use Rattle.codegen.proofs.Operands.{reading_cycles, reading_price, right_owed, sides_part, drop_part}
 use Rattle.codegen.proofs.LoopBounds.{Bounded, top_inside, under_inside}
 use Rattle.codegen.proofs.Parts.{local_part, keep_part, set_part}
 use Rattle.codegen.proofs.Updates.{plain_needs, update_part, update_local_part}
@@ -68,43 +68,27 @@ module _ (z : Setting) where
 
   -- ---- values
 
-  -- a word in a register, what is made of it, and where that waits
-  after_one : (b h : WorkRegister) (o : Waiting) (ks : List Waiting) (l c most pc pc' : ℕ) (w : WordState) (v r : ℕ) (vs : List ℕ) (u : Core)
-      → any_held ks ≡ false → IsThere z.locals w.locals o → length vs < z.room → l + c + (owed ks + owed_by o) ≤ most
-      → ((f : ℕ → ℕ) → waiting_word w.fram w.locals f o ≡ f (work_number h)) → Runs z.code [] l u (InRegister z b ks pc (with_stack vs w) v)
-      → ((rest : List ℕ) (t : Core) → Has z b pc (with_stack rest w) v t → Runs z.code [] c t (Has z h pc' (with_stack rest w) r))
+  -- words in registers, what is made of them, and where that waits
+  after_words : (P : (ℕ → ℕ) → Type 0) (h : WorkRegister) (o : Waiting) (ks : List Waiting) (l c most pc pc' : ℕ) (w : WordState) (r : ℕ) (vs : List ℕ)
+      (u : Core) → any_held ks ≡ false → IsThere z.locals w.locals o → length vs < z.room → l + c + (owed ks + owed_by o) ≤ most
+      → ((f : ℕ → ℕ) → waiting_word w.fram w.locals f o ≡ f (work_number h)) → Runs z.code [] l u (Waits z ks pc (with_stack vs w) P)
+      → ((rest : List ℕ) (t : Core) → Holds z P pc (with_stack rest w) t → Runs z.code [] c t (Has z h pc' (with_stack rest w) r))
       → Does (o ∷ ks) pc' most u (goes_on [] (with_stack (r ∷ vs) w))
-  after_one b h o ks l c most pc pc' w v r vs u none there room budget word front middle =
+  after_words P h o ks l c most pc pc' w r vs u none there room budget word front middle =
       record {
         spent = l + c;
         within = budget;
-        runs = runs_on z l c u (InRegister z b ks pc (with_stack vs w) v) _ [] [] front (λ t k.
+        runs = runs_on z l c u (Waits z ks pc (with_stack vs w) P) _ [] [] front (λ t k.
             so_runs z [] c t (Has z h pc' (with_stack k.is.rest w) r) _ (λ s j.
-            result_waits z o ks pc' w r vs k.is.rest t.work s k.is.stack (there, k.is.there) none room (word s.work ∙ j.value) j.is)
-            (middle k.is.rest t (record { is = k.is.is; value = k.value })));
-      }
-
-  -- the same of two words
-  after_two : (h : WorkRegister) (o : Waiting) (ks : List Waiting) (l c most pc pc' : ℕ) (w : WordState) (x y r : ℕ) (vs : List ℕ) (u : Core)
-      → any_held ks ≡ false → IsThere z.locals w.locals o → length vs < z.room → l + c + (owed ks + owed_by o) ≤ most
-      → ((f : ℕ → ℕ) → waiting_word w.fram w.locals f o ≡ f (work_number h)) → Runs z.code [] l u (LoadedTwo z ks pc (with_stack vs w) x y)
-      → ((rest : List ℕ) (t : Core) → HasTwo z pc (with_stack rest w) x y t → Runs z.code [] c t (Has z h pc' (with_stack rest w) r))
-      → Does (o ∷ ks) pc' most u (goes_on [] (with_stack (r ∷ vs) w))
-  after_two h o ks l c most pc pc' w x y r vs u none there room budget word front middle =
-      record {
-        spent = l + c;
-        within = budget;
-        runs = runs_on z l c u (LoadedTwo z ks pc (with_stack vs w) x y) _ [] [] front (λ t k.
-            so_runs z [] c t (Has z h pc' (with_stack k.is.rest w) r) _ (λ s j.
-            result_waits z o ks pc' w r vs k.is.rest t.work s k.is.stack (there, k.is.there) none room (word s.work ∙ j.value) j.is)
-            (middle k.is.rest t (record { is = k.is.is; four = k.four; five = k.five })));
+            result_waits z o ks pc' w r vs k.is.rest t.work s k.is.stack (there, k.is.there) none room (word s.work ∙ j.held) j.is)
+            (middle k.is.rest t (record { is = k.is.is; held = k.held })));
       }
 
   -- code that brings the top to a register, and what is made of it in R4
   value_part : (b : WorkRegister) (front ms : List Form) (c most : ℕ) (os : List Waiting) (pc : ℕ) (w : WordState) (y r : ℕ) (rest : List ℕ) (u : Core)
       → 5 + c ≤ most → w.stack ≡ y ∷ rest → Describes z os pc w u
       → (let ks = kept (below_top os) in let mid = pc + forms_bytes front in
-      Runs z.code [] (clear_cycles (below_top os) + load_cycles (top_of os)) u (InRegister z b ks mid (with_stack rest w) y)
+      Runs z.code [] (clear_cycles (below_top os) + load_cycles (top_of os)) u (Waits z ks mid (with_stack rest w) (HasWord b y))
       → ((xs : List ℕ) (t : Core) → Has z b mid (with_stack xs w) y t → Runs z.code [] c t (Has z R4 (mid + forms_bytes ms) (with_stack xs w) r))
       → Does (waiting.R4 ∷ ks) (pc + forms_bytes (front ++ ms)) (most + owed os) u (goes_on [] (with_stack (r ∷ rest) w)))
   value_part b front ms c most os pc w y r rest u l e d come middle =
@@ -113,8 +97,8 @@ module _ (z : Setting) where
       let end : mid + forms_bytes ms ≡ pc + forms_bytes (front ++ ms) = omega (arith, forms_bytes-append front ms) in
       let room : length rest < z.room = omega (arith, d.fits, ap (length {A = ℕ}) e) in
       subst (λ p. Does (waiting.R4 ∷ kept under) p (most + owed os) u (goes_on [] (with_stack (r ∷ rest) w))) end
-      (after_one b R4 waiting.R4 (kept under) (clear_cycles under + load_cycles (top_of os)) c (most + owed os) mid (mid + forms_bytes ms) w y r rest u
-      (none_held under) tt room (omega (arith, l, owed_kept under, load_owed os)) (λ f. refl) come middle)
+      (after_words (HasWord b y) R4 waiting.R4 (kept under) (clear_cycles under + load_cycles (top_of os)) c (most + owed os) mid (mid + forms_bytes ms) w r
+      rest u (none_held under) tt room (omega (arith, l, owed_kept under, load_owed os)) (λ f. refl) come middle)
 
   unary_middles : (o : UnaryOperation) → UnaryMiddle z (unary_middle o) 2 (unary_word o)
   unary_middles Negate = negate_middle z
@@ -329,8 +313,8 @@ module _ (z : Setting) where
       omega (arith, three, owed_kept (below_top under), load_owed os, load_owed under) in
       let back = stands_back z.code pc front ms h in
       subst (λ p. Does (r ∷ ks) p (7 + c + owed os) u (goes_on [] (with_stack (v ∷ rest) w))) end
-      (after_two hand r ks (clear_cycles (below_top under) + (load_cycles first + load_cycles (top_of under))) c (7 + c + owed os) mid (mid + forms_bytes ms)
-      w x y v rest u (none_held (below_top under)) there room paid word
+      (after_words (HasSides x y) hand r ks (clear_cycles (below_top under) + (load_cycles first + load_cycles (top_of under))) c (7 + c + owed os) mid
+      (mid + forms_bytes ms) w v rest u (none_held (below_top under)) there room paid word
       (two_to_registers_part z os pc w x y rest u e (stands_front z.code pc front ms h) d)
       (λ xs t k. m mid x y (with_stack xs w) t lx ly back k))
 
@@ -558,24 +542,11 @@ module _ (z : Setting) where
       (λ t s i. local_part z n v (pc + forms_bytes (flushed os)) w t lt room l q s i)
 
   -- words in registers, and all that waits below is pushed then
-  pub push_under : (b : WorkRegister) (ks : List Waiting) (pc : ℕ) (w : WordState) (v : ℕ) (u : Core) → Stands z.code pc (flushed ks)
-      → InRegister z b ks pc w v u → Runs z.code [] (owed ks) u (Has z b (pc + forms_bytes (flushed ks)) w v)
-  push_under b ks pc w v u h k =
+  pub push_under : {P : (ℕ → ℕ) → Type 0} (ks : List Waiting) (pc : ℕ) (w : WordState) (u : Core) → Stands z.code pc (flushed ks)
+      → With (Describes z ks pc w) P u → Runs z.code [] (owed ks) u (With (StandsFor z (pc + forms_bytes (flushed ks)) w) P)
+  push_under {P} ks pc w u h k =
       let end = pc + forms_bytes (flushed ks) in
-      so_runs z [] (owed ks) u (Waits z [] end w u.work) _
-      (λ t j. record { is = bare z end w t j.is; value = ap (λ (f : ℕ → ℕ). f (work_number b)) j.work ∙ k.value })
-      (flush_under z [] ks pc w u k.is h)
-
-  pub push_under_two : (ks : List Waiting) (pc : ℕ) (w : WordState) (x y : ℕ) (u : Core) → Stands z.code pc (flushed ks)
-      → LoadedTwo z ks pc w x y u → Runs z.code [] (owed ks) u (HasTwo z (pc + forms_bytes (flushed ks)) w x y)
-  push_under_two ks pc w x y u h k =
-      let end = pc + forms_bytes (flushed ks) in
-      so_runs z [] (owed ks) u (Waits z [] end w u.work) _
-      (λ t j. record {
-        is = bare z end w t j.is;
-        four = ap (λ (f : ℕ → ℕ). f 4) j.work ∙ k.four;
-        five = ap (λ (f : ℕ → ℕ). f 5) j.work ∙ k.five;
-      })
+      so_runs z [] (owed ks) u (Waits z [] end w (AreThese u.work)) _ (λ t j. record { is = bare z end w t j.is; held = subst P (sym j.held) k.held })
       (flush_under z [] ks pc w u k.is h)
 
   -- a word that is emitted
@@ -596,9 +567,9 @@ module _ (z : Setting) where
       let here : pc + forms_bytes (front ++ pushes) ≡ mid = omega (arith, forms_bytes-append front pushes) in
       let back = subst (λ p. Stands z.code p ms) here (stands_back z.code pc (front ++ pushes) ms h) in
       let end : mid + 18 ≡ pc + forms_bytes ((front ++ pushes) ++ ms) = omega (arith, here, forms_bytes-append (front ++ pushes) ms) in
-      let come = runs_on z l (owed (kept under)) u (InRegister z R5 (kept under) first left v) (Has z R5 mid left v) [] []
+      let come = runs_on z l (owed (kept under)) u (Waits z (kept under) first left (HasWord R5 v)) (Has z R5 mid left v) [] []
       (top_to_five_part z os pc w v rest u e (stands_front z.code pc front pushes there) d)
-      (λ t k. push_under R5 (kept under) first left v t (stands_back z.code pc front pushes there) k) in
+      (λ t k. push_under (kept under) first left t (stands_back z.code pc front pushes there) k) in
       subst (λ p. Does [] p (16 + owed os) u b) end
       (reach_more z 0 (Describes z [] (mid + 18)) (l + owed (kept under) + 14) (16 + owed os) u b.effects b.end
       (omega (arith, owed_kept under, load_owed os))
@@ -634,9 +605,9 @@ module _ (z : Setting) where
       let here : pc + forms_bytes (front ++ pushes) ≡ mid = omega (arith, forms_bytes-append front pushes) in
       let back = subst (λ p. Stands z.code p ms) here (stands_back z.code pc (front ++ pushes) ms h) in
       let end : last ≡ pc + forms_bytes ((front ++ pushes) ++ ms) = omega (arith, here, forms_bytes-append (front ++ pushes) ms) in
-      let come = runs_on z l (owed ks) u (LoadedTwo z ks first left i v) (HasTwo z mid left i v) [] []
+      let come = runs_on z l (owed ks) u (Waits z ks first left (HasSides i v)) (HasTwo z mid left i v) [] []
       (two_to_registers_part z os pc w i v rest u e (stands_front z.code pc front pushes there) d)
-      (λ t k. push_under_two ks first left i v t (stands_back z.code pc front pushes there) k) in
+      (λ t k. push_under ks first left t (stands_back z.code pc front pushes there) k) in
       subst (λ p. Does [] p (79 + owed os) u b) end
       (reach_more z 0 (Describes z [] last) (l + owed ks + 75) (79 + owed os) u b.effects b.end
       (omega (arith, owed_kept (below_top under), load_owed os, load_owed under))
@@ -680,7 +651,7 @@ module _ (z : Setting) where
       subst (λ p. Does after p (6 + owed os) u b) end
       (reach_more z (owed after) (Describes z after (mid + 4)) (clear_cycles os + (6 + owed (kept os))) (6 + owed os) u b.effects b.end
       (omega (arith, owed_kept os))
-      (then_reach z (owed after) (Describes z after (mid + 4)) (clear_cycles os) (6 + owed (kept os)) u (Waits z (kept os) mid w u.work) [] b.effects b.end
+      (then_reach z (owed after) (Describes z after (mid + 4)) (clear_cycles os) (6 + owed (kept os)) u (Waits z (kept os) mid w (AreThese u.work)) [] b.effects b.end
       (clear_under z [] os pc w u d (stands_front z.code pc front ms h)) (λ t k. by rs t e back k.is)))
     where
       by : (rs : List ℕ) (t : Core) → w.readings ≡ rs → Stands z.code (pc + forms_bytes (cleared os)) (forms.Sense R4 ∷ [])

@@ -6,11 +6,12 @@ use Rattle.codegen.proofs.Names.{Form, Stands, forms_bytes, Runs, stands_front, 
 use Rattle.codegen.proofs.Names.{flushed, top_of, source_from, below_top, is_held, any_held, four_from, five_from, rests, rest_source, to_rest, right_to_rest}
 use Rattle.codegen.proofs.Names.{update_sides}
 use Rattle.codegen.specs.declared.waiting.Waiting.TheVariants as waiting
+use Rattle.codegen.proofs.Registers.{With}
+use Rattle.codegen.proofs.Operands.{Waits, AreThese, IsLoaded, IsThere, owed, owed_least, load_cycles, load_price, load_owed, store_price, number_cases}
+use Rattle.codegen.proofs.Operands.{source_still, source_needs, source_word, Describes, bare, flush_under, drop_part, five_part, four_part}
 use Rattle.codegen.proofs.Stretches.{Setting, runs_on, dearer, nothing_run, so_runs}
 use Rattle.codegen.proofs.Memory.{local_words, local_word, in_register}
 use Rattle.codegen.proofs.Follows.{StandsFor}
-use Rattle.codegen.proofs.Operands.{IsThere, owed, owed_least, load_cycles, load_price, load_owed, store_price, number_cases, source_still, source_needs}
-use Rattle.codegen.proofs.Operands.{source_word, Describes, Waits, Loaded, bare, flush_under, drop_part, five_part, four_part}
 
 -- a source that gives this word on each machine with this FRAM, this word in R5 and these locals in registers
 pub record Gives (x : Source) (v : ℕ) (f : ℕ → ℕ) (five : ℕ) (locals : List ℕ) : Type 0 where
@@ -18,12 +19,17 @@ pub record Gives (x : Source) (v : ℕ) (f : ℕ → ℕ) (five : ℕ) (locals :
   pub needs : (s : Core) → SourceNeeds x s
   pub still : (s : Core) → source_read x s ≡ s
 
--- as they are on this machine
-abbrev pub GivesOn : Source → ℕ → Core → Type 0
-GivesOn x v t = Gives x v t.fram (t.work 5) (local_words t.work)
+-- as registers hold them
+abbrev pub GivesOn : Source → ℕ → (ℕ → ℕ) → (ℕ → ℕ) → Type 0
+GivesOn x v f g = Gives x v f (g 5) (local_words g)
 
-five_gives : (v : ℕ) (t : Core) → t.work 5 ≡ v → GivesOn (Register R5) v t
-five_gives v t e = record { word = λ s f g l. g ∙ e; needs = λ s. tt; still = λ s. refl }
+-- R4 holds a word, and a source gives another
+pub record Aiming (x : Source) (k v : ℕ) (f g : ℕ → ℕ) : Type 0 where
+  pub four : g 4 ≡ k
+  pub gives : GivesOn x v f g
+
+five_gives : (v : ℕ) (f g : ℕ → ℕ) → g 5 ≡ v → GivesOn (Register R5) v f g
+five_gives v f g e = record { word = λ s a b l. b ∙ e; needs = λ s. tt; still = λ s. refl }
 
 -- a word that waits in no register for work is the same where FRAM and the locals are
 word_rests : (most : ℕ) (locals : ℕ → Option ℕ) (o : Waiting) (s t : Core) → is_held o ≡ false → IsThere most locals o → s.fram ≡ t.fram
@@ -35,19 +41,18 @@ word_rests most locals (waiting.Local n) s t b h f l =
 word_rests most locals waiting.R4 s t b h f l = absurd (let q = b in (cc))
 word_rests most locals waiting.R6 s t b h f l = absurd (let q = b in (cc))
 
-waiting_gives : (most : ℕ) (locals : ℕ → Option ℕ) (o : Waiting) (v : ℕ) (t : Core) → is_held o ≡ false → IsThere most locals o
-    → source_value (waiting_source o) t ≡ v → GivesOn (waiting_source o) v t
-waiting_gives most locals o v t b h e =
+waiting_gives : (most : ℕ) (locals : ℕ → Option ℕ) (o : Waiting) (v : ℕ) (f : ℕ → ℕ) (t : Core) → is_held o ≡ false → IsThere most locals o
+    → t.fram ≡ f → source_value (waiting_source o) t ≡ v → GivesOn (waiting_source o) v f t.work
+waiting_gives most locals o v f t b h e q =
     record {
-      word = λ s f g l. word_rests most locals o s t b h f l ∙ e;
+      word = λ s a c l. word_rests most locals o s t b h (a ∙ sym e) l ∙ q;
       needs = λ s. source_needs most locals o s h;
       still = λ s. source_still o s;
     }
 
--- another machine, where these are the same
-pub gives_on : (x : Source) (v : ℕ) (u t : Core) → GivesOn x v u → t.fram ≡ u.fram → t.work 5 ≡ u.work 5 → local_words t.work ≡ local_words u.work
-    → GivesOn x v t
-gives_on x v u t k f g l = record { word = λ s a b c. k.word s (a ∙ f) (b ∙ g) (c ∙ l); needs = k.needs; still = k.still }
+-- with other registers, where these are the same
+gives_on : (x : Source) (v : ℕ) (f g h : ℕ → ℕ) → GivesOn x v f g → h 5 ≡ g 5 → local_words h ≡ local_words g → GivesOn x v f h
+gives_on x v f g h k e l = record { word = λ s a b c. k.word s a (b ∙ e) (c ∙ l); needs = k.needs; still = k.still }
 
 -- where but R4 is the same, the locals in registers are
 locals_same : (f g : ℕ → ℕ) → ((n : ℕ) → (n ≡ 4 → ⊥) → f n ≡ g n) → local_words f ≡ local_words g
@@ -100,15 +105,12 @@ rest_owed os = rest_by_owed (rests (top_of os)) os refl
 
 module _ (z : Setting) where
   -- a source gives a word, and these words wait still
-  pub record Rested (x : Source) (os : List Waiting) (pc : ℕ) (w : WordState) (v : ℕ) (t : Core) : Type 0 where
-    pub is : Describes z os pc w t
-    pub gives : GivesOn x v t
+  abbrev pub Rested : Source → List Waiting → ℕ → WordState → ℕ → Core → Type 0
+  Rested x os pc w v = With (Describes z os pc w) (GivesOn x v w.fram)
 
   -- R4 holds a word, a source gives another, and none waits
-  pub record Aims (x : Source) (pc : ℕ) (w : WordState) (k v : ℕ) (t : Core) : Type 0 where
-    pub is : StandsFor z pc w t
-    pub four : t.work 4 ≡ k
-    pub gives : GivesOn x v t
+  abbrev pub Aims : Source → ℕ → WordState → ℕ → ℕ → Core → Type 0
+  Aims x pc w k v = With (StandsFor z pc w) (Aiming x k v w.fram)
 
   rest_by : (b : Bool) (os : List Waiting) (pc : ℕ) (w : WordState) (v : ℕ) (vs : List ℕ) (u : Core) → rests (top_of os) ≡ b → w.stack ≡ v ∷ vs
       → (let ms : List Form = if b then [] else five_from (top_of os) in
@@ -120,12 +122,13 @@ module _ (z : Setting) where
       let same : pc ≡ pc + 0 = omega arith in
       nothing_run z u _ (record {
         is = subst (λ n. Describes z os n (with_stack vs w) u) same k.0;
-        gives = waiting_gives z.locals w.locals o v u (not_true (is_held o) b) d.there.0 (source_word z o pc (with_stack d.rest w) u d.is d.there.0 ∙ k.1);
+        held = waiting_gives z.locals w.locals o v w.fram u (not_true (is_held o) b) d.there.0 d.is.fram
+            (source_word z o pc (with_stack d.rest w) u d.is d.there.0 ∙ k.1);
       })
   rest_by false os pc w v vs u b e h d =
       let end = pc + forms_bytes (five_from (top_of os)) in
-      so_runs z [] (load_cycles (top_of os)) u (Loaded z R5 (below_top os) end (with_stack vs w) v u.work) _
-      (λ t j. record { is = j.is; gives = five_gives v t j.value }) (five_part z os pc w v vs u e h d)
+      so_runs z [] (load_cycles (top_of os)) u (Waits z (below_top os) end (with_stack vs w) (IsLoaded R5 v u.work)) _
+      (λ t j. record { is = j.is; held = five_gives v w.fram t.work j.held.value }) (five_part z os pc w v vs u e h d)
 
   -- the right side to where it is read
   rest_part : (os : List Waiting) (pc : ℕ) (w : WordState) (v : ℕ) (vs : List ℕ) (u : Core) → w.stack ≡ v ∷ vs → Stands z.code pc (to_rest (top_of os))
@@ -148,14 +151,17 @@ module _ (z : Setting) where
       let end : mid + forms_bytes second ≡ pc + forms_bytes (first ++ second) = omega (arith, forms_bytes-append first second) in
       runs_on z (rest_cycles (top_of os)) (load_cycles (top_of under)) u (Rested x under mid left v) _ [] []
       (rest_part os pc w v (i ∷ vs) u e (stands_front z.code pc first second h) d) (λ t k.
-      so_runs z [] (load_cycles (top_of under)) t (Loaded z R4 (below_top under) (mid + forms_bytes second) last i t.work) _
+      so_runs z [] (load_cycles (top_of under)) t (Waits z (below_top under) (mid + forms_bytes second) last (IsLoaded R4 i t.work)) _
       (λ s j.
       let there = subst (λ n. Describes z (below_top under) n last s) end j.is in
       let here = bare z (pc + forms_bytes (first ++ second)) last s (subst (λ ws. Describes z ws (pc + forms_bytes (first ++ second)) last s) none there) in
       record {
         is = here;
-        four = j.value;
-        gives = gives_on x v t s k.gives (here.fram ∙ sym k.is.is.fram) (j.others 5 (λ q. omega (arith, q))) (locals_same s.work t.work j.others);
+        held =
+            record {
+              four = j.held.value;
+              gives = gives_on x v w.fram t.work s.work k.held (j.held.others 5 (λ q. omega (arith, q))) (locals_same s.work t.work j.held.others);
+            };
       })
       (four_part z under mid left i vs t refl (ap any_held none) (stands_back z.code pc first second h) k.is))
 
@@ -173,7 +179,7 @@ module _ (z : Setting) where
       let mid = pc + forms_bytes front in
       let end : mid + forms_bytes more ≡ pc + forms_bytes (front ++ more) = omega (arith, forms_bytes-append front more) in
       subst (λ n. Runs z.code [] (owed os + (rest_cycles (Some o) + 3)) u (Aims (rest_source (Some o)) n (with_stack vs w) i v)) end
-      (runs_on z (owed os) (rest_cycles (Some o) + 3) u (Waits z (o ∷ (p ∷ [])) mid w u.work) _ [] []
+      (runs_on z (owed os) (rest_cycles (Some o) + 3) u (Waits z (o ∷ (p ∷ [])) mid w (AreThese u.work)) _ [] []
       (flush_under z (o ∷ (p ∷ [])) os pc w u d (stands_front z.code pc front more h)) (λ t k.
       sides_run (o ∷ (p ∷ [])) mid w i v vs t refl e (stands_back z.code pc front more h) k.is))
 
@@ -188,6 +194,6 @@ module _ (z : Setting) where
       let mid = pc + forms_bytes front in
       let end : mid + forms_bytes more ≡ pc + forms_bytes (front ++ more) = omega (arith, forms_bytes-append front more) in
       subst (λ n. Runs z.code [] (owed os + rest_cycles (Some o)) u (Rested (rest_source (Some o)) (p ∷ []) n (with_stack vs w) v)) end
-      (runs_on z (owed os) (rest_cycles (Some o)) u (Waits z (o ∷ (p ∷ [])) mid w u.work) _ [] []
+      (runs_on z (owed os) (rest_cycles (Some o)) u (Waits z (o ∷ (p ∷ [])) mid w (AreThese u.work)) _ [] []
       (flush_under z (o ∷ (p ∷ [])) os pc w u d (stands_front z.code pc front more h)) (λ t k.
       rest_part (o ∷ (p ∷ [])) mid w v vs t e (stands_back z.code pc front more h) k.is))

@@ -5,11 +5,11 @@ use Rattle.codegen.proofs.Names.{source_value, source_read, ToRegister, ToRam, M
 use Rattle.codegen.proofs.Names.{Stands, forms_bytes, forms_run, Runs, stands_at, end_of, PlainOperation, Add, plain_word, WordState, goes_on, with_stack}
 use Rattle.codegen.proofs.Names.{stored, assigned, with_local, is_place, word_stored, Waiting, plain_instruction, local_register, local_address, source_from}
 use Rattle.codegen.proofs.Names.{ram_update, update_code}
+use Rattle.codegen.proofs.Registers.{Has, HasTwo}
+use Rattle.codegen.proofs.Operands.{Top, bare, load_cycles, load_price, store_cycles, store_price, to_five_part}
 use Rattle.codegen.proofs.Stretches.{Setting, straight, hop, runs_on, dearer}
 use Rattle.codegen.proofs.Memory.{local_words, in_register, in_ram, Memory, local_needs, set_register, set_ram, place_is}
 use Rattle.codegen.proofs.Follows.{StandsFor, Follows, guarded}
-use Rattle.codegen.proofs.Registers.{Has, HasTwo}
-use Rattle.codegen.proofs.Operands.{Top, bare, load_cycles, load_price, store_cycles, store_price, to_five_part}
 use Rattle.codegen.proofs.Middles.{makes, plain_middle}
 
 -- the instruction reads its destination and writes it; of each operation alike: the first clause makes it a proof by cases
@@ -84,8 +84,7 @@ module _ (z : Setting) where
       (stands_at z.code mid ms t h.1 i.at) ((local_needs z n lt, tt), tt) refl (omega arith)
       (record {
         is = record { at = omega (arith, i.at); memory = i.memory; fram = i.fram; readings = i.readings };
-        four = in_ram (local_words t.work) t.ram n b ∙ i.memory.vars n y lt q;
-        five = j.value;
+        held = record { four = in_ram (local_words t.work) t.ram n b ∙ i.memory.vars n y lt q; five = j.held };
       }))
 
   -- R4 to a local in RAM
@@ -100,7 +99,7 @@ module _ (z : Setting) where
       (record {
         at = omega (arith, i.at);
         memory =
-            subst (λ y. Memory z t.sp (put t.ram (local_address n) y) (local_words t.work) w.stack (assigned w.locals n v)) (sym k.value)
+            subst (λ y. Memory z t.sp (put t.ram (local_address n) y) (local_words t.work) w.stack (assigned w.locals n v)) (sym k.held)
             (set_ram z t.sp n v t.ram (local_words t.work) w.stack w.locals b lt i.memory);
         fram = i.fram;
         readings = i.readings;

@@ -3,27 +3,28 @@ use Rattle.std.proofs.Common.{◌≡◌, ℕ, ◌+◌, ◌-◌, ◌*◌, ◌%◌
 use Rattle.std.proofs.Common.{None, refl, sym, ap, ap₂, ◌∙◌, subst, arith}
 use Rattle.codegen.proofs.Names.{AllByRecursion, word_sum, Word, operated, sum16, distance, cycles_of, source_cycles, to_register, to_memory, Store, put, Goes}
 use Rattle.codegen.proofs.Names.{IsFram, R4, R6, R7, Core, Source, source_bytes, source_value, source_operand, Register, Number, Fram, Indexed, ToRegister}
-use Rattle.codegen.proofs.Names.{ToIndexed, Form, Move, Calculate, Update, Jump, flags_after, calculated, instruction_of, form_bytes, Stands, forms_bytes}
-use Rattle.codegen.proofs.Names.{forms_run, Runs, stands_at, stands_front, stands_back, end_of, forms_bytes-append, PlainOperation, ArrayPlace, ListPlace}
-use Rattle.codegen.proofs.Names.{plain_word, versioned_update, WordState, Behaviour, goes_on, behind_effects, with_two, with_stack, is_place, at_place, stored}
-use Rattle.codegen.proofs.Names.{first_stored, own_place, own_kept, own_updated, versioned_updated, plain_small, put_words, Bound, Waiting, top_of, below_top}
-use Rattle.codegen.proofs.Names.{plain_instruction, first_code, size, double, rest_source, right_to_rest, update_sides, made_code, attempt_form, first_update}
-use Rattle.codegen.proofs.Names.{by_version, inside_update, checked_update, indexed_update, known_update, update_at, is_inside, step_code}
+use Rattle.codegen.proofs.Names.{ToIndexed, Form, Move, Calculate, Update, Jump, flags_after, calculated, instruction_of, form_bytes, Stands, forms_bytes, Runs}
+use Rattle.codegen.proofs.Names.{stands_front, stands_back, forms_bytes-append, PlainOperation, ArrayPlace, ListPlace, plain_word, versioned_update, WordState}
+use Rattle.codegen.proofs.Names.{Behaviour, goes_on, behind_effects, with_two, with_stack, is_place, at_place, stored, first_stored, own_place, own_kept}
+use Rattle.codegen.proofs.Names.{own_updated, versioned_updated, plain_small, put_words, Bound, Waiting, top_of, below_top, plain_instruction, first_code, size}
+use Rattle.codegen.proofs.Names.{double, rest_source, right_to_rest, update_sides, made_code, attempt_form, first_update, by_version, inside_update}
+use Rattle.codegen.proofs.Names.{checked_update, indexed_update, known_update, update_at, is_inside, step_code}
 use Rattle.msp_isa.specs.declared.instructions.Condition.TheVariants as condition
 use Rattle.msp_isa.specs.declared.instructions.TwoOp.TheVariants as op
 use Rattle.codegen.specs.declared.waiting.Waiting.TheVariants as waiting
-use Rattle.codegen.proofs.Stretches.{Setting, straight, hop, runs_on, dearer, so_runs}
+use Rattle.codegen.proofs.UpdateSides.{Aiming, GivesOn, Rested, Aims, rest_cycles, reads_cycles, reads_price, writes_price, rest_owed, update_sides_part}
+use Rattle.codegen.proofs.UpdateSides.{right_part}
+use Rattle.codegen.proofs.VersionParts.{HasNumber}
+use Rattle.codegen.proofs.Registers.{Holds, Has, Flagged, IsZero, IsCarry, line, store_line, jump_with, jump_to, equal_flag, no_borrow}
+use Rattle.codegen.proofs.Operands.{owed, load_cycles, load_owed, Describes, bare, dressed, drop_part}
+use Rattle.codegen.proofs.Stretches.{Setting, hop, runs_on, dearer, so_runs}
 use Rattle.codegen.proofs.Memory.{place_is}
 use Rattle.codegen.proofs.Follows.{StandsFor, Follows, more_cycles, then_end, ends_at, guarded, stands_elsewhere, reach_more, then_reach, reaches}
-use Rattle.codegen.proofs.Registers.{equal_flag, Has, jump_to, no_borrow}
-use Rattle.codegen.proofs.Products.{jump_exact}
 use Rattle.codegen.proofs.Jumps.{whole_size, near_distance, stands_low}
 use Rattle.codegen.proofs.Access.{le_of_lt}
 use Rattle.codegen.proofs.Middles.{makes}
 use Rattle.codegen.proofs.Updates.{plain_needs}
-use Rattle.codegen.proofs.Operands.{owed, load_cycles, load_owed, Describes, bare, dressed, drop_part}
 use Rattle.codegen.proofs.LoopBounds.{Bounded, under_inside}
-use Rattle.codegen.proofs.UpdateSides.{GivesOn, Rested, Aims, rest_cycles, reads_cycles, reads_price, writes_price, rest_owed, update_sides_part, right_part}
 use Rattle.codegen.proofs.ListParts.{first_follows}
 use Rattle.codegen.proofs.UpdateBytes.{reads_bytes, made_bytes, first_bytes, inside_bytes, near_size}
 use Rattle.codegen.proofs.Results.{Does}
@@ -47,53 +48,44 @@ known_offset k base h = omega arith
 module _ (z : Setting) (o : PlainOperation) (x : Source) (r : ℕ) (reads : source_cycles to_register (source_operand x) ≤ r) (place : ArrayPlace)
     (list : ListPlace) where
   -- a flag says besides whether the version word is VER's
-  record Looked (pc : ℕ) (w : WordState) (k v : ℕ) (b : Bool) (t : Core) : Type 0 where
-    aims : Aims z x pc w k v t
-    flag : t.flags.z ≡ b
+  abbrev Looked : ℕ → WordState → ℕ → ℕ → Bool → Core → Type 0
+  Looked pc w k v b = Flagged z (Aiming x k v w.fram) (IsZero b) pc w
 
   -- R7 holds a third word besides
-  record Fetched (pc : ℕ) (w : WordState) (k v y : ℕ) (t : Core) : Type 0 where
-    aims : Aims z x pc w k v t
-    seven : t.work 7 ≡ y
+  record Fetched (w : WordState) (k v y : ℕ) (g : ℕ → ℕ) : Type 0 where
+    aims : Aiming x k v w.fram g
+    seven : g 7 ≡ y
 
   -- R4 holds a word and R7 another
-  record Made (pc : ℕ) (w : WordState) (k y : ℕ) (t : Core) : Type 0 where
-    is : StandsFor z pc w t
-    four : t.work 4 ≡ k
-    seven : t.work 7 ≡ y
-
-  -- R4 holds a word and R6 VER's
-  record Numbered (pc : ℕ) (w : WordState) (k : ℕ) (t : Core) : Type 0 where
-    is : StandsFor z pc w t
-    four : t.work 4 ≡ k
-    six : t.work 6 ≡ w.fram list.ver
+  record Made (k y : ℕ) (g : ℕ → ℕ) : Type 0 where
+    four : g 4 ≡ k
+    seven : g 7 ≡ y
 
   -- ---- the operation
 
   -- what the operation gives of R7 and of the source
   make_part : (pc k v y : ℕ) (w : WordState) (t : Core) → y < 0x10000 → v < 0x10000
-      → (let m = Calculate (plain_instruction o) x R7 in z.code pc ≡ Some (instruction_of m) → Fetched pc w k v y t
-      → Runs z.code [] r t (Made (pc + form_bytes m) w k (plain_word o y v)))
+      → (let m = Calculate (plain_instruction o) x R7 in z.code pc ≡ Some (instruction_of m) → Holds z (Fetched w k v y) pc w t
+      → Runs z.code [] r t (Holds z (Made k (plain_word o y v)) (pc + form_bytes m) w))
   make_part pc k v y w t ly lv h j =
       let m = Calculate (plain_instruction o) x R7 in
       let price = cycles_of (instruction_of m) in
       let made = plain_word o y v in
-      let a = j.aims in
+      let a = j.held.aims in
       let shape : Core → Core = λ q. calculated (plain_instruction o) R7 (operated (plain_instruction o) Word (q.work 7) (source_value x t) t.flags)
       (record q { pc = t.pc + (2 + source_bytes x) }) in
       let does = operated (plain_instruction o) Word (t.work 7) (source_value x t) t.flags in
-      let is : does.value ≡ made = ap₂ (λ p q. (operated (plain_instruction o) Word p q t.flags).value) j.seven (a.gives.word t refl refl refl)
+      let is : does.value ≡ made = ap₂ (λ p q. (operated (plain_instruction o) Word p q t.flags).value) j.held.seven (a.gives.word t j.is.fram refl refl)
       ∙ makes o y v t.flags ly lv in
       let needs = plain_needs o in
       let after : (ℕ → ℕ) → Core = λ f. record t { pc = t.pc + (2 + source_bytes x); flags = flags_after does.flags t.flags; work = f } in
-      hop z m r t (after (put t.work 7 made)) [] price _ (ap z.code a.is.at ∙ h) (needs.0, a.gives.needs t)
+      hop z m r t (after (put t.work 7 made)) [] price _ (ap z.code j.is.at ∙ h) (needs.0, a.gives.needs t)
       (ap (λ q. Goes [] price (shape q)) (a.gives.still t)
       ∙ ap (λ b. Goes [] price (after (if b then put t.work 7 does.value else t.work))) needs.1 ∙ ap (λ p. Goes [] price (after (put t.work 7 p))) is) reads
       (record {
-        is = stands_elsewhere z pc (pc + form_bytes m) w t (after (put t.work 7 made)) a.is (ap (λ p. p + (2 + source_bytes x)) a.is.at)
+        is = stands_elsewhere z pc (pc + form_bytes m) w t (after (put t.work 7 made)) j.is (ap (λ p. p + (2 + source_bytes x)) j.is.at)
             refl refl refl refl refl;
-        four = a.four;
-        seven = refl;
+        held = record { four = a.four; seven = refl };
       })
 
   -- a copy becomes what the operation gives of a word and of the source
@@ -111,50 +103,33 @@ module _ (z : Setting) (o : PlainOperation) (x : Source) (r : ℕ) (reads : sour
       let last = Move (Register R7) (ToIndexed R4 place.copies) ∷ [] in
       let mid = pc + 4 + form_bytes m in
       let there : mid + 4 ≡ pc + forms_bytes (made_code o x from place.copies) = omega arith in
-      let fetched : Runs z.code [] 3 t (Fetched (pc + 4) w (2 * i) v (w.fram a)) =
-      straight z fetch 3 t (end_of t (forms_run fetch t).status) [] 3 _ (tt, tt) (stands_at z.code pc fetch t (h.0, tt) k.is.at)
-      ((subst (λ q. IsFram (q + from)) (sym k.four) ff, tt), tt) refl (omega arith)
-      (record {
-        aims =
+      let fetched : Runs z.code [] 3 t (Holds z (Fetched w (2 * i) v (w.fram a)) (pc + 4) w) =
+      line z fetch 3 (pc + 4) _ k.is (tt, tt) (h.0, tt) ((subst (λ q. IsFram (q + from)) (sym k.held.four) ff, tt), tt) refl refl (omega (arith, k.is.at))
+      (λ s. record {
+        is = s;
+        held =
             record {
-              is = stands_elsewhere z pc (pc + 4) w t _ k.is (omega (arith, k.is.at)) refl refl refl refl refl;
-              four = k.four;
-              gives = k.gives;
+              aims = record { four = k.held.four; gives = k.held.gives };
+              seven = ap (λ q. t.fram (q + from)) k.held.four ∙ ap (λ f. f a) k.is.fram;
             };
-        seven = ap (λ q. t.fram (q + from)) k.four ∙ ap (λ f. f a) k.is.fram;
       }) in
-      let kept : (u : Core) → Made mid w (2 * i) y u → Runs z.code (Store c y ∷ []) 4 u (Has z R4 (mid + 4) (stored c y w) (2 * i)) =
+      let kept : (u : Core) → Holds z (Made (2 * i) y) mid w u → Runs z.code (Store c y ∷ []) 4 u (Has z R4 (mid + 4) (stored c y w) (2 * i)) =
       λ u j.
-      let at : u.work 4 + place.copies ≡ c = ap (λ q. q + place.copies) j.four in
-      subst (λ es. Runs z.code es 4 u (Has z R4 (mid + 4) (stored c y w) (2 * i))) (ap₂ (λ p q. Store p q ∷ []) at j.seven)
-      (straight z last 4 u (end_of u (forms_run last u).status) (Store (u.work 4 + place.copies) (u.work 7) ∷ []) 4 _ (tt, tt)
-      (stands_at z.code mid last u h.1.1 j.is.at) ((tt, subst IsFram (sym at) fc), tt) refl (omega arith)
-      (record {
-        is =
-            record {
-              at = omega (arith, j.is.at);
-              memory = j.is.memory;
-              fram = ap₂ (λ p q. put u.fram p q) at j.seven ∙ ap (λ f. put f c y) j.is.fram;
-              readings = j.is.readings;
-            };
-        value = j.four;
-      })) in
+      let at : u.work 4 + place.copies ≡ c = ap (λ q. q + place.copies) j.held.four in
+      store_line z last (Store c y ∷ []) (put w.fram c y) 4 (mid + 4) _ j.is (tt, tt) h.1.1 ((tt, subst IsFram (sym at) fc), tt) refl refl
+      (omega (arith, j.is.at)) (λ e. Store (at e) (j.held.seven e) ∷ []) (λ e. put (j.is.fram e) (at e) (j.held.seven e))
+      (λ s. record { is = s; held = j.held.four }) in
       dearer z (Store c y ∷ []) (3 + (r + 4)) (7 + r) t _ (omega arith)
       (subst (λ p. Runs z.code (Store c y ∷ []) (3 + (r + 4)) t (Has z R4 p (stored c y w) (2 * i))) there
-      (runs_on z 3 (r + 4) t (Fetched (pc + 4) w (2 * i) v (w.fram a)) _ [] (Store c y ∷ []) fetched (λ u j.
-      runs_on z r 4 u (Made mid w (2 * i) y) _ [] (Store c y ∷ []) (make_part (pc + 4) (2 * i) v (w.fram a) w u (wl a) lv h.1.0 j) kept)))
+      (runs_on z 3 (r + 4) t (Holds z (Fetched w (2 * i) v (w.fram a)) (pc + 4) w) _ [] (Store c y ∷ []) fetched (λ u j.
+      runs_on z r 4 u (Holds z (Made (2 * i) y) mid w) _ [] (Store c y ∷ []) (make_part (pc + 4) (2 * i) v (w.fram a) w u (wl a) lv h.1.0 j) kept)))
 
   -- VER's word
   number_part : (pc k : ℕ) (w : WordState) (t : Core) → IsFram list.ver → z.code pc ≡ Some (instruction_of (attempt_form list)) → Has z R4 pc w k t
-      → Runs z.code [] 3 t (Numbered (pc + 4) w k)
+      → Runs z.code [] 3 t (Holds z (HasNumber k (w.fram list.ver)) (pc + 4) w)
   number_part pc k w t fv h j =
-      let ms = attempt_form list ∷ [] in
-      straight z ms 3 t (end_of t (forms_run ms t).status) [] 3 _ (tt, tt) (stands_at z.code pc ms t (h, tt) j.is.at) ((fv, tt), tt) refl (omega arith)
-      (record {
-        is = stands_elsewhere z pc (pc + 4) w t _ j.is (omega (arith, j.is.at)) refl refl refl refl refl;
-        four = j.value;
-        six = ap (λ f. f list.ver) j.is.fram;
-      })
+      line z (attempt_form list ∷ []) 3 (pc + 4) _ j.is (tt, tt) (h, tt) ((fv, tt), tt) refl refl (omega (arith, j.is.at))
+      (λ s. record { is = s; held = record { four = j.held; six = ap (λ f. f list.ver) j.is.fram } })
 
   -- the first update of an element in an attempt
   first_part : (pc i v : ℕ) (w : WordState) (t : Core) → ((a : ℕ) → w.fram a < 0x10000) → v < 0x10000 → IsFram list.ver → IsFram (2 * i + place.versions)
@@ -176,8 +151,8 @@ module _ (z : Setting) (o : PlainOperation) (x : Source) (r : ℕ) (reads : sour
       (more_cycles z (mid + 4 + 92) (7 + r + (3 + 58)) (68 + r) t (Store c y ∷ b.effects) b.end (omega arith)
       (then_end z (mid + 4 + 92) (7 + r) (3 + 58) t (Has z R4 mid s (2 * i)) (Store c y ∷ []) b.effects b.end
       (made_part place.elements pc i v w t wl lv fe fc (stands_front z.code pc ms rest h) k) (λ u j.
-      then_end z (mid + 4 + 92) 3 58 u (Numbered (mid + 4) s (2 * i)) [] b.effects b.end (number_part mid (2 * i) s u fv back.0 j) (λ q n.
-      first_follows z place list (mid + 4) back.1 i s q sl fc fm n.is n.four n.six))))
+      then_end z (mid + 4 + 92) 3 58 u (Holds z (HasNumber (2 * i) (s.fram list.ver)) (mid + 4) s) [] b.effects b.end (number_part mid (2 * i) s u fv back.0 j) (λ q n.
+      first_follows z place list (mid + 4) back.1 i s q sl fc fm n.is n.held.four n.held.six))))
 
   -- ---- one way or the other
 
@@ -198,17 +173,12 @@ module _ (z : Setting) (o : PlainOperation) (x : Source) (r : ℕ) (reads : sour
     low : pc + 2 + forms_bytes (next ++ first) < 0x10000
     low = let high = (z.tidy pc _ h.0).high in stands_low z (pc + 2) (next ++ first) h.1 (omega arith)
 
-    -- the same machine at another place
-    moved : (pc' k v : ℕ) (w : WordState) (t : Core) → Aims z x pc w k v t → Aims z x pc' w k v (record t { pc = pc' })
-    moved pc' k v w t a = record { is = stands_elsewhere z pc pc' w t _ a.is refl refl refl refl refl refl; four = a.four; gives = a.gives }
-
     -- the version word is VER's
     again_way : (c y n k v : ℕ) (w s : WordState) (t : Core) → Looked pc w k v true t
         → ((u : Core) → Stands z.code (pc + 2) again → Aims z x (pc + 2) w k v u
         → Runs z.code (Store c y ∷ []) n u (StandsFor z (pc + 2 + forms_bytes again) s))
         → Runs z.code (Store c y ∷ []) (2 + (n + 2)) t (StandsFor z end s)
     again_way c y n k v w s t j f =
-        let p = j.aims.is.at in
         let mid = pc + 2 + forms_bytes again in
         let front = stands_front z.code (pc + 2) next first h.1 in
         let leaves = (stands_back z.code (pc + 2) again leave front).0 in
@@ -217,7 +187,7 @@ module _ (z : Setting) (o : PlainOperation) (x : Source) (r : ℕ) (reads : sour
         let to : sum16 (mid + 2) (distance (size first)) ≡ end =
         lands mid first (near_size first 400 lf (omega arith)) (omega (arith, low, behind, inner)) ∙ omega (arith, behind, inner) in
         runs_on z 2 (n + 2) t (Aims z x (pc + 2) w k v) _ [] (Store c y ∷ [])
-        (jump_exact z condition.NotEqual (size next) (pc + 2) false t _ (ap z.code p ∙ h.0) (ap not j.flag) (ap (λ q. q + 2) p) (moved (pc + 2) k v w t j.aims))
+        (jump_with z condition.NotEqual (size next) pc (pc + 2) false h.0 (ap not j.flag) refl j.all)
         (λ u a. runs_on z n 2 u (StandsFor z mid s) _ (Store c y ∷ []) [] (f u (stands_front z.code (pc + 2) again leave front) a)
         (λ q i. jump_to z condition.Always (size first) mid end true s q leaves refl to i))
 
@@ -226,14 +196,12 @@ module _ (z : Setting) (o : PlainOperation) (x : Source) (r : ℕ) (reads : sour
         → (let mid = pc + 2 + forms_bytes next in
         ((u : Core) → Stands z.code mid first → Aims z x mid w k v u → Follows z (mid + forms_bytes first) n u b) → Follows z end (2 + n) t b)
     first_way n k v w t b j f =
-        let p = j.aims.is.at in
         let mid = pc + 2 + forms_bytes next in
         let behind = forms_bytes-append next first in
         let to : sum16 (pc + 2) (distance (size next)) ≡ mid = lands pc next next_size (omega (arith, low, behind)) in
         ends_at z (mid + forms_bytes first) end (2 + n) t b (omega (arith, behind))
         (then_end z (mid + forms_bytes first) 2 n t (Aims z x mid w k v) [] b.effects b.end
-        (jump_exact z condition.NotEqual (size next) mid true t _ (ap z.code p ∙ h.0) (ap not j.flag) (ap (λ q. sum16 (q + 2) (distance (size next))) p ∙ to)
-        (moved mid k v w t j.aims))
+        (jump_with z condition.NotEqual (size next) pc mid true h.0 (ap not j.flag) to j.all)
         (λ u a. f u (stands_back z.code (pc + 2) next first h.1) a))
 
   -- ---- an update at the index in R4, which is below the length
@@ -247,16 +215,11 @@ module _ (z : Setting) (o : PlainOperation) (x : Source) (r : ℕ) (reads : sour
       → Runs z.code [] 7 t (Looked (pc + 10) w (2 * i) v (w.fram list.ver == w.fram (2 * i + place.versions)))
   look_part pc i v w t wl fv fm h k =
       let m = 2 * i + place.versions in
-      let d : (t.work 4 + t.work 4 + 0) % 0x10000 ≡ 2 * i = ap (λ q. (q + q + 0) % 0x10000) k.four ∙ doubled i place.versions fm.high in
-      straight z looking 7 t (end_of t (forms_run looking t).status) [] 7 _ (tt, (tt, (tt, tt))) (stands_at z.code pc looking t h k.is.at)
-      ((tt, tt), ((fv, tt), ((tt, subst (λ q. IsFram (q + place.versions)) (sym d) fm), tt))) refl (omega arith)
-      (record {
-        aims =
-            record {
-              is = stands_elsewhere z pc (pc + 10) w t _ k.is (omega (arith, k.is.at)) refl refl refl refl refl;
-              four = d;
-              gives = k.gives;
-            };
+      let d : (t.work 4 + t.work 4 + 0) % 0x10000 ≡ 2 * i = ap (λ q. (q + q + 0) % 0x10000) k.held.four ∙ doubled i place.versions fm.high in
+      line z looking 7 (pc + 10) _ k.is (tt, (tt, (tt, tt))) h
+      ((tt, tt), ((fv, tt), ((tt, subst (λ q. IsFram (q + place.versions)) (sym d) fm), tt))) refl refl (omega (arith, k.is.at))
+      (λ s. record {
+        all = record { is = s; held = record { four = d; gives = k.held.gives } };
         flag = ap₂ (λ p q. (p + (0xFFFF - q) + 1) % 0x10000 == 0) (ap (λ f. f list.ver) k.is.fram)
             (ap (λ q. t.fram (q + place.versions)) d ∙ ap (λ f. f m) k.is.fram)
             ∙ equal_flag (w.fram list.ver) (w.fram m) (wl list.ver) (wl m);
@@ -329,25 +292,13 @@ module _ (z : Setting) (o : PlainOperation) (x : Source) (r : ℕ) (reads : sour
 
   -- ---- at any index in R4
 
-  record Compared (pc : ℕ) (w : WordState) (i v : ℕ) (b : Bool) (t : Core) : Type 0 where
-    aims : Aims z x pc w i v t
-    flag : t.flags.c ≡ b
-
   compared_part : (pc i v : ℕ) (w : WordState) (t : Core) → i < 0x10000 → place.length < 0x10000
       → z.code pc ≡ Some (instruction_of (Calculate op.Cmp (Number place.length) R4)) → Aims z x pc w i v t
-      → Runs z.code [] 2 t (Compared (pc + 4) w i v (nat_le place.length i))
+      → Runs z.code [] 2 t (Flagged z (Aiming x i v w.fram) (IsCarry (nat_le place.length i)) (pc + 4) w)
   compared_part pc i v w t li ln h k =
-      let ms = Calculate op.Cmp (Number place.length) R4 ∷ [] in
-      straight z ms 2 t (end_of t (forms_run ms t).status) [] 2 _ (tt, tt) (stands_at z.code pc ms t (h, tt) k.is.at) ((tt, tt), tt) refl (omega arith)
-      (record {
-        aims =
-            record {
-              is = stands_elsewhere z pc (pc + 4) w t _ k.is (omega (arith, k.is.at)) refl refl refl refl refl;
-              four = k.four;
-              gives = k.gives;
-            };
-        flag = ap (λ q. nat_le 0x10000 (q + (0xFFFF - place.length) + 1)) k.four ∙ no_borrow i place.length li ln;
-      })
+      let carry = ap (λ q. nat_le 0x10000 (q + (0xFFFF - place.length) + 1)) k.held.four ∙ no_borrow i place.length li ln in
+      line z (Calculate op.Cmp (Number place.length) R4 ∷ []) 2 (pc + 4) _ k.is (tt, tt) (h, tt) ((tt, tt), tt) refl refl (omega (arith, k.is.at))
+      (λ s. record { all = record { is = s; held = record { four = k.held.four; gives = k.held.gives } }; flag = carry })
 
   -- by whether the index is below the length
   checked_by : (b : Bool) (pc i v : ℕ) (w : WordState) (t : Core) → ((a : ℕ) → w.fram a < 0x10000) → i < 0x10000 → v < 0x10000 → place.length < 0x10000
@@ -363,7 +314,7 @@ module _ (z : Setting) (o : PlainOperation) (x : Source) (r : ℕ) (reads : sour
       dearer z [] 4 (81 + r) t _ (omega arith)
       (runs_on z 2 2 t _ _ [] [] (compared_part pc i v w t li ln h.0 k) (λ u j.
       jump_to z condition.Carry (size ms) (pc + 4) (pc + forms_bytes (checked_update o x place list)) true w u h.1.0
-      (j.flag ∙ le_of_lt z i place.length false e) to j.aims.is))
+      (j.flag ∙ le_of_lt z i place.length false e) to j.all.is))
   checked_by true pc i v w t wl li lv ln e h k =
       let ms = inside_update o x place list in
       let front = Calculate op.Cmp (Number place.length) R4 ∷ Jump condition.Carry (size ms) ∷ [] in
@@ -373,13 +324,7 @@ module _ (z : Setting) (o : PlainOperation) (x : Source) (r : ℕ) (reads : sour
       (more_cycles z (pc + 6 + forms_bytes ms) (4 + (77 + r)) (81 + r) t b.effects b.end (omega arith)
       (then_end z (pc + 6 + forms_bytes ms) 4 (77 + r) t (Aims z x (pc + 6) w i v) [] b.effects b.end
       (runs_on z 2 2 t _ _ [] [] (compared_part pc i v w t li ln h.0 k) (λ u j.
-      let p = j.aims.is.at in
-      jump_exact z condition.Carry (size ms) (pc + 6) false u _ (ap z.code p ∙ h.1.0) (j.flag ∙ le_of_lt z i place.length true e) (omega (arith, p))
-      (record {
-        is = stands_elsewhere z (pc + 4) (pc + 6) w u _ j.aims.is refl refl refl refl refl refl;
-        four = j.aims.four;
-        gives = j.aims.gives;
-      })))
+      jump_with z condition.Carry (size ms) (pc + 4) (pc + 6) false h.1.0 (j.flag ∙ le_of_lt z i place.length true e) (omega arith) j.all))
       (λ u a. inside_part (pc + 6) i v w u wl lv (stands_back z.code pc front ms h) a)))
 
   -- an update at the index in R4
@@ -404,14 +349,14 @@ module _ (z : Setting) (o : PlainOperation) (x : Source) (r : ℕ) (reads : sour
   -- a word of FRAM becomes what the operation gives of it and of the source
   place_part : (c pc v : ℕ) (w : WordState) (t : Core) → source_cycles to_memory (source_operand x) ≤ 6 → w.fram c < 0x10000 → v < 0x10000 → IsFram c
       → (let m = Update (plain_instruction o) x c in let y = plain_word o (w.fram c) v in
-      z.code pc ≡ Some (instruction_of m) → StandsFor z pc w t → GivesOn x v t
+      z.code pc ≡ Some (instruction_of m) → StandsFor z pc w t → GivesOn x v w.fram t.work
       → Runs z.code (Store c y ∷ []) 6 t (StandsFor z (pc + form_bytes m) (stored c y w)))
   place_part c pc v w t writes l lv fc h i g =
       let m = Update (plain_instruction o) x c in
       let price = cycles_of (instruction_of m) in
       let y = plain_word o (w.fram c) v in
       let does = operated (plain_instruction o) Word (t.fram c) (source_value x t) t.flags in
-      let is : does.value ≡ y = ap₂ (λ p q. (operated (plain_instruction o) Word p q t.flags).value) (ap (λ (f : ℕ → ℕ). f c) i.fram) (g.word t refl refl refl)
+      let is : does.value ≡ y = ap₂ (λ p q. (operated (plain_instruction o) Word p q t.flags).value) (ap (λ (f : ℕ → ℕ). f c) i.fram) (g.word t i.fram refl refl)
       ∙ makes o (w.fram c) v t.flags l lv in
       let after : Core → ℕ → Core = λ s q. record s { pc = t.pc + (2 + source_bytes x + 2); flags = flags_after does.flags t.flags; fram = put t.fram c q } in
       let needs = plain_needs o in
@@ -426,7 +371,7 @@ module _ (z : Setting) (o : PlainOperation) (x : Source) (r : ℕ) (reads : sour
 
   module _ (k pc : ℕ) (writes : source_cycles to_memory (source_operand x) ≤ 6) (h : Stands z.code pc (known_update o x place list k)) (v : ℕ) (w : WordState)
       (t : Core) (wl : (a : ℕ) → w.fram a < 0x10000) (lv : v < 0x10000) (fv : IsFram list.ver) (fm : IsFram (2 * k + place.versions)) (i : StandsFor z pc w t)
-      (g : GivesOn x v t) where
+      (g : GivesOn x v w.fram t.work) where
     abbrev offset : ℕ
     offset = word_sum k k
 
@@ -459,11 +404,10 @@ module _ (z : Setting) (o : PlainOperation) (x : Source) (r : ℕ) (reads : sour
         let m = 2 * k + place.versions in
         let at = known_place k place.versions fm.high in
         subst (λ c. Runs z.code [] 6 t (Looked (pc + 8) w (t.work 4) v c)) e
-        (straight z known_looking 6 t (end_of t (forms_run known_looking t).status) [] 6 _ (tt, (tt, tt))
-        (stands_at z.code pc known_looking t (stands_front z.code pc known_looking (by_version one known_first) h) i.at)
-        ((fv, tt), ((tt, subst IsFram (sym at) fm), tt)) refl (omega arith)
-        (record {
-          aims = record { is = stands_elsewhere z pc (pc + 8) w t _ i (omega (arith, i.at)) refl refl refl refl refl; four = refl; gives = g };
+        (line z known_looking 6 (pc + 8) (Looked (pc + 8) w (t.work 4) v (w.fram list.ver == w.fram m)) i (tt, (tt, tt))
+        (stands_front z.code pc known_looking (by_version one known_first) h) ((fv, tt), ((tt, subst IsFram (sym at) fm), tt)) refl refl (omega (arith, i.at))
+        (λ s. record {
+          all = record { is = s; held = record { four = refl; gives = g } };
           flag = ap₂ (λ p q. (p + (0xFFFF - q) + 1) % 0x10000 == 0) (ap (λ (f : ℕ → ℕ). f list.ver) i.fram) (ap t.fram at ∙ ap (λ (f : ℕ → ℕ). f m) i.fram)
               ∙ equal_flag (w.fram list.ver) (w.fram m) (wl list.ver) (wl m);
         }))
@@ -477,7 +421,7 @@ module _ (z : Setting) (o : PlainOperation) (x : Source) (r : ℕ) (reads : sour
         let end : pc + 8 + 2 + form_bytes m ≡ pc + 8 + 2 + forms_bytes one = omega arith in
         subst (λ n. let y = plain_word o (w.fram n) v in Runs z.code (Store n y ∷ []) 6 u (StandsFor z (pc + 8 + 2 + forms_bytes one) (stored n y w))) at
         (subst (λ p. let y = plain_word o (w.fram c') v in Runs z.code (Store c' y ∷ []) 6 u (StandsFor z p (stored c' y w))) end
-        (place_part c' (pc + 8 + 2) v w u writes (wl c') lv (subst IsFram (sym at) fc) hs.0 a.is a.gives))
+        (place_part c' (pc + 8 + 2) v w u writes (wl c') lv (subst IsFram (sym at) fc) hs.0 a.is a.held.gives))
 
     -- the first update, R4 being loaded in front of it
     afresh_part : (at : ℕ) (u : Core) → IsFram (2 * k + place.elements) → IsFram (2 * k + place.copies) → Stands z.code at known_first
@@ -492,12 +436,8 @@ module _ (z : Setting) (o : PlainOperation) (x : Source) (r : ℕ) (reads : sour
         let end : at + 4 + forms_bytes (first_update o x place list) ≡ at + forms_bytes known_first = omega arith in
         ends_at z (at + 4 + forms_bytes (first_update o x place list)) (at + forms_bytes known_first) (2 + (68 + r)) u b end
         (then_end z (at + 4 + forms_bytes (first_update o x place list)) 2 (68 + r) u (Aims z x (at + 4) w (2 * k) v) [] b.effects b.end
-        (straight z ms 2 u (end_of u (forms_run ms u).status) [] 2 _ (tt, tt) (stands_at z.code at ms u (hs.0, tt) a.is.at) ((tt, tt), tt) refl (omega arith)
-        (record {
-          is = stands_elsewhere z at (at + 4) w u _ a.is (omega (arith, a.is.at)) refl refl refl refl refl;
-          four = known_offset k place.versions fm.high;
-          gives = a.gives;
-        }))
+        (line z ms 2 (at + 4) _ a.is (tt, tt) (hs.0, tt) ((tt, tt), tt) refl refl (omega (arith, a.is.at))
+        (λ s. record { is = s; held = record { four = known_offset k place.versions fm.high; gives = a.held.gives } }))
         (λ q n. first_part (at + 4) k v w q wl lv fv fm fe fc hs.1 n))
 
     -- by whether the version word is VER's
@@ -529,7 +469,7 @@ module _ (z : Setting) (o : PlainOperation) (x : Source) (r : ℕ) (reads : sour
 
   -- an update at a number that is known and below the length
   pub known_part : (k pc v : ℕ) (w : WordState) (t : Core) → source_cycles to_memory (source_operand x) ≤ 6 → ((a : ℕ) → w.fram a < 0x10000) → v < 0x10000
-      → Stands z.code pc (known_update o x place list k) → StandsFor z pc w t → GivesOn x v t
+      → Stands z.code pc (known_update o x place list k) → StandsFor z pc w t → GivesOn x v w.fram t.work
       → Follows z (pc + forms_bytes (known_update o x place list k)) (78 + r) t (own_updated o place list k v w)
   known_part k pc v w t writes wl lv h i g =
       let m = 2 * k + place.versions in
@@ -593,7 +533,7 @@ module _ (z : Setting) (o : PlainOperation) (place : ArrayPlace) (list : ListPla
       (subst (λ n. Follows z end (78 + c) t (versioned_updated o place list n v left)) q.1
       (subst (λ y. Follows z end (78 + c) t (if y then own_updated o place list k v left else goes_on [] left)) (sym lt)
       (known_part z o x c (reads_price (Some p)) place list k mid v left t (writes_price (Some p)) wl lv (stands_back z.code pc front ms h)
-      (bare z mid left t q.0) j.gives))))))
+      (bare z mid left t q.0) j.held))))))
 
   update_on : (bs : List Bound) (os : List Waiting) (pc : ℕ) (w : WordState) (i v : ℕ) (rest : List ℕ) (u : Core) → ((a : ℕ) → w.fram a < 0x10000)
       → i < 0x10000 → v < 0x10000 → w.stack ≡ v ∷ (i ∷ rest) → (is_inside bs (top_of (below_top os)) place.length ≡ true → nat_lt i place.length ≡ true)

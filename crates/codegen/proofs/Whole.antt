@@ -18,22 +18,21 @@ use Rattle.array_versions.specs.Laws.{IsStateOfWords, EndsInWords, IsSound}
 use Rattle.msp_isa.specs.declared.instructions.Condition.TheVariants as condition
 use Rattle.msp_isa.specs.declared.operands.Konst.TheVariants as konst
 use Rattle.codegen.specs.declared.waiting.Waiting.TheVariants as waiting
+use Rattle.codegen.proofs.Registers.{HasWord, HasSides, Has, HasTwo, jump_to}
+use Rattle.codegen.proofs.Operands.{Waits, owed, clear_cycles, owed_kept, load_cycles, load_owed, Describes, dressed, flush_part, top_to_four_part}
+use Rattle.codegen.proofs.Operands.{two_to_registers_part}
 use Rattle.codegen.proofs.Stretches.{Setting, runs_on, nothing_run}
 use Rattle.codegen.proofs.Memory.{place_is, assigned_same}
 use Rattle.codegen.proofs.Follows.{StandsFor, Follows, FollowsEnd, OnGoesOn, more_cycles, then_hop, ends_at, guarded, reach_more, reach_way, reaches}
 use Rattle.codegen.proofs.Follows.{then_follows, reach_guarded}
 use Rattle.codegen.proofs.Parts.{constant_part, store_part, move_part, jump_part}
-use Rattle.codegen.proofs.Registers.{Has, HasTwo, jump_to}
 use Rattle.codegen.proofs.Jumps.{whole_size, stands_low, pass_part}
 use Rattle.codegen.proofs.Choices.{Fork, fork_at, fork_turned, fork_both, fork_either, decided_follows, zero_test, holds_part, compares_part}
 use Rattle.codegen.proofs.Loops.{loop_by}
 use Rattle.codegen.proofs.Access.{entry_part}
-use Rattle.codegen.proofs.Operands.{owed, clear_cycles, owed_kept, load_cycles, load_owed, Describes, InRegister, LoadedTwo, dressed, flush_part}
-use Rattle.codegen.proofs.Operands.{top_to_four_part, two_to_registers_part}
 use Rattle.codegen.proofs.LoopBounds.{Bounded, Spared, spared_so, bounded_with, bounded_on, step_bounded}
 use Rattle.codegen.proofs.Results.{Does, number_part, load_part, local_by, keep_reaches, update_reaches, set_reaches, update_local_reaches, unary_part}
 use Rattle.codegen.proofs.Results.{binary_part, shift_reaches, element_reaches, emit_reaches, read_reaches, write_reaches, sense_part, alone_part, push_under}
-use Rattle.codegen.proofs.Results.{push_under_two}
 use Rattle.codegen.proofs.VersionUpdates.{in_place_reaches}
 use Rattle.codegen.proofs.Lengths.{compare_length}
 
@@ -131,9 +130,9 @@ module _ (z : Setting) where
         let behind : pc + forms_bytes (holds_code os when d) ≡ mid + 2 + forms_bytes last = omega (arith, here, forms_bytes-append (load ++ pushes) tail) in
         let b = is_true v in
         let most = owed os + (8 + (if b then ch t else cf t)) in
-        let come = runs_on z l (owed (kept under)) u (InRegister z R4 (kept under) first t v) (Has z R4 mid t v) [] []
+        let come = runs_on z l (owed (kept under)) u (Waits z (kept under) first t (HasWord R4 v)) (Has z R4 mid t v) [] []
         (top_to_four_part z os pc w v us u e (stands_front z.code pc load pushes there) i)
-        (λ x k. push_under z R4 (kept under) first t v x (stands_back z.code pc load pushes there) k) in
+        (λ x k. push_under z (kept under) first t x (stands_back z.code pc load pushes there) k) in
         more_cycles z end (l + owed (kept under) + 1 + 5 + (if b then ch t else cf t)) most u (if b then rh t else rf t).effects (if b then rh t else rf t).end
         (omega (arith, owed_kept under, load_owed os))
         (decided_follows z when b (mid + 2) d holds_at fails_at (l + owed (kept under) + 1) end (ch t) (cf t) condition.NotEqual condition.Equal t u (rh t)
@@ -174,9 +173,9 @@ module _ (z : Setting) where
         omega (arith, here, compare_length c, forms_bytes-append (load ++ pushes) tail) in
         let b = compare_words c x y in
         let most = owed os + (10 + (if b then ch t else cf t)) in
-        let come = runs_on z l (owed ks) u (LoadedTwo z ks first t x y) (HasTwo z mid t x y) [] []
+        let come = runs_on z l (owed ks) u (Waits z ks first t (HasSides x y)) (HasTwo z mid t x y) [] []
         (two_to_registers_part z os pc w x y us u e (stands_front z.code pc load pushes there) i)
-        (λ q k. push_under_two z ks first t x y q (stands_back z.code pc load pushes there) k) in
+        (λ q k. push_under z ks first t q (stands_back z.code pc load pushes there) k) in
         more_cycles z end (l + owed ks + 1 + 5 + (if b then ch t else cf t)) most u (if b then rh t else rf t).effects (if b then rh t else rf t).end
         (omega (arith, owed_kept (below_top under), load_owed os, load_owed under))
         (decided_follows z when b (mid + 2) d holds_at fails_at (l + owed ks + 1) end (ch t) (cf t) (holding c) (failing c) t u (rh t) (rf t)
