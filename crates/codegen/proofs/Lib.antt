@@ -27,6 +27,5 @@ mod UpdateEmitted
 mod Prefixes
 mod Lengths
 mod Whole
-mod Instructions
 pub mod Interface
 pub use Rattle.array_versions.proofs as array_versions

@@ -11,7 +11,6 @@ pub use Rattle.std.specs.Option.{unwrap_or}
 pub use Rattle.std.specs.Result.{OnOk}
 -- words and instructions
 pub use Rattle.msp_isa.specs.Constant.{constant_value}
-pub use Rattle.msp_isa.specs.Encoding.{IsInstruction, encoding}
 pub use Rattle.msp_isa.specs.alp_words.Words.{word_sum, and_of, bit, quotient, remainder, sum_of, word_product, arithmetic_shift, biased, same, is_negative}
 pub use Rattle.msp_isa.specs.alp_words.Words.{difference_of}
 pub use Rattle.msp_isa.specs.alp_words.declared.Flags.{Flags}
@@ -46,8 +45,8 @@ pub use Rattle.array_versions.specs.Behaviour.{step_behaviour, behaviour, with_l
 pub use Rattle.array_versions.specs.Behaviour.{with_two, at_place, element_pushed, own_element, versioned_pushed, versioned_stored, reading_pushed, own_stored}
 pub use Rattle.array_versions.specs.Behaviour.{own_place, own_kept, own_updated, versioned_updated, started, local_pushed, local_updated, number_pushed}
 pub use Rattle.array_versions.specs.Behaviour.{way_by_top, way_by_two, then_on, tested}
-pub use Rattle.array_versions.specs.Cost.{spent_on, unary_words, binary_words, right_words, shift_words, entry_words, step_words, test_words, words_of}
-pub use Rattle.array_versions.specs.Cost.{turns_spent, unary_cycles, binary_cycles, top_spent, spent_by_top, spent_by_two, step_spent, test_spent, spent}
+pub use Rattle.array_versions.specs.Cost.{spent_on, unary_words, binary_words, right_words, shift_words, step_words, test_words, words_of, turns_spent}
+pub use Rattle.array_versions.specs.Cost.{unary_cycles, binary_cycles, top_spent, spent_by_top, spent_by_two, step_spent, test_spent, spent}
 pub use Rattle.array_versions.specs.Form.{StepLocalsBelow, TestLocalsBelow, LocalsBelow, StepSpares, Spares, Place, start, assigning, Moves, EachTurn}
 pub use Rattle.array_versions.specs.Form.{EachStepWay, EachTestWay, EachWay, TestSpares, StepLoopsCount, TestLoopsCount, LoopsCount, StepOfWords, TestOfWords}
 pub use Rattle.array_versions.specs.Form.{OfWords}
@@ -72,14 +71,14 @@ pub use Rattle.array_versions.specs.declared.program.ListPlace.{ListPlace}
 pub use Rattle.codegen.specs.Code.{number_source, check_code, zero_code, fetch_code, element_code, emit_code, pair_code, entry_code, compare_form, holding}
 pub use Rattle.codegen.specs.Code.{failing, jump_over, decision, waiting_source, flushed, top_of, below_top, is_held, any_held, repeated, size, waiting_behind}
 pub use Rattle.codegen.specs.Code.{step_code, steps_code, local_address, local_target, source_from, cleared, kept, four_from, top_number, element_at, stays}
-pub use Rattle.codegen.specs.Code.{sides, right_source, top_power, top_mask, two_code, power_code, five_from, top_to_four, top_to_five, two_to_registers}
-pub use Rattle.codegen.specs.Code.{unary_middle, binary_middle, plain_instruction, update_code, double, halve, right_code, shift_by, shift_middle, own_code}
-pub use Rattle.codegen.specs.Code.{read_code, stored_code, write_code, pass_over, jump_back, holds_code, compares_code, truth_code, number_code, turn_end}
-pub use Rattle.codegen.specs.Code.{turns_code, waiting_after, bound_of, is_inside, test_code, block_code, code_of, rests, rest_source, to_rest, right_to_rest}
-pub use Rattle.codegen.specs.Code.{update_sides, made_code, first_update, by_version, inside_update, checked_update, indexed_update, known_update, known_index}
-pub use Rattle.codegen.specs.Code.{update_at, local_register, power, power_result, binary_result, ram_update, mark_code, next_code, word_code, first_code}
-pub use Rattle.codegen.specs.Code.{is_bounded, ram_turn_end, multiply_turn, divide_middle, divide_turn, known_element, attempt_form, if_below, element_behind}
-pub use Rattle.codegen.specs.Code.{last_code, end_test, longer_code, copy_code}
+pub use Rattle.codegen.specs.Code.{sides, right_source, top_power, two_code, power_code, five_from, top_to_four, top_to_five, two_to_registers, unary_middle}
+pub use Rattle.codegen.specs.Code.{binary_middle, plain_instruction, update_code, double, halve, right_code, shift_by, shift_middle, own_code, read_code}
+pub use Rattle.codegen.specs.Code.{stored_code, write_code, pass_over, jump_back, holds_code, compares_code, truth_code, number_code, turn_end, turns_code}
+pub use Rattle.codegen.specs.Code.{waiting_after, bound_of, is_inside, test_code, block_code, code_of, rests, rest_source, to_rest, right_to_rest, update_sides}
+pub use Rattle.codegen.specs.Code.{made_code, first_update, by_version, inside_update, checked_update, indexed_update, known_update, known_index, update_at}
+pub use Rattle.codegen.specs.Code.{local_register, power, power_result, binary_result, ram_update, mark_code, next_code, word_code, first_code, is_bounded}
+pub use Rattle.codegen.specs.Code.{ram_turn_end, multiply_turn, divide_middle, divide_turn, known_element, attempt_form, if_below, element_behind, last_code}
+pub use Rattle.codegen.specs.Code.{end_test, longer_code, copy_code}
 pub use Rattle.codegen.specs.Laws.{HasJumped, CodeIsInstructions, CodeHasItsBytes, CodeHasItsWords, IsWithin, RunsStayWithin, StarvingStaysWithin, ComesTo}
 pub use Rattle.codegen.specs.Laws.{CodeDoesAsProgram}
 pub use Rattle.codegen.specs.declared.bounds.Bound.{Bound}

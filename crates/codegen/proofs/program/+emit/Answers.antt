@@ -8,7 +8,7 @@ use Rattle.array_versions.specs.declared.program.WordStep as word_step
 use Rattle.msp_isa.specs.declared.instructions.Condition.TheVariants as condition
 use Rattle.codegen.proofs.Emitted.{step_of-choose, step_of-read, step_of-write, step_of-update, test_of-holds, test_of-compares, test_of-both, test_of-either}
 use Rattle.codegen.proofs.Emitted.{part_behind, two_behind, own_behind, on_ok_items, words_at_most, own_words, step_owed, left_front}
-use Rattle.codegen.proofs.Lengths.{pass_short, turn_end_short, test_short, inner_short}
+use Rattle.codegen.proofs.Lengths.{pass_takes, turn_end_takes, test_takes, inner_takes}
 use Rattle.codegen.proofs.program.+emit.Goals as goal
 
 pub emit_steps-loop-step-preserved : goal.emit_steps-loop-step-preserved
@@ -157,7 +157,7 @@ emit_test-code_words-requires t c =
     c.deref-in-Both.ensures
     ∙ ap (λ l. l ++ instructions second) c.new-behind.ensures.items in
     let words = own_words c.deref-in-Both-2.result.now second (c.deref-in-Both-2.ensures.value ∙ own) in
-    omega (arith, words, test_short bs u when over, ap test_words is, c.requires.room)
+    omega (arith, words, (test_takes bs u when over).bytes, ap test_words is, c.requires.room)
 
 pub emit_test-overflow_add-further : goal.emit_test-overflow_add-further
 emit_test-overflow_add-further t c =
@@ -172,7 +172,7 @@ emit_test-overflow_add-further t c =
     c.deref-in-Both.ensures
     ∙ ap (λ l. l ++ instructions second) c.new-behind.ensures.items in
     let words = own_words c.deref-in-Both-2.result.now second (c.deref-in-Both-2.ensures.value ∙ own) in
-    omega (arith, words, test_short bs u when over, ap test_words is, c.requires.room, c.code_words.ensures, c.words_if.ensures, words_at_most (not when) over)
+    omega (arith, words, (test_takes bs u when over).bytes, ap test_words is, c.requires.room, c.code_words.ensures, c.words_if.ensures, words_at_most (not when) over)
 
 pub emit_test-emit_test-requires-in-Both : goal.emit_test-emit_test-requires-in-Both
 emit_test-emit_test-requires-in-Both t c =
@@ -192,7 +192,7 @@ emit_test-emit_test-requires-in-Both t c =
         omega (
           arith,
           words,
-          test_short bs u when over,
+          (test_takes bs u when over).bytes,
           ap test_words is,
           c.requires.room,
           c.code_words.ensures,
@@ -240,7 +240,7 @@ emit_test-code_words-requires-in-Either t c =
     c.deref-in-Either.ensures
     ∙ ap (λ l. l ++ instructions second) c.new-behind-in-Either.ensures.items in
     let words = own_words c.deref-in-Either-2.result.now second (c.deref-in-Either-2.ensures.value ∙ own) in
-    omega (arith, words, test_short bs u when over, ap test_words is, c.requires.room)
+    omega (arith, words, (test_takes bs u when over).bytes, ap test_words is, c.requires.room)
 
 pub emit_test-overflow_add-further-in-Either : goal.emit_test-overflow_add-further-in-Either
 emit_test-overflow_add-further-in-Either t c =
@@ -258,7 +258,7 @@ emit_test-overflow_add-further-in-Either t c =
     omega (
       arith,
       words,
-      test_short bs u when over,
+      (test_takes bs u when over).bytes,
       ap test_words is,
       c.requires.room,
       c.code_words-in-Either.ensures,
@@ -284,7 +284,7 @@ emit_test-emit_test-requires-in-Either-2 t c =
         omega (
           arith,
           words,
-          test_short bs u when over,
+          (test_takes bs u when over).bytes,
           ap test_words is,
           c.requires.room,
           c.code_words-in-Either.ensures,
@@ -330,7 +330,7 @@ emit_loop-code_words-over-requires t c =
     (c.in_ok-emit_block.ensures.code ∙ ap (λ ws. c.new-turn.result.items ++ instructions (block_code ws (steps_of c.args.body.now)))
     (c.deref.ensures.value ∙ c.in_ok-inner.ensures) ∙ ap (λ l. l ++ instructions made) c.new-turn.ensures.items) ∙ sym (instructions-append made end) in
     let words = own_words c.deref-then-from-below-2.result.now (made ++ end) (c.deref-then-from-below-2.ensures.value ∙ turn) in
-    omega (arith, words, forms_bytes-append made end, inner_short inner body, turn_end_short n c.args.below, c.requires.room)
+    omega (arith, words, forms_bytes-append made end, (inner_takes inner body).bytes, (turn_end_takes n c.args.below).bytes, c.requires.room)
 
 pub emit_loop-emit_jump_back-requires : goal.emit_loop-emit_jump_back-requires
 emit_loop-emit_jump_back-requires t c =
@@ -343,7 +343,7 @@ emit_loop-emit_jump_back-requires t c =
     (c.in_ok-emit_block.ensures.code ∙ ap (λ ws. c.new-turn.result.items ++ instructions (block_code ws (steps_of c.args.body.now)))
     (c.deref.ensures.value ∙ c.in_ok-inner.ensures) ∙ ap (λ l. l ++ instructions made) c.new-turn.ensures.items) ∙ sym (instructions-append made end) in
     let words = own_words c.deref-then-from-below-2.result.now (made ++ end) (c.deref-then-from-below-2.ensures.value ∙ turn) in
-    omega (arith, words, forms_bytes-append made end, inner_short inner body, turn_end_short n c.args.below, c.requires.room, c.code_words-over.ensures)
+    omega (arith, words, forms_bytes-append made end, (inner_takes inner body).bytes, (turn_end_takes n c.args.below).bytes, c.requires.room, c.code_words-over.ensures)
 
 pub emit_loop-returns-then-from-below-clause-code : goal.emit_loop-returns-then-from-below-clause-code
 emit_loop-returns-then-from-below-clause-code t c =
@@ -380,7 +380,7 @@ emit_step-code_words-requires t c =
     c.deref.ensures.value
     ∙ ap (λ l. l ++ instructions other) c.new-other.ensures.items in
     let behind = own_words c.deref-in-Choose-2.result.now other (c.deref-in-Choose-2.ensures.value ∙ otherwise) in
-    omega (arith, behind, inner_short bs (steps_of of.otherwise.items), ap step_words is, c.requires.room)
+    omega (arith, behind, (inner_takes bs (steps_of of.otherwise.items)).bytes, ap step_words is, c.requires.room)
 
 pub emit_step-emit_pass_over-requires : goal.emit_step-emit_pass_over-requires
 emit_step-emit_pass_over-requires t c =
@@ -393,7 +393,7 @@ emit_step-emit_pass_over-requires t c =
     c.deref.ensures.value
     ∙ ap (λ l. l ++ instructions other) c.new-other.ensures.items in
     let behind = own_words c.deref-in-Choose-2.result.now other (c.deref-in-Choose-2.ensures.value ∙ otherwise) in
-    omega (arith, behind, inner_short bs (steps_of of.otherwise.items), ap step_words is, c.requires.room, c.code_words.ensures)
+    omega (arith, behind, (inner_takes bs (steps_of of.otherwise.items)).bytes, ap step_words is, c.requires.room, c.code_words.ensures)
 
 pub emit_step-code_words-requires-in-Choose : goal.emit_step-code_words-requires-in-Choose
 emit_step-code_words-requires-in-Choose t c =
@@ -414,7 +414,7 @@ emit_step-code_words-requires-in-Choose t c =
     ∙ ap (λ n. c.emit_block-in-Choose.new.code.items ++ instructions (pass_over n)) (c.code_words.ensures ∙ behind)
     ∙ ap (λ l. l ++ instructions over) taken ∙ sym (instructions-append b over) in
     let words = own_words c.deref-in-Choose-3.result.now (b ++ over) (c.deref-in-Choose-3.ensures.value ∙ first) in
-    omega (arith, words, forms_bytes-append b over, inner_short bs (steps_of of.taken.items), pass_short (size other), ap step_words is, c.requires.room)
+    omega (arith, words, forms_bytes-append b over, (inner_takes bs (steps_of of.taken.items)).bytes, (pass_takes (size other)).bytes, ap step_words is, c.requires.room)
 
 pub emit_step-emit_test-requires : goal.emit_step-emit_test-requires
 emit_step-emit_test-requires t c =
@@ -441,8 +441,8 @@ emit_step-emit_test-requires t c =
           arith,
           words,
           forms_bytes-append b over,
-          inner_short bs (steps_of of.taken.items),
-          pass_short (size other),
+          (inner_takes bs (steps_of of.taken.items)).bytes,
+          (pass_takes (size other)).bytes,
           ap step_words is,
           c.requires.room,
           c.code_words-in-Choose.ensures,
