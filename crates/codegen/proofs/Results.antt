@@ -1,10 +1,10 @@
 -- Steps where words wait: values that come to wait in a register, and statements behind which none waits.
 use Rattle.std.proofs.Common.{◌≡◌, ℕ, ◌+◌, ◌*◌, ◌<◌, ◌≤◌, ◌-◌, ◌/◌, ◌%◌, ◌^◌, ◌==◌, ◌&&◌, Bool, true, false, nat_lt, if◌then◌else◌, List, [], ◌∷◌, ◌++◌, length}
 use Rattle.std.proofs.Common.{Option, Some, None, refl, sym, ap, ap₂, ◌∙◌, subst, arith, bit_and, w16, ltb-true, eqb-true, ne_eqb, le-leb}
-use Rattle.codegen.proofs.Names.{and_parts, same_Some, and_mask, pow_pos, word_sum, word_product, quotient, remainder, Word, operated, cycles_of, source_cycles}
-use Rattle.codegen.proofs.Names.{to_register, Goes, unwrap_or, AllByRecursion, Take, put, IsFram, WorkRegister, R4, R5, R6, work_number, Core, Source}
-use Rattle.codegen.proofs.Names.{source_operand, source_bytes, source_value, Form, Move, Calculate, Update, Push, Ram, ToFram, sensed, flags_after, calculated}
-use Rattle.codegen.proofs.Names.{instruction_of, form_bytes, Stands, forms_bytes, Runs, stands_front, stands_back, forms_bytes-append, ArrayPlace, ListPlace}
+use Rattle.codegen.proofs.Names.{Step, and_parts, same_Some, and_mask, pow_pos, word_sum, word_product, quotient, remainder, Word, operated, cycles_of}
+use Rattle.codegen.proofs.Names.{source_cycles, to_register, Goes, unwrap_or, AllByRecursion, Take, put, IsFram, WorkRegister, R4, R5, R6, work_number, Core}
+use Rattle.codegen.proofs.Names.{Source, source_operand, source_bytes, source_value, Form, Move, Calculate, Update, Push, Ram, ToFram, sensed, flags_after}
+use Rattle.codegen.proofs.Names.{calculated, instruction_of, Stands, forms_bytes, Runs, stands_front, stands_back, forms_bytes-append, ArrayPlace, ListPlace}
 use Rattle.codegen.proofs.Names.{UnaryOperation, Negate, Complement, BinaryOperation, Multiply, Divide, Remainder, Plain, PlainOperation, And, ShiftOperation}
 use Rattle.codegen.proofs.Names.{Left, Right, unary_word, plain_word, binary_word, shift_word, keep, update, set_local, update_local, unary, binary, shift}
 use Rattle.codegen.proofs.Names.{element, emit_word, versioned_read, versioned_write, sense, WordState, Behaviour, GoesOn, goes_on, with_top, with_two}
@@ -16,12 +16,12 @@ use Rattle.codegen.proofs.Names.{shift_middle, element_code, emit_code, read_cod
 use Rattle.std.specs.Int.{trailing_zeros}
 use Rattle.code_forms.specs.Forms as forms
 use Rattle.codegen.specs.declared.waiting.Waiting.TheVariants as waiting
+use Rattle.codegen.proofs.Stretches.{two_parts, Setting, hop, dearer_stall, nothing_run, so_runs, starved}
 use Rattle.codegen.proofs.Registers.{With, HasWord, HasSides, Holds, Has, HasTwo}
 use Rattle.codegen.proofs.Operands.{Waits, AreThese, IsThere, owed_by, owed, none_held, clear_cycles, owed_kept, load_cycles, load_owed, store_cycles}
 use Rattle.codegen.proofs.Operands.{store_owed, Describes, Top, waiting_word, bare, dressed, flush_under, flush_part, clear_under, below_part, top_to_four_part}
 use Rattle.codegen.proofs.Operands.{top_to_five_part, two_to_registers_part, result_waits, waits_more, LoadedSides, right_cycles, reading_cycles, reading_price}
 use Rattle.codegen.proofs.Operands.{right_owed, sides_part, drop_part}
-use Rattle.codegen.proofs.Stretches.{Setting, hop, runs_on, dearer_stall, nothing_run, so_runs, starved}
 use Rattle.codegen.proofs.Memory.{place_is}
 use Rattle.codegen.proofs.Follows.{StandsFor, stands_elsewhere, Follows, Reaches, reach_more, then_reach, reaches, reach_guarded}
 use Rattle.codegen.proofs.LoopBounds.{Bounded, top_inside, under_inside}
@@ -61,74 +61,97 @@ mask_rest : (x k : ℕ) → bit_and x (2 ^ k - 1) ≡ remainder x (2 ^ k)
 mask_rest x k =
     and_mask x k ∙ sym (ap (λ b. if b then x else x % 2 ^ k) (ne_eqb (2 ^ k) 0 (λ e. let p = pow_pos k in omega arith)))
 
+-- words
+abbrev pub AreWords : List ℕ → Type 0
+AreWords vs = AllByRecursion (λ v. v < 0x10000) vs
+
 module _ (z : Setting) where
   -- what code does, and the words that wait behind it
   abbrev pub Does : List Waiting → ℕ → ℕ → Core → Behaviour → Type 0
   Does os pc most u b = Reaches z (owed os) (Describes z os pc) most u b.effects b.end
 
+  -- what the code of a step does where it stands, within so many cycles and those that the words that wait have paid for
+  abbrev pub StepDoes : List Bound → List Waiting → Step → ℕ → ℕ → WordState → Core → Behaviour → Type 0
+  StepDoes bs os s cost pc w u b = Stands z.code pc (step_code bs os s) → Describes z os pc w u
+      → Does (waiting_behind os s) (pc + forms_bytes (step_code bs os s)) (cost + owed os) u b
+
+  -- code behind other code
+  does_behind : (front ms : List Form) (os : List Waiting) (l c most pc : ℕ) (u : Core) (P : Core → Type 0) (b : Behaviour) → l + c ≤ most
+      → Stands z.code pc (front ++ ms) → (Stands z.code pc front → Runs z.code [] l u P)
+      → (let mid = pc + forms_bytes front in ((t : Core) → Stands z.code mid ms → P t → Does os (mid + forms_bytes ms) c t b)
+      → Does os (pc + forms_bytes (front ++ ms)) most u b)
+  does_behind front ms os l c most pc u P b le h come f =
+      let end = pc + forms_bytes front + forms_bytes ms in
+      let there : end ≡ pc + forms_bytes (front ++ ms) = omega (arith, forms_bytes-append front ms) in
+      subst (λ p. Does os p most u b) there
+      (reach_more z (owed os) (Describes z os end) (l + c) most u b.effects b.end le
+      (then_reach z (owed os) (Describes z os end) l c u P [] b.effects b.end (come (stands_front z.code pc front ms h))
+      (λ t k. f t (stands_back z.code pc front ms h) k)))
+
+  -- the same where no word waits behind it
+  pub alone_behind : (front ms : List Form) (l c most pc : ℕ) (u : Core) (P : Core → Type 0) (b : Behaviour) → l + c ≤ most
+      → Stands z.code pc (front ++ ms) → (Stands z.code pc front → Runs z.code [] l u P)
+      → (let mid = pc + forms_bytes front in ((t : Core) → Stands z.code mid ms → P t → Follows z (mid + forms_bytes ms) c t b)
+      → Does [] (pc + forms_bytes (front ++ ms)) most u b)
+  alone_behind front ms l c most pc u P b le h come f =
+      let end = pc + forms_bytes front + forms_bytes ms in
+      does_behind front ms [] l c most pc u P b le h come (λ t s k. reaches z (Describes z [] end) end c t b.effects b.end (dressed z end) (f t s k))
+
   -- ---- values
 
   -- words in registers, what is made of them, and where that waits
-  after_words : (P : (ℕ → ℕ) → Type 0) (h : WorkRegister) (o : Waiting) (ks : List Waiting) (l c most pc pc' : ℕ) (w : WordState) (r : ℕ) (vs : List ℕ)
-      (u : Core) → any_held ks ≡ false → IsThere z.locals w.locals o → length vs < z.room → l + c + (owed ks + owed_by o) ≤ most
-      → ((f : ℕ → ℕ) → waiting_word w.fram w.locals f o ≡ f (work_number h)) → Runs z.code [] l u (Waits z ks pc (with_stack vs w) P)
-      → ((rest : List ℕ) (t : Core) → Holds z P pc (with_stack rest w) t → Runs z.code [] c t (Has z h pc' (with_stack rest w) r))
-      → Does (o ∷ ks) pc' most u (goes_on [] (with_stack (r ∷ vs) w))
-  after_words P h o ks l c most pc pc' w r vs u none there room budget word front middle =
-      record {
-        spent = l + c;
-        within = budget;
-        runs = runs_on z l c u (Waits z ks pc (with_stack vs w) P) _ [] [] front (λ t k.
-            so_runs z [] c t (Has z h pc' (with_stack k.is.rest w) r) _ (λ s j.
-            result_waits z o ks pc' w r vs k.is.rest t.work s k.is.stack (there, k.is.there) none room (word s.work ∙ j.held) j.is)
-            (middle k.is.rest t (record { is = k.is.is; held = k.held })));
-      }
+  made_waits : (P : (ℕ → ℕ) → Type 0) (b : WorkRegister) (o : Waiting) (front ms : List Form) (ks : List Waiting) (l c most pc : ℕ) (w : WordState) (r : ℕ)
+      (vs : List ℕ) (u : Core) → any_held ks ≡ false → IsThere z.locals w.locals o → length vs < z.room → l + c + (owed ks + owed_by o) ≤ most
+      → ((f : ℕ → ℕ) → waiting_word w.fram w.locals f o ≡ f (work_number b)) → Stands z.code pc (front ++ ms)
+      → (let mid = pc + forms_bytes front in (Stands z.code pc front → Runs z.code [] l u (Waits z ks mid (with_stack vs w) P))
+      → ((xs : List ℕ) (t : Core) → Stands z.code mid ms → Holds z P mid (with_stack xs w) t
+      → Runs z.code [] c t (Has z b (mid + forms_bytes ms) (with_stack xs w) r))
+      → Does (o ∷ ks) (pc + forms_bytes (front ++ ms)) most u (goes_on [] (with_stack (r ∷ vs) w)))
+  made_waits P b o front ms ks l c most pc w r vs u none there room budget word h come middle =
+      let mid = pc + forms_bytes front in
+      let end = mid + forms_bytes ms in
+      does_behind front ms (o ∷ ks) l (most - l) most pc u (Waits z ks mid (with_stack vs w) P) (goes_on [] (with_stack (r ∷ vs) w)) (omega (arith, budget)) h
+      come (λ t s k. record {
+        spent = c;
+        within = omega (arith, budget);
+        runs = so_runs z [] c t (Has z b end (with_stack k.is.rest w) r) _ (λ q j.
+            result_waits z o ks end w r vs k.is.rest t.work q k.is.stack (there, k.is.there) none room (word q.work ∙ j.held) j.is)
+            (middle k.is.rest t s (record { is = k.is.is; held = k.held }));
+      })
 
   -- code that brings the top to a register, and what is made of it in R4
   value_part : (b : WorkRegister) (front ms : List Form) (c most : ℕ) (os : List Waiting) (pc : ℕ) (w : WordState) (y r : ℕ) (rest : List ℕ) (u : Core)
-      → 5 + c ≤ most → w.stack ≡ y ∷ rest → Describes z os pc w u
+      → 5 + c ≤ most → w.stack ≡ y ∷ rest → Describes z os pc w u → Stands z.code pc (front ++ ms)
       → (let ks = kept (below_top os) in let mid = pc + forms_bytes front in
-      Runs z.code [] (clear_cycles (below_top os) + load_cycles (top_of os)) u (Waits z ks mid (with_stack rest w) (HasWord b y))
-      → ((xs : List ℕ) (t : Core) → Has z b mid (with_stack xs w) y t → Runs z.code [] c t (Has z R4 (mid + forms_bytes ms) (with_stack xs w) r))
+      (Stands z.code pc front → Runs z.code [] (clear_cycles (below_top os) + load_cycles (top_of os)) u (Waits z ks mid (with_stack rest w) (HasWord b y)))
+      → ((xs : List ℕ) (t : Core) → Stands z.code mid ms → Has z b mid (with_stack xs w) y t
+      → Runs z.code [] c t (Has z R4 (mid + forms_bytes ms) (with_stack xs w) r))
       → Does (waiting.R4 ∷ ks) (pc + forms_bytes (front ++ ms)) (most + owed os) u (goes_on [] (with_stack (r ∷ rest) w)))
-  value_part b front ms c most os pc w y r rest u l e d come middle =
+  value_part b front ms c most os pc w y r rest u l e d h come middle =
       let under = below_top os in
-      let mid = pc + forms_bytes front in
-      let end : mid + forms_bytes ms ≡ pc + forms_bytes (front ++ ms) = omega (arith, forms_bytes-append front ms) in
       let room : length rest < z.room = omega (arith, d.fits, ap (length {A = ℕ}) e) in
-      subst (λ p. Does (waiting.R4 ∷ kept under) p (most + owed os) u (goes_on [] (with_stack (r ∷ rest) w))) end
-      (after_words (HasWord b y) R4 waiting.R4 (kept under) (clear_cycles under + load_cycles (top_of os)) c (most + owed os) mid (mid + forms_bytes ms) w r
-      rest u (none_held under) tt room (omega (arith, l, owed_kept under, load_owed os)) (λ f. refl) come middle)
+      made_waits (HasWord b y) R4 waiting.R4 front ms (kept under) (clear_cycles under + load_cycles (top_of os)) c (most + owed os) pc w r rest u
+      (none_held under) tt room (omega (arith, l, owed_kept under, load_owed os)) (λ f. refl) h come middle
 
   unary_middles : (o : UnaryOperation) → UnaryMiddle z (unary_middle o) 2 (unary_word o)
   unary_middles Negate = negate_middle z
   unary_middles Complement = complement_middle z
 
-  pub unary_part : (o : UnaryOperation) (os : List Waiting) (pc : ℕ) (w : WordState) (vs : List ℕ) (u : Core) → w.stack ≡ vs
-      → AllByRecursion (λ v. v < 0x10000) vs → Stands z.code pc (step_code [] os (unary o)) → Describes z os pc w u
-      → Does (waiting_behind os (unary o)) (pc + forms_bytes (step_code [] os (unary o))) (unary_cycles o + owed os) u
-      (with_top vs (λ v us. goes_on [] (with_stack (unary_word o v ∷ us) w)))
+  pub unary_part : (o : UnaryOperation) (os : List Waiting) (pc : ℕ) (w : WordState) (vs : List ℕ) (u : Core) → w.stack ≡ vs → AreWords vs
+      → StepDoes [] os (unary o) (unary_cycles o) pc w u (with_top vs (λ v us. goes_on [] (with_stack (unary_word o v ∷ us) w)))
   unary_part o os pc w [] u e l h d = tt
   unary_part o os pc w (y ∷ rest) u e l h d =
-      let front = top_to_five os in
-      let ms = unary_middle o in
-      let back = stands_back z.code pc front ms h in
-      value_part R5 front ms 2 (unary_cycles o) os pc w y (unary_word o y) rest u (omega (arith, unary_price o)) e d
-      (top_to_five_part z os pc w y rest u e (stands_front z.code pc front ms h) d)
-      (λ xs t k. unary_middles o (pc + forms_bytes front) y (with_stack xs w) t l.0 back k)
+      value_part R5 (top_to_five os) (unary_middle o) 2 (unary_cycles o) os pc w y (unary_word o y) rest u (omega (arith, unary_price o)) e d h
+      (λ s. top_to_five_part z os pc w y rest u e s d)
+      (λ xs t s k. unary_middles o (pc + forms_bytes (top_to_five os)) y (with_stack xs w) t l.0 s k)
 
-  pub shift_reaches : (o : ShiftOperation) (n : ℕ) (os : List Waiting) (pc : ℕ) (w : WordState) (vs : List ℕ) (u : Core) → w.stack ≡ vs
-      → AllByRecursion (λ v. v < 0x10000) vs → Stands z.code pc (step_code [] os (shift o n)) → Describes z os pc w u
-      → Does (waiting_behind os (shift o n)) (pc + forms_bytes (step_code [] os (shift o n))) (15 + owed os) u
-      (with_top vs (λ v us. goes_on [] (with_stack (shift_word o v n ∷ us) w)))
+  pub shift_reaches : (o : ShiftOperation) (n : ℕ) (os : List Waiting) (pc : ℕ) (w : WordState) (vs : List ℕ) (u : Core) → w.stack ≡ vs → AreWords vs
+      → StepDoes [] os (shift o n) 15 pc w u (with_top vs (λ v us. goes_on [] (with_stack (shift_word o v n ∷ us) w)))
   shift_reaches o n os pc w [] u e l h d = tt
   shift_reaches o n os pc w (y ∷ rest) u e l h d =
-      let front = top_to_four os in
-      let ms = shift_middle o n in
-      let back = stands_back z.code pc front ms h in
-      value_part R4 front ms 10 15 os pc w y (shift_word o y n) rest u (omega arith) e d
-      (top_to_four_part z os pc w y rest u e (stands_front z.code pc front ms h) d)
-      (λ xs t k. shift_part z o n (pc + forms_bytes front) y (with_stack xs w) t l.0 back k)
+      value_part R4 (top_to_four os) (shift_middle o n) 10 15 os pc w y (shift_word o y n) rest u (omega arith) e d h
+      (λ s. top_to_four_part z os pc w y rest u e s d)
+      (λ xs t s k. shift_part z o n (pc + forms_bytes (top_to_four os)) y (with_stack xs w) t l.0 s k)
 
   -- ---- words that no code brings anywhere
 
@@ -177,14 +200,12 @@ module _ (z : Setting) where
       let mid = pc + forms_bytes front in
       let after = waiting.R4 ∷ kept (below_top os) in
       let end = pc + forms_bytes (front ++ ms) in
-      let back = stands_back z.code pc front ms h in
-      let come = top_to_four_part z os pc w i rest u e (stands_front z.code pc front ms h) d in
       let none : nat_lt i size ≡ false → Does after end (15 + owed os) u (goes_on [] (with_stack (0 ∷ rest) w)) =
-      λ no. value_part R4 front ms 10 15 os pc w i 0 rest u (omega arith) e d come
-      (λ xs t k. past_end z b base size mid s back i (with_stack xs w) t sure no r k) in
+      λ no. value_part R4 front ms 10 15 os pc w i 0 rest u (omega arith) e d h (λ s. top_to_four_part z os pc w i rest u e s d)
+      (λ xs t s' k. past_end z b base size mid s s' i (with_stack xs w) t sure no r k) in
       let there : nat_lt i size ≡ true → IsFram a → Does after end (15 + owed os) u (goes_on [] (with_stack (w.fram a ∷ rest) w)) =
-      λ yes f. value_part R4 front ms 10 15 os pc w i (w.fram a) rest u (omega arith) e d come
-      (λ xs t k. before_end z b base size mid s back i (with_stack xs w) t yes r f k) in
+      λ yes f. value_part R4 front ms 10 15 os pc w i (w.fram a) rest u (omega arith) e d h (λ s. top_to_four_part z os pc w i rest u e s d)
+      (λ xs t s' k. before_end z b base size mid s s' i (with_stack xs w) t yes r f k) in
       by_length (nat_lt i size) base size after end (15 + owed os) w i rest u refl none there
 
   -- an element at a number that waits
@@ -220,10 +241,8 @@ module _ (z : Setting) where
   element_on b base size os pc w i rest u s r sure e h d = element_by b base size os pc w i rest u s r sure e h d
 
   pub element_reaches : (bs : List Bound) (base size : ℕ) (os : List Waiting) (pc : ℕ) (w : WordState) (vs : List ℕ) (u : Core) → size < 0x10000
-      → Bounded bs w.locals → w.stack ≡ vs → AllByRecursion (λ v. v < 0x10000) vs → Stands z.code pc (step_code bs os (element base size))
-      → Describes z os pc w u
-      → Does (waiting_behind os (element base size)) (pc + forms_bytes (step_code bs os (element base size))) (15 + owed os) u
-      (with_top vs (λ i us. element_pushed base size i (with_stack us w)))
+      → Bounded bs w.locals → w.stack ≡ vs → AreWords vs
+      → StepDoes bs os (element base size) 15 pc w u (with_top vs (λ i us. element_pushed base size i (with_stack us w)))
   element_reaches bs base size os pc w [] u s lb e l h d = tt
   element_reaches bs base size os pc w (i ∷ rest) u s lb e l h d =
       element_on (is_inside bs (top_of os) size) base size os pc w i rest u s l.0 (top_inside z bs pc u size os w i rest lb e d) e h d
@@ -248,11 +267,8 @@ module _ (z : Setting) where
         → Runs z.code [] 18 t (Has z R4 (read_mid + forms_bytes (read_code sure place list)) (with_stack xs w) v))
         → Does after_read read_end (23 + owed os) u (goes_on [] (with_stack (v ∷ rest) w))
     read_gives v f =
-        let front = top_to_four os in
-        let ms = read_code sure place list in
-        value_part R4 front ms 18 23 os pc w i v rest u (omega arith) e d
-        (top_to_four_part z os pc w i rest u e (stands_front z.code pc front ms h) d)
-        (λ xs t k. f xs t (stands_back z.code pc front ms h) k)
+        value_part R4 (top_to_four os) (read_code sure place list) 18 23 os pc w i v rest u (omega arith) e d h
+        (λ s. top_to_four_part z os pc w i rest u e s d) f
 
     -- by whether the version word is the attempt's number
     own_by : (b : Bool) → (w.fram list.ver == w.fram (2 * i + place.versions)) ≡ b → nat_lt i place.length ≡ true → IsFram list.ver
@@ -281,10 +297,8 @@ module _ (z : Setting) where
         own_by (w.fram list.ver == w.fram m) refl lt (place_is list.ver f) (place_is m g)))
 
   pub read_reaches : (bs : List Bound) (place : ArrayPlace) (list : ListPlace) (os : List Waiting) (pc : ℕ) (w : WordState) (vs : List ℕ) (u : Core)
-      → place.length < 0x10000 → ((a : ℕ) → w.fram a < 0x10000) → Bounded bs w.locals → w.stack ≡ vs → AllByRecursion (λ v. v < 0x10000) vs
-      → Stands z.code pc (step_code bs os (versioned_read place list)) → Describes z os pc w u
-      → Does (waiting_behind os (versioned_read place list)) (pc + forms_bytes (step_code bs os (versioned_read place list)))
-      (23 + owed os) u (with_top vs (λ i us. versioned_pushed place list i (with_stack us w)))
+      → place.length < 0x10000 → ((a : ℕ) → w.fram a < 0x10000) → Bounded bs w.locals → w.stack ≡ vs → AreWords vs
+      → StepDoes bs os (versioned_read place list) 23 pc w u (with_top vs (λ i us. versioned_pushed place list i (with_stack us w)))
   read_reaches bs place list os pc w [] u s wl lb e l h d = tt
   read_reaches bs place list os pc w (i ∷ rest) u s wl lb e l h d =
       let n = place.length in
@@ -299,30 +313,20 @@ module _ (z : Setting) where
       → Does (binary_result o ∷ kept (below_top (below_top os))) (pc + forms_bytes ms) (7 + c + owed os) u
       (goes_on [] (with_stack (binary_word o x y ∷ rest) w)))
   binary_by o hand c os pc w x y rest u m there three word e lx ly h d =
-      let front = two_to_registers os in
-      let ms = binary_middle o in
-      let r = binary_result o in
       let first = top_of os in
       let under = below_top os in
-      let ks = kept (below_top under) in
-      let mid = pc + forms_bytes front in
-      let v = binary_word o x y in
-      let end : mid + forms_bytes ms ≡ pc + forms_bytes (front ++ ms) = omega (arith, forms_bytes-append front ms) in
       let room : length rest < z.room = omega (arith, d.fits, ap (length {A = ℕ}) e) in
-      let paid : clear_cycles (below_top under) + (load_cycles first + load_cycles (top_of under)) + c + (owed ks + owed_by r) ≤ 7 + c + owed os =
-      omega (arith, three, owed_kept (below_top under), load_owed os, load_owed under) in
-      let back = stands_back z.code pc front ms h in
-      subst (λ p. Does (r ∷ ks) p (7 + c + owed os) u (goes_on [] (with_stack (v ∷ rest) w))) end
-      (after_words (HasSides x y) hand r ks (clear_cycles (below_top under) + (load_cycles first + load_cycles (top_of under))) c (7 + c + owed os) mid
-      (mid + forms_bytes ms) w v rest u (none_held (below_top under)) there room paid word
-      (two_to_registers_part z os pc w x y rest u e (stands_front z.code pc front ms h) d)
-      (λ xs t k. m mid x y (with_stack xs w) t lx ly back k))
+      let l = clear_cycles (below_top under) + (load_cycles first + load_cycles (top_of under)) in
+      made_waits (HasSides x y) hand (binary_result o) (two_to_registers os) (binary_middle o) (kept (below_top under)) l c (7 + c + owed os) pc w
+      (binary_word o x y) rest u (none_held (below_top under)) there room
+      (omega (arith, three, owed_kept (below_top under), load_owed os, load_owed under)) word h (λ s. two_to_registers_part z os pc w x y rest u e s d)
+      (λ xs t s k. m (pc + forms_bytes (two_to_registers os)) x y (with_stack xs w) t lx ly s k)
 
   -- the instruction of an operation, on R4 and the right side where that is read
   plain_form : (o : PlainOperation) (s : Source) (c pc x y : ℕ) (ks : List Waiting) (w : WordState) (vs : List ℕ) (t : Core)
       → source_cycles to_register (source_operand s) ≤ c → x < 0x10000 → y < 0x10000 → any_held ks ≡ false → length vs < z.room
       → (let m = Calculate (plain_instruction o) s R4 in z.code pc ≡ Some (instruction_of m) → LoadedSides z s ks pc (with_stack vs w) x y t
-      → Runs z.code [] c t (Describes z (waiting.R4 ∷ ks) (pc + form_bytes m) (with_stack (plain_word o x y ∷ vs) w)))
+      → Runs z.code [] c t (Describes z (waiting.R4 ∷ ks) (pc + forms_bytes (m ∷ [])) (with_stack (plain_word o x y ∷ vs) w)))
   plain_form o s c pc x y ks w vs t l lx ly none room h k =
       let m = Calculate (plain_instruction o) s R4 in
       let price = cycles_of (instruction_of m) in
@@ -337,8 +341,8 @@ module _ (z : Setting) where
       hop z m c t (after (put t.work 4 v)) [] price _ (ap z.code q.is.at ∙ h) (needs.0, k.needs)
       (ap (λ a. Goes [] price (shape a)) k.still
       ∙ ap (λ b. Goes [] price (after (if b then put t.work 4 does.value else t.work))) needs.1 ∙ ap (λ p. Goes [] price (after (put t.work 4 p))) is) l
-      (result_waits z waiting.R4 ks (pc + form_bytes m) w v vs q.rest t.work (after (put t.work 4 v)) q.stack (tt, q.there) none room refl
-      (stands_elsewhere z pc (pc + form_bytes m) (with_stack q.rest w) t (after (put t.work 4 v)) q.is (ap (λ p. p + (2 + source_bytes s)) q.is.at)
+      (result_waits z waiting.R4 ks (pc + forms_bytes (m ∷ [])) w v vs q.rest t.work (after (put t.work 4 v)) q.stack (tt, q.there) none room refl
+      (stands_elsewhere z pc (pc + forms_bytes (m ∷ [])) (with_stack q.rest w) t (after (put t.work 4 v)) q.is (omega (arith, q.is.at))
       refl refl refl refl refl))
 
   plain_by : (o : PlainOperation) (os : List Waiting) (pc : ℕ) (w : WordState) (x y : ℕ) (rest : List ℕ) (u : Core) → w.stack ≡ y ∷ (x ∷ rest)
@@ -346,26 +350,21 @@ module _ (z : Setting) where
       → (let ms = sides os ++ Calculate (plain_instruction o) (right_source (top_of os)) R4 ∷ [] in Stands z.code pc ms → Describes z os pc w u
       → Does (waiting.R4 ∷ kept (below_top (below_top os))) (pc + forms_bytes ms) (8 + owed os) u (goes_on [] (with_stack (plain_word o x y ∷ rest) w)))
   plain_by o os pc w x y rest u e lx ly h d =
-      let front = sides os in
       let s = right_source (top_of os) in
       let m = Calculate (plain_instruction o) s R4 in
       let under = below_top os in
       let ks = kept (below_top under) in
-      let mid = pc + forms_bytes front in
-      let v = plain_word o x y in
+      let mid = pc + forms_bytes (sides os) in
       let l = clear_cycles (below_top under) + (right_cycles (top_of os) + load_cycles (top_of under)) in
       let c = reading_cycles (top_of os) in
-      let end : mid + form_bytes m ≡ pc + forms_bytes (front ++ m ∷ []) = omega (arith, forms_bytes-append front (m ∷ [])) in
       let room : length rest < z.room = omega (arith, d.fits, ap (length {A = ℕ}) e) in
-      let back = stands_back z.code pc front (m ∷ []) h in
-      subst (λ p. Does (waiting.R4 ∷ ks) p (8 + owed os) u (goes_on [] (with_stack (v ∷ rest) w))) end
-      (record {
+      record {
         spent = l + c;
         within = omega (arith, owed_kept (below_top under), right_owed os, load_owed under);
-        runs = runs_on z l c u (LoadedSides z s ks mid (with_stack rest w) x y) _ [] []
-            (sides_part z os pc w x y rest u e (stands_front z.code pc front (m ∷ []) h) d)
-            (λ t k. plain_form o s c mid x y ks w rest t (reading_price (top_of os)) lx ly (none_held (below_top under)) room back.0 k);
-      })
+        runs = two_parts z (sides os) (m ∷ []) l c pc u (LoadedSides z s ks mid (with_stack rest w) x y)
+            (λ p. Describes z (waiting.R4 ∷ ks) p (with_stack (plain_word o x y ∷ rest) w)) h (λ s. sides_part z os pc w x y rest u e s d)
+            (λ t s' k. plain_form o s c mid x y ks w rest t (reading_price (top_of os)) lx ly (none_held (below_top under)) room s'.0 k);
+      }
 
   two_part : (o : BinaryOperation) (os : List Waiting) (pc : ℕ) (w : WordState) (x y : ℕ) (rest : List ℕ) (u : Core) → w.stack ≡ y ∷ (x ∷ rest)
       → x < 0x10000 → y < 0x10000 → Stands z.code pc (two_code os o) → Describes z os pc w u
@@ -388,13 +387,11 @@ module _ (z : Setting) where
       let ms = shift_middle o k in
       let end = pc + forms_bytes (front ++ ms) in
       let t = (drop_part z (waiting.Number n) os pc w n (x ∷ rest) u e d).0 in
-      let back = stands_back z.code pc front ms h in
       subst (λ r. Does after end (most + (owed os + 4)) u (goes_on [] (with_stack (r ∷ rest) w))) is
       (reach_more z (owed after) (Describes z after end) (15 + owed os) (most + (owed os + 4)) u [] (GoesOn (with_stack (shift_word o x k ∷ rest) w))
       (omega (arith, l))
-      (value_part R4 front ms 10 15 os pc left x (shift_word o x k) rest u (omega arith) refl t
-      (top_to_four_part z os pc left x rest u refl (stands_front z.code pc front ms h) t)
-      (λ xs q j. shift_part z o k (pc + forms_bytes front) x (with_stack xs w) q lx back j)))
+      (value_part R4 front ms 10 15 os pc left x (shift_word o x k) rest u (omega arith) refl t h
+      (λ s. top_to_four_part z os pc left x rest u refl s t) (λ xs q s j. shift_part z o k (pc + forms_bytes front) x (with_stack xs w) q lx s j)))
 
   by_mask : (n m most v : ℕ) (os : List Waiting) (pc : ℕ) (w : WordState) (x : ℕ) (rest : List ℕ) (u : Core) → 8 ≤ most → m < 0x10000
       → bit_and x m ≡ v → x < 0x10000 → w.stack ≡ n ∷ (x ∷ rest)
@@ -437,16 +434,12 @@ module _ (z : Setting) where
   power_by (Some k) (Plain o) n os pc w x y rest u q e lx ly h d = two_part (Plain o) (waiting.Number n ∷ os) pc w x y rest u e lx ly h d
 
   binary_on : (o : BinaryOperation) (os : List Waiting) (pc : ℕ) (w : WordState) (x y : ℕ) (rest : List ℕ) (u : Core) → w.stack ≡ y ∷ (x ∷ rest)
-      → x < 0x10000 → y < 0x10000 → Stands z.code pc (step_code [] os (binary o)) → Describes z os pc w u
-      → Does (waiting_behind os (binary o)) (pc + forms_bytes (step_code [] os (binary o))) (binary_cycles o + owed os) u
-      (goes_on [] (with_stack (binary_word o x y ∷ rest) w))
+      → x < 0x10000 → y < 0x10000 → StepDoes [] os (binary o) (binary_cycles o) pc w u (goes_on [] (with_stack (binary_word o x y ∷ rest) w))
   binary_on o (waiting.Number n ∷ os) pc w x y rest u e lx ly h d = power_by (power n) o n os pc w x y rest u refl e lx ly h d
   binary_on o os pc w x y rest u e lx ly h d = two_part o os pc w x y rest u e lx ly h d
 
-  pub binary_part : (o : BinaryOperation) (os : List Waiting) (pc : ℕ) (w : WordState) (vs : List ℕ) (u : Core) → w.stack ≡ vs
-      → AllByRecursion (λ v. v < 0x10000) vs → Stands z.code pc (step_code [] os (binary o)) → Describes z os pc w u
-      → Does (waiting_behind os (binary o)) (pc + forms_bytes (step_code [] os (binary o))) (binary_cycles o + owed os) u
-      (with_two vs (λ x y us. goes_on [] (with_stack (binary_word o x y ∷ us) w)))
+  pub binary_part : (o : BinaryOperation) (os : List Waiting) (pc : ℕ) (w : WordState) (vs : List ℕ) (u : Core) → w.stack ≡ vs → AreWords vs
+      → StepDoes [] os (binary o) (binary_cycles o) pc w u (with_two vs (λ x y us. goes_on [] (with_stack (binary_word o x y ∷ us) w)))
   binary_part o os pc w [] u e l h d = tt
   binary_part o os pc w (y ∷ []) u e l h d = tt
   binary_part o os pc w (y ∷ (x ∷ rest)) u e l h d = binary_on o os pc w x y rest u e l.1.0 l.0 h d
@@ -460,15 +453,8 @@ module _ (z : Setting) where
       ((t : Core) → Stands z.code mid ms → StandsFor z mid w t → Follows z (mid + forms_bytes ms) c t b)
       → Does [] (pc + forms_bytes (flushed os ++ ms)) (c + owed os) u b)
   alone_part os ms c pc w u b h d f =
-      let front = flushed os in
-      let mid = pc + forms_bytes front in
-      let back = stands_back z.code pc front ms h in
-      let end : mid + forms_bytes ms ≡ pc + forms_bytes (front ++ ms) = omega (arith, forms_bytes-append front ms) in
-      subst (λ p. Does [] p (c + owed os) u b) end
-      (reach_more z 0 (Describes z [] (mid + forms_bytes ms)) (owed os + c) (c + owed os) u b.effects b.end (omega arith)
-      (then_reach z 0 (Describes z [] (mid + forms_bytes ms)) (owed os) c u (StandsFor z mid w) [] b.effects b.end
-      (flush_part z os pc w u d (stands_front z.code pc front ms h)) (λ t k.
-      reaches z (Describes z [] (mid + forms_bytes ms)) (mid + forms_bytes ms) c t b.effects b.end (dressed z (mid + forms_bytes ms)) (f t back k))))
+      alone_behind (flushed os) ms (owed os) c (c + owed os) pc u (StandsFor z (pc + forms_bytes (flushed os)) w) b (omega arith) h
+      (flush_part z os pc w u d) f
 
   -- the same where the top is its source
   pub statement_part : (os : List Waiting) (ms : List Form) (c most pc : ℕ) (w : WordState) (v : ℕ) (vs : List ℕ) (u : Core) (b : Behaviour)
@@ -478,19 +464,11 @@ module _ (z : Setting) where
       → Does [] (pc + forms_bytes (flushed (below_top os) ++ ms)) most u b)
   statement_part os ms c most pc w v vs u b l e h d f =
       let front = flushed (below_top os) in
-      let mid = pc + forms_bytes front in
-      let back = stands_back z.code pc front ms h in
-      let end : mid + forms_bytes ms ≡ pc + forms_bytes (front ++ ms) = omega (arith, forms_bytes-append front ms) in
-      let x = source_from (top_of os) in
-      subst (λ p. Does [] p most u b) end
-      (reach_more z 0 (Describes z [] (mid + forms_bytes ms)) (owed (below_top os) + c) most u b.effects b.end l
-      (then_reach z 0 (Describes z [] (mid + forms_bytes ms)) (owed (below_top os)) c u (Top z x [] mid w v vs) [] b.effects b.end
-      (below_part z os pc w v vs u e (stands_front z.code pc front ms h) d) (λ t k.
-      reaches z (Describes z [] (mid + forms_bytes ms)) (mid + forms_bytes ms) c t b.effects b.end (dressed z (mid + forms_bytes ms)) (f t back k))))
+      alone_behind front ms (owed (below_top os)) c most pc u (Top z (source_from (top_of os)) [] (pc + forms_bytes front) w v vs) b l h
+      (λ s. below_part z os pc w v vs u e s d) f
 
-  pub keep_reaches : (a : ℕ) (os : List Waiting) (pc : ℕ) (w : WordState) (vs : List ℕ) (u : Core) → w.stack ≡ vs → Stands z.code pc (step_code [] os (keep a))
-      → Describes z os pc w u → Does [] (pc + forms_bytes (step_code [] os (keep a))) (5 + owed os) u
-      (with_top vs (λ v us. word_stored a v (with_stack us w)))
+  pub keep_reaches : (a : ℕ) (os : List Waiting) (pc : ℕ) (w : WordState) (vs : List ℕ) (u : Core) → w.stack ≡ vs
+      → StepDoes [] os (keep a) 5 pc w u (with_top vs (λ v us. word_stored a v (with_stack us w)))
   keep_reaches a os pc w [] u e h d = tt
   keep_reaches a os pc w (v ∷ us) u e h d =
       let mid = pc + forms_bytes (flushed (below_top os)) in
@@ -498,9 +476,7 @@ module _ (z : Setting) where
       (word_stored a v (with_stack us w)) (omega (arith, store_owed os)) e h d (λ t s k. keep_part z (top_of os) a mid v us w t s k)
 
   pub update_reaches : (o : PlainOperation) (a : ℕ) (os : List Waiting) (pc : ℕ) (w : WordState) (vs : List ℕ) (u : Core) → w.fram a < 0x10000 → w.stack ≡ vs
-      → AllByRecursion (λ v. v < 0x10000) vs → Stands z.code pc (step_code [] os (update o a)) → Describes z os pc w u
-      → Does [] (pc + forms_bytes (step_code [] os (update o a))) (5 + owed os) u
-      (with_top vs (λ v us. word_stored a (plain_word o (w.fram a) v) (with_stack us w)))
+      → AreWords vs → StepDoes [] os (update o a) 5 pc w u (with_top vs (λ v us. word_stored a (plain_word o (w.fram a) v) (with_stack us w)))
   update_reaches o a os pc w [] u f e l h d = tt
   update_reaches o a os pc w (v ∷ us) u f e l h d =
       let mid = pc + forms_bytes (flushed (below_top os)) in
@@ -509,8 +485,7 @@ module _ (z : Setting) where
       (λ t s k. update_part z o (top_of os) a mid v us w t f l.0 s k)
 
   pub set_reaches : (n : ℕ) (os : List Waiting) (pc : ℕ) (w : WordState) (vs : List ℕ) (u : Core) → n < z.locals → w.stack ≡ vs
-      → Stands z.code pc (step_code [] os (set_local n)) → Describes z os pc w u
-      → Does [] (pc + forms_bytes (step_code [] os (set_local n))) (5 + owed os) u (with_top vs (λ v us. goes_on [] (with_local n v (with_stack us w))))
+      → StepDoes [] os (set_local n) 5 pc w u (with_top vs (λ v us. goes_on [] (with_local n v (with_stack us w))))
   set_reaches n os pc w [] u l e h d = tt
   set_reaches n os pc w (v ∷ us) u l e h d =
       let mid = pc + forms_bytes (flushed (below_top os)) in
@@ -518,9 +493,8 @@ module _ (z : Setting) where
       (goes_on [] (with_local n v (with_stack us w))) (omega (arith, store_owed os)) e h d (λ t s k. set_part z (top_of os) n v mid us w t l s k)
 
   pub update_local_reaches : (o : PlainOperation) (n x : ℕ) (os : List Waiting) (pc : ℕ) (w : WordState) (vs : List ℕ) (u : Core) → n < z.locals
-      → w.locals n ≡ Some x → x < 0x10000 → w.stack ≡ vs → AllByRecursion (λ v. v < 0x10000) vs → Stands z.code pc (step_code [] os (update_local o n))
-      → Describes z os pc w u → Does [] (pc + forms_bytes (step_code [] os (update_local o n))) (10 + owed os) u
-      (with_top vs (λ v us. goes_on [] (with_local n (plain_word o x v) (with_stack us w))))
+      → w.locals n ≡ Some x → x < 0x10000 → w.stack ≡ vs → AreWords vs
+      → StepDoes [] os (update_local o n) 10 pc w u (with_top vs (λ v us. goes_on [] (with_local n (plain_word o x v) (with_stack us w))))
   update_local_reaches o n x os pc w [] u l q f e k h d = tt
   update_local_reaches o n x os pc w (v ∷ us) u l q f e k h d =
       let mid = pc + forms_bytes (flushed (below_top os)) in
@@ -549,39 +523,27 @@ module _ (z : Setting) where
       so_runs z [] (owed ks) u (Waits z [] end w (AreThese u.work)) _ (λ t j. record { is = bare z end w t j.is; held = subst P (sym j.held) k.held })
       (flush_under z [] ks pc w u k.is h)
 
-  -- a word that is emitted
-  emit_by : (count buffer : ℕ) (os : List Waiting) (pc : ℕ) (w : WordState) (v : ℕ) (rest : List ℕ) (u : Core) → w.stack ≡ v ∷ rest
-      → Stands z.code pc (step_code [] os (emit_word count buffer)) → Describes z os pc w u
-      → Does [] (pc + forms_bytes (step_code [] os (emit_word count buffer))) (16 + owed os) u (word_emitted count buffer v (with_stack rest w))
-  emit_by count buffer os pc w v rest u e h d =
-      let under = below_top os in
-      let front = top_to_five os in
-      let pushes = flushed (kept under) in
-      let ms = emit_code count buffer in
-      let first = pc + forms_bytes front in
-      let mid = first + forms_bytes pushes in
-      let left = with_stack rest w in
-      let b = word_emitted count buffer v left in
-      let l = clear_cycles under + load_cycles (top_of os) in
-      let there = stands_front z.code pc (front ++ pushes) ms h in
-      let here : pc + forms_bytes (front ++ pushes) ≡ mid = omega (arith, forms_bytes-append front pushes) in
-      let back = subst (λ p. Stands z.code p ms) here (stands_back z.code pc (front ++ pushes) ms h) in
-      let end : mid + 18 ≡ pc + forms_bytes ((front ++ pushes) ++ ms) = omega (arith, here, forms_bytes-append (front ++ pushes) ms) in
-      let come = runs_on z l (owed (kept under)) u (Waits z (kept under) first left (HasWord R5 v)) (Has z R5 mid left v) [] []
-      (top_to_five_part z os pc w v rest u e (stands_front z.code pc front pushes there) d)
-      (λ t k. push_under (kept under) first left t (stands_back z.code pc front pushes there) k) in
-      subst (λ p. Does [] p (16 + owed os) u b) end
-      (reach_more z 0 (Describes z [] (mid + 18)) (l + owed (kept under) + 14) (16 + owed os) u b.effects b.end
-      (omega (arith, owed_kept under, load_owed os))
-      (then_reach z 0 (Describes z [] (mid + 18)) (l + owed (kept under)) 14 u (Has z R5 mid left v) [] b.effects b.end come (λ t k.
-      reaches z (Describes z [] (mid + 18)) (mid + 18) 14 t b.effects b.end (dressed z (mid + 18)) (emit_part z count buffer mid v left t back k))))
+  -- the same behind what brings them there
+  pub gathered : (P : (ℕ → ℕ) → Type 0) (front : List Form) (ks : List Waiting) (l pc : ℕ) (w : WordState) (u : Core) → Stands z.code pc (front ++ flushed ks)
+      → (Stands z.code pc front → Runs z.code [] l u (Waits z ks (pc + forms_bytes front) w P))
+      → Runs z.code [] (l + owed ks) u (Holds z P (pc + forms_bytes (front ++ flushed ks)) w)
+  gathered P front ks l pc w u h come =
+      two_parts z front (flushed ks) l (owed ks) pc u (Waits z ks (pc + forms_bytes front) w P) (λ p. Holds z P p w) h come
+      (λ t s k. push_under ks (pc + forms_bytes front) w t s k)
 
+  -- a word that is emitted
   pub emit_reaches : (count buffer : ℕ) (os : List Waiting) (pc : ℕ) (w : WordState) (vs : List ℕ) (u : Core) → w.stack ≡ vs
-      → Stands z.code pc (step_code [] os (emit_word count buffer)) → Describes z os pc w u
-      → Does [] (pc + forms_bytes (step_code [] os (emit_word count buffer))) (16 + owed os) u
-      (with_top vs (λ v us. word_emitted count buffer v (with_stack us w)))
+      → StepDoes [] os (emit_word count buffer) 16 pc w u (with_top vs (λ v us. word_emitted count buffer v (with_stack us w)))
   emit_reaches count buffer os pc w [] u e h d = tt
-  emit_reaches count buffer os pc w (v ∷ rest) u e h d = emit_by count buffer os pc w v rest u e h d
+  emit_reaches count buffer os pc w (v ∷ rest) u e h d =
+      let under = below_top os in
+      let left = with_stack rest w in
+      let front = top_to_five os ++ flushed (kept under) in
+      let l = clear_cycles under + load_cycles (top_of os) in
+      alone_behind front (emit_code count buffer) (l + owed (kept under)) 14 (16 + owed os) pc u (Has z R5 (pc + forms_bytes front) left v)
+      (word_emitted count buffer v left) (omega (arith, owed_kept under, load_owed os)) h
+      (λ s. gathered (HasWord R5 v) (top_to_five os) (kept under) l pc left u s (λ s. top_to_five_part z os pc w v rest u e s d))
+      (λ t s k. emit_part z count buffer (pc + forms_bytes front) v left t s k)
 
   -- a versioned write
   write_by : (b : Bool) (place : ArrayPlace) (list : ListPlace) (os : List Waiting) (pc : ℕ) (w : WordState) (i v : ℕ) (rest : List ℕ) (u : Core)
@@ -592,33 +554,17 @@ module _ (z : Setting) where
   write_by sure place list os pc w i v rest u small wl is r s e h d =
       let under = below_top os in
       let ks = kept (below_top under) in
-      let front = two_to_registers os in
-      let pushes = flushed ks in
-      let ms = write_code sure place list in
-      let first = pc + forms_bytes front in
-      let mid = first + forms_bytes pushes in
-      let last = mid + forms_bytes ms in
+      let front = two_to_registers os ++ flushed ks in
       let left = with_stack rest w in
-      let b = versioned_stored place list i v left in
       let l = clear_cycles (below_top under) + (load_cycles (top_of os) + load_cycles (top_of under)) in
-      let there = stands_front z.code pc (front ++ pushes) ms h in
-      let here : pc + forms_bytes (front ++ pushes) ≡ mid = omega (arith, forms_bytes-append front pushes) in
-      let back = subst (λ p. Stands z.code p ms) here (stands_back z.code pc (front ++ pushes) ms h) in
-      let end : last ≡ pc + forms_bytes ((front ++ pushes) ++ ms) = omega (arith, here, forms_bytes-append (front ++ pushes) ms) in
-      let come = runs_on z l (owed ks) u (Waits z ks first left (HasSides i v)) (HasTwo z mid left i v) [] []
-      (two_to_registers_part z os pc w i v rest u e (stands_front z.code pc front pushes there) d)
-      (λ t k. push_under ks first left t (stands_back z.code pc front pushes there) k) in
-      subst (λ p. Does [] p (79 + owed os) u b) end
-      (reach_more z 0 (Describes z [] last) (l + owed ks + 75) (79 + owed os) u b.effects b.end
-      (omega (arith, owed_kept (below_top under), load_owed os, load_owed under))
-      (then_reach z 0 (Describes z [] last) (l + owed ks) 75 u (HasTwo z mid left i v) [] b.effects b.end come (λ t k.
-      reaches z (Describes z [] last) last 75 t b.effects b.end (dressed z last) (write_part z sure place list mid small back i v left t is wl r s k))))
+      alone_behind front (write_code sure place list) (l + owed ks) 75 (79 + owed os) pc u (HasTwo z (pc + forms_bytes front) left i v)
+      (versioned_stored place list i v left) (omega (arith, owed_kept (below_top under), load_owed os, load_owed under)) h
+      (λ q. gathered (HasSides i v) (two_to_registers os) ks l pc left u q (λ q. two_to_registers_part z os pc w i v rest u e q d))
+      (λ t q k. write_part z sure place list (pc + forms_bytes front) small q i v left t is wl r s k)
 
   pub write_reaches : (bs : List Bound) (place : ArrayPlace) (list : ListPlace) (os : List Waiting) (pc : ℕ) (w : WordState) (vs : List ℕ) (u : Core)
-      → place.length < 0x10000 → ((a : ℕ) → w.fram a < 0x10000) → Bounded bs w.locals → w.stack ≡ vs → AllByRecursion (λ v. v < 0x10000) vs
-      → Stands z.code pc (step_code bs os (versioned_write place list)) → Describes z os pc w u
-      → Does [] (pc + forms_bytes (step_code bs os (versioned_write place list))) (79 + owed os) u
-      (with_two vs (λ i v us. versioned_stored place list i v (with_stack us w)))
+      → place.length < 0x10000 → ((a : ℕ) → w.fram a < 0x10000) → Bounded bs w.locals → w.stack ≡ vs → AreWords vs
+      → StepDoes bs os (versioned_write place list) 79 pc w u (with_two vs (λ i v us. versioned_stored place list i v (with_stack us w)))
   write_reaches bs place list os pc w [] u s wl lb e l h d = tt
   write_reaches bs place list os pc w (v ∷ []) u s wl lb e l h d = tt
   write_reaches bs place list os pc w (v ∷ (i ∷ rest)) u s wl lb e l h d =
@@ -638,21 +584,12 @@ module _ (z : Setting) where
       (record { at = omega (arith, d.is.at); memory = d.is.memory; fram = d.is.fram; readings = refl }))
 
   pub sense_part : (os : List Waiting) (pc : ℕ) (w : WordState) (rs : List ℕ) (u : Core) → length w.stack < z.room → w.readings ≡ rs
-      → Stands z.code pc (step_code [] os sense) → Describes z os pc w u
-      → Does (waiting_behind os sense) (pc + forms_bytes (step_code [] os sense)) (6 + owed os) u (reading_pushed rs w)
+      → StepDoes [] os sense 6 pc w u (reading_pushed rs w)
   sense_part os pc w rs u room e h d =
-      let front = cleared os in
-      let ms = forms.Sense R4 ∷ [] in
-      let mid = pc + forms_bytes front in
-      let after = waiting.R4 ∷ kept os in
-      let b = reading_pushed rs w in
-      let end : mid + 4 ≡ pc + forms_bytes (front ++ ms) = omega (arith, forms_bytes-append front ms) in
-      let back = stands_back z.code pc front ms h in
-      subst (λ p. Does after p (6 + owed os) u b) end
-      (reach_more z (owed after) (Describes z after (mid + 4)) (clear_cycles os + (6 + owed (kept os))) (6 + owed os) u b.effects b.end
-      (omega (arith, owed_kept os))
-      (then_reach z (owed after) (Describes z after (mid + 4)) (clear_cycles os) (6 + owed (kept os)) u (Waits z (kept os) mid w (AreThese u.work)) [] b.effects b.end
-      (clear_under z [] os pc w u d (stands_front z.code pc front ms h)) (λ t k. by rs t e back k.is)))
+      let mid = pc + forms_bytes (cleared os) in
+      does_behind (cleared os) (forms.Sense R4 ∷ []) (waiting.R4 ∷ kept os) (clear_cycles os) (6 + owed (kept os)) (6 + owed os) pc u
+      (Waits z (kept os) mid w (AreThese u.work)) (reading_pushed rs w) (omega (arith, owed_kept os)) h (clear_under z [] os pc w u d)
+      (λ t s k. by rs t e s k.is)
     where
       by : (rs : List ℕ) (t : Core) → w.readings ≡ rs → Stands z.code (pc + forms_bytes (cleared os)) (forms.Sense R4 ∷ [])
           → Describes z (kept os) (pc + forms_bytes (cleared os)) w t

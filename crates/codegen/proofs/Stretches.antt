@@ -1,7 +1,7 @@
 -- Stretches of code that stays, with room for locals and a stack.
-use Rattle.std.proofs.Common.{◌≡◌, ℕ, ◌+◌, ◌*◌, ◌≤◌, List, [], ◌++◌, Some, arith}
-use Rattle.codegen.proofs.Names.{Effect, Goes, Stops, At, stretch, Code, Core, Form, instruction_of, form_step, FormNeeds, Stands, AreStraight, forms_run}
-use Rattle.codegen.proofs.Names.{FormsNeed, IsTidy, Runs, Starves}
+use Rattle.std.proofs.Common.{subst, ◌≡◌, ℕ, ◌+◌, ◌*◌, ◌≤◌, List, [], ◌++◌, Some, arith}
+use Rattle.codegen.proofs.Names.{forms_bytes, stands_front, stands_back, forms_bytes-append, Effect, Goes, Stops, At, stretch, Code, Core, Form, instruction_of}
+use Rattle.codegen.proofs.Names.{form_step, FormNeeds, Stands, AreStraight, forms_run, FormsNeed, IsTidy, Runs, Starves}
 use Rattle.array_versions.specs.msp_step.declared.machine.Stop.TheVariants as stop
 use Rattle.code_forms.proofs.Interface as blocks
 
@@ -52,3 +52,13 @@ nothing_run z = blocks.nothing z.code z.tidy
 pub starved : (z : Setting) (m : Form) (u : Core) (price : ℕ) → z.code u.pc ≡ Some (instruction_of m) → FormNeeds m u
     → form_step m u ≡ Stops [] price stop.NoReading → Starves z.code [] price u
 starved z m u price h w e = blocks.starve z.code z.tidy m price price u [] h w e (omega arith)
+
+-- two parts of code, one behind the other
+pub two_parts : (z : Setting) (a b : List Form) (n m pc : ℕ) (u : Core) (P : Core → Type 0) (Q : ℕ → Core → Type 0) → Stands z.code pc (a ++ b)
+    → (Stands z.code pc a → Runs z.code [] n u P)
+    → ((t : Core) → Stands z.code (pc + forms_bytes a) b → P t → Runs z.code [] m t (Q (pc + forms_bytes a + forms_bytes b)))
+    → Runs z.code [] (n + m) u (Q (pc + forms_bytes (a ++ b)))
+two_parts z a b n m pc u P Q h f g =
+    let end : pc + forms_bytes a + forms_bytes b ≡ pc + forms_bytes (a ++ b) = omega (arith, forms_bytes-append a b) in
+    subst (λ p. Runs z.code [] (n + m) u (Q p)) end
+    (runs_on z n m u P _ [] [] (f (stands_front z.code pc a b h)) (λ t k. g t (stands_back z.code pc a b h) k))

@@ -1,25 +1,26 @@
 -- Elements that are updated in place.
 use Rattle.std.proofs.Common.{◌≡◌, ℕ, ◌+◌, ◌-◌, ◌*◌, ◌%◌, ◌<◌, ◌≤◌, ◌==◌, not, Bool, true, false, nat_lt, nat_le, if◌then◌else◌, List, [], ◌∷◌, ◌++◌, Some}
 use Rattle.std.proofs.Common.{None, refl, sym, ap, ap₂, ◌∙◌, subst, arith}
-use Rattle.codegen.proofs.Names.{AllByRecursion, word_sum, Word, operated, sum16, distance, cycles_of, source_cycles, to_register, to_memory, Store, put, Goes}
-use Rattle.codegen.proofs.Names.{IsFram, R4, R6, R7, Core, Source, source_bytes, source_value, source_operand, Register, Number, Fram, Indexed, ToRegister}
-use Rattle.codegen.proofs.Names.{ToIndexed, Form, Move, Calculate, Update, Jump, flags_after, calculated, instruction_of, form_bytes, Stands, forms_bytes, Runs}
-use Rattle.codegen.proofs.Names.{stands_front, stands_back, forms_bytes-append, PlainOperation, ArrayPlace, ListPlace, plain_word, versioned_update, WordState}
-use Rattle.codegen.proofs.Names.{Behaviour, goes_on, behind_effects, with_two, with_stack, is_place, at_place, stored, first_stored, own_place, own_kept}
-use Rattle.codegen.proofs.Names.{own_updated, versioned_updated, plain_small, put_words, Bound, Waiting, top_of, below_top, plain_instruction, first_code, size}
-use Rattle.codegen.proofs.Names.{double, rest_source, right_to_rest, update_sides, made_code, attempt_form, first_update, by_version, inside_update}
-use Rattle.codegen.proofs.Names.{checked_update, indexed_update, known_update, update_at, is_inside, step_code}
+use Rattle.codegen.proofs.Names.{word_sum, Word, operated, sum16, distance, cycles_of, source_cycles, to_register, to_memory, Store, put, Goes, IsFram, R4, R6}
+use Rattle.codegen.proofs.Names.{R7, Core, Source, source_bytes, source_value, source_operand, Register, Number, Fram, Indexed, ToRegister, ToIndexed, Form}
+use Rattle.codegen.proofs.Names.{Move, Calculate, Update, Jump, flags_after, calculated, instruction_of, form_bytes, Stands, forms_bytes, Runs, stands_front}
+use Rattle.codegen.proofs.Names.{stands_back, forms_bytes-append, PlainOperation, ArrayPlace, ListPlace, plain_word, versioned_update, WordState, Behaviour}
+use Rattle.codegen.proofs.Names.{goes_on, behind_effects, with_two, with_stack, is_place, at_place, stored, first_stored, own_place, own_kept, own_updated}
+use Rattle.codegen.proofs.Names.{versioned_updated, plain_small, put_words, Bound, Waiting, top_of, below_top, plain_instruction, first_code, size, double}
+use Rattle.codegen.proofs.Names.{rest_source, right_to_rest, update_sides, made_code, attempt_form, first_update, by_version, inside_update, checked_update}
+use Rattle.codegen.proofs.Names.{indexed_update, known_update, update_at, is_inside}
 use Rattle.msp_isa.specs.declared.instructions.Condition.TheVariants as condition
 use Rattle.msp_isa.specs.declared.instructions.TwoOp.TheVariants as op
 use Rattle.codegen.specs.declared.waiting.Waiting.TheVariants as waiting
+use Rattle.codegen.proofs.Results.{AreWords, StepDoes, alone_behind, Does}
 use Rattle.codegen.proofs.UpdateSides.{Aiming, GivesOn, Rested, Aims, rest_cycles, reads_cycles, reads_price, writes_price, rest_owed, update_sides_part}
 use Rattle.codegen.proofs.UpdateSides.{right_part}
 use Rattle.codegen.proofs.VersionParts.{HasNumber}
 use Rattle.codegen.proofs.Registers.{Holds, Has, Flagged, IsZero, IsCarry, line, store_line, jump_with, jump_to, equal_flag, no_borrow}
-use Rattle.codegen.proofs.Operands.{owed, load_cycles, load_owed, Describes, bare, dressed, drop_part}
+use Rattle.codegen.proofs.Operands.{owed, load_cycles, load_owed, Describes, bare, drop_part}
 use Rattle.codegen.proofs.Stretches.{Setting, hop, runs_on, dearer, so_runs}
 use Rattle.codegen.proofs.Memory.{place_is}
-use Rattle.codegen.proofs.Follows.{StandsFor, Follows, more_cycles, then_end, ends_at, guarded, stands_elsewhere, reach_more, then_reach, reaches}
+use Rattle.codegen.proofs.Follows.{StandsFor, Follows, more_cycles, then_end, ends_at, guarded, stands_elsewhere}
 use Rattle.codegen.proofs.Jumps.{whole_size, near_distance, stands_low}
 use Rattle.codegen.proofs.Access.{le_of_lt}
 use Rattle.codegen.proofs.Middles.{makes}
@@ -27,7 +28,6 @@ use Rattle.codegen.proofs.Updates.{plain_needs}
 use Rattle.codegen.proofs.LoopBounds.{Bounded, under_inside}
 use Rattle.codegen.proofs.ListParts.{first_follows}
 use Rattle.codegen.proofs.UpdateBytes.{reads_bytes, made_bytes, first_bytes, inside_bytes, near_size}
-use Rattle.codegen.proofs.Results.{Does}
 
 -- a jump over code that it reaches
 lands : (pc : ℕ) (ms : List Form) → size ms ≤ 511 → pc + 2 + forms_bytes ms < 0x10000 → sum16 (pc + 2) (distance (size ms)) ≡ pc + 2 + forms_bytes ms
@@ -490,19 +490,12 @@ module _ (z : Setting) (o : PlainOperation) (place : ArrayPlace) (list : ListPla
       let front = update_sides os in
       let x = rest_source (top_of os) in
       let c = reads_cycles (top_of os) in
-      let ms = indexed_update sure o x place list in
       let mid = pc + forms_bytes front in
-      let end = mid + forms_bytes ms in
       let left = with_stack rest w in
-      let b = versioned_updated o place list i v left in
-      let l = owed (below_top under) + (rest_cycles (top_of os) + load_cycles (top_of under)) in
-      let there : end ≡ pc + forms_bytes (front ++ ms) = omega (arith, forms_bytes-append front ms) in
-      subst (λ p. Does z [] p (86 + owed os) u b) there
-      (reach_more z 0 (Describes z [] end) (l + (81 + c)) (86 + owed os) u b.effects b.end (omega (arith, load_owed under, rest_owed os))
-      (then_reach z 0 (Describes z [] end) l (81 + c) u (Aims z x mid left i v) [] b.effects b.end
-      (update_sides_part z os pc w i v rest u e (stands_front z.code pc front ms h) d) (λ t k.
-      reaches z (Describes z [] end) end (81 + c) t b.effects b.end (dressed z end)
-      (indexed_part z o x c (reads_price (top_of os)) place list sure mid i v left t wl li lv small inside (stands_back z.code pc front ms h) k))))
+      alone_behind z front (indexed_update sure o x place list) (owed (below_top under) + (rest_cycles (top_of os) + load_cycles (top_of under))) (81 + c)
+      (86 + owed os) pc u (Aims z x mid left i v) (versioned_updated o place list i v left) (omega (arith, load_owed under, rest_owed os)) h
+      (λ s. update_sides_part z os pc w i v rest u e s d)
+      (λ t s k. indexed_part z o x c (reads_price (top_of os)) place list sure mid i v left t wl li lv small inside s k)
 
   -- the index a number that waits, by whether it is below the length
   number_by : (b sure : Bool) (k : ℕ) (p : Waiting) (os : List Waiting) (pc : ℕ) (w : WordState) (i v : ℕ) (rest : List ℕ) (u : Core) → nat_lt k place.length ≡ b
@@ -516,29 +509,22 @@ module _ (z : Setting) (o : PlainOperation) (place : ArrayPlace) (list : ListPla
       let front = right_to_rest ws in
       let x = rest_source (Some p) in
       let c = reads_cycles (Some p) in
-      let ms = known_update o x place list k in
       let mid = pc + forms_bytes front in
-      let end = mid + forms_bytes ms in
+      let end = mid + forms_bytes (known_update o x place list k) in
       let above = with_stack (i ∷ rest) w in
       let left = with_stack rest w in
-      let b = versioned_updated o place list i v left in
-      let l = owed os + rest_cycles (Some p) in
-      let there : end ≡ pc + forms_bytes (front ++ ms) = omega (arith, forms_bytes-append front ms) in
-      subst (λ n. Does z [] n (86 + owed ws) u b) there
-      (reach_more z 0 (Describes z [] end) (l + (78 + c)) (86 + owed ws) u b.effects b.end (omega (arith, rest_owed (p ∷ [])))
-      (then_reach z 0 (Describes z [] end) l (78 + c) u (Rested z x (waiting.Number k ∷ []) mid above v) [] b.effects b.end
-      (right_part z p (waiting.Number k) os pc w v (i ∷ rest) u e (stands_front z.code pc front ms h) d) (λ t j.
+      alone_behind z front (known_update o x place list k) (owed os + rest_cycles (Some p)) (78 + c) (86 + owed ws) pc u
+      (Rested z x (waiting.Number k ∷ []) mid above v) (versioned_updated o place list i v left) (omega (arith, rest_owed (p ∷ []))) h
+      (λ s. right_part z p (waiting.Number k) os pc w v (i ∷ rest) u e s d)
+      (λ t s j.
       let q = drop_part z (waiting.Number k) [] mid above i rest t refl j.is in
-      reaches z (Describes z [] end) end (78 + c) t b.effects b.end (dressed z end)
-      (subst (λ n. Follows z end (78 + c) t (versioned_updated o place list n v left)) q.1
+      subst (λ n. Follows z end (78 + c) t (versioned_updated o place list n v left)) q.1
       (subst (λ y. Follows z end (78 + c) t (if y then own_updated o place list k v left else goes_on [] left)) (sym lt)
-      (known_part z o x c (reads_price (Some p)) place list k mid v left t (writes_price (Some p)) wl lv (stands_back z.code pc front ms h)
-      (bare z mid left t q.0) j.held))))))
+      (known_part z o x c (reads_price (Some p)) place list k mid v left t (writes_price (Some p)) wl lv s (bare z mid left t q.0) j.held)))
 
   update_on : (bs : List Bound) (os : List Waiting) (pc : ℕ) (w : WordState) (i v : ℕ) (rest : List ℕ) (u : Core) → ((a : ℕ) → w.fram a < 0x10000)
       → i < 0x10000 → v < 0x10000 → w.stack ≡ v ∷ (i ∷ rest) → (is_inside bs (top_of (below_top os)) place.length ≡ true → nat_lt i place.length ≡ true)
-      → Stands z.code pc (step_code bs os (versioned_update o place list)) → Describes z os pc w u
-      → Does z [] (pc + forms_bytes (step_code bs os (versioned_update o place list))) (86 + owed os) u (versioned_updated o place list i v (with_stack rest w))
+      → StepDoes z bs os (versioned_update o place list) 86 pc w u (versioned_updated o place list i v (with_stack rest w))
   update_on bs (p ∷ (waiting.Number k ∷ os)) pc w i v rest u wl li lv e inside h d =
       number_by (nat_lt k place.length) (nat_lt k place.length) k p os pc w i v rest u refl wl li lv e inside h d
   update_on bs os pc w i v rest u wl li lv e inside h d =
@@ -546,10 +532,8 @@ module _ (z : Setting) (o : PlainOperation) (place : ArrayPlace) (list : ListPla
 
   -- an element that is updated in place
   pub in_place_reaches : (bs : List Bound) (os : List Waiting) (pc : ℕ) (w : WordState) (vs : List ℕ) (u : Core) → ((a : ℕ) → w.fram a < 0x10000)
-      → Bounded bs w.locals → w.stack ≡ vs → AllByRecursion (λ v. v < 0x10000) vs
-      → Stands z.code pc (step_code bs os (versioned_update o place list)) → Describes z os pc w u
-      → Does z [] (pc + forms_bytes (step_code bs os (versioned_update o place list))) (86 + owed os) u
-      (with_two vs (λ i v us. versioned_updated o place list i v (with_stack us w)))
+      → Bounded bs w.locals → w.stack ≡ vs → AreWords vs
+      → StepDoes z bs os (versioned_update o place list) 86 pc w u (with_two vs (λ i v us. versioned_updated o place list i v (with_stack us w)))
   in_place_reaches bs os pc w [] u wl lb e l h d = tt
   in_place_reaches bs os pc w (v ∷ []) u wl lb e l h d = tt
   in_place_reaches bs os pc w (v ∷ (i ∷ rest)) u wl lb e l h d =

@@ -18,8 +18,10 @@ use Rattle.array_versions.specs.Laws.{IsStateOfWords, EndsInWords, IsSound}
 use Rattle.msp_isa.specs.declared.instructions.Condition.TheVariants as condition
 use Rattle.msp_isa.specs.declared.operands.Konst.TheVariants as konst
 use Rattle.codegen.specs.declared.waiting.Waiting.TheVariants as waiting
+use Rattle.codegen.proofs.Results.{gathered, Does, number_part, load_part, local_by, keep_reaches, update_reaches, set_reaches, update_local_reaches}
+use Rattle.codegen.proofs.Results.{unary_part, binary_part, shift_reaches, element_reaches, emit_reaches, read_reaches, write_reaches, sense_part, alone_part}
 use Rattle.codegen.proofs.Registers.{HasWord, HasSides, Has, HasTwo, jump_to}
-use Rattle.codegen.proofs.Operands.{Waits, owed, clear_cycles, owed_kept, load_cycles, load_owed, Describes, dressed, flush_part, top_to_four_part}
+use Rattle.codegen.proofs.Operands.{owed, clear_cycles, owed_kept, load_cycles, load_owed, Describes, dressed, flush_part, top_to_four_part}
 use Rattle.codegen.proofs.Operands.{two_to_registers_part}
 use Rattle.codegen.proofs.Stretches.{Setting, runs_on, nothing_run}
 use Rattle.codegen.proofs.Memory.{place_is, assigned_same}
@@ -31,8 +33,6 @@ use Rattle.codegen.proofs.Choices.{Fork, fork_at, fork_turned, fork_both, fork_e
 use Rattle.codegen.proofs.Loops.{loop_by}
 use Rattle.codegen.proofs.Access.{entry_part}
 use Rattle.codegen.proofs.LoopBounds.{Bounded, Spared, spared_so, bounded_with, bounded_on, step_bounded}
-use Rattle.codegen.proofs.Results.{Does, number_part, load_part, local_by, keep_reaches, update_reaches, set_reaches, update_local_reaches, unary_part}
-use Rattle.codegen.proofs.Results.{binary_part, shift_reaches, element_reaches, emit_reaches, read_reaches, write_reaches, sense_part, alone_part, push_under}
 use Rattle.codegen.proofs.VersionUpdates.{in_place_reaches}
 use Rattle.codegen.proofs.Lengths.{compare_length}
 
@@ -116,23 +116,18 @@ module _ (z : Setting) where
         let popped : (next : Place → Type 0) → next (record r.place { depth = r.place.depth - 1 + 0 }) → Ready bs next t =
         λ next f. ready_popped bs next r.place 1 w us f r.matches r.words_in r.bounded left words.1 in
         let under = below_top os in
-        let load = top_to_four os in
-        let pushes = flushed (kept under) in
+        let front = top_to_four os ++ flushed (kept under) in
         let last = decision when d condition.NotEqual condition.Equal in
         let tail = zero_test z ∷ last in
-        let first = pc + forms_bytes load in
-        let mid = first + forms_bytes pushes in
+        let mid = pc + forms_bytes front in
         let l = clear_cycles under + load_cycles (top_of os) in
-        let there = stands_front z.code pc (load ++ pushes) tail h in
-        let here : pc + forms_bytes (load ++ pushes) ≡ mid = omega (arith, forms_bytes-append load pushes) in
-        let back = subst (λ p. Stands z.code p tail) here (stands_back z.code pc (load ++ pushes) tail h) in
+        let back = stands_back z.code pc front tail h in
         let high = (z.tidy mid _ back.0).high in
-        let behind : pc + forms_bytes (holds_code os when d) ≡ mid + 2 + forms_bytes last = omega (arith, here, forms_bytes-append (load ++ pushes) tail) in
+        let behind : pc + forms_bytes (holds_code os when d) ≡ mid + 2 + forms_bytes last = omega (arith, forms_bytes-append front tail) in
         let b = is_true v in
         let most = owed os + (8 + (if b then ch t else cf t)) in
-        let come = runs_on z l (owed (kept under)) u (Waits z (kept under) first t (HasWord R4 v)) (Has z R4 mid t v) [] []
-        (top_to_four_part z os pc w v us u e (stands_front z.code pc load pushes there) i)
-        (λ x k. push_under z (kept under) first t x (stands_back z.code pc load pushes there) k) in
+        let come = gathered z (HasWord R4 v) (top_to_four os) (kept under) l pc t u (stands_front z.code pc front tail h)
+        (λ s. top_to_four_part z os pc w v us u e s i) in
         more_cycles z end (l + owed (kept under) + 1 + 5 + (if b then ch t else cf t)) most u (if b then rh t else rf t).effects (if b then rh t else rf t).end
         (omega (arith, owed_kept under, load_owed os))
         (decided_follows z when b (mid + 2) d holds_at fails_at (l + owed (kept under) + 1) end (ch t) (cf t) condition.NotEqual condition.Equal t u (rh t)
@@ -157,25 +152,20 @@ module _ (z : Setting) where
         λ next f. ready_popped bs next r.place 2 w us f r.matches r.words_in r.bounded left words.1.1 in
         let under = below_top os in
         let ks = kept (below_top under) in
-        let load = two_to_registers os in
-        let pushes = flushed ks in
+        let front = two_to_registers os ++ flushed ks in
         let last = decision when d (holding c) (failing c) in
         let tail = compare_form c ∷ last in
-        let first = pc + forms_bytes load in
-        let mid = first + forms_bytes pushes in
+        let mid = pc + forms_bytes front in
         let l = clear_cycles (below_top under) + (load_cycles (top_of os) + load_cycles (top_of under)) in
-        let there = stands_front z.code pc (load ++ pushes) tail h in
-        let here : pc + forms_bytes (load ++ pushes) ≡ mid = omega (arith, forms_bytes-append load pushes) in
-        let back = subst (λ p. Stands z.code p tail) here (stands_back z.code pc (load ++ pushes) tail h) in
+        let back = stands_back z.code pc front tail h in
         let next : mid + form_bytes (compare_form c) ≡ mid + 2 = omega (arith, compare_length c) in
         let high = (z.tidy mid _ back.0).high in
         let behind : pc + forms_bytes (compares_code os c when d) ≡ mid + 2 + forms_bytes last =
-        omega (arith, here, compare_length c, forms_bytes-append (load ++ pushes) tail) in
+        omega (arith, compare_length c, forms_bytes-append front tail) in
         let b = compare_words c x y in
         let most = owed os + (10 + (if b then ch t else cf t)) in
-        let come = runs_on z l (owed ks) u (Waits z ks first t (HasSides x y)) (HasTwo z mid t x y) [] []
-        (two_to_registers_part z os pc w x y us u e (stands_front z.code pc load pushes there) i)
-        (λ q k. push_under z ks first t q (stands_back z.code pc load pushes there) k) in
+        let come = gathered z (HasSides x y) (two_to_registers os) ks l pc t u (stands_front z.code pc front tail h)
+        (λ s. two_to_registers_part z os pc w x y us u e s i) in
         more_cycles z end (l + owed ks + 1 + 5 + (if b then ch t else cf t)) most u (if b then rh t else rf t).effects (if b then rh t else rf t).end
         (omega (arith, owed_kept (below_top under), load_owed os, load_owed under))
         (decided_follows z when b (mid + 2) d holds_at fails_at (l + owed ks + 1) end (ch t) (cf t) (holding c) (failing c) t u (rh t) (rf t)
