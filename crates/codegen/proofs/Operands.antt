@@ -4,14 +4,14 @@ use Rattle.std.proofs.Common.{Option, Some, None, ◌==◌, eqb-true, refl, sym,
 use Rattle.codegen.proofs.Names.{Flags, unwrap_or, AllByRecursion, put, Goes, IsFram, Konst, constant_value, CycleRow, cycles_of, source_cycles, to_register}
 use Rattle.codegen.proofs.Names.{to_memory, push, put_same, put_other, WorkRegister, R4, R5, work_number, Core, Source, Register, Number, Constant}
 use Rattle.codegen.proofs.Names.{source_operand, source_bytes, source_value, source_read, SourceNeeds, ToRegister, Form, Move, Calculate, Push, HasPushRoom}
-use Rattle.codegen.proofs.Names.{instruction_of, form_bytes, Stands, forms_bytes, Runs, stands_front, stands_back, forms_bytes-append, WordState, with_stack}
-use Rattle.codegen.proofs.Names.{pushed, Waiting, number_source, waiting_source, flushed, top_of, source_from, below_top, any_held, cleared, kept, four_from}
-use Rattle.codegen.proofs.Names.{five_from, top_to_four, stays, sides, right_source, top_to_five, two_to_registers}
+use Rattle.codegen.proofs.Names.{instruction_of, form_bytes, Stands, forms_bytes, Runs, WordState, with_stack, pushed, Waiting, number_source, waiting_source}
+use Rattle.codegen.proofs.Names.{flushed, top_of, source_from, below_top, any_held, cleared, kept, four_from, five_from, top_to_four, stays, sides}
+use Rattle.codegen.proofs.Names.{right_source, top_to_five, two_to_registers}
 use Rattle.msp_isa.specs.declared.instructions.TwoOp.TheVariants as op
 use Rattle.msp_isa.specs.declared.operands.Konst.TheVariants as konst
 use Rattle.codegen.specs.declared.waiting.Waiting.TheVariants as waiting
+use Rattle.codegen.proofs.Stretches.{two_parts, Setting, hop, dearer, nothing_run, so_runs}
 use Rattle.codegen.proofs.Registers.{With, HasWord, HasSides, Holds, Has, Flagged, line, no_borrow, equal_flag}
-use Rattle.codegen.proofs.Stretches.{Setting, hop, runs_on, dearer, nothing_run, so_runs}
 use Rattle.codegen.proofs.Memory.{local_words, in_register, Memory, pop_memory, pop_needs, push_needs, push_memory}
 use Rattle.codegen.proofs.Follows.{StandsFor, stands_elsewhere, memory_as}
 
@@ -285,7 +285,7 @@ module _ (z : Setting) where
 
   push_waiting : (o : Waiting) (pc : ℕ) (w : WordState) (u : Core) → StandsFor z pc w u → IsThere z.locals w.locals o → length w.stack < z.room
       → z.code pc ≡ Some (instruction_of (Push (waiting_source o)))
-      → Runs z.code [] (owed_by o) u (Holds z (AreThese u.work) (pc + form_bytes (Push (waiting_source o))) (pushed (waiting_word w.fram w.locals u.work o) w))
+      → Runs z.code [] (owed_by o) u (Holds z (AreThese u.work) (pc + forms_bytes (Push (waiting_source o) ∷ [])) (pushed (waiting_word w.fram w.locals u.work o) w))
   push_waiting o pc w u i h s c =
       let x = waiting_source o in
       let v = waiting_word w.fram w.locals u.work o in
@@ -298,7 +298,7 @@ module _ (z : Setting) where
       (record {
         is =
             record {
-              at = ap (λ p. p + (2 + source_bytes x)) i.at;
+              at = omega (arith, i.at);
               memory =
                   subst (λ y. Memory z (u.sp - 2) (put u.ram (u.sp - 2) y) (local_words u.work) (v ∷ w.stack) w.locals) (sym (source_word o pc w u i h))
                   (push_memory z v i.memory s);
@@ -315,22 +315,18 @@ module _ (z : Setting) where
       let e : pc ≡ pc + 0 = omega arith in
       nothing_run z u _ (record { is = subst (λ n. StandsFor z n w u) e i; held = refl })
   flush_run (o ∷ os) pc w u i t l h =
-      let ms = flushed os in
-      let m = Push (waiting_source o) in
-      let words = waiting_words w.fram w.locals u.work os in
-      let there = with_stack (words ++ w.stack) w in
-      let mid = pc + forms_bytes ms in
-      let end : mid + form_bytes m ≡ pc + forms_bytes (ms ++ m ∷ []) = omega (arith, forms_bytes-append ms (m ∷ [])) in
-      let room : length (words ++ w.stack) < z.room = omega (arith, l, length-append words w.stack, waiting_length w.fram w.locals u.work os) in
+      let there = with_stack (waiting_words w.fram w.locals u.work os ++ w.stack) w in
+      let mid = pc + forms_bytes (flushed os) in
+      let last = Push (waiting_source o) ∷ [] in
+      let room : length there.stack < z.room =
+      omega (arith, l, length-append (waiting_words w.fram w.locals u.work os) w.stack, waiting_length w.fram w.locals u.work os) in
       let less : length os + length w.stack ≤ z.room = omega (arith, l) in
-      runs_on z (owed os) (owed_by o) u (Holds z (AreThese u.work) mid there) _ [] [] (flush_run os pc w u i t.1 less (stands_front z.code pc ms (m ∷ []) h)) (λ s k.
-      so_runs z [] (owed_by o) s (Holds z (AreThese s.work) (mid + form_bytes m) (pushed (waiting_word w.fram w.locals s.work o) there)) _
-      (λ q j. record {
-        is = subst (λ n. StandsFor z n (pushed (waiting_word w.fram w.locals u.work o) there) q) end
-            (subst (λ g. StandsFor z (mid + form_bytes m) (pushed (waiting_word w.fram w.locals g o) there) q) k.held j.is);
-        held = j.held ∙ k.held;
-      })
-      (push_waiting o mid there s k.is t.0 room (stands_back z.code pc ms (m ∷ []) h).0))
+      let all : (ℕ → ℕ) → WordState = λ g. pushed (waiting_word w.fram w.locals g o) there in
+      two_parts z (flushed os) last (owed os) (owed_by o) pc u (Holds z (AreThese u.work) mid there) (λ n. Holds z (AreThese u.work) n (all u.work)) h
+      (flush_run os pc w u i t.1 less) (λ s c k.
+      so_runs z [] (owed_by o) s (Holds z (AreThese s.work) (mid + forms_bytes last) (all s.work)) _
+      (λ q j. record { is = subst (λ g. StandsFor z (mid + forms_bytes last) (all g) q) k.held j.is; held = j.held ∙ k.held })
+      (push_waiting o mid there s k.is t.0 room c.0))
 
   -- those behind others are pushed
   pub flush_under : (front back : List Waiting) (pc : ℕ) (w : WordState) (u : Core) → Describes z (front ++ back) pc w u → Stands z.code pc (flushed back)
@@ -498,45 +494,37 @@ module _ (z : Setting) where
   four_part os pc w v vs u e none h d = four_move os pc w v vs u e none h d
 
   -- code behind pushes
-  behind_cleared : (back os : List Waiting) (more : List Form) (n pc : ℕ) (w : WordState) (u : Core) (P : ℕ → Core → Type 0)
-      → Runs z.code [] (clear_cycles back) u (Waits z os (pc + forms_bytes (cleared back)) w (AreThese u.work))
-      → ((t : Core) → Describes z os (pc + forms_bytes (cleared back)) w t → Runs z.code [] n t (P (pc + forms_bytes (cleared back) + forms_bytes more)))
-      → Runs z.code [] (clear_cycles back + n) u (P (pc + forms_bytes (cleared back ++ more)))
-  behind_cleared back os more n pc w u P a f =
-      let end : pc + forms_bytes (cleared back) + forms_bytes more ≡ pc + forms_bytes (cleared back ++ more) =
-      omega (arith, forms_bytes-append (cleared back) more) in
-      subst (λ p. Runs z.code [] (clear_cycles back + n) u (P p)) end
-      (runs_on z (clear_cycles back) n u (Waits z os (pc + forms_bytes (cleared back)) w (AreThese u.work)) _ [] [] a (λ t k. f t k.is))
+  behind_cleared : (front back : List Waiting) (more : List Form) (n pc : ℕ) (w : WordState) (u : Core) (P : ℕ → Core → Type 0)
+      → Describes z (front ++ back) pc w u → Stands z.code pc (cleared back ++ more)
+      → (let mid = pc + forms_bytes (cleared back) in ((t : Core) → Stands z.code mid more → Describes z (front ++ kept back) mid w t
+      → Runs z.code [] n t (P (mid + forms_bytes more)))
+      → Runs z.code [] (clear_cycles back + n) u (P (pc + forms_bytes (cleared back ++ more))))
+  behind_cleared front back more n pc w u P d h f =
+      two_parts z (cleared back) more (clear_cycles back) n pc u (Waits z (front ++ kept back) (pc + forms_bytes (cleared back)) w (AreThese u.work)) P h
+      (clear_under front back pc w u d) (λ t s k. f t s k.is)
 
-  only_has : (b : WorkRegister) (os : List Waiting) (pc : ℕ) (w : WordState) (v n : ℕ) (g : ℕ → ℕ) (u : Core) → Runs z.code [] n u (Waits z os pc w (IsLoaded b v g))
-      → Runs z.code [] n u (Waits z os pc w (HasWord b v))
-  only_has b os pc w v n g u = so_runs z [] n u (Waits z os pc w (IsLoaded b v g)) (Waits z os pc w (HasWord b v)) (λ t k. record { is = k.is; held = k.held.value })
+  only_has : {b : WorkRegister} {os : List Waiting} {pc v n : ℕ} {w : WordState} {g : ℕ → ℕ} {u : Core}
+      → Runs z.code [] n u (With (Describes z os pc w) (IsLoaded b v g)) → Runs z.code [] n u (With (Describes z os pc w) (HasWord b v))
+  only_has {b} {os} {pc} {v} {n} {w} {g} {u} =
+      so_runs z [] n u (With (Describes z os pc w) (IsLoaded b v g)) (With (Describes z os pc w) (HasWord b v)) (λ t k. record { is = k.is; held = k.held.value })
 
   pub top_to_four_part : (os : List Waiting) (pc : ℕ) (w : WordState) (v : ℕ) (vs : List ℕ) (u : Core) → w.stack ≡ v ∷ vs
       → Stands z.code pc (top_to_four os) → Describes z os pc w u
       → Runs z.code [] (clear_cycles (below_top os) + load_cycles (top_of os)) u
       (Waits z (kept (below_top os)) (pc + forms_bytes (top_to_four os)) (with_stack vs w) (HasWord R4 v))
-  top_to_four_part [] pc w v vs u e h d =
-      only_has R4 [] (pc + forms_bytes (top_to_four [])) (with_stack vs w) v 2 u.work u (four_part [] pc w v vs u e refl h d)
+  top_to_four_part [] pc w v vs u e h d = only_has (four_part [] pc w v vs u e refl h d)
   top_to_four_part (o ∷ os) pc w v vs u e h d =
-      let more = four_from (Some o) in
-      behind_cleared os (o ∷ kept os) more 3 pc w u (λ p. Waits z (kept os) p (with_stack vs w) (HasWord R4 v))
-      (clear_under (o ∷ []) os pc w u d (stands_front z.code pc (cleared os) more h)) (λ t k.
-      only_has R4 (kept os) (pc + forms_bytes (cleared os) + forms_bytes more) (with_stack vs w) v 3 t.work t
-      (four_part (o ∷ kept os) (pc + forms_bytes (cleared os)) w v vs t e (none_held os) (stands_back z.code pc (cleared os) more h) k))
+      behind_cleared (o ∷ []) os (four_from (Some o)) 3 pc w u (λ p. Waits z (kept os) p (with_stack vs w) (HasWord R4 v)) d h
+      (λ t s k. only_has (four_part (o ∷ kept os) (pc + forms_bytes (cleared os)) w v vs t e (none_held os) s k))
 
   pub top_to_five_part : (os : List Waiting) (pc : ℕ) (w : WordState) (v : ℕ) (vs : List ℕ) (u : Core) → w.stack ≡ v ∷ vs
       → Stands z.code pc (top_to_five os) → Describes z os pc w u
       → Runs z.code [] (clear_cycles (below_top os) + load_cycles (top_of os)) u
       (Waits z (kept (below_top os)) (pc + forms_bytes (top_to_five os)) (with_stack vs w) (HasWord R5 v))
-  top_to_five_part [] pc w v vs u e h d =
-      only_has R5 [] (pc + forms_bytes (top_to_five [])) (with_stack vs w) v 2 u.work u (five_part [] pc w v vs u e h d)
+  top_to_five_part [] pc w v vs u e h d = only_has (five_part [] pc w v vs u e h d)
   top_to_five_part (o ∷ os) pc w v vs u e h d =
-      let more = five_from (Some o) in
-      behind_cleared os (o ∷ kept os) more 3 pc w u (λ p. Waits z (kept os) p (with_stack vs w) (HasWord R5 v))
-      (clear_under (o ∷ []) os pc w u d (stands_front z.code pc (cleared os) more h)) (λ t k.
-      only_has R5 (kept os) (pc + forms_bytes (cleared os) + forms_bytes more) (with_stack vs w) v 3 t.work t
-      (five_part (o ∷ kept os) (pc + forms_bytes (cleared os)) w v vs t e (stands_back z.code pc (cleared os) more h) k))
+      behind_cleared (o ∷ []) os (five_from (Some o)) 3 pc w u (λ p. Waits z (kept os) p (with_stack vs w) (HasWord R5 v)) d h
+      (λ t s k. only_has (five_part (o ∷ kept os) (pc + forms_bytes (cleared os)) w v vs t e s k))
 
   two_loads : (os : List Waiting) (pc : ℕ) (w : WordState) (x y : ℕ) (vs : List ℕ) (u : Core) → w.stack ≡ y ∷ (x ∷ vs)
       → any_held (below_top (below_top os)) ≡ false
@@ -549,15 +537,11 @@ module _ (z : Setting) where
       let second = four_from (top_of under) in
       let mid = pc + forms_bytes first in
       let left = with_stack (x ∷ vs) w in
-      let end : mid + forms_bytes second ≡ pc + forms_bytes (first ++ second) = omega (arith, forms_bytes-append first second) in
-      runs_on z (load_cycles (top_of os)) (load_cycles (top_of under)) u (Waits z under mid left (IsLoaded R5 y u.work)) _ [] []
-      (five_part os pc w y (x ∷ vs) u e (stands_front z.code pc first second h) d) (λ t k.
+      two_parts z first second (load_cycles (top_of os)) (load_cycles (top_of under)) pc u (Waits z under mid left (IsLoaded R5 y u.work))
+      (λ n. Waits z (below_top under) n (with_stack vs w) (HasSides x y)) h (λ s. five_part os pc w y (x ∷ vs) u e s d) (λ t s k.
       so_runs z [] (load_cycles (top_of under)) t (Waits z (below_top under) (mid + forms_bytes second) (with_stack vs w) (IsLoaded R4 x t.work)) _
-      (λ s j. record {
-        is = subst (λ n. Describes z (below_top under) n (with_stack vs w) s) end j.is;
-        held = record { four = j.held.value; five = j.held.others 5 (λ q. omega (arith, q)) ∙ k.held.value };
-      })
-      (four_part under mid left x vs t refl none (stands_back z.code pc first second h) k.is))
+      (λ q j. record { is = j.is; held = record { four = j.held.value; five = j.held.others 5 (λ n. omega (arith, n)) ∙ k.held.value } })
+      (four_part under mid left x vs t refl none s k.is))
 
   sides_by : (b : Bool) (os : List Waiting) (pc : ℕ) (w : WordState) (x y : ℕ) (vs : List ℕ) (u : Core) → stays (top_of os) ≡ b → w.stack ≡ y ∷ (x ∷ vs)
       → any_held (below_top (below_top os)) ≡ false
@@ -606,10 +590,9 @@ module _ (z : Setting) where
       dearer z [] (right_cycles (Some o) + 2) (0 + (right_cycles (Some o) + 2)) u _ (omega arith) (sides_loads (o ∷ []) pc w x y vs u e refl h d)
   sides_part (o ∷ (p ∷ os)) pc w x y vs u e h d =
       let more = (if stays (Some o) then [] else five_from (Some o)) ++ four_from (Some p) in
-      behind_cleared os (o ∷ (p ∷ kept os)) more (right_cycles (Some o) + 3) pc w u
-      (λ n. LoadedSides z (right_source (Some o)) (kept os) n (with_stack vs w) x y)
-      (clear_under (o ∷ (p ∷ [])) os pc w u d (stands_front z.code pc (cleared os) more h)) (λ t k.
-      sides_loads (o ∷ (p ∷ kept os)) (pc + forms_bytes (cleared os)) w x y vs t e (none_held os) (stands_back z.code pc (cleared os) more h) k)
+      behind_cleared (o ∷ (p ∷ [])) os more (right_cycles (Some o) + 3) pc w u
+      (λ n. LoadedSides z (right_source (Some o)) (kept os) n (with_stack vs w) x y) d h
+      (λ t s k. sides_loads (o ∷ (p ∷ kept os)) (pc + forms_bytes (cleared os)) w x y vs t e (none_held os) s k)
 
   pub two_to_registers_part : (os : List Waiting) (pc : ℕ) (w : WordState) (x y : ℕ) (vs : List ℕ) (u : Core) → w.stack ≡ y ∷ (x ∷ vs)
       → Stands z.code pc (two_to_registers os) → Describes z os pc w u
@@ -619,9 +602,8 @@ module _ (z : Setting) where
   two_to_registers_part (o ∷ []) pc w x y vs u e h d = two_loads (o ∷ []) pc w x y vs u e refl h d
   two_to_registers_part (o ∷ (p ∷ os)) pc w x y vs u e h d =
       let more = five_from (Some o) ++ four_from (Some p) in
-      behind_cleared os (o ∷ (p ∷ kept os)) more 6 pc w u (λ n. Waits z (kept os) n (with_stack vs w) (HasSides x y))
-      (clear_under (o ∷ (p ∷ [])) os pc w u d (stands_front z.code pc (cleared os) more h)) (λ t k.
-      two_loads (o ∷ (p ∷ kept os)) (pc + forms_bytes (cleared os)) w x y vs t e (none_held os) (stands_back z.code pc (cleared os) more h) k)
+      behind_cleared (o ∷ (p ∷ [])) os more 6 pc w u (λ n. Waits z (kept os) n (with_stack vs w) (HasSides x y)) d h
+      (λ t s k. two_loads (o ∷ (p ∷ kept os)) (pc + forms_bytes (cleared os)) w x y vs t e (none_held os) s k)
 
   -- the top for a statement, all others being pushed
   pub below_part : (os : List Waiting) (pc : ℕ) (w : WordState) (v : ℕ) (vs : List ℕ) (u : Core) → w.stack ≡ v ∷ vs

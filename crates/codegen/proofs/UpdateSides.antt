@@ -2,14 +2,13 @@
 use Rattle.std.proofs.Common.{◌≡◌, ℕ, ◌+◌, ◌≤◌, Bool, true, false, not, if◌then◌else◌, List, [], ◌∷◌, ◌++◌, Option, Some, None, refl, sym, ap, ◌∙◌, subst}
 use Rattle.std.proofs.Common.{arith}
 use Rattle.codegen.proofs.Names.{source_cycles, to_register, to_memory, R4, R5, Core, Source, Register, source_operand, source_value, source_read, SourceNeeds}
-use Rattle.codegen.proofs.Names.{Form, Stands, forms_bytes, Runs, stands_front, stands_back, forms_bytes-append, WordState, with_stack, Waiting, waiting_source}
-use Rattle.codegen.proofs.Names.{flushed, top_of, source_from, below_top, is_held, any_held, four_from, five_from, rests, rest_source, to_rest, right_to_rest}
-use Rattle.codegen.proofs.Names.{update_sides}
+use Rattle.codegen.proofs.Names.{Form, Stands, forms_bytes, Runs, WordState, with_stack, Waiting, waiting_source, flushed, top_of, source_from, below_top}
+use Rattle.codegen.proofs.Names.{is_held, any_held, four_from, five_from, rests, rest_source, to_rest, right_to_rest, update_sides}
 use Rattle.codegen.specs.declared.waiting.Waiting.TheVariants as waiting
+use Rattle.codegen.proofs.Stretches.{two_parts, Setting, dearer, nothing_run, so_runs}
 use Rattle.codegen.proofs.Registers.{With}
 use Rattle.codegen.proofs.Operands.{Waits, AreThese, IsLoaded, IsThere, owed, owed_least, load_cycles, load_price, load_owed, store_price, number_cases}
 use Rattle.codegen.proofs.Operands.{source_still, source_needs, source_word, Describes, bare, flush_under, drop_part, five_part, four_part}
-use Rattle.codegen.proofs.Stretches.{Setting, runs_on, dearer, nothing_run, so_runs}
 use Rattle.codegen.proofs.Memory.{local_words, local_word, in_register}
 use Rattle.codegen.proofs.Follows.{StandsFor}
 
@@ -148,22 +147,18 @@ module _ (z : Setting) where
       let x = rest_source (top_of os) in
       let left = with_stack (i ∷ vs) w in
       let last = with_stack vs w in
-      let end : mid + forms_bytes second ≡ pc + forms_bytes (first ++ second) = omega (arith, forms_bytes-append first second) in
-      runs_on z (rest_cycles (top_of os)) (load_cycles (top_of under)) u (Rested x under mid left v) _ [] []
-      (rest_part os pc w v (i ∷ vs) u e (stands_front z.code pc first second h) d) (λ t k.
+      two_parts z first second (rest_cycles (top_of os)) (load_cycles (top_of under)) pc u (Rested x under mid left v) (λ n. Aims x n last i v) h
+      (λ s. rest_part os pc w v (i ∷ vs) u e s d) (λ t s k.
       so_runs z [] (load_cycles (top_of under)) t (Waits z (below_top under) (mid + forms_bytes second) last (IsLoaded R4 i t.work)) _
-      (λ s j.
-      let there = subst (λ n. Describes z (below_top under) n last s) end j.is in
-      let here = bare z (pc + forms_bytes (first ++ second)) last s (subst (λ ws. Describes z ws (pc + forms_bytes (first ++ second)) last s) none there) in
-      record {
-        is = here;
+      (λ q j. record {
+        is = bare z (mid + forms_bytes second) last q (subst (λ ws. Describes z ws (mid + forms_bytes second) last q) none j.is);
         held =
             record {
               four = j.held.value;
-              gives = gives_on x v w.fram t.work s.work k.held (j.held.others 5 (λ q. omega (arith, q))) (locals_same s.work t.work j.held.others);
+              gives = gives_on x v w.fram t.work q.work k.held (j.held.others 5 (λ n. omega (arith, n))) (locals_same q.work t.work j.held.others);
             };
       })
-      (four_part z under mid left i vs t refl (ap any_held none) (stands_back z.code pc first second h) k.is))
+      (four_part z under mid left i vs t refl (ap any_held none) s k.is))
 
   -- the same, all words below the two being pushed
   pub update_sides_part : (os : List Waiting) (pc : ℕ) (w : WordState) (i v : ℕ) (vs : List ℕ) (u : Core) → w.stack ≡ v ∷ (i ∷ vs)
@@ -174,14 +169,10 @@ module _ (z : Setting) where
   update_sides_part (o ∷ []) pc w i v vs u e h d =
       dearer z [] (rest_cycles (Some o) + 2) (0 + (rest_cycles (Some o) + 2)) u _ (omega arith) (sides_run (o ∷ []) pc w i v vs u refl e h d)
   update_sides_part (o ∷ (p ∷ os)) pc w i v vs u e h d =
-      let front = flushed os in
-      let more = to_rest (Some o) ++ four_from (Some p) in
-      let mid = pc + forms_bytes front in
-      let end : mid + forms_bytes more ≡ pc + forms_bytes (front ++ more) = omega (arith, forms_bytes-append front more) in
-      subst (λ n. Runs z.code [] (owed os + (rest_cycles (Some o) + 3)) u (Aims (rest_source (Some o)) n (with_stack vs w) i v)) end
-      (runs_on z (owed os) (rest_cycles (Some o) + 3) u (Waits z (o ∷ (p ∷ [])) mid w (AreThese u.work)) _ [] []
-      (flush_under z (o ∷ (p ∷ [])) os pc w u d (stands_front z.code pc front more h)) (λ t k.
-      sides_run (o ∷ (p ∷ [])) mid w i v vs t refl e (stands_back z.code pc front more h) k.is))
+      let mid = pc + forms_bytes (flushed os) in
+      two_parts z (flushed os) (to_rest (Some o) ++ four_from (Some p)) (owed os) (rest_cycles (Some o) + 3) pc u
+      (Waits z (o ∷ (p ∷ [])) mid w (AreThese u.work)) (λ n. Aims (rest_source (Some o)) n (with_stack vs w) i v) h (flush_under z (o ∷ (p ∷ [])) os pc w u d)
+      (λ t s k. sides_run (o ∷ (p ∷ [])) mid w i v vs t refl e s k.is)
 
   -- the same without the index
   pub right_part : (o p : Waiting) (os : List Waiting) (pc : ℕ) (w : WordState) (v : ℕ) (vs : List ℕ) (u : Core) → w.stack ≡ v ∷ vs
@@ -189,11 +180,7 @@ module _ (z : Setting) where
       → Runs z.code [] (owed os + rest_cycles (Some o)) u
       (Rested (rest_source (Some o)) (p ∷ []) (pc + forms_bytes (right_to_rest (o ∷ (p ∷ os)))) (with_stack vs w) v)
   right_part o p os pc w v vs u e h d =
-      let front = flushed os in
-      let more = to_rest (Some o) in
-      let mid = pc + forms_bytes front in
-      let end : mid + forms_bytes more ≡ pc + forms_bytes (front ++ more) = omega (arith, forms_bytes-append front more) in
-      subst (λ n. Runs z.code [] (owed os + rest_cycles (Some o)) u (Rested (rest_source (Some o)) (p ∷ []) n (with_stack vs w) v)) end
-      (runs_on z (owed os) (rest_cycles (Some o)) u (Waits z (o ∷ (p ∷ [])) mid w (AreThese u.work)) _ [] []
-      (flush_under z (o ∷ (p ∷ [])) os pc w u d (stands_front z.code pc front more h)) (λ t k.
-      rest_part (o ∷ (p ∷ [])) mid w v vs t e (stands_back z.code pc front more h) k.is))
+      let mid = pc + forms_bytes (flushed os) in
+      two_parts z (flushed os) (to_rest (Some o)) (owed os) (rest_cycles (Some o)) pc u (Waits z (o ∷ (p ∷ [])) mid w (AreThese u.work))
+      (λ n. Rested (rest_source (Some o)) (p ∷ []) n (with_stack vs w) v) h (flush_under z (o ∷ (p ∷ [])) os pc w u d)
+      (λ t s k. rest_part (o ∷ (p ∷ [])) mid w v vs t e s k.is)
