@@ -1,11 +1,11 @@
 -- Code that is appended piece by piece.
 use Rattle.std.proofs.Common.{◌≡◌, ℕ, suc, ◌+◌, ◌-◌, ◌<◌, ◌≤◌, List, [], ◌∷◌, ◌++◌, length, drop, get_or, sym, ap, ◌∙◌, arith, append_assoc, drop-cons, refl}
 use Rattle.std.proofs.Common.{Some, ◌==◌, add-one, rules, Bool, true, false, if◌then◌else◌, Result, Ok, Err, is_ok}
-use Rattle.codegen.proofs.Names.{remove, slice_index_or, OnOk, on_ok_weaker, Word, Instr, Two, Form, Push, instruction_of, instructions, instruction_words}
-use Rattle.codegen.proofs.Names.{instructions-append, Comparison, PlainOperation, ArrayPlace, ListPlace, Step, Test, Program, local, set_local, update_local}
-use Rattle.codegen.proofs.Names.{versioned_read, versioned_write, versioned_update, truth, choose, repeat, holds, compares, both, either, fails, nothing, step}
-use Rattle.codegen.proofs.Names.{step_of, steps_of, test_of, StepLocalsBelow, TestLocalsBelow, LocalsBelow, Bound, Waiting, waiting_source, flushed, top_of}
-use Rattle.codegen.proofs.Names.{below_top, repeated, size, waiting_behind, step_code, steps_code}
+use Rattle.codegen.proofs.Names.{test_code, test_words, remove, slice_index_or, OnOk, on_ok_weaker, Word, Instr, Two, Form, Push, instruction_of, instructions}
+use Rattle.codegen.proofs.Names.{instruction_words, instructions-append, Comparison, PlainOperation, ArrayPlace, ListPlace, Step, Test, Program, local}
+use Rattle.codegen.proofs.Names.{set_local, update_local, versioned_read, versioned_write, versioned_update, truth, choose, repeat, holds, compares, both}
+use Rattle.codegen.proofs.Names.{either, fails, nothing, step, step_of, steps_of, test_of, StepLocalsBelow, TestLocalsBelow, LocalsBelow, Bound, Waiting}
+use Rattle.codegen.proofs.Names.{waiting_source, flushed, top_of, below_top, repeated, size, waiting_behind, step_code, steps_code}
 use Rattle.array_versions.specs.declared.program.WordStep.{WordStep, the_lemmas}
 use Rattle.array_versions.specs.declared.program.WordStep.TheVariants.{VersionedRead, VersionedWrite, VersionedUpdate, Choose}
 use Rattle.array_versions.specs.declared.program.WordTest.{WordTest}
@@ -16,7 +16,7 @@ use Rattle.msp_isa.specs.declared.operands.Src.{Src}
 use Rattle.std.specs.declared.alloc.Global.{Global}
 use Rattle.std.specs.declared.boxed.Box.{Box}
 use Rattle.std.specs.declared.vec.Vec.{Vec}
-use Rattle.codegen.proofs.Lengths.{size_words}
+use Rattle.codegen.proofs.Lengths.{test_takes, size_words}
 
 -- ---- one level of a step and of a test
 
@@ -151,6 +151,22 @@ words_at_most false n = omega arith
 -- the words of such a part
 pub own_words : (own : List Instr) (ms : List Form) → own ≡ instructions ms → length (instruction_words own) ≡ size ms
 own_words own ms e = ap (λ l. length (instruction_words l)) e ∙ sym (size_words ms)
+
+-- code that was made by itself, from nothing
+pub made_alone : {A : Type 0} (made : A → List Form) (x y : A) (old new : List Instr) → new ≡ old ++ instructions (made x) → x ≡ y → old ≡ []
+    → new ≡ instructions (made y)
+made_alone made x y old new e p q = e ∙ ap (λ v. old ++ instructions (made v)) p ∙ ap (λ l. l ++ instructions (made y)) q
+
+-- a part behind such code
+pub two_made : {A : Type 0} (made : A → List Form) (x y : A) (a : List Form) (old new : List Instr) → new ≡ old ++ instructions (made x) → x ≡ y
+    → old ≡ instructions a → new ≡ instructions (a ++ made y)
+two_made made x y a old new e p q =
+    e ∙ ap (λ v. old ++ instructions (made v)) p ∙ ap (λ l. l ++ instructions (made y)) q ∙ sym (instructions-append a (made y))
+
+-- the words of a test's code, at most
+pub test_items : (bs : List Bound) (t : Test) (when : Bool) (d : ℕ) (own : List Instr) → own ≡ instructions (test_code bs t when d)
+    → length (instruction_words own) ≤ test_words t
+test_items bs t when d own e = omega (arith, own_words own (test_code bs t when d) e, (test_takes bs t when d).bytes)
 
 -- more room for locals
 mutual
