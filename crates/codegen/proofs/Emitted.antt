@@ -1,7 +1,7 @@
 -- Code that is appended piece by piece.
 use Rattle.std.proofs.Common.{◌≡◌, ℕ, suc, ◌+◌, ◌-◌, ◌<◌, ◌≤◌, List, [], ◌∷◌, ◌++◌, length, drop, get_or, sym, ap, ◌∙◌, arith, append_assoc, drop-cons, refl}
 use Rattle.std.proofs.Common.{Some, ◌==◌, add-one, rules, Bool, true, false, if◌then◌else◌, Result, Ok, Err, is_ok}
-use Rattle.codegen.proofs.Names.{test_code, test_words, remove, slice_index_or, OnOk, on_ok_weaker, Word, Instr, Two, Form, Push, instruction_of, instructions}
+use Rattle.codegen.proofs.Names.{test_code, test_words, remove, slice_index_or, on_ok_weaker, Word, Instr, Two, Form, Push, instruction_of, instructions}
 use Rattle.codegen.proofs.Names.{instruction_words, instructions-append, Comparison, PlainOperation, ArrayPlace, ListPlace, Step, Test, Program, local}
 use Rattle.codegen.proofs.Names.{set_local, update_local, versioned_read, versioned_write, versioned_update, truth, choose, repeat, holds, compares, both}
 use Rattle.codegen.proofs.Names.{either, fails, nothing, step, step_of, steps_of, test_of, StepLocalsBelow, TestLocalsBelow, LocalsBelow, Bound, Waiting}
@@ -13,6 +13,7 @@ use Rattle.array_versions.specs.declared.program.WordTest.TheVariants.{Holds, Co
 use Rattle.msp_isa.specs.declared.instructions.TwoOp.{TwoOp}
 use Rattle.msp_isa.specs.declared.operands.Dst.{Dst}
 use Rattle.msp_isa.specs.declared.operands.Src.{Src}
+use Rattle.std.specs.Result.{OnOk}
 use Rattle.std.specs.declared.alloc.Global.{Global}
 use Rattle.std.specs.declared.boxed.Box.{Box}
 use Rattle.std.specs.declared.vec.Vec.{Vec}
@@ -152,16 +153,15 @@ words_at_most false n = omega arith
 pub own_words : (own : List Instr) (ms : List Form) → own ≡ instructions ms → length (instruction_words own) ≡ size ms
 own_words own ms e = ap (λ l. length (instruction_words l)) e ∙ sym (size_words ms)
 
--- code that was made by itself, from nothing
-pub made_alone : {A : Type 0} (made : A → List Form) (x y : A) (old new : List Instr) → new ≡ old ++ instructions (made x) → x ≡ y → old ≡ []
-    → new ≡ instructions (made y)
-made_alone made x y old new e p q = e ∙ ap (λ v. old ++ instructions (made v)) p ∙ ap (λ l. l ++ instructions (made y)) q
+-- code behind other code
+pub code_behind : (a b : List Form) (old mid new : List Instr) → new ≡ mid ++ instructions b → mid ≡ old ++ instructions a
+    → new ≡ old ++ instructions (a ++ b)
+code_behind a b old mid new e q = e ∙ ap (λ l. l ++ instructions b) q ∙ two_behind old a b
 
--- a part behind such code
-pub two_made : {A : Type 0} (made : A → List Form) (x y : A) (a : List Form) (old new : List Instr) → new ≡ old ++ instructions (made x) → x ≡ y
-    → old ≡ instructions a → new ≡ instructions (a ++ made y)
-two_made made x y a old new e p q =
-    e ∙ ap (λ v. old ++ instructions (made v)) p ∙ ap (λ l. l ++ instructions (made y)) q ∙ sym (instructions-append a (made y))
+-- the same, made of what is known by another name
+pub made_next : {A : Type 0} (made : A → List Form) (x y : A) (a : List Form) (old mid new : List Instr) → new ≡ mid ++ instructions (made x) → x ≡ y
+    → mid ≡ old ++ instructions a → new ≡ old ++ instructions (a ++ made y)
+made_next made x y a old mid new e p q = code_behind a (made y) old mid new (e ∙ ap (λ v. mid ++ instructions (made v)) p) q
 
 -- the words of a test's code, at most
 pub test_items : (bs : List Bound) (t : Test) (when : Bool) (d : ℕ) (own : List Instr) → own ≡ instructions (test_code bs t when d)

@@ -37,5 +37,5 @@ returns c =
     let front = Calculate op.Cmp (Number c.args.place.length) R4 ∷ Jump condition.Carry (size ms) ∷ [] in
     let first = c.in_ok-extend_from_slice.ensures.items ∙ ap (λ l. old ++ l) (cons _ _ _ _ c.two.ensures
     (cons _ _ _ _ (c.jump.ensures ∙ ap (λ n. instruction_of (Jump condition.Carry n)) words) refl)) in
-    own_behind c.extend_from_slice-2.result old c.extend_from_slice.new.self.items c.deref-2.result.now _ front ms _ first (c.deref-2.ensures.value ∙ own) refl
+    own_behind c.extend_from_slice-2.result _ _ _ _ front ms _ first (c.deref-2.ensures.value ∙ own) refl
     (on_ok_items c.extend_from_slice-2.result _ _ _ c.extend_from_slice-2.ensures.items)

@@ -23,5 +23,5 @@ returns c =
     let other = c.deref.ensures.value ∙ c.in_ok-emit_first_update.ensures ∙ ap (λ l. l ++ instructions rest) loaded in
     let looked = c.in_ok-extend_from_slice-2.ensures.items ∙ ap (λ l. old ++ l) (cons _ _ _ _ c.attempt_number.ensures
     (cons _ _ _ _ (from_source _ _ _ _ _ c.two-3.ensures c.absolute.ensures) refl)) in
-    own_behind c.emit_by_version.result old c.extend_from_slice-2.new.self.items _ c.emit_by_version.new.code.items front (by_version again first) _ looked
+    own_behind c.emit_by_version.result _ _ _ c.emit_by_version.new.code.items front (by_version again first) _ looked
     (two_ways (c.two.result ∷ []) c.deref.result.now again first one other) refl c.emit_by_version.ensures

@@ -5,9 +5,9 @@ use Rattle.codegen.proofs.Names.{OfWords, words_of, step_words, test_words, flus
 use Rattle.codegen.proofs.Names.{number_code, turn_end, turns_code, waiting_after, step_code, test_code, steps_code, bound_of, block_code}
 use Rattle.array_versions.specs.declared.program.WordStep as word_step
 use Rattle.msp_isa.specs.declared.instructions.Condition.TheVariants as condition
-use Rattle.codegen.proofs.Emitted.{made_alone, two_made, test_items, step_of-choose, step_of-read, step_of-write, step_of-update, test_of-holds}
-use Rattle.codegen.proofs.Emitted.{test_of-compares, test_of-both, test_of-either, part_behind, two_behind, own_behind, on_ok_items, words_at_most, own_words}
-use Rattle.codegen.proofs.Emitted.{step_owed, left_front}
+use Rattle.codegen.proofs.Emitted.{made_next, test_items, step_of-choose, step_of-read, step_of-write, step_of-update, test_of-holds, test_of-compares}
+use Rattle.codegen.proofs.Emitted.{test_of-both, test_of-either, part_behind, two_behind, own_behind, on_ok_items, words_at_most, own_words, step_owed}
+use Rattle.codegen.proofs.Emitted.{left_front}
 use Rattle.codegen.proofs.Lengths.{pass_takes, turn_end_takes, inner_takes}
 use Rattle.codegen.proofs.program.+emit.Goals as goal
 
@@ -132,7 +132,7 @@ emit_test-code_words-requires t c =
     let bs = c.args.bounds.now in
     let of = c.in-Both in
     let is = ap test_of of.is ∙ test_of-both of.first of.second in
-    let own = made_alone (λ x. test_code bs (test_of x) c.args.when c.args.over) _ _ _ _ c.in_ok-emit_test-in-Both.ensures.code c.deref-in-Both.ensures
+    let own = made_next (λ x. test_code bs (test_of x) c.args.when c.args.over) _ _ [] [] _ _ c.in_ok-emit_test-in-Both.ensures.code c.deref-in-Both.ensures
     c.new-behind.ensures.items in
     let words = test_items bs (test_of of.second.value) c.args.when c.args.over _ (c.deref-in-Both-2.ensures.value ∙ own) in
     omega (arith, words, ap test_words is, c.requires.room)
@@ -142,7 +142,7 @@ emit_test-overflow_add-further t c =
     let bs = c.args.bounds.now in
     let of = c.in-Both in
     let is = ap test_of of.is ∙ test_of-both of.first of.second in
-    let own = made_alone (λ x. test_code bs (test_of x) c.args.when c.args.over) _ _ _ _ c.in_ok-emit_test-in-Both.ensures.code c.deref-in-Both.ensures
+    let own = made_next (λ x. test_code bs (test_of x) c.args.when c.args.over) _ _ [] [] _ _ c.in_ok-emit_test-in-Both.ensures.code c.deref-in-Both.ensures
     c.new-behind.ensures.items in
     let words = test_items bs (test_of of.second.value) c.args.when c.args.over _ (c.deref-in-Both-2.ensures.value ∙ own) in
     omega (arith, words, ap test_words is, c.requires.room, c.code_words.ensures, c.words_if.ensures, words_at_most (not c.args.when) c.args.over)
@@ -152,14 +152,21 @@ emit_test-emit_test-requires-in-Both t c =
     let bs = c.args.bounds.now in
     let of = c.in-Both in
     let is = ap test_of of.is ∙ test_of-both of.first of.second in
-    let own = made_alone (λ x. test_code bs (test_of x) c.args.when c.args.over) _ _ _ _ c.in_ok-emit_test-in-Both.ensures.code c.deref-in-Both.ensures
+    let own = made_next (λ x. test_code bs (test_of x) c.args.when c.args.over) _ _ [] [] _ _ c.in_ok-emit_test-in-Both.ensures.code c.deref-in-Both.ensures
     c.new-behind.ensures.items in
     let words = test_items bs (test_of of.second.value) c.args.when c.args.over _ (c.deref-in-Both-2.ensures.value ∙ own) in
     let first = ap (λ x. test_words (test_of x)) c.deref-in-Both-3.ensures in (
       search (rules, word_step.the_lemmas),
       (
         omega (
-          arith, words, first, ap test_words is, c.requires.room, c.code_words.ensures, c.words_if.ensures, words_at_most (not c.args.when) c.args.over
+          arith,
+          words,
+          first,
+          ap test_words is,
+          c.requires.room,
+          c.code_words.ensures,
+          c.words_if.ensures,
+          words_at_most (not c.args.when) c.args.over,
         ),
         subst (λ x. TestLocalsBelow 1008 (test_of x)) (sym c.deref-in-Both-3.ensures) (subst (TestLocalsBelow 1008) is c.requires.locals).0,
       ),
@@ -170,7 +177,7 @@ emit_test-returns-in_ok-emit_test-in-Both-2-clause-code t c =
     let bs = c.args.bounds.now in
     let of = c.in-Both in
     let is = ap test_of of.is ∙ test_of-both of.first of.second in
-    let own = made_alone (λ x. test_code bs (test_of x) c.args.when c.args.over) _ _ _ _ c.in_ok-emit_test-in-Both.ensures.code c.deref-in-Both.ensures
+    let own = made_next (λ x. test_code bs (test_of x) c.args.when c.args.over) _ _ [] [] _ _ c.in_ok-emit_test-in-Both.ensures.code c.deref-in-Both.ensures
     c.new-behind.ensures.items in
     let a = test_of of.first.value in
     let second = test_code bs (test_of of.second.value) c.args.when c.args.over in
@@ -190,7 +197,7 @@ emit_test-code_words-requires-in-Either t c =
     let bs = c.args.bounds.now in
     let of = c.in-Either in
     let is = ap test_of of.is ∙ test_of-either of.first of.second in
-    let own = made_alone (λ x. test_code bs (test_of x) c.args.when c.args.over) _ _ _ _ c.in_ok-emit_test-in-Either.ensures.code c.deref-in-Either.ensures
+    let own = made_next (λ x. test_code bs (test_of x) c.args.when c.args.over) _ _ [] [] _ _ c.in_ok-emit_test-in-Either.ensures.code c.deref-in-Either.ensures
     c.new-behind-in-Either.ensures.items in
     let words = test_items bs (test_of of.second.value) c.args.when c.args.over _ (c.deref-in-Either-2.ensures.value ∙ own) in
     omega (arith, words, ap test_words is, c.requires.room)
@@ -200,7 +207,7 @@ emit_test-overflow_add-further-in-Either t c =
     let bs = c.args.bounds.now in
     let of = c.in-Either in
     let is = ap test_of of.is ∙ test_of-either of.first of.second in
-    let own = made_alone (λ x. test_code bs (test_of x) c.args.when c.args.over) _ _ _ _ c.in_ok-emit_test-in-Either.ensures.code c.deref-in-Either.ensures
+    let own = made_next (λ x. test_code bs (test_of x) c.args.when c.args.over) _ _ [] [] _ _ c.in_ok-emit_test-in-Either.ensures.code c.deref-in-Either.ensures
     c.new-behind-in-Either.ensures.items in
     let words = test_items bs (test_of of.second.value) c.args.when c.args.over _ (c.deref-in-Either-2.ensures.value ∙ own) in
     omega (arith, words, ap test_words is, c.requires.room, c.code_words-in-Either.ensures, c.words_if-in-Either.ensures, words_at_most c.args.when c.args.over)
@@ -210,15 +217,21 @@ emit_test-emit_test-requires-in-Either-2 t c =
     let bs = c.args.bounds.now in
     let of = c.in-Either in
     let is = ap test_of of.is ∙ test_of-either of.first of.second in
-    let own = made_alone (λ x. test_code bs (test_of x) c.args.when c.args.over) _ _ _ _ c.in_ok-emit_test-in-Either.ensures.code c.deref-in-Either.ensures
+    let own = made_next (λ x. test_code bs (test_of x) c.args.when c.args.over) _ _ [] [] _ _ c.in_ok-emit_test-in-Either.ensures.code c.deref-in-Either.ensures
     c.new-behind-in-Either.ensures.items in
     let words = test_items bs (test_of of.second.value) c.args.when c.args.over _ (c.deref-in-Either-2.ensures.value ∙ own) in
     let first = ap (λ x. test_words (test_of x)) c.deref-in-Either-3.ensures in (
       search (rules, word_step.the_lemmas),
       (
         omega (
-          arith, words, first, ap test_words is, c.requires.room, c.code_words-in-Either.ensures, c.words_if-in-Either.ensures,
-          words_at_most c.args.when c.args.over
+          arith,
+          words,
+          first,
+          ap test_words is,
+          c.requires.room,
+          c.code_words-in-Either.ensures,
+          c.words_if-in-Either.ensures,
+          words_at_most c.args.when c.args.over,
         ),
         subst (λ x. TestLocalsBelow 1008 (test_of x)) (sym c.deref-in-Either-3.ensures) (subst (TestLocalsBelow 1008) is c.requires.locals).0,
       ),
@@ -229,7 +242,7 @@ emit_test-returns-in_ok-emit_test-in-Either-2-clause-code t c =
     let bs = c.args.bounds.now in
     let of = c.in-Either in
     let is = ap test_of of.is ∙ test_of-either of.first of.second in
-    let own = made_alone (λ x. test_code bs (test_of x) c.args.when c.args.over) _ _ _ _ c.in_ok-emit_test-in-Either.ensures.code c.deref-in-Either.ensures
+    let own = made_next (λ x. test_code bs (test_of x) c.args.when c.args.over) _ _ [] [] _ _ c.in_ok-emit_test-in-Either.ensures.code c.deref-in-Either.ensures
     c.new-behind-in-Either.ensures.items in
     let a = test_of of.first.value in
     let second = test_code bs (test_of of.second.value) c.args.when c.args.over in
@@ -250,9 +263,9 @@ emit_loop-code_words-over-requires t c =
     let body = steps_of c.args.body.now in
     let end = turn_end c.args.n c.args.below in
     let made = block_code inner body in
-    let block = made_alone (λ ws. block_code ws body) _ _ _ _ c.in_ok-emit_block.ensures.code (c.deref.ensures.value ∙ c.in_ok-inner.ensures)
+    let block = made_next (λ ws. block_code ws body) _ _ [] [] _ _ c.in_ok-emit_block.ensures.code (c.deref.ensures.value ∙ c.in_ok-inner.ensures)
     c.new-turn.ensures.items in
-    let turn = two_made (turn_end c.args.n) _ c.args.below made _ _ c.in_ok-emit_turn_end.ensures refl block in
+    let turn = made_next (turn_end c.args.n) _ c.args.below made [] _ _ c.in_ok-emit_turn_end.ensures refl block in
     let words = own_words c.deref-then-from-below-2.result.now (made ++ end) (c.deref-then-from-below-2.ensures.value ∙ turn) in
     omega (arith, words, forms_bytes-append made end, (inner_takes inner body).bytes, (turn_end_takes c.args.n c.args.below).bytes, c.requires.room)
 
@@ -262,9 +275,9 @@ emit_loop-emit_jump_back-requires t c =
     let body = steps_of c.args.body.now in
     let end = turn_end c.args.n c.args.below in
     let made = block_code inner body in
-    let block = made_alone (λ ws. block_code ws body) _ _ _ _ c.in_ok-emit_block.ensures.code (c.deref.ensures.value ∙ c.in_ok-inner.ensures)
+    let block = made_next (λ ws. block_code ws body) _ _ [] [] _ _ c.in_ok-emit_block.ensures.code (c.deref.ensures.value ∙ c.in_ok-inner.ensures)
     c.new-turn.ensures.items in
-    let turn = two_made (turn_end c.args.n) _ c.args.below made _ _ c.in_ok-emit_turn_end.ensures refl block in
+    let turn = made_next (turn_end c.args.n) _ c.args.below made [] _ _ c.in_ok-emit_turn_end.ensures refl block in
     let words = own_words c.deref-then-from-below-2.result.now (made ++ end) (c.deref-then-from-below-2.ensures.value ∙ turn) in
     let short = inner_takes inner body in
     omega (arith, words, forms_bytes-append made end, short.bytes, (turn_end_takes c.args.n c.args.below).bytes, c.requires.room, c.code_words-over.ensures)
@@ -279,9 +292,9 @@ emit_loop-returns-then-from-below-clause-code t c =
     let start = number_code c.args.n c.args.from in
     let turn = made ++ turn_end c.args.n below in
     let back = jump_back condition.NotEqual condition.Equal in
-    let block = made_alone (λ ws. block_code ws (steps_of c.args.body.now)) _ _ _ _ c.in_ok-emit_block.ensures.code
+    let block = made_next (λ ws. block_code ws (steps_of c.args.body.now)) _ _ [] [] _ _ c.in_ok-emit_block.ensures.code
     (c.deref.ensures.value ∙ c.in_ok-inner.ensures) c.new-turn.ensures.items in
-    let own = two_made (turn_end c.args.n) _ below made _ _ c.in_ok-emit_turn_end.ensures refl block in
+    let own = made_next (turn_end c.args.n) _ below made [] _ _ c.in_ok-emit_turn_end.ensures refl block in
     let words = own_words c.deref-then-from-below-2.result.now turn (c.deref-then-from-below-2.ensures.value ∙ own) in
     let first = c.in_ok-extend_from_slice.ensures.items ∙ ap (λ l. c.emit_number.new.code.items ++ l) (c.deref-then-from-below.ensures.value ∙ own)
     ∙ ap (λ l. l ++ instructions turn) c.in_ok-emit_number.ensures ∙ two_behind c.emit_all.new.code.items start turn
@@ -298,7 +311,7 @@ emit_step-code_words-requires t c =
     let of = c.in-Choose in
     let is = ap step_of of.is ∙ step_of-choose of.test of.taken of.otherwise in
     let other = block_code bs (steps_of of.otherwise.items) in
-    let otherwise = made_alone (λ s. block_code bs (steps_of s)) _ _ _ _ c.in_ok-emit_block-in-Choose.ensures.code c.deref.ensures.value
+    let otherwise = made_next (λ s. block_code bs (steps_of s)) _ _ [] [] _ _ c.in_ok-emit_block-in-Choose.ensures.code c.deref.ensures.value
     c.new-other.ensures.items in
     let behind = own_words c.deref-in-Choose-2.result.now other (c.deref-in-Choose-2.ensures.value ∙ otherwise) in
     omega (arith, behind, (inner_takes bs (steps_of of.otherwise.items)).bytes, ap step_words is, c.requires.room)
@@ -309,7 +322,7 @@ emit_step-emit_pass_over-requires t c =
     let of = c.in-Choose in
     let is = ap step_of of.is ∙ step_of-choose of.test of.taken of.otherwise in
     let other = block_code bs (steps_of of.otherwise.items) in
-    let otherwise = made_alone (λ s. block_code bs (steps_of s)) _ _ _ _ c.in_ok-emit_block-in-Choose.ensures.code c.deref.ensures.value
+    let otherwise = made_next (λ s. block_code bs (steps_of s)) _ _ [] [] _ _ c.in_ok-emit_block-in-Choose.ensures.code c.deref.ensures.value
     c.new-other.ensures.items in
     let behind = own_words c.deref-in-Choose-2.result.now other (c.deref-in-Choose-2.ensures.value ∙ otherwise) in
     omega (arith, behind, (inner_takes bs (steps_of of.otherwise.items)).bytes, ap step_words is, c.requires.room, c.code_words.ensures)
@@ -322,12 +335,12 @@ emit_step-code_words-requires-in-Choose t c =
     let b = block_code bs (steps_of of.taken.items) in
     let other = block_code bs (steps_of of.otherwise.items) in
     let over = pass_over (size other) in
-    let otherwise = made_alone (λ s. block_code bs (steps_of s)) _ _ _ _ c.in_ok-emit_block-in-Choose.ensures.code c.deref.ensures.value
+    let otherwise = made_next (λ s. block_code bs (steps_of s)) _ _ [] [] _ _ c.in_ok-emit_block-in-Choose.ensures.code c.deref.ensures.value
     c.new-other.ensures.items in
     let behind = own_words c.deref-in-Choose-2.result.now other (c.deref-in-Choose-2.ensures.value ∙ otherwise) in
-    let taken = made_alone (λ s. block_code bs (steps_of s)) _ _ _ _ c.in_ok-emit_block-in-Choose-2.ensures.code c.deref-in-Choose.ensures.value
+    let taken = made_next (λ s. block_code bs (steps_of s)) _ _ [] [] _ _ c.in_ok-emit_block-in-Choose-2.ensures.code c.deref-in-Choose.ensures.value
     c.new-first.ensures.items in
-    let first = two_made pass_over _ (size other) b _ _ c.in_ok-emit_pass_over-in-Choose.ensures (c.code_words.ensures ∙ behind) taken in
+    let first = made_next pass_over _ (size other) b [] _ _ c.in_ok-emit_pass_over-in-Choose.ensures (c.code_words.ensures ∙ behind) taken in
     let words = own_words c.deref-in-Choose-3.result.now (b ++ over) (c.deref-in-Choose-3.ensures.value ∙ first) in
     let short = inner_takes bs (steps_of of.taken.items) in
     omega (arith, words, forms_bytes-append b over, short.bytes, (pass_takes (size other)).bytes, ap step_words is, c.requires.room)
@@ -340,12 +353,12 @@ emit_step-emit_test-requires t c =
     let b = block_code bs (steps_of of.taken.items) in
     let other = block_code bs (steps_of of.otherwise.items) in
     let over = pass_over (size other) in
-    let otherwise = made_alone (λ s. block_code bs (steps_of s)) _ _ _ _ c.in_ok-emit_block-in-Choose.ensures.code c.deref.ensures.value
+    let otherwise = made_next (λ s. block_code bs (steps_of s)) _ _ [] [] _ _ c.in_ok-emit_block-in-Choose.ensures.code c.deref.ensures.value
     c.new-other.ensures.items in
     let behind = own_words c.deref-in-Choose-2.result.now other (c.deref-in-Choose-2.ensures.value ∙ otherwise) in
-    let taken = made_alone (λ s. block_code bs (steps_of s)) _ _ _ _ c.in_ok-emit_block-in-Choose-2.ensures.code c.deref-in-Choose.ensures.value
+    let taken = made_next (λ s. block_code bs (steps_of s)) _ _ [] [] _ _ c.in_ok-emit_block-in-Choose-2.ensures.code c.deref-in-Choose.ensures.value
     c.new-first.ensures.items in
-    let first = two_made pass_over _ (size other) b _ _ c.in_ok-emit_pass_over-in-Choose.ensures (c.code_words.ensures ∙ behind) taken in
+    let first = made_next pass_over _ (size other) b [] _ _ c.in_ok-emit_pass_over-in-Choose.ensures (c.code_words.ensures ∙ behind) taken in
     let words = own_words c.deref-in-Choose-3.result.now (b ++ over) (c.deref-in-Choose-3.ensures.value ∙ first) in (
       search (rules, word_step.the_lemmas),
       (
@@ -371,12 +384,12 @@ emit_step-returns-in_ok-extend_from_slice-in-Choose-clause-code t c =
     let b = block_code bs (steps_of of.taken.items) in
     let other = block_code bs (steps_of of.otherwise.items) in
     let over = pass_over (size other) in
-    let otherwise = made_alone (λ s. block_code bs (steps_of s)) _ _ _ _ c.in_ok-emit_block-in-Choose.ensures.code c.deref.ensures.value
+    let otherwise = made_next (λ s. block_code bs (steps_of s)) _ _ [] [] _ _ c.in_ok-emit_block-in-Choose.ensures.code c.deref.ensures.value
     c.new-other.ensures.items in
     let behind = own_words c.deref-in-Choose-2.result.now other (c.deref-in-Choose-2.ensures.value ∙ otherwise) in
-    let taken = made_alone (λ s. block_code bs (steps_of s)) _ _ _ _ c.in_ok-emit_block-in-Choose-2.ensures.code c.deref-in-Choose.ensures.value
+    let taken = made_next (λ s. block_code bs (steps_of s)) _ _ [] [] _ _ c.in_ok-emit_block-in-Choose-2.ensures.code c.deref-in-Choose.ensures.value
     c.new-first.ensures.items in
-    let first = two_made pass_over _ (size other) b _ _ c.in_ok-emit_pass_over-in-Choose.ensures (c.code_words.ensures ∙ behind) taken in
+    let first = made_next pass_over _ (size other) b [] _ _ c.in_ok-emit_pass_over-in-Choose.ensures (c.code_words.ensures ∙ behind) taken in
     let words = own_words c.deref-in-Choose-3.result.now (b ++ over) (c.deref-in-Choose-3.ensures.value ∙ first) in
     let old = c.args.code.now.items in
     let test = test_code bs (test_of of.test) false (size (b ++ over)) in

@@ -7,5 +7,5 @@ pub returns-clause-code : goal.returns-clause-code
 returns-clause-code c =
     let os = c.args.waiting.now.items in
     let x = source_from (top_of os) in
-    one_behind c.emit_move.result c.args.code.now.items c.emit_below.new.code.items c.emit_move.new.code.items (flushed (below_top os))
-    (Move x (ToFram c.args.address)) _ c.in_ok-source.ensures.code (from_source _ _ _ _ _ refl c.in_ok-source.ensures.source) c.emit_move.ensures
+    one_behind c.emit_move.result _ _ _ (flushed (below_top os)) (Move x (ToFram c.args.address)) _ c.in_ok-source.ensures.code
+    (from_source _ _ _ _ _ refl c.in_ok-source.ensures.source) c.emit_move.ensures
