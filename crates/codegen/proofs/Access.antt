@@ -8,8 +8,8 @@ use Rattle.codegen.proofs.Names.{pair_code, entry_code}
 use Rattle.msp_isa.specs.declared.instructions.Condition.TheVariants as condition
 use Rattle.msp_isa.specs.declared.instructions.TwoOp.TheVariants as op
 use Rattle.msp_isa.specs.declared.operands.Konst.TheVariants as konst
-use Rattle.codegen.proofs.Registers.{Holds, Has, Flagged, line, store_line, jump_with}
-use Rattle.codegen.proofs.Operands.{AreThese, IsCompared, compare_number}
+use Rattle.codegen.proofs.Registers.{Holds, Has, line, store_line, jump_with}
+use Rattle.codegen.proofs.Operands.{AreThese, compare_number}
 use Rattle.codegen.proofs.Stretches.{Setting, runs_on, dearer, so_runs}
 use Rattle.codegen.proofs.Memory.{place_is}
 use Rattle.codegen.proofs.Follows.{StandsFor, Follows, ends_at, guarded}
@@ -44,7 +44,7 @@ module _ (z : Setting) where
       let mid = pc + form_bytes m in
       let behind = pc + forms_bytes (check_code size over) in
       let same : mid + 2 ≡ behind = omega arith in
-      runs_on z 2 2 t (Flagged z (AreThese t.work) (IsCompared i size) mid w) _ [] [] (compare_number z R4 pc i size w t r l v k h.0) (λ u j.
+      runs_on z (compare_number z R4 pc i size w t r l v k h.0) (λ u j.
       jump_with z condition.Carry over mid to (not b) h.1.0 (j.flag.carry ∙ le_of_lt i size b lt)
       (ap (λ n. if not b then sum16 n (distance over) else n) same ∙ turned b (sum16 behind (distance over)) behind ∙ e) j.all)
 
@@ -79,7 +79,7 @@ module _ (z : Setting) where
         let high = (z.tidy (beyond + 2) _ zero_stands.1.0).high in
         let to : sum16 within (distance over) ≡ beyond + 2 = ap (sum16 within) (near_distance over near) ∙ omega (arith, far) in
         let zeroed = Move (Constant konst.Zero) (ToRegister R4) ∷ [] in
-        runs_on z 4 1 t (Holds z (AreThese t.work) (beyond + 2) w) _ [] [] (check_part false size over pc (beyond + 2) i w t lt l r check_stands to k.held k.is)
+        runs_on z (check_part false size over pc (beyond + 2) i w t lt l r check_stands to k.held k.is)
         (λ u j. line z zeroed 1 (beyond + 4) _ j.is (tt, tt) zero_stands.1 ((tt, tt), tt) refl refl (omega (arith, j.is.at))
         (λ s. record { is = s; held = refl }))
 
@@ -87,8 +87,8 @@ module _ (z : Setting) where
     pub checked_within : (i : ℕ) (w : WordState) (t : Core) → nat_lt i size ≡ true → i < 0x10000 → Has z R4 pc w i t
         → Runs z.code [] 4 t (Has z R4 within w i)
     checked_within i w t lt r k =
-        so_runs z [] 4 t (Holds z (AreThese t.work) within w) _ (λ u j. record { is = j.is; held = ap (λ (f : ℕ → ℕ). f 4) j.held ∙ k.held })
-        (check_part true size over pc within i w t lt l r check_stands refl k.held k.is)
+        so_runs (check_part true size over pc within i w t lt l r check_stands refl k.held k.is)
+        (λ u j. record { is = j.is; held = ap (λ (f : ℕ → ℕ). f 4) j.held ∙ k.held })
 
     -- what the code has made goes over the 0
     pub over_zero : (v : ℕ) (w : WordState) (t : Core) → Has z R4 beyond w v t → Runs z.code [] 2 t (Has z R4 (beyond + 4) w v)
@@ -118,21 +118,20 @@ module _ (z : Setting) where
   past_end true base size pc l h i w t sure below r k = absurd (both_ways (nat_lt i size) below (sure refl))
   past_end false base size pc l h i w t sure below r k =
       let ms = fetch_code base in
-      dearer z [] 5 10 t _ (omega arith)
+      dearer z (omega arith)
       (subst (λ p. Runs z.code [] 5 t (Has z R4 p w 0)) (checked_end size 4 pc ms l h) (checked_past size 4 pc ms l h i w t refl (omega arith) below r k))
 
   pub before_end : (b : Bool) (base size pc : ℕ) → size < 0x10000 → Stands z.code pc (element_code b base size) → (i : ℕ) (w : WordState) (t : Core)
       → nat_lt i size ≡ true → i < 0x10000 → IsFram (2 * i + base) → Has z R4 pc w i t
       → Runs z.code [] 10 t (Has z R4 (pc + forms_bytes (element_code b base size)) w (w.fram (2 * i + base)))
-  before_end true base size pc l h i w t lt r f k = dearer z [] 4 10 t _ (omega arith) (fetch_part base pc i w t f h k)
+  before_end true base size pc l h i w t lt r f k = dearer z (omega arith) (fetch_part base pc i w t f h k)
   before_end false base size pc l h i w t lt r f k =
       let v = w.fram (2 * i + base) in
       let ms = fetch_code base in
       let at = within size 4 pc ms l h in
       subst (λ p. Runs z.code [] 10 t (Has z R4 p w v)) (checked_end size 4 pc ms l h)
-      (runs_on z 4 6 t (Has z R4 at w i) _ [] [] (checked_within size 4 pc ms l h i w t lt r k) (λ u j.
-      runs_on z 4 2 u (Has z R4 (at + 6) w v) _ [] [] (fetch_part base at i w u f (within_stands size 4 pc ms l h) j) (λ q n.
-      over_zero size 4 pc ms l h v w q n)))
+      (runs_on z (checked_within size 4 pc ms l h i w t lt r k) (λ u j. runs_on z (fetch_part base at i w u f (within_stands size 4 pc ms l h) j)
+      (λ q n. over_zero size 4 pc ms l h v w q n)))
 
   -- the word in R5
   pub emit_part : (count buffer pc v : ℕ) (w : WordState) (u : Core) → Stands z.code pc (emit_code count buffer) → Has z R5 pc w v u
@@ -191,8 +190,7 @@ module _ (z : Setting) where
     words_part true pc t e f h j =
         let one : 1 ≡ words = is_one words e in
         let there : t.work 4 + word_sum list 4 ≡ at + 4 = ap (λ k. k + word_sum list 4) j.held ∙ at_offset (6 * w.fram count) list 4 f.high in
-        dearer z (Store (at + 4) words ∷ []) 4 5 t _ (omega arith)
-        (store_line z (Move (Constant konst.One) (ToIndexed R4 (word_sum list 4)) ∷ []) (Store (at + 4) words ∷ []) three.fram 4 (pc + 4)
+        dearer z (omega arith) (store_line z (Move (Constant konst.One) (ToIndexed R4 (word_sum list 4)) ∷ []) (Store (at + 4) words ∷ []) three.fram 4 (pc + 4)
         (StandsFor z (pc + 4) three) j.is (tt, tt) h ((tt, subst IsFram (sym there) f), tt) refl refl (omega (arith, j.is.at))
         (λ k. Store (there k) (one k) ∷ []) (λ k. put (j.is.fram k) (there k) (one k)) (λ s. s))
     words_part false pc t e f h j =
@@ -223,9 +221,9 @@ module _ (z : Setting) where
         guarded z (is_place count) end 26 u _ (λ g1. guarded z (is_place at) end 26 u _ (λ g2. guarded z (is_place (at + 2)) end 26 u _ (λ g3.
         guarded z (is_place (at + 4)) end 26 u _ (λ g4.
         let fc = place_is count g1 in
-        runs_on z 17 9 u _ _ (Store at home ∷ Store (at + 2) copy ∷ []) (Store (at + 4) words ∷ Store count counted ∷ [])
+        runs_on z
         (pair_part pc u fc (place_is at g2) (place_is (at + 2) g3) front i) (λ t j.
-        runs_on z 5 4 t _ _ (Store (at + 4) words ∷ []) (Store count counted ∷ []) (words_part b (pc + 24) t e (place_is (at + 4) g4) (back.0, tt) j) (λ t j.
+        runs_on z (words_part b (pc + 24) t e (place_is (at + 4) g4) (back.0, tt) j) (λ t j.
         count_part (pc + 24 + form_bytes m) t fc back.1 j))))))
 
   pub entry_part : (count list home copy words pc : ℕ) (w : WordState) (u : Core) → Stands z.code pc (entry_code count list home copy words)

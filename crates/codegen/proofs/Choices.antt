@@ -64,13 +64,11 @@ module _ (z : Setting) where
       → ((t : Core) → StandsFor z holds_at w t → Follows z end m t x) → ((t : Core) → StandsFor z fails_at w t → Follows z end k t y)
       → Follows z end (n + 5 + (if b then m else k)) u (if b then x else y)
   decided_follows when true pc d holds_at fails_at n end m k met opposite w u x y h fork l r f g =
-      let come = runs_on z n 5 u (Decided z pc w true met opposite) (StandsFor z holds_at w) [] [] r
-      (λ t i. decision_part when true pc d holds_at fails_at met opposite w t h fork l i) in
-      then_end z end (n + 5) m u (StandsFor z holds_at w) [] x.effects x.end come f
+      let come = runs_on z r (λ t i. decision_part when true pc d holds_at fails_at met opposite w t h fork l i) in
+      then_end z end m x.effects x.end come f
   decided_follows when false pc d holds_at fails_at n end m k met opposite w u x y h fork l r f g =
-      let come = runs_on z n 5 u (Decided z pc w false met opposite) (StandsFor z fails_at w) [] [] r
-      (λ t i. decision_part when false pc d holds_at fails_at met opposite w t h fork l i) in
-      then_end z end (n + 5) k u (StandsFor z fails_at w) [] y.effects y.end come g
+      let come = runs_on z r (λ t i. decision_part when false pc d holds_at fails_at met opposite w t h fork l i) in
+      then_end z end k y.effects y.end come g
 
   -- ---- whether the top isn't 0
 
@@ -109,7 +107,6 @@ module _ (z : Setting) where
   pub compares_part : (c : Comparison) (pc x y : ℕ) (w : WordState) (t : Core) → x < 0x10000 → y < 0x10000 → z.code pc ≡ Some (instruction_of (compare_form c))
       → HasTwo z pc w x y t → Runs z.code [] 1 t (Decided z (pc + 2) w (compare_words c x y) (holding c) (failing c))
   compares_part c pc x y w t l m h k =
-      so_runs z [] 1 t (HasFlags (pc + 2) w (compared_flags c x y)) _ (λ s j.
+      so_runs (compare_part c pc x y w t h k) (λ s j.
       let met = ap (is_met (holding c)) j.flags ∙ compare_met c x y l m in
       record { is = j.is; holds = met; fails = failing_met c s.flags ∙ ap not met })
-      (compare_part c pc x y w t h k)

@@ -47,16 +47,15 @@ module _ (z : Setting) where
       → Runs z.code [] 5 t (StandsFor z to w))
   over_by true true pc d to met opposite w t n h e l k =
       let far = near_distance d (near_is d n) in
-      dearer z [] 2 5 t _ (omega arith)
-      (jump_to z met d pc to true w t h.0 k.holds (ap (λ x. sum16 (pc + 2) x) far ∙ omega (arith, e)) k.is)
+      dearer z (omega arith) (jump_to z met d pc to true w t h.0 k.holds (ap (λ x. sum16 (pc + 2) x) far ∙ omega (arith, e)) k.is)
   over_by true false pc d to met opposite w t n h e l k =
-      dearer z [] 2 5 t _ (omega arith) (jump_to z met d pc to false w t h.0 k.holds e k.is)
+      dearer z (omega arith) (jump_to z met d pc to false w t h.0 k.holds e k.is)
   over_by false true pc d to met opposite w t n h e l k =
-      runs_on z 2 3 t (StandsFor z (pc + 2) w) _ [] [] (jump_to z opposite 2 pc (pc + 2) false w t h.0 k.fails refl k.is)
+      runs_on z (jump_to z opposite 2 pc (pc + 2) false w t h.0 k.fails refl k.is)
       (λ u j. skip_to z (2 * d) (pc + 2) to w u h.1.0 (omega arith) (omega (arith, e)) j)
   over_by false false pc d to met opposite w t n h e l k =
       let high = (z.tidy pc _ h.0).high in
-      dearer z [] 2 5 t _ (omega arith) (jump_to z opposite 2 pc to true w t h.0 k.fails (omega (arith, e)) k.is)
+      dearer z (omega arith) (jump_to z opposite 2 pc to true w t h.0 k.fails (omega (arith, e)) k.is)
 
   pub over_part : (b : Bool) (pc d to : ℕ) (met opposite : Condition) (w : WordState) (t : Core)
       → (let ms = jump_over met opposite d in Stands z.code pc ms
@@ -72,13 +71,12 @@ module _ (z : Setting) where
   pass_by true near pc d to w t n m h e low i =
       let nothing = eqb-true d 0 n in
       let here : pc ≡ to = omega (arith, e, nothing) in
-      dearer z [] 0 3 t _ (omega arith) (nothing_run z t (StandsFor z to w) (subst (λ x. StandsFor z x w t) here i))
+      dearer z (omega arith) (nothing_run z (subst (λ x. StandsFor z x w t) here i))
   pass_by false true pc d to w t n m h e low i =
       let far = near_distance d (near_is d m) in
       let high = (z.tidy pc _ h.0).high in
       let l = low (omega arith) in
-      dearer z [] 2 3 t _ (omega arith)
-      (jump_to z condition.Always d pc to true w t h.0 refl (ap (λ x. sum16 (pc + 2) x) far ∙ omega (arith, e)) i)
+      dearer z (omega arith) (jump_to z condition.Always d pc to true w t h.0 refl (ap (λ x. sum16 (pc + 2) x) far ∙ omega (arith, e)) i)
   pass_by false false pc d to w t n m h e low i =
       let high = (z.tidy pc _ h.0).high in
       let l = low (omega arith) in
@@ -95,18 +93,17 @@ module _ (z : Setting) where
   back_by true true pc d to met opposite w t n h e k =
       let l = near_is d n in
       let high = (z.tidy pc _ h.0).high in
-      dearer z [] 2 5 t _ (omega arith)
-      (jump_to z met (1023 - d) pc to true w t h.0 k.holds (ap (λ x. sum16 (pc + 2) x) (back_distance d l) ∙ omega (arith, e)) k.is)
+      dearer z (omega arith) (jump_to z met (1023 - d) pc to true w t h.0 k.holds (ap (λ x. sum16 (pc + 2) x) (back_distance d l) ∙ omega (arith, e)) k.is)
   back_by true false pc d to met opposite w t n h e k =
-      dearer z [] 2 5 t _ (omega arith) (jump_to z met (1023 - d) pc to false w t h.0 k.holds e k.is)
+      dearer z (omega arith) (jump_to z met (1023 - d) pc to false w t h.0 k.holds e k.is)
   back_by false true pc d to met opposite w t n h e k =
       let high = (z.tidy (pc + 2) _ h.1.0).high in
-      runs_on z 2 3 t (StandsFor z (pc + 2) w) _ [] [] (jump_to z opposite 2 pc (pc + 2) false w t h.0 k.fails refl k.is)
+      runs_on z (jump_to z opposite 2 pc (pc + 2) false w t h.0 k.fails refl k.is)
       (λ u j. skip_to z (0xFFFA - 2 * d) (pc + 2) to w u h.1.0 (omega arith) (omega (arith, e)) j)
   back_by false false pc d to met opposite w t n h e k =
       let high = (z.tidy pc _ h.0).high in
       let high' = (z.tidy (pc + 2) _ h.1.0).high in
-      dearer z [] 2 5 t _ (omega arith) (jump_to z opposite 2 pc to true w t h.0 k.fails (omega (arith, e)) k.is)
+      dearer z (omega arith) (jump_to z opposite 2 pc to true w t h.0 k.fails (omega (arith, e)) k.is)
 
   pub back_part : (b : Bool) (pc d to : ℕ) (met opposite : Condition) (w : WordState) (t : Core) → Stands z.code pc (jump_back met opposite d)
       → (if b then to + 2 * d else pc + forms_bytes (jump_back met opposite d)) ≡ (if b then pc else to) → Decided pc w b met opposite t

@@ -114,12 +114,10 @@ module _ (z : Setting) where
       let a = 6 * w.fram list.cln + list.list in
       let u = stored (a + 4) 1 (stored (a + 2) copy (stored a home w)) in
       let v = (u.fram list.cln + 1) % 0x10000 in
-      guarded z (is_place list.cln) (pc + 16) (most + 16) t _ (λ g1.
-      guarded z (is_place a) (pc + 16) (most + 16) t _ (λ g2.
-      guarded z (is_place (a + 2)) (pc + 16) (most + 16) t _ (λ g3.
-      guarded z (is_place (a + 4)) (pc + 16) (most + 16) t _ (λ g4.
-      runs_on z most 16 t (Holds z (Found (6 * w.fram list.cln) home copy) pc w) (StandsFor z (pc + 16) (stored list.cln v u)) [] _ (comes g2)
-      (λ x j. word_part list pc w home copy x (place_is list.cln g1) (place_is a g2) (place_is (a + 2) g3) (place_is (a + 4) g4) h j)))))
+      guarded z (is_place list.cln) (pc + 16) (most + 16) t _ (λ g1. guarded z (is_place a) (pc + 16) (most + 16)
+      t _ (λ g2. guarded z (is_place (a + 2)) (pc + 16) (most + 16) t _ (λ g3. guarded z (is_place (a + 4)) (pc + 16) (most + 16)
+      t _ (λ g4. runs_on z (comes g2) (λ x j. word_part list pc w home copy x (place_is list.cln g1) (place_is a g2) (place_is (a + 2) g3) (place_is (a + 4) g4)
+      h j)))))
 
   -- R5 becomes where the last entry stands
   abbrev lasting : List Form
@@ -282,21 +280,18 @@ module _ (z : Setting) where
             let high = (z.tidy (pc + 88) _ at88).high in
             let to : sum16 (pc + 70 + 2) (distance 10) ≡ pc + 92 = omega arith in
             let e70 : pc + 60 + 10 ≡ pc + 70 = omega arith in
-            runs_on z 8 20 t _ _ [] (Store (a + 4) v ∷ []) on (λ u k.
-            runs_on z 2 18 u _ _ [] (Store (a + 4) v ∷ [])
-            (jump_with z condition.NotEqual 6 (pc + 58) (pc + 60) false at58 (ap not k.flag) (omega arith) k.all) (λ u k.
-            runs_on z 8 10 u _ _ (Store (a + 4) v ∷ []) []
-            (longer_part words_at (pc + 60) w (6 * n) home copy (a + 4) u f4 (at_offset (6 * n) list.list 4 f4.high) lengthens k) (λ u k.
+            dearer z (omega arith)
+            (runs_on z on (λ u k.
+            runs_on z (jump_with z condition.NotEqual 6 (pc + 58) (pc + 60) false at58 (ap not k.flag) (omega arith) k.all) (λ u k.
+            runs_on z (longer_part words_at (pc + 60) w (6 * n) home copy (a + 4) u f4 (at_offset (6 * n) list.list 4 f4.high) lengthens k) (λ u k.
             let k70 = subst (λ p. StandsFor z p (stored (a + 4) v w) u) e70 k in
-            dearer z [] 2 10 u _ (omega arith) (jump_to z condition.Always 10 (pc + 70) (pc + 92) true (stored (a + 4) v w) u at70 refl to k70))))
+            jump_to z condition.Always 10 (pc + 70) (pc + 92) true (stored (a + 4) v w) u at70 refl to k70))))
         by false on =
             let next : Behaviour = entry_stored list.cln list.list home copy 1 w in
             let high = (z.tidy (pc + 88) _ at88).high in
             let to : sum16 (pc + 58 + 2) (distance 6) ≡ pc + 72 = omega arith in
-            then_end z (pc + 92) 8 20 t _ [] next.effects next.end on (λ u k.
-            then_end z (pc + 92) 2 18 u _ [] next.effects next.end
-            (jump_with z condition.NotEqual 6 (pc + 58) (pc + 72) true at58 (ap not k.flag) to k.all) (λ u k.
-            more n w home copy u e k))
+            then_end z (pc + 92) 20 next.effects next.end on (λ u k. then_end z (pc + 92) 18 next.effects next.end
+            (jump_with z condition.NotEqual 6 (pc + 58) (pc + 72) true at58 (ap not k.flag) to k.all) (λ u k. more n w home copy u e k))
 
     -- by whether the last homes end right before the home
     by_home : (b : Bool) (n : ℕ) (w : WordState) (home copy : ℕ) (t : Core) → ((x : ℕ) → w.fram x < 0x10000) → copy < 0x10000 → w.fram list.cln ≡ suc n
@@ -307,16 +302,14 @@ module _ (z : Setting) where
         let a = 6 * n + list.list in
         let c = (2 * w.fram (a + 4) + w.fram (a + 2)) % 0x10000 == copy in
         let next : Behaviour = if c then raised (a + 4) w else entry_stored list.cln list.list home copy 1 w in
-        then_end z (pc + 92) 2 28 t _ [] next.effects next.end
-        (jump_with z condition.NotEqual 13 (pc + 44) (pc + 46) false at44 (ap not k.flag) (omega arith) k.all) (λ u j.
-        by_copy c n w home copy u wl small e f2 f4 refl j)
+        then_end z (pc + 92) 28 next.effects next.end (jump_with z condition.NotEqual 13 (pc + 44) (pc + 46) false at44 (ap not k.flag) (omega arith) k.all)
+        (λ u j. by_copy c n w home copy u wl small e f2 f4 refl j)
     by_home false n w home copy t wl small e f2 f4 k =
         let next : Behaviour = entry_stored list.cln list.list home copy 1 w in
         let high = (z.tidy (pc + 88) _ at88).high in
         let to : sum16 (pc + 44 + 2) (distance 13) ≡ pc + 72 = omega arith in
-        then_end z (pc + 92) 2 28 t _ [] next.effects next.end
-        (jump_with z condition.NotEqual 13 (pc + 44) (pc + 72) true at44 (ap not k.flag) to k.all) (λ u j.
-        more_cycles z (pc + 92) 18 28 u next.effects next.end (omega arith) (more n w home copy u e j))
+        then_end z (pc + 92) 28 next.effects next.end (jump_with z condition.NotEqual 13 (pc + 44) (pc + 72) true at44 (ap not k.flag) to k.all)
+        (λ u j. more_cycles z (pc + 92) 18 28 u next.effects next.end (omega arith) (more n w home copy u e j))
 
     -- by how many entries there are
     lists : (n : ℕ) (w : WordState) (home copy : ℕ) (t : Core) → ((x : ℕ) → w.fram x < 0x10000) → home < 0x10000 → copy < 0x10000 → w.fram list.cln ≡ n
@@ -341,11 +334,11 @@ module _ (z : Setting) where
         guarded z (is_place a) (pc + 92) 45 t _ (λ g1. guarded z (is_place (a + 2)) (pc + 92) 45 t _ (λ g2. guarded z (is_place (a + 4)) (pc + 92) 45 t _ (λ g3.
         let f1 = place_is a g1 in let f2 = place_is (a + 2) g2 in let f4 = place_is (a + 4) g3 in
         let high = f1.high in
-        then_end z (pc + 92) 2 43 t _ [] next.effects next.end
+        then_end z (pc + 92) 43 next.effects next.end
         (jump_with z condition.Equal 27 (pc + 20) (pc + 22) false at20 (k.flag ∙ some) (omega arith) k.all) (λ u j.
-        then_end z (pc + 92) 5 38 u (Holds z (Found (6 * n) home copy) (pc + 32) w) [] next.effects next.end
+        then_end z (pc + 92) 38 next.effects next.end
         (subst (λ p. Runs z.code [] 5 u (Holds z (Found (6 * n) home copy) p w)) e32 (last_part (pc + 22) n w home copy u (omega (arith, high)) lasts j)) (λ u j.
-        then_end z (pc + 92) 8 30 u (Flagged z (Found (6 * n) home copy) (IsZero b) (pc + 44) w) [] next.effects next.end
+        then_end z (pc + 92) 30 next.effects next.end
         (subst (λ p. Runs z.code [] 8 u (Flagged z (Found (6 * n) home copy) (IsZero b) p w)) e44
         (test_part words_at list.list R7 home (pc + 32) w (6 * n) home copy (a + 4) a u wl (λ q. omega (arith, q)) f4 f1
         (at_offset (6 * n) list.list 4 f4.high) refl home_tests j.held.seven hs j)) (λ u j.
@@ -364,7 +357,6 @@ module _ (z : Setting) where
         let next : Behaviour = listed_behind (y.fram list.cln) list e c y in
         guarded z (is_place e) (pc + 92) 58 t _ (λ g1. guarded_behind (is_place list.cln) (pc + 92) 58 t (Store m x ∷ []) next (λ g2.
         let eh = (place_is e g1).high in
-        then_end z (pc + 92) 13 45 t (Flagged z (Found (y.fram list.cln) e c) (IsZero (y.fram list.cln == 0)) (pc + 20) y) (Store m x ∷ []) next.effects
-        next.end
+        then_end z (pc + 92) 45 next.effects next.end
         (mark_part place list pc i w t wl fm (place_is list.cln g2) eh fc.high marks is four six) (λ u j.
         lists (y.fram list.cln) y e c u (put_words w.fram m x wl (wl list.ver)) eh fc.high refl j)))

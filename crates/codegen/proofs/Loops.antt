@@ -8,8 +8,8 @@ use Rattle.codegen.proofs.Names.{turns_spent, local_register, local_address, num
 use Rattle.msp_isa.specs.declared.instructions.Condition.TheVariants as condition
 use Rattle.msp_isa.specs.declared.instructions.TwoOp.TheVariants as op
 use Rattle.msp_isa.specs.declared.operands.Konst.TheVariants as konst
-use Rattle.codegen.proofs.Registers.{Has, Flagged}
-use Rattle.codegen.proofs.Operands.{AreThese, IsCompared, compare_number}
+use Rattle.codegen.proofs.Registers.{Has}
+use Rattle.codegen.proofs.Operands.{compare_number}
 use Rattle.codegen.proofs.Stretches.{Setting, straight, runs_on, dearer, so_runs}
 use Rattle.codegen.proofs.Memory.{local_words, in_register, in_ram, Memory, local_needs, set_register, set_ram}
 use Rattle.codegen.proofs.Follows.{StandsFor, Follows, OnGoesOn, more_cycles, then_end, then_way, ends_at}
@@ -32,9 +32,8 @@ module _ (z : Setting) where
       → Runs z.code [] 2 t (Raised (pc + form_bytes m) n k below w))
   compare_raised r pc n k below w t l lb h i =
       let end = pc + form_bytes (Calculate op.Cmp (number_source below) r) in
-      so_runs z [] 2 t (Flagged z (AreThese t.work) (IsCompared k below) end (with_local n k w)) _
+      so_runs (compare_number z r pc k below (with_local n k w) t l lb i.held i.is h)
       (λ u j. record { is = j.all.is; holds = ap not j.flag.zero; fails = j.flag.zero ∙ sym (not-not (k == below)) })
-      (compare_number z r pc k below (with_local n k w) t l lb i.held i.is h)
 
   raise_by : (b : Bool) (pc n k below : ℕ) (w : WordState) (u : Core) → nat_lt n 8 ≡ b → n < z.locals → w.locals n ≡ Some k → k + 1 < 0x10000
       → below < 0x10000
@@ -63,9 +62,8 @@ module _ (z : Setting) where
             };
         held = put_same u.work r ((u.work r + 1 + 0) % 0x10000) ∙ next;
       }) in
-      subst (λ p. Runs z.code [] 10 u (Raised p n (k + 1) below w)) end
-      (dearer z [] 3 10 u _ (omega arith) (runs_on z 1 2 u (Has z to (pc + 2) (with_local n (k + 1) w) (k + 1)) _ [] [] added
-      (λ t j. compare_raised to (pc + 2) n (k + 1) below w t l lb h.1.0 j)))
+      subst (λ p. Runs z.code [] 10 u (Raised p n (k + 1) below w)) end (dearer z (omega arith)
+      (runs_on z added (λ t j. compare_raised to (pc + 2) n (k + 1) below w t l lb h.1.0 j)))
   raise_by false pc n k below w u b lt q l lb h i =
       let a = local_address n in
       let ms = Move (Ram a) (ToRegister R4) ∷ Calculate op.Add (Constant konst.One) R4 ∷ Move (Register R4) (ToRam a) ∷ [] in
@@ -89,8 +87,7 @@ module _ (z : Setting) where
             };
         held = next;
       }) in
-      subst (λ p. Runs z.code [] 10 u (Raised p n (k + 1) below w)) end
-      (runs_on z 8 2 u (Has z R4 (pc + 10) (with_local n (k + 1) w) (k + 1)) _ [] [] added
+      subst (λ p. Runs z.code [] 10 u (Raised p n (k + 1) below w)) end (runs_on z added
       (λ t j. compare_raised R4 (pc + 10) n (k + 1) below w t l lb (form_at z.code pc 3 all last h refl) j))
 
   raise_part : (pc n k below : ℕ) (w : WordState) (u : Core) → n < z.locals → w.locals n ≡ Some k → k + 1 < 0x10000 → below < 0x10000
@@ -135,18 +132,16 @@ module _ (z : Setting) where
     last_turn k v t q e i =
         let to : behind_turn + forms_bytes back ≡ end = omega (arith, forms_bytes-append turn back) in
         let over : not ((k + 1) == below) ≡ false = ap not (eq-eqb (k + 1) below e) in
-        runs_on z 10 5 t (Raised behind_turn n (k + 1) below v) _ [] [] (behind_body k v t q (omega arith) i) (λ u j.
-        back_part z false behind_turn (size turn) end condition.NotEqual condition.Equal (with_local n (k + 1) v) u jumps_back to
-        (subst (λ b. Decided z behind_turn (with_local n (k + 1) v) b condition.NotEqual condition.Equal u) over j))
+        runs_on z (behind_body k v t q (omega arith) i) (λ u j. back_part z false behind_turn (size turn) end condition.NotEqual condition.Equal
+        (with_local n (k + 1) v) u jumps_back to (subst (λ b. Decided z behind_turn (with_local n (k + 1) v) b condition.NotEqual condition.Equal u) over j))
 
     next_turn : (k : ℕ) (v : WordState) (t : Core) → v.locals n ≡ Some k → k + 1 < below → StandsFor z (pc + forms_bytes body) v t
         → Runs z.code [] 15 t (StandsFor z pc (with_local n (k + 1) v))
     next_turn k v t q l i =
         let from : pc + 2 * size turn ≡ behind_turn = omega (arith, whole_size turn) in
         let more : not ((k + 1) == below) ≡ true = ap not (ne_eqb (k + 1) below (λ e. omega arith)) in
-        runs_on z 10 5 t (Raised behind_turn n (k + 1) below v) _ [] [] (behind_body k v t q (omega arith) i) (λ u j.
-        back_part z true behind_turn (size turn) pc condition.NotEqual condition.Equal (with_local n (k + 1) v) u jumps_back from
-        (subst (λ b. Decided z behind_turn (with_local n (k + 1) v) b condition.NotEqual condition.Equal u) more j))
+        runs_on z (behind_body k v t q (omega arith) i) (λ u j. back_part z true behind_turn (size turn) pc condition.NotEqual condition.Equal
+        (with_local n (k + 1) v) u jumps_back from (subst (λ b. Decided z behind_turn (with_local n (k + 1) v) b condition.NotEqual condition.Equal u) more j))
 
     -- a turn, and what is behind its body
     one_turn : (m k : ℕ) (s : WordState) (u : Core) → fit (suc m) s → k < below → StandsFor z pc (with_local n k s) u
@@ -168,9 +163,8 @@ module _ (z : Setting) where
     turns_part zero k s u g e i =
         one_turn zero k s u g (omega arith) i (λ v t f q j. last_turn k v t q (omega arith) j)
     turns_part (suc m) k s u g e i =
-        one_turn (suc m) k s u g (omega arith) i (λ v t f q j.
-        then_end z end 15 (turns_spent (suc m) n (k + 1) run cost v) t _ [] (turns (suc m) n (k + 1) run v).effects (turns (suc m) n (k + 1) run v).end
-        (next_turn k v t q (omega arith) j) (λ c l. turns_part m (k + 1) v c f (omega arith) l))
+        one_turn (suc m) k s u g (omega arith) i (λ v t f q j. then_end z end (turns_spent (suc m) n (k + 1) run cost v) (turns (suc m) n (k + 1) run v).effects
+        (turns (suc m) n (k + 1) run v).end (next_turn k v t q (omega arith) j) (λ c l. turns_part m (k + 1) v c f (omega arith) l))
 
   -- a loop, where its code stands; by whether it makes a turn
   pub loop_by : (any : Bool) (body : List Form) (pc n from below : ℕ) (cost : WordState → ℕ) (run : WordState → Behaviour) (fit : ℕ → WordState → Type 0)
@@ -203,5 +197,5 @@ module _ (z : Setting) where
       let inside = stands_front z.code top body (turn_end n below) there in
       subst (λ q. Follows z (pc + forms_bytes (start ++ rest)) (5 + turns_spent q n from run cost s) u (turns q n from run s)) count
       (ends_at z (pc + forms_bytes start + forms_bytes rest) _ (5 + turns_spent (suc m) n from run cost s) u (turns (suc m) n from run s) e
-      (then_end z _ 5 (turns_spent (suc m) n from run cost s) u _ [] (turns (suc m) n from run s).effects (turns (suc m) n from run s).end set (λ t j.
+      (then_end z _ (turns_spent (suc m) n from run cost s) (turns (suc m) n from run s).effects (turns (suc m) n from run s).end set (λ t j.
       turns_part body top n below cost run fit lt lb stand (doing inside) keeps m from s t (subst (λ q. fit q s) (sym count) g) count j)))

@@ -313,7 +313,7 @@ module _ (z : Setting) where
       → Runs z.code [] (owed os) u (Holds z (AreThese u.work) (pc + forms_bytes (flushed os)) (with_stack (waiting_words w.fram w.locals u.work os ++ w.stack) w))
   flush_run [] pc w u i t l h =
       let e : pc ≡ pc + 0 = omega arith in
-      nothing_run z u _ (record { is = subst (λ n. StandsFor z n w u) e i; held = refl })
+      nothing_run z (record { is = subst (λ n. StandsFor z n w u) e i; held = refl })
   flush_run (o ∷ os) pc w u i t l h =
       let there = with_stack (waiting_words w.fram w.locals u.work os ++ w.stack) w in
       let mid = pc + forms_bytes (flushed os) in
@@ -322,11 +322,12 @@ module _ (z : Setting) where
       omega (arith, l, length-append (waiting_words w.fram w.locals u.work os) w.stack, waiting_length w.fram w.locals u.work os) in
       let less : length os + length w.stack ≤ z.room = omega (arith, l) in
       let all : (ℕ → ℕ) → WordState = λ g. pushed (waiting_word w.fram w.locals g o) there in
-      two_parts z (flushed os) last (owed os) (owed_by o) pc u (Holds z (AreThese u.work) mid there) (λ n. Holds z (AreThese u.work) n (all u.work)) h
-      (flush_run os pc w u i t.1 less) (λ s c k.
-      so_runs z [] (owed_by o) s (Holds z (AreThese s.work) (mid + forms_bytes last) (all s.work)) _
-      (λ q j. record { is = subst (λ g. StandsFor z (mid + forms_bytes last) (all g) q) k.held j.is; held = j.held ∙ k.held })
-      (push_waiting o mid there s k.is t.0 room c.0))
+      two_parts z (flushed os) last pc (λ n. Holds z (AreThese u.work) n (all u.work)) h (flush_run os pc w u i t.1 less)
+      (λ s c k. so_runs (push_waiting o mid there s k.is t.0 room c.0) (λ q j. record {
+        is = subst (λ g. StandsFor z (mid + forms_bytes last) (all g) q) k.held
+            j.is;
+        held = j.held ∙ k.held;
+      }))
 
   -- those behind others are pushed
   pub flush_under : (front back : List Waiting) (pc : ℕ) (w : WordState) (u : Core) → Describes z (front ++ back) pc w u → Stands z.code pc (flushed back)
@@ -344,8 +345,7 @@ module _ (z : Setting) where
         waiting_length w.fram w.locals u.work (front ++ back),
         length-append front back,
       ) in
-      so_runs z [] (owed back) u (Holds z (AreThese u.work) (pc + forms_bytes (flushed back)) (with_stack (words back ++ d.rest) w)) _
-      (λ t k. record {
+      so_runs (flush_run back pc (with_stack d.rest w) u d.is (there_back P front back d.there) room h) (λ t k. record {
         is =
             record {
               rest = words back ++ d.rest;
@@ -357,14 +357,12 @@ module _ (z : Setting) where
             };
         held = k.held;
       })
-      (flush_run back pc (with_stack d.rest w) u d.is (there_back P front back d.there) room h)
 
   -- all are pushed
   pub flush_part : (os : List Waiting) (pc : ℕ) (w : WordState) (u : Core) → Describes z os pc w u → Stands z.code pc (flushed os)
       → Runs z.code [] (owed os) u (StandsFor z (pc + forms_bytes (flushed os)) w)
   flush_part os pc w u d h =
-      so_runs z [] (owed os) u (Waits z [] (pc + forms_bytes (flushed os)) w (AreThese u.work)) _ (λ t k. bare (pc + forms_bytes (flushed os)) w t k.is)
-      (flush_under [] os pc w u d h)
+      so_runs (flush_under [] os pc w u d h) (λ t k. bare (pc + forms_bytes (flushed os)) w t k.is)
 
   clear_by : (b : Bool) (front back : List Waiting) (pc : ℕ) (w : WordState) (u : Core) → Describes z (front ++ back) pc w u
       → (let ms : List Form = if b then flushed back else [] in Stands z.code pc ms
@@ -374,7 +372,7 @@ module _ (z : Setting) where
       (flush_under front back pc w u d h)
   clear_by false front back pc w u d h =
       let e : pc ≡ pc + 0 = omega arith in
-      nothing_run z u _ (record { is = subst (λ n. Describes z (front ++ back) n w u) e d; held = refl })
+      nothing_run z (record { is = subst (λ n. Describes z (front ++ back) n w u) e d; held = refl })
 
   -- those behind others are pushed where one of them waits in a register
   pub clear_under : (front back : List Waiting) (pc : ℕ) (w : WordState) (u : Core) → Describes z (front ++ back) pc w u → Stands z.code pc (cleared back)
@@ -462,9 +460,8 @@ module _ (z : Setting) where
       let m = Move (source_from o) (ToRegister R5) in
       let end : pc + forms_bytes (m ∷ []) ≡ pc + form_bytes m = omega arith in
       subst (λ n. Runs z.code [] (load_cycles o) u (Has z R5 n (with_stack vs w) v)) end
-      (so_runs z [] (load_cycles o) u (Waits z [] (pc + forms_bytes (m ∷ [])) (with_stack vs w) (IsLoaded R5 v u.work)) _
-      (λ t j. record { is = bare (pc + forms_bytes (m ∷ [])) (with_stack vs w) t j.is; held = j.held.value })
-      (move_part R5 o [] pc w v vs u (λ f y. refl) (λ f y. refl) h k))
+      (so_runs (move_part R5 o [] pc w v vs u (λ f y. refl) (λ f y. refl) h k)
+      (λ t j. record { is = bare (pc + forms_bytes (m ∷ [])) (with_stack vs w) t j.is; held = j.held.value }))
 
   pub five_part : (os : List Waiting) (pc : ℕ) (w : WordState) (v : ℕ) (vs : List ℕ) (u : Core) → w.stack ≡ v ∷ vs
       → Stands z.code pc (five_from (top_of os)) → Describes z os pc w u
@@ -486,8 +483,8 @@ module _ (z : Setting) where
   four_part (waiting.R4 ∷ os) pc w v vs u e none h d =
       let k = take_part (waiting.R4 ∷ os) pc w v vs u e d in
       let same : pc ≡ pc + 0 = omega arith in
-      dearer z [] 0 3 u _ (omega arith)
-      (nothing_run z u _ (record {
+      dearer z (omega arith)
+      (nothing_run z (record {
         is = subst (λ n. Describes z os n (with_stack vs w) u) same k.left;
         held = record { value = k.value; others = λ n ne. refl };
       }))
@@ -500,13 +497,11 @@ module _ (z : Setting) where
       → Runs z.code [] n t (P (mid + forms_bytes more)))
       → Runs z.code [] (clear_cycles back + n) u (P (pc + forms_bytes (cleared back ++ more))))
   behind_cleared front back more n pc w u P d h f =
-      two_parts z (cleared back) more (clear_cycles back) n pc u (Waits z (front ++ kept back) (pc + forms_bytes (cleared back)) w (AreThese u.work)) P h
-      (clear_under front back pc w u d) (λ t s k. f t s k.is)
+      two_parts z (cleared back) more pc P h (clear_under front back pc w u d) (λ t s k. f t s k.is)
 
   only_has : {b : WorkRegister} {os : List Waiting} {pc v n : ℕ} {w : WordState} {g : ℕ → ℕ} {u : Core}
       → Runs z.code [] n u (With (Describes z os pc w) (IsLoaded b v g)) → Runs z.code [] n u (With (Describes z os pc w) (HasWord b v))
-  only_has {b} {os} {pc} {v} {n} {w} {g} {u} =
-      so_runs z [] n u (With (Describes z os pc w) (IsLoaded b v g)) (With (Describes z os pc w) (HasWord b v)) (λ t k. record { is = k.is; held = k.held.value })
+  only_has a = so_runs a (λ t k. record { is = k.is; held = k.held.value })
 
   pub top_to_four_part : (os : List Waiting) (pc : ℕ) (w : WordState) (v : ℕ) (vs : List ℕ) (u : Core) → w.stack ≡ v ∷ vs
       → Stands z.code pc (top_to_four os) → Describes z os pc w u
@@ -537,11 +532,9 @@ module _ (z : Setting) where
       let second = four_from (top_of under) in
       let mid = pc + forms_bytes first in
       let left = with_stack (x ∷ vs) w in
-      two_parts z first second (load_cycles (top_of os)) (load_cycles (top_of under)) pc u (Waits z under mid left (IsLoaded R5 y u.work))
-      (λ n. Waits z (below_top under) n (with_stack vs w) (HasSides x y)) h (λ s. five_part os pc w y (x ∷ vs) u e s d) (λ t s k.
-      so_runs z [] (load_cycles (top_of under)) t (Waits z (below_top under) (mid + forms_bytes second) (with_stack vs w) (IsLoaded R4 x t.work)) _
-      (λ q j. record { is = j.is; held = record { four = j.held.value; five = j.held.others 5 (λ n. omega (arith, n)) ∙ k.held.value } })
-      (four_part under mid left x vs t refl none s k.is))
+      two_parts z first second pc (λ n. Waits z (below_top under) n (with_stack vs w) (HasSides x y)) h (λ s. five_part os pc w y (x ∷ vs) u e s d) (λ t s k.
+      so_runs (four_part under mid left x vs t refl none s k.is)
+      (λ q j. record { is = j.is; held = record { four = j.held.value; five = j.held.others 5 (λ n. omega (arith, n)) ∙ k.held.value } }))
 
   sides_by : (b : Bool) (os : List Waiting) (pc : ℕ) (w : WordState) (x y : ℕ) (vs : List ℕ) (u : Core) → stays (top_of os) ≡ b → w.stack ≡ y ∷ (x ∷ vs)
       → any_held (below_top (below_top os)) ≡ false
@@ -556,23 +549,19 @@ module _ (z : Setting) where
       let left = with_stack (x ∷ vs) w in
       let end = pc + forms_bytes (four_from (top_of os)) in
       let k = drop_part o os pc w y (x ∷ vs) u e d in
-      dearer z [] (load_cycles (top_of os)) (0 + load_cycles (top_of os)) u _ (omega arith)
-      (so_runs z [] (load_cycles (top_of os)) u (Waits z (below_top os) end (with_stack vs w) (IsLoaded R4 x u.work)) _
-      (λ t j. record {
+      dearer z (omega arith)
+      (so_runs (four_part os pc left x vs u refl none h k.0) (λ t j. record {
         is = j.is;
         four = j.held.value;
         right = source_word o end (with_stack j.is.rest w) t j.is.is d.there.0
             ∙ word_stays w.fram w.locals t.work u.work o b (j.held.others 6 (λ q. omega (arith, q))) ∙ k.1;
         needs = source_needs z.locals w.locals o t d.there.0;
         still = source_still o t;
-      })
-      (four_part os pc left x vs u refl none h k.0))
+      }))
   sides_by false os pc w x y vs u b e none h d =
       let under = below_top os in
       let end = pc + forms_bytes (five_from (top_of os) ++ four_from (top_of under)) in
-      so_runs z [] (load_cycles (top_of os) + load_cycles (top_of under)) u (Waits z (below_top under) end (with_stack vs w) (HasSides x y)) _
-      (λ t j. record { is = j.is; four = j.held.four; right = j.held.five; needs = tt; still = refl })
-      (two_loads os pc w x y vs u e none h d)
+      so_runs (two_loads os pc w x y vs u e none h d) (λ t j. record { is = j.is; four = j.held.four; right = j.held.five; needs = tt; still = refl })
 
   sides_loads : (os : List Waiting) (pc : ℕ) (w : WordState) (x y : ℕ) (vs : List ℕ) (u : Core) → w.stack ≡ y ∷ (x ∷ vs)
       → any_held (below_top (below_top os)) ≡ false
@@ -587,7 +576,7 @@ module _ (z : Setting) where
       (LoadedSides z (right_source (top_of os)) (kept (below_top under)) (pc + forms_bytes (sides os)) (with_stack vs w) x y))
   sides_part [] pc w x y vs u e h d = sides_loads [] pc w x y vs u e refl h d
   sides_part (o ∷ []) pc w x y vs u e h d =
-      dearer z [] (right_cycles (Some o) + 2) (0 + (right_cycles (Some o) + 2)) u _ (omega arith) (sides_loads (o ∷ []) pc w x y vs u e refl h d)
+      dearer z (omega arith) (sides_loads (o ∷ []) pc w x y vs u e refl h d)
   sides_part (o ∷ (p ∷ os)) pc w x y vs u e h d =
       let more = (if stays (Some o) then [] else five_from (Some o)) ++ four_from (Some p) in
       behind_cleared (o ∷ (p ∷ [])) os more (right_cycles (Some o) + 3) pc w u
@@ -611,10 +600,10 @@ module _ (z : Setting) where
       → Runs z.code [] (owed (below_top os)) u (Top z (source_from (top_of os)) [] (pc + forms_bytes (flushed (below_top os))) w v vs)
   below_part [] pc w v vs u e h d =
       let same : pc ≡ pc + 0 = omega arith in
-      nothing_run z u _ (subst (λ n. Top z (source_from None) [] n w v vs u) same (take_part [] pc w v vs u e d))
+      nothing_run z (subst (λ n. Top z (source_from None) [] n w v vs u) same (take_part [] pc w v vs u e d))
   below_part (o ∷ os) pc w v vs u e h d =
       let end = pc + forms_bytes (flushed os) in
-      so_runs z [] (owed os) u (Waits z (o ∷ []) end w (AreThese u.work)) _ (λ t k. take_part (o ∷ []) end w v vs t e k.is) (flush_under (o ∷ []) os pc w u d h)
+      so_runs (flush_under (o ∷ []) os pc w u d h) (λ t k. take_part (o ∷ []) end w v vs t e k.is)
 
   -- ---- one more word waits
 
@@ -656,7 +645,7 @@ module _ (z : Setting) where
       number_cases P k
       (λ h. line z (Calculate op.Cmp (Number k) b ∷ []) 2 (pc + 4) _ i (tt, tt) (h, tt) ((tt, tt), tt) refl refl (omega (arith, i.at))
       (λ s. record { all = record { is = s; held = refl }; flag = record { zero = zero; carry = carry } }))
-      (λ c e h. dearer z [] 1 2 t _ (omega arith)
+      (λ c e h. dearer z (omega arith)
       (line z (Calculate op.Cmp (Constant c) b ∷ []) 1 (pc + 2) (Flagged z (AreThese t.work) (IsCompared x k) (pc + 2) w) i (tt, tt) (h, tt) ((tt, tt), tt)
       refl refl (omega (arith, i.at))
       (λ s. record {

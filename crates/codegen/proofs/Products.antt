@@ -111,8 +111,8 @@ module _ (z : Setting) where
           next = acc;
           small = l;
           same = even_turn a b acc ev;
-          runs = dearer z [] 6 7 t _ (omega arith) (runs_on z 1 5 t _ _ [] [] (test_bit a b acc w t i) (λ u j.
-              runs_on z 2 3 u (Holds z (Factors a b acc) (p + 6) w) _ [] [] (jump_with z condition.Equal 1 (p + 2) (p + 6) true at2 (j.flag ∙ e) to j.all)
+          runs = dearer z (omega arith) (runs_on z (test_bit a b acc w t i) (λ u j.
+              runs_on z (jump_with z condition.Equal 1 (p + 2) (p + 6) true at2 (j.flag ∙ e) to j.all)
               (λ v q. halve a b acc w v q)));
         }
     turn_by false a b acc w t e l i =
@@ -123,10 +123,10 @@ module _ (z : Setting) where
           next = (acc + a + 0) % 0x10000;
           small = omega arith;
           same = odd_turn a b acc od;
-          runs = runs_on z 1 6 t _ _ [] [] (test_bit a b acc w t i) (λ u j.
-              runs_on z 2 4 u (Holds z (Factors a b acc) (p + 4) w) _ [] []
+          runs = runs_on z (test_bit a b acc w t i) (λ u j.
+              runs_on z
               (jump_with z condition.Equal 1 (p + 2) (p + 4) false at2 (j.flag ∙ e) (omega arith) j.all) (λ v q.
-              runs_on z 1 3 v _ _ [] [] (add_in a b acc w v q) (λ x r. halve a b ((acc + a + 0) % 0x10000) w x r)));
+              runs_on z (add_in a b acc w v q) (λ x r. halve a b ((acc + a + 0) % 0x10000) w x r)));
         }
 
     abbrev Result : ℕ → ℕ → ℕ → WordState → Core → Type 0
@@ -144,17 +144,15 @@ module _ (z : Setting) where
         let is_zero : b / 2 ≡ 0 = eqb-true (b / 2) 0 e in
         let v : r.next ≡ (acc + a * b) % 0x10000 = sym (no_more ((a + a) % 0x10000) r.next r.small)
         ∙ ap (λ q. (r.next + (a + a) % 0x10000 * q) % 0x10000) (sym is_zero) ∙ r.same in
-        dearer z [] 9 (suc n * 9) t _ (omega arith)
-        (runs_on z 7 2 t _ _ [] [] r.runs (λ u j. jump_with z condition.NotEqual 1017 (p + 12) (p + 14) false at12 (ap not (j.flag ∙ e)) (omega arith)
+        dearer z (omega arith) (runs_on z r.runs (λ u j. jump_with z condition.NotEqual 1017 (p + 12) (p + 14) false at12 (ap not (j.flag ∙ e)) (omega arith)
         (record { is = j.all.is; held = j.all.held.six ∙ v })))
     leave n a b acc w t false e r again =
         let high = (z.tidy (p + 12) _ at12).high in
         let to : sum16 (p + 12 + 2) (distance 1017) ≡ p = omega arith in
         let back : Runs z.code [] 9 t (Holds z (Factors ((a + a) % 0x10000) (b / 2) r.next) p w) =
-        runs_on z 7 2 t _ _ [] [] r.runs (λ u j. jump_with z condition.NotEqual 1017 (p + 12) p true at12 (ap not (j.flag ∙ e)) to j.all) in
-        dearer z [] (9 + n * 9) (suc n * 9) t _ (omega arith)
-        (subst (λ v. Runs z.code [] (9 + n * 9) t (Has z R6 (p + 14) w v)) r.same
-        (runs_on z 9 (n * 9) t _ _ [] [] back (λ u j. again (not_zero (b / 2) e) u j)))
+        runs_on z r.runs (λ u j. jump_with z condition.NotEqual 1017 (p + 12) p true at12 (ap not (j.flag ∙ e)) to j.all) in
+        dearer z (omega arith) (subst (λ v. Runs z.code [] (9 + n * 9) t (Has z R6 (p + 14) w v)) r.same
+        (runs_on z back (λ u j. again (not_zero (b / 2) e) u j)))
 
     loop : (n a b acc : ℕ) (w : WordState) (t : Core) → b < 2 ^ suc n → acc < 0x10000 → Holds z (Factors a b acc) p w t → Runs z.code [] (suc n * 9) t (Result a b acc w)
     loop zero a b acc w t l lc i =
@@ -168,9 +166,7 @@ module _ (z : Setting) where
       let ms = Move (Constant konst.Zero) (ToRegister R6) ∷ [] in
       let e : pc + 2 + 14 ≡ pc + forms_bytes (binary_middle Multiply) = omega arith in
       let is_zero : (0 + x * y) % 0x10000 ≡ (x * y) % 0x10000 = omega arith in
-      subst (λ n. Runs z.code [] 145 t (Has z R6 n w ((x * y) % 0x10000))) e
-      (subst (λ v. Runs z.code [] 145 t (Has z R6 (pc + 2 + 14) w v)) is_zero
-      (runs_on z 1 144 t (Holds z (Factors x y 0) (pc + 2) w) _ [] []
-      (line z ms 1 (pc + 2) _ i.is (tt, tt) (h.0, tt) ((tt, tt), tt) refl refl (omega (arith, i.is.at))
+      subst (λ n. Runs z.code [] 145 t (Has z R6 n w ((x * y) % 0x10000))) e (subst (λ v. Runs z.code [] 145 t (Has z R6 (pc + 2 + 14) w v)) is_zero
+      (runs_on z (line z ms 1 (pc + 2) _ i.is (tt, tt) (h.0, tt) ((tt, tt), tt) refl refl (omega (arith, i.is.at))
       (λ s. record { is = s; held = record { four = i.held.four; five = i.held.five; six = refl } }))
       (λ u j. loop (pc + 2) h.1 15 x y 0 w u b (omega arith) j)))

@@ -265,10 +265,9 @@ module _ (z : Setting) where
     taken x d r j w t lr ld f s lj i =
         let e : (longer x r % 0x10000 + (0xFFFF - d) + 1) % 0x10000 ≡ longer x r - d = less_high (longer x r) d (small_long x r lr) ld (goes_in x d r f) s in
         let o : (shifted x + 1 + 0) % 0x10000 ≡ shifted x + 1 = omega arith in
-        runs_on z 2 1 t _ _ [] [] (take (shifted x) d (longer x r % 0x10000) (suc j) w t i) (λ u a.
-        count (shifted x + 1) d (longer x r - d) j w u lj
-        (subst (λ n. Holds z (InHand n d (longer x r - d) (suc j)) (p + 14) w u) o
-        (subst (λ n. Holds z (InHand ((shifted x + 1 + 0) % 0x10000) d n (suc j)) (p + 14) w u) e a)))
+        runs_on z (take (shifted x) d (longer x r % 0x10000) (suc j) w t i) (λ u a. count (shifted x + 1) d (longer x r - d) j w u lj
+        (subst (λ n. Holds z (InHand n d (longer x r - d) (suc j)) (p + 14) w u) o (subst (λ n. Holds z (InHand ((shifted x + 1 + 0) % 0x10000) d n (suc j))
+        (p + 14) w u) e a)))
 
     -- the bit of the quotient, by whether there is a carry, and whether the divisor goes in
     turn_by : (c k : Bool) (x d r j : ℕ) (w : WordState) (t : Core) → nat_le 0x10000 (longer x r) ≡ c → over x r d ≡ k → x < 0x10000 → d < 0x10000 → r < 0x10000
@@ -278,36 +277,27 @@ module _ (z : Setting) where
     turn_by true true x d r j w t e f lx ld lr lj s i =
         let high = (z.tidy (p + 8) _ at8).high in
         let to : sum16 (p + 4 + 2) (distance 2) ≡ p + 10 = omega arith in
-        dearer z [] 7 10 t _ (omega arith)
-        (runs_on z 2 5 t _ _ [] [] (double x d r (suc j) w t i) (λ u a.
-        runs_on z 2 3 u (Holds z (InHand (shifted x) d (longer x r % 0x10000) (suc j)) (p + 10) w) _ [] []
-        (jump_with z condition.Carry 2 (p + 4) (p + 10) true at4 (a.flag ∙ e) to a.all) (λ v b.
-        taken x d r j w v lr ld f (s refl) lj b)))
+        dearer z (omega arith) (runs_on z (double x d r (suc j) w t i) (λ u a. runs_on z
+        (jump_with z condition.Carry 2 (p + 4) (p + 10) true at4 (a.flag ∙ e) to a.all) (λ v b. taken x d r j w v lr ld f (s refl) lj b)))
     turn_by true false x d r j w t e f lx ld lr lj s i = elim (impossible x d r e f ld) [ ]
     turn_by false true x d r j w t e f lx ld lr lj s i =
         let m = under x r e in
         let same : longer x r % 0x10000 ≡ longer x r = omega arith in
-        runs_on z 2 8 t _ _ [] [] (double x d r (suc j) w t i) (λ u a.
-        runs_on z 2 6 u (Holds z (InHand (shifted x) d (longer x r % 0x10000) (suc j)) (p + 6) w) _ [] []
-        (jump_with z condition.Carry 2 (p + 4) (p + 6) false at4 (a.flag ∙ e) (omega arith) a.all) (λ v b.
-        runs_on z 1 5 v _ _ [] [] (compare (shifted x) d (longer x r % 0x10000) (suc j) w v (omega arith) ld b) (λ y is_zero.
-        runs_on z 2 3 y (Holds z (InHand (shifted x) d (longer x r % 0x10000) (suc j)) (p + 10) w) _ [] []
-        (jump_with z condition.NoCarry 2 (p + 8) (p + 10) false at8 (ap not (is_zero.flag ∙ ap (nat_le d) same ∙ f)) (omega arith) is_zero.all) (λ q k.
-        taken x d r j w q lr ld f (s refl) lj k))))
+        runs_on z (double x d r (suc j) w t i) (λ u a. runs_on z (jump_with z condition.Carry 2 (p + 4) (p + 6) false at4 (a.flag ∙ e) (omega arith) a.all)
+        (λ v b. runs_on z (compare (shifted x) d (longer x r % 0x10000) (suc j) w v (omega arith) ld b)
+        (λ y is_zero. runs_on z (jump_with z condition.NoCarry 2 (p + 8) (p + 10) false at8 (ap not (is_zero.flag ∙ ap (nat_le d) same ∙ f)) (omega arith)
+        is_zero.all) (λ q k. taken x d r j w q lr ld f (s refl) lj k))))
     turn_by false false x d r j w t e f lx ld lr lj s i =
         let m = under x r e in
         let high = (z.tidy (p + 8) _ at8).high in
         let high16 = (z.tidy (p + 16) _ at16).high in
         let to : sum16 (p + 8 + 2) (distance 2) ≡ p + 14 = omega arith in
         let same : longer x r % 0x10000 ≡ longer x r = omega arith in
-        dearer z [] 8 10 t _ (omega arith)
-        (runs_on z 2 6 t _ _ [] [] (double x d r (suc j) w t i) (λ u a.
-        runs_on z 2 4 u (Holds z (InHand (shifted x) d (longer x r % 0x10000) (suc j)) (p + 6) w) _ [] []
-        (jump_with z condition.Carry 2 (p + 4) (p + 6) false at4 (a.flag ∙ e) (omega arith) a.all) (λ v b.
-        runs_on z 1 3 v _ _ [] [] (compare (shifted x) d (longer x r % 0x10000) (suc j) w v (omega arith) ld b) (λ y is_zero.
-        runs_on z 2 1 y (Holds z (InHand (shifted x) d (longer x r % 0x10000) (suc j)) (p + 14) w) _ [] []
-        (jump_with z condition.NoCarry 2 (p + 8) (p + 14) true at8 (ap not (is_zero.flag ∙ ap (nat_le d) same ∙ f)) to is_zero.all) (λ q k.
-        count (shifted x) d (longer x r) j w q lj (subst (λ n. Holds z (InHand (shifted x) d n (suc j)) (p + 14) w q) same k))))))
+        dearer z (omega arith) (runs_on z (double x d r (suc j) w t i) (λ u a. runs_on z
+        (jump_with z condition.Carry 2 (p + 4) (p + 6) false at4 (a.flag ∙ e) (omega arith) a.all)
+        (λ v b. runs_on z (compare (shifted x) d (longer x r % 0x10000) (suc j) w v (omega arith) ld b)
+        (λ y is_zero. runs_on z (jump_with z condition.NoCarry 2 (p + 8) (p + 14) true at8 (ap not (is_zero.flag ∙ ap (nat_le d) same ∙ f)) to is_zero.all)
+        (λ q k. count (shifted x) d (longer x r) j w q lj (subst (λ n. Holds z (InHand (shifted x) d n (suc j)) (p + 14) w q) same k))))))
 
     abbrev out_x : ℕ → ℕ → ℕ → ℕ
     out_x x d r = if over x r d then shifted x + 1 else shifted x
@@ -337,9 +327,8 @@ module _ (z : Setting) where
         let wh = n.whole in
         let e : 2 * q ≡ 0x10000 = omega arith in
         let is_zero = ends a d (out_x x d r) (out_r x d r) (subst (λ m. Dividing a d (out_x x d r) (out_r x d r) m 1) e n) in
-        runs_on z 10 2 t _ _ [] [] (turn zero a x d r q 1 w t (omega arith) lj la lx ld g i) (λ u k.
-        jump_with z condition.NotEqual 1015 (p + 16) (p + 18) false at16 (ap not k.flag) (omega arith)
-        (subst (λ m. Holds z (InHand m d (remainder a d) 0) (p + 16) w u) is_zero.0
+        runs_on z (turn zero a x d r q 1 w t (omega arith) lj la lx ld g i) (λ u k. jump_with z condition.NotEqual 1015 (p + 16) (p + 18) false at16
+        (ap not k.flag) (omega arith) (subst (λ m. Holds z (InHand m d (remainder a d) 0) (p + 16) w u) is_zero.0
         (subst (λ m. Holds z (InHand (out_x x d r) d m 0) (p + 16) w u) is_zero.1 k.all)))
     loop (suc j) a x d r q w t lj la lx ld g i =
         let high = (z.tidy (p + 16) _ at16).high in
@@ -347,10 +336,8 @@ module _ (z : Setting) where
         let n = step_by (over x r d) a d x r q (2 ^ suc j) refl g in
         let next : Dividing a d (out_x x d r) (out_r x d r) (2 * q) (2 * 2 ^ j) = subst (λ m. Dividing a d (out_x x d r) (out_r x d r) (2 * q) m) (power j) n in
         let l : 12 + suc j * 12 ≤ suc (suc j) * 12 = omega arith in
-        dearer z [] (12 + suc j * 12) (suc (suc j) * 12) t _ l
-        (runs_on z 12 (suc j * 12) t (Holds z (InHand (out_x x d r) d (out_r x d r) (suc j)) p w) _ [] []
-        (runs_on z 10 2 t _ _ [] [] (turn (suc j) a x d r q (2 ^ suc j) w t (positive (suc j)) lj la lx ld g i) (λ u k.
-        jump_with z condition.NotEqual 1015 (p + 16) p true at16 (ap not k.flag ∙ suc_not j) to k.all))
+        dearer z l (runs_on z (runs_on z (turn (suc j) a x d r q (2 ^ suc j) w t (positive (suc j)) lj la lx ld g i)
+        (λ u k. jump_with z condition.NotEqual 1015 (p + 16) p true at16 (ap not k.flag ∙ suc_not j) to k.all))
         (λ u k. loop j a (out_x x d r) d (out_r x d r) (2 * q) w u (omega arith) la (x_small (over x r d) x lx) ld next k))
 
   abbrev heads : List Form
@@ -363,15 +350,12 @@ module _ (z : Setting) where
       (omega (arith, i.is.at)) (λ s. record { is = s; held = record { four = i.held.four; five = i.held.five; six = refl; seven = refl } }) in
       let end : pc + 6 + 18 ≡ pc + 24 = omega arith in
       subst (λ n. Runs z.code [] 195 t (Holds z (InHand (quotient x y) y (remainder x y) 0) n w)) end
-      (runs_on z 3 192 t (Holds z (InHand x y 0 16) (pc + 6) w) _ [] [] start
-      (λ u k. loop (pc + 6) (forms_behind z.code pc 2 divide_middle h) 15 x x y 0 1 w u (omega arith) a a b (starts x y a) k))
+      (runs_on z start (λ u k. loop (pc + 6) (forms_behind z.code pc 2 divide_middle h) 15 x x y 0 1 w u (omega arith) a a b (starts x y a) k))
 
   pub divide_part : BinaryMiddle z (binary_middle Divide) R4 195 (binary_word Divide)
   divide_part pc x y w t a b h i =
-      so_runs z [] 195 t (Holds z (InHand (quotient x y) y (remainder x y) 0) (pc + 24) w) _ (λ u k. record { is = k.is; held = k.held.four })
-      (all_turns pc x y w t a b h i)
+      so_runs (all_turns pc x y w t a b h i) (λ u k. record { is = k.is; held = k.held.four })
 
   pub remainder_part : BinaryMiddle z (binary_middle Remainder) R6 195 (binary_word Remainder)
   remainder_part pc x y w t a b h i =
-      so_runs z [] 195 t (Holds z (InHand (quotient x y) y (remainder x y) 0) (pc + 24) w) _ (λ u k. record { is = k.is; held = k.held.six })
-      (all_turns pc x y w t a b h i)
+      so_runs (all_turns pc x y w t a b h i) (λ u k. record { is = k.is; held = k.held.six })

@@ -111,4 +111,4 @@ module _ (z : Setting) where
   pub jump_to : (k : Condition) (o pc pc' : ℕ) (b : Bool) (w : WordState) (t : Core) → z.code pc ≡ Some (instruction_of (Jump k o)) → is_met k t.flags ≡ b
       → (if b then sum16 (pc + 2) (distance o) else pc + 2) ≡ pc' → StandsFor z pc w t → Runs z.code [] 2 t (StandsFor z pc' w)
   jump_to k o pc pc' b w t h e to i =
-      so_runs z [] 2 t (With (StandsFor z pc' w) (λ f. Unit {0})) _ (λ s j. j.is) (jump_with k o pc pc' b h e to (record { is = i; held = tt }))
+      so_runs (jump_with {P = λ f. Unit {0}} k o pc pc' b h e to (record { is = i; held = tt })) (λ s j. j.is)

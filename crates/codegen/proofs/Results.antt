@@ -114,9 +114,8 @@ module _ (z : Setting) where
       come (λ t s k. record {
         spent = c;
         within = omega (arith, budget);
-        runs = so_runs z [] c t (Has z b end (with_stack k.is.rest w) r) _ (λ q j.
-            result_waits z o ks end w r vs k.is.rest t.work q k.is.stack (there, k.is.there) none room (word q.work ∙ j.held) j.is)
-            (middle k.is.rest t s (record { is = k.is.is; held = k.held }));
+        runs = so_runs (middle k.is.rest t s (record { is = k.is.is; held = k.held })) (λ q j.
+            result_waits z o ks end w r vs k.is.rest t.work q k.is.stack (there, k.is.there) none room (word q.work ∙ j.held) j.is);
       })
 
   -- code that brings the top to a register, and what is made of it in R4
@@ -163,7 +162,7 @@ module _ (z : Setting) where
       record {
         spent = 0;
         within = omega (arith, less);
-        runs = nothing_run z u _ (subst (λ p. Describes z (o ∷ os) p (pushed v w) u) same (waits_more z o os pc w v u there word room d));
+        runs = nothing_run z (subst (λ p. Describes z (o ∷ os) p (pushed v w) u) same (waits_more z o os pc w v u there word room d));
       }
 
   pub number_part : (n : ℕ) (os : List Waiting) (pc : ℕ) (w : WordState) (u : Core) → length w.stack < z.room → Describes z os pc w u
@@ -361,8 +360,7 @@ module _ (z : Setting) where
       record {
         spent = l + c;
         within = omega (arith, owed_kept (below_top under), right_owed os, load_owed under);
-        runs = two_parts z (sides os) (m ∷ []) l c pc u (LoadedSides z s ks mid (with_stack rest w) x y)
-            (λ p. Describes z (waiting.R4 ∷ ks) p (with_stack (plain_word o x y ∷ rest) w)) h (λ s. sides_part z os pc w x y rest u e s d)
+        runs = two_parts z (sides os) (m ∷ []) pc (λ p. Describes z (waiting.R4 ∷ ks) p (with_stack (plain_word o x y ∷ rest) w)) h (λ s. sides_part z os pc w x y rest u e s d)
             (λ t s' k. plain_form o s c mid x y ks w rest t (reading_price (top_of os)) lx ly (none_held (below_top under)) room s'.0 k);
       }
 
@@ -520,16 +518,14 @@ module _ (z : Setting) where
       → With (Describes z ks pc w) P u → Runs z.code [] (owed ks) u (With (StandsFor z (pc + forms_bytes (flushed ks)) w) P)
   push_under {P} ks pc w u h k =
       let end = pc + forms_bytes (flushed ks) in
-      so_runs z [] (owed ks) u (Waits z [] end w (AreThese u.work)) _ (λ t j. record { is = bare z end w t j.is; held = subst P (sym j.held) k.held })
-      (flush_under z [] ks pc w u k.is h)
+      so_runs (flush_under z [] ks pc w u k.is h) (λ t j. record { is = bare z end w t j.is; held = subst P (sym j.held) k.held })
 
   -- the same behind what brings them there
   pub gathered : (P : (ℕ → ℕ) → Type 0) (front : List Form) (ks : List Waiting) (l pc : ℕ) (w : WordState) (u : Core) → Stands z.code pc (front ++ flushed ks)
       → (Stands z.code pc front → Runs z.code [] l u (Waits z ks (pc + forms_bytes front) w P))
       → Runs z.code [] (l + owed ks) u (Holds z P (pc + forms_bytes (front ++ flushed ks)) w)
   gathered P front ks l pc w u h come =
-      two_parts z front (flushed ks) l (owed ks) pc u (Waits z ks (pc + forms_bytes front) w P) (λ p. Holds z P p w) h come
-      (λ t s k. push_under ks (pc + forms_bytes front) w t s k)
+      two_parts z front (flushed ks) pc (λ p. Holds z P p w) h come (λ t s k. push_under ks (pc + forms_bytes front) w t s k)
 
   -- a word that is emitted
   pub emit_reaches : (count buffer : ℕ) (os : List Waiting) (pc : ℕ) (w : WordState) (vs : List ℕ) (u : Core) → w.stack ≡ vs

@@ -125,14 +125,13 @@ module _ (z : Setting) where
       → ((pc y : ℕ) (w : WordState) (t : Core) → z.code pc ≡ Some (instruction_of m) → Has z R4 pc w y t → Runs z.code [] 1 t (Has z R4 (pc + 2) w (g y)))
       → (k pc y : ℕ) (w : WordState) (t : Core) → Stands z.code pc (repeated k m) → Has z R4 pc w y t
       → Runs z.code [] k t (Has z R4 (pc + forms_bytes (repeated k m)) w (times k g y))
-  repeat_part m g s one zero pc y w t h i = let e : pc ≡ pc + 0 = omega arith in nothing_run z t _ (subst (λ n. Has z R4 n w y t) e i)
+  repeat_part m g s one zero pc y w t h i = let e : pc ≡ pc + 0 = omega arith in nothing_run z (subst (λ n. Has z R4 n w y t) e i)
   repeat_part m g s one (suc k) pc y w t h i =
       let e : pc + 2 + forms_bytes (repeated k m) ≡ pc + (form_bytes m + forms_bytes (repeated k m)) = omega (arith, s) in
       let q : 1 + k ≤ suc k = omega arith in
       let h' : Stands z.code (pc + 2) (repeated k m) = subst (λ n. Stands z.code (pc + n) (repeated k m)) s h.1 in
-      dearer z [] (1 + k) (suc k) t _ q
-      (subst (λ n. Runs z.code [] (1 + k) t (Has z R4 n w (times k g (g y)))) e
-      (runs_on z 1 k t _ _ [] [] (one pc y w t h.0 i) (λ v j. repeat_part m g s one k (pc + 2) (g y) w v h' j)))
+      dearer z q (subst (λ n. Runs z.code [] (1 + k) t (Has z R4 n w (times k g (g y)))) e
+      (runs_on z (one pc y w t h.0 i) (λ v j. repeat_part m g s one k (pc + 2) (g y) w v h' j)))
 
   double_step : (pc y : ℕ) (w : WordState) (t : Core) → z.code pc ≡ Some (instruction_of (Calculate op.Add (Register R4) R4)) → Has z R4 pc w y t
       → Runs z.code [] 1 t (Has z R4 (pc + 2) w (double y))
@@ -162,9 +161,7 @@ module _ (z : Setting) where
   big ms more c k g f l a b all e q pc y w t s h i =
       let h' = subst (Stands z.code pc) e h in
       let p : pc + forms_bytes ms + forms_bytes more ≡ pc + forms_bytes all = omega (arith, q) in
-      dearer z [] (c + k) 10 t _ l
-      (subst (λ n. Runs z.code [] (c + k) t (Has z R4 n w (f (g y)))) p
-      (runs_on z c k t _ _ [] [] (a pc y w t s (stands_front z.code pc ms more h') i)
+      dearer z l (subst (λ n. Runs z.code [] (c + k) t (Has z R4 n w (f (g y)))) p (runs_on z (a pc y w t s (stands_front z.code pc ms more h') i)
       (λ v j. b (pc + forms_bytes ms) (g y) w v (stands_back z.code pc ms more h') j)))
 
   abbrev up_head : List Form
@@ -209,14 +206,14 @@ module _ (z : Setting) where
 
   down_smalls : (k : ℕ) → k < 8 → Turns (right_code k) 10 (λ v. v / 2 ^ k)
   down_smalls zero l = as_value [] (λ v. v) (λ v. v / 2 ^ zero) (λ y h. omega arith) (λ pc y w t s h i. let e : pc ≡ pc + 0 = omega arith in
-      dearer z [] 0 10 t _ (omega arith) (nothing_run z t _ (subst (λ n. Has z R4 n w y t) e i)))
+      dearer z (omega arith) (nothing_run z (subst (λ n. Has z R4 n w y t) e i)))
   down_smalls (suc k) l =
       as_value (right_code (suc k)) (λ v. times k half_signed (v / 2)) (λ v. v / 2 ^ suc k) (λ y h. halved_plain k (y / 2) (omega arith) ∙ halved_twice k y)
       (big one_down (repeated k (Modify change.Rra R4)) 2 k (λ v. v / 2) (times k half_signed) (omega arith) one_first (halves k) _ refl (omega arith))
 
   shift_turns : (d : ShiftOperation) (k : ℕ) → k < 16 → Turns (shift_by d k) 10 (shift_of d k)
   shift_turns Left k l = by_eight (nat_lt k 8) k refl l _ _ (shift_of Left k)
-      (λ s pc y w t a h i. dearer z [] k 10 t _ (omega arith)
+      (λ s pc y w t a h i. dearer z (omega arith)
       (subst (λ v. Runs z.code [] k t (Has z R4 (pc + forms_bytes (repeated k (Calculate op.Add (Register R4) R4))) w v)) (doubled k y a)
       (doubles k pc y w t h i)))
       (λ j e s. as_value (up_head ++ repeated (k - 8) (Calculate op.Add (Register R4) R4)) _ _
@@ -230,7 +227,7 @@ module _ (z : Setting) where
       (big down_head (repeated (k - 8) (Modify change.Rra R4)) 3 (k - 8) (λ v. v / 256) (times (k - 8) half_signed) (omega arith) down_first (halves (k - 8))
       _ refl (omega arith)))
   shift_turns SignedRight k l = by_eight (nat_lt k 8) k refl l _ _ (shift_of SignedRight k)
-      (λ s pc y w t a h i. dearer z [] k 10 t _ (omega arith)
+      (λ s pc y w t a h i. dearer z (omega arith)
       (subst (λ v. Runs z.code [] k t (Has z R4 (pc + forms_bytes (repeated k (Modify change.Rra R4))) w v)) (halved_signed k y a) (halves k pc y w t h i)))
       (λ j e s. as_value (sign_head ++ repeated (k - 8) (Modify change.Rra R4)) _ _ (λ y h. let q : k - 8 ≡ j = omega arith in
       ap (λ n. times n half_signed (sign (swap y))) q ∙ signed_big j y h ∙ ap (λ n. arithmetic_shift y n) (sym e))
@@ -243,7 +240,7 @@ module _ (z : Setting) where
   middle_turns true d k e pc y w t s h i = let l : k < 16 = grind (arith, nat_tests) in shift_turns d k l pc y w t s h i
   middle_turns false d k e pc y w t s h i =
       let ms = Move (Constant konst.Zero) (ToRegister R4) ∷ [] in
-      dearer z [] 1 10 t _ (omega arith)
+      dearer z (omega arith)
       (line z ms 1 (pc + 2) (Has z R4 (pc + 2) w 0) i.is (tt, tt) h ((tt, tt), tt) refl refl (omega (arith, i.is.at)) (λ u. record { is = u; held = refl }))
 
   pub shift_part : (d : ShiftOperation) (k : ℕ) → Turns (shift_middle d k) 10 (λ v. shift_word d v k)

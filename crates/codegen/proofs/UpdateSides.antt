@@ -1,14 +1,14 @@
 -- The right side of an update of an element: it is read where it waits, whatever is in the registers for work.
 use Rattle.std.proofs.Common.{◌≡◌, ℕ, ◌+◌, ◌≤◌, Bool, true, false, not, if◌then◌else◌, List, [], ◌∷◌, ◌++◌, Option, Some, None, refl, sym, ap, ◌∙◌, subst}
 use Rattle.std.proofs.Common.{arith}
-use Rattle.codegen.proofs.Names.{source_cycles, to_register, to_memory, R4, R5, Core, Source, Register, source_operand, source_value, source_read, SourceNeeds}
+use Rattle.codegen.proofs.Names.{source_cycles, to_register, to_memory, R5, Core, Source, Register, source_operand, source_value, source_read, SourceNeeds}
 use Rattle.codegen.proofs.Names.{Form, Stands, forms_bytes, Runs, WordState, with_stack, Waiting, waiting_source, flushed, top_of, source_from, below_top}
 use Rattle.codegen.proofs.Names.{is_held, any_held, four_from, five_from, rests, rest_source, to_rest, right_to_rest, update_sides}
 use Rattle.codegen.specs.declared.waiting.Waiting.TheVariants as waiting
 use Rattle.codegen.proofs.Stretches.{two_parts, Setting, dearer, nothing_run, so_runs}
 use Rattle.codegen.proofs.Registers.{With}
-use Rattle.codegen.proofs.Operands.{Waits, AreThese, IsLoaded, IsThere, owed, owed_least, load_cycles, load_price, load_owed, store_price, number_cases}
-use Rattle.codegen.proofs.Operands.{source_still, source_needs, source_word, Describes, bare, flush_under, drop_part, five_part, four_part}
+use Rattle.codegen.proofs.Operands.{IsThere, owed, owed_least, load_cycles, load_price, load_owed, store_price, number_cases, source_still, source_needs}
+use Rattle.codegen.proofs.Operands.{source_word, Describes, bare, flush_under, drop_part, five_part, four_part}
 use Rattle.codegen.proofs.Memory.{local_words, local_word, in_register}
 use Rattle.codegen.proofs.Follows.{StandsFor}
 
@@ -119,15 +119,14 @@ module _ (z : Setting) where
   rest_by true (o ∷ os) pc w v vs u b e h d =
       let k = drop_part z o os pc w v vs u e d in
       let same : pc ≡ pc + 0 = omega arith in
-      nothing_run z u _ (record {
+      nothing_run z (record {
         is = subst (λ n. Describes z os n (with_stack vs w) u) same k.0;
         held = waiting_gives z.locals w.locals o v w.fram u (not_true (is_held o) b) d.there.0 d.is.fram
             (source_word z o pc (with_stack d.rest w) u d.is d.there.0 ∙ k.1);
       })
   rest_by false os pc w v vs u b e h d =
       let end = pc + forms_bytes (five_from (top_of os)) in
-      so_runs z [] (load_cycles (top_of os)) u (Waits z (below_top os) end (with_stack vs w) (IsLoaded R5 v u.work)) _
-      (λ t j. record { is = j.is; held = five_gives v w.fram t.work j.held.value }) (five_part z os pc w v vs u e h d)
+      so_runs (five_part z os pc w v vs u e h d) (λ t j. record { is = j.is; held = five_gives v w.fram t.work j.held.value })
 
   -- the right side to where it is read
   rest_part : (os : List Waiting) (pc : ℕ) (w : WordState) (v : ℕ) (vs : List ℕ) (u : Core) → w.stack ≡ v ∷ vs → Stands z.code pc (to_rest (top_of os))
@@ -147,18 +146,16 @@ module _ (z : Setting) where
       let x = rest_source (top_of os) in
       let left = with_stack (i ∷ vs) w in
       let last = with_stack vs w in
-      two_parts z first second (rest_cycles (top_of os)) (load_cycles (top_of under)) pc u (Rested x under mid left v) (λ n. Aims x n last i v) h
+      two_parts z first second pc (λ n. Aims x n last i v) h
       (λ s. rest_part os pc w v (i ∷ vs) u e s d) (λ t s k.
-      so_runs z [] (load_cycles (top_of under)) t (Waits z (below_top under) (mid + forms_bytes second) last (IsLoaded R4 i t.work)) _
-      (λ q j. record {
+      so_runs (four_part z under mid left i vs t refl (ap any_held none) s k.is) (λ q j. record {
         is = bare z (mid + forms_bytes second) last q (subst (λ ws. Describes z ws (mid + forms_bytes second) last q) none j.is);
         held =
             record {
               four = j.held.value;
               gives = gives_on x v w.fram t.work q.work k.held (j.held.others 5 (λ n. omega (arith, n))) (locals_same q.work t.work j.held.others);
             };
-      })
-      (four_part z under mid left i vs t refl (ap any_held none) s k.is))
+      }))
 
   -- the same, all words below the two being pushed
   pub update_sides_part : (os : List Waiting) (pc : ℕ) (w : WordState) (i v : ℕ) (vs : List ℕ) (u : Core) → w.stack ≡ v ∷ (i ∷ vs)
@@ -167,12 +164,11 @@ module _ (z : Setting) where
       (Aims (rest_source (top_of os)) (pc + forms_bytes (update_sides os)) (with_stack vs w) i v))
   update_sides_part [] pc w i v vs u e h d = sides_run [] pc w i v vs u refl e h d
   update_sides_part (o ∷ []) pc w i v vs u e h d =
-      dearer z [] (rest_cycles (Some o) + 2) (0 + (rest_cycles (Some o) + 2)) u _ (omega arith) (sides_run (o ∷ []) pc w i v vs u refl e h d)
+      dearer z (omega arith) (sides_run (o ∷ []) pc w i v vs u refl e h d)
   update_sides_part (o ∷ (p ∷ os)) pc w i v vs u e h d =
       let mid = pc + forms_bytes (flushed os) in
-      two_parts z (flushed os) (to_rest (Some o) ++ four_from (Some p)) (owed os) (rest_cycles (Some o) + 3) pc u
-      (Waits z (o ∷ (p ∷ [])) mid w (AreThese u.work)) (λ n. Aims (rest_source (Some o)) n (with_stack vs w) i v) h (flush_under z (o ∷ (p ∷ [])) os pc w u d)
-      (λ t s k. sides_run (o ∷ (p ∷ [])) mid w i v vs t refl e s k.is)
+      two_parts z (flushed os) (to_rest (Some o) ++ four_from (Some p)) pc (λ n. Aims (rest_source (Some o)) n (with_stack vs w) i v) h
+      (flush_under z (o ∷ (p ∷ [])) os pc w u d) (λ t s k. sides_run (o ∷ (p ∷ [])) mid w i v vs t refl e s k.is)
 
   -- the same without the index
   pub right_part : (o p : Waiting) (os : List Waiting) (pc : ℕ) (w : WordState) (v : ℕ) (vs : List ℕ) (u : Core) → w.stack ≡ v ∷ vs
@@ -181,6 +177,5 @@ module _ (z : Setting) where
       (Rested (rest_source (Some o)) (p ∷ []) (pc + forms_bytes (right_to_rest (o ∷ (p ∷ os)))) (with_stack vs w) v)
   right_part o p os pc w v vs u e h d =
       let mid = pc + forms_bytes (flushed os) in
-      two_parts z (flushed os) (to_rest (Some o)) (owed os) (rest_cycles (Some o)) pc u (Waits z (o ∷ (p ∷ [])) mid w (AreThese u.work))
-      (λ n. Rested (rest_source (Some o)) (p ∷ []) n (with_stack vs w) v) h (flush_under z (o ∷ (p ∷ [])) os pc w u d)
-      (λ t s k. rest_part (o ∷ (p ∷ [])) mid w v vs t e s k.is)
+      two_parts z (flushed os) (to_rest (Some o)) pc (λ n. Rested (rest_source (Some o)) (p ∷ []) n (with_stack vs w) v) h
+      (flush_under z (o ∷ (p ∷ [])) os pc w u d) (λ t s k. rest_part (o ∷ (p ∷ [])) mid w v vs t e s k.is)

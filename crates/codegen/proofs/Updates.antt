@@ -78,7 +78,7 @@ module _ (z : Setting) where
       let first = Move (source_from x) (ToRegister R5) in
       let ms = Move (Ram (local_address n)) (ToRegister R4) ∷ [] in
       let mid = pc + form_bytes first in
-      runs_on z (load_cycles x) 3 u (Has z R5 mid (with_stack vs w) v) _ [] [] (to_five_part z x pc w v vs u (h.0, tt) k) (λ t j.
+      runs_on z (to_five_part z x pc w v vs u (h.0, tt) k) (λ t j.
       let i = j.is in
       straight z ms 3 t (end_of t (forms_run ms t).status) [] 3 _ (tt, tt)
       (stands_at z.code mid ms t h.1 i.at) ((local_needs z n lt, tt), tt) refl (omega arith)
@@ -120,10 +120,8 @@ module _ (z : Setting) where
       let end : mid + 2 + 4 ≡ pc + forms_bytes ms = omega arith in
       let last = h.1.1 in
       subst (λ p. Runs z.code [] (8 + load_cycles x) u (StandsFor z p (with_local n made popped))) end
-      (dearer z [] (load_cycles x + 3 + 5) (8 + load_cycles x) u _ (omega arith)
-      (runs_on z (load_cycles x + 3) 5 u _ _ [] [] (take_two x n y v pc vs w u b lt q (h.0, (h.1.0, tt)) top) (λ t j.
-      runs_on z 1 4 t _ _ [] [] (plain_middle z o mid y v popped t k l (last.0, tt) j) (λ s r.
-      set_from n made (mid + 2) popped s b lt last.1.0 r))))
+      (dearer z (omega arith) (runs_on z (take_two x n y v pc vs w u b lt q (h.0, (h.1.0, tt)) top)
+      (λ t j. runs_on z (plain_middle z o mid y v popped t k l (last.0, tt) j) (λ s r. set_from n made (mid + 2) popped s b lt last.1.0 r))))
 
   -- what the instruction makes of a local and of the top is assigned
   pub update_local_part : (o : PlainOperation) (x : Option Waiting) (n y v pc : ℕ) (vs : List ℕ) (w : WordState) (u : Core) → n < z.locals

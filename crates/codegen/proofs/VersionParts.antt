@@ -8,8 +8,7 @@ use Rattle.codegen.proofs.Names.{first_stored, own_stored, versioned_stored, put
 use Rattle.msp_isa.specs.declared.instructions.Condition.TheVariants as condition
 use Rattle.msp_isa.specs.declared.instructions.TwoOp.TheVariants as op
 use Rattle.msp_isa.specs.declared.operands.Konst.TheVariants as konst
-use Rattle.codegen.proofs.Registers.{HasWord, HasSides, Holds, Has, HasTwo, Flagged, IsZero, line, store_line, jump_with, jump_to, equal_flag}
-use Rattle.codegen.proofs.Operands.{AreThese}
+use Rattle.codegen.proofs.Registers.{HasWord, HasSides, Has, HasTwo, Flagged, IsZero, line, store_line, jump_with, jump_to, equal_flag}
 use Rattle.codegen.proofs.Stretches.{Setting, runs_on, dearer, so_runs}
 use Rattle.codegen.proofs.Memory.{place_is}
 use Rattle.codegen.proofs.Follows.{Follows, more_cycles, then_end, ends_at, guarded}
@@ -80,11 +79,9 @@ module _ (z : Setting) where
         → Has z R4 pc w i t → Runs z.code [] 14 t (Has z R4 to w (w.fram (2 * i + place.copies)))
     copy_read to i w t wl f g e c d k =
         let v = w.fram (2 * i + place.copies) in
-        runs_on z 7 7 t (Flagged z (HasWord R4 (2 * i)) (IsZero true) (pc + 10) w) _ [] [] (marked_part true i w t wl f g e k) (λ u m.
-        runs_on z 2 5 u (Has z R4 (pc + 12) w (2 * i)) _ [] []
-        (jump_with z condition.NotEqual 3 (pc + 10) (pc + 12) false at10 (ap not m.flag) (omega arith) m.all) (λ q j.
-        runs_on z 3 2 q (Has z R4 (pc + 16) w v) _ [] [] (word_part place.copies (pc + 12) (pc + 16) i w q c (omega arith) at12 j) (λ r n.
-        jump_with z condition.Always over (pc + 16) to true at16 refl d n)))
+        runs_on z (marked_part true i w t wl f g e k) (λ u m. runs_on z (jump_with z condition.NotEqual 3 (pc + 10) (pc + 12) false at10 (ap not m.flag)
+        (omega arith) m.all) (λ q j. runs_on z (word_part place.copies (pc + 12) (pc + 16) i w q c (omega arith) at12 j)
+        (λ r n. jump_with z condition.Always over (pc + 16) to true at16 refl d n)))
 
     -- where it isn't, the element
     home_read : (i : ℕ) (w : WordState) (t : Core) → ((a : ℕ) → w.fram a < 0x10000) → IsFram list.ver → IsFram (2 * i + place.versions)
@@ -93,10 +90,8 @@ module _ (z : Setting) where
     home_read i w t wl f g e c k =
         let high = (z.tidy (pc + 18) _ at18).high in
         let to : sum16 (pc + 10 + 2) (distance 3) ≡ pc + 18 = omega arith in
-        runs_on z 7 5 t (Flagged z (HasWord R4 (2 * i)) (IsZero false) (pc + 10) w) _ [] [] (marked_part false i w t wl f g e k) (λ u m.
-        runs_on z 2 3 u (Has z R4 (pc + 18) w (2 * i)) _ [] []
-        (jump_with z condition.NotEqual 3 (pc + 10) (pc + 18) true at10 (ap not m.flag) to m.all) (λ q j.
-        word_part place.elements (pc + 18) (pc + 22) i w q c (omega arith) at18 j))
+        runs_on z (marked_part false i w t wl f g e k) (λ u m. runs_on z (jump_with z condition.NotEqual 3 (pc + 10) (pc + 18) true at10 (ap not m.flag) to
+        m.all) (λ q j. word_part place.elements (pc + 18) (pc + 22) i w q c (omega arith) at18 j))
 
   -- a read, where its code stands, by whether the index is surely below the length
   pub past_read : (b : Bool) (place : ArrayPlace) (list : ListPlace) (pc : ℕ) → place.length < 0x10000 → Stands z.code pc (read_code b place list)
@@ -106,7 +101,7 @@ module _ (z : Setting) where
   past_read false place list pc l h i w t sure below r k =
       let ms = own_code 4 place list in
       let n = place.length in
-      dearer z [] 5 18 t _ (omega arith)
+      dearer z (omega arith)
       (subst (λ p. Runs z.code [] 5 t (Has z R4 p w 0)) (checked_end z n 12 pc ms l h) (checked_past z n 12 pc ms l h i w t refl (omega arith) below r k))
 
   pub own_copy : (b : Bool) (place : ArrayPlace) (list : ListPlace) (pc : ℕ) → place.length < 0x10000 → Stands z.code pc (read_code b place list)
@@ -116,7 +111,7 @@ module _ (z : Setting) where
   own_copy true place list pc l h i w t wl lt r f g e c k =
       let high = (z.tidy (pc + 18) _ (at18 2 place list pc h)).high in
       let to : sum16 (pc + 16 + 2) (distance 2) ≡ pc + 22 = omega arith in
-      dearer z [] 14 18 t _ (omega arith) (copy_read 2 place list pc h (pc + 22) i w t wl f g e c to k)
+      dearer z (omega arith) (copy_read 2 place list pc h (pc + 22) i w t wl f g e c to k)
   own_copy false place list pc l h i w t wl lt r f g e c k =
       let ms = own_code 4 place list in
       let n = place.length in
@@ -126,23 +121,21 @@ module _ (z : Setting) where
       let high = (z.tidy (beyond z n 12 pc ms l h + 2) _ (zero_stands z n 12 pc ms l h).1.0).high in
       let to : sum16 (at + 16 + 2) (distance 4) ≡ end = omega arith in
       subst (λ p. Runs z.code [] 18 t (Has z R4 p w v)) (checked_end z n 12 pc ms l h)
-      (runs_on z 4 14 t (Has z R4 at w i) _ [] [] (checked_within z n 12 pc ms l h i w t lt r k) (λ u j.
-      copy_read 4 place list at (within_stands z n 12 pc ms l h) end i w u wl f g e c to j))
+      (runs_on z (checked_within z n 12 pc ms l h i w t lt r k) (λ u j. copy_read 4 place list at (within_stands z n 12 pc ms l h) end i w u wl f g e c to j))
 
   pub own_home : (b : Bool) (place : ArrayPlace) (list : ListPlace) (pc : ℕ) → place.length < 0x10000 → Stands z.code pc (read_code b place list)
       → (i : ℕ) (w : WordState) (t : Core) → ((a : ℕ) → w.fram a < 0x10000) → nat_lt i place.length ≡ true → i < 0x10000 → IsFram list.ver
       → IsFram (2 * i + place.versions) → (w.fram list.ver == w.fram (2 * i + place.versions)) ≡ false → IsFram (2 * i + place.elements)
       → Has z R4 pc w i t → Runs z.code [] 18 t (Has z R4 (pc + forms_bytes (read_code b place list)) w (w.fram (2 * i + place.elements)))
-  own_home true place list pc l h i w t wl lt r f g e c k = dearer z [] 12 18 t _ (omega arith) (home_read 2 place list pc h i w t wl f g e c k)
+  own_home true place list pc l h i w t wl lt r f g e c k = dearer z (omega arith) (home_read 2 place list pc h i w t wl f g e c k)
   own_home false place list pc l h i w t wl lt r f g e c k =
       let ms = own_code 4 place list in
       let n = place.length in
       let at = within z n 12 pc ms l h in
       let v = w.fram (2 * i + place.elements) in
       subst (λ p. Runs z.code [] 18 t (Has z R4 p w v)) (checked_end z n 12 pc ms l h)
-      (runs_on z 4 14 t (Has z R4 at w i) _ [] [] (checked_within z n 12 pc ms l h i w t lt r k) (λ u j.
-      runs_on z 12 2 u (Has z R4 (at + 22) w v) _ [] [] (home_read 4 place list at (within_stands z n 12 pc ms l h) i w u wl f g e c j) (λ q m.
-      over_zero z n 12 pc ms l h v w q m)))
+      (runs_on z (checked_within z n 12 pc ms l h i w t lt r k) (λ u j. runs_on z (home_read 4 place list at (within_stands z n 12 pc ms l h) i w u wl f g e c
+      j) (λ q m. over_zero z n 12 pc ms l h v w q m)))
 
   abbrev copying : ArrayPlace → ListPlace → List Form
   copying place list =
@@ -201,17 +194,17 @@ module _ (z : Setting) where
         let y = stored c v w in
         let high = (z.tidy (pc + 104) _ at104).high in
         let to : sum16 (pc + 14 + 2) (distance 46) ≡ pc + 108 = omega arith in
-        runs_on z 11 60 t _ _ (Store c v ∷ []) [] (copy_part place list pc i v w t wl lv fc fv fm copies j) (λ u k.
-        dearer z [] 2 60 u _ (omega arith) (jump_to z condition.Equal 46 (pc + 14) (pc + 108) true y u at14 (k.flag ∙ e) to k.all.is))
+        dearer z (omega arith)
+        (runs_on z (copy_part place list pc i v w t wl lv fc fv fm copies j)
+        (λ u k. jump_to z condition.Equal 46 (pc + 14) (pc + 108) true y u at14 (k.flag ∙ e) to k.all.is))
     own_stored_part false i v w t wl lv fc fv fm e j =
         let c = 2 * i + place.copies in
         let y = stored c v w in
         let yl = put_words w.fram c v wl lv in
         let e108 : pc + 16 + 92 ≡ pc + 108 = omega arith in
         subst (λ n. Follows z n 71 t (behind_effects (Store c v ∷ []) (first_stored place list i y))) e108
-        (then_end z (pc + 16 + 92) 11 60 t _ (Store c v ∷ []) (first_stored place list i y).effects (first_stored place list i y).end
-        (copy_part place list pc i v w t wl lv fc fv fm copies j) (λ u k.
-        then_end z (pc + 16 + 92) 2 58 u (Holds z (HasNumber (2 * i) (y.fram list.ver)) (pc + 16) y) [] (first_stored place list i y).effects
+        (then_end z (pc + 16 + 92) 60 (first_stored place list i y).effects (first_stored place list i y).end
+        (copy_part place list pc i v w t wl lv fc fv fm copies j) (λ u k. then_end z (pc + 16 + 92) 58 (first_stored place list i y).effects
         (first_stored place list i y).end (jump_with z condition.Equal 46 (pc + 14) (pc + 16) false at14 (k.flag ∙ e) (omega arith) k.all)
         (λ u' k'. first_follows z place list (pc + 16) behind i y u' yl fc fm k'.is k'.held.four k'.held.six)))
 
@@ -237,9 +230,7 @@ module _ (z : Setting) where
       let back = stands_back z.code pc check (stored_code place list) h in
       let high = (z.tidy (at + 104) _ (at104 place list at back)).high in
       let to : sum16 at (distance 54) ≡ pc + forms_bytes (write_code false place list) = omega (arith, forms_bytes-append check (stored_code place list)) in
-      dearer z [] 4 75 t _ (omega arith)
-      (so_runs z [] 4 t (Holds z (AreThese t.work) (pc + forms_bytes (write_code false place list)) w) _ (λ u j. j.is)
-      (check_part z false place.length 54 pc _ i w t lt l r front to k.held.four k.is))
+      dearer z (omega arith) (so_runs (check_part z false place.length 54 pc _ i w t lt l r front to k.held.four k.is) (λ u j. j.is))
   write_by true place list pc l h i v w t wl lt r s k =
       let check = check_code place.length 54 in
       let at = pc + forms_bytes check in
@@ -247,10 +238,8 @@ module _ (z : Setting) where
       let back = stands_back z.code pc check (stored_code place list) h in
       let b = own_stored place list i v w in
       let end : at + 108 ≡ pc + forms_bytes (write_code false place list) = omega (arith, forms_bytes-append check (stored_code place list)) in
-      ends_at z (at + 108) _ 75 t b end
-      (then_end z (at + 108) 4 71 t (Holds z (AreThese t.work) at w) [] b.effects b.end (check_part z true place.length 54 pc at i w t lt l r front refl k.held.four k.is)
-      (λ u j. stored_part place list at back i v w u wl s
-      (record { is = j.is; held = subst (HasSides i v) (sym j.held) k.held })))
+      ends_at z (at + 108) _ 75 t b end (then_end z (at + 108) 71 b.effects b.end (check_part z true place.length 54 pc at i w t lt l r front refl k.held.four
+      k.is) (λ u j. stored_part place list at back i v w u wl s (record { is = j.is; held = subst (HasSides i v) (sym j.held) k.held })))
 
   -- a word in R5 is written at an index in R4, by whether that is surely below the length
   pub write_part : (b : Bool) (place : ArrayPlace) (list : ListPlace) (pc : ℕ) → place.length < 0x10000 → Stands z.code pc (write_code b place list)

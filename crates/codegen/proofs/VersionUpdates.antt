@@ -116,13 +116,11 @@ module _ (z : Setting) (o : PlainOperation) (x : Source) (r : ℕ) (reads : sour
       let kept : (u : Core) → Holds z (Made (2 * i) y) mid w u → Runs z.code (Store c y ∷ []) 4 u (Has z R4 (mid + 4) (stored c y w) (2 * i)) =
       λ u j.
       let at : u.work 4 + place.copies ≡ c = ap (λ q. q + place.copies) j.held.four in
-      store_line z last (Store c y ∷ []) (put w.fram c y) 4 (mid + 4) _ j.is (tt, tt) h.1.1 ((tt, subst IsFram (sym at) fc), tt) refl refl
-      (omega (arith, j.is.at)) (λ e. Store (at e) (j.held.seven e) ∷ []) (λ e. put (j.is.fram e) (at e) (j.held.seven e))
-      (λ s. record { is = s; held = j.held.four }) in
-      dearer z (Store c y ∷ []) (3 + (r + 4)) (7 + r) t _ (omega arith)
+      store_line z last (Store c y ∷ []) (put w.fram c y) 4 (mid + 4) _ j.is (tt, tt) h.1.1
+      ((tt, subst IsFram (sym at) fc), tt) refl refl (omega (arith, j.is.at)) (λ e. Store (at e) (j.held.seven e) ∷ [])
+      (λ e. put (j.is.fram e) (at e) (j.held.seven e)) (λ s. record { is = s; held = j.held.four }) in dearer z (omega arith)
       (subst (λ p. Runs z.code (Store c y ∷ []) (3 + (r + 4)) t (Has z R4 p (stored c y w) (2 * i))) there
-      (runs_on z 3 (r + 4) t (Holds z (Fetched w (2 * i) v (w.fram a)) (pc + 4) w) _ [] (Store c y ∷ []) fetched (λ u j.
-      runs_on z r 4 u (Holds z (Made (2 * i) y) mid w) _ [] (Store c y ∷ []) (make_part (pc + 4) (2 * i) v (w.fram a) w u (wl a) lv h.1.0 j) kept)))
+      (runs_on z fetched (λ u j. runs_on z (make_part (pc + 4) (2 * i) v (w.fram a) w u (wl a) lv h.1.0 j) kept)))
 
   -- VER's word
   number_part : (pc k : ℕ) (w : WordState) (t : Core) → IsFram list.ver → z.code pc ≡ Some (instruction_of (attempt_form list)) → Has z R4 pc w k t
@@ -149,10 +147,9 @@ module _ (z : Setting) (o : PlainOperation) (x : Source) (r : ℕ) (reads : sour
       let sl = put_words w.fram c y wl (plain_small o (w.fram (2 * i + place.elements)) v (wl (2 * i + place.elements)) lv) in
       ends_at z (mid + 4 + 92) (pc + forms_bytes (first_update o x place list)) (68 + r) t (behind_effects (Store c y ∷ []) b) end
       (more_cycles z (mid + 4 + 92) (7 + r + (3 + 58)) (68 + r) t (Store c y ∷ b.effects) b.end (omega arith)
-      (then_end z (mid + 4 + 92) (7 + r) (3 + 58) t (Has z R4 mid s (2 * i)) (Store c y ∷ []) b.effects b.end
-      (made_part place.elements pc i v w t wl lv fe fc (stands_front z.code pc ms rest h) k) (λ u j.
-      then_end z (mid + 4 + 92) 3 58 u (Holds z (HasNumber (2 * i) (s.fram list.ver)) (mid + 4) s) [] b.effects b.end (number_part mid (2 * i) s u fv back.0 j) (λ q n.
-      first_follows z place list (mid + 4) back.1 i s q sl fc fm n.is n.held.four n.held.six))))
+      (then_end z (mid + 4 + 92) (3 + 58) b.effects b.end (made_part place.elements pc i v w t wl lv fe fc (stands_front z.code pc ms rest h) k)
+      (λ u j. then_end z (mid + 4 + 92) 58 b.effects b.end (number_part mid (2 * i) s u fv back.0 j)
+      (λ q n. first_follows z place list (mid + 4) back.1 i s q sl fc fm n.is n.held.four n.held.six))))
 
   -- ---- one way or the other
 
@@ -186,10 +183,9 @@ module _ (z : Setting) (o : PlainOperation) (x : Source) (r : ℕ) (reads : sour
         let inner = forms_bytes-append again leave in
         let to : sum16 (mid + 2) (distance (size first)) ≡ end =
         lands mid first (near_size first 400 lf (omega arith)) (omega (arith, low, behind, inner)) ∙ omega (arith, behind, inner) in
-        runs_on z 2 (n + 2) t (Aims z x (pc + 2) w k v) _ [] (Store c y ∷ [])
-        (jump_with z condition.NotEqual (size next) pc (pc + 2) false h.0 (ap not j.flag) refl j.all)
-        (λ u a. runs_on z n 2 u (StandsFor z mid s) _ (Store c y ∷ []) [] (f u (stands_front z.code (pc + 2) again leave front) a)
-        (λ q i. jump_to z condition.Always (size first) mid end true s q leaves refl to i))
+        runs_on z (jump_with z condition.NotEqual (size next) pc (pc + 2) false h.0 (ap not j.flag) refl j.all)
+        (λ u a. runs_on z (f u (stands_front z.code (pc + 2) again leave front) a) (λ q i. jump_to z condition.Always (size first) mid end true s q
+        leaves refl to i))
 
     -- it isn't
     first_way : (n k v : ℕ) (w : WordState) (t : Core) (b : Behaviour) → Looked pc w k v false t
@@ -199,10 +195,8 @@ module _ (z : Setting) (o : PlainOperation) (x : Source) (r : ℕ) (reads : sour
         let mid = pc + 2 + forms_bytes next in
         let behind = forms_bytes-append next first in
         let to : sum16 (pc + 2) (distance (size next)) ≡ mid = lands pc next next_size (omega (arith, low, behind)) in
-        ends_at z (mid + forms_bytes first) end (2 + n) t b (omega (arith, behind))
-        (then_end z (mid + forms_bytes first) 2 n t (Aims z x mid w k v) [] b.effects b.end
-        (jump_with z condition.NotEqual (size next) pc mid true h.0 (ap not j.flag) to j.all)
-        (λ u a. f u (stands_back z.code (pc + 2) next first h.1) a))
+        ends_at z (mid + forms_bytes first) end (2 + n) t b (omega (arith, behind)) (then_end z (mid + forms_bytes first) n b.effects b.end
+        (jump_with z condition.NotEqual (size next) pc mid true h.0 (ap not j.flag) to j.all) (λ u a. f u (stands_back z.code (pc + 2) next first h.1) a))
 
   -- ---- an update at the index in R4, which is below the length
 
@@ -263,12 +257,11 @@ module _ (z : Setting) (o : PlainOperation) (x : Source) (r : ℕ) (reads : sour
         let s = stored c y w in
         guarded z (is_place c) inside_end (77 + r) t _ (λ g. guarded z (is_place c) inside_end (77 + r) t _ (λ g'.
         let fc = place_is c g in
-        dearer z (Store c y ∷ []) (7 + (2 + (7 + r + 2))) (77 + r) t _ (omega arith)
+        dearer z (omega arith)
         (subst (λ p. Runs z.code (Store c y ∷ []) (7 + (2 + (7 + r + 2))) t (StandsFor z p s)) there
-        (runs_on z 7 (2 + (7 + r + 2)) t (Looked (pc + 10) w (2 * i) v true) _ [] (Store c y ∷ []) (looked true e) (λ u j.
+        (runs_on z (looked true e) (λ u j.
         again_way (pc + 10) made afresh ways made_few first_few c y (7 + r) (2 * i) v w s u j (λ q hs a.
-        so_runs z (Store c y ∷ []) (7 + r) q (Has z R4 (pc + 10 + 2 + forms_bytes made) s (2 * i)) _ (λ p l. l.is)
-        (made_part place.copies (pc + 10 + 2) i v w q wl lv fc fc hs a)))))))
+        so_runs (made_part place.copies (pc + 10 + 2) i v w q wl lv fc fc hs a) (λ p l. l.is)))))))
     inside_by false e =
         let f = 2 * i + place.elements in
         let c = 2 * i + place.copies in
@@ -277,7 +270,7 @@ module _ (z : Setting) (o : PlainOperation) (x : Source) (r : ℕ) (reads : sour
         let mid = pc + 10 + forms_bytes (by_version made afresh) in
         guarded z (is_place f) inside_end (77 + r) t _ (λ g. guarded z (is_place c) inside_end (77 + r) t b (λ g'.
         ends_at z mid inside_end (77 + r) t b there (more_cycles z mid (7 + (2 + (68 + r))) (77 + r) t b.effects b.end (omega arith)
-        (then_end z mid 7 (2 + (68 + r)) t (Looked (pc + 10) w (2 * i) v false) [] b.effects b.end (looked false e) (λ u j.
+        (then_end z mid (2 + (68 + r)) b.effects b.end (looked false e) (λ u j.
         first_way (pc + 10) made afresh ways made_few first_few (68 + r) (2 * i) v w u b j (λ q hs a.
         first_part (pc + 10 + 2 + forms_bytes (made ++ Jump condition.Always (size afresh) ∷ [])) i v w q wl lv fv fm (place_is f g) (place_is c g') hs a))))))
 
@@ -311,10 +304,8 @@ module _ (z : Setting) (o : PlainOperation) (x : Source) (r : ℕ) (reads : sour
       let low = stands_low z (pc + 6) ms (stands_back z.code pc front ms h) (omega arith) in
       let to : sum16 (pc + 4 + 2) (distance (size ms)) ≡ pc + forms_bytes (checked_update o x place list) =
       lands (pc + 4) ms (near_size ms 200 (omega (arith, inside_bytes o x place list, reads_bytes o x)) (omega arith)) (omega (arith, low)) ∙ omega arith in
-      dearer z [] 4 (81 + r) t _ (omega arith)
-      (runs_on z 2 2 t _ _ [] [] (compared_part pc i v w t li ln h.0 k) (λ u j.
-      jump_to z condition.Carry (size ms) (pc + 4) (pc + forms_bytes (checked_update o x place list)) true w u h.1.0
-      (j.flag ∙ le_of_lt z i place.length false e) to j.all.is))
+      dearer z (omega arith) (runs_on z (compared_part pc i v w t li ln h.0 k) (λ u j. jump_to z condition.Carry (size ms) (pc + 4)
+      (pc + forms_bytes (checked_update o x place list)) true w u h.1.0 (j.flag ∙ le_of_lt z i place.length false e) to j.all.is))
   checked_by true pc i v w t wl li lv ln e h k =
       let ms = inside_update o x place list in
       let front = Calculate op.Cmp (Number place.length) R4 ∷ Jump condition.Carry (size ms) ∷ [] in
@@ -322,9 +313,8 @@ module _ (z : Setting) (o : PlainOperation) (x : Source) (r : ℕ) (reads : sour
       let end : pc + 6 + forms_bytes ms ≡ pc + forms_bytes (checked_update o x place list) = omega arith in
       ends_at z (pc + 6 + forms_bytes ms) (pc + forms_bytes (checked_update o x place list)) (81 + r) t b end
       (more_cycles z (pc + 6 + forms_bytes ms) (4 + (77 + r)) (81 + r) t b.effects b.end (omega arith)
-      (then_end z (pc + 6 + forms_bytes ms) 4 (77 + r) t (Aims z x (pc + 6) w i v) [] b.effects b.end
-      (runs_on z 2 2 t _ _ [] [] (compared_part pc i v w t li ln h.0 k) (λ u j.
-      jump_with z condition.Carry (size ms) (pc + 4) (pc + 6) false h.1.0 (j.flag ∙ le_of_lt z i place.length true e) (omega arith) j.all))
+      (then_end z (pc + 6 + forms_bytes ms) (77 + r) b.effects b.end (runs_on z (compared_part pc i v w t li ln h.0 k)
+      (λ u j. jump_with z condition.Carry (size ms) (pc + 4) (pc + 6) false h.1.0 (j.flag ∙ le_of_lt z i place.length true e) (omega arith) j.all))
       (λ u a. inside_part (pc + 6) i v w u wl lv (stands_back z.code pc front ms h) a)))
 
   -- an update at the index in R4
@@ -435,7 +425,7 @@ module _ (z : Setting) (o : PlainOperation) (x : Source) (r : ℕ) (reads : sour
         let ms = Move (Number offset) (ToRegister R4) ∷ [] in
         let end : at + 4 + forms_bytes (first_update o x place list) ≡ at + forms_bytes known_first = omega arith in
         ends_at z (at + 4 + forms_bytes (first_update o x place list)) (at + forms_bytes known_first) (2 + (68 + r)) u b end
-        (then_end z (at + 4 + forms_bytes (first_update o x place list)) 2 (68 + r) u (Aims z x (at + 4) w (2 * k) v) [] b.effects b.end
+        (then_end z (at + 4 + forms_bytes (first_update o x place list)) (68 + r) b.effects b.end
         (line z ms 2 (at + 4) _ a.is (tt, tt) (hs.0, tt) ((tt, tt), tt) refl refl (omega (arith, a.is.at))
         (λ s. record { is = s; held = record { four = known_offset k place.versions fm.high; gives = a.held.gives } }))
         (λ q n. first_part (at + 4) k v w q wl lv fv fm fe fc hs.1 n))
@@ -450,9 +440,9 @@ module _ (z : Setting) (o : PlainOperation) (x : Source) (r : ℕ) (reads : sour
         let s = stored c y w in
         guarded z (is_place c) known_end (78 + r) t _ (λ p. guarded z (is_place c) known_end (78 + r) t _ (λ p'.
         let fc = place_is c p in
-        dearer z (Store c y ∷ []) (6 + (2 + (6 + 2))) (78 + r) t _ (omega arith)
+        dearer z (omega arith)
         (subst (λ n. Runs z.code (Store c y ∷ []) (6 + (2 + (6 + 2))) t (StandsFor z n s)) known_there
-        (runs_on z 6 (2 + (6 + 2)) t (Looked (pc + 8) w (t.work 4) v true) _ [] (Store c y ∷ []) (known_looked true e) (λ u j.
+        (runs_on z (known_looked true e) (λ u j.
         again_way (pc + 8) one known_first known_ways one_few known_few c y 6 (t.work 4) v w s u j
         (λ q hs a. once c q fc (known_place k place.copies fc.high) hs a))))))
     known_by false e =
@@ -463,7 +453,7 @@ module _ (z : Setting) (o : PlainOperation) (x : Source) (r : ℕ) (reads : sour
         let mid = pc + 8 + forms_bytes (by_version one known_first) in
         guarded z (is_place f) known_end (78 + r) t _ (λ p. guarded z (is_place c) known_end (78 + r) t b (λ p'.
         ends_at z mid known_end (78 + r) t b known_there (more_cycles z mid (6 + (2 + (2 + (68 + r)))) (78 + r) t b.effects b.end (omega arith)
-        (then_end z mid 6 (2 + (2 + (68 + r))) t (Looked (pc + 8) w (t.work 4) v false) [] b.effects b.end (known_looked false e) (λ u j.
+        (then_end z mid (2 + (2 + (68 + r))) b.effects b.end (known_looked false e) (λ u j.
         first_way (pc + 8) one known_first known_ways one_few known_few (2 + (68 + r)) (t.work 4) v w u b j (λ q hs a.
         afresh_part (pc + 8 + 2 + forms_bytes (one ++ Jump condition.Always (size known_first) ∷ [])) q (place_is f p) (place_is c p') hs a))))))
 

@@ -20,7 +20,7 @@ use Rattle.msp_isa.specs.declared.operands.Konst.TheVariants as konst
 use Rattle.codegen.specs.declared.waiting.Waiting.TheVariants as waiting
 use Rattle.codegen.proofs.Results.{gathered, Does, number_part, load_part, local_by, keep_reaches, update_reaches, set_reaches, update_local_reaches}
 use Rattle.codegen.proofs.Results.{unary_part, binary_part, shift_reaches, element_reaches, emit_reaches, read_reaches, write_reaches, sense_part, alone_part}
-use Rattle.codegen.proofs.Registers.{HasWord, HasSides, Has, HasTwo, jump_to}
+use Rattle.codegen.proofs.Registers.{HasWord, HasSides, jump_to}
 use Rattle.codegen.proofs.Operands.{owed, clear_cycles, owed_kept, load_cycles, load_owed, Describes, dressed, flush_part, top_to_four_part}
 use Rattle.codegen.proofs.Operands.{two_to_registers_part}
 use Rattle.codegen.proofs.Stretches.{Setting, runs_on, nothing_run}
@@ -86,8 +86,7 @@ module _ (z : Setting) where
       → Follows z (pc + 6) 5 u (number_pushed 1 w)
   one_pushed pc w u h l i =
       let high = (z.tidy (pc + 2) _ h.1.0).high in
-      runs_on z 3 2 u _ _ [] [] (constant_part z konst.One pc w u l (h.0, tt) i)
-      (λ t j. jump_to z condition.Always 1 (pc + 2) (pc + 6) true _ t h.1.0 refl (omega arith) j)
+      runs_on z (constant_part z konst.One pc w u l (h.0, tt) i) (λ t j. jump_to z condition.Always 1 (pc + 2) (pc + 6) true _ t h.1.0 refl (omega arith) j)
 
   -- 0 is pushed
   zero_pushed : (pc : ℕ) (w : WordState) (u : Core) → Stands z.code pc truth_code → length w.stack < z.room → StandsFor z (pc + 4) w u
@@ -129,11 +128,9 @@ module _ (z : Setting) where
         let come = gathered z (HasWord R4 v) (top_to_four os) (kept under) l pc t u (stands_front z.code pc front tail h)
         (λ s. top_to_four_part z os pc w v us u e s i) in
         more_cycles z end (l + owed (kept under) + 1 + 5 + (if b then ch t else cf t)) most u (if b then rh t else rf t).effects (if b then rh t else rf t).end
-        (omega (arith, owed_kept under, load_owed os))
-        (decided_follows z when b (mid + 2) d holds_at fails_at (l + owed (kept under) + 1) end (ch t) (cf t) condition.NotEqual condition.Equal t u (rh t)
-        (rf t)
-        back.1 (fork_at when d holds_at fails_at (pc + forms_bytes (holds_code os when d)) (mid + 2 + forms_bytes last) behind fork) (omega arith)
-        (runs_on z (l + owed (kept under)) 1 u (Has z R4 mid t v) _ [] [] come (λ x k. holds_part z mid v t x words.0 back.0 k))
+        (omega (arith, owed_kept under, load_owed os)) (decided_follows z when b (mid + 2) d holds_at fails_at (l + owed (kept under) + 1) end (ch t) (cf t)
+        condition.NotEqual condition.Equal t u (rh t) (rf t) back.1 (fork_at when d holds_at fails_at (pc + forms_bytes (holds_code os when d))
+        (mid + 2 + forms_bytes last) behind fork) (omega arith) (runs_on z come (λ x k. holds_part z mid v t x words.0 back.0 k))
         (λ x j. fh t x (popped held r.fit.2.0) j) (λ x j. ff t x (popped failed r.fit.2.1) j))
 
     by_two : (os : List Waiting) (c : Comparison) (pc : ℕ) (w : WordState) (u : Core) (vs : List ℕ) → Stands z.code pc (compares_code os c when d)
@@ -167,12 +164,11 @@ module _ (z : Setting) where
         let come = gathered z (HasSides x y) (two_to_registers os) ks l pc t u (stands_front z.code pc front tail h)
         (λ s. two_to_registers_part z os pc w x y us u e s i) in
         more_cycles z end (l + owed ks + 1 + 5 + (if b then ch t else cf t)) most u (if b then rh t else rf t).effects (if b then rh t else rf t).end
-        (omega (arith, owed_kept (below_top under), load_owed os, load_owed under))
-        (decided_follows z when b (mid + 2) d holds_at fails_at (l + owed ks + 1) end (ch t) (cf t) (holding c) (failing c) t u (rh t) (rf t)
-        (subst (λ n. Stands z.code n last) next back.1)
+        (omega (arith, owed_kept (below_top under), load_owed os, load_owed under)) (decided_follows z when b (mid + 2) d holds_at fails_at (l + owed ks + 1)
+        end (ch t) (cf t) (holding c) (failing c) t u (rh t) (rf t) (subst (λ n. Stands z.code n last) next back.1)
         (fork_at when d holds_at fails_at (pc + forms_bytes (compares_code os c when d)) (mid + 2 + forms_bytes last) behind fork) (omega arith)
-        (runs_on z (l + owed ks) 1 u (HasTwo z mid t x y) _ [] [] come (λ q k. compares_part z c mid x y t q words.1.0 words.0 back.0 k))
-        (λ s j. fh t s (popped held r.fit.2.0) j) (λ s j. ff t s (popped failed r.fit.2.1) j))
+        (runs_on z come (λ q k. compares_part z c mid x y t q words.1.0 words.0 back.0 k)) (λ s j. fh t s (popped held r.fit.2.0) j)
+        (λ s j. ff t s (popped failed r.fit.2.1) j))
 
   -- behind steps with no word waiting in front of them, code that takes those that wait behind them
   leaf_follows : (bs : List Bound) (p : Program) (next : Place → Type 0) (pc end : ℕ) (cost : WordState → ℕ) (go : WordState → Behaviour) (w : WordState)
@@ -188,10 +184,9 @@ module _ (z : Setting) where
       let all = then_on b go in
       let most = spent p w + 0 + spent_on b.end cost in
       more_cycles z end most (spent p w + spent_on b.end cost) u all.effects all.end (omega arith)
-      (then_follows z 0 end most (StandsFor z end) u all.effects all.end
-      (reach_way z (owed os) 0 (Describes z os at) (StandsFor z end) (spent p w + 0) cost u (Ready bs next) b.effects b.end go a r
-      (λ x v q d. reaches z (StandsFor z end) end (owed os + cost v) x (go v).effects (go v).end (λ s t i. i) (f x v q d)))
-      (λ t s i. nothing_run z t (StandsFor z end s) i))
+      (then_follows z 0 end most (StandsFor z end) u all.effects all.end (reach_way z (owed os) 0 (Describes z os at) (StandsFor z end) (spent p w + 0) cost u
+      (Ready bs next) b.effects b.end go a r (λ x v q d. reaches z (StandsFor z end) end (owed os + cost v) x (go v).effects (go v).end (λ s t i. i)
+      (f x v q d))) (λ t s i. nothing_run z i))
 
   -- steps with no word waiting in front of them, and then those that wait behind them are pushed
   block_follows : (bs : List Bound) (p : Program) (pc : ℕ) (w : WordState) (u : Core) → Stands z.code pc (block_code bs p)
@@ -407,7 +402,7 @@ module _ (z : Setting) where
         → Does z (waiting_after os p) (pc + forms_bytes (steps_code bs os p)) (spent p w + owed os) u (behaviour p w)
     steps_follow bs nothing next os pc w u r o l c spared h d =
         let e : pc ≡ pc + 0 = omega arith in
-        record { spent = 0; within = omega arith; runs = nothing_run z u (Describes z os (pc + 0) w) (subst (λ n. Describes z os n w u) e d) }
+        record { spent = 0; within = omega arith; runs = nothing_run z (subst (λ n. Describes z os n w u) e d) }
     steps_follow bs (step first more) next os pc w u r o l c spared h d =
         let a = step_code bs os first in
         let mid = waiting_behind os first in
