@@ -36,9 +36,8 @@ module _ (z : Setting) where
 
   -- it goes on where the index in R4 is below the length, else over so many words
   pub check_part : (b : Bool) (size over pc to i : ℕ) (w : WordState) (t : Core) → nat_lt i size ≡ b → size < 0x10000 → i < 0x10000
-      → Stands z.code pc (check_code size over)
-      → (let behind = pc + forms_bytes (check_code size over) in (if b then behind else sum16 behind (distance over)) ≡ to)
-      → t.work 4 ≡ i → StandsFor z pc w t → Runs z.code [] 4 t (Holds z (AreThese t.work) to w)
+      → Stands z.code pc (check_code size over) → (let behind = pc + forms_bytes (check_code size over) in
+      (if b then behind else sum16 behind (distance over)) ≡ to) → t.work 4 ≡ i → StandsFor z pc w t → Runs z.code [] 4 t (Holds z (AreThese t.work) to w)
   check_part b size over pc to i w t lt l r h e v k =
       let m = Calculate op.Cmp (number_source size) R4 in
       let mid = pc + form_bytes m in
@@ -84,8 +83,7 @@ module _ (z : Setting) where
         (λ s. record { is = s; held = refl }))
 
     -- it is
-    pub checked_within : (i : ℕ) (w : WordState) (t : Core) → nat_lt i size ≡ true → i < 0x10000 → Has z R4 pc w i t
-        → Runs z.code [] 4 t (Has z R4 within w i)
+    pub checked_within : (i : ℕ) (w : WordState) (t : Core) → nat_lt i size ≡ true → i < 0x10000 → Has z R4 pc w i t → Runs z.code [] 4 t (Has z R4 within w i)
     checked_within i w t lt r k =
         so_runs (check_part true size over pc within i w t lt l r check_stands refl k.held k.is)
         (λ u j. record { is = j.is; held = ap (λ (f : ℕ → ℕ). f 4) j.held ∙ k.held })
@@ -184,9 +182,8 @@ module _ (z : Setting) where
 
     -- the words
     words_part : (b : Bool) (pc : ℕ) (t : Core) → (words == 1) ≡ b → IsFram (at + 4)
-        → (let m = Move (if b then Constant konst.One else Number words) (ToIndexed R4 (word_sum list 4)) in
-        Stands z.code pc (m ∷ []) → Has z R4 pc both (6 * w.fram count) t
-        → Runs z.code (Store (at + 4) words ∷ []) 5 t (StandsFor z (pc + form_bytes m) three))
+        → (let m = Move (if b then Constant konst.One else Number words) (ToIndexed R4 (word_sum list 4)) in Stands z.code pc (m ∷ [])
+        → Has z R4 pc both (6 * w.fram count) t → Runs z.code (Store (at + 4) words ∷ []) 5 t (StandsFor z (pc + form_bytes m) three))
     words_part true pc t e f h j =
         let one : 1 ≡ words = is_one words e in
         let there : t.work 4 + word_sum list 4 ≡ at + 4 = ap (λ k. k + word_sum list 4) j.held ∙ at_offset (6 * w.fram count) list 4 f.high in
@@ -208,10 +205,9 @@ module _ (z : Setting) where
         ((tt, refl, tt, f), tt) refl refl (omega (arith, i.at)) (λ k. Store count (up k) ∷ []) (λ k. put (i.fram k) count (up k)) (λ s. s)
 
     -- by whether the entry has one word
-    entry_by : (b : Bool) (pc : ℕ) (u : Core) → (words == 1) ≡ b
-        → (let m = Move (if b then Constant konst.One else Number words) (ToIndexed R4 (word_sum list 4)) in
-        Stands z.code pc (pair_code count list home copy ++ (m ∷ Update op.Add (Constant konst.One) count ∷ [])) → StandsFor z pc w u
-        → Follows z (pc + 24 + form_bytes m + 4) 26 u (entry_stored count list home copy words w))
+    entry_by : (b : Bool) (pc : ℕ) (u : Core) → (words == 1) ≡ b → (let m = Move (if b then Constant konst.One else Number words)
+        (ToIndexed R4 (word_sum list 4)) in Stands z.code pc (pair_code count list home copy ++ (m ∷ Update op.Add (Constant konst.One) count ∷ []))
+        → StandsFor z pc w u → Follows z (pc + 24 + form_bytes m + 4) 26 u (entry_stored count list home copy words w))
     entry_by b pc u e h i =
         let m = Move (if b then Constant konst.One else Number words) (ToIndexed R4 (word_sum list 4)) in
         let end = pc + 24 + form_bytes m + 4 in

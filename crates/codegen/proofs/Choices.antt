@@ -41,9 +41,8 @@ fork_either false d n holds_at fails_at middle l k = record { holds = omega (ari
 module _ (z : Setting) where
   -- the jump to the one way or the other
   decision_part : (when b : Bool) (pc d holds_at fails_at : ℕ) (met opposite : Condition) (w : WordState) (t : Core)
-      → Stands z.code pc (decision when d met opposite)
-      → Fork when d holds_at fails_at (pc + forms_bytes (decision when d met opposite)) → pc < 0x10000 → Decided z pc w b met opposite t
-      → Runs z.code [] 5 t (StandsFor z (if b then holds_at else fails_at) w)
+      → Stands z.code pc (decision when d met opposite) → Fork when d holds_at fails_at (pc + forms_bytes (decision when d met opposite)) → pc < 0x10000
+      → Decided z pc w b met opposite t → Runs z.code [] 5 t (StandsFor z (if b then holds_at else fails_at) w)
   decision_part true true pc d holds_at fails_at met opposite w t h k l i =
       let low = stands_low z pc (jump_over met opposite d) h l in
       over_part z true pc d holds_at met opposite w t h k.holds (omega (arith, k.room low, k.holds)) i
@@ -60,9 +59,8 @@ module _ (z : Setting) where
   -- the code that follows where it is decided, and the way that is taken
   pub decided_follows : (when b : Bool) (pc d holds_at fails_at n end m k : ℕ) (met opposite : Condition) (w : WordState) (u : Core) (x y : Behaviour)
       → Stands z.code pc (decision when d met opposite) → Fork when d holds_at fails_at (pc + forms_bytes (decision when d met opposite)) → pc < 0x10000
-      → Runs z.code [] n u (Decided z pc w b met opposite)
-      → ((t : Core) → StandsFor z holds_at w t → Follows z end m t x) → ((t : Core) → StandsFor z fails_at w t → Follows z end k t y)
-      → Follows z end (n + 5 + (if b then m else k)) u (if b then x else y)
+      → Runs z.code [] n u (Decided z pc w b met opposite) → ((t : Core) → StandsFor z holds_at w t → Follows z end m t x)
+      → ((t : Core) → StandsFor z fails_at w t → Follows z end k t y) → Follows z end (n + 5 + (if b then m else k)) u (if b then x else y)
   decided_follows when true pc d holds_at fails_at n end m k met opposite w u x y h fork l r f g =
       let come = runs_on z r (λ t i. decision_part when true pc d holds_at fails_at met opposite w t h fork l i) in
       then_end z end m x.effects x.end come f

@@ -154,8 +154,7 @@ pub own_words : (own : List Instr) (ms : List Form) → own ≡ instructions ms 
 own_words own ms e = ap (λ l. length (instruction_words l)) e ∙ sym (size_words ms)
 
 -- code behind other code
-pub code_behind : (a b : List Form) (old mid new : List Instr) → new ≡ mid ++ instructions b → mid ≡ old ++ instructions a
-    → new ≡ old ++ instructions (a ++ b)
+pub code_behind : (a b : List Form) (old mid new : List Instr) → new ≡ mid ++ instructions b → mid ≡ old ++ instructions a → new ≡ old ++ instructions (a ++ b)
 code_behind a b old mid new e q = e ∙ ap (λ l. l ++ instructions b) q ∙ two_behind old a b
 
 -- the same, made of what is known by another name

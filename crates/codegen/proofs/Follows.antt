@@ -173,7 +173,6 @@ then_follows z owed pc most Q u es _ a b = tt
 
 -- nothing is promised of what strays
 pub reach_guarded : (z : Setting) (c : Bool) (owed : ℕ) (Q : WordState → Core → Type 0) (most : ℕ) (u : Core) (b : Behaviour)
-    → (c ≡ true → Reaches z owed Q most u b.effects b.end)
-    → (let x : Behaviour = if c then b else strays in Reaches z owed Q most u x.effects x.end)
+    → (c ≡ true → Reaches z owed Q most u b.effects b.end) → (let x : Behaviour = if c then b else strays in Reaches z owed Q most u x.effects x.end)
 reach_guarded z true owed Q most u b h = h refl
 reach_guarded z false owed Q most u b h = tt

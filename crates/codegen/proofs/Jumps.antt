@@ -58,16 +58,14 @@ module _ (z : Setting) where
       dearer z (omega arith) (jump_to z opposite 2 pc to true w t h.0 k.fails (omega (arith, e)) k.is)
 
   pub over_part : (b : Bool) (pc d to : ℕ) (met opposite : Condition) (w : WordState) (t : Core)
-      → (let ms = jump_over met opposite d in Stands z.code pc ms
-      → (if b then pc + forms_bytes ms + 2 * d else pc + forms_bytes ms) ≡ to → to < 0x10000 → Decided pc w b met opposite t
-      → Runs z.code [] 5 t (StandsFor z to w))
+      → (let ms = jump_over met opposite d in Stands z.code pc ms → (if b then pc + forms_bytes ms + 2 * d else pc + forms_bytes ms) ≡ to → to < 0x10000
+      → Decided pc w b met opposite t → Runs z.code [] 5 t (StandsFor z to w))
   over_part b pc d to met opposite w t h e l k = over_by (nat_le d 511) b pc d to met opposite w t refl h e l k
 
   -- over so many words in any case; by whether there are any, and few
   pass_by : (empty near : Bool) (pc d to : ℕ) (w : WordState) (t : Core) → (d == 0) ≡ empty → nat_le d 511 ≡ near
       → (let ms : List Form = if empty then [] else if near then Jump condition.Always d ∷ [] else (Skip (2 * d) ∷ []) in Stands z.code pc ms
-      → pc + forms_bytes ms + 2 * d ≡ to → (pc + forms_bytes ms < 0x10000 → to < 0x10000) → StandsFor z pc w t
-      → Runs z.code [] 3 t (StandsFor z to w))
+      → pc + forms_bytes ms + 2 * d ≡ to → (pc + forms_bytes ms < 0x10000 → to < 0x10000) → StandsFor z pc w t → Runs z.code [] 3 t (StandsFor z to w))
   pass_by true near pc d to w t n m h e low i =
       let nothing = eqb-true d 0 n in
       let here : pc ≡ to = omega (arith, e, nothing) in

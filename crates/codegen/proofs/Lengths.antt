@@ -150,9 +150,8 @@ emit_takes : (count buffer : ℕ) → Takes (emit_code count buffer) 0 18
 emit_takes count buffer = record { are = search arith; bytes = omega arith }
 
 -- by whether the entry has one word
-entry_takes : (count list home copy words : ℕ) (b : Bool) → Takes (pair_code count list home copy
-    ++ (Move (if b then Constant konst.One else Number words) (ToIndexed R4 (word_sum list 4)) ∷ Update op.Add (Constant konst.One) count ∷ []))
-    0 (2 * (if b then 16 else 17))
+entry_takes : (count list home copy words : ℕ) (b : Bool) → Takes (pair_code count list home copy ++ (Move (if b then Constant konst.One else Number words)
+    (ToIndexed R4 (word_sum list 4)) ∷ Update op.Add (Constant konst.One) count ∷ [])) 0 (2 * (if b then 16 else 17))
 entry_takes count list home copy words true = record { are = search arith; bytes = omega arith }
 entry_takes count list home copy words false = record { are = search arith; bytes = omega arith }
 
@@ -265,8 +264,7 @@ right_side_takes true os = record { are = tt; bytes = omega (arith, source_short
 right_side_takes false os = so_takes (five_takes os) (omega arith)
 
 -- a plain operation behind what brings its sides
-plain_takes : (o : PlainOperation) (os : List Waiting)
-    → Takes (two_code os (Plain o)) (kept_bytes (kept (below_top (below_top os))) + 2) (8 + kept_bytes os)
+plain_takes : (o : PlainOperation) (os : List Waiting) → Takes (two_code os (Plain o)) (kept_bytes (kept (below_top (below_top os))) + 2) (8 + kept_bytes os)
 plain_takes o os =
     let under = below_top os in
     let s = right_source (top_of os) in
@@ -321,8 +319,7 @@ rest_takes_by true [] e = absurd (let q = e in (cc))
 rest_takes_by true (o ∷ os) e = record { are = tt; bytes = omega (arith, source_short (o ∷ os), waiting_bytes o) }
 rest_takes_by false os e = so_takes (five_takes os) (omega arith)
 
-rest_takes : (os : List Waiting)
-    → Takes (to_rest (top_of os)) (2 * source_bytes (rest_source (top_of os)) + kept_bytes (below_top os)) (2 + kept_bytes os)
+rest_takes : (os : List Waiting) → Takes (to_rest (top_of os)) (2 * source_bytes (rest_source (top_of os)) + kept_bytes (below_top os)) (2 + kept_bytes os)
 rest_takes os = rest_takes_by (rests (top_of os)) os refl
 
 first_takes : (o : PlainOperation) (x : Source) (place : ArrayPlace) (list : ListPlace) → Takes (first_update o x place list) 0 (106 + source_bytes x)
@@ -341,8 +338,7 @@ ways_takes again first la lf x y =
       bytes = omega (arith, ways_bytes again first, x.bytes, y.bytes);
     }
 
-inside_takes : (o : PlainOperation) (x : Source) (place : ArrayPlace) (list : ListPlace)
-    → Takes (inside_update o x place list) 0 (130 + 2 * source_bytes x)
+inside_takes : (o : PlainOperation) (x : Source) (place : ArrayPlace) (list : ListPlace) → Takes (inside_update o x place list) 0 (130 + 2 * source_bytes x)
 inside_takes o x place list =
     let small = reads_bytes o x in
     let again : Takes (made_code o x place.copies place.copies) 0 (10 + source_bytes x) = record { are = (tt, (tt, (tt, tt))); bytes = omega arith } in
@@ -424,7 +420,8 @@ compares_takes os c when d =
     so_takes (behind (behind (two_takes os) (flushed_takes (kept (below_top (below_top os))))) tail) (omega arith)
 
 mutual
-  step_takes : (bs : List Bound) (s : Step) (os : List Waiting) → Takes (step_code bs os s) (kept_bytes (waiting_behind os s)) (2 * step_words s + kept_bytes os)
+  step_takes : (bs : List Bound) (s : Step) (os : List Waiting) → Takes (step_code bs os s) (kept_bytes (waiting_behind os s))
+      (2 * step_words s + kept_bytes os)
   step_takes bs (number w) os = nothing_takes _ _ (omega arith)
   step_takes bs (load a) os = nothing_takes _ _ (omega arith)
   step_takes bs (keep a) os = behind_below 4 os (record { are = (tt, tt); bytes = omega arith })
@@ -479,7 +476,8 @@ mutual
       so_takes (behind (test_takes bs t true (size second + (if when then d else 0))) (test_takes bs u when d)) (omega arith)
   test_takes bs (fails t) when d = test_takes bs t (not when) d
 
-  steps_takes : (bs : List Bound) (p : Program) (os : List Waiting) → Takes (steps_code bs os p) (kept_bytes (waiting_after os p)) (2 * words_of p + kept_bytes os)
+  steps_takes : (bs : List Bound) (p : Program) (os : List Waiting) → Takes (steps_code bs os p) (kept_bytes (waiting_after os p))
+      (2 * words_of p + kept_bytes os)
   steps_takes bs nothing os = nothing_takes _ _ (omega arith)
   steps_takes bs (step first more) os = so_takes (behind (step_takes bs first os) (steps_takes bs more (waiting_behind os first))) (omega arith)
 

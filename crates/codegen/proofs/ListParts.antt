@@ -8,9 +8,9 @@ use Rattle.codegen.proofs.Names.{entry_stored, ends_before, listed_behind, first
 use Rattle.msp_isa.specs.declared.instructions.Condition.TheVariants as condition
 use Rattle.msp_isa.specs.declared.instructions.TwoOp.TheVariants as op
 use Rattle.msp_isa.specs.declared.operands.Konst.TheVariants as konst
+use Rattle.codegen.proofs.Memory.{HoldsWords, place_is}
 use Rattle.codegen.proofs.Registers.{Holds, Flagged, IsZero, line, store_line, jump_with, equal_flag, jump_to}
 use Rattle.codegen.proofs.Stretches.{Setting, runs_on, dearer}
-use Rattle.codegen.proofs.Memory.{place_is}
 use Rattle.codegen.proofs.Follows.{StandsFor, Follows, then_end, ends_at, guarded, more_cycles}
 
 pub plus_small : (n base : ℕ) → 2 * n + base < 0x10000 → (2 * n + base + 0) % 0x10000 ≡ 2 * n + base
@@ -49,12 +49,11 @@ pub record Found (q home copy : ℕ) (f : ℕ → ℕ) : Type 0 where
 
 module _ (z : Setting) where
   -- the version word is stored; the home, the copy and the count are in their registers
-  mark_part : (place : ArrayPlace) (list : ListPlace) (pc i : ℕ) (w : WordState) (t : Core) → ((a : ℕ) → w.fram a < 0x10000)
-      → IsFram (2 * i + place.versions) → IsFram list.cln → 2 * i + place.elements < 0x10000 → 2 * i + place.copies < 0x10000
-      → Stands z.code pc (mark_code place list) → StandsFor z pc w t → t.work 4 ≡ 2 * i → t.work 6 ≡ w.fram list.ver
-      → (let m = 2 * i + place.versions in let y = stored m (w.fram list.ver) w in
-      Runs z.code (Store m (w.fram list.ver) ∷ []) 13 t
-      (Flagged z (Found (y.fram list.cln) (2 * i + place.elements) (2 * i + place.copies)) (IsZero (y.fram list.cln == 0)) (pc + 20) y))
+  mark_part : (place : ArrayPlace) (list : ListPlace) (pc i : ℕ) (w : WordState) (t : Core) → HoldsWords w.fram → IsFram (2 * i + place.versions)
+      → IsFram list.cln → 2 * i + place.elements < 0x10000 → 2 * i + place.copies < 0x10000 → Stands z.code pc (mark_code place list) → StandsFor z pc w t
+      → t.work 4 ≡ 2 * i → t.work 6 ≡ w.fram list.ver → (let m = 2 * i + place.versions in let y = stored m (w.fram list.ver) w in
+      Runs z.code (Store m (w.fram list.ver) ∷ []) 13 t (Flagged z (Found (y.fram list.cln) (2 * i + place.elements) (2 * i + place.copies))
+      (IsZero (y.fram list.cln == 0)) (pc + 20) y))
   mark_part place list pc i w t wl fm fc eh ch h is four six =
       let m = 2 * i + place.versions in
       let x = w.fram list.ver in
@@ -84,10 +83,9 @@ module _ (z : Setting) where
   -- an entry of one word, then the count
   word_part : (list : ListPlace) (pc : ℕ) (w : WordState) (home copy : ℕ) (t : Core)
       → (let a = 6 * w.fram list.cln + list.list in let u = stored (a + 4) 1 (stored (a + 2) copy (stored a home w)) in
-      let v = (u.fram list.cln + 1) % 0x10000 in
-      IsFram list.cln → IsFram a → IsFram (a + 2) → IsFram (a + 4) → Stands z.code pc (word_code list)
-      → Holds z (Found (6 * w.fram list.cln) home copy) pc w t
-      → Runs z.code (Store a home ∷ Store (a + 2) copy ∷ Store (a + 4) 1 ∷ Store list.cln v ∷ []) 16 t (StandsFor z (pc + 16) (stored list.cln v u)))
+      let v = (u.fram list.cln + 1) % 0x10000 in IsFram list.cln → IsFram a → IsFram (a + 2) → IsFram (a + 4) → Stands z.code pc (word_code list)
+      → Holds z (Found (6 * w.fram list.cln) home copy) pc w t → Runs z.code (Store a home ∷ Store (a + 2) copy ∷ Store (a + 4) 1 ∷ Store list.cln v ∷ []) 16 t
+      (StandsFor z (pc + 16) (stored list.cln v u)))
   word_part list pc w home copy t fc f1 f2 f3 h j =
       let n = 6 * w.fram list.cln in
       let a = n + list.list in
@@ -139,10 +137,9 @@ module _ (z : Setting) where
       Move (Indexed R5 words) (ToRegister R6) ∷ Calculate op.Add (Register R6) R6 ∷ Calculate op.Add (Indexed R5 begin) R6
       ∷ Calculate op.Cmp (Register b) R6 ∷ []
 
-  test_part : (words begin : ℕ) (b : WorkRegister) (v pc : ℕ) (w : WordState) (q home copy c d : ℕ) (t : Core) → ((x : ℕ) → w.fram x < 0x10000)
-      → (work_number b ≡ 6 → ⊥) → IsFram c → IsFram d → q + words ≡ c → q + begin ≡ d → Stands z.code pc (testing words begin b)
-      → t.work (work_number b) ≡ v → v < 0x10000 → Holds z (Found q home copy) pc w t
-      → Runs z.code [] 8 t (Flagged z (Found q home copy) (IsZero ((2 * w.fram c + w.fram d) % 0x10000 == v)) (pc + 12) w)
+  test_part : (words begin : ℕ) (b : WorkRegister) (v pc : ℕ) (w : WordState) (q home copy c d : ℕ) (t : Core) → HoldsWords w.fram → (work_number b ≡ 6 → ⊥)
+      → IsFram c → IsFram d → q + words ≡ c → q + begin ≡ d → Stands z.code pc (testing words begin b) → t.work (work_number b) ≡ v → v < 0x10000
+      → Holds z (Found q home copy) pc w t → Runs z.code [] 8 t (Flagged z (Found q home copy) (IsZero ((2 * w.fram c + w.fram d) % 0x10000 == v)) (pc + 12) w)
   test_part words begin b v pc w q home copy c d t wl other fc fd ec ed h register small j =
       let pc' : t.work 5 + words ≡ c = ap (λ x. x + words) j.held.five ∙ ec in
       let pd : t.work 5 + begin ≡ d = ap (λ x. x + begin) j.held.five ∙ ed in
@@ -169,8 +166,7 @@ module _ (z : Setting) where
   lengthening words = Move (Indexed R5 words) (ToRegister R6) ∷ Calculate op.Add (Constant konst.One) R6 ∷ Move (Register R6) (ToIndexed R5 words) ∷ []
 
   longer_part : (words pc : ℕ) (w : WordState) (q home copy c : ℕ) (t : Core) → IsFram c → q + words ≡ c → Stands z.code pc (lengthening words)
-      → Holds z (Found q home copy) pc w t
-      → (let v = (w.fram c + 1) % 0x10000 in Runs z.code (Store c v ∷ []) 8 t (StandsFor z (pc + 10) (stored c v w)))
+      → Holds z (Found q home copy) pc w t → (let v = (w.fram c + 1) % 0x10000 in Runs z.code (Store c v ∷ []) 8 t (StandsFor z (pc + 10) (stored c v w)))
   longer_part words pc w q home copy c t fc ec h j =
       let ms = lengthening words in
       let v = (w.fram c + 1) % 0x10000 in
@@ -257,7 +253,7 @@ module _ (z : Setting) where
         (next_part (pc + 72) n w home copy t (omega (arith, e, high)) nexts j))))
 
     -- by whether the last copies end right before the copy
-    by_copy : (b : Bool) (n : ℕ) (w : WordState) (home copy : ℕ) (t : Core) → ((x : ℕ) → w.fram x < 0x10000) → copy < 0x10000 → w.fram list.cln ≡ suc n
+    by_copy : (b : Bool) (n : ℕ) (w : WordState) (home copy : ℕ) (t : Core) → HoldsWords w.fram → copy < 0x10000 → w.fram list.cln ≡ suc n
         → (let a = 6 * n + list.list in IsFram (a + 2) → IsFram (a + 4) → ((2 * w.fram (a + 4) + w.fram (a + 2)) % 0x10000 == copy) ≡ b
         → Holds z (Found (6 * n) home copy) (pc + 46) w t
         → Follows z (pc + 92) 28 t (if b then raised (a + 4) w else entry_stored list.cln list.list home copy 1 w))
@@ -294,7 +290,7 @@ module _ (z : Setting) where
             (jump_with z condition.NotEqual 6 (pc + 58) (pc + 72) true at58 (ap not k.flag) to k.all) (λ u k. more n w home copy u e k))
 
     -- by whether the last homes end right before the home
-    by_home : (b : Bool) (n : ℕ) (w : WordState) (home copy : ℕ) (t : Core) → ((x : ℕ) → w.fram x < 0x10000) → copy < 0x10000 → w.fram list.cln ≡ suc n
+    by_home : (b : Bool) (n : ℕ) (w : WordState) (home copy : ℕ) (t : Core) → HoldsWords w.fram → copy < 0x10000 → w.fram list.cln ≡ suc n
         → (let a = 6 * n + list.list in let c = (2 * w.fram (a + 4) + w.fram (a + 2)) % 0x10000 == copy in IsFram (a + 2) → IsFram (a + 4)
         → Flagged z (Found (6 * n) home copy) (IsZero b) (pc + 44) w t
         → Follows z (pc + 92) 30 t (if b && c then raised (a + 4) w else entry_stored list.cln list.list home copy 1 w))
@@ -312,7 +308,7 @@ module _ (z : Setting) where
         (λ u j. more_cycles z (pc + 92) 18 28 u next.effects next.end (omega arith) (more n w home copy u e j))
 
     -- by how many entries there are
-    lists : (n : ℕ) (w : WordState) (home copy : ℕ) (t : Core) → ((x : ℕ) → w.fram x < 0x10000) → home < 0x10000 → copy < 0x10000 → w.fram list.cln ≡ n
+    lists : (n : ℕ) (w : WordState) (home copy : ℕ) (t : Core) → HoldsWords w.fram → home < 0x10000 → copy < 0x10000 → w.fram list.cln ≡ n
         → Flagged z (Found n home copy) (IsZero (n == 0)) (pc + 20) w t → Follows z (pc + 92) 45 t (listed_behind n list home copy w)
     lists zero w home copy t wl hs cs e k =
         let next : Behaviour = entry_stored list.cln list.list home copy 1 w in
@@ -345,9 +341,8 @@ module _ (z : Setting) where
         by_home b n w home copy u wl cs e f2 f4 j))))))
 
     -- behind the first store to a copy
-    pub first_follows : (i : ℕ) (w : WordState) (t : Core) → ((a : ℕ) → w.fram a < 0x10000) → IsFram (2 * i + place.copies)
-        → IsFram (2 * i + place.versions) → StandsFor z pc w t → t.work 4 ≡ 2 * i → t.work 6 ≡ w.fram list.ver
-        → Follows z (pc + 92) 58 t (first_stored place list i w)
+    pub first_follows : (i : ℕ) (w : WordState) (t : Core) → HoldsWords w.fram → IsFram (2 * i + place.copies) → IsFram (2 * i + place.versions)
+        → StandsFor z pc w t → t.work 4 ≡ 2 * i → t.work 6 ≡ w.fram list.ver → Follows z (pc + 92) 58 t (first_stored place list i w)
     first_follows i w t wl fc fm is four six =
         let m = 2 * i + place.versions in
         let e = 2 * i + place.elements in

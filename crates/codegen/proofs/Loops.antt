@@ -35,11 +35,10 @@ module _ (z : Setting) where
       so_runs (compare_number z r pc k below (with_local n k w) t l lb i.held i.is h)
       (λ u j. record { is = j.all.is; holds = ap not j.flag.zero; fails = j.flag.zero ∙ sym (not-not (k == below)) })
 
-  raise_by : (b : Bool) (pc n k below : ℕ) (w : WordState) (u : Core) → nat_lt n 8 ≡ b → n < z.locals → w.locals n ≡ Some k → k + 1 < 0x10000
-      → below < 0x10000
-      → (let ms : List Form = if b then Calculate op.Add (Constant konst.One) (local_register n) ∷ Calculate op.Cmp (number_source below) (local_register n)
-      ∷ [] else (ram_turn_end n below) in
-      Stands z.code pc ms → StandsFor z pc w u → Runs z.code [] 10 u (Raised (pc + forms_bytes ms) n (k + 1) below w))
+  raise_by : (b : Bool) (pc n k below : ℕ) (w : WordState) (u : Core) → nat_lt n 8 ≡ b → n < z.locals → w.locals n ≡ Some k → k + 1 < 0x10000 → below < 0x10000
+      → (let ms : List Form = if b then Calculate op.Add (Constant konst.One) (local_register n) ∷ Calculate op.Cmp (number_source below)
+      (local_register n) ∷ [] else (ram_turn_end n below) in Stands z.code pc ms → StandsFor z pc w u
+      → Runs z.code [] 10 u (Raised (pc + forms_bytes ms) n (k + 1) below w))
   raise_by true pc n k below w u b lt q l lb h i =
       let to = local_register n in
       let r = work_number to in
@@ -169,10 +168,9 @@ module _ (z : Setting) where
   -- a loop, where its code stands; by whether it makes a turn
   pub loop_by : (any : Bool) (body : List Form) (pc n from below : ℕ) (cost : WordState → ℕ) (run : WordState → Behaviour) (fit : ℕ → WordState → Type 0)
       (s : WordState) (u : Core) → nat_lt from below ≡ any → n < z.locals → below < 0x10000
-      → (let start = number_code n from in let rest : List Form = if any then turns_code n below body else [] in
-      Stands z.code pc (start ++ rest) → StandsFor z pc s u → fit (below - from) s
-      → (Stands z.code (pc + forms_bytes start) body → (m k : ℕ) (s : WordState) (t : Core) → fit (suc m) s → k < below
-      → StandsFor z (pc + forms_bytes start) (with_local n k s) t
+      → (let start = number_code n from in let rest : List Form = if any then turns_code n below body else [] in Stands z.code pc (start ++ rest)
+      → StandsFor z pc s u → fit (below - from) s → (Stands z.code (pc + forms_bytes start) body → (m k : ℕ) (s : WordState) (t : Core) → fit (suc m) s
+      → k < below → StandsFor z (pc + forms_bytes start) (with_local n k s) t
       → Follows z (pc + forms_bytes start + forms_bytes body) (cost (with_local n k s)) t (run (with_local n k s)))
       → ((m k : ℕ) (s : WordState) → fit (suc m) s → k < below → OnGoesOn (λ v. fit m v × (v.locals n ≡ Some k)) (run (with_local n k s)).end)
       → Follows z (pc + forms_bytes (start ++ rest)) (5 + turns_spent (below - from) n from run cost s) u (turns (below - from) n from run s))

@@ -1,9 +1,17 @@
 -- The stack and the locals: the first eight in registers, the others in RAM.
 use Rattle.std.proofs.Common.{◌≡◌, ℕ, zero, suc, ◌+◌, ◌-◌, ◌*◌, ◌<◌, ◌≤◌, List, [], ◌∷◌, length, get_or, Option, Some, refl, sym, ap, ◌∙◌, subst, arith, Bool}
 use Rattle.std.proofs.Common.{true, false, nat_eq, nat_lt, eq-eqb, ne_eqb, if◌then◌else◌}
-use Rattle.codegen.proofs.Names.{nat_tests, same_Some, put, IsFram, IsRam, put_same, put_other, work_number, HasPushRoom, is_place, assigned, local_register}
-use Rattle.codegen.proofs.Names.{local_address}
+use Rattle.codegen.proofs.Names.{AllByRecursion, nat_tests, same_Some, put, IsFram, IsRam, put_same, put_other, work_number, HasPushRoom, is_place, assigned}
+use Rattle.codegen.proofs.Names.{local_register, local_address}
 use Rattle.codegen.proofs.Stretches.{Setting}
+
+-- words
+abbrev pub AreWords : List ℕ → Type 0
+AreWords vs = AllByRecursion (λ v. v < 0x10000) vs
+
+-- words at each address
+abbrev pub HoldsWords : (ℕ → ℕ) → Type 0
+HoldsWords f = (a : ℕ) → f a < 0x10000
 
 -- the stack in RAM, its top first
 abbrev pub StackIs : (ℕ → ℕ) → ℕ → List ℕ → Type 0
@@ -64,8 +72,7 @@ pub record Memory (z : Setting) (sp : ℕ) (ram : ℕ → ℕ) (words vs : List 
   pub vars : (n v : ℕ) → n < z.locals → ls n ≡ Some v → local_word words ram n ≡ v
 
 module _ (z : Setting) where
-  pub pop_memory : {sp v : ℕ} {ram : ℕ → ℕ} {words vs : List ℕ} {ls : ℕ → Option ℕ} → Memory z sp ram words (v ∷ vs) ls
-      → Memory z (sp + 2) ram words vs ls
+  pub pop_memory : {sp v : ℕ} {ram : ℕ → ℕ} {words vs : List ℕ} {ls : ℕ → Option ℕ} → Memory z sp ram words (v ∷ vs) ls → Memory z (sp + 2) ram words vs ls
   pop_memory m = record { depth = omega (arith, m.depth); fits = omega (arith, m.fits); stack = m.stack.1; vars = m.vars }
 
   pub pop_needs : {sp v : ℕ} {ram : ℕ → ℕ} {words vs : List ℕ} {ls : ℕ → Option ℕ} → Memory z sp ram words (v ∷ vs) ls → IsRam sp
@@ -112,8 +119,7 @@ module _ (z : Setting) where
       l : n < 8
       l = below_eight n e
 
-      by : (b : Bool) (k : ℕ) → nat_lt k 8 ≡ b
-          → (if b then get_or (local_words (put work (work_number (local_register n)) v)) k 0 else ram (local_address k))
+      by : (b : Bool) (k : ℕ) → nat_lt k 8 ≡ b → (if b then get_or (local_words (put work (work_number (local_register n)) v)) k 0 else ram (local_address k))
           ≡ (if nat_eq k n then v else (if b then get_or (local_words work) k 0 else ram (local_address k)))
       by true k t =
           let h = below_eight k t in

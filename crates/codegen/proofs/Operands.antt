@@ -90,8 +90,7 @@ waiting_length : (f : ℕ → ℕ) (l : ℕ → Option ℕ) (g : ℕ → ℕ) (o
 waiting_length f l g [] = refl
 waiting_length f l g (o ∷ os) = ap suc (waiting_length f l g os)
 
-words_append : (f : ℕ → ℕ) (l : ℕ → Option ℕ) (g : ℕ → ℕ) (a b : List Waiting)
-    → waiting_words f l g (a ++ b) ≡ waiting_words f l g a ++ waiting_words f l g b
+words_append : (f : ℕ → ℕ) (l : ℕ → Option ℕ) (g : ℕ → ℕ) (a b : List Waiting) → waiting_words f l g (a ++ b) ≡ waiting_words f l g a ++ waiting_words f l g b
 words_append f l g [] b = refl
 words_append f l g (o ∷ a) b = ap (λ xs. waiting_word f l g o ∷ xs) (words_append f l g a b)
 
@@ -284,8 +283,8 @@ module _ (z : Setting) where
   -- ---- pushes
 
   push_waiting : (o : Waiting) (pc : ℕ) (w : WordState) (u : Core) → StandsFor z pc w u → IsThere z.locals w.locals o → length w.stack < z.room
-      → z.code pc ≡ Some (instruction_of (Push (waiting_source o)))
-      → Runs z.code [] (owed_by o) u (Holds z (AreThese u.work) (pc + forms_bytes (Push (waiting_source o) ∷ [])) (pushed (waiting_word w.fram w.locals u.work o) w))
+      → z.code pc ≡ Some (instruction_of (Push (waiting_source o))) → Runs z.code [] (owed_by o) u
+      (Holds z (AreThese u.work) (pc + forms_bytes (Push (waiting_source o) ∷ [])) (pushed (waiting_word w.fram w.locals u.work o) w))
   push_waiting o pc w u i h s c =
       let x = waiting_source o in
       let v = waiting_word w.fram w.locals u.work o in
@@ -309,8 +308,8 @@ module _ (z : Setting) where
       })
 
   flush_run : (os : List Waiting) (pc : ℕ) (w : WordState) (u : Core) → StandsFor z pc w u → AllByRecursion (IsThere z.locals w.locals) os
-      → length os + length w.stack ≤ z.room → Stands z.code pc (flushed os)
-      → Runs z.code [] (owed os) u (Holds z (AreThese u.work) (pc + forms_bytes (flushed os)) (with_stack (waiting_words w.fram w.locals u.work os ++ w.stack) w))
+      → length os + length w.stack ≤ z.room → Stands z.code pc (flushed os) → Runs z.code [] (owed os) u
+      (Holds z (AreThese u.work) (pc + forms_bytes (flushed os)) (with_stack (waiting_words w.fram w.locals u.work os ++ w.stack) w))
   flush_run [] pc w u i t l h =
       let e : pc ≡ pc + 0 = omega arith in
       nothing_run z (record { is = subst (λ n. StandsFor z n w u) e i; held = refl })
@@ -494,8 +493,7 @@ module _ (z : Setting) where
   behind_cleared : (front back : List Waiting) (more : List Form) (n pc : ℕ) (w : WordState) (u : Core) (P : ℕ → Core → Type 0)
       → Describes z (front ++ back) pc w u → Stands z.code pc (cleared back ++ more)
       → (let mid = pc + forms_bytes (cleared back) in ((t : Core) → Stands z.code mid more → Describes z (front ++ kept back) mid w t
-      → Runs z.code [] n t (P (mid + forms_bytes more)))
-      → Runs z.code [] (clear_cycles back + n) u (P (pc + forms_bytes (cleared back ++ more))))
+      → Runs z.code [] n t (P (mid + forms_bytes more))) → Runs z.code [] (clear_cycles back + n) u (P (pc + forms_bytes (cleared back ++ more))))
   behind_cleared front back more n pc w u P d h f =
       two_parts z (cleared back) more pc P h (clear_under front back pc w u d) (λ t s k. f t s k.is)
 
@@ -503,18 +501,16 @@ module _ (z : Setting) where
       → Runs z.code [] n u (With (Describes z os pc w) (IsLoaded b v g)) → Runs z.code [] n u (With (Describes z os pc w) (HasWord b v))
   only_has a = so_runs a (λ t k. record { is = k.is; held = k.held.value })
 
-  pub top_to_four_part : (os : List Waiting) (pc : ℕ) (w : WordState) (v : ℕ) (vs : List ℕ) (u : Core) → w.stack ≡ v ∷ vs
-      → Stands z.code pc (top_to_four os) → Describes z os pc w u
-      → Runs z.code [] (clear_cycles (below_top os) + load_cycles (top_of os)) u
+  pub top_to_four_part : (os : List Waiting) (pc : ℕ) (w : WordState) (v : ℕ) (vs : List ℕ) (u : Core) → w.stack ≡ v ∷ vs → Stands z.code pc (top_to_four os)
+      → Describes z os pc w u → Runs z.code [] (clear_cycles (below_top os) + load_cycles (top_of os)) u
       (Waits z (kept (below_top os)) (pc + forms_bytes (top_to_four os)) (with_stack vs w) (HasWord R4 v))
   top_to_four_part [] pc w v vs u e h d = only_has (four_part [] pc w v vs u e refl h d)
   top_to_four_part (o ∷ os) pc w v vs u e h d =
       behind_cleared (o ∷ []) os (four_from (Some o)) 3 pc w u (λ p. Waits z (kept os) p (with_stack vs w) (HasWord R4 v)) d h
       (λ t s k. only_has (four_part (o ∷ kept os) (pc + forms_bytes (cleared os)) w v vs t e (none_held os) s k))
 
-  pub top_to_five_part : (os : List Waiting) (pc : ℕ) (w : WordState) (v : ℕ) (vs : List ℕ) (u : Core) → w.stack ≡ v ∷ vs
-      → Stands z.code pc (top_to_five os) → Describes z os pc w u
-      → Runs z.code [] (clear_cycles (below_top os) + load_cycles (top_of os)) u
+  pub top_to_five_part : (os : List Waiting) (pc : ℕ) (w : WordState) (v : ℕ) (vs : List ℕ) (u : Core) → w.stack ≡ v ∷ vs → Stands z.code pc (top_to_five os)
+      → Describes z os pc w u → Runs z.code [] (clear_cycles (below_top os) + load_cycles (top_of os)) u
       (Waits z (kept (below_top os)) (pc + forms_bytes (top_to_five os)) (with_stack vs w) (HasWord R5 v))
   top_to_five_part [] pc w v vs u e h d = only_has (five_part [] pc w v vs u e h d)
   top_to_five_part (o ∷ os) pc w v vs u e h d =
@@ -522,9 +518,8 @@ module _ (z : Setting) where
       (λ t s k. only_has (five_part (o ∷ kept os) (pc + forms_bytes (cleared os)) w v vs t e s k))
 
   two_loads : (os : List Waiting) (pc : ℕ) (w : WordState) (x y : ℕ) (vs : List ℕ) (u : Core) → w.stack ≡ y ∷ (x ∷ vs)
-      → any_held (below_top (below_top os)) ≡ false
-      → (let ms = five_from (top_of os) ++ four_from (top_of (below_top os)) in Stands z.code pc ms → Describes z os pc w u
-      → Runs z.code [] (load_cycles (top_of os) + load_cycles (top_of (below_top os))) u
+      → any_held (below_top (below_top os)) ≡ false → (let ms = five_from (top_of os) ++ four_from (top_of (below_top os)) in Stands z.code pc ms
+      → Describes z os pc w u → Runs z.code [] (load_cycles (top_of os) + load_cycles (top_of (below_top os))) u
       (Waits z (below_top (below_top os)) (pc + forms_bytes ms) (with_stack vs w) (HasSides x y)))
   two_loads os pc w x y vs u e none h d =
       let under = below_top os in
@@ -537,12 +532,9 @@ module _ (z : Setting) where
       (λ q j. record { is = j.is; held = record { four = j.held.value; five = j.held.others 5 (λ n. omega (arith, n)) ∙ k.held.value } }))
 
   sides_by : (b : Bool) (os : List Waiting) (pc : ℕ) (w : WordState) (x y : ℕ) (vs : List ℕ) (u : Core) → stays (top_of os) ≡ b → w.stack ≡ y ∷ (x ∷ vs)
-      → any_held (below_top (below_top os)) ≡ false
-      → (let under = below_top os in
-      let first : List Form = if b then [] else five_from (top_of os) in
-      let s : Source = if b then source_from (top_of os) else (Register R5) in
-      let ms = first ++ four_from (top_of under) in Stands z.code pc ms → Describes z os pc w u
-      → Runs z.code [] ((if b then 0 else load_cycles (top_of os)) + load_cycles (top_of under)) u
+      → any_held (below_top (below_top os)) ≡ false → (let under = below_top os in let first : List Form = if b then [] else five_from (top_of os) in
+      let s : Source = if b then source_from (top_of os) else (Register R5) in let ms = first ++ four_from (top_of under) in Stands z.code pc ms
+      → Describes z os pc w u → Runs z.code [] ((if b then 0 else load_cycles (top_of os)) + load_cycles (top_of under)) u
       (LoadedSides z s (below_top under) (pc + forms_bytes ms) (with_stack vs w) x y))
   sides_by true [] pc w x y vs u b e none h d = absurd (let q = b in (cc))
   sides_by true (o ∷ os) pc w x y vs u b e none h d =
@@ -595,9 +587,8 @@ module _ (z : Setting) where
       (λ t s k. two_loads (o ∷ (p ∷ kept os)) (pc + forms_bytes (cleared os)) w x y vs t e (none_held os) s k)
 
   -- the top for a statement, all others being pushed
-  pub below_part : (os : List Waiting) (pc : ℕ) (w : WordState) (v : ℕ) (vs : List ℕ) (u : Core) → w.stack ≡ v ∷ vs
-      → Stands z.code pc (flushed (below_top os)) → Describes z os pc w u
-      → Runs z.code [] (owed (below_top os)) u (Top z (source_from (top_of os)) [] (pc + forms_bytes (flushed (below_top os))) w v vs)
+  pub below_part : (os : List Waiting) (pc : ℕ) (w : WordState) (v : ℕ) (vs : List ℕ) (u : Core) → w.stack ≡ v ∷ vs → Stands z.code pc (flushed (below_top os))
+      → Describes z os pc w u → Runs z.code [] (owed (below_top os)) u (Top z (source_from (top_of os)) [] (pc + forms_bytes (flushed (below_top os))) w v vs)
   below_part [] pc w v vs u e h d =
       let same : pc ≡ pc + 0 = omega arith in
       nothing_run z (subst (λ n. Top z (source_from None) [] n w v vs u) same (take_part [] pc w v vs u e d))

@@ -72,8 +72,7 @@ module _ (z : Setting) where
   -- a local becomes a word that a source gives, by where it stands
   set_by : (b : Bool) (s : Source) (most n v pc : ℕ) (vs : List ℕ) (w : WordState) (u : Core) → nat_lt n 8 ≡ b → n < z.locals
       → source_cycles to_register (source_operand s) ≤ most → source_cycles to_memory (source_operand s) ≤ most
-      → (let ms = Move s (if b then ToRegister (local_register n) else ToRam (local_address n)) ∷ [] in Stands z.code pc ms
-      → Top z s [] pc w v vs u
+      → (let ms = Move s (if b then ToRegister (local_register n) else ToRam (local_address n)) ∷ [] in Stands z.code pc ms → Top z s [] pc w v vs u
       → Runs z.code [] most u (StandsFor z (pc + forms_bytes ms) (with_local n v (with_stack vs w))))
   set_by true s most n v pc vs w u e lt p q h k =
       let m = Move s (ToRegister (local_register n)) in

@@ -136,10 +136,9 @@ module _ (z : Setting) where
     at12 = form_at z.code p 6 multiply_turn (Jump condition.NotEqual 1017) h refl
 
     -- behind a turn: out where nothing is left, else back
-    leave : (n a b acc : ℕ) (w : WordState) (t : Core) (k : Bool) → (b / 2 == 0) ≡ k → (r : Turn a b acc w t) →
-        ((b / 2 ≡ 0 → ⊥) → (u : Core) → Holds z (Factors ((a + a) % 0x10000) (b / 2) r.next) p w u
-        → Runs z.code [] (n * 9) u (Result ((a + a) % 0x10000) (b / 2) r.next w))
-        → Runs z.code [] (suc n * 9) t (Result a b acc w)
+    leave : (n a b acc : ℕ) (w : WordState) (t : Core) (k : Bool) → (b / 2 == 0) ≡ k → (r : Turn a b acc w t)
+        → ((b / 2 ≡ 0 → ⊥) → (u : Core) → Holds z (Factors ((a + a) % 0x10000) (b / 2) r.next) p w u
+        → Runs z.code [] (n * 9) u (Result ((a + a) % 0x10000) (b / 2) r.next w)) → Runs z.code [] (suc n * 9) t (Result a b acc w)
     leave n a b acc w t true e r again =
         let is_zero : b / 2 ≡ 0 = eqb-true (b / 2) 0 e in
         let v : r.next ≡ (acc + a * b) % 0x10000 = sym (no_more ((a + a) % 0x10000) r.next r.small)
@@ -154,7 +153,8 @@ module _ (z : Setting) where
         dearer z (omega arith) (subst (λ v. Runs z.code [] (9 + n * 9) t (Has z R6 (p + 14) w v)) r.same
         (runs_on z back (λ u j. again (not_zero (b / 2) e) u j)))
 
-    loop : (n a b acc : ℕ) (w : WordState) (t : Core) → b < 2 ^ suc n → acc < 0x10000 → Holds z (Factors a b acc) p w t → Runs z.code [] (suc n * 9) t (Result a b acc w)
+    loop : (n a b acc : ℕ) (w : WordState) (t : Core) → b < 2 ^ suc n → acc < 0x10000 → Holds z (Factors a b acc) p w t
+        → Runs z.code [] (suc n * 9) t (Result a b acc w)
     loop zero a b acc w t l lc i =
         leave zero a b acc w t (b / 2 == 0) refl (turn_by (bit_and b 1 == 0) a b acc w t refl lc i) (λ ne u j. elim (ne (omega arith)) [ ])
     loop (suc m) a b acc w t l lc i =

@@ -311,8 +311,7 @@ module _ (z : Setting) where
 
     -- a turn, with what it keeps
     turn : (j a x d r q P : ℕ) (w : WordState) (t : Core) → 0 < P → j < 16 → a < 0x10000 → x < 0x10000 → d < 0x10000 → Dividing a d x r q (2 * P)
-        → Holds z (InHand x d r (suc j)) p w t
-        → Runs z.code [] 10 t (Flagged z (InHand (out_x x d r) d (out_r x d r) j) (IsZero (j == 0)) (p + 16) w)
+        → Holds z (InHand x d r (suc j)) p w t → Runs z.code [] 10 t (Flagged z (InHand (out_x x d r) d (out_r x d r) j) (IsZero (j == 0)) (p + 16) w)
     turn j a x d r q P w t po lj la lx ld g i =
         let lr = rest_small a d x r q (2 * P) (omega arith) g in
         turn_by (nat_le 0x10000 (longer x r)) (over x r d) x d r j w t refl refl lx ld (omega (arith, lr)) lj
@@ -320,8 +319,7 @@ module _ (z : Setting) where
 
     -- so many turns
     loop : (j a x d r q : ℕ) (w : WordState) (t : Core) → j < 16 → a < 0x10000 → x < 0x10000 → d < 0x10000 → Dividing a d x r q (2 * 2 ^ j)
-        → Holds z (InHand x d r (suc j)) p w t
-        → Runs z.code [] (suc j * 12) t (Holds z (InHand (quotient a d) d (remainder a d) 0) (p + 18) w)
+        → Holds z (InHand x d r (suc j)) p w t → Runs z.code [] (suc j * 12) t (Holds z (InHand (quotient a d) d (remainder a d) 0) (p + 18) w)
     loop zero a x d r q w t lj la lx ld g i =
         let n = step_by (over x r d) a d x r q 1 refl g in
         let wh = n.whole in

@@ -63,10 +63,9 @@ module _ (z : Setting) where
 
   -- straight code that writes R4 to R7 and words of FRAM
   pub store_line : {pc : ℕ} {w : WordState} {t : Core} (ms : List Form) (es : List Effect) (f : ℕ → ℕ) (c pc' : ℕ) (Q : Core → Type 0) → StandsFor z pc w t
-      → AreStraight ms → Stands z.code pc ms → FormsNeed ms t
-      → (let r = forms_run ms t in let v = end_of t r.status in
-      r ≡ stretch r.effects c (At v) → rest_of (record v { fram = t.fram }) ≡ rest_of t → v.pc ≡ pc' → r.effects ≡ es → v.fram ≡ f
-      → (StandsFor z pc' (record w { fram = f }) v → Q v) → Runs z.code es c t Q)
+      → AreStraight ms → Stands z.code pc ms → FormsNeed ms t → (let r = forms_run ms t in let v = end_of t r.status in r ≡ stretch r.effects c (At v)
+      → rest_of (record v { fram = t.fram }) ≡ rest_of t → v.pc ≡ pc' → r.effects ≡ es → v.fram ≡ f → (StandsFor z pc' (record w { fram = f }) v → Q v)
+      → Runs z.code es c t Q)
   store_line {pc} {w} {t} ms es f c pc' Q i st h ok e k p made fram q =
       let r = forms_run ms t in
       let words = subst (λ x. Memory z x.0 x.1 x.2 w.stack w.locals) (sym k) i.memory in
@@ -75,10 +74,9 @@ module _ (z : Setting) where
       (q (record { at = p; memory = words; fram = fram; readings = ap (λ x. x.3) k ∙ i.readings })))
 
   -- straight code that writes R4 to R7 alone
-  pub line : {pc : ℕ} {w : WordState} {t : Core} (ms : List Form) (c pc' : ℕ) (Q : Core → Type 0) → StandsFor z pc w t → AreStraight ms
-      → Stands z.code pc ms → FormsNeed ms t
-      → (let v = end_of t (forms_run ms t).status in
-      forms_run ms t ≡ stretch [] c (At v) → rest_of v ≡ rest_of t → v.pc ≡ pc' → (StandsFor z pc' w v → Q v) → Runs z.code [] c t Q)
+  pub line : {pc : ℕ} {w : WordState} {t : Core} (ms : List Form) (c pc' : ℕ) (Q : Core → Type 0) → StandsFor z pc w t → AreStraight ms → Stands z.code pc ms
+      → FormsNeed ms t → (let v = end_of t (forms_run ms t).status in forms_run ms t ≡ stretch [] c (At v) → rest_of v ≡ rest_of t → v.pc ≡ pc'
+      → (StandsFor z pc' w v → Q v) → Runs z.code [] c t Q)
   line {pc} {w} {t} ms c pc' Q i st h ok e k p q =
       let words = subst (λ x. Memory z x.0 x.1 x.2 w.stack w.locals) (sym k) i.memory in
       straight z ms c t (end_of t (forms_run ms t).status) [] c Q st (stands_at z.code pc ms t h i.at) ok e (omega arith)

@@ -2,9 +2,9 @@
 use Rattle.std.proofs.Common.{◌≡◌, ℕ, ◌+◌, ◌*◌, ◌<◌, ◌≤◌, ◌-◌, ◌/◌, ◌%◌, ◌^◌, ◌==◌, ◌&&◌, Bool, true, false, nat_lt, if◌then◌else◌, List, [], ◌∷◌, ◌++◌, length}
 use Rattle.std.proofs.Common.{Option, Some, None, refl, sym, ap, ap₂, ◌∙◌, subst, arith, bit_and, w16, ltb-true, eqb-true, ne_eqb, le-leb}
 use Rattle.codegen.proofs.Names.{Step, and_parts, same_Some, and_mask, pow_pos, word_sum, word_product, quotient, remainder, Word, operated, cycles_of}
-use Rattle.codegen.proofs.Names.{source_cycles, to_register, Goes, unwrap_or, AllByRecursion, Take, put, IsFram, WorkRegister, R4, R5, R6, work_number, Core}
-use Rattle.codegen.proofs.Names.{Source, source_operand, source_bytes, source_value, Form, Move, Calculate, Update, Push, Ram, ToFram, sensed, flags_after}
-use Rattle.codegen.proofs.Names.{calculated, instruction_of, Stands, forms_bytes, Runs, stands_front, stands_back, forms_bytes-append, ArrayPlace, ListPlace}
+use Rattle.codegen.proofs.Names.{source_cycles, to_register, Goes, unwrap_or, Take, put, IsFram, WorkRegister, R4, R5, R6, work_number, Core, Source}
+use Rattle.codegen.proofs.Names.{source_operand, source_bytes, source_value, Form, Move, Calculate, Update, Push, Ram, ToFram, sensed, flags_after, calculated}
+use Rattle.codegen.proofs.Names.{instruction_of, Stands, forms_bytes, Runs, stands_front, stands_back, forms_bytes-append, ArrayPlace, ListPlace}
 use Rattle.codegen.proofs.Names.{UnaryOperation, Negate, Complement, BinaryOperation, Multiply, Divide, Remainder, Plain, PlainOperation, And, ShiftOperation}
 use Rattle.codegen.proofs.Names.{Left, Right, unary_word, plain_word, binary_word, shift_word, keep, update, set_local, update_local, unary, binary, shift}
 use Rattle.codegen.proofs.Names.{element, emit_word, versioned_read, versioned_write, sense, WordState, Behaviour, GoesOn, goes_on, with_top, with_two}
@@ -16,13 +16,13 @@ use Rattle.codegen.proofs.Names.{shift_middle, element_code, emit_code, read_cod
 use Rattle.std.specs.Int.{trailing_zeros}
 use Rattle.code_forms.specs.Forms as forms
 use Rattle.codegen.specs.declared.waiting.Waiting.TheVariants as waiting
+use Rattle.codegen.proofs.Memory.{HoldsWords, AreWords, place_is}
 use Rattle.codegen.proofs.Stretches.{two_parts, Setting, hop, dearer_stall, nothing_run, so_runs, starved}
-use Rattle.codegen.proofs.Registers.{With, HasWord, HasSides, Holds, Has, HasTwo}
-use Rattle.codegen.proofs.Operands.{Waits, AreThese, IsThere, owed_by, owed, none_held, clear_cycles, owed_kept, load_cycles, load_owed, store_cycles}
-use Rattle.codegen.proofs.Operands.{store_owed, Describes, Top, waiting_word, bare, dressed, flush_under, flush_part, clear_under, below_part, top_to_four_part}
+use Rattle.codegen.proofs.Registers.{With, HasWord, HasSides, Holds, Has}
+use Rattle.codegen.proofs.Operands.{Waits, IsThere, owed_by, owed, none_held, clear_cycles, owed_kept, load_cycles, load_owed, store_cycles, store_owed}
+use Rattle.codegen.proofs.Operands.{Describes, Top, waiting_word, bare, dressed, flush_under, flush_part, clear_under, below_part, top_to_four_part}
 use Rattle.codegen.proofs.Operands.{top_to_five_part, two_to_registers_part, result_waits, waits_more, LoadedSides, right_cycles, reading_cycles, reading_price}
 use Rattle.codegen.proofs.Operands.{right_owed, sides_part, drop_part}
-use Rattle.codegen.proofs.Memory.{place_is}
 use Rattle.codegen.proofs.Follows.{StandsFor, stands_elsewhere, Follows, Reaches, reach_more, then_reach, reaches, reach_guarded}
 use Rattle.codegen.proofs.LoopBounds.{Bounded, top_inside, under_inside}
 use Rattle.codegen.proofs.Parts.{local_part, keep_part, set_part}
@@ -61,10 +61,6 @@ mask_rest : (x k : ℕ) → bit_and x (2 ^ k - 1) ≡ remainder x (2 ^ k)
 mask_rest x k =
     and_mask x k ∙ sym (ap (λ b. if b then x else x % 2 ^ k) (ne_eqb (2 ^ k) 0 (λ e. let p = pow_pos k in omega arith)))
 
--- words
-abbrev pub AreWords : List ℕ → Type 0
-AreWords vs = AllByRecursion (λ v. v < 0x10000) vs
-
 module _ (z : Setting) where
   -- what code does, and the words that wait behind it
   abbrev pub Does : List Waiting → ℕ → ℕ → Core → Behaviour → Type 0
@@ -76,11 +72,11 @@ module _ (z : Setting) where
       → Does (waiting_behind os s) (pc + forms_bytes (step_code bs os s)) (cost + owed os) u b
 
   -- code behind other code
-  does_behind : (front ms : List Form) (os : List Waiting) (l c most pc : ℕ) (u : Core) (P : Core → Type 0) (b : Behaviour) → l + c ≤ most
+  does_behind : {l : ℕ} {P : Core → Type 0} (front ms : List Form) (os : List Waiting) (c most pc : ℕ) (u : Core) (b : Behaviour) → l + c ≤ most
       → Stands z.code pc (front ++ ms) → (Stands z.code pc front → Runs z.code [] l u P)
       → (let mid = pc + forms_bytes front in ((t : Core) → Stands z.code mid ms → P t → Does os (mid + forms_bytes ms) c t b)
       → Does os (pc + forms_bytes (front ++ ms)) most u b)
-  does_behind front ms os l c most pc u P b le h come f =
+  does_behind {l} {P} front ms os c most pc u b le h come f =
       let end = pc + forms_bytes front + forms_bytes ms in
       let there : end ≡ pc + forms_bytes (front ++ ms) = omega (arith, forms_bytes-append front ms) in
       subst (λ p. Does os p most u b) there
@@ -89,13 +85,13 @@ module _ (z : Setting) where
       (λ t k. f t (stands_back z.code pc front ms h) k)))
 
   -- the same where no word waits behind it
-  pub alone_behind : (front ms : List Form) (l c most pc : ℕ) (u : Core) (P : Core → Type 0) (b : Behaviour) → l + c ≤ most
+  pub alone_behind : {l : ℕ} {P : Core → Type 0} (front ms : List Form) (c most pc : ℕ) (u : Core) (b : Behaviour) → l + c ≤ most
       → Stands z.code pc (front ++ ms) → (Stands z.code pc front → Runs z.code [] l u P)
       → (let mid = pc + forms_bytes front in ((t : Core) → Stands z.code mid ms → P t → Follows z (mid + forms_bytes ms) c t b)
       → Does [] (pc + forms_bytes (front ++ ms)) most u b)
-  alone_behind front ms l c most pc u P b le h come f =
+  alone_behind {l} {P} front ms c most pc u b le h come f =
       let end = pc + forms_bytes front + forms_bytes ms in
-      does_behind front ms [] l c most pc u P b le h come (λ t s k. reaches z (Describes z [] end) end c t b.effects b.end (dressed z end) (f t s k))
+      does_behind front ms [] c most pc u b le h come (λ t s k. reaches z (Describes z [] end) end c t b.effects b.end (dressed z end) (f t s k))
 
   -- ---- values
 
@@ -110,7 +106,7 @@ module _ (z : Setting) where
   made_waits P b o front ms ks l c most pc w r vs u none there room budget word h come middle =
       let mid = pc + forms_bytes front in
       let end = mid + forms_bytes ms in
-      does_behind front ms (o ∷ ks) l (most - l) most pc u (Waits z ks mid (with_stack vs w) P) (goes_on [] (with_stack (r ∷ vs) w)) (omega (arith, budget)) h
+      does_behind {l = l} front ms (o ∷ ks) (most - l) most pc u (goes_on [] (with_stack (r ∷ vs) w)) (omega (arith, budget)) h
       come (λ t s k. record {
         spent = c;
         within = omega (arith, budget);
@@ -119,14 +115,14 @@ module _ (z : Setting) where
       })
 
   -- code that brings the top to a register, and what is made of it in R4
-  value_part : (b : WorkRegister) (front ms : List Form) (c most : ℕ) (os : List Waiting) (pc : ℕ) (w : WordState) (y r : ℕ) (rest : List ℕ) (u : Core)
+  value_part : {os : List Waiting} {pc : ℕ} {w : WordState} {y : ℕ} {rest : List ℕ} {u : Core} (b : WorkRegister) (front ms : List Form) (c most r : ℕ)
       → 5 + c ≤ most → w.stack ≡ y ∷ rest → Describes z os pc w u → Stands z.code pc (front ++ ms)
       → (let ks = kept (below_top os) in let mid = pc + forms_bytes front in
       (Stands z.code pc front → Runs z.code [] (clear_cycles (below_top os) + load_cycles (top_of os)) u (Waits z ks mid (with_stack rest w) (HasWord b y)))
       → ((xs : List ℕ) (t : Core) → Stands z.code mid ms → Has z b mid (with_stack xs w) y t
       → Runs z.code [] c t (Has z R4 (mid + forms_bytes ms) (with_stack xs w) r))
       → Does (waiting.R4 ∷ ks) (pc + forms_bytes (front ++ ms)) (most + owed os) u (goes_on [] (with_stack (r ∷ rest) w)))
-  value_part b front ms c most os pc w y r rest u l e d h come middle =
+  value_part {os} {pc} {w} {y} {rest} {u} b front ms c most r l e d h come middle =
       let under = below_top os in
       let room : length rest < z.room = omega (arith, d.fits, ap (length {A = ℕ}) e) in
       made_waits (HasWord b y) R4 waiting.R4 front ms (kept under) (clear_cycles under + load_cycles (top_of os)) c (most + owed os) pc w r rest u
@@ -140,16 +136,14 @@ module _ (z : Setting) where
       → StepDoes [] os (unary o) (unary_cycles o) pc w u (with_top vs (λ v us. goes_on [] (with_stack (unary_word o v ∷ us) w)))
   unary_part o os pc w [] u e l h d = tt
   unary_part o os pc w (y ∷ rest) u e l h d =
-      value_part R5 (top_to_five os) (unary_middle o) 2 (unary_cycles o) os pc w y (unary_word o y) rest u (omega (arith, unary_price o)) e d h
-      (λ s. top_to_five_part z os pc w y rest u e s d)
-      (λ xs t s k. unary_middles o (pc + forms_bytes (top_to_five os)) y (with_stack xs w) t l.0 s k)
+      value_part R5 (top_to_five os) (unary_middle o) 2 (unary_cycles o) (unary_word o y) (omega (arith, unary_price o)) e d h
+      (λ s. top_to_five_part z os pc w y rest u e s d) (λ xs t s k. unary_middles o (pc + forms_bytes (top_to_five os)) y (with_stack xs w) t l.0 s k)
 
   pub shift_reaches : (o : ShiftOperation) (n : ℕ) (os : List Waiting) (pc : ℕ) (w : WordState) (vs : List ℕ) (u : Core) → w.stack ≡ vs → AreWords vs
       → StepDoes [] os (shift o n) 15 pc w u (with_top vs (λ v us. goes_on [] (with_stack (shift_word o v n ∷ us) w)))
   shift_reaches o n os pc w [] u e l h d = tt
   shift_reaches o n os pc w (y ∷ rest) u e l h d =
-      value_part R4 (top_to_four os) (shift_middle o n) 10 15 os pc w y (shift_word o y n) rest u (omega arith) e d h
-      (λ s. top_to_four_part z os pc w y rest u e s d)
+      value_part R4 (top_to_four os) (shift_middle o n) 10 15 (shift_word o y n) (omega arith) e d h (λ s. top_to_four_part z os pc w y rest u e s d)
       (λ xs t s k. shift_part z o n (pc + forms_bytes (top_to_four os)) y (with_stack xs w) t l.0 s k)
 
   -- ---- words that no code brings anywhere
@@ -179,9 +173,8 @@ module _ (z : Setting) where
   by_length : (b : Bool) (base size : ℕ) (after : List Waiting) (end most : ℕ) (w : WordState) (i : ℕ) (rest : List ℕ) (u : Core) → nat_lt i size ≡ b
       → (nat_lt i size ≡ false → Does after end most u (goes_on [] (with_stack (0 ∷ rest) w)))
       → (nat_lt i size ≡ true → IsFram (2 * i + base) → Does after end most u (goes_on [] (with_stack (w.fram (2 * i + base) ∷ rest) w)))
-      → (let a = 2 * i + base in
-      let x : Behaviour = if b then at_place a (goes_on [] (with_stack (w.fram a ∷ rest) w)) else goes_on [] (with_stack (0 ∷ rest) w) in
-      Does after end most u x)
+      → (let a = 2 * i + base in let x : Behaviour = if b then at_place a (goes_on [] (with_stack (w.fram a ∷ rest) w)) else goes_on []
+      (with_stack (0 ∷ rest) w) in Does after end most u x)
   by_length false base size after end most w i rest u lt none there = none lt
   by_length true base size after end most w i rest u lt none there =
       let a = 2 * i + base in
@@ -189,9 +182,8 @@ module _ (z : Setting) where
 
   -- an element, by whether the index is below the length; whether it surely is decides what its code is
   element_by : (b : Bool) (base size : ℕ) (os : List Waiting) (pc : ℕ) (w : WordState) (i : ℕ) (rest : List ℕ) (u : Core) → size < 0x10000 → i < 0x10000
-      → (b ≡ true → nat_lt i size ≡ true) → w.stack ≡ i ∷ rest
-      → (let ms = top_to_four os ++ element_code b base size in Stands z.code pc ms → Describes z os pc w u
-      → Does (waiting.R4 ∷ kept (below_top os)) (pc + forms_bytes ms) (15 + owed os) u (element_pushed base size i (with_stack rest w)))
+      → (b ≡ true → nat_lt i size ≡ true) → w.stack ≡ i ∷ rest → (let ms = top_to_four os ++ element_code b base size in Stands z.code pc ms
+      → Describes z os pc w u → Does (waiting.R4 ∷ kept (below_top os)) (pc + forms_bytes ms) (15 + owed os) u (element_pushed base size i (with_stack rest w)))
   element_by b base size os pc w i rest u s r sure e h d =
       let a = 2 * i + base in
       let front = top_to_four os in
@@ -199,11 +191,10 @@ module _ (z : Setting) where
       let mid = pc + forms_bytes front in
       let after = waiting.R4 ∷ kept (below_top os) in
       let end = pc + forms_bytes (front ++ ms) in
-      let none : nat_lt i size ≡ false → Does after end (15 + owed os) u (goes_on [] (with_stack (0 ∷ rest) w)) =
-      λ no. value_part R4 front ms 10 15 os pc w i 0 rest u (omega arith) e d h (λ s. top_to_four_part z os pc w i rest u e s d)
-      (λ xs t s' k. past_end z b base size mid s s' i (with_stack xs w) t sure no r k) in
+      let none : nat_lt i size ≡ false → Does after end (15 + owed os) u (goes_on [] (with_stack (0 ∷ rest) w)) = λ no. value_part R4 front ms 10 15 0
+      (omega arith) e d h (λ s. top_to_four_part z os pc w i rest u e s d) (λ xs t s' k. past_end z b base size mid s s' i (with_stack xs w) t sure no r k) in
       let there : nat_lt i size ≡ true → IsFram a → Does after end (15 + owed os) u (goes_on [] (with_stack (w.fram a ∷ rest) w)) =
-      λ yes f. value_part R4 front ms 10 15 os pc w i (w.fram a) rest u (omega arith) e d h (λ s. top_to_four_part z os pc w i rest u e s d)
+      λ yes f. value_part R4 front ms 10 15 (w.fram a) (omega arith) e d h (λ s. top_to_four_part z os pc w i rest u e s d)
       (λ xs t s' k. before_end z b base size mid s s' i (with_stack xs w) t yes r f k) in
       by_length (nat_lt i size) base size after end (15 + owed os) w i rest u refl none there
 
@@ -250,7 +241,7 @@ module _ (z : Setting) where
 
   module _ (sure : Bool) (place : ArrayPlace) (list : ListPlace) (os : List Waiting) (pc : ℕ) (small : place.length < 0x10000)
       (h : Stands z.code pc (top_to_four os ++ read_code sure place list)) (w : WordState) (i : ℕ) (rest : List ℕ) (u : Core)
-      (wl : (a : ℕ) → w.fram a < 0x10000) (r : i < 0x10000) (is : sure ≡ true → nat_lt i place.length ≡ true) (e : w.stack ≡ i ∷ rest)
+      (wl : HoldsWords w.fram) (r : i < 0x10000) (is : sure ≡ true → nat_lt i place.length ≡ true) (e : w.stack ≡ i ∷ rest)
       (d : Describes z os pc w u) where
     abbrev after_read : List Waiting
     after_read = waiting_behind os (versioned_read place list)
@@ -266,13 +257,11 @@ module _ (z : Setting) where
         → Runs z.code [] 18 t (Has z R4 (read_mid + forms_bytes (read_code sure place list)) (with_stack xs w) v))
         → Does after_read read_end (23 + owed os) u (goes_on [] (with_stack (v ∷ rest) w))
     read_gives v f =
-        value_part R4 (top_to_four os) (read_code sure place list) 18 23 os pc w i v rest u (omega arith) e d h
-        (λ s. top_to_four_part z os pc w i rest u e s d) f
+        value_part R4 (top_to_four os) (read_code sure place list) 18 23 v (omega arith) e d h (λ s. top_to_four_part z os pc w i rest u e s d) f
 
     -- by whether the version word is the attempt's number
     own_by : (b : Bool) → (w.fram list.ver == w.fram (2 * i + place.versions)) ≡ b → nat_lt i place.length ≡ true → IsFram list.ver
-        → IsFram (2 * i + place.versions)
-        → (let c = 2 * i + place.copies in let a = 2 * i + place.elements in
+        → IsFram (2 * i + place.versions) → (let c = 2 * i + place.copies in let a = 2 * i + place.elements in
         let x : Behaviour = if b then at_place c (goes_on [] (with_stack (w.fram c ∷ rest) w)) else at_place a (goes_on [] (with_stack (w.fram a ∷ rest) w)) in
         Does after_read read_end (23 + owed os) u x)
     own_by true q lt f g =
@@ -285,9 +274,8 @@ module _ (z : Setting) where
         read_gives (w.fram a) (λ xs t s k. own_home z sure place list read_mid small s i (with_stack xs w) t wl lt r f g q (place_is a p) k))
 
     -- by whether the index is below the length
-    read_by : (b : Bool) → nat_lt i place.length ≡ b
-        → (let x : Behaviour = if b then own_element place list i (with_stack rest w) else goes_on [] (with_stack (0 ∷ rest) w) in
-        Does after_read read_end (23 + owed os) u x)
+    read_by : (b : Bool) → nat_lt i place.length ≡ b → (let x : Behaviour = if b then own_element place list i (with_stack rest w) else goes_on []
+        (with_stack (0 ∷ rest) w) in Does after_read read_end (23 + owed os) u x)
     read_by false lt = read_gives 0 (λ xs t s k. past_read z sure place list read_mid small s i (with_stack xs w) t is lt r k)
     read_by true lt =
         let m = 2 * i + place.versions in
@@ -296,7 +284,7 @@ module _ (z : Setting) where
         own_by (w.fram list.ver == w.fram m) refl lt (place_is list.ver f) (place_is m g)))
 
   pub read_reaches : (bs : List Bound) (place : ArrayPlace) (list : ListPlace) (os : List Waiting) (pc : ℕ) (w : WordState) (vs : List ℕ) (u : Core)
-      → place.length < 0x10000 → ((a : ℕ) → w.fram a < 0x10000) → Bounded bs w.locals → w.stack ≡ vs → AreWords vs
+      → place.length < 0x10000 → HoldsWords w.fram → Bounded bs w.locals → w.stack ≡ vs → AreWords vs
       → StepDoes bs os (versioned_read place list) 23 pc w u (with_top vs (λ i us. versioned_pushed place list i (with_stack us w)))
   read_reaches bs place list os pc w [] u s wl lb e l h d = tt
   read_reaches bs place list os pc w (i ∷ rest) u s wl lb e l h d =
@@ -317,9 +305,8 @@ module _ (z : Setting) where
       let room : length rest < z.room = omega (arith, d.fits, ap (length {A = ℕ}) e) in
       let l = clear_cycles (below_top under) + (load_cycles first + load_cycles (top_of under)) in
       made_waits (HasSides x y) hand (binary_result o) (two_to_registers os) (binary_middle o) (kept (below_top under)) l c (7 + c + owed os) pc w
-      (binary_word o x y) rest u (none_held (below_top under)) there room
-      (omega (arith, three, owed_kept (below_top under), load_owed os, load_owed under)) word h (λ s. two_to_registers_part z os pc w x y rest u e s d)
-      (λ xs t s k. m (pc + forms_bytes (two_to_registers os)) x y (with_stack xs w) t lx ly s k)
+      (binary_word o x y) rest u (none_held (below_top under)) there room (omega (arith, three, owed_kept (below_top under), load_owed os, load_owed under))
+      word h (λ s. two_to_registers_part z os pc w x y rest u e s d) (λ xs t s k. m (pc + forms_bytes (two_to_registers os)) x y (with_stack xs w) t lx ly s k)
 
   -- the instruction of an operation, on R4 and the right side where that is read
   plain_form : (o : PlainOperation) (s : Source) (c pc x y : ℕ) (ks : List Waiting) (w : WordState) (vs : List ℕ) (t : Core)
@@ -344,9 +331,8 @@ module _ (z : Setting) where
       (stands_elsewhere z pc (pc + forms_bytes (m ∷ [])) (with_stack q.rest w) t (after (put t.work 4 v)) q.is (omega (arith, q.is.at))
       refl refl refl refl refl))
 
-  plain_by : (o : PlainOperation) (os : List Waiting) (pc : ℕ) (w : WordState) (x y : ℕ) (rest : List ℕ) (u : Core) → w.stack ≡ y ∷ (x ∷ rest)
-      → x < 0x10000 → y < 0x10000
-      → (let ms = sides os ++ Calculate (plain_instruction o) (right_source (top_of os)) R4 ∷ [] in Stands z.code pc ms → Describes z os pc w u
+  plain_by : (o : PlainOperation) (os : List Waiting) (pc : ℕ) (w : WordState) (x y : ℕ) (rest : List ℕ) (u : Core) → w.stack ≡ y ∷ (x ∷ rest) → x < 0x10000
+      → y < 0x10000 → (let ms = sides os ++ Calculate (plain_instruction o) (right_source (top_of os)) R4 ∷ [] in Stands z.code pc ms → Describes z os pc w u
       → Does (waiting.R4 ∷ kept (below_top (below_top os))) (pc + forms_bytes ms) (8 + owed os) u (goes_on [] (with_stack (plain_word o x y ∷ rest) w)))
   plain_by o os pc w x y rest u e lx ly h d =
       let s = right_source (top_of os) in
@@ -387,9 +373,8 @@ module _ (z : Setting) where
       let t = (drop_part z (waiting.Number n) os pc w n (x ∷ rest) u e d).0 in
       subst (λ r. Does after end (most + (owed os + 4)) u (goes_on [] (with_stack (r ∷ rest) w))) is
       (reach_more z (owed after) (Describes z after end) (15 + owed os) (most + (owed os + 4)) u [] (GoesOn (with_stack (shift_word o x k ∷ rest) w))
-      (omega (arith, l))
-      (value_part R4 front ms 10 15 os pc left x (shift_word o x k) rest u (omega arith) refl t h
-      (λ s. top_to_four_part z os pc left x rest u refl s t) (λ xs q s j. shift_part z o k (pc + forms_bytes front) x (with_stack xs w) q lx s j)))
+      (omega (arith, l)) (value_part R4 front ms 10 15 (shift_word o x k) (omega arith) refl t h (λ s. top_to_four_part z os pc left x rest u refl s t)
+      (λ xs q s j. shift_part z o k (pc + forms_bytes front) x (with_stack xs w) q lx s j)))
 
   by_mask : (n m most v : ℕ) (os : List Waiting) (pc : ℕ) (w : WordState) (x : ℕ) (rest : List ℕ) (u : Core) → 8 ≤ most → m < 0x10000
       → bit_and x m ≡ v → x < 0x10000 → w.stack ≡ n ∷ (x ∷ rest)
@@ -409,9 +394,8 @@ module _ (z : Setting) where
   -- by whether the number is a power of two
   power_by : (p : Option ℕ) (o : BinaryOperation) (n : ℕ) (os : List Waiting) (pc : ℕ) (w : WordState) (x y : ℕ) (rest : List ℕ) (u : Core) → power n ≡ p
       → w.stack ≡ y ∷ (x ∷ rest) → x < 0x10000 → y < 0x10000 → Stands z.code pc (power_code p (waiting.Number n ∷ os) o)
-      → Describes z (waiting.Number n ∷ os) pc w u
-      → Does (power_result p o ∷ kept (below_top os)) (pc + forms_bytes (power_code p (waiting.Number n ∷ os) o)) (binary_cycles o + (owed os + 4)) u
-      (goes_on [] (with_stack (binary_word o x y ∷ rest) w))
+      → Describes z (waiting.Number n ∷ os) pc w u → Does (power_result p o ∷ kept (below_top os)) (pc + forms_bytes (power_code p (waiting.Number n ∷ os) o))
+      (binary_cycles o + (owed os + 4)) u (goes_on [] (with_stack (binary_word o x y ∷ rest) w))
   power_by None o n os pc w x y rest u q e lx ly h d = two_part o (waiting.Number n ∷ os) pc w x y rest u e lx ly h d
   power_by (Some k) Multiply n os pc w x y rest u q e lx ly h d =
       let is = (drop_part z (waiting.Number n) os pc w y (x ∷ rest) u e d).1 in
@@ -446,24 +430,19 @@ module _ (z : Setting) where
 
   -- code behind which no word waits, the others below what it takes being pushed in front of it
   pub alone_part : (os : List Waiting) (ms : List Form) (c pc : ℕ) (w : WordState) (u : Core) (b : Behaviour) → Stands z.code pc (flushed os ++ ms)
-      → Describes z os pc w u
-      → (let mid = pc + forms_bytes (flushed os) in
-      ((t : Core) → Stands z.code mid ms → StandsFor z mid w t → Follows z (mid + forms_bytes ms) c t b)
-      → Does [] (pc + forms_bytes (flushed os ++ ms)) (c + owed os) u b)
+      → Describes z os pc w u → (let mid = pc + forms_bytes (flushed os) in ((t : Core) → Stands z.code mid ms → StandsFor z mid w t
+      → Follows z (mid + forms_bytes ms) c t b) → Does [] (pc + forms_bytes (flushed os ++ ms)) (c + owed os) u b)
   alone_part os ms c pc w u b h d f =
-      alone_behind (flushed os) ms (owed os) c (c + owed os) pc u (StandsFor z (pc + forms_bytes (flushed os)) w) b (omega arith) h
-      (flush_part z os pc w u d) f
+      alone_behind (flushed os) ms c (c + owed os) pc u b (omega arith) h (flush_part z os pc w u d) f
 
   -- the same where the top is its source
   pub statement_part : (os : List Waiting) (ms : List Form) (c most pc : ℕ) (w : WordState) (v : ℕ) (vs : List ℕ) (u : Core) (b : Behaviour)
       → owed (below_top os) + c ≤ most → w.stack ≡ v ∷ vs → Stands z.code pc (flushed (below_top os) ++ ms) → Describes z os pc w u
-      → (let mid = pc + forms_bytes (flushed (below_top os)) in
-      ((t : Core) → Stands z.code mid ms → Top z (source_from (top_of os)) [] mid w v vs t → Follows z (mid + forms_bytes ms) c t b)
-      → Does [] (pc + forms_bytes (flushed (below_top os) ++ ms)) most u b)
+      → (let mid = pc + forms_bytes (flushed (below_top os)) in ((t : Core) → Stands z.code mid ms → Top z (source_from (top_of os)) [] mid w v vs t
+      → Follows z (mid + forms_bytes ms) c t b) → Does [] (pc + forms_bytes (flushed (below_top os) ++ ms)) most u b)
   statement_part os ms c most pc w v vs u b l e h d f =
       let front = flushed (below_top os) in
-      alone_behind front ms (owed (below_top os)) c most pc u (Top z (source_from (top_of os)) [] (pc + forms_bytes front) w v vs) b l h
-      (λ s. below_part z os pc w v vs u e s d) f
+      alone_behind front ms c most pc u b l h (λ s. below_part z os pc w v vs u e s d) f
 
   pub keep_reaches : (a : ℕ) (os : List Waiting) (pc : ℕ) (w : WordState) (vs : List ℕ) (u : Core) → w.stack ≡ vs
       → StepDoes [] os (keep a) 5 pc w u (with_top vs (λ v us. word_stored a v (with_stack us w)))
@@ -502,10 +481,9 @@ module _ (z : Setting) where
 
   -- a local that is pushed, by where it stands
   pub local_by : (b : Bool) (n v : ℕ) (os : List Waiting) (pc : ℕ) (w : WordState) (u : Core) → nat_lt n 8 ≡ b → length w.stack < z.room → n < z.locals
-      → w.locals n ≡ Some v
-      → (let ms : List Form = if b then [] else (flushed os ++ Push (Ram (local_address n)) ∷ []) in
-      let after : List Waiting = if b then waiting.Local n ∷ os else [] in
-      Stands z.code pc ms → Describes z os pc w u → Does after (pc + forms_bytes ms) (5 + owed os) u (goes_on [] (pushed v w)))
+      → w.locals n ≡ Some v → (let ms : List Form = if b then [] else (flushed os ++ Push (Ram (local_address n)) ∷ []) in
+      let after : List Waiting = if b then waiting.Local n ∷ os else [] in Stands z.code pc ms → Describes z os pc w u
+      → Does after (pc + forms_bytes ms) (5 + owed os) u (goes_on [] (pushed v w)))
   local_by true n v os pc w u lt room l q h d =
       waits_part (waiting.Local n) os pc w v 5 u (record { in_register = lt; below = l; word = v; assigned = q }) (ap (λ x. unwrap_or x 0) q) (omega arith)
       room d
@@ -521,10 +499,10 @@ module _ (z : Setting) where
       so_runs (flush_under z [] ks pc w u k.is h) (λ t j. record { is = bare z end w t j.is; held = subst P (sym j.held) k.held })
 
   -- the same behind what brings them there
-  pub gathered : (P : (ℕ → ℕ) → Type 0) (front : List Form) (ks : List Waiting) (l pc : ℕ) (w : WordState) (u : Core) → Stands z.code pc (front ++ flushed ks)
-      → (Stands z.code pc front → Runs z.code [] l u (Waits z ks (pc + forms_bytes front) w P))
+  pub gathered : {P : (ℕ → ℕ) → Type 0} {l : ℕ} {w : WordState} {u : Core} (front : List Form) (ks : List Waiting) (pc : ℕ)
+      → Stands z.code pc (front ++ flushed ks) → (Stands z.code pc front → Runs z.code [] l u (With (Describes z ks (pc + forms_bytes front) w) P))
       → Runs z.code [] (l + owed ks) u (Holds z P (pc + forms_bytes (front ++ flushed ks)) w)
-  gathered P front ks l pc w u h come =
+  gathered {P} {l} {w} {u} front ks pc h come =
       two_parts z front (flushed ks) pc (λ p. Holds z P p w) h come (λ t s k. push_under ks (pc + forms_bytes front) w t s k)
 
   -- a word that is emitted
@@ -536,15 +514,13 @@ module _ (z : Setting) where
       let left = with_stack rest w in
       let front = top_to_five os ++ flushed (kept under) in
       let l = clear_cycles under + load_cycles (top_of os) in
-      alone_behind front (emit_code count buffer) (l + owed (kept under)) 14 (16 + owed os) pc u (Has z R5 (pc + forms_bytes front) left v)
-      (word_emitted count buffer v left) (omega (arith, owed_kept under, load_owed os)) h
-      (λ s. gathered (HasWord R5 v) (top_to_five os) (kept under) l pc left u s (λ s. top_to_five_part z os pc w v rest u e s d))
+      alone_behind front (emit_code count buffer) 14 (16 + owed os) pc u (word_emitted count buffer v left) (omega (arith, owed_kept under, load_owed os)) h
+      (λ s. gathered (top_to_five os) (kept under) pc s (λ s. top_to_five_part z os pc w v rest u e s d))
       (λ t s k. emit_part z count buffer (pc + forms_bytes front) v left t s k)
 
   -- a versioned write
   write_by : (b : Bool) (place : ArrayPlace) (list : ListPlace) (os : List Waiting) (pc : ℕ) (w : WordState) (i v : ℕ) (rest : List ℕ) (u : Core)
-      → place.length < 0x10000 → ((a : ℕ) → w.fram a < 0x10000) → (b ≡ true → nat_lt i place.length ≡ true) → i < 0x10000 → v < 0x10000
-      → w.stack ≡ v ∷ (i ∷ rest)
+      → place.length < 0x10000 → HoldsWords w.fram → (b ≡ true → nat_lt i place.length ≡ true) → i < 0x10000 → v < 0x10000 → w.stack ≡ v ∷ (i ∷ rest)
       → (let ms = (two_to_registers os ++ flushed (kept (below_top (below_top os)))) ++ write_code b place list in Stands z.code pc ms → Describes z os pc w u
       → Does [] (pc + forms_bytes ms) (79 + owed os) u (versioned_stored place list i v (with_stack rest w)))
   write_by sure place list os pc w i v rest u small wl is r s e h d =
@@ -553,13 +529,12 @@ module _ (z : Setting) where
       let front = two_to_registers os ++ flushed ks in
       let left = with_stack rest w in
       let l = clear_cycles (below_top under) + (load_cycles (top_of os) + load_cycles (top_of under)) in
-      alone_behind front (write_code sure place list) (l + owed ks) 75 (79 + owed os) pc u (HasTwo z (pc + forms_bytes front) left i v)
-      (versioned_stored place list i v left) (omega (arith, owed_kept (below_top under), load_owed os, load_owed under)) h
-      (λ q. gathered (HasSides i v) (two_to_registers os) ks l pc left u q (λ q. two_to_registers_part z os pc w i v rest u e q d))
-      (λ t q k. write_part z sure place list (pc + forms_bytes front) small q i v left t is wl r s k)
+      alone_behind front (write_code sure place list) 75 (79 + owed os) pc u (versioned_stored place list i v left)
+      (omega (arith, owed_kept (below_top under), load_owed os, load_owed under)) h (λ q. gathered (two_to_registers os) ks pc q
+      (λ q. two_to_registers_part z os pc w i v rest u e q d)) (λ t q k. write_part z sure place list (pc + forms_bytes front) small q i v left t is wl r s k)
 
   pub write_reaches : (bs : List Bound) (place : ArrayPlace) (list : ListPlace) (os : List Waiting) (pc : ℕ) (w : WordState) (vs : List ℕ) (u : Core)
-      → place.length < 0x10000 → ((a : ℕ) → w.fram a < 0x10000) → Bounded bs w.locals → w.stack ≡ vs → AreWords vs
+      → place.length < 0x10000 → HoldsWords w.fram → Bounded bs w.locals → w.stack ≡ vs → AreWords vs
       → StepDoes bs os (versioned_write place list) 79 pc w u (with_two vs (λ i v us. versioned_stored place list i v (with_stack us w)))
   write_reaches bs place list os pc w [] u s wl lb e l h d = tt
   write_reaches bs place list os pc w (v ∷ []) u s wl lb e l h d = tt
@@ -583,9 +558,8 @@ module _ (z : Setting) where
       → StepDoes [] os sense 6 pc w u (reading_pushed rs w)
   sense_part os pc w rs u room e h d =
       let mid = pc + forms_bytes (cleared os) in
-      does_behind (cleared os) (forms.Sense R4 ∷ []) (waiting.R4 ∷ kept os) (clear_cycles os) (6 + owed (kept os)) (6 + owed os) pc u
-      (Waits z (kept os) mid w (AreThese u.work)) (reading_pushed rs w) (omega (arith, owed_kept os)) h (clear_under z [] os pc w u d)
-      (λ t s k. by rs t e s k.is)
+      does_behind (cleared os) (forms.Sense R4 ∷ []) (waiting.R4 ∷ kept os) (6 + owed (kept os)) (6 + owed os) pc u (reading_pushed rs w) (omega (arith, owed_kept os)) h
+      (clear_under z [] os pc w u d) (λ t s k. by rs t e s k.is)
     where
       by : (rs : List ℕ) (t : Core) → w.readings ≡ rs → Stands z.code (pc + forms_bytes (cleared os)) (forms.Sense R4 ∷ [])
           → Describes z (kept os) (pc + forms_bytes (cleared os)) w t

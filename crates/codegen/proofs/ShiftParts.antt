@@ -121,9 +121,8 @@ module _ (z : Setting) where
   Turns ms c f = (pc y : ℕ) (w : WordState) (t : Core) → y < 0x10000 → Stands z.code pc ms → Has z R4 pc w y t
       → Runs z.code [] c t (Has z R4 (pc + forms_bytes ms) w (f y))
 
-  repeat_part : (m : Form) (g : ℕ → ℕ) → form_bytes m ≡ 2
-      → ((pc y : ℕ) (w : WordState) (t : Core) → z.code pc ≡ Some (instruction_of m) → Has z R4 pc w y t → Runs z.code [] 1 t (Has z R4 (pc + 2) w (g y)))
-      → (k pc y : ℕ) (w : WordState) (t : Core) → Stands z.code pc (repeated k m) → Has z R4 pc w y t
+  repeat_part : (m : Form) (g : ℕ → ℕ) → form_bytes m ≡ 2 → ((pc y : ℕ) (w : WordState) (t : Core) → z.code pc ≡ Some (instruction_of m) → Has z R4 pc w y t
+      → Runs z.code [] 1 t (Has z R4 (pc + 2) w (g y))) → (k pc y : ℕ) (w : WordState) (t : Core) → Stands z.code pc (repeated k m) → Has z R4 pc w y t
       → Runs z.code [] k t (Has z R4 (pc + forms_bytes (repeated k m)) w (times k g y))
   repeat_part m g s one zero pc y w t h i = let e : pc ≡ pc + 0 = omega arith in nothing_run z (subst (λ n. Has z R4 n w y t) e i)
   repeat_part m g s one (suc k) pc y w t h i =

@@ -15,14 +15,12 @@ pub record Setting : Type 0 where
 
 -- straight code comes to where its forms do
 pub straight : (z : Setting) (ms : List Form) (most : ℕ) (u t : Core) (es : List Effect) (c : ℕ) (P : Core → Type 0) → AreStraight ms → Stands z.code u.pc ms
-    → FormsNeed ms u
-    → forms_run ms u ≡ stretch es c (At t) → c ≤ most → P t → Runs z.code es most u P
+    → FormsNeed ms u → forms_run ms u ≡ stretch es c (At t) → c ≤ most → P t → Runs z.code es most u P
 straight z = blocks.straight z.code z.tidy
 
 -- one form, a jump too
 pub hop : (z : Setting) (m : Form) (most : ℕ) (u t : Core) (es : List Effect) (c : ℕ) (P : Core → Type 0) → z.code u.pc ≡ Some (instruction_of m)
-    → FormNeeds m u
-    → form_step m u ≡ Goes es c t → c ≤ most → P t → Runs z.code es most u P
+    → FormNeeds m u → form_step m u ≡ Goes es c t → c ≤ most → P t → Runs z.code es most u P
 hop z = blocks.hop z.code z.tidy
 
 pub runs_on : (z : Setting) {most more : ℕ} {u : Core} {P Q : Core → Type 0} {es fs : List Effect} → Runs z.code es most u P
@@ -54,9 +52,8 @@ starved z m u price h w e = blocks.starve z.code z.tidy m price price u [] h w e
 
 -- two parts of code, one behind the other
 pub two_parts : (z : Setting) (a b : List Form) {n m : ℕ} (pc : ℕ) {u : Core} {P : Core → Type 0} (Q : ℕ → Core → Type 0) → Stands z.code pc (a ++ b)
-    → (Stands z.code pc a → Runs z.code [] n u P)
-    → ((t : Core) → Stands z.code (pc + forms_bytes a) b → P t → Runs z.code [] m t (Q (pc + forms_bytes a + forms_bytes b)))
-    → Runs z.code [] (n + m) u (Q (pc + forms_bytes (a ++ b)))
+    → (Stands z.code pc a → Runs z.code [] n u P) → ((t : Core) → Stands z.code (pc + forms_bytes a) b → P t
+    → Runs z.code [] m t (Q (pc + forms_bytes a + forms_bytes b))) → Runs z.code [] (n + m) u (Q (pc + forms_bytes (a ++ b)))
 two_parts z a b {n} {m} pc {u} Q h f g =
     let end : pc + forms_bytes a + forms_bytes b ≡ pc + forms_bytes (a ++ b) = omega (arith, forms_bytes-append a b) in
     subst (λ p. Runs z.code [] (n + m) u (Q p)) end (runs_on z (f (stands_front z.code pc a b h)) (λ t k. g t (stands_back z.code pc a b h) k))

@@ -107,9 +107,8 @@ module _ (z : Setting) where
 
   -- by where the local stands
   update_by : (b : Bool) (o : PlainOperation) (x : Option Waiting) (n y v pc : ℕ) (vs : List ℕ) (w : WordState) (u : Core) → nat_lt n 8 ≡ b → n < z.locals
-      → w.locals n ≡ Some y → y < 0x10000 → v < 0x10000
-      → (let ms : List Form = if b then Calculate (plain_instruction o) (source_from x) (local_register n) ∷ [] else (ram_update o n (source_from x)) in
-      Stands z.code pc ms → Top z (source_from x) [] pc w v vs u
+      → w.locals n ≡ Some y → y < 0x10000 → v < 0x10000 → (let ms : List Form = if b then Calculate (plain_instruction o) (source_from x)
+      (local_register n) ∷ [] else (ram_update o n (source_from x)) in Stands z.code pc ms → Top z (source_from x) [] pc w v vs u
       → Runs z.code [] (8 + load_cycles x) u (StandsFor z (pc + forms_bytes ms) (with_local n (plain_word o y v) (with_stack vs w))))
   update_by true o x n y v pc vs w u b lt q k l h top = update_register o x n y v pc vs w u b lt q k l h top
   update_by false o x n y v pc vs w u b lt q k l h top =
@@ -124,8 +123,7 @@ module _ (z : Setting) where
       (λ t j. runs_on z (plain_middle z o mid y v popped t k l (last.0, tt) j) (λ s r. set_from n made (mid + 2) popped s b lt last.1.0 r))))
 
   -- what the instruction makes of a local and of the top is assigned
-  pub update_local_part : (o : PlainOperation) (x : Option Waiting) (n y v pc : ℕ) (vs : List ℕ) (w : WordState) (u : Core) → n < z.locals
-      → w.locals n ≡ Some y → y < 0x10000 → v < 0x10000
-      → (let ms = update_code o n (source_from x) in Stands z.code pc ms → Top z (source_from x) [] pc w v vs u
+  pub update_local_part : (o : PlainOperation) (x : Option Waiting) (n y v pc : ℕ) (vs : List ℕ) (w : WordState) (u : Core) → n < z.locals → w.locals n ≡ Some y
+      → y < 0x10000 → v < 0x10000 → (let ms = update_code o n (source_from x) in Stands z.code pc ms → Top z (source_from x) [] pc w v vs u
       → Runs z.code [] (8 + load_cycles x) u (StandsFor z (pc + forms_bytes ms) (with_local n (plain_word o y v) (with_stack vs w))))
   update_local_part o x n y v pc vs w u lt q k l h top = update_by (nat_lt n 8) o x n y v pc vs w u refl lt q k l h top

@@ -46,8 +46,7 @@ by_signs true false false x y h k p q r = let l = high x p in let m = low y q in
 by_signs false true true x y h k p q r = let l = low x p in let m = high y q in sym (le-ltb (biased x) (biased y) (omega arith))
 by_signs false true false x y h k p q r = let l = low x p in let m = high y q in sym (le-ltb (biased x) (biased y) (omega arith))
 
-signed_flags : (x y : ℕ) → x < 0x10000 → y < 0x10000
-    → (let f = difference_flags x y in not (same f.n f.v) ≡ nat_lt (biased x) (biased y))
+signed_flags : (x y : ℕ) → x < 0x10000 → y < 0x10000 → (let f = difference_flags x y in not (same f.n f.v) ≡ nat_lt (biased x) (biased y))
 signed_flags x y h k =
     by_signs (is_negative Word x) (is_negative Word y) (is_negative Word ((x + (0xFFFF - y) + 1) % 0x10000)) x y h k refl refl refl
 

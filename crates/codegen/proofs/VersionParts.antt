@@ -8,9 +8,9 @@ use Rattle.codegen.proofs.Names.{first_stored, own_stored, versioned_stored, put
 use Rattle.msp_isa.specs.declared.instructions.Condition.TheVariants as condition
 use Rattle.msp_isa.specs.declared.instructions.TwoOp.TheVariants as op
 use Rattle.msp_isa.specs.declared.operands.Konst.TheVariants as konst
+use Rattle.codegen.proofs.Memory.{HoldsWords, place_is}
 use Rattle.codegen.proofs.Registers.{HasWord, HasSides, Has, HasTwo, Flagged, IsZero, line, store_line, jump_with, jump_to, equal_flag}
 use Rattle.codegen.proofs.Stretches.{Setting, runs_on, dearer, so_runs}
-use Rattle.codegen.proofs.Memory.{place_is}
 use Rattle.codegen.proofs.Follows.{Follows, more_cycles, then_end, ends_at, guarded}
 use Rattle.codegen.proofs.Access.{check_part, within, beyond, within_stands, zero_stands, checked_end, checked_past, checked_within, over_zero}
 use Rattle.codegen.proofs.ListParts.{first_follows}
@@ -27,7 +27,7 @@ module _ (z : Setting) where
   abbrev marking : ArrayPlace → ListPlace → List Form
   marking place list = Calculate op.Add (Register R4) R4 ∷ Move (Fram list.ver) (ToRegister R5) ∷ Calculate op.Cmp (Indexed R4 place.versions) R5 ∷ []
 
-  mark_part : (place : ArrayPlace) (list : ListPlace) (pc i : ℕ) (w : WordState) (t : Core) → ((a : ℕ) → w.fram a < 0x10000) → IsFram list.ver
+  mark_part : (place : ArrayPlace) (list : ListPlace) (pc i : ℕ) (w : WordState) (t : Core) → HoldsWords w.fram → IsFram list.ver
       → IsFram (2 * i + place.versions) → Stands z.code pc (marking place list) → Has z R4 pc w i t
       → Runs z.code [] 7 t (Flagged z (HasWord R4 (2 * i)) (IsZero (w.fram list.ver == w.fram (2 * i + place.versions))) (pc + 10) w)
   mark_part place list pc i w t l f g h k =
@@ -67,14 +67,15 @@ module _ (z : Setting) where
         (λ s. record { is = s; held = ap (λ v. t.fram (v + base)) k.held ∙ ap (λ q. q (2 * i + base)) k.is.fram })
 
     -- by whether the version word is the attempt's number
-    marked_part : (b : Bool) (i : ℕ) (w : WordState) (t : Core) → ((a : ℕ) → w.fram a < 0x10000) → IsFram list.ver → IsFram (2 * i + place.versions)
-        → (w.fram list.ver == w.fram (2 * i + place.versions)) ≡ b → Has z R4 pc w i t → Runs z.code [] 7 t (Flagged z (HasWord R4 (2 * i)) (IsZero b) (pc + 10) w)
+    marked_part : (b : Bool) (i : ℕ) (w : WordState) (t : Core) → HoldsWords w.fram → IsFram list.ver → IsFram (2 * i + place.versions)
+        → (w.fram list.ver == w.fram (2 * i + place.versions)) ≡ b → Has z R4 pc w i t
+        → Runs z.code [] 7 t (Flagged z (HasWord R4 (2 * i)) (IsZero b) (pc + 10) w)
     marked_part b i w t wl f g e k =
         subst (λ c. Runs z.code [] 7 t (Flagged z (HasWord R4 (2 * i)) (IsZero c) (pc + 10) w)) e
         (mark_part place list pc i w t wl f g (first_forms z.code pc 3 (own_code over place list) h) k)
 
     -- where it is, the copy is read, and the jump goes on
-    copy_read : (to i : ℕ) (w : WordState) (t : Core) → ((a : ℕ) → w.fram a < 0x10000) → IsFram list.ver → IsFram (2 * i + place.versions)
+    copy_read : (to i : ℕ) (w : WordState) (t : Core) → HoldsWords w.fram → IsFram list.ver → IsFram (2 * i + place.versions)
         → (w.fram list.ver == w.fram (2 * i + place.versions)) ≡ true → IsFram (2 * i + place.copies) → sum16 (pc + 16 + 2) (distance over) ≡ to
         → Has z R4 pc w i t → Runs z.code [] 14 t (Has z R4 to w (w.fram (2 * i + place.copies)))
     copy_read to i w t wl f g e c d k =
@@ -84,7 +85,7 @@ module _ (z : Setting) where
         (λ r n. jump_with z condition.Always over (pc + 16) to true at16 refl d n)))
 
     -- where it isn't, the element
-    home_read : (i : ℕ) (w : WordState) (t : Core) → ((a : ℕ) → w.fram a < 0x10000) → IsFram list.ver → IsFram (2 * i + place.versions)
+    home_read : (i : ℕ) (w : WordState) (t : Core) → HoldsWords w.fram → IsFram list.ver → IsFram (2 * i + place.versions)
         → (w.fram list.ver == w.fram (2 * i + place.versions)) ≡ false → IsFram (2 * i + place.elements) → Has z R4 pc w i t
         → Runs z.code [] 12 t (Has z R4 (pc + 22) w (w.fram (2 * i + place.elements)))
     home_read i w t wl f g e c k =
@@ -105,7 +106,7 @@ module _ (z : Setting) where
       (subst (λ p. Runs z.code [] 5 t (Has z R4 p w 0)) (checked_end z n 12 pc ms l h) (checked_past z n 12 pc ms l h i w t refl (omega arith) below r k))
 
   pub own_copy : (b : Bool) (place : ArrayPlace) (list : ListPlace) (pc : ℕ) → place.length < 0x10000 → Stands z.code pc (read_code b place list)
-      → (i : ℕ) (w : WordState) (t : Core) → ((a : ℕ) → w.fram a < 0x10000) → nat_lt i place.length ≡ true → i < 0x10000 → IsFram list.ver
+      → (i : ℕ) (w : WordState) (t : Core) → HoldsWords w.fram → nat_lt i place.length ≡ true → i < 0x10000 → IsFram list.ver
       → IsFram (2 * i + place.versions) → (w.fram list.ver == w.fram (2 * i + place.versions)) ≡ true → IsFram (2 * i + place.copies) → Has z R4 pc w i t
       → Runs z.code [] 18 t (Has z R4 (pc + forms_bytes (read_code b place list)) w (w.fram (2 * i + place.copies)))
   own_copy true place list pc l h i w t wl lt r f g e c k =
@@ -124,7 +125,7 @@ module _ (z : Setting) where
       (runs_on z (checked_within z n 12 pc ms l h i w t lt r k) (λ u j. copy_read 4 place list at (within_stands z n 12 pc ms l h) end i w u wl f g e c to j))
 
   pub own_home : (b : Bool) (place : ArrayPlace) (list : ListPlace) (pc : ℕ) → place.length < 0x10000 → Stands z.code pc (read_code b place list)
-      → (i : ℕ) (w : WordState) (t : Core) → ((a : ℕ) → w.fram a < 0x10000) → nat_lt i place.length ≡ true → i < 0x10000 → IsFram list.ver
+      → (i : ℕ) (w : WordState) (t : Core) → HoldsWords w.fram → nat_lt i place.length ≡ true → i < 0x10000 → IsFram list.ver
       → IsFram (2 * i + place.versions) → (w.fram list.ver == w.fram (2 * i + place.versions)) ≡ false → IsFram (2 * i + place.elements)
       → Has z R4 pc w i t → Runs z.code [] 18 t (Has z R4 (pc + forms_bytes (read_code b place list)) w (w.fram (2 * i + place.elements)))
   own_home true place list pc l h i w t wl lt r f g e c k = dearer z (omega arith) (home_read 2 place list pc h i w t wl f g e c k)
@@ -145,10 +146,10 @@ module _ (z : Setting) where
   -- a store to the copy
   module _ (place : ArrayPlace) (list : ListPlace) where
     -- the word is stored
-    copy_part : (pc i v : ℕ) (w : WordState) (t : Core) → ((a : ℕ) → w.fram a < 0x10000) → v < 0x10000
-        → IsFram (2 * i + place.copies) → IsFram list.ver → IsFram (2 * i + place.versions) → Stands z.code pc (copying place list) → HasTwo z pc w i v t
-        → (let y = stored (2 * i + place.copies) v w in
-        Runs z.code (Store (2 * i + place.copies) v ∷ []) 11 t (Flagged z (HasNumber (2 * i) (y.fram list.ver)) (IsZero (y.fram list.ver == y.fram (2 * i + place.versions))) (pc + 14) y))
+    copy_part : (pc i v : ℕ) (w : WordState) (t : Core) → HoldsWords w.fram → v < 0x10000 → IsFram (2 * i + place.copies) → IsFram list.ver
+        → IsFram (2 * i + place.versions) → Stands z.code pc (copying place list) → HasTwo z pc w i v t
+        → (let y = stored (2 * i + place.copies) v w in Runs z.code (Store (2 * i + place.copies) v ∷ []) 11 t
+        (Flagged z (HasNumber (2 * i) (y.fram list.ver)) (IsZero (y.fram list.ver == y.fram (2 * i + place.versions))) (pc + 14) y))
     copy_part pc i v w t l lv f g k h j =
         let ms = copying place list in
         let c = 2 * i + place.copies in
@@ -183,12 +184,10 @@ module _ (z : Setting) where
     at104 = form_at z.code pc 35 (stored_code place list) (Update op.Add (Constant konst.One) list.cln) h refl
 
     -- by whether the version word is the attempt's number
-    own_stored_part : (b : Bool) (i v : ℕ) (w : WordState) (t : Core) → ((a : ℕ) → w.fram a < 0x10000) → v < 0x10000
-        → IsFram (2 * i + place.copies) → IsFram list.ver → IsFram (2 * i + place.versions)
-        → (let y = stored (2 * i + place.copies) v w in
-        (y.fram list.ver == y.fram (2 * i + place.versions)) ≡ b → HasTwo z pc w i v t
-        → Follows z (pc + 108) 71 t (if b then goes_on (Store (2 * i + place.copies) v ∷ []) y else behind_effects (Store (2 * i + place.copies) v ∷ [])
-        (first_stored place list i y)))
+    own_stored_part : (b : Bool) (i v : ℕ) (w : WordState) (t : Core) → HoldsWords w.fram → v < 0x10000 → IsFram (2 * i + place.copies) → IsFram list.ver
+        → IsFram (2 * i + place.versions) → (let y = stored (2 * i + place.copies) v w in (y.fram list.ver == y.fram (2 * i + place.versions)) ≡ b
+        → HasTwo z pc w i v t → Follows z (pc + 108) 71 t (if b then goes_on (Store (2 * i + place.copies) v ∷ []) y else behind_effects
+        (Store (2 * i + place.copies) v ∷ []) (first_stored place list i y)))
     own_stored_part true i v w t wl lv fc fv fm e j =
         let c = 2 * i + place.copies in
         let y = stored c v w in
@@ -208,7 +207,7 @@ module _ (z : Setting) where
         (first_stored place list i y).end (jump_with z condition.Equal 46 (pc + 14) (pc + 16) false at14 (k.flag ∙ e) (omega arith) k.all)
         (λ u' k'. first_follows z place list (pc + 16) behind i y u' yl fc fm k'.is k'.held.four k'.held.six)))
 
-    stored_part : (i v : ℕ) (w : WordState) (t : Core) → ((a : ℕ) → w.fram a < 0x10000) → v < 0x10000 → HasTwo z pc w i v t
+    stored_part : (i v : ℕ) (w : WordState) (t : Core) → HoldsWords w.fram → v < 0x10000 → HasTwo z pc w i v t
         → Follows z (pc + 108) 71 t (own_stored place list i v w)
     stored_part i v w t wl s k =
         let c = 2 * i + place.copies in
@@ -220,8 +219,7 @@ module _ (z : Setting) where
 
   -- behind the check, by whether the index is below the length
   write_by : (b : Bool) (place : ArrayPlace) (list : ListPlace) (pc : ℕ) → place.length < 0x10000 → Stands z.code pc (write_code false place list)
-      → (i v : ℕ) (w : WordState) (t : Core) → ((a : ℕ) → w.fram a < 0x10000) → nat_lt i place.length ≡ b → i < 0x10000 → v < 0x10000
-      → HasTwo z pc w i v t
+      → (i v : ℕ) (w : WordState) (t : Core) → HoldsWords w.fram → nat_lt i place.length ≡ b → i < 0x10000 → v < 0x10000 → HasTwo z pc w i v t
       → Follows z (pc + forms_bytes (write_code false place list)) 75 t (if b then own_stored place list i v w else goes_on [] w)
   write_by false place list pc l h i v w t wl lt r s k =
       let check = check_code place.length 54 in
@@ -243,7 +241,7 @@ module _ (z : Setting) where
 
   -- a word in R5 is written at an index in R4, by whether that is surely below the length
   pub write_part : (b : Bool) (place : ArrayPlace) (list : ListPlace) (pc : ℕ) → place.length < 0x10000 → Stands z.code pc (write_code b place list)
-      → (i v : ℕ) (w : WordState) (t : Core) → (b ≡ true → nat_lt i place.length ≡ true) → ((a : ℕ) → w.fram a < 0x10000) → i < 0x10000 → v < 0x10000
+      → (i v : ℕ) (w : WordState) (t : Core) → (b ≡ true → nat_lt i place.length ≡ true) → HoldsWords w.fram → i < 0x10000 → v < 0x10000
       → HasTwo z pc w i v t → Follows z (pc + forms_bytes (write_code b place list)) 75 t (versioned_stored place list i v w)
   write_part true place list pc l h i v w t sure wl r s k =
       let b = own_stored place list i v w in

@@ -12,14 +12,13 @@ use Rattle.codegen.proofs.Names.{indexed_update, known_update, update_at, is_ins
 use Rattle.msp_isa.specs.declared.instructions.Condition.TheVariants as condition
 use Rattle.msp_isa.specs.declared.instructions.TwoOp.TheVariants as op
 use Rattle.codegen.specs.declared.waiting.Waiting.TheVariants as waiting
-use Rattle.codegen.proofs.Results.{AreWords, StepDoes, alone_behind, Does}
-use Rattle.codegen.proofs.UpdateSides.{Aiming, GivesOn, Rested, Aims, rest_cycles, reads_cycles, reads_price, writes_price, rest_owed, update_sides_part}
-use Rattle.codegen.proofs.UpdateSides.{right_part}
+use Rattle.codegen.proofs.Memory.{HoldsWords, AreWords, place_is}
+use Rattle.codegen.proofs.Results.{StepDoes, alone_behind, Does}
+use Rattle.codegen.proofs.UpdateSides.{Aiming, GivesOn, Aims, reads_cycles, reads_price, writes_price, rest_owed, update_sides_part, right_part}
 use Rattle.codegen.proofs.VersionParts.{HasNumber}
 use Rattle.codegen.proofs.Registers.{Holds, Has, Flagged, IsZero, IsCarry, line, store_line, jump_with, jump_to, equal_flag, no_borrow}
-use Rattle.codegen.proofs.Operands.{owed, load_cycles, load_owed, Describes, bare, drop_part}
+use Rattle.codegen.proofs.Operands.{owed, load_owed, Describes, bare, drop_part}
 use Rattle.codegen.proofs.Stretches.{Setting, hop, runs_on, dearer, so_runs}
-use Rattle.codegen.proofs.Memory.{place_is}
 use Rattle.codegen.proofs.Follows.{StandsFor, Follows, more_cycles, then_end, ends_at, guarded, stands_elsewhere}
 use Rattle.codegen.proofs.Jumps.{whole_size, near_distance, stands_low}
 use Rattle.codegen.proofs.Access.{le_of_lt}
@@ -89,8 +88,7 @@ module _ (z : Setting) (o : PlainOperation) (x : Source) (r : ℕ) (reads : sour
       })
 
   -- a copy becomes what the operation gives of a word and of the source
-  made_part : (from pc i v : ℕ) (w : WordState) (t : Core) → ((a : ℕ) → w.fram a < 0x10000) → v < 0x10000 → IsFram (2 * i + from)
-      → IsFram (2 * i + place.copies)
+  made_part : (from pc i v : ℕ) (w : WordState) (t : Core) → HoldsWords w.fram → v < 0x10000 → IsFram (2 * i + from) → IsFram (2 * i + place.copies)
       → (let ms = made_code o x from place.copies in Stands z.code pc ms → Aims z x pc w (2 * i) v t
       → (let c = 2 * i + place.copies in let y = plain_word o (w.fram (2 * i + from)) v in
       Runs z.code (Store c y ∷ []) (7 + r) t (Has z R4 (pc + forms_bytes ms) (stored c y w) (2 * i))))
@@ -130,7 +128,7 @@ module _ (z : Setting) (o : PlainOperation) (x : Source) (r : ℕ) (reads : sour
       (λ s. record { is = s; held = record { four = j.held; six = ap (λ f. f list.ver) j.is.fram } })
 
   -- the first update of an element in an attempt
-  first_part : (pc i v : ℕ) (w : WordState) (t : Core) → ((a : ℕ) → w.fram a < 0x10000) → v < 0x10000 → IsFram list.ver → IsFram (2 * i + place.versions)
+  first_part : (pc i v : ℕ) (w : WordState) (t : Core) → HoldsWords w.fram → v < 0x10000 → IsFram list.ver → IsFram (2 * i + place.versions)
       → IsFram (2 * i + place.elements) → IsFram (2 * i + place.copies) → Stands z.code pc (first_update o x place list) → Aims z x pc w (2 * i) v t
       → (let c = 2 * i + place.copies in let y = plain_word o (w.fram (2 * i + place.elements)) v in
       Follows z (pc + forms_bytes (first_update o x place list)) (68 + r) t (behind_effects (Store c y ∷ []) (first_stored place list i (stored c y w))))
@@ -173,8 +171,7 @@ module _ (z : Setting) (o : PlainOperation) (x : Source) (r : ℕ) (reads : sour
     -- the version word is VER's
     again_way : (c y n k v : ℕ) (w s : WordState) (t : Core) → Looked pc w k v true t
         → ((u : Core) → Stands z.code (pc + 2) again → Aims z x (pc + 2) w k v u
-        → Runs z.code (Store c y ∷ []) n u (StandsFor z (pc + 2 + forms_bytes again) s))
-        → Runs z.code (Store c y ∷ []) (2 + (n + 2)) t (StandsFor z end s)
+        → Runs z.code (Store c y ∷ []) n u (StandsFor z (pc + 2 + forms_bytes again) s)) → Runs z.code (Store c y ∷ []) (2 + (n + 2)) t (StandsFor z end s)
     again_way c y n k v w s t j f =
         let mid = pc + 2 + forms_bytes again in
         let front = stands_front z.code (pc + 2) next first h.1 in
@@ -204,9 +201,8 @@ module _ (z : Setting) (o : PlainOperation) (x : Source) (r : ℕ) (reads : sour
   looking = double ∷ attempt_form list ∷ Calculate op.Cmp (Indexed R4 place.versions) R6 ∷ []
 
   -- R4 becomes the offset, and the version word is looked at
-  look_part : (pc i v : ℕ) (w : WordState) (t : Core) → ((a : ℕ) → w.fram a < 0x10000) → IsFram list.ver → IsFram (2 * i + place.versions)
-      → Stands z.code pc looking → Aims z x pc w i v t
-      → Runs z.code [] 7 t (Looked (pc + 10) w (2 * i) v (w.fram list.ver == w.fram (2 * i + place.versions)))
+  look_part : (pc i v : ℕ) (w : WordState) (t : Core) → HoldsWords w.fram → IsFram list.ver → IsFram (2 * i + place.versions) → Stands z.code pc looking
+      → Aims z x pc w i v t → Runs z.code [] 7 t (Looked (pc + 10) w (2 * i) v (w.fram list.ver == w.fram (2 * i + place.versions)))
   look_part pc i v w t wl fv fm h k =
       let m = 2 * i + place.versions in
       let d : (t.work 4 + t.work 4 + 0) % 0x10000 ≡ 2 * i = ap (λ q. (q + q + 0) % 0x10000) k.held.four ∙ doubled i place.versions fm.high in
@@ -219,7 +215,7 @@ module _ (z : Setting) (o : PlainOperation) (x : Source) (r : ℕ) (reads : sour
             ∙ equal_flag (w.fram list.ver) (w.fram m) (wl list.ver) (wl m);
       })
 
-  module _ (pc : ℕ) (h : Stands z.code pc (inside_update o x place list)) (i v : ℕ) (w : WordState) (t : Core) (wl : (a : ℕ) → w.fram a < 0x10000)
+  module _ (pc : ℕ) (h : Stands z.code pc (inside_update o x place list)) (i v : ℕ) (w : WordState) (t : Core) (wl : HoldsWords w.fram)
       (lv : v < 0x10000) (fv : IsFram list.ver) (fm : IsFram (2 * i + place.versions)) (k : Aims z x pc w i v t) where
     abbrev made : List Form
     made = made_code o x place.copies place.copies
@@ -249,8 +245,7 @@ module _ (z : Setting) (o : PlainOperation) (x : Source) (r : ℕ) (reads : sour
 
     -- by whether the version word is VER's
     inside_by : (b : Bool) → (w.fram list.ver == w.fram (2 * i + place.versions)) ≡ b
-        → (let a = own_place b place i in
-        Follows z inside_end (77 + r) t (at_place a (own_kept b place list i (plain_word o (w.fram a) v) w)))
+        → (let a = own_place b place i in Follows z inside_end (77 + r) t (at_place a (own_kept b place list i (plain_word o (w.fram a) v) w)))
     inside_by true e =
         let c = 2 * i + place.copies in
         let y = plain_word o (w.fram c) v in
@@ -275,7 +270,7 @@ module _ (z : Setting) (o : PlainOperation) (x : Source) (r : ℕ) (reads : sour
         first_part (pc + 10 + 2 + forms_bytes (made ++ Jump condition.Always (size afresh) ∷ [])) i v w q wl lv fv fm (place_is f g) (place_is c g') hs a))))))
 
   -- where the index is below the length
-  pub inside_part : (pc i v : ℕ) (w : WordState) (t : Core) → ((a : ℕ) → w.fram a < 0x10000) → v < 0x10000 → Stands z.code pc (inside_update o x place list)
+  pub inside_part : (pc i v : ℕ) (w : WordState) (t : Core) → HoldsWords w.fram → v < 0x10000 → Stands z.code pc (inside_update o x place list)
       → Aims z x pc w i v t → Follows z (pc + forms_bytes (inside_update o x place list)) (77 + r) t (own_updated o place list i v w)
   inside_part pc i v w t wl lv h k =
       let m = 2 * i + place.versions in
@@ -294,7 +289,7 @@ module _ (z : Setting) (o : PlainOperation) (x : Source) (r : ℕ) (reads : sour
       (λ s. record { all = record { is = s; held = record { four = k.held.four; gives = k.held.gives } }; flag = carry })
 
   -- by whether the index is below the length
-  checked_by : (b : Bool) (pc i v : ℕ) (w : WordState) (t : Core) → ((a : ℕ) → w.fram a < 0x10000) → i < 0x10000 → v < 0x10000 → place.length < 0x10000
+  checked_by : (b : Bool) (pc i v : ℕ) (w : WordState) (t : Core) → HoldsWords w.fram → i < 0x10000 → v < 0x10000 → place.length < 0x10000
       → nat_lt i place.length ≡ b → Stands z.code pc (checked_update o x place list) → Aims z x pc w i v t
       → Follows z (pc + forms_bytes (checked_update o x place list)) (81 + r) t (if b then own_updated o place list i v w else goes_on [] w)
   checked_by false pc i v w t wl li lv ln e h k =
@@ -318,13 +313,13 @@ module _ (z : Setting) (o : PlainOperation) (x : Source) (r : ℕ) (reads : sour
       (λ u a. inside_part (pc + 6) i v w u wl lv (stands_back z.code pc front ms h) a)))
 
   -- an update at the index in R4
-  pub checked_part : (pc i v : ℕ) (w : WordState) (t : Core) → ((a : ℕ) → w.fram a < 0x10000) → i < 0x10000 → v < 0x10000 → place.length < 0x10000
+  pub checked_part : (pc i v : ℕ) (w : WordState) (t : Core) → HoldsWords w.fram → i < 0x10000 → v < 0x10000 → place.length < 0x10000
       → Stands z.code pc (checked_update o x place list) → Aims z x pc w i v t
       → Follows z (pc + forms_bytes (checked_update o x place list)) (81 + r) t (versioned_updated o place list i v w)
   checked_part pc i v w t wl li lv ln h k = checked_by (nat_lt i place.length) pc i v w t wl li lv ln refl h k
 
   -- the same where the check may be left out
-  pub indexed_part : (sure : Bool) (pc i v : ℕ) (w : WordState) (t : Core) → ((a : ℕ) → w.fram a < 0x10000) → i < 0x10000 → v < 0x10000
+  pub indexed_part : (sure : Bool) (pc i v : ℕ) (w : WordState) (t : Core) → HoldsWords w.fram → i < 0x10000 → v < 0x10000
       → place.length < 0x10000 → (sure ≡ true → nat_lt i place.length ≡ true) → Stands z.code pc (indexed_update sure o x place list) → Aims z x pc w i v t
       → Follows z (pc + forms_bytes (indexed_update sure o x place list)) (81 + r) t (versioned_updated o place list i v w)
   indexed_part false pc i v w t wl li lv ln inside h k = checked_part pc i v w t wl li lv ln h k
@@ -338,9 +333,8 @@ module _ (z : Setting) (o : PlainOperation) (x : Source) (r : ℕ) (reads : sour
 
   -- a word of FRAM becomes what the operation gives of it and of the source
   place_part : (c pc v : ℕ) (w : WordState) (t : Core) → source_cycles to_memory (source_operand x) ≤ 6 → w.fram c < 0x10000 → v < 0x10000 → IsFram c
-      → (let m = Update (plain_instruction o) x c in let y = plain_word o (w.fram c) v in
-      z.code pc ≡ Some (instruction_of m) → StandsFor z pc w t → GivesOn x v w.fram t.work
-      → Runs z.code (Store c y ∷ []) 6 t (StandsFor z (pc + form_bytes m) (stored c y w)))
+      → (let m = Update (plain_instruction o) x c in let y = plain_word o (w.fram c) v in z.code pc ≡ Some (instruction_of m) → StandsFor z pc w t
+      → GivesOn x v w.fram t.work → Runs z.code (Store c y ∷ []) 6 t (StandsFor z (pc + form_bytes m) (stored c y w)))
   place_part c pc v w t writes l lv fc h i g =
       let m = Update (plain_instruction o) x c in
       let price = cycles_of (instruction_of m) in
@@ -360,7 +354,7 @@ module _ (z : Setting) (o : PlainOperation) (x : Source) (r : ℕ) (reads : sour
       })
 
   module _ (k pc : ℕ) (writes : source_cycles to_memory (source_operand x) ≤ 6) (h : Stands z.code pc (known_update o x place list k)) (v : ℕ) (w : WordState)
-      (t : Core) (wl : (a : ℕ) → w.fram a < 0x10000) (lv : v < 0x10000) (fv : IsFram list.ver) (fm : IsFram (2 * k + place.versions)) (i : StandsFor z pc w t)
+      (t : Core) (wl : HoldsWords w.fram) (lv : v < 0x10000) (fv : IsFram list.ver) (fm : IsFram (2 * k + place.versions)) (i : StandsFor z pc w t)
       (g : GivesOn x v w.fram t.work) where
     abbrev offset : ℕ
     offset = word_sum k k
@@ -415,8 +409,7 @@ module _ (z : Setting) (o : PlainOperation) (x : Source) (r : ℕ) (reads : sour
 
     -- the first update, R4 being loaded in front of it
     afresh_part : (at : ℕ) (u : Core) → IsFram (2 * k + place.elements) → IsFram (2 * k + place.copies) → Stands z.code at known_first
-        → Aims z x at w (t.work 4) v u
-        → (let c = 2 * k + place.copies in let y = plain_word o (w.fram (2 * k + place.elements)) v in
+        → Aims z x at w (t.work 4) v u → (let c = 2 * k + place.copies in let y = plain_word o (w.fram (2 * k + place.elements)) v in
         Follows z (at + forms_bytes known_first) (2 + (68 + r)) u (behind_effects (Store c y ∷ []) (first_stored place list k (stored c y w))))
     afresh_part at u fe fc hs a =
         let c = 2 * k + place.copies in
@@ -432,8 +425,7 @@ module _ (z : Setting) (o : PlainOperation) (x : Source) (r : ℕ) (reads : sour
 
     -- by whether the version word is VER's
     known_by : (b : Bool) → (w.fram list.ver == w.fram (2 * k + place.versions)) ≡ b
-        → (let a = own_place b place k in
-        Follows z known_end (78 + r) t (at_place a (own_kept b place list k (plain_word o (w.fram a) v) w)))
+        → (let a = own_place b place k in Follows z known_end (78 + r) t (at_place a (own_kept b place list k (plain_word o (w.fram a) v) w)))
     known_by true e =
         let c = 2 * k + place.copies in
         let y = plain_word o (w.fram c) v in
@@ -458,7 +450,7 @@ module _ (z : Setting) (o : PlainOperation) (x : Source) (r : ℕ) (reads : sour
         afresh_part (pc + 8 + 2 + forms_bytes (one ++ Jump condition.Always (size known_first) ∷ [])) q (place_is f p) (place_is c p') hs a))))))
 
   -- an update at a number that is known and below the length
-  pub known_part : (k pc v : ℕ) (w : WordState) (t : Core) → source_cycles to_memory (source_operand x) ≤ 6 → ((a : ℕ) → w.fram a < 0x10000) → v < 0x10000
+  pub known_part : (k pc v : ℕ) (w : WordState) (t : Core) → source_cycles to_memory (source_operand x) ≤ 6 → HoldsWords w.fram → v < 0x10000
       → Stands z.code pc (known_update o x place list k) → StandsFor z pc w t → GivesOn x v w.fram t.work
       → Follows z (pc + forms_bytes (known_update o x place list k)) (78 + r) t (own_updated o place list k v w)
   known_part k pc v w t writes wl lv h i g =
@@ -471,7 +463,7 @@ module _ (z : Setting) (o : PlainOperation) (x : Source) (r : ℕ) (reads : sour
 
 module _ (z : Setting) (o : PlainOperation) (place : ArrayPlace) (list : ListPlace) (small : place.length < 0x10000) where
   -- the index in R4, where it may be surely below the length
-  update_by : (sure : Bool) (os : List Waiting) (pc : ℕ) (w : WordState) (i v : ℕ) (rest : List ℕ) (u : Core) → ((a : ℕ) → w.fram a < 0x10000) → i < 0x10000
+  update_by : (sure : Bool) (os : List Waiting) (pc : ℕ) (w : WordState) (i v : ℕ) (rest : List ℕ) (u : Core) → HoldsWords w.fram → i < 0x10000
       → v < 0x10000 → w.stack ≡ v ∷ (i ∷ rest) → (sure ≡ true → nat_lt i place.length ≡ true)
       → (let ms = update_sides os ++ indexed_update sure o (rest_source (top_of os)) place list in Stands z.code pc ms → Describes z os pc w u
       → Does z [] (pc + forms_bytes ms) (86 + owed os) u (versioned_updated o place list i v (with_stack rest w)))
@@ -482,17 +474,15 @@ module _ (z : Setting) (o : PlainOperation) (place : ArrayPlace) (list : ListPla
       let c = reads_cycles (top_of os) in
       let mid = pc + forms_bytes front in
       let left = with_stack rest w in
-      alone_behind z front (indexed_update sure o x place list) (owed (below_top under) + (rest_cycles (top_of os) + load_cycles (top_of under))) (81 + c)
-      (86 + owed os) pc u (Aims z x mid left i v) (versioned_updated o place list i v left) (omega (arith, load_owed under, rest_owed os)) h
-      (λ s. update_sides_part z os pc w i v rest u e s d)
+      alone_behind z front (indexed_update sure o x place list) (81 + c) (86 + owed os) pc u (versioned_updated o place list i v left)
+      (omega (arith, load_owed under, rest_owed os)) h (λ s. update_sides_part z os pc w i v rest u e s d)
       (λ t s k. indexed_part z o x c (reads_price (top_of os)) place list sure mid i v left t wl li lv small inside s k)
 
   -- the index a number that waits, by whether it is below the length
-  number_by : (b sure : Bool) (k : ℕ) (p : Waiting) (os : List Waiting) (pc : ℕ) (w : WordState) (i v : ℕ) (rest : List ℕ) (u : Core) → nat_lt k place.length ≡ b
-      → ((a : ℕ) → w.fram a < 0x10000) → i < 0x10000 → v < 0x10000 → w.stack ≡ v ∷ (i ∷ rest) → (sure ≡ true → nat_lt i place.length ≡ true)
-      → (let ws = p ∷ (waiting.Number k ∷ os) in let ms = update_at (if b then Some k else None) sure ws o place list in
-      Stands z.code pc ms → Describes z ws pc w u
-      → Does z [] (pc + forms_bytes ms) (86 + owed ws) u (versioned_updated o place list i v (with_stack rest w)))
+  number_by : (b sure : Bool) (k : ℕ) (p : Waiting) (os : List Waiting) (pc : ℕ) (w : WordState) (i v : ℕ) (rest : List ℕ) (u : Core)
+      → nat_lt k place.length ≡ b → HoldsWords w.fram → i < 0x10000 → v < 0x10000 → w.stack ≡ v ∷ (i ∷ rest) → (sure ≡ true → nat_lt i place.length ≡ true)
+      → (let ws = p ∷ (waiting.Number k ∷ os) in let ms = update_at (if b then Some k else None) sure ws o place list in Stands z.code pc ms
+      → Describes z ws pc w u → Does z [] (pc + forms_bytes ms) (86 + owed ws) u (versioned_updated o place list i v (with_stack rest w)))
   number_by false sure k p os pc w i v rest u lt wl li lv e inside h d = update_by sure (p ∷ (waiting.Number k ∷ os)) pc w i v rest u wl li lv e inside h d
   number_by true sure k p os pc w i v rest u lt wl li lv e inside h d =
       let ws = p ∷ (waiting.Number k ∷ os) in
@@ -503,8 +493,7 @@ module _ (z : Setting) (o : PlainOperation) (place : ArrayPlace) (list : ListPla
       let end = mid + forms_bytes (known_update o x place list k) in
       let above = with_stack (i ∷ rest) w in
       let left = with_stack rest w in
-      alone_behind z front (known_update o x place list k) (owed os + rest_cycles (Some p)) (78 + c) (86 + owed ws) pc u
-      (Rested z x (waiting.Number k ∷ []) mid above v) (versioned_updated o place list i v left) (omega (arith, rest_owed (p ∷ []))) h
+      alone_behind z front (known_update o x place list k) (78 + c) (86 + owed ws) pc u (versioned_updated o place list i v left) (omega (arith, rest_owed (p ∷ []))) h
       (λ s. right_part z p (waiting.Number k) os pc w v (i ∷ rest) u e s d)
       (λ t s j.
       let q = drop_part z (waiting.Number k) [] mid above i rest t refl j.is in
@@ -512,7 +501,7 @@ module _ (z : Setting) (o : PlainOperation) (place : ArrayPlace) (list : ListPla
       (subst (λ y. Follows z end (78 + c) t (if y then own_updated o place list k v left else goes_on [] left)) (sym lt)
       (known_part z o x c (reads_price (Some p)) place list k mid v left t (writes_price (Some p)) wl lv s (bare z mid left t q.0) j.held)))
 
-  update_on : (bs : List Bound) (os : List Waiting) (pc : ℕ) (w : WordState) (i v : ℕ) (rest : List ℕ) (u : Core) → ((a : ℕ) → w.fram a < 0x10000)
+  update_on : (bs : List Bound) (os : List Waiting) (pc : ℕ) (w : WordState) (i v : ℕ) (rest : List ℕ) (u : Core) → HoldsWords w.fram
       → i < 0x10000 → v < 0x10000 → w.stack ≡ v ∷ (i ∷ rest) → (is_inside bs (top_of (below_top os)) place.length ≡ true → nat_lt i place.length ≡ true)
       → StepDoes z bs os (versioned_update o place list) 86 pc w u (versioned_updated o place list i v (with_stack rest w))
   update_on bs (p ∷ (waiting.Number k ∷ os)) pc w i v rest u wl li lv e inside h d =
@@ -521,7 +510,7 @@ module _ (z : Setting) (o : PlainOperation) (place : ArrayPlace) (list : ListPla
       update_by (is_inside bs (top_of (below_top os)) place.length) os pc w i v rest u wl li lv e inside h d
 
   -- an element that is updated in place
-  pub in_place_reaches : (bs : List Bound) (os : List Waiting) (pc : ℕ) (w : WordState) (vs : List ℕ) (u : Core) → ((a : ℕ) → w.fram a < 0x10000)
+  pub in_place_reaches : (bs : List Bound) (os : List Waiting) (pc : ℕ) (w : WordState) (vs : List ℕ) (u : Core) → HoldsWords w.fram
       → Bounded bs w.locals → w.stack ≡ vs → AreWords vs
       → StepDoes z bs os (versioned_update o place list) 86 pc w u (with_two vs (λ i v us. versioned_updated o place list i v (with_stack us w)))
   in_place_reaches bs os pc w [] u wl lb e l h d = tt

@@ -1,7 +1,7 @@
 -- The code of a word program does what the program does, within the cycles of the way that it takes.
 use Rattle.std.proofs.Common.{◌≡◌, ℕ, suc, ◌+◌, ◌-◌, ◌*◌, ◌<◌, Bool, true, false, not, nat_lt, if◌then◌else◌, List, [], ◌∷◌, ◌++◌, length, All, Some, ◌≢◌, None}
 use Rattle.std.proofs.Common.{refl, sym, ap, subst, arith}
-use Rattle.codegen.proofs.Names.{AllByRecursion, Effect, R4, Core, Form, form_bytes, Move, Branch, Fram, ToFram, Stands, forms_bytes, stands_front, stands_back}
+use Rattle.codegen.proofs.Names.{AllByRecursion, Effect, Core, Form, form_bytes, Move, Branch, Fram, ToFram, Stands, forms_bytes, stands_front, stands_back}
 use Rattle.codegen.proofs.Names.{forms_behind, forms_bytes-append, Comparison, is_true, compare_words, Step, Test, Program, number, load, keep, update, local}
 use Rattle.codegen.proofs.Names.{set_local, update_local, unary, binary, shift, element, emit_word, list_entry, versioned_read, versioned_write}
 use Rattle.codegen.proofs.Names.{versioned_update, sense, truth, choose, repeat, store_number, move_word, jump, holds, compares, both, either, fails, nothing}
@@ -18,13 +18,13 @@ use Rattle.array_versions.specs.Laws.{IsStateOfWords, EndsInWords, IsSound}
 use Rattle.msp_isa.specs.declared.instructions.Condition.TheVariants as condition
 use Rattle.msp_isa.specs.declared.operands.Konst.TheVariants as konst
 use Rattle.codegen.specs.declared.waiting.Waiting.TheVariants as waiting
+use Rattle.codegen.proofs.Memory.{AreWords, place_is, assigned_same}
 use Rattle.codegen.proofs.Results.{gathered, Does, number_part, load_part, local_by, keep_reaches, update_reaches, set_reaches, update_local_reaches}
 use Rattle.codegen.proofs.Results.{unary_part, binary_part, shift_reaches, element_reaches, emit_reaches, read_reaches, write_reaches, sense_part, alone_part}
-use Rattle.codegen.proofs.Registers.{HasWord, HasSides, jump_to}
+use Rattle.codegen.proofs.Registers.{jump_to}
 use Rattle.codegen.proofs.Operands.{owed, clear_cycles, owed_kept, load_cycles, load_owed, Describes, dressed, flush_part, top_to_four_part}
 use Rattle.codegen.proofs.Operands.{two_to_registers_part}
 use Rattle.codegen.proofs.Stretches.{Setting, runs_on, nothing_run}
-use Rattle.codegen.proofs.Memory.{place_is, assigned_same}
 use Rattle.codegen.proofs.Follows.{StandsFor, Follows, FollowsEnd, OnGoesOn, more_cycles, then_hop, ends_at, guarded, reach_more, reach_way, reaches}
 use Rattle.codegen.proofs.Follows.{then_follows, reach_guarded}
 use Rattle.codegen.proofs.Parts.{constant_part, store_part, move_part, jump_part}
@@ -57,8 +57,7 @@ ready_with bs next n k _ g h b l = tt
 
 -- what is left where so many words are taken
 ready_popped : (bs : List Bound) (next : Place → Type 0) (q : Place) (n : ℕ) (w : WordState) (us : List ℕ) → next (record q { depth = q.depth - n + 0 })
-    → Matches q w → IsStateOfWords w → Bounded bs w.locals → length us + n ≡ length w.stack → AllByRecursion (λ x. x < 0x10000) us
-    → Ready bs next (with_stack us w)
+    → Matches q w → IsStateOfWords w → Bounded bs w.locals → length us + n ≡ length w.stack → AreWords us → Ready bs next (with_stack us w)
 ready_popped bs next q n w us f m h b e l =
     record {
       place = record q { depth = q.depth - n + 0 };
@@ -103,14 +102,13 @@ module _ (z : Setting) where
   module _ (bs : List Bound) (when : Bool) (d holds_at fails_at end : ℕ) (held failed : Place → Type 0) (ch cf : WordState → ℕ) (rh rf : WordState → Behaviour)
       (fh : WayFollows bs held holds_at end ch rh) (ff : WayFollows bs failed fails_at end cf rf) where
     by_top : (os : List Waiting) (pc : ℕ) (w : WordState) (u : Core) (vs : List ℕ) → Stands z.code pc (holds_code os when d)
-        → Fork when d holds_at fails_at (pc + forms_bytes (holds_code os when d))
-        → Ready bs (Moves z.room 1 0 (λ r. held r × failed r)) w → w.stack ≡ vs → Describes z os pc w u
-        → Follows z end (owed os + (8 + top_spent vs (λ v us. if is_true v then ch (with_stack us w) else cf (with_stack us w)))) u
+        → Fork when d holds_at fails_at (pc + forms_bytes (holds_code os when d)) → Ready bs (Moves z.room 1 0 (λ r. held r × failed r)) w → w.stack ≡ vs
+        → Describes z os pc w u → Follows z end (owed os + (8 + top_spent vs (λ v us. if is_true v then ch (with_stack us w) else cf (with_stack us w)))) u
         (with_top vs (λ v us. if is_true v then rh (with_stack us w) else rf (with_stack us w)))
     by_top os pc w u [] h fork r e i = tt
     by_top os pc w u (v ∷ us) h fork r e i =
         let t = with_stack us w in
-        let words = subst (AllByRecursion (λ x. x < 0x10000)) e r.words_in.stack in
+        let words = subst (AreWords) e r.words_in.stack in
         let left : length us + 1 ≡ length w.stack = omega (arith, ap (length {A = ℕ}) e) in
         let popped : (next : Place → Type 0) → next (record r.place { depth = r.place.depth - 1 + 0 }) → Ready bs next t =
         λ next f. ready_popped bs next r.place 1 w us f r.matches r.words_in r.bounded left words.1 in
@@ -125,8 +123,7 @@ module _ (z : Setting) where
         let behind : pc + forms_bytes (holds_code os when d) ≡ mid + 2 + forms_bytes last = omega (arith, forms_bytes-append front tail) in
         let b = is_true v in
         let most = owed os + (8 + (if b then ch t else cf t)) in
-        let come = gathered z (HasWord R4 v) (top_to_four os) (kept under) l pc t u (stands_front z.code pc front tail h)
-        (λ s. top_to_four_part z os pc w v us u e s i) in
+        let come = gathered z (top_to_four os) (kept under) pc (stands_front z.code pc front tail h) (λ s. top_to_four_part z os pc w v us u e s i) in
         more_cycles z end (l + owed (kept under) + 1 + 5 + (if b then ch t else cf t)) most u (if b then rh t else rf t).effects (if b then rh t else rf t).end
         (omega (arith, owed_kept under, load_owed os)) (decided_follows z when b (mid + 2) d holds_at fails_at (l + owed (kept under) + 1) end (ch t) (cf t)
         condition.NotEqual condition.Equal t u (rh t) (rf t) back.1 (fork_at when d holds_at fails_at (pc + forms_bytes (holds_code os when d))
@@ -134,16 +131,15 @@ module _ (z : Setting) where
         (λ x j. fh t x (popped held r.fit.2.0) j) (λ x j. ff t x (popped failed r.fit.2.1) j))
 
     by_two : (os : List Waiting) (c : Comparison) (pc : ℕ) (w : WordState) (u : Core) (vs : List ℕ) → Stands z.code pc (compares_code os c when d)
-        → Fork when d holds_at fails_at (pc + forms_bytes (compares_code os c when d))
-        → Ready bs (Moves z.room 2 0 (λ r. held r × failed r)) w → w.stack ≡ vs → Describes z os pc w u
-        → Follows z end
-        (owed os + (10 + top_spent vs (λ y xs. top_spent xs (λ x us. if compare_words c x y then ch (with_stack us w) else cf (with_stack us w))))) u
+        → Fork when d holds_at fails_at (pc + forms_bytes (compares_code os c when d)) → Ready bs (Moves z.room 2 0 (λ r. held r × failed r)) w → w.stack ≡ vs
+        → Describes z os pc w u → Follows z end (owed os + (10 + top_spent vs
+        (λ y xs. top_spent xs (λ x us. if compare_words c x y then ch (with_stack us w) else cf (with_stack us w))))) u
         (with_two vs (λ x y us. if compare_words c x y then rh (with_stack us w) else rf (with_stack us w)))
     by_two os c pc w u [] h fork r e i = tt
     by_two os c pc w u (y ∷ []) h fork r e i = tt
     by_two os c pc w u (y ∷ (x ∷ us)) h fork r e i =
         let t = with_stack us w in
-        let words = subst (AllByRecursion (λ x. x < 0x10000)) e r.words_in.stack in
+        let words = subst (AreWords) e r.words_in.stack in
         let left : length us + 2 ≡ length w.stack = omega (arith, ap (length {A = ℕ}) e) in
         let popped : (next : Place → Type 0) → next (record r.place { depth = r.place.depth - 2 + 0 }) → Ready bs next t =
         λ next f. ready_popped bs next r.place 2 w us f r.matches r.words_in r.bounded left words.1.1 in
@@ -161,8 +157,7 @@ module _ (z : Setting) where
         omega (arith, compare_length c, forms_bytes-append front tail) in
         let b = compare_words c x y in
         let most = owed os + (10 + (if b then ch t else cf t)) in
-        let come = gathered z (HasSides x y) (two_to_registers os) ks l pc t u (stands_front z.code pc front tail h)
-        (λ s. two_to_registers_part z os pc w x y us u e s i) in
+        let come = gathered z (two_to_registers os) ks pc (stands_front z.code pc front tail h) (λ s. two_to_registers_part z os pc w x y us u e s i) in
         more_cycles z end (l + owed ks + 1 + 5 + (if b then ch t else cf t)) most u (if b then rh t else rf t).effects (if b then rh t else rf t).end
         (omega (arith, owed_kept (below_top under), load_owed os, load_owed under)) (decided_follows z when b (mid + 2) d holds_at fails_at (l + owed ks + 1)
         end (ch t) (cf t) (holding c) (failing c) t u (rh t) (rf t) (subst (λ n. Stands z.code n last) next back.1)
@@ -172,10 +167,8 @@ module _ (z : Setting) where
 
   -- behind steps with no word waiting in front of them, code that takes those that wait behind them
   leaf_follows : (bs : List Bound) (p : Program) (next : Place → Type 0) (pc end : ℕ) (cost : WordState → ℕ) (go : WordState → Behaviour) (w : WordState)
-      (u : Core)
-      → (let os = waiting_after [] p in let at = pc + forms_bytes (steps_code bs [] p) in let b = behaviour p w in
-      Does z os at (spent p w + 0) u b → OnGoesOn (Ready bs next) b.end
-      → ((x : Core) (v : WordState) → Ready bs next v → Describes z os at v x → Follows z end (owed os + cost v) x (go v))
+      (u : Core) → (let os = waiting_after [] p in let at = pc + forms_bytes (steps_code bs [] p) in let b = behaviour p w in Does z os at (spent p w + 0) u b
+      → OnGoesOn (Ready bs next) b.end → ((x : Core) (v : WordState) → Ready bs next v → Describes z os at v x → Follows z end (owed os + cost v) x (go v))
       → Follows z end (spent p w + spent_on b.end cost) u (then_on b go))
   leaf_follows bs p next pc end cost go w u a r f =
       let os = waiting_after [] p in
@@ -206,8 +199,7 @@ module _ (z : Setting) where
   mutual
     step_follows : (bs : List Bound) (first : Step) (next : Place → Type 0) (os : List Waiting) (pc : ℕ) (w : WordState) (u : Core)
         → Ready bs (EachStepWay z.room first next) w → StepOfWords first → StepLocalsBelow z.locals first → StepLoopsCount first
-        → Spared bs (λ n. StepSpares n first)
-        → Stands z.code pc (step_code bs os first) → Describes z os pc w u
+        → Spared bs (λ n. StepSpares n first) → Stands z.code pc (step_code bs os first) → Describes z os pc w u
         → Does z (waiting_behind os first) (pc + forms_bytes (step_code bs os first)) (step_spent first w + owed os) u (step_behaviour first w)
     step_follows bs (number v) next os pc w u r o l c spared h d = number_part z v os pc w u (omega (arith, r.fit.1, r.matches.depth)) d
     step_follows bs (load a) next os pc w u r o l c spared h d =
@@ -327,11 +319,10 @@ module _ (z : Setting) where
         (λ t s i. jump_part z to (pc + forms_bytes (flushed os)) w t r.fit s i)
 
     test_follows : (bs : List Bound) (t : Test) (when : Bool) (d holds_at fails_at pc end : ℕ) (held failed : Place → Type 0) (ch cf : WordState → ℕ)
-        (rh rf : WordState → Behaviour) (w : WordState) (u : Core) → Ready bs (EachTestWay z.room t held failed) w → TestOfWords t
-        → TestLocalsBelow z.locals t → TestLoopsCount t → Spared bs (λ n. TestSpares n t)
-        → Stands z.code pc (test_code bs t when d) → Fork when d holds_at fails_at (pc + forms_bytes (test_code bs t when d))
-        → WayFollows bs held holds_at end ch rh → WayFollows bs failed fails_at end cf rf → StandsFor z pc w u
-        → Follows z end (test_spent t ch cf w) u (tested t rh rf w)
+        (rh rf : WordState → Behaviour) (w : WordState) (u : Core) → Ready bs (EachTestWay z.room t held failed) w → TestOfWords t → TestLocalsBelow z.locals t
+        → TestLoopsCount t → Spared bs (λ n. TestSpares n t) → Stands z.code pc (test_code bs t when d)
+        → Fork when d holds_at fails_at (pc + forms_bytes (test_code bs t when d)) → WayFollows bs held holds_at end ch rh
+        → WayFollows bs failed fails_at end cf rf → StandsFor z pc w u → Follows z end (test_spent t ch cf w) u (tested t rh rf w)
     test_follows bs (holds p) when d holds_at fails_at pc end held failed ch cf rh rf w u r o l c spared h fork fh ff i =
         let a = steps_code bs [] p in
         let os = waiting_after [] p in
